@@ -1,0 +1,5 @@
+pub mod Record
+pub mod Table
+pub mod Sheet
+pub mod Check
+pub mod Sample
