@@ -8,7 +8,7 @@ use Rattle.tables.specs.declared.Role.{Role}
 use Rattle.tables.specs.declared.Role.the-variants.{Plain, Condition, Body, Pattern, Name}
 use Rattle.tables.specs.declared.Checked.{Checked}
 use Rattle.tables.specs.declared.Checked.the-variants.{Accepted, Refused}
-use Rattle.tables.specs.Record.{Record, isExpression, isPattern, operands, named, operand, roleAt, nameOf}
+use Rattle.tables.specs.Record.{Record, isExpression, isPattern, named, operand, roleAt, nameOf}
 use Rattle.tables.specs.Table.{pick, Cut, cut, recordAt, kindAt}
 use Rattle.tables.specs.Sheet.{any, lowest, isIn, loose, height, patternOf, isBound, inCondition}
 
@@ -52,7 +52,7 @@ isBad rs r i =
 -- Rule 6: an operand not lower, of the wrong sort, or named before; a record never named; a pattern as the last.
 unfoldable pub fault6 : List Record → ℕ → Bool
 fault6 rs r =
-    any (isBad rs r) (length (operands (recordAt rs r))) || pick (eqb (suc r) (length rs)) (isPattern (kindAt rs r)) (not (isIn r (allNamed rs)))
+    any (isBad rs r) (length (named (recordAt rs r))) || pick (eqb (suc r) (length rs)) (isPattern (kindAt rs r)) (not (isIn r (allNamed rs)))
 
 -- ---- rules 7 to 9
 

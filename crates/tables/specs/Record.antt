@@ -158,18 +158,18 @@ unfoldable pub operands : Record → List Operand
 operands r = operandsOf (shape (r .kind) .roles) (drop (size (headOf r)) (r .fields))
 
 -- The numbers of the records that a record names.
+abbrev pub numbers : List Operand → List ℕ
+numbers os = map (λ o. o .number) os
+
 abbrev pub named : Record → List ℕ
-named r = map (λ o. o .number) (operands r)
+named r = numbers (operands r)
 
--- Operand i, from 0.
-abbrev pub operandAt : Record → ℕ → Operand
-operandAt r i = getD (operands r) i (record { role = Plain; number = 0 })
-
+-- The number in operand i, from 0, and what that operand is for.
 abbrev pub operand : Record → ℕ → ℕ
-operand r i = operandAt r i .number
+operand r i = getD (named r) i 0
 
 abbrev pub roleAt : Record → ℕ → Role
-roleAt r i = operandAt r i .role
+roleAt r i = getD (shape (r .kind) .roles) i Plain
 
 -- ---- rule 4, of a record that has been cut out
 

@@ -80,15 +80,18 @@ roleOf r (o ∷ os) = pick (eqb r (o .number)) (o .role) (roleOf r os)
 abbrev pub roleIn : List Record → ℕ → ℕ → Role
 roleIn rs q r = roleOf r (operands (recordAt rs q))
 
--- On the way up from r, some record is entered through an operand that passes the test: by recursion on a bound above the number of steps.
-unfoldable pub climbBy : (ℕ → Role → Bool) → List Record → ℕ → ℕ → Bool
-climbBy test rs zero r = false
-climbBy test rs (suc bound) r =
+-- What the way up from r gives: a record that r is named by, and for what, adds to what the way up from there gives.
+-- A record is lower than the one that names it, so recursion on a bound above the number of records reaches all.
+unfoldable pub climbBy : {A : Type 0} → (ℕ → Role → A → A) → A → List Record → ℕ → ℕ → A
+climbBy step none rs zero r = none
+climbBy step none rs (suc bound) r =
     let q = parent rs r in
-    pick (ltb q (length rs)) (test q (roleIn rs q r) || climbBy test rs bound q) false
+    let up = climbBy step none rs bound q in
+    let here = step q (roleIn rs q r) up in
+    pick (ltb q (length rs)) here none
 
-abbrev pub climb : (ℕ → Role → Bool) → List Record → ℕ → Bool
-climb test rs r = climbBy test rs (length rs) r
+abbrev pub climb : {A : Type 0} → (ℕ → Role → A → A) → A → List Record → ℕ → A
+climb step none rs r = climbBy step none rs (length rs) r
 
 -- A binder's names cover its condition, body, element, key and value.
 abbrev pub isCovered : Role → Bool
@@ -111,8 +114,8 @@ patternOf rs q = operand (recordAt rs q) 0
 
 -- The name n is bound around the record r. A pattern lies outside what its own binder covers, so around it are the names bound around its binder.
 unfoldable pub isBound : List Record → ℕ → ℕ → Bool
-isBound rs r n = climb (λ q role. isCovered role && holdsName rs (patternOf rs q) n) rs r
+isBound rs r n = climb (λ q role up. (isCovered role && holdsName rs (patternOf rs q) n) || up) false rs r
 
 -- The record r is, or lies below, the condition of a binder.
 unfoldable pub inCondition : List Record → ℕ → Bool
-inCondition rs r = climb (λ q role. isCondition role) rs r
+inCondition rs r = climb (λ q role up. isCondition role || up) false rs r
