@@ -350,7 +350,7 @@ module _ (rs : List Record) (fine : Fine rs) where
   -- What a pattern holds.
   holds-at : (p n : ℕ) → p < length rs → holdsName rs p n ≡ isName n (recordAt rs p) || some (map (λ q. holdsName rs q n) (named (recordAt rs p)))
   unfolding holdsName
-  holds-at p n h = fold-at (λ rec bs. isName n rec || some bs) false rs lower p h
+  holds-at p n h = fold-at (λ q bs. isName n (recordAt rs q) || some bs) false rs lower p h
 
   own-fresh : (p n : ℕ) → p < length rs → isName n (recordAt rs p) ≡ true → isBound rs p n ≡ false
   unfolding fault7
@@ -396,7 +396,7 @@ module _ (rs : List Record) (fine : Fine rs) where
 
   pub height-at : (r : ℕ) → r < length rs → height rs r ≡ suc (greatest (map (height rs) (named (recordAt rs r))))
   unfolding height
-  height-at r h = fold-at (λ rec hs. suc (greatest hs)) 0 rs lower r h
+  height-at r h = fold-at (λ q hs. suc (greatest hs)) 0 rs lower r h
 
   -- Heights fall from a record to its operands, and are at most 32.
   pub height-operand : (r i : ℕ) → r < length rs → i < length (named (recordAt rs r)) → height rs (operand (recordAt rs r) i) < height rs r
