@@ -1,0 +1,4 @@
+pub mod Whole
+pub mod Sample
+pub mod Order
+pub mod Bytes
