@@ -3,9 +3,10 @@ use mathlib.Core.Path.{_≡_, refl, sym, ap, ap₂, subst, _∙_}
 use mathlib.Core.List.{List, [], _∷_, _++_, append-assoc}
 use Prim.Native.Nat.{ℕ, suc, _+_, _*_, _/_, _%_, _^_, _≤_, _<_}
 use native.Mathlib.Numerals.{add-one, add-two}
+use native.Mathlib.Nat.{add-zero}
 use native.Mathlib.Omega.{arith}
 use lib.IntN.{ℤ}
-use lib.ListN.{length, getD, take, drop}
+use lib.ListN.{length, getD, set, take, drop}
 use lib.Seq.{sets, sets-eq, getD-drop, drop-at, drop-cons, drop-drop, take-add, length-take-le}
 use mir.Syntax.{w32}
 use mir.Val.{Fits, SFits, toZ, ofZ}
@@ -65,6 +66,13 @@ pub integer-drop : (s : List ℕ) (at i : ℕ) → integerAt (drop at s) i ≡ i
 integer-drop s at i = ap (toZ w32) (bits32-drop s at i)
 
 -- ---- at a place where it was stored
+
+-- one store after another is one store of both
+pub sets-then : (vs ws s : List ℕ) (at : ℕ) → sets (sets s at vs) (at + length vs) ws ≡ sets s at (vs ++ ws)
+sets-then [] ws s at = ap (λ (j : ℕ). sets s j ws) (add-zero at)
+sets-then (v ∷ vs) ws s at =
+    let e : at + suc (length vs) ≡ suc at + length vs = omega arith in
+    ap (λ (j : ℕ). sets (sets (set s at v) (suc at) vs) j ws) e ∙ sets-then vs ws (set s at v) (suc at)
 
 drop-sets : (vs s : List ℕ) (at : ℕ) → at + length vs ≤ length s → drop at (sets s at vs) ≡ vs ++ drop (at + length vs) s
 drop-sets vs s at h =
