@@ -1,7 +1,7 @@
 -- The rest that `floor_rest` finds, by its tests of the machine's rest and of the divisor.
 use mathlib.Core.Path.{_≡_, refl, sym, ap, _∙_, subst}
 use mathlib.Core.Bool.{true, false}
-use Prim.Native.Nat.{ℕ, zero, suc}
+use Prim.Native.Nat.{ℕ, zero, suc, _+_}
 use native.Mathlib.Omega.{arith}
 use borrow.Author.Tests.{ltb-true, ltb-false}
 use lib.Dec.{ltb}
@@ -30,17 +30,17 @@ neg-pos (pos n) y e f = not-below-0 n e
 neg-pos (negsuc n) (pos m) e f = refl
 neg-pos (negsuc n) (negsuc m) e f = never (sym f)
 
-pub pos-neg : (r y : ℤ) → ltZ (pos 0) r ≡ true → ltZ y (pos 0) ≡ true → turned r y ≡ r +ℤ y
-pos-neg (pos zero) y e f = not-below-0 0 e
-pos-neg (pos (suc n)) (pos m) e f = not-below-0 m f
-pos-neg (pos (suc n)) (negsuc m) e f = refl
-pos-neg (negsuc n) y e f = never e
-
-pub pos-pos : (r y : ℤ) → ltZ (pos 0) r ≡ true → ltZ y (pos 0) ≡ false → turned r y ≡ r
+pub pos-pos : (r y : ℤ) → ltZ (pos 0) r ≡ true → ltZ (pos 0) y ≡ true → turned r y ≡ r
 pos-pos (pos zero) y e f = not-below-0 0 e
 pos-pos (pos (suc n)) (pos m) e f = refl
-pos-pos (pos (suc n)) (negsuc m) e f = never (sym f)
+pos-pos (pos (suc n)) (negsuc m) e f = never f
 pos-pos (negsuc n) y e f = never e
+
+pub pos-neg : (r y : ℤ) → ltZ (pos 0) r ≡ true → ltZ (pos 0) y ≡ false → turned r y ≡ r +ℤ y
+pos-neg (pos zero) y e f = not-below-0 0 e
+pos-neg (pos (suc n)) (pos m) e f = ap pos (omega (arith, ltb-false 0 m f))
+pos-neg (pos (suc n)) (negsuc m) e f = refl
+pos-neg (negsuc n) y e f = never e
 
 pub no-rest : (r y : ℤ) → ltZ r (pos 0) ≡ false → ltZ (pos 0) r ≡ false → turned r y ≡ r
 no-rest (pos zero) y e f = refl

@@ -44,11 +44,11 @@ and-true false t e = never e
 pub below-range : (z : ℤ) → ltZ z least ≡ true → inRange z ≡ false
 below-range z e = rw (lt-not-le z least e)
 
-pub above-range : (z : ℤ) → ltZ greatest z ≡ true → inRange z ≡ false
-above-range z e = and-false (leZ least z) (leZ z greatest) (lt-not-le greatest z e)
+pub above-range : (z : ℤ) → leZ z greatest ≡ false → inRange z ≡ false
+above-range z e = and-false (leZ least z) (leZ z greatest) e
 
-pub within-range : (z : ℤ) → ltZ z least ≡ false → ltZ greatest z ≡ false → InRange z
-within-range z e f = rw (not-lt-le z least e, not-lt-le greatest z f)
+pub within-range : (z : ℤ) → ltZ z least ≡ false → leZ z greatest ≡ true → InRange z
+within-range z e f = rw (not-lt-le z least e, f)
 
 -- 32 bits hold each integer in range
 pub range-fits : (z : ℤ) → InRange z → SFits w32 z

@@ -34,10 +34,10 @@ fn settle(z: i64) -> Number
     if z < Number::LEAST {
         return Number::OutOfRange;
     }
-    if Number::GREATEST < z {
-        return Number::OutOfRange;
+    if z <= Number::GREATEST {
+        return Number::Is(z as i32);
     }
-    Number::Is(z as i32)
+    Number::OutOfRange
 }
 
 pub fn add(left: i32, right: i32) -> Number
@@ -90,10 +90,10 @@ fn floor_rest(left: i32, right: i32) -> i64
         return rest + y;
     }
     if 0 < rest {
-        if y < 0 {
-            return rest + y;
+        if 0 < y {
+            return rest;
         }
-        return rest;
+        return rest + y;
     }
     rest
 }

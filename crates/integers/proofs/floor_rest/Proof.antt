@@ -1,7 +1,7 @@
 -- `integers::floor_rest` meets its contract, by its tests of the machine's rest and of the divisor.
 use lib.Signed.{quotZ}
 use Rattle.integers.proofs.Machine.{widened, widen-fits, quot-fits, wide-fits, divisor}
-use Rattle.integers.proofs.Rest.{rest, neg-neg, neg-pos, pos-neg, pos-pos, no-rest, more-fits, as-it-is, with-right}
+use Rattle.integers.proofs.Rest.{rest, neg-neg, neg-pos, pos-pos, pos-neg, no-rest, more-fits, as-it-is, with-right}
 use Rattle.integers.proofs.floor_rest.Statement.{statement}
 use Rattle.integers.proofs.floor_rest.Tie as tie
 
@@ -27,18 +27,18 @@ returns-2 c =
     let s = c .before .before in
     with-right (s .fits .left) (s .fits .right) (s .pre) (neg-pos (rest (s .args .left) (s .args .right)) (widened (s .args .right)) (c .before .if1 .taken) (c .if2 .left))
 
-add-result-2 : tie.Need-add-result-2
-add-result-2 c = more-fits (c .before .before .before .fits .left) (c .before .before .before .fits .right)
-
 returns-3 : tie.Need-returns-3
 returns-3 c =
     let s = c .before .before .before in
-    with-right (s .fits .left) (s .fits .right) (s .pre) (pos-neg (rest (s .args .left) (s .args .right)) (widened (s .args .right)) (c .before .if3 .taken) (c .if4 .taken))
+    as-it-is (s .fits .left) (s .fits .right) (s .pre) (pos-pos _ _ (c .before .if3 .taken) (c .if4 .taken))
+
+add-result-2 : tie.Need-add-result-2
+add-result-2 c = more-fits (c .before .before .before .fits .left) (c .before .before .before .fits .right)
 
 returns-4 : tie.Need-returns-4
 returns-4 c =
     let s = c .before .before .before in
-    as-it-is (s .fits .left) (s .fits .right) (s .pre) (pos-pos _ _ (c .before .if3 .taken) (c .if4 .left))
+    with-right (s .fits .left) (s .fits .right) (s .pre) (pos-neg (rest (s .args .left) (s .args .right)) (widened (s .args .right)) (c .before .if3 .taken) (c .if4 .left))
 
 returns-5 : tie.Need-returns-5
 returns-5 c =
@@ -48,4 +48,4 @@ returns-5 c =
 pub floor-rest-spec : {M : Type 1} → statement M
 floor-rest-spec =
     tie.close
-    (tie.spec cast-y cast-rest rem-rest returns add-result returns-2 add-result-2 returns-3 returns-4 returns-5)
+    (tie.spec cast-y cast-rest rem-rest returns add-result returns-2 returns-3 add-result-2 returns-4 returns-5)
