@@ -13,6 +13,7 @@ use mir.Facts.{toZ-ofZ, sfits-widen}
 use Rattle.integers.specs.Whole.{divℤ}
 use Rattle.integers.specs.Range.{never}
 use Rattle.integers.specs.Parts.{sub-ind}
+use Rattle.integers.specs.Division.{natAbs-neg}
 
 -- ---- how large a result can be
 
@@ -33,10 +34,6 @@ mag-neg (negsuc n) = omega arith
 mag-abs : (x : ℤ) → mag x ≤ natAbs x
 mag-abs (pos n) = omega arith
 mag-abs (negsuc n) = omega arith
-
-natAbs-neg : (n : ℕ) → natAbs (negℤ (pos n)) ≡ n
-natAbs-neg zero = refl
-natAbs-neg (suc n) = refl
 
 natAbs-mul : (x y : ℤ) → natAbs (x *ℤ y) ≡ natAbs x * natAbs y
 natAbs-mul (pos a) (pos b) = refl

@@ -56,7 +56,7 @@ rem-sizes (pos a) (negsuc k) = ap (λ (z : ℤ). pos a -ℤ z) (neg-times-neg k 
 rem-sizes (negsuc a) (pos b) = ap (λ (z : ℤ). negsuc a -ℤ z) (times-neg b (suc a / b)) ∙ plus-is a (b * (suc a / b)) (suc a % b) (div-add-mod (suc a) b)
 rem-sizes (negsuc a) (negsuc k) = plus-is a (suc k * (suc a / suc k)) (suc a % suc k) (div-add-mod (suc a) (suc k))
 
-natAbs-neg : (n : ℕ) → natAbs (negℤ (pos n)) ≡ n
+pub natAbs-neg : (n : ℕ) → natAbs (negℤ (pos n)) ≡ n
 natAbs-neg zero = refl
 natAbs-neg (suc n) = refl
 
