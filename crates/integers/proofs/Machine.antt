@@ -1,7 +1,7 @@
 -- What the machine computes at 64 bits of integers of 32: it reads each operand, and the result, from its bits, and loses nothing.
 use mathlib.Core.Path.{_≡_, refl, sym, ap, _∙_, subst}
-use mathlib.Core.Bool.{Bool, true, false}
-use Prim.Native.Nat.{ℕ, zero, suc, _+_, _*_, _≤_, _<_, _^_}
+use mathlib.Core.Bool.{true, false}
+use Prim.Native.Nat.{ℕ, zero, suc, _+_, _*_, _≤_, _<_}
 use native.Mathlib.Omega.{arith}
 use native.Mathlib.Nat.{mul-le-mul, div-le-self}
 use borrow.Author.Tests.{ltb-true}
@@ -13,6 +13,7 @@ use mir.Facts.{toZ-ofZ, sfits-widen}
 use Rattle.integers.specs.Whole.{divℤ}
 use Rattle.integers.specs.Range.{never}
 use Rattle.integers.specs.Parts.{sub-ind}
+use Rattle.integers.specs.Division.{natAbs-neg}
 
 -- ---- how large a result can be
 
@@ -33,10 +34,6 @@ mag-neg (negsuc n) = omega arith
 mag-abs : (x : ℤ) → mag x ≤ natAbs x
 mag-abs (pos n) = omega arith
 mag-abs (negsuc n) = omega arith
-
-natAbs-neg : (n : ℕ) → natAbs (negℤ (pos n)) ≡ n
-natAbs-neg zero = refl
-natAbs-neg (suc n) = refl
 
 natAbs-mul : (x y : ℤ) → natAbs (x *ℤ y) ≡ natAbs x * natAbs y
 natAbs-mul (pos a) (pos b) = refl

@@ -1,6 +1,7 @@
 -- Numbers of 16 bits and integers as bytes, the lowest byte first, and where they stand in a list of bytes.
+use mathlib.Core.Path.{_≡_}
 use mathlib.Core.List.{List, [], _∷_}
-use Prim.Native.Nat.{ℕ, _+_, _*_, _/_, _%_}
+use Prim.Native.Nat.{ℕ, _+_, _*_, _/_, _%_, _<_}
 use lib.IntN.{ℤ}
 use lib.ListN.{getD}
 use mir.Syntax.{w32}
@@ -36,3 +37,15 @@ bits32 s at = word s at + 65536 * word s (at + 2)
 -- the integer at a place, in two's complement
 abbrev pub integerAt : List ℕ → ℕ → ℤ
 integerAt s at = toZ w32 (bits32 s at)
+
+-- ---- what the readers promise
+
+-- r is the 16 bits at a place
+pub record IsWord (s : List ℕ) (at r : ℕ) : Type 0 where
+  pub is : r ≡ word s at
+  pub low : r < 65536
+
+-- r is the 32 bits of an integer
+pub record IsBits (z : ℤ) (r : ℕ) : Type 0 where
+  pub is : r ≡ bitsOf z
+  pub low : r < 4294967296

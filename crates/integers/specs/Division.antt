@@ -4,10 +4,10 @@ use Prim.Native.Nat.{ℕ, zero, suc, _+_, _*_, _-_, _/_, _%_, _≤_, _<_}
 use native.Mathlib.Omega.{arith}
 use native.Mathlib.Nat.{div-add-mod, zero-mod, mul-comm, mul-suc, mul-zero, mod-lt, mod-le}
 use lib.Arith.{digits-div}
-use lib.IntN.{ℤ, pos, negsuc, negℤ, natAbs, subℕ, sucℤ, _+ℤ_, _-ℤ_, _*ℤ_, +ℤ-comm, *ℤ-comm, -ℤ-+ℤ-cancel, sucℤ-*ℤ, pos-ne-negsuc}
+use lib.IntN.{ℤ, pos, negsuc, negℤ, natAbs, sucℤ, _+ℤ_, _-ℤ_, _*ℤ_, +ℤ-comm, *ℤ-comm, -ℤ-+ℤ-cancel, sucℤ-*ℤ, pos-ne-negsuc}
 use lib.Signed.{remZ, _≤ℤ_, _<ℤ_}
 use Rattle.integers.specs.Whole.{divℤ, floorℤ, remℤ, modℤ}
-use Rattle.integers.specs.Parts.{up, down, sub-ind, parts-sub, parts-neg, parts-minus, parts-add, eq-parts, le-parts, lt-parts}
+use Rattle.integers.specs.Parts.{up, down, sub-ind, parts-neg, parts-minus, parts-add, eq-parts, le-parts, lt-parts}
 
 -- ---- what the laws speak of
 
@@ -56,7 +56,7 @@ rem-sizes (pos a) (negsuc k) = ap (λ (z : ℤ). pos a -ℤ z) (neg-times-neg k 
 rem-sizes (negsuc a) (pos b) = ap (λ (z : ℤ). negsuc a -ℤ z) (times-neg b (suc a / b)) ∙ plus-is a (b * (suc a / b)) (suc a % b) (div-add-mod (suc a) b)
 rem-sizes (negsuc a) (negsuc k) = plus-is a (suc k * (suc a / suc k)) (suc a % suc k) (div-add-mod (suc a) (suc k))
 
-natAbs-neg : (n : ℕ) → natAbs (negℤ (pos n)) ≡ n
+pub natAbs-neg : (n : ℕ) → natAbs (negℤ (pos n)) ≡ n
 natAbs-neg zero = refl
 natAbs-neg (suc n) = refl
 
@@ -167,10 +167,15 @@ mod-rest left right n =
 
 -- ---- the floor
 
--- q is the floor of left/right: right × q does not pass left, and right × (q + 1) does
-pub record IsFloor (left right q : ℤ) : Type 0 where
+-- q is the floor of left/right by a positive number: right × q does not pass left, and right × (q + 1) does
+pub record PositiveFloor (left right q : ℤ) : Type 0 where
   pub reached : (right *ℤ q) ≤ℤ left
   pub passed : left <ℤ (right *ℤ sucℤ q)
+
+-- by a negative number it is the mirror image
+pub record NegativeFloor (left right q : ℤ) : Type 0 where
+  pub reached : left ≤ℤ (right *ℤ q)
+  pub passed : (right *ℤ sucℤ q) <ℤ left
 
 next : (right q : ℤ) → right *ℤ sucℤ q ≡ right *ℤ q +ℤ right
 next right q = *ℤ-comm right (sucℤ q) ∙ sucℤ-*ℤ q right ∙ ap (λ (z : ℤ). z +ℤ right) (*ℤ-comm q right)
@@ -187,8 +192,7 @@ rest-down (negsuc n) r = (refl, r .smaller)
 not-zero : (k : ℕ) → pos (suc k) ≡ pos 0 → ⊥
 not-zero k e = let q : _≡_ {A = ℕ} (suc k) 0 = cc in omega arith
 
--- by a positive number
-pub floor-positive : (left : ℤ) (k : ℕ) → IsFloor left (pos (suc k)) (floorℤ left (pos (suc k)))
+pub floor-positive : (left : ℤ) (k : ℕ) → PositiveFloor left (pos (suc k)) (floorℤ left (pos (suc k)))
 floor-positive left k =
     let right = pos (suc k) in
     let off = right *ℤ floorℤ left right in
@@ -198,12 +202,12 @@ floor-positive left k =
       passed = subst (λ (z : ℤ). left <ℤ z) (sym (next right (floorℤ left right))) (lt-parts left (off +ℤ right) (omega (arith, parts-minus left off, parts-add off right)));
     }
 
--- by a negative one: left/right is the mirror image, (−left)/(−right)
-pub floor-negative : (left : ℤ) (k : ℕ) → (left ≤ℤ (negsuc k *ℤ floorℤ left (negsuc k))) × ((negsuc k *ℤ sucℤ (floorℤ left (negsuc k))) <ℤ left)
+pub floor-negative : (left : ℤ) (k : ℕ) → NegativeFloor left (negsuc k) (floorℤ left (negsuc k))
 floor-negative left k =
     let right = negsuc k in
     let off = right *ℤ floorℤ left right in
-    let r = rest-down (modℤ left right) (mod-rest left right (λ e. pos-ne-negsuc 0 k (sym e))) in (
-      le-parts left off (omega (arith, parts-minus left off)),
-      subst (λ (z : ℤ). z <ℤ left) (sym (next right (floorℤ left right))) (lt-parts (off +ℤ right) left (omega (arith, parts-minus left off, parts-add off right))),
-    )
+    let r = rest-down (modℤ left right) (mod-rest left right (λ e. pos-ne-negsuc 0 k (sym e))) in
+    record {
+      reached = le-parts left off (omega (arith, parts-minus left off));
+      passed = subst (λ (z : ℤ). z <ℤ left) (sym (next right (floorℤ left right))) (lt-parts (off +ℤ right) left (omega (arith, parts-minus left off, parts-add off right)));
+    }

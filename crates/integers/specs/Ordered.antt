@@ -1,12 +1,12 @@
 -- Laws of the two orders: what each answer says, and what gives it.
 use mathlib.Core.Path.{_≡_, refl, ap}
-use mathlib.Core.Bool.{Bool, true, false}
+use mathlib.Core.Bool.{Bool, true, false, not}
 use Prim.Native.Nat.{ℕ, _≤_, _<_}
 use native.Mathlib.Omega.{arith}
-use borrow.Author.Tests.{ltb-true, ltb-false, lt-ltb, le-ltb}
-use lib.Dec.{ltb}
+use borrow.Author.Tests.{ltb-true, ltb-false, lt-ltb, le-ltb, lt-leb, le-leb}
+use lib.Dec.{ltb, leb}
 use lib.IntN.{ℤ, pos, negsuc}
-use lib.Signed.{ltZ}
+use lib.Signed.{ltZ, leZ}
 use Rattle.integers.specs.declared.Order.{Order}
 use Rattle.integers.specs.declared.Order.the-variants.{Lower, Same, Higher}
 use Rattle.integers.specs.Order.{orderBy, orderℕ, orderℤ}
@@ -63,6 +63,13 @@ eq-same a b e =
     let h : a ≤ b = omega arith in
     rw (le-ltb a b g, le-ltb b a h)
 
+leb-ltb : (a b : ℕ) → leb a b ≡ not (ltb b a)
+leb-ltb a b = go (ltb b a) refl
+  where
+    go : (t : Bool) → ltb b a ≡ t → leb a b ≡ not t
+    go true e = lt-leb a b (ltb-true b a e)
+    go false e = le-leb a b (ltb-false b a e)
+
 pub flip-order : (a b : ℕ) → orderℕ b a ≡ flip (orderℕ a b)
 unfolding orderℕ
 flip-order a b = by-flip (ltb a b) (ltb b a) (λ p q. omega (arith, ltb-true a b p, ltb-true b a q))
@@ -91,6 +98,13 @@ ltZ-eq (pos a) (pos b) p q = ap pos (omega (arith, ltb-false a b p, ltb-false b 
 ltZ-eq (pos a) (negsuc b) p q = cc
 ltZ-eq (negsuc a) (pos b) p q = cc
 ltZ-eq (negsuc a) (negsuc b) p q = ap negsuc (omega (arith, ltb-false b a p, ltb-false a b q))
+
+-- at most is not above
+pub leZ-ltZ : (a b : ℤ) → leZ a b ≡ not (ltZ b a)
+leZ-ltZ (pos a) (pos b) = leb-ltb a b
+leZ-ltZ (pos a) (negsuc b) = refl
+leZ-ltZ (negsuc a) (pos b) = refl
+leZ-ltZ (negsuc a) (negsuc b) = leb-ltb b a
 
 -- what the tests give
 pub ltZ-lower : (a b : ℤ) → ltZ a b ≡ true → orderℤ a b ≡ Lower

@@ -21,7 +21,13 @@ inRange z = leZ least z && leZ z greatest
 abbrev pub InRange : ℤ → Type 0
 InRange z = inRange z ≡ true
 
--- ---- answers: a number, 21 (integer out of range) or 22 (div, rem or mod by 0)
+-- ---- answers
+
+-- the number of each: 0, 21 (integer out of range) or 22 (div, rem or mod by 0)
+abbrev pub refusal : Number → ℕ
+refusal (Is z) = 0
+refusal OutOfRange = 21
+refusal ByZero = 22
 
 abbrev pub pick : Bool → Number → Number → Number
 pick true x y = x

@@ -1,15 +1,15 @@
 -- Laws of numbers as bytes: what was written is read back, and what was read is written back.
-use mathlib.Core.Path.{_≡_, refl, sym, ap, ap₂, subst, _∙_}
+use mathlib.Core.Path.{_≡_, refl, sym, ap, ap₂, _∙_}
 use mathlib.Core.List.{List, [], _∷_, _++_, append-assoc}
-use Prim.Native.Nat.{ℕ, suc, _+_, _*_, _/_, _%_, _^_, _≤_, _<_}
+use Prim.Native.Nat.{ℕ, suc, _+_, _*_, _/_, _%_, _≤_, _<_}
 use native.Mathlib.Numerals.{add-one, add-two}
 use native.Mathlib.Nat.{add-zero}
 use native.Mathlib.Omega.{arith}
 use lib.IntN.{ℤ}
 use lib.ListN.{length, getD, set, take, drop}
-use lib.Seq.{sets, sets-eq, getD-drop, drop-at, drop-cons, drop-drop, take-add, length-take-le}
+use lib.Seq.{sets, sets-eq, getD-take, getD-drop, take-set-le, drop-at, drop-cons, drop-drop, take-add, length-take-le}
 use mir.Syntax.{w32}
-use mir.Val.{Fits, SFits, toZ, ofZ}
+use mir.Val.{SFits, toZ}
 use mir.Facts.{toZ-ofZ, ofZ-toZ, fits-ofZ}
 use Rattle.integers.specs.Bytes.{pair, four, bitsOf, integerBytes, word, bits32, integerAt}
 
@@ -74,7 +74,12 @@ sets-then (v ∷ vs) ws s at =
     let e : at + suc (length vs) ≡ suc at + length vs = omega arith in
     ap (λ (j : ℕ). sets (sets (set s at v) (suc at) vs) j ws) e ∙ sets-then vs ws (set s at v) (suc at)
 
-drop-sets : (vs s : List ℕ) (at : ℕ) → at + length vs ≤ length s → drop at (sets s at vs) ≡ vs ++ drop (at + length vs) s
+-- what lies below is as it was, and what was stored stands there
+pub take-sets : (vs s : List ℕ) (at n : ℕ) → n ≤ at → take n (sets s at vs) ≡ take n s
+take-sets [] s at n h = refl
+take-sets (v ∷ vs) s at n h = take-sets vs (set s at v) (suc at) n (omega arith) ∙ take-set-le n s at v h
+
+pub drop-sets : (vs s : List ℕ) (at : ℕ) → at + length vs ≤ length s → drop at (sets s at vs) ≡ vs ++ drop (at + length vs) s
 drop-sets vs s at h =
     let rest = drop (at + length vs) s in
     let g : at ≤ length s = omega arith in
@@ -94,6 +99,18 @@ integer-stored s at {z} f h =
     ∙ sym (integer-drop t at 0)
     ∙ ap (λ (l : List ℕ). integerAt l 0) (drop-sets (integerBytes z) s at h)
     ∙ integer-four (drop (at + 4) s) f
+
+-- ---- below a place up to which two lists agree
+
+module _ (s t : List ℕ) (base : ℕ) (kept : take base t ≡ take base s) where
+  byte-kept : (i : ℕ) → i < base → getD t i 0 ≡ getD s i 0
+  byte-kept i h = sym (getD-take base t i 0 h) ∙ ap (λ (l : List ℕ). getD l i 0) kept ∙ getD-take base s i 0 h
+
+  pub word-kept : (at : ℕ) → at + 2 ≤ base → word t at ≡ word s at
+  word-kept at h = ap₂ (λ (x y : ℕ). x + 256 * y) (byte-kept at (omega arith)) (byte-kept (at + 1) (omega arith))
+
+  pub integer-kept : (at : ℕ) → at + 4 ≤ base → integerAt t at ≡ integerAt s at
+  integer-kept at h = ap₂ (λ (x y : ℕ). toZ w32 (x + 65536 * y)) (word-kept at (omega arith)) (word-kept (at + 2) (omega arith))
 
 -- ---- what was read is what stands there
 

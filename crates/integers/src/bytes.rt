@@ -3,12 +3,12 @@ ghost use mathlib.Core.Path.{_≡_};
 ghost use Prim.Native.Nat.{_+_, _<_, _≤_};
 ghost use lib.ListN.{length};
 ghost use lib.Seq.{sets};
-ghost use Rattle.integers.specs.Bytes.{word, pair, bitsOf, integerBytes, integerAt};
+ghost use Rattle.integers.specs.Bytes.{pair, integerBytes, integerAt, IsWord, IsBits};
 
 // The 16 bits at a place.
 pub fn read16(s: &[u8], at: usize) -> usize
     requires { ⌜ at + 2 ≤ length (now s) ⌝ }
-    ensures { λ r. ⌜ (r ≡ word (now (s .entry)) at) × (r < 65536) ⌝ }
+    ensures { λ r. ⌜ IsWord (now (s .entry)) at r ⌝ }
 {
     s[at] as usize + 256 * (s[at + 1] as usize)
 }
@@ -39,7 +39,7 @@ pub fn read32(s: &[u8], at: usize) -> i32
 
 // The 32 bits of an integer.
 fn bits_of(z: i32) -> usize
-    ensures { λ r. ⌜ (r ≡ bitsOf z) × (r < 4294967296) ⌝ }
+    ensures { λ r. ⌜ IsBits z r ⌝ }
 {
     if z < 0 {
         return 4294967295 - ((-1 - z) as usize);

@@ -7,7 +7,7 @@ ghost use Rattle.integers.specs.Order.{orderℕ, orderℤ};
 
 pub mod bytes;
 
-// What an operation answers.
+// What an operation answers: an integer, 21 or 22.
 pub enum Number {
     Is(i32),
     OutOfRange,
@@ -21,6 +21,7 @@ impl Number {
     pub const GREATEST: i64 = 2147483647;
 }
 
+// The order of two of a kind: the first is lower, the same or higher.
 pub enum Order {
     Lower,
     Same,
@@ -40,24 +41,28 @@ fn settle(z: i64) -> Number
     Number::OutOfRange
 }
 
+// left + right
 pub fn add(left: i32, right: i32) -> Number
     ensures { λ r. ⌜ r ≡ sum left right ⌝ }
 {
     settle(left as i64 + right as i64)
 }
 
+// left − right
 pub fn sub(left: i32, right: i32) -> Number
     ensures { λ r. ⌜ r ≡ difference left right ⌝ }
 {
     settle(left as i64 - right as i64)
 }
 
+// left × right
 pub fn mul(left: i32, right: i32) -> Number
     ensures { λ r. ⌜ r ≡ product left right ⌝ }
 {
     settle(left as i64 * right as i64)
 }
 
+// left div right, which cuts toward zero
 pub fn div(left: i32, right: i32) -> Number
     ensures { λ r. ⌜ r ≡ quotient left right ⌝ }
 {
@@ -67,6 +72,7 @@ pub fn div(left: i32, right: i32) -> Number
     settle(left as i64 / right as i64)
 }
 
+// left rem right, which has the dividend's sign
 pub fn rem(left: i32, right: i32) -> Number
     ensures { λ r. ⌜ r ≡ remainder left right ⌝ }
 {
@@ -76,7 +82,7 @@ pub fn rem(left: i32, right: i32) -> Number
     settle(left as i64 % right as i64)
 }
 
-// The rest that has the divisor's sign, from the machine's, which has the dividend's.
+// left mod right, from the machine's rest, which has the dividend's sign
 fn floor_rest(left: i32, right: i32) -> i64
     requires { ⌜ (right ≡ pos 0 → ⊥) ⌝ }
     ensures { λ r. ⌜ r ≡ modℤ left right ⌝ }
@@ -98,7 +104,7 @@ fn floor_rest(left: i32, right: i32) -> i64
     rest
 }
 
-// left mod right: `mod` is a keyword.
+// left mod right, which has the divisor's sign
 pub fn modulo(left: i32, right: i32) -> Number
     ensures { λ r. ⌜ r ≡ modulus left right ⌝ }
 {
@@ -108,12 +114,14 @@ pub fn modulo(left: i32, right: i32) -> Number
     settle(floor_rest(left, right))
 }
 
+// −z
 pub fn neg(z: i32) -> Number
     ensures { λ r. ⌜ r ≡ negation z ⌝ }
 {
     settle(-(z as i64))
 }
 
+// abs z
 pub fn abs(z: i32) -> Number
     ensures { λ r. ⌜ r ≡ absolute z ⌝ }
 {
@@ -123,12 +131,14 @@ pub fn abs(z: i32) -> Number
     settle(z as i64)
 }
 
+// left < right
 pub fn less(left: i32, right: i32) -> bool
     ensures { λ r. ⌜ r ≡ ltZ left right ⌝ }
 {
     left < right
 }
 
+// The order of two integers.
 pub fn compare(left: i32, right: i32) -> Order
     ensures { λ r. ⌜ r ≡ orderℤ left right ⌝ }
 {
@@ -141,6 +151,7 @@ pub fn compare(left: i32, right: i32) -> Order
     Order::Same
 }
 
+// The order of two lengths, kinds or places.
 pub fn compare_numbers(left: usize, right: usize) -> Order
     ensures { λ r. ⌜ r ≡ orderℕ left right ⌝ }
 {

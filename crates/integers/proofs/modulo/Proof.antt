@@ -1,7 +1,6 @@
 -- `integers::modulo` meets its contract: `floor_rest` finds the exact result, and `settle` answers it.
 use mathlib.Core.Path.{_≡_, sym, ap, ap₂, _∙_}
 use borrow.Author.Needs.{needs}
-use lib.IntN.{ℤ}
 use mir.Syntax.{w64}
 use mir.Facts.{toZ-ofZ}
 use Rattle.integers.specs.Whole.{answer, modℤ}

@@ -20,13 +20,13 @@ sub-result-2 : tie.Need-sub-result-2
 sub-result-2 c = let n = below c in rw (n .back) (omega arith)
 
 returns : tie.Need-returns
-returns c = let n = below c in rw (n .back) (omega arith)
+returns c = let n = below c in rw (n .back) (record { is = omega arith; low = omega arith })
 
 cast-result-2 : tie.Need-cast-result-2
 cast-result-2 c = let n = not-below c in rw (n .back) (tt, omega arith)
 
 returns-2 : tie.Need-returns-2
-returns-2 c = let n = not-below c in rw (n .back) (omega arith)
+returns-2 c = let n = not-below c in rw (n .back) (record { is = omega arith; low = omega arith })
 
 pub bits-of-spec : {M : Type 1} → statement M
 bits-of-spec = tie.close (tie.spec sub-result cast-result sub-result-2 returns cast-result-2 returns-2)

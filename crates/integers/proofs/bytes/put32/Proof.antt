@@ -37,7 +37,7 @@ returns c =
     let s = start .args .s .now in
     let at = start .args .at in
     halves s (low .last .0) (high .last .0) at (bits .result) (low .ensures) (high .ensures)
-    ∙ ap (λ (n : ℕ). sets s at (four n)) (bits .ensures .0 ∙ ap bitsOf (toZ-ofZ (start .fits .z)))
+    ∙ ap (λ (n : ℕ). sets s at (four n)) (bits .ensures .is ∙ ap bitsOf (toZ-ofZ (start .fits .z)))
 
 pub put32-spec : {M : Type 1} → statement M
 put32-spec = tie.close (tie.spec bits-of-requires put16-requires add-put16 put16-requires-2 same-length returns)

@@ -31,7 +31,7 @@ add-result-2 c =
 returns : tie.Need-returns
 returns c =
     let at = c .before .before .args .at in
-    (search needs, omega (arith, c .shared-slice-known2 .given at, c .shared-slice-known2 .given (at + 1)))
+    record { is = search needs; low = omega (arith, c .shared-slice-known2 .given at, c .shared-slice-known2 .given (at + 1)) }
 
 pub read16-spec : {M : Type 1} → statement M
 read16-spec =
