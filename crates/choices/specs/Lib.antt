@@ -2,4 +2,6 @@
 pub mod Tree
 pub mod Lists
 pub mod Paths
+pub mod State
+pub mod Runs
 pub mod Laws
