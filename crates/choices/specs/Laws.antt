@@ -7,3 +7,4 @@ pub mod Cut
 pub mod Walk
 pub mod Parts
 pub mod Outcomes
+pub mod Runs
