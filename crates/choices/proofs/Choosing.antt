@@ -5,24 +5,16 @@ use mathlib.Core.List.{List, [], _∷_, _++_}
 use Prim.Native.Nat.{ℕ, zero, suc, _+_, _≤_, _<_}
 use native.Mathlib.Numerals.{add-one}
 use native.Mathlib.Omega.{arith}
-use lib.ListN.{length, take, drop, getD, set, length-take, length-set, drop-of-length-le}
-use lib.Seq.{drop-cons, take-suc, take-suc-set, getD-take, length-take-le}
+use lib.ListN.{length, take, drop, getD, set, length-set}
+use lib.Seq.{take-suc, take-suc-set, length-take-le}
 use borrow.Author.Tests.{lt-ltb, le-ltb, le-leb, lt-leb}
 use Rattle.choices.specs.declared.Choices.{Choices}
 use Rattle.choices.specs.declared.Picked.{Picked}
 use Rattle.choices.specs.declared.Answer.{Answer}
 use Rattle.choices.specs.declared.Answer.the-variants.{Taken, Many, Short, Beyond}
 use Rattle.choices.specs.Tree.{limit}
+use Rattle.choices.specs.Laws.States.{left-cons, left-nil}
 use Rattle.choices.specs.State.{View, view, Sound, answerLeft, answerOf, rest, afterwards, Chosen, taking}
-
--- an entry is left: it is the first of those left
-pub left-cons : (e : List ℕ) (used len : ℕ) → used < len → len ≤ length e → drop used (take len e) ≡ getD e used 0 ∷ drop (suc used) (take len e)
-left-cons e used len h k =
-    let l : used < length (take len e) = simp length-take-le (omega arith) in
-    drop-cons (take len e) used 0 l ∙ rw getD-take
-
-pub left-nil : (e : List ℕ) (used len : ℕ) → len ≤ used → drop used (take len e) ≡ []
-left-nil e used len h = drop-of-length-le (take len e) {i = used} (simp length-take (omega arith))
 
 module _ (c : Choices) (n : ℕ) (s : Sound c) where
   past-length : c .used ≤ limit → length (take (c .used) (c .entries)) ≡ c .used

@@ -13,7 +13,7 @@ use Rattle.choices.specs.declared.Choices.{Choices}
 use Rattle.choices.specs.declared.Advanced.{Advanced}
 use Rattle.choices.specs.Paths.{raise}
 use Rattle.choices.specs.State.{View, view, Sound, fresh, Made, Moved}
-use Rattle.choices.proofs.Choosing.{left-cons, left-nil}
+use Rattle.choices.specs.Laws.States.{left-cons, left-nil}
 
 -- a list of two parts, of which the second can be raised
 raise-append : (xs ns ys ms z : List ℕ) → length xs ≡ length ns → raise ys ms ≡ some z → raise (xs ++ ys) (ns ++ ms) ≡ some (xs ++ z)
@@ -69,7 +69,7 @@ module _ (e₀ ns : List ℕ) (i₀ : ℕ) (roomy : i₀ ≤ length e₀) (count
       (raise-up (getD e₀ j 0) (getD ns j 0) (drop (suc j) (take i₀ e₀)) (drop (suc j) (take i₀ ns)) (g .stuck) (omega (arith, same-at)))
       in
       let b = raise-append (take j (take i₀ e₀)) (take j (take i₀ ns)) (drop j (take i₀ e₀)) (drop j (take i₀ ns)) (suc (getD e₀ j 0) ∷ []) (simp length-take (omega arith)) a in
-      let l = rw (take-append-drop, take-append-drop) at b in
+      let l = rw (take-append-drop j (take i₀ e₀), take-append-drop j (take i₀ ns)) at b in
       let r : take (suc j) (set e j (getD e j 0 + 1)) ≡ take j (take i₀ e₀) ++ suc (getD e₀ j 0) ∷ [] =
       take-suc-set e j (getD e j 0 + 1) (omega arith)
       ∙ ap₂ (λ (p : List ℕ) (x : ℕ). p ++ x ∷ []) (same-before ∙ sym (take-take j i₀ e₀ (omega arith))) (omega (arith, same-at))

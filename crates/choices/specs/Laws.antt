@@ -8,3 +8,7 @@ pub mod Walk
 pub mod Parts
 pub mod Outcomes
 pub mod Runs
+pub mod States
+pub mod Stepping
+pub mod Seeds
+pub mod Rank
