@@ -1,0 +1,4 @@
+mod Lengths
+mod Roles
+mod Heads
+mod Fit
