@@ -2,3 +2,4 @@ mod Lengths
 mod Roles
 mod Heads
 mod Fit
+mod Cutting

@@ -10,11 +10,11 @@ use Rattle.tables.specs.Check.{mostRecords}
 use Rattle.tables.specs.Accepted.{records}
 use Rattle.tables.specs.declared.reading.Cutting.{Cutting}
 
--- The record x stands at a place of the table: length, kind, then one-byte fields.
+-- The record x stands at a place of the table: length, kind, then one-byte fields. (Length and kind are below 256.)
 pub record Stands (table : List ℕ) (at : ℕ) (x : Record) : Type 0 where
   pub fits : at + 4 + length (x .fields) ≤ length table
-  pub long : word table at ≡ 4 + length (x .fields)
-  pub kind : word table (at + 2) ≡ x .kind
+  pub long : getD table at 0 ≡ 4 + length (x .fields)
+  pub kind : getD table (at + 2) 0 ≡ x .kind
   pub field : (i : ℕ) → i < length (x .fields) → getD table (at + 4 + i) 0 ≡ getD (x .fields) i 0
 
 -- The index has the place of each record of the table, as far as it goes.
