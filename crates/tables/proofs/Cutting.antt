@@ -48,11 +48,11 @@ module _ (bytes : List ℕ) (some : 0 < length bytes) where
 
   pub good : (n : ℕ) → n ≡ word bytes 0 → 4 ≤ length bytes → 4 ≤ n → n ≤ length bytes → isFit (first bytes) ≡ true → Measured bytes n
   good n is h l m e =
-      record
-        { bad = λ z. absurd (omega arith)
-        ; good = λ z. next-one h (omega arith) (omega arith) e ∙ ap (λ (k : ℕ). one (first bytes) (drop k bytes)) (sym is)
-        ; long = λ z. is
-        }
+      record {
+        bad = λ z. absurd (omega arith);
+        good = λ z. next-one h (omega arith) (omega arith) e ∙ ap (λ (k : ℕ). one (first bytes) (drop k bytes)) (sym is);
+        long = λ z. is;
+      }
 
 -- A part from a place to the end is what is left there.
 pub part-rest : (s : List ℕ) (at : ℕ) → take (length s - at) (drop at s) ≡ drop at s
@@ -69,7 +69,7 @@ measured-within s at n m h =
 -- ---- where a record stands
 
 -- No record has more than 8 fields.
-fields-few : (k : ℕ) → k ≤ 40 → size (shape k .head) + length (shape k .roles) ≤ 8
+pub fields-few : (k : ℕ) → k ≤ 40 → size (shape k .head) + length (shape k .roles) ≤ 8
 unfolding shape
 fields-few k h = leb-true _ _ (each (λ k. leb (size (shape k .head) + length (shape k .roles)) 8) 41 refl k (omega arith))
 
@@ -78,14 +78,14 @@ stands table at rest n =
     let x : Record = first (drop at table) in
     let long : length (x .fields) ≡ word (drop at table) 0 - 4 = fields-long (drop at table) (word (drop at table) 0) refl (n .long) (n .whole) in
     let few : length (x .fields) ≤ 8 = omega (arith, fit-most x (n .fit), fields-few (x .kind) (fit-kind x (n .fit))) in
-    record
-      { fits = omega (arith, n .long, n .whole, length-drop at table)
-      ; long = omega (arith, n .long, getD-drop at table 0 0, ap (λ (k : ℕ). getD table k 0) (plus-zero at))
-      ; kind = omega (arith, fit-kind x (n .fit), getD-drop at table 2 0)
-      ; field =
+    record {
+      fits = omega (arith, n .long, n .whole, length-drop at table);
+      long = omega (arith, n .long, getD-drop at table 0 0, ap (λ (k : ℕ). getD table k 0) (plus-zero at));
+      kind = omega (arith, fit-kind x (n .fit), getD-drop at table 2 0);
+      field =
           λ i h.
-          sym (field-at (drop at table) (word (drop at table) 0) refl (n .long) (n .whole) i (omega arith) ∙ getD-drop at table (4 + i) 0 ∙ ap (λ (k : ℕ). getD table k 0) (plus-four at i))
-      }
+          sym (field-at (drop at table) (word (drop at table) 0) refl (n .long) (n .whole) i (omega arith) ∙ getD-drop at table (4 + i) 0 ∙ ap (λ (k : ℕ). getD table k 0) (plus-four at i));
+    }
   where
     plus-zero : (a : ℕ) → a + 0 ≡ a
     plus-zero a = omega arith
@@ -108,15 +108,15 @@ pub record Turn (table index : List ℕ) (at count : ℕ) : Type 0 where
 pub turn-start : (table index : List ℕ) → length index ≡ mostRecords → Turn table index 0 0
 unfolding cut
 turn-start table index long =
-    record
-      { within = omega arith
-      ; steps = omega arith
-      ; fits = omega arith
-      ; left = ap (λ (n : ℕ). cutBy n table .records) (omega arith)
-      ; same = ap (λ (n : ℕ). cutBy n table .whole) (omega arith)
-      ; places = λ r h k. absurd (omega arith)
-      ; long = long
-      }
+    record {
+      within = omega arith;
+      steps = omega arith;
+      fits = omega arith;
+      left = ap (λ (n : ℕ). cutBy n table .records) (omega arith);
+      same = ap (λ (n : ℕ). cutBy n table .whole) (omega arith);
+      places = λ r h k. absurd (omega arith);
+      long = long;
+    }
 
 -- The place of a record is noted where there is room, and the lower ones stay.
 pub record Noted (index index′ : List ℕ) (count at : ℕ) : Type 0 where
@@ -126,11 +126,11 @@ pub record Noted (index index′ : List ℕ) (count at : ℕ) : Type 0 where
 
 pub noted : (index index′ : List ℕ) (count at : ℕ) → length index ≡ mostRecords → index′ ≡ set index count at → Noted index index′ count at
 noted index index′ count at long e =
-    record
-      { here = λ h. rw e (getD-set-same index count at 0 (omega arith))
-      ; others = λ r h. rw e (getD-set-other index count r at 0 (λ same. omega arith))
-      ; long = rw e (length-set index count at ∙ long)
-      }
+    record {
+      here = λ h. rw e (getD-set-same index count at 0 (omega arith));
+      others = λ r h. rw e (getD-set-other index count r at 0 (λ same. omega arith));
+      long = rw e (length-set index count at ∙ long);
+    }
 
 pub not-noted : (index index′ : List ℕ) (count at : ℕ) → length index ≡ mostRecords → index′ ≡ index → mostRecords ≤ count → Noted index index′ count at
 not-noted index index′ count at long e full =
@@ -146,11 +146,11 @@ drop-head : (l : List Record) (n : ℕ) (x : Record) (xs : List Record) → drop
 drop-head l n x xs e =
     let some : 0 < length (drop n l) = omega (arith, ap length e) in
     let h : n < length l = omega (arith, length-drop n l) in
-    record
-      { within = h
-      ; is = ap (λ (k : ℕ). getD l k noRecord) (plus n) ∙ sym (getD-drop n l 0 noRecord) ∙ ap (λ (m : List Record). getD m 0 noRecord) e
-      ; then = sym (drop-drop 1 n l) ∙ ap (λ (m : List Record). drop 1 m) e
-      }
+    record {
+      within = h;
+      is = ap (λ (k : ℕ). getD l k noRecord) (plus n) ∙ sym (getD-drop n l 0 noRecord) ∙ ap (λ (m : List Record). getD m 0 noRecord) e;
+      then = sym (drop-drop 1 n l) ∙ ap (λ (m : List Record). drop 1 m) e;
+    }
   where
     plus : (n : ℕ) → n ≡ n + 0
     plus n = omega arith
@@ -169,11 +169,11 @@ module _ (table index : List ℕ) (at count : ℕ) (t : Turn table index at coun
       let out : cutBy (length table - count) (drop at table) ≡ record { records = []; whole = true } = rw none (cut-nothing (length table - count)) in
       let over : drop count (records table) ≡ [] = sym (t .left) ∙ ap (λ (c : Cut). c .records) out in
       let last : count ≡ length (records table) = omega (arith, t .fits, length-drop count (records table), ap length over) in
-      record
-        { count = last
-        ; whole = sym (ap (λ (c : Cut). c .whole) out) ∙ t .same
-        ; places = λ r k l. t .places r (omega arith) l
-        }
+      record {
+        count = last;
+        whole = sym (ap (λ (c : Cut). c .whole) out) ∙ t .same;
+        places = λ r k l. t .places r (omega arith) l;
+      }
 
   module _ (more : at < length table) where
     -- The bound has room for one record more.
@@ -188,14 +188,14 @@ module _ (table index : List ℕ) (at count : ℕ) (t : Turn table index at coun
     pub turn-bad : next (drop at table) ≡ fault → CutOut table index (record { count = count; whole = false })
     turn-bad e =
         let out : cutBy (length table - count) (drop at table) ≡ record { records = []; whole = false } =
-            unrolled ∙ ap (λ (n : Next). after n (λ rest. cutBy (length table - (count + 1)) rest)) e in
+        unrolled ∙ ap (λ (n : Next). after n (λ rest. cutBy (length table - (count + 1)) rest)) e in
         let over : drop count (records table) ≡ [] = sym (t .left) ∙ ap (λ (c : Cut). c .records) out in
         let last : count ≡ length (records table) = omega (arith, t .fits, length-drop count (records table), ap length over) in
-        record
-          { count = last
-          ; whole = sym (ap (λ (c : Cut). c .whole) out) ∙ t .same
-          ; places = λ r k l. t .places r (omega arith) l
-          }
+        record {
+          count = last;
+          whole = sym (ap (λ (c : Cut). c .whole) out) ∙ t .same;
+          places = λ r k l. t .places r (omega arith) l;
+        }
 
     -- A record of n bytes is next, and its place is noted where there is room.
     pub turn-more : (n : ℕ) (index′ : List ℕ) → next (drop at table) ≡ one (first (drop at table)) (drop n (drop at table)) → n ≡ word (drop at table) 0 → Noted index index′ count at → Turn table index′ (at + n) (count + 1)
@@ -203,22 +203,22 @@ module _ (table index : List ℕ) (at count : ℕ) (t : Turn table index at coun
         let x : Record = first (drop at table) in
         let i : IsNext (drop at table) x (drop n (drop at table)) = next-is (drop at table) x (drop n (drop at table)) e in
         let out : cutBy (length table - count) (drop at table) ≡ after (one x (drop n (drop at table))) (λ rest. cutBy (length table - (count + 1)) rest) =
-            unrolled ∙ ap (λ (n : Next). after n (λ rest. cutBy (length table - (count + 1)) rest)) e in
+        unrolled ∙ ap (λ (n : Next). after n (λ rest. cutBy (length table - (count + 1)) rest)) e in
         let hd : Head (records table) count x (cutBy (length table - (count + 1)) (drop n (drop at table)) .records) =
-            drop-head (records table) count x _ (sym (t .left) ∙ ap (λ (c : Cut). c .records) out) in
-        record
-          { within = omega (arith, i .whole, length-drop at table)
-          ; steps = omega (arith, i .long, t .steps)
-          ; fits = omega (arith, hd .within)
-          ; left = ap (λ (bytes : List ℕ). cutBy (length table - (count + 1)) bytes .records) (sym (drop-drop n at table)) ∙ sym (hd .then)
-          ; same =
+        drop-head (records table) count x _ (sym (t .left) ∙ ap (λ (c : Cut). c .records) out) in
+        record {
+          within = omega (arith, i .whole, length-drop at table);
+          steps = omega (arith, i .long, t .steps);
+          fits = omega (arith, hd .within);
+          left = ap (λ (bytes : List ℕ). cutBy (length table - (count + 1)) bytes .records) (sym (drop-drop n at table)) ∙ sym (hd .then);
+          same =
               ap (λ (bytes : List ℕ). cutBy (length table - (count + 1)) bytes .whole) (sym (drop-drop n at table))
-              ∙ sym (ap (λ (c : Cut). c .whole) out) ∙ t .same
-          ; places =
+              ∙ sym (ap (λ (c : Cut). c .whole) out) ∙ t .same;
+          places =
               λ r k l.
               split r count (λ h. rw (noted .others r h) (t .places r h l))
               (λ h.
               let same : r ≡ count = omega arith in
-              rw (same, noted .here (omega arith), hd .is) (stands table at (drop n (drop at table)) i))
-          ; long = noted .long
-          }
+              rw (same, noted .here (omega arith), hd .is) (stands table at (drop n (drop at table)) i));
+          long = noted .long;
+        }

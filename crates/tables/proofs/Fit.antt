@@ -79,5 +79,5 @@ module _ (bytes : List ℕ) (len : ℕ) (is : len ≡ word bytes 0) (four : 4 �
   fit-first e l small =
       known-fit e
       ∙ known-first (headOf (first bytes)) (first bytes)
-        (λ i. bytes-range (first bytes .fields) (λ k h. rw (field-at k (omega (arith, integer-long e i))) (small (4 + k))))
+      (λ i. bytes-range (first bytes .fields) (λ k h. rw (field-at k (omega (arith, integer-long e i))) (small (4 + k))))
       ∙ ap (knownFirst (headOf (first bytes))) (field-at 0 (omega arith))

@@ -3,3 +3,4 @@ mod Roles
 mod Heads
 mod Fit
 mod Cutting
+mod Stand

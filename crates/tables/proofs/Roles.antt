@@ -48,6 +48,6 @@ unfolding shape
 role-by k i h l =
     sym (back (getD (rolesOf k) i Plain))
     ∙ ap role
-      (eqb-true (number (getD (rolesOf k) i Plain)) (number (roleBy k i)) (not-not _ (any-none (λ i. not (eqb (number (getD (rolesOf k) i Plain)) (number (roleBy k i)))) (length (rolesOf k))
-      (any-none (λ k. any (λ i. not (eqb (number (getD (rolesOf k) i Plain)) (number (roleBy k i)))) (length (rolesOf k))) 41 refl k (omega arith)) i l)))
+    (eqb-true (number (getD (rolesOf k) i Plain)) (number (roleBy k i)) (not-not _ (any-none (λ i. not (eqb (number (getD (rolesOf k) i Plain)) (number (roleBy k i)))) (length (rolesOf k))
+    (any-none (λ k. any (λ i. not (eqb (number (getD (rolesOf k) i Plain)) (number (roleBy k i)))) (length (rolesOf k))) 41 refl k (omega arith)) i l)))
     ∙ back (roleBy k i)

@@ -4,7 +4,7 @@ use mathlib.Core.List.{List}
 use Prim.Native.Nat.{ℕ, _+_, _≤_, _<_}
 use lib.ListN.{length, getD, drop}
 use Rattle.integers.specs.Bytes.{word}
-use Rattle.tables.specs.Record.{Record}
+use Rattle.tables.specs.Record.{Record, named}
 use Rattle.tables.specs.Table.{Next, fault, one, next, first, recordAt, cut}
 use Rattle.tables.specs.Check.{mostRecords}
 use Rattle.tables.specs.Accepted.{records}
@@ -30,6 +30,15 @@ pub record Indexed (table index : List ℕ) : Type 0 where
 pub record Here (table index : List ℕ) (r : ℕ) : Type 0 where
   pub indexed : Indexed table index
   pub within : r < length (records table)
+
+-- Such a record that has a field i, and one that has an operand i.
+pub record HasField (table index : List ℕ) (r i : ℕ) : Type 0 where
+  pub here : Here table index r
+  pub has : i < length (recordAt (records table) r .fields)
+
+pub record HasOperand (table index : List ℕ) (r i : ℕ) : Type 0 where
+  pub here : Here table index r
+  pub has : i < length (named (recordAt (records table) r))
 
 -- The length of the record at the start of some bytes; 0 where rule 4 finds a fault.
 pub record Measured (bytes : List ℕ) (n : ℕ) : Type 0 where

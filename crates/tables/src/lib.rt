@@ -1,6 +1,6 @@
 // Tables of records: what a record's operands are for, and what the check of a table answers.
-pub mod shape;
 pub mod reading;
+pub mod shape;
 
 // The greatest number of bytes of a table, and of records in it; the greatest height.
 pub const MOST_BYTES: usize = 2400;

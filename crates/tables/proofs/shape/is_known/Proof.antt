@@ -56,7 +56,7 @@ is-kind-requires c κs = search needs
 
 -- src/shape.rt:115:1
 returns-7 : tie.Need-returns-7
-returns-7 c = c .is-kind .ensures ∙ other-known (c .before .before .before .before .before .before .before .args .kind) (c .before .before .before .before .before .before .before .args .n) ( c .before .before .before .before .before .before .before .pre) (c .before .before .before .before .before .before .if1 .left) (c .before .before .before .before .before .if2 .left) (c .before .before .before .before .if3 .left) (c .before .before .before .if4 .left) (c .before .before .if5 .left) (c .before .if6 .left)
+returns-7 c = c .is-kind .ensures ∙ other-known (c .before .before .before .before .before .before .before .args .kind) (c .before .before .before .before .before .before .before .args .n) (c .before .before .before .before .before .before .before .pre) (c .before .before .before .before .before .before .if1 .left) (c .before .before .before .before .before .if2 .left) (c .before .before .before .before .if3 .left) (c .before .before .before .if4 .left) (c .before .before .if5 .left) (c .before .if6 .left)
 
 pub is-known-spec : {M : Type 1} → statement M
 is-known-spec =
