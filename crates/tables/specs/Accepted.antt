@@ -249,12 +249,12 @@ first-free Body b e = never e
 first-free Pattern b e = refl
 first-free Name b e = refl
 
-first-sort : (role : Role) (r : Record) → isFirst role ≡ true → isOfSort role r ≡ true → isPattern (r .kind) ≡ true
-first-sort Plain r e f = never e
-first-sort Condition r e f = never e
-first-sort Body r e f = never e
-first-sort Pattern r e f = f
-first-sort Name r e f = rw (eqb-true (r .kind) 32 f)
+first-sort : (role : Role) (k : ℕ) → isFirst role ≡ true → isOfSort role k ≡ true → isPattern k ≡ true
+first-sort Plain k e f = never e
+first-sort Condition k e f = never e
+first-sort Body k e f = never e
+first-sort Pattern k e f = f
+first-sort Name k e f = rw (eqb-true k 32 f)
 
 -- A binder has at least three operands, and the first is its pattern.
 binder-roles : (k : ℕ) → isBinder k ≡ true → isFirst (getD (shape k .roles) 0 Plain) && leb 3 (shape k .least) ≡ true
@@ -295,13 +295,13 @@ module _ (rs : List Record) (fine : Fine rs) where
         ltb-true _ _ (not-not _ (or-left (not (ltb (operand (recordAt rs r) i) r)) _ (or-left _ (isIn (operand (recordAt rs r) i) (namedBefore rs r i)) good)))
 
     -- Every operand is of its sort.
-    pub operand-sort : isOfSort (roleAt (recordAt rs r) i) (recordAt rs (operand (recordAt rs r) i)) ≡ true
+    pub operand-sort : isOfSort (roleAt (recordAt rs r) i) (kindAt rs (operand (recordAt rs r) i)) ≡ true
     operand-sort =
         not-not _ (or-right (not (ltb (operand (recordAt rs r) i) r)) _ (or-left _ (isIn (operand (recordAt rs r) i) (namedBefore rs r i)) good))
 
     -- It is named by no lower record, and by no earlier operand.
     pub operand-first : isIn (operand (recordAt rs r) i) (namedBefore rs r i) ≡ false
-    operand-first = or-right (not (ltb (operand (recordAt rs r) i) r) || not (isOfSort (roleAt (recordAt rs r) i) (recordAt rs (operand (recordAt rs r) i)))) _ good
+    operand-first = or-right (not (ltb (operand (recordAt rs r) i) r) || not (isOfSort (roleAt (recordAt rs r) i) (kindAt rs (operand (recordAt rs r) i)))) _ good
 
     -- Its record is the one that names it, for what its place says.
     pub operand-parent : parent rs (operand (recordAt rs r) i) ≡ r
@@ -382,7 +382,7 @@ module _ (rs : List Record) (fine : Fine rs) where
       let few : 3 ≤ shape (kindAt rs r) .least = leb-true _ _ (and-right (isFirst (roleAt (recordAt rs r) 0)) _ roles) in
       let one : 0 < length (named (recordAt rs r)) = omega (arith, named-count (recordAt rs r) (fine .fit r h), fit-least (recordAt rs r) (fine .fit r h)) in
       let lw : patternOf rs r < r = operand-lower r 0 h one in
-      let free : isBound rs (patternOf rs r) n ≡ false = fresh-below r (patternOf rs r) n lw (omega arith) (first-sort (roleAt (recordAt rs r) 0) (recordAt rs (patternOf rs r)) p0 (operand-sort r 0 h one)) f in
+      let free : isBound rs (patternOf rs r) n ≡ false = fresh-below r (patternOf rs r) n lw (omega arith) (first-sort (roleAt (recordAt rs r) 0) (kindAt rs (patternOf rs r)) p0 (operand-sort r 0 h one)) f in
       rw (first-free (roleAt (recordAt rs r) 0) (holdsName rs (patternOf rs r) n) p0) at (sym (bound-operand r 0 n h one)) ∙ free
 
   -- ---- choices
