@@ -1,1 +1,2 @@
+mod Scan
 mod Marks

@@ -7,15 +7,16 @@ use native.Mathlib.Omega.{arith}
 use native.Mathlib.Numerals.{add-one}
 use borrow.Author.Tests.{eq-eqb, ne-eqb, lt-ltb, le-ltb}
 use lib.Dec.{eqb, ltb}
-use lib.ListN.{length, getD, take, set, length-set}
+use lib.ListN.{length, getD, take, set, length-set, replicate, length-replicate, getD-replicate}
 use lib.Seq.{getD-set-same, getD-set-other, take-suc, take-length, take-all}
 use Rattle.tables.specs.declared.Role.{Role}
-use Rattle.tables.specs.Record.{Record, named, operand, roleAt}
-use Rattle.tables.specs.Table.{noRecord, recordAt, kindAt}
+use Rattle.tables.specs.Record.{Record, isPattern, named, operand, roleAt}
+use Rattle.tables.specs.Table.{pick, noRecord, recordAt, kindAt}
 use Rattle.tables.specs.Sheet.{any, lowest, isIn}
 use Rattle.tables.specs.Check.{mostRecords, isOfSort, allNamed, namedBefore, isBad, hasBad, isStray, fault6}
 use Rattle.tables.specs.Laws.{split, or-some, in-append, low}
 use Rattle.tables.specs.Accepted.{records}
+use Rattle.checking.proofs.Scan.{low-more, lowest-either}
 use Rattle.checking.specs.Naming.{Marked, MarkedOne, MarkedAll}
 
 -- ---- one mark
@@ -102,3 +103,42 @@ operands-end table r marks bad i h o l =
       ; marked =
           rw (all-more (records table) r h, sym (take-all i (named (recordAt (records table) r)) l)) (o .marked)
       }
+
+-- ---- all records
+
+pub record Records (rs : List Record) (marks : List ℕ) (low r : ℕ) : Type 0 where
+  pub within : r ≤ length rs
+  pub is : low ≡ lowest (hasBad rs) r
+  pub marked : Marked marks (allNamed (take r rs))
+
+pub records-start : (rs : List Record) (marks : List ℕ) → Marked marks [] → Records rs marks 0 0
+records-start rs marks m = record { within = omega arith; is = refl; marked = m }
+
+pub records-more : (table marks marks′ : List ℕ) (l r p : ℕ) (bad : Bool) → Records (records table) marks l r → r < length (records table) → MarkedOne table r marks′ bad → p ≡ pick (ltb l r) l (pick bad r (suc r)) → Records (records table) marks′ p (r + 1)
+records-more table marks marks′ l r p bad o h m e =
+    record
+      { within = omega arith
+      ; is = low-more (hasBad (records table)) l r p bad (o .is) (m .is) e
+      ; marked = rw (add-one r) (m .marked)
+      }
+
+pub records-end : (table marks : List ℕ) (l r : ℕ) → Records (records table) marks l r → length (records table) ≤ r → MarkedAll table marks l
+records-end table marks l r o h =
+    let all : r ≡ length (records table) = omega (arith, o .within) in
+    record { is = o .is ∙ ap (lowest (hasBad (records table))) all; marked = rw (sym (take-all r (records table) h)) (o .marked) }
+
+-- ---- rule 6
+
+pub stray-last : (rs : List Record) (r : ℕ) (b : Bool) → r + 1 ≡ length rs → b ≡ isPattern (kindAt rs r) → b ≡ isStray rs r
+stray-last rs r b e f = f ∙ sym (rw (eq-eqb (suc r) (length rs) (sym (add-one r) ∙ e)))
+
+pub stray-named : (rs : List Record) (r : ℕ) (b : Bool) → (r + 1 ≡ length rs → ⊥) → b ≡ isIn r (allNamed rs) → not b ≡ isStray rs r
+stray-named rs r b ne f = ap not f ∙ sym (rw (ne-eqb (suc r) (length rs) (λ e. ne (add-one r ∙ e))))
+
+pub lowest-both : (rs : List Record) (n a b p : ℕ) → n ≡ length rs → a ≡ lowest (hasBad rs) (length rs) → b ≡ lowest (isStray rs) n → p ≡ min a b → p ≡ lowest (fault6 rs) n
+unfolding fault6
+lowest-both rs n a b p e f g h =
+    h ∙ ap (λ (k : ℕ). min k b) (f ∙ ap (lowest (hasBad rs)) (sym e)) ∙ ap (λ (k : ℕ). min (lowest (hasBad rs) n) k) g ∙ sym (lowest-either (hasBad rs) (isStray rs) n)
+
+pub no-marks : Marked (replicate 200 0) []
+no-marks = record { long = length-replicate {A = ℕ} 200 0; is = λ n h. rw (getD-replicate {A = ℕ} 200 n 0 0 h) }

@@ -76,3 +76,56 @@ fn mark_operands(table: &[u8], index: &[u16; 200], r: usize, marks: &mut [u8; 20
     }
     bad
 }
+
+// The lowest record with an operand at fault; marks all numbers that are named.
+fn mark_all(table: &[u8], index: &[u16; 200], count: usize, marks: &mut [u8; 200]) -> usize
+    requires { ⌜ AskAll (now table) (now index) count (now marks) ⌝ }
+    ensures { λ p. ⌜ MarkedAll (now (table .entry)) (now (marks .exit)) p ⌝ }
+{
+    let mut low = 0;
+    let mut r = 0;
+    while r < count {
+        let bad = mark_operands(table, index, r, marks);
+        low = next_low(low, r, bad);
+        r += 1;
+    }
+    low
+}
+
+// Record r is never named, or is the last and a pattern.
+fn is_stray(table: &[u8], index: &[u16; 200], count: usize, r: usize, marks: &[u8; 200]) -> bool
+    requires { ⌜ AskStray (now table) (now index) count (now marks) × (r < count) ⌝ }
+    ensures { λ b. ⌜ b ≡ isStray (records (now (table .entry))) r ⌝ }
+{
+    if r + 1 == count {
+        return is_between(32, kind(table, index, r), 40);
+    }
+    let marked = is_marked(marks, r);
+    !marked
+}
+
+// The lowest such record.
+fn lowest_stray(table: &[u8], index: &[u16; 200], count: usize, marks: &[u8; 200]) -> usize
+    requires { ⌜ AskStray (now table) (now index) count (now marks) ⌝ }
+    ensures { λ p. ⌜ p ≡ lowestOf (isStray (records (now (table .entry)))) count ⌝ }
+{
+    let mut low = 0;
+    let mut r = 0;
+    while r < count {
+        let stray = is_stray(table, index, count, r, marks);
+        low = next_low(low, r, stray);
+        r += 1;
+    }
+    low
+}
+
+// The lowest record that breaks rule 6; the number of records where none does.
+pub fn lowest6(table: &[u8], index: &[u16; 200], count: usize) -> usize
+    requires { ⌜ Whole (now table) (now index) count ⌝ }
+    ensures { λ p. ⌜ p ≡ lowestOf (fault6 (records (now (table .entry)))) count ⌝ }
+{
+    let mut marks = [0u8; 200];
+    let bad = mark_all(table, index, count, &mut marks);
+    let stray = lowest_stray(table, index, count, &marks);
+    lower(bad, stray)
+}
