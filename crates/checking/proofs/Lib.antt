@@ -1,2 +1,3 @@
 mod Scan
 mod Marks
+mod Below

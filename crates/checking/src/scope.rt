@@ -1,0 +1,89 @@
+// Rules 7 and 8: the names bound around each record, and whether it lies in a condition, as bits of one number.
+ghost use mathlib.Core.Path.{_≡_};
+ghost use Prim.Native.Nat.{_+_, _<_, _≤_, _^_};
+ghost use lib.ListN.{length, getD};
+ghost use Rattle.tables.specs.Record.{roleAt};
+ghost use Rattle.tables.specs.Table.{recordAt};
+ghost use Rattle.tables.specs.Sheet.{lowest as lowestOf, patternOf};
+ghost use Rattle.tables.specs.Check.{fault7 as fault7Of, fault8 as fault8Of};
+ghost use Rattle.tables.specs.Accepted.{records};
+ghost use Rattle.tables.specs.Reading.{Here};
+ghost use Rattle.checking.specs.Scopes.{hasBit, union as unionIn, own as ownOf, held as heldOf, given as givenBy, Below, Around, AskBelow, Kept, AskGiven, AskPush, AskAround, AskScoped};
+use crate::lowest::next_low;
+use tables::Role;
+use tables::reading::{field, kind, operand, operand_count, role};
+
+// A condition, and a loose pattern; the bits from 2 on are names.
+const CONDITION: u32 = 1;
+
+const LOOSE: u32 = 2;
+
+fn union(a: u32, b: u32) -> u32
+    ensures { λ r. ⌜ r ≡ unionIn a b ⌝ }
+{
+    a | b
+}
+
+fn bit(n: usize) -> u32
+    requires { ⌜ n < 32 ⌝ }
+    ensures { λ r. ⌜ r ≡ 2 ^ n ⌝ }
+{
+    1 << n
+}
+
+fn has(m: u32, n: usize) -> bool
+    requires { ⌜ n < 32 ⌝ }
+    ensures { λ b. ⌜ b ≡ hasBit m n ⌝ }
+{
+    (m >> n) % 2 == 1
+}
+
+// The bits of record r itself.
+fn own(table: &[u8], index: &[u16; 200], r: usize) -> u32
+    requires { ⌜ Here (now table) (now index) r ⌝ }
+    ensures { λ m. ⌜ m ≡ ownOf (recordAt (records (now (table .entry))) r) ⌝ }
+{
+    let k = kind(table, index, r);
+    if k == 32 {
+        return bit(field(table, index, r, 0) + 2);
+    }
+    if k == 37 {
+        return LOOSE;
+    }
+    if k == 38 {
+        return LOOSE;
+    }
+    if k == 40 {
+        return LOOSE;
+    }
+    0
+}
+
+// The bits of record r and of all below it.
+fn held_at(table: &[u8], index: &[u16; 200], r: usize, below: &[u32; 200]) -> u32
+    requires { ⌜ AskBelow (now table) (now index) r (now below) ⌝ }
+    ensures { λ m. ⌜ m ≡ heldOf (records (now (table .entry))) r ⌝ }
+{
+    let count = operand_count(table, index, r);
+    let mut m = own(table, index, r);
+    let mut i = 0;
+    while i < count {
+        let n = operand(table, index, r, i);
+        m = union(m, below[n]);
+        i += 1;
+    }
+    m
+}
+
+// Fills in the bits below each record, from the first on.
+fn fill_below(table: &[u8], index: &[u16; 200], count: usize, below: &mut [u32; 200])
+    requires { ⌜ Kept (now table) (now index) count × (length (now below) ≡ 200) ⌝ }
+    ensures { λ _. ⌜ Below (records (now (table .entry))) (now (below .exit)) (length (records (now (table .entry)))) ⌝ }
+{
+    let mut r = 0;
+    while r < count {
+        let m = held_at(table, index, r, below);
+        below[r] = m;
+        r += 1;
+    }
+}
