@@ -1,3 +1,5 @@
 mod Scan
 mod Marks
 mod Below
+mod Above
+mod Bits

@@ -87,3 +87,55 @@ fn fill_below(table: &[u8], index: &[u16; 200], count: usize, below: &mut [u32; 
         r += 1;
     }
 }
+
+// The bits of the pattern of record q.
+fn pattern_bits(table: &[u8], index: &[u16; 200], q: usize, below: &[u32; 200]) -> u32
+    requires { ⌜ AskGiven (now table) (now index) q 0 (now below) ⌝ }
+    ensures { λ m. ⌜ m ≡ heldOf (records (now (table .entry))) (patternOf (records (now (table .entry))) q) ⌝ }
+{
+    let p = operand(table, index, q, 0);
+    below[p]
+}
+
+// What record q adds around its operand i.
+fn given(table: &[u8], index: &[u16; 200], q: usize, i: usize, below: &[u32; 200]) -> u32
+    requires { ⌜ AskGiven (now table) (now index) q i (now below) ⌝ }
+    ensures { λ m. ⌜ m ≡ givenBy (records (now (table .entry))) q (roleAt (recordAt (records (now (table .entry))) q) i) ⌝ }
+{
+    let x = role(table, index, q, i);
+    match x {
+        Role::Plain => 0,
+        Role::Condition => union(pattern_bits(table, index, q, below), CONDITION),
+        Role::Body => pattern_bits(table, index, q, below),
+        Role::Pattern => 0,
+        Role::Name => 0,
+    }
+}
+
+// Hands the bits around record q, and its own, on to its operands.
+fn push(table: &[u8], index: &[u16; 200], q: usize, below: &[u32; 200], above: &mut [u32; 200])
+    requires { ⌜ AskPush (now table) (now index) q (now below) (now above) ⌝ }
+    ensures { λ _. ⌜ Around (records (now (table .entry))) (now (above .exit)) q ⌝ }
+{
+    let count = operand_count(table, index, q);
+    let up = above[q];
+    let mut i = 0;
+    while i < count {
+        let n = operand(table, index, q, i);
+        let m = union(up, given(table, index, q, i, below));
+        above[n] = m;
+        i += 1;
+    }
+}
+
+// Fills in the bits around each record, from the last down.
+fn fill_around(table: &[u8], index: &[u16; 200], count: usize, below: &[u32; 200], above: &mut [u32; 200])
+    requires { ⌜ AskAround (now table) (now index) count (now below) (now above) ⌝ }
+    ensures { λ _. ⌜ Around (records (now (table .entry))) (now (above .exit)) 0 ⌝ }
+{
+    let mut q = count;
+    while 0 < q {
+        q -= 1;
+        push(table, index, q, below, above);
+    }
+}
