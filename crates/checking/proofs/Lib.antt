@@ -3,3 +3,4 @@ mod Marks
 mod Below
 mod Above
 mod Bits
+mod Faults

@@ -91,3 +91,13 @@ pub record AskScoped (table index : List ℕ) (count : ℕ) (inner outer : List 
   pub kept : Kept table index count
   pub below : Below (records table) inner (length (records table))
   pub around : Around (records table) outer 0
+
+pub record AskName (table index : List ℕ) (r : ℕ) (outer : List ℕ) : Type 0 where
+  pub here : Here table index r
+  pub around : Around (records table) outer 0
+
+pub record AskChoice (table index : List ℕ) (r : ℕ) (inner outer : List ℕ) : Type 0 where
+  pub here : Here table index r
+  pub clear : Clear6 (records table)
+  pub below : Below (records table) inner (length (records table))
+  pub around : Around (records table) outer 0

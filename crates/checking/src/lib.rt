@@ -2,3 +2,4 @@
 pub mod lowest;
 pub mod naming;
 pub mod scope;
+pub mod height;

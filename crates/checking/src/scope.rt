@@ -8,7 +8,7 @@ ghost use Rattle.tables.specs.Sheet.{lowest as lowestOf, patternOf};
 ghost use Rattle.tables.specs.Check.{fault7 as fault7Of, fault8 as fault8Of};
 ghost use Rattle.tables.specs.Accepted.{records};
 ghost use Rattle.tables.specs.Reading.{Here};
-ghost use Rattle.checking.specs.Scopes.{hasBit, union as unionIn, own as ownOf, held as heldOf, given as givenBy, Below, Around, AskBelow, Kept, AskGiven, AskPush, AskAround, AskScoped};
+ghost use Rattle.checking.specs.Scopes.{hasBit, union as unionIn, own as ownOf, held as heldOf, given as givenBy, Below, Around, AskBelow, Kept, AskGiven, AskPush, AskAround, AskName, AskChoice, AskScoped};
 use crate::lowest::next_low;
 use tables::Role;
 use tables::reading::{field, kind, operand, operand_count, role};
@@ -138,4 +138,88 @@ fn fill_around(table: &[u8], index: &[u16; 200], count: usize, below: &[u32; 200
         q -= 1;
         push(table, index, q, below, above);
     }
+}
+
+// Record r breaks rule 7: a name not bound around it, or a pattern name that is.
+fn breaks7(table: &[u8], index: &[u16; 200], r: usize, above: &[u32; 200]) -> bool
+    requires { ⌜ AskName (now table) (now index) r (now above) ⌝ }
+    ensures { λ b. ⌜ b ≡ fault7Of (records (now (table .entry))) r ⌝ }
+{
+    let k = kind(table, index, r);
+    if k == 3 {
+        let bound = has(above[r], field(table, index, r, 0) + 2);
+        return !bound;
+    }
+    if k == 32 {
+        return has(above[r], field(table, index, r, 0) + 2);
+    }
+    false
+}
+
+// Record r breaks rule 8: a let-be or a loose let inside a condition.
+fn breaks8(table: &[u8], index: &[u16; 200], r: usize, below: &[u32; 200], above: &[u32; 200]) -> bool
+    requires { ⌜ AskChoice (now table) (now index) r (now below) (now above) ⌝ }
+    ensures { λ b. ⌜ b ≡ fault8Of (records (now (table .entry))) r ⌝ }
+{
+    let k = kind(table, index, r);
+    if k == 13 {
+        return has(above[r], 0);
+    }
+    if k != 12 {
+        return false;
+    }
+    let loose = has(pattern_bits(table, index, r, below), 1);
+    if !loose {
+        return false;
+    }
+    has(above[r], 0)
+}
+
+// The lowest record that breaks rule 7; the number of records where none does.
+fn lowest7(table: &[u8], index: &[u16; 200], count: usize, below: &[u32; 200], above: &[u32; 200]) -> usize
+    requires { ⌜ AskScoped (now table) (now index) count (now below) (now above) ⌝ }
+    ensures { λ p. ⌜ p ≡ lowestOf (fault7Of (records (now (table .entry)))) count ⌝ }
+{
+    let mut low = 0;
+    let mut r = 0;
+    while r < count {
+        let fault = breaks7(table, index, r, above);
+        low = next_low(low, r, fault);
+        r += 1;
+    }
+    low
+}
+
+// The same of rule 8.
+fn lowest8(table: &[u8], index: &[u16; 200], count: usize, below: &[u32; 200], above: &[u32; 200]) -> usize
+    requires { ⌜ AskScoped (now table) (now index) count (now below) (now above) ⌝ }
+    ensures { λ p. ⌜ p ≡ lowestOf (fault8Of (records (now (table .entry)))) count ⌝ }
+{
+    let mut low = 0;
+    let mut r = 0;
+    while r < count {
+        let fault = breaks8(table, index, r, below, above);
+        low = next_low(low, r, fault);
+        r += 1;
+    }
+    low
+}
+
+// The lowest records that break rules 7 and 8.
+pub struct Lows {
+    pub low7: usize,
+    pub low8: usize,
+}
+
+pub fn lowest78(table: &[u8], index: &[u16; 200], count: usize) -> Lows
+    requires { ⌜ Kept (now table) (now index) count ⌝ }
+    ensures { λ s. ⌜ (s .low7 ≡ lowestOf (fault7Of (records (now (table .entry)))) count) × (s .low8 ≡ lowestOf (fault8Of (records (now (table .entry)))) count) ⌝ }
+{
+    let mut below = [0u32; 200];
+    fill_below(table, index, count, &mut below);
+    let mut above = [0u32; 200];
+    fill_around(table, index, count, &below, &mut above);
+    let low7 = lowest7(table, index, count, &below, &above);
+    let low8 = lowest8(table, index, count, &below, &above);
+    Lows { low7, low8 }
 }
