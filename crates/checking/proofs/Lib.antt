@@ -4,3 +4,4 @@ mod Below
 mod Above
 mod Bits
 mod Faults
+mod Tallness
