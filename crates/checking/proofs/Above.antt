@@ -41,21 +41,21 @@ module _ (rs : List Record) (clear : Clear6 rs) where
   -- Where nothing is handed on yet, all bits are 0.
   pub around-start : Around rs (replicate 200 0) (length rs)
   around-start =
-      record
-        { long = length-replicate {A = ℕ} 200 0
-        ; is = λ r h k. zeros 200 r ∙ sym (around-top r k)
-        }
+      record {
+        long = length-replicate {A = ℕ} 200 0;
+        is = λ r h k. zeros 200 r ∙ sym (around-top r k);
+      }
 
   -- ---- one record
 
   pub push-start : (q : ℕ) (bits : List ℕ) → Around rs bits (q + 1) → Pushed rs q bits 0
   push-start q bits a =
-      record
-        { long = a .long
-        ; within = omega arith
-        ; higher = λ r h k. a .is r h (omega arith)
-        ; done = λ j h. absurd (omega arith)
-        }
+      record {
+        long = a .long;
+        within = omega arith;
+        higher = λ r h k. a .is r h (omega arith);
+        done = λ j h. absurd (omega arith);
+      }
 
   -- What is around the record itself stands already.
   pub own-around : (q : ℕ) (bits : List ℕ) → q < length rs → Around rs bits (q + 1) → getD bits q 0 ≡ around rs q
@@ -68,22 +68,22 @@ module _ (rs : List Record) (clear : Clear6 rs) where
       let lw : n < q = omega (arith, operand-lower rs clear q i h k) in
       let right : m ≡ around rs n = f ∙ sym (around-operand q i h k) ∙ ap (around rs) (sym e) in
       let here : getD bits′ n 0 ≡ around rs n = rw g (getD-set-same bits n m 0 (omega (arith, p .long)) ∙ right) in
-      record
-        { long = rw g (length-set bits n m ∙ p .long)
-        ; within = omega arith
-        ; higher =
+      record {
+        long = rw g (length-set bits n m ∙ p .long);
+        within = omega arith;
+        higher =
             λ r l o.
             rw g
             (getD-set-other bits n r m 0 (λ same. absurd (omega (arith, ap (parent rs) (same ∙ e), operand-parent rs clear q i h k)))
-            ∙ p .higher r l o)
-        ; done =
+            ∙ p .higher r l o);
+        done =
             λ j l.
             let o : ℕ = operand (recordAt rs q) j in
             split o n (λ a. rw g (getD-set-other bits n o m 0 (λ same. omega arith) ∙ p .done j (before j l o refl a)))
             (λ a.
             split n o (λ b. rw g (getD-set-other bits n o m 0 (λ same. omega arith) ∙ p .done j (after j l o refl b)))
-            (λ b. let same : o ≡ n = omega arith in rw same here))
-        }
+            (λ b. let same : o ≡ n = omega arith in rw same here));
+      }
     where
       before : (j : ℕ) → j < i + 1 → (o : ℕ) → o ≡ operand (recordAt rs q) j → o < n → j < i
       before j l o is a =
@@ -95,13 +95,13 @@ module _ (rs : List Record) (clear : Clear6 rs) where
 
   pub push-end : (q i : ℕ) (bits : List ℕ) → q < length rs → Pushed rs q bits i → length (named (recordAt rs q)) ≤ i → Around rs bits q
   push-end q i bits h p l =
-      record
-        { long = p .long
-        ; is =
+      record {
+        long = p .long;
+        is =
             λ r k o.
             split q (parent rs r) (λ a. p .higher r k a)
             (λ a.
             let same : parent rs r ≡ q = omega arith in
             let at : Place (named (recordAt rs q)) r = in-place r (named (recordAt rs q)) (rw same at (low (λ q. isIn r (named (recordAt rs q))) (length rs) .hit (omega arith))) in
-            rw (sym (at .is)) (p .done (at .index) (omega (arith, at .within))))
-        }
+            rw (sym (at .is)) (p .done (at .index) (omega (arith, at .within))));
+      }

@@ -29,10 +29,10 @@ pub record Named (x : Record) : Type 0 where
 
 pub head-name : (x : Record) → isFit x ≡ true → headOf x ≡ name → Named x
 head-name x fit e =
-    record
-      { has = omega (arith, fit-least x fit, ap size e)
-      ; low = leb-true (nameOf x) 15 (sym (ap (λ (h : Head). isKnown h x) e) ∙ fit-known x fit)
-      }
+    record {
+      has = omega (arith, fit-least x fit, ap size e);
+      low = leb-true (nameOf x) 15 (sym (ap (λ (h : Head). isKnown h x) e) ∙ fit-known x fit);
+    }
 
 pub name-pattern : (x : Record) → isFit x ≡ true → x .kind ≡ 32 → Named x
 unfolding shape
@@ -71,20 +71,20 @@ pub record Turn (rs : List Record) (r m i : ℕ) : Type 0 where
 pub turn-start : (rs : List Record) (r m : ℕ) → Lower rs → r < length rs → m ≡ own (recordAt rs r) → Turn rs r m 0
 unfolding held
 turn-start rs r m lower h e =
-    record
-      { within = omega arith
-      ; is = ap (λ (k : ℕ). unionOf k (map (held rs) (named (recordAt rs r)))) e ∙ sym (fold-at (λ q ms. unionOf (own (recordAt rs q)) ms) 0 rs lower r h)
-      }
+    record {
+      within = omega arith;
+      is = ap (λ (k : ℕ). unionOf k (map (held rs) (named (recordAt rs r)))) e ∙ sym (fold-at (λ q ms. unionOf (own (recordAt rs q)) ms) 0 rs lower r h);
+    }
 
 pub turn-more : (rs : List Record) (r m i n x : ℕ) → Turn rs r m i → i < length (named (recordAt rs r)) → x ≡ held rs (operand (recordAt rs r) i) → n ≡ union m x → Turn rs r n (i + 1)
 turn-more rs r m i n x t h e f =
-    record
-      { within = omega arith
-      ; is =
+    record {
+      within = omega arith;
+      is =
           rw (add-one i)
           (ap (λ (k : ℕ). unionOf k (map (held rs) (drop (suc i) (named (recordAt rs r))))) (f ∙ ap (union m) e)
-          ∙ sym (ap (λ (ns : List ℕ). unionOf m (map (held rs) ns)) (drop-cons (named (recordAt rs r)) i 0 h)) ∙ t .is)
-      }
+          ∙ sym (ap (λ (ns : List ℕ). unionOf m (map (held rs) ns)) (drop-cons (named (recordAt rs r)) i 0 h)) ∙ t .is);
+    }
 
 pub turn-end : (rs : List Record) (r m i : ℕ) → Turn rs r m i → length (named (recordAt rs r)) ≤ i → m ≡ held rs r
 turn-end rs r m i t h =
@@ -99,12 +99,12 @@ below-start rs bits h = record { long = h; is = λ q k. absurd (omega arith) }
 
 pub below-more : (rs : List Record) (bits bits′ : List ℕ) (r m : ℕ) → r < 200 → Below rs bits r → m ≡ held rs r → bits′ ≡ set bits r m → Below rs bits′ (r + 1)
 below-more rs bits bits′ r m h b e f =
-    record
-      { long = rw f (length-set bits r m ∙ b .long)
-      ; is =
+    record {
+      long = rw f (length-set bits r m ∙ b .long);
+      is =
           λ q k.
           split q r (λ l. rw (f, getD-set-other bits r q m 0 (λ same. omega arith)) (b .is q l))
           (λ l.
           let same : q ≡ r = omega arith in
-          rw (f, same, getD-set-same bits r m 0 (omega (arith, b .long))) e)
-      }
+          rw (f, same, getD-set-same bits r m 0 (omega (arith, b .long))) e);
+    }

@@ -131,7 +131,7 @@ module _ (n : ℕ) (test : Record → Bool) (is : (x : Record) → hasBit (own x
       bit-all (own (recordAt rs r)) n (map (λ k. foldBy (λ q ms. unionOf (own (recordAt rs q)) ms) 0 rs b k) (named (recordAt rs r)))
       ∙ ap (λ (t : Bool). t || some (map (λ x. hasBit x n) (map (λ k. foldBy (λ q ms. unionOf (own (recordAt rs q)) ms) 0 rs b k) (named (recordAt rs r))))) (is (recordAt rs r))
       ∙ ap (λ (t : Bool). test (recordAt rs r) || t)
-        (some-same n (λ k. foldBy (λ q ms. unionOf (own (recordAt rs q)) ms) 0 rs b k) (λ k. foldBy (λ q bs. test (recordAt rs q) || some bs) false rs b k) (named (recordAt rs r)) (fold-bit b))
+      (some-same n (λ k. foldBy (λ q ms. unionOf (own (recordAt rs q)) ms) 0 rs b k) (λ k. foldBy (λ q bs. test (recordAt rs q) || some bs) false rs b k) (named (recordAt rs r)) (fold-bit b))
 
 pub held-name : (rs : List Record) (p n : ℕ) → hasBit (held rs p) (n + 2) ≡ holdsName rs p n
 unfolding held holdsName

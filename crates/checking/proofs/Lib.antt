@@ -5,3 +5,4 @@ mod Above
 mod Bits
 mod Faults
 mod Tallness
+mod Verdict

@@ -33,17 +33,17 @@ in-last n ms = in-append n ms (n ∷ []) ∙ or-some (isIn n ms) (eqb n n || fal
 
 pub mark-one : (marks ms : List ℕ) (n : ℕ) → n < 200 → Marked marks ms → Marked (set marks n 1) (ms ++ (n ∷ []))
 mark-one marks ms n h m =
-    record
-      { long = length-set marks n 1 ∙ m .long
-      ; is =
+    record {
+      long = length-set marks n 1 ∙ m .long;
+      is =
           λ k l.
           split k n (λ a. rw (getD-set-other marks n k 1 0 (λ e. omega arith), in-more k n ms (λ e. omega arith)) (m .is k l))
           (λ a.
           split n k (λ b. rw (getD-set-other marks n k 1 0 (λ e. omega arith), in-more k n ms (λ e. omega arith)) (m .is k l))
           (λ b.
           let same : k ≡ n = omega arith in
-          rw (same, getD-set-same marks n 1 0 (omega (arith, m .long)), in-last n ms)))
-      }
+          rw (same, getD-set-same marks n 1 0 (omega (arith, m .long)), in-last n ms)));
+    }
 
 pub mark-beyond : (marks ms : List ℕ) (n : ℕ) → 200 ≤ n → Marked marks ms → Marked marks (ms ++ (n ∷ []))
 mark-beyond marks ms n h m = record { long = m .long; is = λ k l. rw (in-more k n ms (λ e. omega arith)) (m .is k l) }
@@ -78,12 +78,12 @@ operands-start rs r marks m = record { within = omega arith; is = refl; marked =
 
 pub operands-more : (rs : List Record) (r i n : ℕ) (marks marks′ : List ℕ) (bad bad′ fault : Bool) → Operands rs r marks bad i → i < length (named (recordAt rs r)) → n ≡ operand (recordAt rs r) i → fault ≡ isBad rs r i → bad′ ≡ bad || fault → Marked marks′ (namedBefore rs r i ++ (n ∷ [])) → Operands rs r marks′ bad′ (i + 1)
 operands-more rs r i n marks marks′ bad bad′ fault o h is e f m =
-    record
-      { within = omega arith
-      ; is = rw (add-one i) (f ∙ ap (λ (b : Bool). b || fault) (o .is) ∙ ap (λ (b : Bool). any (isBad rs r) i || b) e)
-      ; marked =
-          rw (add-one i, take-suc (named (recordAt rs r)) i 0 h, sym (append-assoc (allNamed (take r rs)) (take i (named (recordAt rs r))) (operand (recordAt rs r) i ∷ [])), sym is) m
-      }
+    record {
+      within = omega arith;
+      is = rw (add-one i) (f ∙ ap (λ (b : Bool). b || fault) (o .is) ∙ ap (λ (b : Bool). any (isBad rs r) i || b) e);
+      marked =
+          rw (add-one i, take-suc (named (recordAt rs r)) i 0 h, sym (append-assoc (allNamed (take r rs)) (take i (named (recordAt rs r))) (operand (recordAt rs r) i ∷ [])), sym is) m;
+    }
 
 -- All that a list of records names, with one record more.
 all-append : (rs qs : List Record) → allNamed (rs ++ qs) ≡ allNamed rs ++ allNamed qs
@@ -98,11 +98,11 @@ all-more rs r h =
 pub operands-end : (table : List ℕ) (r : ℕ) (marks : List ℕ) (bad : Bool) (i : ℕ) → r < length (records table) → Operands (records table) r marks bad i → length (named (recordAt (records table) r)) ≤ i → MarkedOne table r marks bad
 operands-end table r marks bad i h o l =
     let all : i ≡ length (named (recordAt (records table) r)) = omega (arith, o .within) in
-    record
-      { is = o .is ∙ ap (any (isBad (records table) r)) all
-      ; marked =
-          rw (all-more (records table) r h, sym (take-all i (named (recordAt (records table) r)) l)) (o .marked)
-      }
+    record {
+      is = o .is ∙ ap (any (isBad (records table) r)) all;
+      marked =
+          rw (all-more (records table) r h, sym (take-all i (named (recordAt (records table) r)) l)) (o .marked);
+    }
 
 -- ---- all records
 
@@ -116,11 +116,11 @@ records-start rs marks m = record { within = omega arith; is = refl; marked = m 
 
 pub records-more : (table marks marks′ : List ℕ) (l r p : ℕ) (bad : Bool) → Records (records table) marks l r → r < length (records table) → MarkedOne table r marks′ bad → p ≡ pick (ltb l r) l (pick bad r (suc r)) → Records (records table) marks′ p (r + 1)
 records-more table marks marks′ l r p bad o h m e =
-    record
-      { within = omega arith
-      ; is = low-more (hasBad (records table)) l r p bad (o .is) (m .is) e
-      ; marked = rw (add-one r) (m .marked)
-      }
+    record {
+      within = omega arith;
+      is = low-more (hasBad (records table)) l r p bad (o .is) (m .is) e;
+      marked = rw (add-one r) (m .marked);
+    }
 
 pub records-end : (table marks : List ℕ) (l r : ℕ) → Records (records table) marks l r → length (records table) ≤ r → MarkedAll table marks l
 records-end table marks l r o h =

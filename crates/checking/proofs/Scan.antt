@@ -29,9 +29,9 @@ or-first a b e = rw e
 pub lowest-either : (s t : ℕ → Bool) (n : ℕ) → lowest (λ r. s r || t r) n ≡ min (lowest s n) (lowest t n)
 lowest-either s t n =
     low-same (λ r. s r || t r) (low (λ r. s r || t r) n)
-    (record
-      { within = omega (arith, low s n .within)
-      ; hit =
+    (record {
+      within = omega (arith, low s n .within);
+      hit =
           λ h.
           split (lowest t n) (lowest s n)
           (λ l.
@@ -39,6 +39,6 @@ lowest-either s t n =
           rw is (or-some (s (lowest t n)) (t (lowest t n)) (low t n .hit (omega arith))))
           (λ l.
           let is : min (lowest s n) (lowest t n) ≡ lowest s n = omega arith in
-          rw is (or-first (s (lowest s n)) (t (lowest s n)) (low s n .hit (omega arith))))
-      ; miss = λ q h. or-none (s q) (t q) (low s n .miss q (omega arith)) (low t n .miss q (omega arith))
-      })
+          rw is (or-first (s (lowest s n)) (t (lowest s n)) (low s n .hit (omega arith))));
+      miss = λ q h. or-none (s q) (t q) (low s n .miss q (omega arith)) (low t n .miss q (omega arith));
+    })

@@ -55,29 +55,29 @@ module _ (rs : List Record) (clear : Clear6 rs) where
 
   pub seen-start : (r l : ℕ) → l ≡ length rs → Seen rs r 0 l 0
   seen-start r l e =
-      record
-        { within = omega arith
-        ; heights = omega arith
-        ; lows = ap (λ (m : ℕ). leastOf m (map (lowTall rs) (named (recordAt rs r)))) e
-        ; small = omega arith
-        }
+      record {
+        within = omega arith;
+        heights = omega arith;
+        lows = ap (λ (m : ℕ). leastOf m (map (lowTall rs) (named (recordAt rs r)))) e;
+        small = omega arith;
+      }
 
   pub seen-more : (r high l i n high′ l′ a b : ℕ) → Seen rs r high l i → r < length rs → i < length (named (recordAt rs r)) → n ≡ operand (recordAt rs r) i → a ≡ height rs n → b ≡ lowTall rs n → a ≤ n + 1 → high′ ≡ max high a → l′ ≡ min l b → Seen rs r high′ l′ (i + 1)
   seen-more r high l i n high′ l′ a b s h k is e f small g j =
       let ms : List ℕ = named (recordAt rs r) in
       let cons : drop i ms ≡ n ∷ drop (suc i) ms = drop-cons ms i 0 k ∙ ap (λ (m : ℕ). m ∷ drop (suc i) ms) (sym is) in
       let old : max high (max a (greatest (map (height rs) (drop (suc i) ms)))) ≡ greatest (map (height rs) ms) =
-          ap (λ (m : ℕ). max high (max m (greatest (map (height rs) (drop (suc i) ms))))) e
-          ∙ sym (ap (λ (ns : List ℕ). max high (greatest (map (height rs) ns))) cons) ∙ s .heights in
-      record
-        { within = omega arith
-        ; heights = rw (add-one i) (omega (arith, old))
-        ; lows =
+      ap (λ (m : ℕ). max high (max m (greatest (map (height rs) (drop (suc i) ms))))) e
+      ∙ sym (ap (λ (ns : List ℕ). max high (greatest (map (height rs) ns))) cons) ∙ s .heights in
+      record {
+        within = omega arith;
+        heights = rw (add-one i) (omega (arith, old));
+        lows =
             rw (add-one i)
             (ap (λ (m : ℕ). leastOf m (map (lowTall rs) (drop (suc i) ms))) (j ∙ ap (min l) f)
-            ∙ sym (ap (λ (ns : List ℕ). leastOf l (map (lowTall rs) ns)) cons) ∙ s .lows)
-        ; small = omega (arith, s .small, operand-lower rs clear r i h k)
-        }
+            ∙ sym (ap (λ (ns : List ℕ). leastOf l (map (lowTall rs) ns)) cons) ∙ s .lows);
+        small = omega (arith, s .small, operand-lower rs clear r i h k);
+      }
 
   module _ (r high l i : ℕ) (s : Seen rs r high l i) (h : r < length rs) (over : length (named (recordAt rs r)) ≤ i) where
     none-left : drop i (named (recordAt rs r)) ≡ []
@@ -88,7 +88,7 @@ module _ (rs : List Record) (clear : Clear6 rs) where
     pub high-is : high + 1 ≡ height rs r
     high-is =
         let g : max high 0 ≡ greatest (map (height rs) (named (recordAt rs r))) =
-            sym (ap (λ (ns : List ℕ). max high (greatest (map (height rs) ns))) none-left) ∙ s .heights in
+        sym (ap (λ (ns : List ℕ). max high (greatest (map (height rs) ns))) none-left) ∙ s .heights in
         omega (arith, height-at rs clear r h)
 
     low-all : l ≡ leastOf (length rs) (map (lowTall rs) (named (recordAt rs r)))
@@ -104,7 +104,7 @@ module _ (rs : List Record) (clear : Clear6 rs) where
     unfolding fault9
     low-short k =
         let last : leastOf (length rs) (map (lowTall rs) (named (recordAt rs r))) ≡ min (leastOf (length rs) (map (lowTall rs) (named (recordAt rs r)))) (length rs) =
-            omega (arith, least-most (length rs) (map (lowTall rs) (named (recordAt rs r)))) in
+        omega (arith, least-most (length rs) (map (lowTall rs) (named (recordAt rs r)))) in
         low-all ∙ last
         ∙ sym (low-at r h ∙ ap (λ (b : Bool). min (leastOf (length rs) (map (lowTall rs) (named (recordAt rs r)))) (pick b r (length rs))) (le-ltb mostHeight (height rs r) (omega (arith, high-is))))
 
@@ -172,11 +172,11 @@ module _ (rs : List Record) (clear : Clear6 rs) where
   pub lowest9-is : (last : ℕ) → suc last ≡ length rs → lowTall rs last ≡ lowest (fault9 rs) (length rs)
   lowest9-is last e =
       low-same (fault9 rs)
-      (record
-        { within = low-most last (omega arith)
-        ; hit = λ h. found (suc last) last (omega arith) (omega arith) h
-        ; miss = λ q h. unfound q h (fault9 rs q) refl
-        })
+      (record {
+        within = low-most last (omega arith);
+        hit = λ h. found (suc last) last (omega arith) (omega arith) h;
+        miss = λ q h. unfound q h (fault9 rs q) refl;
+      })
       (low (fault9 rs) (length rs))
     where
       unfound : (q : ℕ) → q < lowTall rs last → (t : Bool) → fault9 rs q ≡ t → t ≡ false

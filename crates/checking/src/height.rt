@@ -8,7 +8,8 @@ ghost use Rattle.checking.specs.Scopes.{Kept};
 ghost use Rattle.checking.specs.Heights.{AskTall, IsTall};
 use crate::lowest::lower;
 use tables::MOST_HEIGHT;
-use tables::reading::{operand, operand_count};
+use tables::reading::operand;
+use tables::reading::operand_count;
 
 // A height, and the lowest record of too great a height found.
 pub struct Height {
@@ -49,4 +50,13 @@ fn tall(table: &[u8], index: &[u16; 200], count: usize, r: usize) -> Height
         high: high + 1,
         low,
     }
+}
+
+// The lowest record that breaks rule 9; the number of records where none does.
+pub fn lowest9(table: &[u8], index: &[u16; 200], count: usize) -> usize
+    requires { ⌜ Kept (now table) (now index) count × (0 < count) ⌝ }
+    ensures { λ p. ⌜ p ≡ lowestOf (fault9 (records (now (table .entry)))) count ⌝ }
+{
+    let t = tall(table, index, count, count - 1);
+    t.low
 }

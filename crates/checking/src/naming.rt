@@ -10,9 +10,15 @@ ghost use Rattle.tables.specs.Sheet.{lowest as lowestOf};
 ghost use Rattle.tables.specs.Accepted.{records};
 ghost use Rattle.tables.specs.Reading.{Here, HasOperand};
 ghost use Rattle.checking.specs.Naming.{Marked, AskBad, AskMarks, MarkedOne, Whole, AskAll, MarkedAll, AskStray};
-use crate::lowest::{either, is_between, lower, next_low};
+use crate::lowest::either;
+use crate::lowest::is_between;
+use crate::lowest::lower;
+use crate::lowest::next_low;
 use tables::Role;
-use tables::reading::{kind, operand, operand_count, role};
+use tables::reading::kind;
+use tables::reading::operand;
+use tables::reading::operand_count;
+use tables::reading::role;
 
 // A record of this kind is of the sort that the role asks for.
 fn is_of_sort(role: Role, kind: usize) -> bool

@@ -11,7 +11,11 @@ ghost use Rattle.tables.specs.Reading.{Here};
 ghost use Rattle.checking.specs.Scopes.{hasBit, union as unionIn, own as ownOf, held as heldOf, given as givenBy, Below, Around, AskBelow, Kept, AskGiven, AskPush, AskAround, AskName, AskChoice, AskScoped};
 use crate::lowest::next_low;
 use tables::Role;
-use tables::reading::{field, kind, operand, operand_count, role};
+use tables::reading::field;
+use tables::reading::kind;
+use tables::reading::operand;
+use tables::reading::operand_count;
+use tables::reading::role;
 
 // A condition, and a loose pattern; the bits from 2 on are names.
 const CONDITION: u32 = 1;
@@ -129,7 +133,13 @@ fn push(table: &[u8], index: &[u16; 200], q: usize, below: &[u32; 200], above: &
 }
 
 // Fills in the bits around each record, from the last down.
-fn fill_around(table: &[u8], index: &[u16; 200], count: usize, below: &[u32; 200], above: &mut [u32; 200])
+fn fill_around(
+    table: &[u8],
+    index: &[u16; 200],
+    count: usize,
+    below: &[u32; 200],
+    above: &mut [u32; 200],
+)
     requires { ⌜ AskAround (now table) (now index) count (now below) (now above) ⌝ }
     ensures { λ _. ⌜ Around (records (now (table .entry))) (now (above .exit)) 0 ⌝ }
 {
@@ -157,7 +167,13 @@ fn breaks7(table: &[u8], index: &[u16; 200], r: usize, above: &[u32; 200]) -> bo
 }
 
 // Record r breaks rule 8: a let-be or a loose let inside a condition.
-fn breaks8(table: &[u8], index: &[u16; 200], r: usize, below: &[u32; 200], above: &[u32; 200]) -> bool
+fn breaks8(
+    table: &[u8],
+    index: &[u16; 200],
+    r: usize,
+    below: &[u32; 200],
+    above: &[u32; 200],
+) -> bool
     requires { ⌜ AskChoice (now table) (now index) r (now below) (now above) ⌝ }
     ensures { λ b. ⌜ b ≡ fault8Of (records (now (table .entry))) r ⌝ }
 {
@@ -176,7 +192,13 @@ fn breaks8(table: &[u8], index: &[u16; 200], r: usize, below: &[u32; 200], above
 }
 
 // The lowest record that breaks rule 7; the number of records where none does.
-fn lowest7(table: &[u8], index: &[u16; 200], count: usize, below: &[u32; 200], above: &[u32; 200]) -> usize
+fn lowest7(
+    table: &[u8],
+    index: &[u16; 200],
+    count: usize,
+    below: &[u32; 200],
+    above: &[u32; 200],
+) -> usize
     requires { ⌜ AskScoped (now table) (now index) count (now below) (now above) ⌝ }
     ensures { λ p. ⌜ p ≡ lowestOf (fault7Of (records (now (table .entry)))) count ⌝ }
 {
@@ -191,7 +213,13 @@ fn lowest7(table: &[u8], index: &[u16; 200], count: usize, below: &[u32; 200], a
 }
 
 // The same of rule 8.
-fn lowest8(table: &[u8], index: &[u16; 200], count: usize, below: &[u32; 200], above: &[u32; 200]) -> usize
+fn lowest8(
+    table: &[u8],
+    index: &[u16; 200],
+    count: usize,
+    below: &[u32; 200],
+    above: &[u32; 200],
+) -> usize
     requires { ⌜ AskScoped (now table) (now index) count (now below) (now above) ⌝ }
     ensures { λ p. ⌜ p ≡ lowestOf (fault8Of (records (now (table .entry)))) count ⌝ }
 {

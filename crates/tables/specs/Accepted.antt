@@ -104,7 +104,7 @@ cut-some bound bytes h e =
     go false false true f k = omega arith
     go false false false f k = never k
 
-some-cut : (table : List ℕ) → eqb (length table) 0 ≡ false → cut table .whole ≡ true → 0 < length (records table)
+pub some-cut : (table : List ℕ) → eqb (length table) 0 ≡ false → cut table .whole ≡ true → 0 < length (records table)
 unfolding cut
 some-cut [] h e = never (sym h)
 some-cut (b ∷ bytes) h e = cut-some (length bytes) (b ∷ bytes) (omega arith) e
