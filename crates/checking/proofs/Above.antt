@@ -1,17 +1,15 @@
 -- The bits around a record, handed on to its operands.
 use mathlib.Core.Path.{_≡_, refl, sym, ap, _∙_}
-use mathlib.Core.Bool.{Bool, true, false}
-use mathlib.Core.List.{List, [], _∷_}
+use mathlib.Core.List.{List}
 use Prim.Native.Nat.{ℕ, zero, suc, _+_, _≤_, _<_}
 use native.Mathlib.Omega.{arith}
 use lib.ListN.{length, getD, set, length-set, replicate, length-replicate}
 use lib.Seq.{getD-set-same, getD-set-other}
 use Rattle.tables.specs.declared.Role.{Role}
-use Rattle.tables.specs.declared.Role.the-variants.{Plain, Condition, Body, Pattern, Name}
 use Rattle.tables.specs.Record.{Record, named, operand, roleAt}
 use Rattle.tables.specs.Table.{recordAt}
 use Rattle.tables.specs.Sheet.{parent, isIn, climb}
-use Rattle.tables.specs.Laws.{split, Low, low, Place, in-place, parent-higher, climb-up, climb-top}
+use Rattle.tables.specs.Laws.{split, low, Place, in-place, parent-higher, climb-up, climb-top}
 use Rattle.tables.specs.Accepted.{Clear6, lower, operand-lower, operand-parent, operand-role}
 use Rattle.checking.specs.Scopes.{union, given, around, Around}
 

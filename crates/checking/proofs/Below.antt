@@ -1,18 +1,16 @@
 -- The bits of a record and of all below it.
-use mathlib.Core.Path.{_≡_, refl, sym, ap, _∙_}
-use mathlib.Core.Bool.{Bool, true, false, not, _&&_, _||_}
-use mathlib.Core.List.{List, [], _∷_, map}
-use Prim.Native.Nat.{ℕ, zero, suc, _+_, _*_, _^_, _%_, _≤_, _<_}
+use mathlib.Core.Path.{_≡_, sym, ap, _∙_}
+use mathlib.Core.Bool.{true}
+use mathlib.Core.List.{List, [], map}
+use Prim.Native.Nat.{ℕ, suc, _+_, _*_, _^_, _%_, _≤_, _<_}
 use native.Mathlib.Omega.{arith}
 use native.Mathlib.Numerals.{add-one}
 use borrow.Author.Tests.{eq-eqb, ne-eqb, leb-true}
-use lib.Dec.{eqb}
 use lib.Pow.{shl-exact}
-use lib.ListN.{length, getD, drop, set, length-set}
+use lib.ListN.{length, drop, set, length-set}
 use lib.Seq.{drop-cons, drop-length, getD-set-same, getD-set-other}
 use Rattle.tables.specs.Record.{Record, Head, name, shape, size, headOf, named, operand, nameOf, isKnown, isFit}
-use Rattle.tables.specs.Table.{pick, recordAt}
-use Rattle.tables.specs.Sheet.{isLoose, fold}
+use Rattle.tables.specs.Table.{recordAt}
 use Rattle.tables.specs.Laws.{split, Lower, fold-at}
 use Rattle.tables.specs.Accepted.{fit-least, fit-known}
 use Rattle.checking.specs.Scopes.{union, unionOf, own, held, Below}

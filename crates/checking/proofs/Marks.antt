@@ -1,19 +1,19 @@
 -- Marks at the numbers that are named, operand by operand and record by record.
 use mathlib.Core.Path.{_≡_, refl, sym, ap, _∙_}
-use mathlib.Core.Bool.{Bool, true, false, not, _&&_, _||_}
+use mathlib.Core.Bool.{Bool, true, false, not, _||_}
 use mathlib.Core.List.{List, [], _∷_, _++_, append-nil, append-assoc}
-use Prim.Native.Nat.{ℕ, zero, suc, _+_, _≤_, _<_, min}
+use Prim.Native.Nat.{ℕ, suc, _+_, _≤_, _<_, min}
 use native.Mathlib.Omega.{arith}
 use native.Mathlib.Numerals.{add-one}
 use borrow.Author.Tests.{eq-eqb, ne-eqb, lt-ltb, le-ltb}
 use lib.Dec.{eqb, ltb}
-use lib.ListN.{length, getD, take, set, length-set, replicate, length-replicate, getD-replicate}
-use lib.Seq.{getD-set-same, getD-set-other, take-suc, take-length, take-all}
+use lib.ListN.{length, take, set, length-set, replicate, length-replicate, getD-replicate}
+use lib.Seq.{getD-set-same, getD-set-other, take-suc, take-all}
 use Rattle.tables.specs.declared.Role.{Role}
 use Rattle.tables.specs.Record.{Record, isPattern, named, operand, roleAt}
 use Rattle.tables.specs.Table.{pick, noRecord, recordAt, kindAt}
 use Rattle.tables.specs.Sheet.{any, lowest, isIn}
-use Rattle.tables.specs.Check.{mostRecords, isOfSort, allNamed, namedBefore, isBad, hasBad, isStray, fault6}
+use Rattle.tables.specs.Check.{isOfSort, allNamed, namedBefore, isBad, hasBad, isStray, fault6}
 use Rattle.tables.specs.Laws.{split, or-some, in-append, low}
 use Rattle.tables.specs.Accepted.{records}
 use Rattle.checking.proofs.Scan.{low-more, lowest-either}

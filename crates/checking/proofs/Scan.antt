@@ -1,13 +1,13 @@
 -- Going through the records: the lowest at fault so far.
-use mathlib.Core.Path.{_≡_, refl, sym, ap, _∙_}
-use mathlib.Core.Bool.{Bool, true, false, not, _&&_, _||_}
-use Prim.Native.Nat.{ℕ, zero, suc, _+_, _≤_, _<_, min}
+use mathlib.Core.Path.{_≡_, sym, ap, _∙_}
+use mathlib.Core.Bool.{Bool, true, _||_}
+use Prim.Native.Nat.{ℕ, suc, _+_, _≤_, min}
 use native.Mathlib.Omega.{arith}
 use native.Mathlib.Numerals.{add-one}
 use lib.Dec.{ltb}
 use Rattle.tables.specs.Table.{pick}
 use Rattle.tables.specs.Sheet.{lowest}
-use Rattle.tables.specs.Laws.{split, or-some, or-none, Low, low, low-same}
+use Rattle.tables.specs.Laws.{split, or-some, or-none, low, low-same}
 
 module _ (test : ℕ → Bool) where
   pub low-within : (l r : ℕ) → l ≡ lowest test r → l ≤ r

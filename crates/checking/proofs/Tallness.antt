@@ -1,19 +1,18 @@
 -- Heights from the last record down, and the lowest record of too great a height.
 use mathlib.Core.Path.{_≡_, refl, sym, ap, _∙_}
-use mathlib.Core.Bool.{Bool, true, false, not, _||_}
+use mathlib.Core.Bool.{Bool, true, false}
 use mathlib.Core.List.{List, [], _∷_, map}
 use Prim.Native.Nat.{ℕ, zero, suc, _+_, _≤_, _<_, min, max}
 use native.Mathlib.Omega.{arith}
 use native.Mathlib.Numerals.{add-one}
 use borrow.Author.Tests.{lt-ltb, le-ltb}
-use lib.Dec.{ltb}
 use lib.ListN.{length, getD, drop}
 use lib.Seq.{drop-cons, drop-length}
 use Rattle.tables.specs.Record.{Record, named, operand}
 use Rattle.tables.specs.Table.{pick, recordAt}
 use Rattle.tables.specs.Sheet.{lowest, isIn, greatest, height, parent}
 use Rattle.tables.specs.Check.{mostHeight, allNamed, fault9}
-use Rattle.tables.specs.Laws.{never, split, or-none, in-append, Low, low, low-same, lowest-none, Place, in-place, fold-at, parent-higher}
+use Rattle.tables.specs.Laws.{never, split, or-none, in-append, low, low-same, Place, in-place, fold-at, parent-higher}
 use Rattle.tables.specs.Accepted.{Clear6, lower, operand-lower, height-at, named-all}
 use Rattle.checking.specs.Heights.{leastOf, lowTall}
 

@@ -1,7 +1,7 @@
 -- Rule 9 from the last record down: the lowest record of too great a height at or below a record.
 use mathlib.Core.Path.{_≡_}
 use mathlib.Core.List.{List, [], _∷_}
-use Prim.Native.Nat.{ℕ, suc, _+_, _<_, _≤_, min}
+use Prim.Native.Nat.{ℕ, _+_, _<_, _≤_, min}
 use lib.ListN.{length}
 use Rattle.tables.specs.Record.{Record}
 use Rattle.tables.specs.Table.{pick}

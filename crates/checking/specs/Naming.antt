@@ -1,12 +1,10 @@
 -- What the passes of rule 6 ask and give.
 use mathlib.Core.Path.{_≡_}
 use mathlib.Core.Bool.{Bool}
-use mathlib.Core.List.{List, [], _∷_}
-use Prim.Native.Nat.{ℕ, suc, _+_, _<_, _≤_}
+use mathlib.Core.List.{List, []}
+use Prim.Native.Nat.{ℕ, suc, _<_}
 use lib.Dec.{eqb}
 use lib.ListN.{length, getD, take}
-use Rattle.tables.specs.Record.{named}
-use Rattle.tables.specs.Table.{recordAt}
 use Rattle.tables.specs.Sheet.{lowest, isIn}
 use Rattle.tables.specs.Check.{mostRecords, allNamed, namedBefore, hasBad}
 use Rattle.tables.specs.Accepted.{records}

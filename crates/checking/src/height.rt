@@ -1,6 +1,6 @@
 // Rule 9: heights, by recursion on the record number, which falls at each operand.
 ghost use mathlib.Core.Path.{_≡_};
-ghost use Prim.Native.Nat.{_+_, _<_, _≤_, max};
+ghost use Prim.Native.Nat.{_+_, _<_, max};
 ghost use Rattle.tables.specs.Sheet.{lowest as lowestOf};
 ghost use Rattle.tables.specs.Check.{fault9};
 ghost use Rattle.tables.specs.Accepted.{records};

@@ -1,14 +1,12 @@
 // Rule 6: operands lower, of their sort and named once; no record but the last without a name; no pattern as the last.
 ghost use mathlib.Core.Path.{_≡_};
-ghost use mathlib.Core.Bool.{_&&_, _||_};
 ghost use mathlib.Core.List.{List, [], _∷_, _++_};
-ghost use Prim.Native.Nat.{ℕ, suc, _+_, _<_, _≤_};
+ghost use Prim.Native.Nat.{ℕ, _+_, _<_};
 ghost use lib.Dec.{eqb};
-ghost use lib.ListN.{length, getD, take};
-ghost use Rattle.tables.specs.Check.{isOfSort, allNamed, isBad, isStray, hasBad, fault6};
+ghost use lib.ListN.{getD};
+ghost use Rattle.tables.specs.Check.{isOfSort, isBad, isStray, fault6};
 ghost use Rattle.tables.specs.Sheet.{lowest as lowestOf};
 ghost use Rattle.tables.specs.Accepted.{records};
-ghost use Rattle.tables.specs.Reading.{Here, HasOperand};
 ghost use Rattle.checking.specs.Naming.{Marked, AskBad, AskMarks, MarkedOne, Whole, AskAll, MarkedAll, AskStray};
 use crate::lowest::either;
 use crate::lowest::is_between;

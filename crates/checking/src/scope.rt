@@ -1,7 +1,7 @@
 // Rules 7 and 8: the names bound around each record, and whether it lies in a condition, as bits of one number.
 ghost use mathlib.Core.Path.{_≡_};
-ghost use Prim.Native.Nat.{_+_, _<_, _≤_, _^_};
-ghost use lib.ListN.{length, getD};
+ghost use Prim.Native.Nat.{_+_, _<_, _^_};
+ghost use lib.ListN.{length};
 ghost use Rattle.tables.specs.Record.{roleAt};
 ghost use Rattle.tables.specs.Table.{recordAt};
 ghost use Rattle.tables.specs.Sheet.{lowest as lowestOf, patternOf};

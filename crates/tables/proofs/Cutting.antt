@@ -1,21 +1,20 @@
 -- Cutting a table: what the tests of one record say, and what a turn of the loop keeps.
 use mathlib.Core.Path.{_≡_, refl, sym, ap, _∙_}
-use mathlib.Core.Bool.{Bool, true, false, not, _&&_, _||_}
+use mathlib.Core.Bool.{true, false}
 use mathlib.Core.List.{List, [], _∷_}
 use Prim.Native.Nat.{ℕ, zero, suc, _+_, _*_, _-_, _≤_, _<_}
 use native.Mathlib.Omega.{arith}
 use borrow.Author.Tests.{lt-ltb, le-ltb, ne-eqb, leb-true}
-use lib.Dec.{eqb, ltb, leb}
+use lib.Dec.{leb}
 use lib.ListN.{length, getD, take, drop, set, length-drop, length-set}
 use lib.Seq.{take-all, getD-set-same, getD-set-other, getD-drop, drop-drop, drop-length}
 use Rattle.integers.specs.Bytes.{word}
-use Rattle.tables.specs.Record.{Record, shape, size, headOf, isFit}
-use Rattle.tables.specs.Table.{pick, first, Next, end, fault, one, next, Cut, after, cutBy, cut, noRecord, recordAt}
+use Rattle.tables.specs.Record.{Record, shape, size, isFit}
+use Rattle.tables.specs.Table.{first, Next, fault, one, next, Cut, after, cutBy, cut, noRecord}
 use Rattle.tables.specs.Check.{mostRecords}
 use Rattle.tables.specs.Laws.{split, each}
 use Rattle.tables.specs.Accepted.{IsNext, next-is, records, fit-kind, fit-most}
 use Rattle.tables.specs.Reading.{Stands, Places, Measured, CutOut}
-use Rattle.tables.specs.declared.reading.Cutting.{Cutting}
 use Rattle.tables.proofs.Fit.{fields-long, field-at}
 
 -- ---- one record

@@ -1,8 +1,8 @@
 -- The record at the start of some bytes is fit for its kind: what the tests of its kind, length and first field say.
 use mathlib.Core.Path.{_≡_, refl, sym, ap, _∙_}
-use mathlib.Core.Bool.{Bool, true, false, not, _&&_, _||_}
-use mathlib.Core.List.{List, []}
-use Prim.Native.Nat.{ℕ, zero, suc, _+_, _*_, _-_, _≤_, _<_}
+use mathlib.Core.Bool.{Bool, true, false, _&&_}
+use mathlib.Core.List.{List}
+use Prim.Native.Nat.{ℕ, _+_, _-_, _≤_, _<_}
 use native.Mathlib.Omega.{arith}
 use lib.Dec.{leb}
 use lib.ListN.{length, getD, take, drop, length-drop}
@@ -16,7 +16,7 @@ use Rattle.integers.specs.Range.{fits-range}
 use Rattle.tables.specs.Record.{Record, Head, nothing, boolean, integer, name, unary, binary, unknown, Shape, shape, size, headOf, field, integerOf, fits, isKnown, isFit}
 use Rattle.tables.specs.Table.{first}
 use Rattle.tables.specs.Shapes.{knownFirst}
-use Rattle.tables.specs.Laws.{never, split, and-left, and-right}
+use Rattle.tables.specs.Laws.{and-left}
 use Rattle.tables.specs.Accepted.{fit-kind}
 
 -- Four bytes are an integer in range.

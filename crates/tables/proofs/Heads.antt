@@ -1,12 +1,10 @@
 -- Which heads are known, by kind.
-use mathlib.Core.Path.{_≡_, refl, sym, ap, _∙_}
+use mathlib.Core.Path.{_≡_, refl}
 use mathlib.Core.Bool.{Bool, true, false, not, _&&_, _||_}
-use mathlib.Core.List.{List}
-use Prim.Native.Nat.{ℕ, zero, suc, _≤_, _<_}
+use Prim.Native.Nat.{ℕ, _≤_}
 use native.Mathlib.Omega.{arith}
-use borrow.Author.Tests.{eqb-true, ne-eqb}
-use lib.Dec.{eqb, ltb, leb}
-use lib.ListN.{length, getD}
+use borrow.Author.Tests.{ne-eqb}
+use lib.Dec.{eqb}
 use Rattle.tables.specs.Record.{Head, nothing, boolean, integer, name, unary, binary, unknown, shape, isExpression, isPattern}
 use Rattle.tables.specs.Shapes.{knownFirst}
 use Rattle.tables.specs.Laws.{never, each, implied}

@@ -1,13 +1,13 @@
 -- The constant tables hold the numbers of the shapes: each rule is one test that is computed over all kinds.
 use mathlib.Core.Path.{_≡_, refl, sym, ap, _∙_}
-use mathlib.Core.Bool.{Bool, true, false, not, _&&_, _||_}
+use mathlib.Core.Bool.{true, false, not, _||_}
 use mathlib.Core.List.{List, [], _∷_}
 use Prim.Native.Nat.{ℕ, _+_, _-_, _%_, _≤_, _<_}
 use native.Mathlib.Omega.{arith}
 use borrow.Author.Tests.{lt-leb, le-leb, leb-true, eqb-true, eq-eqb, ne-eqb}
 use lib.Dec.{eqb, leb}
 use lib.ListN.{length, getD}
-use Rattle.tables.specs.Record.{Shape, shape, size, fits}
+use Rattle.tables.specs.Record.{shape, size, fits}
 use Rattle.tables.specs.Shapes.{firstOf}
 use Rattle.tables.specs.Laws.{each, implied}
 

@@ -1,21 +1,20 @@
 -- What is read from the part of the table where a record stands.
-use mathlib.Core.Path.{_≡_, refl, sym, ap, _∙_}
+use mathlib.Core.Path.{_≡_, sym, ap, _∙_}
 use mathlib.Core.Bool.{true}
-use mathlib.Core.List.{List, []}
-use Prim.Native.Nat.{ℕ, zero, suc, _+_, _*_, _-_, _≤_, _<_}
+use mathlib.Core.List.{List}
+use Prim.Native.Nat.{ℕ, _+_, _-_, _≤_, _<_}
 use native.Mathlib.Omega.{arith}
 use lib.ListN.{length, getD, take, drop, length-drop}
 use lib.Seq.{getD-drop}
 use mir.Syntax.{w32}
 use mir.Val.{toZ}
 use Rattle.integers.specs.Bytes.{bits32, integerAt}
-use Rattle.tables.specs.declared.Role.{Role}
-use Rattle.tables.specs.Record.{Record, shape, size, headOf, field, named, operand, roleAt, integerOf, isFit}
+use Rattle.tables.specs.Record.{size, headOf, field, named, operand, integerOf, isFit}
 use Rattle.tables.specs.Table.{recordAt, kindAt}
 use Rattle.tables.specs.Check.{mostRecords}
 use Rattle.tables.specs.Shapes.{firstOf, rolesOf}
 use Rattle.tables.specs.Accepted.{records, fit-records, fit-kind, fit-least, fit-most, named-count, operand-field}
-use Rattle.tables.specs.Reading.{Stands, Indexed, Here, HasField, HasOperand}
+use Rattle.tables.specs.Reading.{Stands, Here}
 use Rattle.tables.proofs.Cutting.{part-rest, fields-few}
 
 pub part-at : (s : List ℕ) (at i : ℕ) → getD (take (length s - at) (drop at s)) i 0 ≡ getD s (at + i) 0

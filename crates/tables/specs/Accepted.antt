@@ -1,12 +1,12 @@
 -- What holds of every accepted table: the theorems that an evaluator leans on.
-use mathlib.Core.Path.{_≡_, refl, sym, ap, subst, _∙_}
+use mathlib.Core.Path.{_≡_, refl, sym, ap, _∙_}
 use mathlib.Core.Bool.{Bool, true, false, not, _&&_, _||_}
 use mathlib.Core.List.{List, [], _∷_, map}
-use Prim.Native.Nat.{ℕ, zero, suc, _+_, _-_, _<_, _≤_, max}
+use Prim.Native.Nat.{ℕ, zero, suc, _+_, _-_, _<_, _≤_}
 use native.Mathlib.Omega.{arith}
 use borrow.Author.Tests.{ltb-true, ltb-false, leb-true, eq-eqb, eqb-true, ne-eqb, not-true}
 use lib.Dec.{eqb, ltb, leb}
-use lib.ListN.{length, getD, take, drop, length-drop, List·getD-eq-default}
+use lib.ListN.{length, getD, drop, length-drop, List·getD-eq-default}
 use lib.Seq.{getD-drop}
 use Rattle.integers.specs.Bytes.{word}
 use Rattle.integers.specs.Whole.{InRange}
@@ -14,10 +14,10 @@ use Rattle.tables.specs.declared.Role.{Role}
 use Rattle.tables.specs.declared.Role.the-variants.{Plain, Condition, Body, Pattern, Name}
 use Rattle.tables.specs.declared.Checked.{Checked}
 use Rattle.tables.specs.declared.Checked.the-variants.{Accepted, Refused}
-use Rattle.tables.specs.Record.{Record, Shape, Head, integer, missing, shapes, shape, field, size, headOf, isExpression, isPattern, Operand, operandsOf, operands, numbers, named, operand, roleAt, nameOf, integerOf, fits, isKnown, isFit}
-use Rattle.tables.specs.Table.{pick, Next, end, fault, one, next, first, after, Cut, cutBy, cut, recordAt, kindAt}
-use Rattle.tables.specs.Sheet.{any, lowest, some, greatest, isIn, fold, holds, isName, holdsName, loose, height, parent, roleIn, isCovered, isCondition, patternOf, climb, isBound, inCondition}
-use Rattle.tables.specs.Check.{mostBytes, mostRecords, mostHeight, isOfSort, allNamed, namedBefore, isBad, fault6, fault7, chooses, fault8, fault9, Rule, judge, judged, judgedCut, check}
+use Rattle.tables.specs.Record.{Record, Shape, Head, integer, missing, shapes, shape, field, size, headOf, isPattern, operandsOf, operands, numbers, named, operand, roleAt, nameOf, integerOf, fits, isKnown, isFit}
+use Rattle.tables.specs.Table.{pick, Next, end, fault, one, next, first, after, cutBy, cut, recordAt, kindAt}
+use Rattle.tables.specs.Sheet.{any, lowest, some, greatest, isIn, isName, holdsName, height, parent, roleIn, isCovered, isCondition, patternOf, climb, isBound, inCondition}
+use Rattle.tables.specs.Check.{mostBytes, mostRecords, mostHeight, isOfSort, allNamed, namedBefore, isBad, fault6, fault7, chooses, fault8, fault9, judged, judgedCut, check}
 use Rattle.tables.specs.Laws.{never, or-left, or-right, and-left, and-right, implied, not-not, split, any-none, low, each, Lower, fold-at, climb-up, climb-top, parent-higher, parent-is, role-is}
 
 -- The records of a table.

@@ -2,14 +2,14 @@
 use mathlib.Core.Path.{_≡_, refl, sym, ap, subst, _∙_}
 use mathlib.Core.Bool.{Bool, true, false, not, _&&_, _||_}
 use mathlib.Core.List.{List, [], _∷_, _++_, map}
-use Prim.Native.Nat.{ℕ, zero, suc, _+_, _-_, _<_, _≤_}
+use Prim.Native.Nat.{ℕ, zero, suc, _+_, _<_, _≤_}
 use native.Mathlib.Omega.{arith}
-use borrow.Author.Tests.{ltb-true, ltb-false, lt-ltb, le-ltb, eq-eqb, eqb-true, eqb-false}
-use lib.Dec.{T, eqb, ltb, leb}
+use borrow.Author.Tests.{ltb-true, ltb-false, lt-ltb, le-ltb, eq-eqb, eqb-true}
+use lib.Dec.{T, eqb, ltb}
 use lib.ListN.{length, getD, take, drop}
 use Rattle.tables.specs.declared.Role.{Role}
-use Rattle.tables.specs.declared.Role.the-variants.{Plain, Condition, Body, Pattern, Name}
-use Rattle.tables.specs.Record.{Record, size, headOf, Operand, operandsOf, shape, operands, numbers, named, operand, roleAt}
+use Rattle.tables.specs.declared.Role.the-variants.{Plain}
+use Rattle.tables.specs.Record.{Record, size, headOf, operandsOf, shape, operands, numbers, named, operand, roleAt}
 use Rattle.tables.specs.Table.{pick, recordAt, kindAt}
 use Rattle.tables.specs.Sheet.{any, lowest, isIn, foldBy, fold, parent, roleOf, roleIn, climbBy, climb}
 use Rattle.tables.specs.Check.{allNamed, namedBefore}

@@ -1,13 +1,13 @@
 -- How the records of a table hang together: what lies below a record, which record names it, what lies around it.
-use mathlib.Core.Bool.{Bool, true, false, not, _&&_, _||_}
-use mathlib.Core.List.{List, [], _∷_, _++_, map}
-use Prim.Native.Nat.{ℕ, zero, suc, _+_, max}
-use lib.Dec.{eqb, ltb, leb}
+use mathlib.Core.Bool.{Bool, true, false, _&&_, _||_}
+use mathlib.Core.List.{List, [], _∷_, map}
+use Prim.Native.Nat.{ℕ, zero, suc, max}
+use lib.Dec.{eqb, ltb}
 use lib.ListN.{length}
 use Rattle.tables.specs.declared.Role.{Role}
 use Rattle.tables.specs.declared.Role.the-variants.{Plain, Condition, Body, Pattern, Name}
 use Rattle.tables.specs.Record.{Record, Operand, operands, named, operand, nameOf}
-use Rattle.tables.specs.Table.{pick, recordAt, kindAt}
+use Rattle.tables.specs.Table.{pick, recordAt}
 
 -- ---- tests over numbers and lists
 
