@@ -2,4 +2,5 @@ pub mod Ways
 pub mod Binding
 pub mod Pattern
 pub mod Binder
+pub mod Single
 pub mod Samples
