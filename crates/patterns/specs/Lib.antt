@@ -3,6 +3,9 @@ pub mod Binding
 pub mod Pattern
 pub mod Binder
 pub mod Members
+pub mod Units
 pub mod Ordered
+pub mod Relation
+pub mod Matched
 pub mod Single
 pub mod Samples
