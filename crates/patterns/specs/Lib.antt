@@ -8,4 +8,6 @@ pub mod Ordered
 pub mod Relation
 pub mod Matched
 pub mod Single
+pub mod Forming
+pub mod Plain
 pub mod Samples
