@@ -8,6 +8,7 @@ pub mod Ordered
 pub mod Relation
 pub mod Matched
 pub mod Single
+pub mod Named
 pub mod Forming
 pub mod Plain
 pub mod Samples
