@@ -9,6 +9,7 @@ pub mod Relation
 pub mod Matched
 pub mod Single
 pub mod Named
+pub mod Chopped
 pub mod Forming
 pub mod Plain
 pub mod Samples

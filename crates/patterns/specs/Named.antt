@@ -82,7 +82,7 @@ mutual
 -- ---- parts of a list
 
 -- The first list has some of the units of the second, in their order.
-abbrev PartOf : List Value → List Value → Type 0
+abbrev pub PartOf : List Value → List Value → Type 0
 PartOf ls [] = ls ≡ []
 PartOf ls (v ∷ vs) = PartOf ls vs ⊎ ((ms : List Value) × (ls ≡ v ∷ ms) × PartOf ms vs)
 
@@ -102,12 +102,12 @@ part-right : (ls rs : List Value) → PartOf rs (ls ++ rs)
 part-right [] rs = part-self rs
 part-right (l ∷ ls) rs = inl (part-right ls rs)
 
-shared-left : (vs ls rs : List Value) → Shared vs ls rs → PartOf ls vs
+pub shared-left : (vs ls rs : List Value) → Shared vs ls rs → PartOf ls vs
 shared-left [] ls rs h = h .0
 shared-left (v ∷ vs) ls rs (inl (ms, e, h)) = inr (ms, e, shared-left vs ms rs h)
 shared-left (v ∷ vs) ls rs (inr (ms, e, h)) = inl (shared-left vs ls ms h)
 
-shared-right : (vs ls rs : List Value) → Shared vs ls rs → PartOf rs vs
+pub shared-right : (vs ls rs : List Value) → Shared vs ls rs → PartOf rs vs
 shared-right [] ls rs h = h .1
 shared-right (v ∷ vs) ls rs (inl (ms, e, h)) = inl (shared-right vs ms rs h)
 shared-right (v ∷ vs) ls rs (inr (ms, e, h)) = inr (ms, e, shared-right vs ls ms h)
@@ -120,7 +120,7 @@ part-before v ls [] e h = rw e tt
 part-before v ls (w ∷ vs) (inl p) h = part-before v ls vs p (h .1)
 part-before v ls (w ∷ vs) (inr (ms, e, p)) h = rw e (h .0, part-before v ms vs p (h .1))
 
-part-ascending : (ls vs : List Value) → PartOf ls vs → Ascending (itemsOf vs) → Ascending (itemsOf ls)
+pub part-ascending : (ls vs : List Value) → PartOf ls vs → Ascending (itemsOf vs) → Ascending (itemsOf ls)
 unfolding Ascending itemsOf
 part-ascending ls [] e h = rw e tt
 part-ascending ls (w ∷ vs) (inl p) h = part-ascending ls vs p (h .1)
