@@ -86,11 +86,11 @@ abbrev pub PartOf : List Value → List Value → Type 0
 PartOf ls [] = ls ≡ []
 PartOf ls (v ∷ vs) = PartOf ls vs ⊎ ((ms : List Value) × (ls ≡ v ∷ ms) × PartOf ms vs)
 
-part-none : (vs : List Value) → PartOf [] vs
+pub part-none : (vs : List Value) → PartOf [] vs
 part-none [] = refl
 part-none (v ∷ vs) = inl (part-none vs)
 
-part-self : (vs : List Value) → PartOf vs vs
+pub part-self : (vs : List Value) → PartOf vs vs
 part-self [] = refl
 part-self (v ∷ vs) = inr (vs, refl, part-self vs)
 
@@ -126,32 +126,32 @@ part-ascending ls [] e h = rw e tt
 part-ascending ls (w ∷ vs) (inl p) h = part-ascending ls vs p (h .1)
 part-ascending ls (w ∷ vs) (inr (ms, e, p)) h = rw e (part-before w ms vs p (h .0), part-ascending ms vs p (h .1))
 
-part-sound : (ls vs : List Value) → PartOf ls vs → SoundItems (itemsOf vs) → SoundItems (itemsOf ls)
+pub part-sound : (ls vs : List Value) → PartOf ls vs → SoundItems (itemsOf vs) → SoundItems (itemsOf ls)
 unfolding SoundItems itemsOf
 part-sound ls [] e h = rw e tt
 part-sound ls (w ∷ vs) (inl p) h = part-sound ls vs p (h .1)
 part-sound ls (w ∷ vs) (inr (ms, e, p)) h = rw e (h .0, part-sound ms vs p (h .1))
 
-part-sizes : (ls vs : List Value) → PartOf ls vs → sizes (itemsOf ls) ≤ sizes (itemsOf vs)
+pub part-sizes : (ls vs : List Value) → PartOf ls vs → sizes (itemsOf ls) ≤ sizes (itemsOf vs)
 unfolding sizes itemsOf
 part-sizes ls [] e = rw e (omega arith)
 part-sizes ls (w ∷ vs) (inl p) = omega (arith, part-sizes ls vs p)
 part-sizes ls (w ∷ vs) (inr (ms, e, p)) = rw e (omega (arith, part-sizes ms vs p))
 
 -- sets and sequences, of which a part is again one
-abbrev Divides : Kind → Type 0
+abbrev pub Divides : Kind → Type 0
 Divides set = Unit {0}
 Divides sequence = Unit {0}
 Divides mapping = ⊥
 Divides tuple = ⊥
 
-part-shaped : (k : Kind) (ls vs : List Value) → Divides k → PartOf ls vs → Shaped k (itemsOf vs) → Shaped k (itemsOf ls)
+pub part-shaped : (k : Kind) (ls vs : List Value) → Divides k → PartOf ls vs → Shaped k (itemsOf vs) → Shaped k (itemsOf ls)
 part-shaped set ls vs d p h = part-ascending ls vs p h
 part-shaped sequence ls vs d p h = tt
 part-shaped mapping ls vs d p h = absurd d
 part-shaped tuple ls vs d p h = absurd d
 
-part-fine : (k : Kind) (ls vs : List Value) → Divides k → PartOf ls vs → WellFormed (collection k (itemsOf vs)) → WellFormed (collection k (itemsOf ls))
+pub part-fine : (k : Kind) (ls vs : List Value) → Divides k → PartOf ls vs → WellFormed (collection k (itemsOf vs)) → WellFormed (collection k (itemsOf ls))
 part-fine k ls vs d p h =
     let n = collection-size k (itemsOf vs) in
     let s = h .short in
@@ -177,7 +177,7 @@ item-size v [] i = absurd i
 item-size v (w ∷ vs) (inl e) = rw e (omega arith)
 item-size v (w ∷ vs) (inr i) = omega (arith, item-size v vs i)
 
-item-fine : (k : Kind) (vs : List Value) → WellFormed (collection k (itemsOf vs)) → (v : Value) → In v vs → WellFormed v
+pub item-fine : (k : Kind) (vs : List Value) → WellFormed (collection k (itemsOf vs)) → (v : Value) → In v vs → WellFormed v
 item-fine k vs h v i =
     let n = collection-size k (itemsOf vs) in
     let s = h .short in
