@@ -1,0 +1,3 @@
+pub mod Joined
+pub mod Members
+pub mod Entries
