@@ -8,8 +8,8 @@ use Rattle.values.specs.declared.Order.{Order}
 use Rattle.values.specs.declared.Order.the-variants.{Lower, Same, Higher}
 use Rattle.values.specs.Value.{Value, Items, none, more, count, everyOther, keys, size, sizes, order, Before, Ascending, PairedFrom, Paired, Sound, SoundItems}
 use Rattle.values.specs.Items.{pick, isSame, same, isMember, insert, lookup, lookupAt, enter, enterAfter, dropOne}
-use Rattle.values.specs.Laws.{same-equal, order-refl}
-use Rattle.collections.specs.Members.{same-refl, same-is, lower-apart, higher-apart, higher-lower, pick-true, pick-false, before-first, before-apart, insert-lower, insert-same, insert-higher, by-order, ascending-insert}
+use Rattle.values.specs.Laws.{same-equal, order-refl, higher-flip, same-true}
+use Rattle.collections.specs.Members.{lower-apart, higher-apart, pick-true, pick-false, before-first, insert-lower, insert-same, insert-higher, by-order, ascending-insert}
 
 -- ---- entries by their first
 
@@ -89,7 +89,7 @@ past true false v w o f = refl
 past false c v w o f = refl
 
 pub apart : (x k l : Value) → same k l ≡ false → same x k ≡ true → same x l ≡ true → ⊥
-apart x k l f d e = let q = ap (λ (y : Value). same y l) (same-is x k d) in let z : _≡_ {A = ℕ} 0 1 = cc in omega arith
+apart x k l f d e = let q = ap (λ (y : Value). same y l) (same-true x k d) in let z : _≡_ {A = ℕ} 0 1 = cc in omega arith
 
 -- After entering, the new value stands at its key, and at every other key what stood there.
 pub lookup-enter : (x k v : Value) (vs : Items) → Paired vs → lookup x (enter k v vs) ≡ pick (same x k) (some v) (lookup x vs)
@@ -180,7 +180,7 @@ module _ (k v w : Value) (vs ws : Items) (f : (x : Value) → lookup x (more k (
   rests x = go (same x k) refl
     where
       go : (t : Bool) → same x k ≡ t → lookup x vs ≡ lookup x ws
-      go true e = let j : x ≡ k = same-is x k e in ap (λ (y : Value). lookup y vs) j ∙ m ∙ sym (ap (λ (y : Value). lookup y ws) j ∙ n)
+      go true e = let j : x ≡ k = same-true x k e in ap (λ (y : Value). lookup y vs) j ∙ m ∙ sym (ap (λ (y : Value). lookup y ws) j ∙ n)
       go false e = sym (pick-false (same x k) (some v) (lookup x vs) e) ∙ f x ∙ pick-false (same x k) (some w) (lookup x ws) e
 
 Agree : Items → Items → Type 0
@@ -206,5 +206,5 @@ same-entries vs ws p q =
     ap₂ more i
     (ap₂ more j
     (r ws q (a .1) (b .1) (rests k v w vs ws (λ x. f x ∙ ap (λ (y : Value). lookup x (more y (more w ws))) (sym i)) (before-nothing k vs p (a .0)) n))))
-    (λ o. let e = f l in let g = lookup-here l l w ws (order-refl l) in let h = lookup-before l k v vs p (a .0) (higher-lower k l o) in cc)))
+    (λ o. let e = f l in let g = lookup-here l l w ws (order-refl l) in let h = lookup-before l k v vs p (a .0) (higher-flip k l o) in cc)))
     vs p ws q

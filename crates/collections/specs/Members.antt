@@ -7,31 +7,15 @@ use Rattle.values.specs.declared.Order.{Order}
 use Rattle.values.specs.declared.Order.the-variants.{Lower, Same, Higher}
 use Rattle.values.specs.Value.{Value, Items, none, more, count, size, sizes, order, Before, Ascending, Sound, SoundItems}
 use Rattle.values.specs.Items.{pick, isSame, same, isMember, inOrder, insert}
-use Rattle.values.specs.Laws.{flip, order-flip, order-refl, order-lower, same-equal}
+use Rattle.values.specs.Laws.{order-lower, same-equal, higher-flip, same-true, true-same}
 
--- ---- the same
-
-pub same-refl : (v : Value) → same v v ≡ true
-same-refl v = ap isSame (order-refl v)
-
-is-same : (o : Order) → isSame o ≡ true → o ≡ Same
-is-same Lower e = cc
-is-same Same e = refl
-is-same Higher e = cc
-
--- Values that are the same are equal.
-pub same-is : (v w : Value) → same v w ≡ true → v ≡ w
-same-is v w e = same-equal v w (is-same (order v w) e)
+-- ---- the order and the same
 
 pub lower-apart : (v w : Value) → order v w ≡ Lower → same v w ≡ false
 lower-apart v w e = ap isSame e
 
 pub higher-apart : (v w : Value) → order v w ≡ Higher → same v w ≡ false
 higher-apart v w e = ap isSame e
-
--- What is higher than another has that other lower.
-pub higher-lower : (v w : Value) → order v w ≡ Higher → order w v ≡ Lower
-higher-lower v w e = order-flip v w ∙ ap flip e
 
 pub pick-true : {A : Type 0} (b : Bool) (a c : A) → b ≡ true → pick b a c ≡ a
 pick-true b a c e = rw e
@@ -81,9 +65,10 @@ by-order {P} v w f g h = go (order v w) refl
     go Same e = g e
     go Higher e = h e
 
-member-first : (x w : Value) (ws : Items) → isMember x (more w ws) ≡ pick (same x w) true (isMember x ws)
+-- The first item is a member.
+pub member-here : (v : Value) (vs : Items) → isMember v (more v vs) ≡ true
 unfolding isMember
-member-first x w ws = refl
+member-here v vs = pick-true (same v v) true (isMember v vs) (true-same {v = v} refl)
 
 -- ---- what insertion keeps
 
@@ -100,7 +85,7 @@ unfolding Before Ascending insert
 ascending-insert v none a = (tt, tt)
 ascending-insert v (more w ws) a =
     by-order v w (λ o. rw (insert-lower v w ws o) (before-first v w ws o (a .0), a)) (λ o. rw (insert-same v w ws o) a)
-    (λ o. rw (insert-higher v w ws o) (before-insert w v ws (higher-lower v w o) (a .0), ascending-insert v ws (a .1)))
+    (λ o. rw (insert-higher v w ws o) (before-insert w v ws (higher-flip v w o) (a .0), ascending-insert v ws (a .1)))
 
 pub sound-insert : (v : Value) (vs : Items) → Sound v → SoundItems vs → SoundItems (insert v vs)
 unfolding Sound insert
@@ -169,18 +154,18 @@ sizes-grow v (more w ws) =
 pub same-members : (vs ws : Items) → Ascending vs → Ascending ws → ((x : Value) → isMember x vs ≡ isMember x ws) → vs ≡ ws
 unfolding Ascending Before isMember
 same-members none none a b f = refl
-same-members none (more w ws) a b f = let e = f w in let g = pick-true (same w w) true (isMember w ws) (same-refl w) in cc
-same-members (more v vs) none a b f = let e = f v in let g = pick-true (same v v) true (isMember v vs) (same-refl v) in cc
+same-members none (more w ws) a b f = let e = f w in let g = member-here w ws in cc
+same-members (more v vs) none a b f = let e = f v in let g = member-here v vs in cc
 same-members (more v vs) (more w ws) a b f =
     by-order v w
-    (λ o. let e = f v in let g = pick-true (same v v) true (isMember v vs) (same-refl v) in let h = before-apart v (more w ws) (before-first v w ws o (b .0)) in cc)
+    (λ o. let e = f v in let g = member-here v vs in let h = before-apart v (more w ws) (before-first v w ws o (b .0)) in cc)
     (λ o.
     let q : v ≡ w = same-equal v w o in
     ap₂ more q (same-members vs ws (a .1) (b .1) (λ x. rest x q (before-apart v vs (a .0)) (before-apart w ws (b .0)))))
     (λ o.
-    let l = higher-lower v w o in
+    let l = higher-flip v w o in
     let e = f w in
-    let g = pick-true (same w w) true (isMember w ws) (same-refl w) in
+    let g = member-here w ws in
     let h = before-apart w (more v vs) (before-first w v vs l (a .0)) in
     cc)
   where
@@ -190,7 +175,7 @@ same-members (more v vs) (more w ws) a b f =
       where
         go : (t : Bool) → same x v ≡ t → isMember x vs ≡ isMember x ws
         go true e =
-            let i : x ≡ v = same-is x v e in
+            let i : x ≡ v = same-true x v e in
             ap (λ (y : Value). isMember y vs) i ∙ l ∙ sym (ap (λ (y : Value). isMember y ws) (i ∙ q) ∙ m)
         go false e =
             sym (pick-false (same x v) true (isMember x vs) e) ∙ f x ∙ pick-false (same x w) true (isMember x ws) (ap (same x) (sym q) ∙ e)
