@@ -1,1 +1,2 @@
 mod Shifting
+mod Walks

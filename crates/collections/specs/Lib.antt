@@ -1,3 +1,4 @@
 pub mod Joined
 pub mod Members
 pub mod Entries
+pub mod Finding

@@ -1,0 +1,43 @@
+-- What finding in collections asks and answers.
+use mathlib.Core.Path.{_≡_, refl, subst}
+use mathlib.Core.Bool.{Bool}
+use mathlib.Core.List.{List}
+use mathlib.Core.Option.{Option, none as absent, some}
+use Prim.Native.Nat.{ℕ, _+_, _≤_}
+use Rattle.values.specs.Value.{Kind, set, map, Value, collection, Items, count, size}
+use Rattle.values.specs.Items.{isMember, nth, lookup}
+use Rattle.values.specs.Place.{At, Holds}
+use Rattle.collections.specs.declared.finding.Found.{Found}
+use Rattle.collections.specs.declared.finding.Found.the-variants.{At as Place, Nothing}
+
+-- ---- what is asked
+
+-- A collection of a kind stands at a place.
+pub record HoldsKind (k : Kind) (s : List ℕ) (at : ℕ) : Type 0 where
+  pub items : Items
+  pub here : At s at (collection k items)
+
+-- A collection of some kind does.
+pub record HoldsCollection (s : List ℕ) (at : ℕ) : Type 0 where
+  pub kind : Kind
+  pub items : Items
+  pub here : At s at (collection kind items)
+
+-- ---- what is answered
+
+-- A place between two others where the value stands, if there is one.
+pub data Finds (s : List ℕ) (from to : ℕ) : Found → Option Value → Type 0 where
+  found : {p : ℕ} {v : Value} → At s p v → from ≤ p → p + size v ≤ to → Finds s from to (Place p) (some v)
+  missing : Finds s from to Nothing absent
+
+-- The record is one of those within the collection at a place.
+abbrev pub Within : List ℕ → ℕ → Value → Found → Option Value → Type 0
+Within s at w r o = Finds s (at + 4) (at + size w) r o
+
+-- r is the place of the k-th item
+abbrev pub Item : List ℕ → ℕ → ℕ → Found → Type 0
+Item s at k r = (kind : Kind) (vs : Items) → At s at (collection kind vs) → Within s at (collection kind vs) r (nth vs k)
+
+-- r is the number of items
+abbrev pub Counted : List ℕ → ℕ → ℕ → Type 0
+Counted s at r = (kind : Kind) (vs : Items) → At s at (collection kind vs) → r ≡ count vs
