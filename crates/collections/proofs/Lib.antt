@@ -1,2 +1,3 @@
 mod Shifting
 mod Walks
+mod Looking

@@ -1,6 +1,6 @@
 -- What finding in collections asks and answers.
 use mathlib.Core.Path.{_≡_, refl, subst}
-use mathlib.Core.Bool.{Bool}
+use mathlib.Core.Bool.{Bool, true}
 use mathlib.Core.List.{List}
 use mathlib.Core.Option.{Option, none as absent, some}
 use Prim.Native.Nat.{ℕ, _+_, _≤_}
@@ -9,6 +9,8 @@ use Rattle.values.specs.Items.{isMember, nth, lookup}
 use Rattle.values.specs.Place.{At, Holds}
 use Rattle.collections.specs.declared.finding.Found.{Found}
 use Rattle.collections.specs.declared.finding.Found.the-variants.{At as Place, Nothing}
+use Rattle.collections.specs.declared.finding.Sought.{Sought}
+use Rattle.collections.specs.Seeking.{seek}
 
 -- ---- what is asked
 
@@ -24,6 +26,10 @@ pub record HoldsCollection (s : List ℕ) (at : ℕ) : Type 0 where
   pub here : At s at (collection kind items)
 
 -- ---- what is answered
+
+-- r is where the value at x stands or belongs, among members or, of entries, among keys
+abbrev pub Seeks : List ℕ → ℕ → ℕ → Bool → Sought → Type 0
+Seeks s at x entries r = (kind : Kind) (vs : Items) (v : Value) → At s at (collection kind vs) → At s x v → r ≡ seek entries true v vs (at + 4)
 
 -- A place between two others where the value stands, if there is one.
 pub data Finds (s : List ℕ) (from to : ℕ) : Found → Option Value → Type 0 where

@@ -1,11 +1,47 @@
 // Finding in collections: members, what stands at a key, items by their number, and how many there are.
+use values::Order;
 ghost use mathlib.Core.Path.{_≡_};
-ghost use Rattle.collections.specs.Finding.{HoldsCollection, Item, Counted};
+ghost use Rattle.values.specs.Place.{Holds};
+ghost use Rattle.collections.specs.Finding.{HoldsCollection, Seeks, Item, Counted};
 
 // Where the record that was looked for stands.
 pub enum Found {
     At(usize),
     Nothing,
+}
+
+// Where a value stands among the members of a set or the keys of a map, or before which of them it belongs.
+pub enum Sought {
+    Here(usize),
+    Before(usize),
+}
+
+// The place of the value at x among the members of the set at a place, or among the keys of the map there.
+pub fn seek(s: &[u8], at: usize, x: usize, entries: bool) -> Sought
+    requires { ⌜ HoldsCollection (now s) at × Holds (now s) x ⌝ }
+    ensures { λ r. ⌜ Seeks (now (s .entry)) at x entries r ⌝ }
+{
+    let end = at + values::length_of(s, at);
+    let mut p = at + 4;
+    let mut key = true;
+    while p < end {
+        if key {
+            match values::compare(s, x, p) {
+                Order::Lower => {
+                    return Sought::Before(p);
+                }
+                Order::Same => {
+                    return Sought::Here(p);
+                }
+                Order::Higher => {}
+            }
+            key = !entries;
+        } else {
+            key = true;
+        }
+        p += values::length_of(s, p);
+    }
+    Sought::Before(p)
 }
 
 // The k-th item of the collection at a place, from 0.
