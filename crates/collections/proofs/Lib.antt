@@ -1,3 +1,4 @@
 mod Shifting
 mod Walks
 mod Looking
+mod Sights

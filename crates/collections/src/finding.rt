@@ -1,8 +1,9 @@
 // Finding in collections: members, what stands at a key, items by their number, and how many there are.
 use values::Order;
 ghost use mathlib.Core.Path.{_≡_};
+ghost use Rattle.values.specs.Value.{set, map};
 ghost use Rattle.values.specs.Place.{Holds};
-ghost use Rattle.collections.specs.Finding.{HoldsCollection, Seeks, Item, Counted};
+ghost use Rattle.collections.specs.Finding.{HoldsKind, HoldsCollection, Seeks, Contains, AtKey, Item, Counted};
 
 // Where the record that was looked for stands.
 pub enum Found {
@@ -42,6 +43,28 @@ pub fn seek(s: &[u8], at: usize, x: usize, entries: bool) -> Sought
         p += values::length_of(s, p);
     }
     Sought::Before(p)
+}
+
+// Whether the value at x is a member of the set at a place.
+pub fn contains(s: &[u8], at: usize, x: usize) -> bool
+    requires { ⌜ HoldsKind set (now s) at × Holds (now s) x ⌝ }
+    ensures { λ r. ⌜ Contains (now (s .entry)) at x r ⌝ }
+{
+    match seek(s, at, x, false) {
+        Sought::Here(_) => true,
+        Sought::Before(_) => false,
+    }
+}
+
+// What stands at the key at k, in the map at a place.
+pub fn find_key(s: &[u8], at: usize, k: usize) -> Found
+    requires { ⌜ HoldsKind map (now s) at × Holds (now s) k ⌝ }
+    ensures { λ r. ⌜ AtKey (now (s .entry)) at k r ⌝ }
+{
+    match seek(s, at, k, true) {
+        Sought::Here(p) => Found::At(p + values::length_of(s, p)),
+        Sought::Before(_) => Found::Nothing,
+    }
 }
 
 // The k-th item of the collection at a place, from 0.
