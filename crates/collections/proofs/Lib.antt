@@ -2,3 +2,4 @@ mod Shifting
 mod Walks
 mod Looking
 mod Sights
+mod Gaps

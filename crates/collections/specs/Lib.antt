@@ -1,5 +1,6 @@
 pub mod Joined
 pub mod Members
 pub mod Entries
-pub mod Finding
 pub mod Seeking
+pub mod Finding
+pub mod Building

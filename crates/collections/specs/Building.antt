@@ -1,0 +1,93 @@
+-- What building collections asks and promises. A collection that is being built has room for the 512 bytes of the longest value.
+use mathlib.Core.Path.{_≡_}
+use mathlib.Core.Bool.{Bool}
+use mathlib.Core.List.{List}
+use mathlib.Core.Logic.{_⊎_}
+use mathlib.Core.Option.{Option, none as absent, some}
+use Prim.Native.Nat.{ℕ, _+_, _≤_, _<_}
+use lib.Dec.{leb}
+use lib.ListN.{length}
+use Rattle.integers.specs.Bytes.{word}
+use Rattle.values.specs.Value.{Kind, set, sequence, map, tuple, number, Value, collection, Items, none, more, count, size, sizes, Shaped, limit}
+use Rattle.values.specs.Items.{pick, same, join, snoc, insert, lookup, enter}
+use Rattle.values.specs.Place.{At, ItemsAt, Holds, Outside}
+use Rattle.collections.specs.declared.building.Added.{Added}
+use Rattle.collections.specs.declared.building.Added.the-variants.{Done as Put, Full as TooLong}
+use Rattle.collections.specs.declared.building.Entered.{Entered}
+use Rattle.collections.specs.declared.building.Entered.the-variants.{Done, Clash, Full}
+use Rattle.collections.specs.Finding.{HoldsKind}
+
+-- ---- answers
+
+-- Document 01's numbers: 27 one key, two values; 28 value over 512.
+abbrev pub addedNumber : Added → ℕ
+addedNumber Put = 0
+addedNumber TooLong = 28
+
+abbrev pub enteredNumber : Entered → ℕ
+enteredNumber Done = 0
+enteredNumber Clash = 27
+enteredNumber Full = 28
+
+-- A whole of n bytes is refused exactly where it is over the limit.
+abbrev pub added : ℕ → Added
+added n = pick (leb n limit) Put TooLong
+
+-- By what stands at the key: nothing, or another value or the same.
+abbrev pub entered : Option Value → Value → ℕ → Entered
+entered absent v n = pick (leb n limit) Done Full
+entered (some w) v n = pick (same w v) Done Clash
+
+-- ---- what is asked
+
+-- The record at x lies outside the 512 bytes at a place.
+abbrev pub Apart : List ℕ → ℕ → ℕ → Type 0
+Apart s at x = (x + word s x ≤ at) ⊎ (at + limit ≤ x)
+
+-- A collection of a kind is being built at a place, and an item for it stands at x.
+pub record Room (k : Kind) (s : List ℕ) (at x : ℕ) : Type 0 where
+  pub held : HoldsKind k s at
+  pub room : at + limit ≤ length s
+  pub item : Holds s x
+  pub apart : Apart s at x
+
+-- ---- what is promised
+
+-- The collection at a place, whose items were vs, has the items ws now; where these are vs, nothing changed.
+pub record Builds (k : Kind) (s t : List ℕ) (at : ℕ) (vs ws : Items) (r : Added) : Type 0 where
+  pub answers : r ≡ added (size (collection k ws))
+  pub made : r ≡ Put → At t at (collection k ws)
+  pub still : ws ≡ vs → t ≡ s
+
+-- The item at x was added to the collection at a place.
+pub record Adds (k : Kind) (add : Items → Value → Items) (s t : List ℕ) (at x : ℕ) (r : Added) : Type 0 where
+  pub frame : Outside s t at (at + limit)
+  pub refused : r ≡ TooLong → t ≡ s
+  pub right : (vs : Items) (v : Value) → At s at (collection k vs) → At s x v → Builds k s t at vs (add vs v) r
+
+-- An empty collection.
+pub record Empties (s t : List ℕ) (at kind : ℕ) : Type 0 where
+  pub frame : Outside s t at (at + 4)
+  pub right : (k : Kind) → kind ≡ number k → Shaped k none → At t at (collection k none)
+
+-- At the end of a sequence.
+abbrev pub Appends : List ℕ → List ℕ → ℕ → ℕ → Added → Type 0
+Appends = Adds sequence snoc
+
+-- In order into a set.
+abbrev pub Inserts : List ℕ → List ℕ → ℕ → ℕ → Added → Type 0
+Inserts = Adds set (λ (vs : Items) (v : Value). insert v vs)
+
+-- ---- the steps
+
+-- The item at x can go in before what stands between two places.
+pub record Gap (s : List ℕ) (p end x : ℕ) : Type 0 where
+  pub item : Holds s x
+  pub order : p ≤ end
+  pub room : end + word s x ≤ length s
+  pub apart : (x + word s x ≤ p) ⊎ (end + word s x ≤ x)
+
+-- It went in there.
+pub record Fills (s t : List ℕ) (p end x : ℕ) : Type 0 where
+  pub frame : Outside s t p (end + word s x)
+  pub right : (vs : Items) (v : Value) → ItemsAt s p end vs → At s x v → size v + sizes vs ≤ limit → ItemsAt t p (end + size v) (more v vs)
