@@ -3,3 +3,4 @@ mod Walks
 mod Looking
 mod Sights
 mod Gaps
+mod Additions

@@ -33,9 +33,12 @@ enteredNumber Full = 28
 abbrev pub added : ℕ → Added
 added n = pick (leb n limit) Put TooLong
 
--- By what stands at the key: nothing, or another value or the same.
+abbrev pub opened : ℕ → Entered
+opened n = pick (leb n limit) Done Full
+
+-- By what stands at the key: nothing, or the same value or another.
 abbrev pub entered : Option Value → Value → ℕ → Entered
-entered absent v n = pick (leb n limit) Done Full
+entered absent v n = opened n
 entered (some w) v n = pick (same w v) Done Clash
 
 -- ---- what is asked
@@ -51,6 +54,11 @@ pub record Room (k : Kind) (s : List ℕ) (at x : ℕ) : Type 0 where
   pub item : Holds s x
   pub apart : Apart s at x
 
+-- A map is being built at a place, and a key and a value for it stand at x and y.
+pub record EntryRoom (s : List ℕ) (at x y : ℕ) : Type 0 where
+  pub key : Room map s at x
+  pub value : Room map s at y
+
 -- ---- what is promised
 
 -- The collection at a place, whose items were vs, has the items ws now; where these are vs, nothing changed.
@@ -65,11 +73,6 @@ pub record Adds (k : Kind) (add : Items → Value → Items) (s t : List ℕ) (a
   pub refused : r ≡ TooLong → t ≡ s
   pub right : (vs : Items) (v : Value) → At s at (collection k vs) → At s x v → Builds k s t at vs (add vs v) r
 
--- An empty collection.
-pub record Empties (s t : List ℕ) (at kind : ℕ) : Type 0 where
-  pub frame : Outside s t at (at + 4)
-  pub right : (k : Kind) → kind ≡ number k → Shaped k none → At t at (collection k none)
-
 -- At the end of a sequence.
 abbrev pub Appends : List ℕ → List ℕ → ℕ → ℕ → Added → Type 0
 Appends = Adds sequence snoc
@@ -77,6 +80,29 @@ Appends = Adds sequence snoc
 -- In order into a set.
 abbrev pub Inserts : List ℕ → List ℕ → ℕ → ℕ → Added → Type 0
 Inserts = Adds set (λ (vs : Items) (v : Value). insert v vs)
+
+-- The map at a place, whose items were vs, has k mapped to v now.
+pub record Maps (s t : List ℕ) (at : ℕ) (vs : Items) (k v : Value) (r : Entered) : Type 0 where
+  pub answers : r ≡ entered (lookup k vs) v (size (collection map (enter k v vs)))
+  pub made : r ≡ Done → At t at (collection map (enter k v vs))
+  pub still : enter k v vs ≡ vs → t ≡ s
+
+-- The entry of the key at x and the value at y was put in order into the map at a place.
+pub record Enters (s t : List ℕ) (at x y : ℕ) (r : Entered) : Type 0 where
+  pub frame : Outside s t at (at + limit)
+  pub clash : r ≡ Clash → t ≡ s
+  pub full : r ≡ Full → t ≡ s
+  pub right : (vs : Items) (k v : Value) → At s at (collection map vs) → At s x k → At s y v → Maps s t at vs k v r
+
+-- An empty collection stands at a place, of any kind that may be empty.
+pub record Empties (s t : List ℕ) (at kind : ℕ) : Type 0 where
+  pub frame : Outside s t at (at + 4)
+  pub right : (k : Kind) → kind ≡ number k → Shaped k none → At t at (collection k none)
+
+-- The collection at a place is of another kind, if its items are shaped as that kind asks.
+pub record Retags (s t : List ℕ) (at kind : ℕ) : Type 0 where
+  pub frame : Outside s t at (at + 4)
+  pub right : (k l : Kind) (vs : Items) → At s at (collection k vs) → kind ≡ number l → Shaped l vs → At t at (collection l vs)
 
 -- ---- the steps
 
@@ -91,3 +117,28 @@ pub record Gap (s : List ℕ) (p end x : ℕ) : Type 0 where
 pub record Fills (s t : List ℕ) (p end x : ℕ) : Type 0 where
   pub frame : Outside s t p (end + word s x)
   pub right : (vs : Items) (v : Value) → ItemsAt s p end vs → At s x v → size v + sizes vs ≤ limit → ItemsAt t p (end + size v) (more v vs)
+
+-- The item at x can go into the collection at a place, before what stands at p within it.
+pub record Slot (s : List ℕ) (at p x : ℕ) : Type 0 where
+  pub held : Holds s at
+  pub low : at + 4 ≤ p
+  pub high : p ≤ at + word s at
+  pub room : at + limit ≤ length s
+  pub item : Holds s x
+  pub apart : Apart s at x
+
+-- It went in there, and the collection is of this kind.
+pub record AddsAt (s t : List ℕ) (at p x kind : ℕ) (r : Added) : Type 0 where
+  pub frame : Outside s t at (at + limit)
+  pub refused : r ≡ TooLong → t ≡ s
+  pub answers : r ≡ added (word s at + word s x)
+  pub made : (k : Kind) (us ws : Items) (v : Value) → r ≡ Put → kind ≡ number k → ItemsAt s (at + 4) p us → ItemsAt s p (at + word s at) ws → At s x v
+      → Shaped k (join us (more v ws)) → At t at (collection k (join us (more v ws)))
+
+-- The entry of the key at x and the value at y went into the map at a place, before what stood at p.
+pub record EntersAt (s t : List ℕ) (at p x y : ℕ) (r : Entered) : Type 0 where
+  pub frame : Outside s t at (at + limit)
+  pub refused : r ≡ Full → t ≡ s
+  pub answers : r ≡ opened (word s at + word s x + word s y)
+  pub made : (us ws : Items) (k v : Value) → r ≡ Done → ItemsAt s (at + 4) p us → ItemsAt s p (at + word s at) ws → At s x k → At s y v
+      → Shaped map (join us (more k (more v ws))) → At t at (collection map (join us (more k (more v ws))))
