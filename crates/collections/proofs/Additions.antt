@@ -115,7 +115,7 @@ pub slot-in : {k : Kind} {s : List ℕ} {at x : ℕ} (p : ℕ) → Room k s at x
 slot-in p r low high = record { held = holds (r .held .here); low = low; high = high; room = r .room; item = r .item; apart = r .apart }
 
 -- the items of a collection that part at q
-parts-at : {k : Kind} {s : List ℕ} {at : ℕ} {vs : Items} → At s at (collection k vs) → (us ws : Items) → vs ≡ join us ws → (q : ℕ) → q ≡ at + 4 + sizes us → ItemsAt s (at + 4) q us × ItemsAt s q (at + word s at) ws
+pub parts-at : {k : Kind} {s : List ℕ} {at : ℕ} {vs : Items} → At s at (collection k vs) → (us ws : Items) → vs ≡ join us ws → (q : ℕ) → q ≡ at + 4 + sizes us → ItemsAt s (at + 4) q us × ItemsAt s q (at + word s at) ws
 parts-at {k} {s} {at} {vs} h us ws e q d =
     let both = parted us ws (subst (λ (l : Items). ItemsAt s (at + 4) (at + word s at) l) e (items-to refl h)) in
     (subst (λ (j : ℕ). ItemsAt s (at + 4) j us) (sym d) (both .0), subst (λ (j : ℕ). ItemsAt s j (at + word s at) ws) (sym d) (both .1))

@@ -4,3 +4,4 @@ mod Looking
 mod Sights
 mod Gaps
 mod Additions
+mod Entering

@@ -66,6 +66,23 @@ fn add(s: &mut [u8], at: usize, p: usize, x: usize, kind: usize) -> Added
     Added::Done
 }
 
+// The entry of the key at k and the value at v goes into the map at a place, before what stands at p.
+fn add_entry(s: &mut [u8], at: usize, p: usize, k: usize, v: usize) -> Entered
+    requires { ⌜ Slot (now s) at p k × Slot (now s) at p v ⌝ }
+    ensures { λ r. ⌜ EntersAt (now (s .entry)) (now (s .exit)) at p k v r ⌝ }
+{
+    let n = values::length_of(s, at);
+    let m = values::length_of(s, k);
+    let l = values::length_of(s, v);
+    if Value::LIMIT < n + m + l {
+        return Entered::Full;
+    }
+    put_before(s, p, at + n, v);
+    put_before(s, p, at + n + l, k);
+    values::put_head(s, at, n + m + l, MAP);
+    Entered::Done
+}
+
 // An empty collection of a kind.
 pub fn put_empty(s: &mut [u8], at: usize, kind: usize)
     requires { ⌜ (at + 4 ≤ length (now s)) × (kind < 65536) ⌝ }
@@ -100,5 +117,22 @@ pub fn insert(s: &mut [u8], at: usize, x: usize) -> Added
     match crate::finding::seek(s, at, x, false) {
         Sought::Here(_) => Added::Done,
         Sought::Before(p) => add(s, at, p, x, SET),
+    }
+}
+
+// The key at k and the value at v go, in order, into the map at a place. A key that is there keeps its value: another one clashes.
+pub fn enter(s: &mut [u8], at: usize, k: usize, v: usize) -> Entered
+    requires { ⌜ EntryRoom (now s) at k v ⌝ }
+    ensures { λ r. ⌜ Enters (now (s .entry)) (now (s .exit)) at k v r ⌝ }
+{
+    match crate::finding::seek(s, at, k, true) {
+        Sought::Here(p) => {
+            let n = values::length_of(s, p);
+            if values::equal(s, p + n, v) {
+                return Entered::Done;
+            }
+            Entered::Clash
+        }
+        Sought::Before(p) => add_entry(s, at, p, k, v),
     }
 }
