@@ -36,6 +36,26 @@ pub data Finds (s : List ℕ) (from to : ℕ) : Found → Option Value → Type 
   found : {p : ℕ} {v : Value} → At s p v → from ≤ p → p + size v ≤ to → Finds s from to (Place p) (some v)
   missing : Finds s from to Nothing absent
 
+-- What a place that was found says, and what its lack says.
+pub record Shown (s : List ℕ) (from to p : ℕ) (o : Option Value) : Type 0 where
+  pub value : Value
+  pub is : o ≡ some value
+  pub here : At s p value
+  pub low : from ≤ p
+  pub high : p + size value ≤ to
+
+shown : {s : List ℕ} {from to p : ℕ} {o : Option Value} → Finds s from to (Place p) o → Shown s from to p o
+shown (found {v = v} h low high) = record { value = v; is = refl; here = h; low = low; high = high }
+
+pub found-at : {s : List ℕ} {from to p : ℕ} {r : Found} {o : Option Value} → Finds s from to r o → r ≡ Place p → Shown s from to p o
+found-at {s} {from} {to} {p} {r} {o} f e = shown (subst (λ (q : Found). Finds s from to q o) e f)
+
+lacking : {s : List ℕ} {from to : ℕ} {o : Option Value} → Finds s from to Nothing o → o ≡ absent
+lacking missing = refl
+
+pub found-nothing : {s : List ℕ} {from to : ℕ} {r : Found} {o : Option Value} → Finds s from to r o → r ≡ Nothing → o ≡ absent
+found-nothing {s} {from} {to} {r} {o} f e = lacking (subst (λ (q : Found). Finds s from to q o) e f)
+
 -- The record is one of those within the collection at a place.
 abbrev pub Within : List ℕ → ℕ → Value → Found → Option Value → Type 0
 Within s at w r o = Finds s (at + 4) (at + size w) r o

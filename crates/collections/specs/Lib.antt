@@ -4,3 +4,4 @@ pub mod Entries
 pub mod Seeking
 pub mod Finding
 pub mod Building
+pub mod Built
