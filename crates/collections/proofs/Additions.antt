@@ -1,33 +1,32 @@
 -- What the steps of building make of a collection. Assumes nothing.
-use mathlib.Core.Path.{_≡_, refl, sym, ap, ap₂, subst, _∙_}
-use mathlib.Core.Bool.{Bool, true, false}
+use mathlib.Core.Path.{_≡_, refl, sym, ap, subst, _∙_}
+use mathlib.Core.Bool.{false}
 use mathlib.Core.List.{List}
 use mathlib.Core.Logic.{_⊎_, inl, inr}
-use Prim.Native.Nat.{ℕ, _+_, _-_, _≤_, _<_}
+use Prim.Native.Nat.{ℕ, _+_, _≤_, _<_}
 use native.Mathlib.Omega.{arith}
 use borrow.Author.Tests.{le-leb, lt-leb}
 use lib.ListN.{length}
 use lib.Seq.{sets}
 use Rattle.integers.specs.Bytes.{word}
-use Rattle.values.specs.Value.{Kind, set, sequence, map, number, Value, collection, Items, none, more, size, sizes, Shaped, limit}
+use Rattle.values.specs.Value.{Kind, set, sequence, number, Value, collection, Items, none, more, size, sizes, Shaped, limit}
 use Rattle.values.specs.Items.{isMember, join, snoc, insert}
-use Rattle.values.specs.Place.{At, ItemsAt, Holds, Outside}
-use Rattle.values.specs.Encoding.{size-low, join-sizes, more-sizes, snoc-sizes, collection-size}
+use Rattle.values.specs.Place.{At, ItemsAt}
+use Rattle.values.specs.Encoding.{size-low, snoc-sizes, collection-size}
 use Rattle.values.specs.Records.{word-size, holds, items-to, no-items, joined, parted, collection-shaped}
 use Rattle.values.specs.Written.{heading, closed}
-use Rattle.values.specs.Frame.{items-below, at-below, at-above, word-below, word-above, outside-then, outside-none}
+use Rattle.values.specs.Frame.{items-below, outside-then, outside-none}
 use Rattle.values.specs.Contract.{PutHead}
 use Rattle.collections.specs.declared.building.Added.{Added}
 use Rattle.collections.specs.declared.building.Added.the-variants.{Done as Put, Full as TooLong}
-use Rattle.collections.specs.declared.building.Entered.{Entered}
-use Rattle.collections.specs.declared.building.Entered.the-variants.{Done, Clash, Full}
 use Rattle.collections.specs.declared.finding.Sought.{Sought}
 use Rattle.collections.specs.declared.finding.Sought.the-variants.{Here, Before}
 use Rattle.collections.specs.Members.{insert-present, sizes-insert, ascending-insert}
 use Rattle.collections.specs.Seeking.{Member, belongs}
-use Rattle.collections.specs.Finding.{HoldsKind, Seeks}
+use Rattle.collections.specs.Finding.{Seeks}
 use Rattle.collections.proofs.Sights.{sight, contained}
-use Rattle.collections.specs.Building.{added, opened, Room, Apart, Empties, Retags, Builds, Adds, Appends, Inserts, Gap, Fills, Slot, AddsAt, EntersAt}
+use Rattle.collections.specs.Building.{added, Room, Apart, Empties, Retags, Appends, Inserts}
+use Rattle.collections.specs.Steps.{Gap, Fills, Slot, AddsAt}
 
 -- ---- answers
 

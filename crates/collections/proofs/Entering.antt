@@ -1,10 +1,10 @@
 -- What the steps of building make of a map. Assumes nothing.
-use mathlib.Core.Path.{_≡_, refl, sym, ap, ap₂, subst, _∙_}
+use mathlib.Core.Path.{_≡_, refl, sym, ap, subst, _∙_}
 use mathlib.Core.Bool.{Bool, true, false}
 use mathlib.Core.List.{List}
 use mathlib.Core.Logic.{_⊎_, inl, inr}
 use mathlib.Core.Option.{Option, none as absent, some}
-use Prim.Native.Nat.{ℕ, _+_, _-_, _≤_, _<_}
+use Prim.Native.Nat.{ℕ, _+_, _≤_, _<_}
 use native.Mathlib.Omega.{arith}
 use borrow.Author.Tests.{le-leb, lt-leb}
 use lib.Dec.{leb}
@@ -24,8 +24,9 @@ use Rattle.collections.specs.declared.finding.Sought.the-variants.{Here,
 use Rattle.collections.specs.Entries.{enter-present, sizes-enter, paired-enter, ascending-enter}
 use Rattle.collections.specs.Seeking.{Key, belongs}
 use Rattle.collections.specs.Finding.{Seeks}
-use Rattle.collections.specs.Building.{opened, entered, Room, EntryRoom, Apart, Maps, Enters, Gap, Fills, Slot, EntersAt}
-use Rattle.collections.proofs.Sights.{key-sight, Entry, entry}
+use Rattle.collections.specs.Building.{opened, entered, EntryRoom, Apart, Enters}
+use Rattle.collections.specs.Steps.{Gap, Fills, Slot, EntersAt}
+use Rattle.collections.proofs.Sights.{key-sight, entry}
 use Rattle.collections.proofs.Additions.{headed-both, parts-at, slot-in, add-gap}
 
 -- ---- answers

@@ -1,17 +1,17 @@
 -- An item put in before others: they are moved up, and it is copied into the gap. Assumes nothing.
-use mathlib.Core.Path.{_≡_, refl, sym, ap, subst, _∙_}
+use mathlib.Core.Path.{_≡_, subst, _∙_}
 use mathlib.Core.List.{List}
 use mathlib.Core.Logic.{_⊎_, inl, inr}
-use Prim.Native.Nat.{ℕ, _+_, _-_, _≤_, _<_}
+use Prim.Native.Nat.{ℕ, _+_, _-_, _≤_}
 use native.Mathlib.Omega.{arith}
-use lib.ListN.{length, take, drop}
+use lib.ListN.{take, drop}
 use Rattle.integers.specs.Bytes.{word}
-use Rattle.values.specs.Value.{Value, Items, more, size, sizes, limit}
-use Rattle.values.specs.Place.{At, ItemsAt, Holds, Outside}
+use Rattle.values.specs.Value.{Value, size, sizes}
+use Rattle.values.specs.Place.{At, ItemsAt}
 use Rattle.values.specs.Records.{word-size, holds, more-of}
-use Rattle.values.specs.Frame.{items-moved, items-above, at-below, at-above, holds-below, holds-above, word-below, word-above, outside-then}
+use Rattle.values.specs.Frame.{items-moved, items-above, at-below, at-above, word-below, word-above, outside-then}
 use Rattle.values.specs.Contract.{Moved, Copyable, Copied}
-use Rattle.collections.specs.Building.{Gap, Fills}
+use Rattle.collections.specs.Steps.{Gap, Fills}
 
 module _ {s t : List ℕ} {p end x : ℕ} (gap : Gap s p end x) (n : ℕ) (is : n ≡ word s x) (m : Moved s t p (p + n) (end - p)) where
   pub gap-word : word t x ≡ word s x

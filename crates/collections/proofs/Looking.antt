@@ -1,13 +1,12 @@
 -- The loop of `seek`: what is found from here on is what is found from the start on. Assumes nothing.
-use mathlib.Core.Path.{_≡_, refl, sym, ap, subst, _∙_}
+use mathlib.Core.Path.{_≡_, refl, sym, ap, _∙_}
 use mathlib.Core.Bool.{Bool, true, false, not}
 use mathlib.Core.List.{List}
 use Prim.Native.Nat.{ℕ, _+_, _≤_, _<_}
-use native.Mathlib.Omega.{arith}
 use Rattle.integers.specs.Bytes.{word}
 use Rattle.values.specs.declared.Order.{Order}
-use Rattle.values.specs.declared.Order.the-variants.{Lower, Same, Higher}
-use Rattle.values.specs.Value.{Value, Items, none, more, size, order}
+use Rattle.values.specs.declared.Order.the-variants.{Higher}
+use Rattle.values.specs.Value.{Value, Items, more, size, order}
 use Rattle.values.specs.Items.{inOrder}
 use Rattle.values.specs.Place.{At}
 use Rattle.values.specs.Records.{word-size}

@@ -1,21 +1,19 @@
 -- What `seek` found, in a set and in a map. Assumes nothing.
-use mathlib.Core.Path.{_≡_, refl, sym, ap, subst, _∙_}
-use mathlib.Core.Bool.{Bool, true, false}
+use mathlib.Core.Path.{_≡_, sym, subst}
+use mathlib.Core.Bool.{true, false}
 use mathlib.Core.List.{List}
-use mathlib.Core.Option.{Option, none as absent, some}
-use Prim.Native.Nat.{ℕ, _+_, _≤_, _<_}
+use mathlib.Core.Option.{none as absent, some}
+use Prim.Native.Nat.{ℕ, _+_, _≤_}
 use native.Mathlib.Omega.{arith}
 use Rattle.integers.specs.Bytes.{word}
-use Rattle.values.specs.Value.{Kind, set, map, Value, Items, none, more, collection, size, sizes}
+use Rattle.values.specs.Value.{Kind, set, map, Value, Items, more, collection, size, sizes}
 use Rattle.values.specs.Items.{isMember, join, lookup}
 use Rattle.values.specs.Place.{At, ItemsAt}
-use Rattle.values.specs.Encoding.{collection-size}
 use Rattle.values.specs.Records.{word-size, collection-shaped, items-of, parted, first-of}
-use Rattle.collections.specs.declared.finding.Found.{Found}
 use Rattle.collections.specs.declared.finding.Found.the-variants.{At as Place, Nothing}
 use Rattle.collections.specs.declared.finding.Sought.{Sought}
 use Rattle.collections.specs.declared.finding.Sought.the-variants.{Here, Before}
-use Rattle.collections.specs.Seeking.{seek, Member, Key, present, belongs, seek-member, seek-key}
+use Rattle.collections.specs.Seeking.{Member, Key, present, belongs, seek-member, seek-key}
 use Rattle.collections.specs.Finding.{HoldsKind, HoldsCollection, Seeks, Within, found, missing, Contains, AtKey}
 
 pub some-kind : {k : Kind} {s : List ℕ} {at : ℕ} → HoldsKind k s at → HoldsCollection s at

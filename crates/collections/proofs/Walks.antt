@@ -1,15 +1,14 @@
 -- A walk over the items of the collection at a place, one item a turn. Assumes nothing.
 use mathlib.Core.Path.{_≡_, refl, sym, ap, subst, _∙_}
 use mathlib.Core.List.{List}
-use mathlib.Core.Option.{Option, none as absent, some}
+use mathlib.Core.Option.{some}
 use Prim.Native.Nat.{ℕ, zero, suc, _+_, _-_, _≤_, _<_}
 use native.Mathlib.Omega.{arith}
 use Rattle.integers.specs.Bytes.{word}
-use Rattle.values.specs.Value.{Kind, Value, Items, none, more, collection, size}
+use Rattle.values.specs.Value.{Kind, Value, Items, none, more, collection}
 use Rattle.values.specs.Items.{nth}
-use Rattle.values.specs.Place.{At, ItemsAt, Holds}
-use Rattle.values.specs.Records.{Run, run, word-size, items-to, items-none, holds}
-use Rattle.collections.specs.declared.finding.Found.{Found}
+use Rattle.values.specs.Place.{At, ItemsAt}
+use Rattle.values.specs.Records.{run, word-size, items-to, items-none, holds}
 use Rattle.collections.specs.declared.finding.Found.the-variants.{At as Place, Nothing}
 use Rattle.collections.specs.Finding.{HoldsCollection, Within, found, missing, Item}
 

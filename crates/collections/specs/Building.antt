@@ -1,16 +1,15 @@
 -- What building collections asks and promises. A collection that is being built has room for the 512 bytes of the longest value.
 use mathlib.Core.Path.{_≡_}
-use mathlib.Core.Bool.{Bool}
 use mathlib.Core.List.{List}
 use mathlib.Core.Logic.{_⊎_}
 use mathlib.Core.Option.{Option, none as absent, some}
-use Prim.Native.Nat.{ℕ, _+_, _≤_, _<_}
+use Prim.Native.Nat.{ℕ, _+_, _≤_}
 use lib.Dec.{leb}
 use lib.ListN.{length}
 use Rattle.integers.specs.Bytes.{word}
-use Rattle.values.specs.Value.{Kind, set, sequence, map, tuple, number, Value, collection, Items, none, more, count, size, sizes, Shaped, limit}
-use Rattle.values.specs.Items.{pick, same, join, snoc, insert, lookup, enter}
-use Rattle.values.specs.Place.{At, ItemsAt, Holds, Outside}
+use Rattle.values.specs.Value.{Kind, set, sequence, map, number, Value, collection, Items, none, size, Shaped, limit}
+use Rattle.values.specs.Items.{pick, same, snoc, insert, lookup, enter}
+use Rattle.values.specs.Place.{At, Holds, Outside}
 use Rattle.collections.specs.declared.building.Added.{Added}
 use Rattle.collections.specs.declared.building.Added.the-variants.{Done as Put, Full as TooLong}
 use Rattle.collections.specs.declared.building.Entered.{Entered}
@@ -103,42 +102,3 @@ pub record Empties (s t : List ℕ) (at kind : ℕ) : Type 0 where
 pub record Retags (s t : List ℕ) (at kind : ℕ) : Type 0 where
   pub frame : Outside s t at (at + 4)
   pub right : (k l : Kind) (vs : Items) → At s at (collection k vs) → kind ≡ number l → Shaped l vs → At t at (collection l vs)
-
--- ---- the steps
-
--- The item at x can go in before what stands between two places.
-pub record Gap (s : List ℕ) (p end x : ℕ) : Type 0 where
-  pub item : Holds s x
-  pub order : p ≤ end
-  pub room : end + word s x ≤ length s
-  pub apart : (x + word s x ≤ p) ⊎ (end + word s x ≤ x)
-
--- It went in there.
-pub record Fills (s t : List ℕ) (p end x : ℕ) : Type 0 where
-  pub frame : Outside s t p (end + word s x)
-  pub right : (vs : Items) (v : Value) → ItemsAt s p end vs → At s x v → size v + sizes vs ≤ limit → ItemsAt t p (end + size v) (more v vs)
-
--- The item at x can go into the collection at a place, before what stands at p within it.
-pub record Slot (s : List ℕ) (at p x : ℕ) : Type 0 where
-  pub held : Holds s at
-  pub low : at + 4 ≤ p
-  pub high : p ≤ at + word s at
-  pub room : at + limit ≤ length s
-  pub item : Holds s x
-  pub apart : Apart s at x
-
--- It went in there, and the collection is of this kind.
-pub record AddsAt (s t : List ℕ) (at p x kind : ℕ) (r : Added) : Type 0 where
-  pub frame : Outside s t at (at + limit)
-  pub refused : r ≡ TooLong → t ≡ s
-  pub answers : r ≡ added (word s at + word s x)
-  pub made : (k : Kind) (us ws : Items) (v : Value) → r ≡ Put → kind ≡ number k → ItemsAt s (at + 4) p us → ItemsAt s p (at + word s at) ws → At s x v
-      → Shaped k (join us (more v ws)) → At t at (collection k (join us (more v ws)))
-
--- The entry of the key at x and the value at y went into the map at a place, before what stood at p.
-pub record EntersAt (s t : List ℕ) (at p x y : ℕ) (r : Entered) : Type 0 where
-  pub frame : Outside s t at (at + limit)
-  pub refused : r ≡ Full → t ≡ s
-  pub answers : r ≡ opened (word s at + word s x + word s y)
-  pub made : (us ws : Items) (k v : Value) → r ≡ Done → ItemsAt s (at + 4) p us → ItemsAt s p (at + word s at) ws → At s x k → At s y v
-      → Shaped map (join us (more k (more v ws))) → At t at (collection map (join us (more k (more v ws))))

@@ -2,25 +2,26 @@
 use mathlib.Core.Path.{_≡_, refl, sym, ap, _∙_}
 use mathlib.Core.Bool.{Bool, true, false}
 use mathlib.Core.List.{List}
-use mathlib.Core.Logic.{_⊎_, inl, inr}
+use mathlib.Core.Option.{Option, none as absent, some}
+use mathlib.Core.Logic.{inl, inr}
 use Prim.Native.Nat.{ℕ, _+_, _≤_, _<_}
 use native.Mathlib.Omega.{arith}
 use borrow.Author.Tests.{leb-true, leb-false}
 use lib.Dec.{leb}
 use lib.ListN.{length}
-use Rattle.integers.specs.Bytes.{word}
 use Rattle.values.specs.Value.{Kind, set, sequence, map, Value, collection, Items, none, more, size, Shaped, Sound, WellFormed, limit}
-use Rattle.values.specs.Items.{pick, snoc, insert, enter}
+use Rattle.values.specs.Items.{pick, same, snoc, insert, lookup, enter}
 use Rattle.values.specs.Place.{At, Holds, Outside}
+use Rattle.values.specs.Laws.{same-true}
 use Rattle.values.specs.Encoding.{collection-size, join-sound}
 use Rattle.values.specs.Records.{word-size, holds, collection-shaped, collection-sound, well-formed-collection}
 use Rattle.values.specs.Frame.{at-below, at-above, word-below}
 use Rattle.collections.specs.declared.building.Added.{Added}
 use Rattle.collections.specs.declared.building.Added.the-variants.{Done as Put, Full as TooLong}
+use Rattle.collections.specs.declared.building.Entered.the-variants.{Done, Clash, Full}
 use Rattle.collections.specs.Members.{ascending-insert, sound-insert}
-use Rattle.collections.specs.Entries.{paired-enter, ascending-enter, sound-enter}
-use Rattle.collections.specs.Finding.{HoldsKind}
-use Rattle.collections.specs.Building.{added, Apart, Room}
+use Rattle.collections.specs.Entries.{paired-enter, ascending-enter, sound-enter, enter-present, enterNew, new-absent, new-there}
+use Rattle.collections.specs.Building.{added, entered, Apart, Room, Maps, Enters}
 
 -- ---- one more is a value again, if it is not too long
 
@@ -81,3 +82,60 @@ module _ {s t : List ℕ} {at x : ℕ} (o : Outside s t at (at + limit)) (a : Ap
   -- the room for the next item, once the collection has been built so far
   pub room-still : {k : Kind} {vs : Items} → at + limit ≤ length s → Holds s x → At t at (collection k vs) → Room k t at x
   room-still {vs = vs} r h c = let l = o .long in record { held = record { items = vs; here = c }; room = omega arith; item = holds-apart h; apart = apart-still h }
+
+-- ---- entering where the key is new, and passing over a clash
+
+full-not : {X : Type 0} (b : Bool) → Full ≡ pick b Done Clash → X
+full-not true e = let z : _≡_ {A = ℕ} 0 1 = cc in absurd (omega arith)
+full-not false e = let z : _≡_ {A = ℕ} 0 1 = cc in absurd (omega arith)
+
+clash-not : {X : Type 0} (b : Bool) → Clash ≡ pick b Done Full → X
+clash-not true e = let z : _≡_ {A = ℕ} 0 1 = cc in absurd (omega arith)
+clash-not false e = let z : _≡_ {A = ℕ} 0 1 = cc in absurd (omega arith)
+
+done-same : (b : Bool) → Done ≡ pick b Done Clash → b ≡ true
+done-same true e = refl
+done-same false e = cc
+
+full-size : (b : Bool) → Full ≡ pick b Done Full → b ≡ false
+full-size true e = cc
+full-size false e = refl
+
+module _ {s t : List ℕ} {at x y : ℕ} {vs : Items} {k v : Value} (h : At s at (collection map vs)) (g : At s x k) (i : At s y v) where
+  -- after Done or Clash the map has what it had, and the entry where its key was new
+  pub done-new : Enters s t at x y Done → At t at (collection map (enterNew k v vs))
+  done-new e = go (lookup k vs) refl
+    where
+      m : Maps s t at vs k v Done
+      m = e .right vs k v h g i
+
+      go : (o : Option Value) → lookup k vs ≡ o → At t at (collection map (enterNew k v vs))
+      go absent d = rw (new-absent k v vs d) (m .made refl)
+      go (some w) d =
+          let shaped = collection-shaped (h .fine) in
+          let a = m .answers ∙ ap (λ (o : Option Value). entered o v (size (collection map (enter k v vs)))) d in
+          let u = same-true w v (done-same (same w v) a) in
+          rw (new-there k v w vs d) (rw (enter-present k v vs (shaped .0) (shaped .1) (d ∙ ap some u)) at (m .made refl))
+
+  pub clash-new : Enters s t at x y Clash → At t at (collection map (enterNew k v vs))
+  clash-new e = go (lookup k vs) refl
+    where
+      m : Maps s t at vs k v Clash
+      m = e .right vs k v h g i
+
+      go : (o : Option Value) → lookup k vs ≡ o → At t at (collection map (enterNew k v vs))
+      go absent d = clash-not (leb (size (collection map (enter k v vs))) limit) (m .answers ∙ ap (λ (o : Option Value). entered o v (size (collection map (enter k v vs)))) d)
+      go (some w) d = rw (new-there k v w vs d) (rw (e .clash refl) h)
+
+  -- after Full that map would be too long
+  pub full-new : Enters s t at x y Full → limit < size (collection map (enterNew k v vs))
+  full-new e = go (lookup k vs) refl
+    where
+      m : Maps s t at vs k v Full
+      m = e .right vs k v h g i
+
+      go : (o : Option Value) → lookup k vs ≡ o → limit < size (collection map (enterNew k v vs))
+      go absent d =
+          let n = size (collection map (enter k v vs)) in
+          rw (new-absent k v vs d) (leb-false n limit (full-size (leb n limit) (m .answers ∙ ap (λ (o : Option Value). entered o v n) d)))
+      go (some w) d = full-not (same w v) (m .answers ∙ ap (λ (o : Option Value). entered o v (size (collection map (enter k v vs)))) d)

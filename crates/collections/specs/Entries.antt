@@ -1,13 +1,12 @@
--- Laws of maps: an entry put in order, what stands at a key, and that a map is what it maps its keys to.
-use mathlib.Core.Path.{_≡_, refl, sym, ap, ap₂, subst, _∙_}
+-- Laws of maps: an entry put in order, what stands at a key, an entry put in where its key is new, and that a map is what it maps its keys to.
+use mathlib.Core.Path.{_≡_, refl, sym, ap, ap₂, _∙_}
 use mathlib.Core.Bool.{Bool, true, false}
 use mathlib.Core.Option.{Option, none as absent, some}
-use Prim.Native.Nat.{ℕ, suc, _+_, _≤_}
+use Prim.Native.Nat.{ℕ, _+_}
 use native.Mathlib.Omega.{arith}
-use Rattle.values.specs.declared.Order.{Order}
 use Rattle.values.specs.declared.Order.the-variants.{Lower, Same, Higher}
 use Rattle.values.specs.Value.{Value, Items, none, more, count, everyOther, keys, size, sizes, order, Before, Ascending, PairedFrom, Paired, Sound, SoundItems}
-use Rattle.values.specs.Items.{pick, isSame, same, isMember, insert, lookup, lookupAt, enter, enterAfter, dropOne}
+use Rattle.values.specs.Items.{pick, isSame, same, isMember, insert, lookup, enter}
 use Rattle.values.specs.Laws.{same-equal, order-refl, higher-flip, same-true}
 use Rattle.collections.specs.Members.{lower-apart, higher-apart, pick-true, pick-false, before-first, insert-lower, insert-same, insert-higher, by-order, ascending-insert}
 
@@ -88,7 +87,7 @@ past true true v w o f = absurd (f refl refl)
 past true false v w o f = refl
 past false c v w o f = refl
 
-pub apart : (x k l : Value) → same k l ≡ false → same x k ≡ true → same x l ≡ true → ⊥
+apart : (x k l : Value) → same k l ≡ false → same x k ≡ true → same x l ≡ true → ⊥
 apart x k l f d e = let q = ap (λ (y : Value). same y l) (same-true x k d) in let z : _≡_ {A = ℕ} 0 1 = cc in omega arith
 
 -- After entering, the new value stands at its key, and at every other key what stood there.
@@ -170,6 +169,44 @@ count-enter k v =
     by-order k l (λ o. let g = ap count (enter-lower k v l (more w vs) o) in omega arith)
     (λ o. let f = lookup-here k l w vs o in cc)
     (λ o. let f = r (sym (lookup-on k l w vs o) ∙ e) in let g = ap count (enter-higher k v l w vs o) in omega arith))
+
+-- ---- an entry put in only where its key is new
+
+-- The first where nothing is there, else the second.
+abbrev pub ifAbsent : {A : Type 0} → Option Value → A → A → A
+ifAbsent absent a b = a
+ifAbsent (some v) a b = b
+
+unfoldable pub enterNew : Value → Value → Items → Items
+enterNew k v vs = ifAbsent (lookup k vs) (enter k v vs) vs
+
+pub new-absent : (k v : Value) (vs : Items) → lookup k vs ≡ absent → enterNew k v vs ≡ enter k v vs
+unfolding enterNew
+new-absent k v vs e = ap (λ (o : Option Value). ifAbsent o (enter k v vs) vs) e
+
+pub new-there : (k v w : Value) (vs : Items) → lookup k vs ≡ some w → enterNew k v vs ≡ vs
+unfolding enterNew
+new-there k v w vs e = ap (λ (o : Option Value). ifAbsent o (enter k v vs) vs) e
+
+-- What stood at a key stands there still; at the new one there is its value.
+pub lookup-new : (x k v : Value) (vs : Items) → Paired vs → lookup x (enterNew k v vs) ≡ ifAbsent (lookup x vs) (pick (same x k) (some v) absent) (lookup x vs)
+lookup-new x k v vs p = go (lookup k vs) refl
+  where
+    -- by whether x is the key
+    at-new : (b : Bool) (o : Option Value) → (b ≡ true → o ≡ absent) → pick b (some v) o ≡ ifAbsent o (pick b (some v) absent) o
+    at-new true absent f = refl
+    at-new true (some w) f = let e = f refl in cc
+    at-new false absent f = refl
+    at-new false (some w) f = refl
+
+    at-old : (w : Value) (b : Bool) (o : Option Value) → (b ≡ true → o ≡ some w) → o ≡ ifAbsent o (pick b (some v) absent) o
+    at-old w true absent f = let e = f refl in cc
+    at-old w false absent f = refl
+    at-old w b (some u) f = refl
+
+    go : (o : Option Value) → lookup k vs ≡ o → lookup x (enterNew k v vs) ≡ ifAbsent (lookup x vs) (pick (same x k) (some v) absent) (lookup x vs)
+    go absent e = ap (lookup x) (new-absent k v vs e) ∙ lookup-enter x k v vs p ∙ at-new (same x k) (lookup x vs) (λ d. ap (λ (y : Value). lookup y vs) (same-true x k d) ∙ e)
+    go (some w) e = ap (lookup x) (new-there k v w vs e) ∙ at-old w (same x k) (lookup x vs) (λ d. ap (λ (y : Value). lookup y vs) (same-true x k d) ∙ e)
 
 -- ---- a map is what it maps its keys to
 

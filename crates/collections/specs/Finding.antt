@@ -6,7 +6,7 @@ use mathlib.Core.Option.{Option, none as absent, some}
 use Prim.Native.Nat.{ℕ, _+_, _≤_}
 use Rattle.values.specs.Value.{Kind, set, map, Value, collection, Items, count, size}
 use Rattle.values.specs.Items.{isMember, nth, lookup}
-use Rattle.values.specs.Place.{At, Holds}
+use Rattle.values.specs.Place.{At}
 use Rattle.collections.specs.declared.finding.Found.{Found}
 use Rattle.collections.specs.declared.finding.Found.the-variants.{At as Place, Nothing}
 use Rattle.collections.specs.declared.finding.Sought.{Sought}

@@ -1,7 +1,7 @@
 -- Laws of items one after the other, of their number and of the k-th. (Their sizes, bytes and soundness: `values`, Encoding.)
 use mathlib.Core.Path.{_≡_, refl, ap}
 use mathlib.Core.Bool.{Bool, true, false}
-use mathlib.Core.Option.{Option, none as absent, some}
+use mathlib.Core.Option.{none as absent, some}
 use Prim.Native.Nat.{ℕ, zero, suc, _+_, _≤_, _<_}
 use native.Mathlib.Omega.{arith}
 use Rattle.values.specs.Value.{Value, Items, none, more, count}

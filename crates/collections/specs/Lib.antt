@@ -4,4 +4,5 @@ pub mod Entries
 pub mod Seeking
 pub mod Finding
 pub mod Building
+pub mod Steps
 pub mod Built

@@ -1,12 +1,12 @@
 -- Laws of sets: a member put in order, who is a member, and that a set is its members.
-use mathlib.Core.Path.{_≡_, refl, sym, ap, ap₂, subst, _∙_}
+use mathlib.Core.Path.{_≡_, refl, sym, ap, ap₂, _∙_}
 use mathlib.Core.Bool.{Bool, true, false}
-use Prim.Native.Nat.{ℕ, suc, _+_, _≤_}
+use Prim.Native.Nat.{suc, _+_, _≤_}
 use native.Mathlib.Omega.{arith}
 use Rattle.values.specs.declared.Order.{Order}
 use Rattle.values.specs.declared.Order.the-variants.{Lower, Same, Higher}
 use Rattle.values.specs.Value.{Value, Items, none, more, count, size, sizes, order, Before, Ascending, Sound, SoundItems}
-use Rattle.values.specs.Items.{pick, isSame, same, isMember, inOrder, insert}
+use Rattle.values.specs.Items.{pick, isSame, same, isMember, insert}
 use Rattle.values.specs.Laws.{order-lower, same-equal, higher-flip, same-true, true-same}
 
 -- ---- the order and the same

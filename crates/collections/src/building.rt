@@ -6,7 +6,8 @@ ghost use lib.ListN.{length};
 ghost use Rattle.values.specs.Value.{set, sequence};
 ghost use Rattle.values.specs.Contract.{Moved};
 ghost use Rattle.collections.specs.Finding.{HoldsCollection};
-ghost use Rattle.collections.specs.Building.{Room, EntryRoom, Empties, Retags, Appends, Inserts, Enters, Gap, Fills, Slot, AddsAt, EntersAt};
+ghost use Rattle.collections.specs.Building.{Room, EntryRoom, Empties, Retags, Appends, Inserts, Enters};
+ghost use Rattle.collections.specs.Steps.{Gap, Fills, Slot, AddsAt, EntersAt};
 
 // The kinds of collections that are built.
 const SET: usize = 3;

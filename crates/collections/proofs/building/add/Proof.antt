@@ -3,53 +3,37 @@ use Rattle.collections.proofs.Additions.{add-full, add-gap, add-done}
 use borrow.Author.Needs.{needs}
 use Rattle.collections.proofs.building.add.Statement.{statement}
 use Rattle.collections.proofs.building.add.Tie as tie
-use Rattle.collections.proofs.building.add.Reads as reads
-use Rattle.collections.proofs.building.add.Lts as lts
-use Rattle.collections.proofs.building.put_before.Reads as put-before-reads
-use Rattle.values.proofs.length_of.Reads as length-of-reads
-use Rattle.values.proofs.put_head.Reads as put-head-reads
 
--- src/building.rt:57:9
 length-of-requires : tie.Need-length-of-requires
 length-of-requires c κs = search needs
 
--- src/building.rt:58:9
 length-of-requires-2 : tie.Need-length-of-requires-2
 length-of-requires-2 c κs = search needs
 
--- src/building.rt:59:23
 add-if1 : tie.Need-add-if1
 add-if1 c = search needs
 
--- src/building.rt:60:9
 same-length : tie.Need-same-length
 same-length c = search needs
 
--- src/building.rt:60:9
 returns : tie.Need-returns
 returns c = add-full (c .before .before .before .before .before .before .pre .0) (c .before .before .before .length-of .ensures .is) (c .before .length-of2 .ensures .is) (c .if1 .taken)
 
--- src/building.rt:62:22
 add-put-before : tie.Need-add-put-before
 add-put-before c = search needs
 
--- src/building.rt:62:5
 put-before-requires : tie.Need-put-before-requires
 put-before-requires c κs = add-gap (c .before .before .before .before .before .before .before .pre .0) (c .before .before .before .before .length-of .ensures .is) (c .before .before .length-of2 .ensures .is) (c .before .if1 .left)
 
--- src/building.rt:63:29
 add-put-head : tie.Need-add-put-head
 add-put-head c = search needs
 
--- src/building.rt:63:5
 put-head-requires : tie.Need-put-head-requires
 put-head-requires c κs = search needs
 
--- src/building.rt:53:1
 same-length-2 : tie.Need-same-length-2
 same-length-2 c = search needs
 
--- src/building.rt:53:1
 returns-2 : tie.Need-returns-2
 returns-2 c = add-done (c .before .before .before .before .before .before .before .before .before .before .before .before .before .before .pre .0) (c .before .before .before .before .before .before .before .before .before .before .before .length-of .ensures .is) (c .before .before .before .before .before .before .before .before .before .length-of2 .ensures .is) (c .before .before .before .before .before .before .before .before .if1 .left) (c .before .before .before .before .before .before .put-before .ensures) (c .before .before .put-head .ensures)
 

@@ -3,77 +3,55 @@ use Rattle.collections.proofs.Entering.{entry-full, value-gap, key-gap,
 use borrow.Author.Needs.{needs}
 use Rattle.collections.proofs.building.add_entry.Statement.{statement}
 use Rattle.collections.proofs.building.add_entry.Tie as tie
-use Rattle.collections.proofs.building.add_entry.Reads as reads
-use Rattle.collections.proofs.building.add_entry.Lts as lts
-use Rattle.collections.proofs.building.put_before.Reads as put-before-reads
-use Rattle.values.proofs.length_of.Reads as length-of-reads
-use Rattle.values.proofs.put_head.Reads as put-head-reads
 
--- src/building.rt:74:9
 length-of-requires : tie.Need-length-of-requires
 length-of-requires c κs = search needs
 
--- src/building.rt:75:9
 length-of-requires-2 : tie.Need-length-of-requires-2
 length-of-requires-2 c κs = search needs
 
--- src/building.rt:76:9
 length-of-requires-3 : tie.Need-length-of-requires-3
 length-of-requires-3 c κs = search needs
 
--- src/building.rt:77:23
 add-if1 : tie.Need-add-if1
 add-if1 c = search needs
 
--- src/building.rt:77:23
 add-if1-2 : tie.Need-add-if1-2
 add-if1-2 c = search needs
 
--- src/building.rt:78:9
 same-length : tie.Need-same-length
 same-length c = search needs
 
--- src/building.rt:78:9
 returns : tie.Need-returns
 returns c = entry-full (c .before .before .before .before .before .before .before .before .pre .0) (c .before .before .before .before .before .before .before .before .pre .1) (c .before .before .before .before .before .length-of .ensures .is) (c .before .before .before .length-of2 .ensures .is) (c .before .length-of3 .ensures .is) (c .if1 .taken)
 
--- src/building.rt:80:22
 add-put-before : tie.Need-add-put-before
 add-put-before c = search needs
 
--- src/building.rt:80:5
 put-before-requires : tie.Need-put-before-requires
 put-before-requires c κs = value-gap (c .before .before .before .before .before .before .before .before .before .pre .0) (c .before .before .before .before .before .before .before .before .before .pre .1) (c .before .before .before .before .before .before .length-of .ensures .is) (c .before .before .before .before .length-of2 .ensures .is) (c .before .before .length-of3 .ensures .is) (c .before .if1 .left)
 
--- src/building.rt:81:22
 add-put-before-2 : tie.Need-add-put-before-2
 add-put-before-2 c = search needs
 
--- src/building.rt:81:22
 add-put-before-3 : tie.Need-add-put-before-3
 add-put-before-3 c = search needs
 
--- src/building.rt:81:5
 put-before-requires-2 : tie.Need-put-before-requires-2
 put-before-requires-2 c κs = key-gap (c .before .before .before .before .before .before .before .before .before .before .before .before .before .pre .0) (c .before .before .before .before .before .before .before .before .before .before .before .before .before .pre .1) (c .before .before .before .before .before .before .before .before .before .before .length-of .ensures .is) (c .before .before .before .before .before .before .before .before .length-of2 .ensures .is) (c .before .before .before .before .before .before .length-of3 .ensures .is) (c .before .before .before .before .before .if1 .left) (c .before .before .before .put-before .ensures)
 
--- src/building.rt:82:29
 add-put-head : tie.Need-add-put-head
 add-put-head c = search needs
 
--- src/building.rt:82:29
 add-put-head-2 : tie.Need-add-put-head-2
 add-put-head-2 c = search needs
 
--- src/building.rt:82:5
 put-head-requires : tie.Need-put-head-requires
 put-head-requires c κs = search needs
 
--- src/building.rt:70:1
 same-length-2 : tie.Need-same-length-2
 same-length-2 c = search needs
 
--- src/building.rt:70:1
 returns-2 : tie.Need-returns-2
 returns-2 c = entry-done (c .before .before .before .before .before .before .before .before .before .before .before .before .before .before .before .before .before .before .before .before .pre .0) (c .before .before .before .before .before .before .before .before .before .before .before .before .before .before .before .before .before .before .before .before .pre .1) (c .before .before .before .before .before .before .before .before .before .before .before .before .before .before .before .before .before .length-of .ensures .is) (c .before .before .before .before .before .before .before .before .before .before .before .before .before .before .before .length-of2 .ensures .is) (c .before .before .before .before .before .before .before .before .before .before .before .before .before .length-of3 .ensures .is) (c .before .before .before .before .before .before .before .before .before .before .before .before .if1 .left) (c .before .before .before .before .before .before .before .before .before .before .put-before .ensures) (c .before .before .before .before .before .before .put-before2 .ensures) (c .before .before .put-head .ensures)
 

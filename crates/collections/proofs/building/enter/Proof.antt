@@ -9,29 +9,19 @@ use Rattle.collections.proofs.Entering.{entered-same, entered-clash, en
 use borrow.Author.Needs.{needs}
 use Rattle.collections.proofs.building.enter.Statement.{statement}
 use Rattle.collections.proofs.building.enter.Tie as tie
-use Rattle.collections.proofs.building.enter.Reads as reads
-use Rattle.collections.proofs.building.enter.Lts as lts
-use Rattle.collections.proofs.building.add_entry.Reads as add-entry-reads
-use Rattle.collections.proofs.finding.seek.Reads as seek-reads
-use Rattle.values.proofs.equal.Reads as equal-reads
-use Rattle.values.proofs.length_of.Reads as length-of-reads
 
--- src/building.rt:128:11
 seek-requires : tie.Need-seek-requires
 seek-requires c κs = search needs
 
--- src/building.rt:129:22
 enum-known-p : tie.Need-enum-known-p
 enum-known-p c = search needs
 
--- src/building.rt:130:17
 length-of-requires : tie.Need-length-of-requires
 length-of-requires c κs =
     let r = c .before .before .before .before .before .before .before .pre in
     let y = entry (c .before .before .before .before .seek .ensures) _ (c .before .before .p .given .1) (r .key .held .items) (r .key .item .value) (r .key .held .here) (r .key .item .here) in
     holds (y .key-at)
 
--- src/building.rt:131:33
 add-equal : tie.Need-add-equal
 add-equal c =
     let r = c .before .before .before .before .before .before .before .before .before .pre in
@@ -39,42 +29,33 @@ add-equal c =
     let f = y .value-at .fits in
     omega (arith, c .before .length-of .ensures .is)
 
--- src/building.rt:131:16
 equal-requires : tie.Need-equal-requires
 equal-requires c κs =
     let r = c .before .before .before .before .before .before .before .before .before .pre in
     let y = entry (c .before .before .before .before .before .before .seek .ensures) _ (c .before .before .before .before .p .given .1) (r .key .held .items) (r .key .item .value) (r .key .held .here) (r .key .item .here) in
     (holds (subst (λ (n : ℕ). At (c .before .before .before .before .before .before .before .before .before .args .s .now) (c .before .before .before .before .p .given .0 .0 + n) (y .value)) (sym (c .before .length-of .ensures .is)) (y .value-at)), r .value .item)
 
--- src/building.rt:132:17
 same-length : tie.Need-same-length
 same-length c = search needs
 
--- src/building.rt:132:17
 returns : tie.Need-returns
 returns c = entered-same (c .before .before .before .before .before .before .before .before .seek .ensures) _ (c .before .before .before .before .before .before .p .given .1) (c .before .before .before .length-of .ensures .is) _ (c .before .equal .ensures) (c .if1 .taken)
 
--- src/building.rt:136:24
 enum-known-p-2 : tie.Need-enum-known-p-2
 enum-known-p-2 c = search needs
 
--- src/building.rt:136:30
 add-entry-requires : tie.Need-add-entry-requires
 add-entry-requires c κs = entry-slots (c .before .before .before .before .seek .ensures) _ (c .before .before .p2 .given .1) (c .before .before .before .before .before .before .before .pre)
 
--- src/building.rt:124:1
 same-length-2 : tie.Need-same-length-2
 same-length-2 c = search needs
 
--- src/building.rt:124:1
 returns-2 : tie.Need-returns-2
 returns-2 c = entered-clash (c .before .before .before .before .before .before .before .before .seek .ensures) _ (c .before .before .before .before .before .before .p .given .1) (c .before .before .before .length-of .ensures .is) _ (c .before .equal .ensures) (c .if1 .left)
 
--- src/building.rt:124:1
 same-length-3 : tie.Need-same-length-3
 same-length-3 c = search needs
 
--- src/building.rt:124:1
 returns-3 : tie.Need-returns-3
 returns-3 c = entered-before (c .before .before .before .before .before .before .before .seek .ensures) _ (c .before .before .before .before .before .p2 .given .1) (c .before .before .add-entry .ensures)
 

@@ -3,19 +3,13 @@ use Rattle.collections.proofs.Additions.{emptied}
 use borrow.Author.Needs.{needs}
 use Rattle.collections.proofs.building.put_empty.Statement.{statement}
 use Rattle.collections.proofs.building.put_empty.Tie as tie
-use Rattle.collections.proofs.building.put_empty.Reads as reads
-use Rattle.collections.proofs.building.put_empty.Lts as lts
-use Rattle.values.proofs.put_head.Reads as put-head-reads
 
--- src/building.rt:72:5
 put-head-requires : tie.Need-put-head-requires
 put-head-requires c κs = search needs
 
--- src/building.rt:68:1
 same-length : tie.Need-same-length
 same-length c = search needs
 
--- src/building.rt:68:1
 returns : tie.Need-returns
 returns c = emptied (c .before .before .before .before .before .pre .0) (c .before .before .put-head .ensures)
 

@@ -5,27 +5,19 @@ use Rattle.collections.proofs.Additions.{retagged}
 use borrow.Author.Needs.{needs}
 use Rattle.collections.proofs.building.retag.Statement.{statement}
 use Rattle.collections.proofs.building.retag.Tie as tie
-use Rattle.collections.proofs.building.retag.Reads as reads
-use Rattle.collections.proofs.building.retag.Lts as lts
-use Rattle.values.proofs.length_of.Reads as length-of-reads
-use Rattle.values.proofs.put_head.Reads as put-head-reads
 
--- src/building.rt:80:9
 length-of-requires : tie.Need-length-of-requires
 length-of-requires c κs = holds (c .before .before .pre .0 .here)
 
--- src/building.rt:81:5
 put-head-requires : tie.Need-put-head-requires
 put-head-requires c κs =
     let h = holds (c .before .before .before .before .pre .0 .here) in
     let high = c .before .length-of .ensures .high in
     (omega arith, omega arith, c .before .before .before .before .pre .1)
 
--- src/building.rt:76:1
 same-length : tie.Need-same-length
 same-length c = search needs
 
--- src/building.rt:76:1
 returns : tie.Need-returns
 returns c = retagged (c .before .before .before .before .length-of .ensures .is) (c .before .before .put-head .ensures)
 

@@ -1,12 +1,9 @@
 -- `collections::building::shift_up` meets its contract.
 use Prim.Native.Nat.{_+_}
 use native.Mathlib.Omega.{arith}
-use borrow.Author.Needs.{needs}
 use Rattle.collections.proofs.Shifting.{Shifting, shift-start, shift-step, shift-end}
 use Rattle.collections.proofs.building.shift_up.Statement.{statement}
 use Rattle.collections.proofs.building.shift_up.Tie as tie
-use Rattle.collections.proofs.building.shift_up.Reads as reads
-use Rattle.collections.proofs.building.shift_up.Lts as lts
 
 abbrev Inv-loop : tie.InvT-loop
 Inv-loop s₀ at n by i₀ s i = Shifting s₀ s at (at + by) n i

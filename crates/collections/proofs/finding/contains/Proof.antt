@@ -3,27 +3,19 @@ use Rattle.collections.proofs.Sights.{contained, not-contained}
 use borrow.Author.Needs.{needs}
 use Rattle.collections.proofs.finding.contains.Statement.{statement}
 use Rattle.collections.proofs.finding.contains.Tie as tie
-use Rattle.collections.proofs.finding.contains.Reads as reads
-use Rattle.collections.proofs.finding.contains.Lts as lts
-use Rattle.collections.proofs.finding.seek.Reads as seek-reads
 
--- src/finding.rt:53:11
 seek-requires : tie.Need-seek-requires
 seek-requires c κs = search needs
 
--- src/finding.rt:54:28
 enum-told : tie.Need-enum-told
 enum-told c = search needs
 
--- src/finding.rt:55:30
 enum-told-2 : tie.Need-enum-told-2
 enum-told-2 c = search needs
 
--- src/finding.rt:49:1
 returns : tie.Need-returns
 returns c = contained (c .before .before .seek .ensures) _ (c .enum-told .given .1)
 
--- src/finding.rt:49:1
 returns-2 : tie.Need-returns-2
 returns-2 c = not-contained (c .before .before .seek .ensures) _ (c .enum-told2 .given .1)
 

@@ -1,16 +1,13 @@
 -- `collections::finding::count_of` meets its contract: what is counted and what is left are all.
-use mathlib.Core.Path.{_≡_, refl, sym, ap, _∙_}
+use mathlib.Core.Path.{_≡_, ap}
 use Prim.Native.Nat.{ℕ, _+_, _-_, _≤_}
 use native.Mathlib.Omega.{arith}
 use Rattle.integers.specs.Bytes.{word}
-use Rattle.values.specs.Value.{Items, none, more, count}
+use Rattle.values.specs.Value.{Items, count}
 use Rattle.values.specs.Records.{holds}
 use Rattle.collections.proofs.Walks.{Walk, walk-start, walk-run, walk-step, walk-end}
 use Rattle.collections.proofs.finding.count_of.Statement.{statement}
 use Rattle.collections.proofs.finding.count_of.Tie as tie
-use Rattle.collections.proofs.finding.count_of.Reads as reads
-use Rattle.collections.proofs.finding.count_of.Lts as lts
-use Rattle.values.proofs.length_of.Reads as length-of-reads
 
 abbrev Inv-loop : tie.InvT-loop
 Inv-loop s at end p₀ n₀ p n = (end ≡ at + word s at) × (n ≤ p) × Walk s at (λ (vs rest : Items). n + count rest ≡ count vs) p

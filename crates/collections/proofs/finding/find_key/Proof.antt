@@ -5,26 +5,18 @@ use Rattle.collections.proofs.Sights.{entry, at-key, no-key}
 use borrow.Author.Needs.{needs}
 use Rattle.collections.proofs.finding.find_key.Statement.{statement}
 use Rattle.collections.proofs.finding.find_key.Tie as tie
-use Rattle.collections.proofs.finding.find_key.Reads as reads
-use Rattle.collections.proofs.finding.find_key.Lts as lts
-use Rattle.collections.proofs.finding.seek.Reads as seek-reads
-use Rattle.values.proofs.length_of.Reads as length-of-reads
 
--- src/finding.rt:64:11
 seek-requires : tie.Need-seek-requires
 seek-requires c κs = search needs
 
--- src/finding.rt:65:22
 enum-known-p : tie.Need-enum-known-p
 enum-known-p c = search needs
 
--- src/finding.rt:65:42
 length-of-requires : tie.Need-length-of-requires
 length-of-requires c κs =
     let h = c .before .before .before .before .before .pre in
     holds (entry (c .before .before .before .seek .ensures) _ (c .before .p .given .1) (h .0 .items) (h .1 .value) (h .0 .here) (h .1 .here) .key-at)
 
--- src/finding.rt:65:38
 add-t8 : tie.Need-add-t8
 add-t8 c =
     let h = c .before .before .before .before .before .before .pre in
@@ -32,15 +24,12 @@ add-t8 c =
     let f = y .value-at .fits in
     omega (arith, c .length-of .ensures .is)
 
--- src/finding.rt:66:30
 enum-told : tie.Need-enum-told
 enum-told c = search needs
 
--- src/finding.rt:60:1
 returns : tie.Need-returns
 returns c = at-key (c .before .before .before .before .seek .ensures) _ (c .before .before .p .given .1) _ (c .length-of .ensures .is)
 
--- src/finding.rt:60:1
 returns-2 : tie.Need-returns-2
 returns-2 c = no-key (c .before .before .seek .ensures) _ (c .enum-told .given .1)
 

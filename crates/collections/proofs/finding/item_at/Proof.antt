@@ -1,18 +1,14 @@
 -- `collections::finding::item_at` meets its contract: the item looked for is, of those left, the one that is `left` items on.
-use mathlib.Core.Path.{_≡_, refl, sym, ap, subst, _∙_}
-use mathlib.Core.Option.{Option}
+use mathlib.Core.Path.{_≡_, refl, ap, _∙_}
 use Prim.Native.Nat.{ℕ, _+_, _-_}
 use native.Mathlib.Omega.{arith}
 use Rattle.integers.specs.Bytes.{word}
 use Rattle.values.specs.Value.{Items}
 use Rattle.values.specs.Items.{nth}
 use Rattle.values.specs.Records.{holds}
-use Rattle.collections.proofs.Walks.{Walk, walk-start, walk-run, walk-step, walk-end, nth-on, item-found, item-missing}
+use Rattle.collections.proofs.Walks.{Walk, walk-start, walk-run, walk-step, nth-on, item-found, item-missing}
 use Rattle.collections.proofs.finding.item_at.Statement.{statement}
 use Rattle.collections.proofs.finding.item_at.Tie as tie
-use Rattle.collections.proofs.finding.item_at.Reads as reads
-use Rattle.collections.proofs.finding.item_at.Lts as lts
-use Rattle.values.proofs.length_of.Reads as length-of-reads
 
 abbrev Inv-loop : tie.InvT-loop
 Inv-loop s at k end p₀ left₀ p left = (end ≡ at + word s at) × Walk s at (λ (vs rest : Items). nth vs k ≡ nth rest left) p

@@ -1,5 +1,5 @@
 -- `collections::finding::seek` meets its contract: what is found from here on is what is found from the start on.
-use mathlib.Core.Path.{_≡_, refl, sym, ap, subst, _∙_}
+use mathlib.Core.Path.{_≡_, sym, ap, subst}
 use mathlib.Core.Bool.{Bool}
 use mathlib.Core.Logic.{⊎-elim}
 use Prim.Native.Nat.{ℕ, _+_, _-_, _<_}
@@ -14,10 +14,6 @@ use Rattle.collections.proofs.Walks.{walk-run}
 use Rattle.collections.proofs.Looking.{Looking, look-start, look-end, look-here, look-on, look-past}
 use Rattle.collections.proofs.finding.seek.Statement.{statement}
 use Rattle.collections.proofs.finding.seek.Tie as tie
-use Rattle.collections.proofs.finding.seek.Reads as reads
-use Rattle.collections.proofs.finding.seek.Lts as lts
-use Rattle.values.proofs.compare.Reads as compare-reads
-use Rattle.values.proofs.length_of.Reads as length-of-reads
 
 abbrev Inv-loop : tie.InvT-loop
 Inv-loop s at x entries end p₀ key₀ p key = (end ≡ at + word s at) × Looking s at x entries p key
