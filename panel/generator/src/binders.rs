@@ -64,14 +64,14 @@ impl Writer {
                 (pattern, self.distinct_members(&part, count, depth - 1))
             }
             2 | 3 => {
-                let most = self.random.below(4);
-                let shape = Shape::set(part, most);
+                let most = 1 + self.random.below(4);
+                let shape = Shape::set(part.clone(), most);
                 let halves = [shape.clone(), shape.clone()];
                 let pattern = self.pattern_list(kind::P_UNION, &halves, 1 << most, true, 1, names);
-                (pattern, self.split_operand(&shape, depth))
+                (pattern, self.split_operand(&part, most, depth))
             }
             4 | 5 => {
-                let most = self.random.below(5);
+                let most = 1 + self.random.below(4);
                 let shape = Shape::sequence(part, most);
                 let halves = [shape.clone(), shape.clone()];
                 let ways = most + 1;
@@ -95,12 +95,15 @@ impl Writer {
     }
 
     /// A set to be split; wildly, one of 7 to 9 members.
-    fn split_operand(&mut self, shape: &Shape, depth: usize) -> usize {
+    fn split_operand(&mut self, member: &Shape, most: usize, depth: usize) -> usize {
         if self.wildly(12) {
             let most = self.random.between(7, 9);
             return self.out.range(1, most);
         }
-        self.expression(shape, depth - 1)
+        if self.random.once_in(2) {
+            return self.distinct_members(member, most, depth - 1);
+        }
+        self.expression(&Shape::set(member.clone(), most), depth - 1)
     }
 
     /// A let-be; nothing where a choice may not stand here.
@@ -135,13 +138,16 @@ impl Writer {
         };
         names.push((name, shape.clone()));
         let pattern = self.out.p_name(name);
-        let count = 1 + self.random.below(3);
+        let sought = *shape == Shape::Integer && !self.random.once_in(8);
+        let count = if sought { 1 + self.random.below(3) } else { 1 };
         let set = self.distinct_members(shape, count, depth - 1);
-        let condition = if *shape == Shape::Integer && !self.random.once_in(4) {
+        let condition = if sought {
             let wanted = self.first_literal(set);
             let bound = self.out.name(name);
             let literal = self.out.integer(wanted);
             self.out.binary(binary::EQUAL, bound, literal)
+        } else if self.random.once_in(2) {
+            self.out.boolean(true)
         } else {
             self.condition(&names, depth)
         };
@@ -232,7 +238,7 @@ impl Writer {
     /// A pattern over the members of a set, with at most so many bindings in all.
     fn set_binding(&mut self, most: usize, depth: usize) -> Binding {
         let member = Shape::random(&mut self.random, 1);
-        let count = 1 + self.random.below(most.clamp(1, 4));
+        let count = most.clamp(1, 2) + self.random.below(most.clamp(2, 4) - 1);
         let before = self.out.records.len();
         let mut names = Names::new();
         let mut pattern = self.pattern(&member, true, 2, &mut names);
@@ -244,7 +250,7 @@ impl Writer {
             pattern = Pattern { record, bindings };
         }
         pattern.bindings *= count;
-        let operand = if self.random.once_in(3) {
+        let operand = if self.random.once_in(5) {
             self.expression(&Shape::set(member, count), depth - 1)
         } else {
             self.distinct_members(&member, count, depth - 1)
@@ -261,14 +267,16 @@ impl Writer {
         let outer = std::mem::replace(&mut self.in_condition, true);
         let integers = names.iter().filter(|(_, shape)| *shape == Shape::Integer);
         let integers: Vec<u8> = integers.map(|&(name, _)| name).collect();
-        let record = if self.random.once_in(5) {
+        let plain = if integers.is_empty() { 2 } else { 4 };
+        let record = if self.random.once_in(plain) {
             self.out.boolean(true)
-        } else if !integers.is_empty() && self.random.once_in(2) {
+        } else if !integers.is_empty() && !self.random.once_in(3) {
             let bound = self.random.pick(&integers);
             let left = self.out.name(bound);
-            let literal = self.random.between(0, 5);
+            let literal = self.random.between(0, 4);
             let right = self.out.integer(literal);
             let operator = self.random.pick(&[
+                binary::UNEQUAL,
                 binary::UNEQUAL,
                 binary::BELOW,
                 binary::AT_MOST,

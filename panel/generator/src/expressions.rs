@@ -15,7 +15,7 @@ impl Writer {
         if depth == 0 || self.fuel <= 0 || self.random.once_in(6) {
             return self.leaf(shape);
         }
-        if self.random.once_in(3) {
+        if self.random.once_in(if self.in_condition { 4 } else { 2 }) {
             return self.of_any_shape(shape, depth);
         }
         match shape {
@@ -70,7 +70,7 @@ impl Writer {
     }
 
     /// The forms that can give any shape.
-    fn of_any_shape(&mut self, shape: &Shape, depth: usize) -> usize {
+    pub fn of_any_shape(&mut self, shape: &Shape, depth: usize) -> usize {
         match self.random.below(10) {
             0 => {
                 let test = self.expression(&Shape::Boolean, depth - 1);
@@ -161,7 +161,9 @@ impl Writer {
             _ => {
                 let operator = self.random.pick(&[binary::DIV, binary::REM, binary::MOD]);
                 let left = self.expression(&Shape::Integer, depth - 1);
-                let right = if self.random.once_in(5) {
+                let right = if self.wildly(3) {
+                    self.out.integer(0)
+                } else if self.random.once_in(5) {
                     self.expression(&Shape::Integer, depth - 1)
                 } else {
                     let divisor = self.random.pick(&[-3, -2, -1, 1, 2, 3, 5]);
@@ -175,12 +177,18 @@ impl Writer {
     fn set(&mut self, member: &Shape, most: usize, depth: usize) -> usize {
         let own = Shape::set(member.clone(), most);
         let half = Shape::set(member.clone(), most / 2);
+        if *member == Shape::Integer && self.wildly(8) {
+            return self.large_range(depth);
+        }
         match self.random.below(13) {
             0 | 1 => {
                 let count = self.random.below(most.min(4) + 1);
                 self.distinct_members(member, count, depth - 1)
             }
-            2 if *member == Shape::Integer => self.set_range(most, depth),
+            2 if *member == Shape::Integer => {
+                let from = self.random.between(-1, 3);
+                self.out.range(from, from + most as i32 - 1)
+            }
             3 => {
                 let parts = Shape::set(half, 2);
                 self.unary(unary::DUNION, &parts, depth)
@@ -213,16 +221,12 @@ impl Writer {
         }
     }
 
-    /// A set range of literals, or wildly one that may be very large.
-    fn set_range(&mut self, most: usize, depth: usize) -> usize {
-        if self.wildly(4) {
-            let from = self.expression(&Shape::Integer, depth - 1);
-            let far = self.random.between(40, 90);
-            let to = self.out.integer(far);
-            return self.out.node(kind::RANGE, &[from, to]);
-        }
-        let from = self.random.between(-1, 3);
-        self.out.range(from, from + most as i32 - 1)
+    /// A set range that may be too large.
+    fn large_range(&mut self, depth: usize) -> usize {
+        let from = self.expression(&Shape::Integer, depth - 1);
+        let far = self.random.between(50, 90);
+        let to = self.out.integer(far);
+        self.out.node(kind::RANGE, &[from, to])
     }
 
     fn sequence(&mut self, item: &Shape, most: usize, depth: usize) -> usize {

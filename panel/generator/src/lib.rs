@@ -47,11 +47,15 @@ fn sheet(seed: u64, most_records: usize) -> Builder {
 }
 
 fn attempt(mut random: Random, most_records: usize, wild: bool) -> Builder {
-    let fuel = 2 + random.below(most_records / 2);
+    let fuel = 4 + random.below(most_records / 2);
     let depth = 1 + random.below(8);
     let shape = Shape::random(&mut random, 2);
     let mut writer = Writer::new(random, fuel, wild);
-    writer.expression(&shape, depth);
+    if writer.random.once_in(4) {
+        writer.expression(&shape, depth);
+    } else {
+        writer.of_any_shape(&shape, depth);
+    }
     if writer.random.once_in(3) {
         return writer.out.shuffled(&mut writer.random);
     }

@@ -31,13 +31,13 @@ pub fn at_limits() -> Vec<(&'static str, Vec<u8>)> {
         ("2401 bytes", wide_records(2401)),
     ];
     sheets.extend(
-        LET_LIKE.map(|(label, kind, lengths)| (label, build(|b| bindings(b, kind, lengths)))),
+        BINDERS.map(|(label, kind, lengths)| (label, build(|b| bindings(b, kind, lengths)))),
     );
     sheets
 }
 
 /// Binders of 255 bindings (51 × 5) and of 256 (32 × 8), as splits of two sequences.
-const LET_LIKE: [(&str, u16, [i32; 2]); 16] = [
+const BINDERS: [(&str, u16, [i32; 2]); 14] = [
     ("255 bindings of a let", kind::LET, [50, 4]),
     ("256 bindings of a let", kind::LET, [31, 7]),
     ("255 bindings of a let-be", kind::LET_BE, [50, 4]),
@@ -68,8 +68,6 @@ const LET_LIKE: [(&str, u16, [i32; 2]); 16] = [
         kind::MAP_COMPREHENSION,
         [31, 7],
     ),
-    ("255 bindings in reverse order", kind::LET, [4, 50]),
-    ("256 bindings in reverse order", kind::LET, [7, 31]),
 ];
 
 fn build(write: impl FnOnce(&mut Builder) -> usize) -> Vec<u8> {
@@ -222,62 +220,45 @@ fn bindings(b: &mut Builder, kind: u16, lengths: [i32; 2]) -> usize {
     let right = b.node(kind::P_CONCATENATION, &halves);
     let pattern = b.node(kind::P_TUPLE, &[left, right]);
     let pair = [numbers(b, lengths[0]), numbers(b, lengths[1])];
-    let pair = b.node(kind::TUPLE, &pair);
-    if kind == kind::LET {
-        let body = split_sizes(b);
-        return b.node(kind, &[pattern, pair, body]);
+    let mut operand = b.node(kind::TUPLE, &pair);
+    if kind != kind::LET {
+        operand = b.node(kind::SET, &[operand]);
     }
-    let set = b.node(kind::SET, &[pair]);
-    let mut operands = vec![pattern, set];
-    match kind {
-        kind::LET_BE => {
-            operands.push(b.boolean(true));
-            operands.push(split_sizes(b));
-        }
-        kind::SET_COMPREHENSION => {
-            operands.push(b.boolean(true));
-            operands.push(first_size(b));
-        }
-        kind::MAP_COMPREHENSION => {
-            operands.push(b.boolean(true));
-            operands.push(second_size(b));
-            operands.push(b.integer(0));
-        }
-        kind::EXISTS1 => {
-            let (size, zero) = (split_total(b), b.integer(0));
-            operands.push(b.binary(binary::EQUAL, size, zero));
-        }
-        _ => {
-            let (size, zero) = (split_total(b), b.integer(0));
-            let operator = if kind == kind::FORALL {
-                binary::AT_LEAST
-            } else {
-                binary::BELOW
-            };
-            operands.push(b.binary(operator, size, zero));
-        }
-    }
+    let mut operands = vec![pattern, operand];
+    operands.extend(covered(b, kind));
     b.node(kind, &operands)
 }
 
-fn first_size(b: &mut Builder) -> usize {
-    let half = b.name(1);
-    b.unary(unary::LEN, half)
+/// The operands that the names of a binder of splits cover.
+fn covered(b: &mut Builder, kind: u16) -> Vec<usize> {
+    match kind {
+        kind::LET => vec![split_sizes(b)],
+        kind::LET_BE => vec![b.boolean(true), split_sizes(b)],
+        kind::SET_COMPREHENSION => vec![b.boolean(true), size(b, 1)],
+        kind::MAP_COMPREHENSION => vec![b.boolean(true), size(b, 3), b.integer(0)],
+        kind::FORALL => vec![total_compared(b, binary::AT_LEAST)],
+        kind::EXISTS => vec![total_compared(b, binary::BELOW)],
+        _ => vec![total_compared(b, binary::EQUAL)],
+    }
 }
 
-fn second_size(b: &mut Builder) -> usize {
-    let half = b.name(3);
+/// The length of the half that a name holds.
+fn size(b: &mut Builder, name: u8) -> usize {
+    let half = b.name(name);
     b.unary(unary::LEN, half)
 }
 
 fn split_sizes(b: &mut Builder) -> usize {
-    let sizes = [first_size(b), second_size(b)];
+    let sizes = [size(b, 1), size(b, 3)];
     b.node(kind::TUPLE, &sizes)
 }
 
-fn split_total(b: &mut Builder) -> usize {
-    let (left, right) = (first_size(b), second_size(b));
-    b.binary(binary::PLUS, left, right)
+/// The total length of both first halves, compared with 0.
+fn total_compared(b: &mut Builder, operator: u8) -> usize {
+    let (left, right) = (size(b, 1), size(b, 3));
+    let total = b.binary(binary::PLUS, left, right);
+    let zero = b.integer(0);
+    b.binary(operator, total, zero)
 }
 
 #[cfg(test)]

@@ -39,16 +39,27 @@ fn text_to_bytes_and_back() {
     assert_eq!(encode(&canonical).unwrap(), table);
 }
 
+/// Tables that break rule 4 are the ones that cannot be decoded.
+#[test]
+fn malformed_tables_are_refused() {
+    for seed in 0..700 {
+        let (rule, table) = generator::damaged(seed);
+        if rule != 3 {
+            assert_eq!(decode(&table).is_err(), rule == 4, "seed {seed}");
+        }
+    }
+}
+
 /// Of all records of a kind with a few contents, those that decode come back the same.
 #[test]
 fn bytes_to_text_and_back() {
     let mut well_formed = 0;
-    for kind in 0..300u16 {
+    for kind in 0..300 {
         for length in 4..14u16 {
             for first in 0..32u8 {
                 let mut record = Vec::from(length.to_le_bytes());
-                record.extend(kind.to_le_bytes());
-                record.extend((0..length - 4).map(|index| first.wrapping_add(41 * index as u8)));
+                record.extend(u16::to_le_bytes(kind));
+                record.extend((0..length - 4).map(|index| first.wrapping_add((41 * index) as u8)));
                 if let Ok(text) = decode(&record) {
                     assert_eq!(encode(&text).unwrap(), record);
                     well_formed += 1;
@@ -57,4 +68,14 @@ fn bytes_to_text_and_back() {
         }
     }
     assert!(well_formed > 1000);
+}
+
+#[test]
+fn random_sheets_and_back() {
+    for seed in 0..500 {
+        let table = generator::accepted(seed);
+        let text = decode(&table).unwrap_or_else(|error| panic!("seed {seed}: {error}"));
+        assert_eq!(encode(&text).unwrap(), table, "seed {seed}");
+        assert_eq!(decode(&encode(&text).unwrap()).unwrap(), text);
+    }
 }
