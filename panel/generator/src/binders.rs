@@ -115,7 +115,9 @@ impl Writer {
 
     /// A set to be split; wildly, one of 7 to 9 members.
     fn split_operand(&mut self, member: &Shape, most: usize, depth: usize) -> usize {
-        if self.wildly(12) {
+        let splits_of_seven = 128f64.ln();
+        if self.times == 1 && self.lists > splits_of_seven && self.wildly(10) {
+            self.lists -= splits_of_seven;
             let most = self.random.between(7, 9);
             return self.out.range(1, most);
         }
