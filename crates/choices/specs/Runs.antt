@@ -26,6 +26,11 @@ runOn (give a) v = ran a v
 runOn (stop r p) v = refused r p 0 v
 runOn (choose p n ways) v = at (answerOf v n) p n v (λ c. runOn (ways c) (afterwards v n (Taken c)))
 
+-- The state after it.
+abbrev pub stateOf : {A : Type 0} → Ran A → View
+stateOf (ran a v) = v
+stateOf (refused r p n v) = v
+
 -- A run goes on where it came to a value.
 abbrev pub further : {A B : Type 0} → Ran A → (A → View → Ran B) → Ran B
 further (ran a v) f = f a v

@@ -191,3 +191,28 @@ stopped-number {A} (choose q m ways) (suc k) (c ∷ l) r p left n e = go (ltb c 
     go : (b : Bool) → ltb c m ≡ b → (c < m → follow (ways c) k l ≡ stopped r p left → (20 ≤ r) × (r ≤ 31)) → pick b (follow (ways c) k l) (beyond q m (c ∷ l)) ≡ stopped r p left → (20 ≤ r) × (r ≤ 31)
     go true h rec d = rec (ltb-true c m h) d
     go false h rec d = let z : _≡_ {A = ℕ} 0 1 = cc in absurd (omega arith)
+
+-- A value, or a refusal below 32.
+abbrev pub Whole : {A : Type 0} → Final A → Type 0
+Whole (result a) = Unit {0}
+Whole (refuses r p n) = r < 32
+
+whole-ended : {A : Type 0} (last : ℕ) (r : Run A) → Whole (final last r) → Ended r
+whole-ended last (gave a k []) h = refl
+whole-ended last (gave a k (c ∷ l)) h = absurd (omega arith)
+whole-ended last (stopped r p []) h = refl
+whole-ended last (stopped r p (c ∷ l)) h = absurd (omega arith)
+whole-ended last (short p n) h = absurd (omega arith)
+whole-ended last (beyond p n l) h = absurd (omega arith)
+
+ended-whole : {A : Type 0} (last : ℕ) (r : Run A) → ((n p : ℕ) (l : List ℕ) → r ≡ stopped n p l → n ≤ 31) → Ended r → Whole (final last r)
+ended-whole last (gave a k []) m h = tt
+ended-whole last (gave a k (c ∷ l)) m h = let z : _≡_ {A = ℕ} 0 1 = cc in absurd (omega arith)
+ended-whole last (stopped r p []) m h = omega (arith, m r p [] refl)
+ended-whole last (stopped r p (c ∷ l)) m h = let z : _≡_ {A = ℕ} 0 1 = cc in absurd (omega arith)
+ended-whole last (short p n) m h = absurd h
+ended-whole last (beyond p n l) m h = absurd h
+
+-- A list is complete exactly when it finally answers a value or a refusal below 32.
+pub complete-whole : {A : Type 0} (t : Tree A) (l : List ℕ) (last : ℕ) → Numbered t → Complete t l ↔ Whole (final last (run t l))
+complete-whole t l last m = (ended-whole last (run t l) (λ r p left e. stopped-number t limit l r p left m e .1), whole-ended last (run t l))
