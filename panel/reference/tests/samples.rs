@@ -79,7 +79,7 @@ fn map_enumerations() {
 
 #[test]
 fn height_32_is_accepted_and_33_is_not() {
-    let of_height = |height| (1..height).fold(int(1), |operand, _| un(unary::MINUS, operand));
+    let of_height = |height| (1..height).fold(int(1), |operand, _| un(unary::NEGATE, operand));
     assert_eq!(check(&of_height(32).table()), Ok(32));
     assert_eq!(of_height(32).prints(), "-1");
     assert_eq!(of_height(33).answer(&[]), (9, 32, 0));

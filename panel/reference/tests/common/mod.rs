@@ -6,7 +6,7 @@ use reference::eval::{evaluate, Evaluation};
 /// Unary operators.
 pub mod unary {
     pub const NOT: u8 = 1;
-    pub const MINUS: u8 = 2;
+    pub const NEGATE: u8 = 2;
     pub const ABS: u8 = 3;
     pub const CARD: u8 = 4;
     pub const DUNION: u8 = 5;
