@@ -141,9 +141,8 @@ impl Meaning<'_> {
     /// The values of operands, in written order.
     fn values(&self, operands: &[usize], state: &Binding) -> Loose<Vec<Value>> {
         operands.iter().fold(certain(vec![]), |values, &operand| {
-            let outcomes = self.outcomes(operand, state);
-            then(values, |values| {
-                then(outcomes.clone(), |value| {
+            then(values, |values: Vec<Value>| {
+                then(self.outcomes(operand, state), |value| {
                     certain([values.as_slice(), &[value]].concat())
                 })
             })
@@ -188,9 +187,9 @@ impl Meaning<'_> {
     fn satisfying(&self, bind: &Bind, state: &Binding, place: usize) -> Loose<Vec<Binding>> {
         then(self.bindings(bind, state, place, operators::set), |all| {
             all.iter().fold(certain(vec![]), |satisfying, binding| {
-                let truths = self.truths(bind.condition, &extended(state, binding), place);
+                let state = extended(state, binding);
                 then(satisfying, |satisfying: Vec<Binding>| {
-                    then(truths.clone(), |truth| {
+                    then(self.truths(bind.condition, &state, place), |truth| {
                         let mut satisfying = satisfying.clone();
                         satisfying.extend(truth.then(|| binding.clone()));
                         certain(satisfying)
