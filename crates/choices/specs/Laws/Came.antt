@@ -3,7 +3,8 @@ use mathlib.Core.Path.{_≡_, refl, sym, ap, _∙_, subst}
 use mathlib.Core.Bool.{Bool, true, false}
 use mathlib.Core.Option.{some}
 use mathlib.Core.List.{List, []}
-use Prim.Native.Nat.{ℕ}
+use Prim.Native.Nat.{ℕ, _≤_, _<_}
+use borrow.Author.Tests.{lt-ltb, le-ltb}
 use Rattle.choices.specs.declared.Choices.{Choices}
 use Rattle.choices.specs.declared.Picked.{Picked}
 use Rattle.choices.specs.declared.Advanced.{Advanced}
@@ -14,7 +15,7 @@ use Rattle.choices.specs.Paths.{firstList, nextList}
 use Rattle.choices.specs.State.{View, view, fresh, Sound, Made, Chosen, Moved}
 use Rattle.choices.specs.Runs.{runOn, stateOf, ranAs, atEnd, settle, endedBy, Came}
 use Rattle.choices.specs.Laws.Runs.{bind-ran, bind-refused, chosen, run-gives, state-as, run-final, run-complete}
-use Rattle.choices.specs.Laws.States.{Holds, end-holds}
+use Rattle.choices.specs.Laws.States.{unless-none, unless-some, Holds, end-holds}
 use Rattle.choices.specs.Laws.Stepping.{first-run, step-more}
 
 -- ---- the parts of a run
@@ -56,6 +57,23 @@ came-gives {t = t} {a = a} {c = c} {d = d} f h = run-gives t (view c) (view d) a
 state-ended : {A : Type 0} (f : Final A) (v : View) → stateOf (endedBy f v) ≡ v
 state-ended (result a) v = refl
 state-ended (refuses r p n) v = refl
+
+-- What it finally answers, by the tests that tell it.
+module _ {A : Type 0} (last : ℕ) (d : Choices) (s : Sound d) where
+  pub settled-value : (a : A) → d .len ≤ d .used → settle last (endedBy (result a) (view d)) ≡ result a
+  settled-value a h = unless-none d s last (result a) h
+
+  pub settled-value-left : (a : A) → d .used < d .len → settle last (endedBy (result a) (view d)) ≡ refuses 34 last 0
+  settled-value-left a h = unless-some d s last (result a) h
+
+  pub settled-refusal : (r p n : ℕ) → r < 32 → d .len ≤ d .used → settle {A = A} last (endedBy (refuses r p n) (view d)) ≡ refuses r p n
+  settled-refusal r p n b h = rw (lt-ltb r 32 b) (unless-none d s p (refuses r p n) h)
+
+  pub settled-refusal-left : (r p n : ℕ) → r < 32 → d .used < d .len → settle {A = A} last (endedBy (refuses r p n) (view d)) ≡ refuses 34 p 0
+  settled-refusal-left r p n b h = rw (lt-ltb r 32 b) (unless-some d s p (refuses r p n) h)
+
+  pub settled-list : (r p n : ℕ) → 32 ≤ r → settle {A = A} last (endedBy (refuses r p n) (view d)) ≡ refuses r p n
+  settled-list r p n b = rw (le-ltb r 32 b)
 
 module _ {A : Type 0} (t : Tree A) {f : Final A} {c d : Choices} (h : Came t c f d) where
   -- Under a given list it finally answers as the list's run does.
