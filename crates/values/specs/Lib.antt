@@ -1,3 +1,5 @@
 pub mod Value
 pub mod Items
 pub mod Place
+pub mod Laws
+pub mod Encoding
