@@ -3,3 +3,6 @@ pub mod Items
 pub mod Place
 pub mod Laws
 pub mod Encoding
+pub mod Records
+pub mod Frame
+pub mod Written
