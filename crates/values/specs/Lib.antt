@@ -6,3 +6,4 @@ pub mod Encoding
 pub mod Records
 pub mod Frame
 pub mod Written
+pub mod Contract

@@ -27,8 +27,13 @@ above-store s at to [] h = refl
 above-store s at to (b ∷ bs) h = above-store (set s at b) (suc at) to bs (omega arith) ∙ drop-set-lt to s at b (omega arith)
 
 -- a store changes nothing outside it
-pub stored : (s : List ℕ) (at : ℕ) (bs : List ℕ) {n : ℕ} → length bs ≡ n → Outside s (sets s at bs) at (at + n)
-stored s at bs {n} e = record { long = length-sets s at bs; below = below-store s at at bs (omega arith); above = above-store s at (at + n) bs (omega arith) }
+pub stored : (s : List ℕ) {t : List ℕ} {at : ℕ} (bs : List ℕ) {n : ℕ} → t ≡ sets s at bs → length bs ≡ n → Outside s t at (at + n)
+stored s {t} {at} bs {n} q e =
+    record {
+      long = ap length q ∙ length-sets s at bs;
+      below = ap (take at) q ∙ below-store s at at bs (omega arith);
+      above = ap (drop (at + n)) q ∙ above-store s at (at + n) bs (omega arith);
+    }
 
 -- one store after another, next to it, is one store of both
 pub stores : (s : List ℕ) (at : ℕ) (bs cs : List ℕ) {n : ℕ} → length bs ≡ n → sets (sets s at bs) (at + n) cs ≡ sets s at (bs ++ cs)
@@ -38,19 +43,15 @@ stores s at (b ∷ bs) cs e = ap (λ (k : ℕ). sets (sets (set s at b) (suc at)
 -- ---- records
 
 -- THEOREM: where a value's encoding was stored, its record stands
-pub written : (s : List ℕ) (at : ℕ) {v : Value} → WellFormed v → at + size v ≤ length s → At (sets s at (encode v)) at v
-written s at {v} f h =
+pub written : (s : List ℕ) {t : List ℕ} {at : ℕ} {v : Value} → t ≡ sets s at (encode v) → WellFormed v → at + size v ≤ length s → At t at v
+written s {t} {at} {v} q f h =
     let e = encode-length v in
-    let l = length-sets s at (encode v) in
+    let l = ap length q ∙ length-sets s at (encode v) in
     record {
       fits = omega arith;
       fine = f;
-      bytes = ap (take (size v)) (drop-store s at (encode v) (omega arith)) ∙ take-at (encode v) (drop (at + length (encode v)) s) (size v) e;
+      bytes = ap (λ (x : List ℕ). take (size v) (drop at x)) q ∙ ap (take (size v)) (drop-store s at (encode v) (omega arith)) ∙ take-at (encode v) (drop (at + length (encode v)) s) (size v) e;
     }
-
--- and nothing outside it changed
-pub written-outside : (s : List ℕ) (at : ℕ) (v : Value) → Outside s (sets s at (encode v)) at (at + size v)
-written-outside s at v = stored s at (encode v) (encode-length v)
 
 -- ---- collections
 
@@ -74,9 +75,9 @@ collection-at {s} {at} {to} {k} {vs} n b e short shaped h =
     }
 
 -- a heading that is stored before items makes a collection
-pub closed : {s : List ℕ} {at to : ℕ} {k : Kind} {vs : Items} (n : ℕ) → at + n ≡ to → n ≤ limit → Shaped k vs → ItemsAt s (at + 4) to vs → At (sets s at (heading n (number k))) at (collection k vs)
-closed {s} {at} {to} {k} {vs} n e short shaped h =
+pub closed : {s t : List ℕ} {at to : ℕ} {k : Kind} {vs : Items} (n : ℕ) → t ≡ sets s at (heading n (number k)) → at + n ≡ to → n ≤ limit → Shaped k vs → ItemsAt s (at + 4) to vs → At t at (collection k vs)
+closed {s} {t} {at} {to} {k} {vs} n q e short shaped h =
     let f = h .ends in
     let g = h .fits in
-    let b : take 4 (drop at (sets s at (heading n (number k)))) ≡ heading n (number k) = ap (take 4) (drop-store s at (heading n (number k)) (omega arith)) in
-    collection-at n b e short shaped (items-above (stored s at (heading n (number k)) refl) (omega arith) h)
+    let b : take 4 (drop at t) ≡ heading n (number k) = ap (λ (x : List ℕ). take 4 (drop at x)) q ∙ ap (take 4) (drop-store s at (heading n (number k)) (omega arith)) in
+    collection-at n b e short shaped (items-above (stored s (heading n (number k)) q refl) (omega arith) h)

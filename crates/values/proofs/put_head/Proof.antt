@@ -1,0 +1,25 @@
+use Rattle.values.proofs.Writing.{put-heading}
+use borrow.Author.Needs.{needs}
+use Rattle.values.proofs.put_head.Statement.{statement}
+use Rattle.values.proofs.put_head.Tie as tie
+use Rattle.values.proofs.put_head.Reads as reads
+use Rattle.values.proofs.put_head.Lts as lts
+use Rattle.integers.proofs.bytes.put16.Reads as put16-reads
+
+put16-requires : tie.Need-put16-requires
+put16-requires c κs = search needs
+
+add-put16 : tie.Need-add-put16
+add-put16 c = search needs
+
+put16-requires-2 : tie.Need-put16-requires-2
+put16-requires-2 c κs = search needs
+
+same-length : tie.Need-same-length
+same-length c = search needs
+
+returns : tie.Need-returns
+returns c = put-heading (c .before .before .before .before .before .before .before .before .before .args .s .now) _ _ (c .before .before .before .before .before .before .before .before .before .args .at) (c .before .before .before .before .before .before .before .before .before .args .n) (c .before .before .before .before .before .before .before .before .before .args .kind) (c .before .before .before .before .before .before .put16 .ensures) (c .before .before .put162 .ensures)
+
+pub put-head-spec : {M : Type 1} → statement M
+put-head-spec = tie.close (tie.spec put16-requires add-put16 put16-requires-2 same-length returns)

@@ -1,0 +1,37 @@
+use mathlib.Core.Path.{ap, _∙_}
+use Prim.Native.Nat.{_+_}
+use lib.IntN.{ℤ}
+use lib.Seq.{sets}
+use mir.Syntax.{w32}
+use mir.ValLaws.{toZ-ofZ}
+use Rattle.integers.specs.Bytes.{integerBytes}
+use Rattle.values.proofs.Writing.{put-integer}
+use borrow.Author.Needs.{needs}
+use Rattle.values.proofs.put_integer.Statement.{statement}
+use Rattle.values.proofs.put_integer.Tie as tie
+use Rattle.values.proofs.put_integer.Reads as reads
+use Rattle.values.proofs.put_integer.Lts as lts
+use Rattle.integers.proofs.bytes.put32.Reads as put32-reads
+use Rattle.values.proofs.put_head.Reads as put-head-reads
+
+put-head-requires : tie.Need-put-head-requires
+put-head-requires c κs = search needs
+
+add-put32 : tie.Need-add-put32
+add-put32 c = search needs
+
+put32-requires : tie.Need-put32-requires
+put32-requires c κs = search needs
+
+add-result : tie.Need-add-result
+add-result c = search needs
+
+same-length : tie.Need-same-length
+same-length c = search needs
+
+returns : tie.Need-returns
+returns c = put-integer (c .before .before .before .before .before .before .before .before .before .args .s .now) _ _ (c .before .before .before .before .before .before .before .before .before .args .at) (c .before .before .before .before .before .before .before .before .before .args .z) (c .before .before .before .before .before .before .before .before .before .fits .z) (c .before .before .before .before .before .before .put-head .ensures) (c .before .before .put32 .ensures ∙ ap (λ (z : ℤ). sets (c .before .before .before .before .before .before .put-head .last .0) (c .before .before .before .before .before .before .before .before .before .args .at + 4) (integerBytes z)) (toZ-ofZ w32 (c .before .before .before .before .before .before .before .before .before .args .z) (c .before .before .before .before .before .before .before .before .before .fits .z))) (c .before .before .before .before .before .before .before .before .before .pre)
+
+pub put-integer-spec : {M : Type 1} → statement M
+put-integer-spec =
+    tie.close (tie.spec put-head-requires add-put32 put32-requires add-result same-length returns)
