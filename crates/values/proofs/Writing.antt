@@ -7,10 +7,9 @@ use native.Mathlib.Omega.{arith}
 use lib.IntN.{ℤ}
 use lib.ListN.{length, set}
 use lib.Seq.{sets}
-use mir.Syntax.{w32}
-use mir.Val.{SFits, boolByte}
+use mir.Val.{boolByte}
 use Rattle.integers.specs.Bytes.{pair, integerBytes}
-use Rattle.integers.specs.Range.{fits-range}
+use Rattle.integers.specs.Whole.{InRange}
 use Rattle.values.specs.Value.{Value, boolean, integer, size, byteOf, headed, encode, WellFormed}
 use Rattle.values.specs.Contract.{PutHead, Put}
 use Rattle.values.specs.Records.{well-formed-boolean, well-formed-integer}
@@ -47,7 +46,7 @@ put-boolean s t at b p h =
     (ap (set t (at + 4)) (byte-is b) ∙ after-heading s t at 5 1 (byteOf b ∷ []) p)
     (well-formed-boolean b) h
 
-pub put-integer : (s t u : List ℕ) (at : ℕ) (z : ℤ) → SFits w32 z → PutHead s t at 8 2 → u ≡ sets t (at + 4) (integerBytes z) → at + 8 ≤ length s → Put s u at (integer z) 8 (at + 8)
+pub put-integer : (s t u : List ℕ) (at : ℕ) (z : ℤ) → InRange z → PutHead s t at 8 2 → u ≡ sets t (at + 4) (integerBytes z) → at + 8 ≤ length s → Put s u at (integer z) 8 (at + 8)
 unfolding size encode
 put-integer s t u at z f p q h =
-    put s u at (integer z) 8 refl (q ∙ after-heading s t at 8 2 (integerBytes z) p) (well-formed-integer (fits-range z f)) h
+    put s u at (integer z) 8 refl (q ∙ after-heading s t at 8 2 (integerBytes z) p) (well-formed-integer f) h

@@ -23,7 +23,7 @@ items-moved at end d room e h = record { ends = d; fits = room; fine = h .fine; 
 pub below-less : (base n : ℕ) (s t : List ℕ) → n ≤ base → take base t ≡ take base s → take n t ≡ take n s
 below-less base n s t h e = sym (take-take n base t h) ∙ ap (take n) e ∙ take-take n base s h
 
-window : (at n base : ℕ) (l : List ℕ) → at + n ≤ base → take n (drop at (take base l)) ≡ take n (drop at l)
+pub window : (at n base : ℕ) (l : List ℕ) → at + n ≤ base → take n (drop at (take base l)) ≡ take n (drop at l)
 window zero n base l h = take-take n base l (omega arith)
 window (suc at) n zero l h = let z : ⊥ = omega arith in absurd z
 window (suc at) n (suc base) [] h = refl

@@ -7,3 +7,4 @@ pub mod Records
 pub mod Frame
 pub mod Written
 pub mod Contract
+pub mod Moves

@@ -3,6 +3,7 @@ ghost use mathlib.Core.Path.{_≡_};
 ghost use Prim.Native.Nat.{_+_, _≤_, _<_};
 ghost use mathlib.Core.List.{[]};
 ghost use lib.ListN.{length};
+ghost use Rattle.integers.specs.Whole.{InRange};
 ghost use Rattle.values.specs.Value.{boolean, integer, orderℕ, orderℤ};
 ghost use Rattle.values.specs.Place.{At, Holds, HoldsItems};
 ghost use Rattle.values.specs.Contract.{Length, KindAt, OfKind, Both, Ordered, OrderedItems, Equal, Shows, ShowsAt, PutHead, Put, Movable, Moved, Copyable, Copied};
@@ -16,7 +17,7 @@ pub enum Order {
 
 // A value that is handed out: its record, and zeros after it.
 pub struct Value {
-    pub bytes: [u8; 512],
+    pub bytes: [u8; Value::LIMIT],
     pub len: usize,
 }
 
@@ -32,7 +33,7 @@ impl Value {
         ensures { λ r. ⌜ Shows [] r ⌝ }
     {
         Value {
-            bytes: [0; 512],
+            bytes: [0; Value::LIMIT],
             len: 0,
         }
     }
@@ -43,7 +44,7 @@ impl Value {
         ensures { λ r. ⌜ ShowsAt (now (s .entry)) at r ⌝ }
     {
         let n = length_of(s, at);
-        let mut bytes = [0; 512];
+        let mut bytes = [0; Value::LIMIT];
         let mut i = 0;
         while i < n {
             bytes[i] = s[at + i];
@@ -93,24 +94,24 @@ fn order_numbers(a: usize, b: usize) -> Order
     ensures { λ r. ⌜ r ≡ orderℕ a b ⌝ }
 {
     if a < b {
-        return Order::Lower;
+        Order::Lower
+    } else if b < a {
+        Order::Higher
+    } else {
+        Order::Same
     }
-    if b < a {
-        return Order::Higher;
-    }
-    Order::Same
 }
 
 fn order_integers(a: i32, b: i32) -> Order
     ensures { λ r. ⌜ r ≡ orderℤ a b ⌝ }
 {
     if a < b {
-        return Order::Lower;
+        Order::Lower
+    } else if b < a {
+        Order::Higher
+    } else {
+        Order::Same
     }
-    if b < a {
-        return Order::Higher;
-    }
-    Order::Same
 }
 
 // False before true.
@@ -216,7 +217,7 @@ pub fn put_boolean(s: &mut [u8], at: usize, b: bool) -> usize
 
 // Writes the record of an integer, and gives the place past it.
 pub fn put_integer(s: &mut [u8], at: usize, z: i32) -> usize
-    requires { ⌜ at + 8 ≤ length (now s) ⌝ }
+    requires { ⌜ (at + 8 ≤ length (now s)) × InRange z ⌝ }
     ensures { λ r. ⌜ Put (now (s .entry)) (now (s .exit)) at (integer z) 8 r ⌝ }
 {
     put_head(s, at, 8, 2);

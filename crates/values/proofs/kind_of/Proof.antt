@@ -13,7 +13,7 @@ read16-requires : tie.Need-read16-requires
 read16-requires c κs = search needs
 
 returns : tie.Need-returns
-returns c = kind-is (c .read16 .ensures .0) (c .before .before .pre)
+returns c = kind-is (c .read16 .ensures .is) (c .before .before .pre)
 
 pub kind-of-spec : {M : Type 1} → statement M
 kind-of-spec = tie.close (tie.spec add-read16 read16-requires returns)

@@ -10,7 +10,7 @@ read16-requires : tie.Need-read16-requires
 read16-requires c κs = search needs
 
 returns : tie.Need-returns
-returns c = length-is (c .read16 .ensures .0) (c .before .before .pre)
+returns c = length-is (c .read16 .ensures .is) (c .before .before .pre)
 
 pub length-of-spec : {M : Type 1} → statement M
 length-of-spec = tie.close (tie.spec read16-requires returns)

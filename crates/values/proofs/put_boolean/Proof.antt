@@ -25,7 +25,7 @@ same-length : tie.Need-same-length
 same-length c = search needs
 
 returns : tie.Need-returns
-returns c = put-boolean (c .before .before .before .before .before .args .s .now) _ (c .before .before .before .before .before .args .at) (c .before .before .before .before .before .args .b) (c .before .before .put-head .ensures) (c .before .before .before .before .before .pre)
+returns c = let a = c .before .before .before .before .before .args in put-boolean (a .s .now) _ (a .at) (a .b) (c .before .before .put-head .ensures) (c .before .before .before .before .before .pre)
 
 pub put-boolean-spec : {M : Type 1} → statement M
 put-boolean-spec =

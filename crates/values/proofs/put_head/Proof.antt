@@ -19,7 +19,7 @@ same-length : tie.Need-same-length
 same-length c = search needs
 
 returns : tie.Need-returns
-returns c = put-heading (c .before .before .before .before .before .before .before .before .before .args .s .now) _ _ (c .before .before .before .before .before .before .before .before .before .args .at) (c .before .before .before .before .before .before .before .before .before .args .n) (c .before .before .before .before .before .before .before .before .before .args .kind) (c .before .before .before .before .before .before .put16 .ensures) (c .before .before .put162 .ensures)
+returns c = let a = c .before .before .before .before .before .before .before .before .before .args in put-heading (a .s .now) _ _ (a .at) (a .n) (a .kind) (c .before .before .before .before .before .before .put16 .ensures) (c .before .before .put162 .ensures)
 
 pub put-head-spec : {M : Type 1} → statement M
 put-head-spec = tie.close (tie.spec put16-requires add-put16 put16-requires-2 same-length returns)

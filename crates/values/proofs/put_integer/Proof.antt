@@ -30,7 +30,11 @@ same-length : tie.Need-same-length
 same-length c = search needs
 
 returns : tie.Need-returns
-returns c = put-integer (c .before .before .before .before .before .before .before .before .before .args .s .now) _ _ (c .before .before .before .before .before .before .before .before .before .args .at) (c .before .before .before .before .before .before .before .before .before .args .z) (c .before .before .before .before .before .before .before .before .before .fits .z) (c .before .before .before .before .before .before .put-head .ensures) (c .before .before .put32 .ensures ∙ ap (λ (z : ℤ). sets (c .before .before .before .before .before .before .put-head .last .0) (c .before .before .before .before .before .before .before .before .before .args .at + 4) (integerBytes z)) (toZ-ofZ w32 (c .before .before .before .before .before .before .before .before .before .args .z) (c .before .before .before .before .before .before .before .before .before .fits .z))) (c .before .before .before .before .before .before .before .before .before .pre)
+returns c =
+    let a = c .before .before .before .before .before .before .before .before .before .args in
+    let e = toZ-ofZ w32 (a .z) (c .before .before .before .before .before .before .before .before .before .fits .z) in
+    put-integer (a .s .now) _ _ (a .at) (a .z) (c .before .before .before .before .before .before .before .before .before .pre .1) (c .before .before .before .before .before .before .put-head .ensures)
+    (c .before .before .put32 .ensures ∙ ap (λ (z : ℤ). sets (c .before .before .before .before .before .before .put-head .last .0) (a .at + 4) (integerBytes z)) e) (c .before .before .before .before .before .before .before .before .before .pre .0)
 
 pub put-integer-spec : {M : Type 1} → statement M
 put-integer-spec =
