@@ -1,19 +1,17 @@
 -- Bytes copied within one list, first to last, and bytes copied out of a list into zeros.
-use mathlib.Core.Path.{_≡_, refl, sym, ap, ap₂, subst, _∙_}
-use mathlib.Core.List.{List, [], _∷_, _++_, append-assoc}
+use mathlib.Core.Path.{_≡_, sym, ap, ap₂, subst, _∙_}
+use mathlib.Core.List.{List, _++_, append-assoc}
 use mathlib.Core.Logic.{_⊎_, inl, inr}
 use Prim.Native.Nat.{ℕ, zero, suc, _+_, _-_, _<_, _≤_}
 use native.Mathlib.Nat.{zero-add}
 use native.Mathlib.Numerals.{add-one}
 use native.Mathlib.Omega.{arith}
-use lib.ListN.{length, getD, take, drop, set, replicate, length-take, length-drop, length-append, length-replicate, List·getD-append}
+use lib.ListN.{length, getD, take, drop, set, length-take, length-drop, List·getD-append}
 use lib.Seq.{paste, paste-zero, paste-suc, length-paste, drop-paste, getD-take, getD-drop, take-at, drop-at, length-take-le}
-use Rattle.integers.specs.Bytes.{word}
 use Rattle.values.specs.declared.Value.{Value as Copy}
-use Rattle.values.specs.Value.{Value, size, encode, limit}
-use Rattle.values.specs.Place.{At, Holds, Outside}
-use Rattle.values.specs.Contract.{Movable, Moved, Copyable, Copied, Length, Shows, zeros, ShowsAt}
-use Rattle.values.specs.Records.{word-size}
+use Rattle.values.specs.Value.{size, encode, limit}
+use Rattle.values.specs.Place.{Holds}
+use Rattle.values.specs.Contract.{Movable, Moved, Copyable, Copied, Length, zeros, ShowsAt}
 use Rattle.values.specs.Frame.{moved}
 use Rattle.values.specs.Encoding.{encode-length}
 
@@ -23,56 +21,76 @@ use Rattle.values.specs.Encoding.{encode-length}
 abbrev pub pasted : List ℕ → ℕ → ℕ → ℕ → List ℕ
 pasted s from to i = paste s to (drop from s) i
 
-module _ (s : List ℕ) (from to n : ℕ) (m : Movable s from to n) where
-  source : (i : ℕ) → i ≤ n → i ≤ length (drop from s)
-  source i h = simp length-drop (omega (arith, m .there))
+-- after i turns: what can be copied, of which i bytes are
+pub record Copying (s : List ℕ) (from to n : ℕ) (t : List ℕ) (i : ℕ) : Type 0 where
+  pub can : Movable s from to n
+  pub some : i ≤ n
+  pub is : t ≡ pasted s from to i
 
-  pub pasted-length : (i : ℕ) → i ≤ n → length (pasted s from to i) ≡ length s
-  pasted-length i h = length-paste s to (drop from s) i (omega (arith, m .room)) (source i h)
+pub copying-none : {s : List ℕ} {from to n : ℕ} → Movable s from to n → Copying s from to n s 0
+copying-none {s} {from} {to} m = record { can = m; some = omega arith; is = paste-zero s to (drop from s) }
 
-  -- the byte that is read next is as it was: below what is written, or above it
-  unread : (i : ℕ) → i < n → (from + n ≤ to) ⊎ (to ≤ from) → getD (pasted s from to i) (from + i) 0 ≡ getD (drop from s) i 0
-  unread i h (inl g) =
-      let low : from + i < length (take to s) = simp length-take (omega (arith, m .room)) in
-      ap (λ (l : List ℕ). getD l (from + i) 0) (append-assoc (take to s) (take i (drop from s)) (drop (to + i) s))
-      ∙ List·getD-append (take to s) (take i (drop from s) ++ drop (to + i) s) 0 (from + i) low
-      ∙ getD-take to s (from + i) 0 (omega arith)
-      ∙ sym (getD-drop from s i 0)
-  unread i h (inr g) =
-      let e : to + i + (from - to) ≡ from + i = omega arith in
-      ap (λ (k : ℕ). getD (pasted s from to i) k 0) (sym e)
-      ∙ sym (getD-drop (to + i) (pasted s from to i) (from - to) 0)
-      ∙ ap (λ (l : List ℕ). getD l (from - to) 0) (drop-paste s to (drop from s) i (omega (arith, m .room)) (source i (omega arith)))
-      ∙ getD-drop (to + i) s (from - to) 0
-      ∙ ap (λ (k : ℕ). getD s k 0) e
-      ∙ sym (getD-drop from s i 0)
+source : {s : List ℕ} {from to n : ℕ} → Movable s from to n → (i : ℕ) → i ≤ n → i ≤ length (drop from s)
+source m i h = simp length-drop (omega (arith, m .there))
 
-  -- a turn of the loop, which reads the list that it writes
-  pub pasted-more : (i : ℕ) → i < n → set (pasted s from to i) (to + i) (getD (pasted s from to i) (from + i) 0) ≡ pasted s from to (i + 1)
-  pasted-more i h =
-      let here : to + i < length s = omega (arith, m .room) in
-      let there : i < length (drop from s) = simp length-drop (omega (arith, m .there)) in
-      ap (set (pasted s from to i) (to + i)) (unread i h (m .apart))
-      ∙ paste-suc s to (drop from s) i 0 here there
-      ∙ ap (pasted s from to) (sym (add-one i))
+pasted-length : {s : List ℕ} {from to n : ℕ} → Movable s from to n → (i : ℕ) → i ≤ n → length (pasted s from to i) ≡ length s
+pasted-length {s} {from} {to} m i h = length-paste s to (drop from s) i (omega (arith, m .room)) (source m i h)
 
-  pub all-pasted : (t : List ℕ) (i : ℕ) → t ≡ pasted s from to i → i ≤ n → n ≤ i → Moved s t from to n
-  all-pasted t i e h g =
-      let d : i ≡ n = omega arith in
-      let all : t ≡ pasted s from to n = e ∙ ap (pasted s from to) d in
-      let first : length (take to s) ≡ to = length-take-le to s (omega (arith, m .room)) in
-      let bytes : List ℕ = take n (drop from s) in
-      record {
-        outside = record {
-          long = ap length all ∙ pasted-length n (omega arith);
-          below = ap (take to) (all ∙ append-assoc (take to s) bytes (drop (to + n) s)) ∙ take-at (take to s) (bytes ++ drop (to + n) s) to first;
-          above = ap (drop (to + n)) all ∙ drop-paste s to (drop from s) n (omega (arith, m .room)) (source n (omega arith));
-        };
-        bytes =
-            ap (λ (l : List ℕ). take n (drop to l)) (all ∙ append-assoc (take to s) bytes (drop (to + n) s))
-            ∙ ap (take n) (drop-at (take to s) (bytes ++ drop (to + n) s) to first)
-            ∙ take-at bytes (drop (to + n) s) n (length-take-le n (drop from s) (source n (omega arith)));
-      }
+pub copying-length : {s t : List ℕ} {from to n i : ℕ} → Copying s from to n t i → length t ≡ length s
+copying-length {i = i} c = ap length (c .is) ∙ pasted-length (c .can) i (c .some)
+
+-- the byte that is read next is as it was: below what is written, or above it
+unread : {s : List ℕ} {from to n : ℕ} → Movable s from to n → (i : ℕ) → i < n → (from + n ≤ to) ⊎ (to ≤ from) → getD (pasted s from to i) (from + i) 0 ≡ getD (drop from s) i 0
+unread {s} {from} {to} m i h (inl g) =
+    let low : from + i < length (take to s) = simp length-take (omega (arith, m .room)) in
+    ap (λ (l : List ℕ). getD l (from + i) 0) (append-assoc (take to s) (take i (drop from s)) (drop (to + i) s))
+    ∙ List·getD-append (take to s) (take i (drop from s) ++ drop (to + i) s) 0 (from + i) low
+    ∙ getD-take to s (from + i) 0 (omega arith)
+    ∙ sym (getD-drop from s i 0)
+unread {s} {from} {to} m i h (inr g) =
+    let e : to + i + (from - to) ≡ from + i = omega arith in
+    ap (λ (k : ℕ). getD (pasted s from to i) k 0) (sym e)
+    ∙ sym (getD-drop (to + i) (pasted s from to i) (from - to) 0)
+    ∙ ap (λ (l : List ℕ). getD l (from - to) 0) (drop-paste s to (drop from s) i (omega (arith, m .room)) (source m i (omega arith)))
+    ∙ getD-drop (to + i) s (from - to) 0
+    ∙ ap (λ (k : ℕ). getD s k 0) e
+    ∙ sym (getD-drop from s i 0)
+
+-- a turn of the loop, which reads the list that it writes
+pub copying-more : {s t : List ℕ} {from to n i : ℕ} → Copying s from to n t i → i < n → Copying s from to n (set t (to + i) (getD t (from + i) 0)) (i + 1)
+copying-more {s} {t} {from} {to} {n} {i} c h =
+    let m = c .can in
+    let here : to + i < length s = omega (arith, m .room) in
+    let there : i < length (drop from s) = simp length-drop (omega (arith, m .there)) in
+    record {
+      can = m;
+      some = omega arith;
+      is =
+          ap (λ (l : List ℕ). set l (to + i) (getD l (from + i) 0)) (c .is)
+          ∙ ap (set (pasted s from to i) (to + i)) (unread m i h (m .apart))
+          ∙ paste-suc s to (drop from s) i 0 here there
+          ∙ ap (pasted s from to) (sym (add-one i));
+    }
+
+pub copying-all : {s t : List ℕ} {from to n i : ℕ} → Copying s from to n t i → n ≤ i → Moved s t from to n
+copying-all {s} {t} {from} {to} {n} {i} c g =
+    let m = c .can in
+    let d : i ≡ n = omega (arith, c .some) in
+    let bytes : List ℕ = take n (drop from s) in
+    let rest : List ℕ = drop (to + n) s in
+    let all : t ≡ take to s ++ (bytes ++ rest) = c .is ∙ ap (pasted s from to) d ∙ append-assoc (take to s) bytes rest in
+    let first : length (take to s) ≡ to = length-take-le to s (omega (arith, m .room)) in
+    record {
+      outside = record {
+        long = copying-length c;
+        below = ap (take to) all ∙ take-at (take to s) (bytes ++ rest) to first;
+        above = ap (drop (to + n)) (c .is ∙ ap (pasted s from to) d) ∙ drop-paste s to (drop from s) n (omega (arith, m .room)) (source m n (omega arith));
+      };
+      bytes =
+          ap (λ (l : List ℕ). take n (drop to l)) all
+          ∙ ap (take n) (drop-at (take to s) (bytes ++ rest) to first)
+          ∙ take-at bytes rest n (length-take-le n (drop from s) (source m n (omega arith)));
+    }
 
 -- ---- a record
 
@@ -107,32 +125,46 @@ copied {s} {t} {from} {to} {n} c l m =
 abbrev pub shown : List ℕ → ℕ → ℕ → List ℕ
 shown s at i = paste (zeros limit) 0 (drop at s) i
 
-module _ (s : List ℕ) (at n : ℕ) (there : at + n ≤ length s) (short : n ≤ limit) where
-  pub shown-length : (i : ℕ) → i ≤ n → length (shown s at i) ≡ limit
-  shown-length i h = length-paste (zeros limit) 0 (drop at s) i (omega arith) (simp length-drop (omega arith))
+-- after i turns: the record at a place has n bytes, of which i are copied
+pub record Showing (s : List ℕ) (at n : ℕ) (t : List ℕ) (i : ℕ) : Type 0 where
+  pub long : Length s at n
+  pub there : at + n ≤ length s
+  pub some : i ≤ n
+  pub is : t ≡ shown s at i
 
-  pub shown-more : (i : ℕ) → i < n → set (shown s at i) i (getD s (at + i) 0) ≡ shown s at (i + 1)
-  shown-more i h =
-      let here : 0 + i < length (zeros limit) = omega arith in
-      let more : i < length (drop at s) = simp length-drop (omega arith) in
-      ap₂ (set (shown s at i)) (sym (zero-add i)) (sym (getD-drop at s i 0))
-      ∙ paste-suc (zeros limit) 0 (drop at s) i 0 here more
-      ∙ ap (shown s at) (sym (add-one i))
+pub showing-none : {s : List ℕ} {at n : ℕ} → Holds s at → Length s at n → Showing s at n (zeros limit) 0
+showing-none {s} {at} h l =
+    record { long = l; there = omega (arith, h .whole, l .is); some = omega arith; is = paste-zero (zeros limit) 0 (drop at s) }
+
+pub showing-more : {s t : List ℕ} {at n i : ℕ} → Showing s at n t i → i < n → Showing s at n (set t i (getD s (at + i) 0)) (i + 1)
+showing-more {s} {t} {at} {n} {i} c h =
+    let here : 0 + i < length (zeros limit) = omega (arith, c .long .high) in
+    let there : i < length (drop at s) = simp length-drop (omega (arith, c .there)) in
+    record {
+      long = c .long;
+      there = c .there;
+      some = omega arith;
+      is =
+          ap (λ (l : List ℕ). set l i (getD s (at + i) 0)) (c .is)
+          ∙ ap₂ (set (shown s at i)) (sym (zero-add i)) (sym (getD-drop at s i 0))
+          ∙ paste-suc (zeros limit) 0 (drop at s) i 0 here there
+          ∙ ap (shown s at) (sym (add-one i));
+    }
 
 drop-zeros : (n k : ℕ) → drop k (zeros n) ≡ zeros (n - k)
 drop-zeros n zero = let e : n ≡ n - 0 = omega arith in ap zeros e
 drop-zeros zero (suc k) = let e : 0 ≡ 0 - suc k = omega arith in ap zeros e
 drop-zeros (suc n) (suc k) = let e : n - k ≡ suc n - suc k = omega arith in drop-zeros n k ∙ ap zeros e
 
-pub all-shown : {s : List ℕ} {at n : ℕ} (c : Copy) (i : ℕ) → Length s at n → c .len ≡ n → c .bytes ≡ shown s at i → i ≤ n → n ≤ i → ShowsAt s at c
-all-shown {s} {at} {n} c i l el eb h g v a =
-    let d : i ≡ n = omega arith in
-    let w : n ≡ size v = l .right v a in
+pub showing-all : {s : List ℕ} {at n i : ℕ} (r : Copy) → Showing s at n (r .bytes) i → r .len ≡ n → n ≤ i → ShowsAt s at r
+showing-all {s} {at} {n} {i} r c el g v a =
+    let w : n ≡ size v = c .long .right v a in
     let q = encode-length v in
+    let d : i ≡ size v = omega (arith, c .some) in
     let m : i ≡ length (encode v) = omega arith in
     record {
       len = el ∙ w ∙ sym q;
       bytes =
-          eb
-          ∙ ap₂ {C = List ℕ} _++_ (ap (λ (k : ℕ). take k (drop at s)) (d ∙ w) ∙ a .bytes) (ap (λ (k : ℕ). drop k (zeros limit)) (zero-add i ∙ m) ∙ drop-zeros limit (length (encode v)));
+          c .is
+          ∙ ap₂ {C = List ℕ} _++_ (ap (λ (k : ℕ). take k (drop at s)) d ∙ a .bytes) (ap (λ (k : ℕ). drop k (zeros limit)) (zero-add i ∙ m) ∙ drop-zeros limit (length (encode v)));
     }

@@ -1,19 +1,19 @@
 -- The answers of the functions that compare, said of lists, places and numbers alone.
 use mathlib.Core.Path.{_≡_, refl, sym, ap, ap₂, subst, _∙_}
-use mathlib.Core.Bool.{Bool, true, false}
+use mathlib.Core.Bool.{Bool}
 use mathlib.Core.List.{List}
-use Prim.Native.Nat.{ℕ, _+_, _≤_, _<_}
+use Prim.Native.Nat.{ℕ, _+_, _≤_}
 use native.Mathlib.Omega.{arith}
 use lib.ListN.{length}
 use Rattle.integers.specs.Bytes.{word}
 use Rattle.values.specs.declared.Order.{Order}
 use Rattle.values.specs.declared.Order.the-variants.{Lower, Same, Higher}
-use Rattle.values.specs.Value.{Kind, Value, boolean, integer, collection, Items, none, more, kindOf, byteOf, after, orderℕ, orderℤ, within, orderItems, order}
+use Rattle.values.specs.Value.{Kind, number, Value, boolean, integer, collection, Items, kindOf, byteOf, after, orderℕ, orderℤ, within, orderItems, order}
 use Rattle.values.specs.Items.{isSame}
 use Rattle.values.specs.Place.{At, ItemsAt, Holds, HoldsItems}
 use Rattle.values.specs.Contract.{Length, KindAt, Both, Ordered, OrderedItems, Equal}
 use Rattle.values.specs.Laws.{same-eq, eq-same}
-use Rattle.values.specs.Records.{one-value, is-collection, items-to, holds-items, items-none, Run, run-of, holds}
+use Rattle.values.specs.Records.{one-value, is-collection, items-to, items-none, run-of, holds}
 
 -- ---- two values
 
@@ -25,6 +25,16 @@ differ a b o f = go (orderℕ a b) refl
     go Lower e = refl
     go Same e = absurd (f (same-eq a b e))
     go Higher e = refl
+
+-- two collections of one kind stand at two places
+pub record Collections (s : List ℕ) (a b : ℕ) : Type 0 where
+  pub kind : Kind
+  pub other : Kind
+  pub items : Items
+  pub others : Items
+  pub first : At s a (collection kind items)
+  pub second : At s b (collection other others)
+  pub alike : number kind ≡ number other
 
 module _ {s : List ℕ} {a b : ℕ} where
   -- of two kinds
@@ -53,23 +63,27 @@ module _ {s : List ℕ} {a b : ℕ} where
   unfolding within
   by-integers r h g e = by-contents r h g refl e
 
-  module _ {k l : ℕ} (ha : Holds s a) (hb : Holds s b) (ka : KindAt s a k) (kb : KindAt s b l) (e : k ≡ l) (f : k ≡ 1 → ⊥) (g : k ≡ 2 → ⊥) where
+  -- of one kind, which is neither: two collections
+  pub collections : {k l : ℕ} → Holds s a → Holds s b → KindAt s a k → KindAt s b l → k ≡ l → (k ≡ 1 → ⊥) → (k ≡ 2 → ⊥) → Collections s a b
+  collections ha hb ka kb e f g =
+      let va = ka .right (ha .value) (ha .here) in
+      let vb = kb .right (hb .value) (hb .here) in
+      let (i, vs, x) = is-collection (ha .value) (λ p. f (va ∙ p)) (λ p. g (va ∙ p)) in
+      let (j, ws, y) = is-collection (hb .value) (λ p. f (e ∙ vb ∙ p)) (λ p. g (e ∙ vb ∙ p)) in
+      let p : At s a (collection i vs) = subst (At s a) x (ha .here) in
+      let q : At s b (collection j ws) = subst (At s b) y (hb .here) in
+      record { kind = i; other = j; items = vs; others = ws; first = p; second = q; alike = sym (ka .right (collection i vs) p) ∙ e ∙ kb .right (collection j ws) q }
+
+  module _ (c : Collections s a b) where
     pub first-items : {m : ℕ} → Length s a m → HoldsItems s (a + 4) (a + m)
-    first-items m = holds-items (m .is) ha (λ p. f (ka .is ∙ p)) (λ p. g (ka .is ∙ p))
+    first-items m = (c .items, items-to (m .is) (c .first))
 
     pub second-items : {n : ℕ} → Length s b n → HoldsItems s (b + 4) (b + n)
-    second-items n = holds-items (n .is) hb (λ p. f (e ∙ kb .is ∙ p)) (λ p. g (e ∙ kb .is ∙ p))
+    second-items n = (c .others, items-to (n .is) (c .second))
 
     pub by-items : {m n : ℕ} (r : Order) → Length s a m → Length s b n → OrderedItems s (a + 4) (a + m) (b + 4) (b + n) r → Ordered s a b r
     unfolding within
-    by-items r m n o =
-        let va = ka .right (ha .value) (ha .here) in
-        let vb = kb .right (hb .value) (hb .here) in
-        let (i, vs, x) = is-collection (ha .value) (λ p. f (va ∙ p)) (λ p. g (va ∙ p)) in
-        let (j, ws, y) = is-collection (hb .value) (λ p. f (e ∙ vb ∙ p)) (λ p. g (e ∙ vb ∙ p)) in
-        let p : At s a (collection i vs) = subst (At s a) x (ha .here) in
-        let q : At s b (collection j ws) = subst (At s b) y (hb .here) in
-        by-contents r p q (sym (ka .right (collection i vs) p) ∙ e ∙ kb .right (collection j ws) q) (o vs ws (items-to (m .is) p) (items-to (n .is) q))
+    by-items r m n o = by-contents r (c .first) (c .second) (c .alike) (o (c .items) (c .others) (items-to (m .is) (c .first)) (items-to (n .is) (c .second)))
 
 -- ---- two lists of items
 

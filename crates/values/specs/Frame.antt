@@ -1,13 +1,13 @@
 -- Records that stay and records that are moved: what a slice that changed elsewhere still holds.
-use mathlib.Core.Path.{_≡_, refl, sym, ap, ap₂, subst, _∙_}
-use mathlib.Core.List.{List, [], _∷_, _++_}
+use mathlib.Core.Path.{_≡_, refl, sym, ap, ap₂, _∙_}
+use mathlib.Core.List.{List, [], _∷_}
 use Prim.Native.Nat.{ℕ, zero, suc, _+_, _*_, _-_, _≤_, _<_}
 use native.Mathlib.Omega.{arith}
-use lib.ListN.{length, getD, take, drop, length-drop}
+use lib.ListN.{length, getD, take, drop}
 use lib.Seq.{take-take, drop-drop, getD-take, getD-drop}
 use Rattle.integers.specs.Bytes.{word}
 use Rattle.values.specs.Value.{Value, Items, size, sizes}
-use Rattle.values.specs.Place.{At, ItemsAt, Holds, HoldsItems, Outside}
+use Rattle.values.specs.Place.{At, ItemsAt, Holds, Outside}
 use Rattle.values.specs.Records.{word-size, holds}
 
 -- ---- moved: the bytes at one place are those that stood at another

@@ -1,24 +1,24 @@
 -- What a record that stands in a slice says: of the bytes there, of the records within it, and that it is one value's only.
 use mathlib.Core.Path.{_≡_, refl, sym, ap, ap₂, subst, _∙_}
-use mathlib.Core.Bool.{Bool, true, false}
+use mathlib.Core.Bool.{Bool}
 use mathlib.Core.List.{List, [], _∷_, _++_}
-use Prim.Native.Nat.{ℕ, zero, suc, _+_, _*_, _-_, _/_, _%_, _≤_, _<_}
+use Prim.Native.Nat.{ℕ, _+_, _/_, _%_, _≤_, _<_}
 use native.Mathlib.Nat.{add-zero}
 use native.Mathlib.Omega.{arith}
 use lib.IntN.{ℤ}
-use lib.ListN.{length, getD, take, drop, length-append, length-drop, length-take, take-append-drop}
-use lib.Seq.{take-take, take-add, drop-drop, take-at, drop-at, getD-take, getD-drop, length-take-le}
+use lib.ListN.{length, getD, take, drop, length-drop, take-append-drop}
+use lib.Seq.{take-add, drop-drop, take-at, drop-at, getD-take, getD-drop, length-take-le}
 use mir.Syntax.{w32}
 use mir.Val.{ofZ, toZ}
 use mir.ValLaws.{toZ-ofZ}
-use Rattle.integers.specs.Bytes.{word, bits32, four, integerAt}
+use Rattle.integers.specs.Bytes.{word, bits32, integerAt}
 use Rattle.integers.specs.Whole.{InRange}
 use Rattle.integers.specs.Range.{range-fits}
-use Rattle.values.specs.Value.{Kind, number, Value, boolean, integer, collection, Items, none, more, kindOf, count, size, sizes, byteOf, headed, encode, encodeItems, Shaped, Sound, SoundItems, WellFormed, limit}
+use Rattle.values.specs.Value.{Kind, number, Value, boolean, integer, collection, Items, none, more, kindOf, size, sizes, byteOf, encode, encodeItems, Shaped, Sound, SoundItems, WellFormed, limit}
 use Rattle.values.specs.Items.{join, snoc}
 use Rattle.values.specs.Place.{At, ItemsAt, Holds, HoldsItems}
 use Rattle.values.specs.Laws.{number-low}
-use Rattle.values.specs.Encoding.{encode-length, encodeItems-length, size-low, encode-head, more-sizes, join-sizes, join-encode, join-sound, sound-join, valueOf, value-back, encode-injective, encodeItems-injective}
+use Rattle.values.specs.Encoding.{encode-length, encodeItems-length, size-low, encode-head, join-sizes, join-encode, join-sound, sound-join, valueOf, value-back, encode-injective, encodeItems-injective}
 
 -- ---- well-formed parts
 

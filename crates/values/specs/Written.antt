@@ -1,11 +1,11 @@
 -- Records that are written: where a value's bytes were stored its record stands, and a heading before items makes a collection.
-use mathlib.Core.Path.{_≡_, refl, sym, ap, ap₂, subst, _∙_}
+use mathlib.Core.Path.{_≡_, refl, ap, ap₂, _∙_}
 use mathlib.Core.List.{List, [], _∷_, _++_, append-assoc}
-use Prim.Native.Nat.{ℕ, zero, suc, _+_, _≤_, _<_}
+use Prim.Native.Nat.{ℕ, suc, _+_, _≤_}
 use native.Mathlib.Omega.{arith}
-use lib.ListN.{length, take, drop, set, length-append, length-drop, length-take}
-use lib.Seq.{sets, sets-eq, length-sets, take-set-le, drop-set-lt, take-at, drop-at, take-append-add, length-take-le, take-add, drop-drop}
-use Rattle.values.specs.Value.{Kind, number, Value, collection, Items, size, sizes, headed, encode, encodeItems, Shaped, Sound, WellFormed, limit}
+use lib.ListN.{length, take, drop, set}
+use lib.Seq.{sets, sets-eq, length-sets, take-set-le, drop-set-lt, take-at, drop-at, length-take-le, take-add, drop-drop}
+use Rattle.values.specs.Value.{Kind, number, Value, collection, Items, size, sizes, headed, encode, Shaped, Sound, WellFormed, limit}
 use Rattle.values.specs.Place.{At, ItemsAt, Outside}
 use Rattle.values.specs.Encoding.{encode-length}
 use Rattle.values.specs.Frame.{items-above}

@@ -45,10 +45,10 @@ impl Value {
     {
         let n = length_of(s, at);
         let mut bytes = [0; Value::LIMIT];
-        let mut i = 0;
-        while i < n {
-            bytes[i] = s[at + i];
-            i += 1;
+        let mut k = 0;
+        while k < n {
+            bytes[k] = s[at + k];
+            k += 1;
         }
         Value { bytes, len: n }
     }

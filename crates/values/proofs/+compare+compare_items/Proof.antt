@@ -4,7 +4,7 @@ use Prim.Native.Nat.{ℕ, _+_, _-_, _<_}
 use native.Mathlib.Omega.{arith}
 use borrow.Author.Needs.{needs}
 use Rattle.integers.specs.Bytes.{word}
-use Rattle.values.proofs.Ordering.{both, by-kinds, first-items, second-items, by-items, both-none, first-none, second-none, begun, rest-items, first-lower, first-higher, first-same}
+use Rattle.values.proofs.Ordering.{both, by-kinds, collections, first-items, second-items, by-items, both-none, first-none, second-none, begun, rest-items, first-lower, first-higher, first-same}
 use borrow.Fn.Kinds.{In}
 use borrow.Fn.PlainCycle.{Measures, is, falls, and}
 use Rattle.values.proofs.compare.Reads as compare
@@ -65,13 +65,13 @@ compare-returns : (t : ℕ) → compare-lts.Need-returns (compare-calls t) (comp
 compare-returns t c = by-kinds _ (c .before .before .before .kind-of .ensures) (c .before .before .kind-of2 .ensures) (c .before .if1 .taken) (c .order-numbers .ensures)
 
 compare-compare-booleans-requires : (t : ℕ) → compare-lts.Need-compare-booleans-requires (compare-calls t) (compare-at t) compare.Post
-compare-compare-booleans-requires t c κs = both (c .before .before .before .before .before .pre .1 .0) (c .before .before .before .before .before .pre .1 .1) (c .before .before .before .kind-of .ensures) (c .before .before .kind-of2 .ensures) (c .before .if1 .left) (c .if2 .taken)
+compare-compare-booleans-requires t c κs = let p = c .before .before .before .before .before .pre in both (p .1 .0) (p .1 .1) (c .before .before .before .kind-of .ensures) (c .before .before .kind-of2 .ensures) (c .before .if1 .left) (c .if2 .taken)
 
 compare-returns-2 : (t : ℕ) → compare-lts.Need-returns-2 (compare-calls t) (compare-at t) compare.Post
 compare-returns-2 t c = c .compare-booleans .ensures
 
 compare-compare-integers-requires : (t : ℕ) → compare-lts.Need-compare-integers-requires (compare-calls t) (compare-at t) compare.Post
-compare-compare-integers-requires t c κs = both (c .before .before .before .before .before .before .pre .1 .0) (c .before .before .before .before .before .before .pre .1 .1) (c .before .before .before .before .kind-of .ensures) (c .before .before .before .kind-of2 .ensures) (c .before .before .if1 .left) (c .if3 .taken)
+compare-compare-integers-requires t c κs = let p = c .before .before .before .before .before .before .pre in both (p .1 .0) (p .1 .1) (c .before .before .before .before .kind-of .ensures) (c .before .before .before .kind-of2 .ensures) (c .before .before .if1 .left) (c .if3 .taken)
 
 compare-returns-3 : (t : ℕ) → compare-lts.Need-returns-3 (compare-calls t) (compare-at t) compare.Post
 compare-returns-3 t c = c .compare-integers .ensures
@@ -83,22 +83,28 @@ compare-length-of-requires-2 : (t : ℕ) → compare-lts.Need-length-of-requires
 compare-length-of-requires-2 t c κs = c .before .before .before .before .before .before .before .pre .1 .1
 
 compare-add-compare-items : (t : ℕ) → compare-lts.Need-add-compare-items (compare-calls t) (compare-at t) compare.Post
-compare-add-compare-items t c = omega (arith, c .before .before .before .before .before .before .before .before .good .0, c .before .before .before .before .before .before .before .before .pre .1 .0 .whole, c .before .before .before .before .before .before .before .before .pre .1 .1 .whole, c .before .length-of .ensures .is, c .length-of2 .ensures .is)
+compare-add-compare-items t c = omega arith
 
 compare-add-compare-items-2 : (t : ℕ) → compare-lts.Need-add-compare-items-2 (compare-calls t) (compare-at t) compare.Post
-compare-add-compare-items-2 t c = omega (arith, c .before .before .before .before .before .before .before .before .good .0, c .before .before .before .before .before .before .before .before .pre .1 .0 .whole, c .before .before .before .before .before .before .before .before .pre .1 .1 .whole, c .before .length-of .ensures .is, c .length-of2 .ensures .is)
+compare-add-compare-items-2 t c = omega arith
 
 compare-add-compare-items-3 : (t : ℕ) → compare-lts.Need-add-compare-items-3 (compare-calls t) (compare-at t) compare.Post
-compare-add-compare-items-3 t c = omega (arith, c .before .before .before .before .before .before .before .before .good .0, c .before .before .before .before .before .before .before .before .pre .1 .0 .whole, c .before .before .before .before .before .before .before .before .pre .1 .1 .whole, c .before .length-of .ensures .is, c .length-of2 .ensures .is)
+compare-add-compare-items-3 t c = omega arith
 
 compare-add-compare-items-4 : (t : ℕ) → compare-lts.Need-add-compare-items-4 (compare-calls t) (compare-at t) compare.Post
-compare-add-compare-items-4 t c = omega (arith, c .before .before .before .before .before .before .before .before .good .0, c .before .before .before .before .before .before .before .before .pre .1 .0 .whole, c .before .before .before .before .before .before .before .before .pre .1 .1 .whole, c .before .length-of .ensures .is, c .length-of2 .ensures .is)
+compare-add-compare-items-4 t c = omega arith
 
 compare-compare-items-requires : (t : ℕ) → compare-lts.Need-compare-items-requires (compare-calls t) (compare-at t) compare.Post
-compare-compare-items-requires t c κs = (omega (arith, c .before .before .before .before .before .before .before .before .pre .0, c .before .before .before .before .before .before .before .before .pre .1 .0 .low, c .before .length-of .ensures .is), (first-items (c .before .before .before .before .before .before .before .before .pre .1 .0) (c .before .before .before .before .before .before .before .before .pre .1 .1) (c .before .before .before .before .before .before .kind-of .ensures) (c .before .before .before .before .before .kind-of2 .ensures) (c .before .before .before .before .if1 .left) (c .before .before .before .if2 .left) (c .before .before .if3 .left) (c .before .length-of .ensures), second-items (c .before .before .before .before .before .before .before .before .pre .1 .0) (c .before .before .before .before .before .before .before .before .pre .1 .1) (c .before .before .before .before .before .before .kind-of .ensures) (c .before .before .before .before .before .kind-of2 .ensures) (c .before .before .before .before .if1 .left) (c .before .before .before .if2 .left) (c .before .before .if3 .left) (c .length-of2 .ensures)))
+compare-compare-items-requires t c κs =
+    let p = c .before .before .before .before .before .before .before .before .pre in
+    let x = collections (p .1 .0) (p .1 .1) (c .before .before .before .before .before .before .kind-of .ensures) (c .before .before .before .before .before .kind-of2 .ensures) (c .before .before .before .before .if1 .left) (c .before .before .before .if2 .left) (c .before .before .if3 .left) in
+    (omega arith, (first-items x (c .before .length-of .ensures), second-items x (c .length-of2 .ensures)))
 
 compare-returns-4 : (t : ℕ) → compare-lts.Need-returns-4 (compare-calls t) (compare-at t) compare.Post
-compare-returns-4 t c = by-items (c .before .before .before .before .before .before .before .before .before .pre .1 .0) (c .before .before .before .before .before .before .before .before .before .pre .1 .1) (c .before .before .before .before .before .before .before .kind-of .ensures) (c .before .before .before .before .before .before .kind-of2 .ensures) (c .before .before .before .before .before .if1 .left) (c .before .before .before .before .if2 .left) (c .before .before .before .if3 .left) _ (c .before .before .length-of .ensures) (c .before .length-of2 .ensures) (c .compare-items .ensures)
+compare-returns-4 t c =
+    let p = c .before .before .before .before .before .before .before .before .before .pre in
+    let x = collections (p .1 .0) (p .1 .1) (c .before .before .before .before .before .before .before .kind-of .ensures) (c .before .before .before .before .before .before .kind-of2 .ensures) (c .before .before .before .before .before .if1 .left) (c .before .before .before .before .if2 .left) (c .before .before .before .if3 .left) in
+    by-items x _ (c .before .before .length-of .ensures) (c .before .length-of2 .ensures) (c .compare-items .ensures)
 
 compare-items-returns : (t : ℕ) → compare-items-lts.Need-returns (compare-items-calls t) (compare-items-at t) compare-items.Post
 compare-items-returns t c = both-none (c .before .if1 .taken) (c .if2 .taken)
@@ -110,7 +116,10 @@ compare-items-returns-3 : (t : ℕ) → compare-items-lts.Need-returns-3 (compar
 compare-items-returns-3 t c = second-none (c .before .if1 .left) (c .if3 .taken)
 
 compare-items-compare-requires : (t : ℕ) → compare-items-lts.Need-compare-requires (compare-items-calls t) (compare-items-at t) compare-items.Post
-compare-items-compare-requires t c κs = let x = begun (c .before .if1 .left) (c .before .before .before .pre .1 .0) in let y = begun (c .if3 .left) (c .before .before .before .pre .1 .1) in (omega (arith, c .before .before .before .pre .0), (x .held, y .held))
+compare-items-compare-requires t c κs =
+    let x = begun (c .before .if1 .left) (c .before .before .before .pre .1 .0) in
+    let y = begun (c .if3 .left) (c .before .before .before .pre .1 .1) in
+    (omega arith, (x .held, y .held))
 
 compare-items-enum-told : (t : ℕ) → compare-items-lts.Need-enum-told (compare-items-calls t) (compare-items-at t) compare-items.Post
 compare-items-enum-told t c = search needs
@@ -122,19 +131,28 @@ compare-items-enum-told-3 : (t : ℕ) → compare-items-lts.Need-enum-told-3 (co
 compare-items-enum-told-3 t c = search needs
 
 compare-items-length-of-requires : (t : ℕ) → compare-items-lts.Need-length-of-requires (compare-items-calls t) (compare-items-at t) compare-items.Post
-compare-items-length-of-requires t c κs = let x = begun (c .before .before .before .before .if1 .left) (c .before .before .before .before .before .before .pre .1 .0) in x .held
+compare-items-length-of-requires t c κs = begun (c .before .before .before .before .if1 .left) (c .before .before .before .before .before .before .pre .1 .0) .held
 
 compare-items-length-of-requires-2 : (t : ℕ) → compare-items-lts.Need-length-of-requires-2 (compare-items-calls t) (compare-items-at t) compare-items.Post
-compare-items-length-of-requires-2 t c κs = let y = begun (c .before .before .before .before .if3 .left) (c .before .before .before .before .before .before .before .pre .1 .1) in y .held
+compare-items-length-of-requires-2 t c κs = begun (c .before .before .before .before .if3 .left) (c .before .before .before .before .before .before .before .pre .1 .1) .held
 
 compare-items-add-compare-items : (t : ℕ) → compare-items-lts.Need-add-compare-items (compare-items-calls t) (compare-items-at t) compare-items.Post
-compare-items-add-compare-items t c = let x = begun (c .before .before .before .before .before .before .if1 .left) (c .before .before .before .before .before .before .before .before .pre .1 .0) in let y = begun (c .before .before .before .before .before .if3 .left) (c .before .before .before .before .before .before .before .before .pre .1 .1) in omega (arith, c .before .before .before .before .before .before .before .before .good .0, c .before .length-of .ensures .is, c .length-of2 .ensures .is)
+compare-items-add-compare-items t c =
+    let x = begun (c .before .before .before .before .before .before .if1 .left) (c .before .before .before .before .before .before .before .before .pre .1 .0) in
+    let y = begun (c .before .before .before .before .before .if3 .left) (c .before .before .before .before .before .before .before .before .pre .1 .1) in
+    omega arith
 
 compare-items-add-compare-items-2 : (t : ℕ) → compare-items-lts.Need-add-compare-items-2 (compare-items-calls t) (compare-items-at t) compare-items.Post
-compare-items-add-compare-items-2 t c = let x = begun (c .before .before .before .before .before .before .if1 .left) (c .before .before .before .before .before .before .before .before .pre .1 .0) in let y = begun (c .before .before .before .before .before .if3 .left) (c .before .before .before .before .before .before .before .before .pre .1 .1) in omega (arith, c .before .before .before .before .before .before .before .before .good .0, c .before .length-of .ensures .is, c .length-of2 .ensures .is)
+compare-items-add-compare-items-2 t c =
+    let x = begun (c .before .before .before .before .before .before .if1 .left) (c .before .before .before .before .before .before .before .before .pre .1 .0) in
+    let y = begun (c .before .before .before .before .before .if3 .left) (c .before .before .before .before .before .before .before .before .pre .1 .1) in
+    omega arith
 
 compare-items-compare-items-requires : (t : ℕ) → compare-items-lts.Need-compare-items-requires (compare-items-calls t) (compare-items-at t) compare-items.Post
-compare-items-compare-items-requires t c κs = let x = begun (c .before .before .before .before .before .before .if1 .left) (c .before .before .before .before .before .before .before .before .pre .1 .0) in (omega (arith, c .before .before .before .before .before .before .before .before .pre .0, c .before .length-of .ensures .is, c .before .length-of .ensures .low), (rest-items (c .before .before .before .before .before .before .if1 .left) (c .before .length-of .ensures) (c .before .before .before .before .before .before .before .before .pre .1 .0), rest-items (c .before .before .before .before .before .if3 .left) (c .length-of2 .ensures) (c .before .before .before .before .before .before .before .before .pre .1 .1)))
+compare-items-compare-items-requires t c κs =
+    let p = c .before .before .before .before .before .before .before .before .pre in
+    let x = begun (c .before .before .before .before .before .before .if1 .left) (c .before .before .before .before .before .before .before .before .pre .1 .0) in
+    (omega arith, (rest-items (c .before .before .before .before .before .before .if1 .left) (c .before .length-of .ensures) (p .1 .0), rest-items (c .before .before .before .before .before .if3 .left) (c .length-of2 .ensures) (p .1 .1)))
 
 compare-items-returns-4 : (t : ℕ) → compare-items-lts.Need-returns-4 (compare-items-calls t) (compare-items-at t) compare-items.Post
 compare-items-returns-4 t c = first-lower (c .before .before .before .before .if1 .left) (c .before .before .before .if3 .left) (c .before .before .compare .ensures) (c .enum-told .given .1)

@@ -1,10 +1,9 @@
+-- `boolean_at` meets its contract. The byte there is that of the one boolean that stands there.
 use native.Mathlib.Omega.{arith}
 use Rattle.values.proofs.Reading.{boolean-room, boolean-here}
 use borrow.Author.Needs.{needs}
 use Rattle.values.proofs.boolean_at.Statement.{statement}
 use Rattle.values.proofs.boolean_at.Tie as tie
-use Rattle.values.proofs.boolean_at.Reads as reads
-use Rattle.values.proofs.boolean_at.Lts as lts
 
 add-result : tie.Need-add-result
 add-result c = search needs

@@ -1,3 +1,4 @@
+-- `compare_booleans` meets its contract.
 use Rattle.values.proofs.Ordering.{by-booleans}
 use mathlib.Core.Path.{ap₂, _∙_}
 use Rattle.values.specs.Value.{orderℕ}
@@ -5,10 +6,6 @@ use Rattle.values.proofs.Writing.{byte-is}
 use borrow.Author.Needs.{needs}
 use Rattle.values.proofs.compare_booleans.Statement.{statement}
 use Rattle.values.proofs.compare_booleans.Tie as tie
-use Rattle.values.proofs.compare_booleans.Reads as reads
-use Rattle.values.proofs.compare_booleans.Lts as lts
-use Rattle.values.proofs.boolean_at.Reads as boolean-at-reads
-use Rattle.values.proofs.order_numbers.Reads as order-numbers-reads
 
 boolean-at-requires : tie.Need-boolean-at-requires
 boolean-at-requires c κs = search needs

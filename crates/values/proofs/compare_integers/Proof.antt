@@ -1,3 +1,4 @@
+-- `compare_integers` meets its contract.
 use Rattle.values.proofs.Ordering.{by-integers}
 use mathlib.Core.Path.{ap₂, _∙_}
 use mir.Syntax.{w32}
@@ -6,10 +7,6 @@ use Rattle.values.specs.Value.{orderℤ}
 use borrow.Author.Needs.{needs}
 use Rattle.values.proofs.compare_integers.Statement.{statement}
 use Rattle.values.proofs.compare_integers.Tie as tie
-use Rattle.values.proofs.compare_integers.Reads as reads
-use Rattle.values.proofs.compare_integers.Lts as lts
-use Rattle.values.proofs.integer_at.Reads as integer-at-reads
-use Rattle.values.proofs.order_integers.Reads as order-integers-reads
 
 integer-at-requires : tie.Need-integer-at-requires
 integer-at-requires c κs = search needs

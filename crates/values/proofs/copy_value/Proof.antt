@@ -1,11 +1,8 @@
+-- `copy_value` meets its contract. Copying its bytes copies the record.
 use Rattle.values.proofs.Copying.{movable, copied}
 use borrow.Author.Needs.{needs}
 use Rattle.values.proofs.copy_value.Statement.{statement}
 use Rattle.values.proofs.copy_value.Tie as tie
-use Rattle.values.proofs.copy_value.Reads as reads
-use Rattle.values.proofs.copy_value.Lts as lts
-use Rattle.values.proofs.copy_bytes.Reads as copy-bytes-reads
-use Rattle.values.proofs.length_of.Reads as length-of-reads
 
 length-of-requires : tie.Need-length-of-requires
 length-of-requires c κs = search needs

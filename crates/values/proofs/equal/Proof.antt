@@ -1,12 +1,10 @@
+-- `equal` meets its contract. One answer of the order says that they are equal.
 use mathlib.Core.Path.{sym, ap}
 use Rattle.values.specs.Items.{isSame}
 use Rattle.values.proofs.Ordering.{equal-is}
 use borrow.Author.Needs.{needs}
 use Rattle.values.proofs.equal.Statement.{statement}
 use Rattle.values.proofs.equal.Tie as tie
-use Rattle.values.proofs.equal.Reads as reads
-use Rattle.values.proofs.equal.Lts as lts
-use Rattle.values.proofs.compare.Reads as compare-reads
 
 compare-requires : tie.Need-compare-requires
 compare-requires c κs = search needs

@@ -1,3 +1,4 @@
+-- `integer_at` meets its contract. The bits there are those of the one integer that stands there.
 use mathlib.Core.Path.{_∙_}
 use mir.Syntax.{w32}
 use mir.ValLaws.{toZ-ofZ}
@@ -6,9 +7,6 @@ use Rattle.values.proofs.Reading.{integer-room, integer-here}
 use borrow.Author.Needs.{needs}
 use Rattle.values.proofs.integer_at.Statement.{statement}
 use Rattle.values.proofs.integer_at.Tie as tie
-use Rattle.values.proofs.integer_at.Reads as reads
-use Rattle.values.proofs.integer_at.Lts as lts
-use Rattle.integers.proofs.bytes.read32.Reads as read32-reads
 
 add-read32 : tie.Need-add-read32
 add-read32 c = search needs

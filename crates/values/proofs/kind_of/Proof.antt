@@ -1,10 +1,8 @@
+-- `kind_of` meets its contract.
 use Rattle.values.proofs.Reading.{kind-is}
 use borrow.Author.Needs.{needs}
 use Rattle.values.proofs.kind_of.Statement.{statement}
 use Rattle.values.proofs.kind_of.Tie as tie
-use Rattle.values.proofs.kind_of.Reads as reads
-use Rattle.values.proofs.kind_of.Lts as lts
-use Rattle.integers.proofs.bytes.read16.Reads as read16-reads
 
 add-read16 : tie.Need-add-read16
 add-read16 c = search needs

@@ -1,10 +1,8 @@
+-- `length_of` meets its contract.
 use Rattle.values.proofs.Reading.{length-is}
 use borrow.Author.Needs.{needs}
 use Rattle.values.proofs.length_of.Statement.{statement}
 use Rattle.values.proofs.length_of.Tie as tie
-use Rattle.values.proofs.length_of.Reads as reads
-use Rattle.values.proofs.length_of.Lts as lts
-use Rattle.integers.proofs.bytes.read16.Reads as read16-reads
 
 read16-requires : tie.Need-read16-requires
 read16-requires c κs = search needs

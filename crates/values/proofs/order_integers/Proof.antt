@@ -1,8 +1,7 @@
+-- `order_integers` meets its contract. The tests are made on the bits, which are the integers' own.
 use Rattle.values.proofs.Reading.{lower-bits, higher-bits, same-bits}
 use Rattle.values.proofs.order_integers.Statement.{statement}
 use Rattle.values.proofs.order_integers.Tie as tie
-use Rattle.values.proofs.order_integers.Reads as reads
-use Rattle.values.proofs.order_integers.Lts as lts
 
 returns : tie.Need-returns
 returns c = lower-bits _ _ (c .before .fits .a) (c .before .fits .b) (c .if1 .taken)

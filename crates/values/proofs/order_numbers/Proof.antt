@@ -1,10 +1,9 @@
+-- `order_numbers` meets its contract.
 use mathlib.Core.Path.{sym}
 use native.Mathlib.Omega.{arith}
 use Rattle.values.specs.Laws.{lt-lower, gt-higher, eq-same}
 use Rattle.values.proofs.order_numbers.Statement.{statement}
 use Rattle.values.proofs.order_numbers.Tie as tie
-use Rattle.values.proofs.order_numbers.Reads as reads
-use Rattle.values.proofs.order_numbers.Lts as lts
 
 returns : tie.Need-returns
 returns c = sym (lt-lower _ _ (c .if1 .taken))

@@ -1,10 +1,8 @@
+-- `put_boolean` meets its contract.
 use Rattle.values.proofs.Writing.{put-boolean}
 use borrow.Author.Needs.{needs}
 use Rattle.values.proofs.put_boolean.Statement.{statement}
 use Rattle.values.proofs.put_boolean.Tie as tie
-use Rattle.values.proofs.put_boolean.Reads as reads
-use Rattle.values.proofs.put_boolean.Lts as lts
-use Rattle.values.proofs.put_head.Reads as put-head-reads
 
 put-head-requires : tie.Need-put-head-requires
 put-head-requires c κs = search needs

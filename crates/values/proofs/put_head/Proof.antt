@@ -1,10 +1,8 @@
+-- `put_head` meets its contract. Two stores of two bytes are one of four.
 use Rattle.values.proofs.Writing.{put-heading}
 use borrow.Author.Needs.{needs}
 use Rattle.values.proofs.put_head.Statement.{statement}
 use Rattle.values.proofs.put_head.Tie as tie
-use Rattle.values.proofs.put_head.Reads as reads
-use Rattle.values.proofs.put_head.Lts as lts
-use Rattle.integers.proofs.bytes.put16.Reads as put16-reads
 
 put16-requires : tie.Need-put16-requires
 put16-requires c κs = search needs

@@ -1,3 +1,4 @@
+-- `put_integer` meets its contract.
 use mathlib.Core.Path.{ap, _∙_}
 use Prim.Native.Nat.{_+_}
 use lib.IntN.{ℤ}
@@ -9,10 +10,6 @@ use Rattle.values.proofs.Writing.{put-integer}
 use borrow.Author.Needs.{needs}
 use Rattle.values.proofs.put_integer.Statement.{statement}
 use Rattle.values.proofs.put_integer.Tie as tie
-use Rattle.values.proofs.put_integer.Reads as reads
-use Rattle.values.proofs.put_integer.Lts as lts
-use Rattle.integers.proofs.bytes.put32.Reads as put32-reads
-use Rattle.values.proofs.put_head.Reads as put-head-reads
 
 put-head-requires : tie.Need-put-head-requires
 put-head-requires c κs = search needs
