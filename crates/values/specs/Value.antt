@@ -7,9 +7,7 @@ use Prim.Native.Nat.{ℕ, suc, _+_, _/_, _%_, _≤_}
 use lib.IntN.{ℤ}
 use lib.Signed.{ltZ}
 use lib.Dec.{ltb}
-use mir.Syntax.{w32}
-use mir.Val.{ofZ}
-use Rattle.integers.specs.Bytes.{four}
+use Rattle.integers.specs.Bytes.{integerBytes}
 use Rattle.integers.specs.Whole.{InRange}
 use Rattle.values.specs.declared.Order.{Order}
 use Rattle.values.specs.declared.Order.the-variants.{Lower, Same, Higher}
@@ -86,7 +84,7 @@ headed n k bytes = n % 256 ∷ n / 256 ∷ k % 256 ∷ k / 256 ∷ bytes
 unfoldable mutual
   pub encode : Value → List ℕ
   encode (boolean b) = headed 5 1 (byteOf b ∷ [])
-  encode (integer z) = headed 8 2 (four (ofZ w32 z))
+  encode (integer z) = headed 8 2 (integerBytes z)
   encode (collection k vs) = headed (4 + sizes vs) (number k) (encodeItems vs)
 
   pub encodeItems : Items → List ℕ
