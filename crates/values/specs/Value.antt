@@ -9,8 +9,9 @@ use lib.Signed.{ltZ}
 use lib.Dec.{ltb}
 use Rattle.integers.specs.Bytes.{integerBytes}
 use Rattle.integers.specs.Whole.{InRange}
-use Rattle.values.specs.declared.Order.{Order}
-use Rattle.values.specs.declared.Order.the-variants.{Lower, Same, Higher}
+use Rattle.integers.specs.Order.{orderℕ, orderℤ}
+use Rattle.integers.specs.declared.Order.{Order}
+use Rattle.integers.specs.declared.Order.the-variants.{Lower, Same, Higher}
 
 -- ---- values
 
@@ -98,18 +99,6 @@ abbrev pub after : Order → Order → Order
 after Lower o = Lower
 after Same o = o
 after Higher o = Higher
-
--- By two tests: that the first is lower, and that the second is.
-abbrev pub orderBy : Bool → Bool → Order
-orderBy true b = Lower
-orderBy false true = Higher
-orderBy false false = Same
-
-unfoldable pub orderℕ : ℕ → ℕ → Order
-orderℕ a b = orderBy (ltb a b) (ltb b a)
-
-unfoldable pub orderℤ : ℤ → ℤ → Order
-orderℤ a b = orderBy (ltZ a b) (ltZ b a)
 
 -- Within one kind: false before true; integers by size; the others item by item, a prefix before what extends it.
 -- (Two kinds never meet here: `order` has told them apart, so what stands for them is of no account.)
