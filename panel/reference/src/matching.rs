@@ -32,7 +32,7 @@ pub fn bindings<'a>(
     let mut matcher = Matcher::new(table, pattern);
     let mut found = BTreeSet::new();
     for value in values {
-        found.extend(matcher.matches(pattern, value).iter().cloned());
+        found.extend(Rc::unwrap_or_clone(matcher.matches(pattern, value)));
         if found.len() > MAX_BINDINGS {
             return Err(MANY_BINDINGS);
         }
@@ -92,7 +92,7 @@ fn holds_wide_set(value: &Value) -> bool {
 }
 
 /// Matches the parts of one pattern. Ways to match can run into billions where distinct bindings are
-/// few, so what a pattern and a value come to is kept; see also [`Matches`].
+/// few, so what a pattern and a value come to is kept; see also [`Limit`].
 struct Matcher<'a> {
     table: &'a Table,
     /// How often each name stands in the whole pattern.
@@ -109,7 +109,7 @@ impl<'a> Matcher<'a> {
         }
     }
 
-    /// The distinct bindings of a pattern and a value, as far as [`Matches`] keeps them.
+    /// The distinct bindings of a pattern and a value, as far as their [`Limit`] goes.
     fn matches(&mut self, pattern: usize, value: &Value) -> Rc<BTreeSet<Binding>> {
         let (matched, binding) = match (self.table.record(pattern), value) {
             (Record::NamePattern(name), _) => (true, Binding::from([(*name, value.clone())])),
@@ -129,9 +129,12 @@ impl<'a> Matcher<'a> {
         }
         let record = self.table.record(pattern);
         let parts = parts(record);
-        let mut matches = Matches::new(self, &parts);
+        let limits: Vec<Limit> = (0..=parts.len())
+            .map(|count| Limit::new(self, &parts[..count]))
+            .collect();
+        let mut matches = Matches::new(&limits[parts.len()]);
         for items in ways(record, value) {
-            matches.extend(self.pair_up(&parts, &items));
+            matches.extend(self.pair_up(&parts, &items, &limits));
             if matches.are_complete() {
                 break;
             }
@@ -141,54 +144,60 @@ impl<'a> Matcher<'a> {
         found
     }
 
-    /// The bindings of parts matched to the items in their places.
-    fn pair_up(&mut self, parts: &[usize], items: &[Value]) -> BTreeSet<Binding> {
+    /// The bindings of parts matched to the items in their places. The limits are those of the first
+    /// none, one, two and more parts.
+    fn pair_up(&mut self, parts: &[usize], items: &[Value], limits: &[Limit]) -> BTreeSet<Binding> {
         let mut joined = BTreeSet::from([Binding::new()]);
         for (place, (&part, item)) in parts.iter().zip(items).enumerate() {
             if joined.is_empty() {
                 break;
             }
             let found = self.matches(part, item);
-            let mut matches = Matches::new(self, &parts[..=place]);
-            let pairs = joined
-                .iter()
-                .flat_map(|one| found.iter().map(move |other| (one, other)));
-            matches.extend(pairs.filter_map(|(one, other)| join(one, other)));
+            let mut matches = Matches::new(&limits[place + 1]);
+            for one in &joined {
+                matches.extend(found.iter().filter_map(|other| join(one, other)));
+            }
             joined = matches.bindings;
         }
         joined
     }
 }
 
-/// The bindings kept of some parts of a pattern, matched to some values. Of those that agree in the
-/// names which the rest of the whole pattern holds too, one more than a binder may have is kept:
-/// whatever the rest comes to, they stay together or go together, and if they stay the binder has too
-/// many.
-struct Matches {
-    bindings: BTreeSet<Binding>,
+/// How many bindings of some parts of a pattern are kept. Of those that agree in the names which the
+/// rest of the whole pattern holds too, one more than a binder may have is enough: whatever the rest
+/// comes to, they stay together or go together, and if they stay the binder has too many.
+struct Limit {
     /// The names that the rest of the whole pattern holds too.
     shared: BTreeSet<u8>,
-    /// How many are kept for each binding of the shared names.
-    kept: BTreeMap<Binding, usize>,
     /// The most that are kept for each binding of the shared names.
     most: usize,
 }
 
-impl Matches {
-    fn new(matcher: &Matcher, parts: &[usize]) -> Matches {
+impl Limit {
+    fn new(matcher: &Matcher, parts: &[usize]) -> Limit {
         let here = occurrences(matcher.table, parts);
         let stands_elsewhere = |name: &u8| here[name] < matcher.occurrences[name];
         let shared: BTreeSet<u8> = here.keys().copied().filter(stands_elsewhere).collect();
-        let has_names_of_its_own = shared.len() < here.len();
+        let has_only_shared = shared.len() == here.len();
+        let most = if has_only_shared { 1 } else { MAX_BINDINGS + 1 };
+        Limit { shared, most }
+    }
+}
+
+/// The bindings kept of some parts of a pattern, matched to some values.
+struct Matches<'l> {
+    limit: &'l Limit,
+    bindings: BTreeSet<Binding>,
+    /// How many are kept for each binding of the shared names.
+    kept: BTreeMap<Binding, usize>,
+}
+
+impl<'l> Matches<'l> {
+    fn new(limit: &'l Limit) -> Matches<'l> {
         Matches {
+            limit,
             bindings: BTreeSet::new(),
-            shared,
             kept: BTreeMap::new(),
-            most: if has_names_of_its_own {
-                MAX_BINDINGS + 1
-            } else {
-                1
-            },
         }
     }
 
@@ -199,9 +208,9 @@ impl Matches {
             let Some(binding) = bindings.next() else {
                 break;
             };
-            let kept = self.kept.entry(restricted(&binding, &self.shared));
-            let kept = kept.or_insert(0);
-            if *kept < self.most && self.bindings.insert(binding) {
+            let shared = restricted(&binding, &self.limit.shared);
+            let kept = self.kept.entry(shared).or_insert(0);
+            if *kept < self.limit.most && self.bindings.insert(binding) {
                 *kept += 1;
             }
         }
@@ -209,7 +218,7 @@ impl Matches {
 
     /// Whether nothing more can be kept.
     fn are_complete(&self) -> bool {
-        self.shared.is_empty() && self.bindings.len() >= self.most
+        self.limit.shared.is_empty() && self.bindings.len() >= self.limit.most
     }
 }
 
