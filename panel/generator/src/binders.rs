@@ -14,16 +14,35 @@ struct Binding {
 
 impl Writer {
     /// A let, loose where a choice may stand here.
-    pub fn let_expression(&mut self, shape: &Shape, depth: usize) -> usize {
+    fn let_expression(&mut self, shape: &Shape, depth: usize) -> usize {
         let binding = if self.random.once_in(3) {
             self.plain_let(depth)
         } else {
             self.loose_let(depth)
                 .unwrap_or_else(|| self.plain_let(depth))
         };
-        let body = self.within(&binding.names, |w| w.expression(shape, depth - 1));
+        let body = self.within(&binding.names, |w| w.body(shape, depth - 1));
         self.out
             .node(kind::LET, &[binding.pattern.record, binding.operand, body])
+    }
+
+    /// The body of a let or let-be: now and then a choice again.
+    fn body(&mut self, shape: &Shape, depth: usize) -> usize {
+        if depth > 0 && self.random.once_in(3) {
+            return self.choosing(shape, depth);
+        }
+        self.expression(shape, depth)
+    }
+
+    /// A let-be or a let.
+    pub fn choosing(&mut self, shape: &Shape, depth: usize) -> usize {
+        if self.random.once_in(2) {
+            return self.let_expression(shape, depth);
+        }
+        match self.let_be(shape, depth) {
+            Some(record) => record,
+            None => self.let_expression(shape, depth),
+        }
     }
 
     fn plain_let(&mut self, depth: usize) -> Binding {
@@ -96,7 +115,9 @@ impl Writer {
 
     /// A set to be split; wildly, one of 7 to 9 members.
     fn split_operand(&mut self, member: &Shape, most: usize, depth: usize) -> usize {
-        if self.wildly(12) {
+        let splits_of_seven = 128f64.ln();
+        if self.times == 1 && self.lists > splits_of_seven && self.wildly(10) {
+            self.lists -= splits_of_seven;
             let most = self.random.between(7, 9);
             return self.out.range(1, most);
         }
@@ -107,7 +128,7 @@ impl Writer {
     }
 
     /// A let-be; nothing where a choice may not stand here.
-    pub fn let_be(&mut self, shape: &Shape, depth: usize) -> Option<usize> {
+    fn let_be(&mut self, shape: &Shape, depth: usize) -> Option<usize> {
         let before = self.mark();
         let binding = self.set_binding(6, depth);
         if !self.afford_choice(binding.pattern.bindings) {
@@ -115,7 +136,7 @@ impl Writer {
             return None;
         }
         let condition = self.condition(&binding.names, depth);
-        let body = self.within(&binding.names, |w| w.expression(shape, depth - 1));
+        let body = self.within(&binding.names, |w| w.body(shape, depth - 1));
         let operands = [binding.pattern.record, binding.operand, condition, body];
         Some(self.out.node(kind::LET_BE, &operands))
     }

@@ -70,7 +70,7 @@ impl Writer {
     }
 
     /// The forms that can give any shape.
-    pub fn of_any_shape(&mut self, shape: &Shape, depth: usize) -> usize {
+    fn of_any_shape(&mut self, shape: &Shape, depth: usize) -> usize {
         match self.random.below(10) {
             0 => {
                 let test = self.expression(&Shape::Boolean, depth - 1);
@@ -78,11 +78,7 @@ impl Writer {
                 let no = self.expression(shape, depth - 1);
                 self.out.node(kind::IF, &[test, yes, no])
             }
-            1..=3 => self.let_expression(shape, depth),
-            4..=6 => match self.let_be(shape, depth) {
-                Some(record) => record,
-                None => self.let_expression(shape, depth),
-            },
+            1..=6 => self.choosing(shape, depth),
             7 => self.iota(shape, depth),
             8 => self.apply(shape, depth),
             _ => {

@@ -54,7 +54,7 @@ fn attempt(mut random: Random, most_records: usize, wild: bool) -> Builder {
     if writer.random.once_in(4) {
         writer.expression(&shape, depth);
     } else {
-        writer.of_any_shape(&shape, depth);
+        writer.choosing(&shape, depth);
     }
     if writer.random.once_in(3) {
         return writer.out.shuffled(&mut writer.random);
