@@ -5,7 +5,7 @@ use std::rc::Rc;
 
 use crate::answer::{MANY_BINDINGS, WIDE_UNION};
 use crate::operators::Tried;
-use crate::table::{Record, Table};
+use crate::table::{is_loose_pattern, pattern_names, Record, Table};
 use crate::value::Value;
 
 /// A value for each name. The bindings of one pattern hold the same names, so that their order goes by
@@ -32,7 +32,8 @@ pub fn bindings<'a>(
     let mut matcher = Matcher::new(table, pattern);
     let mut found = BTreeSet::new();
     for value in values {
-        found.extend(Rc::unwrap_or_clone(matcher.matches(pattern, value)));
+        let matches = matcher.matches(pattern, value, &Binding::new());
+        found.extend(Rc::unwrap_or_clone(matches));
         if found.len() > MAX_BINDINGS {
             return Err(MANY_BINDINGS);
         }
@@ -97,7 +98,7 @@ struct Matcher<'a> {
     table: &'a Table,
     /// How often each name stands in the whole pattern.
     occurrences: BTreeMap<u8, usize>,
-    known: HashMap<(usize, Value), Rc<BTreeSet<Binding>>>,
+    known: HashMap<(usize, Value, Binding), Rc<BTreeSet<Binding>>>,
 }
 
 impl<'a> Matcher<'a> {
@@ -109,32 +110,39 @@ impl<'a> Matcher<'a> {
         }
     }
 
-    /// The distinct bindings of a pattern and a value, as far as their [`Limit`] goes.
-    fn matches(&mut self, pattern: usize, value: &Value) -> Rc<BTreeSet<Binding>> {
-        let (matched, binding) = match (self.table.record(pattern), value) {
-            (Record::NamePattern(name), _) => (true, Binding::from([(*name, value.clone())])),
-            (Record::AnyPattern, _) => (true, Binding::new()),
-            (Record::BooleanPattern(b), _) => (*value == Value::Boolean(*b), Binding::new()),
-            (Record::IntegerPattern(i), _) => (*value == Value::Integer(*i), Binding::new()),
-            _ => return self.compound(pattern, value),
+    /// The distinct bindings of a pattern and a value, as far as their [`Limit`] goes, that agree with
+    /// what some names of the pattern are bound to already.
+    fn matches(&mut self, pattern: usize, value: &Value, bound: &Binding) -> Rc<BTreeSet<Binding>> {
+        let (matched, binding) = match self.table.record(pattern) {
+            Record::NamePattern(name) => {
+                let agrees = bound.get(name).is_none_or(|before| before == value);
+                (agrees, Binding::from([(*name, value.clone())]))
+            }
+            Record::AnyPattern => (true, Binding::new()),
+            Record::BooleanPattern(truth) => (*value == Value::Boolean(*truth), Binding::new()),
+            Record::IntegerPattern(number) => (*value == Value::Integer(*number), Binding::new()),
+            _ => return self.compound(pattern, value, bound),
         };
         Rc::new(BTreeSet::from_iter(matched.then_some(binding)))
     }
 
     /// [`Matcher::matches`] for a pattern that has parts.
-    fn compound(&mut self, pattern: usize, value: &Value) -> Rc<BTreeSet<Binding>> {
-        let key = (pattern, value.clone());
+    fn compound(
+        &mut self,
+        pattern: usize,
+        value: &Value,
+        bound: &Binding,
+    ) -> Rc<BTreeSet<Binding>> {
+        let key = (pattern, value.clone(), bound.clone());
         if let Some(known) = self.known.get(&key) {
             return Rc::clone(known);
         }
         let record = self.table.record(pattern);
-        let parts = parts(record);
-        let limits: Vec<Limit> = (0..=parts.len())
-            .map(|count| Limit::new(self, &parts[..count]))
-            .collect();
-        let mut matches = Matches::new(&limits[parts.len()]);
+        let whole = Limit::new(self, &parts(record), bound);
+        let steps = self.steps(&parts(record), bound);
+        let mut matches = Matches::new(&whole);
         for items in ways(record, value) {
-            matches.extend(self.pair_up(&parts, &items, &limits));
+            matches.extend(self.pair_up(&steps, &items, bound));
             if matches.are_complete() {
                 break;
             }
@@ -144,18 +152,31 @@ impl<'a> Matcher<'a> {
         found
     }
 
-    /// The bindings of parts matched to the items in their places. The limits are those of the first
-    /// none, one, two and more parts.
-    fn pair_up(&mut self, parts: &[usize], items: &[Value], limits: &[Limit]) -> BTreeSet<Binding> {
-        let mut joined = BTreeSet::from([Binding::new()]);
-        for (place, (&part, item)) in parts.iter().zip(items).enumerate() {
-            if joined.is_empty() {
-                break;
-            }
-            let found = self.matches(part, item);
-            let mut matches = Matches::new(&limits[place + 1]);
+    /// The parts of a pattern in the order in which they are matched: loose ones last, when more names
+    /// are bound.
+    fn steps(&self, parts: &[usize], bound: &Binding) -> Vec<Step> {
+        let records = self.table.records();
+        let mut places: Vec<usize> = (0..parts.len()).collect();
+        places.sort_by_key(|&place| is_loose_pattern(records, parts[place]));
+        let ordered: Vec<usize> = places.iter().map(|&place| parts[place]).collect();
+        let step = |(index, place): (usize, usize)| Step {
+            place,
+            part: parts[place],
+            names: pattern_names(records, parts[place]),
+            limit: Limit::new(self, &ordered[..=index], bound),
+        };
+        places.into_iter().enumerate().map(step).collect()
+    }
+
+    /// The bindings of parts matched to the items in their places.
+    fn pair_up(&mut self, steps: &[Step], items: &[Value], bound: &Binding) -> BTreeSet<Binding> {
+        let mut joined = BTreeSet::from([bound.clone()]);
+        for step in steps {
+            let mut matches = Matches::new(&step.limit);
             for one in &joined {
-                matches.extend(found.iter().filter_map(|other| join(one, other)));
+                let bound = restricted(one, &step.names);
+                let found = self.matches(step.part, &items[step.place], &bound);
+                matches.extend(found.iter().map(|other| join(one, other)));
             }
             joined = matches.bindings;
         }
@@ -163,19 +184,30 @@ impl<'a> Matcher<'a> {
     }
 }
 
+/// A part of a pattern, at its turn.
+struct Step {
+    /// Which of the parts it is.
+    place: usize,
+    part: usize,
+    names: BTreeSet<u8>,
+    /// The limit of the parts up to this one.
+    limit: Limit,
+}
+
 /// How many bindings of some parts of a pattern are kept. Of those that agree in the names which the
 /// rest of the whole pattern holds too, one more than a binder may have is enough: whatever the rest
 /// comes to, they stay together or go together, and if they stay the binder has too many.
 struct Limit {
-    /// The names that the rest of the whole pattern holds too.
+    /// The names that the rest of the whole pattern holds too, unless they are bound already.
     shared: BTreeSet<u8>,
     /// The most that are kept for each binding of the shared names.
     most: usize,
 }
 
 impl Limit {
-    fn new(matcher: &Matcher, parts: &[usize]) -> Limit {
-        let here = occurrences(matcher.table, parts);
+    fn new(matcher: &Matcher, parts: &[usize], bound: &Binding) -> Limit {
+        let mut here = occurrences(matcher.table, parts);
+        here.retain(|name, _| !bound.contains_key(name));
         let stands_elsewhere = |name: &u8| here[name] < matcher.occurrences[name];
         let shared: BTreeSet<u8> = here.keys().copied().filter(stands_elsewhere).collect();
         let has_only_shared = shared.len() == here.len();
@@ -242,15 +274,11 @@ fn occurrences(table: &Table, patterns: &[usize]) -> BTreeMap<u8, usize> {
     counts
 }
 
-/// Two bindings as one, unless a name has two values.
-fn join(one: &Binding, other: &Binding) -> Option<Binding> {
-    let agree = |(name, value): (&u8, &Value)| one.get(name).is_none_or(|v| v == value);
-    if !other.iter().all(agree) {
-        return None;
-    }
+/// Two bindings as one; they agree in the names of both.
+fn join(one: &Binding, other: &Binding) -> Binding {
     let mut joined = one.clone();
     joined.extend(other.iter().map(|(name, value)| (*name, value.clone())));
-    Some(joined)
+    joined
 }
 
 /// The parts of a pattern.
