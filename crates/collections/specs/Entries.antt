@@ -4,7 +4,7 @@ use mathlib.Core.Bool.{Bool, true, false}
 use mathlib.Core.Option.{Option, none as absent, some}
 use Prim.Native.Nat.{ℕ, _+_}
 use native.Mathlib.Omega.{arith}
-use Rattle.values.specs.declared.Order.the-variants.{Lower, Same, Higher}
+use Rattle.integers.specs.declared.Order.the-variants.{Lower, Same, Higher}
 use Rattle.values.specs.Value.{Value, Items, none, more, count, everyOther, keys, size, sizes, order, Before, Ascending, PairedFrom, Paired, Sound, SoundItems}
 use Rattle.values.specs.Items.{pick, isSame, same, isMember, insert, lookup, enter}
 use Rattle.values.specs.Laws.{same-equal, order-refl, higher-flip, same-true}

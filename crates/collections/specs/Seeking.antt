@@ -4,8 +4,8 @@ use mathlib.Core.Bool.{Bool, true, false, not}
 use mathlib.Core.Option.{none as absent, some}
 use Prim.Native.Nat.{ℕ, _+_}
 use native.Mathlib.Omega.{arith}
-use Rattle.values.specs.declared.Order.{Order}
-use Rattle.values.specs.declared.Order.the-variants.{Lower, Same, Higher}
+use Rattle.integers.specs.declared.Order.{Order}
+use Rattle.integers.specs.declared.Order.the-variants.{Lower, Same, Higher}
 use Rattle.values.specs.Value.{Value, Items, none, more, everyOther, keys, size, sizes, order, Ascending, Paired}
 use Rattle.values.specs.Items.{isSame, same, isMember, inOrder, join, insert, lookup, enter}
 use Rattle.collections.specs.declared.finding.Sought.{Sought}

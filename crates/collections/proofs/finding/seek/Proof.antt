@@ -6,7 +6,7 @@ use Prim.Native.Nat.{ℕ, _+_, _-_, _<_}
 use native.Mathlib.Omega.{arith}
 use borrow.Author.Needs.{needs}
 use Rattle.integers.specs.Bytes.{word}
-use Rattle.values.specs.declared.Order.{Order}
+use Rattle.integers.specs.declared.Order.{Order}
 use Rattle.values.specs.Items.{inOrder}
 use Rattle.values.specs.Records.{holds}
 use Rattle.collections.specs.declared.finding.Sought.the-variants.{Here, Before}
