@@ -52,7 +52,8 @@ module _ {s t : List ℕ} {at n kind : ℕ} (h : PutHead s t at n kind) where
   pub headed-run : {to : ℕ} (k : Kind) (vs : Items) → kind ≡ number k → at + n ≡ to → n ≤ limit → Shaped k vs → ItemsAt s (at + 4) to vs → At t at (collection k vs)
   headed-run k vs e end short shaped x = closed n (h .bytes ∙ ap (λ (j : ℕ). sets s at (heading n j)) e) end short shaped x
 
-  pub headed-both : {p to : ℕ} (k : Kind) (us vs : Items) → kind ≡ number k → at + n ≡ to → n ≤ limit → Shaped k (join us vs) → ItemsAt s (at + 4) p us → ItemsAt s p to vs → At t at (collection k (join us vs))
+  pub headed-both : {p to : ℕ} (k : Kind) (us vs : Items) → kind ≡ number k → at + n ≡ to → n ≤ limit → Shaped k (join us vs)
+      → ItemsAt s (at + 4) p us → ItemsAt s p to vs → At t at (collection k (join us vs))
   headed-both k us vs e end short shaped x y =
       let f = x .ends in
       let g = y .ends in
@@ -114,7 +115,8 @@ pub slot-in : {k : Kind} {s : List ℕ} {at x : ℕ} (p : ℕ) → Room k s at x
 slot-in p r low high = record { held = holds (r .held .here); low = low; high = high; room = r .room; item = r .item; apart = r .apart }
 
 -- the items of a collection that part at q
-pub parts-at : {k : Kind} {s : List ℕ} {at : ℕ} {vs : Items} → At s at (collection k vs) → (us ws : Items) → vs ≡ join us ws → (q : ℕ) → q ≡ at + 4 + sizes us → ItemsAt s (at + 4) q us × ItemsAt s q (at + word s at) ws
+pub parts-at : {k : Kind} {s : List ℕ} {at : ℕ} {vs : Items} → At s at (collection k vs) → (us ws : Items) → vs ≡ join us ws → (q : ℕ)
+    → q ≡ at + 4 + sizes us → ItemsAt s (at + 4) q us × ItemsAt s q (at + word s at) ws
 parts-at {k} {s} {at} {vs} h us ws e q d =
     let both = parted us ws (subst (λ (l : Items). ItemsAt s (at + 4) (at + word s at) l) e (items-to refl h)) in
     (subst (λ (j : ℕ). ItemsAt s (at + 4) j us) (sym d) (both .0), subst (λ (j : ℕ). ItemsAt s j (at + word s at) ws) (sym d) (both .1))

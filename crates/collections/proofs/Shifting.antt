@@ -19,7 +19,8 @@ shift-start s at to n =
     let z : n - n ≡ 0 = omega arith in
     record { few = omega arith; outside = outside-none s (to + n) (to + n); bytes = rw z }
 
-pub shift-step : (s₀ s : List ℕ) (at to n i : ℕ) → at ≤ to → to + n ≤ length s₀ → 0 < i → Shifting s₀ s at to n i → Shifting s₀ (set s (to + (i - 1)) (getD s (at + (i - 1)) 0)) at to n (i - 1)
+pub shift-step : (s₀ s : List ℕ) (at to n i : ℕ) → at ≤ to → to + n ≤ length s₀ → 0 < i → Shifting s₀ s at to n i
+    → Shifting s₀ (set s (to + (i - 1)) (getD s (at + (i - 1)) 0)) at to n (i - 1)
 shift-step s₀ s at to n i up room h inv =
     let j = i - 1 in
     let b = getD s (at + j) 0 in

@@ -57,7 +57,8 @@ key-on k l w vs p o (belongs q us ws e f g h) =
     belongs q (more l (more w us)) ws (lookup-on k l w vs o ∙ e) (ap (λ (ws : Items). more l (more w ws)) f) (omega arith)
     (λ v. enter-higher k v l w vs o ∙ ap (λ (ws : Items). more l (more w ws)) (h v))
 
-key-first : (k l w : Value) (vs : Items) (p : ℕ) (o : Order) (r : Sought) → Paired vs → Ascending (keys (more l (more w vs))) → order k l ≡ o → Key k vs (p + size l + size w) r → Key k (more l (more w vs)) p (inOrder o (Before p) (Here p) r)
+key-first : (k l w : Value) (vs : Items) (p : ℕ) (o : Order) (r : Sought) → Paired vs → Ascending (keys (more l (more w vs))) → order k l ≡ o
+    → Key k vs (p + size l + size w) r → Key k (more l (more w vs)) p (inOrder o (Before p) (Here p) r)
 unfolding everyOther Ascending join size
 key-first k l w vs p Lower r q a e m =
     belongs p none (more l (more w vs)) (lookup-before k l w vs q (a .0) e) refl (omega arith) (λ v. enter-lower k v l (more w vs) e)

@@ -23,7 +23,12 @@ add-put-before : tie.Need-add-put-before
 add-put-before c = search needs
 
 put-before-requires : tie.Need-put-before-requires
-put-before-requires c κs = add-gap (c .before .before .before .before .before .before .before .pre .0) (c .before .before .before .before .length-of .ensures .is) (c .before .before .length-of2 .ensures .is) (c .before .if1 .left)
+put-before-requires c κs =
+    let branch = c .before in
+    let after-length-of2 = branch .before in
+    let after-length-of = after-length-of2 .before .before in
+    let start = after-length-of .before .before .before in
+    add-gap (start .pre .0) (after-length-of .length-of .ensures .is) (after-length-of2 .length-of2 .ensures .is) (branch .if1 .left)
 
 add-put-head : tie.Need-add-put-head
 add-put-head c = search needs
@@ -35,7 +40,14 @@ same-length-2 : tie.Need-same-length-2
 same-length-2 c = search needs
 
 returns-2 : tie.Need-returns-2
-returns-2 c = add-done (c .before .before .before .before .before .before .before .before .before .before .before .before .before .before .pre .0) (c .before .before .before .before .before .before .before .before .before .before .before .length-of .ensures .is) (c .before .before .before .before .before .before .before .before .before .length-of2 .ensures .is) (c .before .before .before .before .before .before .before .before .if1 .left) (c .before .before .before .before .before .before .put-before .ensures) (c .before .before .put-head .ensures)
+returns-2 c =
+    let after-put-head = c .before .before in
+    let after-put-before = after-put-head .before .before .before .before in
+    let branch = after-put-before .before .before in
+    let after-length-of2 = branch .before in
+    let after-length-of = after-length-of2 .before .before in
+    let start = after-length-of .before .before .before in
+    add-done (start .pre .0) (after-length-of .length-of .ensures .is) (after-length-of2 .length-of2 .ensures .is) (branch .if1 .left) (after-put-before .put-before .ensures) (after-put-head .put-head .ensures)
 
 pub add-spec : {M : Type 1} → statement M
 add-spec =

@@ -18,28 +18,44 @@ enum-known-p c = search needs
 
 length-of-requires : tie.Need-length-of-requires
 length-of-requires c κs =
-    let r = c .before .before .before .before .before .before .before .pre in
-    let y = entry (c .before .before .before .before .seek .ensures) _ (c .before .before .p .given .1) (r .key .held .items) (r .key .item .value) (r .key .held .here) (r .key .item .here) in
+    let after-p = c .before .before in
+    let after-seek = after-p .before .before in
+    let start = after-seek .before .before .before in
+    let r = start .pre in
+    let y = entry (after-seek .seek .ensures) _ (after-p .p .given .1) (r .key .held .items) (r .key .item .value) (r .key .held .here) (r .key .item .here) in
     holds (y .key-at)
 
 add-equal : tie.Need-add-equal
 add-equal c =
-    let r = c .before .before .before .before .before .before .before .before .before .pre in
-    let y = entry (c .before .before .before .before .before .before .seek .ensures) _ (c .before .before .before .before .p .given .1) (r .key .held .items) (r .key .item .value) (r .key .held .here) (r .key .item .here) in
+    let after-length-of = c .before in
+    let after-p = after-length-of .before .before .before in
+    let after-seek = after-p .before .before in
+    let start = after-seek .before .before .before in
+    let r = start .pre in
+    let y = entry (after-seek .seek .ensures) _ (after-p .p .given .1) (r .key .held .items) (r .key .item .value) (r .key .held .here) (r .key .item .here) in
     let f = y .value-at .fits in
-    omega (arith, c .before .length-of .ensures .is)
+    omega (arith, after-length-of .length-of .ensures .is)
 
 equal-requires : tie.Need-equal-requires
 equal-requires c κs =
-    let r = c .before .before .before .before .before .before .before .before .before .pre in
-    let y = entry (c .before .before .before .before .before .before .seek .ensures) _ (c .before .before .before .before .p .given .1) (r .key .held .items) (r .key .item .value) (r .key .held .here) (r .key .item .here) in
-    (holds (subst (λ (n : ℕ). At (c .before .before .before .before .before .before .before .before .before .args .s .now) (c .before .before .before .before .p .given .0 .0 + n) (y .value)) (sym (c .before .length-of .ensures .is)) (y .value-at)), r .value .item)
+    let after-length-of = c .before in
+    let after-p = after-length-of .before .before .before in
+    let after-seek = after-p .before .before in
+    let start = after-seek .before .before .before in
+    let r = start .pre in
+    let y = entry (after-seek .seek .ensures) _ (after-p .p .given .1) (r .key .held .items) (r .key .item .value) (r .key .held .here) (r .key .item .here) in
+    (holds (subst (λ (n : ℕ). At (start .args .s .now) (after-p .p .given .0 .0 + n) (y .value)) (sym (after-length-of .length-of .ensures .is)) (y .value-at)), r .value .item)
 
 same-length : tie.Need-same-length
 same-length c = search needs
 
 returns : tie.Need-returns
-returns c = entered-same (c .before .before .before .before .before .before .before .before .seek .ensures) _ (c .before .before .before .before .before .before .p .given .1) (c .before .before .before .length-of .ensures .is) _ (c .before .equal .ensures) (c .if1 .taken)
+returns c =
+    let after-equal = c .before in
+    let after-length-of = after-equal .before .before in
+    let after-p = after-length-of .before .before .before in
+    let after-seek = after-p .before .before in
+    entered-same (after-seek .seek .ensures) _ (after-p .p .given .1) (after-length-of .length-of .ensures .is) _ (after-equal .equal .ensures) (c .if1 .taken)
 
 enum-known-p-2 : tie.Need-enum-known-p-2
 enum-known-p-2 c = search needs
@@ -51,13 +67,22 @@ same-length-2 : tie.Need-same-length-2
 same-length-2 c = search needs
 
 returns-2 : tie.Need-returns-2
-returns-2 c = entered-clash (c .before .before .before .before .before .before .before .before .seek .ensures) _ (c .before .before .before .before .before .before .p .given .1) (c .before .before .before .length-of .ensures .is) _ (c .before .equal .ensures) (c .if1 .left)
+returns-2 c =
+    let after-equal = c .before in
+    let after-length-of = after-equal .before .before in
+    let after-p = after-length-of .before .before .before in
+    let after-seek = after-p .before .before in
+    entered-clash (after-seek .seek .ensures) _ (after-p .p .given .1) (after-length-of .length-of .ensures .is) _ (after-equal .equal .ensures) (c .if1 .left)
 
 same-length-3 : tie.Need-same-length-3
 same-length-3 c = search needs
 
 returns-3 : tie.Need-returns-3
-returns-3 c = entered-before (c .before .before .before .before .before .before .before .seek .ensures) _ (c .before .before .before .before .before .p2 .given .1) (c .before .before .add-entry .ensures)
+returns-3 c =
+    let after-add-entry = c .before .before in
+    let after-p2 = after-add-entry .before .before .before in
+    let after-seek = after-p2 .before .before in
+    entered-before (after-seek .seek .ensures) _ (after-p2 .p2 .given .1) (after-add-entry .add-entry .ensures)
 
 pub enter-spec : {M : Type 1} → statement M
 enter-spec =

@@ -15,7 +15,11 @@ enum-known-p : tie.Need-enum-known-p
 enum-known-p c = search needs
 
 add-requires : tie.Need-add-requires
-add-requires c κs = (insert-slot (c .before .before .before .before .seek .ensures) (c .before .before .before .before .before .before .before .pre) _ (c .before .before .p .given .1), omega arith)
+add-requires c κs =
+    let after-p = c .before .before in
+    let after-seek = after-p .before .before in
+    let start = after-seek .before .before .before in
+    (insert-slot (after-seek .seek .ensures) (start .pre) _ (after-p .p .given .1), omega arith)
 
 same-length : tie.Need-same-length
 same-length c = search needs
@@ -27,7 +31,11 @@ same-length-2 : tie.Need-same-length-2
 same-length-2 c = search needs
 
 returns-2 : tie.Need-returns-2
-returns-2 c = inserted-before (c .before .before .before .before .before .before .before .seek .ensures) _ (c .before .before .before .before .before .p .given .1) (c .before .before .add .ensures)
+returns-2 c =
+    let after-add = c .before .before in
+    let after-p = after-add .before .before .before in
+    let after-seek = after-p .before .before in
+    inserted-before (after-seek .seek .ensures) _ (after-p .p .given .1) (after-add .add .ensures)
 
 pub insert-spec : {M : Type 1} → statement M
 insert-spec =

@@ -14,13 +14,22 @@ shift-up-requires : tie.Need-shift-up-requires
 shift-up-requires c κs = search needs
 
 copy-value-requires : tie.Need-copy-value-requires
-copy-value-requires c κs = gap-copyable (c .before .before .before .before .before .before .before .before .pre) _ (c .before .before .before .before .before .length-of .ensures .is) (c .before .before .before .shift-up .ensures)
+copy-value-requires c κs =
+    let after-shift-up = c .before .before .before in
+    let after-length-of = after-shift-up .before .before in
+    let start = after-length-of .before .before .before in
+    gap-copyable (start .pre) _ (after-length-of .length-of .ensures .is) (after-shift-up .shift-up .ensures)
 
 same-length : tie.Need-same-length
 same-length c = search needs
 
 returns : tie.Need-returns
-returns c = gap-filled (c .before .before .before .before .before .before .before .before .before .before .before .pre) _ (c .before .before .before .before .before .before .before .before .length-of .ensures .is) (c .before .before .before .before .before .before .shift-up .ensures) (c .before .before .copy-value .ensures)
+returns c =
+    let after-copy-value = c .before .before in
+    let after-shift-up = after-copy-value .before .before .before .before in
+    let after-length-of = after-shift-up .before .before in
+    let start = after-length-of .before .before .before in
+    gap-filled (start .pre) _ (after-length-of .length-of .ensures .is) (after-shift-up .shift-up .ensures) (after-copy-value .copy-value .ensures)
 
 pub put-before-spec : {M : Type 1} → statement M
 put-before-spec =

@@ -34,7 +34,10 @@ length-of-requires-2 : tie.Need-length-of-requires-2 Inv-loop μ-loop
 length-of-requires-2 c κs = holds (walk-run (c .before .loop .inv .2) (omega arith) (c .before .before .before .before .pre) .first-at)
 
 add-p-2 : tie.Need-add-p-2 Inv-loop μ-loop
-add-p-2 c = let y = walk-run (c .before .before .loop .inv .2) (omega arith) (c .before .before .before .before .before .pre) in let h = holds (c .before .before .before .before .before .pre .here) in omega (arith, c .length-of2 .ensures .is)
+add-p-2 c =
+    let at-loop = c .before .before in
+    let start = at-loop .before .before .before in
+    let y = walk-run (at-loop .loop .inv .2) (omega arith) (start .pre) in let h = holds (start .pre .here) in omega (arith, c .length-of2 .ensures .is)
 
 loop-less : tie.Need-loop-less Inv-loop μ-loop
 loop-less c = let y = walk-run (c .before .before .loop .inv .2) (omega arith) (c .before .before .before .before .before .pre) in omega (arith, c .length-of2 .ensures .is)

@@ -38,13 +38,19 @@ length-of-requires-2 : tie.Need-length-of-requires-2 Inv-loop μ-loop
 length-of-requires-2 c κs = holds (walk-run (c .before .before .loop .inv .1) (omega arith) (c .before .before .before .before .before .pre) .first-at)
 
 add-p-2 : tie.Need-add-p-2 Inv-loop μ-loop
-add-p-2 c = let y = walk-run (c .before .before .before .loop .inv .1) (omega arith) (c .before .before .before .before .before .before .pre) in let h = holds (c .before .before .before .before .before .before .pre .here) in omega (arith, c .length-of2 .ensures .is)
+add-p-2 c =
+    let at-loop = c .before .before .before in
+    let start = at-loop .before .before .before in
+    let y = walk-run (at-loop .loop .inv .1) (omega arith) (start .pre) in let h = holds (start .pre .here) in omega (arith, c .length-of2 .ensures .is)
 
 loop-less : tie.Need-loop-less Inv-loop μ-loop
 loop-less c = let y = walk-run (c .before .before .before .loop .inv .1) (omega arith) (c .before .before .before .before .before .before .pre) in omega (arith, c .length-of2 .ensures .is)
 
 loop-again : tie.Need-loop-again Inv-loop μ-loop
-loop-again c = (c .before .before .before .loop .inv .0, walk-step (c .before .before .before .loop .inv .1) (omega arith) (λ vs ws v h e. e ∙ nth-on v ws _ (c .before .if1 .left)) _ (c .length-of2 .ensures .is))
+loop-again c =
+    let branch = c .before in
+    let at-loop = branch .before .before in
+    (at-loop .loop .inv .0, walk-step (at-loop .loop .inv .1) (omega arith) (λ vs ws v h e. e ∙ nth-on v ws _ (branch .if1 .left)) _ (c .length-of2 .ensures .is))
 
 returns-2 : tie.Need-returns-2 Inv-loop μ-loop
 returns-2 c = item-missing _ _ (c .before .loop .inv .1) (omega arith)

@@ -34,19 +34,30 @@ loop-holds : tie.Need-loop-holds Inv-loop μ-loop
 loop-holds c = (ap (λ (n : ℕ). c .before .before .args .at + n) (c .length-of .ensures .is), look-start _ _ _ _)
 
 compare-requires : tie.Need-compare-requires Inv-loop μ-loop
-compare-requires c κs = (c .before .before .before .before .before .pre .1, holds (walk-run (c .before .before .loop .inv .1) (omega arith) (c .before .before .before .before .before .pre .0) .first-at))
+compare-requires c κs =
+    let at-loop = c .before .before in
+    let start = at-loop .before .before .before in
+    (start .pre .1, holds (walk-run (at-loop .loop .inv .1) (omega arith) (start .pre .0) .first-at))
 
 enum-told : tie.Need-enum-told Inv-loop μ-loop
 enum-told c = search needs
 
 returns : tie.Need-returns Inv-loop μ-loop
-returns c = look-here _ _ _ _ _ _ (c .before .before .before .before .before .loop .inv .1) (omega arith) (c .before .before .before .if1 .taken) _ (c .before .before .compare .ensures) _ (λ q. ap (λ (o : Order). inOrder o (Before (c .before .before .before .before .before .loop .p)) (Here (c .before .before .before .before .before .loop .p)) q) (c .enum-told .given .1))
+returns c =
+    let after-compare = c .before .before in
+    let branch = after-compare .before in
+    let at-loop = branch .before .before in
+    look-here _ _ _ _ _ _ (at-loop .loop .inv .1) (omega arith) (branch .if1 .taken) _ (after-compare .compare .ensures) _ (λ q. ap (λ (o : Order). inOrder o (Before (at-loop .loop .p)) (Here (at-loop .loop .p)) q) (c .enum-told .given .1))
 
 enum-told-2 : tie.Need-enum-told-2 Inv-loop μ-loop
 enum-told-2 c = search needs
 
 returns-2 : tie.Need-returns-2 Inv-loop μ-loop
-returns-2 c = look-here _ _ _ _ _ _ (c .before .before .before .before .before .loop .inv .1) (omega arith) (c .before .before .before .if1 .taken) _ (c .before .before .compare .ensures) _ (λ q. ap (λ (o : Order). inOrder o (Before (c .before .before .before .before .before .loop .p)) (Here (c .before .before .before .before .before .loop .p)) q) (c .enum-told2 .given .1))
+returns-2 c =
+    let after-compare = c .before .before in
+    let branch = after-compare .before in
+    let at-loop = branch .before .before in
+    look-here _ _ _ _ _ _ (at-loop .loop .inv .1) (omega arith) (branch .if1 .taken) _ (after-compare .compare .ensures) _ (λ q. ap (λ (o : Order). inOrder o (Before (at-loop .loop .p)) (Here (at-loop .loop .p)) q) (c .enum-told2 .given .1))
 
 enum-told-3 : tie.Need-enum-told-3 Inv-loop μ-loop
 enum-told-3 c = search needs
@@ -55,10 +66,16 @@ length-of-requires-2 : tie.Need-length-of-requires-2 Inv-loop μ-loop
 length-of-requires-2 c κs = holds (walk-run (c .before .before .loop .inv .1) (omega arith) (c .before .before .before .before .before .pre .0) .first-at)
 
 add-p-2 : tie.Need-add-p-2 Inv-loop μ-loop
-add-p-2 c = let y = walk-run (c .before .before .before .loop .inv .1) (omega arith) (c .before .before .before .before .before .before .pre .0) in let h = holds (c .before .before .before .before .before .before .pre .0 .here) in omega (arith, c .length-of2 .ensures .is)
+add-p-2 c =
+    let at-loop = c .before .before .before in
+    let start = at-loop .before .before .before in
+    let y = walk-run (at-loop .loop .inv .1) (omega arith) (start .pre .0) in let h = holds (start .pre .0 .here) in omega (arith, c .length-of2 .ensures .is)
 
 loop-less : tie.Need-loop-less Inv-loop μ-loop
-loop-less c = let y = walk-run (c .before .before .before .loop .inv .1) (omega arith) (c .before .before .before .before .before .before .pre .0) in omega (arith, c .length-of2 .ensures .is)
+loop-less c =
+    let at-loop = c .before .before .before in
+    let start = at-loop .before .before .before in
+    let y = walk-run (at-loop .loop .inv .1) (omega arith) (start .pre .0) in omega (arith, c .length-of2 .ensures .is)
 
 loop-again : tie.Need-loop-again Inv-loop μ-loop
 loop-again c =
