@@ -1,0 +1,4 @@
+pub mod Tests
+pub mod GatherLaws
+pub mod RangeLaws
+pub mod EntryLaws
