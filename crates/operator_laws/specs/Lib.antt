@@ -2,3 +2,4 @@ pub mod Tests
 pub mod GatherLaws
 pub mod RangeLaws
 pub mod EntryLaws
+pub mod Results
