@@ -3,3 +3,4 @@ pub mod GatherLaws
 pub mod RangeLaws
 pub mod EntryLaws
 pub mod Results
+pub mod EnumerationLaws
