@@ -4,3 +4,7 @@ pub mod RangeLaws
 pub mod EntryLaws
 pub mod Results
 pub mod EnumerationLaws
+pub mod BooleanLaws
+pub mod SetLaws
+pub mod SequenceLaws
+pub mod MapLaws
