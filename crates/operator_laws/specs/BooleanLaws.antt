@@ -4,7 +4,7 @@ use mathlib.Core.Bool.{Bool, true, false, not, _&&_, _||_, Bool·beq}
 use Rattle.values.specs.Value.{Value, boolean, integer, collection, orderℕ, within}
 use Rattle.values.specs.Items.{same}
 use Rattle.values.specs.Laws.{same-true, true-same}
-use Rattle.operators.specs.Answer.{Answer, is, wrongKind}
+use Rattle.operators.specs.Answer.{Answer, is, refused, wrongKind}
 use Rattle.operators.specs.Booleans.{Connective, and, or, implies, Left, settles, leaves, left, right, truth, negation, biimplication, equality}
 
 -- What the left settles, or else what the right gives.
@@ -28,7 +28,7 @@ connective-table implies true b = refl
 connective-table implies false b = refl
 
 -- THEOREM: a right that is no boolean is wrong only where the left leaves it to the right
-pub connective-right : (c : Connective) (a : Bool) (w : Value) → right w ≡ wrongKind → left c (boolean a) ≡ leaves → decided (left c (boolean a)) (right w) ≡ wrongKind
+pub connective-right : (c : Connective) (a : Bool) (w : Value) → right w ≡ refused wrongKind → left c (boolean a) ≡ leaves → decided (left c (boolean a)) (right w) ≡ refused wrongKind
 connective-right c a w e l = ap (λ (x : Left). decided x (right w)) l ∙ e
 
 -- THEOREM: not and <=>

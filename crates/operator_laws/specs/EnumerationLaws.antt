@@ -231,17 +231,17 @@ mapOf-entries vs us p e = go (addEntries none vs) refl e
 
 -- ---- all of these are well-formed
 
--- What is built is a refusal, or makes a well-formed collection.
+-- What is built makes a well-formed collection, or it is stopped by a refusal from 20 to 28.
 abbrev pub FineBuilt : Kind → Built → Type 0
 FineBuilt k (built vs) = Good k vs
-FineBuilt k (stopped n) = Unit {0}
+FineBuilt k (stopped n) = (20 ≤ n) × (n ≤ 28)
 
 pub closed-fine : (k : Kind) (b : Built) → FineBuilt k b → Fine (closed k b)
 closed-fine k (built vs) g = wellFormed g
-closed-fine k (stopped n) g = tt
+closed-fine k (stopped n) g = g
 
 fitting-fine : (k : Kind) (vs : Items) → Shaped k vs → SoundItems vs → FineBuilt k (fitting vs)
-fitting-fine k vs p s = by-fitting vs (λ h e. rw e (record { shaped = p; sound = s; short = h })) (λ h e. rw e tt)
+fitting-fine k vs p s = by-fitting vs (λ h e. rw e (record { shaped = p; sound = s; short = h })) (λ h e. rw e (omega arith))
 
 pub addMember-fine : (vs : Items) (v : Value) → Good set vs → Sound v → FineBuilt set (addMember vs v)
 addMember-fine vs v g s = fitting-fine set (insert v vs) (ascending-insert v vs (g .shaped)) (sound-insert v vs s (g .sound))
@@ -254,7 +254,7 @@ addEntry-fine vs k v g s t =
     let p = g .shaped .0 in
     by-entry vs k v
     (λ a d. rw d (fitting-fine map (enter k v vs) (paired-enter k v vs p, ascending-enter k v vs p (g .shaped .1)) (sound-enter k v vs p s t (g .sound))))
-    (λ a d. rw d g) (λ w a n d. rw d tt)
+    (λ a d. rw d g) (λ w a n d. rw d (omega arith))
 
 -- Nothing, of a set, a sequence or a map.
 pub no-members : Good set none
@@ -278,7 +278,7 @@ addEntries-fine vs ws q g s =
   where
     go : (ws : Items) (b : Built) → FineBuilt map b → ((us : Items) → Good map us → FineBuilt map (addEntries us ws)) → FineBuilt map (onward b (λ us. addEntries us ws))
     go ws (built us) h f = f us h
-    go ws (stopped n) h f = tt
+    go ws (stopped n) h f = h
 
 -- THEOREMS: enumerations of sound values
 pub setOf-fine : (vs : Items) → SoundItems vs → Fine (setOf vs)

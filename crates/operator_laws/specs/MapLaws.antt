@@ -2,19 +2,22 @@
 use mathlib.Core.Path.{_≡_, refl, sym, ap, _∙_}
 use mathlib.Core.Bool.{Bool, true, false, _&&_}
 use mathlib.Core.Option.{Option, none as absent, some}
-use Prim.Native.Nat.{ℕ}
+use Prim.Native.Nat.{ℕ, _+_, _≤_}
 use native.Mathlib.Omega.{arith}
 use Rattle.integers.specs.Range.{never}
-use Rattle.values.specs.Value.{Value, Items, none, more, everyOther, keys, mapped, Before, Ascending, PairedFrom, Paired}
-use Rattle.values.specs.Items.{pick, same, isMember, lookup}
+use Rattle.values.specs.Value.{Value, Items, none, more, everyOther, keys, mapped, sizes, limit, Before, Ascending, Paired}
+use Rattle.values.specs.Items.{pick, same, isMember, lookup, enter}
 use Rattle.values.specs.Laws.{same-true, true-same}
 use Rattle.collections.specs.Members.{same-refl, pick-true, pick-false}
-use Rattle.collections.specs.Entries.{by-entries, isThere, key-there, before-nothing}
+use Rattle.collections.specs.Entries.{by-entries, isThere, key-there, before-nothing, paired-enter, ascending-enter, lookup-enter, enter-present, sizes-enter}
+use Rattle.operators.specs.Answer.{Built, built, fitting}
 use Rattle.operators.specs.Gather.{insertAll, everyEntry, keepEntries, enterAll}
 use Rattle.operators.specs.Maps.{agrees, compatible}
+use Rattle.operators.specs.Enumerations.{addEntry, onward, addEntries}
 use Rattle.operator_laws.specs.Tests.{both-ways, and-parts, and-both, by-test}
 use Rattle.operator_laws.specs.GatherLaws.{member-none, member-case, member-here, member-there, member-insertAll}
 use Rattle.operator_laws.specs.EntryLaws.{everyEntry-at, passing, lookup-keep, orElse, lookup-enterAll}
+use Rattle.operator_laws.specs.EnumerationLaws.{fits, fits-not, by-fitting, by-entry}
 
 -- ---- dom, rng
 
@@ -111,6 +114,68 @@ module _ (vs ws : Items) (p : Paired vs) (q : Paired ws) (a : Ascending (keys ws
 
   pub merge-neither : (k : Value) → lookup k vs ≡ absent → lookup k ws ≡ absent → lookup k (enterAll vs ws) ≡ absent
   merge-neither k e f = lookup-enterAll k vs ws p q a ∙ ap (λ (o : Option Value). orElse o (lookup k vs)) f ∙ e
+
+-- ---- munion part by part
+
+-- A new key, which is none of ws, keeps two maps compatible.
+compatible-enter : (vs ws : Items) (k v : Value) → Paired vs → Paired ws → Ascending (keys ws) → lookup k ws ≡ absent → compatible vs ws ≡ true → compatible (enter k v vs) ws ≡ true
+compatible-enter vs ws k v p q a n c =
+    compatible-all (enter k v vs) ws q a
+    (λ l x y e f.
+    by-test (same l k) (λ s. clash-free (ap (λ (z : Value). lookup z ws) (same-true l k s) ∙ n) f)
+    (λ s. compatible-at vs ws q c l x y (sym (lookup-enter l k v vs p ∙ pick-false (same l k) (some v) (lookup l vs) s) ∙ e) f))
+
+-- The first entry of the second map beside the first map: its key is new, or has this value.
+by-first : {P : Type 0} (vs ws : Items) (k v : Value) → compatible vs (more k (more v ws)) ≡ true
+    → (lookup k vs ≡ absent → addEntry vs k v ≡ fitting (enter k v vs) → compatible vs ws ≡ true → P)
+    → (lookup k vs ≡ some v → addEntry vs k v ≡ built vs → compatible vs ws ≡ true → P)
+    → P
+unfolding everyEntry
+by-first vs ws k v c f g =
+    let h = and-parts (agrees (lookup k vs) v) (compatible vs ws) c in
+    by-entry vs k v (λ e d. f e d (h .1)) (λ e d. g e d (h .1))
+    (λ w e s d. never (sym s ∙ sym (ap (λ (o : Option Value). agrees o v) e) ∙ h .0))
+
+-- Compatible maps merged are no shorter than the first.
+merge-grows : (vs ws : Items) → Paired vs → Ascending (keys vs) → Paired ws → Ascending (keys ws) → compatible vs ws ≡ true → sizes vs ≤ sizes (enterAll vs ws)
+unfolding everyOther Ascending enterAll
+merge-grows vs ws p a q b c =
+    by-entries (λ (ws : Items). (vs : Items) → Paired vs → Ascending (keys vs) → Ascending (keys ws) → compatible vs ws ≡ true → sizes vs ≤ sizes (enterAll vs ws)) (λ vs p a b c. omega arith)
+    (λ k v ws q r vs p a b c.
+    by-first vs ws k v c
+    (λ e d m.
+    let s = sizes-enter k v vs p e in
+    let n = compatible-enter vs ws k v p q (b .1) (before-nothing k ws q (b .0)) m in
+    let h = r (enter k v vs) (paired-enter k v vs p) (ascending-enter k v vs p a) (b .1) n in
+    omega arith)
+    (λ e d m.
+    let h = r vs p a (b .1) m in
+    let i = ap (λ (us : Items). sizes (enterAll us ws)) (enter-present k v vs p a e) in
+    omega arith))
+    ws q vs p a b c
+
+-- THEOREM: the entries of a compatible map added one by one are the two maps merged, if that fits
+pub addEntries-is : (vs ws : Items) → Paired vs → Ascending (keys vs) → Paired ws → Ascending (keys ws) → 4 + sizes vs ≤ limit → compatible vs ws ≡ true → addEntries vs ws ≡ fitting (enterAll vs ws)
+unfolding everyOther Ascending enterAll addEntries
+addEntries-is vs ws p a q b l c =
+    by-entries
+    (λ (ws : Items). (vs : Items) → Paired vs → Ascending (keys vs) → Ascending (keys ws) → 4 + sizes vs ≤ limit → compatible vs ws ≡ true → addEntries vs ws ≡ fitting (enterAll vs ws))
+    (λ vs p a b l c. sym (fits vs l))
+    (λ k v ws q r vs p a b l c.
+    by-first vs ws k v c
+    (λ e d m.
+    let n = compatible-enter vs ws k v p q (b .1) (before-nothing k ws q (b .0)) m in
+    let pe = paired-enter k v vs p in
+    let ae = ascending-enter k v vs p a in
+    by-fitting (enter k v vs)
+    (λ g f. ap (λ (x : Built). onward x (λ us. addEntries us ws)) (d ∙ f) ∙ r (enter k v vs) pe ae (b .1) g n)
+    (λ g f.
+    ap (λ (x : Built). onward x (λ us. addEntries us ws)) (d ∙ f)
+    ∙ sym (fits-not (enterAll (enter k v vs) ws) (omega (arith, merge-grows (enter k v vs) ws pe ae q (b .1) n)))))
+    (λ e d m.
+    ap (λ (x : Built). onward x (λ us. addEntries us ws)) d ∙ r vs p a (b .1) l m
+    ∙ sym (ap (λ (us : Items). fitting (enterAll us ws)) (enter-present k v vs p a e))))
+    ws q vs p a b l c
 
 -- ---- <:, :>
 

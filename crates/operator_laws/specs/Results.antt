@@ -1,4 +1,4 @@
--- THEOREM: every value that an operator answers is well-formed, where its operands are.
+-- THEOREM: every value that an operator answers is well-formed, where its operands are; every refusal is from 20 to 28.
 use mathlib.Core.Path.{_≡_, refl, sym, ap, subst, _∙_}
 use mathlib.Core.Bool.{Bool, true, false, not, _&&_}
 use mathlib.Core.List.{List, [], _∷_}
@@ -27,7 +27,7 @@ use Rattle.operators.specs.Gather.{every, keep, insertAll, itemsOf, isKind, fla
 use Rattle.operators.specs.Sets.{uniteAll, intersectionOf, howMany, counting, rangeOf}
 use Rattle.operators.specs.Sequences.{headOf, tailOf, itemAt}
 use Rattle.operators.specs.Maps.{compatible, applyItems, applyTo}
-use Rattle.operators.specs.Operators.{noUnary, unaries, unary, noBinary, binaries, binary, leftOf, connectives}
+use Rattle.operators.specs.Operators.{noUnary, unaries, unary, noBinary, binaries, binary}
 use Rattle.operator_laws.specs.Tests.{and-both, and-parts, by-test}
 use Rattle.operator_laws.specs.GatherLaws.{ascending-keep, sound-keep, sizes-keep, ascending-insertAll, sound-insertAll, sizes-insertAll, sound-flatten, sizes-backwards, sound-backwards, count-sizes}
 use Rattle.operator_laws.specs.RangeLaws.{up-le, sound-up, sound-range, ascending-up, sizes-up}
@@ -51,14 +51,17 @@ wellFormed g = record { sound = (g .shaped, g .sound); short = g .short }
 
 -- ---- fine answers
 
--- An answer is a refusal, or a well-formed value.
+-- An answer is a well-formed value, or a refusal from 20 to 28.
 abbrev pub Fine : Answer → Type 0
 Fine (is v) = WellFormed v
-Fine (refused n) = Unit {0}
+Fine (refused n) = (20 ≤ n) × (n ≤ 28)
 
--- What a fine answer says of the value that it is.
+-- What a fine answer says of the value that it is, and of the refusal.
 pub fine-is : {v : Value} {a : Answer} → Fine a → a ≡ is v → WellFormed v
 fine-is f e = subst Fine e f
+
+pub fine-refused : {n : ℕ} {a : Answer} → Fine a → a ≡ refused n → (20 ≤ n) × (n ≤ 28)
+fine-refused f e = subst Fine e f
 
 pub truth-fine : (b : Bool) → Fine (truth b)
 unfolding Sound size
@@ -74,26 +77,26 @@ count-fine {k} {vs} g = let s = g .short in integer-fine (pos (count vs)) (up-le
 
 pub sized-fine : (k : Kind) (vs : Items) → Shaped k vs → SoundItems vs → Fine (sized k vs)
 sized-fine k vs p s =
-    by-test (leb (4 + sizes vs) limit) (λ e. rw e (wellFormed (record { shaped = p; sound = s; short = leb-true (4 + sizes vs) limit e }))) (λ e. rw e tt)
+    by-test (leb (4 + sizes vs) limit) (λ e. rw e (wellFormed (record { shaped = p; sound = s; short = leb-true (4 + sizes vs) limit e }))) (λ e. rw e (omega arith))
 
 found-fine : (o : Option Value) → ((v : Value) → o ≡ some v → Sound v × (size v ≤ limit)) → Fine (found o)
-found-fine absent f = tt
+found-fine absent f = omega arith
 found-fine (some v) f = let h = f v refl in record { sound = h .0; short = h .1 }
 
 -- An answer that is given where a test passes, and else a refusal.
-unless-fine : (b : Bool) (x : Answer) (n : ℕ) → (b ≡ true → Fine x) → Fine (pick b x (refused n))
-unless-fine true x n f = f refl
-unless-fine false x n f = tt
+unless-fine : (b : Bool) (x : Answer) (n : ℕ) → (20 ≤ n) × (n ≤ 28) → (b ≡ true → Fine x) → Fine (pick b x (refused n))
+unless-fine true x n l f = f refl
+unless-fine false x n l f = l
 
 -- ---- kinds
 
 pub kind-fine : (k : Kind) (f : Items → Answer) → ((vs : Items) → Good k vs → Fine (f vs)) → (v : Value) → WellFormed v → Fine (needs (asKind k v) f)
-kind-fine k f h (boolean b) w = tt
-kind-fine k f h (integer z) w = tt
+kind-fine k f h (boolean b) w = omega arith
+kind-fine k f h (integer z) w = omega arith
 kind-fine k f h (collection l vs) w =
     by-test (eqb (number k) (number l))
     (λ e. rw e (h vs (subst (λ (j : Kind). Good j vs) (sym (number-inj k l (eqb-true (number k) (number l) e))) (good w))))
-    (λ e. rw e tt)
+    (λ e. rw e (omega arith))
 
 pub kinds-fine : (k l : Kind) (f : Items → Items → Answer) → ((vs ws : Items) → Good k vs → Good l ws → Fine (f vs ws))
     → (v w : Value) → WellFormed v → WellFormed w → Fine (needsBoth (asKind k v) (asKind l w) f)
@@ -102,14 +105,14 @@ kinds-fine k l f h v w p q =
 
 boolean-fine : (f : Bool → Answer) → ((b : Bool) → Fine (f b)) → (v : Value) → Fine (needs (asBoolean v) f)
 boolean-fine f h (boolean b) = h b
-boolean-fine f h (integer z) = tt
-boolean-fine f h (collection k vs) = tt
+boolean-fine f h (integer z) = omega arith
+boolean-fine f h (collection k vs) = omega arith
 
 whole-fine : (f : ℤ → Answer) → ((z : ℤ) → InRange z → Fine (f z)) → (v : Value) → WellFormed v → Fine (needs (asInteger v) f)
 unfolding Sound
-whole-fine f h (boolean b) w = tt
+whole-fine f h (boolean b) w = omega arith
 whole-fine f h (integer z) w = h z (w .sound)
-whole-fine f h (collection k vs) w = tt
+whole-fine f h (collection k vs) w = omega arith
 
 wholes-fine : (f : ℤ → ℤ → Answer) → ((a b : ℤ) → InRange a → InRange b → Fine (f a b)) → (v w : Value) → WellFormed v → WellFormed w → Fine (needsBoth (asInteger v) (asInteger w) f)
 wholes-fine f h v w p q = whole-fine (λ a. needs (asInteger w) (λ b. f a b)) (λ a r. whole-fine (λ b. f a b) (λ b t. h a b r t) w q) v p
@@ -124,10 +127,10 @@ biimplication-fine v w p q = boolean-fine _ (λ a. boolean-fine _ (λ b. truth-f
 
 answer-fine : (z : ℤ) → Fine (answered (answer z))
 unfolding answer
-answer-fine z = by-test (inRange z) (λ e. rw e (integer-fine z e)) (λ e. rw e tt)
+answer-fine z = by-test (inRange z) (λ e. rw e (integer-fine z e)) (λ e. rw e (omega arith))
 
 divided-fine : (right z : ℤ) → Fine (answered (divided right z))
-divided-fine (pos zero) z = tt
+divided-fine (pos zero) z = omega arith
 divided-fine (pos (suc n)) z = answer-fine z
 divided-fine (negsuc n) z = answer-fine z
 
@@ -174,7 +177,7 @@ item-fine v vs g = let h = g .short in record { sound = g .sound .0; short = ome
 
 intersectionOf-fine : (vs : Items) → every (isKind set) vs ≡ true → Good set vs → Fine (intersectionOf vs)
 unfolding every
-intersectionOf-fine none e g = tt
+intersectionOf-fine none e g = omega arith
 intersectionOf-fine (more v vs) e g =
     keep-fine _ (itemsOf v) (first-good v (and-parts (isKind set v) (every (isKind set) vs) e .0) (item-fine v vs g))
 
@@ -184,17 +187,17 @@ counting-fine z n f =
     (λ e.
     let h = leb-true (4 + 8 * n) limit e in
     rw e (wellFormed (record { shaped = ascending-up z n; sound = f (omega arith); short = omega (arith, sizes-up z n) })))
-    (λ e. rw e tt)
+    (λ e. rw e (omega arith))
 
 -- ---- sequences
 
 headOf-fine : (vs : Items) → Good sequence vs → Fine (headOf vs)
-headOf-fine none g = tt
+headOf-fine none g = omega arith
 headOf-fine (more v vs) g = item-fine v vs g
 
 tailOf-fine : (vs : Items) → Good sequence vs → Fine (tailOf vs)
 unfolding Sound size
-tailOf-fine none g = tt
+tailOf-fine none g = omega arith
 tailOf-fine (more v vs) g = let h = g .short in wellFormed (record { shaped = tt; sound = g .sound .1; short = omega arith })
 
 backwards-fine : (vs : Items) → Good sequence vs → Fine (is (collection sequence (backwards vs)))
@@ -216,9 +219,9 @@ nth-fine (more w ws) zero s v e = let q : w ≡ v = cc in let d = ap size q in (
 nth-fine (more w ws) (suc n) s v e = let h = nth-fine ws n (s .1) v e in (h .0, omega (arith, h .1))
 
 itemAt-fine : (vs : Items) (i : ℤ) → Good sequence vs → Fine (found (itemAt vs i))
-itemAt-fine vs (pos zero) g = tt
+itemAt-fine vs (pos zero) g = omega arith
 itemAt-fine vs (pos (suc n)) g = let s = g .short in found-fine (nth vs n) (λ v e. let h = nth-fine vs n (g .sound) v e in (h .0, omega (arith, h .1)))
-itemAt-fine vs (negsuc n) g = tt
+itemAt-fine vs (negsuc n) g = omega arith
 
 -- ---- maps
 
@@ -253,15 +256,15 @@ lookup-fine k vs p s v e =
 -- ---- apply
 
 applyItems-fine : (k : Kind) (vs : Items) (w : Value) → Good k vs → WellFormed w → Fine (applyItems k vs w)
-applyItems-fine set vs w g q = tt
+applyItems-fine set vs w g q = omega arith
 applyItems-fine sequence vs w g q = whole-fine (λ i. found (itemAt vs i)) (λ i r. itemAt-fine vs i g) w q
 applyItems-fine map vs w g q = let s = g .short in found-fine (lookup w vs) (λ v e. let h = lookup-fine w vs (g .shaped .0) (g .sound) v e in (h .0, omega (arith, h .1)))
-applyItems-fine tuple vs w g q = tt
+applyItems-fine tuple vs w g q = omega arith
 
 -- THEOREM: applying a sequence or a map
 pub apply-fine : (v w : Value) → WellFormed v → WellFormed w → Fine (applyTo v w)
-apply-fine (boolean b) w p q = tt
-apply-fine (integer z) w p q = tt
+apply-fine (boolean b) w p q = omega arith
+apply-fine (integer z) w p q = omega arith
 apply-fine (collection k vs) w p q = applyItems-fine k vs w (good p) q
 
 -- THEOREM: a set range
@@ -281,14 +284,10 @@ settledBy-fine or true = truth-fine true
 settledBy-fine implies false = truth-fine true
 settledBy-fine implies true = tt
 
-left-fine : (c : Connective) (v : Value) → FineLeft (left c v)
+pub left-fine : (c : Connective) (v : Value) → FineLeft (left c v)
 left-fine c (boolean b) = settledBy-fine c b
-left-fine c (integer z) = tt
-left-fine c (collection k vs) = tt
-
-pub leftOf-fine : (n : ℕ) (v : Value) → FineLeft (leftOf n v)
-unfolding leftOf
-leftOf-fine n v = left-fine (getD connectives n and) v
+left-fine c (integer z) = omega arith
+left-fine c (collection k vs) = omega arith
 
 pub right-fine : (w : Value) → Fine (right w)
 right-fine w = boolean-fine (λ b. truth b) (λ b. truth-fine b) w
@@ -300,7 +299,7 @@ AllFine [] = Unit {0}
 AllFine (f ∷ fs) = ((v : Value) → WellFormed v → Fine (f v)) × AllFine fs
 
 at-fine : (fs : List (Value → Answer)) → AllFine fs → (n : ℕ) (v : Value) → WellFormed v → Fine (getD fs n noUnary v)
-at-fine [] a n v w = tt
+at-fine [] a n v w = omega arith
 at-fine (f ∷ fs) a zero v w = a .0 v w
 at-fine (f ∷ fs) a (suc n) v w = at-fine fs (a .1) n v w
 
@@ -309,7 +308,7 @@ AllFine₂ [] = Unit {0}
 AllFine₂ (f ∷ fs) = ((v w : Value) → WellFormed v → WellFormed w → Fine (f v w)) × AllFine₂ fs
 
 at-fine₂ : (fs : List (Value → Value → Answer)) → AllFine₂ fs → (n : ℕ) (v w : Value) → WellFormed v → WellFormed w → Fine (getD fs n noBinary v w)
-at-fine₂ [] a n v w p q = tt
+at-fine₂ [] a n v w p q = omega arith
 at-fine₂ (f ∷ fs) a zero v w p q = a .0 v w p q
 at-fine₂ (f ∷ fs) a (suc n) v w p q = at-fine₂ fs (a .1) n v w p q
 
@@ -317,56 +316,147 @@ at-fine₂ (f ∷ fs) a (suc n) v w p q = at-fine₂ fs (a .1) n v w p q
 pub unary-fine : (n : ℕ) (v : Value) → WellFormed v → Fine (unary n v)
 unfolding unary
 unary-fine n v w =
-    at-fine unaries
-    (λ v w. tt,
-    (negation-fine,
-    (onInteger-fine (λ a. Whole.negation a) (λ a. answer-fine (negℤ a)),
-    (onInteger-fine (λ a. Whole.absolute a) (λ a. answer-fine (pos (natAbs a))),
-    (kind-fine set _ (λ vs g. count-fine g),
-    (kind-fine set _ (λ vs g. unless-fine (every (isKind set) vs) (sized set (uniteAll vs)) 20 (λ e. uniteAll-fine vs g)),
-    (kind-fine set _ (λ vs g. unless-fine (every (isKind set) vs) (intersectionOf vs) 20 (λ e. intersectionOf-fine vs e g)),
-    (kind-fine sequence _ (λ vs g. count-fine g),
-    (kind-fine sequence _ headOf-fine,
-    (kind-fine sequence _ tailOf-fine,
-    (kind-fine sequence _ (λ vs g. insertAll-fine vs (g .sound) (g .short)),
-    (kind-fine sequence _ indexes-fine,
-    (kind-fine sequence _ (λ vs g. unless-fine (every (isKind sequence) vs) (sized sequence (flatten vs)) 20 (λ e. sized-fine sequence (flatten vs) tt (sound-flatten vs (g .sound)))),
-    (kind-fine sequence _ backwards-fine,
-    (kind-fine map _ keys-fine,
-    (kind-fine map _ mapped-fine,
-    tt))))))))))))))))
+    at-fine unaries (
+      λ v w. omega arith,
+      (
+        negation-fine,
+        (
+          onInteger-fine (λ a. Whole.negation a) (λ a. answer-fine (negℤ a)),
+          (
+            onInteger-fine (λ a. Whole.absolute a) (λ a. answer-fine (pos (natAbs a))),
+            (
+              kind-fine set _ (λ vs g. count-fine g),
+              (
+                kind-fine set _ (λ vs g. unless-fine (every (isKind set) vs) (sized set (uniteAll vs)) 20 (omega arith) (λ e. uniteAll-fine vs g)),
+                (
+                  kind-fine set _ (λ vs g. unless-fine (every (isKind set) vs) (intersectionOf vs) 20 (omega arith) (λ e. intersectionOf-fine vs e g)),
+                  (
+                    kind-fine sequence _ (λ vs g. count-fine g),
+                    (
+                      kind-fine sequence _ headOf-fine,
+                      (
+                        kind-fine sequence _ tailOf-fine,
+                        (
+                          kind-fine sequence _ (λ vs g. insertAll-fine vs (g .sound) (g .short)),
+                          (
+                            kind-fine sequence _ indexes-fine,
+                            (
+                              kind-fine sequence _ (λ vs g. unless-fine (every (isKind sequence) vs) (sized sequence (flatten vs)) 20 (omega arith) (λ e. sized-fine sequence (flatten vs) tt (sound-flatten vs (g .sound)))),
+                              (
+                                kind-fine sequence _ backwards-fine,
+                                (
+                                  kind-fine map _ keys-fine,
+                                  (
+                                    kind-fine map _ mapped-fine,
+                                    tt,
+                                  ),
+                                ),
+                              ),
+                            ),
+                          ),
+                        ),
+                      ),
+                    ),
+                  ),
+                ),
+              ),
+            ),
+          ),
+        ),
+      ),
+    )
     n v w
 
 -- THEOREM: a binary operator, 4 to 28
 pub binary-fine : (n : ℕ) (v w : Value) → WellFormed v → WellFormed w → Fine (binary n v w)
 unfolding binary
 binary-fine n v w p q =
-    at-fine₂ binaries
-    (λ v w p q. tt, (λ v w p q. tt, (λ v w p q. tt, (λ v w p q. tt,
-    (biimplication-fine,
-    (λ v w p q. truth-fine _,
-    (λ v w p q. truth-fine _,
-    (onIntegers-fine (λ a b. Whole.sum a b) (λ a b. answer-fine (a +ℤ b)),
-    (onIntegers-fine (λ a b. Whole.difference a b) (λ a b. answer-fine (a -ℤ b)),
-    (onIntegers-fine (λ a b. Whole.product a b) (λ a b. answer-fine (a *ℤ b)),
-    (onIntegers-fine (λ a b. Whole.quotient a b) (λ a b. divided-fine b (divℤ a b)),
-    (onIntegers-fine (λ a b. Whole.remainder a b) (λ a b. divided-fine b (remℤ a b)),
-    (onIntegers-fine (λ a b. Whole.modulus a b) (λ a b. divided-fine b (modℤ a b)),
-    (compared-fine _,
-    (compared-fine _,
-    (compared-fine _,
-    (compared-fine _,
-    (λ v w p q. kind-fine set _ (λ ws g. truth-fine _) w q,
-    (λ v w p q. kind-fine set _ (λ ws g. truth-fine _) w q,
-    (kinds-fine set set _ unite-fine,
-    (kinds-fine set set _ (λ vs ws g h. keep-fine _ vs g),
-    (kinds-fine set set _ (λ vs ws g h. keep-fine _ vs g),
-    (kinds-fine set set _ (λ vs ws g h. truth-fine _),
-    (kinds-fine set set _ (λ vs ws g h. truth-fine _),
-    (kinds-fine sequence sequence _ (λ vs ws g h. sized-fine sequence (join vs ws) tt (sound-join vs ws (g .sound) (h .sound))),
-    (kinds-fine map map _ (λ vs ws g h. unless-fine (compatible vs ws) (sized map (enterAll vs ws)) 27 (λ e. enterAll-fine vs ws g h)),
-    (kinds-fine map map _ enterAll-fine,
-    (kinds-fine set map _ (λ vs ws g h. keepEntries-fine _ ws h),
-    (kinds-fine map set _ (λ vs ws g h. keepEntries-fine _ vs g),
-    tt)))))))))))))))))))))))))))))
+    at-fine₂ binaries (
+      λ v w p q. omega arith,
+      (
+        λ v w p q. omega arith,
+        (
+          λ v w p q. omega arith,
+          (
+            λ v w p q. omega arith,
+            (
+              biimplication-fine,
+              (
+                λ v w p q. truth-fine _,
+                (
+                  λ v w p q. truth-fine _,
+                  (
+                    onIntegers-fine (λ a b. Whole.sum a b) (λ a b. answer-fine (a +ℤ b)),
+                    (
+                      onIntegers-fine (λ a b. Whole.difference a b) (λ a b. answer-fine (a -ℤ b)),
+                      (
+                        onIntegers-fine (λ a b. Whole.product a b) (λ a b. answer-fine (a *ℤ b)),
+                        (
+                          onIntegers-fine (λ a b. Whole.quotient a b) (λ a b. divided-fine b (divℤ a b)),
+                          (
+                            onIntegers-fine (λ a b. Whole.remainder a b) (λ a b. divided-fine b (remℤ a b)),
+                            (
+                              onIntegers-fine (λ a b. Whole.modulus a b) (λ a b. divided-fine b (modℤ a b)),
+                              (
+                                compared-fine _,
+                                (
+                                  compared-fine _,
+                                  (
+                                    compared-fine _,
+                                    (
+                                      compared-fine _,
+                                      (
+                                        λ v w p q. kind-fine set _ (λ ws g. truth-fine _) w q,
+                                        (
+                                          λ v w p q. kind-fine set _ (λ ws g. truth-fine _) w q,
+                                          (
+                                            kinds-fine set set _ unite-fine,
+                                            (
+                                              kinds-fine set set _ (λ vs ws g h. keep-fine _ vs g),
+                                              (
+                                                kinds-fine set set _ (λ vs ws g h. keep-fine _ vs g),
+                                                (
+                                                  kinds-fine set set _ (λ vs ws g h. truth-fine _),
+                                                  (
+                                                    kinds-fine set set _ (λ vs ws g h. truth-fine _),
+                                                    (
+                                                      kinds-fine sequence sequence _ (λ vs ws g h. sized-fine sequence (join vs ws) tt (sound-join vs ws (g .sound) (h .sound))),
+                                                      (
+                                                        kinds-fine map map _ (λ vs ws g h. unless-fine (compatible vs ws) (sized map (enterAll vs ws)) 27 (omega arith) (λ e. enterAll-fine vs ws g h)),
+                                                        (
+                                                          kinds-fine map map _ enterAll-fine,
+                                                          (
+                                                            kinds-fine set map _ (λ vs ws g h. keepEntries-fine _ ws h),
+                                                            (
+                                                              kinds-fine map set _ (λ vs ws g h. keepEntries-fine _ vs g),
+                                                              tt,
+                                                            ),
+                                                          ),
+                                                        ),
+                                                      ),
+                                                    ),
+                                                  ),
+                                                ),
+                                              ),
+                                            ),
+                                          ),
+                                        ),
+                                      ),
+                                    ),
+                                  ),
+                                ),
+                              ),
+                            ),
+                          ),
+                        ),
+                      ),
+                    ),
+                  ),
+                ),
+              ),
+            ),
+          ),
+        ),
+      ),
+    )
     n v w p q

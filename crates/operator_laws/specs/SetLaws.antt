@@ -12,7 +12,7 @@ use Rattle.values.specs.Value.{Kind, set, Value, integer, collection, Items, no
 use Rattle.values.specs.Items.{pick, same, isMember, insert}
 use Rattle.values.specs.Laws.{same-true}
 use Rattle.collections.specs.Members.{member-insert, pick-false, before-apart, insert-present, sizes-insert, count-insert, ascending-insert, same-members}
-use Rattle.operators.specs.Answer.{Answer, is, tooLarge, built, stopped, closed, sized}
+use Rattle.operators.specs.Answer.{Answer, is, refused, tooLarge, built, stopped, closed, sized}
 use Rattle.operators.specs.Gather.{every, any, keep, insertAll, itemsOf, flatten, upFrom}
 use Rattle.operators.specs.Sets.{unite, intersect, without, isSubset, isEmpty, uniteAll, intersectAll, counting, howMany}
 use Rattle.operator_laws.specs.Tests.{both-ways, and-parts, and-both, by-test}
@@ -143,8 +143,8 @@ unite-counts vs (more w ws) a b =
 
 -- Integers that are counted, as a set of known size.
 pub counting-is : (z : ℤ) (n : ℕ) → counting z n ≡ sized set (upFrom z n)
-counting-is z n = ap (λ (k : ℕ). pick (leb (4 + k) limit) (is (collection set (upFrom z n))) tooLarge) (sym (sizes-up z n)) ∙ go (leb (4 + sizes (upFrom z n)) limit)
+counting-is z n = ap (λ (k : ℕ). pick (leb (4 + k) limit) (is (collection set (upFrom z n))) (refused tooLarge)) (sym (sizes-up z n)) ∙ go (leb (4 + sizes (upFrom z n)) limit)
   where
-    go : (b : Bool) → pick b (is (collection set (upFrom z n))) tooLarge ≡ closed set (pick b (built (upFrom z n)) (stopped 28))
+    go : (b : Bool) → pick b (is (collection set (upFrom z n))) (refused tooLarge) ≡ closed set (pick b (built (upFrom z n)) (stopped tooLarge))
     go true = refl
     go false = refl

@@ -11,26 +11,30 @@ pub data Answer : Type 0 where
   is : Value → Answer
   refused : ℕ → Answer
 
-abbrev pub wrongKind : Answer
-wrongKind = refused 20
+-- ---- the refusals of operators, by number
 
-abbrev pub outOfRange : Answer
-outOfRange = refused 21
+abbrev pub wrongKind : ℕ
+wrongKind = 20
 
-abbrev pub byZero : Answer
-byZero = refused 22
+-- integer out of range
+abbrev pub outOfRange : ℕ
+outOfRange = 21
+
+-- div, rem or mod by 0
+abbrev pub byZero : ℕ
+byZero = 22
 
 -- hd or tl of [], dinter of {}, absent index or key
-abbrev pub notThere : Answer
-notThere = refused 26
+abbrev pub notThere : ℕ
+notThere = 26
 
 -- one key, two values
-abbrev pub clash : Answer
-clash = refused 27
+abbrev pub clash : ℕ
+clash = 27
 
 -- value over 512
-abbrev pub tooLarge : Answer
-tooLarge = refused 28
+abbrev pub tooLarge : ℕ
+tooLarge = 28
 
 -- ---- kinds
 
@@ -61,18 +65,18 @@ asMap v = asKind Kind.map v
 
 -- Kinds are tested first: 20 where an operand is of another kind.
 abbrev pub needs : {A : Type 0} → Option A → (A → Answer) → Answer
-needs absent f = wrongKind
+needs absent f = refused wrongKind
 needs (some a) f = f a
 
 abbrev pub needsBoth : {A B : Type 0} → Option A → Option B → (A → B → Answer) → Answer
 needsBoth p q f = needs p (λ a. needs q (λ b. f a b))
 
--- A part that an operator looks up.
-abbrev pub found : Option Value → Answer
-found absent = notThere
-found (some v) = is v
+-- ---- results
 
--- ---- collections that are built
+-- A part of a value that an operator looks up.
+abbrev pub found : Option Value → Answer
+found absent = refused notThere
+found (some v) = is v
 
 -- The items built so far, or the refusal that stopped the building.
 pub data Built : Type 0 where
@@ -81,7 +85,7 @@ pub data Built : Type 0 where
 
 -- 28 as soon as the part built passes 512 bytes.
 abbrev pub fitting : Items → Built
-fitting vs = pick (leb (4 + sizes vs) limit) (built vs) (stopped 28)
+fitting vs = pick (leb (4 + sizes vs) limit) (built vs) (stopped tooLarge)
 
 -- What was built, as a collection.
 abbrev pub closed : Kind → Built → Answer

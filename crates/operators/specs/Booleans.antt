@@ -4,7 +4,7 @@ use mathlib.Core.Option.{Option, none as absent, some}
 use Prim.Native.Nat.{ℕ, zero, suc}
 use Rattle.values.specs.Value.{Value, boolean}
 use Rattle.values.specs.Items.{same}
-use Rattle.operators.specs.Answer.{Answer, is, wrongKind, asBoolean, needs, needsBoth}
+use Rattle.operators.specs.Answer.{Answer, is, refused, wrongKind, asBoolean, needs, needsBoth}
 
 -- A truth value as an answer.
 abbrev pub truth : Bool → Answer
@@ -44,7 +44,7 @@ settledBy implies false = settles (truth true)
 settledBy implies true = leaves
 
 abbrev pub ofLeft : Connective → Option Bool → Left
-ofLeft c absent = settles wrongKind
+ofLeft c absent = settles (refused wrongKind)
 ofLeft c (some a) = settledBy c a
 
 abbrev pub left : Connective → Value → Left

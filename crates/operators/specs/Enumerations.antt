@@ -4,7 +4,7 @@ use mathlib.Core.Bool.{Bool, true, false}
 use mathlib.Core.Option.{Option, none as absent, some}
 use Rattle.values.specs.Value.{Kind, set, sequence, map, tuple, Value, Items, none, more}
 use Rattle.values.specs.Items.{pick, same, snoc, insert, lookup, enter}
-use Rattle.operators.specs.Answer.{Answer, Built, built, stopped, fitting, closed}
+use Rattle.operators.specs.Answer.{Answer, clash, Built, built, stopped, fitting, closed}
 
 -- ---- one part more
 
@@ -17,7 +17,7 @@ addItem vs v = fitting (snoc vs v)
 -- A key that is there already, with this value: nothing to add. With another: 27.
 abbrev pub entered : Option Value → Items → Value → Value → Built
 entered absent vs k v = fitting (enter k v vs)
-entered (some w) vs k v = pick (same v w) (built vs) (stopped 27)
+entered (some w) vs k v = pick (same v w) (built vs) (stopped clash)
 
 abbrev pub addEntry : Items → Value → Value → Built
 addEntry vs k v = entered (lookup k vs) vs k v

@@ -3,7 +3,7 @@ use mathlib.Core.Bool.{Bool, true, false}
 use mathlib.Core.Option.{Option, none as absent, some}
 use Rattle.values.specs.Value.{Kind, set, sequence, map, tuple, Value, boolean, integer, collection, Items, none, more, keys, mapped}
 use Rattle.values.specs.Items.{pick, same, isMember, lookup}
-use Rattle.operators.specs.Answer.{Answer, is, wrongKind, clash, asSet, asMap, asInteger, needs, needsBoth, found, sized}
+use Rattle.operators.specs.Answer.{Answer, is, refused, wrongKind, clash, asSet, asMap, asInteger, needs, needsBoth, found, sized}
 use Rattle.operators.specs.Gather.{insertAll, everyEntry, keepEntries, enterAll}
 use Rattle.operators.specs.Sequences.{itemAt}
 
@@ -26,7 +26,7 @@ compatible vs ws = everyEntry (λ k v. agrees (lookup k vs) v) ws
 
 -- m1 munion m2 (page 20): the two must be compatible, which is tested first; over 512 bytes, 28
 abbrev pub merge : Value → Value → Answer
-merge v w = needsBoth (asMap v) (asMap w) (λ vs ws. pick (compatible vs ws) (sized map (enterAll vs ws)) clash)
+merge v w = needsBoth (asMap v) (asMap w) (λ vs ws. pick (compatible vs ws) (sized map (enterAll vs ws)) (refused clash))
 
 -- m1 ++ m2 (page 20): any common keys are mapped as by m2; the finished map over 512 bytes, 28
 abbrev pub override : Value → Value → Answer
@@ -43,12 +43,12 @@ rangeRestriction v w = needsBoth (asMap v) (asSet w) (λ vs ws. is (collection m
 -- ---- l(i) (page 17), m(d) (page 20)
 
 abbrev pub applyItems : Kind → Items → Value → Answer
-applyItems set vs w = wrongKind
+applyItems set vs w = refused wrongKind
 applyItems sequence vs w = needs (asInteger w) (λ i. found (itemAt vs i))
 applyItems map vs w = found (lookup w vs)
-applyItems tuple vs w = wrongKind
+applyItems tuple vs w = refused wrongKind
 
 abbrev pub applyTo : Value → Value → Answer
-applyTo (boolean b) w = wrongKind
-applyTo (integer z) w = wrongKind
+applyTo (boolean b) w = refused wrongKind
+applyTo (integer z) w = refused wrongKind
 applyTo (collection k vs) w = applyItems k vs w

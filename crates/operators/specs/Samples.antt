@@ -85,6 +85,11 @@ union-1-2-3 : binary 19 (s (n 1 ▹ n 2 ▹ none)) (s (n 2 ▹ n 3 ▹ none)) �
 unfolding binary insertAll insert size within orderℕ orderℤ
 union-1-2-3 = refl
 
+-- 63 integers and one more
+union-64 : binary 19 (s (upFrom (pos 1) 63)) (s (n 0 ▹ none)) ≡ refused 28
+unfolding binary insertAll insert size upFrom within orderℕ orderℤ
+union-64 = refl
+
 difference-10 : binary 21 s2 (s (n 2 ▹ n 4 ▹ n 8 ▹ n 10 ▹ none)) ≡ is (s (n 6 ▹ n 11 ▹ none))
 unfolding binary keep isMember within orderℕ orderℤ
 difference-10 = refl

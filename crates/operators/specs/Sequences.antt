@@ -4,13 +4,13 @@ use Prim.Native.Nat.{ℕ, zero, suc}
 use lib.IntN.{ℤ, pos, negsuc}
 use Rattle.values.specs.Value.{Kind, set, sequence, Value, integer, collection, Items, none, more, count}
 use Rattle.values.specs.Items.{pick, join, nth}
-use Rattle.operators.specs.Answer.{Answer, is, wrongKind, notThere, asSequence, needs, needsBoth, sized}
+use Rattle.operators.specs.Answer.{Answer, is, refused, wrongKind, notThere, asSequence, needs, needsBoth, sized}
 use Rattle.operators.specs.Gather.{every, insertAll, isKind, flatten, backwards}
 use Rattle.operators.specs.Sets.{counting}
 
 -- hd l: l must be non-empty
 abbrev pub headOf : Items → Answer
-headOf none = notThere
+headOf none = refused notThere
 headOf (more v vs) = is v
 
 abbrev pub head : Value → Answer
@@ -18,7 +18,7 @@ head v = needs (asSequence v) (λ vs. headOf vs)
 
 -- tl l: l must be non-empty
 abbrev pub tailOf : Items → Answer
-tailOf none = notThere
+tailOf none = refused notThere
 tailOf (more v vs) = is (collection sequence vs)
 
 abbrev pub tail : Value → Answer
@@ -46,7 +46,7 @@ concatenation v w = needsBoth (asSequence v) (asSequence w) (λ vs ws. sized seq
 
 -- conc ll: a sequence of sequences; over 512 bytes, 28
 abbrev pub distributedConcatenation : Value → Answer
-distributedConcatenation v = needs (asSequence v) (λ vs. pick (every (isKind sequence) vs) (sized sequence (flatten vs)) wrongKind)
+distributedConcatenation v = needs (asSequence v) (λ vs. pick (every (isKind sequence) vs) (sized sequence (flatten vs)) (refused wrongKind))
 
 -- l(i): i must be in the indexes of l, which start at 1
 abbrev pub itemAt : Items → ℤ → Option Value

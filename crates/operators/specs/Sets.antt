@@ -6,7 +6,7 @@ use lib.Dec.{leb}
 use lib.IntN.{ℤ, pos, negsuc, _+ℤ_, _-ℤ_}
 use Rattle.values.specs.Value.{Kind, set, Value, integer, collection, Items, none, more, count, limit}
 use Rattle.values.specs.Items.{pick, isMember}
-use Rattle.operators.specs.Answer.{Answer, is, wrongKind, notThere, tooLarge, asSet, asInteger, needs, needsBoth, sized}
+use Rattle.operators.specs.Answer.{Answer, is, refused, wrongKind, notThere, tooLarge, asSet, asInteger, needs, needsBoth, sized}
 use Rattle.operators.specs.Booleans.{truth}
 use Rattle.operators.specs.Gather.{every, any, keep, insertAll, itemsOf, isKind, flatten, upFrom}
 
@@ -72,15 +72,15 @@ cardinality v = needs (asSet v) (λ vs. is (integer (pos (count vs))))
 
 -- dunion ss (page 15): a set of sets; over 512 bytes, 28
 abbrev pub distributedUnion : Value → Answer
-distributedUnion v = needs (asSet v) (λ vs. pick (every (isKind set) vs) (sized set (uniteAll vs)) wrongKind)
+distributedUnion v = needs (asSet v) (λ vs. pick (every (isKind set) vs) (sized set (uniteAll vs)) (refused wrongKind))
 
 -- dinter ss (page 15): a set of sets, which must be non-empty
 abbrev pub intersectionOf : Items → Answer
-intersectionOf none = notThere
+intersectionOf none = refused notThere
 intersectionOf (more v vs) = is (collection set (intersectAll v vs))
 
 abbrev pub distributedIntersection : Value → Answer
-distributedIntersection v = needs (asSet v) (λ vs. pick (every (isKind set) vs) (intersectionOf vs) wrongKind)
+distributedIntersection v = needs (asSet v) (λ vs. pick (every (isKind set) vs) (intersectionOf vs) (refused wrongKind))
 
 -- ---- {e1, ..., e2} (page 62): the set of integers from e1 to e2 inclusive, empty if e2 is smaller
 
@@ -95,7 +95,7 @@ howMany from to = counted (to -ℤ from +ℤ pos 1)
 
 -- n integers, which take 8 bytes each, from one up; over 512 bytes, 28. (So n is judged before the members are formed.)
 abbrev pub counting : ℤ → ℕ → Answer
-counting from n = pick (leb (4 + 8 * n) limit) (is (collection set (upFrom from n))) tooLarge
+counting from n = pick (leb (4 + 8 * n) limit) (is (collection set (upFrom from n))) (refused tooLarge)
 
 abbrev pub rangeOf : Value → Value → Answer
 rangeOf v w = needsBoth (asInteger v) (asInteger w) (λ from to. counting from (howMany from to))
