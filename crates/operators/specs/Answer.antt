@@ -11,18 +11,10 @@ pub data Answer : Type 0 where
   is : Value → Answer
   refused : ℕ → Answer
 
--- ---- the refusals of operators, by number
+-- ---- the refusals of operators, by number (21 and 22 are the integers' own)
 
 abbrev pub wrongKind : ℕ
 wrongKind = 20
-
--- integer out of range
-abbrev pub outOfRange : ℕ
-outOfRange = 21
-
--- div, rem or mod by 0
-abbrev pub byZero : ℕ
-byZero = 22
 
 -- hd or tl of [], dinter of {}, absent index or key
 abbrev pub notThere : ℕ

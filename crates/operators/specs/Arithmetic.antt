@@ -6,13 +6,14 @@ use Rattle.integers.specs.declared.Number.{Number}
 use Rattle.integers.specs.declared.Number.the-variants.{Is, OutOfRange, ByZero}
 use Rattle.integers.specs.Whole
 use Rattle.values.specs.Value.{Value, integer}
-use Rattle.operators.specs.Answer.{Answer, is, refused, outOfRange, byZero, asInteger, needs, needsBoth}
+use Rattle.operators.specs.Answer.{Answer, is, refused, asInteger, needs, needsBoth}
 use Rattle.operators.specs.Booleans.{truth}
 
+-- An integer, 21 or 22.
 abbrev pub answered : Number → Answer
 answered (Is z) = is (integer z)
-answered OutOfRange = refused outOfRange
-answered ByZero = refused byZero
+answered OutOfRange = refused (Whole.refusal OutOfRange)
+answered ByZero = refused (Whole.refusal ByZero)
 
 -- An operation on one integer, on two, and a comparison of two.
 abbrev pub onInteger : (ℤ → Number) → Value → Answer

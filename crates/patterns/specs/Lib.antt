@@ -1,0 +1,5 @@
+pub mod Ways
+pub mod Binding
+pub mod Pattern
+pub mod Binder
+pub mod Samples

@@ -1,0 +1,139 @@
+-- Document 01, kinds 32 to 40 and "Evaluation": patterns, all bindings of a pattern and a value, and where a set is too large to split.
+use mathlib.Core.Bool.{Bool, true, false, _||_}
+use mathlib.Core.Option.{Option, none as absent, some}
+use mathlib.Core.List.{List, [], _∷_, map}
+use Prim.Native.Nat.{ℕ, suc}
+use lib.Dec.{eqb, ltb}
+use lib.ListN.{length}
+use Rattle.values.specs.Value.{Kind, set, sequence, map as mapping, tuple, number, Value, boolean, integer, collection, Items, none, more}
+use Rattle.values.specs.Items.{pick, same}
+use Rattle.patterns.specs.Ways.{gather, exists, Halves, splits, cuts, orders}
+use Rattle.patterns.specs.Binding.{Binding, nothing, only, together}
+
+-- 32 a name; 33 any; 34 and 35 a literal; 36, 37 and 39 one part for each item, of a tuple, a set or a sequence;
+-- 38 and 40 two parts, for the two halves of a set or a sequence.
+mutual
+  pub data Pattern : Type 0 where
+    name : ℕ → Pattern
+    any : Pattern
+    literal : Value → Pattern
+    each : Kind → Patterns → Pattern
+    halved : Kind → Pattern → Pattern → Pattern
+
+  pub data Patterns : Type 0 where
+    nil : Patterns
+    cons : Pattern → Patterns → Patterns
+
+unfoldable pub parts : Patterns → ℕ
+parts nil = 0
+parts (cons p ps) = suc (parts ps)
+
+-- ---- a value taken apart
+
+unfoldable pub listOf : Items → List Value
+listOf none = []
+listOf (more v vs) = v ∷ listOf vs
+
+unfoldable pub itemsOf : List Value → Items
+itemsOf [] = none
+itemsOf (v ∷ vs) = more v (itemsOf vs)
+
+-- The items of a value of kind k. A value of another kind does not match.
+abbrev pub contents : Kind → Value → Option (List Value)
+contents k (boolean b) = absent
+contents k (integer z) = absent
+contents k (collection l vs) = pick (eqb (number k) (number l)) (some (listOf vs)) absent
+
+-- A set's members are paired with the parts one to one in every way; a tuple's and a sequence's items in their order.
+abbrev pub arrangements : Kind → List Value → List (List Value)
+arrangements set vs = orders vs
+arrangements sequence vs = vs ∷ []
+arrangements mapping vs = []
+arrangements tuple vs = vs ∷ []
+
+-- Every split of a set into two disjoint sets, every cut of a sequence in two.
+abbrev pub divisions : Kind → List Value → List (Halves Value)
+divisions set vs = splits vs
+divisions sequence vs = cuts vs
+divisions mapping vs = []
+divisions tuple vs = []
+
+-- What n parts meet, in every way: as many items of kind k, or nothing.
+abbrev pub met : Kind → ℕ → Option (List Value) → List (List Value)
+met k n absent = []
+met k n (some vs) = pick (eqb n (length vs)) (arrangements k vs) []
+
+-- What two halves meet, in every way.
+abbrev pub split : Kind → Option (List Value) → List (Halves Value)
+split k absent = []
+split k (some vs) = divisions k vs
+
+abbrev pub leftOf : Kind → Halves Value → Value
+leftOf k h = collection k (itemsOf (h .left))
+
+abbrev pub rightOf : Kind → Halves Value → Value
+rightOf k h = collection k (itemsOf (h .right))
+
+-- ---- matching (source 001, PatternMatch)
+
+unfoldable mutual
+  pub matches : Pattern → Value → List Binding
+  matches (name x) v = only x v ∷ []
+  matches any v = nothing ∷ []
+  matches (literal w) v = pick (same w v) (nothing ∷ []) []
+  matches (each k ps) v = gather (met k (parts ps) (contents k v)) (λ vs. matchEach ps vs)
+  matches (halved k p q) v = gather (split k (contents k v)) (λ h. together (matches p (leftOf k h)) (matches q (rightOf k h)))
+
+  -- The first part with the first item, and so on.
+  pub matchEach : Patterns → List Value → List Binding
+  matchEach nil vs = nothing ∷ []
+  matchEach (cons p ps) [] = []
+  matchEach (cons p ps) (v ∷ vs) = together (matches p v) (matchEach ps vs)
+
+-- ---- number 29
+
+-- A union pattern takes sets of at most seven members.
+abbrev pub mostSplit : ℕ
+mostSplit = 7
+
+abbrev pub tooLarge : Kind → Option (List Value) → Bool
+tooLarge k absent = false
+tooLarge set (some vs) = ltb mostSplit (length vs)
+tooLarge sequence (some vs) = false
+tooLarge mapping (some vs) = false
+tooLarge tuple (some vs) = false
+
+-- Somewhere a union pattern is met by a set of over seven members. All parts are tried where kind and count fit.
+unfoldable mutual
+  pub wide : Pattern → Value → Bool
+  wide (name x) v = false
+  wide any v = false
+  wide (literal w) v = false
+  wide (each k ps) v = exists (met k (parts ps) (contents k v)) (λ vs. wideEach ps vs)
+  wide (halved k p q) v = tooLarge k (contents k v) || exists (split k (contents k v)) (λ h. wide p (leftOf k h) || wide q (rightOf k h))
+
+  pub wideEach : Patterns → List Value → Bool
+  wideEach nil vs = false
+  wideEach (cons p ps) [] = false
+  wideEach (cons p ps) (v ∷ vs) = wide p v || wideEach ps vs
+
+-- ---- looseness
+
+-- The pattern holds a 37, 38 or 40.
+abbrev pub isSet : Kind → Bool
+isSet set = true
+isSet sequence = false
+isSet mapping = false
+isSet tuple = false
+
+unfoldable mutual
+  pub loose : Pattern → Bool
+  loose (name x) = false
+  loose any = false
+  loose (literal w) = false
+  loose (each k ps) = isSet k || looseEach ps
+  loose (halved k p q) = true
+
+  pub looseEach : Patterns → Bool
+  looseEach nil = false
+  looseEach (cons p ps) = loose p || looseEach ps

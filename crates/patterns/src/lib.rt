@@ -1,0 +1,1 @@
+// Matching patterns against values, and the bindings of a binder.
