@@ -1,10 +1,10 @@
 -- Theorems on the operators on booleans, and on equality.
-use mathlib.Core.Path.{_≡_, refl, sym, ap, _∙_}
+use mathlib.Core.Path.{_≡_, refl, ap, _∙_}
 use mathlib.Core.Bool.{Bool, true, false, not, _&&_, _||_, Bool·beq}
-use Rattle.values.specs.Value.{Value, boolean, integer, collection, orderℕ, within}
+use Rattle.values.specs.Value.{Value, boolean, orderℕ, within}
 use Rattle.values.specs.Items.{same}
 use Rattle.values.specs.Laws.{same-true, true-same}
-use Rattle.operators.specs.Answer.{Answer, is, refused, wrongKind}
+use Rattle.operators.specs.Answer.{Answer, refused, wrongKind}
 use Rattle.operators.specs.Booleans.{Connective, and, or, implies, Left, settles, leaves, left, right, truth, negation, biimplication, equality}
 
 -- What the left settles, or else what the right gives.

@@ -1,17 +1,16 @@
 -- Laws of the entries of a map: those that pass a test, and entries put into a map.
 use mathlib.Core.Path.{_≡_, refl, sym, ap, _∙_}
-use mathlib.Core.Bool.{Bool, true, false, _&&_}
+use mathlib.Core.Bool.{Bool, true, false}
 use mathlib.Core.Option.{Option, none as absent, some}
-use Prim.Native.Nat.{ℕ, suc, _+_, _≤_}
+use Prim.Native.Nat.{_≤_}
 use native.Mathlib.Omega.{arith}
-use Rattle.integers.specs.Range.{never}
-use Rattle.values.specs.Value.{Value, Items, none, more, count, everyOther, keys, mapped, size, sizes, Before, Ascending, PairedFrom, Paired, Sound, SoundItems}
-use Rattle.values.specs.Items.{pick, same, isMember, lookup, enter}
+use Rattle.values.specs.Value.{Value, Items, none, more, everyOther, keys, size, sizes, Before, Ascending, PairedFrom, Paired, Sound, SoundItems}
+use Rattle.values.specs.Items.{pick, same, lookup, enter}
 use Rattle.values.specs.Laws.{same-true}
-use Rattle.collections.specs.Members.{same-refl, pick-true, pick-false, by-order, before-apart}
-use Rattle.collections.specs.Entries.{by-entries, enter-lower, enter-same, enter-higher, paired-enter, ascending-enter, sound-enter, lookup-enter, isThere, key-there, before-nothing}
+use Rattle.collections.specs.Members.{pick-true, pick-false}
+use Rattle.collections.specs.Entries.{by-entries, paired-enter, ascending-enter, sound-enter, lookup-enter, before-nothing}
 use Rattle.operators.specs.Gather.{everyEntry, keepEntries, enterAll}
-use Rattle.operator_laws.specs.Tests.{and-parts, and-both, by-test}
+use Rattle.operator_laws.specs.Tests.{and-parts, by-test}
 
 -- ---- keys and values
 

@@ -1,22 +1,23 @@
 -- Laws of enumerations and of the parts that they and comprehensions are built of.
-use mathlib.Core.Path.{_≡_, refl, sym, ap, subst, _∙_}
-use mathlib.Core.Bool.{Bool, true, false, _&&_}
+use mathlib.Core.Path.{_≡_, refl, sym, ap, _∙_}
+use mathlib.Core.Bool.{Bool, true, false}
 use mathlib.Core.Option.{Option, none as absent, some}
 use Prim.Native.Nat.{ℕ, _+_, _≤_, _<_}
 use native.Mathlib.Omega.{arith}
 use borrow.Author.Tests.{leb-true, leb-false, le-leb, lt-leb}
 use lib.Dec.{leb}
-use Rattle.values.specs.Value.{Kind, set, sequence, map, tuple, Value, collection, Items, none, more, count, everyOther, keys, size, sizes, limit, Ascending, PairedFrom, Paired, Shaped, Sound, SoundItems}
+use Rattle.values.specs.Value.{Kind, set, sequence, map, tuple, Value, collection, Items, none, more, count, everyOther, size, sizes, limit, Ascending, PairedFrom, Paired, Shaped, Sound, SoundItems}
 use Rattle.values.specs.Items.{pick, same, join, snoc, insert, lookup, enter}
 use Rattle.values.specs.Laws.{same-true, true-same}
-use Rattle.collections.specs.Members.{same-refl, pick-true, pick-false, ascending-insert, sound-insert, sizes-grow}
-use Rattle.collections.specs.Joined.{join-none, join-join, sizes-join, sizes-snoc, sound-snoc}
+use Rattle.values.specs.Encoding.{join-sizes, join-sound, snoc-sizes}
+use Rattle.collections.specs.Members.{pick-true, pick-false, ascending-insert, sound-insert}
+use Rattle.collections.specs.Joined.{join-none, join-join}
 use Rattle.collections.specs.Entries.{by-entries, paired-enter, ascending-enter, sound-enter, lookup-enter}
-use Rattle.operators.specs.Answer.{Answer, is, refused, Built, built, stopped, fitting, closed, sized}
+use Rattle.operators.specs.Answer.{is, Built, built, stopped, fitting, closed, sized}
 use Rattle.operators.specs.Gather.{insertAll, everyEntry}
 use Rattle.operators.specs.Enumerations.{addMember, addItem, entered, addEntry, onward, addMembers, addItems, addEntries, setOf, sequenceOf, mapOf, tupleOf}
 use Rattle.operator_laws.specs.Tests.{and-parts, and-both, by-test}
-use Rattle.operator_laws.specs.GatherLaws.{sizes-grow-all, ascending-insertAll, sound-insertAll}
+use Rattle.operator_laws.specs.GatherLaws.{same-refl, sizes-grow-all, ascending-insertAll, sound-insertAll}
 use Rattle.operator_laws.specs.EntryLaws.{orElse}
 use Rattle.operator_laws.specs.Results.{Good, Fine, wellFormed, sized-fine}
 
@@ -61,7 +62,7 @@ addItems-is vs (more w ws) h =
     (λ g e. ap (λ (b : Built). onward b (λ us. addItems us ws)) e ∙ addItems-is (snoc vs w) ws g ∙ ap fitting (join-join vs (more w none) ws))
     (λ g e.
     ap (λ (b : Built). onward b (λ us. addItems us ws)) e
-    ∙ sym (fits-not (join vs (more w ws)) (omega (arith, sizes-snoc vs w, sizes-join vs (more w ws)))))
+    ∙ sym (fits-not (join vs (more w ws)) (omega (arith, snoc-sizes vs w, join-sizes vs (more w ws)))))
 
 nothing-fits : 4 + sizes none ≤ limit
 unfolding size
@@ -247,7 +248,8 @@ pub addMember-fine : (vs : Items) (v : Value) → Good set vs → Sound v → Fi
 addMember-fine vs v g s = fitting-fine set (insert v vs) (ascending-insert v vs (g .shaped)) (sound-insert v vs s (g .sound))
 
 pub addItem-fine : (vs : Items) (v : Value) → Good sequence vs → Sound v → FineBuilt sequence (addItem vs v)
-addItem-fine vs v g s = fitting-fine sequence (snoc vs v) tt (sound-snoc vs v (g .sound) s)
+unfolding Sound
+addItem-fine vs v g s = fitting-fine sequence (snoc vs v) tt (join-sound vs (more v none) (g .sound) (s, tt))
 
 pub addEntry-fine : (vs : Items) (k v : Value) → Good map vs → Sound k → Sound v → FineBuilt map (addEntry vs k v)
 addEntry-fine vs k v g s t =

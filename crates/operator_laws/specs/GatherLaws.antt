@@ -1,16 +1,20 @@
 -- Laws of items gathered from items: who is among them, and that they stay in order, sound and short.
-use mathlib.Core.Path.{_≡_, refl, sym, ap, ap₂, _∙_}
-use mathlib.Core.Bool.{Bool, true, false, not, _&&_, _||_}
-use Prim.Native.Nat.{ℕ, suc, _+_, _*_, _≤_}
+use mathlib.Core.Path.{_≡_, refl, sym, ap, _∙_}
+use mathlib.Core.Bool.{Bool, true, false, _&&_, _||_}
+use Prim.Native.Nat.{_+_, _≤_}
 use native.Mathlib.Omega.{arith}
 use Rattle.integers.specs.Range.{never}
-use Rattle.values.specs.Value.{Kind, Value, boolean, integer, collection, Items, none, more, count, size, sizes, Before, Ascending, Sound, SoundItems}
+use Rattle.values.specs.Value.{Value, boolean, integer, collection, Items, none, more, count, size, sizes, Before, Ascending, Sound, SoundItems}
 use Rattle.values.specs.Items.{pick, same, join, isMember, insert}
-use Rattle.values.specs.Laws.{same-true}
-use Rattle.collections.specs.Members.{same-refl, by-order, insert-lower, insert-same, insert-higher, member-insert, ascending-insert, sound-insert, sizes-grow}
-use Rattle.collections.specs.Joined.{count-join, sizes-join, sound-join}
-use Rattle.operators.specs.Gather.{every, any, keep, insertAll, itemsOf, isKind, flatten, backwards}
-use Rattle.operator_laws.specs.Tests.{both-ways, and-parts, and-both, or-left, or-right, or-false, and-false, pick-or, or-assoc, by-test}
+use Rattle.values.specs.Laws.{same-true, true-same}
+use Rattle.values.specs.Encoding.{join-sizes, join-sound}
+use Rattle.collections.specs.Members.{member-here, by-order, insert-lower, insert-same, insert-higher, member-insert, ascending-insert, sound-insert, sizes-grow}
+use Rattle.collections.specs.Joined.{count-join}
+use Rattle.operators.specs.Gather.{every, any, keep, insertAll, itemsOf, flatten, backwards}
+use Rattle.operator_laws.specs.Tests.{and-parts, and-both, or-left, or-right, or-false, and-false, pick-or, by-test}
+
+pub same-refl : (v : Value) → same v v ≡ true
+same-refl v = true-same {v = v} refl
 
 -- ---- members
 
@@ -30,9 +34,6 @@ member-case {P} x v vs e f g = go (same x v) refl e
     go : (b : Bool) → same x v ≡ b → pick b true (isMember x vs) ≡ true → P
     go true s e = f (same-true x v s)
     go false s e = g e
-
-pub member-here : (v : Value) (vs : Items) → isMember v (more v vs) ≡ true
-member-here v vs = member-more v v vs ∙ or-left (same v v) (isMember v vs) (same-refl v)
 
 pub member-there : (x v : Value) (vs : Items) → isMember x vs ≡ true → isMember x (more v vs) ≡ true
 member-there x v vs e = member-more x v vs ∙ or-right (same x v) (isMember x vs) e
@@ -183,7 +184,7 @@ sound-itemsOf (collection k vs) s = s .1
 pub sound-flatten : (vs : Items) → SoundItems vs → SoundItems (flatten vs)
 unfolding Sound flatten
 sound-flatten none s = tt
-sound-flatten (more v vs) s = sound-join (itemsOf v) (flatten vs) (sound-itemsOf v (s .0)) (sound-flatten vs (s .1))
+sound-flatten (more v vs) s = join-sound (itemsOf v) (flatten vs) (sound-itemsOf v (s .0)) (sound-flatten vs (s .1))
 
 -- ---- backwards
 
@@ -206,23 +207,9 @@ count-backwards (more v vs) = let e = count-backwards vs in let f = count-join (
 pub sizes-backwards : (vs : Items) → sizes (backwards vs) ≡ sizes vs
 unfolding backwards size
 sizes-backwards none = refl
-sizes-backwards (more v vs) = let e = sizes-backwards vs in let f = sizes-join (backwards vs) (more v none) in omega arith
+sizes-backwards (more v vs) = let e = sizes-backwards vs in let f = join-sizes (backwards vs) (more v none) in omega arith
 
 pub sound-backwards : (vs : Items) → SoundItems vs → SoundItems (backwards vs)
 unfolding backwards Sound
 sound-backwards none s = tt
-sound-backwards (more v vs) s = sound-join (backwards vs) (more v none) (sound-backwards vs (s .1)) (s .0, tt)
-
--- ---- number and size
-
-pub size-low : (v : Value) → 4 ≤ size v
-unfolding size
-size-low (boolean b) = omega arith
-size-low (integer z) = omega arith
-size-low (collection k vs) = omega arith
-
--- Each item takes 4 bytes at least.
-pub count-sizes : (vs : Items) → 4 * count vs ≤ sizes vs
-unfolding size count
-count-sizes none = omega arith
-count-sizes (more v vs) = omega (arith, size-low v, count-sizes vs)
+sound-backwards (more v vs) s = join-sound (backwards vs) (more v none) (sound-backwards vs (s .1)) (s .0, tt)

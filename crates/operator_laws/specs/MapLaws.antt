@@ -1,6 +1,6 @@
 -- Theorems on the operators on maps: what each result maps a key to.
 use mathlib.Core.Path.{_≡_, refl, sym, ap, _∙_}
-use mathlib.Core.Bool.{Bool, true, false, _&&_}
+use mathlib.Core.Bool.{Bool, true, false}
 use mathlib.Core.Option.{Option, none as absent, some}
 use Prim.Native.Nat.{ℕ, _+_, _≤_}
 use native.Mathlib.Omega.{arith}
@@ -8,14 +8,14 @@ use Rattle.integers.specs.Range.{never}
 use Rattle.values.specs.Value.{Value, Items, none, more, everyOther, keys, mapped, sizes, limit, Before, Ascending, Paired}
 use Rattle.values.specs.Items.{pick, same, isMember, lookup, enter}
 use Rattle.values.specs.Laws.{same-true, true-same}
-use Rattle.collections.specs.Members.{same-refl, pick-true, pick-false}
+use Rattle.collections.specs.Members.{member-here, pick-true, pick-false}
 use Rattle.collections.specs.Entries.{by-entries, isThere, key-there, before-nothing, paired-enter, ascending-enter, lookup-enter, enter-present, sizes-enter}
 use Rattle.operators.specs.Answer.{Built, built, fitting}
 use Rattle.operators.specs.Gather.{insertAll, everyEntry, keepEntries, enterAll}
 use Rattle.operators.specs.Maps.{agrees, compatible}
 use Rattle.operators.specs.Enumerations.{addEntry, onward, addEntries}
-use Rattle.operator_laws.specs.Tests.{both-ways, and-parts, and-both, by-test}
-use Rattle.operator_laws.specs.GatherLaws.{member-none, member-case, member-here, member-there, member-insertAll}
+use Rattle.operator_laws.specs.Tests.{and-parts, and-both, by-test}
+use Rattle.operator_laws.specs.GatherLaws.{same-refl, member-none, member-case, member-there, member-insertAll}
 use Rattle.operator_laws.specs.EntryLaws.{everyEntry-at, passing, lookup-keep, orElse, lookup-enterAll}
 use Rattle.operator_laws.specs.EnumerationLaws.{fits, fits-not, by-fitting, by-entry}
 

@@ -1,23 +1,23 @@
 -- Laws of integers one after another: which they are, and that they stay in order, in range and of known size.
 use mathlib.Core.Path.{_≡_, refl, sym, ap, subst, _∙_}
-use mathlib.Core.Bool.{Bool, true, false, _&&_}
+use mathlib.Core.Bool.{true, _&&_}
 use Prim.Native.Nat.{ℕ, zero, suc, _+_, _*_, _≤_, _<_}
 use native.Mathlib.Omega.{arith}
 use borrow.Author.Tests.{leb-true, le-leb, lt-ltb, eqb-true, eqb-false}
-use lib.Dec.{eqb, leb}
+use lib.Dec.{eqb}
 use lib.IntN.{ℤ, pos, negsuc, _+ℤ_, _-ℤ_}
 use lib.Signed.{ltZ, leZ}
 use Rattle.integers.specs.Whole.{least, greatest, InRange}
 use Rattle.integers.specs.Range.{never}
 use Rattle.integers.specs.Parts.{up, down, parts-add, parts-minus, eq-parts}
-use Rattle.values.specs.declared.Order.{Order}
 use Rattle.values.specs.declared.Order.the-variants.{Lower}
-use Rattle.values.specs.Value.{Value, integer, Items, none, more, count, size, sizes, orderℕ, orderℤ, within, order, Before, Ascending, Sound, SoundItems}
+use Rattle.values.specs.Value.{Value, integer, count, size, sizes, orderℕ, orderℤ, within, order, Before, Ascending, Sound, SoundItems}
 use Rattle.values.specs.Items.{isMember}
+use Rattle.collections.specs.Members.{member-here}
 use Rattle.operators.specs.Gather.{upFrom}
 use Rattle.operators.specs.Sets.{counted, howMany}
 use Rattle.operator_laws.specs.Tests.{both-ways, and-parts, and-both, by-test}
-use Rattle.operator_laws.specs.GatherLaws.{member-none, member-case, member-here, member-there}
+use Rattle.operator_laws.specs.GatherLaws.{member-none, member-case, member-there}
 
 -- ---- at most and below, as facts that `omega` reads
 

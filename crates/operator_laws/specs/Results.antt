@@ -1,6 +1,6 @@
 -- THEOREM: every value that an operator answers is well-formed, where its operands are; every refusal is from 20 to 28.
 use mathlib.Core.Path.{_≡_, refl, sym, ap, subst, _∙_}
-use mathlib.Core.Bool.{Bool, true, false, not, _&&_}
+use mathlib.Core.Bool.{Bool, true, false, not}
 use mathlib.Core.List.{List, [], _∷_}
 use mathlib.Core.Option.{Option, none as absent, some}
 use Prim.Native.Nat.{ℕ, zero, suc, _+_, _*_, _≤_}
@@ -9,27 +9,25 @@ use borrow.Author.Tests.{leb-true, eqb-true}
 use lib.Dec.{leb, eqb}
 use lib.IntN.{ℤ, pos, negsuc, negℤ, natAbs, _+ℤ_, _-ℤ_, _*ℤ_}
 use lib.ListN.{getD}
-use lib.Signed.{leZ}
 use Rattle.integers.specs.declared.Number.{Number}
-use Rattle.integers.specs.declared.Number.the-variants.{Is, OutOfRange, ByZero}
 use Rattle.integers.specs.Whole as Whole
 use Rattle.integers.specs.Whole.{greatest, inRange, InRange, answer, divided, divℤ, remℤ, modℤ}
 use Rattle.values.specs.Value.{Kind, set, sequence, map, tuple, number, Value, boolean, integer, collection, Items, none, more, count, keys, mapped, size, sizes, limit, Ascending, Paired, Shaped, Sound, SoundItems, WellFormed}
 use Rattle.values.specs.Items.{pick, same, join, nth, lookup}
 use Rattle.values.specs.Laws.{number-inj}
+use Rattle.values.specs.Encoding.{count-sizes, join-sound}
 use Rattle.collections.specs.Members.{pick-true, pick-false}
-use Rattle.collections.specs.Joined.{sizes-join, sound-join}
 use Rattle.collections.specs.Entries.{by-entries}
-use Rattle.operators.specs.Answer.{Answer, is, refused, asBoolean, asInteger, asKind, needs, needsBoth, found, sized}
-use Rattle.operators.specs.Booleans.{truth, negation, biimplication, equality, inequality, Connective, and, or, implies, Left, settles, leaves, settledBy, left, right}
+use Rattle.operators.specs.Answer.{Answer, is, refused, wrongKind, clash, asBoolean, asInteger, asKind, needs, needsBoth, found, sized}
+use Rattle.operators.specs.Booleans.{truth, negation, biimplication, Connective, and, or, implies, Left, settles, leaves, settledBy, left, right}
 use Rattle.operators.specs.Arithmetic.{answered, onInteger, onIntegers, compared}
 use Rattle.operators.specs.Gather.{every, keep, insertAll, itemsOf, isKind, flatten, backwards, upFrom, keepEntries, enterAll}
 use Rattle.operators.specs.Sets.{uniteAll, intersectionOf, howMany, counting, rangeOf}
 use Rattle.operators.specs.Sequences.{headOf, tailOf, itemAt}
 use Rattle.operators.specs.Maps.{compatible, applyItems, applyTo}
 use Rattle.operators.specs.Operators.{noUnary, unaries, unary, noBinary, binaries, binary}
-use Rattle.operator_laws.specs.Tests.{and-both, and-parts, by-test}
-use Rattle.operator_laws.specs.GatherLaws.{ascending-keep, sound-keep, sizes-keep, ascending-insertAll, sound-insertAll, sizes-insertAll, sound-flatten, sizes-backwards, sound-backwards, count-sizes}
+use Rattle.operator_laws.specs.Tests.{and-parts, by-test}
+use Rattle.operator_laws.specs.GatherLaws.{ascending-keep, sound-keep, sizes-keep, ascending-insertAll, sound-insertAll, sizes-insertAll, sound-flatten, sizes-backwards, sound-backwards}
 use Rattle.operator_laws.specs.RangeLaws.{up-le, sound-up, sound-range, ascending-up, sizes-up}
 use Rattle.operator_laws.specs.EntryLaws.{sound-everyOther, sizes-everyOther, paired-keep, ascending-keys, sound-keepEntries, sizes-keepEntries, paired-enterAll, ascending-enterAll, sound-enterAll}
 
@@ -294,169 +292,86 @@ right-fine w = boolean-fine (λ b. truth b) (λ b. truth-fine b) w
 
 -- ---- by number
 
-abbrev AllFine : List (Value → Answer) → Type 0
-AllFine [] = Unit {0}
-AllFine (f ∷ fs) = ((v : Value) → WellFormed v → Fine (f v)) × AllFine fs
+-- Every operator of a list is fine.
+infixr 40 _▹_
+data Unaries : List (Value → Answer) → Type 0 where
+  end : Unaries []
+  _▹_ : {f : Value → Answer} {fs : List (Value → Answer)} → ((v : Value) → WellFormed v → Fine (f v)) → Unaries fs → Unaries (f ∷ fs)
 
-at-fine : (fs : List (Value → Answer)) → AllFine fs → (n : ℕ) (v : Value) → WellFormed v → Fine (getD fs n noUnary v)
-at-fine [] a n v w = omega arith
-at-fine (f ∷ fs) a zero v w = a .0 v w
-at-fine (f ∷ fs) a (suc n) v w = at-fine fs (a .1) n v w
+infixr 40 _▸_
+data Binaries : List (Value → Value → Answer) → Type 0 where
+  end₂ : Binaries []
+  _▸_ : {f : Value → Value → Answer} {fs : List (Value → Value → Answer)} → ((v w : Value) → WellFormed v → WellFormed w → Fine (f v w)) → Binaries fs → Binaries (f ∷ fs)
 
-abbrev AllFine₂ : List (Value → Value → Answer) → Type 0
-AllFine₂ [] = Unit {0}
-AllFine₂ (f ∷ fs) = ((v w : Value) → WellFormed v → WellFormed w → Fine (f v w)) × AllFine₂ fs
+no-unary-fine : (v : Value) → WellFormed v → Fine (noUnary v)
+no-unary-fine v w = omega arith
 
-at-fine₂ : (fs : List (Value → Value → Answer)) → AllFine₂ fs → (n : ℕ) (v w : Value) → WellFormed v → WellFormed w → Fine (getD fs n noBinary v w)
-at-fine₂ [] a n v w p q = omega arith
-at-fine₂ (f ∷ fs) a zero v w p q = a .0 v w p q
-at-fine₂ (f ∷ fs) a (suc n) v w p q = at-fine₂ fs (a .1) n v w p q
+no-binary-fine : (v w : Value) → WellFormed v → WellFormed w → Fine (noBinary v w)
+no-binary-fine v w p q = omega arith
+
+at-fine : {fs : List (Value → Answer)} → Unaries fs → (n : ℕ) (v : Value) → WellFormed v → Fine (getD fs n noUnary v)
+at-fine end n v w = no-unary-fine v w
+at-fine (f ▹ fs) zero v w = f v w
+at-fine (f ▹ fs) (suc n) v w = at-fine fs n v w
+
+at-fine₂ : {fs : List (Value → Value → Answer)} → Binaries fs → (n : ℕ) (v w : Value) → WellFormed v → WellFormed w → Fine (getD fs n noBinary v w)
+at-fine₂ end₂ n v w p q = no-binary-fine v w p q
+at-fine₂ (f ▸ fs) zero v w p q = f v w p q
+at-fine₂ (f ▸ fs) (suc n) v w p q = at-fine₂ fs n v w p q
+
+all-unaries : Unaries unaries
+all-unaries =
+    no-unary-fine
+    ▹ negation-fine
+    ▹ onInteger-fine (λ a. Whole.negation a) (λ a. answer-fine (negℤ a))
+    ▹ onInteger-fine (λ a. Whole.absolute a) (λ a. answer-fine (pos (natAbs a)))
+    ▹ kind-fine set _ (λ vs g. count-fine g)
+    ▹ kind-fine set _ (λ vs g. unless-fine (every (isKind set) vs) (sized set (uniteAll vs)) wrongKind (omega arith) (λ e. uniteAll-fine vs g))
+    ▹ kind-fine set _ (λ vs g. unless-fine (every (isKind set) vs) (intersectionOf vs) wrongKind (omega arith) (λ e. intersectionOf-fine vs e g))
+    ▹ kind-fine sequence _ (λ vs g. count-fine g)
+    ▹ kind-fine sequence _ headOf-fine
+    ▹ kind-fine sequence _ tailOf-fine
+    ▹ kind-fine sequence _ (λ vs g. insertAll-fine vs (g .sound) (g .short))
+    ▹ kind-fine sequence _ indexes-fine
+    ▹ kind-fine sequence _ (λ vs g. unless-fine (every (isKind sequence) vs) (sized sequence (flatten vs)) wrongKind (omega arith) (λ e. sized-fine sequence (flatten vs) tt (sound-flatten vs (g .sound))))
+    ▹ kind-fine sequence _ backwards-fine
+    ▹ kind-fine map _ keys-fine
+    ▹ kind-fine map _ mapped-fine
+    ▹ end
+
+all-binaries : Binaries binaries
+all-binaries =
+    no-binary-fine ▸ no-binary-fine ▸ no-binary-fine ▸ no-binary-fine
+    ▸ biimplication-fine
+    ▸ (λ v w p q. truth-fine _)
+    ▸ (λ v w p q. truth-fine _)
+    ▸ onIntegers-fine (λ a b. Whole.sum a b) (λ a b. answer-fine (a +ℤ b))
+    ▸ onIntegers-fine (λ a b. Whole.difference a b) (λ a b. answer-fine (a -ℤ b))
+    ▸ onIntegers-fine (λ a b. Whole.product a b) (λ a b. answer-fine (a *ℤ b))
+    ▸ onIntegers-fine (λ a b. Whole.quotient a b) (λ a b. divided-fine b (divℤ a b))
+    ▸ onIntegers-fine (λ a b. Whole.remainder a b) (λ a b. divided-fine b (remℤ a b))
+    ▸ onIntegers-fine (λ a b. Whole.modulus a b) (λ a b. divided-fine b (modℤ a b))
+    ▸ compared-fine _ ▸ compared-fine _ ▸ compared-fine _ ▸ compared-fine _
+    ▸ (λ v w p q. kind-fine set _ (λ ws g. truth-fine _) w q)
+    ▸ (λ v w p q. kind-fine set _ (λ ws g. truth-fine _) w q)
+    ▸ kinds-fine set set _ unite-fine
+    ▸ kinds-fine set set _ (λ vs ws g h. keep-fine _ vs g)
+    ▸ kinds-fine set set _ (λ vs ws g h. keep-fine _ vs g)
+    ▸ kinds-fine set set _ (λ vs ws g h. truth-fine _)
+    ▸ kinds-fine set set _ (λ vs ws g h. truth-fine _)
+    ▸ kinds-fine sequence sequence _ (λ vs ws g h. sized-fine sequence (join vs ws) tt (join-sound vs ws (g .sound) (h .sound)))
+    ▸ kinds-fine map map _ (λ vs ws g h. unless-fine (compatible vs ws) (sized map (enterAll vs ws)) clash (omega arith) (λ e. enterAll-fine vs ws g h))
+    ▸ kinds-fine map map _ enterAll-fine
+    ▸ kinds-fine set map _ (λ vs ws g h. keepEntries-fine _ ws h)
+    ▸ kinds-fine map set _ (λ vs ws g h. keepEntries-fine _ vs g)
+    ▸ end₂
 
 -- THEOREM: a unary operator
 pub unary-fine : (n : ℕ) (v : Value) → WellFormed v → Fine (unary n v)
 unfolding unary
-unary-fine n v w =
-    at-fine unaries (
-      λ v w. omega arith,
-      (
-        negation-fine,
-        (
-          onInteger-fine (λ a. Whole.negation a) (λ a. answer-fine (negℤ a)),
-          (
-            onInteger-fine (λ a. Whole.absolute a) (λ a. answer-fine (pos (natAbs a))),
-            (
-              kind-fine set _ (λ vs g. count-fine g),
-              (
-                kind-fine set _ (λ vs g. unless-fine (every (isKind set) vs) (sized set (uniteAll vs)) 20 (omega arith) (λ e. uniteAll-fine vs g)),
-                (
-                  kind-fine set _ (λ vs g. unless-fine (every (isKind set) vs) (intersectionOf vs) 20 (omega arith) (λ e. intersectionOf-fine vs e g)),
-                  (
-                    kind-fine sequence _ (λ vs g. count-fine g),
-                    (
-                      kind-fine sequence _ headOf-fine,
-                      (
-                        kind-fine sequence _ tailOf-fine,
-                        (
-                          kind-fine sequence _ (λ vs g. insertAll-fine vs (g .sound) (g .short)),
-                          (
-                            kind-fine sequence _ indexes-fine,
-                            (
-                              kind-fine sequence _ (λ vs g. unless-fine (every (isKind sequence) vs) (sized sequence (flatten vs)) 20 (omega arith) (λ e. sized-fine sequence (flatten vs) tt (sound-flatten vs (g .sound)))),
-                              (
-                                kind-fine sequence _ backwards-fine,
-                                (
-                                  kind-fine map _ keys-fine,
-                                  (
-                                    kind-fine map _ mapped-fine,
-                                    tt,
-                                  ),
-                                ),
-                              ),
-                            ),
-                          ),
-                        ),
-                      ),
-                    ),
-                  ),
-                ),
-              ),
-            ),
-          ),
-        ),
-      ),
-    )
-    n v w
+unary-fine n v w = at-fine all-unaries n v w
 
 -- THEOREM: a binary operator, 4 to 28
 pub binary-fine : (n : ℕ) (v w : Value) → WellFormed v → WellFormed w → Fine (binary n v w)
 unfolding binary
-binary-fine n v w p q =
-    at-fine₂ binaries (
-      λ v w p q. omega arith,
-      (
-        λ v w p q. omega arith,
-        (
-          λ v w p q. omega arith,
-          (
-            λ v w p q. omega arith,
-            (
-              biimplication-fine,
-              (
-                λ v w p q. truth-fine _,
-                (
-                  λ v w p q. truth-fine _,
-                  (
-                    onIntegers-fine (λ a b. Whole.sum a b) (λ a b. answer-fine (a +ℤ b)),
-                    (
-                      onIntegers-fine (λ a b. Whole.difference a b) (λ a b. answer-fine (a -ℤ b)),
-                      (
-                        onIntegers-fine (λ a b. Whole.product a b) (λ a b. answer-fine (a *ℤ b)),
-                        (
-                          onIntegers-fine (λ a b. Whole.quotient a b) (λ a b. divided-fine b (divℤ a b)),
-                          (
-                            onIntegers-fine (λ a b. Whole.remainder a b) (λ a b. divided-fine b (remℤ a b)),
-                            (
-                              onIntegers-fine (λ a b. Whole.modulus a b) (λ a b. divided-fine b (modℤ a b)),
-                              (
-                                compared-fine _,
-                                (
-                                  compared-fine _,
-                                  (
-                                    compared-fine _,
-                                    (
-                                      compared-fine _,
-                                      (
-                                        λ v w p q. kind-fine set _ (λ ws g. truth-fine _) w q,
-                                        (
-                                          λ v w p q. kind-fine set _ (λ ws g. truth-fine _) w q,
-                                          (
-                                            kinds-fine set set _ unite-fine,
-                                            (
-                                              kinds-fine set set _ (λ vs ws g h. keep-fine _ vs g),
-                                              (
-                                                kinds-fine set set _ (λ vs ws g h. keep-fine _ vs g),
-                                                (
-                                                  kinds-fine set set _ (λ vs ws g h. truth-fine _),
-                                                  (
-                                                    kinds-fine set set _ (λ vs ws g h. truth-fine _),
-                                                    (
-                                                      kinds-fine sequence sequence _ (λ vs ws g h. sized-fine sequence (join vs ws) tt (sound-join vs ws (g .sound) (h .sound))),
-                                                      (
-                                                        kinds-fine map map _ (λ vs ws g h. unless-fine (compatible vs ws) (sized map (enterAll vs ws)) 27 (omega arith) (λ e. enterAll-fine vs ws g h)),
-                                                        (
-                                                          kinds-fine map map _ enterAll-fine,
-                                                          (
-                                                            kinds-fine set map _ (λ vs ws g h. keepEntries-fine _ ws h),
-                                                            (
-                                                              kinds-fine map set _ (λ vs ws g h. keepEntries-fine _ vs g),
-                                                              tt,
-                                                            ),
-                                                          ),
-                                                        ),
-                                                      ),
-                                                    ),
-                                                  ),
-                                                ),
-                                              ),
-                                            ),
-                                          ),
-                                        ),
-                                      ),
-                                    ),
-                                  ),
-                                ),
-                              ),
-                            ),
-                          ),
-                        ),
-                      ),
-                    ),
-                  ),
-                ),
-              ),
-            ),
-          ),
-        ),
-      ),
-    )
-    n v w p q
+binary-fine n v w p q = at-fine₂ all-binaries n v w p q

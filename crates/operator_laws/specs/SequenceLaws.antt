@@ -1,22 +1,21 @@
 -- Theorems on the operators on sequences: what stands at each index of each result.
 use mathlib.Core.Path.{_≡_, refl, sym, ap, _∙_}
-use mathlib.Core.Bool.{Bool, true, false, _&&_}
-use mathlib.Core.Option.{Option, none as absent, some}
-use Prim.Native.Nat.{ℕ, zero, suc, _+_, _≤_, _<_}
+use mathlib.Core.Bool.{_&&_}
+use Prim.Native.Nat.{ℕ, zero, suc, _+_, _<_}
 use native.Mathlib.Omega.{arith}
 use borrow.Author.Tests.{leb-true, le-leb, lt-leb}
 use lib.Dec.{leb}
 use lib.IntN.{ℤ, pos, negsuc}
 use lib.Signed.{leZ}
-use Rattle.values.specs.Value.{Kind, sequence, Value, integer, collection, Items, none, more, count}
+use Rattle.values.specs.Value.{sequence, Value, integer, collection, Items, none, more, count}
 use Rattle.values.specs.Items.{join, nth, isMember}
-use Rattle.collections.specs.Joined.{join-none, join-join, count-join}
+use Rattle.collections.specs.Joined.{join-none, join-join}
 use Rattle.collections.specs.Entries.{isThere}
 use Rattle.operators.specs.Gather.{insertAll, itemsOf, flatten, backwards, upFrom}
 use Rattle.operators.specs.Sequences.{itemAt}
 use Rattle.operator_laws.specs.Tests.{both-ways, and-parts, and-both}
 use Rattle.operator_laws.specs.GatherLaws.{member-insertAll, count-backwards}
-use Rattle.operator_laws.specs.RangeLaws.{le-up, up-le, Within, member-up, up-member}
+use Rattle.operator_laws.specs.RangeLaws.{le-up, up-le, member-up, up-member}
 
 -- ---- elems, inds, l(i)
 

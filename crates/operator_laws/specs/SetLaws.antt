@@ -1,22 +1,21 @@
 -- Theorems on the operators on sets: who is a member of each result, in the words of source 000.
 use mathlib.Core.Path.{_≡_, refl, sym, ap, _∙_}
 use mathlib.Core.Bool.{Bool, true, false, not, _&&_, _||_}
-use Prim.Native.Nat.{ℕ, suc, _+_, _*_, _≤_}
+use Prim.Native.Nat.{ℕ, _+_}
 use native.Mathlib.Omega.{arith}
 use borrow.Author.Tests.{not-true}
 use lib.Dec.{leb}
-use lib.IntN.{ℤ, pos}
-use lib.Signed.{leZ}
+use lib.IntN.{ℤ}
 use Rattle.integers.specs.Range.{never}
-use Rattle.values.specs.Value.{Kind, set, Value, integer, collection, Items, none, more, count, size, sizes, limit, Before, Ascending}
+use Rattle.values.specs.Value.{set, Value, collection, Items, none, more, count, size, sizes, limit, Ascending}
 use Rattle.values.specs.Items.{pick, same, isMember, insert}
 use Rattle.values.specs.Laws.{same-true}
-use Rattle.collections.specs.Members.{member-insert, pick-false, before-apart, insert-present, sizes-insert, count-insert, ascending-insert, same-members}
-use Rattle.operators.specs.Answer.{Answer, is, refused, tooLarge, built, stopped, closed, sized}
+use Rattle.collections.specs.Members.{member-here, member-insert, pick-false, before-apart, insert-present, sizes-insert, count-insert, ascending-insert, same-members}
+use Rattle.operators.specs.Answer.{is, refused, tooLarge, built, stopped, closed, sized}
 use Rattle.operators.specs.Gather.{every, any, keep, insertAll, itemsOf, flatten, upFrom}
-use Rattle.operators.specs.Sets.{unite, intersect, without, isSubset, isEmpty, uniteAll, intersectAll, counting, howMany}
+use Rattle.operators.specs.Sets.{unite, intersect, without, isSubset, isEmpty, uniteAll, intersectAll, counting}
 use Rattle.operator_laws.specs.Tests.{both-ways, and-parts, and-both, by-test}
-use Rattle.operator_laws.specs.GatherLaws.{member-none, member-case, member-here, member-there, every-at, every-all, Some, any-some, some-any, member-keep, member-insertAll, ascending-insertAll, member-flatten}
+use Rattle.operator_laws.specs.GatherLaws.{member-none, member-there, every-at, every-all, Some, any-some, some-any, member-keep, member-insertAll, ascending-insertAll, member-flatten}
 use Rattle.operator_laws.specs.RangeLaws.{sizes-up}
 
 -- ---- union, inter, difference

@@ -1,6 +1,6 @@
 -- Laws of tests and of the truth values.
-use mathlib.Core.Path.{_≡_, refl, sym, _∙_}
-use mathlib.Core.Bool.{Bool, true, false, not, _&&_, _||_}
+use mathlib.Core.Path.{_≡_, refl, sym}
+use mathlib.Core.Bool.{Bool, true, false, _&&_, _||_}
 use Rattle.values.specs.Items.{pick}
 use Rattle.integers.specs.Range.{never}
 
@@ -37,10 +37,6 @@ and-false false = refl
 pub pick-or : (b c : Bool) → pick b true c ≡ b || c
 pick-or true c = refl
 pick-or false c = refl
-
-pub or-assoc : (b c d : Bool) → b || c || d ≡ b || (c || d)
-or-assoc true c d = refl
-or-assoc false c d = refl
 
 -- A proof by the two cases of a test.
 pub by-test : {P : Type 0} (b : Bool) → (b ≡ true → P) → (b ≡ false → P) → P

@@ -1,5 +1,5 @@
 -- What an operator answers: a value, or a refusal by its number in document 01, "From the state of the run".
-use mathlib.Core.Bool.{Bool, true, false}
+use mathlib.Core.Bool.{Bool}
 use mathlib.Core.Option.{Option, none as absent, some}
 use Prim.Native.Nat.{ℕ, _+_}
 use lib.Dec.{leb, eqb}

@@ -1,7 +1,6 @@
 -- The operators on booleans, and the equality of any two values: source 000, section 3.1.1, pages 6 and 7.
 use mathlib.Core.Bool.{Bool, true, false, not}
 use mathlib.Core.Option.{Option, none as absent, some}
-use Prim.Native.Nat.{ℕ, zero, suc}
 use Rattle.values.specs.Value.{Value, boolean}
 use Rattle.values.specs.Items.{same}
 use Rattle.operators.specs.Answer.{Answer, is, refused, wrongKind, asBoolean, needs, needsBoth}

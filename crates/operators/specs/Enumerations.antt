@@ -1,8 +1,7 @@
--- Building a set, a sequence, a map or a tuple part by part (source 000, pages 62, 64, 66): of an enumeration's operands in written
--- order, and of a comprehension's elements binding by binding. A refusal comes as soon as the part built calls for it.
-use mathlib.Core.Bool.{Bool, true, false}
+-- Building a set, a sequence, a map or a tuple part by part: of an enumeration's operands in written order, and of a comprehension's
+-- elements binding by binding. A refusal comes as soon as the part built calls for it.
 use mathlib.Core.Option.{Option, none as absent, some}
-use Rattle.values.specs.Value.{Kind, set, sequence, map, tuple, Value, Items, none, more}
+use Rattle.values.specs.Value.{set, sequence, map, tuple, Value, Items, none, more}
 use Rattle.values.specs.Items.{pick, same, snoc, insert, lookup, enter}
 use Rattle.operators.specs.Answer.{Answer, clash, Built, built, stopped, fitting, closed}
 
@@ -49,14 +48,18 @@ unfoldable mutual
 
 -- ---- enumerations, of the values of all their operands
 
+-- {e1, e2, ..., en} (source 000, page 62)
 abbrev pub setOf : Items → Answer
 setOf vs = closed set (addMembers none vs)
 
+-- [e1, e2, ..., en] (page 63)
 abbrev pub sequenceOf : Items → Answer
 sequenceOf vs = closed sequence (addItems none vs)
 
+-- {d1 |-> r1, ..., dn |-> rn} (page 65), of d1, r1, ..., dn, rn
 abbrev pub mapOf : Items → Answer
 mapOf vs = closed map (addEntries none vs)
 
+-- mk_(e1, e2, ..., en) (page 66)
 abbrev pub tupleOf : Items → Answer
 tupleOf vs = closed tuple (addItems none vs)

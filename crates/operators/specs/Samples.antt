@@ -1,17 +1,17 @@
 -- Worked examples of source 000 that lie in the subset, and the sample sheets on operators, by computation.
 use mathlib.Core.Path.{_≡_, refl}
-use mathlib.Core.Bool.{Bool, true, false}
+use mathlib.Core.Bool.{true, false}
 use Prim.Native.Nat.{ℕ}
-use lib.IntN.{ℤ, pos, negℤ}
+use lib.IntN.{pos, negℤ}
 use Rattle.integers.specs.Whole.{answer, least}
-use Rattle.values.specs.Value.{Value, boolean, integer, collection, Kind, set, sequence, map, tuple, Items, none, more, count, everyOther, size, orderℕ, orderℤ, within}
+use Rattle.values.specs.Value.{Value, boolean, integer, collection, set, sequence, map, tuple, Items, none, more, count, everyOther, size, orderℕ, orderℤ, within}
 use Rattle.values.specs.Items.{join, isMember, nth, insert, lookup, enter}
-use Rattle.operators.specs.Answer.{Answer, is, refused}
+use Rattle.operators.specs.Answer.{is, refused}
 use Rattle.operators.specs.Booleans.{Connective, settles, left, truth}
 use Rattle.operators.specs.Gather.{every, keep, insertAll, flatten, backwards, upFrom, everyEntry, keepEntries, enterAll}
 use Rattle.operators.specs.Sets.{rangeOf}
 use Rattle.operators.specs.Maps.{applyTo}
-use Rattle.operators.specs.Enumerations.{addMembers, addItems, addEntries, setOf, sequenceOf, mapOf, tupleOf}
+use Rattle.operators.specs.Enumerations.{addMembers, addItems, addEntries, setOf, mapOf, tupleOf}
 use Rattle.operators.specs.Operators.{unary, binary}
 
 -- ---- values in short

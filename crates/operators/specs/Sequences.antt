@@ -1,8 +1,8 @@
 -- The operators on sequences: source 000, section 3.2.2, page 17.
-use mathlib.Core.Option.{Option, none as absent, some}
-use Prim.Native.Nat.{ℕ, zero, suc}
+use mathlib.Core.Option.{Option, none as absent}
+use Prim.Native.Nat.{zero, suc}
 use lib.IntN.{ℤ, pos, negsuc}
-use Rattle.values.specs.Value.{Kind, set, sequence, Value, integer, collection, Items, none, more, count}
+use Rattle.values.specs.Value.{set, sequence, Value, integer, collection, Items, none, more, count}
 use Rattle.values.specs.Items.{pick, join, nth}
 use Rattle.operators.specs.Answer.{Answer, is, refused, wrongKind, notThere, asSequence, needs, needsBoth, sized}
 use Rattle.operators.specs.Gather.{every, insertAll, isKind, flatten, backwards}

@@ -4,11 +4,11 @@ use mathlib.Core.Bool.{Bool, true, false, not, _&&_}
 use Prim.Native.Nat.{ℕ, _+_, _*_}
 use lib.Dec.{leb}
 use lib.IntN.{ℤ, pos, negsuc, _+ℤ_, _-ℤ_}
-use Rattle.values.specs.Value.{Kind, set, Value, integer, collection, Items, none, more, count, limit}
+use Rattle.values.specs.Value.{set, Value, integer, collection, Items, none, more, count, limit}
 use Rattle.values.specs.Items.{pick, isMember}
 use Rattle.operators.specs.Answer.{Answer, is, refused, wrongKind, notThere, tooLarge, asSet, asInteger, needs, needsBoth, sized}
 use Rattle.operators.specs.Booleans.{truth}
-use Rattle.operators.specs.Gather.{every, any, keep, insertAll, itemsOf, isKind, flatten, upFrom}
+use Rattle.operators.specs.Gather.{every, keep, insertAll, itemsOf, isKind, flatten, upFrom}
 
 -- ---- on members
 
