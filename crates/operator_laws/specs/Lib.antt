@@ -1,4 +1,5 @@
 pub mod Tests
+pub mod KindLaws
 pub mod GatherLaws
 pub mod RangeLaws
 pub mod EntryLaws

@@ -1,7 +1,7 @@
 -- Worked examples of source 000 that lie in the subset, and the sample sheets on operators, by computation.
 use mathlib.Core.Path.{_≡_, refl}
 use mathlib.Core.Bool.{true, false}
-use Prim.Native.Nat.{ℕ}
+use Prim.Native.Nat.{ℕ, zero, suc}
 use lib.IntN.{pos, negℤ}
 use Rattle.integers.specs.Whole.{answer, least}
 use Rattle.values.specs.Value.{Value, boolean, integer, collection, set, sequence, map, tuple, Items, none, more, count, everyOther, size, orderℕ, orderℤ, within}
@@ -140,6 +140,19 @@ elems-l1 = refl
 inds-l2 : unary 11 l2 ≡ is (s (n 1 ▹ n 2 ▹ n 3 ▹ n 4 ▹ none))
 unfolding unary upFrom count
 inds-l2 = refl
+
+-- 64 empty sequences take 260 bytes, and their indexes more than 512
+many : ℕ → Value → Items
+many zero v = none
+many (suc k) v = v ▹ many k v
+
+size-260 : size (q (many 64 (q none))) ≡ 260
+unfolding many size
+size-260 = refl
+
+inds-64 : unary 11 (q (many 64 (q none))) ≡ refused 28
+unfolding unary many count
+inds-64 = refl
 
 -- ---- pages 20 and 21
 
