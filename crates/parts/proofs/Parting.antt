@@ -9,13 +9,14 @@ use native.Mathlib.Omega.{arith}
 use lib.ListN.{length, getD, take, drop, take-append-drop}
 use lib.Seq.{drop-cons}
 use Rattle.integers.specs.Bytes.{word}
-use Rattle.values.specs.declared.Order.{Order}
-use Rattle.values.specs.declared.Order.the-variants.{Lower, Same, Higher}
-use Rattle.values.specs.Value.{Kind, set, sequence, map as mapping, tuple, number, Value, boolean, integer, collection, Items, kindOf, size, sizes, limit, after, order, orderℕ, orderItems, within}
+use Rattle.integers.specs.declared.Order.{Order}
+use Rattle.integers.specs.declared.Order.the-variants.{Lower, Same, Higher}
+use Rattle.values.specs.Value.{Kind, set, sequence, map as mapping, tuple, number, Value, boolean, integer, collection, Items, kindOf, size, sizes, limit, after, order, orderItems, within}
 use Rattle.values.specs.Items.{join}
 use Rattle.values.specs.Place.{At, ItemsAt, Holds}
 use Rattle.values.specs.Contract.{Length, KindAt, Ordered}
-use Rattle.values.specs.Laws.{number-low, number-inj, lt-lower, gt-higher, eq-same}
+use Rattle.integers.specs.Order.{orderℕ}
+use Rattle.integers.specs.Ordered.{lt-lower, gt-higher, eq-same}
 use Rattle.values.specs.Encoding.{size-low, collection-size, join-sizes}
 use Rattle.values.specs.Records.{holds, word-size, word-kind, items-to, is-collection, parted}
 use Rattle.patterns.specs.Ways.{Halves as Split, halves, splits, cuts}

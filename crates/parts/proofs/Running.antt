@@ -10,8 +10,8 @@ use native.Mathlib.Omega.{arith}
 use lib.ListN.{length, getD, drop, length-append, length-drop}
 use lib.Seq.{drop-cons}
 use Rattle.integers.specs.Bytes.{word}
-use Rattle.values.specs.declared.Order.{Order}
-use Rattle.values.specs.declared.Order.the-variants.{Lower, Same, Higher}
+use Rattle.integers.specs.declared.Order.{Order}
+use Rattle.integers.specs.declared.Order.the-variants.{Lower, Same, Higher}
 use Rattle.values.specs.Value.{Value, boolean, Items, none, more, size, sizes, limit, after, order, orderItems, within}
 use Rattle.values.specs.Items.{join}
 use Rattle.values.specs.Place.{At, ItemsAt, Holds, Outside}

@@ -3,7 +3,7 @@ use mathlib.Core.Path.{_≡_}
 use mathlib.Core.List.{List, []}
 use Prim.Native.Nat.{ℕ, _+_, _^_, _≤_, _<_}
 use lib.ListN.{length, getD}
-use Rattle.values.specs.declared.Order.{Order}
+use Rattle.integers.specs.declared.Order.{Order}
 use Rattle.values.specs.Value.{Kind, set, sequence, Value, collection, kindOf, size, order, limit}
 use Rattle.values.specs.Place.{At, Outside}
 use Rattle.patterns.specs.Ways.{Halves as Split, halves, splits, cuts}

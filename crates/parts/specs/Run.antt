@@ -3,7 +3,7 @@ use mathlib.Core.Path.{_≡_}
 use mathlib.Core.List.{List, [], _∷_}
 use Prim.Native.Nat.{ℕ, _+_, _-_, _%_, _≤_, _<_}
 use lib.ListN.{length, drop}
-use Rattle.values.specs.declared.Order.{Order}
+use Rattle.integers.specs.declared.Order.{Order}
 use Rattle.integers.specs.Bytes.{word}
 use Rattle.values.specs.Value.{Kind, Value, collection, orderItems, limit}
 use Rattle.values.specs.Place.{ItemsAt, Outside}

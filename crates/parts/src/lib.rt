@@ -3,7 +3,7 @@ pub mod masks;
 pub mod runs;
 
 use runs::Run;
-use values::Order;
+use integers::Order;
 ghost use mathlib.Core.Path.{_≡_};
 ghost use Rattle.parts.specs.Part.{PartHeld};
 ghost use Rattle.parts.specs.Contract.{KindOfPart, CollectionHeld, Countable, OrderedParts, CountOfPart, ItemHeld, ItemOfPart, SplitHeld, CutHeld, SplitOf, CutOf, Puttable, PutPart, MaskOf};

@@ -5,11 +5,12 @@ use mathlib.Core.Logic.{_⊎_, inl, inr, ⊎-elim}
 use mathlib.Core.List.{List, [], _∷_}
 use Prim.Native.Nat.{ℕ}
 use native.Mathlib.Omega.{arith}
-use Rattle.values.specs.declared.Order.{Order}
-use Rattle.values.specs.declared.Order.the-variants.{Lower, Same, Higher}
+use Rattle.integers.specs.declared.Order.{Order}
+use Rattle.integers.specs.declared.Order.the-variants.{Lower, Same, Higher}
 use Rattle.values.specs.Value.{Value, order, after}
 use Rattle.values.specs.Items.{inOrder}
-use Rattle.values.specs.Laws.{flip, same-equal, order-refl, order-flip, order-lower, lower-same, lower-higher}
+use Rattle.integers.specs.Ordered.{flip}
+use Rattle.values.specs.Laws.{same-equal, order-flip, order-lower, lower-same, lower-higher}
 use Rattle.patterns.specs.Binding.{Cell, free, is, clash, Binding, orderCells, orderBindings, place, sorted}
 use Rattle.patterns.specs.Members.{In}
 

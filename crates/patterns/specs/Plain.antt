@@ -7,8 +7,8 @@ use native.Mathlib.Omega.{arith}
 use lib.Dec.{leb}
 use lib.ListN.{length, set as put, length-map}
 use borrow.Author.Tests.{le-leb}
-use Rattle.values.specs.declared.Order.{Order}
-use Rattle.values.specs.declared.Order.the-variants.{Lower, Same, Higher}
+use Rattle.integers.specs.declared.Order.{Order}
+use Rattle.integers.specs.declared.Order.the-variants.{Lower, Same, Higher}
 use Rattle.values.specs.Value.{Value, collection, set, Items, none, more, count, order, after, Before, Ascending, WellFormed, limit}
 use Rattle.values.specs.Items.{inOrder, pick}
 use Rattle.values.specs.Laws.{order-refl}

@@ -7,8 +7,8 @@ use Prim.Native.Nat.{ℕ, zero, suc, _+_, _≤_}
 use native.Mathlib.Omega.{arith}
 use lib.Dec.{eqb}
 use lib.ListN.{length, length-append}
-use Rattle.values.specs.declared.Order.{Order}
-use Rattle.values.specs.declared.Order.the-variants.{Lower, Same, Higher}
+use Rattle.integers.specs.declared.Order.{Order}
+use Rattle.integers.specs.declared.Order.the-variants.{Lower, Same, Higher}
 use Rattle.values.specs.Value.{Kind, set, sequence, map as mapping, tuple, Value}
 use Rattle.values.specs.Items.{pick, same, inOrder}
 use Rattle.patterns.specs.Ways.{gather}
