@@ -1,18 +1,17 @@
 -- The functions on masks, said of numbers and lists alone.
-use mathlib.Core.Path.{_≡_, refl, sym, ap, ap₂, subst, _∙_}
-use mathlib.Core.Bool.{Bool, true, false}
+use mathlib.Core.Path.{_≡_, refl, sym, ap, _∙_}
+use mathlib.Core.Bool.{false}
 use mathlib.Core.List.{List, [], _∷_}
-use Prim.Native.Nat.{ℕ, zero, suc, _+_, _*_, _-_, _/_, _%_, _^_, _≤_, _<_}
+use Prim.Native.Nat.{ℕ, suc, _+_, _*_, _-_, _/_, _%_, _^_, _≤_, _<_}
 use native.Mathlib.Nat.{pow-suc, pow-le-pow-right}
 use native.Mathlib.Numerals.{add-one}
 use native.Mathlib.Omega.{arith}
-use lib.Dec.{ltb}
 use lib.ListN.{length}
 use borrow.Author.Tests.{lt-ltb, le-ltb}
 use Rattle.values.specs.Value.{Value, boolean}
 use Rattle.patterns.specs.Ways.{Halves, toLeft, toRight}
 use Rattle.parts.specs.Chosen.{keep, splitAt, keep-zero, keep-none, keep-odd, keep-even}
-use Rattle.parts.specs.Mask.{Full, Counts, Ways, Spreadable, Spread}
+use Rattle.parts.specs.Mask.{Counts, Ways, Spreadable, Spread}
 
 -- ---- all ones
 

@@ -1,27 +1,26 @@
 -- The halves of a part, said of lists, places and numbers alone.
-use mathlib.Core.Path.{_≡_, refl, sym, ap, ap₂, subst, _∙_}
-use mathlib.Core.Logic.{_⊎_, inl, inr}
+use mathlib.Core.Path.{_≡_, refl, sym, ap, subst, _∙_}
+use mathlib.Core.Logic.{inl, inr}
 use mathlib.Core.List.{List, [], _∷_, _++_}
-use Prim.Native.Nat.{ℕ, zero, suc, _+_, _-_, _^_, _≤_, _<_}
+use Prim.Native.Nat.{ℕ, _+_, _-_, _^_, _≤_, _<_}
 use native.Mathlib.Nat.{pow-le-pow-right}
 use native.Mathlib.Omega.{arith}
 use lib.ListN.{length, getD, take, drop, take-append-drop}
-use Rattle.values.specs.Value.{Kind, set, sequence, Value, collection, Items, more, kindOf, sizes, limit}
+use Rattle.values.specs.Value.{set, sequence, Value, collection, Items, more, kindOf, sizes}
 use Rattle.values.specs.Items.{join}
-use Rattle.values.specs.Place.{At, ItemsAt}
+use Rattle.values.specs.Place.{ItemsAt}
 use Rattle.values.specs.Encoding.{collection-size, join-sizes}
 use Rattle.values.specs.Records.{parted}
-use Rattle.patterns.specs.Ways.{Halves as Split, halves, splits, cuts}
+use Rattle.patterns.specs.Ways.{halves, splits, cuts}
 use Rattle.patterns.specs.Pattern.{itemsOf, leftOf, rightOf}
 use Rattle.parts.specs.declared.Part.{Part}
-use Rattle.parts.specs.declared.Halves.{Halves}
 use Rattle.parts.specs.declared.runs.Run.{Run}
 use Rattle.parts.specs.Chosen.{everyOne, keep, chosen, splitAt, chosen-all, keep-full, nth-split, nth-cut}
 use Rattle.parts.specs.Mask.{Full, Ways, Spreadable, Spread}
-use Rattle.parts.specs.Part.{Selects, Spans, PartIs, endOf}
-use Rattle.parts.specs.Laws.{selects-of, part-one, part-well-formed, one-collection, end-span, end-record}
+use Rattle.parts.specs.Part.{Selects, PartIs}
+use Rattle.parts.specs.Laws.{selects-of, part-one, part-well-formed, one-collection, end-record}
 use Rattle.parts.specs.Run.{RunIs, RunOf, SkipHeld, Skipped}
-use Rattle.parts.specs.Contract.{CollectionHeld, CountOfPart, HalvesAre, Inside, Countable, MaskOf, SplitHeld, SplitOf, CutHeld, CutOf}
+use Rattle.parts.specs.Contract.{CollectionHeld, CountOfPart, HalvesAre, Countable, MaskOf, SplitHeld, SplitOf, CutHeld, CutOf}
 
 -- ---- `mask_of`
 

@@ -1,37 +1,31 @@
 -- The functions on parts, said of lists, places and numbers alone.
 use mathlib.Core.Path.{_≡_, refl, sym, ap, ap₂, subst, _∙_}
-use mathlib.Core.Bool.{Bool, true, false}
-use mathlib.Core.Logic.{_⊎_, inl, inr, ⊎-elim}
-use mathlib.Core.List.{List, [], _∷_, _++_}
-use Prim.Native.Nat.{ℕ, zero, suc, _+_, _*_, _-_, _^_, _≤_, _<_}
+use mathlib.Core.Bool.{false}
+use mathlib.Core.Logic.{inl, inr}
+use mathlib.Core.List.{List, _∷_}
+use Prim.Native.Nat.{ℕ, suc, _+_, _-_, _^_, _≤_, _<_}
 use native.Mathlib.Nat.{pow-le-pow-right}
 use native.Mathlib.Omega.{arith}
-use lib.ListN.{length, getD, take, drop, take-append-drop}
+use lib.ListN.{length, getD, drop}
 use lib.Seq.{drop-cons}
-use Rattle.integers.specs.Bytes.{word}
 use Rattle.integers.specs.declared.Order.{Order}
-use Rattle.integers.specs.declared.Order.the-variants.{Lower, Same, Higher}
-use Rattle.values.specs.Value.{Kind, set, sequence, map as mapping, tuple, number, Value, boolean, integer, collection, Items, kindOf, size, sizes, limit, after, order, orderItems, within}
-use Rattle.values.specs.Items.{join}
+use Rattle.integers.specs.declared.Order.the-variants.{Lower, Higher}
+use Rattle.values.specs.Value.{Kind, number, Value, boolean, collection, Items, kindOf, after, order, orderItems, within}
 use Rattle.values.specs.Place.{At, ItemsAt, Holds}
 use Rattle.values.specs.Contract.{Length, KindAt, Ordered}
 use Rattle.integers.specs.Order.{orderℕ}
 use Rattle.integers.specs.Ordered.{lt-lower, gt-higher, eq-same}
-use Rattle.values.specs.Encoding.{size-low, collection-size, join-sizes}
-use Rattle.values.specs.Records.{holds, word-size, word-kind, items-to, is-collection, parted}
-use Rattle.patterns.specs.Ways.{Halves as Split, halves, splits, cuts}
-use Rattle.patterns.specs.Pattern.{listOf, itemsOf, leftOf, rightOf}
-use Rattle.patterns.specs.Matched.{items-list, list-items}
+use Rattle.values.specs.Records.{holds, items-to, is-collection}
+use Rattle.patterns.specs.Pattern.{listOf, itemsOf}
+use Rattle.patterns.specs.Matched.{items-list}
 use Rattle.parts.specs.declared.Part.{Part}
-use Rattle.parts.specs.declared.Halves.{Halves}
 use Rattle.parts.specs.declared.runs.Run.{Run}
-use Rattle.parts.specs.Chosen.{everyOne, keep, chosen, splitAt, chosen-all, chosen-keep, keep-full, nth-split, nth-cut}
-use Rattle.parts.specs.Mask.{Full, Counts, Ways, Spreadable, Spread}
-use Rattle.parts.specs.Part.{Selects, Spans, PartIs, PartHeld, endOf}
+use Rattle.parts.specs.Chosen.{everyOne, keep, chosen-all, chosen-keep}
+use Rattle.parts.specs.Part.{PartIs, PartHeld, endOf}
 use Rattle.parts.specs.Laws.{whole-of, selects-of, spans-of, part-one, one-collection, end-span, end-record}
 use Rattle.parts.specs.Run.{RunIs, RunHeld, Startable, ReadyRun, RunOf, CountOf, SkipHeld, Skipped, OrderedRuns}
-use Rattle.parts.specs.Contract.{KindOfPart, CollectionHeld, CountOfPart, OrderedParts, ItemHeld, ItemOfPart, HalvesAre, Inside, Countable, MaskOf, SplitHeld, SplitOf, CutHeld, CutOf}
-use Rattle.parts.proofs.Running.{ready-odd, run-head, more-less, one-stand, between}
+use Rattle.parts.specs.Contract.{KindOfPart, CollectionHeld, CountOfPart, OrderedParts, ItemHeld, ItemOfPart}
+use Rattle.parts.proofs.Running.{ready-odd, run-head, more-less}
 
 -- ---- which parts there are
 

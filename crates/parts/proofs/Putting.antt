@@ -1,32 +1,32 @@
 -- Writing what a run or a part denotes, said of lists, places and numbers alone.
-use mathlib.Core.Path.{_≡_, refl, sym, ap, ap₂, subst, _∙_}
+use mathlib.Core.Path.{_≡_, refl, sym, ap, subst, _∙_}
 use mathlib.Core.Bool.{Bool, true, false}
-use mathlib.Core.Logic.{_⊎_, inl, inr}
+use mathlib.Core.Logic.{inl, inr}
 use mathlib.Core.List.{List, [], _∷_, _++_, append-assoc, append-nil}
-use Prim.Native.Nat.{ℕ, zero, suc, _+_, _-_, _≤_, _<_}
+use Prim.Native.Nat.{ℕ, _+_, _-_, _≤_, _<_}
 use native.Mathlib.Omega.{arith}
 use lib.Dec.{eqb}
 use lib.ListN.{length}
 use lib.Seq.{sets}
 use Rattle.integers.specs.Bytes.{word}
-use Rattle.values.specs.Value.{Kind, set, sequence, map as mapping, tuple, number, Value, collection, Items, none, more, kindOf, size, sizes, limit}
+use Rattle.values.specs.Value.{Kind, set, sequence, map as mapping, tuple, number, Value, collection, none, more, size, sizes, limit}
 use Rattle.values.specs.Items.{pick, join}
-use Rattle.values.specs.Place.{At, ItemsAt, Holds, Outside}
+use Rattle.values.specs.Place.{At, ItemsAt, Outside}
 use Rattle.values.specs.Contract.{Copyable, Copied, PutHead}
-use Rattle.values.specs.Encoding.{size-low, collection-size, join-sizes}
-use Rattle.values.specs.Records.{holds, word-size, no-items, one-more, is-collection, collection-shaped}
+use Rattle.values.specs.Encoding.{collection-size, join-sizes}
+use Rattle.values.specs.Records.{holds, word-size, no-items, one-more, collection-shaped}
 use Rattle.values.specs.Frame.{items-below, outside-none, outside-then, word-below}
 use Rattle.values.specs.Written.{heading, closed}
-use Rattle.patterns.specs.Pattern.{listOf, itemsOf}
-use Rattle.patterns.specs.Named.{PartOf, part-self, part-sizes}
+use Rattle.patterns.specs.Pattern.{itemsOf}
+use Rattle.patterns.specs.Named.{part-sizes}
 use Rattle.parts.specs.declared.Part.{Part}
 use Rattle.parts.specs.declared.runs.Run.{Run}
 use Rattle.parts.specs.Chosen.{everyOne, keep, chosen}
-use Rattle.parts.specs.Part.{PartIs, PartHeld, endOf}
-use Rattle.parts.specs.Laws.{whole-of, keep-part, part-one, part-well-formed, one-collection, end-record}
-use Rattle.parts.specs.Run.{RunIs, RunHeld, MoreHeld, RestOf, RunOf, PutHeld, PutRun}
+use Rattle.parts.specs.Part.{PartIs, PartHeld}
+use Rattle.parts.specs.Laws.{whole-of, keep-part, part-one, part-well-formed, end-record}
+use Rattle.parts.specs.Run.{RunIs, MoreHeld, RestOf, RunOf, PutHeld, PutRun}
 use Rattle.parts.specs.Contract.{KindOfPart, CollectionHeld, Puttable, PutPart}
-use Rattle.parts.proofs.Running.{run-one, run-end, run-head, between, more-held}
+use Rattle.parts.proofs.Running.{run-one, run-end, run-head, more-held}
 use Rattle.parts.proofs.Halving.{items-append}
 
 -- ---- `put`, of a run

@@ -1,29 +1,23 @@
 -- The functions on runs, said of lists, places and numbers alone.
 use mathlib.Core.Path.{_≡_, refl, sym, ap, ap₂, subst, _∙_}
-use mathlib.Core.Bool.{Bool, true, false}
-use mathlib.Core.Logic.{_⊎_, inl, inr, ⊎-elim}
-use mathlib.Core.List.{List, [], _∷_, _++_, append-assoc}
-use Prim.Native.Nat.{ℕ, zero, suc, _+_, _*_, _-_, _/_, _%_, _≤_, _<_}
+use mathlib.Core.Bool.{false}
+use mathlib.Core.List.{List, [], _∷_}
+use Prim.Native.Nat.{ℕ, suc, _+_, _-_, _/_, _%_, _≤_, _<_}
 use native.Mathlib.Decide.{ℕ-discrete}
 use native.Mathlib.Numerals.{add-one}
 use native.Mathlib.Omega.{arith}
-use lib.ListN.{length, getD, drop, length-append, length-drop}
+use lib.ListN.{length, getD, drop, length-drop}
 use lib.Seq.{drop-cons}
 use Rattle.integers.specs.Bytes.{word}
-use Rattle.integers.specs.declared.Order.{Order}
-use Rattle.integers.specs.declared.Order.the-variants.{Lower, Same, Higher}
-use Rattle.values.specs.Value.{Value, boolean, Items, none, more, size, sizes, limit, after, order, orderItems, within}
-use Rattle.values.specs.Items.{join}
-use Rattle.values.specs.Place.{At, ItemsAt, Holds, Outside}
-use Rattle.values.specs.Contract.{Length, Ordered, Copyable, Copied}
+use Rattle.values.specs.Value.{Value, boolean, none, more, size, sizes, after}
+use Rattle.values.specs.Place.{At, ItemsAt}
 use Rattle.values.specs.Encoding.{size-low}
-use Rattle.values.specs.Records.{first-of, items-none, one-list, word-size, holds, one-more, no-items, joined, one-item}
-use Rattle.values.specs.Frame.{items-below, outside-none, outside-then}
+use Rattle.values.specs.Records.{first-of, items-none, one-list, word-size}
 use Rattle.patterns.specs.Pattern.{listOf, itemsOf}
 use Rattle.patterns.specs.Matched.{list-items}
 use Rattle.parts.specs.declared.runs.Run.{Run}
-use Rattle.parts.specs.Chosen.{keep, everyOne, chosen, keep-odd, keep-even, chosen-all, chosen-keep, chosen-none}
-use Rattle.parts.specs.Run.{Ready, RunIs, RunHeld, MoreHeld, Startable, ReadyRun, RestOf, CountOf, SkipHeld, Skipped, OrderedRuns, PutHeld, PutRun}
+use Rattle.parts.specs.Chosen.{everyOne, chosen, keep-odd, keep-even, chosen-all, chosen-keep, chosen-none}
+use Rattle.parts.specs.Run.{Ready, RunIs, RunHeld, MoreHeld, Startable, ReadyRun, RestOf, CountOf, SkipHeld, Skipped}
 
 -- ---- lists of values whose records stand between two places
 

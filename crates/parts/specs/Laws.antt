@@ -1,23 +1,22 @@
 -- Laws of parts: one part denotes one value, which is well-formed; and what is written above a part leaves it as it is.
-use mathlib.Core.Path.{_≡_, refl, sym, ap, ap₂, subst, _∙_}
+use mathlib.Core.Path.{_≡_, refl, sym, ap, subst, _∙_}
 use mathlib.Core.Bool.{Bool, true, false}
-use mathlib.Core.Logic.{_⊎_, inl, inr, ⊎-elim}
+use mathlib.Core.Logic.{inl, inr}
 use mathlib.Core.List.{List, [], _∷_}
-use Prim.Native.Nat.{ℕ, zero, suc, _+_, _/_, _%_, _≤_, _<_}
+use Prim.Native.Nat.{ℕ, _+_, _/_, _≤_}
 use native.Mathlib.Omega.{arith}
 use lib.ListN.{length, take}
-use lib.Dec.{eqb}
 use borrow.Author.Tests.{eq-eqb, ne-eqb}
 use Rattle.integers.specs.Bytes.{word}
-use Rattle.values.specs.Value.{Kind, set, sequence, Value, collection, Items, size, sizes, limit, WellFormed}
+use Rattle.values.specs.Value.{Kind, set, sequence, Value, collection, WellFormed}
 use Rattle.values.specs.Items.{pick}
-use Rattle.values.specs.Place.{At, ItemsAt}
+use Rattle.values.specs.Place.{At}
 use Rattle.values.specs.Encoding.{size-low}
 use Rattle.values.specs.Records.{one-value, one-list, word-size, well-formed-collection}
 use Rattle.values.specs.Frame.{kept, items-kept, word-kept}
 use Rattle.patterns.specs.Pattern.{listOf, itemsOf}
 use Rattle.patterns.specs.Matched.{list-items}
-use Rattle.patterns.specs.Named.{PartOf, part-none, part-fine}
+use Rattle.patterns.specs.Named.{PartOf, part-fine}
 use Rattle.parts.specs.declared.Part.{Part}
 use Rattle.parts.specs.Chosen.{odd, keep}
 use Rattle.parts.specs.Part.{Selects, Spans, PartIs, endOf}

@@ -2,9 +2,7 @@
 pub mod masks;
 pub mod runs;
 
-use runs::Run;
 use integers::Order;
-ghost use mathlib.Core.Path.{_≡_};
 ghost use Rattle.parts.specs.Part.{PartHeld};
 ghost use Rattle.parts.specs.Contract.{KindOfPart, CollectionHeld, Countable, OrderedParts, CountOfPart, ItemHeld, ItemOfPart, SplitHeld, CutHeld, SplitOf, CutOf, Puttable, PutPart, MaskOf};
 
@@ -46,7 +44,7 @@ pub fn count_of_part(s: &[u8], p: Part) -> usize
     runs::count(s, r)
 }
 
-// The order of the values that two parts denote.
+// The order of the values that two parts denote, where they lie. It serves the order of bindings and the test of repeated names alike.
 pub fn order_parts(s: &[u8], p: Part, q: Part) -> Order
     requires { ⌜ PartHeld (now s) p × PartHeld (now s) q ⌝ }
     ensures { λ r. ⌜ OrderedParts (now (s .entry)) p q r ⌝ }

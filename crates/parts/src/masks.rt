@@ -1,5 +1,4 @@
 // Bits that choose members of a set of at most seven.
-ghost use mathlib.Core.Path.{_≡_};
 ghost use Prim.Native.Nat.{_≤_, _<_};
 ghost use Rattle.parts.specs.Mask.{Full, Ways, Spreadable, Spread};
 

@@ -1,8 +1,6 @@
 // Runs: the items from a place up to another, of which a mask chooses some. A run stands at an item that is chosen, or at its end.
 use crate::Part;
 use integers::Order;
-ghost use mathlib.Core.Path.{_≡_};
-ghost use Prim.Native.Nat.{_+_, _≤_, _<_};
 ghost use Rattle.parts.specs.Run.{Startable, ReadyRun, RunHeld, MoreHeld, RestOf, RunOf, OrderedRuns, CountOf, SkipHeld, Skipped, PutHeld, PutRun};
 ghost use Rattle.parts.specs.Contract.{CollectionHeld};
 

@@ -1,11 +1,11 @@
 -- Source 001's SetChop: of a set, the halves among the splits are exactly the pairs of sets that together are the set and have no member in common.
-use mathlib.Core.Path.{_≡_, refl, sym, ap, ap₂, subst, _∙_}
+use mathlib.Core.Path.{_≡_, refl, sym, ap, subst, _∙_}
 use mathlib.Core.Logic.{_⊎_, inl, inr, ⊎-elim, _↔_}
 use mathlib.Core.List.{List, [], _∷_}
-use Rattle.integers.specs.declared.Order.the-variants.{Lower, Same, Higher}
-use Rattle.values.specs.Value.{Value, Items, none, more, order, Before, Ascending}
+use Rattle.integers.specs.declared.Order.the-variants.{Lower}
+use Rattle.values.specs.Value.{Value, order, Before, Ascending}
 use Rattle.values.specs.Laws.{irreflexive, asymmetric}
-use Rattle.patterns.specs.Ways.{Halves, halves, splits}
+use Rattle.patterns.specs.Ways.{halves, splits}
 use Rattle.patterns.specs.Members.{In}
 use Rattle.patterns.specs.Units.{Shared, in-splits}
 use Rattle.patterns.specs.Pattern.{itemsOf}

@@ -1,5 +1,5 @@
 -- What each answer of forming the bindings says.
-use mathlib.Core.Path.{_≡_, refl, sym, ap, _∙_}
+use mathlib.Core.Path.{_≡_, refl}
 use mathlib.Core.Bool.{Bool, true, false}
 use mathlib.Core.List.{List, [], _∷_}
 use Prim.Native.Nat.{ℕ, _≤_}
@@ -12,7 +12,7 @@ use Rattle.values.specs.Items.{pick}
 use Rattle.patterns.specs.Ways.{exists}
 use Rattle.patterns.specs.Binding.{Binding}
 use Rattle.patterns.specs.Pattern.{Pattern, wide, loose}
-use Rattle.patterns.specs.Binder.{mostBindings, bindings, Formed, bound, refused, few, formed}
+use Rattle.patterns.specs.Binder.{mostBindings, bindings, bound, refused, formed}
 use Rattle.patterns.specs.Single.{single}
 
 -- The bindings were formed: neither 29 nor 30.

@@ -1,20 +1,20 @@
 -- `matches` lists exactly the bindings with which a pattern matches a value; a binder's bindings are exactly those of some value, in order.
 use mathlib.Core.Path.{_≡_, refl, sym, ap, ap₂, subst, _∙_}
 use mathlib.Core.Bool.{Bool, true, false}
-use mathlib.Core.Logic.{_⊎_, inl, inr, ⊎-elim, _↔_}
+use mathlib.Core.Logic.{_⊎_, inl, inr, _↔_}
 use mathlib.Core.Option.{Option, none as absent, some}
-use mathlib.Core.List.{List, [], _∷_, _++_}
+use mathlib.Core.List.{List, [], _∷_}
 use Prim.Native.Nat.{ℕ, zero, suc, _<_}
 use native.Mathlib.Omega.{arith}
 use lib.Dec.{eqb}
-use lib.ListN.{length, getD, replicate, set as put, length-set, length-replicate}
+use lib.ListN.{length, length-set}
 use borrow.Author.Tests.{eq-eqb, eqb-true}
 use Rattle.values.specs.Value.{Kind, set, sequence, map as mapping, tuple, number, Value, boolean, integer, collection, Items, none, more}
 use Rattle.values.specs.Items.{pick, same}
 use Rattle.values.specs.Laws.{number-inj, same-true, true-same}
-use Rattle.patterns.specs.Ways.{gather, Halves, halves, splits, cuts, orders}
+use Rattle.patterns.specs.Ways.{gather, Halves, halves}
 use Rattle.patterns.specs.Members.{In, in-one, in-left, in-right, in-joined, in-picked, picked-in, in-gather, gather-in}
-use Rattle.patterns.specs.Units.{Shared, Permuted, in-splits, in-cuts, in-orders}
+use Rattle.patterns.specs.Units.{in-splits, in-cuts, in-orders}
 use Rattle.patterns.specs.Binding.{Cell, free, is, clash, Binding, names, nothing, only, cellOf, agree, merge, consistent, withEach, together}
 use Rattle.patterns.specs.Pattern.{Pattern, name, any, literal, each, halved, Patterns, nil, cons, parts, listOf, itemsOf, contents, arrangements, divisions, met, split, leftOf, rightOf, matches, matchEach}
 use Rattle.patterns.specs.Binder.{bindings}

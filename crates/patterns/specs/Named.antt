@@ -3,22 +3,22 @@ use mathlib.Core.Path.{_≡_, refl, sym, ap, subst, _∙_}
 use mathlib.Core.Bool.{Bool, true, false, _||_}
 use mathlib.Core.Logic.{_⊎_, inl, inr, ⊎-elim}
 use mathlib.Core.List.{List, [], _∷_, _++_}
-use Prim.Native.Nat.{ℕ, zero, suc, _+_, _≤_, _<_}
+use Prim.Native.Nat.{ℕ, _+_, _≤_, _<_}
 use native.Mathlib.Decide.{ℕ-discrete}
 use native.Mathlib.Omega.{arith}
 use lib.Dec.{eqb}
-use lib.ListN.{length, getD, set as put, getD-replicate, List·getD-eq-default}
+use lib.ListN.{getD-replicate}
 use lib.Seq.{getD-set-same, getD-set-other}
 use borrow.Author.Tests.{eq-eqb, ne-eqb}
-use Rattle.values.specs.Value.{Kind, set, sequence, map as mapping, tuple, Value, collection, Items, none, more, size, sizes, limit, Before, Ascending, Shaped, Sound, SoundItems, WellFormed}
+use Rattle.values.specs.Value.{Kind, set, sequence, map as mapping, tuple, Value, collection, size, sizes, Before, Ascending, Shaped, Sound, SoundItems, WellFormed}
 use Rattle.values.specs.Encoding.{collection-size}
 use Rattle.values.specs.Records.{collection-shaped, collection-sound, well-formed-collection}
 use Rattle.patterns.specs.Members.{In, in-left, in-right, in-joined}
 use Rattle.patterns.specs.Units.{Shared, Inserted, Permuted}
 use Rattle.patterns.specs.Binding.{Cell, free, is, clash, Binding, names, nothing, only, cellOf}
 use Rattle.patterns.specs.Pattern.{Pattern, name, any, literal, each, halved, Patterns, nil, cons, itemsOf, matches}
-use Rattle.patterns.specs.Relation.{Agree, Joined, Arranged, Divided, Matches, MatchesEach}
-use Rattle.patterns.specs.Matched.{matched, match-sized}
+use Rattle.patterns.specs.Relation.{Agree, Arranged, Divided, Matches, MatchesEach}
+use Rattle.patterns.specs.Matched.{matched}
 
 -- ---- the cells of one name and of nothing
 

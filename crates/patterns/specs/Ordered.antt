@@ -1,13 +1,11 @@
 -- The order of bindings is strict and total, and Same is equality. The bindings put in order are strictly ascending and exactly those given;
 -- and there is only one such list.
-use mathlib.Core.Path.{_≡_, refl, sym, ap, ap₂, subst, _∙_}
+use mathlib.Core.Path.{_≡_, refl, sym, ap, ap₂, _∙_}
 use mathlib.Core.Logic.{_⊎_, inl, inr, ⊎-elim}
 use mathlib.Core.List.{List, [], _∷_}
-use Prim.Native.Nat.{ℕ}
-use native.Mathlib.Omega.{arith}
 use Rattle.integers.specs.declared.Order.{Order}
 use Rattle.integers.specs.declared.Order.the-variants.{Lower, Same, Higher}
-use Rattle.values.specs.Value.{Value, order, after}
+use Rattle.values.specs.Value.{after}
 use Rattle.values.specs.Items.{inOrder}
 use Rattle.integers.specs.Ordered.{flip}
 use Rattle.values.specs.Laws.{same-equal, order-flip, order-lower, lower-same, lower-higher}

@@ -1,16 +1,15 @@
 -- A plain name over a set: its bindings are the members, in order; never 29 or 30.
-use mathlib.Core.Path.{_≡_, refl, sym, ap, ap₂, _∙_}
-use mathlib.Core.Bool.{Bool, true, false}
+use mathlib.Core.Path.{_≡_, refl, ap, _∙_}
+use mathlib.Core.Bool.{false}
 use mathlib.Core.List.{List, [], _∷_, map}
-use Prim.Native.Nat.{ℕ, zero, suc, _+_, _≤_, _<_}
+use Prim.Native.Nat.{ℕ, zero, suc, _≤_, _<_}
 use native.Mathlib.Omega.{arith}
-use lib.Dec.{leb}
 use lib.ListN.{length, set as put, length-map}
 use borrow.Author.Tests.{le-leb}
 use Rattle.integers.specs.declared.Order.{Order}
 use Rattle.integers.specs.declared.Order.the-variants.{Lower, Same, Higher}
-use Rattle.values.specs.Value.{Value, collection, set, Items, none, more, count, order, after, Before, Ascending, WellFormed, limit}
-use Rattle.values.specs.Items.{inOrder, pick}
+use Rattle.values.specs.Value.{Value, collection, set, Items, none, more, count, order, after, Before, Ascending, WellFormed}
+use Rattle.values.specs.Items.{inOrder}
 use Rattle.values.specs.Laws.{order-refl}
 use Rattle.values.specs.Encoding.{collection-size, count-sizes}
 use Rattle.values.specs.Records.{collection-shaped}

@@ -1,8 +1,8 @@
 -- What is among the splits, the cuts and the orders of units, said without listing them; for units of any type.
 use mathlib.Core.Path.{_≡_, refl, sym, ap, ap₂, subst, _∙_}
-use mathlib.Core.Logic.{_⊎_, inl, inr, ⊎-elim, _↔_}
+use mathlib.Core.Logic.{_⊎_, inl, inr, _↔_}
 use mathlib.Core.List.{List, [], _∷_, _++_, map}
-use Rattle.patterns.specs.Ways.{gather, Halves, halves, toLeft, toRight, splits, cuts, placed, orders}
+use Rattle.patterns.specs.Ways.{Halves, halves, toLeft, toRight, splits, cuts, placed, orders}
 use Rattle.patterns.specs.Members.{In, in-one, in-left, in-right, in-joined, map-in, in-map, in-gather, gather-in}
 
 -- Each unit of the first list goes to exactly one of the two others, and these hold nothing else (source 001, SetChop: together they are the

@@ -1,5 +1,4 @@
 -- `put_part`: a whole record is copied; of any other part the items are, and then its heading is written before them.
-use native.Mathlib.Omega.{arith}
 use borrow.Author.Needs.{needs}
 use Rattle.parts.proofs.Putting.{whole-copyable, whole-put, puttable-held, puttable-collection, puttable-run, heading-fits, headed-put}
 use Rattle.parts.proofs.put_part.Statement.{statement}

@@ -1,6 +1,5 @@
 -- `rest`: past the item at which the run stands, and on to the next that is chosen.
 use native.Mathlib.Omega.{arith}
-use borrow.Author.Needs.{needs}
 use Rattle.values.specs.Records.{holds}
 use Rattle.parts.proofs.Running.{head, rest-every, rest-startable, rest-some}
 use Rattle.parts.proofs.runs.rest.Statement.{statement}
