@@ -1,2 +1,9 @@
-pub mod Bytes
 pub mod Whole
+pub mod Sample
+pub mod Range
+pub mod Parts
+pub mod Division
+pub mod Order
+pub mod Ordered
+pub mod Bytes
+pub mod Written

@@ -1,10 +1,94 @@
+-- The integers of a sheet: their range, and what each operation on them answers.
 use mathlib.Core.Path.{_≡_}
 use mathlib.Core.Bool.{Bool, true, false, _&&_}
-use lib.IntN.{ℤ, pos, negsuc}
+use Prim.Native.Nat.{ℕ, zero, suc, _/_}
+use lib.IntN.{ℤ, pos, negsuc, negℤ, natAbs, _+ℤ_, _-ℤ_, _*ℤ_}
 use lib.Signed.{leZ}
+use Rattle.integers.specs.declared.Number.{Number}
+use Rattle.integers.specs.declared.Number.the-variants.{Is, OutOfRange, ByZero}
+
+-- ---- the range, named here and nowhere else
+
+abbrev pub least : ℤ
+least = negℤ (pos 2147483648)
+
+abbrev pub greatest : ℤ
+greatest = pos 2147483647
 
 abbrev pub inRange : ℤ → Bool
-inRange z = leZ (negsuc 2147483647) z && leZ z (pos 2147483647)
+inRange z = leZ least z && leZ z greatest
 
 abbrev pub InRange : ℤ → Type 0
 InRange z = inRange z ≡ true
+
+-- ---- answers
+
+-- the number of each: 0, 21 (integer out of range) or 22 (div, rem or mod by 0)
+abbrev pub refusal : Number → ℕ
+refusal (Is z) = 0
+refusal OutOfRange = 21
+refusal ByZero = 22
+
+abbrev pub pick : Bool → Number → Number → Number
+pick true x y = x
+pick false x y = y
+
+-- a whole number that an operation gives
+unfoldable pub answer : ℤ → Number
+answer z = pick (inRange z) (Is z) OutOfRange
+
+-- a whole number that a division by `right` gives: of 0, none
+abbrev pub divided : ℤ → ℤ → Number
+divided (pos zero) z = ByZero
+divided (pos (suc n)) z = answer z
+divided (negsuc n) z = answer z
+
+-- ---- the two quotients, where `right` is not 0
+
+-- left div right "cuts toward zero": the quotient of the two sizes, negative where one of the signs is
+abbrev pub divℤ : ℤ → ℤ → ℤ
+divℤ (pos a) (pos b) = pos (a / b)
+divℤ (pos a) (negsuc b) = negℤ (pos (a / suc b))
+divℤ (negsuc a) (pos b) = negℤ (pos (suc a / b))
+divℤ (negsuc a) (negsuc b) = pos (suc a / suc b)
+
+-- floor(left/right): the quotient rounded down, so −(n + 1) by b is −(n / b) − 1
+abbrev pub floorℤ : ℤ → ℤ → ℤ
+floorℤ (pos a) (pos b) = pos (a / b)
+floorℤ (pos zero) (negsuc b) = pos zero
+floorℤ (pos (suc a)) (negsuc b) = negsuc (a / suc b)
+floorℤ (negsuc a) (pos b) = negsuc (a / b)
+floorℤ (negsuc a) (negsuc b) = pos (suc a / suc b)
+
+abbrev pub remℤ : ℤ → ℤ → ℤ
+remℤ left right = left -ℤ right *ℤ divℤ left right
+
+-- mod is left − right × floor(left/right)
+abbrev pub modℤ : ℤ → ℤ → ℤ
+modℤ left right = left -ℤ right *ℤ floorℤ left right
+
+-- ---- the operations
+
+abbrev pub sum : ℤ → ℤ → Number
+sum left right = answer (left +ℤ right)
+
+abbrev pub difference : ℤ → ℤ → Number
+difference left right = answer (left -ℤ right)
+
+abbrev pub product : ℤ → ℤ → Number
+product left right = answer (left *ℤ right)
+
+abbrev pub quotient : ℤ → ℤ → Number
+quotient left right = divided right (divℤ left right)
+
+abbrev pub remainder : ℤ → ℤ → Number
+remainder left right = divided right (remℤ left right)
+
+abbrev pub modulus : ℤ → ℤ → Number
+modulus left right = divided right (modℤ left right)
+
+abbrev pub negation : ℤ → Number
+negation z = answer (negℤ z)
+
+abbrev pub absolute : ℤ → Number
+absolute z = answer (pos (natAbs z))

@@ -1,0 +1,7 @@
+-- Choice trees, following a list of entries through one, complete lists and their order, and the state of a run's choices.
+pub mod Tree
+pub mod Lists
+pub mod Paths
+pub mod State
+pub mod Runs
+pub mod Laws

@@ -1,0 +1,26 @@
+-- `integers::sub` meets its contract: 64 bits hold the exact result, and `settle` answers it.
+use mathlib.Core.Path.{ap, _∙_}
+use borrow.Author.Needs.{needs}
+use lib.IntN.{_-ℤ_}
+use Rattle.integers.specs.Whole.{answer}
+use Rattle.integers.proofs.Machine.{widen-fits, sub-fits, wide-fits, wide-is}
+use Rattle.integers.proofs.sub.Statement.{statement}
+use Rattle.integers.proofs.sub.Tie as tie
+
+cast-settle : tie.Need-cast-settle
+cast-settle c = widen-fits (c .fits .left)
+
+cast-settle-2 : tie.Need-cast-settle-2
+cast-settle-2 c = widen-fits (c .fits .right)
+
+sub-settle : tie.Need-sub-settle
+sub-settle c = wide-fits _-ℤ_ sub-fits (c .fits .left) (c .fits .right)
+
+settle-requires : tie.Need-settle-requires
+settle-requires c κs = search needs
+
+returns : tie.Need-returns
+returns c = c .settle .ensures ∙ ap answer (wide-is _-ℤ_ sub-fits (c .before .fits .left) (c .before .fits .right))
+
+pub sub-spec : {M : Type 1} → statement M
+sub-spec = tie.close (tie.spec cast-settle cast-settle-2 sub-settle settle-requires returns)

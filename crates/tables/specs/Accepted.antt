@@ -1,0 +1,424 @@
+-- What holds of every accepted table: the theorems that an evaluator leans on.
+use mathlib.Core.Path.{_≡_, refl, sym, ap, subst, _∙_}
+use mathlib.Core.Bool.{Bool, true, false, not, _&&_, _||_}
+use mathlib.Core.List.{List, [], _∷_, map}
+use Prim.Native.Nat.{ℕ, zero, suc, _+_, _-_, _<_, _≤_, max}
+use native.Mathlib.Omega.{arith}
+use borrow.Author.Tests.{ltb-true, ltb-false, leb-true, eq-eqb, eqb-true, ne-eqb, not-true}
+use lib.Dec.{eqb, ltb, leb}
+use lib.ListN.{length, getD, take, drop, length-drop, List·getD-eq-default}
+use lib.Seq.{getD-drop}
+use Rattle.integers.specs.Bytes.{word}
+use Rattle.integers.specs.Whole.{InRange}
+use Rattle.tables.specs.declared.Role.{Role}
+use Rattle.tables.specs.declared.Role.the-variants.{Plain, Condition, Body, Pattern, Name}
+use Rattle.tables.specs.declared.Checked.{Checked}
+use Rattle.tables.specs.declared.Checked.the-variants.{Accepted, Refused}
+use Rattle.tables.specs.Record.{Record, Shape, Head, integer, missing, shapes, shape, field, size, headOf, isExpression, isPattern, Operand, operandsOf, operands, numbers, named, operand, roleAt, nameOf, integerOf, fits, isKnown, isFit}
+use Rattle.tables.specs.Table.{pick, Next, end, fault, one, next, first, after, Cut, cutBy, cut, recordAt, kindAt}
+use Rattle.tables.specs.Sheet.{any, lowest, some, greatest, isIn, fold, holds, isName, holdsName, loose, height, parent, roleIn, isCovered, isCondition, patternOf, climb, isBound, inCondition}
+use Rattle.tables.specs.Check.{mostBytes, mostRecords, mostHeight, isOfSort, allNamed, namedBefore, isBad, fault6, fault7, chooses, fault8, fault9, Rule, judge, judged, judgedCut, check}
+use Rattle.tables.specs.Laws.{never, or-left, or-right, and-left, and-right, implied, not-not, split, any-none, low, each, Lower, fold-at, climb-up, climb-top, parent-higher, parent-is, role-is}
+
+-- The records of a table.
+abbrev pub records : List ℕ → List Record
+records table = cut table .records
+
+-- ---- no rule is broken
+
+pub record Fine (rs : List Record) : Type 0 where
+  pub some-record : 0 < length rs
+  pub few : length rs ≤ mostRecords
+  pub fit : (r : ℕ) → r < length rs → isFit (recordAt rs r) ≡ true
+  pub clear6 : (r : ℕ) → r < length rs → fault6 rs r ≡ false
+  pub clear7 : (r : ℕ) → r < length rs → fault7 rs r ≡ false
+  pub clear8 : (r : ℕ) → r < length rs → fault8 rs r ≡ false
+  pub clear9 : (r : ℕ) → r < length rs → fault9 rs r ≡ false
+
+-- A test that would refuse does not pass.
+pub record Passed (b : Bool) (x : Checked) (n : ℕ) : Type 0 where
+  pub not-refused : b ≡ false
+  pub on : x ≡ Accepted n
+
+passed : (b : Bool) (k p : ℕ) (x : Checked) (n : ℕ) → pick b (Refused k p) x ≡ Accepted n → Passed b x n
+passed true k p x n e = let z : _≡_ {A = ℕ} 0 1 = cc in absurd (omega arith)
+passed false k p x n e = record { not-refused = refl; on = e }
+
+-- No record below n is at fault where the lowest one at fault is not below n.
+clear : (test : ℕ → Bool) (n : ℕ) → ltb (lowest test n) n ≡ false → (r : ℕ) → r < n → test r ≡ false
+clear test n e r h = low test n .miss r (omega (arith, ltb-false (lowest test n) n e))
+
+-- ---- cutting
+
+-- What is known where a record stands next.
+pub record IsNext (bytes : List ℕ) (r : Record) (rest : List ℕ) : Type 0 where
+  pub four : 4 ≤ length bytes
+  pub long : 4 ≤ word bytes 0
+  pub whole : word bytes 0 ≤ length bytes
+  pub fit : isFit r ≡ true
+  pub is : first bytes ≡ r
+  pub then : drop (word bytes 0) bytes ≡ rest
+
+is-next : (bytes : List ℕ) (b c d e : Bool) (r : Record) (rest : List ℕ) → ltb (length bytes) 4 ≡ b → ltb (word bytes 0) 4 ≡ c → ltb (length bytes) (word bytes 0) ≡ d → isFit (first bytes) ≡ e → (z : Bool) → pick z end (pick (b || c || d) fault (pick e (one (first bytes) (drop (word bytes 0) bytes)) fault)) ≡ one r rest → IsNext bytes r rest
+is-next bytes b c d e r rest hb hc hd he true k = let z : _≡_ {A = ℕ} 0 1 = cc in absurd (omega arith)
+is-next bytes true c d e r rest hb hc hd he false k = let z : _≡_ {A = ℕ} 0 1 = cc in absurd (omega arith)
+is-next bytes false true d e r rest hb hc hd he false k = let z : _≡_ {A = ℕ} 0 1 = cc in absurd (omega arith)
+is-next bytes false false true e r rest hb hc hd he false k = let z : _≡_ {A = ℕ} 0 1 = cc in absurd (omega arith)
+is-next bytes false false false false r rest hb hc hd he false k = let z : _≡_ {A = ℕ} 0 1 = cc in absurd (omega arith)
+is-next bytes false false false true r rest hb hc hd he false k =
+    let same : first bytes ≡ r = cc in
+    record {
+      four = ltb-false _ _ hb;
+      long = ltb-false _ _ hc;
+      whole = ltb-false _ _ hd;
+      fit = sym (ap isFit same) ∙ he;
+      is = same;
+      then = cc;
+    }
+
+pub next-is : (bytes : List ℕ) (r : Record) (rest : List ℕ) → next bytes ≡ one r rest → IsNext bytes r rest
+unfolding next
+next-is bytes r rest e = is-next bytes _ _ _ _ r rest refl refl refl refl (eqb (length bytes) 0) e
+
+-- Each record that was cut out is fit for its kind.
+cut-fit : (bound : ℕ) (bytes : List ℕ) (r : ℕ) → r < length (cutBy bound bytes .records) → isFit (recordAt (cutBy bound bytes .records) r) ≡ true
+unfolding cutBy
+cut-fit zero bytes r h = absurd (omega arith)
+cut-fit (suc bound) bytes r h = go (next bytes) refl r h (λ rest q k. cut-fit bound rest q k)
+  where
+    go : (n : Next) → next bytes ≡ n → (r : ℕ) → r < length (after n (λ rest. cutBy bound rest) .records) → ((rest : List ℕ) (q : ℕ) → q < length (cutBy bound rest .records) → isFit (recordAt (cutBy bound rest .records) q) ≡ true) → isFit (recordAt (after n (λ rest. cutBy bound rest) .records) r) ≡ true
+    go end e r k f = absurd (omega arith)
+    go fault e r k f = absurd (omega arith)
+    go (one x rest) e zero k f = next-is bytes x rest e .fit
+    go (one x rest) e (suc r) k f = f rest r (omega arith)
+
+-- A table with a byte that is cut to its end has a record.
+cut-some : (bound : ℕ) (bytes : List ℕ) → 0 < length bytes → cutBy (suc bound) bytes .whole ≡ true → 0 < length (cutBy (suc bound) bytes .records)
+unfolding cutBy next
+cut-some bound bytes h e =
+    go (eqb (length bytes) 0) (ltb (length bytes) 4 || ltb (word bytes 0) 4 || ltb (length bytes) (word bytes 0)) (isFit (first bytes)) refl e
+  where
+    go : (z t u : Bool) → eqb (length bytes) 0 ≡ z → after (pick z end (pick t fault (pick u (one (first bytes) (drop (word bytes 0) bytes)) fault))) (λ rest. cutBy bound rest) .whole ≡ true → 0 < length (after (pick z end (pick t fault (pick u (one (first bytes) (drop (word bytes 0) bytes)) fault))) (λ rest. cutBy bound rest) .records)
+    go true t u f k = absurd (omega (arith, eqb-true (length bytes) 0 f))
+    go false true u f k = never k
+    go false false true f k = omega arith
+    go false false false f k = never k
+
+some-cut : (table : List ℕ) → eqb (length table) 0 ≡ false → cut table .whole ≡ true → 0 < length (records table)
+unfolding cut
+some-cut [] h e = never (sym h)
+some-cut (b ∷ bytes) h e = cut-some (length bytes) (b ∷ bytes) (omega arith) e
+
+pub fit-records : (table : List ℕ) (r : ℕ) → r < length (records table) → isFit (recordAt (records table) r) ≡ true
+unfolding cut
+fit-records table r h = cut-fit (length table) table r h
+
+-- ---- accepted
+
+accepted-same : {m n : ℕ} → Accepted m ≡ Accepted n → n ≡ m
+accepted-same e = cc
+
+pub accepted-fine : (table : List ℕ) (n : ℕ) → check table ≡ Accepted n → Fine (records table) × (n ≡ length (records table))
+unfolding check judgedCut judged
+accepted-fine table n e =
+    let p3 = passed (eqb (length table) 0 || ltb mostBytes (length table)) _ _ _ n e in
+    let p4 = passed (not (cut table .whole)) _ _ _ n (p3 .on) in
+    let p5 = passed (ltb mostRecords (length (records table))) _ _ _ n (p4 .on) in
+    let p6 = passed (ltb (lowest (fault6 (records table)) (length (records table))) (length (records table))) _ _ _ n (p5 .on) in
+    let p7 = passed (ltb (lowest (fault7 (records table)) (length (records table))) (length (records table))) _ _ _ n (p6 .on) in
+    let p8 = passed (ltb (lowest (fault8 (records table)) (length (records table))) (length (records table))) _ _ _ n (p7 .on) in
+    let p9 = passed (ltb (lowest (fault9 (records table)) (length (records table))) (length (records table))) _ _ _ n (p8 .on) in (
+      record {
+        some-record = some-cut table (or-left (eqb (length table) 0) _ (p3 .not-refused)) (not-not (cut table .whole) (p4 .not-refused));
+        few = ltb-false mostRecords (length (records table)) (p5 .not-refused);
+        fit = fit-records table;
+        clear6 = clear (fault6 (records table)) (length (records table)) (p6 .not-refused);
+        clear7 = clear (fault7 (records table)) (length (records table)) (p7 .not-refused);
+        clear8 = clear (fault8 (records table)) (length (records table)) (p8 .not-refused);
+        clear9 = clear (fault9 (records table)) (length (records table)) (p9 .not-refused);
+      },
+      accepted-same (p9 .on),
+    )
+
+-- ---- roles
+
+abbrev isPart : Role → Bool
+isPart Plain = false
+isPart Condition = false
+isPart Body = false
+isPart Pattern = true
+isPart Name = false
+
+is-part : (role : Role) → isPart role ≡ true → role ≡ Pattern
+is-part Plain e = never e
+is-part Condition e = never e
+is-part Body e = never e
+is-part Pattern e = refl
+is-part Name e = never e
+
+all-parts : (roles : List Role) (i : ℕ) → some (map (λ x. not (isPart x)) roles) ≡ false → i < length roles → isPart (getD roles i Plain) ≡ true
+all-parts [] i e h = absurd (omega arith)
+all-parts (x ∷ xs) zero e h = not-not (isPart x) (or-left (not (isPart x)) _ e)
+all-parts (x ∷ xs) (suc i) e h = all-parts xs i (or-right (not (isPart x)) _ e) (omega arith)
+
+-- No record has more operands than its kind has roles.
+operands-few : (roles : List Role) (bytes : List ℕ) → length (numbers (operandsOf roles bytes)) ≤ length roles
+operands-few [] bytes = omega arith
+operands-few (x ∷ xs) [] = omega arith
+operands-few (x ∷ xs) (b ∷ bytes) = omega (arith, operands-few xs bytes)
+
+-- The operands of a pattern are patterns.
+pub pattern-role : (r : Record) (i : ℕ) → isPattern (r .kind) ≡ true → i < length (named r) → roleAt r i ≡ Pattern
+unfolding shape operands
+pattern-role r i e h =
+    is-part _ (all-parts (shape (r .kind) .roles) i
+    (not-true (some (map (λ x. not (isPart x)) (shape (r .kind) .roles)))
+    (implied (isPattern (r .kind)) _
+    (each (λ k. not (isPattern k) || not (some (map (λ x. not (isPart x)) (shape k .roles)))) 41 refl (r .kind) (omega (arith, leb-true (r .kind) 40 (and-right (leb 32 (r .kind)) _ e))))
+    e))
+    (omega (arith, operands-few (shape (r .kind) .roles) (drop (size (headOf r)) (r .fields)))))
+
+-- The operands of a record are the fields after its head.
+operands-count : (roles : List Role) (bytes : List ℕ) → length bytes ≤ length roles → length (numbers (operandsOf roles bytes)) ≡ length bytes
+operands-count [] [] h = refl
+operands-count [] (b ∷ bytes) h = absurd (omega arith)
+operands-count (x ∷ xs) [] h = refl
+operands-count (x ∷ xs) (b ∷ bytes) h = ap suc (operands-count xs bytes (omega arith))
+
+operands-at : (roles : List Role) (bytes : List ℕ) (i : ℕ) → i < length (numbers (operandsOf roles bytes)) → getD (numbers (operandsOf roles bytes)) i 0 ≡ getD bytes i 0
+operands-at [] bytes i h = absurd (omega arith)
+operands-at (x ∷ xs) [] i h = absurd (omega arith)
+operands-at (x ∷ xs) (b ∷ bytes) zero h = refl
+operands-at (x ∷ xs) (b ∷ bytes) (suc i) h = operands-at xs bytes i (omega arith)
+
+module _ (r : Record) (fit : isFit r ≡ true) where
+  bounds : (leb (size (headOf r) + shape (r .kind) .least) (length (r .fields)) ≡ true) × (leb (length (r .fields)) (size (headOf r) + length (shape (r .kind) .roles)) ≡ true)
+  unfolding isFit
+  bounds =
+      let both = and-left (leb (size (headOf r) + shape (r .kind) .least) (length (r .fields)) && leb (length (r .fields)) (size (headOf r) + length (shape (r .kind) .roles))) _ (and-left (fits (shape (r .kind)) (length (r .fields))) (isKnown (headOf r) r) fit) in
+      (and-left _ (leb (length (r .fields)) (size (headOf r) + length (shape (r .kind) .roles))) both, and-right (leb (size (headOf r) + shape (r .kind) .least) (length (r .fields))) _ both)
+
+  -- Literals, names and operators are known.
+  pub fit-known : isKnown (headOf r) r ≡ true
+  unfolding isFit
+  fit-known = and-right (fits (shape (r .kind)) (length (r .fields))) _ fit
+
+  pub fit-least : size (headOf r) + shape (r .kind) .least ≤ length (r .fields)
+  fit-least = leb-true _ _ (bounds .0)
+
+  pub fit-most : length (r .fields) ≤ size (headOf r) + length (shape (r .kind) .roles)
+  fit-most = leb-true _ _ (bounds .1)
+
+  pub named-count : length (named r) ≡ length (r .fields) - size (headOf r)
+  unfolding operands
+  named-count =
+      operands-count (shape (r .kind) .roles) (drop (size (headOf r)) (r .fields)) (omega (arith, length-drop (size (headOf r)) (r .fields), fit-most))
+      ∙ length-drop (size (headOf r)) (r .fields)
+
+pub operand-field : (r : Record) (i : ℕ) → i < length (named r) → operand r i ≡ field r (size (headOf r) + i)
+unfolding operands
+operand-field r i h =
+    operands-at (shape (r .kind) .roles) (drop (size (headOf r)) (r .fields)) i h ∙ getD-drop (size (headOf r)) (r .fields) i 0
+
+-- A kind that is known is at most 40.
+pub fit-kind : (r : Record) → isFit r ≡ true → r .kind ≤ 40
+unfolding shape
+fit-kind r fit =
+    split 40 (r .kind) (λ h. never (sym (ap (λ (s : Shape). isKnown (s .head) r) (beyond (r .kind) h)) ∙ fit-known r fit)) (λ h. h)
+  where
+    beyond : (k : ℕ) → 40 < k → shape k ≡ missing
+    beyond k h = List·getD-eq-default shapes missing {n = k} (omega arith)
+
+-- ---- binders
+
+-- Kinds 12 to 20.
+abbrev pub isBinder : ℕ → Bool
+isBinder kind = leb 12 kind && leb kind 20
+
+abbrev isFirst : Role → Bool
+isFirst Plain = false
+isFirst Condition = false
+isFirst Body = false
+isFirst Pattern = true
+isFirst Name = true
+
+first-free : (role : Role) (b : Bool) → isFirst role ≡ true → isCovered role && b ≡ false
+first-free Plain b e = never e
+first-free Condition b e = never e
+first-free Body b e = never e
+first-free Pattern b e = refl
+first-free Name b e = refl
+
+first-sort : (role : Role) (r : Record) → isFirst role ≡ true → isOfSort role r ≡ true → isPattern (r .kind) ≡ true
+first-sort Plain r e f = never e
+first-sort Condition r e f = never e
+first-sort Body r e f = never e
+first-sort Pattern r e f = f
+first-sort Name r e f = rw (eqb-true (r .kind) 32 f)
+
+-- A binder has at least three operands, and the first is its pattern.
+binder-roles : (k : ℕ) → isBinder k ≡ true → isFirst (getD (shape k .roles) 0 Plain) && leb 3 (shape k .least) ≡ true
+unfolding shape
+binder-roles k e =
+    implied (isBinder k) _
+    (each (λ k. not (isBinder k) || (isFirst (getD (shape k .roles) 0 Plain) && leb 3 (shape k .least))) 41 refl k (omega (arith, leb-true k 20 (and-right (leb 12 k) _ e)))) e
+
+-- Where some truth of a list is.
+some-place : (f : ℕ → Bool) (ms : List ℕ) → some (map f ms) ≡ true → (i : ℕ) × (i < length ms) × (f (getD ms i 0) ≡ true)
+some-place f [] e = never e
+some-place f (m ∷ ms) e = go (f m) refl e (some-place f ms)
+  where
+    go : (b : Bool) → f m ≡ b → b || some (map f ms) ≡ true → (some (map f ms) ≡ true → (i : ℕ) × (i < length ms) × (f (getD ms i 0) ≡ true)) → (i : ℕ) × (i < length (m ∷ ms)) × (f (getD (m ∷ ms) i 0) ≡ true)
+    go true g h k = (zero, omega arith, g)
+    go false g h k = let p = k h in (suc (p .0), omega (arith, p .1), p .2)
+
+-- The greatest of what a list gives is as great as each.
+greatest-all : (f : ℕ → ℕ) (ms : List ℕ) (i : ℕ) → i < length ms → f (getD ms i 0) ≤ greatest (map f ms)
+greatest-all f [] i h = absurd (omega arith)
+greatest-all f (m ∷ ms) zero h = omega arith
+greatest-all f (m ∷ ms) (suc i) h = omega (arith, greatest-all f ms i (omega arith))
+
+-- ---- of a table that breaks no rule
+
+module _ (rs : List Record) (fine : Fine rs) where
+  -- Operand i of record r.
+  module _ (r i : ℕ) (in-table : r < length rs) (is-operand : i < length (named (recordAt rs r))) where
+    good : isBad rs r i ≡ false
+    unfolding fault6
+    good =
+        any-none (isBad rs r) (length (named (recordAt rs r)))
+        (or-left (any (isBad rs r) (length (named (recordAt rs r)))) _ (fine .clear6 r in-table)) i is-operand
+
+    -- Every operand is lower.
+    pub operand-lower : operand (recordAt rs r) i < r
+    operand-lower =
+        ltb-true _ _ (not-not _ (or-left (not (ltb (operand (recordAt rs r) i) r)) _ (or-left _ (isIn (operand (recordAt rs r) i) (namedBefore rs r i)) good)))
+
+    -- Every operand is of its sort.
+    pub operand-sort : isOfSort (roleAt (recordAt rs r) i) (recordAt rs (operand (recordAt rs r) i)) ≡ true
+    operand-sort =
+        not-not _ (or-right (not (ltb (operand (recordAt rs r) i) r)) _ (or-left _ (isIn (operand (recordAt rs r) i) (namedBefore rs r i)) good))
+
+    -- It is named by no lower record, and by no earlier operand.
+    pub operand-first : isIn (operand (recordAt rs r) i) (namedBefore rs r i) ≡ false
+    operand-first = or-right (not (ltb (operand (recordAt rs r) i) r) || not (isOfSort (roleAt (recordAt rs r) i) (recordAt rs (operand (recordAt rs r) i)))) _ good
+
+    -- Its record is the one that names it, for what its place says.
+    pub operand-parent : parent rs (operand (recordAt rs r) i) ≡ r
+    operand-parent = parent-is rs r i in-table is-operand operand-first
+
+    pub operand-role : roleIn rs r (operand (recordAt rs r) i) ≡ roleAt (recordAt rs r) i
+    operand-role = role-is rs r i in-table is-operand operand-first
+
+  pub lower : Lower rs
+  lower r i h k = operand-lower r i h k
+
+  -- ---- what is around an operand
+
+  pub bound-operand : (r i n : ℕ) → r < length rs → i < length (named (recordAt rs r)) → isBound rs (operand (recordAt rs r) i) n ≡ (isCovered (roleAt (recordAt rs r) i) && holdsName rs (patternOf rs r) n) || isBound rs r n
+  unfolding isBound
+  bound-operand r i n h k =
+      climb-up (λ q role up. (isCovered role && holdsName rs (patternOf rs q) n) || up) false rs lower (operand (recordAt rs r) i) r (operand-parent r i h k) h
+      ∙ ap (λ (role : Role). (isCovered role && holdsName rs (patternOf rs r) n) || climb (λ q role up. (isCovered role && holdsName rs (patternOf rs q) n) || up) false rs r) (operand-role r i h k)
+
+  pub condition-operand : (r i : ℕ) → r < length rs → i < length (named (recordAt rs r)) → inCondition rs (operand (recordAt rs r) i) ≡ isCondition (roleAt (recordAt rs r) i) || inCondition rs r
+  unfolding inCondition
+  condition-operand r i h k =
+      climb-up (λ q role up. isCondition role || up) false rs lower (operand (recordAt rs r) i) r (operand-parent r i h k) h
+      ∙ ap (λ (role : Role). isCondition role || climb (λ q role up. isCondition role || up) false rs r) (operand-role r i h k)
+
+  -- Nothing is bound around the last record.
+  last-top : (r : ℕ) → suc r ≡ length rs → length rs ≤ parent rs r
+  last-top r e = split (parent rs r) (length rs) (λ h. absurd (omega (arith, parent-higher rs lower r h))) (λ h. h)
+
+  pub bound-last : (r n : ℕ) → suc r ≡ length rs → isBound rs r n ≡ false
+  unfolding isBound
+  bound-last r n e = climb-top (λ q role up. (isCovered role && holdsName rs (patternOf rs q) n) || up) false rs lower r (last-top r e)
+
+  pub condition-last : (r : ℕ) → suc r ≡ length rs → inCondition rs r ≡ false
+  unfolding inCondition
+  condition-last r e = climb-top (λ q role up. isCondition role || up) false rs lower r (last-top r e)
+
+  -- ---- names
+
+  -- Every name that is read is bound around it.
+  pub name-bound : (r : ℕ) → r < length rs → kindAt rs r ≡ 3 → isBound rs r (nameOf (recordAt rs r)) ≡ true
+  unfolding fault7
+  name-bound r h e =
+      not-not _ (rw (eq-eqb (kindAt rs r) 3 e) at (or-left (eqb (kindAt rs r) 3 && not (isBound rs r (nameOf (recordAt rs r)))) _ (fine .clear7 r h)))
+
+  -- What a pattern holds.
+  holds-at : (p n : ℕ) → p < length rs → holdsName rs p n ≡ isName n (recordAt rs p) || some (map (λ q. holdsName rs q n) (named (recordAt rs p)))
+  unfolding holdsName
+  holds-at p n h = fold-at (λ rec bs. isName n rec || some bs) false rs lower p h
+
+  own-fresh : (p n : ℕ) → p < length rs → isName n (recordAt rs p) ≡ true → isBound rs p n ≡ false
+  unfolding fault7
+  own-fresh p n h g =
+      let is : eqb (kindAt rs p) 32 ≡ true = and-left _ (eqb (nameOf (recordAt rs p)) n) g in
+      let same : nameOf (recordAt rs p) ≡ n = eqb-true _ _ (and-right (eqb (kindAt rs p) 32) _ g) in
+      rw (is, same) at (or-right (eqb (kindAt rs p) 3 && not (isBound rs p (nameOf (recordAt rs p)))) _ (fine .clear7 p h))
+
+  -- A pattern that holds a name lies where it is not bound.
+  fresh-below : (bound p n : ℕ) → p < bound → p < length rs → isPattern (kindAt rs p) ≡ true → holdsName rs p n ≡ true → isBound rs p n ≡ false
+  fresh-below zero p n b h e f = absurd (omega arith)
+  fresh-below (suc bound) p n b h e f =
+      go (isName n (recordAt rs p)) refl (sym (holds-at p n h) ∙ f) (λ q m l g k. fresh-below bound q n m l g k)
+    where
+      go : (t : Bool) → isName n (recordAt rs p) ≡ t → t || some (map (λ q. holdsName rs q n) (named (recordAt rs p))) ≡ true → ((q : ℕ) → q < bound → q < length rs → isPattern (kindAt rs q) ≡ true → holdsName rs q n ≡ true → isBound rs q n ≡ false) → isBound rs p n ≡ false
+      go true g k rec = own-fresh p n h g
+      go false g k rec =
+          let at = some-place (λ q. holdsName rs q n) (named (recordAt rs p)) k in
+          let lw : operand (recordAt rs p) (at .0) < p = operand-lower p (at .0) h (at .1) in
+          let role : roleAt (recordAt rs p) (at .0) ≡ Pattern = pattern-role (recordAt rs p) (at .0) e (at .1) in
+          let sort : isPattern (kindAt rs (operand (recordAt rs p) (at .0))) ≡ true = rw role at (operand-sort p (at .0) h (at .1)) in
+          rw role at (sym (bound-operand p (at .0) n h (at .1))) ∙ rec (operand (recordAt rs p) (at .0)) (omega arith) (omega arith) sort (at .2)
+
+  -- No pattern binds a name that is bound around its binder.
+  pub binder-fresh : (r n : ℕ) → r < length rs → isBinder (kindAt rs r) ≡ true → holdsName rs (patternOf rs r) n ≡ true → isBound rs r n ≡ false
+  binder-fresh r n h e f =
+      let roles = binder-roles (kindAt rs r) e in
+      let p0 : isFirst (roleAt (recordAt rs r) 0) ≡ true = and-left _ (leb 3 (shape (kindAt rs r) .least)) roles in
+      let few : 3 ≤ shape (kindAt rs r) .least = leb-true _ _ (and-right (isFirst (roleAt (recordAt rs r) 0)) _ roles) in
+      let one : 0 < length (named (recordAt rs r)) = omega (arith, named-count (recordAt rs r) (fine .fit r h), fit-least (recordAt rs r) (fine .fit r h)) in
+      let lw : patternOf rs r < r = operand-lower r 0 h one in
+      let free : isBound rs (patternOf rs r) n ≡ false = fresh-below r (patternOf rs r) n lw (omega arith) (first-sort (roleAt (recordAt rs r) 0) (recordAt rs (patternOf rs r)) p0 (operand-sort r 0 h one)) f in
+      rw (first-free (roleAt (recordAt rs r) 0) (holdsName rs (patternOf rs r) n) p0) at (sym (bound-operand r 0 n h one)) ∙ free
+
+  -- ---- choices
+
+  -- No let-be and no loose let lies in a condition.
+  pub choice-outside : (r : ℕ) → r < length rs → chooses rs r ≡ true → inCondition rs r ≡ false
+  unfolding fault8
+  choice-outside r h e = rw e at (fine .clear8 r h)
+
+  -- ---- heights
+
+  pub height-at : (r : ℕ) → r < length rs → height rs r ≡ suc (greatest (map (height rs) (named (recordAt rs r))))
+  unfolding height
+  height-at r h = fold-at (λ rec hs. suc (greatest hs)) 0 rs lower r h
+
+  -- Heights fall from a record to its operands, and are at most 32.
+  pub height-operand : (r i : ℕ) → r < length rs → i < length (named (recordAt rs r)) → height rs (operand (recordAt rs r) i) < height rs r
+  height-operand r i h k = omega (arith, height-at r h, greatest-all (height rs) (named (recordAt rs r)) i k)
+
+  pub height-most : (r : ℕ) → r < length rs → height rs r ≤ mostHeight
+  unfolding fault9
+  height-most r h = ltb-false mostHeight (height rs r) (fine .clear9 r h)
+
+  -- ---- the last record, and integers
+
+  -- Every record but the last is named.
+  pub named-all : (r : ℕ) → suc r < length rs → isIn r (allNamed rs) ≡ true
+  unfolding fault6
+  named-all r h =
+      not-not _ (rw (ne-eqb (suc r) (length rs) (omega arith)) at (or-right (any (isBad rs r) (length (named (recordAt rs r)))) _ (fine .clear6 r (omega arith))))
+
+  -- The last is no pattern.
+  pub last-sort : (r : ℕ) → suc r ≡ length rs → isPattern (kindAt rs r) ≡ false
+  unfolding fault6
+  last-sort r e = rw (eq-eqb (suc r) (length rs) e) at (or-right (any (isBad rs r) (length (named (recordAt rs r)))) _ (fine .clear6 r (omega arith)))
+
+  -- Integer literals are in range.
+  pub integer-range : (r : ℕ) → r < length rs → headOf (recordAt rs r) ≡ integer → InRange (integerOf (recordAt rs r))
+  integer-range r h e = sym (ap (λ (k : Head). isKnown k (recordAt rs r)) e) ∙ fit-known (recordAt rs r) (fine .fit r h)

@@ -1,0 +1,23 @@
+// Tables of records: what a record's operands are for, and what the check of a table answers.
+
+// What an operand is for.
+pub enum Role {
+    // An expression outside the binder's names: any operand of a record that binds nothing, a set operand, a let's value.
+    Plain,
+    // The condition of a binder.
+    Condition,
+    // A body, element, key or value of a binder.
+    Body,
+    // A pattern.
+    Pattern,
+    // A pattern that is a name (kind 32).
+    Name,
+}
+
+// What the check of a table answers.
+pub enum Checked {
+    // The table's number of records.
+    Accepted(usize),
+    // The number of the rule that is broken, and the place.
+    Refused(usize, usize),
+}
