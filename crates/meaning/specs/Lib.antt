@@ -5,3 +5,6 @@ pub mod Read
 pub mod Loose
 pub mod Service
 pub mod Walk
+pub mod Agreement
+pub mod Numbers
+pub mod Sure

@@ -156,7 +156,7 @@ body13 r body (b ∷ bs) = underEach (b ∷ bs) body
 unfoldable pub looseOf : (ℕ → Pattern) → Meanings → ℕ → Node → State → Outcomes Value
 looseOf pattern rec r (truth b) ρ = gives (boolean b)
 looseOf pattern rec r (whole z) ρ = gives (integer z)
-looseOf pattern rec r (named x) ρ = orElse 7 r (valueIn ρ x)
+looseOf pattern rec r (named x) ρ = orElse 20 r (valueIn ρ x)
 looseOf pattern rec r (unaryOf op a) ρ = rec a ρ then (λ v. at r (unary op v))
 looseOf pattern rec r (binaryOf op a b) ρ = bothOf rec a b ρ (λ v w. at r (binary op v w))
 looseOf pattern rec r (connective c a b) ρ = rec a ρ then (λ v. rightOf rec r b ρ (left c v))
@@ -175,10 +175,10 @@ looseOf pattern rec r (sequence-comprehension p s c e) ρ =
 looseOf pattern rec r (map-comprehension p s c k e) ρ =
     bindingsOf rec r (pattern p) s ρ then (λ bs. comprehension rec r map c ρ (addPair rec r k e ρ) bs)
 looseOf pattern rec r (application a b) ρ = bothOf rec a b ρ (λ v w. at r (applyTo v w))
-looseOf pattern rec r no-expression ρ = refuses 6 r
+looseOf pattern rec r no-expression ρ = refuses 20 r
 
 unfoldable pub looseTo : Sheet → ℕ → ℕ → State → Outcomes Value
-looseTo sheet zero r ρ = refuses 6 r
+looseTo sheet zero r ρ = refuses 20 r
 looseTo sheet (suc n) r ρ = looseOf (sheet .pattern) (λ a σ. looseTo sheet n a σ) r (sheet .node r) ρ
 
 -- The outcomes of the record r in a state.

@@ -158,11 +158,12 @@ comprehension rec r k c ρ add bs = bind (collected (holds rec r c ρ) add none 
 
 -- ---- every kind
 
--- What a record r says in a state, over what its operands mean and its patterns are.
+-- What a record r says in a state, over what its operands mean and its patterns are. In an accepted table every name that is read is
+-- bound and no pattern is evaluated, so what stands for these two is of no account.
 unfoldable pub means : (ℕ → Pattern) → Evaluates → ℕ → Node → State → Tree Value
 means pattern rec r (truth b) ρ = give (boolean b)
 means pattern rec r (whole z) ρ = give (integer z)
-means pattern rec r (named x) ρ = orElse 7 r (valueIn ρ x)
+means pattern rec r (named x) ρ = orElse 20 r (valueIn ρ x)
 means pattern rec r (unaryOf op a) ρ = bind (rec a ρ) (λ v. at r (unary op v))
 means pattern rec r (binaryOf op a b) ρ = bothOf rec a b ρ (λ v w. at r (binary op v w))
 means pattern rec r (connective c a b) ρ = bind (rec a ρ) (λ v. rightOf rec r b ρ (left c v))
@@ -182,7 +183,7 @@ means pattern rec r (sequence-comprehension p s c e) ρ =
 means pattern rec r (map-comprehension p s c k e) ρ =
     bind (bindingsOf rec r (pattern p) s ρ) (λ bs. comprehension rec r map c ρ (addPair rec r k e ρ) bs)
 means pattern rec r (application a b) ρ = bothOf rec a b ρ (λ v w. at r (applyTo v w))
-means pattern rec r no-expression ρ = stop 6 r
+means pattern rec r no-expression ρ = stop 20 r
 
 -- ---- a sheet
 
@@ -194,7 +195,7 @@ pub record Sheet : Type 0 where
 
 -- A record names only lower ones, so a bound above its number is bound enough.
 unfoldable pub meaningTo : Sheet → ℕ → ℕ → State → Tree Value
-meaningTo sheet zero r ρ = stop 6 r
+meaningTo sheet zero r ρ = stop 20 r
 meaningTo sheet (suc n) r ρ = means (sheet .pattern) (λ a σ. meaningTo sheet n a σ) r (sheet .node r) ρ
 
 -- The meaning of the record r in a state.
