@@ -8,3 +8,4 @@ pub mod Walk
 pub mod Agreement
 pub mod Numbers
 pub mod Sure
+pub mod Demand

@@ -37,7 +37,6 @@ abbrev pub refuses : {A : Type 0} → ℕ → ℕ → Outcomes A
 refuses n r o = o ≡ refusal n r
 
 infixr 20 _then_
-
 -- For a value of the first, the outcomes of what follows, whatever the others gave. A refusal is the outcome, and nothing after it is evaluated.
 abbrev pub _then_ : {A B : Type 0} → Outcomes A → (A → Outcomes B) → Outcomes B
 _then_ {A} {B} S f o = ((a : A) × S (value a) × f a o) ⊎ ((n : ℕ) × (r : ℕ) × S (refusal n r) × (o ≡ refusal n r))

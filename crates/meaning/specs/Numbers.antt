@@ -75,7 +75,6 @@ if-counting z n = if-picked (leb (4 + 8 * n) limit) (is (collection set (upFrom 
 -- ---- operators by number
 
 infixr 20 _&_
-
 _&_ : {A B : Type 0} → A → B → A × B
 a & b = (a, b)
 
@@ -119,56 +118,56 @@ if-tail (more v vs) = tt
 pub unary-number : (n : ℕ) (v : Value) → Answered (unary n v)
 unfolding unary
 unary-number n v = all-at unaries n v (
-  (λ v. kind-number) &
-  (λ v. if-needed (asBoolean v) _ (λ b. tt)) &
-  (λ v. if-needed (asInteger v) _ (λ a. if-number (negation a))) &
-  (λ v. if-needed (asInteger v) _ (λ a. if-number (absolute a))) &
-  (λ v. if-needed (asSet v) _ (λ vs. tt)) &
-  (λ v. if-needed (asSet v) _ (λ vs. if-picked (every (isKind set) vs) (sized set (uniteAll vs)) (refused 20) (if-sized set (uniteAll vs)) kind-number)) &
-  (λ v. if-needed (asSet v) _ (λ vs. if-picked (every (isKind set) vs) (intersectionOf vs) (refused 20) (if-intersected vs) kind-number)) &
-  (λ v. if-needed (asSequence v) _ (λ vs. tt)) &
-  (λ v. if-needed (asSequence v) _ (λ vs. if-head vs)) &
-  (λ v. if-needed (asSequence v) _ (λ vs. if-tail vs)) &
-  (λ v. if-needed (asSequence v) _ (λ vs. tt)) &
-  (λ v. if-needed (asSequence v) _ (λ vs. if-counting (pos 1) (count vs))) &
-  (λ v. if-needed (asSequence v) _ (λ vs. if-picked (every (isKind sequence) vs) (sized sequence (flatten vs)) (refused 20) (if-sized sequence (flatten vs)) kind-number)) &
-  (λ v. if-needed (asSequence v) _ (λ vs. tt)) &
-  (λ v. if-needed (asMap v) _ (λ vs. tt)) &
-  (λ v. if-needed (asMap v) _ (λ vs. tt)) &
-  tt
-)
+    (λ v. kind-number) &
+    (λ v. if-needed (asBoolean v) _ (λ b. tt)) &
+    (λ v. if-needed (asInteger v) _ (λ a. if-number (negation a))) &
+    (λ v. if-needed (asInteger v) _ (λ a. if-number (absolute a))) &
+    (λ v. if-needed (asSet v) _ (λ vs. tt)) &
+    (λ v. if-needed (asSet v) _ (λ vs. if-picked (every (isKind set) vs) (sized set (uniteAll vs)) (refused 20) (if-sized set (uniteAll vs)) kind-number)) &
+    (λ v. if-needed (asSet v) _ (λ vs. if-picked (every (isKind set) vs) (intersectionOf vs) (refused 20) (if-intersected vs) kind-number)) &
+    (λ v. if-needed (asSequence v) _ (λ vs. tt)) &
+    (λ v. if-needed (asSequence v) _ (λ vs. if-head vs)) &
+    (λ v. if-needed (asSequence v) _ (λ vs. if-tail vs)) &
+    (λ v. if-needed (asSequence v) _ (λ vs. tt)) &
+    (λ v. if-needed (asSequence v) _ (λ vs. if-counting (pos 1) (count vs))) &
+    (λ v. if-needed (asSequence v) _ (λ vs. if-picked (every (isKind sequence) vs) (sized sequence (flatten vs)) (refused 20) (if-sized sequence (flatten vs)) kind-number)) &
+    (λ v. if-needed (asSequence v) _ (λ vs. tt)) &
+    (λ v. if-needed (asMap v) _ (λ vs. tt)) &
+    (λ v. if-needed (asMap v) _ (λ vs. tt)) &
+    tt
+    )
 
 pub binary-number : (n : ℕ) (v w : Value) → Answered (binary n v w)
 unfolding binary
 binary-number n v w = all-at₂ binaries n v w (
-  (λ v w. kind-number) & (λ v w. kind-number) & (λ v w. kind-number) & (λ v w. kind-number) &
-  (λ v w. if-both (asBoolean v) (asBoolean w) _ (λ a b. tt)) &
-  (λ v w. tt) &
-  (λ v w. tt) &
-  (λ v w. if-both (asInteger v) (asInteger w) _ (λ a b. if-number (sum a b))) &
-  (λ v w. if-both (asInteger v) (asInteger w) _ (λ a b. if-number (difference a b))) &
-  (λ v w. if-both (asInteger v) (asInteger w) _ (λ a b. if-number (product a b))) &
-  (λ v w. if-both (asInteger v) (asInteger w) _ (λ a b. if-number (quotient a b))) &
-  (λ v w. if-both (asInteger v) (asInteger w) _ (λ a b. if-number (remainder a b))) &
-  (λ v w. if-both (asInteger v) (asInteger w) _ (λ a b. if-number (modulus a b))) &
-  (λ v w. if-both (asInteger v) (asInteger w) _ (λ a b. tt)) &
-  (λ v w. if-both (asInteger v) (asInteger w) _ (λ a b. tt)) &
-  (λ v w. if-both (asInteger v) (asInteger w) _ (λ a b. tt)) &
-  (λ v w. if-both (asInteger v) (asInteger w) _ (λ a b. tt)) &
-  (λ v w. if-needed (asSet w) _ (λ ws. tt)) &
-  (λ v w. if-needed (asSet w) _ (λ ws. tt)) &
-  (λ v w. if-both (asSet v) (asSet w) _ (λ vs ws. if-sized set (unite vs ws))) &
-  (λ v w. if-both (asSet v) (asSet w) _ (λ vs ws. tt)) &
-  (λ v w. if-both (asSet v) (asSet w) _ (λ vs ws. tt)) &
-  (λ v w. if-both (asSet v) (asSet w) _ (λ vs ws. tt)) &
-  (λ v w. if-both (asSet v) (asSet w) _ (λ vs ws. tt)) &
-  (λ v w. if-both (asSequence v) (asSequence w) _ (λ vs ws. if-sized sequence (join vs ws))) &
-  (λ v w. if-both (asMap v) (asMap w) _ (λ vs ws. if-picked (compatible vs ws) (sized map (enterAll vs ws)) (refused 27) (if-sized map (enterAll vs ws)) (omega arith, omega arith))) &
-  (λ v w. if-both (asMap v) (asMap w) _ (λ vs ws. if-sized map (enterAll vs ws))) &
-  (λ v w. if-both (asSet v) (asMap w) _ (λ vs ws. tt)) &
-  (λ v w. if-both (asMap v) (asSet w) _ (λ vs ws. tt)) &
-  tt
-)
+    (λ v w. kind-number) & (λ v w. kind-number) & (λ v w. kind-number) & (λ v w. kind-number) &
+    (λ v w. if-both (asBoolean v) (asBoolean w) _ (λ a b. tt)) &
+    (λ v w. tt) &
+    (λ v w. tt) &
+    (λ v w. if-both (asInteger v) (asInteger w) _ (λ a b. if-number (sum a b))) &
+    (λ v w. if-both (asInteger v) (asInteger w) _ (λ a b. if-number (difference a b))) &
+    (λ v w. if-both (asInteger v) (asInteger w) _ (λ a b. if-number (product a b))) &
+    (λ v w. if-both (asInteger v) (asInteger w) _ (λ a b. if-number (quotient a b))) &
+    (λ v w. if-both (asInteger v) (asInteger w) _ (λ a b. if-number (remainder a b))) &
+    (λ v w. if-both (asInteger v) (asInteger w) _ (λ a b. if-number (modulus a b))) &
+    (λ v w. if-both (asInteger v) (asInteger w) _ (λ a b. tt)) &
+    (λ v w. if-both (asInteger v) (asInteger w) _ (λ a b. tt)) &
+    (λ v w. if-both (asInteger v) (asInteger w) _ (λ a b. tt)) &
+    (λ v w. if-both (asInteger v) (asInteger w) _ (λ a b. tt)) &
+    (λ v w. if-needed (asSet w) _ (λ ws. tt)) &
+    (λ v w. if-needed (asSet w) _ (λ ws. tt)) &
+    (λ v w. if-both (asSet v) (asSet w) _ (λ vs ws. if-sized set (unite vs ws))) &
+    (λ v w. if-both (asSet v) (asSet w) _ (λ vs ws. tt)) &
+    (λ v w. if-both (asSet v) (asSet w) _ (λ vs ws. tt)) &
+    (λ v w. if-both (asSet v) (asSet w) _ (λ vs ws. tt)) &
+    (λ v w. if-both (asSet v) (asSet w) _ (λ vs ws. tt)) &
+    (λ v w. if-both (asSequence v) (asSequence w) _ (λ vs ws. if-sized sequence (join vs ws))) &
+    (λ v w. if-both (asMap v) (asMap w) _ (λ vs ws. if-picked (compatible vs ws) (sized map (enterAll vs ws)) (refused 27) (if-sized map (enterAll vs ws)) (omega arith, omega arith))) &
+    (λ v w. if-both (asMap v) (asMap w) _ (λ vs ws. if-sized map (enterAll vs ws))) &
+    (λ v w. if-both (asSet v) (asMap w) _ (λ vs ws. tt)) &
+    (λ v w. if-both (asMap v) (asSet w) _ (λ vs ws. tt)) &
+    tt
+    )
 
 -- ---- the others
 
