@@ -1,14 +1,14 @@
 -- A run never sees past one choice too many: the tree and the tree cut there are followed alike. Complete lists are the cut tree's paths.
 use mathlib.Core.Path.{_≡_, refl, sym, ap, _∙_, subst}
 use mathlib.Core.Bool.{Bool, true, false}
-use mathlib.Core.Logic.{_⊎_, inl, inr, ⊎-elim, _↔_}
-use mathlib.Core.List.{List, [], _∷_, _++_}
-use Prim.Native.Nat.{ℕ, zero, suc, _+_, _≤_, _<_}
+use mathlib.Core.Logic.{_↔_}
+use mathlib.Core.List.{List, [], _∷_}
+use Prim.Native.Nat.{ℕ, zero, suc, _≤_, _<_}
 use native.Mathlib.Omega.{arith}
 use lib.ListN.{length}
 use lib.Dec.{ltb}
 use borrow.Author.Tests.{lt-ltb, ltb-true}
-use Rattle.choices.specs.Tree.{Tree, give, stop, choose, limit, Full, Run, gave, stopped, short, beyond, pick, follow, run, Outcome, value, refusal, Gives}
+use Rattle.choices.specs.Tree.{Tree, give, stop, choose, limit, Full, stopped, beyond, pick, follow, run, Outcome, Gives}
 use Rattle.choices.specs.Lists.{Ended, Complete, outcomeOf, NoMany, In}
 use Rattle.choices.specs.Paths.{Leaf, outcomeAt, Within, cut, allLists}
 use Rattle.choices.specs.Laws.Paths.{leaf-in, in-leaf}

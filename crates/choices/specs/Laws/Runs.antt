@@ -1,20 +1,18 @@
 -- Running a tree on the state of the choices: one after the other, under a list that is given, and under one that grows.
-use mathlib.Core.Path.{_≡_, refl, sym, ap, ap₂, _∙_, subst}
+use mathlib.Core.Path.{_≡_, refl, sym, ap, _∙_}
 use mathlib.Core.Bool.{Bool, true, false}
-use mathlib.Core.Logic.{_⊎_, inl, inr, ⊎-elim, _↔_}
-use mathlib.Core.Option.{Option, none, some}
 use mathlib.Core.List.{List, [], _∷_, _++_, append-nil}
 use Prim.Native.Nat.{ℕ, zero, suc, _+_, _≤_, _<_}
 use native.Mathlib.Omega.{arith}
 use lib.ListN.{length, length-append}
 use lib.Seq.{append-snoc}
 use lib.Dec.{ltb, leb}
-use borrow.Author.Tests.{lt-ltb, le-ltb, lt-leb, le-leb, ltb-true}
+use borrow.Author.Tests.{lt-ltb, lt-leb, le-leb, ltb-true}
 use Rattle.choices.specs.declared.Choices.{Choices}
 use Rattle.choices.specs.declared.Picked.{Picked}
 use Rattle.choices.specs.declared.Answer.{Answer}
 use Rattle.choices.specs.declared.Answer.the-variants.{Taken, Many, Short, Beyond}
-use Rattle.choices.specs.Tree.{Tree, give, stop, choose, bind, limit, Full, Numbered, Run, gave, stopped, short, beyond, pick, follow, run, Outcome, value, refusal, Gives, Final, result, refuses, unlessLeft, final}
+use Rattle.choices.specs.Tree.{Tree, give, stop, choose, bind, limit, Full, Numbered, Run, gave, stopped, short, beyond, pick, follow, run, Outcome, value, refusal, Gives, refuses, unlessLeft, final}
 use Rattle.choices.specs.Lists.{Ended, Complete, outcomeOf}
 use Rattle.choices.specs.Paths.{Leaf, Prefix, outcomeAt, counts, extend, Within, cut}
 use Rattle.choices.specs.State.{View, view, fresh, answerLeft, answerOf, afterwards, Chosen}

@@ -1,7 +1,7 @@
 -- The first list and the step, as runs on the state: a growing run from nothing; and a run of a complete list, `advance`, a growing run.
-use mathlib.Core.Path.{_≡_, refl, sym, ap, _∙_, subst}
+use mathlib.Core.Path.{_≡_, sym, ap, _∙_}
 use mathlib.Core.Bool.{Bool, true, false}
-use mathlib.Core.Option.{Option, none, some}
+use mathlib.Core.Option.{none, some}
 use mathlib.Core.List.{List, []}
 use Prim.Native.Nat.{ℕ}
 use Rattle.choices.specs.declared.Choices.{Choices}
