@@ -1,14 +1,14 @@
 -- The leaves of a record's tree have exactly the outcomes of its loose meaning.
-use mathlib.Core.Path.{_≡_, refl, sym, ap, _∙_, subst}
+use mathlib.Core.Path.{_≡_, refl, sym, subst}
 use mathlib.Core.Bool.{Bool, true, false}
 use mathlib.Core.Option.{Option, none as absent, some}
-use mathlib.Core.Logic.{_⊎_, inl, inr, ⊎-elim, _↔_}
+use mathlib.Core.Logic.{inl, inr, ⊎-elim, _↔_}
 use mathlib.Core.List.{List, [], _∷_}
 use Prim.Native.Nat.{ℕ, zero, suc, _≤_, _<_}
 use native.Mathlib.Omega.{arith}
 use lib.Dec.{eqb}
 use lib.ListN.{length, getD}
-use Rattle.choices.specs.Tree.{Tree, give, stop, choose, bind, Outcome, value, refusal, Gives}
+use Rattle.choices.specs.Tree.{Tree, give, stop, bind, Outcome, value, refusal, Gives}
 use Rattle.choices.specs.Laws.Trees.{gives-bind-in, gives-bind-out}
 use Rattle.values.specs.Value.{Kind, set, sequence, map, Value, boolean, integer, collection, Items, none, more}
 use Rattle.values.specs.Items.{pick}
@@ -20,13 +20,15 @@ use Rattle.operators.specs.Enumerations.{addMember, addItem, addEntry}
 use Rattle.operators.specs.Operators.{unary, binary}
 use Rattle.patterns.specs.Binding.{Binding, nothing}
 use Rattle.patterns.specs.Pattern.{Pattern, loose as isLoose, listOf}
+use Rattle.patterns.specs.Members.{In}
 use Rattle.patterns.specs.Binder.{Formed, bound, refused as unformed, formed}
+use Rattle.patterns.specs.Forming.{single-formed}
 use Rattle.meaning.specs.Node.{Node, Quantifier, forall, exists, exists1, truth, whole, named, unaryOf, binaryOf, connective, if, enumeration, range, let-in, let-be, quantified, iota, set-comprehension, sequence-comprehension, map-comprehension, application, no-expression}
 use Rattle.meaning.specs.State.{State, under, valueIn}
 use Rattle.meaning.specs.Meaning as tree
 use Rattle.meaning.specs.Meaning.{Sheet, nameOf, enumerated}
 use Rattle.meaning.specs.Loose as loose
-use Rattle.meaning.specs.Loose.{Outcomes, _then_, gives, refuses, Among, underEach}
+use Rattle.meaning.specs.Loose.{Outcomes, _then_, gives, refuses, underEach}
 
 -- The leaves have exactly these outcomes.
 abbrev pub Same : {A : Type 0} → Tree A → Outcomes A → Type 0
@@ -70,12 +72,12 @@ same-formed r (unformed n) = same-stop n r
 
 -- ---- a choice among bindings
 
-among-at : (b : Binding) (bs : List Binding) → Among b bs → (i : ℕ) × (i < length bs) × (getD bs i nothing ≡ b)
+among-at : (b : Binding) (bs : List Binding) → In b bs → (i : ℕ) × (i < length bs) × (getD bs i nothing ≡ b)
 among-at b [] h = absurd h
 among-at b (c ∷ bs) (inl e) = (0, omega arith, sym e)
 among-at b (c ∷ bs) (inr h) = let w = among-at b bs h in (suc (w .0), omega (arith, w .1), w .2)
 
-pub at-among : (bs : List Binding) (i : ℕ) → i < length bs → Among (getD bs i nothing) bs
+pub at-among : (bs : List Binding) (i : ℕ) → i < length bs → In (getD bs i nothing) bs
 at-among [] i h = absurd (omega arith)
 at-among (c ∷ bs) zero h = inl refl
 at-among (c ∷ bs) (suc i) h = inr (at-among bs i (omega arith))
@@ -111,10 +113,6 @@ same-unique r p (b ∷ []) = same-else 25 r (valueIn b (nameOf p))
 same-unique r p (b ∷ c ∷ bs) = same-stop 25 r
 
 -- ---- records, over records that agree
-
--- A let that is not loose has at most one binding.
-abbrev pub Single : Type 0
-Single = (p : Pattern) (v : Value) (bs : List Binding) → isLoose p ≡ false → formed p (v ∷ []) ≡ bound bs → length bs ≤ 1
 
 module _ (rec : tree.Evaluates) (Rec : loose.Meanings) (agrees : (a : ℕ) (ρ : State) → Same (rec a ρ) (Rec a ρ)) where
   same-all : (os : List ℕ) (ρ : State) → Same (tree.allOf rec os ρ) (loose.allOf Rec os ρ)
@@ -202,51 +200,51 @@ module _ (rec : tree.Evaluates) (Rec : loose.Meanings) (agrees : (a : ℕ) (ρ :
       same-bind (tree.collected (tree.holds rec r c ρ) add none bs) (loose.collected (loose.holds Rec r c ρ) Add none bs) _ _
       (same-collected (tree.holds rec r c ρ) (loose.holds Rec r c ρ) add Add (same-holds r c ρ) h none bs) (λ vs. same-give (collection k vs))
 
-  same-node : Single → (pattern : ℕ → Pattern) (r : ℕ) (n : Node) (ρ : State) → Same (tree.means pattern rec r n ρ) (loose.looseOf pattern Rec r n ρ)
+  same-node : (pattern : ℕ → Pattern) (r : ℕ) (n : Node) (ρ : State) → Same (tree.means pattern rec r n ρ) (loose.looseOf pattern Rec r n ρ)
   unfolding tree.means loose.looseOf
-  same-node single pattern r (truth b) ρ = same-give (boolean b)
-  same-node single pattern r (whole z) ρ = same-give (integer z)
-  same-node single pattern r (named x) ρ = same-else 20 r (valueIn ρ x)
-  same-node single pattern r (unaryOf op a) ρ = same-bind (rec a ρ) (Rec a ρ) _ _ (agrees a ρ) (λ v. same-at r (unary op v))
-  same-node single pattern r (binaryOf op a b) ρ = same-both a b ρ _ _ (λ v w. same-at r (binary op v w))
-  same-node single pattern r (connective c a b) ρ = same-bind (rec a ρ) (Rec a ρ) _ _ (agrees a ρ) (λ v. same-right r b ρ (left c v))
-  same-node single pattern r (if t a b) ρ =
+  same-node pattern r (truth b) ρ = same-give (boolean b)
+  same-node pattern r (whole z) ρ = same-give (integer z)
+  same-node pattern r (named x) ρ = same-else 20 r (valueIn ρ x)
+  same-node pattern r (unaryOf op a) ρ = same-bind (rec a ρ) (Rec a ρ) _ _ (agrees a ρ) (λ v. same-at r (unary op v))
+  same-node pattern r (binaryOf op a b) ρ = same-both a b ρ _ _ (λ v w. same-at r (binary op v w))
+  same-node pattern r (connective c a b) ρ = same-bind (rec a ρ) (Rec a ρ) _ _ (agrees a ρ) (λ v. same-right r b ρ (left c v))
+  same-node pattern r (if t a b) ρ =
       same-bind (rec t ρ) (Rec t ρ) _ _ (agrees t ρ)
       (λ v. same-bind (tree.isTrue r v) (loose.isTrue r v) _ _ (same-else 20 r (asBoolean v)) (λ y. same-pick y (rec a ρ) (rec b ρ) (Rec a ρ) (Rec b ρ) (agrees a ρ) (agrees b ρ)))
-  same-node single pattern r (enumeration k os) ρ = same-bind (tree.allOf rec os ρ) (loose.allOf Rec os ρ) _ _ (same-all os ρ) (λ vs. same-at r (enumerated k vs))
-  same-node single pattern r (range a b) ρ = same-both a b ρ _ _ (λ v w. same-at r (rangeOf v w))
-  same-node single pattern r (let-in p a b) ρ =
+  same-node pattern r (enumeration k os) ρ = same-bind (tree.allOf rec os ρ) (loose.allOf Rec os ρ) _ _ (same-all os ρ) (λ vs. same-at r (enumerated k vs))
+  same-node pattern r (range a b) ρ = same-both a b ρ _ _ (λ v w. same-at r (rangeOf v w))
+  same-node pattern r (let-in p a b) ρ =
       same-bind (rec a ρ) (Rec a ρ) _ _ (agrees a ρ)
       (λ v. same-let r (isLoose (pattern p)) (formed (pattern p) (v ∷ [])) (λ β. rec b (under ρ β)) (λ β. Rec b (under ρ β))
-      (λ bs l e. single (pattern p) v bs l e) (λ β. agrees b (under ρ β)))
-  same-node single pattern r (let-be p s c b) ρ =
+      (λ bs l e. single-formed (pattern p) v bs l e) (λ β. agrees b (under ρ β)))
+  same-node pattern r (let-be p s c b) ρ =
       same-bind (tree.bindingsOf rec r (pattern p) s ρ) (loose.bindingsOf Rec r (pattern p) s ρ) _ _ (same-bindings r (pattern p) s ρ)
       (λ bs. same-bind (tree.satisfying rec r c ρ bs) (loose.satisfying Rec r c ρ bs) _ _ (same-satisfying r c ρ bs)
       (λ sat. same-satisfied r sat (λ β. rec b (under ρ β)) (λ β. Rec b (under ρ β)) (λ β. agrees b (under ρ β))))
-  same-node single pattern r (quantified q p s c) ρ =
+  same-node pattern r (quantified q p s c) ρ =
       same-bind (tree.bindingsOf rec r (pattern p) s ρ) (loose.bindingsOf Rec r (pattern p) s ρ) _ _ (same-bindings r (pattern p) s ρ)
       (λ bs. same-bind (tree.quantify q rec r c ρ bs) (loose.quantify q Rec r c ρ bs) _ _ (same-quantify q r c ρ bs) (λ t. same-give (boolean t)))
-  same-node single pattern r (iota p s c) ρ =
+  same-node pattern r (iota p s c) ρ =
       same-bind (tree.bindingsOf rec r (pattern p) s ρ) (loose.bindingsOf Rec r (pattern p) s ρ) _ _ (same-bindings r (pattern p) s ρ)
       (λ bs. same-bind (tree.satisfying rec r c ρ bs) (loose.satisfying Rec r c ρ bs) _ _ (same-satisfying r c ρ bs) (λ sat. same-unique r (pattern p) sat))
-  same-node single pattern r (set-comprehension p s c e) ρ =
+  same-node pattern r (set-comprehension p s c e) ρ =
       same-bind (tree.bindingsOf rec r (pattern p) s ρ) (loose.bindingsOf Rec r (pattern p) s ρ) _ _ (same-bindings r (pattern p) s ρ)
       (λ bs. same-comprehension r set c ρ _ _ (same-one-added r addMember e ρ) bs)
-  same-node single pattern r (sequence-comprehension p s c e) ρ =
+  same-node pattern r (sequence-comprehension p s c e) ρ =
       same-bind (tree.integerBindings rec r (pattern p) s ρ) (loose.integerBindings Rec r (pattern p) s ρ) _ _ (same-integer-bindings r (pattern p) s ρ)
       (λ bs. same-comprehension r sequence c ρ _ _ (same-one-added r addItem e ρ) bs)
-  same-node single pattern r (map-comprehension p s c k e) ρ =
+  same-node pattern r (map-comprehension p s c k e) ρ =
       same-bind (tree.bindingsOf rec r (pattern p) s ρ) (loose.bindingsOf Rec r (pattern p) s ρ) _ _ (same-bindings r (pattern p) s ρ)
       (λ bs. same-comprehension r map c ρ _ _ (same-pair-added r k e ρ) bs)
-  same-node single pattern r (application a b) ρ = same-both a b ρ _ _ (λ v w. same-at r (applyTo v w))
-  same-node single pattern r no-expression ρ = same-stop 20 r
+  same-node pattern r (application a b) ρ = same-both a b ρ _ _ (λ v w. same-at r (applyTo v w))
+  same-node pattern r no-expression ρ = same-stop 20 r
 
-same-to : Single → (s : Sheet) (n r : ℕ) (ρ : State) → Same (tree.meaningTo s n r ρ) (loose.looseTo s n r ρ)
+same-to : (s : Sheet) (n r : ℕ) (ρ : State) → Same (tree.meaningTo s n r ρ) (loose.looseTo s n r ρ)
 unfolding tree.meaningTo loose.looseTo
-same-to single s zero r ρ = same-stop 20 r
-same-to single s (suc n) r ρ = same-node (λ a σ. tree.meaningTo s n a σ) (λ a σ. loose.looseTo s n a σ) (λ a σ. same-to single s n a σ) single (s .pattern) r (s .node r) ρ
+same-to s zero r ρ = same-stop 20 r
+same-to s (suc n) r ρ = same-node (λ a σ. tree.meaningTo s n a σ) (λ a σ. loose.looseTo s n a σ) (λ a σ. same-to s n a σ) (s .pattern) r (s .node r) ρ
 
 -- The outcomes at the leaves of a record's tree are exactly those of its loose meaning.
-pub agreement : Single → (s : Sheet) (r : ℕ) (ρ : State) (o : Outcome Value) → Gives (tree.meaning s r ρ) o ↔ loose.loose s r ρ o
+pub agreement : (s : Sheet) (r : ℕ) (ρ : State) (o : Outcome Value) → Gives (tree.meaning s r ρ) o ↔ loose.loose s r ρ o
 unfolding tree.meaning loose.loose
-agreement single s r ρ o = same-to single s (suc r) r ρ o
+agreement s r ρ o = same-to s (suc r) r ρ o

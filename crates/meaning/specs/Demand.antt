@@ -1,31 +1,37 @@
 -- Demand 3: what a walk holds and what its calls answer, for every list of calls; and the walk's lists against the loose meaning.
 use mathlib.Core.Path.{_≡_, refl, sym, ap, _∙_, subst}
 use mathlib.Core.Bool.{Bool, true, false, _||_}
-use mathlib.Core.Logic.{_⊎_, inl, inr, ⊎-elim, _↔_}
+use mathlib.Core.Logic.{_↔_}
 use mathlib.Core.Option.{Option, none as absent, some}
 use mathlib.Core.List.{List, [], _∷_}
-use Prim.Native.Nat.{ℕ, zero, suc, _≤_, _<_}
+use Prim.Native.Nat.{ℕ, _≤_, _<_}
 use native.Mathlib.Omega.{arith}
 use lib.Dec.{ltb}
 use lib.ListN.{length}
 use borrow.Author.Tests.{lt-ltb, le-ltb}
-use Rattle.choices.specs.Tree.{Tree, Run, gave, stopped, short, beyond, run, Final, result, refuses, limit, Outcome, Full}
+use Rattle.choices.specs.Tree.{stop, bind, Run, gave, stopped, short, beyond, run, Final, result, refuses, limit, Outcome, Full}
 use Rattle.choices.specs.Lists.{Ended, Complete, before, CountBefore, First, Next, NoMany}
 use Rattle.choices.specs.Paths.{firstList, nextList}
 use Rattle.choices.specs.Laws.Cut.{complete-length}
 use Rattle.choices.specs.Laws.Outcomes.{Reached, gives-reached}
 use Rattle.choices.specs.Laws.Walk.{count-first, first-list, next-list, next-found, count-next, next-last}
-use Rattle.values.specs.Value.{Value}
-use Rattle.values.specs.Items.{pick}
-use Rattle.tables.specs.declared.Checked.{Checked}
-use Rattle.tables.specs.declared.Checked.the-variants.{Accepted, Refused}
+use Rattle.values.specs.Value.{set, Value, collection, Items}
+use Rattle.tables.specs.declared.Checked.the-variants.{Accepted}
 use Rattle.tables.specs.Check.{check}
-use Rattle.meaning.specs.State.{unbound}
+use Rattle.patterns.specs.Members.{In}
+use Rattle.patterns.specs.Binding.{Binding}
+use Rattle.patterns.specs.Pattern.{listOf}
+use Rattle.patterns.specs.Binder.{bound, formed}
+use Rattle.meaning.specs.Node.{let-be}
+use Rattle.meaning.specs.State.{State, unbound}
+use Rattle.meaning.specs.Meaning.{meaning}
 use Rattle.meaning.specs.Loose.{loose}
 use Rattle.meaning.specs.Read.{sheet}
 use Rattle.meaning.specs.Service.{scratchBytes, last, tree, unless, accepted, onward, steppedFrom, firsts, steps}
 use Rattle.meaning.specs.Walk.{Call, first, step, answer, Walk, left, call, calls}
-use Rattle.meaning.specs.Agreement.{Single, agreement}
+use Rattle.meaning.specs.Agreement.{agreement}
+use Rattle.meaning.specs.Proper.{downward}
+use Rattle.meaning.specs.LetBe.{afterSet, Decided, NoBinding, let-be-is, let-be-24}
 use Rattle.meaning.specs.Sure.{sure-meaning}
 
 -- The walk that a granted first list of the table left.
@@ -166,22 +172,39 @@ module _ (table : List ℕ) (n : ℕ) (ok : check table ≡ Accepted n) where
   held-calls [] w h = h
   held-calls (c ∷ cs) w h = held-calls cs (call table c w) (held-call w c h)
 
+-- ---- a let-be of a table
+
+-- Record r is a let-be, with pattern P, set operand t, condition c and body b. Its evaluation in a state is that of its set operand, and then
+-- what follows the value of that. Where this value is a set, its bindings are within the limits, and the condition is true or false at each,
+-- what follows is 24 exactly when no binding matches a member of the set and makes the condition true.
+pub record LetBe (table : List ℕ) (r p t c b : ℕ) (ρ : State) : Type 0 where
+  pub reached : meaning (sheet table) r ρ ≡ bind (meaning (sheet table) t ρ) (λ v. afterSet (meaning (sheet table)) r (sheet table .pattern p) c b ρ v)
+  pub refuses-24 : (vs : Items) (bs : List Binding) → formed (sheet table .pattern p) (listOf vs) ≡ bound bs → ((β : Binding) → In β bs → Decided (meaning (sheet table)) c ρ β)
+      → (afterSet (meaning (sheet table)) r (sheet table .pattern p) c b ρ (collection set vs) ≡ stop 24 r) ↔ NoBinding (meaning (sheet table)) (sheet table .pattern p) c ρ vs
+
 -- ---- demand 3
 
 -- For every list of calls that starts from a walk that a granted first list left: what the walk holds, and what the next call answers.
 -- Where no run meets a 65th choice, some complete list has an outcome exactly when the loose meaning of the last record has it.
+-- And when a let-be refuses for want of a binding.
 pub record Demand3 (table : List ℕ) : Type 0 where
   pub held : (cs : List Call) → Held table (calls table cs (begun table))
   pub next : (cs : List Call) → Answers table (calls table cs (begun table) .list)
   pub outcomes : NoMany (tree table) → (o : Outcome Value) → Reached (tree table) o ↔ loose (sheet table) (last (sheet table)) unbound o
+  pub let-bes : (r p t c b : ℕ) → sheet table .node r ≡ let-be p t c b → (ρ : State) → LetBe table r p t c b ρ
 
-pub demand3 : Single → (table : List ℕ) (n : ℕ) → check table ≡ Accepted n → Demand3 table
-demand3 single table n ok =
+pub demand3 : (table : List ℕ) (n : ℕ) → check table ≡ Accepted n → Demand3 table
+demand3 table n ok =
     record {
       held = λ cs. held-calls table n ok cs (begun table) (held-begun table n ok);
       next = λ cs. answers table n ok (calls table cs (begun table) .list) (held-calls table n ok cs (begun table) (held-begun table n ok) .complete);
       outcomes = λ h o. (
-        λ w. agreement single (sheet table) (last (sheet table)) unbound o .0 (gives-reached (tree table) o h .1 w),
-        λ w. gives-reached (tree table) o h .0 (agreement single (sheet table) (last (sheet table)) unbound o .1 w),
+        λ w. agreement (sheet table) (last (sheet table)) unbound o .0 (gives-reached (tree table) o h .1 w),
+        λ w. gives-reached (tree table) o h .0 (agreement (sheet table) (last (sheet table)) unbound o .1 w),
       );
+      let-bes = λ r p t c b e ρ.
+          record {
+            reached = let-be-is (sheet table) (downward table n ok) r p t c b e ρ;
+            refuses-24 = λ vs bs f h. let-be-24 (meaning (sheet table)) r (sheet table .pattern p) c b ρ vs bs f h;
+          };
     }

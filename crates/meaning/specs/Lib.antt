@@ -2,6 +2,9 @@ pub mod Node
 pub mod State
 pub mod Meaning
 pub mod Read
+pub mod Equation
+pub mod Proper
+pub mod LetBe
 pub mod Loose
 pub mod Service
 pub mod Walk

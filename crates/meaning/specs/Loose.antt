@@ -9,7 +9,7 @@ use Prim.Native.Nat.{ℕ, zero, suc}
 use lib.Dec.{eqb}
 use lib.ListN.{length}
 use Rattle.choices.specs.Tree.{Outcome, value, refusal}
-use Rattle.values.specs.Value.{Kind, set, sequence, map, tuple, Value, boolean, integer, collection, Items, none, more}
+use Rattle.values.specs.Value.{Kind, set, sequence, map, Value, boolean, integer, collection, Items, none, more}
 use Rattle.values.specs.Items.{pick}
 use Rattle.operators.specs.Answer.{Answer, is, refused, Built, built, stopped, asBoolean, asInteger, asSet}
 use Rattle.operators.specs.Booleans.{Left, settles, leaves, left, right}
@@ -17,6 +17,7 @@ use Rattle.operators.specs.Sets.{rangeOf}
 use Rattle.operators.specs.Maps.{applyTo}
 use Rattle.operators.specs.Enumerations.{addMember, addItem, addEntry}
 use Rattle.operators.specs.Operators.{unary, binary}
+use Rattle.patterns.specs.Members.{In}
 use Rattle.patterns.specs.Binding.{Binding}
 use Rattle.patterns.specs.Pattern.{Pattern, listOf}
 use Rattle.patterns.specs.Binder.{Formed, bound, refused as unformed, formed}
@@ -42,12 +43,8 @@ abbrev pub _then_ : {A B : Type 0} → Outcomes A → (A → Outcomes B) → Out
 _then_ {A} {B} S f o = ((a : A) × S (value a) × f a o) ⊎ ((n : ℕ) × (r : ℕ) × S (refusal n r) × (o ≡ refusal n r))
 
 -- The outcomes under each of some bindings.
-abbrev pub Among : Binding → List Binding → Type 0
-Among b [] = ⊥
-Among b (c ∷ bs) = (b ≡ c) ⊎ Among b bs
-
 abbrev pub underEach : {A : Type 0} → List Binding → (Binding → Outcomes A) → Outcomes A
-underEach bs f o = (b : Binding) × Among b bs × f b o
+underEach bs f o = (b : Binding) × In b bs × f b o
 
 -- ---- answers at a place
 

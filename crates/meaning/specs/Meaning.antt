@@ -10,13 +10,13 @@ use Rattle.choices.specs.Tree.{Tree, give, stop, choose, bind}
 use Rattle.values.specs.Value.{Kind, set, sequence, map, tuple, Value, boolean, integer, collection, Items, none, more}
 use Rattle.values.specs.Items.{pick}
 use Rattle.operators.specs.Answer.{Answer, is, refused, Built, built, stopped, asBoolean, asInteger, asSet}
-use Rattle.operators.specs.Booleans.{Connective, Left, settles, leaves, left, right}
+use Rattle.operators.specs.Booleans.{Left, settles, leaves, left, right}
 use Rattle.operators.specs.Sets.{rangeOf}
 use Rattle.operators.specs.Maps.{applyTo}
 use Rattle.operators.specs.Enumerations.{addMember, addItem, addEntry, setOf, sequenceOf, mapOf, tupleOf}
 use Rattle.operators.specs.Operators.{unary, binary}
 use Rattle.patterns.specs.Binding.{Binding, nothing}
-use Rattle.patterns.specs.Pattern.{Pattern, Patterns, name, any, literal, each, halved, loose, listOf}
+use Rattle.patterns.specs.Pattern.{Pattern, name, any, literal, each, halved, loose, listOf}
 use Rattle.patterns.specs.Binder.{Formed, bound, refused as unformed, formed}
 use Rattle.meaning.specs.Node.{Node, Quantifier, forall, exists, exists1, truth, whole, named, unaryOf, binaryOf, connective, if, enumeration, range, let-in, let-be, quantified, iota, set-comprehension, sequence-comprehension, map-comprehension, application, no-expression}
 use Rattle.meaning.specs.State.{State, under, valueIn}

@@ -13,12 +13,12 @@ use Rattle.integers.specs.Whole.{negation, absolute, sum, difference, product, 
 use Rattle.values.specs.Value.{Kind, set, sequence, map, tuple, Value, boolean, integer, collection, Items, none, more, sizes, limit, count}
 use Rattle.values.specs.Items.{pick, same, lookup, join, snoc, insert, enter}
 use Rattle.operators.specs.Answer.{Answer, is, refused, Built, built, stopped, needs, needsBoth, found, fitting, closed, sized, asBoolean, asInteger, asSet, asSequence, asMap}
-use Rattle.operators.specs.Booleans.{Connective, Left, settles, leaves, and, or, implies, settledBy, ofLeft, left, right}
+use Rattle.operators.specs.Booleans.{Connective, Left, settles, leaves, and, or, implies, ofLeft, left, right}
 use Rattle.operators.specs.Arithmetic.{answered}
-use Rattle.operators.specs.Gather.{every, isKind, insertAll, flatten, upFrom, enterAll}
+use Rattle.operators.specs.Gather.{every, isKind, flatten, upFrom, enterAll}
 use Rattle.operators.specs.Sets.{rangeOf, counting, howMany, unite, uniteAll, intersectionOf}
 use Rattle.operators.specs.Sequences.{headOf, tailOf, itemAt}
-use Rattle.operators.specs.Maps.{applyTo, applyItems, compatible}
+use Rattle.operators.specs.Maps.{applyTo, compatible}
 use Rattle.operators.specs.Enumerations.{addMember, addItem, addEntry, entered, onward, addMembers, addItems, addEntries, addEntriesAt, setOf, sequenceOf, mapOf, tupleOf}
 use Rattle.operators.specs.Operators.{unary, binary, unaries, binaries, noUnary, noBinary}
 

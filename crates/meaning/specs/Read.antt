@@ -1,5 +1,4 @@
 -- A table as the meaning reads it: the node of each expression record, and the pattern of each pattern record.
-use mathlib.Core.Bool.{Bool}
 use mathlib.Core.List.{List, [], _∷_}
 use Prim.Native.Nat.{ℕ, _-_}
 use lib.Dec.{eqb}
@@ -9,7 +8,7 @@ use Rattle.values.specs.Items.{pick}
 use Rattle.operators.specs.Booleans.{and, or, implies}
 use Rattle.patterns.specs.Pattern.{Pattern, Patterns, nil, cons, name, any, literal, each, halved}
 use Rattle.tables.specs.Record.{Record, booleanOf, integerOf, nameOf, operator, operand, named as operandsOf}
-use Rattle.tables.specs.Table.{Cut, cut, recordAt}
+use Rattle.tables.specs.Table.{cut, recordAt}
 use Rattle.tables.specs.Sheet.{fold}
 use Rattle.meaning.specs.Node.{Node, forall, exists, exists1, truth, whole, named, unaryOf, binaryOf, connective, if, enumeration, range, let-in, let-be, quantified, iota, set-comprehension, sequence-comprehension, map-comprehension, application, no-expression}
 use Rattle.meaning.specs.Meaning.{Sheet}

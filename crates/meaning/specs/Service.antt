@@ -1,6 +1,6 @@
 -- What the four services answer, from their arguments alone: document 01, "From the input", "From the state of the run" and "The walk".
 -- `result` is success, number 0 with place 0; `refuses` has number, place and count. A buffer enters by its length.
-use mathlib.Core.Bool.{Bool, true, false, _||_}
+use mathlib.Core.Bool.{Bool, _||_}
 use mathlib.Core.Option.{Option, none as absent, some}
 use mathlib.Core.List.{List, [], _∷_}
 use Prim.Native.Nat.{ℕ, _-_}

@@ -1,7 +1,6 @@
 -- The state around a record: a value for each name that is bound there.
-use mathlib.Core.Bool.{Bool, true, false}
 use mathlib.Core.Option.{Option, none as absent, some}
-use mathlib.Core.List.{List, [], _∷_}
+use mathlib.Core.List.{[], _∷_}
 use Prim.Native.Nat.{ℕ}
 use Rattle.values.specs.Value.{Value}
 use Rattle.patterns.specs.Binding.{Binding, Cell, free, is, clash, nothing, cellOf}

@@ -1,13 +1,12 @@
 -- Every choice in a record's tree has at least one way, and every refusal in it has a number from 20 to 30.
-use mathlib.Core.Path.{_≡_, refl}
 use mathlib.Core.Bool.{Bool, true, false}
 use mathlib.Core.Option.{Option, none as absent, some}
 use mathlib.Core.List.{List, [], _∷_}
-use Prim.Native.Nat.{ℕ, zero, suc, _≤_, _<_}
+use Prim.Native.Nat.{ℕ, zero, suc}
 use native.Mathlib.Omega.{arith}
 use lib.Dec.{eqb, leb}
 use lib.ListN.{length, getD}
-use Rattle.choices.specs.Tree.{Tree, give, stop, choose, bind, Full, Numbered}
+use Rattle.choices.specs.Tree.{Tree, give, stop, bind, Full, Numbered}
 use Rattle.choices.specs.Laws.Trees.{full-bind, numbered-bind}
 use Rattle.values.specs.Value.{Kind, set, sequence, map, tuple, Value, boolean, integer, collection, Items, none, more}
 use Rattle.values.specs.Items.{pick}
@@ -20,7 +19,7 @@ use Rattle.operators.specs.Operators.{unary, binary}
 use Rattle.patterns.specs.Ways.{exists as anyOf}
 use Rattle.patterns.specs.Binding.{Binding, nothing}
 use Rattle.patterns.specs.Pattern.{Pattern, loose, listOf, wide}
-use Rattle.patterns.specs.Binder.{Formed, bound, refused as unformed, formed, few, bindings, mostBindings}
+use Rattle.patterns.specs.Binder.{Formed, bound, refused as unformed, formed, bindings, mostBindings}
 use Rattle.meaning.specs.Node.{Node, Quantifier, forall, exists, exists1, truth, whole, named, unaryOf, binaryOf, connective, if, enumeration, range, let-in, let-be, quantified, iota, set-comprehension, sequence-comprehension, map-comprehension, application, no-expression}
 use Rattle.meaning.specs.State.{State, under, valueIn}
 use Rattle.meaning.specs.Meaning.{Evaluates, at, builtAt, orElse, allOf, bothOf, rightOf, isTrue, enumerated, formedAt, membersAt, bindingsOf, holds, satisfying, chosen, matched, satisfied, untilFalse, untilTrue, quantify, nameOf, unique, collected, addOne, addPair, integersAt, integerBindings, comprehension, means, Sheet, meaningTo, meaning}

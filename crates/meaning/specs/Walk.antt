@@ -1,7 +1,6 @@
 -- Document 01, "The walk": a whole list of calls of the first list and the step, with one table, on one walk.
-use mathlib.Core.Path.{_≡_}
 use mathlib.Core.List.{List, [], _∷_}
-use Prim.Native.Nat.{ℕ, zero, suc}
+use Prim.Native.Nat.{ℕ, suc}
 use Rattle.choices.specs.Tree.{Final, result, refuses}
 use Rattle.meaning.specs.Service.{firsts, steps}
 
