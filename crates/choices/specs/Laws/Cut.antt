@@ -52,11 +52,11 @@ gives-cut {A} k t o w = (out k t w, back k t w)
     back (suc k) (choose p n ways) w h = (h .0, h .1, back k (ways (h .0)) (w (h .0) (h .1)) (h .2))
 
 -- A tree none of whose runs ends in 31 has at most so many choices on each path.
-no-many : {A : Type 0} (k : ℕ) (t : Tree A) → ((l : List ℕ) (p : ℕ) (left : List ℕ) → follow t k l ≡ stopped 31 p left → ⊥) → Within k t
+no-many : {A : Type 0} (k : ℕ) (t : Tree A) → ((l : List ℕ) (p : ℕ) (left : List ℕ) → length l ≤ k → follow t k l ≡ stopped 31 p left → ⊥) → Within k t
 no-many k (give a) h = tt
 no-many k (stop r p) h = tt
-no-many zero (choose p n ways) h = absurd (h [] p [] refl)
-no-many (suc k) (choose p n ways) h = λ i lt. no-many k (ways i) (λ l q left e. h (i ∷ l) q left (rw (lt-ltb i n lt) e))
+no-many zero (choose p n ways) h = absurd (h [] p [] (omega arith) refl)
+no-many (suc k) (choose p n ways) h = λ i lt. no-many k (ways i) (λ l q left b e. h (i ∷ l) q left (omega arith) (rw (lt-ltb i n lt) e))
 
 pub no-many-within : {A : Type 0} (t : Tree A) → NoMany t → Within limit t
 no-many-within t h = no-many limit t h

@@ -1,13 +1,17 @@
--- What stands after bytes were copied.
+-- What callers make of the promises: records and items among copied bytes, and an integer that was passed on.
 use mathlib.Core.Path.{_≡_, sym, ap, subst, _∙_}
 use mathlib.Core.List.{List}
 use Prim.Native.Nat.{ℕ, _+_, _≤_}
 use native.Mathlib.Omega.{arith}
+use lib.IntN.{ℤ}
 use lib.ListN.{take, drop}
 use lib.Seq.{drop-drop}
-use Rattle.values.specs.Value.{Value, Items, size, sizes}
+use mir.Syntax.{w32}
+use mir.Val.{SFits, ofZ, toZ}
+use mir.ValLaws.{toZ-ofZ}
+use Rattle.values.specs.Value.{Value, integer, Items, size, sizes}
 use Rattle.values.specs.Place.{At, ItemsAt}
-use Rattle.values.specs.Contract.{Movable, Moved}
+use Rattle.values.specs.Contract.{Put, Movable, Moved}
 use Rattle.values.specs.Frame.{window, moved, items-moved}
 
 -- a record, and items, that are among the bytes copied stand in the copy, i bytes from its start
@@ -39,3 +43,7 @@ all-items {s} {t} {from} {to} {n} {vs} r c a =
     let d = a .ends in
     let e : sizes vs ≡ n = omega arith in
     items-moved to (to + n) (omega arith) (omega arith) (subst (λ (m : ℕ). take m (drop to t) ≡ take m (drop from s)) (sym e) (c .bytes)) a
+
+-- code passes an integer on by its bits, which are its own
+pub put-passed : {s t : List ℕ} {at : ℕ} {z : ℤ} {n r : ℕ} → SFits w32 z → Put s t at (integer (toZ w32 (ofZ w32 z))) n r → Put s t at (integer z) n r
+put-passed {s} {t} {at} {z} {n} {r} f p = subst (λ (y : ℤ). Put s t at (integer y) n r) (toZ-ofZ w32 z f) p
