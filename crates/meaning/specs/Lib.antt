@@ -12,3 +12,4 @@ pub mod Agreement
 pub mod Numbers
 pub mod Sure
 pub mod Demand
+pub mod WellFormed

@@ -7,7 +7,8 @@ use Rattle.integers.specs.Bytes.{integerBytes}
 use Rattle.integers.specs.Whole.{answer}
 use Rattle.choices.specs.Tree.{Final}
 use Rattle.choices.specs.Paths.{allLists}
-use Rattle.values.specs.Value.{Value, integer, collection, set, Items, none, more, limit, count, everyOther, size, orderℕ, orderℤ, within}
+use Rattle.integers.specs.Order.{orderℕ, orderℤ}
+use Rattle.values.specs.Value.{Value, integer, collection, set, Items, none, more, limit, count, everyOther, size, within}
 use Rattle.values.specs.Items.{join, isMember, nth, insert, lookup, enter}
 use Rattle.operators.specs.Gather.{every, any, keep, insertAll, flatten, backwards, upFrom, everyEntry, keepEntries, enterAll}
 use Rattle.operators.specs.Enumerations.{addMembers, addItems, addEntries}
