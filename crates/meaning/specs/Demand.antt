@@ -9,7 +9,7 @@ use native.Mathlib.Omega.{arith}
 use lib.Dec.{ltb}
 use lib.ListN.{length}
 use borrow.Author.Tests.{lt-ltb, le-ltb}
-use Rattle.choices.specs.Tree.{stop, bind, Run, gave, stopped, short, beyond, run, Final, result, refuses, limit, Outcome, Full}
+use Rattle.choices.specs.Tree.{follow, Run, gave, stopped, short, beyond, run, Final, result, refuses, limit, Outcome, Full}
 use Rattle.choices.specs.Lists.{Ended, Complete, before, CountBefore, First, Next, NoMany}
 use Rattle.choices.specs.Paths.{firstList, nextList}
 use Rattle.choices.specs.Laws.Cut.{complete-length}
@@ -31,7 +31,7 @@ use Rattle.meaning.specs.Service.{scratchBytes, last, tree, unless, acce
 use Rattle.meaning.specs.Walk.{Call, first, step, answer, Walk, left, call, calls}
 use Rattle.meaning.specs.Agreement.{agreement}
 use Rattle.meaning.specs.Proper.{downward}
-use Rattle.meaning.specs.LetBe.{afterSet, Decided, NoBinding, let-be-is, let-be-24}
+use Rattle.meaning.specs.LetBe.{Decided, NoBinding, let-be-run}
 use Rattle.meaning.specs.Sure.{sure-meaning}
 
 -- The walk that a granted first list of the table left.
@@ -174,24 +174,30 @@ module _ (table : List ℕ) (n : ℕ) (ok : check table ≡ Accepted n) where
 
 -- ---- a let-be of a table
 
--- Record r is a let-be, with pattern P, set operand t, condition c and body b. Its evaluation in a state is that of its set operand, and then
--- what follows the value of that. Where this value is a set, its bindings are within the limits, and the condition is true or false at each,
--- what follows is 24 exactly when no binding matches a member of the set and makes the condition true.
-pub record LetBe (table : List ℕ) (r p t c b : ℕ) (ρ : State) : Type 0 where
-  pub reached : meaning (sheet table) r ρ ≡ bind (meaning (sheet table) t ρ) (λ v. afterSet (meaning (sheet table)) r (sheet table .pattern p) c b ρ v)
-  pub refuses-24 : (vs : Items) (bs : List Binding) → formed (sheet table .pattern p) (listOf vs) ≡ bound bs → ((β : Binding) → In β bs → Decided (meaning (sheet table)) c ρ β)
-      → (afterSet (meaning (sheet table)) r (sheet table .pattern p) c b ρ (collection set vs) ≡ stop 24 r) ↔ NoBinding (meaning (sheet table)) (sheet table .pattern p) c ρ vs
+-- Record r is a let-be with pattern p, set operand t, condition c and body b, and is reached in a run in the state ρ, with k choices allowed
+-- and the entries l left. Its set operand gives the set of vs, and leaves j choices and the entries m.
+pub record LetBe (table : List ℕ) (r p t c b : ℕ) (ρ : State) (k : ℕ) (l : List ℕ) (vs : Items) (j : ℕ) (m : List ℕ) : Type 0 where
+  pub is-let-be : sheet table .node r ≡ let-be p t c b
+  pub given : follow (meaning (sheet table) t ρ) k l ≡ gave (collection set vs) j m
+
+-- The bindings are within the limits, and the condition is true or false at each.
+pub record Settled (table : List ℕ) (p c : ℕ) (ρ : State) (vs : Items) : Type 0 where
+  pub all : List Binding
+  pub within : formed (sheet table .pattern p) (listOf vs) ≡ bound all
+  pub decided : (β : Binding) → In β all → Decided (meaning (sheet table)) c ρ β
 
 -- ---- demand 3
 
 -- For every list of calls that starts from a walk that a granted first list left: what the walk holds, and what the next call answers.
 -- Where no run meets a 65th choice, some complete list has an outcome exactly when the loose meaning of the last record has it.
--- And when a let-be refuses for want of a binding.
+-- A let-be reached in a run, with bindings within the limits and a condition true or false at each, gives 24 exactly when no binding matches a
+-- member of its set and makes its condition true.
 pub record Demand3 (table : List ℕ) : Type 0 where
   pub held : (cs : List Call) → Held table (calls table cs (begun table))
   pub next : (cs : List Call) → Answers table (calls table cs (begun table) .list)
   pub outcomes : NoMany (tree table) → (o : Outcome Value) → Reached (tree table) o ↔ loose (sheet table) (last (sheet table)) unbound o
-  pub let-bes : (r p t c b : ℕ) → sheet table .node r ≡ let-be p t c b → (ρ : State) → LetBe table r p t c b ρ
+  pub no-binding : (r p t c b : ℕ) (ρ : State) (k : ℕ) (l : List ℕ) (vs : Items) (j : ℕ) (m : List ℕ) → LetBe table r p t c b ρ k l vs j m → Settled table p c ρ vs
+      → ((left : List ℕ) × (follow (meaning (sheet table) r ρ) k l ≡ stopped 24 r left)) ↔ NoBinding (meaning (sheet table)) (sheet table .pattern p) c ρ vs
 
 pub demand3 : (table : List ℕ) (n : ℕ) → check table ≡ Accepted n → Demand3 table
 demand3 table n ok =
@@ -202,9 +208,6 @@ demand3 table n ok =
         λ w. agreement (sheet table) (last (sheet table)) unbound o .0 (gives-reached (tree table) o h .1 w),
         λ w. gives-reached (tree table) o h .0 (agreement (sheet table) (last (sheet table)) unbound o .1 w),
       );
-      let-bes = λ r p t c b e ρ.
-          record {
-            reached = let-be-is (sheet table) (downward table n ok) r p t c b e ρ;
-            refuses-24 = λ vs bs f h. let-be-24 (meaning (sheet table)) r (sheet table .pattern p) c b ρ vs bs f h;
-          };
+      no-binding = λ r p t c b ρ k l vs j m h w.
+          let-be-run (sheet table) (downward table n ok) r p t c b (h .is-let-be) ρ k l vs j m (h .given) (w .all) (w .within) (w .decided);
     }

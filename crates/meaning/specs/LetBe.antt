@@ -3,14 +3,16 @@ use mathlib.Core.Path.{_≡_, refl, sym, ap, _∙_, subst}
 use mathlib.Core.Bool.{Bool, true, false}
 use mathlib.Core.Logic.{inl, inr, ⊎-elim, _↔_}
 use mathlib.Core.List.{List, [], _∷_}
-use Prim.Native.Nat.{ℕ}
+use Prim.Native.Nat.{ℕ, zero, suc, _<_}
 use native.Mathlib.Omega.{arith}
-use Rattle.choices.specs.Tree.{Tree, give, stop, choose, bind}
-use Rattle.choices.specs.Laws.Trees.{bind-cong, bind-assoc}
+use lib.Dec.{ltb}
+use lib.ListN.{length, getD}
+use Rattle.choices.specs.Tree.{Tree, give, stop, choose, bind, gave, stopped, beyond, follow, pick as choosing}
+use Rattle.choices.specs.Laws.Trees.{bind-cong, bind-assoc, onward, follow-bind}
 use Rattle.values.specs.Value.{set, Value, boolean, collection, Items}
 use Rattle.values.specs.Items.{pick}
 use Rattle.patterns.specs.Members.{In}
-use Rattle.patterns.specs.Binding.{Binding}
+use Rattle.patterns.specs.Binding.{Binding, nothing}
 use Rattle.patterns.specs.Pattern.{Pattern, listOf}
 use Rattle.patterns.specs.Binder.{bound, formed, bindings}
 use Rattle.patterns.specs.Relation.{Matches}
@@ -19,7 +21,8 @@ use Rattle.patterns.specs.Forming.{formed-bound}
 use Rattle.meaning.specs.Node.{Node, let-be}
 use Rattle.meaning.specs.State.{State, under}
 use Rattle.meaning.specs.Meaning.{Evaluates, isTrue, formedAt, membersAt, satisfying, satisfied, means, Sheet, meaning}
-use Rattle.meaning.specs.Equation.{Downward, meaning-is}
+use Rattle.meaning.specs.Equation.{evaluated, AllBelow, Downward, meaning-is}
+use Rattle.meaning.specs.Sure.{Placed, placed-meaning, follow-placed}
 
 -- ---- what follows the set operand
 
@@ -99,28 +102,73 @@ module _ (rec : Evaluates) (r c b : ℕ) (ρ : State) where
 abbrev pub NoBinding : Evaluates → Pattern → ℕ → State → Items → Type 0
 NoBinding rec p c ρ vs = (m : Value) (β : Binding) → In m (listOf vs) → Matches p m β → IsTrue rec c ρ β → ⊥
 
--- THEOREM: where the set operand gave a set, forming its bindings gave neither 29 nor 30, and the condition is true or false at each binding,
--- what follows is 24 at the let-be exactly when no binding matches a member of the set and makes the condition true.
-pub let-be-24 : (rec : Evaluates) (r : ℕ) (p : Pattern) (c b : ℕ) (ρ : State) (vs : Items) (bs : List Binding) → formed p (listOf vs) ≡ bound bs → ((β : Binding) → In β bs → Decided rec c ρ β) → (afterSet rec r p c b ρ (collection set vs) ≡ stop 24 r) ↔ NoBinding rec p c ρ vs
-let-be-24 rec r p c b ρ vs bs e h = (
-  λ t m β i k y.
-      24-then-none rec r c b ρ (f .sat) (sym on ∙ t) β
-      (f .whole β (subst (In β) (sym all) (bindings-exactly p (listOf vs) β .1 (m, i, k))) y),
-  λ n.
-      on
-      ∙ none-then-24 rec r c b ρ (f .sat)
-      (λ β i.
-      let (m, j, k) = bindings-exactly p (listOf vs) β .0 (subst (In β) all (f .sound β i .0)) in
-      n m β j k (f .sound β i .1)),
+-- ---- what follows, by the bindings that make the condition true
+
+module _ (rec : Evaluates) (r : ℕ) (p : Pattern) (c b : ℕ) (ρ : State) (vs : Items) (bs : List Binding) (formed-is : formed p (listOf vs) ≡ bound bs) (decided : (β : Binding) → In β bs → Decided rec c ρ β) where
+  filtered : Filtered rec r c ρ bs
+  filtered = filter rec r c ρ bs decided
+
+  all-bindings : bs ≡ bindings p (listOf vs)
+  all-bindings = formed-bound p (listOf vs) bs formed-is .all
+
+  after-is : afterSet rec r p c b ρ (collection set vs) ≡ bind (satisfied r (filtered .sat)) (λ β. rec b (under ρ β))
+  after-is =
+      ap (λ x. bind (formedAt r x) (λ l. afterBindings rec r c b ρ l)) formed-is
+      ∙ ap (λ (t : Tree (List Binding)). bind t (λ sat. bind (satisfied r sat) (λ β. rec b (under ρ β)))) (filtered .is)
+
+  -- A binding that matches a member and makes the condition true is among the satisfying ones, and they are all such.
+  among : (m : Value) (β : Binding) → In m (listOf vs) → Matches p m β → IsTrue rec c ρ β → In β (filtered .sat)
+  among m β i k y = filtered .whole β (subst (In β) (sym all-bindings) (bindings-exactly p (listOf vs) β .1 (m, i, k))) y
+
+  none-among : NoBinding rec p c ρ vs → (β : Binding) → In β (filtered .sat) → ⊥
+  none-among n β i =
+      let (m, j, k) = bindings-exactly p (listOf vs) β .0 (subst (In β) all-bindings (filtered .sound β i .0)) in
+      n m β j k (filtered .sound β i .1)
+
+  -- THEOREM: where the set operand gave a set, forming its bindings gave neither 29 nor 30, and the condition is true or false at each binding,
+  -- what follows is 24 at the let-be exactly when no binding matches a member of the set and makes the condition true.
+  pub let-be-24 : (afterSet rec r p c b ρ (collection set vs) ≡ stop 24 r) ↔ NoBinding rec p c ρ vs
+  let-be-24 = (
+    λ t m β i k y. 24-then-none rec r c b ρ (filtered .sat) (sym after-is ∙ t) β (among m β i k y),
+    λ n. after-is ∙ none-then-24 rec r c b ρ (filtered .sat) (none-among n),
+  )
+
+-- ---- the same in a run
+
+-- A choice at r, with bodies below r, does not come to 24 at r.
+choice-not-24 : (r q n : ℕ) (ways : ℕ → Tree Value) (k : ℕ) (l left : List ℕ) → q < r → ((i : ℕ) → Placed q (ways i)) → follow (choose r n ways) k l ≡ stopped 24 r left → ⊥
+choice-not-24 r q n ways zero l left h p e = let z : _≡_ {A = ℕ} 31 24 = cc in absurd (omega arith)
+choice-not-24 r q n ways (suc k) [] left h p e = let z : _≡_ {A = ℕ} 0 1 = cc in absurd (omega arith)
+choice-not-24 r q n ways (suc k) (c ∷ l) left h p e = go (ltb c n) e
+  where
+    go : (b : Bool) → choosing b (follow (ways c) k l) (beyond r n (c ∷ l)) ≡ stopped 24 r left → ⊥
+    go true e = let i = follow-placed q (ways c) k l 24 r left (p c) e in absurd (omega arith)
+    go false e = let z : _≡_ {A = ℕ} 0 1 = cc in absurd (omega arith)
+
+satisfied-not-24 : (rec : Evaluates) (r q b : ℕ) (ρ : State) (sat : List Binding) (k : ℕ) (l left : List ℕ) → q < r → ((σ : State) → Placed q (rec b σ)) → follow (bind (satisfied r sat) (λ β. rec b (under ρ β))) k l ≡ stopped 24 r left → (β : Binding) → In β sat → ⊥
+satisfied-not-24 rec r q b ρ [] k l left h p e β i = i
+satisfied-not-24 rec r q b ρ (x ∷ sat) k l left h p e β i =
+    choice-not-24 r q (length (x ∷ sat)) (λ j. rec b (under ρ (getD (x ∷ sat) j nothing))) k l left h (λ j. p (under ρ (getD (x ∷ sat) j nothing))) e
+
+-- THEOREM: a let-be reached in a run, with k choices allowed and the entries l left, whose set operand gives a set, whose bindings are within
+-- the limits and whose condition is true or false at each: it gives 24 exactly when no binding matches a member of the set and makes its
+-- condition true.
+pub let-be-run : (s : Sheet) → Downward s → (r p t c b : ℕ) → s .node r ≡ let-be p t c b → (ρ : State) (k : ℕ) (l : List ℕ) (vs : Items) (j : ℕ) (m : List ℕ)
+    → follow (meaning s t ρ) k l ≡ gave (collection set vs) j m → (bs : List Binding) → formed (s .pattern p) (listOf vs) ≡ bound bs → ((β : Binding) → In β bs → Decided (meaning s) c ρ β)
+    → ((left : List ℕ) × (follow (meaning s r ρ) k l ≡ stopped 24 r left)) ↔ NoBinding (meaning s) (s .pattern p) c ρ vs
+let-be-run s d r p t c b e ρ k l vs j m g bs f h = (
+  λ (left, w) x β i y z.
+      satisfied-not-24 (meaning s) r b b ρ (filtered (meaning s) r (s .pattern p) c b ρ vs bs f h .sat) j m left below (λ σ. placed-meaning s d b σ)
+      (ap (λ u. follow u j m) (sym (after-is (meaning s) r (s .pattern p) c b ρ vs bs f h)) ∙ sym run-is ∙ w) β
+      (among (meaning s) r (s .pattern p) c b ρ vs bs f h x β i y z),
+  λ n. (m, run-is ∙ ap (λ u. follow u j m) (let-be-24 (meaning s) r (s .pattern p) c b ρ vs bs f h .1 n)),
 )
   where
-    f : Filtered rec r c ρ bs
-    f = filter rec r c ρ bs h
+    run-is : follow (meaning s r ρ) k l ≡ follow (afterSet (meaning s) r (s .pattern p) c b ρ (collection set vs)) j m
+    run-is =
+        ap (λ u. follow u k l) (let-be-is s d r p t c b e ρ)
+        ∙ follow-bind (meaning s t ρ) (λ v. afterSet (meaning s) r (s .pattern p) c b ρ v) k l
+        ∙ ap (λ u. onward u (λ v k′ l′. follow (afterSet (meaning s) r (s .pattern p) c b ρ v) k′ l′)) g
 
-    all : bs ≡ bindings p (listOf vs)
-    all = formed-bound p (listOf vs) bs e .all
-
-    on : afterSet rec r p c b ρ (collection set vs) ≡ bind (satisfied r (f .sat)) (λ β. rec b (under ρ β))
-    on =
-        ap (λ x. bind (formedAt r x) (λ l. afterBindings rec r c b ρ l)) e
-        ∙ ap (λ (t : Tree (List Binding)). bind t (λ sat. bind (satisfied r sat) (λ β. rec b (under ρ β)))) (f .is)
+    below : b < r
+    below = subst (λ n. AllBelow r (evaluated n)) e (d r) .1 .1 .0

@@ -4,12 +4,14 @@ pub mod Meaning
 pub mod Read
 pub mod Equation
 pub mod Proper
-pub mod LetBe
 pub mod Loose
 pub mod Service
 pub mod Walk
 pub mod Agreement
+pub mod Only
 pub mod Numbers
+pub mod Closed
 pub mod Sure
+pub mod LetBe
 pub mod Demand
 pub mod WellFormed

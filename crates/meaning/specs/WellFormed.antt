@@ -2,14 +2,13 @@
 -- of 2 to 4, and it takes at most 512 bytes. (What a run gives follows from table and list alone: evaluating is a function of the two.)
 use mathlib.Core.Path.{_≡_, refl, sym, ap, _∙_, subst}
 use mathlib.Core.Bool.{Bool, true, false}
-use mathlib.Core.Option.{Option, none as absent, some}
-use mathlib.Core.Logic.{inl, inr, ⊎-elim}
+use mathlib.Core.Option.{some}
+use mathlib.Core.Logic.{inl, inr}
 use mathlib.Core.List.{List, [], _∷_}
 use Prim.Native.Nat.{ℕ, zero, suc, _+_, _%_, _≤_, _<_}
 use native.Mathlib.Omega.{arith}
 use lib.ListN.{length, getD, getD-replicate}
-use Rattle.choices.specs.Tree.{Tree, give, stop, bind, value, Gives, gave, short, run, limit}
-use Rattle.choices.specs.Laws.Trees.{gives-bind-out}
+use Rattle.choices.specs.Tree.{Tree, bind, value, Gives, gave, short, run, limit}
 use Rattle.choices.specs.Laws.Outcomes.{follow-given, Given}
 use Rattle.values.specs.Value.{Kind, set, sequence, map, tuple, Value, boolean, integer, collection, Items, none, more, count, size, sizes, limit as largest, Sound, SoundItems, PairedFrom, WellFormed}
 use Rattle.values.specs.Items.{pick}
@@ -37,38 +36,10 @@ use Rattle.meaning.specs.Meaning.{Evaluates, at, builtAt, orElse, allOf,
 use Rattle.meaning.specs.Read.{sheet}
 use Rattle.meaning.specs.Service.{last, tree}
 use Rattle.meaning.specs.Agreement.{at-in}
+use Rattle.meaning.specs.Only.{Only, only-give, only-stop, only-bind, Any, only-any, only-pick, only-else}
 use Rattle.meaning.specs.Proper.{Numbered, Literal, proper}
 
--- ---- trees that give only such values
-
--- Every value that the tree gives is so.
-abbrev pub Only : {A : Type 0} → (A → Type 0) → Tree A → Type 0
-Only {A} P t = (a : A) → Gives t (value a) → P a
-
-only-give : {A : Type 0} (P : A → Type 0) (a : A) → P a → Only P (give a)
-only-give P a h b e = let d : a ≡ b = cc in subst P d h
-
-only-stop : {A : Type 0} (P : A → Type 0) (n r : ℕ) → Only P (stop n r)
-only-stop P n r b e = let z : _≡_ {A = ℕ} 0 1 = cc in absurd (omega arith)
-
-only-bind : {A B : Type 0} (P : A → Type 0) (Q : B → Type 0) (t : Tree A) (f : A → Tree B) → Only P t → ((a : A) → P a → Only Q (f a)) → Only Q (bind t f)
-only-bind P Q t f h k b g =
-    ⊎-elim (λ w. let e = w .2 in let z : _≡_ {A = ℕ} 0 1 = cc in absurd (omega arith)) (λ w. k (w .0) (h (w .0) (w .1)) b (w .2)) (gives-bind-out t f (value b) g)
-
--- Nothing is said of the values of the first.
-abbrev Any : {A : Type 0} → A → Type 0
-Any a = Unit {0}
-
-only-any : {A : Type 0} (t : Tree A) → Only Any t
-only-any t a g = tt
-
-only-pick : {A : Type 0} (P : A → Type 0) (b : Bool) (t u : Tree A) → Only P t → Only P u → Only P (pick b t u)
-only-pick P true t u h k = h
-only-pick P false t u h k = k
-
-only-else : {A : Type 0} (P : A → Type 0) (n r : ℕ) (x : Option A) → ((a : A) → x ≡ some a → P a) → Only P (orElse n r x)
-only-else P n r absent h = only-stop P n r
-only-else P n r (some a) h = only-give P a (h a refl)
+-- ---- answers
 
 only-at : (r : ℕ) (a : Answer) → Fine a → Only WellFormed (at r a)
 only-at r (is v) h = only-give WellFormed v h
