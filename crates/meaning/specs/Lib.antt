@@ -4,6 +4,7 @@ pub mod Meaning
 pub mod Read
 pub mod Equation
 pub mod Proper
+pub mod PatternLaws
 pub mod Loose
 pub mod Service
 pub mod Walk

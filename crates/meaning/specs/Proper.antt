@@ -24,7 +24,7 @@ use Rattle.meaning.specs.Equation.{evaluated, AllBelow, Downward}
 
 infixr 30 _&_
 -- A pair.
-abbrev _&_ : {A B : Type 0} → A → B → A × B
+abbrev pub _&_ : {A B : Type 0} → A → B → A × B
 a & b = (a, b)
 
 -- ---- a proper node
