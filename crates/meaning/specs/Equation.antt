@@ -20,34 +20,63 @@ use Rattle.meaning.specs.Meaning.{Evaluates, allOf, bothOf, rightOf, isT
 
 -- ---- what a record evaluates
 
--- The records that a node evaluates. (A pattern is not evaluated.)
-abbrev pub evaluated : Node → List ℕ
-evaluated (truth b) = []
-evaluated (whole z) = []
-evaluated (named x) = []
-evaluated (unaryOf op a) = a ∷ []
-evaluated (binaryOf op a b) = a ∷ b ∷ []
-evaluated (connective c a b) = a ∷ b ∷ []
-evaluated (if t a b) = t ∷ a ∷ b ∷ []
-evaluated (enumeration k operands) = operands
-evaluated (range a b) = a ∷ b ∷ []
-evaluated (let-in p a b) = a ∷ b ∷ []
-evaluated (let-be p s c b) = s ∷ c ∷ b ∷ []
-evaluated (quantified q p s c) = s ∷ c ∷ []
-evaluated (iota p s c) = s ∷ c ∷ []
-evaluated (set-comprehension p s c e) = s ∷ c ∷ e ∷ []
-evaluated (sequence-comprehension p s c e) = s ∷ c ∷ e ∷ []
-evaluated (map-comprehension p s c k e) = s ∷ c ∷ k ∷ e ∷ []
-evaluated (application a b) = a ∷ b ∷ []
-evaluated no-expression = []
+-- The records that a node evaluates in its own state. (A pattern is not evaluated.)
+abbrev pub plain : Node → List ℕ
+plain (truth b) = []
+plain (whole z) = []
+plain (named x) = []
+plain (unaryOf op a) = a ∷ []
+plain (binaryOf op a b) = a ∷ b ∷ []
+plain (connective c a b) = a ∷ b ∷ []
+plain (if t a b) = t ∷ a ∷ b ∷ []
+plain (enumeration k operands) = operands
+plain (range a b) = a ∷ b ∷ []
+plain (let-in p a b) = a ∷ []
+plain (let-be p s c b) = s ∷ []
+plain (quantified q p s c) = s ∷ []
+plain (iota p s c) = s ∷ []
+plain (set-comprehension p s c e) = s ∷ []
+plain (sequence-comprehension p s c e) = s ∷ []
+plain (map-comprehension p s c k e) = s ∷ []
+plain (application a b) = a ∷ b ∷ []
+plain no-expression = []
+
+-- The records that a binder evaluates under its bindings.
+abbrev pub covered : Node → List ℕ
+covered (truth b) = []
+covered (whole z) = []
+covered (named x) = []
+covered (unaryOf op a) = []
+covered (binaryOf op a b) = []
+covered (connective c a b) = []
+covered (if t a b) = []
+covered (enumeration k operands) = []
+covered (range a b) = []
+covered (let-in p a b) = b ∷ []
+covered (let-be p s c b) = c ∷ b ∷ []
+covered (quantified q p s c) = c ∷ []
+covered (iota p s c) = c ∷ []
+covered (set-comprehension p s c e) = c ∷ e ∷ []
+covered (sequence-comprehension p s c e) = c ∷ e ∷ []
+covered (map-comprehension p s c k e) = c ∷ k ∷ e ∷ []
+covered (application a b) = []
+covered no-expression = []
+
+-- The same of each of these records.
+abbrev pub Each : (ℕ → Type 0) → List ℕ → Type 0
+Each L [] = Unit {0}
+Each L (a ∷ os) = L a × Each L os
 
 abbrev pub AllBelow : ℕ → List ℕ → Type 0
-AllBelow r [] = Unit {0}
-AllBelow r (a ∷ os) = (a < r) × AllBelow r os
+AllBelow r os = Each (λ a. a < r) os
 
 -- Every record evaluates only lower ones.
+pub record Lower (r : ℕ) (n : Node) : Type 0 where
+  pub plain-ones : AllBelow r (plain n)
+  pub covered-ones : AllBelow r (covered n)
+
 abbrev pub Downward : Sheet → Type 0
-Downward s = (r : ℕ) → AllBelow r (evaluated (s .node r))
+Downward s = (r : ℕ) → Lower r (s .node r)
 
 -- ---- two evaluations that agree below r
 
@@ -125,43 +154,43 @@ module _ (r : ℕ) (f g : Evaluates) (agree : (a : ℕ) (σ : State) → a < r �
       bind-both (collected (holds f q c ρ) add none bs) (collected (holds g q c ρ) put none bs) _ _
       (collected-cong (holds f q c ρ) (holds g q c ρ) add put (holds-cong q c h ρ) e none bs) (λ vs. refl)
 
-  node-cong : (pattern : ℕ → Pattern) (q : ℕ) (n : Node) → AllBelow r (evaluated n) → (ρ : State) → means pattern f q n ρ ≡ means pattern g q n ρ
+  node-cong : (pattern : ℕ → Pattern) (q : ℕ) (n : Node) → Lower r n → (ρ : State) → means pattern f q n ρ ≡ means pattern g q n ρ
   unfolding means
   node-cong pattern q (truth b) h ρ = refl
   node-cong pattern q (whole z) h ρ = refl
   node-cong pattern q (named x) h ρ = refl
-  node-cong pattern q (unaryOf op a) h ρ = bind-both (f a ρ) (g a ρ) _ _ (agree a ρ (h .0)) (λ v. refl)
-  node-cong pattern q (binaryOf op a b) h ρ = both-cong a b (h .0) (h .1 .0) ρ _
-  node-cong pattern q (connective c a b) h ρ = bind-both (f a ρ) (g a ρ) _ _ (agree a ρ (h .0)) (λ v. right-cong q b (h .1 .0) ρ (left c v))
+  node-cong pattern q (unaryOf op a) h ρ = bind-both (f a ρ) (g a ρ) _ _ (agree a ρ (h .plain-ones .0)) (λ v. refl)
+  node-cong pattern q (binaryOf op a b) h ρ = both-cong a b (h .plain-ones .0) (h .plain-ones .1 .0) ρ _
+  node-cong pattern q (connective c a b) h ρ = bind-both (f a ρ) (g a ρ) _ _ (agree a ρ (h .plain-ones .0)) (λ v. right-cong q b (h .plain-ones .1 .0) ρ (left c v))
   node-cong pattern q (if t a b) h ρ =
-      bind-both (f t ρ) (g t ρ) _ _ (agree t ρ (h .0))
-      (λ v. bind-cong (isTrue q v) _ _ (λ y. pick-both y (f a ρ) (g a ρ) (f b ρ) (g b ρ) (agree a ρ (h .1 .0)) (agree b ρ (h .1 .1 .0))))
-  node-cong pattern q (enumeration k os) h ρ = bind-both (allOf f os ρ) (allOf g os ρ) _ _ (all-cong os h ρ) (λ vs. refl)
-  node-cong pattern q (range a b) h ρ = both-cong a b (h .0) (h .1 .0) ρ _
+      bind-both (f t ρ) (g t ρ) _ _ (agree t ρ (h .plain-ones .0))
+      (λ v. bind-cong (isTrue q v) _ _ (λ y. pick-both y (f a ρ) (g a ρ) (f b ρ) (g b ρ) (agree a ρ (h .plain-ones .1 .0)) (agree b ρ (h .plain-ones .1 .1 .0))))
+  node-cong pattern q (enumeration k os) h ρ = bind-both (allOf f os ρ) (allOf g os ρ) _ _ (all-cong os (h .plain-ones) ρ) (λ vs. refl)
+  node-cong pattern q (range a b) h ρ = both-cong a b (h .plain-ones .0) (h .plain-ones .1 .0) ρ _
   node-cong pattern q (let-in p a b) h ρ =
-      bind-both (f a ρ) (g a ρ) _ _ (agree a ρ (h .0))
+      bind-both (f a ρ) (g a ρ) _ _ (agree a ρ (h .plain-ones .0))
       (λ v. bind-cong (formedAt q (formed (pattern p) (v ∷ []))) _ _
-      (λ bs. bind-cong (matched q (loose (pattern p)) bs) _ _ (λ β. agree b (under ρ β) (h .1 .0))))
+      (λ bs. bind-cong (matched q (loose (pattern p)) bs) _ _ (λ β. agree b (under ρ β) (h .covered-ones .0))))
   node-cong pattern q (let-be p s c b) h ρ =
-      bind-both (bindingsOf f q (pattern p) s ρ) (bindingsOf g q (pattern p) s ρ) _ _ (bindings-cong q (pattern p) s (h .0) ρ)
-      (λ bs. bind-both (satisfying f q c ρ bs) (satisfying g q c ρ bs) _ _ (satisfying-cong q c (h .1 .0) ρ bs)
-      (λ sat. bind-cong (satisfied q sat) _ _ (λ β. agree b (under ρ β) (h .1 .1 .0))))
+      bind-both (bindingsOf f q (pattern p) s ρ) (bindingsOf g q (pattern p) s ρ) _ _ (bindings-cong q (pattern p) s (h .plain-ones .0) ρ)
+      (λ bs. bind-both (satisfying f q c ρ bs) (satisfying g q c ρ bs) _ _ (satisfying-cong q c (h .covered-ones .0) ρ bs)
+      (λ sat. bind-cong (satisfied q sat) _ _ (λ β. agree b (under ρ β) (h .covered-ones .1 .0))))
   node-cong pattern q (quantified k p s c) h ρ =
-      bind-both (bindingsOf f q (pattern p) s ρ) (bindingsOf g q (pattern p) s ρ) _ _ (bindings-cong q (pattern p) s (h .0) ρ)
-      (λ bs. bind-both (quantify k f q c ρ bs) (quantify k g q c ρ bs) _ _ (quantify-cong k q c (h .1 .0) ρ bs) (λ t. refl))
+      bind-both (bindingsOf f q (pattern p) s ρ) (bindingsOf g q (pattern p) s ρ) _ _ (bindings-cong q (pattern p) s (h .plain-ones .0) ρ)
+      (λ bs. bind-both (quantify k f q c ρ bs) (quantify k g q c ρ bs) _ _ (quantify-cong k q c (h .covered-ones .0) ρ bs) (λ t. refl))
   node-cong pattern q (iota p s c) h ρ =
-      bind-both (bindingsOf f q (pattern p) s ρ) (bindingsOf g q (pattern p) s ρ) _ _ (bindings-cong q (pattern p) s (h .0) ρ)
-      (λ bs. bind-both (satisfying f q c ρ bs) (satisfying g q c ρ bs) _ _ (satisfying-cong q c (h .1 .0) ρ bs) (λ sat. refl))
+      bind-both (bindingsOf f q (pattern p) s ρ) (bindingsOf g q (pattern p) s ρ) _ _ (bindings-cong q (pattern p) s (h .plain-ones .0) ρ)
+      (λ bs. bind-both (satisfying f q c ρ bs) (satisfying g q c ρ bs) _ _ (satisfying-cong q c (h .covered-ones .0) ρ bs) (λ sat. refl))
   node-cong pattern q (set-comprehension p s c e) h ρ =
-      bind-both (bindingsOf f q (pattern p) s ρ) (bindingsOf g q (pattern p) s ρ) _ _ (bindings-cong q (pattern p) s (h .0) ρ)
-      (λ bs. comprehension-cong q set c (h .1 .0) ρ _ _ (one-cong q addMember e (h .1 .1 .0) ρ) bs)
+      bind-both (bindingsOf f q (pattern p) s ρ) (bindingsOf g q (pattern p) s ρ) _ _ (bindings-cong q (pattern p) s (h .plain-ones .0) ρ)
+      (λ bs. comprehension-cong q set c (h .covered-ones .0) ρ _ _ (one-cong q addMember e (h .covered-ones .1 .0) ρ) bs)
   node-cong pattern q (sequence-comprehension p s c e) h ρ =
-      bind-both (integerBindings f q (pattern p) s ρ) (integerBindings g q (pattern p) s ρ) _ _ (integer-bindings-cong q (pattern p) s (h .0) ρ)
-      (λ bs. comprehension-cong q sequence c (h .1 .0) ρ _ _ (one-cong q addItem e (h .1 .1 .0) ρ) bs)
+      bind-both (integerBindings f q (pattern p) s ρ) (integerBindings g q (pattern p) s ρ) _ _ (integer-bindings-cong q (pattern p) s (h .plain-ones .0) ρ)
+      (λ bs. comprehension-cong q sequence c (h .covered-ones .0) ρ _ _ (one-cong q addItem e (h .covered-ones .1 .0) ρ) bs)
   node-cong pattern q (map-comprehension p s c k e) h ρ =
-      bind-both (bindingsOf f q (pattern p) s ρ) (bindingsOf g q (pattern p) s ρ) _ _ (bindings-cong q (pattern p) s (h .0) ρ)
-      (λ bs. comprehension-cong q map c (h .1 .0) ρ _ _ (pair-cong q k e (h .1 .1 .0) (h .1 .1 .1 .0) ρ) bs)
-  node-cong pattern q (application a b) h ρ = both-cong a b (h .0) (h .1 .0) ρ _
+      bind-both (bindingsOf f q (pattern p) s ρ) (bindingsOf g q (pattern p) s ρ) _ _ (bindings-cong q (pattern p) s (h .plain-ones .0) ρ)
+      (λ bs. comprehension-cong q map c (h .covered-ones .0) ρ _ _ (pair-cong q k e (h .covered-ones .1 .0) (h .covered-ones .1 .1 .0) ρ) bs)
+  node-cong pattern q (application a b) h ρ = both-cong a b (h .plain-ones .0) (h .plain-ones .1 .0) ρ _
   node-cong pattern q no-expression h ρ = refl
 
 -- ---- the equation

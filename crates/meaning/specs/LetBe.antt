@@ -21,7 +21,7 @@ use Rattle.patterns.specs.Forming.{formed-bound}
 use Rattle.meaning.specs.Node.{Node, let-be}
 use Rattle.meaning.specs.State.{State, under}
 use Rattle.meaning.specs.Meaning.{Evaluates, isTrue, formedAt, membersAt, satisfying, satisfied, means, Sheet, meaning}
-use Rattle.meaning.specs.Equation.{evaluated, AllBelow, Downward, meaning-is}
+use Rattle.meaning.specs.Equation.{Lower, Downward, meaning-is}
 use Rattle.meaning.specs.Sure.{Placed, placed-meaning, follow-placed}
 
 -- ---- what follows the set operand
@@ -171,4 +171,4 @@ let-be-run s d r p t c b e ρ k l vs j m g bs f h = (
         ∙ ap (λ u. onward u (λ v k′ l′. follow (afterSet (meaning s) r (s .pattern p) c b ρ v) k′ l′)) g
 
     below : b < r
-    below = subst (λ n. AllBelow r (evaluated n)) e (d r) .1 .1 .0
+    below = subst (λ n. Lower r n) e (d r) .covered-ones .1 .0

@@ -11,10 +11,10 @@ use Rattle.choices.specs.Lists.{Ended, Complete}
 use Rattle.choices.specs.Laws.Trees.{full-bind, numbered-bind}
 use Rattle.values.specs.Value.{Value}
 use Rattle.patterns.specs.Binder.{mostBindings}
-use Rattle.meaning.specs.State.{State}
+use Rattle.meaning.specs.State.{State, under}
 use Rattle.meaning.specs.Meaning.{Sheet, meaningTo, meaning}
-use Rattle.meaning.specs.Equation.{evaluated, AllBelow, Downward}
-use Rattle.meaning.specs.Closed.{Each, Closed, closed-node}
+use Rattle.meaning.specs.Equation.{plain, covered, Each, AllBelow, Downward}
+use Rattle.meaning.specs.Closed.{Closed, closed-node}
 
 -- ---- ways and numbers
 
@@ -48,19 +48,18 @@ sure-closed r =
           };
     }
 
--- Of any record.
-abbrev Whatever : ℕ → Type 0
-Whatever a = Unit {0}
-
-whatever : (os : List ℕ) → Each Whatever os
-whatever [] = tt
-whatever (a ∷ os) = (tt, whatever os)
+-- What holds of all records holds of each of these.
+each-one : (P : ℕ → Type 0) → ((a : ℕ) → P a) → (os : List ℕ) → Each P os
+each-one P h [] = tt
+each-one P h (a ∷ os) = (h a, each-one P h os)
 
 sure-to : (s : Sheet) (n r : ℕ) (ρ : State) → Sure (meaningTo s n r ρ)
 unfolding meaningTo
 sure-to s zero r ρ = sure-closed r .of-stop Value 20 (omega arith, omega arith)
 sure-to s (suc n) r ρ =
-    closed-node (λ A t. Sure t) r (sure-closed r) (λ a σ. meaningTo s n a σ) Whatever (λ a l σ. sure-to s n a σ) (s .pattern) (s .node r) (whatever (evaluated (s .node r))) ρ
+    closed-node (λ A t. Sure t) r (sure-closed r) (λ a σ. meaningTo s n a σ) ρ (s .pattern) (s .node r)
+    (each-one (λ a. Sure (meaningTo s n a ρ)) (λ a. sure-to s n a ρ) (plain (s .node r)))
+    (each-one _ (λ a β c. sure-to s n a (under ρ β)) (covered (s .node r)))
 
 -- THEOREM: a run never meets a choice with no way or with more than 255, and refuses only by the numbers of document 01.
 pub sure-meaning : (s : Sheet) (r : ℕ) (ρ : State) → Sure (meaning s r ρ)
@@ -117,16 +116,17 @@ placed-closed r =
       of-bind = λ A B t f h k. placed-bind r t f h k;
     }
 
-each-below : (r : ℕ) (os : List ℕ) → AllBelow r os → Each (λ a. a < r) os
-each-below r [] h = tt
-each-below r (a ∷ os) h = (h .0, each-below r os (h .1))
+each-lower : (r : ℕ) (P : ℕ → Type 0) → ((a : ℕ) → a < r → P a) → (os : List ℕ) → AllBelow r os → Each P os
+each-lower r P h [] l = tt
+each-lower r P h (a ∷ os) l = (h a (l .0), each-lower r P h os (l .1))
 
 placed-to : (s : Sheet) → Downward s → (n r : ℕ) (ρ : State) → Placed r (meaningTo s n r ρ)
 unfolding meaningTo
 placed-to s d zero r ρ = omega arith
 placed-to s d (suc n) r ρ =
-    closed-node (λ A t. Placed r t) r (placed-closed r) (λ a σ. meaningTo s n a σ) (λ a. a < r)
-    (λ a l σ. placed-up a r (meaningTo s n a σ) (omega arith) (placed-to s d n a σ)) (s .pattern) (s .node r) (each-below r (evaluated (s .node r)) (d r)) ρ
+    closed-node (λ A t. Placed r t) r (placed-closed r) (λ a σ. meaningTo s n a σ) ρ (s .pattern) (s .node r)
+    (each-lower r _ (λ a l. placed-up a r (meaningTo s n a ρ) (omega arith) (placed-to s d n a ρ)) (plain (s .node r)) (d r .plain-ones))
+    (each-lower r _ (λ a l β c. placed-up a r (meaningTo s n a (under ρ β)) (omega arith) (placed-to s d n a (under ρ β))) (covered (s .node r)) (d r .covered-ones))
 
 -- THEOREM: the place of a refusal is the record evaluated or one below it.
 pub placed-meaning : (s : Sheet) → Downward s → (r : ℕ) (ρ : State) → Placed r (meaning s r ρ)
