@@ -16,3 +16,4 @@ pub mod Sure
 pub mod LetBe
 pub mod Demand
 pub mod WellFormed
+pub mod Reads
