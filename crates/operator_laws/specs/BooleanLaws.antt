@@ -1,7 +1,8 @@
 -- Theorems on the operators on booleans, and on equality.
 use mathlib.Core.Path.{_≡_, refl, ap, _∙_}
 use mathlib.Core.Bool.{Bool, true, false, not, _&&_, _||_, Bool·beq}
-use Rattle.values.specs.Value.{Value, boolean, orderℕ, within}
+use Rattle.values.specs.Value.{Value, boolean, within}
+use Rattle.integers.specs.Order.{orderℕ}
 use Rattle.values.specs.Items.{same}
 use Rattle.values.specs.Laws.{same-true, true-same}
 use Rattle.operators.specs.Answer.{Answer, refused, wrongKind}

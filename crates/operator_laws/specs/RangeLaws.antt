@@ -10,8 +10,9 @@ use lib.Signed.{ltZ, leZ}
 use Rattle.integers.specs.Whole.{least, greatest, InRange}
 use Rattle.integers.specs.Range.{never}
 use Rattle.integers.specs.Parts.{up, down, parts-add, parts-minus, eq-parts}
-use Rattle.values.specs.declared.Order.the-variants.{Lower}
-use Rattle.values.specs.Value.{Value, integer, count, size, sizes, orderℕ, orderℤ, within, order, Before, Ascending, Sound, SoundItems}
+use Rattle.integers.specs.declared.Order.the-variants.{Lower}
+use Rattle.values.specs.Value.{Value, integer, count, size, sizes, within, order, Before, Ascending, Sound, SoundItems}
+use Rattle.integers.specs.Order.{orderℕ, orderℤ}
 use Rattle.values.specs.Items.{isMember}
 use Rattle.collections.specs.Members.{member-here}
 use Rattle.operators.specs.Gather.{upFrom}

@@ -4,7 +4,8 @@ use mathlib.Core.Bool.{true, false}
 use Prim.Native.Nat.{ℕ, zero, suc}
 use lib.IntN.{pos, negℤ}
 use Rattle.integers.specs.Whole.{answer, least}
-use Rattle.values.specs.Value.{Value, boolean, integer, collection, set, sequence, map, tuple, Items, none, more, count, everyOther, size, orderℕ, orderℤ, within}
+use Rattle.values.specs.Value.{Value, boolean, integer, collection, set, sequence, map, tuple, Items, none, more, count, everyOther, size, within}
+use Rattle.integers.specs.Order.{orderℕ, orderℤ}
 use Rattle.values.specs.Items.{join, isMember, nth, insert, lookup, enter}
 use Rattle.operators.specs.Answer.{is, refused}
 use Rattle.operators.specs.Booleans.{Connective, settles, left, truth}
