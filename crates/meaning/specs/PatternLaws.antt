@@ -53,10 +53,10 @@ module _ (test : Record → Bool) (m : Pattern → Bool) (agree : EachAgrees tes
   -- A pattern record, by its parts.
   pattern-at : (r : ℕ) → r < length rs → patternAt rs r ≡ patternOf (recordAt rs r) (map (patternAt rs) (operandsOf (recordAt rs r)))
   unfolding patternAt
-  pattern-at r h = fold-at patternOf any rs (lower rs fine) r h
+  pattern-at r h = fold-at (λ q ps. patternOf (recordAt rs q) ps) any rs (lower rs (fine .clear6)) r h
 
   holds-at : (r : ℕ) → r < length rs → holds test rs r ≡ test (recordAt rs r) || some (map (holds test rs) (operandsOf (recordAt rs r)))
-  holds-at r h = fold-at (λ q bs. test q || some bs) false rs (lower rs fine) r h
+  holds-at r h = fold-at (λ q bs. test (recordAt rs q) || some bs) false rs (lower rs (fine .clear6)) r h
 
   kinds : (r : ℕ) → isPattern (kindAt rs r) ≡ true → 32 ≤ kindAt rs r
   kinds r p = leb-true 32 (kindAt rs r) (and-left _ _ p)
@@ -77,7 +77,7 @@ module _ (test : Record → Bool) (m : Pattern → Bool) (agree : EachAgrees tes
       cc
 
   part-is-pattern : (r i : ℕ) → r < length rs → i < length (operandsOf (recordAt rs r)) → isPattern (kindAt rs r) ≡ true → isPattern (kindAt rs (operand (recordAt rs r) i)) ≡ true
-  part-is-pattern r i h k p = rw (pattern-role (recordAt rs r) i p k) at (operand-sort rs fine r i h k)
+  part-is-pattern r i h k p = rw (pattern-role (recordAt rs r) i p k) at (operand-sort rs (fine .clear6) r i h k)
 
   same-to : (n r : ℕ) → r < n → r < length rs → isPattern (kindAt rs r) ≡ true → holds test rs r ≡ m (patternAt rs r)
   same-to zero r l h p = absurd (omega arith)
@@ -85,7 +85,7 @@ module _ (test : Record → Bool) (m : Pattern → Bool) (agree : EachAgrees tes
       holds-at r h
       ∙ ap (λ x. test (recordAt rs r) || some x)
       (parts-same (operandsOf (recordAt rs r))
-      (λ i k. same-to n (operand (recordAt rs r) i) (omega (arith, operand-lower rs fine r i h k)) (omega (arith, operand-lower rs fine r i h k)) (part-is-pattern r i h k p)))
+      (λ i k. same-to n (operand (recordAt rs r) i) (omega (arith, operand-lower rs (fine .clear6) r i h k)) (omega (arith, operand-lower rs (fine .clear6) r i h k)) (part-is-pattern r i h k p)))
       ∙ sym (by-kind r h p (map (patternAt rs) (operandsOf (recordAt rs r))) (length-map (operandsOf (recordAt rs r)) (patternAt rs)))
       ∙ ap m (sym (pattern-at r h))
 

@@ -231,7 +231,7 @@ proper table n ok r =
     let fine = accepted-fine table n ok .0 in
     let rs = records table in
     split r (length rs)
-    (λ h. inside rs fine (λ a. a < r) (λ p a. a < r) r h (λ i k e. operand-lower rs fine r i h k) (λ i k e. operand-lower rs fine r i h k))
+    (λ h. inside rs fine (λ a. a < r) (λ p a. a < r) r h (λ i k e. operand-lower rs (fine .clear6) r i h k) (λ i k e. operand-lower rs (fine .clear6) r i h k))
     (λ h. outside rs fine (λ a. a < r) (λ p a. a < r) r h)
 
 pub downward : (table : List ℕ) (n : ℕ) → check table ≡ Accepted n → Downward (sheet table)

@@ -75,7 +75,7 @@ abbrev pub patternOf : Record → List Pattern → Pattern
 patternOf r ps = getD patterns (r .kind - 32) (λ q qs. any) r ps
 
 unfoldable pub patternAt : List Record → ℕ → Pattern
-patternAt rs r = fold patternOf any rs r
+patternAt rs r = fold (λ q ps. patternOf (recordAt rs q) ps) any rs r
 
 -- ---- the sheet
 

@@ -142,7 +142,7 @@ module _ (table : List ℕ) (n : ℕ) (ok : check table ≡ Accepted n) where
           sized = c .sized;
           has = λ x l b.
               c .has x l
-              (sym (ap (λ y. (isCovered y && holdsName rs (patternOf rs r) x) || isBound rs r x) e) ∙ sym (bound-operand rs fine r i x h k) ∙ b);
+              (sym (ap (λ y. (isCovered y && holdsName rs (patternOf rs r) x) || isBound rs r x) e) ∙ sym (bound-operand rs (fine .clear6) r i x h k) ∙ b);
         }
 
     first-pattern : isCovered (roleAt (recordAt rs r) i) ≡ true → isPattern (kindAt rs (patternOf rs r)) ≡ true
@@ -152,9 +152,9 @@ module _ (table : List ℕ) (n : ℕ) (ok : check table ≡ Accepted n) where
         go Plain d f = never f
         go Condition d f = never f
         go Body d f = never f
-        go Part d f = rw d at (operand-sort rs fine r 0 h (omega arith))
+        go Part d f = rw d at (operand-sort rs (fine .clear6) r 0 h (omega arith))
         go Name d f =
-            let s : eqb (kindAt rs (patternOf rs r)) 32 ≡ true = rw d at (operand-sort rs fine r 0 h (omega arith)) in
+            let s : eqb (kindAt rs (patternOf rs r)) 32 ≡ true = rw d at (operand-sort rs (fine .clear6) r 0 h (omega arith)) in
             ap isPattern (eqb-true (kindAt rs (patternOf rs r)) 32 s)
 
     -- One that is covered has the pattern's names too.
@@ -164,13 +164,13 @@ module _ (table : List ℕ) (n : ℕ) (ok : check table ≡ Accepted n) where
           sized = under-length ρ β ∙ c .sized;
           has = λ x l b.
               let p = patternAt rs (patternOf rs r) in
-              let low = operand-lower rs fine r 0 h (omega arith) in
+              let low = operand-lower rs (fine .clear6) r 0 h (omega arith) in
               let s = c .sized in
               let z = match-sized p v β m in
               let cell : cellOf (under ρ β) x ≡ over (cellOf ρ x) (cellOf β x) = under-cell ρ β x (omega arith) (omega arith) in
               let names : holdsName rs (patternOf rs r) x ≡ holdsAt p x = names-are table n ok (patternOf rs r) x (omega arith) (first-pattern e) in
               let around : holdsAt p x || isBound rs r x ≡ true =
-              ap (λ y. y || isBound rs r x) (sym names) ∙ ap (λ y. (y && holdsName rs (patternOf rs r) x) || isBound rs r x) (sym e) ∙ sym (bound-operand rs fine r i x h k) ∙ b in
+              ap (λ y. y || isBound rs r x) (sym names) ∙ ap (λ y. (y && holdsName rs (patternOf rs r) x) || isBound rs r x) (sym e) ∙ sym (bound-operand rs (fine .clear6) r i x h k) ∙ b in
               go x l (holdsAt p x) (told p v β m x l) around cell;
         }
       where
@@ -181,15 +181,15 @@ module _ (table : List ℕ) (n : ℕ) (ok : check table ≡ Accepted n) where
 
     -- Both are expressions.
     plain-expression : roleAt (recordAt rs r) i ≡ Plain → isExpression (kindAt rs (operand (recordAt rs r) i)) ≡ true
-    plain-expression e = rw e at (operand-sort rs fine r i h k)
+    plain-expression e = rw e at (operand-sort rs (fine .clear6) r i h k)
 
     covered-expression : isCovered (roleAt (recordAt rs r) i) ≡ true → isExpression (kindAt rs (operand (recordAt rs r) i)) ≡ true
     covered-expression e = go (roleAt (recordAt rs r) i) refl e
       where
         go : (x : Role) → roleAt (recordAt rs r) i ≡ x → isCovered x ≡ true → isExpression (kindAt rs (operand (recordAt rs r) i)) ≡ true
         go Plain d f = never f
-        go Condition d f = rw d at (operand-sort rs fine r i h k)
-        go Body d f = rw d at (operand-sort rs fine r i h k)
+        go Condition d f = rw d at (operand-sort rs (fine .clear6) r i h k)
+        go Body d f = rw d at (operand-sort rs (fine .clear6) r i h k)
         go Part d f = never f
         go Name d f = never f
 
@@ -229,9 +229,9 @@ module _ (table : List ℕ) (n : ℕ) (ok : check table ≡ Accepted n) where
       let all =
       inside rs fine (λ a. Refusing Value (meaningTo (sheet table) m a ρ))
       (λ p a. (β : Binding) → Comes (patternAt rs p) β → Refusing Value (meaningTo (sheet table) m a (under ρ β))) r h
-      (λ i k d. reads-to m (operand (recordAt rs r) i) ρ (omega (arith, operand-lower rs fine r i h k)) (omega (arith, operand-lower rs fine r i h k)) (plain-expression r i h k d) (covers-plain r i h k ρ c d))
+      (λ i k d. reads-to m (operand (recordAt rs r) i) ρ (omega (arith, operand-lower rs (fine .clear6) r i h k)) (omega (arith, operand-lower rs (fine .clear6) r i h k)) (plain-expression r i h k d) (covers-plain r i h k ρ c d))
       (λ i k d β y.
-      reads-to m (operand (recordAt rs r) i) (under ρ β) (omega (arith, operand-lower rs fine r i h k)) (omega (arith, operand-lower rs fine r i h k)) (covered-expression r i h k d)
+      reads-to m (operand (recordAt rs r) i) (under ρ β) (omega (arith, operand-lower rs (fine .clear6) r i h k)) (omega (arith, operand-lower rs (fine .clear6) r i h k)) (covered-expression r i h k d)
       (covers-under r i h k ρ c d β y)) in
       closed-node Refusing r (closed r (u, high)) (λ a σ. meaningTo (sheet table) m a σ) ρ (sheet table .pattern) (sheet table .node r) (all .plain-ones) (all .covered-ones))
 
@@ -240,9 +240,9 @@ module _ (table : List ℕ) (n : ℕ) (ok : check table ≡ Accepted n) where
   unfolding meaning
   refuses-at m p g =
       reads-to (suc (last (sheet table))) (last (sheet table)) unbound (omega arith) (omega (arith, fine .some-record))
-      (expression (recordAt rs (last (sheet table))) (fine .fit (last (sheet table)) (omega (arith, fine .some-record))) (last-sort rs fine (last (sheet table)) (omega (arith, fine .some-record))))
+      (expression (recordAt rs (last (sheet table))) (fine .fit (last (sheet table)) (omega (arith, fine .some-record))) (last-sort rs (fine .clear6) (last (sheet table)) (omega (arith, fine .some-record))))
       (record {
         sized = refl;
-        has = λ x l b. never (sym (bound-last rs fine (last (sheet table)) x (omega (arith, fine .some-record))) ∙ b);
+        has = λ x l b. never (sym (bound-last rs (fine .clear6) (last (sheet table)) x (omega (arith, fine .some-record))) ∙ b);
       })
       m p g

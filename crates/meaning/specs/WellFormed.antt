@@ -7,8 +7,9 @@ use mathlib.Core.Logic.{inl, inr}
 use mathlib.Core.List.{List, [], _∷_}
 use Prim.Native.Nat.{ℕ, zero, suc, _+_, _%_, _≤_, _<_}
 use native.Mathlib.Omega.{arith}
+use lib.Dec.{ltb}
 use lib.ListN.{length, getD, getD-replicate}
-use Rattle.choices.specs.Tree.{Tree, bind, value, Gives, gave, short, run, limit}
+use Rattle.choices.specs.Tree.{Tree, bind, value, Gives, Run, gave, stopped, short, beyond, run, Final, result, final, limit}
 use Rattle.choices.specs.Laws.Outcomes.{follow-given, Given}
 use Rattle.values.specs.Value.{Kind, set, sequence, map, tuple, Value, boolean, integer, collection, Items, none, more, count, size, sizes, limit as largest, Sound, SoundItems, PairedFrom, WellFormed}
 use Rattle.values.specs.Items.{pick}
@@ -28,13 +29,14 @@ use Rattle.patterns.specs.Binder.{Formed, bound, refused as unformed, formed, b
 use Rattle.patterns.specs.Matched.{match-sized, bindings-exactly}
 use Rattle.patterns.specs.Forming.{formed-bound}
 use Rattle.patterns.specs.Named.{FineCell, fine}
-use Rattle.tables.specs.declared.Checked.the-variants.{Accepted}
+use Rattle.tables.specs.declared.Checked.{Checked}
+use Rattle.tables.specs.declared.Checked.the-variants.{Accepted, Refused}
 use Rattle.tables.specs.Check.{check}
 use Rattle.meaning.specs.Node.{Node, truth, whole, named, unaryOf, binaryOf, connective, if, enumeration, range, let-in, let-be, quantified, iota, set-comprehension, sequence-comprehension, map-comprehension, application, no-expression}
 use Rattle.meaning.specs.State.{State, unbound, over, under, held, valueIn}
 use Rattle.meaning.specs.Meaning.{Evaluates, at, builtAt, orElse, allOf, bothOf, rightOf, isTrue, enumerated, formedAt, membersAt, bindingsOf, holds, satisfying, chosen, matched, satisfied, quantify, nameOf, unique, collected, addOne, addPair, integersAt, integerBindings, comprehension, means, Sheet, meaningTo, meaning}
 use Rattle.meaning.specs.Read.{sheet}
-use Rattle.meaning.specs.Service.{last, tree}
+use Rattle.meaning.specs.Service.{scratchBytes, last, tree, unless, accepted, evaluates}
 use Rattle.meaning.specs.Agreement.{at-in}
 use Rattle.meaning.specs.Only.{Only, only-give, only-stop, only-bind, Any, only-any, only-pick, only-else}
 use Rattle.meaning.specs.Proper.{Numbered, Literal, proper}
@@ -304,3 +306,26 @@ fine-unbound = each-cell unbound (λ y i. subst FineCell (sym (getD-replicate na
 pub run-well-formed : (table : List ℕ) (n : ℕ) → check table ≡ Accepted n → (l : List ℕ) (v : Value) (k : ℕ) (rest : List ℕ) → run (tree table) l ≡ gave v k rest → WellFormed v
 run-well-formed table n ok l v k rest e =
     well-formed table n ok (last (sheet table)) unbound fine-unbound v (subst (Given (tree table)) e (follow-given (tree table) limit l))
+
+-- What evaluating answers as a value.
+final-gave : (p : ℕ) (r : Run Value) (v : Value) → final p r ≡ result v → (k : ℕ) × (rest : List ℕ) × (r ≡ gave v k rest)
+final-gave p (gave w k []) v e = let d : w ≡ v = cc in (k, [], ap (λ x. gave x k []) d)
+final-gave p (gave w k (c ∷ l)) v e = let z : _≡_ {A = ℕ} 0 1 = cc in absurd (omega arith)
+final-gave p (stopped n q []) v e = let z : _≡_ {A = ℕ} 0 1 = cc in absurd (omega arith)
+final-gave p (stopped n q (c ∷ l)) v e = let z : _≡_ {A = ℕ} 0 1 = cc in absurd (omega arith)
+final-gave p (short q n) v e = let z : _≡_ {A = ℕ} 0 1 = cc in absurd (omega arith)
+final-gave p (beyond q n l) v e = let z : _≡_ {A = ℕ} 0 1 = cc in absurd (omega arith)
+
+unless-result : {A : Type 0} (b : Bool) (n : ℕ) (f : Final A) (v : A) → unless b n f ≡ result v → f ≡ result v
+unless-result true n f v e = let z : _≡_ {A = ℕ} 0 1 = cc in absurd (omega arith)
+unless-result false n f v e = e
+
+-- THEOREM: the value that evaluating answers is well-formed, whatever it is lent.
+pub evaluates-well-formed : (scratch buffer : ℕ) (table l : List ℕ) (v : Value) → evaluates scratch buffer table l ≡ result v → WellFormed v
+evaluates-well-formed scratch buffer table l v e = go (check table) refl (unless-result (ltb buffer largest) 2 _ v (unless-result (ltb scratch scratchBytes) 1 _ v e))
+  where
+    go : (c : Checked) → check table ≡ c → accepted c (λ n. unless (ltb limit (length l)) 10 (final (last (sheet table)) (run (tree table) l))) ≡ result v → WellFormed v
+    go (Accepted n) ok f =
+        let (k, rest, g) = final-gave (last (sheet table)) (run (tree table) l) v (unless-result (ltb limit (length l)) 10 _ v f) in
+        run-well-formed table n ok l v k rest g
+    go (Refused n p) ok f = let z : _≡_ {A = ℕ} 0 1 = cc in absurd (omega arith)
