@@ -1,20 +1,18 @@
 -- What `choose` returns by each of its ways meets `Chosen`.
 use mathlib.Core.Path.{_≡_, refl, sym, ap, _∙_, subst}
-use mathlib.Core.Bool.{Bool, true, false}
-use mathlib.Core.List.{List, [], _∷_, _++_}
-use Prim.Native.Nat.{ℕ, zero, suc, _+_, _≤_, _<_}
+use mathlib.Core.Bool.{true, false}
+use mathlib.Core.List.{[], _∷_, _++_}
+use Prim.Native.Nat.{ℕ, _+_, _≤_, _<_}
 use native.Mathlib.Numerals.{add-one}
 use native.Mathlib.Omega.{arith}
 use lib.ListN.{length, take, drop, getD, set, length-set}
 use lib.Seq.{take-suc, take-suc-set, length-take-le}
 use borrow.Author.Tests.{lt-ltb, le-ltb, le-leb, lt-leb}
 use Rattle.choices.specs.declared.Choices.{Choices}
-use Rattle.choices.specs.declared.Picked.{Picked}
-use Rattle.choices.specs.declared.Answer.{Answer}
 use Rattle.choices.specs.declared.Answer.the-variants.{Taken, Many, Short, Beyond}
 use Rattle.choices.specs.Tree.{limit}
 use Rattle.choices.specs.Laws.States.{left-cons, left-nil}
-use Rattle.choices.specs.State.{View, view, Sound, answerLeft, answerOf, rest, afterwards, Chosen, taking}
+use Rattle.choices.specs.State.{view, Sound, answerLeft, answerOf, rest, Chosen, taking}
 
 module _ (c : Choices) (n : ℕ) (s : Sound c) where
   past-length : c .used ≤ limit → length (take (c .used) (c .entries)) ≡ c .used

@@ -1,15 +1,14 @@
 -- A state with no entries, and one whose entries are copied from a list.
 use mathlib.Core.Path.{_≡_, refl, sym, ap, _∙_}
-use mathlib.Core.Bool.{Bool, true, false}
+use mathlib.Core.Bool.{Bool, false}
 use mathlib.Core.List.{List, [], _∷_, _++_}
 use Prim.Native.Nat.{ℕ, zero, suc, _+_, _≤_, _<_}
 use native.Mathlib.Numerals.{add-one}
 use native.Mathlib.Omega.{arith}
 use lib.ListN.{length, take, getD, set, length-set, replicate}
 use lib.Seq.{take-suc, take-suc-set, take-all, getD-set-other}
-use Rattle.choices.specs.declared.Choices.{Choices}
 use Rattle.choices.specs.Tree.{limit}
-use Rattle.choices.specs.State.{Sound, fresh, Made}
+use Rattle.choices.specs.State.{fresh, Made}
 
 zero-at : (n k : ℕ) → getD {A = ℕ} (replicate n 0) k 0 ≡ 0
 zero-at zero k = refl

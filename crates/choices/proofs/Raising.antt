@@ -1,18 +1,17 @@
 -- What holds while `advance` looks for the last entry that can go up.
 use mathlib.Core.Path.{_≡_, refl, sym, ap, ap₂, _∙_}
-use mathlib.Core.Bool.{Bool, true, false}
-use mathlib.Core.Option.{Option, none, some}
+use mathlib.Core.Bool.{true, false}
+use mathlib.Core.Option.{none, some}
 use mathlib.Core.List.{List, [], _∷_, _++_}
-use Prim.Native.Nat.{ℕ, zero, suc, _+_, _≤_, _<_}
+use Prim.Native.Nat.{ℕ, suc, _+_, _≤_, _<_}
 use native.Mathlib.Omega.{arith}
 use native.Mathlib.Decide.{ℕ-discrete}
 use lib.ListN.{length, take, drop, getD, set, length-take, length-set, take-append-drop}
 use lib.Seq.{take-suc-set, getD-take, take-set-le, take-take, getD-set-same, getD-set-other}
 use borrow.Author.Tests.{lt-ltb, le-ltb}
 use Rattle.choices.specs.declared.Choices.{Choices}
-use Rattle.choices.specs.declared.Advanced.{Advanced}
 use Rattle.choices.specs.Paths.{raise}
-use Rattle.choices.specs.State.{View, view, Sound, fresh, Made, Moved}
+use Rattle.choices.specs.State.{View, Sound, fresh, Made, Moved}
 use Rattle.choices.specs.Laws.States.{left-cons, left-nil}
 
 -- a list of two parts, of which the second can be raised

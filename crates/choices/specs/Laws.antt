@@ -10,5 +10,6 @@ pub mod Outcomes
 pub mod Runs
 pub mod States
 pub mod Stepping
+pub mod Came
 pub mod Seeds
 pub mod Rank

@@ -2,9 +2,9 @@
 use mathlib.Core.Path.{_≡_}
 use mathlib.Core.Logic.{_⊎_, _↔_}
 use mathlib.Core.List.{List, [], _∷_, _++_}
-use Prim.Native.Nat.{ℕ, _<_}
+use Prim.Native.Nat.{ℕ, _≤_, _<_}
 use lib.ListN.{length}
-use Rattle.choices.specs.Tree.{Tree, Run, gave, stopped, short, beyond, run, Outcome, value, refusal}
+use Rattle.choices.specs.Tree.{Tree, limit, Run, gave, stopped, short, beyond, run, Outcome, value, refusal}
 
 -- The run ended in a value or in 20 to 31, with no entry left.
 abbrev pub Ended : {A : Type 0} → Run A → Type 0
@@ -24,9 +24,9 @@ outcomeOf (stopped r p l) = refusal r p
 outcomeOf (short p n) = refusal 32 p
 outcomeOf (beyond p n l) = refusal 33 p
 
--- No run meets one choice too many.
+-- No run, under a list of up to 64 entries, meets a 65th choice: none ends in 31.
 abbrev pub NoMany : {A : Type 0} → Tree A → Type 0
-NoMany t = (l : List ℕ) (p : ℕ) (left : List ℕ) → run t l ≡ stopped 31 p left → ⊥
+NoMany t = (l : List ℕ) (p : ℕ) (left : List ℕ) → length l ≤ limit → run t l ≡ stopped 31 p left → ⊥
 
 -- Dictionary order: by the first entry that differs, a prefix first.
 abbrev pub before : List ℕ → List ℕ → Type 0

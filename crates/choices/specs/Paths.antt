@@ -1,5 +1,4 @@
 -- The paths to a tree's leaves, of any length; the first, and the one after a path; and the tree cut where a run must stop.
-use mathlib.Core.Bool.{Bool, true, false}
 use mathlib.Core.Option.{Option, none, some}
 use mathlib.Core.List.{List, [], _∷_, _++_}
 use Prim.Native.Nat.{ℕ, zero, suc, _<_}

@@ -1,13 +1,15 @@
 -- A tree run on the state of the choices: what a function that chooses has to come to.
-use mathlib.Core.Bool.{Bool, true, false}
+use mathlib.Core.Path.{_≡_}
+use mathlib.Core.Bool.{Bool, false}
 use mathlib.Core.List.{List, [], _∷_, _++_}
 use Prim.Native.Nat.{ℕ, zero, suc}
 use lib.Dec.{ltb}
+use Rattle.choices.specs.declared.Choices.{Choices}
 use Rattle.choices.specs.declared.Answer.{Answer}
 use Rattle.choices.specs.declared.Answer.the-variants.{Taken, Many, Short, Beyond}
 use Rattle.choices.specs.Tree.{Tree, give, stop, choose, limit, Run, gave, stopped, short, beyond, pick, Final, result, refuses, unlessLeft}
 use Rattle.choices.specs.Paths.{counts, cut}
-use Rattle.choices.specs.State.{View, answerOf, afterwards}
+use Rattle.choices.specs.State.{View, view, Sound, answerOf, afterwards}
 
 -- What a run on a state comes to: a value, or a refusal's number, place and count; and the state after it.
 pub data Ran (A : Type 0) : Type 0 where
@@ -26,10 +28,25 @@ runOn (give a) v = ran a v
 runOn (stop r p) v = refused r p 0 v
 runOn (choose p n ways) v = at (answerOf v n) p n v (λ c. runOn (ways c) (afterwards v n (Taken c)))
 
+-- The state after it.
+abbrev pub stateOf : {A : Type 0} → Ran A → View
+stateOf (ran a v) = v
+stateOf (refused r p n v) = v
+
 -- A run goes on where it came to a value.
 abbrev pub further : {A B : Type 0} → Ran A → (A → View → Ran B) → Ran B
 further (ran a v) f = f a v
 further (refused r p n v) f = refused r p n v
+
+-- The end f of a run, with the state v after it.
+abbrev pub endedBy : {A : Type 0} → Final A → View → Ran A
+endedBy (result a) v = ran a v
+endedBy (refuses r p n) v = refused r p n v
+
+-- The tree's run from the state c comes to f and leaves the state d.
+pub record Came {A : Type 0} (t : Tree A) (c : Choices) (f : Final A) (d : Choices) : Type 0 where
+  pub right : runOn t (view c) ≡ endedBy f (view d)
+  pub sound : Sound d
 
 -- The same of a run under a list, with the state v after it.
 abbrev pub ranAs : {A : Type 0} → Run A → View → Ran A

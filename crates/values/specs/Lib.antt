@@ -1,3 +1,10 @@
 pub mod Value
 pub mod Items
 pub mod Place
+pub mod Laws
+pub mod Encoding
+pub mod Records
+pub mod Frame
+pub mod Written
+pub mod Contract
+pub mod Promises

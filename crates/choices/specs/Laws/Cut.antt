@@ -1,14 +1,14 @@
 -- A run never sees past one choice too many: the tree and the tree cut there are followed alike. Complete lists are the cut tree's paths.
 use mathlib.Core.Path.{_≡_, refl, sym, ap, _∙_, subst}
 use mathlib.Core.Bool.{Bool, true, false}
-use mathlib.Core.Logic.{_⊎_, inl, inr, ⊎-elim, _↔_}
-use mathlib.Core.List.{List, [], _∷_, _++_}
-use Prim.Native.Nat.{ℕ, zero, suc, _+_, _≤_, _<_}
+use mathlib.Core.Logic.{_↔_}
+use mathlib.Core.List.{List, [], _∷_}
+use Prim.Native.Nat.{ℕ, zero, suc, _≤_, _<_}
 use native.Mathlib.Omega.{arith}
 use lib.ListN.{length}
 use lib.Dec.{ltb}
 use borrow.Author.Tests.{lt-ltb, ltb-true}
-use Rattle.choices.specs.Tree.{Tree, give, stop, choose, limit, Full, Run, gave, stopped, short, beyond, pick, follow, run, Outcome, value, refusal, Gives}
+use Rattle.choices.specs.Tree.{Tree, give, stop, choose, limit, Full, stopped, beyond, pick, follow, run, Outcome, Gives}
 use Rattle.choices.specs.Lists.{Ended, Complete, outcomeOf, NoMany, In}
 use Rattle.choices.specs.Paths.{Leaf, outcomeAt, Within, cut, allLists}
 use Rattle.choices.specs.Laws.Paths.{leaf-in, in-leaf}
@@ -52,11 +52,11 @@ gives-cut {A} k t o w = (out k t w, back k t w)
     back (suc k) (choose p n ways) w h = (h .0, h .1, back k (ways (h .0)) (w (h .0) (h .1)) (h .2))
 
 -- A tree none of whose runs ends in 31 has at most so many choices on each path.
-no-many : {A : Type 0} (k : ℕ) (t : Tree A) → ((l : List ℕ) (p : ℕ) (left : List ℕ) → follow t k l ≡ stopped 31 p left → ⊥) → Within k t
+no-many : {A : Type 0} (k : ℕ) (t : Tree A) → ((l : List ℕ) (p : ℕ) (left : List ℕ) → length l ≤ k → follow t k l ≡ stopped 31 p left → ⊥) → Within k t
 no-many k (give a) h = tt
 no-many k (stop r p) h = tt
-no-many zero (choose p n ways) h = absurd (h [] p [] refl)
-no-many (suc k) (choose p n ways) h = λ i lt. no-many k (ways i) (λ l q left e. h (i ∷ l) q left (rw (lt-ltb i n lt) e))
+no-many zero (choose p n ways) h = absurd (h [] p [] (omega arith) refl)
+no-many (suc k) (choose p n ways) h = λ i lt. no-many k (ways i) (λ l q left b e. h (i ∷ l) q left (omega arith) (rw (lt-ltb i n lt) e))
 
 pub no-many-within : {A : Type 0} (t : Tree A) → NoMany t → Within limit t
 no-many-within t h = no-many limit t h

@@ -1,15 +1,14 @@
 -- The outcomes of the complete lists are the outcomes at the leaves.
-use mathlib.Core.Path.{_≡_, refl, sym, ap, _∙_, subst}
+use mathlib.Core.Path.{_≡_, refl, sym, _∙_}
 use mathlib.Core.Bool.{Bool, true, false}
 use mathlib.Core.Logic.{_⊎_, inl, inr, ⊎-elim, _↔_}
-use mathlib.Core.List.{List, [], _∷_, _++_}
-use Prim.Native.Nat.{ℕ, zero, suc, _≤_, _<_}
-use native.Mathlib.Omega.{arith}
+use mathlib.Core.List.{List, [], _∷_}
+use Prim.Native.Nat.{ℕ, zero, suc}
 use lib.Dec.{ltb}
 use borrow.Author.Tests.{ltb-true}
 use Rattle.choices.specs.Tree.{Tree, give, stop, choose, limit, Run, gave, stopped, short, beyond, pick, follow, run, Outcome, value, refusal, Gives}
 use Rattle.choices.specs.Lists.{Complete, outcomeOf, NoMany}
-use Rattle.choices.specs.Paths.{Leaf, outcomeAt, cut}
+use Rattle.choices.specs.Paths.{cut}
 use Rattle.choices.specs.Laws.Paths.{gives-leaf}
 use Rattle.choices.specs.Laws.Cut.{complete-leaf, leaf-complete, complete-outcome, gives-cut, no-many-within}
 

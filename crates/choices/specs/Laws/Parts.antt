@@ -2,11 +2,11 @@
 use mathlib.Core.Path.{_≡_, refl, sym, ap, _∙_, subst}
 use mathlib.Core.Bool.{Bool, true, false}
 use mathlib.Core.List.{List, [], _∷_, _++_}
-use Prim.Native.Nat.{ℕ, zero, suc, _≤_, _<_}
+use Prim.Native.Nat.{ℕ, zero, suc, _<_}
 use native.Mathlib.Omega.{arith}
 use lib.Dec.{ltb}
-use borrow.Author.Tests.{lt-ltb, ltb-true}
-use Rattle.choices.specs.Tree.{Tree, give, stop, choose, limit, Full, Run, gave, stopped, short, beyond, pick, follow, run}
+use borrow.Author.Tests.{ltb-true}
+use Rattle.choices.specs.Tree.{Tree, give, stop, choose, limit, Full, short, beyond, pick, follow, run}
 use Rattle.choices.specs.Lists.{Complete, before, Begins}
 use Rattle.choices.specs.Paths.{Leaf, first, cut}
 use Rattle.choices.specs.Laws.Order.{between-begins, before-at}

@@ -1,7 +1,7 @@
 -- The paths of a tree are the lists that lead to its leaves, in dictionary order; entries and zeros lead to a leaf.
-use mathlib.Core.Path.{_≡_, refl, sym, ap, _∙_}
+use mathlib.Core.Path.{_≡_, refl, ap}
 use mathlib.Core.Bool.{Bool, true, false}
-use mathlib.Core.Logic.{_⊎_, inl, inr, ⊎-elim, _↔_}
+use mathlib.Core.Logic.{inl, inr, ⊎-elim, _↔_}
 use mathlib.Core.Option.{Option, none, some}
 use mathlib.Core.List.{List, [], _∷_, _++_}
 use Prim.Native.Nat.{ℕ, zero, suc, _+_, _≤_, _<_}
@@ -10,8 +10,8 @@ use native.Mathlib.Decide.{ℕ-discrete}
 use lib.ListN.{length}
 use lib.Dec.{ltb}
 use borrow.Author.Tests.{ltb-true}
-use Rattle.choices.specs.Tree.{Tree, give, stop, choose, Full, pick, Outcome, value, refusal, Gives}
-use Rattle.choices.specs.Lists.{before, In, Ascending}
+use Rattle.choices.specs.Tree.{Tree, give, stop, choose, Full, pick, Outcome, Gives}
+use Rattle.choices.specs.Lists.{In, Ascending}
 use Rattle.choices.specs.Paths.{Leaf, Prefix, outcomeAt, counts, under, fan, paths, extend, first, orElse, raise}
 use Rattle.choices.specs.Laws.Order.{in-left, in-right, in-append, asc-append}
 

@@ -1,24 +1,22 @@
 -- Running a tree on the state of the choices: one after the other, under a list that is given, and under one that grows.
-use mathlib.Core.Path.{_≡_, refl, sym, ap, ap₂, _∙_, subst}
+use mathlib.Core.Path.{_≡_, refl, sym, ap, _∙_}
 use mathlib.Core.Bool.{Bool, true, false}
-use mathlib.Core.Logic.{_⊎_, inl, inr, ⊎-elim, _↔_}
-use mathlib.Core.Option.{Option, none, some}
 use mathlib.Core.List.{List, [], _∷_, _++_, append-nil}
 use Prim.Native.Nat.{ℕ, zero, suc, _+_, _≤_, _<_}
 use native.Mathlib.Omega.{arith}
 use lib.ListN.{length, length-append}
 use lib.Seq.{append-snoc}
 use lib.Dec.{ltb, leb}
-use borrow.Author.Tests.{lt-ltb, le-ltb, lt-leb, le-leb, ltb-true}
+use borrow.Author.Tests.{lt-ltb, lt-leb, le-leb, ltb-true}
 use Rattle.choices.specs.declared.Choices.{Choices}
 use Rattle.choices.specs.declared.Picked.{Picked}
 use Rattle.choices.specs.declared.Answer.{Answer}
 use Rattle.choices.specs.declared.Answer.the-variants.{Taken, Many, Short, Beyond}
-use Rattle.choices.specs.Tree.{Tree, give, stop, choose, bind, limit, Full, Numbered, Run, gave, stopped, short, beyond, pick, follow, run, Outcome, value, refusal, Gives, Final, result, refuses, unlessLeft, final}
+use Rattle.choices.specs.Tree.{Tree, give, stop, choose, bind, limit, Full, Numbered, Run, gave, stopped, short, beyond, pick, follow, run, Outcome, value, refusal, Gives, refuses, unlessLeft, final}
 use Rattle.choices.specs.Lists.{Ended, Complete, outcomeOf}
 use Rattle.choices.specs.Paths.{Leaf, Prefix, outcomeAt, counts, extend, Within, cut}
 use Rattle.choices.specs.State.{View, view, fresh, answerLeft, answerOf, afterwards, Chosen}
-use Rattle.choices.specs.Runs.{Ran, ran, refused, at, runOn, further, ranAs, trail, atEnd, settle}
+use Rattle.choices.specs.Runs.{Ran, ran, refused, at, runOn, stateOf, further, ranAs, trail, atEnd, settle}
 use Rattle.choices.specs.Laws.Paths.{prefix-nil, extend-leaf, outcome-extend}
 use Rattle.choices.specs.Laws.Cut.{within-cut, full-cut, complete-leaf, leaf-complete, complete-outcome}
 use Rattle.choices.specs.Laws.Walk.{stopped-number}
@@ -101,6 +99,12 @@ run-gives (choose p n ways) v w a f e = go (answerOf v n) refl (λ i h d. run-gi
 
 -- ---- under a list that is given
 
+pub state-as : {A : Type 0} (r : Run A) (v : View) → stateOf (ranAs r v) ≡ v
+state-as (gave a k l) v = refl
+state-as (stopped r p l) v = refl
+state-as (short p n) v = refl
+state-as (beyond p n l) v = refl
+
 pick-ran : {A : Type 0} (b : Bool) (c p n : ℕ) (l : List ℕ) (v : View) (on : ℕ → Ran A) (r : Run A) (w : View) → on c ≡ ranAs r w → at (pick b (Taken c) Beyond) p n v on ≡ ranAs (pick b r (beyond p n l)) (pick b w v)
 pick-ran true c p n l v on r w h = h
 pick-ran false c p n l v on r w h = refl
@@ -141,7 +145,7 @@ trail-left (choose p n ways) (suc k) past met [] = refl
 trail-left (choose p n ways) (suc k) past met (c ∷ l) =
     left-pick (ltb c n) p n c l past met (trail (ways c) k (past ++ c ∷ []) (met ++ n ∷ []) l) (follow (ways c) k l) (trail-left (ways c) k (past ++ c ∷ []) (met ++ n ∷ []) l)
 
--- ---- what it finally answers, and whether the list is complete
+-- ---- what it finally answers
 
 settle-stopped : {A : Type 0} (r p last : ℕ) (v : View) (l : List ℕ) → r ≤ 31 → v .left ≡ l → settle {A = A} last (refused r p 0 v) ≡ unlessLeft l p (refuses r p 0)
 settle-stopped r p last v l h e = rw (lt-ltb r 32 (omega arith), e)
@@ -157,32 +161,6 @@ pub run-final : {A : Type 0} (t : Tree A) (l : List ℕ) (last : ℕ) → Number
 run-final t l last m =
     ap (settle last) (run-follow t l)
     ∙ settle-run last (run t l) (trail t limit [] [] l) (λ r p left e. stopped-number t limit l r p left m e .1) (trail-left t limit [] [] l)
-
--- The run on the state ended in a value or a refusal below 32, and used all entries.
-abbrev pub Spent : {A : Type 0} → Ran A → Type 0
-Spent (ran a v) = v .left ≡ []
-Spent (refused r p n v) = (r < 32) × (v .left ≡ [])
-
-spent-ended : {A : Type 0} (r : Run A) (v : View) → v .left ≡ leftOf r → Spent (ranAs r v) → Ended r
-spent-ended (gave a k l) v e h = sym e ∙ h
-spent-ended (stopped r p l) v e h = sym e ∙ h .1
-spent-ended (short p n) v e h = omega (arith, h .0)
-spent-ended (beyond p n l) v e h = omega (arith, h .0)
-
-ended-spent : {A : Type 0} (r : Run A) (v : View) → ((n p : ℕ) (l : List ℕ) → r ≡ stopped n p l → n ≤ 31) → v .left ≡ leftOf r → Ended r → Spent (ranAs r v)
-ended-spent (gave a k l) v m e h = e ∙ h
-ended-spent (stopped r p l) v m e h = (omega (arith, m r p l refl), e ∙ h)
-ended-spent (short p n) v m e h = absurd h
-ended-spent (beyond p n l) v m e h = absurd h
-
--- The code tells complete lists by that.
-pub spent-complete : {A : Type 0} (t : Tree A) (l : List ℕ) → Spent (runOn t (fresh l false)) → Complete t l
-spent-complete t l h = spent-ended (run t l) (trail t limit [] [] l) (trail-left t limit [] [] l) (subst Spent (run-follow t l) h)
-
-pub complete-spent : {A : Type 0} (t : Tree A) (l : List ℕ) → Numbered t → Complete t l → Spent (runOn t (fresh l false))
-complete-spent t l m h =
-    subst Spent (sym (run-follow t l))
-    (ended-spent (run t l) (trail t limit [] [] l) (λ r p left e. stopped-number t limit l r p left m e .1) (trail-left t limit [] [] l) h)
 
 -- ---- the state at the end of a complete list
 
@@ -210,6 +188,9 @@ trail-leaf (choose p n ways) (suc k) past met (c ∷ l) h =
 pub run-complete : {A : Type 0} (t : Tree A) (l : List ℕ) → Complete t l → runOn t (fresh l false) ≡ ranAs (run t l) (atEnd t l false)
 unfolding ended-view
 run-complete t l h = run-follow t l ∙ ap (ranAs (run t l)) (trail-leaf t limit [] [] l (complete-leaf t l h))
+
+pub complete-state : {A : Type 0} (t : Tree A) (l : List ℕ) → Complete t l → stateOf (runOn t (fresh l false)) ≡ atEnd t l false
+complete-state t l h = ap stateOf (run-complete t l h) ∙ state-as (run t l) (atEnd t l false)
 
 -- ---- under a list that grows
 

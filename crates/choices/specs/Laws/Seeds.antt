@@ -1,11 +1,11 @@
 -- A loop over all paths of a tree, whatever their length: the lists that its runs start from, each the raised path of the run before.
-use mathlib.Core.Path.{_≡_, refl, sym, ap, _∙_, subst}
-use mathlib.Core.Option.{Option, none, some}
+use mathlib.Core.Path.{_≡_, sym, ap, _∙_, subst}
+use mathlib.Core.Option.{none, some}
 use mathlib.Core.List.{List, []}
-use Prim.Native.Nat.{ℕ, zero, suc, _<_}
+use Prim.Native.Nat.{ℕ, suc, _<_}
 use lib.ListN.{length, getD}
 use Rattle.choices.specs.Tree.{Tree, Full, Outcome, Gives}
-use Rattle.choices.specs.Paths.{Leaf, Prefix, outcomeAt, counts, paths, extend, raise, onSome}
+use Rattle.choices.specs.Paths.{Prefix, outcomeAt, counts, paths, extend, raise, onSome}
 use Rattle.choices.specs.Laws.Order.{in-at}
 use Rattle.choices.specs.Laws.Paths.{leaf-in, prefix-nil, extend-leaf, outcome-extend, raise-prefix, gives-leaf}
 use Rattle.choices.specs.Laws.Steps.{first-path, next-some, next-none}

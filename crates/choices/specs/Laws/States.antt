@@ -1,10 +1,10 @@
 -- What a sound state holds: its list, with zeros after it; whether entries are left; and what it holds at the end of a list.
-use mathlib.Core.Path.{_≡_, refl, sym, ap, ap₂, _∙_}
-use mathlib.Core.Bool.{Bool, true, false}
+use mathlib.Core.Path.{_≡_, sym, ap, ap₂, _∙_}
+use mathlib.Core.Bool.{Bool}
 use mathlib.Core.List.{List, [], _∷_, _++_, append-nil}
-use Prim.Native.Nat.{ℕ, zero, suc, _+_, _-_, _≤_, _<_}
+use Prim.Native.Nat.{ℕ, suc, _+_, _-_, _≤_, _<_}
 use native.Mathlib.Omega.{arith}
-use lib.ListN.{length, take, drop, getD, length-take, length-drop, length-append, drop-of-length-le, take-append-drop, replicate, length-replicate, getD-replicate}
+use lib.ListN.{length, take, drop, getD, length-take, length-drop, drop-of-length-le, take-append-drop, replicate, length-replicate, getD-replicate}
 use lib.Seq.{drop-cons, getD-take, getD-drop, length-take-le, take-take, ext-getD}
 use Rattle.choices.specs.declared.Choices.{Choices}
 use Rattle.choices.specs.Tree.{Tree, limit, Final, refuses, unlessLeft}

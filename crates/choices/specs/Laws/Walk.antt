@@ -4,8 +4,8 @@ use mathlib.Core.Path.{_≡_, refl, sym, ap, _∙_, subst}
 use mathlib.Core.Bool.{Bool, true, false}
 use mathlib.Core.Logic.{_⊎_, inl, inr, ⊎-elim, _↔_}
 use mathlib.Core.Option.{Option, none, some}
-use mathlib.Core.List.{List, [], _∷_, _++_}
-use Prim.Native.Nat.{ℕ, zero, suc, _+_, _≤_, _<_}
+use mathlib.Core.List.{List, [], _∷_}
+use Prim.Native.Nat.{ℕ, zero, suc, _≤_, _<_}
 use native.Mathlib.Omega.{arith}
 use native.Mathlib.Decide.{ℕ-discrete, decLt}
 use lib.ListN.{length, getD, take}
@@ -13,11 +13,11 @@ use lib.Seq.{length-take-le}
 use lib.Dec.{ltb}
 use borrow.Author.Tests.{ltb-true}
 use Rattle.choices.specs.Tree.{Tree, give, stop, choose, limit, Full, Numbered, Run, gave, stopped, short, beyond, pick, follow, run, Outcome, value, refusal, Final, result, refuses, final}
-use Rattle.choices.specs.Lists.{Ended, Complete, outcomeOf, before, In, Ascending, CountBefore, First, Next}
+use Rattle.choices.specs.Lists.{Ended, Complete, outcomeOf, before, CountBefore, First, Next}
 use Rattle.choices.specs.Paths.{cut, allLists, firstList, nextList}
 use Rattle.choices.specs.Laws.Order.{before-irrefl, before-asym, before-total, at-in, in-at, in-take, asc-take, take-before, before-take, asc-at, asc-same}
 use Rattle.choices.specs.Laws.Paths.{paths-ascend}
-use Rattle.choices.specs.Laws.Steps.{first-path, next-path, next-ends, next-some, next-none}
+use Rattle.choices.specs.Laws.Steps.{first-path, next-some, next-none}
 use Rattle.choices.specs.Laws.Cut.{full-cut, complete-path}
 
 -- ---- there is one count, one first and one next
@@ -144,8 +144,7 @@ module _ {A : Type 0} (t : Tree A) where
 
 -- ---- lists that are complete, and others
 
--- Whether a run has ended can be told.
-pub ended? : {A : Type 0} (r : Run A) → Dec (Ended r)
+ended? : {A : Type 0} (r : Run A) → Dec (Ended r)
 ended? (gave a k []) = yes refl
 ended? (gave a k (c ∷ l)) = no (λ e. let z : _≡_ {A = ℕ} 0 1 = cc in omega arith)
 ended? (stopped r p []) = yes refl
@@ -153,32 +152,42 @@ ended? (stopped r p (c ∷ l)) = no (λ e. let z : _≡_ {A = ℕ} 0 1 = cc in o
 ended? (short p n) = no (λ e. e)
 ended? (beyond p n l) = no (λ e. e)
 
+-- Whether a list is complete can be told.
+pub complete? : {A : Type 0} (t : Tree A) (l : List ℕ) → Dec (Complete t l)
+complete? t l = ended? (run t l)
+
 -- The answer 32, 33 or 34.
 abbrev pub Incomplete : {A : Type 0} → Final A → Type 0
 Incomplete (result a) = ⊥
 Incomplete (refuses r p n) = (r ≡ 32) ⊎ ((r ≡ 33) ⊎ (r ≡ 34))
 
+not-ended : {A : Type 0} (last : ℕ) (r : Run A) → (Ended r → ⊥) → Incomplete (final last r)
+not-ended last (gave a k []) h = absurd (h refl)
+not-ended last (gave a k (c ∷ l)) h = inr (inr refl)
+not-ended last (stopped r p []) h = absurd (h refl)
+not-ended last (stopped r p (c ∷ l)) h = inr (inr refl)
+not-ended last (short p n) h = inl refl
+not-ended last (beyond p n l) h = inr (inl refl)
+
 -- A list that is not complete answers 32, 33 or 34.
-pub incomplete : {A : Type 0} (last : ℕ) (r : Run A) → (Ended r → ⊥) → Incomplete (final last r)
-incomplete last (gave a k []) h = absurd (h refl)
-incomplete last (gave a k (c ∷ l)) h = inr (inr refl)
-incomplete last (stopped r p []) h = absurd (h refl)
-incomplete last (stopped r p (c ∷ l)) h = inr (inr refl)
-incomplete last (short p n) h = inl refl
-incomplete last (beyond p n l) h = inr (inl refl)
+pub incomplete : {A : Type 0} (t : Tree A) (l : List ℕ) (last : ℕ) → (Complete t l → ⊥) → Incomplete (final last (run t l))
+incomplete t l last h = not-ended last (run t l) h
 
 abbrev pub finalOf : {A : Type 0} → Outcome A → Final A
 finalOf (value a) = result a
 finalOf (refusal r p) = refuses r p 0
 
+ended-final : {A : Type 0} (last : ℕ) (r : Run A) → Ended r → final last r ≡ finalOf (outcomeOf r)
+ended-final last (gave a k []) h = refl
+ended-final last (gave a k (c ∷ l)) h = let z : _≡_ {A = ℕ} 0 1 = cc in absurd (omega arith)
+ended-final last (stopped r p []) h = refl
+ended-final last (stopped r p (c ∷ l)) h = let z : _≡_ {A = ℕ} 0 1 = cc in absurd (omega arith)
+ended-final last (short p n) h = absurd h
+ended-final last (beyond p n l) h = absurd h
+
 -- A complete list answers its outcome.
-pub complete-final : {A : Type 0} (last : ℕ) (r : Run A) → Ended r → final last r ≡ finalOf (outcomeOf r)
-complete-final last (gave a k []) h = refl
-complete-final last (gave a k (c ∷ l)) h = let z : _≡_ {A = ℕ} 0 1 = cc in absurd (omega arith)
-complete-final last (stopped r p []) h = refl
-complete-final last (stopped r p (c ∷ l)) h = let z : _≡_ {A = ℕ} 0 1 = cc in absurd (omega arith)
-complete-final last (short p n) h = absurd h
-complete-final last (beyond p n l) h = absurd h
+pub complete-final : {A : Type 0} (t : Tree A) (l : List ℕ) (last : ℕ) → Complete t l → final last (run t l) ≡ finalOf (outcomeOf (run t l))
+complete-final t l last h = ended-final last (run t l) h
 
 -- A run that is stopped is stopped by one of 20 to 31.
 pub stopped-number : {A : Type 0} (t : Tree A) (k : ℕ) (l : List ℕ) (r p : ℕ) (left : List ℕ) → Numbered t → follow t k l ≡ stopped r p left → (20 ≤ r) × (r ≤ 31)
@@ -191,3 +200,28 @@ stopped-number {A} (choose q m ways) (suc k) (c ∷ l) r p left n e = go (ltb c 
     go : (b : Bool) → ltb c m ≡ b → (c < m → follow (ways c) k l ≡ stopped r p left → (20 ≤ r) × (r ≤ 31)) → pick b (follow (ways c) k l) (beyond q m (c ∷ l)) ≡ stopped r p left → (20 ≤ r) × (r ≤ 31)
     go true h rec d = rec (ltb-true c m h) d
     go false h rec d = let z : _≡_ {A = ℕ} 0 1 = cc in absurd (omega arith)
+
+-- A value, or a refusal below 32.
+abbrev pub Whole : {A : Type 0} → Final A → Type 0
+Whole (result a) = Unit {0}
+Whole (refuses r p n) = r < 32
+
+whole-ended : {A : Type 0} (last : ℕ) (r : Run A) → Whole (final last r) → Ended r
+whole-ended last (gave a k []) h = refl
+whole-ended last (gave a k (c ∷ l)) h = absurd (omega arith)
+whole-ended last (stopped r p []) h = refl
+whole-ended last (stopped r p (c ∷ l)) h = absurd (omega arith)
+whole-ended last (short p n) h = absurd (omega arith)
+whole-ended last (beyond p n l) h = absurd (omega arith)
+
+ended-whole : {A : Type 0} (last : ℕ) (r : Run A) → ((n p : ℕ) (l : List ℕ) → r ≡ stopped n p l → n ≤ 31) → Ended r → Whole (final last r)
+ended-whole last (gave a k []) m h = tt
+ended-whole last (gave a k (c ∷ l)) m h = let z : _≡_ {A = ℕ} 0 1 = cc in absurd (omega arith)
+ended-whole last (stopped r p []) m h = omega (arith, m r p [] refl)
+ended-whole last (stopped r p (c ∷ l)) m h = let z : _≡_ {A = ℕ} 0 1 = cc in absurd (omega arith)
+ended-whole last (short p n) m h = absurd h
+ended-whole last (beyond p n l) m h = absurd h
+
+-- A list is complete exactly when it finally answers a value or a refusal below 32.
+pub complete-whole : {A : Type 0} (t : Tree A) (l : List ℕ) (last : ℕ) → Numbered t → Complete t l ↔ Whole (final last (run t l))
+complete-whole t l last m = (ended-whole last (run t l) (λ r p left e. stopped-number t limit l r p left m e .1), whole-ended last (run t l))

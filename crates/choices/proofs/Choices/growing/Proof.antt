@@ -5,7 +5,7 @@ use Rattle.choices.proofs.Choices.growing.Tie as tie
 use Rattle.choices.proofs.Choices.growing.Reads as reads
 use Rattle.choices.proofs.Choices.growing.Lts as lts
 
--- src/lib.rt:43:5
+-- src/lib.rt:56:5
 returns : tie.Need-returns
 returns c = made-empty true
 

@@ -1,0 +1,4 @@
+mod Reading
+mod Writing
+mod Copying
+mod Ordering

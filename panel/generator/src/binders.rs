@@ -1,0 +1,314 @@
+//! Random binders: lets, let-bes, quantifiers, iotas and comprehensions.
+
+use crate::builder::{binary, kind};
+use crate::patterns::Pattern;
+use crate::shape::Shape;
+use crate::writer::{Names, Writer};
+
+/// A pattern and the operand that it is matched with.
+struct Binding {
+    pattern: Pattern,
+    operand: usize,
+    names: Names,
+}
+
+impl Writer {
+    /// A let, loose where a choice may stand here.
+    fn let_expression(&mut self, shape: &Shape, depth: usize) -> usize {
+        let binding = if self.random.once_in(3) {
+            self.plain_let(depth)
+        } else {
+            self.loose_let(depth)
+                .unwrap_or_else(|| self.plain_let(depth))
+        };
+        let body = self.within(&binding.names, |w| w.body(shape, depth - 1));
+        self.out
+            .node(kind::LET, &[binding.pattern.record, binding.operand, body])
+    }
+
+    /// The body of a let or let-be: now and then a choice again.
+    fn body(&mut self, shape: &Shape, depth: usize) -> usize {
+        if depth > 0 && self.random.once_in(3) {
+            return self.choosing(shape, depth);
+        }
+        self.expression(shape, depth)
+    }
+
+    /// A let-be or a let.
+    pub fn choosing(&mut self, shape: &Shape, depth: usize) -> usize {
+        if self.random.once_in(2) {
+            return self.let_expression(shape, depth);
+        }
+        match self.let_be(shape, depth) {
+            Some(record) => record,
+            None => self.let_expression(shape, depth),
+        }
+    }
+
+    fn plain_let(&mut self, depth: usize) -> Binding {
+        let shape = Shape::random(&mut self.random, 2);
+        let mut names = Names::new();
+        let pattern = self.pattern(&shape, false, 2, &mut names);
+        let operand = self.expression(&shape, depth - 1);
+        Binding {
+            pattern,
+            operand,
+            names,
+        }
+    }
+
+    /// A pattern with several ways to match, and a value that fits it.
+    /// Nothing is left of it where the choice is too wide for this place.
+    fn loose_let(&mut self, depth: usize) -> Option<Binding> {
+        let before = self.mark();
+        let mut names = Names::new();
+        let (pattern, operand) = self.matching(depth, &mut names);
+        if self.afford_choice(pattern.bindings) {
+            return Some(Binding {
+                pattern,
+                operand,
+                names,
+            });
+        }
+        self.return_to(before);
+        None
+    }
+
+    fn matching(&mut self, depth: usize, names: &mut Names) -> (Pattern, usize) {
+        let part = Shape::random(&mut self.random, 1);
+        match self.random.below(7) {
+            0 | 1 => {
+                let count = 1 + self.random.below(3);
+                let pattern = self.set_pattern(&part, count, 1, names);
+                (pattern, self.distinct_members(&part, count, depth - 1))
+            }
+            2 | 3 => {
+                let most = 1 + self.random.below(4);
+                let shape = Shape::set(part.clone(), most);
+                let halves = [shape.clone(), shape.clone()];
+                let pattern = self.pattern_list(kind::P_UNION, &halves, 1 << most, true, 1, names);
+                (pattern, self.split_operand(&part, most, depth))
+            }
+            4 | 5 => {
+                let most = 1 + self.random.below(4);
+                let shape = Shape::sequence(part, most);
+                let halves = [shape.clone(), shape.clone()];
+                let ways = most + 1;
+                let pattern =
+                    self.pattern_list(kind::P_CONCATENATION, &halves, ways, true, 1, names);
+                (pattern, self.expression(&shape, depth - 1))
+            }
+            _ if depth > 1 => {
+                let (first, left) = self.matching(depth - 1, names);
+                let (second, right) = self.matching(depth - 1, names);
+                let record = self.out.node(kind::P_TUPLE, &[first.record, second.record]);
+                let bindings = first.bindings.saturating_mul(second.bindings);
+                let operand = self.out.node(kind::TUPLE, &[left, right]);
+                (Pattern { record, bindings }, operand)
+            }
+            _ => {
+                let pattern = self.set_pattern(&part, 1, 1, names);
+                (pattern, self.distinct_members(&part, 1, depth - 1))
+            }
+        }
+    }
+
+    /// A set to be split; wildly, one of 7 to 9 members.
+    fn split_operand(&mut self, member: &Shape, most: usize, depth: usize) -> usize {
+        let splits_of_seven = 128f64.ln();
+        if self.times == 1 && self.lists > splits_of_seven && self.wildly(10) {
+            self.lists -= splits_of_seven;
+            let most = self.random.between(7, 9);
+            return self.out.range(1, most);
+        }
+        if self.random.once_in(2) {
+            return self.distinct_members(member, most, depth - 1);
+        }
+        self.expression(&Shape::set(member.clone(), most), depth - 1)
+    }
+
+    /// A let-be; nothing where a choice may not stand here.
+    fn let_be(&mut self, shape: &Shape, depth: usize) -> Option<usize> {
+        let before = self.mark();
+        let binding = self.set_binding(6, depth);
+        if !self.afford_choice(binding.pattern.bindings) {
+            self.return_to(before);
+            return None;
+        }
+        let condition = self.condition(&binding.names, depth);
+        let body = self.within(&binding.names, |w| w.body(shape, depth - 1));
+        let operands = [binding.pattern.record, binding.operand, condition, body];
+        Some(self.out.node(kind::LET_BE, &operands))
+    }
+
+    pub fn quantifier(&mut self, depth: usize) -> usize {
+        let kind = self
+            .random
+            .pick(&[kind::FORALL, kind::EXISTS, kind::EXISTS1]);
+        let binding = self.set_binding(20, depth);
+        let condition = self.condition(&binding.names, depth);
+        self.out
+            .node(kind, &[binding.pattern.record, binding.operand, condition])
+    }
+
+    /// An iota; its condition mostly holds for one member only.
+    pub fn iota(&mut self, shape: &Shape, depth: usize) -> usize {
+        let mut names = Names::new();
+        let Some(name) = self.fresh_name(&names) else {
+            return self.leaf(shape);
+        };
+        names.push((name, shape.clone()));
+        let pattern = self.out.p_name(name);
+        let sought = *shape == Shape::Integer && !self.random.once_in(8);
+        let count = if sought { 1 + self.random.below(3) } else { 1 };
+        let set = self.distinct_members(shape, count, depth - 1);
+        let condition = if sought {
+            let wanted = self.first_literal(set);
+            let bound = self.out.name(name);
+            let literal = self.out.integer(wanted);
+            self.out.binary(binary::EQUAL, bound, literal)
+        } else if self.random.once_in(2) {
+            self.out.boolean(true)
+        } else {
+            self.condition(&names, depth)
+        };
+        self.out.node(kind::IOTA, &[pattern, set, condition])
+    }
+
+    /// An integer literal within the records of a set, to be looked for.
+    fn first_literal(&self, set: usize) -> i32 {
+        let literals = self.out.records[..=set].iter().rev();
+        let mut literals = literals.filter(|record| record.kind == kind::INTEGER);
+        literals.next().map_or(1, |record| {
+            let mut bytes = [0; 4];
+            bytes.copy_from_slice(&record.constants);
+            i32::from_le_bytes(bytes)
+        })
+    }
+
+    pub fn set_comprehension(&mut self, member: &Shape, most: usize, depth: usize) -> usize {
+        let binding = self.set_binding(most, depth);
+        let condition = self.condition(&binding.names, depth);
+        let element = self.element(&binding, member, depth);
+        let operands = [binding.pattern.record, binding.operand, condition, element];
+        self.out.node(kind::SET_COMPREHENSION, &operands)
+    }
+
+    /// A sequence comprehension; nothing where no name is left for it.
+    pub fn sequence_comprehension(
+        &mut self,
+        item: &Shape,
+        most: usize,
+        depth: usize,
+    ) -> Option<usize> {
+        let name = self.fresh_name(&Names::new())?;
+        let names = vec![(name, Shape::Integer)];
+        let record = self.out.p_name(name);
+        let operand = self.distinct_members(&Shape::Integer, most, depth - 1);
+        let pattern = Pattern {
+            record,
+            bindings: most,
+        };
+        let binding = Binding {
+            pattern,
+            operand,
+            names,
+        };
+        let condition = self.condition(&binding.names, depth);
+        let element = self.element(&binding, item, depth);
+        let operands = [record, operand, condition, element];
+        Some(self.out.node(kind::SEQUENCE_COMPREHENSION, &operands))
+    }
+
+    /// A map comprehension; its key is mostly a name that it binds, so that keys differ.
+    pub fn map_comprehension(
+        &mut self,
+        key: &Shape,
+        value: &Shape,
+        most: usize,
+        depth: usize,
+    ) -> usize {
+        let mut names = Names::new();
+        let record = self.name_pattern(key, &mut names);
+        let operand = self.distinct_members(key, most, depth - 1);
+        let pattern = Pattern {
+            record,
+            bindings: most,
+        };
+        let binding = Binding {
+            pattern,
+            operand,
+            names,
+        };
+        let condition = self.condition(&binding.names, depth);
+        let key = match binding.names.first() {
+            Some(&(name, _)) if !self.random.once_in(4) => self.out.name(name),
+            _ => self.element(&binding, key, depth),
+        };
+        let value = self.element(&binding, value, depth);
+        let operands = [record, operand, condition, key, value];
+        self.out.node(kind::MAP_COMPREHENSION, &operands)
+    }
+
+    fn element(&mut self, binding: &Binding, shape: &Shape, depth: usize) -> usize {
+        self.repeated(binding.pattern.bindings, |w| {
+            w.within(&binding.names, |w| w.expression(shape, depth - 1))
+        })
+    }
+
+    /// A pattern over the members of a set, with at most so many bindings in all.
+    fn set_binding(&mut self, most: usize, depth: usize) -> Binding {
+        let member = Shape::random(&mut self.random, 1);
+        let count = most.clamp(1, 2) + self.random.below(most.clamp(2, 4) - 1);
+        let before = self.out.records.len();
+        let mut names = Names::new();
+        let mut pattern = self.pattern(&member, true, 2, &mut names);
+        if pattern.bindings.saturating_mul(count) > most {
+            self.out.records.truncate(before);
+            names.clear();
+            let record = self.name_pattern(&member, &mut names);
+            let bindings = 1;
+            pattern = Pattern { record, bindings };
+        }
+        pattern.bindings *= count;
+        let operand = if self.random.once_in(5) {
+            self.expression(&Shape::set(member, count), depth - 1)
+        } else {
+            self.distinct_members(&member, count, depth - 1)
+        };
+        Binding {
+            pattern,
+            operand,
+            names,
+        }
+    }
+
+    /// A boolean that mostly depends on the names just bound.
+    fn condition(&mut self, names: &Names, depth: usize) -> usize {
+        let outer = std::mem::replace(&mut self.in_condition, true);
+        let integers = names.iter().filter(|(_, shape)| *shape == Shape::Integer);
+        let integers: Vec<u8> = integers.map(|&(name, _)| name).collect();
+        let plain = if integers.is_empty() { 2 } else { 4 };
+        let record = if self.random.once_in(plain) {
+            self.out.boolean(true)
+        } else if !integers.is_empty() && !self.random.once_in(3) {
+            let bound = self.random.pick(&integers);
+            let left = self.out.name(bound);
+            let literal = self.random.between(0, 4);
+            let right = self.out.integer(literal);
+            let operator = self.random.pick(&[
+                binary::UNEQUAL,
+                binary::UNEQUAL,
+                binary::BELOW,
+                binary::AT_MOST,
+                binary::ABOVE,
+                binary::AT_LEAST,
+            ]);
+            self.out.binary(operator, left, right)
+        } else {
+            self.within(names, |w| w.expression(&Shape::Boolean, depth - 1))
+        };
+        self.in_condition = outer;
+        record
+    }
+}

@@ -1,0 +1,295 @@
+//! Sheets at each limit, and one past it.
+
+use crate::builder::{binary, kind, unary, Builder};
+
+/// A table for each limit and for one past it, with a label that says which.
+pub fn at_limits() -> Vec<(&'static str, Vec<u8>)> {
+    let mut sheets = vec![
+        ("set range of 63", build(|b| b.range(1, 63))),
+        ("set range of 64", build(|b| b.range(1, 64))),
+        (
+            "set range of the widest",
+            build(|b| b.range(i32::MIN, i32::MAX)),
+        ),
+        ("set of 512 bytes", build(|b| set_and(b, kind::SEQUENCE))),
+        ("set of 513 bytes", build(|b| set_and(b, kind::BOOLEAN))),
+        ("sequence of 512 bytes", build(|b| sequence_and(b, 61, 4))),
+        ("sequence of 513 bytes", build(|b| sequence_and(b, 63, 1))),
+        ("map of 512 bytes", build(|b| map_and(b, kind::SEQUENCE))),
+        ("map of 513 bytes", build(|b| map_and(b, kind::BOOLEAN))),
+        ("tuple of 512 bytes", build(|b| tuple_and(b, false))),
+        ("tuple of 513 bytes", build(|b| tuple_and(b, true))),
+        ("7 members under a union pattern", build(|b| splits(b, 7))),
+        ("8 members under a union pattern", build(|b| splits(b, 8))),
+        ("64 choices", build(|b| choices(b, 64))),
+        ("65 choices", build(|b| choices(b, 65))),
+        ("height 32", build(|b| height(b, 32))),
+        ("height 33", build(|b| height(b, 33))),
+        ("200 records", build(|b| records(b, 200))),
+        ("201 records", build(|b| records(b, 201))),
+        ("2400 bytes", wide_records(2400)),
+        ("2401 bytes", wide_records(2401)),
+    ];
+    sheets.extend(
+        BINDERS.map(|(label, kind, lengths)| (label, build(|b| bindings(b, kind, lengths)))),
+    );
+    sheets
+}
+
+/// Binders of 255 bindings (51 × 5) and of 256 (32 × 8), as splits of two sequences.
+const BINDERS: [(&str, u16, [i32; 2]); 14] = [
+    ("255 bindings of a let", kind::LET, [50, 4]),
+    ("256 bindings of a let", kind::LET, [31, 7]),
+    ("255 bindings of a let-be", kind::LET_BE, [50, 4]),
+    ("256 bindings of a let-be", kind::LET_BE, [31, 7]),
+    ("255 bindings of a forall", kind::FORALL, [50, 4]),
+    ("256 bindings of a forall", kind::FORALL, [31, 7]),
+    ("255 bindings of an exists", kind::EXISTS, [50, 4]),
+    ("256 bindings of an exists", kind::EXISTS, [31, 7]),
+    ("255 bindings of an exists1", kind::EXISTS1, [50, 4]),
+    ("256 bindings of an exists1", kind::EXISTS1, [31, 7]),
+    (
+        "255 bindings of a set comprehension",
+        kind::SET_COMPREHENSION,
+        [50, 4],
+    ),
+    (
+        "256 bindings of a set comprehension",
+        kind::SET_COMPREHENSION,
+        [31, 7],
+    ),
+    (
+        "255 bindings of a map comprehension",
+        kind::MAP_COMPREHENSION,
+        [50, 4],
+    ),
+    (
+        "256 bindings of a map comprehension",
+        kind::MAP_COMPREHENSION,
+        [31, 7],
+    ),
+];
+
+fn build(write: impl FnOnce(&mut Builder) -> usize) -> Vec<u8> {
+    let mut builder = Builder::new();
+    write(&mut builder);
+    builder.table()
+}
+
+/// {1,...,63}, of 508 bytes, with [] or true as one more member.
+fn set_and(b: &mut Builder, more: u16) -> usize {
+    let numbers = b.range(1, 63);
+    let member = empty_or_true(b, more);
+    let set = b.node(kind::SET, &[member]);
+    b.binary(binary::UNION, numbers, set)
+}
+
+fn empty_or_true(b: &mut Builder, more: u16) -> usize {
+    if more == kind::BOOLEAN {
+        b.boolean(true)
+    } else {
+        b.node(kind::SEQUENCE, &[])
+    }
+}
+
+/// [1,...,n] by a comprehension over name 0.
+fn numbers(b: &mut Builder, most: i32) -> usize {
+    let pattern = b.p_name(0);
+    let set = b.range(1, most);
+    let condition = b.boolean(true);
+    let element = b.name(0);
+    b.node(
+        kind::SEQUENCE_COMPREHENSION,
+        &[pattern, set, condition, element],
+    )
+}
+
+/// So many integers and then so many booleans.
+fn sequence_and(b: &mut Builder, integers: i32, booleans: usize) -> usize {
+    let left = numbers(b, integers);
+    let items: Vec<usize> = (0..booleans).map(|_| b.boolean(true)).collect();
+    let right = b.node(kind::SEQUENCE, &items);
+    b.binary(binary::CONCATENATE, left, right)
+}
+
+/// {1|->1,...,31|->31}, of 500 bytes, with 0|->[] or 0|->true as one more entry.
+fn map_and(b: &mut Builder, more: u16) -> usize {
+    let pattern = b.p_name(0);
+    let set = b.range(1, 31);
+    let condition = b.boolean(true);
+    let (key, value) = (b.name(0), b.name(0));
+    let numbers = b.node(
+        kind::MAP_COMPREHENSION,
+        &[pattern, set, condition, key, value],
+    );
+    let key = b.integer(0);
+    let value = empty_or_true(b, more);
+    let entry = b.node(kind::MAP, &[key, value]);
+    b.binary(binary::MUNION, numbers, entry)
+}
+
+/// A pair of a sequence of 500 bytes with an integer, of 8, or with [true], of 9.
+fn tuple_and(b: &mut Builder, over: bool) -> usize {
+    let left = numbers(b, 62);
+    let right = if over {
+        let item = b.boolean(true);
+        b.node(kind::SEQUENCE, &[item])
+    } else {
+        b.integer(5)
+    };
+    b.node(kind::TUPLE, &[left, right])
+}
+
+/// let a union b = {1,...,n} in card a.
+fn splits(b: &mut Builder, members: i32) -> usize {
+    let halves = [b.p_name(0), b.p_name(1)];
+    let pattern = b.node(kind::P_UNION, &halves);
+    let set = b.range(1, members);
+    let half = b.name(0);
+    let body = b.unary(unary::CARD, half);
+    b.node(kind::LET, &[pattern, set, body])
+}
+
+/// A sum of 63 choices within a comprehension and of the rest beside it.
+/// The last choice has two bindings, the others one.
+fn choices(b: &mut Builder, count: usize) -> usize {
+    let pattern = b.p_name(0);
+    let set = b.range(1, 63);
+    let condition = b.boolean(true);
+    let element = choice(b, 1);
+    let items = b.node(
+        kind::SEQUENCE_COMPREHENSION,
+        &[pattern, set, condition, element],
+    );
+    let mut sum = b.unary(unary::LEN, items);
+    for index in 64..=count {
+        let right = choice(b, if index == count { 2 } else { 1 });
+        sum = b.binary(binary::PLUS, sum, right);
+    }
+    sum
+}
+
+/// let x in set {1,...,n} be st true in x, with name 1.
+fn choice(b: &mut Builder, members: i32) -> usize {
+    let pattern = b.p_name(1);
+    let set = b.range(1, members);
+    let condition = b.boolean(true);
+    let body = b.name(1);
+    b.node(kind::LET_BE, &[pattern, set, condition, body])
+}
+
+/// Unary minuses on a literal.
+fn height(b: &mut Builder, height: usize) -> usize {
+    let literal = b.integer(5);
+    (1..height).fold(literal, |operand, _| b.unary(unary::MINUS, operand))
+}
+
+/// A sum of ones, with a minus on it where the number of records is even.
+fn records(b: &mut Builder, count: usize) -> usize {
+    let mut terms: Vec<usize> = (0..count.div_ceil(2)).map(|_| b.integer(1)).collect();
+    while terms.len() > 1 {
+        let pairs = terms.chunks(2).map(|pair| match *pair {
+            [left, right] => b.binary(binary::PLUS, left, right),
+            _ => pair[0],
+        });
+        terms = pairs.collect();
+    }
+    if count % 2 == 0 {
+        return b.unary(unary::MINUS, terms[0]);
+    }
+    terms[0]
+}
+
+/// Enumerations of 8 operands, 12 bytes each; a table of this size is past rule 3 but not accepted,
+/// since 200 records that are each named once have under 1,800 bytes.
+fn wide_records(bytes: usize) -> Vec<u8> {
+    let mut builder = Builder::new();
+    for _ in 0..200 {
+        builder.node(kind::SET, &[0; 8]);
+    }
+    let mut table = builder.table();
+    table.resize(bytes, 0);
+    table
+}
+
+/// A binder over the splits of two sequences, as many as the product of their lengths, each plus one.
+fn bindings(b: &mut Builder, kind: u16, lengths: [i32; 2]) -> usize {
+    let halves = [b.p_name(1), b.p_name(2)];
+    let left = b.node(kind::P_CONCATENATION, &halves);
+    let halves = [b.p_name(3), b.p_name(4)];
+    let right = b.node(kind::P_CONCATENATION, &halves);
+    let pattern = b.node(kind::P_TUPLE, &[left, right]);
+    let pair = [numbers(b, lengths[0]), numbers(b, lengths[1])];
+    let mut operand = b.node(kind::TUPLE, &pair);
+    if kind != kind::LET {
+        operand = b.node(kind::SET, &[operand]);
+    }
+    let mut operands = vec![pattern, operand];
+    operands.extend(covered(b, kind));
+    b.node(kind, &operands)
+}
+
+/// The operands that the names of a binder of splits cover.
+fn covered(b: &mut Builder, kind: u16) -> Vec<usize> {
+    match kind {
+        kind::LET => vec![split_sizes(b)],
+        kind::LET_BE => vec![b.boolean(true), split_sizes(b)],
+        kind::SET_COMPREHENSION => vec![b.boolean(true), size(b, 1)],
+        kind::MAP_COMPREHENSION => vec![b.boolean(true), size(b, 3), b.integer(0)],
+        kind::FORALL => vec![total_compared(b, binary::AT_LEAST)],
+        kind::EXISTS => vec![total_compared(b, binary::BELOW)],
+        _ => vec![total_compared(b, binary::EQUAL)],
+    }
+}
+
+/// The length of the half that a name holds.
+fn size(b: &mut Builder, name: u8) -> usize {
+    let half = b.name(name);
+    b.unary(unary::LEN, half)
+}
+
+fn split_sizes(b: &mut Builder) -> usize {
+    let sizes = [size(b, 1), size(b, 3)];
+    b.node(kind::TUPLE, &sizes)
+}
+
+/// The total length of both first halves, compared with 0.
+fn total_compared(b: &mut Builder, operator: u8) -> usize {
+    let (left, right) = (size(b, 1), size(b, 3));
+    let total = b.binary(binary::PLUS, left, right);
+    let zero = b.integer(0);
+    b.binary(operator, total, zero)
+}
+
+#[cfg(test)]
+mod tests {
+    use super::*;
+
+    fn labelled(label: &str) -> Vec<u8> {
+        let mut sheets = at_limits().into_iter();
+        sheets.find(|(other, _)| *other == label).unwrap().1
+    }
+
+    #[test]
+    fn no_label_stands_twice() {
+        let mut labels: Vec<_> = at_limits().into_iter().map(|(label, _)| label).collect();
+        let count = labels.len();
+        labels.sort();
+        labels.dedup();
+        assert_eq!(labels.len(), count);
+    }
+
+    #[test]
+    fn sizes() {
+        assert_eq!(labelled("2400 bytes").len(), 2400);
+        assert_eq!(labelled("2401 bytes").len(), 2401);
+        for count in [200, 201] {
+            let mut builder = Builder::new();
+            records(&mut builder, count);
+            assert_eq!(builder.records.len(), count);
+        }
+        let mut builder = Builder::new();
+        height(&mut builder, 33);
+        assert_eq!(builder.heights().last(), Some(&33));
+    }
+}

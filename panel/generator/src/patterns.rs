@@ -1,0 +1,125 @@
+//! Random patterns over the values of a shape.
+
+use crate::builder::kind;
+use crate::shape::Shape;
+use crate::writer::{Names, Writer};
+
+/// A pattern's record, and the most bindings that one value gives.
+#[derive(Clone, Copy)]
+pub struct Pattern {
+    pub record: usize,
+    pub bindings: usize,
+}
+
+impl Writer {
+    /// A pattern that values of the shape may match; its names are added to `names`.
+    /// One that is not loose holds no set enumeration, union or concatenation.
+    pub fn pattern(
+        &mut self,
+        shape: &Shape,
+        loose: bool,
+        depth: usize,
+        names: &mut Names,
+    ) -> Pattern {
+        let inside = depth > 0 && self.random.once_in(2);
+        let record = match shape {
+            Shape::Boolean if self.random.once_in(5) => {
+                let value = self.random.below(2) as u8;
+                self.out.record(kind::P_BOOLEAN, &[value], &[])
+            }
+            Shape::Integer if self.random.once_in(6) => {
+                let value = self.random.between(0, 4);
+                self.out.record(kind::P_INTEGER, &value.to_le_bytes(), &[])
+            }
+            Shape::Tuple(parts) if inside => {
+                return self.pattern_list(kind::P_TUPLE, parts, 1, loose, depth, names);
+            }
+            Shape::Sequence(item, most) if inside && (!loose || self.random.once_in(2)) => {
+                let parts = vec![(**item).clone(); self.random.below(most.min(&4) + 1)];
+                return self.pattern_list(kind::P_SEQUENCE, &parts, 1, loose, depth, names);
+            }
+            Shape::Sequence(_, most) if inside && loose => {
+                let parts = [shape.clone(), shape.clone()];
+                let splits = most + 1;
+                return self.pattern_list(
+                    kind::P_CONCATENATION,
+                    &parts,
+                    splits,
+                    loose,
+                    depth,
+                    names,
+                );
+            }
+            Shape::Set(_, most) if inside && loose && *most <= 7 && self.random.once_in(2) => {
+                let parts = [shape.clone(), shape.clone()];
+                let splits = 1 << most;
+                return self.pattern_list(kind::P_UNION, &parts, splits, loose, depth, names);
+            }
+            Shape::Set(member, most) if inside && loose => {
+                let count = self.random.below(most.min(&4) + 1);
+                return self.set_pattern(member, count, depth, names);
+            }
+            _ => self.name_or_any(shape, names),
+        };
+        Pattern {
+            record,
+            bindings: 1,
+        }
+    }
+
+    /// A set enumeration of so many patterns.
+    pub fn set_pattern(
+        &mut self,
+        member: &Shape,
+        count: usize,
+        depth: usize,
+        names: &mut Names,
+    ) -> Pattern {
+        let parts = vec![member.clone(); count];
+        let pairings = (1..=count).product();
+        self.pattern_list(kind::P_SET, &parts, pairings, true, depth, names)
+    }
+
+    /// A pattern of parts, which are tried on a value in `ways` ways.
+    pub fn pattern_list(
+        &mut self,
+        kind: u16,
+        parts: &[Shape],
+        ways: usize,
+        loose: bool,
+        depth: usize,
+        names: &mut Names,
+    ) -> Pattern {
+        let mut operands = Vec::new();
+        let mut bindings = ways;
+        for part in parts {
+            let pattern = self.pattern(part, loose, depth.saturating_sub(1), names);
+            operands.push(pattern.record);
+            bindings = bindings.saturating_mul(pattern.bindings);
+        }
+        let record = self.out.node(kind, &operands);
+        Pattern { record, bindings }
+    }
+
+    /// A name, now and then one that stands in the pattern already, or the pattern for any value.
+    fn name_or_any(&mut self, shape: &Shape, names: &mut Names) -> usize {
+        if self.random.once_in(12) {
+            return self.out.p_any();
+        }
+        if self.random.once_in(8) {
+            if let Some(&(name, _)) = names.iter().find(|(_, other)| other == shape) {
+                return self.out.p_name(name);
+            }
+        }
+        self.name_pattern(shape, names)
+    }
+
+    /// A pattern name; any value where all names are taken.
+    pub fn name_pattern(&mut self, shape: &Shape, names: &mut Names) -> usize {
+        let Some(name) = self.fresh_name(names) else {
+            return self.out.p_any();
+        };
+        names.push((name, shape.clone()));
+        self.out.p_name(name)
+    }
+}

@@ -1,0 +1,467 @@
+//! Table records: cutting a table into its records and reading the fields of each.
+
+use std::collections::BTreeSet;
+
+use crate::answer::{Refusal, RECORD_FORM};
+
+/// The unary operators, in the order of their numbers from 1.
+#[derive(Clone, Copy, Debug, PartialEq, Eq)]
+pub enum Unary {
+    Not,
+    Minus,
+    Abs,
+    Card,
+    DistributedUnion,
+    DistributedInter,
+    Len,
+    Hd,
+    Tl,
+    Elems,
+    Inds,
+    Conc,
+    Reverse,
+    Dom,
+    Rng,
+}
+
+impl Unary {
+    const ALL: [Unary; 15] = [
+        Unary::Not,
+        Unary::Minus,
+        Unary::Abs,
+        Unary::Card,
+        Unary::DistributedUnion,
+        Unary::DistributedInter,
+        Unary::Len,
+        Unary::Hd,
+        Unary::Tl,
+        Unary::Elems,
+        Unary::Inds,
+        Unary::Conc,
+        Unary::Reverse,
+        Unary::Dom,
+        Unary::Rng,
+    ];
+
+    fn from_number(number: u8) -> Option<Unary> {
+        Unary::ALL.get(usize::from(number).checked_sub(1)?).copied()
+    }
+}
+
+/// The binary operators, in the order of their numbers from 1.
+#[derive(Clone, Copy, Debug, PartialEq, Eq)]
+pub enum Binary {
+    And,
+    Or,
+    Implies,
+    Equivalent,
+    Equal,
+    NotEqual,
+    Plus,
+    Minus,
+    Times,
+    Div,
+    Rem,
+    Mod,
+    Less,
+    LessOrEqual,
+    Greater,
+    GreaterOrEqual,
+    InSet,
+    NotInSet,
+    Union,
+    Inter,
+    Difference,
+    Subset,
+    ProperSubset,
+    Concatenate,
+    MapUnion,
+    Override,
+    DomainRestrict,
+    RangeRestrict,
+}
+
+impl Binary {
+    const ALL: [Binary; 28] = [
+        Binary::And,
+        Binary::Or,
+        Binary::Implies,
+        Binary::Equivalent,
+        Binary::Equal,
+        Binary::NotEqual,
+        Binary::Plus,
+        Binary::Minus,
+        Binary::Times,
+        Binary::Div,
+        Binary::Rem,
+        Binary::Mod,
+        Binary::Less,
+        Binary::LessOrEqual,
+        Binary::Greater,
+        Binary::GreaterOrEqual,
+        Binary::InSet,
+        Binary::NotInSet,
+        Binary::Union,
+        Binary::Inter,
+        Binary::Difference,
+        Binary::Subset,
+        Binary::ProperSubset,
+        Binary::Concatenate,
+        Binary::MapUnion,
+        Binary::Override,
+        Binary::DomainRestrict,
+        Binary::RangeRestrict,
+    ];
+
+    fn from_number(number: u8) -> Option<Binary> {
+        Binary::ALL
+            .get(usize::from(number).checked_sub(1)?)
+            .copied()
+    }
+}
+
+/// The binders that give a boolean, or (iota) the value bound.
+#[derive(Clone, Copy, Debug, PartialEq, Eq)]
+pub enum Quantifier {
+    Forall,
+    Exists,
+    Exists1,
+    Iota,
+}
+
+/// The operands that the binders 13 to 20 have in common.
+#[derive(Clone, Copy, Debug, PartialEq, Eq)]
+pub struct Bind {
+    pub pattern: usize,
+    pub set: usize,
+    pub condition: usize,
+}
+
+/// A record. Operands are record numbers.
+#[derive(Clone, Debug, PartialEq, Eq)]
+pub enum Record {
+    Boolean(bool),
+    Integer(i32),
+    Name(u8),
+    Unary(Unary, usize),
+    Binary(Binary, usize, usize),
+    If {
+        test: usize,
+        then: usize,
+        otherwise: usize,
+    },
+    SetEnumeration(Vec<usize>),
+    SequenceEnumeration(Vec<usize>),
+    /// Key, value, key, value.
+    MapEnumeration(Vec<usize>),
+    Tuple(Vec<usize>),
+    SetRange(usize, usize),
+    Let {
+        pattern: usize,
+        value: usize,
+        body: usize,
+    },
+    LetBe {
+        bind: Bind,
+        body: usize,
+    },
+    Quantified(Quantifier, Bind),
+    SetComprehension {
+        bind: Bind,
+        element: usize,
+    },
+    SequenceComprehension {
+        bind: Bind,
+        element: usize,
+    },
+    MapComprehension {
+        bind: Bind,
+        key: usize,
+        value: usize,
+    },
+    Apply(usize, usize),
+    NamePattern(u8),
+    AnyPattern,
+    BooleanPattern(bool),
+    IntegerPattern(i32),
+    TuplePattern(Vec<usize>),
+    SetPattern(Vec<usize>),
+    UnionPattern(usize, usize),
+    SequencePattern(Vec<usize>),
+    ConcatenationPattern(usize, usize),
+}
+
+/// What an operand is to the record that names it.
+#[derive(Clone, Copy, Debug, PartialEq, Eq)]
+pub enum Role {
+    /// An expression outside the names of the record.
+    Plain,
+    /// A condition of a binder, within its names.
+    Condition,
+    /// A body, element, key or value of a binder, within its names.
+    Covered,
+    /// A pattern.
+    Pattern,
+    /// A pattern that has to be a name.
+    NamePattern,
+}
+
+impl Record {
+    /// Reads a whole record from its own part of the table; nothing if it is malformed.
+    pub fn read(part: &[u8]) -> Option<Record> {
+        let kind = u16::from_le_bytes([*part.get(2)?, *part.get(3)?]);
+        let fields = part.get(4..)?;
+        if !lengths(kind).contains(&part.len()) {
+            return None;
+        }
+        let at = |index: usize| usize::from(fields[index]);
+        let operands = || fields.iter().copied().map(usize::from).collect();
+        let bind = || Bind {
+            pattern: at(0),
+            set: at(1),
+            condition: at(2),
+        };
+        Some(match kind {
+            1 => Record::Boolean(boolean(fields)?),
+            2 => Record::Integer(integer(fields)?),
+            3 => Record::Name(name(fields)?),
+            4 => Record::Unary(Unary::from_number(fields[0])?, at(1)),
+            5 => Record::Binary(Binary::from_number(fields[0])?, at(1), at(2)),
+            6 => Record::If {
+                test: at(0),
+                then: at(1),
+                otherwise: at(2),
+            },
+            7 => Record::SetEnumeration(operands()),
+            8 => Record::SequenceEnumeration(operands()),
+            9 => Record::MapEnumeration(operands()),
+            10 => Record::Tuple(operands()),
+            11 => Record::SetRange(at(0), at(1)),
+            12 => Record::Let {
+                pattern: at(0),
+                value: at(1),
+                body: at(2),
+            },
+            13 => Record::LetBe {
+                bind: bind(),
+                body: at(3),
+            },
+            14 => Record::Quantified(Quantifier::Forall, bind()),
+            15 => Record::Quantified(Quantifier::Exists, bind()),
+            16 => Record::Quantified(Quantifier::Exists1, bind()),
+            17 => Record::Quantified(Quantifier::Iota, bind()),
+            18 => Record::SetComprehension {
+                bind: bind(),
+                element: at(3),
+            },
+            19 => Record::SequenceComprehension {
+                bind: bind(),
+                element: at(3),
+            },
+            20 => Record::MapComprehension {
+                bind: bind(),
+                key: at(3),
+                value: at(4),
+            },
+            21 => Record::Apply(at(0), at(1)),
+            32 => Record::NamePattern(name(fields)?),
+            33 => Record::AnyPattern,
+            34 => Record::BooleanPattern(boolean(fields)?),
+            35 => Record::IntegerPattern(integer(fields)?),
+            36 => Record::TuplePattern(operands()),
+            37 => Record::SetPattern(operands()),
+            38 => Record::UnionPattern(at(0), at(1)),
+            39 => Record::SequencePattern(operands()),
+            40 => Record::ConcatenationPattern(at(0), at(1)),
+            _ => return None,
+        })
+    }
+
+    /// The operands in the order of the fields.
+    pub fn operands(&self) -> Vec<(usize, Role)> {
+        use Role::{Condition, Covered, Pattern, Plain};
+        let all = |operands: &[usize], role| operands.iter().map(|&o| (o, role)).collect();
+        let bound = |bind: &Bind, pattern, covered: &[usize]| {
+            let mut operands = vec![
+                (bind.pattern, pattern),
+                (bind.set, Plain),
+                (bind.condition, Condition),
+            ];
+            operands.extend(covered.iter().map(|&o| (o, Covered)));
+            operands
+        };
+        match self {
+            Record::Boolean(_) | Record::Integer(_) | Record::Name(_) => vec![],
+            Record::Unary(_, operand) => vec![(*operand, Plain)],
+            Record::Binary(_, left, right) => all(&[*left, *right], Plain),
+            Record::If {
+                test,
+                then,
+                otherwise,
+            } => all(&[*test, *then, *otherwise], Plain),
+            Record::SetEnumeration(operands)
+            | Record::SequenceEnumeration(operands)
+            | Record::MapEnumeration(operands)
+            | Record::Tuple(operands) => all(operands, Plain),
+            Record::SetRange(from, to) => all(&[*from, *to], Plain),
+            Record::Let {
+                pattern,
+                value,
+                body,
+            } => vec![(*pattern, Pattern), (*value, Plain), (*body, Covered)],
+            Record::LetBe { bind, body } => bound(bind, Pattern, &[*body]),
+            Record::Quantified(Quantifier::Iota, bind) => bound(bind, Role::NamePattern, &[]),
+            Record::Quantified(_, bind) => bound(bind, Pattern, &[]),
+            Record::SetComprehension { bind, element } => bound(bind, Pattern, &[*element]),
+            Record::SequenceComprehension { bind, element } => {
+                bound(bind, Role::NamePattern, &[*element])
+            }
+            Record::MapComprehension { bind, key, value } => bound(bind, Pattern, &[*key, *value]),
+            Record::Apply(function, argument) => all(&[*function, *argument], Plain),
+            Record::NamePattern(_)
+            | Record::AnyPattern
+            | Record::BooleanPattern(_)
+            | Record::IntegerPattern(_) => vec![],
+            Record::TuplePattern(parts)
+            | Record::SetPattern(parts)
+            | Record::SequencePattern(parts) => all(parts, Pattern),
+            Record::UnionPattern(left, right) | Record::ConcatenationPattern(left, right) => {
+                all(&[*left, *right], Pattern)
+            }
+        }
+    }
+
+    pub fn is_pattern(&self) -> bool {
+        matches!(
+            self,
+            Record::NamePattern(_)
+                | Record::AnyPattern
+                | Record::BooleanPattern(_)
+                | Record::IntegerPattern(_)
+                | Record::TuplePattern(_)
+                | Record::SetPattern(_)
+                | Record::UnionPattern(..)
+                | Record::SequencePattern(_)
+                | Record::ConcatenationPattern(..)
+        )
+    }
+
+    /// The pattern of a binder.
+    pub fn pattern(&self) -> Option<usize> {
+        match self {
+            Record::Let { pattern, .. } => Some(*pattern),
+            Record::LetBe { bind, .. }
+            | Record::Quantified(_, bind)
+            | Record::SetComprehension { bind, .. }
+            | Record::SequenceComprehension { bind, .. }
+            | Record::MapComprehension { bind, .. } => Some(bind.pattern),
+            _ => None,
+        }
+    }
+}
+
+/// The lengths that fit a kind; none for an unknown kind.
+fn lengths(kind: u16) -> &'static [usize] {
+    match kind {
+        33 => &[4],
+        1 | 3 | 32 | 34 => &[5],
+        4 | 11 | 21 | 38 | 40 => &[6],
+        5 | 6 | 12 | 14..=17 => &[7],
+        2 | 13 | 18 | 19 | 35 => &[8],
+        20 => &[9],
+        7 | 8 => &[4, 5, 6, 7, 8, 9, 10, 11, 12],
+        9 => &[4, 6, 8, 10, 12],
+        10 | 36 => &[6, 7, 8],
+        37 | 39 => &[4, 5, 6, 7, 8],
+        _ => &[],
+    }
+}
+
+fn boolean(fields: &[u8]) -> Option<bool> {
+    match fields[0] {
+        0 => Some(false),
+        1 => Some(true),
+        _ => None,
+    }
+}
+
+fn integer(fields: &[u8]) -> Option<i32> {
+    Some(i32::from_le_bytes(fields.try_into().ok()?))
+}
+
+fn name(fields: &[u8]) -> Option<u8> {
+    Some(fields[0]).filter(|&name| name < 16)
+}
+
+/// Cuts a table into its records; rule 4 with the first record at fault.
+pub fn cut(table: &[u8]) -> Result<Vec<Record>, Refusal> {
+    let mut records = Vec::new();
+    let mut rest = table;
+    while !rest.is_empty() {
+        let (record, after) = first_record(rest).ok_or(Refusal::new(RECORD_FORM, records.len()))?;
+        records.push(record);
+        rest = after;
+    }
+    Ok(records)
+}
+
+/// The record that starts the table, and what follows it.
+fn first_record(table: &[u8]) -> Option<(Record, &[u8])> {
+    let length = u16::from_le_bytes([*table.first()?, *table.get(1)?]);
+    let (part, after) = table.split_at_checked(usize::from(length))?;
+    Some((Record::read(part)?, after))
+}
+
+/// An accepted table: one that has passed the check.
+#[derive(Clone, Debug, PartialEq, Eq)]
+pub struct Table {
+    records: Vec<Record>,
+}
+
+impl Table {
+    pub const MAX_SIZE: usize = 2400;
+    pub const MAX_RECORDS: usize = 200;
+    pub const MAX_HEIGHT: usize = 32;
+
+    /// Only the check makes tables, so that every table is an accepted one.
+    pub(crate) fn from_accepted(records: Vec<Record>) -> Table {
+        Table { records }
+    }
+
+    pub fn record(&self, number: usize) -> &Record {
+        &self.records[number]
+    }
+
+    pub fn records(&self) -> &[Record] {
+        &self.records
+    }
+
+    /// The number of the last record, which is the sheet.
+    pub fn last(&self) -> usize {
+        self.records.len() - 1
+    }
+}
+
+/// The names that a pattern holds.
+pub fn pattern_names(records: &[Record], pattern: usize) -> BTreeSet<u8> {
+    match &records[pattern] {
+        Record::NamePattern(name) => BTreeSet::from([*name]),
+        record => record
+            .operands()
+            .iter()
+            .flat_map(|&(part, _)| pattern_names(records, part))
+            .collect(),
+    }
+}
+
+/// Whether a pattern may match in several ways: it holds a set enumeration, union or concatenation.
+pub fn is_loose_pattern(records: &[Record], pattern: usize) -> bool {
+    let record = &records[pattern];
+    matches!(
+        record,
+        Record::SetPattern(_) | Record::UnionPattern(..) | Record::ConcatenationPattern(..)
+    ) || record
+        .operands()
+        .iter()
+        .any(|&(part, _)| is_loose_pattern(records, part))
+}

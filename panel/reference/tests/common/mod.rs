@@ -1,0 +1,262 @@
+//! A tiny builder of tables for the tests: nested records, each placed after its operands.
+#![allow(dead_code)]
+
+use reference::eval::{evaluate, Evaluation};
+
+/// Unary operators.
+pub mod unary {
+    pub const NOT: u8 = 1;
+    pub const NEGATE: u8 = 2;
+    pub const ABS: u8 = 3;
+    pub const CARD: u8 = 4;
+    pub const DUNION: u8 = 5;
+    pub const DINTER: u8 = 6;
+    pub const LEN: u8 = 7;
+    pub const HD: u8 = 8;
+    pub const TL: u8 = 9;
+    pub const ELEMS: u8 = 10;
+    pub const INDS: u8 = 11;
+    pub const CONC: u8 = 12;
+    pub const REVERSE: u8 = 13;
+    pub const DOM: u8 = 14;
+    pub const RNG: u8 = 15;
+}
+
+/// Binary operators.
+pub mod binary {
+    pub const AND: u8 = 1;
+    pub const OR: u8 = 2;
+    pub const IMPLIES: u8 = 3;
+    pub const EQUIVALENT: u8 = 4;
+    pub const EQUAL: u8 = 5;
+    pub const NOT_EQUAL: u8 = 6;
+    pub const PLUS: u8 = 7;
+    pub const MINUS: u8 = 8;
+    pub const TIMES: u8 = 9;
+    pub const DIV: u8 = 10;
+    pub const REM: u8 = 11;
+    pub const MOD: u8 = 12;
+    pub const LESS: u8 = 13;
+    pub const LESS_OR_EQUAL: u8 = 14;
+    pub const GREATER: u8 = 15;
+    pub const GREATER_OR_EQUAL: u8 = 16;
+    pub const IN_SET: u8 = 17;
+    pub const NOT_IN_SET: u8 = 18;
+    pub const UNION: u8 = 19;
+    pub const INTER: u8 = 20;
+    pub const DIFFERENCE: u8 = 21;
+    pub const SUBSET: u8 = 22;
+    pub const PSUBSET: u8 = 23;
+    pub const CONCATENATE: u8 = 24;
+    pub const MUNION: u8 = 25;
+    pub const OVERRIDE: u8 = 26;
+    pub const DOMAIN: u8 = 27;
+    pub const RANGE: u8 = 28;
+}
+
+/// A record with its operands nested in it.
+#[derive(Clone)]
+pub struct Node {
+    kind: u16,
+    bytes: Vec<u8>,
+    operands: Vec<Node>,
+}
+
+impl Node {
+    /// Adds the records of the node after those of a table; the number of the last.
+    fn write(&self, table: &mut Vec<u8>, records: &mut u8) -> u8 {
+        let operands: Vec<u8> = self
+            .operands
+            .iter()
+            .map(|o| o.write(table, records))
+            .collect();
+        push_record(table, self.kind, &[self.bytes.clone(), operands].concat());
+        *records += 1;
+        *records - 1
+    }
+
+    /// The table whose last record this is.
+    pub fn table(&self) -> Vec<u8> {
+        let mut table = Vec::new();
+        self.write(&mut table, &mut 0);
+        table
+    }
+
+    /// Evaluates the sheet.
+    pub fn under(&self, list: &[u8]) -> Evaluation {
+        evaluate(&self.table(), list)
+    }
+
+    /// Number, place and count of an evaluation.
+    pub fn answer(&self, list: &[u8]) -> (u32, usize, usize) {
+        let end = self.under(list);
+        assert_eq!(end.number == 0, end.value.is_some());
+        (end.number, end.place, end.count)
+    }
+
+    /// The value of an evaluation under an empty list, as it prints.
+    pub fn prints(&self) -> String {
+        self.prints_under(&[])
+    }
+
+    /// The value of an evaluation, as it prints.
+    pub fn prints_under(&self, list: &[u8]) -> String {
+        let end = self.under(list);
+        end.value.expect("a value").to_string()
+    }
+}
+
+/// Adds a record to a table.
+pub fn push_record(table: &mut Vec<u8>, kind: u16, fields: &[u8]) {
+    table.extend((4 + fields.len() as u16).to_le_bytes());
+    table.extend(kind.to_le_bytes());
+    table.extend(fields);
+}
+
+/// A table of records, each a kind and its fields.
+pub fn table_of(records: &[(u16, &[u8])]) -> Vec<u8> {
+    let mut table = Vec::new();
+    for (kind, fields) in records {
+        push_record(&mut table, *kind, fields);
+    }
+    table
+}
+
+pub fn node(kind: u16, bytes: &[u8], operands: &[Node]) -> Node {
+    Node {
+        kind,
+        bytes: bytes.to_vec(),
+        operands: operands.to_vec(),
+    }
+}
+
+pub fn boolean(truth: bool) -> Node {
+    node(1, &[u8::from(truth)], &[])
+}
+
+pub fn int(number: i32) -> Node {
+    node(2, &number.to_le_bytes(), &[])
+}
+
+pub fn name(name: u8) -> Node {
+    node(3, &[name], &[])
+}
+
+pub fn un(operator: u8, operand: Node) -> Node {
+    node(4, &[operator], &[operand])
+}
+
+pub fn bin(operator: u8, left: Node, right: Node) -> Node {
+    node(5, &[operator], &[left, right])
+}
+
+pub fn if_(test: Node, then: Node, otherwise: Node) -> Node {
+    node(6, &[], &[test, then, otherwise])
+}
+
+pub fn set(operands: &[Node]) -> Node {
+    node(7, &[], operands)
+}
+
+pub fn seq(operands: &[Node]) -> Node {
+    node(8, &[], operands)
+}
+
+/// Key, value, key, value.
+pub fn map(operands: &[Node]) -> Node {
+    node(9, &[], operands)
+}
+
+pub fn tuple(operands: &[Node]) -> Node {
+    node(10, &[], operands)
+}
+
+pub fn range(from: i32, to: i32) -> Node {
+    node(11, &[], &[int(from), int(to)])
+}
+
+pub fn let_(pattern: Node, value: Node, body: Node) -> Node {
+    node(12, &[], &[pattern, value, body])
+}
+
+pub fn let_be(pattern: Node, set: Node, condition: Node, body: Node) -> Node {
+    node(13, &[], &[pattern, set, condition, body])
+}
+
+pub fn forall(pattern: Node, set: Node, condition: Node) -> Node {
+    node(14, &[], &[pattern, set, condition])
+}
+
+pub fn exists(pattern: Node, set: Node, condition: Node) -> Node {
+    node(15, &[], &[pattern, set, condition])
+}
+
+pub fn exists1(pattern: Node, set: Node, condition: Node) -> Node {
+    node(16, &[], &[pattern, set, condition])
+}
+
+pub fn iota(pattern: Node, set: Node, condition: Node) -> Node {
+    node(17, &[], &[pattern, set, condition])
+}
+
+pub fn set_comp(pattern: Node, set: Node, condition: Node, element: Node) -> Node {
+    node(18, &[], &[pattern, set, condition, element])
+}
+
+pub fn seq_comp(pattern: Node, set: Node, condition: Node, element: Node) -> Node {
+    node(19, &[], &[pattern, set, condition, element])
+}
+
+pub fn map_comp(pattern: Node, set: Node, condition: Node, key: Node, value: Node) -> Node {
+    node(20, &[], &[pattern, set, condition, key, value])
+}
+
+pub fn apply(function: Node, argument: Node) -> Node {
+    node(21, &[], &[function, argument])
+}
+
+pub fn p_name(name: u8) -> Node {
+    node(32, &[name], &[])
+}
+
+pub fn p_any() -> Node {
+    node(33, &[], &[])
+}
+
+pub fn p_boolean(truth: bool) -> Node {
+    node(34, &[u8::from(truth)], &[])
+}
+
+pub fn p_int(number: i32) -> Node {
+    node(35, &number.to_le_bytes(), &[])
+}
+
+pub fn p_tuple(parts: &[Node]) -> Node {
+    node(36, &[], parts)
+}
+
+pub fn p_set(parts: &[Node]) -> Node {
+    node(37, &[], parts)
+}
+
+pub fn p_union(left: Node, right: Node) -> Node {
+    node(38, &[], &[left, right])
+}
+
+pub fn p_seq(parts: &[Node]) -> Node {
+    node(39, &[], parts)
+}
+
+pub fn p_conc(left: Node, right: Node) -> Node {
+    node(40, &[], &[left, right])
+}
+
+/// A set, sequence or the like of integers.
+pub fn ints(numbers: &[i32]) -> Vec<Node> {
+    numbers.iter().copied().map(int).collect()
+}
+
+/// 1 div 0 = 1, which is refused with 22 when evaluated.
+pub fn undefined() -> Node {
+    bin(binary::EQUAL, bin(binary::DIV, int(1), int(0)), int(1))
+}
