@@ -3,8 +3,8 @@ use mathlib.Core.Bool.{Bool, true, false}
 use mathlib.Core.List.{List, [], _∷_, _++_}
 use Prim.Native.Nat.{ℕ}
 use lib.ListN.{getD, replicate, set}
-use Rattle.values.specs.declared.Order.{Order}
-use Rattle.values.specs.declared.Order.the-variants.{Lower, Same, Higher}
+use Rattle.integers.specs.declared.Order.{Order}
+use Rattle.integers.specs.declared.Order.the-variants.{Lower, Same, Higher}
 use Rattle.values.specs.Value.{Value, order, after}
 use Rattle.values.specs.Items.{pick, same, inOrder}
 

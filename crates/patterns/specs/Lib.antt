@@ -2,4 +2,14 @@ pub mod Ways
 pub mod Binding
 pub mod Pattern
 pub mod Binder
+pub mod Members
+pub mod Units
+pub mod Ordered
+pub mod Relation
+pub mod Matched
+pub mod Single
+pub mod Named
+pub mod Chopped
+pub mod Forming
+pub mod Plain
 pub mod Samples

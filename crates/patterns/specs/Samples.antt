@@ -3,7 +3,8 @@ use mathlib.Core.Path.{_≡_, refl}
 use mathlib.Core.List.{List, [], _∷_, map}
 use Prim.Native.Nat.{ℕ}
 use lib.IntN.{pos}
-use Rattle.values.specs.Value.{Value, integer, collection, set, orderℕ, orderℤ, within}
+use Rattle.values.specs.Value.{Value, integer, collection, set, within}
+use Rattle.integers.specs.Order.{orderℕ, orderℤ}
 use Rattle.patterns.specs.Ways.{gather, exists, splits, orders, placed}
 use Rattle.patterns.specs.Binding.{Binding, Cell, is, cellOf, sorted, place, orderBindings, together, withEach, consistent, merge}
 use Rattle.patterns.specs.Pattern.{name, any, each, halved, nil, cons, itemsOf, listOf, parts, matches, wide}

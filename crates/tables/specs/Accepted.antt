@@ -104,7 +104,7 @@ cut-some bound bytes h e =
     go false false true f k = omega arith
     go false false false f k = never k
 
-some-cut : (table : List ℕ) → eqb (length table) 0 ≡ false → cut table .whole ≡ true → 0 < length (records table)
+pub some-cut : (table : List ℕ) → eqb (length table) 0 ≡ false → cut table .whole ≡ true → 0 < length (records table)
 unfolding cut
 some-cut [] h e = never (sym h)
 some-cut (b ∷ bytes) h e = cut-some (length bytes) (b ∷ bytes) (omega arith) e
@@ -249,12 +249,12 @@ first-free Body b e = never e
 first-free Pattern b e = refl
 first-free Name b e = refl
 
-first-sort : (role : Role) (r : Record) → isFirst role ≡ true → isOfSort role r ≡ true → isPattern (r .kind) ≡ true
-first-sort Plain r e f = never e
-first-sort Condition r e f = never e
-first-sort Body r e f = never e
-first-sort Pattern r e f = f
-first-sort Name r e f = rw (eqb-true (r .kind) 32 f)
+first-sort : (role : Role) (k : ℕ) → isFirst role ≡ true → isOfSort role k ≡ true → isPattern k ≡ true
+first-sort Plain k e f = never e
+first-sort Condition k e f = never e
+first-sort Body k e f = never e
+first-sort Pattern k e f = f
+first-sort Name k e f = rw (eqb-true k 32 f)
 
 -- A binder has at least three operands, and the first is its pattern.
 binder-roles : (k : ℕ) → isBinder k ≡ true → isFirst (getD (shape k .roles) 0 Plain) && leb 3 (shape k .least) ≡ true
@@ -278,16 +278,19 @@ greatest-all f [] i h = absurd (omega arith)
 greatest-all f (m ∷ ms) zero h = omega arith
 greatest-all f (m ∷ ms) (suc i) h = omega (arith, greatest-all f ms i (omega arith))
 
--- ---- of a table that breaks no rule
+-- ---- of a table that keeps rule 6
 
-module _ (rs : List Record) (fine : Fine rs) where
+abbrev pub Clear6 : List Record → Type 0
+Clear6 rs = (r : ℕ) → r < length rs → fault6 rs r ≡ false
+
+module _ (rs : List Record) (clear6 : Clear6 rs) where
   -- Operand i of record r.
   module _ (r i : ℕ) (in-table : r < length rs) (is-operand : i < length (named (recordAt rs r))) where
     good : isBad rs r i ≡ false
     unfolding fault6
     good =
         any-none (isBad rs r) (length (named (recordAt rs r)))
-        (or-left (any (isBad rs r) (length (named (recordAt rs r)))) _ (fine .clear6 r in-table)) i is-operand
+        (or-left (any (isBad rs r) (length (named (recordAt rs r)))) _ (clear6 r in-table)) i is-operand
 
     -- Every operand is lower.
     pub operand-lower : operand (recordAt rs r) i < r
@@ -295,13 +298,13 @@ module _ (rs : List Record) (fine : Fine rs) where
         ltb-true _ _ (not-not _ (or-left (not (ltb (operand (recordAt rs r) i) r)) _ (or-left _ (isIn (operand (recordAt rs r) i) (namedBefore rs r i)) good)))
 
     -- Every operand is of its sort.
-    pub operand-sort : isOfSort (roleAt (recordAt rs r) i) (recordAt rs (operand (recordAt rs r) i)) ≡ true
+    pub operand-sort : isOfSort (roleAt (recordAt rs r) i) (kindAt rs (operand (recordAt rs r) i)) ≡ true
     operand-sort =
         not-not _ (or-right (not (ltb (operand (recordAt rs r) i) r)) _ (or-left _ (isIn (operand (recordAt rs r) i) (namedBefore rs r i)) good))
 
     -- It is named by no lower record, and by no earlier operand.
     pub operand-first : isIn (operand (recordAt rs r) i) (namedBefore rs r i) ≡ false
-    operand-first = or-right (not (ltb (operand (recordAt rs r) i) r) || not (isOfSort (roleAt (recordAt rs r) i) (recordAt rs (operand (recordAt rs r) i)))) _ good
+    operand-first = or-right (not (ltb (operand (recordAt rs r) i) r) || not (isOfSort (roleAt (recordAt rs r) i) (kindAt rs (operand (recordAt rs r) i)))) _ good
 
     -- Its record is the one that names it, for what its place says.
     pub operand-parent : parent rs (operand (recordAt rs r) i) ≡ r
@@ -339,6 +342,35 @@ module _ (rs : List Record) (fine : Fine rs) where
   unfolding inCondition
   condition-last r e = climb-top (λ q role up. isCondition role || up) false rs lower r (last-top r e)
 
+  -- ---- what lies below
+
+  -- What a pattern holds.
+  pub holds-at : (p n : ℕ) → p < length rs → holdsName rs p n ≡ isName n (recordAt rs p) || some (map (λ q. holdsName rs q n) (named (recordAt rs p)))
+  unfolding holdsName
+  holds-at p n h = fold-at (λ q bs. isName n (recordAt rs q) || some bs) false rs lower p h
+
+  pub height-at : (r : ℕ) → r < length rs → height rs r ≡ suc (greatest (map (height rs) (named (recordAt rs r))))
+  unfolding height
+  height-at r h = fold-at (λ q hs. suc (greatest hs)) 0 rs lower r h
+
+  -- Heights fall from a record to its operands.
+  pub height-operand : (r i : ℕ) → r < length rs → i < length (named (recordAt rs r)) → height rs (operand (recordAt rs r) i) < height rs r
+  height-operand r i h k = omega (arith, height-at r h, greatest-all (height rs) (named (recordAt rs r)) i k)
+
+  -- Every record but the last is named.
+  pub named-all : (r : ℕ) → suc r < length rs → isIn r (allNamed rs) ≡ true
+  unfolding fault6
+  named-all r h =
+      not-not _ (rw (ne-eqb (suc r) (length rs) (omega arith)) at (or-right (any (isBad rs r) (length (named (recordAt rs r)))) _ (clear6 r (omega arith))))
+
+  -- The last is no pattern.
+  pub last-sort : (r : ℕ) → suc r ≡ length rs → isPattern (kindAt rs r) ≡ false
+  unfolding fault6
+  last-sort r e = rw (eq-eqb (suc r) (length rs) e) at (or-right (any (isBad rs r) (length (named (recordAt rs r)))) _ (clear6 r (omega arith)))
+
+-- ---- of a table that breaks no rule
+
+module _ (rs : List Record) (fine : Fine rs) where
   -- ---- names
 
   -- Every name that is read is bound around it.
@@ -346,11 +378,6 @@ module _ (rs : List Record) (fine : Fine rs) where
   unfolding fault7
   name-bound r h e =
       not-not _ (rw (eq-eqb (kindAt rs r) 3 e) at (or-left (eqb (kindAt rs r) 3 && not (isBound rs r (nameOf (recordAt rs r)))) _ (fine .clear7 r h)))
-
-  -- What a pattern holds.
-  holds-at : (p n : ℕ) → p < length rs → holdsName rs p n ≡ isName n (recordAt rs p) || some (map (λ q. holdsName rs q n) (named (recordAt rs p)))
-  unfolding holdsName
-  holds-at p n h = fold-at (λ rec bs. isName n rec || some bs) false rs lower p h
 
   own-fresh : (p n : ℕ) → p < length rs → isName n (recordAt rs p) ≡ true → isBound rs p n ≡ false
   unfolding fault7
@@ -363,16 +390,16 @@ module _ (rs : List Record) (fine : Fine rs) where
   fresh-below : (bound p n : ℕ) → p < bound → p < length rs → isPattern (kindAt rs p) ≡ true → holdsName rs p n ≡ true → isBound rs p n ≡ false
   fresh-below zero p n b h e f = absurd (omega arith)
   fresh-below (suc bound) p n b h e f =
-      go (isName n (recordAt rs p)) refl (sym (holds-at p n h) ∙ f) (λ q m l g k. fresh-below bound q n m l g k)
+      go (isName n (recordAt rs p)) refl (sym (holds-at rs (fine .clear6) p n h) ∙ f) (λ q m l g k. fresh-below bound q n m l g k)
     where
       go : (t : Bool) → isName n (recordAt rs p) ≡ t → t || some (map (λ q. holdsName rs q n) (named (recordAt rs p))) ≡ true → ((q : ℕ) → q < bound → q < length rs → isPattern (kindAt rs q) ≡ true → holdsName rs q n ≡ true → isBound rs q n ≡ false) → isBound rs p n ≡ false
       go true g k rec = own-fresh p n h g
       go false g k rec =
           let at = some-place (λ q. holdsName rs q n) (named (recordAt rs p)) k in
-          let lw : operand (recordAt rs p) (at .0) < p = operand-lower p (at .0) h (at .1) in
+          let lw : operand (recordAt rs p) (at .0) < p = operand-lower rs (fine .clear6) p (at .0) h (at .1) in
           let role : roleAt (recordAt rs p) (at .0) ≡ Pattern = pattern-role (recordAt rs p) (at .0) e (at .1) in
-          let sort : isPattern (kindAt rs (operand (recordAt rs p) (at .0))) ≡ true = rw role at (operand-sort p (at .0) h (at .1)) in
-          rw role at (sym (bound-operand p (at .0) n h (at .1))) ∙ rec (operand (recordAt rs p) (at .0)) (omega arith) (omega arith) sort (at .2)
+          let sort : isPattern (kindAt rs (operand (recordAt rs p) (at .0))) ≡ true = rw role at (operand-sort rs (fine .clear6) p (at .0) h (at .1)) in
+          rw role at (sym (bound-operand rs (fine .clear6) p (at .0) n h (at .1))) ∙ rec (operand (recordAt rs p) (at .0)) (omega arith) (omega arith) sort (at .2)
 
   -- No pattern binds a name that is bound around its binder.
   pub binder-fresh : (r n : ℕ) → r < length rs → isBinder (kindAt rs r) ≡ true → holdsName rs (patternOf rs r) n ≡ true → isBound rs r n ≡ false
@@ -381,9 +408,9 @@ module _ (rs : List Record) (fine : Fine rs) where
       let p0 : isFirst (roleAt (recordAt rs r) 0) ≡ true = and-left _ (leb 3 (shape (kindAt rs r) .least)) roles in
       let few : 3 ≤ shape (kindAt rs r) .least = leb-true _ _ (and-right (isFirst (roleAt (recordAt rs r) 0)) _ roles) in
       let one : 0 < length (named (recordAt rs r)) = omega (arith, named-count (recordAt rs r) (fine .fit r h), fit-least (recordAt rs r) (fine .fit r h)) in
-      let lw : patternOf rs r < r = operand-lower r 0 h one in
-      let free : isBound rs (patternOf rs r) n ≡ false = fresh-below r (patternOf rs r) n lw (omega arith) (first-sort (roleAt (recordAt rs r) 0) (recordAt rs (patternOf rs r)) p0 (operand-sort r 0 h one)) f in
-      rw (first-free (roleAt (recordAt rs r) 0) (holdsName rs (patternOf rs r) n) p0) at (sym (bound-operand r 0 n h one)) ∙ free
+      let lw : patternOf rs r < r = operand-lower rs (fine .clear6) r 0 h one in
+      let free : isBound rs (patternOf rs r) n ≡ false = fresh-below r (patternOf rs r) n lw (omega arith) (first-sort (roleAt (recordAt rs r) 0) (kindAt rs (patternOf rs r)) p0 (operand-sort rs (fine .clear6) r 0 h one)) f in
+      rw (first-free (roleAt (recordAt rs r) 0) (holdsName rs (patternOf rs r) n) p0) at (sym (bound-operand rs (fine .clear6) r 0 n h one)) ∙ free
 
   -- ---- choices
 
@@ -394,30 +421,12 @@ module _ (rs : List Record) (fine : Fine rs) where
 
   -- ---- heights
 
-  pub height-at : (r : ℕ) → r < length rs → height rs r ≡ suc (greatest (map (height rs) (named (recordAt rs r))))
-  unfolding height
-  height-at r h = fold-at (λ rec hs. suc (greatest hs)) 0 rs lower r h
-
-  -- Heights fall from a record to its operands, and are at most 32.
-  pub height-operand : (r i : ℕ) → r < length rs → i < length (named (recordAt rs r)) → height rs (operand (recordAt rs r) i) < height rs r
-  height-operand r i h k = omega (arith, height-at r h, greatest-all (height rs) (named (recordAt rs r)) i k)
-
+  -- At most 32.
   pub height-most : (r : ℕ) → r < length rs → height rs r ≤ mostHeight
   unfolding fault9
   height-most r h = ltb-false mostHeight (height rs r) (fine .clear9 r h)
 
-  -- ---- the last record, and integers
-
-  -- Every record but the last is named.
-  pub named-all : (r : ℕ) → suc r < length rs → isIn r (allNamed rs) ≡ true
-  unfolding fault6
-  named-all r h =
-      not-not _ (rw (ne-eqb (suc r) (length rs) (omega arith)) at (or-right (any (isBad rs r) (length (named (recordAt rs r)))) _ (fine .clear6 r (omega arith))))
-
-  -- The last is no pattern.
-  pub last-sort : (r : ℕ) → suc r ≡ length rs → isPattern (kindAt rs r) ≡ false
-  unfolding fault6
-  last-sort r e = rw (eq-eqb (suc r) (length rs) e) at (or-right (any (isBad rs r) (length (named (recordAt rs r)))) _ (fine .clear6 r (omega arith)))
+  -- ---- integers
 
   -- Integer literals are in range.
   pub integer-range : (r : ℕ) → r < length rs → headOf (recordAt rs r) ≡ integer → InRange (integerOf (recordAt rs r))

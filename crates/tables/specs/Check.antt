@@ -26,13 +26,13 @@ mostHeight = 32
 
 -- ---- rule 6
 
--- The record is of the sort that the role asks for. In 17 and 19 P is kind 32.
-abbrev pub isOfSort : Role → Record → Bool
-isOfSort Plain r = isExpression (r .kind)
-isOfSort Condition r = isExpression (r .kind)
-isOfSort Body r = isExpression (r .kind)
-isOfSort Pattern r = isPattern (r .kind)
-isOfSort Name r = eqb (r .kind) 32
+-- A record of this kind is of the sort that the role asks for. In 17 and 19 P is kind 32.
+abbrev pub isOfSort : Role → ℕ → Bool
+isOfSort Plain kind = isExpression kind
+isOfSort Condition kind = isExpression kind
+isOfSort Body kind = isExpression kind
+isOfSort Pattern kind = isPattern kind
+isOfSort Name kind = eqb kind 32
 
 -- All numbers that the records name, in order.
 abbrev pub allNamed : List Record → List ℕ
@@ -46,13 +46,19 @@ namedBefore rs r i = allNamed (take r rs) ++ take i (named (recordAt rs r))
 -- Operand i of record r is not lower, of the wrong sort, or named before.
 abbrev pub isBad : List Record → ℕ → ℕ → Bool
 isBad rs r i =
-    not (ltb (operand (recordAt rs r) i) r) || not (isOfSort (roleAt (recordAt rs r) i) (recordAt rs (operand (recordAt rs r) i)))
+    not (ltb (operand (recordAt rs r) i) r) || not (isOfSort (roleAt (recordAt rs r) i) (kindAt rs (operand (recordAt rs r) i)))
     || isIn (operand (recordAt rs r) i) (namedBefore rs r i)
+
+abbrev pub hasBad : List Record → ℕ → Bool
+hasBad rs r = any (isBad rs r) (length (named (recordAt rs r)))
+
+-- A record never named, or a pattern as the last.
+abbrev pub isStray : List Record → ℕ → Bool
+isStray rs r = pick (eqb (suc r) (length rs)) (isPattern (kindAt rs r)) (not (isIn r (allNamed rs)))
 
 -- Rule 6: an operand not lower, of the wrong sort, or named before; a record never named; a pattern as the last.
 unfoldable pub fault6 : List Record → ℕ → Bool
-fault6 rs r =
-    any (isBad rs r) (length (named (recordAt rs r))) || pick (eqb (suc r) (length rs)) (isPattern (kindAt rs r)) (not (isIn r (allNamed rs)))
+fault6 rs r = hasBad rs r || isStray rs r
 
 -- ---- rules 7 to 9
 

@@ -174,22 +174,22 @@ map-same f g (m ∷ ms) e =
     let there : map f ms ≡ map g ms = map-same f g ms (λ i h. e (suc i) (omega arith)) in
     cc
 
-module _ {A : Type 0} (node : Record → List A → A) (none : A) (rs : List Record) (lower : Lower rs) where
+module _ {A : Type 0} (node : ℕ → List A → A) (none : A) (rs : List Record) (lower : Lower rs) where
   -- Every bound above the record's number gives the same.
   fold-enough : (b d r : ℕ) → r < b → r < d → r < length rs → foldBy node none rs b r ≡ foldBy node none rs d r
   unfolding foldBy
   fold-enough zero d r h k l = absurd (omega arith)
   fold-enough (suc b) zero r h k l = absurd (omega arith)
   fold-enough (suc b) (suc d) r h k l =
-      ap (node (recordAt rs r))
+      ap (node r)
       (map-same (λ n. foldBy node none rs b n) (λ n. foldBy node none rs d n) (named (recordAt rs r))
       (λ i m. fold-enough b d (operand (recordAt rs r) i) (omega (arith, lower r i l m)) (omega (arith, lower r i l m)) (omega (arith, lower r i l m))))
 
   -- What a record gives, by what its operands give.
-  pub fold-at : (r : ℕ) → r < length rs → fold node none rs r ≡ node (recordAt rs r) (map (fold node none rs) (named (recordAt rs r)))
+  pub fold-at : (r : ℕ) → r < length rs → fold node none rs r ≡ node r (map (fold node none rs) (named (recordAt rs r)))
   unfolding foldBy
   fold-at r l =
-      ap (node (recordAt rs r))
+      ap (node r)
       (map-same (λ n. foldBy node none rs r n) (fold node none rs) (named (recordAt rs r))
       (λ i m. fold-enough r (suc (operand (recordAt rs r) i)) (operand (recordAt rs r) i) (lower r i l m) (omega arith) (omega (arith, lower r i l m))))
 

@@ -4,4 +4,6 @@ pub mod Sheet
 pub mod Check
 pub mod Laws
 pub mod Accepted
+pub mod Shapes
+pub mod Reading
 pub mod Sample

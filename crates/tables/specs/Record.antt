@@ -1,13 +1,11 @@
 -- Document 01, "Table records": a record, and the shape of each kind.
 use mathlib.Core.Bool.{Bool, true, false, not, _&&_, _||_}
 use mathlib.Core.List.{List, [], _∷_, map}
-use Prim.Native.Nat.{ℕ, zero, suc, _+_, _*_, _-_, _%_}
+use Prim.Native.Nat.{ℕ, zero, suc, _+_, _-_, _%_}
 use lib.IntN.{ℤ}
 use lib.Dec.{eqb, ltb, leb}
 use lib.ListN.{length, getD, drop, replicate}
-use mir.Syntax.{w32}
-use mir.Val.{toZ}
-use Rattle.integers.specs.Bytes.{word}
+use Rattle.integers.specs.Bytes.{integerAt}
 use Rattle.integers.specs.Whole.{inRange}
 use Rattle.tables.specs.declared.Role.{Role}
 use Rattle.tables.specs.declared.Role.the-variants.{Plain, Condition, Body, Pattern, Name}
@@ -126,7 +124,7 @@ abbrev pub booleanOf : Record → Bool
 booleanOf r = eqb (field r 0) 1
 
 abbrev pub integerOf : Record → ℤ
-integerOf r = toZ w32 (word (r .fields) 0 + 65536 * word (r .fields) 2)
+integerOf r = integerAt (r .fields) 0
 
 -- The number of bytes that a head takes.
 abbrev pub size : Head → ℕ

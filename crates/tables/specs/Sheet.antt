@@ -38,16 +38,16 @@ greatest (n ∷ ns) = max n (greatest ns)
 -- ---- below a record
 
 -- What a record gives, by what its operands give: operands are lower than their record, so recursion on a bound above its number reaches all.
-unfoldable pub foldBy : {A : Type 0} → (Record → List A → A) → A → List Record → ℕ → ℕ → A
+unfoldable pub foldBy : {A : Type 0} → (ℕ → List A → A) → A → List Record → ℕ → ℕ → A
 foldBy node none rs zero r = none
-foldBy node none rs (suc bound) r = node (recordAt rs r) (map (λ n. foldBy node none rs bound n) (named (recordAt rs r)))
+foldBy node none rs (suc bound) r = node r (map (λ n. foldBy node none rs bound n) (named (recordAt rs r)))
 
-abbrev pub fold : {A : Type 0} → (Record → List A → A) → A → List Record → ℕ → A
+abbrev pub fold : {A : Type 0} → (ℕ → List A → A) → A → List Record → ℕ → A
 fold node none rs r = foldBy node none rs (suc r) r
 
 -- The record r or one below it passes the test.
 abbrev pub holds : (Record → Bool) → List Record → ℕ → Bool
-holds test rs r = fold (λ rec bs. test rec || some bs) false rs r
+holds test rs r = fold (λ q bs. test (recordAt rs q) || some bs) false rs r
 
 -- A pattern holds the name n: it is, or has below it, a pattern of kind 32 with that name.
 abbrev pub isName : ℕ → Record → Bool
@@ -65,7 +65,7 @@ loose rs p = holds isLoose rs p
 
 -- A record without operands has height 1, others one more than the highest operand.
 unfoldable pub height : List Record → ℕ → ℕ
-height rs r = fold (λ rec hs. suc (greatest hs)) 0 rs r
+height rs r = fold (λ q hs. suc (greatest hs)) 0 rs r
 
 -- ---- above a record
 

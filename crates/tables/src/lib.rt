@@ -1,4 +1,13 @@
 // Tables of records: what a record's operands are for, and what the check of a table answers.
+pub mod reading;
+pub mod shape;
+
+// The greatest number of bytes of a table, and of records in it; the greatest height.
+pub const MOST_BYTES: usize = 2400;
+
+pub const MOST_RECORDS: usize = 200;
+
+pub const MOST_HEIGHT: usize = 32;
 
 // What an operand is for.
 pub enum Role {

@@ -6,13 +6,14 @@ use Prim.Native.Nat.{ℕ, _+_, _≤_}
 use native.Mathlib.Omega.{arith}
 use lib.ListN.{length}
 use Rattle.integers.specs.Bytes.{word}
-use Rattle.values.specs.declared.Order.{Order}
-use Rattle.values.specs.declared.Order.the-variants.{Lower, Same, Higher}
-use Rattle.values.specs.Value.{Kind, number, Value, boolean, integer, collection, Items, kindOf, byteOf, after, orderℕ, orderℤ, within, orderItems, order}
+use Rattle.integers.specs.declared.Order.{Order}
+use Rattle.integers.specs.declared.Order.the-variants.{Lower, Same, Higher}
+use Rattle.values.specs.Value.{Kind, number, Value, boolean, integer, collection, Items, kindOf, byteOf, after, within, orderItems, order}
+use Rattle.integers.specs.Order.{orderℕ, orderℤ}
 use Rattle.values.specs.Items.{isSame}
 use Rattle.values.specs.Place.{At, ItemsAt, Holds, HoldsItems}
 use Rattle.values.specs.Contract.{Length, KindAt, Both, Ordered, OrderedItems, Equal}
-use Rattle.values.specs.Laws.{same-eq, eq-same}
+use Rattle.integers.specs.Ordered.{same-eq, eq-same}
 use Rattle.values.specs.Records.{one-value, is-collection, items-to, items-none, run-of, holds}
 
 -- ---- two values

@@ -12,8 +12,9 @@ use mir.Syntax.{w32}
 use mir.Val.{SFits, toZ, ofZ}
 use mir.ValLaws.{toZ-ofZ}
 use Rattle.integers.specs.Bytes.{word, integerAt}
-use Rattle.values.specs.declared.Order.the-variants.{Lower, Same, Higher}
-use Rattle.values.specs.Value.{set, sequence, map, tuple, Value, boolean, integer, collection, kindOf, size, byteOf, orderℤ}
+use Rattle.integers.specs.declared.Order.the-variants.{Lower, Same, Higher}
+use Rattle.values.specs.Value.{set, sequence, map, tuple, Value, boolean, integer, collection, kindOf, size, byteOf}
+use Rattle.integers.specs.Order.{orderℤ}
 use Rattle.values.specs.Place.{At, Holds}
 use Rattle.values.specs.Contract.{Length, KindAt}
 use Rattle.values.specs.Records.{word-size, word-kind, boolean-at, integer-at, is-boolean, is-integer}

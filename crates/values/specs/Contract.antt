@@ -8,7 +8,7 @@ use Prim.Native.Nat.{ℕ, _+_, _-_, _≤_}
 use lib.ListN.{length, take, drop, replicate}
 use lib.Seq.{sets}
 use Rattle.integers.specs.Bytes.{word}
-use Rattle.values.specs.declared.Order.{Order}
+use Rattle.integers.specs.declared.Order.{Order}
 use Rattle.values.specs.declared.Value.{Value as Copy}
 use Rattle.values.specs.Value.{Value, Items, kindOf, size, encode, order, orderItems, limit}
 use Rattle.values.specs.Items.{same}

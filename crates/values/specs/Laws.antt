@@ -9,104 +9,12 @@ use lib.IntN.{ℤ, pos, negsuc}
 use lib.Signed.{ltZ}
 use lib.Dec.{ltb, eqb}
 use borrow.Author.Tests.{ltb-true, ltb-false, lt-ltb, le-ltb}
-use Rattle.values.specs.declared.Order.{Order}
-use Rattle.values.specs.declared.Order.the-variants.{Lower, Same, Higher}
-use Rattle.values.specs.Value.{Kind, set, sequence, map, tuple, Value, boolean, integer, collection, Items, none, more, number, kindOf, byteOf, after, orderBy, orderℕ, orderℤ, within, orderItems, order}
+use Rattle.integers.specs.declared.Order.{Order}
+use Rattle.integers.specs.declared.Order.the-variants.{Lower, Same, Higher}
+use Rattle.values.specs.Value.{Kind, set, sequence, map, tuple, Value, boolean, integer, collection, Items, none, more, number, kindOf, byteOf, after, within, orderItems, order}
+use Rattle.integers.specs.Order.{orderℕ, orderℤ}
+use Rattle.integers.specs.Ordered.{flip, lower-lt, lt-lower, gt-higher, same-eq, eq-same, flip-order, same-eqZ, flip-orderZ, lower-trans}
 use Rattle.values.specs.Items.{isSame, same}
-
--- The answer for the two the other way round.
-abbrev pub flip : Order → Order
-flip Lower = Higher
-flip Same = Same
-flip Higher = Lower
-
--- ---- two tests
-
--- what each answer says of the two tests
-by-lower : (s t : Bool) → orderBy s t ≡ Lower → s ≡ true
-by-lower true t e = refl
-by-lower false true e = cc
-by-lower false false e = cc
-
-by-same : (s t : Bool) → orderBy s t ≡ Same → (s ≡ false) × (t ≡ false)
-by-same true t e = (cc, cc)
-by-same false true e = (cc, cc)
-by-same false false e = (refl, refl)
-
-by-flip : (s t : Bool) → (s ≡ true → t ≡ true → ⊥) → orderBy t s ≡ flip (orderBy s t)
-by-flip true true f = absurd (f refl refl)
-by-flip true false f = refl
-by-flip false true f = refl
-by-flip false false f = refl
-
--- ---- numbers
-
-pub lower-lt : (a b : ℕ) → orderℕ a b ≡ Lower → a < b
-unfolding orderℕ
-lower-lt a b e = ltb-true a b (by-lower (ltb a b) (ltb b a) e)
-
-pub lt-lower : (a b : ℕ) → a < b → orderℕ a b ≡ Lower
-unfolding orderℕ
-lt-lower a b h = rw (lt-ltb a b h)
-
-pub gt-higher : (a b : ℕ) → b < a → orderℕ a b ≡ Higher
-unfolding orderℕ
-gt-higher a b h =
-    let g : b ≤ a = omega arith in
-    rw (le-ltb a b g, lt-ltb b a h)
-
-pub same-eq : (a b : ℕ) → orderℕ a b ≡ Same → a ≡ b
-unfolding orderℕ
-same-eq a b e =
-    let h = by-same (ltb a b) (ltb b a) e in
-    omega (arith, ltb-false a b (h .0), ltb-false b a (h .1))
-
-pub eq-same : (a b : ℕ) → a ≡ b → orderℕ a b ≡ Same
-unfolding orderℕ
-eq-same a b e =
-    let g : b ≤ a = omega arith in
-    let h : a ≤ b = omega arith in
-    rw (le-ltb a b g, le-ltb b a h)
-
-pub flipℕ : (a b : ℕ) → orderℕ b a ≡ flip (orderℕ a b)
-unfolding orderℕ
-flipℕ a b = by-flip (ltb a b) (ltb b a) (λ p q. omega (arith, ltb-true a b p, ltb-true b a q))
-
--- ---- integers
-
-eqZ : (a b : ℤ) → ltZ a b ≡ false → ltZ b a ≡ false → a ≡ b
-eqZ (pos a) (pos b) p q = ap pos (omega (arith, ltb-false a b p, ltb-false b a q))
-eqZ (pos a) (negsuc b) p q = cc
-eqZ (negsuc a) (pos b) p q = cc
-eqZ (negsuc a) (negsuc b) p q = ap negsuc (omega (arith, ltb-false b a p, ltb-false a b q))
-
-asymZ : (a b : ℤ) → ltZ a b ≡ true → ltZ b a ≡ true → ⊥
-asymZ (pos a) (pos b) p q = omega (arith, ltb-true a b p, ltb-true b a q)
-asymZ (pos a) (negsuc b) p q = let z : _≡_ {A = ℕ} 0 1 = cc in omega arith
-asymZ (negsuc a) (pos b) p q = let z : _≡_ {A = ℕ} 0 1 = cc in omega arith
-asymZ (negsuc a) (negsuc b) p q = omega (arith, ltb-true b a p, ltb-true a b q)
-
-transZ : (a b c : ℤ) → ltZ a b ≡ true → ltZ b c ≡ true → ltZ a c ≡ true
-transZ (pos a) (pos b) (pos c) p q = lt-ltb a c (omega (arith, ltb-true a b p, ltb-true b c q))
-transZ (pos a) (pos b) (negsuc c) p q = q
-transZ (pos a) (negsuc b) (pos c) p q = cc
-transZ (pos a) (negsuc b) (negsuc c) p q = p
-transZ (negsuc a) (pos b) (pos c) p q = refl
-transZ (negsuc a) (pos b) (negsuc c) p q = cc
-transZ (negsuc a) (negsuc b) (pos c) p q = refl
-transZ (negsuc a) (negsuc b) (negsuc c) p q = lt-ltb c a (omega (arith, ltb-true b a p, ltb-true c b q))
-
-pub same-eqZ : (a b : ℤ) → orderℤ a b ≡ Same → a ≡ b
-unfolding orderℤ
-same-eqZ a b e = let h = by-same (ltZ a b) (ltZ b a) e in eqZ a b (h .0) (h .1)
-
-pub flipℤ : (a b : ℤ) → orderℤ b a ≡ flip (orderℤ a b)
-unfolding orderℤ
-flipℤ a b = by-flip (ltZ a b) (ltZ b a) (asymZ a b)
-
-pub lowerℤ : (a b c : ℤ) → orderℤ a b ≡ Lower → orderℤ b c ≡ Lower → orderℤ a c ≡ Lower
-unfolding orderℤ
-lowerℤ a b c p q = rw (transZ a b c (by-lower (ltZ a b) (ltZ b a) p) (by-lower (ltZ b c) (ltZ c b) q))
 
 -- ---- one after another
 
@@ -192,11 +100,11 @@ mutual
   unfolding within
 
   within-flip : (v w : Value) → within w v ≡ flip (within v w)
-  within-flip (boolean a) (boolean b) = flipℕ (byteOf a) (byteOf b)
+  within-flip (boolean a) (boolean b) = flip-order (byteOf a) (byteOf b)
   within-flip (boolean a) (integer b) = refl
   within-flip (boolean a) (collection l b) = refl
   within-flip (integer a) (boolean b) = refl
-  within-flip (integer a) (integer b) = flipℤ a b
+  within-flip (integer a) (integer b) = flip-orderZ a b
   within-flip (integer a) (collection l b) = refl
   within-flip (collection h a) (boolean b) = refl
   within-flip (collection h a) (integer b) = refl
@@ -208,14 +116,14 @@ mutual
   items-flip (more v vs) none = refl
   items-flip (more v vs) (more w ws) =
       ap₂ after
-      (ap₂ after (flipℕ (kindOf v) (kindOf w)) (within-flip v w) ∙ after-flip (orderℕ (kindOf v) (kindOf w)) (within v w))
+      (ap₂ after (flip-order (kindOf v) (kindOf w)) (within-flip v w) ∙ after-flip (orderℕ (kindOf v) (kindOf w)) (within v w))
       (items-flip vs ws)
       ∙ after-flip (order v w) (orderItems vs ws)
 
 -- THEOREM: the order of the two the other way round is the flipped answer
 pub order-flip : (v w : Value) → order w v ≡ flip (order v w)
 order-flip v w =
-    ap₂ after (flipℕ (kindOf v) (kindOf w)) (within-flip v w) ∙ after-flip (orderℕ (kindOf v) (kindOf w)) (within v w)
+    ap₂ after (flip-order (kindOf v) (kindOf w)) (within-flip v w) ∙ after-flip (orderℕ (kindOf v) (kindOf w)) (within v w)
 
 -- ---- lower is transitive
 
@@ -246,7 +154,7 @@ mutual
   within-lower (boolean a) (collection l b) w p q = cc
   within-lower (integer a) (boolean b) w p q = cc
   within-lower (integer a) (integer b) (boolean c) p q = q
-  within-lower (integer a) (integer b) (integer c) p q = lowerℤ a b c p q
+  within-lower (integer a) (integer b) (integer c) p q = lower-trans a b c p q
   within-lower (integer a) (integer b) (collection m c) p q = q
   within-lower (integer a) (collection l b) w p q = cc
   within-lower (collection h a) (boolean b) w p q = cc

@@ -7,4 +7,4 @@ pub mod Records
 pub mod Frame
 pub mod Written
 pub mod Contract
-pub mod Moves
+pub mod Promises

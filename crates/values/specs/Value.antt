@@ -7,12 +7,11 @@ use Prim.Native.Nat.{ℕ, suc, _+_, _/_, _%_, _≤_}
 use lib.IntN.{ℤ}
 use lib.Signed.{ltZ}
 use lib.Dec.{ltb}
-use mir.Syntax.{w32}
-use mir.Val.{ofZ}
-use Rattle.integers.specs.Bytes.{four}
+use Rattle.integers.specs.Bytes.{integerBytes}
 use Rattle.integers.specs.Whole.{InRange}
-use Rattle.values.specs.declared.Order.{Order}
-use Rattle.values.specs.declared.Order.the-variants.{Lower, Same, Higher}
+use Rattle.integers.specs.Order.{orderℕ, orderℤ}
+use Rattle.integers.specs.declared.Order.{Order}
+use Rattle.integers.specs.declared.Order.the-variants.{Lower, Same, Higher}
 
 -- ---- values
 
@@ -86,7 +85,7 @@ headed n k bytes = n % 256 ∷ n / 256 ∷ k % 256 ∷ k / 256 ∷ bytes
 unfoldable mutual
   pub encode : Value → List ℕ
   encode (boolean b) = headed 5 1 (byteOf b ∷ [])
-  encode (integer z) = headed 8 2 (four (ofZ w32 z))
+  encode (integer z) = headed 8 2 (integerBytes z)
   encode (collection k vs) = headed (4 + sizes vs) (number k) (encodeItems vs)
 
   pub encodeItems : Items → List ℕ
@@ -100,18 +99,6 @@ abbrev pub after : Order → Order → Order
 after Lower o = Lower
 after Same o = o
 after Higher o = Higher
-
--- By two tests: that the first is lower, and that the second is.
-abbrev pub orderBy : Bool → Bool → Order
-orderBy true b = Lower
-orderBy false true = Higher
-orderBy false false = Same
-
-unfoldable pub orderℕ : ℕ → ℕ → Order
-orderℕ a b = orderBy (ltb a b) (ltb b a)
-
-unfoldable pub orderℤ : ℤ → ℤ → Order
-orderℤ a b = orderBy (ltZ a b) (ltZ b a)
 
 -- Within one kind: false before true; integers by size; the others item by item, a prefix before what extends it.
 -- (Two kinds never meet here: `order` has told them apart, so what stands for them is of no account.)

@@ -1,19 +1,13 @@
 // Values as records in a lent slice: read, compared, written and copied where they lie, and handed out.
+use integers::Order;
 ghost use mathlib.Core.Path.{_≡_};
 ghost use Prim.Native.Nat.{_+_, _≤_, _<_};
 ghost use mathlib.Core.List.{[]};
 ghost use lib.ListN.{length};
 ghost use Rattle.integers.specs.Whole.{InRange};
-ghost use Rattle.values.specs.Value.{boolean, integer, orderℕ, orderℤ};
+ghost use Rattle.values.specs.Value.{boolean, integer};
 ghost use Rattle.values.specs.Place.{At, Holds, HoldsItems};
 ghost use Rattle.values.specs.Contract.{Length, KindAt, OfKind, Both, Ordered, OrderedItems, Equal, Shows, ShowsAt, PutHead, Put, Movable, Moved, Copyable, Copied};
-
-// How two values stand to each other in the order.
-pub enum Order {
-    Lower,
-    Same,
-    Higher,
-}
 
 // A value that is handed out: its record, and zeros after it.
 pub struct Value {
@@ -90,30 +84,6 @@ pub fn integer_at(s: &[u8], at: usize) -> i32
 
 // ---- comparing
 
-fn order_numbers(a: usize, b: usize) -> Order
-    ensures { λ r. ⌜ r ≡ orderℕ a b ⌝ }
-{
-    if a < b {
-        Order::Lower
-    } else if b < a {
-        Order::Higher
-    } else {
-        Order::Same
-    }
-}
-
-fn order_integers(a: i32, b: i32) -> Order
-    ensures { λ r. ⌜ r ≡ orderℤ a b ⌝ }
-{
-    if a < b {
-        Order::Lower
-    } else if b < a {
-        Order::Higher
-    } else {
-        Order::Same
-    }
-}
-
 // False before true.
 fn compare_booleans(s: &[u8], a: usize, b: usize) -> Order
     requires { ⌜ Both (now s) a b 1 ⌝ }
@@ -121,7 +91,7 @@ fn compare_booleans(s: &[u8], a: usize, b: usize) -> Order
 {
     let x = boolean_at(s, a);
     let y = boolean_at(s, b);
-    order_numbers(x as usize, y as usize)
+    integers::compare_numbers(x as usize, y as usize)
 }
 
 // Integers by size.
@@ -131,7 +101,7 @@ fn compare_integers(s: &[u8], a: usize, b: usize) -> Order
 {
     let x = integer_at(s, a);
     let y = integer_at(s, b);
-    order_integers(x, y)
+    integers::compare(x, y)
 }
 
 // The order of the values at two places: lower kind first, then the contents.
@@ -142,7 +112,7 @@ pub fn compare(s: &[u8], a: usize, b: usize) -> Order
     let ka = kind_of(s, a);
     let kb = kind_of(s, b);
     if ka != kb {
-        return order_numbers(ka, kb);
+        return integers::compare_numbers(ka, kb);
     }
     if ka == 1 {
         return compare_booleans(s, a, b);

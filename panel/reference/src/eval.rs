@@ -9,7 +9,7 @@ use crate::answer::{
 use crate::check::accept;
 use crate::matching::{bindings, Binding};
 use crate::operators::{self, Tried};
-use crate::table::{is_loose_pattern, Bind, Quantifier, Record, Table};
+use crate::table::{is_loose_pattern, Binary, Bind, Quantifier, Record, Table};
 use crate::value::Value;
 use crate::walk::MAX_CHOICES;
 
@@ -86,140 +86,210 @@ struct Run<'a> {
 impl Run<'_> {
     /// The value of a record, with a value for each name bound around it.
     fn value(&mut self, place: usize, state: &Binding) -> Result<Value, Answer> {
-        let refuse = |number| Answer::new(number, place, 0);
         match self.table.record(place) {
             Record::Boolean(truth) => Ok(Value::Boolean(*truth)),
             Record::Integer(number) => Ok(Value::Integer(*number)),
             Record::Name(name) => Ok(state[name].clone()),
-            Record::Unary(operator, operand) => {
-                let operand = self.value(*operand, state)?;
-                operators::unary(*operator, &operand).map_err(refuse)
+            Record::Unary(operator, operand) => self.built(&[*operand], state, place, |values| {
+                operators::unary(*operator, &values[0])
+            }),
+            Record::Binary(operator, left, right) if operators::is_conditional(*operator) => {
+                self.conditional(*operator, *left, *right, state, place)
             }
             Record::Binary(operator, left, right) => {
-                let left = self.value(*left, state)?;
-                if operators::is_conditional(*operator) {
-                    let truth = operators::boolean(&left).map_err(refuse)?;
-                    if let Some(settled) = operators::settled(*operator, truth) {
-                        return Ok(Value::Boolean(settled));
-                    }
-                }
-                let right = self.value(*right, state)?;
-                operators::binary(*operator, &left, &right).map_err(refuse)
+                self.built(&[*left, *right], state, place, |values| {
+                    operators::binary(*operator, &values[0], &values[1])
+                })
             }
             Record::If {
                 test,
                 then,
                 otherwise,
             } => {
-                let branch = if self.truth(*test, state, place)? {
-                    then
-                } else {
-                    otherwise
-                };
-                self.value(*branch, state)
+                let truth = self.truth(*test, state, place)?;
+                self.value(if truth { *then } else { *otherwise }, state)
             }
             Record::SetEnumeration(operands) => {
-                let values = self.values(operands, state)?;
-                operators::set_enumeration(values).map_err(refuse)
+                self.built(operands, state, place, operators::set_enumeration)
             }
             Record::SequenceEnumeration(operands) => {
-                let values = self.values(operands, state)?;
-                operators::sequence_enumeration(values).map_err(refuse)
+                self.built(operands, state, place, operators::sequence_enumeration)
             }
             Record::MapEnumeration(operands) => {
-                let values = self.values(operands, state)?;
-                operators::map_enumeration(&values).map_err(refuse)
+                self.built(operands, state, place, operators::map_enumeration)
             }
-            Record::Tuple(operands) => {
-                let values = self.values(operands, state)?;
-                operators::tuple(values).map_err(refuse)
+            Record::Tuple(operands) => self.built(operands, state, place, operators::tuple),
+            Record::SetRange(from, to) => self.built(&[*from, *to], state, place, |values| {
+                operators::set_range(&values[0], &values[1])
+            }),
+            Record::Apply(function, argument) => {
+                self.built(&[*function, *argument], state, place, |values| {
+                    operators::apply(&values[0], &values[1])
+                })
             }
-            Record::SetRange(from, to) => {
-                let values = self.values(&[*from, *to], state)?;
-                operators::set_range(&values[0], &values[1]).map_err(refuse)
-            }
+            _ => self.binder(place, state),
+        }
+    }
+
+    /// The value of a binder.
+    fn binder(&mut self, place: usize, state: &Binding) -> Result<Value, Answer> {
+        match self.table.record(place) {
             Record::Let {
                 pattern,
                 value,
                 body,
             } => {
-                let value = self.value(*value, state)?;
-                let bindings = bindings(self.table, *pattern, [&value]).map_err(refuse)?;
-                if bindings.is_empty() {
-                    return Err(refuse(NO_MATCH));
-                }
-                let chosen = if is_loose_pattern(self.table.records(), *pattern) {
-                    self.choose(bindings.len(), place)?
-                } else {
-                    0
-                };
-                self.value(*body, &extended(state, &bindings[chosen]))
+                let binding = self.let_binding(*pattern, *value, state, place)?;
+                self.value(*body, &extended(state, &binding))
             }
             Record::LetBe { bind, body } => {
-                let satisfying = self.satisfying(bind, state, place)?;
-                if satisfying.is_empty() {
-                    return Err(refuse(NO_BINDING));
-                }
-                let chosen = self.choose(satisfying.len(), place)?;
-                self.value(*body, &extended(state, &satisfying[chosen]))
+                let binding = self.let_be_binding(bind, state, place)?;
+                self.value(*body, &extended(state, &binding))
             }
             Record::Quantified(quantifier, bind) => {
                 self.quantified(*quantifier, bind, state, place)
             }
             Record::SetComprehension { bind, element } => {
-                let mut members = BTreeSet::new();
-                for binding in self.bindings(bind, state, place, operators::set)? {
-                    let state = extended(state, &binding);
-                    if self.truth(bind.condition, &state, place)? {
-                        let element = self.value(*element, &state)?;
-                        operators::add_member(&mut members, element).map_err(refuse)?;
-                    }
-                }
-                Ok(Value::Set(members))
+                self.set_comprehension(bind, *element, state, place)
             }
             Record::SequenceComprehension { bind, element } => {
-                let mut items = Vec::new();
-                for binding in self.bindings(bind, state, place, operators::set_of_integers)? {
-                    let state = extended(state, &binding);
-                    if self.truth(bind.condition, &state, place)? {
-                        let element = self.value(*element, &state)?;
-                        operators::add_item(&mut items, element).map_err(refuse)?;
-                    }
-                }
-                Ok(Value::Sequence(items))
+                self.sequence_comprehension(bind, *element, state, place)
             }
             Record::MapComprehension { bind, key, value } => {
-                let mut entries = BTreeMap::new();
-                for binding in self.bindings(bind, state, place, operators::set)? {
-                    let state = extended(state, &binding);
-                    if self.truth(bind.condition, &state, place)? {
-                        let key = self.value(*key, &state)?;
-                        let value = self.value(*value, &state)?;
-                        operators::add_entry(&mut entries, key, value).map_err(refuse)?;
-                    }
-                }
-                Ok(Value::Map(entries))
+                self.map_comprehension(bind, *key, *value, state, place)
             }
-            Record::Apply(function, argument) => {
-                let values = self.values(&[*function, *argument], state)?;
-                operators::apply(&values[0], &values[1]).map_err(refuse)
-            }
-            pattern => unreachable!("{pattern:?} is no expression"),
+            other => unreachable!("{other:?} is no binder"),
         }
     }
 
-    /// The values of operands, in written order.
-    fn values(&mut self, operands: &[usize], state: &Binding) -> Result<Vec<Value>, Answer> {
-        operands
-            .iter()
-            .map(|&operand| self.value(operand, state))
-            .collect()
+    /// And, or and =>, which evaluate the right operand only if the left does not settle the result.
+    fn conditional(
+        &mut self,
+        operator: Binary,
+        left: usize,
+        right: usize,
+        state: &Binding,
+        place: usize,
+    ) -> Result<Value, Answer> {
+        let truth = self.truth(left, state, place)?;
+        match operators::settled(operator, truth) {
+            Some(settled) => Ok(Value::Boolean(settled)),
+            None => Ok(Value::Boolean(self.truth(right, state, place)?)),
+        }
     }
 
-    /// The truth of a condition or test of the record at a place.
+    /// The binding of a let: a choice if its pattern is loose.
+    fn let_binding(
+        &mut self,
+        pattern: usize,
+        value: usize,
+        state: &Binding,
+        place: usize,
+    ) -> Result<Binding, Answer> {
+        let value = self.value(value, state)?;
+        let mut bindings = bindings(self.table, pattern, [&value]).map_err(refusal_at(place))?;
+        if bindings.is_empty() {
+            return Err(Answer::new(NO_MATCH, place, 0));
+        }
+        let is_choice = is_loose_pattern(self.table.records(), pattern);
+        let chosen = if is_choice {
+            self.choose(bindings.len(), place)?
+        } else {
+            0
+        };
+        Ok(bindings.swap_remove(chosen))
+    }
+
+    /// The binding of a let-be: a choice among those that make its condition true.
+    fn let_be_binding(
+        &mut self,
+        bind: &Bind,
+        state: &Binding,
+        place: usize,
+    ) -> Result<Binding, Answer> {
+        let mut satisfying = self.satisfying(bind, state, place)?;
+        if satisfying.is_empty() {
+            return Err(Answer::new(NO_BINDING, place, 0));
+        }
+        let chosen = self.choose(satisfying.len(), place)?;
+        Ok(satisfying.swap_remove(chosen))
+    }
+
+    fn set_comprehension(
+        &mut self,
+        bind: &Bind,
+        element: usize,
+        state: &Binding,
+        place: usize,
+    ) -> Result<Value, Answer> {
+        let mut members = BTreeSet::new();
+        for binding in self.bindings(bind, state, place, operators::set)? {
+            let state = extended(state, &binding);
+            if self.truth(bind.condition, &state, place)? {
+                let element = self.value(element, &state)?;
+                operators::add_member(&mut members, element).map_err(refusal_at(place))?;
+            }
+        }
+        Ok(Value::Set(members))
+    }
+
+    fn sequence_comprehension(
+        &mut self,
+        bind: &Bind,
+        element: usize,
+        state: &Binding,
+        place: usize,
+    ) -> Result<Value, Answer> {
+        let mut items = Vec::new();
+        for binding in self.bindings(bind, state, place, operators::set_of_integers)? {
+            let state = extended(state, &binding);
+            if self.truth(bind.condition, &state, place)? {
+                let element = self.value(element, &state)?;
+                operators::add_item(&mut items, element).map_err(refusal_at(place))?;
+            }
+        }
+        Ok(Value::Sequence(items))
+    }
+
+    fn map_comprehension(
+        &mut self,
+        bind: &Bind,
+        key: usize,
+        value: usize,
+        state: &Binding,
+        place: usize,
+    ) -> Result<Value, Answer> {
+        let mut entries = BTreeMap::new();
+        for binding in self.bindings(bind, state, place, operators::set)? {
+            let state = extended(state, &binding);
+            if self.truth(bind.condition, &state, place)? {
+                let key = self.value(key, &state)?;
+                let value = self.value(value, &state)?;
+                operators::add_entry(&mut entries, key, value).map_err(refusal_at(place))?;
+            }
+        }
+        Ok(Value::Map(entries))
+    }
+
+    /// What is built of the values of operands, which are evaluated in written order.
+    fn built(
+        &mut self,
+        operands: &[usize],
+        state: &Binding,
+        place: usize,
+        build: impl Fn(Vec<Value>) -> Tried<Value>,
+    ) -> Result<Value, Answer> {
+        let values: Result<Vec<Value>, Answer> = operands
+            .iter()
+            .map(|&operand| self.value(operand, state))
+            .collect();
+        build(values?).map_err(refusal_at(place))
+    }
+
+    /// The truth of a condition, test or operand of the record at a place, which tests the kind.
     fn truth(&mut self, condition: usize, state: &Binding, place: usize) -> Result<bool, Answer> {
         let value = self.value(condition, state)?;
-        operators::boolean(&value).map_err(|number| Answer::new(number, place, 0))
+        operators::boolean(&value).map_err(refusal_at(place))
     }
 
     /// The bindings of a binder over its set, whose members are read by a test of their kinds.
@@ -233,7 +303,7 @@ impl Run<'_> {
         let set = self.value(bind.set, state)?;
         members(&set)
             .and_then(|members| bindings(self.table, bind.pattern, members))
-            .map_err(|number| Answer::new(number, place, 0))
+            .map_err(refusal_at(place))
     }
 
     /// The bindings of a binder that make its condition true; all are tested.
@@ -295,6 +365,11 @@ impl Run<'_> {
         self.taken += 1;
         Ok(chosen)
     }
+}
+
+/// Makes a number a refusal at a place.
+fn refusal_at(place: usize) -> impl Fn(u32) -> Answer {
+    move |number| Answer::new(number, place, 0)
 }
 
 /// The state within a binder.

@@ -5,7 +5,7 @@ use std::collections::{BTreeMap, BTreeSet};
 use crate::answer::{Refusal, NOT_UNIQUE, NO_BINDING, NO_MATCH};
 use crate::matching::{bindings, Binding};
 use crate::operators::{self, Tried};
-use crate::table::{Bind, Quantifier, Record, Table};
+use crate::table::{Binary, Bind, Quantifier, Record, Table};
 use crate::value::Value;
 
 /// A value, or a refusal 20 to 30 with its place.
@@ -30,24 +30,17 @@ impl Meaning<'_> {
             Record::Boolean(truth) => certain(Value::Boolean(*truth)),
             Record::Integer(number) => certain(Value::Integer(*number)),
             Record::Name(name) => certain(state[name].clone()),
-            Record::Unary(operator, operand) => then(self.outcomes(*operand, state), |operand| {
-                tried(operators::unary(*operator, &operand), place)
+            Record::Unary(operator, operand) => self.built(&[*operand], state, place, |values| {
+                operators::unary(*operator, &values[0])
             }),
-            Record::Binary(operator, left, right) => then(self.outcomes(*left, state), |left| {
-                if operators::is_conditional(*operator) {
-                    return then(truth(&left, place), |truth| {
-                        match operators::settled(*operator, truth) {
-                            Some(settled) => certain(Value::Boolean(settled)),
-                            None => then(self.outcomes(*right, state), |right| {
-                                tried(operators::binary(*operator, &left, &right), place)
-                            }),
-                        }
-                    });
-                }
-                then(self.outcomes(*right, state), |right| {
-                    tried(operators::binary(*operator, &left, &right), place)
+            Record::Binary(operator, left, right) if operators::is_conditional(*operator) => {
+                self.conditional(*operator, *left, *right, state, place)
+            }
+            Record::Binary(operator, left, right) => {
+                self.built(&[*left, *right], state, place, |values| {
+                    operators::binary(*operator, &values[0], &values[1])
                 })
-            }),
+            }
             Record::If {
                 test,
                 then: yes,
@@ -55,15 +48,15 @@ impl Meaning<'_> {
             } => then(self.truths(*test, state, place), |truth| {
                 self.outcomes(if truth { *yes } else { *no }, state)
             }),
-            Record::SetEnumeration(operands) => self.built(operands, state, place, |values| {
-                operators::set_enumeration(values)
-            }),
-            Record::SequenceEnumeration(operands) => self.built(operands, state, place, |values| {
-                operators::sequence_enumeration(values)
-            }),
-            Record::MapEnumeration(operands) => self.built(operands, state, place, |values| {
-                operators::map_enumeration(&values)
-            }),
+            Record::SetEnumeration(operands) => {
+                self.built(operands, state, place, operators::set_enumeration)
+            }
+            Record::SequenceEnumeration(operands) => {
+                self.built(operands, state, place, operators::sequence_enumeration)
+            }
+            Record::MapEnumeration(operands) => {
+                self.built(operands, state, place, operators::map_enumeration)
+            }
             Record::Tuple(operands) => self.built(operands, state, place, operators::tuple),
             Record::SetRange(from, to) => self.built(&[*from, *to], state, place, |values| {
                 operators::set_range(&values[0], &values[1])
@@ -73,69 +66,117 @@ impl Meaning<'_> {
                     operators::apply(&values[0], &values[1])
                 })
             }
+            _ => self.binder(place, state),
+        }
+    }
+
+    /// The outcomes of a binder.
+    fn binder(&self, place: usize, state: &Binding) -> Loose<Value> {
+        match self.table.record(place) {
             Record::Let {
                 pattern,
                 value,
                 body,
             } => then(self.outcomes(*value, state), |value| {
-                then(
-                    tried(bindings(self.table, *pattern, [&value]), place),
-                    |bindings| {
-                        if bindings.is_empty() {
-                            return refused(NO_MATCH, place);
-                        }
-                        self.under_each(&bindings, *body, state)
-                    },
-                )
+                let matched = tried(bindings(self.table, *pattern, [&value]), place);
+                then(matched, |bindings| {
+                    self.under_each(&bindings, *body, state, Refusal::new(NO_MATCH, place))
+                })
             }),
             Record::LetBe { bind, body } => {
                 then(self.satisfying(bind, state, place), |satisfying| {
-                    if satisfying.is_empty() {
-                        return refused(NO_BINDING, place);
-                    }
-                    self.under_each(&satisfying, *body, state)
+                    self.under_each(&satisfying, *body, state, Refusal::new(NO_BINDING, place))
                 })
             }
             Record::Quantified(quantifier, bind) => {
                 self.quantified(*quantifier, bind, state, place)
             }
             Record::SetComprehension { bind, element } => {
-                let add = |members: BTreeSet<Value>, state: &Binding| {
-                    then(self.outcomes(*element, state), |element| {
-                        let mut members = members.clone();
-                        let added = operators::add_member(&mut members, element);
-                        tried(added.map(|()| members), place)
-                    })
-                };
-                let sets = self.comprehended(bind, state, place, operators::set, add);
-                then(sets, |members| certain(Value::Set(members)))
+                self.set_comprehension(bind, *element, state, place)
             }
             Record::SequenceComprehension { bind, element } => {
-                let add = |items: Vec<Value>, state: &Binding| {
-                    then(self.outcomes(*element, state), |element| {
-                        let mut items = items.clone();
-                        let added = operators::add_item(&mut items, element);
-                        tried(added.map(|()| items), place)
-                    })
-                };
-                let sequences =
-                    self.comprehended(bind, state, place, operators::set_of_integers, add);
-                then(sequences, |items| certain(Value::Sequence(items)))
+                self.sequence_comprehension(bind, *element, state, place)
             }
             Record::MapComprehension { bind, key, value } => {
-                let add = |entries: BTreeMap<Value, Value>, state: &Binding| {
-                    then(self.values(&[*key, *value], state), |entry| {
-                        let mut entries = entries.clone();
-                        let [key, value] = <[Value; 2]>::try_from(entry).expect("key and value");
-                        let added = operators::add_entry(&mut entries, key, value);
-                        tried(added.map(|()| entries), place)
-                    })
-                };
-                let maps = self.comprehended(bind, state, place, operators::set, add);
-                then(maps, |entries| certain(Value::Map(entries)))
+                self.map_comprehension(bind, *key, *value, state, place)
             }
-            pattern => unreachable!("{pattern:?} is no expression"),
+            other => unreachable!("{other:?} is no binder"),
         }
+    }
+
+    /// And, or and =>, which evaluate the right operand only if the left does not settle the result.
+    fn conditional(
+        &self,
+        operator: Binary,
+        left: usize,
+        right: usize,
+        state: &Binding,
+        place: usize,
+    ) -> Loose<Value> {
+        let truths = then(
+            self.truths(left, state, place),
+            |truth| match operators::settled(operator, truth) {
+                Some(settled) => certain(settled),
+                None => self.truths(right, state, place),
+            },
+        );
+        then(truths, |truth| certain(Value::Boolean(truth)))
+    }
+
+    fn set_comprehension(
+        &self,
+        bind: &Bind,
+        element: usize,
+        state: &Binding,
+        place: usize,
+    ) -> Loose<Value> {
+        let add = |members: BTreeSet<Value>, state: &Binding| {
+            then(self.outcomes(element, state), |element| {
+                let mut members = members.clone();
+                let added = operators::add_member(&mut members, element);
+                tried(added.map(|()| members), place)
+            })
+        };
+        let sets = self.comprehended(bind, state, place, operators::set, add);
+        then(sets, |members| certain(Value::Set(members)))
+    }
+
+    fn sequence_comprehension(
+        &self,
+        bind: &Bind,
+        element: usize,
+        state: &Binding,
+        place: usize,
+    ) -> Loose<Value> {
+        let add = |items: Vec<Value>, state: &Binding| {
+            then(self.outcomes(element, state), |element| {
+                let mut items = items.clone();
+                let added = operators::add_item(&mut items, element);
+                tried(added.map(|()| items), place)
+            })
+        };
+        let sequences = self.comprehended(bind, state, place, operators::set_of_integers, add);
+        then(sequences, |items| certain(Value::Sequence(items)))
+    }
+
+    fn map_comprehension(
+        &self,
+        bind: &Bind,
+        key: usize,
+        value: usize,
+        state: &Binding,
+        place: usize,
+    ) -> Loose<Value> {
+        let add = |entries: BTreeMap<Value, Value>, state: &Binding| {
+            then(self.values(&[key, value], state), |entry| {
+                let mut entries = entries.clone();
+                let [key, value] = <[Value; 2]>::try_from(entry).expect("key and value");
+                let added = operators::add_entry(&mut entries, key, value);
+                tried(added.map(|()| entries), place)
+            })
+        };
+        let maps = self.comprehended(bind, state, place, operators::set, add);
+        then(maps, |entries| certain(Value::Map(entries)))
     }
 
     /// The values of operands, in written order.
@@ -162,10 +203,10 @@ impl Meaning<'_> {
         })
     }
 
-    /// The truth of a condition or test of the record at a place.
+    /// The truth of a condition, test or operand of the record at a place, which tests the kind.
     fn truths(&self, condition: usize, state: &Binding, place: usize) -> Loose<bool> {
         then(self.outcomes(condition, state), |value| {
-            truth(&value, place)
+            tried(operators::boolean(&value), place)
         })
     }
 
@@ -199,8 +240,17 @@ impl Meaning<'_> {
         })
     }
 
-    /// The outcomes of a body under each of some bindings.
-    fn under_each(&self, bindings: &[Binding], body: usize, state: &Binding) -> Loose<Value> {
+    /// The outcomes of a body under each of some bindings; a refusal if there are none.
+    fn under_each(
+        &self,
+        bindings: &[Binding],
+        body: usize,
+        state: &Binding,
+        if_none: Refusal,
+    ) -> Loose<Value> {
+        if bindings.is_empty() {
+            return BTreeSet::from([Err(if_none)]);
+        }
         bindings
             .iter()
             .flat_map(|binding| self.outcomes(body, &extended(state, binding)))
@@ -225,7 +275,7 @@ impl Meaning<'_> {
                     self.satisfying(bind, state, place),
                     |satisfying| match satisfying.as_slice() {
                         [only] => certain(only.values().next().expect("iota binds a name").clone()),
-                        _ => refused(NOT_UNIQUE, place),
+                        _ => tried(Err(NOT_UNIQUE), place),
                     },
                 )
             }
@@ -292,17 +342,9 @@ fn certain<T: Ord>(result: T) -> Loose<T> {
     BTreeSet::from([Ok(result)])
 }
 
-fn refused<T: Ord>(number: u32, place: usize) -> Loose<T> {
-    BTreeSet::from([Err(Refusal::new(number, place))])
-}
-
 /// A result, or a refusal at a place.
 fn tried<T: Ord>(result: Tried<T>, place: usize) -> Loose<T> {
     BTreeSet::from([result.map_err(|number| Refusal::new(number, place))])
-}
-
-fn truth(value: &Value, place: usize) -> Loose<bool> {
-    tried(operators::boolean(value), place)
 }
 
 /// All that follows from each of some results; refusals stay, and nothing follows them.

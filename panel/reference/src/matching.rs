@@ -5,7 +5,7 @@ use std::rc::Rc;
 
 use crate::answer::{MANY_BINDINGS, WIDE_UNION};
 use crate::operators::Tried;
-use crate::table::{Record, Table};
+use crate::table::{is_loose_pattern, pattern_names, Record, Table};
 use crate::value::Value;
 
 /// A value for each name. The bindings of one pattern hold the same names, so that their order goes by
@@ -32,7 +32,8 @@ pub fn bindings<'a>(
     let mut matcher = Matcher::new(table, pattern);
     let mut found = BTreeSet::new();
     for value in values {
-        found.extend(matcher.matches(pattern, value).iter().cloned());
+        let matches = matcher.matches(pattern, value, &Binding::new());
+        found.extend(Rc::unwrap_or_clone(matches));
         if found.len() > MAX_BINDINGS {
             return Err(MANY_BINDINGS);
         }
@@ -92,12 +93,12 @@ fn holds_wide_set(value: &Value) -> bool {
 }
 
 /// Matches the parts of one pattern. Ways to match can run into billions where distinct bindings are
-/// few, so what a pattern and a value come to is kept; see also [`Matches`].
+/// few, so what a pattern and a value come to is kept; see also [`Limit`].
 struct Matcher<'a> {
     table: &'a Table,
     /// How often each name stands in the whole pattern.
     occurrences: BTreeMap<u8, usize>,
-    known: HashMap<(usize, Value), Rc<BTreeSet<Binding>>>,
+    known: HashMap<(usize, Value, Binding), Rc<BTreeSet<Binding>>>,
 }
 
 impl<'a> Matcher<'a> {
@@ -109,29 +110,39 @@ impl<'a> Matcher<'a> {
         }
     }
 
-    /// The distinct bindings of a pattern and a value, as far as [`Matches`] keeps them.
-    fn matches(&mut self, pattern: usize, value: &Value) -> Rc<BTreeSet<Binding>> {
-        let (matched, binding) = match (self.table.record(pattern), value) {
-            (Record::NamePattern(name), _) => (true, Binding::from([(*name, value.clone())])),
-            (Record::AnyPattern, _) => (true, Binding::new()),
-            (Record::BooleanPattern(b), _) => (*value == Value::Boolean(*b), Binding::new()),
-            (Record::IntegerPattern(i), _) => (*value == Value::Integer(*i), Binding::new()),
-            _ => return self.compound(pattern, value),
+    /// The distinct bindings of a pattern and a value, as far as their [`Limit`] goes, that agree with
+    /// what some names of the pattern are bound to already.
+    fn matches(&mut self, pattern: usize, value: &Value, bound: &Binding) -> Rc<BTreeSet<Binding>> {
+        let (matched, binding) = match self.table.record(pattern) {
+            Record::NamePattern(name) => {
+                let agrees = bound.get(name).is_none_or(|before| before == value);
+                (agrees, Binding::from([(*name, value.clone())]))
+            }
+            Record::AnyPattern => (true, Binding::new()),
+            Record::BooleanPattern(truth) => (*value == Value::Boolean(*truth), Binding::new()),
+            Record::IntegerPattern(number) => (*value == Value::Integer(*number), Binding::new()),
+            _ => return self.compound(pattern, value, bound),
         };
         Rc::new(BTreeSet::from_iter(matched.then_some(binding)))
     }
 
     /// [`Matcher::matches`] for a pattern that has parts.
-    fn compound(&mut self, pattern: usize, value: &Value) -> Rc<BTreeSet<Binding>> {
-        let key = (pattern, value.clone());
+    fn compound(
+        &mut self,
+        pattern: usize,
+        value: &Value,
+        bound: &Binding,
+    ) -> Rc<BTreeSet<Binding>> {
+        let key = (pattern, value.clone(), bound.clone());
         if let Some(known) = self.known.get(&key) {
             return Rc::clone(known);
         }
         let record = self.table.record(pattern);
-        let parts = parts(record);
-        let mut matches = Matches::new(self, &parts);
+        let whole = Limit::new(self, &parts(record), bound);
+        let steps = self.steps(&parts(record), bound);
+        let mut matches = Matches::new(&whole);
         for items in ways(record, value) {
-            matches.extend(self.pair_up(&parts, &items));
+            matches.extend(self.pair_up(&steps, &items, bound));
             if matches.are_complete() {
                 break;
             }
@@ -141,54 +152,84 @@ impl<'a> Matcher<'a> {
         found
     }
 
+    /// The parts of a pattern in the order in which they are matched: loose ones last, when more names
+    /// are bound.
+    fn steps(&self, parts: &[usize], bound: &Binding) -> Vec<Step> {
+        let records = self.table.records();
+        let mut places: Vec<usize> = (0..parts.len()).collect();
+        places.sort_by_key(|&place| is_loose_pattern(records, parts[place]));
+        let ordered: Vec<usize> = places.iter().map(|&place| parts[place]).collect();
+        let step = |(index, place): (usize, usize)| Step {
+            place,
+            part: parts[place],
+            names: pattern_names(records, parts[place]),
+            limit: Limit::new(self, &ordered[..=index], bound),
+        };
+        places.into_iter().enumerate().map(step).collect()
+    }
+
     /// The bindings of parts matched to the items in their places.
-    fn pair_up(&mut self, parts: &[usize], items: &[Value]) -> BTreeSet<Binding> {
-        let mut joined = BTreeSet::from([Binding::new()]);
-        for (place, (&part, item)) in parts.iter().zip(items).enumerate() {
-            if joined.is_empty() {
-                break;
+    fn pair_up(&mut self, steps: &[Step], items: &[Value], bound: &Binding) -> BTreeSet<Binding> {
+        let mut joined = BTreeSet::from([bound.clone()]);
+        for step in steps {
+            let mut matches = Matches::new(&step.limit);
+            for one in &joined {
+                let bound = restricted(one, &step.names);
+                let found = self.matches(step.part, &items[step.place], &bound);
+                matches.extend(found.iter().map(|other| join(one, other)));
             }
-            let found = self.matches(part, item);
-            let mut matches = Matches::new(self, &parts[..=place]);
-            let pairs = joined
-                .iter()
-                .flat_map(|one| found.iter().map(move |other| (one, other)));
-            matches.extend(pairs.filter_map(|(one, other)| join(one, other)));
             joined = matches.bindings;
         }
         joined
     }
 }
 
-/// The bindings kept of some parts of a pattern, matched to some values. Of those that agree in the
-/// names which the rest of the whole pattern holds too, one more than a binder may have is kept:
-/// whatever the rest comes to, they stay together or go together, and if they stay the binder has too
-/// many.
-struct Matches {
-    bindings: BTreeSet<Binding>,
-    /// The names that the rest of the whole pattern holds too.
+/// A part of a pattern, at its turn.
+struct Step {
+    /// Which of the parts it is.
+    place: usize,
+    part: usize,
+    names: BTreeSet<u8>,
+    /// The limit of the parts up to this one.
+    limit: Limit,
+}
+
+/// How many bindings of some parts of a pattern are kept. Of those that agree in the names which the
+/// rest of the whole pattern holds too, one more than a binder may have is enough: whatever the rest
+/// comes to, they stay together or go together, and if they stay the binder has too many.
+struct Limit {
+    /// The names that the rest of the whole pattern holds too, unless they are bound already.
     shared: BTreeSet<u8>,
-    /// How many are kept for each binding of the shared names.
-    kept: BTreeMap<Binding, usize>,
     /// The most that are kept for each binding of the shared names.
     most: usize,
 }
 
-impl Matches {
-    fn new(matcher: &Matcher, parts: &[usize]) -> Matches {
-        let here = occurrences(matcher.table, parts);
+impl Limit {
+    fn new(matcher: &Matcher, parts: &[usize], bound: &Binding) -> Limit {
+        let mut here = occurrences(matcher.table, parts);
+        here.retain(|name, _| !bound.contains_key(name));
         let stands_elsewhere = |name: &u8| here[name] < matcher.occurrences[name];
         let shared: BTreeSet<u8> = here.keys().copied().filter(stands_elsewhere).collect();
-        let has_names_of_its_own = shared.len() < here.len();
+        let has_only_shared = shared.len() == here.len();
+        let most = if has_only_shared { 1 } else { MAX_BINDINGS + 1 };
+        Limit { shared, most }
+    }
+}
+
+/// The bindings kept of some parts of a pattern, matched to some values.
+struct Matches<'l> {
+    limit: &'l Limit,
+    bindings: BTreeSet<Binding>,
+    /// How many are kept for each binding of the shared names.
+    kept: BTreeMap<Binding, usize>,
+}
+
+impl<'l> Matches<'l> {
+    fn new(limit: &'l Limit) -> Matches<'l> {
         Matches {
+            limit,
             bindings: BTreeSet::new(),
-            shared,
             kept: BTreeMap::new(),
-            most: if has_names_of_its_own {
-                MAX_BINDINGS + 1
-            } else {
-                1
-            },
         }
     }
 
@@ -199,9 +240,9 @@ impl Matches {
             let Some(binding) = bindings.next() else {
                 break;
             };
-            let kept = self.kept.entry(restricted(&binding, &self.shared));
-            let kept = kept.or_insert(0);
-            if *kept < self.most && self.bindings.insert(binding) {
+            let shared = restricted(&binding, &self.limit.shared);
+            let kept = self.kept.entry(shared).or_insert(0);
+            if *kept < self.limit.most && self.bindings.insert(binding) {
                 *kept += 1;
             }
         }
@@ -209,7 +250,7 @@ impl Matches {
 
     /// Whether nothing more can be kept.
     fn are_complete(&self) -> bool {
-        self.shared.is_empty() && self.bindings.len() >= self.most
+        self.limit.shared.is_empty() && self.bindings.len() >= self.limit.most
     }
 }
 
@@ -233,15 +274,11 @@ fn occurrences(table: &Table, patterns: &[usize]) -> BTreeMap<u8, usize> {
     counts
 }
 
-/// Two bindings as one, unless a name has two values.
-fn join(one: &Binding, other: &Binding) -> Option<Binding> {
-    let agree = |(name, value): (&u8, &Value)| one.get(name).is_none_or(|v| v == value);
-    if !other.iter().all(agree) {
-        return None;
-    }
+/// Two bindings as one; they agree in the names of both.
+fn join(one: &Binding, other: &Binding) -> Binding {
     let mut joined = one.clone();
     joined.extend(other.iter().map(|(name, value)| (*name, value.clone())));
-    Some(joined)
+    joined
 }
 
 /// The parts of a pattern.

@@ -59,12 +59,14 @@ pub fn settled(operator: Binary, left: bool) -> Option<bool> {
     }
 }
 
-/// The binary operators on two values. Where a conditional operator is not settled by its left operand,
-/// it gives the right one, which has to be boolean.
+/// The binary operators on two values.
 pub fn binary(operator: Binary, left: &Value, right: &Value) -> Tried<Value> {
     let truth = |truth| Ok(Value::Boolean(truth));
     match operator {
-        Binary::And | Binary::Or | Binary::Implies => truth(boolean(right)?),
+        Binary::And | Binary::Or | Binary::Implies => match settled(operator, boolean(left)?) {
+            Some(settled) => truth(settled),
+            None => truth(boolean(right)?),
+        },
         Binary::Equivalent => {
             let (left, right) = both(boolean, left, right)?;
             truth(left == right)
@@ -225,10 +227,11 @@ pub fn sequence_enumeration(operands: Vec<Value>) -> Tried<Value> {
 }
 
 /// The map of the operands, which are key, value, key, value.
-pub fn map_enumeration(operands: &[Value]) -> Tried<Value> {
+pub fn map_enumeration(operands: Vec<Value>) -> Tried<Value> {
     let mut entries = BTreeMap::new();
-    for entry in operands.chunks_exact(2) {
-        add_entry(&mut entries, entry[0].clone(), entry[1].clone())?;
+    let mut operands = operands.into_iter();
+    while let (Some(key), Some(value)) = (operands.next(), operands.next()) {
+        add_entry(&mut entries, key, value)?;
     }
     Ok(Value::Map(entries))
 }

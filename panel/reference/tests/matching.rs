@@ -297,6 +297,15 @@ fn names_repeated_in_unions() {
     assert_eq!(soon(&sheet), (23, 19, 0));
     let sheet = let_(p_tuple(&[parts(), parts()]), value(range(1, 7)), int(1));
     assert_eq!(soon(&sheet), (30, 19, 0));
+    // With one name in common, however many there are.
+    let parts = || unions((0..16).map(p_name));
+    for pattern in [
+        p_tuple(&[parts(), p_name(0)]),
+        p_tuple(&[parts(), p_name(15)]),
+    ] {
+        let sheet = let_(pattern, value(range(1, 4)), int(1));
+        assert_eq!(soon(&sheet), (30, 41, 0));
+    }
     let sheet = let_(p_union(p_name(0), p_name(0)), set(&[]), int(1));
     assert_eq!(soon(&sheet), (32, 5, 1));
 }

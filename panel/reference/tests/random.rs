@@ -9,27 +9,28 @@ use reference::table::Table;
 use reference::walk::{first, step, MAX_CHOICES};
 use std::collections::BTreeSet;
 
-/// How many sheets are tried.
-const SHEETS: u64 = 24_000;
-
-/// Sheets with more complete lists than this are left out.
-const MOST_LISTS: usize = 200;
-
-/// Adds all complete lists that begin with the given entries, in dictionary order; false if they are
-/// too many.
-fn complete_lists(table: &Table, list: &mut Vec<u8>, found: &mut Vec<Vec<u8>>) -> bool {
+/// Adds all complete lists that begin with the given entries, in dictionary order; false if there are
+/// more than `most`.
+fn complete_lists(
+    table: &Table,
+    list: &mut Vec<u8>,
+    most: usize,
+    found: &mut Vec<Vec<u8>>,
+) -> bool {
     let end = run(table, list);
     if end.number != 32 {
         assert!(matches!(end.number, 0 | 20..=31));
         found.push(list.clone());
-        return found.len() <= MOST_LISTS;
+        return found.len() <= most;
     }
-    (0..end.count).all(|entry| {
-        list.push(u8::try_from(entry).expect("at most 255 bindings"));
-        let few = complete_lists(table, list, found);
-        list.pop();
-        few
-    })
+    // Each binding leads to a list of its own.
+    found.len() + end.count <= most
+        && (0..end.count).all(|entry| {
+            list.push(u8::try_from(entry).expect("at most 255 bindings"));
+            let are_few = complete_lists(table, list, most, found);
+            list.pop();
+            are_few
+        })
 }
 
 /// All lists of the walk, as far as the given number.
@@ -64,12 +65,12 @@ fn neighbours(list: &[u8], random: &mut Random) -> Vec<Vec<u8>> {
     lists
 }
 
-/// Tries one sheet; whether its lists are few, and whether its loose meaning was compared too.
-fn try_sheet(seed: u64) -> (bool, bool) {
+/// Tries one sheet, unless it has more than `most` complete lists; whether its loose meaning was compared.
+fn try_sheet(seed: u64, most: usize) -> bool {
     let table = accept(&accepted(seed)).expect("an accepted table");
     let mut lists = Vec::new();
-    if !complete_lists(&table, &mut Vec::new(), &mut lists) {
-        return (false, false);
+    if !complete_lists(&table, &mut Vec::new(), most, &mut lists) {
+        return false;
     }
     assert_eq!(walked(&table, lists.len()), lists);
 
@@ -92,7 +93,7 @@ fn try_sheet(seed: u64) -> (bool, bool) {
     if !meets_a_65th {
         assert_eq!(outcomes(&table), of_runs);
     }
-    (true, !meets_a_65th)
+    !meets_a_65th
 }
 
 /// Prints the seed when a test fails.
@@ -106,15 +107,23 @@ impl Drop for Seed {
     }
 }
 
+/// Tries many sheets; how many loose meanings were compared.
+fn try_sheets(seeds: std::ops::Range<u64>, most: usize) -> usize {
+    let try_one = |seed: &u64| {
+        let failing = Seed(*seed);
+        try_sheet(failing.0, most)
+    };
+    seeds.filter(try_one).count()
+}
+
 #[test]
 fn walks_and_loose_meanings_are_those_of_all_complete_lists() {
-    let (mut walks, mut meanings) = (0, 0);
-    for seed in 0..SHEETS {
-        let failing = Seed(seed);
-        let (few, compared) = try_sheet(failing.0);
-        walks += u64::from(few);
-        meanings += u64::from(compared);
-    }
-    println!("{walks} walks and {meanings} loose meanings of {SHEETS} sheets");
-    assert!(meanings >= 20_000, "{meanings} of {SHEETS}");
+    let compared = try_sheets(0..21_000, 24);
+    assert!(compared >= 20_000, "{compared} loose meanings");
+}
+
+#[test]
+fn walks_and_loose_meanings_of_many_lists() {
+    let compared = try_sheets(100_000..100_500, 1_000);
+    assert!(compared >= 400, "{compared} loose meanings");
 }

@@ -17,7 +17,7 @@ use Rattle.values.proofs.compare_booleans.Reads as compare-booleans-rea
 use Rattle.values.proofs.compare_integers.Reads as compare-integers-reads
 use Rattle.values.proofs.kind_of.Reads as kind-of-reads
 use Rattle.values.proofs.length_of.Reads as length-of-reads
-use Rattle.values.proofs.order_numbers.Reads as order-numbers-reads
+use Rattle.integers.proofs.compare_numbers.Reads as compare-numbers-reads
 use Rattle.values.proofs.+compare+compare_items.{statement}
 use Rattle.values.proofs.+compare+compare_items.Tie.{close}
 
@@ -47,7 +47,7 @@ compare-items-below t =
 
 -- what each member's calls ask and tell
 abbrev compare-calls : ℕ → compare-lts.Claims
-compare-calls t = (kind-of-reads.Asked, kind-of-reads.Learnt, order-numbers-reads.Asked, order-numbers-reads.Learnt, compare-booleans-reads.Asked, compare-booleans-reads.Learnt, compare-integers-reads.Asked, compare-integers-reads.Learnt, length-of-reads.Asked, length-of-reads.Learnt, compare-items-below t, compare-items.Post)
+compare-calls t = (kind-of-reads.Asked, kind-of-reads.Learnt, compare-numbers-reads.Asked, compare-numbers-reads.Learnt, compare-booleans-reads.Asked, compare-booleans-reads.Learnt, compare-integers-reads.Asked, compare-integers-reads.Learnt, length-of-reads.Asked, length-of-reads.Learnt, compare-items-below t, compare-items.Post)
 
 abbrev compare-items-calls : ℕ → compare-items-lts.Claims
 compare-items-calls t = (compare-below t, compare.Post, length-of-reads.Asked, length-of-reads.Learnt, compare-items-below t, compare-items.Post)
@@ -58,11 +58,11 @@ compare-kind-of-requires t c κs = c .before .pre .1 .0
 compare-kind-of-requires-2 : (t : ℕ) → compare-lts.Need-kind-of-requires-2 (compare-calls t) (compare-at t) compare.Post
 compare-kind-of-requires-2 t c κs = c .before .before .pre .1 .1
 
-compare-order-numbers-requires : (t : ℕ) → compare-lts.Need-order-numbers-requires (compare-calls t) (compare-at t) compare.Post
-compare-order-numbers-requires t c κs = tt
+compare-compare-numbers-requires : (t : ℕ) → compare-lts.Need-compare-numbers-requires (compare-calls t) (compare-at t) compare.Post
+compare-compare-numbers-requires t c κs = tt
 
 compare-returns : (t : ℕ) → compare-lts.Need-returns (compare-calls t) (compare-at t) compare.Post
-compare-returns t c = by-kinds _ (c .before .before .before .kind-of .ensures) (c .before .before .kind-of2 .ensures) (c .before .if1 .taken) (c .order-numbers .ensures)
+compare-returns t c = by-kinds _ (c .before .before .before .kind-of .ensures) (c .before .before .kind-of2 .ensures) (c .before .if1 .taken) (c .compare-numbers .ensures)
 
 compare-compare-booleans-requires : (t : ℕ) → compare-lts.Need-compare-booleans-requires (compare-calls t) (compare-at t) compare.Post
 compare-compare-booleans-requires t c κs = let p = c .before .before .before .before .before .pre in both (p .1 .0) (p .1 .1) (c .before .before .before .kind-of .ensures) (c .before .before .kind-of2 .ensures) (c .before .if1 .left) (c .if2 .taken)
@@ -169,7 +169,7 @@ pub +compare+compare-items-spec : {M : Type 1} → statement M
     compare.Post
     (compare-kind-of-requires t)
     (compare-kind-of-requires-2 t)
-    (compare-order-numbers-requires t)
+    (compare-compare-numbers-requires t)
     (compare-returns t)
     (compare-compare-booleans-requires t)
     (compare-returns-2 t)

@@ -1,0 +1,110 @@
+-- The bits of a record and of all below it.
+use mathlib.Core.Path.{_≡_, refl, sym, ap, _∙_}
+use mathlib.Core.Bool.{Bool, true, false, not, _&&_, _||_}
+use mathlib.Core.List.{List, [], _∷_, map}
+use Prim.Native.Nat.{ℕ, zero, suc, _+_, _*_, _^_, _%_, _≤_, _<_}
+use native.Mathlib.Omega.{arith}
+use native.Mathlib.Numerals.{add-one}
+use borrow.Author.Tests.{eq-eqb, ne-eqb, leb-true}
+use lib.Dec.{eqb}
+use lib.Pow.{shl-exact}
+use lib.ListN.{length, getD, drop, set, length-set}
+use lib.Seq.{drop-cons, drop-length, getD-set-same, getD-set-other}
+use Rattle.tables.specs.Record.{Record, Head, name, shape, size, headOf, named, operand, nameOf, isKnown, isFit}
+use Rattle.tables.specs.Table.{pick, recordAt}
+use Rattle.tables.specs.Sheet.{isLoose, fold}
+use Rattle.tables.specs.Laws.{split, Lower, fold-at}
+use Rattle.tables.specs.Accepted.{fit-least, fit-known}
+use Rattle.checking.specs.Scopes.{union, unionOf, own, held, Below}
+
+pub one-bit : (n : ℕ) → n < 32 → (1 * 2 ^ n) % 4294967296 ≡ 2 ^ n
+one-bit n h = shl-exact {a = 1} 1 n 32 (omega arith) (omega arith) ∙ omega arith
+
+-- ---- one record
+
+-- A record whose head is a name has that name, from 0 to 15.
+pub record Named (x : Record) : Type 0 where
+  pub has : 0 < length (x .fields)
+  pub low : nameOf x ≤ 15
+
+pub head-name : (x : Record) → isFit x ≡ true → headOf x ≡ name → Named x
+head-name x fit e =
+    record {
+      has = omega (arith, fit-least x fit, ap size e);
+      low = leb-true (nameOf x) 15 (sym (ap (λ (h : Head). isKnown h x) e) ∙ fit-known x fit);
+    }
+
+pub name-pattern : (x : Record) → isFit x ≡ true → x .kind ≡ 32 → Named x
+unfolding shape
+name-pattern x fit e = head-name x fit (ap (λ (k : ℕ). shape k .head) e)
+
+pub name-read : (x : Record) → isFit x ≡ true → x .kind ≡ 3 → Named x
+unfolding shape
+name-read x fit e = head-name x fit (ap (λ (k : ℕ). shape k .head) e)
+
+pub own-name : (x : Record) (n : ℕ) → x .kind ≡ 32 → n ≡ nameOf x → 2 ^ (n + 2) ≡ own x
+unfolding own
+own-name x n e f = sym (rw (eq-eqb (x .kind) 32 e, f))
+
+pub own-set : (x : Record) → x .kind ≡ 37 → 2 ≡ own x
+unfolding own
+own-set x e = rw e
+
+pub own-union : (x : Record) → x .kind ≡ 38 → 2 ≡ own x
+unfolding own
+own-union x e = rw e
+
+pub own-concatenation : (x : Record) → x .kind ≡ 40 → 2 ≡ own x
+unfolding own
+own-concatenation x e = rw e
+
+pub own-none : (x : Record) → (x .kind ≡ 32 → ⊥) → (x .kind ≡ 37 → ⊥) → (x .kind ≡ 38 → ⊥) → (x .kind ≡ 40 → ⊥) → 0 ≡ own x
+unfolding own
+own-none x a b c d = rw (ne-eqb (x .kind) 32 a, ne-eqb (x .kind) 37 b, ne-eqb (x .kind) 38 c, ne-eqb (x .kind) 40 d)
+
+-- ---- the operands of a record
+
+pub record Turn (rs : List Record) (r m i : ℕ) : Type 0 where
+  pub within : i ≤ length (named (recordAt rs r))
+  pub is : unionOf m (map (held rs) (drop i (named (recordAt rs r)))) ≡ held rs r
+
+pub turn-start : (rs : List Record) (r m : ℕ) → Lower rs → r < length rs → m ≡ own (recordAt rs r) → Turn rs r m 0
+unfolding held
+turn-start rs r m lower h e =
+    record {
+      within = omega arith;
+      is = ap (λ (k : ℕ). unionOf k (map (held rs) (named (recordAt rs r)))) e ∙ sym (fold-at (λ q ms. unionOf (own (recordAt rs q)) ms) 0 rs lower r h);
+    }
+
+pub turn-more : (rs : List Record) (r m i n x : ℕ) → Turn rs r m i → i < length (named (recordAt rs r)) → x ≡ held rs (operand (recordAt rs r) i) → n ≡ union m x → Turn rs r n (i + 1)
+turn-more rs r m i n x t h e f =
+    record {
+      within = omega arith;
+      is =
+          rw (add-one i)
+          (ap (λ (k : ℕ). unionOf k (map (held rs) (drop (suc i) (named (recordAt rs r))))) (f ∙ ap (union m) e)
+          ∙ sym (ap (λ (ns : List ℕ). unionOf m (map (held rs) ns)) (drop-cons (named (recordAt rs r)) i 0 h)) ∙ t .is);
+    }
+
+pub turn-end : (rs : List Record) (r m i : ℕ) → Turn rs r m i → length (named (recordAt rs r)) ≤ i → m ≡ held rs r
+turn-end rs r m i t h =
+    let all : i ≡ length (named (recordAt rs r)) = omega (arith, t .within) in
+    let none : drop i (named (recordAt rs r)) ≡ [] = rw all (drop-length (named (recordAt rs r))) in
+    sym (ap (λ (ns : List ℕ). unionOf m (map (held rs) ns)) none) ∙ t .is
+
+-- ---- all records
+
+pub below-start : (rs : List Record) (bits : List ℕ) → length bits ≡ 200 → Below rs bits 0
+below-start rs bits h = record { long = h; is = λ q k. absurd (omega arith) }
+
+pub below-more : (rs : List Record) (bits bits′ : List ℕ) (r m : ℕ) → r < 200 → Below rs bits r → m ≡ held rs r → bits′ ≡ set bits r m → Below rs bits′ (r + 1)
+below-more rs bits bits′ r m h b e f =
+    record {
+      long = rw f (length-set bits r m ∙ b .long);
+      is =
+          λ q k.
+          split q r (λ l. rw (f, getD-set-other bits r q m 0 (λ same. omega arith)) (b .is q l))
+          (λ l.
+          let same : q ≡ r = omega arith in
+          rw (f, same, getD-set-same bits r m 0 (omega (arith, b .long))) e);
+    }

@@ -1,0 +1,54 @@
+-- Rules 7 and 8, by kind.
+use mathlib.Core.Path.{_≡_, refl, sym, ap, _∙_}
+use mathlib.Core.Bool.{Bool, true, false, not, _&&_, _||_}
+use mathlib.Core.List.{List}
+use Prim.Native.Nat.{ℕ, zero, suc, _+_, _≤_, _<_}
+use native.Mathlib.Omega.{arith}
+use borrow.Author.Tests.{eq-eqb, ne-eqb}
+use lib.Dec.{eqb}
+use lib.ListN.{length}
+use Rattle.tables.specs.Record.{Record, shape, size, headOf, named, nameOf, isFit}
+use Rattle.tables.specs.Table.{recordAt, kindAt}
+use Rattle.tables.specs.Sheet.{loose, patternOf, isBound, inCondition}
+use Rattle.tables.specs.Check.{fault7, chooses, fault8}
+use Rattle.tables.specs.Accepted.{named-count, fit-least}
+
+or-false : (a : Bool) → a ≡ a || false
+or-false true = refl
+or-false false = refl
+
+module _ (rs : List Record) (r : ℕ) (b : Bool) where
+  pub read7 : kindAt rs r ≡ 3 → b ≡ isBound rs r (nameOf (recordAt rs r)) → not b ≡ fault7 rs r
+  unfolding fault7
+  read7 e f = rw e (ap not f ∙ or-false (not (isBound rs r (nameOf (recordAt rs r)))))
+
+  pub pattern7 : kindAt rs r ≡ 32 → b ≡ isBound rs r (nameOf (recordAt rs r)) → b ≡ fault7 rs r
+  unfolding fault7
+  pattern7 e f = rw e f
+
+  pub let-be8 : kindAt rs r ≡ 13 → b ≡ inCondition rs r → b ≡ fault8 rs r
+  unfolding fault8 chooses
+  let-be8 e f = rw e f
+
+  pub let8 : kindAt rs r ≡ 12 → loose rs (patternOf rs r) ≡ true → b ≡ inCondition rs r → b ≡ fault8 rs r
+  unfolding fault8 chooses
+  let8 e l f = rw (e, l) f
+
+module _ (rs : List Record) (r : ℕ) where
+  pub other7 : (kindAt rs r ≡ 3 → ⊥) → (kindAt rs r ≡ 32 → ⊥) → false ≡ fault7 rs r
+  unfolding fault7
+  other7 a b = rw (ne-eqb (kindAt rs r) 3 a, ne-eqb (kindAt rs r) 32 b)
+
+  pub other8 : (kindAt rs r ≡ 13 → ⊥) → (kindAt rs r ≡ 12 → ⊥) → false ≡ fault8 rs r
+  unfolding fault8 chooses
+  other8 a b = rw (ne-eqb (kindAt rs r) 13 a, ne-eqb (kindAt rs r) 12 b)
+
+  pub plain8 : kindAt rs r ≡ 12 → loose rs (patternOf rs r) ≡ false → false ≡ fault8 rs r
+  unfolding fault8 chooses
+  plain8 e l = rw (e, l)
+
+-- A let has operands.
+pub let-operand : (x : Record) → isFit x ≡ true → x .kind ≡ 12 → 0 < length (named x)
+unfolding shape
+let-operand x fit e =
+    omega (arith, named-count x fit, fit-least x fit, ap (λ (k : ℕ). size (shape k .head)) e, ap (λ (k : ℕ). shape k .least) e)

@@ -1,0 +1,8 @@
+mod Scan
+mod Marks
+mod Below
+mod Above
+mod Bits
+mod Faults
+mod Tallness
+mod Verdict

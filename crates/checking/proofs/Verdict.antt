@@ -1,0 +1,95 @@
+-- The rules in their order.
+use mathlib.Core.Path.{_≡_, refl, sym, ap, _∙_}
+use mathlib.Core.Bool.{Bool, true, false, not, _||_}
+use mathlib.Core.List.{List}
+use Prim.Native.Nat.{ℕ, suc, _≤_, _<_}
+use native.Mathlib.Omega.{arith}
+use borrow.Author.Tests.{lt-ltb, le-ltb, eq-eqb, ne-eqb}
+use lib.Dec.{eqb, ltb}
+use lib.ListN.{length}
+use Rattle.tables.specs.declared.Checked.{Checked}
+use Rattle.tables.specs.declared.Checked.the-variants.{Accepted, Refused}
+use Rattle.tables.specs.Record.{Record}
+use Rattle.tables.specs.Table.{pick, cut}
+use Rattle.tables.specs.Sheet.{lowest}
+use Rattle.tables.specs.Check.{mostBytes, mostRecords, fault6, fault7, fault8, fault9, judged, judgedCut, check}
+use Rattle.tables.specs.Laws.{low}
+use Rattle.tables.specs.Accepted.{records, Clear6, some-cut}
+use Rattle.tables.specs.Reading.{Indexed, CutOut}
+use Rattle.tables.specs.declared.reading.Cutting.{Cutting}
+
+-- ---- rules 6 to 9
+
+module _ (rs : List Record) (n : ℕ) (all : n ≡ length rs) where
+  low-all : (test : ℕ → Bool) (l : ℕ) → l ≡ lowest test n → l ≡ lowest test (length rs)
+  low-all test l e = e ∙ ap (lowest test) all
+
+  below : (test : ℕ → Bool) (l : ℕ) → l ≡ lowest test n → l < n → ltb (lowest test (length rs)) (length rs) ≡ true
+  below test l e h = lt-ltb (lowest test (length rs)) (length rs) (omega (arith, low-all test l e))
+
+  above : (test : ℕ → Bool) (l : ℕ) → l ≡ lowest test n → n ≤ l → ltb (lowest test (length rs)) (length rs) ≡ false
+  above test l e h = le-ltb (lowest test (length rs)) (length rs) (omega (arith, low-all test l e))
+
+  pub clear-all : (l : ℕ) → l ≡ lowest (fault6 rs) n → n ≤ l → Clear6 rs
+  clear-all l e h r k = low (fault6 rs) (length rs) .miss r (omega (arith, low-all (fault6 rs) l e))
+
+  module _ (l6 : ℕ) (e6 : l6 ≡ lowest (fault6 rs) n) where
+    pub refused6 : l6 < n → Refused 6 l6 ≡ judged rs
+    unfolding judged
+    refused6 h = rw (below (fault6 rs) l6 e6 h) (ap (Refused 6) (low-all (fault6 rs) l6 e6))
+
+    module _ (c6 : n ≤ l6) (l7 : ℕ) (e7 : l7 ≡ lowest (fault7 rs) n) where
+      pub refused7 : l7 < n → Refused 7 l7 ≡ judged rs
+      unfolding judged
+      refused7 h = rw (above (fault6 rs) l6 e6 c6, below (fault7 rs) l7 e7 h) (ap (Refused 7) (low-all (fault7 rs) l7 e7))
+
+      module _ (c7 : n ≤ l7) (l8 : ℕ) (e8 : l8 ≡ lowest (fault8 rs) n) where
+        pub refused8 : l8 < n → Refused 8 l8 ≡ judged rs
+        unfolding judged
+        refused8 h = rw (above (fault6 rs) l6 e6 c6, above (fault7 rs) l7 e7 c7, below (fault8 rs) l8 e8 h) (ap (Refused 8) (low-all (fault8 rs) l8 e8))
+
+        module _ (c8 : n ≤ l8) (l9 : ℕ) (e9 : l9 ≡ lowest (fault9 rs) n) where
+          pub refused9 : l9 < n → Refused 9 l9 ≡ judged rs
+          unfolding judged
+          refused9 h =
+              rw (above (fault6 rs) l6 e6 c6, above (fault7 rs) l7 e7 c7, above (fault8 rs) l8 e8 c8, below (fault9 rs) l9 e9 h)
+              (ap (Refused 9) (low-all (fault9 rs) l9 e9))
+
+          pub accepted : n ≤ l9 → Accepted n ≡ judged rs
+          unfolding judged
+          accepted h =
+              rw (above (fault6 rs) l6 e6 c6, above (fault7 rs) l7 e7 c7, above (fault8 rs) l8 e8 c8, above (fault9 rs) l9 e9 h) (ap Accepted all)
+
+-- ---- rules 3 to 5
+
+module _ (table : List ℕ) where
+  pub refused-empty : length table ≡ 0 → Refused 3 0 ≡ check table
+  unfolding check
+  refused-empty e = rw (eq-eqb (length table) 0 e)
+
+  pub refused-long : (length table ≡ 0 → ⊥) → mostBytes < length table → Refused 3 0 ≡ check table
+  unfolding check
+  refused-long e h = rw (ne-eqb (length table) 0 e, lt-ltb mostBytes (length table) h)
+
+  module _ (some : length table ≡ 0 → ⊥) (short : length table ≤ mostBytes) (index : List ℕ) (c : Cutting) (out : CutOut table index c) where
+    pub refused4 : c .whole ≡ false → Refused 4 (c .count) ≡ check table
+    unfolding check judgedCut
+    refused4 e =
+        rw (ne-eqb (length table) 0 some, le-ltb mostBytes (length table) short, sym (out .whole) ∙ e) (ap (Refused 4) (out .count))
+
+    module _ (whole : c .whole ≡ true) where
+      pub refused5 : mostRecords < c .count → Refused 5 mostRecords ≡ check table
+      unfolding check judgedCut
+      refused5 h =
+          rw (ne-eqb (length table) 0 some, le-ltb mostBytes (length table) short, sym (out .whole) ∙ whole, lt-ltb mostRecords (length (records table)) (omega (arith, out .count)))
+
+      pub judged-check : c .count ≤ mostRecords → judged (records table) ≡ check table
+      unfolding check judgedCut
+      judged-check h =
+          rw (ne-eqb (length table) 0 some, le-ltb mostBytes (length table) short, sym (out .whole) ∙ whole, le-ltb mostRecords (length (records table)) (omega (arith, out .count)))
+
+      pub some-record : 0 < c .count
+      some-record = omega (arith, out .count, some-cut table (ne-eqb (length table) 0 some) (sym (out .whole) ∙ whole))
+
+      pub cut-indexed : c .count ≤ mostRecords → Indexed table index
+      cut-indexed h = record { few = omega (arith, out .count); place = λ r k. out .places r k (omega (arith, out .count)) }

@@ -1,0 +1,59 @@
+-- The rules one after the other.
+use Rattle.checking.proofs.Verdict.{clear-all, refused6, refused7, refused8, refused9, accepted}
+use Rattle.tables.specs.Accepted.{records}
+use Prim.Native.Nat.{ℕ, suc, _+_, _-_, _*_, _<_, _≤_}
+use native.Mathlib.Omega.{arith}
+use mathlib.Core.Path.{_≡_, refl, sym, ap, _∙_}
+use borrow.Author.Needs.{needs}
+use Rattle.checking.proofs.judge.Statement.{statement}
+use Rattle.checking.proofs.judge.Tie as tie
+use Rattle.checking.proofs.judge.Reads as reads
+use Rattle.checking.proofs.judge.Lts as lts
+use Rattle.checking.proofs.height.lowest9.Reads as lowest9-reads
+use Rattle.checking.proofs.naming.lowest6.Reads as lowest6-reads
+use Rattle.checking.proofs.scope.lowest78.Reads as lowest78-reads
+
+-- src/lib.rt:23:9
+lowest6-requires : tie.Need-lowest6-requires
+lowest6-requires c κs = c .before .pre .0
+
+-- src/lib.rt:25:9
+returns : tie.Need-returns
+returns c = refused6 (records (c .before .before .before .args .table .now)) (c .before .before .before .args .count) (c .before .before .before .pre .0 .all) (c .before .lowest6 .result) (c .before .lowest6 .ensures) (c .if1 .taken)
+
+-- src/lib.rt:27:9
+lowest78-requires : tie.Need-lowest78-requires
+lowest78-requires c κs = record { whole = c .before .before .before .pre .0; clear = clear-all (records (c .before .before .before .args .table .now)) (c .before .before .before .args .count) (c .before .before .before .pre .0 .all) (c .before .lowest6 .result) (c .before .lowest6 .ensures) (c .if1 .left) }
+
+-- src/lib.rt:30:9
+returns-2 : tie.Need-returns-2
+returns-2 c = refused7 (records (c .before .before .before .before .before .args .table .now)) (c .before .before .before .before .before .args .count) (c .before .before .before .before .before .pre .0 .all) (c .before .before .before .lowest6 .result) (c .before .before .before .lowest6 .ensures) (c .before .before .if1 .left) (c .before .lowest78 .result .low7) (c .before .lowest78 .ensures .0) (c .if2 .taken)
+
+-- src/lib.rt:34:9
+returns-3 : tie.Need-returns-3
+returns-3 c = refused8 (records (c .before .before .before .before .before .before .args .table .now)) (c .before .before .before .before .before .before .args .count) (c .before .before .before .before .before .before .pre .0 .all) (c .before .before .before .before .lowest6 .result) (c .before .before .before .before .lowest6 .ensures) (c .before .before .before .if1 .left) (c .before .before .lowest78 .result .low7) (c .before .before .lowest78 .ensures .0) (c .before .if2 .left) (c .before .before .lowest78 .result .low8) (c .before .before .lowest78 .ensures .1) (c .if3 .taken)
+
+-- src/lib.rt:36:9
+lowest9-requires : tie.Need-lowest9-requires
+lowest9-requires c κs = (record { whole = c .before .before .before .before .before .before .pre .0; clear = clear-all (records (c .before .before .before .before .before .before .args .table .now)) (c .before .before .before .before .before .before .args .count) (c .before .before .before .before .before .before .pre .0 .all) (c .before .before .before .before .lowest6 .result) (c .before .before .before .before .lowest6 .ensures) (c .before .before .before .if1 .left) }, c .before .before .before .before .before .before .pre .1)
+
+-- src/lib.rt:38:9
+returns-4 : tie.Need-returns-4
+returns-4 c = refused9 (records (c .before .before .before .before .before .before .before .before .args .table .now)) (c .before .before .before .before .before .before .before .before .args .count) (c .before .before .before .before .before .before .before .before .pre .0 .all) (c .before .before .before .before .before .before .lowest6 .result) (c .before .before .before .before .before .before .lowest6 .ensures) (c .before .before .before .before .before .if1 .left) (c .before .before .before .before .lowest78 .result .low7) (c .before .before .before .before .lowest78 .ensures .0) (c .before .before .before .if2 .left) (c .before .before .before .before .lowest78 .result .low8) (c .before .before .before .before .lowest78 .ensures .1) (c .before .before .if3 .left) (c .before .lowest9 .result) (c .before .lowest9 .ensures) (c .if4 .taken)
+
+-- src/lib.rt:19:1
+returns-5 : tie.Need-returns-5
+returns-5 c = accepted (records (c .before .before .before .before .before .before .before .before .args .table .now)) (c .before .before .before .before .before .before .before .before .args .count) (c .before .before .before .before .before .before .before .before .pre .0 .all) (c .before .before .before .before .before .before .lowest6 .result) (c .before .before .before .before .before .before .lowest6 .ensures) (c .before .before .before .before .before .if1 .left) (c .before .before .before .before .lowest78 .result .low7) (c .before .before .before .before .lowest78 .ensures .0) (c .before .before .before .if2 .left) (c .before .before .before .before .lowest78 .result .low8) (c .before .before .before .before .lowest78 .ensures .1) (c .before .before .if3 .left) (c .before .lowest9 .result) (c .before .lowest9 .ensures) (c .if4 .left)
+
+pub judge-spec : {M : Type 1} → statement M
+judge-spec =
+    tie.close
+    (tie.spec
+    lowest6-requires
+    returns
+    lowest78-requires
+    returns-2
+    returns-3
+    lowest9-requires
+    returns-4
+    returns-5)

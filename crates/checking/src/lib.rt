@@ -1,0 +1,66 @@
+// The check of a table: document 01's rules 3 to 9, each in one or two passes over the records.
+ghost use mathlib.Core.Path.{_≡_};
+ghost use Prim.Native.Nat.{_<_};
+ghost use Rattle.tables.specs.Check.{check as checkOf, judged};
+ghost use Rattle.tables.specs.Accepted.{records};
+ghost use Rattle.checking.specs.Naming.{Whole};
+use height::lowest9;
+use naming::lowest6;
+use scope::lowest78;
+use tables::Checked;
+use tables::MOST_BYTES;
+use tables::MOST_RECORDS;
+use tables::reading::cut;
+
+pub mod height;
+pub mod lowest;
+pub mod naming;
+pub mod scope;
+
+// Rules 6 to 9 on the records that an index finds.
+fn judge(table: &[u8], index: &[u16; 200], count: usize) -> Checked
+    requires { ⌜ Whole (now table) (now index) count × (0 < count) ⌝ }
+    ensures { λ a. ⌜ a ≡ judged (records (now (table .entry))) ⌝ }
+{
+    let low6 = lowest6(table, index, count);
+    if low6 < count {
+        return Checked::Refused(6, low6);
+    }
+    let lows = lowest78(table, index, count);
+    let low7 = lows.low7;
+    if low7 < count {
+        return Checked::Refused(7, low7);
+    }
+    let low8 = lows.low8;
+    if low8 < count {
+        return Checked::Refused(8, low8);
+    }
+    let low9 = lowest9(table, index, count);
+    if low9 < count {
+        return Checked::Refused(9, low9);
+    }
+    Checked::Accepted(count)
+}
+
+// The check of a table, whatever its bytes: the number of records, or the first rule broken and the lowest record at fault.
+pub fn check(table: &[u8]) -> Checked
+    ensures { λ a. ⌜ a ≡ checkOf (now (table .entry)) ⌝ }
+{
+    if table.len() == 0 {
+        return Checked::Refused(3, 0);
+    }
+    if MOST_BYTES < table.len() {
+        return Checked::Refused(3, 0);
+    }
+    let mut index = [0u16; 200];
+    let c = cut(table, &mut index);
+    let count = c.count;
+    let whole = c.whole;
+    if !whole {
+        return Checked::Refused(4, count);
+    }
+    if MOST_RECORDS < count {
+        return Checked::Refused(5, MOST_RECORDS);
+    }
+    judge(table, &index, count)
+}

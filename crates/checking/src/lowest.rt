@@ -1,0 +1,47 @@
+// The lowest record at fault, found record by record.
+ghost use mathlib.Core.Path.{_≡_};
+ghost use mathlib.Core.Bool.{_&&_, _||_};
+ghost use Prim.Native.Nat.{suc, _+_, _<_, _≤_, min};
+ghost use lib.Dec.{eqb, leb, ltb};
+ghost use Rattle.tables.specs.Table.{pick};
+
+// The lowest fault below r + 1, where `low` is the lowest below r (r where there is none).
+pub fn next_low(low: usize, r: usize, fault: bool) -> usize
+    requires { ⌜ (low ≤ r) × (r < 200) ⌝ }
+    ensures { λ p. ⌜ p ≡ pick (ltb low r) low (pick fault r (suc r)) ⌝ }
+{
+    if low < r {
+        return low;
+    }
+    if fault {
+        return r;
+    }
+    r + 1
+}
+
+// The lower of two numbers.
+pub fn lower(a: usize, b: usize) -> usize
+    ensures { λ p. ⌜ p ≡ min a b ⌝ }
+{
+    if a < b { a } else { b }
+}
+
+// One of two truths.
+pub fn either(a: bool, b: bool) -> bool
+    ensures { λ r. ⌜ r ≡ (a || b) ⌝ }
+{
+    if a {
+        return true;
+    }
+    b
+}
+
+// A number within two limits.
+pub fn is_between(low: usize, n: usize, high: usize) -> bool
+    ensures { λ r. ⌜ r ≡ (leb low n && leb n high) ⌝ }
+{
+    if n < low {
+        return false;
+    }
+    n <= high
+}

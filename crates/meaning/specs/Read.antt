@@ -1,0 +1,87 @@
+-- A table as the meaning reads it: the node of each expression record, and the pattern of each pattern record.
+use mathlib.Core.List.{List, [], _∷_}
+use Prim.Native.Nat.{ℕ, _-_}
+use lib.Dec.{eqb}
+use lib.ListN.{length, getD}
+use Rattle.values.specs.Value.{set, sequence, map, tuple, boolean, integer}
+use Rattle.values.specs.Items.{pick}
+use Rattle.operators.specs.Booleans.{and, or, implies}
+use Rattle.patterns.specs.Pattern.{Pattern, Patterns, nil, cons, name, any, literal, each, halved}
+use Rattle.tables.specs.Record.{Record, booleanOf, integerOf, nameOf, operator, operand, named as operandsOf}
+use Rattle.tables.specs.Table.{cut, recordAt}
+use Rattle.tables.specs.Sheet.{fold}
+use Rattle.meaning.specs.Node.{Node, forall, exists, exists1, truth, whole, named, unaryOf, binaryOf, connective, if, enumeration, range, let-in, let-be, quantified, iota, set-comprehension, sequence-comprehension, map-comprehension, application, no-expression}
+use Rattle.meaning.specs.Meaning.{Sheet}
+
+-- ---- expressions
+
+-- 1 and, 2 or, 3 => may not evaluate their right; the others evaluate both.
+abbrev pub binaryNode : ℕ → ℕ → ℕ → Node
+binaryNode op a b =
+    pick (eqb op 1) (connective and a b) (pick (eqb op 2) (connective or a b) (pick (eqb op 3) (connective implies a b) (binaryOf op a b)))
+
+abbrev pub none : Record → Node
+none r = no-expression
+
+-- By kind, from 0.
+abbrev pub nodes : List (Record → Node)
+nodes =
+    none ∷
+    (λ r. truth (booleanOf r)) ∷
+    (λ r. whole (integerOf r)) ∷
+    (λ r. named (nameOf r)) ∷
+    (λ r. unaryOf (operator r) (operand r 0)) ∷
+    (λ r. binaryNode (operator r) (operand r 0) (operand r 1)) ∷
+    (λ r. if (operand r 0) (operand r 1) (operand r 2)) ∷
+    (λ r. enumeration set (operandsOf r)) ∷
+    (λ r. enumeration sequence (operandsOf r)) ∷
+    (λ r. enumeration map (operandsOf r)) ∷
+    (λ r. enumeration tuple (operandsOf r)) ∷
+    (λ r. range (operand r 0) (operand r 1)) ∷
+    (λ r. let-in (operand r 0) (operand r 1) (operand r 2)) ∷
+    (λ r. let-be (operand r 0) (operand r 1) (operand r 2) (operand r 3)) ∷
+    (λ r. quantified forall (operand r 0) (operand r 1) (operand r 2)) ∷
+    (λ r. quantified exists (operand r 0) (operand r 1) (operand r 2)) ∷
+    (λ r. quantified exists1 (operand r 0) (operand r 1) (operand r 2)) ∷
+    (λ r. iota (operand r 0) (operand r 1) (operand r 2)) ∷
+    (λ r. set-comprehension (operand r 0) (operand r 1) (operand r 2) (operand r 3)) ∷
+    (λ r. sequence-comprehension (operand r 0) (operand r 1) (operand r 2) (operand r 3)) ∷
+    (λ r. map-comprehension (operand r 0) (operand r 1) (operand r 2) (operand r 3) (operand r 4)) ∷
+    (λ r. application (operand r 0) (operand r 1)) ∷ []
+
+unfoldable pub nodeOf : Record → Node
+nodeOf r = getD nodes (r .kind) none r
+
+-- ---- patterns
+
+unfoldable pub patternsOf : List Pattern → Patterns
+patternsOf [] = nil
+patternsOf (p ∷ ps) = cons p (patternsOf ps)
+
+-- By kind, from 32, over the patterns of its parts.
+abbrev pub patterns : List (Record → List Pattern → Pattern)
+patterns =
+    (λ r ps. name (nameOf r)) ∷
+    (λ r ps. any) ∷
+    (λ r ps. literal (boolean (booleanOf r))) ∷
+    (λ r ps. literal (integer (integerOf r))) ∷
+    (λ r ps. each tuple (patternsOf ps)) ∷
+    (λ r ps. each set (patternsOf ps)) ∷
+    (λ r ps. halved set (getD ps 0 any) (getD ps 1 any)) ∷
+    (λ r ps. each sequence (patternsOf ps)) ∷
+    (λ r ps. halved sequence (getD ps 0 any) (getD ps 1 any)) ∷ []
+
+abbrev pub patternOf : Record → List Pattern → Pattern
+patternOf r ps = getD patterns (r .kind - 32) (λ q qs. any) r ps
+
+unfoldable pub patternAt : List Record → ℕ → Pattern
+patternAt rs r = fold (λ q ps. patternOf (recordAt rs q) ps) any rs r
+
+-- ---- the sheet
+
+abbrev pub sheetOf : List Record → Sheet
+sheetOf rs = record { node = λ r. nodeOf (recordAt rs r); pattern = λ r. patternAt rs r; size = length rs }
+
+-- The sheet of a table.
+abbrev pub sheet : List ℕ → Sheet
+sheet table = sheetOf (cut table .records)

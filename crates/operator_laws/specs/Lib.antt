@@ -1,0 +1,11 @@
+pub mod Tests
+pub mod KindLaws
+pub mod GatherLaws
+pub mod RangeLaws
+pub mod EntryLaws
+pub mod Results
+pub mod EnumerationLaws
+pub mod BooleanLaws
+pub mod SetLaws
+pub mod SequenceLaws
+pub mod MapLaws

@@ -1,0 +1,87 @@
+-- Items gathered from items: those that pass a test, all of them put into a set or a map, the items of each of them.
+use mathlib.Core.Bool.{Bool, true, false, _&&_, _||_}
+use Prim.Native.Nat.{ℕ, zero, suc}
+use lib.Dec.{eqb}
+use lib.IntN.{ℤ, pos, _+ℤ_}
+use Rattle.values.specs.Value.{Kind, number, Value, boolean, integer, collection, Items, none, more}
+use Rattle.values.specs.Items.{pick, join, insert, enter}
+
+-- ---- items and members
+
+-- Does every item pass the test? Does some item?
+unfoldable pub every : (Value → Bool) → Items → Bool
+every p none = true
+every p (more v vs) = p v && every p vs
+
+unfoldable pub any : (Value → Bool) → Items → Bool
+any p none = false
+any p (more v vs) = p v || any p vs
+
+-- The items that pass the test, in their order.
+unfoldable pub keep : (Value → Bool) → Items → Items
+keep p none = none
+keep p (more v vs) = pick (p v) (more v (keep p vs)) (keep p vs)
+
+-- The members of a set, and then each of these values put in, the first first.
+unfoldable pub insertAll : Items → Items → Items
+insertAll vs none = vs
+insertAll vs (more w ws) = insertAll (insert w vs) ws
+
+-- The items of a value: of a boolean or an integer, none.
+abbrev pub itemsOf : Value → Items
+itemsOf (boolean b) = none
+itemsOf (integer z) = none
+itemsOf (collection k vs) = vs
+
+-- Is it a collection of this kind?
+abbrev pub isKind : Kind → Value → Bool
+isKind k (boolean b) = false
+isKind k (integer z) = false
+isKind k (collection l vs) = eqb (number k) (number l)
+
+-- The items of the first, then those of the second, and so on.
+unfoldable pub flatten : Items → Items
+flatten none = none
+flatten (more v vs) = join (itemsOf v) (flatten vs)
+
+-- The items from the last to the first.
+unfoldable pub backwards : Items → Items
+backwards none = none
+backwards (more v vs) = join (backwards vs) (more v none)
+
+-- So many integers, one after another, from z up.
+unfoldable pub upFrom : ℤ → ℕ → Items
+upFrom z zero = none
+upFrom z (suc n) = more (integer z) (upFrom (z +ℤ pos 1) n)
+
+-- ---- the entries of a map: key, value, key, value. (The second of each pair stands where the key k was just read.)
+
+-- Does every entry pass the test?
+unfoldable mutual
+  pub everyEntry : (Value → Value → Bool) → Items → Bool
+  everyEntry p none = true
+  everyEntry p (more k vs) = everyEntryAt p k vs
+
+  pub everyEntryAt : (Value → Value → Bool) → Value → Items → Bool
+  everyEntryAt p k none = true
+  everyEntryAt p k (more v vs) = p k v && everyEntry p vs
+
+-- The entries that pass the test, in their order.
+unfoldable mutual
+  pub keepEntries : (Value → Value → Bool) → Items → Items
+  keepEntries p none = none
+  keepEntries p (more k vs) = keepEntriesAt p k vs
+
+  pub keepEntriesAt : (Value → Value → Bool) → Value → Items → Items
+  keepEntriesAt p k none = none
+  keepEntriesAt p k (more v vs) = pick (p k v) (more k (more v (keepEntries p vs))) (keepEntries p vs)
+
+-- The entries of a map, and then each of these put in, the first first: a value gives way to a later one of the same key.
+unfoldable mutual
+  pub enterAll : Items → Items → Items
+  enterAll vs none = vs
+  enterAll vs (more k ws) = enterAllAt vs k ws
+
+  pub enterAllAt : Items → Value → Items → Items
+  enterAllAt vs k none = vs
+  enterAllAt vs k (more v ws) = enterAll (enter k v vs) ws

@@ -1,0 +1,10 @@
+pub mod Answer
+pub mod Gather
+pub mod Booleans
+pub mod Arithmetic
+pub mod Sets
+pub mod Sequences
+pub mod Maps
+pub mod Enumerations
+pub mod Operators
+pub mod Samples

@@ -1,0 +1,6 @@
+mod Choosing
+mod Running
+mod Comparing
+mod Parting
+mod Halving
+mod Putting

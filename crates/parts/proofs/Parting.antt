@@ -1,0 +1,206 @@
+-- The functions on parts, said of lists, places and numbers alone.
+use mathlib.Core.Path.{_≡_, refl, sym, ap, ap₂, subst, _∙_}
+use mathlib.Core.Bool.{false}
+use mathlib.Core.Logic.{inl, inr}
+use mathlib.Core.List.{List, _∷_}
+use Prim.Native.Nat.{ℕ, suc, _+_, _-_, _^_, _≤_, _<_}
+use native.Mathlib.Nat.{pow-le-pow-right}
+use native.Mathlib.Omega.{arith}
+use lib.ListN.{length, getD, drop}
+use lib.Seq.{drop-cons}
+use Rattle.integers.specs.declared.Order.{Order}
+use Rattle.integers.specs.declared.Order.the-variants.{Lower, Higher}
+use Rattle.values.specs.Value.{Kind, number, Value, boolean, collection, Items, kindOf, after, order, orderItems, within}
+use Rattle.values.specs.Place.{At, ItemsAt, Holds}
+use Rattle.values.specs.Contract.{Length, KindAt, Ordered}
+use Rattle.integers.specs.Order.{orderℕ}
+use Rattle.integers.specs.Ordered.{lt-lower, gt-higher, eq-same}
+use Rattle.values.specs.Records.{holds, items-to, is-collection}
+use Rattle.patterns.specs.Pattern.{listOf, itemsOf}
+use Rattle.patterns.specs.Matched.{items-list}
+use Rattle.parts.specs.declared.Part.{Part}
+use Rattle.parts.specs.declared.runs.Run.{Run}
+use Rattle.parts.specs.Chosen.{everyOne, keep, chosen-all, chosen-keep}
+use Rattle.parts.specs.Part.{PartIs, PartHeld, endOf}
+use Rattle.parts.specs.Laws.{whole-of, selects-of, spans-of, part-one, one-collection, end-span, end-record}
+use Rattle.parts.specs.Run.{RunIs, RunHeld, Startable, ReadyRun, RunOf, CountOf, SkipHeld, Skipped, OrderedRuns}
+use Rattle.parts.specs.Contract.{KindOfPart, CollectionHeld, CountOfPart, OrderedParts, ItemHeld, ItemOfPart}
+use Rattle.parts.proofs.Running.{ready-odd, run-head, more-less}
+
+-- ---- which parts there are
+
+every-run : {s : List ℕ} {from to : ℕ} (vs : List Value) → ItemsAt s from to (itemsOf vs) → RunIs s (record { from = from; to = to; mask = everyOne }) vs
+every-run vs h = record { all = vs; here = h; small = omega arith; stands = ready-odd everyOne vs refl; is = sym (chosen-all vs) }
+
+module _ {s : List ℕ} {p : Part} where
+  pub how-low : PartHeld s p → (1 ≤ p .how) × (p .how ≤ 3)
+  how-low h = go (h .here)
+    where
+      go : {v : Value} → PartIs s p v → (1 ≤ p .how) × (p .how ≤ 3)
+      go (inl x) = (omega (arith, x .0), omega (arith, x .0))
+      go (inr (inl x)) = (omega (arith, x .0), omega (arith, x .0))
+      go (inr (inr x)) = (omega (arith, x .0), omega (arith, x .0))
+
+  -- a part that is no span has a record at its place
+  pub record-of : {v : Value} → (p .how ≡ 3 → ⊥) → PartIs s p v → Holds s (p .at)
+  record-of f (inl h) = holds (h .1)
+  record-of f (inr (inl h)) = holds (h .1 .here)
+  record-of f (inr (inr h)) = absurd (f (h .0))
+
+  whole-left : {v : Value} → (p .how ≡ 2 → ⊥) → (p .how ≡ 3 → ⊥) → PartIs s p v → At s (p .at) v
+  whole-left f g (inl h) = h .1
+  whole-left f g (inr (inl h)) = absurd (f (h .0))
+  whole-left f g (inr (inr h)) = absurd (g (h .0))
+
+  -- ---- `kind_of_part`
+
+  pub kind-selects : p .how ≡ 2 → KindOfPart s p 3
+  kind-selects e v h = sym (ap kindOf (selects-of e h .is))
+
+  pub kind-spans : p .how ≡ 3 → KindOfPart s p 4
+  kind-spans e v h = sym (ap kindOf (spans-of e h .is))
+
+  pub kind-whole : {k : ℕ} → (p .how ≡ 2 → ⊥) → (p .how ≡ 3 → ⊥) → KindAt s (p .at) k → KindOfPart s p k
+  kind-whole f g c v h = c .right v (whole-left f g h)
+
+  -- ---- `run_of`
+
+  pub run-spans : {v : Value} → p .how ≡ 3 → PartIs s p v → RunOf s p (record { from = p .at; to = p .extent; mask = everyOne })
+  run-spans e g = record {
+    short = let x = spans-of e g in let i = x .here .ends in let n = x .short in omega arith;
+    ends = omega (arith, end-span s p e);
+    every = λ f. refl;
+    right = λ k vs h. let x = spans-of e h in every-run vs (subst (λ (l : List Value). ItemsAt s (p .at) (p .extent) (itemsOf l)) (sym (one-collection (x .is))) (x .here));
+  }
+
+  pub run-whole : {n : ℕ} → (p .how ≡ 2 → ⊥) → (p .how ≡ 3 → ⊥) → Length s (p .at) n → RunOf s p (record { from = p .at + 4; to = p .at + n; mask = everyOne })
+  run-whole f g c = record {
+    short = let h = c .high in omega arith;
+    ends = let e = c .is in omega (arith, end-record s p g);
+    every = λ f. refl;
+    right = λ k vs h. every-run vs (items-to (c .is) (whole-left f g h));
+  }
+
+  pub selects-startable : {n : ℕ} {v : Value} → p .how ≡ 2 → Length s (p .at) n → PartIs s p v → Startable s (record { from = p .at + 4; to = p .at + n; mask = p .extent })
+  selects-startable e c h =
+      let x = selects-of e h in
+      let f = x .few in
+      let b = x .below in
+      let l : 2 ^ length (x .all) ≤ 2 ^ 7 = pow-le-pow-right (omega arith) f in
+      record { items = x .all; here = items-to (c .is) (x .here); small = omega arith }
+
+  pub run-selects : {n : ℕ} {r : Run} → p .how ≡ 2 → Length s (p .at) n → ReadyRun s (record { from = p .at + 4; to = p .at + n; mask = p .extent }) r → RunOf s p r
+  run-selects {n} {r} e c q = record {
+    ends = let d = c .is in let t = q .to in omega (arith, end-record s p (λ z. omega (arith, z)));
+    short = let h = c .high in let t = q .to in let o = q .from in omega arith;
+    every = λ f. absurd (f e);
+    right = right;
+  }
+    where
+      right : (k : Kind) (vs : List Value) → PartIs s p (collection k (itemsOf vs)) → RunIs s r vs
+      right k vs h =
+          let x = selects-of e h in
+          let f = x .few in
+          let b = x .below in
+          let l : 2 ^ length (x .all) ≤ 2 ^ 7 = pow-le-pow-right (omega arith) f in
+          let d : vs ≡ keep (p .extent) (x .all) = one-collection (x .is) in
+          subst (RunIs s r) (sym (d ∙ sym (chosen-keep (p .extent) (x .all) (λ z. omega arith)))) (q .right (x .all) (items-to (c .is) (x .here)))
+
+  -- ---- `count_of_part`
+
+  pub run-held : {r : Run} → CollectionHeld s p → RunOf s p r → RunHeld s r
+  run-held h c = record { items = h .items; here = c .right (h .kind) (h .items) (h .here) }
+
+  pub part-counted : {r : Run} {n : ℕ} → RunOf s p r → CountOf s r n → CountOfPart s p n
+  part-counted c d k vs h = d vs (c .right k vs h)
+
+-- ---- `order_parts`
+
+as-list : (k : Kind) (vs : Items) → collection k vs ≡ collection k (itemsOf (listOf vs))
+as-list k vs = ap (collection k) (sym (items-list vs))
+
+-- a part of a kind from 3 on denotes a collection
+pub collection-held : {s : List ℕ} {p : Part} {k : ℕ} → KindOfPart s p k → 3 ≤ k → PartHeld s p → CollectionHeld s p
+collection-held {s} {p} c l h =
+    let e = c (h .value) (h .here) in
+    let (k, vs, d) = is-collection (h .value) (λ z. omega arith) (λ z. omega arith) in
+    record { kind = k; items = listOf vs; here = subst (PartIs s p) (d ∙ as-list k vs) (h .here) }
+
+module _ {s : List ℕ} {p q : Part} {k l : ℕ} (cp : KindOfPart s p k) (cq : KindOfPart s q l) where
+  pub kinds-lower : k < l → OrderedParts s p q Lower
+  kinds-lower h v w x y =
+      let e = cp v x in
+      let f = cq w y in
+      let z : orderℕ (kindOf v) (kindOf w) ≡ Lower = lt-lower (kindOf v) (kindOf w) (omega arith) in
+      sym (ap (λ (o : Order). after o (within v w)) z)
+
+  pub kinds-higher : l < k → OrderedParts s p q Higher
+  kinds-higher h v w x y =
+      let e = cp v x in
+      let f = cq w y in
+      let z : orderℕ (kindOf v) (kindOf w) ≡ Higher = gt-higher (kindOf v) (kindOf w) (omega arith) in
+      sym (ap (λ (o : Order). after o (within v w)) z)
+
+-- a part of a kind below 3 is a whole record
+pub plain-how : {s : List ℕ} {p : Part} {k : ℕ} {v : Value} → KindOfPart s p k → k < 3 → PartIs s p v → p .how ≡ 1
+plain-how c l (inl h) = h .0
+plain-how {v = v} c l (inr (inl h)) = absurd (let e = c v (inr (inl h)) in let d = ap kindOf (h .1 .is) in omega arith)
+plain-how {v = v} c l (inr (inr h)) = absurd (let e = c v (inr (inr h)) in let d = ap kindOf (h .1 .is) in omega arith)
+
+pub plain-held : {s : List ℕ} {p : Part} {k : ℕ} → KindOfPart s p k → k < 3 → PartHeld s p → Holds s (p .at)
+plain-held c l h = holds (whole-of (plain-how c l (h .here)) (h .here))
+
+pub plain-order : {s : List ℕ} {p q : Part} {k l : ℕ} {o : Order} → KindOfPart s p k → KindOfPart s q l → k < 3 → l < 3 → Ordered s (p .at) (q .at) o → OrderedParts s p q o
+plain-order cp cq h g c v w x y = c v w (whole-of (plain-how cp h x) x) (whole-of (plain-how cq g y) y)
+
+-- two collections of one kind are ordered as their items
+collections-order : (k l : Kind) (vs ws : List Value) → number k ≡ number l → order (collection k (itemsOf vs)) (collection l (itemsOf ws)) ≡ orderItems (itemsOf vs) (itemsOf ws)
+unfolding within
+collections-order k l vs ws e = rw (eq-same (number k) (number l) e)
+
+pub runs-order : {s : List ℕ} {p q : Part} {k l : ℕ} {a b : Run} {o : Order} → KindOfPart s p k → KindOfPart s q l → 3 ≤ k → k ≡ l → RunOf s p a → RunOf s q b → OrderedRuns s a b o → OrderedParts s p q o
+runs-order {s} {p} {q} cp cq h e ra rb c v w x y =
+    let ev = cp v x in
+    let ew = cq w y in
+    let (i, vs, d) = is-collection v (λ z. omega arith) (λ z. omega arith) in
+    let (j, ws, f) = is-collection w (λ z. omega arith) (λ z. omega arith) in
+    let dv = d ∙ as-list i vs in
+    let dw = f ∙ as-list j ws in
+    let n : number i ≡ number j = sym (ap kindOf d) ∙ sym ev ∙ e ∙ ew ∙ ap kindOf f in
+    c (listOf vs) (listOf ws) (ra .right i (listOf vs) (subst (PartIs s p) dv x)) (rb .right j (listOf ws) (subst (PartIs s q) dw y))
+    ∙ sym (ap₂ order dv dw ∙ collections-order i j (listOf vs) (listOf ws) n)
+
+-- ---- `item_of_part`
+
+module _ {s : List ℕ} {p : Part} {k : ℕ} where
+  pub item-collection : ItemHeld s p k → CollectionHeld s p
+  item-collection h = record { kind = h .kind; items = h .items; here = h .here }
+
+  pub item-skip : {r : Run} → ItemHeld s p k → RunOf s p r → SkipHeld s r k
+  item-skip h c = record { items = h .items; here = c .right (h .kind) (h .items) (h .here); enough = let b = h .below in omega arith }
+
+  pub item-is : {r q : Run} → ItemHeld s p k → RunOf s p r → Skipped s r k q → ItemOfPart s p k (record { how = 1; at = q .from; extent = 0 })
+  item-is {r} {q} h c d = record { whole = refl; right = right; ends = ends }
+    where
+      there : (kind : Kind) (vs : List Value) (e : Value) → PartIs s p (collection kind (itemsOf vs)) → RunIs s q (getD vs k e ∷ drop (suc k) vs)
+      there kind vs e x =
+          let n : vs ≡ h .items = one-collection (part-one x (h .here)) in
+          let b = h .below in
+          let l : k < length vs = subst (λ (m : List Value). k < length m) (sym n) b in
+          subst (RunIs s q) (drop-cons vs k e l) (d .right vs (c .right kind vs x))
+
+      right : (kind : Kind) (vs : List Value) (e : Value) → PartIs s p (collection kind (itemsOf vs)) → At s (q .from) (getD vs k e)
+      right kind vs e x =
+          let g = there kind vs e x in
+          let y = run-head (getD vs k e ∷ drop (suc k) vs) (more-less g) g in
+          let z : getD vs k e ≡ y .first = let i = y .is in cc in
+          subst (At s (q .from)) (sym z) (y .first-at)
+
+      ends : endOf s (record { how = 1; at = q .from; extent = 0 }) ≤ endOf s p
+      ends =
+          let g = there (h .kind) (h .items) (boolean false) (h .here) in
+          let y = run-head (getD (h .items) k (boolean false) ∷ drop (suc k) (h .items)) (more-less g) g in
+          let i = y .inside in
+          let t = d .to in
+          let u = c .ends in
+          omega arith

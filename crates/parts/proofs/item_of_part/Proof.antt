@@ -1,0 +1,16 @@
+-- `item_of_part`: where its run stands after k items.
+use Rattle.parts.proofs.Parting.{item-collection, item-skip, item-is}
+use Rattle.parts.proofs.item_of_part.Statement.{statement}
+use Rattle.parts.proofs.item_of_part.Tie as tie
+
+run-of-requires : tie.Need-run-of-requires
+run-of-requires c κs = item-collection (c .before .pre)
+
+skip-requires : tie.Need-skip-requires
+skip-requires c κs = item-skip (c .before .before .pre) (c .run-of .ensures)
+
+returns : tie.Need-returns
+returns c = item-is (c .before .before .before .pre) (c .before .run-of .ensures) (c .skip .ensures)
+
+pub item-of-part-spec : {M : Type 1} → statement M
+item-of-part-spec = tie.close (tie.spec run-of-requires skip-requires returns)

@@ -1,0 +1,39 @@
+-- `run_of`: the items of a whole collection, those chosen, or a span.
+use native.Mathlib.Omega.{arith}
+use Rattle.parts.proofs.Parting.{record-of, run-spans, run-whole, selects-startable, run-selects}
+use Rattle.parts.proofs.runs.run_of.Statement.{statement}
+use Rattle.parts.proofs.runs.run_of.Tie as tie
+
+returns : tie.Need-returns
+returns c = run-spans (c .if1 .taken) (c .before .before .before .pre .here)
+
+length-of-requires : tie.Need-length-of-requires
+length-of-requires c κs = record-of (c .if1 .left) (c .before .before .before .pre .here)
+
+add-end : tie.Need-add-end
+add-end c =
+    let x = record-of (c .before .if1 .left) (c .before .before .before .before .pre .here) in
+    let e = c .length-of .ensures .is in
+    omega arith
+
+add-t8 : tie.Need-add-t8
+add-t8 c =
+    let x = record-of (c .before .before .before .if1 .left) (c .before .before .before .before .before .before .pre .here) in
+    omega arith
+
+ready-requires : tie.Need-ready-requires
+ready-requires c κs = selects-startable (c .if2 .taken) (c .before .before .length-of .ensures) (c .before .before .before .before .before .before .pre .here)
+
+returns-2 : tie.Need-returns-2
+returns-2 c = run-selects (c .before .if2 .taken) (c .before .before .before .length-of .ensures) (c .ready .ensures)
+
+add-t7 : tie.Need-add-t7
+add-t7 c =
+    let x = record-of (c .before .before .before .if1 .left) (c .before .before .before .before .before .before .pre .here) in
+    omega arith
+
+returns-3 : tie.Need-returns-3
+returns-3 c = run-whole (c .if2 .left) (c .before .before .before .if1 .left) (c .before .before .length-of .ensures)
+
+pub run-of-spec : {M : Type 1} → statement M
+run-of-spec = tie.close (tie.spec returns length-of-requires add-end add-t8 ready-requires returns-2 add-t7 returns-3)

@@ -1,0 +1,108 @@
+-- What the functions on parts ask and promise. Each promise is for whatever value the part denotes: by `part-one` there is one.
+use mathlib.Core.Path.{_≡_}
+use mathlib.Core.List.{List, []}
+use Prim.Native.Nat.{ℕ, _+_, _^_, _≤_, _<_}
+use lib.ListN.{length, getD}
+use Rattle.integers.specs.declared.Order.{Order}
+use Rattle.values.specs.Value.{Kind, set, sequence, Value, collection, kindOf, size, order, limit}
+use Rattle.values.specs.Place.{At, Outside}
+use Rattle.patterns.specs.Ways.{Halves as Split, halves, splits, cuts}
+use Rattle.patterns.specs.Pattern.{itemsOf, leftOf, rightOf}
+use Rattle.parts.specs.declared.Part.{Part}
+use Rattle.parts.specs.declared.Halves.{Halves}
+use Rattle.parts.specs.Part.{Selects, PartIs, endOf}
+
+-- ---- reading
+
+-- r is the kind of the value
+abbrev pub KindOfPart : List ℕ → Part → ℕ → Type 0
+KindOfPart s p r = (v : Value) → PartIs s p v → r ≡ kindOf v
+
+-- A part denotes a collection.
+pub record CollectionHeld (s : List ℕ) (p : Part) : Type 0 where
+  pub kind : Kind
+  pub items : List Value
+  pub here : PartIs s p (collection kind (itemsOf items))
+
+-- r is the number of its items
+abbrev pub CountOfPart : List ℕ → Part → ℕ → Type 0
+CountOfPart s p r = (k : Kind) (vs : List Value) → PartIs s p (collection k (itemsOf vs)) → r ≡ length vs
+
+-- o is the order of the two values
+abbrev pub OrderedParts : List ℕ → Part → Part → Order → Type 0
+OrderedParts s p q o = (v w : Value) → PartIs s p v → PartIs s q w → o ≡ order v w
+
+-- A part denotes a collection of more than k items.
+pub record ItemHeld (s : List ℕ) (p : Part) (k : ℕ) : Type 0 where
+  pub kind : Kind
+  pub items : List Value
+  pub here : PartIs s p (collection kind (itemsOf items))
+  pub below : k < length items
+
+-- r denotes the k-th of them, a whole record
+pub record ItemOfPart (s : List ℕ) (p : Part) (k : ℕ) (r : Part) : Type 0 where
+  pub whole : r .how ≡ 1
+  pub right : (kind : Kind) (vs : List Value) (d : Value) → PartIs s p (collection kind (itemsOf vs)) → At s (r .at) (getD vs k d)
+  pub ends : endOf s r ≤ endOf s p
+
+-- ---- halves
+
+-- The two parts denote the two halves, of kind k.
+pub record HalvesAre (s : List ℕ) (k : Kind) (h : Split Value) (r : Halves) : Type 0 where
+  pub left : PartIs s (r .left) (leftOf k h)
+  pub right : PartIs s (r .right) (rightOf k h)
+
+-- They end where the whole ends, or before.
+pub record Inside (s : List ℕ) (p : Part) (r : Halves) : Type 0 where
+  pub left : endOf s (r .left) ≤ endOf s p
+  pub right : endOf s (r .right) ≤ endOf s p
+
+-- A part denotes a set of at most seven.
+pub record Countable (s : List ℕ) (p : Part) : Type 0 where
+  pub items : List Value
+  pub here : PartIs s p (collection set (itemsOf items))
+  pub few : length items ≤ 7
+
+-- m chooses its members from those of the set whose record stands there
+pub record MaskOf (s : List ℕ) (p : Part) (m : ℕ) : Type 0 where
+  pub low : m < 128
+  pub right : (vs : List Value) → PartIs s p (collection set (itemsOf vs)) → Selects s (p .at) m (collection set (itemsOf vs))
+
+-- A part denotes a set of at most seven members, and d is the number of one of its splits.
+pub record SplitHeld (s : List ℕ) (p : Part) (d : ℕ) : Type 0 where
+  pub items : List Value
+  pub here : PartIs s p (collection set (itemsOf items))
+  pub few : length items ≤ 7
+  pub below : d < 2 ^ length items
+
+-- r is the d-th split
+pub record SplitOf (s : List ℕ) (p : Part) (d : ℕ) (r : Halves) : Type 0 where
+  pub right : (vs : List Value) → PartIs s p (collection set (itemsOf vs)) → HalvesAre s set (getD (splits vs) d (halves [] [])) r
+  pub inside : Inside s p r
+
+-- A part denotes a sequence, and k is the number of one of its cuts.
+pub record CutHeld (s : List ℕ) (p : Part) (k : ℕ) : Type 0 where
+  pub items : List Value
+  pub here : PartIs s p (collection sequence (itemsOf items))
+  pub below : k ≤ length items
+
+-- r is the k-th cut
+pub record CutOf (s : List ℕ) (p : Part) (k : ℕ) (r : Halves) : Type 0 where
+  pub right : (vs : List Value) → PartIs s p (collection sequence (itemsOf vs)) → HalvesAre s sequence (getD (cuts vs) k (halves [] [])) r
+  pub inside : Inside s p r
+
+-- ---- writing
+
+-- A part lies below a place, with room for any value there.
+pub record Puttable (s : List ℕ) (p : Part) (base : ℕ) : Type 0 where
+  pub value : Value
+  pub here : PartIs s p value
+  pub below : endOf s p ≤ base
+  pub room : base + limit ≤ length s
+
+-- t is s with the record of the value at a place; it ends at r
+pub record PutPart (s t : List ℕ) (p : Part) (base r : ℕ) : Type 0 where
+  pub outside : Outside s t base r
+  pub high : r ≤ base + limit
+  pub ends : (v : Value) → PartIs s p v → r ≡ base + size v
+  pub right : (v : Value) → PartIs s p v → At t base v

@@ -1,0 +1,119 @@
+-- Laws of parts: one part denotes one value, which is well-formed; and what is written above a part leaves it as it is.
+use mathlib.Core.Path.{_≡_, refl, sym, ap, subst, _∙_}
+use mathlib.Core.Bool.{Bool, true, false}
+use mathlib.Core.Logic.{inl, inr}
+use mathlib.Core.List.{List, [], _∷_}
+use Prim.Native.Nat.{ℕ, _+_, _/_, _≤_}
+use native.Mathlib.Omega.{arith}
+use lib.ListN.{length, take}
+use borrow.Author.Tests.{eq-eqb, ne-eqb}
+use Rattle.integers.specs.Bytes.{word}
+use Rattle.values.specs.Value.{Kind, set, sequence, Value, collection, WellFormed}
+use Rattle.values.specs.Items.{pick}
+use Rattle.values.specs.Place.{At}
+use Rattle.values.specs.Encoding.{size-low}
+use Rattle.values.specs.Records.{one-value, one-list, word-size, well-formed-collection}
+use Rattle.values.specs.Frame.{kept, items-kept, word-kept}
+use Rattle.patterns.specs.Pattern.{listOf, itemsOf}
+use Rattle.patterns.specs.Matched.{list-items}
+use Rattle.patterns.specs.Named.{PartOf, part-fine}
+use Rattle.parts.specs.declared.Part.{Part}
+use Rattle.parts.specs.Chosen.{odd, keep}
+use Rattle.parts.specs.Part.{Selects, Spans, PartIs, endOf}
+
+-- ---- by its how
+
+module _ {s : List ℕ} {p : Part} {v : Value} where
+  pub whole-of : p .how ≡ 1 → PartIs s p v → At s (p .at) v
+  whole-of e (inl h) = h .1
+  whole-of e (inr (inl h)) = absurd (omega (arith, h .0))
+  whole-of e (inr (inr h)) = absurd (omega (arith, h .0))
+
+  pub selects-of : p .how ≡ 2 → PartIs s p v → Selects s (p .at) (p .extent) v
+  selects-of e (inl h) = absurd (omega (arith, h .0))
+  selects-of e (inr (inl h)) = h .1
+  selects-of e (inr (inr h)) = absurd (omega (arith, h .0))
+
+  pub spans-of : p .how ≡ 3 → PartIs s p v → Spans s (p .at) (p .extent) v
+  spans-of e (inl h) = absurd (omega (arith, h .0))
+  spans-of e (inr (inl h)) = absurd (omega (arith, h .0))
+  spans-of e (inr (inr h)) = h .1
+
+-- ---- one value
+
+pub itemsOf-injective : (vs ws : List Value) → itemsOf vs ≡ itemsOf ws → vs ≡ ws
+itemsOf-injective vs ws e = sym (list-items vs) ∙ ap listOf e ∙ list-items ws
+
+items-equal : (k : Kind) (vs ws : List Value) → collection k (itemsOf vs) ≡ collection k (itemsOf ws) → vs ≡ ws
+items-equal k vs ws e = itemsOf-injective vs ws (cc)
+
+-- the items of a collection that is given twice
+pub one-collection : {k l : Kind} {vs ws : List Value} → collection k (itemsOf vs) ≡ collection l (itemsOf ws) → vs ≡ ws
+one-collection {vs = vs} {ws = ws} e = itemsOf-injective vs ws (cc)
+
+selects-one : {s : List ℕ} {at mask : ℕ} {v w : Value} → Selects s at mask v → Selects s at mask w → v ≡ w
+selects-one {mask = mask} h g =
+    h .is ∙ ap (λ (l : List Value). collection set (itemsOf (keep mask l))) (items-equal set (h .all) (g .all) (one-value (h .here) (g .here))) ∙ sym (g .is)
+
+spans-one : {s : List ℕ} {from to : ℕ} {v w : Value} → Spans s from to v → Spans s from to w → v ≡ w
+spans-one h g = h .is ∙ ap (collection sequence) (one-list (h .here) (g .here)) ∙ sym (g .is)
+
+-- THEOREM: a part denotes one value
+pub part-one : {s : List ℕ} {p : Part} {v w : Value} → PartIs s p v → PartIs s p w → v ≡ w
+part-one (inl h) g = one-value (h .1) (whole-of (h .0) g)
+part-one (inr (inl h)) g = selects-one (h .1) (selects-of (h .0) g)
+part-one (inr (inr h)) g = spans-one (h .1) (spans-of (h .0) g)
+
+-- ---- well-formed
+
+pub keep-part : (m : ℕ) (vs : List Value) → PartOf (keep m vs) vs
+unfolding keep
+keep-part m [] = refl
+keep-part m (v ∷ vs) = go (odd m) (keep-part (m / 2) vs)
+  where
+    go : (b : Bool) → PartOf (keep (m / 2) vs) vs → PartOf (pick b (v ∷ keep (m / 2) vs) (keep (m / 2) vs)) (v ∷ vs)
+    go true h = inr (keep (m / 2) vs, refl, h)
+    go false h = inl h
+
+-- THEOREM: what a part denotes is well-formed
+pub part-well-formed : {s : List ℕ} {p : Part} {v : Value} → PartIs s p v → WellFormed v
+part-well-formed (inl h) = h .1 .fine
+part-well-formed {p = p} (inr (inl h)) =
+    let x = h .1 in
+    subst WellFormed (sym (x .is)) (part-fine set (keep (p .extent) (x .all)) (x .all) tt (keep-part (p .extent) (x .all)) (x .here .fine))
+part-well-formed (inr (inr h)) =
+    let x = h .1 in
+    subst WellFormed (sym (x .is)) (well-formed-collection tt (x .here .fine) (x .short))
+
+-- ---- where a part ends
+
+pub end-span : (s : List ℕ) (p : Part) → p .how ≡ 3 → endOf s p ≡ p .extent
+end-span s p e = rw (eq-eqb (p .how) 3 e)
+
+pub end-record : (s : List ℕ) (p : Part) → (p .how ≡ 3 → ⊥) → endOf s p ≡ p .at + word s (p .at)
+end-record s p f = rw (ne-eqb (p .how) 3 f)
+
+-- ---- kept
+
+-- THEOREM: a part below a place denotes the same where what is below that place is as it was, and ends at the same place
+pub part-kept : {s t : List ℕ} {base : ℕ} {p : Part} {v : Value} → take base t ≡ take base s → base ≤ length t → endOf s p ≤ base → PartIs s p v → PartIs t p v × (endOf t p ≡ endOf s p)
+part-kept {s} {t} {base} {p} {v} e l b (inl h) =
+    let n = end-record s p (λ q. omega (arith, h .0)) in
+    let m = end-record t p (λ q. omega (arith, h .0)) in
+    let w = word-size (h .1) in
+    let low = size-low v in
+    (inl (h .0, kept e l (omega arith) (h .1)), m ∙ ap (λ (x : ℕ). p .at + x) (word-kept base (p .at) s t (omega arith) e) ∙ sym n)
+part-kept {s} {t} {base} {p} {v} e l b (inr (inl h)) =
+    let x = h .1 in
+    let n = end-record s p (λ q. omega (arith, h .0)) in
+    let m = end-record t p (λ q. omega (arith, h .0)) in
+    let w = word-size (x .here) in
+    let low = size-low (collection set (itemsOf (x .all))) in (
+      inr (inl (h .0, record { all = x .all; here = kept e l (omega arith) (x .here); few = x .few; below = x .below; is = x .is })),
+      m ∙ ap (λ (y : ℕ). p .at + y) (word-kept base (p .at) s t (omega arith) e) ∙ sym n,
+    )
+part-kept {s} {t} {base} {p} {v} e l b (inr (inr h)) =
+    let x = h .1 in
+    let n = end-span s p (h .0) in
+    let m = end-span t p (h .0) in
+    (inr (inr (h .0, record { items = x .items; here = items-kept e l (omega arith) (x .here); short = x .short; is = x .is })), m ∙ sym n)

@@ -1,0 +1,6 @@
+pub mod Chosen
+pub mod Mask
+pub mod Part
+pub mod Run
+pub mod Contract
+pub mod Laws

@@ -1,0 +1,47 @@
+-- What a part denotes: a value, of which the bytes lie in a slice.
+use mathlib.Core.Path.{_≡_}
+use mathlib.Core.Logic.{_⊎_}
+use mathlib.Core.List.{List}
+use Prim.Native.Nat.{ℕ, _+_, _^_, _≤_, _<_}
+use lib.Dec.{eqb}
+use lib.ListN.{length}
+use Rattle.integers.specs.Bytes.{word}
+use Rattle.values.specs.Value.{set, sequence, Value, collection, sizes, limit}
+use Rattle.values.specs.Items.{pick}
+use Rattle.values.specs.Place.{At, ItemsAt}
+use Rattle.patterns.specs.Binding.{Cell, free, is}
+use Rattle.patterns.specs.Pattern.{itemsOf}
+use Rattle.parts.specs.declared.Part.{Part}
+use Rattle.parts.specs.Chosen.{keep}
+
+-- v is the set of the members that the bits of a mask choose, of a set of at most seven whose record stands at a place.
+pub record Selects (s : List ℕ) (at mask : ℕ) (v : Value) : Type 0 where
+  pub all : List Value
+  pub here : At s at (collection set (itemsOf all))
+  pub few : length all ≤ 7
+  pub below : mask < 2 ^ length all
+  pub is : v ≡ collection set (itemsOf (keep mask all))
+
+-- v is the sequence of the items whose records stand from a place up to another.
+pub record Spans (s : List ℕ) (from to : ℕ) (v : Value) : Type 0 where
+  pub items : List Value
+  pub here : ItemsAt s from to (itemsOf items)
+  pub short : 4 + sizes (itemsOf items) ≤ limit
+  pub is : v ≡ collection sequence (itemsOf items)
+
+-- A part denotes v.
+abbrev pub PartIs : List ℕ → Part → Value → Type 0
+PartIs s p v = ((p .how ≡ 1) × At s (p .at) v) ⊎ (((p .how ≡ 2) × Selects s (p .at) (p .extent) v) ⊎ ((p .how ≡ 3) × Spans s (p .at) (p .extent) v))
+
+-- It denotes some value.
+pub record PartHeld (s : List ℕ) (p : Part) : Type 0 where
+  pub value : Value
+  pub here : PartIs s p value
+
+-- Where the bytes of a part end.
+abbrev pub endOf : List ℕ → Part → ℕ
+endOf s p = pick (eqb (p .how) 3) (p .extent) (p .at + word s (p .at))
+
+-- A part stands for what is said of a name: nothing, or a value.
+abbrev pub CellIs : List ℕ → Part → Cell → Type 0
+CellIs s p c = ((p .how ≡ 0) × (c ≡ free)) ⊎ ((v : Value) × (c ≡ is v) × PartIs s p v)

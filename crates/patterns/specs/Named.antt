@@ -1,0 +1,255 @@
+-- What a binding says: each name of the pattern has a value, no other name has one, and no name has two. Every value is well-formed.
+use mathlib.Core.Path.{_≡_, refl, sym, ap, subst, _∙_}
+use mathlib.Core.Bool.{Bool, true, false, _||_}
+use mathlib.Core.Logic.{_⊎_, inl, inr, ⊎-elim}
+use mathlib.Core.List.{List, [], _∷_, _++_}
+use Prim.Native.Nat.{ℕ, _+_, _≤_, _<_}
+use native.Mathlib.Decide.{ℕ-discrete}
+use native.Mathlib.Omega.{arith}
+use lib.Dec.{eqb}
+use lib.ListN.{getD-replicate}
+use lib.Seq.{getD-set-same, getD-set-other}
+use borrow.Author.Tests.{eq-eqb, ne-eqb}
+use Rattle.values.specs.Value.{Kind, set, sequence, map as mapping, tuple, Value, collection, size, sizes, Before, Ascending, Shaped, Sound, SoundItems, WellFormed}
+use Rattle.values.specs.Encoding.{collection-size}
+use Rattle.values.specs.Records.{collection-shaped, collection-sound, well-formed-collection}
+use Rattle.patterns.specs.Members.{In, in-left, in-right, in-joined}
+use Rattle.patterns.specs.Units.{Shared, Inserted, Permuted}
+use Rattle.patterns.specs.Binding.{Cell, free, is, clash, Binding, names, nothing, only, cellOf}
+use Rattle.patterns.specs.Pattern.{Pattern, name, any, literal, each, halved, Patterns, nil, cons, itemsOf, matches}
+use Rattle.patterns.specs.Relation.{Agree, Arranged, Divided, Matches, MatchesEach}
+use Rattle.patterns.specs.Matched.{matched}
+
+-- ---- the cells of one name and of nothing
+
+nothing-cell : (y : ℕ) → y < names → cellOf nothing y ≡ free
+nothing-cell y h = getD-replicate names y free free h
+
+only-cell : (x : ℕ) (v : Value) → x < names → cellOf (only x v) x ≡ is v
+only-cell x v h = getD-set-same nothing x (is v) free h
+
+only-other : (x y : ℕ) (v : Value) → (x ≡ y → ⊥) → y < names → cellOf (only x v) y ≡ free
+only-other x y v f h = getD-set-other nothing x y (is v) free (λ e. f (sym e)) ∙ nothing-cell y h
+
+-- ---- the names of a pattern
+
+unfoldable mutual
+  pub named : Pattern → ℕ → Bool
+  named (name x) y = eqb x y
+  named any y = false
+  named (literal w) y = false
+  named (each k ps) y = namedEach ps y
+  named (halved k p q) y = named p y || named q y
+
+  pub namedEach : Patterns → ℕ → Bool
+  namedEach nil y = false
+  namedEach (cons p ps) y = named p y || namedEach ps y
+
+-- A name of the pattern has a value, any other has none.
+abbrev pub Told : Bool → Cell → Type 0
+Told true c = (v : Value) × (c ≡ is v)
+Told false c = c ≡ free
+
+-- what two say of a name, where they agree
+told-both : (s t : Bool) (a b c : Cell) → Told s a → Told t b → Agree a b c → Told (s || t) c
+told-both true true a b c (v, p) (w, q) h = let g : Agree (is v) (is w) c = rw (p, q) at h in (v, g .1)
+told-both true false a b c (v, p) q h = let g : Agree (is v) free c = rw (p, q) at h in (v, g)
+told-both false true a b c p (w, q) h = let g : Agree free (is w) c = rw (p, q) at h in (w, g)
+told-both false false a b c p q h = rw (p, q) at h
+
+told-name : (x y : ℕ) (v : Value) → y < names → Dec (x ≡ y) → Told (eqb x y) (cellOf (only x v) y)
+told-name x y v h (yes e) = rw (eq-eqb x y e) (v, ap (cellOf (only x v)) (sym e) ∙ only-cell x v (omega arith))
+told-name x y v h (no f) = rw (ne-eqb x y f) (only-other x y v f h)
+
+mutual
+  unfolding Matches named
+
+  -- THEOREM: the names with a value are those of the pattern; none clashes
+  pub told : (p : Pattern) (v : Value) (b : Binding) → Matches p v b → (y : ℕ) → y < names → Told (named p y) (cellOf b y)
+  told (name x) v b e y h = rw e (told-name x y v h (ℕ-discrete x y))
+  told any v b e y h = ap (λ (c : Binding). cellOf c y) e ∙ nothing-cell y h
+  told (literal w) v b (f, e) y h = ap (λ (c : Binding). cellOf c y) e ∙ nothing-cell y h
+  told (each k ps) v b (vs, ws, e, n, a, m) y h = toldEach ps ws b m y h
+  told (halved k p q) v b (vs, ls, rs, c, d, e, s, m, n, j) y h =
+      told-both (named p y) (named q y) (cellOf c y) (cellOf d y) (cellOf b y) (told p (collection k (itemsOf ls)) c m y h) (told q (collection k (itemsOf rs)) d n y h) (j .agreed y h)
+
+  toldEach : (ps : Patterns) (vs : List Value) (b : Binding) → MatchesEach ps vs b → (y : ℕ) → y < names → Told (namedEach ps y) (cellOf b y)
+  toldEach nil vs b e y h = ap (λ (c : Binding). cellOf c y) e ∙ nothing-cell y h
+  toldEach (cons p ps) [] b m y h = absurd m
+  toldEach (cons p ps) (v ∷ vs) b (c, d, m, n, j) y h =
+      told-both (named p y) (namedEach ps y) (cellOf c y) (cellOf d y) (cellOf b y) (told p v c m y h) (toldEach ps vs d n y h) (j .agreed y h)
+
+-- ---- parts of a list
+
+-- The first list has some of the units of the second, in their order.
+abbrev pub PartOf : List Value → List Value → Type 0
+PartOf ls [] = ls ≡ []
+PartOf ls (v ∷ vs) = PartOf ls vs ⊎ ((ms : List Value) × (ls ≡ v ∷ ms) × PartOf ms vs)
+
+pub part-none : (vs : List Value) → PartOf [] vs
+part-none [] = refl
+part-none (v ∷ vs) = inl (part-none vs)
+
+pub part-self : (vs : List Value) → PartOf vs vs
+part-self [] = refl
+part-self (v ∷ vs) = inr (vs, refl, part-self vs)
+
+part-left : (ls rs : List Value) → PartOf ls (ls ++ rs)
+part-left [] rs = part-none rs
+part-left (l ∷ ls) rs = inr (ls, refl, part-left ls rs)
+
+part-right : (ls rs : List Value) → PartOf rs (ls ++ rs)
+part-right [] rs = part-self rs
+part-right (l ∷ ls) rs = inl (part-right ls rs)
+
+pub shared-left : (vs ls rs : List Value) → Shared vs ls rs → PartOf ls vs
+shared-left [] ls rs h = h .0
+shared-left (v ∷ vs) ls rs (inl (ms, e, h)) = inr (ms, e, shared-left vs ms rs h)
+shared-left (v ∷ vs) ls rs (inr (ms, e, h)) = inl (shared-left vs ls ms h)
+
+pub shared-right : (vs ls rs : List Value) → Shared vs ls rs → PartOf rs vs
+shared-right [] ls rs h = h .1
+shared-right (v ∷ vs) ls rs (inl (ms, e, h)) = inl (shared-right vs ms rs h)
+shared-right (v ∷ vs) ls rs (inr (ms, e, h)) = inr (ms, e, shared-right vs ls ms h)
+
+-- ---- parts of a well-formed collection
+
+part-before : (v : Value) (ls vs : List Value) → PartOf ls vs → Before v (itemsOf vs) → Before v (itemsOf ls)
+unfolding Before itemsOf
+part-before v ls [] e h = rw e tt
+part-before v ls (w ∷ vs) (inl p) h = part-before v ls vs p (h .1)
+part-before v ls (w ∷ vs) (inr (ms, e, p)) h = rw e (h .0, part-before v ms vs p (h .1))
+
+pub part-ascending : (ls vs : List Value) → PartOf ls vs → Ascending (itemsOf vs) → Ascending (itemsOf ls)
+unfolding Ascending itemsOf
+part-ascending ls [] e h = rw e tt
+part-ascending ls (w ∷ vs) (inl p) h = part-ascending ls vs p (h .1)
+part-ascending ls (w ∷ vs) (inr (ms, e, p)) h = rw e (part-before w ms vs p (h .0), part-ascending ms vs p (h .1))
+
+pub part-sound : (ls vs : List Value) → PartOf ls vs → SoundItems (itemsOf vs) → SoundItems (itemsOf ls)
+unfolding SoundItems itemsOf
+part-sound ls [] e h = rw e tt
+part-sound ls (w ∷ vs) (inl p) h = part-sound ls vs p (h .1)
+part-sound ls (w ∷ vs) (inr (ms, e, p)) h = rw e (h .0, part-sound ms vs p (h .1))
+
+pub part-sizes : (ls vs : List Value) → PartOf ls vs → sizes (itemsOf ls) ≤ sizes (itemsOf vs)
+unfolding sizes itemsOf
+part-sizes ls [] e = rw e (omega arith)
+part-sizes ls (w ∷ vs) (inl p) = omega (arith, part-sizes ls vs p)
+part-sizes ls (w ∷ vs) (inr (ms, e, p)) = rw e (omega (arith, part-sizes ms vs p))
+
+-- sets and sequences, of which a part is again one
+abbrev pub Divides : Kind → Type 0
+Divides set = Unit {0}
+Divides sequence = Unit {0}
+Divides mapping = ⊥
+Divides tuple = ⊥
+
+pub part-shaped : (k : Kind) (ls vs : List Value) → Divides k → PartOf ls vs → Shaped k (itemsOf vs) → Shaped k (itemsOf ls)
+part-shaped set ls vs d p h = part-ascending ls vs p h
+part-shaped sequence ls vs d p h = tt
+part-shaped mapping ls vs d p h = absurd d
+part-shaped tuple ls vs d p h = absurd d
+
+pub part-fine : (k : Kind) (ls vs : List Value) → Divides k → PartOf ls vs → WellFormed (collection k (itemsOf vs)) → WellFormed (collection k (itemsOf ls))
+part-fine k ls vs d p h =
+    let n = collection-size k (itemsOf vs) in
+    let s = h .short in
+    well-formed-collection (part-shaped k ls vs d p (collection-shaped h)) (part-sound ls vs p (collection-sound h)) (omega (arith, part-sizes ls vs p))
+
+halves-of : (k : Kind) (vs ls rs : List Value) → Divided k vs ls rs → Divides k × PartOf ls vs × PartOf rs vs
+halves-of set vs ls rs h = (tt, shared-left vs ls rs h, shared-right vs ls rs h)
+halves-of sequence vs ls rs e = (tt, subst (PartOf ls) (sym e) (part-left ls rs), subst (PartOf rs) (sym e) (part-right ls rs))
+halves-of mapping vs ls rs h = absurd h
+halves-of tuple vs ls rs h = absurd h
+
+-- ---- the items of a well-formed collection
+
+item-sound : (v : Value) (vs : List Value) → In v vs → SoundItems (itemsOf vs) → Sound v
+unfolding SoundItems itemsOf
+item-sound v [] i h = absurd i
+item-sound v (w ∷ vs) (inl e) h = rw e (h .0)
+item-sound v (w ∷ vs) (inr i) h = item-sound v vs i (h .1)
+
+item-size : (v : Value) (vs : List Value) → In v vs → size v ≤ sizes (itemsOf vs)
+unfolding sizes itemsOf
+item-size v [] i = absurd i
+item-size v (w ∷ vs) (inl e) = rw e (omega arith)
+item-size v (w ∷ vs) (inr i) = omega (arith, item-size v vs i)
+
+pub item-fine : (k : Kind) (vs : List Value) → WellFormed (collection k (itemsOf vs)) → (v : Value) → In v vs → WellFormed v
+item-fine k vs h v i =
+    let n = collection-size k (itemsOf vs) in
+    let s = h .short in
+    record { sound = item-sound v vs i (collection-sound h); short = omega (arith, item-size v vs i) }
+
+inserted-in : (v x : Value) (ys zs : List Value) → Inserted x ys zs → In v zs → (v ≡ x) ⊎ In v ys
+inserted-in v x ys zs (l, r, p, q) i = go (in-joined v l (x ∷ r) (subst (In v) q i))
+  where
+    go : In v l ⊎ In v (x ∷ r) → (v ≡ x) ⊎ In v ys
+    go (inl j) = inr (subst (In v) (sym p) (in-left v l r j))
+    go (inr (inl e)) = inl e
+    go (inr (inr j)) = inr (subst (In v) (sym p) (in-right v l r j))
+
+permuted-in : (v : Value) (vs ws : List Value) → Permuted vs ws → In v ws → In v vs
+permuted-in v [] ws e i = subst (In v) e i
+permuted-in v (x ∷ vs) ws (ys, p, h) i = ⊎-elim (λ e. inl e) (λ j. inr (permuted-in v vs ys p j)) (inserted-in v x ys ws h i)
+
+arranged-in : (k : Kind) (v : Value) (vs ws : List Value) → Arranged k vs ws → In v ws → In v vs
+arranged-in set v vs ws h i = permuted-in v vs ws h i
+arranged-in sequence v vs ws e i = subst (In v) e i
+arranged-in mapping v vs ws h i = absurd h
+arranged-in tuple v vs ws e i = subst (In v) e i
+
+-- ---- every value that is bound is well-formed
+
+-- If the cell has a value, it is well-formed.
+abbrev pub FineCell : Cell → Type 0
+FineCell free = Unit {0}
+FineCell (is v) = WellFormed v
+FineCell clash = Unit {0}
+
+fine-both : (a b c : Cell) → FineCell a → FineCell b → Agree a b c → FineCell c
+fine-both free free c f g e = rw e tt
+fine-both free (is w) c f g e = rw e g
+fine-both free clash c f g e = absurd e
+fine-both (is v) free c f g e = rw e f
+fine-both (is v) (is w) c f g e = rw (e .1) f
+fine-both (is v) clash c f g e = absurd e
+fine-both clash b c f g e = absurd e
+
+fine-free : {c : Cell} → c ≡ free → FineCell c
+fine-free e = rw e tt
+
+fine-name : (x y : ℕ) (v : Value) → WellFormed v → y < names → Dec (x ≡ y) → FineCell (cellOf (only x v) y)
+fine-name x y v f h (yes e) = let d : cellOf (only x v) y ≡ is v = ap (cellOf (only x v)) (sym e) ∙ only-cell x v (omega arith) in rw d f
+fine-name x y v f h (no g) = fine-free (only-other x y v g h)
+
+mutual
+  unfolding Matches
+
+  -- THEOREM: a well-formed value is matched with well-formed values alone
+  pub fine : (p : Pattern) (v : Value) (b : Binding) → WellFormed v → Matches p v b → (y : ℕ) → y < names → FineCell (cellOf b y)
+  fine (name x) v b f e y h = rw e (fine-name x y v f h (ℕ-discrete x y))
+  fine any v b f e y h = fine-free (ap (λ (c : Binding). cellOf c y) e ∙ nothing-cell y h)
+  fine (literal w) v b f (g, e) y h = fine-free (ap (λ (c : Binding). cellOf c y) e ∙ nothing-cell y h)
+  fine (each k ps) v b f (vs, ws, e, n, a, m) y h =
+      let g = subst WellFormed e f in
+      fineEach ps ws b (λ w i. item-fine k vs g w (arranged-in k w vs ws a i)) m y h
+  fine (halved k p q) v b f (vs, ls, rs, c, d, e, s, m, n, j) y h =
+      let g = subst WellFormed e f in
+      let (t, l, r) = halves-of k vs ls rs s in
+      fine-both (cellOf c y) (cellOf d y) (cellOf b y)
+      (fine p (collection k (itemsOf ls)) c (part-fine k ls vs t l g) m y h)
+      (fine q (collection k (itemsOf rs)) d (part-fine k rs vs t r g) n y h)
+      (j .agreed y h)
+
+  fineEach : (ps : Patterns) (vs : List Value) (b : Binding) → ((v : Value) → In v vs → WellFormed v) → MatchesEach ps vs b → (y : ℕ) → y < names → FineCell (cellOf b y)
+  fineEach nil vs b f e y h = fine-free (ap (λ (c : Binding). cellOf c y) e ∙ nothing-cell y h)
+  fineEach (cons p ps) [] b f m y h = absurd m
+  fineEach (cons p ps) (v ∷ vs) b f (c, d, m, n, j) y h =
+      fine-both (cellOf c y) (cellOf d y) (cellOf b y) (fine p v c (f v (inl refl)) m y h) (fineEach ps vs d (λ w i. f w (inr i)) n y h) (j .agreed y h)
+
+-- the same, of a binding that is listed and a value that it gives
+pub bound-fine : (p : Pattern) (v : Value) (b : Binding) (y : ℕ) (w : Value) → WellFormed v → In b (matches p v) → y < names → cellOf b y ≡ is w → WellFormed w
+bound-fine p v b y w f i h e = let g = fine p v b f (matched p v b i) y h in rw e at g

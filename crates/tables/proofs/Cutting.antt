@@ -1,0 +1,224 @@
+-- Cutting a table: what the tests of one record say, and what a turn of the loop keeps.
+use mathlib.Core.Path.{_≡_, refl, sym, ap, _∙_}
+use mathlib.Core.Bool.{Bool, true, false, not, _&&_, _||_}
+use mathlib.Core.List.{List, [], _∷_}
+use Prim.Native.Nat.{ℕ, zero, suc, _+_, _*_, _-_, _≤_, _<_}
+use native.Mathlib.Omega.{arith}
+use borrow.Author.Tests.{lt-ltb, le-ltb, ne-eqb, leb-true}
+use lib.Dec.{eqb, ltb, leb}
+use lib.ListN.{length, getD, take, drop, set, length-drop, length-set}
+use lib.Seq.{take-all, getD-set-same, getD-set-other, getD-drop, drop-drop, drop-length}
+use Rattle.integers.specs.Bytes.{word}
+use Rattle.tables.specs.Record.{Record, shape, size, headOf, isFit}
+use Rattle.tables.specs.Table.{pick, first, Next, end, fault, one, next, Cut, after, cutBy, cut, noRecord, recordAt}
+use Rattle.tables.specs.Check.{mostRecords}
+use Rattle.tables.specs.Laws.{split, each}
+use Rattle.tables.specs.Accepted.{IsNext, next-is, records, fit-kind, fit-most}
+use Rattle.tables.specs.Reading.{Stands, Places, Measured, CutOut}
+use Rattle.tables.specs.declared.reading.Cutting.{Cutting}
+use Rattle.tables.proofs.Fit.{fields-long, field-at}
+
+-- ---- one record
+
+module _ (bytes : List ℕ) (some : 0 < length bytes) where
+  pub bad : next bytes ≡ fault → Measured bytes 0
+  bad e = record { bad = λ z. e; good = λ z. absurd (omega arith); long = λ z. absurd (omega arith) }
+
+  pub next-few : length bytes < 4 → next bytes ≡ fault
+  unfolding next
+  next-few h = rw (ne-eqb (length bytes) 0 (omega arith), lt-ltb (length bytes) 4 h)
+
+  pub next-short : 4 ≤ length bytes → word bytes 0 < 4 → next bytes ≡ fault
+  unfolding next
+  next-short h l = rw (ne-eqb (length bytes) 0 (omega arith), le-ltb (length bytes) 4 h, lt-ltb (word bytes 0) 4 l)
+
+  pub next-past : 4 ≤ length bytes → 4 ≤ word bytes 0 → length bytes < word bytes 0 → next bytes ≡ fault
+  unfolding next
+  next-past h l m = rw (ne-eqb (length bytes) 0 (omega arith), le-ltb (length bytes) 4 h, le-ltb (word bytes 0) 4 l, lt-ltb (length bytes) (word bytes 0) m)
+
+  pub next-unfit : 4 ≤ length bytes → 4 ≤ word bytes 0 → word bytes 0 ≤ length bytes → isFit (first bytes) ≡ false → next bytes ≡ fault
+  unfolding next
+  next-unfit h l m e =
+      rw (ne-eqb (length bytes) 0 (omega arith), le-ltb (length bytes) 4 h, le-ltb (word bytes 0) 4 l, le-ltb (length bytes) (word bytes 0) m, e)
+
+  pub next-one : 4 ≤ length bytes → 4 ≤ word bytes 0 → word bytes 0 ≤ length bytes → isFit (first bytes) ≡ true → next bytes ≡ one (first bytes) (drop (word bytes 0) bytes)
+  unfolding next
+  next-one h l m e =
+      rw (ne-eqb (length bytes) 0 (omega arith), le-ltb (length bytes) 4 h, le-ltb (word bytes 0) 4 l, le-ltb (length bytes) (word bytes 0) m, e)
+
+  pub good : (n : ℕ) → n ≡ word bytes 0 → 4 ≤ length bytes → 4 ≤ n → n ≤ length bytes → isFit (first bytes) ≡ true → Measured bytes n
+  good n is h l m e =
+      record {
+        bad = λ z. absurd (omega arith);
+        good = λ z. next-one h (omega arith) (omega arith) e ∙ ap (λ (k : ℕ). one (first bytes) (drop k bytes)) (sym is);
+        long = λ z. is;
+      }
+
+-- A part from a place to the end is what is left there.
+pub part-rest : (s : List ℕ) (at : ℕ) → take (length s - at) (drop at s) ≡ drop at s
+part-rest s at = take-all (length s - at) (drop at s) (omega (arith, length-drop at s))
+
+pub measured : (s : List ℕ) (at n : ℕ) → Measured (take (length s - at) (drop at s)) n → Measured (drop at s) n
+measured s at n m = rw part-rest at m
+
+-- A record lies within what is left.
+pub measured-within : (s : List ℕ) (at n : ℕ) → Measured (drop at s) n → 0 < n → n ≤ length s - at
+measured-within s at n m h =
+    omega (arith, next-is (drop at s) (first (drop at s)) (drop n (drop at s)) (m .good h) .whole, m .long h, length-drop at s)
+
+-- ---- where a record stands
+
+-- No record has more than 8 fields.
+pub fields-few : (k : ℕ) → k ≤ 40 → size (shape k .head) + length (shape k .roles) ≤ 8
+unfolding shape
+fields-few k h = leb-true _ _ (each (λ k. leb (size (shape k .head) + length (shape k .roles)) 8) 41 refl k (omega arith))
+
+stands : (table : List ℕ) (at : ℕ) (rest : List ℕ) → IsNext (drop at table) (first (drop at table)) rest → Stands table at (first (drop at table))
+stands table at rest n =
+    let x : Record = first (drop at table) in
+    let long : length (x .fields) ≡ word (drop at table) 0 - 4 = fields-long (drop at table) (word (drop at table) 0) refl (n .long) (n .whole) in
+    let few : length (x .fields) ≤ 8 = omega (arith, fit-most x (n .fit), fields-few (x .kind) (fit-kind x (n .fit))) in
+    record {
+      fits = omega (arith, n .long, n .whole, length-drop at table);
+      long = omega (arith, n .long, getD-drop at table 0 0, ap (λ (k : ℕ). getD table k 0) (plus-zero at));
+      kind = omega (arith, fit-kind x (n .fit), getD-drop at table 2 0);
+      field =
+          λ i h.
+          sym (field-at (drop at table) (word (drop at table) 0) refl (n .long) (n .whole) i (omega arith) ∙ getD-drop at table (4 + i) 0 ∙ ap (λ (k : ℕ). getD table k 0) (plus-four at i));
+    }
+  where
+    plus-zero : (a : ℕ) → a + 0 ≡ a
+    plus-zero a = omega arith
+
+    plus-four : (a i : ℕ) → a + (4 + i) ≡ a + 4 + i
+    plus-four a i = omega arith
+
+-- ---- the loop
+
+-- What is left of the table is cut into the records that are left.
+pub record Turn (table index : List ℕ) (at count : ℕ) : Type 0 where
+  pub within : at ≤ length table
+  pub steps : 4 * count ≤ at
+  pub fits : count ≤ length (records table)
+  pub left : cutBy (length table - count) (drop at table) .records ≡ drop count (records table)
+  pub same : cutBy (length table - count) (drop at table) .whole ≡ cut table .whole
+  pub places : Places table index count
+  pub long : length index ≡ mostRecords
+
+pub turn-start : (table index : List ℕ) → length index ≡ mostRecords → Turn table index 0 0
+unfolding cut
+turn-start table index long =
+    record {
+      within = omega arith;
+      steps = omega arith;
+      fits = omega arith;
+      left = ap (λ (n : ℕ). cutBy n table .records) (omega arith);
+      same = ap (λ (n : ℕ). cutBy n table .whole) (omega arith);
+      places = λ r h k. absurd (omega arith);
+      long = long;
+    }
+
+-- The place of a record is noted where there is room, and the lower ones stay.
+pub record Noted (index index′ : List ℕ) (count at : ℕ) : Type 0 where
+  pub here : count < mostRecords → getD index′ count 0 ≡ at
+  pub others : (r : ℕ) → r < count → getD index′ r 0 ≡ getD index r 0
+  pub long : length index′ ≡ mostRecords
+
+pub noted : (index index′ : List ℕ) (count at : ℕ) → length index ≡ mostRecords → index′ ≡ set index count at → Noted index index′ count at
+noted index index′ count at long e =
+    record {
+      here = λ h. rw e (getD-set-same index count at 0 (omega arith));
+      others = λ r h. rw e (getD-set-other index count r at 0 (λ same. omega arith));
+      long = rw e (length-set index count at ∙ long);
+    }
+
+pub not-noted : (index index′ : List ℕ) (count at : ℕ) → length index ≡ mostRecords → index′ ≡ index → mostRecords ≤ count → Noted index index′ count at
+not-noted index index′ count at long e full =
+    record { here = λ h. absurd (omega arith); others = λ r h. rw e; long = rw e long }
+
+-- What stands at a place of a list, from what is left of it there.
+pub record Head (l : List Record) (n : ℕ) (x : Record) (xs : List Record) : Type 0 where
+  pub within : n < length l
+  pub is : getD l n noRecord ≡ x
+  pub then : drop (n + 1) l ≡ xs
+
+drop-head : (l : List Record) (n : ℕ) (x : Record) (xs : List Record) → drop n l ≡ x ∷ xs → Head l n x xs
+drop-head l n x xs e =
+    let some : 0 < length (drop n l) = omega (arith, ap length e) in
+    let h : n < length l = omega (arith, length-drop n l) in
+    record {
+      within = h;
+      is = ap (λ (k : ℕ). getD l k noRecord) (plus n) ∙ sym (getD-drop n l 0 noRecord) ∙ ap (λ (m : List Record). getD m 0 noRecord) e;
+      then = sym (drop-drop 1 n l) ∙ ap (λ (m : List Record). drop 1 m) e;
+    }
+  where
+    plus : (n : ℕ) → n ≡ n + 0
+    plus n = omega arith
+
+cut-nothing : (b : ℕ) → cutBy b [] ≡ record { records = []; whole = true }
+unfolding cutBy next
+cut-nothing zero = refl
+cut-nothing (suc b) = refl
+
+module _ (table index : List ℕ) (at count : ℕ) (t : Turn table index at count) where
+  -- Nothing is left.
+  pub turn-end : length table ≤ at → CutOut table index (record { count = count; whole = true })
+  turn-end h =
+      let all : at ≡ length table = omega (arith, t .within) in
+      let none : drop at table ≡ [] = rw all (drop-length table) in
+      let out : cutBy (length table - count) (drop at table) ≡ record { records = []; whole = true } = rw none (cut-nothing (length table - count)) in
+      let over : drop count (records table) ≡ [] = sym (t .left) ∙ ap (λ (c : Cut). c .records) out in
+      let last : count ≡ length (records table) = omega (arith, t .fits, length-drop count (records table), ap length over) in
+      record {
+        count = last;
+        whole = sym (ap (λ (c : Cut). c .whole) out) ∙ t .same;
+        places = λ r k l. t .places r (omega arith) l;
+      }
+
+  module _ (more : at < length table) where
+    -- The bound has room for one record more.
+    room : length table - count ≡ suc (length table - (count + 1))
+    room = omega (arith, t .steps)
+
+    unrolled : cutBy (length table - count) (drop at table) ≡ after (next (drop at table)) (λ rest. cutBy (length table - (count + 1)) rest)
+    unfolding cutBy
+    unrolled = ap (λ (b : ℕ). cutBy b (drop at table)) room
+
+    -- A fault is next.
+    pub turn-bad : next (drop at table) ≡ fault → CutOut table index (record { count = count; whole = false })
+    turn-bad e =
+        let out : cutBy (length table - count) (drop at table) ≡ record { records = []; whole = false } =
+        unrolled ∙ ap (λ (n : Next). after n (λ rest. cutBy (length table - (count + 1)) rest)) e in
+        let over : drop count (records table) ≡ [] = sym (t .left) ∙ ap (λ (c : Cut). c .records) out in
+        let last : count ≡ length (records table) = omega (arith, t .fits, length-drop count (records table), ap length over) in
+        record {
+          count = last;
+          whole = sym (ap (λ (c : Cut). c .whole) out) ∙ t .same;
+          places = λ r k l. t .places r (omega arith) l;
+        }
+
+    -- A record of n bytes is next, and its place is noted where there is room.
+    pub turn-more : (n : ℕ) (index′ : List ℕ) → next (drop at table) ≡ one (first (drop at table)) (drop n (drop at table)) → n ≡ word (drop at table) 0 → Noted index index′ count at → Turn table index′ (at + n) (count + 1)
+    turn-more n index′ e is noted =
+        let x : Record = first (drop at table) in
+        let i : IsNext (drop at table) x (drop n (drop at table)) = next-is (drop at table) x (drop n (drop at table)) e in
+        let out : cutBy (length table - count) (drop at table) ≡ after (one x (drop n (drop at table))) (λ rest. cutBy (length table - (count + 1)) rest) =
+        unrolled ∙ ap (λ (n : Next). after n (λ rest. cutBy (length table - (count + 1)) rest)) e in
+        let hd : Head (records table) count x (cutBy (length table - (count + 1)) (drop n (drop at table)) .records) =
+        drop-head (records table) count x _ (sym (t .left) ∙ ap (λ (c : Cut). c .records) out) in
+        record {
+          within = omega (arith, i .whole, length-drop at table);
+          steps = omega (arith, i .long, t .steps);
+          fits = omega (arith, hd .within);
+          left = ap (λ (bytes : List ℕ). cutBy (length table - (count + 1)) bytes .records) (sym (drop-drop n at table)) ∙ sym (hd .then);
+          same =
+              ap (λ (bytes : List ℕ). cutBy (length table - (count + 1)) bytes .whole) (sym (drop-drop n at table))
+              ∙ sym (ap (λ (c : Cut). c .whole) out) ∙ t .same;
+          places =
+              λ r k l.
+              split r count (λ h. rw (noted .others r h) (t .places r h l))
+              (λ h.
+              let same : r ≡ count = omega arith in
+              rw (same, noted .here (omega arith), hd .is) (stands table at (drop n (drop at table)) i));
+          long = noted .long;
+        }

@@ -1,0 +1,83 @@
+-- The record at the start of some bytes is fit for its kind: what the tests of its kind, length and first field say.
+use mathlib.Core.Path.{_≡_, refl, sym, ap, _∙_}
+use mathlib.Core.Bool.{Bool, true, false, not, _&&_, _||_}
+use mathlib.Core.List.{List, []}
+use Prim.Native.Nat.{ℕ, zero, suc, _+_, _*_, _-_, _≤_, _<_}
+use native.Mathlib.Omega.{arith}
+use lib.Dec.{leb}
+use lib.ListN.{length, getD, take, drop, length-drop}
+use lib.Seq.{length-take-le, getD-take, getD-drop}
+use mir.Syntax.{w32}
+use mir.Facts.{sfits-toZ}
+use borrow.Author.Tests.{leb-true}
+use Rattle.integers.specs.Bytes.{word, bits32, integerAt}
+use Rattle.integers.specs.Whole.{inRange}
+use Rattle.integers.specs.Range.{fits-range}
+use Rattle.tables.specs.Record.{Record, Head, nothing, boolean, integer, name, unary, binary, unknown, Shape, shape, size, headOf, field, integerOf, fits, isKnown, isFit}
+use Rattle.tables.specs.Table.{first}
+use Rattle.tables.specs.Shapes.{knownFirst}
+use Rattle.tables.specs.Laws.{never, split, and-left, and-right}
+use Rattle.tables.specs.Accepted.{fit-kind}
+
+-- Four bytes are an integer in range.
+bytes-range : (fs : List ℕ) → ((i : ℕ) → i < 4 → getD fs i 0 < 256) → inRange (integerAt fs 0) ≡ true
+bytes-range fs small =
+    fits-range (integerAt fs 0)
+    (sfits-toZ {w = w32} {n = bits32 fs 0} (omega (arith, small 0 (omega arith), small 1 (omega arith), small 2 (omega arith), small 3 (omega arith))))
+
+known-first : (h : Head) (r : Record) → (h ≡ integer → inRange (integerOf r) ≡ true) → isKnown h r ≡ knownFirst h (field r 0)
+known-first nothing r e = refl
+known-first boolean r e = refl
+known-first integer r e = e refl
+known-first name r e = refl
+known-first unary r e = refl
+known-first binary r e = refl
+known-first unknown r e = refl
+
+pub fit-beyond : (bytes : List ℕ) → 40 < word bytes 2 → false ≡ isFit (first bytes)
+fit-beyond bytes h = go (isFit (first bytes)) refl
+  where
+    go : (b : Bool) → isFit (first bytes) ≡ b → false ≡ b
+    go true e = absurd (omega (arith, fit-kind (first bytes) e))
+    go false e = refl
+
+module _ (bytes : List ℕ) (len : ℕ) (is : len ≡ word bytes 0) (four : 4 ≤ len) (whole : len ≤ length bytes) where
+  pub fields-long : length (first bytes .fields) ≡ len - 4
+  fields-long = length-take-le (word bytes 0 - 4) (drop 4 bytes) (omega (arith, length-drop 4 bytes)) ∙ ap (λ (n : ℕ). n - 4) (sym is)
+
+  pub field-at : (i : ℕ) → i < len - 4 → getD (first bytes .fields) i 0 ≡ getD bytes (4 + i) 0
+  field-at i h = getD-take (word bytes 0 - 4) (drop 4 bytes) i 0 (omega arith) ∙ getD-drop 4 bytes i 0
+
+  pub fit-unfit : false ≡ fits (shape (word bytes 2)) (len - 4) → false ≡ isFit (first bytes)
+  unfolding isFit
+  fit-unfit e =
+      sym (ap (λ (n : ℕ). fits (shape (word bytes 2)) n && isKnown (headOf (first bytes)) (first bytes)) fields-long
+      ∙ ap (λ (b : Bool). b && isKnown (headOf (first bytes)) (first bytes)) (sym e))
+
+  known-fit : true ≡ fits (shape (word bytes 2)) (len - 4) → isFit (first bytes) ≡ isKnown (headOf (first bytes)) (first bytes)
+  unfolding isFit
+  known-fit e =
+      ap (λ (n : ℕ). fits (shape (word bytes 2)) n && isKnown (headOf (first bytes)) (first bytes)) fields-long
+      ∙ ap (λ (b : Bool). b && isKnown (headOf (first bytes)) (first bytes)) (sym e)
+
+  -- The head of a record that fits lies within it.
+  head-within : true ≡ fits (shape (word bytes 2)) (len - 4) → size (headOf (first bytes)) ≤ len - 4
+  head-within e =
+      let s : Shape = shape (word bytes 2) in
+      omega (arith, leb-true (size (s .head) + s .least) (len - 4) (and-left _ (leb (len - 4) (size (s .head) + length (s .roles))) (and-left _ _ (sym e))))
+
+  integer-long : true ≡ fits (shape (word bytes 2)) (len - 4) → headOf (first bytes) ≡ integer → 4 ≤ len - 4
+  integer-long e i = omega (arith, head-within e, ap size i)
+
+  pub fit-empty : true ≡ fits (shape (word bytes 2)) (len - 4) → len ≡ 4 → isFit (first bytes) ≡ knownFirst (shape (word bytes 2) .head) 0
+  fit-empty e l =
+      known-fit e
+      ∙ known-first (headOf (first bytes)) (first bytes) (λ i. absurd (omega (arith, integer-long e i)))
+      ∙ ap (λ (n : ℕ). knownFirst (headOf (first bytes)) (getD (take (n - 4) (drop 4 bytes)) 0 0)) (sym is ∙ l)
+
+  pub fit-first : true ≡ fits (shape (word bytes 2)) (len - 4) → 4 < len → ((i : ℕ) → getD bytes i 0 < 256) → isFit (first bytes) ≡ knownFirst (shape (word bytes 2) .head) (getD bytes 4 0)
+  fit-first e l small =
+      known-fit e
+      ∙ known-first (headOf (first bytes)) (first bytes)
+      (λ i. bytes-range (first bytes .fields) (λ k h. rw (field-at k (omega (arith, integer-long e i))) (small (4 + k))))
+      ∙ ap (knownFirst (headOf (first bytes))) (field-at 0 (omega arith))

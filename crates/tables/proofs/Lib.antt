@@ -1,0 +1,6 @@
+mod Lengths
+mod Roles
+mod Heads
+mod Fit
+mod Cutting
+mod Stand

@@ -1,0 +1,53 @@
+-- What each operand of each kind is for, by tests: one test that is computed over all kinds and their operands.
+use mathlib.Core.Path.{_≡_, refl, sym, ap, _∙_}
+use mathlib.Core.Bool.{Bool, true, false, not}
+use mathlib.Core.List.{List}
+use Prim.Native.Nat.{ℕ, zero, suc, _≤_, _<_}
+use native.Mathlib.Omega.{arith}
+use borrow.Author.Tests.{eqb-true}
+use lib.Dec.{eqb, ltb, leb}
+use lib.ListN.{length, getD}
+use Rattle.tables.specs.declared.Role.{Role}
+use Rattle.tables.specs.declared.Role.the-variants.{Plain, Condition, Body, Pattern, Name}
+use Rattle.tables.specs.Record.{shape}
+use Rattle.tables.specs.Table.{pick}
+use Rattle.tables.specs.Shapes.{rolesOf, coveredRole}
+use Rattle.tables.specs.Sheet.{any}
+use Rattle.tables.specs.Laws.{not-not, any-none}
+
+abbrev pub roleBy : ℕ → ℕ → Role
+roleBy kind i =
+    pick (leb 32 kind) Pattern
+    (pick (ltb kind 12) Plain
+    (pick (eqb kind 21) Plain
+    (pick (leb 2 i) (coveredRole kind i)
+    (pick (eqb i 1) Plain
+    (pick (eqb kind 17) Name
+    (pick (eqb kind 19) Name Pattern))))))
+
+-- Roles as numbers, to be compared.
+abbrev number : Role → ℕ
+number Plain = 0
+number Condition = 1
+number Body = 2
+number Pattern = 3
+number Name = 4
+
+abbrev role : ℕ → Role
+role n = pick (eqb n 0) Plain (pick (eqb n 1) Condition (pick (eqb n 2) Body (pick (eqb n 3) Pattern Name)))
+
+back : (x : Role) → role (number x) ≡ x
+back Plain = refl
+back Condition = refl
+back Body = refl
+back Pattern = refl
+back Name = refl
+
+pub role-by : (k i : ℕ) → k ≤ 40 → i < length (rolesOf k) → getD (rolesOf k) i Plain ≡ roleBy k i
+unfolding shape
+role-by k i h l =
+    sym (back (getD (rolesOf k) i Plain))
+    ∙ ap role
+    (eqb-true (number (getD (rolesOf k) i Plain)) (number (roleBy k i)) (not-not _ (any-none (λ i. not (eqb (number (getD (rolesOf k) i Plain)) (number (roleBy k i)))) (length (rolesOf k))
+    (any-none (λ k. any (λ i. not (eqb (number (getD (rolesOf k) i Plain)) (number (roleBy k i)))) (length (rolesOf k))) 41 refl k (omega arith)) i l)))
+    ∙ back (roleBy k i)

@@ -1,0 +1,93 @@
+-- What is read from the part of the table where a record stands.
+use mathlib.Core.Path.{_≡_, refl, sym, ap, _∙_}
+use mathlib.Core.Bool.{true}
+use mathlib.Core.List.{List, []}
+use Prim.Native.Nat.{ℕ, zero, suc, _+_, _*_, _-_, _≤_, _<_}
+use native.Mathlib.Omega.{arith}
+use lib.ListN.{length, getD, take, drop, length-drop}
+use lib.Seq.{getD-drop}
+use mir.Syntax.{w32}
+use mir.Val.{toZ}
+use Rattle.integers.specs.Bytes.{bits32, integerAt}
+use Rattle.tables.specs.declared.Role.{Role}
+use Rattle.tables.specs.Record.{Record, shape, size, headOf, field, named, operand, roleAt, integerOf, isFit}
+use Rattle.tables.specs.Table.{recordAt, kindAt}
+use Rattle.tables.specs.Check.{mostRecords}
+use Rattle.tables.specs.Shapes.{firstOf, rolesOf}
+use Rattle.tables.specs.Accepted.{records, fit-records, fit-kind, fit-least, fit-most, named-count, operand-field}
+use Rattle.tables.specs.Reading.{Stands, Indexed, Here, HasField, HasOperand}
+use Rattle.tables.proofs.Cutting.{part-rest, fields-few}
+
+pub part-at : (s : List ℕ) (at i : ℕ) → getD (take (length s - at) (drop at s)) i 0 ≡ getD s (at + i) 0
+part-at s at i = rw (part-rest s at) (getD-drop at s i 0)
+
+-- The same at a place that was read.
+pub byte-at : (s : List ℕ) (at place i : ℕ) → at ≡ place → getD (take (length s - at) (drop at s)) i 0 ≡ getD s (place + i) 0
+byte-at s at place i e = part-at s at i ∙ ap (λ (a : ℕ). getD s (a + i) 0) e
+
+pub part-long : (s : List ℕ) (at : ℕ) → length (take (length s - at) (drop at s)) ≡ length s - at
+part-long s at = rw (part-rest s at) (length-drop at s)
+
+module _ (table index : List ℕ) (r : ℕ) (h : Here table index r) where
+  pub fit : isFit (recordAt (records table) r) ≡ true
+  fit = fit-records table r (h .within)
+
+  pub stands : Stands table (getD index r 0) (recordAt (records table) r)
+  stands = h .indexed .place r (h .within)
+
+  pub in-index : r < mostRecords
+  in-index = omega (arith, h .indexed .few, h .within)
+
+  pub four : getD index r 0 + 4 ≤ length table
+  four = omega (arith, stands .fits)
+
+  pub kind-few : kindAt (records table) r ≤ 40
+  kind-few = fit-kind (recordAt (records table) r) fit
+
+  -- The length, and the number of operands.
+  pub count-is : getD table (getD index r 0) 0 ≡ firstOf (kindAt (records table) r) + length (named (recordAt (records table) r))
+  count-is = omega (arith, stands .long, named-count (recordAt (records table) r) fit, fit-least (recordAt (records table) r) fit)
+
+  pub count-few : length (named (recordAt (records table) r)) ≤ 8
+  count-few = omega (arith, named-count (recordAt (records table) r) fit, fit-most (recordAt (records table) r) fit, fields-few (kindAt (records table) r) kind-few)
+
+  pub roles-more : length (named (recordAt (records table) r)) ≤ length (rolesOf (kindAt (records table) r))
+  roles-more = omega (arith, named-count (recordAt (records table) r) fit, fit-most (recordAt (records table) r) fit)
+
+  module _ (i : ℕ) (has : i < length (named (recordAt (records table) r))) where
+    in-fields : size (headOf (recordAt (records table) r)) + i < length (recordAt (records table) r .fields)
+    in-fields = omega (arith, named-count (recordAt (records table) r) fit)
+
+    pub operand-within : getD index r 0 + (firstOf (kindAt (records table) r) + i) < length table
+    operand-within = omega (arith, stands .fits, in-fields)
+
+    pub operand-is : getD table (getD index r 0 + (firstOf (kindAt (records table) r) + i)) 0 ≡ operand (recordAt (records table) r) i
+    operand-is =
+        ap (λ (k : ℕ). getD table k 0) (regroup (getD index r 0) (size (headOf (recordAt (records table) r))) i)
+        ∙ stands .field (size (headOf (recordAt (records table) r)) + i) in-fields
+        ∙ sym (operand-field (recordAt (records table) r) i has)
+      where
+        regroup : (a s i : ℕ) → a + (4 + s + i) ≡ a + 4 + (s + i)
+        regroup a s i = omega arith
+
+  module _ (i : ℕ) (has : i < length (recordAt (records table) r .fields)) where
+    pub field-within : getD index r 0 + (4 + i) < length table
+    field-within = omega (arith, stands .fits)
+
+    pub field-is : getD table (getD index r 0 + (4 + i)) 0 ≡ field (recordAt (records table) r) i
+    field-is = ap (λ (k : ℕ). getD table k 0) (regroup (getD index r 0) i) ∙ stands .field i has
+      where
+        regroup : (a i : ℕ) → a + (4 + i) ≡ a + 4 + i
+        regroup a i = omega arith
+
+  pub integer-is : (at : ℕ) → at ≡ getD index r 0 → 3 < length (recordAt (records table) r .fields) → integerAt (take (length table - at) (drop at table)) 4 ≡ integerOf (recordAt (records table) r)
+  integer-is at e has =
+      let same : bits32 (take (length table - at) (drop at table)) 4 ≡ bits32 (recordAt (records table) r .fields) 0 =
+      omega (
+        arith,
+        byte-at table at (getD index r 0) 4 e ∙ field-is 0 (omega arith),
+        byte-at table at (getD index r 0) 5 e ∙ field-is 1 (omega arith),
+        byte-at table at (getD index r 0) 6 e ∙ field-is 2 (omega arith),
+        byte-at table at (getD index r 0) 7 e ∙ field-is 3 (omega arith),
+      ) in
+      ap (toZ w32) same

@@ -1,0 +1,53 @@
+-- Fields stand from the fifth byte on.
+use Rattle.tables.proofs.Stand.{byte-at, part-long, in-index, four, kind-few, stands, count-is, count-few, roles-more, operand-within, operand-is, field-within, field-is, integer-is}
+use lib.ListN.{getD}
+use Prim.Native.Nat.{ℕ, suc, _+_, _-_, _*_, _<_, _≤_}
+use native.Mathlib.Omega.{arith}
+use mathlib.Core.Path.{_≡_, refl, sym, ap, _∙_}
+use borrow.Author.Needs.{needs}
+use Rattle.tables.proofs.reading.field.Statement.{statement}
+use Rattle.tables.proofs.reading.field.Tie as tie
+use Rattle.tables.proofs.reading.field.Reads as reads
+use Rattle.tables.proofs.reading.field.Lts as lts
+use Rattle.tables.proofs.reading.byte_of.Reads as byte-of-reads
+use Rattle.tables.proofs.reading.place.Reads as place-reads
+
+-- src/reading.rt:103:9
+place-requires : tie.Need-place-requires
+place-requires c κs = in-index (c .before .args .table .now) (c .before .args .index .now) (c .before .args .r) (c .before .pre .here)
+
+-- src/reading.rt:104:13
+sub-byte-of : tie.Need-sub-byte-of
+sub-byte-of c = omega (arith, four (c .before .before .args .table .now) (c .before .before .args .index .now) (c .before .before .args .r) (c .before .before .pre .here), c .place .ensures)
+
+-- src/reading.rt:104:13
+part-byte-of-start : tie.Need-part-byte-of-start
+part-byte-of-start c = omega (arith, four (c .before .before .args .table .now) (c .before .before .args .index .now) (c .before .before .args .r) (c .before .before .pre .here), c .place .ensures)
+
+-- src/reading.rt:104:13
+part-byte-of-end : tie.Need-part-byte-of-end
+part-byte-of-end c = search needs
+
+-- src/reading.rt:104:27
+add-byte-of : tie.Need-add-byte-of
+add-byte-of c = omega (arith, field-within (c .before .before .before .args .table .now) (c .before .before .before .args .index .now) (c .before .before .before .args .r) (c .before .before .before .pre .here) (c .before .before .before .args .i) (c .before .before .before .pre .has))
+
+-- src/reading.rt:104:5
+byte-of-requires : tie.Need-byte-of-requires
+byte-of-requires c κs = omega (arith, field-within (c .before .before .before .args .table .now) (c .before .before .before .args .index .now) (c .before .before .before .args .r) (c .before .before .before .pre .here) (c .before .before .before .args .i) (c .before .before .before .pre .has), c .before .place .ensures, part-long (c .before .before .before .args .table .now) (c .before .place .result))
+
+-- src/reading.rt:99:1
+returns : tie.Need-returns
+returns c = (c .byte-of .ensures .0 ∙ byte-at (c .before .before .before .before .args .table .now) (c .before .before .place .result) (getD (c .before .before .before .before .args .index .now) (c .before .before .before .before .args .r) 0) (4 + c .before .before .before .before .args .i) (c .before .before .place .ensures) ∙ field-is (c .before .before .before .before .args .table .now) (c .before .before .before .before .args .index .now) (c .before .before .before .before .args .r) (c .before .before .before .before .pre .here) (c .before .before .before .before .args .i) (c .before .before .before .before .pre .has), c .byte-of .ensures .1)
+
+pub field-spec : {M : Type 1} → statement M
+field-spec =
+    tie.close
+    (tie.spec
+    place-requires
+    sub-byte-of
+    part-byte-of-start
+    part-byte-of-end
+    add-byte-of
+    byte-of-requires
+    returns)

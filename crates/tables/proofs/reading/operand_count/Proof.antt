@@ -1,0 +1,72 @@
+-- The length less what stands before the operands.
+use Rattle.tables.specs.Shapes.{firstOf}
+use Rattle.tables.proofs.Stand.{byte-at, part-long, in-index, four, kind-few, stands, count-is, count-few, roles-more, operand-within, operand-is, field-within, field-is, integer-is}
+use lib.ListN.{length, getD}
+use Rattle.tables.specs.Record.{named}
+use Rattle.tables.specs.Table.{recordAt}
+use Rattle.tables.specs.Accepted.{records}
+use Prim.Native.Nat.{ℕ, suc, _+_, _-_, _*_, _<_, _≤_}
+use native.Mathlib.Omega.{arith}
+use mathlib.Core.Path.{_≡_, refl, sym, ap, _∙_}
+use borrow.Author.Needs.{needs}
+use Rattle.tables.proofs.reading.operand_count.Statement.{statement}
+use Rattle.tables.proofs.reading.operand_count.Tie as tie
+use Rattle.tables.proofs.reading.operand_count.Reads as reads
+use Rattle.tables.proofs.reading.operand_count.Lts as lts
+use Rattle.tables.proofs.reading.byte_of.Reads as byte-of-reads
+use Rattle.tables.proofs.reading.kind.Reads as kind-reads
+use Rattle.tables.proofs.reading.place.Reads as place-reads
+use Rattle.tables.proofs.shape.first_operand.Reads as first-operand-reads
+
+plus-zero : (a : ℕ) → a + 0 ≡ a
+plus-zero a = omega arith
+
+-- src/reading.rt:112:9
+place-requires : tie.Need-place-requires
+place-requires c κs = in-index (c .before .args .table .now) (c .before .args .index .now) (c .before .args .r) (c .before .pre)
+
+-- src/reading.rt:113:23
+sub-byte-of : tie.Need-sub-byte-of
+sub-byte-of c = omega (arith, four (c .before .before .args .table .now) (c .before .before .args .index .now) (c .before .before .args .r) (c .before .before .pre), c .place .ensures)
+
+-- src/reading.rt:113:23
+part-byte-of-start : tie.Need-part-byte-of-start
+part-byte-of-start c = omega (arith, four (c .before .before .args .table .now) (c .before .before .args .index .now) (c .before .before .args .r) (c .before .before .pre), c .place .ensures)
+
+-- src/reading.rt:113:23
+part-byte-of-end : tie.Need-part-byte-of-end
+part-byte-of-end c = search needs
+
+-- src/reading.rt:113:9
+byte-of-requires : tie.Need-byte-of-requires
+byte-of-requires c κs = omega (arith, four (c .before .before .before .args .table .now) (c .before .before .before .args .index .now) (c .before .before .before .args .r) (c .before .before .before .pre), c .before .place .ensures, part-long (c .before .before .before .args .table .now) (c .before .place .result))
+
+-- src/reading.rt:114:25
+kind-requires : tie.Need-kind-requires
+kind-requires c κs = c .before .before .before .before .pre
+
+-- src/reading.rt:114:11
+first-operand-requires : tie.Need-first-operand-requires
+first-operand-requires c κs = c .kind .ensures .1
+
+-- src/reading.rt:114:5
+sub-result : tie.Need-sub-result
+sub-result c = omega (arith, (c .before .before .byte-of .ensures .0 ∙ byte-at (c .before .before .before .before .before .before .args .table .now) (c .before .before .before .before .place .result) (getD (c .before .before .before .before .before .before .args .index .now) (c .before .before .before .before .before .before .args .r) 0) 0 (c .before .before .before .before .place .ensures) ∙ ap (λ (k : ℕ). getD (c .before .before .before .before .before .before .args .table .now) k 0) (plus-zero (getD (c .before .before .before .before .before .before .args .index .now) (c .before .before .before .before .before .before .args .r) 0)) ∙ count-is (c .before .before .before .before .before .before .args .table .now) (c .before .before .before .before .before .before .args .index .now) (c .before .before .before .before .before .before .args .r) (c .before .before .before .before .before .before .pre)), (c .first-operand .ensures .0 ∙ ap firstOf (c .before .kind .ensures .0)))
+
+-- src/reading.rt:108:1
+returns : tie.Need-returns
+returns c = let is : c .before .before .byte-of .result - c .first-operand .result ≡ length (named (recordAt (records (c .before .before .before .before .before .before .args .table .now)) (c .before .before .before .before .before .before .args .r))) = omega (arith, (c .before .before .byte-of .ensures .0 ∙ byte-at (c .before .before .before .before .before .before .args .table .now) (c .before .before .before .before .place .result) (getD (c .before .before .before .before .before .before .args .index .now) (c .before .before .before .before .before .before .args .r) 0) 0 (c .before .before .before .before .place .ensures) ∙ ap (λ (k : ℕ). getD (c .before .before .before .before .before .before .args .table .now) k 0) (plus-zero (getD (c .before .before .before .before .before .before .args .index .now) (c .before .before .before .before .before .before .args .r) 0)) ∙ count-is (c .before .before .before .before .before .before .args .table .now) (c .before .before .before .before .before .before .args .index .now) (c .before .before .before .before .before .before .args .r) (c .before .before .before .before .before .before .pre)), (c .first-operand .ensures .0 ∙ ap firstOf (c .before .kind .ensures .0))) in (is, omega (arith, is, count-few (c .before .before .before .before .before .before .args .table .now) (c .before .before .before .before .before .before .args .index .now) (c .before .before .before .before .before .before .args .r) (c .before .before .before .before .before .before .pre)))
+
+pub operand-count-spec : {M : Type 1} → statement M
+operand-count-spec =
+    tie.close
+    (tie.spec
+    place-requires
+    sub-byte-of
+    part-byte-of-start
+    part-byte-of-end
+    byte-of-requires
+    kind-requires
+    first-operand-requires
+    sub-result
+    returns)

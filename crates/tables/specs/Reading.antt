@@ -1,0 +1,53 @@
+-- Where the records of a table stand in its bytes, and how an index finds them.
+use mathlib.Core.Path.{_≡_}
+use mathlib.Core.List.{List}
+use Prim.Native.Nat.{ℕ, _+_, _≤_, _<_}
+use lib.ListN.{length, getD, drop}
+use Rattle.integers.specs.Bytes.{word}
+use Rattle.tables.specs.Record.{Record, named}
+use Rattle.tables.specs.Table.{Next, fault, one, next, first, recordAt, cut}
+use Rattle.tables.specs.Check.{mostRecords}
+use Rattle.tables.specs.Accepted.{records}
+use Rattle.tables.specs.declared.reading.Cutting.{Cutting}
+
+-- The record x stands at a place of the table: length, kind, then one-byte fields. (Length and kind are below 256.)
+pub record Stands (table : List ℕ) (at : ℕ) (x : Record) : Type 0 where
+  pub fits : at + 4 + length (x .fields) ≤ length table
+  pub long : getD table at 0 ≡ 4 + length (x .fields)
+  pub kind : getD table (at + 2) 0 ≡ x .kind
+  pub field : (i : ℕ) → i < length (x .fields) → getD table (at + 4 + i) 0 ≡ getD (x .fields) i 0
+
+-- The index has the place of each record of the table, as far as it goes.
+abbrev pub Places : List ℕ → List ℕ → ℕ → Type 0
+Places table index n = (r : ℕ) → r < n → r < mostRecords → Stands table (getD index r 0) (recordAt (records table) r)
+
+-- An index of all records of a table of at most 200.
+pub record Indexed (table index : List ℕ) : Type 0 where
+  pub few : length (records table) ≤ mostRecords
+  pub place : (r : ℕ) → r < length (records table) → Stands table (getD index r 0) (recordAt (records table) r)
+
+-- A record of a table with an index.
+pub record Here (table index : List ℕ) (r : ℕ) : Type 0 where
+  pub indexed : Indexed table index
+  pub within : r < length (records table)
+
+-- Such a record that has a field i, and one that has an operand i.
+pub record HasField (table index : List ℕ) (r i : ℕ) : Type 0 where
+  pub here : Here table index r
+  pub has : i < length (recordAt (records table) r .fields)
+
+pub record HasOperand (table index : List ℕ) (r i : ℕ) : Type 0 where
+  pub here : Here table index r
+  pub has : i < length (named (recordAt (records table) r))
+
+-- The length of the record at the start of some bytes; 0 where rule 4 finds a fault.
+pub record Measured (bytes : List ℕ) (n : ℕ) : Type 0 where
+  pub bad : n ≡ 0 → next bytes ≡ fault
+  pub good : 0 < n → next bytes ≡ one (first bytes) (drop n bytes)
+  pub long : 0 < n → n ≡ word bytes 0
+
+-- What cutting a table finds: the number of records up to the first fault of rule 4, whether there is none, and an index of them.
+pub record CutOut (table index : List ℕ) (c : Cutting) : Type 0 where
+  pub count : c .count ≡ length (records table)
+  pub whole : c .whole ≡ cut table .whole
+  pub places : Places table index (length (records table))

@@ -1,0 +1,156 @@
+// Reading records from a table's bytes: each record is read from its own part of the table.
+ghost use mathlib.Core.Path.{_≡_};
+ghost use Prim.Native.Nat.{_+_, _<_, _≤_};
+ghost use lib.ListN.{length, getD};
+ghost use Rattle.tables.specs.Record.{named, operand as operandIn, roleAt, field as fieldIn, integerOf};
+ghost use Rattle.tables.specs.Table.{recordAt, kindAt};
+ghost use Rattle.tables.specs.Check.{mostBytes, mostRecords};
+ghost use Rattle.tables.specs.Accepted.{records};
+ghost use Rattle.tables.specs.Reading.{Measured, CutOut, Here, HasField, HasOperand};
+use crate::MOST_RECORDS;
+use crate::Role;
+use crate::shape::first_operand;
+use crate::shape::is_fit;
+use crate::shape::role_of;
+use crate::shape::wide;
+use integers::bytes::read16;
+use integers::bytes::read32;
+
+// What cutting a table finds: the number of records up to the first fault of rule 4, and whether there is none.
+pub struct Cutting {
+    pub count: usize,
+    pub whole: bool,
+}
+
+// The length of the record at the start of the part; 0 where rule 4 finds a fault.
+pub fn measure(part: &[u8]) -> usize
+    requires { ⌜ 0 < length (now part) ⌝ }
+    ensures { λ n. ⌜ Measured (now (part .entry)) n ⌝ }
+{
+    if part.len() < 4 {
+        return 0;
+    }
+    let len = read16(part, 0);
+    if len < 4 {
+        return 0;
+    }
+    if part.len() < len {
+        return 0;
+    }
+    let kind = read16(part, 2);
+    let fit = is_fit(part, kind, len);
+    if !fit {
+        return 0;
+    }
+    len
+}
+
+// Cuts a table into records, and notes where each of the first 200 begins.
+pub fn cut(table: &[u8], index: &mut [u16; 200]) -> Cutting
+    requires { ⌜ (length (now table) ≤ mostBytes) × (length (now index) ≡ mostRecords) ⌝ }
+    ensures { λ c. ⌜ CutOut (now (table .entry)) (now (index .exit)) c ⌝ }
+{
+    let mut at = 0;
+    let mut count = 0;
+    while at < table.len() {
+        let len = measure(&table[at..]);
+        if len == 0 {
+            return Cutting {
+                count,
+                whole: false,
+            };
+        }
+        if count < MOST_RECORDS {
+            index[count] = at as u16;
+        }
+        at += len;
+        count += 1;
+    }
+    Cutting { count, whole: true }
+}
+
+// The kind of the record at the start of the part.
+fn kind_of(part: &[u8]) -> usize
+    requires { ⌜ 4 ≤ length (now part) ⌝ }
+    ensures { λ k. ⌜ k ≡ getD (now (part .entry)) 2 0 ⌝ }
+{
+    wide(part[2])
+}
+
+// Byte i of the record at the start of the part.
+fn byte_of(part: &[u8], i: usize) -> usize
+    requires { ⌜ i < length (now part) ⌝ }
+    ensures { λ b. ⌜ (b ≡ getD (now (part .entry)) i 0) × (b < 256) ⌝ }
+{
+    wide(part[i])
+}
+
+// 16 bits as a number.
+fn wide16(n: u16) -> usize
+    ensures { λ r. ⌜ r ≡ n ⌝ }
+{
+    n as usize
+}
+
+// Where record r begins.
+fn place(index: &[u16; 200], r: usize) -> usize
+    requires { ⌜ r < 200 ⌝ }
+    ensures { λ at. ⌜ at ≡ getD (now (index .entry)) r 0 ⌝ }
+{
+    wide16(index[r])
+}
+
+// The kind of record r.
+pub fn kind(table: &[u8], index: &[u16; 200], r: usize) -> usize
+    requires { ⌜ Here (now table) (now index) r ⌝ }
+    ensures { λ k. ⌜ (k ≡ kindAt (records (now (table .entry))) r) × (k ≤ 40) ⌝ }
+{
+    let at = place(index, r);
+    kind_of(&table[at..])
+}
+
+// Field i of record r.
+pub fn field(table: &[u8], index: &[u16; 200], r: usize, i: usize) -> usize
+    requires { ⌜ HasField (now table) (now index) r i ⌝ }
+    ensures { λ b. ⌜ (b ≡ fieldIn (recordAt (records (now (table .entry))) r) i) × (b < 256) ⌝ }
+{
+    let at = place(index, r);
+    byte_of(&table[at..], 4 + i)
+}
+
+// The number of operands of record r.
+pub fn operand_count(table: &[u8], index: &[u16; 200], r: usize) -> usize
+    requires { ⌜ Here (now table) (now index) r ⌝ }
+    ensures { λ n. ⌜ (n ≡ length (named (recordAt (records (now (table .entry))) r))) × (n ≤ 8) ⌝ }
+{
+    let at = place(index, r);
+    let len = byte_of(&table[at..], 0);
+    len - first_operand(kind(table, index, r))
+}
+
+// The number in operand i of record r.
+pub fn operand(table: &[u8], index: &[u16; 200], r: usize, i: usize) -> usize
+    requires { ⌜ HasOperand (now table) (now index) r i ⌝ }
+    ensures { λ n. ⌜ (n ≡ operandIn (recordAt (records (now (table .entry))) r) i) × (n < 256) ⌝ }
+{
+    let at = place(index, r);
+    let first = first_operand(kind(table, index, r));
+    byte_of(&table[at..], first + i)
+}
+
+// What operand i of record r is for.
+pub fn role(table: &[u8], index: &[u16; 200], r: usize, i: usize) -> Role
+    requires { ⌜ HasOperand (now table) (now index) r i ⌝ }
+    ensures { λ x. ⌜ x ≡ roleAt (recordAt (records (now (table .entry))) r) i ⌝ }
+{
+    role_of(kind(table, index, r), i)
+}
+
+// The integer of record r, of kind 2 or 35.
+pub fn integer(table: &[u8], index: &[u16; 200], r: usize) -> i32
+    requires { ⌜ HasField (now table) (now index) r 3 ⌝ }
+    ensures { λ z. ⌜ z ≡ integerOf (recordAt (records (now (table .entry))) r) ⌝ }
+{
+    let at = place(index, r);
+    read32(&table[at..], 4)
+}
