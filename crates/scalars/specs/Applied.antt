@@ -1,5 +1,5 @@
--- What every operator on scratch asks and promises. The operands stand at `base` and at `base + 512`; the bytes from `base` up to
--- `base + 1536` are the operator's to use; it leaves its value at `base`, and everything below `base` as it was.
+-- What every operator on scratch asks and promises. Its operands stand at `base` and a value's limit above it; 1,536 bytes from `base` on
+-- are there to work in. It leaves its value at `base` and everything below `base` as it was; nothing is promised of what lies above.
 use mathlib.Core.Path.{_≡_}
 use mathlib.Core.List.{List}
 use Prim.Native.Nat.{ℕ, _+_, _≤_}

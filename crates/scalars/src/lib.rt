@@ -20,6 +20,10 @@ pub enum Applied {
 }
 
 impl Applied {
+    // How far above the first operand the second stands.
+    pub const SECOND: usize = values::Value::LIMIT;
+
+    // The refusals of operators.
     pub const WRONG_KIND: usize = 20;
 
     pub const OUT_OF_RANGE: usize = 21;
@@ -119,7 +123,7 @@ fn same(s: &[u8], base: usize) -> bool
     requires { ⌜ Two (now s) base ⌝ }
     ensures { λ r. ⌜ Equal (now (s .entry)) base (base + 512) r ⌝ }
 {
-    values::equal(s, base, base + 512)
+    values::equal(s, base, base + Applied::SECOND)
 }
 
 fn biimplication(s: &mut [u8], base: usize) -> Applied
@@ -130,7 +134,7 @@ fn biimplication(s: &mut [u8], base: usize) -> Applied
     if first != 1 {
         return Applied::Refused(Applied::WRONG_KIND);
     }
-    let second = values::kind_of(s, base + 512);
+    let second = values::kind_of(s, base + Applied::SECOND);
     if second != 1 {
         return Applied::Refused(Applied::WRONG_KIND);
     }
@@ -159,12 +163,12 @@ fn operands(s: &[u8], base: usize) -> Pair
     if first != 2 {
         return Pair::Others;
     }
-    let second = values::kind_of(s, base + 512);
+    let second = values::kind_of(s, base + Applied::SECOND);
     if second != 2 {
         return Pair::Others;
     }
     let a = values::integer_at(s, base);
-    let b = values::integer_at(s, base + 512);
+    let b = values::integer_at(s, base + Applied::SECOND);
     Pair::Integers(a, b)
 }
 
@@ -237,7 +241,7 @@ pub fn binary_scalar(s: &mut [u8], base: usize, operator: usize) -> Applied
 
 // ---- 1 and, 2 or, 3 =>
 
-// Tests the left.
+// Tests the left: true leaves the right to decide in and and =>, false in or. Else the answer is false in and, true in or and =>.
 pub fn left(s: &mut [u8], base: usize, operator: usize) -> Tested
     requires { ⌜ One (now s) base × (1 ≤ operator) × (operator ≤ 3) ⌝ }
     ensures { λ r. ⌜ TestsLeft (connective operator) (now (s .entry)) (now (s .exit)) base r ⌝ }

@@ -1,4 +1,5 @@
 -- `counting` meets its contract: 28, or the integers with a heading before them.
+use native.Mathlib.Omega.{arith}
 use Rattle.scalars.specs.AppliedLaws.{gives-off}
 use Rattle.scalars.proofs.Spans.{counting-off, counting-gives}
 use borrow.Author.Needs.{needs}
@@ -12,7 +13,7 @@ add-size : tie.Need-add-size
 add-size c = search needs
 
 returns : tie.Need-returns
-returns c = gives-off (counting-off (c .before .before .args .from) (c .before .before .args .n) (c .if1 .taken))
+returns c = gives-off (counting-off (c .before .before .args .from) (c .before .before .args .n) (omega arith))
 
 add-put-integers : tie.Need-add-put-integers
 add-put-integers c = search needs
@@ -27,7 +28,7 @@ same-length : tie.Need-same-length
 same-length c = search needs
 
 returns-2 : tie.Need-returns-2
-returns-2 c = counting-gives (c .before .before .before .before .before .before .before .before .before .before .args .n) (c .before .before .before .before .before .before .before .before .before .before .fits .from) (c .before .before .before .before .before .before .before .before .if1 .left) (c .before .before .before .before .before .before .put-integers .ensures) (c .before .before .put-head .ensures)
+returns-2 c = counting-gives (c .before .before .before .before .before .before .before .before .before .before .args .n) (c .before .before .before .before .before .before .before .before .before .before .fits .from) (omega arith) (c .before .before .before .before .before .before .put-integers .ensures) (c .before .before .put-head .ensures)
 
 pub counting-spec : {M : Type 1} → statement M
 counting-spec =
