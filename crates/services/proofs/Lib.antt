@@ -1,0 +1,2 @@
+mod Zeros
+mod Packing

@@ -1,0 +1,44 @@
+-- By the cases of what is checked.
+use mathlib.Core.Path.{_∙_}
+use Rattle.services.proofs.Packing.{accepted-fits, accepted-packed, refused-fits, refused-packed}
+use borrow.Author.Needs.{needs}
+use Rattle.services.proofs.answer.Statement.{statement}
+use Rattle.services.proofs.answer.Tie as tie
+use Rattle.services.proofs.answer.Reads as reads
+use Rattle.services.proofs.answer.Lts as lts
+use Rattle.services.proofs.pack.Reads as pack-reads
+
+-- src/lib.rt:37:27
+enum-known-checked : tie.Need-enum-known-checked
+enum-known-checked c = search needs
+
+-- src/lib.rt:37:33
+pack-requires : tie.Need-pack-requires
+pack-requires c κs = accepted-fits (c .before .before .before .args .checked) _ (c .before .checked .given .1) (c .before .before .before .pre)
+
+-- src/lib.rt:38:26
+enum-known-checked-2 : tie.Need-enum-known-checked-2
+enum-known-checked-2 c = search needs
+
+-- src/lib.rt:38:35
+pack-requires-2 : tie.Need-pack-requires-2
+pack-requires-2 c κs = refused-fits (c .before .before .before .args .checked) _ _ (c .before .checked2 .given .1) (c .before .before .before .pre)
+
+-- src/lib.rt:32:1
+returns : tie.Need-returns
+returns c = c .pack .ensures ∙ accepted-packed (c .before .before .before .before .args .checked) _ (c .before .before .checked .given .1)
+
+-- src/lib.rt:32:1
+returns-2 : tie.Need-returns-2
+returns-2 c = c .pack2 .ensures ∙ refused-packed (c .before .before .before .before .args .checked) _ _ (c .before .before .checked2 .given .1)
+
+pub answer-spec : {M : Type 1} → statement M
+answer-spec =
+    tie.close
+    (tie.spec
+    enum-known-checked
+    pack-requires
+    enum-known-checked-2
+    pack-requires-2
+    returns
+    returns-2)

@@ -1,0 +1,69 @@
+-- Rule 1, then the table's rules.
+use mathlib.Core.Path.{sym, ap, subst, _∙_}
+use lib.ListN.{length}
+use Rattle.choices.specs.Tree.{result}
+use Rattle.meaning.specs.Service.{accepted}
+use Rattle.tables.specs.declared.Checked.{Checked}
+use Rattle.services.specs.Answer.{packed, records}
+use Rattle.services.specs.Bounds.{Small, small-check}
+use Rattle.services.proofs.Zeros.{cleared-short, cleared-enough}
+use Rattle.services.proofs.Packing.{checks-short, checks-enough}
+use borrow.Author.Needs.{needs}
+use Rattle.services.proofs.services_check.Statement.{statement}
+use Rattle.services.proofs.services_check.Tie as tie
+use Rattle.services.proofs.services_check.Reads as reads
+use Rattle.services.proofs.services_check.Lts as lts
+use Rattle.checking.proofs.check.Reads as check-reads
+use Rattle.services.proofs.answer.Reads as answer-reads
+use Rattle.services.proofs.clear.Reads as clear-reads
+use Rattle.services.proofs.pack.Reads as pack-reads
+
+-- src/lib.rt:60:9
+pack-requires : tie.Need-pack-requires
+pack-requires c κs = search needs
+
+-- src/lib.rt:60:9
+returns : tie.Need-returns
+returns c =
+    record {
+      answers = c .pack .ensures ∙ checks-short (c .before .before .before .before .args .table .now) (c .before .before .before .before .args .scratch .now) (c .before .if1 .taken);
+      leaves = cleared-short (c .before .before .before .before .args .scratch .now) (c .before .if1 .taken);
+    }
+
+-- src/lib.rt:62:5
+clear-requires : tie.Need-clear-requires
+clear-requires c κs = search needs
+
+-- src/lib.rt:63:12
+check-requires : tie.Need-check-requires
+check-requires c κs = search needs
+
+-- src/lib.rt:63:5
+answer-requires : tie.Need-answer-requires
+answer-requires c κs = subst Small (sym (c .check .ensures)) (small-check (c .before .before .before .before .before .before .before .before .args .table .now))
+
+-- src/lib.rt:55:1
+same-length : tie.Need-same-length
+same-length c = search needs
+
+-- src/lib.rt:55:1
+returns-2 : tie.Need-returns-2
+returns-2 c =
+    record {
+      answers =
+          c .answer .ensures ∙ ap (λ (x : Checked). packed records (accepted x (λ n. result n))) (c .before .check .ensures)
+          ∙ checks-enough (c .before .before .before .before .before .before .before .before .before .args .table .now) (c .before .before .before .before .before .before .before .before .before .args .scratch .now) (c .before .before .before .before .before .before .if1 .left);
+      leaves = c .before .before .before .before .clear .ensures ∙ cleared-enough (c .before .before .before .before .before .before .before .before .before .args .scratch .now) (c .before .before .before .before .before .before .if1 .left);
+    }
+
+pub services-check-spec : {M : Type 1} → statement M
+services-check-spec =
+    tie.close
+    (tie.spec
+    pack-requires
+    returns
+    clear-requires
+    check-requires
+    answer-requires
+    same-length
+    returns-2)

@@ -1,0 +1,4 @@
+pub mod Answer
+pub mod Lent
+pub mod Bounds
+pub mod Services
