@@ -5,3 +5,6 @@ pub mod Broad
 pub mod Tame
 pub mod Following
 pub mod Best
+pub mod Read
+pub mod Orders
+pub mod Nodes
