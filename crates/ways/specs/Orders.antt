@@ -51,7 +51,7 @@ module _ {A : Type 0} where
   placed-length x (y ∷ ys) = ap suc (length-map (placed x ys) (λ zs. y ∷ zs) ∙ placed-length x ys)
 
   -- every order has all units
-  order-length : (xs ys : List A) → In ys (orders xs) → length ys ≡ length xs
+  pub order-length : (xs ys : List A) → In ys (orders xs) → length ys ≡ length xs
   unfolding orders
   order-length [] ys (inl e) = ap length e
   order-length [] ys (inr i) = absurd i
