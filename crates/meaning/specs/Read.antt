@@ -1,15 +1,14 @@
--- A table as the meaning reads it: the node of each expression record, and the pattern of each pattern record.
+-- A table as the meaning reads it: the node of each expression record, and the pattern of each pattern record (`ways`).
 use mathlib.Core.List.{List, [], _∷_}
-use Prim.Native.Nat.{ℕ, _-_}
+use Prim.Native.Nat.{ℕ}
 use lib.Dec.{eqb}
 use lib.ListN.{length, getD}
-use Rattle.values.specs.Value.{set, sequence, map, tuple, boolean, integer}
+use Rattle.values.specs.Value.{set, sequence, map, tuple}
 use Rattle.values.specs.Items.{pick}
 use Rattle.operators.specs.Booleans.{and, or, implies}
-use Rattle.patterns.specs.Pattern.{Pattern, Patterns, nil, cons, name, any, literal, each, halved}
 use Rattle.tables.specs.Record.{Record, booleanOf, integerOf, nameOf, operator, operand, named as operandsOf}
 use Rattle.tables.specs.Table.{cut, recordAt}
-use Rattle.tables.specs.Sheet.{fold}
+use Rattle.ways.specs.Read.{patternAt}
 use Rattle.meaning.specs.Node.{Node, forall, exists, exists1, truth, whole, named, unaryOf, binaryOf, connective, if, enumeration, range, let-in, let-be, quantified, iota, set-comprehension, sequence-comprehension, map-comprehension, application, no-expression}
 use Rattle.meaning.specs.Meaning.{Sheet}
 
@@ -51,31 +50,6 @@ nodes =
 
 unfoldable pub nodeOf : Record → Node
 nodeOf r = getD nodes (r .kind) none r
-
--- ---- patterns
-
-unfoldable pub patternsOf : List Pattern → Patterns
-patternsOf [] = nil
-patternsOf (p ∷ ps) = cons p (patternsOf ps)
-
--- By kind, from 32, over the patterns of its parts.
-abbrev pub patterns : List (Record → List Pattern → Pattern)
-patterns =
-    (λ r ps. name (nameOf r)) ∷
-    (λ r ps. any) ∷
-    (λ r ps. literal (boolean (booleanOf r))) ∷
-    (λ r ps. literal (integer (integerOf r))) ∷
-    (λ r ps. each tuple (patternsOf ps)) ∷
-    (λ r ps. each set (patternsOf ps)) ∷
-    (λ r ps. halved set (getD ps 0 any) (getD ps 1 any)) ∷
-    (λ r ps. each sequence (patternsOf ps)) ∷
-    (λ r ps. halved sequence (getD ps 0 any) (getD ps 1 any)) ∷ []
-
-abbrev pub patternOf : Record → List Pattern → Pattern
-patternOf r ps = getD patterns (r .kind - 32) (λ q qs. any) r ps
-
-unfoldable pub patternAt : List Record → ℕ → Pattern
-patternAt rs r = fold (λ q ps. patternOf (recordAt rs q) ps) any rs r
 
 -- ---- the sheet
 

@@ -27,7 +27,8 @@ use Rattle.tables.specs.Laws.{never, or-some, and-left, and-right, implied, eac
 use Rattle.tables.specs.Accepted.{records, Fine, accepted-fine, operand-lower, operand-sort, bound-operand, bound-last, name-bound, last-sort, fit-known, fit-kind}
 use Rattle.meaning.specs.State.{State, unbound, over, under, held, valueIn}
 use Rattle.meaning.specs.Meaning.{orElse, means, meaningTo, meaning}
-use Rattle.meaning.specs.Read.{nodes, nodeOf, none, patternAt, sheet}
+use Rattle.ways.specs.Read.{patternAt}
+use Rattle.meaning.specs.Read.{nodes, nodeOf, none, sheet}
 use Rattle.meaning.specs.Service.{last, tree}
 use Rattle.meaning.specs.Proper.{inside}
 use Rattle.meaning.specs.PatternLaws.{names-are}

@@ -22,7 +22,8 @@ use Rattle.tables.specs.Sheet as Sheet
 use Rattle.tables.specs.Check as Check
 use Rattle.meaning.specs.State.{under}
 use Rattle.meaning.specs.Meaning.{allOf, satisfying, untilFalse, untilTrue, collected, integersAt, means, meaningTo, meaning}
-use Rattle.meaning.specs.Read.{nodeOf, patternsOf, patternAt}
+use Rattle.ways.specs.Read.{patternsOf, patternAt}
+use Rattle.meaning.specs.Read.{nodeOf}
 use Rattle.meaning.specs.Service.{scratchBytes, tree, evaluates}
 
 -- ---- a table's bytes

@@ -1,0 +1,186 @@
+-- How many ways there are, by the kind of the pattern and the items of the value.
+use mathlib.Core.Path.{_≡_, refl, sym, ap, subst, _∙_}
+use mathlib.Core.Bool.{Bool, true, false}
+use mathlib.Core.Option.{Option, none as absent, some}
+use mathlib.Core.List.{List, [], _∷_, map}
+use Prim.Native.Nat.{ℕ, zero, suc, _+_, _-_, _^_, _≤_, _<_}
+use native.Mathlib.Decide.{ℕ-discrete}
+use native.Mathlib.Omega.{arith}
+use lib.Dec.{eqb, ltb}
+use lib.ListN.{length, length-map}
+use borrow.Author.Tests.{eq-eqb, ne-eqb, lt-ltb, le-ltb}
+use Rattle.values.specs.Value.{Kind, set, sequence, map as mapping, tuple, number, kindOf, Value, boolean, integer, collection, WellFormed, limit}
+use Rattle.values.specs.Items.{pick}
+use Rattle.values.specs.Laws.{number-low, number-inj}
+use Rattle.values.specs.Encoding.{collection-size, count-sizes}
+use Rattle.parts.specs.declared.Part.{Part}
+use Rattle.parts.specs.Part.{PartIs, PartHeld}
+use Rattle.parts.specs.Contract.{KindOfPart, CollectionHeld, CountOfPart}
+use Rattle.parts.specs.Mask.{Full}
+use Rattle.parts.specs.Laws.{part-well-formed}
+use Rattle.parts.specs.Chosen.{splits-length, cuts-length}
+use Rattle.patterns.specs.Ways.{splits, cuts, orders}
+use Rattle.patterns.specs.Pattern.{listOf, itemsOf, contents, met, split, tooLarge}
+use Rattle.patterns.specs.Matched.{items-list, list-items}
+use Rattle.patterns.specs.Plain.{count-list}
+use Rattle.ways.specs.Nodes.{collectionOf, isHalved, pair, meetings, isLarge}
+use Rattle.ways.specs.Orders.{factorial, orders-length}
+use Rattle.matching.specs.declared.nodes.Meeting.the-variants.{Unfit, Large, Ways}
+use Rattle.matching.specs.Node.{MeetsAs, Meets}
+
+-- ---- the contents of a value, by its kind
+
+pub contents-other : (k : Kind) (v : Value) → (kindOf v ≡ number k → ⊥) → contents k v ≡ absent
+contents-other k (boolean b) f = refl
+contents-other k (integer z) f = refl
+contents-other k (collection l vs) f = rw (ne-eqb (number k) (number l) (λ e. f (sym e)))
+
+-- The items of a value of the kind.
+pub record Has (k : Kind) (v : Value) : Type 0 where
+  pub items : List Value
+  pub has : contents k v ≡ some items
+  pub is : v ≡ collection k (itemsOf items)
+
+pub contents-same : (k : Kind) (v : Value) → kindOf v ≡ number k → Has k v
+contents-same k (boolean b) e = absurd (omega (arith, number-low k))
+contents-same k (integer z) e = absurd (omega (arith, number-low k))
+contents-same k (collection l vs) e =
+    let q : k ≡ l = number-inj k l (sym e) in
+    record { items = listOf vs; has = rw (eq-eqb (number k) (number l) (sym e)); is = rw (sym q, items-list vs) }
+
+-- a well-formed collection has at most 127 items
+pub few-items : (k : Kind) (vs : List Value) → WellFormed (collection k (itemsOf vs)) → length vs ≤ 127
+few-items k vs h =
+    let s = collection-size k (itemsOf vs) in
+    let c = count-sizes (itemsOf vs) in
+    let n = count-list (itemsOf vs) in
+    let l = ap length (list-items vs) in
+    omega (arith, h .short)
+
+-- ---- by kind
+
+pub pick-true : {A : Type 0} {t : Bool} (xs : List A) → t ≡ true → pick t xs [] ≡ xs
+pick-true xs e = rw e
+
+only-39 : (c d : ℕ) → c ≡ 36 + d → d ≤ 4 → (c ≡ 36 → ⊥) → (c ≡ 37 → ⊥) → (c ≡ 38 → ⊥) → (c ≡ 40 → ⊥) → c ≡ 39
+only-39 c zero e l w x y z = absurd (w e)
+only-39 c (suc zero) e l w x y z = absurd (x e)
+only-39 c (suc (suc zero)) e l w x y z = absurd (y e)
+only-39 c (suc (suc (suc zero))) e l w x y z = e
+only-39 c (suc (suc (suc (suc zero)))) e l w x y z = absurd (z e)
+only-39 c (suc (suc (suc (suc (suc d))))) e l w x y z = absurd (omega arith)
+
+module _ (c n : ℕ) (v : Value) where
+  pub none-meets : 36 ≤ c → c ≤ 40 → contents (collectionOf c) v ≡ absent → MeetsAs c n v Unfit
+  none-meets low high e = go (isHalved c) refl
+    where
+      large : (k : Kind) → contents k v ≡ absent → tooLarge k (contents k v) ≡ false
+      large set f = rw f
+      large sequence f = rw f
+      large mapping f = rw f
+      large tuple f = rw f
+
+      go : (t : Bool) → isHalved c ≡ t → MeetsAs c n v Unfit
+      go true f = (rw f (large (collectionOf c) e), rw (f, e))
+      go false f = (rw f, rw (f, e))
+
+  module _ (vs : List Value) where
+    pub meets-splits : c ≡ 38 → contents set v ≡ some vs → (meetings c n v ≡ map (pair set) (splits vs)) × (isLarge c v ≡ ltb 7 (length vs))
+    meets-splits e f = (rw (e, f), rw (e, f))
+
+    pub meets-cuts : c ≡ 40 → contents sequence v ≡ some vs → (meetings c n v ≡ map (pair sequence) (cuts vs)) × (isLarge c v ≡ false)
+    meets-cuts e f = (rw (e, f), rw (e, f))
+
+    pub meets-orders : c ≡ 37 → contents set v ≡ some vs → (meetings c n v ≡ pick (eqb n (length vs)) (orders vs) []) × (isLarge c v ≡ false)
+    meets-orders e f = (rw (e, f), rw e)
+
+    pub meets-items : (c ≡ 37 → ⊥) → (c ≡ 38 → ⊥) → (c ≡ 40 → ⊥) → 36 ≤ c → c ≤ 40 → contents (collectionOf c) v ≡ some vs → (meetings c n v ≡ pick (eqb n (length vs)) (vs ∷ []) []) × (isLarge c v ≡ false)
+    meets-items x y z low high f = go (ℕ-discrete c 36)
+      where
+        go : Dec (c ≡ 36) → (meetings c n v ≡ pick (eqb n (length vs)) (vs ∷ []) []) × (isLarge c v ≡ false)
+        go (yes e) = let g : contents tuple v ≡ some vs = subst (λ (k : ℕ). contents (collectionOf k) v ≡ some vs) e f in (rw (e, g), rw e)
+        go (no d) =
+            let e : c ≡ 39 = only-39 c (c - 36) (omega arith) (omega arith) d x y z in
+            let g : contents sequence v ≡ some vs = subst (λ (k : ℕ). contents (collectionOf k) v ≡ some vs) e f in
+            (rw (e, g), rw e)
+
+-- ---- what `meet` answers
+
+module _ (c n : ℕ) (s : List ℕ) (p : Part) (low : 36 ≤ c) (high : c ≤ 40) (k : ℕ) (kind : KindOfPart s p k) where
+  pub kind-unfit : (k ≡ number (collectionOf c) → ⊥) → Meets c n s p Unfit
+  kind-unfit f v h = none-meets c n v low high (contents-other (collectionOf c) v (λ e. f (kind v h ∙ e)))
+
+  module _ (same : k ≡ number (collectionOf c)) where
+    pub has-items : (v : Value) → PartIs s p v → Has (collectionOf c) v
+    has-items v h = contents-same (collectionOf c) v (sym (kind v h) ∙ same)
+
+    pub is-held : PartHeld s p → CollectionHeld s p
+    is-held h = let w = has-items (h .value) (h .here) in record { kind = collectionOf c; items = w .items; here = subst (PartIs s p) (w .is) (h .here) }
+
+    module _ (count : ℕ) (counted : CountOfPart s p count) where
+      pub counts : (v : Value) (h : PartIs s p v) → count ≡ length (has-items v h .items)
+      counts v h = let w = has-items v h in counted (collectionOf c) (w .items) (subst (PartIs s p) (w .is) h)
+
+      pub count-few : PartHeld s p → count ≤ 127
+      count-few h =
+          let w = has-items (h .value) (h .here) in
+          omega (arith, counts (h .value) (h .here), few-items (collectionOf c) (w .items) (subst WellFormed (w .is) (part-well-formed (h .here))))
+
+      pub too-large : c ≡ 38 → 7 < count → Meets c n s p Large
+      too-large e l v h =
+          let w = has-items v h in
+          let f : contents set v ≡ some (w .items) = subst (λ (x : ℕ). contents (collectionOf x) v ≡ some (w .items)) e (w .has) in
+          meets-splits c n v (w .items) e f .1 ∙ lt-ltb 7 (length (w .items)) (omega (arith, counts v h))
+
+      pub by-splits : c ≡ 38 → count ≤ 7 → (m : ℕ) → Full count m → Meets c n s p (Ways (m + 1))
+      by-splits e l m full v h =
+          let w = has-items v h in
+          let f : contents set v ≡ some (w .items) = subst (λ (x : ℕ). contents (collectionOf x) v ≡ some (w .items)) e (w .has) in
+          let q = counts v h in
+          let a = meets-splits c n v (w .items) e f in
+          let len : length (meetings c n v) ≡ m + 1 =
+              ap length (a .0) ∙ length-map (splits (w .items)) (pair set) ∙ splits-length (w .items) ∙ ap (λ (x : ℕ). 2 ^ x) (sym q) ∙ sym (full .power) in
+          (a .1 ∙ le-ltb 7 (length (w .items)) (omega (arith, q)), len, omega arith, omega (arith, full .small))
+
+      pub by-cuts : c ≡ 40 → PartHeld s p → Meets c n s p (Ways (count + 1))
+      by-cuts e held v h =
+          let w = has-items v h in
+          let f : contents sequence v ≡ some (w .items) = subst (λ (x : ℕ). contents (collectionOf x) v ≡ some (w .items)) e (w .has) in
+          let q = counts v h in
+          let a = meets-cuts c n v (w .items) e f in
+          let len : length (meetings c n v) ≡ count + 1 =
+              ap length (a .0) ∙ length-map (cuts (w .items)) (pair sequence) ∙ cuts-length (w .items) ∙ omega (arith, q) in
+          (a .1, len, omega arith, omega (arith, count-few held))
+
+      module _ (not38 : c ≡ 38 → ⊥) (not40 : c ≡ 40 → ⊥) where
+        pub count-unfit : (count ≡ n → ⊥) → Meets c n s p Unfit
+        count-unfit d v h = go (ℕ-discrete c 37)
+          where
+            go : Dec (c ≡ 37) → MeetsAs c n v Unfit
+            go (yes e) =
+                let w = has-items v h in
+                let f : contents set v ≡ some (w .items) = subst (λ (x : ℕ). contents (collectionOf x) v ≡ some (w .items)) e (w .has) in
+                let a = meets-orders c n v (w .items) e f in
+                (a .1, a .0 ∙ rw (ne-eqb n (length (w .items)) (λ q. d (counts v h ∙ sym q))))
+            go (no e) =
+                let w = has-items v h in
+                let a = meets-items c n v (w .items) e not38 not40 low high (w .has) in
+                (a .1, a .0 ∙ rw (ne-eqb n (length (w .items)) (λ q. d (counts v h ∙ sym q))))
+
+        pub by-orders : c ≡ 37 → count ≡ n → (m : ℕ) → (m ≡ factorial n) × (0 < m) × (m < 256) → Meets c n s p (Ways m)
+        by-orders e d m o v h =
+            let w = has-items v h in
+            let f : contents set v ≡ some (w .items) = subst (λ (x : ℕ). contents (collectionOf x) v ≡ some (w .items)) e (w .has) in
+            let q : n ≡ length (w .items) = sym d ∙ counts v h in
+            let a = meets-orders c n v (w .items) e f in
+            let len : length (meetings c n v) ≡ m =
+                ap length (a .0 ∙ pick-true (orders (w .items)) (eq-eqb n (length (w .items)) q)) ∙ orders-length (w .items) ∙ ap factorial (sym q) ∙ sym (o .0) in
+            (a .1, len, o .1, o .2)
+
+        pub by-items : (c ≡ 37 → ⊥) → count ≡ n → Meets c n s p (Ways 1)
+        by-items e d v h =
+            let w = has-items v h in
+            let q : n ≡ length (w .items) = sym d ∙ counts v h in
+            let a = meets-items c n v (w .items) e not38 not40 low high (w .has) in
+            let len : length (meetings c n v) ≡ 1 = ap length (a .0 ∙ pick-true (w .items ∷ []) (eq-eqb n (length (w .items)) q)) in
+            (a .1, len, omega arith, omega arith)

@@ -1,0 +1,7 @@
+-- What the proofs of the functions cite.
+pub mod Naming
+pub mod Placing
+pub mod Counting
+pub mod Piecing
+pub mod Literals
+pub mod Walking

@@ -1,0 +1,174 @@
+-- What each part meets in a way.
+use mathlib.Core.Path.{_≡_, refl, sym, ap, subst, _∙_}
+use mathlib.Core.Bool.{Bool, true, false}
+use mathlib.Core.Logic.{inl, inr}
+use mathlib.Core.Option.{some}
+use mathlib.Core.List.{List, [], _∷_, map}
+use Prim.Native.Nat.{ℕ, zero, suc, _+_, _^_, _≤_, _<_}
+use native.Mathlib.Decide.{ℕ-discrete}
+use native.Mathlib.Omega.{arith}
+use lib.Dec.{eqb, ltb}
+use lib.ListN.{length, getD, length-map}
+use borrow.Author.Tests.{eq-eqb, ne-eqb, eqb-true, eqb-false, ltb-false}
+use Rattle.values.specs.Value.{Kind, set, sequence, tuple, number, kindOf, Value, collection}
+use Rattle.values.specs.Items.{pick}
+use Rattle.values.specs.Place.{At}
+use Rattle.parts.specs.declared.Part.{Part}
+use Rattle.parts.specs.declared.Halves.{Halves}
+use Rattle.parts.specs.Part.{PartIs, PartHeld}
+use Rattle.parts.specs.Contract.{ItemHeld, ItemOfPart, SplitHeld, SplitOf, CutHeld, CutOf}
+use Rattle.parts.specs.Laws.{part-one}
+use Rattle.parts.specs.Chosen.{splits-length, cuts-length}
+use Rattle.patterns.specs.Ways.{Halves as Split, halves, splits, cuts, orders}
+use Rattle.patterns.specs.Pattern.{itemsOf, contents, leftOf, rightOf}
+use Rattle.ways.specs.Nodes.{collectionOf, isHalved, pair, meetings, isLarge}
+use Rattle.ways.specs.Orders.{factorial, orders-length}
+use Rattle.matching.specs.Node.{Ordinal, PieceHeld, PieceOf}
+use Rattle.matching.proofs.Counting.{pick-true, Has, contents-other, contents-same, none-meets, meets-splits, meets-cuts, meets-orders, meets-items}
+
+map-at : {A B : Type 0} (f : A → B) (l : List A) (n : ℕ) (w : A) (e : B) → n < length l → getD (map f l) n e ≡ f (getD l n w)
+map-at f [] n w e h = absurd (omega arith)
+map-at f (x ∷ l) zero w e h = refl
+map-at f (x ∷ l) (suc n) w e h = map-at f l n w e (omega arith)
+
+-- some way there is only where the test is true
+picked-some : {A : Type 0} (t : Bool) (xs : List A) (d : ℕ) → d < length (pick t xs []) → (t ≡ true) × (d < length xs)
+picked-some true xs d h = (refl, h)
+picked-some false xs d h = absurd (omega arith)
+
+module _ (c n : ℕ) (s : List ℕ) (p : Part) (d i : ℕ) (h : PieceHeld c n s p d i) where
+  has-value : Has (collectionOf c) (h .value)
+  has-value = go (ℕ-discrete (kindOf (h .value)) (number (collectionOf c)))
+    where
+      go : Dec (kindOf (h .value) ≡ number (collectionOf c)) → Has (collectionOf c) (h .value)
+      go (yes e) = contents-same (collectionOf c) (h .value) e
+      go (no f) =
+          let a = none-meets c n (h .value) (h .low) (h .high) (contents-other (collectionOf c) (h .value) f) in
+          absurd (omega (arith, h .below, ap length (a .1)))
+
+  abbrev vs : List Value
+  vs = has-value .items
+
+  here : (k : Kind) → collectionOf c ≡ k → PartIs s p (collection k (itemsOf vs))
+  here k e = subst (λ (q : Kind). PartIs s p (collection q (itemsOf vs))) e (subst (PartIs s p) (has-value .is) (h .here))
+
+  -- whatever value the part denotes, it is that one
+  same-value : (v : Value) → PartIs s p v → v ≡ h .value
+  same-value v q = part-one q (h .here)
+
+  -- ---- two halves
+
+  module _ (e : c ≡ 38) where
+    has-set : contents set (h .value) ≡ some vs
+    has-set = subst (λ (x : ℕ). contents (collectionOf x) (h .value) ≡ some vs) e (has-value .has)
+
+    splits-are : meetings c n (h .value) ≡ map (pair set) (splits vs)
+    splits-are = meets-splits c n (h .value) vs e has-set .0
+
+    below-splits : d < length (splits vs)
+    below-splits = omega (arith, h .below, ap length splits-are, length-map (splits vs) (pair set))
+
+    pub split-held : SplitHeld s p d
+    split-held = record {
+      items = vs;
+      here = here set (rw e);
+      few = ltb-false 7 (length vs) (sym (meets-splits c n (h .value) vs e has-set .1) ∙ h .narrow);
+      below = omega (arith, below-splits, splits-length vs);
+    }
+
+    split-way : getD (meetings c n (h .value)) d [] ≡ pair set (getD (splits vs) d (halves [] []))
+    split-way = ap (λ (l : List (List Value)). getD l d []) splits-are ∙ map-at (pair set) (splits vs) d (halves [] []) [] below-splits
+
+    module _ (r : Halves) (o : SplitOf s p d r) where
+      pub split-left : i ≡ 0 → PieceOf c n s p d i (r .left)
+      split-left f v z q =
+          let g : getD (getD (meetings c n v) d []) i z ≡ leftOf set (getD (splits vs) d (halves [] [])) =
+              ap (λ (w : Value). getD (getD (meetings c n w) d []) i z) (same-value v q) ∙ ap (λ (l : List Value). getD l i z) split-way ∙ ap (λ (k : ℕ). getD (pair set (getD (splits vs) d (halves [] []))) k z) f in
+          subst (PartIs s (r .left)) (sym g) (o .right vs (here set (rw e)) .left)
+
+      pub split-right : (i ≡ 0 → ⊥) → PieceOf c n s p d i (r .right)
+      split-right f v z q =
+          let i1 : i ≡ 1 = omega (arith, h .two (rw e), h .within, f) in
+          let g : getD (getD (meetings c n v) d []) i z ≡ rightOf set (getD (splits vs) d (halves [] [])) =
+              ap (λ (w : Value). getD (getD (meetings c n w) d []) i z) (same-value v q) ∙ ap (λ (l : List Value). getD l i z) split-way ∙ ap (λ (k : ℕ). getD (pair set (getD (splits vs) d (halves [] []))) k z) i1 in
+          subst (PartIs s (r .right)) (sym g) (o .right vs (here set (rw e)) .right)
+
+  module _ (e : c ≡ 40) where
+    has-sequence : contents sequence (h .value) ≡ some vs
+    has-sequence = subst (λ (x : ℕ). contents (collectionOf x) (h .value) ≡ some vs) e (has-value .has)
+
+    cuts-are : meetings c n (h .value) ≡ map (pair sequence) (cuts vs)
+    cuts-are = meets-cuts c n (h .value) vs e has-sequence .0
+
+    below-cuts : d < length (cuts vs)
+    below-cuts = omega (arith, h .below, ap length cuts-are, length-map (cuts vs) (pair sequence))
+
+    pub cut-held : CutHeld s p d
+    cut-held = record { items = vs; here = here sequence (rw e); below = omega (arith, below-cuts, cuts-length vs) }
+
+    cut-way : getD (meetings c n (h .value)) d [] ≡ pair sequence (getD (cuts vs) d (halves [] []))
+    cut-way = ap (λ (l : List (List Value)). getD l d []) cuts-are ∙ map-at (pair sequence) (cuts vs) d (halves [] []) [] below-cuts
+
+    module _ (r : Halves) (o : CutOf s p d r) where
+      pub cut-left : i ≡ 0 → PieceOf c n s p d i (r .left)
+      cut-left f v z q =
+          let g : getD (getD (meetings c n v) d []) i z ≡ leftOf sequence (getD (cuts vs) d (halves [] [])) =
+              ap (λ (w : Value). getD (getD (meetings c n w) d []) i z) (same-value v q) ∙ ap (λ (l : List Value). getD l i z) cut-way ∙ ap (λ (k : ℕ). getD (pair sequence (getD (cuts vs) d (halves [] []))) k z) f in
+          subst (PartIs s (r .left)) (sym g) (o .right vs (here sequence (rw e)) .left)
+
+      pub cut-right : (i ≡ 0 → ⊥) → PieceOf c n s p d i (r .right)
+      cut-right f v z q =
+          let i1 : i ≡ 1 = omega (arith, h .two (rw e), h .within, f) in
+          let g : getD (getD (meetings c n v) d []) i z ≡ rightOf sequence (getD (cuts vs) d (halves [] [])) =
+              ap (λ (w : Value). getD (getD (meetings c n w) d []) i z) (same-value v q) ∙ ap (λ (l : List Value). getD l i z) cut-way ∙ ap (λ (k : ℕ). getD (pair sequence (getD (cuts vs) d (halves [] []))) k z) i1 in
+          subst (PartIs s (r .right)) (sym g) (o .right vs (here sequence (rw e)) .right)
+
+  -- ---- one item each
+
+  -- the item at k is what part i meets, where the way has it there
+  item-is : (r : Part) (k : ℕ) (q : List Value) → getD (meetings c n (h .value)) d [] ≡ q → ((z : Value) → getD q i z ≡ getD vs k z) → ItemOfPart s p k r → PieceOf c n s p d i r
+  item-is r k q e f o v z g =
+      let w : getD (getD (meetings c n v) d []) i z ≡ getD vs k z =
+          ap (λ (u : Value). getD (getD (meetings c n u) d []) i z) (same-value v g) ∙ ap (λ (l : List Value). getD l i z) e ∙ f z in
+      inl (o .whole, subst (At s (r .at)) (sym w) (o .right (collectionOf c) vs z (here (collectionOf c) refl)))
+
+  item-held : (k : ℕ) → k < length vs → ItemHeld s p k
+  item-held k l = record { kind = collectionOf c; items = vs; here = here (collectionOf c) refl; below = l }
+
+  module _ (e : c ≡ 37) where
+    has-members : contents set (h .value) ≡ some vs
+    has-members = subst (λ (x : ℕ). contents (collectionOf x) (h .value) ≡ some vs) e (has-value .has)
+
+    orders-are : meetings c n (h .value) ≡ pick (eqb n (length vs)) (orders vs) []
+    orders-are = meets-orders c n (h .value) vs e has-members .0
+
+    fits : (eqb n (length vs) ≡ true) × (d < length (orders vs))
+    fits = picked-some (eqb n (length vs)) (orders vs) d (omega (arith, h .below, ap length orders-are))
+
+    count-is : n ≡ length vs
+    count-is = eqb-true n (length vs) (fits .0)
+
+    pub order-low : (n ≤ 4) × (d < factorial n) × (i < n)
+    order-low = (h .few, omega (arith, fits .1, orders-length vs, ap factorial count-is), h .within)
+
+    pub member-held : (r : ℕ) → Ordinal n d i r → ItemHeld s p r
+    member-held r o = item-held r (omega (arith, o .below, count-is))
+
+    pub member-is : (r : ℕ) (q : Part) → Ordinal n d i r → ItemOfPart s p r q → PieceOf c n s p d i q
+    member-is r q o g =
+        item-is q r (getD (orders vs) d []) (ap (λ (l : List (List Value)). getD l d []) (orders-are ∙ pick-true (orders vs) (fits .0))) (λ z. o .right vs z (sym count-is)) g
+
+  module _ (x : c ≡ 37 → ⊥) (y : c ≡ 38 → ⊥) (w : c ≡ 40 → ⊥) where
+    items-are : meetings c n (h .value) ≡ pick (eqb n (length vs)) (vs ∷ []) []
+    items-are = meets-items c n (h .value) vs x y w (h .low) (h .high) (has-value .has) .0
+
+    fit : (eqb n (length vs) ≡ true) × (d < 1)
+    fit = picked-some (eqb n (length vs)) (vs ∷ []) d (omega (arith, h .below, ap length items-are))
+
+    pub one-held : ItemHeld s p i
+    one-held = item-held i (omega (arith, h .within, eqb-true n (length vs) (fit .0)))
+
+    pub one-is : (q : Part) → ItemOfPart s p i q → PieceOf c n s p d i q
+    one-is q g =
+        let d0 : d ≡ 0 = omega (arith, fit .1) in
+        item-is q i vs (ap (λ (l : List (List Value)). getD l d []) (items-are ∙ pick-true (vs ∷ []) (fit .0)) ∙ ap (λ (k : ℕ). getD (vs ∷ []) k []) d0) (λ z. refl) g

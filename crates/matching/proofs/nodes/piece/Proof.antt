@@ -1,0 +1,69 @@
+use Rattle.matching.proofs.Piecing.{split-held, split-left, split-right, cut-held, cut-left, cut-right, order-low, member-held, member-is, one-held, one-is}
+use Rattle.matching.proofs.nodes.piece.Statement.{statement}
+use Rattle.matching.proofs.nodes.piece.Tie as tie
+use Rattle.matching.proofs.nodes.piece.Reads as reads
+use Rattle.matching.proofs.nodes.piece.Lts as lts
+use Rattle.matching.proofs.nodes.member.Reads as member-reads
+use Rattle.parts.proofs.cut_part.Reads as cut-part-reads
+use Rattle.parts.proofs.item_of_part.Reads as item-of-part-reads
+use Rattle.parts.proofs.split_part.Reads as split-part-reads
+
+-- src/nodes.rt:100:13
+split-part-requires : tie.Need-split-part-requires
+split-part-requires c κs = split-held _ _ _ _ _ _ (c .before .before .pre) (c .if1 .taken)
+
+-- src/nodes.rt:102:13
+returns : tie.Need-returns
+returns c = split-left _ _ _ _ _ _ (c .before .before .before .before .before .pre) (c .before .before .before .if1 .taken) _ (c .before .before .split-part .ensures) (c .before .if2 .taken)
+
+-- src/nodes.rt:104:9
+returns-2 : tie.Need-returns-2
+returns-2 c = split-right _ _ _ _ _ _ (c .before .before .before .before .before .pre) (c .before .before .before .if1 .taken) _ (c .before .before .split-part .ensures) (c .before .if2 .left)
+
+-- src/nodes.rt:107:13
+cut-part-requires : tie.Need-cut-part-requires
+cut-part-requires c κs = cut-held _ _ _ _ _ _ (c .before .before .before .pre) (c .if3 .taken)
+
+-- src/nodes.rt:109:13
+returns-3 : tie.Need-returns-3
+returns-3 c = cut-left _ _ _ _ _ _ (c .before .before .before .before .before .before .pre) (c .before .before .before .if3 .taken) _ (c .before .before .cut-part .ensures) (c .before .if4 .taken)
+
+-- src/nodes.rt:111:9
+returns-4 : tie.Need-returns-4
+returns-4 c = cut-right _ _ _ _ _ _ (c .before .before .before .before .before .before .pre) (c .before .before .before .if3 .taken) _ (c .before .before .cut-part .ensures) (c .before .if4 .left)
+
+-- src/nodes.rt:114:13
+member-requires : tie.Need-member-requires
+member-requires c κs = order-low _ _ _ _ _ _ (c .before .before .before .before .pre) (c .if5 .taken)
+
+-- src/nodes.rt:115:9
+item-of-part-requires : tie.Need-item-of-part-requires
+item-of-part-requires c κs = member-held _ _ _ _ _ _ (c .before .before .before .before .before .pre) (c .before .if5 .taken) _ (c .member .ensures)
+
+-- src/nodes.rt:115:9
+returns-5 : tie.Need-returns-5
+returns-5 c = member-is _ _ _ _ _ _ (c .before .before .before .before .before .before .pre) (c .before .before .if5 .taken) _ _ (c .before .member .ensures) (c .item-of-part .ensures)
+
+-- src/nodes.rt:117:5
+item-of-part-requires-2 : tie.Need-item-of-part-requires-2
+item-of-part-requires-2 c κs = one-held _ _ _ _ _ _ (c .before .before .before .before .pre) (c .if5 .left) (c .before .before .if1 .left) (c .before .if3 .left)
+
+-- src/nodes.rt:95:1
+returns-6 : tie.Need-returns-6
+returns-6 c = one-is _ _ _ _ _ _ (c .before .before .before .before .before .pre) (c .before .if5 .left) (c .before .before .before .if1 .left) (c .before .before .if3 .left) _ (c .item-of-part2 .ensures)
+
+pub piece-spec : {M : Type 1} → statement M
+piece-spec =
+    tie.close
+    (tie.spec
+    split-part-requires
+    returns
+    returns-2
+    cut-part-requires
+    returns-3
+    returns-4
+    member-requires
+    item-of-part-requires
+    returns-5
+    item-of-part-requires-2
+    returns-6)

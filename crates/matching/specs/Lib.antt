@@ -1,0 +1,4 @@
+-- What the functions that match ask and promise.
+pub mod Found
+pub mod Node
+pub mod Along

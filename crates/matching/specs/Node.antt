@@ -1,0 +1,71 @@
+-- What the functions on the parts of a pattern ask and promise.
+use mathlib.Core.Path.{_≡_}
+use mathlib.Core.Bool.{Bool, true, false}
+use mathlib.Core.List.{List, []}
+use Prim.Native.Nat.{ℕ, _≤_, _<_}
+use lib.ListN.{length, getD}
+use Rattle.values.specs.Value.{Value, boolean, integer}
+use Rattle.values.specs.Items.{pick, same}
+use Rattle.tables.specs.Record.{Record, isPattern, named, booleanOf, integerOf}
+use Rattle.tables.specs.Table.{recordAt, kindAt}
+use Rattle.tables.specs.Accepted.{records, Fine}
+use Rattle.tables.specs.Reading.{Here, HasField}
+use Rattle.parts.specs.declared.Part.{Part}
+use Rattle.parts.specs.Part.{PartIs}
+use Rattle.patterns.specs.Ways.{orders}
+use Rattle.patterns.specs.Pattern.{Pattern, literal}
+use Rattle.ways.specs.Nodes.{meetings, isLarge, isHalved}
+use Rattle.ways.specs.Read.{patternAt}
+use Rattle.matching.specs.declared.nodes.Meeting.{Meeting}
+use Rattle.matching.specs.declared.nodes.Meeting.the-variants.{Unfit, Large, Ways}
+
+-- A pattern record of an accepted table with an index of its records.
+pub record Readable (table index : List ℕ) (p : ℕ) : Type 0 where
+  pub fine : Fine (records table)
+  pub here : Here table index p
+  pub pattern : isPattern (kindAt (records table) p) ≡ true
+
+-- One without parts.
+pub record LeafHeld (table index : List ℕ) (p : ℕ) : Type 0 where
+  pub readable : Readable table index p
+  pub leaf : kindAt (records table) p < 36
+
+-- r is the number of the member that stands at i in the d-th order of n
+pub record Ordinal (n d i r : ℕ) : Type 0 where
+  pub below : r < n
+  pub right : (vs : List Value) (z : Value) → length vs ≡ n → getD (getD (orders vs) d []) i z ≡ getD vs r z
+
+-- What an answer says of the ways in which n parts of a pattern of kind c meet a value.
+abbrev pub MeetsAs : ℕ → ℕ → Value → Meeting → Type 0
+MeetsAs c n v Unfit = (isLarge c v ≡ false) × (meetings c n v ≡ [])
+MeetsAs c n v Large = isLarge c v ≡ true
+MeetsAs c n v (Ways m) = (isLarge c v ≡ false) × (length (meetings c n v) ≡ m) × (0 < m) × (m < 256)
+
+abbrev pub Meets : ℕ → ℕ → List ℕ → Part → Meeting → Type 0
+Meets c n s p r = (v : Value) → PartIs s p v → MeetsAs c n v r
+
+-- A way in which n parts meet a value, and the number of one of these parts.
+pub record PieceHeld (c n : ℕ) (s : List ℕ) (p : Part) (d i : ℕ) : Type 0 where
+  pub low : 36 ≤ c
+  pub high : c ≤ 40
+  pub few : n ≤ 4
+  pub two : isHalved c ≡ true → n ≡ 2
+  pub value : Value
+  pub here : PartIs s p value
+  pub narrow : isLarge c value ≡ false
+  pub below : d < length (meetings c n value)
+  pub within : i < n
+
+-- r denotes what part i meets in the way d
+abbrev pub PieceOf : ℕ → ℕ → List ℕ → Part → ℕ → ℕ → Part → Type 0
+PieceOf c n s p d i r = (v z : Value) → PartIs s p v → PartIs s r (getD (getD (meetings c n v) d []) i z)
+
+-- A record of kind 34 or 35.
+pub record LiteralHeld (table index : List ℕ) (p : ℕ) : Type 0 where
+  pub readable : Readable table index p
+  pub low : 34 ≤ kindAt (records table) p
+  pub high : kindAt (records table) p ≤ 35
+
+-- r says whether the part denotes the literal
+abbrev pub LiteralIs : List ℕ → ℕ → List ℕ → Part → Bool → Type 0
+LiteralIs table p s part r = (v w : Value) → PartIs s part v → patternAt (records table) p ≡ literal w → r ≡ same w v

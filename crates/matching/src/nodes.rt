@@ -1,0 +1,145 @@
+// What the parts of a pattern meet: how many ways there are, and what each part meets in a way.
+use parts::Part;
+ghost use mathlib.Core.Path.{_≡_};
+ghost use Prim.Native.Nat.{_≤_, _<_};
+ghost use Rattle.parts.specs.Part.{PartHeld};
+ghost use Rattle.values.specs.Value.{number};
+ghost use Rattle.ways.specs.Nodes.{collectionOf};
+ghost use Rattle.ways.specs.Orders.{factorial};
+ghost use Rattle.matching.specs.Node.{Ordinal, Meets, PieceHeld, PieceOf, LiteralHeld, LiteralIs};
+
+// Kind or count do not fit; a set is too large to split; or so many ways.
+pub enum Meeting {
+    Unfit,
+    Large,
+    Ways(usize),
+}
+
+// The number of orders of at most four members.
+fn orders(n: usize) -> usize
+    requires { ⌜ n ≤ 4 ⌝ }
+    ensures { λ r. ⌜ (r ≡ factorial n) × (0 < r) × (r < 256) ⌝ }
+{
+    if n < 2 {
+        return 1;
+    }
+    if n == 2 {
+        return 2;
+    }
+    if n == 3 {
+        return 6;
+    }
+    24
+}
+
+// Which of n members stands at i in the d-th of their orders.
+fn member(n: usize, d: usize, i: usize) -> usize
+    requires { ⌜ (n ≤ 4) × (d < factorial n) × (i < n) ⌝ }
+    ensures { λ r. ⌜ Ordinal n d i r ⌝ }
+{
+    let at = d % n;
+    if i == at {
+        return 0;
+    }
+    if i < at {
+        return 1 + member(n - 1, d / n, i);
+    }
+    1 + member(n - 1, d / n, i - 1)
+}
+
+// The kind of the values that a pattern of the kind meets.
+fn collection_of(kind: usize) -> usize
+    ensures { λ r. ⌜ r ≡ number (collectionOf kind) ⌝ }
+{
+    if kind == 36 {
+        return 6;
+    }
+    if kind < 39 {
+        return 3;
+    }
+    4
+}
+
+// The ways in which n parts of a pattern of the kind meet a part of a value.
+pub fn meet(kind: usize, n: usize, s: &[u8], part: Part) -> Meeting
+    requires { ⌜ (36 ≤ kind) × (kind ≤ 40) × (n ≤ 4) × PartHeld (now s) part ⌝ }
+    ensures { λ r. ⌜ Meets kind n (now (s .entry)) part r ⌝ }
+{
+    let k = parts::kind_of_part(s, part);
+    let c = collection_of(kind);
+    if k != c {
+        return Meeting::Unfit;
+    }
+    let count = parts::count_of_part(s, part);
+    if kind == 38 {
+        if 7 < count {
+            return Meeting::Large;
+        }
+        let m = parts::masks::full(count);
+        return Meeting::Ways(m + 1);
+    }
+    if kind == 40 {
+        return Meeting::Ways(count + 1);
+    }
+    if count != n {
+        return Meeting::Unfit;
+    }
+    if kind == 37 {
+        let m = orders(n);
+        return Meeting::Ways(m);
+    }
+    Meeting::Ways(1)
+}
+
+// What part i meets in the way d.
+pub fn piece(kind: usize, n: usize, s: &[u8], part: Part, d: usize, i: usize) -> Part
+    requires { ⌜ PieceHeld kind n (now s) part d i ⌝ }
+    ensures { λ r. ⌜ PieceOf kind n (now (s .entry)) part d i r ⌝ }
+{
+    if kind == 38 {
+        let h = parts::split_part(s, part, d);
+        if i == 0 {
+            return h.left;
+        }
+        return h.right;
+    }
+    if kind == 40 {
+        let h = parts::cut_part(s, part, d);
+        if i == 0 {
+            return h.left;
+        }
+        return h.right;
+    }
+    if kind == 37 {
+        let k = member(n, d, i);
+        return parts::item_of_part(s, part, k);
+    }
+    parts::item_of_part(s, part, i)
+}
+
+// A part of a value is the literal of a pattern of kind 34 or 35.
+pub fn is_literal(table: &[u8], index: &[u16; 200], p: usize, s: &[u8], part: Part) -> bool
+    requires { ⌜ LiteralHeld (now table) (now index) p × PartHeld (now s) part ⌝ }
+    ensures { λ r. ⌜ LiteralIs (now (table .entry)) p (now (s .entry)) part r ⌝ }
+{
+    let kind = tables::reading::kind(table, index, p);
+    let k = parts::kind_of_part(s, part);
+    let at = part.at;
+    if kind == 34 {
+        if k != 1 {
+            return false;
+        }
+        let w = tables::reading::field(table, index, p, 0);
+        let b = values::boolean_at(s, at);
+        if b {
+            return w == 1;
+        }
+        return w != 1;
+    }
+    if k != 2 {
+        return false;
+    }
+    let w = tables::reading::integer(table, index, p);
+    let z = values::integer_at(s, at);
+    w == z
+}

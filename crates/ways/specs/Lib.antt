@@ -1,0 +1,10 @@
+pub mod Tries
+pub mod Merging
+pub mod Leaves
+pub mod Broad
+pub mod Tame
+pub mod Following
+pub mod Best
+pub mod Read
+pub mod Orders
+pub mod Nodes
