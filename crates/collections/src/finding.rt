@@ -1,6 +1,5 @@
 // Finding in collections: members, what stands at a key, items by their number, and how many there are.
 use integers::Order;
-ghost use mathlib.Core.Path.{_≡_};
 ghost use Rattle.values.specs.Value.{set, map};
 ghost use Rattle.values.specs.Place.{Holds};
 ghost use Rattle.collections.specs.Finding.{HoldsKind, HoldsCollection, Seeks, Contains, AtKey, Item, Counted};

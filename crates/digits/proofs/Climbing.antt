@@ -1,11 +1,10 @@
 -- The last digit that can go up is found from the end.
-use mathlib.Core.Path.{_≡_, refl, sym, ap, ap₂, _∙_}
+use mathlib.Core.Path.{_≡_, refl, sym, ap₂, _∙_}
 use mathlib.Core.Bool.{true, false}
 use mathlib.Core.Option.{none, some}
 use mathlib.Core.List.{List, [], _∷_, _++_}
-use Prim.Native.Nat.{ℕ, zero, suc, _+_, _≤_, _<_}
+use Prim.Native.Nat.{ℕ, suc, _+_, _≤_, _<_}
 use native.Mathlib.Decide.{ℕ-discrete}
-use native.Mathlib.Numerals.{add-one}
 use native.Mathlib.Omega.{arith}
 use lib.ListN.{length, take, drop, getD, set, length-take, length-set, take-append-drop}
 use lib.Seq.{take-suc-set, take-take, getD-set-same, getD-set-other}
@@ -13,7 +12,7 @@ use borrow.Author.Tests.{lt-ltb, le-ltb}
 use Rattle.choices.specs.Paths.{raise}
 use Rattle.choices.specs.Laws.States.{left-cons, left-nil}
 use Rattle.digits.specs.declared.Digits.{Digits}
-use Rattle.digits.specs.Path.{most, view, Sound, Raisable, Advances}
+use Rattle.digits.specs.Path.{Sound, Raisable, Advances}
 
 -- What follows i cannot go up.
 pub record Stuck (e ns : List ℕ) (u i : ℕ) : Type 0 where
@@ -70,12 +69,12 @@ module _ (d : Digits) (s : Sound d) where
       let f = from j (omega arith) in
       let k = rw e at g .stuck in
       let a : raise (drop j (take (d .used) (d .entries))) (drop j (take (d .used) (d .counts))) ≡ some (suc (getD (d .entries) j 0) ∷ []) =
-          rw (f .0, f .1, k, lt-ltb (suc (getD (d .entries) j 0)) (getD (d .counts) j 0) (omega (arith, g .up j e))) in
+      rw (f .0, f .1, k, lt-ltb (suc (getD (d .entries) j 0)) (getD (d .counts) j 0) (omega (arith, g .up j e))) in
       let b = raise-after (take j (take (d .used) (d .entries))) (take j (take (d .used) (d .counts))) (drop j (take (d .used) (d .entries))) (drop j (take (d .used) (d .counts))) (suc (getD (d .entries) j 0) ∷ []) (simp length-take (omega arith)) a in
       let l = rw (take-append-drop j (take (d .used) (d .entries)), take-append-drop j (take (d .used) (d .counts))) at b in
       let r : take (suc j) (set (d .entries) j (getD (d .entries) j 0 + 1)) ≡ take j (take (d .used) (d .entries)) ++ suc (getD (d .entries) j 0) ∷ [] =
-          take-suc-set (d .entries) j (getD (d .entries) j 0 + 1) (omega arith)
-          ∙ ap₂ (λ (p : List ℕ) (x : ℕ). p ++ x ∷ []) (sym (take-take j (d .used) (d .entries) (omega arith))) (omega arith) in
+      take-suc-set (d .entries) j (getD (d .entries) j 0 + 1) (omega arith)
+      ∙ ap₂ (λ (p : List ℕ) (x : ℕ). p ++ x ∷ []) (sym (take-take j (d .used) (d .entries) (omega arith))) (omega arith) in
       record {
         raised = rw e (rw r l);
         viewed = λ q. refl;

@@ -1,5 +1,5 @@
 -- The first path, and one more digit taken.
-use mathlib.Core.Path.{_≡_, refl, sym, ap, _∙_, subst}
+use mathlib.Core.Path.{_≡_, refl, sym, ap, _∙_}
 use mathlib.Core.Bool.{true, false}
 use mathlib.Core.List.{List, [], _∷_, _++_}
 use Prim.Native.Nat.{ℕ, zero, suc, _+_, _≤_, _<_}
@@ -12,7 +12,7 @@ use borrow.Author.Tests.{lt-ltb, le-ltb}
 use Rattle.choices.specs.Laws.States.{left-cons, left-nil}
 use Rattle.choices.specs.State.{rest}
 use Rattle.digits.specs.declared.Digits.{Digits}
-use Rattle.digits.specs.Path.{most, View, view, Sound, Made, nextDigit, digitOf, hasRoom, taken, afterwards, Took}
+use Rattle.digits.specs.Path.{most, view, Sound, Made, nextDigit, digitOf, hasRoom, Took}
 
 zero-small : (n k : ℕ) → getD {A = ℕ} (replicate n 0) k 0 < 256
 zero-small zero k = omega arith
@@ -68,7 +68,7 @@ module _ (d : Digits) (s : Sound d) (n : ℕ) (pos : 0 < n) where
   took-one x room e lt few =
       let r : hasRoom (view d) ≡ true = rw past-length (lt-ltb (d .used) most room) in
       let p : take (d .used + 1) (set (d .entries) (d .used) x) ≡ take (d .used) (d .entries) ++ nextDigit (view d) n ∷ [] =
-          rw add-one (take-suc-set (d .entries) (d .used) x (omega arith)) ∙ ap (λ (y : ℕ). take (d .used) (d .entries) ++ y ∷ []) e in
+      rw add-one (take-suc-set (d .entries) (d .used) x (omega arith)) ∙ ap (λ (y : ℕ). take (d .used) (d .entries) ++ y ∷ []) e in
       let m : take (d .used + 1) (set (d .counts) (d .used) n) ≡ take (d .used) (d .counts) ++ n ∷ [] = rw add-one (take-suc-set (d .counts) (d .used) n (omega arith)) in
       let l = left-after x room in
       record {

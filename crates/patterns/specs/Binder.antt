@@ -1,5 +1,4 @@
 -- The bindings of a binder over values: distinct, in order, or a refusal.
-use mathlib.Core.Bool.{Bool}
 use mathlib.Core.List.{List}
 use Prim.Native.Nat.{ℕ}
 use lib.Dec.{leb}

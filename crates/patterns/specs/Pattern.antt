@@ -1,7 +1,7 @@
 -- Document 01, kinds 32 to 40 and "Evaluation": patterns, all bindings of a pattern and a value, and where a set is too large to split.
 use mathlib.Core.Bool.{Bool, true, false, _||_}
 use mathlib.Core.Option.{Option, none as absent, some}
-use mathlib.Core.List.{List, [], _∷_, map}
+use mathlib.Core.List.{List, [], _∷_}
 use Prim.Native.Nat.{ℕ, suc}
 use lib.Dec.{eqb, ltb}
 use lib.ListN.{length}

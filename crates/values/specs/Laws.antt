@@ -3,17 +3,14 @@
 use mathlib.Core.Path.{_≡_, refl, sym, ap, ap₂, _∙_}
 use mathlib.Core.Bool.{Bool, true, false}
 use mathlib.Core.Logic.{_⊎_, inl, inr}
-use Prim.Native.Nat.{ℕ, _≤_, _<_}
+use Prim.Native.Nat.{ℕ, _≤_}
 use native.Mathlib.Omega.{arith}
-use lib.IntN.{ℤ, pos, negsuc}
-use lib.Signed.{ltZ}
-use lib.Dec.{ltb, eqb}
-use borrow.Author.Tests.{ltb-true, ltb-false, lt-ltb, le-ltb}
+use lib.Dec.{eqb}
 use Rattle.integers.specs.declared.Order.{Order}
 use Rattle.integers.specs.declared.Order.the-variants.{Lower, Same, Higher}
 use Rattle.values.specs.Value.{Kind, set, sequence, map, tuple, Value, boolean, integer, collection, Items, none, more, number, kindOf, byteOf, after, within, orderItems, order}
-use Rattle.integers.specs.Order.{orderℕ, orderℤ}
-use Rattle.integers.specs.Ordered.{flip, lower-lt, lt-lower, gt-higher, same-eq, eq-same, flip-order, same-eqZ, flip-orderZ, lower-trans}
+use Rattle.integers.specs.Order.{orderℕ}
+use Rattle.integers.specs.Ordered.{flip, lower-lt, lt-lower, same-eq, flip-order, same-eqZ, flip-orderZ, lower-trans}
 use Rattle.values.specs.Items.{isSame, same}
 
 -- ---- one after another

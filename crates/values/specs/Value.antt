@@ -5,8 +5,6 @@ use mathlib.Core.Bool.{Bool, true, false}
 use mathlib.Core.List.{List, [], _∷_, _++_}
 use Prim.Native.Nat.{ℕ, suc, _+_, _/_, _%_, _≤_}
 use lib.IntN.{ℤ}
-use lib.Signed.{ltZ}
-use lib.Dec.{ltb}
 use Rattle.integers.specs.Bytes.{integerBytes}
 use Rattle.integers.specs.Whole.{InRange}
 use Rattle.integers.specs.Order.{orderℕ, orderℤ}

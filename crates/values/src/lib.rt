@@ -1,6 +1,5 @@
 // Values as records in a lent slice: read, compared, written and copied where they lie, and handed out.
 use integers::Order;
-ghost use mathlib.Core.Path.{_≡_};
 ghost use Prim.Native.Nat.{_+_, _≤_, _<_};
 ghost use mathlib.Core.List.{[]};
 ghost use lib.ListN.{length};

@@ -1,35 +1,34 @@
 -- The least binding above the present one, sought over all ways of all values, and whether a set is too large to split.
-use mathlib.Core.Path.{_≡_, refl, sym, ap, ap₂, subst, _∙_}
+use mathlib.Core.Path.{_≡_, refl, sym, ap, subst, _∙_}
 use mathlib.Core.Bool.{Bool, true, false, _||_, _&&_}
 use mathlib.Core.Logic.{_⊎_, inl, inr, ⊎-elim, _↔_}
 use mathlib.Core.Option.{Option, none, some}
 use mathlib.Core.List.{List, [], _∷_}
-use Prim.Native.Nat.{ℕ, zero, suc, _≤_, _<_}
+use Prim.Native.Nat.{ℕ, zero, suc, _<_}
 use native.Mathlib.Decide.{ℕ-discrete}
 use native.Mathlib.Omega.{arith}
-use lib.ListN.{length, getD, replicate, set as put}
-use Rattle.integers.specs.declared.Order.{Order}
-use Rattle.integers.specs.declared.Order.the-variants.{Lower, Same, Higher}
+use lib.ListN.{length, getD, set as put}
+use Rattle.integers.specs.declared.Order.the-variants.{Lower}
 use Rattle.values.specs.Value.{Value}
 use Rattle.values.specs.Items.{pick, same}
 use Rattle.values.specs.Laws.{lower-same}
-use Rattle.choices.specs.Tree.{Tree, Full, Outcome, value, refusal, Gives}
-use Rattle.choices.specs.Paths.{Leaf, outcomeAt, paths}
+use Rattle.choices.specs.Tree.{Tree, Outcome, value, refusal, Gives}
+use Rattle.choices.specs.Paths.{paths}
 use Rattle.choices.specs.Laws.Order.{at-in}
 use Rattle.choices.specs.Laws.Paths.{in-leaf, gives-leaf}
 use Rattle.choices.specs.Laws.Seeds.{nth as outcome, gives-nth}
 use Rattle.patterns.specs.Ways.{gather, exists}
 use Rattle.patterns.specs.Members.{In, in-one, in-left, in-right, in-joined, in-picked, in-gather}
-use Rattle.patterns.specs.Binding.{Cell, free, is, clash, Binding, names, nothing, only, consistent, together, orderBindings}
+use Rattle.patterns.specs.Binding.{free, is, clash, Binding, nothing, consistent, together, orderBindings}
 use Rattle.patterns.specs.Pattern.{Pattern, name, any, literal, each, halved, Patterns, nil, cons, parts, contents, met, split, leftOf, rightOf, matches, matchEach, wide}
 use Rattle.patterns.specs.Binder.{bindings}
 use Rattle.patterns.specs.Matched.{in-together}
 use Rattle.patterns.specs.Ordered.{bindings-lower, bindings-refl, sorted-rising, sorted-in, in-sorted}
-use Rattle.ways.specs.Tries.{State, start, Good, tries, places}
+use Rattle.ways.specs.Tries.{State, start, tries, places}
 use Rattle.ways.specs.Merging.{true-false}
 use Rattle.ways.specs.Leaves.{none-exists, Reached, leaf-match, match-leaf}
-use Rattle.ways.specs.Broad.{exists-in, exists-out, broad-leaves}
-use Rattle.ways.specs.Tame.{Tame, tries-tame, tries-full, tame-value}
+use Rattle.ways.specs.Broad.{broad-leaves}
+use Rattle.ways.specs.Tame.{Tame, tries-tame, tame-value}
 use Rattle.ways.specs.Following.{isAbove, isLower, lower-true, lower-false, following, Above, Least, above-true, above-false, least-iff, least-unique, following-least}
 
 -- What is sought: the least binding so far, and whether a set was too large.
@@ -114,9 +113,12 @@ better-least C a m true x h = go (isAbove a x) refl
     one : isAbove a x ≡ true → (m : Option Binding) → Least C a m → (t : Bool) → isBelow x m ≡ t → Least D a (pick t (some x) m)
     one e none h true q = (inr (refl, refl), above-true a x e, λ b d l o. ⊎-elim (λ c. h b c l) (λ z. not-self b (z .1) o) d)
     one e none h false q = true-false q
-    one e (some m) h true q =
-        (inr (refl, refl), above-true a x e, λ b d l o.
-          ⊎-elim (λ c. h .2 b c l (bindings-lower b x m o (lower-true (orderBindings x m) q))) (λ z. not-self b (z .1) o) d)
+    one e (some m) h true q = (
+      inr (refl, refl),
+      above-true a x e,
+      λ b d l o.
+          ⊎-elim (λ c. h .2 b c l (bindings-lower b x m o (lower-true (orderBindings x m) q))) (λ z. not-self b (z .1) o) d,
+    )
     one e (some m) h false q =
         (inl (h .0), h .1, λ b d l o. ⊎-elim (λ c. h .2 b c l o) (λ z. lower-false (orderBindings x m) q (subst (λ (w : Binding). orderBindings w m ≡ Lower) (z .1) o)) d)
 
@@ -341,7 +343,7 @@ pub sought-least : (p : Pattern) (vs : List Value) (a : Option Binding) → exis
 sought-least p vs a w =
     least-unique (λ b. In b (bindings p vs)) a (soughtAll p vs a nothingYet .least) (following a (bindings p vs))
     (least-iff (λ b. ⊥ ⊎ OfSome p vs b) (λ b. In b (bindings p vs)) a (soughtAll p vs a nothingYet .least)
-      (λ b d. ⊎-elim (λ z. absurd z) (λ i. sorted-in b (gather vs (matches p)) i) d)
-      (λ b i. inr (in-sorted b (gather vs (matches p)) i))
-      (all-least p vs (λ b. ⊥) a nothingYet (λ v i. none-exists vs (wide p) w v i) (λ b z l. z)))
+    (λ b d. ⊎-elim (λ z. absurd z) (λ i. sorted-in b (gather vs (matches p)) i) d)
+    (λ b i. inr (in-sorted b (gather vs (matches p)) i))
+    (all-least p vs (λ b. ⊥) a nothingYet (λ v i. none-exists vs (wide p) w v i) (λ b z l. z)))
     (following-least a (bindings p vs) (sorted-rising (gather vs (matches p))))

@@ -3,12 +3,11 @@ use mathlib.Core.Path.{_≡_, refl, sym, ap, subst, _∙_}
 use mathlib.Core.Bool.{Bool, true, false, _||_}
 use mathlib.Core.Logic.{_⊎_, inl, inr, ⊎-elim, _↔_}
 use mathlib.Core.List.{List, [], _∷_}
-use Prim.Native.Nat.{ℕ, _<_}
 use native.Mathlib.Omega.{arith}
-use lib.ListN.{length, getD}
+use lib.ListN.{getD}
 use Rattle.values.specs.Value.{Value}
 use Rattle.values.specs.Items.{pick, same}
-use Rattle.choices.specs.Tree.{Tree, give, choose, bind, value, Gives}
+use Rattle.choices.specs.Tree.{Tree, give, bind, value, Gives}
 use Rattle.patterns.specs.Ways.{exists}
 use Rattle.patterns.specs.Members.{In}
 use Rattle.patterns.specs.Pattern.{Pattern, name, any, literal, each, halved, Patterns, nil, cons, parts, contents, met, split, leftOf, rightOf, tooLarge, wide, wideEach}
@@ -110,9 +109,9 @@ mutual
       wide-broad (tooLarge k (contents k v)) (exists (split k (contents k v)) (λ h. wide p (leftOf k h) || wide q (rightOf k h))) st
       (among (split k (contents k v)) (give (failed st)) (λ h. bind (tries p (leftOf k h) st) (λ r. tries q (rightOf k h) r)))
       (among-broad (split k (contents k v)) st (λ h. wide p (leftOf k h) || wide q (rightOf k h))
-        (λ h. bind (tries p (leftOf k h) st) (λ r. tries q (rightOf k h) r))
-        (λ h. seq-broad (wide p (leftOf k h)) (wide q (rightOf k h)) st (tries p (leftOf k h) st) (λ r. tries q (rightOf k h) r)
-          (broad p (leftOf k h) st) (λ r. broad q (rightOf k h) r)))
+      (λ h. bind (tries p (leftOf k h) st) (λ r. tries q (rightOf k h) r))
+      (λ h. seq-broad (wide p (leftOf k h)) (wide q (rightOf k h)) st (tries p (leftOf k h) st) (λ r. tries q (rightOf k h) r)
+      (broad p (leftOf k h) st) (λ r. broad q (rightOf k h) r)))
 
   broad-each : (ps : Patterns) (vs : List Value) (st : State) → Broad (wideEach ps vs) st (tryEach ps vs st)
   broad-each nil vs st = leaf-broad st st refl

@@ -4,7 +4,7 @@ use mathlib.Core.Bool.{Bool, true, false}
 use mathlib.Core.Logic.{_⊎_, inl, inr, ⊎-elim}
 use mathlib.Core.Option.{Option, none, some}
 use mathlib.Core.List.{List, [], _∷_}
-use Prim.Native.Nat.{ℕ, zero, suc, _+_, _≤_, _<_}
+use Prim.Native.Nat.{ℕ, zero, suc, _<_}
 use native.Mathlib.Omega.{arith}
 use lib.ListN.{length, getD}
 use Rattle.integers.specs.declared.Order.{Order}
@@ -13,8 +13,8 @@ use Rattle.integers.specs.Ordered.{flip}
 use Rattle.values.specs.Items.{pick}
 use Rattle.values.specs.Laws.{lower-same}
 use Rattle.patterns.specs.Members.{In}
-use Rattle.patterns.specs.Binding.{Binding, nothing, orderBindings}
-use Rattle.patterns.specs.Ordered.{bindings-same, bindings-flip, bindings-lower, bindings-refl, bindings-asymmetric, bindings-total, higher-lower, BeforeEach, Rising, before-in}
+use Rattle.patterns.specs.Binding.{Binding, orderBindings}
+use Rattle.patterns.specs.Ordered.{bindings-flip, bindings-refl, bindings-asymmetric, bindings-total, BeforeEach, Rising, before-in}
 use Rattle.ways.specs.Merging.{true-false}
 use Rattle.ways.specs.Leaves.{at-in}
 
@@ -121,9 +121,12 @@ following-least a (b ∷ bs) r = go (isAbove a b) refl (following-least a bs (r 
     rest e (some m) h = (inr (h .0), h .1, λ c i l o. ⊎-elim (λ q. above-false a b e (subst (Above a) q l)) (λ j. h .2 c j l o) i)
 
     go : (t : Bool) → isAbove a b ≡ t → Least (λ c. In c bs) a (following a bs) → Least (λ c. In c (b ∷ bs)) a (pick t (some b) (following a bs))
-    go true e h =
-        (inl refl, above-true a b e, λ c i l o.
+    go true e h = (
+      inl refl,
+      above-true a b e,
+      λ c i l o.
           ⊎-elim
           (λ q. lower-same o (ap (λ (x : Binding). orderBindings x b) q ∙ bindings-refl b))
-          (λ j. bindings-asymmetric b c (before-in b bs c (r .0) j) o) i)
+          (λ j. bindings-asymmetric b c (before-in b bs c (r .0) j) o) i,
+    )
     go false e h = rest e (following a bs) h

@@ -5,9 +5,9 @@ use mathlib.Core.Bool.{Bool, true, false}
 use mathlib.Core.List.{List, [], _∷_}
 use Prim.Native.Nat.{ℕ, zero, suc, _+_, _≤_, _<_}
 use native.Mathlib.Omega.{arith}
-use lib.ListN.{length, getD}
+use lib.ListN.{getD}
 use Rattle.values.specs.Value.{Value}
-use Rattle.values.specs.Items.{pick, same}
+use Rattle.values.specs.Items.{pick}
 use Rattle.choices.specs.Tree.{Tree, give, stop, choose, bind, Full, value}
 use Rattle.choices.specs.Paths.{Within, outcomeAt}
 use Rattle.patterns.specs.Pattern.{Pattern, name, any, literal, each, halved, Patterns, nil, cons, parts, contents, met, split, leftOf, rightOf, tooLarge}
@@ -52,8 +52,8 @@ mutual
   tries-tame (halved k p q) v st =
       tame-pick (tooLarge k (contents k v)) (widened st) (among (split k (contents k v)) (give (failed st)) (λ h. bind (tries p (leftOf k h) st) (λ r. tries q (rightOf k h) r))) (suc (places p + places q))
       (tame-among (split k (contents k v)) (failed st) (λ h. bind (tries p (leftOf k h) st) (λ r. tries q (rightOf k h) r)) (places p + places q)
-        (λ h. tame-bind (tries p (leftOf k h) st) (λ r. tries q (rightOf k h) r) (places p) (places q) (places p + places q) (omega arith)
-          (tries-tame p (leftOf k h) st) (λ r. tries-tame q (rightOf k h) r)))
+      (λ h. tame-bind (tries p (leftOf k h) st) (λ r. tries q (rightOf k h) r) (places p) (places q) (places p + places q) (omega arith)
+      (tries-tame p (leftOf k h) st) (λ r. tries-tame q (rightOf k h) r)))
 
   pub each-tame : (ps : Patterns) (vs : List Value) (st : State) → Tame (placesEach ps) (tryEach ps vs st)
   each-tame nil vs st = tt

@@ -8,7 +8,7 @@ use lib.ListN.{length, getD}
 use Rattle.values.specs.Value.{Value}
 use Rattle.values.specs.Items.{pick, same}
 use Rattle.choices.specs.Tree.{Tree, give, choose, bind}
-use Rattle.patterns.specs.Binding.{Binding, names, nothing, only, merge, consistent}
+use Rattle.patterns.specs.Binding.{Binding, nothing, only, merge, consistent}
 use Rattle.patterns.specs.Pattern.{Pattern, name, any, literal, each, halved, Patterns, nil, cons, parts, contents, met, split, leftOf, rightOf, tooLarge}
 
 -- The state of a match: the binding found so far, in which a name may clash; whether all parts so far match; and whether a union
