@@ -41,3 +41,8 @@ pub record OnOne (f : Value → Answer) (s t : List ℕ) (base : ℕ) (r : Appli
 pub record OnTwo (f : Value → Value → Answer) (s t : List ℕ) (base : ℕ) (r : Applied) : Type 0 where
   pub kept : Kept s t base
   pub right : (v w : Value) → At s base v → At s (base + 512) w → Applies t base r (f v w)
+
+-- r is the answer x.
+pub record Gives (x : Answer) (s t : List ℕ) (base : ℕ) (r : Applied) : Type 0 where
+  pub kept : Kept s t base
+  pub right : Applies t base r x

@@ -1,20 +1,22 @@
 -- Laws that turn what an operator's code did into what it promises.
 use mathlib.Core.Path.{_≡_, refl, sym, ap, subst, _∙_}
 use mathlib.Core.Logic.{inr}
+use mathlib.Core.Bool.{Bool}
 use mathlib.Core.List.{List}
 use mathlib.Core.Option.{Option, none as absent, some}
 use Prim.Native.Nat.{ℕ, _+_, _≤_}
+use lib.IntN.{ℤ}
 use native.Mathlib.Omega.{arith}
-use Rattle.values.specs.Value.{Kind, number, Value, collection, Items}
+use Rattle.values.specs.Value.{Kind, number, Value, boolean, integer, collection, Items}
 use Rattle.values.specs.Place.{At, Holds, Outside}
 use Rattle.values.specs.Contract.{KindAt, OfKind, Put, Copyable, Copied}
 use Rattle.values.specs.Records.{one-value}
 use Rattle.values.specs.Frame.{below-less}
 use Rattle.operators.specs.Answer.{Answer, is, refused, wrongKind, asBoolean, asInteger, asKind, needs, needsBoth}
-use Rattle.operator_laws.specs.KindLaws.{boolean-not, integer-not, kind-is, kind-not}
+use Rattle.operator_laws.specs.KindLaws.{boolean-is, boolean-not, integer-is, integer-not, kind-is, kind-not}
 use Rattle.scalars.specs.declared.Applied.{Applied}
 use Rattle.scalars.specs.declared.Applied.the-variants.{Done, Refused}
-use Rattle.scalars.specs.Applied.{Applies, done, off, Kept, OnOne, OnTwo}
+use Rattle.scalars.specs.Applied.{Applies, done, off, Kept, OnOne, OnTwo, Gives}
 
 -- ---- what is kept
 
@@ -51,6 +53,16 @@ pub two-same : {f g : Value → Value → Answer} {s t : List ℕ} {base : ℕ} 
 two-same {f} {g} {s} {t} {base} {r} e o =
     record { kept = o .kept; right = λ v w a b. subst (λ (x : Answer). Applies t base r x) (sym (e v w)) (o .right v w a b) }
 
+-- from an answer that was given at base
+pub one-gives : {f : Value → Answer} {s t : List ℕ} {base : ℕ} {r : Applied} {v : Value} → At s base v → Gives (f v) s t base r → OnOne f s t base r
+one-gives a g = one-by (g .kept) a (g .right)
+
+pub two-gives : {f : Value → Value → Answer} {s t : List ℕ} {base : ℕ} {r : Applied} {v w : Value} → At s base v → At s (base + 512) w → Gives (f v w) s t base r → OnTwo f s t base r
+two-gives a b g = two-by (g .kept) a b (g .right)
+
+pub gives-same : {s t : List ℕ} {base : ℕ} {r : Applied} {x y : Answer} → y ≡ x → Gives x s t base r → Gives y s t base r
+gives-same {s} {t} {base} {r} e g = subst (λ (x : Answer). Gives x s t base r) (sym e) g
+
 -- ---- a refusal, with nothing written
 
 pub is-off : {t : List ℕ} {base n : ℕ} {x : Answer} → x ≡ refused n → Applies t base (Refused n) x
@@ -61,6 +73,9 @@ one-off {f} {s} {base} {n} e = record { kept = kept-same s base; right = λ v a.
 
 pub two-off : {f : Value → Value → Answer} {s : List ℕ} {base n : ℕ} → ((v w : Value) → At s base v → At s (base + 512) w → f v w ≡ refused n) → OnTwo f s s base (Refused n)
 two-off {f} {s} {base} {n} e = record { kept = kept-same s base; right = λ v w a b. is-off (e v w a b) }
+
+pub gives-off : {s : List ℕ} {base n : ℕ} {x : Answer} → x ≡ refused n → Gives x s s base (Refused n)
+gives-off {s} {base} e = record { kept = kept-same s base; right = is-off e }
 
 -- ---- a value at base
 
@@ -82,6 +97,9 @@ one-put p a e = one-done (put-kept p) a e (p .here)
 
 pub two-put : {f : Value → Value → Answer} {s t : List ℕ} {base n r : ℕ} {v w x : Value} → Put s t base x n r → At s base v → At s (base + 512) w → f v w ≡ is x → OnTwo f s t base Done
 two-put p a b e = two-done (put-kept p) a b e (p .here)
+
+pub gives-put : {s t : List ℕ} {base n r : ℕ} {x : Value} → Put s t base x n r → Gives (is x) s t base Done
+gives-put p = record { kept = put-kept p; right = done refl (p .here) }
 
 -- copied down to it, from base + 512, base + 1024 or anywhere above
 pub copyable-down : {s : List ℕ} {from to : ℕ} → to ≤ from → Holds s from → Copyable s from to
@@ -107,6 +125,16 @@ module _ {s : List ℕ} {at k : ℕ} (read : KindAt s at k) where
 
   pub no-integer : (k ≡ 2 → ⊥) → (v : Value) → At s at v → asInteger v ≡ absent
   no-integer f v a = integer-not v (λ e. f (read .right v a ∙ e))
+
+  pub the-boolean : k ≡ 1 → Holds s at → (b : Bool) × At s at (boolean b)
+  the-boolean e h =
+      let i = boolean-is (h .value) (sym (read .right (h .value) (h .here)) ∙ e) in
+      (i .0, subst (λ (v : Value). At s at v) (i .1) (h .here))
+
+  pub the-integer : k ≡ 2 → Holds s at → (z : ℤ) × At s at (integer z)
+  the-integer e h =
+      let i = integer-is (h .value) (sym (read .right (h .value) (h .here)) ∙ e) in
+      (i .0, subst (λ (v : Value). At s at v) (i .1) (h .here))
 
   -- of a set, a sequence, a map or a tuple
   pub no-kind : (l : Kind) → (k ≡ number l → ⊥) → (v : Value) → At s at v → asKind l v ≡ absent
