@@ -12,7 +12,7 @@ use Rattle.integers.specs.Range.{never}
 use Rattle.values.specs.Value.{set, Value, boolean, collection, Items, none, more, size, Ascending, limit}
 use Rattle.values.specs.Items.{pick, same, isMember}
 use Rattle.values.specs.Place.{At, ItemsAt, HoldsItems}
-use Rattle.values.specs.Contract.{Put, Equal, Copyable, Copied}
+use Rattle.values.specs.Contract.{Equal, Copyable, Copied}
 use Rattle.values.specs.Laws.{same-true, true-same}
 use Rattle.values.specs.Encoding.{collection-size}
 use Rattle.values.specs.Records.{holds, word-size, items-to, one-item, collection-shaped}
@@ -28,9 +28,10 @@ use Rattle.operators.specs.Operators.{binary}
 use Rattle.operator_laws.specs.Tests.{both-ways, by-test}
 use Rattle.operator_laws.specs.EnumerationLaws.{fits as fitting-is, fits-not}
 use Rattle.operator_laws.specs.SetLaws.{subset-all, subset-equal}
+use Rattle.scalars.specs.declared.Applied.{Applied}
 use Rattle.scalars.specs.declared.Applied.the-variants.{Done, Refused}
-use Rattle.scalars.specs.Applied.{Two, OnTwo}
-use Rattle.scalars.specs.AppliedLaws.{kept-outside, two-by, two-off, is-off, two-done, two-put, copyable-down, two-copied, needs-off}
+use Rattle.scalars.specs.Applied.{Two, OnTwo, Gives}
+use Rattle.scalars.specs.AppliedLaws.{kept-outside, two-by, two-off, is-off, two-done, two-gives, gives-same, copyable-down, two-copied, needs-off}
 use Rattle.set_operators.specs.Members.{AllIn, Growing, Grown, InsertsAll, themselves, agrees, chosen, Choice, Chosen}
 use Rattle.set_operators.specs.Operands.{IsOfKind, TwoSets}
 use Rattle.set_operators.proofs.Choosing.{as-wanted}
@@ -52,12 +53,13 @@ module _ {n : ℕ} (low : 17 ≤ n) (high : n ≤ 18) where
     pub membership-off : r ≡ false → OnTwo (binary n) s s base (Refused 20)
     membership-off e = two-off (λ v w a b. member-off v w (k .no set refl e w b))
 
-    pub membership-done : {t : List ℕ} {found : Bool} {m q : ℕ} → r ≡ true → Two s base → Contains s (base + 512) base found → Put s t base (boolean (Bool·beq found (eqb n 17))) m q → OnTwo (binary n) s t base Done
-    membership-done {found = found} e two c p =
+    pub membership-done : {t : List ℕ} {found : Bool} {q : Applied} → r ≡ true → Two s base → Contains s (base + 512) base found → Gives (truth (Bool·beq found (eqb n 17))) s t base q → OnTwo (binary n) s t base q
+    membership-done {found = found} e two c g =
         let h = k .yes set refl e in
         let v = two .left .value in
         let a = two .left .here in
-        two-put p a (h .here) (member-is v (h .items) ∙ ap (λ (b : Bool). truth (agrees (eqb n 17) b)) (sym (c (h .items) v (h .here) a)) ∙ ap truth (sym (as-wanted found (eqb n 17))))
+        let w : found ≡ isMember v (h .items) = c (h .items) v (h .here) a in
+        two-gives a (h .here) (gives-same (member-is v (h .items) ∙ ap (λ (b : Bool). truth (agrees (eqb n 17) b)) (sym w) ∙ ap truth (sym (as-wanted found (eqb n 17)))) g)
 
 -- ---- a set that was built
 
@@ -216,15 +218,15 @@ module _ {s : List ℕ} {base : ℕ} {b : Bool} (k : TwoSets s base b) where
       inside-is : inside ≡ isSubset (k .left e .items) (k .right e .items)
       inside-is = i (k .left e .items) (k .right e .items) (items-to q (k .left e .here)) (k .right e .here)
 
-      pub subset-done : {t : List ℕ} {op m r : ℕ} → op ≡ 22 → Put s t base (boolean inside) m r → OnTwo (binary op) s t base Done
+      pub subset-done : {t : List ℕ} {op : ℕ} {r : Applied} → op ≡ 22 → Gives (truth inside) s t base r → OnTwo (binary op) s t base r
       unfolding binary
-      subset-done d p = binary-as 22 d (two-put p (k .left e .here) (k .right e .here) (ap truth (sym inside-is)))
+      subset-done d g = binary-as 22 d (two-gives (k .left e .here) (k .right e .here) (gives-same (ap truth (sym inside-is)) g))
 
-      pub psubset-done : {t : List ℕ} {op m r : ℕ} {equal : Bool} → op ≡ 23 → Equal s base (base + 512) equal → Put s t base (boolean (not (Bool·beq inside equal))) m r → OnTwo (binary op) s t base Done
+      pub psubset-done : {t : List ℕ} {op : ℕ} {equal : Bool} {r : Applied} → op ≡ 23 → Equal s base (base + 512) equal → Gives (truth (not (Bool·beq inside equal))) s t base r → OnTwo (binary op) s t base r
       unfolding binary
-      psubset-done {equal = equal} d f p =
+      psubset-done {equal = equal} d f g =
           let vs = k .left e .items in
           let ws = k .right e .items in
-          let g : equal ≡ same (collection set vs) (collection set ws) = f (collection set vs) (collection set ws) (k .left e .here) (k .right e .here) in
-          let h = proper vs ws (collection-shaped (k .left e .here .fine)) (collection-shaped (k .right e .here .fine)) in
-          binary-as 23 d (two-put p (k .left e .here) (k .right e .here) (ap truth (h ∙ sym (ap₂ (λ (x y : Bool). not (Bool·beq x y)) inside-is g))))
+          let h : equal ≡ same (collection set vs) (collection set ws) = f (collection set vs) (collection set ws) (k .left e .here) (k .right e .here) in
+          let p = proper vs ws (collection-shaped (k .left e .here .fine)) (collection-shaped (k .right e .here .fine)) in
+          binary-as 23 d (two-gives (k .left e .here) (k .right e .here) (gives-same (ap truth (p ∙ sym (ap₂ (λ (x y : Bool). not (Bool·beq x y)) inside-is h))) g))

@@ -17,13 +17,6 @@ const SET: usize = 3;
 
 const SEQUENCE: usize = 4;
 
-// The refusals.
-const WRONG_KIND: usize = 20;
-
-const NOT_THERE: usize = 26;
-
-const TOO_LARGE: usize = 28;
-
 // ---- kinds
 
 // Whether a collection of a kind stands at a place.
@@ -52,7 +45,7 @@ fn cardinality(s: &mut [u8], base: usize) -> Applied
     ensures { λ r. ⌜ OnOne (unary 4) (now (s .entry)) (now (s .exit)) base r ⌝ }
 {
     if !is_of_kind(s, base, SET) {
-        return Applied::Refused(WRONG_KIND);
+        return Applied::Refused(Applied::WRONG_KIND);
     }
     let n = collections::finding::count_of(s, base);
     values::put_integer(s, base, n as i32);
@@ -64,15 +57,15 @@ fn distributed_union(s: &mut [u8], base: usize) -> Applied
     ensures { λ r. ⌜ OnOne (unary 5) (now (s .entry)) (now (s .exit)) base r ⌝ }
 {
     if !is_of_kind(s, base, SET) {
-        return Applied::Refused(WRONG_KIND);
+        return Applied::Refused(Applied::WRONG_KIND);
     }
     let end = base + values::length_of(s, base);
     if !members::all_of_kind(s, base + 4, end, SET) {
-        return Applied::Refused(WRONG_KIND);
+        return Applied::Refused(Applied::WRONG_KIND);
     }
     collections::building::put_empty(s, base + 512, SET);
     match members::insert_each(s, base + 4, end, base + 512) {
-        Added::Full => Applied::Refused(TOO_LARGE),
+        Added::Full => Applied::Refused(Applied::TOO_LARGE),
         Added::Done => {
             values::copy_value(s, base + 512, base);
             Applied::Done
@@ -85,14 +78,14 @@ fn distributed_intersection(s: &mut [u8], base: usize) -> Applied
     ensures { λ r. ⌜ OnOne (unary 6) (now (s .entry)) (now (s .exit)) base r ⌝ }
 {
     if !is_of_kind(s, base, SET) {
-        return Applied::Refused(WRONG_KIND);
+        return Applied::Refused(Applied::WRONG_KIND);
     }
     let end = base + values::length_of(s, base);
     if !members::all_of_kind(s, base + 4, end, SET) {
-        return Applied::Refused(WRONG_KIND);
+        return Applied::Refused(Applied::WRONG_KIND);
     }
     if end == base + 4 {
-        return Applied::Refused(NOT_THERE);
+        return Applied::Refused(Applied::NOT_THERE);
     }
     let n = values::length_of(s, base + 4);
     members::choose(s, base + 4, base + 4 + n, end, base + 1024, true);
@@ -105,7 +98,7 @@ pub fn elements(s: &mut [u8], base: usize) -> Applied
     ensures { λ r. ⌜ OnOne (unary 10) (now (s .entry)) (now (s .exit)) base r ⌝ }
 {
     if !is_of_kind(s, base, SEQUENCE) {
-        return Applied::Refused(WRONG_KIND);
+        return Applied::Refused(Applied::WRONG_KIND);
     }
     let end = base + values::length_of(s, base);
     collections::building::put_empty(s, base + 512, SET);
@@ -135,11 +128,10 @@ fn membership(s: &mut [u8], base: usize, operator: usize) -> Applied
     ensures { λ r. ⌜ OnTwo (binary operator) (now (s .entry)) (now (s .exit)) base r ⌝ }
 {
     if !is_of_kind(s, base + 512, SET) {
-        return Applied::Refused(WRONG_KIND);
+        return Applied::Refused(Applied::WRONG_KIND);
     }
     let found = collections::finding::contains(s, base + 512, base);
-    values::put_boolean(s, base, found == (operator == 17));
-    Applied::Done
+    scalars::put_truth(s, base, found == (operator == 17))
 }
 
 fn union(s: &mut [u8], base: usize) -> Applied
@@ -147,11 +139,11 @@ fn union(s: &mut [u8], base: usize) -> Applied
     ensures { λ r. ⌜ OnTwo (binary 19) (now (s .entry)) (now (s .exit)) base r ⌝ }
 {
     if !two_sets(s, base) {
-        return Applied::Refused(WRONG_KIND);
+        return Applied::Refused(Applied::WRONG_KIND);
     }
     let m = values::length_of(s, base + 512);
     match members::insert_all(s, base + 512 + 4, base + 512 + m, base) {
-        Added::Full => Applied::Refused(TOO_LARGE),
+        Added::Full => Applied::Refused(Applied::TOO_LARGE),
         Added::Done => Applied::Done,
     }
 }
@@ -162,7 +154,7 @@ fn selection(s: &mut [u8], base: usize, operator: usize) -> Applied
     ensures { λ r. ⌜ OnTwo (binary operator) (now (s .entry)) (now (s .exit)) base r ⌝ }
 {
     if !two_sets(s, base) {
-        return Applied::Refused(WRONG_KIND);
+        return Applied::Refused(Applied::WRONG_KIND);
     }
     let n = values::length_of(s, base + 512);
     members::choose(
@@ -199,17 +191,15 @@ fn inclusion(s: &mut [u8], base: usize, operator: usize) -> Applied
     ensures { λ r. ⌜ OnTwo (binary operator) (now (s .entry)) (now (s .exit)) base r ⌝ }
 {
     if !two_sets(s, base) {
-        return Applied::Refused(WRONG_KIND);
+        return Applied::Refused(Applied::WRONG_KIND);
     }
     let n = values::length_of(s, base);
     let inside = all_in(s, base + 4, base + n, base + 512);
     if operator == 22 {
-        values::put_boolean(s, base, inside);
-        return Applied::Done;
+        return scalars::put_truth(s, base, inside);
     }
     let same = values::equal(s, base, base + 512);
-    values::put_boolean(s, base, inside != same);
-    Applied::Done
+    scalars::put_truth(s, base, inside != same)
 }
 
 // The binary operators 17 to 23.

@@ -1,7 +1,7 @@
 -- `set_operators::inclusion` meets its contract.
+use native.Mathlib.Omega.{arith}
 use borrow.Author.Needs.{needs}
 use borrow.Author.Tests.{not-true, not-false}
-use native.Mathlib.Omega.{arith}
 use Rattle.set_operators.proofs.Answers.{inclusion-off, inclusion-room, subset-done, psubset-done}
 use Rattle.set_operators.proofs.inclusion.Statement.{statement}
 use Rattle.set_operators.proofs.inclusion.Tie as tie
@@ -30,14 +30,14 @@ add-all-in-3 c = search needs
 all-in-requires : tie.Need-all-in-requires
 all-in-requires c κs = inclusion-room (c .before .before .before .before .two-sets .ensures) (not-false _ (c .before .before .before .if1 .left)) _ (c .before .length-of .ensures .is)
 
-put-boolean-requires : tie.Need-put-boolean-requires
-put-boolean-requires c κs = search needs
+put-truth-requires : tie.Need-put-truth-requires
+put-truth-requires c κs = search needs
 
 same-length-2 : tie.Need-same-length-2
 same-length-2 c = search needs
 
 returns-2 : tie.Need-returns-2
-returns-2 c = subset-done (c .before .before .before .before .before .before .before .before .before .before .two-sets .ensures) (not-false _ (c .before .before .before .before .before .before .before .before .before .if1 .left)) _ (c .before .before .before .before .before .before .before .length-of .ensures .is) (c .before .before .before .before .before .all-in .ensures) (c .before .before .before .before .if2 .taken) (c .before .before .put-boolean .ensures)
+returns-2 c = subset-done (c .before .before .before .before .before .before .before .before .before .before .two-sets .ensures) (not-false _ (c .before .before .before .before .before .before .before .before .before .if1 .left)) _ (c .before .before .before .before .before .before .before .length-of .ensures .is) (c .before .before .before .before .before .all-in .ensures) (c .before .before .before .before .if2 .taken) (c .before .before .put-truth .ensures)
 
 add-equal : tie.Need-add-equal
 add-equal c = search needs
@@ -45,14 +45,14 @@ add-equal c = search needs
 equal-requires : tie.Need-equal-requires
 equal-requires c κs = search needs
 
-put-boolean-requires-2 : tie.Need-put-boolean-requires-2
-put-boolean-requires-2 c κs = search needs
+put-truth-requires-2 : tie.Need-put-truth-requires-2
+put-truth-requires-2 c κs = search needs
 
 same-length-3 : tie.Need-same-length-3
 same-length-3 c = search needs
 
 returns-3 : tie.Need-returns-3
-returns-3 c = psubset-done (c .before .before .before .before .before .before .before .before .before .before .before .before .two-sets .ensures) (not-false _ (c .before .before .before .before .before .before .before .before .before .before .before .if1 .left)) _ (c .before .before .before .before .before .before .before .before .before .length-of .ensures .is) (c .before .before .before .before .before .before .before .all-in .ensures) (omega arith) (c .before .before .before .before .equal .ensures) (c .before .before .put-boolean2 .ensures)
+returns-3 c = psubset-done (c .before .before .before .before .before .before .before .before .before .before .before .before .two-sets .ensures) (not-false _ (c .before .before .before .before .before .before .before .before .before .before .before .if1 .left)) _ (c .before .before .before .before .before .before .before .before .before .length-of .ensures .is) (c .before .before .before .before .before .before .before .all-in .ensures) (omega arith) (c .before .before .before .before .equal .ensures) (c .before .before .put-truth2 .ensures)
 
 pub inclusion-spec : {M : Type 1} → statement M
 inclusion-spec =
@@ -66,11 +66,11 @@ inclusion-spec =
     add-all-in-2
     add-all-in-3
     all-in-requires
-    put-boolean-requires
+    put-truth-requires
     same-length-2
     returns-2
     add-equal
     equal-requires
-    put-boolean-requires-2
+    put-truth-requires-2
     same-length-3
     returns-3)
