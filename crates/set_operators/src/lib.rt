@@ -157,14 +157,8 @@ fn selection(s: &mut [u8], base: usize, operator: usize) -> Applied
         return Applied::Refused(Applied::WRONG_KIND);
     }
     let n = values::length_of(s, base + 512);
-    members::choose(
-        s,
-        base,
-        base + 512,
-        base + 512 + n,
-        base + 1024,
-        operator == 20,
-    );
+    let wanted = operator == 20;
+    members::choose(s, base, base + 512, base + 512 + n, base + 1024, wanted);
     values::copy_value(s, base + 1024, base);
     Applied::Done
 }
