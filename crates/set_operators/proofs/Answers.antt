@@ -9,7 +9,7 @@ use native.Mathlib.Omega.{arith}
 use lib.Dec.{eqb}
 use Rattle.integers.specs.Bytes.{word}
 use Rattle.integers.specs.Range.{never}
-use Rattle.values.specs.Value.{set, Value, boolean, collection, Items, none, more, size, Ascending, limit}
+use Rattle.values.specs.Value.{set, Value, collection, Items, none, more, size, Ascending, limit}
 use Rattle.values.specs.Items.{pick, same, isMember}
 use Rattle.values.specs.Place.{At, ItemsAt, HoldsItems}
 use Rattle.values.specs.Contract.{Equal, Copyable, Copied}

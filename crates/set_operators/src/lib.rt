@@ -141,8 +141,8 @@ fn union(s: &mut [u8], base: usize) -> Applied
     if !two_sets(s, base) {
         return Applied::Refused(Applied::WRONG_KIND);
     }
-    let m = values::length_of(s, base + 512);
-    match members::insert_all(s, base + 512 + 4, base + 512 + m, base) {
+    let n = values::length_of(s, base + 512);
+    match members::insert_all(s, base + 512 + 4, base + 512 + n, base) {
         Added::Full => Applied::Refused(Applied::TOO_LARGE),
         Added::Done => Applied::Done,
     }
@@ -156,9 +156,10 @@ fn selection(s: &mut [u8], base: usize, operator: usize) -> Applied
     if !two_sets(s, base) {
         return Applied::Refused(Applied::WRONG_KIND);
     }
-    let n = values::length_of(s, base + 512);
+    let right = base + 512;
+    let n = values::length_of(s, right);
     let wanted = operator == 20;
-    members::choose(s, base, base + 512, base + 512 + n, base + 1024, wanted);
+    members::choose(s, base, right, right + n, base + 1024, wanted);
     values::copy_value(s, base + 1024, base);
     Applied::Done
 }

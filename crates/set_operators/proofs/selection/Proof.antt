@@ -14,8 +14,8 @@ same-length c = search needs
 returns : tie.Need-returns
 returns c = selection-off (c .before .before .before .before .pre .1) (c .before .before .before .before .pre .2) (c .before .two-sets .ensures) (c .before .before .before .before .pre .0) (not-true _ (c .if1 .taken))
 
-add-length-of : tie.Need-add-length-of
-add-length-of c = search needs
+add-right : tie.Need-add-right
+add-right c = search needs
 
 length-of-requires : tie.Need-length-of-requires
 length-of-requires c κs = search needs
@@ -25,12 +25,6 @@ add-choose c = search needs
 
 add-choose-2 : tie.Need-add-choose-2
 add-choose-2 c = search needs
-
-add-choose-3 : tie.Need-add-choose-3
-add-choose-3 c = search needs
-
-add-choose-4 : tie.Need-add-choose-4
-add-choose-4 c = search needs
 
 choose-requires : tie.Need-choose-requires
 choose-requires c κs = selection-room (c .before .before .before .before .before .before .before .pre .1) (c .before .before .before .before .before .before .before .pre .2) (c .before .before .before .before .two-sets .ensures) (c .before .before .before .before .before .before .before .pre .0) (not-false _ (c .before .before .before .if1 .left)) _ (c .before .length-of .ensures .is)
@@ -54,12 +48,10 @@ selection-spec =
     two-sets-requires
     same-length
     returns
-    add-length-of
+    add-right
     length-of-requires
     add-choose
     add-choose-2
-    add-choose-3
-    add-choose-4
     choose-requires
     add-copy-value
     copy-value-requires
