@@ -74,8 +74,8 @@ choice-still {s} {t} {x} {a} {b} {at} o r =
 
 -- ---- the walk
 
-abbrev pub wish : Bool → Items → Value → Bool
-wish wanted ws v = agrees wanted (inAll v ws)
+abbrev pub passes : Bool → Items → Value → Bool
+passes wanted ws v = agrees wanted (inAll v ws)
 
 pub record Picked (s t : List ℕ) (end at p : ℕ) (q : Value → Bool) (vs : Items) : Type 0 where
   pub us : Items
@@ -85,7 +85,7 @@ pub record Picked (s t : List ℕ) (end at p : ℕ) (q : Value → Bool) (vs : I
 pub record Choosing (s t : List ℕ) (x a b at : ℕ) (wanted : Bool) (p : ℕ) : Type 0 where
   pub choice : Choice s x a b at
   pub frame : Outside s t at (at + limit)
-  pub state : (vs ws : Items) → At s x (collection set vs) → ItemsAt s a b ws → Picked s t (x + word s x) at p (wish wanted ws) vs
+  pub state : (vs ws : Items) → At s x (collection set vs) → ItemsAt s a b ws → Picked s t (x + word s x) at p (passes wanted ws) vs
 
 pub choose-start : {s : List ℕ} {x a b at : ℕ} (wanted : Bool) → Choice s x a b at → At s at (collection sequence none) → Choosing s s x a b at wanted (x + 4)
 unfolding join size
@@ -109,7 +109,7 @@ sizes-on us v false = omega arith
 
 module _ {s t : List ℕ} {x a b at : ℕ} {wanted : Bool} {p : ℕ} (w : Choosing s t x a b at wanted p) where
   -- what is known of the set whose members they are, and of the sets that they are looked for in
-  one : Picked s t (x + word s x) at p (wish wanted (w .choice .others .items)) (w .choice .held .items)
+  one : Picked s t (x + word s x) at p (passes wanted (w .choice .others .items)) (w .choice .held .items)
   one = w .state (w .choice .held .items) (w .choice .others .items) (w .choice .held .here) (w .choice .others .here)
 
   pub choose-next : {u : List ℕ} → p < x + word s x → Outside s u at (at + limit) → Next s u (x + word s x) at p
@@ -148,12 +148,12 @@ module _ {s t : List ℕ} {x a b at : ℕ} {wanted : Bool} {p : ℕ} (w : Choosi
             let inside = y .inside in
             let m = word-size (y .first-at) in
             let v-at : At t p (y .first) = at-below (w .frame) (omega arith) (y .first-at) in
-            let e : wish wanted ws (y .first) ≡ flag = ap (agrees wanted) (sym (i (y .first) ws v-at (items-below (w .frame) (w .choice .under) g))) ∙ sym f in
+            let e : passes wanted ws (y .first) ≡ flag = ap (agrees wanted) (sym (i (y .first) ws v-at (items-below (w .frame) (w .choice .under) g))) ∙ sym f in
             let z = y .so .1 in
             record {
               us = pick flag (snoc (k .us) (y .first)) (k .us);
               made = q .right (k .us) (y .first) (k .made) v-at;
-              left = left-on y n d (y .so .0 ∙ keep-on (wish wanted ws) (k .us) (y .first) (y .rest) flag e, omega (arith, sizes-on (k .us) (y .first) flag));
+              left = left-on y n d (y .so .0 ∙ keep-on (passes wanted ws) (k .us) (y .first) (y .rest) flag e, omega (arith, sizes-on (k .us) (y .first) flag));
             };
       }
 
@@ -188,5 +188,5 @@ choose-close {s} {t} {u} {v} {x} {a} {b} {at} {p} {wanted} r e w le q =
       right = λ vs ws h g.
           let m = word-size h in
           let d = choose-end w le vs ws (at-below o (omega arith) h) (items-below o (r .under) g) in
-          q .right sequence set (chosen wanted vs ws) d refl (ascending-keep (wish wanted ws) vs (collection-shaped (h .fine)));
+          q .right sequence set (chosen wanted vs ws) d refl (ascending-keep (passes wanted ws) vs (collection-shaped (h .fine)));
     }
