@@ -1,0 +1,222 @@
+-- What the code of the operators on a set of sets, of card and of elems did is what they promise.
+use mathlib.Core.Path.{_≡_, refl, sym, ap, subst, _∙_}
+use mathlib.Core.Bool.{Bool, true, false}
+use mathlib.Core.List.{List}
+use mathlib.Core.Logic.{inl}
+use Prim.Native.Nat.{ℕ, _+_, _≤_}
+use native.Mathlib.Omega.{arith}
+use lib.IntN.{ℤ, pos}
+use lib.ListN.{length}
+use mir.Syntax.{w32}
+use mir.Val.{SFits, toZ}
+use mir.ValLaws.{toZ-pos}
+use Rattle.integers.specs.Bytes.{word}
+use Rattle.integers.specs.Whole.{greatest, InRange}
+use Rattle.values.specs.Value.{Kind, set, sequence, integer, collection, Items, none, count, size, Ascending, limit}
+use Rattle.values.specs.Place.{At, ItemsAt, Holds, HoldsItems}
+use Rattle.values.specs.Contract.{Put, Copyable, Copied}
+use Rattle.values.specs.Encoding.{collection-size, count-sizes}
+use Rattle.values.specs.Records.{holds, items-to, items-none}
+use Rattle.values.specs.Frame.{outside-wider, outside-both, items-below}
+use Rattle.collections.specs.declared.building.Added.{Added}
+use Rattle.collections.specs.declared.building.Added.the-variants.{Done as Fitted, Full as TooLong}
+use Rattle.collections.specs.Members.{pick-true, pick-false}
+use Rattle.collections.specs.Finding.{HoldsCollection, Counted}
+use Rattle.collections.specs.Building.{Empties}
+use Rattle.operators.specs.Answer.{is}
+use Rattle.operators.specs.Gather.{every, insertAll, isKind, flatten}
+use Rattle.operators.specs.Sets.{intersectionOf}
+use Rattle.operators.specs.Operators.{unary}
+use Rattle.operator_laws.specs.RangeLaws.{up-le}
+use Rattle.operator_laws.specs.GatherLaws.{sizes-insertAll}
+use Rattle.scalars.specs.declared.Applied.the-variants.{Done, Refused}
+use Rattle.scalars.specs.Applied.{One, Kept, OnOne}
+use Rattle.scalars.specs.AppliedLaws.{kept-same, kept-outside, one-by, one-off, is-off, one-put, copyable-down, one-copied, needs-off}
+use Rattle.set_operators.specs.Members.{HoldsSets, AllOfKind, Growing, Grown, InsertsAll, themselves, chosen, Choice, Chosen}
+use Rattle.set_operators.specs.Operands.{IsOfKind}
+use Rattle.set_operators.proofs.Growth.{put-added}
+use Rattle.set_operators.proofs.Telling.{Family, first-of-sets}
+use Rattle.set_operators.proofs.Answers.{grown-done, grown-full}
+
+-- ---- into an empty set, 512 bytes above base
+
+module _ {s t : List ℕ} {base : ℕ} {k : Kind} {vs : Items} (a : At s base (collection k vs)) (n : ℕ) (q : n ≡ word s base) (e : Empties s t (base + 512) 3) (room : base + 1536 ≤ length s) where
+  pub still-there : ItemsAt t (base + 4) (base + n) vs
+  still-there = let h = holds a .high in items-below (e .frame) (omega arith) (items-to q a)
+
+  nothing-yet : At t (base + 512) (collection set none)
+  unfolding Ascending
+  nothing-yet = e .right set refl tt
+
+  pub empty-room : Growing t (base + 4) (base + n) (base + 512)
+  empty-room =
+      let h = holds a .high in
+      let long = e .frame .long in
+      record { held = record { items = none; here = nothing-yet }; room = omega arith; apart = inl (omega arith) }
+
+  module _ {g : Items → Items} {u : List ℕ} {r : Added} (i : InsertsAll g t u (base + 4) (base + n) (base + 512) r) where
+    pub gathered : Grown u (base + 512) (insertAll none (g vs)) r
+    gathered = i .right none vs nothing-yet still-there
+
+    pub gathered-kept : Kept s u base
+    gathered-kept = kept-outside (omega arith) (outside-both (outside-wider (omega arith) (omega arith) (e .frame)) (i .frame))
+
+-- ---- 10 elems
+
+pub elements-off : {s : List ℕ} {base : ℕ} {b : Bool} → IsOfKind s base 4 b → b ≡ false → OnOne (unary 10) s s base (Refused 20)
+unfolding unary
+elements-off k e = one-off (λ v a. needs-off _ (k .no sequence refl e v a))
+
+module _ {s t : List ℕ} {base : ℕ} {b : Bool} (k : IsOfKind s base 4 b) (d : b ≡ true) (one : One s base) (n : ℕ) (q : n ≡ word s base) (e : Empties s t (base + 512) 3) where
+  abbrev vs : Items
+  vs = k .yes sequence refl d .items
+
+  here : At s base (collection sequence vs)
+  here = k .yes sequence refl d .here
+
+  pub elements-room : HoldsItems t (base + 4) (base + n) × Growing t (base + 4) (base + n) (base + 512)
+  elements-room = ((vs, still-there here n q e (one .room)), empty-room here n q e (one .room))
+
+  module _ {u : List ℕ} {r : Added} (i : InsertsAll themselves t u (base + 4) (base + n) (base + 512) r) where
+    -- it is no longer than the sequence
+    made : At u (base + 512) (collection set (insertAll none vs))
+    unfolding size
+    made =
+        let y = gathered here n q e (one .room) i in
+        let h = here .fine .short in
+        y .made (y .answers ∙ sym (put-added (size (collection set (insertAll none vs))) (omega (arith, sizes-insertAll none vs))))
+
+    pub elements-copy : Copyable u (base + 512) base
+    elements-copy = copyable-down (omega arith) (holds made)
+
+    pub elements-done : {w : List ℕ} {m : ℕ} → Copied u w (base + 512) base m → OnOne (unary 10) s w base Done
+    unfolding unary
+    elements-done c = one-copied (gathered-kept here n q e (one .room) i) here refl made c
+
+-- ---- 4 card
+
+module _ {s : List ℕ} {base : ℕ} {b : Bool} (k : IsOfKind s base 3 b) where
+  pub card-off : b ≡ false → OnOne (unary 4) s s base (Refused 20)
+  unfolding unary
+  card-off e = one-off (λ v a. needs-off _ (k .no set refl e v a))
+
+  pub card-room : b ≡ true → HoldsCollection s base
+  card-room e = let h = k .yes set refl e in record { kind = set; items = h .items; here = h .here }
+
+  -- the number of members is small
+  card-few : {n : ℕ} → b ≡ true → Counted s base n → n ≤ limit
+  card-few {n} e c =
+      let h = k .yes set refl e in
+      let q : n ≡ count (h .items) = c set (h .items) (h .here) in
+      let z = collection-size set (h .items) in
+      let short = h .here .fine .short in
+      omega (arith, count-sizes (h .items))
+
+  module _ {n : ℕ} (e : b ≡ true) (c : Counted s base n) where
+    few : n ≤ limit
+    few = card-few e c
+
+    exact : toZ w32 n ≡ pos n
+    exact = let h = few in toZ-pos w32 n (omega arith)
+
+    pub card-fits : SFits w32 (pos n)
+    card-fits = let h = few in record { sfits = omega arith }
+
+    pub card-range : InRange (toZ w32 n)
+    card-range = let h = few in subst InRange (sym exact) (up-le (pos n) greatest (omega arith))
+
+    pub card-done : {t : List ℕ} {m r : ℕ} → Put s t base (integer (toZ w32 n)) m r → OnOne (unary 4) s t base Done
+    unfolding unary
+    card-done p =
+        let h = k .yes set refl e in
+        one-put p (h .here) (ap (λ (z : ℤ). is (integer z)) (ap pos (sym (c set (h .items) (h .here))) ∙ sym exact))
+
+-- ---- a set that holds others than sets
+
+module _ {s : List ℕ} {base : ℕ} {b : Bool} (k : IsOfKind s base 3 b) where
+  pub set-items : b ≡ true → {n : ℕ} → n ≡ word s base → HoldsItems s (base + 4) (base + n)
+  set-items e q = (k .yes set refl e .items, items-to q (k .yes set refl e .here))
+
+  pub union-of-none : b ≡ false → OnOne (unary 5) s s base (Refused 20)
+  unfolding unary
+  union-of-none e = one-off (λ v a. needs-off _ (k .no set refl e v a))
+
+  pub intersection-of-none : b ≡ false → OnOne (unary 6) s s base (Refused 20)
+  unfolding unary
+  intersection-of-none e = one-off (λ v a. needs-off _ (k .no set refl e v a))
+
+  module _ (e : b ≡ true) {n : ℕ} (q : n ≡ word s base) {c : Bool} (all : AllOfKind s (base + 4) (base + n) 3 c) (d : c ≡ false) where
+    others : every (isKind set) (k .yes set refl e .items) ≡ false
+    others = sym (all set (k .yes set refl e .items) refl (items-to q (k .yes set refl e .here))) ∙ d
+
+    pub union-of-others : OnOne (unary 5) s s base (Refused 20)
+    unfolding unary
+    union-of-others = one-by (kept-same s base) (k .yes set refl e .here) (is-off (pick-false _ _ _ others))
+
+    pub intersection-of-others : OnOne (unary 6) s s base (Refused 20)
+    unfolding unary
+    intersection-of-others = one-by (kept-same s base) (k .yes set refl e .here) (is-off (pick-false _ _ _ others))
+
+-- ---- 5 dunion
+
+module _ {s t : List ℕ} {base n : ℕ} (f : Family s base (base + n)) (one : One s base) (q : n ≡ word s base) (e : Empties s t (base + 512) 3) where
+  pub dunion-room : HoldsSets t (base + 4) (base + n) × Growing t (base + 4) (base + n) (base + 512)
+  dunion-room = (record { items = f .members; here = still-there (f .here) n q e (one .room); sets = f .sets }, empty-room (f .here) n q e (one .room))
+
+  module _ {u : List ℕ} {r : Added} (i : InsertsAll flatten t u (base + 4) (base + n) (base + 512) r) where
+    grown : Grown u (base + 512) (insertAll none (flatten (f .members))) r
+    grown = gathered (f .here) n q e (one .room) i
+
+    pub dunion-full : r ≡ TooLong → OnOne (unary 5) s u base (Refused 28)
+    unfolding unary
+    dunion-full d = one-by (gathered-kept (f .here) n q e (one .room) i) (f .here) (is-off (pick-true _ _ _ (f .sets) ∙ grown-full grown d))
+
+    pub dunion-copy : r ≡ Fitted → Copyable u (base + 512) base
+    dunion-copy d = copyable-down (omega arith) (holds (grown .made d))
+
+    pub dunion-done : r ≡ Fitted → {w : List ℕ} {m : ℕ} → Copied u w (base + 512) base m → OnOne (unary 5) s w base Done
+    unfolding unary
+    dunion-done d c = one-copied (gathered-kept (f .here) n q e (one .room) i) (f .here) (pick-true _ _ _ (f .sets) ∙ grown-done grown d) (grown .made d) c
+
+-- ---- 6 dinter
+
+module _ {s : List ℕ} {base end : ℕ} (f : Family s base end) where
+  pub dinter-none : end ≡ base + 4 → OnOne (unary 6) s s base (Refused 26)
+  unfolding unary
+  dinter-none d =
+      let h = items-none (omega arith) (f .items) in
+      one-by (kept-same s base) (f .here) (is-off (pick-true _ _ _ (f .sets) ∙ ap intersectionOf h))
+
+  module _ (ne : end ≡ base + 4 → ⊥) where
+    pub dinter-first : Holds s (base + 4)
+    dinter-first = holds (first-of-sets f ne .first-at)
+
+    module _ (one : One s base) (n : ℕ) (q : n ≡ word s (base + 4)) where
+      rest-at : ItemsAt s (base + 4 + n) end (first-of-sets f ne .rest)
+      rest-at = subst (λ (m : ℕ). ItemsAt s (base + 4 + m) end (first-of-sets f ne .rest)) (sym q) (first-of-sets f ne .rest-at)
+
+      pub dinter-room : Choice s (base + 4) (base + 4 + n) end (base + 1024)
+      dinter-room =
+          let y = first-of-sets f ne in
+          let room = one .room in
+          let inside = y .inside in
+          let high = f .high in
+          record {
+            held = record { items = y .members; here = y .first-at };
+            below = omega arith;
+            others = record { items = y .rest; here = rest-at; sets = y .sets };
+            under = omega arith;
+            room = omega arith;
+          }
+
+      module _ {t : List ℕ} (c : Chosen s t (base + 4) (base + 4 + n) end (base + 1024) true) where
+        common : At t (base + 1024) (collection set (chosen true (first-of-sets f ne .members) (first-of-sets f ne .rest)))
+        common = let y = first-of-sets f ne in c .right (y .members) (y .rest) (y .first-at) rest-at
+
+        pub dinter-copy : Copyable t (base + 1024) base
+        dinter-copy = copyable-down (omega arith) (holds common)
+
+        pub dinter-done : {u : List ℕ} {m : ℕ} → Copied t u (base + 1024) base m → OnOne (unary 6) s u base Done
+        unfolding unary
+        dinter-done d =
+            one-copied (kept-outside (omega arith) (c .frame)) (f .here) (pick-true _ _ _ (f .sets) ∙ ap intersectionOf (first-of-sets f ne .is)) common d

@@ -1,0 +1,6 @@
+mod Walks
+mod Growth
+mod Choosing
+mod Telling
+mod Answers
+mod Gathers

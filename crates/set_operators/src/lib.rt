@@ -1,0 +1,215 @@
+// The operators on sets, on values in scratch: the operands stand at `base` and 512 bytes above it, the value comes to stand at `base`.
+pub mod members;
+
+use collections::building::Added;
+use scalars::Applied;
+ghost use Prim.Native.Nat.{_+_, _≤_};
+ghost use Rattle.values.specs.Value.{set};
+ghost use Rattle.values.specs.Place.{Holds, HoldsItems};
+ghost use Rattle.collections.specs.Finding.{HoldsKind};
+ghost use Rattle.operators.specs.Operators.{unary, binary};
+ghost use Rattle.scalars.specs.Applied.{One, Two, OnOne, OnTwo};
+ghost use Rattle.set_operators.specs.Members.{AllIn};
+ghost use Rattle.set_operators.specs.Operands.{IsOfKind, TwoSets};
+
+// The kinds of operands, and of what is built.
+const SET: usize = 3;
+
+const SEQUENCE: usize = 4;
+
+// ---- kinds
+
+// Whether a collection of a kind stands at a place.
+fn is_of_kind(s: &[u8], at: usize, kind: usize) -> bool
+    requires { ⌜ Holds (now s) at ⌝ }
+    ensures { λ r. ⌜ IsOfKind (now (s .entry)) at kind r ⌝ }
+{
+    values::kind_of(s, at) == kind
+}
+
+// Whether both operands are sets.
+fn two_sets(s: &[u8], base: usize) -> bool
+    requires { ⌜ Two (now s) base ⌝ }
+    ensures { λ r. ⌜ TwoSets (now (s .entry)) base r ⌝ }
+{
+    if is_of_kind(s, base, SET) {
+        return is_of_kind(s, base + 512, SET);
+    }
+    false
+}
+
+// ---- one operand: 4 card, 5 dunion, 6 dinter, 10 elems
+
+fn cardinality(s: &mut [u8], base: usize) -> Applied
+    requires { ⌜ One (now s) base ⌝ }
+    ensures { λ r. ⌜ OnOne (unary 4) (now (s .entry)) (now (s .exit)) base r ⌝ }
+{
+    if !is_of_kind(s, base, SET) {
+        return Applied::Refused(Applied::WRONG_KIND);
+    }
+    let n = collections::finding::count_of(s, base);
+    values::put_integer(s, base, n as i32);
+    Applied::Done
+}
+
+fn distributed_union(s: &mut [u8], base: usize) -> Applied
+    requires { ⌜ One (now s) base ⌝ }
+    ensures { λ r. ⌜ OnOne (unary 5) (now (s .entry)) (now (s .exit)) base r ⌝ }
+{
+    if !is_of_kind(s, base, SET) {
+        return Applied::Refused(Applied::WRONG_KIND);
+    }
+    let end = base + values::length_of(s, base);
+    if !members::all_of_kind(s, base + 4, end, SET) {
+        return Applied::Refused(Applied::WRONG_KIND);
+    }
+    collections::building::put_empty(s, base + 512, SET);
+    match members::insert_each(s, base + 4, end, base + 512) {
+        Added::Full => Applied::Refused(Applied::TOO_LARGE),
+        Added::Done => {
+            values::copy_value(s, base + 512, base);
+            Applied::Done
+        }
+    }
+}
+
+fn distributed_intersection(s: &mut [u8], base: usize) -> Applied
+    requires { ⌜ One (now s) base ⌝ }
+    ensures { λ r. ⌜ OnOne (unary 6) (now (s .entry)) (now (s .exit)) base r ⌝ }
+{
+    if !is_of_kind(s, base, SET) {
+        return Applied::Refused(Applied::WRONG_KIND);
+    }
+    let end = base + values::length_of(s, base);
+    if !members::all_of_kind(s, base + 4, end, SET) {
+        return Applied::Refused(Applied::WRONG_KIND);
+    }
+    if end == base + 4 {
+        return Applied::Refused(Applied::NOT_THERE);
+    }
+    let n = values::length_of(s, base + 4);
+    members::choose(s, base + 4, base + 4 + n, end, base + 1024, true);
+    values::copy_value(s, base + 1024, base);
+    Applied::Done
+}
+
+pub fn elements(s: &mut [u8], base: usize) -> Applied
+    requires { ⌜ One (now s) base ⌝ }
+    ensures { λ r. ⌜ OnOne (unary 10) (now (s .entry)) (now (s .exit)) base r ⌝ }
+{
+    if !is_of_kind(s, base, SEQUENCE) {
+        return Applied::Refused(Applied::WRONG_KIND);
+    }
+    let end = base + values::length_of(s, base);
+    collections::building::put_empty(s, base + 512, SET);
+    members::insert_all(s, base + 4, end, base + 512);
+    values::copy_value(s, base + 512, base);
+    Applied::Done
+}
+
+// The unary operators 4 to 6.
+pub fn unary_set(s: &mut [u8], base: usize, operator: usize) -> Applied
+    requires { ⌜ One (now s) base × (4 ≤ operator) × (operator ≤ 6) ⌝ }
+    ensures { λ r. ⌜ OnOne (unary operator) (now (s .entry)) (now (s .exit)) base r ⌝ }
+{
+    if operator == 4 {
+        return cardinality(s, base);
+    }
+    if operator == 5 {
+        return distributed_union(s, base);
+    }
+    distributed_intersection(s, base)
+}
+
+// ---- two operands: 17 in set, 18 not in set, 19 union, 20 inter, 21 difference, 22 subset, 23 psubset
+
+fn membership(s: &mut [u8], base: usize, operator: usize) -> Applied
+    requires { ⌜ Two (now s) base × (17 ≤ operator) × (operator ≤ 18) ⌝ }
+    ensures { λ r. ⌜ OnTwo (binary operator) (now (s .entry)) (now (s .exit)) base r ⌝ }
+{
+    if !is_of_kind(s, base + 512, SET) {
+        return Applied::Refused(Applied::WRONG_KIND);
+    }
+    let found = collections::finding::contains(s, base + 512, base);
+    scalars::put_truth(s, base, found == (operator == 17))
+}
+
+fn union(s: &mut [u8], base: usize) -> Applied
+    requires { ⌜ Two (now s) base ⌝ }
+    ensures { λ r. ⌜ OnTwo (binary 19) (now (s .entry)) (now (s .exit)) base r ⌝ }
+{
+    if !two_sets(s, base) {
+        return Applied::Refused(Applied::WRONG_KIND);
+    }
+    let n = values::length_of(s, base + 512);
+    match members::insert_all(s, base + 512 + 4, base + 512 + n, base) {
+        Added::Full => Applied::Refused(Applied::TOO_LARGE),
+        Added::Done => Applied::Done,
+    }
+}
+
+// The members of the left that are in the right, or those that are not.
+fn selection(s: &mut [u8], base: usize, operator: usize) -> Applied
+    requires { ⌜ Two (now s) base × (20 ≤ operator) × (operator ≤ 21) ⌝ }
+    ensures { λ r. ⌜ OnTwo (binary operator) (now (s .entry)) (now (s .exit)) base r ⌝ }
+{
+    if !two_sets(s, base) {
+        return Applied::Refused(Applied::WRONG_KIND);
+    }
+    let right = base + 512;
+    let n = values::length_of(s, right);
+    let wanted = operator == 20;
+    members::choose(s, base, right, right + n, base + 1024, wanted);
+    values::copy_value(s, base + 1024, base);
+    Applied::Done
+}
+
+// Whether all items from a place up to another are members of the set at a place.
+fn all_in(s: &[u8], from: usize, to: usize, at: usize) -> bool
+    requires { ⌜ HoldsItems (now s) from to × HoldsKind set (now s) at ⌝ }
+    ensures { λ r. ⌜ AllIn (now (s .entry)) from to at r ⌝ }
+{
+    let mut p = from;
+    while p < to {
+        let next = p + values::length_of(s, p);
+        if !collections::finding::contains(s, at, p) {
+            return false;
+        }
+        p = next;
+    }
+    true
+}
+
+// Equal sets are subsets of each other: of a subset and a set that differ, it is a proper one.
+fn inclusion(s: &mut [u8], base: usize, operator: usize) -> Applied
+    requires { ⌜ Two (now s) base × (22 ≤ operator) × (operator ≤ 23) ⌝ }
+    ensures { λ r. ⌜ OnTwo (binary operator) (now (s .entry)) (now (s .exit)) base r ⌝ }
+{
+    if !two_sets(s, base) {
+        return Applied::Refused(Applied::WRONG_KIND);
+    }
+    let n = values::length_of(s, base);
+    let inside = all_in(s, base + 4, base + n, base + 512);
+    if operator == 22 {
+        return scalars::put_truth(s, base, inside);
+    }
+    let same = values::equal(s, base, base + 512);
+    scalars::put_truth(s, base, inside != same)
+}
+
+// The binary operators 17 to 23.
+pub fn binary_set(s: &mut [u8], base: usize, operator: usize) -> Applied
+    requires { ⌜ Two (now s) base × (17 ≤ operator) × (operator ≤ 23) ⌝ }
+    ensures { λ r. ⌜ OnTwo (binary operator) (now (s .entry)) (now (s .exit)) base r ⌝ }
+{
+    if operator <= 18 {
+        return membership(s, base, operator);
+    }
+    if operator == 19 {
+        return union(s, base);
+    }
+    if operator <= 21 {
+        return selection(s, base, operator);
+    }
+    inclusion(s, base, operator)
+}
