@@ -1,0 +1,16 @@
+//! Links the static library of the proved services.
+
+use std::path::Path;
+
+const LIBRARY: &str = "target/staticlib/libservices.a";
+
+fn main() {
+    let library = Path::new("../..").join(LIBRARY);
+    println!("cargo:rerun-if-changed={}", library.display());
+    let Ok(library) = library.canonicalize() else {
+        panic!("{LIBRARY} is missing: run `rt staticlib services` in the repository first");
+    };
+    let folder = library.parent().expect("the folder of the library");
+    println!("cargo:rustc-link-search=native={}", folder.display());
+    println!("cargo:rustc-link-lib=static=services");
+}
