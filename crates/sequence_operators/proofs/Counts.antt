@@ -1,0 +1,47 @@
+-- The number of a sequence's items as an integer. Assumes nothing.
+use mathlib.Core.Path.{_≡_, sym, ap, subst, _∙_}
+use mathlib.Core.List.{List}
+use Prim.Native.Nat.{ℕ, _+_, _<_}
+use native.Mathlib.Omega.{arith}
+use lib.IntN.{ℤ, pos}
+use mir.Syntax.{w32}
+use mir.Val.{SFits, toZ}
+use mir.Facts.{toZ-ofZ}
+use Rattle.integers.specs.Whole.{InRange}
+use Rattle.integers.specs.Range.{fits-range}
+use Rattle.values.specs.Value.{Kind, sequence, integer, collection, Items, count, sizes}
+use Rattle.values.specs.Place.{At}
+use Rattle.values.specs.Contract.{Put}
+use Rattle.values.specs.Encoding.{collection-size, count-sizes}
+use Rattle.collections.specs.Finding.{Counted}
+use Rattle.operators.specs.Answer.{Answer, is}
+use Rattle.scalars.specs.declared.Applied.the-variants.{Done}
+use Rattle.scalars.specs.AppliedLaws.{is-done, put-kept}
+use Rattle.sequence_operators.specs.Kinds.{Has, OnItems, items-by}
+
+-- what len answers on the items of its operand
+abbrev pub counted : Items → Answer
+counted vs = is (integer (pos (count vs)))
+
+module _ {s : List ℕ} {base n : ℕ} (h : Has sequence s base) (c : Counted s base n) where
+  -- each item takes four bytes or more
+  pub few : n < 128
+  few =
+      let vs = h .held .items in
+      let l = h .held .here .fine .short in
+      omega (arith, c sequence vs (h .held .here), count-sizes vs, collection-size sequence vs)
+
+  pub count-fits : SFits w32 (pos n)
+  count-fits = let l = few in record { sfits = omega arith }
+
+  exact : toZ w32 n ≡ pos n
+  exact = toZ-ofZ count-fits
+
+  pub count-range : InRange (toZ w32 n)
+  count-range = rw exact (fits-range (pos n) count-fits)
+
+  pub len-done : {t : List ℕ} {r : ℕ} → Put s t base (integer (toZ w32 n)) 8 r → OnItems sequence counted s t base Done
+  len-done {t} p =
+      let a = h .held .here in
+      let e : integer (toZ w32 n) ≡ integer (pos (count (h .held .items))) = ap integer (exact ∙ ap pos (c sequence (h .held .items) a)) in
+      items-by {f = counted} (put-kept p) a (is-done (ap is (sym e)) (p .here))

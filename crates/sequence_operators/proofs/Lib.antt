@@ -1,0 +1,6 @@
+mod Counts
+mod Firsts
+mod Flattening
+mod Gathering
+mod Turning
+mod Joining
