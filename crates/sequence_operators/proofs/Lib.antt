@@ -4,3 +4,4 @@ mod Flattening
 mod Gathering
 mod Turning
 mod Joining
+mod Indexes

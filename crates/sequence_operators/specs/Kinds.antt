@@ -10,6 +10,7 @@ use Rattle.values.specs.Contract.{KindAt}
 use Rattle.values.specs.Records.{one-value}
 use Rattle.collections.specs.Finding.{HoldsKind}
 use Rattle.operators.specs.Answer.{Answer, refused, wrongKind, asKind, needs, needsBoth}
+use Rattle.operators.specs.Operators.{unary, binary}
 use Rattle.operator_laws.specs.KindLaws.{kind-view}
 use Rattle.scalars.specs.declared.Applied.{Applied}
 use Rattle.scalars.specs.declared.Applied.the-variants.{Refused}
@@ -103,3 +104,12 @@ module _ {k l : Kind} {f : Items → Items → Answer} {g : Value → Value → 
 
   pub off-right : {s : List ℕ} {base kind : ℕ} → KindAt s (base + 512) kind → (kind ≡ number l → ⊥) → OnTwo g s s base (Refused wrongKind)
   off-right r n = two-off (λ v w a b. e v w ∙ needs-right (asKind k v) f (no-kind r l n w b))
+
+-- ---- by number
+
+pub on-unary : {k : Kind} {f : Items → Answer} {n m : ℕ} → n ≡ m → ((v : Value) → unary m v ≡ needs (asKind k v) f) → {s t : List ℕ} {base : ℕ} {r : Applied} → Has k s base → OnItems k f s t base r → OnOne (unary n) s t base r
+on-unary e f = on-one (λ v. ap (λ (i : ℕ). unary i v) e ∙ f v)
+
+pub on-binary : {k l : Kind} {f : Items → Items → Answer} {n m : ℕ} → n ≡ m → ((v w : Value) → binary m v w ≡ needsBoth (asKind k v) (asKind l w) f) → {s t : List ℕ} {base : ℕ} {r : Applied} → HasTwo k l s base → OnBoth k l f s t base r
+    → OnTwo (binary n) s t base r
+on-binary e f = on-two (λ v w. ap (λ (i : ℕ). binary i v w) e ∙ f v w)

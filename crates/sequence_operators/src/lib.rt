@@ -1,5 +1,5 @@
 // The operators on sequences, on values in scratch; and applying a sequence or a map.
-use collections::finding::Found;
+pub mod applying;
 use scalars::Applied;
 use values::Value;
 ghost use Prim.Native.Nat.{_+_, _≤_};
@@ -17,8 +17,6 @@ ghost use Rattle.sequence_operators.specs.Kinds.{Has, HasTwo, OnItems, O
 const SET: usize = 3;
 
 const SEQUENCE: usize = 4;
-
-const MAP: usize = 5;
 
 // ---- one sequence
 
@@ -133,4 +131,20 @@ fn join(s: &mut [u8], base: usize) -> Applied
     values::copy_bytes(s, base + 516, base + n, m - 4);
     values::put_head(s, base, whole, SEQUENCE);
     Applied::Done
+}
+
+// 24 ^
+pub fn concatenate(s: &mut [u8], base: usize) -> Applied
+    requires { ⌜ Two (now s) base ⌝ }
+    ensures { λ r. ⌜ OnTwo (binary 24) (now (s .entry)) (now (s .exit)) base r ⌝ }
+{
+    let first = values::kind_of(s, base);
+    if first != SEQUENCE {
+        return Applied::Refused(Applied::WRONG_KIND);
+    }
+    let second = values::kind_of(s, base + 512);
+    if second != SEQUENCE {
+        return Applied::Refused(Applied::WRONG_KIND);
+    }
+    join(s, base)
 }
