@@ -5,3 +5,4 @@ mod Gathering
 mod Turning
 mod Joining
 mod Indexes
+mod Tested

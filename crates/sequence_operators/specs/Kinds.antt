@@ -1,17 +1,21 @@
 -- What an operator asks and promises once the kinds of its operands are known; with the kinds tested, that is what every operator promises.
 use mathlib.Core.Path.{_≡_, sym, ap, subst, _∙_}
 use mathlib.Core.List.{List}
+use mathlib.Core.Bool.{Bool, true, false, _&&_}
 use mathlib.Core.Option.{Option}
 use Prim.Native.Nat.{ℕ, _+_, _≤_}
+use lib.Dec.{eqb}
 use lib.ListN.{length}
-use Rattle.values.specs.Value.{Kind, number, Value, collection, Items}
+use borrow.Author.Tests.{eqb-true, eqb-false}
+use Rattle.values.specs.Value.{Kind, number, kindOf, Value, collection, Items}
 use Rattle.values.specs.Place.{At}
 use Rattle.values.specs.Contract.{KindAt}
 use Rattle.values.specs.Records.{one-value}
 use Rattle.collections.specs.Finding.{HoldsKind}
 use Rattle.operators.specs.Answer.{Answer, refused, wrongKind, asKind, needs, needsBoth}
 use Rattle.operators.specs.Operators.{unary, binary}
-use Rattle.operator_laws.specs.KindLaws.{kind-view}
+use Rattle.operator_laws.specs.KindLaws.{kind-is, kind-not, kind-view}
+use Rattle.operator_laws.specs.Tests.{and-parts, by-test}
 use Rattle.scalars.specs.declared.Applied.{Applied}
 use Rattle.scalars.specs.declared.Applied.the-variants.{Refused}
 use Rattle.scalars.specs.Applied.{One, Two, Applies, Kept, OnOne, OnTwo}
@@ -40,6 +44,10 @@ pub record OnBoth (k l : Kind) (f : Items → Items → Answer) (s t : List ℕ)
   pub kept : Kept s t base
   pub right : (vs ws : Items) → At s base (collection k vs) → At s (base + 512) (collection l ws) → Applies t base r (f vs ws)
 
+-- r says whether the values at base and 512 bytes above it are of these kinds.
+abbrev pub KindsAre : List ℕ → ℕ → ℕ → ℕ → Bool → Type 0
+KindsAre s base a b r = (v w : Value) → At s base v → At s (base + 512) w → r ≡ eqb (kindOf v) a && eqb (kindOf w) b
+
 -- ---- from the items that stand there
 
 pub same-items : {k : Kind} {s : List ℕ} {at : ℕ} {vs ws : Items} → At s at (collection k vs) → At s at (collection k ws) → vs ≡ ws
@@ -63,17 +71,10 @@ both-off {s = s} {base = base} e = record { kept = kept-same s base; right = λ 
 
 -- ---- kinds
 
-module _ {s : List ℕ} {base : ℕ} where
-  pub has : {kind : ℕ} (k : Kind) → One s base → KindAt s base kind → kind ≡ number k → Has k s base
-  has k o r e = let i = the-kind r k e (o .held) in record { held = record { items = i .0; here = i .1 }; room = o .room }
+pub has : {s : List ℕ} {base kind : ℕ} (k : Kind) → One s base → KindAt s base kind → kind ≡ number k → Has k s base
+has k o r e = let i = the-kind r k e (o .held) in record { held = record { items = i .0; here = i .1 }; room = o .room }
 
-  pub has-two : {a b : ℕ} (k l : Kind) → Two s base → KindAt s base a → a ≡ number k → KindAt s (base + 512) b → b ≡ number l → HasTwo k l s base
-  has-two k l o r e q d =
-      let i = the-kind r k e (o .left) in
-      let j = the-kind q l d (o .right) in
-      record { left = record { items = i .0; here = i .1 }; right = record { items = j .0; here = j .1 }; room = o .room }
-
--- The kinds tested, and then the items: where they are as asked, and where one is not.
+-- The kind tested, and then the items: where it is as asked, and where it is not.
 module _ {k : Kind} {f : Items → Answer} {g : Value → Answer} (e : (v : Value) → g v ≡ needs (asKind k v) f) where
   pub on-one : {s t : List ℕ} {base : ℕ} {r : Applied} → Has k s base → OnItems k f s t base r → OnOne g s t base r
   on-one {s} {t} {base} {r} h o =
@@ -84,6 +85,22 @@ module _ {k : Kind} {f : Items → Answer} {g : Value → Answer} (e : (v : Valu
 
   pub off-one : {s : List ℕ} {base kind : ℕ} → KindAt s base kind → (kind ≡ number k → ⊥) → OnOne g s s base (Refused wrongKind)
   off-one r n = one-off (λ v a. e v ∙ needs-off f (no-kind r k n v a))
+
+-- The same for two.
+pub has-two : {s : List ℕ} {base : ℕ} {r : Bool} (k l : Kind) → Two s base → KindsAre s base (number k) (number l) r → r ≡ true → HasTwo k l s base
+has-two {s} {base} k l o c e =
+    let v = o .left .value in
+    let w = o .right .value in
+    let a = o .left .here in
+    let b = o .right .here in
+    let p = and-parts (eqb (kindOf v) (number k)) (eqb (kindOf w) (number l)) (sym (c v w a b) ∙ e) in
+    let i = kind-is k v (eqb-true (kindOf v) (number k) (p .0)) in
+    let j = kind-is l w (eqb-true (kindOf w) (number l) (p .1)) in
+    record {
+      left = record { items = i .0; here = subst (λ (x : Value). At s base x) (i .1) a };
+      right = record { items = j .0; here = subst (λ (x : Value). At s (base + 512) x) (j .1) b };
+      room = o .room;
+    }
 
 module _ {k l : Kind} {f : Items → Items → Answer} {g : Value → Value → Answer} (e : (v w : Value) → g v w ≡ needsBoth (asKind k v) (asKind l w) f) where
   pub on-two : {s t : List ℕ} {base : ℕ} {r : Applied} → HasTwo k l s base → OnBoth k l f s t base r → OnTwo g s t base r
@@ -99,11 +116,16 @@ module _ {k l : Kind} {f : Items → Items → Answer} {g : Value → Value → 
       ∙ ap (λ (i : Option Items). needs i (f vs)) (kind-view l ws)))
       (o .right vs ws a b))
 
-  pub off-left : {s : List ℕ} {base kind : ℕ} → KindAt s base kind → (kind ≡ number k → ⊥) → OnTwo g s s base (Refused wrongKind)
-  off-left r n = two-off (λ v w a b. e v w ∙ needs-left (asKind l w) f (no-kind r k n v a))
-
-  pub off-right : {s : List ℕ} {base kind : ℕ} → KindAt s (base + 512) kind → (kind ≡ number l → ⊥) → OnTwo g s s base (Refused wrongKind)
-  off-right r n = two-off (λ v w a b. e v w ∙ needs-right (asKind k v) f (no-kind r l n w b))
+  pub off-two : {s : List ℕ} {base : ℕ} {r : Bool} → KindsAre s base (number k) (number l) r → r ≡ false → OnTwo g s s base (Refused wrongKind)
+  off-two c d =
+      two-off
+      (λ v w a b.
+      e v w
+      ∙ by-test (eqb (kindOf v) (number k))
+      (λ x.
+      needs-right (asKind k v) f
+      (kind-not l w (eqb-false (kindOf w) (number l) (ap (λ (y : Bool). y && eqb (kindOf w) (number l)) (sym x) ∙ sym (c v w a b) ∙ d))))
+      (λ x. needs-left (asKind l w) f (kind-not k v (eqb-false (kindOf v) (number k) x))))
 
 -- ---- by number
 

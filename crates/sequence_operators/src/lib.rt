@@ -11,7 +11,7 @@ ghost use Rattle.operators.specs.Gather.{every, insertAll, isKind, flatten, bac
 ghost use Rattle.operators.specs.Sequences.{headOf, tailOf};
 ghost use Rattle.operators.specs.Operators.{unary, binary};
 ghost use Rattle.scalars.specs.Applied.{One, Two, OnOne, OnTwo};
-ghost use Rattle.sequence_operators.specs.Kinds.{Has, HasTwo, OnItems, OnBoth};
+ghost use Rattle.sequence_operators.specs.Kinds.{Has, HasTwo, OnItems, OnBoth, KindsAre};
 
 // The kinds that operands have and values are given.
 const SET: usize = 3;
@@ -133,18 +133,25 @@ fn join(s: &mut [u8], base: usize) -> Applied
     Applied::Done
 }
 
+// Whether the operands are of these kinds.
+pub fn kinds_are(s: &[u8], base: usize, first: usize, second: usize) -> bool
+    requires { ⌜ Two (now s) base ⌝ }
+    ensures { λ r. ⌜ KindsAre (now (s .entry)) base first second r ⌝ }
+{
+    let kind = values::kind_of(s, base);
+    if kind != first {
+        return false;
+    }
+    values::kind_of(s, base + 512) == second
+}
+
 // 24 ^
 pub fn concatenate(s: &mut [u8], base: usize) -> Applied
     requires { ⌜ Two (now s) base ⌝ }
     ensures { λ r. ⌜ OnTwo (binary 24) (now (s .entry)) (now (s .exit)) base r ⌝ }
 {
-    let first = values::kind_of(s, base);
-    if first != SEQUENCE {
-        return Applied::Refused(Applied::WRONG_KIND);
+    if kinds_are(s, base, SEQUENCE, SEQUENCE) {
+        return join(s, base);
     }
-    let second = values::kind_of(s, base + 512);
-    if second != SEQUENCE {
-        return Applied::Refused(Applied::WRONG_KIND);
-    }
-    join(s, base)
+    Applied::Refused(Applied::WRONG_KIND)
 }
