@@ -4,5 +4,6 @@ mod Flattening
 mod Gathering
 mod Turning
 mod Joining
-mod Indexes
+mod Finding
 mod Tested
+mod Numbered

@@ -1,5 +1,6 @@
 // The operators on sequences, on values in scratch; and applying a sequence or a map.
 pub mod applying;
+
 use scalars::Applied;
 use values::Value;
 ghost use Prim.Native.Nat.{_+_, _≤_};
@@ -8,6 +9,7 @@ ghost use Rattle.values.specs.Value.{set, sequence, integer, collection, none, 
 ghost use Rattle.values.specs.Items.{pick, join};
 ghost use Rattle.operators.specs.Answer.{is, refused, wrongKind, sized};
 ghost use Rattle.operators.specs.Gather.{every, insertAll, isKind, flatten, backwards};
+ghost use Rattle.operators.specs.Sets.{counting};
 ghost use Rattle.operators.specs.Sequences.{headOf, tailOf};
 ghost use Rattle.operators.specs.Operators.{unary, binary};
 ghost use Rattle.scalars.specs.Applied.{One, Two, OnOne, OnTwo};
@@ -75,6 +77,15 @@ fn elements(s: &mut [u8], base: usize) -> Applied
     Applied::Done
 }
 
+// 11 inds: the integers from 1 up to the number of items.
+fn indexes(s: &mut [u8], base: usize) -> Applied
+    requires { ⌜ Has sequence (now s) base ⌝ }
+    ensures { λ r. ⌜ OnItems sequence (λ vs. counting (pos 1) (count vs)) (now (s .entry)) (now (s .exit)) base r ⌝ }
+{
+    let n = collections::finding::count_of(s, base);
+    scalars::counting(s, base, 1, n)
+}
+
 // 12 conc: the items of each sequence move down over the headings.
 fn flatten(s: &mut [u8], base: usize) -> Applied
     requires { ⌜ Has sequence (now s) base ⌝ }
@@ -113,6 +124,26 @@ fn reverse(s: &mut [u8], base: usize) -> Applied
         p += m;
     }
     Applied::Done
+}
+
+// The unary operators 7 to 13.
+pub fn unary_sequence(s: &mut [u8], base: usize, operator: usize) -> Applied
+    requires { ⌜ One (now s) base × (7 ≤ operator) × (operator ≤ 13) ⌝ }
+    ensures { λ r. ⌜ OnOne (unary operator) (now (s .entry)) (now (s .exit)) base r ⌝ }
+{
+    let kind = values::kind_of(s, base);
+    if kind != SEQUENCE {
+        return Applied::Refused(Applied::WRONG_KIND);
+    }
+    match operator {
+        7 => len(s, base),
+        8 => head(s, base),
+        9 => tail(s, base),
+        10 => elements(s, base),
+        11 => indexes(s, base),
+        12 => flatten(s, base),
+        _ => reverse(s, base),
+    }
 }
 
 // ---- two sequences

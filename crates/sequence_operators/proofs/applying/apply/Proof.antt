@@ -1,5 +1,5 @@
 use Rattle.values.specs.Value.{sequence, map}
-use Rattle.sequence_operators.proofs.Indexes.{applicable, apply-done, apply-wrong}
+use Rattle.sequence_operators.proofs.Finding.{applicable, apply-done, apply-wrong}
 use borrow.Author.Needs.{needs}
 use Rattle.sequence_operators.proofs.applying.apply.Statement.{statement}
 use Rattle.sequence_operators.proofs.applying.apply.Tie as tie

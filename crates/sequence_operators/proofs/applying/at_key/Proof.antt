@@ -1,4 +1,4 @@
-use Rattle.sequence_operators.proofs.Indexes.{key-sought, key-done}
+use Rattle.sequence_operators.proofs.Finding.{key-sought, key-done}
 use borrow.Author.Needs.{needs}
 use Rattle.sequence_operators.proofs.applying.at_key.Statement.{statement}
 use Rattle.sequence_operators.proofs.applying.at_key.Tie as tie

@@ -1,4 +1,4 @@
-use Rattle.sequence_operators.proofs.Indexes.{bring-copyable, bring-done, bring-off}
+use Rattle.sequence_operators.proofs.Finding.{bring-copyable, bring-done, bring-off}
 use borrow.Author.Needs.{needs}
 use Rattle.sequence_operators.proofs.applying.bring.Statement.{statement}
 use Rattle.sequence_operators.proofs.applying.bring.Tie as tie

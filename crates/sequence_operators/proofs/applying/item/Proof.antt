@@ -1,4 +1,4 @@
-use Rattle.sequence_operators.proofs.Indexes.{item-wrong, item-off, index-of, item-sought, item-done}
+use Rattle.sequence_operators.proofs.Finding.{item-wrong, item-off, index-of, item-sought, item-done}
 use borrow.Author.Needs.{needs}
 use Rattle.sequence_operators.proofs.applying.item.Statement.{statement}
 use Rattle.sequence_operators.proofs.applying.item.Tie as tie
