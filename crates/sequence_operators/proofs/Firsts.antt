@@ -36,7 +36,7 @@ module _ {s : List ℕ} {base n : ℕ} (h : Has sequence s base) (e : n ≡ word
   unfolding join
   tail-done {m = m} d moved head =
       let b = holds (h .held .here) in
-      let w = pack-start {R = λ vs ds rs. (ds ≡ none) × (rs ≡ vs)} e (h .held) (λ vs. (refl, refl)) in
+      let w = pack-start {R = λ vs ds rs. (ds ≡ none) × (rs ≡ vs)} e (h .held) (refl, refl) in
       let y = run (omega (arith, some)) (w .rest-at) in
       let x : ItemsAt s (base + 4 + m) (base + n) (y .rest) = subst (λ (i : ℕ). ItemsAt s (base + 4 + i) (base + n) (y .rest)) (sym d) (y .rest-at) in
       let end : base + n ≡ base + 4 + m + (n - 4 - m) = omega arith in

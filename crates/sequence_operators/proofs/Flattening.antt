@@ -40,7 +40,7 @@ Flattening s t base end p q = Packing sequence Flat s t base end p q
 
 pub flat-start : {s : List ℕ} {base n : ℕ} → n ≡ word s base → Has sequence s base → Flattening s s base (base + n) (base + 4) (base + 4)
 unfolding join
-flat-start e h = pack-start e (h .held) (λ vs. record { items = refl; kinds = refl })
+flat-start e h = pack-start e (h .held) (record { items = refl; kinds = refl })
 
 -- the first of those left is a sequence, or not
 flat-on : (vs ds us rs : Items) → Flat vs ds (more (collection sequence us) rs) → Flat vs (join ds us) rs

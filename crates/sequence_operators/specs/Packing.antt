@@ -34,7 +34,7 @@ pub record Packing (k : Kind) (R : Items → Items → Items → Type 0) (s t : 
   pub frame : Outside s t (at + 4) end
 
 -- at first nothing is done
-pub pack-start : {k : Kind} {R : Items → Items → Items → Type 0} {s : List ℕ} {at n : ℕ} → n ≡ word s at → HoldsKind k s at → ((vs : Items) → R vs none vs) → Packing k R s s at (at + n) (at + 4) (at + 4)
+pub pack-start : {k : Kind} {R : Items → Items → Items → Type 0} {s : List ℕ} {at n : ℕ} → n ≡ word s at → (h : HoldsKind k s at) → R (h .items) none (h .items) → Packing k R s s at (at + n) (at + 4) (at + 4)
 pack-start {s = s} {at = at} {n = n} e h r =
     let a = h .here in
     let b = holds a in
@@ -43,7 +43,7 @@ pack-start {s = s} {at = at} {n = n} e h r =
       all-at = a;
       done = none;
       rest = h .items;
-      so = r (h .items);
+      so = r;
       done-at = no-items s (at + 4) (omega arith);
       rest-at = items-to e a;
       behind = omega arith;
