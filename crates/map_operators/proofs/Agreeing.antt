@@ -6,15 +6,15 @@ use mathlib.Core.Option.{Option}
 use Prim.Native.Nat.{ℕ, _+_, _≤_, _<_}
 use native.Mathlib.Omega.{arith}
 use Rattle.integers.specs.Bytes.{word}
-use Rattle.values.specs.Value.{map, Value, collection, Items, Paired}
-use Rattle.values.specs.Items.{pick, lookup}
-use Rattle.values.specs.Place.{At, ItemsAt, Holds}
+use Rattle.values.specs.Value.{map, Value, Items, Paired}
+use Rattle.values.specs.Items.{pick}
+use Rattle.values.specs.Place.{ItemsAt, Holds}
 use Rattle.values.specs.Contract.{Equal}
 use Rattle.values.specs.Records.{holds, items-to, items-none, collection-shaped}
 use Rattle.collections.specs.declared.finding.Found.{Found}
 use Rattle.collections.specs.declared.finding.Found.the-variants.{At as Place, Nothing}
 use Rattle.collections.specs.Members.{pick-true, pick-false}
-use Rattle.collections.specs.Finding.{HoldsKind, AtKey, found-at, found-nothing}
+use Rattle.collections.specs.Finding.{AtKey, found-at, found-nothing}
 use Rattle.operators.specs.Answer.{Answer, refused, clash, sized}
 use Rattle.operators.specs.Gather.{everyEntry, enterAll}
 use Rattle.operators.specs.Maps.{agrees, compatible}

@@ -7,7 +7,7 @@ use Prim.Native.Nat.{ℕ, _+_, _-_, _≤_, _<_}
 use native.Mathlib.Omega.{arith}
 use Rattle.integers.specs.Bytes.{word}
 use Rattle.integers.specs.Range.{never}
-use Rattle.values.specs.Value.{set, sequence, map, number, Value, collection, Items, none, more, everyOther, keys, mapped, size}
+use Rattle.values.specs.Value.{set, sequence, map, number, Value, collection, Items, none, more, everyOther, keys, mapped}
 use Rattle.values.specs.Items.{join}
 use Rattle.values.specs.Place.{At, ItemsAt}
 use Rattle.values.specs.Contract.{Movable, Moved, PutHead}

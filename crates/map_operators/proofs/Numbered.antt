@@ -1,11 +1,11 @@
 -- The operators on maps by their numbers. Assumes nothing.
-use mathlib.Core.Path.{_≡_, refl, ap, _∙_}
+use mathlib.Core.Path.{_≡_, ap}
 use mathlib.Core.List.{List}
-use Prim.Native.Nat.{ℕ, _+_, _≤_}
+use Prim.Native.Nat.{ℕ, _≤_}
 use native.Mathlib.Omega.{arith}
 use lib.Dec.{eqb}
 use borrow.Author.Tests.{eqb-true, eqb-false}
-use Rattle.values.specs.Value.{map, Value, Items}
+use Rattle.values.specs.Value.{map}
 use Rattle.values.specs.Contract.{KindAt}
 use Rattle.operators.specs.Answer.{wrongKind}
 use Rattle.operators.specs.Operators.{unary, binary}
@@ -14,7 +14,7 @@ use Rattle.scalars.specs.declared.Applied.{Applied}
 use Rattle.scalars.specs.declared.Applied.the-variants.{Refused}
 use Rattle.scalars.specs.Applied.{OnOne, OnTwo}
 use Rattle.scalars.specs.AppliedLaws.{two-same}
-use Rattle.sequence_operators.specs.Kinds.{off-one}
+use Rattle.sequence_operators.specs.Kinds.{off-one, past, meet}
 use Rattle.map_operators.proofs.Halving.{domained, ranged}
 
 pub not-fourteen : {n : ℕ} → n ≤ 15 → 14 ≤ n → (n ≡ 14 → ⊥) → n ≡ 15
@@ -28,12 +28,6 @@ not-map {n = n} low high r f =
     (λ e. off-one {k = map} {f = ranged} {g = unary n} (λ v. ap (λ (i : ℕ). unary i v) (not-fourteen high low (eqb-false n 14 e))) r f)
 
 -- the last number, where it is none of the others
-past : {n k : ℕ} → k ≤ n → (n ≡ k → ⊥) → 1 + k ≤ n
-past h f = omega (arith, f)
-
-meet : {n k : ℕ} → n ≤ k → k ≤ n → n ≡ k
-meet h g = omega arith
-
 pub last : {n : ℕ} → n ≤ 28 → 25 ≤ n → (n ≡ 25 → ⊥) → (n ≡ 26 → ⊥) → (n ≡ 27 → ⊥) → n ≡ 28
 last high low a b c = meet high (past (past (past low a) b) c)
 

@@ -8,9 +8,8 @@ use Prim.Native.Nat.{ℕ, _+_, _≤_, _<_}
 use native.Mathlib.Omega.{arith}
 use borrow.Author.Tests.{leb-false}
 use lib.Dec.{leb}
-use lib.ListN.{length}
 use Rattle.integers.specs.Bytes.{word}
-use Rattle.values.specs.Value.{map, Value, collection, Items, none, more, everyOther, keys, size, sizes, Ascending, Paired, limit}
+use Rattle.values.specs.Value.{map, Value, collection, Items, more, everyOther, keys, size, sizes, Ascending, Paired, limit}
 use Rattle.values.specs.Items.{pick, same, lookup, enter}
 use Rattle.values.specs.Place.{At, ItemsAt, Outside}
 use Rattle.values.specs.Contract.{Copyable, Copied}
@@ -21,7 +20,7 @@ use Rattle.values.specs.Frame.{outside-none, outside-both, items-below}
 use Rattle.collections.specs.declared.building.Entered.{Entered}
 use Rattle.collections.specs.declared.building.Entered.the-variants.{Done as Put, Clash, Full}
 use Rattle.collections.specs.Entries.{enter-present, paired-enter, ascending-enter}
-use Rattle.collections.specs.Building.{opened, entered, Room, EntryRoom, Maps, Enters}
+use Rattle.collections.specs.Building.{entered, EntryRoom, Maps, Enters}
 use Rattle.operators.specs.Answer.{closed, sized, tooLarge}
 use Rattle.operators.specs.Gather.{enterAll}
 use Rattle.operator_laws.specs.EnumerationLaws.{fits, fits-not}

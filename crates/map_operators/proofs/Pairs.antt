@@ -1,11 +1,11 @@
 -- The first entry of those that stand between two places. Assumes nothing.
-use mathlib.Core.Path.{_≡_, refl, sym, ap, subst, _∙_}
+use mathlib.Core.Path.{_≡_, sym, ap, subst, _∙_}
 use mathlib.Core.Bool.{true, false}
 use mathlib.Core.List.{List}
 use Prim.Native.Nat.{ℕ, _+_, _≤_, _<_}
 use native.Mathlib.Omega.{arith}
 use Rattle.integers.specs.Bytes.{word}
-use Rattle.values.specs.Value.{Value, Items, none, more, size, sizes, PairedFrom, Paired, limit}
+use Rattle.values.specs.Value.{Value, Items, none, more, size, sizes, PairedFrom, Paired}
 use Rattle.values.specs.Place.{At, ItemsAt}
 use Rattle.values.specs.Records.{run}
 use Rattle.values.specs.Encoding.{size-low}

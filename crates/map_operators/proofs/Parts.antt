@@ -2,12 +2,12 @@
 use mathlib.Core.Path.{_≡_, refl, sym, ap, _∙_}
 use mathlib.Core.Bool.{Bool, true, false}
 use mathlib.Core.Option.{Option, none as absent, some}
-use Prim.Native.Nat.{ℕ, _+_, _≤_}
+use Prim.Native.Nat.{ℕ, _≤_}
 use native.Mathlib.Omega.{arith}
 use Rattle.values.specs.Value.{Value, Items, none, more, everyOther, keys, size, sizes, Before, Ascending, PairedFrom, Paired}
 use Rattle.values.specs.Items.{pick, same, lookup, enter}
 use Rattle.values.specs.Laws.{same-equal, order-refl, higher-flip, same-true}
-use Rattle.collections.specs.Members.{pick-true, pick-false, by-order}
+use Rattle.collections.specs.Members.{pick-false, by-order}
 use Rattle.collections.specs.Entries.{by-entries, before-nothing, lookup-first, lookup-none, lookup-here, lookup-before, lookup-enter, paired-enter, ascending-enter, same-entries}
 use Rattle.operators.specs.Gather.{enterAll}
 use Rattle.operator_laws.specs.Tests.{by-test}

@@ -6,9 +6,9 @@ use mathlib.Core.Logic.{inl, inr}
 use Prim.Native.Nat.{ℕ, _+_, _-_, _≤_, _<_}
 use native.Mathlib.Omega.{arith}
 use Rattle.integers.specs.Bytes.{word}
-use Rattle.values.specs.Value.{set, map, number, Value, collection, Items, none, more, keys, size, sizes, Ascending, Paired, Shaped, limit}
+use Rattle.values.specs.Value.{set, map, number, Value, collection, Items, none, more, size, Paired, Shaped}
 use Rattle.values.specs.Items.{join, isMember}
-use Rattle.values.specs.Place.{At, ItemsAt, Outside}
+use Rattle.values.specs.Place.{At, ItemsAt}
 use Rattle.values.specs.Contract.{Movable, Moved, PutHead, Copyable, Copied}
 use Rattle.values.specs.Records.{holds, word-size, one-item, more-of, collection-shaped}
 use Rattle.values.specs.Encoding.{none-sizes, more-sizes}
@@ -21,7 +21,6 @@ use Rattle.operators.specs.Answer.{Answer, is}
 use Rattle.operators.specs.Gather.{keepEntries}
 use Rattle.operator_laws.specs.EntryLaws.{keep-true, keep-false, paired-keep, ascending-keys}
 use Rattle.scalars.specs.declared.Applied.the-variants.{Done}
-use Rattle.scalars.specs.Applied.{Kept}
 use Rattle.scalars.specs.AppliedLaws.{is-done, kept-then, kept-less, copyable-down, copied-kept}
 use Rattle.sequence_operators.specs.Kinds.{HasTwo, OnItems, OnBoth, same-items, both-by}
 use Rattle.sequence_operators.specs.Packing.{Packing, pack-start, pack-past, pack-move, pack-end}

@@ -1,16 +1,15 @@
 -- The number of a sequence's items as an integer, and the integers up to it. Assumes nothing.
 use mathlib.Core.Path.{_≡_, refl, sym, ap, subst, _∙_}
 use mathlib.Core.List.{List}
-use Prim.Native.Nat.{ℕ, _+_, _<_}
+use Prim.Native.Nat.{ℕ, _<_}
 use native.Mathlib.Omega.{arith}
-use lib.IntN.{ℤ, pos}
+use lib.IntN.{pos}
 use mir.Syntax.{w32}
 use mir.Val.{SFits, toZ}
 use mir.Facts.{toZ-ofZ}
 use Rattle.integers.specs.Whole.{greatest, InRange}
 use Rattle.integers.specs.Range.{fits-range}
-use Rattle.values.specs.Value.{Kind, sequence, integer, collection, Items, count, sizes}
-use Rattle.values.specs.Place.{At}
+use Rattle.values.specs.Value.{sequence, integer, Items, count}
 use Rattle.values.specs.Contract.{Put}
 use Rattle.values.specs.Encoding.{collection-size, count-sizes}
 use Rattle.collections.specs.Finding.{Counted}

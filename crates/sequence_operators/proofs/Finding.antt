@@ -2,26 +2,25 @@
 use mathlib.Core.Path.{_≡_, refl, sym, ap, subst, _∙_}
 use mathlib.Core.Bool.{true, false}
 use mathlib.Core.List.{List}
-use mathlib.Core.Option.{Option, none as absent, some}
-use Prim.Native.Nat.{ℕ, zero, suc, _+_, _-_, _≤_, _<_}
+use Prim.Native.Nat.{ℕ, zero, suc, _+_, _-_, _≤_}
 use native.Mathlib.Omega.{arith}
 use lib.IntN.{ℤ, pos, negsuc, natAbs}
 use lib.Signed.{ltZ, nonNeg}
-use lib.Dec.{T, ltb}
-use borrow.Author.Tests.{ltb-true, ltb-false}
+use lib.Dec.{T}
+use borrow.Author.Tests.{ltb-true}
 use mir.Syntax.{w32, w64}
 use mir.Val.{Fits, SFits, ofZ, toZ}
 use mir.ValLaws.{toZ-ofZ}
 use Rattle.integers.specs.Range.{range-fits}
 use Rattle.values.specs.Value.{Kind, set, sequence, map, tuple, number, kindOf, Value, boolean, integer, collection, Items}
-use Rattle.values.specs.Items.{nth, lookup}
-use Rattle.values.specs.Place.{At, Holds}
+use Rattle.values.specs.Items.{nth}
+use Rattle.values.specs.Place.{At}
 use Rattle.values.specs.Contract.{KindAt, Copyable, Copied}
 use Rattle.values.specs.Records.{holds, integer-range, one-value}
 use Rattle.collections.specs.declared.finding.Found.{Found}
 use Rattle.collections.specs.declared.finding.Found.the-variants.{At as Place, Nothing}
-use Rattle.collections.specs.Finding.{Finds, found-at, found-nothing, AtKey, Item}
-use Rattle.operators.specs.Answer.{Answer, is, refused, wrongKind, notThere, asInteger, needs, found}
+use Rattle.collections.specs.Finding.{found-at, found-nothing, AtKey, Item}
+use Rattle.operators.specs.Answer.{Answer, is, refused, wrongKind, notThere, found}
 use Rattle.operators.specs.Sequences.{itemAt}
 use Rattle.operators.specs.Maps.{applyItems, applyTo}
 use Rattle.scalars.specs.declared.Applied.{Applied}

@@ -2,13 +2,12 @@
 use mathlib.Core.Path.{_≡_, refl, sym, ap, subst, _∙_}
 use mathlib.Core.List.{List}
 use mathlib.Core.Logic.{inr}
-use Prim.Native.Nat.{ℕ, _+_, _-_, _≤_, _<_}
+use Prim.Native.Nat.{ℕ, _+_, _-_}
 use native.Mathlib.Omega.{arith}
-use lib.ListN.{length}
 use Rattle.integers.specs.Bytes.{word}
-use Rattle.values.specs.Value.{Kind, sequence, number, Value, collection, Items, none, more}
+use Rattle.values.specs.Value.{Kind, sequence, number, collection, Items, none}
 use Rattle.values.specs.Items.{join}
-use Rattle.values.specs.Place.{At, ItemsAt}
+use Rattle.values.specs.Place.{ItemsAt}
 use Rattle.values.specs.Contract.{Movable, Moved, Copied, PutHead}
 use Rattle.values.specs.Records.{Run, run, holds, items-to, items-none, no-items}
 use Rattle.operators.specs.Answer.{Answer, is, refused}

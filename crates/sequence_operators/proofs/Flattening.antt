@@ -1,24 +1,21 @@
 -- The loop of `flatten`: the items of the sequences passed stand together. Assumes nothing.
 use mathlib.Core.Path.{_≡_, refl, sym, ap, subst, _∙_}
-use mathlib.Core.Bool.{Bool, true, false, _&&_}
+use mathlib.Core.Bool.{Bool, false, _&&_}
 use mathlib.Core.List.{List}
 use mathlib.Core.Logic.{inr}
 use Prim.Native.Nat.{ℕ, _+_, _-_, _≤_, _<_}
 use native.Mathlib.Omega.{arith}
-use lib.Dec.{eqb}
-use lib.ListN.{length}
 use borrow.Author.Tests.{ne-eqb}
 use Rattle.integers.specs.Bytes.{word}
-use Rattle.values.specs.Value.{Kind, sequence, number, Value, collection, Items, none, more, size, sizes, limit}
+use Rattle.values.specs.Value.{sequence, number, Value, collection, Items, none, more}
 use Rattle.values.specs.Items.{pick, join}
 use Rattle.values.specs.Place.{At, ItemsAt}
 use Rattle.values.specs.Contract.{KindAt, Movable, Moved, PutHead}
-use Rattle.values.specs.Records.{Run, run, holds, items-to, word-size}
-use Rattle.values.specs.Encoding.{collection-size, size-low, join-sizes}
+use Rattle.values.specs.Records.{Run, run, items-to}
 use Rattle.collections.specs.Members.{pick-true, pick-false}
 use Rattle.collections.specs.Joined.{join-none, join-join}
 use Rattle.operators.specs.Answer.{Answer, is, refused, wrongKind, closed, sized}
-use Rattle.operators.specs.Gather.{every, isKind, itemsOf, flatten}
+use Rattle.operators.specs.Gather.{every, isKind, flatten}
 use Rattle.operator_laws.specs.KindLaws.{kind-is, kind-test}
 use Rattle.operator_laws.specs.EnumerationLaws.{fits}
 use Rattle.scalars.specs.declared.Applied.the-variants.{Done, Refused}

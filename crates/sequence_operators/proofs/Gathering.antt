@@ -7,7 +7,7 @@ use native.Mathlib.Omega.{arith}
 use lib.ListN.{length}
 use borrow.Author.Tests.{le-leb}
 use Rattle.integers.specs.Bytes.{word}
-use Rattle.values.specs.Value.{set, sequence, Value, collection, Items, none, more, size, sizes, limit, Ascending}
+use Rattle.values.specs.Value.{set, sequence, collection, Items, none, size, sizes, limit, Ascending}
 use Rattle.values.specs.Items.{insert}
 use Rattle.values.specs.Place.{At, ItemsAt, Outside}
 use Rattle.values.specs.Contract.{Copyable, Copied}
@@ -15,8 +15,7 @@ use Rattle.values.specs.Records.{Run, run, holds, items-to, items-none}
 use Rattle.values.specs.Encoding.{collection-size, none-sizes, more-sizes}
 use Rattle.values.specs.Frame.{outside-none, outside-both, at-below, items-below}
 use Rattle.collections.specs.declared.building.Added.{Added}
-use Rattle.collections.specs.declared.building.Added.the-variants.{Done as Put, Full}
-use Rattle.collections.specs.Building.{added, Room, Empties, Inserts}
+use Rattle.collections.specs.Building.{Room, Empties, Inserts}
 use Rattle.operators.specs.Answer.{Answer, is}
 use Rattle.operators.specs.Gather.{insertAll}
 use Rattle.operator_laws.specs.GatherLaws.{sizes-most}

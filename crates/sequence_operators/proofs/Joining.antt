@@ -1,20 +1,20 @@
 -- Two sequences one after the other. Assumes nothing.
-use mathlib.Core.Path.{_≡_, sym, ap, subst, _∙_}
+use mathlib.Core.Path.{_≡_, sym, ap, subst}
 use mathlib.Core.List.{List}
 use mathlib.Core.Logic.{inr}
 use Prim.Native.Nat.{ℕ, _+_, _-_, _≤_, _<_}
 use native.Mathlib.Omega.{arith}
 use lib.ListN.{take, drop}
 use Rattle.integers.specs.Bytes.{word}
-use Rattle.values.specs.Value.{sequence, number, collection, Items, sizes, limit}
+use Rattle.values.specs.Value.{sequence, number, Items, sizes, limit}
 use Rattle.values.specs.Items.{join}
-use Rattle.values.specs.Place.{At, ItemsAt}
+use Rattle.values.specs.Place.{ItemsAt}
 use Rattle.values.specs.Contract.{Movable, Moved, PutHead}
 use Rattle.values.specs.Records.{holds, items-to, joined}
 use Rattle.values.specs.Encoding.{join-sizes}
 use Rattle.values.specs.Frame.{items-moved, items-below, outside-then}
 use Rattle.values.specs.Written.{closed}
-use Rattle.operators.specs.Answer.{Answer, is, refused, closed as answered, sized}
+use Rattle.operators.specs.Answer.{Answer, closed as answered, sized}
 use Rattle.operator_laws.specs.EnumerationLaws.{fits, fits-not}
 use Rattle.scalars.specs.declared.Applied.the-variants.{Done, Refused}
 use Rattle.scalars.specs.AppliedLaws.{is-done, kept-outside}

@@ -1,5 +1,5 @@
 -- The unary operators on sequences by their numbers. Assumes nothing.
-use mathlib.Core.Path.{_≡_, refl, sym, ap, subst, _∙_}
+use mathlib.Core.Path.{_≡_, refl, subst}
 use mathlib.Core.List.{List}
 use Prim.Native.Nat.{ℕ, zero, suc, _+_, _-_, _≤_}
 use native.Mathlib.Omega.{arith}
@@ -9,7 +9,7 @@ use Rattle.operators.specs.Answer.{Answer, wrongKind, asSequence, needs}
 use Rattle.operators.specs.Operators.{unary}
 use Rattle.scalars.specs.declared.Applied.the-variants.{Refused}
 use Rattle.scalars.specs.Applied.{OnOne}
-use Rattle.sequence_operators.specs.Kinds.{off-one}
+use Rattle.sequence_operators.specs.Kinds.{off-one, past, meet}
 
 -- It asks for a sequence.
 pub record Asks (n : ℕ) : Type 0 where
@@ -34,11 +34,5 @@ not-sequence {n = n} low high r f =
     off-one (a .is) r f
 
 -- the last number, where it is none of the others
-past : {n k : ℕ} → k ≤ n → (n ≡ k → ⊥) → suc k ≤ n
-past h f = omega (arith, f)
-
-meet : {n k : ℕ} → n ≤ k → k ≤ n → n ≡ k
-meet h g = omega arith
-
 pub last : {n : ℕ} → n ≤ 13 → 7 ≤ n → (n ≡ 7 → ⊥) → (n ≡ 8 → ⊥) → (n ≡ 9 → ⊥) → (n ≡ 10 → ⊥) → (n ≡ 11 → ⊥) → (n ≡ 12 → ⊥) → n ≡ 13
 last high low a b c d e f = meet high (past (past (past (past (past (past low a) b) c) d) e) f)

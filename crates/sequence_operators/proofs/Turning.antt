@@ -1,13 +1,13 @@
 -- The loop of `reverse`: what is put back is the last part of the items turned round. Assumes nothing.
 use mathlib.Core.Path.{_≡_, refl, sym, ap, subst, _∙_}
-use mathlib.Core.List.{List, [], _∷_}
+use mathlib.Core.List.{List}
 use mathlib.Core.Logic.{inl, inr}
 use Prim.Native.Nat.{ℕ, _+_, _-_, _≤_, _<_}
 use native.Mathlib.Omega.{arith}
 use lib.ListN.{length, take, drop}
 use lib.Seq.{take-take}
 use Rattle.integers.specs.Bytes.{word}
-use Rattle.values.specs.Value.{Kind, number, sequence, Value, collection, Items, none, more, size, sizes, encode, limit}
+use Rattle.values.specs.Value.{Kind, number, sequence, collection, Items, none, more, size, sizes, encode}
 use Rattle.values.specs.Items.{join}
 use Rattle.values.specs.Place.{At, ItemsAt, Outside}
 use Rattle.values.specs.Contract.{Copyable, Copied}
@@ -19,7 +19,7 @@ use Rattle.collections.specs.Joined.{join-none, join-join}
 use Rattle.operators.specs.Answer.{Answer, is}
 use Rattle.operators.specs.Gather.{backwards}
 use Rattle.scalars.specs.declared.Applied.the-variants.{Done}
-use Rattle.scalars.specs.AppliedLaws.{is-done, kept-then, kept-outside, copied-kept}
+use Rattle.scalars.specs.AppliedLaws.{is-done, kept-then, kept-outside}
 use Rattle.sequence_operators.specs.Kinds.{Has, OnItems, same-items, items-by}
 
 -- what reverse answers on the items of its operand

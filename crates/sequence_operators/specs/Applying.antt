@@ -7,7 +7,7 @@ use Rattle.values.specs.Value.{Kind, Value, collection, Items}
 use Rattle.values.specs.Place.{At, Holds}
 use Rattle.collections.specs.declared.finding.Found.{Found}
 use Rattle.collections.specs.Finding.{HoldsKind, Finds}
-use Rattle.operators.specs.Answer.{Answer, found}
+use Rattle.operators.specs.Answer.{found}
 use Rattle.operators.specs.Maps.{applyItems}
 use Rattle.scalars.specs.declared.Applied.{Applied}
 use Rattle.scalars.specs.Applied.{Applies, Kept}

@@ -3,7 +3,8 @@ use mathlib.Core.Path.{_≡_, sym, ap, subst, _∙_}
 use mathlib.Core.List.{List}
 use mathlib.Core.Bool.{Bool, true, false, _&&_}
 use mathlib.Core.Option.{Option}
-use Prim.Native.Nat.{ℕ, _+_, _≤_}
+use Prim.Native.Nat.{ℕ, suc, _+_, _≤_}
+use native.Mathlib.Omega.{arith}
 use lib.Dec.{eqb}
 use lib.ListN.{length}
 use borrow.Author.Tests.{eqb-true, eqb-false}
@@ -13,7 +14,7 @@ use Rattle.values.specs.Contract.{KindAt}
 use Rattle.values.specs.Records.{one-value}
 use Rattle.collections.specs.Finding.{HoldsKind}
 use Rattle.operators.specs.Answer.{Answer, refused, wrongKind, asKind, needs, needsBoth}
-use Rattle.operators.specs.Operators.{unary, binary}
+use Rattle.operators.specs.Operators.{unary}
 use Rattle.operator_laws.specs.KindLaws.{kind-is, kind-not, kind-view}
 use Rattle.operator_laws.specs.Tests.{and-parts, by-test}
 use Rattle.scalars.specs.declared.Applied.{Applied}
@@ -132,6 +133,9 @@ module _ {k l : Kind} {f : Items → Items → Answer} {g : Value → Value → 
 pub on-unary : {k : Kind} {f : Items → Answer} {n m : ℕ} → n ≡ m → ((v : Value) → unary m v ≡ needs (asKind k v) f) → {s t : List ℕ} {base : ℕ} {r : Applied} → Has k s base → OnItems k f s t base r → OnOne (unary n) s t base r
 on-unary e f = on-one (λ v. ap (λ (i : ℕ). unary i v) e ∙ f v)
 
-pub on-binary : {k l : Kind} {f : Items → Items → Answer} {n m : ℕ} → n ≡ m → ((v w : Value) → binary m v w ≡ needsBoth (asKind k v) (asKind l w) f) → {s t : List ℕ} {base : ℕ} {r : Applied} → HasTwo k l s base → OnBoth k l f s t base r
-    → OnTwo (binary n) s t base r
-on-binary e f = on-two (λ v w. ap (λ (i : ℕ). binary i v w) e ∙ f v w)
+-- The last number, where it is none of the others: k at least, and not k; and k at most.
+pub past : {n k : ℕ} → k ≤ n → (n ≡ k → ⊥) → suc k ≤ n
+past h f = omega (arith, f)
+
+pub meet : {n k : ℕ} → n ≤ k → k ≤ n → n ≡ k
+meet h g = omega arith

@@ -1,10 +1,10 @@
 -- Items moved together within a collection, over what is left out. Those that are done stand right after the heading, in order; those that are
 -- left stand where they stood.
-use mathlib.Core.Path.{_≡_, sym, ap, subst}
+use mathlib.Core.Path.{_≡_, sym, subst}
 use mathlib.Core.List.{List}
-use Prim.Native.Nat.{ℕ, _+_, _≤_, _<_}
+use Prim.Native.Nat.{ℕ, _+_, _≤_}
 use native.Mathlib.Omega.{arith}
-use lib.ListN.{length, take, drop}
+use lib.ListN.{take, drop}
 use Rattle.integers.specs.Bytes.{word}
 use Rattle.values.specs.Value.{Kind, number, collection, Items, none, sizes, Shaped, limit}
 use Rattle.values.specs.Items.{join}

@@ -1,33 +1,24 @@
+-- `agrees` meets its contract.
 use Rattle.map_operators.proofs.Agreeing.{found-holds, found-agrees, nothing-agrees}
 use borrow.Author.Needs.{needs}
 use Rattle.map_operators.proofs.agrees.Statement.{statement}
 use Rattle.map_operators.proofs.agrees.Tie as tie
-use Rattle.map_operators.proofs.agrees.Reads as reads
-use Rattle.map_operators.proofs.agrees.Lts as lts
-use Rattle.collections.proofs.finding.find_key.Reads as find-key-reads
-use Rattle.values.proofs.equal.Reads as equal-reads
 
--- src/lib.rt:86:9
 find-key-requires : tie.Need-find-key-requires
 find-key-requires c κs = search needs
 
--- src/lib.rt:88:19
 enum-known-found : tie.Need-enum-known-found
 enum-known-found c = search needs
 
--- src/lib.rt:88:25
 equal-requires : tie.Need-equal-requires
 equal-requires c κs = (c .before .before .before .before .before .pre .value, found-holds (c .before .before .before .find-key .ensures) (c .before .found .given .1) (c .before .before .before .before .before .pre))
 
--- src/lib.rt:89:27
 enum-told : tie.Need-enum-told
 enum-told c = search needs
 
--- src/lib.rt:82:1
 returns : tie.Need-returns
 returns c = found-agrees (c .before .before .before .before .find-key .ensures) (c .before .before .found .given .1) (c .equal .ensures)
 
--- src/lib.rt:82:1
 returns-2 : tie.Need-returns-2
 returns-2 c = nothing-agrees (c .before .before .find-key .ensures) (c .enum-told .given .1)
 

@@ -1,3 +1,4 @@
+-- `merge` meets its contract.
 use mathlib.Core.Path.{refl}
 use Rattle.values.specs.Value.{map}
 use Rattle.operators.specs.Operators.{binary}
@@ -6,47 +7,33 @@ use Rattle.map_operators.proofs.Agreeing.{merged, merge-done, merge-cla
 use borrow.Author.Needs.{needs}
 use Rattle.map_operators.proofs.merge.Statement.{statement}
 use Rattle.map_operators.proofs.merge.Tie as tie
-use Rattle.map_operators.proofs.merge.Reads as reads
-use Rattle.map_operators.proofs.merge.Lts as lts
-use Rattle.map_operators.proofs.compatible.Reads as compatible-reads
-use Rattle.map_operators.proofs.enter_all.Reads as enter-all-reads
-use Rattle.sequence_operators.proofs.kinds_are.Reads as kinds-are-reads
 
--- src/lib.rt:140:8
 kinds-are-requires : tie.Need-kinds-are-requires
 kinds-are-requires c κs = search needs
 
--- src/lib.rt:141:12
 compatible-requires : tie.Need-compatible-requires
 compatible-requires c κs = has-two map map (c .before .before .before .before .before .pre) (c .before .before .kinds-are .ensures) (c .before .if1 .taken)
 
--- src/lib.rt:142:13
 enter-all-requires : tie.Need-enter-all-requires
 enter-all-requires c κs = has-two map map (c .before .before .before .before .before .before .before .before .pre) (c .before .before .before .before .before .kinds-are .ensures) (c .before .before .before .before .if1 .taken)
 
--- src/lib.rt:142:13
 same-length : tie.Need-same-length
 same-length c = search needs
 
--- src/lib.rt:142:13
 returns : tie.Need-returns
 unfolding binary
 returns c = let h = has-two map map (c .before .before .before .before .before .before .before .before .before .before .before .pre) (c .before .before .before .before .before .before .before .before .kinds-are .ensures) (c .before .before .before .before .before .before .before .if1 .taken) in on-two (λ v w. refl) h (merge-done h (c .before .before .before .before .before .compatible .ensures) (c .before .before .before .before .if2 .taken) (c .before .before .enter-all .ensures))
 
--- src/lib.rt:144:9
 same-length-2 : tie.Need-same-length-2
 same-length-2 c = search needs
 
--- src/lib.rt:144:9
 returns-2 : tie.Need-returns-2
 unfolding binary
 returns-2 c = let h = has-two map map (c .before .before .before .before .before .before .before .pre) (c .before .before .before .before .kinds-are .ensures) (c .before .before .before .if1 .taken) in on-two (λ v w. refl) h (merge-clash h (c .before .compatible .ensures) (c .if2 .left))
 
--- src/lib.rt:136:1
 same-length-3 : tie.Need-same-length-3
 same-length-3 c = search needs
 
--- src/lib.rt:136:1
 returns-3 : tie.Need-returns-3
 unfolding binary
 returns-3 c = off-two {k = map} {l = map} {f = merged} (λ v w. refl) (c .before .kinds-are .ensures) (c .if1 .left)

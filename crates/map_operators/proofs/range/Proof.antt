@@ -1,26 +1,19 @@
+-- `range` meets its contract.
 use native.Mathlib.Omega.{arith}
 use Rattle.map_operators.proofs.Halving.{values-one, range-done}
 use borrow.Author.Needs.{needs}
 use Rattle.map_operators.proofs.range.Statement.{statement}
 use Rattle.map_operators.proofs.range.Tie as tie
-use Rattle.map_operators.proofs.range.Reads as reads
-use Rattle.map_operators.proofs.range.Lts as lts
-use Rattle.map_operators.proofs.every_other.Reads as every-other-reads
-use Rattle.sequence_operators.proofs.unary_sequence.Reads as unary-sequence-reads
 
--- src/lib.rt:61:5
 every-other-requires : tie.Need-every-other-requires
 every-other-requires c κs = search needs
 
--- src/lib.rt:62:5
 unary-sequence-requires : tie.Need-unary-sequence-requires
 unary-sequence-requires c κs = (values-one (c .before .before .before .before .before .before .pre) (c .before .before .before .every-other .ensures), omega arith, omega arith)
 
--- src/lib.rt:57:1
 same-length : tie.Need-same-length
 same-length c = search needs
 
--- src/lib.rt:57:1
 returns : tie.Need-returns
 returns c = range-done (c .before .before .before .before .before .before .before .before .before .pre) (c .before .before .before .before .before .before .every-other .ensures) (c .before .before .unary-sequence .ensures)
 

@@ -1,3 +1,4 @@
+-- `replace` meets its contract.
 use mathlib.Core.Path.{refl}
 use Rattle.values.specs.Value.{map}
 use Rattle.operators.specs.Operators.{binary}
@@ -6,33 +7,23 @@ use Rattle.map_operators.proofs.Agreeing.{over}
 use borrow.Author.Needs.{needs}
 use Rattle.map_operators.proofs.replace.Statement.{statement}
 use Rattle.map_operators.proofs.replace.Tie as tie
-use Rattle.map_operators.proofs.replace.Reads as reads
-use Rattle.map_operators.proofs.replace.Lts as lts
-use Rattle.map_operators.proofs.enter_all.Reads as enter-all-reads
-use Rattle.sequence_operators.proofs.kinds_are.Reads as kinds-are-reads
 
--- src/lib.rt:154:8
 kinds-are-requires : tie.Need-kinds-are-requires
 kinds-are-requires c κs = search needs
 
--- src/lib.rt:155:9
 enter-all-requires : tie.Need-enter-all-requires
 enter-all-requires c κs = has-two map map (c .before .before .before .before .before .pre) (c .before .before .kinds-are .ensures) (c .before .if1 .taken)
 
--- src/lib.rt:155:9
 same-length : tie.Need-same-length
 same-length c = search needs
 
--- src/lib.rt:155:9
 returns : tie.Need-returns
 unfolding binary
 returns c = on-two (λ v w. refl) (has-two map map (c .before .before .before .before .before .before .before .before .pre) (c .before .before .before .before .before .kinds-are .ensures) (c .before .before .before .before .if1 .taken)) (c .before .before .enter-all .ensures)
 
--- src/lib.rt:150:1
 same-length-2 : tie.Need-same-length-2
 same-length-2 c = search needs
 
--- src/lib.rt:150:1
 returns-2 : tie.Need-returns-2
 unfolding binary
 returns-2 c = off-two {k = map} {l = map} {f = over} (λ v w. refl) (c .before .kinds-are .ensures) (c .if1 .left)

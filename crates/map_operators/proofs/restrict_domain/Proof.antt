@@ -1,3 +1,4 @@
+-- `restrict_domain` meets its contract.
 use mathlib.Core.Path.{refl}
 use Rattle.values.specs.Value.{set, map}
 use Rattle.operators.specs.Operators.{binary}
@@ -6,46 +7,32 @@ use Rattle.map_operators.proofs.Restricting.{onDomain, domain-restricta
 use borrow.Author.Needs.{needs}
 use Rattle.map_operators.proofs.restrict_domain.Statement.{statement}
 use Rattle.map_operators.proofs.restrict_domain.Tie as tie
-use Rattle.map_operators.proofs.restrict_domain.Reads as reads
-use Rattle.map_operators.proofs.restrict_domain.Lts as lts
-use Rattle.map_operators.proofs.restrict.Reads as restrict-reads
-use Rattle.sequence_operators.proofs.kinds_are.Reads as kinds-are-reads
-use Rattle.values.proofs.copy_value.Reads as copy-value-reads
 
--- src/lib.rt:198:8
 kinds-are-requires : tie.Need-kinds-are-requires
 kinds-are-requires c κs = search needs
 
--- src/lib.rt:199:21
 add-restrict : tie.Need-add-restrict
 add-restrict c = search needs
 
--- src/lib.rt:199:9
 restrict-requires : tie.Need-restrict-requires
 restrict-requires c κs = domain-restrictable (has-two set map (c .before .before .before .before .before .pre) (c .before .before .kinds-are .ensures) (c .before .if1 .taken))
 
--- src/lib.rt:200:31
 add-copy-value : tie.Need-add-copy-value
 add-copy-value c = search needs
 
--- src/lib.rt:200:9
 copy-value-requires : tie.Need-copy-value-requires
 copy-value-requires c κs = domain-copyable (has-two set map (c .before .before .before .before .before .before .before .before .before .pre) (c .before .before .before .before .before .before .kinds-are .ensures) (c .before .before .before .before .before .if1 .taken)) (c .before .before .before .restrict .ensures)
 
--- src/lib.rt:201:9
 same-length : tie.Need-same-length
 same-length c = search needs
 
--- src/lib.rt:201:9
 returns : tie.Need-returns
 unfolding binary
 returns c = let h = has-two set map (c .before .before .before .before .before .before .before .before .before .before .before .before .pre) (c .before .before .before .before .before .before .before .before .before .kinds-are .ensures) (c .before .before .before .before .before .before .before .before .if1 .taken) in on-two (λ v w. refl) h (domain-restricted h (c .before .before .before .before .before .before .restrict .ensures) (c .before .before .copy-value .ensures))
 
--- src/lib.rt:194:1
 same-length-2 : tie.Need-same-length-2
 same-length-2 c = search needs
 
--- src/lib.rt:194:1
 returns-2 : tie.Need-returns-2
 unfolding binary
 returns-2 c = off-two {k = set} {l = map} {f = onDomain} (λ v w. refl) (c .before .kinds-are .ensures) (c .if1 .left)

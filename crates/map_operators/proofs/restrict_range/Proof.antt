@@ -1,3 +1,4 @@
+-- `restrict_range` meets its contract.
 use mathlib.Core.Path.{refl}
 use Rattle.values.specs.Value.{set, map}
 use Rattle.operators.specs.Operators.{binary}
@@ -6,37 +7,26 @@ use Rattle.map_operators.proofs.Restricting.{onRange, range-restrictabl
 use borrow.Author.Needs.{needs}
 use Rattle.map_operators.proofs.restrict_range.Statement.{statement}
 use Rattle.map_operators.proofs.restrict_range.Tie as tie
-use Rattle.map_operators.proofs.restrict_range.Reads as reads
-use Rattle.map_operators.proofs.restrict_range.Lts as lts
-use Rattle.map_operators.proofs.restrict.Reads as restrict-reads
-use Rattle.sequence_operators.proofs.kinds_are.Reads as kinds-are-reads
 
--- src/lib.rt:211:8
 kinds-are-requires : tie.Need-kinds-are-requires
 kinds-are-requires c κs = search needs
 
--- src/lib.rt:212:27
 add-restrict : tie.Need-add-restrict
 add-restrict c = search needs
 
--- src/lib.rt:212:9
 restrict-requires : tie.Need-restrict-requires
 restrict-requires c κs = range-restrictable (has-two map set (c .before .before .before .before .before .pre) (c .before .before .kinds-are .ensures) (c .before .if1 .taken))
 
--- src/lib.rt:213:9
 same-length : tie.Need-same-length
 same-length c = search needs
 
--- src/lib.rt:213:9
 returns : tie.Need-returns
 unfolding binary
 returns c = let h = has-two map set (c .before .before .before .before .before .before .before .before .pre) (c .before .before .before .before .before .kinds-are .ensures) (c .before .before .before .before .if1 .taken) in on-two (λ v w. refl) h (range-restricted h (c .before .before .restrict .ensures))
 
--- src/lib.rt:207:1
 same-length-2 : tie.Need-same-length-2
 same-length-2 c = search needs
 
--- src/lib.rt:207:1
 returns-2 : tie.Need-returns-2
 unfolding binary
 returns-2 c = off-two {k = map} {l = set} {f = onRange} (λ v w. refl) (c .before .kinds-are .ensures) (c .if1 .left)

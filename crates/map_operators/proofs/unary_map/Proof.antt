@@ -1,3 +1,4 @@
+-- `unary_map` meets its contract, by what it calls.
 use mathlib.Core.Path.{refl}
 use Rattle.values.specs.Value.{map}
 use Rattle.operators.specs.Operators.{unary}
@@ -6,46 +7,32 @@ use Rattle.map_operators.proofs.Numbered.{not-map, not-fourteen}
 use borrow.Author.Needs.{needs}
 use Rattle.map_operators.proofs.unary_map.Statement.{statement}
 use Rattle.map_operators.proofs.unary_map.Tie as tie
-use Rattle.map_operators.proofs.unary_map.Reads as reads
-use Rattle.map_operators.proofs.unary_map.Lts as lts
-use Rattle.map_operators.proofs.domain.Reads as domain-reads
-use Rattle.map_operators.proofs.range.Reads as range-reads
-use Rattle.values.proofs.kind_of.Reads as kind-of-reads
 
--- src/lib.rt:70:9
 kind-of-requires : tie.Need-kind-of-requires
 kind-of-requires c κs = search needs
 
--- src/lib.rt:72:9
 same-length : tie.Need-same-length
 same-length c = search needs
 
--- src/lib.rt:72:9
 returns : tie.Need-returns
 returns c = not-map (c .before .before .before .before .pre .1) (c .before .before .before .before .pre .2) (c .before .kind-of .ensures) (c .if1 .taken)
 
--- src/lib.rt:75:9
 domain-requires : tie.Need-domain-requires
 domain-requires c κs = has map (c .before .before .before .before .before .before .pre .0) (c .before .before .before .kind-of .ensures) (c .before .before .if1 .left)
 
--- src/lib.rt:75:9
 same-length-2 : tie.Need-same-length-2
 same-length-2 c = search needs
 
--- src/lib.rt:75:9
 returns-2 : tie.Need-returns-2
 unfolding unary
 returns-2 c = on-unary {m = 14} (c .before .before .before .before .if2 .taken) (λ v. refl) (has map (c .before .before .before .before .before .before .before .before .before .pre .0) (c .before .before .before .before .before .before .kind-of .ensures) (c .before .before .before .before .before .if1 .left)) (c .before .before .domain .ensures)
 
--- src/lib.rt:77:5
 range-requires : tie.Need-range-requires
 range-requires c κs = has map (c .before .before .before .before .before .before .pre .0) (c .before .before .before .kind-of .ensures) (c .before .before .if1 .left)
 
--- src/lib.rt:66:1
 same-length-3 : tie.Need-same-length-3
 same-length-3 c = search needs
 
--- src/lib.rt:66:1
 returns-3 : tie.Need-returns-3
 unfolding unary
 returns-3 c = on-unary {m = 15} (not-fourteen (c .before .before .before .before .before .before .before .before .before .pre .2) (c .before .before .before .before .before .before .before .before .before .pre .1) (c .before .before .before .before .if2 .left)) (λ v. refl) (has map (c .before .before .before .before .before .before .before .before .before .pre .0) (c .before .before .before .before .before .before .kind-of .ensures) (c .before .before .before .before .before .if1 .left)) (c .before .before .range .ensures)

@@ -1,3 +1,4 @@
+-- `concatenate` meets its contract.
 use mathlib.Core.Path.{refl}
 use Rattle.values.specs.Value.{sequence}
 use Rattle.operators.specs.Operators.{binary}
@@ -6,33 +7,23 @@ use Rattle.sequence_operators.proofs.Joining.{concatenated}
 use borrow.Author.Needs.{needs}
 use Rattle.sequence_operators.proofs.concatenate.Statement.{statement}
 use Rattle.sequence_operators.proofs.concatenate.Tie as tie
-use Rattle.sequence_operators.proofs.concatenate.Reads as reads
-use Rattle.sequence_operators.proofs.concatenate.Lts as lts
-use Rattle.sequence_operators.proofs.join.Reads as join-reads
-use Rattle.sequence_operators.proofs.kinds_are.Reads as kinds-are-reads
 
--- src/lib.rt:153:8
 kinds-are-requires : tie.Need-kinds-are-requires
 kinds-are-requires c κs = search needs
 
--- src/lib.rt:154:9
 join-requires : tie.Need-join-requires
 join-requires c κs = has-two sequence sequence (c .before .before .before .before .before .pre) (c .before .before .kinds-are .ensures) (c .before .if1 .taken)
 
--- src/lib.rt:154:9
 same-length : tie.Need-same-length
 same-length c = search needs
 
--- src/lib.rt:154:9
 returns : tie.Need-returns
 unfolding binary
 returns c = on-two (λ v w. refl) (has-two sequence sequence (c .before .before .before .before .before .before .before .before .pre) (c .before .before .before .before .before .kinds-are .ensures) (c .before .before .before .before .if1 .taken)) (c .before .before .join .ensures)
 
--- src/lib.rt:149:1
 same-length-2 : tie.Need-same-length-2
 same-length-2 c = search needs
 
--- src/lib.rt:149:1
 returns-2 : tie.Need-returns-2
 unfolding binary
 returns-2 c = off-two {k = sequence} {l = sequence} {f = concatenated} (λ v w. refl) (c .before .kinds-are .ensures) (c .if1 .left)

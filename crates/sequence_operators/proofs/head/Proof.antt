@@ -1,3 +1,4 @@
+-- `head` meets its contract.
 use mathlib.Core.Path.{refl}
 use native.Mathlib.Omega.{arith}
 use Rattle.values.specs.Records.{holds}
@@ -6,36 +7,25 @@ use Rattle.sequence_operators.proofs.Firsts.{none-off, first, head-done
 use borrow.Author.Needs.{needs}
 use Rattle.sequence_operators.proofs.head.Statement.{statement}
 use Rattle.sequence_operators.proofs.head.Tie as tie
-use Rattle.sequence_operators.proofs.head.Reads as reads
-use Rattle.sequence_operators.proofs.head.Lts as lts
-use Rattle.values.proofs.copy_value.Reads as copy-value-reads
-use Rattle.values.proofs.length_of.Reads as length-of-reads
 
--- src/lib.rt:35:9
 length-of-requires : tie.Need-length-of-requires
 length-of-requires c κs = holds (c .before .before .pre .held .here)
 
--- src/lib.rt:37:9
 same-length : tie.Need-same-length
 same-length c = search needs
 
--- src/lib.rt:37:9
 returns : tie.Need-returns
 returns c = none-off (c .before .length-of .ensures .is) (c .if1 .taken) refl
 
--- src/lib.rt:39:27
 add-copy-value : tie.Need-add-copy-value
 add-copy-value c = search needs
 
--- src/lib.rt:39:5
 copy-value-requires : tie.Need-copy-value-requires
 copy-value-requires c κs = copyable-down (omega arith) (holds (first (c .before .before .before .before .before .pre) (c .before .before .length-of .ensures .is) (c .before .if1 .left) .first-at))
 
--- src/lib.rt:31:1
 same-length-2 : tie.Need-same-length-2
 same-length-2 c = search needs
 
--- src/lib.rt:31:1
 returns-2 : tie.Need-returns-2
 returns-2 c = head-done (c .before .before .before .before .before .before .before .before .pre) (c .before .before .before .before .before .length-of .ensures .is) (c .before .before .before .before .if1 .left) (c .before .before .copy-value .ensures)
 

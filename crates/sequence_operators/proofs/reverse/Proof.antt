@@ -1,13 +1,10 @@
+-- `reverse` meets its contract: what is put back is the last part of the items turned round.
 use Prim.Native.Nat.{_+_, _-_}
 use native.Mathlib.Omega.{arith}
 use Rattle.values.specs.Records.{holds}
 use Rattle.sequence_operators.proofs.Turning.{Turning, turn-copyable, turn-start, turn-run, turn-low, turn-copyable-on, turn-step, turn-end}
 use Rattle.sequence_operators.proofs.reverse.Statement.{statement}
 use Rattle.sequence_operators.proofs.reverse.Tie as tie
-use Rattle.sequence_operators.proofs.reverse.Reads as reads
-use Rattle.sequence_operators.proofs.reverse.Lts as lts
-use Rattle.values.proofs.copy_value.Reads as copy-value-reads
-use Rattle.values.proofs.length_of.Reads as length-of-reads
 
 abbrev Inv-loop : tie.InvT-loop
 Inv-loop s₀ base n end p₀ q₀ s p q = Turning s₀ s base n p q
@@ -15,67 +12,51 @@ Inv-loop s₀ base n end p₀ q₀ s p q = Turning s₀ s base n p q
 abbrev μ-loop : tie.MeasureT-loop
 μ-loop s₀ base n end p₀ q₀ s p q = base + 512 + n - p
 
--- src/lib.rt:105:9
 length-of-requires : tie.Need-length-of-requires Inv-loop μ-loop
 length-of-requires c κs = holds (c .before .before .pre .held .here)
 
--- src/lib.rt:106:33
 add-copy-value : tie.Need-add-copy-value Inv-loop μ-loop
 add-copy-value c = omega arith
 
--- src/lib.rt:106:5
 copy-value-requires : tie.Need-copy-value-requires Inv-loop μ-loop
 copy-value-requires c κs = turn-copyable (c .before .before .before .before .pre) (c .before .length-of .ensures .is)
 
--- src/lib.rt:107:15
 add-end : tie.Need-add-end Inv-loop μ-loop
 add-end c = omega arith
 
--- src/lib.rt:107:15
 add-end-2 : tie.Need-add-end-2 Inv-loop μ-loop
 add-end-2 c = omega arith
 
--- src/lib.rt:108:17
 add-p : tie.Need-add-p Inv-loop μ-loop
 add-p c = omega arith
 
--- src/lib.rt:109:17
 add-q : tie.Need-add-q Inv-loop μ-loop
 add-q c = omega arith
 
--- src/lib.rt:110:5
 loop-holds : tie.Need-loop-holds Inv-loop μ-loop
 loop-holds c = turn-start (c .before .before .before .before .before .before .before .pre) (c .before .before .before .before .length-of .ensures .is) (c .before .before .copy-value .ensures)
 
--- src/lib.rt:111:13
 length-of-requires-2 : tie.Need-length-of-requires-2 Inv-loop μ-loop
 length-of-requires-2 c κs = holds (turn-run (c .before .before .loop .inv) (omega arith) .first-at)
 
--- src/lib.rt:112:9
 sub-q : tie.Need-sub-q Inv-loop μ-loop
 sub-q c = let l = turn-low (c .before .before .before .loop .inv) (omega arith) (c .length-of2 .ensures .is) in omega arith
 
--- src/lib.rt:113:9
 copy-value-requires-2 : tie.Need-copy-value-requires-2 Inv-loop μ-loop
 copy-value-requires-2 c κs = turn-copyable-on (c .before .before .before .before .loop .inv) (omega arith) (c .before .length-of2 .ensures .is)
 
--- src/lib.rt:114:9
 add-p-2 : tie.Need-add-p-2 Inv-loop μ-loop
 add-p-2 c = let y = turn-run (c .before .before .before .before .before .before .before .loop .inv) (omega arith) in omega arith
 
--- src/lib.rt:110:5
 loop-less : tie.Need-loop-less Inv-loop μ-loop
 loop-less c = let y = turn-run (c .before .before .before .before .before .before .before .loop .inv) (omega arith) in omega arith
 
--- src/lib.rt:110:5
 loop-again : tie.Need-loop-again Inv-loop μ-loop
 loop-again c = turn-step (c .before .before .before .before .before .before .before .loop .inv) (omega arith) (c .before .before .before .before .length-of2 .ensures .is) (c .before .before .copy-value2 .ensures)
 
--- src/lib.rt:101:1
 same-length : tie.Need-same-length Inv-loop μ-loop
 same-length c = omega arith
 
--- src/lib.rt:101:1
 returns : tie.Need-returns Inv-loop μ-loop
 returns c = turn-end (c .before .loop .inv) (omega arith) (c .before .before .before .before .before .before .before .before .before .pre) (c .before .before .before .before .copy-value .ensures)
 

@@ -1,3 +1,4 @@
+-- `tail` meets its contract.
 use mathlib.Core.Path.{refl}
 use native.Mathlib.Omega.{arith}
 use Rattle.values.specs.Records.{holds}
@@ -5,69 +6,49 @@ use Rattle.sequence_operators.proofs.Firsts.{none-off, first, tail-mova
 use borrow.Author.Needs.{needs}
 use Rattle.sequence_operators.proofs.tail.Statement.{statement}
 use Rattle.sequence_operators.proofs.tail.Tie as tie
-use Rattle.sequence_operators.proofs.tail.Reads as reads
-use Rattle.sequence_operators.proofs.tail.Lts as lts
-use Rattle.values.proofs.copy_bytes.Reads as copy-bytes-reads
-use Rattle.values.proofs.length_of.Reads as length-of-reads
-use Rattle.values.proofs.put_head.Reads as put-head-reads
 
--- src/lib.rt:48:9
 length-of-requires : tie.Need-length-of-requires
 length-of-requires c κs = holds (c .before .before .pre .held .here)
 
--- src/lib.rt:50:9
 same-length : tie.Need-same-length
 same-length c = search needs
 
--- src/lib.rt:50:9
 returns : tie.Need-returns
 returns c = none-off (c .before .length-of .ensures .is) (c .if1 .taken) refl
 
--- src/lib.rt:52:38
 add-length-of : tie.Need-add-length-of
 add-length-of c = search needs
 
--- src/lib.rt:52:9
 length-of-requires-2 : tie.Need-length-of-requires-2
 length-of-requires-2 c κs = holds (first (c .before .before .before .before .before .pre) (c .before .before .length-of .ensures .is) (c .before .if1 .left) .first-at)
 
--- src/lib.rt:53:27
 add-copy-bytes : tie.Need-add-copy-bytes
 add-copy-bytes c = search needs
 
--- src/lib.rt:53:27
 add-copy-bytes-2 : tie.Need-add-copy-bytes-2
 add-copy-bytes-2 c = search needs
 
--- src/lib.rt:53:45
 add-copy-bytes-3 : tie.Need-add-copy-bytes-3
 add-copy-bytes-3 c = search needs
 
--- src/lib.rt:53:55
 sub-copy-bytes : tie.Need-sub-copy-bytes
 sub-copy-bytes c = search needs
 
--- src/lib.rt:53:55
 sub-copy-bytes-2 : tie.Need-sub-copy-bytes-2
 sub-copy-bytes-2 c = let y = first (c .before .before .before .before .before .before .before .pre) (c .before .before .before .before .length-of .ensures .is) (c .before .before .before .if1 .left) in omega arith
 
--- src/lib.rt:53:5
 copy-bytes-requires : tie.Need-copy-bytes-requires
 copy-bytes-requires c κs = tail-movable (c .before .before .before .before .before .before .before .pre) (c .before .before .before .before .length-of .ensures .is) (c .before .before .before .if1 .left) (c .before .length-of2 .ensures .is)
 
--- src/lib.rt:54:31
 sub-put-head : tie.Need-sub-put-head
 sub-put-head c = let y = first (c .before .before .before .before .before .before .before .before .before .before .before .pre) (c .before .before .before .before .before .before .before .before .length-of .ensures .is) (c .before .before .before .before .before .before .before .if1 .left) in omega arith
 
--- src/lib.rt:54:5
 put-head-requires : tie.Need-put-head-requires
 put-head-requires c κs = search needs
 
--- src/lib.rt:44:1
 same-length-2 : tie.Need-same-length-2
 same-length-2 c = search needs
 
--- src/lib.rt:44:1
 returns-2 : tie.Need-returns-2
 returns-2 c = tail-done (c .before .before .before .before .before .before .before .before .before .before .before .before .before .before .pre) (c .before .before .before .before .before .before .before .before .before .before .before .length-of .ensures .is) (c .before .before .before .before .before .before .before .before .before .before .if1 .left) (c .before .before .before .before .before .before .before .before .length-of2 .ensures .is) (c .before .before .before .before .before .before .copy-bytes .ensures) (c .before .before .put-head .ensures)
 

@@ -1,5 +1,5 @@
+-- `unary_sequence` meets its contract, by what it calls.
 use mathlib.Core.Path.{refl}
-use native.Mathlib.Omega.{arith}
 use Rattle.values.specs.Value.{sequence}
 use Rattle.operators.specs.Operators.{unary}
 use Rattle.sequence_operators.specs.Kinds.{has, on-unary}
@@ -7,116 +7,82 @@ use Rattle.sequence_operators.proofs.Numbered.{not-sequence, last}
 use borrow.Author.Needs.{needs}
 use Rattle.sequence_operators.proofs.unary_sequence.Statement.{statement}
 use Rattle.sequence_operators.proofs.unary_sequence.Tie as tie
-use Rattle.sequence_operators.proofs.unary_sequence.Reads as reads
-use Rattle.sequence_operators.proofs.unary_sequence.Lts as lts
-use Rattle.sequence_operators.proofs.elements.Reads as elements-reads
-use Rattle.sequence_operators.proofs.flatten.Reads as flatten-reads
-use Rattle.sequence_operators.proofs.head.Reads as head-reads
-use Rattle.sequence_operators.proofs.indexes.Reads as indexes-reads
-use Rattle.sequence_operators.proofs.len.Reads as len-reads
-use Rattle.sequence_operators.proofs.reverse.Reads as reverse-reads
-use Rattle.sequence_operators.proofs.tail.Reads as tail-reads
-use Rattle.values.proofs.kind_of.Reads as kind-of-reads
 
--- src/lib.rt:133:9
 kind-of-requires : tie.Need-kind-of-requires
 kind-of-requires c κs = search needs
 
--- src/lib.rt:135:9
 same-length : tie.Need-same-length
 same-length c = search needs
 
--- src/lib.rt:135:9
 returns : tie.Need-returns
 returns c = not-sequence (c .before .before .before .before .pre .1) (c .before .before .before .before .pre .2) (c .before .kind-of .ensures) (c .if1 .taken)
 
--- src/lib.rt:138:14
 len-requires : tie.Need-len-requires
 len-requires c κs = has sequence (c .before .before .before .before .before .before .pre .0) (c .before .before .before .kind-of .ensures) (c .before .before .if1 .left)
 
--- src/lib.rt:139:14
 head-requires : tie.Need-head-requires
 head-requires c κs = has sequence (c .before .before .before .before .before .before .pre .0) (c .before .before .before .kind-of .ensures) (c .before .before .if1 .left)
 
--- src/lib.rt:140:14
 tail-requires : tie.Need-tail-requires
 tail-requires c κs = has sequence (c .before .before .before .before .before .before .pre .0) (c .before .before .before .kind-of .ensures) (c .before .before .if1 .left)
 
--- src/lib.rt:141:15
 elements-requires : tie.Need-elements-requires
 elements-requires c κs = has sequence (c .before .before .before .before .before .before .pre .0) (c .before .before .before .kind-of .ensures) (c .before .before .if1 .left)
 
--- src/lib.rt:142:15
 indexes-requires : tie.Need-indexes-requires
 indexes-requires c κs = has sequence (c .before .before .before .before .before .before .pre .0) (c .before .before .before .kind-of .ensures) (c .before .before .if1 .left)
 
--- src/lib.rt:143:15
 flatten-requires : tie.Need-flatten-requires
 flatten-requires c κs = has sequence (c .before .before .before .before .before .before .pre .0) (c .before .before .before .kind-of .ensures) (c .before .before .if1 .left)
 
--- src/lib.rt:144:14
 reverse-requires : tie.Need-reverse-requires
 reverse-requires c κs = has sequence (c .before .before .before .before .before .before .pre .0) (c .before .before .before .kind-of .ensures) (c .before .before .if1 .left)
 
--- src/lib.rt:129:1
 same-length-2 : tie.Need-same-length-2
 same-length-2 c = search needs
 
--- src/lib.rt:129:1
 returns-2 : tie.Need-returns-2
 unfolding unary
 returns-2 c = on-unary {m = 7} (c .before .before .before .before .match .keys1) (λ v. refl) (has sequence (c .before .before .before .before .before .before .before .before .before .pre .0) (c .before .before .before .before .before .before .kind-of .ensures) (c .before .before .before .before .before .if1 .left)) (c .before .before .len .ensures)
 
--- src/lib.rt:129:1
 same-length-3 : tie.Need-same-length-3
 same-length-3 c = search needs
 
--- src/lib.rt:129:1
 returns-3 : tie.Need-returns-3
 unfolding unary
 returns-3 c = on-unary {m = 8} (c .before .before .before .before .match .keys2) (λ v. refl) (has sequence (c .before .before .before .before .before .before .before .before .before .pre .0) (c .before .before .before .before .before .before .kind-of .ensures) (c .before .before .before .before .before .if1 .left)) (c .before .before .head .ensures)
 
--- src/lib.rt:129:1
 same-length-4 : tie.Need-same-length-4
 same-length-4 c = search needs
 
--- src/lib.rt:129:1
 returns-4 : tie.Need-returns-4
 unfolding unary
 returns-4 c = on-unary {m = 9} (c .before .before .before .before .match .keys3) (λ v. refl) (has sequence (c .before .before .before .before .before .before .before .before .before .pre .0) (c .before .before .before .before .before .before .kind-of .ensures) (c .before .before .before .before .before .if1 .left)) (c .before .before .tail .ensures)
 
--- src/lib.rt:129:1
 same-length-5 : tie.Need-same-length-5
 same-length-5 c = search needs
 
--- src/lib.rt:129:1
 returns-5 : tie.Need-returns-5
 unfolding unary
 returns-5 c = on-unary {m = 10} (c .before .before .before .before .match .keys4) (λ v. refl) (has sequence (c .before .before .before .before .before .before .before .before .before .pre .0) (c .before .before .before .before .before .before .kind-of .ensures) (c .before .before .before .before .before .if1 .left)) (c .before .before .elements .ensures)
 
--- src/lib.rt:129:1
 same-length-6 : tie.Need-same-length-6
 same-length-6 c = search needs
 
--- src/lib.rt:129:1
 returns-6 : tie.Need-returns-6
 unfolding unary
 returns-6 c = on-unary {m = 11} (c .before .before .before .before .match .keys5) (λ v. refl) (has sequence (c .before .before .before .before .before .before .before .before .before .pre .0) (c .before .before .before .before .before .before .kind-of .ensures) (c .before .before .before .before .before .if1 .left)) (c .before .before .indexes .ensures)
 
--- src/lib.rt:129:1
 same-length-7 : tie.Need-same-length-7
 same-length-7 c = search needs
 
--- src/lib.rt:129:1
 returns-7 : tie.Need-returns-7
 unfolding unary
 returns-7 c = on-unary {m = 12} (c .before .before .before .before .match .keys6) (λ v. refl) (has sequence (c .before .before .before .before .before .before .before .before .before .pre .0) (c .before .before .before .before .before .before .kind-of .ensures) (c .before .before .before .before .before .if1 .left)) (c .before .before .flatten .ensures)
 
--- src/lib.rt:129:1
 same-length-8 : tie.Need-same-length-8
 same-length-8 c = search needs
 
--- src/lib.rt:129:1
 returns-8 : tie.Need-returns-8
 unfolding unary
 returns-8 c = let r = c .before .before .before .before .match .rest in on-unary {m = 13} (last (c .before .before .before .before .before .before .before .before .before .pre .2) (c .before .before .before .before .before .before .before .before .before .pre .1) (r .0 .0 .0 .0 .0 .1) (r .0 .0 .0 .0 .1) (r .0 .0 .0 .1) (r .0 .0 .1) (r .0 .1) (r .1)) (λ v. refl) (has sequence (c .before .before .before .before .before .before .before .before .before .pre .0) (c .before .before .before .before .before .before .kind-of .ensures) (c .before .before .before .before .before .if1 .left)) (c .before .before .reverse .ensures)

@@ -1,29 +1,21 @@
+-- `applying::at_key` meets its contract.
 use Rattle.sequence_operators.proofs.Finding.{key-sought, key-done}
 use borrow.Author.Needs.{needs}
 use Rattle.sequence_operators.proofs.applying.at_key.Statement.{statement}
 use Rattle.sequence_operators.proofs.applying.at_key.Tie as tie
-use Rattle.sequence_operators.proofs.applying.at_key.Reads as reads
-use Rattle.sequence_operators.proofs.applying.at_key.Lts as lts
-use Rattle.collections.proofs.finding.find_key.Reads as find-key-reads
-use Rattle.sequence_operators.proofs.applying.bring.Reads as bring-reads
 
--- src/applying.rt:45:57
 add-find-key : tie.Need-add-find-key
 add-find-key c = search needs
 
--- src/applying.rt:45:9
 find-key-requires : tie.Need-find-key-requires
 find-key-requires c κs = search needs
 
--- src/applying.rt:46:5
 bring-requires : tie.Need-bring-requires
 bring-requires c κs = key-sought (c .before .find-key .ensures) (c .before .before .before .before .pre)
 
--- src/applying.rt:41:1
 same-length : tie.Need-same-length
 same-length c = search needs
 
--- src/applying.rt:41:1
 returns : tie.Need-returns
 returns c = key-done (c .before .before .before .before .find-key .ensures) (c .before .before .bring .ensures)
 

@@ -1,67 +1,48 @@
+-- `applying::item` meets its contract.
 use Rattle.sequence_operators.proofs.Finding.{item-wrong, item-off, index-of, item-sought, item-done}
 use borrow.Author.Needs.{needs}
 use Rattle.sequence_operators.proofs.applying.item.Statement.{statement}
 use Rattle.sequence_operators.proofs.applying.item.Tie as tie
-use Rattle.sequence_operators.proofs.applying.item.Reads as reads
-use Rattle.sequence_operators.proofs.applying.item.Lts as lts
-use Rattle.collections.proofs.finding.item_at.Reads as item-at-reads
-use Rattle.sequence_operators.proofs.applying.bring.Reads as bring-reads
-use Rattle.values.proofs.integer_at.Reads as integer-at-reads
-use Rattle.values.proofs.kind_of.Reads as kind-of-reads
 
--- src/applying.rt:28:35
 add-kind-of : tie.Need-add-kind-of
 add-kind-of c = search needs
 
--- src/applying.rt:28:9
 kind-of-requires : tie.Need-kind-of-requires
 kind-of-requires c κs = search needs
 
--- src/applying.rt:30:9
 same-length : tie.Need-same-length
 same-length c = search needs
 
--- src/applying.rt:30:9
 returns : tie.Need-returns
 returns c = item-wrong (c .before .kind-of .ensures) (c .if1 .taken)
 
--- src/applying.rt:32:35
 add-integer-at : tie.Need-add-integer-at
 add-integer-at c = search needs
 
--- src/applying.rt:32:9
 integer-at-requires : tie.Need-integer-at-requires
 integer-at-requires c κs = search needs
 
--- src/applying.rt:34:9
 same-length-2 : tie.Need-same-length-2
 same-length-2 c = search needs
 
--- src/applying.rt:34:9
 returns-2 : tie.Need-returns-2
 returns-2 c = item-off (c .before .integer-at .ensures) (c .if2 .taken)
 
--- src/applying.rt:36:56
 cast-item-at : tie.Need-cast-item-at
 cast-item-at c = let i = index-of (c .before .before .integer-at .ensures) (c .before .if2 .left) in (i .natural, i .fits)
 
--- src/applying.rt:36:56
 sub-item-at : tie.Need-sub-item-at
 sub-item-at c = index-of (c .before .before .integer-at .ensures) (c .before .if2 .left) .low
 
--- src/applying.rt:36:9
 item-at-requires : tie.Need-item-at-requires
 item-at-requires c κs = search needs
 
--- src/applying.rt:37:5
 bring-requires : tie.Need-bring-requires
 bring-requires c κs = item-sought (c .before .before .before .before .integer-at .ensures) (c .before .before .before .if2 .left) (c .before .item-at .ensures) (c .before .before .before .before .before .before .before .before .before .before .pre)
 
--- src/applying.rt:24:1
 same-length-3 : tie.Need-same-length-3
 same-length-3 c = search needs
 
--- src/applying.rt:24:1
 returns-3 : tie.Need-returns-3
 returns-3 c = item-done (c .before .before .before .before .before .before .before .integer-at .ensures) (c .before .before .before .before .before .before .if2 .left) (c .before .before .before .before .item-at .ensures) (c .before .before .bring .ensures)
 
