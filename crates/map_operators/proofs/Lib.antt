@@ -1,0 +1,7 @@
+mod Pairs
+mod Halving
+mod Agreeing
+mod Parts
+mod Overriding
+mod Restricting
+mod Numbered

@@ -1,0 +1,35 @@
+-- The operators on maps by their numbers. Assumes nothing.
+use mathlib.Core.Path.{_≡_, ap}
+use mathlib.Core.List.{List}
+use Prim.Native.Nat.{ℕ, _≤_}
+use native.Mathlib.Omega.{arith}
+use lib.Dec.{eqb}
+use borrow.Author.Tests.{eqb-true, eqb-false}
+use Rattle.values.specs.Value.{map}
+use Rattle.values.specs.Contract.{KindAt}
+use Rattle.operators.specs.Answer.{wrongKind}
+use Rattle.operators.specs.Operators.{unary, binary}
+use Rattle.operator_laws.specs.Tests.{by-test}
+use Rattle.scalars.specs.declared.Applied.{Applied}
+use Rattle.scalars.specs.declared.Applied.the-variants.{Refused}
+use Rattle.scalars.specs.Applied.{OnOne, OnTwo}
+use Rattle.scalars.specs.AppliedLaws.{two-same}
+use Rattle.sequence_operators.specs.Kinds.{off-one, past, meet}
+use Rattle.map_operators.proofs.Halving.{domained, ranged}
+
+pub not-fourteen : {n : ℕ} → n ≤ 15 → 14 ≤ n → (n ≡ 14 → ⊥) → n ≡ 15
+not-fourteen high low f = omega (arith, f)
+
+pub not-map : {s : List ℕ} {base kind n : ℕ} → 14 ≤ n → n ≤ 15 → KindAt s base kind → (kind ≡ 5 → ⊥) → OnOne (unary n) s s base (Refused wrongKind)
+unfolding unary
+not-map {n = n} low high r f =
+    by-test (eqb n 14)
+    (λ e. off-one {k = map} {f = domained} {g = unary n} (λ v. ap (λ (i : ℕ). unary i v) (eqb-true n 14 e)) r f)
+    (λ e. off-one {k = map} {f = ranged} {g = unary n} (λ v. ap (λ (i : ℕ). unary i v) (not-fourteen high low (eqb-false n 14 e))) r f)
+
+-- the last number, where it is none of the others
+pub last : {n : ℕ} → n ≤ 28 → 25 ≤ n → (n ≡ 25 → ⊥) → (n ≡ 26 → ⊥) → (n ≡ 27 → ⊥) → n ≡ 28
+last high low a b c = meet high (past (past (past low a) b) c)
+
+pub by-number : {n m : ℕ} → n ≡ m → {s t : List ℕ} {base : ℕ} {r : Applied} → OnTwo (binary m) s t base r → OnTwo (binary n) s t base r
+by-number e = two-same (λ v w. ap (λ (i : ℕ). binary i v w) e)

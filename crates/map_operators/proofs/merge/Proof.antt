@@ -1,0 +1,53 @@
+-- `merge` meets its contract.
+use mathlib.Core.Path.{refl}
+use Rattle.values.specs.Value.{map}
+use Rattle.operators.specs.Operators.{binary}
+use Rattle.sequence_operators.specs.Kinds.{has-two, off-two, on-two}
+use Rattle.map_operators.proofs.Agreeing.{merged, merge-done, merge-clash}
+use borrow.Author.Needs.{needs}
+use Rattle.map_operators.proofs.merge.Statement.{statement}
+use Rattle.map_operators.proofs.merge.Tie as tie
+
+kinds-are-requires : tie.Need-kinds-are-requires
+kinds-are-requires c κs = search needs
+
+compatible-requires : tie.Need-compatible-requires
+compatible-requires c κs = has-two map map (c .before .before .before .before .before .pre) (c .before .before .kinds-are .ensures) (c .before .if1 .taken)
+
+enter-all-requires : tie.Need-enter-all-requires
+enter-all-requires c κs = has-two map map (c .before .before .before .before .before .before .before .before .pre) (c .before .before .before .before .before .kinds-are .ensures) (c .before .before .before .before .if1 .taken)
+
+same-length : tie.Need-same-length
+same-length c = search needs
+
+returns : tie.Need-returns
+unfolding binary
+returns c = let h = has-two map map (c .before .before .before .before .before .before .before .before .before .before .before .pre) (c .before .before .before .before .before .before .before .before .kinds-are .ensures) (c .before .before .before .before .before .before .before .if1 .taken) in on-two (λ v w. refl) h (merge-done h (c .before .before .before .before .before .compatible .ensures) (c .before .before .before .before .if2 .taken) (c .before .before .enter-all .ensures))
+
+same-length-2 : tie.Need-same-length-2
+same-length-2 c = search needs
+
+returns-2 : tie.Need-returns-2
+unfolding binary
+returns-2 c = let h = has-two map map (c .before .before .before .before .before .before .before .pre) (c .before .before .before .before .kinds-are .ensures) (c .before .before .before .if1 .taken) in on-two (λ v w. refl) h (merge-clash h (c .before .compatible .ensures) (c .if2 .left))
+
+same-length-3 : tie.Need-same-length-3
+same-length-3 c = search needs
+
+returns-3 : tie.Need-returns-3
+unfolding binary
+returns-3 c = off-two {k = map} {l = map} {f = merged} (λ v w. refl) (c .before .kinds-are .ensures) (c .if1 .left)
+
+pub merge-spec : {M : Type 1} → statement M
+merge-spec =
+    tie.close
+    (tie.spec
+    kinds-are-requires
+    compatible-requires
+    enter-all-requires
+    same-length
+    returns
+    same-length-2
+    returns-2
+    same-length-3
+    returns-3)

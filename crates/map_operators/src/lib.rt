@@ -1,0 +1,230 @@
+// The operators on maps, on values in scratch.
+use collections::building::Entered;
+use collections::finding::Found;
+use scalars::Applied;
+ghost use Prim.Native.Nat.{_≤_};
+ghost use Rattle.values.specs.Value.{set, sequence, map, collection, none, everyOther, keys, mapped};
+ghost use Rattle.operators.specs.Answer.{is, sized};
+ghost use Rattle.operators.specs.Gather.{insertAll, enterAll};
+ghost use Rattle.operators.specs.Operators.{unary, binary};
+ghost use Rattle.scalars.specs.declared.Applied.the-variants.{Done};
+ghost use Rattle.scalars.specs.Applied.{One, Two, OnOne, OnTwo};
+ghost use Rattle.sequence_operators.specs.Kinds.{Has, HasTwo, OnItems, OnBoth};
+ghost use Rattle.map_operators.specs.Contract.{Beside, Agrees, Passes, Compatible, Restrictable, Restricts};
+
+// The kinds that operands have and values are given.
+const SET: usize = 3;
+
+const SEQUENCE: usize = 4;
+
+const MAP: usize = 5;
+
+// ---- one map
+
+// The keys of a map, or the values that they are mapped to, move together and are a sequence.
+fn every_other(s: &mut [u8], base: usize, keys: bool)
+    requires { ⌜ Has map (now s) base ⌝ }
+    ensures { λ _. ⌜ OnItems map (λ vs. is (collection sequence (everyOther keys vs))) (now (s .entry)) (now (s .exit)) base Done ⌝ }
+{
+    let end = base + values::length_of(s, base);
+    let mut p = base + 4;
+    let mut q = base + 4;
+    let mut wanted = keys;
+    while p < end {
+        let n = values::length_of(s, p);
+        let next = p + n;
+        if wanted {
+            values::copy_bytes(s, p, q, n);
+            q += n;
+        }
+        wanted = !wanted;
+        p = next;
+    }
+    values::put_head(s, base, q - base, SEQUENCE);
+}
+
+// 14 dom: the keys ascend, so they are a set as they stand.
+fn domain(s: &mut [u8], base: usize) -> Applied
+    requires { ⌜ Has map (now s) base ⌝ }
+    ensures { λ r. ⌜ OnItems map (λ vs. is (collection set (keys vs))) (now (s .entry)) (now (s .exit)) base r ⌝ }
+{
+    every_other(s, base, true);
+    collections::building::retag(s, base, SET);
+    Applied::Done
+}
+
+// 15 rng: the elements of the sequence of values.
+fn range(s: &mut [u8], base: usize) -> Applied
+    requires { ⌜ Has map (now s) base ⌝ }
+    ensures { λ r. ⌜ OnItems map (λ vs. is (collection set (insertAll none (mapped vs)))) (now (s .entry)) (now (s .exit)) base r ⌝ }
+{
+    every_other(s, base, false);
+    sequence_operators::unary_sequence(s, base, 10)
+}
+
+// The unary operators 14 and 15.
+pub fn unary_map(s: &mut [u8], base: usize, operator: usize) -> Applied
+    requires { ⌜ One (now s) base × (14 ≤ operator) × (operator ≤ 15) ⌝ }
+    ensures { λ r. ⌜ OnOne (unary operator) (now (s .entry)) (now (s .exit)) base r ⌝ }
+{
+    let kind = values::kind_of(s, base);
+    if kind != MAP {
+        return Applied::Refused(Applied::WRONG_KIND);
+    }
+    if operator == 14 {
+        return domain(s, base);
+    }
+    range(s, base)
+}
+
+// ---- two maps
+
+// What the map at a place has at a key is this value, if it has anything there.
+fn agrees(s: &[u8], at: usize, k: usize, v: usize) -> bool
+    requires { ⌜ Beside map (now s) at k v ⌝ }
+    ensures { λ r. ⌜ Agrees (now (s .entry)) at k v r ⌝ }
+{
+    let found = collections::finding::find_key(s, at, k);
+    match found {
+        Found::At(w) => values::equal(s, v, w),
+        Found::Nothing => true,
+    }
+}
+
+// Whether any common key is mapped to the same value by both maps.
+fn compatible(s: &[u8], base: usize) -> bool
+    requires { ⌜ HasTwo map map (now s) base ⌝ }
+    ensures { λ r. ⌜ Compatible (now (s .entry)) base r ⌝ }
+{
+    let end = base + 512 + values::length_of(s, base + 512);
+    let mut p = base + 516;
+    while p < end {
+        let v = p + values::length_of(s, p);
+        if agrees(s, base, p, v) {
+            p = v + values::length_of(s, v);
+        } else {
+            return false;
+        }
+    }
+    true
+}
+
+// The entries of the first map go into the second, where what stands there wins. What is built is always a part of the whole, so 28 is
+// given exactly where the whole is over 512 bytes.
+fn enter_all(s: &mut [u8], base: usize) -> Applied
+    requires { ⌜ HasTwo map map (now s) base ⌝ }
+    ensures { λ r. ⌜ OnBoth map map (λ vs ws. sized map (enterAll vs ws)) (now (s .entry)) (now (s .exit)) base r ⌝ }
+{
+    let end = base + values::length_of(s, base);
+    let mut p = base + 4;
+    while p < end {
+        let v = p + values::length_of(s, p);
+        let next = v + values::length_of(s, v);
+        match collections::building::enter(s, base + 512, p, v) {
+            Entered::Done => {}
+            Entered::Clash => {}
+            Entered::Full => {
+                return Applied::Refused(Applied::TOO_LARGE);
+            }
+        }
+        p = next;
+    }
+    values::copy_value(s, base + 512, base);
+    Applied::Done
+}
+
+// 25 munion
+fn merge(s: &mut [u8], base: usize) -> Applied
+    requires { ⌜ Two (now s) base ⌝ }
+    ensures { λ r. ⌜ OnTwo (binary 25) (now (s .entry)) (now (s .exit)) base r ⌝ }
+{
+    if sequence_operators::kinds_are(s, base, MAP, MAP) {
+        if compatible(s, base) {
+            return enter_all(s, base);
+        }
+        return Applied::Refused(Applied::CLASH);
+    }
+    Applied::Refused(Applied::WRONG_KIND)
+}
+
+// 26 ++
+fn replace(s: &mut [u8], base: usize) -> Applied
+    requires { ⌜ Two (now s) base ⌝ }
+    ensures { λ r. ⌜ OnTwo (binary 26) (now (s .entry)) (now (s .exit)) base r ⌝ }
+{
+    if sequence_operators::kinds_are(s, base, MAP, MAP) {
+        return enter_all(s, base);
+    }
+    Applied::Refused(Applied::WRONG_KIND)
+}
+
+// ---- a map and a set
+
+// Whether the key, or the value, is in the set at a place.
+fn passes(s: &[u8], at: usize, k: usize, v: usize, keys: bool) -> bool
+    requires { ⌜ Beside set (now s) at k v ⌝ }
+    ensures { λ r. ⌜ Passes keys (now (s .entry)) at k v r ⌝ }
+{
+    if keys {
+        return collections::finding::contains(s, at, k);
+    }
+    collections::finding::contains(s, at, v)
+}
+
+// Of the map at a place only the entries stay whose key, or whose value, is in the set at another. They move together.
+fn restrict(s: &mut [u8], at: usize, of: usize, keys: bool)
+    requires { ⌜ Restrictable (now s) at of ⌝ }
+    ensures { λ _. ⌜ Restricts keys (now (s .entry)) (now (s .exit)) at of ⌝ }
+{
+    let end = at + values::length_of(s, at);
+    let mut p = at + 4;
+    let mut q = at + 4;
+    while p < end {
+        let v = p + values::length_of(s, p);
+        let next = v + values::length_of(s, v);
+        if passes(s, of, p, v, keys) {
+            values::copy_bytes(s, p, q, next - p);
+            q += next - p;
+        }
+        p = next;
+    }
+    values::put_head(s, at, q - at, MAP);
+}
+
+// 27 <:
+fn restrict_domain(s: &mut [u8], base: usize) -> Applied
+    requires { ⌜ Two (now s) base ⌝ }
+    ensures { λ r. ⌜ OnTwo (binary 27) (now (s .entry)) (now (s .exit)) base r ⌝ }
+{
+    if sequence_operators::kinds_are(s, base, SET, MAP) {
+        restrict(s, base + 512, base, true);
+        values::copy_value(s, base + 512, base);
+        return Applied::Done;
+    }
+    Applied::Refused(Applied::WRONG_KIND)
+}
+
+// 28 :>
+fn restrict_range(s: &mut [u8], base: usize) -> Applied
+    requires { ⌜ Two (now s) base ⌝ }
+    ensures { λ r. ⌜ OnTwo (binary 28) (now (s .entry)) (now (s .exit)) base r ⌝ }
+{
+    if sequence_operators::kinds_are(s, base, MAP, SET) {
+        restrict(s, base, base + 512, false);
+        return Applied::Done;
+    }
+    Applied::Refused(Applied::WRONG_KIND)
+}
+
+// The binary operators 25 to 28.
+pub fn binary_map(s: &mut [u8], base: usize, operator: usize) -> Applied
+    requires { ⌜ Two (now s) base × (25 ≤ operator) × (operator ≤ 28) ⌝ }
+    ensures { λ r. ⌜ OnTwo (binary operator) (now (s .entry)) (now (s .exit)) base r ⌝ }
+{
+    match operator {
+        25 => merge(s, base),
+        26 => replace(s, base),
+        27 => restrict_domain(s, base),
+        _ => restrict_range(s, base),
+    }
+}

@@ -1,0 +1,9 @@
+mod Counts
+mod Firsts
+mod Flattening
+mod Gathering
+mod Turning
+mod Joining
+mod Finding
+mod Tested
+mod Numbered

@@ -1,0 +1,188 @@
+// The operators on sequences, on values in scratch; and applying a sequence or a map.
+pub mod applying;
+
+use scalars::Applied;
+use values::Value;
+ghost use Prim.Native.Nat.{_+_, _≤_};
+ghost use lib.IntN.{pos};
+ghost use Rattle.values.specs.Value.{set, sequence, integer, collection, none, count};
+ghost use Rattle.values.specs.Items.{pick, join};
+ghost use Rattle.operators.specs.Answer.{is, refused, wrongKind, sized};
+ghost use Rattle.operators.specs.Gather.{every, insertAll, isKind, flatten, backwards};
+ghost use Rattle.operators.specs.Sets.{counting};
+ghost use Rattle.operators.specs.Sequences.{headOf, tailOf};
+ghost use Rattle.operators.specs.Operators.{unary, binary};
+ghost use Rattle.scalars.specs.Applied.{One, Two, OnOne, OnTwo};
+ghost use Rattle.sequence_operators.specs.Kinds.{Has, HasTwo, OnItems, OnBoth, KindsAre};
+
+// The kinds that operands have and values are given.
+const SET: usize = 3;
+
+const SEQUENCE: usize = 4;
+
+// ---- one sequence
+
+// 7 len
+fn len(s: &mut [u8], base: usize) -> Applied
+    requires { ⌜ Has sequence (now s) base ⌝ }
+    ensures { λ r. ⌜ OnItems sequence (λ vs. is (integer (pos (count vs)))) (now (s .entry)) (now (s .exit)) base r ⌝ }
+{
+    let n = collections::finding::count_of(s, base);
+    values::put_integer(s, base, n as i32);
+    Applied::Done
+}
+
+// 8 hd
+fn head(s: &mut [u8], base: usize) -> Applied
+    requires { ⌜ Has sequence (now s) base ⌝ }
+    ensures { λ r. ⌜ OnItems sequence headOf (now (s .entry)) (now (s .exit)) base r ⌝ }
+{
+    let n = values::length_of(s, base);
+    if n == 4 {
+        return Applied::Refused(Applied::NOT_THERE);
+    }
+    values::copy_value(s, base + 4, base);
+    Applied::Done
+}
+
+// 9 tl: what follows the first item moves down over it.
+fn tail(s: &mut [u8], base: usize) -> Applied
+    requires { ⌜ Has sequence (now s) base ⌝ }
+    ensures { λ r. ⌜ OnItems sequence tailOf (now (s .entry)) (now (s .exit)) base r ⌝ }
+{
+    let n = values::length_of(s, base);
+    if n == 4 {
+        return Applied::Refused(Applied::NOT_THERE);
+    }
+    let first = values::length_of(s, base + 4);
+    values::copy_bytes(s, base + 4 + first, base + 4, n - 4 - first);
+    values::put_head(s, base, n - first, SEQUENCE);
+    Applied::Done
+}
+
+// 10 elems: every item goes into an empty set.
+fn elements(s: &mut [u8], base: usize) -> Applied
+    requires { ⌜ Has sequence (now s) base ⌝ }
+    ensures { λ r. ⌜ OnItems sequence (λ vs. is (collection set (insertAll none vs))) (now (s .entry)) (now (s .exit)) base r ⌝ }
+{
+    let end = base + values::length_of(s, base);
+    collections::building::put_empty(s, base + 512, SET);
+    let mut p = base + 4;
+    while p < end {
+        let n = values::length_of(s, p);
+        collections::building::insert(s, base + 512, p);
+        p += n;
+    }
+    values::copy_value(s, base + 512, base);
+    Applied::Done
+}
+
+// 11 inds: the integers from 1 up to the number of items.
+fn indexes(s: &mut [u8], base: usize) -> Applied
+    requires { ⌜ Has sequence (now s) base ⌝ }
+    ensures { λ r. ⌜ OnItems sequence (λ vs. counting (pos 1) (count vs)) (now (s .entry)) (now (s .exit)) base r ⌝ }
+{
+    let n = collections::finding::count_of(s, base);
+    scalars::counting(s, base, 1, n)
+}
+
+// 12 conc: the items of each sequence move down over the headings.
+fn flatten(s: &mut [u8], base: usize) -> Applied
+    requires { ⌜ Has sequence (now s) base ⌝ }
+    ensures { λ r. ⌜ OnItems sequence (λ vs. pick (every (isKind sequence) vs) (sized sequence (flatten vs)) (refused wrongKind)) (now (s .entry)) (now (s .exit)) base r ⌝ }
+{
+    let end = base + values::length_of(s, base);
+    let mut p = base + 4;
+    let mut q = base + 4;
+    while p < end {
+        if values::kind_of(s, p) != SEQUENCE {
+            return Applied::Refused(Applied::WRONG_KIND);
+        }
+        let n = values::length_of(s, p);
+        values::copy_bytes(s, p + 4, q, n - 4);
+        q += n - 4;
+        p += n;
+    }
+    values::put_head(s, base, q - base, SEQUENCE);
+    Applied::Done
+}
+
+// 13 reverse: a copy's items are put back from the end down.
+fn reverse(s: &mut [u8], base: usize) -> Applied
+    requires { ⌜ Has sequence (now s) base ⌝ }
+    ensures { λ r. ⌜ OnItems sequence (λ vs. is (collection sequence (backwards vs))) (now (s .entry)) (now (s .exit)) base r ⌝ }
+{
+    let n = values::length_of(s, base);
+    values::copy_value(s, base, base + 512);
+    let end = base + 512 + n;
+    let mut p = base + 516;
+    let mut q = base + n;
+    while p < end {
+        let m = values::length_of(s, p);
+        q -= m;
+        values::copy_value(s, p, q);
+        p += m;
+    }
+    Applied::Done
+}
+
+// The unary operators 7 to 13.
+pub fn unary_sequence(s: &mut [u8], base: usize, operator: usize) -> Applied
+    requires { ⌜ One (now s) base × (7 ≤ operator) × (operator ≤ 13) ⌝ }
+    ensures { λ r. ⌜ OnOne (unary operator) (now (s .entry)) (now (s .exit)) base r ⌝ }
+{
+    let kind = values::kind_of(s, base);
+    if kind != SEQUENCE {
+        return Applied::Refused(Applied::WRONG_KIND);
+    }
+    match operator {
+        7 => len(s, base),
+        8 => head(s, base),
+        9 => tail(s, base),
+        10 => elements(s, base),
+        11 => indexes(s, base),
+        12 => flatten(s, base),
+        _ => reverse(s, base),
+    }
+}
+
+// ---- two sequences
+
+// The items of the second move up to those of the first.
+fn join(s: &mut [u8], base: usize) -> Applied
+    requires { ⌜ HasTwo sequence sequence (now s) base ⌝ }
+    ensures { λ r. ⌜ OnBoth sequence sequence (λ vs ws. sized sequence (join vs ws)) (now (s .entry)) (now (s .exit)) base r ⌝ }
+{
+    let n = values::length_of(s, base);
+    let m = values::length_of(s, base + 512);
+    let whole = n + m - 4;
+    if Value::LIMIT < whole {
+        return Applied::Refused(Applied::TOO_LARGE);
+    }
+    values::copy_bytes(s, base + 516, base + n, m - 4);
+    values::put_head(s, base, whole, SEQUENCE);
+    Applied::Done
+}
+
+// Whether the operands are of these kinds.
+pub fn kinds_are(s: &[u8], base: usize, first: usize, second: usize) -> bool
+    requires { ⌜ Two (now s) base ⌝ }
+    ensures { λ r. ⌜ KindsAre (now (s .entry)) base first second r ⌝ }
+{
+    let kind = values::kind_of(s, base);
+    if kind != first {
+        return false;
+    }
+    values::kind_of(s, base + 512) == second
+}
+
+// 24 ^
+pub fn concatenate(s: &mut [u8], base: usize) -> Applied
+    requires { ⌜ Two (now s) base ⌝ }
+    ensures { λ r. ⌜ OnTwo (binary 24) (now (s .entry)) (now (s .exit)) base r ⌝ }
+{
+    if kinds_are(s, base, SEQUENCE, SEQUENCE) {
+        return join(s, base);
+    }
+    Applied::Refused(Applied::WRONG_KIND)
+}
