@@ -70,12 +70,12 @@ module _ (d : Digits) (s : Sound d) where
       let f = from j (omega arith) in
       let k = rw e at g .stuck in
       let a : raise (drop j (take (d .used) (d .entries))) (drop j (take (d .used) (d .counts))) ≡ some (suc (getD (d .entries) j 0) ∷ []) =
-          rw (f .0, f .1, k, lt-ltb (suc (getD (d .entries) j 0)) (getD (d .counts) j 0) (omega (arith, g .up j e))) in
+      rw (f .0, f .1, k, lt-ltb (suc (getD (d .entries) j 0)) (getD (d .counts) j 0) (omega (arith, g .up j e))) in
       let b = raise-after (take j (take (d .used) (d .entries))) (take j (take (d .used) (d .counts))) (drop j (take (d .used) (d .entries))) (drop j (take (d .used) (d .counts))) (suc (getD (d .entries) j 0) ∷ []) (simp length-take (omega arith)) a in
       let l = rw (take-append-drop j (take (d .used) (d .entries)), take-append-drop j (take (d .used) (d .counts))) at b in
       let r : take (suc j) (set (d .entries) j (getD (d .entries) j 0 + 1)) ≡ take j (take (d .used) (d .entries)) ++ suc (getD (d .entries) j 0) ∷ [] =
-          take-suc-set (d .entries) j (getD (d .entries) j 0 + 1) (omega arith)
-          ∙ ap₂ (λ (p : List ℕ) (x : ℕ). p ++ x ∷ []) (sym (take-take j (d .used) (d .entries) (omega arith))) (omega arith) in
+      take-suc-set (d .entries) j (getD (d .entries) j 0 + 1) (omega arith)
+      ∙ ap₂ (λ (p : List ℕ) (x : ℕ). p ++ x ∷ []) (sym (take-take j (d .used) (d .entries) (omega arith))) (omega arith) in
       record {
         raised = rw e (rw r l);
         viewed = λ q. refl;

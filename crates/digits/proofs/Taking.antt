@@ -68,7 +68,7 @@ module _ (d : Digits) (s : Sound d) (n : ℕ) (pos : 0 < n) where
   took-one x room e lt few =
       let r : hasRoom (view d) ≡ true = rw past-length (lt-ltb (d .used) most room) in
       let p : take (d .used + 1) (set (d .entries) (d .used) x) ≡ take (d .used) (d .entries) ++ nextDigit (view d) n ∷ [] =
-          rw add-one (take-suc-set (d .entries) (d .used) x (omega arith)) ∙ ap (λ (y : ℕ). take (d .used) (d .entries) ++ y ∷ []) e in
+      rw add-one (take-suc-set (d .entries) (d .used) x (omega arith)) ∙ ap (λ (y : ℕ). take (d .used) (d .entries) ++ y ∷ []) e in
       let m : take (d .used + 1) (set (d .counts) (d .used) n) ≡ take (d .used) (d .counts) ++ n ∷ [] = rw add-one (take-suc-set (d .counts) (d .used) n (omega arith)) in
       let l = left-after x room in
       record {

@@ -62,8 +62,8 @@ module _ {A : Type 0} where
   walk-path (choose p n ways) (suc k) past met [] f w h m =
       rw (lt-ltb (length past) most (omega arith))
       (walk-path (ways 0) k (past ++ 0 ∷ []) (met ++ n ∷ []) [] (f .1 0 (f .0)) (w 0 (f .0)) (prefix-nil (ways 0)) (omega (arith, snoc-length past 0))
-        ∙ ap₂ (λ (x y : List ℕ). finish (outcomeAt (ways 0) []) (record { past = x; met = y; left = [] })) (snoc-append past (extend (ways 0) []) 0) (snoc-append met (counts (ways 0) (extend (ways 0) [])) n))
+      ∙ ap₂ (λ (x y : List ℕ). finish (outcomeAt (ways 0) []) (record { past = x; met = y; left = [] })) (snoc-append past (extend (ways 0) []) 0) (snoc-append met (counts (ways 0) (extend (ways 0) [])) n))
   walk-path (choose p n ways) (suc k) past met (c ∷ l) f w h m =
       rw (lt-ltb (length past) most (omega arith), lt-ltb c n (h .0))
       (walk-path (ways c) k (past ++ c ∷ []) (met ++ n ∷ []) l (f .1 c (h .0)) (w c (h .0)) (h .1) (omega (arith, snoc-length past c))
-        ∙ ap₂ (λ (x y : List ℕ). finish (outcomeAt (ways c) l) (record { past = x; met = y; left = [] })) (snoc-append past (extend (ways c) l) c) (snoc-append met (counts (ways c) (extend (ways c) l)) n))
+      ∙ ap₂ (λ (x y : List ℕ). finish (outcomeAt (ways c) l) (record { past = x; met = y; left = [] })) (snoc-append past (extend (ways c) l) c) (snoc-append met (counts (ways c) (extend (ways c) l)) n))

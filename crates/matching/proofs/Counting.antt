@@ -139,7 +139,7 @@ module _ (c n : ℕ) (s : List ℕ) (p : Part) (low : 36 ≤ c) (high : c ≤ 40
           let q = counts v h in
           let a = meets-splits c n v (w .items) e f in
           let len : length (meetings c n v) ≡ m + 1 =
-              ap length (a .0) ∙ length-map (splits (w .items)) (pair set) ∙ splits-length (w .items) ∙ ap (λ (x : ℕ). 2 ^ x) (sym q) ∙ sym (full .power) in
+          ap length (a .0) ∙ length-map (splits (w .items)) (pair set) ∙ splits-length (w .items) ∙ ap (λ (x : ℕ). 2 ^ x) (sym q) ∙ sym (full .power) in
           (a .1 ∙ le-ltb 7 (length (w .items)) (omega (arith, q)), len, omega arith, omega (arith, full .small))
 
       pub by-cuts : c ≡ 40 → PartHeld s p → Meets c n s p (Ways (count + 1))
@@ -149,7 +149,7 @@ module _ (c n : ℕ) (s : List ℕ) (p : Part) (low : 36 ≤ c) (high : c ≤ 40
           let q = counts v h in
           let a = meets-cuts c n v (w .items) e f in
           let len : length (meetings c n v) ≡ count + 1 =
-              ap length (a .0) ∙ length-map (cuts (w .items)) (pair sequence) ∙ cuts-length (w .items) ∙ omega (arith, q) in
+          ap length (a .0) ∙ length-map (cuts (w .items)) (pair sequence) ∙ cuts-length (w .items) ∙ omega (arith, q) in
           (a .1, len, omega arith, omega (arith, count-few held))
 
       module _ (not38 : c ≡ 38 → ⊥) (not40 : c ≡ 40 → ⊥) where
@@ -174,7 +174,7 @@ module _ (c n : ℕ) (s : List ℕ) (p : Part) (low : 36 ≤ c) (high : c ≤ 40
             let q : n ≡ length (w .items) = sym d ∙ counts v h in
             let a = meets-orders c n v (w .items) e f in
             let len : length (meetings c n v) ≡ m =
-                ap length (a .0 ∙ pick-true (orders (w .items)) (eq-eqb n (length (w .items)) q)) ∙ orders-length (w .items) ∙ ap factorial (sym q) ∙ sym (o .0) in
+            ap length (a .0 ∙ pick-true (orders (w .items)) (eq-eqb n (length (w .items)) q)) ∙ orders-length (w .items) ∙ ap factorial (sym q) ∙ sym (o .0) in
             (a .1, len, o .1, o .2)
 
         pub by-items : (c ≡ 37 → ⊥) → count ≡ n → Meets c n s p (Ways 1)

@@ -69,9 +69,9 @@ whole-same a b fa fb = go (eqb (ofZ w32 a) (ofZ w32 b)) refl
         sym (true-same (ap integer q))
     go false e =
         sym (false-same (integer a) (integer b) (λ q.
-          let r : a ≡ b = cc in
-          let z : true ≡ false = sym (eq-eqb (ofZ w32 a) (ofZ w32 b) (ap (ofZ w32) r)) ∙ e in
-          let n : _≡_ {A = ℕ} 0 1 = cc in omega arith))
+        let r : a ≡ b = cc in
+        let z : true ≡ false = sym (eq-eqb (ofZ w32 a) (ofZ w32 b) (ap (ofZ w32) r)) ∙ e in
+        let n : _≡_ {A = ℕ} 0 1 = cc in omega arith))
 
 module _ (table index : List ℕ) (p : ℕ) (h : LiteralHeld table index p) where
   within : p < length (records table)
@@ -83,14 +83,14 @@ module _ (table index : List ℕ) (p : ℕ) (h : LiteralHeld table index p) wher
   pub is-truth : kindAt (records table) p ≡ 34 → (w : Value) → patternAt (records table) p ≡ literal w → w ≡ boolean (booleanOf (recordAt (records table) p))
   is-truth e w f =
       let g : literal (boolean (booleanOf (recordAt (records table) p))) ≡ literal w =
-          sym (pattern-at (records table) low p within ∙ is-boolean (recordAt (records table) p) (map (patternAt (records table)) (named (recordAt (records table) p))) e) ∙ f in
+      sym (pattern-at (records table) low p within ∙ is-boolean (recordAt (records table) p) (map (patternAt (records table)) (named (recordAt (records table) p))) e) ∙ f in
       cc
 
   pub is-whole : (kindAt (records table) p ≡ 34 → ⊥) → (w : Value) → patternAt (records table) p ≡ literal w → w ≡ integer (integerOf (recordAt (records table) p))
   is-whole d w f =
       let e : kindAt (records table) p ≡ 35 = omega (arith, h .low, h .high, d) in
       let g : literal (integer (integerOf (recordAt (records table) p))) ≡ literal w =
-          sym (pattern-at (records table) low p within ∙ is-integer (recordAt (records table) p) (map (patternAt (records table)) (named (recordAt (records table) p))) e) ∙ f in
+      sym (pattern-at (records table) low p within ∙ is-integer (recordAt (records table) p) (map (patternAt (records table)) (named (recordAt (records table) p))) e) ∙ f in
       cc
 
   head-one : kindAt (records table) p ≡ 34 → size (headOf (recordAt (records table) p)) ≡ 1

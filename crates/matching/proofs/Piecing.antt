@@ -83,14 +83,14 @@ module _ (c n : ℕ) (s : List ℕ) (p : Part) (d i : ℕ) (h : PieceHeld c n s 
       pub split-left : i ≡ 0 → PieceOf c n s p d i (r .left)
       split-left f v z q =
           let g : getD (getD (meetings c n v) d []) i z ≡ leftOf set (getD (splits vs) d (halves [] [])) =
-              ap (λ (w : Value). getD (getD (meetings c n w) d []) i z) (same-value v q) ∙ ap (λ (l : List Value). getD l i z) split-way ∙ ap (λ (k : ℕ). getD (pair set (getD (splits vs) d (halves [] []))) k z) f in
+          ap (λ (w : Value). getD (getD (meetings c n w) d []) i z) (same-value v q) ∙ ap (λ (l : List Value). getD l i z) split-way ∙ ap (λ (k : ℕ). getD (pair set (getD (splits vs) d (halves [] []))) k z) f in
           subst (PartIs s (r .left)) (sym g) (o .right vs (here set (rw e)) .left)
 
       pub split-right : (i ≡ 0 → ⊥) → PieceOf c n s p d i (r .right)
       split-right f v z q =
           let i1 : i ≡ 1 = omega (arith, h .two (rw e), h .within, f) in
           let g : getD (getD (meetings c n v) d []) i z ≡ rightOf set (getD (splits vs) d (halves [] [])) =
-              ap (λ (w : Value). getD (getD (meetings c n w) d []) i z) (same-value v q) ∙ ap (λ (l : List Value). getD l i z) split-way ∙ ap (λ (k : ℕ). getD (pair set (getD (splits vs) d (halves [] []))) k z) i1 in
+          ap (λ (w : Value). getD (getD (meetings c n w) d []) i z) (same-value v q) ∙ ap (λ (l : List Value). getD l i z) split-way ∙ ap (λ (k : ℕ). getD (pair set (getD (splits vs) d (halves [] []))) k z) i1 in
           subst (PartIs s (r .right)) (sym g) (o .right vs (here set (rw e)) .right)
 
   module _ (e : c ≡ 40) where
@@ -113,14 +113,14 @@ module _ (c n : ℕ) (s : List ℕ) (p : Part) (d i : ℕ) (h : PieceHeld c n s 
       pub cut-left : i ≡ 0 → PieceOf c n s p d i (r .left)
       cut-left f v z q =
           let g : getD (getD (meetings c n v) d []) i z ≡ leftOf sequence (getD (cuts vs) d (halves [] [])) =
-              ap (λ (w : Value). getD (getD (meetings c n w) d []) i z) (same-value v q) ∙ ap (λ (l : List Value). getD l i z) cut-way ∙ ap (λ (k : ℕ). getD (pair sequence (getD (cuts vs) d (halves [] []))) k z) f in
+          ap (λ (w : Value). getD (getD (meetings c n w) d []) i z) (same-value v q) ∙ ap (λ (l : List Value). getD l i z) cut-way ∙ ap (λ (k : ℕ). getD (pair sequence (getD (cuts vs) d (halves [] []))) k z) f in
           subst (PartIs s (r .left)) (sym g) (o .right vs (here sequence (rw e)) .left)
 
       pub cut-right : (i ≡ 0 → ⊥) → PieceOf c n s p d i (r .right)
       cut-right f v z q =
           let i1 : i ≡ 1 = omega (arith, h .two (rw e), h .within, f) in
           let g : getD (getD (meetings c n v) d []) i z ≡ rightOf sequence (getD (cuts vs) d (halves [] [])) =
-              ap (λ (w : Value). getD (getD (meetings c n w) d []) i z) (same-value v q) ∙ ap (λ (l : List Value). getD l i z) cut-way ∙ ap (λ (k : ℕ). getD (pair sequence (getD (cuts vs) d (halves [] []))) k z) i1 in
+          ap (λ (w : Value). getD (getD (meetings c n w) d []) i z) (same-value v q) ∙ ap (λ (l : List Value). getD l i z) cut-way ∙ ap (λ (k : ℕ). getD (pair sequence (getD (cuts vs) d (halves [] []))) k z) i1 in
           subst (PartIs s (r .right)) (sym g) (o .right vs (here sequence (rw e)) .right)
 
   -- ---- one item each
@@ -129,7 +129,7 @@ module _ (c n : ℕ) (s : List ℕ) (p : Part) (d i : ℕ) (h : PieceHeld c n s 
   item-is : (r : Part) (k : ℕ) (q : List Value) → getD (meetings c n (h .value)) d [] ≡ q → ((z : Value) → getD q i z ≡ getD vs k z) → ItemOfPart s p k r → PieceOf c n s p d i r
   item-is r k q e f o v z g =
       let w : getD (getD (meetings c n v) d []) i z ≡ getD vs k z =
-          ap (λ (u : Value). getD (getD (meetings c n u) d []) i z) (same-value v g) ∙ ap (λ (l : List Value). getD l i z) e ∙ f z in
+      ap (λ (u : Value). getD (getD (meetings c n u) d []) i z) (same-value v g) ∙ ap (λ (l : List Value). getD l i z) e ∙ f z in
       inl (o .whole, subst (At s (r .at)) (sym w) (o .right (collectionOf c) vs z (here (collectionOf c) refl)))
 
   item-held : (k : ℕ) → k < length vs → ItemHeld s p k

@@ -301,9 +301,9 @@ module _ (table index : List ℕ) (p : ℕ) (r : Readable table index p) (s : Li
                 let x : tries (patternAt (records table) p) v st ≡ among ws (give (failed st)) (λ vs. tryEach (patternsOf (innerOf table p)) vs st) = by-meeting v st ∙ rw (a .0) in
                 let below : taken (view d) w < w = omega (arith, o .below, o .digit) in
                 let y : walk (tries (patternAt (records table) p) v st) (view d) ≡ walk (tryEach (patternsOf (innerOf table p)) (getD ws (t .digit) []) st) (view (t .digits)) =
-                    ap (λ (u : Tree State). walk u (view d)) x
-                    ∙ walk-among ws (give (failed st)) (λ vs. tryEach (patternsOf (innerOf table p)) vs st) (view d) w (a .1) below
-                    ∙ ap₂ (λ (b : ℕ) (u : View). walk (tryEach (patternsOf (innerOf table p)) (getD ws b []) st) u) (sym (o .digit)) (sym (o .viewed)) in
+                ap (λ (u : Tree State). walk u (view d)) x
+                ∙ walk-among ws (give (failed st)) (λ vs. tryEach (patternsOf (innerOf table p)) vs st) (view d) w (a .1) below
+                ∙ ap₂ (λ (b : ℕ) (u : View). walk (tryEach (patternsOf (innerOf table p)) (getD ws b []) st) u) (sym (o .digit)) (sym (o .viewed)) in
                 subst (Came s n) (sym y) (k .came v st q z)
 
 -- what stands at a place of patterns read off numbers
@@ -332,17 +332,17 @@ module _ (table index : List ℕ) (p : ℕ) (r : Readable table index p) (i : �
     pub way-piece : (kind n : ℕ) → kind ≡ kindAt (records table) p → n ≡ length (named (recordAt (records table) p)) → PieceHeld kind n s part e i
     way-piece kind n x y =
         subst (λ (c : ℕ). PieceHeld c n s part e i) (sym x) (subst (λ (k : ℕ). PieceHeld (kindAt (records table) p) k s part e i) (sym y)
-          (record {
-            low = h .composed;
-            high = kind-high table index p r;
-            few = count-few table index p r (h .composed);
-            two = count-two table index p r (h .composed);
-            value = h .value;
-            here = h .here;
-            narrow = h .narrow;
-            below = h .below;
-            within = l;
-          }))
+        (record {
+          low = h .composed;
+          high = kind-high table index p r;
+          few = count-few table index p r (h .composed);
+          two = count-two table index p r (h .composed);
+          value = h .value;
+          here = h .here;
+          narrow = h .narrow;
+          below = h .below;
+          within = l;
+        }))
 
     pub way-next : WayHeld table p (i + 1) s part e
     way-next = record { composed = h .composed; value = h .value; here = h .here; narrow = h .narrow; below = h .below; within = omega arith }
@@ -370,13 +370,13 @@ module _ (table index : List ℕ) (p : ℕ) (r : Readable table index p) (i : �
                 let lower′ : e < length (meetings (kindAt (records table) p) (length (named (recordAt (records table) p))) v) = subst (λ (u : Value). e < length (meetings (kindAt (records table) p) (length (named (recordAt (records table) p))) u)) (sym same) (h .below) in
                 let long : length (metBy table p v e) ≡ length (named (recordAt (records table) p)) = meeting-length (kindAt (records table) p) (length (named (recordAt (records table) p))) v e (count-two table index p r (h .composed)) lower′ in
                 let pats : drop i (innerOf table p) ≡ patternAt (records table) q ∷ drop (i + 1) (innerOf table p) =
-                    drop-cons (innerOf table p) i (patternAt (records table) 0) (omega (arith, inner-size))
-                    ∙ ap₂ (λ (u : Pattern) (us : List Pattern). u ∷ us) (at-map (records table) (named (recordAt (records table) p)) i l ∙ ap (patternAt (records table)) (sym b)) (ap (λ (j : ℕ). drop j (innerOf table p)) (sym (add-one i))) in
+                drop-cons (innerOf table p) i (patternAt (records table) 0) (omega (arith, inner-size))
+                ∙ ap₂ (λ (u : Pattern) (us : List Pattern). u ∷ us) (at-map (records table) (named (recordAt (records table) p)) i l ∙ ap (patternAt (records table)) (sym b)) (ap (λ (j : ℕ). drop j (innerOf table p)) (sym (add-one i))) in
                 let vals : drop i (metBy table p v e) ≡ getD (metBy table p v e) i (boolean true) ∷ drop (i + 1) (metBy table p v e) =
-                    drop-cons (metBy table p v e) i (boolean true) (omega (arith, long))
-                    ∙ ap (λ (j : ℕ). getD (metBy table p v e) i (boolean true) ∷ drop j (metBy table p v e)) (sym (add-one i)) in
+                drop-cons (metBy table p v e) i (boolean true) (omega (arith, long))
+                ∙ ap (λ (j : ℕ). getD (metBy table p v e) i (boolean true) ∷ drop j (metBy table p v e)) (sym (add-one i)) in
                 subst (λ (ps : List Pattern). Came s n′ (walk (tryEach (patternsOf ps) (drop i (metBy table p v e)) st) (view d))) (sym pats)
                 (subst (λ (vs : List Value). Came s n′ (walk (tryEach (patternsOf (patternAt (records table) q ∷ drop (i + 1) (innerOf table p))) vs st) (view d))) (sym vals)
-                  (came-then s m n′ (tries (patternAt (records table) q) (getD (metBy table p v e) i (boolean true)) st) (λ u. tryEach (patternsOf (drop (i + 1) (innerOf table p))) (drop (i + 1) (metBy table p v e)) u) (view d)
-                    (k .came (getD (metBy table p v e) i (boolean true)) st (piece-is v z) w)
-                    (λ u su. g .came v u z su)))
+                (came-then s m n′ (tries (patternAt (records table) q) (getD (metBy table p v e) i (boolean true)) st) (λ u. tryEach (patternsOf (drop (i + 1) (innerOf table p))) (drop (i + 1) (metBy table p v e)) u) (view d)
+                (k .came (getD (metBy table p v e) i (boolean true)) st (piece-is v z) w)
+                (λ u su. g .came v u z su)))

@@ -1,5 +1,6 @@
 // Matching a pattern of a table with a part of a value, along a path of digits: one way of matching for each path.
 pub mod nodes;
+
 use digits::Digits;
 use integers::Order;
 use nodes::Meeting;
@@ -33,7 +34,11 @@ impl Found {
         ensures { λ r. ⌜ ((s : List ℕ) → Stands s r start) ⌝ }
     {
         Found {
-            parts: [Part { how: 0, at: 0, extent: 0 }; Found::NAMES],
+            parts: [Part {
+                how: 0,
+                at: 0,
+                extent: 0,
+            }; Found::NAMES],
             fits: true,
             wide: false,
         }
@@ -45,10 +50,18 @@ impl Found {
     {
         let parts = self.parts;
         if wide {
-            return Found { parts, fits: false, wide: true };
+            return Found {
+                parts,
+                fits: false,
+                wide: true,
+            };
         }
         let wide = self.wide;
-        Found { parts, fits: false, wide }
+        Found {
+            parts,
+            fits: false,
+            wide,
+        }
     }
 }
 
@@ -71,7 +84,11 @@ pub fn bind_name(s: &[u8], x: usize, part: Part, found: Found) -> Found
         let mut parts = found.parts;
         parts[x] = part;
         let wide = found.wide;
-        return Found { parts, fits: true, wide };
+        return Found {
+            parts,
+            fits: true,
+            wide,
+        };
     }
     let o = parts::order_parts(s, old, part);
     if let Order::Same = o {
@@ -79,11 +96,22 @@ pub fn bind_name(s: &[u8], x: usize, part: Part, found: Found) -> Found
     }
     let parts = found.parts;
     let wide = found.wide;
-    Found { parts, fits: false, wide }
+    Found {
+        parts,
+        fits: false,
+        wide,
+    }
 }
 
 // A pattern without parts: a name, any, or a literal.
-fn match_leaf(table: &[u8], index: &[u16; 200], p: usize, s: &[u8], part: Part, found: Found) -> Found
+fn match_leaf(
+    table: &[u8],
+    index: &[u16; 200],
+    p: usize,
+    s: &[u8],
+    part: Part,
+    found: Found,
+) -> Found
     requires { ⌜ LeafHeld (now table) (now index) p ⌝ }
     requires { ⌜ PartHeld (now s) part × Standing (now s) found ⌝ }
     ensures { λ r. ⌜ OnLeaf (now (table .entry)) p (now (s .entry)) part found r ⌝ }
@@ -104,7 +132,15 @@ fn match_leaf(table: &[u8], index: &[u16; 200], p: usize, s: &[u8], part: Part, 
 }
 
 // A pattern with a part of a value.
-pub fn match_along(table: &[u8], index: &[u16; 200], p: usize, s: &[u8], part: Part, found: Found, digits: Digits) -> Matched
+pub fn match_along(
+    table: &[u8],
+    index: &[u16; 200],
+    p: usize,
+    s: &[u8],
+    part: Part,
+    found: Found,
+    digits: Digits,
+) -> Matched
     requires { ⌜ Readable (now table) (now index) p ⌝ }
     requires { ⌜ PartHeld (now s) part × Standing (now s) found × Sound digits ⌝ }
     ensures { λ r. ⌜ Along (now (table .entry)) p (now (s .entry)) part found digits r ⌝ }
@@ -135,7 +171,17 @@ pub fn match_along(table: &[u8], index: &[u16; 200], p: usize, s: &[u8], part: P
 }
 
 // The parts of a pattern from i on, each with what it meets in the way d.
-fn each_along(table: &[u8], index: &[u16; 200], p: usize, i: usize, s: &[u8], part: Part, d: usize, found: Found, digits: Digits) -> Matched
+fn each_along(
+    table: &[u8],
+    index: &[u16; 200],
+    p: usize,
+    i: usize,
+    s: &[u8],
+    part: Part,
+    d: usize,
+    found: Found,
+    digits: Digits,
+) -> Matched
     requires { ⌜ Readable (now table) (now index) p ⌝ }
     requires { ⌜ WayHeld (now table) p i (now s) part d × Standing (now s) found × Sound digits ⌝ }
     ensures { λ r. ⌜ AlongEach (now (table .entry)) p i (now (s .entry)) part d found digits r ⌝ }

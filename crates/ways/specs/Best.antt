@@ -114,9 +114,12 @@ better-least C a m true x h = go (isAbove a x) refl
     one : isAbove a x ≡ true → (m : Option Binding) → Least C a m → (t : Bool) → isBelow x m ≡ t → Least D a (pick t (some x) m)
     one e none h true q = (inr (refl, refl), above-true a x e, λ b d l o. ⊎-elim (λ c. h b c l) (λ z. not-self b (z .1) o) d)
     one e none h false q = true-false q
-    one e (some m) h true q =
-        (inr (refl, refl), above-true a x e, λ b d l o.
-          ⊎-elim (λ c. h .2 b c l (bindings-lower b x m o (lower-true (orderBindings x m) q))) (λ z. not-self b (z .1) o) d)
+    one e (some m) h true q = (
+      inr (refl, refl),
+      above-true a x e,
+      λ b d l o.
+          ⊎-elim (λ c. h .2 b c l (bindings-lower b x m o (lower-true (orderBindings x m) q))) (λ z. not-self b (z .1) o) d,
+    )
     one e (some m) h false q =
         (inl (h .0), h .1, λ b d l o. ⊎-elim (λ c. h .2 b c l o) (λ z. lower-false (orderBindings x m) q (subst (λ (w : Binding). orderBindings w m ≡ Lower) (z .1) o)) d)
 
@@ -341,7 +344,7 @@ pub sought-least : (p : Pattern) (vs : List Value) (a : Option Binding) → exis
 sought-least p vs a w =
     least-unique (λ b. In b (bindings p vs)) a (soughtAll p vs a nothingYet .least) (following a (bindings p vs))
     (least-iff (λ b. ⊥ ⊎ OfSome p vs b) (λ b. In b (bindings p vs)) a (soughtAll p vs a nothingYet .least)
-      (λ b d. ⊎-elim (λ z. absurd z) (λ i. sorted-in b (gather vs (matches p)) i) d)
-      (λ b i. inr (in-sorted b (gather vs (matches p)) i))
-      (all-least p vs (λ b. ⊥) a nothingYet (λ v i. none-exists vs (wide p) w v i) (λ b z l. z)))
+    (λ b d. ⊎-elim (λ z. absurd z) (λ i. sorted-in b (gather vs (matches p)) i) d)
+    (λ b i. inr (in-sorted b (gather vs (matches p)) i))
+    (all-least p vs (λ b. ⊥) a nothingYet (λ v i. none-exists vs (wide p) w v i) (λ b z l. z)))
     (following-least a (bindings p vs) (sorted-rising (gather vs (matches p))))

@@ -110,9 +110,9 @@ mutual
       wide-broad (tooLarge k (contents k v)) (exists (split k (contents k v)) (λ h. wide p (leftOf k h) || wide q (rightOf k h))) st
       (among (split k (contents k v)) (give (failed st)) (λ h. bind (tries p (leftOf k h) st) (λ r. tries q (rightOf k h) r)))
       (among-broad (split k (contents k v)) st (λ h. wide p (leftOf k h) || wide q (rightOf k h))
-        (λ h. bind (tries p (leftOf k h) st) (λ r. tries q (rightOf k h) r))
-        (λ h. seq-broad (wide p (leftOf k h)) (wide q (rightOf k h)) st (tries p (leftOf k h) st) (λ r. tries q (rightOf k h) r)
-          (broad p (leftOf k h) st) (λ r. broad q (rightOf k h) r)))
+      (λ h. bind (tries p (leftOf k h) st) (λ r. tries q (rightOf k h) r))
+      (λ h. seq-broad (wide p (leftOf k h)) (wide q (rightOf k h)) st (tries p (leftOf k h) st) (λ r. tries q (rightOf k h) r)
+      (broad p (leftOf k h) st) (λ r. broad q (rightOf k h) r)))
 
   broad-each : (ps : Patterns) (vs : List Value) (st : State) → Broad (wideEach ps vs) st (tryEach ps vs st)
   broad-each nil vs st = leaf-broad st st refl

@@ -121,9 +121,12 @@ following-least a (b ∷ bs) r = go (isAbove a b) refl (following-least a bs (r 
     rest e (some m) h = (inr (h .0), h .1, λ c i l o. ⊎-elim (λ q. above-false a b e (subst (Above a) q l)) (λ j. h .2 c j l o) i)
 
     go : (t : Bool) → isAbove a b ≡ t → Least (λ c. In c bs) a (following a bs) → Least (λ c. In c (b ∷ bs)) a (pick t (some b) (following a bs))
-    go true e h =
-        (inl refl, above-true a b e, λ c i l o.
+    go true e h = (
+      inl refl,
+      above-true a b e,
+      λ c i l o.
           ⊎-elim
           (λ q. lower-same o (ap (λ (x : Binding). orderBindings x b) q ∙ bindings-refl b))
-          (λ j. bindings-asymmetric b c (before-in b bs c (r .0) j) o) i)
+          (λ j. bindings-asymmetric b c (before-in b bs c (r .0) j) o) i,
+    )
     go false e h = rest e (following a bs) h

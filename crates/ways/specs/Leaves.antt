@@ -65,22 +65,25 @@ literal-sound false st = fail-sound [] st (st .broad)
 name-sound : (x : ℕ) (v : Value) (st : State) → Sound (only x v ∷ []) st (give (naming x v st))
 name-sound x v st n r h =
     let e = value-eq h in
-    let f : r .found ≡ merge (st .found) (only x v) = ap (λ (y : State). y .found) e in
-    (ap length f ∙ merge-sized (st .found) (only x v) (n ∙ sym (only-sized x v)) ∙ n,
-      λ g. ((ap (λ (y : State). y .fits) (sym e) ∙ g .0, consistent-left (st .found) (only x v) (ap consistent (sym f) ∙ g .1)), (only x v, inl refl, f)))
+    let f : r .found ≡ merge (st .found) (only x v) = ap (λ (y : State). y .found) e in (
+      ap length f ∙ merge-sized (st .found) (only x v) (n ∙ sym (only-sized x v)) ∙ n,
+      λ g. ((ap (λ (y : State). y .fits) (sym e) ∙ g .0, consistent-left (st .found) (only x v) (ap consistent (sym f) ∙ g .1)), (only x v, inl refl, f)),
+    )
 
 seq-sound : (l m : List Binding) (st : State) (t : Tree State) (f : State → Tree State) → Sound l st t → ((r : State) → Sound m r (f r)) → Sound (together l m) st (bind t f)
 seq-sound l m st t f s z n r h =
     let (k, hk, hr) = through t f r h in
     let x = s n k hk in
-    let y = z k (x .0) r hr in
-    (y .0, λ g.
-      let (gk, yk) = y .1 g in
-      let (c, ic, ec) = yk in
-      let (gs, xs) = x .1 gk in
-      let (b, ib, eb) = xs in
-      let e : r .found ≡ merge (st .found) (merge b c) = ec ∙ ap (λ (q : Binding). merge q c) eb ∙ merge-assoc (st .found) b c in
-      (gs, (merge b c, together-in b c l m ib ic (consistent-right (st .found) (merge b c) (ap consistent (sym e) ∙ g .1)), e)))
+    let y = z k (x .0) r hr in (
+      y .0,
+      λ g.
+          let (gk, yk) = y .1 g in
+          let (c, ic, ec) = yk in
+          let (gs, xs) = x .1 gk in
+          let (b, ib, eb) = xs in
+          let e : r .found ≡ merge (st .found) (merge b c) = ec ∙ ap (λ (q : Binding). merge q c) eb ∙ merge-assoc (st .found) b c in
+          (gs, (merge b c, together-in b c l m ib ic (consistent-right (st .found) (merge b c) (ap consistent (sym e) ∙ g .1)), e)),
+    )
 
 among-sound : {A : Type 0} (ws : List A) (st : State) (f : A → List Binding) (t : A → Tree State) → ((x : A) → Sound (f x) st (t x)) → Sound (gather ws f) st (among ws (give (failed st)) t)
 among-sound [] st f t h = fail-sound (gather [] f) st (st .broad)
@@ -105,9 +108,9 @@ mutual
       wide-sound (tooLarge k (contents k v)) (gather (split k (contents k v)) (λ h. together (matches p (leftOf k h)) (matches q (rightOf k h)))) st
       (among (split k (contents k v)) (give (failed st)) (λ h. bind (tries p (leftOf k h) st) (λ r. tries q (rightOf k h) r)))
       (among-sound (split k (contents k v)) st (λ h. together (matches p (leftOf k h)) (matches q (rightOf k h)))
-        (λ h. bind (tries p (leftOf k h) st) (λ r. tries q (rightOf k h) r))
-        (λ h. seq-sound (matches p (leftOf k h)) (matches q (rightOf k h)) st (tries p (leftOf k h) st) (λ r. tries q (rightOf k h) r)
-          (sound p (leftOf k h) st) (λ r. sound q (rightOf k h) r)))
+      (λ h. bind (tries p (leftOf k h) st) (λ r. tries q (rightOf k h) r))
+      (λ h. seq-sound (matches p (leftOf k h)) (matches q (rightOf k h)) st (tries p (leftOf k h) st) (λ r. tries q (rightOf k h) r)
+      (sound p (leftOf k h) st) (λ r. sound q (rightOf k h) r)))
 
   sound-each : (ps : Patterns) (vs : List Value) (st : State) → Sound (matchEach ps vs) st (tryEach ps vs st)
   sound-each nil vs st = any-sound st
@@ -191,12 +194,12 @@ mutual
       wide-complete (tooLarge k (contents k v)) (gather (split k (contents k v)) (λ h. together (matches p (leftOf k h)) (matches q (rightOf k h)))) st
       (among (split k (contents k v)) (give (failed st)) (λ h. bind (tries p (leftOf k h) st) (λ r. tries q (rightOf k h) r))) e
       (among-complete (split k (contents k v)) st (λ h. together (matches p (leftOf k h)) (matches q (rightOf k h))) (give (failed st))
-        (λ h. bind (tries p (leftOf k h) st) (λ r. tries q (rightOf k h) r))
-        (λ h i.
-          let g = none-exists (split k (contents k v)) (λ h. wide p (leftOf k h) || wide q (rightOf k h)) f h i in
-          seq-complete (matches p (leftOf k h)) (matches q (rightOf k h)) st (tries p (leftOf k h) st) (λ r. tries q (rightOf k h) r)
-          (complete p (leftOf k h) st (or-left (wide p (leftOf k h)) (wide q (rightOf k h)) g))
-          (λ r. complete q (rightOf k h) r (or-right (wide p (leftOf k h)) (wide q (rightOf k h)) g))))
+      (λ h. bind (tries p (leftOf k h) st) (λ r. tries q (rightOf k h) r))
+      (λ h i.
+      let g = none-exists (split k (contents k v)) (λ h. wide p (leftOf k h) || wide q (rightOf k h)) f h i in
+      seq-complete (matches p (leftOf k h)) (matches q (rightOf k h)) st (tries p (leftOf k h) st) (λ r. tries q (rightOf k h) r)
+      (complete p (leftOf k h) st (or-left (wide p (leftOf k h)) (wide q (rightOf k h)) g))
+      (λ r. complete q (rightOf k h) r (or-right (wide p (leftOf k h)) (wide q (rightOf k h)) g))))
 
   complete-each : (ps : Patterns) (vs : List Value) (st : State) → wideEach ps vs ≡ false → Complete (matchEach ps vs) st (tryEach ps vs st)
   complete-each nil vs st w = any-complete st

@@ -79,7 +79,7 @@ unfolding tries
 halved-tries k p q v st =
     ap (pick (tooLarge k (contents k v)) (give (widened st)))
     (among-cong (split k (contents k v)) (give (failed st)) (λ h. bind (tries p (leftOf k h) st) (λ r. tries q (rightOf k h) r)) (λ h. tryEach (patternsOf (p ∷ q ∷ [])) (pair k h) st)
-      (λ h. two-tries p q (leftOf k h) (rightOf k h) st)
+    (λ h. two-tries p q (leftOf k h) (rightOf k h) st)
     ∙ sym (among-map (pair k) (split k (contents k v)) (give (failed st)) (λ vs. tryEach (patternsOf (p ∷ q ∷ [])) vs st)))
 
 two-of : (ps : List Pattern) → length ps ≡ 2 → getD ps 0 any ∷ getD ps 1 any ∷ [] ≡ ps

@@ -52,8 +52,8 @@ mutual
   tries-tame (halved k p q) v st =
       tame-pick (tooLarge k (contents k v)) (widened st) (among (split k (contents k v)) (give (failed st)) (λ h. bind (tries p (leftOf k h) st) (λ r. tries q (rightOf k h) r))) (suc (places p + places q))
       (tame-among (split k (contents k v)) (failed st) (λ h. bind (tries p (leftOf k h) st) (λ r. tries q (rightOf k h) r)) (places p + places q)
-        (λ h. tame-bind (tries p (leftOf k h) st) (λ r. tries q (rightOf k h) r) (places p) (places q) (places p + places q) (omega arith)
-          (tries-tame p (leftOf k h) st) (λ r. tries-tame q (rightOf k h) r)))
+      (λ h. tame-bind (tries p (leftOf k h) st) (λ r. tries q (rightOf k h) r) (places p) (places q) (places p + places q) (omega arith)
+      (tries-tame p (leftOf k h) st) (λ r. tries-tame q (rightOf k h) r)))
 
   pub each-tame : (ps : Patterns) (vs : List Value) (st : State) → Tame (placesEach ps) (tryEach ps vs st)
   each-tame nil vs st = tt

@@ -149,7 +149,7 @@ each-along-match-along-requires : (t : ℕ) → each-along-lts.Need-match-along-
   each-along-below t,
   each-along.Post,
 ) (each-along-at t) each-along.Post
-each-along-match-along-requires t c κs = 
+each-along-match-along-requires t c κs =
     let low : c .before .before .before .before .before .before .before .args .i < length (named (recordAt (records (c .before .before .before .before .before .before .before .args .table .now)) (c .before .before .before .before .before .before .before .args .p))) = omega (arith, c .before .before .before .before .operand-count .ensures .0) in
     let o = operand-readable _ _ _ (c .before .before .before .before .before .before .before .pre .1 .0) _ low (c .before .before .before .before .before .before .before .pre .1 .1 .0 .composed) _ (c .operand .ensures .0) in
     let few = count-few _ _ _ (c .before .before .before .before .before .before .before .pre .1 .0) (c .before .before .before .before .before .before .before .pre .1 .1 .0 .composed) in
@@ -187,7 +187,7 @@ each-along-each-along-requires : (t : ℕ) → each-along-lts.Need-each-along-re
   each-along-below t,
   each-along.Post,
 ) (each-along-at t) each-along.Post
-each-along-each-along-requires t c κs = 
+each-along-each-along-requires t c κs =
     let few = count-few _ _ _ (c .before .before .before .before .before .before .before .before .before .before .pre .1 .0) (c .before .before .before .before .before .before .before .before .before .before .pre .1 .1 .0 .composed) in
     (omega (arith, few, c .before .before .before .before .before .before .before .operand-count .ensures .0), (c .before .before .before .before .before .before .before .before .before .before .pre .1 .0, (way-next _ _ _ (c .before .before .before .before .before .before .before .before .before .before .pre .1 .0) _ _ _ _ (c .before .before .before .before .before .before .before .before .before .before .pre .1 .1 .0) (c .before .before .before .before .before .before .before .before .before .before .args .found) (c .before .before .before .before .before .before .before .before .before .before .args .digits) (omega (arith, c .before .before .before .before .before .before .before .operand-count .ensures .0)), next-standing _ _ _ (c .before .before .before .before .before .before .before .before .before .before .pre .1 .0) _ _ _ _ (c .before .before .before .before .before .before .before .before .before .before .pre .1 .1 .0) (c .before .before .before .before .before .before .before .before .before .before .args .found) (c .before .before .before .before .before .before .before .before .before .before .args .digits) (omega (arith, c .before .before .before .before .before .before .before .operand-count .ensures .0)) _ _ _ (c .before .before .before .before .before .kind .ensures .0) (c .before .before .before .before .before .before .before .operand-count .ensures .0) (c .before .before .before .before .piece .ensures) _ (c .before .before .before .operand .ensures .0) _ (c .before .before .match-along .ensures) (c .before .before .before .before .before .before .before .before .before .before .pre .1 .1 .1), c .before .before .match-along .ensures .sound)))
 
@@ -301,7 +301,7 @@ match-along-meet-requires : (t : ℕ) → match-along-lts.Need-meet-requires (
   each-along-below t,
   each-along.Post,
 ) (match-along-at t) match-along.Post
-match-along-meet-requires t c κs = 
+match-along-meet-requires t c κs =
     let low : 36 ≤ kindAt (records (c .before .before .before .before .before .args .table .now)) (c .before .before .before .before .before .args .p) = omega (arith, c .before .before .kind .ensures .0) in
     (omega arith, c .before .before .kind .ensures .1, omega (arith, c .operand-count .ensures .0, count-few _ _ _ (c .before .before .before .before .before .pre .1 .0) low), c .before .before .before .before .before .pre .1 .1 .0)
 
@@ -436,7 +436,7 @@ match-along-each-along-requires : (t : ℕ) → match-along-lts.Need-each-along-
   each-along-below t,
   each-along.Post,
 ) (match-along-at t) match-along.Post
-match-along-each-along-requires t c κs = 
+match-along-each-along-requires t c κs =
     (omega arith, (c .before .before .before .before .before .before .before .before .before .before .before .pre .1 .0, (way-held _ _ _ (c .before .before .before .before .before .before .before .before .before .before .before .pre .1 .0) _ _ (c .before .before .before .before .before .before .before .before .before .before .before .args .found) (c .before .before .before .before .before .before .before .before .before .before .before .args .digits) (c .before .before .before .before .before .before .before .before .before .before .before .pre .1 .1 .2) (omega (arith, c .before .before .before .before .before .before .before .before .kind .ensures .0)) (c .before .before .before .before .before .meet .result) (recast-meets _ _ _ _ (c .before .before .before .before .before .meet .result) (c .before .before .before .before .before .before .before .before .kind .ensures .0) (c .before .before .before .before .before .before .operand-count .ensures .0) (c .before .before .before .before .before .meet .ensures)) _ (c .before .before .before .m .given .1) _ (c .before .take .ensures) (c .before .before .before .before .before .before .before .before .before .before .before .pre .1 .1 .0), c .before .before .before .before .before .before .before .before .before .before .before .pre .1 .1 .1, c .before .take .ensures .sound)))
 
 -- src/lib.rt:107:1
