@@ -1,0 +1,262 @@
+// The bindings of a pattern one after the other: the least binding above the present one, over all ways and all members.
+use digits::Digits;
+use integers::Order;
+use matching::Found;
+use parts::Part;
+ghost use mathlib.Core.Path.{_≡_};
+ghost use mathlib.Core.Bool.{Bool, true, false};
+ghost use mathlib.Core.List.{List};
+ghost use mathlib.Core.Option.{Option};
+ghost use Prim.Native.Nat.{ℕ, _+_, _≤_, _<_};
+ghost use Rattle.values.specs.Place.{Holds, HoldsItems};
+ghost use Rattle.patterns.specs.Binding.{Cell, Binding, orderCells, orderBindings};
+ghost use Rattle.parts.specs.Part.{CellIs};
+ghost use Rattle.ways.specs.Following.{isAbove};
+ghost use Rattle.ways.specs.Best.{isBelow};
+ghost use Rattle.matching.specs.Found.{Standing};
+ghost use Rattle.bindings.specs.Bound.{CellHeld, Bound, BoundHeld, BestIs, BestHeld, Considered, Searchable, SoughtOf, SoughtOfAll, Bindable, Follows, NoneYet, Tallied};
+
+// A binding, or none; and whether a union pattern was met by a set of over seven members.
+pub struct Best {
+    pub found: Found,
+    pub any: bool,
+    pub wide: bool,
+}
+
+// How many bindings there are, or refusal 29 or 30.
+pub enum Tally {
+    Number(usize),
+    Refused(usize),
+}
+
+impl Best {
+    // No binding.
+    pub fn none() -> Best
+        ensures { λ r. ⌜ NoneYet r ⌝ }
+    {
+        let found = Found::nothing();
+        Best {
+            found,
+            any: false,
+            wide: false,
+        }
+    }
+}
+
+// The order of what two names are bound to.
+fn order_cells(s: &[u8], p: Part, q: Part) -> Order
+    requires { ⌜ CellHeld (now s) p × CellHeld (now s) q ⌝ }
+    ensures { λ r. ⌜ ((a b : Cell) → CellIs (now (s .entry)) p a → CellIs (now (s .entry)) q b → r ≡ orderCells a b) ⌝ }
+{
+    if p.how == 0 {
+        if q.how == 0 {
+            return Order::Same;
+        }
+        return Order::Lower;
+    }
+    if q.how == 0 {
+        return Order::Higher;
+    }
+    parts::order_parts(s, p, q)
+}
+
+// The order of two bindings: by their values taken in rising name number.
+fn order_found(s: &[u8], f: Found, g: Found) -> Order
+    requires { ⌜ BoundHeld (now s) f × BoundHeld (now s) g ⌝ }
+    ensures { λ r. ⌜ ((a b : Binding) → Bound (now (s .entry)) f a → Bound (now (s .entry)) g b → r ≡ orderBindings a b) ⌝ }
+{
+    let mut x = 0;
+    while x < Found::NAMES {
+        let p = f.parts[x];
+        let q = g.parts[x];
+        let o = order_cells(s, p, q);
+        match o {
+            Order::Lower => return Order::Lower,
+            Order::Higher => return Order::Higher,
+            Order::Same => {
+                x += 1;
+            }
+        }
+    }
+    Order::Same
+}
+
+// What is found is above the present binding.
+fn is_above(s: &[u8], present: Best, f: Found) -> bool
+    requires { ⌜ BestHeld (now s) present × BoundHeld (now s) f ⌝ }
+    ensures { λ r. ⌜ ((a : Option Binding) (b : Binding) → BestIs (now (s .entry)) present a → Bound (now (s .entry)) f b → r ≡ isAbove a b) ⌝ }
+{
+    if !present.any {
+        return true;
+    }
+    let g = present.found;
+    let o = order_found(s, g, f);
+    match o {
+        Order::Lower => true,
+        Order::Higher => false,
+        Order::Same => false,
+    }
+}
+
+// What is found is below the least so far.
+fn is_below(s: &[u8], f: Found, best: Best) -> bool
+    requires { ⌜ BestHeld (now s) best × BoundHeld (now s) f ⌝ }
+    ensures { λ r. ⌜ ((a : Option Binding) (b : Binding) → BestIs (now (s .entry)) best a → Bound (now (s .entry)) f b → r ≡ isBelow b a) ⌝ }
+{
+    if !best.any {
+        return true;
+    }
+    let g = best.found;
+    let o = order_found(s, f, g);
+    match o {
+        Order::Lower => true,
+        Order::Higher => false,
+        Order::Same => false,
+    }
+}
+
+// What is found counts where it is above the present binding and below the least so far.
+fn consider(s: &[u8], f: Found, present: Best, best: Best) -> Best
+    requires { ⌜ Standing (now s) f × BestHeld (now s) present × BestHeld (now s) best ⌝ }
+    ensures { λ r. ⌜ Considered (now (s .entry)) f present best r ⌝ }
+{
+    let found = best.found;
+    let any = best.any;
+    let wide = best.wide | f.wide;
+    if !f.fits {
+        return Best { found, any, wide };
+    }
+    let above = is_above(s, present, f);
+    if !above {
+        return Best { found, any, wide };
+    }
+    let below = is_below(s, f, best);
+    if !below {
+        return Best { found, any, wide };
+    }
+    Best {
+        found: f,
+        any: true,
+        wide,
+    }
+}
+
+// Over all ways of the value at a place.
+fn best_in(
+    table: &[u8],
+    index: &[u16; 200],
+    p: usize,
+    s: &[u8],
+    at: usize,
+    present: Best,
+    best: Best,
+) -> Best
+    requires { ⌜ Searchable (now table) (now index) p ⌝ }
+    requires { ⌜ Holds (now s) at × BestHeld (now s) present × BestHeld (now s) best ⌝ }
+    ensures { λ r. ⌜ SoughtOf (now (table .entry)) p (now (s .entry)) at present best r ⌝ }
+{
+    let mut digits = Digits::first();
+    let mut best = best;
+    loop {
+        let start = Found::nothing();
+        let m = matching::match_along(
+            table,
+            index,
+            p,
+            s,
+            Part {
+                how: 1,
+                at,
+                extent: 0,
+            },
+            start,
+            digits,
+        );
+        let f = m.found;
+        best = consider(s, f, present, best);
+        let rest = m.digits;
+        let a = rest.advance();
+        if !a.more {
+            return best;
+        }
+        digits = a.digits;
+    }
+}
+
+// Over all ways of all members from a place up to another.
+fn best_all(
+    table: &[u8],
+    index: &[u16; 200],
+    p: usize,
+    s: &[u8],
+    from: usize,
+    to: usize,
+    present: Best,
+    best: Best,
+) -> Best
+    requires { ⌜ Searchable (now table) (now index) p ⌝ }
+    requires { ⌜ HoldsItems (now s) from to × BestHeld (now s) present × BestHeld (now s) best ⌝ }
+    ensures { λ r. ⌜ SoughtOfAll (now (table .entry)) p (now (s .entry)) from to present best r ⌝ }
+{
+    let mut at = from;
+    let mut best = best;
+    while at < to {
+        let n = values::length_of(s, at);
+        best = best_in(table, index, p, s, at, present, best);
+        at += n;
+    }
+    best
+}
+
+// The binding that follows the present one: of a pattern over the members of the set at a place, or over the one value there.
+pub fn next_binding(
+    table: &[u8],
+    index: &[u16; 200],
+    p: usize,
+    s: &[u8],
+    at: usize,
+    whole: bool,
+    present: Best,
+) -> Best
+    requires { ⌜ Searchable (now table) (now index) p ⌝ }
+    requires { ⌜ Bindable (now s) at whole × BestHeld (now s) present ⌝ }
+    ensures { λ r. ⌜ Follows (now (table .entry)) p (now (s .entry)) at whole present r ⌝ }
+{
+    let none = Best::none();
+    if whole {
+        return best_in(table, index, p, s, at, present, none);
+    }
+    let n = values::length_of(s, at);
+    best_all(table, index, p, s, at + 4, at + n, present, none)
+}
+
+// The number of bindings, or 29 or 30.
+pub fn count_bindings(
+    table: &[u8],
+    index: &[u16; 200],
+    p: usize,
+    s: &[u8],
+    at: usize,
+    whole: bool,
+) -> Tally
+    requires { ⌜ Searchable (now table) (now index) p ⌝ }
+    requires { ⌜ Bindable (now s) at whole ⌝ }
+    ensures { λ r. ⌜ Tallied (now (table .entry)) p (now (s .entry)) at whole r ⌝ }
+{
+    let mut present = Best::none();
+    let mut n = 0;
+    loop {
+        let next = next_binding(table, index, p, s, at, whole, present);
+        if next.wide {
+            return Tally::Refused(29);
+        }
+        if !next.any {
+            return Tally::Number(n);
+        }
+        if values::Value::BINDINGS <= n {
+            return Tally::Refused(30);
+        }
+        n += 1;
+        present = next;
+    }
+}
