@@ -1,0 +1,40 @@
+// The strict operators by number, on values in scratch: one call for all of one operand, and one for all of two.
+use scalars::Applied;
+ghost use Rattle.operators.specs.Operators.{unary, binary};
+ghost use Rattle.scalars.specs.Applied.{One, Two, OnOne, OnTwo};
+ghost use Rattle.operations.specs.Numbers.{Unary, Binary};
+
+// The numbers of the operators: the unary ones start at 1, and below the first strict binary one are and, or and =>.
+pub const LAST_UNARY: usize = 13;
+
+pub const FIRST_STRICT: usize = 4;
+
+pub const LAST_BINARY: usize = 24;
+
+// The unary operators, 1 to 13, on the value at base.
+pub fn unary(s: &mut [u8], base: usize, operator: usize) -> Applied
+    requires { ⌜ One (now s) base × Unary operator ⌝ }
+    ensures { λ r. ⌜ OnOne (unary operator) (now (s .entry)) (now (s .exit)) base r ⌝ }
+{
+    if operator <= 3 {
+        return scalars::unary_scalar(s, base, operator);
+    }
+    if operator <= 6 {
+        return set_operators::unary_set(s, base, operator);
+    }
+    sequence_operators::unary_sequence(s, base, operator)
+}
+
+// The strict binary operators, 4 to 24, on the values at base and 512 bytes above it.
+pub fn binary(s: &mut [u8], base: usize, operator: usize) -> Applied
+    requires { ⌜ Two (now s) base × Binary operator ⌝ }
+    ensures { λ r. ⌜ OnTwo (binary operator) (now (s .entry)) (now (s .exit)) base r ⌝ }
+{
+    if operator <= 16 {
+        return scalars::binary_scalar(s, base, operator);
+    }
+    if operator <= 23 {
+        return set_operators::binary_set(s, base, operator);
+    }
+    sequence_operators::concatenate(s, base)
+}

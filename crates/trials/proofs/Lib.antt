@@ -1,0 +1,5 @@
+pub mod Telling
+pub mod Shapes
+pub mod Found
+pub mod Placing
+pub mod Trying

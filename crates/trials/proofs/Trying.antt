@@ -1,0 +1,66 @@
+-- From what an operator promises on scratch to what a trial of it answers.
+use mathlib.Core.Path.{_≡_, refl, sym, ap, _∙_}
+use mathlib.Core.Bool.{Bool, true, false}
+use mathlib.Core.List.{List}
+use Prim.Native.Nat.{ℕ, _+_, _≤_}
+use native.Mathlib.Omega.{arith}
+use Rattle.values.specs.Value.{Value}
+use Rattle.values.specs.Records.{holds}
+use Rattle.operators.specs.Answer.{Answer}
+use Rattle.scalars.specs.declared.Applied.{Applied}
+use Rattle.scalars.specs.Applied.{One, Two, Applies, done as there, off as not-there, OnOne, OnTwo}
+use Rattle.trials.specs.Trial.{Operand, SomeOperand, Roomy, PlacesOne, PlacesTwo, badInput, numberOf, Answers, done, off, TriesOne, TriesTwo}
+use Rattle.trials.proofs.Telling.{false-true, told-false}
+
+-- the number of an answer
+answers : {t : List ℕ} {a : Applied} {r : ℕ} {x : Answer} → r ≡ numberOf a → Applies t 0 a x → Answers t r x
+answers e (there d h) = done (e ∙ ap numberOf d) h
+answers e (not-there d) = off (e ∙ ap numberOf d)
+
+-- ---- one operand
+
+pub one-unknown : {K : Type 0} {f : Value → Answer} {x s : List ℕ} → (K → ⊥) → TriesOne K f x s s badInput
+one-unknown n = record { right = λ v k g o. absurd (n k); bad = λ b. (refl, refl) }
+
+pub one-bad : {K : Type 0} {f : Value → Answer} {x s t : List ℕ} {r : Bool} → PlacesOne x s t r → r ≡ false → TriesOne K f x s t badInput
+one-bad p e =
+    record {
+      right = λ v k g o. absurd (told-false (p .tells) e (g, (v, o)));
+      bad = λ b. (refl, p .still e);
+    }
+
+pub one-asked : {x s t : List ℕ} {r : Bool} → PlacesOne x s t r → r ≡ true → One t 0
+one-asked p e =
+    let i = p .tells .sound e in
+    let l = p .long in
+    let g = i .0 in
+    record { held = holds (p .first (i .1 .0) e (i .1 .1)); room = omega arith }
+
+pub one-tried : {K : Type 0} {f : Value → Answer} {x s t : List ℕ} {u : List ℕ} {r : Bool} {a : Applied} {n : ℕ} → K → PlacesOne x s t r → r ≡ true → OnOne f t u 0 a → n ≡ numberOf a → TriesOne K f x s u n
+one-tried k p e o d =
+    let i = p .tells .sound e in
+    record { right = λ v k′ g w. answers d (o .right v (p .first v e w)); bad = λ b. absurd (b k (i .0) (i .1)) }
+
+-- ---- two operands
+
+pub two-unknown : {K : Type 0} {f : Value → Value → Answer} {x y s : List ℕ} → (K → ⊥) → TriesTwo K f x y s s badInput
+two-unknown n = record { right = λ v w k g o q. absurd (n k); bad = λ b. (refl, refl) }
+
+pub two-bad : {K : Type 0} {f : Value → Value → Answer} {x y s t : List ℕ} {r : Bool} → PlacesTwo x y s t r → r ≡ false → TriesTwo K f x y s t badInput
+two-bad p e =
+    record {
+      right = λ v w k g o q. absurd (told-false (p .tells) e (g, (v, o), (w, q)));
+      bad = λ b. (refl, p .still e);
+    }
+
+pub two-asked : {x y s t : List ℕ} {r : Bool} → PlacesTwo x y s t r → r ≡ true → Two t 0
+two-asked p e =
+    let i = p .tells .sound e in
+    let l = p .long in
+    let g = i .0 in
+    record { left = holds (p .first (i .1 .0) e (i .1 .1)); right = holds (p .second (i .2 .0) e (i .2 .1)); room = omega arith }
+
+pub two-tried : {K : Type 0} {f : Value → Value → Answer} {x y s t : List ℕ} {u : List ℕ} {r : Bool} {a : Applied} {n : ℕ} → K → PlacesTwo x y s t r → r ≡ true → OnTwo f t u 0 a → n ≡ numberOf a → TriesTwo K f x y s u n
+two-tried k p e o d =
+    let i = p .tells .sound e in
+    record { right = λ v w k′ g q r. answers d (o .right v w (p .first v e q) (p .second w e r)); bad = λ b. absurd (b k (i .0) (i .1) (i .2)) }

@@ -1,0 +1,66 @@
+-- What a trial of an operator answers, for whatever bytes it is given.
+use mathlib.Core.Path.{_≡_}
+use mathlib.Core.Bool.{Bool, true, false}
+use mathlib.Core.List.{List}
+use Prim.Native.Nat.{ℕ, _+_, _≤_}
+use lib.ListN.{length}
+use Rattle.values.specs.Value.{Value, size, encode, WellFormed, limit}
+use Rattle.values.specs.Place.{At}
+use Rattle.operators.specs.Answer.{Answer, is, refused}
+use Rattle.scalars.specs.declared.Applied.{Applied}
+use Rattle.scalars.specs.declared.Applied.the-variants.{Done, Refused}
+use Rattle.trials.specs.Validity.{Tells}
+
+-- ---- operands
+
+-- The bytes are the record of the well-formed value v, and nothing else.
+pub record Operand (bytes : List ℕ) (v : Value) : Type 0 where
+  pub is : bytes ≡ encode v
+  pub fine : WellFormed v
+
+-- They are some value's record.
+abbrev pub SomeOperand : List ℕ → Type 0
+SomeOperand bytes = (v : Value) × Operand bytes v
+
+-- Scratch that is long enough to try an operator in.
+abbrev pub Roomy : List ℕ → Type 0
+Roomy s = 1536 ≤ length s
+
+-- The operands x, or x and y, were put at 0 and at 512 of scratch, which is t now; or they are no such operands, and nothing changed.
+pub record PlacesOne (x s t : List ℕ) (r : Bool) : Type 0 where
+  pub tells : Tells (Roomy s × SomeOperand x) r
+  pub long : length t ≡ length s
+  pub first : (v : Value) → r ≡ true → Operand x v → At t 0 v
+  pub still : r ≡ false → t ≡ s
+
+pub record PlacesTwo (x y s t : List ℕ) (r : Bool) : Type 0 where
+  pub tells : Tells (Roomy s × SomeOperand x × SomeOperand y) r
+  pub long : length t ≡ length s
+  pub first : (v : Value) → r ≡ true → Operand x v → At t 0 v
+  pub second : (w : Value) → r ≡ true → Operand y w → At t 512 w
+  pub still : r ≡ false → t ≡ s
+
+-- ---- answers
+
+-- Input that is no trial: an unknown operator, bytes that are no value, or too little scratch.
+abbrev pub badInput : ℕ
+badInput = 255
+
+-- The number of an answer: 0, or the number of the refusal.
+abbrev pub numberOf : Applied → ℕ
+numberOf Done = 0
+numberOf (Refused n) = n
+
+-- The answer as a number: 0 with the value at the start of t, or the refusal.
+pub data Answers (t : List ℕ) (r : ℕ) : Answer → Type 0 where
+  done : {v : Value} → r ≡ 0 → At t 0 v → Answers t r (is v)
+  off : {n : ℕ} → r ≡ n → Answers t r (refused n)
+
+-- The operator f, which there is if `Known` is so, was tried on the operand x, or on x and y, in scratch s, which is t now.
+pub record TriesOne (Known : Type 0) (f : Value → Answer) (x s t : List ℕ) (r : ℕ) : Type 0 where
+  pub right : (v : Value) → Known → Roomy s → Operand x v → Answers t r (f v)
+  pub bad : (Known → Roomy s → SomeOperand x → ⊥) → (r ≡ badInput) × (t ≡ s)
+
+pub record TriesTwo (Known : Type 0) (f : Value → Value → Answer) (x y s t : List ℕ) (r : ℕ) : Type 0 where
+  pub right : (v w : Value) → Known → Roomy s → Operand x v → Operand y w → Answers t r (f v w)
+  pub bad : (Known → Roomy s → SomeOperand x → SomeOperand y → ⊥) → (r ≡ badInput) × (t ≡ s)

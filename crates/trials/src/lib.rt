@@ -1,0 +1,94 @@
+// Operators tried on values from outside. Untrusted bytes are validated before anything is done with them, so nothing is asked of a caller.
+use scalars::Applied;
+ghost use mathlib.Core.Path.{_≡_};
+ghost use Rattle.operators.specs.Sets.{rangeOf};
+ghost use Rattle.operators.specs.Maps.{applyTo};
+ghost use Rattle.operators.specs.Operators.{unary, binary};
+ghost use Rattle.operations.specs.Numbers.{Unary, Binary};
+ghost use Rattle.trials.specs.Validity.{Tells};
+ghost use Rattle.trials.specs.Trial.{SomeOperand, numberOf, TriesOne, TriesTwo};
+
+mod operands;
+mod validity;
+
+// Input that is no trial: an unknown operator, bytes that are no value, or too little scratch. Nothing is written then.
+const BAD_INPUT: usize = 255;
+
+// The number of an answer: 0, or the number of the refusal.
+fn number(answer: Applied) -> usize
+    ensures { λ r. ⌜ r ≡ numberOf answer ⌝ }
+{
+    match answer {
+        Applied::Done => 0,
+        Applied::Refused(n) => n,
+    }
+}
+
+// Whether bytes are the record of a well-formed value, and nothing else.
+#[no_mangle]
+pub extern "C" fn trials_valid(bytes: &[u8]) -> bool
+    ensures { λ r. ⌜ Tells (SomeOperand (now (bytes .entry))) r ⌝ }
+{
+    operands::is_value(bytes)
+}
+
+// A unary operator: its value is left at the start of scratch.
+#[no_mangle]
+pub extern "C" fn trials_unary(operator: usize, operand: &[u8], scratch: &mut [u8]) -> usize
+    ensures { λ r. ⌜ TriesOne (Unary operator) (unary operator) (now (operand .entry)) (now (scratch .entry)) (now (scratch .exit)) r ⌝ }
+{
+    if operator < 1 {
+        return BAD_INPUT;
+    }
+    if operator > operations::LAST_UNARY {
+        return BAD_INPUT;
+    }
+    if operands::place_one(operand, scratch) {
+        return number(operations::unary(scratch, 0, operator));
+    }
+    BAD_INPUT
+}
+
+// A strict binary operator.
+#[no_mangle]
+pub extern "C" fn trials_binary(
+    operator: usize,
+    left: &[u8],
+    right: &[u8],
+    scratch: &mut [u8],
+) -> usize
+    ensures { λ r. ⌜ TriesTwo (Binary operator) (binary operator) (now (left .entry)) (now (right .entry)) (now (scratch .entry)) (now (scratch .exit)) r ⌝ }
+{
+    if operator < operations::FIRST_STRICT {
+        return BAD_INPUT;
+    }
+    if operator > operations::LAST_BINARY {
+        return BAD_INPUT;
+    }
+    if operands::place_two(left, right, scratch) {
+        return number(operations::binary(scratch, 0, operator));
+    }
+    BAD_INPUT
+}
+
+// The set range.
+#[no_mangle]
+pub extern "C" fn trials_range(from: &[u8], to: &[u8], scratch: &mut [u8]) -> usize
+    ensures { λ r. ⌜ TriesTwo (Unit {0}) rangeOf (now (from .entry)) (now (to .entry)) (now (scratch .entry)) (now (scratch .exit)) r ⌝ }
+{
+    if operands::place_two(from, to, scratch) {
+        return number(scalars::range(scratch, 0));
+    }
+    BAD_INPUT
+}
+
+// A sequence or a map applied to an argument.
+#[no_mangle]
+pub extern "C" fn trials_apply(function: &[u8], argument: &[u8], scratch: &mut [u8]) -> usize
+    ensures { λ r. ⌜ TriesTwo (Unit {0}) applyTo (now (function .entry)) (now (argument .entry)) (now (scratch .entry)) (now (scratch .exit)) r ⌝ }
+{
+    if operands::place_two(function, argument, scratch) {
+        return number(sequence_operators::applying::apply(scratch, 0));
+    }
+    BAD_INPUT
+}
