@@ -3,7 +3,6 @@ use mathlib.Core.Path.{_≡_, sym, ap, subst, _∙_}
 use mathlib.Core.Bool.{Bool}
 use mathlib.Core.List.{List}
 use Prim.Native.Nat.{ℕ, _<_, _≤_}
-use native.Mathlib.Omega.{arith}
 use borrow.Author.Tests.{lt-ltb, le-ltb}
 use lib.Dec.{ltb}
 use lib.ListN.{length}
@@ -12,22 +11,20 @@ use Rattle.meaning.specs.Service.{scratchBytes, unless, accepted, checks}
 use Rattle.tables.specs.declared.Checked.{Checked}
 use Rattle.tables.specs.declared.Checked.the-variants.{Accepted, Refused}
 use Rattle.tables.specs.Check.{check}
-use Rattle.services.specs.Answer.{weight, pack, packed, records}
+use Rattle.services.specs.Answer.{pack, packed, records}
 use Rattle.services.specs.Bounds.{Small}
 
 module _ (checked : Checked) where
   module _ (n : ℕ) (e : checked ≡ Accepted n) where
-    pub accepted-fits : Small checked → (0 < weight) × (0 < weight) × (n < weight)
-    accepted-fits s = let few : n ≤ 200 = subst Small e s in (omega arith, omega arith, omega (arith, few))
+    pub accepted-few : Small checked → n ≤ 200
+    accepted-few s = subst Small e s
 
     pub accepted-packed : pack 0 0 n ≡ packed records (accepted checked (λ k. result k))
     accepted-packed = ap (λ (x : Checked). packed records (accepted x (λ k. result k))) (sym e)
 
   module _ (n r : ℕ) (e : checked ≡ Refused n r) where
-    pub refused-fits : Small checked → (n < weight) × (r < weight) × (0 < weight)
-    refused-fits s =
-        let both : (n ≤ 9) × (r < 600) = subst Small e s in
-        (omega (arith, both .0), omega (arith, both .1), omega arith)
+    pub refused-low : Small checked → (n ≤ 9) × (r < 600)
+    refused-low s = subst Small e s
 
     pub refused-packed : pack n r 0 ≡ packed records (accepted checked (λ k. result k))
     refused-packed = ap (λ (x : Checked). packed records (accepted x (λ k. result k))) (sym e)

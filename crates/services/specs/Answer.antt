@@ -27,12 +27,9 @@ count counted (refuses n r k) = k
 abbrev pub packed : {A : Type 0} → (A → ℕ) → Final A → ℕ
 packed counted answer = pack (number answer) (place answer) (count counted answer)
 
--- After an accepted check the count is the number of records; after any other success it is 0.
+-- After an accepted check the count is the number of records.
 abbrev pub records : ℕ → ℕ
 records n = n
-
-abbrev pub none : {A : Type 0} → A → ℕ
-none a = 0
 
 -- ---- the parts of an answer
 

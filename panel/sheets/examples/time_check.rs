@@ -1,49 +1,68 @@
-//! Prints how long a check takes: the mean over generated tables, and the slowest tables of full size.
+//! Prints how long a check takes, the clearing of the scratch included: the mean, and the slowest tables.
 
 use generator::{accepted, at_limits, damaged};
-use sheets::{check, Answer, SCRATCH_SIZE};
+use sheets::{check, SCRATCH_SIZE};
 use std::time::{Duration, Instant};
 
-const ROUNDS: u32 = 200;
+const ROUNDS: u32 = 100;
 
-/// The mean time of a check, the clearing of the scratch included.
-fn time(table: &[u8], scratch: &mut [u8]) -> (Answer, Duration) {
-    let start = Instant::now();
-    let mut answer = check(table, scratch);
-    for _ in 1..ROUNDS {
-        answer = check(table, scratch);
-    }
-    (answer, start.elapsed() / ROUNDS)
+/// The least time of a check.
+fn time(table: &[u8], scratch: &mut [u8]) -> Duration {
+    let once = |_| {
+        let start = Instant::now();
+        check(table, scratch);
+        start.elapsed()
+    };
+    (0..ROUNDS).map(once).min().expect("a round")
 }
 
-/// 200 records of 12 bytes: sequences whose operands hold all that fits, the rest empty sequences.
-fn full() -> Vec<u8> {
-    let mut table = Vec::new();
-    for number in 0..200u8 {
-        table.extend([12, 0, 8, 0]);
-        table.extend([number.wrapping_sub(1); 8]);
-    }
-    table
+/// 2,400 bytes: 200 sequences of 8 operands.
+fn widest() -> Vec<u8> {
+    let record = |number: u8| {
+        [12, 0, 8, 0]
+            .into_iter()
+            .chain([number.saturating_sub(1); 8])
+    };
+    (0..200).flat_map(record).collect()
+}
+
+/// 200 records, each the operand of the next.
+fn highest() -> Vec<u8> {
+    let record = |number: u8| [6, 0, 4, 0, 2, number];
+    [5, 0, 1, 0, 1]
+        .into_iter()
+        .chain((0..199).flat_map(record))
+        .collect()
 }
 
 fn main() {
+    let mut tables = vec![
+        ("empty".to_string(), Vec::new()),
+        ("widest".to_string(), widest()),
+        ("highest".to_string(), highest()),
+        ("600 records".to_string(), [4, 0, 33, 0].repeat(600)),
+    ];
+    tables.extend(at_limits().into_iter().map(|(l, table)| (l.into(), table)));
+    for seed in 0..2000 {
+        tables.push((format!("accepted {seed}"), accepted(seed)));
+        tables.push((format!("damaged {seed}"), damaged(seed).1));
+    }
+
     let mut scratch = vec![1; SCRATCH_SIZE];
-    let mut tables = vec![("full".to_string(), full()), ("empty".to_string(), vec![])];
-    tables.push(("599 records".to_string(), [4, 0, 33, 0].repeat(600)));
-    tables.extend(at_limits().into_iter().map(|(l, t)| (l.to_string(), t)));
-    tables.extend((0..2000).map(|seed| (format!("accepted {seed}"), accepted(seed))));
-    tables.extend((0..2000).map(|seed| (format!("damaged {seed}"), damaged(seed).1)));
     let mut times: Vec<_> = tables
         .iter()
-        .map(|(label, table)| (time(table, &mut scratch), label, table.len()))
+        .map(|(label, table)| (time(table, &mut scratch), label, table))
         .collect();
-    times.sort_by_key(|((_, taken), _, _)| *taken);
-    let total: Duration = times.iter().map(|((_, taken), _, _)| *taken).sum();
-    println!("mean {:?}", total / times.len() as u32);
-    for ((answer, taken), label, length) in times.iter().rev().take(8) {
-        println!("{taken:?}: {label}, {length} bytes, {answer:?}");
+    for (taken, label, table) in &times[..4] {
+        let answer = check(table, &mut scratch);
+        println!("{taken:?} {label}, {} bytes: {answer:?}", table.len());
     }
-    for ((answer, taken), label, length) in times.iter().filter(|t| t.1 == "empty") {
-        println!("{taken:?}: {label}, {length} bytes, {answer:?}");
+    let total: Duration = times.iter().map(|(taken, _, _)| taken).sum();
+    println!("{:?} the mean", total / times.len() as u32);
+    times.sort();
+    println!("the slowest:");
+    for (taken, label, table) in times.iter().rev().take(5) {
+        let answer = check(table, &mut scratch);
+        println!("{taken:?} {label}, {} bytes: {answer:?}", table.len());
     }
 }

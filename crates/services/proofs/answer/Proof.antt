@@ -1,6 +1,7 @@
 -- By the cases of what is checked.
 use mathlib.Core.Path.{_∙_}
-use Rattle.services.proofs.Packing.{accepted-fits, accepted-packed, refused-fits, refused-packed}
+use native.Mathlib.Omega.{arith}
+use Rattle.services.proofs.Packing.{accepted-few, accepted-packed, refused-low, refused-packed}
 use borrow.Author.Needs.{needs}
 use Rattle.services.proofs.answer.Statement.{statement}
 use Rattle.services.proofs.answer.Tie as tie
@@ -14,7 +15,9 @@ enum-known-checked c = search needs
 
 -- src/lib.rt:37:33
 pack-requires : tie.Need-pack-requires
-pack-requires c κs = accepted-fits (c .before .before .before .args .checked) _ (c .before .checked .given .1) (c .before .before .before .pre)
+pack-requires c κs =
+    let few = accepted-few (c .before .before .before .args .checked) _ (c .before .checked .given .1) (c .before .before .before .pre) in
+    (omega (arith, few), omega (arith, few), omega (arith, few))
 
 -- src/lib.rt:38:26
 enum-known-checked-2 : tie.Need-enum-known-checked-2
@@ -22,7 +25,9 @@ enum-known-checked-2 c = search needs
 
 -- src/lib.rt:38:35
 pack-requires-2 : tie.Need-pack-requires-2
-pack-requires-2 c κs = refused-fits (c .before .before .before .args .checked) _ _ (c .before .checked2 .given .1) (c .before .before .before .pre)
+pack-requires-2 c κs =
+    let low = refused-low (c .before .before .before .args .checked) _ _ (c .before .checked2 .given .1) (c .before .before .before .pre) in
+    (omega (arith, low .0), omega (arith, low .1), omega arith)
 
 -- src/lib.rt:32:1
 returns : tie.Need-returns

@@ -32,7 +32,7 @@ loop-less c = omega arith
 
 -- src/lib.rt:48:5
 loop-again : tie.Need-loop-again Inv-loop μ-loop
-loop-again c = zeros-more (c .before .before .args .scratch .now) (c .before .before .pre) (c .before .loop .scratch) (c .before .loop .i) (c .before .loop .inv) _ (omega arith) (c .loop-test .taken)
+loop-again c = zeros-more (c .before .before .args .scratch .now) (c .before .before .pre) (c .before .loop .scratch) (c .before .loop .i) (c .before .loop .inv) _ (omega arith) (omega (arith, c .loop-test .taken))
 
 -- src/lib.rt:43:1
 same-length : tie.Need-same-length Inv-loop μ-loop
@@ -40,7 +40,7 @@ same-length c = c .before .loop .inv .long
 
 -- src/lib.rt:43:1
 returns : tie.Need-returns Inv-loop μ-loop
-returns c = zeros-end (c .before .before .args .scratch .now) (c .before .before .pre) (c .before .loop .scratch) (c .before .loop .i) (c .before .loop .inv) (c .loop-test .left)
+returns c = zeros-end (c .before .before .args .scratch .now) (c .before .before .pre) (c .before .loop .scratch) (c .before .loop .i) (c .before .loop .inv) (omega (arith, c .loop-test .left))
 
 pub clear-spec : {M : Type 1} → statement M
 clear-spec =
