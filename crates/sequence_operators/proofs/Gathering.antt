@@ -15,6 +15,7 @@ use Rattle.values.specs.Records.{Run, run, holds, items-to, items-none}
 use Rattle.values.specs.Encoding.{collection-size, none-sizes, more-sizes}
 use Rattle.values.specs.Frame.{outside-none, outside-both, at-below, items-below}
 use Rattle.collections.specs.declared.building.Added.{Added}
+use Rattle.collections.specs.declared.building.Added.the-variants.{Done as Put}
 use Rattle.collections.specs.Building.{Room, Empties, Inserts}
 use Rattle.operators.specs.Answer.{Answer, is}
 use Rattle.operators.specs.Gather.{insertAll}

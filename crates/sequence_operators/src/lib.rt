@@ -3,7 +3,7 @@ pub mod applying;
 
 use scalars::Applied;
 use values::Value;
-ghost use Prim.Native.Nat.{_+_, _≤_};
+ghost use Prim.Native.Nat.{_≤_};
 ghost use lib.IntN.{pos};
 ghost use Rattle.values.specs.Value.{set, sequence, integer, collection, none, count};
 ghost use Rattle.values.specs.Items.{pick, join};
