@@ -1,34 +1,53 @@
 -- What follows the present binding, and how many there are.
-use mathlib.Core.Path.{_≡_, refl, sym, ap, subst, _∙_}
+use mathlib.Core.Path.{_≡_, refl, sym, ap, ap₂, subst, _∙_}
 use mathlib.Core.Bool.{Bool, true, false}
 use mathlib.Core.Option.{Option, none, some}
-use mathlib.Core.List.{List, [], _∷_}
+use mathlib.Core.List.{List, [], _∷_, map}
 use Prim.Native.Nat.{ℕ, zero, suc, _+_, _≤_, _<_}
 use native.Mathlib.Numerals.{add-one}
 use native.Mathlib.Omega.{arith}
 use lib.ListN.{length}
-use borrow.Author.Tests.{lt-leb}
+use lib.Dec.{leb}
+use borrow.Author.Tests.{lt-leb, leb-true}
 use Rattle.integers.specs.Bytes.{word}
 use Rattle.values.specs.Value.{Value, collection, set}
 use Rattle.values.specs.Items.{pick}
 use Rattle.values.specs.Place.{At, ItemsAt, Holds, HoldsItems}
 use Rattle.values.specs.Records.{holds, items-of, word-size}
-use Rattle.tables.specs.Accepted.{records}
+use Rattle.tables.specs.Record.{Record, named, nameOf, shape, isKnown, size}
+use Rattle.tables.specs.Table.{recordAt, kindAt}
+use Rattle.tables.specs.Accepted.{records, lower, fit-known, fit-least}
+use Rattle.tables.specs.Reading.{HasField}
 use Rattle.patterns.specs.Ways.{gather, exists}
-use Rattle.patterns.specs.Binding.{Binding}
-use Rattle.patterns.specs.Pattern.{Pattern, itemsOf, matches, wide}
+use Rattle.patterns.specs.Binding.{Binding, only}
+use Rattle.patterns.specs.Pattern.{Pattern, name, itemsOf, matches, wide}
 use Rattle.patterns.specs.Binder.{bindings, Formed, bound, refused, few as fewest, formed}
 use Rattle.patterns.specs.Ordered.{Rising, sorted-rising}
 use Rattle.patterns.specs.Forming.{bound-formed}
 use Rattle.ways.specs.Read.{patternAt}
+use Rattle.ways.specs.Nodes.{pattern-at, is-name}
 use Rattle.ways.specs.Merging.{true-false}
 use Rattle.ways.specs.Following.{following, nth}
 use Rattle.ways.specs.Best.{Sought, nothingYet, soughtIn, soughtAll, sought-wide, sought-least}
 use Rattle.bindings.specs.declared.Best.{Best}
 use Rattle.bindings.specs.declared.Tally.{Tally}
 use Rattle.bindings.specs.declared.Tally.the-variants.{Number, Refused}
-use Rattle.bindings.specs.Bound.{Bound, BestIs, BestHeld, SoughtIs, SoughtOf, SoughtOfAll, Values, Bindable, FollowsIn, Follows, NoneYet, TellsOf, Tallied}
+use Rattle.bindings.specs.Bound.{Bound, BestIs, BestHeld, SoughtIs, SoughtOf, SoughtOfAll, Searchable, Values, Bindable, FollowsIn, Follows, StoodAt, MemberHeld, MemberFollows, MemberNext, Present, NextOf, NoneYet, TellsOf, Tallied}
+use Rattle.bindings.proofs.Members.{best-one, set-one, plain-are, plain-narrow}
 use Rattle.bindings.specs.Stepping.{prior, step-on, nth-none, nth-some}
+
+-- ---- the record of a name
+
+name-is-small : (c : ℕ) (r : Record) → c ≡ 32 → isKnown (shape c .head) r ≡ true → nameOf r < 16
+unfolding shape
+name-is-small c r e h =
+    let k : leb (nameOf r) 15 ≡ true = subst (λ (n : ℕ). isKnown (shape n .head) r ≡ true) e h in
+    let l : nameOf r ≤ 15 = leb-true (nameOf r) 15 k in
+    omega arith
+
+name-is-byte : (c : ℕ) → c ≡ 32 → size (shape c .head) ≡ 1
+unfolding shape
+name-is-byte c e = subst (λ (n : ℕ). size (shape n .head) ≡ 1) (sym e) refl
 
 -- ---- the next
 
@@ -67,6 +86,67 @@ module _ (table : List ℕ) (p : ℕ) (s : List ℕ) (at : ℕ) where
       follows-in (patternAt (records table) p) vs a s r
       (h vs a nothingYet (subst (λ (k : ℕ). ItemsAt s (at + 4) (at + k) (itemsOf vs)) (sym (q ∙ word-size i)) (items-of i)) x (none-sought o))
 
+-- ---- what is present again
+
+module _ (table : List ℕ) (p : ℕ) (s : List ℕ) (at : ℕ) (t : Bool) (f r : Best) where
+  pub present-bindable : Present table p s at t f → Bindable s at t
+  present-bindable h = (h .values, h .are)
+
+  pub present-held : Present table p s at t f → BestHeld s f
+  present-held h = (h .binding, h .is)
+
+  -- not a plain name over a set
+  pub next-searched : Present table p s at t f → (t ≡ false → kindAt (records table) p ≡ 32 → ⊥) → Follows table p s at t f r → NextOf table p s at t f r
+  next-searched h n o = record {
+    follows = o;
+    stays = λ w.
+        let g = o (h .values) (h .binding) (h .are) (h .is) in
+        record { values = h .values; are = h .are; binding = following (h .binding) (bindings (patternAt (records table) p) (h .values)); is = g .next (sym (g .wide-is) ∙ w); stood = λ e k. absurd (n e k) };
+  }
+
+module _ (table index : List ℕ) (p : ℕ) (c : Searchable table index p) (k : kindAt (records table) p ≡ 32) (s : List ℕ) (at : ℕ) where
+  x : ℕ
+  x = nameOf (recordAt (records table) p)
+
+  small : nameOf (recordAt (records table) p) < 16
+  small = name-is-small (kindAt (records table) p) (recordAt (records table) p) k (fit-known (recordAt (records table) p) (c .readable .fine .fit p (c .readable .here .within)))
+
+  pub plain-field : HasField table index p 0
+  plain-field = record { here = c .readable .here; has = omega (arith, fit-least (recordAt (records table) p) (c .readable .fine .fit p (c .readable .here .within)), name-is-byte (kindAt (records table) p) k) }
+
+  is-plain : patternAt (records table) p ≡ name (nameOf (recordAt (records table) p))
+  is-plain = pattern-at (records table) (lower (records table) (c .readable .fine .clear6)) p (c .readable .here .within) ∙ is-name (recordAt (records table) p) (map (patternAt (records table)) (named (recordAt (records table) p))) k
+
+  module _ (t : Bool) (whole : t ≡ false) (f : Best) (h : Present table p s at t f) (y : ℕ) (e : y ≡ nameOf (recordAt (records table) p)) where
+    as-set : At s at (collection set (itemsOf (h .values)))
+    as-set = subst (λ (b : Bool). Values s at b (h .values)) whole (h .are)
+
+    pub plain-held : (y < 16) × MemberHeld s y at f
+    plain-held =
+        (omega (arith, e, small),
+          record { values = h .values; are = as-set; binding = h .binding; is = h .is; stood = subst (λ (n : ℕ). StoodAt s n at f (h .values) (h .binding)) (sym e) (h .stood whole k) })
+
+    pub next-plain : (r : Best) → MemberNext s y at f r → NextOf table p s at t f r
+    next-plain r o = record {
+      follows = λ vs a i b.
+          let q : vs ≡ h .values = set-one vs (h .values) (subst (λ (b : Bool). Values s at b vs) whole i) as-set in
+          let u : a ≡ h .binding = best-one s f a (h .binding) b (h .is) in
+          record {
+            wide-is = got .narrow ∙ sym (ap (λ (w : Pattern). exists vs (wide w)) is-plain ∙ plain-narrow (nameOf (recordAt (records table) p)) vs);
+            next = λ w. subst (BestIs s r) (sym (ap₂ following u (ap (bindings (patternAt (records table) p)) q ∙ plainly))) (got .next);
+          };
+      stays = λ w. record { values = h .values; are = h .are; binding = following (h .binding) (map (only y) (h .values)); is = got .next; stood = λ a b. subst (λ (n : ℕ). StoodAt s n at r (h .values) (following (h .binding) (map (only y) (h .values)))) e (got .stands) };
+    }
+      where
+        got : MemberFollows s y at (h .values) (h .binding) r
+        got = o (h .values) (h .binding) as-set (h .is) (subst (λ (n : ℕ). StoodAt s n at f (h .values) (h .binding)) (sym e) (h .stood whole k))
+
+        plainly : bindings (patternAt (records table) p) (h .values) ≡ map (only y) (h .values)
+        plainly =
+            ap (λ (w : Pattern). bindings w (h .values)) is-plain
+            ∙ plain-are (nameOf (recordAt (records table) p)) (h .values) (omega (arith, small)) as-set
+            ∙ ap (λ (n : ℕ). map (only n) (h .values)) (sym e)
+
 -- ---- how many
 
 module _ (table : List ℕ) (p : ℕ) (s : List ℕ) (at : ℕ) (t : Bool) where
@@ -76,19 +156,20 @@ module _ (table : List ℕ) (p : ℕ) (s : List ℕ) (at : ℕ) (t : Bool) where
   -- n steps from none
   pub record Stepped (n : ℕ) (present : Best) : Type 0 where
     pub few : n ≤ 255
+    pub present-is : Present table p s at t present
     pub here : (vs : List Value) → Values s at t vs → (n ≤ length (bindings (patternAt (records table) p) vs)) × BestIs s present (prior (bindings (patternAt (records table) p) vs) n)
 
-  pub stepped-none : (f : Best) → NoneYet f → Stepped 0 f
-  stepped-none f h = record { few = omega arith; here = λ vs i. (omega arith, h .nothing) }
+  pub stepped-none : (f : Best) → NoneYet f → Bindable s at t → Stepped 0 f
+  stepped-none f h k = record { few = omega arith; present-is = record { values = k .0; are = k .1; binding = none; is = h .nothing; stood = λ a b. tt }; here = λ vs i. (omega arith, h .nothing) }
 
   rising : (vs : List Value) → Rising (bindings (patternAt (records table) p) vs)
   rising vs = sorted-rising (gather vs (matches (patternAt (records table) p)))
 
   module _ (n : ℕ) (present : Best) (g : Stepped n present) where
-    pub stepped-held : Bindable s at t → BestHeld s present
-    stepped-held h = (prior (bindings (patternAt (records table) p) (h .0)) n, g .here (h .0) (h .1) .1)
+    module _ (r : Best) (nx : NextOf table p s at t present r) where
+      o : Follows table p s at t present r
+      o = nx .follows
 
-    module _ (r : Best) (o : Follows table p s at t present r) where
       follows-now : (vs : List Value) (i : Values s at t vs) → FollowsIn (patternAt (records table) p) vs (prior (bindings (patternAt (records table) p) vs) n) s r
       follows-now vs i = o vs (prior (bindings (patternAt (records table) p) vs) n) i (g .here vs i .1)
 
@@ -132,5 +213,6 @@ module _ (table : List ℕ) (p : ℕ) (s : List ℕ) (at : ℕ) (t : Bool) where
         pub stepped-more : r .any ≡ true → n < 255 → Stepped (n + 1) r
         stepped-more e h = record {
           few = omega arith;
+          present-is = nx .stays narrow;
           here = λ vs i. (omega (arith, longer e vs i), subst (λ (k : ℕ). BestIs s r (prior (bindings (patternAt (records table) p) vs) k)) (sym (add-one n)) (now-is vs i));
         }

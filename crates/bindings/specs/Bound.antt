@@ -2,18 +2,20 @@
 use mathlib.Core.Path.{_≡_}
 use mathlib.Core.Bool.{Bool, true, false}
 use mathlib.Core.Option.{Option, none, some}
-use mathlib.Core.List.{List, [], _∷_}
+use mathlib.Core.List.{List, [], _∷_, map}
 use Prim.Native.Nat.{ℕ, _+_, _≤_, _<_}
-use lib.ListN.{length, getD}
+use lib.ListN.{length, getD, drop}
 use Rattle.integers.specs.Bytes.{word}
-use Rattle.values.specs.Value.{Value, collection, set}
+use Rattle.values.specs.Value.{Value, boolean, collection, set}
 use Rattle.values.specs.Items.{pick}
 use Rattle.values.specs.Place.{At, ItemsAt}
+use Rattle.tables.specs.Record.{nameOf}
+use Rattle.tables.specs.Table.{recordAt, kindAt}
 use Rattle.tables.specs.Accepted.{records}
 use Rattle.parts.specs.declared.Part.{Part}
 use Rattle.parts.specs.Part.{CellIs}
 use Rattle.patterns.specs.Ways.{exists}
-use Rattle.patterns.specs.Binding.{Cell, Binding, names, cellOf}
+use Rattle.patterns.specs.Binding.{Cell, Binding, names, only, cellOf}
 use Rattle.patterns.specs.Pattern.{Pattern, itemsOf, wide}
 use Rattle.patterns.specs.Binder.{bindings, Formed, bound, refused, formed}
 use Rattle.digits.specs.Path.{most}
@@ -87,6 +89,52 @@ pub record FollowsIn (p : Pattern) (vs : List Value) (a : Option Binding) (s : L
 abbrev pub Follows : List ℕ → ℕ → List ℕ → ℕ → Bool → Best → Best → Type 0
 Follows table p s at whole present r =
     (vs : List Value) (a : Option Binding) → Values s at whole vs → BestIs s present a → FollowsIn (patternAt (records table) p) vs a s r
+
+-- ---- a plain name over a set
+
+-- The member at a place is bound to the name x; none at the end of the members.
+pub record MemberBound (s : List ℕ) (x at to : ℕ) (r : Best) : Type 0 where
+  pub narrow : r .wide ≡ false
+  pub ends : to ≤ at → r .any ≡ false
+  pub one : at < to → (v : Value) → At s at v → (r .any ≡ true) × Bound s (r .found) (only x v)
+  pub place : at < to → getD (r .found .parts) x nowhere .at ≡ at
+
+-- What is bound stands at one of the set's members, and those from it on stand there.
+abbrev pub StoodAt : List ℕ → ℕ → ℕ → Best → List Value → Option Binding → Type 0
+StoodAt s x at f vs none = Unit {0}
+StoodAt s x at f vs (some b) =
+    (k : ℕ) × (k < length vs) × (b ≡ only x (getD vs k (boolean true))) × ItemsAt s (getD (f .found .parts) x nowhere .at) (at + word s at) (itemsOf (drop k vs))
+
+pub record MemberHeld (s : List ℕ) (x at : ℕ) (f : Best) : Type 0 where
+  pub values : List Value
+  pub are : At s at (collection set (itemsOf values))
+  pub binding : Option Binding
+  pub is : BestIs s f binding
+  pub stood : StoodAt s x at f values binding
+
+pub record MemberFollows (s : List ℕ) (x at : ℕ) (vs : List Value) (a : Option Binding) (r : Best) : Type 0 where
+  pub narrow : r .wide ≡ false
+  pub next : BestIs s r (following a (map (only x) vs))
+  pub stands : StoodAt s x at r vs (following a (map (only x) vs))
+
+abbrev pub MemberNext : List ℕ → ℕ → ℕ → Best → Best → Type 0
+MemberNext s x at f r =
+    (vs : List Value) (a : Option Binding) → At s at (collection set (itemsOf vs)) → BestIs s f a → StoodAt s x at f vs a → MemberFollows s x at vs a r
+
+-- ---- the next binding
+
+-- A binding of a binder, or none: the first is asked for with none, each other with the one before it.
+pub record Present (table : List ℕ) (p : ℕ) (s : List ℕ) (at : ℕ) (whole : Bool) (f : Best) : Type 0 where
+  pub values : List Value
+  pub are : Values s at whole values
+  pub binding : Option Binding
+  pub is : BestIs s f binding
+  pub stood : whole ≡ false → kindAt (records table) p ≡ 32 → StoodAt s (nameOf (recordAt (records table) p)) at f values binding
+
+-- r is the binding that follows, and can be stepped from again.
+pub record NextOf (table : List ℕ) (p : ℕ) (s : List ℕ) (at : ℕ) (whole : Bool) (f r : Best) : Type 0 where
+  pub follows : Follows table p s at whole f r
+  pub stays : r .wide ≡ false → Present table p s at whole r
 
 -- No binding, and no set too large.
 pub record NoneYet (r : Best) : Type 0 where

@@ -14,7 +14,7 @@ ghost use Rattle.parts.specs.Part.{CellIs};
 ghost use Rattle.ways.specs.Following.{isAbove};
 ghost use Rattle.ways.specs.Best.{isBelow};
 ghost use Rattle.matching.specs.Found.{Standing};
-ghost use Rattle.bindings.specs.Bound.{CellHeld, Bound, BoundHeld, BestIs, BestHeld, Considered, Searchable, SoughtOf, SoughtOfAll, Bindable, Follows, NoneYet, Tallied};
+ghost use Rattle.bindings.specs.Bound.{CellHeld, Bound, BoundHeld, BestIs, BestHeld, Considered, Searchable, SoughtOf, SoughtOfAll, Bindable, MemberBound, MemberHeld, MemberNext, Present, NextOf, NoneYet, Tallied};
 
 // A binding, or none; and whether a union pattern was met by a set of over seven members.
 pub struct Best {
@@ -208,23 +208,63 @@ fn best_all(
     best
 }
 
+// The member at a place bound to a name; none at the end of the members.
+fn bind_member(s: &[u8], x: usize, at: usize, to: usize) -> Best
+    requires { ⌜ (x < 16) × HoldsItems (now s) at to ⌝ }
+    ensures { λ r. ⌜ MemberBound (now (s .entry)) x at to r ⌝ }
+{
+    let found = Found::nothing();
+    if to <= at {
+        return Best {
+            found,
+            any: false,
+            wide: false,
+        };
+    }
+    let mut parts = found.parts;
+    parts[x] = Part { how: 1, at, extent: 0 };
+    let found = Found {
+        parts,
+        fits: true,
+        wide: false,
+    };
+    Best {
+        found,
+        any: true,
+        wide: false,
+    }
+}
+
+// A plain name over a set: the member after the present one, with no search.
+fn next_member(s: &[u8], x: usize, at: usize, present: Best) -> Best
+    requires { ⌜ (x < 16) × MemberHeld (now s) x at present ⌝ }
+    ensures { λ r. ⌜ MemberNext (now (s .entry)) x at present r ⌝ }
+{
+    let n = values::length_of(s, at);
+    if !present.any {
+        return bind_member(s, x, at + 4, at + n);
+    }
+    let f = present.found;
+    let q = f.parts[x];
+    let m = q.at;
+    let k = values::length_of(s, m);
+    bind_member(s, x, m + k, at + n)
+}
+
 // The binding that follows the present one: of a pattern over the members of the set at a place, or over the one value there.
-pub fn next_binding(
-    table: &[u8],
-    index: &[u16; 200],
-    p: usize,
-    s: &[u8],
-    at: usize,
-    whole: bool,
-    present: Best,
-) -> Best
+pub fn next_binding(table: &[u8], index: &[u16; 200], p: usize, s: &[u8], at: usize, whole: bool, present: Best) -> Best
     requires { ⌜ Searchable (now table) (now index) p ⌝ }
-    requires { ⌜ Bindable (now s) at whole × BestHeld (now s) present ⌝ }
-    ensures { λ r. ⌜ Follows (now (table .entry)) p (now (s .entry)) at whole present r ⌝ }
+    requires { ⌜ Present (now table) p (now s) at whole present ⌝ }
+    ensures { λ r. ⌜ NextOf (now (table .entry)) p (now (s .entry)) at whole present r ⌝ }
 {
     let none = Best::none();
     if whole {
         return best_in(table, index, p, s, at, present, none);
+    }
+    let kind = tables::reading::kind(table, index, p);
+    if kind == 32 {
+        let x = tables::reading::field(table, index, p, 0);
+        return next_member(s, x, at, present);
     }
     let n = values::length_of(s, at);
     best_all(table, index, p, s, at + 4, at + n, present, none)

@@ -2,7 +2,7 @@ use Prim.Native.Nat.{_-_}
 use native.Mathlib.Omega.{arith}
 use borrow.Author.Needs.{needs}
 use borrow.Author.Tests.{not-true, not-false}
-use Rattle.bindings.proofs.Telling.{Stepped, stepped-none, stepped-held, tells-29, tells-number, tells-30, stepped-more}
+use Rattle.bindings.proofs.Telling.{Stepped, stepped-none, tells-29, tells-number, tells-30, stepped-more}
 use Rattle.bindings.proofs.count_bindings.Statement.{statement}
 use Rattle.bindings.proofs.count_bindings.Tie as tie
 use Rattle.bindings.proofs.count_bindings.Reads as reads
@@ -22,11 +22,11 @@ none-requires c κs = search needs
 
 -- src/lib.rt:204:5
 loop-holds : tie.Need-loop-holds Inv-loop μ-loop
-loop-holds c = stepped-none _ _ _ _ _ _ (c .none .ensures)
+loop-holds c = stepped-none _ _ _ _ _ _ (c .none .ensures) (c .before .before .before .pre .1)
 
 -- src/lib.rt:205:13
 next-binding-requires : tie.Need-next-binding-requires Inv-loop μ-loop
-next-binding-requires c κs = (c .before .before .before .before .pre .0, (c .before .before .before .before .pre .1, stepped-held _ _ _ _ _ _ _ (c .loop .inv) (c .before .before .before .before .pre .1)))
+next-binding-requires c κs = (c .before .before .before .before .pre .0, c .loop .inv .present-is)
 
 -- src/lib.rt:207:13
 returns : tie.Need-returns Inv-loop μ-loop
