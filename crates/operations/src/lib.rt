@@ -5,13 +5,13 @@ ghost use Rattle.scalars.specs.Applied.{One, Two, OnOne, OnTwo};
 ghost use Rattle.operations.specs.Numbers.{Unary, Binary};
 
 // The numbers of the operators: the unary ones start at 1, and below the first strict binary one are and, or and =>.
-pub const LAST_UNARY: usize = 13;
+pub const LAST_UNARY: usize = 15;
 
 pub const FIRST_STRICT: usize = 4;
 
-pub const LAST_BINARY: usize = 24;
+pub const LAST_BINARY: usize = 28;
 
-// The unary operators, 1 to 13, on the value at base.
+// The unary operators, 1 to 15, on the value at base.
 pub fn unary(s: &mut [u8], base: usize, operator: usize) -> Applied
     requires { ⌜ One (now s) base × Unary operator ⌝ }
     ensures { λ r. ⌜ OnOne (unary operator) (now (s .entry)) (now (s .exit)) base r ⌝ }
@@ -22,10 +22,13 @@ pub fn unary(s: &mut [u8], base: usize, operator: usize) -> Applied
     if operator <= 6 {
         return set_operators::unary_set(s, base, operator);
     }
-    sequence_operators::unary_sequence(s, base, operator)
+    if operator <= 13 {
+        return sequence_operators::unary_sequence(s, base, operator);
+    }
+    map_operators::unary_map(s, base, operator)
 }
 
-// The strict binary operators, 4 to 24, on the values at base and 512 bytes above it.
+// The strict binary operators, 4 to 28, on the values at base and 512 bytes above it.
 pub fn binary(s: &mut [u8], base: usize, operator: usize) -> Applied
     requires { ⌜ Two (now s) base × Binary operator ⌝ }
     ensures { λ r. ⌜ OnTwo (binary operator) (now (s .entry)) (now (s .exit)) base r ⌝ }
@@ -36,5 +39,8 @@ pub fn binary(s: &mut [u8], base: usize, operator: usize) -> Applied
     if operator <= 23 {
         return set_operators::binary_set(s, base, operator);
     }
-    sequence_operators::concatenate(s, base)
+    if operator == 24 {
+        return sequence_operators::concatenate(s, base);
+    }
+    map_operators::binary_map(s, base, operator)
 }

@@ -9,9 +9,9 @@ pub const SCRATCH: usize = 1536;
 pub const BAD_INPUT: usize = 255;
 
 /// The numbers of the operators that can be tried: the unary ones from 1, and the strict binary ones.
-pub const LAST_UNARY: usize = 13;
+pub const LAST_UNARY: usize = 15;
 pub const FIRST_BINARY: usize = 4;
-pub const LAST_BINARY: usize = 24;
+pub const LAST_BINARY: usize = 28;
 
 mod proved {
     extern "C" {

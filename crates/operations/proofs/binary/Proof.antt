@@ -1,5 +1,4 @@
 -- `binary` meets its contract.
-use native.Mathlib.Omega.{arith}
 use Rattle.operations.proofs.Dispatch.{two-number}
 use borrow.Author.Needs.{needs}
 use Rattle.operations.proofs.binary.Statement.{statement}
@@ -30,7 +29,16 @@ same-length-3 : tie.Need-same-length-3
 same-length-3 c = search needs
 
 returns-3 : tie.Need-returns-3
-returns-3 c = two-number (omega arith) (c .before .before .concatenate .ensures)
+returns-3 c = two-number (c .before .before .before .before .if3 .taken) (c .before .before .concatenate .ensures)
+
+binary-map-requires : tie.Need-binary-map-requires
+binary-map-requires c κs = search needs
+
+same-length-4 : tie.Need-same-length-4
+same-length-4 c = search needs
+
+returns-4 : tie.Need-returns-4
+returns-4 c = search needs
 
 pub binary-spec : {M : Type 1} → statement M
 binary-spec =
@@ -44,4 +52,7 @@ binary-spec =
     returns-2
     concatenate-requires
     same-length-3
-    returns-3)
+    returns-3
+    binary-map-requires
+    same-length-4
+    returns-4)
