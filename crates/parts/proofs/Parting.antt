@@ -10,19 +10,18 @@ use lib.ListN.{length, getD, drop}
 use lib.Seq.{drop-cons}
 use Rattle.integers.specs.declared.Order.{Order}
 use Rattle.integers.specs.declared.Order.the-variants.{Lower, Higher}
-use Rattle.values.specs.Value.{Kind, number, Value, boolean, collection, Items, kindOf, after, order, orderItems, within}
+use Rattle.values.specs.Value.{Kind, number, Value, boolean, collection, kindOf, after, order, orderItems, within}
 use Rattle.values.specs.Place.{At, ItemsAt, Holds}
 use Rattle.values.specs.Contract.{Length, KindAt, Ordered}
 use Rattle.integers.specs.Order.{orderℕ}
 use Rattle.integers.specs.Ordered.{lt-lower, gt-higher, eq-same}
 use Rattle.values.specs.Records.{holds, items-to, is-collection}
 use Rattle.patterns.specs.Pattern.{listOf, itemsOf}
-use Rattle.patterns.specs.Matched.{items-list}
 use Rattle.parts.specs.declared.Part.{Part}
 use Rattle.parts.specs.declared.runs.Run.{Run}
 use Rattle.parts.specs.Chosen.{everyOne, keep, chosen-all, chosen-keep}
 use Rattle.parts.specs.Part.{PartIs, PartHeld, endOf}
-use Rattle.parts.specs.Laws.{whole-of, selects-of, spans-of, part-one, one-collection, end-span, end-record}
+use Rattle.parts.specs.Laws.{as-list, whole-of, selects-of, spans-of, part-one, one-collection, end-span, end-record}
 use Rattle.parts.specs.Run.{RunIs, RunHeld, Startable, ReadyRun, RunOf, CountOf, SkipHeld, Skipped, OrderedRuns}
 use Rattle.parts.specs.Contract.{KindOfPart, CollectionHeld, CountOfPart, OrderedParts, ItemHeld, ItemOfPart}
 use Rattle.parts.proofs.Running.{ready-odd, run-head, more-less}
@@ -115,16 +114,6 @@ module _ {s : List ℕ} {p : Part} where
   part-counted c d k vs h = d vs (c .right k vs h)
 
 -- ---- `order_parts`
-
-as-list : (k : Kind) (vs : Items) → collection k vs ≡ collection k (itemsOf (listOf vs))
-as-list k vs = ap (collection k) (sym (items-list vs))
-
--- a part of a kind from 3 on denotes a collection
-pub collection-held : {s : List ℕ} {p : Part} {k : ℕ} → KindOfPart s p k → 3 ≤ k → PartHeld s p → CollectionHeld s p
-collection-held {s} {p} c l h =
-    let e = c (h .value) (h .here) in
-    let (k, vs, d) = is-collection (h .value) (λ z. omega arith) (λ z. omega arith) in
-    record { kind = k; items = listOf vs; here = subst (PartIs s p) (d ∙ as-list k vs) (h .here) }
 
 module _ {s : List ℕ} {p q : Part} {k l : ℕ} (cp : KindOfPart s p k) (cq : KindOfPart s q l) where
   pub kinds-lower : k < l → OrderedParts s p q Lower

@@ -5,21 +5,23 @@ use mathlib.Core.Logic.{inl, inr}
 use mathlib.Core.List.{List, [], _∷_}
 use Prim.Native.Nat.{ℕ, _+_, _/_, _≤_}
 use native.Mathlib.Omega.{arith}
-use lib.ListN.{length, take}
+use lib.ListN.{length, getD, take}
 use borrow.Author.Tests.{eq-eqb, ne-eqb}
 use Rattle.integers.specs.Bytes.{word}
-use Rattle.values.specs.Value.{Kind, set, sequence, Value, collection, WellFormed}
+use Rattle.values.specs.Value.{Kind, set, sequence, number, Value, collection, Items, kindOf, WellFormed}
 use Rattle.values.specs.Items.{pick}
 use Rattle.values.specs.Place.{At}
 use Rattle.values.specs.Encoding.{size-low}
-use Rattle.values.specs.Records.{one-value, one-list, word-size, well-formed-collection}
+use Rattle.values.specs.Laws.{number-low, number-inj}
+use Rattle.values.specs.Records.{is-collection, one-value, one-list, word-size, well-formed-collection}
 use Rattle.values.specs.Frame.{kept, items-kept, word-kept}
 use Rattle.patterns.specs.Pattern.{listOf, itemsOf}
-use Rattle.patterns.specs.Matched.{list-items}
+use Rattle.patterns.specs.Matched.{items-list, list-items}
 use Rattle.patterns.specs.Named.{PartOf, part-fine}
 use Rattle.parts.specs.declared.Part.{Part}
 use Rattle.parts.specs.Chosen.{odd, keep}
-use Rattle.parts.specs.Part.{Selects, Spans, PartIs, endOf}
+use Rattle.parts.specs.Part.{Selects, Spans, PartIs, PartHeld, endOf}
+use Rattle.parts.specs.Contract.{KindOfPart, CollectionHeld, ItemOfPart}
 
 -- ---- by its how
 
@@ -117,3 +119,32 @@ part-kept {s} {t} {base} {p} {v} e l b (inr (inr h)) =
     let n = end-span s p (h .0) in
     let m = end-span t p (h .0) in
     (inr (inr (h .0, record { items = x .items; here = items-kept e l (omega arith) (x .here); short = x .short; is = x .is })), m ∙ sym n)
+
+-- ---- collections
+
+pub as-list : (k : Kind) (vs : Items) → collection k vs ≡ collection k (itemsOf (listOf vs))
+as-list k vs = ap (collection k) (sym (items-list vs))
+
+-- a value of a collection's kind is a collection of that kind
+pub of-kind : (k : Kind) (v : Value) → kindOf v ≡ number k → (vs : List Value) × (v ≡ collection k (itemsOf vs))
+of-kind k v e =
+    let low = number-low k in
+    let (l, vs, d) = is-collection v (λ z. omega arith) (λ z. omega arith) in
+    let n : l ≡ k = number-inj l k (sym (ap kindOf d) ∙ e) in
+    (listOf vs, d ∙ as-list l vs ∙ ap (λ (i : Kind). collection i (itemsOf (listOf vs))) n)
+
+-- a part of a kind from 3 on denotes a collection
+pub collection-held : {s : List ℕ} {p : Part} {k : ℕ} → KindOfPart s p k → 3 ≤ k → PartHeld s p → CollectionHeld s p
+collection-held {s} {p} c l h =
+    let e = c (h .value) (h .here) in
+    let (k, vs, d) = is-collection (h .value) (λ z. omega arith) (λ z. omega arith) in
+    record { kind = k; items = listOf vs; here = subst (PartIs s p) (d ∙ as-list k vs) (h .here) }
+
+-- ---- whole records
+
+pub whole-part : {s : List ℕ} {at : ℕ} {v : Value} → At s at v → PartIs s (record { how = 1; at = at; extent = 0 }) v
+whole-part h = inl (refl, h)
+
+-- the part that `item_of_part` gives denotes the item
+pub item-part : {s : List ℕ} {p : Part} {k : ℕ} {r : Part} (c : ItemOfPart s p k r) (kind : Kind) (vs : List Value) (d : Value) → PartIs s p (collection kind (itemsOf vs)) → PartIs s r (getD vs k d)
+item-part c kind vs d h = inl (c .whole, c .right kind vs d h)
