@@ -53,11 +53,14 @@ module _ (s : List ℕ) (x at to : ℕ) (lt : x < names) (f : Found) (h : (s : L
 
       cell : (v : Value) → At s at v → (y : ℕ) → y < names → Dec (y ≡ x) → CellIs s (getD (g .parts) y nowhere) (cellOf (only x v) y)
       cell v i y k (yes q) =
-          inr (v, ap (cellOf (only x v)) q ∙ getD-set-same nothing x (is v) free lt,
-            subst (λ (p : Part). PartIs s p v) (sym (ap (λ (j : ℕ). getD (g .parts) j nowhere) q ∙ here)) (inl (refl, i)))
+          inr (
+            v,
+            ap (cellOf (only x v)) q ∙ getD-set-same nothing x (is v) free lt,
+            subst (λ (p : Part). PartIs s p v) (sym (ap (λ (j : ℕ). getD (g .parts) j nowhere) q ∙ here)) (inl (refl, i)),
+          )
       cell v i y k (no q) =
           let a : getD (g .parts) y nowhere ≡ getD (f .parts) y nowhere =
-              ap (λ (ps : List Part). getD ps y nowhere) e ∙ getD-set-other (f .parts) x y (record { how = 1; at = at; extent = 0 }) nowhere q in
+          ap (λ (ps : List Part). getD ps y nowhere) e ∙ getD-set-other (f .parts) x y (record { how = 1; at = at; extent = 0 }) nowhere q in
           let b : cellOf (only x v) y ≡ cellOf nothing y = getD-set-other nothing x y (is v) free q in
           subst (λ (p : Part). CellIs s p (cellOf (only x v) y)) (sym a) (subst (CellIs s (getD (f .parts) y nowhere)) (sym b) (h s .cells was-fit y k))
 
@@ -185,8 +188,8 @@ module _ (s : List ℕ) (x at : ℕ) (lt : x < names) (vs : List Value) (h : At 
     member-more w m =
         let o = bound-at (suc (w .index)) (getD (f .found .parts) x nowhere .at + word s (getD (f .found .parts) x nowhere .at)) r (omega (arith, w .below)) (w .after) m in
         let q : following a (map (only x) vs) ≡ nth (map (only x) vs) (suc (w .index)) =
-            ap (λ (c : Option Binding). following c (map (only x) vs)) (w .is-some ∙ ap some (sym (map-at x vs (w .index) nothing (w .below))))
-            ∙ following-next (map (only x) vs) (w .index) nothing (members-rising x vs lt h) (omega (arith, w .below, length-map vs (only x))) in
+        ap (λ (c : Option Binding). following c (map (only x) vs)) (w .is-some ∙ ap some (sym (map-at x vs (w .index) nothing (w .below))))
+        ∙ following-next (map (only x) vs) (w .index) nothing (members-rising x vs lt h) (omega (arith, w .below, length-map vs (only x))) in
         record { narrow = m .narrow; next = subst (BestIs s r) (sym q) (o .0); stands = subst (StoodAt s x at r vs) (sym q) (o .1) }
 
 -- ---- what is present is one binding
@@ -235,10 +238,11 @@ module _ (s : List ℕ) (x at : ℕ) (lt : x < names) (f : Best) where
 
   pub others-held : (h : MemberHeld s x at f) → f .any ≡ true → (k n : ℕ) → k ≡ word s (getD (f .found .parts) x nowhere .at) → n ≡ word s at → HoldsItems s (getD (f .found .parts) x nowhere .at + k) (at + n)
   others-held h e k n a b =
-      let w = now-held h e in
-      (itemsOf (drop (suc (w .index)) (h .values)),
+      let w = now-held h e in (
+        itemsOf (drop (suc (w .index)) (h .values)),
         subst (λ (j : ℕ). ItemsAt s (getD (f .found .parts) x nowhere .at + j) (at + n) (itemsOf (drop (suc (w .index)) (h .values)))) (sym a)
-        (subst (λ (j : ℕ). ItemsAt s (getD (f .found .parts) x nowhere .at + word s (getD (f .found .parts) x nowhere .at)) (at + j) (itemsOf (drop (suc (w .index)) (h .values)))) (sym b) (w .after)))
+            (subst (λ (j : ℕ). ItemsAt s (getD (f .found .parts) x nowhere .at + word s (getD (f .found .parts) x nowhere .at)) (at + j) (itemsOf (drop (suc (w .index)) (h .values)))) (sym b) (w .after)),
+      )
 
   module _ (r : Best) (n : ℕ) (b : n ≡ word s at) where
     pub next-first : f .any ≡ false → MemberBound s x (at + 4) (at + n) r → MemberNext s x at f r

@@ -122,9 +122,10 @@ module _ (table index : List ℕ) (p : ℕ) (c : Searchable table index p) (k : 
     as-set = subst (λ (b : Bool). Values s at b (h .values)) whole (h .are)
 
     pub plain-held : (y < 16) × MemberHeld s y at f
-    plain-held =
-        (omega (arith, e, small),
-          record { values = h .values; are = as-set; binding = h .binding; is = h .is; stood = subst (λ (n : ℕ). StoodAt s n at f (h .values) (h .binding)) (sym e) (h .stood whole k) })
+    plain-held = (
+      omega (arith, e, small),
+      record { values = h .values; are = as-set; binding = h .binding; is = h .is; stood = subst (λ (n : ℕ). StoodAt s n at f (h .values) (h .binding)) (sym e) (h .stood whole k) },
+    )
 
     pub next-plain : (r : Best) → MemberNext s y at f r → NextOf table p s at t f r
     next-plain r o = record {

@@ -1,13 +1,17 @@
 -- Stepping from binding to binding goes through all of them in order: after n steps from none the n-th is present.
 use mathlib.Core.Path.{_≡_, refl, sym, ap, _∙_}
+use mathlib.Core.Bool.{Bool}
 use mathlib.Core.Option.{Option, none, some}
 use mathlib.Core.List.{List, [], _∷_}
 use Prim.Native.Nat.{ℕ, zero, suc, _≤_, _<_}
 use native.Mathlib.Omega.{arith}
 use lib.ListN.{length, getD}
+use Rattle.values.specs.Value.{Value}
 use Rattle.patterns.specs.Binding.{Binding, nothing}
 use Rattle.patterns.specs.Ordered.{Rising}
 use Rattle.ways.specs.Following.{following, nth, following-first, following-next}
+use Rattle.bindings.specs.declared.Best.{Best}
+use Rattle.bindings.specs.Bound.{Values, Present, NoneYet}
 
 -- The binding that is present after n steps.
 abbrev pub prior : List Binding → ℕ → Option Binding
@@ -24,6 +28,10 @@ nth-getD (b ∷ bs) (suc k) h = nth-getD bs k (omega arith)
 pub step-on : (bs : List Binding) (n : ℕ) → Rising bs → n ≤ length bs → following (prior bs n) bs ≡ nth bs n
 step-on bs zero r h = following-first bs
 step-on bs (suc k) r h = ap (λ (a : Option Binding). following a bs) (nth-getD bs k (omega arith)) ∙ following-next bs k nothing r (omega arith)
+
+-- No binding is present before the first step, over any values.
+pub present-none : (table : List ℕ) (p : ℕ) (s : List ℕ) (at : ℕ) (whole : Bool) (f : Best) (vs : List Value) → NoneYet f → Values s at whole vs → Present table p s at whole f
+present-none table p s at whole f vs h i = record { values = vs; are = i; binding = none; is = h .nothing; stood = λ a b. tt }
 
 -- There is none exactly past the last.
 pub nth-none : (bs : List Binding) (k : ℕ) → nth bs k ≡ none → length bs ≤ k

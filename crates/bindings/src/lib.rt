@@ -222,7 +222,11 @@ fn bind_member(s: &[u8], x: usize, at: usize, to: usize) -> Best
         };
     }
     let mut parts = found.parts;
-    parts[x] = Part { how: 1, at, extent: 0 };
+    parts[x] = Part {
+        how: 1,
+        at,
+        extent: 0,
+    };
     let found = Found {
         parts,
         fits: true,
@@ -252,7 +256,15 @@ fn next_member(s: &[u8], x: usize, at: usize, present: Best) -> Best
 }
 
 // The binding that follows the present one: of a pattern over the members of the set at a place, or over the one value there.
-pub fn next_binding(table: &[u8], index: &[u16; 200], p: usize, s: &[u8], at: usize, whole: bool, present: Best) -> Best
+pub fn next_binding(
+    table: &[u8],
+    index: &[u16; 200],
+    p: usize,
+    s: &[u8],
+    at: usize,
+    whole: bool,
+    present: Best,
+) -> Best
     requires { ⌜ Searchable (now table) (now index) p ⌝ }
     requires { ⌜ Present (now table) p (now s) at whole present ⌝ }
     ensures { λ r. ⌜ NextOf (now (table .entry)) p (now (s .entry)) at whole present r ⌝ }
