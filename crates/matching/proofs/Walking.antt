@@ -1,6 +1,6 @@
 -- A match along a path comes to what the tree comes to.
 use mathlib.Core.Path.{_≡_, refl, sym, ap, ap₂, subst, _∙_}
-use mathlib.Core.Bool.{Bool, true, false, not, _||_}
+use mathlib.Core.Bool.{Bool, true, false}
 use mathlib.Core.Option.{Option, none as absent, some}
 use mathlib.Core.List.{List, [], _∷_, map}
 use Prim.Native.Nat.{ℕ, zero, suc, _+_, _-_, _≤_, _<_}
@@ -12,18 +12,15 @@ use lib.Seq.{drop-cons}
 use borrow.Author.Tests.{leb-true, eqb-true, eqb-false}
 use Rattle.values.specs.Value.{Kind, set, sequence, map as mapping, tuple, Value, boolean}
 use Rattle.values.specs.Items.{pick}
-use Rattle.tables.specs.declared.Role.{Role}
-use Rattle.tables.specs.declared.Role.the-variants.{Pattern as Inner}
-use Rattle.tables.specs.Record.{Record, named, operand, roleAt, nameOf, isPattern, shape, headOf, size, isKnown}
+use Rattle.tables.specs.Record.{Record, named, operand, nameOf, shape, headOf, size, isKnown}
 use Rattle.tables.specs.Table.{recordAt, kindAt}
-use Rattle.tables.specs.Check.{isOfSort}
-use Rattle.tables.specs.Accepted.{records, Fine, lower, pattern-role, operand-lower, operand-sort, named-count, fit-least, fit-most, fit-known}
+use Rattle.tables.specs.Accepted.{records, lower, pattern-role, operand-lower, operand-sort, named-count, fit-least, fit-most, fit-known}
 use Rattle.tables.specs.Laws.{Lower, and-left, and-right}
-use Rattle.tables.specs.Reading.{Here, HasField, HasOperand}
+use Rattle.tables.specs.Reading.{HasField, HasOperand}
 use Rattle.parts.specs.declared.Part.{Part}
 use Rattle.parts.specs.Part.{PartIs, PartHeld}
 use Rattle.parts.specs.Laws.{part-one}
-use Rattle.choices.specs.Tree.{Tree, give, choose, bind}
+use Rattle.choices.specs.Tree.{Tree, give, bind}
 use Rattle.digits.specs.declared.Digits.{Digits}
 use Rattle.digits.specs.declared.Taken.{Taken}
 use Rattle.digits.specs.Path.{View, view, Sound, taken, afterwards, Took}

@@ -1,12 +1,11 @@
 -- The answer of a check, by its cases.
-use mathlib.Core.Path.{_≡_, sym, ap, subst, _∙_}
+use mathlib.Core.Path.{_≡_, sym, ap, subst}
 use mathlib.Core.Bool.{Bool}
 use mathlib.Core.List.{List}
 use Prim.Native.Nat.{ℕ, _<_, _≤_}
 use borrow.Author.Tests.{lt-ltb, le-ltb}
-use lib.Dec.{ltb}
 use lib.ListN.{length}
-use Rattle.choices.specs.Tree.{Final, result}
+use Rattle.choices.specs.Tree.{result}
 use Rattle.meaning.specs.Service.{scratchBytes, unless, accepted, checks}
 use Rattle.tables.specs.declared.Checked.{Checked}
 use Rattle.tables.specs.declared.Checked.the-variants.{Accepted, Refused}

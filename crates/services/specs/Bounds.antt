@@ -1,20 +1,20 @@
 -- The parts of an answer fit: how great the numbers, places and counts of a check can be.
-use mathlib.Core.Path.{_≡_, refl, sym, ap, _∙_}
+use mathlib.Core.Path.{_≡_, refl, ap}
 use mathlib.Core.Bool.{Bool, true, false, not, _||_}
 use mathlib.Core.List.{List, [], _∷_}
 use Prim.Native.Nat.{ℕ, zero, suc, _+_, _*_, _≤_, _<_}
 use native.Mathlib.Omega.{arith}
 use borrow.Author.Tests.{ltb-true, ltb-false, eqb-false, not-true}
 use lib.Dec.{eqb, ltb}
-use lib.ListN.{length, drop, length-drop}
+use lib.ListN.{length, length-drop}
 use Rattle.choices.specs.Tree.{result}
 use Rattle.integers.specs.Bytes.{word}
 use Rattle.meaning.specs.Service.{scratchBytes, unless, accepted, checks}
 use Rattle.services.specs.Answer.{weight, number, place}
 use Rattle.tables.specs.declared.Checked.{Checked}
 use Rattle.tables.specs.declared.Checked.the-variants.{Accepted, Refused}
-use Rattle.tables.specs.Record.{Record, isFit}
-use Rattle.tables.specs.Table.{pick, Next, end, fault, one, next, first, after, Cut, cutBy, cut}
+use Rattle.tables.specs.Record.{Record}
+use Rattle.tables.specs.Table.{pick, Next, end, fault, one, next, after, Cut, cutBy, cut}
 use Rattle.tables.specs.Sheet.{lowest}
 use Rattle.tables.specs.Check.{mostBytes, mostRecords, Rule, judge, judged, judgedCut, check, rule, fault6, fault7, fault8, fault9}
 use Rattle.tables.specs.Laws.{or-right}

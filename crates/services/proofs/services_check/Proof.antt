@@ -1,6 +1,5 @@
 -- Rule 1, then the table's rules.
 use mathlib.Core.Path.{sym, ap, subst, _∙_}
-use lib.ListN.{length}
 use Rattle.choices.specs.Tree.{result}
 use Rattle.meaning.specs.Service.{accepted}
 use Rattle.tables.specs.declared.Checked.{Checked}
