@@ -1,4 +1,4 @@
--- What the code of the operators on a set of sets, of card and of elems did is what they promise.
+-- What the code of the operators on a set of sets and of card did is what they promise.
 use mathlib.Core.Path.{_≡_, refl, sym, ap, subst, _∙_}
 use mathlib.Core.Bool.{Bool, true, false}
 use mathlib.Core.List.{List}
@@ -12,7 +12,7 @@ use mir.Val.{SFits, toZ}
 use mir.ValLaws.{toZ-pos}
 use Rattle.integers.specs.Bytes.{word}
 use Rattle.integers.specs.Whole.{greatest, InRange}
-use Rattle.values.specs.Value.{Kind, set, sequence, integer, collection, Items, none, count, size, Ascending, limit}
+use Rattle.values.specs.Value.{Kind, set, integer, collection, Items, none, count, Ascending, limit}
 use Rattle.values.specs.Place.{At, ItemsAt, Holds, HoldsItems}
 use Rattle.values.specs.Contract.{Put, Copyable, Copied}
 use Rattle.values.specs.Encoding.{collection-size, count-sizes}
@@ -28,13 +28,11 @@ use Rattle.operators.specs.Gather.{every, insertAll, isKind, flatten}
 use Rattle.operators.specs.Sets.{intersectionOf}
 use Rattle.operators.specs.Operators.{unary}
 use Rattle.operator_laws.specs.RangeLaws.{up-le}
-use Rattle.operator_laws.specs.GatherLaws.{sizes-insertAll}
 use Rattle.scalars.specs.declared.Applied.the-variants.{Done, Refused}
 use Rattle.scalars.specs.Applied.{One, Kept, OnOne}
 use Rattle.scalars.specs.AppliedLaws.{kept-same, kept-outside, one-by, one-off, is-off, one-put, copyable-down, one-copied, needs-off}
-use Rattle.set_operators.specs.Members.{HoldsSets, AllOfKind, Growing, Grown, InsertsAll, themselves, chosen, Choice, Chosen}
+use Rattle.set_operators.specs.Members.{HoldsSets, AllOfKind, Growing, Grown, InsertsAll, chosen, Choice, Chosen}
 use Rattle.set_operators.specs.Operands.{IsOfKind}
-use Rattle.set_operators.proofs.Growth.{put-added}
 use Rattle.set_operators.proofs.Telling.{Family, first-of-sets}
 use Rattle.set_operators.proofs.Answers.{grown-done, grown-full}
 
@@ -60,38 +58,6 @@ module _ {s t : List ℕ} {base : ℕ} {k : Kind} {vs : Items} (a : At s base (c
 
     pub gathered-kept : Kept s u base
     gathered-kept = kept-outside (omega arith) (outside-both (outside-wider (omega arith) (omega arith) (e .frame)) (i .frame))
-
--- ---- 10 elems
-
-pub elements-off : {s : List ℕ} {base : ℕ} {b : Bool} → IsOfKind s base 4 b → b ≡ false → OnOne (unary 10) s s base (Refused 20)
-unfolding unary
-elements-off k e = one-off (λ v a. needs-off _ (k .no sequence refl e v a))
-
-module _ {s t : List ℕ} {base : ℕ} {b : Bool} (k : IsOfKind s base 4 b) (d : b ≡ true) (one : One s base) (n : ℕ) (q : n ≡ word s base) (e : Empties s t (base + 512) 3) where
-  abbrev vs : Items
-  vs = k .yes sequence refl d .items
-
-  here : At s base (collection sequence vs)
-  here = k .yes sequence refl d .here
-
-  pub elements-room : HoldsItems t (base + 4) (base + n) × Growing t (base + 4) (base + n) (base + 512)
-  elements-room = ((vs, still-there here n q e (one .room)), empty-room here n q e (one .room))
-
-  module _ {u : List ℕ} {r : Added} (i : InsertsAll themselves t u (base + 4) (base + n) (base + 512) r) where
-    -- it is no longer than the sequence
-    made : At u (base + 512) (collection set (insertAll none vs))
-    unfolding size
-    made =
-        let y = gathered here n q e (one .room) i in
-        let h = here .fine .short in
-        y .made (y .answers ∙ sym (put-added (size (collection set (insertAll none vs))) (omega (arith, sizes-insertAll none vs))))
-
-    pub elements-copy : Copyable u (base + 512) base
-    elements-copy = copyable-down (omega arith) (holds made)
-
-    pub elements-done : {w : List ℕ} {m : ℕ} → Copied u w (base + 512) base m → OnOne (unary 10) s w base Done
-    unfolding unary
-    elements-done c = one-copied (gathered-kept here n q e (one .room) i) here refl made c
 
 -- ---- 4 card
 

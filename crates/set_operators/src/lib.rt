@@ -38,7 +38,7 @@ fn two_sets(s: &[u8], base: usize) -> bool
     false
 }
 
-// ---- one operand: 4 card, 5 dunion, 6 dinter, 10 elems
+// ---- one operand: 4 card, 5 dunion, 6 dinter
 
 fn cardinality(s: &mut [u8], base: usize) -> Applied
     requires { ⌜ One (now s) base ⌝ }
@@ -90,20 +90,6 @@ fn distributed_intersection(s: &mut [u8], base: usize) -> Applied
     let n = values::length_of(s, base + 4);
     members::choose(s, base + 4, base + 4 + n, end, base + 1024, true);
     values::copy_value(s, base + 1024, base);
-    Applied::Done
-}
-
-pub fn elements(s: &mut [u8], base: usize) -> Applied
-    requires { ⌜ One (now s) base ⌝ }
-    ensures { λ r. ⌜ OnOne (unary 10) (now (s .entry)) (now (s .exit)) base r ⌝ }
-{
-    if !is_of_kind(s, base, SEQUENCE) {
-        return Applied::Refused(Applied::WRONG_KIND);
-    }
-    let end = base + values::length_of(s, base);
-    collections::building::put_empty(s, base + 512, SET);
-    members::insert_all(s, base + 4, end, base + 512);
-    values::copy_value(s, base + 512, base);
     Applied::Done
 }
 
