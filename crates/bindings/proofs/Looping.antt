@@ -1,39 +1,38 @@
 -- The loops over all ways of a value, and over all members.
-use mathlib.Core.Path.{_≡_, refl, sym, ap, ap₂, subst, _∙_}
+use mathlib.Core.Path.{_≡_, refl, sym, ap, subst, _∙_}
 use mathlib.Core.Bool.{Bool, true, false}
-use mathlib.Core.Logic.{inl, inr}
-use mathlib.Core.Option.{Option, none, some}
-use mathlib.Core.List.{List, [], _∷_, _++_}
+use mathlib.Core.Logic.{inl}
+use mathlib.Core.Option.{Option}
+use mathlib.Core.List.{List, [], _∷_}
 use Prim.Native.Nat.{ℕ, zero, suc, _+_, _-_, _^_, _≤_, _<_}
 use native.Mathlib.Omega.{arith}
 use lib.ListN.{length, getD, take, drop, length-take}
-use Rattle.values.specs.Value.{Value, Items, more}
+use Rattle.values.specs.Value.{Value, more}
 use Rattle.integers.specs.Bytes.{word}
 use Rattle.values.specs.Place.{At, ItemsAt, Holds, HoldsItems}
 use Rattle.values.specs.Records.{holds, run, items-none}
 use Rattle.tables.specs.Accepted.{records}
-use Rattle.choices.specs.Tree.{Tree, Full, Outcome, value, refusal}
-use Rattle.choices.specs.Paths.{Within, Prefix, outcomeAt, counts, paths, extend, raise}
+use Rattle.choices.specs.Tree.{Tree, Outcome, value}
+use Rattle.choices.specs.Paths.{outcomeAt, counts, paths, extend, raise}
 use Rattle.choices.specs.Laws.Seeds.{Seed, seed-first, seed-next, seed-last, seed-outcome, nth as outcome}
 use Rattle.choices.specs.Laws.Rank.{Bytes, rank, rank-below, extend-rank, raise-rank}
 use Rattle.digits.specs.declared.Digits.{Digits}
 use Rattle.digits.specs.declared.Advanced.{Advanced}
 use Rattle.digits.specs.Path.{most, View, view, fresh, Sound, Made, Advances, maybe}
-use Rattle.digits.specs.Walk.{Walked, reached, stopped, walk, walkedBy, finish, walk-path}
-use Rattle.parts.specs.declared.Part.{Part}
+use Rattle.digits.specs.Walk.{reached, walk, walkedBy, finish, walk-path}
 use Rattle.patterns.specs.Binding.{Binding}
-use Rattle.patterns.specs.Pattern.{Pattern, itemsOf, listOf}
+use Rattle.patterns.specs.Pattern.{itemsOf, listOf}
 use Rattle.patterns.specs.Matched.{items-list}
 use Rattle.ways.specs.Tries.{State, start, tries, places}
 use Rattle.ways.specs.Tame.{Tame, tries-tame, tame-full, tame-within, tame-value}
 use Rattle.ways.specs.Read.{patternAt}
-use Rattle.ways.specs.Best.{Sought, counting, counted, upTo, soughtIn, soughtAll}
+use Rattle.ways.specs.Best.{Sought, counted, upTo, soughtIn, soughtAll}
 use Rattle.matching.specs.declared.Found.{Found}
 use Rattle.matching.specs.declared.Matched.{Matched}
 use Rattle.matching.specs.Found.{Stands, Standing}
 use Rattle.matching.specs.Along.{Came, Along}
 use Rattle.bindings.specs.declared.Best.{Best}
-use Rattle.bindings.specs.Bound.{Bound, BestIs, BestHeld, SoughtIs, Considered, Searchable, SoughtOf, SoughtOfAll}
+use Rattle.bindings.specs.Bound.{BestIs, BestHeld, SoughtIs, Considered, Searchable, SoughtOf, SoughtOfAll}
 
 -- ---- bytes
 
@@ -133,9 +132,6 @@ Going table p s at present best₀ d best =
     → (k : ℕ) × Running (tries (patternAt (records table) p) v start) d k × SoughtIs s best (upTo (tries (patternAt (records table) p) v start) a q k)
 
 module _ (table index : List ℕ) (p : ℕ) (r : Searchable table index p) (s : List ℕ) (at : ℕ) (present best₀ : Best) where
-  tree : Value → Tree State
-  tree v = tries (patternAt (records table) p) v start
-
   tame : (v : Value) → Tame (places (patternAt (records table) p)) (tries (patternAt (records table) p) v start)
   tame v = tries-tame (patternAt (records table) p) v start
 

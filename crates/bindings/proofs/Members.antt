@@ -1,28 +1,25 @@
 -- A plain name over a set: its bindings are the members, one after the other where they stand.
-use mathlib.Core.Path.{_≡_, refl, sym, ap, ap₂, subst, _∙_}
-use mathlib.Core.Bool.{Bool, true, false}
-use mathlib.Core.Logic.{inl, inr, ⊎-elim}
+use mathlib.Core.Path.{_≡_, refl, sym, ap, subst, _∙_}
+use mathlib.Core.Bool.{true, false}
+use mathlib.Core.Logic.{inl, inr}
 use mathlib.Core.Option.{Option, none, some}
 use mathlib.Core.List.{List, [], _∷_, map}
 use Prim.Native.Nat.{ℕ, zero, suc, _+_, _≤_, _<_}
 use native.Mathlib.Decide.{ℕ-discrete, decLt}
 use native.Mathlib.Omega.{arith}
-use lib.ListN.{length, getD, drop, set as put, length-set, length-map, drop-of-length-le, getD-replicate}
+use lib.ListN.{length, getD, drop, set as put, length-set, length-map, drop-of-length-le}
 use lib.Seq.{drop-cons, getD-set-same, getD-set-other, ext-getD}
 use Rattle.integers.specs.Bytes.{word}
 use Rattle.values.specs.Value.{Value, boolean, collection, set, Items, more, none as no-items, sizes}
 use Rattle.values.specs.Encoding.{none-sizes}
 use Rattle.values.specs.Place.{At, ItemsAt, Holds, HoldsItems}
 use Rattle.values.specs.Records.{holds, run, items-of, items-none, word-size, one-value, collection-shaped}
-use Rattle.tables.specs.Accepted.{records}
-use Rattle.tables.specs.Record.{nameOf}
-use Rattle.tables.specs.Table.{recordAt, kindAt}
 use Rattle.parts.specs.declared.Part.{Part}
 use Rattle.parts.specs.Part.{PartIs, CellIs}
 use Rattle.parts.specs.Laws.{part-one, one-collection}
 use Rattle.patterns.specs.Ways.{gather, exists}
 use Rattle.patterns.specs.Binding.{Cell, free, is, Binding, names, nothing, only, cellOf, consistent}
-use Rattle.patterns.specs.Pattern.{Pattern, name, itemsOf, listOf, matches, wide}
+use Rattle.patterns.specs.Pattern.{name, itemsOf, matches, wide}
 use Rattle.patterns.specs.Binder.{bindings}
 use Rattle.patterns.specs.Matched.{list-items, only-sized}
 use Rattle.patterns.specs.Ordered.{Rising, sorted-rising}
@@ -164,9 +161,6 @@ module _ (s : List ℕ) (x at : ℕ) (lt : x < names) (vs : List Value) (h : At 
     pub now-at : f .any ≡ true → Now
     now-at e = go a b z refl
       where
-        m : ℕ
-        m = getD (f .found .parts) x nowhere .at
-
         go : (c : Option Binding) → BestIs s f c → StoodAt s x at f vs c → a ≡ c → Now
         go none k st q = true-false (sym e ∙ k)
         go (some c) k (i, l, y, it) q =

@@ -1,22 +1,21 @@
 -- The order of bindings where their parts lie, and the lesser of two.
 use mathlib.Core.Path.{_≡_, refl, sym, ap, ap₂, subst, _∙_}
-use mathlib.Core.Bool.{Bool, true, false, _||_, _&&_}
-use mathlib.Core.Logic.{_⊎_, inl, inr, ⊎-elim}
+use mathlib.Core.Bool.{Bool, true, false, _||_}
+use mathlib.Core.Logic.{inl, inr}
 use mathlib.Core.Option.{Option, none, some}
 use mathlib.Core.List.{List, [], _∷_}
-use Prim.Native.Nat.{ℕ, zero, suc, _+_, _≤_, _<_}
+use Prim.Native.Nat.{ℕ, _+_, _≤_, _<_}
 use native.Mathlib.Numerals.{add-one}
 use native.Mathlib.Omega.{arith}
-use lib.ListN.{length, getD, drop, drop-of-length-le}
+use lib.ListN.{getD, drop, drop-of-length-le}
 use lib.Seq.{drop-cons}
 use Rattle.integers.specs.declared.Order.{Order}
 use Rattle.integers.specs.declared.Order.the-variants.{Lower, Same, Higher}
 use Rattle.values.specs.Value.{Value, after}
-use Rattle.values.specs.Items.{pick}
 use Rattle.parts.specs.declared.Part.{Part}
 use Rattle.parts.specs.Part.{PartIs, PartHeld, CellIs}
 use Rattle.parts.specs.Contract.{OrderedParts}
-use Rattle.patterns.specs.Binding.{Cell, free, is, clash, Binding, names, cellOf, consistent, orderCells, orderBindings}
+use Rattle.patterns.specs.Binding.{Cell, free, is, Binding, names, cellOf, orderCells, orderBindings}
 use Rattle.ways.specs.Tries.{State}
 use Rattle.ways.specs.Following.{isAbove, isLower}
 use Rattle.ways.specs.Merging.{true-false}

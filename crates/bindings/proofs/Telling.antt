@@ -3,7 +3,7 @@ use mathlib.Core.Path.{_≡_, refl, sym, ap, ap₂, subst, _∙_}
 use mathlib.Core.Bool.{Bool, true, false}
 use mathlib.Core.Option.{Option, none, some}
 use mathlib.Core.List.{List, [], _∷_, map}
-use Prim.Native.Nat.{ℕ, zero, suc, _+_, _≤_, _<_}
+use Prim.Native.Nat.{ℕ, _+_, _≤_, _<_}
 use native.Mathlib.Numerals.{add-one}
 use native.Mathlib.Omega.{arith}
 use lib.ListN.{length}
@@ -21,18 +21,17 @@ use Rattle.tables.specs.Reading.{HasField}
 use Rattle.patterns.specs.Ways.{gather, exists}
 use Rattle.patterns.specs.Binding.{Binding, only}
 use Rattle.patterns.specs.Pattern.{Pattern, name, itemsOf, matches, wide}
-use Rattle.patterns.specs.Binder.{bindings, Formed, bound, refused, few as fewest, formed}
+use Rattle.patterns.specs.Binder.{bindings, Formed, refused, few as fewest, formed}
 use Rattle.patterns.specs.Ordered.{Rising, sorted-rising}
 use Rattle.patterns.specs.Forming.{bound-formed}
 use Rattle.ways.specs.Read.{patternAt}
 use Rattle.ways.specs.Nodes.{pattern-at, is-name}
 use Rattle.ways.specs.Merging.{true-false}
 use Rattle.ways.specs.Following.{following, nth}
-use Rattle.ways.specs.Best.{Sought, nothingYet, soughtIn, soughtAll, sought-wide, sought-least}
+use Rattle.ways.specs.Best.{nothingYet, soughtAll, sought-wide, sought-least}
 use Rattle.bindings.specs.declared.Best.{Best}
-use Rattle.bindings.specs.declared.Tally.{Tally}
 use Rattle.bindings.specs.declared.Tally.the-variants.{Number, Refused}
-use Rattle.bindings.specs.Bound.{Bound, BestIs, BestHeld, SoughtIs, SoughtOf, SoughtOfAll, Searchable, Values, Bindable, FollowsIn, Follows, StoodAt, MemberHeld, MemberFollows, MemberNext, Present, NextOf, NoneYet, TellsOf, Tallied}
+use Rattle.bindings.specs.Bound.{BestIs, BestHeld, SoughtIs, SoughtOf, SoughtOfAll, Searchable, Values, Bindable, FollowsIn, Follows, StoodAt, MemberHeld, MemberFollows, MemberNext, Present, NextOf, NoneYet, TellsOf, Tallied}
 use Rattle.bindings.proofs.Members.{best-one, set-one, plain-are, plain-narrow}
 use Rattle.bindings.specs.Stepping.{prior, step-on, nth-none, nth-some}
 
@@ -105,9 +104,6 @@ module _ (table : List ℕ) (p : ℕ) (s : List ℕ) (at : ℕ) (t : Bool) (f r 
   }
 
 module _ (table index : List ℕ) (p : ℕ) (c : Searchable table index p) (k : kindAt (records table) p ≡ 32) (s : List ℕ) (at : ℕ) where
-  x : ℕ
-  x = nameOf (recordAt (records table) p)
-
   small : nameOf (recordAt (records table) p) < 16
   small = name-is-small (kindAt (records table) p) (recordAt (records table) p) k (fit-known (recordAt (records table) p) (c .readable .fine .fit p (c .readable .here .within)))
 
@@ -151,9 +147,6 @@ module _ (table index : List ℕ) (p : ℕ) (c : Searchable table index p) (k : 
 -- ---- how many
 
 module _ (table : List ℕ) (p : ℕ) (s : List ℕ) (at : ℕ) (t : Bool) where
-  P : Pattern
-  P = patternAt (records table) p
-
   -- n steps from none
   pub record Stepped (n : ℕ) (present : Best) : Type 0 where
     pub few : n ≤ 255

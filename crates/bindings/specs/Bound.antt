@@ -7,7 +7,6 @@ use Prim.Native.Nat.{ℕ, _+_, _≤_, _<_}
 use lib.ListN.{length, getD, drop}
 use Rattle.integers.specs.Bytes.{word}
 use Rattle.values.specs.Value.{Value, boolean, collection, set}
-use Rattle.values.specs.Items.{pick}
 use Rattle.values.specs.Place.{At, ItemsAt}
 use Rattle.tables.specs.Record.{nameOf}
 use Rattle.tables.specs.Table.{recordAt, kindAt}

@@ -3,7 +3,7 @@
 use mathlib.Core.Path.{_≡_, refl, sym, ap, ap₂, subst, _∙_}
 use mathlib.Core.Bool.{Bool, true, false, _||_}
 use mathlib.Core.Logic.{_⊎_, inl, inr, ⊎-elim}
-use mathlib.Core.List.{List, [], _∷_, _++_, map}
+use mathlib.Core.List.{List, [], _∷_, map}
 use Prim.Native.Nat.{ℕ, zero, suc, _+_, _-_, _≤_, _<_}
 use native.Mathlib.Decide.{ℕ-discrete}
 use native.Mathlib.Omega.{arith}
@@ -11,12 +11,12 @@ use lib.Dec.{eqb}
 use lib.ListN.{length, getD, take}
 use borrow.Author.Tests.{eq-eqb, ne-eqb, eqb-true}
 use Rattle.tables.specs.Record.{Record, named, operand}
-use Rattle.tables.specs.Table.{recordAt, kindAt}
+use Rattle.tables.specs.Table.{recordAt}
 use Rattle.tables.specs.Sheet.{fold, some, isIn, parent}
-use Rattle.tables.specs.Check.{mostRecords, allNamed, namedBefore}
-use Rattle.tables.specs.Laws.{Lower, fold-at, in-append, or-left, or-right, parent-higher}
-use Rattle.tables.specs.Accepted.{records, Fine, Clear6, lower, operand-lower, operand-first, operand-parent}
-use Rattle.patterns.specs.Pattern.{Pattern, name, any, literal, each, halved, Patterns, nil, cons}
+use Rattle.tables.specs.Check.{allNamed}
+use Rattle.tables.specs.Laws.{Lower, fold-at, in-append, or-right, parent-higher}
+use Rattle.tables.specs.Accepted.{records, Clear6, lower, operand-lower, operand-first, operand-parent}
+use Rattle.patterns.specs.Pattern.{Pattern, any}
 use Rattle.ways.specs.Tries.{places, placesEach}
 use Rattle.ways.specs.Read.{patternsOf, patterns, patternOf, patternAt}
 use Rattle.ways.specs.Nodes.{pattern-at}

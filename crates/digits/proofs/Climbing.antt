@@ -1,11 +1,10 @@
 -- The last digit that can go up is found from the end.
-use mathlib.Core.Path.{_≡_, refl, sym, ap, ap₂, _∙_}
+use mathlib.Core.Path.{_≡_, refl, sym, ap₂, _∙_}
 use mathlib.Core.Bool.{true, false}
 use mathlib.Core.Option.{none, some}
 use mathlib.Core.List.{List, [], _∷_, _++_}
-use Prim.Native.Nat.{ℕ, zero, suc, _+_, _≤_, _<_}
+use Prim.Native.Nat.{ℕ, suc, _+_, _≤_, _<_}
 use native.Mathlib.Decide.{ℕ-discrete}
-use native.Mathlib.Numerals.{add-one}
 use native.Mathlib.Omega.{arith}
 use lib.ListN.{length, take, drop, getD, set, length-take, length-set, take-append-drop}
 use lib.Seq.{take-suc-set, take-take, getD-set-same, getD-set-other}
@@ -13,7 +12,7 @@ use borrow.Author.Tests.{lt-ltb, le-ltb}
 use Rattle.choices.specs.Paths.{raise}
 use Rattle.choices.specs.Laws.States.{left-cons, left-nil}
 use Rattle.digits.specs.declared.Digits.{Digits}
-use Rattle.digits.specs.Path.{most, view, Sound, Raisable, Advances}
+use Rattle.digits.specs.Path.{Sound, Raisable, Advances}
 
 -- What follows i cannot go up.
 pub record Stuck (e ns : List ℕ) (u i : ℕ) : Type 0 where

@@ -1,5 +1,5 @@
 -- The first path, and one more digit taken.
-use mathlib.Core.Path.{_≡_, refl, sym, ap, _∙_, subst}
+use mathlib.Core.Path.{_≡_, refl, sym, ap, _∙_}
 use mathlib.Core.Bool.{true, false}
 use mathlib.Core.List.{List, [], _∷_, _++_}
 use Prim.Native.Nat.{ℕ, zero, suc, _+_, _≤_, _<_}
@@ -12,7 +12,7 @@ use borrow.Author.Tests.{lt-ltb, le-ltb}
 use Rattle.choices.specs.Laws.States.{left-cons, left-nil}
 use Rattle.choices.specs.State.{rest}
 use Rattle.digits.specs.declared.Digits.{Digits}
-use Rattle.digits.specs.Path.{most, View, view, Sound, Made, nextDigit, digitOf, hasRoom, taken, afterwards, Took}
+use Rattle.digits.specs.Path.{most, view, Sound, Made, nextDigit, digitOf, hasRoom, Took}
 
 zero-small : (n k : ℕ) → getD {A = ℕ} (replicate n 0) k 0 < 256
 zero-small zero k = omega arith

@@ -1,16 +1,14 @@
 -- A tree walked along a path: what it comes to, and the path after it.
 use mathlib.Core.Path.{_≡_, refl, sym, ap, ap₂, _∙_}
-use mathlib.Core.Bool.{Bool, true, false}
 use mathlib.Core.List.{List, [], _∷_, _++_, append-nil}
-use Prim.Native.Nat.{ℕ, zero, suc, _+_, _≤_, _<_}
+use Prim.Native.Nat.{ℕ, zero, suc, _+_, _≤_}
 use native.Mathlib.Omega.{arith}
 use lib.ListN.{length, length-append}
 use borrow.Author.Tests.{lt-ltb}
 use Rattle.choices.specs.Tree.{Tree, give, stop, choose, bind, Full, Outcome, value, refusal}
 use Rattle.choices.specs.Paths.{Prefix, Within, outcomeAt, counts, extend}
-use Rattle.choices.specs.State.{rest}
 use Rattle.choices.specs.Laws.Paths.{prefix-nil}
-use Rattle.digits.specs.Path.{most, View, digitOf, nextDigit, hasRoom, taken, afterwards, fresh}
+use Rattle.digits.specs.Path.{most, View, taken, afterwards}
 
 -- The value that a walk comes to, with the path after it; or a refusal.
 pub data Walked (A : Type 0) : Type 0 where

@@ -1,8 +1,7 @@
 // A path of digits along a tree of choices: each choice takes the next digit, or 0 past the last; and the way to the next path.
 ghost use mathlib.Core.Path.{_≡_};
-ghost use Prim.Native.Nat.{_≤_, _<_};
-ghost use lib.ListN.{getD};
-ghost use Rattle.digits.specs.Path.{most, view, Sound, Made, nextDigit, Took, Raisable, Advances};
+ghost use Prim.Native.Nat.{_<_};
+ghost use Rattle.digits.specs.Path.{view, Sound, Made, nextDigit, Took, Raisable, Advances};
 
 // The digits, of which `len` are given and `used` have been taken; beside each taken one the number of ways that it chose among.
 pub struct Digits {

@@ -1,7 +1,7 @@
 -- How many ways there are, by the kind of the pattern and the items of the value.
 use mathlib.Core.Path.{_≡_, refl, sym, ap, subst, _∙_}
 use mathlib.Core.Bool.{Bool, true, false}
-use mathlib.Core.Option.{Option, none as absent, some}
+use mathlib.Core.Option.{none as absent, some}
 use mathlib.Core.List.{List, [], _∷_, map}
 use Prim.Native.Nat.{ℕ, zero, suc, _+_, _-_, _^_, _≤_, _<_}
 use native.Mathlib.Decide.{ℕ-discrete}
@@ -9,7 +9,7 @@ use native.Mathlib.Omega.{arith}
 use lib.Dec.{eqb, ltb}
 use lib.ListN.{length, length-map}
 use borrow.Author.Tests.{eq-eqb, ne-eqb, lt-ltb, le-ltb}
-use Rattle.values.specs.Value.{Kind, set, sequence, map as mapping, tuple, number, kindOf, Value, boolean, integer, collection, WellFormed, limit}
+use Rattle.values.specs.Value.{Kind, set, sequence, map as mapping, tuple, number, kindOf, Value, boolean, integer, collection, WellFormed}
 use Rattle.values.specs.Items.{pick}
 use Rattle.values.specs.Laws.{number-low, number-inj}
 use Rattle.values.specs.Encoding.{collection-size, count-sizes}
@@ -20,7 +20,7 @@ use Rattle.parts.specs.Mask.{Full}
 use Rattle.parts.specs.Laws.{part-well-formed}
 use Rattle.parts.specs.Chosen.{splits-length, cuts-length}
 use Rattle.patterns.specs.Ways.{splits, cuts, orders}
-use Rattle.patterns.specs.Pattern.{listOf, itemsOf, contents, met, split, tooLarge}
+use Rattle.patterns.specs.Pattern.{listOf, itemsOf, contents, tooLarge}
 use Rattle.patterns.specs.Matched.{items-list, list-items}
 use Rattle.patterns.specs.Plain.{count-list}
 use Rattle.ways.specs.Nodes.{collectionOf, isHalved, pair, meetings, isLarge}

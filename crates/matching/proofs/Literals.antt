@@ -1,9 +1,9 @@
 -- A part of a value compared with a literal.
 use mathlib.Core.Path.{_≡_, refl, sym, ap, ap₂, subst, _∙_}
 use mathlib.Core.Bool.{Bool, true, false, not}
-use mathlib.Core.Logic.{inl, inr, ⊎-elim}
-use mathlib.Core.List.{List, [], _∷_, map}
-use Prim.Native.Nat.{ℕ, _+_, _≤_, _<_}
+use mathlib.Core.Logic.{inl, inr}
+use mathlib.Core.List.{List, [], map}
+use Prim.Native.Nat.{ℕ, _≤_, _<_}
 use native.Mathlib.Omega.{arith}
 use lib.IntN.{ℤ}
 use lib.Dec.{eqb}
@@ -12,25 +12,25 @@ use mir.Val.{SFits, ofZ, toZ}
 use mir.ValLaws.{toZ-ofZ}
 use borrow.Author.Tests.{eq-eqb, eqb-true}
 use lib.ListN.{length}
-use Rattle.values.specs.Value.{Value, boolean, integer, collection, kindOf, number}
+use Rattle.values.specs.Value.{Value, boolean, integer, kindOf}
 use Rattle.values.specs.Items.{same}
-use Rattle.values.specs.Laws.{same-true, true-same, false-same, number-low}
-use Rattle.values.specs.Place.{At, Holds}
+use Rattle.values.specs.Laws.{true-same, false-same}
+use Rattle.values.specs.Place.{At}
 use Rattle.values.specs.Records.{one-value, holds, word-kind}
 use Rattle.values.specs.Contract.{OfKind}
-use Rattle.tables.specs.Record.{Record, named, field, booleanOf, integerOf, headOf, size, shape}
+use Rattle.tables.specs.Record.{named, field, booleanOf, integerOf, headOf, size, shape}
 use Rattle.tables.specs.Table.{recordAt, kindAt}
-use Rattle.tables.specs.Accepted.{records, Fine, lower, fit-least}
+use Rattle.tables.specs.Accepted.{records, lower, fit-least}
 use Rattle.tables.specs.Laws.{Lower}
-use Rattle.tables.specs.Reading.{Here, HasField}
+use Rattle.tables.specs.Reading.{HasField}
 use Rattle.parts.specs.declared.Part.{Part}
 use Rattle.parts.specs.Part.{PartIs, PartHeld}
 use Rattle.parts.specs.Contract.{KindOfPart}
 use Rattle.parts.specs.Laws.{whole-of}
-use Rattle.patterns.specs.Pattern.{Pattern, literal}
+use Rattle.patterns.specs.Pattern.{literal}
 use Rattle.ways.specs.Read.{patternAt}
 use Rattle.ways.specs.Nodes.{pattern-at, is-boolean, is-integer}
-use Rattle.matching.specs.Node.{Readable, LiteralHeld, LiteralIs}
+use Rattle.matching.specs.Node.{LiteralHeld, LiteralIs}
 
 -- a part of a kind below 3 is a whole record
 plain-how : {s : List ℕ} {p : Part} {k : ℕ} {v : Value} → KindOfPart s p k → k < 3 → PartIs s p v → p .how ≡ 1

@@ -3,7 +3,7 @@ use mathlib.Core.Path.{_≡_, refl, sym, ap, ap₂, subst, _∙_}
 use mathlib.Core.Bool.{Bool, true, false, _&&_, _||_}
 use mathlib.Core.Logic.{_⊎_, inl, inr, ⊎-elim}
 use mathlib.Core.List.{List, [], _∷_}
-use Prim.Native.Nat.{ℕ, zero, suc, _≤_, _<_}
+use Prim.Native.Nat.{ℕ, zero, suc, _<_}
 use native.Mathlib.Decide.{ℕ-discrete}
 use native.Mathlib.Omega.{arith}
 use lib.ListN.{length, getD, set, length-set, replicate, getD-replicate}
@@ -11,9 +11,9 @@ use lib.Seq.{getD-set-same, getD-set-other}
 use Rattle.integers.specs.declared.Order.{Order}
 use Rattle.integers.specs.declared.Order.the-variants.{Lower, Same, Higher}
 use Rattle.values.specs.Value.{Value}
-use Rattle.values.specs.Items.{pick, isSame, same}
+use Rattle.values.specs.Items.{pick, isSame}
 use Rattle.parts.specs.declared.Part.{Part}
-use Rattle.parts.specs.Part.{PartIs, PartHeld, CellIs}
+use Rattle.parts.specs.Part.{PartIs, CellIs}
 use Rattle.parts.specs.Contract.{OrderedParts}
 use Rattle.patterns.specs.Binding.{Cell, free, is, clash, Binding, names, nothing, only, cellOf, agree, merge, consistent}
 use Rattle.patterns.specs.Matched.{merge-sized, only-sized}
@@ -21,7 +21,7 @@ use Rattle.ways.specs.Tries.{State, start, naming}
 use Rattle.ways.specs.Merging.{true-false, consistent-left}
 use Rattle.ways.specs.Best.{isGood}
 use Rattle.matching.specs.declared.Found.{Found}
-use Rattle.matching.specs.Found.{nowhere, Stands, Standing, missing}
+use Rattle.matching.specs.Found.{nowhere, Stands, missing}
 
 -- ---- truths
 
@@ -90,9 +90,6 @@ unlike Same f w = absurd (f refl)
 unlike Higher f w = refl
 
 module _ (s : List ℕ) (x : ℕ) (lt : x < names) (v : Value) (st : State) where
-  both : Binding
-  both = merge (st .found) (only x v)
-
   only-here : cellOf (only x v) x ≡ is v
   only-here = getD-set-same nothing x (is v) free lt
 

@@ -1,27 +1,27 @@
 -- What each part meets in a way.
 use mathlib.Core.Path.{_≡_, refl, sym, ap, subst, _∙_}
 use mathlib.Core.Bool.{Bool, true, false}
-use mathlib.Core.Logic.{inl, inr}
+use mathlib.Core.Logic.{inl}
 use mathlib.Core.Option.{some}
 use mathlib.Core.List.{List, [], _∷_, map}
-use Prim.Native.Nat.{ℕ, zero, suc, _+_, _^_, _≤_, _<_}
+use Prim.Native.Nat.{ℕ, zero, suc, _≤_, _<_}
 use native.Mathlib.Decide.{ℕ-discrete}
 use native.Mathlib.Omega.{arith}
-use lib.Dec.{eqb, ltb}
+use lib.Dec.{eqb}
 use lib.ListN.{length, getD, length-map}
-use borrow.Author.Tests.{eq-eqb, ne-eqb, eqb-true, eqb-false, ltb-false}
-use Rattle.values.specs.Value.{Kind, set, sequence, tuple, number, kindOf, Value, collection}
+use borrow.Author.Tests.{eqb-true, ltb-false}
+use Rattle.values.specs.Value.{Kind, set, sequence, number, kindOf, Value, collection}
 use Rattle.values.specs.Items.{pick}
 use Rattle.values.specs.Place.{At}
 use Rattle.parts.specs.declared.Part.{Part}
 use Rattle.parts.specs.declared.Halves.{Halves}
-use Rattle.parts.specs.Part.{PartIs, PartHeld}
+use Rattle.parts.specs.Part.{PartIs}
 use Rattle.parts.specs.Contract.{ItemHeld, ItemOfPart, SplitHeld, SplitOf, CutHeld, CutOf}
 use Rattle.parts.specs.Laws.{part-one}
 use Rattle.parts.specs.Chosen.{splits-length, cuts-length}
-use Rattle.patterns.specs.Ways.{Halves as Split, halves, splits, cuts, orders}
+use Rattle.patterns.specs.Ways.{halves, splits, cuts, orders}
 use Rattle.patterns.specs.Pattern.{itemsOf, contents, leftOf, rightOf}
-use Rattle.ways.specs.Nodes.{collectionOf, isHalved, pair, meetings, isLarge}
+use Rattle.ways.specs.Nodes.{collectionOf, pair, meetings}
 use Rattle.ways.specs.Orders.{factorial, orders-length}
 use Rattle.matching.specs.Node.{Ordinal, PieceHeld, PieceOf}
 use Rattle.matching.proofs.Counting.{pick-true, Has, contents-other, contents-same, none-meets, meets-splits, meets-cuts, meets-orders, meets-items}

@@ -1,6 +1,6 @@
 -- A match along a path comes to what the tree comes to.
 use mathlib.Core.Path.{_≡_, refl, sym, ap, ap₂, subst, _∙_}
-use mathlib.Core.Bool.{Bool, true, false, not, _||_}
+use mathlib.Core.Bool.{Bool, true, false}
 use mathlib.Core.Option.{Option, none as absent, some}
 use mathlib.Core.List.{List, [], _∷_, map}
 use Prim.Native.Nat.{ℕ, zero, suc, _+_, _-_, _≤_, _<_}
@@ -12,18 +12,15 @@ use lib.Seq.{drop-cons}
 use borrow.Author.Tests.{leb-true, eqb-true, eqb-false}
 use Rattle.values.specs.Value.{Kind, set, sequence, map as mapping, tuple, Value, boolean}
 use Rattle.values.specs.Items.{pick}
-use Rattle.tables.specs.declared.Role.{Role}
-use Rattle.tables.specs.declared.Role.the-variants.{Pattern as Inner}
-use Rattle.tables.specs.Record.{Record, named, operand, roleAt, nameOf, isPattern, shape, headOf, size, isKnown}
+use Rattle.tables.specs.Record.{Record, named, operand, nameOf, shape, headOf, size, isKnown}
 use Rattle.tables.specs.Table.{recordAt, kindAt}
-use Rattle.tables.specs.Check.{isOfSort}
-use Rattle.tables.specs.Accepted.{records, Fine, lower, pattern-role, operand-lower, operand-sort, named-count, fit-least, fit-most, fit-known}
+use Rattle.tables.specs.Accepted.{records, lower, pattern-role, operand-lower, operand-sort, named-count, fit-least, fit-most, fit-known}
 use Rattle.tables.specs.Laws.{Lower, and-left, and-right}
-use Rattle.tables.specs.Reading.{Here, HasField, HasOperand}
+use Rattle.tables.specs.Reading.{HasField, HasOperand}
 use Rattle.parts.specs.declared.Part.{Part}
 use Rattle.parts.specs.Part.{PartIs, PartHeld}
 use Rattle.parts.specs.Laws.{part-one}
-use Rattle.choices.specs.Tree.{Tree, give, choose, bind}
+use Rattle.choices.specs.Tree.{Tree, give, bind}
 use Rattle.digits.specs.declared.Digits.{Digits}
 use Rattle.digits.specs.declared.Taken.{Taken}
 use Rattle.digits.specs.Path.{View, view, Sound, taken, afterwards, Took}
@@ -134,9 +131,6 @@ module _ (table index : List ℕ) (p : ℕ) (r : Readable table index p) where
   -- ---- parts
 
   module _ (c : 36 ≤ kindAt (records table) p) where
-    count : ℕ
-    count = length (named (recordAt (records table) p))
-
     shaped : Shapely (kindAt (records table) p)
     shaped = shapely (kindAt (records table) p) c kind-high
 
@@ -230,9 +224,6 @@ pair-length k (x ∷ hs) (suc d) h = pair-length k hs d (omega arith)
 meeting-length : (c n : ℕ) (v : Value) (d : ℕ) → (isHalved c ≡ true → n ≡ 2) → d < length (meetings c n v) → length (getD (meetings c n v) d []) ≡ n
 meeting-length c n v d two h = go (isHalved c) refl h
   where
-    k : Kind
-    k = collectionOf c
-
     go : (t : Bool) → isHalved c ≡ t → d < length (pick t (map (pair (collectionOf c)) (split (collectionOf c) (contents (collectionOf c) v))) (met (collectionOf c) n (contents (collectionOf c) v)))
         → length (getD (pick t (map (pair (collectionOf c)) (split (collectionOf c) (contents (collectionOf c) v))) (met (collectionOf c) n (contents (collectionOf c) v))) d []) ≡ n
     go true e l = pair-length (collectionOf c) (split (collectionOf c) (contents (collectionOf c) v)) d l ∙ sym (two e)

@@ -1,6 +1,6 @@
 -- A match along a path of digits: it comes to what the tree of all ways comes to along that path.
 use mathlib.Core.Path.{_≡_}
-use mathlib.Core.Bool.{Bool, true, false}
+use mathlib.Core.Bool.{false}
 use mathlib.Core.List.{List, [], map}
 use Prim.Native.Nat.{ℕ, _≤_, _<_}
 use lib.ListN.{length, getD, drop}
@@ -12,7 +12,7 @@ use Rattle.parts.specs.declared.Part.{Part}
 use Rattle.parts.specs.Part.{PartIs}
 use Rattle.choices.specs.Tree.{give}
 use Rattle.digits.specs.declared.Digits.{Digits}
-use Rattle.digits.specs.Path.{View, view, Sound}
+use Rattle.digits.specs.Path.{view, Sound}
 use Rattle.digits.specs.Walk.{Walked, reached, stopped, walk}
 use Rattle.patterns.specs.Pattern.{Pattern}
 use Rattle.ways.specs.Tries.{State, tries, tryEach}

@@ -6,7 +6,7 @@ use Prim.Native.Nat.{ℕ, _<_}
 use lib.ListN.{length, getD}
 use Rattle.parts.specs.declared.Part.{Part}
 use Rattle.parts.specs.Part.{CellIs}
-use Rattle.patterns.specs.Binding.{Cell, Binding, names, cellOf}
+use Rattle.patterns.specs.Binding.{names, cellOf}
 use Rattle.ways.specs.Tries.{State}
 use Rattle.ways.specs.Best.{isGood}
 use Rattle.matching.specs.declared.Found.{Found}

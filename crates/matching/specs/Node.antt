@@ -4,16 +4,16 @@ use mathlib.Core.Bool.{Bool, true, false}
 use mathlib.Core.List.{List, []}
 use Prim.Native.Nat.{ℕ, _≤_, _<_}
 use lib.ListN.{length, getD}
-use Rattle.values.specs.Value.{Value, boolean, integer}
-use Rattle.values.specs.Items.{pick, same}
-use Rattle.tables.specs.Record.{Record, isPattern, named, booleanOf, integerOf}
-use Rattle.tables.specs.Table.{recordAt, kindAt}
+use Rattle.values.specs.Value.{Value}
+use Rattle.values.specs.Items.{same}
+use Rattle.tables.specs.Record.{isPattern}
+use Rattle.tables.specs.Table.{kindAt}
 use Rattle.tables.specs.Accepted.{records, Fine}
-use Rattle.tables.specs.Reading.{Here, HasField}
+use Rattle.tables.specs.Reading.{Here}
 use Rattle.parts.specs.declared.Part.{Part}
 use Rattle.parts.specs.Part.{PartIs}
 use Rattle.patterns.specs.Ways.{orders}
-use Rattle.patterns.specs.Pattern.{Pattern, literal}
+use Rattle.patterns.specs.Pattern.{literal}
 use Rattle.ways.specs.Nodes.{meetings, isLarge, isHalved}
 use Rattle.ways.specs.Read.{patternAt}
 use Rattle.matching.specs.declared.nodes.Meeting.{Meeting}

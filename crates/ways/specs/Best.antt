@@ -1,35 +1,34 @@
 -- The least binding above the present one, sought over all ways of all values, and whether a set is too large to split.
-use mathlib.Core.Path.{_≡_, refl, sym, ap, ap₂, subst, _∙_}
+use mathlib.Core.Path.{_≡_, refl, sym, ap, subst, _∙_}
 use mathlib.Core.Bool.{Bool, true, false, _||_, _&&_}
 use mathlib.Core.Logic.{_⊎_, inl, inr, ⊎-elim, _↔_}
 use mathlib.Core.Option.{Option, none, some}
 use mathlib.Core.List.{List, [], _∷_}
-use Prim.Native.Nat.{ℕ, zero, suc, _≤_, _<_}
+use Prim.Native.Nat.{ℕ, zero, suc, _<_}
 use native.Mathlib.Decide.{ℕ-discrete}
 use native.Mathlib.Omega.{arith}
-use lib.ListN.{length, getD, replicate, set as put}
-use Rattle.integers.specs.declared.Order.{Order}
-use Rattle.integers.specs.declared.Order.the-variants.{Lower, Same, Higher}
+use lib.ListN.{length, getD, set as put}
+use Rattle.integers.specs.declared.Order.the-variants.{Lower}
 use Rattle.values.specs.Value.{Value}
 use Rattle.values.specs.Items.{pick, same}
 use Rattle.values.specs.Laws.{lower-same}
-use Rattle.choices.specs.Tree.{Tree, Full, Outcome, value, refusal, Gives}
-use Rattle.choices.specs.Paths.{Leaf, outcomeAt, paths}
+use Rattle.choices.specs.Tree.{Tree, Outcome, value, refusal, Gives}
+use Rattle.choices.specs.Paths.{paths}
 use Rattle.choices.specs.Laws.Order.{at-in}
 use Rattle.choices.specs.Laws.Paths.{in-leaf, gives-leaf}
 use Rattle.choices.specs.Laws.Seeds.{nth as outcome, gives-nth}
 use Rattle.patterns.specs.Ways.{gather, exists}
 use Rattle.patterns.specs.Members.{In, in-one, in-left, in-right, in-joined, in-picked, in-gather}
-use Rattle.patterns.specs.Binding.{Cell, free, is, clash, Binding, names, nothing, only, consistent, together, orderBindings}
+use Rattle.patterns.specs.Binding.{free, is, clash, Binding, nothing, consistent, together, orderBindings}
 use Rattle.patterns.specs.Pattern.{Pattern, name, any, literal, each, halved, Patterns, nil, cons, parts, contents, met, split, leftOf, rightOf, matches, matchEach, wide}
 use Rattle.patterns.specs.Binder.{bindings}
 use Rattle.patterns.specs.Matched.{in-together}
 use Rattle.patterns.specs.Ordered.{bindings-lower, bindings-refl, sorted-rising, sorted-in, in-sorted}
-use Rattle.ways.specs.Tries.{State, start, Good, tries, places}
+use Rattle.ways.specs.Tries.{State, start, tries, places}
 use Rattle.ways.specs.Merging.{true-false}
 use Rattle.ways.specs.Leaves.{none-exists, Reached, leaf-match, match-leaf}
-use Rattle.ways.specs.Broad.{exists-in, exists-out, broad-leaves}
-use Rattle.ways.specs.Tame.{Tame, tries-tame, tries-full, tame-value}
+use Rattle.ways.specs.Broad.{broad-leaves}
+use Rattle.ways.specs.Tame.{Tame, tries-tame, tame-value}
 use Rattle.ways.specs.Following.{isAbove, isLower, lower-true, lower-false, following, Above, Least, above-true, above-false, least-iff, least-unique, following-least}
 
 -- What is sought: the least binding so far, and whether a set was too large.

@@ -3,12 +3,11 @@ use mathlib.Core.Path.{_≡_, refl, sym, ap, subst, _∙_}
 use mathlib.Core.Bool.{Bool, true, false, _||_}
 use mathlib.Core.Logic.{_⊎_, inl, inr, ⊎-elim, _↔_}
 use mathlib.Core.List.{List, [], _∷_}
-use Prim.Native.Nat.{ℕ, _<_}
 use native.Mathlib.Omega.{arith}
-use lib.ListN.{length, getD}
+use lib.ListN.{getD}
 use Rattle.values.specs.Value.{Value}
 use Rattle.values.specs.Items.{pick, same}
-use Rattle.choices.specs.Tree.{Tree, give, choose, bind, value, Gives}
+use Rattle.choices.specs.Tree.{Tree, give, bind, value, Gives}
 use Rattle.patterns.specs.Ways.{exists}
 use Rattle.patterns.specs.Members.{In}
 use Rattle.patterns.specs.Pattern.{Pattern, name, any, literal, each, halved, Patterns, nil, cons, parts, contents, met, split, leftOf, rightOf, tooLarge, wide, wideEach}

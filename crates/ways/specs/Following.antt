@@ -4,7 +4,7 @@ use mathlib.Core.Bool.{Bool, true, false}
 use mathlib.Core.Logic.{_⊎_, inl, inr, ⊎-elim}
 use mathlib.Core.Option.{Option, none, some}
 use mathlib.Core.List.{List, [], _∷_}
-use Prim.Native.Nat.{ℕ, zero, suc, _+_, _≤_, _<_}
+use Prim.Native.Nat.{ℕ, zero, suc, _<_}
 use native.Mathlib.Omega.{arith}
 use lib.ListN.{length, getD}
 use Rattle.integers.specs.declared.Order.{Order}
@@ -13,8 +13,8 @@ use Rattle.integers.specs.Ordered.{flip}
 use Rattle.values.specs.Items.{pick}
 use Rattle.values.specs.Laws.{lower-same}
 use Rattle.patterns.specs.Members.{In}
-use Rattle.patterns.specs.Binding.{Binding, nothing, orderBindings}
-use Rattle.patterns.specs.Ordered.{bindings-same, bindings-flip, bindings-lower, bindings-refl, bindings-asymmetric, bindings-total, higher-lower, BeforeEach, Rising, before-in}
+use Rattle.patterns.specs.Binding.{Binding, orderBindings}
+use Rattle.patterns.specs.Ordered.{bindings-flip, bindings-refl, bindings-asymmetric, bindings-total, BeforeEach, Rising, before-in}
 use Rattle.ways.specs.Merging.{true-false}
 use Rattle.ways.specs.Leaves.{at-in}
 

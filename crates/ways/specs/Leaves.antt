@@ -1,20 +1,19 @@
 -- The good leaves of the tree of all ways are the matches, where no set is too large to split.
 use mathlib.Core.Path.{_≡_, refl, sym, ap, subst, _∙_}
 use mathlib.Core.Bool.{Bool, true, false, _||_}
-use mathlib.Core.Logic.{_⊎_, inl, inr, ⊎-elim, _↔_}
+use mathlib.Core.Logic.{_⊎_, inl, inr, ⊎-elim}
 use mathlib.Core.List.{List, [], _∷_}
 use Prim.Native.Nat.{ℕ, zero, suc, _<_}
 use native.Mathlib.Omega.{arith}
 use lib.ListN.{length, getD}
 use Rattle.values.specs.Value.{Value}
 use Rattle.values.specs.Items.{pick, same}
-use Rattle.choices.specs.Tree.{Tree, give, choose, bind, Outcome, value, Gives}
+use Rattle.choices.specs.Tree.{Tree, give, bind, Outcome, value, Gives}
 use Rattle.choices.specs.Laws.Trees.{gives-bind-out, gives-bind-in}
-use Rattle.patterns.specs.Ways.{gather, exists, Halves}
+use Rattle.patterns.specs.Ways.{gather, exists}
 use Rattle.patterns.specs.Members.{In, in-gather, gather-in}
 use Rattle.patterns.specs.Binding.{Binding, names, nothing, only, merge, consistent, together}
 use Rattle.patterns.specs.Pattern.{Pattern, name, any, literal, each, halved, Patterns, nil, cons, parts, contents, met, split, leftOf, rightOf, tooLarge, matches, matchEach, wide, wideEach}
-use Rattle.patterns.specs.Relation.{Matches}
 use Rattle.patterns.specs.Matched.{merge-sized, only-sized, in-together, together-in, matched, match-sized}
 use Rattle.ways.specs.Tries.{State, start, naming, failed, widened, Good, among, tries, tryEach}
 use Rattle.ways.specs.Merging.{true-false, merge-assoc, merge-nothing, nothing-merge, consistent-left, consistent-right}

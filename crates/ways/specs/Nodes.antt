@@ -1,22 +1,21 @@
 -- A pattern that has parts, read off its record: the ways of what its parts meet, and the tree of its tries, the same for all such kinds.
-use mathlib.Core.Path.{_≡_, refl, sym, ap, ap₂, subst, _∙_}
+use mathlib.Core.Path.{_≡_, refl, sym, ap, _∙_}
 use mathlib.Core.Bool.{Bool, true, false, _||_}
-use mathlib.Core.Option.{Option, none as absent, some}
 use mathlib.Core.List.{List, [], _∷_, map}
 use Prim.Native.Nat.{ℕ, zero, suc, _+_, _-_, _≤_, _<_}
 use native.Mathlib.Omega.{arith}
 use lib.Dec.{eqb, ltb}
 use lib.ListN.{length, getD, length-map}
 use Rattle.values.specs.Value.{Kind, set, sequence, tuple, Value, boolean, integer}
-use Rattle.values.specs.Items.{pick, same}
+use Rattle.values.specs.Items.{pick}
 use Rattle.choices.specs.Tree.{Tree, give, choose, bind}
 use Rattle.choices.specs.Laws.Trees.{bind-cong, bind-give}
 use Rattle.patterns.specs.Ways.{Halves}
-use Rattle.patterns.specs.Pattern.{Pattern, name, any, literal, each, halved, Patterns, nil, cons, parts, contents, met, split, leftOf, rightOf, tooLarge}
+use Rattle.patterns.specs.Pattern.{Pattern, name, any, literal, each, halved, parts, contents, met, split, leftOf, rightOf, tooLarge}
 use Rattle.tables.specs.Record.{Record, named, booleanOf, integerOf, nameOf}
-use Rattle.tables.specs.Table.{recordAt, kindAt}
+use Rattle.tables.specs.Table.{recordAt}
 use Rattle.tables.specs.Laws.{Lower, fold-at}
-use Rattle.ways.specs.Tries.{State, naming, failed, widened, among, tries, tryEach}
+use Rattle.ways.specs.Tries.{State, failed, widened, among, tries, tryEach}
 use Rattle.ways.specs.Read.{patternsOf, patternOf, patternAt}
 
 -- ---- kinds 36 to 40

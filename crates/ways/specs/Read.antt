@@ -1,5 +1,4 @@
 -- The pattern that a pattern record of a table stands for.
-use mathlib.Core.Path.{_≡_}
 use mathlib.Core.List.{List, [], _∷_}
 use Prim.Native.Nat.{ℕ, _-_}
 use lib.ListN.{getD}

@@ -5,9 +5,9 @@ use mathlib.Core.Bool.{Bool, true, false}
 use mathlib.Core.List.{List, [], _∷_}
 use Prim.Native.Nat.{ℕ, zero, suc, _+_, _≤_, _<_}
 use native.Mathlib.Omega.{arith}
-use lib.ListN.{length, getD}
+use lib.ListN.{getD}
 use Rattle.values.specs.Value.{Value}
-use Rattle.values.specs.Items.{pick, same}
+use Rattle.values.specs.Items.{pick}
 use Rattle.choices.specs.Tree.{Tree, give, stop, choose, bind, Full, value}
 use Rattle.choices.specs.Paths.{Within, outcomeAt}
 use Rattle.patterns.specs.Pattern.{Pattern, name, any, literal, each, halved, Patterns, nil, cons, parts, contents, met, split, leftOf, rightOf, tooLarge}

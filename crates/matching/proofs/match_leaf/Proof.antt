@@ -1,6 +1,5 @@
-use mathlib.Core.Path.{_≡_, sym, _∙_}
+use mathlib.Core.Path.{sym, _∙_}
 use native.Mathlib.Omega.{arith}
-use borrow.Author.Tests.{not-false}
 use Rattle.matching.proofs.Walking.{name-field, name-small, leaf-name, leaf-any, literal-held, leaf-same, leaf-other}
 use borrow.Author.Needs.{needs}
 use Rattle.matching.proofs.match_leaf.Statement.{statement}
