@@ -132,9 +132,6 @@ Going table p s at present best₀ d best =
     → (k : ℕ) × Running (tries (patternAt (records table) p) v start) d k × SoughtIs s best (upTo (tries (patternAt (records table) p) v start) a q k)
 
 module _ (table index : List ℕ) (p : ℕ) (r : Searchable table index p) (s : List ℕ) (at : ℕ) (present best₀ : Best) where
-  tree : Value → Tree State
-  tree v = tries (patternAt (records table) p) v start
-
   tame : (v : Value) → Tame (places (patternAt (records table) p)) (tries (patternAt (records table) p) v start)
   tame v = tries-tame (patternAt (records table) p) v start
 

@@ -161,9 +161,6 @@ module _ (s : List ℕ) (x at : ℕ) (lt : x < names) (vs : List Value) (h : At 
     pub now-at : f .any ≡ true → Now
     now-at e = go a b z refl
       where
-        m : ℕ
-        m = getD (f .found .parts) x nowhere .at
-
         go : (c : Option Binding) → BestIs s f c → StoodAt s x at f vs c → a ≡ c → Now
         go none k st q = true-false (sym e ∙ k)
         go (some c) k (i, l, y, it) q =

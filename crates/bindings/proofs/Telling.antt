@@ -104,9 +104,6 @@ module _ (table : List ℕ) (p : ℕ) (s : List ℕ) (at : ℕ) (t : Bool) (f r 
   }
 
 module _ (table index : List ℕ) (p : ℕ) (c : Searchable table index p) (k : kindAt (records table) p ≡ 32) (s : List ℕ) (at : ℕ) where
-  x : ℕ
-  x = nameOf (recordAt (records table) p)
-
   small : nameOf (recordAt (records table) p) < 16
   small = name-is-small (kindAt (records table) p) (recordAt (records table) p) k (fit-known (recordAt (records table) p) (c .readable .fine .fit p (c .readable .here .within)))
 
@@ -150,9 +147,6 @@ module _ (table index : List ℕ) (p : ℕ) (c : Searchable table index p) (k : 
 -- ---- how many
 
 module _ (table : List ℕ) (p : ℕ) (s : List ℕ) (at : ℕ) (t : Bool) where
-  P : Pattern
-  P = patternAt (records table) p
-
   -- n steps from none
   pub record Stepped (n : ℕ) (present : Best) : Type 0 where
     pub few : n ≤ 255

@@ -90,9 +90,6 @@ unlike Same f w = absurd (f refl)
 unlike Higher f w = refl
 
 module _ (s : List ℕ) (x : ℕ) (lt : x < names) (v : Value) (st : State) where
-  both : Binding
-  both = merge (st .found) (only x v)
-
   only-here : cellOf (only x v) x ≡ is v
   only-here = getD-set-same nothing x (is v) free lt
 

@@ -131,9 +131,6 @@ module _ (table index : List ℕ) (p : ℕ) (r : Readable table index p) where
   -- ---- parts
 
   module _ (c : 36 ≤ kindAt (records table) p) where
-    count : ℕ
-    count = length (named (recordAt (records table) p))
-
     shaped : Shapely (kindAt (records table) p)
     shaped = shapely (kindAt (records table) p) c kind-high
 
@@ -227,9 +224,6 @@ pair-length k (x ∷ hs) (suc d) h = pair-length k hs d (omega arith)
 meeting-length : (c n : ℕ) (v : Value) (d : ℕ) → (isHalved c ≡ true → n ≡ 2) → d < length (meetings c n v) → length (getD (meetings c n v) d []) ≡ n
 meeting-length c n v d two h = go (isHalved c) refl h
   where
-    k : Kind
-    k = collectionOf c
-
     go : (t : Bool) → isHalved c ≡ t → d < length (pick t (map (pair (collectionOf c)) (split (collectionOf c) (contents (collectionOf c) v))) (met (collectionOf c) n (contents (collectionOf c) v)))
         → length (getD (pick t (map (pair (collectionOf c)) (split (collectionOf c) (contents (collectionOf c) v))) (met (collectionOf c) n (contents (collectionOf c) v))) d []) ≡ n
     go true e l = pair-length (collectionOf c) (split (collectionOf c) (contents (collectionOf c) v)) d l ∙ sym (two e)

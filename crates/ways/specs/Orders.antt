@@ -15,11 +15,6 @@ unfoldable pub factorial : ℕ → ℕ
 factorial zero = 1
 factorial (suc n) = factorial n * suc n
 
--- At most four units have at most 24 orders.
-pub factorial-one : factorial 0 ≡ 1
-unfolding factorial
-factorial-one = refl
-
 pub factorial-more : (n : ℕ) → factorial (suc n) ≡ factorial n * suc n
 unfolding factorial
 factorial-more n = refl
@@ -101,9 +96,6 @@ module _ {A : Type 0} where
 
   -- The order at q * n + r of n units is the order at q of the units but the first, with the first put at r.
   module _ (x : A) (xs : List A) (q r : ℕ) (z : A) (lq : q < factorial (length xs)) (lr : r < suc (length xs)) where
-    ys : List A
-    ys = getD (orders xs) q []
-
     at-orders : getD (orders (x ∷ xs)) (q * suc (length xs) + r) [] ≡ getD (placed x (getD (orders xs) q [])) r []
     unfolding orders
     at-orders =

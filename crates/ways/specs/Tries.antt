@@ -3,7 +3,7 @@
 use mathlib.Core.Path.{_≡_}
 use mathlib.Core.Bool.{Bool, true, false}
 use mathlib.Core.List.{List, [], _∷_}
-use Prim.Native.Nat.{ℕ, suc, _+_, _≤_}
+use Prim.Native.Nat.{ℕ, suc, _+_}
 use lib.ListN.{length, getD}
 use Rattle.values.specs.Value.{Value}
 use Rattle.values.specs.Items.{pick, same}
@@ -71,16 +71,3 @@ unfoldable mutual
   pub placesEach : Patterns → ℕ
   placesEach nil = 0
   placesEach (cons p ps) = places p + placesEach ps
-
--- Each enumeration has at most four parts.
-unfoldable mutual
-  pub Small : Pattern → Type 0
-  Small (name x) = Unit {0}
-  Small any = Unit {0}
-  Small (literal w) = Unit {0}
-  Small (each k ps) = (parts ps ≤ 4) × SmallEach ps
-  Small (halved k p q) = Small p × Small q
-
-  pub SmallEach : Patterns → Type 0
-  SmallEach nil = Unit {0}
-  SmallEach (cons p ps) = Small p × SmallEach ps
