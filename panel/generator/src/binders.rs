@@ -297,12 +297,12 @@ impl Writer {
             let literal = self.random.between(0, 4);
             let right = self.out.integer(literal);
             let operator = self.random.pick(&[
-                binary::UNEQUAL,
-                binary::UNEQUAL,
-                binary::BELOW,
-                binary::AT_MOST,
-                binary::ABOVE,
-                binary::AT_LEAST,
+                binary::NOT_EQUAL,
+                binary::NOT_EQUAL,
+                binary::LESS,
+                binary::LESS_OR_EQUAL,
+                binary::GREATER,
+                binary::GREATER_OR_EQUAL,
             ]);
             self.out.binary(operator, left, right)
         } else {

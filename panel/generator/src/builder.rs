@@ -39,7 +39,7 @@ pub mod kind {
 /// The unary operators.
 pub mod unary {
     pub const NOT: u8 = 1;
-    pub const MINUS: u8 = 2;
+    pub const NEGATE: u8 = 2;
     pub const ABS: u8 = 3;
     pub const CARD: u8 = 4;
     pub const DUNION: u8 = 5;
@@ -60,19 +60,19 @@ pub mod binary {
     pub const AND: u8 = 1;
     pub const OR: u8 = 2;
     pub const IMPLIES: u8 = 3;
-    pub const IFF: u8 = 4;
+    pub const EQUIVALENT: u8 = 4;
     pub const EQUAL: u8 = 5;
-    pub const UNEQUAL: u8 = 6;
+    pub const NOT_EQUAL: u8 = 6;
     pub const PLUS: u8 = 7;
-    pub const LESS: u8 = 8;
+    pub const MINUS: u8 = 8;
     pub const TIMES: u8 = 9;
     pub const DIV: u8 = 10;
     pub const REM: u8 = 11;
     pub const MOD: u8 = 12;
-    pub const BELOW: u8 = 13;
-    pub const AT_MOST: u8 = 14;
-    pub const ABOVE: u8 = 15;
-    pub const AT_LEAST: u8 = 16;
+    pub const LESS: u8 = 13;
+    pub const LESS_OR_EQUAL: u8 = 14;
+    pub const GREATER: u8 = 15;
+    pub const GREATER_OR_EQUAL: u8 = 16;
     pub const IN_SET: u8 = 17;
     pub const NOT_IN_SET: u8 = 18;
     pub const UNION: u8 = 19;
@@ -228,7 +228,7 @@ mod tests {
         let pattern = b.p_name(0);
         let set = b.range(1, 3);
         let (a, two) = (b.name(0), b.integer(2));
-        let condition = b.binary(binary::UNEQUAL, a, two);
+        let condition = b.binary(binary::NOT_EQUAL, a, two);
         let (a, one) = (b.name(0), b.integer(1));
         let body = b.binary(binary::PLUS, a, one);
         b.node(kind::LET_BE, &[pattern, set, condition, body]);

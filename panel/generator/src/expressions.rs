@@ -109,19 +109,19 @@ impl Writer {
         match self.random.below(12) {
             0 => self.unary(unary::NOT, &truth, depth),
             1..=3 => {
-                let operators = [binary::AND, binary::OR, binary::IMPLIES, binary::IFF];
+                let operators = [binary::AND, binary::OR, binary::IMPLIES, binary::EQUIVALENT];
                 self.binary(&operators, &truth, &truth, depth)
             }
             4 | 5 => {
                 let shape = Shape::random(&mut self.random, 2);
-                self.binary(&[binary::EQUAL, binary::UNEQUAL], &shape, &shape, depth)
+                self.binary(&[binary::EQUAL, binary::NOT_EQUAL], &shape, &shape, depth)
             }
             6 | 7 => {
                 let operators = [
-                    binary::BELOW,
-                    binary::AT_MOST,
-                    binary::ABOVE,
-                    binary::AT_LEAST,
+                    binary::LESS,
+                    binary::LESS_OR_EQUAL,
+                    binary::GREATER,
+                    binary::GREATER_OR_EQUAL,
                 ];
                 self.binary(&operators, &Shape::Integer, &Shape::Integer, depth)
             }
@@ -140,7 +140,7 @@ impl Writer {
 
     fn integer(&mut self, depth: usize) -> usize {
         match self.random.below(10) {
-            0 => self.unary(unary::MINUS, &Shape::Integer, depth),
+            0 => self.unary(unary::NEGATE, &Shape::Integer, depth),
             1 => self.unary(unary::ABS, &Shape::Integer, depth),
             2 => {
                 let set = Shape::set(Shape::random(&mut self.random, 1), 4);
@@ -151,7 +151,7 @@ impl Writer {
                 self.unary(unary::LEN, &sequence, depth)
             }
             4..=7 => {
-                let operators = [binary::PLUS, binary::LESS, binary::TIMES];
+                let operators = [binary::PLUS, binary::MINUS, binary::TIMES];
                 self.binary(&operators, &Shape::Integer, &Shape::Integer, depth)
             }
             _ => {

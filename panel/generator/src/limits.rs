@@ -181,7 +181,7 @@ fn choice(b: &mut Builder, members: i32) -> usize {
 /// Unary minuses on a literal.
 fn height(b: &mut Builder, height: usize) -> usize {
     let literal = b.integer(5);
-    (1..height).fold(literal, |operand, _| b.unary(unary::MINUS, operand))
+    (1..height).fold(literal, |operand, _| b.unary(unary::NEGATE, operand))
 }
 
 /// A sum of ones, with a minus on it where the number of records is even.
@@ -195,7 +195,7 @@ fn records(b: &mut Builder, count: usize) -> usize {
         terms = pairs.collect();
     }
     if count % 2 == 0 {
-        return b.unary(unary::MINUS, terms[0]);
+        return b.unary(unary::NEGATE, terms[0]);
     }
     terms[0]
 }
@@ -236,8 +236,8 @@ fn covered(b: &mut Builder, kind: u16) -> Vec<usize> {
         kind::LET_BE => vec![b.boolean(true), split_sizes(b)],
         kind::SET_COMPREHENSION => vec![b.boolean(true), size(b, 1)],
         kind::MAP_COMPREHENSION => vec![b.boolean(true), size(b, 3), b.integer(0)],
-        kind::FORALL => vec![total_compared(b, binary::AT_LEAST)],
-        kind::EXISTS => vec![total_compared(b, binary::BELOW)],
+        kind::FORALL => vec![total_compared(b, binary::GREATER_OR_EQUAL)],
+        kind::EXISTS => vec![total_compared(b, binary::LESS)],
         _ => vec![total_compared(b, binary::EQUAL)],
     }
 }

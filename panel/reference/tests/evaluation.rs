@@ -472,13 +472,16 @@ fn operators_on_maps() {
         bin(MUNION, one(), map(&ints(&[3, 1]))).prints(),
         "{1|->10,2|->20,3|->1}"
     );
-    assert_eq!(bin(DOMAIN, set(&ints(&[2, 3])), one()).prints(), "{2|->20}");
     assert_eq!(
-        bin(RANGE, one(), set(&ints(&[10, 30]))).prints(),
+        bin(DOMAIN_RESTRICTION, set(&ints(&[2, 3])), one()).prints(),
+        "{2|->20}"
+    );
+    assert_eq!(
+        bin(RANGE_RESTRICTION, one(), set(&ints(&[10, 30]))).prints(),
         "{1|->10}"
     );
-    assert_eq!(bin(DOMAIN, one(), set(&[])).answer(&[]).0, 20);
-    assert_eq!(bin(RANGE, set(&[]), one()).answer(&[]).0, 20);
+    assert_eq!(bin(DOMAIN_RESTRICTION, one(), set(&[])).answer(&[]).0, 20);
+    assert_eq!(bin(RANGE_RESTRICTION, set(&[]), one()).answer(&[]).0, 20);
 }
 
 #[test]

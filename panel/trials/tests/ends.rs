@@ -6,17 +6,6 @@ use common::*;
 use reference::value::Value;
 use trials::{BAD_INPUT, LAST_BINARY, LAST_UNARY, SCRATCH};
 
-const WRONG_KIND: Outcome = Err(20);
-const OUT_OF_RANGE: Outcome = Err(21);
-const BY_ZERO: Outcome = Err(22);
-const ABSENT: Outcome = Err(26);
-const TOO_LARGE: Outcome = Err(28);
-
-#[track_caller]
-fn is(outcome: Outcome, value: Value) {
-    assert_eq!(outcome, Ok(value.encode()));
-}
-
 #[test]
 fn integers_at_the_ends() {
     let (least, greatest) = (int(i32::MIN), int(i32::MAX));

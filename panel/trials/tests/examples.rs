@@ -7,25 +7,6 @@ mod common;
 use common::*;
 use reference::value::Value;
 
-const FRANCE: i32 = 101;
-const DENMARK: i32 = 102;
-const SOUTH_AFRICA: i32 = 103;
-const SAUDI_ARABIA: i32 = 104;
-const ENGLAND: i32 = 105;
-const RUMANIA: i32 = 107;
-const COLOMBIA: i32 = 108;
-const TUNISIA: i32 = 109;
-
-#[track_caller]
-fn is(outcome: Outcome, value: Value) {
-    assert_eq!(outcome, Ok(value.encode()));
-}
-
-#[track_caller]
-fn truth(outcome: Outcome, truth: bool) {
-    is(outcome, Value::Boolean(truth));
-}
-
 /// The value of an example's inner operator.
 fn inner(result: Result<Value, u32>) -> Value {
     result.expect("the inner operator has a value")

@@ -4,28 +4,6 @@
 mod common;
 
 use common::*;
-use reference::value::Value;
-
-const FRANCE: i32 = 101;
-const DENMARK: i32 = 102;
-const SOUTH_AFRICA: i32 = 103;
-const SAUDI_ARABIA: i32 = 104;
-const ENGLAND: i32 = 105;
-const SPAIN: i32 = 106;
-
-const WRONG_KIND: Outcome = Err(20);
-const CLASH: Outcome = Err(27);
-const TOO_LARGE: Outcome = Err(28);
-
-#[track_caller]
-fn is(outcome: Outcome, value: Value) {
-    assert_eq!(outcome, Ok(value.encode()));
-}
-
-#[track_caller]
-fn truth(outcome: Outcome, truth: bool) {
-    is(outcome, Value::Boolean(truth));
-}
 
 #[test]
 fn worked_examples() {

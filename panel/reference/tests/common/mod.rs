@@ -1,58 +1,8 @@
 //! A tiny builder of tables for the tests: nested records, each placed after its operands.
-#![allow(dead_code)]
+#![allow(dead_code, unused_imports)]
 
+pub use generator::builder::{binary, unary};
 use reference::eval::{evaluate, Evaluation};
-
-/// Unary operators.
-pub mod unary {
-    pub const NOT: u8 = 1;
-    pub const NEGATE: u8 = 2;
-    pub const ABS: u8 = 3;
-    pub const CARD: u8 = 4;
-    pub const DUNION: u8 = 5;
-    pub const DINTER: u8 = 6;
-    pub const LEN: u8 = 7;
-    pub const HD: u8 = 8;
-    pub const TL: u8 = 9;
-    pub const ELEMS: u8 = 10;
-    pub const INDS: u8 = 11;
-    pub const CONC: u8 = 12;
-    pub const REVERSE: u8 = 13;
-    pub const DOM: u8 = 14;
-    pub const RNG: u8 = 15;
-}
-
-/// Binary operators.
-pub mod binary {
-    pub const AND: u8 = 1;
-    pub const OR: u8 = 2;
-    pub const IMPLIES: u8 = 3;
-    pub const EQUIVALENT: u8 = 4;
-    pub const EQUAL: u8 = 5;
-    pub const NOT_EQUAL: u8 = 6;
-    pub const PLUS: u8 = 7;
-    pub const MINUS: u8 = 8;
-    pub const TIMES: u8 = 9;
-    pub const DIV: u8 = 10;
-    pub const REM: u8 = 11;
-    pub const MOD: u8 = 12;
-    pub const LESS: u8 = 13;
-    pub const LESS_OR_EQUAL: u8 = 14;
-    pub const GREATER: u8 = 15;
-    pub const GREATER_OR_EQUAL: u8 = 16;
-    pub const IN_SET: u8 = 17;
-    pub const NOT_IN_SET: u8 = 18;
-    pub const UNION: u8 = 19;
-    pub const INTER: u8 = 20;
-    pub const DIFFERENCE: u8 = 21;
-    pub const SUBSET: u8 = 22;
-    pub const PSUBSET: u8 = 23;
-    pub const CONCATENATE: u8 = 24;
-    pub const MUNION: u8 = 25;
-    pub const OVERRIDE: u8 = 26;
-    pub const DOMAIN: u8 = 27;
-    pub const RANGE: u8 = 28;
-}
 
 /// A record with its operands nested in it.
 #[derive(Clone)]

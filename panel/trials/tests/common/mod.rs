@@ -196,3 +196,34 @@ fn integer(random: &mut Random) -> i32 {
         _ => random.between(-9, 9),
     }
 }
+
+// ---- what is expected
+
+pub const WRONG_KIND: Outcome = Err(20);
+pub const OUT_OF_RANGE: Outcome = Err(21);
+pub const BY_ZERO: Outcome = Err(22);
+pub const ABSENT: Outcome = Err(26);
+pub const CLASH: Outcome = Err(27);
+pub const TOO_LARGE: Outcome = Err(28);
+
+#[track_caller]
+pub fn is(outcome: Outcome, value: Value) {
+    assert_eq!(outcome, Ok(value.encode()));
+}
+
+#[track_caller]
+pub fn truth(outcome: Outcome, truth: bool) {
+    is(outcome, Boolean(truth));
+}
+
+// ---- quotes of the manual, which the subset has not
+
+pub const FRANCE: i32 = 101;
+pub const DENMARK: i32 = 102;
+pub const SOUTH_AFRICA: i32 = 103;
+pub const SAUDI_ARABIA: i32 = 104;
+pub const ENGLAND: i32 = 105;
+pub const SPAIN: i32 = 106;
+pub const RUMANIA: i32 = 107;
+pub const COLOMBIA: i32 = 108;
+pub const TUNISIA: i32 = 109;
