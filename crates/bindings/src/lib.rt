@@ -1,6 +1,8 @@
-// The bindings of a pattern one after the other: the least binding above the present one, over all ways and all members.
+// The bindings of a pattern one after the other: the least binding above the present one, over all ways worth going and all members.
 use digits::Digits;
 use integers::Order;
+use matching::Best;
+use matching::Bounds;
 use matching::Found;
 use parts::Part;
 ghost use mathlib.Core.Path.{_≡_};
@@ -12,34 +14,13 @@ ghost use Rattle.patterns.specs.Binding.{Cell, Binding, orderCells, orderBindin
 ghost use Rattle.parts.specs.Part.{CellIs};
 ghost use Rattle.ways.specs.Following.{isAbove};
 ghost use Rattle.ways.specs.Best.{isBelow};
-ghost use Rattle.matching.specs.Found.{Standing};
-ghost use Rattle.bindings.specs.Bound.{CellHeld, Bound, BoundHeld, BestIs, BestHeld, Considered, Searchable, SoughtOf, SoughtOfAll, Bindable, MemberBound, MemberHeld, MemberNext, Present, NextOf, NoneYet, Tallied};
-
-// A binding, or none; and whether a union pattern was met by a set of over seven members.
-pub struct Best {
-    pub found: Found,
-    pub any: bool,
-    pub wide: bool,
-}
+ghost use Rattle.matching.specs.Found.{Standing, CellHeld, Bound, BoundHeld, BestIs, BestHeld};
+ghost use Rattle.bindings.specs.Bound.{Considered, Searchable, Sought, SoughtAll, SoughtOf, SoughtOfAll, Bindable, MemberBound, MemberHeld, MemberNext, TellsWide, TellsWideIn, Present, NextOf, Tallied};
 
 // How many bindings there are, or refusal 29 or 30.
 pub enum Tally {
     Number(usize),
     Refused(usize),
-}
-
-impl Best {
-    // No binding.
-    pub fn none() -> Best
-        ensures { λ r. ⌜ NoneYet r ⌝ }
-    {
-        let found = Found::nothing();
-        Best {
-            found,
-            any: false,
-            wide: false,
-        }
-    }
 }
 
 // The order of what two names are bound to.
@@ -119,28 +100,24 @@ fn consider(s: &[u8], f: Found, present: Best, best: Best) -> Best
     requires { ⌜ Standing (now s) f × BestHeld (now s) present × BestHeld (now s) best ⌝ }
     ensures { λ r. ⌜ Considered (now (s .entry)) f present best r ⌝ }
 {
-    let found = best.found;
-    let any = best.any;
-    let wide = best.wide | f.wide;
     if !f.fits {
-        return Best { found, any, wide };
+        return best;
     }
     let above = is_above(s, present, f);
     if !above {
-        return Best { found, any, wide };
+        return best;
     }
     let below = is_below(s, f, best);
     if !below {
-        return Best { found, any, wide };
+        return best;
     }
     Best {
         found: f,
         any: true,
-        wide,
     }
 }
 
-// Over all ways of the value at a place.
+// Over all ways of the value at a place that are worth going.
 fn best_in(
     table: &[u8],
     index: &[u16; 200],
@@ -151,7 +128,7 @@ fn best_in(
     best: Best,
 ) -> Best
     requires { ⌜ Searchable (now table) (now index) p ⌝ }
-    requires { ⌜ Holds (now s) at × BestHeld (now s) present × BestHeld (now s) best ⌝ }
+    requires { ⌜ Sought (now table) p (now s) at present best ⌝ }
     ensures { λ r. ⌜ SoughtOf (now (table .entry)) p (now (s .entry)) at present best r ⌝ }
 {
     let mut digits = Digits::first();
@@ -168,6 +145,7 @@ fn best_in(
                 at,
                 extent: 0,
             },
+            Bounds { present, best },
             start,
             digits,
         );
@@ -182,7 +160,7 @@ fn best_in(
     }
 }
 
-// Over all ways of all members from a place up to another.
+// Over all members from a place up to another.
 fn best_all(
     table: &[u8],
     index: &[u16; 200],
@@ -194,7 +172,7 @@ fn best_all(
     best: Best,
 ) -> Best
     requires { ⌜ Searchable (now table) (now index) p ⌝ }
-    requires { ⌜ HoldsItems (now s) from to × BestHeld (now s) present × BestHeld (now s) best ⌝ }
+    requires { ⌜ SoughtAll (now table) p (now s) from to present best ⌝ }
     ensures { λ r. ⌜ SoughtOfAll (now (table .entry)) p (now (s .entry)) from to present best r ⌝ }
 {
     let mut at = from;
@@ -212,30 +190,18 @@ fn bind_member(s: &[u8], x: usize, at: usize, to: usize) -> Best
     requires { ⌜ (x < 16) × HoldsItems (now s) at to ⌝ }
     ensures { λ r. ⌜ MemberBound (now (s .entry)) x at to r ⌝ }
 {
-    let found = Found::nothing();
     if to <= at {
-        return Best {
-            found,
-            any: false,
-            wide: false,
-        };
+        return Best::none();
     }
+    let found = Found::nothing();
     let mut parts = found.parts;
     parts[x] = Part {
         how: 1,
         at,
         extent: 0,
     };
-    let found = Found {
-        parts,
-        fits: true,
-        wide: false,
-    };
-    Best {
-        found,
-        any: true,
-        wide: false,
-    }
+    let found = Found { parts, fits: true };
+    Best { found, any: true }
 }
 
 // A plain name over a set: the member after the present one, with no search.
@@ -281,6 +247,57 @@ pub fn next_binding(
     best_all(table, index, p, s, at + 4, at + n, present, none)
 }
 
+// Some member from a place up to another has a set too large to split.
+fn any_large(table: &[u8], index: &[u16; 200], p: usize, s: &[u8], from: usize, to: usize) -> bool
+    requires { ⌜ Searchable (now table) (now index) p ⌝ }
+    requires { ⌜ HoldsItems (now s) from to ⌝ }
+    ensures { λ r. ⌜ TellsWideIn (now (table .entry)) p (now (s .entry)) from to r ⌝ }
+{
+    let mut at = from;
+    while at < to {
+        let n = values::length_of(s, at);
+        let large = splitting::too_large(
+            table,
+            index,
+            p,
+            s,
+            Part {
+                how: 1,
+                at,
+                extent: 0,
+            },
+        );
+        if large {
+            return true;
+        }
+        at += n;
+    }
+    false
+}
+
+// A union pattern is met by a set of over seven members somewhere: number 29.
+pub fn is_wide(table: &[u8], index: &[u16; 200], p: usize, s: &[u8], at: usize, whole: bool) -> bool
+    requires { ⌜ Searchable (now table) (now index) p ⌝ }
+    requires { ⌜ Bindable (now s) at whole ⌝ }
+    ensures { λ r. ⌜ TellsWide (now (table .entry)) p (now (s .entry)) at whole r ⌝ }
+{
+    if whole {
+        return splitting::too_large(
+            table,
+            index,
+            p,
+            s,
+            Part {
+                how: 1,
+                at,
+                extent: 0,
+            },
+        );
+    }
+    let n = values::length_of(s, at);
+    any_large(table, index, p, s, at + 4, at + n)
+}
+
 // The number of bindings, or 29 or 30.
 pub fn count_bindings(
     table: &[u8],
@@ -294,13 +311,14 @@ pub fn count_bindings(
     requires { ⌜ Bindable (now s) at whole ⌝ }
     ensures { λ r. ⌜ Tallied (now (table .entry)) p (now (s .entry)) at whole r ⌝ }
 {
+    let wide = is_wide(table, index, p, s, at, whole);
+    if wide {
+        return Tally::Refused(29);
+    }
     let mut present = Best::none();
     let mut n = 0;
     loop {
         let next = next_binding(table, index, p, s, at, whole, present);
-        if next.wide {
-            return Tally::Refused(29);
-        }
         if !next.any {
             return Tally::Number(n);
         }

@@ -1,27 +1,30 @@
-// Matching a pattern of a table with a part of a value, along a path of digits: one way of matching for each path.
+// Matching a pattern of a table with a part of a value, along a path of digits: one way of matching for each path. A way ends where it is not
+// worth going on.
 pub mod nodes;
 
 use digits::Digits;
 use integers::Order;
 use nodes::Meeting;
 use parts::Part;
-ghost use mathlib.Core.Bool.{true, false};
+ghost use mathlib.Core.Path.{_≡_};
+ghost use mathlib.Core.Bool.{true, false, _&&_};
 ghost use mathlib.Core.List.{List};
+ghost use mathlib.Core.Option.{Option};
 ghost use Prim.Native.Nat.{ℕ, _<_};
 ghost use Rattle.digits.specs.Path.{Sound};
-ghost use Rattle.parts.specs.Part.{PartIs, PartHeld};
+ghost use Rattle.parts.specs.Part.{PartIs, PartHeld, CellIs};
 ghost use Rattle.values.specs.Value.{Value};
-ghost use Rattle.ways.specs.Tries.{State, start, naming};
-ghost use Rattle.matching.specs.Found.{Stands, Standing, missing};
+ghost use Rattle.patterns.specs.Binding.{Cell, Binding};
+ghost use Rattle.ways.specs.Tries.{State, start, naming, failed as failing, isGood};
+ghost use Rattle.ways.specs.Trimmed.{settled, hopeful};
+ghost use Rattle.matching.specs.Found.{Stands, Standing, CellHeld, Bound, BoundHeld, NoneYet, Bounded, BoundsHeld, settledAs, settledCells};
 ghost use Rattle.matching.specs.Node.{Readable, LeafHeld};
 ghost use Rattle.matching.specs.Along.{OnLeaf, Along, WayHeld, AlongEach};
 
-// What is found: a part for each name that is bound; whether all parts so far match, no name having two values; and whether a union
-// pattern was met by a set of over seven members.
+// What is found: a part for each name that is bound; and whether all parts so far match, no name having two values.
 pub struct Found {
     pub parts: [Part; Found::NAMES],
     pub fits: bool,
-    pub wide: bool,
 }
 
 impl Found {
@@ -39,35 +42,126 @@ impl Found {
                 extent: 0,
             }; Found::NAMES],
             fits: true,
-            wide: false,
         }
     }
 
-    // A part does not match, or a set is too large to split.
-    pub fn failed(self, wide: bool) -> Found
-        ensures { λ r. ⌜ ((s : List ℕ) (st : State) → Stands s self st → Stands s r (missing wide st)) ⌝ }
+    // The match has failed.
+    pub fn failed(self) -> Found
+        ensures { λ r. ⌜ ((s : List ℕ) (st : State) → Stands s self st → Stands s r (failing st)) ⌝ }
     {
         let parts = self.parts;
-        if wide {
-            return Found {
-                parts,
-                fits: false,
-                wide: true,
-            };
-        }
-        let wide = self.wide;
-        Found {
-            parts,
-            fits: false,
-            wide,
-        }
+        Found { parts, fits: false }
     }
+}
+
+// A binding, or none.
+pub struct Best {
+    pub found: Found,
+    pub any: bool,
+}
+
+impl Best {
+    // No binding.
+    pub fn none() -> Best
+        ensures { λ r. ⌜ NoneYet r ⌝ }
+    {
+        let found = Found::nothing();
+        Best { found, any: false }
+    }
+}
+
+// What is sought lies above the present binding and below the best so far.
+pub struct Bounds {
+    pub present: Best,
+    pub best: Best,
 }
 
 // What is found, and the digits after it.
 pub struct Matched {
     pub found: Found,
     pub digits: Digits,
+}
+
+// How the order of a binding in the making and a whole one stands.
+pub enum Settled {
+    Open,
+    Below,
+    Equal,
+    Above,
+}
+
+// The order of what one name is bound to: equal where the whole binding has not the name, open where the other has no value for it yet.
+fn settle_name(s: &[u8], p: Part, q: Part) -> Settled
+    requires { ⌜ CellHeld (now s) p × CellHeld (now s) q ⌝ }
+    ensures { λ r. ⌜ ((a b : Cell) → CellIs (now (s .entry)) p a → CellIs (now (s .entry)) q b → settledAs r ≡ settledCells a b) ⌝ }
+{
+    if q.how == 0 {
+        return Settled::Equal;
+    }
+    if p.how == 0 {
+        return Settled::Open;
+    }
+    let o = parts::order_parts(s, p, q);
+    match o {
+        Order::Lower => Settled::Below,
+        Order::Same => Settled::Equal,
+        Order::Higher => Settled::Above,
+    }
+}
+
+// The order of a binding in the making and a whole one, as far as it is settled.
+fn settle(s: &[u8], f: Found, g: Found) -> Settled
+    requires { ⌜ BoundHeld (now s) f × BoundHeld (now s) g ⌝ }
+    ensures { λ r. ⌜ ((a b : Binding) → Bound (now (s .entry)) f a → Bound (now (s .entry)) g b → settledAs r ≡ settled a b) ⌝ }
+{
+    let mut x = 0;
+    while x < Found::NAMES {
+        let p = f.parts[x];
+        let q = g.parts[x];
+        let o = settle_name(s, p, q);
+        match o {
+            Settled::Open => return Settled::Open,
+            Settled::Below => return Settled::Below,
+            Settled::Above => return Settled::Above,
+            Settled::Equal => {
+                x += 1;
+            }
+        }
+    }
+    Settled::Equal
+}
+
+// What is found matches so far, and can come between the bounds.
+fn is_hopeful(s: &[u8], f: Found, bounds: Bounds) -> bool
+    requires { ⌜ Standing (now s) f × BoundsHeld (now s) bounds ⌝ }
+    ensures { λ r. ⌜ ((st : State) (a m : Option Binding) → Stands (now (s .entry)) f st → Bounded (now (s .entry)) bounds a m → r ≡ (isGood st && hopeful a m (st .found))) ⌝ }
+{
+    if !f.fits {
+        return false;
+    }
+    let present = bounds.present;
+    if present.any {
+        let g = present.found;
+        let o = settle(s, f, g);
+        match o {
+            Settled::Open => {}
+            Settled::Below => return false,
+            Settled::Equal => return false,
+            Settled::Above => {}
+        }
+    }
+    let best = bounds.best;
+    if best.any {
+        let g = best.found;
+        let o = settle(s, f, g);
+        match o {
+            Settled::Open => {}
+            Settled::Below => {}
+            Settled::Equal => return false,
+            Settled::Above => return false,
+        }
+    }
+    true
 }
 
 // Binds a name to a part, where it is not bound to another value.
@@ -82,24 +176,13 @@ pub fn bind_name(s: &[u8], x: usize, part: Part, found: Found) -> Found
     if old.how == 0 {
         let mut parts = found.parts;
         parts[x] = part;
-        let wide = found.wide;
-        return Found {
-            parts,
-            fits: true,
-            wide,
-        };
+        return Found { parts, fits: true };
     }
     let o = parts::order_parts(s, old, part);
     if let Order::Same = o {
         return found;
     }
-    let parts = found.parts;
-    let wide = found.wide;
-    Found {
-        parts,
-        fits: false,
-        wide,
-    }
+    found.failed()
 }
 
 // A pattern without parts: a name, any, or a literal.
@@ -127,7 +210,7 @@ fn match_leaf(
     if same {
         return found;
     }
-    found.failed(false)
+    found.failed()
 }
 
 // A pattern with a part of a value.
@@ -137,36 +220,34 @@ pub fn match_along(
     p: usize,
     s: &[u8],
     part: Part,
+    bounds: Bounds,
     found: Found,
     digits: Digits,
 ) -> Matched
     requires { ⌜ Readable (now table) (now index) p ⌝ }
-    requires { ⌜ PartHeld (now s) part × Standing (now s) found × Sound digits ⌝ }
-    ensures { λ r. ⌜ Along (now (table .entry)) p (now (s .entry)) part found digits r ⌝ }
+    requires { ⌜ PartHeld (now s) part × BoundsHeld (now s) bounds × Standing (now s) found × Sound digits ⌝ }
+    ensures { λ r. ⌜ Along (now (table .entry)) p (now (s .entry)) part bounds found digits r ⌝ }
 {
     let kind = tables::reading::kind(table, index, p);
     if kind < 36 {
         let f = match_leaf(table, index, p, s, part, found);
         return Matched { found: f, digits };
     }
+    let hopeful = is_hopeful(s, found, bounds);
+    if !hopeful {
+        let f = found.failed();
+        return Matched { found: f, digits };
+    }
     let n = tables::reading::operand_count(table, index, p);
     let m = nodes::meet(kind, n, s, part);
-    match m {
-        Meeting::Unfit => {
-            let f = found.failed(false);
-            Matched { found: f, digits }
-        }
-        Meeting::Large => {
-            let f = found.failed(true);
-            Matched { found: f, digits }
-        }
-        Meeting::Ways(w) => {
-            let t = digits.take(w);
-            let d = t.digit;
-            let rest = t.digits;
-            each_along(table, index, p, 0, s, part, d, found, rest)
-        }
+    if let Meeting::Ways(w) = m {
+        let t = digits.take(w);
+        let d = t.digit;
+        let rest = t.digits;
+        return each_along(table, index, p, 0, s, part, d, bounds, found, rest);
     }
+    let f = found.failed();
+    Matched { found: f, digits }
 }
 
 // The parts of a pattern from i on, each with what it meets in the way d.
@@ -178,12 +259,13 @@ fn each_along(
     s: &[u8],
     part: Part,
     d: usize,
+    bounds: Bounds,
     found: Found,
     digits: Digits,
 ) -> Matched
     requires { ⌜ Readable (now table) (now index) p ⌝ }
-    requires { ⌜ WayHeld (now table) p i (now s) part d × Standing (now s) found × Sound digits ⌝ }
-    ensures { λ r. ⌜ AlongEach (now (table .entry)) p i (now (s .entry)) part d found digits r ⌝ }
+    requires { ⌜ WayHeld (now table) p i (now s) part d × BoundsHeld (now s) bounds × Standing (now s) found × Sound digits ⌝ }
+    ensures { λ r. ⌜ AlongEach (now (table .entry)) p i (now (s .entry)) part d bounds found digits r ⌝ }
 {
     let n = tables::reading::operand_count(table, index, p);
     if n <= i {
@@ -192,8 +274,8 @@ fn each_along(
     let kind = tables::reading::kind(table, index, p);
     let a = nodes::piece(kind, n, s, part, d, i);
     let q = tables::reading::operand(table, index, p, i);
-    let m = match_along(table, index, q, s, a, found, digits);
+    let m = match_along(table, index, q, s, a, bounds, found, digits);
     let f = m.found;
     let rest = m.digits;
-    each_along(table, index, p, i + 1, s, part, d, f, rest)
+    each_along(table, index, p, i + 1, s, part, d, bounds, f, rest)
 }

@@ -15,7 +15,7 @@ use Rattle.patterns.specs.Members.{In, in-gather, gather-in}
 use Rattle.patterns.specs.Binding.{Binding, names, nothing, only, merge, consistent, together}
 use Rattle.patterns.specs.Pattern.{Pattern, name, any, literal, each, halved, Patterns, nil, cons, parts, contents, met, split, leftOf, rightOf, tooLarge, matches, matchEach, wide, wideEach}
 use Rattle.patterns.specs.Matched.{merge-sized, only-sized, in-together, together-in, matched, match-sized}
-use Rattle.ways.specs.Tries.{State, start, naming, failed, widened, Good, among, tries, tryEach}
+use Rattle.ways.specs.Tries.{State, start, naming, failed, Good, among, tries, tryEach}
 use Rattle.ways.specs.Merging.{true-false, merge-assoc, merge-nothing, nothing-merge, consistent-left, consistent-right}
 
 -- ---- lists and trees
@@ -49,8 +49,8 @@ Sized st = length (st .found) ≡ names
 abbrev Sound : List Binding → State → Tree State → Type 0
 Sound l st t = Sized st → (r : State) → Gives t (value r) → Sized r × (Good r → Good st × ((b : Binding) × In b l × (r .found ≡ merge (st .found) b)))
 
-fail-sound : (l : List Binding) (st : State) (s : Bool) → Sound l st (give (record { found = st .found; fits = false; broad = s }))
-fail-sound l st s n r h = let e = value-eq h in (ap (λ (x : State). length (x .found)) e ∙ n, λ g. true-false (sym (g .0) ∙ ap (λ (x : State). x .fits) e))
+fail-sound : (l : List Binding) (st : State) → Sound l st (give (failed st))
+fail-sound l st n r h = let e = value-eq h in (ap (λ (x : State). length (x .found)) e ∙ n, λ g. true-false (sym (g .0) ∙ ap (λ (x : State). x .fits) e))
 
 any-sound : (st : State) → Sound (nothing ∷ []) st (give st)
 any-sound st n r h =
@@ -59,7 +59,7 @@ any-sound st n r h =
 
 literal-sound : (t : Bool) (st : State) → Sound (pick t (nothing ∷ []) []) st (give (pick t st (failed st)))
 literal-sound true st = any-sound st
-literal-sound false st = fail-sound [] st (st .broad)
+literal-sound false st = fail-sound [] st
 
 name-sound : (x : ℕ) (v : Value) (st : State) → Sound (only x v ∷ []) st (give (naming x v st))
 name-sound x v st n r h =
@@ -85,14 +85,14 @@ seq-sound l m st t f s z n r h =
     )
 
 among-sound : {A : Type 0} (ws : List A) (st : State) (f : A → List Binding) (t : A → Tree State) → ((x : A) → Sound (f x) st (t x)) → Sound (gather ws f) st (among ws (give (failed st)) t)
-among-sound [] st f t h = fail-sound (gather [] f) st (st .broad)
+among-sound [] st f t h = fail-sound (gather [] f) st
 among-sound (x ∷ xs) st f t h = λ n r k.
     let y = getD (x ∷ xs) (k .0) x in
     let w = h y n r (k .2) in
     (w .0, λ g. let (gs, found) = w .1 g in let (b, i, e) = found in (gs, (b, gather-in y b (x ∷ xs) f (at-in (x ∷ xs) (k .0) x (k .1)) i, e)))
 
-wide-sound : (t : Bool) (l : List Binding) (st : State) (u : Tree State) → Sound l st u → Sound l st (pick t (give (widened st)) u)
-wide-sound true l st u h = fail-sound l st true
+wide-sound : (t : Bool) (l : List Binding) (st : State) (u : Tree State) → Sound l st u → Sound l st (pick t (give (failed st)) u)
+wide-sound true l st u h = fail-sound l st
 wide-sound false l st u h = h
 
 mutual
@@ -113,7 +113,7 @@ mutual
 
   sound-each : (ps : Patterns) (vs : List Value) (st : State) → Sound (matchEach ps vs) st (tryEach ps vs st)
   sound-each nil vs st = any-sound st
-  sound-each (cons p ps) [] st = fail-sound [] st (st .broad)
+  sound-each (cons p ps) [] st = fail-sound [] st
   sound-each (cons p ps) (v ∷ vs) st =
       seq-sound (matches p v) (matchEach ps vs) st (tries p v st) (λ r. tryEach ps vs r) (sound p v st) (λ r. sound-each ps vs r)
 
@@ -159,7 +159,7 @@ among-complete (x ∷ xs) st f u t h n b i o g =
     let (r, gr, good, nr, er) = h y iy n b ib o g in
     (r, (d, lt, subst (λ z. Gives (t z) (value r)) e gr), good, nr, er)
 
-wide-complete : (t : Bool) (l : List Binding) (st : State) (u : Tree State) → t ≡ false → Complete l st u → Complete l st (pick t (give (widened st)) u)
+wide-complete : (t : Bool) (l : List Binding) (st : State) (u : Tree State) → t ≡ false → Complete l st u → Complete l st (pick t (give (failed st)) u)
 wide-complete true l st u e h = true-false e
 wide-complete false l st u e h = h
 

@@ -1,7 +1,7 @@
 pub mod Tries
 pub mod Merging
 pub mod Leaves
-pub mod Broad
+pub mod Trimmed
 pub mod Tame
 pub mod Following
 pub mod Best

@@ -1,4 +1,4 @@
--- A pattern that has parts, read off its record: the ways of what its parts meet, and the tree of its tries, the same for all such kinds.
+-- A pattern that has parts, read off its record: the ways of what its parts meet, and the tree of its ways, the same for all such kinds.
 use mathlib.Core.Path.{_≡_, refl, sym, ap, _∙_}
 use mathlib.Core.Bool.{Bool, true, false, _||_}
 use mathlib.Core.List.{List, [], _∷_, map}
@@ -15,7 +15,9 @@ use Rattle.patterns.specs.Pattern.{Pattern, name, any, literal, each, halved, p
 use Rattle.tables.specs.Record.{Record, named, booleanOf, integerOf, nameOf}
 use Rattle.tables.specs.Table.{recordAt}
 use Rattle.tables.specs.Laws.{Lower, fold-at}
-use Rattle.ways.specs.Tries.{State, failed, widened, among, tries, tryEach}
+use Rattle.patterns.specs.Binding.{Binding}
+use Rattle.ways.specs.Tries.{State, failed, among}
+use Rattle.ways.specs.Trimmed.{worth, trimmed, trimEach}
 use Rattle.ways.specs.Read.{patternsOf, patternOf, patternAt}
 
 -- ---- kinds 36 to 40
@@ -39,9 +41,9 @@ meetings c n v = pick (isHalved c) (map (pair (collectionOf c)) (split (collecti
 abbrev pub isLarge : ℕ → Value → Bool
 isLarge c v = pick (isHalved c) (tooLarge (collectionOf c) (contents (collectionOf c) v)) false
 
--- The tries of parts.
-abbrev pub trying : ℕ → List Pattern → Value → State → Tree State
-trying c ps v st = pick (isLarge c v) (give (widened st)) (among (meetings c (length ps) v) (give (failed st)) (λ vs. tryEach (patternsOf ps) vs st))
+-- The ways of parts.
+abbrev pub trying : (Binding → Bool) → ℕ → List Pattern → Value → State → Tree State
+trying h c ps v st = worth h st (pick (isLarge c v) (give (failed st)) (among (meetings c (length ps) v) (give (failed st)) (λ vs. trimEach h (patternsOf ps) vs st)))
 
 -- ---- the two forms
 
@@ -63,23 +65,24 @@ among-cong : {A C : Type 0} (ws : List A) (t : Tree C) (f g : A → Tree C) → 
 among-cong [] t f g h = refl
 among-cong (x ∷ xs) t f g h = λ i. choose 0 (length (x ∷ xs)) (λ d. h (getD (x ∷ xs) d x) i)
 
--- the tries of an enumeration, and of two halves
-each-tries : (k : Kind) (ps : List Pattern) (v : Value) (st : State) → tries (each k (patternsOf ps)) v st ≡ among (met k (length ps) (contents k v)) (give (failed st)) (λ vs. tryEach (patternsOf ps) vs st)
-unfolding tries
-each-tries k ps v st = ap (λ (n : ℕ). among (met k n (contents k v)) (give (failed st)) (λ vs. tryEach (patternsOf ps) vs st)) (parts-length ps)
+-- the ways of an enumeration, and of two halves
+module _ (h : Binding → Bool) where
+  each-ways : (k : Kind) (ps : List Pattern) (v : Value) (st : State) → trimmed h (each k (patternsOf ps)) v st ≡ worth h st (among (met k (length ps) (contents k v)) (give (failed st)) (λ vs. trimEach h (patternsOf ps) vs st))
+  unfolding trimmed
+  each-ways k ps v st = ap (λ (n : ℕ). worth h st (among (met k n (contents k v)) (give (failed st)) (λ vs. trimEach h (patternsOf ps) vs st))) (parts-length ps)
 
-two-tries : (p q : Pattern) (l r : Value) (st : State) → bind (tries p l st) (λ x. tries q r x) ≡ tryEach (patternsOf (p ∷ q ∷ [])) (l ∷ r ∷ []) st
-unfolding tries patternsOf
-two-tries p q l r st = bind-cong (tries p l st) (λ x. tries q r x) (λ x. bind (tries q r x) (λ y. give y)) (λ x. sym (bind-give (tries q r x)))
+  two-ways : (p q : Pattern) (l r : Value) (st : State) → bind (trimmed h p l st) (λ x. trimmed h q r x) ≡ trimEach h (patternsOf (p ∷ q ∷ [])) (l ∷ r ∷ []) st
+  unfolding trimmed patternsOf
+  two-ways p q l r st = bind-cong (trimmed h p l st) (λ x. trimmed h q r x) (λ x. bind (trimmed h q r x) (λ y. give y)) (λ x. sym (bind-give (trimmed h q r x)))
 
-halved-tries : (k : Kind) (p q : Pattern) (v : Value) (st : State)
-    → tries (halved k p q) v st ≡ pick (tooLarge k (contents k v)) (give (widened st)) (among (map (pair k) (split k (contents k v))) (give (failed st)) (λ vs. tryEach (patternsOf (p ∷ q ∷ [])) vs st))
-unfolding tries
-halved-tries k p q v st =
-    ap (pick (tooLarge k (contents k v)) (give (widened st)))
-    (among-cong (split k (contents k v)) (give (failed st)) (λ h. bind (tries p (leftOf k h) st) (λ r. tries q (rightOf k h) r)) (λ h. tryEach (patternsOf (p ∷ q ∷ [])) (pair k h) st)
-    (λ h. two-tries p q (leftOf k h) (rightOf k h) st)
-    ∙ sym (among-map (pair k) (split k (contents k v)) (give (failed st)) (λ vs. tryEach (patternsOf (p ∷ q ∷ [])) vs st)))
+  halved-ways : (k : Kind) (p q : Pattern) (v : Value) (st : State)
+      → trimmed h (halved k p q) v st ≡ worth h st (pick (tooLarge k (contents k v)) (give (failed st)) (among (map (pair k) (split k (contents k v))) (give (failed st)) (λ vs. trimEach h (patternsOf (p ∷ q ∷ [])) vs st)))
+  unfolding trimmed
+  halved-ways k p q v st =
+      ap (λ (t : Tree State). worth h st (pick (tooLarge k (contents k v)) (give (failed st)) t))
+      (among-cong (split k (contents k v)) (give (failed st)) (λ x. bind (trimmed h p (leftOf k x) st) (λ r. trimmed h q (rightOf k x) r)) (λ x. trimEach h (patternsOf (p ∷ q ∷ [])) (pair k x) st)
+      (λ x. two-ways p q (leftOf k x) (rightOf k x) st)
+      ∙ sym (among-map (pair k) (split k (contents k v)) (give (failed st)) (λ vs. trimEach h (patternsOf (p ∷ q ∷ [])) vs st)))
 
 two-of : (ps : List Pattern) → length ps ≡ 2 → getD ps 0 any ∷ getD ps 1 any ∷ [] ≡ ps
 two-of [] e = absurd (omega arith)
@@ -103,22 +106,22 @@ module _ (r : Record) (ps : List Pattern) where
   is-integer e = rw e
 
   -- A pattern with parts; of 38 and 40 there are two.
-  pub is-composed : 36 ≤ r .kind → r .kind ≤ 40 → (isHalved (r .kind) ≡ true → length ps ≡ 2) → (v : Value) (st : State) → tries (patternOf r ps) v st ≡ trying (r .kind) ps v st
-  is-composed low high two v st = go (r .kind) refl
+  pub is-composed : 36 ≤ r .kind → r .kind ≤ 40 → (isHalved (r .kind) ≡ true → length ps ≡ 2) → (h : Binding → Bool) (v : Value) (st : State) → trimmed h (patternOf r ps) v st ≡ trying h (r .kind) ps v st
+  is-composed low high two h v st = go (r .kind) refl
     where
       half : (k : Kind) → length ps ≡ 2
-          → tries (halved k (getD ps 0 any) (getD ps 1 any)) v st ≡ pick (tooLarge k (contents k v)) (give (widened st)) (among (map (pair k) (split k (contents k v))) (give (failed st)) (λ vs. tryEach (patternsOf ps) vs st))
-      half k e = halved-tries k (getD ps 0 any) (getD ps 1 any) v st
-          ∙ ap (λ (qs : List Pattern). pick (tooLarge k (contents k v)) (give (widened st)) (among (map (pair k) (split k (contents k v))) (give (failed st)) (λ vs. tryEach (patternsOf qs) vs st))) (two-of ps e)
+          → trimmed h (halved k (getD ps 0 any) (getD ps 1 any)) v st ≡ worth h st (pick (tooLarge k (contents k v)) (give (failed st)) (among (map (pair k) (split k (contents k v))) (give (failed st)) (λ vs. trimEach h (patternsOf ps) vs st)))
+      half k e = halved-ways h k (getD ps 0 any) (getD ps 1 any) v st
+          ∙ ap (λ (qs : List Pattern). worth h st (pick (tooLarge k (contents k v)) (give (failed st)) (among (map (pair k) (split k (contents k v))) (give (failed st)) (λ vs. trimEach h (patternsOf qs) vs st)))) (two-of ps e)
 
-      go : (c : ℕ) → r .kind ≡ c → tries (patternOf r ps) v st ≡ trying (r .kind) ps v st
+      go : (c : ℕ) → r .kind ≡ c → trimmed h (patternOf r ps) v st ≡ trying h (r .kind) ps v st
       go c e = cases (c - 36) (omega (arith, e)) (omega (arith, e))
         where
-          cases : (d : ℕ) → r .kind ≡ 36 + d → d ≤ 4 → tries (patternOf r ps) v st ≡ trying (r .kind) ps v st
-          cases zero f l = rw f (each-tries tuple ps v st)
-          cases (suc zero) f l = rw f (each-tries set ps v st)
+          cases : (d : ℕ) → r .kind ≡ 36 + d → d ≤ 4 → trimmed h (patternOf r ps) v st ≡ trying h (r .kind) ps v st
+          cases zero f l = rw f (each-ways h tuple ps v st)
+          cases (suc zero) f l = rw f (each-ways h set ps v st)
           cases (suc (suc zero)) f l = rw f (half set (two (rw f)))
-          cases (suc (suc (suc zero))) f l = rw f (each-tries sequence ps v st)
+          cases (suc (suc (suc zero))) f l = rw f (each-ways h sequence ps v st)
           cases (suc (suc (suc (suc zero)))) f l = rw f (half sequence (two (rw f)))
           cases (suc (suc (suc (suc (suc d))))) f l = absurd (omega arith)
 

@@ -1,7 +1,7 @@
--- The tree of all ways has a state at the end of every way and no refusal, each choice has at least one way, and a way has at most as many
+-- The tree of the ways worth going has a state at the end of every way and no refusal, each choice has at least one way, and a way has at most as many
 -- choices as the pattern has places that ask.
 use mathlib.Core.Path.{_≡_, refl}
-use mathlib.Core.Bool.{Bool, true, false}
+use mathlib.Core.Bool.{Bool, true, false, _&&_}
 use mathlib.Core.List.{List, [], _∷_}
 use Prim.Native.Nat.{ℕ, zero, suc, _+_, _≤_, _<_}
 use native.Mathlib.Omega.{arith}
@@ -11,7 +11,9 @@ use Rattle.values.specs.Items.{pick}
 use Rattle.choices.specs.Tree.{Tree, give, stop, choose, bind, Full, value}
 use Rattle.choices.specs.Paths.{Within, outcomeAt}
 use Rattle.patterns.specs.Pattern.{Pattern, name, any, literal, each, halved, Patterns, nil, cons, parts, contents, met, split, leftOf, rightOf, tooLarge}
-use Rattle.ways.specs.Tries.{State, failed, widened, among, tries, tryEach, places, placesEach}
+use Rattle.patterns.specs.Binding.{Binding}
+use Rattle.ways.specs.Tries.{State, failed, isGood, among, places, placesEach}
+use Rattle.ways.specs.Trimmed.{trimmed, trimEach}
 
 abbrev pub Tame : ℕ → Tree State → Type 0
 Tame k (give st) = Unit {0}
@@ -41,25 +43,34 @@ tame-pick : (t : Bool) (st : State) (u : Tree State) (k : ℕ) → Tame k u → 
 tame-pick true st u k h = tt
 tame-pick false st u k h = h
 
-mutual
-  unfolding tries places
+tame-worth : (t : Bool) (st : State) (u : Tree State) (k : ℕ) → Tame k u → Tame k (pick t u (give st))
+tame-worth true st u k h = h
+tame-worth false st u k h = tt
 
-  pub tries-tame : (p : Pattern) (v : Value) (st : State) → Tame (places p) (tries p v st)
-  tries-tame (name x) v st = tt
-  tries-tame any v st = tt
-  tries-tame (literal w) v st = tt
-  tries-tame (each k ps) v st = tame-among (met k (parts ps) (contents k v)) (failed st) (λ vs. tryEach ps vs st) (placesEach ps) (λ vs. each-tame ps vs st)
-  tries-tame (halved k p q) v st =
-      tame-pick (tooLarge k (contents k v)) (widened st) (among (split k (contents k v)) (give (failed st)) (λ h. bind (tries p (leftOf k h) st) (λ r. tries q (rightOf k h) r))) (suc (places p + places q))
-      (tame-among (split k (contents k v)) (failed st) (λ h. bind (tries p (leftOf k h) st) (λ r. tries q (rightOf k h) r)) (places p + places q)
-      (λ h. tame-bind (tries p (leftOf k h) st) (λ r. tries q (rightOf k h) r) (places p) (places q) (places p + places q) (omega arith)
-      (tries-tame p (leftOf k h) st) (λ r. tries-tame q (rightOf k h) r)))
+module _ (h : Binding → Bool) where
+  mutual
+    unfolding trimmed places
 
-  pub each-tame : (ps : Patterns) (vs : List Value) (st : State) → Tame (placesEach ps) (tryEach ps vs st)
-  each-tame nil vs st = tt
-  each-tame (cons p ps) [] st = tt
-  each-tame (cons p ps) (v ∷ vs) st =
-      tame-bind (tries p v st) (λ r. tryEach ps vs r) (places p) (placesEach ps) (places p + placesEach ps) (omega arith) (tries-tame p v st) (λ r. each-tame ps vs r)
+    pub trimmed-tame : (p : Pattern) (v : Value) (st : State) → Tame (places p) (trimmed h p v st)
+    trimmed-tame (name x) v st = tt
+    trimmed-tame any v st = tt
+    trimmed-tame (literal w) v st = tt
+    trimmed-tame (each k ps) v st =
+        tame-worth (isGood st && h (st .found)) (failed st) (among (met k (parts ps) (contents k v)) (give (failed st)) (λ vs. trimEach h ps vs st)) (suc (placesEach ps))
+        (tame-among (met k (parts ps) (contents k v)) (failed st) (λ vs. trimEach h ps vs st) (placesEach ps) (λ vs. each-tame ps vs st))
+    trimmed-tame (halved k p q) v st =
+        tame-worth (isGood st && h (st .found)) (failed st)
+        (pick (tooLarge k (contents k v)) (give (failed st)) (among (split k (contents k v)) (give (failed st)) (λ x. bind (trimmed h p (leftOf k x) st) (λ r. trimmed h q (rightOf k x) r)))) (suc (places p + places q))
+        (tame-pick (tooLarge k (contents k v)) (failed st) (among (split k (contents k v)) (give (failed st)) (λ x. bind (trimmed h p (leftOf k x) st) (λ r. trimmed h q (rightOf k x) r))) (suc (places p + places q))
+        (tame-among (split k (contents k v)) (failed st) (λ x. bind (trimmed h p (leftOf k x) st) (λ r. trimmed h q (rightOf k x) r)) (places p + places q)
+        (λ x. tame-bind (trimmed h p (leftOf k x) st) (λ r. trimmed h q (rightOf k x) r) (places p) (places q) (places p + places q) (omega arith)
+        (trimmed-tame p (leftOf k x) st) (λ r. trimmed-tame q (rightOf k x) r))))
+
+    each-tame : (ps : Patterns) (vs : List Value) (st : State) → Tame (placesEach ps) (trimEach h ps vs st)
+    each-tame nil vs st = tt
+    each-tame (cons p ps) [] st = tt
+    each-tame (cons p ps) (v ∷ vs) st =
+        tame-bind (trimmed h p v st) (λ r. trimEach h ps vs r) (places p) (placesEach ps) (places p + placesEach ps) (omega arith) (trimmed-tame p v st) (λ r. each-tame ps vs r)
 
 pub tame-full : (t : Tree State) (k : ℕ) → Tame k t → Full t
 tame-full (give a) k w = tt
@@ -82,8 +93,8 @@ tame-value (choose p n g) (suc k) [] w = tame-value (g 0) k [] (w .1 0)
 tame-value (choose p n g) (suc k) (c ∷ l) w = tame-value (g c) k l (w .1 c)
 
 -- THEOREM: every choice has at least one way, and a way has at most as many choices as the pattern has places that ask
-pub tries-full : (p : Pattern) (v : Value) (st : State) → Full (tries p v st)
-tries-full p v st = tame-full (tries p v st) (places p) (tries-tame p v st)
+pub trimmed-full : (h : Binding → Bool) (p : Pattern) (v : Value) (st : State) → Full (trimmed h p v st)
+trimmed-full h p v st = tame-full (trimmed h p v st) (places p) (trimmed-tame h p v st)
 
-pub tries-within : (p : Pattern) (v : Value) (st : State) → Within (places p) (tries p v st)
-tries-within p v st = tame-within (tries p v st) (places p) (tries-tame p v st)
+pub trimmed-within : (h : Binding → Bool) (p : Pattern) (v : Value) (st : State) → Within (places p) (trimmed h p v st)
+trimmed-within h p v st = tame-within (trimmed h p v st) (places p) (trimmed-tame h p v st)

@@ -1,7 +1,7 @@
--- All ways of matching a pattern and a value, as a tree of choices. All parts are tried where kind and count fit: what is asked on the way
--- depends on the pattern and the value alone, and never on what was found.
+-- All ways of matching a pattern and a value, as a tree of choices. What is asked on the way depends on the pattern and the value alone, and
+-- never on what was found.
 use mathlib.Core.Path.{_≡_}
-use mathlib.Core.Bool.{Bool, true, false}
+use mathlib.Core.Bool.{Bool, true, false, _&&_}
 use mathlib.Core.List.{List, [], _∷_}
 use Prim.Native.Nat.{ℕ, suc, _+_}
 use lib.ListN.{length, getD}
@@ -11,32 +11,29 @@ use Rattle.choices.specs.Tree.{Tree, give, choose, bind}
 use Rattle.patterns.specs.Binding.{Binding, nothing, only, merge, consistent}
 use Rattle.patterns.specs.Pattern.{Pattern, name, any, literal, each, halved, Patterns, nil, cons, parts, contents, met, split, leftOf, rightOf, tooLarge}
 
--- The state of a match: the binding found so far, in which a name may clash; whether all parts so far match; and whether a union
--- pattern was met by a set of over seven members.
+-- The state of a match: the binding found so far, in which a name may clash; and whether all parts so far match.
 pub record State : Type 0 where
   pub found : Binding
   pub fits : Bool
-  pub broad : Bool
 
 -- Nothing found yet.
 abbrev pub start : State
-start = record { found = nothing; fits = true; broad = false }
+start = record { found = nothing; fits = true }
 
 -- A name is bound to a value.
 abbrev pub naming : ℕ → Value → State → State
-naming x v st = record { found = merge (st .found) (only x v); fits = st .fits; broad = st .broad }
+naming x v st = record { found = merge (st .found) (only x v); fits = st .fits }
 
 -- A part does not match.
 abbrev pub failed : State → State
-failed st = record { found = st .found; fits = false; broad = st .broad }
-
--- A set is too large to split.
-abbrev pub widened : State → State
-widened st = record { found = st .found; fits = false; broad = true }
+failed st = record { found = st .found; fits = false }
 
 -- A match: all parts match, and no name has two values.
 abbrev pub Good : State → Type 0
 Good st = (st .fits ≡ true) × (consistent (st .found) ≡ true)
+
+abbrev pub isGood : State → Bool
+isGood st = st .fits && consistent (st .found)
 
 -- A choice of one of the list, if there is one.
 abbrev pub among : {A B : Type 0} → List A → Tree B → (A → Tree B) → Tree B
@@ -50,7 +47,7 @@ unfoldable mutual
   tries (literal w) v st = give (pick (same w v) st (failed st))
   tries (each k ps) v st = among (met k (parts ps) (contents k v)) (give (failed st)) (λ vs. tryEach ps vs st)
   tries (halved k p q) v st =
-      pick (tooLarge k (contents k v)) (give (widened st))
+      pick (tooLarge k (contents k v)) (give (failed st))
       (among (split k (contents k v)) (give (failed st)) (λ h. bind (tries p (leftOf k h) st) (λ r. tries q (rightOf k h) r)))
 
   -- The first part with the first item, and so on.
