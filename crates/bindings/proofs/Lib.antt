@@ -1,5 +1,4 @@
 -- What the proofs of the functions cite.
-pub mod Ordering
 pub mod Looping
 pub mod Members
 pub mod Telling

@@ -1,38 +1,44 @@
--- The loops over all ways of a value, and over all members.
+-- The loops over the ways of a value that are worth going, and over all members.
 use mathlib.Core.Path.{_≡_, refl, sym, ap, subst, _∙_}
-use mathlib.Core.Bool.{Bool, true, false}
+use mathlib.Core.Bool.{Bool, true, false, _&&_}
 use mathlib.Core.Logic.{inl}
-use mathlib.Core.Option.{Option}
+use mathlib.Core.Option.{Option, some}
 use mathlib.Core.List.{List, [], _∷_}
-use Prim.Native.Nat.{ℕ, zero, suc, _+_, _-_, _^_, _≤_, _<_}
+use Prim.Native.Nat.{ℕ, zero, suc, _+_, _^_, _≤_, _<_}
 use native.Mathlib.Omega.{arith}
 use lib.ListN.{length, getD, take, drop, length-take}
 use Rattle.values.specs.Value.{Value, more}
 use Rattle.integers.specs.Bytes.{word}
-use Rattle.values.specs.Place.{At, ItemsAt, Holds, HoldsItems}
+use Rattle.values.specs.Items.{pick}
+use Rattle.values.specs.Place.{At, ItemsAt, Holds}
 use Rattle.values.specs.Records.{holds, run, items-none}
 use Rattle.tables.specs.Accepted.{records}
 use Rattle.choices.specs.Tree.{Tree, Outcome, value}
-use Rattle.choices.specs.Paths.{outcomeAt, counts, paths, extend, raise}
-use Rattle.choices.specs.Laws.Seeds.{Seed, seed-first, seed-next, seed-last, seed-outcome, nth as outcome}
-use Rattle.choices.specs.Laws.Rank.{Bytes, rank, rank-below, extend-rank, raise-rank}
+use Rattle.choices.specs.Paths.{outcomeAt, counts, extend, raise}
+use Rattle.choices.specs.Laws.Rank.{Bytes, rank, rank-below}
+use Rattle.choices.specs.Laws.Ahead.{step-rank}
 use Rattle.digits.specs.declared.Digits.{Digits}
 use Rattle.digits.specs.declared.Advanced.{Advanced}
 use Rattle.digits.specs.Path.{most, View, view, fresh, Sound, Made, Advances, maybe}
 use Rattle.digits.specs.Walk.{reached, walk, walkedBy, finish, walk-path}
+use Rattle.patterns.specs.Ways.{gather, exists}
 use Rattle.patterns.specs.Binding.{Binding}
-use Rattle.patterns.specs.Pattern.{itemsOf, listOf}
-use Rattle.patterns.specs.Matched.{items-list}
-use Rattle.ways.specs.Tries.{State, start, tries, places}
-use Rattle.ways.specs.Tame.{Tame, tries-tame, tame-full, tame-within, tame-value}
+use Rattle.patterns.specs.Pattern.{Pattern, itemsOf, matches, wide}
+use Rattle.ways.specs.Tries.{State, start, isGood, places}
+use Rattle.ways.specs.Trimmed.{hopeful, trimmed}
+use Rattle.ways.specs.Tame.{trimmed-tame, trimmed-full, trimmed-within, tame-value}
 use Rattle.ways.specs.Read.{patternAt}
-use Rattle.ways.specs.Best.{Sought, counted, upTo, soughtIn, soughtAll}
+use Rattle.ways.specs.Leaves.{or-left, or-right}
+use Rattle.ways.specs.Kin.{Kin}
+use Rattle.ways.specs.Best.{better, leastOver, from-kin, kin-over, over-all}
+use Rattle.ways.specs.Hope.{hopeful-whole}
+use Rattle.ways.specs.Seeking.{Seeking, seeking-into, seeking-found, seeking-start, seeking-more, seeking-done}
 use Rattle.matching.specs.declared.Found.{Found}
+use Rattle.matching.specs.declared.Best.{Best}
 use Rattle.matching.specs.declared.Matched.{Matched}
-use Rattle.matching.specs.Found.{Stands, Standing}
+use Rattle.matching.specs.Found.{Stands, Standing, BestIs, BestHeld, Bounded}
 use Rattle.matching.specs.Along.{Came, Along}
-use Rattle.bindings.specs.declared.Best.{Best}
-use Rattle.bindings.specs.Bound.{BestIs, BestHeld, SoughtIs, Considered, Searchable, SoughtOf, SoughtOfAll}
+use Rattle.bindings.specs.Bound.{Considered, Searchable, Bounding, Sought, SoughtOf, SoughtAll, SoughtOfAll}
 
 -- ---- bytes
 
@@ -50,190 +56,232 @@ bytes-drop zero l b = b
 bytes-drop (suc n) [] b = tt
 bytes-drop (suc n) (c ∷ l) b = bytes-drop n l (b .1)
 
-past-bytes : (d : Digits) → Sound d → Bytes (view d .past)
-past-bytes d s = bytes-take (d .used) (d .entries) (bytes-from (d .entries) (s .small))
-
 left-bytes : (d : Digits) → Sound d → Bytes (view d .left)
 left-bytes d s = bytes-drop (d .used) (take (d .len) (d .entries)) (bytes-take (d .len) (d .entries) (bytes-from (d .entries) (s .small)))
 
 past-short : (d : Digits) → Sound d → length (view d .past) ≤ most
 past-short d s = omega (arith, length-take (d .used) (d .entries), s .used-within, s .entries-sized)
 
--- ---- one way after the other
-
--- The path stands at the way k of the tree.
-pub record Running (t : Tree State) (d : Digits) (k : ℕ) : Type 0 where
-  pub sound : Sound d
-  pub started : view d ≡ fresh (view d .left)
-  pub seed : Seed t k (view d .left)
-
 pub top : ℕ
 top = 256 ^ most
 
-module _ (t : Tree State) (n : ℕ) (w : Tame n t) (few : n ≤ most) where
-  pub begin : (d : Digits) → Made d → Running t d 0
-  begin d m =
-      let e : view d .left ≡ [] = ap (λ (v : View). v .left) (m .viewed) in
-      record { sound = m .sound; started = m .viewed ∙ ap fresh (sym e); seed = subst (Seed t 0) (sym e) (seed-first t (tame-full t n w)) }
+-- ---- one way after the other
 
-  module _ (d : Digits) (k : ℕ) (g : Running t d k) (s : List ℕ) (m : Matched) (c : Came s m (walk t (view d))) where
-    walked : walk t (view d) ≡ finish (outcomeAt t (view d .left)) (walkedBy t [] [] (view d .left))
-    walked = ap (walk t) (g .started) ∙ walk-path t n [] [] (view d .left) (tame-full t n w) (tame-within t n w) (g .seed .inside) (omega (arith, few))
+-- The search so far: a path that no digit of was taken yet, and the best that was found before it.
+pub record Running (p : Pattern) (v : Value) (a m : Option Binding) (s : List ℕ) (d : Digits) (best : Best) : Type 0 where
+  pub sound : Sound d
+  pub started : view d ≡ fresh (view d .left)
+  pub n : Option Binding
+  pub best-is : BestIs s best n
+  pub seeking : Seeking p v a m n (view d .left)
 
-    pub record Ended : Type 0 where
-      pub st : State
-      pub at : outcome t k ≡ value st
-      pub stands : Stands s (m .found) st
-      pub seen : view (m .digits) ≡ walkedBy t [] [] (view d .left)
+module _ (p : Pattern) (few : places p ≤ most) (v : Value) (narrow : wide p v ≡ false) (s : List ℕ) (present best₀ : Best) (a m : Option Binding) (b : Bounding p s present best₀ a m) where
+  pub begin : (d : Digits) → Made d → Running p v a m s d best₀
+  begin d h =
+      let e : view d .left ≡ [] = ap (λ (x : View). x .left) (h .viewed) in
+      record { sound = h .sound; started = h .viewed ∙ ap fresh (sym e); n = m; best-is = b .best-is; seeking = subst (Seeking p v a m m) (sym e) (seeking-start p v a m narrow) }
 
-    pub ended : Ended
-    ended =
-        let (st, e) = tame-value t n (view d .left) w in
-        let q : walk t (view d) ≡ reached st (walkedBy t [] [] (view d .left)) = walked ∙ ap (λ (o : Outcome State). finish o (walkedBy t [] [] (view d .left))) e in
-        let h : Came s m (reached st (walkedBy t [] [] (view d .left))) = subst (Came s m) q c in
-        record { st = st; at = sym (seed-outcome t k (view d .left) (g .seed)) ∙ e; stands = h .0; seen = h .1 }
+  module _ (d : Digits) (best : Best) (g : Running p v a m s d best) where
+    l : List ℕ
+    l = view d .left
 
-    module _ (a : Advanced) (v : Advances (m .digits) a) where
-      raised : raise (extend t (view d .left)) (counts t (extend t (view d .left))) ≡ maybe (a .more) (view (a .digits) .left)
-      raised = sym (ap (λ (x : View). raise (x .past) (x .met)) (ended .seen)) ∙ v .raised
+    u : Tree State
+    u = trimmed (hopeful a (g .n)) p v start
 
-      pub go-on : a .more ≡ true → Running t (a .digits) (suc k)
-      go-on q = record {
-        sound = v .sound;
-        started = v .viewed q;
-        seed = seed-next t (tame-full t n w) k (view d .left) (g .seed) (view (a .digits) .left) (raised ∙ ap (λ (b : Bool). maybe b (view (a .digits) .left)) q);
-      }
+    pub kin-now : Kin p (g .n)
+    kin-now = from-kin p v a m (g .n) (g .seeking .from) (b .best-kin)
 
-      pub done : a .more ≡ false → suc k ≡ length (paths t)
-      done q = seed-last t (tame-full t n w) k (view d .left) (g .seed) (raised ∙ ap (λ (b : Bool). maybe b (view (a .digits) .left)) q)
+    module _ (r : Matched) (c : Came s r (walk u (view d))) where
+      pub record Ended : Type 0 where
+        pub st : State
+        pub at : outcomeAt u l ≡ value st
+        pub stands : Stands s (r .found) st
+        pub seen : view (r .digits) ≡ walkedBy u [] [] l
 
-      pub falls : Sound (m .digits) → a .more ≡ true → (rank most (view d .left) < rank most (view (a .digits) .left)) × (rank most (view (a .digits) .left) < top)
-      unfolding top
-      falls sm q =
-          let l = view d .left in
-          let past : view (m .digits) .past ≡ extend t l = ap (λ (x : View). x .past) (ended .seen) in
-          let b : Bytes (extend t l) = subst Bytes past (past-bytes (m .digits) sm) in
-          let short : length (extend t l) ≤ most = subst (λ (x : List ℕ). length x ≤ most) past (past-short (m .digits) sm) in
-          let up = raise-rank most (extend t l) (counts t (extend t l)) (view (a .digits) .left) b short (raised ∙ ap (λ (b : Bool). maybe b (view (a .digits) .left)) q) in
-          (omega (arith, up, extend-rank t most l (g .seed .inside)), rank-below most (view (a .digits) .left) (left-bytes (a .digits) (v .sound)))
+      pub ended : Ended
+      ended =
+          let (st, e) = tame-value u (places p) l (trimmed-tame (hopeful a (g .n)) p v start) in
+          let walked : walk u (view d) ≡ finish (outcomeAt u l) (walkedBy u [] [] l) =
+          ap (walk u) (g .started) ∙ walk-path u (places p) [] [] l (trimmed-full (hopeful a (g .n)) p v start) (trimmed-within (hopeful a (g .n)) p v start) (seeking-into p v a m (g .n) l (b .present-kin) (b .best-kin) (g .seeking)) (omega (arith, few)) in
+          let h : Came s r (reached st (walkedBy u [] [] l)) = subst (Came s r) (walked ∙ ap (λ (o : Outcome State). finish o (walkedBy u [] [] l)) e) c in
+          record { st = st; at = e; stands = h .0; seen = h .1 }
 
--- ---- the loop over all ways
+      module _ (best′ : Best) (co : Considered s (r .found) (record { present = present; best = best }) best′) where
+        pub better-now : BestIs s best′ (better (isGood (ended .st)) (ended .st .found) a (g .n))
+        better-now =
+            subst (BestIs s best′) (counts-as (isGood (ended .st)) refl)
+            (co (ended .st) a (g .n) (ended .stands) (record { present-is = b .present-is; best-is = g .best-is }))
+          where
+            counts-as : (t : Bool) → isGood (ended .st) ≡ t → pick (t && hopeful a (g .n) (ended .st .found)) (some (ended .st .found)) (g .n) ≡ better t (ended .st .found) a (g .n)
+            counts-as true e = ap (λ (x : Bool). pick x (some (ended .st .found)) (g .n)) (hopeful-whole p v a (g .n) (b .present-kin) kin-now (ended .st .found) (seeking-found p v a m (g .n) l (ended .st) (ended .at) e))
+            counts-as false e = refl
 
-abbrev soughtOf : Best → Option Binding → Sought
-soughtOf f a = record { least = a; wide = f .wide }
+        module _ (ad : Advanced) (mo : Advances (r .digits) ad) where
+          raised : raise (extend u l) (counts u (extend u l)) ≡ maybe (ad .more) (view (ad .digits) .left)
+          raised = sym (ap (λ (x : View). raise (x .past) (x .met)) (ended .seen)) ∙ mo .raised
 
-pub sought-is : (s : List ℕ) (f : Best) (a : Option Binding) → BestIs s f a → SoughtIs s f (soughtOf f a)
-sought-is s f a h = record { least = h; wide-is = refl }
+          pub go-on : ad .more ≡ true → Running p v a m s (ad .digits) best′
+          go-on q = record {
+            sound = mo .sound;
+            started = mo .viewed q;
+            n = better (isGood (ended .st)) (ended .st .found) a (g .n);
+            best-is = better-now;
+            seeking = seeking-more p v a m (g .n) l (b .present-kin) (b .best-kin) (g .seeking) (ended .st) (ended .at) (view (ad .digits) .left) (raised ∙ ap (λ (t : Bool). maybe t (view (ad .digits) .left)) q);
+          }
 
--- What is sought so far is what the first k ways give.
+          pub done : ad .more ≡ false → BestIs s best′ (leastOver a (matches p v) m)
+          done q = subst (BestIs s best′) (seeking-done p v a m (g .n) l (b .present-kin) (b .best-kin) (g .seeking) (ended .st) (ended .at) (raised ∙ ap (λ (t : Bool). maybe t (view (ad .digits) .left)) q)) better-now
+
+          pub falls : Sound (r .digits) → ad .more ≡ true → (rank most l < rank most (view (ad .digits) .left)) × (rank most (view (ad .digits) .left) < top)
+          unfolding top
+          falls sr q =
+              let past : view (r .digits) .past ≡ extend u l = ap (λ (x : View). x .past) (ended .seen) in
+              let short : length (extend u l) ≤ most = subst (λ (x : List ℕ). length x ≤ most) past (past-short (r .digits) sr) in
+              (
+                step-rank u most l (view (ad .digits) .left) (left-bytes d (g .sound)) short (raised ∙ ap (λ (t : Bool). maybe t (view (ad .digits) .left)) q),
+                rank-below most (view (ad .digits) .left) (left-bytes (ad .digits) (mo .sound)),
+              )
+
+-- ---- the loop over the ways
+
 abbrev pub Going : List ℕ → ℕ → List ℕ → ℕ → Best → Best → Digits → Best → Type 0
 Going table p s at present best₀ d best =
-    (v : Value) (a : Option Binding) (q : Sought) → At s at v → BestIs s present a → SoughtIs s best₀ q
-    → (k : ℕ) × Running (tries (patternAt (records table) p) v start) d k × SoughtIs s best (upTo (tries (patternAt (records table) p) v start) a q k)
+    (v : Value) (a m : Option Binding) → At s at v → wide (patternAt (records table) p) v ≡ false → Bounding (patternAt (records table) p) s present best₀ a m
+    → Running (patternAt (records table) p) v a m s d best
 
 module _ (table index : List ℕ) (p : ℕ) (r : Searchable table index p) (s : List ℕ) (at : ℕ) (present best₀ : Best) where
-  tame : (v : Value) → Tame (places (patternAt (records table) p)) (tries (patternAt (records table) p) v start)
-  tame v = tries-tame (patternAt (records table) p) v start
-
   pub starts : (d : Digits) → Made d → Going table p s at present best₀ d best₀
-  starts d m v a q h x y = (0, begin (tries (patternAt (records table) p) v start) (places (patternAt (records table) p)) (tame v) (r .few) d m, y)
+  starts d h v a m i w b = begin (patternAt (records table) p) (r .few) v w s present best₀ a m b d h
 
-  module _ (d : Digits) (best : Best) (inv : Going table p s at present best₀ d best) where
-    pub held-sound : Holds s at → BestHeld s present → BestHeld s best₀ → Sound d
-    held-sound h x y = inv (h .value) (x .0) (soughtOf best₀ (y .0)) (h .here) (x .1) (sought-is s best₀ (y .0) (y .1)) .1 .sound
+  module _ (d : Digits) (best : Best) (inv : Going table p s at present best₀ d best) (q : Sought table p s at present best₀) where
+    now : Running (patternAt (records table) p) (q .value) (q .a) (q .m) s d best
+    now = inv (q .value) (q .a) (q .m) (q .here) (q .narrow) (q .bounding)
 
-    pub held-best : Holds s at → BestHeld s present → BestHeld s best₀ → BestHeld s best
-    held-best h x y =
-        let w = inv (h .value) (x .0) (soughtOf best₀ (y .0)) (h .here) (x .1) (sought-is s best₀ (y .0) (y .1)) in
-        (upTo (tries (patternAt (records table) p) (h .value) start) (x .0) (soughtOf best₀ (y .0)) (w .0) .least, w .2 .least)
+    pub held-sound : Sound d
+    held-sound = now .sound
 
-    module _ (f₀ : Found) (f-starts : (s : List ℕ) → Stands s f₀ start) (m : Matched) (al : Along table p s (record { how = 1; at = at; extent = 0 }) f₀ d m) where
-      came : (v : Value) → At s at v → Came s m (walk (tries (patternAt (records table) p) v start) (view d))
-      came v h = al .came v start (inl (refl, h)) (f-starts s)
+    pub held-bounds : (a m : Option Binding) × Bounded s (record { present = present; best = best }) a m
+    held-bounds = (q .a, now .n, record { present-is = q .bounding .present-is; best-is = now .best-is })
 
-      end-of : (v : Value) (a : Option Binding) (q : Sought) (h : At s at v) (x : BestIs s present a) (y : SoughtIs s best₀ q)
-          → Ended (tries (patternAt (records table) p) v start) (places (patternAt (records table) p)) (tame v) (r .few) d (inv v a q h x y .0) (inv v a q h x y .1) s m (came v h)
-      end-of v a q h x y = ended (tries (patternAt (records table) p) v start) (places (patternAt (records table) p)) (tame v) (r .few) d (inv v a q h x y .0) (inv v a q h x y .1) s m (came v h)
+  module _ (d : Digits) (best : Best) (inv : Going table p s at present best₀ d best) (f₀ : Found) (f-starts : (s : List ℕ) → Stands s f₀ start) (g : Matched)
+      (al : Along table p s (record { how = 1; at = at; extent = 0 }) (record { present = present; best = best }) f₀ d g) where
+    came : (v : Value) (a m : Option Binding) (i : At s at v) (w : wide (patternAt (records table) p) v ≡ false) (b : Bounding (patternAt (records table) p) s present best₀ a m)
+        → Came s g (walk (trimmed (hopeful a (inv v a m i w b .n)) (patternAt (records table) p) v start) (view d))
+    came v a m i w b = al .came v start a (inv v a m i w b .n) (inl (refl, i)) (f-starts s) (record { present-is = b .present-is; best-is = inv v a m i w b .best-is })
 
-      pub held-standing : Holds s at → BestHeld s present → BestHeld s best₀ → Standing s (m .found)
-      held-standing h x y = let e = end-of (h .value) (x .0) (soughtOf best₀ (y .0)) (h .here) (x .1) (sought-is s best₀ (y .0) (y .1)) in (e .st, e .stands)
+    pub held-standing : Sought table p s at present best₀ → Standing s (g .found)
+    held-standing q =
+        let e = ended (patternAt (records table) p) (r .few) (q .value) (q .narrow) s present best₀ (q .a) (q .m) (q .bounding) d best (inv (q .value) (q .a) (q .m) (q .here) (q .narrow) (q .bounding)) g (came (q .value) (q .a) (q .m) (q .here) (q .narrow) (q .bounding)) in
+        (e .st, e .stands)
 
-      module _ (best′ : Best) (co : Considered s (m .found) present best best′) where
-        stepped : (v : Value) (a : Option Binding) (q : Sought) (h : At s at v) (x : BestIs s present a) (y : SoughtIs s best₀ q) → SoughtIs s best′ (upTo (tries (patternAt (records table) p) v start) a q (suc (inv v a q h x y .0)))
-        stepped v a q h x y =
-            let w = inv v a q h x y in
-            let e = end-of v a q h x y in
-            subst (λ (o : Outcome State). SoughtIs s best′ (counted o a (upTo (tries (patternAt (records table) p) v start) a q (w .0)))) (sym (e .at))
-            (co (e .st) a (upTo (tries (patternAt (records table) p) v start) a q (w .0)) (e .stands) x (w .2))
+    module _ (best′ : Best) (co : Considered s (g .found) (record { present = present; best = best }) best′) (ad : Advanced) (mo : Advances (g .digits) ad) where
+      pub goes-on : ad .more ≡ true → Going table p s at present best₀ (ad .digits) best′
+      goes-on e v a m i w b = go-on (patternAt (records table) p) (r .few) v w s present best₀ a m b d best (inv v a m i w b) g (came v a m i w b) best′ co ad mo e
 
-        module _ (ad : Advanced) (mo : Advances (m .digits) ad) where
-          pub goes-on : ad .more ≡ true → Going table p s at present best₀ (ad .digits) best′
-          goes-on e v a q h x y =
-              let w = inv v a q h x y in
-              (suc (w .0), go-on (tries (patternAt (records table) p) v start) (places (patternAt (records table) p)) (tame v) (r .few) d (w .0) (w .1) s m (came v h) ad mo e, stepped v a q h x y)
+      pub all-done : ad .more ≡ false → SoughtOf table p s at present best₀ best′
+      all-done e v a m i w b = done (patternAt (records table) p) (r .few) v w s present best₀ a m b d best (inv v a m i w b) g (came v a m i w b) best′ co ad mo e
 
-          pub all-done : ad .more ≡ false → SoughtOf table p s at present best₀ best′
-          unfolding soughtIn
-          all-done e v a q h x y =
-              let w = inv v a q h x y in
-              let n = done (tries (patternAt (records table) p) v start) (places (patternAt (records table) p)) (tame v) (r .few) d (w .0) (w .1) s m (came v h) ad mo e in
-              subst (λ (k : ℕ). SoughtIs s best′ (upTo (tries (patternAt (records table) p) v start) a q k)) n (stepped v a q h x y)
-
-          pub less : Holds s at → BestHeld s present → BestHeld s best₀ → Sound (m .digits) → ad .more ≡ true
-              → (rank most (view d .left) < rank most (view (ad .digits) .left)) × (rank most (view (ad .digits) .left) < top)
-          less h x y sm e =
-              let w = inv (h .value) (x .0) (soughtOf best₀ (y .0)) (h .here) (x .1) (sought-is s best₀ (y .0) (y .1)) in
-              falls (tries (patternAt (records table) p) (h .value) start) (places (patternAt (records table) p)) (tame (h .value)) (r .few) d (w .0) (w .1) s m (came (h .value) (h .here)) ad mo sm e
+      pub less : Sought table p s at present best₀ → Sound (g .digits) → ad .more ≡ true → (rank most (view d .left) < rank most (view (ad .digits) .left)) × (rank most (view (ad .digits) .left) < top)
+      less q sg e =
+          falls (patternAt (records table) p) (r .few) (q .value) (q .narrow) s present best₀ (q .a) (q .m) (q .bounding) d best (inv (q .value) (q .a) (q .m) (q .here) (q .narrow) (q .bounding)) g (came (q .value) (q .a) (q .m) (q .here) (q .narrow) (q .bounding)) best′ co ad mo sg e
 
 -- ---- the loop over all members
 
--- What is sought from here on, over the members that are left, is what is sought over all.
-pub record Seen (table : List ℕ) (p : ℕ) (s : List ℕ) (from to : ℕ) (present best₀ : Best) (at : ℕ) (best : Best) : Type 0 where
-  pub rest : (vs : List Value) (a : Option Binding) (q : Sought) → ItemsAt s from to (itemsOf vs) → BestIs s present a → SoughtIs s best₀ q
-      → (ws : List Value) × (u : Sought) × ItemsAt s at to (itemsOf ws) × SoughtIs s best u × (soughtAll (patternAt (records table) p) ws a u ≡ soughtAll (patternAt (records table) p) vs a q)
+-- The members that are left, and the best so far: what is the least over them is the least over all.
+pub record Left (p : Pattern) (s : List ℕ) (at to : ℕ) (a : Option Binding) (best : Best) (least : Option Binding) : Type 0 where
+  pub members : List Value
+  pub here : ItemsAt s at to (itemsOf members)
+  pub narrow : exists members (wide p) ≡ false
+  pub n : Option Binding
+  pub best-is : BestIs s best n
+  pub best-kin : Kin p n
+  pub same : leastOver a (gather members (matches p)) n ≡ least
+
+abbrev pub Seen : List ℕ → ℕ → List ℕ → ℕ → ℕ → Best → Best → ℕ → Best → Type 0
+Seen table p s from to present best₀ at best =
+    (vs : List Value) (a m : Option Binding) → ItemsAt s from to (itemsOf vs) → exists vs (wide (patternAt (records table) p)) ≡ false → Bounding (patternAt (records table) p) s present best₀ a m
+    → Left (patternAt (records table) p) s at to a best (leastOver a (gather vs (matches (patternAt (records table) p))) m)
+
+-- a member, and those after it
+pub record First (p : Pattern) (s : List ℕ) (at to : ℕ) (vs : List Value) : Type 0 where
+  pub v : Value
+  pub ws : List Value
+  pub is : vs ≡ v ∷ ws
+  pub first-at : At s at v
+  pub rest-at : ItemsAt s (at + word s at) to (itemsOf ws)
+  pub inside : at + word s at ≤ to
+  pub first-narrow : wide p v ≡ false
+  pub rest-narrow : exists ws (wide p) ≡ false
+
+pub first-of : (p : Pattern) (s : List ℕ) (at to : ℕ) (vs : List Value) → at < to → ItemsAt s at to (itemsOf vs) → exists vs (wide p) ≡ false → First p s at to vs
+unfolding itemsOf exists
+first-of p s at to [] l i e = let w = run l i in let z : _≡_ {A = ℕ} 0 1 = cc (w .is) in absurd (omega arith)
+first-of p s at to (v ∷ ws) l i e =
+    let w = run l i in
+    let f : v ≡ w .first = cc (w .is) in
+    let g : itemsOf ws ≡ w .rest = cc (w .is) in
+    record {
+      v = v;
+      ws = ws;
+      is = refl;
+      first-at = subst (At s at) (sym f) (w .first-at);
+      rest-at = subst (ItemsAt s (at + word s at) to) (sym g) (w .rest-at);
+      inside = w .inside;
+      first-narrow = or-left (wide p v) (exists ws (wide p)) e;
+      rest-narrow = or-right (wide p v) (exists ws (wide p)) e;
+    }
+
+none-left : (s : List ℕ) (at to : ℕ) (vs : List Value) → to ≤ at → ItemsAt s at to (itemsOf vs) → vs ≡ []
+unfolding itemsOf
+none-left s at to [] l i = refl
+none-left s at to (v ∷ vs) l i = let e = items-none l i in let c : _≡_ {A = ℕ} 0 1 = cc in absurd (omega arith)
 
 module _ (table : List ℕ) (p : ℕ) (s : List ℕ) (from to : ℕ) (present best₀ : Best) where
   pub seen-start : Seen table p s from to present best₀ from best₀
-  seen-start = record { rest = λ vs a q h x y. (vs, q, h, y, refl) }
+  seen-start vs a m i e b = record { members = vs; here = i; narrow = e; n = m; best-is = b .best-is; best-kin = b .best-kin; same = refl }
 
-  module _ (at : ℕ) (best : Best) (z : Seen table p s from to present best₀ at best) (ih : HoldsItems s from to) (ph : BestHeld s present) (bh : BestHeld s best₀) where
-    first : (w : List Value) × (u : Sought) × ItemsAt s at to (itemsOf w) × SoughtIs s best u
-    first =
-        let f = z .rest (listOf (ih .0)) (ph .0) (soughtOf best₀ (bh .0)) (subst (ItemsAt s from to) (sym (items-list (ih .0))) (ih .1)) (ph .1) (sought-is s best₀ (bh .0) (bh .1)) in
-        (f .0, f .1, f .2, f .3)
+  module _ (at : ℕ) (best : Best) (z : Seen table p s from to present best₀ at best) (q : SoughtAll table p s from to present best₀) where
+    rest : Left (patternAt (records table) p) s at to (q .a) best (leastOver (q .a) (gather (q .values) (matches (patternAt (records table) p))) (q .m))
+    rest = z (q .values) (q .a) (q .m) (q .here) (q .narrow) (q .bounding)
 
-    pub seen-best : BestHeld s best
-    seen-best = (first .1 .least, first .3 .least)
+    next : at < to → First (patternAt (records table) p) s at to (rest .members)
+    next l = first-of (patternAt (records table) p) s at to (rest .members) l (rest .here) (rest .narrow)
 
     pub seen-holds : at < to → Holds s at
-    seen-holds l = holds (run l (first .2) .first-at)
+    seen-holds l = holds (next l .first-at)
+
+    pub seen-sought : at < to → Sought table p s at present best
+    seen-sought l = record {
+      value = next l .v;
+      here = next l .first-at;
+      narrow = next l .first-narrow;
+      a = q .a;
+      m = rest .n;
+      bounding = record { present-is = q .bounding .present-is; best-is = rest .best-is; present-kin = q .bounding .present-kin; best-kin = rest .best-kin };
+    }
 
     pub seen-inside : at < to → (at + word s at ≤ to) × (to ≤ length s)
-    seen-inside l = (run l (first .2) .inside, first .2 .fits)
+    seen-inside l = (next l .inside, rest .here .fits)
 
   module _ (at : ℕ) (best : Best) (z : Seen table p s from to present best₀ at best) where
     pub seen-more : (n : ℕ) (best′ : Best) → at < to → n ≡ word s at → SoughtOf table p s at present best best′ → Seen table p s from to present best₀ (at + n) best′
-    unfolding soughtAll itemsOf
-    seen-more n best′ l e h = record { rest = λ vs a q i x y. go vs a q (z .rest vs a q i x y) x }
-      where
-        go : (vs : List Value) (a : Option Binding) (q : Sought) → (ws : List Value) × (u : Sought) × ItemsAt s at to (itemsOf ws) × SoughtIs s best u × (soughtAll (patternAt (records table) p) ws a u ≡ soughtAll (patternAt (records table) p) vs a q)
-            → BestIs s present a → (ws : List Value) × (u : Sought) × ItemsAt s (at + n) to (itemsOf ws) × SoughtIs s best′ u × (soughtAll (patternAt (records table) p) ws a u ≡ soughtAll (patternAt (records table) p) vs a q)
-        go vs a q ([], u, i, k, o) x = let r = run l i in let c : _≡_ {A = ℕ} 0 1 = cc (r .is) in absurd (omega arith)
-        go vs a q (w ∷ ws, u, i, k, o) x =
-            let r = run l i in
-            let f : w ≡ r .first = cc (r .is) in
-            let g : itemsOf ws ≡ r .rest = cc (r .is) in (
-              ws,
-              soughtIn (patternAt (records table) p) w a u,
-              subst (λ (j : ℕ). ItemsAt s (at + j) to (itemsOf ws)) (sym e) (subst (ItemsAt s (at + word s at) to) (sym g) (r .rest-at)),
-              h w a u (subst (At s at) (sym f) (r .first-at)) x k,
-              o,
-            )
+    seen-more n best′ l e h vs a m i w b =
+        let y = z vs a m i w b in
+        let f = first-of (patternAt (records table) p) s at to (y .members) l (y .here) (y .narrow) in
+        let g = record { present-is = b .present-is; best-is = y .best-is; present-kin = b .present-kin; best-kin = y .best-kin } in
+        record {
+          members = f .ws;
+          here = subst (λ (k : ℕ). ItemsAt s (at + k) to (itemsOf (f .ws))) (sym e) (f .rest-at);
+          narrow = f .rest-narrow;
+          n = leastOver a (matches (patternAt (records table) p) (f .v)) (y .n);
+          best-is = h (f .v) a (y .n) (f .first-at) (f .first-narrow) g;
+          best-kin = kin-over (patternAt (records table) p) (f .v) a (y .n) (y .best-kin);
+          same = sym (over-all (patternAt (records table) p) (f .v) (f .ws) a (y .n)) ∙ ap (λ (us : List Value). leastOver a (gather us (matches (patternAt (records table) p))) (y .n)) (sym (f .is)) ∙ y .same;
+        }
 
     pub seen-end : to ≤ at → SoughtOfAll table p s from to present best₀ best
-    unfolding soughtAll itemsOf
-    seen-end l vs a q i x y = go (z .rest vs a q i x y)
-      where
-        go : (ws : List Value) × (u : Sought) × ItemsAt s at to (itemsOf ws) × SoughtIs s best u × (soughtAll (patternAt (records table) p) ws a u ≡ soughtAll (patternAt (records table) p) vs a q) → SoughtIs s best (soughtAll (patternAt (records table) p) vs a q)
-        go ([], u, j, k, o) = subst (SoughtIs s best) o k
-        go (w ∷ ws, u, j, k, o) = let e = items-none l j in let c : _≡_ {A = ℕ} 0 1 = cc in absurd (omega arith)
+    unfolding gather leastOver
+    seen-end l vs a m i w b =
+        let y = z vs a m i w b in
+        let e = none-left s at to (y .members) l (y .here) in
+        subst (BestIs s best) (sym (ap (λ (us : List Value). leastOver a (gather us (matches (patternAt (records table) p))) (y .n)) e) ∙ y .same) (y .best-is)

@@ -28,22 +28,23 @@ use Rattle.ways.specs.Tries.{start}
 use Rattle.ways.specs.Merging.{true-false}
 use Rattle.ways.specs.Following.{following, nth, following-first, following-next}
 use Rattle.matching.specs.declared.Found.{Found}
-use Rattle.matching.specs.Found.{nowhere, Stands}
-use Rattle.bindings.specs.declared.Best.{Best}
-use Rattle.bindings.specs.Bound.{Bound, BestIs, MemberBound, StoodAt, MemberHeld, MemberFollows, MemberNext}
+use Rattle.matching.specs.Found.{nowhere, Stands, Bound, BestIs, NoneYet}
+use Rattle.matching.specs.declared.Best.{Best}
+use Rattle.bindings.specs.Bound.{MemberBound, StoodAt, MemberHeld, MemberFollows, MemberNext}
 
 -- ---- the member at a place
 
+pub no-member : (s : List ℕ) (x at to : ℕ) (r : Best) → NoneYet r → to ≤ at → MemberBound s x at to r
+no-member s x at to r h l = record { ends = λ k. h .nothing; one = λ k. absurd (omega (arith, k)); place = λ k. absurd (omega (arith, k)) }
+
 module _ (s : List ℕ) (x at to : ℕ) (lt : x < names) (f : Found) (h : (s : List ℕ) → Stands s f start) where
-  pub no-member : to ≤ at → MemberBound s x at to (record { found = f; any = false; wide = false })
-  no-member l = record { narrow = refl; ends = λ k. refl; one = λ k. absurd (omega (arith, k)); place = λ k. absurd (omega (arith, k)) }
 
   was-fit : f .fits ≡ true
   unfolding consistent
   was-fit = h s .fit
 
-  pub a-member : at < to → (g : Found) → g .parts ≡ put (f .parts) x (record { how = 1; at = at; extent = 0 }) → MemberBound s x at to (record { found = g; any = true; wide = false })
-  a-member l g e = record { narrow = refl; ends = λ k. absurd (omega (arith, k)); one = λ k v i. (refl, one v i); place = λ k. ap (λ (p : Part). p .at) here }
+  pub a-member : at < to → (g : Found) → g .parts ≡ put (f .parts) x (record { how = 1; at = at; extent = 0 }) → MemberBound s x at to (record { found = g; any = true })
+  a-member l g e = record { ends = λ k. absurd (omega (arith, k)); one = λ k v i. (refl, one v i); place = λ k. ap (λ (p : Part). p .at) here }
     where
       here : getD (g .parts) x nowhere ≡ record { how = 1; at = at; extent = 0 }
       here = ap (λ (ps : List Part). getD ps x nowhere) e ∙ getD-set-same (f .parts) x (record { how = 1; at = at; extent = 0 }) nowhere (omega (arith, h s .sized))
@@ -146,7 +147,7 @@ module _ (s : List ℕ) (x at : ℕ) (lt : x < names) (vs : List Value) (h : At 
         go none k =
             let w = bound-at 0 (at + 4) r (omega arith) (subst (λ (n : ℕ). ItemsAt s (at + 4) (at + n) (itemsOf vs)) (sym (word-size h)) (items-of h)) m in
             let q = following-first (map (only x) vs) in
-            record { narrow = m .narrow; next = subst (BestIs s r) (sym q) (w .0); stands = subst (StoodAt s x at r vs) (sym q) (w .1) }
+            record { next = subst (BestIs s r) (sym q) (w .0); stands = subst (StoodAt s x at r vs) (sym q) (w .1) }
         go (some c) k = true-false (sym (k .0) ∙ e)
 
     -- where the present member stands, and those after it
@@ -184,7 +185,7 @@ module _ (s : List ℕ) (x at : ℕ) (lt : x < names) (vs : List Value) (h : At 
         let q : following a (map (only x) vs) ≡ nth (map (only x) vs) (suc (w .index)) =
         ap (λ (c : Option Binding). following c (map (only x) vs)) (w .is-some ∙ ap some (sym (map-at x vs (w .index) nothing (w .below))))
         ∙ following-next (map (only x) vs) (w .index) nothing (members-rising x vs lt h) (omega (arith, w .below, length-map vs (only x))) in
-        record { narrow = m .narrow; next = subst (BestIs s r) (sym q) (o .0); stands = subst (StoodAt s x at r vs) (sym q) (o .1) }
+        record { next = subst (BestIs s r) (sym q) (o .0); stands = subst (StoodAt s x at r vs) (sym q) (o .1) }
 
 -- ---- what is present is one binding
 

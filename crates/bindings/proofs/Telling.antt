@@ -12,26 +12,29 @@ use Rattle.integers.specs.Bytes.{word}
 use Rattle.values.specs.Value.{Value, collection, set}
 use Rattle.values.specs.Items.{pick}
 use Rattle.values.specs.Place.{At, ItemsAt, Holds, HoldsItems}
-use Rattle.values.specs.Records.{holds, items-of, word-size}
+use Rattle.values.specs.Records.{holds, run, items-of, items-none, word-size, one-value}
 use Rattle.tables.specs.Record.{Record, named, nameOf, shape, isKnown, size}
 use Rattle.tables.specs.Table.{recordAt, kindAt}
 use Rattle.tables.specs.Accepted.{records, lower, fit-known, fit-least}
 use Rattle.tables.specs.Reading.{HasField}
-use Rattle.patterns.specs.Ways.{exists}
+use Rattle.patterns.specs.Ways.{gather, exists}
 use Rattle.patterns.specs.Binding.{Binding, only}
-use Rattle.patterns.specs.Pattern.{Pattern, name, itemsOf, wide}
+use Rattle.patterns.specs.Pattern.{Pattern, name, itemsOf, matches, wide}
 use Rattle.patterns.specs.Binder.{bindings, Formed, refused, few as fewest, formed}
 use Rattle.patterns.specs.Forming.{bound-formed}
 use Rattle.ways.specs.Read.{patternAt}
 use Rattle.ways.specs.Nodes.{pattern-at, is-name}
 use Rattle.ways.specs.Merging.{true-false}
 use Rattle.ways.specs.Following.{following}
-use Rattle.ways.specs.Best.{nothingYet, soughtAll, sought-wide, sought-least}
-use Rattle.bindings.specs.declared.Best.{Best}
+use Rattle.ways.specs.Leaves.{or-left, or-right}
+use Rattle.ways.specs.Kin.{Kin}
+use Rattle.ways.specs.Best.{leastOver, over-all, over-following, kin-all}
+use Rattle.matching.specs.declared.Best.{Best}
+use Rattle.matching.specs.Found.{BestIs, NoneYet}
 use Rattle.bindings.specs.declared.Tally.the-variants.{Number, Refused}
-use Rattle.bindings.specs.Bound.{BestIs, BestHeld, SoughtIs, SoughtOf, SoughtOfAll, Searchable, Values, Bindable, FollowsIn, Follows, StoodAt, MemberHeld, MemberFollows, MemberNext, Present, NextOf, NoneYet, TellsOf, Tallied}
-use Rattle.bindings.proofs.Members.{best-one, set-one, plain-are, plain-narrow}
-use Rattle.bindings.specs.Stepping.{Stepped, stepped-none, step-wide, step-end, step-more, stepped-more}
+use Rattle.bindings.specs.Bound.{Bounding, Sought, SoughtAll, SoughtOf, SoughtOfAll, Searchable, Values, Bindable, Follows, StoodAt, MemberHeld, MemberFollows, MemberNext, TellsWide, TellsWideIn, Present, NextOf, TellsOf, Tallied}
+use Rattle.bindings.proofs.Members.{best-one, set-one, plain-are}
+use Rattle.bindings.specs.Stepping.{Stepped, stepped-none, step-end, step-more, stepped-more}
 
 -- ---- the record of a name
 
@@ -46,22 +49,23 @@ name-is-byte : (c : ℕ) → c ≡ 32 → size (shape c .head) ≡ 1
 unfolding shape
 name-is-byte c e = subst (λ (n : ℕ). size (shape n .head) ≡ 1) (sym e) refl
 
--- ---- the next
+-- ---- one binder, one binding
 
-pub none-held : {s : List ℕ} {f : Best} → NoneYet f → BestHeld s f
-none-held h = (none, h .nothing)
+values-one : {s : List ℕ} {at : ℕ} (t : Bool) (vs ws : List Value) → Values s at t vs → Values s at t ws → vs ≡ ws
+values-one true vs ws (v, i, q) (w, j, r) = q ∙ ap (λ (x : Value). x ∷ []) (one-value i j) ∙ sym r
+values-one false vs ws i j = set-one vs ws i j
 
-none-sought : {s : List ℕ} {f : Best} → NoneYet f → SoughtIs s f nothingYet
-none-sought h = record { least = h .nothing; wide-is = h .narrow }
+-- What follows a binding is a binding of the pattern.
+following-kin : (p : Pattern) (vs : List Value) (a : Option Binding) → Kin p (following a (bindings p vs))
+following-kin p vs a = subst (Kin p) (over-following p vs a) (kin-all p vs a none tt)
 
-follows-in : (p : Pattern) (vs : List Value) (a : Option Binding) (s : List ℕ) (r : Best) → SoughtIs s r (soughtAll p vs a nothingYet) → FollowsIn p vs a s r
-follows-in p vs a s r h = record { wide-is = h .wide-is ∙ sought-wide p vs a; next = λ w. subst (BestIs s r) (sought-least p vs a w) (h .least) }
+one-following : (p : Pattern) (v : Value) (a : Option Binding) → leastOver a (matches p v) none ≡ following a (bindings p (v ∷ []))
+unfolding gather leastOver
+one-following p v a = sym (over-all p v [] a none) ∙ over-following p (v ∷ []) a
+
+-- ---- what the search asks, and gives
 
 module _ (table : List ℕ) (p : ℕ) (s : List ℕ) (at : ℕ) where
-  pub one-held : (t : Bool) → t ≡ true → Bindable s at t → Holds s at
-  one-held true e h = holds (h .1 .1)
-  one-held false e h = true-false (sym e)
-
   pub set-held : (t : Bool) → t ≡ false → Bindable s at t → Holds s at
   set-held true e h = true-false e
   set-held false e h = holds (h .1)
@@ -70,36 +74,71 @@ module _ (table : List ℕ) (p : ℕ) (s : List ℕ) (at : ℕ) where
   members-held true e h n q = true-false e
   members-held false e h n q = (itemsOf (h .0), subst (λ (k : ℕ). ItemsAt s (at + 4) (at + k) (itemsOf (h .0))) (sym (q ∙ word-size (h .1))) (items-of (h .1)))
 
-  pub follows-one : (t : Bool) → t ≡ true → (present f r : Best) → NoneYet f → SoughtOf table p s at present f r → Follows table p s at t present r
-  unfolding soughtAll
-  follows-one true e present f r o h vs a (v, i, q) x =
-      subst (λ (ws : List Value). FollowsIn (patternAt (records table) p) ws a s r) (sym q)
-      (follows-in (patternAt (records table) p) (v ∷ []) a s r (h v a nothingYet i x (none-sought o)))
-  follows-one false e present f r o h vs a i x = true-false (sym e)
+  members-at : (vs : List Value) (n : ℕ) → n ≡ word s at → Values s at false vs → ItemsAt s (at + 4) (at + n) (itemsOf vs)
+  members-at vs n q i = subst (λ (k : ℕ). ItemsAt s (at + 4) (at + k) (itemsOf vs)) (sym (q ∙ word-size i)) (items-of i)
 
-  pub follows-all : (t : Bool) → t ≡ false → (present f r : Best) → NoneYet f → (n : ℕ) → n ≡ word s at → SoughtOfAll table p s (at + 4) (at + n) present f r → Follows table p s at t present r
-  follows-all true e present f r o n q h vs a i x = true-false e
-  follows-all false e present f r o n q h vs a i x =
-      follows-in (patternAt (records table) p) vs a s r
-      (h vs a nothingYet (subst (λ (k : ℕ). ItemsAt s (at + 4) (at + k) (itemsOf vs)) (sym (q ∙ word-size i)) (items-of i)) x (none-sought o))
+  module _ (t : Bool) (present f : Best) (h : Present table p s at t present) (o : NoneYet f) where
+    P : Pattern
+    P = patternAt (records table) p
 
--- ---- what is present again
+    pub present-bindable : Bindable s at t
+    present-bindable = (h .values, h .are)
 
-module _ (table : List ℕ) (p : ℕ) (s : List ℕ) (at : ℕ) (t : Bool) (f r : Best) where
-  pub present-bindable : Present table p s at t f → Bindable s at t
-  present-bindable h = (h .values, h .are)
+    bounding : (a : Option Binding) → BestIs s present a → Bounding P s present f a none
+    bounding a x = record { present-is = x; best-is = o .nothing; present-kin = subst (Kin P) (best-one s present (h .binding) a (h .is) x) (h .kin); best-kin = tt }
 
-  pub present-held : Present table p s at t f → BestHeld s f
-  present-held h = (h .binding, h .is)
+    narrow-of : (vs : List Value) → Values s at t vs → exists vs (wide P) ≡ false
+    narrow-of vs i = ap (λ (ws : List Value). exists ws (wide P)) (values-one t vs (h .values) i (h .are)) ∙ h .narrow
 
-  -- not a plain name over a set
-  pub next-searched : Present table p s at t f → (t ≡ false → kindAt (records table) p ≡ 32 → ⊥) → Follows table p s at t f r → NextOf table p s at t f r
-  next-searched h n o = record {
-    follows = o;
-    stays = λ w.
-        let g = o (h .values) (h .binding) (h .are) (h .is) in
-        record { values = h .values; are = h .are; binding = following (h .binding) (bindings (patternAt (records table) p) (h .values)); is = g .next (sym (g .wide-is) ∙ w); stood = λ e k. absurd (n e k) };
-  }
+    one-narrow : (v : Value) → exists (v ∷ []) (wide P) ≡ false → wide P v ≡ false
+    unfolding exists
+    one-narrow v e = or-left (wide P v) false e
+
+    pub one-sought : t ≡ true → Sought table p s at present f
+    one-sought e = go t e (h .are) (λ v q. one-narrow v (sym (ap (λ (ws : List Value). exists ws (wide P)) q) ∙ h .narrow))
+      where
+        go : (t : Bool) → t ≡ true → Values s at t (h .values) → ((v : Value) → h .values ≡ v ∷ [] → wide P v ≡ false) → Sought table p s at present f
+        go true e (v, i, q) w = record { value = v; here = i; narrow = w v q; a = h .binding; m = none; bounding = bounding (h .binding) (h .is) }
+        go false e i w = true-false (sym e)
+
+    pub all-sought : t ≡ false → (n : ℕ) → n ≡ word s at → SoughtAll table p s (at + 4) (at + n) present f
+    all-sought e n q = record {
+      values = h .values;
+      here = members-at (h .values) n q (subst (λ (b : Bool). Values s at b (h .values)) e (h .are));
+      narrow = h .narrow;
+      a = h .binding;
+      m = none;
+      bounding = bounding (h .binding) (h .is);
+    }
+
+    pub follows-one : t ≡ true → (r : Best) → SoughtOf table p s at present f r → Follows table p s at t present r
+    follows-one e r g vs a i x = go t e i (narrow-of vs i)
+      where
+        go : (t : Bool) → t ≡ true → Values s at t vs → exists vs (wide P) ≡ false → BestIs s r (following a (bindings P vs))
+        go true e (v, j, q) w =
+            subst (λ (ws : List Value). BestIs s r (following a (bindings P ws))) (sym q)
+            (subst (BestIs s r) (one-following P v a) (g v a none j (one-narrow v (sym (ap (λ (ws : List Value). exists ws (wide P)) q) ∙ w)) (bounding a x)))
+        go false e j w = true-false (sym e)
+
+    pub follows-all : t ≡ false → (n : ℕ) → n ≡ word s at → (r : Best) → SoughtOfAll table p s (at + 4) (at + n) present f r → Follows table p s at t present r
+    follows-all e n q r g vs a i x =
+        subst (BestIs s r) (over-following P vs a)
+        (g vs a none (members-at vs n q (subst (λ (b : Bool). Values s at b vs) e i)) (narrow-of vs i) (bounding a x))
+
+    -- not a plain name over a set
+    pub next-searched : (t ≡ false → kindAt (records table) p ≡ 32 → ⊥) → (r : Best) → Follows table p s at t present r → NextOf table p s at t present r
+    next-searched n r g = record {
+      follows = g;
+      stays = record {
+        values = h .values;
+        are = h .are;
+        binding = following (h .binding) (bindings P (h .values));
+        is = g (h .values) (h .binding) (h .are) (h .is);
+        narrow = h .narrow;
+        kin = following-kin P (h .values) (h .binding);
+        stood = λ e k. absurd (n e k);
+      };
+    }
 
 module _ (table index : List ℕ) (p : ℕ) (c : Searchable table index p) (k : kindAt (records table) p ≡ 32) (s : List ℕ) (at : ℕ) where
   small : nameOf (recordAt (records table) p) < 16
@@ -124,13 +163,18 @@ module _ (table index : List ℕ) (p : ℕ) (c : Searchable table index p) (k : 
     pub next-plain : (r : Best) → MemberNext s y at f r → NextOf table p s at t f r
     next-plain r o = record {
       follows = λ vs a i b.
-          let q : vs ≡ h .values = set-one vs (h .values) (subst (λ (b : Bool). Values s at b vs) whole i) as-set in
+          let q : vs ≡ h .values = values-one t vs (h .values) i (h .are) in
           let u : a ≡ h .binding = best-one s f a (h .binding) b (h .is) in
-          record {
-            wide-is = got .narrow ∙ sym (ap (λ (w : Pattern). exists vs (wide w)) is-plain ∙ plain-narrow (nameOf (recordAt (records table) p)) vs);
-            next = λ w. subst (BestIs s r) (sym (ap₂ following u (ap (bindings (patternAt (records table) p)) q ∙ plainly))) (got .next);
-          };
-      stays = λ w. record { values = h .values; are = h .are; binding = following (h .binding) (map (only y) (h .values)); is = got .next; stood = λ a b. subst (λ (n : ℕ). StoodAt s n at r (h .values) (following (h .binding) (map (only y) (h .values)))) e (got .stands) };
+          subst (BestIs s r) (sym (ap₂ following u (ap (bindings (patternAt (records table) p)) q ∙ plainly))) (got .next);
+      stays = record {
+        values = h .values;
+        are = h .are;
+        binding = following (h .binding) (map (only y) (h .values));
+        is = got .next;
+        narrow = h .narrow;
+        kin = subst (λ (bs : List Binding). Kin (patternAt (records table) p) (following (h .binding) bs)) plainly (following-kin (patternAt (records table) p) (h .values) (h .binding));
+        stood = λ a b. subst (λ (n : ℕ). StoodAt s n at r (h .values) (following (h .binding) (map (only y) (h .values)))) e (got .stands);
+      };
     }
       where
         got : MemberFollows s y at (h .values) (h .binding) r
@@ -142,37 +186,40 @@ module _ (table index : List ℕ) (p : ℕ) (c : Searchable table index p) (k : 
             ∙ plain-are (nameOf (recordAt (records table) p)) (h .values) (omega (arith, small)) as-set
             ∙ ap (λ (n : ℕ). map (only n) (h .values)) (sym e)
 
+-- ---- number 29
+
+-- The members before a place have no set too large to split.
+pub record Passing (table : List ℕ) (p : ℕ) (s : List ℕ) (from to at : ℕ) : Type 0 where
+  pub rest : (vs : List Value) → ItemsAt s from to (itemsOf vs)
+      → (ws : List Value) × ItemsAt s at to (itemsOf ws) × (exists ws (wide (patternAt (records table) p)) ≡ exists vs (wide (patternAt (records table) p)))
+
 -- ---- how many
 
 module _ (table : List ℕ) (p : ℕ) (s : List ℕ) (at : ℕ) (t : Bool) where
+  pub tells-29 : TellsWide table p s at t true → Tallied table p s at t (Refused 29)
+  tells-29 h vs i =
+      subst (λ (x : Formed). TellsOf x (Refused 29)) (ap (λ (b : Bool). pick b (refused 29) (fewest (bindings (patternAt (records table) p) vs))) (h vs i)) refl
+
   -- n steps from none, at most as many as a binder may have bindings
   pub record Counted (n : ℕ) (present : Best) : Type 0 where
     pub few : n ≤ 255
     pub stepped : Stepped table p s at t n present
+    pub no-wide : (vs : List Value) → Values s at t vs → exists vs (wide (patternAt (records table) p)) ≡ false
 
-  pub counted-none : (f : Best) → NoneYet f → Bindable s at t → Counted 0 f
-  counted-none f h k = record { few = omega arith; stepped = stepped-none table p s at t f h k }
+  pub counted-none : TellsWide table p s at t false → (f : Best) → NoneYet f → Bindable s at t → Counted 0 f
+  counted-none w f h k = record { few = omega arith; stepped = stepped-none table p s at t f (k .0) h (k .1) (sym (w (k .0) (k .1))); no-wide = λ vs i. sym (w vs i) }
 
   module _ (n : ℕ) (present : Best) (g : Counted n present) (r : Best) (nx : NextOf table p s at t present r) where
-    pub tells-29 : r .wide ≡ true → Tallied table p s at t (Refused 29)
-    tells-29 e vs i =
-        let w : exists vs (wide (patternAt (records table) p)) ≡ true = sym (step-wide table p s at t n present (g .stepped) r nx vs i) ∙ e in
-        subst (λ (x : Formed). TellsOf x (Refused 29)) (sym (ap (λ (b : Bool). pick b (refused 29) (fewest (bindings (patternAt (records table) p) vs))) w)) refl
+    pub tells-number : r .any ≡ false → Tallied table p s at t (Number n)
+    tells-number e vs i =
+        let l = step-end table p s at t n present (g .stepped) r nx e vs i in
+        subst (λ (x : Formed). TellsOf x (Number n)) (sym (bound-formed (patternAt (records table) p) vs (g .no-wide vs i) (omega (arith, l, g .few)))) l
 
-    module _ (narrow : r .wide ≡ false) where
-      no-wide : (vs : List Value) → Values s at t vs → exists vs (wide (patternAt (records table) p)) ≡ false
-      no-wide vs i = sym (step-wide table p s at t n present (g .stepped) r nx vs i) ∙ narrow
+    pub tells-30 : r .any ≡ true → 255 ≤ n → Tallied table p s at t (Refused 30)
+    tells-30 e h vs i =
+        let l = step-more table p s at t n present (g .stepped) r nx e vs i in
+        let f : formed (patternAt (records table) p) vs ≡ refused 30 = rw (g .no-wide vs i, lt-leb (length (bindings (patternAt (records table) p) vs)) 255 (omega (arith, l))) in
+        subst (λ (x : Formed). TellsOf x (Refused 30)) (sym f) refl
 
-      pub tells-number : r .any ≡ false → Tallied table p s at t (Number n)
-      tells-number e vs i =
-          let l = step-end table p s at t n present (g .stepped) r nx narrow e vs i in
-          subst (λ (x : Formed). TellsOf x (Number n)) (sym (bound-formed (patternAt (records table) p) vs (no-wide vs i) (omega (arith, l, g .few)))) l
-
-      pub tells-30 : r .any ≡ true → 255 ≤ n → Tallied table p s at t (Refused 30)
-      tells-30 e h vs i =
-          let l = step-more table p s at t n present (g .stepped) r nx narrow e vs i in
-          let f : formed (patternAt (records table) p) vs ≡ refused 30 = rw (no-wide vs i, lt-leb (length (bindings (patternAt (records table) p) vs)) 255 (omega (arith, l))) in
-          subst (λ (x : Formed). TellsOf x (Refused 30)) (sym f) refl
-
-      pub counted-more : r .any ≡ true → n < 255 → Counted (n + 1) r
-      counted-more e h = record { few = omega arith; stepped = stepped-more table p s at t n present (g .stepped) r nx narrow e }
+    pub counted-more : r .any ≡ true → n < 255 → Counted (n + 1) r
+    counted-more e h = record { few = omega arith; stepped = stepped-more table p s at t n present (g .stepped) r nx e; no-wide = g .no-wide }

@@ -1,76 +1,81 @@
--- Bindings as parts in a slice, and what the functions on them promise.
+-- What the functions that give the bindings one after the other ask and promise.
 use mathlib.Core.Path.{_≡_}
-use mathlib.Core.Bool.{Bool, true, false}
+use mathlib.Core.Bool.{Bool, true, false, _&&_}
 use mathlib.Core.Option.{Option, none, some}
 use mathlib.Core.List.{List, [], _∷_, map}
 use Prim.Native.Nat.{ℕ, _+_, _≤_, _<_}
 use lib.ListN.{length, getD, drop}
 use Rattle.integers.specs.Bytes.{word}
 use Rattle.values.specs.Value.{Value, boolean, collection, set}
+use Rattle.values.specs.Items.{pick}
 use Rattle.values.specs.Place.{At, ItemsAt}
 use Rattle.tables.specs.Record.{nameOf}
 use Rattle.tables.specs.Table.{recordAt, kindAt}
 use Rattle.tables.specs.Accepted.{records}
-use Rattle.parts.specs.declared.Part.{Part}
-use Rattle.parts.specs.Part.{CellIs}
-use Rattle.patterns.specs.Ways.{exists}
-use Rattle.patterns.specs.Binding.{Cell, Binding, names, only, cellOf}
-use Rattle.patterns.specs.Pattern.{Pattern, itemsOf, wide}
+use Rattle.patterns.specs.Ways.{gather, exists}
+use Rattle.patterns.specs.Binding.{Binding, only}
+use Rattle.patterns.specs.Pattern.{Pattern, itemsOf, matches, wide}
 use Rattle.patterns.specs.Binder.{bindings, Formed, bound, refused, formed}
 use Rattle.digits.specs.Path.{most}
-use Rattle.ways.specs.Tries.{State, places}
+use Rattle.ways.specs.Tries.{State, isGood, places}
 use Rattle.ways.specs.Read.{patternAt}
 use Rattle.ways.specs.Following.{following}
-use Rattle.ways.specs.Best.{Sought, counting, soughtIn, soughtAll}
+use Rattle.ways.specs.Trimmed.{hopeful}
+use Rattle.ways.specs.Kin.{Kin}
+use Rattle.ways.specs.Best.{leastOver}
 use Rattle.matching.specs.declared.Found.{Found}
-use Rattle.matching.specs.Found.{nowhere, Stands}
+use Rattle.matching.specs.declared.Best.{Best}
+use Rattle.matching.specs.declared.Bounds.{Bounds}
+use Rattle.matching.specs.Found.{nowhere, Stands, Bound, BestIs, Bounded}
 use Rattle.matching.specs.Node.{Readable}
-use Rattle.bindings.specs.declared.Best.{Best}
 use Rattle.bindings.specs.declared.Tally.{Tally}
 use Rattle.bindings.specs.declared.Tally.the-variants.{Number, Refused}
 
-abbrev pub CellHeld : List ℕ → Part → Type 0
-CellHeld s p = (c : Cell) × CellIs s p c
-
--- The parts found stand for the binding b.
-pub record Bound (s : List ℕ) (f : Found) (b : Binding) : Type 0 where
-  pub sized : length (f .parts) ≡ names
-  pub binding-sized : length b ≡ names
-  pub cells : (x : ℕ) → x < names → CellIs s (getD (f .parts) x nowhere) (cellOf b x)
-
-abbrev pub BoundHeld : List ℕ → Found → Type 0
-BoundHeld s f = (b : Binding) × Bound s f b
-
--- A binding, or none.
-abbrev pub BestIs : List ℕ → Best → Option Binding → Type 0
-BestIs s f none = f .any ≡ false
-BestIs s f (some b) = (f .any ≡ true) × Bound s (f .found) b
-
-abbrev pub BestHeld : List ℕ → Best → Type 0
-BestHeld s f = (a : Option Binding) × BestIs s f a
-
--- What is sought so far.
-pub record SoughtIs (s : List ℕ) (f : Best) (q : Sought) : Type 0 where
-  pub least : BestIs s f (q .least)
-  pub wide-is : f .wide ≡ q .wide
-
-abbrev pub Considered : List ℕ → Found → Best → Best → Best → Type 0
-Considered s f present best r =
-    (st : State) (a : Option Binding) (q : Sought) → Stands s f st → BestIs s present a → SoughtIs s best q → SoughtIs s r (counting st a q)
+-- What is found is the best so far where it is a match between the bounds, else the best so far stays.
+abbrev pub Considered : List ℕ → Found → Bounds → Best → Type 0
+Considered s f bounds r =
+    (st : State) (a n : Option Binding) → Stands s f st → Bounded s bounds a n → BestIs s r (pick (isGood st && hopeful a n (st .found)) (some (st .found)) n)
 
 -- A pattern of an accepted table, whose ways have at most as many choices as a path has digits.
 pub record Searchable (table index : List ℕ) (p : ℕ) : Type 0 where
   pub readable : Readable table index p
   pub few : places (patternAt (records table) p) ≤ most
 
+-- The present binding is a and the least so far m, both of the pattern.
+pub record Bounding (p : Pattern) (s : List ℕ) (present best : Best) (a m : Option Binding) : Type 0 where
+  pub present-is : BestIs s present a
+  pub best-is : BestIs s best m
+  pub present-kin : Kin p a
+  pub best-kin : Kin p m
+
+-- A value in which no set is too large to split, and the bounds of a search.
+pub record Sought (table : List ℕ) (p : ℕ) (s : List ℕ) (at : ℕ) (present best : Best) : Type 0 where
+  pub value : Value
+  pub here : At s at value
+  pub narrow : wide (patternAt (records table) p) value ≡ false
+  pub a : Option Binding
+  pub m : Option Binding
+  pub bounding : Bounding (patternAt (records table) p) s present best a m
+
+-- r is the least of the matches above the present binding, and of the least so far.
 abbrev pub SoughtOf : List ℕ → ℕ → List ℕ → ℕ → Best → Best → Best → Type 0
 SoughtOf table p s at present best r =
-    (v : Value) (a : Option Binding) (q : Sought) → At s at v → BestIs s present a → SoughtIs s best q → SoughtIs s r (soughtIn (patternAt (records table) p) v a q)
+    (v : Value) (a m : Option Binding) → At s at v → wide (patternAt (records table) p) v ≡ false → Bounding (patternAt (records table) p) s present best a m
+    → BestIs s r (leastOver a (matches (patternAt (records table) p) v) m)
+
+-- The same over some members.
+pub record SoughtAll (table : List ℕ) (p : ℕ) (s : List ℕ) (from to : ℕ) (present best : Best) : Type 0 where
+  pub values : List Value
+  pub here : ItemsAt s from to (itemsOf values)
+  pub narrow : exists values (wide (patternAt (records table) p)) ≡ false
+  pub a : Option Binding
+  pub m : Option Binding
+  pub bounding : Bounding (patternAt (records table) p) s present best a m
 
 abbrev pub SoughtOfAll : List ℕ → ℕ → List ℕ → ℕ → ℕ → Best → Best → Best → Type 0
 SoughtOfAll table p s from to present best r =
-    (vs : List Value) (a : Option Binding) (q : Sought) → ItemsAt s from to (itemsOf vs) → BestIs s present a → SoughtIs s best q
-    → SoughtIs s r (soughtAll (patternAt (records table) p) vs a q)
+    (vs : List Value) (a m : Option Binding) → ItemsAt s from to (itemsOf vs) → exists vs (wide (patternAt (records table) p)) ≡ false → Bounding (patternAt (records table) p) s present best a m
+    → BestIs s r (leastOver a (gather vs (matches (patternAt (records table) p))) m)
 
 -- The values of a binder: the one at a place, or the members of the set there.
 abbrev pub Values : List ℕ → ℕ → Bool → List Value → Type 0
@@ -80,20 +85,19 @@ Values s at false vs = At s at (collection set (itemsOf vs))
 abbrev pub Bindable : List ℕ → ℕ → Bool → Type 0
 Bindable s at whole = (vs : List Value) × Values s at whole vs
 
--- r is the binding that follows the present one; and it tells of a set too large to split.
-pub record FollowsIn (p : Pattern) (vs : List Value) (a : Option Binding) (s : List ℕ) (r : Best) : Type 0 where
-  pub wide-is : r .wide ≡ exists vs (wide p)
-  pub next : exists vs (wide p) ≡ false → BestIs s r (following a (bindings p vs))
+-- ---- number 29
 
-abbrev pub Follows : List ℕ → ℕ → List ℕ → ℕ → Bool → Best → Best → Type 0
-Follows table p s at whole present r =
-    (vs : List Value) (a : Option Binding) → Values s at whole vs → BestIs s present a → FollowsIn (patternAt (records table) p) vs a s r
+-- r says whether one of the values has a set too large to split.
+abbrev pub TellsWideIn : List ℕ → ℕ → List ℕ → ℕ → ℕ → Bool → Type 0
+TellsWideIn table p s from to r = (vs : List Value) → ItemsAt s from to (itemsOf vs) → r ≡ exists vs (wide (patternAt (records table) p))
+
+abbrev pub TellsWide : List ℕ → ℕ → List ℕ → ℕ → Bool → Bool → Type 0
+TellsWide table p s at whole r = (vs : List Value) → Values s at whole vs → r ≡ exists vs (wide (patternAt (records table) p))
 
 -- ---- a plain name over a set
 
 -- The member at a place is bound to the name x; none at the end of the members.
 pub record MemberBound (s : List ℕ) (x at to : ℕ) (r : Best) : Type 0 where
-  pub narrow : r .wide ≡ false
   pub ends : to ≤ at → r .any ≡ false
   pub one : at < to → (v : Value) → At s at v → (r .any ≡ true) × Bound s (r .found) (only x v)
   pub place : at < to → getD (r .found .parts) x nowhere .at ≡ at
@@ -112,7 +116,6 @@ pub record MemberHeld (s : List ℕ) (x at : ℕ) (f : Best) : Type 0 where
   pub stood : StoodAt s x at f values binding
 
 pub record MemberFollows (s : List ℕ) (x at : ℕ) (vs : List Value) (a : Option Binding) (r : Best) : Type 0 where
-  pub narrow : r .wide ≡ false
   pub next : BestIs s r (following a (map (only x) vs))
   pub stands : StoodAt s x at r vs (following a (map (only x) vs))
 
@@ -122,23 +125,25 @@ MemberNext s x at f r =
 
 -- ---- the next binding
 
--- A binding of a binder, or none: the first is asked for with none, each other with the one before it.
+-- A binding of a binder, or none: the first is asked for with none, each other with the one before it. No set is too large to split.
 pub record Present (table : List ℕ) (p : ℕ) (s : List ℕ) (at : ℕ) (whole : Bool) (f : Best) : Type 0 where
   pub values : List Value
   pub are : Values s at whole values
   pub binding : Option Binding
   pub is : BestIs s f binding
+  pub narrow : exists values (wide (patternAt (records table) p)) ≡ false
+  pub kin : Kin (patternAt (records table) p) binding
   pub stood : whole ≡ false → kindAt (records table) p ≡ 32 → StoodAt s (nameOf (recordAt (records table) p)) at f values binding
 
--- r is the binding that follows, and can be stepped from again.
+-- r is the binding that follows the present one.
+abbrev pub Follows : List ℕ → ℕ → List ℕ → ℕ → Bool → Best → Best → Type 0
+Follows table p s at whole present r =
+    (vs : List Value) (a : Option Binding) → Values s at whole vs → BestIs s present a → BestIs s r (following a (bindings (patternAt (records table) p) vs))
+
+-- It can be stepped from again.
 pub record NextOf (table : List ℕ) (p : ℕ) (s : List ℕ) (at : ℕ) (whole : Bool) (f r : Best) : Type 0 where
   pub follows : Follows table p s at whole f r
-  pub stays : r .wide ≡ false → Present table p s at whole r
-
--- No binding, and no set too large.
-pub record NoneYet (r : Best) : Type 0 where
-  pub nothing : r .any ≡ false
-  pub narrow : r .wide ≡ false
+  pub stays : Present table p s at whole r
 
 -- What an answer says of the bindings formed.
 abbrev pub TellsOf : Formed → Tally → Type 0

@@ -17,8 +17,9 @@ use Rattle.patterns.specs.Ordered.{Rising, sorted-rising}
 use Rattle.ways.specs.Read.{patternAt}
 use Rattle.ways.specs.Merging.{true-false}
 use Rattle.ways.specs.Following.{following, nth, following-first, following-next}
-use Rattle.bindings.specs.declared.Best.{Best}
-use Rattle.bindings.specs.Bound.{BestIs, Values, Bindable, FollowsIn, Present, NextOf, NoneYet}
+use Rattle.matching.specs.declared.Best.{Best}
+use Rattle.matching.specs.Found.{BestIs, NoneYet}
+use Rattle.bindings.specs.Bound.{Values, Present, NextOf}
 
 -- The binding that is present after n steps.
 abbrev pub prior : List Binding → ℕ → Option Binding
@@ -36,9 +37,9 @@ pub step-on : (bs : List Binding) (n : ℕ) → Rising bs → n ≤ length bs �
 step-on bs zero r h = following-first bs
 step-on bs (suc k) r h = ap (λ (a : Option Binding). following a bs) (nth-getD bs k (omega arith)) ∙ following-next bs k nothing r (omega arith)
 
--- No binding is present before the first step, over any values.
-pub present-none : (table : List ℕ) (p : ℕ) (s : List ℕ) (at : ℕ) (whole : Bool) (f : Best) (vs : List Value) → NoneYet f → Values s at whole vs → Present table p s at whole f
-present-none table p s at whole f vs h i = record { values = vs; are = i; binding = none; is = h .nothing; stood = λ a b. tt }
+-- No binding is present before the first step, over values in which no set is too large to split.
+pub present-none : (table : List ℕ) (p : ℕ) (s : List ℕ) (at : ℕ) (whole : Bool) (f : Best) (vs : List Value) → NoneYet f → Values s at whole vs → exists vs (wide (patternAt (records table) p)) ≡ false → Present table p s at whole f
+present-none table p s at whole f vs h i w = record { values = vs; are = i; binding = none; is = h .nothing; narrow = w; kin = tt; stood = λ a b. tt }
 
 -- There is none exactly past the last.
 pub nth-none : (bs : List Binding) (k : ℕ) → nth bs k ≡ none → length bs ≤ k
@@ -65,41 +66,33 @@ module _ (table : List ℕ) (p : ℕ) (s : List ℕ) (at : ℕ) (t : Bool) where
     pub present-is : Present table p s at t present
     pub here : (vs : List Value) → Values s at t vs → (n ≤ length (listed vs)) × BestIs s present (prior (listed vs) n)
 
-  pub stepped-none : (f : Best) → NoneYet f → Bindable s at t → Stepped 0 f
-  stepped-none f h k = record { present-is = present-none table p s at t f (k .0) h (k .1); here = λ vs i. (omega arith, h .nothing) }
+  pub stepped-none : (f : Best) (vs : List Value) → NoneYet f → Values s at t vs → exists vs (wide (patternAt (records table) p)) ≡ false → Stepped 0 f
+  stepped-none f vs h i w = record { present-is = present-none table p s at t f vs h i w; here = λ vs i. (omega arith, h .nothing) }
 
+  -- The next step comes to the n-th binding,
   module _ (n : ℕ) (present : Best) (g : Stepped n present) (r : Best) (nx : NextOf table p s at t present r) where
-    follows-now : (vs : List Value) (i : Values s at t vs) → FollowsIn (patternAt (records table) p) vs (prior (listed vs) n) s r
-    follows-now vs i = nx .follows vs (prior (listed vs) n) i (g .here vs i .1)
+    pub step-to : (vs : List Value) → Values s at t vs → BestIs s r (nth (listed vs) n)
+    step-to vs i =
+        subst (BestIs s r) (step-on (listed vs) n (sorted-rising (gather vs (matches (patternAt (records table) p)))) (g .here vs i .0))
+        (nx .follows vs (prior (listed vs) n) i (g .here vs i .1))
 
-    -- The next step tells of a set too large to split,
-    pub step-wide : (vs : List Value) → Values s at t vs → r .wide ≡ exists vs (wide (patternAt (records table) p))
-    step-wide vs i = follows-now vs i .wide-is
+    -- and to none past the last.
+    pub step-end : r .any ≡ false → (vs : List Value) → Values s at t vs → length (listed vs) ≡ n
+    step-end e vs i = go (nth (listed vs) n) refl (step-to vs i)
+      where
+        go : (m : Option Binding) → nth (listed vs) n ≡ m → BestIs s r m → length (listed vs) ≡ n
+        go none q h = omega (arith, nth-none (listed vs) n q, g .here vs i .0)
+        go (some b) q h = true-false (sym (h .0) ∙ e)
 
-    -- or comes to the n-th binding,
-    module _ (narrow : r .wide ≡ false) where
-      pub step-to : (vs : List Value) → Values s at t vs → BestIs s r (nth (listed vs) n)
-      step-to vs i =
-          subst (BestIs s r) (step-on (listed vs) n (sorted-rising (gather vs (matches (patternAt (records table) p)))) (g .here vs i .0))
-          (follows-now vs i .next (sym (step-wide vs i) ∙ narrow))
+    pub step-more : r .any ≡ true → (vs : List Value) → Values s at t vs → n < length (listed vs)
+    step-more e vs i = go (nth (listed vs) n) refl (step-to vs i)
+      where
+        go : (m : Option Binding) → nth (listed vs) n ≡ m → BestIs s r m → n < length (listed vs)
+        go none q h = true-false (sym e ∙ h)
+        go (some b) q h = nth-some (listed vs) n b q
 
-      -- and to none past the last.
-      pub step-end : r .any ≡ false → (vs : List Value) → Values s at t vs → length (listed vs) ≡ n
-      step-end e vs i = go (nth (listed vs) n) refl (step-to vs i)
-        where
-          go : (m : Option Binding) → nth (listed vs) n ≡ m → BestIs s r m → length (listed vs) ≡ n
-          go none q h = omega (arith, nth-none (listed vs) n q, g .here vs i .0)
-          go (some b) q h = true-false (sym (h .0) ∙ e)
-
-      pub step-more : r .any ≡ true → (vs : List Value) → Values s at t vs → n < length (listed vs)
-      step-more e vs i = go (nth (listed vs) n) refl (step-to vs i)
-        where
-          go : (m : Option Binding) → nth (listed vs) n ≡ m → BestIs s r m → n < length (listed vs)
-          go none q h = true-false (sym e ∙ h)
-          go (some b) q h = nth-some (listed vs) n b q
-
-      pub stepped-more : r .any ≡ true → Stepped (n + 1) r
-      stepped-more e = record {
-        present-is = nx .stays narrow;
-        here = λ vs i. (omega (arith, step-more e vs i), subst (λ (k : ℕ). BestIs s r (prior (listed vs) k)) (sym (add-one n)) (step-to vs i));
-      }
+    pub stepped-more : r .any ≡ true → Stepped (n + 1) r
+    stepped-more e = record {
+      present-is = nx .stays;
+      here = λ vs i. (omega (arith, step-more e vs i), subst (λ (k : ℕ). BestIs s r (prior (listed vs) k)) (sym (add-one n)) (step-to vs i));
+    }

@@ -1,20 +1,12 @@
 // The bindings of a pattern one after the other: the least binding above the present one, over all ways worth going and all members.
 use digits::Digits;
-use integers::Order;
 use matching::Best;
 use matching::Bounds;
 use matching::Found;
 use parts::Part;
-ghost use mathlib.Core.Path.{_≡_};
-ghost use mathlib.Core.Bool.{true, false};
-ghost use mathlib.Core.Option.{Option};
-ghost use Prim.Native.Nat.{_+_, _<_};
-ghost use Rattle.values.specs.Place.{Holds, HoldsItems};
-ghost use Rattle.patterns.specs.Binding.{Cell, Binding, orderCells, orderBindings};
-ghost use Rattle.parts.specs.Part.{CellIs};
-ghost use Rattle.ways.specs.Following.{isAbove};
-ghost use Rattle.ways.specs.Best.{isBelow};
-ghost use Rattle.matching.specs.Found.{Standing, CellHeld, Bound, BoundHeld, BestIs, BestHeld};
+ghost use Prim.Native.Nat.{_<_};
+ghost use Rattle.values.specs.Place.{HoldsItems};
+ghost use Rattle.matching.specs.Found.{Standing, BoundsHeld};
 ghost use Rattle.bindings.specs.Bound.{Considered, Searchable, Sought, SoughtAll, SoughtOf, SoughtOfAll, Bindable, MemberBound, MemberHeld, MemberNext, TellsWide, TellsWideIn, Present, NextOf, Tallied};
 
 // How many bindings there are, or refusal 29 or 30.
@@ -23,98 +15,16 @@ pub enum Tally {
     Refused(usize),
 }
 
-// The order of what two names are bound to.
-fn order_cells(s: &[u8], p: Part, q: Part) -> Order
-    requires { ⌜ CellHeld (now s) p × CellHeld (now s) q ⌝ }
-    ensures { λ r. ⌜ ((a b : Cell) → CellIs (now (s .entry)) p a → CellIs (now (s .entry)) q b → r ≡ orderCells a b) ⌝ }
+// What is found counts where it is a match and lies between the bounds.
+fn consider(s: &[u8], f: Found, bounds: Bounds) -> Best
+    requires { ⌜ Standing (now s) f × BoundsHeld (now s) bounds ⌝ }
+    ensures { λ r. ⌜ Considered (now (s .entry)) f bounds r ⌝ }
 {
-    if p.how == 0 {
-        if q.how == 0 {
-            return Order::Same;
-        }
-        return Order::Lower;
+    let better = matching::is_hopeful(s, f, bounds);
+    if better {
+        return Best { found: f, any: true };
     }
-    if q.how == 0 {
-        return Order::Higher;
-    }
-    parts::order_parts(s, p, q)
-}
-
-// The order of two bindings: by their values taken in rising name number.
-fn order_found(s: &[u8], f: Found, g: Found) -> Order
-    requires { ⌜ BoundHeld (now s) f × BoundHeld (now s) g ⌝ }
-    ensures { λ r. ⌜ ((a b : Binding) → Bound (now (s .entry)) f a → Bound (now (s .entry)) g b → r ≡ orderBindings a b) ⌝ }
-{
-    let mut x = 0;
-    while x < Found::NAMES {
-        let p = f.parts[x];
-        let q = g.parts[x];
-        let o = order_cells(s, p, q);
-        match o {
-            Order::Lower => return Order::Lower,
-            Order::Higher => return Order::Higher,
-            Order::Same => {
-                x += 1;
-            }
-        }
-    }
-    Order::Same
-}
-
-// What is found is above the present binding.
-fn is_above(s: &[u8], present: Best, f: Found) -> bool
-    requires { ⌜ BestHeld (now s) present × BoundHeld (now s) f ⌝ }
-    ensures { λ r. ⌜ ((a : Option Binding) (b : Binding) → BestIs (now (s .entry)) present a → Bound (now (s .entry)) f b → r ≡ isAbove a b) ⌝ }
-{
-    if !present.any {
-        return true;
-    }
-    let g = present.found;
-    let o = order_found(s, g, f);
-    match o {
-        Order::Lower => true,
-        Order::Higher => false,
-        Order::Same => false,
-    }
-}
-
-// What is found is below the least so far.
-fn is_below(s: &[u8], f: Found, best: Best) -> bool
-    requires { ⌜ BestHeld (now s) best × BoundHeld (now s) f ⌝ }
-    ensures { λ r. ⌜ ((a : Option Binding) (b : Binding) → BestIs (now (s .entry)) best a → Bound (now (s .entry)) f b → r ≡ isBelow b a) ⌝ }
-{
-    if !best.any {
-        return true;
-    }
-    let g = best.found;
-    let o = order_found(s, f, g);
-    match o {
-        Order::Lower => true,
-        Order::Higher => false,
-        Order::Same => false,
-    }
-}
-
-// What is found counts where it is above the present binding and below the least so far.
-fn consider(s: &[u8], f: Found, present: Best, best: Best) -> Best
-    requires { ⌜ Standing (now s) f × BestHeld (now s) present × BestHeld (now s) best ⌝ }
-    ensures { λ r. ⌜ Considered (now (s .entry)) f present best r ⌝ }
-{
-    if !f.fits {
-        return best;
-    }
-    let above = is_above(s, present, f);
-    if !above {
-        return best;
-    }
-    let below = is_below(s, f, best);
-    if !below {
-        return best;
-    }
-    Best {
-        found: f,
-        any: true,
-    }
+    bounds.best
 }
 
 // Over all ways of the value at a place that are worth going.
@@ -134,6 +44,7 @@ fn best_in(
     let mut digits = Digits::first();
     let mut best = best;
     loop {
+        let bounds = Bounds { present, best };
         let start = Found::nothing();
         let m = matching::match_along(
             table,
@@ -145,12 +56,12 @@ fn best_in(
                 at,
                 extent: 0,
             },
-            Bounds { present, best },
+            bounds,
             start,
             digits,
         );
         let f = m.found;
-        best = consider(s, f, present, best);
+        best = consider(s, f, bounds);
         let rest = m.digits;
         let a = rest.advance();
         if !a.more {
