@@ -13,3 +13,4 @@ pub mod Stepping
 pub mod Came
 pub mod Seeds
 pub mod Rank
+pub mod Ahead
