@@ -11,6 +11,5 @@ pub mod Runs
 pub mod States
 pub mod Stepping
 pub mod Came
-pub mod Seeds
 pub mod Rank
 pub mod Ahead

@@ -132,7 +132,7 @@ outcome-extend (choose p n ways) [] = outcome-extend (ways 0) []
 outcome-extend (choose p n ways) (c ∷ l) = outcome-extend (ways c) l
 
 -- What a path is raised to leads into the tree.
-raise-case : (n c : ℕ) (m : List ℕ) (b : Bool) → ltb (suc c) n ≡ b → pick b (some (suc c ∷ [])) none ≡ some m → (suc c < n) × (m ≡ suc c ∷ [])
+pub raise-case : (n c : ℕ) (m : List ℕ) (b : Bool) → ltb (suc c) n ≡ b → pick b (some (suc c ∷ [])) none ≡ some m → (suc c < n) × (m ≡ suc c ∷ [])
 raise-case n c m true e h = (ltb-true (suc c) n e, cc)
 raise-case n c m false e h = let z : _≡_ {A = ℕ} 0 1 = cc in absurd (omega arith)
 
