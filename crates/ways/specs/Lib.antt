@@ -4,6 +4,7 @@ pub mod Leaves
 pub mod Trimmed
 pub mod Tame
 pub mod Following
+pub mod Kin
 pub mod Best
 pub mod Read
 pub mod Orders
