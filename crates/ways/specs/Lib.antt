@@ -6,6 +6,7 @@ pub mod Tame
 pub mod Following
 pub mod Kin
 pub mod Best
+pub mod Hope
 pub mod Read
 pub mod Orders
 pub mod Nodes
