@@ -1,10 +1,10 @@
 -- What is found on the way to a binding between the present one and the least so far is hopeful.
 use mathlib.Core.Path.{_≡_, refl, sym, ap, subst, _∙_}
-use mathlib.Core.Bool.{Bool, true, false, _&&_}
-use mathlib.Core.Logic.{_⊎_, inl, inr, ⊎-elim}
+use mathlib.Core.Bool.{Bool, true, false}
+use mathlib.Core.Logic.{_⊎_, inl, inr}
 use mathlib.Core.Option.{Option, none, some}
-use mathlib.Core.List.{List, [], _∷_}
-use Prim.Native.Nat.{ℕ, zero, suc, _<_}
+use mathlib.Core.List.{[], _∷_}
+use Prim.Native.Nat.{ℕ, suc, _<_}
 use native.Mathlib.Omega.{arith}
 use lib.ListN.{length}
 use Rattle.integers.specs.declared.Order.{Order}
@@ -18,6 +18,7 @@ use Rattle.patterns.specs.Pattern.{Pattern, matches}
 use Rattle.patterns.specs.Matched.{matched, match-sized}
 use Rattle.patterns.specs.Named.{named, Told, told}
 use Rattle.patterns.specs.Ordered.{bindings-flip}
+use Rattle.ways.specs.Merging.{both-true}
 use Rattle.ways.specs.Trimmed.{settling, settled, mayRise, mayFall, aboveOf, belowOf, hopeful}
 use Rattle.ways.specs.Following.{isAbove, lower-true}
 use Rattle.ways.specs.Best.{isBelow}
@@ -113,10 +114,6 @@ may-rise s o (inr e) h = ap mayRise (e ∙ ap some h)
 may-fall : (s : Option Order) (o : Order) → Foreseen s o → o ≡ Lower → mayFall s ≡ true
 may-fall s o (inl e) h = ap mayFall e
 may-fall s o (inr e) h = ap mayFall (e ∙ ap some h)
-
-both-true : (s t : Bool) → s ≡ true → t ≡ true → (s && t) ≡ true
-both-true true t e f = f
-both-true false t e f = e
 
 module _ (p : Pattern) (v : Value) (f c : Binding) (n : length f ≡ names) (k : length c ≡ names) (i : In (merge f c) (matches p v)) where
   rises : (a : Option Binding) → Kin p a → isAbove a (merge f c) ≡ true → aboveOf a f ≡ true

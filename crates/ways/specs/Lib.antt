@@ -7,6 +7,7 @@ pub mod Following
 pub mod Kin
 pub mod Best
 pub mod Hope
+pub mod Cuts
 pub mod Read
 pub mod Orders
 pub mod Nodes
