@@ -29,11 +29,14 @@ Covers W r t = (s : State) → Gives t (value s) → Good s → W (s .found) →
 
 -- ---- good and bad states
 
-good-is : (st : State) → isGood st ≡ true → Good st
+pub good-is : (st : State) → isGood st ≡ true → Good st
 good-is st e = true-both (st .fits) (consistent (st .found)) e
 
+pub is-good : (st : State) → Good st → isGood st ≡ true
+is-good st g = both-true (st .fits) (consistent (st .found)) (g .0) (g .1)
+
 bad-is : (st : State) → isGood st ≡ false → Good st → ⊥
-bad-is st e g = true-false (sym (both-true (st .fits) (consistent (st .found)) (g .0) (g .1)) ∙ e)
+bad-is st e g = true-false (sym (is-good st g) ∙ e)
 
 is-bad : (st : State) → (Good st → ⊥) → isGood st ≡ false
 is-bad st b = go (isGood st) refl
@@ -140,7 +143,7 @@ module _ (h : Binding → Bool) (W : Binding → Type 0) (keeps : Keeps h W) whe
   cut-worth st u t n w c = go (isGood st && h (st .found)) refl
     where
       none-kept : (isGood st && h (st .found)) ≡ false → Good st → Lost W st
-      none-kept e g d k x = true-false (sym (both-true (isGood st) (h (st .found)) (both-true (st .fits) (consistent (st .found)) (g .0) (g .1)) (keeps (st .found) d n k x)) ∙ e)
+      none-kept e g d k x = true-false (sym (both-true (isGood st) (h (st .found)) (is-good st g) (keeps (st .found) d n k x)) ∙ e)
 
       go : (b : Bool) → (isGood st && h (st .found)) ≡ b → Cut (pick b u (give (failed st))) t
       go true e = c

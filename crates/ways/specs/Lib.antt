@@ -8,6 +8,7 @@ pub mod Kin
 pub mod Best
 pub mod Hope
 pub mod Cuts
+pub mod Seeking
 pub mod Read
 pub mod Orders
 pub mod Nodes
