@@ -46,7 +46,7 @@ abbrev pub Sized : State → Type 0
 Sized st = length (st .found) ≡ names
 
 -- What is found at a good leaf is what was found before, together with one of the bindings.
-abbrev Sound : List Binding → State → Tree State → Type 0
+abbrev pub Sound : List Binding → State → Tree State → Type 0
 Sound l st t = Sized st → (r : State) → Gives t (value r) → Sized r × (Good r → Good st × ((b : Binding) × In b l × (r .found ≡ merge (st .found) b)))
 
 fail-sound : (l : List Binding) (st : State) → Sound l st (give (failed st))
@@ -98,7 +98,7 @@ wide-sound false l st u h = h
 mutual
   unfolding matches tries
 
-  sound : (p : Pattern) (v : Value) (st : State) → Sound (matches p v) st (tries p v st)
+  pub sound : (p : Pattern) (v : Value) (st : State) → Sound (matches p v) st (tries p v st)
   sound (name x) v st = name-sound x v st
   sound any v st = any-sound st
   sound (literal w) v st = literal-sound (same w v) st
@@ -111,7 +111,7 @@ mutual
       (λ h. seq-sound (matches p (leftOf k h)) (matches q (rightOf k h)) st (tries p (leftOf k h) st) (λ r. tries q (rightOf k h) r)
       (sound p (leftOf k h) st) (λ r. sound q (rightOf k h) r)))
 
-  sound-each : (ps : Patterns) (vs : List Value) (st : State) → Sound (matchEach ps vs) st (tryEach ps vs st)
+  pub sound-each : (ps : Patterns) (vs : List Value) (st : State) → Sound (matchEach ps vs) st (tryEach ps vs st)
   sound-each nil vs st = any-sound st
   sound-each (cons p ps) [] st = fail-sound [] st
   sound-each (cons p ps) (v ∷ vs) st =

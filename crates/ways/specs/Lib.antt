@@ -4,7 +4,11 @@ pub mod Leaves
 pub mod Trimmed
 pub mod Tame
 pub mod Following
+pub mod Kin
 pub mod Best
+pub mod Hope
+pub mod Cuts
+pub mod Seeking
 pub mod Read
 pub mod Orders
 pub mod Nodes

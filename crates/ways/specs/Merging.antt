@@ -1,6 +1,6 @@
 -- Bindings put together: an order of putting together does not matter, and what is consistent together is so apart.
 use mathlib.Core.Path.{_≡_, refl, sym, ap, ap₂, _∙_}
-use mathlib.Core.Bool.{Bool, true, false}
+use mathlib.Core.Bool.{Bool, true, false, _&&_}
 use mathlib.Core.List.{[], _∷_}
 use Prim.Native.Nat.{ℕ, zero, suc}
 use native.Mathlib.Omega.{arith}
@@ -12,6 +12,14 @@ use Rattle.patterns.specs.Binding.{Cell, free, is, clash, Binding, names, nothi
 
 pub true-false : {A : Type 0} → true ≡ false → A
 true-false e = let z : _≡_ {A = ℕ} 0 1 = cc in absurd (omega arith)
+
+pub both-true : (s t : Bool) → s ≡ true → t ≡ true → (s && t) ≡ true
+both-true true t e f = f
+both-true false t e f = e
+
+pub true-both : (s t : Bool) → (s && t) ≡ true → (s ≡ true) × (t ≡ true)
+true-both true t e = (refl, e)
+true-both false t e = true-false (sym e)
 
 agree-free : (c : Cell) → agree c free ≡ c
 agree-free free = refl
