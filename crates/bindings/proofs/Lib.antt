@@ -1,4 +1,5 @@
 -- What the proofs of the functions cite.
-pub mod Looping
 pub mod Members
+pub mod Looping
+pub mod Large
 pub mod Telling

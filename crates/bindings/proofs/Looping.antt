@@ -1,17 +1,16 @@
 -- The loops over the ways of a value that are worth going, and over all members.
 use mathlib.Core.Path.{_≡_, refl, sym, ap, subst, _∙_}
-use mathlib.Core.Bool.{Bool, true, false, _&&_}
+use mathlib.Core.Bool.{Bool, true, false, _||_}
 use mathlib.Core.Logic.{inl}
-use mathlib.Core.Option.{Option, some}
+use mathlib.Core.Option.{Option}
 use mathlib.Core.List.{List, [], _∷_}
 use Prim.Native.Nat.{ℕ, zero, suc, _+_, _^_, _≤_, _<_}
 use native.Mathlib.Omega.{arith}
 use lib.ListN.{length, getD, take, drop, length-take}
-use Rattle.values.specs.Value.{Value, more}
+use Rattle.values.specs.Value.{Value}
 use Rattle.integers.specs.Bytes.{word}
-use Rattle.values.specs.Items.{pick}
 use Rattle.values.specs.Place.{At, ItemsAt, Holds}
-use Rattle.values.specs.Records.{holds, run, items-none}
+use Rattle.values.specs.Records.{holds}
 use Rattle.tables.specs.Accepted.{records}
 use Rattle.choices.specs.Tree.{Tree, Outcome, value}
 use Rattle.choices.specs.Paths.{outcomeAt, counts, extend, raise}
@@ -30,14 +29,14 @@ use Rattle.ways.specs.Tame.{trimmed-tame, trimmed-full, trimmed-within, tame-va
 use Rattle.ways.specs.Read.{patternAt}
 use Rattle.ways.specs.Leaves.{or-left, or-right}
 use Rattle.ways.specs.Kin.{Kin}
-use Rattle.ways.specs.Best.{better, leastOver, from-kin, kin-over, over-all}
-use Rattle.ways.specs.Hope.{hopeful-whole}
-use Rattle.ways.specs.Seeking.{Seeking, seeking-into, seeking-found, seeking-start, seeking-more, seeking-done}
+use Rattle.ways.specs.Best.{better, leastOver, kin-over, over-all}
+use Rattle.ways.specs.Seeking.{Seeking, seeking-start, seeking-into, seeking-now, seeking-more, seeking-done}
 use Rattle.matching.specs.declared.Found.{Found}
 use Rattle.matching.specs.declared.Best.{Best}
 use Rattle.matching.specs.declared.Matched.{Matched}
 use Rattle.matching.specs.Found.{Stands, Standing, BestIs, BestHeld, Bounded}
 use Rattle.matching.specs.Along.{Came, Along}
+use Rattle.bindings.proofs.Members.{First, first-of, none-left}
 use Rattle.bindings.specs.Bound.{Considered, Searchable, Bounding, Sought, SoughtOf, SoughtAll, SoughtOfAll}
 
 -- ---- bytes
@@ -88,9 +87,6 @@ module _ (p : Pattern) (few : places p ≤ most) (v : Value) (narrow : wide p v 
     u : Tree State
     u = trimmed (hopeful a (g .n)) p v start
 
-    pub kin-now : Kin p (g .n)
-    kin-now = from-kin p v a m (g .n) (g .seeking .from) (b .best-kin)
-
     module _ (r : Matched) (c : Came s r (walk u (view d))) where
       pub record Ended : Type 0 where
         pub st : State
@@ -109,12 +105,8 @@ module _ (p : Pattern) (few : places p ≤ most) (v : Value) (narrow : wide p v 
       module _ (best′ : Best) (co : Considered s (r .found) (record { present = present; best = best }) best′) where
         pub better-now : BestIs s best′ (better (isGood (ended .st)) (ended .st .found) a (g .n))
         better-now =
-            subst (BestIs s best′) (counts-as (isGood (ended .st)) refl)
+            subst (BestIs s best′) (seeking-now p v a m (g .n) l (b .present-kin) (b .best-kin) (g .seeking) (ended .st) (ended .at))
             (co (ended .st) a (g .n) (ended .stands) (record { present-is = b .present-is; best-is = g .best-is }))
-          where
-            counts-as : (t : Bool) → isGood (ended .st) ≡ t → pick (t && hopeful a (g .n) (ended .st .found)) (some (ended .st .found)) (g .n) ≡ better t (ended .st .found) a (g .n)
-            counts-as true e = ap (λ (x : Bool). pick x (some (ended .st .found)) (g .n)) (hopeful-whole p v a (g .n) (b .present-kin) kin-now (ended .st .found) (seeking-found p v a m (g .n) l (ended .st) (ended .at) e))
-            counts-as false e = refl
 
         module _ (ad : Advanced) (mo : Advances (r .digits) ad) where
           raised : raise (extend u l) (counts u (extend u l)) ≡ maybe (ad .more) (view (ad .digits) .left)
@@ -136,8 +128,7 @@ module _ (p : Pattern) (few : places p ≤ most) (v : Value) (narrow : wide p v 
           unfolding top
           falls sr q =
               let past : view (r .digits) .past ≡ extend u l = ap (λ (x : View). x .past) (ended .seen) in
-              let short : length (extend u l) ≤ most = subst (λ (x : List ℕ). length x ≤ most) past (past-short (r .digits) sr) in
-              (
+              let short : length (extend u l) ≤ most = subst (λ (x : List ℕ). length x ≤ most) past (past-short (r .digits) sr) in (
                 step-rank u most l (view (ad .digits) .left) (left-bytes d (g .sound)) short (raised ∙ ap (λ (t : Bool). maybe t (view (ad .digits) .left)) q),
                 rank-below most (view (ad .digits) .left) (left-bytes (ad .digits) (mo .sound)),
               )
@@ -202,39 +193,17 @@ Seen table p s from to present best₀ at best =
     (vs : List Value) (a m : Option Binding) → ItemsAt s from to (itemsOf vs) → exists vs (wide (patternAt (records table) p)) ≡ false → Bounding (patternAt (records table) p) s present best₀ a m
     → Left (patternAt (records table) p) s at to a best (leastOver a (gather vs (matches (patternAt (records table) p))) m)
 
--- a member, and those after it
-pub record First (p : Pattern) (s : List ℕ) (at to : ℕ) (vs : List Value) : Type 0 where
-  pub v : Value
-  pub ws : List Value
-  pub is : vs ≡ v ∷ ws
-  pub first-at : At s at v
-  pub rest-at : ItemsAt s (at + word s at) to (itemsOf ws)
-  pub inside : at + word s at ≤ to
-  pub first-narrow : wide p v ≡ false
-  pub rest-narrow : exists ws (wide p) ≡ false
+-- no set of the first one is too large to split, and none of the others
+module _ (p : Pattern) (vs ws : List Value) (v : Value) (e : vs ≡ v ∷ ws) (n : exists vs (wide p) ≡ false) where
+  both : (wide p v || exists ws (wide p)) ≡ false
+  unfolding exists
+  both = sym (ap (λ (us : List Value). exists us (wide p)) e) ∙ n
 
-pub first-of : (p : Pattern) (s : List ℕ) (at to : ℕ) (vs : List Value) → at < to → ItemsAt s at to (itemsOf vs) → exists vs (wide p) ≡ false → First p s at to vs
-unfolding itemsOf exists
-first-of p s at to [] l i e = let w = run l i in let z : _≡_ {A = ℕ} 0 1 = cc (w .is) in absurd (omega arith)
-first-of p s at to (v ∷ ws) l i e =
-    let w = run l i in
-    let f : v ≡ w .first = cc (w .is) in
-    let g : itemsOf ws ≡ w .rest = cc (w .is) in
-    record {
-      v = v;
-      ws = ws;
-      is = refl;
-      first-at = subst (At s at) (sym f) (w .first-at);
-      rest-at = subst (ItemsAt s (at + word s at) to) (sym g) (w .rest-at);
-      inside = w .inside;
-      first-narrow = or-left (wide p v) (exists ws (wide p)) e;
-      rest-narrow = or-right (wide p v) (exists ws (wide p)) e;
-    }
+  first-narrow : wide p v ≡ false
+  first-narrow = or-left (wide p v) (exists ws (wide p)) both
 
-none-left : (s : List ℕ) (at to : ℕ) (vs : List Value) → to ≤ at → ItemsAt s at to (itemsOf vs) → vs ≡ []
-unfolding itemsOf
-none-left s at to [] l i = refl
-none-left s at to (v ∷ vs) l i = let e = items-none l i in let c : _≡_ {A = ℕ} 0 1 = cc in absurd (omega arith)
+  rest-narrow : exists ws (wide p) ≡ false
+  rest-narrow = or-right (wide p v) (exists ws (wide p)) both
 
 module _ (table : List ℕ) (p : ℕ) (s : List ℕ) (from to : ℕ) (present best₀ : Best) where
   pub seen-start : Seen table p s from to present best₀ from best₀
@@ -244,17 +213,17 @@ module _ (table : List ℕ) (p : ℕ) (s : List ℕ) (from to : ℕ) (present be
     rest : Left (patternAt (records table) p) s at to (q .a) best (leastOver (q .a) (gather (q .values) (matches (patternAt (records table) p))) (q .m))
     rest = z (q .values) (q .a) (q .m) (q .here) (q .narrow) (q .bounding)
 
-    next : at < to → First (patternAt (records table) p) s at to (rest .members)
-    next l = first-of (patternAt (records table) p) s at to (rest .members) l (rest .here) (rest .narrow)
+    next : at < to → First s at to (rest .members)
+    next l = first-of s at to (rest .members) l (rest .here)
 
     pub seen-holds : at < to → Holds s at
     seen-holds l = holds (next l .first-at)
 
     pub seen-sought : at < to → Sought table p s at present best
     seen-sought l = record {
-      value = next l .v;
+      value = next l .first;
       here = next l .first-at;
-      narrow = next l .first-narrow;
+      narrow = first-narrow (patternAt (records table) p) (rest .members) (next l .others) (next l .first) (next l .is) (rest .narrow);
       a = q .a;
       m = rest .n;
       bounding = record { present-is = q .bounding .present-is; best-is = rest .best-is; present-kin = q .bounding .present-kin; best-kin = rest .best-kin };
@@ -267,16 +236,16 @@ module _ (table : List ℕ) (p : ℕ) (s : List ℕ) (from to : ℕ) (present be
     pub seen-more : (n : ℕ) (best′ : Best) → at < to → n ≡ word s at → SoughtOf table p s at present best best′ → Seen table p s from to present best₀ (at + n) best′
     seen-more n best′ l e h vs a m i w b =
         let y = z vs a m i w b in
-        let f = first-of (patternAt (records table) p) s at to (y .members) l (y .here) (y .narrow) in
+        let f = first-of s at to (y .members) l (y .here) in
         let g = record { present-is = b .present-is; best-is = y .best-is; present-kin = b .present-kin; best-kin = y .best-kin } in
         record {
-          members = f .ws;
-          here = subst (λ (k : ℕ). ItemsAt s (at + k) to (itemsOf (f .ws))) (sym e) (f .rest-at);
-          narrow = f .rest-narrow;
-          n = leastOver a (matches (patternAt (records table) p) (f .v)) (y .n);
-          best-is = h (f .v) a (y .n) (f .first-at) (f .first-narrow) g;
-          best-kin = kin-over (patternAt (records table) p) (f .v) a (y .n) (y .best-kin);
-          same = sym (over-all (patternAt (records table) p) (f .v) (f .ws) a (y .n)) ∙ ap (λ (us : List Value). leastOver a (gather us (matches (patternAt (records table) p))) (y .n)) (sym (f .is)) ∙ y .same;
+          members = f .others;
+          here = subst (λ (k : ℕ). ItemsAt s (at + k) to (itemsOf (f .others))) (sym e) (f .others-at);
+          narrow = rest-narrow (patternAt (records table) p) (y .members) (f .others) (f .first) (f .is) (y .narrow);
+          n = leastOver a (matches (patternAt (records table) p) (f .first)) (y .n);
+          best-is = h (f .first) a (y .n) (f .first-at) (first-narrow (patternAt (records table) p) (y .members) (f .others) (f .first) (f .is) (y .narrow)) g;
+          best-kin = kin-over (patternAt (records table) p) (f .first) a (y .n) (y .best-kin);
+          same = sym (over-all (patternAt (records table) p) (f .first) (f .others) a (y .n)) ∙ ap (λ (us : List Value). leastOver a (gather us (matches (patternAt (records table) p))) (y .n)) (sym (f .is)) ∙ y .same;
         }
 
     pub seen-end : to ≤ at → SoughtOfAll table p s from to present best₀ best

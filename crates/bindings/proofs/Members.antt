@@ -38,7 +38,6 @@ pub no-member : (s : List ℕ) (x at to : ℕ) (r : Best) → NoneYet r → to �
 no-member s x at to r h l = record { ends = λ k. h .nothing; one = λ k. absurd (omega (arith, k)); place = λ k. absurd (omega (arith, k)) }
 
 module _ (s : List ℕ) (x at to : ℕ) (lt : x < names) (f : Found) (h : (s : List ℕ) → Stands s f start) where
-
   was-fit : f .fits ≡ true
   unfolding consistent
   was-fit = h s .fit
@@ -114,6 +113,36 @@ before q to us v rest e i = go (decLt q to)
 
 after-none : {s : List ℕ} (q to : ℕ) (us : Items) → us ≡ no-items → ItemsAt s q to us → to ≤ q
 after-none q to us e i = omega (arith, i .ends, ap sizes e, none-sizes)
+
+-- A member, and those after it.
+pub record First (s : List ℕ) (at to : ℕ) (vs : List Value) : Type 0 where
+  pub first : Value
+  pub others : List Value
+  pub is : vs ≡ first ∷ others
+  pub first-at : At s at first
+  pub others-at : ItemsAt s (at + word s at) to (itemsOf others)
+  pub inside : at + word s at ≤ to
+
+pub first-of : (s : List ℕ) (at to : ℕ) (vs : List Value) → at < to → ItemsAt s at to (itemsOf vs) → First s at to vs
+unfolding itemsOf
+first-of s at to [] l i = let w = run l i in let z : _≡_ {A = ℕ} 0 1 = cc (w .is) in absurd (omega arith)
+first-of s at to (v ∷ vs) l i =
+    let w = run l i in
+    let f : v ≡ w .first = cc (w .is) in
+    let g : itemsOf vs ≡ w .rest = cc (w .is) in
+    record {
+      first = v;
+      others = vs;
+      is = refl;
+      first-at = subst (At s at) (sym f) (w .first-at);
+      others-at = subst (ItemsAt s (at + word s at) to) (sym g) (w .rest-at);
+      inside = w .inside;
+    }
+
+pub none-left : (s : List ℕ) (at to : ℕ) (vs : List Value) → to ≤ at → ItemsAt s at to (itemsOf vs) → vs ≡ []
+unfolding itemsOf
+none-left s at to [] l i = refl
+none-left s at to (v ∷ vs) l i = let e = items-none l i in let c : _≡_ {A = ℕ} 0 1 = cc in absurd (omega arith)
 
 -- ---- the next member
 

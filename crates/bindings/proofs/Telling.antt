@@ -186,13 +186,6 @@ module _ (table index : List ℕ) (p : ℕ) (c : Searchable table index p) (k : 
             ∙ plain-are (nameOf (recordAt (records table) p)) (h .values) (omega (arith, small)) as-set
             ∙ ap (λ (n : ℕ). map (only n) (h .values)) (sym e)
 
--- ---- number 29
-
--- The members before a place have no set too large to split.
-pub record Passing (table : List ℕ) (p : ℕ) (s : List ℕ) (from to at : ℕ) : Type 0 where
-  pub rest : (vs : List Value) → ItemsAt s from to (itemsOf vs)
-      → (ws : List Value) × ItemsAt s at to (itemsOf ws) × (exists ws (wide (patternAt (records table) p)) ≡ exists vs (wide (patternAt (records table) p)))
-
 -- ---- how many
 
 module _ (table : List ℕ) (p : ℕ) (s : List ℕ) (at : ℕ) (t : Bool) where

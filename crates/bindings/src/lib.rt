@@ -22,7 +22,10 @@ fn consider(s: &[u8], f: Found, bounds: Bounds) -> Best
 {
     let better = matching::is_hopeful(s, f, bounds);
     if better {
-        return Best { found: f, any: true };
+        return Best {
+            found: f,
+            any: true,
+        };
     }
     bounds.best
 }

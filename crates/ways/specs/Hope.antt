@@ -1,6 +1,6 @@
 -- What is found on the way to a binding between the present one and the least so far is hopeful.
-use mathlib.Core.Path.{_≡_, refl, sym, ap, subst, _∙_}
-use mathlib.Core.Bool.{Bool, true, false}
+use mathlib.Core.Path.{_≡_, refl, sym, ap, ap₂, subst, _∙_}
+use mathlib.Core.Bool.{Bool, true, false, _&&_}
 use mathlib.Core.Logic.{_⊎_, inl, inr}
 use mathlib.Core.Option.{Option, none, some}
 use mathlib.Core.List.{[], _∷_}
@@ -20,7 +20,7 @@ use Rattle.patterns.specs.Named.{named, Told, told}
 use Rattle.patterns.specs.Ordered.{bindings-flip}
 use Rattle.ways.specs.Merging.{both-true}
 use Rattle.ways.specs.Trimmed.{settling, settled, mayRise, mayFall, aboveOf, belowOf, hopeful}
-use Rattle.ways.specs.Following.{isAbove, lower-true}
+use Rattle.ways.specs.Following.{isAbove, isLower, lower-true}
 use Rattle.ways.specs.Best.{isBelow}
 use Rattle.ways.specs.Kin.{Kin}
 
@@ -130,3 +130,56 @@ module _ (p : Pattern) (v : Value) (f c : Binding) (n : length f ≡ names) (k :
 pub hopeful-part : (p : Pattern) (v : Value) (a m : Option Binding) → Kin p a → Kin p m → (f c : Binding) → length f ≡ names → length c ≡ names
     → In (merge f c) (matches p v) → isAbove a (merge f c) ≡ true → isBelow (merge f c) m ≡ true → hopeful a m f ≡ true
 hopeful-part p v a m x y f c n k i l h = both-true (aboveOf a f) (belowOf m f) (rises p v f c n k i a x l) (falls p v f c n k i m y h)
+
+-- ---- a whole binding
+
+settled-whole : (t : ℕ → Bool) (b a : Binding) → length a ≡ length b → ((y : ℕ) → y < length b → Told (t y) (cellOf b y)) → ((y : ℕ) → y < length b → Told (t y) (cellOf a y)) → settled b a ≡ some (orderBindings b a)
+unfolding settled orderBindings
+settled-whole t [] [] e h k = refl
+settled-whole t [] (y ∷ a) e h k = absurd (omega arith)
+settled-whole t (x ∷ b) [] e h k = absurd (omega arith)
+settled-whole t (x ∷ b) (y ∷ a) e h k =
+    go (t 0) (h 0 (omega arith)) (k 0 (omega arith)) (settled-whole (λ n. t (suc n)) b a (omega arith) (λ n l. h (suc n) (omega arith)) (λ n l. k (suc n) (omega arith)))
+  where
+    order-then : (o : Order) → settled b a ≡ some (orderBindings b a) → settling o (settled b a) ≡ some (after o (orderBindings b a))
+    order-then Lower i = refl
+    order-then Same i = i
+    order-then Higher i = refl
+
+    by-cells : (c d : Cell) → x ≡ c → y ≡ d → settled (c ∷ b) (d ∷ a) ≡ some (after (orderCells c d) (orderBindings b a)) → settled (x ∷ b) (y ∷ a) ≡ some (after (orderCells x y) (orderBindings b a))
+    by-cells c d p q i =
+        subst (λ (z : Cell). settled (z ∷ b) (y ∷ a) ≡ some (after (orderCells z y) (orderBindings b a))) (sym p)
+        (subst (λ (z : Cell). settled (c ∷ b) (z ∷ a) ≡ some (after (orderCells c z) (orderBindings b a))) (sym q) i)
+
+    go : (s : Bool) → Told s x → Told s y → settled b a ≡ some (orderBindings b a) → settled (x ∷ b) (y ∷ a) ≡ some (after (orderCells x y) (orderBindings b a))
+    go true (v, p) (w, q) i = by-cells (is v) (is w) p q (order-then (order v w) i)
+    go false p q i = by-cells free free p q i
+
+module _ (p : Pattern) (v : Value) (b : Binding) (i : In b (matches p v)) where
+  whole : (a : Binding) → Kin p (some a) → settled b a ≡ some (orderBindings b a)
+  whole a (w, j) =
+      let m = matched p v b i in
+      let n = matched p w a j in
+      settled-whole (named p) b a (match-sized p w a n ∙ sym (match-sized p v b m)) (λ y l. told p v b m y (omega (arith, match-sized p v b m))) (λ y l. told p w a n y (omega (arith, match-sized p v b m)))
+
+  above-whole : (a : Option Binding) → Kin p a → aboveOf a b ≡ isAbove a b
+  above-whole none k = refl
+  above-whole (some a) k = ap mayRise (whole a k) ∙ go (orderBindings b a) ∙ ap isLower (sym (bindings-flip b a))
+    where
+      go : (o : Order) → mayRise (some o) ≡ isLower (flip o)
+      go Lower = refl
+      go Same = refl
+      go Higher = refl
+
+  below-whole : (m : Option Binding) → Kin p m → belowOf m b ≡ isBelow b m
+  below-whole none k = refl
+  below-whole (some m) k = ap mayFall (whole m k) ∙ go (orderBindings b m)
+    where
+      go : (o : Order) → mayFall (some o) ≡ isLower o
+      go Lower = refl
+      go Same = refl
+      go Higher = refl
+
+-- THEOREM: a match is hopeful exactly where it lies between the present binding and the least so far
+pub hopeful-whole : (p : Pattern) (v : Value) (a m : Option Binding) → Kin p a → Kin p m → (b : Binding) → In b (matches p v) → hopeful a m b ≡ (isAbove a b && isBelow b m)
+hopeful-whole p v a m x y b i = ap₂ (λ (s t : Bool). s && t) (above-whole p v b i a x) (below-whole p v b i m y)

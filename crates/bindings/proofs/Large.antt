@@ -1,0 +1,99 @@
+-- The loop over the members for a set too large to split.
+use mathlib.Core.Path.{_≡_, refl, sym, ap, ap₂, subst, _∙_}
+use mathlib.Core.Bool.{Bool, true, false, _||_}
+use mathlib.Core.Logic.{inl}
+use mathlib.Core.List.{List, [], _∷_}
+use Prim.Native.Nat.{ℕ, _+_, _≤_, _<_}
+use native.Mathlib.Omega.{arith}
+use lib.ListN.{length}
+use Rattle.integers.specs.Bytes.{word}
+use Rattle.values.specs.Value.{Value}
+use Rattle.values.specs.Place.{At, ItemsAt, Holds, HoldsItems}
+use Rattle.values.specs.Records.{holds}
+use Rattle.tables.specs.Accepted.{records}
+use Rattle.parts.specs.Part.{PartIs}
+use Rattle.patterns.specs.Ways.{exists}
+use Rattle.patterns.specs.Pattern.{Pattern, itemsOf, listOf, wide}
+use Rattle.patterns.specs.Matched.{items-list}
+use Rattle.ways.specs.Read.{patternAt}
+use Rattle.ways.specs.Merging.{true-false}
+use Rattle.bindings.specs.Bound.{Values, TellsWideIn, TellsWide}
+use Rattle.bindings.proofs.Members.{First, first-of, none-left}
+
+-- What is told of the value at a place.
+abbrev pub TellsAt : List ℕ → ℕ → List ℕ → ℕ → Bool → Type 0
+TellsAt table p s at r = (v : Value) → PartIs s (record { how = 1; at = at; extent = 0 }) v → r ≡ wide (patternAt (records table) p) v
+
+-- The members before a place have no set too large: the others tell.
+abbrev pub Passing : List ℕ → ℕ → List ℕ → ℕ → ℕ → ℕ → Type 0
+Passing table p s from to at =
+    (vs : List Value) → ItemsAt s from to (itemsOf vs)
+    → (ws : List Value) × ItemsAt s at to (itemsOf ws) × (exists ws (wide (patternAt (records table) p)) ≡ exists vs (wide (patternAt (records table) p)))
+
+module _ (table : List ℕ) (p : ℕ) (s : List ℕ) (from to : ℕ) where
+  P : Pattern
+  P = patternAt (records table) p
+
+  pub passing-start : Passing table p s from to from
+  passing-start vs i = (vs, i, refl)
+
+  cons-exists : (ws us : List Value) (v : Value) → ws ≡ v ∷ us → exists ws (wide P) ≡ (wide P v || exists us (wide P))
+  unfolding exists
+  cons-exists ws us v e = ap (λ (xs : List Value). exists xs (wide P)) e
+
+  none-exists : exists [] (wide P) ≡ false
+  unfolding exists
+  none-exists = refl
+
+  module _ (at : ℕ) (z : Passing table p s from to at) where
+    members : HoldsItems s from to → (ws : List Value) × ItemsAt s at to (itemsOf ws)
+    members h = let w = z (listOf (h .0)) (subst (ItemsAt s from to) (sym (items-list (h .0))) (h .1)) in (w .0, w .1)
+
+    pub passing-holds : HoldsItems s from to → at < to → Holds s at
+    passing-holds h l = let w = members h in holds (first-of s at to (w .0) l (w .1) .first-at)
+
+    pub passing-inside : HoldsItems s from to → at < to → (at + word s at ≤ to) × (to ≤ length s)
+    passing-inside h l = let w = members h in (first-of s at to (w .0) l (w .1) .inside, w .1 .fits)
+
+    module _ (l : at < to) (r : Bool) (t : TellsAt table p s at r) where
+      told : (ws : List Value) (i : ItemsAt s at to (itemsOf ws)) → exists ws (wide P) ≡ (r || exists (first-of s at to ws l i .others) (wide P))
+      told ws i =
+          let f = first-of s at to ws l i in
+          cons-exists ws (f .others) (f .first) (f .is) ∙ ap (λ (b : Bool). b || exists (f .others) (wide P)) (sym (t (f .first) (inl (refl, f .first-at))))
+
+      pub one-large : r ≡ true → TellsWideIn table p s from to true
+      one-large e vs i =
+          let w = z vs i in
+          sym (sym (w .2) ∙ told (w .0) (w .1) ∙ ap (λ (b : Bool). b || exists (first-of s at to (w .0) l (w .1) .others) (wide P)) e)
+
+      pub passing-more : r ≡ false → (n : ℕ) → n ≡ word s at → Passing table p s from to (at + n)
+      passing-more e n q vs i =
+          let w = z vs i in
+          let f = first-of s at to (w .0) l (w .1) in (
+            f .others,
+            subst (λ (k : ℕ). ItemsAt s (at + k) to (itemsOf (f .others))) (sym q) (f .others-at),
+            sym (told (w .0) (w .1) ∙ ap (λ (b : Bool). b || exists (f .others) (wide P)) e) ∙ w .2,
+          )
+
+    pub none-large : to ≤ at → TellsWideIn table p s from to false
+    none-large l vs i =
+        let w = z vs i in
+        sym (sym (w .2) ∙ ap (λ (xs : List Value). exists xs (wide P)) (none-left s at to (w .0) l (w .1)) ∙ none-exists)
+
+-- ---- over the one value, or the members of the set
+
+module _ (table : List ℕ) (p : ℕ) (s : List ℕ) (at : ℕ) (t : Bool) (r : Bool) where
+  pub tells-one : t ≡ true → TellsAt table p s at r → TellsWide table p s at t r
+  unfolding exists
+  tells-one e h vs i = go t e i
+    where
+      go : (t : Bool) → t ≡ true → Values s at t vs → r ≡ exists vs (wide (patternAt (records table) p))
+      go true e (v, j, q) = h v (inl (refl, j)) ∙ sym (or-none (wide (patternAt (records table) p) v)) ∙ sym (ap (λ (xs : List Value). exists xs (wide (patternAt (records table) p))) q)
+        where
+          or-none : (b : Bool) → (b || false) ≡ b
+          or-none true = refl
+          or-none false = refl
+      go false e i = true-false (sym e)
+
+  pub tells-all : t ≡ false → ((vs : List Value) → Values s at t vs → (from to : ℕ) × ItemsAt s from to (itemsOf vs) × TellsWideIn table p s from to r) → TellsWide table p s at t r
+  tells-all e h vs i = let w = h vs i in w .3 vs (w .2)
