@@ -1,6 +1,6 @@
 -- Names bound to parts.
 use mathlib.Core.Path.{_≡_, refl, sym, ap, ap₂, subst, _∙_}
-use mathlib.Core.Bool.{Bool, true, false, _&&_, _||_}
+use mathlib.Core.Bool.{Bool, true, false, _&&_}
 use mathlib.Core.Logic.{_⊎_, inl, inr, ⊎-elim}
 use mathlib.Core.List.{List, [], _∷_}
 use Prim.Native.Nat.{ℕ, zero, suc, _<_}
@@ -17,11 +17,10 @@ use Rattle.parts.specs.Part.{PartIs, CellIs}
 use Rattle.parts.specs.Contract.{OrderedParts}
 use Rattle.patterns.specs.Binding.{Cell, free, is, clash, Binding, names, nothing, only, cellOf, agree, merge, consistent}
 use Rattle.patterns.specs.Matched.{merge-sized, only-sized}
-use Rattle.ways.specs.Tries.{State, start, naming}
+use Rattle.ways.specs.Tries.{State, start, naming, failed, isGood}
 use Rattle.ways.specs.Merging.{true-false, consistent-left}
-use Rattle.ways.specs.Best.{isGood}
 use Rattle.matching.specs.declared.Found.{Found}
-use Rattle.matching.specs.Found.{nowhere, Stands, missing}
+use Rattle.matching.specs.Found.{nowhere, Stands}
 
 -- ---- truths
 
@@ -117,7 +116,6 @@ module _ (s : List ℕ) (x : ℕ) (lt : x < names) (v : Value) (st : State) wher
   pub stays-failed : (f : Found) → f .fits ≡ false → Stands s f st → Stands s f (naming x v st)
   stays-failed f e h = record {
     fit = e ∙ sym (dead (isGood (naming x v st)) refl);
-    broad = h .broad;
     sized = h .sized;
     found-sized = both-sized (h .found-sized);
     cells = λ q. true-false (sym q ∙ e);
@@ -135,10 +133,9 @@ module _ (s : List ℕ) (x : ℕ) (lt : x < names) (v : Value) (st : State) wher
     st-fits = and-true (st .fits) (consistent (st .found)) (sym (h .fit) ∙ ok) .0
 
     -- a name that is free is bound
-    pub binds : (p : Part) (g : Found) → PartIs s p v → getD (f .parts) x nowhere .how ≡ 0 → g .fits ≡ true → g .wide ≡ f .wide → g .parts ≡ set (f .parts) x p → Stands s g (naming x v st)
-    binds p g hp e gf gw gp = record {
+    pub binds : (p : Part) (g : Found) → PartIs s p v → getD (f .parts) x nowhere .how ≡ 0 → g .fits ≡ true → g .parts ≡ set (f .parts) x p → Stands s g (naming x v st)
+    binds p g hp e gf gp = record {
       fit = gf ∙ sym (good (h .found-sized) (g .parts) st-fits cell);
-      broad = gw ∙ h .broad;
       sized = ap length gp ∙ length-set (f .parts) x p ∙ h .sized;
       found-sized = both-sized (h .found-sized);
       cells = λ q n l. cell n l;
@@ -175,7 +172,6 @@ module _ (s : List ℕ) (x : ℕ) (lt : x < names) (v : Value) (st : State) wher
       pub agrees : o ≡ Same → Stands s f (naming x v st)
       agrees q = record {
         fit = ok ∙ sym (good (h .found-sized) (f .parts) st-fits cell);
-        broad = h .broad;
         sized = h .sized;
         found-sized = both-sized (h .found-sized);
         cells = λ z n l. cell n l;
@@ -191,30 +187,27 @@ module _ (s : List ℕ) (x : ℕ) (lt : x < names) (v : Value) (st : State) wher
                   (inr (w .0, met ∙ ap (λ (b : Order). pick (isSame b) (is (w .0)) clash) q, w .2))
               go (no d) = subst (λ (k : Cell). CellIs s (getD (f .parts) n nowhere) k) (there (h .found-sized) n l d) (h .cells ok n l)
 
-      pub clashes : (o ≡ Same → ⊥) → (g : Found) → g .fits ≡ false → g .wide ≡ f .wide → g .parts ≡ f .parts → Stands s g (naming x v st)
-      clashes q g gf gw gp = record {
-        fit = gf ∙ sym (ap (λ (b : Bool). st .fits && b) (clash-at (merge (st .found) (only x v)) x (omega (arith, both-sized (h .found-sized))) (ap isFine met ∙ unlike o q (bound e .0))) ∙ and-false (st .fits));
-        broad = gw ∙ h .broad;
-        sized = ap length gp ∙ h .sized;
+      pub clashes : (o ≡ Same → ⊥) → (g : Found) → Stands s g (failed st) → Stands s g (naming x v st)
+      clashes q g k = record {
+        fit = k .fit ∙ sym (ap (λ (b : Bool). st .fits && b) (clash-at (merge (st .found) (only x v)) x (omega (arith, both-sized (h .found-sized))) (ap isFine met ∙ unlike o q (bound e .0))) ∙ and-false (st .fits));
+        sized = k .sized;
         found-sized = both-sized (h .found-sized);
-        cells = λ z. true-false (sym z ∙ gf);
+        cells = λ z. true-false (sym z ∙ k .fit);
       }
 
 -- ---- no match, and nothing found
 
-pub failed-now : (s : List ℕ) (f g : Found) (st : State) (w : Bool) → g .fits ≡ false → g .wide ≡ (w || f .wide) → g .parts ≡ f .parts → Stands s f st → Stands s g (missing w st)
-failed-now s f g st w e ew ep h = record {
+pub failed-now : (s : List ℕ) (f g : Found) (st : State) → g .fits ≡ false → g .parts ≡ f .parts → Stands s f st → Stands s g (failed st)
+failed-now s f g st e ep h = record {
   fit = e;
-  broad = ew ∙ ap (λ (b : Bool). w || b) (h .broad);
   sized = ap length ep ∙ h .sized;
   found-sized = h .found-sized;
   cells = λ z. true-false (sym z ∙ e);
 }
 
-pub nothing-stands : (s : List ℕ) → Stands s (record { parts = replicate names nowhere; fits = true; wide = false }) start
+pub nothing-stands : (s : List ℕ) → Stands s (record { parts = replicate names nowhere; fits = true }) start
 nothing-stands s = record {
   fit = nothing-good;
-  broad = refl;
   sized = refl;
   found-sized = refl;
   cells = λ e n l. inl (ap (λ (p : Part). p .how) (getD-replicate names n nowhere nowhere l), getD-replicate names n free free l);

@@ -25,9 +25,11 @@ use Rattle.digits.specs.declared.Digits.{Digits}
 use Rattle.digits.specs.declared.Taken.{Taken}
 use Rattle.digits.specs.Path.{View, view, Sound, taken, afterwards, Took}
 use Rattle.digits.specs.Walk.{Walked, reached, stopped, walk, onward, walk-bind}
+use Rattle.patterns.specs.Binding.{Binding}
 use Rattle.patterns.specs.Ways.{Halves, orders}
 use Rattle.patterns.specs.Pattern.{Pattern, literal, arrangements, contents, met, split}
-use Rattle.ways.specs.Tries.{State, failed, widened, naming, among, tries, tryEach}
+use Rattle.ways.specs.Tries.{State, failed, naming, among}
+use Rattle.ways.specs.Trimmed.{hopeful, worth, trimmed, trimEach}
 use Rattle.ways.specs.Merging.{true-false}
 use Rattle.ways.specs.Leaves.{at-in}
 use Rattle.ways.specs.Orders.{order-length}
@@ -35,10 +37,12 @@ use Rattle.ways.specs.Read.{patternsOf, patternOf, patternAt}
 use Rattle.ways.specs.Nodes.{collectionOf, isHalved, pair, meetings, isLarge, trying, is-name, is-any, is-boolean, is-integer, is-composed, pattern-at}
 use Rattle.matching.specs.declared.Found.{Found}
 use Rattle.matching.specs.declared.Matched.{Matched}
+use Rattle.matching.specs.declared.Bounds.{Bounds}
 use Rattle.matching.specs.declared.nodes.Meeting.{Meeting}
 use Rattle.matching.specs.declared.nodes.Meeting.the-variants.{Unfit, Large, Ways}
-use Rattle.matching.specs.Found.{Stands, Standing, missing}
+use Rattle.matching.specs.Found.{Stands, Standing, Bounded, BoundsHeld}
 use Rattle.matching.specs.Node.{Readable, LiteralHeld, LiteralIs, MeetsAs, Meets, PieceHeld, PieceOf}
+use Rattle.matching.proofs.Settling.{Hoped}
 use Rattle.matching.specs.Along.{OnLeaf, Came, Along, innerOf, metBy, WayHeld, AlongEach}
 
 -- ---- the shapes of patterns with parts
@@ -99,13 +103,13 @@ module _ (table index : List ℕ) (p : ℕ) (r : Readable table index p) where
   module _ (s : List ℕ) (part : Part) (f : Found) where
     pub leaf-name : (x : ℕ) (g : Found) → kindAt (records table) p ≡ 32 → x ≡ nameOf (recordAt (records table) p)
         → ((v : Value) (st : State) → PartIs s part v → Stands s f st → Stands s g (naming x v st)) → OnLeaf table p s part f g
-    unfolding tries
+    unfolding trimmed
     leaf-name x g e n h v st q z =
-        (naming x v st, ap (λ (w : Pattern). tries w v st) (by-record ∙ is-name (recordAt (records table) p) (innerOf table p) e) ∙ ap (λ (y : ℕ). give (naming y v st)) (sym n), h v st q z)
+        (naming x v st, λ hope. ap (λ (w : Pattern). trimmed hope w v st) (by-record ∙ is-name (recordAt (records table) p) (innerOf table p) e) ∙ ap (λ (y : ℕ). give (naming y v st)) (sym n), h v st q z)
 
     pub leaf-any : kindAt (records table) p ≡ 33 → OnLeaf table p s part f f
-    unfolding tries
-    leaf-any e v st q z = (st, ap (λ (w : Pattern). tries w v st) (by-record ∙ is-any (recordAt (records table) p) (innerOf table p) e), z)
+    unfolding trimmed
+    leaf-any e v st q z = (st, λ hope. ap (λ (w : Pattern). trimmed hope w v st) (by-record ∙ is-any (recordAt (records table) p) (innerOf table p) e), z)
 
     is-literal : LiteralHeld table index p → (w : Value) × (patternAt (records table) p ≡ literal w)
     is-literal h = go (eqb (kindAt (records table) p) 34) refl
@@ -115,18 +119,18 @@ module _ (table index : List ℕ) (p : ℕ) (r : Readable table index p) where
         go false e = (_, by-record ∙ is-integer (recordAt (records table) p) (innerOf table p) (omega (arith, h .low, h .high, eqb-false (kindAt (records table) p) 34 e)))
 
     pub leaf-same : LiteralHeld table index p → (t : Bool) → LiteralIs table p s part t → t ≡ true → OnLeaf table p s part f f
-    unfolding tries
+    unfolding trimmed
     leaf-same h t l e v st q z =
         let (w, is) = is-literal h in
         let y : _ = l v w q is in
-        (st, ap (λ (u : Pattern). tries u v st) is ∙ ap (λ (b : Bool). give (pick b st (failed st))) (sym y ∙ e), z)
+        (st, λ hope. ap (λ (u : Pattern). trimmed hope u v st) is ∙ ap (λ (b : Bool). give (pick b st (failed st))) (sym y ∙ e), z)
 
-    pub leaf-other : LiteralHeld table index p → (t : Bool) → LiteralIs table p s part t → t ≡ false → (g : Found) → ((s : List ℕ) (st : State) → Stands s f st → Stands s g (missing false st)) → OnLeaf table p s part f g
-    unfolding tries
+    pub leaf-other : LiteralHeld table index p → (t : Bool) → LiteralIs table p s part t → t ≡ false → (g : Found) → ((s : List ℕ) (st : State) → Stands s f st → Stands s g (failed st)) → OnLeaf table p s part f g
+    unfolding trimmed
     leaf-other h t l e g m v st q z =
         let (w, is) = is-literal h in
         let y : _ = l v w q is in
-        (failed st, ap (λ (u : Pattern). tries u v st) is ∙ ap (λ (b : Bool). give (pick b st (failed st))) (sym y ∙ e), m s st z)
+        (failed st, λ hope. ap (λ (u : Pattern). trimmed hope u v st) is ∙ ap (λ (b : Bool). give (pick b st (failed st))) (sym y ∙ e), m s st z)
 
   -- ---- parts
 
@@ -145,10 +149,10 @@ module _ (table index : List ℕ) (p : ℕ) (r : Readable table index p) where
     inner-length : length (innerOf table p) ≡ length (named (recordAt (records table) p))
     inner-length = length-map (named (recordAt (records table) p)) (patternAt (records table))
 
-    pub tried : (v : Value) (st : State) → tries (patternAt (records table) p) v st ≡ trying (kindAt (records table) p) (innerOf table p) v st
-    tried v st =
-        ap (λ (w : Pattern). tries w v st) by-record
-        ∙ is-composed (recordAt (records table) p) (innerOf table p) c kind-high (λ e. inner-length ∙ count-two e) v st
+    pub tried : (hope : Binding → Bool) (v : Value) (st : State) → trimmed hope (patternAt (records table) p) v st ≡ trying hope (kindAt (records table) p) (innerOf table p) v st
+    tried hope v st =
+        ap (λ (w : Pattern). trimmed hope w v st) by-record
+        ∙ is-composed (recordAt (records table) p) (innerOf table p) c kind-high (λ e. inner-length ∙ count-two e) hope v st
 
   module _ (i : ℕ) (l : i < length (named (recordAt (records table) p))) where
     pub has-operand : HasOperand table index p i
@@ -231,71 +235,85 @@ meeting-length c n v d two h = go (isHalved c) refl h
 
 -- ---- one pattern
 
-module _ (table index : List ℕ) (p : ℕ) (r : Readable table index p) (s : List ℕ) (part : Part) (f : Found) (d : Digits) (sd : Sound d) where
-  pub along-leaf : (g : Found) → OnLeaf table p s part f g → Along table p s part f d (record { found = g; digits = d })
+module _ (table index : List ℕ) (p : ℕ) (r : Readable table index p) (s : List ℕ) (part : Part) (bounds : Bounds) (f : Found) (d : Digits) (sd : Sound d) where
+  pub along-leaf : (g : Found) → OnLeaf table p s part f g → Along table p s part bounds f d (record { found = g; digits = d })
   along-leaf g h = record {
-    came = λ v st q z.
+    came = λ v st a m q z b.
         let (w, e, k) = h v st q z in
-        subst (λ (t : Tree State). Came s (record { found = g; digits = d }) (walk t (view d))) (sym e) (came-give s (record { found = g; digits = d }) w d refl k);
+        subst (λ (t : Tree State). Came s (record { found = g; digits = d }) (walk t (view d))) (sym (e (hopeful a m))) (came-give s (record { found = g; digits = d }) w d refl k);
     sound = sd;
   }
 
-  module _ (c : 36 ≤ kindAt (records table) p) (m : Meeting) (h : Meets (kindAt (records table) p) (length (named (recordAt (records table) p))) s part m) where
+  module _ (c : 36 ≤ kindAt (records table) p) (t : Bool) (o : Hoped s f bounds t) where
     inner-count : length (innerOf table p) ≡ length (named (recordAt (records table) p))
     inner-count = length-map (named (recordAt (records table) p)) (patternAt (records table))
 
-    -- the tries, by what is met
-    by-meeting : (v : Value) (st : State) → tries (patternAt (records table) p) v st
-        ≡ pick (isLarge (kindAt (records table) p) v) (give (widened st)) (among (meetings (kindAt (records table) p) (length (named (recordAt (records table) p))) v) (give (failed st)) (λ vs. tryEach (patternsOf (innerOf table p)) vs st))
-    by-meeting v st =
-        tried table index p r c v st
-        ∙ ap (λ (n : ℕ). pick (isLarge (kindAt (records table) p) v) (give (widened st)) (among (meetings (kindAt (records table) p) n v) (give (failed st)) (λ vs. tryEach (patternsOf (innerOf table p)) vs st))) inner-count
+    -- the ways, by what is met
+    abbrev met-ways : (a m : Option Binding) (v : Value) (st : State) → Tree State
+    met-ways a m v st =
+        pick (isLarge (kindAt (records table) p) v) (give (failed st)) (among (meetings (kindAt (records table) p) (length (named (recordAt (records table) p))) v) (give (failed st)) (λ vs. trimEach (hopeful a m) (patternsOf (innerOf table p)) vs st))
 
-    pub along-unfit : m ≡ Unfit → (g : Found) → ((s : List ℕ) (st : State) → Stands s f st → Stands s g (missing false st)) → Along table p s part f d (record { found = g; digits = d })
-    along-unfit e g k = record {
-      came = λ v st q z.
-          let a : MeetsAs (kindAt (records table) p) (length (named (recordAt (records table) p))) v Unfit = subst (MeetsAs (kindAt (records table) p) (length (named (recordAt (records table) p))) v) e (h v q) in
-          let t : tries (patternAt (records table) p) v st ≡ give (failed st) = by-meeting v st ∙ rw (a .0, a .1) in
-          subst (λ (u : Tree State). Came s (record { found = g; digits = d }) (walk u (view d))) (sym t) (came-give s (record { found = g; digits = d }) (failed st) d refl (k s st z));
+    by-hope : (a m : Option Binding) (v : Value) (st : State) → Stands s f st → Bounded s bounds a m → trimmed (hopeful a m) (patternAt (records table) p) v st ≡ pick t (met-ways a m v st) (give (failed st))
+    by-hope a m v st z b =
+        tried table index p r c (hopeful a m) v st
+        ∙ ap (λ (n : ℕ). worth (hopeful a m) st (pick (isLarge (kindAt (records table) p) v) (give (failed st)) (among (meetings (kindAt (records table) p) n v) (give (failed st)) (λ vs. trimEach (hopeful a m) (patternsOf (innerOf table p)) vs st)))) inner-count
+        ∙ ap (λ (u : Bool). pick u (met-ways a m v st) (give (failed st))) (sym (o st a m z b))
+
+    came-failed : (g : Found) → ((s : List ℕ) (st : State) → Stands s f st → Stands s g (failed st)) → (st : State) → Stands s f st → (u : Tree State) → u ≡ give (failed st) → Came s (record { found = g; digits = d }) (walk u (view d))
+    came-failed g k st z u e = subst (λ (w : Tree State). Came s (record { found = g; digits = d }) (walk w (view d))) (sym e) (came-give s (record { found = g; digits = d }) (failed st) d refl (k s st z))
+
+    -- no hope
+    pub along-hopeless : t ≡ false → (g : Found) → ((s : List ℕ) (st : State) → Stands s f st → Stands s g (failed st)) → Along table p s part bounds f d (record { found = g; digits = d })
+    along-hopeless e g k = record {
+      came = λ v st a m q z b.
+          came-failed g k st z (trimmed (hopeful a m) (patternAt (records table) p) v st) (by-hope a m v st z b ∙ ap (λ (u : Bool). pick u (met-ways a m v st) (give (failed st))) e);
       sound = sd;
     }
 
-    pub along-large : m ≡ Large → (g : Found) → ((s : List ℕ) (st : State) → Stands s f st → Stands s g (missing true st)) → Along table p s part f d (record { found = g; digits = d })
-    along-large e g k = record {
-      came = λ v st q z.
-          let a : isLarge (kindAt (records table) p) v ≡ true = subst (MeetsAs (kindAt (records table) p) (length (named (recordAt (records table) p))) v) e (h v q) in
-          let t : tries (patternAt (records table) p) v st ≡ give (widened st) = by-meeting v st ∙ rw a in
-          subst (λ (u : Tree State). Came s (record { found = g; digits = d }) (walk u (view d))) (sym t) (came-give s (record { found = g; digits = d }) (widened st) d refl (k s st z));
-      sound = sd;
-    }
+    module _ (e : t ≡ true) (m : Meeting) (h : Meets (kindAt (records table) p) (length (named (recordAt (records table) p))) s part m) where
+      by-meeting : (a b : Option Binding) (v : Value) (st : State) → Stands s f st → Bounded s bounds a b → trimmed (hopeful a b) (patternAt (records table) p) v st ≡ met-ways a b v st
+      by-meeting a b v st z k = by-hope a b v st z k ∙ ap (λ (u : Bool). pick u (met-ways a b v st) (give (failed st))) e
 
-    module _ (w : ℕ) (e : m ≡ Ways w) where
-      ways-are : (v : Value) → PartIs s part v → MeetsAs (kindAt (records table) p) (length (named (recordAt (records table) p))) v (Ways w)
-      ways-are v q = subst (MeetsAs (kindAt (records table) p) (length (named (recordAt (records table) p))) v) e (h v q)
+      -- no way
+      pub along-failed : ((w : ℕ) → m ≡ Ways w → ⊥) → (g : Found) → ((s : List ℕ) (st : State) → Stands s f st → Stands s g (failed st)) → Along table p s part bounds f d (record { found = g; digits = d })
+      along-failed n g k = record {
+        came = λ v st a b q z l.
+            came-failed g k st z (trimmed (hopeful a b) (patternAt (records table) p) v st) (by-meeting a b v st z l ∙ go v st a b m n (h v q));
+        sound = sd;
+      }
+        where
+          go : (v : Value) (st : State) (a b : Option Binding) (x : Meeting) → ((w : ℕ) → x ≡ Ways w → ⊥) → MeetsAs (kindAt (records table) p) (length (named (recordAt (records table) p))) v x → met-ways a b v st ≡ give (failed st)
+          go v st a b Unfit n k = rw (k .0, k .1)
+          go v st a b Large n k = rw k
+          go v st a b (Ways w) n k = absurd (n w refl)
 
-      pub ways-small : PartHeld s part → (0 < w) × (w < 256)
-      ways-small q = let a = ways-are (q .value) (q .here) in (a .2, a .3)
+      module _ (w : ℕ) (i : m ≡ Ways w) where
+        ways-are : (v : Value) → PartIs s part v → MeetsAs (kindAt (records table) p) (length (named (recordAt (records table) p))) v (Ways w)
+        ways-are v q = subst (MeetsAs (kindAt (records table) p) (length (named (recordAt (records table) p))) v) i (h v q)
 
-      module _ (t : Taken) (o : Took d w t) where
-        pub way-held : PartHeld s part → WayHeld table p 0 s part (t .digit)
-        way-held q =
-            let a = ways-are (q .value) (q .here) in
-            record { composed = c; value = q .value; here = q .here; narrow = a .0; below = omega (arith, o .below, a .1); within = omega arith }
+        pub ways-small : PartHeld s part → (0 < w) × (w < 256)
+        ways-small q = let a = ways-are (q .value) (q .here) in (a .2, a .3)
 
-        pub along-ways : (n : Matched) → AlongEach table p 0 s part (t .digit) f (t .digits) n → Along table p s part f d n
-        along-ways n k = record { came = λ v st q z. go v st q z (ways-are v q); sound = k .sound }
-          where
-            go : (v : Value) (st : State) → PartIs s part v → Stands s f st → MeetsAs (kindAt (records table) p) (length (named (recordAt (records table) p))) v (Ways w)
-                → Came s n (walk (tries (patternAt (records table) p) v st) (view d))
-            go v st q z a =
-                let ws = meetings (kindAt (records table) p) (length (named (recordAt (records table) p))) v in
-                let x : tries (patternAt (records table) p) v st ≡ among ws (give (failed st)) (λ vs. tryEach (patternsOf (innerOf table p)) vs st) = by-meeting v st ∙ rw (a .0) in
-                let below : taken (view d) w < w = omega (arith, o .below, o .digit) in
-                let y : walk (tries (patternAt (records table) p) v st) (view d) ≡ walk (tryEach (patternsOf (innerOf table p)) (getD ws (t .digit) []) st) (view (t .digits)) =
-                ap (λ (u : Tree State). walk u (view d)) x
-                ∙ walk-among ws (give (failed st)) (λ vs. tryEach (patternsOf (innerOf table p)) vs st) (view d) w (a .1) below
-                ∙ ap₂ (λ (b : ℕ) (u : View). walk (tryEach (patternsOf (innerOf table p)) (getD ws b []) st) u) (sym (o .digit)) (sym (o .viewed)) in
-                subst (Came s n) (sym y) (k .came v st q z)
+        module _ (k : Taken) (y : Took d w k) where
+          pub way-held : PartHeld s part → WayHeld table p 0 s part (k .digit)
+          way-held q =
+              let a = ways-are (q .value) (q .here) in
+              record { composed = c; value = q .value; here = q .here; narrow = a .0; below = omega (arith, y .below, a .1); within = omega arith }
+
+          pub along-ways : (n : Matched) → AlongEach table p 0 s part (k .digit) bounds f (k .digits) n → Along table p s part bounds f d n
+          along-ways n j = record { came = λ v st a b q z l. go v st a b q z l (ways-are v q); sound = j .sound }
+            where
+              go : (v : Value) (st : State) (a₀ m₀ : Option Binding) → PartIs s part v → Stands s f st → Bounded s bounds a₀ m₀ → MeetsAs (kindAt (records table) p) (length (named (recordAt (records table) p))) v (Ways w)
+                  → Came s n (walk (trimmed (hopeful a₀ m₀) (patternAt (records table) p) v st) (view d))
+              go v st a₀ m₀ q z l a =
+                  let ws = meetings (kindAt (records table) p) (length (named (recordAt (records table) p))) v in
+                  let u : trimmed (hopeful a₀ m₀) (patternAt (records table) p) v st ≡ among ws (give (failed st)) (λ vs. trimEach (hopeful a₀ m₀) (patternsOf (innerOf table p)) vs st) = by-meeting a₀ m₀ v st z l ∙ rw (a .0) in
+                  let below : taken (view d) w < w = omega (arith, y .below, y .digit) in
+                  let same : walk (trimmed (hopeful a₀ m₀) (patternAt (records table) p) v st) (view d) ≡ walk (trimEach (hopeful a₀ m₀) (patternsOf (innerOf table p)) (getD ws (k .digit) []) st) (view (k .digits)) =
+                  ap (λ (u : Tree State). walk u (view d)) u
+                  ∙ walk-among ws (give (failed st)) (λ vs. trimEach (hopeful a₀ m₀) (patternsOf (innerOf table p)) vs st) (view d) w (a .1) below
+                  ∙ ap₂ (λ (b : ℕ) (u : View). walk (trimEach (hopeful a₀ m₀) (patternsOf (innerOf table p)) (getD ws b []) st) u) (sym (y .digit)) (sym (y .viewed)) in
+                  subst (Came s n) (sym same) (j .came v st a₀ m₀ q z l)
 
 -- what stands at a place of patterns read off numbers
 at-map : (rs : List Record) (ns : List ℕ) (j : ℕ) → j < length ns → getD (map (patternAt rs) ns) j (patternAt rs 0) ≡ patternAt rs (getD ns j 0)
@@ -305,16 +323,16 @@ at-map rs (x ∷ ns) (suc j) lt = at-map rs ns j (omega arith)
 
 -- ---- the parts of one pattern
 
-module _ (table index : List ℕ) (p : ℕ) (r : Readable table index p) (i : ℕ) (s : List ℕ) (part : Part) (e : ℕ) (h : WayHeld table p i s part e) (f : Found) (d : Digits) where
+module _ (table index : List ℕ) (p : ℕ) (r : Readable table index p) (i : ℕ) (s : List ℕ) (part : Part) (e : ℕ) (h : WayHeld table p i s part e) (bounds : Bounds) (f : Found) (d : Digits) where
   inner-size : length (innerOf table p) ≡ length (named (recordAt (records table) p))
   inner-size = length-map (named (recordAt (records table) p)) (patternAt (records table))
 
-  pub each-end : Sound d → length (named (recordAt (records table) p)) ≤ i → AlongEach table p i s part e f d (record { found = f; digits = d })
-  unfolding patternsOf tries
+  pub each-end : Sound d → length (named (recordAt (records table) p)) ≤ i → AlongEach table p i s part e bounds f d (record { found = f; digits = d })
+  unfolding patternsOf trimmed
   each-end sd l = record {
-    came = λ v st q z.
+    came = λ v st a m q z b.
         let n : drop i (innerOf table p) ≡ [] = drop-of-length-le (innerOf table p) {i = i} (omega (arith, inner-size)) in
-        subst (λ (ps : List Pattern). Came s (record { found = f; digits = d }) (walk (tryEach (patternsOf ps) (drop i (metBy table p v e)) st) (view d))) (sym n)
+        subst (λ (ps : List Pattern). Came s (record { found = f; digits = d }) (walk (trimEach (hopeful a m) (patternsOf ps) (drop i (metBy table p v e)) st) (view d))) (sym n)
         (came-give s (record { found = f; digits = d }) st d refl z);
     sound = sd;
   }
@@ -347,16 +365,16 @@ module _ (table index : List ℕ) (p : ℕ) (r : Readable table index p) (i : �
       pub piece-held : PartHeld s a
       piece-held = record { value = getD (metBy table p (h .value) e) i (boolean true); here = piece-is (h .value) (h .here) }
 
-      module _ (q : ℕ) (b : q ≡ operand (recordAt (records table) p) i) (m : Matched) (k : Along table q s a f d m) where
-        pub next-standing : Standing s f → Standing s (m .found)
-        next-standing z = came-stands s m (walk (tries (patternAt (records table) q) (getD (metBy table p (h .value) e) i (boolean true)) (z .0)) (view d)) (k .came (getD (metBy table p (h .value) e) i (boolean true)) (z .0) (piece-is (h .value) (h .here)) (z .1))
+      module _ (q : ℕ) (b : q ≡ operand (recordAt (records table) p) i) (m : Matched) (k : Along table q s a bounds f d m) where
+        pub next-standing : BoundsHeld s bounds → Standing s f → Standing s (m .found)
+        next-standing l z = came-stands s m (walk (trimmed (hopeful (l .0) (l .1)) (patternAt (records table) q) (getD (metBy table p (h .value) e) i (boolean true)) (z .0)) (view d)) (k .came (getD (metBy table p (h .value) e) i (boolean true)) (z .0) (l .0) (l .1) (piece-is (h .value) (h .here)) (z .1) (l .2))
 
-        pub each-more : (n′ : Matched) → AlongEach table p (i + 1) s part e (m .found) (m .digits) n′ → AlongEach table p i s part e f d n′
-        unfolding tries patternsOf
-        each-more n′ g = record { came = λ v st z w. go v st z w; sound = g .sound }
+        pub each-more : (n′ : Matched) → AlongEach table p (i + 1) s part e bounds (m .found) (m .digits) n′ → AlongEach table p i s part e bounds f d n′
+        unfolding trimmed patternsOf
+        each-more n′ g = record { came = λ v st x y z w l. go v st x y z w l; sound = g .sound }
           where
-            go : (v : Value) (st : State) → PartIs s part v → Stands s f st → Came s n′ (walk (tryEach (patternsOf (drop i (innerOf table p))) (drop i (metBy table p v e)) st) (view d))
-            go v st z w =
+            go : (v : Value) (st : State) (x y : Option Binding) → PartIs s part v → Stands s f st → Bounded s bounds x y → Came s n′ (walk (trimEach (hopeful x y) (patternsOf (drop i (innerOf table p))) (drop i (metBy table p v e)) st) (view d))
+            go v st x y z w l′ =
                 let same : v ≡ h .value = part-one z (h .here) in
                 let lower′ : e < length (meetings (kindAt (records table) p) (length (named (recordAt (records table) p))) v) = subst (λ (u : Value). e < length (meetings (kindAt (records table) p) (length (named (recordAt (records table) p))) u)) (sym same) (h .below) in
                 let long : length (metBy table p v e) ≡ length (named (recordAt (records table) p)) = meeting-length (kindAt (records table) p) (length (named (recordAt (records table) p))) v e (count-two table index p r (h .composed)) lower′ in
@@ -366,8 +384,8 @@ module _ (table index : List ℕ) (p : ℕ) (r : Readable table index p) (i : �
                 let vals : drop i (metBy table p v e) ≡ getD (metBy table p v e) i (boolean true) ∷ drop (i + 1) (metBy table p v e) =
                 drop-cons (metBy table p v e) i (boolean true) (omega (arith, long))
                 ∙ ap (λ (j : ℕ). getD (metBy table p v e) i (boolean true) ∷ drop j (metBy table p v e)) (sym (add-one i)) in
-                subst (λ (ps : List Pattern). Came s n′ (walk (tryEach (patternsOf ps) (drop i (metBy table p v e)) st) (view d))) (sym pats)
-                (subst (λ (vs : List Value). Came s n′ (walk (tryEach (patternsOf (patternAt (records table) q ∷ drop (i + 1) (innerOf table p))) vs st) (view d))) (sym vals)
-                (came-then s m n′ (tries (patternAt (records table) q) (getD (metBy table p v e) i (boolean true)) st) (λ u. tryEach (patternsOf (drop (i + 1) (innerOf table p))) (drop (i + 1) (metBy table p v e)) u) (view d)
-                (k .came (getD (metBy table p v e) i (boolean true)) st (piece-is v z) w)
-                (λ u su. g .came v u z su)))
+                subst (λ (ps : List Pattern). Came s n′ (walk (trimEach (hopeful x y) (patternsOf ps) (drop i (metBy table p v e)) st) (view d))) (sym pats)
+                (subst (λ (vs : List Value). Came s n′ (walk (trimEach (hopeful x y) (patternsOf (patternAt (records table) q ∷ drop (i + 1) (innerOf table p))) vs st) (view d))) (sym vals)
+                (came-then s m n′ (trimmed (hopeful x y) (patternAt (records table) q) (getD (metBy table p v e) i (boolean true)) st) (λ u. trimEach (hopeful x y) (patternsOf (drop (i + 1) (innerOf table p))) (drop (i + 1) (metBy table p v e)) u) (view d)
+                (k .came (getD (metBy table p v e) i (boolean true)) st x y (piece-is v z) w l′)
+                (λ u su. g .came v u x y z su l′)))

@@ -16,8 +16,8 @@ ghost use Rattle.parts.specs.Part.{PartIs, PartHeld, CellIs};
 ghost use Rattle.values.specs.Value.{Value};
 ghost use Rattle.patterns.specs.Binding.{Cell, Binding};
 ghost use Rattle.ways.specs.Tries.{State, start, naming, failed as failing, isGood};
-ghost use Rattle.ways.specs.Trimmed.{settled, hopeful};
-ghost use Rattle.matching.specs.Found.{Stands, Standing, CellHeld, Bound, BoundHeld, NoneYet, Bounded, BoundsHeld, settledAs, settledCells};
+ghost use Rattle.ways.specs.Trimmed.{settled, aboveOf, belowOf, hopeful};
+ghost use Rattle.matching.specs.Found.{Stands, Standing, CellHeld, Bound, BoundHeld, BestIs, BestHeld, NoneYet, Bounded, BoundsHeld, settledAs, settledCells};
 ghost use Rattle.matching.specs.Node.{Readable, LeafHeld};
 ghost use Rattle.matching.specs.Along.{OnLeaf, Along, WayHeld, AlongEach};
 
@@ -131,6 +131,42 @@ fn settle(s: &[u8], f: Found, g: Found) -> Settled
     Settled::Equal
 }
 
+// What is found can come out above the present binding.
+fn may_rise(s: &[u8], f: Found, present: Best) -> bool
+    requires { ⌜ BoundHeld (now s) f × BestHeld (now s) present ⌝ }
+    ensures { λ r. ⌜ ((b : Binding) (a : Option Binding) → Bound (now (s .entry)) f b → BestIs (now (s .entry)) present a → r ≡ aboveOf a b) ⌝ }
+{
+    if !present.any {
+        return true;
+    }
+    let g = present.found;
+    let o = settle(s, f, g);
+    match o {
+        Settled::Open => true,
+        Settled::Below => false,
+        Settled::Equal => false,
+        Settled::Above => true,
+    }
+}
+
+// What is found can come out below the best so far.
+fn may_fall(s: &[u8], f: Found, best: Best) -> bool
+    requires { ⌜ BoundHeld (now s) f × BestHeld (now s) best ⌝ }
+    ensures { λ r. ⌜ ((b : Binding) (m : Option Binding) → Bound (now (s .entry)) f b → BestIs (now (s .entry)) best m → r ≡ belowOf m b) ⌝ }
+{
+    if !best.any {
+        return true;
+    }
+    let g = best.found;
+    let o = settle(s, f, g);
+    match o {
+        Settled::Open => true,
+        Settled::Below => true,
+        Settled::Equal => false,
+        Settled::Above => false,
+    }
+}
+
 // What is found matches so far, and can come between the bounds.
 fn is_hopeful(s: &[u8], f: Found, bounds: Bounds) -> bool
     requires { ⌜ Standing (now s) f × BoundsHeld (now s) bounds ⌝ }
@@ -140,28 +176,12 @@ fn is_hopeful(s: &[u8], f: Found, bounds: Bounds) -> bool
         return false;
     }
     let present = bounds.present;
-    if present.any {
-        let g = present.found;
-        let o = settle(s, f, g);
-        match o {
-            Settled::Open => {}
-            Settled::Below => return false,
-            Settled::Equal => return false,
-            Settled::Above => {}
-        }
+    let rises = may_rise(s, f, present);
+    if !rises {
+        return false;
     }
     let best = bounds.best;
-    if best.any {
-        let g = best.found;
-        let o = settle(s, f, g);
-        match o {
-            Settled::Open => {}
-            Settled::Below => {}
-            Settled::Equal => return false,
-            Settled::Above => return false,
-        }
-    }
-    true
+    may_fall(s, f, best)
 }
 
 // Binds a name to a part, where it is not bound to another value.
