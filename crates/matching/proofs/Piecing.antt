@@ -26,7 +26,7 @@ use Rattle.ways.specs.Orders.{factorial, orders-length}
 use Rattle.matching.specs.Node.{Ordinal, PieceHeld, PieceOf}
 use Rattle.matching.proofs.Counting.{pick-true, Has, contents-other, contents-same, none-meets, meets-splits, meets-cuts, meets-orders, meets-items}
 
-map-at : {A B : Type 0} (f : A → B) (l : List A) (n : ℕ) (w : A) (e : B) → n < length l → getD (map f l) n e ≡ f (getD l n w)
+pub map-at : {A B : Type 0} (f : A → B) (l : List A) (n : ℕ) (w : A) (e : B) → n < length l → getD (map f l) n e ≡ f (getD l n w)
 map-at f [] n w e h = absurd (omega arith)
 map-at f (x ∷ l) zero w e h = refl
 map-at f (x ∷ l) (suc n) w e h = map-at f l n w e (omega arith)

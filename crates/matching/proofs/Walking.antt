@@ -225,7 +225,7 @@ pair-length k [] d h = absurd (omega arith)
 pair-length k (x ∷ hs) zero h = refl
 pair-length k (x ∷ hs) (suc d) h = pair-length k hs d (omega arith)
 
-meeting-length : (c n : ℕ) (v : Value) (d : ℕ) → (isHalved c ≡ true → n ≡ 2) → d < length (meetings c n v) → length (getD (meetings c n v) d []) ≡ n
+pub meeting-length : (c n : ℕ) (v : Value) (d : ℕ) → (isHalved c ≡ true → n ≡ 2) → d < length (meetings c n v) → length (getD (meetings c n v) d []) ≡ n
 meeting-length c n v d two h = go (isHalved c) refl h
   where
     go : (t : Bool) → isHalved c ≡ t → d < length (pick t (map (pair (collectionOf c)) (split (collectionOf c) (contents (collectionOf c) v))) (met (collectionOf c) n (contents (collectionOf c) v)))

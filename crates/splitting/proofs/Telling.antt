@@ -1,0 +1,252 @@
+-- What the answers for the parts of a pattern say of the pattern.
+use mathlib.Core.Path.{_≡_, refl, sym, ap, ap₂, subst, _∙_}
+use mathlib.Core.Bool.{Bool, true, false, not, _&&_, _||_}
+use mathlib.Core.List.{List, [], _∷_}
+use Prim.Native.Nat.{ℕ, _+_, _≤_, _<_}
+use native.Mathlib.Numerals.{add-one}
+use native.Mathlib.Omega.{arith}
+use lib.Dec.{eqb}
+use lib.ListN.{length, getD, drop, length-map, drop-of-length-le}
+use lib.Seq.{drop-cons}
+use borrow.Author.Tests.{eq-eqb, ne-eqb, eqb-true, eqb-false, not-true}
+use Rattle.values.specs.Value.{Value, boolean}
+use Rattle.tables.specs.Record.{named, operand}
+use Rattle.tables.specs.Table.{recordAt, kindAt}
+use Rattle.tables.specs.Accepted.{records, lower}
+use Rattle.tables.specs.Laws.{or-right}
+use Rattle.parts.specs.declared.Part.{Part}
+use Rattle.parts.specs.Part.{PartIs, PartHeld}
+use Rattle.parts.specs.Laws.{part-one}
+use Rattle.patterns.specs.Ways.{exists}
+use Rattle.patterns.specs.Pattern.{Pattern, any, wide, wideEach}
+use Rattle.ways.specs.Read.{patternsOf, patternOf, patternAt}
+use Rattle.ways.specs.Nodes.{isHalved, meetings, isLarge, pattern-at}
+use Rattle.matching.specs.declared.nodes.Meeting.{Meeting}
+use Rattle.matching.specs.declared.nodes.Meeting.the-variants.{Unfit, Large, Ways}
+use Rattle.matching.specs.Node.{Readable, MeetsAs, Meets, PieceHeld, PieceOf}
+use Rattle.matching.specs.Along.{innerOf, metBy, WayHeld}
+use Rattle.matching.proofs.Piecing.{map-at}
+use Rattle.matching.proofs.Walking.{kind-low, kind-high, count-few, count-two, meeting-length}
+use Rattle.splitting.specs.Union.{hasUnion, someUnion, shallow, no-union-narrow, shallow-narrow}
+use Rattle.splitting.specs.Composed.{leaf-no-union, wide-composed, union-composed, shallow-union, shallow-other}
+use Rattle.splitting.specs.Told.{TellsUnion, TellsShallow, TellsWide, TellsWays, TellsWay, WaysHeld, waysOf, wideWays}
+
+-- one more item is looked at
+drop-next : {A : Type 0} (l : List A) (i : ℕ) (z : A) → i < length l → drop i l ≡ getD l i z ∷ drop (i + 1) l
+drop-next l i z h = drop-cons l i z h ∙ ap (λ (j : ℕ). getD l i z ∷ drop j l) (sym (add-one i))
+
+-- The same is asked of the items from i on as of all of them.
+abbrev pub UnionLeft : List ℕ → ℕ → ℕ → Type 0
+UnionLeft table p i = someUnion (patternsOf (drop i (innerOf table p))) ≡ someUnion (patternsOf (innerOf table p))
+
+abbrev pub PartsLeft : List ℕ → ℕ → List ℕ → Part → ℕ → ℕ → Type 0
+PartsLeft table p s part d i =
+    (v : Value) → PartIs s part v → wideEach (patternsOf (drop i (innerOf table p))) (drop i (metBy table p v d)) ≡ wideEach (patternsOf (innerOf table p)) (metBy table p v d)
+
+abbrev pub WaysLeft : List ℕ → ℕ → List ℕ → Part → ℕ → Type 0
+WaysLeft table p s part d =
+    (v : Value) → PartIs s part v → wideWays table p (drop d (waysOf table p v)) ≡ wideWays table p (waysOf table p v)
+
+module _ (table index : List ℕ) (p : ℕ) (r : Readable table index p) where
+  by-record : patternAt (records table) p ≡ patternOf (recordAt (records table) p) (innerOf table p)
+  by-record = pattern-at (records table) (lower (records table) (r .fine .clear6)) p (r .here .within)
+
+  inner-length : length (innerOf table p) ≡ length (named (recordAt (records table) p))
+  inner-length = length-map (named (recordAt (records table) p)) (patternAt (records table))
+
+  inner-at : (i q : ℕ) (z : Pattern) → i < length (named (recordAt (records table) p)) → q ≡ operand (recordAt (records table) p) i → getD (innerOf table p) i z ≡ patternAt (records table) q
+  inner-at i q z l e = map-at (patternAt (records table)) (named (recordAt (records table) p)) i 0 z l ∙ ap (patternAt (records table)) (sym e)
+
+  inner-next : (i q : ℕ) → i < length (named (recordAt (records table) p)) → q ≡ operand (recordAt (records table) p) i → drop i (innerOf table p) ≡ patternAt (records table) q ∷ drop (i + 1) (innerOf table p)
+  inner-next i q l e = drop-next (innerOf table p) i any (omega (arith, inner-length)) ∙ ap (λ (x : Pattern). x ∷ drop (i + 1) (innerOf table p)) (inner-at i q any l e)
+
+  inner-end : (i : ℕ) → length (named (recordAt (records table) p)) ≤ i → drop i (innerOf table p) ≡ []
+  inner-end i l = drop-of-length-le (innerOf table p) {i = i} (omega (arith, inner-length))
+
+  two : 36 ≤ kindAt (records table) p → isHalved (kindAt (records table) p) ≡ true → length (innerOf table p) ≡ 2
+  two c e = inner-length ∙ count-two table index p r c e
+
+  -- ---- has_union
+
+  pub union-leaf : kindAt (records table) p < 36 → TellsUnion table p false
+  union-leaf l = sym (ap hasUnion by-record ∙ leaf-no-union (recordAt (records table) p) (innerOf table p) (kind-low table index p r) l)
+
+  module _ (c : 36 ≤ kindAt (records table) p) where
+    union-by : hasUnion (patternAt (records table) p) ≡ eqb (kindAt (records table) p) 38 || someUnion (patternsOf (innerOf table p))
+    union-by = ap hasUnion by-record ∙ union-composed (recordAt (records table) p) (innerOf table p) c (kind-high table index p r) (two c)
+
+    pub union-here : kindAt (records table) p ≡ 38 → TellsUnion table p true
+    union-here e = sym (union-by ∙ ap (λ (b : Bool). b || someUnion (patternsOf (innerOf table p))) (eq-eqb (kindAt (records table) p) 38 e))
+
+    module _ (other : kindAt (records table) p ≡ 38 → ⊥) (i : ℕ) (left : UnionLeft table p i) where
+      union-rest : hasUnion (patternAt (records table) p) ≡ someUnion (patternsOf (drop i (innerOf table p)))
+      union-rest = union-by ∙ ap (λ (b : Bool). b || someUnion (patternsOf (innerOf table p))) (ne-eqb (kindAt (records table) p) 38 other) ∙ sym left
+
+      pub union-none : length (named (recordAt (records table) p)) ≤ i → TellsUnion table p false
+      unfolding hasUnion patternsOf
+      union-none l = sym (union-rest ∙ ap (λ (ps : List Pattern). someUnion (patternsOf ps)) (inner-end i l))
+
+      module _ (l : i < length (named (recordAt (records table) p))) (q : ℕ) (e : q ≡ operand (recordAt (records table) p) i) (h : Bool) (t : TellsUnion table q h) where
+        union-step : someUnion (patternsOf (drop i (innerOf table p))) ≡ h || someUnion (patternsOf (drop (i + 1) (innerOf table p)))
+        unfolding hasUnion patternsOf
+        union-step = ap (λ (ps : List Pattern). someUnion (patternsOf ps)) (inner-next i q l e) ∙ ap (λ (b : Bool). b || someUnion (patternsOf (drop (i + 1) (innerOf table p)))) (sym t)
+
+        pub union-found : h ≡ true → TellsUnion table p true
+        union-found y = sym (union-rest ∙ union-step ∙ ap (λ (b : Bool). b || someUnion (patternsOf (drop (i + 1) (innerOf table p)))) y)
+
+        pub union-next : h ≡ false → UnionLeft table p (i + 1)
+        union-next y = sym (ap (λ (b : Bool). b || someUnion (patternsOf (drop (i + 1) (innerOf table p)))) y) ∙ sym union-step ∙ left
+
+  -- ---- is_shallow
+
+  pub shallow-no-union : (kindAt (records table) p ≡ 38 → ⊥) → (h : Bool) → TellsUnion table p h → TellsShallow table p (not h)
+  shallow-no-union other h t =
+      sym (ap shallow by-record ∙ shallow-other (recordAt (records table) p) (innerOf table p) (kind-low table index p r) (kind-high table index p r) other ∙ ap (λ (x : Pattern). not (hasUnion x)) (sym by-record) ∙ ap not (sym t))
+
+  module _ (e : kindAt (records table) p ≡ 38) where
+    pub union-two : length (named (recordAt (records table) p)) ≡ 2
+    union-two = count-two table index p r (omega arith) (rw e)
+
+    module _ (a : ℕ) (ea : a ≡ operand (recordAt (records table) p) 0) (x : Bool) (tx : TellsShallow table a x) where
+      shallow-by : shallow (patternAt (records table) p) ≡ x && shallow (getD (innerOf table p) 1 any)
+      shallow-by =
+          ap shallow by-record ∙ shallow-union (recordAt (records table) p) (innerOf table p) e
+          ∙ ap (λ (b : Bool). b && shallow (getD (innerOf table p) 1 any)) (ap shallow (inner-at 0 a any (omega (arith, union-two)) ea) ∙ sym tx)
+
+      pub shallow-not : x ≡ false → TellsShallow table p false
+      shallow-not y = sym (shallow-by ∙ ap (λ (b : Bool). b && shallow (getD (innerOf table p) 1 any)) y)
+
+      pub shallow-both : x ≡ true → (b : ℕ) → b ≡ operand (recordAt (records table) p) 1 → (y : Bool) → TellsShallow table b y → TellsShallow table p y
+      shallow-both o b eb y ty =
+          sym (shallow-by ∙ ap (λ (t : Bool). t && shallow (getD (innerOf table p) 1 any)) o ∙ ap shallow (inner-at 1 b any (omega (arith, union-two)) eb) ∙ sym ty)
+
+  -- ---- too_large
+
+  module _ (s : List ℕ) (part : Part) where
+    pub wide-leaf : kindAt (records table) p < 36 → TellsWide table p s part false
+    wide-leaf l v q = sym (no-union-narrow (patternAt (records table) p) v (sym (union-leaf l)))
+
+    module _ (c : 36 ≤ kindAt (records table) p) where
+      wide-by : (v : Value) → wide (patternAt (records table) p) v
+          ≡ isLarge (kindAt (records table) p) v || wideWays table p (waysOf table p v)
+      wide-by v =
+          ap (λ (x : Pattern). wide x v) by-record
+          ∙ wide-composed (recordAt (records table) p) (innerOf table p) c (kind-high table index p r) (two c) v
+          ∙ ap (λ (n : ℕ). isLarge (kindAt (records table) p) v || exists (meetings (kindAt (records table) p) n v) (λ vs. wideEach (patternsOf (innerOf table p)) vs)) inner-length
+
+      module _ (m : Meeting) (h : Meets (kindAt (records table) p) (length (named (recordAt (records table) p))) s part m) where
+        pub wide-unfit : m ≡ Unfit → TellsWide table p s part false
+        unfolding exists
+        wide-unfit e v q =
+            let a : MeetsAs (kindAt (records table) p) (length (named (recordAt (records table) p))) v Unfit = subst (MeetsAs (kindAt (records table) p) (length (named (recordAt (records table) p))) v) e (h v q) in
+            sym (wide-by v ∙ rw (a .0, a .1))
+
+        pub wide-large : m ≡ Large → TellsWide table p s part true
+        wide-large e v q =
+            let a : isLarge (kindAt (records table) p) v ≡ true = subst (MeetsAs (kindAt (records table) p) (length (named (recordAt (records table) p))) v) e (h v q) in
+            sym (wide-by v ∙ rw a)
+
+        module _ (w : ℕ) (e : m ≡ Ways w) where
+          ways-are : (v : Value) → PartIs s part v → MeetsAs (kindAt (records table) p) (length (named (recordAt (records table) p))) v (Ways w)
+          ways-are v q = subst (MeetsAs (kindAt (records table) p) (length (named (recordAt (records table) p))) v) e (h v q)
+
+          pub ways-held : PartHeld s part → WaysHeld table p s part w
+          ways-held q = let a = ways-are (q .value) (q .here) in record { composed = c; value = q .value; here = q .here; narrow = a .0; count = a .1 }
+
+          pub wide-ways : (b : Bool) → TellsWays table p s part b → TellsWide table p s part b
+          wide-ways b t v q = t v q ∙ sym (wide-by v ∙ rw (ways-are v q .0))
+
+    -- ---- in_ways
+
+    module _ (w : ℕ) (h : WaysHeld table p s part w) where
+      -- a shallow pattern, on what it can split
+      pub ways-shallow : (b : Bool) → TellsShallow table p b → b ≡ true → TellsWays table p s part false
+      ways-shallow b t y v q =
+          let narrow : isLarge (kindAt (records table) p) v ≡ false = subst (λ (u : Value). isLarge (kindAt (records table) p) u ≡ false) (sym (part-one q (h .here))) (h .narrow) in
+          sym (or-right (isLarge (kindAt (records table) p) v) (wideWays table p (waysOf table p v))
+          (sym (wide-by (h .composed) v) ∙ go (eqb (kindAt (records table) p) 38) refl narrow))
+        where
+          go : (k : Bool) → eqb (kindAt (records table) p) 38 ≡ k → isLarge (kindAt (records table) p) v ≡ false → wide (patternAt (records table) p) v ≡ false
+          go true e n = shallow-narrow (patternAt (records table) p) v (sym t ∙ y) (rw (eqb-true (kindAt (records table) p) 38 e) at n)
+          go false e n = no-union-narrow (patternAt (records table) p) v (not-true (hasUnion (patternAt (records table) p)) (shallow-no-union (eqb-false (kindAt (records table) p) 38 e) (hasUnion (patternAt (records table) p)) refl ∙ sym t ∙ y))
+
+      pub ways-start : WaysLeft table p s part 0
+      ways-start v q = refl
+
+      module _ (d : ℕ) (left : WaysLeft table p s part d) where
+        pub ways-none : w ≤ d → TellsWays table p s part false
+        unfolding exists
+        ways-none l v q =
+            let n : length (waysOf table p v) ≤ d = subst (λ (u : Value). length (waysOf table p u) ≤ d) (sym (part-one q (h .here))) (omega (arith, h .count)) in
+            ap (wideWays table p) (sym (drop-of-length-le (waysOf table p v) {i = d} n)) ∙ left v q
+
+        module _ (l : d < w) where
+          pub way-held : WayHeld table p 0 s part d
+          way-held = record { composed = h .composed; value = h .value; here = h .here; narrow = h .narrow; below = omega (arith, h .count); within = omega arith }
+
+          module _ (b : Bool) (t : TellsWay table p s part d b) where
+            ways-step : (v : Value) → PartIs s part v
+                → wideWays table p (drop d (waysOf table p v))
+                ≡ b || wideWays table p (drop (d + 1) (waysOf table p v))
+            unfolding exists
+            ways-step v q =
+                let n : d < length (waysOf table p v) = subst (λ (u : Value). d < length (waysOf table p u)) (sym (part-one q (h .here))) (omega (arith, h .count)) in
+                ap (wideWays table p) (drop-next (waysOf table p v) d [] n)
+                ∙ ap (λ (x : Bool). x || wideWays table p (drop (d + 1) (waysOf table p v))) (sym (t v q))
+
+            pub ways-found : b ≡ true → TellsWays table p s part true
+            ways-found y v q = sym (sym (left v q) ∙ ways-step v q ∙ rw y)
+
+            pub ways-next : b ≡ false → WaysLeft table p s part (d + 1)
+            ways-next y v q = sym (ways-step v q ∙ rw y) ∙ left v q
+
+    -- ---- in_way
+
+    module _ (d : ℕ) (h : WayHeld table p 0 s part d) where
+      pub parts-start : PartsLeft table p s part d 0
+      parts-start v q = refl
+
+      module _ (i : ℕ) (left : PartsLeft table p s part d i) where
+        pub parts-none : length (named (recordAt (records table) p)) ≤ i → TellsWay table p s part d false
+        unfolding wide patternsOf
+        parts-none l v q = ap (λ (ps : List Pattern). wideEach (patternsOf ps) (drop i (metBy table p v d))) (sym (inner-end i l)) ∙ left v q
+
+        module _ (l : i < length (named (recordAt (records table) p))) (kind n : ℕ) (x : kind ≡ kindAt (records table) p) (y : n ≡ length (named (recordAt (records table) p))) where
+          pub piece-asked : PieceHeld kind n s part d i
+          piece-asked = rw (x, y) (record {
+            low = h .composed;
+            high = kind-high table index p r;
+            few = count-few table index p r (h .composed);
+            two = count-two table index p r (h .composed);
+            value = h .value;
+            here = h .here;
+            narrow = h .narrow;
+            below = h .below;
+            within = l;
+          })
+
+          module _ (a : Part) (o : PieceOf kind n s part d i a) where
+            piece-is : (v : Value) → PartIs s part v → PartIs s a (getD (metBy table p v d) i (boolean true))
+            piece-is v q =
+                subst (λ (c : ℕ). PartIs s a (getD (getD (meetings c (length (named (recordAt (records table) p))) v) d []) i (boolean true))) x
+                (subst (λ (k : ℕ). PartIs s a (getD (getD (meetings kind k v) d []) i (boolean true))) y (o v (boolean true) q))
+
+            pub piece-held : PartHeld s a
+            piece-held = record { value = getD (metBy table p (h .value) d) i (boolean true); here = piece-is (h .value) (h .here) }
+
+            module _ (q : ℕ) (e : q ≡ operand (recordAt (records table) p) i) (b : Bool) (t : TellsWide table q s a b) where
+              parts-step : (v : Value) → PartIs s part v
+                  → wideEach (patternsOf (drop i (innerOf table p))) (drop i (metBy table p v d))
+                  ≡ b || wideEach (patternsOf (drop (i + 1) (innerOf table p))) (drop (i + 1) (metBy table p v d))
+              unfolding wide patternsOf
+              parts-step v z =
+                  let below : d < length (waysOf table p v) = subst (λ (u : Value). d < length (waysOf table p u)) (sym (part-one z (h .here))) (h .below) in
+                  let long : length (metBy table p v d) ≡ length (named (recordAt (records table) p)) = meeting-length (kindAt (records table) p) (length (named (recordAt (records table) p))) v d (count-two table index p r (h .composed)) below in
+                  ap₂ (λ (ps : List Pattern) (vs : List Value). wideEach (patternsOf ps) vs) (inner-next i q l e) (drop-next (metBy table p v d) i (boolean true) (omega (arith, long)))
+                  ∙ ap (λ (k : Bool). k || wideEach (patternsOf (drop (i + 1) (innerOf table p))) (drop (i + 1) (metBy table p v d))) (sym (t (getD (metBy table p v d) i (boolean true)) (piece-is v z)))
+
+              pub parts-found : b ≡ true → TellsWay table p s part d true
+              parts-found w v z = sym (sym (left v z) ∙ parts-step v z ∙ rw w)
+
+              pub parts-next : b ≡ false → PartsLeft table p s part d (i + 1)
+              parts-next w v z = sym (parts-step v z ∙ rw w) ∙ left v z

@@ -1,0 +1,122 @@
+-- Where a pattern holds union patterns, and when none of them can be met by a set too large to split.
+use mathlib.Core.Path.{_≡_, refl}
+use mathlib.Core.Bool.{Bool, true, false, not, _&&_, _||_}
+use mathlib.Core.Logic.{inl, inr}
+use mathlib.Core.Option.{Option, none as absent, some}
+use mathlib.Core.List.{List, [], _∷_}
+use Prim.Native.Nat.{_≤_}
+use native.Mathlib.Omega.{arith}
+use borrow.Author.Tests.{le-ltb, ltb-false, not-true}
+use lib.ListN.{length}
+use Rattle.values.specs.Value.{Kind, set, sequence, map as mapping, tuple, Value}
+use Rattle.values.specs.Items.{pick}
+use Rattle.tables.specs.Laws.{or-left, or-right, or-none, and-left, and-right}
+use Rattle.ways.specs.Merging.{true-false}
+use Rattle.patterns.specs.Ways.{Halves, exists, splits}
+use Rattle.patterns.specs.Members.{In}
+use Rattle.patterns.specs.Units.{Shared, in-splits}
+use Rattle.patterns.specs.Named.{PartOf, shared-left, shared-right}
+use Rattle.patterns.specs.Matched.{list-items}
+use Rattle.patterns.specs.Pattern.{Pattern, name, any, literal, each, halved, Patterns, nil, cons, parts, listOf, itemsOf, contents, met, split, leftOf, rightOf, tooLarge, isSet, wide, wideEach}
+
+-- The pattern holds a union pattern, at any depth.
+unfoldable mutual
+  pub hasUnion : Pattern → Bool
+  hasUnion (name x) = false
+  hasUnion any = false
+  hasUnion (literal w) = false
+  hasUnion (each k ps) = someUnion ps
+  hasUnion (halved k p q) = isSet k || (hasUnion p || hasUnion q)
+
+  pub someUnion : Patterns → Bool
+  someUnion nil = false
+  someUnion (cons p ps) = hasUnion p || someUnion ps
+
+-- Every union pattern that it holds is it itself or a half of such: all of them meet parts of one set.
+unfoldable pub shallow : Pattern → Bool
+shallow (name x) = true
+shallow any = true
+shallow (literal w) = true
+shallow (each k ps) = not (someUnion ps)
+shallow (halved k p q) = pick (isSet k) (shallow p && shallow q) (not (hasUnion p || hasUnion q))
+
+-- ---- no union pattern
+
+none-of : {A : Type 0} (xs : List A) (f : A → Bool) → ((x : A) → In x xs → f x ≡ false) → exists xs f ≡ false
+unfolding exists
+none-of [] f h = refl
+none-of (x ∷ xs) f h = or-none (f x) (exists xs f) (h x (inl refl)) (none-of xs f (λ y i. h y (inr i)))
+
+no-set : (k : Kind) (o : Option (List Value)) → isSet k ≡ false → tooLarge k o ≡ false
+no-set set o e = true-false e
+no-set sequence absent e = refl
+no-set sequence (some vs) e = refl
+no-set mapping absent e = refl
+no-set mapping (some vs) e = refl
+no-set tuple absent e = refl
+no-set tuple (some vs) e = refl
+
+mutual
+  unfolding hasUnion wide
+
+  -- THEOREM: a pattern without a union pattern is never wide
+  pub no-union-narrow : (p : Pattern) (v : Value) → hasUnion p ≡ false → wide p v ≡ false
+  no-union-narrow (name x) v e = refl
+  no-union-narrow any v e = refl
+  no-union-narrow (literal w) v e = refl
+  no-union-narrow (each k ps) v e = none-of (met k (parts ps) (contents k v)) (λ vs. wideEach ps vs) (λ vs i. no-union-each ps vs e)
+  no-union-narrow (halved k p q) v e =
+      let inner = or-right (isSet k) (hasUnion p || hasUnion q) e in
+      or-none (tooLarge k (contents k v)) (exists (split k (contents k v)) (λ h. wide p (leftOf k h) || wide q (rightOf k h)))
+      (no-set k (contents k v) (or-left (isSet k) (hasUnion p || hasUnion q) e))
+      (none-of (split k (contents k v)) (λ h. wide p (leftOf k h) || wide q (rightOf k h))
+      (λ h i. or-none (wide p (leftOf k h)) (wide q (rightOf k h))
+      (no-union-narrow p (leftOf k h) (or-left (hasUnion p) (hasUnion q) inner))
+      (no-union-narrow q (rightOf k h) (or-right (hasUnion p) (hasUnion q) inner))))
+
+  no-union-each : (ps : Patterns) (vs : List Value) → someUnion ps ≡ false → wideEach ps vs ≡ false
+  no-union-each nil vs e = refl
+  no-union-each (cons p ps) [] e = refl
+  no-union-each (cons p ps) (v ∷ vs) e =
+      or-none (wide p v) (wideEach ps vs) (no-union-narrow p v (or-left (hasUnion p) (someUnion ps) e)) (no-union-each ps vs (or-right (hasUnion p) (someUnion ps) e))
+
+-- ---- union patterns on one set
+
+part-length : (ls vs : List Value) → PartOf ls vs → length ls ≤ length vs
+part-length ls [] e = rw e (omega arith)
+part-length ls (v ∷ vs) (inl p) = omega (arith, part-length ls vs p)
+part-length ls (v ∷ vs) (inr (ms, e, p)) = rw e (omega (arith, part-length ms vs p))
+
+-- a part of a set of at most seven members has at most seven
+part-fits : (ls vs : List Value) → PartOf ls vs → tooLarge set (some vs) ≡ false → tooLarge set (some (listOf (itemsOf ls))) ≡ false
+part-fits ls vs h e = rw (list-items ls) (le-ltb 7 (length ls) (omega (arith, part-length ls vs h, ltb-false 7 (length vs) e)))
+
+halves-fit : (f g : Value → Bool) (o : Option (List Value)) → tooLarge set o ≡ false
+    → ((v : Value) → tooLarge set (contents set v) ≡ false → f v ≡ false) → ((v : Value) → tooLarge set (contents set v) ≡ false → g v ≡ false)
+    → exists (split set o) (λ h. f (leftOf set h) || g (rightOf set h)) ≡ false
+unfolding exists
+halves-fit f g absent e a b = refl
+halves-fit f g (some vs) e a b =
+    none-of (splits vs) (λ h. f (leftOf set h) || g (rightOf set h)) (λ h i. both h (in-splits vs h .0 i))
+  where
+    both : (h : Halves Value) → Shared vs (h .left) (h .right) → f (leftOf set h) || g (rightOf set h) ≡ false
+    both h s =
+        or-none (f (leftOf set h)) (g (rightOf set h))
+        (a (leftOf set h) (part-fits (h .left) vs (shared-left vs (h .left) (h .right) s) e))
+        (b (rightOf set h) (part-fits (h .right) vs (shared-right vs (h .left) (h .right) s) e))
+
+-- THEOREM: a shallow pattern is not wide with anything but a set of over seven members
+pub shallow-narrow : (p : Pattern) (v : Value) → shallow p ≡ true → tooLarge set (contents set v) ≡ false → wide p v ≡ false
+unfolding shallow hasUnion wide
+shallow-narrow (name x) v e n = refl
+shallow-narrow any v e n = refl
+shallow-narrow (literal w) v e n = refl
+shallow-narrow (each k ps) v e n = no-union-narrow (each k ps) v (not-true (someUnion ps) e)
+shallow-narrow (halved set p q) v e n =
+    or-none (tooLarge set (contents set v)) (exists (split set (contents set v)) (λ h. wide p (leftOf set h) || wide q (rightOf set h))) n
+    (halves-fit (wide p) (wide q) (contents set v) n
+    (λ w m. shallow-narrow p w (and-left (shallow p) (shallow q) e) m)
+    (λ w m. shallow-narrow q w (and-right (shallow p) (shallow q) e) m))
+shallow-narrow (halved sequence p q) v e n = no-union-narrow (halved sequence p q) v (not-true (hasUnion p || hasUnion q) e)
+shallow-narrow (halved mapping p q) v e n = no-union-narrow (halved mapping p q) v (not-true (hasUnion p || hasUnion q) e)
+shallow-narrow (halved tuple p q) v e n = no-union-narrow (halved tuple p q) v (not-true (hasUnion p || hasUnion q) e)

@@ -1,0 +1,113 @@
+// Whether a union pattern is met by a set too large to split, wherever kind and count fit: number 29.
+use matching::nodes;
+use matching::nodes::Meeting;
+use parts::Part;
+use tables::reading::kind;
+use tables::reading::operand;
+use tables::reading::operand_count;
+ghost use Rattle.matching.specs.Along.{WayHeld};
+ghost use Rattle.matching.specs.Node.{Readable};
+ghost use Rattle.parts.specs.Part.{PartHeld};
+ghost use Rattle.splitting.specs.Told.{TellsUnion, TellsShallow, TellsWide, TellsWays, TellsWay, WaysHeld};
+
+// A pattern holds a union pattern.
+fn has_union(table: &[u8], index: &[u16; 200], p: usize) -> bool
+    requires { ⌜ Readable (now table) (now index) p ⌝ }
+    ensures { λ r. ⌜ TellsUnion (now (table .entry)) p r ⌝ }
+{
+    let k = kind(table, index, p);
+    if k < 36 {
+        return false;
+    }
+    if k == 38 {
+        return true;
+    }
+    let n = operand_count(table, index, p);
+    let mut i = 0;
+    while i < n {
+        let q = operand(table, index, p, i);
+        let has = has_union(table, index, q);
+        if has {
+            return true;
+        }
+        i += 1;
+    }
+    false
+}
+
+// A pattern holds no union pattern but itself and its halves: all of them meet parts of one set.
+fn is_shallow(table: &[u8], index: &[u16; 200], p: usize) -> bool
+    requires { ⌜ Readable (now table) (now index) p ⌝ }
+    ensures { λ r. ⌜ TellsShallow (now (table .entry)) p r ⌝ }
+{
+    let k = kind(table, index, p);
+    if k != 38 {
+        let has = has_union(table, index, p);
+        return !has;
+    }
+    let l = operand(table, index, p, 0);
+    let left = is_shallow(table, index, l);
+    if !left {
+        return false;
+    }
+    let r = operand(table, index, p, 1);
+    is_shallow(table, index, r)
+}
+
+// A pattern with a part of a value. A shallow pattern is not taken apart: its halves meet no more members than it does.
+pub fn too_large(table: &[u8], index: &[u16; 200], p: usize, s: &[u8], part: Part) -> bool
+    requires { ⌜ Readable (now table) (now index) p × PartHeld (now s) part ⌝ }
+    ensures { λ r. ⌜ TellsWide (now (table .entry)) p (now (s .entry)) part r ⌝ }
+{
+    let k = kind(table, index, p);
+    if k < 36 {
+        return false;
+    }
+    let n = operand_count(table, index, p);
+    let m = nodes::meet(k, n, s, part);
+    match m {
+        Meeting::Unfit => false,
+        Meeting::Large => true,
+        Meeting::Ways(w) => in_ways(table, index, p, s, part, w),
+    }
+}
+
+// The parts of a pattern, in one of w ways.
+fn in_ways(table: &[u8], index: &[u16; 200], p: usize, s: &[u8], part: Part, w: usize) -> bool
+    requires { ⌜ Readable (now table) (now index) p × WaysHeld (now table) p (now s) part w ⌝ }
+    ensures { λ r. ⌜ TellsWays (now (table .entry)) p (now (s .entry)) part r ⌝ }
+{
+    let easy = is_shallow(table, index, p);
+    if easy {
+        return false;
+    }
+    let mut d = 0;
+    while d < w {
+        let wide = in_way(table, index, p, s, part, d);
+        if wide {
+            return true;
+        }
+        d += 1;
+    }
+    false
+}
+
+// The parts of a pattern, each with what it meets in the way d.
+fn in_way(table: &[u8], index: &[u16; 200], p: usize, s: &[u8], part: Part, d: usize) -> bool
+    requires { ⌜ Readable (now table) (now index) p × WayHeld (now table) p 0 (now s) part d ⌝ }
+    ensures { λ r. ⌜ TellsWay (now (table .entry)) p (now (s .entry)) part d r ⌝ }
+{
+    let k = kind(table, index, p);
+    let n = operand_count(table, index, p);
+    let mut i = 0;
+    while i < n {
+        let a = nodes::piece(k, n, s, part, d, i);
+        let q = operand(table, index, p, i);
+        let wide = too_large(table, index, q, s, a);
+        if wide {
+            return true;
+        }
+        i += 1;
+    }
+    false
+}
