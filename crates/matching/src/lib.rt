@@ -168,7 +168,7 @@ fn may_fall(s: &[u8], f: Found, best: Best) -> bool
 }
 
 // What is found matches so far, and can come between the bounds.
-fn is_hopeful(s: &[u8], f: Found, bounds: Bounds) -> bool
+pub fn is_hopeful(s: &[u8], f: Found, bounds: Bounds) -> bool
     requires { ⌜ Standing (now s) f × BoundsHeld (now s) bounds ⌝ }
     ensures { λ r. ⌜ ((st : State) (a m : Option Binding) → Stands (now (s .entry)) f st → Bounded (now (s .entry)) bounds a m → r ≡ (isGood st && hopeful a m (st .found))) ⌝ }
 {
