@@ -54,7 +54,7 @@ fn is_shallow(table: &[u8], index: &[u16; 200], p: usize) -> bool
     is_shallow(table, index, r)
 }
 
-// A pattern with a part of a value. A shallow pattern is not taken apart: its halves meet no more members than it does.
+// A pattern with a part of a value: number 29.
 pub fn too_large(table: &[u8], index: &[u16; 200], p: usize, s: &[u8], part: Part) -> bool
     requires { ⌜ Readable (now table) (now index) p × PartHeld (now s) part ⌝ }
     ensures { λ r. ⌜ TellsWide (now (table .entry)) p (now (s .entry)) part r ⌝ }
@@ -72,7 +72,7 @@ pub fn too_large(table: &[u8], index: &[u16; 200], p: usize, s: &[u8], part: Par
     }
 }
 
-// The parts of a pattern, in one of w ways.
+// The parts of a pattern, in one of w ways. Those of a shallow pattern meet no more members than it does, and so are not tried.
 fn in_ways(table: &[u8], index: &[u16; 200], p: usize, s: &[u8], part: Part, w: usize) -> bool
     requires { ⌜ Readable (now table) (now index) p × WaysHeld (now table) p (now s) part w ⌝ }
     ensures { λ r. ⌜ TellsWays (now (table .entry)) p (now (s .entry)) part r ⌝ }
