@@ -1,5 +1,5 @@
 -- The loop over the members for a set too large to split.
-use mathlib.Core.Path.{_≡_, refl, sym, ap, ap₂, subst, _∙_}
+use mathlib.Core.Path.{_≡_, refl, sym, ap, subst, _∙_}
 use mathlib.Core.Bool.{Bool, true, false, _||_}
 use mathlib.Core.Logic.{inl}
 use mathlib.Core.List.{List, [], _∷_}
@@ -9,15 +9,15 @@ use lib.ListN.{length}
 use Rattle.integers.specs.Bytes.{word}
 use Rattle.values.specs.Value.{Value}
 use Rattle.values.specs.Place.{At, ItemsAt, Holds, HoldsItems}
-use Rattle.values.specs.Records.{holds}
+use Rattle.values.specs.Records.{holds, items-of, word-size}
 use Rattle.tables.specs.Accepted.{records}
-use Rattle.parts.specs.Part.{PartIs}
+use Rattle.parts.specs.Part.{PartIs, PartHeld}
 use Rattle.patterns.specs.Ways.{exists}
 use Rattle.patterns.specs.Pattern.{Pattern, itemsOf, listOf, wide}
 use Rattle.patterns.specs.Matched.{items-list}
 use Rattle.ways.specs.Read.{patternAt}
 use Rattle.ways.specs.Merging.{true-false}
-use Rattle.bindings.specs.Bound.{Values, TellsWideIn, TellsWide}
+use Rattle.bindings.specs.Bound.{Values, Bindable, TellsWideIn, TellsWide}
 use Rattle.bindings.proofs.Members.{First, first-of, none-left}
 
 -- What is told of the value at a place.
@@ -31,7 +31,7 @@ Passing table p s from to at =
     → (ws : List Value) × ItemsAt s at to (itemsOf ws) × (exists ws (wide (patternAt (records table) p)) ≡ exists vs (wide (patternAt (records table) p)))
 
 module _ (table : List ℕ) (p : ℕ) (s : List ℕ) (from to : ℕ) where
-  P : Pattern
+  abbrev P : Pattern
   P = patternAt (records table) p
 
   pub passing-start : Passing table p s from to from
@@ -82,18 +82,34 @@ module _ (table : List ℕ) (p : ℕ) (s : List ℕ) (from to : ℕ) where
 
 -- ---- over the one value, or the members of the set
 
+module _ (s : List ℕ) (at : ℕ) where
+  pub one-part : (t : Bool) → t ≡ true → Bindable s at t → PartHeld s (record { how = 1; at = at; extent = 0 })
+  one-part true e h = record { value = h .1 .0; here = inl (refl, h .1 .1) }
+  one-part false e h = true-false (sym e)
+
+  pub set-held : (t : Bool) → t ≡ false → Bindable s at t → Holds s at
+  set-held true e h = true-false e
+  set-held false e h = holds (h .1)
+
+  pub members-at : (vs : List Value) (n : ℕ) → n ≡ word s at → Values s at false vs → ItemsAt s (at + 4) (at + n) (itemsOf vs)
+  members-at vs n q i = subst (λ (k : ℕ). ItemsAt s (at + 4) (at + k) (itemsOf vs)) (sym (q ∙ word-size i)) (items-of i)
+
+  pub members-held : (t : Bool) → t ≡ false → Bindable s at t → (n : ℕ) → n ≡ word s at → HoldsItems s (at + 4) (at + n)
+  members-held true e h n q = true-false e
+  members-held false e h n q = (itemsOf (h .0), members-at (h .0) n q (h .1))
+
 module _ (table : List ℕ) (p : ℕ) (s : List ℕ) (at : ℕ) (t : Bool) (r : Bool) where
+  or-none : (b : Bool) → (b || false) ≡ b
+  or-none true = refl
+  or-none false = refl
+
   pub tells-one : t ≡ true → TellsAt table p s at r → TellsWide table p s at t r
   unfolding exists
   tells-one e h vs i = go t e i
     where
       go : (t : Bool) → t ≡ true → Values s at t vs → r ≡ exists vs (wide (patternAt (records table) p))
       go true e (v, j, q) = h v (inl (refl, j)) ∙ sym (or-none (wide (patternAt (records table) p) v)) ∙ sym (ap (λ (xs : List Value). exists xs (wide (patternAt (records table) p))) q)
-        where
-          or-none : (b : Bool) → (b || false) ≡ b
-          or-none true = refl
-          or-none false = refl
       go false e i = true-false (sym e)
 
-  pub tells-all : t ≡ false → ((vs : List Value) → Values s at t vs → (from to : ℕ) × ItemsAt s from to (itemsOf vs) × TellsWideIn table p s from to r) → TellsWide table p s at t r
-  tells-all e h vs i = let w = h vs i in w .3 vs (w .2)
+  pub tells-all : t ≡ false → (n : ℕ) → n ≡ word s at → TellsWideIn table p s (at + 4) (at + n) r → TellsWide table p s at t r
+  tells-all e n q h vs i = h vs (members-at s at vs n q (subst (λ (b : Bool). Values s at b vs) e i))

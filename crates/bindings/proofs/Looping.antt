@@ -1,14 +1,15 @@
 -- The loops over the ways of a value that are worth going, and over all members.
 use mathlib.Core.Path.{_≡_, refl, sym, ap, subst, _∙_}
-use mathlib.Core.Bool.{Bool, true, false, _||_}
+use mathlib.Core.Bool.{Bool, true, false, _||_, _&&_}
 use mathlib.Core.Logic.{inl}
-use mathlib.Core.Option.{Option}
+use mathlib.Core.Option.{Option, some}
 use mathlib.Core.List.{List, [], _∷_}
 use Prim.Native.Nat.{ℕ, zero, suc, _+_, _^_, _≤_, _<_}
 use native.Mathlib.Omega.{arith}
 use lib.ListN.{length, getD, take, drop, length-take}
 use Rattle.values.specs.Value.{Value}
 use Rattle.integers.specs.Bytes.{word}
+use Rattle.values.specs.Items.{pick}
 use Rattle.values.specs.Place.{At, ItemsAt, Holds}
 use Rattle.values.specs.Records.{holds}
 use Rattle.tables.specs.Accepted.{records}
@@ -27,6 +28,7 @@ use Rattle.ways.specs.Tries.{State, start, isGood, places}
 use Rattle.ways.specs.Trimmed.{hopeful, trimmed}
 use Rattle.ways.specs.Tame.{trimmed-tame, trimmed-full, trimmed-within, tame-value}
 use Rattle.ways.specs.Read.{patternAt}
+use Rattle.ways.specs.Merging.{true-both}
 use Rattle.ways.specs.Leaves.{or-left, or-right}
 use Rattle.ways.specs.Kin.{Kin}
 use Rattle.ways.specs.Best.{better, leastOver, kin-over, over-all}
@@ -34,10 +36,28 @@ use Rattle.ways.specs.Seeking.{Seeking, seeking-start, seeking-into, seeking-no
 use Rattle.matching.specs.declared.Found.{Found}
 use Rattle.matching.specs.declared.Best.{Best}
 use Rattle.matching.specs.declared.Matched.{Matched}
+use Rattle.matching.specs.declared.Bounds.{Bounds}
 use Rattle.matching.specs.Found.{Stands, Standing, BestIs, BestHeld, Bounded}
 use Rattle.matching.specs.Along.{Came, Along}
 use Rattle.bindings.proofs.Members.{First, first-of, none-left}
 use Rattle.bindings.specs.Bound.{Considered, Searchable, Bounding, Sought, SoughtOf, SoughtAll, SoughtOfAll}
+
+-- ---- what counts
+
+abbrev Hopes : List ℕ → Found → Bounds → Bool → Type 0
+Hopes s f bounds t = (st : State) (a m : Option Binding) → Stands s f st → Bounded s bounds a m → t ≡ (isGood st && hopeful a m (st .found))
+
+module _ (s : List ℕ) (f : Found) (bounds : Bounds) (t : Bool) (c : Hopes s f bounds t) where
+  pub taken : t ≡ true → Considered s f bounds (record { found = f; any = true })
+  taken e st a n h b =
+      let q : (isGood st && hopeful a n (st .found)) ≡ true = sym (c st a n h b) ∙ e in
+      let g : f .fits ≡ true = h .fit ∙ true-both (isGood st) (hopeful a n (st .found)) q .0 in
+      subst (λ (x : Bool). BestIs s (record { found = f; any = true }) (pick x (some (st .found)) n)) (sym q)
+      (refl, record { sized = h .sized; binding-sized = h .found-sized; cells = h .cells g })
+
+  pub left : t ≡ false → Considered s f bounds (bounds .best)
+  left e st a n h b =
+      subst (λ (x : Bool). BestIs s (bounds .best) (pick x (some (st .found)) n)) (sym (sym (c st a n h b) ∙ e)) (b .best-is)
 
 -- ---- bytes
 
@@ -81,10 +101,10 @@ module _ (p : Pattern) (few : places p ≤ most) (v : Value) (narrow : wide p v 
       record { sound = h .sound; started = h .viewed ∙ ap fresh (sym e); n = m; best-is = b .best-is; seeking = subst (Seeking p v a m m) (sym e) (seeking-start p v a m narrow) }
 
   module _ (d : Digits) (best : Best) (g : Running p v a m s d best) where
-    l : List ℕ
+    abbrev l : List ℕ
     l = view d .left
 
-    u : Tree State
+    abbrev u : Tree State
     u = trimmed (hopeful a (g .n)) p v start
 
     module _ (r : Matched) (c : Came s r (walk u (view d))) where
@@ -237,7 +257,7 @@ module _ (table : List ℕ) (p : ℕ) (s : List ℕ) (from to : ℕ) (present be
     seen-more n best′ l e h vs a m i w b =
         let y = z vs a m i w b in
         let f = first-of s at to (y .members) l (y .here) in
-        let g = record { present-is = b .present-is; best-is = y .best-is; present-kin = b .present-kin; best-kin = y .best-kin } in
+        let g : Bounding (patternAt (records table) p) s present best a (y .n) = record { present-is = b .present-is; best-is = y .best-is; present-kin = b .present-kin; best-kin = y .best-kin } in
         record {
           members = f .others;
           here = subst (λ (k : ℕ). ItemsAt s (at + k) to (itemsOf (f .others))) (sym e) (f .others-at);

@@ -34,6 +34,7 @@ use Rattle.matching.specs.Found.{BestIs, NoneYet}
 use Rattle.bindings.specs.declared.Tally.the-variants.{Number, Refused}
 use Rattle.bindings.specs.Bound.{Bounding, Sought, SoughtAll, SoughtOf, SoughtOfAll, Searchable, Values, Bindable, Follows, StoodAt, MemberHeld, MemberFollows, MemberNext, TellsWide, TellsWideIn, Present, NextOf, TellsOf, Tallied}
 use Rattle.bindings.proofs.Members.{best-one, set-one, plain-are}
+use Rattle.bindings.proofs.Large.{members-at}
 use Rattle.bindings.specs.Stepping.{Stepped, stepped-none, step-end, step-more, stepped-more}
 
 -- ---- the record of a name
@@ -51,9 +52,9 @@ name-is-byte c e = subst (λ (n : ℕ). size (shape n .head) ≡ 1) (sym e) refl
 
 -- ---- one binder, one binding
 
-values-one : {s : List ℕ} {at : ℕ} (t : Bool) (vs ws : List Value) → Values s at t vs → Values s at t ws → vs ≡ ws
-values-one true vs ws (v, i, q) (w, j, r) = q ∙ ap (λ (x : Value). x ∷ []) (one-value i j) ∙ sym r
-values-one false vs ws i j = set-one vs ws i j
+values-one : (s : List ℕ) (at : ℕ) (t : Bool) (vs ws : List Value) → Values s at t vs → Values s at t ws → vs ≡ ws
+values-one s at true vs ws (v, i, q) (w, j, r) = q ∙ ap (λ (x : Value). x ∷ []) (one-value i j) ∙ sym r
+values-one s at false vs ws i j = set-one vs ws i j
 
 -- What follows a binding is a binding of the pattern.
 following-kin : (p : Pattern) (vs : List Value) (a : Option Binding) → Kin p (following a (bindings p vs))
@@ -66,29 +67,15 @@ one-following p v a = sym (over-all p v [] a none) ∙ over-following p (v ∷ [
 -- ---- what the search asks, and gives
 
 module _ (table : List ℕ) (p : ℕ) (s : List ℕ) (at : ℕ) where
-  pub set-held : (t : Bool) → t ≡ false → Bindable s at t → Holds s at
-  set-held true e h = true-false e
-  set-held false e h = holds (h .1)
-
-  pub members-held : (t : Bool) → t ≡ false → Bindable s at t → (n : ℕ) → n ≡ word s at → HoldsItems s (at + 4) (at + n)
-  members-held true e h n q = true-false e
-  members-held false e h n q = (itemsOf (h .0), subst (λ (k : ℕ). ItemsAt s (at + 4) (at + k) (itemsOf (h .0))) (sym (q ∙ word-size (h .1))) (items-of (h .1)))
-
-  members-at : (vs : List Value) (n : ℕ) → n ≡ word s at → Values s at false vs → ItemsAt s (at + 4) (at + n) (itemsOf vs)
-  members-at vs n q i = subst (λ (k : ℕ). ItemsAt s (at + 4) (at + k) (itemsOf vs)) (sym (q ∙ word-size i)) (items-of i)
-
   module _ (t : Bool) (present f : Best) (h : Present table p s at t present) (o : NoneYet f) where
-    P : Pattern
+    abbrev P : Pattern
     P = patternAt (records table) p
-
-    pub present-bindable : Bindable s at t
-    present-bindable = (h .values, h .are)
 
     bounding : (a : Option Binding) → BestIs s present a → Bounding P s present f a none
     bounding a x = record { present-is = x; best-is = o .nothing; present-kin = subst (Kin P) (best-one s present (h .binding) a (h .is) x) (h .kin); best-kin = tt }
 
     narrow-of : (vs : List Value) → Values s at t vs → exists vs (wide P) ≡ false
-    narrow-of vs i = ap (λ (ws : List Value). exists ws (wide P)) (values-one t vs (h .values) i (h .are)) ∙ h .narrow
+    narrow-of vs i = ap (λ (ws : List Value). exists ws (wide P)) (values-one s at t vs (h .values) i (h .are)) ∙ h .narrow
 
     one-narrow : (v : Value) → exists (v ∷ []) (wide P) ≡ false → wide P v ≡ false
     unfolding exists
@@ -104,7 +91,7 @@ module _ (table : List ℕ) (p : ℕ) (s : List ℕ) (at : ℕ) where
     pub all-sought : t ≡ false → (n : ℕ) → n ≡ word s at → SoughtAll table p s (at + 4) (at + n) present f
     all-sought e n q = record {
       values = h .values;
-      here = members-at (h .values) n q (subst (λ (b : Bool). Values s at b (h .values)) e (h .are));
+      here = members-at s at (h .values) n q (subst (λ (b : Bool). Values s at b (h .values)) e (h .are));
       narrow = h .narrow;
       a = h .binding;
       m = none;
@@ -123,7 +110,7 @@ module _ (table : List ℕ) (p : ℕ) (s : List ℕ) (at : ℕ) where
     pub follows-all : t ≡ false → (n : ℕ) → n ≡ word s at → (r : Best) → SoughtOfAll table p s (at + 4) (at + n) present f r → Follows table p s at t present r
     follows-all e n q r g vs a i x =
         subst (BestIs s r) (over-following P vs a)
-        (g vs a none (members-at vs n q (subst (λ (b : Bool). Values s at b vs) e i)) (narrow-of vs i) (bounding a x))
+        (g vs a none (members-at s at vs n q (subst (λ (b : Bool). Values s at b vs) e i)) (narrow-of vs i) (bounding a x))
 
     -- not a plain name over a set
     pub next-searched : (t ≡ false → kindAt (records table) p ≡ 32 → ⊥) → (r : Best) → Follows table p s at t present r → NextOf table p s at t present r
@@ -163,7 +150,7 @@ module _ (table index : List ℕ) (p : ℕ) (c : Searchable table index p) (k : 
     pub next-plain : (r : Best) → MemberNext s y at f r → NextOf table p s at t f r
     next-plain r o = record {
       follows = λ vs a i b.
-          let q : vs ≡ h .values = values-one t vs (h .values) i (h .are) in
+          let q : vs ≡ h .values = values-one s at t vs (h .values) i (h .are) in
           let u : a ≡ h .binding = best-one s f a (h .binding) b (h .is) in
           subst (BestIs s r) (sym (ap₂ following u (ap (bindings (patternAt (records table) p)) q ∙ plainly))) (got .next);
       stays = record {
@@ -189,9 +176,9 @@ module _ (table index : List ℕ) (p : ℕ) (c : Searchable table index p) (k : 
 -- ---- how many
 
 module _ (table : List ℕ) (p : ℕ) (s : List ℕ) (at : ℕ) (t : Bool) where
-  pub tells-29 : TellsWide table p s at t true → Tallied table p s at t (Refused 29)
-  tells-29 h vs i =
-      subst (λ (x : Formed). TellsOf x (Refused 29)) (ap (λ (b : Bool). pick b (refused 29) (fewest (bindings (patternAt (records table) p) vs))) (h vs i)) refl
+  pub tells-29 : (w : Bool) → TellsWide table p s at t w → w ≡ true → Tallied table p s at t (Refused 29)
+  tells-29 w h e vs i =
+      subst (λ (x : Formed). TellsOf x (Refused 29)) (ap (λ (b : Bool). pick b (refused 29) (fewest (bindings (patternAt (records table) p) vs))) (sym e ∙ h vs i)) refl
 
   -- n steps from none, at most as many as a binder may have bindings
   pub record Counted (n : ℕ) (present : Best) : Type 0 where
@@ -199,8 +186,11 @@ module _ (table : List ℕ) (p : ℕ) (s : List ℕ) (at : ℕ) (t : Bool) where
     pub stepped : Stepped table p s at t n present
     pub no-wide : (vs : List Value) → Values s at t vs → exists vs (wide (patternAt (records table) p)) ≡ false
 
-  pub counted-none : TellsWide table p s at t false → (f : Best) → NoneYet f → Bindable s at t → Counted 0 f
-  counted-none w f h k = record { few = omega arith; stepped = stepped-none table p s at t f (k .0) h (k .1) (sym (w (k .0) (k .1))); no-wide = λ vs i. sym (w vs i) }
+  pub counted-none : (w : Bool) → TellsWide table p s at t w → w ≡ false → (f : Best) → NoneYet f → Bindable s at t → Counted 0 f
+  counted-none w g e f h k = record { few = omega arith; stepped = stepped-none table p s at t f (k .0) h (k .1) (no-wide (k .0) (k .1)); no-wide = no-wide }
+    where
+      no-wide : (vs : List Value) → Values s at t vs → exists vs (wide (patternAt (records table) p)) ≡ false
+      no-wide vs i = sym (g vs i) ∙ e
 
   module _ (n : ℕ) (present : Best) (g : Counted n present) (r : Best) (nx : NextOf table p s at t present r) where
     pub tells-number : r .any ≡ false → Tallied table p s at t (Number n)

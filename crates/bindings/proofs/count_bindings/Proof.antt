@@ -7,50 +7,55 @@ use Rattle.bindings.proofs.count_bindings.Statement.{statement}
 use Rattle.bindings.proofs.count_bindings.Tie as tie
 use Rattle.bindings.proofs.count_bindings.Reads as reads
 use Rattle.bindings.proofs.count_bindings.Lts as lts
-use Rattle.bindings.proofs.Best.none.Reads as none-reads
+use Rattle.bindings.proofs.is_wide.Reads as is-wide-reads
 use Rattle.bindings.proofs.next_binding.Reads as next-binding-reads
+use Rattle.matching.proofs.Best.none.Reads as none-reads
 
 abbrev Inv-loop : tie.InvT-loop
-Inv-loop table index p s at whole present₀ n₀ present n = Counted table p s at whole n present
+Inv-loop table index p s at whole wide present₀ n₀ present n = Counted table p s at whole n present
 
 abbrev μ-loop : tie.MeasureT-loop
-μ-loop table index p s at whole present₀ n₀ present n = 255 - n
+μ-loop table index p s at whole wide present₀ n₀ present n = 255 - n
 
--- src/lib.rt:202:9
+-- src/lib.rt:228:9
+is-wide-requires : tie.Need-is-wide-requires Inv-loop μ-loop
+is-wide-requires c κs = search needs
+
+-- src/lib.rt:230:9
+returns : tie.Need-returns Inv-loop μ-loop
+returns c = tells-29 _ _ _ _ _ _ (c .before .is-wide .ensures) (c .if1 .taken)
+
+-- src/lib.rt:232:9
 none-requires : tie.Need-none-requires Inv-loop μ-loop
 none-requires c κs = search needs
 
--- src/lib.rt:204:5
+-- src/lib.rt:234:5
 loop-holds : tie.Need-loop-holds Inv-loop μ-loop
-loop-holds c = counted-none _ _ _ _ _ _ (c .none .ensures) (c .before .before .before .pre .1)
+loop-holds c = counted-none _ _ _ _ _ _ (c .before .before .is-wide .ensures) (c .before .if1 .left) _ (c .none .ensures) (c .before .before .before .before .before .pre .1)
 
--- src/lib.rt:205:13
+-- src/lib.rt:235:13
 next-binding-requires : tie.Need-next-binding-requires Inv-loop μ-loop
-next-binding-requires c κs = (c .before .before .before .before .pre .0, c .loop .inv .stepped .present-is)
+next-binding-requires c κs = (c .before .before .before .before .before .before .pre .0, c .loop .inv .stepped .present-is)
 
--- src/lib.rt:207:13
-returns : tie.Need-returns Inv-loop μ-loop
-returns c = tells-29 _ _ _ _ _ _ _ (c .before .before .loop .inv) _ (c .before .next-binding .ensures) (c .if1 .taken)
-
--- src/lib.rt:210:13
+-- src/lib.rt:237:13
 returns-2 : tie.Need-returns-2 Inv-loop μ-loop
-returns-2 c = tells-number _ _ _ _ _ _ _ (c .before .before .before .before .loop .inv) _ (c .before .before .before .next-binding .ensures) (c .before .before .if1 .left) (not-true _ (c .if2 .taken))
+returns-2 c = tells-number _ _ _ _ _ _ _ (c .before .before .before .loop .inv) _ (c .before .before .next-binding .ensures) (not-true _ (c .if2 .taken))
 
--- src/lib.rt:213:13
+-- src/lib.rt:240:13
 returns-3 : tie.Need-returns-3 Inv-loop μ-loop
-returns-3 c = tells-30 _ _ _ _ _ _ _ (c .before .before .before .before .before .loop .inv) _ (c .before .before .before .before .next-binding .ensures) (c .before .before .before .if1 .left) (not-false _ (c .before .if2 .left)) (c .if3 .taken)
+returns-3 c = tells-30 _ _ _ _ _ _ _ (c .before .before .before .before .loop .inv) _ (c .before .before .before .next-binding .ensures) (not-false _ (c .before .if2 .left)) (c .if3 .taken)
 
--- src/lib.rt:215:9
+-- src/lib.rt:242:9
 add-n : tie.Need-add-n Inv-loop μ-loop
 add-n c = search needs
 
--- src/lib.rt:204:5
+-- src/lib.rt:234:5
 loop-less : tie.Need-loop-less Inv-loop μ-loop
 loop-less c = search needs
 
--- src/lib.rt:204:5
+-- src/lib.rt:234:5
 loop-again : tie.Need-loop-again Inv-loop μ-loop
-loop-again c = counted-more _ _ _ _ _ _ _ (c .before .before .before .before .before .loop .inv) _ (c .before .before .before .before .next-binding .ensures) (c .before .before .before .if1 .left) (not-false _ (c .before .if2 .left)) (omega arith)
+loop-again c = counted-more _ _ _ _ _ _ _ (c .before .before .before .before .loop .inv) _ (c .before .before .before .next-binding .ensures) (not-false _ (c .before .if2 .left)) (omega arith)
 
 pub count-bindings-spec : {M : Type 1} → statement M
 count-bindings-spec =
@@ -58,10 +63,11 @@ count-bindings-spec =
     (tie.spec
     Inv-loop
     μ-loop
+    is-wide-requires
+    returns
     none-requires
     loop-holds
     next-binding-requires
-    returns
     returns-2
     returns-3
     add-n
