@@ -23,7 +23,7 @@ is-wide-requires c κs = search needs
 
 -- src/lib.rt:230:9
 returns : tie.Need-returns Inv-loop μ-loop
-returns c = tells-29 _ _ _ _ _ _ (c .before .is-wide .ensures) (c .if1 .taken)
+returns c = tells-29 _ _ (c .before .before .before .before .args .s .now) (c .before .before .before .before .args .at) (c .before .before .before .before .args .whole) _ (c .before .is-wide .ensures) (c .if1 .taken)
 
 -- src/lib.rt:232:9
 none-requires : tie.Need-none-requires Inv-loop μ-loop
