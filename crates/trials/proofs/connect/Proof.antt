@@ -5,7 +5,7 @@ use Rattle.trials.proofs.connect.Statement.{statement}
 use Rattle.trials.proofs.connect.Tie as tie
 
 left-requires : tie.Need-left-requires
-left-requires c κs = (c .before .before .before .pre .0, c .before .before .before .pre .1 .low, c .before .before .before .pre .1 .high)
+left-requires c κs = search needs
 
 enum-told : tie.Need-enum-told
 enum-told c = search needs
