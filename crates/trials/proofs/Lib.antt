@@ -3,3 +3,4 @@ pub mod Shapes
 pub mod Found
 pub mod Placing
 pub mod Trying
+pub mod Connecting

@@ -76,7 +76,7 @@ loading-all {x} {s} {t} {at} {i} l h =
 
 -- ---- one operand, and two
 
-put-at : {x t : List ℕ} (s : List ℕ) (at : ℕ) → at + limit ≤ length s → t ≡ sets s at x → (v : Value) → Operand x v → At t at v
+pub put-at : {x t : List ℕ} (s : List ℕ) (at : ℕ) → at + limit ≤ length s → t ≡ sets s at x → (v : Value) → Operand x v → At t at v
 put-at {x} {t} s at h q v o =
     let g = o .fine .short in
     written s (q ∙ ap (sets s at) (o .is)) (o .fine) (omega arith)

@@ -7,9 +7,10 @@ use native.Mathlib.Omega.{arith}
 use Rattle.values.specs.Value.{Value}
 use Rattle.values.specs.Records.{holds}
 use Rattle.operators.specs.Answer.{Answer}
+use Rattle.operators.specs.Booleans.{Connective}
 use Rattle.scalars.specs.declared.Applied.{Applied}
 use Rattle.scalars.specs.Applied.{One, Two, Applies, done as there, off as not-there, OnOne, OnTwo}
-use Rattle.trials.specs.Trial.{Operand, SomeOperand, Roomy, PlacesOne, PlacesTwo, badInput, numberOf, Answers, done, off, TriesOne, TriesTwo}
+use Rattle.trials.specs.Trial.{Operand, SomeOperand, Roomy, PlacesOne, PlacesTwo, connected, Connects, badInput, numberOf, Answers, done, off, TriesOne, TriesTwo}
 use Rattle.trials.proofs.Telling.{false-true, told-false}
 
 -- the number of an answer
@@ -60,7 +61,18 @@ two-asked p e =
     let g = i .0 in
     record { left = holds (p .first (i .1 .0) e (i .1 .1)); right = holds (p .second (i .2 .0) e (i .2 .1)); room = omega arith }
 
-pub two-tried : {K : Type 0} {f : Value → Value → Answer} {x y s t : List ℕ} {u : List ℕ} {r : Bool} {a : Applied} {n : ℕ} → K → PlacesTwo x y s t r → r ≡ true → OnTwo f t u 0 a → n ≡ numberOf a → TriesTwo K f x y s u n
-two-tried k p e o d =
+-- the first of them alone
+pub first-asked : {x y s t : List ℕ} {r : Bool} → PlacesTwo x y s t r → r ≡ true → One t 0
+first-asked p e = let h = two-asked p e in record { held = h .left; room = h .room }
+
+pub two-answered : {K : Type 0} {f : Value → Value → Answer} {x y s t : List ℕ} {u : List ℕ} {r : Bool} {a : Applied} {n : ℕ} → K → PlacesTwo x y s t r → r ≡ true → ((v w : Value) → Operand x v → Operand y w → Applies u 0 a (f v w)) → n ≡ numberOf a → TriesTwo K f x y s u n
+two-answered k p e o d =
     let i = p .tells .sound e in
-    record { right = λ v w k′ g q r. answers d (o .right v w (p .first v e q) (p .second w e r)); bad = λ b. absurd (b k (i .0) (i .1) (i .2)) }
+    record { right = λ v w k′ g q r. answers d (o v w q r); bad = λ b. absurd (b k (i .0) (i .1) (i .2)) }
+
+pub two-tried : {K : Type 0} {f : Value → Value → Answer} {x y s t : List ℕ} {u : List ℕ} {r : Bool} {a : Applied} {n : ℕ} → K → PlacesTwo x y s t r → r ≡ true → OnTwo f t u 0 a → n ≡ numberOf a → TriesTwo K f x y s u n
+two-tried k p e o d = two-answered k p e (λ v w q r. o .right v w (p .first v e q) (p .second w e r)) d
+
+-- and, or, =>: the right is put where the left stood
+pub two-connected : (c : Connective) {K : Type 0} {x y s t : List ℕ} {u : List ℕ} {r : Bool} {a : Applied} {n : ℕ} → K → PlacesTwo x y s t r → r ≡ true → Connects c y t u a → n ≡ numberOf a → TriesTwo K (connected c) x y s u n
+two-connected c k p e o d = two-answered {f = connected c} k p e (λ v w q r. o w r .right v (p .first v e q)) d

@@ -7,8 +7,11 @@ use lib.ListN.{length}
 use Rattle.values.specs.Value.{Value, size, encode, WellFormed, limit}
 use Rattle.values.specs.Place.{At}
 use Rattle.operators.specs.Answer.{Answer, is, refused}
+use Rattle.operators.specs.Booleans.{Connective, left, right}
+use Rattle.operator_laws.specs.BooleanLaws.{decided}
 use Rattle.scalars.specs.declared.Applied.{Applied}
 use Rattle.scalars.specs.declared.Applied.the-variants.{Done, Refused}
+use Rattle.scalars.specs.Applied.{OnOne}
 use Rattle.trials.specs.Validity.{Tells}
 
 -- ---- operands
@@ -39,6 +42,21 @@ pub record PlacesTwo (x y s t : List ℕ) (r : Bool) : Type 0 where
   pub first : (v : Value) → r ≡ true → Operand x v → At t 0 v
   pub second : (w : Value) → r ≡ true → Operand y w → At t 512 w
   pub still : r ≡ false → t ≡ s
+
+-- ---- and, or, =>
+
+-- 1 and, 2 or, 3 =>.
+pub record Conditional (operator : ℕ) : Type 0 where
+  pub low : 1 ≤ operator
+  pub high : operator ≤ 3
+
+-- What a connective answers on two values: what the left settles, or else what the right gives.
+abbrev pub connected : Connective → Value → Value → Answer
+connected c v w = decided (left c v) (right w)
+
+-- r is that answer on the value at 0 and on the operand y.
+abbrev pub Connects : Connective → List ℕ → List ℕ → List ℕ → Applied → Type 0
+Connects c y s t r = (w : Value) → Operand y w → OnOne (λ v. connected c v w) s t 0 r
 
 -- ---- answers
 

@@ -1,12 +1,15 @@
 // Operators tried on values from outside. Untrusted bytes are validated before anything is done with them, so nothing is asked of a caller.
 use scalars::Applied;
+use scalars::Tested;
 ghost use mathlib.Core.Path.{_≡_};
 ghost use Rattle.operators.specs.Sets.{rangeOf};
 ghost use Rattle.operators.specs.Maps.{applyTo};
 ghost use Rattle.operators.specs.Operators.{unary, binary};
+ghost use Rattle.scalars.specs.Applied.{One};
+ghost use Rattle.scalars.specs.Scalars.{connective};
 ghost use Rattle.operations.specs.Numbers.{Unary, Binary};
 ghost use Rattle.trials.specs.Validity.{Tells};
-ghost use Rattle.trials.specs.Trial.{SomeOperand, numberOf, TriesOne, TriesTwo};
+ghost use Rattle.trials.specs.Trial.{SomeOperand, Conditional, connected, Connects, numberOf, TriesOne, TriesTwo};
 
 pub mod operands;
 mod validity;
@@ -67,6 +70,44 @@ pub extern "C" fn trials_binary(
     }
     if operands::place_two(left, right, scratch) {
         return number(operations::binary(scratch, 0, operator));
+    }
+    BAD_INPUT
+}
+
+// A conditional operator: the right takes the left's place only where the left leaves it to decide.
+fn connect(operator: usize, right: &[u8], s: &mut [u8]) -> Applied
+    requires { ⌜ One (now s) 0 × Conditional operator × SomeOperand (now right) ⌝ }
+    ensures { λ r. ⌜ Connects (connective operator) (now (right .entry)) (now (s .entry)) (now (s .exit)) r ⌝ }
+{
+    let tested = scalars::left(s, 0, operator);
+    match tested {
+        Tested::Settled => Applied::Done,
+        Tested::Open => {
+            operands::load(right, s, 0);
+            scalars::right(s, 0)
+        }
+        Tested::Refused(n) => Applied::Refused(n),
+    }
+}
+
+// 1 and, 2 or, 3 =>. Both operands are values, but the right is not tested where the left settles it.
+#[no_mangle]
+pub extern "C" fn trials_connective(
+    operator: usize,
+    left: &[u8],
+    right: &[u8],
+    scratch: &mut [u8],
+) -> usize
+    ensures { λ r. ⌜ TriesTwo (Conditional operator) (connected (connective operator)) (now (left .entry)) (now (right .entry)) (now (scratch .entry)) (now (scratch .exit)) r ⌝ }
+{
+    if operator < 1 {
+        return BAD_INPUT;
+    }
+    if operator >= operations::FIRST_STRICT {
+        return BAD_INPUT;
+    }
+    if operands::place_two(left, right, scratch) {
+        return number(connect(operator, right, scratch));
     }
     BAD_INPUT
 }

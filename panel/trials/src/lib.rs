@@ -8,8 +8,10 @@ pub const SCRATCH: usize = 1536;
 /// little scratch.
 pub const BAD_INPUT: usize = 255;
 
-/// The numbers of the operators that can be tried: the unary ones from 1, and the strict binary ones.
+/// The numbers of the operators: the unary ones from 1; the connectives from 1, and then the strict
+/// binary ones.
 pub const LAST_UNARY: usize = 15;
+pub const LAST_CONNECTIVE: usize = 3;
 pub const FIRST_BINARY: usize = 4;
 pub const LAST_BINARY: usize = 28;
 
@@ -26,6 +28,16 @@ mod proved {
         ) -> usize;
 
         pub fn trials_binary(
+            operator: usize,
+            left: *const u8,
+            left_len: usize,
+            right: *const u8,
+            right_len: usize,
+            scratch: *mut u8,
+            scratch_len: usize,
+        ) -> usize;
+
+        pub fn trials_connective(
             operator: usize,
             left: *const u8,
             left_len: usize,
@@ -81,6 +93,23 @@ pub fn binary(operator: usize, left: &[u8], right: &[u8], scratch: &mut [u8]) ->
     // SAFETY: as for `unary`.
     unsafe {
         proved::trials_binary(
+            operator,
+            left.as_ptr(),
+            left.len(),
+            right.as_ptr(),
+            right.len(),
+            scratch.as_mut_ptr(),
+            scratch.len(),
+        )
+    }
+}
+
+/// A connective, and, or or =>, up to [`LAST_CONNECTIVE`]. Both operands are values, but the right one is
+/// not looked at where the left one settles the answer.
+pub fn connective(operator: usize, left: &[u8], right: &[u8], scratch: &mut [u8]) -> usize {
+    // SAFETY: as for `unary`.
+    unsafe {
+        proved::trials_connective(
             operator,
             left.as_ptr(),
             left.len(),

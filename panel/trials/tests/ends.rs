@@ -4,7 +4,7 @@ mod common;
 
 use common::*;
 use reference::value::Value;
-use trials::{BAD_INPUT, LAST_BINARY, LAST_UNARY, SCRATCH};
+use trials::{BAD_INPUT, LAST_BINARY, LAST_CONNECTIVE, LAST_UNARY, SCRATCH};
 
 #[test]
 fn integers_at_the_ends() {
@@ -147,7 +147,7 @@ fn indexes_of_63_and_of_64_items() {
 
 #[test]
 fn what_is_no_trial_changes_nothing() {
-    let one = int(1).encode();
+    let (one, yes) = (int(1).encode(), TRUE.encode());
     let untouched = [0xA5; SCRATCH];
     let mut scratch = untouched;
     for operator in [0, LAST_UNARY + 1, 255, usize::MAX] {
@@ -159,17 +159,33 @@ fn what_is_no_trial_changes_nothing() {
             BAD_INPUT
         );
     }
+    for operator in [0, LAST_CONNECTIVE + 1, LAST_BINARY, usize::MAX] {
+        assert_eq!(
+            trials::connective(operator, &yes, &yes, &mut scratch),
+            BAD_INPUT
+        );
+    }
     let bad: [&[u8]; 4] = [&[], &[8], &one[..7], &[&one[..], &[0]].concat()];
     for bytes in bad {
         assert_eq!(trials::unary(2, bytes, &mut scratch), BAD_INPUT);
         assert_eq!(trials::binary(7, bytes, &one, &mut scratch), BAD_INPUT);
         assert_eq!(trials::binary(7, &one, bytes, &mut scratch), BAD_INPUT);
+        for operator in 1..=LAST_CONNECTIVE {
+            let (left, right) = ((bytes, &yes[..]), (&yes[..], bytes));
+            for (left, right) in [left, right] {
+                let number = trials::connective(operator, left, right, &mut scratch);
+                assert_eq!(number, BAD_INPUT, "also where the left settles it");
+            }
+        }
         assert_eq!(trials::range(bytes, &one, &mut scratch), BAD_INPUT);
         assert_eq!(trials::apply(&one, bytes, &mut scratch), BAD_INPUT);
     }
     let short = &mut scratch[..SCRATCH - 1];
     assert_eq!(trials::unary(2, &one, short), BAD_INPUT);
     assert_eq!(trials::binary(7, &one, &one, short), BAD_INPUT);
+    for operator in 1..=LAST_CONNECTIVE {
+        assert_eq!(trials::connective(operator, &yes, &yes, short), BAD_INPUT);
+    }
     assert_eq!(trials::range(&one, &one, short), BAD_INPUT);
     assert_eq!(scratch, untouched);
     assert_eq!(trials::unary(2, &one, &mut scratch), 0);

@@ -25,6 +25,10 @@ fn booleans() {
     let (a, b) = (TRUE, FALSE);
     truth(unary(1, &a), false);
     truth(unary(1, &b), true);
+    truth(connective(AND, &a, &b), false);
+    truth(connective(OR, &a, &b), true);
+    truth(connective(IMPLIES, &a, &b), false);
+    truth(connective(IMPLIES, &b, &b), true);
     truth(binary(4, &a, &b), false);
     truth(binary(4, &b, &a), false);
     truth(binary(4, &a, &a), true);

@@ -41,7 +41,7 @@ fn form_of_unary(operator: u8) -> Form {
 
 fn forms_of_binary(operator: u8) -> (Form, Form) {
     match operator {
-        4 => (Form::Boolean, Form::Boolean),
+        1..=4 => (Form::Boolean, Form::Boolean),
         5 | 6 => (Form::Any, Form::Any),
         7..=16 => (Form::Integer, Form::Integer),
         17 | 18 => (Form::Any, Form::Set),
@@ -121,16 +121,26 @@ fn unary_operators() {
     }
 }
 
+/// A connective or a strict binary operator.
+fn tried(operator: u8, left: &Value, right: &Value) -> Outcome {
+    let operator = usize::from(operator);
+    if operator < FIRST_BINARY {
+        connective(operator, left, right)
+    } else {
+        binary(operator, left, right)
+    }
+}
+
 #[test]
 fn binary_operators() {
-    for operator in FIRST_BINARY as u8..=LAST_BINARY as u8 {
+    for operator in 1..=LAST_BINARY as u8 {
         let mut random = Random::new(100 + u64::from(operator));
         let mut tally = Tally::default();
         let (first_form, second_form) = forms_of_binary(operator);
         for _ in 0..PAIRS {
             let left = operand(&mut random, first_form);
             let right = second(&mut random, second_form, &left);
-            let outcome = binary(usize::from(operator), &left, &right);
+            let outcome = tried(operator, &left, &right);
             tally.count(&outcome);
             assert_eq!(
                 outcome,

@@ -73,6 +73,17 @@ pub fn binary(operator: usize, left: &Value, right: &Value) -> Outcome {
     outcome(number, &scratch)
 }
 
+/// The connectives: and, or, =>.
+pub const AND: usize = 1;
+pub const OR: usize = 2;
+pub const IMPLIES: usize = 3;
+
+pub fn connective(operator: usize, left: &Value, right: &Value) -> Outcome {
+    let mut scratch = scratch();
+    let number = trials::connective(operator, &left.encode(), &right.encode(), &mut scratch);
+    outcome(number, &scratch)
+}
+
 pub fn range(from: &Value, to: &Value) -> Outcome {
     let mut scratch = scratch();
     let number = trials::range(&from.encode(), &to.encode(), &mut scratch);
