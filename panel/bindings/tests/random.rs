@@ -364,8 +364,8 @@ fn values_made_from_the_pattern() {
     assert!(tally.repeated > 500, "{tally:?}");
     assert!(tally.loose > 1500, "{tally:?}");
     assert!(tally.unmatched > 1000, "{tally:?}");
-    assert!(tally.wide > 40, "{tally:?}");
-    assert!(tally.many > 20, "{tally:?}");
+    assert!(tally.wide > 100, "{tally:?}");
+    assert!(tally.many > 10, "{tally:?}");
     assert!(tally.bindings > 10_000, "{tally:?}");
     tally.expect_kinds(BINDERS.into_iter().chain(32..=40), 150);
 }
@@ -378,7 +378,7 @@ fn damaged_values() {
     assert!(tally.repeated > 400, "{tally:?}");
     assert!(tally.loose > 1200, "{tally:?}");
     assert!(tally.unmatched > 2000, "{tally:?}");
-    assert!(tally.wide > 40, "{tally:?}");
+    assert!(tally.wide > 100, "{tally:?}");
     tally.expect_kinds(BINDERS.into_iter().chain(32..=40), 150);
 }
 
@@ -404,5 +404,10 @@ fn sheets_of_the_generator() {
     }
     println!("{binders} binders: {tally:?}");
     assert!(binders > 2500, "{binders}");
-    assert!(tally.matched > 3000, "{tally:?}");
+    assert!(tally.matched > 4000, "{tally:?}");
+    assert!(tally.several > 2000, "{tally:?}");
+    assert!(tally.loose > 1500, "{tally:?}");
+    assert!(tally.unmatched > 800, "{tally:?}");
+    tally.expect_kinds((12..=13).chain(32..=40), 100);
+    tally.expect_kinds(14..=20, 1);
 }

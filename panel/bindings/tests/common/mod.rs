@@ -199,7 +199,7 @@ impl<'t> Case<'t> {
         assert_eq!(self.count(), wide, "{self}");
         for k in [0, 1, MAX_BINDINGS, usize::MAX] {
             for name in (0..=NAMES).chain([usize::MAX]) {
-                assert_eq!(self.cell(k, name), Err(wide), "{self}");
+                self.compare_look(k, name, Err(wide));
             }
         }
     }
@@ -222,33 +222,35 @@ impl<'t> Case<'t> {
 
     /// Compares what a binding gives a name.
     fn compare_cell(&self, found: &[Binding], k: usize, name: usize) {
-        let expected = match found.get(k) {
-            None => Err(NO_BINDING),
-            Some(binding) => {
-                let name = u8::try_from(name).ok();
-                let bound = name.and_then(|name| binding.get(&name));
-                bound.map(Value::encode).ok_or(NO_VALUE)
-            }
+        let name_number = u8::try_from(name).ok();
+        let cell = |binding: &Binding| {
+            let bound = name_number.and_then(|name| binding.get(&name));
+            bound.map(Value::encode).ok_or(NO_VALUE)
         };
-        let cell = self.cell(k, name);
-        assert_eq!(cell, expected, "binding {k}, name {name}: {self}");
+        let expected = found.get(k).ok_or(NO_BINDING).and_then(cell);
+        self.compare_look(k, name, expected);
+    }
+
+    /// Compares the answer, and every byte of scratch: with the value that is tried at its start and the
+    /// name's value after it, or as it was.
+    fn compare_look(&self, k: usize, name: usize, expected: Result<Vec<u8>, usize>) {
+        let mut scratch = filled(SCRATCH + 8);
+        let mut left = scratch.clone();
+        let number = match expected {
+            Ok(record) => {
+                left[..self.encoded.len()].copy_from_slice(&self.encoded);
+                left[VALUE_AT..][..record.len()].copy_from_slice(&record);
+                0
+            }
+            Err(number) => number,
+        };
+        let answer = bindings::value(self.table, &self.encoded, k, name, &mut scratch);
+        assert_eq!(answer, number, "binding {k}, name {name}: {self}");
+        assert_eq!(scratch, left, "binding {k}, name {name}: {self}");
     }
 
     fn count(&self) -> usize {
         bindings::count(self.table, &self.encoded)
-    }
-
-    /// The record of what a binding gives a name, or the number answered in place of it.
-    fn cell(&self, k: usize, name: usize) -> Result<Vec<u8>, usize> {
-        let mut scratch = [0xA5; SCRATCH];
-        match bindings::value(self.table, &self.encoded, k, name, &mut scratch) {
-            0 => {
-                let record = &scratch[VALUE_AT..];
-                let length = u16::from_le_bytes([record[0], record[1]]);
-                Ok(record[..usize::from(length)].to_vec())
-            }
-            number => Err(number),
-        }
     }
 
     /// The names of the pattern.
@@ -312,9 +314,14 @@ pub fn judge(table: &[u8], bytes: &[u8]) -> Judged {
     judged
 }
 
+/// Scratch without a zero byte.
+fn filled(length: usize) -> Vec<u8> {
+    (0..length).map(|at| 1 + (at % 255) as u8).collect()
+}
+
 /// Asserts that input is refused with so much scratch, which is left as it was.
 pub fn refused(table: &[u8], bytes: &[u8], length: usize) {
-    let untouched: Vec<u8> = (0..length).map(|at| 1 + (at % 255) as u8).collect();
+    let untouched = filled(length);
     let mut scratch = untouched.clone();
     for (k, name) in [(0, 0), (1, 1), (0, NAMES), (usize::MAX, usize::MAX)] {
         let number = bindings::value(table, bytes, k, name, &mut scratch);
