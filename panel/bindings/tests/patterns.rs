@@ -121,91 +121,47 @@ fn unions_under_other_patterns() {
 /// All parts are tried where kind and count fit, whatever becomes of the others.
 #[test]
 fn a_set_too_large_beside_a_part_that_does_not_match() {
-    let large = numbers(8);
-    let list = |parts: [Value; 3]| parts.to_vec();
-    let [one, two] = ["1", "2"].map(value);
-    assert_eq!(
-        count("mk_(1, a union b)", &pair(two.clone(), large.clone())),
-        Err(29)
-    );
-    assert_eq!(
-        count("mk_(a union b, 1)", &pair(large.clone(), two.clone())),
-        Err(29)
-    );
-    assert_eq!(
-        count("{1, a union b}", &set_of([two.clone(), large.clone()])),
-        Err(29)
-    );
-    assert_eq!(
-        count("{{}, a union b}", &set_of([one.clone(), large.clone()])),
-        Err(29)
-    );
-    let parts = list([one.clone(), two.clone(), large.clone()]);
-    assert_eq!(
-        count("mk_(a, a, b union c)", &Value::Tuple(parts.clone())),
-        Err(29)
-    );
-    assert_eq!(
-        count("[a, a, b union c]", &Value::Sequence(parts.clone())),
-        Err(29)
-    );
-    assert_eq!(
-        count("[3,-] ^ [a union b]", &Value::Sequence(parts.clone())),
-        Err(29)
-    );
-    assert_eq!(
-        count("([3] ^ -) ^ [a union b]", &Value::Sequence(parts)),
-        Err(29)
-    );
-    let parts = list([large.clone(), one.clone(), two.clone()]);
-    assert_eq!(
-        count("mk_(b union c, a, a)", &Value::Tuple(parts.clone())),
-        Err(29)
-    );
-    assert_eq!(count("[b union c, a, a]", &Value::Sequence(parts)), Err(29));
+    for (text, with) in [
+        ("mk_(1, a union b)", "mk_(2,{1,...,8})"),
+        ("mk_(a union b, 1)", "mk_({1,...,8},2)"),
+        ("{1, a union b}", "{2,{1,...,8}}"),
+        ("{{}, a union b}", "{1,{1,...,8}}"),
+        ("mk_(a, a, b union c)", "mk_(1,2,{1,...,8})"),
+        ("mk_(b union c, a, a)", "mk_({1,...,8},1,2)"),
+        ("[a, a, b union c]", "[1,2,{1,...,8}]"),
+        ("[b union c, a, a]", "[{1,...,8},1,2]"),
+        ("[3,-] ^ [a union b]", "[1,2,{1,...,8}]"),
+        ("([3] ^ -) ^ [a union b]", "[1,2,{1,...,8}]"),
+        ("mk_(1, mk_(2, a union b))", "mk_(0,mk_(0,{1,...,8}))"),
+    ] {
+        assert_eq!(count(text, &value(with)), Err(29), "{text} and {with}");
+    }
     // Among members of which another matches, and after one that has no match.
-    let members = |other| set_of([pair(one.clone(), other), pair(two.clone(), large.clone())]);
-    assert_eq!(
-        count_over("mk_(1, a union b)", &members(numbers(1))),
-        Err(29)
-    );
-    assert_eq!(
-        count_over("mk_(3, a union b)", &members(one.clone())),
-        Err(29)
-    );
+    for (text, with) in [
+        ("mk_(1, a union b)", "{mk_(1,{}),mk_(2,{1,...,8})}"),
+        ("mk_(3, a union b)", "{mk_(1,1),mk_(2,{1,...,8})}"),
+        ("mk_(2, a union b)", "{mk_(1,{1,...,8}),mk_(2,{1})}"),
+    ] {
+        assert_eq!(count_over(text, &value(with)), Err(29), "{text} and {with}");
+    }
 }
 
 /// Where kind or count do not fit, no part is tried.
 #[test]
 fn a_set_too_large_that_no_part_meets() {
-    let large = numbers(8);
-    let one = value("1");
-    let triple = vec![large.clone(), one.clone(), one.clone()];
-    assert_eq!(
-        count("mk_(a union b, c)", &Value::Tuple(triple.clone())),
-        Ok(0)
-    );
-    assert_eq!(
-        count("mk_(a union b, c, d)", &Value::Sequence(triple.clone())),
-        Ok(0)
-    );
-    assert_eq!(
-        count("[a union b, c]", &Value::Sequence(triple.clone())),
-        Ok(0)
-    );
-    assert_eq!(
-        count("{a union b, c, d}", &set_of([large.clone(), one.clone()])),
-        Ok(0)
-    );
-    assert_eq!(
-        count("{a union b, c} union d", &set_of([large.clone()])),
-        Ok(0)
-    );
-    let late = Value::Sequence(vec![one.clone(), large.clone()]);
-    assert_eq!(count("[a union b] ^ c", &late), Ok(0));
-    assert_eq!(count("[] ^ c", &Value::Sequence(triple)), Ok(1));
-    assert_eq!(count("a", &large), Ok(1));
-    let entries = Value::Map([(large.clone(), large.clone())].into());
+    for (text, with, bindings) in [
+        ("mk_(a union b, c)", "mk_({1,...,8},1,1)", 0),
+        ("mk_(a union b, c, d)", "[{1,...,8},1,1]", 0),
+        ("[a union b, c]", "[{1,...,8},1,1]", 0),
+        ("{a union b, c, d}", "{{1,...,8},1}", 0),
+        ("{a union b, c} union d", "{{1,...,8}}", 0),
+        ("[a union b] ^ c", "[1,{1,...,8}]", 0),
+        ("[] ^ c", "[{1,...,8},1,1]", 1),
+        ("a", "{1,...,8}", 1),
+    ] {
+        assert_eq!(count(text, &value(with)), Ok(bindings), "{text} and {with}");
+    }
+    let entries = Value::Map([(numbers(8), numbers(8))].into());
     assert_eq!(count("a union b", &entries), Ok(0));
     assert_eq!(count("{a union b}", &set_of([entries])), Ok(0));
 }

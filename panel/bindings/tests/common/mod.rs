@@ -1,6 +1,7 @@
 //! Binders tried on values and held to the second evaluator: the count, and what each binding gives each name.
 #![allow(dead_code)]
 
+pub mod maker;
 mod pattern;
 
 pub use pattern::{pattern, value, Pattern};
