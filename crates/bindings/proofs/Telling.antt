@@ -1,10 +1,9 @@
 -- What follows the present binding, and how many there are.
 use mathlib.Core.Path.{_≡_, refl, sym, ap, ap₂, subst, _∙_}
 use mathlib.Core.Bool.{Bool, true, false}
-use mathlib.Core.Option.{Option, none, some}
+use mathlib.Core.Option.{Option, none}
 use mathlib.Core.List.{List, [], _∷_, map}
 use Prim.Native.Nat.{ℕ, _+_, _≤_, _<_}
-use native.Mathlib.Numerals.{add-one}
 use native.Mathlib.Omega.{arith}
 use lib.ListN.{length}
 use lib.Dec.{leb}
@@ -18,22 +17,21 @@ use Rattle.tables.specs.Record.{Record, named, nameOf, shape, isKnown, size}
 use Rattle.tables.specs.Table.{recordAt, kindAt}
 use Rattle.tables.specs.Accepted.{records, lower, fit-known, fit-least}
 use Rattle.tables.specs.Reading.{HasField}
-use Rattle.patterns.specs.Ways.{gather, exists}
+use Rattle.patterns.specs.Ways.{exists}
 use Rattle.patterns.specs.Binding.{Binding, only}
-use Rattle.patterns.specs.Pattern.{Pattern, name, itemsOf, matches, wide}
+use Rattle.patterns.specs.Pattern.{Pattern, name, itemsOf, wide}
 use Rattle.patterns.specs.Binder.{bindings, Formed, refused, few as fewest, formed}
-use Rattle.patterns.specs.Ordered.{Rising, sorted-rising}
 use Rattle.patterns.specs.Forming.{bound-formed}
 use Rattle.ways.specs.Read.{patternAt}
 use Rattle.ways.specs.Nodes.{pattern-at, is-name}
 use Rattle.ways.specs.Merging.{true-false}
-use Rattle.ways.specs.Following.{following, nth}
+use Rattle.ways.specs.Following.{following}
 use Rattle.ways.specs.Best.{nothingYet, soughtAll, sought-wide, sought-least}
 use Rattle.bindings.specs.declared.Best.{Best}
 use Rattle.bindings.specs.declared.Tally.the-variants.{Number, Refused}
 use Rattle.bindings.specs.Bound.{BestIs, BestHeld, SoughtIs, SoughtOf, SoughtOfAll, Searchable, Values, Bindable, FollowsIn, Follows, StoodAt, MemberHeld, MemberFollows, MemberNext, Present, NextOf, NoneYet, TellsOf, Tallied}
 use Rattle.bindings.proofs.Members.{best-one, set-one, plain-are, plain-narrow}
-use Rattle.bindings.specs.Stepping.{prior, step-on, nth-none, nth-some}
+use Rattle.bindings.specs.Stepping.{Stepped, stepped-none, step-wide, step-end, step-more, stepped-more}
 
 -- ---- the record of a name
 
@@ -147,66 +145,34 @@ module _ (table index : List ℕ) (p : ℕ) (c : Searchable table index p) (k : 
 -- ---- how many
 
 module _ (table : List ℕ) (p : ℕ) (s : List ℕ) (at : ℕ) (t : Bool) where
-  -- n steps from none
-  pub record Stepped (n : ℕ) (present : Best) : Type 0 where
+  -- n steps from none, at most as many as a binder may have bindings
+  pub record Counted (n : ℕ) (present : Best) : Type 0 where
     pub few : n ≤ 255
-    pub present-is : Present table p s at t present
-    pub here : (vs : List Value) → Values s at t vs → (n ≤ length (bindings (patternAt (records table) p) vs)) × BestIs s present (prior (bindings (patternAt (records table) p) vs) n)
+    pub stepped : Stepped table p s at t n present
 
-  pub stepped-none : (f : Best) → NoneYet f → Bindable s at t → Stepped 0 f
-  stepped-none f h k = record { few = omega arith; present-is = record { values = k .0; are = k .1; binding = none; is = h .nothing; stood = λ a b. tt }; here = λ vs i. (omega arith, h .nothing) }
+  pub counted-none : (f : Best) → NoneYet f → Bindable s at t → Counted 0 f
+  counted-none f h k = record { few = omega arith; stepped = stepped-none table p s at t f h k }
 
-  rising : (vs : List Value) → Rising (bindings (patternAt (records table) p) vs)
-  rising vs = sorted-rising (gather vs (matches (patternAt (records table) p)))
+  module _ (n : ℕ) (present : Best) (g : Counted n present) (r : Best) (nx : NextOf table p s at t present r) where
+    pub tells-29 : r .wide ≡ true → Tallied table p s at t (Refused 29)
+    tells-29 e vs i =
+        let w : exists vs (wide (patternAt (records table) p)) ≡ true = sym (step-wide table p s at t n present (g .stepped) r nx vs i) ∙ e in
+        subst (λ (x : Formed). TellsOf x (Refused 29)) (sym (ap (λ (b : Bool). pick b (refused 29) (fewest (bindings (patternAt (records table) p) vs))) w)) refl
 
-  module _ (n : ℕ) (present : Best) (g : Stepped n present) where
-    module _ (r : Best) (nx : NextOf table p s at t present r) where
-      o : Follows table p s at t present r
-      o = nx .follows
+    module _ (narrow : r .wide ≡ false) where
+      no-wide : (vs : List Value) → Values s at t vs → exists vs (wide (patternAt (records table) p)) ≡ false
+      no-wide vs i = sym (step-wide table p s at t n present (g .stepped) r nx vs i) ∙ narrow
 
-      follows-now : (vs : List Value) (i : Values s at t vs) → FollowsIn (patternAt (records table) p) vs (prior (bindings (patternAt (records table) p) vs) n) s r
-      follows-now vs i = o vs (prior (bindings (patternAt (records table) p) vs) n) i (g .here vs i .1)
+      pub tells-number : r .any ≡ false → Tallied table p s at t (Number n)
+      tells-number e vs i =
+          let l = step-end table p s at t n present (g .stepped) r nx narrow e vs i in
+          subst (λ (x : Formed). TellsOf x (Number n)) (sym (bound-formed (patternAt (records table) p) vs (no-wide vs i) (omega (arith, l, g .few)))) l
 
-      pub tells-29 : r .wide ≡ true → Tallied table p s at t (Refused 29)
-      tells-29 e vs i =
-          let w : exists vs (wide (patternAt (records table) p)) ≡ true = sym (follows-now vs i .wide-is) ∙ e in
-          subst (λ (x : Formed). TellsOf x (Refused 29)) (sym (ap (λ (b : Bool). pick b (refused 29) (fewest (bindings (patternAt (records table) p) vs))) w)) refl
+      pub tells-30 : r .any ≡ true → 255 ≤ n → Tallied table p s at t (Refused 30)
+      tells-30 e h vs i =
+          let l = step-more table p s at t n present (g .stepped) r nx narrow e vs i in
+          let f : formed (patternAt (records table) p) vs ≡ refused 30 = rw (no-wide vs i, lt-leb (length (bindings (patternAt (records table) p) vs)) 255 (omega (arith, l))) in
+          subst (λ (x : Formed). TellsOf x (Refused 30)) (sym f) refl
 
-      module _ (narrow : r .wide ≡ false) where
-        no-wide : (vs : List Value) → Values s at t vs → exists vs (wide (patternAt (records table) p)) ≡ false
-        no-wide vs i = sym (follows-now vs i .wide-is) ∙ narrow
-
-        now-is : (vs : List Value) (i : Values s at t vs) → BestIs s r (nth (bindings (patternAt (records table) p) vs) n)
-        now-is vs i = subst (BestIs s r) (step-on (bindings (patternAt (records table) p) vs) n (rising vs) (g .here vs i .0)) (follows-now vs i .next (no-wide vs i))
-
-        ended : r .any ≡ false → (vs : List Value) → Values s at t vs → length (bindings (patternAt (records table) p) vs) ≡ n
-        ended e vs i = go (nth (bindings (patternAt (records table) p) vs) n) refl (now-is vs i)
-          where
-            go : (m : Option Binding) → nth (bindings (patternAt (records table) p) vs) n ≡ m → BestIs s r m → length (bindings (patternAt (records table) p) vs) ≡ n
-            go none q h = omega (arith, nth-none (bindings (patternAt (records table) p) vs) n q, g .here vs i .0)
-            go (some b) q h = true-false (sym (h .0) ∙ e)
-
-        longer : r .any ≡ true → (vs : List Value) → Values s at t vs → n < length (bindings (patternAt (records table) p) vs)
-        longer e vs i = go (nth (bindings (patternAt (records table) p) vs) n) refl (now-is vs i)
-          where
-            go : (m : Option Binding) → nth (bindings (patternAt (records table) p) vs) n ≡ m → BestIs s r m → n < length (bindings (patternAt (records table) p) vs)
-            go none q h = true-false (sym e ∙ h)
-            go (some b) q h = nth-some (bindings (patternAt (records table) p) vs) n b q
-
-        pub tells-number : r .any ≡ false → Tallied table p s at t (Number n)
-        tells-number e vs i =
-            let l = ended e vs i in
-            subst (λ (x : Formed). TellsOf x (Number n)) (sym (bound-formed (patternAt (records table) p) vs (no-wide vs i) (omega (arith, l, g .few)))) l
-
-        pub tells-30 : r .any ≡ true → 255 ≤ n → Tallied table p s at t (Refused 30)
-        tells-30 e h vs i =
-            let l = longer e vs i in
-            let f : formed (patternAt (records table) p) vs ≡ refused 30 = rw (no-wide vs i, lt-leb (length (bindings (patternAt (records table) p) vs)) 255 (omega (arith, l))) in
-            subst (λ (x : Formed). TellsOf x (Refused 30)) (sym f) refl
-
-        pub stepped-more : r .any ≡ true → n < 255 → Stepped (n + 1) r
-        stepped-more e h = record {
-          few = omega arith;
-          present-is = nx .stays narrow;
-          here = λ vs i. (omega (arith, longer e vs i), subst (λ (k : ℕ). BestIs s r (prior (bindings (patternAt (records table) p) vs) k)) (sym (add-one n)) (now-is vs i));
-        }
+      pub counted-more : r .any ≡ true → n < 255 → Counted (n + 1) r
+      counted-more e h = record { few = omega arith; stepped = stepped-more table p s at t n present (g .stepped) r nx narrow e }

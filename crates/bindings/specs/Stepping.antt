@@ -1,17 +1,24 @@
 -- Stepping from binding to binding goes through all of them in order: after n steps from none the n-th is present.
-use mathlib.Core.Path.{_≡_, refl, ap, _∙_}
-use mathlib.Core.Bool.{Bool}
+use mathlib.Core.Path.{_≡_, refl, sym, ap, subst, _∙_}
+use mathlib.Core.Bool.{Bool, true, false}
 use mathlib.Core.Option.{Option, none, some}
 use mathlib.Core.List.{List, [], _∷_}
-use Prim.Native.Nat.{ℕ, zero, suc, _≤_, _<_}
+use Prim.Native.Nat.{ℕ, zero, suc, _+_, _≤_, _<_}
+use native.Mathlib.Numerals.{add-one}
 use native.Mathlib.Omega.{arith}
 use lib.ListN.{length, getD}
 use Rattle.values.specs.Value.{Value}
+use Rattle.tables.specs.Accepted.{records}
+use Rattle.patterns.specs.Ways.{gather, exists}
 use Rattle.patterns.specs.Binding.{Binding, nothing}
-use Rattle.patterns.specs.Ordered.{Rising}
+use Rattle.patterns.specs.Pattern.{matches, wide}
+use Rattle.patterns.specs.Binder.{bindings}
+use Rattle.patterns.specs.Ordered.{Rising, sorted-rising}
+use Rattle.ways.specs.Read.{patternAt}
+use Rattle.ways.specs.Merging.{true-false}
 use Rattle.ways.specs.Following.{following, nth, following-first, following-next}
 use Rattle.bindings.specs.declared.Best.{Best}
-use Rattle.bindings.specs.Bound.{Values, Present, NoneYet}
+use Rattle.bindings.specs.Bound.{BestIs, Values, Bindable, FollowsIn, Present, NextOf, NoneYet}
 
 -- The binding that is present after n steps.
 abbrev pub prior : List Binding → ℕ → Option Binding
@@ -45,3 +52,54 @@ unfolding nth
 nth-some [] k b e = let z : _≡_ {A = ℕ} 0 1 = cc in absurd (omega arith)
 nth-some (c ∷ bs) zero b e = omega arith
 nth-some (c ∷ bs) (suc k) b e = omega (arith, nth-some bs k b e)
+
+-- ---- from none, step by step
+
+module _ (table : List ℕ) (p : ℕ) (s : List ℕ) (at : ℕ) (t : Bool) where
+  -- The bindings over some values.
+  abbrev pub listed : List Value → List Binding
+  listed vs = bindings (patternAt (records table) p) vs
+
+  -- n steps from none came to the present binding.
+  pub record Stepped (n : ℕ) (present : Best) : Type 0 where
+    pub present-is : Present table p s at t present
+    pub here : (vs : List Value) → Values s at t vs → (n ≤ length (listed vs)) × BestIs s present (prior (listed vs) n)
+
+  pub stepped-none : (f : Best) → NoneYet f → Bindable s at t → Stepped 0 f
+  stepped-none f h k = record { present-is = present-none table p s at t f (k .0) h (k .1); here = λ vs i. (omega arith, h .nothing) }
+
+  module _ (n : ℕ) (present : Best) (g : Stepped n present) (r : Best) (nx : NextOf table p s at t present r) where
+    follows-now : (vs : List Value) (i : Values s at t vs) → FollowsIn (patternAt (records table) p) vs (prior (listed vs) n) s r
+    follows-now vs i = nx .follows vs (prior (listed vs) n) i (g .here vs i .1)
+
+    -- The next step tells of a set too large to split,
+    pub step-wide : (vs : List Value) → Values s at t vs → r .wide ≡ exists vs (wide (patternAt (records table) p))
+    step-wide vs i = follows-now vs i .wide-is
+
+    -- or comes to the n-th binding,
+    module _ (narrow : r .wide ≡ false) where
+      pub step-to : (vs : List Value) → Values s at t vs → BestIs s r (nth (listed vs) n)
+      step-to vs i =
+          subst (BestIs s r) (step-on (listed vs) n (sorted-rising (gather vs (matches (patternAt (records table) p)))) (g .here vs i .0))
+          (follows-now vs i .next (sym (step-wide vs i) ∙ narrow))
+
+      -- and to none past the last.
+      pub step-end : r .any ≡ false → (vs : List Value) → Values s at t vs → length (listed vs) ≡ n
+      step-end e vs i = go (nth (listed vs) n) refl (step-to vs i)
+        where
+          go : (m : Option Binding) → nth (listed vs) n ≡ m → BestIs s r m → length (listed vs) ≡ n
+          go none q h = omega (arith, nth-none (listed vs) n q, g .here vs i .0)
+          go (some b) q h = true-false (sym (h .0) ∙ e)
+
+      pub step-more : r .any ≡ true → (vs : List Value) → Values s at t vs → n < length (listed vs)
+      step-more e vs i = go (nth (listed vs) n) refl (step-to vs i)
+        where
+          go : (m : Option Binding) → nth (listed vs) n ≡ m → BestIs s r m → n < length (listed vs)
+          go none q h = true-false (sym e ∙ h)
+          go (some b) q h = nth-some (listed vs) n b q
+
+      pub stepped-more : r .any ≡ true → Stepped (n + 1) r
+      stepped-more e = record {
+        present-is = nx .stays narrow;
+        here = λ vs i. (omega (arith, step-more e vs i), subst (λ (k : ℕ). BestIs s r (prior (listed vs) k)) (sym (add-one n)) (step-to vs i));
+      }

@@ -140,6 +140,12 @@ accepted-fine table n e =
       accepted-same (p9 .on),
     )
 
+pub accepted-short : (table : List ℕ) (n : ℕ) → check table ≡ Accepted n → length table ≤ mostBytes
+unfolding check
+accepted-short table n e =
+    let p3 = passed (eqb (length table) 0 || ltb mostBytes (length table)) _ _ _ n e in
+    ltb-false mostBytes (length table) (or-right (eqb (length table) 0) _ (p3 .not-refused))
+
 -- ---- roles
 
 abbrev isPart : Role → Bool
@@ -401,16 +407,28 @@ module _ (rs : List Record) (fine : Fine rs) where
           let sort : isPattern (kindAt rs (operand (recordAt rs p) (at .0))) ≡ true = rw role at (operand-sort rs (fine .clear6) p (at .0) h (at .1)) in
           rw role at (sym (bound-operand rs (fine .clear6) p (at .0) n h (at .1))) ∙ rec (operand (recordAt rs p) (at .0)) (omega arith) (omega arith) sort (at .2)
 
+  -- ---- binders
+
+  module _ (r : ℕ) (in-table : r < length rs) (binder : isBinder (kindAt rs r) ≡ true) where
+    first-role : isFirst (roleAt (recordAt rs r) 0) ≡ true
+    first-role = and-left _ (leb 3 (shape (kindAt rs r) .least)) (binder-roles (kindAt rs r) binder)
+
+    -- A binder has operands, and the first is a pattern.
+    pub binder-operands : 0 < length (named (recordAt rs r))
+    binder-operands =
+        let few : 3 ≤ shape (kindAt rs r) .least = leb-true _ _ (and-right (isFirst (roleAt (recordAt rs r) 0)) _ (binder-roles (kindAt rs r) binder)) in
+        omega (arith, named-count (recordAt rs r) (fine .fit r in-table), fit-least (recordAt rs r) (fine .fit r in-table))
+
+    pub binder-pattern : isPattern (kindAt rs (patternOf rs r)) ≡ true
+    binder-pattern = first-sort (roleAt (recordAt rs r) 0) (kindAt rs (patternOf rs r)) first-role (operand-sort rs (fine .clear6) r 0 in-table binder-operands)
+
   -- No pattern binds a name that is bound around its binder.
   pub binder-fresh : (r n : ℕ) → r < length rs → isBinder (kindAt rs r) ≡ true → holdsName rs (patternOf rs r) n ≡ true → isBound rs r n ≡ false
   binder-fresh r n h e f =
-      let roles = binder-roles (kindAt rs r) e in
-      let p0 : isFirst (roleAt (recordAt rs r) 0) ≡ true = and-left _ (leb 3 (shape (kindAt rs r) .least)) roles in
-      let few : 3 ≤ shape (kindAt rs r) .least = leb-true _ _ (and-right (isFirst (roleAt (recordAt rs r) 0)) _ roles) in
-      let one : 0 < length (named (recordAt rs r)) = omega (arith, named-count (recordAt rs r) (fine .fit r h), fit-least (recordAt rs r) (fine .fit r h)) in
+      let one : 0 < length (named (recordAt rs r)) = binder-operands r h e in
       let lw : patternOf rs r < r = operand-lower rs (fine .clear6) r 0 h one in
-      let free : isBound rs (patternOf rs r) n ≡ false = fresh-below r (patternOf rs r) n lw (omega arith) (first-sort (roleAt (recordAt rs r) 0) (kindAt rs (patternOf rs r)) p0 (operand-sort rs (fine .clear6) r 0 h one)) f in
-      rw (first-free (roleAt (recordAt rs r) 0) (holdsName rs (patternOf rs r) n) p0) at (sym (bound-operand rs (fine .clear6) r 0 n h one)) ∙ free
+      let free : isBound rs (patternOf rs r) n ≡ false = fresh-below r (patternOf rs r) n lw (omega arith) (binder-pattern r h e) f in
+      rw (first-free (roleAt (recordAt rs r) 0) (holdsName rs (patternOf rs r) n) (first-role r h e)) at (sym (bound-operand rs (fine .clear6) r 0 n h one)) ∙ free
 
   -- ---- choices
 

@@ -11,26 +11,15 @@ use lib.Seq.{sets, sets-eq, length-sets, paste, paste-zero, paste-suc, length-pa
 use Rattle.integers.specs.Bytes.{word, IsWord}
 use Rattle.values.specs.Value.{Value, size, encode, limit}
 use Rattle.values.specs.Place.{At}
-use Rattle.values.specs.Encoding.{encode-length}
 use Rattle.values.specs.Records.{holds, word-size}
 use Rattle.values.specs.Written.{written, stored}
 use Rattle.values.specs.Frame.{at-below}
 use Rattle.trials.specs.Validity.{Tells, Inside}
 use Rattle.trials.specs.Trial.{Operand, SomeOperand, Roomy, PlacesOne, PlacesTwo}
+use Rattle.trials.specs.Operands.{operand-length, operand-at, operand-low}
 use Rattle.trials.proofs.Telling.{false-true, tells-true, tells-false, tells-of, told-false, tells-equal}
 
 -- ---- one record, and nothing else
-
-operand-length : {x : List ℕ} {v : Value} → Operand x v → length x ≡ size v
-operand-length {x} {v} o = ap length (o .is) ∙ encode-length v
-
-operand-at : {x : List ℕ} {v : Value} → Operand x v → At x 0 v
-operand-at {x} {v} o =
-    let e = operand-length o in
-    record { fits = omega arith; fine = o .fine; bytes = take-all (size v) x (omega arith) ∙ o .is }
-
-pub operand-low : {x : List ℕ} → SomeOperand x → length x ≤ limit
-operand-low (v, o) = let e = operand-length o in let h = o .fine .short in omega arith
 
 pub value-long : {x : List ℕ} → limit < length x → Tells (SomeOperand x) false
 value-long h = tells-false (λ o. omega (arith, operand-low o))

@@ -8,7 +8,7 @@ ghost use Rattle.operations.specs.Numbers.{Unary, Binary};
 ghost use Rattle.trials.specs.Validity.{Tells};
 ghost use Rattle.trials.specs.Trial.{SomeOperand, numberOf, TriesOne, TriesTwo};
 
-mod operands;
+pub mod operands;
 mod validity;
 
 // Input that is no trial: an unknown operator, bytes that are no value, or too little scratch. Nothing is written then.

@@ -25,7 +25,7 @@ pub fn is_value(bytes: &[u8]) -> bool
 }
 
 // Puts bytes at a place of scratch.
-fn load(bytes: &[u8], s: &mut [u8], at: usize)
+pub fn load(bytes: &[u8], s: &mut [u8], at: usize)
     requires { ⌜ at + length (now bytes) ≤ length (now s) ⌝ }
     ensures { λ _. ⌜ now (s .exit) ≡ sets (now (s .entry)) at (now (bytes .entry)) ⌝ }
 {

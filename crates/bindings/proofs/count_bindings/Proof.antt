@@ -2,7 +2,7 @@ use Prim.Native.Nat.{_-_}
 use native.Mathlib.Omega.{arith}
 use borrow.Author.Needs.{needs}
 use borrow.Author.Tests.{not-true, not-false}
-use Rattle.bindings.proofs.Telling.{Stepped, stepped-none, tells-29, tells-number, tells-30, stepped-more}
+use Rattle.bindings.proofs.Telling.{Counted, counted-none, tells-29, tells-number, tells-30, counted-more}
 use Rattle.bindings.proofs.count_bindings.Statement.{statement}
 use Rattle.bindings.proofs.count_bindings.Tie as tie
 use Rattle.bindings.proofs.count_bindings.Reads as reads
@@ -11,7 +11,7 @@ use Rattle.bindings.proofs.Best.none.Reads as none-reads
 use Rattle.bindings.proofs.next_binding.Reads as next-binding-reads
 
 abbrev Inv-loop : tie.InvT-loop
-Inv-loop table index p s at whole present₀ n₀ present n = Stepped table p s at whole n present
+Inv-loop table index p s at whole present₀ n₀ present n = Counted table p s at whole n present
 
 abbrev μ-loop : tie.MeasureT-loop
 μ-loop table index p s at whole present₀ n₀ present n = 255 - n
@@ -22,11 +22,11 @@ none-requires c κs = search needs
 
 -- src/lib.rt:204:5
 loop-holds : tie.Need-loop-holds Inv-loop μ-loop
-loop-holds c = stepped-none _ _ _ _ _ _ (c .none .ensures) (c .before .before .before .pre .1)
+loop-holds c = counted-none _ _ _ _ _ _ (c .none .ensures) (c .before .before .before .pre .1)
 
 -- src/lib.rt:205:13
 next-binding-requires : tie.Need-next-binding-requires Inv-loop μ-loop
-next-binding-requires c κs = (c .before .before .before .before .pre .0, c .loop .inv .present-is)
+next-binding-requires c κs = (c .before .before .before .before .pre .0, c .loop .inv .stepped .present-is)
 
 -- src/lib.rt:207:13
 returns : tie.Need-returns Inv-loop μ-loop
@@ -50,7 +50,7 @@ loop-less c = search needs
 
 -- src/lib.rt:204:5
 loop-again : tie.Need-loop-again Inv-loop μ-loop
-loop-again c = stepped-more _ _ _ _ _ _ _ (c .before .before .before .before .before .loop .inv) _ (c .before .before .before .before .next-binding .ensures) (c .before .before .before .if1 .left) (not-false _ (c .before .if2 .left)) (omega arith)
+loop-again c = counted-more _ _ _ _ _ _ _ (c .before .before .before .before .before .loop .inv) _ (c .before .before .before .before .next-binding .ensures) (c .before .before .before .if1 .left) (not-false _ (c .before .if2 .left)) (omega arith)
 
 pub count-bindings-spec : {M : Type 1} → statement M
 count-bindings-spec =

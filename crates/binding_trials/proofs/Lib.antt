@@ -1,0 +1,3 @@
+mod Legality
+mod Counting
+mod Showing
