@@ -5,6 +5,7 @@
 
 pub mod answer;
 pub mod check;
+pub mod definition;
 pub mod eval;
 pub mod loose;
 pub mod matching;

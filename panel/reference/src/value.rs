@@ -69,6 +69,56 @@ impl Value {
         }
         bytes
     }
+
+    /// The value whose record the bytes are, and nothing else.
+    pub fn decode(bytes: &[u8]) -> Option<Value> {
+        let value = Value::read(bytes)?;
+        let fits = bytes.len() <= Value::MAX_SIZE;
+        // What is out of order, or there twice, is not encoded as it stood.
+        (fits && value.encode() == bytes).then_some(value)
+    }
+
+    fn read(bytes: &[u8]) -> Option<Value> {
+        let (head, contents) = bytes.split_at_checked(4)?;
+        if usize::from(u16::from_le_bytes([head[0], head[1]])) != bytes.len() {
+            return None;
+        }
+        match u16::from_le_bytes([head[2], head[3]]) {
+            1 => match contents {
+                [0] => Some(Value::Boolean(false)),
+                [1] => Some(Value::Boolean(true)),
+                _ => None,
+            },
+            2 => {
+                let number = i32::from_le_bytes(contents.try_into().ok()?);
+                Some(Value::Integer(number))
+            }
+            3 => Some(Value::Set(items(contents)?.into_iter().collect())),
+            4 => Some(Value::Sequence(items(contents)?)),
+            5 => {
+                let items = items(contents)?;
+                let entries = items.chunks_exact(2).map(|e| (e[0].clone(), e[1].clone()));
+                (items.len() % 2 == 0).then(|| Value::Map(entries.collect()))
+            }
+            6 => {
+                let items = items(contents)?;
+                (2..=4).contains(&items.len()).then(|| Value::Tuple(items))
+            }
+            _ => None,
+        }
+    }
+}
+
+/// The values whose records the bytes are, one after the other.
+fn items(mut bytes: &[u8]) -> Option<Vec<Value>> {
+    let mut items = Vec::new();
+    while !bytes.is_empty() {
+        let length = usize::from(u16::from_le_bytes([*bytes.first()?, *bytes.get(1)?]));
+        let (item, rest) = bytes.split_at_checked(length)?;
+        items.push(Value::read(item)?);
+        bytes = rest;
+    }
+    Some(items)
 }
 
 #[cfg(test)]

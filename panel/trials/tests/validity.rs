@@ -8,56 +8,10 @@ use generator::Random;
 use reference::value::Value;
 use trials::valid;
 
-/// The value whose record the bytes are, and nothing else.
-fn decode(bytes: &[u8]) -> Option<Value> {
-    let value = read(bytes)?;
-    let fits = bytes.len() <= Value::MAX_SIZE;
-    // What is out of order, or there twice, is not encoded as it stood.
-    (fits && value.encode() == bytes).then_some(value)
-}
-
-fn read(bytes: &[u8]) -> Option<Value> {
-    let (head, contents) = bytes.split_at_checked(4)?;
-    if usize::from(u16::from_le_bytes([head[0], head[1]])) != bytes.len() {
-        return None;
-    }
-    match u16::from_le_bytes([head[2], head[3]]) {
-        1 => match contents {
-            [0] => Some(FALSE),
-            [1] => Some(TRUE),
-            _ => None,
-        },
-        2 => Some(int(i32::from_le_bytes(contents.try_into().ok()?))),
-        3 => Some(set_of(items(contents)?)),
-        4 => Some(sequence_of(items(contents)?)),
-        5 => {
-            let items = items(contents)?;
-            let entries = items.chunks_exact(2).map(|e| (e[0].clone(), e[1].clone()));
-            (items.len() % 2 == 0).then(|| map_of(entries))
-        }
-        6 => {
-            let items = items(contents)?;
-            (2..=4).contains(&items.len()).then(|| Value::Tuple(items))
-        }
-        _ => None,
-    }
-}
-
-fn items(mut bytes: &[u8]) -> Option<Vec<Value>> {
-    let mut items = Vec::new();
-    while !bytes.is_empty() {
-        let length = usize::from(u16::from_le_bytes([*bytes.first()?, *bytes.get(1)?]));
-        let (item, rest) = bytes.split_at_checked(length)?;
-        items.push(read(item)?);
-        bytes = rest;
-    }
-    Some(items)
-}
-
 #[track_caller]
 fn agree(bytes: &[u8]) -> bool {
     let accepted = valid(bytes);
-    assert_eq!(accepted, decode(bytes).is_some(), "{bytes:?}");
+    assert_eq!(accepted, Value::decode(bytes).is_some(), "{bytes:?}");
     accepted
 }
 
