@@ -9,22 +9,22 @@ use lib.ListN.{length}
 use Rattle.values.specs.Value.{Value}
 use Rattle.tables.specs.Accepted.{records}
 use Rattle.patterns.specs.Binding.{Binding}
-use Rattle.patterns.specs.Pattern.{Pattern, wide}
+use Rattle.patterns.specs.Pattern.{Pattern}
 use Rattle.patterns.specs.Binder.{bindings, Formed, bound, refused, formed}
 use Rattle.patterns.specs.Forming.{formed-bound}
 use Rattle.ways.specs.Read.{patternAt}
-use Rattle.ways.specs.Merging.{true-false}
 use Rattle.ways.specs.Following.{nth}
-use Rattle.bindings.specs.declared.Best.{Best}
+use Rattle.matching.specs.declared.Best.{Best}
+use Rattle.matching.specs.Found.{BestIs, NoneYet}
 use Rattle.bindings.specs.declared.Tally.{Tally}
 use Rattle.bindings.specs.declared.Tally.the-variants.{Number, Refused}
-use Rattle.bindings.specs.Bound.{BestIs, Searchable, Bindable, Values, NextOf, NoneYet, TellsOf, Tallied}
+use Rattle.bindings.specs.Bound.{Searchable, Bindable, Values, TellsWide, NextOf, TellsOf, Tallied}
 use Rattle.bindings.specs.Room.{searchable}
-use Rattle.bindings.specs.Stepping.{Stepped, stepped-none, step-wide, step-to, step-end, stepped-more}
+use Rattle.bindings.specs.Stepping.{Stepped, stepped-none, step-to, step-end, stepped-more}
 use Rattle.trials.specs.Trial.{badInput}
 use Rattle.binding_trials.specs.declared.input.Subject.{Subject}
 use Rattle.binding_trials.specs.Trial.{lastPattern, numberOf, Counts}
-use Rattle.binding_trials.specs.Contract.{Tried, SubjectOf, Few, numberIn, NthOf}
+use Rattle.binding_trials.specs.Contract.{Tried, SubjectOf, Few, numberIn, NarrowHeld, NthOf}
 
 -- ---- what is tried
 
@@ -34,6 +34,9 @@ module _ {table index value : List ℕ} {p : ℕ} {whole : Bool} (h : Tried tabl
 
   pub tried-bindable : Bindable value 0 whole
   tried-bindable = (h .values, h .are (h .values) (h .legal))
+
+  pub tried-narrow : {w : Bool} → TellsWide table p value 0 whole w → w ≡ false → NarrowHeld table p value whole
+  tried-narrow t e = record { values = h .values; are = h .are (h .values) (h .legal); narrow = sym (t (h .values) (h .are (h .values) (h .legal))) ∙ e }
 
   pub pattern-is : patternAt (records table) p ≡ lastPattern table
   pattern-is = ap (patternAt (records table)) (h .is-pattern)
@@ -76,8 +79,8 @@ pub record Stepping (table : List ℕ) (p : ℕ) (s : List ℕ) (whole : Bool) (
   pub within : i ≤ k
   pub stepped : Stepped table p s 0 whole i present
 
-pub stepping-none : {table : List ℕ} {p : ℕ} {s : List ℕ} {whole : Bool} {k : ℕ} {f : Best} → NoneYet f → Bindable s 0 whole → Stepping table p s whole k 0 f
-stepping-none {table} {p} {s} {whole} {k} {f} n b = record { within = omega arith; stepped = stepped-none table p s 0 whole f n b }
+pub stepping-none : {table : List ℕ} {p : ℕ} {s : List ℕ} {whole : Bool} {k : ℕ} {f : Best} → NoneYet f → NarrowHeld table p s whole → Stepping table p s whole k 0 f
+stepping-none {table} {p} {s} {whole} {k} {f} n h = record { within = omega arith; stepped = stepped-none table p s 0 whole f (h .values) n (h .are) (h .narrow) }
 
 nth-past : (bs : List Binding) (k : ℕ) → length bs ≤ k → nth bs k ≡ none
 unfolding nth
@@ -86,21 +89,15 @@ nth-past (b ∷ bs) zero h = absurd (omega arith)
 nth-past (b ∷ bs) (suc k) h = nth-past bs k (omega arith)
 
 module _ {table : List ℕ} {p : ℕ} {s : List ℕ} {whole : Bool} {k i : ℕ} {present r : Best} (g : Stepping table p s whole k i present) (nx : NextOf table p s 0 whole present r) where
-  nth-of : (r .wide ≡ false → (vs : List Value) → Values s 0 whole vs → BestIs s r (nth (bindings (patternAt (records table) p) vs) k)) → NthOf table p s whole k r
-  nth-of f = record { wide-is = step-wide table p s 0 whole i present (g .stepped) r nx; nth-is = f }
-
-  pub nth-wide : r .wide ≡ true → NthOf table p s whole k r
-  nth-wide e = nth-of (λ n vs v. true-false (sym e ∙ n))
-
   pub nth-end : r .any ≡ false → NthOf table p s whole k r
-  nth-end e = nth-of (λ n vs v.
-      let l = step-end table p s 0 whole i present (g .stepped) r nx n e vs v in
-      subst (BestIs s r) (sym (nth-past (bindings (patternAt (records table) p) vs) k (omega (arith, l, g .within)))) e)
+  nth-end e vs v =
+      let l = step-end table p s 0 whole i present (g .stepped) r nx e vs v in
+      subst (BestIs s r) (sym (nth-past (bindings (patternAt (records table) p) vs) k (omega (arith, l, g .within)))) e
 
   pub nth-here : k ≤ i → NthOf table p s whole k r
-  nth-here h = nth-of (λ n vs v.
+  nth-here h vs v =
       let e : i ≡ k = omega (arith, g .within) in
-      subst (λ (j : ℕ). BestIs s r (nth (bindings (patternAt (records table) p) vs) j)) e (step-to table p s 0 whole i present (g .stepped) r nx n vs v))
+      subst (λ (j : ℕ). BestIs s r (nth (bindings (patternAt (records table) p) vs) j)) e (step-to table p s 0 whole i present (g .stepped) r nx vs v)
 
-  pub stepping-more : r .wide ≡ false → r .any ≡ true → i < k → Stepping table p s whole k (i + 1) r
-  stepping-more n e h = record { within = omega arith; stepped = stepped-more table p s 0 whole i present (g .stepped) r nx n e }
+  pub stepping-more : r .any ≡ true → i < k → Stepping table p s whole k (i + 1) r
+  stepping-more e h = record { within = omega arith; stepped = stepped-more table p s 0 whole i present (g .stepped) r nx e }

@@ -24,9 +24,9 @@ use Rattle.parts.specs.Laws.{end-span, end-record, part-kept}
 use Rattle.ways.specs.Merging.{true-false}
 use Rattle.ways.specs.Following.{nth}
 use Rattle.matching.specs.declared.Found.{Found}
-use Rattle.matching.specs.Found.{nowhere}
-use Rattle.bindings.specs.declared.Best.{Best}
-use Rattle.bindings.specs.Bound.{BoundHeld, BestIs}
+use Rattle.matching.specs.declared.Best.{Best}
+use Rattle.matching.specs.Found.{nowhere, BoundHeld, BestIs}
+use Rattle.bindings.specs.Bound.{TellsWide}
 use Rattle.trials.specs.Trial.{badInput}
 use Rattle.trials.specs.Operands.{operand-low}
 use Rattle.binding_trials.specs.declared.input.Subject.{Subject}
@@ -141,39 +141,39 @@ shows-bad a e = record {
   bad = λ n. (refl, refl);
 }
 
-module _ {table index value : List ℕ} {p : ℕ} {whole : Bool} (h : Tried table index value p whole) {k : ℕ} {best : Best} (g : NthOf table p value whole k best) where
-  wide-so : (vs : List Value) → Legal table value vs → best .wide ≡ exists vs (wide (lastPattern table))
-  wide-so vs l = g .wide-is vs (h .are vs l) ∙ ap (λ (q : Pattern). exists vs (wide q)) (pattern-is h)
+module _ {table index value : List ℕ} {p : ℕ} {whole : Bool} (h : Tried table index value p whole) {t : Bool} (w : TellsWide table p value 0 whole t) (s : List ℕ) (room : 1024 ≤ length s) where
+  wide-so : (vs : List Value) → Legal table value vs → t ≡ exists vs (wide (lastPattern table))
+  wide-so vs l = w vs (h .are vs l) ∙ ap (λ (q : Pattern). exists vs (wide q)) (pattern-is h)
 
-  present : best .wide ≡ false → (vs : List Value) → Legal table value vs → BestIs value best (nth (bindings (lastPattern table) vs) k)
-  present n vs l = subst (λ (q : Pattern). BestIs value best (nth (bindings q vs) k)) (pattern-is h) (g .nth-is n vs (h .are vs l))
+  pub shows-wide : {k name : ℕ} → t ≡ true → Shows table value k name s s 29
+  shows-wide e = record {
+    right = λ vs r l n. true-false (sym e ∙ wide-so vs l ∙ n);
+    too-wide = λ vs r l w. (refl, refl);
+    bad = λ n. absurd (n room (h .values) (h .legal));
+  }
 
-  module _ {s : List ℕ} (room : 1024 ≤ length s) where
-    pub shows-wide : {name : ℕ} → best .wide ≡ true → Shows table value k name s s 29
-    shows-wide e = record {
-      right = λ vs r l n. true-false (sym e ∙ wide-so vs l ∙ n);
-      too-wide = λ vs r l w. (refl, refl);
-      bad = λ n. absurd (n room (h .values) (h .legal));
-    }
+  module _ (narrow : t ≡ false) (k : ℕ) (best : Best) (g : NthOf table p value whole k best) where
+    present : (vs : List Value) → Legal table value vs → BestIs value best (nth (bindings (lastPattern table) vs) k)
+    present vs l = subst (λ (q : Pattern). BestIs value best (nth (bindings q vs) k)) (pattern-is h) (g vs (h .are vs l))
 
-    looks : {name r : ℕ} {t : List ℕ} → best .wide ≡ false → ((b : Option Binding) → BestIs value best b → Looks value s t r name b) → Shows table value k name s t r
-    looks narrow f = record {
-      right = λ vs r l n. f (nth (bindings (lastPattern table) vs) k) (present narrow vs l);
+    looks : {name r : ℕ} {u : List ℕ} → ((b : Option Binding) → BestIs value best b → Looks value s u r name b) → Shows table value k name s u r
+    looks f = record {
+      right = λ vs r l n. f (nth (bindings (lastPattern table) vs) k) (present vs l);
       too-wide = λ vs r l w. true-false (sym w ∙ sym (wide-so vs l) ∙ narrow);
       bad = λ n. absurd (n room (h .values) (h .legal));
     }
 
-    pub shows-none : {name : ℕ} → best .wide ≡ false → best .any ≡ false → Shows table value k name s s 2
-    shows-none {name} narrow e = looks narrow go
+    pub shows-none : {name : ℕ} → best .any ≡ false → Shows table value k name s s 2
+    shows-none {name} e = looks go
       where
         go : (b : Option Binding) → BestIs value best b → Looks value s s 2 name b
         go none i = (refl, refl)
         go (some b) i = true-false (sym (i .0) ∙ e)
 
-    pub showable : best .wide ≡ false → best .any ≡ true → Showable value (best .found) s
-    showable narrow e = record {
+    pub showable : best .any ≡ true → Showable value (best .found) s
+    showable e = record {
       operand = (h .legal .operand, h .legal .is-operand);
-      held = go (nth (bindings (lastPattern table) (h .values)) k) (present narrow (h .values) (h .legal));
+      held = go (nth (bindings (lastPattern table) (h .values)) k) (present (h .values) (h .legal));
       room = room;
     }
       where
@@ -181,9 +181,9 @@ module _ {table index value : List ℕ} {p : ℕ} {whole : Bool} (h : Tried tabl
         go none i = true-false (sym e ∙ i)
         go (some b) i = (b, i .1)
 
-    pub shows-name : {name r : ℕ} {t : List ℕ} → best .wide ≡ false → best .any ≡ true → ShowsName value (best .found) name s t r → Shows table value k name s t r
-    shows-name {name} {r} {t} narrow e o = looks narrow go
+    pub shows-name : {name r : ℕ} {u : List ℕ} → best .any ≡ true → ShowsName value (best .found) name s u r → Shows table value k name s u r
+    shows-name {name} {r} {u} e o = looks go
       where
-        go : (b : Option Binding) → BestIs value best b → Looks value s t r name b
+        go : (b : Option Binding) → BestIs value best b → Looks value s u r name b
         go none i = true-false (sym e ∙ i)
         go (some b) i = o b (i .1)

@@ -17,10 +17,11 @@ use Rattle.ways.specs.Read.{patternAt}
 use Rattle.ways.specs.Following.{nth}
 use Rattle.matching.specs.declared.Found.{Found}
 use Rattle.matching.specs.Node.{Readable}
-use Rattle.bindings.specs.declared.Best.{Best}
+use Rattle.matching.specs.declared.Best.{Best}
 use Rattle.bindings.specs.declared.Tally.{Tally}
 use Rattle.bindings.specs.declared.Tally.the-variants.{Number, Refused}
-use Rattle.bindings.specs.Bound.{Bound, BoundHeld, BestIs, Values}
+use Rattle.matching.specs.Found.{Bound, BoundHeld, BestIs}
+use Rattle.bindings.specs.Bound.{Values}
 use Rattle.trials.specs.Trial.{SomeOperand}
 use Rattle.binding_trials.specs.declared.input.Subject.{Subject}
 use Rattle.binding_trials.specs.Trial.{last, Legal, Roomy, Says}
@@ -59,10 +60,15 @@ abbrev pub numberIn : Tally → ℕ
 numberIn (Number n) = 65536 * n
 numberIn (Refused n) = n
 
--- r is binding k over the values, or none past the last; or it tells of a set too large to split.
-pub record NthOf (table : List ℕ) (p : ℕ) (s : List ℕ) (whole : Bool) (k : ℕ) (r : Best) : Type 0 where
-  pub wide-is : (vs : List Value) → Values s 0 whole vs → r .wide ≡ exists vs (wide (patternAt (records table) p))
-  pub nth-is : r .wide ≡ false → (vs : List Value) → Values s 0 whole vs → BestIs s r (nth (bindings (patternAt (records table) p) vs) k)
+-- Values in which no set is too large to split.
+pub record NarrowHeld (table : List ℕ) (p : ℕ) (s : List ℕ) (whole : Bool) : Type 0 where
+  pub values : List Value
+  pub are : Values s 0 whole values
+  pub narrow : exists values (wide (patternAt (records table) p)) ≡ false
+
+-- r is binding k over the values, or none past the last.
+abbrev pub NthOf : List ℕ → ℕ → List ℕ → Bool → ℕ → Best → Type 0
+NthOf table p s whole k r = (vs : List Value) → Values s 0 whole vs → BestIs s r (nth (bindings (patternAt (records table) p) vs) k)
 
 -- A binding of parts of a value, and scratch for a copy.
 pub record Showable (value : List ℕ) (f : Found) (s : List ℕ) : Type 0 where

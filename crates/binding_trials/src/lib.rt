@@ -1,11 +1,11 @@
 // Matching tried on tables and values from outside. Untrusted bytes are tested before anything is done with them, so nothing is asked of a caller.
-use bindings::Best;
 use bindings::Tally;
+use matching::Best;
 use matching::Found;
 ghost use mathlib.Core.Path.{_≡_};
-ghost use Rattle.bindings.specs.Bound.{Searchable, Bindable};
+ghost use Rattle.bindings.specs.Bound.{Searchable};
 ghost use Rattle.binding_trials.specs.Trial.{Counts, Shows};
-ghost use Rattle.binding_trials.specs.Contract.{Few, numberIn, NthOf, Showable, ShowsName};
+ghost use Rattle.binding_trials.specs.Contract.{Few, numberIn, NarrowHeld, NthOf, Showable, ShowsName};
 
 mod input;
 
@@ -63,16 +63,13 @@ fn nth_binding(
     k: usize,
 ) -> Best
     requires { ⌜ Searchable (now table) (now index) p ⌝ }
-    requires { ⌜ Bindable (now value) 0 whole ⌝ }
+    requires { ⌜ NarrowHeld (now table) p (now value) whole ⌝ }
     ensures { λ r. ⌜ NthOf (now (table .entry)) p (now (value .entry)) whole k r ⌝ }
 {
     let mut present = Best::none();
     let mut i = 0;
     loop {
         let next = bindings::next_binding(table, index, p, value, 0, whole, present);
-        if next.wide {
-            return next;
-        }
         if !next.any {
             return next;
         }
@@ -122,10 +119,11 @@ pub extern "C" fn binding_trials_value(
     }
     let p = subject.pattern;
     let whole = subject.whole;
-    let best = nth_binding(table, &index, p, value, whole, k);
-    if best.wide {
+    let wide = bindings::is_wide(table, &index, p, value, 0, whole);
+    if wide {
         return TOO_WIDE;
     }
+    let best = nth_binding(table, &index, p, value, whole, k);
     if !best.any {
         return NO_BINDING;
     }

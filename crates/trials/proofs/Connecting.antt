@@ -17,7 +17,8 @@ use Rattle.scalars.specs.declared.Tested.the-variants.{Settled, Open, Refused a
 use Rattle.scalars.specs.Applied.{One, Applies, done, off, OnOne}
 use Rattle.scalars.specs.Scalars.{Says, settled, undecided, off as wrong, TestsLeft}
 use Rattle.trials.specs.Trial.{Operand, SomeOperand, Connects}
-use Rattle.trials.proofs.Placing.{operand-low, put-at}
+use Rattle.trials.specs.Operands.{operand-low}
+use Rattle.trials.proofs.Placing.{put-at}
 
 -- ---- what the left says, by its answer
 

@@ -3,7 +3,7 @@ use Prim.Native.Nat.{_-_}
 use native.Mathlib.Omega.{arith}
 use borrow.Author.Needs.{needs}
 use borrow.Author.Tests.{not-true, not-false}
-use Rattle.binding_trials.proofs.Counting.{Stepping, stepping-none, nth-wide, nth-end, nth-here, stepping-more}
+use Rattle.binding_trials.proofs.Counting.{Stepping, stepping-none, nth-end, nth-here, stepping-more}
 use Rattle.binding_trials.proofs.nth_binding.Statement.{statement}
 use Rattle.binding_trials.proofs.nth_binding.Tie as tie
 
@@ -23,13 +23,10 @@ next-binding-requires : tie.Need-next-binding-requires Inv-loop μ-loop
 next-binding-requires c κs = (c .before .before .before .before .pre .0, c .loop .inv .stepped .present-is)
 
 returns : tie.Need-returns Inv-loop μ-loop
-returns c = nth-wide (c .before .before .loop .inv) (c .before .next-binding .ensures) (c .if1 .taken)
+returns c = nth-end (c .before .before .before .loop .inv) (c .before .before .next-binding .ensures) (not-true _ (c .if1 .taken))
 
 returns-2 : tie.Need-returns-2 Inv-loop μ-loop
-returns-2 c = nth-end (c .before .before .before .before .loop .inv) (c .before .before .before .next-binding .ensures) (not-true _ (c .if2 .taken))
-
-returns-3 : tie.Need-returns-3 Inv-loop μ-loop
-returns-3 c = nth-here (c .before .before .before .before .before .loop .inv) (c .before .before .before .before .next-binding .ensures) (c .if3 .taken)
+returns-2 c = nth-here (c .before .before .before .before .loop .inv) (c .before .before .before .next-binding .ensures) (c .if2 .taken)
 
 add-i : tie.Need-add-i Inv-loop μ-loop
 add-i c = omega arith
@@ -38,7 +35,7 @@ loop-less : tie.Need-loop-less Inv-loop μ-loop
 loop-less c = omega arith
 
 loop-again : tie.Need-loop-again Inv-loop μ-loop
-loop-again c = stepping-more (c .before .before .before .before .before .loop .inv) (c .before .before .before .before .next-binding .ensures) (c .before .before .before .if1 .left) (not-false _ (c .before .if2 .left)) (c .if3 .left)
+loop-again c = stepping-more (c .before .before .before .before .loop .inv) (c .before .before .before .next-binding .ensures) (not-false _ (c .before .if1 .left)) (c .if2 .left)
 
 pub nth-binding-spec : {M : Type 1} → statement M
 nth-binding-spec =
@@ -51,7 +48,6 @@ nth-binding-spec =
     next-binding-requires
     returns
     returns-2
-    returns-3
     add-i
     loop-less
     loop-again)
