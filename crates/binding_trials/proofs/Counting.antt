@@ -18,7 +18,7 @@ use Rattle.matching.specs.declared.Best.{Best}
 use Rattle.matching.specs.Found.{BestIs, NoneYet}
 use Rattle.bindings.specs.declared.Tally.{Tally}
 use Rattle.bindings.specs.declared.Tally.the-variants.{Number, Refused}
-use Rattle.bindings.specs.Bound.{Searchable, Bindable, Values, TellsWide, NextOf, TellsOf, Tallied}
+use Rattle.bindings.specs.Bound.{Searchable, Bindable, TellsWide, NextOf, TellsOf, Tallied}
 use Rattle.bindings.specs.Room.{searchable}
 use Rattle.bindings.specs.Stepping.{Stepped, stepped-none, step-to, step-end, stepped-more}
 use Rattle.trials.specs.Trial.{badInput}

@@ -4,11 +4,10 @@ use mathlib.Core.Bool.{Bool, true, false, _||_}
 use mathlib.Core.Logic.{inl}
 use mathlib.Core.List.{List, [], _∷_}
 use Prim.Native.Nat.{ℕ, _+_, _≤_, _<_}
-use native.Mathlib.Omega.{arith}
 use lib.ListN.{length}
 use Rattle.integers.specs.Bytes.{word}
 use Rattle.values.specs.Value.{Value}
-use Rattle.values.specs.Place.{At, ItemsAt, Holds, HoldsItems}
+use Rattle.values.specs.Place.{ItemsAt, Holds, HoldsItems}
 use Rattle.values.specs.Records.{holds, items-of, word-size}
 use Rattle.tables.specs.Accepted.{records}
 use Rattle.parts.specs.Part.{PartIs, PartHeld}
@@ -18,7 +17,7 @@ use Rattle.patterns.specs.Matched.{items-list}
 use Rattle.ways.specs.Read.{patternAt}
 use Rattle.ways.specs.Merging.{true-false}
 use Rattle.bindings.specs.Bound.{Values, Bindable, TellsWideIn, TellsWide}
-use Rattle.bindings.proofs.Members.{First, first-of, none-left}
+use Rattle.bindings.proofs.Members.{first-of, none-left}
 
 -- What is told of the value at a place.
 abbrev pub TellsAt : List ℕ → ℕ → List ℕ → ℕ → Bool → Type 0

@@ -37,7 +37,7 @@ use Rattle.matching.specs.declared.Found.{Found}
 use Rattle.matching.specs.declared.Best.{Best}
 use Rattle.matching.specs.declared.Matched.{Matched}
 use Rattle.matching.specs.declared.Bounds.{Bounds}
-use Rattle.matching.specs.Found.{Stands, Standing, BestIs, BestHeld, Bounded}
+use Rattle.matching.specs.Found.{Stands, Standing, BestIs, Bounded}
 use Rattle.matching.specs.Along.{Came, Along}
 use Rattle.bindings.proofs.Members.{First, first-of, none-left}
 use Rattle.bindings.specs.Bound.{Considered, Searchable, Bounding, Sought, SoughtOf, SoughtAll, SoughtOfAll}

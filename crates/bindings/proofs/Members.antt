@@ -17,9 +17,9 @@ use Rattle.values.specs.Records.{holds, run, items-of, items-none, word-size, o
 use Rattle.parts.specs.declared.Part.{Part}
 use Rattle.parts.specs.Part.{PartIs, CellIs}
 use Rattle.parts.specs.Laws.{part-one, one-collection}
-use Rattle.patterns.specs.Ways.{gather, exists}
+use Rattle.patterns.specs.Ways.{gather}
 use Rattle.patterns.specs.Binding.{Cell, free, is, Binding, names, nothing, only, cellOf, consistent}
-use Rattle.patterns.specs.Pattern.{name, itemsOf, matches, wide}
+use Rattle.patterns.specs.Pattern.{name, itemsOf, matches}
 use Rattle.patterns.specs.Binder.{bindings}
 use Rattle.patterns.specs.Matched.{list-items, only-sized}
 use Rattle.patterns.specs.Ordered.{Rising, sorted-rising}
@@ -242,11 +242,6 @@ set-one vs ws h g = one-collection (one-value h g)
 
 pub plain-are : {s : List ℕ} {at : ℕ} (x : ℕ) (vs : List Value) → x < names → At s at (collection set (itemsOf vs)) → bindings (name x) vs ≡ map (only x) vs
 plain-are x vs lt h = members-are x vs lt h
-
-pub plain-narrow : (x : ℕ) (vs : List Value) → exists vs (wide (name x)) ≡ false
-unfolding exists wide
-plain-narrow x [] = refl
-plain-narrow x (v ∷ vs) = plain-narrow x vs
 
 -- ---- what `next_member` asks and gives
 

@@ -11,8 +11,8 @@ use borrow.Author.Tests.{lt-leb, leb-true}
 use Rattle.integers.specs.Bytes.{word}
 use Rattle.values.specs.Value.{Value, collection, set}
 use Rattle.values.specs.Items.{pick}
-use Rattle.values.specs.Place.{At, ItemsAt, Holds, HoldsItems}
-use Rattle.values.specs.Records.{holds, run, items-of, items-none, word-size, one-value}
+use Rattle.values.specs.Place.{At}
+use Rattle.values.specs.Records.{one-value}
 use Rattle.tables.specs.Record.{Record, named, nameOf, shape, isKnown, size}
 use Rattle.tables.specs.Table.{recordAt, kindAt}
 use Rattle.tables.specs.Accepted.{records, lower, fit-known, fit-least}
@@ -26,13 +26,13 @@ use Rattle.ways.specs.Read.{patternAt}
 use Rattle.ways.specs.Nodes.{pattern-at, is-name}
 use Rattle.ways.specs.Merging.{true-false}
 use Rattle.ways.specs.Following.{following}
-use Rattle.ways.specs.Leaves.{or-left, or-right}
+use Rattle.ways.specs.Leaves.{or-left}
 use Rattle.ways.specs.Kin.{Kin}
 use Rattle.ways.specs.Best.{leastOver, over-all, over-following, kin-all}
 use Rattle.matching.specs.declared.Best.{Best}
 use Rattle.matching.specs.Found.{BestIs, NoneYet}
 use Rattle.bindings.specs.declared.Tally.the-variants.{Number, Refused}
-use Rattle.bindings.specs.Bound.{Bounding, Sought, SoughtAll, SoughtOf, SoughtOfAll, Searchable, Values, Bindable, Follows, StoodAt, MemberHeld, MemberFollows, MemberNext, TellsWide, TellsWideIn, Present, NextOf, TellsOf, Tallied}
+use Rattle.bindings.specs.Bound.{Bounding, Sought, SoughtAll, SoughtOf, SoughtOfAll, Searchable, Values, Bindable, Follows, StoodAt, MemberHeld, MemberFollows, MemberNext, TellsWide, Present, NextOf, TellsOf, Tallied}
 use Rattle.bindings.proofs.Members.{best-one, set-one, plain-are}
 use Rattle.bindings.proofs.Large.{members-at}
 use Rattle.bindings.specs.Stepping.{Stepped, stepped-none, step-end, step-more, stepped-more}
