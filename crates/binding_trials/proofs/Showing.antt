@@ -20,7 +20,7 @@ use Rattle.patterns.specs.Binder.{bindings}
 use Rattle.parts.specs.declared.Part.{Part}
 use Rattle.parts.specs.Part.{PartIs, CellIs, endOf}
 use Rattle.parts.specs.Contract.{Puttable, PutPart}
-use Rattle.parts.specs.Laws.{end-span, end-record, part-kept}
+use Rattle.parts.specs.Laws.{part-inside, part-kept}
 use Rattle.ways.specs.Merging.{true-false}
 use Rattle.ways.specs.Following.{nth}
 use Rattle.matching.specs.declared.Found.{Found}
@@ -35,18 +35,6 @@ use Rattle.binding_trials.specs.Contract.{Tried, SubjectOf, NthOf, Showa
 use Rattle.binding_trials.proofs.Counting.{pattern-is}
 
 -- ---- parts
-
--- a part lies within the slice
-part-inside : {s : List ℕ} {p : Part} {v : Value} → PartIs s p v → endOf s p ≤ length s
-part-inside {s} {p} (inl h) =
-    let e = end-record s p (λ q. omega (arith, h .0)) in
-    omega (arith, word-size (h .1), h .1 .fits)
-part-inside {s} {p} (inr (inl h)) =
-    let e = end-record s p (λ q. omega (arith, h .0)) in
-    omega (arith, word-size (h .1 .here), h .1 .here .fits)
-part-inside {s} {p} (inr (inr h)) =
-    let e = end-span s p (h .0) in
-    omega (arith, h .1 .here .fits)
 
 part-some : {s : List ℕ} {p : Part} {v : Value} → PartIs s p v → p .how ≡ 0 → ⊥
 part-some (inl h) e = omega (arith, h .0)

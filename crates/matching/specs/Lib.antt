@@ -2,3 +2,4 @@
 pub mod Found
 pub mod Node
 pub mod Along
+pub mod Lent

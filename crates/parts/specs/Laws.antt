@@ -5,7 +5,8 @@ use mathlib.Core.Logic.{inl, inr}
 use mathlib.Core.List.{List, [], _∷_}
 use Prim.Native.Nat.{ℕ, _+_, _/_, _≤_}
 use native.Mathlib.Omega.{arith}
-use lib.ListN.{length, getD, take}
+use lib.ListN.{length, getD, take, length-take}
+use lib.Seq.{take-take}
 use borrow.Author.Tests.{eq-eqb, ne-eqb}
 use Rattle.integers.specs.Bytes.{word}
 use Rattle.values.specs.Value.{Kind, set, sequence, number, Value, collection, Items, kindOf, WellFormed}
@@ -119,6 +120,26 @@ part-kept {s} {t} {base} {p} {v} e l b (inr (inr h)) =
     let n = end-span s p (h .0) in
     let m = end-span t p (h .0) in
     (inr (inr (h .0, record { items = x .items; here = items-kept e l (omega arith) (x .here); short = x .short; is = x .is })), m ∙ sym n)
+
+-- A part lies within the slice.
+pub part-inside : {s : List ℕ} {p : Part} {v : Value} → PartIs s p v → endOf s p ≤ length s
+part-inside {s} {p} (inl h) =
+    let e = end-record s p (λ q. omega (arith, h .0)) in
+    omega (arith, word-size (h .1), h .1 .fits)
+part-inside {s} {p} (inr (inl h)) =
+    let e = end-record s p (λ q. omega (arith, h .0)) in
+    omega (arith, word-size (h .1 .here), h .1 .here .fits)
+part-inside {s} {p} (inr (inr h)) =
+    let e = end-span s p (h .0) in
+    omega (arith, h .1 .here .fits)
+
+-- THEOREM: what a part denotes in the first n bytes of a slice it denotes in the slice, and it ends there
+pub part-longer : {s : List ℕ} {p : Part} {v : Value} (n : ℕ) → n ≤ length s → PartIs (take n s) p v → PartIs s p v × (endOf s p ≤ n)
+part-longer {s} {p} {v} n l h =
+    let i = part-inside h in
+    let m = length-take n s in
+    let w = part-kept {s = take n s} {t = s} {base = n} {p = p} {v = v} (sym (take-take n n s (omega arith))) l (omega arith) h in
+    (w .0, omega (arith, w .1))
 
 -- ---- collections
 
