@@ -12,7 +12,7 @@ use reference::value::Value;
 use std::collections::{BTreeMap, BTreeSet};
 
 /// The most ways of a case times its bindings: all are gone over for each binding.
-const MOST_STEPS: usize = 20_000;
+const MOST_STEPS: usize = 2_000;
 
 /// How many cases of each sort were compared.
 #[derive(Debug, Default)]
@@ -48,14 +48,14 @@ impl Tally {
         let steps = match &expected {
             Ok(found) => ways * (found.len() + 1),
             Err(WIDE_UNION) => ways,
-            // All ways are gone over for a few bindings only.
-            Err(_) => ways * 10,
+            // All ways are gone over for every binding up to the 256th, but few of them are looked at.
+            Err(_) => ways * 4,
         };
         if steps > MOST_STEPS {
             self.left_out += 1;
             return;
         }
-        case.compare(&expected, Extent::Every);
+        case.compare(&expected, Extent::Spread);
         self.cases += 1;
         match expected {
             Err(WIDE_UNION) => self.wide += 1,
@@ -120,28 +120,29 @@ fn compare_random(seed: u64, cases: usize, once_damaged_in: usize) -> Tally {
 
 #[test]
 fn values_made_from_the_pattern() {
-    let tally = compare_random(501, 6000, 1_000_000);
-    assert!(tally.matched > 3000, "{tally:?}");
-    assert!(tally.several > 1000, "{tally:?}");
-    assert!(tally.repeated > 500, "{tally:?}");
-    assert!(tally.loose > 1500, "{tally:?}");
-    assert!(tally.unmatched > 1000, "{tally:?}");
-    assert!(tally.wide > 100, "{tally:?}");
-    assert!(tally.many > 10, "{tally:?}");
-    assert!(tally.bindings > 10_000, "{tally:?}");
-    tally.expect_kinds(BINDERS.into_iter().chain(32..=40), 150);
+    let tally = compare_random(501, 3500, 1_000_000);
+    assert!(tally.matched > 1500, "{tally:?}");
+    assert!(tally.several > 500, "{tally:?}");
+    assert!(tally.repeated > 250, "{tally:?}");
+    assert!(tally.loose > 700, "{tally:?}");
+    assert!(tally.unmatched > 500, "{tally:?}");
+    assert!(tally.wide > 50, "{tally:?}");
+    assert!(tally.many > 0, "{tally:?}");
+    assert!(tally.bindings > 5000, "{tally:?}");
+    tally.expect_kinds(BINDERS.into_iter().chain(32..=40), 80);
 }
 
 #[test]
 fn damaged_values() {
-    let tally = compare_random(502, 6000, 2);
-    assert!(tally.matched > 2500, "{tally:?}");
-    assert!(tally.several > 1000, "{tally:?}");
-    assert!(tally.repeated > 400, "{tally:?}");
-    assert!(tally.loose > 1200, "{tally:?}");
-    assert!(tally.unmatched > 2000, "{tally:?}");
-    assert!(tally.wide > 100, "{tally:?}");
-    tally.expect_kinds(BINDERS.into_iter().chain(32..=40), 150);
+    let tally = compare_random(502, 3500, 2);
+    assert!(tally.matched > 1200, "{tally:?}");
+    assert!(tally.several > 400, "{tally:?}");
+    assert!(tally.repeated > 150, "{tally:?}");
+    assert!(tally.loose > 500, "{tally:?}");
+    assert!(tally.unmatched > 900, "{tally:?}");
+    assert!(tally.wide > 40, "{tally:?}");
+    assert!(tally.bindings > 4000, "{tally:?}");
+    tally.expect_kinds(BINDERS.into_iter().chain(32..=40), 60);
 }
 
 /// The generator's sheets that are binders, with the values of their operands and values made from the
@@ -151,7 +152,7 @@ fn sheets_of_the_generator() {
     let mut maker = Maker::new(503);
     let mut tally = Tally::default();
     let mut binders = 0;
-    for table in (0..4000).map(accepted) {
+    for table in (0..2500).map(accepted) {
         let empty = value("{}");
         let Some(case) = Case::new(&table, &empty) else {
             continue;
@@ -165,11 +166,11 @@ fn sheets_of_the_generator() {
         }
     }
     println!("{binders} binders: {tally:?}");
-    assert!(binders > 2500, "{binders}");
-    assert!(tally.matched > 4000, "{tally:?}");
-    assert!(tally.several > 2000, "{tally:?}");
-    assert!(tally.loose > 1500, "{tally:?}");
-    assert!(tally.unmatched > 800, "{tally:?}");
-    tally.expect_kinds((12..=13).chain(32..=40), 100);
-    tally.expect_kinds(14..=20, 1);
+    assert!(binders > 1500, "{binders}");
+    assert!(tally.matched > 2500, "{tally:?}");
+    assert!(tally.several > 1000, "{tally:?}");
+    assert!(tally.loose > 700, "{tally:?}");
+    assert!(tally.unmatched > 400, "{tally:?}");
+    tally.expect_kinds([12, 13].into_iter().chain(32..=40), 50);
+    tally.expect_kinds(OF_NAMES.into_iter(), 10);
 }
