@@ -22,6 +22,8 @@ struct Tally {
     left_out: usize,
     unmatched: usize,
     matched: usize,
+    /// Of both, those of which every binding was looked at, with all names of the pattern.
+    whole: usize,
     /// With several bindings.
     several: usize,
     /// With a binding, though a name stands in the pattern twice.
@@ -55,7 +57,7 @@ impl Tally {
             self.left_out += 1;
             return;
         }
-        case.compare(&expected, Extent::Spread);
+        self.whole += usize::from(case.compare(&expected, Extent::Spread));
         self.cases += 1;
         match expected {
             Err(WIDE_UNION) => self.wide += 1,
@@ -80,6 +82,12 @@ impl Tally {
         self.matched += 1;
         self.several += usize::from(bindings > 1);
         self.bindings += bindings;
+    }
+
+    /// Asserts that nearly all cases with no refusal were looked at as a whole.
+    fn expect_whole(&self) {
+        let found = self.matched + self.unmatched;
+        assert!(self.whole * 20 > found * 19, "{self:?}");
     }
 
     /// Asserts that so many cases at least were matched with each kind of binder and pattern.
@@ -115,6 +123,7 @@ fn compare_random(seed: u64, cases: usize, once_damaged_in: usize) -> Tally {
         tally.compare(&Case::new(&table, &value).expect("a case"), &value);
     }
     println!("{tally:?}");
+    tally.expect_whole();
     tally
 }
 
@@ -166,6 +175,7 @@ fn sheets_of_the_generator() {
         }
     }
     println!("{binders} binders: {tally:?}");
+    tally.expect_whole();
     assert!(binders > 1500, "{binders}");
     assert!(tally.matched > 2500, "{tally:?}");
     assert!(tally.several > 1000, "{tally:?}");

@@ -164,40 +164,43 @@ impl<'t> Case<'t> {
         found.into_iter().collect()
     }
 
-    /// Compares with what is expected.
-    pub fn compare(&self, expected: &Tried<Vec<Binding>>, extent: Extent) {
+    /// Compares with what is expected. Tells whether every binding was looked at, with all names of the
+    /// pattern.
+    pub fn compare(&self, expected: &Tried<Vec<Binding>>, extent: Extent) -> bool {
         match expected {
-            Ok(found) => self.compare_found(found, extent),
+            Ok(found) => return self.compare_found(found, extent),
             Err(WIDE_UNION) => self.compare_wide(),
             Err(_) => self.compare_many(),
         }
+        false
     }
 
-    fn compare_found(&self, found: &[Binding], extent: Extent) {
+    fn compare_found(&self, found: &[Binding], extent: Extent) -> bool {
         let count = found.len();
         assert_eq!(self.count(), count * BINDING, "{self}");
         let ways = self.ways(usize::MAX);
         let names = self.names();
         let all_once = ways * (count + 1) * (count + 2) / 2;
-        let is_cheap = |names: usize| all_once * names <= MOST_STEPS;
+        let is_cheap = all_once * NAMES <= MOST_STEPS;
+        let is_whole = extent == Extent::Every || all_once * names.len() <= MOST_STEPS;
         let stride = all_once / MOST_STEPS + 1;
         for k in 0..count {
-            if is_cheap(NAMES) || (k == 0 && ways * NAMES <= MOST_STEPS) {
-                (0..NAMES).for_each(|name| self.compare_cell(found, k, name));
-            } else if extent == Extent::Every || is_cheap(names.len()) {
-                names
-                    .iter()
-                    .for_each(|&name| self.compare_cell(found, k, name));
-            } else if (k % stride == 0 || k + 1 == count) && !names.is_empty() {
+            let is_spread = k % stride == 0 || k + 1 == count;
+            if is_cheap || (k == 0 && ways * NAMES <= MOST_STEPS) {
+                self.compare_cells(found, k, 0..NAMES);
+            } else if is_whole {
+                self.compare_cells(found, k, names.iter().copied());
+            } else if is_spread && !names.is_empty() {
                 self.compare_cell(found, k, names[k / stride % names.len()]);
             }
         }
         self.compare_cell(found, 0, NAMES);
         self.compare_cell(found, count, names.first().copied().unwrap_or(0));
-        if is_cheap(NAMES) {
+        if is_cheap {
             self.compare_cell(found, 0, usize::MAX);
             self.compare_cell(found, usize::MAX, NAMES);
         }
+        is_whole
     }
 
     fn compare_wide(&self) {
@@ -227,6 +230,13 @@ impl<'t> Case<'t> {
         if self.ways(usize::MAX) * count <= 5 * MOST_STEPS {
             self.compare_cell(&found, count - 1, names[0]);
             self.compare_cell(&found, count, names[0]);
+        }
+    }
+
+    /// Compares what a binding gives some names.
+    fn compare_cells(&self, found: &[Binding], k: usize, names: impl Iterator<Item = usize>) {
+        for name in names {
+            self.compare_cell(found, k, name);
         }
     }
 
@@ -265,7 +275,8 @@ impl<'t> Case<'t> {
 
     /// The names of the pattern.
     fn names(&self) -> Vec<usize> {
-        self.pattern.names().into_iter().map(usize::from).collect()
+        let names: BTreeSet<u8> = self.pattern.names().into_iter().collect();
+        names.into_iter().map(usize::from).collect()
     }
 }
 
