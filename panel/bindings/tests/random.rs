@@ -12,7 +12,7 @@ use reference::value::Value;
 use std::collections::{BTreeMap, BTreeSet};
 
 /// The most ways of a case times its bindings: all are gone over for each binding.
-const MOST_STEPS: usize = 20_000;
+const MOST_STEPS: usize = 2_000;
 
 /// How many cases of each sort were compared.
 #[derive(Debug, Default)]
@@ -22,6 +22,8 @@ struct Tally {
     left_out: usize,
     unmatched: usize,
     matched: usize,
+    /// Of both, those of which every binding was looked at, with all names of the pattern.
+    whole: usize,
     /// With several bindings.
     several: usize,
     /// With a binding, though a name stands in the pattern twice.
@@ -48,14 +50,14 @@ impl Tally {
         let steps = match &expected {
             Ok(found) => ways * (found.len() + 1),
             Err(WIDE_UNION) => ways,
-            // All ways are gone over for a few bindings only.
-            Err(_) => ways * 10,
+            // All ways are gone over for every binding up to the 256th, but few of them are looked at.
+            Err(_) => ways * 4,
         };
         if steps > MOST_STEPS {
             self.left_out += 1;
             return;
         }
-        case.compare(&expected, Extent::Every);
+        self.whole += usize::from(case.compare(&expected, Extent::Spread));
         self.cases += 1;
         match expected {
             Err(WIDE_UNION) => self.wide += 1,
@@ -80,6 +82,12 @@ impl Tally {
         self.matched += 1;
         self.several += usize::from(bindings > 1);
         self.bindings += bindings;
+    }
+
+    /// Asserts that nearly all cases with no refusal were looked at as a whole.
+    fn expect_whole(&self) {
+        let found = self.matched + self.unmatched;
+        assert!(self.whole * 20 > found * 19, "{self:?}");
     }
 
     /// Asserts that so many cases at least were matched with each kind of binder and pattern.
@@ -115,33 +123,35 @@ fn compare_random(seed: u64, cases: usize, once_damaged_in: usize) -> Tally {
         tally.compare(&Case::new(&table, &value).expect("a case"), &value);
     }
     println!("{tally:?}");
+    tally.expect_whole();
     tally
 }
 
 #[test]
 fn values_made_from_the_pattern() {
-    let tally = compare_random(501, 6000, 1_000_000);
-    assert!(tally.matched > 3000, "{tally:?}");
-    assert!(tally.several > 1000, "{tally:?}");
-    assert!(tally.repeated > 500, "{tally:?}");
-    assert!(tally.loose > 1500, "{tally:?}");
-    assert!(tally.unmatched > 1000, "{tally:?}");
-    assert!(tally.wide > 100, "{tally:?}");
-    assert!(tally.many > 10, "{tally:?}");
-    assert!(tally.bindings > 10_000, "{tally:?}");
-    tally.expect_kinds(BINDERS.into_iter().chain(32..=40), 150);
+    let tally = compare_random(501, 3500, 1_000_000);
+    assert!(tally.matched > 1500, "{tally:?}");
+    assert!(tally.several > 500, "{tally:?}");
+    assert!(tally.repeated > 250, "{tally:?}");
+    assert!(tally.loose > 700, "{tally:?}");
+    assert!(tally.unmatched > 500, "{tally:?}");
+    assert!(tally.wide > 50, "{tally:?}");
+    assert!(tally.many > 0, "{tally:?}");
+    assert!(tally.bindings > 5000, "{tally:?}");
+    tally.expect_kinds(BINDERS.into_iter().chain(32..=40), 80);
 }
 
 #[test]
 fn damaged_values() {
-    let tally = compare_random(502, 6000, 2);
-    assert!(tally.matched > 2500, "{tally:?}");
-    assert!(tally.several > 1000, "{tally:?}");
-    assert!(tally.repeated > 400, "{tally:?}");
-    assert!(tally.loose > 1200, "{tally:?}");
-    assert!(tally.unmatched > 2000, "{tally:?}");
-    assert!(tally.wide > 100, "{tally:?}");
-    tally.expect_kinds(BINDERS.into_iter().chain(32..=40), 150);
+    let tally = compare_random(502, 3500, 2);
+    assert!(tally.matched > 1200, "{tally:?}");
+    assert!(tally.several > 400, "{tally:?}");
+    assert!(tally.repeated > 150, "{tally:?}");
+    assert!(tally.loose > 500, "{tally:?}");
+    assert!(tally.unmatched > 900, "{tally:?}");
+    assert!(tally.wide > 40, "{tally:?}");
+    assert!(tally.bindings > 4000, "{tally:?}");
+    tally.expect_kinds(BINDERS.into_iter().chain(32..=40), 60);
 }
 
 /// The generator's sheets that are binders, with the values of their operands and values made from the
@@ -151,7 +161,7 @@ fn sheets_of_the_generator() {
     let mut maker = Maker::new(503);
     let mut tally = Tally::default();
     let mut binders = 0;
-    for table in (0..4000).map(accepted) {
+    for table in (0..2500).map(accepted) {
         let empty = value("{}");
         let Some(case) = Case::new(&table, &empty) else {
             continue;
@@ -165,11 +175,12 @@ fn sheets_of_the_generator() {
         }
     }
     println!("{binders} binders: {tally:?}");
-    assert!(binders > 2500, "{binders}");
-    assert!(tally.matched > 4000, "{tally:?}");
-    assert!(tally.several > 2000, "{tally:?}");
-    assert!(tally.loose > 1500, "{tally:?}");
-    assert!(tally.unmatched > 800, "{tally:?}");
-    tally.expect_kinds((12..=13).chain(32..=40), 100);
-    tally.expect_kinds(14..=20, 1);
+    tally.expect_whole();
+    assert!(binders > 1500, "{binders}");
+    assert!(tally.matched > 2500, "{tally:?}");
+    assert!(tally.several > 1000, "{tally:?}");
+    assert!(tally.loose > 700, "{tally:?}");
+    assert!(tally.unmatched > 400, "{tally:?}");
+    tally.expect_kinds([12, 13].into_iter().chain(32..=40), 50);
+    tally.expect_kinds(OF_NAMES.into_iter(), 10);
 }

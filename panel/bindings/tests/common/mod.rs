@@ -86,19 +86,17 @@ fn copy(from: &[&[u8]], table: &Table, number: usize, to: &mut Vec<Vec<u8>>) -> 
 
 // ---- trials
 
-/// How much of a case is compared.
+/// How many of a case's bindings are looked at.
 #[derive(Clone, Copy, PartialEq, Eq)]
 pub enum Extent {
-    /// Every binding. All 16 names are looked up in each; where that costs too much, those of the pattern
-    /// in each and all in the first and the last.
+    /// Every binding, with all names of the pattern.
     Every,
-    /// The first and the last binding.
-    Ends,
+    /// As many as [`MOST_STEPS`] allows, spread evenly, the pattern's names in turn.
+    Spread,
 }
 
 /// What a case may cost, in ways of matching: to find binding k all ways are gone over k + 1 times.
-const EVERY_NAME: usize = 100_000;
-const MOST_WAYS: usize = 1_000_000;
+const MOST_STEPS: usize = 30_000;
 
 /// A binder and a value that it is tried on.
 pub struct Case<'t> {
@@ -166,58 +164,79 @@ impl<'t> Case<'t> {
         found.into_iter().collect()
     }
 
-    /// Compares with what is expected.
-    pub fn compare(&self, expected: &Tried<Vec<Binding>>, extent: Extent) {
+    /// Compares with what is expected. Tells whether every binding was looked at, with all names of the
+    /// pattern.
+    pub fn compare(&self, expected: &Tried<Vec<Binding>>, extent: Extent) -> bool {
         match expected {
-            Ok(found) => self.compare_found(found, extent),
+            Ok(found) => return self.compare_found(found, extent),
             Err(WIDE_UNION) => self.compare_wide(),
             Err(_) => self.compare_many(),
         }
+        false
     }
 
-    fn compare_found(&self, found: &[Binding], extent: Extent) {
+    fn compare_found(&self, found: &[Binding], extent: Extent) -> bool {
         let count = found.len();
         assert_eq!(self.count(), count * BINDING, "{self}");
-        let steps = self.ways(MOST_WAYS) * (count + 1) * (count + 2) / 2;
-        let is_cheap = extent == Extent::Every && steps * NAMES <= EVERY_NAME;
-        let own = self.names();
-        for k in 0..=count {
-            let is_end = k == 0 || k + 1 >= count;
-            for name in 0..=NAMES {
-                if is_cheap || is_end || (extent == Extent::Every && own.contains(&name)) {
-                    self.compare_cell(found, k, name);
-                }
+        let ways = self.ways(usize::MAX);
+        let names = self.names();
+        let all_once = ways * (count + 1) * (count + 2) / 2;
+        let is_cheap = all_once * NAMES <= MOST_STEPS;
+        let is_whole = extent == Extent::Every || all_once * names.len() <= MOST_STEPS;
+        let stride = all_once / MOST_STEPS + 1;
+        for k in 0..count {
+            let is_spread = k % stride == 0 || k + 1 == count;
+            if is_cheap || (k == 0 && ways * NAMES <= MOST_STEPS) {
+                self.compare_cells(found, k, 0..NAMES);
+            } else if is_whole {
+                self.compare_cells(found, k, names.iter().copied());
+            } else if is_spread && !names.is_empty() {
+                self.compare_cell(found, k, names[k / stride % names.len()]);
             }
         }
-        for name in [0, NAMES, usize::MAX] {
-            self.compare_cell(found, 0, name);
-            self.compare_cell(found, usize::MAX, name);
+        self.compare_cell(found, 0, NAMES);
+        self.compare_cell(found, count, names.first().copied().unwrap_or(0));
+        if is_cheap {
+            self.compare_cell(found, 0, usize::MAX);
+            self.compare_cell(found, usize::MAX, NAMES);
         }
+        is_whole
     }
 
     fn compare_wide(&self) {
         let wide = WIDE_UNION as usize;
         assert_eq!(self.count(), wide, "{self}");
-        for k in [0, 1, MAX_BINDINGS, usize::MAX] {
-            for name in (0..=NAMES).chain([usize::MAX]) {
-                self.compare_look(k, name, Err(wide));
-            }
+        let names = match self.ways(usize::MAX) {
+            ways if ways * NAMES <= MOST_STEPS => (0..NAMES).collect(),
+            _ => vec![0],
+        };
+        for name in names {
+            self.compare_look(0, name, Err(wide));
+        }
+        for k in [1, MAX_BINDINGS, usize::MAX] {
+            self.compare_look(k, NAMES, Err(wide));
         }
     }
 
-    /// Bindings past the 255th are looked at too, up to the last where that does not cost too much.
+    /// The first and the 256th binding are looked at, and the last where that does not cost too much.
     fn compare_many(&self) {
         let found = self.all_bindings();
         let count = found.len();
         assert!(count > MAX_BINDINGS);
         assert_eq!(self.count(), MANY_BINDINGS as usize, "{self}");
-        let ways = self.ways(MOST_WAYS);
-        for k in [0, 1, MAX_BINDINGS - 1, MAX_BINDINGS, count - 1, count] {
-            if k <= MAX_BINDINGS || ways * count <= MOST_WAYS {
-                for name in self.names() {
-                    self.compare_cell(&found, k, name);
-                }
-            }
+        let names = self.names();
+        self.compare_cell(&found, 0, names[0]);
+        self.compare_cell(&found, MAX_BINDINGS, names[names.len() - 1]);
+        if self.ways(usize::MAX) * count <= 5 * MOST_STEPS {
+            self.compare_cell(&found, count - 1, names[0]);
+            self.compare_cell(&found, count, names[0]);
+        }
+    }
+
+    /// Compares what a binding gives some names.
+    fn compare_cells(&self, found: &[Binding], k: usize, names: impl Iterator<Item = usize>) {
+        for name in names {
+            self.compare_cell(found, k, name);
         }
     }
 
@@ -256,7 +275,8 @@ impl<'t> Case<'t> {
 
     /// The names of the pattern.
     fn names(&self) -> Vec<usize> {
-        self.pattern.names().into_iter().map(usize::from).collect()
+        let names: BTreeSet<u8> = self.pattern.names().into_iter().collect();
+        names.into_iter().map(usize::from).collect()
     }
 }
 
@@ -267,14 +287,16 @@ impl fmt::Display for Case<'_> {
     }
 }
 
-/// Tries a binder on a value and compares every binding; gives the bindings, or the refusal.
+/// Tries a binder on a value, and compares with the second evaluator; gives the bindings, or the refusal.
+/// The count is always compared, and the first and the last binding; every binding where that does not cost
+/// too much, with all 16 names or else those of the pattern; and otherwise some of them.
 pub fn compare(table: &[u8], value: &Value) -> Tried<Vec<Binding>> {
-    compare_to(table, value, Extent::Every)
+    compare_to(table, value, Extent::Spread)
 }
 
-/// The same with the first and the last binding alone.
-pub fn compare_ends(table: &[u8], value: &Value) -> Tried<Vec<Binding>> {
-    compare_to(table, value, Extent::Ends)
+/// The same with every binding, whatever it costs.
+pub fn compare_every(table: &[u8], value: &Value) -> Tried<Vec<Binding>> {
+    compare_to(table, value, Extent::Every)
 }
 
 fn compare_to(table: &[u8], value: &Value, extent: Extent) -> Tried<Vec<Binding>> {
@@ -306,7 +328,7 @@ pub fn judge(table: &[u8], bytes: &[u8]) -> Judged {
         (_, Some(value)) => match Case::new(table, &value) {
             None => Judged::NoSet,
             Some(case) => {
-                case.compare(&case.expected(), Extent::Every);
+                case.compare(&case.expected(), Extent::Spread);
                 return Judged::Trial;
             }
         },
