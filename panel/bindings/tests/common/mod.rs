@@ -95,7 +95,7 @@ pub enum Extent {
     Spread,
 }
 
-/// What a case may cost, in ways of matching: to find binding k all ways are gone over k + 1 times.
+/// What a case may cost, in ways of matching: to find binding k all ways are at worst gone over k + 1 times.
 const MOST_STEPS: usize = 30_000;
 
 /// A binder and a value that it is tried on.
