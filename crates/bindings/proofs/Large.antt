@@ -16,6 +16,7 @@ use Rattle.patterns.specs.Pattern.{Pattern, itemsOf, listOf, wide}
 use Rattle.patterns.specs.Matched.{items-list}
 use Rattle.ways.specs.Read.{patternAt}
 use Rattle.ways.specs.Merging.{true-false}
+use Rattle.splitting.specs.Composed.{or-last}
 use Rattle.bindings.specs.Bound.{Values, Bindable, TellsWideIn, TellsWide}
 use Rattle.bindings.proofs.Members.{first-of, none-left}
 
@@ -98,16 +99,12 @@ module _ (s : List ℕ) (at : ℕ) where
   members-held false e h n q = (itemsOf (h .0), members-at (h .0) n q (h .1))
 
 module _ (table : List ℕ) (p : ℕ) (s : List ℕ) (at : ℕ) (t : Bool) (r : Bool) where
-  or-none : (b : Bool) → (b || false) ≡ b
-  or-none true = refl
-  or-none false = refl
-
   pub tells-one : t ≡ true → TellsAt table p s at r → TellsWide table p s at t r
   unfolding exists
   tells-one e h vs i = go t e i
     where
       go : (t : Bool) → t ≡ true → Values s at t vs → r ≡ exists vs (wide (patternAt (records table) p))
-      go true e (v, j, q) = h v (inl (refl, j)) ∙ sym (or-none (wide (patternAt (records table) p) v)) ∙ sym (ap (λ (xs : List Value). exists xs (wide (patternAt (records table) p))) q)
+      go true e (v, j, q) = h v (inl (refl, j)) ∙ or-last (wide (patternAt (records table) p) v) ∙ sym (ap (λ (xs : List Value). exists xs (wide (patternAt (records table) p))) q)
       go false e i = true-false (sym e)
 
   pub tells-all : t ≡ false → (n : ℕ) → n ≡ word s at → TellsWideIn table p s (at + 4) (at + n) r → TellsWide table p s at t r

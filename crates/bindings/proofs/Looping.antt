@@ -29,7 +29,7 @@ use Rattle.ways.specs.Trimmed.{hopeful, trimmed}
 use Rattle.ways.specs.Tame.{trimmed-tame, trimmed-full, trimmed-within, tame-value}
 use Rattle.ways.specs.Read.{patternAt}
 use Rattle.ways.specs.Merging.{true-both}
-use Rattle.ways.specs.Leaves.{or-left, or-right}
+use Rattle.tables.specs.Laws.{or-left, or-right}
 use Rattle.ways.specs.Kin.{Kin}
 use Rattle.ways.specs.Best.{better, leastOver, kin-over, over-all}
 use Rattle.ways.specs.Seeking.{Seeking, seeking-start, seeking-into, seeking-now, seeking-more, seeking-done}

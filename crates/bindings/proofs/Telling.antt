@@ -26,7 +26,7 @@ use Rattle.ways.specs.Read.{patternAt}
 use Rattle.ways.specs.Nodes.{pattern-at, is-name}
 use Rattle.ways.specs.Merging.{true-false}
 use Rattle.ways.specs.Following.{following}
-use Rattle.ways.specs.Leaves.{or-left}
+use Rattle.tables.specs.Laws.{or-left}
 use Rattle.ways.specs.Kin.{Kin}
 use Rattle.ways.specs.Best.{leastOver, over-all, over-following, kin-all}
 use Rattle.matching.specs.declared.Best.{Best}

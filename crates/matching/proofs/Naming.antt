@@ -18,19 +18,11 @@ use Rattle.parts.specs.Contract.{OrderedParts}
 use Rattle.patterns.specs.Binding.{Cell, free, is, clash, Binding, names, nothing, only, cellOf, agree, merge, consistent}
 use Rattle.patterns.specs.Matched.{merge-sized, only-sized}
 use Rattle.ways.specs.Tries.{State, start, naming, failed, isGood}
-use Rattle.ways.specs.Merging.{true-false, consistent-left}
+use Rattle.ways.specs.Merging.{true-false, both-true, true-both, consistent-left}
 use Rattle.matching.specs.declared.Found.{Found}
 use Rattle.matching.specs.Found.{nowhere, Stands}
 
 -- ---- truths
-
-and-true : (a b : Bool) → (a && b) ≡ true → (a ≡ true) × (b ≡ true)
-and-true true b e = (refl, e)
-and-true false b e = true-false (sym e)
-
-and-both : (a b : Bool) → a ≡ true → b ≡ true → (a && b) ≡ true
-and-both true b e f = f
-and-both false b e f = e
 
 and-false : (b : Bool) → (b && false) ≡ false
 and-false true = refl
@@ -109,7 +101,7 @@ module _ (s : List ℕ) (x : ℕ) (lt : x < names) (v : Value) (st : State) wher
     -- cells that stand are consistent
     good : (ps : List Part) → st .fits ≡ true → ((n : ℕ) → n < names → CellIs s (getD ps n nowhere) (cellOf (merge (st .found) (only x v)) n)) → isGood (naming x v st) ≡ true
     good ps f h =
-        and-both (st .fits) (consistent (merge (st .found) (only x v))) f
+        both-true (st .fits) (consistent (merge (st .found) (only x v))) f
         (consistent-from (merge (st .found) (only x v)) (λ n l. cell-fine s (getD ps n nowhere) (cellOf (merge (st .found) (only x v)) n) (h n (omega (arith, both-sized)))))
 
   -- what failed stays so
@@ -123,14 +115,14 @@ module _ (s : List ℕ) (x : ℕ) (lt : x < names) (v : Value) (st : State) wher
     where
       dead : (b : Bool) → isGood (naming x v st) ≡ b → b ≡ false
       dead true q =
-          let w = and-true (st .fits) (consistent (merge (st .found) (only x v))) q in
-          let g : isGood st ≡ true = and-both (st .fits) (consistent (st .found)) (w .0) (consistent-left (st .found) (only x v) (w .1)) in
+          let w = true-both (st .fits) (consistent (merge (st .found) (only x v))) q in
+          let g : isGood st ≡ true = both-true (st .fits) (consistent (st .found)) (w .0) (consistent-left (st .found) (only x v) (w .1)) in
           sym (sym e ∙ h .fit ∙ g)
       dead false q = refl
 
   module _ (f : Found) (h : Stands s f st) (ok : f .fits ≡ true) where
     st-fits : st .fits ≡ true
-    st-fits = and-true (st .fits) (consistent (st .found)) (sym (h .fit) ∙ ok) .0
+    st-fits = true-both (st .fits) (consistent (st .found)) (sym (h .fit) ∙ ok) .0
 
     -- a name that is free is bound
     pub binds : (p : Part) (g : Found) → PartIs s p v → getD (f .parts) x nowhere .how ≡ 0 → g .fits ≡ true → g .parts ≡ set (f .parts) x p → Stands s g (naming x v st)

@@ -14,7 +14,7 @@ use Rattle.ways.specs.Read.{patternsOf, patternOf}
 use Rattle.ways.specs.Nodes.{isHalved, pair, meetings, isLarge, parts-length, is-name, is-any, is-boolean, is-integer}
 use Rattle.splitting.specs.Union.{hasUnion, someUnion, shallow}
 
-or-last : (b : Bool) → b ≡ b || false
+pub or-last : (b : Bool) → b ≡ b || false
 or-last true = refl
 or-last false = refl
 

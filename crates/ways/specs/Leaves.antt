@@ -10,6 +10,7 @@ use Rattle.values.specs.Value.{Value}
 use Rattle.values.specs.Items.{pick, same}
 use Rattle.choices.specs.Tree.{Tree, give, bind, Outcome, value, Gives}
 use Rattle.choices.specs.Laws.Trees.{gives-bind-out, gives-bind-in}
+use Rattle.tables.specs.Laws.{or-left, or-right}
 use Rattle.patterns.specs.Ways.{gather, exists}
 use Rattle.patterns.specs.Members.{In, in-gather, gather-in}
 use Rattle.patterns.specs.Binding.{Binding, names, nothing, only, merge, consistent, together}
@@ -162,14 +163,6 @@ among-complete (x ∷ xs) st f u t h n b i o g =
 wide-complete : (t : Bool) (l : List Binding) (st : State) (u : Tree State) → t ≡ false → Complete l st u → Complete l st (pick t (give (failed st)) u)
 wide-complete true l st u e h = true-false e
 wide-complete false l st u e h = h
-
-pub or-left : (s t : Bool) → (s || t) ≡ false → s ≡ false
-or-left true t e = e
-or-left false t e = refl
-
-pub or-right : (s t : Bool) → (s || t) ≡ false → t ≡ false
-or-right true t e = true-false e
-or-right false t e = e
 
 pub none-exists : {A : Type 0} (xs : List A) (f : A → Bool) → exists xs f ≡ false → (x : A) → In x xs → f x ≡ false
 unfolding exists
