@@ -17,3 +17,4 @@ pub mod LetBe
 pub mod Demand
 pub mod WellFormed
 pub mod Reads
+pub mod Laws

@@ -1,0 +1,2 @@
+-- The theorems on the meaning that the evaluator cites, and the laws of every kind.
+pub mod Enumerating
