@@ -26,9 +26,11 @@ use Rattle.patterns.specs.Forming.{single-formed}
 use Rattle.meaning.specs.Node.{Node, Quantifier, forall, exists, exists1, truth, whole, named, unaryOf, binaryOf, connective, if, enumeration, range, let-in, let-be, quantified, iota, set-comprehension, sequence-comprehension, map-comprehension, application, no-expression}
 use Rattle.meaning.specs.State.{State, under, valueIn}
 use Rattle.meaning.specs.Meaning as tree
-use Rattle.meaning.specs.Meaning.{Sheet, nameOf, enumerated}
+use Rattle.meaning.specs.Sheet.{Sheet, nameOf, enumerated}
 use Rattle.meaning.specs.Loose as loose
-use Rattle.meaning.specs.Loose.{Outcomes, _then_, gives, refuses, underEach}
+use Rattle.meaning.specs.Loose.{Outcomes, _then_, gives, refuses, underEach, looseOf}
+use Rattle.meaning.specs.Laws.Clauses.{chosenFrom, clauses-of-13}
+use Rattle.meaning.specs.Equation.{Downward, meaning-is}
 
 -- The leaves have exactly these outcomes.
 abbrev pub Same : {A : Type 0} → Tree A → Outcomes A → Type 0
@@ -53,6 +55,10 @@ same-bind t S f F h k o = (
 same-pick : {A : Type 0} (b : Bool) (t u : Tree A) (S U : Outcomes A) → Same t S → Same u U → Same (pick b t u) (pick b S U)
 same-pick true t u S U h k = h
 same-pick false t u S U h k = k
+
+-- The same outcomes, told otherwise.
+same-told : {A : Type 0} (t : Tree A) (S U : Outcomes A) → Same t S → ((o : Outcome A) → S o ↔ U o) → Same t U
+same-told t S U h k o = (λ g. k o .0 (h o .0 g), λ u. h o .1 (k o .1 u))
 
 same-at : (r : ℕ) (a : Answer) → Same (tree.at r a) (loose.at r a)
 same-at r (is v) = same-give v
@@ -103,7 +109,8 @@ same-let r l (bound []) f F s h = same-stop 23 r
 same-let r true (bound (b ∷ bs)) f F s h = same-chosen r (b ∷ bs) f F h
 same-let r false (bound (b ∷ bs)) f F s h = same-one b bs f F (s (b ∷ bs) refl refl) h
 
-same-satisfied : (r : ℕ) (bs : List Binding) (f : Binding → Tree Value) (F : Binding → Outcomes Value) → ((b : Binding) → Same (f b) (F b)) → Same (bind (tree.satisfied r bs) f) (loose.body13 r F bs)
+-- Kind 13, from the bindings that make its condition true on.
+same-satisfied : (r : ℕ) (bs : List Binding) (f : Binding → Tree Value) (F : Binding → Outcomes Value) → ((b : Binding) → Same (f b) (F b)) → Same (bind (tree.satisfied r bs) f) (chosenFrom r F bs)
 same-satisfied r [] f F h = same-stop 24 r
 same-satisfied r (b ∷ bs) f F h = same-chosen r (b ∷ bs) f F h
 
@@ -200,6 +207,14 @@ module _ (rec : tree.Evaluates) (Rec : loose.Meanings) (agrees : (a : ℕ) (ρ :
       same-bind (tree.collected (tree.holds rec r c ρ) add none bs) (loose.collected (loose.holds Rec r c ρ) Add none bs) _ _
       (same-collected (tree.holds rec r c ρ) (loose.holds Rec r c ρ) add Add (same-holds r c ρ) h none bs) (λ vs. same-give (collection k vs))
 
+  -- Kind 13, from its bindings on.
+  same-let-be : (r c b : ℕ) (ρ : State) (bs : List Binding) → Same (bind (tree.satisfying rec r c ρ bs) (λ sat. bind (tree.satisfied r sat) (λ β. rec b (under ρ β)))) (loose.body13 r (loose.holds Rec r c ρ) (λ β. Rec b (under ρ β)) bs)
+  same-let-be r c b ρ bs =
+      same-told (bind (tree.satisfying rec r c ρ bs) (λ sat. bind (tree.satisfied r sat) (λ β. rec b (under ρ β)))) (loose.satisfying Rec r c ρ bs then (λ sat. chosenFrom r (λ β. Rec b (under ρ β)) sat)) _
+      (same-bind (tree.satisfying rec r c ρ bs) (loose.satisfying Rec r c ρ bs) (λ sat. bind (tree.satisfied r sat) (λ β. rec b (under ρ β))) (λ sat. chosenFrom r (λ β. Rec b (under ρ β)) sat) (same-satisfying r c ρ bs)
+      (λ sat. same-satisfied r sat (λ β. rec b (under ρ β)) (λ β. Rec b (under ρ β)) (λ β. agrees b (under ρ β))))
+      (clauses-of-13 Rec r c ρ (λ β. Rec b (under ρ β)) bs)
+
   same-node : (pattern : ℕ → Pattern) (r : ℕ) (n : Node) (ρ : State) → Same (tree.means pattern rec r n ρ) (loose.looseOf pattern Rec r n ρ)
   unfolding tree.means loose.looseOf
   same-node pattern r (truth b) ρ = same-give (boolean b)
@@ -219,8 +234,7 @@ module _ (rec : tree.Evaluates) (Rec : loose.Meanings) (agrees : (a : ℕ) (ρ :
       (λ bs l e. single-formed (pattern p) v bs l e) (λ β. agrees b (under ρ β)))
   same-node pattern r (let-be p s c b) ρ =
       same-bind (tree.bindingsOf rec r (pattern p) s ρ) (loose.bindingsOf Rec r (pattern p) s ρ) _ _ (same-bindings r (pattern p) s ρ)
-      (λ bs. same-bind (tree.satisfying rec r c ρ bs) (loose.satisfying Rec r c ρ bs) _ _ (same-satisfying r c ρ bs)
-      (λ sat. same-satisfied r sat (λ β. rec b (under ρ β)) (λ β. Rec b (under ρ β)) (λ β. agrees b (under ρ β))))
+      (λ bs. same-let-be r c b ρ bs)
   same-node pattern r (quantified q p s c) ρ =
       same-bind (tree.bindingsOf rec r (pattern p) s ρ) (loose.bindingsOf Rec r (pattern p) s ρ) _ _ (same-bindings r (pattern p) s ρ)
       (λ bs. same-bind (tree.quantify q rec r c ρ bs) (loose.quantify q Rec r c ρ bs) _ _ (same-quantify q r c ρ bs) (λ t. same-give (boolean t)))
@@ -248,3 +262,13 @@ same-to s (suc n) r ρ = same-node (λ a σ. tree.meaningTo s n a σ) (λ a σ. 
 pub agreement : (s : Sheet) (r : ℕ) (ρ : State) (o : Outcome Value) → Gives (tree.meaning s r ρ) o ↔ loose.loose s r ρ o
 unfolding tree.meaning loose.loose
 agreement s r ρ o = same-to s (suc r) r ρ o
+
+-- THEOREM: the loose meaning of a record is what it says over the loose meanings of the records that it names. No bound is in it.
+pub loose-meaning-is : (s : Sheet) → Downward s → (r : ℕ) (ρ : State) (o : Outcome Value) → loose.loose s r ρ o ↔ looseOf (s .pattern) (λ a σ. loose.loose s a σ) r (s .node r) ρ o
+loose-meaning-is s d r ρ o = (
+  λ h. said o .0 (subst (λ t. Gives t o) (meaning-is s d r ρ) (agreement s r ρ o .1 h)),
+  λ h. agreement s r ρ o .0 (subst (λ t. Gives t o) (sym (meaning-is s d r ρ)) (said o .1 h)),
+)
+  where
+    said : Same (tree.means (s .pattern) (λ a σ. tree.meaning s a σ) r (s .node r) ρ) (looseOf (s .pattern) (λ a σ. loose.loose s a σ) r (s .node r) ρ)
+    said = same-node (λ a σ. tree.meaning s a σ) (λ a σ. loose.loose s a σ) (λ a σ. agreement s a σ) (s .pattern) r (s .node r) ρ

@@ -1,2 +1,3 @@
 -- The theorems on the meaning that the evaluator cites, and the laws of every kind.
+pub mod Clauses
 pub mod Enumerating

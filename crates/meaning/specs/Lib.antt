@@ -1,5 +1,6 @@
 pub mod Node
 pub mod State
+pub mod Sheet
 pub mod Meaning
 pub mod Read
 pub mod Equation

@@ -4,7 +4,7 @@ use mathlib.Core.Path.{_≡_}
 use mathlib.Core.Bool.{Bool, true, false}
 use mathlib.Core.Option.{Option, none as absent, some}
 use mathlib.Core.Logic.{_⊎_}
-use mathlib.Core.List.{List, [], _∷_}
+use mathlib.Core.List.{List, [], _∷_, _++_}
 use Prim.Native.Nat.{ℕ, zero, suc}
 use lib.Dec.{eqb}
 use lib.ListN.{length}
@@ -23,7 +23,7 @@ use Rattle.patterns.specs.Pattern.{Pattern, listOf}
 use Rattle.patterns.specs.Binder.{Formed, bound, refused as unformed, formed}
 use Rattle.meaning.specs.Node.{Node, Quantifier, forall, exists, exists1, truth, whole, named, unaryOf, binaryOf, connective, if, enumeration, range, let-in, let-be, quantified, iota, set-comprehension, sequence-comprehension, map-comprehension, application, no-expression}
 use Rattle.meaning.specs.State.{State, under, valueIn}
-use Rattle.meaning.specs.Meaning.{Sheet, enumerated, nameOf}
+use Rattle.meaning.specs.Sheet.{Sheet, enumerated, nameOf}
 
 -- ---- sets of outcomes
 
@@ -91,7 +91,7 @@ bindingsOf rec r p s ρ = rec s ρ then (λ v. orElse 20 r (asSet v) then (λ vs
 abbrev pub holds : Meanings → ℕ → ℕ → State → Binding → Outcomes Bool
 holds rec r c ρ b = rec c (under ρ b) then (λ v. isTrue r v)
 
--- The first refusal among the conditions in the bindings' order (20 where one is not boolean); else the bindings that make them true.
+-- Kinds 16 and 17 test all bindings: those that make the condition true.
 unfoldable pub satisfying : Meanings → ℕ → ℕ → State → List Binding → Outcomes (List Binding)
 satisfying rec r c ρ [] = gives []
 satisfying rec r c ρ (b ∷ bs) = holds rec r c ρ b then (λ t. satisfying rec r c ρ bs then (λ sat. gives (pick t (b ∷ sat) sat)))
@@ -142,10 +142,37 @@ body12 r body (unformed n) = refuses n r
 body12 r body (bound []) = refuses 23 r
 body12 r body (bound (b ∷ bs)) = underEach (b ∷ bs) body
 
--- Kind 13: 24 if no condition is true, else each outcome of the body under each binding that makes its condition true.
-abbrev pub body13 : ℕ → (Binding → Outcomes Value) → List Binding → Outcomes Value
-body13 r body [] = refuses 24 r
-body13 r body (b ∷ bs) = underEach (b ∷ bs) body
+-- Kind 13, over what its condition and its body give under a binding. The condition is boolean under each of these bindings; it is true under
+-- none. (In an accepted table a condition holds no choice, so that it gives one outcome.)
+abbrev pub AllTested : (Binding → Outcomes Bool) → List Binding → Type 0
+AllTested test bs = (b : Binding) → In b bs → (t : Bool) × test b (value t)
+
+abbrev pub AllFalse : (Binding → Outcomes Bool) → List Binding → Type 0
+AllFalse test bs = (b : Binding) → In b bs → test b (value false)
+
+-- The first refusal among the conditions in the bindings' order: the conditions before it are boolean.
+pub record FirstRefusal (test : Binding → Outcomes Bool) (bs : List Binding) (o : Outcome Value) : Type 0 where
+  pub earlier : List Binding
+  pub binding : Binding
+  pub later : List Binding
+  pub in-order : bs ≡ earlier ++ binding ∷ later
+  pub tested : AllTested test earlier
+  pub number : ℕ
+  pub place : ℕ
+  pub refused-there : test binding (refusal number place)
+  pub outcome : o ≡ refusal number place
+
+-- An outcome of the body under a binding that makes its condition true.
+pub record UnderTrue (test : Binding → Outcomes Bool) (body : Binding → Outcomes Value) (bs : List Binding) (o : Outcome Value) : Type 0 where
+  pub binding : Binding
+  pub among : In binding bs
+  pub true-there : test binding (value true)
+  pub outcome : body binding o
+
+-- The first refusal among the conditions; else 24 if none is true; else each outcome of the body under each binding that makes its condition
+-- true.
+abbrev pub body13 : ℕ → (Binding → Outcomes Bool) → (Binding → Outcomes Value) → List Binding → Outcomes Value
+body13 r test body bs o = FirstRefusal test bs o ⊎ (AllFalse test bs × (o ≡ refusal 24 r)) ⊎ (AllTested test bs × UnderTrue test body bs o)
 
 -- ---- every kind
 
@@ -161,7 +188,7 @@ looseOf pattern rec r (enumeration k operands) ρ = allOf rec operands ρ then (
 looseOf pattern rec r (range a b) ρ = bothOf rec a b ρ (λ v w. at r (rangeOf v w))
 looseOf pattern rec r (let-in p a b) ρ = rec a ρ then (λ v. body12 r (λ β. rec b (under ρ β)) (formed (pattern p) (v ∷ [])))
 looseOf pattern rec r (let-be p s c b) ρ =
-    bindingsOf rec r (pattern p) s ρ then (λ bs. satisfying rec r c ρ bs then (λ sat. body13 r (λ β. rec b (under ρ β)) sat))
+    bindingsOf rec r (pattern p) s ρ then (λ bs. body13 r (holds rec r c ρ) (λ β. rec b (under ρ β)) bs)
 looseOf pattern rec r (quantified q p s c) ρ = bindingsOf rec r (pattern p) s ρ then (λ bs. quantify q rec r c ρ bs then (λ t. gives (boolean t)))
 looseOf pattern rec r (iota p s c) ρ = bindingsOf rec r (pattern p) s ρ then (λ bs. satisfying rec r c ρ bs then (λ sat. unique r (pattern p) sat))
 looseOf pattern rec r (set-comprehension p s c e) ρ =

@@ -7,19 +7,20 @@ use Prim.Native.Nat.{ℕ, zero, suc}
 use lib.Dec.{eqb}
 use lib.ListN.{length, getD}
 use Rattle.choices.specs.Tree.{Tree, give, stop, choose, bind}
-use Rattle.values.specs.Value.{Kind, set, sequence, map, tuple, Value, boolean, integer, collection, Items, none, more}
+use Rattle.values.specs.Value.{Kind, set, sequence, map, Value, boolean, integer, collection, Items, none, more}
 use Rattle.values.specs.Items.{pick}
 use Rattle.operators.specs.Answer.{Answer, is, refused, Built, built, stopped, asBoolean, asInteger, asSet}
 use Rattle.operators.specs.Booleans.{Left, settles, leaves, left, right}
 use Rattle.operators.specs.Sets.{rangeOf}
 use Rattle.operators.specs.Maps.{applyTo}
-use Rattle.operators.specs.Enumerations.{addMember, addItem, addEntry, setOf, sequenceOf, mapOf, tupleOf}
+use Rattle.operators.specs.Enumerations.{addMember, addItem, addEntry}
 use Rattle.operators.specs.Operators.{unary, binary}
 use Rattle.patterns.specs.Binding.{Binding, nothing}
-use Rattle.patterns.specs.Pattern.{Pattern, name, any, literal, each, halved, loose, listOf}
+use Rattle.patterns.specs.Pattern.{Pattern, loose, listOf}
 use Rattle.patterns.specs.Binder.{Formed, bound, refused as unformed, formed}
 use Rattle.meaning.specs.Node.{Node, Quantifier, forall, exists, exists1, truth, whole, named, unaryOf, binaryOf, connective, if, enumeration, range, let-in, let-be, quantified, iota, set-comprehension, sequence-comprehension, map-comprehension, application, no-expression}
 use Rattle.meaning.specs.State.{State, under, valueIn}
+pub use Rattle.meaning.specs.Sheet.{Sheet, enumerated, nameOf}
 
 -- ---- an answer at a place
 
@@ -59,12 +60,6 @@ rightOf rec r b ρ leaves = bind (rec b ρ) (λ w. at r (right w))
 -- A condition and the test of an if must be boolean.
 abbrev pub isTrue : ℕ → Value → Tree Bool
 isTrue r v = orElse 20 r (asBoolean v)
-
-abbrev pub enumerated : Kind → Items → Answer
-enumerated set vs = setOf vs
-enumerated sequence vs = sequenceOf vs
-enumerated map vs = mapOf vs
-enumerated tuple vs = tupleOf vs
 
 -- ---- binders
 
@@ -121,13 +116,6 @@ quantify exists rec r c ρ bs = untilTrue (holds rec r c ρ) bs
 quantify exists1 rec r c ρ bs = bind (satisfying rec r c ρ bs) (λ sat. give (eqb (length sat) 1))
 
 -- iota gives what its pattern, a name, is bound to; 25 without exactly one.
-abbrev pub nameOf : Pattern → ℕ
-nameOf (name x) = x
-nameOf any = 0
-nameOf (literal w) = 0
-nameOf (each k ps) = 0
-nameOf (halved k p q) = 0
-
 abbrev pub unique : ℕ → Pattern → List Binding → Tree Value
 unique r p [] = stop 25 r
 unique r p (b ∷ []) = orElse 25 r (valueIn b (nameOf p))
@@ -186,12 +174,6 @@ means pattern rec r (application a b) ρ = bothOf rec a b ρ (λ v w. at r (appl
 means pattern rec r no-expression ρ = stop 20 r
 
 -- ---- a sheet
-
--- A table as the meaning reads it: each record's node, each record's pattern, and the number of records.
-pub record Sheet : Type 0 where
-  pub node : ℕ → Node
-  pub pattern : ℕ → Pattern
-  pub size : ℕ
 
 -- A record names only lower ones, so a bound above its number is bound enough.
 unfoldable pub meaningTo : Sheet → ℕ → ℕ → State → Tree Value

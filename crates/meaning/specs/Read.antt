@@ -10,7 +10,7 @@ use Rattle.tables.specs.Record.{Record, booleanOf, integerOf, nameOf, operator,
 use Rattle.tables.specs.Table.{cut, recordAt}
 use Rattle.ways.specs.Read.{patternAt}
 use Rattle.meaning.specs.Node.{Node, forall, exists, exists1, truth, whole, named, unaryOf, binaryOf, connective, if, enumeration, range, let-in, let-be, quantified, iota, set-comprehension, sequence-comprehension, map-comprehension, application, no-expression}
-use Rattle.meaning.specs.Meaning.{Sheet}
+use Rattle.meaning.specs.Sheet.{Sheet}
 
 -- ---- expressions
 

@@ -14,7 +14,7 @@ use Rattle.operators.specs.Enumerations.{addMember, addItem, addEntry, onward, 
 use Rattle.patterns.specs.Pattern.{Pattern}
 use Rattle.meaning.specs.Node.{enumeration}
 use Rattle.meaning.specs.State.{State}
-use Rattle.meaning.specs.Meaning.{Evaluates, at, allOf, enumerated, means}
+use Rattle.meaning.specs.Meaning.{Evaluates, at, allOf, means}
 
 -- ---- adding as they come
 
