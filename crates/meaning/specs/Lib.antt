@@ -18,4 +18,5 @@ pub mod LetBe
 pub mod Demand
 pub mod WellFormed
 pub mod Reads
+pub mod Kinds
 pub mod Laws

@@ -2,7 +2,7 @@
 -- bindings that make it true.
 use mathlib.Core.Path.{_≡_, refl, sym, ap, _∙_, subst}
 use mathlib.Core.Bool.{Bool, true, false}
-use mathlib.Core.Logic.{inl, inr, ⊎-elim, _↔_}
+use mathlib.Core.Logic.{_⊎_, inl, inr, ⊎-elim, _↔_}
 use mathlib.Core.List.{List, [], _∷_, _++_}
 use Prim.Native.Nat.{ℕ}
 use native.Mathlib.Omega.{arith}
@@ -19,7 +19,7 @@ abbrev pub chosenFrom : ℕ → (Binding → Outcomes Value) → List Binding �
 chosenFrom r F [] = refuses 24 r
 chosenFrom r F (b ∷ bs) = underEach (b ∷ bs) F
 
-value≢refusal : {A : Type 0} {a : A} {n r : ℕ} → _≡_ {A = Outcome A} (value a) (refusal n r) → ⊥
+pub value≢refusal : {A : Type 0} {a : A} {n r : ℕ} → _≡_ {A = Outcome A} (value a) (refusal n r) → ⊥
 value≢refusal e = let z : _≡_ {A = ℕ} 0 1 = cc in omega arith
 
 tested-more : (test : Binding → Outcomes Bool) (b : Binding) (bs : List Binding) (t : Bool) → test b (value t) → AllTested test bs → AllTested test (b ∷ bs)
@@ -63,16 +63,16 @@ module _ (Rec : Meanings) (r c : ℕ) (ρ : State) where
       (inl (t, y, inr (n, p, first-in (earlier ++ b ∷ later) earlier b later n p refl (λ x i. h x (inr i)) k, refl)))
 
   -- The bindings that the testing gives.
-  record Found (bs sat : List Binding) : Type 0 where
-    all : AllTested Test bs
-    sound : (β : Binding) → In β sat → In β bs × Test β (value true)
-    others : ((β : Binding) → In β sat → ⊥) → AllFalse Test bs
+  pub record Found (bs sat : List Binding) : Type 0 where
+    pub all : AllTested Test bs
+    pub sound : (β : Binding) → In β sat → In β bs × Test β (value true)
+    pub rest : (β : Binding) → In β bs → In β sat ⊎ Test β (value false)
 
-  found-out : (bs sat : List Binding) → Sat bs (value sat) → Found bs sat
+  pub found-out : (bs sat : List Binding) → Sat bs (value sat) → Found bs sat
   unfolding satisfying
   found-out [] sat e =
       let d : sat ≡ [] = cc in
-      record { all = λ β i. absurd i; sound = λ β i. absurd (subst (λ (l : List Binding). In β l) d i); others = λ h β i. absurd i }
+      record { all = λ β i. absurd i; sound = λ β i. absurd (subst (λ (l : List Binding). In β l) d i); rest = λ β i. absurd i }
   found-out (b ∷ bs) sat (inr (n, p, h, e)) = absurd (value≢refusal e)
   found-out (b ∷ bs) sat (inl (t, h, inr (n, p, k, e))) = absurd (value≢refusal e)
   found-out (b ∷ bs) sat (inl (t, h, inl (rest, k, e))) = let d : sat ≡ pick t (b ∷ rest) rest = cc in subst (Found (b ∷ bs)) (sym d) (go t h (found-out bs rest k))
@@ -82,17 +82,17 @@ module _ (Rec : Meanings) (r c : ℕ) (ρ : State) where
           record {
             all = tested-more Test b bs true h (f .all);
             sound = λ β i. ⊎-elim (λ e. (inl e, subst (λ d. Test d (value true)) (sym e) h)) (λ j. (inr (f .sound β j .0), f .sound β j .1)) i;
-            others = λ n. absurd (n b (inl refl));
+            rest = λ β i. ⊎-elim (λ e. inl (inl e)) (λ j. ⊎-elim (λ k. inl (inr k)) (λ k. inr k) (f .rest β j)) i;
           }
       go false h f =
           record {
             all = tested-more Test b bs false h (f .all);
             sound = λ β i. (inr (f .sound β i .0), f .sound β i .1);
-            others = λ n β i. ⊎-elim (λ e. subst (λ d. Test d (value false)) (sym e) h) (λ j. f .others n β j) i;
+            rest = λ β i. ⊎-elim (λ e. inr (subst (λ d. Test d (value false)) (sym e) h)) (λ j. f .rest β j) i;
           }
 
   -- All are tested, with these outcomes; then the testing gives something.
-  none-in : (bs : List Binding) → AllFalse Test bs → Sat bs (value [])
+  pub none-in : (bs : List Binding) → AllFalse Test bs → Sat bs (value [])
   unfolding satisfying
   none-in [] h = refl
   none-in (b ∷ bs) h = inl (false, h b (inl refl), inl ([], none-in bs (λ β i. h β (inr i)), refl))
@@ -105,7 +105,7 @@ module _ (Rec : Meanings) (r c : ℕ) (ρ : State) where
       let (sat, k) = all-in bs (λ β i. h β (inr i)) in
       (pick t (b ∷ sat) sat, inl (t, y, inl (sat, k, refl)))
 
-  true-in : (bs : List Binding) (β : Binding) → AllTested Test bs → In β bs → Test β (value true) → (sat : List Binding) × Sat bs (value sat) × In β sat
+  pub true-in : (bs : List Binding) (β : Binding) → AllTested Test bs → In β bs → Test β (value true) → (sat : List Binding) × Sat bs (value sat) × In β sat
   unfolding satisfying
   true-in [] β h i k = absurd i
   true-in (b ∷ bs) β h (inl e) k =
@@ -122,7 +122,7 @@ module _ (Rec : Meanings) (r c : ℕ) (ρ : State) where
 
   module _ (F : Binding → Outcomes Value) where
     chosen-out : (bs sat : List Binding) (o : Outcome Value) → Found bs sat → chosenFrom r F sat o → body13 r Test F bs o
-    chosen-out bs [] o f e = inr (inl (f .others (λ β i. i), e))
+    chosen-out bs [] o f e = inr (inl (λ β i. ⊎-elim (λ j. absurd j) (λ k. k) (f .rest β i), e))
     chosen-out bs (d ∷ sat) o f (β, i, y) = inr (inr (f .all, record { binding = β; among = f .sound β i .0; true-there = f .sound β i .1; outcome = y }))
 
     chosen-in : (sat : List Binding) (β : Binding) (o : Outcome Value) → In β sat → F β o → chosenFrom r F sat o
