@@ -56,6 +56,10 @@ operation op a b = row 5 (op ∷ a ∷ b ∷ [])
 abbrev pub P : ℕ → List ℕ
 P x = row 32 (x ∷ [])
 
+-- The binder of this kind (14 to 17) over a in set {1, 2}, with the condition that a is in this relation to k.
+abbrev pub tested : ℕ → ℕ → ℕ → List ℕ
+tested kind op k = rows (P 0 ∷ whole 1 ∷ whole 2 ∷ row 7 (1 ∷ 2 ∷ []) ∷ name 0 ∷ whole k ∷ operation op 4 5 ∷ row kind (0 ∷ 3 ∷ 6 ∷ []) ∷ [])
+
 -- ---- values
 
 -- An integer from 0 up, one below 0, and the set of so many integers from one up.
@@ -72,11 +76,27 @@ members k (suc m) = more (n k) (members (suc k) m)
 abbrev pub numbers : ℕ → ℕ → Value
 numbers k m = collection set (members k m)
 
+abbrev pub of : List Value → Items
+of [] = none
+of (v ∷ vs) = more v (of vs)
+
 -- ---- what a walk shows
+
+-- What evaluating a table under a list answers.
+abbrev pub run : List ℕ → List ℕ → Final Value
+run table l = evaluates scratchBytes limit table l
 
 -- Every complete list of a table, in dictionary order, and what evaluating under it answers.
 abbrev pub walk : List ℕ → List (List ℕ × Final Value)
-walk table = map (λ l. (l, evaluates scratchBytes limit table l)) (allLists (tree table))
+walk table = map (λ l. (l, run table l)) (allLists (tree table))
+
+-- No choice is met: the empty list alone.
+abbrev pub alone : Final Value → List (List ℕ × Final Value)
+alone f = ([], f) ∷ []
+
+abbrev pub zeros : ℕ → List ℕ
+zeros zero = []
+zeros (suc k) = 0 ∷ zeros k
 
 -- To unfold this is to unfold everything that the walk over a table computes with.
 unfoldable pub computing : ℕ
