@@ -7,6 +7,8 @@ pub mod Units
 pub mod Ordered
 pub mod Relation
 pub mod Matched
+pub mod Wide
+pub mod Widened
 pub mod Single
 pub mod Named
 pub mod Chopped
