@@ -18,5 +18,6 @@ pub mod LetBe
 pub mod Demand
 pub mod WellFormed
 pub mod Reads
+pub mod Unreached
 pub mod Kinds
 pub mod Laws

@@ -46,6 +46,12 @@ use Rattle.meaning.specs.Laws.Collected.{Paired-in, set-holds, sequence-
 
 -- ---- from a record to its node
 
+-- A record of a kind from 1 up is in the table.
+pub in-table : (table : List ℕ) (r k : ℕ) → kindOf table r ≡ k → 0 < k → r < length (records table)
+in-table table r k e h =
+    split r (length (records table)) (λ l. l)
+    (λ l. let z : 0 ≡ k = ap (λ (q : Record). q .kind) (sym (List·getD-eq-default (records table) noRecord l)) ∙ e in absurd (omega arith))
+
 module _ (table : List ℕ) (n : ℕ) (ok : check table ≡ Accepted n) (r : ℕ) (ρ : State) where
   abbrev rec : ℕ → State → Outcomes Value
   rec a σ = loose (sheet table) a σ
@@ -199,11 +205,6 @@ module _ (table : List ℕ) (n : ℕ) (ok : check table ≡ Accepted n) (r : ℕ
 
   -- ---- the name of an iota
 
-  iota-there : kindOf table r ≡ 17 → r < length (records table)
-  iota-there e =
-      split r (length (records table)) (λ h. h)
-      (λ h. let z : 0 ≡ 17 = ap (λ (q : Record). q .kind) (sym (List·getD-eq-default (records table) noRecord h)) ∙ e in absurd (omega arith))
-
   fine : Fine (records table)
   fine = accepted-fine table n ok .0
 
@@ -211,7 +212,7 @@ module _ (table : List ℕ) (n : ℕ) (ok : check table ≡ Accepted n) (r : ℕ
   unfolding shape
   iota-operands e =
       let q = recordAt (records table) r in
-      let f = fine .fit r (iota-there e) in
+      let f = fine .fit r (in-table table r 17 e (omega arith)) in
       let l : shape (q .kind) .least ≡ 3 = ap (λ (k : ℕ). shape k .least) e in
       omega (arith, named-count q f, fit-least q f)
 
@@ -219,18 +220,18 @@ module _ (table : List ℕ) (n : ℕ) (ok : check table ≡ Accepted n) (r : ℕ
   unfolding shape
   iota-pattern e =
       let role : roleAt (recordAt (records table) r) 0 ≡ Name = ap (λ (k : ℕ). getD (shape k .roles) 0 Plain) e in
-      eqb-true _ 32 (subst (λ (x : Role). isOfSort x (kindAt (records table) (operandOf table r 0)) ≡ true) role (operand-sort (records table) (fine .clear6) r 0 (iota-there e) (iota-operands e)))
+      eqb-true _ 32 (subst (λ (x : Role). isOfSort x (kindAt (records table) (operandOf table r 0)) ≡ true) role (operand-sort (records table) (fine .clear6) r 0 (in-table table r 17 e (omega arith)) (iota-operands e)))
 
   iota-lower : kindOf table r ≡ 17 → operandOf table r 0 < length (records table)
-  iota-lower e = omega (arith, iota-there e, operand-lower (records table) (fine .clear6) r 0 (iota-there e) (iota-operands e))
+  iota-lower e = omega (arith, in-table table r 17 e (omega arith), operand-lower (records table) (fine .clear6) r 0 (in-table table r 17 e (omega arith)) (iota-operands e))
 
-  named-pattern : kindOf table r ≡ 17 → P ≡ name (nameIn table r)
+  pub named-pattern : kindOf table r ≡ 17 → P ≡ name (nameIn table r)
   named-pattern e =
       let q = recordAt (records table) (operandOf table r 0) in
       pattern-is table n ok (operandOf table r 0) (iota-lower e)
       ∙ ap (λ (k : ℕ). getD patterns (k - 32) (λ x xs. any) q (lmap (patternAt (records table)) (operandsOf q))) (iota-pattern e)
 
-  named-low : kindOf table r ≡ 17 → nameIn table r < names
+  pub named-low : kindOf table r ≡ 17 → nameIn table r < names
   unfolding shape
   named-low e =
       let q = recordAt (records table) (operandOf table r 0) in
@@ -239,7 +240,7 @@ module _ (table : List ℕ) (n : ℕ) (ok : check table ≡ Accepted n) (r : ℕ
 
   -- ---- exactly one
 
-  cell-only : (x : ℕ) (v : Value) → x < names → valueIn (only x v) x ≡ some v
+  pub cell-only : (x : ℕ) (v : Value) → x < names → valueIn (only x v) x ≡ some v
   cell-only x v h = ap held (getD-set-same nothing x (valued v) free h)
 
   only-same : (x : ℕ) (v w : Value) → x < names → only x v ≡ only x w → v ≡ w
@@ -252,7 +253,7 @@ module _ (table : List ℕ) (n : ℕ) (ok : check table ≡ Accepted n) (r : ℕ
         subst (In (only x m)) (sym (formed-bound P (listOf vs) bs f .all))
         (bindings-exactly P (listOf vs) (only x m) .1 (m, i, subst (λ (p : Pattern). Matches p m (only x m)) (sym named) refl))
 
-    bindings-in : (β : Binding) → In β bs → (m : Value) × In m (listOf vs) × (β ≡ only x m)
+    pub bindings-in : (β : Binding) → In β bs → (m : Value) × In m (listOf vs) × (β ≡ only x m)
     unfolding Matches
     bindings-in β i =
         let (m, j, k) = bindings-exactly P (listOf vs) β .0 (subst (In β) (formed-bound P (listOf vs) bs f .all) i) in
