@@ -1,3 +1,4 @@
+-- What a sheet means, as a tree of choices and as the loose meaning; what the services answer; demand 3. The evaluator, walks and services cite it.
 pub mod Node
 pub mod State
 pub mod Sheet

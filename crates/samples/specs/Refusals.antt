@@ -87,6 +87,38 @@ pub too-many-bindings : walk (rows (P 0 ∷ P 1 ∷ row 33 [] ∷ row 40 (1 ∷ 
 unfolding computing
 too-many-bindings = refl
 
+-- ---- which comes first
+
+-- exists1 a in set {0, 1, 2} & 1 div (2 - a) >= 0: 22, all bindings are tested
+pub exists1-tests-all : walk (rows (P 0 ∷ whole 0 ∷ whole 1 ∷ whole 2 ∷ row 7 (1 ∷ 2 ∷ 3 ∷ []) ∷ whole 1 ∷ whole 2 ∷ name 0 ∷ operation 8 6 7 ∷ operation 10 5 8 ∷ whole 0 ∷ operation 16 9 10 ∷ row 16 (0 ∷ 4 ∷ 11 ∷ []) ∷ [])) ≡ alone (refuses 22 9 0)
+unfolding computing
+exists1-tests-all = refl
+
+-- iota a in set {0, 1, 2} & 1 div (2 - a) >= 0: 22, all bindings are tested
+pub iota-tests-all : walk (rows (P 0 ∷ whole 0 ∷ whole 1 ∷ whole 2 ∷ row 7 (1 ∷ 2 ∷ 3 ∷ []) ∷ whole 1 ∷ whole 2 ∷ name 0 ∷ operation 8 6 7 ∷ operation 10 5 8 ∷ whole 0 ∷ operation 16 9 10 ∷ row 17 (0 ∷ 4 ∷ 11 ∷ []) ∷ [])) ≡ alone (refuses 22 9 0)
+unfolding computing
+iota-tests-all = refl
+
+-- exists a union - in set {{1}, {1,...,8}} & 1 div 0 = 1: 29, all bindings are formed before the first condition
+pub formed-first : walk (rows (P 0 ∷ row 33 [] ∷ row 38 (0 ∷ 1 ∷ []) ∷ whole 1 ∷ row 7 (3 ∷ []) ∷ whole 1 ∷ whole 8 ∷ row 11 (5 ∷ 6 ∷ []) ∷ row 7 (4 ∷ 7 ∷ []) ∷ whole 1 ∷ whole 0 ∷ operation 10 9 10 ∷ whole 1 ∷ operation 5 11 12 ∷ row 15 (2 ∷ 8 ∷ 13 ∷ []) ∷ [])) ≡ alone (refuses 29 14 0)
+unfolding computing
+formed-first = refl
+
+-- [{1,...,63} | a in set {1, 2, 3} & 1 div (3 - a) >= 0]: 28, an element is added before the next condition
+pub added-before-next : walk (rows (P 0 ∷ whole 1 ∷ whole 2 ∷ whole 3 ∷ row 7 (1 ∷ 2 ∷ 3 ∷ []) ∷ whole 1 ∷ whole 3 ∷ name 0 ∷ operation 8 6 7 ∷ operation 10 5 8 ∷ whole 0 ∷ operation 16 9 10 ∷ whole 1 ∷ whole 63 ∷ row 11 (12 ∷ 13 ∷ []) ∷ row 19 (0 ∷ 4 ∷ 11 ∷ 14 ∷ []) ∷ [])) ≡ alone (refuses 28 15 0)
+unfolding computing
+added-before-next = refl
+
+-- {1 |-> 2, 1 |-> 3, 1 div 0 |-> 4}: 22, all operands come before the building
+pub operands-first : walk (rows (whole 1 ∷ whole 2 ∷ whole 1 ∷ whole 3 ∷ whole 1 ∷ whole 0 ∷ operation 10 4 5 ∷ whole 4 ∷ row 9 (0 ∷ 1 ∷ 2 ∷ 3 ∷ 6 ∷ 7 ∷ []) ∷ [])) ≡ alone (refuses 22 6 0)
+unfolding computing
+operands-first = refl
+
+-- {1 |-> 2, 1 |-> 3, 4 |-> {1,...,63}}: 27, the first refusal of the building
+pub first-part-refused : walk (rows (whole 1 ∷ whole 2 ∷ whole 1 ∷ whole 3 ∷ whole 4 ∷ whole 1 ∷ whole 63 ∷ row 11 (5 ∷ 6 ∷ []) ∷ row 9 (0 ∷ 1 ∷ 2 ∷ 3 ∷ 4 ∷ 7 ∷ []) ∷ [])) ≡ alone (refuses 27 8 0)
+unfolding computing
+first-part-refused = refl
+
 -- ---- under lists, complete or not
 
 -- let a in set {1, 2} be st true in 1 div 0
