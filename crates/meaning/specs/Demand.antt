@@ -30,9 +30,9 @@ use Rattle.meaning.specs.Read.{sheet}
 use Rattle.meaning.specs.Service.{scratchBytes, last, tree, unless, accepted, onward, steppedFrom, firsts, steps}
 use Rattle.meaning.specs.Walk.{Call, first, step, answer, Walk, left, call, calls}
 use Rattle.meaning.specs.Agreement.{agreement}
-use Rattle.meaning.specs.Proper.{downward}
+use Rattle.meaning.specs.Laws.Proper.{downward}
 use Rattle.meaning.specs.LetBe.{Decided, NoBinding, let-be-run}
-use Rattle.meaning.specs.Sure.{sure-meaning}
+use Rattle.meaning.specs.Laws.Sure.{sure-meaning}
 
 -- The walk that a granted first list of the table left.
 abbrev pub begun : List ℕ → Walk

@@ -21,8 +21,8 @@ use Rattle.patterns.specs.Forming.{formed-bound}
 use Rattle.meaning.specs.Node.{Node, let-be}
 use Rattle.meaning.specs.State.{State, under}
 use Rattle.meaning.specs.Meaning.{Evaluates, isTrue, formedAt, membersAt, satisfying, satisfied, means, Sheet, meaning}
-use Rattle.meaning.specs.Equation.{Lower, Downward, meaning-is}
-use Rattle.meaning.specs.Sure.{Placed, placed-meaning, follow-placed}
+use Rattle.meaning.specs.Laws.Equation.{Lower, Downward, meaning-is}
+use Rattle.meaning.specs.Laws.Sure.{Placed, placed-meaning, follow-placed}
 
 -- ---- what follows the set operand
 

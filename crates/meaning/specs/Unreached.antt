@@ -25,7 +25,7 @@ use Rattle.meaning.specs.State.{unbound, valueIn}
 use Rattle.meaning.specs.Sheet.{nameOf}
 use Rattle.meaning.specs.Service.{tree}
 use Rattle.meaning.specs.Kinds.{kindOf, operandOf, nameIn}
-use Rattle.meaning.specs.Reads.{refuses-at}
+use Rattle.meaning.specs.Laws.Reads.{refuses-at}
 use Rattle.meaning.specs.Laws.Binders.{in-table, named-pattern, named-low, bindings-in, cell-only}
 
 pub record Unreached (table : List ℕ) : Type 0 where

@@ -37,9 +37,9 @@ use Rattle.meaning.specs.State.{State, under, held, valueIn}
 use Rattle.meaning.specs.Read.{nodes, nodeOf, none as noNode, sheet}
 use Rattle.meaning.specs.Loose.{Outcomes, _then_, gives, bindingsOf, integerBindings, builtAt, holds, satisfying, quantify, unique, addOne, addPair, comprehension, loose, looseOf}
 use Rattle.meaning.specs.Kinds.{Binders, Comprehensions, Added, Integers, May, operandOf, kindOf, nameIn, Condition, Element, Entry, Over, MembersAre, EntriesAre}
-use Rattle.meaning.specs.Agreement.{loose-meaning-is}
-use Rattle.meaning.specs.Proper.{downward}
-use Rattle.meaning.specs.PatternLaws.{pattern-is}
+use Rattle.meaning.specs.Laws.Agreement.{loose-meaning-is}
+use Rattle.meaning.specs.Laws.Proper.{downward}
+use Rattle.meaning.specs.Laws.PatternLaws.{pattern-is}
 use Rattle.meaning.specs.Laws.Clauses.{value≢refusal}
 use Rattle.meaning.specs.Laws.Tested.{then-value, else-value, built-value, bindings-value, integer-bindings-value, holds-value, satisfying-one, collected-value, until-false-true, until-false-false, until-true-true, until-true-false, unique-true, unique-false, first-map, one-map, several-map, added-map}
 use Rattle.meaning.specs.Laws.Collected.{Paired-in, set-holds, sequence-holds, map-holds, added-sound, added-whole}

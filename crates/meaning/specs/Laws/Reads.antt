@@ -30,9 +30,9 @@ use Rattle.meaning.specs.Meaning.{orElse, means, meaningTo, meaning}
 use Rattle.ways.specs.Read.{patternAt}
 use Rattle.meaning.specs.Read.{nodes, nodeOf, none, sheet}
 use Rattle.meaning.specs.Service.{last, tree}
-use Rattle.meaning.specs.Proper.{inside}
-use Rattle.meaning.specs.PatternLaws.{names-are}
-use Rattle.meaning.specs.Closed.{Closed, Comes, closed-node}
+use Rattle.meaning.specs.Laws.Proper.{inside}
+use Rattle.meaning.specs.Laws.PatternLaws.{names-are}
+use Rattle.meaning.specs.Laws.Closed.{Closed, Comes, closed-node}
 
 -- ---- states under bindings
 

@@ -17,7 +17,7 @@ use Rattle.tables.specs.Sheet.{some, holds, isName, holdsName, isLoose, loose}
 use Rattle.tables.specs.Check.{check}
 use Rattle.tables.specs.Laws.{and-left, fold-at}
 use Rattle.tables.specs.Accepted.{records, Fine, accepted-fine, operand-lower, operand-sort, pattern-role, lower, fit-least, fit-most, fit-kind, named-count}
-use Rattle.meaning.specs.Proper.{_&_}
+use Rattle.meaning.specs.Laws.Proper.{_&_}
 use Rattle.ways.specs.Read.{patternsOf, patterns, patternOf, patternAt}
 
 -- ---- the number of operands of a kind

@@ -13,8 +13,8 @@ use Rattle.values.specs.Value.{Value}
 use Rattle.patterns.specs.Binder.{mostBindings}
 use Rattle.meaning.specs.State.{State, under}
 use Rattle.meaning.specs.Meaning.{Sheet, meaningTo, meaning}
-use Rattle.meaning.specs.Equation.{plain, covered, Each, AllBelow, Downward}
-use Rattle.meaning.specs.Closed.{Closed, closed-node}
+use Rattle.meaning.specs.Laws.Equation.{plain, covered, Each, AllBelow, Downward}
+use Rattle.meaning.specs.Laws.Closed.{Closed, closed-node}
 
 -- ---- ways and numbers
 

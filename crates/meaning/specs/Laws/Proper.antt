@@ -22,7 +22,7 @@ use Rattle.tables.specs.Laws.{and-left, and-right, split}
 use Rattle.tables.specs.Accepted.{records, Fine, accepted-fine, operand-lower, fit-least, fit-known, named-count}
 use Rattle.meaning.specs.Node.{Node, truth, whole, named, unaryOf, binaryOf, connective, if, enumeration, range, let-in, let-be, quantified, iota, set-comprehension, sequence-comprehension, map-comprehension, application, no-expression}
 use Rattle.meaning.specs.Read.{nodes, nodeOf, none, binaryNode, sheet}
-use Rattle.meaning.specs.Equation.{plain, covered, Each, Downward}
+use Rattle.meaning.specs.Laws.Equation.{plain, covered, Each, Downward}
 
 infixr 30 _&_
 -- A pair.

@@ -29,11 +29,11 @@ use Rattle.patterns.specs.Forming.{formed-bound}
 use Rattle.meaning.specs.Node.{Node, Quantifier, forall, exists, exists1, truth, whole, named, unaryOf, binaryOf, connective, if, enumeration, range, let-in, let-be, quantified, iota, set-comprehension, sequence-comprehension, map-comprehension, application, no-expression}
 use Rattle.meaning.specs.State.{State, under, valueIn}
 use Rattle.meaning.specs.Meaning.{Evaluates, at, builtAt, orElse, allOf, bothOf, rightOf, isTrue, enumerated, formedAt, membersAt, bindingsOf, holds, satisfying, chosen, matched, satisfied, untilFalse, untilTrue, quantify, nameOf, unique, collected, addOne, addPair, integersAt, integerBindings, comprehension, means}
-use Rattle.meaning.specs.Equation.{plain, covered, Each}
-use Rattle.meaning.specs.Proper.{binderOf}
-use Rattle.meaning.specs.Agreement.{at-in}
-use Rattle.meaning.specs.Numbers.{Ranged, Answered, BuiltSo, LeftSo, unary-number, binary-number, range-number, right-number, left-number, apply-number, entry-number, member-number, item-number, set-number, sequence-number, map-number, tuple-number}
-use Rattle.meaning.specs.Only.{Only, only-give, only-stop, only-bind, Any, only-any}
+use Rattle.meaning.specs.Laws.Equation.{plain, covered, Each}
+use Rattle.meaning.specs.Laws.Proper.{binderOf}
+use Rattle.meaning.specs.Laws.Agreement.{at-in}
+use Rattle.meaning.specs.Laws.Numbers.{Ranged, Answered, BuiltSo, LeftSo, unary-number, binary-number, range-number, right-number, left-number, apply-number, entry-number, member-number, item-number, set-number, sequence-number, map-number, tuple-number}
+use Rattle.meaning.specs.Laws.Only.{Only, only-give, only-stop, only-bind, Any, only-any}
 
 -- ---- the bindings of a binder
 

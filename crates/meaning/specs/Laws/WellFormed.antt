@@ -37,9 +37,9 @@ use Rattle.meaning.specs.State.{State, unbound, over, under, held, value
 use Rattle.meaning.specs.Meaning.{Evaluates, at, builtAt, orElse, allOf, bothOf, rightOf, isTrue, enumerated, formedAt, membersAt, bindingsOf, holds, satisfying, chosen, matched, satisfied, quantify, nameOf, unique, collected, addOne, addPair, integersAt, integerBindings, comprehension, means, Sheet, meaningTo, meaning}
 use Rattle.meaning.specs.Read.{sheet}
 use Rattle.meaning.specs.Service.{scratchBytes, last, tree, unless, accepted, evaluates}
-use Rattle.meaning.specs.Agreement.{at-in}
-use Rattle.meaning.specs.Only.{Only, only-give, only-stop, only-bind, Any, only-any, only-pick, only-else}
-use Rattle.meaning.specs.Proper.{Numbered, Literal, proper}
+use Rattle.meaning.specs.Laws.Agreement.{at-in}
+use Rattle.meaning.specs.Laws.Only.{Only, only-give, only-stop, only-bind, Any, only-any, only-pick, only-else}
+use Rattle.meaning.specs.Laws.Proper.{Numbered, Literal, proper}
 
 -- ---- answers
 
