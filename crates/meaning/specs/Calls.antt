@@ -49,6 +49,9 @@ abbrev pub after : List ℕ → Call → Walk → Walk
 after table c w = returned (c .part) w (called table c w .walk)
 
 -- Granted means number 0.
+abbrev pub Granted : List ℕ → Call → Walk → Type 0
+Granted table c w = numberOf (called table c w .answer) ≡ 0
+
 abbrev pub isGranted : List ℕ → Call → Walk → Bool
 isGranted table c w = eqb (numberOf (called table c w .answer)) 0
 
@@ -68,3 +71,18 @@ tally step true k = suc k
 abbrev pub granted : List ℕ → List Call → Walk → ℕ → ℕ
 granted table [] w k = k
 granted table (c ∷ cs) w k = granted table cs (after table c w) (tally (c .service) (isGranted table c w) k)
+
+-- The calls of demand 3 start from any entries and any length whatever, followed by a granted first list; and then any calls.
+pub record Calls (table : List ℕ) : Type 0 where
+  pub start : Walk
+  pub begin : Call
+  pub is-first : begin .service ≡ first
+  pub is-granted : Granted table begin start
+  pub more : List Call
+
+-- The walk after them, and the number of steps granted since the last granted first list.
+abbrev pub walkOf : {table : List ℕ} → Calls table → Walk
+walkOf {table} cs = afterAll table (cs .begin ∷ cs .more) (cs .start)
+
+abbrev pub stepsOf : {table : List ℕ} → Calls table → ℕ
+stepsOf {table} cs = granted table (cs .begin ∷ cs .more) (cs .start) 0

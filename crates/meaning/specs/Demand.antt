@@ -3,7 +3,7 @@
 use mathlib.Core.Path.{_≡_}
 use mathlib.Core.Bool.{Bool, true}
 use mathlib.Core.Logic.{_⊎_, _↔_}
-use mathlib.Core.List.{List, [], _∷_}
+use mathlib.Core.List.{List}
 use Prim.Native.Nat.{ℕ, _≤_, _<_}
 use lib.ListN.{length, drop}
 use Rattle.choices.specs.Tree.{follow, gave, stopped, limit, Outcome, value, refusal, Gives}
@@ -20,30 +20,10 @@ use Rattle.meaning.specs.Meaning.{meaning}
 use Rattle.meaning.specs.Loose.{loose}
 use Rattle.meaning.specs.Read.{sheet}
 use Rattle.meaning.specs.Answer.{pack, numberOf}
-use Rattle.meaning.specs.Walk.{Walk, Shows}
+use Rattle.meaning.specs.Walk.{Bytes, Walk, Shows}
 use Rattle.meaning.specs.Service.{scratchBytes, last, tree}
 use Rattle.meaning.specs.Lent.{AfterEvaluate, evaluateCall, filled, zeroed}
-use Rattle.meaning.specs.Calls.{first, step, Call, lent, called, after, afterAll, granted}
-
--- ---- the calls
-
-abbrev pub Granted : List ℕ → Call → Walk → Type 0
-Granted table c w = numberOf (called table c w .answer) ≡ 0
-
--- A list of calls: it starts from any entries and any length whatever, followed by a granted first list; and then any calls.
-pub record Calls (table : List ℕ) : Type 0 where
-  pub start : Walk
-  pub begin : Call
-  pub is-first : begin .service ≡ first
-  pub is-granted : Granted table begin start
-  pub more : List Call
-
--- The walk after them, and the number of steps granted since the last granted first list.
-abbrev pub walkOf : {table : List ℕ} → Calls table → Walk
-walkOf {table} cs = afterAll table (cs .begin ∷ cs .more) (cs .start)
-
-abbrev pub stepsOf : {table : List ℕ} → Calls table → ℕ
-stepsOf {table} cs = granted table (cs .begin ∷ cs .more) (cs .start) 0
+use Rattle.meaning.specs.Calls.{first, step, Call, lent, called, after, Granted, Calls, walkOf, stepsOf}
 
 -- ---- what the walk shows
 
@@ -73,24 +53,19 @@ pub record FirstAnswers (table : List ℕ) (c : Call) (w : Walk) : Type 0 where
   pub shown : Shows (after table c w) list
   pub is-first : First (tree table) list
 
--- With long enough buffers a step of a walk that shows l is granted, shows the next complete list; or answers 35, where no complete list comes
--- after l.
+-- With long enough buffers a step of a walk that shows l is granted and shows the next complete list; or it answers 35, where no complete list
+-- comes after l.
 pub record Stepped (table : List ℕ) (c : Call) (w : Walk) (l : List ℕ) : Type 0 where
   pub answer : called table c w .answer ≡ pack 0 0 0
   pub list : List ℕ
   pub shown : Shows (after table c w) list
   pub is-next : Next (tree table) l list
 
-pub record Ended (table : List ℕ) (c : Call) (w : Walk) (l : List ℕ) : Type 0 where
+pub record NoNext (table : List ℕ) (c : Call) (w : Walk) (l : List ℕ) : Type 0 where
   pub answer : called table c w .answer ≡ pack 35 0 0
   pub is-last : (m : List ℕ) → Complete (tree table) m → before l m → ⊥
 
 -- ---- outcomes
-
--- Entries are bytes.
-abbrev pub Bytes : List ℕ → Type 0
-Bytes [] = Unit {0}
-Bytes (c ∷ l) = (c < 256) × Bytes l
 
 -- No run meets a 65th choice: under no list of up to 64 bytes does evaluating end in 31.
 abbrev pub NoMany : List ℕ → List ℕ → List ℕ → Type 0
@@ -98,16 +73,16 @@ NoMany table scratch buffer = (l : List ℕ) → Bytes l → length l ≤ limit 
 
 -- Evaluating answers the outcome: success, with the value's encoding and then zeros in the result buffer; or the refusal's number and place, with
 -- zeros there.
-abbrev pub Answers : List ℕ → AfterEvaluate → Outcome Value → Type 0
-Answers buffer e (value v) = WellFormed v × (e .answer ≡ pack 0 0 0) × (e .buffer ≡ filled largest (encode v) buffer)
-Answers buffer e (refusal n p) = (20 ≤ n) × (n ≤ 30) × (e .answer ≡ pack n p 0) × (e .buffer ≡ zeroed largest buffer)
+abbrev pub EvaluatesTo : List ℕ → AfterEvaluate → Outcome Value → Type 0
+EvaluatesTo buffer e (value v) = WellFormed v × (e .answer ≡ pack 0 0 0) × (e .buffer ≡ filled largest (encode v) buffer)
+EvaluatesTo buffer e (refusal n p) = (20 ≤ n) × (n ≤ 30) × (e .answer ≡ pack n p 0) × (e .buffer ≡ zeroed largest buffer)
 
 -- Some complete list of bytes evaluates to the outcome.
 pub record Reached (table scratch buffer : List ℕ) (o : Outcome Value) : Type 0 where
   pub list : List ℕ
   pub bytes : Bytes list
   pub complete : Complete (tree table) list
-  pub answers : Answers buffer (evaluateCall table list scratch buffer) o
+  pub answers : EvaluatesTo buffer (evaluateCall table list scratch buffer) o
 
 -- ---- a let-be of a table
 
@@ -144,7 +119,7 @@ pub record Demand3 (table : List ℕ) : Type 0 where
   pub refusals : (w : Walk) → Refusals table w
   pub first-granted : (w : Walk) (c : Call) → c .service ≡ first → Enough c w → FirstAnswers table c w
   pub step-answers : (cs : Calls table) (c : Call) → c .service ≡ step → Enough c (walkOf cs) → (l : List ℕ) → Shows (walkOf cs) l
-      → Stepped table c (walkOf cs) l ⊎ Ended table c (walkOf cs) l
+      → Stepped table c (walkOf cs) l ⊎ NoNext table c (walkOf cs) l
   -- Where no run meets a 65th choice, some complete list of bytes evaluates to an outcome exactly when the loose meaning of the last record has it.
   pub outcomes : (scratch buffer : List ℕ) → scratchBytes ≤ length scratch → largest ≤ length buffer → NoMany table scratch buffer → (o : Outcome Value)
       → Reached table scratch buffer o ↔ loose (sheet table) (last (sheet table)) unbound o

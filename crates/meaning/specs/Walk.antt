@@ -1,10 +1,15 @@
 -- Document 01, "The walk": a walk is 64 entries and a length. The panel lends both; the entries may be fewer or more than 64.
 use mathlib.Core.Path.{_≡_}
-use mathlib.Core.List.{List, _++_}
-use Prim.Native.Nat.{ℕ}
+use mathlib.Core.List.{List, [], _∷_, _++_}
+use Prim.Native.Nat.{ℕ, _<_}
 use lib.ListN.{length, take, drop}
 use Rattle.choices.specs.Tree.{limit}
 use Rattle.choices.specs.State.{padded}
+
+-- Entries are bytes.
+abbrev pub Bytes : List ℕ → Type 0
+Bytes [] = Unit {0}
+Bytes (c ∷ l) = (c < 256) × Bytes l
 
 -- As many entries as there are, and the length, whatever number it is.
 pub record Walk : Type 0 where

@@ -1,11 +1,11 @@
 -- How great the numbers, places and counts of the services' answers can be: each can be read back from the packed answer.
-use mathlib.Core.Path.{_≡_, refl, ap}
+use mathlib.Core.Path.{_≡_, refl, ap, _∙_}
 use mathlib.Core.Bool.{Bool, true, false, not, _||_}
 use mathlib.Core.Option.{Option, none as absent, some}
 use mathlib.Core.List.{List, [], _∷_}
 use Prim.Native.Nat.{ℕ, zero, suc, _+_, _*_, _≤_, _<_}
 use native.Mathlib.Omega.{arith}
-use borrow.Author.Tests.{ltb-true, ltb-false, eqb-false, not-true}
+use borrow.Author.Tests.{ltb-true, ltb-false, le-ltb, eqb-false, ne-eqb, not-true}
 use lib.Dec.{eqb, ltb}
 use lib.ListN.{length, length-drop}
 use Rattle.integers.specs.Bytes.{word}
@@ -19,13 +19,14 @@ use Rattle.tables.specs.Record.{Record}
 use Rattle.tables.specs.Table.{pick, Next, end, fault, one, next, after, Cut, cutBy, cut}
 use Rattle.tables.specs.Sheet.{lowest}
 use Rattle.tables.specs.Check.{mostBytes, mostRecords, Rule, judge, judged, judgedCut, check, rule, fault6, fault7, fault8, fault9}
-use Rattle.tables.specs.Laws.{or-right}
+use Rattle.tables.specs.Laws.{or-right, or-none}
 use Rattle.tables.specs.Accepted.{accepted-fine, next-is}
 use Rattle.meaning.specs.State.{unbound}
 use Rattle.meaning.specs.Read.{sheet}
 use Rattle.meaning.specs.Answer.{number, place, count, records, uncounted, ReadBack}
 use Rattle.meaning.specs.Walk.{Walk, listed}
 use Rattle.meaning.specs.Service.{scratchBytes, last, tree, unless, accepted, checks, runs, evaluates, onward, steppedFrom, firsts, steps}
+use Rattle.meaning.specs.Lent.{isEarly}
 use Rattle.meaning.specs.Proper.{downward}
 use Rattle.meaning.specs.Sure.{Narrow, sure-meaning, Placed, placed-meaning}
 
@@ -175,14 +176,18 @@ fits-final place (stopped n p (c ∷ l)) h f = fits-refusal uncounted 34 p 0 (om
 fits-final place (short p n) h f = fits-refusal uncounted 32 p n (omega arith) (omega arith) (f .0) (f .1)
 fits-final place (beyond p n l) h f = fits-refusal uncounted 33 p n (omega arith) (omega arith) (f .0) (f .1)
 
--- What the run of a list of an accepted table answers.
-pub fits-runs : (table : List ℕ) (n : ℕ) → check table ≡ Accepted n → (l : List ℕ) → Fits uncounted (runs table l)
-fits-runs table n ok l =
-    let few = accepted-fine table n ok .0 .few in
-    let sure = sure-meaning (sheet table) (last (sheet table)) unbound in
-    let low : last (sheet table) < 600 = omega arith in
-    fits-final (last (sheet table)) (run (tree table) l) low
-    (follow-fits (last (sheet table)) (tree table) limit l low (placed-meaning (sheet table) (downward table n ok) (last (sheet table)) unbound) (sure .numbered) (sure .narrow))
+-- The run of a list of an accepted table, and what it answers.
+module _ (table : List ℕ) (n : ℕ) (ok : check table ≡ Accepted n) (l : List ℕ) where
+  last-low : last (sheet table) < 600
+  last-low = omega (arith, accepted-fine table n ok .0 .few)
+
+  run-fits : FitsRun (run (tree table) l)
+  run-fits =
+      let sure = sure-meaning (sheet table) (last (sheet table)) unbound in
+      follow-fits (last (sheet table)) (tree table) limit l last-low (placed-meaning (sheet table) (downward table n ok) (last (sheet table)) unbound) (sure .numbered) (sure .narrow)
+
+  pub fits-runs : Fits uncounted (runs table l)
+  fits-runs = fits-final (last (sheet table)) (run (tree table) l) last-low run-fits
 
 fits-onward : (o : Option (List ℕ)) → Fits uncounted (onward o)
 fits-onward absent = fits-refusal uncounted 35 0 0 (omega arith) (omega arith) (omega arith) (omega arith)
@@ -239,3 +244,70 @@ module _ (scratch : ℕ) (table : List ℕ) where
 
   pub step-read-back : (w : Walk) → ReadBack uncounted (steps scratch table w)
   step-read-back w = read-back uncounted (steps scratch table w) (fits-step w)
+
+-- ---- 1 and 2
+
+-- The answer is neither 1 nor 2, so the scratch is cleared and the result buffer set.
+abbrev pub Late : {A : Type 0} → Final A → Type 0
+Late answer = isEarly (number answer) ≡ false
+
+late-number : (n : ℕ) → 3 ≤ n → isEarly n ≡ false
+late-number n h = or-none (eqb n 1) (eqb n 2) (ne-eqb n 1 (λ e. omega arith)) (ne-eqb n 2 (λ e. omega arith))
+
+module _ {A : Type 0} where
+  late-unless : (b : Bool) (n : ℕ) (f : Final A) → 3 ≤ n → Late f → Late (unless b n f)
+  late-unless true n f h x = late-number n h
+  late-unless false n f h x = x
+
+  late-past : (b : Bool) (n : ℕ) (f : Final A) → b ≡ false → Late f → Late (unless b n f)
+  late-past b n f e h = ap (λ x. isEarly (number (unless x n f))) e ∙ h
+
+  late-accepted : (checked : Checked) (f : ℕ → Final A) → Small checked → ((n : ℕ) → checked ≡ Accepted n → Late (f n)) → Late (accepted checked f)
+  late-accepted (Accepted n) f s h = h n refl
+  late-accepted (Refused n p) f s h = late-number n (s .0)
+
+  late-final : (place : ℕ) (r : Run A) → FitsRun r → Late (final place r)
+  late-final place (gave a k []) f = refl
+  late-final place (gave a k (c ∷ l)) f = refl
+  late-final place (stopped n p []) f = late-number n (omega (arith, f .0))
+  late-final place (stopped n p (c ∷ l)) f = refl
+  late-final place (short p n) f = refl
+  late-final place (beyond p n l) f = refl
+
+  late-stepped : (f : Final A) (next : Final (List ℕ)) → Late f → Late next → Late (steppedFrom f next)
+  late-stepped (result a) next f h = h
+  late-stepped (refuses n p k) next f h = go (ltb n 32)
+    where
+      go : (b : Bool) → Late (choosing b next (refuses n p k))
+      go true = h
+      go false = f
+
+late-onward : (o : Option (List ℕ)) → Late (onward o)
+late-onward absent = refl
+late-onward (some l) = refl
+
+-- With long enough buffers no service answers 1 or 2.
+module _ (scratch : ℕ) (table : List ℕ) (enough : scratchBytes ≤ scratch) where
+  past-1 : {A : Type 0} (f : Final A) → Late f → Late (unless (ltb scratch scratchBytes) 1 f)
+  past-1 f h = late-past (ltb scratch scratchBytes) 1 f (le-ltb scratch scratchBytes enough) h
+
+  pub check-late : Late (checks scratch table)
+  check-late = past-1 _ (late-accepted (check table) (λ n. result n) (small-check table) (λ n ok. refl))
+
+  pub evaluate-late : (buffer : ℕ) (list : List ℕ) → largest ≤ buffer → Late (evaluates scratch buffer table list)
+  evaluate-late buffer list room =
+      past-1 _
+      (late-past (ltb buffer largest) 2 _ (le-ltb buffer largest room)
+      (late-accepted (check table) (λ n. unless (ltb limit (length list)) 10 (runs table list)) (small-check table)
+      (λ n ok. late-unless (ltb limit (length list)) 10 (runs table list) (omega arith) (late-final (last (sheet table)) (run (tree table) list) (run-fits table n ok list)))))
+
+  pub first-late : (w : Walk) → Late (firsts scratch table w)
+  first-late w = past-1 _ (late-accepted (check table) _ (small-check table) (λ n ok. late-unless (ltb (length (w .entries)) limit) 10 _ (omega arith) refl))
+
+  pub step-late : (w : Walk) → Late (steps scratch table w)
+  step-late w =
+      past-1 _
+      (late-accepted (check table) _ (small-check table)
+      (λ n ok.
+      late-unless (ltb (length (w .entries)) limit || ltb limit (w .len)) 10 _ (omega arith)
+      (late-stepped (runs table (listed w)) _ (late-final _ (run (tree table) (listed w)) (run-fits table n ok (listed w))) (late-onward (nextList (tree table) (listed w))))))

@@ -23,8 +23,8 @@ use Rattle.meaning.specs.Answer.{pack, packed, uncounted, numberOf}
 use Rattle.meaning.specs.Walk.{Walk, listed, overwritten, Shows}
 use Rattle.meaning.specs.Service.{scratchBytes, last, tree, onward, firsts, steps}
 use Rattle.meaning.specs.Lent.{AfterWalk, walkAfter, afterWalk}
-use Rattle.meaning.specs.Calls.{Service, first, step, Call, lent, returned, serve, called, after, isGranted, afterAll, tally, granted}
-use Rattle.meaning.specs.Demand.{Granted, Calls, walkOf, stepsOf, Held, Enough, Refusals, FirstAnswers, Stepped, Ended}
+use Rattle.meaning.specs.Calls.{Service, first, step, Call, lent, returned, serve, called, after, Granted, isGranted, afterAll, tally, granted, Calls, walkOf, stepsOf}
+use Rattle.meaning.specs.Demand.{Held, Enough, Refusals, FirstAnswers, Stepped, NoNext}
 use Rattle.meaning.specs.Sure.{sure-meaning}
 use Rattle.meaning.specs.Laws.Walks.{listed-shown, shows-one, shown-short, shows-written, written-beyond, returned-lent, returned-written, listed-lent}
 use Rattle.meaning.specs.Laws.Services.{firsts-1, steps-1, firsts-10, steps-10, firsts-granted, steps-complete}
@@ -243,17 +243,17 @@ module _ (table : List ℕ) (n : ℕ) (ok : check table ≡ Accepted n) where
 
   module _ (w : Walk) (c : Call) (e : c .service ≡ step) (h : Enough c w) (l : List ℕ) (shown : Shows w l) (d : Complete (tree table) l) where
     -- THEOREM: a step is granted, or it is 35.
-    pub step-from : Stepped table c w l ⊎ Ended table c w l
+    pub step-from : Stepped table c w l ⊎ NoNext table c w l
     step-from = go (nextList (tree table) l) refl
       where
-        go : (o : Option (List ℕ)) → nextList (tree table) l ≡ o → Stepped table c w l ⊎ Ended table c w l
+        go : (o : Option (List ℕ)) → nextList (tree table) l ≡ o → Stepped table c w l ⊎ NoNext table c w l
         go absent f = inr (record { answer = step-left c w l shown d e h f .answer; is-last = next-last (tree table) full l d .0 f })
         go (some m) f =
             let x = next-list (tree table) full l d m f in
             let o = step-wrote c w l shown d e h m f in
             inl (record { answer = o .answer; list = m; shown = shows-after c w m o (x .complete); is-next = x })
 
-  pub calls-step : (cs : Calls table) (c : Call) → c .service ≡ step → Enough c (walkOf cs) → (l : List ℕ) → Shows (walkOf cs) l → Stepped table c (walkOf cs) l ⊎ Ended table c (walkOf cs) l
+  pub calls-step : (cs : Calls table) (c : Call) → c .service ≡ step → Enough c (walkOf cs) → (l : List ℕ) → Shows (walkOf cs) l → Stepped table c (walkOf cs) l ⊎ NoNext table c (walkOf cs) l
   calls-step cs c e h l shown =
       let g = calls-held cs in
       step-from (walkOf cs) c e h l shown (subst (Complete (tree table)) (shows-one (walkOf cs) (g .list) l (g .shown) shown) (g .complete))

@@ -25,9 +25,10 @@ use Rattle.meaning.specs.State.{unbound}
 use Rattle.meaning.specs.Loose.{loose}
 use Rattle.meaning.specs.Read.{sheet}
 use Rattle.meaning.specs.Answer.{pack, packed, uncounted, numberOf}
+use Rattle.meaning.specs.Walk.{Bytes}
 use Rattle.meaning.specs.Service.{scratchBytes, last, tree, runs, evaluates}
 use Rattle.meaning.specs.Lent.{filled, zeroed, AfterEvaluate, afterEvaluate, evaluateCall}
-use Rattle.meaning.specs.Demand.{Bytes, NoMany, Answers, Reached}
+use Rattle.meaning.specs.Demand.{NoMany, EvaluatesTo, Reached}
 use Rattle.meaning.specs.Agreement.{agreement}
 use Rattle.meaning.specs.Sure.{Narrow, sure-meaning, Bytes as NarrowBytes, complete-bytes}
 use Rattle.meaning.specs.WellFormed.{tree-well-formed}
@@ -77,7 +78,7 @@ Proper (refusal n p) = (20 ≤ n) × (n ≤ 31)
 
 -- Evaluating that comes to the outcome x answers x and no other.
 module _ (scratch buffer : List ℕ) where
-  answers-one : (x o : Outcome Value) → Proper x → Answers buffer (afterEvaluate (finalOf x) scratch buffer) o → o ≡ x
+  answers-one : (x o : Outcome Value) → Proper x → EvaluatesTo buffer (afterEvaluate (finalOf x) scratch buffer) o → o ≡ x
   answers-one (value v) (value w) f (g, a, b) = ap value (buffer-value w v buffer g f (sym b))
   answers-one (value v) (refusal n p) f (l, m, a, b) = absurd (omega (arith, a))
   answers-one (refusal n p) (value w) f (g, a, b) = absurd (omega (arith, a, f .0))
@@ -86,7 +87,7 @@ module _ (scratch buffer : List ℕ) where
       let e : q ≡ p = omega (arith, a, f .1) in
       ap (λ x. refusal x q) d ∙ ap (λ x. refusal n x) e
 
-  answers-so : (o : Outcome Value) → Proper o → ((n p : ℕ) → o ≡ refusal n p → n ≤ 30) → Answers buffer (afterEvaluate (finalOf o) scratch buffer) o
+  answers-so : (o : Outcome Value) → Proper o → ((n p : ℕ) → o ≡ refusal n p → n ≤ 30) → EvaluatesTo buffer (afterEvaluate (finalOf o) scratch buffer) o
   answers-so (value v) f h = (f, refl, refl)
   answers-so (refusal n p) f h = (
     f .0,
@@ -126,7 +127,7 @@ module _ (table : List ℕ) (n : ℕ) (ok : check table ≡ Accepted n) where
       λ w.
           let x = outcomeOf (run (tree table) (w .list)) in
           let g : Gives (tree table) x = gives-reached (tree table) x no-many .1 (w .list, w .complete, refl) in
-          let a = subst (λ e. Answers buffer e o) (evaluating (w .list) (w .complete)) (w .answers) in
+          let a = subst (λ e. EvaluatesTo buffer e o) (evaluating (w .list) (w .complete)) (w .answers) in
           agreement (sheet table) (last (sheet table)) unbound o .0 (subst (Gives (tree table)) (sym (answers-one scratch buffer x o (proper x g .0) a)) g),
       λ h.
           let g = agreement (sheet table) (last (sheet table)) unbound o .1 h in
@@ -135,6 +136,6 @@ module _ (table : List ℕ) (n : ℕ) (ok : check table ≡ Accepted n) where
             list = l;
             bytes = bytes-of l (complete-bytes (sheet table) (last (sheet table)) unbound l c);
             complete = c;
-            answers = subst (λ x. Answers buffer x o) (sym (evaluating l c ∙ ap (λ y. afterEvaluate (finalOf y) scratch buffer) (sym e))) (answers-so scratch buffer o (proper o g .0) (proper o g .1));
+            answers = subst (λ x. EvaluatesTo buffer x o) (sym (evaluating l c ∙ ap (λ y. afterEvaluate (finalOf y) scratch buffer) (sym e))) (answers-so scratch buffer o (proper o g .0) (proper o g .1));
           },
     )
