@@ -251,7 +251,7 @@ module _ (scratch : ℕ) (table : List ℕ) where
 abbrev pub Late : {A : Type 0} → Final A → Type 0
 Late answer = isEarly (number answer) ≡ false
 
-late-number : (n : ℕ) → 3 ≤ n → isEarly n ≡ false
+pub late-number : (n : ℕ) → 3 ≤ n → isEarly n ≡ false
 late-number n h = or-none (eqb n 1) (eqb n 2) (ne-eqb n 1 (λ e. omega arith)) (ne-eqb n 2 (λ e. omega arith))
 
 module _ {A : Type 0} where

@@ -93,12 +93,12 @@ module _ (table : List ℕ) (n : ℕ) (ok : check table ≡ Accepted n) where
   full = sure-meaning (sheet table) (last (sheet table)) unbound .full
 
   short-by : (s : Service) (w : Walk) (scratch : List ℕ) → length scratch < scratchBytes → dueOf s table w scratch ≡ refuses 1 0 0
-  short-by first w scratch h = firsts-1 table n ok (length scratch) h w
-  short-by step w scratch h = steps-1 table n ok (length scratch) h w
+  short-by first w scratch h = firsts-1 table (length scratch) h w
+  short-by step w scratch h = steps-1 table (length scratch) h w
 
   few-by : (s : Service) (w : Walk) (scratch : List ℕ) → scratchBytes ≤ length scratch → length (w .entries) < limit → dueOf s table w scratch ≡ refuses 10 0 0
-  few-by first w scratch h k = firsts-10 table n ok (length scratch) h w k
-  few-by step w scratch h k = steps-10 table n ok (length scratch) h w k
+  few-by first w scratch h k = firsts-10 table (length scratch) h n ok w k
+  few-by step w scratch h k = steps-10 table (length scratch) h n ok w k
 
   module _ (c : Call) (w : Walk) where
     left-1 : length (c .scratch) < scratchBytes → Left table c w 1
@@ -111,7 +111,7 @@ module _ (table : List ℕ) (n : ℕ) (ok : check table ≡ Accepted n) where
     first-wrote : c .service ≡ first → Enough c w → Wrote table c w (firstList (tree table))
     first-wrote e h =
         wrote-by table c w (firstList (tree table)) (h .enough-entries)
-        (ap (λ (s : Service). dueOf s table (lent (c .part) w) (c .scratch)) e ∙ firsts-granted table n ok (length (c .scratch)) (h .enough-scratch) (lent (c .part) w) (h .enough-entries))
+        (ap (λ (s : Service). dueOf s table (lent (c .part) w) (c .scratch)) e ∙ firsts-granted table (length (c .scratch)) (h .enough-scratch) n ok (lent (c .part) w) (h .enough-entries))
 
     -- A step of a complete list that is lent enough.
     module _ (l : List ℕ) (shown : Shows w l) (complete : Complete (tree table) l) (e : c .service ≡ step) (h : Enough c w) where
@@ -119,7 +119,7 @@ module _ (table : List ℕ) (n : ℕ) (ok : check table ≡ Accepted n) where
       step-due =
           let within : w .len ≤ limit = omega (arith, shown .its-length, shown-short w l shown) in
           ap (λ (s : Service). dueOf s table (lent (c .part) w) (c .scratch)) e
-          ∙ steps-complete table n ok (length (c .scratch)) (h .enough-scratch) (lent (c .part) w) (h .enough-entries) l (listed-lent (c .part) w (h .enough-entries) within ∙ listed-shown w l shown) within complete
+          ∙ steps-complete table (length (c .scratch)) (h .enough-scratch) n ok (lent (c .part) w) (h .enough-entries) l (listed-lent (c .part) w (h .enough-entries) within ∙ listed-shown w l shown) within complete
 
       step-wrote : (m : List ℕ) → nextList (tree table) l ≡ some m → Wrote table c w m
       step-wrote m f = wrote-by table c w m (h .enough-entries) (step-due ∙ ap onward f)

@@ -113,13 +113,13 @@ module _ (table : List ℕ) (n : ℕ) (ok : check table ≡ Accepted n) where
         let sure = sure-meaning (sheet table) (last (sheet table)) unbound in
         let x = many-taken (tree table) limit l p left (sure .numbered) (sure .narrow) within e in
         let a : evaluates (length scratch) (length buffer) table l ≡ refuses 31 p 0 =
-        evaluates-run table n ok (length scratch) enough (length buffer) l room within ∙ ap (final (last (sheet table))) (e ∙ ap (stopped 31 p) (x .all)) in
+        evaluates-run table (length scratch) enough n ok (length buffer) l room within ∙ ap (final (last (sheet table))) (e ∙ ap (stopped 31 p) (x .all)) in
         no l (x .bytes) within (ap (λ f. numberOf (packed uncounted f)) a ∙ (let z : numberOf (pack 31 p 0) ≡ 31 = omega arith in z))
 
     evaluating : (l : List ℕ) → Complete (tree table) l → evaluateCall table l scratch buffer ≡ afterEvaluate (finalOf (outcomeOf (run (tree table) l))) scratch buffer
     evaluating l c =
         ap (λ f. afterEvaluate f scratch buffer)
-        (evaluates-run table n ok (length scratch) enough (length buffer) l room (complete-length (tree table) l c) ∙ complete-final (tree table) l (last (sheet table)) c)
+        (evaluates-run table (length scratch) enough n ok (length buffer) l room (complete-length (tree table) l c) ∙ complete-final (tree table) l (last (sheet table)) c)
 
     -- THEOREM: some complete list of bytes evaluates to an outcome exactly when the loose meaning of the last record has it.
     pub outcomes : (o : Outcome Value) → Reached table scratch buffer o ↔ loose (sheet table) (last (sheet table)) unbound o
