@@ -47,7 +47,7 @@ placeOf answer = answer / weight % weight
 abbrev pub countOf : ℕ → ℕ
 countOf answer = answer / weight / weight
 
--- Each is read back from the packed one, and number 0 is success. (Of every service's answers: `Laws/Bounds`.)
+-- Each is read back from the packed one, and number 0 is success. (Of every service's answers: `Laws/ReadBack`.)
 pub record ReadBack {A : Type 0} (counted : A → ℕ) (answer : Final A) : Type 0 where
   pub number-back : numberOf (packed counted answer) ≡ number answer
   pub place-back : placeOf (packed counted answer) ≡ place answer

@@ -1,5 +1,4 @@
 -- The proofs of what the services answer and of demand 3. Their statements are in the files above.
-pub mod Bounds
 pub mod Walks
 pub mod Services
 pub mod Calls
@@ -7,3 +6,4 @@ pub mod Outcomes
 pub mod Conditions
 pub mod LetBe
 pub mod Demand
+pub mod ReadBack

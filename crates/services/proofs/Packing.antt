@@ -13,7 +13,7 @@ use Rattle.tables.specs.Check.{check}
 use Rattle.meaning.specs.Answer.{pack, packed, records}
 use Rattle.meaning.specs.Service.{scratchBytes, unless, accepted, checks}
 use Rattle.meaning.specs.Lent.{zeroed, afterCheck, checkCall}
-use Rattle.meaning.specs.Laws.Bounds.{Small, check-late}
+use Rattle.meaning.specs.Laws.ReadBack.{Small, check-late}
 
 module _ (checked : Checked) where
   module _ (n : ℕ) (e : checked ≡ Accepted n) where

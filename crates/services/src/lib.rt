@@ -6,7 +6,7 @@ ghost use Rattle.choices.specs.Tree.{result};
 ghost use Rattle.meaning.specs.Answer.{weight, pack, packed, records};
 ghost use Rattle.meaning.specs.Service.{scratchBytes, accepted};
 ghost use Rattle.meaning.specs.Lent.{zeroed, checkCall};
-ghost use Rattle.meaning.specs.Laws.Bounds.{Small};
+ghost use Rattle.meaning.specs.Laws.ReadBack.{Small};
 use checking::check;
 use tables::Checked;
 

@@ -5,9 +5,9 @@ use mathlib.Core.Logic.{_⊎_, ⊎-elim}
 use mathlib.Core.List.{List}
 use Prim.Native.Nat.{ℕ, _≤_, _<_}
 use native.Mathlib.Omega.{arith}
-use lib.Dec.{ltb}
+use lib.Dec.{eqb, ltb}
 use lib.ListN.{length}
-use borrow.Author.Tests.{lt-ltb, le-ltb}
+use borrow.Author.Tests.{lt-ltb, le-ltb, ne-eqb}
 use Rattle.choices.specs.Tree.{run, Final, result, refuses, limit}
 use Rattle.choices.specs.Lists.{Complete}
 use Rattle.choices.specs.Paths.{firstList, nextList}
@@ -23,9 +23,8 @@ use Rattle.meaning.specs.Read.{sheet}
 use Rattle.meaning.specs.Answer.{pack}
 use Rattle.meaning.specs.Walk.{Walk, listed, overwritten}
 use Rattle.meaning.specs.Service.{scratchBytes, last, tree, unless, accepted, checks, runs, evaluates, onward, steppedFrom, firsts, steps}
-use Rattle.meaning.specs.Lent.{zeroed, filled, afterCheck, afterEvaluate, afterWalk}
+use Rattle.meaning.specs.Lent.{zeroed, filled, isEarly, afterCheck, afterEvaluate, afterWalk}
 use Rattle.meaning.specs.Sure.{sure-meaning}
-use Rattle.meaning.specs.Laws.Bounds.{late-number}
 
 -- ---- tests
 
@@ -38,6 +37,10 @@ module _ {A : Type 0} (n : ℕ) (f : Final A) where
 
 or-first : (a b : Bool) → a ≡ true → (a || b) ≡ true
 or-first a b e = ap (λ x. x || b) e
+
+-- A number other than 1 and 2.
+pub late-number : (n : ℕ) → 3 ≤ n → isEarly n ≡ false
+late-number n h = or-none (eqb n 1) (eqb n 2) (ne-eqb n 1 (λ e. omega arith)) (ne-eqb n 2 (λ e. omega arith))
 
 -- ---- from one list to the next
 
@@ -101,18 +104,13 @@ module _ (table : List ℕ) (scratch : ℕ) where
       checks-refused = past-1 _ ∙ refuse-table (λ k. result k)
 
       pub evaluates-refused : (buffer : ℕ) (l : List ℕ) → largest ≤ buffer → evaluates scratch buffer table l ≡ refuses n p 0
-      evaluates-refused buffer l room = past-2 buffer _ room ∙ refuse-table (λ k. unless (ltb limit (length l)) 10 (runs table l))
+      evaluates-refused buffer l room = past-2 buffer _ room ∙ refuse-table _
 
       pub firsts-refused : (w : Walk) → firsts scratch table w ≡ refuses n p 0
-      firsts-refused w = past-1 _ ∙ ap (λ (c : Checked). accepted c (λ k. unless (ltb (length (w .entries)) limit) 10 (result (firstList (tree table))))) no
+      firsts-refused w = past-1 _ ∙ refuse-table _
 
       pub steps-refused : (w : Walk) → steps scratch table w ≡ refuses n p 0
-      steps-refused w =
-          past-1 _
-          ∙ ap
-          (λ (c : Checked).
-          accepted c (λ k. unless (ltb (length (w .entries)) limit || ltb limit (w .len)) 10 (steppedFrom (runs table (listed w)) (onward (nextList (tree table) (listed w))))))
-          no
+      steps-refused w = past-1 _ ∙ refuse-table _
 
     -- An accepted table.
     module _ (n : ℕ) (ok : check table ≡ Accepted n) where

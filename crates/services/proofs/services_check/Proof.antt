@@ -4,7 +4,7 @@ use Rattle.choices.specs.Tree.{result}
 use Rattle.meaning.specs.Service.{accepted}
 use Rattle.tables.specs.declared.Checked.{Checked}
 use Rattle.meaning.specs.Answer.{packed, records}
-use Rattle.meaning.specs.Laws.Bounds.{Small, small-check}
+use Rattle.meaning.specs.Laws.ReadBack.{Small, small-check}
 use Rattle.services.proofs.Packing.{short-call, enough-call}
 use borrow.Author.Needs.{needs}
 use Rattle.services.proofs.services_check.Statement.{statement}

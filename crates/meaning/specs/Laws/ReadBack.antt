@@ -5,7 +5,7 @@ use mathlib.Core.Option.{Option, none as absent, some}
 use mathlib.Core.List.{List, [], _∷_}
 use Prim.Native.Nat.{ℕ, zero, suc, _+_, _*_, _≤_, _<_}
 use native.Mathlib.Omega.{arith}
-use borrow.Author.Tests.{ltb-true, ltb-false, le-ltb, eqb-false, ne-eqb, not-true}
+use borrow.Author.Tests.{ltb-true, ltb-false, le-ltb, eqb-false, not-true}
 use lib.Dec.{eqb, ltb}
 use lib.ListN.{length, length-drop}
 use Rattle.integers.specs.Bytes.{word}
@@ -19,7 +19,7 @@ use Rattle.tables.specs.Record.{Record}
 use Rattle.tables.specs.Table.{pick, Next, end, fault, one, next, after, Cut, cutBy, cut}
 use Rattle.tables.specs.Sheet.{lowest}
 use Rattle.tables.specs.Check.{mostBytes, mostRecords, Rule, judge, judged, judgedCut, check, rule, fault6, fault7, fault8, fault9}
-use Rattle.tables.specs.Laws.{or-right, or-none}
+use Rattle.tables.specs.Laws.{or-right}
 use Rattle.tables.specs.Accepted.{accepted-fine, next-is}
 use Rattle.meaning.specs.State.{unbound}
 use Rattle.meaning.specs.Read.{sheet}
@@ -29,6 +29,7 @@ use Rattle.meaning.specs.Service.{scratchBytes, last, tree, unless, acce
 use Rattle.meaning.specs.Lent.{isEarly}
 use Rattle.meaning.specs.Proper.{downward}
 use Rattle.meaning.specs.Sure.{Narrow, sure-meaning, Placed, placed-meaning}
+use Rattle.meaning.specs.Laws.Services.{late-number}
 
 -- ---- the check
 
@@ -250,9 +251,6 @@ module _ (scratch : ℕ) (table : List ℕ) where
 -- The answer is neither 1 nor 2, so the scratch is cleared and the result buffer set.
 abbrev pub Late : {A : Type 0} → Final A → Type 0
 Late answer = isEarly (number answer) ≡ false
-
-pub late-number : (n : ℕ) → 3 ≤ n → isEarly n ≡ false
-late-number n h = or-none (eqb n 1) (eqb n 2) (ne-eqb n 1 (λ e. omega arith)) (ne-eqb n 2 (λ e. omega arith))
 
 module _ {A : Type 0} where
   late-unless : (b : Bool) (n : ℕ) (f : Final A) → 3 ≤ n → Late f → Late (unless b n f)
