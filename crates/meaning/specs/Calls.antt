@@ -14,8 +14,8 @@ use Rattle.meaning.specs.Lent.{AfterWalk, firstCall, stepCall}
 
 -- ---- one call
 
--- What is lent of a walk's entries: so many, or as many as there are, from the entry `from` on. The walk starts with its first entry: a part
--- that does not has too few.
+-- What is lent of a walk's entries: `count` of them, or as many as there are, from the entry `from` on. That is the walk from its first entry
+-- on, or a part that has too few.
 pub record Part : Type 0 where
   pub from : ℕ
   pub count : ℕ

@@ -1,6 +1,6 @@
 -- What the four services answer and leave in every byte that they are lent, refusals included. Document 01: "1 and 2 change nothing. Otherwise
 -- the first 65,536 scratch bytes end as zero; evaluating sets the first 512 result bytes to the value and then zeros, all zeros when refused.
--- Bytes beyond are untouched." A table and a list are never changed. The exported functions are proved to compute these four.
+-- Bytes beyond are untouched." A table and a list are never changed. An exported function's promise is that it computes one of these four.
 use mathlib.Core.Bool.{Bool, _||_}
 use mathlib.Core.List.{List, _++_}
 use Prim.Native.Nat.{ℕ, _-_}

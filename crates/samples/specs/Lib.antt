@@ -1,2 +1,3 @@
 pub mod Notation
 pub mod Samples
+pub mod Calls
