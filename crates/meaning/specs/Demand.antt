@@ -11,7 +11,7 @@ use Rattle.choices.specs.Lists.{Complete, before, CountBefore, First, Next}
 use Rattle.values.specs.Value.{set, Value, boolean, collection, Items, encode, WellFormed, limit as largest}
 use Rattle.patterns.specs.Members.{In}
 use Rattle.patterns.specs.Binding.{Binding}
-use Rattle.patterns.specs.Pattern.{Pattern, listOf}
+use Rattle.patterns.specs.Pattern.{listOf}
 use Rattle.patterns.specs.Binder.{bound, formed}
 use Rattle.patterns.specs.Relation.{Matches}
 use Rattle.meaning.specs.Node.{let-be}

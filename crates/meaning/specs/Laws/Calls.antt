@@ -1,14 +1,13 @@
 -- What the calls of the first list and the step answer on an accepted table, and what the walk shows after any list of them.
 use mathlib.Core.Path.{_≡_, refl, sym, ap, _∙_, subst}
 use mathlib.Core.Bool.{Bool, true, false}
-use mathlib.Core.Logic.{_⊎_, inl, inr, ⊎-elim}
+use mathlib.Core.Logic.{_⊎_, inl, inr}
 use mathlib.Core.Option.{Option, none as absent, some}
 use mathlib.Core.List.{List, [], _∷_}
 use Prim.Native.Nat.{ℕ, _≤_, _<_}
 use native.Mathlib.Omega.{arith}
-use lib.Dec.{ltb, eqb}
+use lib.Dec.{eqb}
 use lib.ListN.{length, drop}
-use borrow.Author.Tests.{ltb-true, ltb-false}
 use Rattle.choices.specs.Tree.{Final, result, refuses, limit, Full}
 use Rattle.choices.specs.Lists.{Complete, CountBefore}
 use Rattle.choices.specs.Paths.{firstList, nextList}
@@ -20,7 +19,7 @@ use Rattle.tables.specs.Laws.{split}
 use Rattle.meaning.specs.State.{unbound}
 use Rattle.meaning.specs.Read.{sheet}
 use Rattle.meaning.specs.Answer.{pack, packed, uncounted, numberOf}
-use Rattle.meaning.specs.Walk.{Walk, listed, overwritten, Shows}
+use Rattle.meaning.specs.Walk.{Walk, overwritten, Shows}
 use Rattle.meaning.specs.Service.{scratchBytes, last, tree, onward, firsts, steps}
 use Rattle.meaning.specs.Lent.{AfterWalk, walkAfter, afterWalk}
 use Rattle.meaning.specs.Calls.{Service, first, step, Call, lent, returned, serve, called, after, Granted, isGranted, afterAll, tally, granted, Calls, walkOf, stepsOf}

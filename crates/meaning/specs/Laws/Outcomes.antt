@@ -1,6 +1,6 @@
 -- What evaluating answers under the complete lists of bytes, against the loose meaning.
 use mathlib.Core.Path.{_≡_, refl, sym, ap, _∙_, subst}
-use mathlib.Core.Bool.{Bool, true, false, _||_}
+use mathlib.Core.Bool.{Bool, true, false}
 use mathlib.Core.Logic.{_↔_}
 use mathlib.Core.List.{List, [], _∷_, _++_, append-assoc}
 use Prim.Native.Nat.{ℕ, zero, suc, _-_, _≤_, _<_}
@@ -8,16 +8,15 @@ use native.Mathlib.Omega.{arith}
 use lib.Dec.{ltb, eqb}
 use lib.ListN.{length, drop, replicate}
 use borrow.Author.Tests.{ltb-true, ne-eqb}
-use Rattle.choices.specs.Tree.{Tree, give, stop, choose, Numbered, stopped, beyond, pick, follow, run, limit, Final, refuses, final, Outcome, value, refusal, Gives}
+use Rattle.choices.specs.Tree.{Tree, give, stop, choose, Numbered, stopped, beyond, pick, follow, run, limit, refuses, final, Outcome, value, refusal, Gives}
 use Rattle.choices.specs.Lists.{Complete, outcomeOf, NoMany as NoManyAtAll}
 use Rattle.choices.specs.Laws.Cut.{complete-length}
 use Rattle.choices.specs.Laws.Trees.{numbered-gives}
 use Rattle.choices.specs.Laws.Walk.{finalOf, complete-final}
-use Rattle.choices.specs.Laws.Outcomes.{Reached as ReachedAt, gives-reached}
+use Rattle.choices.specs.Laws.Outcomes.{gives-reached}
 use Rattle.values.specs.Value.{Value, encode, WellFormed, limit as largest}
 use Rattle.values.specs.Items.{pick as choosing}
 use Rattle.values.specs.Encoding.{valueOf, value-back}
-use Rattle.patterns.specs.Binder.{mostBindings}
 use Rattle.tables.specs.declared.Checked.the-variants.{Accepted}
 use Rattle.tables.specs.Check.{check}
 use Rattle.tables.specs.Laws.{or-none}
@@ -26,8 +25,8 @@ use Rattle.meaning.specs.Loose.{loose}
 use Rattle.meaning.specs.Read.{sheet}
 use Rattle.meaning.specs.Answer.{pack, packed, uncounted, numberOf}
 use Rattle.meaning.specs.Walk.{Bytes}
-use Rattle.meaning.specs.Service.{scratchBytes, last, tree, runs, evaluates}
-use Rattle.meaning.specs.Lent.{filled, zeroed, AfterEvaluate, afterEvaluate, evaluateCall}
+use Rattle.meaning.specs.Service.{scratchBytes, last, tree, evaluates}
+use Rattle.meaning.specs.Lent.{filled, zeroed, afterEvaluate, evaluateCall}
 use Rattle.meaning.specs.Demand.{NoMany, EvaluatesTo, Reached}
 use Rattle.meaning.specs.Agreement.{agreement}
 use Rattle.meaning.specs.Sure.{Narrow, sure-meaning, Bytes as NarrowBytes, complete-bytes}

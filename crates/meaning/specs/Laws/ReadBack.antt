@@ -11,7 +11,7 @@ use lib.ListN.{length, length-drop}
 use Rattle.integers.specs.Bytes.{word}
 use Rattle.choices.specs.Tree.{Tree, give, stop, choose, Run, gave, stopped, short, beyond, pick as choosing, follow, run, limit, Numbered, Final, result, refuses, final}
 use Rattle.choices.specs.Paths.{nextList}
-use Rattle.values.specs.Value.{Value, limit as largest}
+use Rattle.values.specs.Value.{limit as largest}
 use Rattle.patterns.specs.Binder.{mostBindings}
 use Rattle.tables.specs.declared.Checked.{Checked}
 use Rattle.tables.specs.declared.Checked.the-variants.{Accepted, Refused}

@@ -1,14 +1,14 @@
 -- The services case by case, in the order of document 01's tests: what they answer, and what they leave in the lent bytes.
-use mathlib.Core.Path.{_≡_, refl, sym, ap, _∙_}
+use mathlib.Core.Path.{_≡_, refl, ap, _∙_}
 use mathlib.Core.Bool.{Bool, true, false, _||_}
-use mathlib.Core.Logic.{_⊎_, ⊎-elim}
+use mathlib.Core.Logic.{⊎-elim}
 use mathlib.Core.List.{List}
 use Prim.Native.Nat.{ℕ, _≤_, _<_}
 use native.Mathlib.Omega.{arith}
 use lib.Dec.{eqb, ltb}
 use lib.ListN.{length}
 use borrow.Author.Tests.{lt-ltb, le-ltb, ne-eqb}
-use Rattle.choices.specs.Tree.{run, Final, result, refuses, limit}
+use Rattle.choices.specs.Tree.{Final, result, refuses, limit}
 use Rattle.choices.specs.Lists.{Complete}
 use Rattle.choices.specs.Paths.{firstList, nextList}
 use Rattle.choices.specs.Laws.Walk.{Incomplete, incomplete, Whole, complete-whole}
