@@ -14,3 +14,11 @@ pub mod Enumerating
 pub mod Tested
 pub mod Collected
 pub mod Binders
+pub mod Walks
+pub mod Services
+pub mod Calls
+pub mod Outcomes
+pub mod Conditions
+pub mod LetBe
+pub mod Demand
+pub mod ReadBack

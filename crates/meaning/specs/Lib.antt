@@ -5,10 +5,12 @@ pub mod Sheet
 pub mod Meaning
 pub mod Read
 pub mod Loose
-pub mod Service
+pub mod Answer
 pub mod Walk
+pub mod Service
+pub mod Lent
+pub mod Calls
 pub mod Agreement
-pub mod LetBe
 pub mod Demand
 pub mod Unreached
 pub mod Kinds

@@ -1,12 +1,13 @@
 -- What the four services answer, from their arguments alone: document 01, "From the input", "From the state of the run" and "The walk".
--- `result` is success, number 0 with place 0; `refuses` has number, place and count. A buffer enters by its length.
+-- `result` is success, number 0 with place 0; `refuses` has number, place and count. A buffer enters by its length. What they leave in the
+-- bytes that they are lent is in `Lent`.
 use mathlib.Core.Bool.{Bool, _||_}
 use mathlib.Core.Option.{Option, none as absent, some}
-use mathlib.Core.List.{List, [], _∷_}
+use mathlib.Core.List.{List}
 use Prim.Native.Nat.{ℕ, _-_}
 use lib.Dec.{ltb}
 use lib.ListN.{length}
-use Rattle.choices.specs.Tree.{Tree, Run, gave, stopped, short, beyond, run, Final, result, refuses, final, limit}
+use Rattle.choices.specs.Tree.{Tree, run, Final, result, refuses, final, limit}
 use Rattle.choices.specs.Paths.{firstList, nextList}
 use Rattle.values.specs.Value.{Value, limit as largest}
 use Rattle.values.specs.Items.{pick}
@@ -16,6 +17,7 @@ use Rattle.tables.specs.Check.{check}
 use Rattle.meaning.specs.State.{unbound}
 use Rattle.meaning.specs.Meaning.{Sheet, meaning}
 use Rattle.meaning.specs.Read.{sheet}
+use Rattle.meaning.specs.Walk.{Walk, listed}
 
 -- The scratch that every service is lent.
 abbrev pub scratchBytes : ℕ
@@ -45,11 +47,15 @@ accepted (Refused n p) f = refuses n p 0
 abbrev pub checks : ℕ → List ℕ → Final ℕ
 checks scratch table = unless (ltb scratch scratchBytes) 1 (accepted (check table) (λ n. result n))
 
+-- What the run of a list answers: a value, 20 to 31, or 32, 33 or 34 where the list is not complete.
+abbrev pub runs : List ℕ → List ℕ → Final Value
+runs table list = final (last (sheet table)) (run (tree table) list)
+
 abbrev pub evaluates : ℕ → ℕ → List ℕ → List ℕ → Final Value
 evaluates scratch buffer table list =
     unless (ltb scratch scratchBytes) 1
     (unless (ltb buffer largest) 2
-    (accepted (check table) (λ n. unless (ltb limit (length list)) 10 (final (last (sheet table)) (run (tree table) list)))))
+    (accepted (check table) (λ n. unless (ltb limit (length list)) 10 (runs table list))))
 
 -- ---- first list and step
 
@@ -58,22 +64,19 @@ abbrev pub onward : Option (List ℕ) → Final (List ℕ)
 onward absent = refuses 35 0 0
 onward (some l) = result l
 
--- From a complete list on to the next; from any other, 32, 33 or 34.
-abbrev pub steppedFrom : {A : Type 0} → ℕ → Run A → Final (List ℕ) → Final (List ℕ)
-steppedFrom place (gave a k []) next = next
-steppedFrom place (gave a k (c ∷ l)) next = refuses 34 place 0
-steppedFrom place (stopped r p []) next = next
-steppedFrom place (stopped r p (c ∷ l)) next = refuses 34 p 0
-steppedFrom place (short p n) next = refuses 32 p n
-steppedFrom place (beyond p n l) next = refuses 33 p n
+-- From a complete list, whose run answers a value or 20 to 31, on to the next. From any other, the 32, 33 or 34 that its run answers.
+abbrev pub steppedFrom : {A : Type 0} → Final A → Final (List ℕ) → Final (List ℕ)
+steppedFrom (result a) next = next
+steppedFrom (refuses n p k) next = pick (ltb n 32) next (refuses n p k)
 
--- `lent` is the number of entries that are lent of a walk.
-abbrev pub firsts : ℕ → ℕ → List ℕ → Final (List ℕ)
-firsts scratch lent table =
-    unless (ltb scratch scratchBytes) 1 (accepted (check table) (λ n. unless (ltb lent limit) 10 (result (firstList (tree table)))))
+-- 10: a walk lent with fewer than 64 entries.
+abbrev pub firsts : ℕ → List ℕ → Walk → Final (List ℕ)
+firsts scratch table w =
+    unless (ltb scratch scratchBytes) 1 (accepted (check table) (λ n. unless (ltb (length (w .entries)) limit) 10 (result (firstList (tree table)))))
 
-abbrev pub steps : ℕ → ℕ → List ℕ → List ℕ → Final (List ℕ)
-steps scratch lent table list =
+-- 10: likewise, or a length over 64. Only the entries below the length are read.
+abbrev pub steps : ℕ → List ℕ → Walk → Final (List ℕ)
+steps scratch table w =
     unless (ltb scratch scratchBytes) 1
     (accepted (check table)
-    (λ n. unless (ltb lent limit || ltb limit (length list)) 10 (steppedFrom (last (sheet table)) (run (tree table) list) (onward (nextList (tree table) list)))))
+    (λ n. unless (ltb (length (w .entries)) limit || ltb limit (w .len)) 10 (steppedFrom (runs table (listed w)) (onward (nextList (tree table) (listed w))))))

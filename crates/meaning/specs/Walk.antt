@@ -1,33 +1,30 @@
--- Document 01, "The walk": a whole list of calls of the first list and the step, with one table, on one walk.
-use mathlib.Core.List.{List, [], _∷_}
-use Prim.Native.Nat.{ℕ, suc}
-use Rattle.choices.specs.Tree.{Final, result, refuses}
-use Rattle.meaning.specs.Service.{firsts, steps}
+-- Document 01, "The walk": a walk is 64 entries and a length. The panel lends both; the entries may be fewer or more than 64.
+use mathlib.Core.Path.{_≡_}
+use mathlib.Core.List.{List, [], _∷_, _++_}
+use Prim.Native.Nat.{ℕ, _<_}
+use lib.ListN.{length, take, drop}
+use Rattle.choices.specs.Tree.{limit}
+use Rattle.choices.specs.State.{padded}
 
--- A call, with the scratch and the entries of the walk that it is lent.
-pub data Call : Type 0 where
-  first step : ℕ → ℕ → Call
+-- Entries are bytes.
+abbrev pub Bytes : List ℕ → Type 0
+Bytes [] = Unit {0}
+Bytes (c ∷ l) = (c < 256) × Bytes l
 
--- What a call answers on a walk that holds the list l.
-abbrev pub answer : List ℕ → Call → List ℕ → Final (List ℕ)
-answer table (first scratch lent) l = firsts scratch lent table
-answer table (step scratch lent) l = steps scratch lent table l
-
--- A walk: the list that it holds, and the number of steps granted since the last granted first list.
+-- As many entries as there are, and the length, whatever number it is.
 pub record Walk : Type 0 where
-  pub list : List ℕ
-  pub granted : ℕ
+  pub entries : List ℕ
+  pub len : ℕ
 
--- A granted call overwrites the list; a refusal of either call leaves the walk.
-abbrev pub left : Call → Final (List ℕ) → Walk → Walk
-left c (refuses n p k) w = w
-left (first scratch lent) (result l) w = record { list = l; granted = 0 }
-left (step scratch lent) (result l) w = record { list = l; granted = suc (w .granted) }
+-- The list that a step reads: the entries below the length.
+abbrev pub listed : Walk → List ℕ
+listed w = take (w .len) (w .entries)
 
-abbrev pub call : List ℕ → Call → Walk → Walk
-call table c w = left c (answer table c (w .list)) w
+-- A granted call writes 64 entries, the list and zeros after its end, and the length. It leaves what lies beyond 64.
+unfoldable pub overwritten : List ℕ → Walk → Walk
+overwritten l w = record { entries = padded l ++ drop limit (w .entries); len = length l }
 
--- One call after the other, the first of the list first.
-abbrev pub calls : List ℕ → List Call → Walk → Walk
-calls table [] w = w
-calls table (c ∷ cs) w = calls table cs (call table c w)
+-- The walk shows the list l: the length, the entries, and zeros to 64.
+pub record Shows (w : Walk) (l : List ℕ) : Type 0 where
+  pub its-length : w .len ≡ length l
+  pub its-entries : take limit (w .entries) ≡ padded l

@@ -4,3 +4,4 @@ pub mod Samples
 pub mod Kinds
 pub mod Patterns
 pub mod Refusals
+pub mod Calls

@@ -192,7 +192,7 @@ split-of-8-shows = refl
 
 -- ---- the walk print: let a in set {1,...,3} be st a <> 2 in a + 1
 
-abbrev worked : List ℕ
+abbrev pub worked : List ℕ
 worked =
     rows
     (P 0 ∷ whole 1 ∷ whole 3 ∷ row 11 (1 ∷ 2 ∷ []) ∷ name 0 ∷ whole 2 ∷ operation 6 4 5 ∷ name 0 ∷ whole 1 ∷ operation 7 7 8

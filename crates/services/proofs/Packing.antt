@@ -1,17 +1,19 @@
--- The answer of a check, by its cases.
-use mathlib.Core.Path.{_≡_, sym, ap, subst}
+-- The answer of a check, by its cases, and the whole call.
+use mathlib.Core.Path.{_≡_, sym, ap, _∙_, subst}
 use mathlib.Core.Bool.{Bool}
 use mathlib.Core.List.{List}
 use Prim.Native.Nat.{ℕ, _<_, _≤_}
 use borrow.Author.Tests.{lt-ltb, le-ltb}
 use lib.ListN.{length}
-use Rattle.choices.specs.Tree.{result}
-use Rattle.meaning.specs.Service.{scratchBytes, unless, accepted, checks}
+use Rattle.choices.specs.Tree.{Final, result}
+use Rattle.values.specs.Items.{pick}
 use Rattle.tables.specs.declared.Checked.{Checked}
 use Rattle.tables.specs.declared.Checked.the-variants.{Accepted, Refused}
 use Rattle.tables.specs.Check.{check}
-use Rattle.services.specs.Answer.{pack, packed, records}
-use Rattle.services.specs.Bounds.{Small}
+use Rattle.meaning.specs.Answer.{pack, packed, records}
+use Rattle.meaning.specs.Service.{scratchBytes, unless, accepted, checks}
+use Rattle.meaning.specs.Lent.{zeroed, afterCheck, checkCall}
+use Rattle.meaning.specs.Laws.ReadBack.{Small, check-late}
 
 module _ (checked : Checked) where
   module _ (n : ℕ) (e : checked ≡ Accepted n) where
@@ -22,18 +24,25 @@ module _ (checked : Checked) where
     accepted-packed = ap (λ (x : Checked). packed records (accepted x (λ k. result k))) (sym e)
 
   module _ (n r : ℕ) (e : checked ≡ Refused n r) where
-    pub refused-low : Small checked → (n ≤ 9) × (r < 600)
+    pub refused-low : Small checked → (3 ≤ n) × (n ≤ 9) × (r < 600)
     refused-low s = subst Small e s
 
     pub refused-packed : pack n r 0 ≡ packed records (accepted checked (λ k. result k))
     refused-packed = ap (λ (x : Checked). packed records (accepted x (λ k. result k))) (sym e)
 
--- Rule 1 comes before the table's rules.
-module _ (table scratch : List ℕ) where
-  pub checks-short : length scratch < scratchBytes → pack 1 0 0 ≡ packed records (checks (length scratch) table)
-  checks-short h =
-      sym (ap (λ (b : Bool). packed records (unless b 1 (accepted (check table) (λ n. result n)))) (lt-ltb (length scratch) scratchBytes h))
+module _ (table scratch : List ℕ) (answer : ℕ) where
+  abbrev due : Final ℕ
+  due = accepted (check table) (λ n. result n)
 
-  pub checks-enough : scratchBytes ≤ length scratch → packed records (accepted (check table) (λ n. result n)) ≡ packed records (checks (length scratch) table)
-  checks-enough h =
-      sym (ap (λ (b : Bool). packed records (unless b 1 (accepted (check table) (λ n. result n)))) (le-ltb (length scratch) scratchBytes h))
+  -- Rule 1 comes before the table's rules, and changes nothing.
+  pub short-call : length scratch < scratchBytes → answer ≡ pack 1 0 0 → checkCall table scratch ≡ record { answer = answer; scratch = scratch }
+  short-call h e =
+      ap (λ (b : Bool). afterCheck (unless b 1 due) scratch) (lt-ltb (length scratch) scratchBytes h)
+      ∙ ap (λ (x : ℕ). record { answer = x; scratch = scratch }) (sym e)
+
+  pub enough-call : (after : List ℕ) → scratchBytes ≤ length scratch → answer ≡ packed records due → after ≡ zeroed scratchBytes scratch → checkCall table scratch ≡ record { answer = answer; scratch = after }
+  enough-call after h e d =
+      ap (λ (b : Bool). record { answer = packed records (checks (length scratch) table); scratch = pick b scratch (zeroed scratchBytes scratch) }) (check-late (length scratch) table h)
+      ∙ ap (λ (b : Bool). record { answer = packed records (unless b 1 due); scratch = zeroed scratchBytes scratch }) (le-ltb (length scratch) scratchBytes h)
+      ∙ ap (λ (x : ℕ). record { answer = x; scratch = zeroed scratchBytes scratch }) (sym e)
+      ∙ ap (λ (x : List ℕ). record { answer = answer; scratch = x }) (sym d)

@@ -1,14 +1,11 @@
 -- Zeros one by one, and what is left of the scratch.
 use mathlib.Core.Path.{_≡_, refl, sym, ap, _∙_}
-use mathlib.Core.Bool.{Bool}
 use mathlib.Core.List.{List, [], _∷_}
 use Prim.Native.Nat.{ℕ, zero, suc, _<_, _≤_}
 use native.Mathlib.Omega.{arith}
-use borrow.Author.Tests.{lt-ltb, le-ltb}
 use lib.ListN.{length, set, length-set}
-use Rattle.values.specs.Items.{pick}
 use Rattle.meaning.specs.Service.{scratchBytes}
-use Rattle.services.specs.Lent.{zeroed, cleared}
+use Rattle.meaning.specs.Lent.{zeroed}
 
 zeroed-next : (n : ℕ) (bytes : List ℕ) → n < length bytes → set (zeroed n bytes) n 0 ≡ zeroed (suc n) bytes
 unfolding zeroed
@@ -38,10 +35,3 @@ module _ (lent : List ℕ) where
 
     pub zeros-end : scratchBytes ≤ n → now ≡ zeroed scratchBytes lent
     zeros-end h = let e : n ≡ scratchBytes = omega (arith, z .within) in z .is ∙ ap (λ (k : ℕ). zeroed k lent) e
-
-  -- Whether there was enough.
-  pub cleared-short : length lent < scratchBytes → lent ≡ cleared lent
-  cleared-short h = sym (ap (λ (b : Bool). pick b lent (zeroed scratchBytes lent)) (lt-ltb (length lent) scratchBytes h))
-
-  pub cleared-enough : scratchBytes ≤ length lent → zeroed scratchBytes lent ≡ cleared lent
-  cleared-enough h = sym (ap (λ (b : Bool). pick b lent (zeroed scratchBytes lent)) (le-ltb (length lent) scratchBytes h))

@@ -3,11 +3,10 @@ ghost use mathlib.Core.Path.{_≡_};
 ghost use Prim.Native.Nat.{_<_, _≤_};
 ghost use lib.ListN.{length};
 ghost use Rattle.choices.specs.Tree.{result};
+ghost use Rattle.meaning.specs.Answer.{weight, pack, packed, records};
 ghost use Rattle.meaning.specs.Service.{scratchBytes, accepted};
-ghost use Rattle.services.specs.Answer.{weight, pack, packed, records};
-ghost use Rattle.services.specs.Lent.{zeroed};
-ghost use Rattle.services.specs.Bounds.{Small};
-ghost use Rattle.services.specs.Services.{Checks};
+ghost use Rattle.meaning.specs.Lent.{zeroed, checkCall};
+ghost use Rattle.meaning.specs.Laws.ReadBack.{Small};
 use checking::check;
 use tables::Checked;
 
@@ -54,7 +53,7 @@ fn clear(scratch: &mut [u8])
 // Checks a table.
 #[no_mangle]
 pub extern "C" fn services_check(table: &[u8], scratch: &mut [u8]) -> u64
-    ensures { λ a. ⌜ Checks (now (table .entry)) (now (scratch .entry)) (now (scratch .exit)) a ⌝ }
+    ensures { λ a. ⌜ checkCall (now (table .entry)) (now (scratch .entry)) ≡ record { answer = a; scratch = now (scratch .exit) } ⌝ }
 {
     if scratch.len() < SCRATCH {
         return pack(SHORT_SCRATCH, 0, 0);

@@ -107,11 +107,33 @@ enumerated-number tuple vs = tuple-number vs
 
 -- ---- a property of trees, at the record r
 
--- Q holds of a value, of a refusal 20 to 30 at r, of a choice at r among 1 to 255 bindings, and of one tree followed by another.
-pub record Closed (Q : (A : Type 0) → Tree A → Type 0) (r : ℕ) : Type 1 where
+-- A let-be and a loose let choose.
+abbrev pub Chooses : (ℕ → Pattern) → Node → Type 0
+Chooses pattern (truth b) = ⊥
+Chooses pattern (whole z) = ⊥
+Chooses pattern (named x) = ⊥
+Chooses pattern (unaryOf op a) = ⊥
+Chooses pattern (binaryOf op a b) = ⊥
+Chooses pattern (connective c a b) = ⊥
+Chooses pattern (if t a b) = ⊥
+Chooses pattern (enumeration k os) = ⊥
+Chooses pattern (range a b) = ⊥
+Chooses pattern (let-in p a b) = loose (pattern p) ≡ true
+Chooses pattern (let-be p s c b) = Unit {0}
+Chooses pattern (quantified q p s c) = ⊥
+Chooses pattern (iota p s c) = ⊥
+Chooses pattern (set-comprehension p s c e) = ⊥
+Chooses pattern (sequence-comprehension p s c e) = ⊥
+Chooses pattern (map-comprehension p s c k e) = ⊥
+Chooses pattern (application a b) = ⊥
+Chooses pattern no-expression = ⊥
+
+-- Q holds of a value, of a refusal 20 to 30 at r, of a choice at r among 1 to 255 bindings where r may choose, and of one tree followed by
+-- another.
+pub record Closed (Q : (A : Type 0) → Tree A → Type 0) (May : Type 0) (r : ℕ) : Type 1 where
   pub of-give : (A : Type 0) (a : A) → Q A (give a)
   pub of-stop : (A : Type 0) (n : ℕ) → Ranged n → Q A (stop n r)
-  pub of-choice : (bs : List Binding) → 0 < length bs → Few bs → Q Binding (chosen r bs)
+  pub of-choice : May → (bs : List Binding) → 0 < length bs → Few bs → Q Binding (chosen r bs)
   pub of-bind : (A B : Type 0) (t : Tree A) (f : A → Tree B) → Q A t → ((a : A) → Gives t (value a) → Q B (f a)) → Q B (bind t f)
 
 kind-number : Ranged 20
@@ -123,7 +145,7 @@ value-is {A} {a} {b} e = let d : a ≡ b = cc in d
 unique-number : Ranged 25
 unique-number = (omega arith, omega arith)
 
-module _ (Q : (A : Type 0) → Tree A → Type 0) (r : ℕ) (closed : Closed Q r) where
+module _ (Q : (A : Type 0) → Tree A → Type 0) (May : Type 0) (r : ℕ) (closed : Closed Q May r) where
   then : {A B : Type 0} (t : Tree A) (f : A → Tree B) → Q A t → ((a : A) → Q B (f a)) → Q B (bind t f)
   then {A} {B} t f h k = closed .of-bind A B t f h (λ a g. k a)
 
@@ -150,19 +172,19 @@ module _ (Q : (A : Type 0) → Tree A → Type 0) (r : ℕ) (closed : Closed Q r
       go (bound bs) h = closed .of-give (List Binding) bs
       go (unformed n) h = closed .of-stop (List Binding) n h
 
-  choice-closed : (bs : List Binding) (f : Binding → Tree Value) → 0 < length bs → Few bs → ((b : Binding) → In b bs → Q Value (f b)) → Q Value (bind (chosen r bs) f)
-  choice-closed bs f n e h =
-      closed .of-bind Binding Value (chosen r bs) f (closed .of-choice bs n e)
+  choice-closed : May → (bs : List Binding) (f : Binding → Tree Value) → 0 < length bs → Few bs → ((b : Binding) → In b bs → Q Value (f b)) → Q Value (bind (chosen r bs) f)
+  choice-closed may bs f n e h =
+      closed .of-bind Binding Value (chosen r bs) f (closed .of-choice may bs n e)
       (λ β g. h β (let d : getD bs (g .0) nothing ≡ β = value-is (g .2) in subst (λ x. In x bs) d (at-in bs (g .0) (g .1))))
 
-  matched-closed : (l : Bool) (bs : List Binding) (f : Binding → Tree Value) → Few bs → ((b : Binding) → In b bs → Q Value (f b)) → Q Value (bind (matched r l bs) f)
-  matched-closed l [] f e h = closed .of-stop Value 23 (omega arith, omega arith)
-  matched-closed true (b ∷ bs) f e h = choice-closed (b ∷ bs) f (omega arith) e h
-  matched-closed false (b ∷ bs) f e h = h b (inl refl)
+  matched-closed : (l : Bool) → (l ≡ true → May) → (bs : List Binding) (f : Binding → Tree Value) → Few bs → ((b : Binding) → In b bs → Q Value (f b)) → Q Value (bind (matched r l bs) f)
+  matched-closed l may [] f e h = closed .of-stop Value 23 (omega arith, omega arith)
+  matched-closed true may (b ∷ bs) f e h = choice-closed (may refl) (b ∷ bs) f (omega arith) e h
+  matched-closed false may (b ∷ bs) f e h = h b (inl refl)
 
-  satisfied-closed : (bs : List Binding) (f : Binding → Tree Value) → Few bs → ((b : Binding) → In b bs → Q Value (f b)) → Q Value (bind (satisfied r bs) f)
-  satisfied-closed [] f e h = closed .of-stop Value 24 (omega arith, omega arith)
-  satisfied-closed (b ∷ bs) f e h = choice-closed (b ∷ bs) f (omega arith) e h
+  satisfied-closed : May → (bs : List Binding) (f : Binding → Tree Value) → Few bs → ((b : Binding) → In b bs → Q Value (f b)) → Q Value (bind (satisfied r bs) f)
+  satisfied-closed may [] f e h = closed .of-stop Value 24 (omega arith, omega arith)
+  satisfied-closed may (b ∷ bs) f e h = choice-closed may (b ∷ bs) f (omega arith) e h
 
   unique-closed : (p : Pattern) (bs : List Binding) → Q Value (unique r p bs)
   unique-closed p [] = closed .of-stop Value 25 unique-number
@@ -266,49 +288,49 @@ module _ (Q : (A : Type 0) → Tree A → Type 0) (r : ℕ) (closed : Closed Q r
     bound-closed : (p : Pattern) (s : ℕ) (f : List Binding → Tree Value) → Here s → ((bs : List Binding) → Formable p bs → Q Value (f bs)) → Q Value (bind (bindingsOf rec r p s ρ) f)
     bound-closed p s f l h = closed .of-bind (List Binding) Value (bindingsOf rec r p s ρ) f (bindings-closed p s l) (λ bs g. h bs (formable-bindings rec r p s ρ bs g))
 
-    let-be-closed : (p : Pattern) (c b : ℕ) → Under p c → Under p b → (bs : List Binding) → Formable p bs → Q Value (bind (satisfying rec r c ρ bs) (λ sat. bind (satisfied r sat) (λ β. rec b (under ρ β))))
-    let-be-closed p c b m o bs f =
+    let-be-closed : May → (p : Pattern) (c b : ℕ) → Under p c → Under p b → (bs : List Binding) → Formable p bs → Q Value (bind (satisfying rec r c ρ bs) (λ sat. bind (satisfied r sat) (λ β. rec b (under ρ β))))
+    let-be-closed may p c b m o bs f =
         closed .of-bind (List Binding) Value (satisfying rec r c ρ bs) _ (satisfying-closed c bs (over p bs c f m))
         (λ sat h.
         let some = some-satisfy rec r c ρ bs sat h in
         let few = f .few in
         let not-more = some .not-more in
-        satisfied-closed sat (λ β. rec b (under ρ β)) (omega arith) (λ β i. over p bs b f o β (some .among β i)))
+        satisfied-closed may sat (λ β. rec b (under ρ β)) (omega arith) (λ β i. over p bs b f o β (some .among β i)))
 
     -- THEOREM: it holds of what a record says.
-    pub closed-node : (pattern : ℕ → Pattern) (n : Node) → Each Here (plain n) → Each (Under (pattern (binderOf n))) (covered n) → Q Value (means pattern rec r n ρ)
+    pub closed-node : (pattern : ℕ → Pattern) (n : Node) → (Chooses pattern n → May) → Each Here (plain n) → Each (Under (pattern (binderOf n))) (covered n) → Q Value (means pattern rec r n ρ)
     unfolding means
-    closed-node pattern (truth b) l m = closed .of-give Value (boolean b)
-    closed-node pattern (whole z) l m = closed .of-give Value (integer z)
-    closed-node pattern (named x) l m = else-closed 20 (valueIn ρ x) kind-number
-    closed-node pattern (unaryOf op a) l m = then (rec a ρ) _ (l .0) (λ v. answer-closed (unary op v) (unary-number op v))
-    closed-node pattern (binaryOf op a b) l m = both-closed a b (l .0) (l .1 .0) _ (λ v w. answer-closed (binary op v w) (binary-number op v w))
-    closed-node pattern (connective c a b) l m = then (rec a ρ) _ (l .0) (λ v. right-closed b (l .1 .0) (left c v) (left-number c v))
-    closed-node pattern (if t a b) l m =
+    closed-node pattern (truth b) may l m = closed .of-give Value (boolean b)
+    closed-node pattern (whole z) may l m = closed .of-give Value (integer z)
+    closed-node pattern (named x) may l m = else-closed 20 (valueIn ρ x) kind-number
+    closed-node pattern (unaryOf op a) may l m = then (rec a ρ) _ (l .0) (λ v. answer-closed (unary op v) (unary-number op v))
+    closed-node pattern (binaryOf op a b) may l m = both-closed a b (l .0) (l .1 .0) _ (λ v w. answer-closed (binary op v w) (binary-number op v w))
+    closed-node pattern (connective c a b) may l m = then (rec a ρ) _ (l .0) (λ v. right-closed b (l .1 .0) (left c v) (left-number c v))
+    closed-node pattern (if t a b) may l m =
         then (rec t ρ) _ (l .0) (λ v. then (isTrue r v) _ (else-closed 20 (asBoolean v) kind-number) (λ y. by-test y (rec a ρ) (rec b ρ) (l .1 .0) (l .1 .1 .0)))
-    closed-node pattern (enumeration k os) l m = then (allOf rec os ρ) _ (all-closed os l) (λ vs. answer-closed (enumerated k vs) (enumerated-number k vs))
-    closed-node pattern (range a b) l m = both-closed a b (l .0) (l .1 .0) _ (λ v w. answer-closed (rangeOf v w) (range-number v w))
-    closed-node pattern (let-in p a b) l m =
+    closed-node pattern (enumeration k os) may l m = then (allOf rec os ρ) _ (all-closed os l) (λ vs. answer-closed (enumerated k vs) (enumerated-number k vs))
+    closed-node pattern (range a b) may l m = both-closed a b (l .0) (l .1 .0) _ (λ v w. answer-closed (rangeOf v w) (range-number v w))
+    closed-node pattern (let-in p a b) may l m =
         then (rec a ρ) _ (l .0)
         (λ v. closed .of-bind (List Binding) Value (formedAt r (formed (pattern p) (v ∷ []))) _ (formed-closed (pattern p) (v ∷ []))
         (λ bs g.
         let f = formable r (pattern p) (v ∷ []) bs g in
-        matched-closed (loose (pattern p)) bs (λ β. rec b (under ρ β)) (f .few) (over (pattern p) bs b f (m .0))))
-    closed-node pattern (let-be p s c b) l m = bound-closed (pattern p) s _ (l .0) (λ bs f. let-be-closed (pattern p) c b (m .0) (m .1 .0) bs f)
-    closed-node pattern (quantified q p s c) l m =
+        matched-closed (loose (pattern p)) may bs (λ β. rec b (under ρ β)) (f .few) (over (pattern p) bs b f (m .0))))
+    closed-node pattern (let-be p s c b) may l m = bound-closed (pattern p) s _ (l .0) (λ bs f. let-be-closed (may tt) (pattern p) c b (m .0) (m .1 .0) bs f)
+    closed-node pattern (quantified q p s c) may l m =
         bound-closed (pattern p) s _ (l .0) (λ bs f. then (quantify q rec r c ρ bs) _ (quantify-closed q c bs (over (pattern p) bs c f (m .0))) (λ t. closed .of-give Value (boolean t)))
-    closed-node pattern (iota p s c) l m =
+    closed-node pattern (iota p s c) may l m =
         bound-closed (pattern p) s _ (l .0) (λ bs f. then (satisfying rec r c ρ bs) _ (satisfying-closed c bs (over (pattern p) bs c f (m .0))) (λ sat. unique-closed (pattern p) sat))
-    closed-node pattern (set-comprehension p s c e) l m =
+    closed-node pattern (set-comprehension p s c e) may l m =
         bound-closed (pattern p) s _ (l .0)
         (λ bs f. comprehension-closed set c bs (over (pattern p) bs c f (m .0)) _ (one-closed addMember member-number e bs (over (pattern p) bs e f (m .1 .0))))
-    closed-node pattern (sequence-comprehension p s c e) l m =
+    closed-node pattern (sequence-comprehension p s c e) may l m =
         closed .of-bind (List Binding) Value (integerBindings rec r (pattern p) s ρ) _ (integer-bindings-closed (pattern p) s (l .0))
         (λ bs g.
         let f = formable-integers rec r (pattern p) s ρ bs g in
         comprehension-closed sequence c bs (over (pattern p) bs c f (m .0)) _ (one-closed addItem item-number e bs (over (pattern p) bs e f (m .1 .0))))
-    closed-node pattern (map-comprehension p s c k e) l m =
+    closed-node pattern (map-comprehension p s c k e) may l m =
         bound-closed (pattern p) s _ (l .0)
         (λ bs f. comprehension-closed map c bs (over (pattern p) bs c f (m .0)) _ (pair-closed k e bs (over (pattern p) bs k f (m .1 .0)) (over (pattern p) bs e f (m .1 .1 .0))))
-    closed-node pattern (application a b) l m = both-closed a b (l .0) (l .1 .0) _ (λ v w. answer-closed (applyTo v w) (apply-number v w))
-    closed-node pattern no-expression l m = closed .of-stop Value 20 kind-number
+    closed-node pattern (application a b) may l m = both-closed a b (l .0) (l .1 .0) _ (λ v w. answer-closed (applyTo v w) (apply-number v w))
+    closed-node pattern no-expression may l m = closed .of-stop Value 20 kind-number

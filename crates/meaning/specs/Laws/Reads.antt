@@ -119,12 +119,12 @@ module _ (table : List ℕ) (n : ℕ) (ok : check table ≡ Accepted n) where
   give-refusing : {A : Type 0} (a : A) → Refusing A (give a)
   give-refusing a m p e = let z : _≡_ {A = ℕ} 0 1 = cc in absurd (omega arith)
 
-  closed : (r : ℕ) → Operator r → Closed Refusing r
+  closed : (r : ℕ) → Operator r → Closed Refusing (Unit {0}) r
   closed r o =
       record {
         of-give = λ A a. give-refusing a;
         of-stop = λ A m h k p e. let d : r ≡ p = cc in subst Operator d o;
-        of-choice = λ bs h k m p g. give-refusing _ m p (g .2);
+        of-choice = λ may bs h k m p g. give-refusing _ m p (g .2);
         of-bind = λ A B t f h k m p g.
             ⊎-elim (λ w. let e = w .2 in let d : w .1 ≡ p = cc in subst Operator d (h (w .0) (w .1) (w .3))) (λ w. k (w .0) (w .1) m p (w .2)) (gives-bind-out t f (refusal m p) g);
       }
@@ -234,7 +234,7 @@ module _ (table : List ℕ) (n : ℕ) (ok : check table ≡ Accepted n) where
       (λ i k d β y.
       reads-to m (operand (recordAt rs r) i) (under ρ β) (omega (arith, operand-lower rs (fine .clear6) r i h k)) (omega (arith, operand-lower rs (fine .clear6) r i h k)) (covered-expression r i h k d)
       (covers-under r i h k ρ c d β y)) in
-      closed-node Refusing r (closed r (u, high)) (λ a σ. meaningTo (sheet table) m a σ) ρ (sheet table .pattern) (sheet table .node r) (all .plain-ones) (all .covered-ones))
+      closed-node Refusing (Unit {0}) r (closed r (u, high)) (λ a σ. meaningTo (sheet table) m a σ) ρ (sheet table .pattern) (sheet table .node r) (λ may. tt) (all .plain-ones) (all .covered-ones))
 
   -- THEOREM: every refusal of an accepted table's tree is at a record of kind 4 to 21: none at a literal, a name or a pattern.
   pub refuses-at : (m p : ℕ) → Gives (tree table) (refusal m p) → Operator p

@@ -34,12 +34,12 @@ pub record Sure {A : Type 0} (t : Tree A) : Type 0 where
   pub numbered : Numbered t
   pub narrow : Narrow t
 
-sure-closed : (r : ℕ) → Closed (λ A t. Sure t) r
+sure-closed : (r : ℕ) → Closed (λ A t. Sure t) (Unit {0}) r
 sure-closed r =
     record {
       of-give = λ A a. record { full = tt; numbered = tt; narrow = tt };
       of-stop = λ A n h. record { full = tt; numbered = h; narrow = tt };
-      of-choice = λ bs h k. record { full = (h, λ i l. tt); numbered = λ i l. tt; narrow = (k, λ i l. tt) };
+      of-choice = λ may bs h k. record { full = (h, λ i l. tt); numbered = λ i l. tt; narrow = (k, λ i l. tt) };
       of-bind = λ A B t f h k.
           record {
             full = full-bind t f (h .full) (λ a g. k a g .full);
@@ -57,7 +57,7 @@ sure-to : (s : Sheet) (n r : ℕ) (ρ : State) → Sure (meaningTo s n r ρ)
 unfolding meaningTo
 sure-to s zero r ρ = sure-closed r .of-stop Value 20 (omega arith, omega arith)
 sure-to s (suc n) r ρ =
-    closed-node (λ A t. Sure t) r (sure-closed r) (λ a σ. meaningTo s n a σ) ρ (s .pattern) (s .node r)
+    closed-node (λ A t. Sure t) (Unit {0}) r (sure-closed r) (λ a σ. meaningTo s n a σ) ρ (s .pattern) (s .node r) (λ c. tt)
     (each-one (λ a. Sure (meaningTo s n a ρ)) (λ a. sure-to s n a ρ) (plain (s .node r)))
     (each-one _ (λ a β c. sure-to s n a (under ρ β)) (covered (s .node r)))
 
@@ -107,12 +107,12 @@ placed-up q r (give a) l h = tt
 placed-up q r (stop n p) l h = omega arith
 placed-up q r (choose p n ways) l h = let m = h .0 in (omega arith, λ i j. placed-up q r (ways i) l (h .1 i j))
 
-placed-closed : (r : ℕ) → Closed (λ A t. Placed r t) r
+placed-closed : (r : ℕ) → Closed (λ A t. Placed r t) (Unit {0}) r
 placed-closed r =
     record {
       of-give = λ A a. tt;
       of-stop = λ A n h. omega arith;
-      of-choice = λ bs h k. (omega arith, λ i l. tt);
+      of-choice = λ may bs h k. (omega arith, λ i l. tt);
       of-bind = λ A B t f h k. placed-bind r t f h k;
     }
 
@@ -124,7 +124,7 @@ placed-to : (s : Sheet) → Downward s → (n r : ℕ) (ρ : State) → Placed r
 unfolding meaningTo
 placed-to s d zero r ρ = omega arith
 placed-to s d (suc n) r ρ =
-    closed-node (λ A t. Placed r t) r (placed-closed r) (λ a σ. meaningTo s n a σ) ρ (s .pattern) (s .node r)
+    closed-node (λ A t. Placed r t) (Unit {0}) r (placed-closed r) (λ a σ. meaningTo s n a σ) ρ (s .pattern) (s .node r) (λ c. tt)
     (each-lower r _ (λ a l. placed-up a r (meaningTo s n a ρ) (omega arith) (placed-to s d n a ρ)) (plain (s .node r)) (d r .plain-ones))
     (each-lower r _ (λ a l β c. placed-up a r (meaningTo s n a (under ρ β)) (omega arith) (placed-to s d n a (under ρ β))) (covered (s .node r)) (d r .covered-ones))
 

@@ -302,10 +302,14 @@ well-formed table n ok r ρ h v g = only-to (sheet table) (λ q. proper table n 
 fine-unbound : FineState unbound
 fine-unbound = each-cell unbound (λ y i. subst FineCell (sym (getD-replicate names y free free i)) tt)
 
+-- THEOREM: the values of a sheet's tree are well-formed.
+pub tree-well-formed : (table : List ℕ) (n : ℕ) → check table ≡ Accepted n → (v : Value) → Gives (tree table) (value v) → WellFormed v
+tree-well-formed table n ok v g = well-formed table n ok (last (sheet table)) unbound fine-unbound v g
+
 -- THEOREM: the value of a run under a list is well-formed.
 pub run-well-formed : (table : List ℕ) (n : ℕ) → check table ≡ Accepted n → (l : List ℕ) (v : Value) (k : ℕ) (rest : List ℕ) → run (tree table) l ≡ gave v k rest → WellFormed v
 run-well-formed table n ok l v k rest e =
-    well-formed table n ok (last (sheet table)) unbound fine-unbound v (subst (Given (tree table)) e (follow-given (tree table) limit l))
+    tree-well-formed table n ok v (subst (Given (tree table)) e (follow-given (tree table) limit l))
 
 -- What evaluating answers as a value.
 final-gave : (p : ℕ) (r : Run Value) (v : Value) → final p r ≡ result v → (k : ℕ) × (rest : List ℕ) × (r ≡ gave v k rest)

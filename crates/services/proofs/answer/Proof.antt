@@ -27,7 +27,7 @@ enum-known-checked-2 c = search needs
 pack-requires-2 : tie.Need-pack-requires-2
 pack-requires-2 c κs =
     let low = refused-low (c .before .before .before .args .checked) _ _ (c .before .checked2 .given .1) (c .before .before .before .pre) in
-    (omega (arith, low .0), omega (arith, low .1), omega arith)
+    (omega (arith, low .1), omega (arith, low .2), omega arith)
 
 -- src/lib.rt:32:1
 returns : tie.Need-returns

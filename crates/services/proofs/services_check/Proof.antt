@@ -3,10 +3,9 @@ use mathlib.Core.Path.{sym, ap, subst, _∙_}
 use Rattle.choices.specs.Tree.{result}
 use Rattle.meaning.specs.Service.{accepted}
 use Rattle.tables.specs.declared.Checked.{Checked}
-use Rattle.services.specs.Answer.{packed, records}
-use Rattle.services.specs.Bounds.{Small, small-check}
-use Rattle.services.proofs.Zeros.{cleared-short, cleared-enough}
-use Rattle.services.proofs.Packing.{checks-short, checks-enough}
+use Rattle.meaning.specs.Answer.{packed, records}
+use Rattle.meaning.specs.Laws.ReadBack.{Small, small-check}
+use Rattle.services.proofs.Packing.{short-call, enough-call}
 use borrow.Author.Needs.{needs}
 use Rattle.services.proofs.services_check.Statement.{statement}
 use Rattle.services.proofs.services_check.Tie as tie
@@ -23,11 +22,7 @@ pack-requires c κs = search needs
 
 -- src/lib.rt:60:9
 returns : tie.Need-returns
-returns c =
-    record {
-      answers = c .pack .ensures ∙ checks-short (c .before .before .before .before .args .table .now) (c .before .before .before .before .args .scratch .now) (c .before .if1 .taken);
-      leaves = cleared-short (c .before .before .before .before .args .scratch .now) (c .before .if1 .taken);
-    }
+returns c = short-call (c .before .before .before .before .args .table .now) (c .before .before .before .before .args .scratch .now) (c .pack .result) (c .before .if1 .taken) (c .pack .ensures)
 
 -- src/lib.rt:62:5
 clear-requires : tie.Need-clear-requires
@@ -48,12 +43,8 @@ same-length c = search needs
 -- src/lib.rt:55:1
 returns-2 : tie.Need-returns-2
 returns-2 c =
-    record {
-      answers =
-          c .answer .ensures ∙ ap (λ (x : Checked). packed records (accepted x (λ n. result n))) (c .before .check .ensures)
-          ∙ checks-enough (c .before .before .before .before .before .before .before .before .before .args .table .now) (c .before .before .before .before .before .before .before .before .before .args .scratch .now) (c .before .before .before .before .before .before .if1 .left);
-      leaves = c .before .before .before .before .clear .ensures ∙ cleared-enough (c .before .before .before .before .before .before .before .before .before .args .scratch .now) (c .before .before .before .before .before .before .if1 .left);
-    }
+    enough-call (c .before .before .before .before .before .before .before .before .before .args .table .now) (c .before .before .before .before .before .before .before .before .before .args .scratch .now) (c .answer .result) _ (c .before .before .before .before .before .before .if1 .left)
+    (c .answer .ensures ∙ ap (λ (x : Checked). packed records (accepted x (λ n. result n))) (c .before .check .ensures)) (c .before .before .before .before .clear .ensures)
 
 pub services-check-spec : {M : Type 1} → statement M
 services-check-spec =

@@ -99,8 +99,8 @@ module _ (rec : Evaluates) (r c b : ℕ) (ρ : State) where
   24-then-none (x ∷ sat) e β i = let z : _≡_ {A = ℕ} 1 0 = ap waysOf e in absurd (omega arith)
 
 -- No binding matches a member of the set and makes the condition true.
-abbrev pub NoBinding : Evaluates → Pattern → ℕ → State → Items → Type 0
-NoBinding rec p c ρ vs = (m : Value) (β : Binding) → In m (listOf vs) → Matches p m β → IsTrue rec c ρ β → ⊥
+abbrev pub NoneTrue : Evaluates → Pattern → ℕ → State → Items → Type 0
+NoneTrue rec p c ρ vs = (m : Value) (β : Binding) → In m (listOf vs) → Matches p m β → IsTrue rec c ρ β → ⊥
 
 -- ---- what follows, by the bindings that make the condition true
 
@@ -120,14 +120,14 @@ module _ (rec : Evaluates) (r : ℕ) (p : Pattern) (c b : ℕ) (ρ : State) (vs 
   among : (m : Value) (β : Binding) → In m (listOf vs) → Matches p m β → IsTrue rec c ρ β → In β (filtered .sat)
   among m β i k y = filtered .whole β (subst (In β) (sym all-bindings) (bindings-exactly p (listOf vs) β .1 (m, i, k))) y
 
-  none-among : NoBinding rec p c ρ vs → (β : Binding) → In β (filtered .sat) → ⊥
+  none-among : NoneTrue rec p c ρ vs → (β : Binding) → In β (filtered .sat) → ⊥
   none-among n β i =
       let (m, j, k) = bindings-exactly p (listOf vs) β .0 (subst (In β) all-bindings (filtered .sound β i .0)) in
       n m β j k (filtered .sound β i .1)
 
   -- THEOREM: where the set operand gave a set, forming its bindings gave neither 29 nor 30, and the condition is true or false at each binding,
   -- what follows is 24 at the let-be exactly when no binding matches a member of the set and makes the condition true.
-  pub let-be-24 : (afterSet rec r p c b ρ (collection set vs) ≡ stop 24 r) ↔ NoBinding rec p c ρ vs
+  pub let-be-24 : (afterSet rec r p c b ρ (collection set vs) ≡ stop 24 r) ↔ NoneTrue rec p c ρ vs
   let-be-24 = (
     λ t m β i k y. 24-then-none rec r c b ρ (filtered .sat) (sym after-is ∙ t) β (among m β i k y),
     λ n. after-is ∙ none-then-24 rec r c b ρ (filtered .sat) (none-among n),
@@ -155,7 +155,7 @@ satisfied-not-24 rec r q b ρ (x ∷ sat) k l left h p e β i =
 -- condition true.
 pub let-be-run : (s : Sheet) → Downward s → (r p t c b : ℕ) → s .node r ≡ let-be p t c b → (ρ : State) (k : ℕ) (l : List ℕ) (vs : Items) (j : ℕ) (m : List ℕ)
     → follow (meaning s t ρ) k l ≡ gave (collection set vs) j m → (bs : List Binding) → formed (s .pattern p) (listOf vs) ≡ bound bs → ((β : Binding) → In β bs → Decided (meaning s) c ρ β)
-    → ((left : List ℕ) × (follow (meaning s r ρ) k l ≡ stopped 24 r left)) ↔ NoBinding (meaning s) (s .pattern p) c ρ vs
+    → ((left : List ℕ) × (follow (meaning s r ρ) k l ≡ stopped 24 r left)) ↔ NoneTrue (meaning s) (s .pattern p) c ρ vs
 let-be-run s d r p t c b e ρ k l vs j m g bs f h = (
   λ (left, w) x β i y z.
       satisfied-not-24 (meaning s) r b b ρ (filtered (meaning s) r (s .pattern p) c b ρ vs bs f h .sat) j m left below (λ σ. placed-meaning s d b σ)

@@ -1,4 +1,0 @@
-pub mod Answer
-pub mod Lent
-pub mod Bounds
-pub mod Services
