@@ -12,7 +12,10 @@ use crate::lowest::either;
 use crate::lowest::is_between;
 use crate::lowest::lower;
 use crate::lowest::next_low;
+use tables::Index;
+use tables::MOST_RECORDS;
 use tables::Role;
+use tables::kinds;
 use tables::reading::kind;
 use tables::reading::operand;
 use tables::reading::operand_count;
@@ -32,7 +35,7 @@ fn is_of_sort(role: Role, kind: usize) -> bool
 }
 
 // The number n is marked.
-fn is_marked(marks: &[u8; 200], n: usize) -> bool
+fn is_marked(marks: &[u8; MOST_RECORDS], n: usize) -> bool
     requires { ⌜ n < 200 ⌝ }
     ensures { λ b. ⌜ b ≡ eqb (getD (now (marks .entry)) n 0) 1 ⌝ }
 {
@@ -40,16 +43,16 @@ fn is_marked(marks: &[u8; 200], n: usize) -> bool
 }
 
 // Marks the number n, if it can be a record's.
-fn mark(marks: &mut [u8; 200], n: usize)
+fn mark(marks: &mut [u8; MOST_RECORDS], n: usize)
     ensures { λ _. ⌜ ((ms : List ℕ) → Marked (now (marks .entry)) ms → Marked (now (marks .exit)) (ms ++ (n ∷ []))) ⌝ }
 {
-    if n < 200 {
+    if n < MOST_RECORDS {
         marks[n] = 1;
     }
 }
 
 // Operand i of record r is at fault, where the numbers named before it are marked.
-fn is_bad(table: &[u8], index: &[u16; 200], r: usize, i: usize, marks: &[u8; 200]) -> bool
+fn is_bad(table: &[u8], index: &Index, r: usize, i: usize, marks: &[u8; MOST_RECORDS]) -> bool
     requires { ⌜ AskBad (now table) (now index) r i (now marks) ⌝ }
     ensures { λ b. ⌜ b ≡ isBad (records (now (table .entry))) r i ⌝ }
 {
@@ -65,7 +68,7 @@ fn is_bad(table: &[u8], index: &[u16; 200], r: usize, i: usize, marks: &[u8; 200
 }
 
 // Whether some operand of record r is at fault; marks the numbers that it names.
-fn mark_operands(table: &[u8], index: &[u16; 200], r: usize, marks: &mut [u8; 200]) -> bool
+fn mark_operands(table: &[u8], index: &Index, r: usize, marks: &mut [u8; MOST_RECORDS]) -> bool
     requires { ⌜ AskMarks (now table) (now index) r (now marks) ⌝ }
     ensures { λ b. ⌜ MarkedOne (now (table .entry)) r (now (marks .exit)) b ⌝ }
 {
@@ -82,7 +85,7 @@ fn mark_operands(table: &[u8], index: &[u16; 200], r: usize, marks: &mut [u8; 20
 }
 
 // The lowest record with an operand at fault; marks all numbers that are named.
-fn mark_all(table: &[u8], index: &[u16; 200], count: usize, marks: &mut [u8; 200]) -> usize
+fn mark_all(table: &[u8], index: &Index, count: usize, marks: &mut [u8; MOST_RECORDS]) -> usize
     requires { ⌜ AskAll (now table) (now index) count (now marks) ⌝ }
     ensures { λ p. ⌜ MarkedAll (now (table .entry)) (now (marks .exit)) p ⌝ }
 {
@@ -97,7 +100,7 @@ fn mark_all(table: &[u8], index: &[u16; 200], count: usize, marks: &mut [u8; 200
 }
 
 // Record r is never named, or is the last and a pattern.
-fn is_stray(table: &[u8], index: &[u16; 200], count: usize, r: usize, marks: &[u8; 200]) -> bool
+fn is_stray(table: &[u8], index: &Index, count: usize, r: usize, marks: &[u8; MOST_RECORDS]) -> bool
     requires { ⌜ AskStray (now table) (now index) count (now marks) × (r < count) ⌝ }
     ensures { λ b. ⌜ b ≡ isStray (records (now (table .entry))) r ⌝ }
 {
@@ -109,7 +112,7 @@ fn is_stray(table: &[u8], index: &[u16; 200], count: usize, r: usize, marks: &[u
 }
 
 // The lowest such record.
-fn lowest_stray(table: &[u8], index: &[u16; 200], count: usize, marks: &[u8; 200]) -> usize
+fn lowest_stray(table: &[u8], index: &Index, count: usize, marks: &[u8; MOST_RECORDS]) -> usize
     requires { ⌜ AskStray (now table) (now index) count (now marks) ⌝ }
     ensures { λ p. ⌜ p ≡ lowestOf (isStray (records (now (table .entry)))) count ⌝ }
 {
@@ -124,11 +127,11 @@ fn lowest_stray(table: &[u8], index: &[u16; 200], count: usize, marks: &[u8; 200
 }
 
 // The lowest record that breaks rule 6; the number of records where none does.
-pub fn lowest6(table: &[u8], index: &[u16; 200], count: usize) -> usize
+pub fn lowest6(table: &[u8], index: &Index, count: usize) -> usize
     requires { ⌜ Whole (now table) (now index) count ⌝ }
     ensures { λ p. ⌜ p ≡ lowestOf (fault6 (records (now (table .entry)))) count ⌝ }
 {
-    let mut marks = [0u8; 200];
+    let mut marks = [0u8; MOST_RECORDS];
     let bad = mark_all(table, index, count, &mut marks);
     let stray = lowest_stray(table, index, count, &marks);
     lower(bad, stray)
