@@ -9,7 +9,6 @@ ghost use Rattle.tables.specs.Sheet.{lowest as lowestOf};
 ghost use Rattle.tables.specs.Accepted.{records};
 ghost use Rattle.checking.specs.Naming.{Marked, AskBad, AskMarks, MarkedOne, Whole, AskAll, MarkedAll, AskStray};
 use crate::lowest::either;
-use crate::lowest::is_between;
 use crate::lowest::lower;
 use crate::lowest::next_low;
 use tables::Index;
@@ -20,17 +19,19 @@ use tables::reading::kind;
 use tables::reading::operand;
 use tables::reading::operand_count;
 use tables::reading::role;
+use tables::shape::is_expression;
+use tables::shape::is_pattern;
 
 // A record of this kind is of the sort that the role asks for.
 fn is_of_sort(role: Role, kind: usize) -> bool
     ensures { λ b. ⌜ b ≡ isOfSort role kind ⌝ }
 {
     match role {
-        Role::Plain => is_between(1, kind, 21),
-        Role::Condition => is_between(1, kind, 21),
-        Role::Body => is_between(1, kind, 21),
-        Role::Pattern => is_between(32, kind, 40),
-        Role::Name => kind == 32,
+        Role::Plain => is_expression(kind),
+        Role::Condition => is_expression(kind),
+        Role::Body => is_expression(kind),
+        Role::Pattern => is_pattern(kind),
+        Role::Name => kind == kinds::NAME_PATTERN,
     }
 }
 
@@ -105,7 +106,7 @@ fn is_stray(table: &[u8], index: &Index, count: usize, r: usize, marks: &[u8; MO
     ensures { λ b. ⌜ b ≡ isStray (records (now (table .entry))) r ⌝ }
 {
     if r + 1 == count {
-        return is_between(32, kind(table, index, r), 40);
+        return is_pattern(kind(table, index, r));
     }
     let marked = is_marked(marks, r);
     !marked

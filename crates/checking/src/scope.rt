@@ -19,6 +19,7 @@ use tables::reading::kind;
 use tables::reading::operand;
 use tables::reading::operand_count;
 use tables::reading::role;
+use tables::shape::is_loose;
 
 // A condition, and a loose pattern; the bits from 2 on are names.
 const CONDITION: u32 = 1;
@@ -54,13 +55,7 @@ fn own(table: &[u8], index: &Index, r: usize) -> u32
     if k == kinds::NAME_PATTERN {
         return bit(field(table, index, r, 0) + 2);
     }
-    if k == kinds::SET_PATTERN {
-        return LOOSE;
-    }
-    if k == kinds::UNION_PATTERN {
-        return LOOSE;
-    }
-    if k == kinds::CONCATENATION_PATTERN {
+    if is_loose(k) {
         return LOOSE;
     }
     0

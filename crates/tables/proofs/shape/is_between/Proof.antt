@@ -1,7 +1,7 @@
 -- Two tests.
 use borrow.Author.Tests.{lt-leb, le-leb}
-use Rattle.checking.proofs.lowest.is_between.Statement.{statement}
-use Rattle.checking.proofs.lowest.is_between.Tie as tie
+use Rattle.tables.proofs.shape.is_between.Statement.{statement}
+use Rattle.tables.proofs.shape.is_between.Tie as tie
 
 returns : tie.Need-returns
 returns c = rw (lt-leb (c .before .args .low) (c .before .args .n) (c .if1 .taken))
