@@ -4,7 +4,7 @@ use mathlib.Core.Bool.{Bool, true, false, not, Bool·beq, _&&_, _||_}
 use mathlib.Core.List.{map}
 use Prim.Native.Nat.{ℕ, _≤_, _<_}
 use native.Mathlib.Omega.{arith}
-use borrow.Author.Tests.{lt-leb, leb-true, eqb-true, ne-eqb}
+use borrow.Author.Tests.{lt-leb, le-leb, leb-true, ne-eqb}
 use lib.Dec.{eqb, leb}
 use lib.ListN.{List·getD-eq-default}
 use Rattle.tables.specs.Record.{Record, Shape, missing, shapes, shape, ofExpressions, ofPatterns, isExpression, isPattern}
@@ -57,7 +57,13 @@ binder-kinds =
     on-kinds isBinder (λ k. leb 12 k && leb k 20)
     (λ k h. ap (λ (s : Shape). some (map isCovered (s .roles))) (beyond k h) ∙ sym (off-and (leb 12 k) (lt-leb k 20 (omega arith)))) refl
 
--- Bounds of a pattern's kind, and of a binder's.
+-- Bounds of each.
+pub expression-least : (k : ℕ) → isExpression k ≡ true → 1 ≤ k
+expression-least k e = leb-true 1 k (and-left _ (leb k 21) (sym (expression-kinds k) ∙ e))
+
+pub expression-most : (k : ℕ) → isExpression k ≡ true → k ≤ 21
+expression-most k e = leb-true k 21 (and-right (leb 1 k) _ (sym (expression-kinds k) ∙ e))
+
 pub pattern-most : (k : ℕ) → isPattern k ≡ true → k ≤ 40
 pattern-most k e = leb-true k 40 (and-right (leb 32 k) _ (sym (pattern-kinds k) ∙ e))
 
@@ -66,3 +72,13 @@ pattern-least k e = leb-true 32 k (and-left _ (leb k 40) (sym (pattern-kinds k) 
 
 pub binder-most : (k : ℕ) → isBinder k ≡ true → k ≤ 20
 binder-most k e = leb-true k 20 (and-right (leb 12 k) _ (sym (binder-kinds k) ∙ e))
+
+-- And from the bounds.
+pub expression-kind : (k : ℕ) → 1 ≤ k → k ≤ 21 → isExpression k ≡ true
+expression-kind k l m = expression-kinds k ∙ rw (le-leb 1 k l, le-leb k 21 m)
+
+pub pattern-kind : (k : ℕ) → 32 ≤ k → k ≤ 40 → isPattern k ≡ true
+pattern-kind k l m = pattern-kinds k ∙ rw (le-leb 32 k l, le-leb k 40 m)
+
+pub binder-kind : (k : ℕ) → 12 ≤ k → k ≤ 20 → isBinder k ≡ true
+binder-kind k l m = binder-kinds k ∙ rw (le-leb 12 k l, le-leb k 20 m)
