@@ -5,7 +5,7 @@ ghost use lib.ListN.{length};
 ghost use Rattle.tables.specs.Record.{roleAt};
 ghost use Rattle.tables.specs.Table.{recordAt};
 ghost use Rattle.tables.specs.Sheet.{lowest as lowestOf, patternOf};
-ghost use Rattle.tables.specs.Check.{fault7 as fault7Of, fault8 as fault8Of};
+ghost use Rattle.tables.specs.Check.{mostRecords, fault7 as fault7Of, fault8 as fault8Of};
 ghost use Rattle.tables.specs.Accepted.{records};
 ghost use Rattle.tables.specs.Reading.{Here};
 ghost use Rattle.checking.specs.Scopes.{hasBit, union as unionIn, own as ownOf, held as heldOf, given as givenBy, Below, Around, AskBelow, Kept, AskGiven, AskPush, AskAround, AskName, AskChoice, AskScoped};
@@ -79,7 +79,7 @@ fn held_at(table: &[u8], index: &Index, r: usize, below: &[u32; MOST_RECORDS]) -
 
 // Fills in the bits below each record, from the first on.
 fn fill_below(table: &[u8], index: &Index, count: usize, below: &mut [u32; MOST_RECORDS])
-    requires { ⌜ Kept (now table) (now index) count × (length (now below) ≡ 200) ⌝ }
+    requires { ⌜ Kept (now table) (now index) count × (length (now below) ≡ mostRecords) ⌝ }
     ensures { λ _. ⌜ Below (records (now (table .entry))) (now (below .exit)) (length (records (now (table .entry)))) ⌝ }
 {
     let mut r = 0;

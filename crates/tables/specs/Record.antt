@@ -106,6 +106,9 @@ shapes =
     choosing (just pattern nothing (Pattern ∷ Pattern ∷ [])) ∷
     []
 
+abbrev pub lastKind : ℕ
+lastKind = 40
+
 unfoldable pub shape : ℕ → Shape
 shape kind = getD shapes kind missing
 

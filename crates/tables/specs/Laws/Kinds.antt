@@ -16,14 +16,14 @@ pub beyond : (k : ℕ) → 40 < k → shape k ≡ missing
 unfolding shape
 beyond k h = List·getD-eq-default shapes missing {n = k} (omega arith)
 
+beq-same : (b c : Bool) → Bool·beq b c ≡ true → b ≡ c
+beq-same true true e = refl
+beq-same true false e = never e
+beq-same false true e = never e
+beq-same false false e = refl
+
 -- Two tests of a kind that agree above 40, and by computing on each kind up to it, agree.
 module _ (one other : ℕ → Bool) (above : (k : ℕ) → 40 < k → one k ≡ other k) where
-  beq-same : (b c : Bool) → Bool·beq b c ≡ true → b ≡ c
-  beq-same true true e = refl
-  beq-same true false e = never e
-  beq-same false true e = never e
-  beq-same false false e = refl
-
   pub on-kinds : any (λ k. not (Bool·beq (one k) (other k))) 41 ≡ false → (k : ℕ) → one k ≡ other k
   on-kinds e k = split 40 k (above k) (λ h. beq-same (one k) (other k) (each (λ k. Bool·beq (one k) (other k)) 41 e k (omega arith)))
 
