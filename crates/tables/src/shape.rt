@@ -99,13 +99,13 @@ pub fn is_between(low: usize, n: usize, high: usize) -> bool
 pub fn is_expression(kind: usize) -> bool
     ensures { λ r. ⌜ r ≡ isExpression kind ⌝ }
 {
-    is_between(kinds::BOOLEAN, kind, kinds::APPLY)
+    is_between(kinds::BOOLEAN, kind, kinds::LAST_EXPRESSION)
 }
 
 pub fn is_pattern(kind: usize) -> bool
     ensures { λ r. ⌜ r ≡ isPattern kind ⌝ }
 {
-    is_between(kinds::NAME_PATTERN, kind, kinds::LAST)
+    is_between(kinds::FIRST_PATTERN, kind, kinds::LAST)
 }
 
 // A kind that binds the names of its first operand.
