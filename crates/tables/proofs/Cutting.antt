@@ -13,7 +13,8 @@ use Rattle.tables.specs.Record.{Record, shape, size, isFit}
 use Rattle.tables.specs.Table.{first, Next, fault, one, next, Cut, after, cutBy, cut, noRecord}
 use Rattle.tables.specs.Check.{mostRecords}
 use Rattle.tables.specs.Laws.{split, each}
-use Rattle.tables.specs.Accepted.{IsNext, next-is, records, fit-kind, fit-most}
+use Rattle.tables.specs.Accepted.{records, fit-kind, fit-most}
+use Rattle.tables.specs.Laws.Cutting.{IsNext, next-is}
 use Rattle.tables.specs.Reading.{Stands, Places, Measured, CutOut}
 use Rattle.tables.proofs.Fit.{fields-long, field-at}
 

@@ -13,6 +13,10 @@ use Rattle.tables.specs.Record.{Record, size, headOf, operandsOf, shape,
 use Rattle.tables.specs.Table.{pick, recordAt, kindAt}
 use Rattle.tables.specs.Sheet.{any, lowest, isIn, foldBy, fold, parent, roleOf, roleIn, climbBy, climb}
 use Rattle.tables.specs.Check.{allNamed, namedBefore}
+-- The rows of kinds; cutting a table; operands and roles.
+pub mod Kinds
+pub mod Cutting
+pub mod Operands
 
 -- ---- truths
 
