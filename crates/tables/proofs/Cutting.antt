@@ -41,7 +41,7 @@ module _ (bytes : List ℕ) (some : 0 < length bytes) where
   next-unfit h l m e =
       rw (ne-eqb (length bytes) 0 (omega arith), le-ltb (length bytes) 4 h, le-ltb (word bytes 0) 4 l, le-ltb (length bytes) (word bytes 0) m, e)
 
-  pub next-one : 4 ≤ length bytes → 4 ≤ word bytes 0 → word bytes 0 ≤ length bytes → isFit (first bytes) ≡ true → next bytes ≡ one (first bytes) (drop (word bytes 0) bytes)
+  next-one : 4 ≤ length bytes → 4 ≤ word bytes 0 → word bytes 0 ≤ length bytes → isFit (first bytes) ≡ true → next bytes ≡ one (first bytes) (drop (word bytes 0) bytes)
   unfolding next
   next-one h l m e =
       rw (ne-eqb (length bytes) 0 (omega arith), le-ltb (length bytes) 4 h, le-ltb (word bytes 0) 4 l, le-ltb (length bytes) (word bytes 0) m, e)
