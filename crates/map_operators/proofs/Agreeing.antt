@@ -18,10 +18,11 @@ use Rattle.collections.specs.Finding.{AtKey, found-at, found-nothing}
 use Rattle.operators.specs.Answer.{Answer, refused, clash, sized}
 use Rattle.operators.specs.Gather.{everyEntry, enterAll}
 use Rattle.operators.specs.Maps.{agrees, compatible}
-use Rattle.scalars.specs.declared.Applied.{Applied}
-use Rattle.scalars.specs.declared.Applied.the-variants.{Refused}
-use Rattle.scalars.specs.Applied.{Applies}
-use Rattle.sequence_operators.specs.Kinds.{HasTwo, OnBoth, same-items, both-by, both-off}
+use Rattle.calling.specs.declared.Applied.{Applied}
+use Rattle.calling.specs.declared.Applied.the-variants.{Refused}
+use Rattle.calling.specs.Applied.{Applies}
+use Rattle.calling.specs.Operands.{HasTwo, OnBoth}
+use Rattle.calling.proofs.Kinding.{same-items, both-by, both-off}
 use Rattle.map_operators.specs.Contract.{Beside, Agrees, Compatible}
 use Rattle.map_operators.proofs.Pairs.{Next, next}
 
@@ -50,14 +51,13 @@ pub record Agreeing (s : List ℕ) (base end p : ℕ) : Type 0 where
 from-items : {s : List ℕ} {base : ℕ} {r : Bool} (h : HasTwo map map s base) → r ≡ compatible (h .left .items) (h .right .items) → Compatible s base r
 from-items h e vs ws a b = e ∙ ap₂ compatible (same-items (h .left .here) a) (same-items (h .right .here) b)
 
-pub agree-start : {s : List ℕ} {base n : ℕ} → n ≡ word s (base + 512) → HasTwo map map s base → Agreeing s base (base + 512 + n) (base + 516)
+pub agree-start : {s : List ℕ} {base n : ℕ} → n ≡ word s (base + 512) → HasTwo map map s base → Agreeing s base (base + 512 + n) (base + 512 + 4)
 agree-start {s} {base} {n} e h =
-    let place : base + 512 + 4 ≡ base + 516 = omega arith in
     record {
       maps = h;
       rest = h .right .items;
       paired = collection-shaped (h .right .here .fine) .0;
-      rest-at = subst (λ (i : ℕ). ItemsAt s i (base + 512 + n) (h .right .items)) place (items-to e (h .right .here));
+      rest-at = items-to e (h .right .here);
       so = refl;
     }
 

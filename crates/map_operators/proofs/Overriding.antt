@@ -24,9 +24,11 @@ use Rattle.collections.specs.Building.{entered, EntryRoom, Maps, Enters}
 use Rattle.operators.specs.Answer.{closed, sized, tooLarge}
 use Rattle.operators.specs.Gather.{enterAll}
 use Rattle.operator_laws.specs.EnumerationLaws.{fits, fits-not}
-use Rattle.scalars.specs.declared.Applied.the-variants.{Done, Refused}
-use Rattle.scalars.specs.AppliedLaws.{is-done, is-off, kept-then, kept-outside, copyable-down, copied-kept}
-use Rattle.sequence_operators.specs.Kinds.{HasTwo, OnBoth, both-by}
+use Rattle.calling.specs.declared.Applied.the-variants.{Done, Refused}
+use Rattle.calling.proofs.Answering.{is-done, is-off}
+use Rattle.calling.proofs.Framing.{kept-then, kept-outside, copyable-down, copied-kept}
+use Rattle.calling.specs.Operands.{HasTwo, OnBoth}
+use Rattle.calling.proofs.Kinding.{both-by}
 use Rattle.map_operators.proofs.Pairs.{Next, next}
 use Rattle.map_operators.proofs.Agreeing.{over}
 use Rattle.map_operators.proofs.Parts.{sizes-entered, entered-new, entered-there, entered-none}

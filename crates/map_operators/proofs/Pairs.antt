@@ -10,8 +10,8 @@ use Rattle.values.specs.Place.{At, ItemsAt}
 use Rattle.values.specs.Records.{run}
 use Rattle.values.specs.Encoding.{size-low}
 use Rattle.operators.specs.Answer.{is}
-use Rattle.scalars.specs.declared.Applied.{Applied}
-use Rattle.scalars.specs.Applied.{Applies, done}
+use Rattle.calling.specs.declared.Applied.{Applied}
+use Rattle.calling.specs.Applied.{Applies, done}
 
 -- the value that an operator left
 pub value-of : {t : List ℕ} {base : ℕ} {r : Applied} {v : Value} → Applies t base r (is v) → At t base v

@@ -20,10 +20,12 @@ use Rattle.collections.specs.Built.{at-apart}
 use Rattle.operators.specs.Answer.{Answer, is}
 use Rattle.operators.specs.Gather.{keepEntries}
 use Rattle.operator_laws.specs.EntryLaws.{keep-true, keep-false, paired-keep, ascending-keys}
-use Rattle.scalars.specs.declared.Applied.the-variants.{Done}
-use Rattle.scalars.specs.AppliedLaws.{is-done, kept-then, kept-less, copyable-down, copied-kept}
-use Rattle.sequence_operators.specs.Kinds.{HasTwo, OnItems, OnBoth, same-items, both-by}
-use Rattle.sequence_operators.specs.Packing.{Packing, pack-start, pack-past, pack-move, pack-end}
+use Rattle.calling.specs.declared.Applied.the-variants.{Done}
+use Rattle.calling.proofs.Answering.{is-done}
+use Rattle.calling.proofs.Framing.{kept-then, kept-less, copyable-down, copied-kept}
+use Rattle.calling.specs.Operands.{HasTwo, OnItems, OnBoth}
+use Rattle.calling.proofs.Kinding.{same-items, both-by}
+use Rattle.gathering.proofs.Packing.{Packing, pack-start, pack-past, pack-move, pack-end}
 use Rattle.map_operators.specs.Contract.{Beside, passes, Passes, Restrictable, Restricts}
 use Rattle.map_operators.proofs.Pairs.{Next, next, value-of}
 

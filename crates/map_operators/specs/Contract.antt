@@ -10,7 +10,7 @@ use Rattle.collections.specs.Finding.{HoldsKind}
 use Rattle.collections.specs.Building.{Apart}
 use Rattle.operators.specs.Gather.{keepEntries}
 use Rattle.operators.specs.Maps.{agrees, compatible}
-use Rattle.scalars.specs.Applied.{Kept}
+use Rattle.calling.specs.Scratch.{Kept}
 
 -- ---- an entry beside a map or a set
 

@@ -1,15 +1,15 @@
 // The operators on maps, on values in scratch.
+use calling::Applied;
 use collections::building::Entered;
 use collections::finding::Found;
-use scalars::Applied;
 ghost use Prim.Native.Nat.{_≤_};
 ghost use Rattle.values.specs.Value.{set, sequence, map, collection, none, everyOther, keys, mapped};
 ghost use Rattle.operators.specs.Answer.{is, sized};
 ghost use Rattle.operators.specs.Gather.{insertAll, enterAll};
 ghost use Rattle.operators.specs.Operators.{unary, binary};
-ghost use Rattle.scalars.specs.declared.Applied.the-variants.{Done};
-ghost use Rattle.scalars.specs.Applied.{One, Two, OnOne, OnTwo};
-ghost use Rattle.sequence_operators.specs.Kinds.{Has, HasTwo, OnItems, OnBoth};
+ghost use Rattle.calling.specs.declared.Applied.the-variants.{Done};
+ghost use Rattle.calling.specs.Applied.{One, Two, OnOne, OnTwo};
+ghost use Rattle.calling.specs.Operands.{Has, HasTwo, OnItems, OnBoth};
 ghost use Rattle.map_operators.specs.Contract.{Beside, Agrees, Passes, Compatible, Restrictable, Restricts};
 
 // The kinds that operands have and values are given.
@@ -59,7 +59,7 @@ fn range(s: &mut [u8], base: usize) -> Applied
     ensures { λ r. ⌜ OnItems map (λ vs. is (collection set (insertAll none (mapped vs)))) (now (s .entry)) (now (s .exit)) base r ⌝ }
 {
     every_other(s, base, false);
-    sequence_operators::unary_sequence(s, base, 10)
+    gathering::elements(s, base)
 }
 
 // The unary operators 14 and 15.
@@ -96,8 +96,8 @@ fn compatible(s: &[u8], base: usize) -> bool
     requires { ⌜ HasTwo map map (now s) base ⌝ }
     ensures { λ r. ⌜ Compatible (now (s .entry)) base r ⌝ }
 {
-    let end = base + 512 + values::length_of(s, base + 512);
-    let mut p = base + 516;
+    let end = base + Applied::SECOND + values::length_of(s, base + Applied::SECOND);
+    let mut p = base + Applied::SECOND + 4;
     while p < end {
         let v = p + values::length_of(s, p);
         if agrees(s, base, p, v) {
@@ -120,7 +120,7 @@ fn enter_all(s: &mut [u8], base: usize) -> Applied
     while p < end {
         let v = p + values::length_of(s, p);
         let next = v + values::length_of(s, v);
-        match collections::building::enter(s, base + 512, p, v) {
+        match collections::building::enter(s, base + Applied::SECOND, p, v) {
             Entered::Done => {}
             Entered::Clash => {}
             Entered::Full => {
@@ -129,7 +129,7 @@ fn enter_all(s: &mut [u8], base: usize) -> Applied
         }
         p = next;
     }
-    values::copy_value(s, base + 512, base);
+    values::copy_value(s, base + Applied::SECOND, base);
     Applied::Done
 }
 
@@ -138,7 +138,7 @@ fn merge(s: &mut [u8], base: usize) -> Applied
     requires { ⌜ Two (now s) base ⌝ }
     ensures { λ r. ⌜ OnTwo (binary 25) (now (s .entry)) (now (s .exit)) base r ⌝ }
 {
-    if sequence_operators::kinds_are(s, base, MAP, MAP) {
+    if calling::kinds_are(s, base, MAP, MAP) {
         if compatible(s, base) {
             return enter_all(s, base);
         }
@@ -152,7 +152,7 @@ fn replace(s: &mut [u8], base: usize) -> Applied
     requires { ⌜ Two (now s) base ⌝ }
     ensures { λ r. ⌜ OnTwo (binary 26) (now (s .entry)) (now (s .exit)) base r ⌝ }
 {
-    if sequence_operators::kinds_are(s, base, MAP, MAP) {
+    if calling::kinds_are(s, base, MAP, MAP) {
         return enter_all(s, base);
     }
     Applied::Refused(Applied::WRONG_KIND)
@@ -196,9 +196,9 @@ fn restrict_domain(s: &mut [u8], base: usize) -> Applied
     requires { ⌜ Two (now s) base ⌝ }
     ensures { λ r. ⌜ OnTwo (binary 27) (now (s .entry)) (now (s .exit)) base r ⌝ }
 {
-    if sequence_operators::kinds_are(s, base, SET, MAP) {
-        restrict(s, base + 512, base, true);
-        values::copy_value(s, base + 512, base);
+    if calling::kinds_are(s, base, SET, MAP) {
+        restrict(s, base + Applied::SECOND, base, true);
+        values::copy_value(s, base + Applied::SECOND, base);
         return Applied::Done;
     }
     Applied::Refused(Applied::WRONG_KIND)
@@ -209,8 +209,8 @@ fn restrict_range(s: &mut [u8], base: usize) -> Applied
     requires { ⌜ Two (now s) base ⌝ }
     ensures { λ r. ⌜ OnTwo (binary 28) (now (s .entry)) (now (s .exit)) base r ⌝ }
 {
-    if sequence_operators::kinds_are(s, base, MAP, SET) {
-        restrict(s, base, base + 512, false);
+    if calling::kinds_are(s, base, MAP, SET) {
+        restrict(s, base, base + Applied::SECOND, false);
         return Applied::Done;
     }
     Applied::Refused(Applied::WRONG_KIND)

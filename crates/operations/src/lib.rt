@@ -1,7 +1,7 @@
 // The strict operators by number, on values in scratch: one call for all of one operand, and one for all of two.
-use scalars::Applied;
+use calling::Applied;
 ghost use Rattle.operators.specs.Operators.{unary, binary};
-ghost use Rattle.scalars.specs.Applied.{One, Two, OnOne, OnTwo};
+ghost use Rattle.calling.specs.Applied.{One, Two, OnOne, OnTwo};
 ghost use Rattle.operations.specs.Numbers.{Unary, Binary};
 
 // The numbers of the operators: the unary ones start at 1, and below the first strict binary one are and, or and =>.

@@ -1,80 +1,18 @@
-// The operators on booleans and integers, equality and the set range, on values in scratch; and what all operators answer.
+// The operators on booleans and integers, and equality, on values in scratch.
+use calling::Applied;
+use calling::Pair;
+use calling::Tested;
 use integers::Number;
 ghost use mathlib.Core.Path.{_≡_};
 ghost use Prim.Native.Nat.{_+_, _≤_};
-ghost use lib.ListN.{length};
 ghost use Rattle.values.specs.Value.{integer};
 ghost use Rattle.values.specs.Contract.{Equal};
 ghost use Rattle.operators.specs.Booleans.{truth, right};
 ghost use Rattle.operators.specs.Arithmetic.{answered};
-ghost use Rattle.operators.specs.Sets.{howMany, counting, rangeOf};
 ghost use Rattle.operators.specs.Operators.{unary, binary};
-ghost use Rattle.operator_laws.specs.Results.{Fine};
-ghost use Rattle.scalars.specs.Applied.{One, Two, Gives, OnOne, OnTwo};
-ghost use Rattle.scalars.specs.Scalars.{connective, TestsLeft, PairAt, IntegersRoom, PutIntegers, CountingRoom};
-
-// What an operator answers: its value stands where its first operand stood, or it is refused by a number of document 01.
-pub enum Applied {
-    Done,
-    Refused(usize),
-}
-
-impl Applied {
-    // How far above the first operand the second stands.
-    pub const SECOND: usize = values::Value::LIMIT;
-
-    // The refusals of operators.
-    pub const WRONG_KIND: usize = 20;
-
-    pub const OUT_OF_RANGE: usize = 21;
-
-    pub const BY_ZERO: usize = 22;
-
-    pub const NOT_THERE: usize = 26;
-
-    pub const CLASH: usize = 27;
-
-    pub const TOO_LARGE: usize = 28;
-}
-
-// What the left of and, or and => says: the answer, which stands in its place; or that the right decides.
-pub enum Tested {
-    Settled,
-    Open,
-    Refused(usize),
-}
-
-// Two operands of which integers are asked.
-enum Pair {
-    Integers(i32, i32),
-    Others,
-}
-
-// ---- answers
-
-// A truth value as the answer.
-pub fn put_truth(s: &mut [u8], base: usize, b: bool) -> Applied
-    requires { ⌜ base + 5 ≤ length (now s) ⌝ }
-    ensures { λ r. ⌜ Gives (truth b) (now (s .entry)) (now (s .exit)) base r ⌝ }
-{
-    values::put_boolean(s, base, b);
-    Applied::Done
-}
-
-// An integer, 21 or 22 as the answer.
-pub fn put_number(s: &mut [u8], base: usize, n: Number) -> Applied
-    requires { ⌜ (base + 8 ≤ length (now s)) × Fine (answered n) ⌝ }
-    ensures { λ r. ⌜ Gives (answered n) (now (s .entry)) (now (s .exit)) base r ⌝ }
-{
-    match n {
-        Number::Is(z) => {
-            values::put_integer(s, base, z);
-            Applied::Done
-        }
-        Number::OutOfRange => Applied::Refused(Applied::OUT_OF_RANGE),
-        Number::ByZero => Applied::Refused(Applied::BY_ZERO),
-    }
-}
+ghost use Rattle.calling.specs.Scratch.{second};
+ghost use Rattle.calling.specs.Applied.{One, Two, OnOne, OnTwo};
+ghost use Rattle.scalars.specs.Connectives.{connective, TestsLeft};
 
 // ---- one operand: 1 not, 2 minus, 3 abs
 
@@ -87,7 +25,7 @@ fn negation(s: &mut [u8], base: usize) -> Applied
         return Applied::Refused(Applied::WRONG_KIND);
     }
     let b = values::boolean_at(s, base);
-    put_truth(s, base, !b)
+    calling::put_truth(s, base, !b)
 }
 
 fn sign(s: &mut [u8], base: usize, operator: usize) -> Applied
@@ -100,9 +38,9 @@ fn sign(s: &mut [u8], base: usize, operator: usize) -> Applied
     }
     let z = values::integer_at(s, base);
     if operator == 2 {
-        return put_number(s, base, integers::neg(z));
+        return calling::put_number(s, base, integers::neg(z));
     }
-    put_number(s, base, integers::abs(z))
+    calling::put_number(s, base, integers::abs(z))
 }
 
 // The unary operators 1 to 3.
@@ -121,7 +59,7 @@ pub fn unary_scalar(s: &mut [u8], base: usize, operator: usize) -> Applied
 // Whether the operands are equal.
 fn same(s: &[u8], base: usize) -> bool
     requires { ⌜ Two (now s) base ⌝ }
-    ensures { λ r. ⌜ Equal (now (s .entry)) base (base + 512) r ⌝ }
+    ensures { λ r. ⌜ Equal (now (s .entry)) base (base + second) r ⌝ }
 {
     values::equal(s, base, base + Applied::SECOND)
 }
@@ -139,7 +77,7 @@ fn biimplication(s: &mut [u8], base: usize) -> Applied
         return Applied::Refused(Applied::WRONG_KIND);
     }
     let equal = same(s, base);
-    put_truth(s, base, equal)
+    calling::put_truth(s, base, equal)
 }
 
 fn equality(s: &mut [u8], base: usize, operator: usize) -> Applied
@@ -148,29 +86,12 @@ fn equality(s: &mut [u8], base: usize, operator: usize) -> Applied
 {
     let equal = same(s, base);
     if operator == 5 {
-        return put_truth(s, base, equal);
+        return calling::put_truth(s, base, equal);
     }
-    put_truth(s, base, !equal)
+    calling::put_truth(s, base, !equal)
 }
 
 // ---- two integers
-
-fn operands(s: &[u8], base: usize) -> Pair
-    requires { ⌜ Two (now s) base ⌝ }
-    ensures { λ r. ⌜ PairAt (now (s .entry)) base r ⌝ }
-{
-    let first = values::kind_of(s, base);
-    if first != 2 {
-        return Pair::Others;
-    }
-    let second = values::kind_of(s, base + Applied::SECOND);
-    if second != 2 {
-        return Pair::Others;
-    }
-    let a = values::integer_at(s, base);
-    let b = values::integer_at(s, base + Applied::SECOND);
-    Pair::Integers(a, b)
-}
 
 // 7 +, 8 −, 9 ×, 10 div, 11 rem, 12 mod
 fn compute(operator: usize, a: i32, b: i32) -> Number
@@ -204,9 +125,9 @@ fn arithmetic(s: &mut [u8], base: usize, operator: usize) -> Applied
     requires { ⌜ Two (now s) base × (7 ≤ operator) × (operator ≤ 12) ⌝ }
     ensures { λ r. ⌜ OnTwo (binary operator) (now (s .entry)) (now (s .exit)) base r ⌝ }
 {
-    let read = operands(s, base);
+    let read = calling::two_integers(s, base);
     match read {
-        Pair::Integers(a, b) => put_number(s, base, compute(operator, a, b)),
+        Pair::Integers(a, b) => calling::put_number(s, base, compute(operator, a, b)),
         Pair::Others => Applied::Refused(Applied::WRONG_KIND),
     }
 }
@@ -215,9 +136,9 @@ fn comparison(s: &mut [u8], base: usize, operator: usize) -> Applied
     requires { ⌜ Two (now s) base × (13 ≤ operator) × (operator ≤ 16) ⌝ }
     ensures { λ r. ⌜ OnTwo (binary operator) (now (s .entry)) (now (s .exit)) base r ⌝ }
 {
-    let read = operands(s, base);
+    let read = calling::two_integers(s, base);
     match read {
-        Pair::Integers(a, b) => put_truth(s, base, test(operator, a, b)),
+        Pair::Integers(a, b) => calling::put_truth(s, base, test(operator, a, b)),
         Pair::Others => Applied::Refused(Applied::WRONG_KIND),
     }
 }
@@ -268,55 +189,4 @@ pub fn right(s: &[u8], base: usize) -> Applied
         return Applied::Refused(Applied::WRONG_KIND);
     }
     Applied::Done
-}
-
-// ---- {a, ..., b}
-
-// How many integers there are from one to another.
-fn how_many(from: i32, to: i32) -> usize
-    ensures { λ r. ⌜ r ≡ howMany from to ⌝ }
-{
-    let n = to as i64 - from as i64 + 1;
-    if n < 0 {
-        return 0;
-    }
-    n as usize
-}
-
-// Writes n integers, from one up, one after the other.
-fn put_integers(s: &mut [u8], at: usize, from: i32, n: usize)
-    requires { ⌜ IntegersRoom (now s) at from n ⌝ }
-    ensures { λ _. ⌜ PutIntegers (now (s .entry)) (now (s .exit)) at from n ⌝ }
-{
-    let mut i = 0;
-    while i < n {
-        values::put_integer(s, at + 8 * i, from + i as i32);
-        i += 1;
-    }
-}
-
-// The set of n integers, from one up: over 512 bytes, 28.
-pub fn counting(s: &mut [u8], base: usize, from: i32, n: usize) -> Applied
-    requires { ⌜ CountingRoom (now s) base from n ⌝ }
-    ensures { λ r. ⌜ Gives (counting from n) (now (s .entry)) (now (s .exit)) base r ⌝ }
-{
-    let size = 4 + 8 * n;
-    if size > values::Value::LIMIT {
-        return Applied::Refused(Applied::TOO_LARGE);
-    }
-    put_integers(s, base + 4, from, n);
-    values::put_head(s, base, size, 3);
-    Applied::Done
-}
-
-// The set of the integers from one to another.
-pub fn range(s: &mut [u8], base: usize) -> Applied
-    requires { ⌜ Two (now s) base ⌝ }
-    ensures { λ r. ⌜ OnTwo rangeOf (now (s .entry)) (now (s .exit)) base r ⌝ }
-{
-    let read = operands(s, base);
-    match read {
-        Pair::Integers(a, b) => counting(s, base, a, how_many(a, b)),
-        Pair::Others => Applied::Refused(Applied::WRONG_KIND),
-    }
 }

@@ -16,12 +16,14 @@ use Rattle.collections.specs.Finding.{Counted}
 use Rattle.operators.specs.Answer.{Answer, is}
 use Rattle.operators.specs.Sets.{counting}
 use Rattle.operator_laws.specs.RangeLaws.{sound-up}
-use Rattle.scalars.specs.declared.Applied.{Applied}
-use Rattle.scalars.specs.declared.Applied.the-variants.{Done}
-use Rattle.scalars.specs.Applied.{Applies, Gives}
-use Rattle.scalars.specs.Scalars.{CountingRoom}
-use Rattle.scalars.specs.AppliedLaws.{is-done, put-kept}
-use Rattle.sequence_operators.specs.Kinds.{Has, OnItems, items-by}
+use Rattle.calling.specs.declared.Applied.{Applied}
+use Rattle.calling.specs.declared.Applied.the-variants.{Done}
+use Rattle.calling.specs.Applied.{Applies, Gives}
+use Rattle.gathering.specs.Consecutive.{CountingRoom}
+use Rattle.calling.proofs.Answering.{is-done}
+use Rattle.calling.proofs.Framing.{put-kept}
+use Rattle.calling.specs.Operands.{Has, OnItems}
+use Rattle.calling.proofs.Kinding.{items-by}
 
 -- what len answers on the items of its operand
 abbrev pub counted : Items → Answer

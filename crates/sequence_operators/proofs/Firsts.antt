@@ -12,10 +12,12 @@ use Rattle.values.specs.Contract.{Movable, Moved, Copied, PutHead}
 use Rattle.values.specs.Records.{Run, run, holds, items-to, items-none, no-items}
 use Rattle.operators.specs.Answer.{Answer, is, refused}
 use Rattle.operators.specs.Sequences.{headOf, tailOf}
-use Rattle.scalars.specs.declared.Applied.the-variants.{Done, Refused}
-use Rattle.scalars.specs.AppliedLaws.{is-done, copied-kept}
-use Rattle.sequence_operators.specs.Kinds.{Has, OnItems, items-by, items-off}
-use Rattle.sequence_operators.specs.Packing.{pack-start, pack-move, pack-end}
+use Rattle.calling.specs.declared.Applied.the-variants.{Done, Refused}
+use Rattle.calling.proofs.Answering.{is-done}
+use Rattle.calling.proofs.Framing.{copied-kept}
+use Rattle.calling.specs.Operands.{Has, OnItems}
+use Rattle.calling.proofs.Kinding.{items-by, items-off}
+use Rattle.gathering.proofs.Packing.{pack-start, pack-move, pack-end}
 
 -- four bytes hold no items
 pub none-off : {k : Kind} {f : Items → Answer} {s : List ℕ} {base n m : ℕ} → n ≡ word s base → n ≡ 4 → f none ≡ refused m → OnItems k f s s base (Refused m)

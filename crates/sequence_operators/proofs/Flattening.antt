@@ -18,10 +18,12 @@ use Rattle.operators.specs.Answer.{Answer, is, refused, wrongKind, closed, size
 use Rattle.operators.specs.Gather.{every, isKind, flatten}
 use Rattle.operator_laws.specs.KindLaws.{kind-is, kind-test}
 use Rattle.operator_laws.specs.EnumerationLaws.{fits}
-use Rattle.scalars.specs.declared.Applied.the-variants.{Done, Refused}
-use Rattle.scalars.specs.AppliedLaws.{is-off, kept-outside}
-use Rattle.sequence_operators.specs.Kinds.{Has, OnItems, items-by}
-use Rattle.sequence_operators.specs.Packing.{Packing, pack-start, pack-move, pack-end}
+use Rattle.calling.specs.declared.Applied.the-variants.{Done, Refused}
+use Rattle.calling.proofs.Answering.{is-off}
+use Rattle.calling.proofs.Framing.{kept-outside}
+use Rattle.calling.specs.Operands.{Has, OnItems}
+use Rattle.calling.proofs.Kinding.{items-by}
+use Rattle.gathering.proofs.Packing.{Packing, pack-start, pack-move, pack-end}
 
 -- what conc answers on the items of its operand
 abbrev pub conc : Items → Answer

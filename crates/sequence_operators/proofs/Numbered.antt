@@ -7,9 +7,10 @@ use Rattle.values.specs.Value.{sequence, Value, Items}
 use Rattle.values.specs.Contract.{KindAt}
 use Rattle.operators.specs.Answer.{Answer, wrongKind, asSequence, needs}
 use Rattle.operators.specs.Operators.{unary}
-use Rattle.scalars.specs.declared.Applied.the-variants.{Refused}
-use Rattle.scalars.specs.Applied.{OnOne}
-use Rattle.sequence_operators.specs.Kinds.{off-one, past, meet}
+use Rattle.calling.specs.declared.Applied.the-variants.{Refused}
+use Rattle.calling.specs.Applied.{OnOne}
+use Rattle.calling.proofs.Kinding.{off-one}
+use Rattle.calling.proofs.Numbered.{past, meet}
 
 -- It asks for a sequence.
 pub record Asks (n : ℕ) : Type 0 where

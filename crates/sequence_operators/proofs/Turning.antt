@@ -18,9 +18,11 @@ use Rattle.values.specs.Written.{heading, collection-at}
 use Rattle.collections.specs.Joined.{join-none, join-join}
 use Rattle.operators.specs.Answer.{Answer, is}
 use Rattle.operators.specs.Gather.{backwards}
-use Rattle.scalars.specs.declared.Applied.the-variants.{Done}
-use Rattle.scalars.specs.AppliedLaws.{is-done, kept-then, kept-outside}
-use Rattle.sequence_operators.specs.Kinds.{Has, OnItems, same-items, items-by}
+use Rattle.calling.specs.declared.Applied.the-variants.{Done}
+use Rattle.calling.proofs.Answering.{is-done}
+use Rattle.calling.proofs.Framing.{kept-then, kept-outside}
+use Rattle.calling.specs.Operands.{Has, OnItems}
+use Rattle.calling.proofs.Kinding.{same-items, items-by}
 
 -- what reverse answers on the items of its operand
 abbrev pub turned : Items → Answer
@@ -43,7 +45,7 @@ module _ {s : List ℕ} {base n : ℕ} (h : Has sequence s base) (e : n ≡ word
   pub turn-copyable : Copyable s base (base + 512)
   turn-copyable = let a = holds (h .held .here) in let r = h .room in record { held = a; room = omega arith; apart = inl (omega arith) }
 
-  pub turn-start : {t : List ℕ} {r : ℕ} → Copied s t base (base + 512) r → Turning t t base n (base + 516) (base + n)
+  pub turn-start : {t : List ℕ} {r : ℕ} → Copied s t base (base + 512) r → Turning t t base n (base + 512 + 4) (base + n)
   turn-start {t} {r} c =
       let a = h .held .here in
       let b = holds a in
@@ -52,7 +54,6 @@ module _ {s : List ℕ} {base n : ℕ} (h : Has sequence s base) (e : n ≡ word
       let m = h .room in
       let here : At t base (collection sequence (h .held .items)) = at-below (c .outside) (omega (arith, word-size a)) a in
       let there : At t (base + 512) (collection sequence (h .held .items)) = c .here _ a in
-      let place : base + 512 + 4 ≡ base + 516 = omega arith in
       record {
         all = h .held .items;
         all-at = here;
@@ -62,7 +63,7 @@ module _ {s : List ℕ} {base n : ℕ} (h : Has sequence s base) (e : n ≡ word
         rest = h .held .items;
         so = sym (join-none (backwards (h .held .items)));
         back-at = no-items t (base + n) (omega arith);
-        rest-at = subst (λ (i : ℕ). ItemsAt t i (base + 512 + n) (h .held .items)) place (items-to (e ∙ word-size a ∙ sym (word-size there)) there);
+        rest-at = items-to (e ∙ word-size a ∙ sym (word-size there)) there;
         place = omega arith;
         frame = outside-none t (base + 4) (base + n);
       }

@@ -1,23 +1,19 @@
-// The operators on sequences, on values in scratch; and applying a sequence or a map.
-pub mod applying;
-
-use scalars::Applied;
+// The operators on sequences, on values in scratch.
+use calling::Applied;
 use values::Value;
 ghost use Prim.Native.Nat.{_≤_};
 ghost use lib.IntN.{pos};
-ghost use Rattle.values.specs.Value.{set, sequence, integer, collection, none, count};
+ghost use Rattle.values.specs.Value.{sequence, integer, collection, count};
 ghost use Rattle.values.specs.Items.{pick, join};
 ghost use Rattle.operators.specs.Answer.{is, refused, wrongKind, sized};
-ghost use Rattle.operators.specs.Gather.{every, insertAll, isKind, flatten, backwards};
+ghost use Rattle.operators.specs.Gather.{every, isKind, flatten, backwards};
 ghost use Rattle.operators.specs.Sets.{counting};
 ghost use Rattle.operators.specs.Sequences.{headOf, tailOf};
 ghost use Rattle.operators.specs.Operators.{unary, binary};
-ghost use Rattle.scalars.specs.Applied.{One, Two, OnOne, OnTwo};
-ghost use Rattle.sequence_operators.specs.Kinds.{Has, HasTwo, OnItems, OnBoth, KindsAre};
+ghost use Rattle.calling.specs.Applied.{One, Two, OnOne, OnTwo};
+ghost use Rattle.calling.specs.Operands.{Has, HasTwo, OnItems, OnBoth};
 
 // The kinds that operands have and values are given.
-const SET: usize = 3;
-
 const SEQUENCE: usize = 4;
 
 // ---- one sequence
@@ -60,30 +56,13 @@ fn tail(s: &mut [u8], base: usize) -> Applied
     Applied::Done
 }
 
-// 10 elems: every item goes into an empty set.
-fn elements(s: &mut [u8], base: usize) -> Applied
-    requires { ⌜ Has sequence (now s) base ⌝ }
-    ensures { λ r. ⌜ OnItems sequence (λ vs. is (collection set (insertAll none vs))) (now (s .entry)) (now (s .exit)) base r ⌝ }
-{
-    let end = base + values::length_of(s, base);
-    collections::building::put_empty(s, base + 512, SET);
-    let mut p = base + 4;
-    while p < end {
-        let n = values::length_of(s, p);
-        collections::building::insert(s, base + 512, p);
-        p += n;
-    }
-    values::copy_value(s, base + 512, base);
-    Applied::Done
-}
-
 // 11 inds: the integers from 1 up to the number of items.
 fn indexes(s: &mut [u8], base: usize) -> Applied
     requires { ⌜ Has sequence (now s) base ⌝ }
     ensures { λ r. ⌜ OnItems sequence (λ vs. counting (pos 1) (count vs)) (now (s .entry)) (now (s .exit)) base r ⌝ }
 {
     let n = collections::finding::count_of(s, base);
-    scalars::counting(s, base, 1, n)
+    gathering::counting(s, base, 1, n)
 }
 
 // 12 conc: the items of each sequence move down over the headings.
@@ -113,9 +92,9 @@ fn reverse(s: &mut [u8], base: usize) -> Applied
     ensures { λ r. ⌜ OnItems sequence (λ vs. is (collection sequence (backwards vs))) (now (s .entry)) (now (s .exit)) base r ⌝ }
 {
     let n = values::length_of(s, base);
-    values::copy_value(s, base, base + 512);
-    let end = base + 512 + n;
-    let mut p = base + 516;
+    values::copy_value(s, base, base + Applied::SECOND);
+    let end = base + Applied::SECOND + n;
+    let mut p = base + Applied::SECOND + 4;
     let mut q = base + n;
     while p < end {
         let m = values::length_of(s, p);
@@ -139,7 +118,7 @@ pub fn unary_sequence(s: &mut [u8], base: usize, operator: usize) -> Applied
         7 => len(s, base),
         8 => head(s, base),
         9 => tail(s, base),
-        10 => elements(s, base),
+        10 => gathering::elements(s, base),
         11 => indexes(s, base),
         12 => flatten(s, base),
         _ => reverse(s, base),
@@ -154,26 +133,14 @@ fn join(s: &mut [u8], base: usize) -> Applied
     ensures { λ r. ⌜ OnBoth sequence sequence (λ vs ws. sized sequence (join vs ws)) (now (s .entry)) (now (s .exit)) base r ⌝ }
 {
     let n = values::length_of(s, base);
-    let m = values::length_of(s, base + 512);
+    let m = values::length_of(s, base + Applied::SECOND);
     let whole = n + m - 4;
     if Value::LIMIT < whole {
         return Applied::Refused(Applied::TOO_LARGE);
     }
-    values::copy_bytes(s, base + 516, base + n, m - 4);
+    values::copy_bytes(s, base + Applied::SECOND + 4, base + n, m - 4);
     values::put_head(s, base, whole, SEQUENCE);
     Applied::Done
-}
-
-// Whether the operands are of these kinds.
-pub fn kinds_are(s: &[u8], base: usize, first: usize, second: usize) -> bool
-    requires { ⌜ Two (now s) base ⌝ }
-    ensures { λ r. ⌜ KindsAre (now (s .entry)) base first second r ⌝ }
-{
-    let kind = values::kind_of(s, base);
-    if kind != first {
-        return false;
-    }
-    values::kind_of(s, base + 512) == second
 }
 
 // 24 ^
@@ -181,7 +148,7 @@ pub fn concatenate(s: &mut [u8], base: usize) -> Applied
     requires { ⌜ Two (now s) base ⌝ }
     ensures { λ r. ⌜ OnTwo (binary 24) (now (s .entry)) (now (s .exit)) base r ⌝ }
 {
-    if kinds_are(s, base, SEQUENCE, SEQUENCE) {
+    if calling::kinds_are(s, base, SEQUENCE, SEQUENCE) {
         return join(s, base);
     }
     Applied::Refused(Applied::WRONG_KIND)

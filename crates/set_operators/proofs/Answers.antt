@@ -28,14 +28,18 @@ use Rattle.operators.specs.Operators.{binary}
 use Rattle.operator_laws.specs.Tests.{both-ways, by-test}
 use Rattle.operator_laws.specs.EnumerationLaws.{fits as fitting-is, fits-not}
 use Rattle.operator_laws.specs.SetLaws.{subset-all, subset-equal}
-use Rattle.scalars.specs.declared.Applied.{Applied}
-use Rattle.scalars.specs.declared.Applied.the-variants.{Done, Refused}
-use Rattle.scalars.specs.Applied.{Two, OnTwo, Gives}
-use Rattle.scalars.specs.AppliedLaws.{kept-outside, two-by, two-off, is-off, two-done, two-gives, gives-same, copyable-down, two-copied, needs-off}
-use Rattle.set_operators.specs.Members.{AllIn, Growing, Grown, InsertsAll, themselves, agrees, chosen, Choice, Chosen}
+use Rattle.calling.specs.declared.Applied.{Applied}
+use Rattle.calling.specs.declared.Applied.the-variants.{Done, Refused}
+use Rattle.calling.specs.Applied.{Two, OnTwo, Gives}
+use Rattle.calling.proofs.Framing.{kept-outside, copyable-down}
+use Rattle.calling.proofs.Answering.{two-by, two-off, is-off, two-done, two-gives, gives-same, two-copied}
+use Rattle.calling.proofs.Kinding.{needs-off}
+use Rattle.set_operators.specs.Members.{AllIn, agrees, chosen, Choice, Chosen}
+use Rattle.gathering.specs.Inserting.{Growing, Grown, InsertsAll, themselves}
 use Rattle.set_operators.specs.Operands.{IsOfKind, TwoSets}
 use Rattle.set_operators.proofs.Choosing.{as-wanted}
-use Rattle.set_operators.proofs.Telling.{either, binary-as}
+use Rattle.calling.proofs.Numbered.{binary-as}
+use Rattle.set_operators.proofs.Telling.{either}
 
 -- ---- 17 in set, 18 not in set
 

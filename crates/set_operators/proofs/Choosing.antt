@@ -19,8 +19,8 @@ use Rattle.collections.specs.Building.{Appends, Empties, Retags}
 use Rattle.operators.specs.Gather.{keep}
 use Rattle.operator_laws.specs.GatherLaws.{ascending-keep}
 use Rattle.set_operators.specs.Members.{HoldsSets, inAll, InAll, agrees, chosen, Appendable, AppendsIf, Choice, Chosen}
-use Rattle.set_operators.proofs.Walks.{Left, first-left, left-on, left-none}
-use Rattle.set_operators.proofs.Growth.{Next, next-item, put-added}
+use Rattle.gathering.proofs.Walks.{Left, first-left, left-on, left-none}
+use Rattle.gathering.proofs.Growth.{Next, next-item, put-added}
 
 -- ---- one item
 

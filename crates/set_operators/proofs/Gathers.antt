@@ -28,36 +28,19 @@ use Rattle.operators.specs.Gather.{every, insertAll, isKind, flatten}
 use Rattle.operators.specs.Sets.{intersectionOf}
 use Rattle.operators.specs.Operators.{unary}
 use Rattle.operator_laws.specs.RangeLaws.{up-le}
-use Rattle.scalars.specs.declared.Applied.the-variants.{Done, Refused}
-use Rattle.scalars.specs.Applied.{One, Kept, OnOne}
-use Rattle.scalars.specs.AppliedLaws.{kept-same, kept-outside, one-by, one-off, is-off, one-put, copyable-down, one-copied, needs-off}
-use Rattle.set_operators.specs.Members.{HoldsSets, AllOfKind, Growing, Grown, InsertsAll, chosen, Choice, Chosen}
+use Rattle.calling.specs.declared.Applied.the-variants.{Done, Refused}
+use Rattle.calling.specs.Applied.{One, OnOne}
+use Rattle.calling.specs.Scratch.{Kept}
+use Rattle.calling.proofs.Framing.{kept-same, kept-outside, copyable-down}
+use Rattle.calling.proofs.Answering.{one-by, one-off, is-off, one-put, one-copied}
+use Rattle.calling.proofs.Kinding.{needs-off}
+use Rattle.set_operators.specs.Members.{HoldsSets, chosen, Choice, Chosen}
+use Rattle.set_operators.specs.Members.{AllOfKind}
+use Rattle.gathering.specs.Inserting.{Growing, Grown, InsertsAll}
+use Rattle.gathering.proofs.Gathered.{still-there, empty-room, gathered, gathered-kept}
 use Rattle.set_operators.specs.Operands.{IsOfKind}
 use Rattle.set_operators.proofs.Telling.{Family, first-of-sets}
 use Rattle.set_operators.proofs.Answers.{grown-done, grown-full}
-
--- ---- into an empty set, 512 bytes above base
-
-module _ {s t : List ℕ} {base : ℕ} {k : Kind} {vs : Items} (a : At s base (collection k vs)) (n : ℕ) (q : n ≡ word s base) (e : Empties s t (base + 512) 3) (room : base + 1536 ≤ length s) where
-  pub still-there : ItemsAt t (base + 4) (base + n) vs
-  still-there = let h = holds a .high in items-below (e .frame) (omega arith) (items-to q a)
-
-  nothing-yet : At t (base + 512) (collection set none)
-  unfolding Ascending
-  nothing-yet = e .right set refl tt
-
-  pub empty-room : Growing t (base + 4) (base + n) (base + 512)
-  empty-room =
-      let h = holds a .high in
-      let long = e .frame .long in
-      record { held = record { items = none; here = nothing-yet }; room = omega arith; apart = inl (omega arith) }
-
-  module _ {g : Items → Items} {u : List ℕ} {r : Added} (i : InsertsAll g t u (base + 4) (base + n) (base + 512) r) where
-    pub gathered : Grown u (base + 512) (insertAll none (g vs)) r
-    gathered = i .right none vs nothing-yet still-there
-
-    pub gathered-kept : Kept s u base
-    gathered-kept = kept-outside (omega arith) (outside-both (outside-wider (omega arith) (omega arith) (e .frame)) (i .frame))
 
 -- ---- 4 card
 

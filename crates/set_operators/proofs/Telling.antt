@@ -13,14 +13,11 @@ use Rattle.values.specs.Contract.{KindAt}
 use Rattle.values.specs.Records.{holds, items-to, run-of}
 use Rattle.operators.specs.Answer.{asSet}
 use Rattle.operators.specs.Gather.{every, isKind}
-use Rattle.operators.specs.Operators.{unary, binary}
 use Rattle.operator_laws.specs.Tests.{by-test}
-use Rattle.scalars.specs.declared.Applied.{Applied}
-use Rattle.scalars.specs.Applied.{OnOne, OnTwo}
-use Rattle.scalars.specs.AppliedLaws.{the-kind, no-kind, needs-left, needs-right}
+use Rattle.calling.proofs.Kinding.{the-kind, no-kind, needs-left, needs-right}
 use Rattle.set_operators.specs.Members.{AllOfKind}
 use Rattle.set_operators.specs.Operands.{IsOfKind, TwoSets}
-use Rattle.set_operators.proofs.Walks.{set-is, sets-parts}
+use Rattle.set_operators.proofs.Testing.{set-is, sets-parts}
 
 -- ---- kinds
 
@@ -58,12 +55,6 @@ either P {n} k l s h g p q = by-test (eqb n k) (λ e. subst P (sym (eqb-true n k
   where
     higher : (n ≡ k → ⊥) → l ≡ n
     higher f = omega (arith, f)
-
-pub unary-as : {s t : List ℕ} {base n : ℕ} {r : Applied} (m : ℕ) → n ≡ m → OnOne (unary m) s t base r → OnOne (unary n) s t base r
-unary-as {s} {t} {base} {n} {r} m e o = subst (λ (k : ℕ). OnOne (unary k) s t base r) (sym e) o
-
-pub binary-as : {s t : List ℕ} {base n : ℕ} {r : Applied} (m : ℕ) → n ≡ m → OnTwo (binary m) s t base r → OnTwo (binary n) s t base r
-binary-as {s} {t} {base} {n} {r} m e o = subst (λ (k : ℕ). OnTwo (binary k) s t base r) (sym e) o
 
 -- ---- a set of sets
 

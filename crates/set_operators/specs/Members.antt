@@ -1,19 +1,16 @@
--- What going over items one by one asks and promises: tests of them all, inserting them all into a set, and choosing among them.
+-- What going over items one by one asks and promises: tests of them all, and choosing among them.
 use mathlib.Core.Path.{_≡_}
 use mathlib.Core.Bool.{Bool, true, false, not}
 use mathlib.Core.List.{List}
-use mathlib.Core.Logic.{_⊎_}
 use Prim.Native.Nat.{ℕ, _+_, _≤_}
 use lib.ListN.{length}
 use Rattle.integers.specs.Bytes.{word}
-use Rattle.values.specs.Value.{Kind, set, sequence, number, Value, collection, Items, size, limit}
+use Rattle.values.specs.Value.{Kind, set, sequence, number, Value, collection, Items, limit}
 use Rattle.values.specs.Items.{pick, isMember, snoc}
 use Rattle.values.specs.Place.{At, ItemsAt, Outside}
-use Rattle.collections.specs.declared.building.Added.{Added}
-use Rattle.collections.specs.declared.building.Added.the-variants.{Done as Put}
 use Rattle.collections.specs.Finding.{HoldsKind}
-use Rattle.collections.specs.Building.{added, Room}
-use Rattle.operators.specs.Gather.{every, keep, insertAll, itemsOf, isKind}
+use Rattle.collections.specs.Building.{Room}
+use Rattle.operators.specs.Gather.{every, keep, itemsOf, isKind}
 use Rattle.operators.specs.Sets.{isSubset}
 
 -- ---- tests of all items from a place up to another
@@ -39,28 +36,6 @@ InAll s x from to r = (v : Value) (ws : Items) → At s x v → ItemsAt s from t
 -- r says whether all are members of the set at a place
 abbrev pub AllIn : List ℕ → ℕ → ℕ → ℕ → Bool → Type 0
 AllIn s from to at r = (vs ws : Items) → ItemsAt s from to vs → At s at (collection set ws) → r ≡ isSubset vs ws
-
--- ---- inserting
-
--- A set is being built at a place, and what goes into it stands elsewhere, from a place up to another.
-pub record Growing (s : List ℕ) (from to at : ℕ) : Type 0 where
-  pub held : HoldsKind set s at
-  pub room : at + limit ≤ length s
-  pub apart : (to ≤ at) ⊎ (at + limit ≤ from)
-
--- The members of the set at a place are us now; refused exactly where that is over 512 bytes.
-pub record Grown (t : List ℕ) (at : ℕ) (us : Items) (r : Added) : Type 0 where
-  pub answers : r ≡ added (size (collection set us))
-  pub made : r ≡ Put → At t at (collection set us)
-
--- What is gathered of the items went into the set at a place.
-pub record InsertsAll (gathered : Items → Items) (s t : List ℕ) (from to at : ℕ) (r : Added) : Type 0 where
-  pub frame : Outside s t at (at + limit)
-  pub right : (vs ws : Items) → At s at (collection set vs) → ItemsAt s from to ws → Grown t at (insertAll vs (gathered ws)) r
-
--- The items themselves.
-abbrev pub themselves : Items → Items
-themselves ws = ws
 
 -- ---- choosing
 

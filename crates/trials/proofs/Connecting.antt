@@ -10,12 +10,12 @@ use Rattle.values.specs.Records.{holds}
 use Rattle.operators.specs.Answer.{Answer}
 use Rattle.operators.specs.Booleans.{Connective, Left, leaves, right}
 use Rattle.operator_laws.specs.BooleanLaws.{decided}
-use Rattle.scalars.specs.declared.Applied.{Applied}
-use Rattle.scalars.specs.declared.Applied.the-variants.{Done, Refused}
-use Rattle.scalars.specs.declared.Tested.{Tested}
-use Rattle.scalars.specs.declared.Tested.the-variants.{Settled, Open, Refused as Wrong}
-use Rattle.scalars.specs.Applied.{One, Applies, done, off, OnOne}
-use Rattle.scalars.specs.Scalars.{Says, settled, undecided, off as wrong, TestsLeft}
+use Rattle.calling.specs.declared.Applied.{Applied}
+use Rattle.calling.specs.declared.Applied.the-variants.{Done, Refused}
+use Rattle.calling.specs.declared.Tested.{Tested}
+use Rattle.calling.specs.declared.Tested.the-variants.{Settled, Open, Refused as Wrong}
+use Rattle.calling.specs.Applied.{One, Applies, done, off, OnOne}
+use Rattle.scalars.specs.Connectives.{Says, settled, undecided, off as wrong, TestsLeft}
 use Rattle.trials.specs.Trial.{Operand, SomeOperand, Connects}
 use Rattle.trials.specs.Operands.{operand-low}
 use Rattle.trials.proofs.Placing.{put-at}

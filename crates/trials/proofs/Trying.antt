@@ -8,8 +8,8 @@ use Rattle.values.specs.Value.{Value}
 use Rattle.values.specs.Records.{holds}
 use Rattle.operators.specs.Answer.{Answer}
 use Rattle.operators.specs.Booleans.{Connective}
-use Rattle.scalars.specs.declared.Applied.{Applied}
-use Rattle.scalars.specs.Applied.{One, Two, Applies, done as there, off as not-there, OnOne, OnTwo}
+use Rattle.calling.specs.declared.Applied.{Applied}
+use Rattle.calling.specs.Applied.{One, Two, Applies, done as there, off as not-there, OnOne, OnTwo}
 use Rattle.trials.specs.Trial.{Operand, SomeOperand, Roomy, PlacesOne, PlacesTwo, connected, Connects, badInput, numberOf, Answers, done, off, TriesOne, TriesTwo}
 use Rattle.trials.proofs.Telling.{false-true, told-false}
 

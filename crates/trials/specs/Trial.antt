@@ -9,9 +9,9 @@ use Rattle.values.specs.Place.{At}
 use Rattle.operators.specs.Answer.{Answer, is, refused}
 use Rattle.operators.specs.Booleans.{Connective, left, right}
 use Rattle.operator_laws.specs.BooleanLaws.{decided}
-use Rattle.scalars.specs.declared.Applied.{Applied}
-use Rattle.scalars.specs.declared.Applied.the-variants.{Done, Refused}
-use Rattle.scalars.specs.Applied.{OnOne}
+use Rattle.calling.specs.declared.Applied.{Applied}
+use Rattle.calling.specs.declared.Applied.the-variants.{Done, Refused}
+use Rattle.calling.specs.Applied.{OnOne}
 use Rattle.trials.specs.Validity.{Tells}
 
 -- ---- operands

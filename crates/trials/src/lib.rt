@@ -1,12 +1,12 @@
 // Operators tried on values from outside. Untrusted bytes are validated before anything is done with them, so nothing is asked of a caller.
-use scalars::Applied;
-use scalars::Tested;
+use calling::Applied;
+use calling::Tested;
 ghost use mathlib.Core.Path.{_≡_};
 ghost use Rattle.operators.specs.Sets.{rangeOf};
 ghost use Rattle.operators.specs.Maps.{applyTo};
 ghost use Rattle.operators.specs.Operators.{unary, binary};
-ghost use Rattle.scalars.specs.Applied.{One};
-ghost use Rattle.scalars.specs.Scalars.{connective};
+ghost use Rattle.calling.specs.Applied.{One};
+ghost use Rattle.scalars.specs.Connectives.{connective};
 ghost use Rattle.operations.specs.Numbers.{Unary, Binary};
 ghost use Rattle.trials.specs.Validity.{Tells};
 ghost use Rattle.trials.specs.Trial.{SomeOperand, Conditional, connected, Connects, numberOf, TriesOne, TriesTwo};
@@ -118,7 +118,7 @@ pub extern "C" fn trials_range(from: &[u8], to: &[u8], scratch: &mut [u8]) -> us
     ensures { λ r. ⌜ TriesTwo (Unit {0}) rangeOf (now (from .entry)) (now (to .entry)) (now (scratch .entry)) (now (scratch .exit)) r ⌝ }
 {
     if operands::place_two(from, to, scratch) {
-        return number(scalars::range(scratch, 0));
+        return number(set_operators::range(scratch, 0));
     }
     BAD_INPUT
 }
@@ -129,7 +129,7 @@ pub extern "C" fn trials_apply(function: &[u8], argument: &[u8], scratch: &mut [
     ensures { λ r. ⌜ TriesTwo (Unit {0}) applyTo (now (function .entry)) (now (argument .entry)) (now (scratch .entry)) (now (scratch .exit)) r ⌝ }
 {
     if operands::place_two(function, argument, scratch) {
-        return number(sequence_operators::applying::apply(scratch, 0));
+        return number(application::apply(scratch, 0));
     }
     BAD_INPUT
 }

@@ -4,7 +4,8 @@ use native.Mathlib.Omega.{arith}
 use Rattle.integers.specs.Whole as Whole
 use Rattle.operators.specs.Arithmetic.{answered}
 use Rattle.operators.specs.Operators.{binary}
-use Rattle.scalars.proofs.Numbers.{by-binary, past, meet}
+use Rattle.scalars.proofs.Numbers.{by-binary}
+use Rattle.calling.proofs.Numbered.{past, meet}
 use borrow.Author.Needs.{needs}
 use Rattle.scalars.proofs.compute.Statement.{statement}
 use Rattle.scalars.proofs.compute.Tie as tie

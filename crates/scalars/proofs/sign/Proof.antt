@@ -5,9 +5,11 @@ use Rattle.integers.specs.Whole as Whole
 use Rattle.values.specs.Value.{integer}
 use Rattle.operators.specs.Arithmetic.{answered}
 use Rattle.operators.specs.Operators.{unary}
-use Rattle.scalars.specs.AppliedLaws.{one-off, one-gives, gives-same, no-integer, needs-off}
+use Rattle.calling.proofs.Answering.{one-off, one-gives, gives-same}
+use Rattle.calling.proofs.Kinding.{no-integer, needs-off}
 use Rattle.scalars.proofs.Numbers.{on-integer, by-unary}
-use Rattle.scalars.proofs.Pairs.{place-fits, fine-one}
+use Rattle.calling.proofs.Pairs.{place-fits}
+use Rattle.scalars.proofs.Equals.{fine-one}
 use borrow.Author.Needs.{needs}
 use Rattle.scalars.proofs.sign.Statement.{statement}
 use Rattle.scalars.proofs.sign.Tie as tie

@@ -6,7 +6,8 @@ use lib.Signed.{ltZ, leZ}
 use Rattle.integers.specs.Ordered.{leZ-ltZ}
 use Rattle.operators.specs.Booleans.{truth}
 use Rattle.operators.specs.Operators.{binary}
-use Rattle.scalars.proofs.Numbers.{machine, by-binary}
+use Rattle.calling.proofs.Pairs.{machine}
+use Rattle.scalars.proofs.Numbers.{by-binary}
 use borrow.Author.Needs.{needs}
 use Rattle.scalars.proofs.test.Statement.{statement}
 use Rattle.scalars.proofs.test.Tie as tie

@@ -30,6 +30,9 @@ add-end-2 c = omega arith
 add-p : tie.Need-add-p Inv-loop μ-loop
 add-p c = omega arith
 
+add-p-2 : tie.Need-add-p-2 Inv-loop μ-loop
+add-p-2 c = omega arith
+
 add-q : tie.Need-add-q Inv-loop μ-loop
 add-q c = omega arith
 
@@ -45,8 +48,8 @@ sub-q c = let l = turn-low (c .before .before .before .loop .inv) (omega arith) 
 copy-value-requires-2 : tie.Need-copy-value-requires-2 Inv-loop μ-loop
 copy-value-requires-2 c κs = turn-copyable-on (c .before .before .before .before .loop .inv) (omega arith) (c .before .length-of2 .ensures .is)
 
-add-p-2 : tie.Need-add-p-2 Inv-loop μ-loop
-add-p-2 c = let y = turn-run (c .before .before .before .before .before .before .before .loop .inv) (omega arith) in omega arith
+add-p-3 : tie.Need-add-p-3 Inv-loop μ-loop
+add-p-3 c = let y = turn-run (c .before .before .before .before .before .before .before .loop .inv) (omega arith) in omega arith
 
 loop-less : tie.Need-loop-less Inv-loop μ-loop
 loop-less c = let y = turn-run (c .before .before .before .before .before .before .before .loop .inv) (omega arith) in omega arith
@@ -72,12 +75,13 @@ reverse-spec =
     add-end
     add-end-2
     add-p
+    add-p-2
     add-q
     loop-holds
     length-of-requires-2
     sub-q
     copy-value-requires-2
-    add-p-2
+    add-p-3
     loop-less
     loop-again
     same-length

@@ -2,7 +2,8 @@
 use mathlib.Core.Path.{refl}
 use Rattle.values.specs.Value.{sequence}
 use Rattle.operators.specs.Operators.{unary}
-use Rattle.sequence_operators.specs.Kinds.{has, on-unary}
+use Rattle.calling.proofs.Kinding.{has}
+use Rattle.calling.proofs.Numbered.{on-unary}
 use Rattle.sequence_operators.proofs.Numbered.{not-sequence, last}
 use borrow.Author.Needs.{needs}
 use Rattle.sequence_operators.proofs.unary_sequence.Statement.{statement}

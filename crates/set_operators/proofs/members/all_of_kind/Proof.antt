@@ -2,7 +2,8 @@
 use Prim.Native.Nat.{_-_}
 use native.Mathlib.Omega.{arith}
 use Rattle.values.specs.Records.{holds}
-use Rattle.set_operators.proofs.Walks.{Testing, test-start, test-fails, test-on, test-end, first-left, ofKind, kind-differs, kind-agrees}
+use Rattle.gathering.proofs.Walks.{first-left}
+use Rattle.set_operators.proofs.Testing.{Testing, test-start, test-fails, test-on, test-end, ofKind, kind-differs, kind-agrees}
 use Rattle.set_operators.proofs.members.all_of_kind.Statement.{statement}
 use Rattle.set_operators.proofs.members.all_of_kind.Tie as tie
 
