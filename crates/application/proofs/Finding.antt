@@ -24,6 +24,7 @@ use Rattle.collections.specs.Finding.{found-at, found-nothing, AtKey, Item}
 use Rattle.operators.specs.Answer.{Answer, is, refused, wrongKind, notThere, found}
 use Rattle.operators.specs.Sequences.{itemAt}
 use Rattle.operators.specs.Maps.{applyItems, applyTo}
+use Rattle.calling.specs.Scratch.{second}
 use Rattle.calling.specs.declared.Applied.{Applied}
 use Rattle.calling.specs.declared.Applied.the-variants.{Done, Refused}
 use Rattle.calling.specs.Applied.{Two, Applies, OnTwo}
@@ -70,7 +71,7 @@ module _ {s : List ℕ} {at : ℕ} {z : ℤ} (a : At s at (integer z)) where
   pub index-of : ltZ (toZ w32 (ofZ w32 z)) (pos 1) ≡ false → Index (toZ w32 (ofZ w32 z))
   index-of e = rw exact (index z (range-fits z (integer-range (a .fine))) (ap (λ (i : ℤ). ltZ i (pos 1)) (sym exact) ∙ e))
 
-module _ {s : List ℕ} {base : ℕ} {z : ℤ} (a : At s (base + 512) (integer z)) where
+module _ {s : List ℕ} {base : ℕ} {z : ℤ} (a : At s (base + second) (integer z)) where
   pub item-off : ltZ (toZ w32 (ofZ w32 z)) (pos 1) ≡ true → OnArgument sequence s s base (Refused notThere)
   item-off e = record {
     kept = kept-same s base;
@@ -92,12 +93,12 @@ module _ {s : List ℕ} {base : ℕ} {z : ℤ} (a : At s (base + 512) (integer z
           subst (λ (y : Answer). Applies t base r y) (sym (d ∙ i)) (b .right _ _ (x sequence vs v-at));
     }
 
-pub item-wrong : {s : List ℕ} {base kind : ℕ} → KindAt s (base + 512) kind → (kind ≡ 2 → ⊥) → OnArgument sequence s s base (Refused wrongKind)
+pub item-wrong : {s : List ℕ} {base kind : ℕ} → KindAt s (base + second) kind → (kind ≡ 2 → ⊥) → OnArgument sequence s s base (Refused wrongKind)
 item-wrong {s} {base} r n = record { kept = kept-same s base; right = λ vs w v-at w-at. is-off (needs-off (λ i. found (itemAt vs i)) (no-integer r n w w-at)) }
 
 -- ---- a key
 
-module _ {s : List ℕ} {base : ℕ} {f : Found} (x : AtKey s base (base + 512) f) where
+module _ {s : List ℕ} {base : ℕ} {f : Found} (x : AtKey s base (base + second) f) where
   pub key-sought : Applicable map s base → Sought s base f
   key-sought h = record { to = _; value = _; finds = x (h .held .items) (h .argument .value) (h .held .here) (h .argument .here) }
 

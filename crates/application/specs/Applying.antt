@@ -24,7 +24,7 @@ pub record Brings (s t : List ℕ) (base : ℕ) (f : Found) (r : Applied) : Type
   pub kept : Kept s t base
   pub right : (to : ℕ) (o : Option Value) → Finds s (base + 4) to f o → Applies t base r (found o)
 
--- A collection of a kind stands at base, and what it is applied to 512 bytes above it.
+-- A collection of a kind stands at base, and what it is applied to above it.
 pub record Applicable (k : Kind) (s : List ℕ) (base : ℕ) : Type 0 where
   pub held : HoldsKind k s base
   pub argument : Holds s (base + second)

@@ -46,7 +46,7 @@ fn at_key(s: &mut [u8], base: usize) -> Applied
     bring(s, base, found)
 }
 
-// The sequence or the map at base, applied to the value 512 bytes above it.
+// The sequence or the map that is the first operand, applied to the second.
 pub fn apply(s: &mut [u8], base: usize) -> Applied
     requires { ⌜ Two (now s) base ⌝ }
     ensures { λ r. ⌜ OnTwo applyTo (now (s .entry)) (now (s .exit)) base r ⌝ }

@@ -9,6 +9,10 @@ use Rattle.values.specs.Value.{limit}
 abbrev pub second : ℕ
 second = limit
 
+-- How far above it what an operator builds stands, where the operands are still needed: two limits.
+abbrev pub third : ℕ
+third = 1024
+
 -- How many bytes an operator may use, from the base on: three values' limits.
 abbrev pub workspace : ℕ
 workspace = 1536

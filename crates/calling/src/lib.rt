@@ -18,11 +18,11 @@ impl Applied {
     // How far above the first operand the second stands.
     pub const SECOND: usize = values::Value::LIMIT;
 
-    // How far above it an operator may build what does not fit there.
-    pub const THIRD: usize = 1024;
+    // How far above it an operator builds where it still needs its operands.
+    pub const THIRD: usize = 2 * Applied::SECOND;
 
     // How many bytes an operator may use, from its first operand on.
-    pub const WORKSPACE: usize = 1536;
+    pub const WORKSPACE: usize = 3 * Applied::SECOND;
 
     // The refusals of operators.
     pub const WRONG_KIND: usize = 20;

@@ -18,13 +18,14 @@ use Rattle.collections.specs.Finding.{AtKey, found-at, found-nothing}
 use Rattle.operators.specs.Answer.{Answer, refused, clash, sized}
 use Rattle.operators.specs.Gather.{everyEntry, enterAll}
 use Rattle.operators.specs.Maps.{agrees, compatible}
+use Rattle.calling.specs.Scratch.{second}
 use Rattle.calling.specs.declared.Applied.{Applied}
 use Rattle.calling.specs.declared.Applied.the-variants.{Refused}
 use Rattle.calling.specs.Applied.{Applies}
 use Rattle.calling.specs.Operands.{HasTwo, OnBoth}
 use Rattle.calling.proofs.Kinding.{same-items, both-by, both-off}
 use Rattle.map_operators.specs.Contract.{Beside, Agrees, Compatible}
-use Rattle.map_operators.proofs.Pairs.{Next, next}
+use Rattle.map_operators.proofs.Pairs.{NextEntry, next-entry}
 
 -- ---- one entry
 
@@ -51,7 +52,7 @@ pub record Agreeing (s : List ℕ) (base end p : ℕ) : Type 0 where
 from-items : {s : List ℕ} {base : ℕ} {r : Bool} (h : HasTwo map map s base) → r ≡ compatible (h .left .items) (h .right .items) → Compatible s base r
 from-items h e vs ws a b = e ∙ ap₂ compatible (same-items (h .left .here) a) (same-items (h .right .here) b)
 
-pub agree-start : {s : List ℕ} {base n : ℕ} → n ≡ word s (base + 512) → HasTwo map map s base → Agreeing s base (base + 512 + n) (base + 512 + 4)
+pub agree-start : {s : List ℕ} {base n : ℕ} → n ≡ word s (base + second) → HasTwo map map s base → Agreeing s base (base + second + n) (base + second + 4)
 agree-start {s} {base} {n} e h =
     record {
       maps = h;
@@ -62,8 +63,8 @@ agree-start {s} {base} {n} e h =
     }
 
 module _ {s : List ℕ} {base end p m : ℕ} (w : Agreeing s base end p) (lt : p < end) (e : m ≡ word s p) where
-  pub agree-next : {l : ℕ} → l ≡ word s (p + m) → Next s p m l end (w .rest)
-  agree-next d = next lt e d (w .rest-at) (w .paired)
+  pub agree-next : {l : ℕ} → l ≡ word s (p + m) → NextEntry s p m l end (w .rest)
+  agree-next d = next-entry lt e d (w .rest-at) (w .paired)
 
   pub agree-beside : Beside map s base p (p + m)
   agree-beside = let y = agree-next refl in record { held = w .maps .left; key = holds (y .key-at); value = holds (y .value-at) }

@@ -27,5 +27,5 @@ not-map {n = n} low high r f =
     (λ e. off-one {k = map} {f = ranged} {g = unary n} (λ v. ap (λ (i : ℕ). unary i v) (not-fourteen high low (eqb-false n 14 e))) r f)
 
 -- the last number, where it is none of the others
-pub last : {n : ℕ} → n ≤ 28 → 25 ≤ n → (n ≡ 25 → ⊥) → (n ≡ 26 → ⊥) → (n ≡ 27 → ⊥) → n ≡ 28
-last high low a b c = meet high (past (past (past low a) b) c)
+pub is-range-restriction : {n : ℕ} → n ≤ 28 → 25 ≤ n → (n ≡ 25 → ⊥) → (n ≡ 26 → ⊥) → (n ≡ 27 → ⊥) → n ≡ 28
+is-range-restriction high low a b c = meet high (past (past (past low a) b) c)

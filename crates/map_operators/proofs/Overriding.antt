@@ -24,12 +24,13 @@ use Rattle.collections.specs.Building.{entered, EntryRoom, Maps, Enters}
 use Rattle.operators.specs.Answer.{closed, sized, tooLarge}
 use Rattle.operators.specs.Gather.{enterAll}
 use Rattle.operator_laws.specs.EnumerationLaws.{fits, fits-not}
+use Rattle.calling.specs.Scratch.{second}
 use Rattle.calling.specs.declared.Applied.the-variants.{Done, Refused}
 use Rattle.calling.proofs.Answering.{is-done, is-off}
 use Rattle.calling.proofs.Framing.{kept-then, kept-outside, copyable-down, copied-kept}
 use Rattle.calling.specs.Operands.{HasTwo, OnBoth}
 use Rattle.calling.proofs.Kinding.{both-by}
-use Rattle.map_operators.proofs.Pairs.{Next, next}
+use Rattle.map_operators.proofs.Pairs.{NextEntry, next-entry}
 use Rattle.map_operators.proofs.Agreeing.{over}
 use Rattle.map_operators.proofs.Parts.{sizes-entered, entered-new, entered-there, entered-none}
 
@@ -41,9 +42,9 @@ pub record Overriding (s t : List ℕ) (base end p : ℕ) : Type 0 where
   pub so : enterAll (maps .left .items) (maps .right .items) ≡ enterAll rest made
   pub paired : Paired rest
   pub ascending : Ascending (keys rest)
-  pub made-at : At t (base + 512) (collection map made)
+  pub made-at : At t (base + second) (collection map made)
   pub rest-at : ItemsAt t p end rest
-  pub frame : Outside s t (base + 512) (base + 512 + limit)
+  pub frame : Outside s t (base + second) (base + second + limit)
 
 pub over-start : {s : List ℕ} {base n : ℕ} → n ≡ word s base → HasTwo map map s base → Overriding s s base (base + n) (base + 4)
 over-start {s} {base} {n} e h =
@@ -59,7 +60,7 @@ over-start {s} {base} {n} e h =
       ascending = collection-shaped (a .fine) .1;
       made-at = h .right .here;
       rest-at = items-to e a;
-      frame = outside-none s (base + 512) (base + 512 + limit);
+      frame = outside-none s (base + second) (base + second + limit);
     }
 
 -- ---- what an answer says
@@ -93,10 +94,10 @@ there-same {s} {t} {at} {x} {y} {vs} {k} {v} {w} {r} p a e m l = go (same w v) r
         (m .answers ∙ ap (λ (o : Option Value). entered o v (size (collection map (enter k v vs)))) l ∙ ap (λ (b : Bool). pick b Put Clash) q)
 
 module _ {s t : List ℕ} {base end p m l : ℕ} (w : Overriding s t base end p) (lt : p < end) (e : m ≡ word t p) (d : l ≡ word t (p + m)) where
-  pub over-next : Next t p m l end (w .rest)
-  over-next = next lt e d (w .rest-at) (w .paired)
+  pub over-next : NextEntry t p m l end (w .rest)
+  over-next = next-entry lt e d (w .rest-at) (w .paired)
 
-  pub over-room : EntryRoom t (base + 512) p (p + m)
+  pub over-room : EntryRoom t (base + second) p (p + m)
   over-room =
       let y = over-next in
       let r = w .maps .room in
@@ -107,8 +108,8 @@ module _ {s t : List ℕ} {base end p m l : ℕ} (w : Overriding s t base end p)
         value = record { held = record { items = w .made; here = w .made-at }; room = omega arith; item = holds (y .value-at); apart = inl (omega arith) };
       }
 
-module _ {s t u : List ℕ} {base end p m l : ℕ} {r : Entered} (w : Overriding s t base end p) (y : Next t p m l end (w .rest)) (x : Enters t u (base + 512) p (p + m) r) where
-  answer : Maps t u (base + 512) (w .made) (y .key) (y .value) r
+module _ {s t u : List ℕ} {base end p m l : ℕ} {r : Entered} (w : Overriding s t base end p) (y : NextEntry t p m l end (w .rest)) (x : Enters t u (base + second) p (p + m) r) where
+  answer : Maps t u (base + second) (w .made) (y .key) (y .value) r
   answer = x .right (w .made) (y .key) (y .value) (w .made-at) (y .key-at) (y .value-at)
 
   rising : Ascending (keys (more (y .key) (more (y .value) (y .rest))))
@@ -150,7 +151,7 @@ module _ {s t u : List ℕ} {base end p m l : ℕ} {r : Entered} (w : Overriding
       (is-off (ap (closed map) (fits-not (enterAll vs ws) (too-long f (lookup (y .key) (w .made)) refl))))
 
   -- on to the next entry
-  onward : (made : Items) → enterAll (w .maps .left .items) (w .maps .right .items) ≡ enterAll (y .rest) made → At u (base + 512) (collection map made) → Overriding s u base end (p + m + l)
+  onward : (made : Items) → enterAll (w .maps .left .items) (w .maps .right .items) ≡ enterAll (y .rest) made → At u (base + second) (collection map made) → Overriding s u base end (p + m + l)
   onward made e a =
       let i = w .short in
       record {
@@ -174,16 +175,16 @@ module _ {s t u : List ℕ} {base end p m l : ℕ} {r : Entered} (w : Overriding
       (not-full (leb (size (collection map made)) limit) (answer .answers ∙ ap (λ (o : Option Value). entered o (y .value) (size (collection map made))) n) f))
   step f (some z) n =
       let h = collection-shaped (w .made-at .fine) in
-      onward (w .made) (whole-there n) (subst (λ (b : List ℕ). At b (base + 512) (collection map (w .made))) (sym (there-same (h .0) (h .1) x answer n)) (w .made-at))
+      onward (w .made) (whole-there n) (subst (λ (b : List ℕ). At b (base + second) (collection map (w .made))) (sym (there-same (h .0) (h .1) x answer n)) (w .made-at))
 
   pub over-step : (r ≡ Full → ⊥) → Overriding s u base end (p + m + l)
   over-step f = step f (lookup (y .key) (w .made)) refl
 
 module _ {s t : List ℕ} {base end p : ℕ} (w : Overriding s t base end p) where
-  pub over-copyable : Copyable t (base + 512) base
+  pub over-copyable : Copyable t (base + second) base
   over-copyable = copyable-down (omega arith) (holds (w .made-at))
 
-  pub over-end : {u : List ℕ} {r : ℕ} → end ≤ p → Copied t u (base + 512) base r → OnBoth map map over s u base Done
+  pub over-end : {u : List ℕ} {r : ℕ} → end ≤ p → Copied t u (base + second) base r → OnBoth map map over s u base Done
   over-end {u} le c =
       let vs = w .maps .left .items in
       let ws = w .maps .right .items in

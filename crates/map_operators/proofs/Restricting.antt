@@ -20,6 +20,7 @@ use Rattle.collections.specs.Built.{at-apart}
 use Rattle.operators.specs.Answer.{Answer, is}
 use Rattle.operators.specs.Gather.{keepEntries}
 use Rattle.operator_laws.specs.EntryLaws.{keep-true, keep-false, paired-keep, ascending-keys}
+use Rattle.calling.specs.Scratch.{second}
 use Rattle.calling.specs.declared.Applied.the-variants.{Done}
 use Rattle.calling.proofs.Answering.{is-done}
 use Rattle.calling.proofs.Framing.{kept-then, kept-less, copyable-down, copied-kept}
@@ -27,7 +28,7 @@ use Rattle.calling.specs.Operands.{HasTwo, OnItems, OnBoth}
 use Rattle.calling.proofs.Kinding.{same-items, both-by}
 use Rattle.gathering.proofs.Packing.{Packing, pack-start, pack-past, pack-move, pack-end}
 use Rattle.map_operators.specs.Contract.{Beside, passes, Passes, Restrictable, Restricts}
-use Rattle.map_operators.proofs.Pairs.{Next, next, value-of}
+use Rattle.map_operators.proofs.Pairs.{NextEntry, next-entry, value-of}
 
 -- ---- one entry
 
@@ -78,8 +79,8 @@ module _ {by : Bool} {s t : List ℕ} {at of end p q : ℕ} (w : Restricting by 
       at-apart (outside-wider (omega arith) i (w .pack .frame)) (w .apart) (w .members .here)
 
   module _ {m l : ℕ} (lt : p < end) (e : m ≡ word t p) (d : l ≡ word t (p + m)) where
-    pub restrict-next : Next t p m l end (w .pack .rest)
-    restrict-next = next lt e d (w .pack .rest-at) (w .pack .so .paired)
+    pub restrict-next : NextEntry t p m l end (w .pack .rest)
+    restrict-next = next-entry lt e d (w .pack .rest-at) (w .pack .so .paired)
 
     pub restrict-beside : Beside set t of p (p + m)
     restrict-beside = let y = restrict-next in record { held = record { items = w .members .items; here = members-at }; key = holds (y .key-at); value = holds (y .value-at) }
@@ -154,23 +155,23 @@ abbrev pub onRange : Items → Items → Answer
 onRange vs ws = is (collection map (keepEntries (λ k x. isMember x ws) vs))
 
 module _ {s : List ℕ} {base : ℕ} (h : HasTwo set map s base) where
-  pub domain-restrictable : Restrictable s (base + 512) base
+  pub domain-restrictable : Restrictable s (base + second) base
   domain-restrictable = let a = holds (h .left .here) in record { held = h .right; members = h .left; apart = inl (omega arith) }
 
-  module _ {t : List ℕ} (o : Restricts true s t (base + 512) base) where
-    pub domain-copyable : Copyable t (base + 512) base
+  module _ {t : List ℕ} (o : Restricts true s t (base + second) base) where
+    pub domain-copyable : Copyable t (base + second) base
     domain-copyable = copyable-down (omega arith) (holds (o .right (h .right .items) (h .left .items) (h .right .here) (h .left .here)))
 
-    pub domain-restricted : {u : List ℕ} {r : ℕ} → Copied t u (base + 512) base r → OnBoth set map onDomain s u base Done
+    pub domain-restricted : {u : List ℕ} {r : ℕ} → Copied t u (base + second) base r → OnBoth set map onDomain s u base Done
     domain-restricted c =
         both-by {f = onDomain} (kept-then (kept-less (omega arith) (o .kept)) (copied-kept c)) (h .left .here) (h .right .here)
         (is-done refl (c .here _ (o .right (h .right .items) (h .left .items) (h .right .here) (h .left .here))))
 
 module _ {s : List ℕ} {base : ℕ} (h : HasTwo map set s base) where
-  pub range-restrictable : Restrictable s base (base + 512)
+  pub range-restrictable : Restrictable s base (base + second)
   range-restrictable = record { held = h .left; members = h .right; apart = inr (omega arith) }
 
-  pub range-restricted : {t : List ℕ} → Restricts false s t base (base + 512) → OnBoth map set onRange s t base Done
+  pub range-restricted : {t : List ℕ} → Restricts false s t base (base + second) → OnBoth map set onRange s t base Done
   range-restricted o =
       both-by {f = onRange} (o .kept) (h .left .here) (h .right .here)
       (is-done refl (o .right (h .left .items) (h .right .items) (h .left .here) (h .right .here)))

@@ -10,7 +10,7 @@ use Rattle.collections.specs.Finding.{HoldsKind}
 use Rattle.collections.specs.Building.{Apart}
 use Rattle.operators.specs.Gather.{keepEntries}
 use Rattle.operators.specs.Maps.{agrees, compatible}
-use Rattle.calling.specs.Scratch.{Kept}
+use Rattle.calling.specs.Scratch.{second, Kept}
 
 -- ---- an entry beside a map or a set
 
@@ -33,9 +33,9 @@ Passes by s at x y r = (vs : Items) (k v : Value) → At s at (collection set vs
 
 -- ---- whole maps
 
--- r says whether the maps at base and 512 bytes above it are compatible.
+-- r says whether the two maps are compatible.
 abbrev pub Compatible : List ℕ → ℕ → Bool → Type 0
-Compatible s base r = (vs ws : Items) → At s base (collection map vs) → At s (base + 512) (collection map ws) → r ≡ compatible vs ws
+Compatible s base r = (vs ws : Items) → At s base (collection map vs) → At s (base + second) (collection map ws) → r ≡ compatible vs ws
 
 -- A map stands at a place, and a set elsewhere.
 pub record Restrictable (s : List ℕ) (at of : ℕ) : Type 0 where

@@ -28,7 +28,7 @@ pub fn unary(s: &mut [u8], base: usize, operator: usize) -> Applied
     map_operators::unary_map(s, base, operator)
 }
 
-// The strict binary operators, 4 to 28, on the values at base and 512 bytes above it.
+// The strict binary operators, 4 to 28, on the values at base and `Applied::SECOND` above it.
 pub fn binary(s: &mut [u8], base: usize, operator: usize) -> Applied
     requires { ⌜ Two (now s) base × Binary operator ⌝ }
     ensures { λ r. ⌜ OnTwo (binary operator) (now (s .entry)) (now (s .exit)) base r ⌝ }

@@ -16,6 +16,7 @@ use Rattle.values.specs.Frame.{items-moved, items-below, outside-then}
 use Rattle.values.specs.Written.{closed}
 use Rattle.operators.specs.Answer.{Answer, closed as answered, sized}
 use Rattle.operator_laws.specs.EnumerationLaws.{fits, fits-not}
+use Rattle.calling.specs.Scratch.{second}
 use Rattle.calling.specs.declared.Applied.the-variants.{Done, Refused}
 use Rattle.calling.proofs.Answering.{is-done}
 use Rattle.calling.proofs.Framing.{kept-outside}
@@ -26,7 +27,7 @@ use Rattle.calling.proofs.Kinding.{both-by, both-off}
 abbrev pub concatenated : Items → Items → Answer
 concatenated vs ws = sized sequence (join vs ws)
 
-module _ {s : List ℕ} {base n m : ℕ} (e : n ≡ word s base) (d : m ≡ word s (base + 512)) where
+module _ {s : List ℕ} {base n m : ℕ} (e : n ≡ word s base) (d : m ≡ word s (base + second)) where
   pub join-full : limit < n + m - 4 → OnBoth sequence sequence concatenated s s base (Refused 28)
   join-full f =
       both-off
@@ -36,10 +37,10 @@ module _ {s : List ℕ} {base n m : ℕ} (e : n ≡ word s base) (d : m ≡ word
       ap (answered sequence) (fits-not (join vs ws) (omega (arith, join-sizes vs ws))))
 
   module _ (h : HasTwo sequence sequence s base) (f : n + m - 4 ≤ limit) where
-    pub join-movable : Movable s (base + 512 + 4) (base + n) (m - 4)
+    pub join-movable : Movable s (base + second + 4) (base + n) (m - 4)
     join-movable = let a = holds (h .left .here) in let b = holds (h .right .here) in let r = h .room in record { there = omega arith; room = omega arith; apart = inr (omega arith) }
 
-    pub join-done : {t u : List ℕ} → Moved s t (base + 512 + 4) (base + n) (m - 4) → PutHead t u base (n + m - 4) (number sequence) → OnBoth sequence sequence concatenated s u base Done
+    pub join-done : {t u : List ℕ} → Moved s t (base + second + 4) (base + n) (m - 4) → PutHead t u base (n + m - 4) (number sequence) → OnBoth sequence sequence concatenated s u base Done
     join-done {t} {u} moved head =
         let a = holds (h .left .here) in
         let b = holds (h .right .here) in
@@ -53,8 +54,8 @@ module _ {s : List ℕ} {base n m : ℕ} (e : n ≡ word s base) (d : m ≡ word
         let l = moved .outside .long in
         let k = join-sizes vs ws in
         let z : sizes ws ≡ m - 4 = omega arith in
-        let bytes : take (sizes ws) (drop (base + n) t) ≡ take (sizes ws) (drop (base + 512 + 4) s) =
-        subst (λ (g : ℕ). take g (drop (base + n) t) ≡ take g (drop (base + 512 + 4) s)) (sym z) (moved .bytes) in
+        let bytes : take (sizes ws) (drop (base + n) t) ≡ take (sizes ws) (drop (base + second + 4) s) =
+        subst (λ (g : ℕ). take g (drop (base + n) t) ≡ take g (drop (base + second + 4) s)) (sym z) (moved .bytes) in
         let right : ItemsAt t (base + n) (base + (n + m - 4)) ws = items-moved (base + n) (base + (n + m - 4)) (omega arith) (omega arith) bytes y in
         let both = joined (items-below (moved .outside) (omega arith) x) right (omega arith) in
         both-by {f = concatenated}

@@ -35,5 +35,5 @@ not-sequence {n = n} low high r f =
     off-one (a .is) r f
 
 -- the last number, where it is none of the others
-pub last : {n : ℕ} → n ≤ 13 → 7 ≤ n → (n ≡ 7 → ⊥) → (n ≡ 8 → ⊥) → (n ≡ 9 → ⊥) → (n ≡ 10 → ⊥) → (n ≡ 11 → ⊥) → (n ≡ 12 → ⊥) → n ≡ 13
-last high low a b c d e f = meet high (past (past (past (past (past (past low a) b) c) d) e) f)
+pub is-reverse : {n : ℕ} → n ≤ 13 → 7 ≤ n → (n ≡ 7 → ⊥) → (n ≡ 8 → ⊥) → (n ≡ 9 → ⊥) → (n ≡ 10 → ⊥) → (n ≡ 11 → ⊥) → (n ≡ 12 → ⊥) → n ≡ 13
+is-reverse high low a b c d e f = meet high (past (past (past (past (past (past low a) b) c) d) e) f)

@@ -28,13 +28,14 @@ use Rattle.operators.specs.Operators.{binary}
 use Rattle.operator_laws.specs.Tests.{both-ways, by-test}
 use Rattle.operator_laws.specs.EnumerationLaws.{fits as fitting-is, fits-not}
 use Rattle.operator_laws.specs.SetLaws.{subset-all, subset-equal}
+use Rattle.calling.specs.Scratch.{second, third}
 use Rattle.calling.specs.declared.Applied.{Applied}
 use Rattle.calling.specs.declared.Applied.the-variants.{Done, Refused}
 use Rattle.calling.specs.Applied.{Two, OnTwo, Gives}
 use Rattle.calling.proofs.Framing.{kept-outside, copyable-down}
 use Rattle.calling.proofs.Answering.{two-by, two-off, is-off, two-done, two-gives, gives-same, two-copied}
 use Rattle.calling.proofs.Kinding.{needs-off}
-use Rattle.set_operators.specs.Members.{AllIn, agrees, chosen, Choice, Chosen}
+use Rattle.set_operators.specs.Members.{AllIn, asWanted, wantedOf, Choice, Chosen}
 use Rattle.gathering.specs.Inserting.{Growing, Grown, InsertsAll, themselves}
 use Rattle.set_operators.specs.Operands.{IsOfKind, TwoSets}
 use Rattle.set_operators.proofs.Choosing.{as-wanted}
@@ -44,26 +45,26 @@ use Rattle.set_operators.proofs.Telling.{either}
 -- ---- 17 in set, 18 not in set
 
 module _ {n : ℕ} (low : 17 ≤ n) (high : n ≤ 18) where
-  member-is : (v : Value) (ws : Items) → binary n v (collection set ws) ≡ truth (agrees (eqb n 17) (isMember v ws))
+  member-is : (v : Value) (ws : Items) → binary n v (collection set ws) ≡ truth (asWanted (eqb n 17) (isMember v ws))
   unfolding binary
-  member-is v ws = either (λ (m : ℕ). binary m v (collection set ws) ≡ truth (agrees (eqb m 17) (isMember v ws))) 17 18 refl low high refl refl
+  member-is v ws = either (λ (m : ℕ). binary m v (collection set ws) ≡ truth (asWanted (eqb m 17) (isMember v ws))) 17 18 refl low high refl refl
 
   member-off : (v w : Value) → asSet w ≡ absent → binary n v w ≡ refused wrongKind
   unfolding binary
   member-off v w e =
       either (λ (m : ℕ). binary m v w ≡ refused wrongKind) 17 18 refl low high (needs-off (λ ws. truth (isMember v ws)) e) (needs-off (λ ws. truth (not (isMember v ws))) e)
 
-  module _ {s : List ℕ} {base : ℕ} {r : Bool} (k : IsOfKind s (base + 512) 3 r) where
+  module _ {s : List ℕ} {base : ℕ} {r : Bool} (k : IsOfKind s (base + second) 3 r) where
     pub membership-off : r ≡ false → OnTwo (binary n) s s base (Refused 20)
     membership-off e = two-off (λ v w a b. member-off v w (k .no set refl e w b))
 
-    pub membership-done : {t : List ℕ} {found : Bool} {q : Applied} → r ≡ true → Two s base → Contains s (base + 512) base found → Gives (truth (Bool·beq found (eqb n 17))) s t base q → OnTwo (binary n) s t base q
+    pub membership-done : {t : List ℕ} {found : Bool} {q : Applied} → r ≡ true → Two s base → Contains s (base + second) base found → Gives (truth (Bool·beq found (eqb n 17))) s t base q → OnTwo (binary n) s t base q
     membership-done {found = found} e two c g =
         let h = k .yes set refl e in
         let v = two .left .value in
         let a = two .left .here in
         let w : found ≡ isMember v (h .items) = c (h .items) v (h .here) a in
-        two-gives a (h .here) (gives-same (member-is v (h .items) ∙ ap (λ (b : Bool). truth (agrees (eqb n 17) b)) (sym w) ∙ ap truth (sym (as-wanted found (eqb n 17)))) g)
+        two-gives a (h .here) (gives-same (member-is v (h .items) ∙ ap (λ (b : Bool). truth (asWanted (eqb n 17) b)) (sym w) ∙ ap truth (sym (as-wanted found (eqb n 17)))) g)
 
 -- ---- a set that was built
 
@@ -86,15 +87,15 @@ module _ {s : List ℕ} {base : ℕ} {b : Bool} (k : TwoSets s base b) (two : Tw
   unfolding binary
   union-off e = two-off (λ v w x y. k .others e v w x y _)
 
-  module _ (e : b ≡ true) (n : ℕ) (q : n ≡ word s (base + 512)) where
-    pub union-room : HoldsItems s (base + 512 + 4) (base + 512 + n) × Growing s (base + 512 + 4) (base + 512 + n) base
+  module _ (e : b ≡ true) (n : ℕ) (q : n ≡ word s (base + second)) where
+    pub union-room : HoldsItems s (base + second + 4) (base + second + n) × Growing s (base + second + 4) (base + second + n) base
     union-room =
         let room = two .room in (
           (k .right e .items, items-to q (k .right e .here)),
           record { held = k .left e; room = omega arith; apart = inr (omega arith) },
         )
 
-    module _ {t : List ℕ} {r : Added} (i : InsertsAll themselves s t (base + 512 + 4) (base + 512 + n) base r) where
+    module _ {t : List ℕ} {r : Added} (i : InsertsAll themselves s t (base + second + 4) (base + second + n) base r) where
       united : Grown t base (insertAll (k .left e .items) (k .right e .items)) r
       united = i .right (k .left e .items) (k .right e .items) (k .left e .here) (items-to q (k .right e .here))
 
@@ -118,10 +119,10 @@ and-true true = refl
 and-true false = refl
 
 module _ {op : ℕ} (low : 20 ≤ op) (high : op ≤ 21) where
-  chosen-is : (vs ws : Items) → binary op (collection set vs) (collection set ws) ≡ is (collection set (chosen (eqb op 20) vs (more (collection set ws) none)))
+  chosen-is : (vs ws : Items) → binary op (collection set vs) (collection set ws) ≡ is (collection set (wantedOf (eqb op 20) vs (more (collection set ws) none)))
   unfolding binary every
   chosen-is vs ws =
-      either (λ (m : ℕ). binary m (collection set vs) (collection set ws) ≡ is (collection set (chosen (eqb m 20) vs (more (collection set ws) none)))) 20 21 refl low high
+      either (λ (m : ℕ). binary m (collection set vs) (collection set ws) ≡ is (collection set (wantedOf (eqb m 20) vs (more (collection set ws) none)))) 20 21 refl low high
       (ap (λ (us : Items). is (collection set us)) (keep-same (λ v. isMember v ws) (λ v. isMember v ws && true) vs (λ v. and-true (isMember v ws))))
       (ap (λ (us : Items). is (collection set us)) (keep-same (λ v. not (isMember v ws)) (λ v. not (isMember v ws && true)) vs (λ v. ap not (and-true (isMember v ws)))))
 
@@ -131,13 +132,13 @@ module _ {op : ℕ} (low : 20 ≤ op) (high : op ≤ 21) where
     selection-off e =
         two-off (λ v w x y. either (λ (m : ℕ). binary m v w ≡ refused wrongKind) 20 21 refl low high (k .others e v w x y _) (k .others e v w x y _))
 
-    module _ (e : b ≡ true) (n : ℕ) (q : n ≡ word s (base + 512)) where
-      right-alone : ItemsAt s (base + 512) (base + 512 + n) (more (collection set (k .right e .items)) none)
+    module _ (e : b ≡ true) (n : ℕ) (q : n ≡ word s (base + second)) where
+      right-alone : ItemsAt s (base + second) (base + second + n) (more (collection set (k .right e .items)) none)
       right-alone =
           let h = k .right e .here in
-          subst (λ (m : ℕ). ItemsAt s (base + 512) (base + 512 + m) (more (collection set (k .right e .items)) none)) (sym (q ∙ word-size h)) (one-item h)
+          subst (λ (m : ℕ). ItemsAt s (base + second) (base + second + m) (more (collection set (k .right e .items)) none)) (sym (q ∙ word-size h)) (one-item h)
 
-      pub selection-room : Choice s base (base + 512) (base + 512 + n) (base + 1024)
+      pub selection-room : Choice s base (base + second) (base + second + n) (base + third)
       unfolding every
       selection-room =
           let l = holds (k .left e .here) in
@@ -153,14 +154,14 @@ module _ {op : ℕ} (low : 20 ≤ op) (high : op ≤ 21) where
             room = omega arith;
           }
 
-      module _ {t : List ℕ} (c : Chosen s t base (base + 512) (base + 512 + n) (base + 1024) (eqb op 20)) where
-        selected : At t (base + 1024) (collection set (chosen (eqb op 20) (k .left e .items) (more (collection set (k .right e .items)) none)))
+      module _ {t : List ℕ} (c : Chosen s t base (base + second) (base + second + n) (base + third) (eqb op 20)) where
+        selected : At t (base + third) (collection set (wantedOf (eqb op 20) (k .left e .items) (more (collection set (k .right e .items)) none)))
         selected = c .right (k .left e .items) (more (collection set (k .right e .items)) none) (k .left e .here) right-alone
 
-        pub selection-copy : Copyable t (base + 1024) base
+        pub selection-copy : Copyable t (base + third) base
         selection-copy = copyable-down (omega arith) (holds selected)
 
-        pub selection-done : {u : List ℕ} {m : ℕ} → Copied t u (base + 1024) base m → OnTwo (binary op) s u base Done
+        pub selection-done : {u : List ℕ} {m : ℕ} → Copied t u (base + third) base m → OnTwo (binary op) s u base Done
         selection-done d = two-copied (kept-outside (omega arith) (c .frame)) (k .left e .here) (k .right e .here) (chosen-is (k .left e .items) (k .right e .items)) selected d
 
 -- ---- 22 subset, 23 psubset
@@ -215,10 +216,10 @@ module _ {s : List ℕ} {base : ℕ} {b : Bool} (k : TwoSets s base b) where
       two-off (λ v w x y. either (λ (m : ℕ). binary m v w ≡ refused wrongKind) 22 23 refl low high (k .others e v w x y _) (k .others e v w x y _))
 
   module _ (e : b ≡ true) (n : ℕ) (q : n ≡ word s base) where
-    pub inclusion-room : HoldsItems s (base + 4) (base + n) × HoldsKind set s (base + 512)
+    pub inclusion-room : HoldsItems s (base + 4) (base + n) × HoldsKind set s (base + second)
     inclusion-room = ((k .left e .items, items-to q (k .left e .here)), k .right e)
 
-    module _ {inside : Bool} (i : AllIn s (base + 4) (base + n) (base + 512) inside) where
+    module _ {inside : Bool} (i : AllIn s (base + 4) (base + n) (base + second) inside) where
       inside-is : inside ≡ isSubset (k .left e .items) (k .right e .items)
       inside-is = i (k .left e .items) (k .right e .items) (items-to q (k .left e .here)) (k .right e .here)
 
@@ -226,7 +227,7 @@ module _ {s : List ℕ} {base : ℕ} {b : Bool} (k : TwoSets s base b) where
       unfolding binary
       subset-done d g = binary-as 22 d (two-gives (k .left e .here) (k .right e .here) (gives-same (ap truth (sym inside-is)) g))
 
-      pub psubset-done : {t : List ℕ} {op : ℕ} {equal : Bool} {r : Applied} → op ≡ 23 → Equal s base (base + 512) equal → Gives (truth (not (Bool·beq inside equal))) s t base r → OnTwo (binary op) s t base r
+      pub psubset-done : {t : List ℕ} {op : ℕ} {equal : Bool} {r : Applied} → op ≡ 23 → Equal s base (base + second) equal → Gives (truth (not (Bool·beq inside equal))) s t base r → OnTwo (binary op) s t base r
       unfolding binary
       psubset-done {equal = equal} d f g =
           let vs = k .left e .items in

@@ -18,21 +18,21 @@ use Rattle.collections.specs.Finding.{HoldsCollection}
 use Rattle.collections.specs.Building.{Appends, Empties, Retags}
 use Rattle.operators.specs.Gather.{keep}
 use Rattle.operator_laws.specs.GatherLaws.{ascending-keep}
-use Rattle.set_operators.specs.Members.{HoldsSets, inAll, InAll, agrees, chosen, Appendable, AppendsIf, Choice, Chosen}
+use Rattle.set_operators.specs.Members.{HoldsSets, inAll, InAll, asWanted, wantedOf, Appendable, AppendsIf, Choice, Chosen}
 use Rattle.gathering.proofs.Walks.{Left, first-left, left-on, left-none}
 use Rattle.gathering.proofs.Growth.{Next, next-item, put-added}
 
 -- ---- one item
 
 -- code compares what was found with what is wanted
-pub as-wanted : (found wanted : Bool) → Bool·beq found wanted ≡ agrees wanted found
+pub as-wanted : (found wanted : Bool) → Bool·beq found wanted ≡ asWanted wanted found
 as-wanted true true = refl
 as-wanted true false = refl
 as-wanted false true = refl
 as-wanted false false = refl
 
-pub appended : {s t : List ℕ} {at x : ℕ} {r : Added} {b : Bool} → Appendable s at x → Appends s t at x r → b ≡ true → AppendsIf s t at x b
-appended {s} {t} {at} {x} {r} {b} p q e =
+pub append-done : {s t : List ℕ} {at x : ℕ} {r : Added} {b : Bool} → Appendable s at x → Appends s t at x r → b ≡ true → AppendsIf s t at x b
+append-done {s} {t} {at} {x} {r} {b} p q e =
     record {
       frame = q .frame;
       right = λ us v a h.
@@ -74,8 +74,8 @@ choice-still {s} {t} {x} {a} {b} {at} o r =
 
 -- ---- the walk
 
-abbrev pub passes : Bool → Items → Value → Bool
-passes wanted ws v = agrees wanted (inAll v ws)
+abbrev pub wantedIn : Bool → Items → Value → Bool
+wantedIn wanted ws v = asWanted wanted (inAll v ws)
 
 pub record Picked (s t : List ℕ) (end at p : ℕ) (q : Value → Bool) (vs : Items) : Type 0 where
   pub us : Items
@@ -85,7 +85,7 @@ pub record Picked (s t : List ℕ) (end at p : ℕ) (q : Value → Bool) (vs : I
 pub record Choosing (s t : List ℕ) (x a b at : ℕ) (wanted : Bool) (p : ℕ) : Type 0 where
   pub choice : Choice s x a b at
   pub frame : Outside s t at (at + limit)
-  pub state : (vs ws : Items) → At s x (collection set vs) → ItemsAt s a b ws → Picked s t (x + word s x) at p (passes wanted ws) vs
+  pub state : (vs ws : Items) → At s x (collection set vs) → ItemsAt s a b ws → Picked s t (x + word s x) at p (wantedIn wanted ws) vs
 
 pub choose-start : {s : List ℕ} {x a b at : ℕ} (wanted : Bool) → Choice s x a b at → At s at (collection sequence none) → Choosing s s x a b at wanted (x + 4)
 unfolding join size
@@ -109,7 +109,7 @@ sizes-on us v false = omega arith
 
 module _ {s t : List ℕ} {x a b at : ℕ} {wanted : Bool} {p : ℕ} (w : Choosing s t x a b at wanted p) where
   -- what is known of the set whose members they are, and of the sets that they are looked for in
-  one : Picked s t (x + word s x) at p (passes wanted (w .choice .others .items)) (w .choice .held .items)
+  one : Picked s t (x + word s x) at p (wantedIn wanted (w .choice .others .items)) (w .choice .held .items)
   one = w .state (w .choice .held .items) (w .choice .others .items) (w .choice .held .here) (w .choice .others .here)
 
   pub choose-next : {u : List ℕ} → p < x + word s x → Outside s u at (at + limit) → Next s u (x + word s x) at p
@@ -135,7 +135,7 @@ module _ {s t : List ℕ} {x a b at : ℕ} {wanted : Bool} {p : ℕ} (w : Choosi
   pub choose-built : HoldsCollection t at
   choose-built = record { kind = sequence; items = one .us; here = one .made }
 
-  pub choose-on : {u : List ℕ} {found flag : Bool} → p < x + word s x → InAll t p a b found → flag ≡ agrees wanted found → AppendsIf t u at p flag → (n : ℕ) → n ≡ word s p → Choosing s u x a b at wanted (p + n)
+  pub choose-on : {u : List ℕ} {found flag : Bool} → p < x + word s x → InAll t p a b found → flag ≡ asWanted wanted found → AppendsIf t u at p flag → (n : ℕ) → n ≡ word s p → Choosing s u x a b at wanted (p + n)
   unfolding size
   choose-on {u} {found} {flag} lt i f q n d =
       record {
@@ -148,16 +148,16 @@ module _ {s t : List ℕ} {x a b at : ℕ} {wanted : Bool} {p : ℕ} (w : Choosi
             let inside = y .inside in
             let m = word-size (y .first-at) in
             let v-at : At t p (y .first) = at-below (w .frame) (omega arith) (y .first-at) in
-            let e : passes wanted ws (y .first) ≡ flag = ap (agrees wanted) (sym (i (y .first) ws v-at (items-below (w .frame) (w .choice .under) g))) ∙ sym f in
+            let e : wantedIn wanted ws (y .first) ≡ flag = ap (asWanted wanted) (sym (i (y .first) ws v-at (items-below (w .frame) (w .choice .under) g))) ∙ sym f in
             let z = y .so .1 in
             record {
               us = pick flag (snoc (k .us) (y .first)) (k .us);
               made = q .right (k .us) (y .first) (k .made) v-at;
-              left = left-on y n d (y .so .0 ∙ keep-on (passes wanted ws) (k .us) (y .first) (y .rest) flag e, omega (arith, sizes-on (k .us) (y .first) flag));
+              left = left-on y n d (y .so .0 ∙ keep-on (wantedIn wanted ws) (k .us) (y .first) (y .rest) flag e, omega (arith, sizes-on (k .us) (y .first) flag));
             };
       }
 
-  pub choose-end : x + word s x ≤ p → (vs ws : Items) → At s x (collection set vs) → ItemsAt s a b ws → At t at (collection sequence (chosen wanted vs ws))
+  pub choose-end : x + word s x ≤ p → (vs ws : Items) → At s x (collection set vs) → ItemsAt s a b ws → At t at (collection sequence (wantedOf wanted vs ws))
   unfolding keep
   choose-end le vs ws h g =
       let k = w .state vs ws h g in
@@ -188,5 +188,5 @@ choose-close {s} {t} {u} {v} {x} {a} {b} {at} {p} {wanted} r e w le q =
       right = λ vs ws h g.
           let m = word-size h in
           let d = choose-end w le vs ws (at-below o (omega arith) h) (items-below o (r .under) g) in
-          q .right sequence set (chosen wanted vs ws) d refl (ascending-keep (passes wanted ws) vs (collection-shaped (h .fine)));
+          q .right sequence set (wantedOf wanted vs ws) d refl (ascending-keep (wantedIn wanted ws) vs (collection-shaped (h .fine)));
     }

@@ -30,11 +30,11 @@ use Rattle.operators.specs.Operators.{unary}
 use Rattle.operator_laws.specs.RangeLaws.{up-le}
 use Rattle.calling.specs.declared.Applied.the-variants.{Done, Refused}
 use Rattle.calling.specs.Applied.{One, OnOne}
-use Rattle.calling.specs.Scratch.{Kept}
+use Rattle.calling.specs.Scratch.{second, third, Kept}
 use Rattle.calling.proofs.Framing.{kept-same, kept-outside, copyable-down}
 use Rattle.calling.proofs.Answering.{one-by, one-off, is-off, one-put, one-copied}
 use Rattle.calling.proofs.Kinding.{needs-off}
-use Rattle.set_operators.specs.Members.{HoldsSets, chosen, Choice, Chosen}
+use Rattle.set_operators.specs.Members.{HoldsSets, wantedOf, Choice, Chosen}
 use Rattle.set_operators.specs.Members.{AllOfKind}
 use Rattle.gathering.specs.Inserting.{Growing, Grown, InsertsAll}
 use Rattle.gathering.proofs.Gathered.{still-there, empty-room, gathered, gathered-kept}
@@ -108,22 +108,22 @@ module _ {s : List ℕ} {base : ℕ} {b : Bool} (k : IsOfKind s base 3 b) where
 
 -- ---- 5 dunion
 
-module _ {s t : List ℕ} {base n : ℕ} (f : Family s base (base + n)) (one : One s base) (q : n ≡ word s base) (e : Empties s t (base + 512) 3) where
-  pub dunion-room : HoldsSets t (base + 4) (base + n) × Growing t (base + 4) (base + n) (base + 512)
+module _ {s t : List ℕ} {base n : ℕ} (f : Family s base (base + n)) (one : One s base) (q : n ≡ word s base) (e : Empties s t (base + second) 3) where
+  pub dunion-room : HoldsSets t (base + 4) (base + n) × Growing t (base + 4) (base + n) (base + second)
   dunion-room = (record { items = f .members; here = still-there (f .here) n q e (one .room); sets = f .sets }, empty-room (f .here) n q e (one .room))
 
-  module _ {u : List ℕ} {r : Added} (i : InsertsAll flatten t u (base + 4) (base + n) (base + 512) r) where
-    grown : Grown u (base + 512) (insertAll none (flatten (f .members))) r
+  module _ {u : List ℕ} {r : Added} (i : InsertsAll flatten t u (base + 4) (base + n) (base + second) r) where
+    grown : Grown u (base + second) (insertAll none (flatten (f .members))) r
     grown = gathered (f .here) n q e (one .room) i
 
     pub dunion-full : r ≡ TooLong → OnOne (unary 5) s u base (Refused 28)
     unfolding unary
     dunion-full d = one-by (gathered-kept (f .here) n q e (one .room) i) (f .here) (is-off (pick-true _ _ _ (f .sets) ∙ grown-full grown d))
 
-    pub dunion-copy : r ≡ Fitted → Copyable u (base + 512) base
+    pub dunion-copy : r ≡ Fitted → Copyable u (base + second) base
     dunion-copy d = copyable-down (omega arith) (holds (grown .made d))
 
-    pub dunion-done : r ≡ Fitted → {w : List ℕ} {m : ℕ} → Copied u w (base + 512) base m → OnOne (unary 5) s w base Done
+    pub dunion-done : r ≡ Fitted → {w : List ℕ} {m : ℕ} → Copied u w (base + second) base m → OnOne (unary 5) s w base Done
     unfolding unary
     dunion-done d c = one-copied (gathered-kept (f .here) n q e (one .room) i) (f .here) (pick-true _ _ _ (f .sets) ∙ grown-done grown d) (grown .made d) c
 
@@ -144,7 +144,7 @@ module _ {s : List ℕ} {base end : ℕ} (f : Family s base end) where
       rest-at : ItemsAt s (base + 4 + n) end (first-of-sets f ne .rest)
       rest-at = subst (λ (m : ℕ). ItemsAt s (base + 4 + m) end (first-of-sets f ne .rest)) (sym q) (first-of-sets f ne .rest-at)
 
-      pub dinter-room : Choice s (base + 4) (base + 4 + n) end (base + 1024)
+      pub dinter-room : Choice s (base + 4) (base + 4 + n) end (base + third)
       dinter-room =
           let y = first-of-sets f ne in
           let room = one .room in
@@ -158,14 +158,14 @@ module _ {s : List ℕ} {base end : ℕ} (f : Family s base end) where
             room = omega arith;
           }
 
-      module _ {t : List ℕ} (c : Chosen s t (base + 4) (base + 4 + n) end (base + 1024) true) where
-        common : At t (base + 1024) (collection set (chosen true (first-of-sets f ne .members) (first-of-sets f ne .rest)))
+      module _ {t : List ℕ} (c : Chosen s t (base + 4) (base + 4 + n) end (base + third) true) where
+        common : At t (base + third) (collection set (wantedOf true (first-of-sets f ne .members) (first-of-sets f ne .rest)))
         common = let y = first-of-sets f ne in c .right (y .members) (y .rest) (y .first-at) rest-at
 
-        pub dinter-copy : Copyable t (base + 1024) base
+        pub dinter-copy : Copyable t (base + third) base
         dinter-copy = copyable-down (omega arith) (holds common)
 
-        pub dinter-done : {u : List ℕ} {m : ℕ} → Copied t u (base + 1024) base m → OnOne (unary 6) s u base Done
+        pub dinter-done : {u : List ℕ} {m : ℕ} → Copied t u (base + third) base m → OnOne (unary 6) s u base Done
         unfolding unary
         dinter-done d =
             one-copied (kept-outside (omega arith) (c .frame)) (f .here) (pick-true _ _ _ (f .sets) ∙ ap intersectionOf (first-of-sets f ne .is)) common d

@@ -14,6 +14,7 @@ use Rattle.values.specs.Records.{holds, items-to, run-of}
 use Rattle.operators.specs.Answer.{asSet}
 use Rattle.operators.specs.Gather.{every, isKind}
 use Rattle.operator_laws.specs.Tests.{by-test}
+use Rattle.calling.specs.Scratch.{second}
 use Rattle.calling.proofs.Kinding.{the-kind, no-kind, needs-left, needs-right}
 use Rattle.set_operators.specs.Members.{AllOfKind}
 use Rattle.set_operators.specs.Operands.{IsOfKind, TwoSets}
@@ -39,7 +40,7 @@ left-no k e =
     never-true : false ≡ true → ⊥
     never-true t = let z : _≡_ {A = ℕ} 0 1 = cc in omega arith
 
-pub left-yes : {s : List ℕ} {base : ℕ} {a r : Bool} → IsOfKind s base 3 a → a ≡ true → IsOfKind s (base + 512) 3 r → TwoSets s base r
+pub left-yes : {s : List ℕ} {base : ℕ} {a r : Bool} → IsOfKind s base 3 a → a ≡ true → IsOfKind s (base + second) 3 r → TwoSets s base r
 left-yes k e l =
     record {
       left = λ t. k .yes set refl e;

@@ -90,13 +90,13 @@ pub kind-agrees : {s : List ℕ} {p r n : ℕ} → KindAt s p r → r ≡ n → 
 kind-agrees h e i v a = kind-test (i .0) v ∙ eq-eqb (number (i .0)) (kindOf v) (sym (i .1) ∙ sym e ∙ h .right v a)
 
 -- one value, in each of the sets
-abbrev pub Standing : List ℕ → ℕ → Type 0
-Standing s x = (v : Value) × At s x v
+abbrev pub ValueAt : List ℕ → ℕ → Type 0
+ValueAt s x = (v : Value) × At s x v
 
-abbrev pub inEach : (s : List ℕ) (x : ℕ) → Standing s x → Value → Bool
+abbrev pub inEach : (s : List ℕ) (x : ℕ) → ValueAt s x → Value → Bool
 inEach s x i w = isMember (i .0) (itemsOf w)
 
-pub in-each : {s : List ℕ} {x p : ℕ} {r b : Bool} {us : Items} → Contains s p x r → r ≡ b → At s p (collection set us) → (i : Standing s x) (w : Value) → At s p w → inEach s x i w ≡ b
+pub in-each : {s : List ℕ} {x p : ℕ} {r b : Bool} {us : Items} → Contains s p x r → r ≡ b → At s p (collection set us) → (i : ValueAt s x) (w : Value) → At s p w → inEach s x i w ≡ b
 in-each {us = us} f e a i w h = ap (λ (u : Value). isMember (i .0) (itemsOf u)) (one-value h a) ∙ sym (f us (i .0) a (i .1)) ∙ e
 
 -- each value, in one set

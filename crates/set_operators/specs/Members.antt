@@ -50,13 +50,13 @@ pub record AppendsIf (s t : List ℕ) (at x : ℕ) (wanted : Bool) : Type 0 wher
   pub right : (us : Items) (v : Value) → At s at (collection sequence us) → At s x v → At t at (collection sequence (pick wanted (snoc us v) us))
 
 -- Whether a test comes out as wanted.
-abbrev pub agrees : Bool → Bool → Bool
-agrees true b = b
-agrees false b = not b
+abbrev pub asWanted : Bool → Bool → Bool
+asWanted true b = b
+asWanted false b = not b
 
 -- The members of vs that are in each of the sets ws, or those that are not in each.
-abbrev pub chosen : Bool → Items → Items → Items
-chosen wanted vs ws = keep (λ v. agrees wanted (inAll v ws)) vs
+abbrev pub wantedOf : Bool → Items → Items → Items
+wantedOf wanted vs ws = keep (λ v. asWanted wanted (inAll v ws)) vs
 
 -- There is room at a place for members of the set at x; it and the sets from a up to b stand below.
 pub record Choice (s : List ℕ) (x a b at : ℕ) : Type 0 where
@@ -66,7 +66,7 @@ pub record Choice (s : List ℕ) (x a b at : ℕ) : Type 0 where
   pub under : b ≤ at
   pub room : at + limit ≤ length s
 
--- The chosen ones stand at that place as a set.
+-- The wantedOf ones stand at that place as a set.
 pub record Chosen (s t : List ℕ) (x a b at : ℕ) (wanted : Bool) : Type 0 where
   pub frame : Outside s t at (at + limit)
-  pub right : (vs ws : Items) → At s x (collection set vs) → ItemsAt s a b ws → At t at (collection set (chosen wanted vs ws))
+  pub right : (vs ws : Items) → At s x (collection set vs) → ItemsAt s a b ws → At t at (collection set (wantedOf wanted vs ws))

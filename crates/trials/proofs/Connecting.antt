@@ -17,7 +17,7 @@ use Rattle.calling.specs.declared.Tested.the-variants.{Settled, Open, Refused a
 use Rattle.calling.specs.Applied.{One, Applies, done, off, OnOne}
 use Rattle.scalars.specs.Connectives.{Says, settled, undecided, off as wrong, TestsLeft}
 use Rattle.trials.specs.Trial.{Operand, SomeOperand, Connects}
-use Rattle.trials.specs.Operands.{operand-low}
+use Rattle.trials.proofs.Records.{operand-low}
 use Rattle.trials.proofs.Placing.{put-at}
 
 -- ---- what the left says, by its answer

@@ -44,8 +44,8 @@ starts {s} {from} {to} {n} f l h =
     }
 
 -- the same, of whatever items stand there
-pub begun : {s : List ℕ} {from to : ℕ} → (from ≡ to → ⊥) → HoldsItems s from to → Holds s from
-begun f h = holds (run-of f (h .1) .first-at)
+pub first-held : {s : List ℕ} {from to : ℕ} → (from ≡ to → ⊥) → HoldsItems s from to → Holds s from
+first-held f h = holds (run-of f (h .1) .first-at)
 
 pub rest-held : {s : List ℕ} {from to n : ℕ} → (from ≡ to → ⊥) → Length s from n → HoldsItems s from to → HoldsItems s (from + n) to
 rest-held f l h = let y = starts f l (h .1) in (y .left, y .rest)
@@ -152,8 +152,8 @@ count-more f l t vs h =
     let d : count vs ≡ suc (count (y .left)) = ap count (y .is) in
     omega arith
 
-pub count-few : {s : List ℕ} {from to r : ℕ} → HoldsItems s from to → CountsItems s from to r → r ≤ limit
-count-few (vs, h) t =
+pub items-few : {s : List ℕ} {from to r : ℕ} → HoldsItems s from to → CountsItems s from to r → r ≤ limit
+items-few (vs, h) t =
     let e = t vs h in
     let f = h .short in
     let g = count-sizes vs in

@@ -9,7 +9,7 @@ ghost use Rattle.calling.specs.Applied.{One};
 ghost use Rattle.scalars.specs.Connectives.{connective};
 ghost use Rattle.operations.specs.Numbers.{Unary, Binary};
 ghost use Rattle.trials.specs.Validity.{Tells};
-ghost use Rattle.trials.specs.Trial.{SomeOperand, Conditional, connected, Connects, numberOf, TriesOne, TriesTwo};
+ghost use Rattle.trials.specs.Trial.{SomeOperand, Conditional, connected, Connects, appliedNumber, TriesOne, TriesTwo};
 
 pub mod operands;
 mod validity;
@@ -19,7 +19,7 @@ const BAD_INPUT: usize = 255;
 
 // The number of an answer: 0, or the number of the refusal.
 fn number(answer: Applied) -> usize
-    ensures { λ r. ⌜ r ≡ numberOf answer ⌝ }
+    ensures { λ r. ⌜ r ≡ appliedNumber answer ⌝ }
 {
     match answer {
         Applied::Done => 0,

@@ -1,6 +1,6 @@
 -- `binary_map` meets its contract, by what it calls.
 use Rattle.calling.proofs.Numbered.{binary-as}
-use Rattle.map_operators.proofs.Numbered.{last}
+use Rattle.map_operators.proofs.Numbered.{is-range-restriction}
 use borrow.Author.Needs.{needs}
 use Rattle.map_operators.proofs.binary_map.Statement.{statement}
 use Rattle.map_operators.proofs.binary_map.Tie as tie
@@ -39,7 +39,7 @@ same-length-4 : tie.Need-same-length-4
 same-length-4 c = search needs
 
 returns-4 : tie.Need-returns-4
-returns-4 c = let r = c .before .before .before .before .match .rest in binary-as _ (last (c .before .before .before .before .before .before .pre .2) (c .before .before .before .before .before .before .pre .1) (r .0 .0 .1) (r .0 .1) (r .1)) (c .before .before .restrict-range .ensures)
+returns-4 c = let r = c .before .before .before .before .match .rest in binary-as _ (is-range-restriction (c .before .before .before .before .before .before .pre .2) (c .before .before .before .before .before .before .pre .1) (r .0 .0 .1) (r .0 .1) (r .1)) (c .before .before .restrict-range .ensures)
 
 pub binary-map-spec : {M : Type 1} → statement M
 binary-map-spec =
