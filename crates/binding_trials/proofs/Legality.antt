@@ -17,9 +17,10 @@ use Rattle.tables.specs.declared.Checked.the-variants.{Accepted, Refused}
 use Rattle.tables.specs.declared.reading.Cutting.{Cutting}
 use Rattle.tables.specs.Record.{isPattern, operand}
 use Rattle.tables.specs.Table.{recordAt, kindAt}
-use Rattle.tables.specs.Sheet.{patternOf}
+use Rattle.tables.specs.Sheet.{isBinder, patternOf}
+use Rattle.tables.specs.Laws.Kinds.{binder-kind}
 use Rattle.tables.specs.Check.{mostBytes, check}
-use Rattle.tables.specs.Accepted.{records, Fine, accepted-fine, accepted-short, isBinder, operand-lower, binder-operands, binder-pattern}
+use Rattle.tables.specs.Accepted.{records, Fine, accepted-fine, accepted-short, operand-lower, binder-operands, binder-pattern}
 use Rattle.tables.specs.Reading.{Here, HasOperand, CutOut, cut-accepted}
 use Rattle.parts.specs.Laws.{of-kind}
 use Rattle.ways.specs.Merging.{true-false}
@@ -37,9 +38,6 @@ pub no-subject : {table index value : List ℕ} {f : Subject} → f .legal ≡ f
 no-subject e n = record { good = λ d. true-false (sym d ∙ e); bad = λ d. n }
 
 -- ---- the last record
-
-is-binder : (k : ℕ) → 12 ≤ k → k ≤ 20 → isBinder k ≡ true
-is-binder k l m = rw (le-leb 12 k l, le-leb k 20 m)
 
 module _ {table index : List ℕ} {r : ℕ} {value : List ℕ} (h : LastHeld table index r value) where
   fine : Fine (records table)
@@ -67,7 +65,7 @@ module _ {table index : List ℕ} {r : ℕ} {value : List ℕ} (h : LastHeld tab
 
     module _ (low : 12 ≤ k) (high : k ≤ 20) where
       binds : isBinder (kindAt (records table) r) ≡ true
-      binds = is-binder (kindAt (records table) r) (omega (arith, e)) (omega (arith, e))
+      binds = binder-kind (kindAt (records table) r) (omega (arith, e)) (omega (arith, e))
 
       pub has-pattern : HasOperand table index r 0
       has-pattern = record { here = last-here; has = binder-operands (records table) fine r in-table binds }

@@ -1,6 +1,6 @@
 -- The bits of a record and of all below it.
 use mathlib.Core.Path.{_≡_, sym, ap, _∙_}
-use mathlib.Core.Bool.{true}
+use mathlib.Core.Bool.{true, false}
 use mathlib.Core.List.{List, [], map}
 use Prim.Native.Nat.{ℕ, suc, _+_, _*_, _^_, _%_, _≤_, _<_}
 use native.Mathlib.Omega.{arith}
@@ -11,6 +11,7 @@ use lib.ListN.{length, drop, set, length-set}
 use lib.Seq.{drop-cons, drop-length, getD-set-same, getD-set-other}
 use Rattle.tables.specs.Record.{Record, Head, name, shape, size, headOf, named, operand, nameOf, isKnown, isFit}
 use Rattle.tables.specs.Table.{recordAt}
+use Rattle.tables.specs.Sheet.{isLoose}
 use Rattle.tables.specs.Laws.{split, Lower, fold-at}
 use Rattle.tables.specs.Accepted.{fit-least, fit-known}
 use Rattle.checking.specs.Scopes.{union, unionOf, own, held, Below}
@@ -44,21 +45,13 @@ pub own-name : (x : Record) (n : ℕ) → x .kind ≡ 32 → n ≡ nameOf x → 
 unfolding own
 own-name x n e f = sym (rw (eq-eqb (x .kind) 32 e, f))
 
-pub own-set : (x : Record) → x .kind ≡ 37 → 2 ≡ own x
+pub own-loose : (x : Record) → (x .kind ≡ 32 → ⊥) → isLoose x ≡ true → 2 ≡ own x
 unfolding own
-own-set x e = rw e
+own-loose x a e = rw (ne-eqb (x .kind) 32 a, e)
 
-pub own-union : (x : Record) → x .kind ≡ 38 → 2 ≡ own x
+pub own-none : (x : Record) → (x .kind ≡ 32 → ⊥) → isLoose x ≡ false → 0 ≡ own x
 unfolding own
-own-union x e = rw e
-
-pub own-concatenation : (x : Record) → x .kind ≡ 40 → 2 ≡ own x
-unfolding own
-own-concatenation x e = rw e
-
-pub own-none : (x : Record) → (x .kind ≡ 32 → ⊥) → (x .kind ≡ 37 → ⊥) → (x .kind ≡ 38 → ⊥) → (x .kind ≡ 40 → ⊥) → 0 ≡ own x
-unfolding own
-own-none x a b c d = rw (ne-eqb (x .kind) 32 a, ne-eqb (x .kind) 37 b, ne-eqb (x .kind) 38 c, ne-eqb (x .kind) 40 d)
+own-none x a e = rw (ne-eqb (x .kind) 32 a, e)
 
 -- ---- the operands of a record
 

@@ -12,7 +12,7 @@ use lib.Dec.{eqb, ltb}
 use lib.ListN.{length}
 use Rattle.tables.specs.declared.Role.{Role}
 use Rattle.tables.specs.declared.Role.the-variants.{Plain, Condition, Body, Pattern, Name}
-use Rattle.tables.specs.Record.{Record, named, nameOf}
+use Rattle.tables.specs.Record.{Record, shape, named, nameOf}
 use Rattle.tables.specs.Table.{pick, recordAt}
 use Rattle.tables.specs.Sheet.{some, foldBy, isName, holdsName, isLoose, loose, parent, roleIn, climbBy, isCovered, isCondition, patternOf, isBound, inCondition}
 use Rattle.tables.specs.Laws.{split}
@@ -77,7 +77,7 @@ own-name x n = go (eqb (x .kind) 32) (isLoose x)
     go false false = bit-zero (n + 2)
 
 own-loose : (x : Record) → hasBit (own x) 1 ≡ isLoose x
-unfolding own
+unfolding own shape
 own-loose x = go (eqb (x .kind) 32) refl
   where
     loose-of : (u : Bool) → hasBit (pick u 2 0) 1 ≡ u

@@ -7,6 +7,7 @@ ghost use Rattle.tables.specs.Accepted.{records};
 ghost use Rattle.checking.specs.Scopes.{Kept};
 ghost use Rattle.checking.specs.Heights.{AskTall, IsTall};
 use crate::lowest::lower;
+use tables::Index;
 use tables::MOST_HEIGHT;
 use tables::reading::operand;
 use tables::reading::operand_count;
@@ -25,7 +26,7 @@ fn higher(a: usize, b: usize) -> usize
 }
 
 // The height of record r, and the lowest record at or below it of too great a height; the number of records where there is none.
-fn tall(table: &[u8], index: &[u16; 200], count: usize, r: usize) -> Height
+fn tall(table: &[u8], index: &Index, count: usize, r: usize) -> Height
     requires { ⌜ AskTall (now table) (now index) count r ⌝ }
     ensures { λ t. ⌜ IsTall (now (table .entry)) r t ⌝ }
 {
@@ -53,7 +54,7 @@ fn tall(table: &[u8], index: &[u16; 200], count: usize, r: usize) -> Height
 }
 
 // The lowest record that breaks rule 9; the number of records where none does.
-pub fn lowest9(table: &[u8], index: &[u16; 200], count: usize) -> usize
+pub fn lowest9(table: &[u8], index: &Index, count: usize) -> usize
     requires { ⌜ Kept (now table) (now index) count × (0 < count) ⌝ }
     ensures { λ p. ⌜ p ≡ lowestOf (fault9 (records (now (table .entry)))) count ⌝ }
 {

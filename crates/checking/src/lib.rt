@@ -8,6 +8,7 @@ use height::lowest9;
 use naming::lowest6;
 use scope::lowest78;
 use tables::Checked;
+use tables::Index;
 use tables::MOST_BYTES;
 use tables::MOST_RECORDS;
 use tables::reading::cut;
@@ -18,7 +19,7 @@ pub mod naming;
 pub mod scope;
 
 // Rules 6 to 9 on the records that an index finds.
-fn judge(table: &[u8], index: &[u16; 200], count: usize) -> Checked
+fn judge(table: &[u8], index: &Index, count: usize) -> Checked
     requires { ⌜ Whole (now table) (now index) count × (0 < count) ⌝ }
     ensures { λ a. ⌜ a ≡ judged (records (now (table .entry))) ⌝ }
 {
@@ -52,7 +53,7 @@ pub fn check(table: &[u8]) -> Checked
     if MOST_BYTES < table.len() {
         return Checked::Refused(3, 0);
     }
-    let mut index = [0u16; 200];
+    let mut index = [0u16; MOST_RECORDS];
     let c = cut(table, &mut index);
     let count = c.count;
     let whole = c.whole;

@@ -35,13 +35,3 @@ pub fn either(a: bool, b: bool) -> bool
     }
     b
 }
-
-// A number within two limits.
-pub fn is_between(low: usize, n: usize, high: usize) -> bool
-    ensures { λ r. ⌜ r ≡ (leb low n && leb n high) ⌝ }
-{
-    if n < low {
-        return false;
-    }
-    n <= high
-}

@@ -9,30 +9,34 @@ ghost use Rattle.tables.specs.Sheet.{lowest as lowestOf};
 ghost use Rattle.tables.specs.Accepted.{records};
 ghost use Rattle.checking.specs.Naming.{Marked, AskBad, AskMarks, MarkedOne, Whole, AskAll, MarkedAll, AskStray};
 use crate::lowest::either;
-use crate::lowest::is_between;
 use crate::lowest::lower;
 use crate::lowest::next_low;
+use tables::Index;
+use tables::MOST_RECORDS;
 use tables::Role;
+use tables::kinds;
 use tables::reading::kind;
 use tables::reading::operand;
 use tables::reading::operand_count;
 use tables::reading::role;
+use tables::shape::is_expression;
+use tables::shape::is_pattern;
 
 // A record of this kind is of the sort that the role asks for.
 fn is_of_sort(role: Role, kind: usize) -> bool
     ensures { λ b. ⌜ b ≡ isOfSort role kind ⌝ }
 {
     match role {
-        Role::Plain => is_between(1, kind, 21),
-        Role::Condition => is_between(1, kind, 21),
-        Role::Body => is_between(1, kind, 21),
-        Role::Pattern => is_between(32, kind, 40),
-        Role::Name => kind == 32,
+        Role::Plain => is_expression(kind),
+        Role::Condition => is_expression(kind),
+        Role::Body => is_expression(kind),
+        Role::Pattern => is_pattern(kind),
+        Role::Name => kind == kinds::NAME_PATTERN,
     }
 }
 
 // The number n is marked.
-fn is_marked(marks: &[u8; 200], n: usize) -> bool
+fn is_marked(marks: &[u8; MOST_RECORDS], n: usize) -> bool
     requires { ⌜ n < 200 ⌝ }
     ensures { λ b. ⌜ b ≡ eqb (getD (now (marks .entry)) n 0) 1 ⌝ }
 {
@@ -40,16 +44,16 @@ fn is_marked(marks: &[u8; 200], n: usize) -> bool
 }
 
 // Marks the number n, if it can be a record's.
-fn mark(marks: &mut [u8; 200], n: usize)
+fn mark(marks: &mut [u8; MOST_RECORDS], n: usize)
     ensures { λ _. ⌜ ((ms : List ℕ) → Marked (now (marks .entry)) ms → Marked (now (marks .exit)) (ms ++ (n ∷ []))) ⌝ }
 {
-    if n < 200 {
+    if n < MOST_RECORDS {
         marks[n] = 1;
     }
 }
 
 // Operand i of record r is at fault, where the numbers named before it are marked.
-fn is_bad(table: &[u8], index: &[u16; 200], r: usize, i: usize, marks: &[u8; 200]) -> bool
+fn is_bad(table: &[u8], index: &Index, r: usize, i: usize, marks: &[u8; MOST_RECORDS]) -> bool
     requires { ⌜ AskBad (now table) (now index) r i (now marks) ⌝ }
     ensures { λ b. ⌜ b ≡ isBad (records (now (table .entry))) r i ⌝ }
 {
@@ -65,7 +69,7 @@ fn is_bad(table: &[u8], index: &[u16; 200], r: usize, i: usize, marks: &[u8; 200
 }
 
 // Whether some operand of record r is at fault; marks the numbers that it names.
-fn mark_operands(table: &[u8], index: &[u16; 200], r: usize, marks: &mut [u8; 200]) -> bool
+fn mark_operands(table: &[u8], index: &Index, r: usize, marks: &mut [u8; MOST_RECORDS]) -> bool
     requires { ⌜ AskMarks (now table) (now index) r (now marks) ⌝ }
     ensures { λ b. ⌜ MarkedOne (now (table .entry)) r (now (marks .exit)) b ⌝ }
 {
@@ -82,7 +86,7 @@ fn mark_operands(table: &[u8], index: &[u16; 200], r: usize, marks: &mut [u8; 20
 }
 
 // The lowest record with an operand at fault; marks all numbers that are named.
-fn mark_all(table: &[u8], index: &[u16; 200], count: usize, marks: &mut [u8; 200]) -> usize
+fn mark_all(table: &[u8], index: &Index, count: usize, marks: &mut [u8; MOST_RECORDS]) -> usize
     requires { ⌜ AskAll (now table) (now index) count (now marks) ⌝ }
     ensures { λ p. ⌜ MarkedAll (now (table .entry)) (now (marks .exit)) p ⌝ }
 {
@@ -97,19 +101,19 @@ fn mark_all(table: &[u8], index: &[u16; 200], count: usize, marks: &mut [u8; 200
 }
 
 // Record r is never named, or is the last and a pattern.
-fn is_stray(table: &[u8], index: &[u16; 200], count: usize, r: usize, marks: &[u8; 200]) -> bool
+fn is_stray(table: &[u8], index: &Index, count: usize, r: usize, marks: &[u8; MOST_RECORDS]) -> bool
     requires { ⌜ AskStray (now table) (now index) count (now marks) × (r < count) ⌝ }
     ensures { λ b. ⌜ b ≡ isStray (records (now (table .entry))) r ⌝ }
 {
     if r + 1 == count {
-        return is_between(32, kind(table, index, r), 40);
+        return is_pattern(kind(table, index, r));
     }
     let marked = is_marked(marks, r);
     !marked
 }
 
 // The lowest such record.
-fn lowest_stray(table: &[u8], index: &[u16; 200], count: usize, marks: &[u8; 200]) -> usize
+fn lowest_stray(table: &[u8], index: &Index, count: usize, marks: &[u8; MOST_RECORDS]) -> usize
     requires { ⌜ AskStray (now table) (now index) count (now marks) ⌝ }
     ensures { λ p. ⌜ p ≡ lowestOf (isStray (records (now (table .entry)))) count ⌝ }
 {
@@ -124,11 +128,11 @@ fn lowest_stray(table: &[u8], index: &[u16; 200], count: usize, marks: &[u8; 200
 }
 
 // The lowest record that breaks rule 6; the number of records where none does.
-pub fn lowest6(table: &[u8], index: &[u16; 200], count: usize) -> usize
+pub fn lowest6(table: &[u8], index: &Index, count: usize) -> usize
     requires { ⌜ Whole (now table) (now index) count ⌝ }
     ensures { λ p. ⌜ p ≡ lowestOf (fault6 (records (now (table .entry)))) count ⌝ }
 {
-    let mut marks = [0u8; 200];
+    let mut marks = [0u8; MOST_RECORDS];
     let bad = mark_all(table, index, count, &mut marks);
     let stray = lowest_stray(table, index, count, &marks);
     lower(bad, stray)

@@ -10,12 +10,16 @@ ghost use Rattle.tables.specs.Accepted.{records};
 ghost use Rattle.tables.specs.Reading.{Here};
 ghost use Rattle.checking.specs.Scopes.{hasBit, union as unionIn, own as ownOf, held as heldOf, given as givenBy, Below, Around, AskBelow, Kept, AskGiven, AskPush, AskAround, AskName, AskChoice, AskScoped};
 use crate::lowest::next_low;
+use tables::Index;
+use tables::MOST_RECORDS;
 use tables::Role;
+use tables::kinds;
 use tables::reading::field;
 use tables::reading::kind;
 use tables::reading::operand;
 use tables::reading::operand_count;
 use tables::reading::role;
+use tables::shape::is_loose;
 
 // A condition, and a loose pattern; the bits from 2 on are names.
 const CONDITION: u32 = 1;
@@ -43,28 +47,22 @@ fn has(m: u32, n: usize) -> bool
 }
 
 // The bits of record r itself.
-fn own(table: &[u8], index: &[u16; 200], r: usize) -> u32
+fn own(table: &[u8], index: &Index, r: usize) -> u32
     requires { ⌜ Here (now table) (now index) r ⌝ }
     ensures { λ m. ⌜ m ≡ ownOf (recordAt (records (now (table .entry))) r) ⌝ }
 {
     let k = kind(table, index, r);
-    if k == 32 {
+    if k == kinds::NAME_PATTERN {
         return bit(field(table, index, r, 0) + 2);
     }
-    if k == 37 {
-        return LOOSE;
-    }
-    if k == 38 {
-        return LOOSE;
-    }
-    if k == 40 {
+    if is_loose(k) {
         return LOOSE;
     }
     0
 }
 
 // The bits of record r and of all below it.
-fn held_at(table: &[u8], index: &[u16; 200], r: usize, below: &[u32; 200]) -> u32
+fn held_at(table: &[u8], index: &Index, r: usize, below: &[u32; MOST_RECORDS]) -> u32
     requires { ⌜ AskBelow (now table) (now index) r (now below) ⌝ }
     ensures { λ m. ⌜ m ≡ heldOf (records (now (table .entry))) r ⌝ }
 {
@@ -80,7 +78,7 @@ fn held_at(table: &[u8], index: &[u16; 200], r: usize, below: &[u32; 200]) -> u3
 }
 
 // Fills in the bits below each record, from the first on.
-fn fill_below(table: &[u8], index: &[u16; 200], count: usize, below: &mut [u32; 200])
+fn fill_below(table: &[u8], index: &Index, count: usize, below: &mut [u32; MOST_RECORDS])
     requires { ⌜ Kept (now table) (now index) count × (length (now below) ≡ 200) ⌝ }
     ensures { λ _. ⌜ Below (records (now (table .entry))) (now (below .exit)) (length (records (now (table .entry)))) ⌝ }
 {
@@ -93,7 +91,7 @@ fn fill_below(table: &[u8], index: &[u16; 200], count: usize, below: &mut [u32; 
 }
 
 // The bits of the pattern of record q.
-fn pattern_bits(table: &[u8], index: &[u16; 200], q: usize, below: &[u32; 200]) -> u32
+fn pattern_bits(table: &[u8], index: &Index, q: usize, below: &[u32; MOST_RECORDS]) -> u32
     requires { ⌜ AskGiven (now table) (now index) q 0 (now below) ⌝ }
     ensures { λ m. ⌜ m ≡ heldOf (records (now (table .entry))) (patternOf (records (now (table .entry))) q) ⌝ }
 {
@@ -102,7 +100,7 @@ fn pattern_bits(table: &[u8], index: &[u16; 200], q: usize, below: &[u32; 200]) 
 }
 
 // What record q adds around its operand i.
-fn given(table: &[u8], index: &[u16; 200], q: usize, i: usize, below: &[u32; 200]) -> u32
+fn given(table: &[u8], index: &Index, q: usize, i: usize, below: &[u32; MOST_RECORDS]) -> u32
     requires { ⌜ AskGiven (now table) (now index) q i (now below) ⌝ }
     ensures { λ m. ⌜ m ≡ givenBy (records (now (table .entry))) q (roleAt (recordAt (records (now (table .entry))) q) i) ⌝ }
 {
@@ -117,7 +115,13 @@ fn given(table: &[u8], index: &[u16; 200], q: usize, i: usize, below: &[u32; 200
 }
 
 // Hands the bits around record q, and its own, on to its operands.
-fn push(table: &[u8], index: &[u16; 200], q: usize, below: &[u32; 200], above: &mut [u32; 200])
+fn push(
+    table: &[u8],
+    index: &Index,
+    q: usize,
+    below: &[u32; MOST_RECORDS],
+    above: &mut [u32; MOST_RECORDS],
+)
     requires { ⌜ AskPush (now table) (now index) q (now below) (now above) ⌝ }
     ensures { λ _. ⌜ Around (records (now (table .entry))) (now (above .exit)) q ⌝ }
 {
@@ -135,10 +139,10 @@ fn push(table: &[u8], index: &[u16; 200], q: usize, below: &[u32; 200], above: &
 // Fills in the bits around each record, from the last down.
 fn fill_around(
     table: &[u8],
-    index: &[u16; 200],
+    index: &Index,
     count: usize,
-    below: &[u32; 200],
-    above: &mut [u32; 200],
+    below: &[u32; MOST_RECORDS],
+    above: &mut [u32; MOST_RECORDS],
 )
     requires { ⌜ AskAround (now table) (now index) count (now below) (now above) ⌝ }
     ensures { λ _. ⌜ Around (records (now (table .entry))) (now (above .exit)) 0 ⌝ }
@@ -151,16 +155,16 @@ fn fill_around(
 }
 
 // Record r breaks rule 7: a name not bound around it, or a pattern name that is.
-fn breaks7(table: &[u8], index: &[u16; 200], r: usize, above: &[u32; 200]) -> bool
+fn breaks7(table: &[u8], index: &Index, r: usize, above: &[u32; MOST_RECORDS]) -> bool
     requires { ⌜ AskName (now table) (now index) r (now above) ⌝ }
     ensures { λ b. ⌜ b ≡ fault7Of (records (now (table .entry))) r ⌝ }
 {
     let k = kind(table, index, r);
-    if k == 3 {
+    if k == kinds::NAME {
         let bound = has(above[r], field(table, index, r, 0) + 2);
         return !bound;
     }
-    if k == 32 {
+    if k == kinds::NAME_PATTERN {
         return has(above[r], field(table, index, r, 0) + 2);
     }
     false
@@ -169,19 +173,19 @@ fn breaks7(table: &[u8], index: &[u16; 200], r: usize, above: &[u32; 200]) -> bo
 // Record r breaks rule 8: a let-be or a loose let inside a condition.
 fn breaks8(
     table: &[u8],
-    index: &[u16; 200],
+    index: &Index,
     r: usize,
-    below: &[u32; 200],
-    above: &[u32; 200],
+    below: &[u32; MOST_RECORDS],
+    above: &[u32; MOST_RECORDS],
 ) -> bool
     requires { ⌜ AskChoice (now table) (now index) r (now below) (now above) ⌝ }
     ensures { λ b. ⌜ b ≡ fault8Of (records (now (table .entry))) r ⌝ }
 {
     let k = kind(table, index, r);
-    if k == 13 {
+    if k == kinds::LET_BE {
         return has(above[r], 0);
     }
-    if k != 12 {
+    if k != kinds::LET {
         return false;
     }
     let loose = has(pattern_bits(table, index, r, below), 1);
@@ -194,10 +198,10 @@ fn breaks8(
 // The lowest record that breaks rule 7; the number of records where none does.
 fn lowest7(
     table: &[u8],
-    index: &[u16; 200],
+    index: &Index,
     count: usize,
-    below: &[u32; 200],
-    above: &[u32; 200],
+    below: &[u32; MOST_RECORDS],
+    above: &[u32; MOST_RECORDS],
 ) -> usize
     requires { ⌜ AskScoped (now table) (now index) count (now below) (now above) ⌝ }
     ensures { λ p. ⌜ p ≡ lowestOf (fault7Of (records (now (table .entry)))) count ⌝ }
@@ -215,10 +219,10 @@ fn lowest7(
 // The same of rule 8.
 fn lowest8(
     table: &[u8],
-    index: &[u16; 200],
+    index: &Index,
     count: usize,
-    below: &[u32; 200],
-    above: &[u32; 200],
+    below: &[u32; MOST_RECORDS],
+    above: &[u32; MOST_RECORDS],
 ) -> usize
     requires { ⌜ AskScoped (now table) (now index) count (now below) (now above) ⌝ }
     ensures { λ p. ⌜ p ≡ lowestOf (fault8Of (records (now (table .entry)))) count ⌝ }
@@ -239,13 +243,13 @@ pub struct Lows {
     pub low8: usize,
 }
 
-pub fn lowest78(table: &[u8], index: &[u16; 200], count: usize) -> Lows
+pub fn lowest78(table: &[u8], index: &Index, count: usize) -> Lows
     requires { ⌜ Kept (now table) (now index) count ⌝ }
     ensures { λ s. ⌜ (s .low7 ≡ lowestOf (fault7Of (records (now (table .entry)))) count) × (s .low8 ≡ lowestOf (fault8Of (records (now (table .entry)))) count) ⌝ }
 {
-    let mut below = [0u32; 200];
+    let mut below = [0u32; MOST_RECORDS];
     fill_below(table, index, count, &mut below);
-    let mut above = [0u32; 200];
+    let mut above = [0u32; MOST_RECORDS];
     fill_around(table, index, count, &below, &mut above);
     let low7 = lowest7(table, index, count, &below, &above);
     let low8 = lowest8(table, index, count, &below, &above);

@@ -7,7 +7,6 @@ use Prim.Native.Nat.{ℕ, zero, suc, _+_, _-_, _≤_, _<_}
 use native.Mathlib.Omega.{arith}
 use lib.Dec.{eqb}
 use lib.ListN.{length, getD, length-map}
-use borrow.Author.Tests.{leb-true}
 use Rattle.patterns.specs.Pattern.{Pattern, any, loose as isLooseAt, looseEach}
 use Rattle.patterns.specs.Named.{named as holdsAt, namedEach}
 use Rattle.tables.specs.declared.Checked.the-variants.{Accepted}
@@ -15,7 +14,8 @@ use Rattle.tables.specs.Record.{Record, shape, isPattern, isFit, nameOf, named 
 use Rattle.tables.specs.Table.{recordAt, kindAt}
 use Rattle.tables.specs.Sheet.{some, holds, isName, holdsName, isLoose, loose}
 use Rattle.tables.specs.Check.{check}
-use Rattle.tables.specs.Laws.{and-left, fold-at}
+use Rattle.tables.specs.Laws.{fold-at}
+use Rattle.tables.specs.Laws.Kinds.{pattern-least}
 use Rattle.tables.specs.Accepted.{records, Fine, accepted-fine, operand-lower, operand-sort, pattern-role, lower, fit-least, fit-most, fit-kind, named-count}
 use Rattle.meaning.specs.Proper.{_&_}
 use Rattle.ways.specs.Read.{patternsOf, patterns, patternOf, patternAt}
@@ -59,7 +59,7 @@ module _ (test : Record → Bool) (m : Pattern → Bool) (agree : EachAgrees tes
   holds-at r h = fold-at (λ q bs. test (recordAt rs q) || some bs) false rs (lower rs (fine .clear6)) r h
 
   kinds : (r : ℕ) → isPattern (kindAt rs r) ≡ true → 32 ≤ kindAt rs r
-  kinds r p = leb-true 32 (kindAt rs r) (and-left _ _ p)
+  kinds r p = pattern-least (kindAt rs r) p
 
   by-kind : (r : ℕ) → r < length rs → isPattern (kindAt rs r) ≡ true → (ps : List Pattern) → length ps ≡ length (operandsOf (recordAt rs r)) → m (patternOf (recordAt rs r) ps) ≡ test (recordAt rs r) || some (map m ps)
   by-kind r h p ps n =
@@ -92,7 +92,7 @@ module _ (test : Record → Bool) (m : Pattern → Bool) (agree : EachAgrees tes
 -- ---- looseness
 
 abbrev looseKind : ℕ → Bool
-looseKind k = eqb k 37 || eqb k 38 || eqb k 40
+looseKind k = shape k .loose
 
 loose-parts : (ps : List Pattern) → looseEach (patternsOf ps) ≡ some (map isLooseAt ps)
 unfolding isLooseAt patternsOf

@@ -24,6 +24,7 @@ use Rattle.tables.specs.Table.{recordAt, kindAt}
 use Rattle.tables.specs.Sheet.{some as someOf, isCovered, isBound, holdsName, patternOf}
 use Rattle.tables.specs.Check.{check}
 use Rattle.tables.specs.Laws.{never, or-some, and-left, and-right, implied, each, split}
+use Rattle.tables.specs.Laws.Kinds.{expression-least, expression-most}
 use Rattle.tables.specs.Accepted.{records, Fine, accepted-fine, operand-lower, operand-sort, bound-operand, bound-last, name-bound, last-sort, fit-known, fit-kind}
 use Rattle.meaning.specs.State.{State, unbound, over, under, held, valueIn}
 use Rattle.meaning.specs.Meaning.{orElse, means, meaningTo, meaning}
@@ -147,6 +148,7 @@ module _ (table : List ℕ) (n : ℕ) (ok : check table ≡ Accepted n) where
         }
 
     first-pattern : isCovered (roleAt (recordAt rs r) i) ≡ true → isPattern (kindAt rs (patternOf rs r)) ≡ true
+    unfolding shape
     first-pattern e = go (roleAt (recordAt rs r) 0) refl (first-role (kindAt rs r) i (fit-kind (recordAt rs r) (fine .fit r h)) e)
       where
         go : (x : Role) → roleAt (recordAt rs r) 0 ≡ x → isFirst x ≡ true → isPattern (kindAt rs (patternOf rs r)) ≡ true
@@ -222,8 +224,8 @@ module _ (table : List ℕ) (n : ℕ) (ok : check table ≡ Accepted n) where
   unfolding meaningTo nodeOf
   reads-to zero r ρ l h e c = absurd (omega arith)
   reads-to (suc m) r ρ l h e c =
-      let low = leb-true 1 (kindAt rs r) (and-left _ (leb (kindAt rs r) 21) e) in
-      let high = leb-true (kindAt rs r) 21 (and-right (leb 1 (kindAt rs r)) _ e) in
+      let low = expression-least (kindAt rs r) e in
+      let high = expression-most (kindAt rs r) e in
       split (kindAt rs r) 4
       (λ u. leaf (λ a σ. meaningTo (sheet table) m a σ) r ρ (kindAt rs r) refl low u h c)
       (λ u.

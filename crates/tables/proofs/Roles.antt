@@ -1,28 +1,27 @@
 -- What each operand of each kind is for, by tests: one test that is computed over all kinds and their operands.
 use mathlib.Core.Path.{_≡_, refl, sym, ap, _∙_}
 use mathlib.Core.Bool.{not}
-use Prim.Native.Nat.{ℕ, _≤_, _<_}
+use Prim.Native.Nat.{ℕ, zero, suc, _≤_, _<_}
 use native.Mathlib.Omega.{arith}
 use borrow.Author.Tests.{eqb-true}
-use lib.Dec.{eqb, ltb, leb}
+use lib.Dec.{eqb}
 use lib.ListN.{length, getD}
 use Rattle.tables.specs.declared.Role.{Role}
 use Rattle.tables.specs.declared.Role.the-variants.{Plain, Condition, Body, Pattern, Name}
-use Rattle.tables.specs.Record.{shape}
+use Rattle.tables.specs.Record.{shape, isPattern}
 use Rattle.tables.specs.Table.{pick}
-use Rattle.tables.specs.Shapes.{rolesOf, coveredRole}
-use Rattle.tables.specs.Sheet.{any}
+use Rattle.tables.specs.Shapes.{rolesOf, binderRole}
+use Rattle.tables.specs.Sheet.{any, isBinder}
 use Rattle.tables.specs.Laws.{not-not, any-none}
 
 abbrev pub roleBy : ℕ → ℕ → Role
-roleBy kind i =
-    pick (leb 32 kind) Pattern
-    (pick (ltb kind 12) Plain
-    (pick (eqb kind 21) Plain
-    (pick (leb 2 i) (coveredRole kind i)
-    (pick (eqb i 1) Plain
-    (pick (eqb kind 17) Name
-    (pick (eqb kind 19) Name Pattern))))))
+roleBy kind i = pick (isPattern kind) Pattern (pick (isBinder kind) (binderRole kind i) Plain)
+
+pub binder-later : (k i : ℕ) → (i ≡ 0 → ⊥) → (i ≡ 1 → ⊥) → (i ≡ 2 → ⊥) → binderRole k i ≡ Body
+binder-later k zero a b c = absurd (a refl)
+binder-later k (suc zero) a b c = absurd (b refl)
+binder-later k (suc (suc zero)) a b c = absurd (c refl)
+binder-later k (suc (suc (suc i))) a b c = refl
 
 -- Roles as numbers, to be compared.
 abbrev number : Role → ℕ

@@ -16,9 +16,10 @@ use Rattle.tables.specs.declared.Checked.{Checked}
 use Rattle.tables.specs.declared.Checked.the-variants.{Accepted, Refused}
 use Rattle.tables.specs.Record.{Record, Shape, Head, integer, missing, shapes, shape, field, size, headOf, isPattern, operandsOf, operands, numbers, named, operand, roleAt, nameOf, integerOf, fits, isKnown, isFit}
 use Rattle.tables.specs.Table.{pick, Next, end, fault, one, next, first, after, cutBy, cut, recordAt, kindAt}
-use Rattle.tables.specs.Sheet.{any, lowest, some, greatest, isIn, isName, holdsName, height, parent, roleIn, isCovered, isCondition, patternOf, climb, isBound, inCondition}
+use Rattle.tables.specs.Sheet.{any, lowest, some, greatest, isIn, isName, holdsName, height, parent, roleIn, isCovered, isCondition, isBinder, patternOf, climb, isBound, inCondition}
 use Rattle.tables.specs.Check.{mostBytes, mostRecords, mostHeight, isOfSort, allNamed, namedBefore, isBad, fault6, fault7, chooses, fault8, fault9, judged, judgedCut, check}
 use Rattle.tables.specs.Laws.{never, or-left, or-right, and-left, and-right, implied, not-not, split, any-none, low, each, Lower, fold-at, climb-up, climb-top, parent-higher, parent-is, role-is}
+use Rattle.tables.specs.Laws.Kinds.{beyond, pattern-most, binder-most}
 
 -- The records of a table.
 abbrev pub records : List ℕ → List Record
@@ -180,7 +181,7 @@ pattern-role r i e h =
     is-part _ (all-parts (shape (r .kind) .roles) i
     (not-true (some (map (λ x. not (isPart x)) (shape (r .kind) .roles)))
     (implied (isPattern (r .kind)) _
-    (each (λ k. not (isPattern k) || not (some (map (λ x. not (isPart x)) (shape k .roles)))) 41 refl (r .kind) (omega (arith, leb-true (r .kind) 40 (and-right (leb 32 (r .kind)) _ e))))
+    (each (λ k. not (isPattern k) || not (some (map (λ x. not (isPart x)) (shape k .roles)))) 41 refl (r .kind) (omega (arith, pattern-most (r .kind) e)))
     e))
     (omega (arith, operands-few (shape (r .kind) .roles) (drop (size (headOf r)) (r .fields)))))
 
@@ -231,15 +232,8 @@ pub fit-kind : (r : Record) → isFit r ≡ true → r .kind ≤ 40
 unfolding shape
 fit-kind r fit =
     split 40 (r .kind) (λ h. never (sym (ap (λ (s : Shape). isKnown (s .head) r) (beyond (r .kind) h)) ∙ fit-known r fit)) (λ h. h)
-  where
-    beyond : (k : ℕ) → 40 < k → shape k ≡ missing
-    beyond k h = List·getD-eq-default shapes missing {n = k} (omega arith)
 
 -- ---- binders
-
--- Kinds 12 to 20.
-abbrev pub isBinder : ℕ → Bool
-isBinder kind = leb 12 kind && leb kind 20
 
 abbrev isFirst : Role → Bool
 isFirst Plain = false
@@ -256,6 +250,7 @@ first-free Pattern b e = refl
 first-free Name b e = refl
 
 first-sort : (role : Role) (k : ℕ) → isFirst role ≡ true → isOfSort role k ≡ true → isPattern k ≡ true
+unfolding shape
 first-sort Plain k e f = never e
 first-sort Condition k e f = never e
 first-sort Body k e f = never e
@@ -267,7 +262,7 @@ binder-roles : (k : ℕ) → isBinder k ≡ true → isFirst (getD (shape k .rol
 unfolding shape
 binder-roles k e =
     implied (isBinder k) _
-    (each (λ k. not (isBinder k) || (isFirst (getD (shape k .roles) 0 Plain) && leb 3 (shape k .least))) 41 refl k (omega (arith, leb-true k 20 (and-right (leb 12 k) _ e)))) e
+    (each (λ k. not (isBinder k) || (isFirst (getD (shape k .roles) 0 Plain) && leb 3 (shape k .least))) 41 refl k (omega (arith, binder-most k e))) e
 
 -- Where some truth of a list is.
 some-place : (f : ℕ → Bool) (ms : List ℕ) → some (map f ms) ≡ true → (i : ℕ) × (i < length ms) × (f (getD ms i 0) ≡ true)

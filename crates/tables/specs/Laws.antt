@@ -13,6 +13,8 @@ use Rattle.tables.specs.Record.{Record, size, headOf, operandsOf, shape,
 use Rattle.tables.specs.Table.{pick, recordAt, kindAt}
 use Rattle.tables.specs.Sheet.{any, lowest, isIn, foldBy, fold, parent, roleOf, roleIn, climbBy, climb}
 use Rattle.tables.specs.Check.{allNamed, namedBefore}
+-- The rows of kinds, and the kinds of each sort.
+pub mod Kinds
 
 -- ---- truths
 

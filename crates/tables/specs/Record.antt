@@ -17,80 +17,93 @@ pub record Record : Type 0 where
 
 -- ---- the shape of a kind
 
+-- A record is an expression or a pattern.
+pub data Sort : Type 0 where
+  expression pattern : Sort
+  -- there is no such kind
+  neither : Sort
+
 -- What stands before the operands.
 pub data Head : Type 0 where
   nothing boolean integer name unary binary : Head
   -- there is no such kind
   unknown : Head
 
--- A kind's head, and the roles of its operands, of which there may be as few as `least`, and more by steps of `step`.
+-- What is said of a kind: its sort and head; the roles of its operands, of which there may be as few as `least`, and more by steps of `step`;
+-- whether a let whose pattern holds such a record is loose.
 pub record Shape : Type 0 where
+  pub sort : Sort
   pub head : Head
   pub roles : List Role
   pub least : ℕ
   pub step : ℕ
+  pub loose : Bool
 
 -- A head and just these operands.
-abbrev pub just : Head → List Role → Shape
-just h roles = record { head = h; roles = roles; least = length roles; step = 1 }
+abbrev pub just : Sort → Head → List Role → Shape
+just sort head roles = record { sort = sort; head = head; roles = roles; least = length roles; step = 1; loose = false }
 
 -- From `least` to `most` operands of one role.
-abbrev pub several : ℕ → ℕ → ℕ → Role → Shape
-several least most step role = record { head = nothing; roles = replicate most role; least = least; step = step }
+abbrev pub several : Sort → ℕ → ℕ → ℕ → Role → Shape
+several sort least most step role =
+    record { sort = sort; head = nothing; roles = replicate most role; least = least; step = step; loose = false }
+
+abbrev pub choosing : Shape → Shape
+choosing s = record { sort = s .sort; head = s .head; roles = s .roles; least = s .least; step = s .step; loose = true }
 
 abbrev pub missing : Shape
-missing = just unknown []
+missing = just neither unknown []
 
--- The shape of each kind from 0 to 40.
+-- One row for each kind from 0 to 40. All that is told of a kind by itself derives from its row.
 abbrev pub shapes : List Shape
 shapes =
     -- 0
     missing ∷
     -- 1 boolean literal, 2 integer literal, 3 name
-    just boolean [] ∷
-    just integer [] ∷
-    just name [] ∷
+    just expression boolean [] ∷
+    just expression integer [] ∷
+    just expression name [] ∷
     -- 4 unary, 5 binary
-    just unary (Plain ∷ []) ∷
-    just binary (Plain ∷ Plain ∷ []) ∷
+    just expression unary (Plain ∷ []) ∷
+    just expression binary (Plain ∷ Plain ∷ []) ∷
     -- 6 if: test, then, else
-    just nothing (Plain ∷ Plain ∷ Plain ∷ []) ∷
+    just expression nothing (Plain ∷ Plain ∷ Plain ∷ []) ∷
     -- 7 set, 8 sequence, 9 map enumeration, 10 tuple
-    several 0 8 1 Plain ∷
-    several 0 8 1 Plain ∷
-    several 0 8 2 Plain ∷
-    several 2 4 1 Plain ∷
+    several expression 0 8 1 Plain ∷
+    several expression 0 8 1 Plain ∷
+    several expression 0 8 2 Plain ∷
+    several expression 2 4 1 Plain ∷
     -- 11 set range: from, to
-    just nothing (Plain ∷ Plain ∷ []) ∷
+    just expression nothing (Plain ∷ Plain ∷ []) ∷
     -- 12 let, 13 let-be
-    just nothing (Pattern ∷ Plain ∷ Body ∷ []) ∷
-    just nothing (Pattern ∷ Plain ∷ Condition ∷ Body ∷ []) ∷
+    just expression nothing (Pattern ∷ Plain ∷ Body ∷ []) ∷
+    just expression nothing (Pattern ∷ Plain ∷ Condition ∷ Body ∷ []) ∷
     -- 14 forall, 15 exists, 16 exists1, 17 iota
-    just nothing (Pattern ∷ Plain ∷ Condition ∷ []) ∷
-    just nothing (Pattern ∷ Plain ∷ Condition ∷ []) ∷
-    just nothing (Pattern ∷ Plain ∷ Condition ∷ []) ∷
-    just nothing (Name ∷ Plain ∷ Condition ∷ []) ∷
+    just expression nothing (Pattern ∷ Plain ∷ Condition ∷ []) ∷
+    just expression nothing (Pattern ∷ Plain ∷ Condition ∷ []) ∷
+    just expression nothing (Pattern ∷ Plain ∷ Condition ∷ []) ∷
+    just expression nothing (Name ∷ Plain ∷ Condition ∷ []) ∷
     -- 18 set, 19 sequence, 20 map comprehension
-    just nothing (Pattern ∷ Plain ∷ Condition ∷ Body ∷ []) ∷
-    just nothing (Name ∷ Plain ∷ Condition ∷ Body ∷ []) ∷
-    just nothing (Pattern ∷ Plain ∷ Condition ∷ Body ∷ Body ∷ []) ∷
+    just expression nothing (Pattern ∷ Plain ∷ Condition ∷ Body ∷ []) ∷
+    just expression nothing (Name ∷ Plain ∷ Condition ∷ Body ∷ []) ∷
+    just expression nothing (Pattern ∷ Plain ∷ Condition ∷ Body ∷ Body ∷ []) ∷
     -- 21 apply: sequence or map, argument
-    just nothing (Plain ∷ Plain ∷ []) ∷
+    just expression nothing (Plain ∷ Plain ∷ []) ∷
     -- 22 to 31
     missing ∷ missing ∷ missing ∷ missing ∷ missing ∷ missing ∷ missing ∷ missing ∷ missing ∷ missing ∷
     -- 32 name, 33 any, 34 boolean, 35 integer
-    just name [] ∷
-    just nothing [] ∷
-    just boolean [] ∷
-    just integer [] ∷
+    just pattern name [] ∷
+    just pattern nothing [] ∷
+    just pattern boolean [] ∷
+    just pattern integer [] ∷
     -- 36 tuple
-    several 2 4 1 Pattern ∷
+    several pattern 2 4 1 Pattern ∷
     -- 37 set enumeration, 38 union
-    several 0 4 1 Pattern ∷
-    just nothing (Pattern ∷ Pattern ∷ []) ∷
+    choosing (several pattern 0 4 1 Pattern) ∷
+    choosing (just pattern nothing (Pattern ∷ Pattern ∷ [])) ∷
     -- 39 sequence enumeration, 40 concatenation
-    several 0 4 1 Pattern ∷
-    just nothing (Pattern ∷ Pattern ∷ []) ∷
+    several pattern 0 4 1 Pattern ∷
+    choosing (just pattern nothing (Pattern ∷ Pattern ∷ [])) ∷
     []
 
 unfoldable pub shape : ℕ → Shape
@@ -98,13 +111,22 @@ shape kind = getD shapes kind missing
 
 -- ---- sorts
 
--- Kinds 1 to 21.
-abbrev pub isExpression : ℕ → Bool
-isExpression kind = leb 1 kind && leb kind 21
+abbrev pub ofExpressions : Sort → Bool
+ofExpressions expression = true
+ofExpressions pattern = false
+ofExpressions neither = false
 
--- Kinds 32 to 40.
+abbrev pub ofPatterns : Sort → Bool
+ofPatterns expression = false
+ofPatterns pattern = true
+ofPatterns neither = false
+
+-- Kinds 1 to 21, and 32 to 40.
+abbrev pub isExpression : ℕ → Bool
+isExpression kind = ofExpressions (shape kind .sort)
+
 abbrev pub isPattern : ℕ → Bool
-isPattern kind = leb 32 kind && leb kind 40
+isPattern kind = ofPatterns (shape kind .sort)
 
 -- ---- fields
 

@@ -1,10 +1,10 @@
 -- The shape of a kind in numbers, as a record is read by: where its operands begin, and its first field.
-use mathlib.Core.Bool.{Bool, true, false, _&&_}
+use mathlib.Core.Bool.{Bool, true, false, _&&_, _||_}
 use mathlib.Core.List.{List}
-use Prim.Native.Nat.{ℕ, _+_}
+use Prim.Native.Nat.{ℕ, zero, suc, _+_}
 use lib.Dec.{eqb, leb}
 use Rattle.tables.specs.declared.Role.{Role}
-use Rattle.tables.specs.declared.Role.the-variants.{Condition, Body}
+use Rattle.tables.specs.declared.Role.the-variants.{Plain, Condition, Body, Pattern, Name}
 use Rattle.tables.specs.Table.{pick}
 use Rattle.tables.specs.Record.{Head, nothing, boolean, integer, name, unary, binary, unknown, shape, size}
 
@@ -15,9 +15,18 @@ firstOf kind = 4 + size (shape kind .head)
 abbrev pub rolesOf : ℕ → List Role
 rolesOf kind = shape kind .roles
 
--- What a binder's operand from the third on is for: a let has no condition.
-abbrev pub coveredRole : ℕ → ℕ → Role
-coveredRole kind i = pick (eqb kind 12) Body (pick (eqb i 2) Condition Body)
+-- What a binder's first and third operands are for (in 17 and 19 P is kind 32; a let has no condition), and any of its operands.
+abbrev pub firstRole : ℕ → Role
+firstRole kind = pick (eqb kind 17 || eqb kind 19) Name Pattern
+
+abbrev pub thirdRole : ℕ → Role
+thirdRole kind = pick (eqb kind 12) Body Condition
+
+abbrev pub binderRole : ℕ → ℕ → Role
+binderRole kind zero = firstRole kind
+binderRole kind (suc zero) = Plain
+binderRole kind (suc (suc zero)) = thirdRole kind
+binderRole kind (suc (suc (suc i))) = Body
 
 -- A head with the first field n is known. (Every four bytes are an integer in range.)
 abbrev pub knownFirst : Head → ℕ → Bool

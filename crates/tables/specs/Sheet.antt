@@ -6,7 +6,7 @@ use lib.Dec.{eqb, ltb}
 use lib.ListN.{length}
 use Rattle.tables.specs.declared.Role.{Role}
 use Rattle.tables.specs.declared.Role.the-variants.{Plain, Condition, Body, Pattern, Name}
-use Rattle.tables.specs.Record.{Record, Operand, operands, named, operand, nameOf}
+use Rattle.tables.specs.Record.{Record, Operand, shape, operands, named, operand, nameOf}
 use Rattle.tables.specs.Table.{pick, recordAt}
 
 -- ---- tests over numbers and lists
@@ -58,7 +58,7 @@ holdsName rs p n = holds (isName n) rs p
 
 -- A pattern is loose when it holds a 37, 38 or 40: a let with it is a choice.
 abbrev pub isLoose : Record → Bool
-isLoose r = eqb (r .kind) 37 || eqb (r .kind) 38 || eqb (r .kind) 40
+isLoose r = shape (r .kind) .loose
 
 unfoldable pub loose : List Record → ℕ → Bool
 loose rs p = holds isLoose rs p
@@ -108,7 +108,10 @@ isCondition Body = false
 isCondition Pattern = false
 isCondition Name = false
 
--- The pattern of a binder (kinds 12 to 20) is its first operand.
+-- A binder has an operand that its names cover: kinds 12 to 20. Its pattern is its first operand.
+abbrev pub isBinder : ℕ → Bool
+isBinder kind = some (map isCovered (shape kind .roles))
+
 abbrev pub patternOf : List Record → ℕ → ℕ
 patternOf rs q = operand (recordAt rs q) 0
 

@@ -1,6 +1,9 @@
 // Tables of records: what a record's operands are for, and what the check of a table answers.
+pub mod binary;
+pub mod kinds;
 pub mod reading;
 pub mod shape;
+pub mod unary;
 
 // The greatest number of bytes of a table, and of records in it; the greatest height.
 pub const MOST_BYTES: usize = 2400;
@@ -8,6 +11,12 @@ pub const MOST_BYTES: usize = 2400;
 pub const MOST_RECORDS: usize = 200;
 
 pub const MOST_HEIGHT: usize = 32;
+
+// Names are 0 to 15.
+pub const NAMES: usize = 16;
+
+// Where each record of a table begins.
+pub type Index = [u16; MOST_RECORDS];
 
 // What an operand is for.
 pub enum Role {

@@ -7,6 +7,7 @@ ghost use Rattle.tables.specs.Table.{recordAt, kindAt};
 ghost use Rattle.tables.specs.Check.{mostBytes, mostRecords};
 ghost use Rattle.tables.specs.Accepted.{records};
 ghost use Rattle.tables.specs.Reading.{Measured, CutOut, Here, HasField, HasOperand};
+use crate::Index;
 use crate::MOST_RECORDS;
 use crate::Role;
 use crate::shape::first_operand;
@@ -46,7 +47,7 @@ pub fn measure(part: &[u8]) -> usize
 }
 
 // Cuts a table into records, and notes where each of the first 200 begins.
-pub fn cut(table: &[u8], index: &mut [u16; 200]) -> Cutting
+pub fn cut(table: &[u8], index: &mut Index) -> Cutting
     requires { ⌜ (length (now table) ≤ mostBytes) × (length (now index) ≡ mostRecords) ⌝ }
     ensures { λ c. ⌜ CutOut (now (table .entry)) (now (index .exit)) c ⌝ }
 {
@@ -93,7 +94,7 @@ fn wide16(n: u16) -> usize
 }
 
 // Where record r begins.
-fn place(index: &[u16; 200], r: usize) -> usize
+fn place(index: &Index, r: usize) -> usize
     requires { ⌜ r < 200 ⌝ }
     ensures { λ at. ⌜ at ≡ getD (now (index .entry)) r 0 ⌝ }
 {
@@ -101,7 +102,7 @@ fn place(index: &[u16; 200], r: usize) -> usize
 }
 
 // The kind of record r.
-pub fn kind(table: &[u8], index: &[u16; 200], r: usize) -> usize
+pub fn kind(table: &[u8], index: &Index, r: usize) -> usize
     requires { ⌜ Here (now table) (now index) r ⌝ }
     ensures { λ k. ⌜ (k ≡ kindAt (records (now (table .entry))) r) × (k ≤ 40) ⌝ }
 {
@@ -110,7 +111,7 @@ pub fn kind(table: &[u8], index: &[u16; 200], r: usize) -> usize
 }
 
 // Field i of record r.
-pub fn field(table: &[u8], index: &[u16; 200], r: usize, i: usize) -> usize
+pub fn field(table: &[u8], index: &Index, r: usize, i: usize) -> usize
     requires { ⌜ HasField (now table) (now index) r i ⌝ }
     ensures { λ b. ⌜ (b ≡ fieldIn (recordAt (records (now (table .entry))) r) i) × (b < 256) ⌝ }
 {
@@ -119,7 +120,7 @@ pub fn field(table: &[u8], index: &[u16; 200], r: usize, i: usize) -> usize
 }
 
 // The number of operands of record r.
-pub fn operand_count(table: &[u8], index: &[u16; 200], r: usize) -> usize
+pub fn operand_count(table: &[u8], index: &Index, r: usize) -> usize
     requires { ⌜ Here (now table) (now index) r ⌝ }
     ensures { λ n. ⌜ (n ≡ length (named (recordAt (records (now (table .entry))) r))) × (n ≤ 8) ⌝ }
 {
@@ -129,7 +130,7 @@ pub fn operand_count(table: &[u8], index: &[u16; 200], r: usize) -> usize
 }
 
 // The number in operand i of record r.
-pub fn operand(table: &[u8], index: &[u16; 200], r: usize, i: usize) -> usize
+pub fn operand(table: &[u8], index: &Index, r: usize, i: usize) -> usize
     requires { ⌜ HasOperand (now table) (now index) r i ⌝ }
     ensures { λ n. ⌜ (n ≡ operandIn (recordAt (records (now (table .entry))) r) i) × (n < 256) ⌝ }
 {
@@ -139,7 +140,7 @@ pub fn operand(table: &[u8], index: &[u16; 200], r: usize, i: usize) -> usize
 }
 
 // What operand i of record r is for.
-pub fn role(table: &[u8], index: &[u16; 200], r: usize, i: usize) -> Role
+pub fn role(table: &[u8], index: &Index, r: usize, i: usize) -> Role
     requires { ⌜ HasOperand (now table) (now index) r i ⌝ }
     ensures { λ x. ⌜ x ≡ roleAt (recordAt (records (now (table .entry))) r) i ⌝ }
 {
@@ -147,7 +148,7 @@ pub fn role(table: &[u8], index: &[u16; 200], r: usize, i: usize) -> Role
 }
 
 // The integer of record r, of kind 2 or 35.
-pub fn integer(table: &[u8], index: &[u16; 200], r: usize) -> i32
+pub fn integer(table: &[u8], index: &Index, r: usize) -> i32
     requires { ⌜ HasField (now table) (now index) r 3 ⌝ }
     ensures { λ z. ⌜ z ≡ integerOf (recordAt (records (now (table .entry))) r) ⌝ }
 {

@@ -1,4 +1,4 @@
-// The shape of each kind of record: its length, the place of its operands and what they are for.
+// The shape of each kind of record, as its row in the definition tells it: lengths by a constant table, the rest by the kinds' names.
 ghost use mathlib.Core.Path.{_≡_};
 ghost use Prim.Native.Nat.{_-_, _<_, _≤_};
 ghost use mathlib.Core.Bool.{_&&_, _||_};
@@ -7,141 +7,68 @@ ghost use lib.ListN.{length, getD};
 ghost use Rattle.integers.specs.Bytes.{word};
 ghost use Rattle.tables.specs.Record.{shape, isExpression, isPattern, fits, isFit};
 ghost use Rattle.tables.specs.Table.{first};
-ghost use Rattle.tables.specs.Shapes.{firstOf, rolesOf, coveredRole, knownFirst};
+ghost use Rattle.tables.specs.Sheet.{isBinder};
+ghost use Rattle.tables.specs.Shapes.{firstOf, rolesOf, firstRole, thirdRole, binderRole, knownFirst};
+use crate::NAMES;
 use crate::Role;
+use crate::binary;
+use crate::kinds;
+use crate::unary;
 
-// The least and the greatest length of a record of each kind from 0 to 40, and the place of its first operand. No record has kind 0 or
-// 22 to 31.
-const LEAST: [u8; 41] = [
-    4,
-    5,
-    8,
-    5,
-    6,
-    7,
-    7,
-    4,
-    4,
-    4,
-    6,
-    6,
-    7,
-    8,
-    7,
-    7,
-    7,
-    7,
-    8,
-    8,
-    9,
-    6,
-    4,
-    4,
-    4,
-    4,
-    4,
-    4,
-    4,
-    4,
-    4,
-    4,
-    5,
-    4,
-    5,
-    8,
-    6,
-    4,
-    6,
-    4,
-    6,
-];
+// The least and the greatest length of a record, and the step from one length to the next.
+struct Lengths(u8, u8, u8);
 
-const GREATEST: [u8; 41] = [
-    4,
-    5,
-    8,
-    5,
-    6,
-    7,
-    7,
-    12,
-    12,
-    12,
-    8,
-    6,
-    7,
-    8,
-    7,
-    7,
-    7,
-    7,
-    8,
-    8,
-    9,
-    6,
-    4,
-    4,
-    4,
-    4,
-    4,
-    4,
-    4,
-    4,
-    4,
-    4,
-    5,
-    4,
-    5,
-    8,
-    8,
-    8,
-    6,
-    8,
-    6,
-];
-
-const FIRST: [u8; 41] = [
-    4,
-    5,
-    8,
-    5,
-    5,
-    5,
-    4,
-    4,
-    4,
-    4,
-    4,
-    4,
-    4,
-    4,
-    4,
-    4,
-    4,
-    4,
-    4,
-    4,
-    4,
-    4,
-    4,
-    4,
-    4,
-    4,
-    4,
-    4,
-    4,
-    4,
-    4,
-    4,
-    5,
-    4,
-    5,
-    8,
-    4,
-    4,
-    4,
-    4,
-    4,
+// The lengths of each kind from 0 on. No record has kind 0 or 22 to 31.
+const LENGTHS: [Lengths; 41] = [
+    Lengths(4, 4, 1),
+    // 1 boolean, 2 integer, 3 name
+    Lengths(5, 5, 1),
+    Lengths(8, 8, 1),
+    Lengths(5, 5, 1),
+    // 4 unary, 5 binary, 6 if
+    Lengths(6, 6, 1),
+    Lengths(7, 7, 1),
+    Lengths(7, 7, 1),
+    // 7 set, 8 sequence, 9 map enumeration, 10 tuple, 11 set range
+    Lengths(4, 12, 1),
+    Lengths(4, 12, 1),
+    Lengths(4, 12, 2),
+    Lengths(6, 8, 1),
+    Lengths(6, 6, 1),
+    // 12 let, 13 let-be, 14 forall, 15 exists, 16 exists1, 17 iota
+    Lengths(7, 7, 1),
+    Lengths(8, 8, 1),
+    Lengths(7, 7, 1),
+    Lengths(7, 7, 1),
+    Lengths(7, 7, 1),
+    Lengths(7, 7, 1),
+    // 18 set, 19 sequence, 20 map comprehension, 21 apply
+    Lengths(8, 8, 1),
+    Lengths(8, 8, 1),
+    Lengths(9, 9, 1),
+    Lengths(6, 6, 1),
+    // 22 to 31
+    Lengths(4, 4, 1),
+    Lengths(4, 4, 1),
+    Lengths(4, 4, 1),
+    Lengths(4, 4, 1),
+    Lengths(4, 4, 1),
+    Lengths(4, 4, 1),
+    Lengths(4, 4, 1),
+    Lengths(4, 4, 1),
+    Lengths(4, 4, 1),
+    Lengths(4, 4, 1),
+    // 32 name, 33 any, 34 boolean, 35 integer
+    Lengths(5, 5, 1),
+    Lengths(4, 4, 1),
+    Lengths(5, 5, 1),
+    Lengths(8, 8, 1),
+    // 36 tuple, 37 set enumeration, 38 union, 39 sequence enumeration, 40 concatenation
+    Lengths(6, 8, 1),
+    Lengths(4, 8, 1),
+    Lengths(6, 6, 1),
+    Lengths(4, 8, 1),
+    Lengths(6, 6, 1),
 ];
 
 // A byte as a number.
@@ -151,121 +78,165 @@ pub fn wide(b: u8) -> usize
     b as usize
 }
 
+// Whether a number is from one to another.
+pub fn is_between(low: usize, n: usize, high: usize) -> bool
+    ensures { λ r. ⌜ r ≡ (leb low n && leb n high) ⌝ }
+{
+    if n < low {
+        return false;
+    }
+    n <= high
+}
+
+// ---- sorts
+
+pub fn is_expression(kind: usize) -> bool
+    ensures { λ r. ⌜ r ≡ isExpression kind ⌝ }
+{
+    is_between(kinds::BOOLEAN, kind, kinds::APPLY)
+}
+
+pub fn is_pattern(kind: usize) -> bool
+    ensures { λ r. ⌜ r ≡ isPattern kind ⌝ }
+{
+    is_between(kinds::NAME_PATTERN, kind, kinds::LAST)
+}
+
+// A kind that binds the names of its first operand.
+pub fn is_binder(kind: usize) -> bool
+    ensures { λ r. ⌜ r ≡ isBinder kind ⌝ }
+{
+    is_between(kinds::LET, kind, kinds::MAP_COMPREHENSION)
+}
+
+// A let whose pattern holds this kind is a choice.
+pub fn is_loose(kind: usize) -> bool
+    ensures { λ r. ⌜ r ≡ shape kind .loose ⌝ }
+{
+    match kind {
+        kinds::SET_PATTERN => true,
+        kinds::UNION_PATTERN => true,
+        kinds::CONCATENATION_PATTERN => true,
+        _ => false,
+    }
+}
+
+// ---- lengths
+
 // The length is fit for the kind.
 pub fn fits_kind(kind: usize, len: usize) -> bool
     requires { ⌜ (kind ≤ 40) × (4 ≤ len) ⌝ }
     ensures { λ r. ⌜ r ≡ fits (shape kind) (len - 4) ⌝ }
 {
-    if len < wide(LEAST[kind]) {
+    let row = LENGTHS[kind];
+    let least = wide(row.0);
+    if len < least {
         return false;
     }
-    if wide(GREATEST[kind]) < len {
+    let greatest = wide(row.1);
+    if greatest < len {
         return false;
     }
-    if kind == 9 {
-        return len % 2 == 0;
+    let step = wide(row.2);
+    if step == 1 {
+        return true;
     }
-    true
+    (len - least) % step == 0
 }
 
-// The place of the first operand in a record of the kind.
+// The place of the first operand in a record of the kind: after length and kind, and what stands before the operands.
 pub fn first_operand(kind: usize) -> usize
     requires { ⌜ kind ≤ 40 ⌝ }
     ensures { λ r. ⌜ (r ≡ firstOf kind) × (r ≤ 8) ⌝ }
 {
-    wide(FIRST[kind])
+    match kind {
+        kinds::UNARY => 5,
+        kinds::BINARY => 5,
+        kinds::BOOLEAN => 5,
+        kinds::NAME => 5,
+        kinds::NAME_PATTERN => 5,
+        kinds::BOOLEAN_PATTERN => 5,
+        kinds::INTEGER => 8,
+        kinds::INTEGER_PATTERN => 8,
+        _ => 4,
+    }
 }
+
+// ---- operands
 
 // What operand i of a record of the kind is for.
 pub fn role_of(kind: usize, i: usize) -> Role
     requires { ⌜ (kind ≤ 40) × (i < length (rolesOf kind)) ⌝ }
     ensures { λ r. ⌜ r ≡ getD (rolesOf kind) i Role.Plain ⌝ }
 {
-    if 32 <= kind {
+    if is_pattern(kind) {
         return Role::Pattern;
     }
-    if kind < 12 {
-        return Role::Plain;
+    if is_binder(kind) {
+        return binder_role(kind, i);
     }
-    if kind == 21 {
-        return Role::Plain;
-    }
-    if 2 <= i {
-        return covered_role(kind, i);
-    }
-    if i == 1 {
-        return Role::Plain;
-    }
-    if kind == 17 {
-        return Role::Name;
-    }
-    if kind == 19 {
-        return Role::Name;
-    }
-    Role::Pattern
+    Role::Plain
 }
 
-// The same of a binder's operands from the third on, which its names cover.
-fn covered_role(kind: usize, i: usize) -> Role
-    ensures { λ r. ⌜ r ≡ coveredRole kind i ⌝ }
+// The same of a binder: its pattern, its set or value, and what its names cover.
+fn binder_role(kind: usize, i: usize) -> Role
+    ensures { λ r. ⌜ r ≡ binderRole kind i ⌝ }
 {
-    if kind == 12 {
+    match i {
+        0 => first_role(kind),
+        1 => Role::Plain,
+        2 => third_role(kind),
+        _ => Role::Body,
+    }
+}
+
+// In 17 and 19 the pattern is a name.
+fn first_role(kind: usize) -> Role
+    ensures { λ r. ⌜ r ≡ firstRole kind ⌝ }
+{
+    match kind {
+        kinds::IOTA => Role::Name,
+        kinds::SEQUENCE_COMPREHENSION => Role::Name,
+        _ => Role::Pattern,
+    }
+}
+
+// A let has no condition.
+fn third_role(kind: usize) -> Role
+    ensures { λ r. ⌜ r ≡ thirdRole kind ⌝ }
+{
+    if kind == kinds::LET {
         return Role::Body;
     }
-    if i == 2 {
-        return Role::Condition;
-    }
-    Role::Body
+    Role::Condition
 }
 
-// There is such a kind.
-fn is_kind(kind: usize) -> bool
-    requires { ⌜ kind ≤ 40 ⌝ }
-    ensures { λ r. ⌜ r ≡ isExpression kind || isPattern kind ⌝ }
-{
-    if kind < 1 {
-        return false;
-    }
-    if kind <= 21 {
-        return true;
-    }
-    32 <= kind
-}
+// ---- literals, names and operators
 
-// Literals, names and operators are known, where n is the first field.
+// They are known, where n is the first field.
 fn is_known(kind: usize, n: usize) -> bool
     requires { ⌜ kind ≤ 40 ⌝ }
     ensures { λ r. ⌜ r ≡ knownFirst (shape kind .head) n ⌝ }
 {
-    if kind == 1 {
-        return n <= 1;
+    match kind {
+        kinds::BOOLEAN => n <= 1,
+        kinds::BOOLEAN_PATTERN => n <= 1,
+        kinds::NAME => n < NAMES,
+        kinds::NAME_PATTERN => n < NAMES,
+        kinds::UNARY => is_between(unary::NOT, n, unary::LAST),
+        kinds::BINARY => is_between(binary::AND, n, binary::LAST),
+        _ => is_kind(kind),
     }
-    if kind == 34 {
-        return n <= 1;
-    }
-    if kind == 3 {
-        return n <= 15;
-    }
-    if kind == 32 {
-        return n <= 15;
-    }
-    if kind == 4 {
-        return within(n, 15);
-    }
-    if kind == 5 {
-        return within(n, 28);
-    }
-    is_kind(kind)
 }
 
-// An operator from 1 to the greatest.
-fn within(n: usize, greatest: usize) -> bool
-    ensures { λ r. ⌜ r ≡ leb 1 n && leb n greatest ⌝ }
+// There is such a kind.
+fn is_kind(kind: usize) -> bool
+    ensures { λ r. ⌜ r ≡ isExpression kind || isPattern kind ⌝ }
 {
-    if n < 1 {
-        return false;
+    if is_expression(kind) {
+        return true;
     }
-    n <= greatest
+    is_pattern(kind)
 }
 
 // The record of this kind and length at the start of the part is fit for its kind.
@@ -273,7 +244,7 @@ pub fn is_fit(part: &[u8], kind: usize, len: usize) -> bool
     requires { ⌜ (kind ≡ word (now part) 2) × (len ≡ word (now part) 0) × (4 ≤ len) × (len ≤ length (now part)) ⌝ }
     ensures { λ r. ⌜ r ≡ isFit (first (now (part .entry))) ⌝ }
 {
-    if 40 < kind {
+    if kinds::LAST < kind {
         return false;
     }
     let fit = fits_kind(kind, len);

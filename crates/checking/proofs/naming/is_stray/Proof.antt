@@ -14,11 +14,11 @@ add-if1 c = omega (arith, c .before .pre .1, c .before .pre .0 .whole .all, c .b
 kind-requires : tie.Need-kind-requires
 kind-requires c κs = record { indexed = c .before .before .pre .0 .whole .indexed; within = omega (arith, c .before .before .pre .1, c .before .before .pre .0 .whole .all) }
 
-is-between-requires : tie.Need-is-between-requires
-is-between-requires c κs = search needs
+is-pattern-requires : tie.Need-is-pattern-requires
+is-pattern-requires c κs = search needs
 
 returns : tie.Need-returns
-returns c = stray-last (records (c .before .before .before .before .args .table .now)) (c .before .before .before .before .args .r) (c .is-between .result) (omega (arith, c .before .before .if1 .taken, c .before .before .before .before .pre .0 .whole .all)) (c .is-between .ensures ∙ ap isPattern (c .before .kind .ensures .0))
+returns c = stray-last (records (c .before .before .before .before .args .table .now)) (c .before .before .before .before .args .r) (c .is-pattern .result) (omega (arith, c .before .before .if1 .taken, c .before .before .before .before .pre .0 .whole .all)) (c .is-pattern .ensures ∙ ap isPattern (c .before .kind .ensures .0))
 
 is-marked-requires : tie.Need-is-marked-requires
 is-marked-requires c κs = omega (arith, c .before .before .pre .1, c .before .before .pre .0 .whole .all, c .before .before .pre .0 .whole .indexed .few)
@@ -29,4 +29,4 @@ returns-2 c = stray-named (records (c .before .before .before .args .table .now)
 pub is-stray-spec : {M : Type 1} → statement M
 is-stray-spec =
     tie.close
-    (tie.spec add-if1 kind-requires is-between-requires returns is-marked-requires returns-2)
+    (tie.spec add-if1 kind-requires is-pattern-requires returns is-marked-requires returns-2)

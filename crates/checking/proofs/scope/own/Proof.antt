@@ -1,10 +1,12 @@
 -- By kind.
-use Rattle.checking.proofs.Below.{name-pattern, own-name, own-set, own-union, own-concatenation, own-none}
+use Rattle.checking.proofs.Below.{name-pattern, own-name, own-loose, own-none}
 use Rattle.tables.specs.Accepted.{fit-records}
 use Rattle.tables.specs.Table.{recordAt}
 use Rattle.tables.specs.Accepted.{records}
 use native.Mathlib.Omega.{arith}
-use mathlib.Core.Path.{sym, _∙_}
+use mathlib.Core.Path.{sym, ap, _∙_}
+use Prim.Native.Nat.{ℕ}
+use Rattle.tables.specs.Record.{shape}
 use borrow.Author.Needs.{needs}
 use Rattle.checking.proofs.scope.own.Statement.{statement}
 use Rattle.checking.proofs.scope.own.Tie as tie
@@ -24,17 +26,14 @@ bit-requires c κs = omega (arith, (name-pattern (recordAt (records (c .before .
 returns : tie.Need-returns
 returns c = c .bit .ensures ∙ own-name (recordAt (records (c .before .before .before .before .before .args .table .now)) (c .before .before .before .before .before .args .r)) (c .before .field .result) (sym (c .before .before .before .kind .ensures .0) ∙ c .before .before .if1 .taken) (c .before .field .ensures .0)
 
+is-loose-requires : tie.Need-is-loose-requires
+is-loose-requires c κs = search needs
+
 returns-2 : tie.Need-returns-2
-returns-2 c = own-set (recordAt (records (c .before .before .before .before .args .table .now)) (c .before .before .before .before .args .r)) (sym (c .before .before .kind .ensures .0) ∙ c .if2 .taken)
+returns-2 c = own-loose (recordAt (records (c .before .before .before .before .before .args .table .now)) (c .before .before .before .before .before .args .r)) (λ e. c .before .before .if1 .left (c .before .before .before .kind .ensures .0 ∙ e)) (ap (λ (k : ℕ). shape k .loose) (sym (c .before .before .before .kind .ensures .0)) ∙ sym (c .before .is-loose .ensures) ∙ c .if2 .taken)
 
 returns-3 : tie.Need-returns-3
-returns-3 c = own-union (recordAt (records (c .before .before .before .before .before .args .table .now)) (c .before .before .before .before .before .args .r)) (sym (c .before .before .before .kind .ensures .0) ∙ c .if3 .taken)
-
-returns-4 : tie.Need-returns-4
-returns-4 c = own-concatenation (recordAt (records (c .before .before .before .before .before .before .args .table .now)) (c .before .before .before .before .before .before .args .r)) (sym (c .before .before .before .before .kind .ensures .0) ∙ c .if4 .taken)
-
-returns-5 : tie.Need-returns-5
-returns-5 c = own-none (recordAt (records (c .before .before .before .before .before .before .args .table .now)) (c .before .before .before .before .before .before .args .r)) (λ e. c .before .before .before .if1 .left (c .before .before .before .before .kind .ensures .0 ∙ e)) (λ e. c .before .before .if2 .left (c .before .before .before .before .kind .ensures .0 ∙ e)) (λ e. c .before .if3 .left (c .before .before .before .before .kind .ensures .0 ∙ e)) (λ e. c .if4 .left (c .before .before .before .before .kind .ensures .0 ∙ e))
+returns-3 c = own-none (recordAt (records (c .before .before .before .before .before .args .table .now)) (c .before .before .before .before .before .args .r)) (λ e. c .before .before .if1 .left (c .before .before .before .kind .ensures .0 ∙ e)) (ap (λ (k : ℕ). shape k .loose) (sym (c .before .before .before .kind .ensures .0)) ∙ sym (c .before .is-loose .ensures) ∙ c .if2 .left)
 
 pub own-spec : {M : Type 1} → statement M
 own-spec =
@@ -45,7 +44,6 @@ own-spec =
     add-bit
     bit-requires
     returns
+    is-loose-requires
     returns-2
-    returns-3
-    returns-4
-    returns-5)
+    returns-3)

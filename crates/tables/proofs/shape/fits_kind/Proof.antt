@@ -1,43 +1,56 @@
--- The length is fit for the kind where the constant tables say so.
+-- The length is fit for the kind where the constant table says so.
+use mathlib.Core.Path.{sym, ap, _∙_}
 use native.Mathlib.Omega.{arith}
 use borrow.Author.Needs.{needs}
-use Rattle.tables.proofs.Lengths.{too-short, too-long, even-count, any-count}
+use lib.Dec.{eqb}
+use Rattle.tables.proofs.Lengths.{step-some, too-short, too-long, by-step, by-one}
 use Rattle.tables.proofs.shape.fits_kind.Statement.{statement}
 use Rattle.tables.proofs.shape.fits_kind.Tie as tie
 
-array-read-wide : tie.Need-array-read-wide
-array-read-wide c = search needs
+mul-row : tie.Need-mul-row
+mul-row c = search needs
+
+array-copy-out-row : tie.Need-array-copy-out-row
+array-copy-out-row c = search needs
 
 wide-requires : tie.Need-wide-requires
 wide-requires c κs = search needs
 
 returns : tie.Need-returns
-returns c = too-short (c .before .before .args .kind) (c .before .before .pre .0) (c .before .before .args .len) (c .before .before .pre .1) (omega (arith, c .before .wide .ensures))
-
-array-read-wide-2 : tie.Need-array-read-wide-2
-array-read-wide-2 c = search needs
+returns c = too-short (c .before .before .before .args .kind) (c .before .before .before .pre .0) (c .before .before .before .args .len) (c .before .before .before .pre .1) (omega (arith, c .before .wide .ensures .0))
 
 wide-requires-2 : tie.Need-wide-requires-2
 wide-requires-2 c κs = search needs
 
 returns-2 : tie.Need-returns-2
-returns-2 c = too-long (c .before .before .before .before .args .kind) (c .before .before .before .before .pre .0) (c .before .before .before .before .args .len) (c .before .before .before .before .pre .1) (omega (arith, c .before .before .before .wide .ensures)) (omega (arith, c .before .wide2 .ensures))
+returns-2 c = too-long (c .before .before .before .before .before .args .kind) (c .before .before .before .before .before .pre .0) (c .before .before .before .before .before .args .len) (c .before .before .before .before .before .pre .1) (omega (arith, c .before .before .before .wide .ensures .0)) (omega (arith, c .before .wide2 .ensures .0))
+
+wide-requires-3 : tie.Need-wide-requires-3
+wide-requires-3 c κs = search needs
 
 returns-3 : tie.Need-returns-3
-returns-3 c = even-count (c .before .before .before .before .before .args .kind) (c .before .before .before .before .before .args .len) (omega arith) (c .before .before .before .before .before .pre .1) (omega (arith, c .before .before .before .before .wide .ensures)) (omega (arith, c .before .before .wide2 .ensures))
+returns-3 c = by-one (c .before .before .before .before .before .before .before .args .kind) (c .before .before .before .before .before .before .before .pre .0) (c .before .before .before .before .before .before .before .args .len) (c .before .before .before .before .before .before .before .pre .1) (omega (arith, c .before .before .before .before .before .wide .ensures .0)) (omega (arith, c .before .before .before .wide2 .ensures .0)) (omega (arith, c .before .wide3 .ensures .0))
+
+rem-result : tie.Need-rem-result
+rem-result c = omega (arith, c .before .wide3 .ensures .0, step-some (c .before .before .before .before .before .before .before .args .kind) (c .before .before .before .before .before .before .before .pre .0))
 
 returns-4 : tie.Need-returns-4
-returns-4 c = any-count (c .before .before .before .before .before .args .kind) (c .before .before .before .before .before .pre .0) (c .before .before .before .before .before .args .len) (c .before .before .before .before .before .pre .1) (omega (arith, c .before .before .before .before .wide .ensures)) (omega (arith, c .before .before .wide2 .ensures)) (c .if3 .left)
+returns-4 c =
+    let least = c .before .before .before .before .before .wide .ensures .0 in
+    let step = c .before .wide3 .ensures .0 in
+    rw (least, step) (by-step (c .before .before .before .before .before .before .before .args .kind) (c .before .before .before .before .before .before .before .pre .0) (c .before .before .before .before .before .before .before .args .len) (c .before .before .before .before .before .before .before .pre .1) (omega (arith, c .before .before .before .before .before .wide .ensures .0)) (omega (arith, c .before .before .before .wide2 .ensures .0)))
 
 pub fits-kind-spec : {M : Type 1} → statement M
 fits-kind-spec =
     tie.close
     (tie.spec
-    array-read-wide
+    mul-row
+    array-copy-out-row
     wide-requires
     returns
-    array-read-wide-2
     wide-requires-2
     returns-2
+    wide-requires-3
     returns-3
+    rem-result
     returns-4)

@@ -1,58 +1,58 @@
 -- By kind.
 use mathlib.Core.Path.{_∙_}
-use Rattle.tables.proofs.Heads.{other-known}
 use borrow.Author.Needs.{needs}
 use Rattle.tables.specs.Record.{shape}
+use Rattle.tables.proofs.Heads.{other-known, below-sixteen}
 use Rattle.tables.proofs.shape.is_known.Statement.{statement}
 use Rattle.tables.proofs.shape.is_known.Tie as tie
 
-returns : tie.Need-returns
-unfolding shape
-returns c = rw (c .if1 .taken)
+is-between-requires : tie.Need-is-between-requires
+is-between-requires c κs = search needs
 
-returns-2 : tie.Need-returns-2
-unfolding shape
-returns-2 c = rw (c .if2 .taken)
-
-returns-3 : tie.Need-returns-3
-unfolding shape
-returns-3 c = rw (c .if3 .taken)
-
-returns-4 : tie.Need-returns-4
-unfolding shape
-returns-4 c = rw (c .if4 .taken)
-
-within-requires : tie.Need-within-requires
-within-requires c κs = search needs
-
-returns-5 : tie.Need-returns-5
-unfolding shape
-returns-5 c = rw (c .before .if5 .taken) (c .within .ensures)
-
-within-requires-2 : tie.Need-within-requires-2
-within-requires-2 c κs = search needs
-
-returns-6 : tie.Need-returns-6
-unfolding shape
-returns-6 c = rw (c .before .if6 .taken) (c .within2 .ensures)
+is-between-requires-2 : tie.Need-is-between-requires-2
+is-between-requires-2 c κs = search needs
 
 is-kind-requires : tie.Need-is-kind-requires
 is-kind-requires c κs = search needs
 
+returns : tie.Need-returns
+unfolding shape
+returns c = rw (c .match .keys1)
+
+returns-2 : tie.Need-returns-2
+unfolding shape
+returns-2 c = rw (c .match .keys2)
+
+returns-3 : tie.Need-returns-3
+unfolding shape
+returns-3 c = rw (c .match .keys3) (below-sixteen (c .before .args .n))
+
+returns-4 : tie.Need-returns-4
+unfolding shape
+returns-4 c = rw (c .match .keys4) (below-sixteen (c .before .args .n))
+
+returns-5 : tie.Need-returns-5
+unfolding shape
+returns-5 c = rw (c .before .match .keys5) (c .is-between .ensures)
+
+returns-6 : tie.Need-returns-6
+unfolding shape
+returns-6 c = rw (c .before .match .keys6) (c .is-between2 .ensures)
+
 returns-7 : tie.Need-returns-7
-returns-7 c = c .is-kind .ensures ∙ other-known (c .before .before .before .before .before .before .before .args .kind) (c .before .before .before .before .before .before .before .args .n) (c .before .before .before .before .before .before .before .pre) (c .before .before .before .before .before .before .if1 .left) (c .before .before .before .before .before .if2 .left) (c .before .before .before .before .if3 .left) (c .before .before .before .if4 .left) (c .before .before .if5 .left) (c .before .if6 .left)
+returns-7 c = c .is-kind .ensures ∙ other-known (c .before .before .args .kind) (c .before .before .args .n) (c .before .before .pre) (c .before .match .rest .0 .0 .0 .0 .0 .1) (c .before .match .rest .0 .0 .0 .0 .1) (c .before .match .rest .0 .0 .0 .1) (c .before .match .rest .0 .0 .1) (c .before .match .rest .0 .1) (c .before .match .rest .1)
 
 pub is-known-spec : {M : Type 1} → statement M
 is-known-spec =
     tie.close
     (tie.spec
+    is-between-requires
+    is-between-requires-2
+    is-kind-requires
     returns
     returns-2
     returns-3
     returns-4
-    within-requires
     returns-5
-    within-requires-2
     returns-6
-    is-kind-requires
     returns-7)

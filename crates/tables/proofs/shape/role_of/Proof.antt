@@ -1,48 +1,35 @@
--- The roles of all kinds, by the tests of the code.
+-- By the kind's sort, and whether it binds.
 use mathlib.Core.Path.{sym, _∙_}
-use borrow.Author.Tests.{lt-ltb, le-ltb, lt-leb, le-leb, eq-eqb, ne-eqb}
-use Rattle.tables.proofs.Roles.{role-by}
 use borrow.Author.Needs.{needs}
+use Rattle.tables.proofs.Roles.{role-by}
 use Rattle.tables.proofs.shape.role_of.Statement.{statement}
 use Rattle.tables.proofs.shape.role_of.Tie as tie
 
+is-pattern-requires : tie.Need-is-pattern-requires
+is-pattern-requires c κs = search needs
+
 returns : tie.Need-returns
-returns c = sym (role-by (c .before .args .kind) (c .before .args .i) (c .before .pre .0) (c .before .pre .1) ∙ rw (le-leb 32 (c .before .args .kind) (c .if1 .taken)))
+returns c = sym (role-by (c .before .before .args .kind) (c .before .before .args .i) (c .before .before .pre .0) (c .before .before .pre .1) ∙ rw (sym (c .before .is-pattern .ensures) ∙ c .if1 .taken))
+
+is-binder-requires : tie.Need-is-binder-requires
+is-binder-requires c κs = search needs
+
+binder-role-requires : tie.Need-binder-role-requires
+binder-role-requires c κs = search needs
 
 returns-2 : tie.Need-returns-2
-returns-2 c = sym (role-by (c .before .before .args .kind) (c .before .before .args .i) (c .before .before .pre .0) (c .before .before .pre .1) ∙ rw (lt-leb 32 (c .before .before .args .kind) (c .before .if1 .left), lt-ltb (c .before .before .args .kind) 12 (c .if2 .taken)))
+returns-2 c = c .binder-role .ensures ∙ sym (role-by (c .before .before .before .before .before .args .kind) (c .before .before .before .before .before .args .i) (c .before .before .before .before .before .pre .0) (c .before .before .before .before .before .pre .1) ∙ rw (sym (c .before .before .before .before .is-pattern .ensures) ∙ c .before .before .before .if1 .left, sym (c .before .before .is-binder .ensures) ∙ c .before .if2 .taken))
 
 returns-3 : tie.Need-returns-3
-returns-3 c = sym (role-by (c .before .before .before .args .kind) (c .before .before .before .args .i) (c .before .before .before .pre .0) (c .before .before .before .pre .1) ∙ rw (lt-leb 32 (c .before .before .before .args .kind) (c .before .before .if1 .left), le-ltb (c .before .before .before .args .kind) 12 (c .before .if2 .left), eq-eqb (c .before .before .before .args .kind) 21 (c .if3 .taken)))
-
-covered-role-requires : tie.Need-covered-role-requires
-covered-role-requires c κs = search needs
-
-returns-4 : tie.Need-returns-4
-returns-4 c = c .covered-role .ensures ∙ sym (role-by (c .before .before .before .before .before .args .kind) (c .before .before .before .before .before .args .i) (c .before .before .before .before .before .pre .0) (c .before .before .before .before .before .pre .1) ∙ rw (lt-leb 32 (c .before .before .before .before .before .args .kind) (c .before .before .before .before .if1 .left), le-ltb (c .before .before .before .before .before .args .kind) 12 (c .before .before .before .if2 .left), ne-eqb (c .before .before .before .before .before .args .kind) 21 (c .before .before .if3 .left), le-leb 2 (c .before .before .before .before .before .args .i) (c .before .if4 .taken)))
-
-returns-5 : tie.Need-returns-5
-returns-5 c = sym (role-by (c .before .before .before .before .before .args .kind) (c .before .before .before .before .before .args .i) (c .before .before .before .before .before .pre .0) (c .before .before .before .before .before .pre .1) ∙ rw (lt-leb 32 (c .before .before .before .before .before .args .kind) (c .before .before .before .before .if1 .left), le-ltb (c .before .before .before .before .before .args .kind) 12 (c .before .before .before .if2 .left), ne-eqb (c .before .before .before .before .before .args .kind) 21 (c .before .before .if3 .left), lt-leb 2 (c .before .before .before .before .before .args .i) (c .before .if4 .left), eq-eqb (c .before .before .before .before .before .args .i) 1 (c .if5 .taken)))
-
-returns-6 : tie.Need-returns-6
-returns-6 c = sym (role-by (c .before .before .before .before .before .before .args .kind) (c .before .before .before .before .before .before .args .i) (c .before .before .before .before .before .before .pre .0) (c .before .before .before .before .before .before .pre .1) ∙ rw (lt-leb 32 (c .before .before .before .before .before .before .args .kind) (c .before .before .before .before .before .if1 .left), le-ltb (c .before .before .before .before .before .before .args .kind) 12 (c .before .before .before .before .if2 .left), ne-eqb (c .before .before .before .before .before .before .args .kind) 21 (c .before .before .before .if3 .left), lt-leb 2 (c .before .before .before .before .before .before .args .i) (c .before .before .if4 .left), ne-eqb (c .before .before .before .before .before .before .args .i) 1 (c .before .if5 .left), eq-eqb (c .before .before .before .before .before .before .args .kind) 17 (c .if6 .taken)))
-
-returns-7 : tie.Need-returns-7
-returns-7 c = sym (role-by (c .before .before .before .before .before .before .before .args .kind) (c .before .before .before .before .before .before .before .args .i) (c .before .before .before .before .before .before .before .pre .0) (c .before .before .before .before .before .before .before .pre .1) ∙ rw (lt-leb 32 (c .before .before .before .before .before .before .before .args .kind) (c .before .before .before .before .before .before .if1 .left), le-ltb (c .before .before .before .before .before .before .before .args .kind) 12 (c .before .before .before .before .before .if2 .left), ne-eqb (c .before .before .before .before .before .before .before .args .kind) 21 (c .before .before .before .before .if3 .left), lt-leb 2 (c .before .before .before .before .before .before .before .args .i) (c .before .before .before .if4 .left), ne-eqb (c .before .before .before .before .before .before .before .args .i) 1 (c .before .before .if5 .left), ne-eqb (c .before .before .before .before .before .before .before .args .kind) 17 (c .before .if6 .left), eq-eqb (c .before .before .before .before .before .before .before .args .kind) 19 (c .if7 .taken)))
-
-returns-8 : tie.Need-returns-8
-returns-8 c = sym (role-by (c .before .before .before .before .before .before .before .args .kind) (c .before .before .before .before .before .before .before .args .i) (c .before .before .before .before .before .before .before .pre .0) (c .before .before .before .before .before .before .before .pre .1) ∙ rw (lt-leb 32 (c .before .before .before .before .before .before .before .args .kind) (c .before .before .before .before .before .before .if1 .left), le-ltb (c .before .before .before .before .before .before .before .args .kind) 12 (c .before .before .before .before .before .if2 .left), ne-eqb (c .before .before .before .before .before .before .before .args .kind) 21 (c .before .before .before .before .if3 .left), lt-leb 2 (c .before .before .before .before .before .before .before .args .i) (c .before .before .before .if4 .left), ne-eqb (c .before .before .before .before .before .before .before .args .i) 1 (c .before .before .if5 .left), ne-eqb (c .before .before .before .before .before .before .before .args .kind) 17 (c .before .if6 .left), ne-eqb (c .before .before .before .before .before .before .before .args .kind) 19 (c .if7 .left)))
+returns-3 c = sym (role-by (c .before .before .before .before .args .kind) (c .before .before .before .before .args .i) (c .before .before .before .before .pre .0) (c .before .before .before .before .pre .1) ∙ rw (sym (c .before .before .before .is-pattern .ensures) ∙ c .before .before .if1 .left, sym (c .before .is-binder .ensures) ∙ c .if2 .left))
 
 pub role-of-spec : {M : Type 1} → statement M
 role-of-spec =
     tie.close
     (tie.spec
+    is-pattern-requires
     returns
+    is-binder-requires
+    binder-role-requires
     returns-2
-    returns-3
-    covered-role-requires
-    returns-4
-    returns-5
-    returns-6
-    returns-7
-    returns-8)
+    returns-3)

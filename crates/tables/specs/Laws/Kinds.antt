@@ -1,0 +1,84 @@
+-- The rows of the table of kinds: what holds of each holds of every kind, and the kinds of each sort are those that document 01 names.
+use mathlib.Core.Path.{_≡_, refl, sym, ap, _∙_}
+use mathlib.Core.Bool.{Bool, true, false, not, Bool·beq, _&&_, _||_}
+use mathlib.Core.List.{map}
+use Prim.Native.Nat.{ℕ, _≤_, _<_}
+use native.Mathlib.Omega.{arith}
+use borrow.Author.Tests.{lt-leb, le-leb, leb-true, ne-eqb}
+use lib.Dec.{eqb, leb}
+use lib.ListN.{List·getD-eq-default}
+use Rattle.tables.specs.Record.{Record, Shape, missing, shapes, shape, ofExpressions, ofPatterns, isExpression, isPattern}
+use Rattle.tables.specs.Sheet.{any, some, isLoose, isCovered, isBinder}
+use Rattle.tables.specs.Laws.{never, and-left, and-right, split, each}
+
+-- There is no kind above 40.
+pub beyond : (k : ℕ) → 40 < k → shape k ≡ missing
+unfolding shape
+beyond k h = List·getD-eq-default shapes missing {n = k} (omega arith)
+
+-- Two tests of a kind that agree above 40, and by computing on each kind up to it, agree.
+module _ (one other : ℕ → Bool) (above : (k : ℕ) → 40 < k → one k ≡ other k) where
+  beq-same : (b c : Bool) → Bool·beq b c ≡ true → b ≡ c
+  beq-same true true e = refl
+  beq-same true false e = never e
+  beq-same false true e = never e
+  beq-same false false e = refl
+
+  pub on-kinds : any (λ k. not (Bool·beq (one k) (other k))) 41 ≡ false → (k : ℕ) → one k ≡ other k
+  on-kinds e k = split 40 k (above k) (λ h. beq-same (one k) (other k) (each (λ k. Bool·beq (one k) (other k)) 41 e k (omega arith)))
+
+off-and : (b : Bool) {c : Bool} → c ≡ false → b && c ≡ false
+off-and true e = e
+off-and false e = refl
+
+-- Kinds 1 to 21 are expressions, 32 to 40 patterns.
+pub expression-kinds : (k : ℕ) → isExpression k ≡ leb 1 k && leb k 21
+unfolding shape
+expression-kinds =
+    on-kinds isExpression (λ k. leb 1 k && leb k 21)
+    (λ k h. ap (λ (s : Shape). ofExpressions (s .sort)) (beyond k h) ∙ sym (off-and (leb 1 k) (lt-leb k 21 (omega arith)))) refl
+
+pub pattern-kinds : (k : ℕ) → isPattern k ≡ leb 32 k && leb k 40
+unfolding shape
+pattern-kinds =
+    on-kinds isPattern (λ k. leb 32 k && leb k 40)
+    (λ k h. ap (λ (s : Shape). ofPatterns (s .sort)) (beyond k h) ∙ sym (off-and (leb 32 k) (lt-leb k 40 (omega arith)))) refl
+
+-- Kinds 37, 38 and 40 are loose, 12 to 20 bind.
+pub loose-kinds : (r : Record) → isLoose r ≡ eqb (r .kind) 37 || eqb (r .kind) 38 || eqb (r .kind) 40
+unfolding shape
+loose-kinds r =
+    on-kinds (λ k. shape k .loose) (λ k. eqb k 37 || eqb k 38 || eqb k 40)
+    (λ k h. ap (λ (s : Shape). s .loose) (beyond k h) ∙ rw (ne-eqb k 37 (omega arith), ne-eqb k 38 (omega arith), ne-eqb k 40 (omega arith))) refl (r .kind)
+
+pub binder-kinds : (k : ℕ) → isBinder k ≡ leb 12 k && leb k 20
+unfolding shape
+binder-kinds =
+    on-kinds isBinder (λ k. leb 12 k && leb k 20)
+    (λ k h. ap (λ (s : Shape). some (map isCovered (s .roles))) (beyond k h) ∙ sym (off-and (leb 12 k) (lt-leb k 20 (omega arith)))) refl
+
+-- Bounds of each.
+pub expression-least : (k : ℕ) → isExpression k ≡ true → 1 ≤ k
+expression-least k e = leb-true 1 k (and-left _ (leb k 21) (sym (expression-kinds k) ∙ e))
+
+pub expression-most : (k : ℕ) → isExpression k ≡ true → k ≤ 21
+expression-most k e = leb-true k 21 (and-right (leb 1 k) _ (sym (expression-kinds k) ∙ e))
+
+pub pattern-most : (k : ℕ) → isPattern k ≡ true → k ≤ 40
+pattern-most k e = leb-true k 40 (and-right (leb 32 k) _ (sym (pattern-kinds k) ∙ e))
+
+pub pattern-least : (k : ℕ) → isPattern k ≡ true → 32 ≤ k
+pattern-least k e = leb-true 32 k (and-left _ (leb k 40) (sym (pattern-kinds k) ∙ e))
+
+pub binder-most : (k : ℕ) → isBinder k ≡ true → k ≤ 20
+binder-most k e = leb-true k 20 (and-right (leb 12 k) _ (sym (binder-kinds k) ∙ e))
+
+-- And from the bounds.
+pub expression-kind : (k : ℕ) → 1 ≤ k → k ≤ 21 → isExpression k ≡ true
+expression-kind k l m = expression-kinds k ∙ rw (le-leb 1 k l, le-leb k 21 m)
+
+pub pattern-kind : (k : ℕ) → 32 ≤ k → k ≤ 40 → isPattern k ≡ true
+pattern-kind k l m = pattern-kinds k ∙ rw (le-leb 32 k l, le-leb k 40 m)
+
+pub binder-kind : (k : ℕ) → 12 ≤ k → k ≤ 20 → isBinder k ≡ true
+binder-kind k l m = binder-kinds k ∙ rw (le-leb 12 k l, le-leb k 20 m)
