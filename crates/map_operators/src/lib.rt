@@ -71,7 +71,7 @@ pub fn unary_map(s: &mut [u8], base: usize, operator: usize) -> Applied
     if kind != MAP {
         return Applied::Refused(Applied::WRONG_KIND);
     }
-    if operator == 14 {
+    if operator == tables::unary::DOM {
         return domain(s, base);
     }
     range(s, base)
@@ -222,9 +222,9 @@ pub fn binary_map(s: &mut [u8], base: usize, operator: usize) -> Applied
     ensures { λ r. ⌜ OnTwo (binary operator) (now (s .entry)) (now (s .exit)) base r ⌝ }
 {
     match operator {
-        25 => merge(s, base),
-        26 => replace(s, base),
-        27 => restrict_domain(s, base),
+        tables::binary::MUNION => merge(s, base),
+        tables::binary::OVERRIDE => replace(s, base),
+        tables::binary::RESTRICT_DOMAIN => restrict_domain(s, base),
         _ => restrict_range(s, base),
     }
 }

@@ -37,7 +37,7 @@ fn sign(s: &mut [u8], base: usize, operator: usize) -> Applied
         return Applied::Refused(Applied::WRONG_KIND);
     }
     let z = values::integer_at(s, base);
-    if operator == 2 {
+    if operator == tables::unary::MINUS {
         return calling::put_number(s, base, integers::neg(z));
     }
     calling::put_number(s, base, integers::abs(z))
@@ -48,7 +48,7 @@ pub fn unary_scalar(s: &mut [u8], base: usize, operator: usize) -> Applied
     requires { ⌜ One (now s) base × (1 ≤ operator) × (operator ≤ 3) ⌝ }
     ensures { λ r. ⌜ OnOne (unary operator) (now (s .entry)) (now (s .exit)) base r ⌝ }
 {
-    if operator == 1 {
+    if operator == tables::unary::NOT {
         return negation(s, base);
     }
     sign(s, base, operator)
@@ -85,7 +85,7 @@ fn equality(s: &mut [u8], base: usize, operator: usize) -> Applied
     ensures { λ r. ⌜ OnTwo (binary operator) (now (s .entry)) (now (s .exit)) base r ⌝ }
 {
     let equal = same(s, base);
-    if operator == 5 {
+    if operator == tables::binary::EQUAL {
         return calling::put_truth(s, base, equal);
     }
     calling::put_truth(s, base, !equal)
@@ -99,11 +99,11 @@ fn compute(operator: usize, a: i32, b: i32) -> Number
     ensures { λ r. ⌜ binary operator (integer a) (integer b) ≡ answered r ⌝ }
 {
     match operator {
-        7 => integers::add(a, b),
-        8 => integers::sub(a, b),
-        9 => integers::mul(a, b),
-        10 => integers::div(a, b),
-        11 => integers::rem(a, b),
+        tables::binary::PLUS => integers::add(a, b),
+        tables::binary::MINUS => integers::sub(a, b),
+        tables::binary::TIMES => integers::mul(a, b),
+        tables::binary::DIV => integers::div(a, b),
+        tables::binary::REM => integers::rem(a, b),
         _ => integers::modulo(a, b),
     }
 }
@@ -114,9 +114,9 @@ fn test(operator: usize, a: i32, b: i32) -> bool
     ensures { λ r. ⌜ binary operator (integer a) (integer b) ≡ truth r ⌝ }
 {
     match operator {
-        13 => integers::less(a, b),
-        14 => !integers::less(b, a),
-        15 => integers::less(b, a),
+        tables::binary::LESS => integers::less(a, b),
+        tables::binary::LESS_EQUAL => !integers::less(b, a),
+        tables::binary::GREATER => integers::less(b, a),
         _ => !integers::less(a, b),
     }
 }
@@ -148,13 +148,13 @@ pub fn binary_scalar(s: &mut [u8], base: usize, operator: usize) -> Applied
     requires { ⌜ Two (now s) base × (4 ≤ operator) × (operator ≤ 16) ⌝ }
     ensures { λ r. ⌜ OnTwo (binary operator) (now (s .entry)) (now (s .exit)) base r ⌝ }
 {
-    if operator == 4 {
+    if operator == tables::binary::EQUIVALENT {
         return biimplication(s, base);
     }
-    if operator <= 6 {
+    if operator <= tables::binary::NOT_EQUAL {
         return equality(s, base, operator);
     }
-    if operator <= 12 {
+    if operator <= tables::binary::MOD {
         return arithmetic(s, base, operator);
     }
     comparison(s, base, operator)
@@ -172,10 +172,10 @@ pub fn left(s: &mut [u8], base: usize, operator: usize) -> Tested
         return Tested::Refused(Applied::WRONG_KIND);
     }
     let b = values::boolean_at(s, base);
-    if b == (operator != 2) {
+    if b == (operator != tables::binary::OR) {
         return Tested::Open;
     }
-    values::put_boolean(s, base, operator != 1);
+    values::put_boolean(s, base, operator != tables::binary::AND);
     Tested::Settled
 }
 

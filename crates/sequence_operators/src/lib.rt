@@ -115,12 +115,12 @@ pub fn unary_sequence(s: &mut [u8], base: usize, operator: usize) -> Applied
         return Applied::Refused(Applied::WRONG_KIND);
     }
     match operator {
-        7 => len(s, base),
-        8 => head(s, base),
-        9 => tail(s, base),
-        10 => gathering::elements(s, base),
-        11 => indexes(s, base),
-        12 => flatten(s, base),
+        tables::unary::LEN => len(s, base),
+        tables::unary::HD => head(s, base),
+        tables::unary::TL => tail(s, base),
+        tables::unary::ELEMS => gathering::elements(s, base),
+        tables::unary::INDS => indexes(s, base),
+        tables::unary::CONC => flatten(s, base),
         _ => reverse(s, base),
     }
 }

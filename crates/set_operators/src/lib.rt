@@ -101,10 +101,10 @@ pub fn unary_set(s: &mut [u8], base: usize, operator: usize) -> Applied
     requires { ⌜ One (now s) base × (4 ≤ operator) × (operator ≤ 6) ⌝ }
     ensures { λ r. ⌜ OnOne (unary operator) (now (s .entry)) (now (s .exit)) base r ⌝ }
 {
-    if operator == 4 {
+    if operator == tables::unary::CARD {
         return cardinality(s, base);
     }
-    if operator == 5 {
+    if operator == tables::unary::DUNION {
         return distributed_union(s, base);
     }
     distributed_intersection(s, base)
@@ -120,7 +120,7 @@ fn membership(s: &mut [u8], base: usize, operator: usize) -> Applied
         return Applied::Refused(Applied::WRONG_KIND);
     }
     let found = collections::finding::contains(s, base + Applied::SECOND, base);
-    calling::put_truth(s, base, found == (operator == 17))
+    calling::put_truth(s, base, found == (operator == tables::binary::IN_SET))
 }
 
 fn union(s: &mut [u8], base: usize) -> Applied
@@ -152,7 +152,7 @@ fn selection(s: &mut [u8], base: usize, operator: usize) -> Applied
     }
     let right = base + Applied::SECOND;
     let n = values::length_of(s, right);
-    let wanted = operator == 20;
+    let wanted = operator == tables::binary::INTER;
     members::choose(s, base, right, right + n, base + Applied::THIRD, wanted);
     values::copy_value(s, base + Applied::THIRD, base);
     Applied::Done
@@ -184,7 +184,7 @@ fn inclusion(s: &mut [u8], base: usize, operator: usize) -> Applied
     }
     let n = values::length_of(s, base);
     let inside = all_in(s, base + 4, base + n, base + Applied::SECOND);
-    if operator == 22 {
+    if operator == tables::binary::SUBSET {
         return calling::put_truth(s, base, inside);
     }
     let same = values::equal(s, base, base + Applied::SECOND);
@@ -196,13 +196,13 @@ pub fn binary_set(s: &mut [u8], base: usize, operator: usize) -> Applied
     requires { ⌜ Two (now s) base × (17 ≤ operator) × (operator ≤ 23) ⌝ }
     ensures { λ r. ⌜ OnTwo (binary operator) (now (s .entry)) (now (s .exit)) base r ⌝ }
 {
-    if operator <= 18 {
+    if operator <= tables::binary::NOT_IN_SET {
         return membership(s, base, operator);
     }
-    if operator == 19 {
+    if operator == tables::binary::UNION {
         return union(s, base);
     }
-    if operator <= 21 {
+    if operator <= tables::binary::DIFFERENCE {
         return selection(s, base, operator);
     }
     inclusion(s, base, operator)

@@ -40,10 +40,10 @@ pub extern "C" fn trials_valid(bytes: &[u8]) -> bool
 pub extern "C" fn trials_unary(operator: usize, operand: &[u8], scratch: &mut [u8]) -> usize
     ensures { λ r. ⌜ TriesOne (Unary operator) (unary operator) (now (operand .entry)) (now (scratch .entry)) (now (scratch .exit)) r ⌝ }
 {
-    if operator < 1 {
+    if operator < tables::unary::NOT {
         return BAD_INPUT;
     }
-    if operator > operations::LAST_UNARY {
+    if operator > tables::unary::LAST {
         return BAD_INPUT;
     }
     if operands::place_one(operand, scratch) {
@@ -65,7 +65,7 @@ pub extern "C" fn trials_binary(
     if operator < operations::FIRST_STRICT {
         return BAD_INPUT;
     }
-    if operator > operations::LAST_BINARY {
+    if operator > tables::binary::LAST {
         return BAD_INPUT;
     }
     if operands::place_two(left, right, scratch) {
@@ -100,7 +100,7 @@ pub extern "C" fn trials_connective(
 ) -> usize
     ensures { λ r. ⌜ TriesTwo (Conditional operator) (connected (connective operator)) (now (left .entry)) (now (right .entry)) (now (scratch .entry)) (now (scratch .exit)) r ⌝ }
 {
-    if operator < 1 {
+    if operator < tables::binary::AND {
         return BAD_INPUT;
     }
     if operator >= operations::FIRST_STRICT {
