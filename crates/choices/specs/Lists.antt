@@ -4,6 +4,7 @@ use mathlib.Core.Logic.{_⊎_, _↔_}
 use mathlib.Core.List.{List, [], _∷_, _++_}
 use Prim.Native.Nat.{ℕ, _≤_, _<_}
 use lib.ListN.{length}
+use Rattle.prelude.specs.Membership.{In}
 use Rattle.choices.specs.Tree.{Tree, limit, Run, gave, stopped, short, beyond, run, Outcome, value, refusal}
 
 -- The run ended in a value or in 20 to 31, with no entry left.
@@ -34,10 +35,6 @@ before [] [] = ⊥
 before [] (d ∷ m) = Unit {0}
 before (c ∷ l) [] = ⊥
 before (c ∷ l) (d ∷ m) = (c < d) ⊎ ((c ≡ d) × before l m)
-
-abbrev pub In : List ℕ → List (List ℕ) → Type 0
-In l [] = ⊥
-In l (m ∷ ms) = (l ≡ m) ⊎ In l ms
 
 -- Strictly ascending: each stands before all that follow it.
 abbrev pub Ascending : List (List ℕ) → Type 0

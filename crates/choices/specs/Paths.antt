@@ -3,7 +3,8 @@ use mathlib.Core.Option.{Option, none, some}
 use mathlib.Core.List.{List, [], _∷_, _++_}
 use Prim.Native.Nat.{ℕ, zero, suc, _<_}
 use lib.Dec.{ltb}
-use Rattle.choices.specs.Tree.{Tree, give, stop, choose, pick, limit, Outcome, value, refusal}
+use mathlib.Core.Bool.{cond}
+use Rattle.choices.specs.Tree.{Tree, give, stop, choose, limit, Outcome, value, refusal}
 
 -- ---- lists that lead into a tree
 
@@ -78,7 +79,7 @@ orElse c none o = o
 abbrev pub raise : List ℕ → List ℕ → Option (List ℕ)
 raise [] ns = none
 raise (c ∷ l) [] = none
-raise (c ∷ l) (n ∷ ns) = orElse c (raise l ns) (pick (ltb (suc c) n) (some (suc c ∷ [])) none)
+raise (c ∷ l) (n ∷ ns) = orElse c (raise l ns) (cond (ltb (suc c) n) (some (suc c ∷ [])) none)
 
 abbrev pub onSome : (List ℕ → List ℕ) → Option (List ℕ) → Option (List ℕ)
 onSome f none = none

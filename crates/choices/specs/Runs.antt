@@ -1,13 +1,13 @@
 -- A tree run on the state of the choices: what a function that chooses has to come to.
 use mathlib.Core.Path.{_≡_}
-use mathlib.Core.Bool.{Bool, false}
+use mathlib.Core.Bool.{Bool, false, cond}
 use mathlib.Core.List.{List, [], _∷_, _++_}
 use Prim.Native.Nat.{ℕ, zero, suc}
 use lib.Dec.{ltb}
 use Rattle.choices.specs.declared.Choices.{Choices}
 use Rattle.choices.specs.declared.Answer.{Answer}
 use Rattle.choices.specs.declared.Answer.the-variants.{Taken, Many, Short, Beyond}
-use Rattle.choices.specs.Tree.{Tree, give, stop, choose, limit, Run, gave, stopped, short, beyond, pick, Final, result, refuses, unlessLeft}
+use Rattle.choices.specs.Tree.{Tree, give, stop, choose, limit, Run, gave, stopped, short, beyond, Final, result, refuses, unlessLeft}
 use Rattle.choices.specs.Paths.{counts, cut}
 use Rattle.choices.specs.State.{View, view, Sound, answerOf, afterwards}
 
@@ -61,7 +61,7 @@ trail (give a) k past met left = record { past = past; met = met; left = left; g
 trail (stop r p) k past met left = record { past = past; met = met; left = left; grow = false }
 trail (choose p n ways) zero past met left = record { past = past; met = met; left = left; grow = false }
 trail (choose p n ways) (suc k) past met [] = record { past = past; met = met; left = []; grow = false }
-trail (choose p n ways) (suc k) past met (c ∷ l) = pick (ltb c n) (trail (ways c) k (past ++ c ∷ []) (met ++ n ∷ []) l) (record { past = past; met = met; left = c ∷ l; grow = false })
+trail (choose p n ways) (suc k) past met (c ∷ l) = cond (ltb c n) (trail (ways c) k (past ++ c ∷ []) (met ++ n ∷ []) l) (record { past = past; met = met; left = c ∷ l; grow = false })
 
 -- The state at the end of the complete list l.
 abbrev pub atEnd : {A : Type 0} → Tree A → List ℕ → Bool → View
@@ -70,4 +70,4 @@ atEnd t l g = record { past = l; met = counts (cut limit t) l; left = []; grow =
 -- What a run on a state finally answers: 34 in place of a value and of the refusals below 32, where entries are left.
 abbrev pub settle : {A : Type 0} → ℕ → Ran A → Final A
 settle last (ran a v) = unlessLeft (v .left) last (result a)
-settle last (refused r p n v) = pick (ltb r 32) (unlessLeft (v .left) p (refuses r p n)) (refuses r p n)
+settle last (refused r p n v) = cond (ltb r 32) (unlessLeft (v .left) p (refuses r p n)) (refuses r p n)

@@ -1,6 +1,6 @@
 -- What the state of a run's choices says, as lists, and what the functions on it do to them.
 use mathlib.Core.Path.{_≡_}
-use mathlib.Core.Bool.{Bool, true, false}
+use mathlib.Core.Bool.{Bool, true, false, cond}
 use mathlib.Core.Option.{Option, none, some}
 use mathlib.Core.List.{List, [], _∷_, _++_}
 use Prim.Native.Nat.{ℕ, _+_, _-_, _≤_}
@@ -11,7 +11,7 @@ use Rattle.choices.specs.declared.Picked.{Picked}
 use Rattle.choices.specs.declared.Advanced.{Advanced}
 use Rattle.choices.specs.declared.Answer.{Answer}
 use Rattle.choices.specs.declared.Answer.the-variants.{Taken, Many, Short, Beyond}
-use Rattle.choices.specs.Tree.{limit, pick}
+use Rattle.choices.specs.Tree.{limit}
 use Rattle.choices.specs.Paths.{raise}
 
 -- The entries taken, the number of ways at each, the entries left, and whether a list that is used up grows by 0.
@@ -51,11 +51,11 @@ pub record Made (l : List ℕ) (g : Bool) (c : Choices) : Type 0 where
 abbrev pub answerLeft : List ℕ → Bool → ℕ → Answer
 answerLeft [] true n = Taken 0
 answerLeft [] false n = Short
-answerLeft (c ∷ l) g n = pick (ltb c n) (Taken c) Beyond
+answerLeft (c ∷ l) g n = cond (ltb c n) (Taken c) Beyond
 
 -- One choice too many comes before a list's being used up.
 abbrev pub answerOf : View → ℕ → Answer
-answerOf v n = pick (leb limit (length (v .past))) Many (answerLeft (v .left) (v .grow) n)
+answerOf v n = cond (leb limit (length (v .past))) Many (answerLeft (v .left) (v .grow) n)
 
 abbrev pub rest : List ℕ → List ℕ
 rest [] = []

@@ -8,6 +8,7 @@ use native.Mathlib.Omega.{arith}
 use borrow.Author.Tests.{le-leb, lt-leb}
 use lib.ListN.{length}
 use lib.Seq.{sets}
+use Rattle.prelude.specs.Laws.Absurd.{impossible}
 use Rattle.integers.specs.Bytes.{word}
 use Rattle.values.specs.Value.{Kind, set, sequence, number, Value, collection, Items, none, more, size, sizes, Shaped, limit}
 use Rattle.values.specs.Items.{isMember, join, snoc, insert}
@@ -41,10 +42,10 @@ pub answered : {r : Added} (m n : ℕ) → r ≡ added m → m ≡ n → r ≡ a
 answered m n e d = e ∙ ap added d
 
 pub not-put : {X : Type 0} → TooLong ≡ Put → X
-not-put e = let z : _≡_ {A = ℕ} 0 1 = cc in absurd (omega arith)
+not-put e = impossible cc
 
 pub not-long : {X : Type 0} → Put ≡ TooLong → X
-not-long e = let z : _≡_ {A = ℕ} 0 1 = cc in absurd (omega arith)
+not-long e = impossible cc
 
 -- ---- a heading before items
 

@@ -1,6 +1,6 @@
 -- What the steps of building make of a map. Assumes nothing.
 use mathlib.Core.Path.{_≡_, refl, sym, ap, subst, _∙_}
-use mathlib.Core.Bool.{Bool, true, false}
+use mathlib.Core.Bool.{Bool, true, false, cond}
 use mathlib.Core.List.{List}
 use mathlib.Core.Logic.{_⊎_, inl, inr}
 use mathlib.Core.Option.{Option, none as absent, some}
@@ -8,9 +8,10 @@ use Prim.Native.Nat.{ℕ, _+_, _≤_, _<_}
 use native.Mathlib.Omega.{arith}
 use borrow.Author.Tests.{le-leb, lt-leb}
 use lib.Dec.{leb}
+use Rattle.prelude.specs.Laws.Absurd.{impossible}
 use Rattle.integers.specs.Bytes.{word}
 use Rattle.values.specs.Value.{map, Value, collection, Items, more, size, sizes, Shaped, limit}
-use Rattle.values.specs.Items.{pick, join, same, lookup, enter}
+use Rattle.values.specs.Items.{join, same, lookup, enter}
 use Rattle.values.specs.Place.{At, ItemsAt}
 use Rattle.values.specs.Laws.{same-true}
 use Rattle.values.specs.Encoding.{size-low, more-sizes, collection-size}
@@ -38,17 +39,17 @@ opened-full : (n : ℕ) → limit < n → Full ≡ opened n
 opened-full n h = rw (lt-leb n limit h)
 
 full-done : {X : Type 0} → Full ≡ Done → X
-full-done e = let z : _≡_ {A = ℕ} 0 1 = cc in absurd (omega arith)
+full-done e = impossible cc
 
 done-full : {X : Type 0} → Done ≡ Full → X
-done-full e = let z : _≡_ {A = ℕ} 0 1 = cc in absurd (omega arith)
+done-full e = impossible cc
 
 clash-done : {X : Type 0} → Clash ≡ Done → X
-clash-done e = let z : _≡_ {A = ℕ} 0 1 = cc in absurd (omega arith)
+clash-done e = impossible cc
 
-opened-clash : {X : Type 0} (b : Bool) → pick b Done Full ≡ Clash → X
-opened-clash true e = let z : _≡_ {A = ℕ} 0 1 = cc in absurd (omega arith)
-opened-clash false e = let z : _≡_ {A = ℕ} 0 1 = cc in absurd (omega arith)
+opened-clash : {X : Type 0} (b : Bool) → cond b Done Full ≡ Clash → X
+opened-clash true e = impossible cc
+opened-clash false e = impossible cc
 
 -- ---- one entry more
 

@@ -6,9 +6,10 @@ use mathlib.Core.Option.{Option, none as absent, some}
 use Prim.Native.Nat.{ℕ, _+_, _≤_}
 use lib.Dec.{leb}
 use lib.ListN.{length}
+use mathlib.Core.Bool.{cond}
 use Rattle.integers.specs.Bytes.{word}
 use Rattle.values.specs.Value.{Kind, set, sequence, map, number, Value, collection, Items, none, size, Shaped, limit}
-use Rattle.values.specs.Items.{pick, same, snoc, insert, lookup, enter}
+use Rattle.values.specs.Items.{same, snoc, insert, lookup, enter}
 use Rattle.values.specs.Place.{At, Holds, Outside}
 use Rattle.collections.specs.declared.building.Added.{Added}
 use Rattle.collections.specs.declared.building.Added.the-variants.{Done as Put, Full as TooLong}
@@ -30,15 +31,15 @@ enteredNumber Full = 28
 
 -- A whole of n bytes is refused exactly where it is over the limit.
 abbrev pub added : ℕ → Added
-added n = pick (leb n limit) Put TooLong
+added n = cond (leb n limit) Put TooLong
 
 abbrev pub opened : ℕ → Entered
-opened n = pick (leb n limit) Done Full
+opened n = cond (leb n limit) Done Full
 
 -- By what stands at the key: nothing, or the same value or another.
 abbrev pub entered : Option Value → Value → ℕ → Entered
 entered absent v n = opened n
-entered (some w) v n = pick (same w v) Done Clash
+entered (some w) v n = cond (same w v) Done Clash
 
 -- ---- what is asked
 

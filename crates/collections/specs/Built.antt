@@ -1,6 +1,6 @@
 -- Laws of what is built: one more makes a value again, what an answer says of the size, and what stands elsewhere stays.
 use mathlib.Core.Path.{_≡_, refl, sym, ap, _∙_}
-use mathlib.Core.Bool.{Bool, true, false}
+use mathlib.Core.Bool.{Bool, true, false, cond}
 use mathlib.Core.List.{List}
 use mathlib.Core.Option.{Option, none as absent, some}
 use mathlib.Core.Logic.{inl, inr}
@@ -9,8 +9,9 @@ use native.Mathlib.Omega.{arith}
 use borrow.Author.Tests.{leb-true, leb-false}
 use lib.Dec.{leb}
 use lib.ListN.{length}
+use Rattle.prelude.specs.Laws.Absurd.{impossible}
 use Rattle.values.specs.Value.{Kind, set, sequence, map, Value, collection, Items, none, more, size, Shaped, Sound, WellFormed, limit}
-use Rattle.values.specs.Items.{pick, same, snoc, insert, lookup, enter}
+use Rattle.values.specs.Items.{same, snoc, insert, lookup, enter}
 use Rattle.values.specs.Place.{At, Holds, Outside}
 use Rattle.values.specs.Laws.{same-true}
 use Rattle.values.specs.Encoding.{collection-size, join-sound}
@@ -45,11 +46,11 @@ map-more {vs} {k} {v} f g i h =
 
 -- ---- what an answer says of the size
 
-put-fits : (b : Bool) → Put ≡ pick b Put TooLong → b ≡ true
+put-fits : (b : Bool) → Put ≡ cond b Put TooLong → b ≡ true
 put-fits true e = refl
 put-fits false e = cc
 
-long-over : (b : Bool) → TooLong ≡ pick b Put TooLong → b ≡ false
+long-over : (b : Bool) → TooLong ≡ cond b Put TooLong → b ≡ false
 long-over true e = cc
 long-over false e = refl
 
@@ -85,19 +86,19 @@ module _ {s t : List ℕ} {at x : ℕ} (o : Outside s t at (at + limit)) (a : Ap
 
 -- ---- entering where the key is new, and passing over a clash
 
-full-not : {X : Type 0} (b : Bool) → Full ≡ pick b Done Clash → X
-full-not true e = let z : _≡_ {A = ℕ} 0 1 = cc in absurd (omega arith)
-full-not false e = let z : _≡_ {A = ℕ} 0 1 = cc in absurd (omega arith)
+full-not : {X : Type 0} (b : Bool) → Full ≡ cond b Done Clash → X
+full-not true e = impossible cc
+full-not false e = impossible cc
 
-clash-not : {X : Type 0} (b : Bool) → Clash ≡ pick b Done Full → X
-clash-not true e = let z : _≡_ {A = ℕ} 0 1 = cc in absurd (omega arith)
-clash-not false e = let z : _≡_ {A = ℕ} 0 1 = cc in absurd (omega arith)
+clash-not : {X : Type 0} (b : Bool) → Clash ≡ cond b Done Full → X
+clash-not true e = impossible cc
+clash-not false e = impossible cc
 
-done-same : (b : Bool) → Done ≡ pick b Done Clash → b ≡ true
+done-same : (b : Bool) → Done ≡ cond b Done Clash → b ≡ true
 done-same true e = refl
 done-same false e = cc
 
-full-size : (b : Bool) → Full ≡ pick b Done Full → b ≡ false
+full-size : (b : Bool) → Full ≡ cond b Done Full → b ≡ false
 full-size true e = cc
 full-size false e = refl
 

@@ -1,14 +1,16 @@
 -- Laws of maps: an entry put in order, what stands at a key, an entry put in where its key is new, and that a map is what it maps its keys to.
 use mathlib.Core.Path.{_≡_, refl, sym, ap, ap₂, _∙_}
-use mathlib.Core.Bool.{Bool, true, false}
+use mathlib.Core.Bool.{Bool, true, false, cond}
 use mathlib.Core.Option.{Option, none as absent, some}
-use Prim.Native.Nat.{ℕ, _+_}
+use Prim.Native.Nat.{_+_}
 use native.Mathlib.Omega.{arith}
+use Rattle.prelude.specs.Laws.Absurd.{impossible}
+use Rattle.prelude.specs.Laws.Truth.{cond-true, cond-false}
 use Rattle.integers.specs.declared.Order.the-variants.{Lower, Same, Higher}
 use Rattle.values.specs.Value.{Value, Items, none, more, count, everyOther, keys, size, sizes, order, Before, Ascending, PairedFrom, Paired, Sound, SoundItems}
-use Rattle.values.specs.Items.{pick, isSame, same, isMember, insert, lookup, enter}
+use Rattle.values.specs.Items.{isSame, same, isMember, insert, lookup, enter}
 use Rattle.values.specs.Laws.{same-equal, order-refl, higher-flip, same-true}
-use Rattle.collections.specs.Members.{lower-apart, higher-apart, pick-true, pick-false, before-first, insert-lower, insert-same, insert-higher, by-order, ascending-insert}
+use Rattle.collections.specs.Members.{lower-apart, higher-apart, before-first, insert-lower, insert-same, insert-higher, by-order, ascending-insert}
 
 -- ---- entries by their first
 
@@ -24,7 +26,7 @@ pub enter-higher : (k v l w : Value) (vs : Items) → order k l ≡ Higher → e
 unfolding enter
 enter-higher k v l w vs e = rw e
 
-pub lookup-first : (k l w : Value) (vs : Items) → lookup k (more l (more w vs)) ≡ pick (same k l) (some w) (lookup k vs)
+pub lookup-first : (k l w : Value) (vs : Items) → lookup k (more l (more w vs)) ≡ cond (same k l) (some w) (lookup k vs)
 unfolding lookup
 lookup-first k l w vs = refl
 
@@ -76,30 +78,30 @@ sound-enter k v vs p f g =
 -- ---- what stands at a key
 
 -- One key's answer laid over another's: the same key, and two that differ.
-over : (b c : Bool) (v w o : Option Value) → b ≡ c → pick c v o ≡ pick b v (pick c w o)
+over : (b c : Bool) (v w o : Option Value) → b ≡ c → cond c v o ≡ cond b v (cond c w o)
 over true true v w o e = refl
 over true false v w o e = cc
 over false true v w o e = cc
 over false false v w o e = refl
 
-past : (b c : Bool) (v w o : Option Value) → (b ≡ true → c ≡ true → ⊥) → pick c w (pick b v o) ≡ pick b v (pick c w o)
+past : (b c : Bool) (v w o : Option Value) → (b ≡ true → c ≡ true → ⊥) → cond c w (cond b v o) ≡ cond b v (cond c w o)
 past true true v w o f = absurd (f refl refl)
 past true false v w o f = refl
 past false c v w o f = refl
 
 apart : (x k l : Value) → same k l ≡ false → same x k ≡ true → same x l ≡ true → ⊥
-apart x k l f d e = let q = ap (λ (y : Value). same y l) (same-true x k d) in let z : _≡_ {A = ℕ} 0 1 = cc in omega arith
+apart x k l f d e = let q = ap (λ (y : Value). same y l) (same-true x k d) in impossible cc
 
 -- After entering, the new value stands at its key, and at every other key what stood there.
-pub lookup-enter : (x k v : Value) (vs : Items) → Paired vs → lookup x (enter k v vs) ≡ pick (same x k) (some v) (lookup x vs)
+pub lookup-enter : (x k v : Value) (vs : Items) → Paired vs → lookup x (enter k v vs) ≡ cond (same x k) (some v) (lookup x vs)
 unfolding enter lookup
 lookup-enter x k v =
-    by-entries (λ (vs : Items). lookup x (enter k v vs) ≡ pick (same x k) (some v) (lookup x vs)) refl
+    by-entries (λ (vs : Items). lookup x (enter k v vs) ≡ cond (same x k) (some v) (lookup x vs)) refl
     (λ l w vs p r.
     by-order k l (λ o. ap (lookup x) (enter-lower k v l (more w vs) o))
     (λ o. ap (lookup x) (enter-same k v l w vs o) ∙ over (same x k) (same x l) (some v) (some w) (lookup x vs) (ap (same x) (same-equal k l o)))
     (λ o.
-    ap (lookup x) (enter-higher k v l w vs o) ∙ ap (pick (same x l) (some w)) r
+    ap (lookup x) (enter-higher k v l w vs o) ∙ ap (cond (same x l) (some w)) r
     ∙ past (same x k) (same x l) (some v) (some w) (lookup x vs) (apart x k l (higher-apart k l o))))
 
 -- A key is there where something stands at it.
@@ -107,7 +109,7 @@ abbrev pub isThere : Option Value → Bool
 isThere absent = false
 isThere (some v) = true
 
-either : (b : Bool) (c : Bool) (w : Value) (o : Option Value) → c ≡ isThere o → pick b true c ≡ isThere (pick b (some w) o)
+either : (b : Bool) (c : Bool) (w : Value) (o : Option Value) → c ≡ isThere o → cond b true c ≡ isThere (cond b (some w) o)
 either true c w o e = refl
 either false c w o e = e
 
@@ -122,7 +124,7 @@ pub before-nothing : (k : Value) (vs : Items) → Paired vs → Before k (keys v
 unfolding everyOther Before lookup
 before-nothing k =
     by-entries (λ (vs : Items). Before k (keys vs) → lookup k vs ≡ absent) (λ b. refl)
-    (λ l w vs p r b. pick-false (same k l) (some w) (lookup k vs) (lower-apart k l (b .0)) ∙ r (b .1))
+    (λ l w vs p r b. cond-false (same k l) (some w) (lookup k vs) (lower-apart k l (b .0)) ∙ r (b .1))
 
 -- What stands at the first key, and at another.
 pub lookup-none : (k : Value) → lookup k none ≡ absent
@@ -131,11 +133,11 @@ lookup-none k = refl
 
 pub lookup-here : (k l w : Value) (vs : Items) → order k l ≡ Same → lookup k (more l (more w vs)) ≡ some w
 unfolding lookup
-lookup-here k l w vs o = pick-true (same k l) (some w) (lookup k vs) (ap isSame o)
+lookup-here k l w vs o = cond-true (same k l) (some w) (lookup k vs) (ap isSame o)
 
 pub lookup-on : (k l w : Value) (vs : Items) → order k l ≡ Higher → lookup k (more l (more w vs)) ≡ lookup k vs
 unfolding lookup
-lookup-on k l w vs o = pick-false (same k l) (some w) (lookup k vs) (higher-apart k l o)
+lookup-on k l w vs o = cond-false (same k l) (some w) (lookup k vs) (higher-apart k l o)
 
 pub lookup-before : (k l w : Value) (vs : Items) → Paired vs → Before l (keys vs) → order k l ≡ Lower → lookup k (more l (more w vs)) ≡ absent
 unfolding everyOther PairedFrom
@@ -189,22 +191,22 @@ unfolding enterNew
 new-there k v w vs e = ap (λ (o : Option Value). ifAbsent o (enter k v vs) vs) e
 
 -- What stood at a key stands there still; at the new one there is its value.
-pub lookup-new : (x k v : Value) (vs : Items) → Paired vs → lookup x (enterNew k v vs) ≡ ifAbsent (lookup x vs) (pick (same x k) (some v) absent) (lookup x vs)
+pub lookup-new : (x k v : Value) (vs : Items) → Paired vs → lookup x (enterNew k v vs) ≡ ifAbsent (lookup x vs) (cond (same x k) (some v) absent) (lookup x vs)
 lookup-new x k v vs p = go (lookup k vs) refl
   where
     -- by whether x is the key
-    at-new : (b : Bool) (o : Option Value) → (b ≡ true → o ≡ absent) → pick b (some v) o ≡ ifAbsent o (pick b (some v) absent) o
+    at-new : (b : Bool) (o : Option Value) → (b ≡ true → o ≡ absent) → cond b (some v) o ≡ ifAbsent o (cond b (some v) absent) o
     at-new true absent f = refl
     at-new true (some w) f = let e = f refl in cc
     at-new false absent f = refl
     at-new false (some w) f = refl
 
-    at-old : (w : Value) (b : Bool) (o : Option Value) → (b ≡ true → o ≡ some w) → o ≡ ifAbsent o (pick b (some v) absent) o
+    at-old : (w : Value) (b : Bool) (o : Option Value) → (b ≡ true → o ≡ some w) → o ≡ ifAbsent o (cond b (some v) absent) o
     at-old w true absent f = let e = f refl in cc
     at-old w false absent f = refl
     at-old w b (some u) f = refl
 
-    go : (o : Option Value) → lookup k vs ≡ o → lookup x (enterNew k v vs) ≡ ifAbsent (lookup x vs) (pick (same x k) (some v) absent) (lookup x vs)
+    go : (o : Option Value) → lookup k vs ≡ o → lookup x (enterNew k v vs) ≡ ifAbsent (lookup x vs) (cond (same x k) (some v) absent) (lookup x vs)
     go absent e = ap (lookup x) (new-absent k v vs e) ∙ lookup-enter x k v vs p ∙ at-new (same x k) (lookup x vs) (λ d. ap (λ (y : Value). lookup y vs) (same-true x k d) ∙ e)
     go (some w) e = ap (lookup x) (new-there k v w vs e) ∙ at-old w (same x k) (lookup x vs) (λ d. ap (λ (y : Value). lookup y vs) (same-true x k d) ∙ e)
 
@@ -218,7 +220,7 @@ module _ (k v w : Value) (vs ws : Items) (f : (x : Value) → lookup x (more k (
     where
       go : (t : Bool) → same x k ≡ t → lookup x vs ≡ lookup x ws
       go true e = let j : x ≡ k = same-true x k e in ap (λ (y : Value). lookup y vs) j ∙ m ∙ sym (ap (λ (y : Value). lookup y ws) j ∙ n)
-      go false e = sym (pick-false (same x k) (some v) (lookup x vs) e) ∙ f x ∙ pick-false (same x k) (some w) (lookup x ws) e
+      go false e = sym (cond-false (same x k) (some v) (lookup x vs) e) ∙ f x ∙ cond-false (same x k) (some w) (lookup x ws) e
 
 Agree : Items → Items → Type 0
 Agree vs ws = Ascending (keys vs) → Ascending (keys ws) → ((x : Value) → lookup x vs ≡ lookup x ws) → vs ≡ ws

@@ -1,11 +1,11 @@
 -- Laws of items one after the other, of their number and of the k-th. (Their sizes, bytes and soundness: `values`, Encoding.)
 use mathlib.Core.Path.{_≡_, refl, ap}
-use mathlib.Core.Bool.{Bool, true, false}
+use mathlib.Core.Bool.{Bool, true, false, cond}
 use mathlib.Core.Option.{none as absent, some}
 use Prim.Native.Nat.{ℕ, zero, suc, _+_, _≤_, _<_}
 use native.Mathlib.Omega.{arith}
 use Rattle.values.specs.Value.{Value, Items, none, more, count}
-use Rattle.values.specs.Items.{pick, same, isMember, join, snoc, nth}
+use Rattle.values.specs.Items.{same, isMember, join, snoc, nth}
 
 pub join-none : (vs : Items) → join vs none ≡ vs
 unfolding join
@@ -40,11 +40,11 @@ nth-absent (more v vs) zero h = absurd (omega arith)
 nth-absent (more v vs) (suc k) h = nth-absent vs k (omega arith)
 
 -- A member of both together is one of the first or of the second.
-pub member-join : (x : Value) (vs ws : Items) → isMember x (join vs ws) ≡ pick (isMember x vs) true (isMember x ws)
+pub member-join : (x : Value) (vs ws : Items) → isMember x (join vs ws) ≡ cond (isMember x vs) true (isMember x ws)
 unfolding isMember join
 member-join x none ws = refl
 member-join x (more v vs) ws = either (same x v) (isMember x vs) (isMember x ws) (isMember x (join vs ws)) (member-join x vs ws)
   where
-    either : (b c d e : Bool) → e ≡ pick c true d → pick b true e ≡ pick (pick b true c) true d
+    either : (b c d e : Bool) → e ≡ cond c true d → cond b true e ≡ cond (cond b true c) true d
     either true c d e f = refl
     either false c d e f = f

@@ -1,12 +1,13 @@
 -- Laws of sets: a member put in order, who is a member, and that a set is its members.
 use mathlib.Core.Path.{_≡_, refl, sym, ap, ap₂, _∙_}
-use mathlib.Core.Bool.{Bool, true, false}
+use mathlib.Core.Bool.{Bool, true, false, cond}
 use Prim.Native.Nat.{suc, _+_, _≤_}
 use native.Mathlib.Omega.{arith}
+use Rattle.prelude.specs.Laws.Truth.{cond-true, cond-false}
 use Rattle.integers.specs.declared.Order.{Order}
 use Rattle.integers.specs.declared.Order.the-variants.{Lower, Same, Higher}
 use Rattle.values.specs.Value.{Value, Items, none, more, count, size, sizes, order, Before, Ascending, Sound, SoundItems}
-use Rattle.values.specs.Items.{pick, isSame, same, isMember, insert}
+use Rattle.values.specs.Items.{isSame, same, isMember, insert}
 use Rattle.values.specs.Laws.{order-lower, same-equal, higher-flip, same-true, true-same}
 
 -- ---- the order and the same
@@ -16,12 +17,6 @@ lower-apart v w e = ap isSame e
 
 pub higher-apart : (v w : Value) → order v w ≡ Higher → same v w ≡ false
 higher-apart v w e = ap isSame e
-
-pub pick-true : {A : Type 0} (b : Bool) (a c : A) → b ≡ true → pick b a c ≡ a
-pick-true b a c e = rw e
-
-pub pick-false : {A : Type 0} (b : Bool) (a c : A) → b ≡ false → pick b a c ≡ c
-pick-false b a c e = rw e
 
 -- ---- before and ascending
 
@@ -40,7 +35,7 @@ before-first v w ws e b = (e, before-lower v w ws e b)
 pub before-apart : (v : Value) (vs : Items) → Before v vs → isMember v vs ≡ false
 unfolding Before isMember
 before-apart v none b = refl
-before-apart v (more w ws) b = pick-false (same v w) true (isMember v ws) (lower-apart v w (b .0)) ∙ before-apart v ws (b .1)
+before-apart v (more w ws) b = cond-false (same v w) true (isMember v ws) (lower-apart v w (b .0)) ∙ before-apart v ws (b .1)
 
 -- ---- insertion by its three cases
 
@@ -68,7 +63,7 @@ by-order {P} v w f g h = go (order v w) refl
 -- The first item is a member.
 pub member-here : (v : Value) (vs : Items) → isMember v (more v vs) ≡ true
 unfolding isMember
-member-here v vs = pick-true (same v v) true (isMember v vs) (true-same {v = v} refl)
+member-here v vs = cond-true (same v v) true (isMember v vs) (true-same {v = v} refl)
 
 -- ---- what insertion keeps
 
@@ -97,20 +92,20 @@ sound-insert v (more w ws) f g =
 -- ---- who is a member
 
 -- After insertion the members are those before it, and the one put in.
-pub member-insert : (x v : Value) (vs : Items) → isMember x (insert v vs) ≡ pick (same x v) true (isMember x vs)
+pub member-insert : (x v : Value) (vs : Items) → isMember x (insert v vs) ≡ cond (same x v) true (isMember x vs)
 unfolding isMember insert
 member-insert x v none = refl
 member-insert x v (more w ws) =
     by-order v w (λ o. ap (isMember x) (insert-lower v w ws o))
     (λ o. ap (isMember x) (insert-same v w ws o) ∙ twice (same x v) (same x w) (isMember x ws) (ap (same x) (same-equal v w o)))
     (λ o.
-    ap (isMember x) (insert-higher v w ws o) ∙ ap (pick (same x w) true) (member-insert x v ws) ∙ swap (same x w) (same x v) (isMember x ws))
+    ap (isMember x) (insert-higher v w ws o) ∙ ap (cond (same x w) true) (member-insert x v ws) ∙ swap (same x w) (same x v) (isMember x ws))
   where
-    twice : (b c d : Bool) → b ≡ c → pick c true d ≡ pick b true (pick c true d)
-    twice true c d e = ap (λ (y : Bool). pick y true d) (sym e)
+    twice : (b c d : Bool) → b ≡ c → cond c true d ≡ cond b true (cond c true d)
+    twice true c d e = ap (λ (y : Bool). cond y true d) (sym e)
     twice false c d e = refl
 
-    swap : (b c d : Bool) → pick b true (pick c true d) ≡ pick c true (pick b true d)
+    swap : (b c d : Bool) → cond b true (cond c true d) ≡ cond c true (cond b true d)
     swap true true d = refl
     swap true false d = refl
     swap false c d = refl
@@ -123,7 +118,7 @@ insert-present v (more w ws) a e =
     by-order v w
     (λ o. let f = before-apart v (more w ws) (before-first v w ws o (a .0)) in cc)
     (λ o. insert-same v w ws o)
-    (λ o. insert-higher v w ws o ∙ ap (more w) (insert-present v ws (a .1) (sym (pick-false (same v w) true (isMember v ws) (higher-apart v w o)) ∙ e)))
+    (λ o. insert-higher v w ws o ∙ ap (more w) (insert-present v ws (a .1) (sym (cond-false (same v w) true (isMember v ws) (higher-apart v w o)) ∙ e)))
 
 -- What is not there yet makes the items longer by its own size, and one more.
 pub sizes-insert : (v : Value) (vs : Items) → isMember v vs ≡ false → sizes (insert v vs) ≡ size v + sizes vs
@@ -131,14 +126,14 @@ unfolding isMember insert size
 sizes-insert v none e = omega arith
 sizes-insert v (more w ws) e =
     by-order v w (λ o. ap sizes (insert-lower v w ws o)) (λ o. let z = ap isSame o in cc)
-    (λ o. let f = sizes-insert v ws (sym (pick-false (same v w) true (isMember v ws) (higher-apart v w o)) ∙ e) in let g = ap sizes (insert-higher v w ws o) in omega arith)
+    (λ o. let f = sizes-insert v ws (sym (cond-false (same v w) true (isMember v ws) (higher-apart v w o)) ∙ e) in let g = ap sizes (insert-higher v w ws o) in omega arith)
 
 pub count-insert : (v : Value) (vs : Items) → isMember v vs ≡ false → count (insert v vs) ≡ suc (count vs)
 unfolding isMember insert count
 count-insert v none e = refl
 count-insert v (more w ws) e =
     by-order v w (λ o. ap count (insert-lower v w ws o)) (λ o. let z = ap isSame o in cc)
-    (λ o. let f = count-insert v ws (sym (pick-false (same v w) true (isMember v ws) (higher-apart v w o)) ∙ e) in let g = ap count (insert-higher v w ws o) in omega arith)
+    (λ o. let f = count-insert v ws (sym (cond-false (same v w) true (isMember v ws) (higher-apart v w o)) ∙ e) in let g = ap count (insert-higher v w ws o) in omega arith)
 
 -- Insertion never makes the items shorter.
 pub sizes-grow : (v : Value) (vs : Items) → sizes vs ≤ sizes (insert v vs)
@@ -178,4 +173,4 @@ same-members (more v vs) (more w ws) a b f =
             let i : x ≡ v = same-true x v e in
             ap (λ (y : Value). isMember y vs) i ∙ l ∙ sym (ap (λ (y : Value). isMember y ws) (i ∙ q) ∙ m)
         go false e =
-            sym (pick-false (same x v) true (isMember x vs) e) ∙ f x ∙ pick-false (same x w) true (isMember x ws) (ap (same x) (sym q) ∙ e)
+            sym (cond-false (same x v) true (isMember x vs) e) ∙ f x ∙ cond-false (same x w) true (isMember x ws) (ap (same x) (sym q) ∙ e)

@@ -4,13 +4,14 @@ use mathlib.Core.Bool.{Bool, true, false, not}
 use mathlib.Core.Option.{none as absent, some}
 use Prim.Native.Nat.{ℕ, _+_}
 use native.Mathlib.Omega.{arith}
+use Rattle.prelude.specs.Laws.Truth.{cond-true, cond-false}
 use Rattle.integers.specs.declared.Order.{Order}
 use Rattle.integers.specs.declared.Order.the-variants.{Lower, Same, Higher}
 use Rattle.values.specs.Value.{Value, Items, none, more, everyOther, keys, size, sizes, order, Ascending, Paired}
 use Rattle.values.specs.Items.{isSame, same, isMember, inOrder, join, insert, lookup, enter}
 use Rattle.collections.specs.declared.finding.Sought.{Sought}
 use Rattle.collections.specs.declared.finding.Sought.the-variants.{Here, Before}
-use Rattle.collections.specs.Members.{pick-true, pick-false, higher-apart, before-first, before-apart, insert-lower, insert-higher}
+use Rattle.collections.specs.Members.{higher-apart, before-first, before-apart, insert-lower, insert-higher}
 use Rattle.collections.specs.Entries.{by-entries, enter-lower, enter-higher, lookup-here, lookup-on, lookup-before, lookup-none}
 
 -- The first item, from a place on, that is not lower than v. Of entries only the keys are looked at: `key` says that the next item is one.
@@ -29,9 +30,9 @@ pub data Member (v : Value) (vs : Items) (p : ℕ) : Sought → Type 0 where
 
 member-on : (v w : Value) (ws : Items) (p : ℕ) {r : Sought} → order v w ≡ Higher → Member v ws (p + size w) r → Member v (more w ws) p r
 unfolding isMember join size
-member-on v w ws p o (present q e) = present q (pick-false (same v w) true (isMember v ws) (higher-apart v w o) ∙ e)
+member-on v w ws p o (present q e) = present q (cond-false (same v w) true (isMember v ws) (higher-apart v w o) ∙ e)
 member-on v w ws p o (belongs q us ws′ e f g h) =
-    belongs q (more w us) ws′ (pick-false (same v w) true (isMember v ws) (higher-apart v w o) ∙ e) (ap (more w) f) (omega arith) (insert-higher v w ws o ∙ ap (more w) h)
+    belongs q (more w us) ws′ (cond-false (same v w) true (isMember v ws) (higher-apart v w o) ∙ e) (ap (more w) f) (omega arith) (insert-higher v w ws o ∙ ap (more w) h)
 
 pub seek-member : (v : Value) (vs : Items) (p : ℕ) → Ascending vs → Member v vs p (seek false true v vs p)
 unfolding seek Ascending isMember join insert size
@@ -40,7 +41,7 @@ seek-member v (more w ws) p a = go (order v w) refl (seek-member v ws (p + size 
   where
     go : (o : Order) → order v w ≡ o → Member v ws (p + size w) (seek false true v ws (p + size w)) → Member v (more w ws) p (inOrder o (Before p) (Here p) (seek false true v ws (p + size w)))
     go Lower e m = belongs p none (more w ws) (before-apart v (more w ws) (before-first v w ws e (a .0))) refl (omega arith) (insert-lower v w ws e)
-    go Same e m = present p (pick-true (same v w) true (isMember v ws) (ap isSame e))
+    go Same e m = present p (cond-true (same v w) true (isMember v ws) (ap isSame e))
     go Higher e m = member-on v w ws p e m
 
 -- ---- among keys

@@ -10,8 +10,8 @@ use lib.Signed.{ltZ, remZ}
 use mir.Syntax.{w32, w64}
 use mir.Val.{SFits, toZ, ofZ}
 use mir.Facts.{toZ-ofZ}
+use Rattle.prelude.specs.Laws.Absurd.{never}
 use Rattle.integers.specs.Whole.{modℤ}
-use Rattle.integers.specs.Range.{never}
 use Rattle.integers.specs.Division.{turned, mod-turned}
 use Rattle.integers.proofs.Machine.{widened, widen-is, wide-is, rem-fits, rest-fits, add-fits}
 

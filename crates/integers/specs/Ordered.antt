@@ -7,6 +7,7 @@ use borrow.Author.Tests.{ltb-true, ltb-false, lt-ltb, le-ltb, lt-leb, le-leb}
 use lib.Dec.{ltb, leb}
 use lib.IntN.{ℤ, pos, negsuc}
 use lib.Signed.{ltZ, leZ}
+use Rattle.prelude.specs.Laws.Absurd.{impossible}
 use Rattle.integers.specs.declared.Order.{Order}
 use Rattle.integers.specs.declared.Order.the-variants.{Lower, Same, Higher}
 use Rattle.integers.specs.Order.{orderBy, orderℕ, orderℤ}
@@ -78,8 +79,8 @@ flip-order a b = by-flip (ltb a b) (ltb b a) (λ p q. omega (arith, ltb-true a b
 
 pub ltZ-asym : (a b : ℤ) → ltZ a b ≡ true → ltZ b a ≡ true → ⊥
 ltZ-asym (pos a) (pos b) p q = omega (arith, ltb-true a b p, ltb-true b a q)
-ltZ-asym (pos a) (negsuc b) p q = let z : _≡_ {A = ℕ} 0 1 = cc in omega arith
-ltZ-asym (negsuc a) (pos b) p q = let z : _≡_ {A = ℕ} 0 1 = cc in omega arith
+ltZ-asym (pos a) (negsuc b) p q = impossible cc
+ltZ-asym (negsuc a) (pos b) p q = impossible cc
 ltZ-asym (negsuc a) (negsuc b) p q = omega (arith, ltb-true b a p, ltb-true a b q)
 
 pub ltZ-trans : (a b c : ℤ) → ltZ a b ≡ true → ltZ b c ≡ true → ltZ a c ≡ true

@@ -1,20 +1,17 @@
 -- Laws of the range and of answers. Only `range-fits` and `fits-range` depend on the two limits themselves.
-use mathlib.Core.Path.{_≡_, refl, sym, subst, ap, _∙_}
-use mathlib.Core.Bool.{Bool, true, false, _&&_}
-use Prim.Native.Nat.{ℕ, zero, suc}
+use mathlib.Core.Path.{_≡_, refl, sym, ap, _∙_}
+use mathlib.Core.Bool.{Bool, true, false, and-false, cond}
+use Prim.Native.Nat.{zero, suc}
 use native.Mathlib.Omega.{arith}
 use borrow.Author.Tests.{ltb-true, ltb-false, leb-true, lt-leb, le-leb}
-use lib.Dec.{T}
 use lib.IntN.{ℤ, pos, negsuc}
 use lib.Signed.{mag, ltZ, leZ}
 use mir.Syntax.{w32}
 use mir.Val.{SFits}
+use mathlib.Mathlib.Data.Bool.Basic.{and-elim-left}
+use Rattle.prelude.specs.Laws.Absurd.{never, impossible}
 use Rattle.integers.specs.declared.Number.the-variants.{Is, OutOfRange, ByZero}
-use Rattle.integers.specs.Whole.{least, greatest, inRange, InRange, pick, answer, divided}
-
--- true is not false
-pub never : {X : Type 0} → false ≡ true → X
-never e = absurd (subst T (sym e) tt)
+use Rattle.integers.specs.Whole.{least, greatest, inRange, InRange, answer, divided}
 
 -- ---- tests
 
@@ -30,21 +27,13 @@ not-lt-le (pos a) (negsuc b) e = refl
 not-lt-le (negsuc a) (pos b) e = sym e
 not-lt-le (negsuc a) (negsuc b) e = le-leb a b (ltb-false b a e)
 
-and-false : (s t : Bool) → t ≡ false → s && t ≡ false
-and-false true t e = e
-and-false false t e = refl
-
-and-true : (s t : Bool) → s && t ≡ true → (s ≡ true) × (t ≡ true)
-and-true true t e = (refl, e)
-and-true false t e = never e
-
 -- ---- the range
 
 pub below-range : (z : ℤ) → ltZ z least ≡ true → inRange z ≡ false
 below-range z e = rw (lt-not-le z least e)
 
 pub above-range : (z : ℤ) → leZ z greatest ≡ false → inRange z ≡ false
-above-range z e = and-false (leZ least z) (leZ z greatest) e
+above-range z e = rw e (and-false (leZ least z))
 
 pub within-range : (z : ℤ) → ltZ z least ≡ false → leZ z greatest ≡ true → InRange z
 within-range z e f = rw (not-lt-le z least e, f)
@@ -52,7 +41,7 @@ within-range z e f = rw (not-lt-le z least e, f)
 -- 32 bits hold each integer in range
 pub range-fits : (z : ℤ) → InRange z → SFits w32 z
 range-fits (pos n) e = omega (arith, leb-true n _ e)
-range-fits (negsuc n) e = omega (arith, leb-true n _ (and-true (leZ least (negsuc n)) true e .0))
+range-fits (negsuc n) e = omega (arith, leb-true n _ (and-elim-left (leZ least (negsuc n)) true e))
 
 -- and with 2^32 integers there are no others
 pub fits-range : (z : ℤ) → SFits w32 z → InRange z
@@ -63,11 +52,11 @@ fits-range (negsuc n) f = rw (le-leb n (mag least) (omega arith))
 
 pub answer-in : (z : ℤ) → InRange z → answer z ≡ Is z
 unfolding answer
-answer-in z e = ap (λ (t : Bool). pick t (Is z) OutOfRange) e
+answer-in z e = ap (λ (t : Bool). cond t (Is z) OutOfRange) e
 
 pub answer-out : (z : ℤ) → inRange z ≡ false → answer z ≡ OutOfRange
 unfolding answer
-answer-out z e = ap (λ (t : Bool). pick t (Is z) OutOfRange) e
+answer-out z e = ap (λ (t : Bool). cond t (Is z) OutOfRange) e
 
 -- what an answer that is a number says
 pub record Answered (z n : ℤ) : Type 0 where
@@ -78,9 +67,9 @@ pub answer-is : {z n : ℤ} → answer z ≡ Is n → Answered z n
 unfolding answer
 answer-is {z} {n} e = go (inRange z) refl e
   where
-    go : (t : Bool) → inRange z ≡ t → pick t (Is z) OutOfRange ≡ Is n → Answered z n
+    go : (t : Bool) → inRange z ≡ t → cond t (Is z) OutOfRange ≡ Is n → Answered z n
     go true i e = let f : n ≡ z = cc in record { exact = f; inside = ap inRange f ∙ i }
-    go false i e = absurd (let q : _≡_ {A = ℕ} 0 1 = cc in omega arith)
+    go false i e = impossible cc
 
 -- ---- division
 
@@ -93,6 +82,6 @@ pub divided-zero : {right : ℤ} (z : ℤ) → right ≡ pos 0 → divided right
 divided-zero z e = ap (λ (r : ℤ). divided r z) e
 
 pub divided-is : (right z : ℤ) {n : ℤ} → divided right z ≡ Is n → Answered z n
-divided-is (pos zero) z e = absurd (let q : _≡_ {A = ℕ} 0 1 = cc in omega arith)
+divided-is (pos zero) z e = impossible cc
 divided-is (pos (suc k)) z e = answer-is e
 divided-is (negsuc k) z e = answer-is e

@@ -1,6 +1,6 @@
 -- The integers of a sheet: their range, and what each operation on them answers.
 use mathlib.Core.Path.{_≡_}
-use mathlib.Core.Bool.{Bool, true, false, _&&_}
+use mathlib.Core.Bool.{Bool, true, _&&_, cond}
 use Prim.Native.Nat.{ℕ, zero, suc, _/_}
 use lib.IntN.{ℤ, pos, negsuc, negℤ, natAbs, _+ℤ_, _-ℤ_, _*ℤ_}
 use lib.Signed.{leZ}
@@ -29,13 +29,9 @@ refusal (Is z) = 0
 refusal OutOfRange = 21
 refusal ByZero = 22
 
-abbrev pub pick : Bool → Number → Number → Number
-pick true x y = x
-pick false x y = y
-
 -- a whole number that an operation gives
 unfoldable pub answer : ℤ → Number
-answer z = pick (inRange z) (Is z) OutOfRange
+answer z = cond (inRange z) (Is z) OutOfRange
 
 -- a whole number that a division by `right` gives: of 0, none
 abbrev pub divided : ℤ → ℤ → Number

@@ -1,16 +1,15 @@
 -- Laws of the entries of a map: those that pass a test, and entries put into a map.
 use mathlib.Core.Path.{_≡_, refl, sym, ap, _∙_}
-use mathlib.Core.Bool.{Bool, true, false}
+use mathlib.Core.Bool.{Bool, true, false, and-eq-true-iff, cond}
 use mathlib.Core.Option.{Option, none as absent, some}
 use Prim.Native.Nat.{_≤_}
 use native.Mathlib.Omega.{arith}
+use Rattle.prelude.specs.Laws.Truth.{cond-true, cond-false, by-test}
 use Rattle.values.specs.Value.{Value, Items, none, more, everyOther, keys, size, sizes, Before, Ascending, PairedFrom, Paired, Sound, SoundItems}
-use Rattle.values.specs.Items.{pick, same, lookup, enter}
+use Rattle.values.specs.Items.{same, lookup, enter}
 use Rattle.values.specs.Laws.{same-true}
-use Rattle.collections.specs.Members.{pick-true, pick-false}
 use Rattle.collections.specs.Entries.{by-entries, paired-enter, ascending-enter, sound-enter, lookup-enter, before-nothing}
 use Rattle.operators.specs.Gather.{everyEntry, keepEntries, enterAll}
-use Rattle.operator_laws.specs.Tests.{and-parts, by-test}
 
 -- ---- keys and values
 
@@ -36,9 +35,9 @@ unfolding everyEntry lookup
 everyEntry-at p vs q e k v =
     by-entries (λ (vs : Items). everyEntry p vs ≡ true → lookup k vs ≡ some v → p k v ≡ true) (λ e f. cc)
     (λ l w vs q r e f.
-    let h = and-parts (p l w) (everyEntry p vs) e in
-    by-test (same k l) (λ s. let i : k ≡ l = same-true k l s in let j : v ≡ w = cc (pick-true (same k l) (some w) (lookup k vs) s) in rw (i, j) (h .0))
-    (λ s. r (h .1) (sym (pick-false (same k l) (some w) (lookup k vs) s) ∙ f)))
+    let h = and-eq-true-iff (p l w) (everyEntry p vs) .0 e in
+    by-test (same k l) (λ s. let i : k ≡ l = same-true k l s in let j : v ≡ w = cc (cond-true (same k l) (some w) (lookup k vs) s) in rw (i, j) (h .0))
+    (λ s. r (h .1) (sym (cond-false (same k l) (some w) (lookup k vs) s) ∙ f)))
     vs q e
 
 -- ---- entries that pass a test
@@ -86,7 +85,7 @@ module _ (p : Value → Value → Bool) where
 -- What a key is mapped to, where that passes the test.
 abbrev pub passing : (Value → Value → Bool) → Value → Option Value → Option Value
 passing p k absent = absent
-passing p k (some v) = pick (p k v) (some v) absent
+passing p k (some v) = cond (p k v) (some v) absent
 
 -- Of the entries that pass, what stands at a key is what stood there, if it passes.
 pub lookup-keep : (p : Value → Value → Bool) (x : Value) (vs : Items) → Paired vs → Ascending (keys vs) → lookup x (keepEntries p vs) ≡ passing p x (lookup x vs)
@@ -100,18 +99,18 @@ lookup-keep p x =
     let gone : lookup x vs ≡ absent = ap (λ (y : Value). lookup y vs) i ∙ before-nothing k vs q (a .0) in
     by-test (p k v)
     (λ e.
-    ap (lookup x) (keep-true p k v vs e) ∙ pick-true (same x k) (some v) (lookup x (keepEntries p vs)) s
-    ∙ sym (ap (passing p x) (pick-true (same x k) (some v) (lookup x vs) s) ∙ pick-true (p x v) (some v) absent (ap (λ (y : Value). p y v) i ∙ e)))
+    ap (lookup x) (keep-true p k v vs e) ∙ cond-true (same x k) (some v) (lookup x (keepEntries p vs)) s
+    ∙ sym (ap (passing p x) (cond-true (same x k) (some v) (lookup x vs) s) ∙ cond-true (p x v) (some v) absent (ap (λ (y : Value). p y v) i ∙ e)))
     (λ e.
     ap (lookup x) (keep-false p k v vs e) ∙ r (a .1) ∙ ap (passing p x) gone
-    ∙ sym (ap (passing p x) (pick-true (same x k) (some v) (lookup x vs) s) ∙ pick-false (p x v) (some v) absent (ap (λ (y : Value). p y v) i ∙ e))))
+    ∙ sym (ap (passing p x) (cond-true (same x k) (some v) (lookup x vs) s) ∙ cond-false (p x v) (some v) absent (ap (λ (y : Value). p y v) i ∙ e))))
     (λ s.
     by-test (p k v)
     (λ e.
-    ap (lookup x) (keep-true p k v vs e) ∙ pick-false (same x k) (some v) (lookup x (keepEntries p vs)) s ∙ r (a .1)
-    ∙ sym (ap (passing p x) (pick-false (same x k) (some v) (lookup x vs) s)))
+    ap (lookup x) (keep-true p k v vs e) ∙ cond-false (same x k) (some v) (lookup x (keepEntries p vs)) s ∙ r (a .1)
+    ∙ sym (ap (passing p x) (cond-false (same x k) (some v) (lookup x vs) s)))
     (λ e.
-    ap (lookup x) (keep-false p k v vs e) ∙ r (a .1) ∙ sym (ap (passing p x) (pick-false (same x k) (some v) (lookup x vs) s)))))
+    ap (lookup x) (keep-false p k v vs e) ∙ r (a .1) ∙ sym (ap (passing p x) (cond-false (same x k) (some v) (lookup x vs) s)))))
 
 -- ---- entries put into a map
 
@@ -152,9 +151,9 @@ lookup-enterAll x vs ws p q a =
     by-test (same x k)
     (λ s.
     let gone : lookup x ws ≡ absent = ap (λ (y : Value). lookup y ws) (same-true x k s) ∙ before-nothing k ws q (a .0) in
-    f ∙ ap (λ (o : Option Value). orElse o (lookup x (enter k v vs))) gone ∙ g ∙ pick-true (same x k) (some v) (lookup x vs) s
-    ∙ sym (ap (λ (o : Option Value). orElse o (lookup x vs)) (pick-true (same x k) (some v) (lookup x ws) s)))
+    f ∙ ap (λ (o : Option Value). orElse o (lookup x (enter k v vs))) gone ∙ g ∙ cond-true (same x k) (some v) (lookup x vs) s
+    ∙ sym (ap (λ (o : Option Value). orElse o (lookup x vs)) (cond-true (same x k) (some v) (lookup x ws) s)))
     (λ s.
-    f ∙ ap (orElse (lookup x ws)) (g ∙ pick-false (same x k) (some v) (lookup x vs) s)
-    ∙ sym (ap (λ (o : Option Value). orElse o (lookup x vs)) (pick-false (same x k) (some v) (lookup x ws) s))))
+    f ∙ ap (orElse (lookup x ws)) (g ∙ cond-false (same x k) (some v) (lookup x vs) s)
+    ∙ sym (ap (λ (o : Option Value). orElse o (lookup x vs)) (cond-false (same x k) (some v) (lookup x ws) s))))
     ws q vs p a

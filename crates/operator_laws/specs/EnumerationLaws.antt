@@ -1,22 +1,24 @@
 -- Laws of enumerations and of the parts that they and comprehensions are built of.
 use mathlib.Core.Path.{_≡_, refl, sym, ap, _∙_}
-use mathlib.Core.Bool.{Bool, true, false}
+use mathlib.Core.Bool.{Bool, true, false, and-eq-true-iff, cond}
 use mathlib.Core.Option.{Option, none as absent, some}
 use Prim.Native.Nat.{ℕ, _+_, _≤_, _<_}
 use native.Mathlib.Omega.{arith}
 use borrow.Author.Tests.{leb-true, leb-false, le-leb, lt-leb}
 use lib.Dec.{leb}
+use mathlib.Mathlib.Data.Bool.Basic.{and-intro}
+use Rattle.prelude.specs.Laws.Absurd.{impossible}
+use Rattle.prelude.specs.Laws.Truth.{cond-true, cond-false, by-test}
 use Rattle.values.specs.Value.{Kind, set, sequence, map, tuple, Value, collection, Items, none, more, count, everyOther, size, sizes, limit, Ascending, PairedFrom, Paired, Shaped, Sound, SoundItems}
-use Rattle.values.specs.Items.{pick, same, join, snoc, insert, lookup, enter}
+use Rattle.values.specs.Items.{same, join, snoc, insert, lookup, enter}
 use Rattle.values.specs.Laws.{same-true, true-same}
 use Rattle.values.specs.Encoding.{join-sizes, join-sound, snoc-sizes}
-use Rattle.collections.specs.Members.{pick-true, pick-false, ascending-insert, sound-insert}
+use Rattle.collections.specs.Members.{ascending-insert, sound-insert}
 use Rattle.collections.specs.Joined.{join-none, join-join}
 use Rattle.collections.specs.Entries.{by-entries, paired-enter, ascending-enter, sound-enter, lookup-enter}
 use Rattle.operators.specs.Answer.{is, Built, built, stopped, fitting, closed, sized}
 use Rattle.operators.specs.Gather.{insertAll, everyEntry}
 use Rattle.operators.specs.Enumerations.{addMember, addItem, entered, addEntry, onward, addMembers, addItems, addEntries, setOf, sequenceOf, mapOf, tupleOf}
-use Rattle.operator_laws.specs.Tests.{and-parts, and-both, by-test}
 use Rattle.operator_laws.specs.GatherLaws.{same-refl, sizes-grow-all, ascending-insertAll, sound-insertAll}
 use Rattle.operator_laws.specs.EntryLaws.{orElse}
 use Rattle.operator_laws.specs.Results.{Good, Fine, wellFormed, sized-fine}
@@ -41,7 +43,7 @@ pub built-one : {vs ws : Items} → built vs ≡ built ws → vs ≡ ws
 built-one e = cc
 
 never-built : {X : Type 0} {n : ℕ} {vs : Items} → stopped n ≡ built vs → X
-never-built e = absurd (let z : _≡_ {A = ℕ} 0 1 = cc in omega arith)
+never-built e = impossible cc
 
 -- ---- sets, sequences, tuples: 28 comes exactly when what is finished is over 512 bytes
 
@@ -95,7 +97,7 @@ pub maps-is : (vs : Items) (k v : Value) → mapsTo vs k v ≡ true → lookup k
 maps-is vs k v e = go (lookup k vs) e
   where
     go : (o : Option Value) → isMapped o v ≡ true → o ≡ some v
-    go absent e = absurd (let z : _≡_ {A = ℕ} 0 1 = cc in omega arith)
+    go absent e = impossible cc
     go (some w) e = ap some (sym (same-true v w e))
 
 pub is-maps : (vs : Items) (k v : Value) → lookup k vs ≡ some v → mapsTo vs k v ≡ true
@@ -113,8 +115,8 @@ module _ {P : Type 0} (vs : Items) (k v : Value) where
       go absent e = f e (ap (λ (o : Option Value). entered o vs k v) e)
       go (some w) e =
           by-test (same v w)
-          (λ s. g (e ∙ ap some (sym (same-true v w s))) (ap (λ (o : Option Value). entered o vs k v) e ∙ pick-true (same v w) (built vs) (stopped 27) s))
-          (λ s. h w e s (ap (λ (o : Option Value). entered o vs k v) e ∙ pick-false (same v w) (built vs) (stopped 27) s))
+          (λ s. g (e ∙ ap some (sym (same-true v w s))) (ap (λ (o : Option Value). entered o vs k v) e ∙ cond-true (same v w) (built vs) (stopped 27) s))
+          (λ s. h w e s (ap (λ (o : Option Value). entered o vs k v) e ∙ cond-false (same v w) (built vs) (stopped 27) s))
 
 -- What is built of entries: at every key what stood there, or else what is written first, and every entry written.
 pub record Entered (vs ws us : Items) : Type 0 where
@@ -140,14 +142,14 @@ first-entered vs ws us k v p e h = record {
       (λ s.
       let i : x ≡ k = same-true x k s in
       let a : lookup x vs ≡ absent = ap (λ (y : Value). lookup y vs) i ∙ e in
-      ap (λ (o : Option Value). orElse o (lookup x ws)) (pick-true (same x k) (some v) (lookup x vs) s)
-      ∙ sym (ap (λ (o : Option Value). orElse o (pick (same x k) (some v) (lookup x ws))) a ∙ pick-true (same x k) (some v) (lookup x ws) s))
+      ap (λ (o : Option Value). orElse o (lookup x ws)) (cond-true (same x k) (some v) (lookup x vs) s)
+      ∙ sym (ap (λ (o : Option Value). orElse o (cond (same x k) (some v) (lookup x ws))) a ∙ cond-true (same x k) (some v) (lookup x ws) s))
       (λ s.
-      ap (λ (o : Option Value). orElse o (lookup x ws)) (pick-false (same x k) (some v) (lookup x vs) s)
-      ∙ sym (ap (orElse (lookup x vs)) (pick-false (same x k) (some v) (lookup x ws) s)));
+      ap (λ (o : Option Value). orElse o (lookup x ws)) (cond-false (same x k) (some v) (lookup x vs) s)
+      ∙ sym (ap (orElse (lookup x vs)) (cond-false (same x k) (some v) (lookup x ws) s)));
   all =
-      let g = lookup-enter k k v vs p ∙ pick-true (same k k) (some v) (lookup k vs) (same-refl k) in
-      and-both (mapsTo us k v) (everyEntry (λ k v. mapsTo us k v) ws) (is-maps us k v (stays h k v g)) (h .all);
+      let g = lookup-enter k k v vs p ∙ cond-true (same k k) (some v) (lookup k vs) (same-refl k) in
+      and-intro (is-maps us k v (stays h k v g)) (h .all);
 }
 
 again-entered : (vs ws us : Items) (k v : Value) → lookup k vs ≡ some v → Entered vs ws us → Entered vs (more k (more v ws)) us
@@ -160,9 +162,9 @@ again-entered vs ws us k v e h = record {
       (λ s.
       let i : x ≡ k = same-true x k s in
       let a : lookup x vs ≡ some v = ap (λ (y : Value). lookup y vs) i ∙ e in
-      ap (λ (o : Option Value). orElse o (lookup x ws)) a ∙ sym (ap (λ (o : Option Value). orElse o (pick (same x k) (some v) (lookup x ws))) a))
-      (λ s. sym (ap (orElse (lookup x vs)) (pick-false (same x k) (some v) (lookup x ws) s)));
-  all = and-both (mapsTo us k v) (everyEntry (λ k v. mapsTo us k v) ws) (is-maps us k v (stays h k v e)) (h .all);
+      ap (λ (o : Option Value). orElse o (lookup x ws)) a ∙ sym (ap (λ (o : Option Value). orElse o (cond (same x k) (some v) (lookup x ws))) a))
+      (λ s. sym (ap (orElse (lookup x vs)) (cond-false (same x k) (some v) (lookup x ws) s)));
+  all = and-intro (is-maps us k v (stays h k v e)) (h .all);
 }
 
 -- THEOREM: what a map that is built maps its keys to
@@ -190,7 +192,7 @@ addEntries-clash vs ws us p q e h m =
     (λ (ws : Items). (vs : Items) → Paired vs → addEntries vs ws ≡ stopped 27 → ((x v : Value) → lookup x vs ≡ some v → lookup x us ≡ some v) → everyEntry (λ k v. mapsTo us k v) ws ≡ true → ⊥)
     (λ vs p e h m. never-built (sym e))
     (λ k v ws q r vs p e h m.
-    let c = and-parts (mapsTo us k v) (everyEntry (λ k v. mapsTo us k v) ws) m in
+    let c = and-eq-true-iff (mapsTo us k v) (everyEntry (λ k v. mapsTo us k v) ws) .0 m in
     let n : lookup k us ≡ some v = maps-is us k v (c .0) in
     by-entry vs k v
     (λ a d.
@@ -217,9 +219,9 @@ addEntries-clash vs ws us p q e h m =
         by-test (same x k)
         (λ s.
         let i : x ≡ k = same-true x k s in
-        let o : some v ≡ some w = sym (lookup-enter x k v vs p ∙ pick-true (same x k) (some v) (lookup x vs) s) ∙ l in
+        let o : some v ≡ some w = sym (lookup-enter x k v vs p ∙ cond-true (same x k) (some v) (lookup x vs) s) ∙ l in
         ap (λ (y : Value). lookup y us) i ∙ n ∙ o)
-        (λ s. h x w (sym (lookup-enter x k v vs p ∙ pick-false (same x k) (some v) (lookup x vs) s) ∙ l))
+        (λ s. h x w (sym (lookup-enter x k v vs p ∙ cond-false (same x k) (some v) (lookup x vs) s) ∙ l))
 
 -- THEOREM: a map enumeration maps each key written to each value written with it, and nothing else
 pub mapOf-entries : (vs us : Items) → Paired vs → mapOf vs ≡ is (collection map us) → Entered none vs us
@@ -228,7 +230,7 @@ mapOf-entries vs us p e = go (addEntries none vs) refl e
   where
     go : (b : Built) → addEntries none vs ≡ b → closed map b ≡ is (collection map us) → Entered none vs us
     go (built ws) d e = addEntries-built none vs us tt p (d ∙ let i : ws ≡ us = cc in ap built i)
-    go (stopped n) d e = absurd (let z : _≡_ {A = ℕ} 0 1 = cc in omega arith)
+    go (stopped n) d e = impossible cc
 
 -- ---- all of these are well-formed
 

@@ -1,17 +1,18 @@
 -- Laws of items gathered from items: who is among them, and that they stay in order, sound and short.
 use mathlib.Core.Path.{_≡_, refl, sym, ap, _∙_}
-use mathlib.Core.Bool.{Bool, true, false, _&&_, _||_}
+use mathlib.Core.Bool.{Bool, true, false, _&&_, _||_, and-eq-true-iff, or-false, cond, and-false}
 use Prim.Native.Nat.{_+_, _≤_}
 use native.Mathlib.Omega.{arith}
-use Rattle.integers.specs.Range.{never}
+use mathlib.Mathlib.Data.Bool.Basic.{and-intro, or-inl, or-inr}
+use Rattle.prelude.specs.Laws.Absurd.{never}
+use Rattle.prelude.specs.Laws.Truth.{cond-or, by-test}
 use Rattle.values.specs.Value.{Value, boolean, integer, collection, Items, none, more, count, size, sizes, Before, Ascending, Sound, SoundItems}
-use Rattle.values.specs.Items.{pick, same, join, isMember, insert}
+use Rattle.values.specs.Items.{same, join, isMember, insert}
 use Rattle.values.specs.Laws.{same-true, true-same}
 use Rattle.values.specs.Encoding.{join-sizes, join-sound}
 use Rattle.collections.specs.Members.{member-here, by-order, insert-lower, insert-same, insert-higher, member-insert, ascending-insert, sound-insert, sizes-grow}
 use Rattle.collections.specs.Joined.{count-join}
 use Rattle.operators.specs.Gather.{every, any, keep, insertAll, itemsOf, flatten, backwards}
-use Rattle.operator_laws.specs.Tests.{and-parts, and-both, or-left, or-right, or-false, and-false, pick-or, by-test}
 
 pub same-refl : (v : Value) → same v v ≡ true
 same-refl v = true-same {v = v} refl
@@ -24,27 +25,27 @@ member-none x = refl
 
 pub member-more : (x v : Value) (vs : Items) → isMember x (more v vs) ≡ same x v || isMember x vs
 unfolding isMember
-member-more x v vs = pick-or (same x v) (isMember x vs)
+member-more x v vs = cond-or (same x v) (isMember x vs)
 
 -- x is a member of v and vs: it is v, or a member of vs.
 pub member-case : {P : Type 0} (x v : Value) (vs : Items) → isMember x (more v vs) ≡ true → (x ≡ v → P) → (isMember x vs ≡ true → P) → P
 unfolding isMember
 member-case {P} x v vs e f g = go (same x v) refl e
   where
-    go : (b : Bool) → same x v ≡ b → pick b true (isMember x vs) ≡ true → P
+    go : (b : Bool) → same x v ≡ b → cond b true (isMember x vs) ≡ true → P
     go true s e = f (same-true x v s)
     go false s e = g e
 
 pub member-there : (x v : Value) (vs : Items) → isMember x vs ≡ true → isMember x (more v vs) ≡ true
-member-there x v vs e = member-more x v vs ∙ or-right (same x v) (isMember x vs) e
+member-there x v vs e = member-more x v vs ∙ or-inr (same x v) (isMember x vs) e
 
 pub member-join : (x : Value) (vs ws : Items) → isMember x (join vs ws) ≡ isMember x vs || isMember x ws
 unfolding join isMember
 member-join x none ws = refl
 member-join x (more v vs) ws =
-    ap (pick (same x v) true) (member-join x vs ws) ∙ go (same x v) (isMember x vs) (isMember x ws)
+    ap (cond (same x v) true) (member-join x vs ws) ∙ go (same x v) (isMember x vs) (isMember x ws)
   where
-    go : (b c d : Bool) → pick b true (c || d) ≡ pick b true c || d
+    go : (b c d : Bool) → cond b true (c || d) ≡ cond b true c || d
     go true c d = refl
     go false c d = refl
 
@@ -54,13 +55,13 @@ pub every-at : (p : Value → Bool) (vs : Items) → every p vs ≡ true → (x 
 unfolding every
 every-at p none e x m = never (sym (member-none x) ∙ m)
 every-at p (more v vs) e x m =
-    let h = and-parts (p v) (every p vs) e in
+    let h = and-eq-true-iff (p v) (every p vs) .0 e in
     member-case x v vs m (λ q. ap p q ∙ h .0) (λ n. every-at p vs (h .1) x n)
 
 pub every-all : (p : Value → Bool) (vs : Items) → ((x : Value) → isMember x vs ≡ true → p x ≡ true) → every p vs ≡ true
 unfolding every
 every-all p none f = refl
-every-all p (more v vs) f = and-both (p v) (every p vs) (f v (member-here v vs)) (every-all p vs (λ x m. f x (member-there x v vs m)))
+every-all p (more v vs) f = and-intro (f v (member-here v vs)) (every-all p vs (λ x m. f x (member-there x v vs m)))
 
 -- some member passes the test
 pub record Some (p : Value → Bool) (vs : Items) : Type 0 where
@@ -84,7 +85,7 @@ pub some-any : (p : Value → Bool) (vs : Items) (x : Value) → isMember x vs �
 unfolding any
 some-any p none x m e = never (sym (member-none x) ∙ m)
 some-any p (more v vs) x m e =
-    member-case x v vs m (λ q. or-left (p v) (any p vs) (sym (ap p q) ∙ e)) (λ n. or-right (p v) (any p vs) (some-any p vs x n e))
+    member-case x v vs m (λ q. or-inl (p v) (any p vs) (sym (ap p q) ∙ e)) (λ n. or-inr (p v) (any p vs) (some-any p vs x n e))
 
 -- ---- items that pass a test
 
@@ -93,14 +94,14 @@ pub member-keep : (p : Value → Bool) (x : Value) (vs : Items) → isMember x (
 unfolding isMember keep
 member-keep p x none = refl
 member-keep p x (more v vs) =
-    one (p v) (keep p vs) ∙ ap (λ (m : Bool). pick (p v) (pick (same x v) true m) m) (member-keep p x vs)
+    one (p v) (keep p vs) ∙ ap (λ (m : Bool). cond (p v) (cond (same x v) true m) m) (member-keep p x vs)
     ∙ kept (p v) (same x v) (isMember x vs) (p x) (λ e. ap p (same-true x v e))
   where
-    one : (b : Bool) (us : Items) → isMember x (pick b (more v us) us) ≡ pick b (pick (same x v) true (isMember x us)) (isMember x us)
+    one : (b : Bool) (us : Items) → isMember x (cond b (more v us) us) ≡ cond b (cond (same x v) true (isMember x us)) (isMember x us)
     one true us = refl
     one false us = refl
 
-    kept : (b s m q : Bool) → (s ≡ true → q ≡ b) → pick b (pick s true (m && q)) (m && q) ≡ pick s true m && q
+    kept : (b s m q : Bool) → (s ≡ true → q ≡ b) → cond b (cond s true (m && q)) (m && q) ≡ cond s true m && q
     kept true true m q f = sym (f refl)
     kept true false m q f = refl
     kept false true m q f = ap (λ (c : Bool). m && c) (f refl) ∙ and-false m ∙ sym (f refl)
@@ -131,11 +132,11 @@ sizes-keep p (more v vs) = let h = sizes-keep p vs in by-test (p v) (λ e. rw e 
 
 pub member-insertAll : (x : Value) (vs ws : Items) → isMember x (insertAll vs ws) ≡ isMember x vs || isMember x ws
 unfolding isMember insertAll
-member-insertAll x vs none = or-false (isMember x vs)
+member-insertAll x vs none = sym (or-false (isMember x vs))
 member-insertAll x vs (more w ws) =
     member-insertAll x (insert w vs) ws ∙ ap (λ (m : Bool). m || isMember x ws) (member-insert x w vs) ∙ go (same x w) (isMember x vs) (isMember x ws)
   where
-    go : (s m n : Bool) → pick s true m || n ≡ m || pick s true n
+    go : (s m n : Bool) → cond s true m || n ≡ m || cond s true n
     go true true n = refl
     go true false n = refl
     go false m n = refl
@@ -192,12 +193,12 @@ pub member-backwards : (x : Value) (vs : Items) → isMember x (backwards vs) �
 unfolding backwards isMember
 member-backwards x none = refl
 member-backwards x (more v vs) =
-    member-join x (backwards vs) (more v none) ∙ ap (λ (m : Bool). m || pick (same x v) true false) (member-backwards x vs) ∙ go (same x v) (isMember x vs)
+    member-join x (backwards vs) (more v none) ∙ ap (λ (m : Bool). m || cond (same x v) true false) (member-backwards x vs) ∙ go (same x v) (isMember x vs)
   where
-    go : (s m : Bool) → m || pick s true false ≡ pick s true m
+    go : (s m : Bool) → m || cond s true false ≡ cond s true m
     go true true = refl
     go true false = refl
-    go false m = sym (or-false m)
+    go false m = sym (sym (or-false m))
 
 pub count-backwards : (vs : Items) → count (backwards vs) ≡ count vs
 unfolding backwards count

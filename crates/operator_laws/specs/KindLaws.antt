@@ -1,13 +1,12 @@
 -- What the number of a value's kind says of the value, and of the view that an operator asks for.
 use mathlib.Core.Path.{_≡_, refl, sym, ap}
-use mathlib.Core.Bool.{Bool}
+use mathlib.Core.Bool.{Bool, cond}
 use mathlib.Core.Option.{none as absent, some}
 use native.Mathlib.Omega.{arith}
 use borrow.Author.Tests.{eq-eqb, ne-eqb}
 use lib.Dec.{eqb}
 use lib.IntN.{ℤ}
 use Rattle.values.specs.Value.{Kind, number, kindOf, Value, boolean, integer, collection, Items}
-use Rattle.values.specs.Items.{pick}
 use Rattle.values.specs.Laws.{number-low, number-inj}
 use Rattle.operators.specs.Answer.{asBoolean, asInteger, asKind}
 use Rattle.operators.specs.Gather.{isKind}
@@ -41,11 +40,11 @@ kind-is k (collection l vs) e = (vs, ap (λ (j : Kind). collection j vs) (number
 pub kind-not : (k : Kind) (v : Value) → (kindOf v ≡ number k → ⊥) → asKind k v ≡ absent
 kind-not k (boolean b) f = refl
 kind-not k (integer z) f = refl
-kind-not k (collection l vs) f = ap (λ (t : Bool). pick t (some vs) absent) (ne-eqb (number k) (number l) (λ e. f (sym e)))
+kind-not k (collection l vs) f = ap (λ (t : Bool). cond t (some vs) absent) (ne-eqb (number k) (number l) (λ e. f (sym e)))
 
 -- The view of a collection of the kind asked for. (Where the kind is given it computes.)
 pub kind-view : (k : Kind) (vs : Items) → asKind k (collection k vs) ≡ some vs
-kind-view k vs = ap (λ (t : Bool). pick t (some vs) absent) (eq-eqb (number k) (number k) refl)
+kind-view k vs = ap (λ (t : Bool). cond t (some vs) absent) (eq-eqb (number k) (number k) refl)
 
 -- The test of a member's kind is one of its number.
 pub kind-test : (k : Kind) (v : Value) → isKind k v ≡ eqb (number k) (kindOf v)

@@ -1,4 +1,3 @@
-pub mod Tests
 pub mod KindLaws
 pub mod GatherLaws
 pub mod RangeLaws

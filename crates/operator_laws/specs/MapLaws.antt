@@ -1,20 +1,21 @@
 -- Theorems on the operators on maps: what each result maps a key to.
 use mathlib.Core.Path.{_≡_, refl, sym, ap, _∙_}
-use mathlib.Core.Bool.{Bool, true, false}
+use mathlib.Core.Bool.{Bool, true, false, and-eq-true-iff, cond}
 use mathlib.Core.Option.{Option, none as absent, some}
-use Prim.Native.Nat.{ℕ, _+_, _≤_}
+use Prim.Native.Nat.{_+_, _≤_}
 use native.Mathlib.Omega.{arith}
-use Rattle.integers.specs.Range.{never}
+use mathlib.Mathlib.Data.Bool.Basic.{and-intro}
+use Rattle.prelude.specs.Laws.Absurd.{never, impossible}
+use Rattle.prelude.specs.Laws.Truth.{cond-true, cond-false, by-test}
 use Rattle.values.specs.Value.{Value, Items, none, more, everyOther, keys, mapped, sizes, limit, Before, Ascending, Paired}
-use Rattle.values.specs.Items.{pick, same, isMember, lookup, enter}
+use Rattle.values.specs.Items.{same, isMember, lookup, enter}
 use Rattle.values.specs.Laws.{same-true, true-same}
-use Rattle.collections.specs.Members.{member-here, pick-true, pick-false}
+use Rattle.collections.specs.Members.{member-here}
 use Rattle.collections.specs.Entries.{by-entries, isThere, key-there, before-nothing, paired-enter, ascending-enter, lookup-enter, enter-present, sizes-enter}
 use Rattle.operators.specs.Answer.{Built, built, fitting}
 use Rattle.operators.specs.Gather.{insertAll, everyEntry, keepEntries, enterAll}
 use Rattle.operators.specs.Maps.{agrees, compatible}
 use Rattle.operators.specs.Enumerations.{addEntry, onward, addEntries}
-use Rattle.operator_laws.specs.Tests.{and-parts, and-both, by-test}
 use Rattle.operator_laws.specs.GatherLaws.{same-refl, member-none, member-case, member-there, member-insertAll}
 use Rattle.operator_laws.specs.EntryLaws.{everyEntry-at, passing, lookup-keep, orElse, lookup-enterAll}
 use Rattle.operator_laws.specs.EnumerationLaws.{fits, fits-not, by-fitting, by-entry}
@@ -31,7 +32,7 @@ pub record Mapped (x : Value) (vs : Items) : Type 0 where
   pub maps : lookup key vs ≡ some x
 
 clash-free : {X : Type 0} {o : Option Value} {v : Value} → o ≡ absent → o ≡ some v → X
-clash-free e f = absurd (let z : _≡_ {A = ℕ} 0 1 = cc in omega arith)
+clash-free e f = impossible cc
 
 mapped-later : (x k v : Value) (vs : Items) → Paired vs → Before k (keys vs) → Mapped x vs → Mapped x (more k (more v vs))
 unfolding lookup
@@ -40,7 +41,7 @@ mapped-later x k v vs p b h = record {
   maps =
       by-test (same (h .key) k)
       (λ s. clash-free (ap (λ (y : Value). lookup y vs) (same-true (h .key) k s) ∙ before-nothing k vs p b) (h .maps))
-      (λ s. pick-false (same (h .key) k) (some v) (lookup (h .key) vs) s ∙ h .maps);
+      (λ s. cond-false (same (h .key) k) (some v) (lookup (h .key) vs) s ∙ h .maps);
 }
 
 in-mapped : (x : Value) (vs : Items) → Paired vs → Ascending (keys vs) → isMember x (mapped vs) ≡ true → Mapped x vs
@@ -48,7 +49,7 @@ unfolding everyOther Ascending lookup
 in-mapped x =
     by-entries (λ (vs : Items). Ascending (keys vs) → isMember x (mapped vs) ≡ true → Mapped x vs) (λ a m. never (sym (member-none x) ∙ m))
     (λ k v vs p r a m.
-    member-case x v (mapped vs) m (λ e. record { key = k; maps = pick-true (same k k) (some v) (lookup k vs) (same-refl k) ∙ ap some (sym e) })
+    member-case x v (mapped vs) m (λ e. record { key = k; maps = cond-true (same k k) (some v) (lookup k vs) (same-refl k) ∙ ap some (sym e) })
     (λ n. mapped-later x k v vs p (a .0) (r (a .1) n)))
 
 mapped-in : (k x : Value) (vs : Items) → Paired vs → lookup k vs ≡ some x → isMember x (mapped vs) ≡ true
@@ -57,8 +58,8 @@ mapped-in k x =
     by-entries (λ (vs : Items). lookup k vs ≡ some x → isMember x (mapped vs) ≡ true) (λ e. clash-free refl e)
     (λ l v vs p r e.
     by-test (same k l)
-    (λ s. let i : x ≡ v = cc (pick-true (same k l) (some v) (lookup k vs) s) in rw i (member-here v (mapped vs)))
-    (λ s. member-there x v (mapped vs) (r (sym (pick-false (same k l) (some v) (lookup k vs) s) ∙ e))))
+    (λ s. let i : x ≡ v = cc (cond-true (same k l) (some v) (lookup k vs) s) in rw i (member-here v (mapped vs)))
+    (λ s. member-there x v (mapped vs) (r (sym (cond-false (same k l) (some v) (lookup k vs) s) ∙ e))))
 
 -- THEOREM: rng m is the set of the values that m maps its keys to
 pub range-maps : (x : Value) (vs : Items) → Paired vs → Ascending (keys vs) → isMember x (insertAll none (mapped vs)) ≡ true → Mapped x vs
@@ -82,12 +83,11 @@ unfolding everyOther Ascending everyEntry lookup
 everyEntry-all p =
     by-entries (λ (vs : Items). Ascending (keys vs) → ((k v : Value) → lookup k vs ≡ some v → p k v ≡ true) → everyEntry p vs ≡ true) (λ a f. refl)
     (λ k v vs q r a f.
-    and-both (p k v) (everyEntry p vs) (f k v (pick-true (same k k) (some v) (lookup k vs) (same-refl k)))
-    (r (a .1)
+    and-intro (f k v (cond-true (same k k) (some v) (lookup k vs) (same-refl k))) (r (a .1)
     (λ l w e.
     f l w
     (by-test (same l k) (λ s. clash-free (ap (λ (y : Value). lookup y vs) (same-true l k s) ∙ before-nothing k vs q (a .0)) e)
-    (λ s. pick-false (same l k) (some v) (lookup l vs) s ∙ e)))))
+    (λ s. cond-false (same l k) (some v) (lookup l vs) s ∙ e)))))
 
 pub compatible-all : (vs ws : Items) → Paired ws → Ascending (keys ws) → ((k v w : Value) → lookup k vs ≡ some v → lookup k ws ≡ some w → v ≡ w) → compatible vs ws ≡ true
 compatible-all vs ws q a f = everyEntry-all (λ k v. agrees (lookup k vs) v) ws q a (λ k w e. go k w (lookup k vs) refl e)
@@ -123,7 +123,7 @@ compatible-enter vs ws k v p q a n c =
     compatible-all (enter k v vs) ws q a
     (λ l x y e f.
     by-test (same l k) (λ s. clash-free (ap (λ (z : Value). lookup z ws) (same-true l k s) ∙ n) f)
-    (λ s. compatible-at vs ws q c l x y (sym (lookup-enter l k v vs p ∙ pick-false (same l k) (some v) (lookup l vs) s) ∙ e) f))
+    (λ s. compatible-at vs ws q c l x y (sym (lookup-enter l k v vs p ∙ cond-false (same l k) (some v) (lookup l vs) s) ∙ e) f))
 
 -- The first entry of the second map beside the first map: its key is new, or has this value.
 by-first : {P : Type 0} (vs ws : Items) (k v : Value) → compatible vs (more k (more v ws)) ≡ true
@@ -132,7 +132,7 @@ by-first : {P : Type 0} (vs ws : Items) (k v : Value) → compatible vs (more k 
     → P
 unfolding everyEntry
 by-first vs ws k v c f g =
-    let h = and-parts (agrees (lookup k vs) v) (compatible vs ws) c in
+    let h = and-eq-true-iff (agrees (lookup k vs) v) (compatible vs ws) .0 c in
     by-entry vs k v (λ e d. f e d (h .1)) (λ e d. g e d (h .1))
     (λ w e s d. never (sym s ∙ sym (ap (λ (o : Option Value). agrees o v) e) ∙ h .0))
 
@@ -180,13 +180,13 @@ addEntries-is vs ws p a q b l c =
 -- ---- <:, :>
 
 -- THEOREM: s <: m consists of the elements in m whose key is in s
-pub lookup-domain : (x : Value) (vs ws : Items) → Paired ws → Ascending (keys ws) → lookup x (keepEntries (λ k v. isMember k vs) ws) ≡ pick (isMember x vs) (lookup x ws) absent
+pub lookup-domain : (x : Value) (vs ws : Items) → Paired ws → Ascending (keys ws) → lookup x (keepEntries (λ k v. isMember k vs) ws) ≡ cond (isMember x vs) (lookup x ws) absent
 lookup-domain x vs ws p a = lookup-keep (λ k v. isMember k vs) x ws p a ∙ go (lookup x ws) (isMember x vs) refl
   where
-    go : (o : Option Value) (b : Bool) → isMember x vs ≡ b → passing (λ k v. isMember k vs) x o ≡ pick b o absent
+    go : (o : Option Value) (b : Bool) → isMember x vs ≡ b → passing (λ k v. isMember k vs) x o ≡ cond b o absent
     go absent true e = refl
     go absent false e = refl
-    go (some v) b e = ap (λ (c : Bool). pick c (some v) absent) e
+    go (some v) b e = ap (λ (c : Bool). cond c (some v) absent) e
 
 -- THEOREM: m :> s consists of the elements in m whose value is in s
 pub lookup-range : (x : Value) (vs ws : Items) → Paired vs → Ascending (keys vs) → lookup x (keepEntries (λ k v. isMember v ws) vs) ≡ passing (λ k v. isMember v ws) x (lookup x vs)

@@ -1,14 +1,16 @@
 -- Laws of integers one after another: which they are, and that they stay in order, in range and of known size.
 use mathlib.Core.Path.{_≡_, refl, sym, ap, subst, _∙_}
-use mathlib.Core.Bool.{true, _&&_}
+use mathlib.Core.Bool.{true, _&&_, and-eq-true-iff}
 use Prim.Native.Nat.{ℕ, zero, suc, _+_, _*_, _≤_, _<_}
 use native.Mathlib.Omega.{arith}
 use borrow.Author.Tests.{leb-true, le-leb, lt-ltb, eqb-true, eqb-false}
 use lib.Dec.{eqb}
 use lib.IntN.{ℤ, pos, negsuc, _+ℤ_, _-ℤ_}
 use lib.Signed.{ltZ, leZ}
+use mathlib.Mathlib.Data.Bool.Basic.{and-intro}
+use Rattle.prelude.specs.Laws.Absurd.{never}
+use Rattle.prelude.specs.Laws.Truth.{both-ways, by-test}
 use Rattle.integers.specs.Whole.{least, greatest, InRange}
-use Rattle.integers.specs.Range.{never}
 use Rattle.integers.specs.Parts.{up, down, parts-add, parts-minus, eq-parts}
 use Rattle.integers.specs.declared.Order.the-variants.{Lower}
 use Rattle.values.specs.Value.{Value, integer, count, size, sizes, within, order, Before, Ascending, Sound, SoundItems}
@@ -17,7 +19,6 @@ use Rattle.values.specs.Items.{isMember}
 use Rattle.collections.specs.Members.{member-here}
 use Rattle.operators.specs.Gather.{upFrom}
 use Rattle.operators.specs.Sets.{counted, howMany}
-use Rattle.operator_laws.specs.Tests.{both-ways, and-parts, and-both, by-test}
 use Rattle.operator_laws.specs.GatherLaws.{member-none, member-case, member-there}
 
 -- ---- at most and below, as facts that `omega` reads
@@ -46,8 +47,7 @@ le-trans a b c p q = up-le a c (omega (arith, le-up a b p, le-up b c q))
 -- What lies between two integers in range is in range.
 pub between : (lo z hi : ℤ) → InRange lo → InRange hi → leZ lo z ≡ true → leZ z hi ≡ true → InRange z
 between lo z hi p q l h =
-    and-both (leZ least z) (leZ z greatest) (le-trans least lo z (and-parts (leZ least lo) (leZ lo greatest) p .0) l)
-    (le-trans z hi greatest h (and-parts (leZ least hi) (leZ hi greatest) q .1))
+    and-intro (le-trans least lo z (and-eq-true-iff (leZ least lo) (leZ lo greatest) .0 p .0) l) (le-trans z hi greatest h (and-eq-true-iff (leZ least hi) (leZ hi greatest) .0 q .1))
 
 -- One of the two parts is 0.
 sides : {P : Type 0} (z : ℤ) → (down z ≡ 0 → counted z ≡ up z → P) → (up z ≡ 0 → counted z ≡ 0 → P) → P
@@ -98,9 +98,9 @@ member-range from to i =
     let w = member-up from i (howMany from to) m in
     let l = w .low in
     let h = w .high in
-    and-both (leZ from i) (leZ i to) (up-le from i l) (up-le i to (sides e (λ d c. omega arith) (λ u c. omega arith))))
+    and-intro (up-le from i l) (up-le i to (sides e (λ d c. omega arith) (λ u c. omega arith))))
     (λ b.
-    let p = and-parts (leZ from i) (leZ i to) b in
+    let p = and-eq-true-iff (leZ from i) (leZ i to) .0 b in
     let l = le-up from i (p .0) in
     let h = le-up i to (p .1) in
     up-member from i (howMany from to) (record { low = l; high = sides e (λ d c. omega arith) (λ u c. omega arith) }))

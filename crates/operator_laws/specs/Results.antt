@@ -1,6 +1,6 @@
 -- THEOREM: every value that an operator answers is well-formed, where its operands are; every refusal is from 20 to 28.
 use mathlib.Core.Path.{_≡_, refl, sym, ap, subst, _∙_}
-use mathlib.Core.Bool.{Bool, true, false, not}
+use mathlib.Core.Bool.{Bool, true, false, not, and-eq-true-iff, cond}
 use mathlib.Core.List.{List, [], _∷_}
 use mathlib.Core.Option.{Option, none as absent, some}
 use Prim.Native.Nat.{ℕ, zero, suc, _+_, _*_, _≤_}
@@ -9,14 +9,15 @@ use borrow.Author.Tests.{leb-true, eqb-true}
 use lib.Dec.{leb, eqb}
 use lib.IntN.{ℤ, pos, negsuc, negℤ, natAbs, _+ℤ_, _-ℤ_, _*ℤ_}
 use lib.ListN.{getD}
+use Rattle.prelude.specs.Laws.Absurd.{impossible}
+use Rattle.prelude.specs.Laws.Truth.{cond-true, cond-false, by-test}
 use Rattle.integers.specs.declared.Number.{Number}
 use Rattle.integers.specs.Whole as Whole
 use Rattle.integers.specs.Whole.{greatest, inRange, InRange, answer, divided, divℤ, remℤ, modℤ}
 use Rattle.values.specs.Value.{Kind, set, sequence, map, tuple, number, Value, boolean, integer, collection, Items, none, more, count, keys, mapped, size, sizes, limit, Ascending, Paired, Shaped, Sound, SoundItems, WellFormed}
-use Rattle.values.specs.Items.{pick, same, join, nth, lookup}
+use Rattle.values.specs.Items.{same, join, nth, lookup}
 use Rattle.values.specs.Laws.{number-inj}
 use Rattle.values.specs.Encoding.{count-sizes, join-sound}
-use Rattle.collections.specs.Members.{pick-true, pick-false}
 use Rattle.collections.specs.Entries.{by-entries}
 use Rattle.operators.specs.Answer.{Answer, is, refused, wrongKind, clash, asBoolean, asInteger, asKind, needs, needsBoth, found, sized}
 use Rattle.operators.specs.Booleans.{truth, negation, biimplication, Connective, and, or, implies, Left, settles, leaves, settledBy, left, right}
@@ -26,7 +27,6 @@ use Rattle.operators.specs.Sets.{uniteAll, intersectionOf, howMany, counting, r
 use Rattle.operators.specs.Sequences.{headOf, tailOf, itemAt}
 use Rattle.operators.specs.Maps.{compatible, applyItems, applyTo}
 use Rattle.operators.specs.Operators.{noUnary, unaries, unary, noBinary, binaries, binary}
-use Rattle.operator_laws.specs.Tests.{and-parts, by-test}
 use Rattle.operator_laws.specs.GatherLaws.{ascending-keep, sound-keep, sizes-keep, ascending-insertAll, sound-insertAll, sizes-insertAll, sound-flatten, sizes-backwards, sound-backwards}
 use Rattle.operator_laws.specs.RangeLaws.{up-le, sound-up, sound-range, ascending-up, sizes-up}
 use Rattle.operator_laws.specs.EntryLaws.{sound-everyOther, sizes-everyOther, paired-keep, ascending-keys, sound-keepEntries, sizes-keepEntries, paired-enterAll, ascending-enterAll, sound-enterAll}
@@ -82,7 +82,7 @@ found-fine absent f = omega arith
 found-fine (some v) f = let h = f v refl in record { sound = h .0; short = h .1 }
 
 -- An answer that is given where a test passes, and else a refusal.
-unless-fine : (b : Bool) (x : Answer) (n : ℕ) → (20 ≤ n) × (n ≤ 28) → (b ≡ true → Fine x) → Fine (pick b x (refused n))
+unless-fine : (b : Bool) (x : Answer) (n : ℕ) → (20 ≤ n) × (n ≤ 28) → (b ≡ true → Fine x) → Fine (cond b x (refused n))
 unless-fine true x n l f = f refl
 unless-fine false x n l f = l
 
@@ -164,8 +164,8 @@ uniteAll-fine vs g = sized-fine set (insertAll none (flatten vs)) (ascending-ins
 
 -- The items of a well-formed set whose members are sets.
 first-good : (v : Value) → isKind set v ≡ true → WellFormed v → Good set (itemsOf v)
-first-good (boolean b) e w = absurd (let z : _≡_ {A = ℕ} 0 1 = cc in omega arith)
-first-good (integer i) e w = absurd (let z : _≡_ {A = ℕ} 0 1 = cc in omega arith)
+first-good (boolean b) e w = impossible cc
+first-good (integer i) e w = impossible cc
 first-good (collection l vs) e w = subst (λ (j : Kind). Good j vs) (sym (number-inj set l (eqb-true (number set) (number l) e))) (good w)
 
 -- An item of a well-formed collection is well-formed.
@@ -177,7 +177,7 @@ intersectionOf-fine : (vs : Items) → every (isKind set) vs ≡ true → Good s
 unfolding every
 intersectionOf-fine none e g = omega arith
 intersectionOf-fine (more v vs) e g =
-    keep-fine _ (itemsOf v) (first-good v (and-parts (isKind set v) (every (isKind set) vs) e .0) (item-fine v vs g))
+    keep-fine _ (itemsOf v) (first-good v (and-eq-true-iff (isKind set v) (every (isKind set) vs) .0 e .0) (item-fine v vs g))
 
 counting-fine : (z : ℤ) (n : ℕ) → (8 * n + 4 ≤ limit → SoundItems (upFrom z n)) → Fine (counting z n)
 counting-fine z n f =
@@ -212,7 +212,7 @@ indexes-fine vs g =
 
 nth-fine : (vs : Items) (n : ℕ) → SoundItems vs → (v : Value) → nth vs n ≡ some v → Sound v × (size v ≤ sizes vs)
 unfolding nth Sound size
-nth-fine none n s v e = let z : _≡_ {A = ℕ} 0 1 = cc in absurd (omega arith)
+nth-fine none n s v e = impossible cc
 nth-fine (more w ws) zero s v e = let q : w ≡ v = cc in let d = ap size q in (subst Sound q (s .0), omega arith)
 nth-fine (more w ws) (suc n) s v e = let h = nth-fine ws n (s .1) v e in (h .0, omega (arith, h .1))
 
@@ -244,11 +244,11 @@ keepEntries-fine p vs g =
 lookup-fine : (k : Value) (vs : Items) → Paired vs → SoundItems vs → (v : Value) → lookup k vs ≡ some v → Sound v × (size v ≤ sizes vs)
 unfolding lookup Sound size
 lookup-fine k vs p s v e =
-    by-entries (λ (vs : Items). SoundItems vs → lookup k vs ≡ some v → Sound v × (size v ≤ sizes vs)) (λ s e. absurd (let z : _≡_ {A = ℕ} 0 1 = cc in omega arith))
+    by-entries (λ (vs : Items). SoundItems vs → lookup k vs ≡ some v → Sound v × (size v ≤ sizes vs)) (λ s e. impossible cc)
     (λ l w vs p r s e.
     by-test (same k l)
-    (λ t. let q : w ≡ v = cc (pick-true (same k l) (some w) (lookup k vs) t) in let d = ap size q in (subst Sound q (s .1 .0), omega arith))
-    (λ t. let h = r (s .1 .1) (sym (pick-false (same k l) (some w) (lookup k vs) t) ∙ e) in (h .0, omega (arith, h .1))))
+    (λ t. let q : w ≡ v = cc (cond-true (same k l) (some w) (lookup k vs) t) in let d = ap size q in (subst Sound q (s .1 .0), omega arith))
+    (λ t. let h = r (s .1 .1) (sym (cond-false (same k l) (some w) (lookup k vs) t) ∙ e) in (h .0, omega (arith, h .1))))
     vs p s e
 
 -- ---- apply

@@ -1,19 +1,20 @@
 -- Theorems on the operators on sequences: what stands at each index of each result.
 use mathlib.Core.Path.{_≡_, refl, sym, ap, _∙_}
-use mathlib.Core.Bool.{_&&_}
+use mathlib.Core.Bool.{_&&_, and-eq-true-iff}
 use Prim.Native.Nat.{ℕ, zero, suc, _+_, _<_}
 use native.Mathlib.Omega.{arith}
 use borrow.Author.Tests.{leb-true, le-leb, lt-leb}
 use lib.Dec.{leb}
 use lib.IntN.{ℤ, pos, negsuc}
 use lib.Signed.{leZ}
+use mathlib.Mathlib.Data.Bool.Basic.{and-intro}
+use Rattle.prelude.specs.Laws.Truth.{both-ways}
 use Rattle.values.specs.Value.{sequence, Value, integer, collection, Items, none, more, count}
 use Rattle.values.specs.Items.{join, nth, isMember}
 use Rattle.collections.specs.Joined.{join-none, join-join}
 use Rattle.collections.specs.Entries.{isThere}
 use Rattle.operators.specs.Gather.{insertAll, itemsOf, flatten, backwards, upFrom}
 use Rattle.operators.specs.Sequences.{itemAt}
-use Rattle.operator_laws.specs.Tests.{both-ways, and-parts, and-both}
 use Rattle.operator_laws.specs.GatherLaws.{member-insertAll, count-backwards}
 use Rattle.operator_laws.specs.RangeLaws.{le-up, up-le, member-up, up-member}
 
@@ -28,9 +29,9 @@ member-elements x vs = member-insertAll x none vs
 pub member-indexes : (i : ℤ) (n : ℕ) → isMember (integer i) (upFrom (pos 1) n) ≡ leZ (pos 1) i && leZ i (pos n)
 member-indexes i n =
     both-ways (isMember (integer i) (upFrom (pos 1) n)) (leZ (pos 1) i && leZ i (pos n))
-    (λ m. let w = member-up (pos 1) i n m in let l = w .low in let h = w .high in and-both (leZ (pos 1) i) (leZ i (pos n)) (up-le (pos 1) i l) (up-le i (pos n) (omega arith)))
+    (λ m. let w = member-up (pos 1) i n m in let l = w .low in let h = w .high in and-intro (up-le (pos 1) i l) (up-le i (pos n) (omega arith)))
     (λ b.
-    let p = and-parts (leZ (pos 1) i) (leZ i (pos n)) b in
+    let p = and-eq-true-iff (leZ (pos 1) i) (leZ i (pos n)) .0 b in
     let l = le-up (pos 1) i (p .0) in
     let h = le-up i (pos n) (p .1) in
     up-member (pos 1) i n (record { low = l; high = omega arith }))

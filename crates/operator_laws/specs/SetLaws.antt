@@ -1,20 +1,21 @@
 -- Theorems on the operators on sets: who is a member of each result, in the words of source 000.
 use mathlib.Core.Path.{_≡_, refl, sym, ap, _∙_}
-use mathlib.Core.Bool.{Bool, true, false, not, _&&_, _||_}
+use mathlib.Core.Bool.{Bool, true, false, not, _&&_, _||_, and-eq-true-iff, cond}
 use Prim.Native.Nat.{ℕ, _+_}
 use native.Mathlib.Omega.{arith}
 use borrow.Author.Tests.{not-true}
 use lib.Dec.{leb}
 use lib.IntN.{ℤ}
-use Rattle.integers.specs.Range.{never}
+use mathlib.Mathlib.Data.Bool.Basic.{and-intro}
+use Rattle.prelude.specs.Laws.Absurd.{never}
+use Rattle.prelude.specs.Laws.Truth.{cond-false, both-ways, by-test}
 use Rattle.values.specs.Value.{set, Value, collection, Items, none, more, count, size, sizes, limit, Ascending}
-use Rattle.values.specs.Items.{pick, same, isMember, insert}
+use Rattle.values.specs.Items.{same, isMember, insert}
 use Rattle.values.specs.Laws.{same-true}
-use Rattle.collections.specs.Members.{member-here, member-insert, pick-false, before-apart, insert-present, sizes-insert, count-insert, ascending-insert, same-members}
+use Rattle.collections.specs.Members.{member-here, member-insert, before-apart, insert-present, sizes-insert, count-insert, ascending-insert, same-members}
 use Rattle.operators.specs.Answer.{is, refused, tooLarge, built, stopped, closed, sized}
 use Rattle.operators.specs.Gather.{every, any, keep, insertAll, itemsOf, flatten, upFrom}
 use Rattle.operators.specs.Sets.{unite, intersect, without, isSubset, isEmpty, uniteAll, intersectAll, counting}
-use Rattle.operator_laws.specs.Tests.{both-ways, and-parts, and-both, by-test}
 use Rattle.operator_laws.specs.GatherLaws.{member-none, member-there, every-at, every-all, Some, any-some, some-any, member-keep, member-insertAll, ascending-insertAll, member-flatten}
 use Rattle.operator_laws.specs.RangeLaws.{sizes-up}
 
@@ -62,11 +63,11 @@ extra vs ws e = go (without ws vs) refl e
     go none d e = never e
     go (more u us) d e =
         let m : isMember u (without ws vs) ≡ true = ap (isMember u) d ∙ member-here u us in
-        let h = and-parts (isMember u ws) (not (isMember u vs)) (sym (member-without u ws vs) ∙ m) in
+        let h = and-eq-true-iff (isMember u ws) (not (isMember u vs)) .0 (sym (member-without u ws vs) ∙ m) in
         record { member = u; isIn = h .0; notIn = not-true (isMember u vs) (h .1) }
 
 pub not-empty : (vs ws : Items) → Extra vs ws → not (isEmpty (without ws vs)) ≡ true
-not-empty vs ws h = go (without ws vs) (member-without (h .member) ws vs ∙ and-both (isMember (h .member) ws) (not (isMember (h .member) vs)) (h .isIn) (ap not (h .notIn)))
+not-empty vs ws h = go (without ws vs) (member-without (h .member) ws vs ∙ and-intro (h .isIn) (ap not (h .notIn)))
   where
     go : (us : Items) → isMember (h .member) us ≡ true → not (isEmpty us) ≡ true
     go none m = never (sym (member-none (h .member)) ∙ m)
@@ -74,10 +75,10 @@ not-empty vs ws h = go (without ws vs) (member-without (h .member) ws vs ∙ and
 
 -- THEOREM: s1 psubset s2 where s1 is a subset and s2 has an element that is not in s1
 pub psubset-parts : (vs ws : Items) → isSubset vs ws && not (isEmpty (without ws vs)) ≡ true → (isSubset vs ws ≡ true) × Extra vs ws
-psubset-parts vs ws e = let h = and-parts (isSubset vs ws) (not (isEmpty (without ws vs))) e in (h .0, extra vs ws (h .1))
+psubset-parts vs ws e = let h = and-eq-true-iff (isSubset vs ws) (not (isEmpty (without ws vs))) .0 e in (h .0, extra vs ws (h .1))
 
 pub psubset-both : (vs ws : Items) → isSubset vs ws ≡ true → Extra vs ws → isSubset vs ws && not (isEmpty (without ws vs)) ≡ true
-psubset-both vs ws e h = and-both (isSubset vs ws) (not (isEmpty (without ws vs))) e (not-empty vs ws h)
+psubset-both vs ws e h = and-intro e (not-empty vs ws h)
 
 -- ---- dunion, dinter
 
@@ -103,8 +104,8 @@ keep-same : (p q : Value → Bool) (vs : Items) → ((x : Value) → isMember x 
 unfolding keep
 keep-same p q none f = refl
 keep-same p q (more v vs) f =
-    ap (λ (b : Bool). pick b (more v (keep p vs)) (keep p vs)) (f v (member-here v vs))
-    ∙ ap (λ (us : Items). pick (q v) (more v us) us) (keep-same p q vs (λ x m. f x (member-there x v vs m)))
+    ap (λ (b : Bool). cond b (more v (keep p vs)) (keep p vs)) (f v (member-here v vs))
+    ∙ ap (λ (us : Items). cond (q v) (more v us) us) (keep-same p q vs (λ x m. f x (member-there x v vs m)))
 
 -- THEOREM: card (s1 \ s2) + card (s1 inter s2) = card s1
 pub card-parts : (vs ws : Items) → count (without vs ws) + count (intersect vs ws) ≡ count vs
@@ -116,7 +117,7 @@ card-parts (more v vs) ws = let h = card-parts vs ws in by-test (isMember v ws) 
 without-insert : (w : Value) (vs ws : Items) → isMember w ws ≡ false → without ws (insert w vs) ≡ without ws vs
 without-insert w vs ws n =
     keep-same (λ x. not (isMember x (insert w vs))) (λ x. not (isMember x vs)) ws
-    (λ x m. ap not (member-insert x w vs ∙ by-test (same x w) (λ s. never (sym n ∙ sym (ap (λ (y : Value). isMember y ws) (same-true x w s)) ∙ m)) (λ s. pick-false (same x w) true (isMember x vs) s)))
+    (λ x m. ap not (member-insert x w vs ∙ by-test (same x w) (λ s. never (sym n ∙ sym (ap (λ (y : Value). isMember y ws) (same-true x w s)) ∙ m)) (λ s. cond-false (same x w) true (isMember x vs) s)))
 
 -- THEOREM: s1 union s2 has the members of s1 and those of s2 \ s1, in number and in size
 pub unite-counts : (vs ws : Items) → Ascending vs → Ascending ws
@@ -142,8 +143,8 @@ unite-counts vs (more w ws) a b =
 
 -- Integers that are counted, as a set of known size.
 pub counting-is : (z : ℤ) (n : ℕ) → counting z n ≡ sized set (upFrom z n)
-counting-is z n = ap (λ (k : ℕ). pick (leb (4 + k) limit) (is (collection set (upFrom z n))) (refused tooLarge)) (sym (sizes-up z n)) ∙ go (leb (4 + sizes (upFrom z n)) limit)
+counting-is z n = ap (λ (k : ℕ). cond (leb (4 + k) limit) (is (collection set (upFrom z n))) (refused tooLarge)) (sym (sizes-up z n)) ∙ go (leb (4 + sizes (upFrom z n)) limit)
   where
-    go : (b : Bool) → pick b (is (collection set (upFrom z n))) (refused tooLarge) ≡ closed set (pick b (built (upFrom z n)) (stopped tooLarge))
+    go : (b : Bool) → cond b (is (collection set (upFrom z n))) (refused tooLarge) ≡ closed set (cond b (built (upFrom z n)) (stopped tooLarge))
     go true = refl
     go false = refl

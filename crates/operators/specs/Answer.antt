@@ -1,11 +1,10 @@
 -- What an operator answers: a value, or a refusal by its number in document 01, "From the state of the run".
-use mathlib.Core.Bool.{Bool}
+use mathlib.Core.Bool.{Bool, cond}
 use mathlib.Core.Option.{Option, none as absent, some}
 use Prim.Native.Nat.{ℕ, _+_}
 use lib.Dec.{leb, eqb}
 use lib.IntN.{ℤ}
 use Rattle.values.specs.Value.{Kind, number, Value, boolean, integer, collection, Items, sizes, limit}
-use Rattle.values.specs.Items.{pick}
 
 pub data Answer : Type 0 where
   is : Value → Answer
@@ -44,7 +43,7 @@ asInteger (collection k vs) = absent
 abbrev pub asKind : Kind → Value → Option Items
 asKind k (boolean b) = absent
 asKind k (integer z) = absent
-asKind k (collection l vs) = pick (eqb (number k) (number l)) (some vs) absent
+asKind k (collection l vs) = cond (eqb (number k) (number l)) (some vs) absent
 
 abbrev pub asSet : Value → Option Items
 asSet v = asKind Kind.set v
@@ -77,7 +76,7 @@ pub data Built : Type 0 where
 
 -- 28 as soon as the part built passes 512 bytes.
 abbrev pub fitting : Items → Built
-fitting vs = pick (leb (4 + sizes vs) limit) (built vs) (stopped tooLarge)
+fitting vs = cond (leb (4 + sizes vs) limit) (built vs) (stopped tooLarge)
 
 -- What was built, as a collection.
 abbrev pub closed : Kind → Built → Answer

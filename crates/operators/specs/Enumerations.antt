@@ -1,8 +1,9 @@
 -- Building a set, a sequence, a map or a tuple part by part: of an enumeration's operands in written order, and of a comprehension's
 -- elements binding by binding. A refusal comes as soon as the part built calls for it.
 use mathlib.Core.Option.{Option, none as absent, some}
+use mathlib.Core.Bool.{cond}
 use Rattle.values.specs.Value.{set, sequence, map, tuple, Value, Items, none, more}
-use Rattle.values.specs.Items.{pick, same, snoc, insert, lookup, enter}
+use Rattle.values.specs.Items.{same, snoc, insert, lookup, enter}
 use Rattle.operators.specs.Answer.{Answer, clash, Built, built, stopped, fitting, closed}
 
 -- ---- one part more
@@ -16,7 +17,7 @@ addItem vs v = fitting (snoc vs v)
 -- A key that is there already, with this value: nothing to add. With another: 27.
 abbrev pub entered : Option Value → Items → Value → Value → Built
 entered absent vs k v = fitting (enter k v vs)
-entered (some w) vs k v = pick (same v w) (built vs) (stopped clash)
+entered (some w) vs k v = cond (same v w) (built vs) (stopped clash)
 
 abbrev pub addEntry : Items → Value → Value → Built
 addEntry vs k v = entered (lookup k vs) vs k v

@@ -1,10 +1,10 @@
 -- Items gathered from items: those that pass a test, all of them put into a set or a map, the items of each of them.
-use mathlib.Core.Bool.{Bool, true, false, _&&_, _||_}
+use mathlib.Core.Bool.{Bool, true, false, _&&_, _||_, cond}
 use Prim.Native.Nat.{ℕ, zero, suc}
 use lib.Dec.{eqb}
 use lib.IntN.{ℤ, pos, _+ℤ_}
 use Rattle.values.specs.Value.{Kind, number, Value, boolean, integer, collection, Items, none, more}
-use Rattle.values.specs.Items.{pick, join, insert, enter}
+use Rattle.values.specs.Items.{join, insert, enter}
 
 -- ---- items and members
 
@@ -20,7 +20,7 @@ any p (more v vs) = p v || any p vs
 -- The items that pass the test, in their order.
 unfoldable pub keep : (Value → Bool) → Items → Items
 keep p none = none
-keep p (more v vs) = pick (p v) (more v (keep p vs)) (keep p vs)
+keep p (more v vs) = cond (p v) (more v (keep p vs)) (keep p vs)
 
 -- The members of a set, and then each of these values put in, the first first.
 unfoldable pub insertAll : Items → Items → Items
@@ -74,7 +74,7 @@ unfoldable mutual
 
   pub keepEntriesAt : (Value → Value → Bool) → Value → Items → Items
   keepEntriesAt p k none = none
-  keepEntriesAt p k (more v vs) = pick (p k v) (more k (more v (keepEntries p vs))) (keepEntries p vs)
+  keepEntriesAt p k (more v vs) = cond (p k v) (more k (more v (keepEntries p vs))) (keepEntries p vs)
 
 -- The entries of a map, and then each of these put in, the first first: a value gives way to a later one of the same key.
 unfoldable mutual

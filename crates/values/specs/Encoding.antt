@@ -1,6 +1,6 @@
 -- Laws of the encoding: its length is the size, decoding gives back the value that was encoded, and two values have two encodings.
 use mathlib.Core.Path.{_≡_, refl, sym, ap, ap₂, _∙_}
-use mathlib.Core.Bool.{Bool, true, false}
+use mathlib.Core.Bool.{Bool, true, false, cond}
 use mathlib.Core.List.{List, [], _∷_, _++_, append-assoc, append-nil}
 use mathlib.Core.Option.{Option, none as absent, some}
 use Prim.Native.Nat.{ℕ, zero, suc, _+_, _*_, _-_, _/_, _%_, _≤_}
@@ -15,7 +15,7 @@ use mir.ValLaws.{toZ-ofZ}
 use Rattle.integers.specs.Bytes.{word, four, integerAt}
 use Rattle.integers.specs.Range.{range-fits}
 use Rattle.values.specs.Value.{Kind, set, sequence, map, tuple, number, Value, boolean, integer, collection, Items, none, more, kindOf, count, size, sizes, byteOf, headed, encode, encodeItems, Sound, SoundItems}
-use Rattle.values.specs.Items.{pick, join, snoc}
+use Rattle.values.specs.Items.{join, snoc}
 
 -- ---- length
 
@@ -95,15 +95,15 @@ snoc-sizes vs w = let e = join-sizes vs (more w none) in omega arith
 
 -- the kind that a number stands for
 abbrev kindAt : ℕ → Kind
-kindAt n = pick (eqb n 3) set (pick (eqb n 4) sequence (pick (eqb n 5) map tuple))
+kindAt n = cond (eqb n 3) set (cond (eqb n 4) sequence (cond (eqb n 5) map tuple))
 
 -- The value whose record a list starts with, if it starts with one; the number bounds the depth.
 unfoldable mutual
   pub valueOf : ℕ → List ℕ → Value
   valueOf zero l = boolean false
   valueOf (suc n) l =
-      pick (eqb (word l 2) 1) (boolean (eqb (getD l 4 0) 1))
-      (pick (eqb (word l 2) 2) (integer (integerAt l 4))
+      cond (eqb (word l 2) 1) (boolean (eqb (getD l 4 0) 1))
+      (cond (eqb (word l 2) 2) (integer (integerAt l 4))
       (collection (kindAt (word l 2)) (itemsOf n (take (word l 0 - 4) (drop 4 l)))))
 
   pub itemsOf : ℕ → List ℕ → Items
@@ -198,11 +198,11 @@ abbrev sameBytes : List ℕ → List ℕ → Bool
 sameBytes [] [] = true
 sameBytes [] (b ∷ l) = false
 sameBytes (a ∷ k) [] = false
-sameBytes (a ∷ k) (b ∷ l) = pick (eqb a b) (sameBytes k l) false
+sameBytes (a ∷ k) (b ∷ l) = cond (eqb a b) (sameBytes k l) false
 
 -- The value that a list encodes, if it encodes one.
 unfoldable pub decode : List ℕ → Option Value
-decode l = pick (sameBytes (encode (valueOf (length l) l)) l) (some (valueOf (length l) l)) absent
+decode l = cond (sameBytes (encode (valueOf (length l) l)) l) (some (valueOf (length l) l)) absent
 
 same-bytes : (l : List ℕ) → sameBytes l l ≡ true
 same-bytes [] = refl
@@ -214,7 +214,7 @@ bytes-same [] (b ∷ l) e = cc
 bytes-same (a ∷ k) [] e = cc
 bytes-same (a ∷ k) (b ∷ l) e = go (eqb a b) refl e (bytes-same k l)
   where
-    go : (t : Bool) → eqb a b ≡ t → pick t (sameBytes k l) false ≡ true → (sameBytes k l ≡ true → k ≡ l) → a ∷ k ≡ b ∷ l
+    go : (t : Bool) → eqb a b ≡ t → cond t (sameBytes k l) false ≡ true → (sameBytes k l ≡ true → k ≡ l) → a ∷ k ≡ b ∷ l
     go true p e f = ap₂ _∷_ (eqb-true a b p) (f e)
     go false p e f = cc
 
@@ -231,6 +231,6 @@ pub encode-decode : (l : List ℕ) (v : Value) → decode l ≡ some v → encod
 unfolding decode
 encode-decode l v e = go (sameBytes (encode (valueOf (length l) l)) l) refl e
   where
-    go : (t : Bool) → sameBytes (encode (valueOf (length l) l)) l ≡ t → pick t (some (valueOf (length l) l)) absent ≡ some v → encode v ≡ l
+    go : (t : Bool) → sameBytes (encode (valueOf (length l) l)) l ≡ t → cond t (some (valueOf (length l) l)) absent ≡ some v → encode v ≡ l
     go true p e = let q : valueOf (length l) l ≡ v = cc in ap encode (sym q) ∙ bytes-same (encode (valueOf (length l) l)) l p
     go false p e = cc

@@ -6,6 +6,7 @@ use mathlib.Core.Logic.{_⊎_, inl, inr}
 use Prim.Native.Nat.{ℕ, _≤_}
 use native.Mathlib.Omega.{arith}
 use lib.Dec.{eqb}
+use Rattle.prelude.specs.Laws.Absurd.{impossible}
 use Rattle.integers.specs.declared.Order.{Order}
 use Rattle.integers.specs.declared.Order.the-variants.{Lower, Same, Higher}
 use Rattle.values.specs.Value.{Kind, set, sequence, map, tuple, Value, boolean, integer, collection, Items, none, more, number, kindOf, byteOf, after, within, orderItems, order}
@@ -197,13 +198,13 @@ equal-same {v} {w} e = ap (λ (x : Value). order x w) e ∙ order-refl w
 
 -- no answer is two answers
 pub lower-same : {X : Type 0} {o : Order} → o ≡ Lower → o ≡ Same → X
-lower-same p q = let z : _≡_ {A = ℕ} 0 1 = cc in absurd (omega arith)
+lower-same p q = impossible cc
 
 pub lower-higher : {X : Type 0} {o : Order} → o ≡ Lower → o ≡ Higher → X
-lower-higher p q = let z : _≡_ {A = ℕ} 0 1 = cc in absurd (omega arith)
+lower-higher p q = impossible cc
 
 pub same-higher : {X : Type 0} {o : Order} → o ≡ Same → o ≡ Higher → X
-same-higher p q = let z : _≡_ {A = ℕ} 0 1 = cc in absurd (omega arith)
+same-higher p q = impossible cc
 
 -- THEOREM: lower is irreflexive
 pub irreflexive : (v : Value) → order v v ≡ Lower → ⊥
@@ -248,7 +249,7 @@ pub true-same : {v w : Value} → v ≡ w → same v w ≡ true
 true-same e = ap isSame (equal-same e)
 
 pub same-false : {v w : Value} → same v w ≡ false → v ≡ w → ⊥
-same-false {v} {w} p q = let t = true-same q in let z : _≡_ {A = ℕ} 0 1 = cc in omega arith
+same-false {v} {w} p q = let t = true-same q in impossible cc
 
 pub false-same : (v w : Value) → (v ≡ w → ⊥) → same v w ≡ false
 false-same v w f = go (same v w) refl

@@ -1,6 +1,6 @@
 -- A loop over the paths of a tree that may pass over whole subtrees: what is still ahead of it, and what a step passes.
 use mathlib.Core.Path.{_≡_, refl, sym, subst}
-use mathlib.Core.Bool.{Bool, true, false}
+use mathlib.Core.Bool.{Bool, true, false, cond}
 use mathlib.Core.Logic.{_⊎_, inl, inr}
 use mathlib.Core.Option.{Option, none, some}
 use mathlib.Core.List.{List, [], _∷_}
@@ -11,7 +11,8 @@ use native.Mathlib.Omega.{arith}
 use lib.Dec.{ltb}
 use lib.ListN.{length}
 use borrow.Author.Tests.{ltb-false}
-use Rattle.choices.specs.Tree.{Tree, give, stop, choose, pick, Full, Outcome, value, refusal, Gives}
+use Rattle.prelude.specs.Laws.Absurd.{impossible}
+use Rattle.choices.specs.Tree.{Tree, give, stop, choose, Full, Outcome, value, refusal, Gives}
 use Rattle.choices.specs.Paths.{outcomeAt, counts, extend, orElse, raise}
 use Rattle.choices.specs.Laws.Paths.{raise-case}
 use Rattle.choices.specs.Laws.Rank.{Bytes, rank, rank-nil, rank-below}
@@ -107,7 +108,7 @@ module _ {A : Type 0} (R : A → Tree A → Type 0) (p n q m : ℕ) (f g : ℕ �
           from (yes s) = inr (inl (omega arith, ahead-all (g (suc c)) o (subst (λ (x : ℕ). Gives (g x) o) s h)))
           from (no s) = inr (inr (i, omega (arith, s), z, h))
 
-      go : (x : Option (List ℕ)) → raise (extend (f c) l) (counts (f c) (extend (f c) l)) ≡ x → orElse c x (pick (ltb (suc c) n) (some (suc c ∷ [])) none) ≡ some y
+      go : (x : Option (List ℕ)) → raise (extend (f c) l) (counts (f c) (extend (f c) l)) ≡ x → orElse c x (cond (ltb (suc c) n) (some (suc c ∷ [])) none) ≡ some y
           → Into (choose q m g) y × ((o : Outcome A) → Rest o → Gives (w .beneath) o ⊎ Ahead (choose q m g) y o)
       go (some x) b z = let s : y ≡ c ∷ x = cc in rw s ((omega arith, w .onward x b .0), within x b)
       go none b z = let s = raise-case n c y (ltb (suc c) n) refl z in rw (s .1) ((omega (arith, s .0), into-nil (g (suc c))), across b)
@@ -115,12 +116,12 @@ module _ {A : Type 0} (R : A → Tree A → Type 0) (p n q m : ℕ) (f g : ℕ �
   out : raised ≡ none → (o : Outcome A) → Rest o → Gives (w .beneath) o
   out d o x = go (raise (extend (f c) l) (counts (f c) (extend (f c) l))) refl d x
     where
-      last : (b : Bool) → ltb (suc c) n ≡ b → pick b (some (suc c ∷ [])) none ≡ none → n ≤ suc c
-      last true s z = let y : _≡_ {A = ℕ} 0 1 = cc in absurd (omega arith)
+      last : (b : Bool) → ltb (suc c) n ≡ b → cond b (some (suc c ∷ [])) none ≡ none → n ≤ suc c
+      last true s z = impossible cc
       last false s z = ltb-false (suc c) n s
 
-      go : (y : Option (List ℕ)) → raise (extend (f c) l) (counts (f c) (extend (f c) l)) ≡ y → orElse c y (pick (ltb (suc c) n) (some (suc c ∷ [])) none) ≡ none → Rest o → Gives (w .beneath) o
-      go (some y) b z h = let v : _≡_ {A = ℕ} 0 1 = cc in absurd (omega arith)
+      go : (y : Option (List ℕ)) → raise (extend (f c) l) (counts (f c) (extend (f c) l)) ≡ y → orElse c y (cond (ltb (suc c) n) (some (suc c ∷ [])) none) ≡ none → Rest o → Gives (w .beneath) o
+      go (some y) b z h = impossible cc
       go none b z (inl (j, h)) = w .ended b o h
       go none b z (inr (i, j, s, h)) = absurd (omega (arith, last (ltb (suc c) n) refl z))
 
@@ -129,7 +130,7 @@ pub passed : {A : Type 0} (R : A → Tree A → Type 0) (u t : Tree A) (l : List
 passed {A} R (give b) t l f h i a e = record {
   beneath = t;
   stands = subst (λ (x : A). R x t) (value-one e) h;
-  onward = λ k d. let z : _≡_ {A = ℕ} 0 1 = cc in absurd (omega arith);
+  onward = λ k d. impossible cc;
   ended = λ d o x. ahead-gives t l o x;
 }
 passed R (stop r p) t l f h i a e = absurd h
@@ -164,7 +165,7 @@ headed : (n c : ℕ) (e ns : List ℕ) (k : ℕ) (l m : List ℕ) → Bytes l �
 unfolding rank
 headed n c e ns k l m b rec d = go (raise e ns) refl d
   where
-    go : (o : Option (List ℕ)) → raise e ns ≡ o → orElse c o (pick (ltb (suc c) n) (some (suc c ∷ [])) none) ≡ some m → c * 256 ^ k + rank k l < rank (suc k) m
+    go : (o : Option (List ℕ)) → raise e ns ≡ o → orElse c o (cond (ltb (suc c) n) (some (suc c ∷ [])) none) ≡ some m → c * 256 ^ k + rank k l < rank (suc k) m
     go none q z =
         let w = raise-case n c m (ltb (suc c) n) refl z in
         let s : suc c * 256 ^ k ≡ c * 256 ^ k + 256 ^ k = suc-mul c (256 ^ k) in
@@ -178,8 +179,8 @@ headed n c e ns k l m b rec d = go (raise e ns) refl d
 -- THEOREM: a step goes to a list of higher rank
 pub step-rank : {A : Type 0} (t : Tree A) (k : ℕ) (l m : List ℕ) → Bytes l → length (extend t l) ≤ k → raise (extend t l) (counts t (extend t l)) ≡ some m → rank k l < rank k m
 unfolding rank
-step-rank (give a) k l m b h e = let z : _≡_ {A = ℕ} 0 1 = cc in absurd (omega arith)
-step-rank (stop r p) k l m b h e = let z : _≡_ {A = ℕ} 0 1 = cc in absurd (omega arith)
+step-rank (give a) k l m b h e = impossible cc
+step-rank (stop r p) k l m b h e = impossible cc
 step-rank (choose p n f) zero [] m b h e = absurd (omega arith)
 step-rank (choose p n f) zero (c ∷ l) m b h e = absurd (omega arith)
 step-rank (choose p n f) (suc k) [] m b h e =

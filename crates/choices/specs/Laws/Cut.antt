@@ -1,6 +1,6 @@
 -- A run never sees past one choice too many: the tree and the tree cut there are followed alike. Complete lists are the cut tree's paths.
 use mathlib.Core.Path.{_≡_, refl, sym, ap, _∙_, subst}
-use mathlib.Core.Bool.{Bool, true, false}
+use mathlib.Core.Bool.{Bool, true, false, cond}
 use mathlib.Core.Logic.{_↔_}
 use mathlib.Core.List.{List, [], _∷_}
 use Prim.Native.Nat.{ℕ, zero, suc, _≤_, _<_}
@@ -8,8 +8,10 @@ use native.Mathlib.Omega.{arith}
 use lib.ListN.{length}
 use lib.Dec.{ltb}
 use borrow.Author.Tests.{lt-ltb, ltb-true}
-use Rattle.choices.specs.Tree.{Tree, give, stop, choose, limit, Full, stopped, beyond, pick, follow, run, Outcome, Gives}
-use Rattle.choices.specs.Lists.{Ended, Complete, outcomeOf, NoMany, In}
+use Rattle.prelude.specs.Laws.Absurd.{impossible}
+use Rattle.prelude.specs.Membership.{In}
+use Rattle.choices.specs.Tree.{Tree, give, stop, choose, limit, Full, stopped, beyond, follow, run, Outcome, Gives}
+use Rattle.choices.specs.Lists.{Ended, Complete, outcomeOf, NoMany}
 use Rattle.choices.specs.Paths.{Leaf, outcomeAt, Within, cut, allLists}
 use Rattle.choices.specs.Laws.Paths.{leaf-in, in-leaf}
 
@@ -33,7 +35,7 @@ follow-cut k (give a) l = refl
 follow-cut k (stop r p) l = refl
 follow-cut zero (choose p n ways) l = refl
 follow-cut (suc k) (choose p n ways) [] = refl
-follow-cut (suc k) (choose p n ways) (c ∷ l) = ap (λ r. pick (ltb c n) r (beyond p n (c ∷ l))) (follow-cut k (ways c) l)
+follow-cut (suc k) (choose p n ways) (c ∷ l) = ap (λ r. cond (ltb c n) r (beyond p n (c ∷ l))) (follow-cut k (ways c) l)
 
 -- Where no path has more than k choices the cut takes nothing away.
 pub gives-cut : {A : Type 0} (k : ℕ) (t : Tree A) (o : Outcome A) → Within k t → Gives (cut k t) o ↔ Gives t o
@@ -64,7 +66,7 @@ no-many-within t h = no-many limit t h
 -- ---- following to a leaf
 
 cons≢nil : {c : ℕ} {l : List ℕ} → _≡_ {A = List ℕ} (c ∷ l) [] → ⊥
-cons≢nil e = let z : _≡_ {A = ℕ} 0 1 = cc in omega arith
+cons≢nil e = impossible cc
 
 -- A path's run ends at its leaf, with no entry left.
 pub leaf-ended : {A : Type 0} (t : Tree A) (k : ℕ) (l : List ℕ) → Within k t → Leaf t l → Ended (follow t k l) × (outcomeOf (follow t k l) ≡ outcomeAt t l)
@@ -85,7 +87,7 @@ ended-leaf (choose p n ways) zero l w h = absurd w
 ended-leaf (choose p n ways) (suc k) [] w h = absurd h
 ended-leaf (choose p n ways) (suc k) (c ∷ l) w h = go (ltb c n) refl (λ lt e. ended-leaf (ways c) k l (w c lt) e) h
   where
-    go : (b : Bool) → ltb c n ≡ b → (c < n → Ended (follow (ways c) k l) → Leaf (ways c) l) → Ended (pick b (follow (ways c) k l) (beyond p n (c ∷ l))) → (c < n) × Leaf (ways c) l
+    go : (b : Bool) → ltb c n ≡ b → (c < n → Ended (follow (ways c) k l) → Leaf (ways c) l) → Ended (cond b (follow (ways c) k l) (beyond p n (c ∷ l))) → (c < n) × Leaf (ways c) l
     go true e rec d = (ltb-true c n e, rec (ltb-true c n e) d)
     go false e rec d = absurd d
 

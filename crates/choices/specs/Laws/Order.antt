@@ -6,7 +6,9 @@ use Prim.Native.Nat.{ℕ, zero, suc, _<_}
 use native.Mathlib.Omega.{arith}
 use native.Mathlib.Decide.{decLt}
 use lib.ListN.{length, getD, take}
-use Rattle.choices.specs.Lists.{before, In, Ascending, Begins}
+use Rattle.prelude.specs.Membership.{In}
+use Rattle.prelude.specs.Laws.Membership.{in-joined, at-in, in-take}
+use Rattle.choices.specs.Lists.{before, Ascending, Begins}
 
 -- ---- the order
 
@@ -63,46 +65,12 @@ pub before-at : (l : List ℕ) (x y : ℕ) (u v : List ℕ) → x < y → before
 before-at [] x y u v h = inl h
 before-at (c ∷ l) x y u v h = inr (refl, before-at l x y u v h)
 
--- ---- members
-
-pub in-left : (l : List ℕ) (xs ys : List (List ℕ)) → In l xs → In l (xs ++ ys)
-in-left l [] ys h = absurd h
-in-left l (x ∷ xs) ys (inl e) = inl e
-in-left l (x ∷ xs) ys (inr h) = inr (in-left l xs ys h)
-
-pub in-right : (l : List ℕ) (xs ys : List (List ℕ)) → In l ys → In l (xs ++ ys)
-in-right l [] ys h = h
-in-right l (x ∷ xs) ys h = inr (in-right l xs ys h)
-
-pub in-append : (l : List ℕ) (xs ys : List (List ℕ)) → In l (xs ++ ys) → In l xs ⊎ In l ys
-in-append l [] ys h = inr h
-in-append l (x ∷ xs) ys (inl e) = inl (inl e)
-in-append l (x ∷ xs) ys (inr h) = ⊎-elim (λ a. inl (inr a)) (λ b. inr b) (in-append l xs ys h)
-
--- A member stands at an index.
-pub in-at : (l : List ℕ) (xs : List (List ℕ)) → In l xs → (j : ℕ) × (j < length xs) × (l ≡ getD xs j [])
-in-at l [] h = absurd h
-in-at l (x ∷ xs) (inl e) = (0, omega arith, e)
-in-at l (x ∷ xs) (inr h) = let w = in-at l xs h in (suc (w .0), omega (arith, w .1), w .2)
-
-pub at-in : (xs : List (List ℕ)) (j : ℕ) → j < length xs → In (getD xs j []) xs
-at-in [] j h = absurd (omega arith)
-at-in (x ∷ xs) zero h = inl refl
-at-in (x ∷ xs) (suc j) h = inr (at-in xs j (omega arith))
-
-pub in-take : (l : List ℕ) (xs : List (List ℕ)) (j : ℕ) → In l (take j xs) → In l xs
-in-take l [] zero h = absurd h
-in-take l [] (suc j) h = absurd h
-in-take l (x ∷ xs) zero h = absurd h
-in-take l (x ∷ xs) (suc j) (inl e) = inl e
-in-take l (x ∷ xs) (suc j) (inr h) = inr (in-take l xs j h)
-
 -- ---- ascending
 
 pub asc-append : (xs ys : List (List ℕ)) → Ascending xs → Ascending ys → ((x y : List ℕ) → In x xs → In y ys → before x y) → Ascending (xs ++ ys)
 asc-append [] ys a b h = b
 asc-append (x ∷ xs) ys a b h = (
-  λ y m. ⊎-elim (λ e. a .0 y e) (λ e. h x y (inl refl) e) (in-append y xs ys m),
+  λ y m. ⊎-elim (λ e. a .0 y e) (λ e. h x y (inl refl) e) (in-joined y xs ys m),
   asc-append xs ys (a .1) b (λ u v p q. h u v (inr p) q),
 )
 
@@ -116,7 +84,7 @@ asc-take (x ∷ xs) (suc j) a = (λ y m. a .0 y (in-take y xs j m), asc-take xs 
 pub take-before : (xs : List (List ℕ)) (j : ℕ) (l : List ℕ) → Ascending xs → j < length xs → In l (take j xs) → before l (getD xs j [])
 take-before [] j l a h m = absurd (omega arith)
 take-before (x ∷ xs) zero l a h m = absurd m
-take-before (x ∷ xs) (suc j) l a h (inl e) = subst (λ (y : List ℕ). before y (getD xs j [])) (sym e) (a .0 (getD xs j []) (at-in xs j (omega arith)))
+take-before (x ∷ xs) (suc j) l a h (inl e) = subst (λ (y : List ℕ). before y (getD xs j [])) (sym e) (a .0 (getD xs j []) (at-in xs j [] (omega arith)))
 take-before (x ∷ xs) (suc j) l a h (inr m) = take-before xs j l (a .1) (omega arith) m
 
 pub before-take : (xs : List (List ℕ)) (j : ℕ) (l : List ℕ) → Ascending xs → j < length xs → In l xs → before l (getD xs j []) → In l (take j xs)
@@ -130,7 +98,7 @@ before-take (x ∷ xs) (suc j) l a h (inr m) b = inr (before-take xs j l (a .1) 
 pub asc-at : (xs : List (List ℕ)) (i j : ℕ) → Ascending xs → i < j → j < length xs → before (getD xs i []) (getD xs j [])
 asc-at [] i j a h k = absurd (omega arith)
 asc-at (x ∷ xs) i zero a h k = absurd (omega arith)
-asc-at (x ∷ xs) zero (suc j) a h k = a .0 (getD xs j []) (at-in xs j (omega arith))
+asc-at (x ∷ xs) zero (suc j) a h k = a .0 (getD xs j []) (at-in xs j [] (omega arith))
 asc-at (x ∷ xs) (suc i) (suc j) a h k = asc-at xs i j (a .1) (omega arith) (omega arith)
 
 -- Two ascending lists with the same members are the same.

@@ -1,12 +1,12 @@
 -- The outcomes of the complete lists are the outcomes at the leaves.
 use mathlib.Core.Path.{_≡_, refl, sym, _∙_}
-use mathlib.Core.Bool.{Bool, true, false}
+use mathlib.Core.Bool.{Bool, true, false, cond}
 use mathlib.Core.Logic.{_⊎_, inl, inr, ⊎-elim, _↔_}
 use mathlib.Core.List.{List, [], _∷_}
 use Prim.Native.Nat.{ℕ, zero, suc}
 use lib.Dec.{ltb}
 use borrow.Author.Tests.{ltb-true}
-use Rattle.choices.specs.Tree.{Tree, give, stop, choose, limit, Run, gave, stopped, short, beyond, pick, follow, run, Outcome, value, refusal, Gives}
+use Rattle.choices.specs.Tree.{Tree, give, stop, choose, limit, Run, gave, stopped, short, beyond, follow, run, Outcome, value, refusal, Gives}
 use Rattle.choices.specs.Lists.{Complete, outcomeOf, NoMany}
 use Rattle.choices.specs.Paths.{cut}
 use Rattle.choices.specs.Laws.Paths.{gives-leaf}
@@ -47,7 +47,7 @@ follow-given (choose p n ways) zero l = inr refl
 follow-given (choose p n ways) (suc k) [] = tt
 follow-given {A} (choose p n ways) (suc k) (c ∷ l) = go (ltb c n) refl (follow (ways c) k l) (follow-given (ways c) k l)
   where
-    go : (b : Bool) → ltb c n ≡ b → (r : Run A) → Given (ways c) r → Given (choose p n ways) (pick b r (beyond p n (c ∷ l)))
+    go : (b : Bool) → ltb c n ≡ b → (r : Run A) → Given (ways c) r → Given (choose p n ways) (cond b r (beyond p n (c ∷ l)))
     go true e (gave a j m) h = (c, ltb-true c n e, h)
     go true e (stopped r q m) h = ⊎-elim (λ g. inl (c, ltb-true c n e, g)) inr h
     go true e (short q m) h = tt

@@ -1,12 +1,13 @@
 -- Where given entries run to 32: the complete lists that begin with them, in parts by their next entry.
 use mathlib.Core.Path.{_≡_, refl, sym, ap, _∙_, subst}
-use mathlib.Core.Bool.{Bool, true, false}
+use mathlib.Core.Bool.{Bool, true, false, cond}
 use mathlib.Core.List.{List, [], _∷_, _++_}
 use Prim.Native.Nat.{ℕ, zero, suc, _<_}
 use native.Mathlib.Omega.{arith}
 use lib.Dec.{ltb}
 use borrow.Author.Tests.{ltb-true}
-use Rattle.choices.specs.Tree.{Tree, give, stop, choose, limit, Full, short, beyond, pick, follow, run}
+use Rattle.prelude.specs.Laws.Absurd.{impossible}
+use Rattle.choices.specs.Tree.{Tree, give, stop, choose, limit, Full, short, beyond, follow, run}
 use Rattle.choices.specs.Lists.{Complete, before, Begins}
 use Rattle.choices.specs.Paths.{Leaf, first, cut}
 use Rattle.choices.specs.Laws.Order.{between-begins, before-at}
@@ -28,31 +29,31 @@ pub record Parts {A : Type 0} (t : Tree A) (l : List ℕ) (n : ℕ) : Type 0 whe
 
 -- where following l asks for one more entry, a path that begins with l has it
 opened : {A : Type 0} (t : Tree A) (k : ℕ) (l : List ℕ) (p n : ℕ) (rest : List ℕ) → follow t k l ≡ short p n → Leaf (cut k t) (l ++ rest) → (c : ℕ) × (m : List ℕ) × (c < n) × (rest ≡ c ∷ m)
-opened (give a) k l p n rest e h = let z : _≡_ {A = ℕ} 0 1 = cc in absurd (omega arith)
-opened (stop s q) k l p n rest e h = let z : _≡_ {A = ℕ} 0 1 = cc in absurd (omega arith)
-opened (choose q m ways) zero l p n rest e h = let z : _≡_ {A = ℕ} 0 1 = cc in absurd (omega arith)
+opened (give a) k l p n rest e h = impossible cc
+opened (stop s q) k l p n rest e h = impossible cc
+opened (choose q m ways) zero l p n rest e h = impossible cc
 opened (choose q m ways) (suc k) [] p n [] e h = absurd h
 opened (choose q m ways) (suc k) [] p n (c ∷ rest) e h = let d : m ≡ n = cc in (c, rest, omega (arith, h .0), refl)
 opened (choose q m ways) (suc k) (x ∷ l) p n rest e h = go (ltb x m) (λ d. opened (ways x) k l p n rest d (h .1)) e
   where
-    go : (b : Bool) → (follow (ways x) k l ≡ short p n → (c : ℕ) × (m : List ℕ) × (c < n) × (rest ≡ c ∷ m)) → pick b (follow (ways x) k l) (beyond q m (x ∷ l)) ≡ short p n → (c : ℕ) × (m : List ℕ) × (c < n) × (rest ≡ c ∷ m)
+    go : (b : Bool) → (follow (ways x) k l ≡ short p n → (c : ℕ) × (m : List ℕ) × (c < n) × (rest ≡ c ∷ m)) → cond b (follow (ways x) k l) (beyond q m (x ∷ l)) ≡ short p n → (c : ℕ) × (m : List ℕ) × (c < n) × (rest ≡ c ∷ m)
     go true rec d = rec d
-    go false rec d = let z : _≡_ {A = ℕ} 0 1 = cc in absurd (omega arith)
+    go false rec d = impossible cc
 
 -- and each of its n ways leads on to a leaf
 leads-on : {A : Type 0} (t : Tree A) (k : ℕ) (l : List ℕ) (p n c : ℕ) → Full t → follow t k l ≡ short p n → c < n → (rest : List ℕ) × Leaf (cut k t) (l ++ c ∷ rest)
-leads-on (give a) k l p n c f e h = let z : _≡_ {A = ℕ} 0 1 = cc in absurd (omega arith)
-leads-on (stop s q) k l p n c f e h = let z : _≡_ {A = ℕ} 0 1 = cc in absurd (omega arith)
-leads-on (choose q m ways) zero l p n c f e h = let z : _≡_ {A = ℕ} 0 1 = cc in absurd (omega arith)
+leads-on (give a) k l p n c f e h = impossible cc
+leads-on (stop s q) k l p n c f e h = impossible cc
+leads-on (choose q m ways) zero l p n c f e h = impossible cc
 leads-on (choose q m ways) (suc k) [] p n c f e h =
     let d : m ≡ n = cc in
     let lt : c < m = omega arith in
     (first (cut k (ways c)), (lt, first-leaf (cut k (ways c)) (full-cut k (ways c) (f .1 c lt))))
 leads-on (choose q m ways) (suc k) (x ∷ l) p n c f e h = go (ltb x m) refl (λ lt d. leads-on (ways x) k l p n c (f .1 x lt) d h) e
   where
-    go : (b : Bool) → ltb x m ≡ b → (x < m → follow (ways x) k l ≡ short p n → (rest : List ℕ) × Leaf (cut k (ways x)) (l ++ c ∷ rest)) → pick b (follow (ways x) k l) (beyond q m (x ∷ l)) ≡ short p n → (rest : List ℕ) × Leaf (cut (suc k) (choose q m ways)) (x ∷ (l ++ c ∷ rest))
+    go : (b : Bool) → ltb x m ≡ b → (x < m → follow (ways x) k l ≡ short p n → (rest : List ℕ) × Leaf (cut k (ways x)) (l ++ c ∷ rest)) → cond b (follow (ways x) k l) (beyond q m (x ∷ l)) ≡ short p n → (rest : List ℕ) × Leaf (cut (suc k) (choose q m ways)) (x ∷ (l ++ c ∷ rest))
     go true q rec d = let w = rec (ltb-true x m q) d in (w .0, (ltb-true x m q, w .1))
-    go false q rec d = let z : _≡_ {A = ℕ} 0 1 = cc in absurd (omega arith)
+    go false q rec d = impossible cc
 
 snoc : (l : List ℕ) (c : ℕ) (rest : List ℕ) → l ++ c ∷ rest ≡ (l ++ c ∷ []) ++ rest
 snoc [] c rest = refl

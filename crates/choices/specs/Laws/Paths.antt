@@ -1,6 +1,6 @@
 -- The paths of a tree are the lists that lead to its leaves, in dictionary order; entries and zeros lead to a leaf.
 use mathlib.Core.Path.{_≡_, refl, ap}
-use mathlib.Core.Bool.{Bool, true, false}
+use mathlib.Core.Bool.{Bool, true, false, cond}
 use mathlib.Core.Logic.{inl, inr, ⊎-elim, _↔_}
 use mathlib.Core.Option.{Option, none, some}
 use mathlib.Core.List.{List, [], _∷_, _++_}
@@ -10,10 +10,13 @@ use native.Mathlib.Decide.{ℕ-discrete}
 use lib.ListN.{length}
 use lib.Dec.{ltb}
 use borrow.Author.Tests.{ltb-true}
-use Rattle.choices.specs.Tree.{Tree, give, stop, choose, Full, pick, Outcome, Gives}
-use Rattle.choices.specs.Lists.{In, Ascending}
+use Rattle.prelude.specs.Laws.Absurd.{impossible}
+use Rattle.prelude.specs.Membership.{In}
+use Rattle.choices.specs.Tree.{Tree, give, stop, choose, Full, Outcome, Gives}
+use Rattle.choices.specs.Lists.{Ascending}
 use Rattle.choices.specs.Paths.{Leaf, Prefix, outcomeAt, counts, under, fan, paths, extend, first, orElse, raise}
-use Rattle.choices.specs.Laws.Order.{in-left, in-right, in-append, asc-append}
+use Rattle.prelude.specs.Laws.Membership.{in-left, in-right, in-joined}
+use Rattle.choices.specs.Laws.Order.{asc-append}
 
 -- ---- paths and leaves
 
@@ -41,7 +44,7 @@ fan-in c (suc m) h l e =
     ⊎-elim
     (λ a. let w = under-in c l (h c) a in (c, w .0, w .1, omega arith, omega arith, w .2))
     (λ b. let w = fan-in (suc c) m h l b in (w .0, w .1, w .2, omega (arith, w .3), omega (arith, w .4), w .5))
-    (in-append l (under c (h c)) (fan (suc c) m h) e)
+    (in-joined l (under c (h c)) (fan (suc c) m h) e)
 
 pub leaf-in : {A : Type 0} (t : Tree A) (l : List ℕ) → Leaf t l → In l (paths t)
 leaf-in (give a) [] h = inl refl
@@ -132,19 +135,19 @@ outcome-extend (choose p n ways) [] = outcome-extend (ways 0) []
 outcome-extend (choose p n ways) (c ∷ l) = outcome-extend (ways c) l
 
 -- What a path is raised to leads into the tree.
-pub raise-case : (n c : ℕ) (m : List ℕ) (b : Bool) → ltb (suc c) n ≡ b → pick b (some (suc c ∷ [])) none ≡ some m → (suc c < n) × (m ≡ suc c ∷ [])
+pub raise-case : (n c : ℕ) (m : List ℕ) (b : Bool) → ltb (suc c) n ≡ b → cond b (some (suc c ∷ [])) none ≡ some m → (suc c < n) × (m ≡ suc c ∷ [])
 raise-case n c m true e h = (ltb-true (suc c) n e, cc)
-raise-case n c m false e h = let z : _≡_ {A = ℕ} 0 1 = cc in absurd (omega arith)
+raise-case n c m false e h = impossible cc
 
 pub raise-prefix : {A : Type 0} (t : Tree A) (l m : List ℕ) → Leaf t l → raise l (counts t l) ≡ some m → Prefix t m
-raise-prefix (give a) [] m h e = let z : _≡_ {A = ℕ} 0 1 = cc in absurd (omega arith)
+raise-prefix (give a) [] m h e = impossible cc
 raise-prefix (give a) (c ∷ l) m h e = absurd h
-raise-prefix (stop r p) [] m h e = let z : _≡_ {A = ℕ} 0 1 = cc in absurd (omega arith)
+raise-prefix (stop r p) [] m h e = impossible cc
 raise-prefix (stop r p) (c ∷ l) m h e = absurd h
 raise-prefix (choose p n ways) [] m h e = absurd h
 raise-prefix (choose p n ways) (c ∷ l) m h e = go (raise l (counts (ways c) l)) refl (λ m′ d. raise-prefix (ways c) l m′ (h .1) d) e
   where
-    go : (o : Option (List ℕ)) → raise l (counts (ways c) l) ≡ o → ((m′ : List ℕ) → raise l (counts (ways c) l) ≡ some m′ → Prefix (ways c) m′) → orElse c o (pick (ltb (suc c) n) (some (suc c ∷ [])) none) ≡ some m → Prefix (choose p n ways) m
+    go : (o : Option (List ℕ)) → raise l (counts (ways c) l) ≡ o → ((m′ : List ℕ) → raise l (counts (ways c) l) ≡ some m′ → Prefix (ways c) m′) → orElse c o (cond (ltb (suc c) n) (some (suc c ∷ [])) none) ≡ some m → Prefix (choose p n ways) m
     go none d rec q = let w = raise-case n c m (ltb (suc c) n) refl q in rw (w .1) (w .0, prefix-nil (ways (suc c)))
     go (some m′) d rec q = let e : m ≡ c ∷ m′ = cc in rw e (h .0, rec m′ d)
 

@@ -1,6 +1,6 @@
 -- Running a tree on the state of the choices: one after the other, under a list that is given, and under one that grows.
 use mathlib.Core.Path.{_≡_, refl, sym, ap, _∙_}
-use mathlib.Core.Bool.{Bool, true, false}
+use mathlib.Core.Bool.{Bool, true, false, cond}
 use mathlib.Core.List.{List, [], _∷_, _++_, append-nil}
 use Prim.Native.Nat.{ℕ, zero, suc, _+_, _≤_, _<_}
 use native.Mathlib.Omega.{arith}
@@ -8,11 +8,12 @@ use lib.ListN.{length, length-append}
 use lib.Seq.{append-snoc}
 use lib.Dec.{ltb, leb}
 use borrow.Author.Tests.{lt-ltb, lt-leb, le-leb, ltb-true}
+use Rattle.prelude.specs.Laws.Absurd.{impossible}
 use Rattle.choices.specs.declared.Choices.{Choices}
 use Rattle.choices.specs.declared.Picked.{Picked}
 use Rattle.choices.specs.declared.Answer.{Answer}
 use Rattle.choices.specs.declared.Answer.the-variants.{Taken, Many, Short, Beyond}
-use Rattle.choices.specs.Tree.{Tree, give, stop, choose, bind, limit, Full, Numbered, Run, gave, stopped, short, beyond, pick, follow, run, Outcome, value, refusal, Gives, refuses, unlessLeft, final}
+use Rattle.choices.specs.Tree.{Tree, give, stop, choose, bind, limit, Full, Numbered, Run, gave, stopped, short, beyond, follow, run, Outcome, value, refusal, Gives, refuses, unlessLeft, final}
 use Rattle.choices.specs.Lists.{Ended, Complete, outcomeOf}
 use Rattle.choices.specs.Paths.{Leaf, Prefix, outcomeAt, counts, extend, Within, cut}
 use Rattle.choices.specs.State.{View, view, fresh, answerLeft, answerOf, afterwards, Chosen}
@@ -65,17 +66,17 @@ chosen {A} p ways c n r k a e =
 
 -- ---- what is taken and given
 
-pick-below : (b : Bool) (c n i : ℕ) → ltb c n ≡ b → pick b (Taken c) Beyond ≡ Taken i → i < n
+pick-below : (b : Bool) (c n i : ℕ) → ltb c n ≡ b → cond b (Taken c) Beyond ≡ Taken i → i < n
 pick-below true c n i e h = let d : c ≡ i = cc in omega (arith, ltb-true c n e)
-pick-below false c n i e h = let z : _≡_ {A = ℕ} 0 1 = cc in absurd (omega arith)
+pick-below false c n i e h = impossible cc
 
 left-below : (l : List ℕ) (g : Bool) (n i : ℕ) → 0 < n → answerLeft l g n ≡ Taken i → i < n
 left-below [] true n i h e = let d : _≡_ {A = ℕ} 0 i = cc in omega arith
-left-below [] false n i h e = let z : _≡_ {A = ℕ} 0 1 = cc in absurd (omega arith)
+left-below [] false n i h e = impossible cc
 left-below (c ∷ l) g n i h e = pick-below (ltb c n) c n i refl e
 
-room-below : (b : Bool) (l : List ℕ) (g : Bool) (n i : ℕ) → 0 < n → pick b Many (answerLeft l g n) ≡ Taken i → i < n
-room-below true l g n i h e = let z : _≡_ {A = ℕ} 0 1 = cc in absurd (omega arith)
+room-below : (b : Bool) (l : List ℕ) (g : Bool) (n i : ℕ) → 0 < n → cond b Many (answerLeft l g n) ≡ Taken i → i < n
+room-below true l g n i h e = impossible cc
 room-below false l g n i h e = left-below l g n i h e
 
 -- A way that is taken is one of the n.
@@ -88,14 +89,14 @@ chosen-below c n i r h k e = taken-below (view c) n i h (sym (k .answered) ∙ e
 -- A run's value is one that the tree gives.
 pub run-gives : {A : Type 0} (t : Tree A) (v w : View) (a : A) → Full t → runOn t v ≡ ran a w → Gives t (value a)
 run-gives (give b) v w a f e = cc
-run-gives (stop r p) v w a f e = let z : _≡_ {A = ℕ} 0 1 = cc in absurd (omega arith)
+run-gives (stop r p) v w a f e = impossible cc
 run-gives (choose p n ways) v w a f e = go (answerOf v n) refl (λ i h d. run-gives (ways i) (afterwards v n (Taken i)) w a (f .1 i h) d) e
   where
     go : (b : Answer) → answerOf v n ≡ b → ((i : ℕ) → i < n → runOn (ways i) (afterwards v n (Taken i)) ≡ ran a w → Gives (ways i) (value a)) → at b p n v (λ i. runOn (ways i) (afterwards v n (Taken i))) ≡ ran a w → (i : ℕ) × (i < n) × Gives (ways i) (value a)
     go (Taken i) q rec d = let h = taken-below v n i (f .0) q in (i, h, rec i h d)
-    go Many q rec d = let z : _≡_ {A = ℕ} 0 1 = cc in absurd (omega arith)
-    go Short q rec d = let z : _≡_ {A = ℕ} 0 1 = cc in absurd (omega arith)
-    go Beyond q rec d = let z : _≡_ {A = ℕ} 0 1 = cc in absurd (omega arith)
+    go Many q rec d = impossible cc
+    go Short q rec d = impossible cc
+    go Beyond q rec d = impossible cc
 
 -- ---- under a list that is given
 
@@ -105,7 +106,7 @@ state-as (stopped r p l) v = refl
 state-as (short p n) v = refl
 state-as (beyond p n l) v = refl
 
-pick-ran : {A : Type 0} (b : Bool) (c p n : ℕ) (l : List ℕ) (v : View) (on : ℕ → Ran A) (r : Run A) (w : View) → on c ≡ ranAs r w → at (pick b (Taken c) Beyond) p n v on ≡ ranAs (pick b r (beyond p n l)) (pick b w v)
+pick-ran : {A : Type 0} (b : Bool) (c p n : ℕ) (l : List ℕ) (v : View) (on : ℕ → Ran A) (r : Run A) (w : View) → on c ≡ ranAs r w → at (cond b (Taken c) Beyond) p n v on ≡ ranAs (cond b r (beyond p n l)) (cond b w v)
 pick-ran true c p n l v on r w h = h
 pick-ran false c p n l v on r w h = refl
 
@@ -133,7 +134,7 @@ leftOf (stopped r p l) = l
 leftOf (short p n) = []
 leftOf (beyond p n l) = l
 
-left-pick : {A : Type 0} (b : Bool) (p n c : ℕ) (l past met : List ℕ) (w : View) (r : Run A) → w .left ≡ leftOf r → pick b w (record { past = past; met = met; left = c ∷ l; grow = false }) .left ≡ leftOf (pick b r (beyond p n (c ∷ l)))
+left-pick : {A : Type 0} (b : Bool) (p n c : ℕ) (l past met : List ℕ) (w : View) (r : Run A) → w .left ≡ leftOf r → cond b w (record { past = past; met = met; left = c ∷ l; grow = false }) .left ≡ leftOf (cond b r (beyond p n (c ∷ l)))
 left-pick true p n c l past met w r h = h
 left-pick false p n c l past met w r h = refl
 

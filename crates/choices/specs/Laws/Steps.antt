@@ -1,6 +1,6 @@
 -- From the first path on, `next` goes through the paths of a tree one after the other, whatever their length.
 use mathlib.Core.Path.{_≡_, refl, ap, _∙_}
-use mathlib.Core.Bool.{Bool, true, false}
+use mathlib.Core.Bool.{Bool, true, false, cond}
 use mathlib.Core.Option.{Option, none, some}
 use mathlib.Core.List.{List, [], _∷_, _++_}
 use Prim.Native.Nat.{ℕ, zero, suc, _+_, _<_}
@@ -9,7 +9,8 @@ use native.Mathlib.Decide.{decLt}
 use lib.ListN.{length, getD}
 use lib.Dec.{ltb}
 use borrow.Author.Tests.{lt-ltb, le-ltb}
-use Rattle.choices.specs.Tree.{Tree, give, stop, choose, Full, pick}
+use Rattle.prelude.specs.Laws.Absurd.{impossible}
+use Rattle.choices.specs.Tree.{Tree, give, stop, choose, Full}
 use Rattle.choices.specs.Paths.{under, fan, paths, counts, extend, first, orElse, raise, onSome, next}
 
 -- the first of a list, else z
@@ -32,9 +33,9 @@ leads-append f (x ∷ xs) ys z a b = (a .0 ∙ head-append z xs ys, leads-append
 
 -- what follows the last path below the ways before c
 abbrev from : {A : Type 0} → ℕ → (ℕ → Tree A) → ℕ → Option (List ℕ)
-from n ways c = pick (ltb c n) (some (c ∷ first (ways c))) none
+from n ways c = cond (ltb c n) (some (c ∷ first (ways c))) none
 
-next-by : {A : Type 0} (p n : ℕ) (ways : ℕ → Tree A) (c : ℕ) (o : Option (List ℕ)) (b : Bool) → onSome (extend (choose p n ways)) (orElse c o (pick b (some (suc c ∷ [])) none)) ≡ orElse c (onSome (extend (ways c)) o) (pick b (some (suc c ∷ first (ways (suc c)))) none)
+next-by : {A : Type 0} (p n : ℕ) (ways : ℕ → Tree A) (c : ℕ) (o : Option (List ℕ)) (b : Bool) → onSome (extend (choose p n ways)) (orElse c o (cond b (some (suc c ∷ [])) none)) ≡ orElse c (onSome (extend (ways c)) o) (cond b (some (suc c ∷ first (ways (suc c)))) none)
 next-by p n ways c none true = refl
 next-by p n ways c none false = refl
 next-by p n ways c (some l) b = refl
@@ -55,7 +56,7 @@ leads-under p n ways c (l ∷ ls) r = (
 )
 
 head-under : (c : ℕ) (y : List ℕ) (xs ys : List (List ℕ)) → headOr none xs ≡ some y → headOr none (under c xs ++ ys) ≡ some (c ∷ y)
-head-under c y [] ys e = let z : _≡_ {A = ℕ} 0 1 = cc in absurd (omega arith)
+head-under c y [] ys e = impossible cc
 head-under c y (x ∷ xs) ys e = let d : x ≡ y = cc in ap (λ (l : List ℕ). some (c ∷ l)) d
 
 module _ {A : Type 0} (p n : ℕ) (ways : ℕ → Tree A) (heads : (j : ℕ) → j < n → headOr none (paths (ways j)) ≡ some (first (ways j))) where
@@ -98,7 +99,7 @@ leads-end f (x ∷ y ∷ xs) z r zero h = absurd (omega arith)
 leads-end f (x ∷ y ∷ xs) z r (suc k) h = leads-end f (y ∷ xs) z (r .1) k (omega arith)
 
 head-get : (xs : List (List ℕ)) (y : List ℕ) → headOr none xs ≡ some y → (0 < length xs) × (getD xs 0 [] ≡ y)
-head-get [] y e = let z : _≡_ {A = ℕ} 0 1 = cc in absurd (omega arith)
+head-get [] y e = impossible cc
 head-get (x ∷ xs) y e = (omega arith, cc)
 
 -- There is a path, and the first is the path of zeros.
@@ -119,12 +120,12 @@ next-some t f k m h e = go (decLt (suc k) (length (paths t)))
   where
     go : Dec (suc k < length (paths t)) → (suc k < length (paths t)) × (m ≡ getD (paths t) (suc k) [])
     go (yes lt) = let q = next-path t f k lt in (lt, cc)
-    go (no n) = let q = next-ends t f k (omega arith) in let z : _≡_ {A = ℕ} 0 1 = cc in absurd (omega arith)
+    go (no n) = let q = next-ends t f k (omega arith) in impossible cc
 
 -- None comes after the last only.
 pub next-none : {A : Type 0} (t : Tree A) → Full t → (k : ℕ) → k < length (paths t) → next t (getD (paths t) k []) ≡ none → suc k ≡ length (paths t)
 next-none t f k h e = go (decLt (suc k) (length (paths t)))
   where
     go : Dec (suc k < length (paths t)) → suc k ≡ length (paths t)
-    go (yes lt) = let q = next-path t f k lt in let z : _≡_ {A = ℕ} 0 1 = cc in absurd (omega arith)
+    go (yes lt) = let q = next-path t f k lt in impossible cc
     go (no n) = omega arith

@@ -1,12 +1,13 @@
 -- The laws of `bind`: what it keeps, following it under a list, and what it can come to.
 use mathlib.Core.Path.{_≡_, refl, sym, ap, _∙_, subst}
-use mathlib.Core.Bool.{Bool, true, false}
+use mathlib.Core.Bool.{Bool, true, false, cond}
 use mathlib.Core.Logic.{_⊎_, inl, inr, ⊎-elim, _↔_}
 use mathlib.Core.List.{List, [], _∷_}
 use Prim.Native.Nat.{ℕ, zero, suc, _≤_}
 use native.Mathlib.Omega.{arith}
 use lib.Dec.{ltb}
-use Rattle.choices.specs.Tree.{Tree, give, stop, choose, bind, Full, Numbered, Run, gave, stopped, short, beyond, pick, follow, Outcome, value, refusal, Gives}
+use Rattle.prelude.specs.Laws.Absurd.{impossible}
+use Rattle.choices.specs.Tree.{Tree, give, stop, choose, bind, Full, Numbered, Run, gave, stopped, short, beyond, follow, Outcome, value, refusal, Gives}
 
 -- ---- equations
 
@@ -34,7 +35,7 @@ onward (stopped r p l) f = stopped r p l
 onward (short p n) f = short p n
 onward (beyond p n l) f = beyond p n l
 
-onward-pick : {A B : Type 0} (b : Bool) (r s : Run A) (f : A → ℕ → List ℕ → Run B) → onward (pick b r s) f ≡ pick b (onward r f) (onward s f)
+onward-pick : {A B : Type 0} (b : Bool) (r s : Run A) (f : A → ℕ → List ℕ → Run B) → onward (cond b r s) f ≡ cond b (onward r f) (onward s f)
 onward-pick true r s f = refl
 onward-pick false r s f = refl
 
@@ -45,7 +46,7 @@ follow-bind (stop r p) f k l = refl
 follow-bind (choose p n ways) f zero l = refl
 follow-bind (choose p n ways) f (suc k) [] = refl
 follow-bind (choose p n ways) f (suc k) (c ∷ l) =
-    ap (λ r. pick (ltb c n) r (beyond p n (c ∷ l))) (follow-bind (ways c) f k l)
+    ap (λ r. cond (ltb c n) r (beyond p n (c ∷ l))) (follow-bind (ways c) f k l)
     ∙ sym (onward-pick (ltb c n) (follow (ways c) k l) (beyond p n (c ∷ l)) (λ a k′ l′. follow (f a) k′ l′))
 
 -- ---- outcomes
@@ -59,7 +60,7 @@ abbrev pub Through : {A B : Type 0} → Tree A → (A → Tree B) → Outcome B 
 Through {A} t f o = (a : A) × Gives t (value a) × Gives (f a) o
 
 value≢refusal : {A : Type 0} {a : A} {r p : ℕ} → _≡_ {A = Outcome A} (value a) (refusal r p) → ⊥
-value≢refusal e = let z : _≡_ {A = ℕ} 0 1 = cc in omega arith
+value≢refusal e = impossible cc
 
 pub gives-bind-out : {A B : Type 0} (t : Tree A) (f : A → Tree B) (o : Outcome B) → Gives (bind t f) o → Refuses t o ⊎ Through t f o
 gives-bind-out (give a) f o h = inr (a, refl, h)

@@ -1,7 +1,7 @@
 -- The walk: the first complete list, the next after each, how many come before, and what lists that are not complete answer.
 -- All of it holds for every tree whose choices have a way each, also where some run meets one choice too many.
 use mathlib.Core.Path.{_≡_, refl, sym, ap, _∙_, subst}
-use mathlib.Core.Bool.{Bool, true, false}
+use mathlib.Core.Bool.{Bool, true, false, cond}
 use mathlib.Core.Logic.{_⊎_, inl, inr, ⊎-elim, _↔_}
 use mathlib.Core.Option.{Option, none, some}
 use mathlib.Core.List.{List, [], _∷_}
@@ -12,10 +12,12 @@ use lib.ListN.{length, getD, take}
 use lib.Seq.{length-take-le}
 use lib.Dec.{ltb}
 use borrow.Author.Tests.{ltb-true}
-use Rattle.choices.specs.Tree.{Tree, give, stop, choose, limit, Full, Numbered, Run, gave, stopped, short, beyond, pick, follow, run, Outcome, value, refusal, Final, result, refuses, final}
+use Rattle.prelude.specs.Laws.Absurd.{impossible}
+use Rattle.choices.specs.Tree.{Tree, give, stop, choose, limit, Full, Numbered, Run, gave, stopped, short, beyond, follow, run, Outcome, value, refusal, Final, result, refuses, final}
 use Rattle.choices.specs.Lists.{Ended, Complete, outcomeOf, before, CountBefore, First, Next}
 use Rattle.choices.specs.Paths.{cut, allLists, firstList, nextList}
-use Rattle.choices.specs.Laws.Order.{before-irrefl, before-asym, before-total, at-in, in-at, in-take, asc-take, take-before, before-take, asc-at, asc-same}
+use Rattle.prelude.specs.Laws.Membership.{at-in, in-at, in-take}
+use Rattle.choices.specs.Laws.Order.{before-irrefl, before-asym, before-total, asc-take, take-before, before-take, asc-at, asc-same}
 use Rattle.choices.specs.Laws.Paths.{paths-ascend}
 use Rattle.choices.specs.Laws.Steps.{first-path, next-some, next-none}
 use Rattle.choices.specs.Laws.Cut.{full-cut, complete-path}
@@ -40,10 +42,10 @@ next-unique t l m n a b =
 module _ {A : Type 0} (t : Tree A) where
   -- a complete list stands at an index
   at : (l : List ℕ) → Complete t l → (j : ℕ) × (j < length (allLists t)) × (l ≡ getD (allLists t) j [])
-  at l h = in-at l (allLists t) (complete-path t l .0 h)
+  at l h = in-at l (allLists t) [] (complete-path t l .0 h)
 
   complete-at : (j : ℕ) → j < length (allLists t) → Complete t (getD (allLists t) j [])
-  complete-at j h = complete-path t (getD (allLists t) j []) .1 (at-in (allLists t) j h)
+  complete-at j h = complete-path t (getD (allLists t) j []) .1 (at-in (allLists t) j [] h)
 
   -- as many come before it as its index says
   count-at : (j : ℕ) → j < length (allLists t) → CountBefore t (getD (allLists t) j []) j
@@ -146,9 +148,9 @@ module _ {A : Type 0} (t : Tree A) where
 
 ended? : {A : Type 0} (r : Run A) → Dec (Ended r)
 ended? (gave a k []) = yes refl
-ended? (gave a k (c ∷ l)) = no (λ e. let z : _≡_ {A = ℕ} 0 1 = cc in omega arith)
+ended? (gave a k (c ∷ l)) = no (λ e. impossible cc)
 ended? (stopped r p []) = yes refl
-ended? (stopped r p (c ∷ l)) = no (λ e. let z : _≡_ {A = ℕ} 0 1 = cc in omega arith)
+ended? (stopped r p (c ∷ l)) = no (λ e. impossible cc)
 ended? (short p n) = no (λ e. e)
 ended? (beyond p n l) = no (λ e. e)
 
@@ -179,9 +181,9 @@ finalOf (refusal r p) = refuses r p 0
 
 ended-final : {A : Type 0} (last : ℕ) (r : Run A) → Ended r → final last r ≡ finalOf (outcomeOf r)
 ended-final last (gave a k []) h = refl
-ended-final last (gave a k (c ∷ l)) h = let z : _≡_ {A = ℕ} 0 1 = cc in absurd (omega arith)
+ended-final last (gave a k (c ∷ l)) h = impossible cc
 ended-final last (stopped r p []) h = refl
-ended-final last (stopped r p (c ∷ l)) h = let z : _≡_ {A = ℕ} 0 1 = cc in absurd (omega arith)
+ended-final last (stopped r p (c ∷ l)) h = impossible cc
 ended-final last (short p n) h = absurd h
 ended-final last (beyond p n l) h = absurd h
 
@@ -191,15 +193,15 @@ complete-final t l last h = ended-final last (run t l) h
 
 -- A run that is stopped is stopped by one of 20 to 31.
 pub stopped-number : {A : Type 0} (t : Tree A) (k : ℕ) (l : List ℕ) (r p : ℕ) (left : List ℕ) → Numbered t → follow t k l ≡ stopped r p left → (20 ≤ r) × (r ≤ 31)
-stopped-number (give a) k l r p left n e = let z : _≡_ {A = ℕ} 0 1 = cc in absurd (omega arith)
+stopped-number (give a) k l r p left n e = impossible cc
 stopped-number (stop s q) k l r p left n e = let d : s ≡ r = cc in (omega (arith, n .0), omega (arith, n .1))
 stopped-number (choose q m ways) zero l r p left n e = let d : _≡_ {A = ℕ} 31 r = cc in (omega arith, omega arith)
-stopped-number (choose q m ways) (suc k) [] r p left n e = let z : _≡_ {A = ℕ} 0 1 = cc in absurd (omega arith)
+stopped-number (choose q m ways) (suc k) [] r p left n e = impossible cc
 stopped-number {A} (choose q m ways) (suc k) (c ∷ l) r p left n e = go (ltb c m) refl (λ lt d. stopped-number (ways c) k l r p left (n c lt) d) e
   where
-    go : (b : Bool) → ltb c m ≡ b → (c < m → follow (ways c) k l ≡ stopped r p left → (20 ≤ r) × (r ≤ 31)) → pick b (follow (ways c) k l) (beyond q m (c ∷ l)) ≡ stopped r p left → (20 ≤ r) × (r ≤ 31)
+    go : (b : Bool) → ltb c m ≡ b → (c < m → follow (ways c) k l ≡ stopped r p left → (20 ≤ r) × (r ≤ 31)) → cond b (follow (ways c) k l) (beyond q m (c ∷ l)) ≡ stopped r p left → (20 ≤ r) × (r ≤ 31)
     go true h rec d = rec (ltb-true c m h) d
-    go false h rec d = let z : _≡_ {A = ℕ} 0 1 = cc in absurd (omega arith)
+    go false h rec d = impossible cc
 
 -- A value, or a refusal below 32.
 abbrev pub Whole : {A : Type 0} → Final A → Type 0
@@ -216,9 +218,9 @@ whole-ended last (beyond p n l) h = absurd (omega arith)
 
 ended-whole : {A : Type 0} (last : ℕ) (r : Run A) → ((n p : ℕ) (l : List ℕ) → r ≡ stopped n p l → n ≤ 31) → Ended r → Whole (final last r)
 ended-whole last (gave a k []) m h = tt
-ended-whole last (gave a k (c ∷ l)) m h = let z : _≡_ {A = ℕ} 0 1 = cc in absurd (omega arith)
+ended-whole last (gave a k (c ∷ l)) m h = impossible cc
 ended-whole last (stopped r p []) m h = omega (arith, m r p [] refl)
-ended-whole last (stopped r p (c ∷ l)) m h = let z : _≡_ {A = ℕ} 0 1 = cc in absurd (omega arith)
+ended-whole last (stopped r p (c ∷ l)) m h = impossible cc
 ended-whole last (short p n) m h = absurd h
 ended-whole last (beyond p n l) m h = absurd h
 

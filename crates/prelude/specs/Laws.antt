@@ -1,0 +1,4 @@
+-- What only proofs need.
+pub mod Absurd
+pub mod Truth
+pub mod Membership

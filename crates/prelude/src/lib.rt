@@ -1,0 +1,1 @@
+// What every crate stands on: definitions and laws, in specs/.
