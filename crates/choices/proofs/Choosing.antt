@@ -11,7 +11,7 @@ use borrow.Author.Tests.{lt-ltb, le-ltb, le-leb, lt-leb}
 use Rattle.choices.specs.declared.Choices.{Choices}
 use Rattle.choices.specs.declared.Answer.the-variants.{Taken, Many, Short, Beyond}
 use Rattle.choices.specs.Tree.{limit}
-use Rattle.choices.specs.Laws.States.{left-cons, left-nil}
+use Rattle.choices.proofs.States.{left-cons, left-nil}
 use Rattle.choices.specs.State.{view, Sound, answerLeft, answerOf, rest, Chosen, taking}
 
 module _ (c : Choices) (n : ℕ) (s : Sound c) where

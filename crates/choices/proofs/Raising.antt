@@ -12,7 +12,7 @@ use borrow.Author.Tests.{lt-ltb, le-ltb}
 use Rattle.choices.specs.declared.Choices.{Choices}
 use Rattle.choices.specs.Paths.{raise}
 use Rattle.choices.specs.State.{View, Sound, fresh, Made, Moved}
-use Rattle.choices.specs.Laws.States.{left-cons, left-nil}
+use Rattle.choices.proofs.States.{left-cons, left-nil}
 
 -- a list of two parts, of which the second can be raised
 raise-append : (xs ns ys ms z : List ℕ) → length xs ≡ length ns → raise ys ms ≡ some z → raise (xs ++ ys) (ns ++ ms) ≡ some (xs ++ z)

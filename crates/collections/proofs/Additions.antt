@@ -8,22 +8,22 @@ use native.Mathlib.Omega.{arith}
 use borrow.Author.Tests.{le-leb, lt-leb}
 use lib.ListN.{length}
 use lib.Seq.{sets}
-use Rattle.prelude.specs.Laws.Absurd.{impossible}
+use Rattle.prelude.proofs.Absurd.{impossible}
 use Rattle.integers.specs.Bytes.{word}
 use Rattle.values.specs.Value.{Kind, set, sequence, number, Value, collection, Items, none, more, size, sizes, Shaped, limit}
 use Rattle.values.specs.Items.{isMember, join, snoc, insert}
 use Rattle.values.specs.Place.{At, ItemsAt}
-use Rattle.values.specs.Encoding.{size-low, snoc-sizes, collection-size}
-use Rattle.values.specs.Records.{word-size, holds, items-to, no-items, joined, parted, collection-shaped}
-use Rattle.values.specs.Written.{heading, closed}
-use Rattle.values.specs.Frame.{items-below, outside-then, outside-none}
-use Rattle.values.specs.Contract.{PutHead}
+use Rattle.values.proofs.Encoding.{size-low, snoc-sizes, collection-size}
+use Rattle.values.proofs.Records.{word-size, holds, items-to, no-items, joined, parted, collection-shaped}
+use Rattle.values.specs.Contract.{heading, PutHead}
+use Rattle.values.proofs.Written.{closed}
+use Rattle.values.proofs.Frame.{items-below, outside-then, outside-none}
 use Rattle.collections.specs.declared.building.Added.{Added}
 use Rattle.collections.specs.declared.building.Added.the-variants.{Done as Put, Full as TooLong}
 use Rattle.collections.specs.declared.finding.Sought.{Sought}
 use Rattle.collections.specs.declared.finding.Sought.the-variants.{Here, Before}
-use Rattle.collections.specs.Members.{insert-present, sizes-insert, ascending-insert}
-use Rattle.collections.specs.Seeking.{Member, belongs}
+use Rattle.values.proofs.Members.{insert-present, sizes-insert, ascending-insert}
+use Rattle.collections.proofs.Seeking.{Member, belongs}
 use Rattle.collections.specs.Finding.{Seeks}
 use Rattle.collections.proofs.Sights.{sight, contained}
 use Rattle.collections.specs.Building.{added, Room, Apart, Empties, Retags, Appends, Inserts}

@@ -8,22 +8,22 @@ use Prim.Native.Nat.{ℕ, _+_, _≤_, _<_}
 use native.Mathlib.Omega.{arith}
 use borrow.Author.Tests.{le-leb, lt-leb}
 use lib.Dec.{leb}
-use Rattle.prelude.specs.Laws.Absurd.{impossible}
+use Rattle.prelude.proofs.Absurd.{impossible}
 use Rattle.integers.specs.Bytes.{word}
 use Rattle.values.specs.Value.{map, Value, collection, Items, more, size, sizes, Shaped, limit}
 use Rattle.values.specs.Items.{join, same, lookup, enter}
 use Rattle.values.specs.Place.{At, ItemsAt}
-use Rattle.values.specs.Laws.{same-true}
-use Rattle.values.specs.Encoding.{size-low, more-sizes, collection-size}
-use Rattle.values.specs.Records.{word-size, holds, collection-shaped}
-use Rattle.values.specs.Frame.{items-below, at-below, at-above, outside-then, outside-none}
+use Rattle.values.proofs.Order.{same-true}
+use Rattle.values.proofs.Encoding.{size-low, more-sizes, collection-size}
+use Rattle.values.proofs.Records.{word-size, holds, collection-shaped}
+use Rattle.values.proofs.Frame.{items-below, at-below, at-above, outside-then, outside-none}
 use Rattle.values.specs.Contract.{PutHead, Equal}
 use Rattle.collections.specs.declared.building.Entered.{Entered}
 use Rattle.collections.specs.declared.building.Entered.the-variants.{Done, Clash, Full}
 use Rattle.collections.specs.declared.finding.Sought.{Sought}
 use Rattle.collections.specs.declared.finding.Sought.the-variants.{Here, Before}
-use Rattle.collections.specs.Entries.{enter-present, sizes-enter, paired-enter, ascending-enter}
-use Rattle.collections.specs.Seeking.{Key, belongs}
+use Rattle.values.proofs.Entries.{enter-present, sizes-enter, paired-enter, ascending-enter}
+use Rattle.collections.proofs.Seeking.{Key, belongs}
 use Rattle.collections.specs.Finding.{Seeks}
 use Rattle.collections.specs.Building.{opened, entered, EntryRoom, Apart, Enters}
 use Rattle.collections.specs.Steps.{Gap, Fills, Slot, EntersAt}

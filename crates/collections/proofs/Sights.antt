@@ -9,11 +9,11 @@ use Rattle.integers.specs.Bytes.{word}
 use Rattle.values.specs.Value.{Kind, set, map, Value, Items, more, collection, size, sizes}
 use Rattle.values.specs.Items.{isMember, join, lookup}
 use Rattle.values.specs.Place.{At, ItemsAt}
-use Rattle.values.specs.Records.{word-size, collection-shaped, items-of, parted, first-of}
+use Rattle.values.proofs.Records.{word-size, collection-shaped, items-of, parted, first-of}
 use Rattle.collections.specs.declared.finding.Found.the-variants.{At as Place, Nothing}
 use Rattle.collections.specs.declared.finding.Sought.{Sought}
 use Rattle.collections.specs.declared.finding.Sought.the-variants.{Here, Before}
-use Rattle.collections.specs.Seeking.{Member, Key, present, belongs, seek-member, seek-key}
+use Rattle.collections.proofs.Seeking.{Member, Key, present, belongs, seek-member, seek-key}
 use Rattle.collections.specs.Finding.{HoldsKind, HoldsCollection, Seeks, Within, found, missing, Contains, AtKey}
 
 pub some-kind : {k : Kind} {s : List ℕ} {at : ℕ} → HoldsKind k s at → HoldsCollection s at

@@ -8,7 +8,7 @@ use Rattle.integers.specs.Bytes.{word}
 use Rattle.values.specs.Value.{Kind, Value, Items, none, more, collection}
 use Rattle.values.specs.Items.{nth}
 use Rattle.values.specs.Place.{At, ItemsAt}
-use Rattle.values.specs.Records.{run, word-size, items-to, items-none}
+use Rattle.values.proofs.Records.{run, word-size, items-to, items-none}
 use Rattle.collections.specs.declared.finding.Found.the-variants.{At as Place, Nothing}
 use Rattle.collections.specs.Finding.{HoldsCollection, Within, found, missing, Item}
 

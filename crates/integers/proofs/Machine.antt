@@ -10,10 +10,10 @@ use lib.Signed.{mag, ltZ, quotZ, remZ, mag-rem, natAbs-le}
 use mir.Syntax.{w32, w64}
 use mir.Val.{SFits, toZ, ofZ}
 use mir.Facts.{toZ-ofZ, sfits-widen}
-use Rattle.prelude.specs.Laws.Absurd.{never}
+use Rattle.prelude.proofs.Absurd.{never}
 use Rattle.integers.specs.Whole.{divℤ}
-use Rattle.integers.specs.Parts.{sub-ind}
-use Rattle.integers.specs.Division.{natAbs-neg}
+use Rattle.integers.proofs.Parts.{sub-ind}
+use Rattle.integers.proofs.Division.{natAbs-neg}
 
 -- ---- how large a result can be
 

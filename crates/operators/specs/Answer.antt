@@ -1,10 +1,10 @@
 -- What an operator answers: a value, or a refusal by its number in document 01, "From the state of the run".
 use mathlib.Core.Bool.{Bool, cond}
 use mathlib.Core.Option.{Option, none as absent, some}
-use Prim.Native.Nat.{ℕ, _+_}
+use Prim.Native.Nat.{ℕ, _+_, _≤_}
 use lib.Dec.{leb, eqb}
 use lib.IntN.{ℤ}
-use Rattle.values.specs.Value.{Kind, number, Value, boolean, integer, collection, Items, sizes, limit}
+use Rattle.values.specs.Value.{Kind, number, Value, boolean, integer, collection, Items, sizes, limit, WellFormed}
 
 pub data Answer : Type 0 where
   is : Value → Answer
@@ -86,3 +86,8 @@ closed k (stopped n) = refused n
 -- The collection of these items, unless it is over 512 bytes.
 abbrev pub sized : Kind → Items → Answer
 sized k vs = closed k (fitting vs)
+
+-- An answer as the code of an operator needs it: a well-formed value, or a refusal from 20 to 28. (All answers are: `operator_laws`, Results.)
+abbrev pub Fine : Answer → Type 0
+Fine (is v) = WellFormed v
+Fine (refused n) = (20 ≤ n) × (n ≤ 28)

@@ -1,3 +1,2 @@
--- What every crate stands on: membership of a list, and laws of tests and of impossible equations. Cited by all crates.
+-- What is among a list. Cited by choices, patterns and meaning; the laws in proofs/ by all crates.
 pub mod Membership
-pub mod Laws

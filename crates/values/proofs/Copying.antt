@@ -12,8 +12,8 @@ use Rattle.values.specs.declared.Value.{Value as Copy}
 use Rattle.values.specs.Value.{size, encode, limit}
 use Rattle.values.specs.Place.{Holds}
 use Rattle.values.specs.Contract.{Movable, Moved, Copyable, Copied, Length, zeros, ShowsAt}
-use Rattle.values.specs.Frame.{moved}
-use Rattle.values.specs.Encoding.{encode-length}
+use Rattle.values.proofs.Frame.{moved}
+use Rattle.values.proofs.Encoding.{encode-length}
 
 -- ---- within one list
 

@@ -13,8 +13,8 @@ use Rattle.integers.specs.Order.{orderℕ, orderℤ}
 use Rattle.values.specs.Items.{isSame}
 use Rattle.values.specs.Place.{At, ItemsAt, Holds, HoldsItems}
 use Rattle.values.specs.Contract.{Length, KindAt, Both, Ordered, OrderedItems, Equal}
-use Rattle.integers.specs.Ordered.{same-eq, eq-same}
-use Rattle.values.specs.Records.{one-value, is-collection, items-to, items-none, run-of, holds}
+use Rattle.integers.proofs.Ordered.{same-eq, eq-same}
+use Rattle.values.proofs.Records.{one-value, is-collection, items-to, items-none, run-of, holds}
 
 -- ---- two values
 

@@ -17,7 +17,7 @@ use Rattle.values.specs.Value.{set, sequence, map, tuple, Value, boolean
 use Rattle.integers.specs.Order.{orderℤ}
 use Rattle.values.specs.Place.{At, Holds}
 use Rattle.values.specs.Contract.{Length, KindAt}
-use Rattle.values.specs.Records.{word-size, word-kind, boolean-at, integer-at, is-boolean, is-integer}
+use Rattle.values.proofs.Records.{word-size, word-kind, boolean-at, integer-at, is-boolean, is-integer}
 
 -- ---- length and kind
 

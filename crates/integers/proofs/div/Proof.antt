@@ -3,7 +3,7 @@ use mathlib.Core.Path.{sym, ap, _∙_}
 use borrow.Author.Needs.{needs}
 use lib.Signed.{quotZ}
 use Rattle.integers.specs.Whole.{answer, divℤ}
-use Rattle.integers.specs.Range.{divided-zero, divided-other}
+use Rattle.integers.proofs.Range.{divided-zero, divided-other}
 use Rattle.integers.proofs.Machine.{widen-fits, quot-fits, wide-fits, wide-is, bits-zero, bits-other, divisor, div-quot}
 use Rattle.integers.proofs.div.Statement.{statement}
 use Rattle.integers.proofs.div.Tie as tie

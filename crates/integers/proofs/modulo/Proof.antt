@@ -4,7 +4,7 @@ use borrow.Author.Needs.{needs}
 use mir.Syntax.{w64}
 use mir.Facts.{toZ-ofZ}
 use Rattle.integers.specs.Whole.{answer, modℤ}
-use Rattle.integers.specs.Range.{divided-zero, divided-other}
+use Rattle.integers.proofs.Range.{divided-zero, divided-other}
 use Rattle.integers.proofs.Machine.{bits-zero, bits-other}
 use Rattle.integers.proofs.modulo.Statement.{statement}
 use Rattle.integers.proofs.modulo.Tie as tie

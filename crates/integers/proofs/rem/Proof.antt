@@ -3,8 +3,8 @@ use mathlib.Core.Path.{sym, ap, _∙_}
 use borrow.Author.Needs.{needs}
 use lib.Signed.{quotZ, remZ}
 use Rattle.integers.specs.Whole.{answer, remℤ}
-use Rattle.integers.specs.Range.{divided-zero, divided-other}
-use Rattle.integers.specs.Division.{rem-sizes}
+use Rattle.integers.proofs.Range.{divided-zero, divided-other}
+use Rattle.integers.proofs.Division.{rem-sizes}
 use Rattle.integers.proofs.Machine.{widen-fits, quot-fits, rem-fits, wide-fits, wide-is, bits-zero, bits-other, divisor}
 use Rattle.integers.proofs.rem.Statement.{statement}
 use Rattle.integers.proofs.rem.Tie as tie

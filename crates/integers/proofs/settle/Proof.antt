@@ -6,7 +6,7 @@ use mir.Syntax.{w32}
 use mir.Val.{SFits}
 use mir.Facts.{toZ-ofZ}
 use Rattle.integers.specs.Whole.{least, greatest, InRange}
-use Rattle.integers.specs.Range.{below-range, above-range, within-range, range-fits, answer-in, answer-out}
+use Rattle.integers.proofs.Range.{below-range, above-range, within-range, range-fits, answer-in, answer-out}
 use Rattle.integers.proofs.settle.Statement.{statement}
 use Rattle.integers.proofs.settle.Tie as tie
 

@@ -1,4 +1,0 @@
--- What only proofs need.
-pub mod Absurd
-pub mod Truth
-pub mod Membership
