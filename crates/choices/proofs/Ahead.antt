@@ -13,7 +13,7 @@ use lib.ListN.{length}
 use borrow.Author.Tests.{ltb-false}
 use Rattle.prelude.proofs.Absurd.{impossible}
 use Rattle.choices.specs.Tree.{Tree, give, stop, choose, Full, Outcome, value, refusal, Gives}
-use Rattle.choices.specs.Paths.{outcomeAt, counts, extend, orElse, raise}
+use Rattle.choices.specs.Paths.{outcomeAt, counts, extend, consOr, raise}
 use Rattle.choices.proofs.Paths.{raise-case}
 use Rattle.choices.proofs.Rank.{Bytes, rank, rank-nil, rank-below}
 
@@ -108,7 +108,7 @@ module _ {A : Type 0} (R : A → Tree A → Type 0) (p n q m : ℕ) (f g : ℕ �
           from (yes s) = inr (inl (omega arith, ahead-all (g (suc c)) o (subst (λ (x : ℕ). Gives (g x) o) s h)))
           from (no s) = inr (inr (i, omega (arith, s), z, h))
 
-      go : (x : Option (List ℕ)) → raise (extend (f c) l) (counts (f c) (extend (f c) l)) ≡ x → orElse c x (cond (ltb (suc c) n) (some (suc c ∷ [])) none) ≡ some y
+      go : (x : Option (List ℕ)) → raise (extend (f c) l) (counts (f c) (extend (f c) l)) ≡ x → consOr c x (cond (ltb (suc c) n) (some (suc c ∷ [])) none) ≡ some y
           → Into (choose q m g) y × ((o : Outcome A) → Rest o → Gives (w .beneath) o ⊎ Ahead (choose q m g) y o)
       go (some x) b z = let s : y ≡ c ∷ x = cc in rw s ((omega arith, w .onward x b .0), within x b)
       go none b z = let s = raise-case n c y (ltb (suc c) n) refl z in rw (s .1) ((omega (arith, s .0), into-nil (g (suc c))), across b)
@@ -120,7 +120,7 @@ module _ {A : Type 0} (R : A → Tree A → Type 0) (p n q m : ℕ) (f g : ℕ �
       last true s z = impossible cc
       last false s z = ltb-false (suc c) n s
 
-      go : (y : Option (List ℕ)) → raise (extend (f c) l) (counts (f c) (extend (f c) l)) ≡ y → orElse c y (cond (ltb (suc c) n) (some (suc c ∷ [])) none) ≡ none → Rest o → Gives (w .beneath) o
+      go : (y : Option (List ℕ)) → raise (extend (f c) l) (counts (f c) (extend (f c) l)) ≡ y → consOr c y (cond (ltb (suc c) n) (some (suc c ∷ [])) none) ≡ none → Rest o → Gives (w .beneath) o
       go (some y) b z h = impossible cc
       go none b z (inl (j, h)) = w .ended b o h
       go none b z (inr (i, j, s, h)) = absurd (omega (arith, last (ltb (suc c) n) refl z))
@@ -165,7 +165,7 @@ headed : (n c : ℕ) (e ns : List ℕ) (k : ℕ) (l m : List ℕ) → Bytes l �
 unfolding rank
 headed n c e ns k l m b rec d = go (raise e ns) refl d
   where
-    go : (o : Option (List ℕ)) → raise e ns ≡ o → orElse c o (cond (ltb (suc c) n) (some (suc c ∷ [])) none) ≡ some m → c * 256 ^ k + rank k l < rank (suc k) m
+    go : (o : Option (List ℕ)) → raise e ns ≡ o → consOr c o (cond (ltb (suc c) n) (some (suc c ∷ [])) none) ≡ some m → c * 256 ^ k + rank k l < rank (suc k) m
     go none q z =
         let w = raise-case n c m (ltb (suc c) n) refl z in
         let s : suc c * 256 ^ k ≡ c * 256 ^ k + 256 ^ k = suc-mul c (256 ^ k) in

@@ -12,7 +12,7 @@ use Rattle.choices.specs.declared.Answer.the-variants.{Taken, Many, Shor
 use Rattle.choices.specs.Tree.{Tree, give, stop, choose, bind, Full, Numbered, value, Gives, Final, result, refuses, final, run}
 use Rattle.choices.specs.Lists.{Complete}
 use Rattle.choices.specs.Paths.{firstList, nextList}
-use Rattle.choices.specs.State.{View, view, fresh, Sound, Made, Chosen, Moved}
+use Rattle.choices.specs.State.{View, view, fresh, Invariant, Made, Chosen, Moved}
 use Rattle.choices.specs.Runs.{runOn, stateOf, ranAs, atEnd, settle, endedBy, Came}
 use Rattle.choices.proofs.Runs.{bind-ran, bind-refused, chosen, run-gives, state-as, run-final, run-complete}
 use Rattle.choices.proofs.States.{unless-none, unless-some, Holds, end-holds}
@@ -20,10 +20,10 @@ use Rattle.choices.proofs.Stepping.{first-run, step-more}
 
 -- ---- the parts of a run
 
-pub came-give : {A : Type 0} (a : A) {c : Choices} → Sound c → Came (give a) c (result a) c
+pub came-give : {A : Type 0} (a : A) {c : Choices} → Invariant c → Came (give a) c (result a) c
 came-give a s = record { right = refl; sound = s }
 
-pub came-stop : {A : Type 0} (r p : ℕ) {c : Choices} → Sound c → Came {A = A} (stop r p) c (refuses r p 0) c
+pub came-stop : {A : Type 0} (r p : ℕ) {c : Choices} → Invariant c → Came {A = A} (stop r p) c (refuses r p 0) c
 came-stop r p s = record { right = refl; sound = s }
 
 -- A choice that was made.
@@ -59,7 +59,7 @@ state-ended (result a) v = refl
 state-ended (refuses r p n) v = refl
 
 -- What it finally answers, by the tests that tell it.
-module _ {A : Type 0} (last : ℕ) (d : Choices) (s : Sound d) where
+module _ {A : Type 0} (last : ℕ) (d : Choices) (s : Invariant d) where
   pub settled-value : (a : A) → d .len ≤ d .used → settle last (endedBy (result a) (view d)) ≡ result a
   settled-value a h = unless-none d s last (result a) h
 

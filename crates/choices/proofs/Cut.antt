@@ -10,27 +10,27 @@ use lib.Dec.{ltb}
 use borrow.Author.Tests.{lt-ltb, ltb-true}
 use Rattle.prelude.proofs.Absurd.{impossible}
 use Rattle.prelude.specs.Membership.{In}
-use Rattle.choices.specs.Tree.{Tree, give, stop, choose, limit, Full, stopped, beyond, follow, run, Outcome, Gives}
+use Rattle.choices.specs.Tree.{Tree, give, stop, choose, mostChoices, Full, stopped, beyond, follow, run, Outcome, Gives}
 use Rattle.choices.specs.Lists.{Ended, Complete, outcomeOf, NoMany}
-use Rattle.choices.specs.Paths.{Leaf, outcomeAt, Within, cut, allLists}
+use Rattle.choices.specs.Paths.{Leaf, outcomeAt, AtMost, cutAfter, allLists}
 use Rattle.choices.proofs.Paths.{leaf-in, in-leaf}
 
 -- ---- the cut tree
 
-pub within-cut : {A : Type 0} (k : ℕ) (t : Tree A) → Within k (cut k t)
+pub within-cut : {A : Type 0} (k : ℕ) (t : Tree A) → AtMost k (cutAfter k t)
 within-cut k (give a) = tt
 within-cut k (stop r p) = tt
 within-cut zero (choose p n ways) = tt
 within-cut (suc k) (choose p n ways) = λ i h. within-cut k (ways i)
 
-pub full-cut : {A : Type 0} (k : ℕ) (t : Tree A) → Full t → Full (cut k t)
+pub full-cut : {A : Type 0} (k : ℕ) (t : Tree A) → Full t → Full (cutAfter k t)
 full-cut k (give a) f = tt
 full-cut k (stop r p) f = tt
 full-cut zero (choose p n ways) f = tt
 full-cut (suc k) (choose p n ways) f = (f .0, λ i h. full-cut k (ways i) (f .1 i h))
 
 -- Following the cut tree is following the tree.
-pub follow-cut : {A : Type 0} (k : ℕ) (t : Tree A) (l : List ℕ) → follow (cut k t) k l ≡ follow t k l
+pub follow-cut : {A : Type 0} (k : ℕ) (t : Tree A) (l : List ℕ) → follow (cutAfter k t) k l ≡ follow t k l
 follow-cut k (give a) l = refl
 follow-cut k (stop r p) l = refl
 follow-cut zero (choose p n ways) l = refl
@@ -38,30 +38,30 @@ follow-cut (suc k) (choose p n ways) [] = refl
 follow-cut (suc k) (choose p n ways) (c ∷ l) = ap (λ r. cond (ltb c n) r (beyond p n (c ∷ l))) (follow-cut k (ways c) l)
 
 -- Where no path has more than k choices the cut takes nothing away.
-pub gives-cut : {A : Type 0} (k : ℕ) (t : Tree A) (o : Outcome A) → Within k t → Gives (cut k t) o ↔ Gives t o
+pub gives-cut : {A : Type 0} (k : ℕ) (t : Tree A) (o : Outcome A) → AtMost k t → Gives (cutAfter k t) o ↔ Gives t o
 gives-cut {A} k t o w = (out k t w, back k t w)
   where
-    out : (k : ℕ) (t : Tree A) → Within k t → Gives (cut k t) o → Gives t o
+    out : (k : ℕ) (t : Tree A) → AtMost k t → Gives (cutAfter k t) o → Gives t o
     out k (give a) w h = h
     out k (stop r p) w h = h
     out zero (choose p n ways) w h = absurd w
     out (suc k) (choose p n ways) w h = (h .0, h .1, out k (ways (h .0)) (w (h .0) (h .1)) (h .2))
 
-    back : (k : ℕ) (t : Tree A) → Within k t → Gives t o → Gives (cut k t) o
+    back : (k : ℕ) (t : Tree A) → AtMost k t → Gives t o → Gives (cutAfter k t) o
     back k (give a) w h = h
     back k (stop r p) w h = h
     back zero (choose p n ways) w h = absurd w
     back (suc k) (choose p n ways) w h = (h .0, h .1, back k (ways (h .0)) (w (h .0) (h .1)) (h .2))
 
 -- A tree none of whose runs ends in 31 has at most so many choices on each path.
-no-many : {A : Type 0} (k : ℕ) (t : Tree A) → ((l : List ℕ) (p : ℕ) (left : List ℕ) → length l ≤ k → follow t k l ≡ stopped 31 p left → ⊥) → Within k t
+no-many : {A : Type 0} (k : ℕ) (t : Tree A) → ((l : List ℕ) (p : ℕ) (left : List ℕ) → length l ≤ k → follow t k l ≡ stopped 31 p left → ⊥) → AtMost k t
 no-many k (give a) h = tt
 no-many k (stop r p) h = tt
 no-many zero (choose p n ways) h = absurd (h [] p [] (omega arith) refl)
 no-many (suc k) (choose p n ways) h = λ i lt. no-many k (ways i) (λ l q left b e. h (i ∷ l) q left (omega arith) (rw (lt-ltb i n lt) e))
 
-pub no-many-within : {A : Type 0} (t : Tree A) → NoMany t → Within limit t
-no-many-within t h = no-many limit t h
+pub no-many-within : {A : Type 0} (t : Tree A) → NoMany t → AtMost mostChoices t
+no-many-within t h = no-many mostChoices t h
 
 -- ---- following to a leaf
 
@@ -69,7 +69,7 @@ cons≢nil : {c : ℕ} {l : List ℕ} → _≡_ {A = List ℕ} (c ∷ l) [] → 
 cons≢nil e = impossible cc
 
 -- A path's run ends at its leaf, with no entry left.
-pub leaf-ended : {A : Type 0} (t : Tree A) (k : ℕ) (l : List ℕ) → Within k t → Leaf t l → Ended (follow t k l) × (outcomeOf (follow t k l) ≡ outcomeAt t l)
+pub leaf-ended : {A : Type 0} (t : Tree A) (k : ℕ) (l : List ℕ) → AtMost k t → Leaf t l → Ended (follow t k l) × (outcomeOf (follow t k l) ≡ outcomeAt t l)
 leaf-ended (give a) k [] w h = (refl, refl)
 leaf-ended (give a) k (c ∷ l) w h = absurd h
 leaf-ended (stop r p) k [] w h = (refl, refl)
@@ -78,7 +78,7 @@ leaf-ended (choose p n ways) zero l w h = absurd w
 leaf-ended (choose p n ways) (suc k) [] w h = absurd h
 leaf-ended (choose p n ways) (suc k) (c ∷ l) w h = rw (lt-ltb c n (h .0)) (leaf-ended (ways c) k l (w c (h .0)) (h .1))
 
-ended-leaf : {A : Type 0} (t : Tree A) (k : ℕ) (l : List ℕ) → Within k t → Ended (follow t k l) → Leaf t l
+ended-leaf : {A : Type 0} (t : Tree A) (k : ℕ) (l : List ℕ) → AtMost k t → Ended (follow t k l) → Leaf t l
 ended-leaf (give a) k [] w h = tt
 ended-leaf (give a) k (c ∷ l) w h = absurd (cons≢nil h)
 ended-leaf (stop r p) k [] w h = tt
@@ -92,7 +92,7 @@ ended-leaf (choose p n ways) (suc k) (c ∷ l) w h = go (ltb c n) refl (λ lt e.
     go false e rec d = absurd d
 
 -- A path has no more entries than choices are allowed.
-pub leaf-length : {A : Type 0} (k : ℕ) (t : Tree A) (l : List ℕ) → Within k t → Leaf t l → length l ≤ k
+pub leaf-length : {A : Type 0} (k : ℕ) (t : Tree A) (l : List ℕ) → AtMost k t → Leaf t l → length l ≤ k
 leaf-length k (give a) [] w h = omega arith
 leaf-length k (give a) (c ∷ l) w h = absurd h
 leaf-length k (stop r p) [] w h = omega arith
@@ -104,19 +104,19 @@ leaf-length (suc k) (choose p n ways) (c ∷ l) w h = omega (arith, leaf-length 
 -- ---- complete lists
 
 module _ {A : Type 0} (t : Tree A) (l : List ℕ) where
-  pub complete-leaf : Complete t l → Leaf (cut limit t) l
-  complete-leaf h = ended-leaf (cut limit t) limit l (within-cut limit t) (subst Ended (sym (follow-cut limit t l)) h)
+  pub complete-leaf : Complete t l → Leaf (cutAfter mostChoices t) l
+  complete-leaf h = ended-leaf (cutAfter mostChoices t) mostChoices l (within-cut mostChoices t) (subst Ended (sym (follow-cut mostChoices t l)) h)
 
-  pub leaf-complete : Leaf (cut limit t) l → Complete t l
-  leaf-complete h = subst Ended (follow-cut limit t l) (leaf-ended (cut limit t) limit l (within-cut limit t) h .0)
+  pub leaf-complete : Leaf (cutAfter mostChoices t) l → Complete t l
+  leaf-complete h = subst Ended (follow-cut mostChoices t l) (leaf-ended (cutAfter mostChoices t) mostChoices l (within-cut mostChoices t) h .0)
 
   -- A list is complete exactly when it is the path of a leaf of the cut tree.
   pub complete-path : Complete t l ↔ In l (allLists t)
-  complete-path = (λ h. leaf-in (cut limit t) l (complete-leaf h), λ h. leaf-complete (in-leaf (cut limit t) l h))
+  complete-path = (λ h. leaf-in (cutAfter mostChoices t) l (complete-leaf h), λ h. leaf-complete (in-leaf (cutAfter mostChoices t) l h))
 
-  pub complete-outcome : Complete t l → outcomeOf (run t l) ≡ outcomeAt (cut limit t) l
-  complete-outcome h = ap outcomeOf (sym (follow-cut limit t l)) ∙ leaf-ended (cut limit t) limit l (within-cut limit t) (complete-leaf h) .1
+  pub complete-outcome : Complete t l → outcomeOf (run t l) ≡ outcomeAt (cutAfter mostChoices t) l
+  complete-outcome h = ap outcomeOf (sym (follow-cut mostChoices t l)) ∙ leaf-ended (cutAfter mostChoices t) mostChoices l (within-cut mostChoices t) (complete-leaf h) .1
 
   -- A complete list has at most 64 entries.
-  pub complete-length : Complete t l → length l ≤ limit
-  complete-length h = leaf-length limit (cut limit t) l (within-cut limit t) (complete-leaf h)
+  pub complete-length : Complete t l → length l ≤ mostChoices
+  complete-length h = leaf-length mostChoices (cutAfter mostChoices t) l (within-cut mostChoices t) (complete-leaf h)

@@ -8,7 +8,7 @@ use native.Mathlib.Decide.{decLt}
 use lib.ListN.{length, getD, take}
 use Rattle.prelude.proofs.Membership.{in-joined, at-in, in-take}
 use Rattle.prelude.specs.Membership.{In}
-use Rattle.choices.specs.Lists.{before, Ascending, Begins}
+use Rattle.choices.specs.Lists.{before, AscendingLists, Begins}
 
 -- ---- the order
 
@@ -67,27 +67,27 @@ before-at (c ∷ l) x y u v h = inr (refl, before-at l x y u v h)
 
 -- ---- ascending
 
-pub asc-append : (xs ys : List (List ℕ)) → Ascending xs → Ascending ys → ((x y : List ℕ) → In x xs → In y ys → before x y) → Ascending (xs ++ ys)
+pub asc-append : (xs ys : List (List ℕ)) → AscendingLists xs → AscendingLists ys → ((x y : List ℕ) → In x xs → In y ys → before x y) → AscendingLists (xs ++ ys)
 asc-append [] ys a b h = b
 asc-append (x ∷ xs) ys a b h = (
   λ y m. ⊎-elim (λ e. a .0 y e) (λ e. h x y (inl refl) e) (in-joined y xs ys m),
   asc-append xs ys (a .1) b (λ u v p q. h u v (inr p) q),
 )
 
-pub asc-take : (xs : List (List ℕ)) (j : ℕ) → Ascending xs → Ascending (take j xs)
+pub asc-take : (xs : List (List ℕ)) (j : ℕ) → AscendingLists xs → AscendingLists (take j xs)
 asc-take [] zero a = tt
 asc-take [] (suc j) a = tt
 asc-take (x ∷ xs) zero a = tt
 asc-take (x ∷ xs) (suc j) a = (λ y m. a .0 y (in-take y xs j m), asc-take xs j (a .1))
 
 -- The first j of an ascending list are those before the one at j.
-pub take-before : (xs : List (List ℕ)) (j : ℕ) (l : List ℕ) → Ascending xs → j < length xs → In l (take j xs) → before l (getD xs j [])
+pub take-before : (xs : List (List ℕ)) (j : ℕ) (l : List ℕ) → AscendingLists xs → j < length xs → In l (take j xs) → before l (getD xs j [])
 take-before [] j l a h m = absurd (omega arith)
 take-before (x ∷ xs) zero l a h m = absurd m
 take-before (x ∷ xs) (suc j) l a h (inl e) = subst (λ (y : List ℕ). before y (getD xs j [])) (sym e) (a .0 (getD xs j []) (at-in xs j [] (omega arith)))
 take-before (x ∷ xs) (suc j) l a h (inr m) = take-before xs j l (a .1) (omega arith) m
 
-pub before-take : (xs : List (List ℕ)) (j : ℕ) (l : List ℕ) → Ascending xs → j < length xs → In l xs → before l (getD xs j []) → In l (take j xs)
+pub before-take : (xs : List (List ℕ)) (j : ℕ) (l : List ℕ) → AscendingLists xs → j < length xs → In l xs → before l (getD xs j []) → In l (take j xs)
 before-take [] j l a h m b = absurd m
 before-take (x ∷ xs) zero l a h (inl e) b = absurd (before-irrefl x (subst (λ (y : List ℕ). before y x) e b))
 before-take (x ∷ xs) zero l a h (inr m) b = absurd (before-asym l x b (a .0 l m))
@@ -95,14 +95,14 @@ before-take (x ∷ xs) (suc j) l a h (inl e) b = inl e
 before-take (x ∷ xs) (suc j) l a h (inr m) b = inr (before-take xs j l (a .1) (omega arith) m b)
 
 -- What stands before a later index stands before the earlier one, or is the one there.
-pub asc-at : (xs : List (List ℕ)) (i j : ℕ) → Ascending xs → i < j → j < length xs → before (getD xs i []) (getD xs j [])
+pub asc-at : (xs : List (List ℕ)) (i j : ℕ) → AscendingLists xs → i < j → j < length xs → before (getD xs i []) (getD xs j [])
 asc-at [] i j a h k = absurd (omega arith)
 asc-at (x ∷ xs) i zero a h k = absurd (omega arith)
 asc-at (x ∷ xs) zero (suc j) a h k = a .0 (getD xs j []) (at-in xs j [] (omega arith))
 asc-at (x ∷ xs) (suc i) (suc j) a h k = asc-at xs i j (a .1) (omega arith) (omega arith)
 
 -- Two ascending lists with the same members are the same.
-pub asc-same : (xs ys : List (List ℕ)) → Ascending xs → Ascending ys → ((l : List ℕ) → In l xs ↔ In l ys) → xs ≡ ys
+pub asc-same : (xs ys : List (List ℕ)) → AscendingLists xs → AscendingLists ys → ((l : List ℕ) → In l xs ↔ In l ys) → xs ≡ ys
 asc-same [] [] a b h = refl
 asc-same [] (y ∷ ys) a b h = absurd (h y .1 (inl refl))
 asc-same (x ∷ xs) [] a b h = absurd (h x .0 (inl refl))

@@ -6,9 +6,9 @@ use mathlib.Core.List.{List, [], _∷_}
 use Prim.Native.Nat.{ℕ, zero, suc}
 use lib.Dec.{ltb}
 use borrow.Author.Tests.{ltb-true}
-use Rattle.choices.specs.Tree.{Tree, give, stop, choose, limit, Run, gave, stopped, short, beyond, follow, run, Outcome, value, refusal, Gives}
+use Rattle.choices.specs.Tree.{Tree, give, stop, choose, mostChoices, Run, gave, stopped, short, beyond, follow, run, Outcome, value, refusal, Gives}
 use Rattle.choices.specs.Lists.{Complete, outcomeOf, NoMany}
-use Rattle.choices.specs.Paths.{cut}
+use Rattle.choices.specs.Paths.{cutAfter}
 use Rattle.choices.proofs.Paths.{gives-leaf}
 use Rattle.choices.proofs.Cut.{complete-leaf, leaf-complete, complete-outcome, gives-cut, no-many-within}
 
@@ -17,20 +17,20 @@ abbrev pub Reached : {A : Type 0} → Tree A → Outcome A → Type 0
 Reached t o = (l : List ℕ) × Complete t l × (o ≡ outcomeOf (run t l))
 
 -- The complete lists reach what the cut tree gives.
-pub gives-cut-reached : {A : Type 0} (t : Tree A) (o : Outcome A) → Gives (cut limit t) o ↔ Reached t o
+pub gives-cut-reached : {A : Type 0} (t : Tree A) (o : Outcome A) → Gives (cutAfter mostChoices t) o ↔ Reached t o
 gives-cut-reached t o = (
   λ h.
-      let w = gives-leaf (cut limit t) o .0 h in
+      let w = gives-leaf (cutAfter mostChoices t) o .0 h in
       let c = leaf-complete t (w .0) (w .1) in
       (w .0, c, w .2 ∙ sym (complete-outcome t (w .0) c)),
-  λ w. gives-leaf (cut limit t) o .1 (w .0, complete-leaf t (w .0) (w .1), w .2 ∙ complete-outcome t (w .0) (w .1)),
+  λ w. gives-leaf (cutAfter mostChoices t) o .1 (w .0, complete-leaf t (w .0) (w .1), w .2 ∙ complete-outcome t (w .0) (w .1)),
 )
 
 -- Where no run meets one choice too many, they reach exactly what the tree gives.
 pub gives-reached : {A : Type 0} (t : Tree A) (o : Outcome A) → NoMany t → Gives t o ↔ Reached t o
 gives-reached t o n = (
-  λ h. gives-cut-reached t o .0 (gives-cut limit t o (no-many-within t n) .1 h),
-  λ w. gives-cut limit t o (no-many-within t n) .0 (gives-cut-reached t o .1 w),
+  λ h. gives-cut-reached t o .0 (gives-cut mostChoices t o (no-many-within t n) .1 h),
+  λ w. gives-cut mostChoices t o (no-many-within t n) .0 (gives-cut-reached t o .1 w),
 )
 
 -- What a single run comes to, whatever the others meet: a value or a refusal that the tree gives, or 31.

@@ -14,18 +14,18 @@ use Rattle.prelude.proofs.Absurd.{impossible}
 use Rattle.prelude.proofs.Membership.{in-left, in-right, in-joined}
 use Rattle.prelude.specs.Membership.{In}
 use Rattle.choices.specs.Tree.{Tree, give, stop, choose, Full, Outcome, Gives}
-use Rattle.choices.specs.Lists.{Ascending}
-use Rattle.choices.specs.Paths.{Leaf, Prefix, outcomeAt, counts, under, fan, paths, extend, first, orElse, raise}
+use Rattle.choices.specs.Lists.{AscendingLists}
+use Rattle.choices.specs.Paths.{Leaf, Prefix, outcomeAt, counts, prefixed, fan, paths, extend, firstPath, consOr, raise}
 use Rattle.choices.proofs.Order.{asc-append}
 
 -- ---- paths and leaves
 
-pub in-under : (c : ℕ) (l : List ℕ) (ls : List (List ℕ)) → In l ls → In (c ∷ l) (under c ls)
+pub in-under : (c : ℕ) (l : List ℕ) (ls : List (List ℕ)) → In l ls → In (c ∷ l) (prefixed c ls)
 in-under c l [] h = absurd h
 in-under c l (x ∷ ls) (inl e) = inl (ap (λ (y : List ℕ). c ∷ y) e)
 in-under c l (x ∷ ls) (inr h) = inr (in-under c l ls h)
 
-pub under-in : (c : ℕ) (l : List ℕ) (ls : List (List ℕ)) → In l (under c ls) → (m : List ℕ) × (l ≡ c ∷ m) × In m ls
+pub under-in : (c : ℕ) (l : List ℕ) (ls : List (List ℕ)) → In l (prefixed c ls) → (m : List ℕ) × (l ≡ c ∷ m) × In m ls
 under-in c l [] h = absurd h
 under-in c l (x ∷ ls) (inl e) = (x, e, inl refl)
 under-in c l (x ∷ ls) (inr h) = let w = under-in c l ls h in (w .0, w .1, inr (w .2))
@@ -34,9 +34,9 @@ pub in-fan : (c m : ℕ) (h : ℕ → List (List ℕ)) (x : ℕ) (l : List ℕ) 
 in-fan c zero h x l a b e = absurd (omega arith)
 in-fan c (suc m) h x l a b e = go (ℕ-discrete c x) (λ d. in-fan (suc c) m h x l d (omega arith) e)
   where
-    go : Dec (c ≡ x) → (suc c ≤ x → In (x ∷ l) (fan (suc c) m h)) → In (x ∷ l) (under c (h c) ++ fan (suc c) m h)
-    go (yes q) rec = in-left (x ∷ l) (under c (h c)) (fan (suc c) m h) (rw q (in-under x l (h x) e))
-    go (no q) rec = in-right (x ∷ l) (under c (h c)) (fan (suc c) m h) (rec (omega (arith, q)))
+    go : Dec (c ≡ x) → (suc c ≤ x → In (x ∷ l) (fan (suc c) m h)) → In (x ∷ l) (prefixed c (h c) ++ fan (suc c) m h)
+    go (yes q) rec = in-left (x ∷ l) (prefixed c (h c)) (fan (suc c) m h) (rw q (in-under x l (h x) e))
+    go (no q) rec = in-right (x ∷ l) (prefixed c (h c)) (fan (suc c) m h) (rec (omega (arith, q)))
 
 pub fan-in : (c m : ℕ) (h : ℕ → List (List ℕ)) (l : List ℕ) → In l (fan c m h) → (x : ℕ) × (r : List ℕ) × (l ≡ x ∷ r) × (c ≤ x) × (x < c + m) × In r (h x)
 fan-in c zero h l e = absurd e
@@ -44,7 +44,7 @@ fan-in c (suc m) h l e =
     ⊎-elim
     (λ a. let w = under-in c l (h c) a in (c, w .0, w .1, omega arith, omega arith, w .2))
     (λ b. let w = fan-in (suc c) m h l b in (w .0, w .1, w .2, omega (arith, w .3), omega (arith, w .4), w .5))
-    (in-joined l (under c (h c)) (fan (suc c) m h) e)
+    (in-joined l (prefixed c (h c)) (fan (suc c) m h) e)
 
 pub leaf-in : {A : Type 0} (t : Tree A) (l : List ℕ) → Leaf t l → In l (paths t)
 leaf-in (give a) [] h = inl refl
@@ -65,20 +65,20 @@ in-leaf (choose p n ways) l h =
 
 -- ---- the paths ascend
 
-asc-under : (c : ℕ) (ls : List (List ℕ)) → Ascending ls → Ascending (under c ls)
+asc-under : (c : ℕ) (ls : List (List ℕ)) → AscendingLists ls → AscendingLists (prefixed c ls)
 asc-under c [] a = tt
 asc-under c (l ∷ ls) a = (
   λ y m. let w = under-in c y ls m in rw (w .1) (inr (refl, a .0 (w .0) (w .2))),
   asc-under c ls (a .1),
 )
 
-asc-fan : (c m : ℕ) (h : ℕ → List (List ℕ)) → ((j : ℕ) → Ascending (h j)) → Ascending (fan c m h)
+asc-fan : (c m : ℕ) (h : ℕ → List (List ℕ)) → ((j : ℕ) → AscendingLists (h j)) → AscendingLists (fan c m h)
 asc-fan c zero h a = tt
 asc-fan c (suc m) h a =
-    asc-append (under c (h c)) (fan (suc c) m h) (asc-under c (h c) (a c)) (asc-fan (suc c) m h a)
+    asc-append (prefixed c (h c)) (fan (suc c) m h) (asc-under c (h c) (a c)) (asc-fan (suc c) m h a)
     (λ x y p q. let u = under-in c x (h c) p in let v = fan-in (suc c) m h y q in rw (u .1, v .2) (inl (v .3)))
 
-pub paths-ascend : {A : Type 0} (t : Tree A) → Ascending (paths t)
+pub paths-ascend : {A : Type 0} (t : Tree A) → AscendingLists (paths t)
 paths-ascend (give a) = (λ y m. absurd m, tt)
 paths-ascend (stop r p) = (λ y m. absurd m, tt)
 paths-ascend (choose p n ways) = asc-fan 0 n (λ i. paths (ways i)) (λ j. paths-ascend (ways j))
@@ -107,7 +107,7 @@ extend-leaf (stop r p) (c ∷ l) f q = absurd q
 extend-leaf (choose p n ways) [] f q = (f .0, extend-leaf (ways 0) [] (f .1 0 (f .0)) (prefix-nil (ways 0)))
 extend-leaf (choose p n ways) (c ∷ l) f q = (q .0, extend-leaf (ways c) l (f .1 c (q .0)) (q .1))
 
-pub first-leaf : {A : Type 0} (t : Tree A) → Full t → Leaf t (first t)
+pub first-leaf : {A : Type 0} (t : Tree A) → Full t → Leaf t (firstPath t)
 first-leaf t f = extend-leaf t [] f (prefix-nil t)
 
 -- A path is not extended.
@@ -147,7 +147,7 @@ raise-prefix (stop r p) (c ∷ l) m h e = absurd h
 raise-prefix (choose p n ways) [] m h e = absurd h
 raise-prefix (choose p n ways) (c ∷ l) m h e = go (raise l (counts (ways c) l)) refl (λ m′ d. raise-prefix (ways c) l m′ (h .1) d) e
   where
-    go : (o : Option (List ℕ)) → raise l (counts (ways c) l) ≡ o → ((m′ : List ℕ) → raise l (counts (ways c) l) ≡ some m′ → Prefix (ways c) m′) → orElse c o (cond (ltb (suc c) n) (some (suc c ∷ [])) none) ≡ some m → Prefix (choose p n ways) m
+    go : (o : Option (List ℕ)) → raise l (counts (ways c) l) ≡ o → ((m′ : List ℕ) → raise l (counts (ways c) l) ≡ some m′ → Prefix (ways c) m′) → consOr c o (cond (ltb (suc c) n) (some (suc c ∷ [])) none) ≡ some m → Prefix (choose p n ways) m
     go none d rec q = let w = raise-case n c m (ltb (suc c) n) refl q in rw (w .1) (w .0, prefix-nil (ways (suc c)))
     go (some m′) d rec q = let e : m ≡ c ∷ m′ = cc in rw e (h .0, rec m′ d)
 

@@ -7,8 +7,8 @@ use native.Mathlib.Omega.{arith}
 use lib.ListN.{length, take, drop, getD, length-take, length-drop, drop-of-length-le, take-append-drop, replicate, length-replicate, getD-replicate}
 use lib.Seq.{drop-cons, getD-take, getD-drop, length-take-le, take-take, ext-getD}
 use Rattle.choices.specs.declared.Choices.{Choices}
-use Rattle.choices.specs.Tree.{Tree, limit, Final, refuses, unlessLeft}
-use Rattle.choices.specs.State.{View, view, Sound, padded}
+use Rattle.choices.specs.Tree.{Tree, mostChoices, Final, refuses, unlessLeft}
+use Rattle.choices.specs.State.{View, view, Invariant, padded}
 use Rattle.choices.specs.Runs.{atEnd}
 
 -- ---- the entries left
@@ -22,7 +22,7 @@ left-cons e used len h k =
 pub left-nil : (e : List ℕ) (used len : ℕ) → len ≤ used → drop used (take len e) ≡ []
 left-nil e used len h = drop-of-length-le (take len e) {i = used} (simp length-take (omega arith))
 
-module _ (c : Choices) (s : Sound c) where
+module _ (c : Choices) (s : Invariant c) where
   -- A test of the numbers tells whether entries are left.
   pub left-none : c .len ≤ c .used → view c .left ≡ []
   left-none h = left-nil (c .entries) (c .used) (c .len) h
@@ -47,17 +47,17 @@ module _ (c : Choices) (s : Sound c) where
   pub list-length : c .len ≡ length (view c .past ++ view c .left)
   list-length = sym (ap length list-split ∙ length-take-le (c .len) (c .entries) (omega arith))
 
-  zeros : drop (c .len) (c .entries) ≡ replicate (limit - c .len) 0
+  zeros : drop (c .len) (c .entries) ≡ replicate (mostChoices - c .len) 0
   zeros =
-      let d : length (drop (c .len) (c .entries)) ≡ limit - c .len = simp length-drop (omega arith) in
-      ext-getD 0 (drop (c .len) (c .entries)) (replicate (limit - c .len) 0) (d ∙ sym (length-replicate (limit - c .len) 0))
-      (λ i h. getD-drop (c .len) (c .entries) i 0 ∙ s .zeroed (c .len + i) (omega arith) ∙ sym (getD-replicate (limit - c .len) i 0 0 (omega arith)))
+      let d : length (drop (c .len) (c .entries)) ≡ mostChoices - c .len = simp length-drop (omega arith) in
+      ext-getD 0 (drop (c .len) (c .entries)) (replicate (mostChoices - c .len) 0) (d ∙ sym (length-replicate (mostChoices - c .len) 0))
+      (λ i h. getD-drop (c .len) (c .entries) i 0 ∙ s .zeroed (c .len + i) (omega arith) ∙ sym (getD-replicate (mostChoices - c .len) i 0 0 (omega arith)))
 
   -- They are its entries, with zeros after them.
   pub list-entries : c .entries ≡ padded (view c .past ++ view c .left)
   list-entries =
       sym (take-append-drop (c .len) (c .entries))
-      ∙ ap₂ (λ (a b : List ℕ). a ++ b) (sym list-split) (zeros ∙ ap (λ (n : ℕ). replicate (limit - n) 0) list-length)
+      ∙ ap₂ (λ (a b : List ℕ). a ++ b) (sym list-split) (zeros ∙ ap (λ (n : ℕ). replicate (mostChoices - n) 0) list-length)
 
 -- ---- at the end of a complete list
 
@@ -67,7 +67,7 @@ pub record Holds (c : Choices) (l : List ℕ) : Type 0 where
   pub used : c .used ≡ c .len
   pub entries : c .entries ≡ padded l
 
-pub end-holds : {A : Type 0} (t : Tree A) (l : List ℕ) (g : Bool) (c : Choices) → Sound c → view c ≡ atEnd t l g → Holds c l
+pub end-holds : {A : Type 0} (t : Tree A) (l : List ℕ) (g : Bool) (c : Choices) → Invariant c → view c ≡ atEnd t l g → Holds c l
 end-holds t l g c s e =
     let p : view c .past ≡ l = ap (λ (v : View). v .past) e in
     let q : view c .left ≡ [] = ap (λ (v : View). v .left) e in

@@ -6,9 +6,9 @@ use mathlib.Core.List.{List, []}
 use Prim.Native.Nat.{ℕ}
 use Rattle.choices.specs.declared.Choices.{Choices}
 use Rattle.choices.specs.declared.Advanced.{Advanced}
-use Rattle.choices.specs.Tree.{Tree, limit, Full, run}
+use Rattle.choices.specs.Tree.{Tree, mostChoices, Full, run}
 use Rattle.choices.specs.Lists.{Complete}
-use Rattle.choices.specs.Paths.{counts, extend, raise, onSome, cut, firstList, nextList}
+use Rattle.choices.specs.Paths.{counts, extend, raise, onSome, cutAfter, firstList, nextList}
 use Rattle.choices.specs.State.{View, view, fresh, maybe, Moved}
 use Rattle.choices.specs.Runs.{runOn, stateOf, ranAs, atEnd}
 use Rattle.choices.proofs.Paths.{prefix-nil, raise-prefix}
@@ -17,7 +17,7 @@ use Rattle.choices.proofs.Runs.{state-as, run-grow}
 
 -- A growing run from nothing runs the first list, and leaves the state at its end.
 pub first-run : {A : Type 0} (t : Tree A) → Full t → runOn t (fresh [] true) ≡ ranAs (run t (firstList t)) (atEnd t (firstList t) true)
-first-run t f = run-grow t [] f (prefix-nil (cut limit t)) .1
+first-run t f = run-grow t [] f (prefix-nil (cutAfter mostChoices t)) .1
 
 pub first-state : {A : Type 0} (t : Tree A) → Full t → stateOf (runOn t (fresh [] true)) ≡ atEnd t (firstList t) true
 first-state t f = ap stateOf (first-run t f) ∙ state-as (run t (firstList t)) (atEnd t (firstList t) true)
@@ -30,20 +30,20 @@ pub record Follows {A : Type 0} (t : Tree A) (l m : List ℕ) (v : View) : Type 
   pub state : stateOf (runOn t v) ≡ atEnd t m true
 
 module _ {A : Type 0} (t : Tree A) (l : List ℕ) (g : Bool) (c : Choices) (r : Advanced) (seen : view c ≡ atEnd t l g) (k : Moved c r) where
-  raised : raise l (counts (cut limit t) l) ≡ maybe (r .more) (view (r .state) .left)
+  raised : raise l (counts (cutAfter mostChoices t) l) ≡ maybe (r .more) (view (r .state) .left)
   raised = ap (λ (v : View). raise (v .past) (v .met)) (sym seen) ∙ k .moved
 
   -- From the end of a complete list `advance` leads to the next, which a growing run runs.
   pub step-more : Full t → Complete t l → r .more ≡ true → (m : List ℕ) × Follows t l m (view (r .state))
   step-more f h q =
       let from = view (r .state) .left in
-      let e : raise l (counts (cut limit t) l) ≡ some from = raised ∙ ap (λ (b : Bool). maybe b from) q in
-      let w = run-grow t from f (raise-prefix (cut limit t) l from (complete-leaf t l h) e) in
-      let m = extend (cut limit t) from in
+      let e : raise l (counts (cutAfter mostChoices t) l) ≡ some from = raised ∙ ap (λ (b : Bool). maybe b from) q in
+      let w = run-grow t from f (raise-prefix (cutAfter mostChoices t) l from (complete-leaf t l h) e) in
+      let m = extend (cutAfter mostChoices t) from in
       let runs = ap (runOn t) (k .viewed) ∙ w .1 in (
         m,
         record {
-          next = ap (onSome (extend (cut limit t))) e;
+          next = ap (onSome (extend (cutAfter mostChoices t))) e;
           complete = w .0;
           runs = runs;
           state = ap stateOf runs ∙ state-as (run t m) (atEnd t m true);
@@ -52,4 +52,4 @@ module _ {A : Type 0} (t : Tree A) (l : List ℕ) (g : Bool) (c : Choices) (r : 
 
   -- Or it says that there is none.
   pub step-none : r .more ≡ false → nextList t l ≡ none
-  step-none q = ap (onSome (extend (cut limit t))) (raised ∙ ap (λ (b : Bool). maybe b (view (r .state) .left)) q)
+  step-none q = ap (onSome (extend (cutAfter mostChoices t))) (raised ∙ ap (λ (b : Bool). maybe b (view (r .state) .left)) q)

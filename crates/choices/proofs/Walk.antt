@@ -14,9 +14,9 @@ use lib.Dec.{ltb}
 use borrow.Author.Tests.{ltb-true}
 use Rattle.prelude.proofs.Absurd.{impossible}
 use Rattle.prelude.proofs.Membership.{at-in, in-at, in-take}
-use Rattle.choices.specs.Tree.{Tree, give, stop, choose, limit, Full, Numbered, Run, gave, stopped, short, beyond, follow, run, Outcome, value, refusal, Final, result, refuses, final}
+use Rattle.choices.specs.Tree.{Tree, give, stop, choose, mostChoices, Full, Numbered, Run, gave, stopped, short, beyond, follow, run, Outcome, value, refusal, Final, result, refuses, final}
 use Rattle.choices.specs.Lists.{Ended, Complete, outcomeOf, before, CountBefore, First, Next}
-use Rattle.choices.specs.Paths.{cut, allLists, firstList, nextList}
+use Rattle.choices.specs.Paths.{cutAfter, allLists, firstList, nextList}
 use Rattle.choices.proofs.Order.{before-irrefl, before-asym, before-total, asc-take, take-before, before-take, asc-at, asc-same}
 use Rattle.choices.proofs.Paths.{paths-ascend}
 use Rattle.choices.proofs.Steps.{first-path, next-some, next-none}
@@ -52,10 +52,10 @@ module _ {A : Type 0} (t : Tree A) where
   count-at j h =
       record {
         lists = take j (allLists t);
-        ascending = asc-take (allLists t) j (paths-ascend (cut limit t));
+        ascending = asc-take (allLists t) j (paths-ascend (cutAfter mostChoices t));
         exactly = λ m. (
-          λ i. (complete-path t m .1 (in-take m (allLists t) j i), take-before (allLists t) j m (paths-ascend (cut limit t)) h i),
-          λ w. before-take (allLists t) j m (paths-ascend (cut limit t)) h (complete-path t m .0 (w .0)) (w .1),
+          λ i. (complete-path t m .1 (in-take m (allLists t) j i), take-before (allLists t) j m (paths-ascend (cutAfter mostChoices t)) h i),
+          λ w. before-take (allLists t) j m (paths-ascend (cutAfter mostChoices t)) h (complete-path t m .0 (w .0)) (w .1),
         );
         number = length-take-le j (allLists t) (omega arith);
       }
@@ -68,7 +68,7 @@ module _ {A : Type 0} (t : Tree A) where
       go (yes h) d = h
       go (no h) (yes e) = absurd (before-irrefl (getD (allLists t) j []) (subst (λ (x : ℕ). before (getD (allLists t) x []) (getD (allLists t) j [])) e b))
       go (no h) (no n) =
-          absurd (before-asym (getD (allLists t) i []) (getD (allLists t) j []) b (asc-at (allLists t) j i (paths-ascend (cut limit t)) (omega (arith, n)) hi))
+          absurd (before-asym (getD (allLists t) i []) (getD (allLists t) j []) b (asc-at (allLists t) j i (paths-ascend (cutAfter mostChoices t)) (omega (arith, n)) hi))
 
   -- Every complete list has a number of complete lists before it.
   pub counted : (l : List ℕ) → Complete t l → (k : ℕ) × CountBefore t l k
@@ -82,12 +82,12 @@ module _ {A : Type 0} (t : Tree A) where
   module _ (f : Full t) where
     -- None comes before the first list.
     pub count-first : CountBefore t (firstList t) 0
-    count-first = let w = first-path (cut limit t) (full-cut limit t f) in subst (λ (x : List ℕ). CountBefore t x 0) (w .1) (count-at 0 (w .0))
+    count-first = let w = first-path (cutAfter mostChoices t) (full-cut mostChoices t f) in subst (λ (x : List ℕ). CountBefore t x 0) (w .1) (count-at 0 (w .0))
 
     -- The first list is the first complete list.
     pub first-list : First t (firstList t)
     first-list =
-        let w = first-path (cut limit t) (full-cut limit t f) in
+        let w = first-path (cutAfter mostChoices t) (full-cut mostChoices t f) in
         record {
           complete = subst (Complete t) (w .1) (complete-at 0 (w .0));
           least = λ m h b. let v = at m h in let i = lower (v .0) 0 (v .1) (w .0) (subst (before (getD (allLists t) (v .0) [])) (sym (w .1)) (subst (λ (x : List ℕ). before x (firstList t)) (v .2) b)) in omega arith;
@@ -96,7 +96,7 @@ module _ {A : Type 0} (t : Tree A) where
     module _ (l : List ℕ) (h : Complete t l) where
       -- the next list stands at the index after l's
       found : (m : List ℕ) → nextList t l ≡ some m → (suc (at l h .0) < length (allLists t)) × (m ≡ getD (allLists t) (suc (at l h .0)) [])
-      found m e = let w = at l h in next-some (cut limit t) (full-cut limit t f) (w .0) m (w .1) (ap (nextList t) (sym (w .2)) ∙ e)
+      found m e = let w = at l h in next-some (cutAfter mostChoices t) (full-cut mostChoices t f) (w .0) m (w .1) (ap (nextList t) (sym (w .2)) ∙ e)
 
       -- The next list is the next complete list.
       pub next-list : (m : List ℕ) → nextList t l ≡ some m → Next t l m
@@ -105,7 +105,7 @@ module _ {A : Type 0} (t : Tree A) where
           let s = found m e in
           record {
             complete = subst (Complete t) (sym (s .1)) (complete-at (suc (w .0)) (s .0));
-            after = subst (before l) (sym (s .1)) (subst (λ (x : List ℕ). before x (getD (allLists t) (suc (w .0)) [])) (sym (w .2)) (asc-at (allLists t) (w .0) (suc (w .0)) (paths-ascend (cut limit t)) (omega arith) (s .0)));
+            after = subst (before l) (sym (s .1)) (subst (λ (x : List ℕ). before x (getD (allLists t) (suc (w .0)) [])) (sym (w .2)) (asc-at (allLists t) (w .0) (suc (w .0)) (paths-ascend (cutAfter mostChoices t)) (omega arith) (s .0)));
             between = λ x c a b.
                 let v = at x c in
                 let p = lower (w .0) (v .0) (w .1) (v .1) (subst (before (getD (allLists t) (w .0) [])) (v .2) (subst (λ (y : List ℕ). before y x) (w .2) a)) in
@@ -126,7 +126,7 @@ module _ {A : Type 0} (t : Tree A) where
         λ e m c b.
             let w = at l h in
             let v = at m c in
-            let q = next-none (cut limit t) (full-cut limit t f) (w .0) (w .1) (ap (nextList t) (sym (w .2)) ∙ e) in
+            let q = next-none (cutAfter mostChoices t) (full-cut mostChoices t f) (w .0) (w .1) (ap (nextList t) (sym (w .2)) ∙ e) in
             let p = lower (w .0) (v .0) (w .1) (v .1) (subst (before (getD (allLists t) (w .0) [])) (v .2) (subst (λ (y : List ℕ). before y m) (w .2) b)) in
             omega (arith, v .1),
         λ last. go last (nextList t l) refl,
@@ -204,11 +204,11 @@ stopped-number {A} (choose q m ways) (suc k) (c ∷ l) r p left n e = go (ltb c 
     go false h rec d = impossible cc
 
 -- A value, or a refusal below 32.
-abbrev pub Whole : {A : Type 0} → Final A → Type 0
-Whole (result a) = Unit {0}
-Whole (refuses r p n) = r < 32
+abbrev pub Settles : {A : Type 0} → Final A → Type 0
+Settles (result a) = Unit {0}
+Settles (refuses r p n) = r < 32
 
-whole-ended : {A : Type 0} (last : ℕ) (r : Run A) → Whole (final last r) → Ended r
+whole-ended : {A : Type 0} (last : ℕ) (r : Run A) → Settles (final last r) → Ended r
 whole-ended last (gave a k []) h = refl
 whole-ended last (gave a k (c ∷ l)) h = absurd (omega arith)
 whole-ended last (stopped r p []) h = refl
@@ -216,7 +216,7 @@ whole-ended last (stopped r p (c ∷ l)) h = absurd (omega arith)
 whole-ended last (short p n) h = absurd (omega arith)
 whole-ended last (beyond p n l) h = absurd (omega arith)
 
-ended-whole : {A : Type 0} (last : ℕ) (r : Run A) → ((n p : ℕ) (l : List ℕ) → r ≡ stopped n p l → n ≤ 31) → Ended r → Whole (final last r)
+ended-whole : {A : Type 0} (last : ℕ) (r : Run A) → ((n p : ℕ) (l : List ℕ) → r ≡ stopped n p l → n ≤ 31) → Ended r → Settles (final last r)
 ended-whole last (gave a k []) m h = tt
 ended-whole last (gave a k (c ∷ l)) m h = impossible cc
 ended-whole last (stopped r p []) m h = omega (arith, m r p [] refl)
@@ -225,5 +225,5 @@ ended-whole last (short p n) m h = absurd h
 ended-whole last (beyond p n l) m h = absurd h
 
 -- A list is complete exactly when it finally answers a value or a refusal below 32.
-pub complete-whole : {A : Type 0} (t : Tree A) (l : List ℕ) (last : ℕ) → Numbered t → Complete t l ↔ Whole (final last (run t l))
-complete-whole t l last m = (ended-whole last (run t l) (λ r p left e. stopped-number t limit l r p left m e .1), whole-ended last (run t l))
+pub complete-whole : {A : Type 0} (t : Tree A) (l : List ℕ) (last : ℕ) → Numbered t → Complete t l ↔ Settles (final last (run t l))
+complete-whole t l last m = (ended-whole last (run t l) (λ r p left e. stopped-number t mostChoices l r p left m e .1), whole-ended last (run t l))

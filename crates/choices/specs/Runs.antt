@@ -7,9 +7,9 @@ use lib.Dec.{ltb}
 use Rattle.choices.specs.declared.Choices.{Choices}
 use Rattle.choices.specs.declared.Answer.{Answer}
 use Rattle.choices.specs.declared.Answer.the-variants.{Taken, Many, Short, Beyond}
-use Rattle.choices.specs.Tree.{Tree, give, stop, choose, limit, Run, gave, stopped, short, beyond, Final, result, refuses, unlessLeft}
-use Rattle.choices.specs.Paths.{counts, cut}
-use Rattle.choices.specs.State.{View, view, Sound, answerOf, afterwards}
+use Rattle.choices.specs.Tree.{Tree, give, stop, choose, mostChoices, Run, gave, stopped, short, beyond, Final, result, refuses, unlessLeft}
+use Rattle.choices.specs.Paths.{counts, cutAfter}
+use Rattle.choices.specs.State.{View, view, Invariant, answerOf, afterwards}
 
 -- What a run on a state comes to: a value, or a refusal's number, place and count; and the state after it.
 pub data Ran (A : Type 0) : Type 0 where
@@ -17,16 +17,16 @@ pub data Ran (A : Type 0) : Type 0 where
   refused : ℕ → ℕ → ℕ → View → Ran A
 
 -- The answer to a choice at the place p among n ways: on with the way taken, or 31, 32 or 33. The last two report n.
-abbrev pub at : {A : Type 0} → Answer → ℕ → ℕ → View → (ℕ → Ran A) → Ran A
-at (Taken c) p n v on = on c
-at Many p n v on = refused 31 p 0 v
-at Short p n v on = refused 32 p n v
-at Beyond p n v on = refused 33 p n v
+abbrev pub onAnswer : {A : Type 0} → Answer → ℕ → ℕ → View → (ℕ → Ran A) → Ran A
+onAnswer (Taken c) p n v on = on c
+onAnswer Many p n v on = refused 31 p 0 v
+onAnswer Short p n v on = refused 32 p n v
+onAnswer Beyond p n v on = refused 33 p n v
 
 abbrev pub runOn : {A : Type 0} → Tree A → View → Ran A
 runOn (give a) v = ran a v
 runOn (stop r p) v = refused r p 0 v
-runOn (choose p n ways) v = at (answerOf v n) p n v (λ c. runOn (ways c) (afterwards v n (Taken c)))
+runOn (choose p n ways) v = onAnswer (answerOf v n) p n v (λ c. runOn (ways c) (afterwards v n (Taken c)))
 
 -- The state after it.
 abbrev pub stateOf : {A : Type 0} → Ran A → View
@@ -46,7 +46,7 @@ endedBy (refuses r p n) v = refused r p n v
 -- The tree's run from the state c comes to f and leaves the state d.
 pub record Came {A : Type 0} (t : Tree A) (c : Choices) (f : Final A) (d : Choices) : Type 0 where
   pub right : runOn t (view c) ≡ endedBy f (view d)
-  pub sound : Sound d
+  pub sound : Invariant d
 
 -- The same of a run under a list, with the state v after it.
 abbrev pub ranAs : {A : Type 0} → Run A → View → Ran A
@@ -65,7 +65,7 @@ trail (choose p n ways) (suc k) past met (c ∷ l) = cond (ltb c n) (trail (ways
 
 -- The state at the end of the complete list l.
 abbrev pub atEnd : {A : Type 0} → Tree A → List ℕ → Bool → View
-atEnd t l g = record { past = l; met = counts (cut limit t) l; left = []; grow = g }
+atEnd t l g = record { past = l; met = counts (cutAfter mostChoices t) l; left = []; grow = g }
 
 -- What a run on a state finally answers: 34 in place of a value and of the refusals below 32, where entries are left.
 abbrev pub settle : {A : Type 0} → ℕ → Ran A → Final A

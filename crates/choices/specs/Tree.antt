@@ -6,8 +6,8 @@ use Prim.Native.Nat.{ℕ, zero, suc, _≤_, _<_}
 use lib.Dec.{ltb}
 
 -- The most choices that a run may meet, and so the most entries of a list. Named here once.
-abbrev pub limit : ℕ
-limit = 64
+abbrev pub mostChoices : ℕ
+mostChoices = 64
 
 -- A tree of choices. A leaf gives a value, or stops with a refusal's number and place. A node chooses at a place among n ways,
 -- numbered from 0 to n - 1.
@@ -68,7 +68,7 @@ follow (choose p n ways) (suc k) (c ∷ l) = cond (ltb c n) (follow (ways c) k l
 
 -- The run of a list.
 abbrev pub run : {A : Type 0} → Tree A → List ℕ → Run A
-run t l = follow t limit l
+run t l = follow t mostChoices l
 
 -- What the run of a list finally answers: a value, or a refusal's number, place and count.
 pub data Final (A : Type 0) : Type 0 where

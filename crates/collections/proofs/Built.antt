@@ -10,7 +10,7 @@ use borrow.Author.Tests.{leb-true, leb-false}
 use lib.Dec.{leb}
 use lib.ListN.{length}
 use Rattle.prelude.proofs.Absurd.{impossible}
-use Rattle.values.specs.Value.{Kind, set, sequence, map, Value, collection, Items, none, more, size, Shaped, Sound, WellFormed, limit}
+use Rattle.values.specs.Value.{Kind, set, sequence, map, Value, collection, Items, none, more, size, Shaped, Sound, WellFormed, mostBytes}
 use Rattle.values.specs.Items.{same, snoc, insert, lookup, enter}
 use Rattle.values.specs.Place.{At, Holds, Outside}
 use Rattle.values.proofs.Order.{same-true}
@@ -26,18 +26,18 @@ use Rattle.collections.specs.Building.{added, entered, Apart, Room, Maps
 
 -- ---- one more is a value again, if it is not too long
 
-pub sequence-more : {vs : Items} {v : Value} → WellFormed (collection sequence vs) → WellFormed v → size (collection sequence (snoc vs v)) ≤ limit → WellFormed (collection sequence (snoc vs v))
+pub sequence-more : {vs : Items} {v : Value} → WellFormed (collection sequence vs) → WellFormed v → size (collection sequence (snoc vs v)) ≤ mostBytes → WellFormed (collection sequence (snoc vs v))
 unfolding Sound
 sequence-more {vs} {v} f g h =
     let e = collection-size sequence (snoc vs v) in
     well-formed-collection tt (join-sound vs (more v none) (collection-sound f) (g .sound, tt)) (omega arith)
 
-pub set-more : {vs : Items} {v : Value} → WellFormed (collection set vs) → WellFormed v → size (collection set (insert v vs)) ≤ limit → WellFormed (collection set (insert v vs))
+pub set-more : {vs : Items} {v : Value} → WellFormed (collection set vs) → WellFormed v → size (collection set (insert v vs)) ≤ mostBytes → WellFormed (collection set (insert v vs))
 set-more {vs} {v} f g h =
     let e = collection-size set (insert v vs) in
     well-formed-collection (ascending-insert v vs (collection-shaped f)) (sound-insert v vs (g .sound) (collection-sound f)) (omega arith)
 
-pub map-more : {vs : Items} {k v : Value} → WellFormed (collection map vs) → WellFormed k → WellFormed v → size (collection map (enter k v vs)) ≤ limit → WellFormed (collection map (enter k v vs))
+pub map-more : {vs : Items} {k v : Value} → WellFormed (collection map vs) → WellFormed k → WellFormed v → size (collection map (enter k v vs)) ≤ mostBytes → WellFormed (collection map (enter k v vs))
 map-more {vs} {k} {v} f g i h =
     let e = collection-size map (enter k v vs) in
     let shaped = collection-shaped f in
@@ -54,15 +54,15 @@ long-over : (b : Bool) → TooLong ≡ cond b Put TooLong → b ≡ false
 long-over true e = cc
 long-over false e = refl
 
-pub fits : {n : ℕ} {r : Added} → r ≡ added n → r ≡ Put → n ≤ limit
-fits {n} e d = leb-true n limit (put-fits (leb n limit) (sym d ∙ e))
+pub fits : {n : ℕ} {r : Added} → r ≡ added n → r ≡ Put → n ≤ mostBytes
+fits {n} e d = leb-true n mostBytes (put-fits (leb n mostBytes) (sym d ∙ e))
 
-pub over : {n : ℕ} {r : Added} → r ≡ added n → r ≡ TooLong → limit < n
-over {n} e d = leb-false n limit (long-over (leb n limit) (sym d ∙ e))
+pub over : {n : ℕ} {r : Added} → r ≡ added n → r ≡ TooLong → mostBytes < n
+over {n} e d = leb-false n mostBytes (long-over (leb n mostBytes) (sym d ∙ e))
 
 -- ---- what stands elsewhere stays
 
-module _ {s t : List ℕ} {at x : ℕ} (o : Outside s t at (at + limit)) (a : Apart s at x) where
+module _ {s t : List ℕ} {at x : ℕ} (o : Outside s t at (at + mostBytes)) (a : Apart s at x) where
   pub at-apart : {v : Value} → At s x v → At t x v
   at-apart {v} h = go a
     where
@@ -81,7 +81,7 @@ module _ {s t : List ℕ} {at x : ℕ} (o : Outside s t at (at + limit)) (a : Ap
       go (inr b) = inr b
 
   -- the room for the next item, once the collection has been built so far
-  pub room-still : {k : Kind} {vs : Items} → at + limit ≤ length s → Holds s x → At t at (collection k vs) → Room k t at x
+  pub room-still : {k : Kind} {vs : Items} → at + mostBytes ≤ length s → Holds s x → At t at (collection k vs) → Room k t at x
   room-still {vs = vs} r h c = let l = o .long in record { held = record { items = vs; here = c }; room = omega arith; item = holds-apart h; apart = apart-still h }
 
 -- ---- entering where the key is new, and passing over a clash
@@ -125,18 +125,18 @@ module _ {s t : List ℕ} {at x y : ℕ} {vs : Items} {k v : Value} (h : At s at
       m = e .right vs k v h g i
 
       go : (o : Option Value) → lookup k vs ≡ o → At t at (collection map (enterNew k v vs))
-      go absent d = clash-not (leb (size (collection map (enter k v vs))) limit) (m .answers ∙ ap (λ (o : Option Value). entered o v (size (collection map (enter k v vs)))) d)
+      go absent d = clash-not (leb (size (collection map (enter k v vs))) mostBytes) (m .answers ∙ ap (λ (o : Option Value). entered o v (size (collection map (enter k v vs)))) d)
       go (some w) d = rw (new-there k v w vs d) (rw (e .clash refl) h)
 
   -- after Full that map would be too long
-  pub full-new : Enters s t at x y Full → limit < size (collection map (enterNew k v vs))
+  pub full-new : Enters s t at x y Full → mostBytes < size (collection map (enterNew k v vs))
   full-new e = go (lookup k vs) refl
     where
       m : Maps s t at vs k v Full
       m = e .right vs k v h g i
 
-      go : (o : Option Value) → lookup k vs ≡ o → limit < size (collection map (enterNew k v vs))
+      go : (o : Option Value) → lookup k vs ≡ o → mostBytes < size (collection map (enterNew k v vs))
       go absent d =
           let n = size (collection map (enter k v vs)) in
-          rw (new-absent k v vs d) (leb-false n limit (full-size (leb n limit) (m .answers ∙ ap (λ (o : Option Value). entered o v n) d)))
+          rw (new-absent k v vs d) (leb-false n mostBytes (full-size (leb n mostBytes) (m .answers ∙ ap (λ (o : Option Value). entered o v n) d)))
       go (some w) d = full-not (same w v) (m .answers ∙ ap (λ (o : Option Value). entered o v (size (collection map (enter k v vs)))) d)

@@ -14,7 +14,7 @@ use Rattle.collections.specs.declared.finding.Found.the-variants.{At as 
 use Rattle.collections.specs.declared.finding.Sought.{Sought}
 use Rattle.collections.specs.declared.finding.Sought.the-variants.{Here, Before}
 use Rattle.collections.proofs.Seeking.{Member, Key, present, belongs, seek-member, seek-key}
-use Rattle.collections.specs.Finding.{HoldsKind, HoldsCollection, Seeks, Within, found, missing, Contains, AtKey}
+use Rattle.collections.specs.Finding.{HoldsKind, HoldsCollection, Seeks, FindsIn, found, missing, Contains, AtKey}
 
 pub some-kind : {k : Kind} {s : List ℕ} {at : ℕ} → HoldsKind k s at → HoldsCollection s at
 some-kind {k} h = record { kind = k; items = h .items; here = h .here }
@@ -84,10 +84,10 @@ module _ {s : List ℕ} {at x : ℕ} {r : Sought} (f : Seeks s at x true r) (q :
       let low = y .from in
       let high = y .to in
       let z = word-size h in
-      rw d (subst (Within s at (collection map vs) (Place (q + word s q))) (sym (y .looked)) (found (y .value-at) (omega arith) (omega arith)))
+      rw d (subst (FindsIn s at (collection map vs) (Place (q + word s q))) (sym (y .looked)) (found (y .value-at) (omega arith) (omega arith)))
 
   pub no-key : r ≡ Before q → AtKey s at x Nothing
-  no-key e vs v h g = subst (Within s at (collection map vs) Nothing) (go (subst (Key v vs (at + 4)) e (key-sight f h g))) missing
+  no-key e vs v h g = subst (FindsIn s at (collection map vs) Nothing) (go (subst (Key v vs (at + 4)) e (key-sight f h g))) missing
     where
       go : {q : ℕ} → Key v vs (at + 4) (Before q) → absent ≡ lookup v vs
       go (belongs q us ws d i j k) = sym d

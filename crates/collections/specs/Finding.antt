@@ -44,8 +44,8 @@ pub data Finds (s : List ℕ) (from to : ℕ) : Found → Option Value → Type 
   missing : Finds s from to Nothing absent
 
 -- The record is one of those within the collection at a place.
-abbrev pub Within : List ℕ → ℕ → Value → Found → Option Value → Type 0
-Within s at w r o = Finds s (at + 4) (at + size w) r o
+abbrev pub FindsIn : List ℕ → ℕ → Value → Found → Option Value → Type 0
+FindsIn s at w r o = Finds s (at + 4) (at + size w) r o
 
 -- r says whether the value at x is a member of the set
 abbrev pub Contains : List ℕ → ℕ → ℕ → Bool → Type 0
@@ -53,11 +53,11 @@ Contains s at x r = (vs : Items) (v : Value) → At s at (collection set vs) →
 
 -- r is the place of what stands, in the map, at the key that stands at k
 abbrev pub AtKey : List ℕ → ℕ → ℕ → Found → Type 0
-AtKey s at k r = (vs : Items) (v : Value) → At s at (collection map vs) → At s k v → Within s at (collection map vs) r (lookup v vs)
+AtKey s at k r = (vs : Items) (v : Value) → At s at (collection map vs) → At s k v → FindsIn s at (collection map vs) r (lookup v vs)
 
 -- r is the place of the k-th item
 abbrev pub Item : List ℕ → ℕ → ℕ → Found → Type 0
-Item s at k r = (kind : Kind) (vs : Items) → At s at (collection kind vs) → Within s at (collection kind vs) r (nth vs k)
+Item s at k r = (kind : Kind) (vs : Items) → At s at (collection kind vs) → FindsIn s at (collection kind vs) r (nth vs k)
 
 -- r is the number of items
 abbrev pub Counted : List ℕ → ℕ → ℕ → Type 0

@@ -9,7 +9,7 @@ use lib.Dec.{leb}
 use mathlib.Mathlib.Data.Bool.Basic.{and-intro}
 use Rattle.prelude.proofs.Absurd.{impossible}
 use Rattle.prelude.proofs.Truth.{cond-true, cond-false, by-test}
-use Rattle.values.specs.Value.{Kind, set, sequence, map, tuple, Value, collection, Items, none, more, count, everyOther, size, sizes, limit, Ascending, PairedFrom, Paired, Shaped, Sound, SoundItems}
+use Rattle.values.specs.Value.{Kind, set, sequence, map, tuple, Value, collection, Items, none, more, count, everyOther, size, sizes, mostBytes, Ascending, PairedFrom, Paired, Shaped, Sound, SoundItems}
 use Rattle.values.specs.Items.{same, join, snoc, insert, lookup, enter}
 use Rattle.values.proofs.Order.{same-true, true-same}
 use Rattle.values.proofs.Encoding.{join-sizes, join-sound, snoc-sizes}
@@ -25,18 +25,18 @@ use Rattle.operator_laws.proofs.Results.{Good, wellFormed, sized-fine}
 
 -- ---- what fits
 
-pub fits : (vs : Items) → 4 + sizes vs ≤ limit → fitting vs ≡ built vs
-fits vs h = rw (le-leb (4 + sizes vs) limit h)
+pub fits : (vs : Items) → 4 + sizes vs ≤ mostBytes → fitting vs ≡ built vs
+fits vs h = rw (le-leb (4 + sizes vs) mostBytes h)
 
-pub fits-not : (vs : Items) → limit < 4 + sizes vs → fitting vs ≡ stopped 28
-fits-not vs h = rw (lt-leb (4 + sizes vs) limit h)
+pub fits-not : (vs : Items) → mostBytes < 4 + sizes vs → fitting vs ≡ stopped 28
+fits-not vs h = rw (lt-leb (4 + sizes vs) mostBytes h)
 
 -- A proof by whether it fits.
-pub by-fitting : {P : Type 0} (vs : Items) → (4 + sizes vs ≤ limit → fitting vs ≡ built vs → P) → (limit < 4 + sizes vs → fitting vs ≡ stopped 28 → P) → P
+pub by-fitting : {P : Type 0} (vs : Items) → (4 + sizes vs ≤ mostBytes → fitting vs ≡ built vs → P) → (mostBytes < 4 + sizes vs → fitting vs ≡ stopped 28 → P) → P
 by-fitting vs f g =
-    by-test (leb (4 + sizes vs) limit)
-    (λ e. let h : 4 + sizes vs ≤ limit = leb-true (4 + sizes vs) limit e in f h (fits vs h))
-    (λ e. let h : limit < 4 + sizes vs = leb-false (4 + sizes vs) limit e in g h (fits-not vs h))
+    by-test (leb (4 + sizes vs) mostBytes)
+    (λ e. let h : 4 + sizes vs ≤ mostBytes = leb-true (4 + sizes vs) mostBytes e in f h (fits vs h))
+    (λ e. let h : mostBytes < 4 + sizes vs = leb-false (4 + sizes vs) mostBytes e in g h (fits-not vs h))
 
 -- What was built is one thing alone.
 pub built-one : {vs ws : Items} → built vs ≡ built ws → vs ≡ ws
@@ -48,7 +48,7 @@ never-built e = impossible cc
 -- ---- sets, sequences, tuples: 28 comes exactly when what is finished is over 512 bytes
 
 -- Members added one by one are the members added, if they fit.
-pub addMembers-is : (vs ws : Items) → 4 + sizes vs ≤ limit → addMembers vs ws ≡ fitting (insertAll vs ws)
+pub addMembers-is : (vs ws : Items) → 4 + sizes vs ≤ mostBytes → addMembers vs ws ≡ fitting (insertAll vs ws)
 unfolding addMembers insertAll
 addMembers-is vs none h = sym (fits vs h)
 addMembers-is vs (more w ws) h =
@@ -56,7 +56,7 @@ addMembers-is vs (more w ws) h =
     (λ g e. ap (λ (b : Built). onward b (λ us. addMembers us ws)) e ∙ sym (fits-not (insertAll (insert w vs) ws) (omega (arith, sizes-grow-all (insert w vs) ws))))
 
 -- Items added one by one are the items joined, if they fit.
-pub addItems-is : (vs ws : Items) → 4 + sizes vs ≤ limit → addItems vs ws ≡ fitting (join vs ws)
+pub addItems-is : (vs ws : Items) → 4 + sizes vs ≤ mostBytes → addItems vs ws ≡ fitting (join vs ws)
 unfolding addItems join size
 addItems-is vs none h = sym (fits vs h) ∙ ap fitting (sym (join-none vs))
 addItems-is vs (more w ws) h =
@@ -66,7 +66,7 @@ addItems-is vs (more w ws) h =
     ap (λ (b : Built). onward b (λ us. addItems us ws)) e
     ∙ sym (fits-not (join vs (more w ws)) (omega (arith, snoc-sizes vs w, join-sizes vs (more w ws)))))
 
-nothing-fits : 4 + sizes none ≤ limit
+nothing-fits : 4 + sizes none ≤ mostBytes
 unfolding size
 nothing-fits = omega arith
 

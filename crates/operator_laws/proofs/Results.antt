@@ -14,7 +14,7 @@ use Rattle.prelude.proofs.Truth.{cond-true, cond-false, by-test}
 use Rattle.integers.specs.declared.Number.{Number}
 use Rattle.integers.specs.Whole as Whole
 use Rattle.integers.specs.Whole.{greatest, inRange, InRange, answer, divided, divℤ, remℤ, modℤ}
-use Rattle.values.specs.Value.{Kind, set, sequence, map, tuple, number, Value, boolean, integer, collection, Items, none, more, count, keys, mapped, size, sizes, limit, Ascending, Paired, Shaped, Sound, SoundItems, WellFormed}
+use Rattle.values.specs.Value.{Kind, set, sequence, map, tuple, number, Value, boolean, integer, collection, Items, none, more, count, keys, mapped, size, sizes, mostBytes, Ascending, Paired, Shaped, Sound, SoundItems, WellFormed}
 use Rattle.values.specs.Items.{same, join, nth, lookup}
 use Rattle.values.proofs.Order.{number-inj}
 use Rattle.values.proofs.Encoding.{count-sizes, join-sound}
@@ -37,7 +37,7 @@ use Rattle.operator_laws.proofs.Entries.{sound-everyOther, sizes-everyO
 pub record Good (k : Kind) (vs : Items) : Type 0 where
   pub shaped : Shaped k vs
   pub sound : SoundItems vs
-  pub short : 4 + sizes vs ≤ limit
+  pub short : 4 + sizes vs ≤ mostBytes
 
 pub good : {k : Kind} {vs : Items} → WellFormed (collection k vs) → Good k vs
 unfolding Sound size
@@ -70,9 +70,9 @@ count-fine {k} {vs} g = let s = g .short in integer-fine (pos (count vs)) (up-le
 
 pub sized-fine : (k : Kind) (vs : Items) → Shaped k vs → SoundItems vs → Fine (sized k vs)
 sized-fine k vs p s =
-    by-test (leb (4 + sizes vs) limit) (λ e. rw e (wellFormed (record { shaped = p; sound = s; short = leb-true (4 + sizes vs) limit e }))) (λ e. rw e (omega arith))
+    by-test (leb (4 + sizes vs) mostBytes) (λ e. rw e (wellFormed (record { shaped = p; sound = s; short = leb-true (4 + sizes vs) mostBytes e }))) (λ e. rw e (omega arith))
 
-found-fine : (o : Option Value) → ((v : Value) → o ≡ some v → Sound v × (size v ≤ limit)) → Fine (found o)
+found-fine : (o : Option Value) → ((v : Value) → o ≡ some v → Sound v × (size v ≤ mostBytes)) → Fine (found o)
 found-fine absent f = omega arith
 found-fine (some v) f = let h = f v refl in record { sound = h .0; short = h .1 }
 
@@ -145,7 +145,7 @@ keep-fine p vs g =
     wellFormed (record { shaped = ascending-keep p vs (g .shaped); sound = sound-keep p vs (g .sound); short = omega (arith, sizes-keep p vs) })
 
 -- So is a set of some items, whatever their order.
-insertAll-fine : (vs : Items) → SoundItems vs → 4 + sizes vs ≤ limit → Fine (is (collection set (insertAll none vs)))
+insertAll-fine : (vs : Items) → SoundItems vs → 4 + sizes vs ≤ mostBytes → Fine (is (collection set (insertAll none vs)))
 unfolding Ascending Sound size
 insertAll-fine vs s h =
     wellFormed (record { shaped = ascending-insertAll none vs tt; sound = sound-insertAll none vs tt s; short = omega (arith, sizes-insertAll none vs) })
@@ -174,11 +174,11 @@ intersectionOf-fine none e g = omega arith
 intersectionOf-fine (more v vs) e g =
     keep-fine _ (itemsOf v) (first-good v (and-eq-true-iff (isKind set v) (every (isKind set) vs) .0 e .0) (item-fine v vs g))
 
-counting-fine : (z : ℤ) (n : ℕ) → (8 * n + 4 ≤ limit → SoundItems (upFrom z n)) → Fine (counting z n)
+counting-fine : (z : ℤ) (n : ℕ) → (8 * n + 4 ≤ mostBytes → SoundItems (upFrom z n)) → Fine (counting z n)
 counting-fine z n f =
-    by-test (leb (4 + 8 * n) limit)
+    by-test (leb (4 + 8 * n) mostBytes)
     (λ e.
-    let h = leb-true (4 + 8 * n) limit e in
+    let h = leb-true (4 + 8 * n) mostBytes e in
     rw e (wellFormed (record { shaped = ascending-up z n; sound = f (omega arith); short = omega (arith, sizes-up z n) })))
     (λ e. rw e (omega arith))
 

@@ -4,7 +4,7 @@ use mathlib.Core.Option.{Option, none as absent, some}
 use Prim.Native.Nat.{ℕ, _+_, _≤_}
 use lib.Dec.{leb, eqb}
 use lib.IntN.{ℤ}
-use Rattle.values.specs.Value.{Kind, number, Value, boolean, integer, collection, Items, sizes, limit, WellFormed}
+use Rattle.values.specs.Value.{Kind, number, Value, boolean, integer, collection, Items, sizes, mostBytes, WellFormed}
 
 pub data Answer : Type 0 where
   is : Value → Answer
@@ -76,7 +76,7 @@ pub data Built : Type 0 where
 
 -- 28 as soon as the part built passes 512 bytes.
 abbrev pub fitting : Items → Built
-fitting vs = cond (leb (4 + sizes vs) limit) (built vs) (stopped tooLarge)
+fitting vs = cond (leb (4 + sizes vs) mostBytes) (built vs) (stopped tooLarge)
 
 -- What was built, as a collection.
 abbrev pub closed : Kind → Built → Answer

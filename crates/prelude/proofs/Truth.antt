@@ -26,18 +26,18 @@ pub cond-or : (b c : Bool) → cond b true c ≡ b || c
 cond-or true c = refl
 cond-or false c = refl
 
--- ---- neither of two
+-- ---- neither of two is true
 
-pub none-left : (a b : Bool) → a || b ≡ false → a ≡ false
-none-left true b e = cc
-none-left false b e = refl
+pub or-false-left : (a b : Bool) → a || b ≡ false → a ≡ false
+or-false-left true b e = cc
+or-false-left false b e = refl
 
-pub none-right : (a b : Bool) → a || b ≡ false → b ≡ false
-none-right true b e = cc
-none-right false b e = e
+pub or-false-right : (a b : Bool) → a || b ≡ false → b ≡ false
+or-false-right true b e = cc
+or-false-right false b e = e
 
-pub none-both : (a b : Bool) → a ≡ false → b ≡ false → a || b ≡ false
-none-both a b e f = rw (e, f)
+pub or-false-both : (a b : Bool) → a ≡ false → b ≡ false → a || b ≡ false
+or-false-both a b e f = rw (e, f)
 
 -- ---- an implication
 

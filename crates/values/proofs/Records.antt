@@ -14,7 +14,7 @@ use mir.ValLaws.{toZ-ofZ}
 use Rattle.integers.specs.Bytes.{word, bits32, integerAt}
 use Rattle.integers.specs.Whole.{InRange}
 use Rattle.integers.proofs.Range.{range-fits}
-use Rattle.values.specs.Value.{Kind, number, Value, boolean, integer, collection, Items, none, more, kindOf, size, sizes, byteOf, encode, encodeItems, Shaped, Sound, SoundItems, WellFormed, limit}
+use Rattle.values.specs.Value.{Kind, number, Value, boolean, integer, collection, Items, none, more, kindOf, size, sizes, byteOf, encode, encodeItems, Shaped, Sound, SoundItems, WellFormed, mostBytes}
 use Rattle.values.specs.Items.{join, snoc}
 use Rattle.values.specs.Place.{At, ItemsAt, Holds, HoldsItems}
 use Rattle.values.proofs.Order.{number-low}
@@ -30,7 +30,7 @@ pub collection-sound : {k : Kind} {vs : Items} → WellFormed (collection k vs) 
 unfolding Sound
 collection-sound f = f .sound .1
 
-pub well-formed-collection : {k : Kind} {vs : Items} → Shaped k vs → SoundItems vs → 4 + sizes vs ≤ limit → WellFormed (collection k vs)
+pub well-formed-collection : {k : Kind} {vs : Items} → Shaped k vs → SoundItems vs → 4 + sizes vs ≤ mostBytes → WellFormed (collection k vs)
 unfolding Sound size
 well-formed-collection f g h = record { sound = (f, g); short = h }
 
@@ -140,7 +140,7 @@ items-of {s} {at} {k} {vs} h =
     let n = 4 + sizes vs in
     let x : List ℕ = n % 256 ∷ n / 256 ∷ number k % 256 ∷ number k / 256 ∷ [] in
     let f : at + n ≤ length s = h .fits in
-    let g : n ≤ limit = h .fine .short in
+    let g : n ≤ mostBytes = h .fine .short in
     let p = split 4 (sizes vs) (drop at s) x (encodeItems vs) (simp length-drop (omega arith)) refl (h .bytes) in
     record { ends = omega arith; fits = h .fits; fine = h .fine .sound .1; short = omega arith; bytes = rw drop-drop at (p .1) }
 
@@ -165,13 +165,13 @@ unfolding size encode Sound
 first-of {s} {from} {to} {v} {vs} h =
     let e : from + (size v + sizes vs) ≡ to = h .ends in
     let f = h .fits in
-    let g : size v + sizes vs ≤ limit = h .short in
+    let g : size v + sizes vs ≤ mostBytes = h .short in
     let p = split (size v) (sizes vs) (drop from s) (encode v) (encodeItems vs) (simp length-drop (omega arith)) (encode-length v) (h .bytes) in (
       record { fits = omega arith; fine = record { sound = h .fine .0; short = omega arith }; bytes = p .0 },
       record { ends = omega arith; fits = f; fine = h .fine .1; short = omega arith; bytes = rw drop-drop at (p .1) },
     )
 
-pub more-of : {s : List ℕ} {from to : ℕ} {v : Value} {vs : Items} → At s from v → ItemsAt s (from + size v) to vs → size v + sizes vs ≤ limit → ItemsAt s from to (more v vs)
+pub more-of : {s : List ℕ} {from to : ℕ} {v : Value} {vs : Items} → At s from v → ItemsAt s (from + size v) to vs → size v + sizes vs ≤ mostBytes → ItemsAt s from to (more v vs)
 unfolding size encode Sound
 more-of {s} {from} {to} {v} {vs} h x g =
     let e : from + size v + sizes vs ≡ to = x .ends in
@@ -193,20 +193,20 @@ items-none {from = from} {to = to} {vs = more v vs} e h =
     absurd z
 
 -- items of some bytes have a first one, which ends at the next place
-pub record Run (s : List ℕ) (from to : ℕ) (vs : Items) : Type 0 where
+pub record Uncons (s : List ℕ) (from to : ℕ) (vs : Items) : Type 0 where
   pub first : Value
   pub rest : Items
   pub is : vs ≡ more first rest
   pub first-at : At s from first
   pub rest-at : ItemsAt s (from + word s from) to rest
   pub low : 4 ≤ word s from
-  pub high : word s from ≤ limit
+  pub high : word s from ≤ mostBytes
   pub inside : from + word s from ≤ to
 
-pub run : {s : List ℕ} {from to : ℕ} {vs : Items} → from < to → ItemsAt s from to vs → Run s from to vs
+pub uncons : {s : List ℕ} {from to : ℕ} {vs : Items} → from < to → ItemsAt s from to vs → Uncons s from to vs
 unfolding size
-run {from = from} {to = to} {vs = none} lt h = let e : from + 0 ≡ to = h .ends in absurd (omega arith)
-run {s = s} {from = from} {to = to} {vs = more v vs} lt h =
+uncons {from = from} {to = to} {vs = none} lt h = let e : from + 0 ≡ to = h .ends in absurd (omega arith)
+uncons {s = s} {from = from} {to = to} {vs = more v vs} lt h =
     let e : from + (size v + sizes vs) ≡ to = h .ends in
     let p = first-of h in
     let w = word-size (p .0) in
@@ -223,12 +223,12 @@ run {s = s} {from = from} {to = to} {vs = more v vs} lt h =
     }
 
 -- the same of a run that is not empty, however that is known
-pub run-of : {s : List ℕ} {from to : ℕ} {vs : Items} → (from ≡ to → ⊥) → ItemsAt s from to vs → Run s from to vs
-run-of {from = from} {to = to} {vs = vs} f h = let e : from + sizes vs ≡ to = h .ends in run (omega (arith, f)) h
+pub uncons-of : {s : List ℕ} {from to : ℕ} {vs : Items} → (from ≡ to → ⊥) → ItemsAt s from to vs → Uncons s from to vs
+uncons-of {from = from} {to = to} {vs = vs} f h = let e : from + sizes vs ≡ to = h .ends in uncons (omega (arith, f)) h
 
 -- ---- items joined
 
-pub joined : {s : List ℕ} {from mid to : ℕ} {vs ws : Items} → ItemsAt s from mid vs → ItemsAt s mid to ws → sizes vs + sizes ws ≤ limit → ItemsAt s from to (join vs ws)
+pub joined : {s : List ℕ} {from mid to : ℕ} {vs ws : Items} → ItemsAt s from mid vs → ItemsAt s mid to ws → sizes vs + sizes ws ≤ mostBytes → ItemsAt s from to (join vs ws)
 joined {s} {from} {mid} {to} {vs} {ws} h x g =
     let e = join-sizes vs ws in
     let f = h .ends in
@@ -266,7 +266,7 @@ one-item {s} {at} {v} h =
     let g = h .fine .short in
     more-of h (no-items s (at + size v) f) (omega arith)
 
-pub one-more : {s : List ℕ} {from to : ℕ} {vs : Items} {w : Value} → ItemsAt s from to vs → At s to w → sizes vs + size w ≤ limit → ItemsAt s from (to + size w) (snoc vs w)
+pub one-more : {s : List ℕ} {from to : ℕ} {vs : Items} {w : Value} → ItemsAt s from to vs → At s to w → sizes vs + size w ≤ mostBytes → ItemsAt s from (to + size w) (snoc vs w)
 unfolding size
 one-more h x g = joined h (one-item x) (omega arith)
 
@@ -288,10 +288,10 @@ one-list {s} {from} {to} {vs} {ws} h g =
 
 -- the value that stands at a place, as a function of the bytes
 unfoldable pub valueAt : List ℕ → ℕ → Value
-valueAt s at = valueOf limit (drop at s)
+valueAt s at = valueOf mostBytes (drop at s)
 
 pub value-at : {s : List ℕ} {at : ℕ} {v : Value} → At s at v → valueAt s at ≡ v
 unfolding valueAt
 value-at {s} {at} {v} h =
-    ap (valueOf limit) (sym (take-append-drop (size v) (drop at s)) ∙ ap (λ (l : List ℕ). l ++ drop (size v) (drop at s)) (h .bytes))
-    ∙ value-back v limit (drop (size v) (drop at s)) (h .fine .sound) (h .fine .short)
+    ap (valueOf mostBytes) (sym (take-append-drop (size v) (drop at s)) ∙ ap (λ (l : List ℕ). l ++ drop (size v) (drop at s)) (h .bytes))
+    ∙ value-back v mostBytes (drop (size v) (drop at s)) (h .fine .sound) (h .fine .short)
