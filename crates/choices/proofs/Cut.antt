@@ -30,7 +30,7 @@ full-cut zero (choose p n ways) f = tt
 full-cut (suc k) (choose p n ways) f = (f .0, λ i h. full-cut k (ways i) (f .1 i h))
 
 -- Following the cut tree is following the tree.
-pub follow-cut : {A : Type 0} (k : ℕ) (t : Tree A) (l : List ℕ) → follow (cutAfter k t) k l ≡ follow t k l
+follow-cut : {A : Type 0} (k : ℕ) (t : Tree A) (l : List ℕ) → follow (cutAfter k t) k l ≡ follow t k l
 follow-cut k (give a) l = refl
 follow-cut k (stop r p) l = refl
 follow-cut zero (choose p n ways) l = refl
@@ -69,7 +69,7 @@ cons≢nil : {c : ℕ} {l : List ℕ} → _≡_ {A = List ℕ} (c ∷ l) [] → 
 cons≢nil e = impossible cc
 
 -- A path's run ends at its leaf, with no entry left.
-pub leaf-ended : {A : Type 0} (t : Tree A) (k : ℕ) (l : List ℕ) → AtMost k t → Leaf t l → Ended (follow t k l) × (outcomeOf (follow t k l) ≡ outcomeAt t l)
+leaf-ended : {A : Type 0} (t : Tree A) (k : ℕ) (l : List ℕ) → AtMost k t → Leaf t l → Ended (follow t k l) × (outcomeOf (follow t k l) ≡ outcomeAt t l)
 leaf-ended (give a) k [] w h = (refl, refl)
 leaf-ended (give a) k (c ∷ l) w h = absurd h
 leaf-ended (stop r p) k [] w h = (refl, refl)
@@ -92,7 +92,7 @@ ended-leaf (choose p n ways) (suc k) (c ∷ l) w h = go (ltb c n) refl (λ lt e.
     go false e rec d = absurd d
 
 -- A path has no more entries than choices are allowed.
-pub leaf-length : {A : Type 0} (k : ℕ) (t : Tree A) (l : List ℕ) → AtMost k t → Leaf t l → length l ≤ k
+leaf-length : {A : Type 0} (k : ℕ) (t : Tree A) (l : List ℕ) → AtMost k t → Leaf t l → length l ≤ k
 leaf-length k (give a) [] w h = omega arith
 leaf-length k (give a) (c ∷ l) w h = absurd h
 leaf-length k (stop r p) [] w h = omega arith

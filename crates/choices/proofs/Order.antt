@@ -17,7 +17,7 @@ before-irrefl [] h = h
 before-irrefl (c ∷ l) (inl h) = omega arith
 before-irrefl (c ∷ l) (inr h) = before-irrefl l (h .1)
 
-pub before-trans : (a b c : List ℕ) → before a b → before b c → before a c
+before-trans : (a b c : List ℕ) → before a b → before b c → before a c
 before-trans [] [] c h k = absurd h
 before-trans [] (y ∷ b) [] h k = absurd k
 before-trans [] (y ∷ b) (z ∷ c) h k = tt

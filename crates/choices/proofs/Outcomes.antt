@@ -17,7 +17,7 @@ abbrev pub Reached : {A : Type 0} → Tree A → Outcome A → Type 0
 Reached t o = (l : List ℕ) × Complete t l × (o ≡ outcomeOf (run t l))
 
 -- The complete lists reach what the cut tree gives.
-pub gives-cut-reached : {A : Type 0} (t : Tree A) (o : Outcome A) → Gives (cutAfter mostChoices t) o ↔ Reached t o
+gives-cut-reached : {A : Type 0} (t : Tree A) (o : Outcome A) → Gives (cutAfter mostChoices t) o ↔ Reached t o
 gives-cut-reached t o = (
   λ h.
       let w = gives-leaf (cutAfter mostChoices t) o .0 h in

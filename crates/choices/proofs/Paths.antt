@@ -7,7 +7,6 @@ use mathlib.Core.List.{List, [], _∷_, _++_}
 use Prim.Native.Nat.{ℕ, zero, suc, _+_, _≤_, _<_}
 use native.Mathlib.Omega.{arith}
 use native.Mathlib.Decide.{ℕ-discrete}
-use lib.ListN.{length}
 use lib.Dec.{ltb}
 use borrow.Author.Tests.{ltb-true}
 use Rattle.prelude.proofs.Absurd.{impossible}
@@ -20,17 +19,17 @@ use Rattle.choices.proofs.Order.{asc-append}
 
 -- ---- paths and leaves
 
-pub in-under : (c : ℕ) (l : List ℕ) (ls : List (List ℕ)) → In l ls → In (c ∷ l) (prefixed c ls)
+in-under : (c : ℕ) (l : List ℕ) (ls : List (List ℕ)) → In l ls → In (c ∷ l) (prefixed c ls)
 in-under c l [] h = absurd h
 in-under c l (x ∷ ls) (inl e) = inl (ap (λ (y : List ℕ). c ∷ y) e)
 in-under c l (x ∷ ls) (inr h) = inr (in-under c l ls h)
 
-pub under-in : (c : ℕ) (l : List ℕ) (ls : List (List ℕ)) → In l (prefixed c ls) → (m : List ℕ) × (l ≡ c ∷ m) × In m ls
+under-in : (c : ℕ) (l : List ℕ) (ls : List (List ℕ)) → In l (prefixed c ls) → (m : List ℕ) × (l ≡ c ∷ m) × In m ls
 under-in c l [] h = absurd h
 under-in c l (x ∷ ls) (inl e) = (x, e, inl refl)
 under-in c l (x ∷ ls) (inr h) = let w = under-in c l ls h in (w .0, w .1, inr (w .2))
 
-pub in-fan : (c m : ℕ) (h : ℕ → List (List ℕ)) (x : ℕ) (l : List ℕ) → c ≤ x → x < c + m → In l (h x) → In (x ∷ l) (fan c m h)
+in-fan : (c m : ℕ) (h : ℕ → List (List ℕ)) (x : ℕ) (l : List ℕ) → c ≤ x → x < c + m → In l (h x) → In (x ∷ l) (fan c m h)
 in-fan c zero h x l a b e = absurd (omega arith)
 in-fan c (suc m) h x l a b e = go (ℕ-discrete c x) (λ d. in-fan (suc c) m h x l d (omega arith) e)
   where
@@ -38,7 +37,7 @@ in-fan c (suc m) h x l a b e = go (ℕ-discrete c x) (λ d. in-fan (suc c) m h x
     go (yes q) rec = in-left (x ∷ l) (prefixed c (h c)) (fan (suc c) m h) (rw q (in-under x l (h x) e))
     go (no q) rec = in-right (x ∷ l) (prefixed c (h c)) (fan (suc c) m h) (rec (omega (arith, q)))
 
-pub fan-in : (c m : ℕ) (h : ℕ → List (List ℕ)) (l : List ℕ) → In l (fan c m h) → (x : ℕ) × (r : List ℕ) × (l ≡ x ∷ r) × (c ≤ x) × (x < c + m) × In r (h x)
+fan-in : (c m : ℕ) (h : ℕ → List (List ℕ)) (l : List ℕ) → In l (fan c m h) → (x : ℕ) × (r : List ℕ) × (l ≡ x ∷ r) × (c ≤ x) × (x < c + m) × In r (h x)
 fan-in c zero h l e = absurd e
 fan-in c (suc m) h l e =
     ⊎-elim
@@ -90,14 +89,6 @@ prefix-nil (give a) = tt
 prefix-nil (stop r p) = tt
 prefix-nil (choose p n ways) = tt
 
-pub leaf-prefix : {A : Type 0} (t : Tree A) (l : List ℕ) → Leaf t l → Prefix t l
-leaf-prefix (give a) [] h = tt
-leaf-prefix (give a) (c ∷ l) h = absurd h
-leaf-prefix (stop r p) [] h = tt
-leaf-prefix (stop r p) (c ∷ l) h = absurd h
-leaf-prefix (choose p n ways) [] h = absurd h
-leaf-prefix (choose p n ways) (c ∷ l) h = (h .0, leaf-prefix (ways c) l (h .1))
-
 -- Entries that lead into the tree, and then zeros, lead to a leaf.
 pub extend-leaf : {A : Type 0} (t : Tree A) (l : List ℕ) → Full t → Prefix t l → Leaf t (extend t l)
 extend-leaf (give a) [] f q = tt
@@ -109,24 +100,6 @@ extend-leaf (choose p n ways) (c ∷ l) f q = (q .0, extend-leaf (ways c) l (f .
 
 pub first-leaf : {A : Type 0} (t : Tree A) → Full t → Leaf t (firstPath t)
 first-leaf t f = extend-leaf t [] f (prefix-nil t)
-
--- A path is not extended.
-pub extend-path : {A : Type 0} (t : Tree A) (l : List ℕ) → Leaf t l → extend t l ≡ l
-extend-path (give a) [] h = refl
-extend-path (give a) (c ∷ l) h = absurd h
-extend-path (stop r p) [] h = refl
-extend-path (stop r p) (c ∷ l) h = absurd h
-extend-path (choose p n ways) [] h = absurd h
-extend-path (choose p n ways) (c ∷ l) h = ap (λ (m : List ℕ). c ∷ m) (extend-path (ways c) l (h .1))
-
--- A path has a number of ways beside each of its entries.
-pub counts-length : {A : Type 0} (t : Tree A) (l : List ℕ) → Leaf t l → length (counts t l) ≡ length l
-counts-length (give a) [] h = refl
-counts-length (give a) (c ∷ l) h = absurd h
-counts-length (stop r p) [] h = refl
-counts-length (stop r p) (c ∷ l) h = absurd h
-counts-length (choose p n ways) [] h = absurd h
-counts-length (choose p n ways) (c ∷ l) h = ap suc (counts-length (ways c) l (h .1))
 
 pub outcome-extend : {A : Type 0} (t : Tree A) (l : List ℕ) → outcomeAt t (extend t l) ≡ outcomeAt t l
 outcome-extend (give a) l = refl

@@ -107,11 +107,11 @@ pub first-path : {A : Type 0} (t : Tree A) → Full t → (0 < length (paths t))
 first-path t f = head-get (paths t) (firstPath t) (head-paths t f)
 
 -- After each path but the last comes the next.
-pub next-path : {A : Type 0} (t : Tree A) → Full t → (k : ℕ) → suc k < length (paths t) → nextPath t (getD (paths t) k []) ≡ some (getD (paths t) (suc k) [])
+next-path : {A : Type 0} (t : Tree A) → Full t → (k : ℕ) → suc k < length (paths t) → nextPath t (getD (paths t) k []) ≡ some (getD (paths t) (suc k) [])
 next-path t f k h = leads-at (nextPath t) (paths t) none (leads-paths t f) k h
 
 -- After the last there is none.
-pub next-ends : {A : Type 0} (t : Tree A) → Full t → (k : ℕ) → suc k ≡ length (paths t) → nextPath t (getD (paths t) k []) ≡ none
+next-ends : {A : Type 0} (t : Tree A) → Full t → (k : ℕ) → suc k ≡ length (paths t) → nextPath t (getD (paths t) k []) ≡ none
 next-ends t f k h = leads-end (nextPath t) (paths t) none (leads-paths t f) k h
 
 -- The path after the one at k, where there is one, stands at the index after k.

@@ -1,7 +1,7 @@
 -- The laws of `bind`: what it keeps, following it under a list, and what it can come to.
 use mathlib.Core.Path.{_≡_, refl, sym, ap, _∙_, subst}
 use mathlib.Core.Bool.{Bool, true, false, cond}
-use mathlib.Core.Logic.{_⊎_, inl, inr, ⊎-elim, _↔_}
+use mathlib.Core.Logic.{_⊎_, inl, inr, ⊎-elim}
 use mathlib.Core.List.{List, [], _∷_}
 use Prim.Native.Nat.{ℕ, zero, suc, _≤_}
 use native.Mathlib.Omega.{arith}
@@ -52,11 +52,11 @@ follow-bind (choose p n ways) f (suc k) (c ∷ l) =
 -- ---- outcomes
 
 -- The outcome o, of any type, is a refusal of t.
-abbrev pub Refuses : {A B : Type 0} → Tree A → Outcome B → Type 0
+abbrev Refuses : {A B : Type 0} → Tree A → Outcome B → Type 0
 Refuses t o = (r : ℕ) × (p : ℕ) × (o ≡ refusal r p) × Gives t (refusal r p)
 
 -- t gives a value from which f gives o.
-abbrev pub Through : {A B : Type 0} → Tree A → (A → Tree B) → Outcome B → Type 0
+abbrev Through : {A B : Type 0} → Tree A → (A → Tree B) → Outcome B → Type 0
 Through {A} t f o = (a : A) × Gives t (value a) × Gives (f a) o
 
 value≢refusal : {A : Type 0} {a : A} {r p : ℕ} → _≡_ {A = Outcome A} (value a) (refusal r p) → ⊥
@@ -78,10 +78,6 @@ gives-bind-in (stop r p) f o (inl w) = w .2 ∙ (let e : _≡_ {A = ℕ} (w .0) 
 gives-bind-in (stop r p) f o (inr w) = absurd (value≢refusal (w .1))
 gives-bind-in (choose p n ways) f o (inl w) = (w .3 .0, w .3 .1, gives-bind-in (ways (w .3 .0)) f o (inl (w .0, w .1, w .2, w .3 .2)))
 gives-bind-in (choose p n ways) f o (inr w) = (w .1 .0, w .1 .1, gives-bind-in (ways (w .1 .0)) f o (inr (w .0, w .1 .2, w .2)))
-
--- One after the other gives the refusals of the first, and what the second gives from the values of the first.
-pub gives-bind : {A B : Type 0} (t : Tree A) (f : A → Tree B) (o : Outcome B) → Gives (bind t f) o ↔ (Refuses t o ⊎ Through t f o)
-gives-bind t f o = (gives-bind-out t f o, gives-bind-in t f o)
 
 -- ---- what `bind` keeps
 

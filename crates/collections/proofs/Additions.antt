@@ -31,26 +31,26 @@ use Rattle.collections.specs.Steps.{Gap, Fills, Slot, AddsAt}
 
 -- ---- answers
 
-pub added-put : (n : ℕ) → n ≤ mostBytes → Put ≡ added n
+added-put : (n : ℕ) → n ≤ mostBytes → Put ≡ added n
 added-put n h = rw (le-leb n mostBytes h)
 
-pub added-long : (n : ℕ) → mostBytes < n → TooLong ≡ added n
+added-long : (n : ℕ) → mostBytes < n → TooLong ≡ added n
 added-long n h = rw (lt-leb n mostBytes h)
 
 -- two wholes of one size have one answer
 pub answered : {r : Added} (m n : ℕ) → r ≡ added m → m ≡ n → r ≡ added n
 answered m n e d = e ∙ ap added d
 
-pub not-put : {X : Type 0} → TooLong ≡ Put → X
+not-put : {X : Type 0} → TooLong ≡ Put → X
 not-put e = impossible cc
 
-pub not-long : {X : Type 0} → Put ≡ TooLong → X
+not-long : {X : Type 0} → Put ≡ TooLong → X
 not-long e = impossible cc
 
 -- ---- a heading before items
 
 module _ {s t : List ℕ} {at n kind : ℕ} (h : PutHead s t at n kind) where
-  pub headed-run : {to : ℕ} (k : Kind) (vs : Items) → kind ≡ number k → at + n ≡ to → n ≤ mostBytes → Shaped k vs → ItemsAt s (at + 4) to vs → At t at (collection k vs)
+  headed-run : {to : ℕ} (k : Kind) (vs : Items) → kind ≡ number k → at + n ≡ to → n ≤ mostBytes → Shaped k vs → ItemsAt s (at + 4) to vs → At t at (collection k vs)
   headed-run k vs e end short shaped x = closed n (h .bytes ∙ ap (λ (j : ℕ). sets s at (heading n j)) e) end short shaped x
 
   pub headed-both : {p to : ℕ} (k : Kind) (us vs : Items) → kind ≡ number k → at + n ≡ to → n ≤ mostBytes → Shaped k (join us vs)

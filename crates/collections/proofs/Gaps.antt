@@ -14,7 +14,7 @@ use Rattle.values.specs.Contract.{Moved, Copyable, Copied}
 use Rattle.collections.specs.Steps.{Gap, Fills}
 
 module _ {s t : List ℕ} {p end x : ℕ} (gap : Gap s p end x) (n : ℕ) (is : n ≡ word s x) (m : Moved s t p (p + n) (end - p)) where
-  pub gap-word : word t x ≡ word s x
+  gap-word : word t x ≡ word s x
   gap-word = go (gap .apart)
     where
       go : (x + word s x ≤ p) ⊎ (end + word s x ≤ x) → word t x ≡ word s x

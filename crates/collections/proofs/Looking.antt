@@ -16,7 +16,7 @@ use Rattle.collections.specs.declared.finding.Sought.the-variants.{Here,
 use Rattle.collections.specs.Finding.{seek, Seeks}
 use Rattle.collections.proofs.Walks.{Walk, walk-start, walk-step, walk-end, first-left}
 
-abbrev pub Look : List ℕ → ℕ → ℕ → Bool → ℕ → Bool → Items → Items → Type 0
+abbrev Look : List ℕ → ℕ → ℕ → Bool → ℕ → Bool → Items → Items → Type 0
 Look s at x entries p key vs rest = (v : Value) → At s x v → seek entries true v vs (at + 4) ≡ seek entries key v rest p
 
 abbrev pub Looking : List ℕ → ℕ → ℕ → Bool → ℕ → Bool → Type 0

@@ -6,7 +6,7 @@ use mathlib.Core.Option.{none as absent, some}
 use Prim.Native.Nat.{ℕ, _+_, _≤_}
 use native.Mathlib.Omega.{arith}
 use Rattle.integers.specs.Bytes.{word}
-use Rattle.values.specs.Value.{Kind, set, map, Value, Items, more, collection, size, sizes}
+use Rattle.values.specs.Value.{set, map, Value, Items, more, collection, size, sizes}
 use Rattle.values.specs.Items.{isMember, join, lookup}
 use Rattle.values.specs.Place.{At, ItemsAt}
 use Rattle.values.proofs.Records.{word-size, collection-shaped, items-of, parted, first-of}
@@ -14,10 +14,7 @@ use Rattle.collections.specs.declared.finding.Found.the-variants.{At as 
 use Rattle.collections.specs.declared.finding.Sought.{Sought}
 use Rattle.collections.specs.declared.finding.Sought.the-variants.{Here, Before}
 use Rattle.collections.proofs.Seeking.{Member, Key, present, belongs, seek-member, seek-key}
-use Rattle.collections.specs.Finding.{HoldsKind, HoldsCollection, Seeks, FindsIn, found, missing, Contains, AtKey}
-
-pub some-kind : {k : Kind} {s : List ℕ} {at : ℕ} → HoldsKind k s at → HoldsCollection s at
-some-kind {k} h = record { kind = k; items = h .items; here = h .here }
+use Rattle.collections.specs.Finding.{Seeks, FindsIn, found, missing, Contains, AtKey}
 
 -- ---- in a set
 

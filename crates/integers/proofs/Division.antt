@@ -12,7 +12,7 @@ use Rattle.integers.proofs.Parts.{up, down, sub-ind, parts-neg, parts-m
 -- ---- what the laws speak of
 
 -- z is 0 or has the sign of s
-abbrev pub SameSign : ℤ → ℤ → Type 0
+abbrev SameSign : ℤ → ℤ → Type 0
 SameSign s (pos zero) = Unit {0}
 SameSign (pos zero) (pos (suc z)) = ⊥
 SameSign (pos (suc s)) (pos (suc z)) = Unit {0}
@@ -27,10 +27,10 @@ pub record Rest (sign right z : ℤ) : Type 0 where
 
 -- ---- left is what was divided off and the rest
 
-pub div-rem : (left right : ℤ) → left ≡ right *ℤ divℤ left right +ℤ remℤ left right
+div-rem : (left right : ℤ) → left ≡ right *ℤ divℤ left right +ℤ remℤ left right
 div-rem left right = sym (+ℤ-comm (right *ℤ divℤ left right) (remℤ left right) ∙ -ℤ-+ℤ-cancel left (right *ℤ divℤ left right))
 
-pub floor-mod : (left right : ℤ) → left ≡ right *ℤ floorℤ left right +ℤ modℤ left right
+floor-mod : (left right : ℤ) → left ≡ right *ℤ floorℤ left right +ℤ modℤ left right
 floor-mod left right = sym (+ℤ-comm (right *ℤ floorℤ left right) (modℤ left right) ∙ -ℤ-+ℤ-cancel left (right *ℤ floorℤ left right))
 
 -- ---- rem, sign by sign
@@ -82,7 +82,7 @@ rest-sizes (negsuc a) right h = record {
 }
 
 -- rem is 0 or has the dividend's sign, and is smaller in size than the divisor
-pub rem-rest : (left right : ℤ) → (right ≡ pos 0 → ⊥) → Rest left right (remℤ left right)
+rem-rest : (left right : ℤ) → (right ≡ pos 0 → ⊥) → Rest left right (remℤ left right)
 rem-rest left right n = subst (Rest left right) (sym (rem-sizes left right)) (rest-sizes left right (nonzero right n))
 
 -- ---- mod, from rem
@@ -161,7 +161,7 @@ turned-rest (negsuc m) (pos (suc k)) h =
 turned-rest (negsuc m) (negsuc k) h = record { sided = tt; smaller = h }
 
 -- mod is 0 or has the divisor's sign, and is smaller in size than the divisor
-pub mod-rest : (left right : ℤ) → (right ≡ pos 0 → ⊥) → Rest right right (modℤ left right)
+mod-rest : (left right : ℤ) → (right ≡ pos 0 → ⊥) → Rest right right (modℤ left right)
 mod-rest left right n =
     subst (Rest right right) (sym (mod-turned left right n)) (turned-rest (remZ left right) right (rest-sizes left right (nonzero right n) .smaller))
 
@@ -192,7 +192,7 @@ rest-down (negsuc n) r = (refl, r .smaller)
 not-zero : (k : ℕ) → pos (suc k) ≡ pos 0 → ⊥
 not-zero k e = let q : _≡_ {A = ℕ} (suc k) 0 = cc in omega arith
 
-pub floor-positive : (left : ℤ) (k : ℕ) → PositiveFloor left (pos (suc k)) (floorℤ left (pos (suc k)))
+floor-positive : (left : ℤ) (k : ℕ) → PositiveFloor left (pos (suc k)) (floorℤ left (pos (suc k)))
 floor-positive left k =
     let right = pos (suc k) in
     let off = right *ℤ floorℤ left right in
@@ -202,7 +202,7 @@ floor-positive left k =
       passed = subst (λ (z : ℤ). left <ℤ z) (sym (next right (floorℤ left right))) (lt-parts left (off +ℤ right) (omega (arith, parts-minus left off, parts-add off right)));
     }
 
-pub floor-negative : (left : ℤ) (k : ℕ) → NegativeFloor left (negsuc k) (floorℤ left (negsuc k))
+floor-negative : (left : ℤ) (k : ℕ) → NegativeFloor left (negsuc k) (floorℤ left (negsuc k))
 floor-negative left k =
     let right = negsuc k in
     let off = right *ℤ floorℤ left right in

@@ -69,7 +69,7 @@ module _ (x y : ℤ) (fx : SFits w32 x) (fy : SFits w32 y) where
 pub rest-fits : (x y : ℤ) → SFits w32 x → SFits w32 (remZ x y)
 rest-fits x y f = omega (arith, mag-rem x y)
 
-pub neg-fits : (x : ℤ) → SFits w32 x → SFits w64 (negℤ x)
+neg-fits : (x : ℤ) → SFits w32 x → SFits w64 (negℤ x)
 neg-fits x f = omega (arith, mag-neg x)
 
 -- ---- an integer of 32 bits, widened

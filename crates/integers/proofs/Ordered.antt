@@ -77,13 +77,13 @@ flip-order a b = by-flip (ltb a b) (ltb b a) (λ p q. omega (arith, ltb-true a b
 
 -- ---- integers
 
-pub ltZ-asym : (a b : ℤ) → ltZ a b ≡ true → ltZ b a ≡ true → ⊥
+ltZ-asym : (a b : ℤ) → ltZ a b ≡ true → ltZ b a ≡ true → ⊥
 ltZ-asym (pos a) (pos b) p q = omega (arith, ltb-true a b p, ltb-true b a q)
 ltZ-asym (pos a) (negsuc b) p q = impossible cc
 ltZ-asym (negsuc a) (pos b) p q = impossible cc
 ltZ-asym (negsuc a) (negsuc b) p q = omega (arith, ltb-true b a p, ltb-true a b q)
 
-pub ltZ-trans : (a b c : ℤ) → ltZ a b ≡ true → ltZ b c ≡ true → ltZ a c ≡ true
+ltZ-trans : (a b c : ℤ) → ltZ a b ≡ true → ltZ b c ≡ true → ltZ a c ≡ true
 ltZ-trans (pos a) (pos b) (pos c) p q = lt-ltb a c (omega (arith, ltb-true a b p, ltb-true b c q))
 ltZ-trans (pos a) (pos b) (negsuc c) p q = q
 ltZ-trans (pos a) (negsuc b) (pos c) p q = cc
@@ -94,7 +94,7 @@ ltZ-trans (negsuc a) (negsuc b) (pos c) p q = refl
 ltZ-trans (negsuc a) (negsuc b) (negsuc c) p q = lt-ltb c a (omega (arith, ltb-true b a p, ltb-true c b q))
 
 -- neither is lower: they are equal
-pub ltZ-eq : (a b : ℤ) → ltZ a b ≡ false → ltZ b a ≡ false → a ≡ b
+ltZ-eq : (a b : ℤ) → ltZ a b ≡ false → ltZ b a ≡ false → a ≡ b
 ltZ-eq (pos a) (pos b) p q = ap pos (omega (arith, ltb-false a b p, ltb-false b a q))
 ltZ-eq (pos a) (negsuc b) p q = cc
 ltZ-eq (negsuc a) (pos b) p q = cc
@@ -121,7 +121,7 @@ unfolding orderℤ
 eqZ-same a b e f = rw (e, f)
 
 -- what the answers say
-pub lower-ltZ : (a b : ℤ) → orderℤ a b ≡ Lower → ltZ a b ≡ true
+lower-ltZ : (a b : ℤ) → orderℤ a b ≡ Lower → ltZ a b ≡ true
 unfolding orderℤ
 lower-ltZ a b e = by-lower (ltZ a b) (ltZ b a) e
 

@@ -27,7 +27,7 @@ sub-ind P a b f g = go (ltb a b) refl
 
 -- ---- sums
 
-pub parts-sub : (a b : ℕ) → up (subℕ a b) + b ≡ a + down (subℕ a b)
+parts-sub : (a b : ℕ) → up (subℕ a b) + b ≡ a + down (subℕ a b)
 parts-sub a b = sub-ind (λ z. up z + b ≡ a + down z) a b (λ h. omega arith) (λ h. omega arith)
 
 pub parts-add : (x y : ℤ) → up (x +ℤ y) + down x + down y ≡ up x + up y + down (x +ℤ y)

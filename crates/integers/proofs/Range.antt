@@ -1,5 +1,5 @@
 -- Laws of the range and of answers. Only `range-fits` and `fits-range` depend on the two limits themselves.
-use mathlib.Core.Path.{_≡_, refl, sym, ap, _∙_}
+use mathlib.Core.Path.{_≡_, refl, sym, ap}
 use mathlib.Core.Bool.{Bool, true, false, and-false, cond}
 use Prim.Native.Nat.{zero, suc}
 use native.Mathlib.Omega.{arith}
@@ -9,19 +9,19 @@ use lib.Signed.{mag, ltZ, leZ}
 use mir.Syntax.{w32}
 use mir.Val.{SFits}
 use mathlib.Mathlib.Data.Bool.Basic.{and-elim-left}
-use Rattle.prelude.proofs.Absurd.{never, impossible}
+use Rattle.prelude.proofs.Absurd.{never}
 use Rattle.integers.specs.declared.Number.the-variants.{Is, OutOfRange, ByZero}
 use Rattle.integers.specs.Whole.{least, greatest, inRange, InRange, answer, divided}
 
 -- ---- tests
 
-pub lt-not-le : (a b : ℤ) → ltZ a b ≡ true → leZ b a ≡ false
+lt-not-le : (a b : ℤ) → ltZ a b ≡ true → leZ b a ≡ false
 lt-not-le (pos a) (pos b) e = lt-leb b a (ltb-true a b e)
 lt-not-le (pos a) (negsuc b) e = never e
 lt-not-le (negsuc a) (pos b) e = refl
 lt-not-le (negsuc a) (negsuc b) e = lt-leb a b (ltb-true b a e)
 
-pub not-lt-le : (a b : ℤ) → ltZ a b ≡ false → leZ b a ≡ true
+not-lt-le : (a b : ℤ) → ltZ a b ≡ false → leZ b a ≡ true
 not-lt-le (pos a) (pos b) e = le-leb b a (ltb-false a b e)
 not-lt-le (pos a) (negsuc b) e = refl
 not-lt-le (negsuc a) (pos b) e = sym e
@@ -63,14 +63,6 @@ pub record Answered (z n : ℤ) : Type 0 where
   pub exact : n ≡ z
   pub inside : InRange n
 
-pub answer-is : {z n : ℤ} → answer z ≡ Is n → Answered z n
-unfolding answer
-answer-is {z} {n} e = go (inRange z) refl e
-  where
-    go : (t : Bool) → inRange z ≡ t → cond t (Is z) OutOfRange ≡ Is n → Answered z n
-    go true i e = let f : n ≡ z = cc in record { exact = f; inside = ap inRange f ∙ i }
-    go false i e = impossible cc
-
 -- ---- division
 
 pub divided-other : (right z : ℤ) → (right ≡ pos 0 → ⊥) → divided right z ≡ answer z
@@ -80,8 +72,3 @@ divided-other (negsuc k) z n = refl
 
 pub divided-zero : {right : ℤ} (z : ℤ) → right ≡ pos 0 → divided right z ≡ ByZero
 divided-zero z e = ap (λ (r : ℤ). divided r z) e
-
-pub divided-is : (right z : ℤ) {n : ℤ} → divided right z ≡ Is n → Answered z n
-divided-is (pos zero) z e = impossible cc
-divided-is (pos (suc k)) z e = answer-is e
-divided-is (negsuc k) z e = answer-is e

@@ -1,7 +1,7 @@
 -- Laws of numbers as bytes: what was written is read back, and what was read is written back.
 use mathlib.Core.Path.{_≡_, refl, sym, ap, ap₂, _∙_}
 use mathlib.Core.List.{List, [], _∷_, _++_, append-assoc}
-use Prim.Native.Nat.{ℕ, suc, _+_, _*_, _/_, _%_, _≤_, _<_}
+use Prim.Native.Nat.{ℕ, suc, _+_, _*_, _≤_, _<_}
 use native.Mathlib.Numerals.{add-one, add-two}
 use native.Mathlib.Nat.{add-zero}
 use native.Mathlib.Omega.{arith}
@@ -10,49 +10,40 @@ use lib.ListN.{length, getD, set, take, drop}
 use lib.Seq.{sets, sets-eq, getD-take, getD-drop, take-set-le, drop-at, drop-cons, drop-drop, take-add, length-take-le}
 use mir.Syntax.{w32}
 use mir.Val.{SFits, toZ}
-use mir.Facts.{toZ-ofZ, ofZ-toZ, fits-ofZ}
+use mir.Facts.{toZ-ofZ, ofZ-toZ}
 use Rattle.integers.specs.Bytes.{pair, four, bitsOf, integerBytes, word, bits32, integerAt}
 
 -- ---- two's complement: the bits of an integer and back
 
-pub bits-low : {z : ℤ} → SFits w32 z → bitsOf z < 4294967296
-bits-low {z} f = fits-ofZ {z = z} f .fits
-
-pub integer-bits : {z : ℤ} → SFits w32 z → toZ w32 (bitsOf z) ≡ z
+integer-bits : {z : ℤ} → SFits w32 z → toZ w32 (bitsOf z) ≡ z
 integer-bits f = toZ-ofZ f
 
-pub bits-integer : (n : ℕ) → n < 4294967296 → bitsOf (toZ w32 n) ≡ n
+bits-integer : (n : ℕ) → n < 4294967296 → bitsOf (toZ w32 n) ≡ n
 bits-integer n h = ofZ-toZ {w = w32} {n = n} (record { fits = h })
 
 -- ---- bytes are below 256, and a word of two bytes below 65,536
 
-pub pair-low : (n : ℕ) → n < 65536 → (n % 256 < 256) × (n / 256 < 256)
-pair-low n h = (omega arith, omega arith)
-
 module _ (s : List ℕ) (bytes : (i : ℕ) → getD s i 0 < 256) where
-  pub word-low : (at : ℕ) → word s at < 65536
+  word-low : (at : ℕ) → word s at < 65536
   word-low at = omega (arith, bytes at, bytes (at + 1))
 
-  pub bits32-low : (at : ℕ) → bits32 s at < 4294967296
+  bits32-low : (at : ℕ) → bits32 s at < 4294967296
   bits32-low at = omega (arith, word-low at, word-low (at + 2))
 
 -- ---- read what was written
 
-pub word-pair : (n : ℕ) (rest : List ℕ) → word (pair n ++ rest) 0 ≡ n
+word-pair : (n : ℕ) (rest : List ℕ) → word (pair n ++ rest) 0 ≡ n
 word-pair n rest = omega arith
-
-pub four-halves : (n : ℕ) → four n ≡ pair (n % 65536) ++ pair (n / 65536)
-four-halves n = refl
 
 pub bits32-four : (n : ℕ) (rest : List ℕ) → bits32 (four n ++ rest) 0 ≡ n
 bits32-four n rest = omega arith
 
-pub integer-four : {z : ℤ} (rest : List ℕ) → SFits w32 z → integerAt (integerBytes z ++ rest) 0 ≡ z
+integer-four : {z : ℤ} (rest : List ℕ) → SFits w32 z → integerAt (integerBytes z ++ rest) 0 ≡ z
 integer-four {z} rest f = ap (toZ w32) (bits32-four (bitsOf z) rest) ∙ integer-bits f
 
 -- ---- the same in a part of the list
 
-pub word-drop : (s : List ℕ) (at i : ℕ) → word (drop at s) i ≡ word s (at + i)
+word-drop : (s : List ℕ) (at i : ℕ) → word (drop at s) i ≡ word s (at + i)
 word-drop s at i =
     let e : at + (i + 1) ≡ at + i + 1 = omega arith in
     rw (getD-drop at s i 0, getD-drop at s (i + 1) 0, e)
@@ -61,9 +52,6 @@ pub bits32-drop : (s : List ℕ) (at i : ℕ) → bits32 (drop at s) i ≡ bits3
 bits32-drop s at i =
     let e : at + (i + 2) ≡ at + i + 2 = omega arith in
     rw (word-drop s at i, word-drop s at (i + 2), e)
-
-pub integer-drop : (s : List ℕ) (at i : ℕ) → integerAt (drop at s) i ≡ integerAt s (at + i)
-integer-drop s at i = ap (toZ w32) (bits32-drop s at i)
 
 -- ---- at a place where it was stored
 
@@ -85,21 +73,6 @@ drop-sets vs s at h =
     let g : at ≤ length s = omega arith in
     ap (drop at) (sets-eq vs s at h ∙ append-assoc (take at s) vs rest) ∙ drop-at (take at s) (vs ++ rest) at (length-take-le at s g)
 
-pub word-stored : (s : List ℕ) (at n : ℕ) → at + 2 ≤ length s → word (sets s at (pair n)) at ≡ n
-word-stored s at n h =
-    let t = sets s at (pair n) in
-    let e : at + 0 ≡ at = omega arith in
-    ap (word t) (sym e) ∙ sym (word-drop t at 0) ∙ ap (λ (l : List ℕ). word l 0) (drop-sets (pair n) s at h) ∙ word-pair n (drop (at + 2) s)
-
-pub integer-stored : (s : List ℕ) (at : ℕ) {z : ℤ} → SFits w32 z → at + 4 ≤ length s → integerAt (sets s at (integerBytes z)) at ≡ z
-integer-stored s at {z} f h =
-    let t = sets s at (integerBytes z) in
-    let e : at + 0 ≡ at = omega arith in
-    ap (integerAt t) (sym e)
-    ∙ sym (integer-drop t at 0)
-    ∙ ap (λ (l : List ℕ). integerAt l 0) (drop-sets (integerBytes z) s at h)
-    ∙ integer-four (drop (at + 4) s) f
-
 -- ---- below a place up to which two lists agree
 
 module _ (s t : List ℕ) (base : ℕ) (kept : take base t ≡ take base s) where
@@ -108,9 +81,6 @@ module _ (s t : List ℕ) (base : ℕ) (kept : take base t ≡ take base s) wher
 
   pub word-kept : (at : ℕ) → at + 2 ≤ base → word t at ≡ word s at
   word-kept at h = ap₂ (λ (x y : ℕ). x + 256 * y) (byte-kept at (omega arith)) (byte-kept (at + 1) (omega arith))
-
-  pub integer-kept : (at : ℕ) → at + 4 ≤ base → integerAt t at ≡ integerAt s at
-  integer-kept at h = ap₂ (λ (x y : ℕ). toZ w32 (x + 65536 * y)) (word-kept at (omega arith)) (word-kept (at + 2) (omega arith))
 
 -- ---- what was read is what stands there
 
@@ -121,7 +91,7 @@ two-here s at h =
     rw (drop-cons s at 0 g, drop-cons s (suc at) 0 k, add-one, add-two)
 
 module _ (s : List ℕ) (bytes : (i : ℕ) → getD s i 0 < 256) where
-  pub pair-word : (at : ℕ) → at + 2 ≤ length s → take 2 (drop at s) ≡ pair (word s at)
+  pair-word : (at : ℕ) → at + 2 ≤ length s → take 2 (drop at s) ≡ pair (word s at)
   pair-word at h =
       ap (take 2) (two-here s at h)
       ∙ ap₂ (λ (x y : ℕ). x ∷ y ∷ []) (omega (arith, bytes at, bytes (at + 1))) (omega (arith, bytes at, bytes (at + 1)))
@@ -130,11 +100,11 @@ module _ (s : List ℕ) (bytes : (i : ℕ) → getD s i 0 < 256) where
   words-are at =
       ap₂ (λ (x y : ℕ). pair x ++ pair y) (omega (arith, word-low s bytes at)) (omega (arith, word-low s bytes at))
 
-  pub four-bits32 : (at : ℕ) → at + 4 ≤ length s → take 4 (drop at s) ≡ four (bits32 s at)
+  four-bits32 : (at : ℕ) → at + 4 ≤ length s → take 4 (drop at s) ≡ four (bits32 s at)
   four-bits32 at h =
       take-add 2 2 (drop at s)
       ∙ ap₂ (λ (x y : List ℕ). x ++ y) (pair-word at (omega arith)) (ap (take 2) (drop-drop 2 at s) ∙ pair-word (at + 2) (omega arith))
       ∙ words-are at
 
-  pub four-integer : (at : ℕ) → at + 4 ≤ length s → take 4 (drop at s) ≡ integerBytes (integerAt s at)
+  four-integer : (at : ℕ) → at + 4 ≤ length s → take 4 (drop at s) ≡ integerBytes (integerAt s at)
   four-integer at h = four-bits32 at h ∙ ap four (sym (bits-integer (bits32 s at) (bits32-low s bytes at)))

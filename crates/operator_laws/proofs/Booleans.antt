@@ -14,13 +14,13 @@ decided (settles a) b = a
 decided leaves b = b
 
 -- The truth tables of page 7.
-abbrev pub table : Connective → Bool → Bool → Bool
+abbrev table : Connective → Bool → Bool → Bool
 table and a b = a && b
 table or a b = a || b
 table implies a b = not a || b
 
 -- THEOREM: and, or and => of two booleans are as in the tables
-pub connective-table : (c : Connective) (a b : Bool) → decided (left c (boolean a)) (right (boolean b)) ≡ truth (table c a b)
+connective-table : (c : Connective) (a b : Bool) → decided (left c (boolean a)) (right (boolean b)) ≡ truth (table c a b)
 connective-table and true b = refl
 connective-table and false b = refl
 connective-table or true b = refl
@@ -29,14 +29,14 @@ connective-table implies true b = refl
 connective-table implies false b = refl
 
 -- THEOREM: a right that is no boolean is wrong only where the left leaves it to the right
-pub connective-right : (c : Connective) (a : Bool) (w : Value) → right w ≡ refused wrongKind → left c (boolean a) ≡ leaves → decided (left c (boolean a)) (right w) ≡ refused wrongKind
+connective-right : (c : Connective) (a : Bool) (w : Value) → right w ≡ refused wrongKind → left c (boolean a) ≡ leaves → decided (left c (boolean a)) (right w) ≡ refused wrongKind
 connective-right c a w e l = ap (λ (x : Left). decided x (right w)) l ∙ e
 
 -- THEOREM: not and <=>
-pub negation-table : (b : Bool) → negation (boolean b) ≡ truth (not b)
+negation-table : (b : Bool) → negation (boolean b) ≡ truth (not b)
 negation-table b = refl
 
-pub biimplication-table : (a b : Bool) → biimplication (boolean a) (boolean b) ≡ truth (Bool·beq a b)
+biimplication-table : (a b : Bool) → biimplication (boolean a) (boolean b) ≡ truth (Bool·beq a b)
 unfolding within orderℕ
 biimplication-table true true = refl
 biimplication-table true false = refl
@@ -44,8 +44,8 @@ biimplication-table false true = refl
 biimplication-table false false = refl
 
 -- THEOREM: = is true of equal values and of no others
-pub equality-true : (v w : Value) → equality v w ≡ truth true → v ≡ w
+equality-true : (v w : Value) → equality v w ≡ truth true → v ≡ w
 equality-true v w e = same-true v w (let f : same v w ≡ true = cc in f)
 
-pub true-equality : (v w : Value) → v ≡ w → equality v w ≡ truth true
+true-equality : (v w : Value) → v ≡ w → equality v w ≡ truth true
 true-equality v w e = ap truth (true-same e)

@@ -57,7 +57,7 @@ module _ (p : Value → Value → Bool) where
       by-entries (λ (vs : Items). Paired (keepEntries p vs)) tt
       (λ k v vs q r. by-test (p k v) (λ e. rw (keep-true k v vs e) r) (λ e. rw (keep-false k v vs e) r))
 
-  pub before-keys : (u : Value) (vs : Items) → Paired vs → Before u (keys vs) → Before u (keys (keepEntries p vs))
+  before-keys : (u : Value) (vs : Items) → Paired vs → Before u (keys vs) → Before u (keys (keepEntries p vs))
   unfolding everyOther Before keepEntries
   before-keys u =
       by-entries (λ (vs : Items). Before u (keys vs) → Before u (keys (keepEntries p vs))) (λ b. tt)

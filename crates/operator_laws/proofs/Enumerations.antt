@@ -39,7 +39,7 @@ by-fitting vs f g =
     (λ e. let h : mostBytes < 4 + sizes vs = leb-false (4 + sizes vs) mostBytes e in g h (fits-not vs h))
 
 -- What was built is one thing alone.
-pub built-one : {vs ws : Items} → built vs ≡ built ws → vs ≡ ws
+built-one : {vs ws : Items} → built vs ≡ built ws → vs ≡ ws
 built-one e = cc
 
 never-built : {X : Type 0} {n : ℕ} {vs : Items} → stopped n ≡ built vs → X
@@ -48,7 +48,7 @@ never-built e = impossible cc
 -- ---- sets, sequences, tuples: 28 comes exactly when what is finished is over 512 bytes
 
 -- Members added one by one are the members added, if they fit.
-pub addMembers-is : (vs ws : Items) → 4 + sizes vs ≤ mostBytes → addMembers vs ws ≡ fitting (insertAll vs ws)
+addMembers-is : (vs ws : Items) → 4 + sizes vs ≤ mostBytes → addMembers vs ws ≡ fitting (insertAll vs ws)
 unfolding addMembers insertAll
 addMembers-is vs none h = sym (fits vs h)
 addMembers-is vs (more w ws) h =
@@ -56,7 +56,7 @@ addMembers-is vs (more w ws) h =
     (λ g e. ap (λ (b : Built). onward b (λ us. addMembers us ws)) e ∙ sym (fits-not (insertAll (insert w vs) ws) (omega (arith, sizes-grow-all (insert w vs) ws))))
 
 -- Items added one by one are the items joined, if they fit.
-pub addItems-is : (vs ws : Items) → 4 + sizes vs ≤ mostBytes → addItems vs ws ≡ fitting (join vs ws)
+addItems-is : (vs ws : Items) → 4 + sizes vs ≤ mostBytes → addItems vs ws ≡ fitting (join vs ws)
 unfolding addItems join size
 addItems-is vs none h = sym (fits vs h) ∙ ap fitting (sym (join-none vs))
 addItems-is vs (more w ws) h =
@@ -79,14 +79,14 @@ pub sequenceOf-is : (vs : Items) → sequenceOf vs ≡ sized sequence vs
 unfolding join
 sequenceOf-is vs = ap (closed sequence) (addItems-is none vs nothing-fits)
 
-pub tupleOf-is : (vs : Items) → tupleOf vs ≡ sized tuple vs
+tupleOf-is : (vs : Items) → tupleOf vs ≡ sized tuple vs
 unfolding join
 tupleOf-is vs = ap (closed tuple) (addItems-is none vs nothing-fits)
 
 -- ---- maps
 
 -- The items map the key to the value.
-abbrev pub isMapped : Option Value → Value → Bool
+abbrev isMapped : Option Value → Value → Bool
 isMapped absent v = false
 isMapped (some w) v = same v w
 
@@ -100,7 +100,7 @@ maps-is vs k v e = go (lookup k vs) e
     go absent e = impossible cc
     go (some w) e = ap some (sym (same-true v w e))
 
-pub is-maps : (vs : Items) (k v : Value) → lookup k vs ≡ some v → mapsTo vs k v ≡ true
+is-maps : (vs : Items) (k v : Value) → lookup k vs ≡ some v → mapsTo vs k v ≡ true
 is-maps vs k v e = ap (λ (o : Option Value). isMapped o v) e ∙ same-refl v
 
 -- A proof by the three ways in which an entry is added.
@@ -168,7 +168,7 @@ again-entered vs ws us k v e h = record {
 }
 
 -- THEOREM: what a map that is built maps its keys to
-pub addEntries-built : (vs ws us : Items) → Paired vs → Paired ws → addEntries vs ws ≡ built us → Entered vs ws us
+addEntries-built : (vs ws us : Items) → Paired vs → Paired ws → addEntries vs ws ≡ built us → Entered vs ws us
 unfolding addEntries lookup everyEntry
 addEntries-built vs ws us p q e =
     by-entries (λ (ws : Items). (vs : Items) → Paired vs → addEntries vs ws ≡ built us → Entered vs ws us)
@@ -184,7 +184,7 @@ addEntries-built vs ws us p q e =
     ws q vs p e
 
 -- THEOREM: 27 is given only where no map holds what stood there and every entry written
-pub addEntries-clash : (vs ws us : Items) → Paired vs → Paired ws → addEntries vs ws ≡ stopped 27
+addEntries-clash : (vs ws us : Items) → Paired vs → Paired ws → addEntries vs ws ≡ stopped 27
     → ((x v : Value) → lookup x vs ≡ some v → lookup x us ≡ some v) → everyEntry (λ k v. mapsTo us k v) ws ≡ true → ⊥
 unfolding addEntries everyEntry
 addEntries-clash vs ws us p q e h m =
@@ -239,7 +239,7 @@ abbrev pub FineBuilt : Kind → Built → Type 0
 FineBuilt k (built vs) = Good k vs
 FineBuilt k (stopped n) = (20 ≤ n) × (n ≤ 28)
 
-pub closed-fine : (k : Kind) (b : Built) → FineBuilt k b → Fine (closed k b)
+closed-fine : (k : Kind) (b : Built) → FineBuilt k b → Fine (closed k b)
 closed-fine k (built vs) g = wellFormed g
 closed-fine k (stopped n) g = g
 

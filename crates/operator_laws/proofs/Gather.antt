@@ -23,7 +23,7 @@ pub member-none : (x : Value) → isMember x none ≡ false
 unfolding isMember
 member-none x = refl
 
-pub member-more : (x v : Value) (vs : Items) → isMember x (more v vs) ≡ same x v || isMember x vs
+member-more : (x v : Value) (vs : Items) → isMember x (more v vs) ≡ same x v || isMember x vs
 unfolding isMember
 member-more x v vs = cond-or (same x v) (isMember x vs)
 
@@ -39,7 +39,7 @@ member-case {P} x v vs e f g = go (same x v) refl e
 pub member-there : (x v : Value) (vs : Items) → isMember x vs ≡ true → isMember x (more v vs) ≡ true
 member-there x v vs e = member-more x v vs ∙ or-inr (same x v) (isMember x vs) e
 
-pub member-join : (x : Value) (vs ws : Items) → isMember x (join vs ws) ≡ isMember x vs || isMember x ws
+member-join : (x : Value) (vs ws : Items) → isMember x (join vs ws) ≡ isMember x vs || isMember x ws
 unfolding join isMember
 member-join x none ws = refl
 member-join x (more v vs) ws =
@@ -107,7 +107,7 @@ member-keep p x (more v vs) =
     kept false true m q f = ap (λ (c : Bool). m && c) (f refl) ∙ and-false m ∙ sym (f refl)
     kept false false m q f = refl
 
-pub before-keep : (p : Value → Bool) (u : Value) (vs : Items) → Before u vs → Before u (keep p vs)
+before-keep : (p : Value → Bool) (u : Value) (vs : Items) → Before u vs → Before u (keep p vs)
 unfolding Before keep
 before-keep p u none b = tt
 before-keep p u (more v vs) b = by-test (p v) (λ e. rw e (b .0, before-keep p u vs (b .1))) (λ e. rw e (before-keep p u vs (b .1)))
@@ -188,17 +188,6 @@ sound-flatten none s = tt
 sound-flatten (more v vs) s = join-sound (itemsOf v) (flatten vs) (sound-itemsOf v (s .0)) (sound-flatten vs (s .1))
 
 -- ---- backwards
-
-pub member-backwards : (x : Value) (vs : Items) → isMember x (backwards vs) ≡ isMember x vs
-unfolding backwards isMember
-member-backwards x none = refl
-member-backwards x (more v vs) =
-    member-join x (backwards vs) (more v none) ∙ ap (λ (m : Bool). m || cond (same x v) true false) (member-backwards x vs) ∙ go (same x v) (isMember x vs)
-  where
-    go : (s m : Bool) → m || cond s true false ≡ cond s true m
-    go true true = refl
-    go true false = refl
-    go false m = sym (sym (or-false m))
 
 pub count-backwards : (vs : Items) → count (backwards vs) ≡ count vs
 unfolding backwards count

@@ -11,7 +11,7 @@ use Rattle.values.specs.Value.{Value, Items, none, more, everyOther, keys, mapp
 use Rattle.values.specs.Items.{same, isMember, lookup, enter}
 use Rattle.values.proofs.Order.{same-true, true-same}
 use Rattle.values.proofs.Members.{member-here}
-use Rattle.values.proofs.Entries.{by-entries, isThere, key-there, before-nothing, paired-enter, ascending-enter, lookup-enter, enter-present, sizes-enter}
+use Rattle.values.proofs.Entries.{by-entries, before-nothing, paired-enter, ascending-enter, lookup-enter, enter-present, sizes-enter}
 use Rattle.operators.specs.Answer.{Built, built, fitting}
 use Rattle.operators.specs.Gather.{insertAll, everyEntry, keepEntries, enterAll}
 use Rattle.operators.specs.Maps.{agrees, compatible}
@@ -21,10 +21,6 @@ use Rattle.operator_laws.proofs.Entries.{everyEntry-at, passing, lookup
 use Rattle.operator_laws.proofs.Enumerations.{fits, fits-not, by-fitting, by-entry}
 
 -- ---- dom, rng
-
--- THEOREM: dom m is the set of keys of m
-pub member-domain : (k : Value) (vs : Items) → Paired vs → isMember k (keys vs) ≡ isThere (lookup k vs)
-member-domain k vs p = key-there k vs p
 
 -- Some key is mapped to the value.
 pub record Mapped (x : Value) (vs : Items) : Type 0 where
@@ -62,18 +58,18 @@ mapped-in k x =
     (λ s. member-there x v (mapped vs) (r (sym (cond-false (same k l) (some v) (lookup k vs) s) ∙ e))))
 
 -- THEOREM: rng m is the set of the values that m maps its keys to
-pub range-maps : (x : Value) (vs : Items) → Paired vs → Ascending (keys vs) → isMember x (insertAll none (mapped vs)) ≡ true → Mapped x vs
+range-maps : (x : Value) (vs : Items) → Paired vs → Ascending (keys vs) → isMember x (insertAll none (mapped vs)) ≡ true → Mapped x vs
 unfolding isMember
 range-maps x vs p a e = in-mapped x vs p a (sym (member-insertAll x none (mapped vs)) ∙ e)
 
-pub maps-range : (k x : Value) (vs : Items) → Paired vs → lookup k vs ≡ some x → isMember x (insertAll none (mapped vs)) ≡ true
+maps-range : (k x : Value) (vs : Items) → Paired vs → lookup k vs ≡ some x → isMember x (insertAll none (mapped vs)) ≡ true
 unfolding isMember
 maps-range k x vs p e = member-insertAll x none (mapped vs) ∙ mapped-in k x vs p e
 
 -- ---- munion, ++
 
 -- THEOREM: two maps are compatible if any common key is mapped to the same value by both
-pub compatible-at : (vs ws : Items) → Paired ws → compatible vs ws ≡ true → (k v w : Value) → lookup k vs ≡ some v → lookup k ws ≡ some w → v ≡ w
+compatible-at : (vs ws : Items) → Paired ws → compatible vs ws ≡ true → (k v w : Value) → lookup k vs ≡ some v → lookup k ws ≡ some w → v ≡ w
 compatible-at vs ws q e k v w f g =
     let h = everyEntry-at (λ k v. agrees (lookup k vs) v) ws q e k w g in
     sym (same-true w v (sym (ap (λ (o : Option Value). agrees o w) f) ∙ h))
@@ -89,30 +85,26 @@ everyEntry-all p =
     (by-test (same l k) (λ s. clash-free (ap (λ (y : Value). lookup y vs) (same-true l k s) ∙ before-nothing k vs q (a .0)) e)
     (λ s. cond-false (same l k) (some v) (lookup l vs) s ∙ e)))))
 
-pub compatible-all : (vs ws : Items) → Paired ws → Ascending (keys ws) → ((k v w : Value) → lookup k vs ≡ some v → lookup k ws ≡ some w → v ≡ w) → compatible vs ws ≡ true
+compatible-all : (vs ws : Items) → Paired ws → Ascending (keys ws) → ((k v w : Value) → lookup k vs ≡ some v → lookup k ws ≡ some w → v ≡ w) → compatible vs ws ≡ true
 compatible-all vs ws q a f = everyEntry-all (λ k v. agrees (lookup k vs) v) ws q a (λ k w e. go k w (lookup k vs) refl e)
   where
     go : (k w : Value) (o : Option Value) → lookup k vs ≡ o → lookup k ws ≡ some w → agrees o w ≡ true
     go k w absent d e = refl
     go k w (some v) d e = true-same (sym (f k v w d e))
 
--- THEOREM: m1 ++ m2 maps the keys of m2 as m2 does, and the other keys as m1 does
-pub lookup-override : (x : Value) (vs ws : Items) → Paired vs → Paired ws → Ascending (keys ws) → lookup x (enterAll vs ws) ≡ orElse (lookup x ws) (lookup x vs)
-lookup-override x vs ws p q a = lookup-enterAll x vs ws p q a
-
 -- THEOREM: m1 munion m2 maps the keys of m1 as m1 does, and the keys of m2 as m2 does
 module _ (vs ws : Items) (p : Paired vs) (q : Paired ws) (a : Ascending (keys ws)) where
-  pub merge-right : (k v : Value) → lookup k ws ≡ some v → lookup k (enterAll vs ws) ≡ some v
+  merge-right : (k v : Value) → lookup k ws ≡ some v → lookup k (enterAll vs ws) ≡ some v
   merge-right k v e = lookup-enterAll k vs ws p q a ∙ ap (λ (o : Option Value). orElse o (lookup k vs)) e
 
-  pub merge-left : compatible vs ws ≡ true → (k v : Value) → lookup k vs ≡ some v → lookup k (enterAll vs ws) ≡ some v
+  merge-left : compatible vs ws ≡ true → (k v : Value) → lookup k vs ≡ some v → lookup k (enterAll vs ws) ≡ some v
   merge-left c k v e = lookup-enterAll k vs ws p q a ∙ go (lookup k ws) refl
     where
       go : (o : Option Value) → lookup k ws ≡ o → orElse o (lookup k vs) ≡ some v
       go absent d = e
       go (some w) d = ap some (sym (compatible-at vs ws q c k v w e d))
 
-  pub merge-neither : (k : Value) → lookup k vs ≡ absent → lookup k ws ≡ absent → lookup k (enterAll vs ws) ≡ absent
+  merge-neither : (k : Value) → lookup k vs ≡ absent → lookup k ws ≡ absent → lookup k (enterAll vs ws) ≡ absent
   merge-neither k e f = lookup-enterAll k vs ws p q a ∙ ap (λ (o : Option Value). orElse o (lookup k vs)) f ∙ e
 
 -- ---- munion part by part
@@ -155,7 +147,7 @@ merge-grows vs ws p a q b c =
     ws q vs p a b c
 
 -- THEOREM: the entries of a compatible map added one by one are the two maps merged, if that fits
-pub addEntries-is : (vs ws : Items) → Paired vs → Ascending (keys vs) → Paired ws → Ascending (keys ws) → 4 + sizes vs ≤ mostBytes → compatible vs ws ≡ true → addEntries vs ws ≡ fitting (enterAll vs ws)
+addEntries-is : (vs ws : Items) → Paired vs → Ascending (keys vs) → Paired ws → Ascending (keys ws) → 4 + sizes vs ≤ mostBytes → compatible vs ws ≡ true → addEntries vs ws ≡ fitting (enterAll vs ws)
 unfolding everyOther Ascending enterAll addEntries
 addEntries-is vs ws p a q b l c =
     by-entries
@@ -180,7 +172,7 @@ addEntries-is vs ws p a q b l c =
 -- ---- <:, :>
 
 -- THEOREM: s <: m consists of the elements in m whose key is in s
-pub lookup-domain : (x : Value) (vs ws : Items) → Paired ws → Ascending (keys ws) → lookup x (keepEntries (λ k v. isMember k vs) ws) ≡ cond (isMember x vs) (lookup x ws) absent
+lookup-domain : (x : Value) (vs ws : Items) → Paired ws → Ascending (keys ws) → lookup x (keepEntries (λ k v. isMember k vs) ws) ≡ cond (isMember x vs) (lookup x ws) absent
 lookup-domain x vs ws p a = lookup-keep (λ k v. isMember k vs) x ws p a ∙ go (lookup x ws) (isMember x vs) refl
   where
     go : (o : Option Value) (b : Bool) → isMember x vs ≡ b → passing (λ k v. isMember k vs) x o ≡ cond b o absent
@@ -189,5 +181,5 @@ lookup-domain x vs ws p a = lookup-keep (λ k v. isMember k vs) x ws p a ∙ go 
     go (some v) b e = ap (λ (c : Bool). cond c (some v) absent) e
 
 -- THEOREM: m :> s consists of the elements in m whose value is in s
-pub lookup-range : (x : Value) (vs ws : Items) → Paired vs → Ascending (keys vs) → lookup x (keepEntries (λ k v. isMember v ws) vs) ≡ passing (λ k v. isMember v ws) x (lookup x vs)
+lookup-range : (x : Value) (vs ws : Items) → Paired vs → Ascending (keys vs) → lookup x (keepEntries (λ k v. isMember v ws) vs) ≡ passing (λ k v. isMember v ws) x (lookup x vs)
 lookup-range x vs ws p a = lookup-keep (λ k v. isMember v ws) x vs p a

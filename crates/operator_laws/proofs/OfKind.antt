@@ -5,27 +5,16 @@ use mathlib.Core.Option.{none as absent, some}
 use native.Mathlib.Omega.{arith}
 use borrow.Author.Tests.{eq-eqb, ne-eqb}
 use lib.Dec.{eqb}
-use lib.IntN.{ℤ}
 use Rattle.values.specs.Value.{Kind, number, kindOf, Value, boolean, integer, collection, Items}
 use Rattle.values.proofs.Order.{number-low, number-inj}
 use Rattle.operators.specs.Answer.{asBoolean, asInteger, asKind}
 use Rattle.operators.specs.Gather.{isKind}
 
--- A value of this kind is what the view finds, and nothing else is.
-pub boolean-is : (v : Value) → kindOf v ≡ 1 → (b : Bool) × (v ≡ boolean b)
-boolean-is (boolean b) e = (b, refl)
-boolean-is (integer z) e = absurd (omega arith)
-boolean-is (collection k vs) e = absurd (omega (arith, number-low k))
-
+-- A value of this kind is what the view finds (`is-boolean`, `is-integer` of values, Records), and nothing else is.
 pub boolean-not : (v : Value) → (kindOf v ≡ 1 → ⊥) → asBoolean v ≡ absent
 boolean-not (boolean b) f = absurd (f refl)
 boolean-not (integer z) f = refl
 boolean-not (collection k vs) f = refl
-
-pub integer-is : (v : Value) → kindOf v ≡ 2 → (z : ℤ) × (v ≡ integer z)
-integer-is (boolean b) e = absurd (omega arith)
-integer-is (integer z) e = (z, refl)
-integer-is (collection k vs) e = absurd (omega (arith, number-low k))
 
 pub integer-not : (v : Value) → (kindOf v ≡ 2 → ⊥) → asInteger v ≡ absent
 integer-not (boolean b) f = refl

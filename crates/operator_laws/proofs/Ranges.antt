@@ -13,7 +13,7 @@ use Rattle.prelude.proofs.Truth.{both-ways, by-test}
 use Rattle.integers.specs.Whole.{least, greatest, InRange}
 use Rattle.integers.proofs.Parts.{up, down, parts-add, parts-minus, eq-parts}
 use Rattle.integers.specs.declared.Order.the-variants.{Lower}
-use Rattle.values.specs.Value.{Value, integer, count, size, sizes, within, order, Before, Ascending, Sound, SoundItems}
+use Rattle.values.specs.Value.{integer, size, sizes, within, order, Before, Ascending, Sound, SoundItems}
 use Rattle.integers.specs.Order.{orderℕ, orderℤ}
 use Rattle.values.specs.Items.{isMember}
 use Rattle.values.proofs.Members.{member-here}
@@ -35,7 +35,7 @@ up-le (pos a) (negsuc b) h = absurd (omega arith)
 up-le (negsuc a) (pos b) h = refl
 up-le (negsuc a) (negsuc b) h = le-leb b a (omega arith)
 
-pub up-lt : (a b : ℤ) → up a + down b < up b + down a → ltZ a b ≡ true
+up-lt : (a b : ℤ) → up a + down b < up b + down a → ltZ a b ≡ true
 up-lt (pos a) (pos b) h = lt-ltb a b (omega arith)
 up-lt (pos a) (negsuc b) h = absurd (omega arith)
 up-lt (negsuc a) (pos b) h = refl
@@ -61,11 +61,6 @@ pub record Within (z i : ℤ) (n : ℕ) : Type 0 where
   pub low : up z + down i ≤ up i + down z
   pub high : up i + down z < up z + down i + n
 
-pub up-integers : (x : Value) (z : ℤ) (n : ℕ) → isMember x (upFrom z n) ≡ true → (i : ℤ) × (x ≡ integer i)
-unfolding upFrom
-up-integers x z zero e = never (sym (member-none x) ∙ e)
-up-integers x z (suc n) e = member-case x (integer z) (upFrom (z +ℤ pos 1) n) e (λ q. (z, q)) (λ m. up-integers x (z +ℤ pos 1) n m)
-
 pub member-up : (z i : ℤ) (n : ℕ) → isMember (integer i) (upFrom z n) ≡ true → Within z i n
 unfolding upFrom
 member-up z i zero e = never (sym (member-none (integer i)) ∙ e)
@@ -88,7 +83,7 @@ up-member z i (suc n) w =
     member-there (integer i) (integer z) (upFrom (z +ℤ pos 1) n) (up-member (z +ℤ pos 1) i n (record { low = omega arith; high = omega arith })))
 
 -- THEOREM: the members of {from, ..., to} are the integers from one to the other, both included
-pub member-range : (from to i : ℤ) → isMember (integer i) (upFrom from (howMany from to)) ≡ leZ from i && leZ i to
+member-range : (from to i : ℤ) → isMember (integer i) (upFrom from (howMany from to)) ≡ leZ from i && leZ i to
 member-range from to i =
     let e : ℤ = to -ℤ from +ℤ pos 1 in
     let s = parts-add (to -ℤ from) (pos 1) in
@@ -142,8 +137,3 @@ pub sizes-up : (z : ℤ) (n : ℕ) → sizes (upFrom z n) ≡ 8 * n
 unfolding upFrom size
 sizes-up z zero = refl
 sizes-up z (suc n) = let e = sizes-up (z +ℤ pos 1) n in omega arith
-
-pub count-up : (z : ℤ) (n : ℕ) → count (upFrom z n) ≡ n
-unfolding upFrom count
-count-up z zero = refl
-count-up z (suc n) = ap suc (count-up (z +ℤ pos 1) n)

@@ -49,18 +49,11 @@ wellFormed g = record { sound = (g .shaped, g .sound); short = g .short }
 
 -- ---- fine answers
 
--- What a fine answer says of the value that it is, and of the refusal.
-pub fine-is : {v : Value} {a : Answer} → Fine a → a ≡ is v → WellFormed v
-fine-is f e = subst Fine e f
-
-pub fine-refused : {n : ℕ} {a : Answer} → Fine a → a ≡ refused n → (20 ≤ n) × (n ≤ 28)
-fine-refused f e = subst Fine e f
-
-pub truth-fine : (b : Bool) → Fine (truth b)
+truth-fine : (b : Bool) → Fine (truth b)
 unfolding Sound size
 truth-fine b = record { sound = tt; short = omega arith }
 
-pub integer-fine : (z : ℤ) → InRange z → Fine (is (integer z))
+integer-fine : (z : ℤ) → InRange z → Fine (is (integer z))
 unfolding Sound size
 integer-fine z h = record { sound = h; short = omega arith }
 
@@ -83,7 +76,7 @@ unless-fine false x n l f = l
 
 -- ---- kinds
 
-pub kind-fine : (k : Kind) (f : Items → Answer) → ((vs : Items) → Good k vs → Fine (f vs)) → (v : Value) → WellFormed v → Fine (needs (asKind k v) f)
+kind-fine : (k : Kind) (f : Items → Answer) → ((vs : Items) → Good k vs → Fine (f vs)) → (v : Value) → WellFormed v → Fine (needs (asKind k v) f)
 kind-fine k f h (boolean b) w = omega arith
 kind-fine k f h (integer z) w = omega arith
 kind-fine k f h (collection l vs) w =
@@ -91,7 +84,7 @@ kind-fine k f h (collection l vs) w =
     (λ e. rw e (h vs (subst (λ (j : Kind). Good j vs) (sym (number-inj k l (eqb-true (number k) (number l) e))) (good w))))
     (λ e. rw e (omega arith))
 
-pub kinds-fine : (k l : Kind) (f : Items → Items → Answer) → ((vs ws : Items) → Good k vs → Good l ws → Fine (f vs ws))
+kinds-fine : (k l : Kind) (f : Items → Items → Answer) → ((vs ws : Items) → Good k vs → Good l ws → Fine (f vs ws))
     → (v w : Value) → WellFormed v → WellFormed w → Fine (needsBoth (asKind k v) (asKind l w) f)
 kinds-fine k l f h v w p q =
     kind-fine k (λ vs. needs (asKind l w) (λ ws. f vs ws)) (λ vs g. kind-fine l (λ ws. f vs ws) (λ ws g′. h vs ws g g′) w q) v p
@@ -164,7 +157,7 @@ first-good (integer i) e w = impossible cc
 first-good (collection l vs) e w = subst (λ (j : Kind). Good j vs) (sym (number-inj set l (eqb-true (number set) (number l) e))) (good w)
 
 -- An item of a well-formed collection is well-formed.
-pub item-fine : {k : Kind} (v : Value) (vs : Items) → Good k (more v vs) → WellFormed v
+item-fine : {k : Kind} (v : Value) (vs : Items) → Good k (more v vs) → WellFormed v
 unfolding Sound size
 item-fine v vs g = let h = g .short in record { sound = g .sound .0; short = omega arith }
 

@@ -21,12 +21,12 @@ use Rattle.operator_laws.proofs.Ranges.{le-up, up-le, member-up, up-mem
 -- ---- elems, inds, l(i)
 
 -- THEOREM: elems l contains all the elements of l
-pub member-elements : (x : Value) (vs : Items) → isMember x (insertAll none vs) ≡ isMember x vs
+member-elements : (x : Value) (vs : Items) → isMember x (insertAll none vs) ≡ isMember x vs
 unfolding isMember
 member-elements x vs = member-insertAll x none vs
 
 -- THEOREM: inds l is {1, ..., len l}
-pub member-indexes : (i : ℤ) (n : ℕ) → isMember (integer i) (upFrom (pos 1) n) ≡ leZ (pos 1) i && leZ i (pos n)
+member-indexes : (i : ℤ) (n : ℕ) → isMember (integer i) (upFrom (pos 1) n) ≡ leZ (pos 1) i && leZ i (pos n)
 member-indexes i n =
     both-ways (isMember (integer i) (upFrom (pos 1) n)) (leZ (pos 1) i && leZ i (pos n))
     (λ m. let w = member-up (pos 1) i n m in let l = w .low in let h = w .high in and-intro (up-le (pos 1) i l) (up-le i (pos n) (omega arith)))
@@ -48,7 +48,7 @@ nth-there (more v vs) zero = sym (le-leb 1 (suc (count vs)) (omega arith))
 nth-there (more v vs) (suc k) = nth-there vs k ∙ leb-suc (suc k) (count vs)
 
 -- THEOREM: l(i) is there exactly where i is in the indexes of l
-pub item-there : (vs : Items) (i : ℤ) → isThere (itemAt vs i) ≡ isMember (integer i) (upFrom (pos 1) (count vs))
+item-there : (vs : Items) (i : ℤ) → isThere (itemAt vs i) ≡ isMember (integer i) (upFrom (pos 1) (count vs))
 item-there vs i = go i ∙ sym (member-indexes i (count vs))
   where
     go : (i : ℤ) → isThere (itemAt vs i) ≡ leZ (pos 1) i && leZ i (pos (count vs))
@@ -59,29 +59,29 @@ item-there vs i = go i ∙ sym (member-indexes i (count vs))
 -- ---- ^, conc, reverse
 
 -- THEOREM: l1 ^ l2 has the elements of l1 followed by those of l2
-pub nth-left : (vs ws : Items) (k : ℕ) → k < count vs → nth (join vs ws) k ≡ nth vs k
+nth-left : (vs ws : Items) (k : ℕ) → k < count vs → nth (join vs ws) k ≡ nth vs k
 unfolding nth join count
 nth-left none ws k h = absurd (omega arith)
 nth-left (more v vs) ws zero h = refl
 nth-left (more v vs) ws (suc k) h = nth-left vs ws k (omega arith)
 
-pub nth-right : (vs ws : Items) (k : ℕ) → nth (join vs ws) (count vs + k) ≡ nth ws k
+nth-right : (vs ws : Items) (k : ℕ) → nth (join vs ws) (count vs + k) ≡ nth ws k
 unfolding nth join count
 nth-right none ws k = ap (nth ws) (let e : 0 + k ≡ k = omega arith in e)
 nth-right (more v vs) ws k = ap (nth (more v (join vs ws))) (let e : suc (count vs) + k ≡ suc (count vs + k) = omega arith in e) ∙ nth-right vs ws k
 
 -- THEOREM: conc [l1, l2] = l1 ^ l2, and so on
-pub conc-first : (vs ws : Items) → flatten (more (collection sequence vs) ws) ≡ join vs (flatten ws)
+conc-first : (vs ws : Items) → flatten (more (collection sequence vs) ws) ≡ join vs (flatten ws)
 unfolding flatten
 conc-first vs ws = refl
 
-pub conc-join : (vs ws : Items) → flatten (join vs ws) ≡ join (flatten vs) (flatten ws)
+conc-join : (vs ws : Items) → flatten (join vs ws) ≡ join (flatten vs) (flatten ws)
 unfolding flatten join
 conc-join none ws = refl
 conc-join (more v vs) ws = ap (join (itemsOf v)) (conc-join vs ws) ∙ sym (join-join (itemsOf v) (flatten vs) (flatten ws))
 
 -- THEOREM: reverse l has the elements of l in reverse order
-pub nth-backwards : (vs : Items) (j k : ℕ) → suc (j + k) ≡ count vs → nth (backwards vs) k ≡ nth vs j
+nth-backwards : (vs : Items) (j k : ℕ) → suc (j + k) ≡ count vs → nth (backwards vs) k ≡ nth vs j
 unfolding nth backwards count
 nth-backwards none j k e = absurd (omega arith)
 nth-backwards (more v vs) zero k e =
@@ -97,7 +97,7 @@ unfolding backwards join
 backwards-join none ws = sym (join-none (backwards ws))
 backwards-join (more v vs) ws = ap (λ (us : Items). join us (more v none)) (backwards-join vs ws) ∙ join-join (backwards ws) (backwards vs) (more v none)
 
-pub backwards-twice : (vs : Items) → backwards (backwards vs) ≡ vs
+backwards-twice : (vs : Items) → backwards (backwards vs) ≡ vs
 unfolding backwards join
 backwards-twice none = refl
 backwards-twice (more v vs) = backwards-join (backwards vs) (more v none) ∙ ap (more v) (backwards-twice vs)

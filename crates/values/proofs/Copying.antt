@@ -18,7 +18,7 @@ use Rattle.values.proofs.Encoding.{encode-length}
 -- ---- within one list
 
 -- s with the i bytes at `from` put at `to`
-abbrev pub pasted : List ℕ → ℕ → ℕ → ℕ → List ℕ
+abbrev pasted : List ℕ → ℕ → ℕ → ℕ → List ℕ
 pasted s from to i = paste s to (drop from s) i
 
 -- after i turns: what can be copied, of which i bytes are
@@ -122,7 +122,7 @@ copied {s} {t} {from} {to} {n} c l m =
 -- ---- out of a list, into zeros
 
 -- i bytes of a list, from a place on, and then zeros up to the limit
-abbrev pub shown : List ℕ → ℕ → ℕ → List ℕ
+abbrev shown : List ℕ → ℕ → ℕ → List ℕ
 shown s at i = paste (zeros mostBytes) 0 (drop at s) i
 
 -- after i turns: the record at a place has n bytes, of which i are copied

@@ -16,6 +16,7 @@ use Rattle.integers.specs.Bytes.{word, four, integerAt}
 use Rattle.integers.proofs.Range.{range-fits}
 use Rattle.values.specs.Value.{Kind, set, sequence, map, tuple, number, Value, boolean, integer, collection, Items, none, more, kindOf, count, size, sizes, byteOf, headed, encode, encodeItems, Sound, SoundItems}
 use Rattle.values.specs.Items.{join, snoc}
+use Rattle.values.proofs.Order.{kindAt, kindAt-number}
 
 -- ---- length
 
@@ -93,10 +94,6 @@ snoc-sizes vs w = let e = join-sizes vs (more w none) in omega arith
 
 -- ---- decoding
 
--- the kind that a number stands for
-abbrev kindAt : ℕ → Kind
-kindAt n = cond (eqb n 3) set (cond (eqb n 4) sequence (cond (eqb n 5) map tuple))
-
 -- The value whose record a list starts with, if it starts with one; the number bounds the depth.
 unfoldable mutual
   pub valueOf : ℕ → List ℕ → Value
@@ -111,15 +108,9 @@ unfoldable mutual
   itemsOf (suc n) [] = none
   itemsOf (suc n) (b ∷ l) = more (valueOf n (b ∷ l)) (itemsOf n (drop (word (b ∷ l) 0) (b ∷ l)))
 
-bool-back : (b : Bool) → eqb (byteOf b) 1 ≡ b
+pub bool-back : (b : Bool) → eqb (byteOf b) 1 ≡ b
 bool-back true = refl
 bool-back false = refl
-
-kind-back : (k : Kind) → kindAt (number k) ≡ k
-kind-back set = refl
-kind-back sequence = refl
-kind-back map = refl
-kind-back tuple = refl
 
 kind-other : (k : Kind) → (eqb (number k) 1 ≡ false) × (eqb (number k) 2 ≡ false)
 kind-other set = (refl, refl)
@@ -163,10 +154,10 @@ mutual
   value-back (collection k vs) (suc n) l f h =
       let m : ℕ = 4 + sizes vs in
       let e : word (headed m (number k) (encodeItems vs ++ l)) 0 - 4 ≡ sizes vs = omega arith in
-      rw (kind-word m (number k) (encodeItems vs ++ l), kind-other k .0, kind-other k .1, kind-back k, e, take-at (encodeItems vs) l (sizes vs) (encodeItems-length vs))
+      rw (kind-word m (number k) (encodeItems vs ++ l), kind-other k .0, kind-other k .1, kindAt-number k, e, take-at (encodeItems vs) l (sizes vs) (encodeItems-length vs))
       (ap (collection k) (items-back vs n (f .1) (omega arith)))
 
-  pub items-back : (vs : Items) (n : ℕ) → SoundItems vs → sizes vs + 1 ≤ n → itemsOf n (encodeItems vs) ≡ vs
+  items-back : (vs : Items) (n : ℕ) → SoundItems vs → sizes vs + 1 ≤ n → itemsOf n (encodeItems vs) ≡ vs
   items-back none zero f h = refl
   items-back none (suc n) f h = refl
   items-back (more v vs) zero f h = let z : ⊥ = omega arith in absurd z
@@ -201,7 +192,7 @@ sameBytes (a ∷ k) [] = false
 sameBytes (a ∷ k) (b ∷ l) = cond (eqb a b) (sameBytes k l) false
 
 -- The value that a list encodes, if it encodes one.
-unfoldable pub decode : List ℕ → Option Value
+unfoldable decode : List ℕ → Option Value
 decode l = cond (sameBytes (encode (valueOf (length l) l)) l) (some (valueOf (length l) l)) absent
 
 same-bytes : (l : List ℕ) → sameBytes l l ≡ true
@@ -219,7 +210,7 @@ bytes-same (a ∷ k) (b ∷ l) e = go (eqb a b) refl e (bytes-same k l)
     go false p e f = cc
 
 -- THEOREM: what was encoded is decoded
-pub decode-encode : (v : Value) → Sound v → decode (encode v) ≡ some v
+decode-encode : (v : Value) → Sound v → decode (encode v) ≡ some v
 unfolding decode
 decode-encode v f =
     let n : ℕ = length (encode v) in
@@ -227,7 +218,7 @@ decode-encode v f =
     rw (e, same-bytes (encode v))
 
 -- THEOREM: what is decoded is what encodes the value
-pub encode-decode : (l : List ℕ) (v : Value) → decode l ≡ some v → encode v ≡ l
+encode-decode : (l : List ℕ) (v : Value) → decode l ≡ some v → encode v ≡ l
 unfolding decode
 encode-decode l v e = go (sameBytes (encode (valueOf (length l) l)) l) refl e
   where

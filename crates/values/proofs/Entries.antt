@@ -7,7 +7,7 @@ use native.Mathlib.Omega.{arith}
 use Rattle.prelude.proofs.Absurd.{impossible}
 use Rattle.prelude.proofs.Truth.{cond-true, cond-false}
 use Rattle.integers.specs.declared.Order.the-variants.{Lower, Same, Higher}
-use Rattle.values.specs.Value.{Value, Items, none, more, count, everyOther, keys, size, sizes, order, Before, Ascending, PairedFrom, Paired, Sound, SoundItems}
+use Rattle.values.specs.Value.{Value, Items, none, more, everyOther, keys, size, sizes, order, Before, Ascending, PairedFrom, Paired, Sound, SoundItems}
 use Rattle.values.specs.Items.{isSame, same, isMember, insert, lookup, enter}
 use Rattle.values.proofs.Order.{same-equal, order-refl, higher-flip, same-true}
 use Rattle.values.proofs.Members.{lower-apart, higher-apart, before-first, insert-lower, insert-same, insert-higher, by-order, ascending-insert}
@@ -18,7 +18,7 @@ pub enter-lower : (k v l : Value) (ws : Items) → order k l ≡ Lower → enter
 unfolding enter
 enter-lower k v l ws e = rw e
 
-pub enter-same : (k v l w : Value) (vs : Items) → order k l ≡ Same → enter k v (more l (more w vs)) ≡ more l (more v vs)
+enter-same : (k v l w : Value) (vs : Items) → order k l ≡ Same → enter k v (more l (more w vs)) ≡ more l (more v vs)
 unfolding enter
 enter-same k v l w vs e = rw e
 
@@ -53,7 +53,7 @@ paired-enter k v =
     by-order k l (λ o. rw (enter-lower k v l (more w vs) o) p) (λ o. rw (enter-same k v l w vs o) p) (λ o. rw (enter-higher k v l w vs o) r))
 
 -- The keys are the keys before, and the one entered, in order.
-pub keys-enter : (k v : Value) (vs : Items) → Paired vs → keys (enter k v vs) ≡ insert k (keys vs)
+keys-enter : (k v : Value) (vs : Items) → Paired vs → keys (enter k v vs) ≡ insert k (keys vs)
 unfolding enter everyOther insert
 keys-enter k v =
     by-entries (λ (vs : Items). keys (enter k v vs) ≡ insert k (keys vs)) refl
@@ -113,7 +113,8 @@ either : (b : Bool) (c : Bool) (w : Value) (o : Option Value) → c ≡ isThere 
 either true c w o e = refl
 either false c w o e = e
 
-pub key-there : (k : Value) (vs : Items) → Paired vs → isMember k (keys vs) ≡ isThere (lookup k vs)
+-- THEOREM: dom m is the set of the keys at which something stands
+key-there : (k : Value) (vs : Items) → Paired vs → isMember k (keys vs) ≡ isThere (lookup k vs)
 unfolding everyOther isMember lookup
 key-there k =
     by-entries (λ (vs : Items). isMember k (keys vs) ≡ isThere (lookup k vs)) refl
@@ -163,52 +164,7 @@ sizes-enter k v =
     (λ o. let f = lookup-here k l w vs o in cc)
     (λ o. let f = r (sym (lookup-on k l w vs o) ∙ e) in let g = ap sizes (enter-higher k v l w vs o) in omega arith))
 
-pub count-enter : (k v : Value) (vs : Items) → Paired vs → lookup k vs ≡ absent → count (enter k v vs) ≡ 2 + count vs
-unfolding enter count
-count-enter k v =
-    by-entries (λ (vs : Items). lookup k vs ≡ absent → count (enter k v vs) ≡ 2 + count vs) (λ e. refl)
-    (λ l w vs p r e.
-    by-order k l (λ o. let g = ap count (enter-lower k v l (more w vs) o) in omega arith)
-    (λ o. let f = lookup-here k l w vs o in cc)
-    (λ o. let f = r (sym (lookup-on k l w vs o) ∙ e) in let g = ap count (enter-higher k v l w vs o) in omega arith))
-
 -- ---- an entry put in only where its key is new
-
--- The first where nothing is there, else the second.
-abbrev pub ifAbsent : {A : Type 0} → Option Value → A → A → A
-ifAbsent absent a b = a
-ifAbsent (some v) a b = b
-
-unfoldable pub enterNew : Value → Value → Items → Items
-enterNew k v vs = ifAbsent (lookup k vs) (enter k v vs) vs
-
-pub new-absent : (k v : Value) (vs : Items) → lookup k vs ≡ absent → enterNew k v vs ≡ enter k v vs
-unfolding enterNew
-new-absent k v vs e = ap (λ (o : Option Value). ifAbsent o (enter k v vs) vs) e
-
-pub new-there : (k v w : Value) (vs : Items) → lookup k vs ≡ some w → enterNew k v vs ≡ vs
-unfolding enterNew
-new-there k v w vs e = ap (λ (o : Option Value). ifAbsent o (enter k v vs) vs) e
-
--- What stood at a key stands there still; at the new one there is its value.
-pub lookup-new : (x k v : Value) (vs : Items) → Paired vs → lookup x (enterNew k v vs) ≡ ifAbsent (lookup x vs) (cond (same x k) (some v) absent) (lookup x vs)
-lookup-new x k v vs p = go (lookup k vs) refl
-  where
-    -- by whether x is the key
-    at-new : (b : Bool) (o : Option Value) → (b ≡ true → o ≡ absent) → cond b (some v) o ≡ ifAbsent o (cond b (some v) absent) o
-    at-new true absent f = refl
-    at-new true (some w) f = let e = f refl in cc
-    at-new false absent f = refl
-    at-new false (some w) f = refl
-
-    at-old : (w : Value) (b : Bool) (o : Option Value) → (b ≡ true → o ≡ some w) → o ≡ ifAbsent o (cond b (some v) absent) o
-    at-old w true absent f = let e = f refl in cc
-    at-old w false absent f = refl
-    at-old w b (some u) f = refl
-
-    go : (o : Option Value) → lookup k vs ≡ o → lookup x (enterNew k v vs) ≡ ifAbsent (lookup x vs) (cond (same x k) (some v) absent) (lookup x vs)
-    go absent e = ap (lookup x) (new-absent k v vs e) ∙ lookup-enter x k v vs p ∙ at-new (same x k) (lookup x vs) (λ d. ap (λ (y : Value). lookup y vs) (same-true x k d) ∙ e)
-    go (some w) e = ap (lookup x) (new-there k v w vs e) ∙ at-old w (same x k) (lookup x vs) (λ d. ap (λ (y : Value). lookup y vs) (same-true x k d) ∙ e)
 
 -- ---- a map is what it maps its keys to
 

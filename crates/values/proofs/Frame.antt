@@ -23,7 +23,7 @@ items-moved at end d room e h = record { ends = d; fits = room; fine = h .fine; 
 pub below-less : (base n : ℕ) (s t : List ℕ) → n ≤ base → take base t ≡ take base s → take n t ≡ take n s
 below-less base n s t h e = sym (take-take n base t h) ∙ ap (take n) e ∙ take-take n base s h
 
-pub window : (at n base : ℕ) (l : List ℕ) → at + n ≤ base → take n (drop at (take base l)) ≡ take n (drop at l)
+window : (at n base : ℕ) (l : List ℕ) → at + n ≤ base → take n (drop at (take base l)) ≡ take n (drop at l)
 window zero n base l h = take-take n base l (omega arith)
 window (suc at) n zero l h = let z : ⊥ = omega arith in absurd z
 window (suc at) n (suc base) [] h = refl
@@ -32,7 +32,7 @@ window (suc at) n (suc base) (x ∷ l) h = window at n base l (omega arith)
 pub unchanged : (base at n : ℕ) (s t : List ℕ) → at + n ≤ base → take base t ≡ take base s → take n (drop at t) ≡ take n (drop at s)
 unchanged base at n s t h e = sym (window at n base t h) ∙ ap (λ (l : List ℕ). take n (drop at l)) e ∙ window at n base s h
 
-pub byte-kept : (base at : ℕ) (s t : List ℕ) → at < base → take base t ≡ take base s → getD t at 0 ≡ getD s at 0
+byte-kept : (base at : ℕ) (s t : List ℕ) → at < base → take base t ≡ take base s → getD t at 0 ≡ getD s at 0
 byte-kept base at s t h e = sym (getD-take base t at 0 h) ∙ ap (λ (l : List ℕ). getD l at 0) e ∙ getD-take base s at 0 h
 
 pub word-kept : (base at : ℕ) (s t : List ℕ) → at + 2 ≤ base → take base t ≡ take base s → word t at ≡ word s at
@@ -96,17 +96,11 @@ items-above {s} {t} {from} {to} {a} {e} {vs} o h x =
     let g = x .fits in
     record { ends = x .ends; fits = omega arith; fine = x .fine; short = x .short; bytes = ap (take (sizes vs)) (above-less a s t h (o .above)) ∙ x .bytes }
 
-pub holds-below : {s t : List ℕ} {from to at : ℕ} → Outside s t from to → at + word s at ≤ from → Holds s at → Holds t at
-holds-below o h a = let w = word-size (a .here) in holds (at-below o (omega arith) (a .here))
-
-pub holds-above : {s t : List ℕ} {from to at : ℕ} → Outside s t from to → to ≤ at → Holds s at → Holds t at
-holds-above o h a = holds (at-above o h (a .here))
-
 -- bytes and words outside
 pub byte-below : {s t : List ℕ} {from to : ℕ} → Outside s t from to → (at : ℕ) → at < from → getD t at 0 ≡ getD s at 0
 byte-below {s} {t} {from} o at h = byte-kept from at s t h (o .below)
 
-pub byte-above : {s t : List ℕ} {from to : ℕ} → Outside s t from to → (at : ℕ) → to ≤ at → getD t at 0 ≡ getD s at 0
+byte-above : {s t : List ℕ} {from to : ℕ} → Outside s t from to → (at : ℕ) → to ≤ at → getD t at 0 ≡ getD s at 0
 byte-above {s} {t} {from} {to} o at h =
     let d : to + (at - to) ≡ at = omega arith in
     ap (λ (k : ℕ). getD t k 0) (sym d) ∙ sym (getD-drop to t (at - to) 0) ∙ ap (λ (l : List ℕ). getD l (at - to) 0) (o .above) ∙ getD-drop to s (at - to) 0 ∙ ap (λ (k : ℕ). getD s k 0) d

@@ -21,7 +21,7 @@ higher-apart v w e = ap isSame e
 -- ---- before and ascending
 
 -- What is lower than an item is lower than all that this item is before.
-pub before-lower : (u v : Value) (vs : Items) → order u v ≡ Lower → Before v vs → Before u vs
+before-lower : (u v : Value) (vs : Items) → order u v ≡ Lower → Before v vs → Before u vs
 unfolding Before
 before-lower u v none e b = tt
 before-lower u v (more w ws) e b = (order-lower u v w e (b .0), before-lower u v ws e (b .1))
@@ -67,7 +67,7 @@ member-here v vs = cond-true (same v v) true (isMember v vs) (true-same {v = v} 
 
 -- ---- what insertion keeps
 
-pub before-insert : (u v : Value) (vs : Items) → order u v ≡ Lower → Before u vs → Before u (insert v vs)
+before-insert : (u v : Value) (vs : Items) → order u v ≡ Lower → Before u vs → Before u (insert v vs)
 unfolding Before insert
 before-insert u v none e b = (e, tt)
 before-insert u v (more w ws) e b =

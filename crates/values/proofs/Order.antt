@@ -1,7 +1,7 @@
 -- Laws of the order: it is strict and total. A value is the same as itself alone; the two the other way round get the flipped answer;
 -- lower is transitive. The same for items.
 use mathlib.Core.Path.{_≡_, refl, sym, ap, ap₂, _∙_}
-use mathlib.Core.Bool.{Bool, true, false}
+use mathlib.Core.Bool.{Bool, true, false, cond}
 use mathlib.Core.Logic.{_⊎_, inl, inr}
 use Prim.Native.Nat.{ℕ, _≤_}
 use native.Mathlib.Omega.{arith}
@@ -40,15 +40,11 @@ number-low sequence = omega arith
 number-low map = omega arith
 number-low tuple = omega arith
 
-pickKind : Bool → Kind → Kind → Kind
-pickKind true k l = k
-pickKind false k l = l
+-- the kind of a collection by its number, and back
+abbrev pub kindAt : ℕ → Kind
+kindAt n = cond (eqb n 3) set (cond (eqb n 4) sequence (cond (eqb n 5) map tuple))
 
-kindAt : ℕ → Kind
-kindAt n = pickKind (eqb n 3) set (pickKind (eqb n 4) sequence (pickKind (eqb n 5) map tuple))
-
-kindAt-number : (k : Kind) → kindAt (number k) ≡ k
-unfolding kindAt pickKind
+pub kindAt-number : (k : Kind) → kindAt (number k) ≡ k
 kindAt-number set = refl
 kindAt-number sequence = refl
 kindAt-number map = refl
@@ -77,7 +73,7 @@ mutual
   within-same (collection h a) (integer b) k e = let z : ⊥ = omega (arith, number-low h) in absurd z
   within-same (collection h a) (collection l b) k e = ap₂ collection (number-inj h l k) (items-same a b e)
 
-  pub items-same : (vs ws : Items) → orderItems vs ws ≡ Same → vs ≡ ws
+  items-same : (vs ws : Items) → orderItems vs ws ≡ Same → vs ≡ ws
   items-same none none e = refl
   items-same none (more w ws) e = cc
   items-same (more v vs) none e = cc
@@ -108,7 +104,7 @@ mutual
   within-flip (collection h a) (integer b) = refl
   within-flip (collection h a) (collection l b) = items-flip a b
 
-  pub items-flip : (vs ws : Items) → orderItems ws vs ≡ flip (orderItems vs ws)
+  items-flip : (vs ws : Items) → orderItems ws vs ≡ flip (orderItems vs ws)
   items-flip none none = refl
   items-flip none (more w ws) = refl
   items-flip (more v vs) none = refl
@@ -161,7 +157,7 @@ mutual
   within-lower (collection h a) (collection l b) (integer c) p q = q
   within-lower (collection h a) (collection l b) (collection m c) p q = items-lower a b c p q
 
-  pub items-lower : (us vs ws : Items) → orderItems us vs ≡ Lower → orderItems vs ws ≡ Lower → orderItems us ws ≡ Lower
+  items-lower : (us vs ws : Items) → orderItems us vs ≡ Lower → orderItems vs ws ≡ Lower → orderItems us ws ≡ Lower
   items-lower none none ws p q = cc
   items-lower none (more v vs) none p q = cc
   items-lower none (more v vs) (more w ws) p q = refl
@@ -188,10 +184,7 @@ flip-same Higher e = cc
 pub order-refl : (v : Value) → order v v ≡ Same
 order-refl v = flip-same (order v v) (order-flip v v)
 
-pub items-refl : (vs : Items) → orderItems vs vs ≡ Same
-items-refl vs = flip-same (orderItems vs vs) (items-flip vs vs)
-
-pub equal-same : {v w : Value} → v ≡ w → order v w ≡ Same
+equal-same : {v w : Value} → v ≡ w → order v w ≡ Same
 equal-same {v} {w} e = ap (λ (x : Value). order x w) e ∙ order-refl w
 
 -- ---- strict and total
@@ -203,15 +196,12 @@ lower-same p q = impossible cc
 pub lower-higher : {X : Type 0} {o : Order} → o ≡ Lower → o ≡ Higher → X
 lower-higher p q = impossible cc
 
-pub same-higher : {X : Type 0} {o : Order} → o ≡ Same → o ≡ Higher → X
-same-higher p q = impossible cc
-
 -- THEOREM: lower is irreflexive
 pub irreflexive : (v : Value) → order v v ≡ Lower → ⊥
 irreflexive v e = lower-same e (order-refl v)
 
 -- lower one way is higher the other way
-pub lower-flip : (v w : Value) → order v w ≡ Lower → order w v ≡ Higher
+lower-flip : (v w : Value) → order v w ≡ Lower → order w v ≡ Higher
 lower-flip v w e = order-flip v w ∙ ap flip e
 
 pub higher-flip : (v w : Value) → order v w ≡ Higher → order w v ≡ Lower
@@ -221,12 +211,9 @@ higher-flip v w e = order-flip v w ∙ ap flip e
 pub asymmetric : (v w : Value) → order v w ≡ Lower → order w v ≡ Lower → ⊥
 asymmetric v w p q = lower-higher q (lower-flip v w p)
 
-pub order-higher : (u v w : Value) → order u v ≡ Higher → order v w ≡ Higher → order u w ≡ Higher
-order-higher u v w p q = lower-flip w u (order-lower w v u (higher-flip v w q) (higher-flip u v p))
-
 -- THEOREM: of any two values the first is lower, or they are equal, or the second is lower. (By `lower-same`, `irreflexive` and
 -- `asymmetric` no two of these hold.)
-pub trichotomy : (v w : Value) → (order v w ≡ Lower) ⊎ ((v ≡ w) ⊎ (order w v ≡ Lower))
+trichotomy : (v w : Value) → (order v w ≡ Lower) ⊎ ((v ≡ w) ⊎ (order w v ≡ Lower))
 trichotomy v w = go (order v w) refl
   where
     go : (o : Order) → order v w ≡ o → (order v w ≡ Lower) ⊎ ((v ≡ w) ⊎ (order w v ≡ Lower))
@@ -248,20 +235,9 @@ same-true v w e = same-equal v w (is-same (order v w) e)
 pub true-same : {v w : Value} → v ≡ w → same v w ≡ true
 true-same e = ap isSame (equal-same e)
 
-pub same-false : {v w : Value} → same v w ≡ false → v ≡ w → ⊥
-same-false {v} {w} p q = let t = true-same q in impossible cc
-
 pub false-same : (v w : Value) → (v ≡ w → ⊥) → same v w ≡ false
 false-same v w f = go (same v w) refl
   where
     go : (t : Bool) → same v w ≡ t → same v w ≡ false
     go true e = absurd (f (same-true v w e))
     go false e = e
-
-flip-is : (o : Order) → isSame (flip o) ≡ isSame o
-flip-is Lower = refl
-flip-is Same = refl
-flip-is Higher = refl
-
-pub same-flip : (v w : Value) → same w v ≡ same v w
-same-flip v w = ap isSame (order-flip v w) ∙ flip-is (order v w)

@@ -6,7 +6,7 @@ use Prim.Native.Nat.{ℕ, _+_, _/_, _%_, _≤_, _<_}
 use native.Mathlib.Nat.{add-zero}
 use native.Mathlib.Omega.{arith}
 use lib.IntN.{ℤ}
-use lib.ListN.{length, getD, take, drop, length-drop, take-append-drop}
+use lib.ListN.{length, getD, take, drop, length-drop}
 use lib.Seq.{take-add, drop-drop, take-at, drop-at, getD-take, getD-drop, length-take-le}
 use mir.Syntax.{w32}
 use mir.Val.{ofZ, toZ}
@@ -18,7 +18,7 @@ use Rattle.values.specs.Value.{Kind, number, Value, boolean, integer, co
 use Rattle.values.specs.Items.{join, snoc}
 use Rattle.values.specs.Place.{At, ItemsAt, Holds, HoldsItems}
 use Rattle.values.proofs.Order.{number-low}
-use Rattle.values.proofs.Encoding.{encode-length, encodeItems-length, size-low, encode-head, join-sizes, join-encode, join-sound, sound-join, valueOf, value-back, encode-injective, encodeItems-injective}
+use Rattle.values.proofs.Encoding.{encode-length, encodeItems-length, size-low, encode-head, join-sizes, join-encode, join-sound, sound-join, encode-injective, encodeItems-injective}
 
 -- ---- well-formed parts
 
@@ -45,14 +45,6 @@ well-formed-integer f = record { sound = f; short = omega arith }
 pub integer-range : {z : ℤ} → WellFormed (integer z) → InRange z
 unfolding Sound
 integer-range f = f .sound
-
-pub sound-more : (v : Value) (vs : Items) → Sound v → SoundItems vs → SoundItems (more v vs)
-unfolding Sound
-sound-more v vs f g = (f, g)
-
-pub more-sound : (v : Value) (vs : Items) → SoundItems (more v vs) → Sound v × SoundItems vs
-unfolding Sound
-more-sound v vs f = f
 
 -- ---- a part of a list that is two lists
 
@@ -100,7 +92,7 @@ pub boolean-at : {s : List ℕ} {at : ℕ} {b : Bool} → At s at (boolean b) �
 unfolding size encode
 boolean-at h = byte-at h 4 (omega arith)
 
-pub integer-bits : {s : List ℕ} {at : ℕ} {z : ℤ} → At s at (integer z) → bits32 s (at + 4) ≡ ofZ w32 z
+integer-bits : {s : List ℕ} {at : ℕ} {z : ℤ} → At s at (integer z) → bits32 s (at + 4) ≡ ofZ w32 z
 unfolding size encode
 integer-bits {s} {at} {z} h =
     let g = byte-at h in
@@ -285,13 +277,3 @@ one-list {s} {from} {to} {vs} {ws} h g =
     let d = g .ends in
     let e : sizes vs ≡ sizes ws = omega arith in
     encodeItems-injective (h .fine) (g .fine) (sym (h .bytes) ∙ ap (λ (n : ℕ). take n (drop from s)) e ∙ g .bytes)
-
--- the value that stands at a place, as a function of the bytes
-unfoldable pub valueAt : List ℕ → ℕ → Value
-valueAt s at = valueOf mostBytes (drop at s)
-
-pub value-at : {s : List ℕ} {at : ℕ} {v : Value} → At s at v → valueAt s at ≡ v
-unfolding valueAt
-value-at {s} {at} {v} h =
-    ap (valueOf mostBytes) (sym (take-append-drop (size v) (drop at s)) ∙ ap (λ (l : List ℕ). l ++ drop (size v) (drop at s)) (h .bytes))
-    ∙ value-back v mostBytes (drop (size v) (drop at s)) (h .fine .sound) (h .fine .short)
