@@ -16,17 +16,17 @@ use Rattle.values.specs.Items.{isSame, same}
 
 -- ---- one after another
 
-after-same : (o p : Order) → after o p ≡ Same → (o ≡ Same) × (p ≡ Same)
+pub after-same : (o p : Order) → after o p ≡ Same → (o ≡ Same) × (p ≡ Same)
 after-same Lower p e = (cc, cc)
 after-same Same p e = (refl, e)
 after-same Higher p e = (cc, cc)
 
-after-lower : (o p : Order) → after o p ≡ Lower → (o ≡ Lower) ⊎ ((o ≡ Same) × (p ≡ Lower))
+pub after-lower : (o p : Order) → after o p ≡ Lower → (o ≡ Lower) ⊎ ((o ≡ Same) × (p ≡ Lower))
 after-lower Lower p e = inl refl
 after-lower Same p e = inr (refl, e)
 after-lower Higher p e = inl (cc)
 
-after-flip : (o p : Order) → after (flip o) (flip p) ≡ flip (after o p)
+pub after-flip : (o p : Order) → after (flip o) (flip p) ≡ flip (after o p)
 after-flip Lower p = refl
 after-flip Same p = refl
 after-flip Higher p = refl
@@ -176,7 +176,7 @@ order-lower u v w =
 
 -- ---- a value is the same as itself
 
-flip-same : (o : Order) → o ≡ flip o → o ≡ Same
+pub flip-same : (o : Order) → o ≡ flip o → o ≡ Same
 flip-same Lower e = cc
 flip-same Same e = refl
 flip-same Higher e = cc
