@@ -10,6 +10,7 @@ pub mod Parts
 pub mod Outcomes
 pub mod Rank
 pub mod States
+pub mod Ran
 pub mod Runs
 pub mod Came
 pub mod Stepping

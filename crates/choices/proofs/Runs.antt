@@ -17,7 +17,8 @@ use Rattle.choices.specs.Tree.{Tree, give, stop, choose, bind, mostChoic
 use Rattle.choices.specs.Lists.{Ended, Complete, outcomeOf}
 use Rattle.choices.specs.Paths.{Leaf, Prefix, outcomeAt, counts, extend, AtMost, cutAfter}
 use Rattle.choices.specs.State.{View, view, fresh, answerLeft, answerOf, afterwards, Chosen}
-use Rattle.choices.specs.Runs.{Ran, ran, refused, onAnswer, runOn, stateOf, further, ranAs, trail, atEnd, settle}
+use Rattle.choices.specs.Runs.{Ran, ran, refused, onAnswer, runOn, settle}
+use Rattle.choices.proofs.Ran.{stateOf, further, ranAs, trail, atEnd}
 use Rattle.choices.proofs.Paths.{prefix-nil, extend-leaf, outcome-extend}
 use Rattle.choices.proofs.Cut.{within-cut, full-cut, complete-leaf, leaf-complete, complete-outcome}
 use Rattle.choices.proofs.Walk.{stopped-number}

@@ -9,7 +9,7 @@ use lib.Seq.{drop-cons, getD-take, getD-drop, length-take-le, take-take, ext-get
 use Rattle.choices.specs.declared.Choices.{Choices}
 use Rattle.choices.specs.Tree.{Tree, mostChoices, Final, refuses, unlessLeft}
 use Rattle.choices.specs.State.{View, view, Invariant, padded}
-use Rattle.choices.specs.Runs.{atEnd}
+use Rattle.choices.proofs.Ran.{atEnd}
 
 -- ---- the entries left
 

@@ -8,7 +8,7 @@ use native.Mathlib.Omega.{arith}
 use borrow.Author.Tests.{leb-true, leb-false}
 use lib.Dec.{leb}
 use lib.ListN.{length}
-use Rattle.values.specs.Value.{Kind, map, Value, collection, Items, mostBytes}
+use Rattle.values.specs.Value.{Kind, Value, collection, Items, mostBytes}
 use Rattle.values.specs.Place.{At, Holds, Outside}
 use Rattle.values.proofs.Records.{word-size, holds}
 use Rattle.values.proofs.Frame.{at-below, at-above, word-below}

@@ -2,63 +2,63 @@
 use mathlib.Core.Path.{_≡_, refl}
 use lib.IntN.{negℤ, pos}
 use Rattle.integers.specs.declared.Number.the-variants.{Is, OutOfRange, ByZero}
-use Rattle.integers.specs.Whole.{least, greatest, answer, sum, difference, product, quotient, remainder, modulus, negation, absolute}
+use Rattle.integers.specs.Whole.{least, greatest, answer, sumOf, differenceOf, productOf, quotientOf, remainderOf, modulusOf, negationOf, absoluteOf}
 
 -- −7 div 2 is −3
-pub div-7-2 : quotient (negℤ (pos 7)) (pos 2) ≡ Is (negℤ (pos 3))
+pub div-7-2 : quotientOf (negℤ (pos 7)) (pos 2) ≡ Is (negℤ (pos 3))
 unfolding answer
 div-7-2 = refl
 
 -- −7 rem 2 is −1
-pub rem-7-2 : remainder (negℤ (pos 7)) (pos 2) ≡ Is (negℤ (pos 1))
+pub rem-7-2 : remainderOf (negℤ (pos 7)) (pos 2) ≡ Is (negℤ (pos 1))
 unfolding answer
 rem-7-2 = refl
 
 -- −7 mod 2 is 1
-pub mod-7-2 : modulus (negℤ (pos 7)) (pos 2) ≡ Is (pos 1)
+pub mod-7-2 : modulusOf (negℤ (pos 7)) (pos 2) ≡ Is (pos 1)
 unfolding answer
 mod-7-2 = refl
 
 -- 7 mod −2 is −1
-pub mod-7-minus-2 : modulus (pos 7) (negℤ (pos 2)) ≡ Is (negℤ (pos 1))
+pub mod-7-minus-2 : modulusOf (pos 7) (negℤ (pos 2)) ≡ Is (negℤ (pos 1))
 unfolding answer
 mod-7-minus-2 = refl
 
 -- the least integer div −1 is out of range, and rem −1 is 0
-pub least-div : quotient least (negℤ (pos 1)) ≡ OutOfRange
+pub least-div : quotientOf least (negℤ (pos 1)) ≡ OutOfRange
 unfolding answer
 least-div = refl
 
-pub least-rem : remainder least (negℤ (pos 1)) ≡ Is (pos 0)
+pub least-rem : remainderOf least (negℤ (pos 1)) ≡ Is (pos 0)
 unfolding answer
 least-rem = refl
 
 -- ---- the range's other ends, and 0
 
-pub least-mod : modulus least (negℤ (pos 1)) ≡ Is (pos 0)
+pub least-mod : modulusOf least (negℤ (pos 1)) ≡ Is (pos 0)
 unfolding answer
 least-mod = refl
 
-pub least-negation : negation least ≡ OutOfRange
+pub least-negation : negationOf least ≡ OutOfRange
 unfolding answer
 least-negation = refl
 
-pub least-absolute : absolute least ≡ OutOfRange
+pub least-absolute : absoluteOf least ≡ OutOfRange
 unfolding answer
 least-absolute = refl
 
-pub greatest-sum : sum greatest (pos 1) ≡ OutOfRange
+pub greatest-sum : sumOf greatest (pos 1) ≡ OutOfRange
 unfolding answer
 greatest-sum = refl
 
-pub least-difference : difference least (pos 1) ≡ OutOfRange
+pub least-difference : differenceOf least (pos 1) ≡ OutOfRange
 unfolding answer
 least-difference = refl
 
-pub least-product : product least (pos 1) ≡ Is least
+pub least-product : productOf least (pos 1) ≡ Is least
 unfolding answer
 least-product = refl
 
-pub least-by-0 : remainder least (pos 0) ≡ ByZero
+pub least-by-0 : remainderOf least (pos 0) ≡ ByZero
 unfolding answer
 least-by-0 = refl

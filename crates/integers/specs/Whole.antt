@@ -65,26 +65,26 @@ modℤ left right = left -ℤ right *ℤ floorℤ left right
 
 -- ---- the operations
 
-abbrev pub sum : ℤ → ℤ → Number
-sum left right = answer (left +ℤ right)
+abbrev pub sumOf : ℤ → ℤ → Number
+sumOf left right = answer (left +ℤ right)
 
-abbrev pub difference : ℤ → ℤ → Number
-difference left right = answer (left -ℤ right)
+abbrev pub differenceOf : ℤ → ℤ → Number
+differenceOf left right = answer (left -ℤ right)
 
-abbrev pub product : ℤ → ℤ → Number
-product left right = answer (left *ℤ right)
+abbrev pub productOf : ℤ → ℤ → Number
+productOf left right = answer (left *ℤ right)
 
-abbrev pub quotient : ℤ → ℤ → Number
-quotient left right = divided right (divℤ left right)
+abbrev pub quotientOf : ℤ → ℤ → Number
+quotientOf left right = divided right (divℤ left right)
 
-abbrev pub remainder : ℤ → ℤ → Number
-remainder left right = divided right (remℤ left right)
+abbrev pub remainderOf : ℤ → ℤ → Number
+remainderOf left right = divided right (remℤ left right)
 
-abbrev pub modulus : ℤ → ℤ → Number
-modulus left right = divided right (modℤ left right)
+abbrev pub modulusOf : ℤ → ℤ → Number
+modulusOf left right = divided right (modℤ left right)
 
-abbrev pub negation : ℤ → Number
-negation z = answer (negℤ z)
+abbrev pub negationOf : ℤ → Number
+negationOf z = answer (negℤ z)
 
-abbrev pub absolute : ℤ → Number
-absolute z = answer (pos (natAbs z))
+abbrev pub absoluteOf : ℤ → Number
+absoluteOf z = answer (pos (natAbs z))

@@ -311,8 +311,8 @@ all-unaries : Unaries unaries
 all-unaries =
     no-unary-fine
     ▹ negation-fine
-    ▹ onInteger-fine (λ a. Whole.negation a) (λ a. answer-fine (negℤ a))
-    ▹ onInteger-fine (λ a. Whole.absolute a) (λ a. answer-fine (pos (natAbs a)))
+    ▹ onInteger-fine (λ a. Whole.negationOf a) (λ a. answer-fine (negℤ a))
+    ▹ onInteger-fine (λ a. Whole.absoluteOf a) (λ a. answer-fine (pos (natAbs a)))
     ▹ kind-fine set _ (λ vs g. count-fine g)
     ▹ kind-fine set _ (λ vs g. unless-fine (every (isKind set) vs) (sized set (uniteAll vs)) wrongKind (omega arith) (λ e. uniteAll-fine vs g))
     ▹ kind-fine set _ (λ vs g. unless-fine (every (isKind set) vs) (intersectionOf vs) wrongKind (omega arith) (λ e. intersectionOf-fine vs e g))
@@ -333,12 +333,12 @@ all-binaries =
     ▸ biimplication-fine
     ▸ (λ v w p q. truth-fine _)
     ▸ (λ v w p q. truth-fine _)
-    ▸ onIntegers-fine (λ a b. Whole.sum a b) (λ a b. answer-fine (a +ℤ b))
-    ▸ onIntegers-fine (λ a b. Whole.difference a b) (λ a b. answer-fine (a -ℤ b))
-    ▸ onIntegers-fine (λ a b. Whole.product a b) (λ a b. answer-fine (a *ℤ b))
-    ▸ onIntegers-fine (λ a b. Whole.quotient a b) (λ a b. divided-fine b (divℤ a b))
-    ▸ onIntegers-fine (λ a b. Whole.remainder a b) (λ a b. divided-fine b (remℤ a b))
-    ▸ onIntegers-fine (λ a b. Whole.modulus a b) (λ a b. divided-fine b (modℤ a b))
+    ▸ onIntegers-fine (λ a b. Whole.sumOf a b) (λ a b. answer-fine (a +ℤ b))
+    ▸ onIntegers-fine (λ a b. Whole.differenceOf a b) (λ a b. answer-fine (a -ℤ b))
+    ▸ onIntegers-fine (λ a b. Whole.productOf a b) (λ a b. answer-fine (a *ℤ b))
+    ▸ onIntegers-fine (λ a b. Whole.quotientOf a b) (λ a b. divided-fine b (divℤ a b))
+    ▸ onIntegers-fine (λ a b. Whole.remainderOf a b) (λ a b. divided-fine b (remℤ a b))
+    ▸ onIntegers-fine (λ a b. Whole.modulusOf a b) (λ a b. divided-fine b (modℤ a b))
     ▸ compared-fine _ ▸ compared-fine _ ▸ compared-fine _ ▸ compared-fine _
     ▸ (λ v w p q. kind-fine set _ (λ ws g. truth-fine _) w q)
     ▸ (λ v w p q. kind-fine set _ (λ ws g. truth-fine _) w q)
