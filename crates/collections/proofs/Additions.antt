@@ -16,7 +16,7 @@ use Rattle.values.specs.Place.{At, ItemsAt}
 use Rattle.values.proofs.Encoding.{size-low, snoc-sizes, collection-size}
 use Rattle.values.proofs.Records.{word-size, holds, items-to, no-items, joined, parted, collection-shaped}
 use Rattle.values.specs.Contract.{heading, PutHead}
-use Rattle.values.proofs.Written.{closed}
+use Rattle.values.proofs.Written.{headed-collection}
 use Rattle.values.proofs.Frame.{items-below, outside-then, outside-none}
 use Rattle.collections.specs.declared.building.Added.{Added}
 use Rattle.collections.specs.declared.building.Added.the-variants.{Done as Put, Full as TooLong}
@@ -51,7 +51,7 @@ not-long e = impossible cc
 
 module _ {s t : List ℕ} {at n kind : ℕ} (h : PutHead s t at n kind) where
   headed-run : {to : ℕ} (k : Kind) (vs : Items) → kind ≡ number k → at + n ≡ to → n ≤ mostBytes → Shaped k vs → ItemsAt s (at + 4) to vs → At t at (collection k vs)
-  headed-run k vs e end short shaped x = closed n (h .bytes ∙ ap (λ (j : ℕ). sets s at (heading n j)) e) end short shaped x
+  headed-run k vs e end short shaped x = headed-collection n (h .bytes ∙ ap (λ (j : ℕ). sets s at (heading n j)) e) end short shaped x
 
   pub headed-both : {p to : ℕ} (k : Kind) (us vs : Items) → kind ≡ number k → at + n ≡ to → n ≤ mostBytes → Shaped k (join us vs)
       → ItemsAt s (at + 4) p us → ItemsAt s p to vs → At t at (collection k (join us vs))

@@ -25,7 +25,7 @@ use Rattle.collections.specs.declared.finding.Sought.the-variants.{Here,
 use Rattle.values.proofs.Entries.{enter-present, sizes-enter, paired-enter, ascending-enter}
 use Rattle.collections.proofs.Seeking.{Key, belongs}
 use Rattle.collections.specs.Finding.{Seeks}
-use Rattle.collections.specs.Building.{opened, entered, EntryRoom, Apart, Enters}
+use Rattle.collections.specs.Building.{opened, entryAnswer, EntryRoom, Apart, Enters}
 use Rattle.collections.specs.Steps.{Gap, Fills, Slot, EntersAt}
 use Rattle.collections.proofs.Sights.{key-sight, entry}
 use Rattle.collections.proofs.Additions.{headed-both, parts-at, slot-in, add-gap}
@@ -152,7 +152,7 @@ module _ {s : List ℕ} {at x : ℕ} {sought : Sought} (f : Seeks s at x true so
           let u : same w v ≡ true = sym r ∙ t in
           let j = enter-present k v vs (shaped .0) (shaped .1) (o ∙ ap some (same-true w v u)) in
           record {
-            answers = sym (ap (λ (l : Option Value). entered l v (size (collection map (enter k v vs)))) o ∙ rw u);
+            answers = sym (ap (λ (l : Option Value). entryAnswer l v (size (collection map (enter k v vs)))) o ∙ rw u);
             made = λ u. rw j h;
             still = λ u. refl;
           };
@@ -167,7 +167,7 @@ module _ {s : List ℕ} {at x : ℕ} {sought : Sought} (f : Seeks s at x true so
           let (w, o, r) = compared vs k v h g i in
           let u : same w v ≡ false = sym r ∙ t in
           record {
-            answers = sym (ap (λ (l : Option Value). entered l v (size (collection map (enter k v vs)))) o ∙ rw u);
+            answers = sym (ap (λ (l : Option Value). entryAnswer l v (size (collection map (enter k v vs)))) o ∙ rw u);
             made = λ u. clash-done u;
             still = λ u. refl;
           };
@@ -200,7 +200,7 @@ module _ {s : List ℕ} {at x : ℕ} {sought : Sought} (f : Seeks s at x true so
           let still-map : Shaped map (enter k v vs) = (paired-enter k v vs (shaped .0), ascending-enter k v vs (shaped .0) (shaped .1)) in
           let total : word s at + word s x + word s y ≡ size (collection map (enter k v vs)) = omega arith in
           record {
-            answers = a .answers ∙ ap opened total ∙ sym (ap (λ (l : Option Value). entered l v (size (collection map (enter k v vs)))) (z .new));
+            answers = a .answers ∙ ap opened total ∙ sym (ap (λ (l : Option Value). entryAnswer l v (size (collection map (enter k v vs)))) (z .new));
             made = λ d.
                 rw (z .is v)
                 (a .made (z .us) (z .ws) k v d (z .us-at) (z .ws-at) g i (rw (z .is v) at still-map));

@@ -37,9 +37,9 @@ abbrev pub opened : ℕ → Entered
 opened n = cond (leb n mostBytes) Done Full
 
 -- By what stands at the key: nothing, or the same value or another.
-abbrev pub entered : Option Value → Value → ℕ → Entered
-entered absent v n = opened n
-entered (some w) v n = cond (same w v) Done Clash
+abbrev pub entryAnswer : Option Value → Value → ℕ → Entered
+entryAnswer absent v n = opened n
+entryAnswer (some w) v n = cond (same w v) Done Clash
 
 -- ---- what is asked
 
@@ -83,7 +83,7 @@ Inserts = Adds set (λ (vs : Items) (v : Value). insert v vs)
 
 -- The map at a place, whose items were vs, has k mapped to v now.
 pub record Maps (s t : List ℕ) (at : ℕ) (vs : Items) (k v : Value) (r : Entered) : Type 0 where
-  pub answers : r ≡ entered (lookup k vs) v (size (collection map (enter k v vs)))
+  pub answers : r ≡ entryAnswer (lookup k vs) v (size (collection map (enter k v vs)))
   pub made : r ≡ Done → At t at (collection map (enter k v vs))
   pub still : enter k v vs ≡ vs → t ≡ s
 

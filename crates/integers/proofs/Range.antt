@@ -11,7 +11,7 @@ use mir.Val.{SFits}
 use mathlib.Mathlib.Data.Bool.Basic.{and-elim-left}
 use Rattle.prelude.proofs.Absurd.{never}
 use Rattle.integers.specs.declared.Number.the-variants.{Is, OutOfRange, ByZero}
-use Rattle.integers.specs.Whole.{least, greatest, inRange, InRange, answer, divided}
+use Rattle.integers.specs.Whole.{leastInteger, greatestInteger, inRange, InRange, answerOf, divided}
 
 -- ---- tests
 
@@ -29,33 +29,33 @@ not-lt-le (negsuc a) (negsuc b) e = le-leb a b (ltb-false b a e)
 
 -- ---- the range
 
-pub below-range : (z : ℤ) → ltZ z least ≡ true → inRange z ≡ false
-below-range z e = rw (lt-not-le z least e)
+pub below-range : (z : ℤ) → ltZ z leastInteger ≡ true → inRange z ≡ false
+below-range z e = rw (lt-not-le z leastInteger e)
 
-pub above-range : (z : ℤ) → leZ z greatest ≡ false → inRange z ≡ false
-above-range z e = rw e (and-false (leZ least z))
+pub above-range : (z : ℤ) → leZ z greatestInteger ≡ false → inRange z ≡ false
+above-range z e = rw e (and-false (leZ leastInteger z))
 
-pub within-range : (z : ℤ) → ltZ z least ≡ false → leZ z greatest ≡ true → InRange z
-within-range z e f = rw (not-lt-le z least e, f)
+pub within-range : (z : ℤ) → ltZ z leastInteger ≡ false → leZ z greatestInteger ≡ true → InRange z
+within-range z e f = rw (not-lt-le z leastInteger e, f)
 
 -- 32 bits hold each integer in range
 pub range-fits : (z : ℤ) → InRange z → SFits w32 z
 range-fits (pos n) e = omega (arith, leb-true n _ e)
-range-fits (negsuc n) e = omega (arith, leb-true n _ (and-elim-left (leZ least (negsuc n)) true e))
+range-fits (negsuc n) e = omega (arith, leb-true n _ (and-elim-left (leZ leastInteger (negsuc n)) true e))
 
 -- and with 2^32 integers there are no others
 pub fits-range : (z : ℤ) → SFits w32 z → InRange z
-fits-range (pos n) f = le-leb n (mag greatest) (omega arith)
-fits-range (negsuc n) f = rw (le-leb n (mag least) (omega arith))
+fits-range (pos n) f = le-leb n (mag greatestInteger) (omega arith)
+fits-range (negsuc n) f = rw (le-leb n (mag leastInteger) (omega arith))
 
 -- ---- answers
 
-pub answer-in : (z : ℤ) → InRange z → answer z ≡ Is z
-unfolding answer
+pub answer-in : (z : ℤ) → InRange z → answerOf z ≡ Is z
+unfolding answerOf
 answer-in z e = ap (λ (t : Bool). cond t (Is z) OutOfRange) e
 
-pub answer-out : (z : ℤ) → inRange z ≡ false → answer z ≡ OutOfRange
-unfolding answer
+pub answer-out : (z : ℤ) → inRange z ≡ false → answerOf z ≡ OutOfRange
+unfolding answerOf
 answer-out z e = ap (λ (t : Bool). cond t (Is z) OutOfRange) e
 
 -- what an answer that is a number says
@@ -65,7 +65,7 @@ pub record Answered (z n : ℤ) : Type 0 where
 
 -- ---- division
 
-pub divided-other : (right z : ℤ) → (right ≡ pos 0 → ⊥) → divided right z ≡ answer z
+pub divided-other : (right z : ℤ) → (right ≡ pos 0 → ⊥) → divided right z ≡ answerOf z
 divided-other (pos zero) z n = absurd (n refl)
 divided-other (pos (suc k)) z n = refl
 divided-other (negsuc k) z n = refl

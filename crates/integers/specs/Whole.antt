@@ -9,14 +9,14 @@ use Rattle.integers.specs.declared.Number.the-variants.{Is, OutOfRange, 
 
 -- ---- the range, named here and nowhere else
 
-abbrev pub least : ℤ
-least = negℤ (pos 2147483648)
+abbrev pub leastInteger : ℤ
+leastInteger = negℤ (pos 2147483648)
 
-abbrev pub greatest : ℤ
-greatest = pos 2147483647
+abbrev pub greatestInteger : ℤ
+greatestInteger = pos 2147483647
 
 abbrev pub inRange : ℤ → Bool
-inRange z = leZ least z && leZ z greatest
+inRange z = leZ leastInteger z && leZ z greatestInteger
 
 abbrev pub InRange : ℤ → Type 0
 InRange z = inRange z ≡ true
@@ -30,14 +30,14 @@ refusal OutOfRange = 21
 refusal ByZero = 22
 
 -- a whole number that an operation gives
-unfoldable pub answer : ℤ → Number
-answer z = cond (inRange z) (Is z) OutOfRange
+unfoldable pub answerOf : ℤ → Number
+answerOf z = cond (inRange z) (Is z) OutOfRange
 
 -- a whole number that a division by `right` gives: of 0, none
 abbrev pub divided : ℤ → ℤ → Number
 divided (pos zero) z = ByZero
-divided (pos (suc n)) z = answer z
-divided (negsuc n) z = answer z
+divided (pos (suc n)) z = answerOf z
+divided (negsuc n) z = answerOf z
 
 -- ---- the two quotients, where `right` is not 0
 
@@ -66,13 +66,13 @@ modℤ left right = left -ℤ right *ℤ floorℤ left right
 -- ---- the operations
 
 abbrev pub sumOf : ℤ → ℤ → Number
-sumOf left right = answer (left +ℤ right)
+sumOf left right = answerOf (left +ℤ right)
 
 abbrev pub differenceOf : ℤ → ℤ → Number
-differenceOf left right = answer (left -ℤ right)
+differenceOf left right = answerOf (left -ℤ right)
 
 abbrev pub productOf : ℤ → ℤ → Number
-productOf left right = answer (left *ℤ right)
+productOf left right = answerOf (left *ℤ right)
 
 abbrev pub quotientOf : ℤ → ℤ → Number
 quotientOf left right = divided right (divℤ left right)
@@ -84,7 +84,7 @@ abbrev pub modulusOf : ℤ → ℤ → Number
 modulusOf left right = divided right (modℤ left right)
 
 abbrev pub negationOf : ℤ → Number
-negationOf z = answer (negℤ z)
+negationOf z = answerOf (negℤ z)
 
 abbrev pub absoluteOf : ℤ → Number
-absoluteOf z = answer (pos (natAbs z))
+absoluteOf z = answerOf (pos (natAbs z))

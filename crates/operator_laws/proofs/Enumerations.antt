@@ -18,7 +18,7 @@ use Rattle.values.proofs.Joined.{join-none, join-join}
 use Rattle.values.proofs.Entries.{by-entries, paired-enter, ascending-enter, sound-enter, lookup-enter}
 use Rattle.operators.specs.Answer.{is, Built, built, stopped, fitting, closed, sized, Fine}
 use Rattle.operators.specs.Gather.{insertAll, everyEntry}
-use Rattle.operators.specs.Enumerations.{addMember, addItem, entered, addEntry, onward, addMembers, addItems, addEntries, setOf, sequenceOf, mapOf, tupleOf}
+use Rattle.operators.specs.Enumerations.{addMember, addItem, entered, addEntry, buildOn, addMembers, addItems, addEntries, setOf, sequenceOf, mapOf, tupleOf}
 use Rattle.operator_laws.proofs.Gather.{same-refl, sizes-grow-all, ascending-insertAll, sound-insertAll}
 use Rattle.operator_laws.proofs.Entries.{orElse}
 use Rattle.operator_laws.proofs.Results.{Good, wellFormed, sized-fine}
@@ -52,8 +52,8 @@ addMembers-is : (vs ws : Items) → 4 + sizes vs ≤ mostBytes → addMembers vs
 unfolding addMembers insertAll
 addMembers-is vs none h = sym (fits vs h)
 addMembers-is vs (more w ws) h =
-    by-fitting (insert w vs) (λ g e. ap (λ (b : Built). onward b (λ us. addMembers us ws)) e ∙ addMembers-is (insert w vs) ws g)
-    (λ g e. ap (λ (b : Built). onward b (λ us. addMembers us ws)) e ∙ sym (fits-not (insertAll (insert w vs) ws) (omega (arith, sizes-grow-all (insert w vs) ws))))
+    by-fitting (insert w vs) (λ g e. ap (λ (b : Built). buildOn b (λ us. addMembers us ws)) e ∙ addMembers-is (insert w vs) ws g)
+    (λ g e. ap (λ (b : Built). buildOn b (λ us. addMembers us ws)) e ∙ sym (fits-not (insertAll (insert w vs) ws) (omega (arith, sizes-grow-all (insert w vs) ws))))
 
 -- Items added one by one are the items joined, if they fit.
 addItems-is : (vs ws : Items) → 4 + sizes vs ≤ mostBytes → addItems vs ws ≡ fitting (join vs ws)
@@ -61,9 +61,9 @@ unfolding addItems join size
 addItems-is vs none h = sym (fits vs h) ∙ ap fitting (sym (join-none vs))
 addItems-is vs (more w ws) h =
     by-fitting (snoc vs w)
-    (λ g e. ap (λ (b : Built). onward b (λ us. addItems us ws)) e ∙ addItems-is (snoc vs w) ws g ∙ ap fitting (join-join vs (more w none) ws))
+    (λ g e. ap (λ (b : Built). buildOn b (λ us. addItems us ws)) e ∙ addItems-is (snoc vs w) ws g ∙ ap fitting (join-join vs (more w none) ws))
     (λ g e.
-    ap (λ (b : Built). onward b (λ us. addItems us ws)) e
+    ap (λ (b : Built). buildOn b (λ us. addItems us ws)) e
     ∙ sym (fits-not (join vs (more w ws)) (omega (arith, snoc-sizes vs w, join-sizes vs (more w ws)))))
 
 nothing-fits : 4 + sizes none ≤ mostBytes
@@ -177,10 +177,10 @@ addEntries-built vs ws us p q e =
     by-entry vs k v
     (λ a d.
     by-fitting (enter k v vs)
-    (λ g f. first-entered vs ws us k v p a (r (enter k v vs) (paired-enter k v vs p) (sym (ap (λ (b : Built). onward b (λ us. addEntries us ws)) (d ∙ f)) ∙ e)))
-    (λ g f. never-built (sym (ap (λ (b : Built). onward b (λ us. addEntries us ws)) (d ∙ f)) ∙ e)))
-    (λ a d. again-entered vs ws us k v a (r vs p (sym (ap (λ (b : Built). onward b (λ us. addEntries us ws)) d) ∙ e)))
-    (λ w a s d. never-built (sym (ap (λ (b : Built). onward b (λ us. addEntries us ws)) d) ∙ e)))
+    (λ g f. first-entered vs ws us k v p a (r (enter k v vs) (paired-enter k v vs p) (sym (ap (λ (b : Built). buildOn b (λ us. addEntries us ws)) (d ∙ f)) ∙ e)))
+    (λ g f. never-built (sym (ap (λ (b : Built). buildOn b (λ us. addEntries us ws)) (d ∙ f)) ∙ e)))
+    (λ a d. again-entered vs ws us k v a (r vs p (sym (ap (λ (b : Built). buildOn b (λ us. addEntries us ws)) d) ∙ e)))
+    (λ w a s d. never-built (sym (ap (λ (b : Built). buildOn b (λ us. addEntries us ws)) d) ∙ e)))
     ws q vs p e
 
 -- THEOREM: 27 is given only where no map holds what stood there and every entry written
@@ -198,13 +198,13 @@ addEntries-clash vs ws us p q e h m =
     (λ a d.
     by-fitting (enter k v vs)
     (λ g f.
-    r (enter k v vs) (paired-enter k v vs p) (sym (ap (λ (b : Built). onward b (λ us. addEntries us ws)) (d ∙ f)) ∙ e)
+    r (enter k v vs) (paired-enter k v vs p) (sym (ap (λ (b : Built). buildOn b (λ us. addEntries us ws)) (d ∙ f)) ∙ e)
     (λ x w l. kept vs us k v p h n x w l) (c .1))
     (λ g f.
-    let z : stopped 28 ≡ stopped 27 = sym (ap (λ (b : Built). onward b (λ us. addEntries us ws)) (d ∙ f)) ∙ e in
+    let z : stopped 28 ≡ stopped 27 = sym (ap (λ (b : Built). buildOn b (λ us. addEntries us ws)) (d ∙ f)) ∙ e in
     let y : _≡_ {A = ℕ} 28 27 = cc in
     omega arith))
-    (λ a d. r vs p (sym (ap (λ (b : Built). onward b (λ us. addEntries us ws)) d) ∙ e) h (c .1))
+    (λ a d. r vs p (sym (ap (λ (b : Built). buildOn b (λ us. addEntries us ws)) d) ∙ e) h (c .1))
     (λ w a s d.
     let t : lookup k us ≡ some w = h k w a in
     let j : v ≡ w = cc in
@@ -280,7 +280,7 @@ addEntries-fine vs ws q g s =
     (λ k v ws q r vs g s. go ws (addEntry vs k v) (addEntry-fine vs k v g (s .0) (s .1 .0)) (λ us h. r us h (s .1 .1)))
     ws q vs g s
   where
-    go : (ws : Items) (b : Built) → FineBuilt map b → ((us : Items) → Good map us → FineBuilt map (addEntries us ws)) → FineBuilt map (onward b (λ us. addEntries us ws))
+    go : (ws : Items) (b : Built) → FineBuilt map b → ((us : Items) → Good map us → FineBuilt map (addEntries us ws)) → FineBuilt map (buildOn b (λ us. addEntries us ws))
     go ws (built us) h f = f us h
     go ws (stopped n) h f = h
 

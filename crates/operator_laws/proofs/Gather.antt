@@ -12,7 +12,7 @@ use Rattle.values.proofs.Order.{same-true, true-same}
 use Rattle.values.proofs.Encoding.{join-sizes, join-sound}
 use Rattle.values.proofs.Members.{member-here, by-order, insert-lower, insert-same, insert-higher, member-insert, ascending-insert, sound-insert, sizes-grow}
 use Rattle.values.proofs.Joined.{count-join}
-use Rattle.operators.specs.Gather.{every, any, keep, insertAll, itemsOf, flatten, backwards}
+use Rattle.operators.specs.Gather.{everyItem, anyItem, keepItems, insertAll, itemsIn, flatten, backwards}
 
 pub same-refl : (v : Value) → same v v ≡ true
 same-refl v = true-same {v = v} refl
@@ -51,15 +51,15 @@ member-join x (more v vs) ws =
 
 -- ---- every and any, by the members
 
-pub every-at : (p : Value → Bool) (vs : Items) → every p vs ≡ true → (x : Value) → isMember x vs ≡ true → p x ≡ true
-unfolding every
+pub every-at : (p : Value → Bool) (vs : Items) → everyItem p vs ≡ true → (x : Value) → isMember x vs ≡ true → p x ≡ true
+unfolding everyItem
 every-at p none e x m = never (sym (member-none x) ∙ m)
 every-at p (more v vs) e x m =
-    let h = and-eq-true-iff (p v) (every p vs) .0 e in
+    let h = and-eq-true-iff (p v) (everyItem p vs) .0 e in
     member-case x v vs m (λ q. ap p q ∙ h .0) (λ n. every-at p vs (h .1) x n)
 
-pub every-all : (p : Value → Bool) (vs : Items) → ((x : Value) → isMember x vs ≡ true → p x ≡ true) → every p vs ≡ true
-unfolding every
+pub every-all : (p : Value → Bool) (vs : Items) → ((x : Value) → isMember x vs ≡ true → p x ≡ true) → everyItem p vs ≡ true
+unfolding everyItem
 every-all p none f = refl
 every-all p (more v vs) f = and-intro (f v (member-here v vs)) (every-all p vs (λ x m. f x (member-there x v vs m)))
 
@@ -69,32 +69,32 @@ pub record Some (p : Value → Bool) (vs : Items) : Type 0 where
   pub isIn : isMember member vs ≡ true
   pub passes : p member ≡ true
 
-pub any-some : (p : Value → Bool) (vs : Items) → any p vs ≡ true → Some p vs
-unfolding any
+pub any-some : (p : Value → Bool) (vs : Items) → anyItem p vs ≡ true → Some p vs
+unfolding anyItem
 any-some p none e = never e
 any-some p (more v vs) e = go (p v) refl e (λ f. any-some p vs f)
   where
     later : Some p vs → Some p (more v vs)
     later h = record { member = h .member; isIn = member-there (h .member) v vs (h .isIn); passes = h .passes }
 
-    go : (b : Bool) → p v ≡ b → b || any p vs ≡ true → (any p vs ≡ true → Some p vs) → Some p (more v vs)
+    go : (b : Bool) → p v ≡ b → b || anyItem p vs ≡ true → (anyItem p vs ≡ true → Some p vs) → Some p (more v vs)
     go true q e r = record { member = v; isIn = member-here v vs; passes = q }
     go false q e r = later (r e)
 
-pub some-any : (p : Value → Bool) (vs : Items) (x : Value) → isMember x vs ≡ true → p x ≡ true → any p vs ≡ true
-unfolding any
+pub some-any : (p : Value → Bool) (vs : Items) (x : Value) → isMember x vs ≡ true → p x ≡ true → anyItem p vs ≡ true
+unfolding anyItem
 some-any p none x m e = never (sym (member-none x) ∙ m)
 some-any p (more v vs) x m e =
-    member-case x v vs m (λ q. or-inl (p v) (any p vs) (sym (ap p q) ∙ e)) (λ n. or-inr (p v) (any p vs) (some-any p vs x n e))
+    member-case x v vs m (λ q. or-inl (p v) (anyItem p vs) (sym (ap p q) ∙ e)) (λ n. or-inr (p v) (anyItem p vs) (some-any p vs x n e))
 
 -- ---- items that pass a test
 
 -- Those of vs that pass.
-pub member-keep : (p : Value → Bool) (x : Value) (vs : Items) → isMember x (keep p vs) ≡ isMember x vs && p x
-unfolding isMember keep
+pub member-keep : (p : Value → Bool) (x : Value) (vs : Items) → isMember x (keepItems p vs) ≡ isMember x vs && p x
+unfolding isMember keepItems
 member-keep p x none = refl
 member-keep p x (more v vs) =
-    one (p v) (keep p vs) ∙ ap (λ (m : Bool). cond (p v) (cond (same x v) true m) m) (member-keep p x vs)
+    one (p v) (keepItems p vs) ∙ ap (λ (m : Bool). cond (p v) (cond (same x v) true m) m) (member-keep p x vs)
     ∙ kept (p v) (same x v) (isMember x vs) (p x) (λ e. ap p (same-true x v e))
   where
     one : (b : Bool) (us : Items) → isMember x (cond b (more v us) us) ≡ cond b (cond (same x v) true (isMember x us)) (isMember x us)
@@ -107,24 +107,24 @@ member-keep p x (more v vs) =
     kept false true m q f = ap (λ (c : Bool). m && c) (f refl) ∙ and-false m ∙ sym (f refl)
     kept false false m q f = refl
 
-before-keep : (p : Value → Bool) (u : Value) (vs : Items) → Before u vs → Before u (keep p vs)
-unfolding Before keep
+before-keep : (p : Value → Bool) (u : Value) (vs : Items) → Before u vs → Before u (keepItems p vs)
+unfolding Before keepItems
 before-keep p u none b = tt
 before-keep p u (more v vs) b = by-test (p v) (λ e. rw e (b .0, before-keep p u vs (b .1))) (λ e. rw e (before-keep p u vs (b .1)))
 
-pub ascending-keep : (p : Value → Bool) (vs : Items) → Ascending vs → Ascending (keep p vs)
-unfolding Ascending keep
+pub ascending-keep : (p : Value → Bool) (vs : Items) → Ascending vs → Ascending (keepItems p vs)
+unfolding Ascending keepItems
 ascending-keep p none a = tt
 ascending-keep p (more v vs) a =
     by-test (p v) (λ e. rw e (before-keep p v vs (a .0), ascending-keep p vs (a .1))) (λ e. rw e (ascending-keep p vs (a .1)))
 
-pub sound-keep : (p : Value → Bool) (vs : Items) → SoundItems vs → SoundItems (keep p vs)
-unfolding Sound keep
+pub sound-keep : (p : Value → Bool) (vs : Items) → SoundItems vs → SoundItems (keepItems p vs)
+unfolding Sound keepItems
 sound-keep p none s = tt
 sound-keep p (more v vs) s = by-test (p v) (λ e. rw e (s .0, sound-keep p vs (s .1))) (λ e. rw e (sound-keep p vs (s .1)))
 
-pub sizes-keep : (p : Value → Bool) (vs : Items) → sizes (keep p vs) ≤ sizes vs
-unfolding size keep
+pub sizes-keep : (p : Value → Bool) (vs : Items) → sizes (keepItems p vs) ≤ sizes vs
+unfolding size keepItems
 sizes-keep p none = omega arith
 sizes-keep p (more v vs) = let h = sizes-keep p vs in by-test (p v) (λ e. rw e (omega arith)) (λ e. rw e (omega arith))
 
@@ -171,12 +171,12 @@ sizes-grow-all vs (more w ws) = omega (arith, sizes-grow-all (insert w vs) ws, s
 
 -- ---- the items of each
 
-pub member-flatten : (x : Value) (vs : Items) → isMember x (flatten vs) ≡ any (λ s. isMember x (itemsOf s)) vs
-unfolding flatten any isMember
+pub member-flatten : (x : Value) (vs : Items) → isMember x (flatten vs) ≡ anyItem (λ s. isMember x (itemsIn s)) vs
+unfolding flatten anyItem isMember
 member-flatten x none = refl
-member-flatten x (more v vs) = member-join x (itemsOf v) (flatten vs) ∙ ap (λ (m : Bool). isMember x (itemsOf v) || m) (member-flatten x vs)
+member-flatten x (more v vs) = member-join x (itemsIn v) (flatten vs) ∙ ap (λ (m : Bool). isMember x (itemsIn v) || m) (member-flatten x vs)
 
-sound-itemsOf : (v : Value) → Sound v → SoundItems (itemsOf v)
+sound-itemsOf : (v : Value) → Sound v → SoundItems (itemsIn v)
 unfolding Sound
 sound-itemsOf (boolean b) s = tt
 sound-itemsOf (integer z) s = tt
@@ -185,7 +185,7 @@ sound-itemsOf (collection k vs) s = s .1
 pub sound-flatten : (vs : Items) → SoundItems vs → SoundItems (flatten vs)
 unfolding Sound flatten
 sound-flatten none s = tt
-sound-flatten (more v vs) s = join-sound (itemsOf v) (flatten vs) (sound-itemsOf v (s .0)) (sound-flatten vs (s .1))
+sound-flatten (more v vs) s = join-sound (itemsIn v) (flatten vs) (sound-itemsOf v (s .0)) (sound-flatten vs (s .1))
 
 -- ---- backwards
 

@@ -15,7 +15,7 @@ use Rattle.values.proofs.Entries.{by-entries, before-nothing, paired-enter, asc
 use Rattle.operators.specs.Answer.{Built, built, fitting}
 use Rattle.operators.specs.Gather.{insertAll, everyEntry, keepEntries, enterAll}
 use Rattle.operators.specs.Maps.{agrees, compatible}
-use Rattle.operators.specs.Enumerations.{addEntry, onward, addEntries}
+use Rattle.operators.specs.Enumerations.{addEntry, buildOn, addEntries}
 use Rattle.operator_laws.proofs.Gather.{same-refl, member-none, member-case, member-there, member-insertAll}
 use Rattle.operator_laws.proofs.Entries.{everyEntry-at, passing, lookup-keep, orElse, lookup-enterAll}
 use Rattle.operator_laws.proofs.Enumerations.{fits, fits-not, by-fitting, by-entry}
@@ -160,12 +160,12 @@ addEntries-is vs ws p a q b l c =
     let pe = paired-enter k v vs p in
     let ae = ascending-enter k v vs p a in
     by-fitting (enter k v vs)
-    (λ g f. ap (λ (x : Built). onward x (λ us. addEntries us ws)) (d ∙ f) ∙ r (enter k v vs) pe ae (b .1) g n)
+    (λ g f. ap (λ (x : Built). buildOn x (λ us. addEntries us ws)) (d ∙ f) ∙ r (enter k v vs) pe ae (b .1) g n)
     (λ g f.
-    ap (λ (x : Built). onward x (λ us. addEntries us ws)) (d ∙ f)
+    ap (λ (x : Built). buildOn x (λ us. addEntries us ws)) (d ∙ f)
     ∙ sym (fits-not (enterAll (enter k v vs) ws) (omega (arith, merge-grows (enter k v vs) ws pe ae q (b .1) n)))))
     (λ e d m.
-    ap (λ (x : Built). onward x (λ us. addEntries us ws)) d ∙ r vs p a (b .1) l m
+    ap (λ (x : Built). buildOn x (λ us. addEntries us ws)) d ∙ r vs p a (b .1) l m
     ∙ sym (ap (λ (us : Items). fitting (enterAll us ws)) (enter-present k v vs p a e))))
     ws q vs p a b l c
 

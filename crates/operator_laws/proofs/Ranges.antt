@@ -10,7 +10,7 @@ use lib.Signed.{ltZ, leZ}
 use mathlib.Mathlib.Data.Bool.Basic.{and-intro}
 use Rattle.prelude.proofs.Absurd.{never}
 use Rattle.prelude.proofs.Truth.{both-ways, by-test}
-use Rattle.integers.specs.Whole.{least, greatest, InRange}
+use Rattle.integers.specs.Whole.{leastInteger, greatestInteger, InRange}
 use Rattle.integers.proofs.Parts.{up, down, parts-add, parts-minus, eq-parts}
 use Rattle.integers.specs.declared.Order.the-variants.{Lower}
 use Rattle.values.specs.Value.{integer, size, sizes, within, order, Before, Ascending, Sound, SoundItems}
@@ -47,7 +47,7 @@ le-trans a b c p q = up-le a c (omega (arith, le-up a b p, le-up b c q))
 -- What lies between two integers in range is in range.
 pub between : (lo z hi : ℤ) → InRange lo → InRange hi → leZ lo z ≡ true → leZ z hi ≡ true → InRange z
 between lo z hi p q l h =
-    and-intro (le-trans least lo z (and-eq-true-iff (leZ least lo) (leZ lo greatest) .0 p .0) l) (le-trans z hi greatest h (and-eq-true-iff (leZ least hi) (leZ hi greatest) .0 q .1))
+    and-intro (le-trans leastInteger lo z (and-eq-true-iff (leZ leastInteger lo) (leZ lo greatestInteger) .0 p .0) l) (le-trans z hi greatestInteger h (and-eq-true-iff (leZ leastInteger hi) (leZ hi greatestInteger) .0 q .1))
 
 -- One of the two parts is 0.
 sides : {P : Type 0} (z : ℤ) → (down z ≡ 0 → counted z ≡ up z → P) → (up z ≡ 0 → counted z ≡ 0 → P) → P

@@ -13,7 +13,7 @@ use Rattle.prelude.proofs.Absurd.{impossible}
 use Rattle.prelude.proofs.Truth.{cond-true, cond-false, by-test}
 use Rattle.integers.specs.declared.Number.{Number}
 use Rattle.integers.specs.Whole as Whole
-use Rattle.integers.specs.Whole.{greatest, inRange, InRange, answer, divided, divℤ, remℤ, modℤ}
+use Rattle.integers.specs.Whole.{greatestInteger, inRange, InRange, answerOf, divided, divℤ, remℤ, modℤ}
 use Rattle.values.specs.Value.{Kind, set, sequence, map, tuple, number, Value, boolean, integer, collection, Items, none, more, count, keys, mapped, size, sizes, mostBytes, Ascending, Paired, Shaped, Sound, SoundItems, WellFormed}
 use Rattle.values.specs.Items.{same, join, nth, lookup}
 use Rattle.values.proofs.Order.{number-inj}
@@ -22,7 +22,7 @@ use Rattle.values.proofs.Entries.{by-entries}
 use Rattle.operators.specs.Answer.{Answer, is, refused, wrongKind, clash, asBoolean, asInteger, asKind, needs, needsBoth, found, sized, Fine}
 use Rattle.operators.specs.Booleans.{truth, negation, biimplication, Connective, and, or, implies, Left, settles, leaves, settledBy, left, right}
 use Rattle.operators.specs.Arithmetic.{answered, onInteger, onIntegers, compared}
-use Rattle.operators.specs.Gather.{every, keep, insertAll, itemsOf, isKind, flatten, backwards, upFrom, keepEntries, enterAll}
+use Rattle.operators.specs.Gather.{everyItem, keepItems, insertAll, itemsIn, isKind, flatten, backwards, upFrom, keepEntries, enterAll}
 use Rattle.operators.specs.Sets.{uniteAll, intersectionOf, howMany, counting, rangeOf}
 use Rattle.operators.specs.Sequences.{headOf, tailOf, itemAt}
 use Rattle.operators.specs.Maps.{compatible, applyItems, applyTo}
@@ -59,7 +59,7 @@ integer-fine z h = record { sound = h; short = omega arith }
 
 -- The number of items of a well-formed value.
 count-fine : {k : Kind} {vs : Items} → Good k vs → Fine (is (integer (pos (count vs))))
-count-fine {k} {vs} g = let s = g .short in integer-fine (pos (count vs)) (up-le (pos (count vs)) greatest (omega (arith, count-sizes vs)))
+count-fine {k} {vs} g = let s = g .short in integer-fine (pos (count vs)) (up-le (pos (count vs)) greatestInteger (omega (arith, count-sizes vs)))
 
 pub sized-fine : (k : Kind) (vs : Items) → Shaped k vs → SoundItems vs → Fine (sized k vs)
 sized-fine k vs p s =
@@ -111,8 +111,8 @@ negation-fine v w = boolean-fine (λ b. truth (not b)) (λ b. truth-fine (not b)
 biimplication-fine : (v w : Value) → WellFormed v → WellFormed w → Fine (biimplication v w)
 biimplication-fine v w p q = boolean-fine _ (λ a. boolean-fine _ (λ b. truth-fine _) w) v
 
-answer-fine : (z : ℤ) → Fine (answered (answer z))
-unfolding answer
+answer-fine : (z : ℤ) → Fine (answered (answerOf z))
+unfolding answerOf
 answer-fine z = by-test (inRange z) (λ e. rw e (integer-fine z e)) (λ e. rw e (omega arith))
 
 divided-fine : (right z : ℤ) → Fine (answered (divided right z))
@@ -132,7 +132,7 @@ compared-fine f v w p q = wholes-fine (λ a b. truth (f a b)) (λ a b r t. truth
 -- ---- sets
 
 -- A set of some members of another is no longer.
-keep-fine : (p : Value → Bool) (vs : Items) → Good set vs → Fine (is (collection set (keep p vs)))
+keep-fine : (p : Value → Bool) (vs : Items) → Good set vs → Fine (is (collection set (keepItems p vs)))
 keep-fine p vs g =
     let s = g .short in
     wellFormed (record { shaped = ascending-keep p vs (g .shaped); sound = sound-keep p vs (g .sound); short = omega (arith, sizes-keep p vs) })
@@ -151,7 +151,7 @@ unfolding Ascending Sound
 uniteAll-fine vs g = sized-fine set (insertAll none (flatten vs)) (ascending-insertAll none (flatten vs) tt) (sound-insertAll none (flatten vs) tt (sound-flatten vs (g .sound)))
 
 -- The items of a well-formed set whose members are sets.
-first-good : (v : Value) → isKind set v ≡ true → WellFormed v → Good set (itemsOf v)
+first-good : (v : Value) → isKind set v ≡ true → WellFormed v → Good set (itemsIn v)
 first-good (boolean b) e w = impossible cc
 first-good (integer i) e w = impossible cc
 first-good (collection l vs) e w = subst (λ (j : Kind). Good j vs) (sym (number-inj set l (eqb-true (number set) (number l) e))) (good w)
@@ -161,11 +161,11 @@ item-fine : {k : Kind} (v : Value) (vs : Items) → Good k (more v vs) → WellF
 unfolding Sound size
 item-fine v vs g = let h = g .short in record { sound = g .sound .0; short = omega arith }
 
-intersectionOf-fine : (vs : Items) → every (isKind set) vs ≡ true → Good set vs → Fine (intersectionOf vs)
-unfolding every
+intersectionOf-fine : (vs : Items) → everyItem (isKind set) vs ≡ true → Good set vs → Fine (intersectionOf vs)
+unfolding everyItem
 intersectionOf-fine none e g = omega arith
 intersectionOf-fine (more v vs) e g =
-    keep-fine _ (itemsOf v) (first-good v (and-eq-true-iff (isKind set v) (every (isKind set) vs) .0 e .0) (item-fine v vs g))
+    keep-fine _ (itemsIn v) (first-good v (and-eq-true-iff (isKind set v) (everyItem (isKind set) vs) .0 e .0) (item-fine v vs g))
 
 counting-fine : (z : ℤ) (n : ℕ) → (8 * n + 4 ≤ mostBytes → SoundItems (upFrom z n)) → Fine (counting z n)
 counting-fine z n f =
@@ -196,7 +196,7 @@ one-in = refl
 indexes-fine : (vs : Items) → Good sequence vs → Fine (counting (pos 1) (count vs))
 indexes-fine vs g =
     counting-fine (pos 1) (count vs)
-    (λ h. sound-up (pos 1) greatest one-in refl (pos 1) (count vs) (omega arith) (omega arith))
+    (λ h. sound-up (pos 1) greatestInteger one-in refl (pos 1) (count vs) (omega arith) (omega arith))
 
 nth-fine : (vs : Items) (n : ℕ) → SoundItems vs → (v : Value) → nth vs n ≡ some v → Sound v × (size v ≤ sizes vs)
 unfolding nth Sound size
@@ -314,14 +314,14 @@ all-unaries =
     ▹ onInteger-fine (λ a. Whole.negationOf a) (λ a. answer-fine (negℤ a))
     ▹ onInteger-fine (λ a. Whole.absoluteOf a) (λ a. answer-fine (pos (natAbs a)))
     ▹ kind-fine set _ (λ vs g. count-fine g)
-    ▹ kind-fine set _ (λ vs g. unless-fine (every (isKind set) vs) (sized set (uniteAll vs)) wrongKind (omega arith) (λ e. uniteAll-fine vs g))
-    ▹ kind-fine set _ (λ vs g. unless-fine (every (isKind set) vs) (intersectionOf vs) wrongKind (omega arith) (λ e. intersectionOf-fine vs e g))
+    ▹ kind-fine set _ (λ vs g. unless-fine (everyItem (isKind set) vs) (sized set (uniteAll vs)) wrongKind (omega arith) (λ e. uniteAll-fine vs g))
+    ▹ kind-fine set _ (λ vs g. unless-fine (everyItem (isKind set) vs) (intersectionOf vs) wrongKind (omega arith) (λ e. intersectionOf-fine vs e g))
     ▹ kind-fine sequence _ (λ vs g. count-fine g)
     ▹ kind-fine sequence _ headOf-fine
     ▹ kind-fine sequence _ tailOf-fine
     ▹ kind-fine sequence _ (λ vs g. insertAll-fine vs (g .sound) (g .short))
     ▹ kind-fine sequence _ indexes-fine
-    ▹ kind-fine sequence _ (λ vs g. unless-fine (every (isKind sequence) vs) (sized sequence (flatten vs)) wrongKind (omega arith) (λ e. sized-fine sequence (flatten vs) tt (sound-flatten vs (g .sound))))
+    ▹ kind-fine sequence _ (λ vs g. unless-fine (everyItem (isKind sequence) vs) (sized sequence (flatten vs)) wrongKind (omega arith) (λ e. sized-fine sequence (flatten vs) tt (sound-flatten vs (g .sound))))
     ▹ kind-fine sequence _ backwards-fine
     ▹ kind-fine map _ keys-fine
     ▹ kind-fine map _ mapped-fine

@@ -13,7 +13,7 @@ use Rattle.values.specs.Value.{sequence, Value, integer, collection, Items, non
 use Rattle.values.specs.Items.{join, nth, isMember}
 use Rattle.values.proofs.Joined.{join-none, join-join}
 use Rattle.values.proofs.Entries.{isThere}
-use Rattle.operators.specs.Gather.{insertAll, itemsOf, flatten, backwards, upFrom}
+use Rattle.operators.specs.Gather.{insertAll, itemsIn, flatten, backwards, upFrom}
 use Rattle.operators.specs.Sequences.{itemAt}
 use Rattle.operator_laws.proofs.Gather.{member-insertAll, count-backwards}
 use Rattle.operator_laws.proofs.Ranges.{le-up, up-le, member-up, up-member}
@@ -78,7 +78,7 @@ conc-first vs ws = refl
 conc-join : (vs ws : Items) → flatten (join vs ws) ≡ join (flatten vs) (flatten ws)
 unfolding flatten join
 conc-join none ws = refl
-conc-join (more v vs) ws = ap (join (itemsOf v)) (conc-join vs ws) ∙ sym (join-join (itemsOf v) (flatten vs) (flatten ws))
+conc-join (more v vs) ws = ap (join (itemsIn v)) (conc-join vs ws) ∙ sym (join-join (itemsIn v) (flatten vs) (flatten ws))
 
 -- THEOREM: reverse l has the elements of l in reverse order
 nth-backwards : (vs : Items) (j k : ℕ) → suc (j + k) ≡ count vs → nth (backwards vs) k ≡ nth vs j

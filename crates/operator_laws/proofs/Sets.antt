@@ -14,7 +14,7 @@ use Rattle.values.specs.Items.{same, isMember, insert}
 use Rattle.values.proofs.Order.{same-true}
 use Rattle.values.proofs.Members.{member-here, member-insert, before-apart, insert-present, sizes-insert, count-insert, ascending-insert, same-members}
 use Rattle.operators.specs.Answer.{is, refused, tooLarge, built, stopped, closed, sized}
-use Rattle.operators.specs.Gather.{every, any, keep, insertAll, itemsOf, flatten, upFrom}
+use Rattle.operators.specs.Gather.{everyItem, anyItem, keepItems, insertAll, itemsIn, flatten, upFrom}
 use Rattle.operators.specs.Sets.{unite, intersect, without, isSubset, isEmpty, uniteAll, intersectAll, counting}
 use Rattle.operator_laws.proofs.Gather.{member-none, member-there, every-at, every-all, Some, any-some, some-any, member-keep, member-insertAll, ascending-insertAll, member-flatten}
 use Rattle.operator_laws.proofs.Ranges.{sizes-up}
@@ -83,33 +83,33 @@ psubset-both vs ws e h = and-intro e (not-empty vs ws h)
 -- ---- dunion, dinter
 
 -- THEOREM: dunion ss contains all the elements of all the sets of ss
-member-uniteAll : (x : Value) (vs : Items) → isMember x (uniteAll vs) ≡ any (λ s. isMember x (itemsOf s)) vs
+member-uniteAll : (x : Value) (vs : Items) → isMember x (uniteAll vs) ≡ anyItem (λ s. isMember x (itemsIn s)) vs
 unfolding isMember
 member-uniteAll x vs = member-insertAll x none (flatten vs) ∙ member-flatten x vs
 
-in-uniteAll : (x : Value) (vs : Items) → isMember x (uniteAll vs) ≡ true → Some (λ s. isMember x (itemsOf s)) vs
-in-uniteAll x vs e = any-some (λ s. isMember x (itemsOf s)) vs (sym (member-uniteAll x vs) ∙ e)
+in-uniteAll : (x : Value) (vs : Items) → isMember x (uniteAll vs) ≡ true → Some (λ s. isMember x (itemsIn s)) vs
+in-uniteAll x vs e = any-some (λ s. isMember x (itemsIn s)) vs (sym (member-uniteAll x vs) ∙ e)
 
-uniteAll-in : (x s : Value) (vs : Items) → isMember s vs ≡ true → isMember x (itemsOf s) ≡ true → isMember x (uniteAll vs) ≡ true
-uniteAll-in x s vs m e = member-uniteAll x vs ∙ some-any (λ s. isMember x (itemsOf s)) vs s m e
+uniteAll-in : (x s : Value) (vs : Items) → isMember s vs ≡ true → isMember x (itemsIn s) ≡ true → isMember x (uniteAll vs) ≡ true
+uniteAll-in x s vs m e = member-uniteAll x vs ∙ some-any (λ s. isMember x (itemsIn s)) vs s m e
 
 -- THEOREM: dinter ss contains the elements that are in all the sets of ss
-member-intersectAll : (x v : Value) (vs : Items) → isMember x (intersectAll v vs) ≡ every (λ s. isMember x (itemsOf s)) (more v vs)
-unfolding every
-member-intersectAll x v vs = member-keep (λ x. every (λ s. isMember x (itemsOf s)) vs) x (itemsOf v)
+member-intersectAll : (x v : Value) (vs : Items) → isMember x (intersectAll v vs) ≡ everyItem (λ s. isMember x (itemsIn s)) (more v vs)
+unfolding everyItem
+member-intersectAll x v vs = member-keep (λ x. everyItem (λ s. isMember x (itemsIn s)) vs) x (itemsIn v)
 
 -- ---- numbers and sizes
 
-keep-same : (p q : Value → Bool) (vs : Items) → ((x : Value) → isMember x vs ≡ true → p x ≡ q x) → keep p vs ≡ keep q vs
-unfolding keep
+keep-same : (p q : Value → Bool) (vs : Items) → ((x : Value) → isMember x vs ≡ true → p x ≡ q x) → keepItems p vs ≡ keepItems q vs
+unfolding keepItems
 keep-same p q none f = refl
 keep-same p q (more v vs) f =
-    ap (λ (b : Bool). cond b (more v (keep p vs)) (keep p vs)) (f v (member-here v vs))
+    ap (λ (b : Bool). cond b (more v (keepItems p vs)) (keepItems p vs)) (f v (member-here v vs))
     ∙ ap (λ (us : Items). cond (q v) (more v us) us) (keep-same p q vs (λ x m. f x (member-there x v vs m)))
 
 -- THEOREM: card (s1 \ s2) + card (s1 inter s2) = card s1
 card-parts : (vs ws : Items) → count (without vs ws) + count (intersect vs ws) ≡ count vs
-unfolding keep count
+unfolding keepItems count
 card-parts none ws = refl
 card-parts (more v vs) ws = let h = card-parts vs ws in by-test (isMember v ws) (λ e. rw e (omega arith)) (λ e. rw e (omega arith))
 
@@ -122,7 +122,7 @@ without-insert w vs ws n =
 -- THEOREM: s1 union s2 has the members of s1 and those of s2 \ s1, in number and in size
 unite-counts : (vs ws : Items) → Ascending vs → Ascending ws
     → (count (unite vs ws) ≡ count vs + count (without ws vs)) × (sizes (unite vs ws) ≡ sizes vs + sizes (without ws vs))
-unfolding Ascending insertAll keep count size
+unfolding Ascending insertAll keepItems count size
 unite-counts vs none a b = (omega arith, omega arith)
 unite-counts vs (more w ws) a b =
     let h = unite-counts (insert w vs) ws (ascending-insert w vs a) (b .1) in

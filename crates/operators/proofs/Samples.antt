@@ -3,13 +3,13 @@ use mathlib.Core.Path.{_≡_, refl}
 use mathlib.Core.Bool.{true, false}
 use Prim.Native.Nat.{ℕ, zero, suc}
 use lib.IntN.{pos, negℤ}
-use Rattle.integers.specs.Whole.{answer, least}
+use Rattle.integers.specs.Whole.{answerOf, leastInteger}
 use Rattle.values.specs.Value.{Value, boolean, integer, collection, set, sequence, map, tuple, Items, none, more, count, everyOther, size, within}
 use Rattle.integers.specs.Order.{orderℕ, orderℤ}
 use Rattle.values.specs.Items.{join, isMember, nth, insert, lookup, enter}
 use Rattle.operators.specs.Answer.{is, refused}
 use Rattle.operators.specs.Booleans.{Connective, settles, left, truth}
-use Rattle.operators.specs.Gather.{every, keep, insertAll, flatten, backwards, upFrom, everyEntry, keepEntries, enterAll}
+use Rattle.operators.specs.Gather.{everyItem, keepItems, insertAll, flatten, backwards, upFrom, everyEntry, keepEntries, enterAll}
 use Rattle.operators.specs.Sets.{rangeOf}
 use Rattle.operators.specs.Maps.{applyTo}
 use Rattle.operators.specs.Enumerations.{addMembers, addItems, addEntries, setOf, mapOf, tupleOf}
@@ -52,15 +52,15 @@ m2 = m (n 1 ▹ n 2 ▹ n 2 ▹ n 3 ▹ n 3 ▹ n 4 ▹ n 4 ▹ n 1 ▹ none)
 -- ---- page 10: −7 mod 2 is 1, and div by 0
 
 minus-7-mod-2 : binary 12 (minus 7) (n 2) ≡ is (n 1)
-unfolding binary answer
+unfolding binary answerOf
 minus-7-mod-2 = refl
 
-least-div-minus-1 : binary 10 (integer least) (minus 1) ≡ refused 21
-unfolding binary answer
+least-div-minus-1 : binary 10 (integer leastInteger) (minus 1) ≡ refused 21
+unfolding binary answerOf
 least-div-minus-1 = refl
 
 one-div-0 : binary 10 (n 1) (n 0) ≡ refused 22
-unfolding binary answer
+unfolding binary answerOf
 one-div-0 = refl
 
 sum-of-a-truth : binary 7 (n 1) (boolean true) ≡ refused 20
@@ -92,11 +92,11 @@ unfolding binary insertAll insert size upFrom within orderℕ orderℤ
 union-64 = refl
 
 difference-10 : binary 21 s2 (s (n 2 ▹ n 4 ▹ n 8 ▹ n 10 ▹ none)) ≡ is (s (n 6 ▹ n 11 ▹ none))
-unfolding binary keep isMember within orderℕ orderℤ
+unfolding binary keepItems isMember within orderℕ orderℤ
 difference-10 = refl
 
 psubset-itself : binary 23 s2 s2 ≡ is (boolean false)
-unfolding binary keep every isMember within orderℕ orderℤ
+unfolding binary keepItems everyItem isMember within orderℕ orderℤ
 psubset-itself = refl
 
 card-5 : unary 4 s2 ≡ is (n 5)
@@ -105,15 +105,15 @@ card-5 = refl
 
 dunion-15 : unary 5 (s (s (n 0 ▹ n 12 ▹ none) ▹ s2 ▹ s (n 2 ▹ n 4 ▹ none) ▹ s (n 4 ▹ n 5 ▹ n 6 ▹ none) ▹ none))
     ≡ is (s (n 0 ▹ n 2 ▹ n 4 ▹ n 5 ▹ n 6 ▹ n 8 ▹ n 11 ▹ n 12 ▹ none))
-unfolding unary every flatten join insertAll insert size within orderℕ orderℤ
+unfolding unary everyItem flatten join insertAll insert size within orderℕ orderℤ
 dunion-15 = refl
 
 dinter-4 : unary 6 (s (s2 ▹ s (n 2 ▹ n 4 ▹ none) ▹ s (n 4 ▹ n 5 ▹ n 6 ▹ none) ▹ none)) ≡ is (s (n 4 ▹ none))
-unfolding unary every keep isMember within orderℕ orderℤ
+unfolding unary everyItem keepItems isMember within orderℕ orderℤ
 dinter-4 = refl
 
 dinter-of-none : unary 6 (s none) ≡ refused 26
-unfolding unary every
+unfolding unary everyItem
 dinter-of-none = refl
 
 -- ---- page 18
@@ -131,7 +131,7 @@ unfolding unary backwards join
 reverse-l1 = refl
 
 conc-l1-l2 : unary 12 (q (l1 ▹ l2 ▹ none)) ≡ binary 24 l1 l2
-unfolding unary binary every flatten join size
+unfolding unary binary everyItem flatten join size
 conc-l1-l2 = refl
 
 elems-l1 : unary 10 l1 ≡ is (s (n 1 ▹ n 2 ▹ n 3 ▹ n 4 ▹ n 5 ▹ n 9 ▹ none))
@@ -218,7 +218,7 @@ unfolding upFrom
 range-64 = refl
 
 -- all integers
-range-widest : rangeOf (integer least) (integer (pos 2147483647)) ≡ refused 28
+range-widest : rangeOf (integer leastInteger) (integer (pos 2147483647)) ≡ refused 28
 unfolding upFrom
 range-widest = refl
 

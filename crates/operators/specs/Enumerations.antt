@@ -25,17 +25,17 @@ addEntry vs k v = entered (lookup k vs) vs k v
 -- ---- all parts
 
 -- What is built goes on being built; what is stopped stays so.
-abbrev pub onward : Built → (Items → Built) → Built
-onward (built vs) f = f vs
-onward (stopped n) f = stopped n
+abbrev pub buildOn : Built → (Items → Built) → Built
+buildOn (built vs) f = f vs
+buildOn (stopped n) f = stopped n
 
 unfoldable pub addMembers : Items → Items → Built
 addMembers vs none = built vs
-addMembers vs (more w ws) = onward (addMember vs w) (λ us. addMembers us ws)
+addMembers vs (more w ws) = buildOn (addMember vs w) (λ us. addMembers us ws)
 
 unfoldable pub addItems : Items → Items → Built
 addItems vs none = built vs
-addItems vs (more w ws) = onward (addItem vs w) (λ us. addItems us ws)
+addItems vs (more w ws) = buildOn (addItem vs w) (λ us. addItems us ws)
 
 -- Of key, value, key, value. (The second stands where the key k was just read.)
 unfoldable mutual
@@ -45,7 +45,7 @@ unfoldable mutual
 
   pub addEntriesAt : Items → Value → Items → Built
   addEntriesAt vs k none = built vs
-  addEntriesAt vs k (more v ws) = onward (addEntry vs k v) (λ us. addEntries us ws)
+  addEntriesAt vs k (more v ws) = buildOn (addEntry vs k v) (λ us. addEntries us ws)
 
 -- ---- enumerations, of the values of all their operands
 

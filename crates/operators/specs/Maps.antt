@@ -25,8 +25,8 @@ abbrev pub compatible : Items → Items → Bool
 compatible vs ws = everyEntry (λ k v. agrees (lookup k vs) v) ws
 
 -- m1 munion m2 (page 20): the two must be compatible, which is tested first; over 512 bytes, 28
-abbrev pub merge : Value → Value → Answer
-merge v w = needsBoth (asMap v) (asMap w) (λ vs ws. cond (compatible vs ws) (sized map (enterAll vs ws)) (refused clash))
+abbrev pub mapUnion : Value → Value → Answer
+mapUnion v w = needsBoth (asMap v) (asMap w) (λ vs ws. cond (compatible vs ws) (sized map (enterAll vs ws)) (refused clash))
 
 -- m1 ++ m2 (page 20): any common keys are mapped as by m2; the finished map over 512 bytes, 28
 abbrev pub override : Value → Value → Answer

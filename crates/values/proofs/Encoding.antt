@@ -16,7 +16,7 @@ use Rattle.integers.specs.Bytes.{word, four, integerAt}
 use Rattle.integers.proofs.Range.{range-fits}
 use Rattle.values.specs.Value.{Kind, set, sequence, map, tuple, number, Value, boolean, integer, collection, Items, none, more, kindOf, count, size, sizes, byteOf, headed, encode, encodeItems, Sound, SoundItems}
 use Rattle.values.specs.Items.{join, snoc}
-use Rattle.values.proofs.Order.{kindAt, kindAt-number}
+use Rattle.values.proofs.Order.{collectionKind, collection-kind}
 
 -- ---- length
 
@@ -101,7 +101,7 @@ unfoldable mutual
   valueOf (suc n) l =
       cond (eqb (word l 2) 1) (boolean (eqb (getD l 4 0) 1))
       (cond (eqb (word l 2) 2) (integer (integerAt l 4))
-      (collection (kindAt (word l 2)) (itemsOf n (take (word l 0 - 4) (drop 4 l)))))
+      (collection (collectionKind (word l 2)) (itemsOf n (take (word l 0 - 4) (drop 4 l)))))
 
   pub itemsOf : ℕ → List ℕ → Items
   itemsOf zero l = none
@@ -154,7 +154,7 @@ mutual
   value-back (collection k vs) (suc n) l f h =
       let m : ℕ = 4 + sizes vs in
       let e : word (headed m (number k) (encodeItems vs ++ l)) 0 - 4 ≡ sizes vs = omega arith in
-      rw (kind-word m (number k) (encodeItems vs ++ l), kind-other k .0, kind-other k .1, kindAt-number k, e, take-at (encodeItems vs) l (sizes vs) (encodeItems-length vs))
+      rw (kind-word m (number k) (encodeItems vs ++ l), kind-other k .0, kind-other k .1, collection-kind k, e, take-at (encodeItems vs) l (sizes vs) (encodeItems-length vs))
       (ap (collection k) (items-back vs n (f .1) (omega arith)))
 
   items-back : (vs : Items) (n : ℕ) → SoundItems vs → sizes vs + 1 ≤ n → itemsOf n (encodeItems vs) ≡ vs

@@ -41,17 +41,17 @@ number-low map = omega arith
 number-low tuple = omega arith
 
 -- the kind of a collection by its number, and back
-abbrev pub kindAt : ℕ → Kind
-kindAt n = cond (eqb n 3) set (cond (eqb n 4) sequence (cond (eqb n 5) map tuple))
+abbrev pub collectionKind : ℕ → Kind
+collectionKind n = cond (eqb n 3) set (cond (eqb n 4) sequence (cond (eqb n 5) map tuple))
 
-pub kindAt-number : (k : Kind) → kindAt (number k) ≡ k
-kindAt-number set = refl
-kindAt-number sequence = refl
-kindAt-number map = refl
-kindAt-number tuple = refl
+pub collection-kind : (k : Kind) → collectionKind (number k) ≡ k
+collection-kind set = refl
+collection-kind sequence = refl
+collection-kind map = refl
+collection-kind tuple = refl
 
 pub number-inj : (k l : Kind) → number k ≡ number l → k ≡ l
-number-inj k l e = sym (kindAt-number k) ∙ ap kindAt e ∙ kindAt-number l
+number-inj k l e = sym (collection-kind k) ∙ ap collectionKind e ∙ collection-kind l
 
 byteOf-inj : (a b : Bool) → byteOf a ≡ byteOf b → a ≡ b
 byteOf-inj false false e = refl

@@ -72,8 +72,8 @@ collection-at {s} {at} {to} {k} {vs} n b e short shaped h =
     }
 
 -- a heading that is stored before items makes a collection
-pub closed : {s t : List ℕ} {at to : ℕ} {k : Kind} {vs : Items} (n : ℕ) → t ≡ sets s at (heading n (number k)) → at + n ≡ to → n ≤ mostBytes → Shaped k vs → ItemsAt s (at + 4) to vs → At t at (collection k vs)
-closed {s} {t} {at} {to} {k} {vs} n q e short shaped h =
+pub headed-collection : {s t : List ℕ} {at to : ℕ} {k : Kind} {vs : Items} (n : ℕ) → t ≡ sets s at (heading n (number k)) → at + n ≡ to → n ≤ mostBytes → Shaped k vs → ItemsAt s (at + 4) to vs → At t at (collection k vs)
+headed-collection {s} {t} {at} {to} {k} {vs} n q e short shaped h =
     let f = h .ends in
     let g = h .fits in
     let b : take 4 (drop at t) ≡ heading n (number k) = ap (λ (x : List ℕ). take 4 (drop at x)) q ∙ ap (take 4) (drop-store s at (heading n (number k)) (omega arith)) in
