@@ -209,8 +209,7 @@ addEntries-clash vs ws us p q e h m =
     let t : lookup k us ≡ some w = h k w a in
     let j : v ≡ w = cc in
     let u = true-same j in
-    let y : _≡_ {A = ℕ} 0 1 = cc in
-    omega arith))
+    impossible cc))
     ws q vs p e h m
   where
     kept : (vs us : Items) (k v : Value) → Paired vs → ((x w : Value) → lookup x vs ≡ some w → lookup x us ≡ some w) → lookup k us ≡ some v

@@ -184,6 +184,9 @@ flip-same Higher e = cc
 pub order-refl : (v : Value) → order v v ≡ Same
 order-refl v = flip-same (order v v) (order-flip v v)
 
+pub items-refl : (vs : Items) → orderItems vs vs ≡ Same
+items-refl vs = flip-same (orderItems vs vs) (items-flip vs vs)
+
 equal-same : {v w : Value} → v ≡ w → order v w ≡ Same
 equal-same {v} {w} e = ap (λ (x : Value). order x w) e ∙ order-refl w
 
@@ -201,7 +204,7 @@ pub irreflexive : (v : Value) → order v v ≡ Lower → ⊥
 irreflexive v e = lower-same e (order-refl v)
 
 -- lower one way is higher the other way
-lower-flip : (v w : Value) → order v w ≡ Lower → order w v ≡ Higher
+pub lower-flip : (v w : Value) → order v w ≡ Lower → order w v ≡ Higher
 lower-flip v w e = order-flip v w ∙ ap flip e
 
 pub higher-flip : (v w : Value) → order v w ≡ Higher → order w v ≡ Lower
@@ -241,3 +244,11 @@ false-same v w f = go (same v w) refl
     go : (t : Bool) → same v w ≡ t → same v w ≡ false
     go true e = absurd (f (same-true v w e))
     go false e = e
+
+flip-is : (o : Order) → isSame (flip o) ≡ isSame o
+flip-is Lower = refl
+flip-is Same = refl
+flip-is Higher = refl
+
+pub same-flip : (v w : Value) → same w v ≡ same v w
+same-flip v w = ap isSame (order-flip v w) ∙ flip-is (order v w)
