@@ -11,7 +11,7 @@ use mir.Val.{SFits}
 use mathlib.Mathlib.Data.Bool.Basic.{and-elim-left}
 use Rattle.prelude.proofs.Absurd.{never}
 use Rattle.integers.specs.declared.Number.the-variants.{Is, OutOfRange, ByZero}
-use Rattle.integers.specs.Whole.{leastInteger, greatestInteger, inRange, InRange, answerOf, divided}
+use Rattle.integers.specs.Whole.{leastInteger, greatestInteger, inRange, InRange, ranged, divided}
 
 -- ---- tests
 
@@ -50,12 +50,12 @@ fits-range (negsuc n) f = rw (le-leb n (mag leastInteger) (omega arith))
 
 -- ---- answers
 
-pub answer-in : (z : ℤ) → InRange z → answerOf z ≡ Is z
-unfolding answerOf
+pub answer-in : (z : ℤ) → InRange z → ranged z ≡ Is z
+unfolding ranged
 answer-in z e = ap (λ (t : Bool). cond t (Is z) OutOfRange) e
 
-pub answer-out : (z : ℤ) → inRange z ≡ false → answerOf z ≡ OutOfRange
-unfolding answerOf
+pub answer-out : (z : ℤ) → inRange z ≡ false → ranged z ≡ OutOfRange
+unfolding ranged
 answer-out z e = ap (λ (t : Bool). cond t (Is z) OutOfRange) e
 
 -- what an answer that is a number says
@@ -65,7 +65,7 @@ pub record Answered (z n : ℤ) : Type 0 where
 
 -- ---- division
 
-pub divided-other : (right z : ℤ) → (right ≡ pos 0 → ⊥) → divided right z ≡ answerOf z
+pub divided-other : (right z : ℤ) → (right ≡ pos 0 → ⊥) → divided right z ≡ ranged z
 divided-other (pos zero) z n = absurd (n refl)
 divided-other (pos (suc k)) z n = refl
 divided-other (negsuc k) z n = refl

@@ -24,20 +24,20 @@ InRange z = inRange z ≡ true
 -- ---- answers
 
 -- the number of each: 0, 21 (integer out of range) or 22 (div, rem or mod by 0)
-abbrev pub refusal : Number → ℕ
-refusal (Is z) = 0
-refusal OutOfRange = 21
-refusal ByZero = 22
+abbrev pub refusalOf : Number → ℕ
+refusalOf (Is z) = 0
+refusalOf OutOfRange = 21
+refusalOf ByZero = 22
 
--- a whole number that an operation gives
-unfoldable pub answerOf : ℤ → Number
-answerOf z = cond (inRange z) (Is z) OutOfRange
+-- a whole number that an operation gives, where it is in range
+unfoldable pub ranged : ℤ → Number
+ranged z = cond (inRange z) (Is z) OutOfRange
 
 -- a whole number that a division by `right` gives: of 0, none
 abbrev pub divided : ℤ → ℤ → Number
 divided (pos zero) z = ByZero
-divided (pos (suc n)) z = answerOf z
-divided (negsuc n) z = answerOf z
+divided (pos (suc n)) z = ranged z
+divided (negsuc n) z = ranged z
 
 -- ---- the two quotients, where `right` is not 0
 
@@ -66,13 +66,13 @@ modℤ left right = left -ℤ right *ℤ floorℤ left right
 -- ---- the operations
 
 abbrev pub sumOf : ℤ → ℤ → Number
-sumOf left right = answerOf (left +ℤ right)
+sumOf left right = ranged (left +ℤ right)
 
 abbrev pub differenceOf : ℤ → ℤ → Number
-differenceOf left right = answerOf (left -ℤ right)
+differenceOf left right = ranged (left -ℤ right)
 
 abbrev pub productOf : ℤ → ℤ → Number
-productOf left right = answerOf (left *ℤ right)
+productOf left right = ranged (left *ℤ right)
 
 abbrev pub quotientOf : ℤ → ℤ → Number
 quotientOf left right = divided right (divℤ left right)
@@ -84,7 +84,7 @@ abbrev pub modulusOf : ℤ → ℤ → Number
 modulusOf left right = divided right (modℤ left right)
 
 abbrev pub negationOf : ℤ → Number
-negationOf z = answerOf (negℤ z)
+negationOf z = ranged (negℤ z)
 
 abbrev pub absoluteOf : ℤ → Number
-absoluteOf z = answerOf (pos (natAbs z))
+absoluteOf z = ranged (pos (natAbs z))

@@ -2,7 +2,7 @@
 ghost use mathlib.Core.Path.{_≡_};
 ghost use lib.IntN.{pos};
 ghost use lib.Signed.{ltZ};
-ghost use Rattle.integers.specs.Whole.{answerOf, modℤ, sumOf, differenceOf, productOf, quotientOf, remainderOf, modulusOf, negationOf, absoluteOf};
+ghost use Rattle.integers.specs.Whole.{ranged, modℤ, sumOf, differenceOf, productOf, quotientOf, remainderOf, modulusOf, negationOf, absoluteOf};
 ghost use Rattle.integers.specs.Order.{orderℕ, orderℤ};
 
 pub mod bytes;
@@ -30,7 +30,7 @@ pub enum Order {
 
 // An exact result as an answer. 64 bits hold the exact result of every operation.
 fn settle(z: i64) -> Number
-    ensures { λ r. ⌜ r ≡ answerOf z ⌝ }
+    ensures { λ r. ⌜ r ≡ ranged z ⌝ }
 {
     if z < Number::LEAST {
         return Number::OutOfRange;

@@ -13,7 +13,7 @@ use Rattle.prelude.proofs.Absurd.{impossible}
 use Rattle.prelude.proofs.Truth.{cond-true, cond-false, by-test}
 use Rattle.integers.specs.declared.Number.{Number}
 use Rattle.integers.specs.Whole as Whole
-use Rattle.integers.specs.Whole.{greatestInteger, inRange, InRange, answerOf, divided, divℤ, remℤ, modℤ}
+use Rattle.integers.specs.Whole.{greatestInteger, inRange, InRange, ranged, divided, divℤ, remℤ, modℤ}
 use Rattle.values.specs.Value.{Kind, set, sequence, map, tuple, number, Value, boolean, integer, collection, Items, none, more, count, keys, mapped, size, sizes, mostBytes, Ascending, Paired, Shaped, Sound, SoundItems, WellFormed}
 use Rattle.values.specs.Items.{same, join, nth, lookup}
 use Rattle.values.proofs.Order.{number-inj}
@@ -111,8 +111,8 @@ negation-fine v w = boolean-fine (λ b. truth (not b)) (λ b. truth-fine (not b)
 biimplication-fine : (v w : Value) → WellFormed v → WellFormed w → Fine (biimplication v w)
 biimplication-fine v w p q = boolean-fine _ (λ a. boolean-fine _ (λ b. truth-fine _) w) v
 
-answer-fine : (z : ℤ) → Fine (answered (answerOf z))
-unfolding answerOf
+answer-fine : (z : ℤ) → Fine (answered (ranged z))
+unfolding ranged
 answer-fine z = by-test (inRange z) (λ e. rw e (integer-fine z e)) (λ e. rw e (omega arith))
 
 divided-fine : (right z : ℤ) → Fine (answered (divided right z))

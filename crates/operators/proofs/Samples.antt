@@ -3,7 +3,7 @@ use mathlib.Core.Path.{_≡_, refl}
 use mathlib.Core.Bool.{true, false}
 use Prim.Native.Nat.{ℕ, zero, suc}
 use lib.IntN.{pos, negℤ}
-use Rattle.integers.specs.Whole.{answerOf, leastInteger}
+use Rattle.integers.specs.Whole.{ranged, leastInteger}
 use Rattle.values.specs.Value.{Value, boolean, integer, collection, set, sequence, map, tuple, Items, none, more, count, everyOther, size, within}
 use Rattle.integers.specs.Order.{orderℕ, orderℤ}
 use Rattle.values.specs.Items.{join, isMember, nth, insert, lookup, enter}
@@ -52,15 +52,15 @@ m2 = m (n 1 ▹ n 2 ▹ n 2 ▹ n 3 ▹ n 3 ▹ n 4 ▹ n 4 ▹ n 1 ▹ none)
 -- ---- page 10: −7 mod 2 is 1, and div by 0
 
 minus-7-mod-2 : binary 12 (minus 7) (n 2) ≡ is (n 1)
-unfolding binary answerOf
+unfolding binary ranged
 minus-7-mod-2 = refl
 
 least-div-minus-1 : binary 10 (integer leastInteger) (minus 1) ≡ refused 21
-unfolding binary answerOf
+unfolding binary ranged
 least-div-minus-1 = refl
 
 one-div-0 : binary 10 (n 1) (n 0) ≡ refused 22
-unfolding binary answerOf
+unfolding binary ranged
 one-div-0 = refl
 
 sum-of-a-truth : binary 7 (n 1) (boolean true) ≡ refused 20

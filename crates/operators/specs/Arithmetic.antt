@@ -12,8 +12,8 @@ use Rattle.operators.specs.Booleans.{truth}
 -- An integer, 21 or 22.
 abbrev pub answered : Number → Answer
 answered (Is z) = is (integer z)
-answered OutOfRange = refused (Whole.refusal OutOfRange)
-answered ByZero = refused (Whole.refusal ByZero)
+answered OutOfRange = refused (Whole.refusalOf OutOfRange)
+answered ByZero = refused (Whole.refusalOf ByZero)
 
 -- An operation on one integer, on two, and a comparison of two.
 abbrev pub onInteger : (ℤ → Number) → Value → Answer
