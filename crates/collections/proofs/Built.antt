@@ -1,4 +1,4 @@
--- Laws of what is built: one more makes a value again, what an answer says of the size, and what stands elsewhere stays.
+-- Laws of what is built: what an answer says of the size, and what stands elsewhere stays.
 use mathlib.Core.Path.{_≡_, refl, sym, _∙_}
 use mathlib.Core.Bool.{Bool, true, false, cond}
 use mathlib.Core.List.{List}
@@ -15,8 +15,6 @@ use Rattle.values.proofs.Frame.{at-below, at-above, word-below}
 use Rattle.collections.specs.declared.building.Added.{Added}
 use Rattle.collections.specs.declared.building.Added.the-variants.{Done as Put, Full as TooLong}
 use Rattle.collections.specs.Building.{added, Apart, Room}
-
--- ---- one more is a value again, if it is not too long
 
 -- ---- what an answer says of the size
 

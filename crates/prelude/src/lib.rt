@@ -1,1 +1,1 @@
-// What every crate stands on: definitions and laws, in specs/.
+// What every crate stands on: what is among a list, in specs/; laws of tests and of impossible equations, in proofs/.

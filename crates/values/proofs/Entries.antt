@@ -1,4 +1,4 @@
--- Laws of maps: an entry put in order, what stands at a key, an entry put in where its key is new, and that a map is what it maps its keys to.
+-- Laws of maps: an entry put in order, what stands at a key, and that a map is what it maps its keys to.
 use mathlib.Core.Path.{_≡_, refl, sym, ap, ap₂, _∙_}
 use mathlib.Core.Bool.{Bool, true, false, cond}
 use mathlib.Core.Option.{Option, none as absent, some}
@@ -163,8 +163,6 @@ sizes-enter k v =
     by-order k l (λ o. let g = ap sizes (enter-lower k v l (more w vs) o) in omega arith)
     (λ o. let f = lookup-here k l w vs o in cc)
     (λ o. let f = r (sym (lookup-on k l w vs o) ∙ e) in let g = ap sizes (enter-higher k v l w vs o) in omega arith))
-
--- ---- an entry put in only where its key is new
 
 -- ---- a map is what it maps its keys to
 

@@ -1,4 +1,4 @@
--- Laws of items one after the other, of their number and of the k-th. (Their sizes, bytes and soundness: `values`, Encoding.)
+-- Laws of items one after the other and of their number. (Their sizes, bytes and soundness: Encoding.)
 use mathlib.Core.Path.{_≡_, refl, ap}
 use Prim.Native.Nat.{suc, _+_}
 use native.Mathlib.Omega.{arith}
