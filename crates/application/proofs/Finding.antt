@@ -12,15 +12,17 @@ use borrow.Author.Tests.{ltb-true}
 use mir.Syntax.{w32, w64}
 use mir.Val.{Fits, SFits, ofZ, toZ}
 use mir.ValLaws.{toZ-ofZ}
-use Rattle.integers.specs.Range.{range-fits}
+use Rattle.prelude.proofs.Absurd.{impossible}
+use Rattle.integers.proofs.Range.{range-fits}
 use Rattle.values.specs.Value.{Kind, set, sequence, map, tuple, number, kindOf, Value, boolean, integer, collection, Items}
 use Rattle.values.specs.Items.{nth}
 use Rattle.values.specs.Place.{At}
 use Rattle.values.specs.Contract.{KindAt, Copyable, Copied}
-use Rattle.values.specs.Records.{holds, integer-range, one-value}
+use Rattle.values.proofs.Records.{holds, integer-range, one-value}
 use Rattle.collections.specs.declared.finding.Found.{Found}
 use Rattle.collections.specs.declared.finding.Found.the-variants.{At as Place, Nothing}
-use Rattle.collections.specs.Finding.{found-at, found-nothing, AtKey, Item}
+use Rattle.collections.proofs.Shown.{found-at, found-nothing}
+use Rattle.collections.specs.Finding.{AtKey, Item}
 use Rattle.operators.specs.Answer.{Answer, is, refused, wrongKind, notThere, found}
 use Rattle.operators.specs.Sequences.{itemAt}
 use Rattle.operators.specs.Maps.{applyItems, applyTo}
@@ -54,9 +56,9 @@ pub record Index (i : ℤ) : Type 0 where
   pub item : (vs : Items) → itemAt vs i ≡ nth vs (natAbs i - 1)
 
 index : (i : ℤ) → SFits w32 i → ltZ i (pos 1) ≡ false → Index i
-index (pos zero) h e = let z : _≡_ {A = ℕ} 0 1 = cc in absurd (omega arith)
+index (pos zero) h e = impossible cc
 index (pos (suc k)) h e = let b = h .sfits in let d : k ≡ suc k - 1 = omega arith in record { natural = tt; fits = omega arith; low = omega arith; item = λ vs. ap (nth vs) d }
-index (negsuc n) h e = let z : _≡_ {A = ℕ} 0 1 = cc in absurd (omega arith)
+index (negsuc n) h e = impossible cc
 
 no-index : (vs : Items) (i : ℤ) → ltZ i (pos 1) ≡ true → itemAt vs i ≡ absent
 no-index vs (pos zero) e = refl

@@ -1,6 +1,7 @@
 // Applying a sequence to an index, or a map to a key, on values in scratch.
 use calling::Applied;
 use collections::finding::Found;
+use values::Value;
 ghost use Rattle.values.specs.Value.{sequence, map};
 ghost use Rattle.operators.specs.Maps.{applyTo};
 ghost use Rattle.calling.specs.Applied.{Two, OnTwo};
@@ -26,7 +27,7 @@ fn item(s: &mut [u8], base: usize) -> Applied
     ensures { λ r. ⌜ OnArgument sequence (now (s .entry)) (now (s .exit)) base r ⌝ }
 {
     let kind = values::kind_of(s, base + Applied::SECOND);
-    if kind != 2 {
+    if kind != Value::INTEGER {
         return Applied::Refused(Applied::WRONG_KIND);
     }
     let i = values::integer_at(s, base + Applied::SECOND);
@@ -52,10 +53,10 @@ pub fn apply(s: &mut [u8], base: usize) -> Applied
     ensures { λ r. ⌜ OnTwo applyTo (now (s .entry)) (now (s .exit)) base r ⌝ }
 {
     let kind = values::kind_of(s, base);
-    if kind == 4 {
+    if kind == Value::SEQUENCE {
         return item(s, base);
     }
-    if kind == 5 {
+    if kind == Value::MAP {
         return at_key(s, base);
     }
     Applied::Refused(Applied::WRONG_KIND)

@@ -5,7 +5,7 @@ use Prim.Native.Nat.{ℕ, _+_}
 use Rattle.values.specs.Value.{Value}
 use Rattle.values.specs.Place.{At}
 use Rattle.values.specs.Contract.{Put, Copied}
-use Rattle.values.specs.Records.{one-value}
+use Rattle.values.proofs.Records.{one-value}
 use Rattle.operators.specs.Answer.{Answer, is, refused}
 use Rattle.calling.specs.declared.Applied.{Applied}
 use Rattle.calling.specs.declared.Applied.the-variants.{Done, Refused}

@@ -1,19 +1,19 @@
 -- The kinds of operands: as `kind_of` reads them, and as operators ask for them.
 use mathlib.Core.Path.{_≡_, refl, sym, ap, ap₂, subst, _∙_}
 use mathlib.Core.List.{List}
-use mathlib.Core.Bool.{Bool, true, false, _&&_}
+use mathlib.Core.Bool.{Bool, true, false, _&&_, and-eq-true-iff}
 use mathlib.Core.Option.{Option, none as absent, some}
 use Prim.Native.Nat.{ℕ, _+_}
 use lib.Dec.{eqb}
 use lib.IntN.{ℤ}
 use borrow.Author.Tests.{eqb-true, eqb-false, eq-eqb, ne-eqb}
+use Rattle.prelude.proofs.Truth.{by-test}
 use Rattle.values.specs.Value.{Kind, number, kindOf, Value, boolean, integer, collection, Items}
 use Rattle.values.specs.Place.{At, Holds}
 use Rattle.values.specs.Contract.{KindAt, OfKind}
-use Rattle.values.specs.Records.{one-value}
+use Rattle.values.proofs.Records.{one-value, is-boolean, is-integer}
 use Rattle.operators.specs.Answer.{Answer, refused, wrongKind, asBoolean, asInteger, asKind, needs, needsBoth}
-use Rattle.operator_laws.specs.KindLaws.{boolean-is, boolean-not, integer-is, integer-not, kind-is, kind-not, kind-view}
-use Rattle.operator_laws.specs.Tests.{and-parts, by-test}
+use Rattle.operator_laws.proofs.OfKind.{boolean-not, integer-not, kind-is, kind-not, kind-view}
 use Rattle.calling.specs.declared.Applied.{Applied}
 use Rattle.calling.specs.declared.Applied.the-variants.{Refused}
 use Rattle.calling.specs.Scratch.{second, Kept}
@@ -36,12 +36,12 @@ module _ {s : List ℕ} {at k : ℕ} (read : KindAt s at k) where
 
   pub the-boolean : k ≡ 1 → Holds s at → (b : Bool) × At s at (boolean b)
   the-boolean e h =
-      let i = boolean-is (h .value) (sym (read .right (h .value) (h .here)) ∙ e) in
+      let i = is-boolean (h .value) (sym (read .right (h .value) (h .here)) ∙ e) in
       (i .0, subst (λ (v : Value). At s at v) (i .1) (h .here))
 
   pub the-integer : k ≡ 2 → Holds s at → (z : ℤ) × At s at (integer z)
   the-integer e h =
-      let i = integer-is (h .value) (sym (read .right (h .value) (h .here)) ∙ e) in
+      let i = is-integer (h .value) (sym (read .right (h .value) (h .here)) ∙ e) in
       (i .0, subst (λ (v : Value). At s at v) (i .1) (h .here))
 
   -- of a set, a sequence, a map or a tuple
@@ -109,7 +109,7 @@ has-two {s} {base} k l o c e =
     let w = o .right .value in
     let a = o .left .here in
     let b = o .right .here in
-    let p = and-parts (eqb (kindOf v) (number k)) (eqb (kindOf w) (number l)) (sym (c v w a b) ∙ e) in
+    let p = and-eq-true-iff (eqb (kindOf v) (number k)) (eqb (kindOf w) (number l)) .0 (sym (c v w a b) ∙ e) in
     let i = kind-is k v (eqb-true (kindOf v) (number k) (p .0)) in
     let j = kind-is l w (eqb-true (kindOf w) (number l) (p .1)) in
     record {

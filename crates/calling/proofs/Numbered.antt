@@ -5,10 +5,10 @@ use Prim.Native.Nat.{ℕ, suc, _+_, _≤_, _<_}
 use native.Mathlib.Omega.{arith}
 use borrow.Author.Tests.{eqb-true, eqb-false}
 use lib.Dec.{eqb}
+use Rattle.prelude.proofs.Truth.{by-test}
 use Rattle.values.specs.Value.{Kind, Value, Items}
 use Rattle.operators.specs.Answer.{Answer, asKind, needs}
 use Rattle.operators.specs.Operators.{unary, binary}
-use Rattle.operator_laws.specs.Tests.{by-test}
 use Rattle.calling.specs.declared.Applied.{Applied}
 use Rattle.calling.specs.Applied.{OnOne, OnTwo}
 use Rattle.calling.specs.Operands.{Has, OnItems}

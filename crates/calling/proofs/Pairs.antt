@@ -9,15 +9,15 @@ use mir.Facts.{toZ-ofZ}
 use Rattle.integers.specs.declared.Number.{Number}
 use Rattle.integers.specs.declared.Number.the-variants.{Is}
 use Rattle.integers.specs.Whole.{InRange}
-use Rattle.integers.specs.Range.{range-fits}
+use Rattle.integers.proofs.Range.{range-fits}
 use Rattle.values.specs.Value.{Value, integer}
 use Rattle.values.specs.Place.{At}
 use Rattle.values.specs.Contract.{Put}
-use Rattle.values.specs.Records.{integer-range}
-use Rattle.operators.specs.Answer.{Answer, is, refused, wrongKind, asInteger, needsBoth}
+use Rattle.values.proofs.Records.{integer-range}
+use Rattle.operators.specs.Answer.{Answer, is, refused, wrongKind, asInteger, needsBoth, Fine}
 use Rattle.operators.specs.Arithmetic.{answered}
 use Rattle.operators.specs.Operators.{binary}
-use Rattle.operator_laws.specs.Results.{Fine, binary-fine}
+use Rattle.operator_laws.proofs.Results.{binary-fine}
 use Rattle.calling.specs.declared.Applied.{Applied}
 use Rattle.calling.specs.declared.Applied.the-variants.{Done, Refused}
 use Rattle.calling.specs.declared.Pair.{Pair}

@@ -1,10 +1,11 @@
 // The calling convention of operators on scratch: where operands stand, where the answer is left, and what is answered.
 use integers::Number;
+use values::Value;
 ghost use Prim.Native.Nat.{_+_, _≤_};
 ghost use lib.ListN.{length};
 ghost use Rattle.operators.specs.Booleans.{truth};
 ghost use Rattle.operators.specs.Arithmetic.{answered};
-ghost use Rattle.operator_laws.specs.Results.{Fine};
+ghost use Rattle.operators.specs.Answer.{Fine};
 ghost use Rattle.calling.specs.Applied.{Two, Gives};
 ghost use Rattle.calling.specs.Operands.{KindsAre, PairAt};
 
@@ -16,7 +17,7 @@ pub enum Applied {
 
 impl Applied {
     // How far above the first operand the second stands.
-    pub const SECOND: usize = values::Value::LIMIT;
+    pub const SECOND: usize = Value::LIMIT;
 
     // How far above it an operator builds where it still needs its operands.
     pub const THIRD: usize = 2 * Applied::SECOND;
@@ -71,11 +72,11 @@ pub fn two_integers(s: &[u8], base: usize) -> Pair
     ensures { λ r. ⌜ PairAt (now (s .entry)) base r ⌝ }
 {
     let first = values::kind_of(s, base);
-    if first != 2 {
+    if first != Value::INTEGER {
         return Pair::Others;
     }
     let second = values::kind_of(s, base + Applied::SECOND);
-    if second != 2 {
+    if second != Value::INTEGER {
         return Pair::Others;
     }
     let a = values::integer_at(s, base);

@@ -6,18 +6,18 @@ use Prim.Native.Nat.{ℕ, _+_, _≤_}
 use native.Mathlib.Omega.{arith}
 use lib.ListN.{length}
 use Rattle.integers.specs.Bytes.{word}
-use Rattle.values.specs.Value.{Kind, set, sequence, number, collection, Items, none, size, limit, Ascending}
+use Rattle.values.specs.Value.{Kind, set, sequence, number, collection, Items, none, size, mostBytes, Ascending}
 use Rattle.values.specs.Place.{At, ItemsAt, HoldsItems}
 use Rattle.values.specs.Contract.{Copyable, Copied}
-use Rattle.values.specs.Records.{holds, items-to}
-use Rattle.values.specs.Encoding.{collection-size, none-sizes}
-use Rattle.values.specs.Frame.{outside-wider, outside-both, items-below}
+use Rattle.values.proofs.Records.{holds, items-to}
+use Rattle.values.proofs.Encoding.{collection-size, none-sizes}
+use Rattle.values.proofs.Frame.{outside-wider, outside-both, items-below}
 use Rattle.collections.specs.declared.building.Added.{Added}
 use Rattle.collections.specs.declared.building.Added.the-variants.{Done as Put}
 use Rattle.collections.specs.Building.{Empties}
 use Rattle.operators.specs.Answer.{Answer, is}
 use Rattle.operators.specs.Gather.{insertAll}
-use Rattle.operator_laws.specs.GatherLaws.{sizes-insertAll}
+use Rattle.operator_laws.proofs.Gather.{sizes-insertAll}
 use Rattle.calling.specs.declared.Applied.the-variants.{Done}
 use Rattle.calling.specs.Scratch.{second, workspace, Kept}
 use Rattle.calling.specs.Operands.{Has, OnItems}

@@ -6,13 +6,13 @@ use Prim.Native.Nat.{ℕ, _+_, _≤_}
 use native.Mathlib.Omega.{arith}
 use lib.ListN.{take, drop}
 use Rattle.integers.specs.Bytes.{word}
-use Rattle.values.specs.Value.{Kind, number, collection, Items, none, sizes, Shaped, limit}
+use Rattle.values.specs.Value.{Kind, number, collection, Items, none, sizes, Shaped, mostBytes}
 use Rattle.values.specs.Items.{join}
 use Rattle.values.specs.Place.{At, ItemsAt, Outside}
 use Rattle.values.specs.Contract.{Moved, PutHead}
-use Rattle.values.specs.Records.{holds, items-to, items-none, no-items, joined}
-use Rattle.values.specs.Frame.{items-moved, items-below, items-above, outside-none, outside-then}
-use Rattle.values.specs.Written.{closed}
+use Rattle.values.proofs.Records.{holds, items-to, items-none, no-items, joined}
+use Rattle.values.proofs.Frame.{items-moved, items-below, items-above, outside-none, outside-then}
+use Rattle.values.proofs.Written.{headed-collection}
 use Rattle.collections.specs.Finding.{HoldsKind}
 use Rattle.operators.specs.Answer.{Answer, is}
 use Rattle.calling.specs.declared.Applied.the-variants.{Done}
@@ -32,7 +32,7 @@ pub record Packing (k : Kind) (R : Items → Items → Items → Type 0) (s t : 
   pub done-at : ItemsAt t (at + 4) q done
   pub rest-at : ItemsAt t p end rest
   pub behind : q ≤ p
-  pub short : end ≤ at + limit
+  pub short : end ≤ at + mostBytes
   pub frame : Outside s t (at + 4) end
 
 -- at first nothing is done
@@ -99,7 +99,7 @@ module _ {k : Kind} {R : Items → Items → Items → Type 0} {s t : List ℕ} 
 
   -- none are left, and the heading is written anew
   pub pack-end : {l : Kind} {f : Items → Answer} {u : List ℕ} {n : ℕ} → end ≤ p → at + n ≡ q → PutHead t u at n (number l)
-      → ((vs ws : Items) → At s at (collection k vs) → 4 + sizes ws ≤ limit → R vs ws none → Shaped l ws × (f vs ≡ is (collection l ws)))
+      → ((vs ws : Items) → At s at (collection k vs) → 4 + sizes ws ≤ mostBytes → R vs ws none → Shaped l ws × (f vs ≡ is (collection l ws)))
       → OnItems k f s u at Done
   pack-end {l} {f} {u} {n} le e h g =
       let b = w .behind in
@@ -109,4 +109,4 @@ module _ {k : Kind} {R : Items → Items → Items → Type 0} {s t : List ℕ} 
       let so : R (w .all) (w .done) none = subst (R (w .all) (w .done)) (items-none le (w .rest-at)) (w .so) in
       let y = g (w .all) (w .done) (w .all-at) (omega arith) so in
       let kept : Kept s u at = kept-outside {from = at} {to = end} (omega arith) (outside-then at end (omega arith) (omega arith) (omega arith) (omega arith) (w .frame) (h .outside)) in
-      items-by kept (w .all-at) (is-done (y .1) (closed n (h .bytes) e (omega arith) (y .0) (w .done-at)))
+      items-by kept (w .all-at) (is-done (y .1) (headed-collection n (h .bytes) e (omega arith) (y .0) (w .done-at)))

@@ -1,6 +1,6 @@
 -- Consecutive integers: which they are, and their records as they are written.
 use mathlib.Core.Path.{_≡_, refl, sym, ap, subst, _∙_}
-use mathlib.Core.Bool.{Bool}
+use mathlib.Core.Bool.{Bool, cond}
 use mathlib.Core.List.{List}
 use Prim.Native.Nat.{ℕ, zero, suc, _+_, _*_, _≤_, _<_}
 use native.Mathlib.Omega.{arith}
@@ -11,19 +11,19 @@ use mir.Syntax.{w32}
 use mir.Val.{SFits, toZ, ofZ}
 use mir.Facts.{toZ-ofZ, toZ-pos}
 use Rattle.integers.specs.Whole.{InRange}
-use Rattle.integers.specs.Range.{range-fits}
-use Rattle.integers.specs.Parts.{parts-add, eq-parts}
-use Rattle.values.specs.Value.{set, number, integer, Items, none, more, size, collection, limit, Sound, SoundItems}
-use Rattle.values.specs.Items.{pick, join, snoc}
+use Rattle.integers.proofs.Range.{range-fits}
+use Rattle.integers.proofs.Parts.{parts-add, eq-parts}
+use Rattle.values.specs.Value.{set, number, integer, Items, none, more, size, collection, mostBytes, Sound, SoundItems}
+use Rattle.values.specs.Items.{join, snoc}
 use Rattle.values.specs.Place.{ItemsAt}
 use Rattle.values.specs.Contract.{Put, PutHead}
-use Rattle.values.specs.Records.{no-items, one-more}
-use Rattle.values.specs.Frame.{outside-none, outside-then, items-below}
-use Rattle.values.specs.Written.{closed}
+use Rattle.values.proofs.Records.{no-items, one-more}
+use Rattle.values.proofs.Frame.{outside-none, outside-then, items-below}
+use Rattle.values.proofs.Written.{headed-collection}
 use Rattle.operators.specs.Answer.{is, refused, tooLarge}
 use Rattle.operators.specs.Gather.{upFrom}
 use Rattle.operators.specs.Sets.{counting}
-use Rattle.operator_laws.specs.RangeLaws.{ascending-up, sizes-up}
+use Rattle.operator_laws.proofs.Ranges.{ascending-up, sizes-up}
 use Rattle.calling.specs.declared.Applied.the-variants.{Done}
 use Rattle.calling.specs.Applied.{Gives}
 use Rattle.calling.proofs.Framing.{kept-outside, kept-then}
@@ -65,7 +65,7 @@ integers-none s at z h =
     let e : at ≡ at + 8 * 0 = omega arith in
     record { outside = outside-none s at (at + 8 * 0); here = subst (λ (k : ℕ). ItemsAt s at k none) e (no-items s at h) }
 
-pub integers-more : {s t u : List ℕ} {at : ℕ} {z x : ℤ} (i : ℕ) {r : ℕ} → PutIntegers s t at z i → x ≡ z +ℤ pos i → Put t u (at + 8 * i) (integer x) 8 r → 8 * (i + 1) ≤ limit → PutIntegers s u at z (i + 1)
+pub integers-more : {s t u : List ℕ} {at : ℕ} {z x : ℤ} (i : ℕ) {r : ℕ} → PutIntegers s t at z i → x ≡ z +ℤ pos i → Put t u (at + 8 * i) (integer x) 8 r → 8 * (i + 1) ≤ mostBytes → PutIntegers s u at z (i + 1)
 integers-more {s} {t} {u} {at} {z} {x} i p d q h =
     let n = sizes-up z i in
     let m = q .sized in
@@ -99,16 +99,16 @@ module _ {z : ℤ} (f : SFits w32 z) {i n : ℕ} (low : i < 2147483648) (s : Sou
 
 -- ---- the set of them
 
-pub counting-off : (z : ℤ) (n : ℕ) → limit < 4 + 8 * n → counting z n ≡ refused tooLarge
-counting-off z n h = ap (λ (b : Bool). pick b (is (collection set (upFrom z n))) (refused tooLarge)) (lt-leb (4 + 8 * n) limit h)
+pub counting-off : (z : ℤ) (n : ℕ) → mostBytes < 4 + 8 * n → counting z n ≡ refused tooLarge
+counting-off z n h = ap (λ (b : Bool). cond b (is (collection set (upFrom z n))) (refused tooLarge)) (lt-leb (4 + 8 * n) mostBytes h)
 
-counting-on : (z : ℤ) (n : ℕ) → 4 + 8 * n ≤ limit → counting z n ≡ is (collection set (upFrom z n))
-counting-on z n h = ap (λ (b : Bool). pick b (is (collection set (upFrom z n))) (refused tooLarge)) (le-leb (4 + 8 * n) limit h)
+counting-on : (z : ℤ) (n : ℕ) → 4 + 8 * n ≤ mostBytes → counting z n ≡ is (collection set (upFrom z n))
+counting-on z n h = ap (λ (b : Bool). cond b (is (collection set (upFrom z n))) (refused tooLarge)) (le-leb (4 + 8 * n) mostBytes h)
 
-pub counting-gives : {s t u : List ℕ} {base : ℕ} {z : ℤ} (n : ℕ) → SFits w32 z → 4 + 8 * n ≤ limit → PutIntegers s t (base + 4) (machine z) n → PutHead t u base (4 + 8 * n) 3 → Gives (counting z n) s u base Done
+pub counting-gives : {s t u : List ℕ} {base : ℕ} {z : ℤ} (n : ℕ) → SFits w32 z → 4 + 8 * n ≤ mostBytes → PutIntegers s t (base + 4) (machine z) n → PutHead t u base (4 + 8 * n) 3 → Gives (counting z n) s u base Done
 counting-gives {s} {t} {u} {base} {z} n f h p q =
     let here = subst (λ (x : ℤ). ItemsAt t (base + 4) (base + 4 + 8 * n) (upFrom x n)) (toZ-ofZ f) (p .here) in
     record {
       kept = kept-then (kept-outside (omega arith) (p .outside)) (kept-outside (omega arith) (q .outside));
-      right = is-done (counting-on z n h) (closed (4 + 8 * n) (q .bytes) (omega arith) h (ascending-up z n) here);
+      right = is-done (counting-on z n h) (headed-collection (4 + 8 * n) (q .bytes) (omega arith) h (ascending-up z n) here);
     }

@@ -4,9 +4,9 @@ use mathlib.Core.List.{List}
 use Prim.Native.Nat.{ℕ, _+_, _≤_, _<_}
 use lib.ListN.{length}
 use Rattle.integers.specs.Bytes.{word}
-use Rattle.values.specs.Value.{Value, Items, none, more, limit}
+use Rattle.values.specs.Value.{Value, Items, none, more, mostBytes}
 use Rattle.values.specs.Place.{At, ItemsAt}
-use Rattle.values.specs.Records.{run, items-none}
+use Rattle.values.proofs.Records.{uncons, items-none}
 
 -- the items from p on are left, and P holds of them
 pub record Left (s : List ℕ) (to : ℕ) (P : Items → Type 0) (p : ℕ) : Type 0 where
@@ -29,13 +29,13 @@ pub record First (s : List ℕ) (to : ℕ) (P : Items → Type 0) (p : ℕ) : Ty
   pub rest-at : ItemsAt s (p + word s p) to rest
   pub so : P (more first rest)
   pub low : 4 ≤ word s p
-  pub high : word s p ≤ limit
+  pub high : word s p ≤ mostBytes
   pub inside : p + word s p ≤ to
   pub fits : to ≤ length s
 
 pub first-left : {s : List ℕ} {to : ℕ} {P : Items → Type 0} {p : ℕ} → p < to → Left s to P p → First s to P p
 first-left {P = P} lt l =
-    let y = run lt (l .here) in
+    let y = uncons lt (l .here) in
     record {
       first = y .first;
       rest = y .rest;

@@ -1,6 +1,7 @@
 // What several families of operators build: sets of consecutive integers, and sets of the items of others.
 use calling::Applied;
 use collections::building::Added;
+use values::Value;
 ghost use Prim.Native.Nat.{_+_, _≤_};
 ghost use Rattle.values.specs.Value.{set, sequence, collection, none};
 ghost use Rattle.values.specs.Place.{HoldsItems};
@@ -12,7 +13,8 @@ ghost use Rattle.calling.specs.Operands.{Has, OnItems};
 ghost use Rattle.gathering.specs.Consecutive.{IntegersRoom, PutIntegers, CountingRoom};
 ghost use Rattle.gathering.specs.Inserting.{Growing, InsertsAll, themselves};
 
-const SET: usize = 3;
+// The length of an integer's record.
+const INTEGER_BYTES: usize = 8;
 
 // ---- consecutive integers
 
@@ -23,7 +25,7 @@ fn put_integers(s: &mut [u8], at: usize, from: i32, n: usize)
 {
     let mut i = 0;
     while i < n {
-        values::put_integer(s, at + 8 * i, from + i as i32);
+        values::put_integer(s, at + INTEGER_BYTES * i, from + i as i32);
         i += 1;
     }
 }
@@ -33,12 +35,12 @@ pub fn counting(s: &mut [u8], base: usize, from: i32, n: usize) -> Applied
     requires { ⌜ CountingRoom (now s) base from n ⌝ }
     ensures { λ r. ⌜ Gives (counting from n) (now (s .entry)) (now (s .exit)) base r ⌝ }
 {
-    let size = 4 + 8 * n;
-    if size > values::Value::LIMIT {
+    let size = Value::HEAD + INTEGER_BYTES * n;
+    if size > Value::LIMIT {
         return Applied::Refused(Applied::TOO_LARGE);
     }
-    put_integers(s, base + 4, from, n);
-    values::put_head(s, base, size, SET);
+    put_integers(s, base + Value::HEAD, from, n);
+    values::put_head(s, base, size, Value::SET);
     Applied::Done
 }
 
@@ -68,8 +70,8 @@ pub fn elements(s: &mut [u8], base: usize) -> Applied
     ensures { λ r. ⌜ OnItems sequence (λ vs. is (collection set (insertAll none vs))) (now (s .entry)) (now (s .exit)) base r ⌝ }
 {
     let end = base + values::length_of(s, base);
-    collections::building::put_empty(s, base + Applied::SECOND, SET);
-    insert_all(s, base + 4, end, base + Applied::SECOND);
+    collections::building::put_empty(s, base + Applied::SECOND, Value::SET);
+    insert_all(s, base + Value::HEAD, end, base + Applied::SECOND);
     values::copy_value(s, base + Applied::SECOND, base);
     Applied::Done
 }

@@ -1,20 +1,20 @@
 -- The loop of `compatible`: the maps agree on the entries passed. Assumes nothing.
 use mathlib.Core.Path.{_≡_, refl, sym, ap, ap₂, subst, _∙_}
-use mathlib.Core.Bool.{Bool, true, false, _&&_}
+use mathlib.Core.Bool.{Bool, true, false, _&&_, cond}
 use mathlib.Core.List.{List}
 use mathlib.Core.Option.{Option}
 use Prim.Native.Nat.{ℕ, _+_, _≤_, _<_}
 use native.Mathlib.Omega.{arith}
+use Rattle.prelude.proofs.Truth.{cond-true, cond-false}
 use Rattle.integers.specs.Bytes.{word}
 use Rattle.values.specs.Value.{map, Value, Items, Paired}
-use Rattle.values.specs.Items.{pick}
 use Rattle.values.specs.Place.{ItemsAt, Holds}
 use Rattle.values.specs.Contract.{Equal}
-use Rattle.values.specs.Records.{holds, items-to, items-none, collection-shaped}
+use Rattle.values.proofs.Records.{holds, items-to, items-none, collection-shaped}
 use Rattle.collections.specs.declared.finding.Found.{Found}
 use Rattle.collections.specs.declared.finding.Found.the-variants.{At as Place, Nothing}
-use Rattle.collections.specs.Members.{pick-true, pick-false}
-use Rattle.collections.specs.Finding.{AtKey, found-at, found-nothing}
+use Rattle.collections.specs.Finding.{AtKey}
+use Rattle.collections.proofs.Shown.{found-at, found-nothing}
 use Rattle.operators.specs.Answer.{Answer, refused, clash, sized}
 use Rattle.operators.specs.Gather.{everyEntry, enterAll}
 use Rattle.operators.specs.Maps.{agrees, compatible}
@@ -102,7 +102,7 @@ abbrev pub over : Items → Items → Answer
 over vs ws = sized map (enterAll vs ws)
 
 abbrev pub merged : Items → Items → Answer
-merged vs ws = pick (compatible vs ws) (over vs ws) (refused clash)
+merged vs ws = cond (compatible vs ws) (over vs ws) (refused clash)
 
 module _ {s : List ℕ} {base : ℕ} {r : Bool} (h : HasTwo map map s base) (c : Compatible s base r) where
   pub merge-done : {t : List ℕ} {q : Applied} → r ≡ true → OnBoth map map over s t base q → OnBoth map map merged s t base q
@@ -112,7 +112,7 @@ module _ {s : List ℕ} {base : ℕ} {r : Bool} (h : HasTwo map map s base) (c :
       let a = h .left .here in
       let b = h .right .here in
       both-by {f = merged} (o .kept) a b
-      (subst (λ (x : Answer). Applies t base q x) (sym (pick-true (compatible vs ws) (over vs ws) (refused clash) (sym (c vs ws a b) ∙ e))) (o .right vs ws a b))
+      (subst (λ (x : Answer). Applies t base q x) (sym (cond-true (compatible vs ws) (over vs ws) (refused clash) (sym (c vs ws a b) ∙ e))) (o .right vs ws a b))
 
   pub merge-clash : r ≡ false → OnBoth map map merged s s base (Refused clash)
-  merge-clash e = both-off (λ vs ws a b. pick-false (compatible vs ws) (over vs ws) (refused clash) (sym (c vs ws a b) ∙ e))
+  merge-clash e = both-off (λ vs ws a b. cond-false (compatible vs ws) (over vs ws) (refused clash) (sym (c vs ws a b) ∙ e))

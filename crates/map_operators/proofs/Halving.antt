@@ -5,14 +5,14 @@ use mathlib.Core.List.{List}
 use mathlib.Core.Logic.{inr}
 use Prim.Native.Nat.{ℕ, _+_, _-_, _≤_, _<_}
 use native.Mathlib.Omega.{arith}
+use Rattle.prelude.proofs.Absurd.{never}
 use Rattle.integers.specs.Bytes.{word}
-use Rattle.integers.specs.Range.{never}
 use Rattle.values.specs.Value.{set, sequence, map, number, Value, collection, Items, none, more, everyOther, keys, mapped}
 use Rattle.values.specs.Items.{join}
 use Rattle.values.specs.Place.{At, ItemsAt}
 use Rattle.values.specs.Contract.{Movable, Moved, PutHead}
-use Rattle.values.specs.Records.{Run, run, holds, word-size, one-item, collection-shaped}
-use Rattle.collections.specs.Joined.{join-none, join-join}
+use Rattle.values.proofs.Records.{Uncons, uncons, holds, word-size, one-item, collection-shaped}
+use Rattle.values.proofs.Joined.{join-none, join-join}
 use Rattle.collections.specs.Finding.{HoldsCollection}
 use Rattle.collections.specs.Building.{Retags}
 use Rattle.operators.specs.Answer.{Answer, is}
@@ -55,8 +55,8 @@ halving-start b e h = pack-start e (h .held) (record { so = refl })
 
 module _ {b wanted : Bool} {s t : List ℕ} {base end p q : ℕ} (w : Packing map (Half b wanted) s t base end p q) where
   module _ (lt : p < end) where
-    pub halving-run : Run t p end (w .rest)
-    halving-run = run lt (w .rest-at)
+    pub halving-run : Uncons t p end (w .rest)
+    halving-run = uncons lt (w .rest-at)
 
     module _ {n : ℕ} (e : n ≡ word t p) where
       pub halving-movable : Movable t p q n

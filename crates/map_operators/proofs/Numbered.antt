@@ -5,11 +5,11 @@ use Prim.Native.Nat.{ℕ, _≤_}
 use native.Mathlib.Omega.{arith}
 use lib.Dec.{eqb}
 use borrow.Author.Tests.{eqb-true, eqb-false}
+use Rattle.prelude.proofs.Truth.{by-test}
 use Rattle.values.specs.Value.{map}
 use Rattle.values.specs.Contract.{KindAt}
 use Rattle.operators.specs.Answer.{wrongKind}
 use Rattle.operators.specs.Operators.{unary}
-use Rattle.operator_laws.specs.Tests.{by-test}
 use Rattle.calling.specs.declared.Applied.the-variants.{Refused}
 use Rattle.calling.specs.Applied.{OnOne}
 use Rattle.calling.proofs.Kinding.{off-one}

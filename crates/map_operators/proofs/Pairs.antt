@@ -7,8 +7,8 @@ use native.Mathlib.Omega.{arith}
 use Rattle.integers.specs.Bytes.{word}
 use Rattle.values.specs.Value.{Value, Items, none, more, size, sizes, PairedFrom, Paired}
 use Rattle.values.specs.Place.{At, ItemsAt}
-use Rattle.values.specs.Records.{run}
-use Rattle.values.specs.Encoding.{size-low}
+use Rattle.values.proofs.Records.{uncons}
+use Rattle.values.proofs.Encoding.{size-low}
 use Rattle.operators.specs.Answer.{is}
 use Rattle.calling.specs.declared.Applied.{Applied}
 use Rattle.calling.specs.Applied.{Applies, done}
@@ -39,10 +39,10 @@ value-left {from = from} {to = to} {vs = more v vs} p h = let e : from + (size v
 pub next-entry : {s : List ℕ} {p m l end : ℕ} {vs : Items} → p < end → m ≡ word s p → l ≡ word s (p + m) → ItemsAt s p end vs → Paired vs → NextEntry s p m l end vs
 unfolding PairedFrom
 next-entry {s} {p} {m} {l} {end} {vs} lt e d h pair =
-    let y = run lt h in
+    let y = uncons lt h in
     let after : PairedFrom false (y .rest) = subst (λ (ws : Items). PairedFrom true ws) (y .is) pair in
     let x : ItemsAt s (p + m) end (y .rest) = subst (λ (i : ℕ). ItemsAt s (p + i) end (y .rest)) (sym e) (y .rest-at) in
-    let z = run (value-left after x) x in
+    let z = uncons (value-left after x) x in
     record {
       key = y .first;
       value = z .first;

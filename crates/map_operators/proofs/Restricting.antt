@@ -5,21 +5,22 @@ use mathlib.Core.List.{List}
 use mathlib.Core.Logic.{inl, inr}
 use Prim.Native.Nat.{ℕ, _+_, _-_, _≤_, _<_}
 use native.Mathlib.Omega.{arith}
+use Rattle.prelude.proofs.Absurd.{impossible}
 use Rattle.integers.specs.Bytes.{word}
 use Rattle.values.specs.Value.{set, map, number, Value, collection, Items, none, more, size, Paired, Shaped}
 use Rattle.values.specs.Items.{join, isMember}
 use Rattle.values.specs.Place.{At, ItemsAt}
 use Rattle.values.specs.Contract.{Movable, Moved, PutHead, Copyable, Copied}
-use Rattle.values.specs.Records.{holds, word-size, one-item, more-of, collection-shaped}
-use Rattle.values.specs.Encoding.{none-sizes, more-sizes}
-use Rattle.values.specs.Frame.{outside-wider}
-use Rattle.collections.specs.Joined.{join-none, join-join}
+use Rattle.values.proofs.Records.{holds, word-size, one-item, more-of, collection-shaped}
+use Rattle.values.proofs.Encoding.{none-sizes, more-sizes}
+use Rattle.values.proofs.Frame.{outside-wider}
+use Rattle.values.proofs.Joined.{join-none, join-join}
 use Rattle.collections.specs.Finding.{HoldsKind, Contains}
 use Rattle.collections.specs.Building.{Apart}
-use Rattle.collections.specs.Built.{at-apart}
+use Rattle.collections.proofs.Built.{at-apart}
 use Rattle.operators.specs.Answer.{Answer, is}
 use Rattle.operators.specs.Gather.{keepEntries}
-use Rattle.operator_laws.specs.EntryLaws.{keep-true, keep-false, paired-keep, ascending-keys}
+use Rattle.operator_laws.proofs.Entries.{keep-true, keep-false, paired-keep, ascending-keys}
 use Rattle.calling.specs.Scratch.{second}
 use Rattle.calling.specs.declared.Applied.the-variants.{Done}
 use Rattle.calling.proofs.Answering.{is-done}
@@ -34,10 +35,10 @@ use Rattle.map_operators.proofs.Pairs.{NextEntry, next-entry, value-of}
 
 pub key-passes : {s : List ℕ} {at x y : ℕ} {by r : Bool} → by ≡ true → Contains s at x r → Passes by s at x y r
 key-passes {by = true} e c vs k v a b d = c vs k a b
-key-passes {by = false} e c vs k v a b d = absurd (let z : _≡_ {A = ℕ} 0 1 = cc in omega arith)
+key-passes {by = false} e c vs k v a b d = impossible cc
 
 pub value-passes : {s : List ℕ} {at x y : ℕ} {by r : Bool} → by ≡ false → Contains s at y r → Passes by s at x y r
-value-passes {by = true} e c vs k v a b d = absurd (let z : _≡_ {A = ℕ} 0 1 = cc in omega arith)
+value-passes {by = true} e c vs k v a b d = impossible cc
 value-passes {by = false} e c vs k v a b d = c vs v a d
 
 -- ---- all entries

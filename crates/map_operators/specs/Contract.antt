@@ -1,10 +1,10 @@
 -- What the functions on maps ask and promise.
 use mathlib.Core.Path.{_≡_}
-use mathlib.Core.Bool.{Bool}
+use mathlib.Core.Bool.{Bool, cond}
 use mathlib.Core.List.{List}
 use Prim.Native.Nat.{ℕ, _+_}
 use Rattle.values.specs.Value.{Kind, set, map, Value, collection, Items}
-use Rattle.values.specs.Items.{pick, isMember, lookup}
+use Rattle.values.specs.Items.{isMember, lookup}
 use Rattle.values.specs.Place.{At, Holds}
 use Rattle.collections.specs.Finding.{HoldsKind}
 use Rattle.collections.specs.Building.{Apart}
@@ -26,7 +26,7 @@ Agrees s at x y r = (vs : Items) (k v : Value) → At s at (collection map vs) �
 
 -- Is the key (true) or the value (false) of an entry in the set?
 abbrev pub passes : Bool → Items → Value → Value → Bool
-passes by vs k v = isMember (pick by k v) vs
+passes by vs k v = isMember (cond by k v) vs
 
 abbrev pub Passes : Bool → List ℕ → ℕ → ℕ → ℕ → Bool → Type 0
 Passes by s at x y r = (vs : Items) (k v : Value) → At s at (collection set vs) → At s x k → At s y v → r ≡ passes by vs k v

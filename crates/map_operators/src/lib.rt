@@ -2,6 +2,7 @@
 use calling::Applied;
 use collections::building::Entered;
 use collections::finding::Found;
+use values::Value;
 ghost use Prim.Native.Nat.{_≤_};
 ghost use Rattle.values.specs.Value.{set, sequence, map, collection, none, everyOther, keys, mapped};
 ghost use Rattle.operators.specs.Answer.{is, sized};
@@ -12,13 +13,6 @@ ghost use Rattle.calling.specs.Applied.{One, Two, OnOne, OnTwo};
 ghost use Rattle.calling.specs.Operands.{Has, HasTwo, OnItems, OnBoth};
 ghost use Rattle.map_operators.specs.Contract.{Beside, Agrees, Passes, Compatible, Restrictable, Restricts};
 
-// The kinds that operands have and values are given.
-const SET: usize = 3;
-
-const SEQUENCE: usize = 4;
-
-const MAP: usize = 5;
-
 // ---- one map
 
 // The keys of a map, or the values that they are mapped to, move together and are a sequence.
@@ -27,8 +21,8 @@ fn every_other(s: &mut [u8], base: usize, keys: bool)
     ensures { λ _. ⌜ OnItems map (λ vs. is (collection sequence (everyOther keys vs))) (now (s .entry)) (now (s .exit)) base Done ⌝ }
 {
     let end = base + values::length_of(s, base);
-    let mut p = base + 4;
-    let mut q = base + 4;
+    let mut p = base + Value::HEAD;
+    let mut q = base + Value::HEAD;
     let mut wanted = keys;
     while p < end {
         let n = values::length_of(s, p);
@@ -40,7 +34,7 @@ fn every_other(s: &mut [u8], base: usize, keys: bool)
         wanted = !wanted;
         p = next;
     }
-    values::put_head(s, base, q - base, SEQUENCE);
+    values::put_head(s, base, q - base, Value::SEQUENCE);
 }
 
 // 14 dom: the keys ascend, so they are a set as they stand.
@@ -49,7 +43,7 @@ fn domain(s: &mut [u8], base: usize) -> Applied
     ensures { λ r. ⌜ OnItems map (λ vs. is (collection set (keys vs))) (now (s .entry)) (now (s .exit)) base r ⌝ }
 {
     every_other(s, base, true);
-    collections::building::retag(s, base, SET);
+    collections::building::retag(s, base, Value::SET);
     Applied::Done
 }
 
@@ -68,7 +62,7 @@ pub fn unary_map(s: &mut [u8], base: usize, operator: usize) -> Applied
     ensures { λ r. ⌜ OnOne (unary operator) (now (s .entry)) (now (s .exit)) base r ⌝ }
 {
     let kind = values::kind_of(s, base);
-    if kind != MAP {
+    if kind != Value::MAP {
         return Applied::Refused(Applied::WRONG_KIND);
     }
     if operator == tables::unary::DOM {
@@ -97,7 +91,7 @@ fn compatible(s: &[u8], base: usize) -> bool
     ensures { λ r. ⌜ Compatible (now (s .entry)) base r ⌝ }
 {
     let end = base + Applied::SECOND + values::length_of(s, base + Applied::SECOND);
-    let mut p = base + Applied::SECOND + 4;
+    let mut p = base + Applied::SECOND + Value::HEAD;
     while p < end {
         let v = p + values::length_of(s, p);
         if agrees(s, base, p, v) {
@@ -116,7 +110,7 @@ fn enter_all(s: &mut [u8], base: usize) -> Applied
     ensures { λ r. ⌜ OnBoth map map (λ vs ws. sized map (enterAll vs ws)) (now (s .entry)) (now (s .exit)) base r ⌝ }
 {
     let end = base + values::length_of(s, base);
-    let mut p = base + 4;
+    let mut p = base + Value::HEAD;
     while p < end {
         let v = p + values::length_of(s, p);
         let next = v + values::length_of(s, v);
@@ -138,7 +132,7 @@ fn merge(s: &mut [u8], base: usize) -> Applied
     requires { ⌜ Two (now s) base ⌝ }
     ensures { λ r. ⌜ OnTwo (binary 25) (now (s .entry)) (now (s .exit)) base r ⌝ }
 {
-    if calling::kinds_are(s, base, MAP, MAP) {
+    if calling::kinds_are(s, base, Value::MAP, Value::MAP) {
         if compatible(s, base) {
             return enter_all(s, base);
         }
@@ -152,7 +146,7 @@ fn replace(s: &mut [u8], base: usize) -> Applied
     requires { ⌜ Two (now s) base ⌝ }
     ensures { λ r. ⌜ OnTwo (binary 26) (now (s .entry)) (now (s .exit)) base r ⌝ }
 {
-    if calling::kinds_are(s, base, MAP, MAP) {
+    if calling::kinds_are(s, base, Value::MAP, Value::MAP) {
         return enter_all(s, base);
     }
     Applied::Refused(Applied::WRONG_KIND)
@@ -177,8 +171,8 @@ fn restrict(s: &mut [u8], at: usize, of: usize, keys: bool)
     ensures { λ _. ⌜ Restricts keys (now (s .entry)) (now (s .exit)) at of ⌝ }
 {
     let end = at + values::length_of(s, at);
-    let mut p = at + 4;
-    let mut q = at + 4;
+    let mut p = at + Value::HEAD;
+    let mut q = at + Value::HEAD;
     while p < end {
         let v = p + values::length_of(s, p);
         let next = v + values::length_of(s, v);
@@ -188,7 +182,7 @@ fn restrict(s: &mut [u8], at: usize, of: usize, keys: bool)
         }
         p = next;
     }
-    values::put_head(s, at, q - at, MAP);
+    values::put_head(s, at, q - at, Value::MAP);
 }
 
 // 27 <:
@@ -196,7 +190,7 @@ fn restrict_domain(s: &mut [u8], base: usize) -> Applied
     requires { ⌜ Two (now s) base ⌝ }
     ensures { λ r. ⌜ OnTwo (binary 27) (now (s .entry)) (now (s .exit)) base r ⌝ }
 {
-    if calling::kinds_are(s, base, SET, MAP) {
+    if calling::kinds_are(s, base, Value::SET, Value::MAP) {
         restrict(s, base + Applied::SECOND, base, true);
         values::copy_value(s, base + Applied::SECOND, base);
         return Applied::Done;
@@ -209,7 +203,7 @@ fn restrict_range(s: &mut [u8], base: usize) -> Applied
     requires { ⌜ Two (now s) base ⌝ }
     ensures { λ r. ⌜ OnTwo (binary 28) (now (s .entry)) (now (s .exit)) base r ⌝ }
 {
-    if calling::kinds_are(s, base, MAP, SET) {
+    if calling::kinds_are(s, base, Value::MAP, Value::SET) {
         restrict(s, base, base + Applied::SECOND, false);
         return Applied::Done;
     }

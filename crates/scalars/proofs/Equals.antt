@@ -8,10 +8,10 @@ use Rattle.values.specs.Value.{Value, boolean, integer}
 use Rattle.values.specs.Items.{same}
 use Rattle.values.specs.Place.{At}
 use Rattle.values.specs.Contract.{Equal}
-use Rattle.operators.specs.Answer.{Answer}
+use Rattle.operators.specs.Answer.{Answer, Fine}
 use Rattle.operators.specs.Booleans.{truth}
 use Rattle.operators.specs.Operators.{unary, binary}
-use Rattle.operator_laws.specs.Results.{Fine, unary-fine}
+use Rattle.operator_laws.proofs.Results.{unary-fine}
 use Rattle.calling.specs.declared.Applied.{Applied}
 use Rattle.calling.specs.Scratch.{second}
 use Rattle.calling.specs.Applied.{Two, Gives, OnTwo}

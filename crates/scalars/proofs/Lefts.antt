@@ -6,11 +6,11 @@ use mathlib.Core.Option.{Option, none as absent}
 use Prim.Native.Nat.{ℕ, _≤_}
 use native.Mathlib.Omega.{arith}
 use lib.Dec.{eqb}
-use Rattle.integers.specs.Range.{never}
+use Rattle.prelude.proofs.Absurd.{never}
 use Rattle.values.specs.Value.{Value, boolean}
 use Rattle.values.specs.Place.{At}
 use Rattle.values.specs.Contract.{Put}
-use Rattle.values.specs.Records.{one-value}
+use Rattle.values.proofs.Records.{one-value}
 use Rattle.operators.specs.Answer.{wrongKind, asBoolean}
 use Rattle.operators.specs.Booleans.{truth, Connective, and, or, implies, Left, settles, leaves, settledBy, ofLeft, left}
 use Rattle.calling.specs.declared.Tested.{Tested}

@@ -34,12 +34,12 @@ pub on-integers : (operator : ℕ) → 7 ≤ operator → operator ≤ 16 → On
 unfolding binary
 on-integers operator h g =
     each {P = OnIntegers}
-    (of-numbers 7 (λ a b. Whole.sum a b) (λ v w. refl)
-    ▹ of-numbers 8 (λ a b. Whole.difference a b) (λ v w. refl)
-    ▹ of-numbers 9 (λ a b. Whole.product a b) (λ v w. refl)
-    ▹ of-numbers 10 (λ a b. Whole.quotient a b) (λ v w. refl)
-    ▹ of-numbers 11 (λ a b. Whole.remainder a b) (λ v w. refl)
-    ▹ of-numbers 12 (λ a b. Whole.modulus a b) (λ v w. refl)
+    (of-numbers 7 (λ a b. Whole.sumOf a b) (λ v w. refl)
+    ▹ of-numbers 8 (λ a b. Whole.differenceOf a b) (λ v w. refl)
+    ▹ of-numbers 9 (λ a b. Whole.productOf a b) (λ v w. refl)
+    ▹ of-numbers 10 (λ a b. Whole.quotientOf a b) (λ v w. refl)
+    ▹ of-numbers 11 (λ a b. Whole.remainderOf a b) (λ v w. refl)
+    ▹ of-numbers 12 (λ a b. Whole.modulusOf a b) (λ v w. refl)
     ▹ of-tests 13 (λ a b. ltZ a b) (λ v w. refl)
     ▹ of-tests 14 (λ a b. leZ a b) (λ v w. refl)
     ▹ of-tests 15 (λ a b. ltZ b a) (λ v w. refl)
@@ -57,8 +57,8 @@ pub on-integer : (operator : ℕ) → 2 ≤ operator → operator ≤ 3 → OnIn
 unfolding unary
 on-integer operator h g =
     each {P = OnInteger}
-    (record { f = λ a. answered (Whole.negation a); is = λ v. refl }
-    ▹ record { f = λ a. answered (Whole.absolute a); is = λ v. refl }
+    (record { f = λ a. answered (Whole.negationOf a); is = λ v. refl }
+    ▹ record { f = λ a. answered (Whole.absoluteOf a); is = λ v. refl }
     ▹ end)
     operator h (omega arith)
 

@@ -3,8 +3,8 @@ use mathlib.Core.Path.{_≡_}
 use mathlib.Core.List.{List}
 use Prim.Native.Nat.{ℕ}
 use lib.Dec.{eqb}
+use mathlib.Core.Bool.{cond}
 use Rattle.values.specs.Value.{Value}
-use Rattle.values.specs.Items.{pick}
 use Rattle.values.specs.Place.{At}
 use Rattle.operators.specs.Answer.{is, refused}
 use Rattle.operators.specs.Booleans.{Connective, and, or, implies, Left, settles, leaves, left}
@@ -14,7 +14,7 @@ use Rattle.calling.specs.Scratch.{Kept}
 
 -- 1 and, 2 or, 3 =>
 abbrev pub connective : ℕ → Connective
-connective n = pick (eqb n 1) and (pick (eqb n 2) or implies)
+connective n = cond (eqb n 1) and (cond (eqb n 2) or implies)
 
 -- What the left says, as the code has it: the answer with its value at base, that the right decides, or its number.
 pub data Says (t : List ℕ) (base : ℕ) (r : Tested) : Left → Type 0 where

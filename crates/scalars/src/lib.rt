@@ -3,6 +3,7 @@ use calling::Applied;
 use calling::Pair;
 use calling::Tested;
 use integers::Number;
+use values::Value;
 ghost use mathlib.Core.Path.{_≡_};
 ghost use Prim.Native.Nat.{_+_, _≤_};
 ghost use Rattle.values.specs.Value.{integer};
@@ -21,7 +22,7 @@ fn negation(s: &mut [u8], base: usize) -> Applied
     ensures { λ r. ⌜ OnOne (unary 1) (now (s .entry)) (now (s .exit)) base r ⌝ }
 {
     let kind = values::kind_of(s, base);
-    if kind != 1 {
+    if kind != Value::BOOLEAN {
         return Applied::Refused(Applied::WRONG_KIND);
     }
     let b = values::boolean_at(s, base);
@@ -33,7 +34,7 @@ fn sign(s: &mut [u8], base: usize, operator: usize) -> Applied
     ensures { λ r. ⌜ OnOne (unary operator) (now (s .entry)) (now (s .exit)) base r ⌝ }
 {
     let kind = values::kind_of(s, base);
-    if kind != 2 {
+    if kind != Value::INTEGER {
         return Applied::Refused(Applied::WRONG_KIND);
     }
     let z = values::integer_at(s, base);
@@ -69,11 +70,11 @@ fn biimplication(s: &mut [u8], base: usize) -> Applied
     ensures { λ r. ⌜ OnTwo (binary 4) (now (s .entry)) (now (s .exit)) base r ⌝ }
 {
     let first = values::kind_of(s, base);
-    if first != 1 {
+    if first != Value::BOOLEAN {
         return Applied::Refused(Applied::WRONG_KIND);
     }
     let second = values::kind_of(s, base + Applied::SECOND);
-    if second != 1 {
+    if second != Value::BOOLEAN {
         return Applied::Refused(Applied::WRONG_KIND);
     }
     let equal = same(s, base);
@@ -168,7 +169,7 @@ pub fn left(s: &mut [u8], base: usize, operator: usize) -> Tested
     ensures { λ r. ⌜ TestsLeft (connective operator) (now (s .entry)) (now (s .exit)) base r ⌝ }
 {
     let kind = values::kind_of(s, base);
-    if kind != 1 {
+    if kind != Value::BOOLEAN {
         return Tested::Refused(Applied::WRONG_KIND);
     }
     let b = values::boolean_at(s, base);
@@ -185,7 +186,7 @@ pub fn right(s: &[u8], base: usize) -> Applied
     ensures { λ r. ⌜ OnOne right (now (s .entry)) (now (s .entry)) base r ⌝ }
 {
     let kind = values::kind_of(s, base);
-    if kind != 1 {
+    if kind != Value::BOOLEAN {
         return Applied::Refused(Applied::WRONG_KIND);
     }
     Applied::Done

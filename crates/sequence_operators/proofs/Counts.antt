@@ -7,15 +7,15 @@ use lib.IntN.{pos}
 use mir.Syntax.{w32}
 use mir.Val.{SFits, toZ}
 use mir.Facts.{toZ-ofZ}
-use Rattle.integers.specs.Whole.{greatest, InRange}
-use Rattle.integers.specs.Range.{fits-range}
+use Rattle.integers.specs.Whole.{greatestInteger, InRange}
+use Rattle.integers.proofs.Range.{fits-range}
 use Rattle.values.specs.Value.{sequence, integer, Items, count}
 use Rattle.values.specs.Contract.{Put}
-use Rattle.values.specs.Encoding.{collection-size, count-sizes}
+use Rattle.values.proofs.Encoding.{collection-size, count-sizes}
 use Rattle.collections.specs.Finding.{Counted}
 use Rattle.operators.specs.Answer.{Answer, is}
 use Rattle.operators.specs.Sets.{counting}
-use Rattle.operator_laws.specs.RangeLaws.{sound-up}
+use Rattle.operator_laws.proofs.Ranges.{sound-up}
 use Rattle.calling.specs.declared.Applied.{Applied}
 use Rattle.calling.specs.declared.Applied.the-variants.{Done}
 use Rattle.calling.specs.Applied.{Applies, Gives}
@@ -61,7 +61,7 @@ module _ {s : List ℕ} {base n : ℕ} (h : Has sequence s base) (c : Counted s 
   index-room =
       let l = count-small h c in
       let r = h .room in
-      record { room = omega arith; few = omega arith; fine = sound-up (pos 1) greatest refl refl (pos 1) n (omega arith) (omega arith) }
+      record { room = omega arith; few = omega arith; fine = sound-up (pos 1) greatestInteger refl refl (pos 1) n (omega arith) (omega arith) }
 
   pub index-done : {t : List ℕ} {r : Applied} → Gives (counting (pos 1) n) s t base r → OnItems sequence indexed s t base r
   index-done {t} {r} g =

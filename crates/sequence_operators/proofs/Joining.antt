@@ -6,16 +6,16 @@ use Prim.Native.Nat.{ℕ, _+_, _-_, _≤_, _<_}
 use native.Mathlib.Omega.{arith}
 use lib.ListN.{take, drop}
 use Rattle.integers.specs.Bytes.{word}
-use Rattle.values.specs.Value.{sequence, number, Items, sizes, limit}
+use Rattle.values.specs.Value.{sequence, number, Items, sizes, mostBytes}
 use Rattle.values.specs.Items.{join}
 use Rattle.values.specs.Place.{ItemsAt}
 use Rattle.values.specs.Contract.{Movable, Moved, PutHead}
-use Rattle.values.specs.Records.{holds, items-to, joined}
-use Rattle.values.specs.Encoding.{join-sizes}
-use Rattle.values.specs.Frame.{items-moved, items-below, outside-then}
-use Rattle.values.specs.Written.{closed}
+use Rattle.values.proofs.Records.{holds, items-to, joined}
+use Rattle.values.proofs.Encoding.{join-sizes}
+use Rattle.values.proofs.Frame.{items-moved, items-below, outside-then}
+use Rattle.values.proofs.Written.{headed-collection}
 use Rattle.operators.specs.Answer.{Answer, closed as answered, sized}
-use Rattle.operator_laws.specs.EnumerationLaws.{fits, fits-not}
+use Rattle.operator_laws.proofs.Enumerations.{fits, fits-not}
 use Rattle.calling.specs.Scratch.{second}
 use Rattle.calling.specs.declared.Applied.the-variants.{Done, Refused}
 use Rattle.calling.proofs.Answering.{is-done}
@@ -28,7 +28,7 @@ abbrev pub concatenated : Items → Items → Answer
 concatenated vs ws = sized sequence (join vs ws)
 
 module _ {s : List ℕ} {base n m : ℕ} (e : n ≡ word s base) (d : m ≡ word s (base + second)) where
-  pub join-full : limit < n + m - 4 → OnBoth sequence sequence concatenated s s base (Refused 28)
+  pub join-full : mostBytes < n + m - 4 → OnBoth sequence sequence concatenated s s base (Refused 28)
   join-full f =
       both-off
       (λ vs ws a b.
@@ -36,7 +36,7 @@ module _ {s : List ℕ} {base n m : ℕ} (e : n ≡ word s base) (d : m ≡ word
       let y = items-to d b .ends in
       ap (answered sequence) (fits-not (join vs ws) (omega (arith, join-sizes vs ws))))
 
-  module _ (h : HasTwo sequence sequence s base) (f : n + m - 4 ≤ limit) where
+  module _ (h : HasTwo sequence sequence s base) (f : n + m - 4 ≤ mostBytes) where
     pub join-movable : Movable s (base + second + 4) (base + n) (m - 4)
     join-movable = let a = holds (h .left .here) in let b = holds (h .right .here) in let r = h .room in record { there = omega arith; room = omega arith; apart = inr (omega arith) }
 
@@ -61,4 +61,4 @@ module _ {s : List ℕ} {base n m : ℕ} (e : n ≡ word s base) (d : m ≡ word
         both-by {f = concatenated}
         (kept-outside {from = base} {to = base + (n + m - 4)} (omega arith) (outside-then base (base + (n + m - 4)) (omega arith) (omega arith) (omega arith) (omega arith) (moved .outside) (head .outside)))
         (h .left .here) (h .right .here)
-        (is-done (ap (answered sequence) (fits (join vs ws) (omega arith))) (closed (n + m - 4) (head .bytes) (omega arith) f tt both))
+        (is-done (ap (answered sequence) (fits (join vs ws) (omega arith))) (headed-collection (n + m - 4) (head .bytes) (omega arith) f tt both))

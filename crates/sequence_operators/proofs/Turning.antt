@@ -10,12 +10,12 @@ use Rattle.integers.specs.Bytes.{word}
 use Rattle.values.specs.Value.{Kind, number, sequence, collection, Items, none, more, size, sizes, encode}
 use Rattle.values.specs.Items.{join}
 use Rattle.values.specs.Place.{At, ItemsAt, Outside}
-use Rattle.values.specs.Contract.{Copyable, Copied}
-use Rattle.values.specs.Records.{Run, run, holds, items-to, items-none, no-items, more-of, word-size}
-use Rattle.values.specs.Encoding.{none-sizes, more-sizes}
-use Rattle.values.specs.Frame.{unchanged, outside-none, outside-both, outside-wider, at-below, items-above}
-use Rattle.values.specs.Written.{heading, collection-at}
-use Rattle.collections.specs.Joined.{join-none, join-join}
+use Rattle.values.specs.Contract.{Copyable, Copied, heading}
+use Rattle.values.proofs.Records.{Uncons, uncons, holds, items-to, items-none, no-items, more-of, word-size}
+use Rattle.values.proofs.Encoding.{none-sizes, more-sizes}
+use Rattle.values.proofs.Frame.{unchanged, outside-none, outside-both, outside-wider, at-below, items-above}
+use Rattle.values.proofs.Written.{collection-at}
+use Rattle.values.proofs.Joined.{join-none, join-join}
 use Rattle.operators.specs.Answer.{Answer, is}
 use Rattle.operators.specs.Gather.{backwards}
 use Rattle.calling.specs.Scratch.{second, workspace}
@@ -75,8 +75,8 @@ unfolding size encode
 heading-of {s} {at} {k} {vs} a = sym (take-take 4 (size (collection k vs)) (drop at s) (omega arith)) ∙ ap (take 4) (a .bytes)
 
 module _ {s t : List ℕ} {base n p q : ℕ} (w : Turning s t base n p q) where
-  pub reverse-run : p < base + second + n → Run t p (base + second + n) (w .rest)
-  reverse-run lt = run lt (w .rest-at)
+  pub reverse-run : p < base + second + n → Uncons t p (base + second + n) (w .rest)
+  reverse-run lt = uncons lt (w .rest-at)
 
   module _ {m : ℕ} (lt : p < base + second + n) (e : m ≡ word t p) where
     pub reverse-low : base + 4 + m ≤ q

@@ -3,18 +3,16 @@ use calling::Applied;
 use values::Value;
 ghost use Prim.Native.Nat.{_≤_};
 ghost use lib.IntN.{pos};
+ghost use mathlib.Core.Bool.{cond};
 ghost use Rattle.values.specs.Value.{sequence, integer, collection, count};
-ghost use Rattle.values.specs.Items.{pick, join};
+ghost use Rattle.values.specs.Items.{join};
 ghost use Rattle.operators.specs.Answer.{is, refused, wrongKind, sized};
-ghost use Rattle.operators.specs.Gather.{every, isKind, flatten, backwards};
+ghost use Rattle.operators.specs.Gather.{everyItem, isKind, flatten, backwards};
 ghost use Rattle.operators.specs.Sets.{counting};
 ghost use Rattle.operators.specs.Sequences.{headOf, tailOf};
 ghost use Rattle.operators.specs.Operators.{unary, binary};
 ghost use Rattle.calling.specs.Applied.{One, Two, OnOne, OnTwo};
 ghost use Rattle.calling.specs.Operands.{Has, HasTwo, OnItems, OnBoth};
-
-// The kinds that operands have and values are given.
-const SEQUENCE: usize = 4;
 
 // ---- one sequence
 
@@ -34,10 +32,10 @@ fn head(s: &mut [u8], base: usize) -> Applied
     ensures { λ r. ⌜ OnItems sequence headOf (now (s .entry)) (now (s .exit)) base r ⌝ }
 {
     let n = values::length_of(s, base);
-    if n == 4 {
+    if n == Value::HEAD {
         return Applied::Refused(Applied::NOT_THERE);
     }
-    values::copy_value(s, base + 4, base);
+    values::copy_value(s, base + Value::HEAD, base);
     Applied::Done
 }
 
@@ -47,12 +45,17 @@ fn tail(s: &mut [u8], base: usize) -> Applied
     ensures { λ r. ⌜ OnItems sequence tailOf (now (s .entry)) (now (s .exit)) base r ⌝ }
 {
     let n = values::length_of(s, base);
-    if n == 4 {
+    if n == Value::HEAD {
         return Applied::Refused(Applied::NOT_THERE);
     }
-    let first = values::length_of(s, base + 4);
-    values::copy_bytes(s, base + 4 + first, base + 4, n - 4 - first);
-    values::put_head(s, base, n - first, SEQUENCE);
+    let first = values::length_of(s, base + Value::HEAD);
+    values::copy_bytes(
+        s,
+        base + Value::HEAD + first,
+        base + Value::HEAD,
+        n - Value::HEAD - first,
+    );
+    values::put_head(s, base, n - first, Value::SEQUENCE);
     Applied::Done
 }
 
@@ -68,21 +71,21 @@ fn indexes(s: &mut [u8], base: usize) -> Applied
 // 12 conc: the items of each sequence move down over the headings.
 fn flatten(s: &mut [u8], base: usize) -> Applied
     requires { ⌜ Has sequence (now s) base ⌝ }
-    ensures { λ r. ⌜ OnItems sequence (λ vs. pick (every (isKind sequence) vs) (sized sequence (flatten vs)) (refused wrongKind)) (now (s .entry)) (now (s .exit)) base r ⌝ }
+    ensures { λ r. ⌜ OnItems sequence (λ vs. cond (everyItem (isKind sequence) vs) (sized sequence (flatten vs)) (refused wrongKind)) (now (s .entry)) (now (s .exit)) base r ⌝ }
 {
     let end = base + values::length_of(s, base);
-    let mut p = base + 4;
-    let mut q = base + 4;
+    let mut p = base + Value::HEAD;
+    let mut q = base + Value::HEAD;
     while p < end {
-        if values::kind_of(s, p) != SEQUENCE {
+        if values::kind_of(s, p) != Value::SEQUENCE {
             return Applied::Refused(Applied::WRONG_KIND);
         }
         let n = values::length_of(s, p);
-        values::copy_bytes(s, p + 4, q, n - 4);
-        q += n - 4;
+        values::copy_bytes(s, p + Value::HEAD, q, n - Value::HEAD);
+        q += n - Value::HEAD;
         p += n;
     }
-    values::put_head(s, base, q - base, SEQUENCE);
+    values::put_head(s, base, q - base, Value::SEQUENCE);
     Applied::Done
 }
 
@@ -94,7 +97,7 @@ fn reverse(s: &mut [u8], base: usize) -> Applied
     let n = values::length_of(s, base);
     values::copy_value(s, base, base + Applied::SECOND);
     let end = base + Applied::SECOND + n;
-    let mut p = base + Applied::SECOND + 4;
+    let mut p = base + Applied::SECOND + Value::HEAD;
     let mut q = base + n;
     while p < end {
         let m = values::length_of(s, p);
@@ -111,7 +114,7 @@ pub fn unary_sequence(s: &mut [u8], base: usize, operator: usize) -> Applied
     ensures { λ r. ⌜ OnOne (unary operator) (now (s .entry)) (now (s .exit)) base r ⌝ }
 {
     let kind = values::kind_of(s, base);
-    if kind != SEQUENCE {
+    if kind != Value::SEQUENCE {
         return Applied::Refused(Applied::WRONG_KIND);
     }
     match operator {
@@ -134,12 +137,17 @@ fn join(s: &mut [u8], base: usize) -> Applied
 {
     let n = values::length_of(s, base);
     let m = values::length_of(s, base + Applied::SECOND);
-    let whole = n + m - 4;
+    let whole = n + m - Value::HEAD;
     if Value::LIMIT < whole {
         return Applied::Refused(Applied::TOO_LARGE);
     }
-    values::copy_bytes(s, base + Applied::SECOND + 4, base + n, m - 4);
-    values::put_head(s, base, whole, SEQUENCE);
+    values::copy_bytes(
+        s,
+        base + Applied::SECOND + Value::HEAD,
+        base + n,
+        m - Value::HEAD,
+    );
+    values::put_head(s, base, whole, Value::SEQUENCE);
     Applied::Done
 }
 
@@ -148,7 +156,7 @@ pub fn concatenate(s: &mut [u8], base: usize) -> Applied
     requires { ⌜ Two (now s) base ⌝ }
     ensures { λ r. ⌜ OnTwo (binary 24) (now (s .entry)) (now (s .exit)) base r ⌝ }
 {
-    if calling::kinds_are(s, base, SEQUENCE, SEQUENCE) {
+    if calling::kinds_are(s, base, Value::SEQUENCE, Value::SEQUENCE) {
         return join(s, base);
     }
     Applied::Refused(Applied::WRONG_KIND)

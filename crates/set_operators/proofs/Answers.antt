@@ -1,33 +1,33 @@
 -- What the code of each operator did is what the operator promises.
 use mathlib.Core.Path.{_≡_, refl, sym, ap, ap₂, subst, _∙_}
-use mathlib.Core.Bool.{Bool, true, false, not, _&&_, Bool·beq}
+use mathlib.Core.Bool.{Bool, true, false, not, _&&_, Bool·beq, cond}
 use mathlib.Core.List.{List}
 use mathlib.Core.Logic.{inr}
 use mathlib.Core.Option.{none as absent}
 use Prim.Native.Nat.{ℕ, _+_, _≤_, _<_}
 use native.Mathlib.Omega.{arith}
 use lib.Dec.{eqb}
+use Rattle.prelude.proofs.Absurd.{never}
+use Rattle.prelude.proofs.Truth.{both-ways, by-test}
 use Rattle.integers.specs.Bytes.{word}
-use Rattle.integers.specs.Range.{never}
-use Rattle.values.specs.Value.{set, Value, collection, Items, none, more, size, Ascending, limit}
-use Rattle.values.specs.Items.{pick, same, isMember}
+use Rattle.values.specs.Value.{set, Value, collection, Items, none, more, size, Ascending, mostBytes}
+use Rattle.values.specs.Items.{same, isMember}
 use Rattle.values.specs.Place.{At, ItemsAt, HoldsItems}
 use Rattle.values.specs.Contract.{Equal, Copyable, Copied}
-use Rattle.values.specs.Laws.{same-true, true-same}
-use Rattle.values.specs.Encoding.{collection-size}
-use Rattle.values.specs.Records.{holds, word-size, items-to, one-item, collection-shaped}
+use Rattle.values.proofs.Order.{same-true, true-same}
+use Rattle.values.proofs.Encoding.{collection-size}
+use Rattle.values.proofs.Records.{holds, word-size, items-to, one-item, collection-shaped}
 use Rattle.collections.specs.declared.building.Added.{Added}
 use Rattle.collections.specs.declared.building.Added.the-variants.{Done as Fitted, Full as TooLong}
 use Rattle.collections.specs.Finding.{HoldsKind, Contains}
-use Rattle.collections.specs.Built.{fits, over}
+use Rattle.collections.proofs.Built.{fits, over}
 use Rattle.operators.specs.Answer.{is, refused, wrongKind, asSet, closed, sized}
 use Rattle.operators.specs.Booleans.{truth}
-use Rattle.operators.specs.Gather.{every, keep, insertAll}
+use Rattle.operators.specs.Gather.{everyItem, keepItems, insertAll}
 use Rattle.operators.specs.Sets.{isSubset, isEmpty, without}
 use Rattle.operators.specs.Operators.{binary}
-use Rattle.operator_laws.specs.Tests.{both-ways, by-test}
-use Rattle.operator_laws.specs.EnumerationLaws.{fits as fitting-is, fits-not}
-use Rattle.operator_laws.specs.SetLaws.{subset-all, subset-equal}
+use Rattle.operator_laws.proofs.Enumerations.{fits as fitting-is, fits-not}
+use Rattle.operator_laws.proofs.Sets.{subset-all, subset-equal}
 use Rattle.calling.specs.Scratch.{second, third}
 use Rattle.calling.specs.declared.Applied.{Applied}
 use Rattle.calling.specs.declared.Applied.the-variants.{Done, Refused}
@@ -70,13 +70,13 @@ module _ {n : ℕ} (low : 17 ≤ n) (high : n ≤ 18) where
 
 pub grown-done : {t : List ℕ} {at : ℕ} {us : Items} {r : Added} → Grown t at us r → r ≡ Fitted → sized set us ≡ is (collection set us)
 grown-done {us = us} g e =
-    let h : size (collection set us) ≤ limit = fits (g .answers) e in
+    let h : size (collection set us) ≤ mostBytes = fits (g .answers) e in
     let c = collection-size set us in
     ap (closed set) (fitting-is us (omega arith))
 
 pub grown-full : {t : List ℕ} {at : ℕ} {us : Items} {r : Added} → Grown t at us r → r ≡ TooLong → sized set us ≡ refused 28
 grown-full {us = us} g e =
-    let h : limit < size (collection set us) = over (g .answers) e in
+    let h : mostBytes < size (collection set us) = over (g .answers) e in
     let c = collection-size set us in
     ap (closed set) (fits-not us (omega arith))
 
@@ -109,10 +109,10 @@ module _ {s : List ℕ} {base : ℕ} {b : Bool} (k : TwoSets s base b) (two : Tw
 
 -- ---- 20 inter, 21 difference
 
-keep-same : (p q : Value → Bool) (vs : Items) → ((v : Value) → p v ≡ q v) → keep p vs ≡ keep q vs
-unfolding keep
+keep-same : (p q : Value → Bool) (vs : Items) → ((v : Value) → p v ≡ q v) → keepItems p vs ≡ keepItems q vs
+unfolding keepItems
 keep-same p q none f = refl
-keep-same p q (more v vs) f = ap (λ (b : Bool). pick b (more v (keep p vs)) (keep p vs)) (f v) ∙ ap (λ (us : Items). pick (q v) (more v us) us) (keep-same p q vs f)
+keep-same p q (more v vs) f = ap (λ (b : Bool). cond b (more v (keepItems p vs)) (keepItems p vs)) (f v) ∙ ap (λ (us : Items). cond (q v) (more v us) us) (keep-same p q vs f)
 
 and-true : (b : Bool) → b ≡ b && true
 and-true true = refl
@@ -120,7 +120,7 @@ and-true false = refl
 
 module _ {op : ℕ} (low : 20 ≤ op) (high : op ≤ 21) where
   chosen-is : (vs ws : Items) → binary op (collection set vs) (collection set ws) ≡ is (collection set (wantedOf (eqb op 20) vs (more (collection set ws) none)))
-  unfolding binary every
+  unfolding binary everyItem
   chosen-is vs ws =
       either (λ (m : ℕ). binary m (collection set vs) (collection set ws) ≡ is (collection set (wantedOf (eqb m 20) vs (more (collection set ws) none)))) 20 21 refl low high
       (ap (λ (us : Items). is (collection set us)) (keep-same (λ v. isMember v ws) (λ v. isMember v ws && true) vs (λ v. and-true (isMember v ws))))
@@ -139,7 +139,7 @@ module _ {op : ℕ} (low : 20 ≤ op) (high : op ≤ 21) where
           subst (λ (m : ℕ). ItemsAt s (base + second) (base + second + m) (more (collection set (k .right e .items)) none)) (sym (q ∙ word-size h)) (one-item h)
 
       pub selection-room : Choice s base (base + second) (base + second + n) (base + third)
-      unfolding every
+      unfolding everyItem
       selection-room =
           let l = holds (k .left e .here) in
           let r = holds (k .right e .here) in
@@ -168,11 +168,11 @@ module _ {op : ℕ} (low : 20 ≤ op) (high : op ≤ 21) where
 
 -- none is outside where every one is inside
 empty-without : (vs ws : Items) → isEmpty (without ws vs) ≡ isSubset ws vs
-unfolding keep every
+unfolding keepItems everyItem
 empty-without vs none = refl
 empty-without vs (more w ws) = go (isMember w vs) (empty-without vs ws)
   where
-    go : (b : Bool) → isEmpty (without ws vs) ≡ isSubset ws vs → isEmpty (pick (not b) (more w (without ws vs)) (without ws vs)) ≡ b && isSubset ws vs
+    go : (b : Bool) → isEmpty (without ws vs) ≡ isSubset ws vs → isEmpty (cond (not b) (more w (without ws vs)) (without ws vs)) ≡ b && isSubset ws vs
     go true e = e
     go false e = refl
 

@@ -12,13 +12,14 @@ use lib.Signed.{mag, ltZ, nonNeg}
 use mir.Syntax.{w32, w64}
 use mir.Val.{Fits, SFits, toZ, ofZ}
 use mir.Facts.{toZ-ofZ, sfits-widen}
-use Rattle.integers.specs.Range.{never, range-fits}
-use Rattle.integers.specs.Parts.{up, down, parts-add, parts-minus}
-use Rattle.values.specs.Value.{limit, SoundItems}
-use Rattle.values.specs.Records.{integer-range}
+use Rattle.prelude.proofs.Absurd.{never}
+use Rattle.integers.proofs.Range.{range-fits}
+use Rattle.integers.proofs.Parts.{up, down, parts-add, parts-minus}
+use Rattle.values.specs.Value.{mostBytes, SoundItems}
+use Rattle.values.proofs.Records.{integer-range}
 use Rattle.operators.specs.Gather.{upFrom}
 use Rattle.operators.specs.Sets.{counted, howMany, counting, rangeOf}
-use Rattle.operator_laws.specs.RangeLaws.{sound-range}
+use Rattle.operator_laws.proofs.Ranges.{sound-range}
 use Rattle.calling.specs.declared.Applied.{Applied}
 use Rattle.calling.specs.declared.Pair.{Pair}
 use Rattle.calling.specs.declared.Pair.the-variants.{Integers}
@@ -104,7 +105,7 @@ counted-other (negsuc n) f e = never (sym e)
 
 -- ---- from two integers that were read
 module _ {s : List ℕ} {base : ℕ} {p : Pair} (read : PairAt s base p) {a b : ℤ} (e : p ≡ Integers a b) {n : ℕ} (h : n ≡ howMany (machine a) (machine b)) where
-  pub range-count : base + limit ≤ length s → CountingRoom s base (machine a) n
+  pub range-count : base + mostBytes ≤ length s → CountingRoom s base (machine a) n
   range-count room =
       let f = integer-range (pair-left read e .fine) in
       let g = integer-range (pair-right read e .fine) in

@@ -4,6 +4,7 @@ pub mod members;
 use calling::Applied;
 use calling::Pair;
 use collections::building::Added;
+use values::Value;
 ghost use mathlib.Core.Path.{_≡_};
 ghost use Prim.Native.Nat.{_≤_};
 ghost use Rattle.values.specs.Value.{set};
@@ -14,11 +15,6 @@ ghost use Rattle.operators.specs.Operators.{unary, binary};
 ghost use Rattle.calling.specs.Applied.{One, Two, OnOne, OnTwo};
 ghost use Rattle.set_operators.specs.Members.{AllIn};
 ghost use Rattle.set_operators.specs.Operands.{IsOfKind, TwoSets};
-
-// The kinds of operands, and of what is built.
-const SET: usize = 3;
-
-const SEQUENCE: usize = 4;
 
 // ---- kinds
 
@@ -35,8 +31,8 @@ fn two_sets(s: &[u8], base: usize) -> bool
     requires { ⌜ Two (now s) base ⌝ }
     ensures { λ r. ⌜ TwoSets (now (s .entry)) base r ⌝ }
 {
-    if is_of_kind(s, base, SET) {
-        return is_of_kind(s, base + Applied::SECOND, SET);
+    if is_of_kind(s, base, Value::SET) {
+        return is_of_kind(s, base + Applied::SECOND, Value::SET);
     }
     false
 }
@@ -47,7 +43,7 @@ fn cardinality(s: &mut [u8], base: usize) -> Applied
     requires { ⌜ One (now s) base ⌝ }
     ensures { λ r. ⌜ OnOne (unary 4) (now (s .entry)) (now (s .exit)) base r ⌝ }
 {
-    if !is_of_kind(s, base, SET) {
+    if !is_of_kind(s, base, Value::SET) {
         return Applied::Refused(Applied::WRONG_KIND);
     }
     let n = collections::finding::count_of(s, base);
@@ -59,15 +55,15 @@ fn distributed_union(s: &mut [u8], base: usize) -> Applied
     requires { ⌜ One (now s) base ⌝ }
     ensures { λ r. ⌜ OnOne (unary 5) (now (s .entry)) (now (s .exit)) base r ⌝ }
 {
-    if !is_of_kind(s, base, SET) {
+    if !is_of_kind(s, base, Value::SET) {
         return Applied::Refused(Applied::WRONG_KIND);
     }
     let end = base + values::length_of(s, base);
-    if !members::all_of_kind(s, base + 4, end, SET) {
+    if !members::all_of_kind(s, base + Value::HEAD, end, Value::SET) {
         return Applied::Refused(Applied::WRONG_KIND);
     }
-    collections::building::put_empty(s, base + Applied::SECOND, SET);
-    match members::insert_each(s, base + 4, end, base + Applied::SECOND) {
+    collections::building::put_empty(s, base + Applied::SECOND, Value::SET);
+    match members::insert_each(s, base + Value::HEAD, end, base + Applied::SECOND) {
         Added::Full => Applied::Refused(Applied::TOO_LARGE),
         Added::Done => {
             values::copy_value(s, base + Applied::SECOND, base);
@@ -80,18 +76,25 @@ fn distributed_intersection(s: &mut [u8], base: usize) -> Applied
     requires { ⌜ One (now s) base ⌝ }
     ensures { λ r. ⌜ OnOne (unary 6) (now (s .entry)) (now (s .exit)) base r ⌝ }
 {
-    if !is_of_kind(s, base, SET) {
+    if !is_of_kind(s, base, Value::SET) {
         return Applied::Refused(Applied::WRONG_KIND);
     }
     let end = base + values::length_of(s, base);
-    if !members::all_of_kind(s, base + 4, end, SET) {
+    if !members::all_of_kind(s, base + Value::HEAD, end, Value::SET) {
         return Applied::Refused(Applied::WRONG_KIND);
     }
-    if end == base + 4 {
+    if end == base + Value::HEAD {
         return Applied::Refused(Applied::NOT_THERE);
     }
-    let n = values::length_of(s, base + 4);
-    members::choose(s, base + 4, base + 4 + n, end, base + Applied::THIRD, true);
+    let n = values::length_of(s, base + Value::HEAD);
+    members::choose(
+        s,
+        base + Value::HEAD,
+        base + Value::HEAD + n,
+        end,
+        base + Applied::THIRD,
+        true,
+    );
     values::copy_value(s, base + Applied::THIRD, base);
     Applied::Done
 }
@@ -116,7 +119,7 @@ fn membership(s: &mut [u8], base: usize, operator: usize) -> Applied
     requires { ⌜ Two (now s) base × (17 ≤ operator) × (operator ≤ 18) ⌝ }
     ensures { λ r. ⌜ OnTwo (binary operator) (now (s .entry)) (now (s .exit)) base r ⌝ }
 {
-    if !is_of_kind(s, base + Applied::SECOND, SET) {
+    if !is_of_kind(s, base + Applied::SECOND, Value::SET) {
         return Applied::Refused(Applied::WRONG_KIND);
     }
     let found = collections::finding::contains(s, base + Applied::SECOND, base);
@@ -133,7 +136,7 @@ fn union(s: &mut [u8], base: usize) -> Applied
     let n = values::length_of(s, base + Applied::SECOND);
     match gathering::insert_all(
         s,
-        base + Applied::SECOND + 4,
+        base + Applied::SECOND + Value::HEAD,
         base + Applied::SECOND + n,
         base,
     ) {
@@ -183,7 +186,7 @@ fn inclusion(s: &mut [u8], base: usize, operator: usize) -> Applied
         return Applied::Refused(Applied::WRONG_KIND);
     }
     let n = values::length_of(s, base);
-    let inside = all_in(s, base + 4, base + n, base + Applied::SECOND);
+    let inside = all_in(s, base + Value::HEAD, base + n, base + Applied::SECOND);
     if operator == tables::binary::SUBSET {
         return calling::put_truth(s, base, inside);
     }

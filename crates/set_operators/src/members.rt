@@ -1,5 +1,6 @@
 // Going over items one by one: tests of them all, the members of them all, and choosing among them.
 use collections::building::Added;
+use values::Value;
 ghost use Rattle.values.specs.Place.{Holds, HoldsItems};
 ghost use Rattle.operators.specs.Gather.{flatten};
 ghost use Rattle.gathering.specs.Inserting.{Growing, InsertsAll};
@@ -43,7 +44,7 @@ pub fn insert_each(s: &mut [u8], from: usize, to: usize, at: usize) -> Added
     let mut p = from;
     while p < to {
         let n = values::length_of(s, p);
-        match gathering::insert_all(s, p + 4, p + n, at) {
+        match gathering::insert_all(s, p + Value::HEAD, p + n, at) {
             Added::Done => {}
             Added::Full => {
                 return Added::Full;
@@ -70,12 +71,12 @@ pub fn choose(s: &mut [u8], x: usize, a: usize, b: usize, at: usize, wanted: boo
     ensures { λ _. ⌜ Chosen (now (s .entry)) (now (s .exit)) x a b at wanted ⌝ }
 {
     let end = x + values::length_of(s, x);
-    collections::building::put_empty(s, at, crate::SEQUENCE);
-    let mut p = x + 4;
+    collections::building::put_empty(s, at, Value::SEQUENCE);
+    let mut p = x + Value::HEAD;
     while p < end {
         let found = in_all(s, p, a, b);
         append_if(s, at, p, found == wanted);
         p += values::length_of(s, p);
     }
-    collections::building::retag(s, at, crate::SET);
+    collections::building::retag(s, at, Value::SET);
 }

@@ -4,14 +4,15 @@ use mathlib.Core.Bool.{Bool, true, false}
 use mathlib.Core.List.{List}
 use Prim.Native.Nat.{ℕ, _+_, _≤_}
 use native.Mathlib.Omega.{arith}
+use Rattle.prelude.proofs.Absurd.{never}
 use Rattle.values.specs.Value.{Value}
-use Rattle.values.specs.Records.{holds}
+use Rattle.values.proofs.Records.{holds}
 use Rattle.operators.specs.Answer.{Answer}
 use Rattle.operators.specs.Booleans.{Connective}
 use Rattle.calling.specs.declared.Applied.{Applied}
 use Rattle.calling.specs.Applied.{One, Two, Applies, done as there, off as not-there, OnOne, OnTwo}
 use Rattle.trials.specs.Trial.{Operand, SomeOperand, Roomy, PlacesOne, PlacesTwo, connected, Connects, badInput, appliedNumber, Answers, done, off, TriesOne, TriesTwo}
-use Rattle.trials.proofs.Telling.{false-true, told-false}
+use Rattle.trials.proofs.Telling.{told-false}
 
 -- the number of an answer
 answers : {t : List ℕ} {a : Applied} {r : ℕ} {x : Answer} → r ≡ appliedNumber a → Applies t 0 a x → Answers t r x

@@ -4,11 +4,11 @@ use mathlib.Core.Bool.{Bool, true, false}
 use mathlib.Core.List.{List}
 use Prim.Native.Nat.{ℕ, _+_, _≤_}
 use lib.ListN.{length}
-use Rattle.values.specs.Value.{Value, size, encode, WellFormed, limit}
+use Rattle.values.specs.Value.{Value, size, encode, WellFormed, mostBytes}
 use Rattle.values.specs.Place.{At}
 use Rattle.operators.specs.Answer.{Answer, is, refused}
 use Rattle.operators.specs.Booleans.{Connective, left, right}
-use Rattle.operator_laws.specs.BooleanLaws.{decided}
+use Rattle.operator_laws.proofs.Booleans.{decided}
 use Rattle.calling.specs.declared.Applied.{Applied}
 use Rattle.calling.specs.declared.Applied.the-variants.{Done, Refused}
 use Rattle.calling.specs.Scratch.{second as upper, workspace}

@@ -1,5 +1,5 @@
 -- `elements` meets its contract: all items go into an empty set, which fits.
-use Rattle.values.specs.Records.{holds}
+use Rattle.values.proofs.Records.{holds}
 use Rattle.gathering.proofs.Gathered.{elements-room, elements-copy, elements-done}
 use borrow.Author.Needs.{needs}
 use Rattle.gathering.proofs.elements.Statement.{statement}

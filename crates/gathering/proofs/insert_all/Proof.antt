@@ -3,7 +3,7 @@ use mathlib.Core.Path.{refl, _∙_}
 use Prim.Native.Nat.{_-_}
 use native.Mathlib.Omega.{arith}
 use borrow.Author.Needs.{needs}
-use Rattle.values.specs.Frame.{outside-both}
+use Rattle.values.proofs.Frame.{outside-both}
 use Rattle.gathering.specs.Inserting.{themselves}
 use Rattle.gathering.proofs.Growth.{Gathering, gather-start, gather-next, gather-room, gather-on, gather-full, gather-end, insert-law, insert-step}
 use Rattle.gathering.proofs.insert_all.Statement.{statement}

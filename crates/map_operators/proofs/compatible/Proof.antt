@@ -2,7 +2,7 @@
 use mathlib.Core.Path.{refl}
 use Prim.Native.Nat.{_-_}
 use native.Mathlib.Omega.{arith}
-use Rattle.values.specs.Records.{holds, run}
+use Rattle.values.proofs.Records.{holds, uncons}
 use Rattle.map_operators.proofs.Agreeing.{Agreeing, agree-start, agree-next, agree-beside, agree-step, agree-off, agree-end}
 use Rattle.map_operators.proofs.compatible.Statement.{statement}
 use Rattle.map_operators.proofs.compatible.Tie as tie
@@ -35,7 +35,7 @@ loop-holds : tie.Need-loop-holds Inv-loop μ-loop
 loop-holds c = agree-start (c .length-of .ensures .is) (c .before .before .pre)
 
 length-of-requires-2 : tie.Need-length-of-requires-2 Inv-loop μ-loop
-length-of-requires-2 c κs = holds (run (omega arith) (c .before .loop .inv .rest-at) .first-at)
+length-of-requires-2 c κs = holds (uncons (omega arith) (c .before .loop .inv .rest-at) .first-at)
 
 add-v : tie.Need-add-v Inv-loop μ-loop
 add-v c = let y = agree-next (c .before .before .loop .inv) (omega arith) (c .length-of2 .ensures .is) refl in let f = y .rest-at .fits in omega arith

@@ -16,11 +16,11 @@ use Rattle.scalars.proofs.sign.Tie as tie
 
 minus : (c : tie.After-neg) → unary (c .before .before .before .before .before .before .before .before .before .args .operator) (integer (c .before .before .before .integer-at .result)) ≡ answered (c .neg .result)
 unfolding unary
-minus c = by-unary 2 (c .before .before .before .before .before .before .before .before .before .args .operator) (λ a. answered (Whole.negation a)) (c .before .before .if2 .taken) refl (place-fits (c .before .before .before .integer-at .ensures)) (ap answered (c .neg .ensures))
+minus c = by-unary 2 (c .before .before .before .before .before .before .before .before .before .args .operator) (λ a. answered (Whole.negationOf a)) (c .before .before .if2 .taken) refl (place-fits (c .before .before .before .integer-at .ensures)) (ap answered (c .neg .ensures))
 
 absolute : (c : tie.After-abs) → unary (c .before .before .before .before .before .before .before .before .before .args .operator) (integer (c .before .before .before .integer-at .result)) ≡ answered (c .abs .result)
 unfolding unary
-absolute c = by-unary 3 (c .before .before .before .before .before .before .before .before .before .args .operator) (λ a. answered (Whole.absolute a)) (omega arith) refl (place-fits (c .before .before .before .integer-at .ensures)) (ap answered (c .abs .ensures))
+absolute c = by-unary 3 (c .before .before .before .before .before .before .before .before .before .args .operator) (λ a. answered (Whole.absoluteOf a)) (omega arith) refl (place-fits (c .before .before .before .integer-at .ensures)) (ap answered (c .abs .ensures))
 
 kind-of-requires : tie.Need-kind-of-requires
 kind-of-requires c κs = search needs

@@ -3,7 +3,7 @@ use mathlib.Core.Path.{refl, sym, ap, _∙_}
 use mathlib.Core.Bool.{not}
 use native.Mathlib.Omega.{arith}
 use lib.Signed.{ltZ, leZ}
-use Rattle.integers.specs.Ordered.{leZ-ltZ}
+use Rattle.integers.proofs.Ordered.{leZ-ltZ}
 use Rattle.operators.specs.Booleans.{truth}
 use Rattle.operators.specs.Operators.{binary}
 use Rattle.calling.proofs.Pairs.{machine}

@@ -1,7 +1,7 @@
 -- `head` meets its contract.
 use mathlib.Core.Path.{refl}
 use native.Mathlib.Omega.{arith}
-use Rattle.values.specs.Records.{holds}
+use Rattle.values.proofs.Records.{holds}
 use Rattle.calling.proofs.Framing.{copyable-down}
 use Rattle.sequence_operators.proofs.Firsts.{none-off, first, head-done}
 use borrow.Author.Needs.{needs}

@@ -1,6 +1,6 @@
 -- `join` meets its contract.
 use native.Mathlib.Omega.{arith}
-use Rattle.values.specs.Records.{holds}
+use Rattle.values.proofs.Records.{holds}
 use Rattle.sequence_operators.proofs.Joining.{join-full, join-movable, join-done}
 use borrow.Author.Needs.{needs}
 use Rattle.sequence_operators.proofs.join.Statement.{statement}

@@ -1,7 +1,7 @@
 -- `reverse` meets its contract: what is put back is the last part of the items turned round.
 use Prim.Native.Nat.{_+_, _-_}
 use native.Mathlib.Omega.{arith}
-use Rattle.values.specs.Records.{holds}
+use Rattle.values.proofs.Records.{holds}
 use Rattle.calling.specs.Scratch.{second}
 use Rattle.sequence_operators.proofs.Turning.{Turning, reverse-copyable, reverse-start, reverse-run, reverse-low, reverse-copyable-on, reverse-step, reverse-end}
 use Rattle.sequence_operators.proofs.reverse.Statement.{statement}

@@ -2,7 +2,7 @@
 use Prim.Native.Nat.{_-_}
 use native.Mathlib.Omega.{arith}
 use borrow.Author.Tests.{not-true, not-false}
-use Rattle.values.specs.Records.{holds}
+use Rattle.values.proofs.Records.{holds}
 use Rattle.set_operators.proofs.Testing.{Testing, test-start, test-fails, test-on, test-end, inSet, in-set}
 use Rattle.gathering.proofs.Walks.{first-left}
 use Rattle.set_operators.proofs.all_in.Statement.{statement}

@@ -1,7 +1,7 @@
 -- `set_operators::members::all_of_kind` meets its contract: the answer from here on is the answer from the start on.
 use Prim.Native.Nat.{_-_}
 use native.Mathlib.Omega.{arith}
-use Rattle.values.specs.Records.{holds}
+use Rattle.values.proofs.Records.{holds}
 use Rattle.gathering.proofs.Walks.{first-left}
 use Rattle.set_operators.proofs.Testing.{Testing, test-start, test-fails, test-on, test-end, ofKind, kind-differs, kind-agrees}
 use Rattle.set_operators.proofs.members.all_of_kind.Statement.{statement}
