@@ -28,7 +28,7 @@ use Rattle.matching.specs.Node.{Readable}
 use Rattle.bindings.specs.Bound.{Values}
 use Rattle.trials.specs.Validity.{Tells}
 use Rattle.trials.specs.Trial.{SomeOperand}
-use Rattle.trials.specs.Operands.{operand-at}
+use Rattle.trials.proofs.Records.{operand-at}
 use Rattle.binding_trials.specs.declared.input.Subject.{Subject}
 use Rattle.binding_trials.specs.Trial.{last, lastKind, Over, Legal}
 use Rattle.binding_trials.specs.Contract.{LastHeld, Tried, SubjectOf}

@@ -28,7 +28,7 @@ use Rattle.matching.specs.declared.Best.{Best}
 use Rattle.matching.specs.Found.{nowhere, BoundHeld, BestIs}
 use Rattle.bindings.specs.Bound.{TellsWide}
 use Rattle.trials.specs.Trial.{badInput}
-use Rattle.trials.specs.Operands.{operand-low}
+use Rattle.trials.proofs.Records.{operand-low}
 use Rattle.binding_trials.specs.declared.input.Subject.{Subject}
 use Rattle.binding_trials.specs.Trial.{lastPattern, Legal, Says, given, nothing, Looks, Shows}
 use Rattle.binding_trials.specs.Contract.{Tried, SubjectOf, NthOf, Showable, ShowsName}

@@ -10,22 +10,22 @@ use lib.Seq.{take-suc, take-suc-set, length-take-le}
 use borrow.Author.Tests.{lt-ltb, le-ltb, le-leb, lt-leb}
 use Rattle.choices.specs.declared.Choices.{Choices}
 use Rattle.choices.specs.declared.Answer.the-variants.{Taken, Many, Short, Beyond}
-use Rattle.choices.specs.Tree.{limit}
-use Rattle.choices.specs.Laws.States.{left-cons, left-nil}
-use Rattle.choices.specs.State.{view, Sound, answerLeft, answerOf, rest, Chosen, taking}
+use Rattle.choices.specs.Tree.{mostChoices}
+use Rattle.choices.proofs.States.{left-cons, left-nil}
+use Rattle.choices.specs.State.{view, Invariant, answerLeft, answerOf, rest, Chosen, taking}
 
-module _ (c : Choices) (n : ℕ) (s : Sound c) where
-  past-length : c .used ≤ limit → length (take (c .used) (c .entries)) ≡ c .used
+module _ (c : Choices) (n : ℕ) (s : Invariant c) where
+  past-length : c .used ≤ mostChoices → length (take (c .used) (c .entries)) ≡ c .used
   past-length h = length-take-le (c .used) (c .entries) (omega arith)
 
-  pub many-law : limit ≤ c .used → Chosen c n (record { answer = Many; state = c })
-  many-law h = record { answered = rw (past-length (omega arith), le-leb limit (c .used) h); viewed = refl; sound = s }
+  pub many-law : mostChoices ≤ c .used → Chosen c n (record { answer = Many; state = c })
+  many-law h = record { answered = rw (past-length (omega arith), le-leb mostChoices (c .used) h); viewed = refl; sound = s }
 
   -- with room for a choice the answer is by what is left
-  room : c .used < limit → answerOf (view c) n ≡ answerLeft (drop (c .used) (take (c .len) (c .entries))) (c .grow) n
-  room h = rw (past-length (omega arith), lt-leb limit (c .used) h)
+  room : c .used < mostChoices → answerOf (view c) n ≡ answerLeft (drop (c .used) (take (c .len) (c .entries))) (c .grow) n
+  room h = rw (past-length (omega arith), lt-leb mostChoices (c .used) h)
 
-  pub beyond-law : c .used < limit → c .used < c .len → n ≤ getD (c .entries) (c .used) 0 → Chosen c n (record { answer = Beyond; state = c })
+  pub beyond-law : c .used < mostChoices → c .used < c .len → n ≤ getD (c .entries) (c .used) 0 → Chosen c n (record { answer = Beyond; state = c })
   beyond-law h k b =
       record {
         answered = sym (room h ∙ rw (left-cons (c .entries) (c .used) (c .len) k (omega arith), le-ltb (getD (c .entries) (c .used) 0) n b));
@@ -33,7 +33,7 @@ module _ (c : Choices) (n : ℕ) (s : Sound c) where
         sound = s;
       }
 
-  pub short-law : c .used < limit → c .len ≤ c .used → c .grow ≡ false → Chosen c n (record { answer = Short; state = c })
+  pub short-law : c .used < mostChoices → c .len ≤ c .used → c .grow ≡ false → Chosen c n (record { answer = Short; state = c })
   short-law h k b =
       record {
         answered = sym (room h ∙ rw (left-nil (c .entries) (c .used) (c .len) k, b));
@@ -42,17 +42,17 @@ module _ (c : Choices) (n : ℕ) (s : Sound c) where
       }
 
   -- one more entry is used, where x stands there
-  past-more : (x : ℕ) → c .used < limit → getD (c .entries) (c .used) 0 ≡ x → take (c .used + 1) (c .entries) ≡ take (c .used) (c .entries) ++ x ∷ []
+  past-more : (x : ℕ) → c .used < mostChoices → getD (c .entries) (c .used) 0 ≡ x → take (c .used + 1) (c .entries) ≡ take (c .used) (c .entries) ++ x ∷ []
   past-more x h e = rw add-one (take-suc (c .entries) (c .used) 0 (omega arith)) ∙ ap (λ (y : ℕ). take (c .used) (c .entries) ++ y ∷ []) e
 
-  met-more : c .used < limit → take (c .used + 1) (set (c .counts) (c .used) n) ≡ take (c .used) (c .counts) ++ n ∷ []
+  met-more : c .used < mostChoices → take (c .used + 1) (set (c .counts) (c .used) n) ≡ take (c .used) (c .counts) ++ n ∷ []
   met-more h = rw add-one (take-suc-set (c .counts) (c .used) n (omega arith))
 
-  sound-more : (len : ℕ) → c .used < len → c .len ≤ len → len ≤ limit → Sound (taking c n len)
+  sound-more : (len : ℕ) → c .used < len → c .len ≤ len → len ≤ mostChoices → Invariant (taking c n len)
   sound-more len h k m =
       record { used-within = omega arith; len-within = m; entries-sized = s .entries-sized; counts-sized = simp length-set (s .counts-sized); zeroed = λ j a. s .zeroed j (omega arith) }
 
-  pub taken-law : (d : Choices) → d ≡ taking c n (c .len) → c .used < limit → c .used < c .len → getD (c .entries) (c .used) 0 < n → Chosen c n (record { answer = Taken (getD (c .entries) (c .used) 0); state = d })
+  pub taken-law : (d : Choices) → d ≡ taking c n (c .len) → c .used < mostChoices → c .used < c .len → getD (c .entries) (c .used) 0 < n → Chosen c n (record { answer = Taken (getD (c .entries) (c .used) 0); state = d })
   taken-law d e h k b =
       let f = left-cons (c .entries) (c .used) (c .len) k (omega arith) in
       let p = past-more (getD (c .entries) (c .used) 0) h refl in
@@ -65,7 +65,7 @@ module _ (c : Choices) (n : ℕ) (s : Sound c) where
         sound = sound-more (c .len) k (omega arith) (s .len-within);
       })
 
-  pub grown-law : (d : Choices) → d ≡ taking c n (c .used + 1) → c .used < limit → c .len ≤ c .used → c .grow ≡ true → Chosen c n (record { answer = Taken 0; state = d })
+  pub grown-law : (d : Choices) → d ≡ taking c n (c .used + 1) → c .used < mostChoices → c .len ≤ c .used → c .grow ≡ true → Chosen c n (record { answer = Taken 0; state = d })
   grown-law d e h k b =
       let f = left-nil (c .entries) (c .used) (c .len) k in
       let p = past-more 0 h (s .zeroed (c .used) k) in

@@ -1,4 +1,19 @@
--- What the proofs of the functions cite.
-pub mod Making
-pub mod Choosing
-pub mod Raising
+-- Laws of trees, lists and runs, which crates above cite, and what the proofs of the functions need.
+pub mod Order
+pub mod Trees
+pub mod Paths
+pub mod Steps
+pub mod Cut
+pub mod Walk
+pub mod Ahead
+pub mod Parts
+pub mod Outcomes
+pub mod Rank
+pub mod States
+pub mod Ran
+pub mod Runs
+pub mod Came
+pub mod Stepping
+mod Choosing
+mod Raising
+mod Making

@@ -11,8 +11,8 @@ use lib.Seq.{take-suc-set, getD-take, take-set-le, take-take, getD-set-same, get
 use borrow.Author.Tests.{lt-ltb, le-ltb}
 use Rattle.choices.specs.declared.Choices.{Choices}
 use Rattle.choices.specs.Paths.{raise}
-use Rattle.choices.specs.State.{View, Sound, fresh, Made, Moved}
-use Rattle.choices.specs.Laws.States.{left-cons, left-nil}
+use Rattle.choices.specs.State.{View, Invariant, fresh, Made, Moved}
+use Rattle.choices.proofs.States.{left-cons, left-nil}
 
 -- a list of two parts, of which the second can be raised
 raise-append : (xs ns ys ms z : List ℕ) → length xs ≡ length ns → raise ys ms ≡ some z → raise (xs ++ ys) (ns ++ ms) ≡ some (xs ++ z)
@@ -35,7 +35,7 @@ pub record Seeking (e₀ ns : List ℕ) (i₀ : ℕ) (e : List ℕ) (i : ℕ) : 
   pub stuck : raise (drop i (take i₀ e₀)) (drop i (take i₀ ns)) ≡ none
   pub zeroed : (k : ℕ) → i ≤ k → getD e k 0 ≡ 0
 
-pub seeking-all : (c : Choices) → Sound c → c .used ≡ c .len → Seeking (c .entries) (c .counts) (c .used) (c .entries) (c .used)
+pub seeking-all : (c : Choices) → Invariant c → c .used ≡ c .len → Seeking (c .entries) (c .counts) (c .used) (c .entries) (c .used)
 seeking-all c s q = record { within = omega arith; sized = refl; kept = refl; stuck = rw (left-nil (c .entries) (c .used) (c .used) (omega arith)); zeroed = λ k a. s .zeroed k (omega arith) }
 
 module _ (e₀ ns : List ℕ) (i₀ : ℕ) (roomy : i₀ ≤ length e₀) (counted : i₀ ≤ length ns) (e : List ℕ) (j : ℕ) (g : Seeking e₀ ns i₀ e (suc j)) where
@@ -75,7 +75,7 @@ module _ (e₀ ns : List ℕ) (i₀ : ℕ) (roomy : i₀ ≤ length e₀) (count
       in
       rw r l
 
-module _ (c : Choices) (s : Sound c) (e : List ℕ) (i : ℕ) (g : Seeking (c .entries) (c .counts) (c .used) e i) where
+module _ (c : Choices) (s : Invariant c) (e : List ℕ) (i : ℕ) (g : Seeking (c .entries) (c .counts) (c .used) e i) where
   pub turn-at : (j : ℕ) → i ≡ suc j → getD (c .counts) j 0 ≤ getD e j 0 + 1 → Seeking (c .entries) (c .counts) (c .used) (set e j 0) j
   turn-at j q h = turn (c .entries) (c .counts) (c .used) (omega arith) (omega arith) e j (rw q at g) h
 

@@ -1,7 +1,6 @@
--- Choice trees, following a list of entries through one, complete lists and their order, and the state of a run's choices.
+-- Choice trees, following a list of entries through one, complete lists and their order, and the state of a run's choices. Cited by meaning, evaluator and walks.
 pub mod Tree
 pub mod Lists
 pub mod Paths
 pub mod State
 pub mod Runs
-pub mod Laws

@@ -4,7 +4,8 @@ use mathlib.Core.Logic.{_⊎_, _↔_}
 use mathlib.Core.List.{List, [], _∷_, _++_}
 use Prim.Native.Nat.{ℕ, _≤_, _<_}
 use lib.ListN.{length}
-use Rattle.choices.specs.Tree.{Tree, limit, Run, gave, stopped, short, beyond, run, Outcome, value, refusal}
+use Rattle.prelude.specs.Membership.{In}
+use Rattle.choices.specs.Tree.{Tree, mostChoices, Run, gave, stopped, short, beyond, run, Outcome, value, refusal}
 
 -- The run ended in a value or in 20 to 31, with no entry left.
 abbrev pub Ended : {A : Type 0} → Run A → Type 0
@@ -26,7 +27,7 @@ outcomeOf (beyond p n l) = refusal 33 p
 
 -- No run, under a list of up to 64 entries, meets a 65th choice: none ends in 31.
 abbrev pub NoMany : {A : Type 0} → Tree A → Type 0
-NoMany t = (l : List ℕ) (p : ℕ) (left : List ℕ) → length l ≤ limit → run t l ≡ stopped 31 p left → ⊥
+NoMany t = (l : List ℕ) (p : ℕ) (left : List ℕ) → length l ≤ mostChoices → run t l ≡ stopped 31 p left → ⊥
 
 -- Dictionary order: by the first entry that differs, a prefix first.
 abbrev pub before : List ℕ → List ℕ → Type 0
@@ -35,19 +36,15 @@ before [] (d ∷ m) = Unit {0}
 before (c ∷ l) [] = ⊥
 before (c ∷ l) (d ∷ m) = (c < d) ⊎ ((c ≡ d) × before l m)
 
-abbrev pub In : List ℕ → List (List ℕ) → Type 0
-In l [] = ⊥
-In l (m ∷ ms) = (l ≡ m) ⊎ In l ms
-
 -- Strictly ascending: each stands before all that follow it.
-abbrev pub Ascending : List (List ℕ) → Type 0
-Ascending [] = Unit {0}
-Ascending (l ∷ ls) = ((m : List ℕ) → In m ls → before l m) × Ascending ls
+abbrev pub AscendingLists : List (List ℕ) → Type 0
+AscendingLists [] = Unit {0}
+AscendingLists (l ∷ ls) = ((m : List ℕ) → In m ls → before l m) × AscendingLists ls
 
 -- Exactly k complete lists come before l: they are the members of a strictly ascending list of length k.
 pub record CountBefore {A : Type 0} (t : Tree A) (l : List ℕ) (k : ℕ) : Type 0 where
   pub lists : List (List ℕ)
-  pub ascending : Ascending lists
+  pub ascending : AscendingLists lists
   pub exactly : (m : List ℕ) → In m lists ↔ (Complete t m × before m l)
   pub number : length lists ≡ k
 

@@ -3,7 +3,8 @@ use mathlib.Core.Option.{Option, none, some}
 use mathlib.Core.List.{List, [], _∷_, _++_}
 use Prim.Native.Nat.{ℕ, zero, suc, _<_}
 use lib.Dec.{ltb}
-use Rattle.choices.specs.Tree.{Tree, give, stop, choose, pick, limit, Outcome, value, refusal}
+use mathlib.Core.Bool.{cond}
+use Rattle.choices.specs.Tree.{Tree, give, stop, choose, mostChoices, Outcome, value, refusal}
 
 -- ---- lists that lead into a tree
 
@@ -42,14 +43,14 @@ counts (choose p n ways) (c ∷ l) = n ∷ counts (ways c) l
 -- ---- all paths, from left to right
 
 -- Each with c before it.
-abbrev pub under : ℕ → List (List ℕ) → List (List ℕ)
-under c [] = []
-under c (l ∷ ls) = (c ∷ l) ∷ under c ls
+abbrev pub prefixed : ℕ → List (List ℕ) → List (List ℕ)
+prefixed c [] = []
+prefixed c (l ∷ ls) = (c ∷ l) ∷ prefixed c ls
 
 -- The lists of h c, h (c + 1), .., m of them, each under its number.
 abbrev pub fan : ℕ → ℕ → (ℕ → List (List ℕ)) → List (List ℕ)
 fan c zero h = []
-fan c (suc m) h = under c (h c) ++ fan (suc c) m h
+fan c (suc m) h = prefixed c (h c) ++ fan (suc c) m h
 
 abbrev pub paths : {A : Type 0} → Tree A → List (List ℕ)
 paths (give a) = [] ∷ []
@@ -66,50 +67,50 @@ extend (choose p n ways) [] = 0 ∷ extend (ways 0) []
 extend (choose p n ways) (c ∷ l) = c ∷ extend (ways c) l
 
 -- The path of zeros.
-abbrev pub first : {A : Type 0} → Tree A → List ℕ
-first t = extend t []
+abbrev pub firstPath : {A : Type 0} → Tree A → List ℕ
+firstPath t = extend t []
 
 -- c before what is there, else o.
-abbrev pub orElse : ℕ → Option (List ℕ) → Option (List ℕ) → Option (List ℕ)
-orElse c (some l) o = some (c ∷ l)
-orElse c none o = o
+abbrev pub consOr : ℕ → Option (List ℕ) → Option (List ℕ) → Option (List ℕ)
+consOr c (some l) o = some (c ∷ l)
+consOr c none o = o
 
 -- The last entry that can go up below its number of ways goes up by 1, and what follows it is cut. None where no entry can.
 abbrev pub raise : List ℕ → List ℕ → Option (List ℕ)
 raise [] ns = none
 raise (c ∷ l) [] = none
-raise (c ∷ l) (n ∷ ns) = orElse c (raise l ns) (pick (ltb (suc c) n) (some (suc c ∷ [])) none)
+raise (c ∷ l) (n ∷ ns) = consOr c (raise l ns) (cond (ltb (suc c) n) (some (suc c ∷ [])) none)
 
 abbrev pub onSome : (List ℕ → List ℕ) → Option (List ℕ) → Option (List ℕ)
 onSome f none = none
 onSome f (some l) = some (f l)
 
 -- The path after l.
-abbrev pub next : {A : Type 0} → Tree A → List ℕ → Option (List ℕ)
-next t l = onSome (extend t) (raise l (counts t l))
+abbrev pub nextPath : {A : Type 0} → Tree A → List ℕ → Option (List ℕ)
+nextPath t l = onSome (extend t) (raise l (counts t l))
 
 -- ---- at most so many choices
 
 -- No path has more than k choices.
-abbrev pub Within : {A : Type 0} → ℕ → Tree A → Type 0
-Within k (give a) = Unit {0}
-Within k (stop r p) = Unit {0}
-Within zero (choose p n ways) = ⊥
-Within (suc k) (choose p n ways) = (i : ℕ) → i < n → Within k (ways i)
+abbrev pub AtMost : {A : Type 0} → ℕ → Tree A → Type 0
+AtMost k (give a) = Unit {0}
+AtMost k (stop r p) = Unit {0}
+AtMost zero (choose p n ways) = ⊥
+AtMost (suc k) (choose p n ways) = (i : ℕ) → i < n → AtMost k (ways i)
 
 -- The tree cut after k choices: one more is 31 at its place.
-abbrev pub cut : {A : Type 0} → ℕ → Tree A → Tree A
-cut k (give a) = give a
-cut k (stop r p) = stop r p
-cut zero (choose p n ways) = stop 31 p
-cut (suc k) (choose p n ways) = choose p n (λ i. cut k (ways i))
+abbrev pub cutAfter : {A : Type 0} → ℕ → Tree A → Tree A
+cutAfter k (give a) = give a
+cutAfter k (stop r p) = stop r p
+cutAfter zero (choose p n ways) = stop 31 p
+cutAfter (suc k) (choose p n ways) = choose p n (λ i. cutAfter k (ways i))
 
 -- The lists that a walk over the tree's runs shows, in order; the first of them, and the one after l.
 abbrev pub allLists : {A : Type 0} → Tree A → List (List ℕ)
-allLists t = paths (cut limit t)
+allLists t = paths (cutAfter mostChoices t)
 
 abbrev pub firstList : {A : Type 0} → Tree A → List ℕ
-firstList t = first (cut limit t)
+firstList t = firstPath (cutAfter mostChoices t)
 
 abbrev pub nextList : {A : Type 0} → Tree A → List ℕ → Option (List ℕ)
-nextList t l = next (cut limit t) l
+nextList t l = nextPath (cutAfter mostChoices t) l

@@ -1,15 +1,13 @@
 -- A tree run on the state of the choices: what a function that chooses has to come to.
 use mathlib.Core.Path.{_≡_}
-use mathlib.Core.Bool.{Bool, false}
-use mathlib.Core.List.{List, [], _∷_, _++_}
-use Prim.Native.Nat.{ℕ, zero, suc}
+use mathlib.Core.Bool.{cond}
+use Prim.Native.Nat.{ℕ}
 use lib.Dec.{ltb}
 use Rattle.choices.specs.declared.Choices.{Choices}
 use Rattle.choices.specs.declared.Answer.{Answer}
 use Rattle.choices.specs.declared.Answer.the-variants.{Taken, Many, Short, Beyond}
-use Rattle.choices.specs.Tree.{Tree, give, stop, choose, limit, Run, gave, stopped, short, beyond, pick, Final, result, refuses, unlessLeft}
-use Rattle.choices.specs.Paths.{counts, cut}
-use Rattle.choices.specs.State.{View, view, Sound, answerOf, afterwards}
+use Rattle.choices.specs.Tree.{Tree, give, stop, choose, Final, result, refuses, unlessLeft}
+use Rattle.choices.specs.State.{View, view, Invariant, answerOf, afterwards}
 
 -- What a run on a state comes to: a value, or a refusal's number, place and count; and the state after it.
 pub data Ran (A : Type 0) : Type 0 where
@@ -17,26 +15,16 @@ pub data Ran (A : Type 0) : Type 0 where
   refused : ℕ → ℕ → ℕ → View → Ran A
 
 -- The answer to a choice at the place p among n ways: on with the way taken, or 31, 32 or 33. The last two report n.
-abbrev pub at : {A : Type 0} → Answer → ℕ → ℕ → View → (ℕ → Ran A) → Ran A
-at (Taken c) p n v on = on c
-at Many p n v on = refused 31 p 0 v
-at Short p n v on = refused 32 p n v
-at Beyond p n v on = refused 33 p n v
+abbrev pub onAnswer : {A : Type 0} → Answer → ℕ → ℕ → View → (ℕ → Ran A) → Ran A
+onAnswer (Taken c) p n v on = on c
+onAnswer Many p n v on = refused 31 p 0 v
+onAnswer Short p n v on = refused 32 p n v
+onAnswer Beyond p n v on = refused 33 p n v
 
 abbrev pub runOn : {A : Type 0} → Tree A → View → Ran A
 runOn (give a) v = ran a v
 runOn (stop r p) v = refused r p 0 v
-runOn (choose p n ways) v = at (answerOf v n) p n v (λ c. runOn (ways c) (afterwards v n (Taken c)))
-
--- The state after it.
-abbrev pub stateOf : {A : Type 0} → Ran A → View
-stateOf (ran a v) = v
-stateOf (refused r p n v) = v
-
--- A run goes on where it came to a value.
-abbrev pub further : {A B : Type 0} → Ran A → (A → View → Ran B) → Ran B
-further (ran a v) f = f a v
-further (refused r p n v) f = refused r p n v
+runOn (choose p n ways) v = onAnswer (answerOf v n) p n v (λ c. runOn (ways c) (afterwards v n (Taken c)))
 
 -- The end f of a run, with the state v after it.
 abbrev pub endedBy : {A : Type 0} → Final A → View → Ran A
@@ -46,28 +34,9 @@ endedBy (refuses r p n) v = refused r p n v
 -- The tree's run from the state c comes to f and leaves the state d.
 pub record Came {A : Type 0} (t : Tree A) (c : Choices) (f : Final A) (d : Choices) : Type 0 where
   pub right : runOn t (view c) ≡ endedBy f (view d)
-  pub sound : Sound d
-
--- The same of a run under a list, with the state v after it.
-abbrev pub ranAs : {A : Type 0} → Run A → View → Ran A
-ranAs (gave a k l) v = ran a v
-ranAs (stopped r p l) v = refused r p 0 v
-ranAs (short p n) v = refused 32 p n v
-ranAs (beyond p n l) v = refused 33 p n v
-
--- The state after a run under a list, of which `left` was left and k choices were allowed.
-abbrev pub trail : {A : Type 0} → Tree A → ℕ → List ℕ → List ℕ → List ℕ → View
-trail (give a) k past met left = record { past = past; met = met; left = left; grow = false }
-trail (stop r p) k past met left = record { past = past; met = met; left = left; grow = false }
-trail (choose p n ways) zero past met left = record { past = past; met = met; left = left; grow = false }
-trail (choose p n ways) (suc k) past met [] = record { past = past; met = met; left = []; grow = false }
-trail (choose p n ways) (suc k) past met (c ∷ l) = pick (ltb c n) (trail (ways c) k (past ++ c ∷ []) (met ++ n ∷ []) l) (record { past = past; met = met; left = c ∷ l; grow = false })
-
--- The state at the end of the complete list l.
-abbrev pub atEnd : {A : Type 0} → Tree A → List ℕ → Bool → View
-atEnd t l g = record { past = l; met = counts (cut limit t) l; left = []; grow = g }
+  pub sound : Invariant d
 
 -- What a run on a state finally answers: 34 in place of a value and of the refusals below 32, where entries are left.
 abbrev pub settle : {A : Type 0} → ℕ → Ran A → Final A
 settle last (ran a v) = unlessLeft (v .left) last (result a)
-settle last (refused r p n v) = pick (ltb r 32) (unlessLeft (v .left) p (refuses r p n)) (refuses r p n)
+settle last (refused r p n v) = cond (ltb r 32) (unlessLeft (v .left) p (refuses r p n)) (refuses r p n)

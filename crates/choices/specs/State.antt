@@ -1,6 +1,6 @@
 -- What the state of a run's choices says, as lists, and what the functions on it do to them.
 use mathlib.Core.Path.{_≡_}
-use mathlib.Core.Bool.{Bool, true, false}
+use mathlib.Core.Bool.{Bool, true, false, cond}
 use mathlib.Core.Option.{Option, none, some}
 use mathlib.Core.List.{List, [], _∷_, _++_}
 use Prim.Native.Nat.{ℕ, _+_, _-_, _≤_}
@@ -11,7 +11,7 @@ use Rattle.choices.specs.declared.Picked.{Picked}
 use Rattle.choices.specs.declared.Advanced.{Advanced}
 use Rattle.choices.specs.declared.Answer.{Answer}
 use Rattle.choices.specs.declared.Answer.the-variants.{Taken, Many, Short, Beyond}
-use Rattle.choices.specs.Tree.{limit, pick}
+use Rattle.choices.specs.Tree.{mostChoices}
 use Rattle.choices.specs.Paths.{raise}
 
 -- The entries taken, the number of ways at each, the entries left, and whether a list that is used up grows by 0.
@@ -25,16 +25,16 @@ abbrev pub view : Choices → View
 view c = record { past = take (c .used) (c .entries); met = take (c .used) (c .counts); left = drop (c .used) (take (c .len) (c .entries)); grow = c .grow }
 
 -- A state that the functions keep to. Zeros follow the list's end.
-pub record Sound (c : Choices) : Type 0 where
+pub record Invariant (c : Choices) : Type 0 where
   pub used-within : c .used ≤ c .len
-  pub len-within : c .len ≤ limit
-  pub entries-sized : length (c .entries) ≡ limit
-  pub counts-sized : length (c .counts) ≡ limit
+  pub len-within : c .len ≤ mostChoices
+  pub entries-sized : length (c .entries) ≡ mostChoices
+  pub counts-sized : length (c .counts) ≡ mostChoices
   pub zeroed : (k : ℕ) → c .len ≤ k → getD (c .entries) k 0 ≡ 0
 
 -- The list, and zeros after its end.
 abbrev pub padded : List ℕ → List ℕ
-padded l = l ++ replicate (limit - length l) 0
+padded l = l ++ replicate (mostChoices - length l) 0
 
 -- The state before a run under l.
 abbrev pub fresh : List ℕ → Bool → View
@@ -43,7 +43,7 @@ fresh l g = record { past = []; met = []; left = l; grow = g }
 -- A state made for a run under l.
 pub record Made (l : List ℕ) (g : Bool) (c : Choices) : Type 0 where
   pub viewed : view c ≡ fresh l g
-  pub sound : Sound c
+  pub sound : Invariant c
 
 -- ---- one choice
 
@@ -51,11 +51,11 @@ pub record Made (l : List ℕ) (g : Bool) (c : Choices) : Type 0 where
 abbrev pub answerLeft : List ℕ → Bool → ℕ → Answer
 answerLeft [] true n = Taken 0
 answerLeft [] false n = Short
-answerLeft (c ∷ l) g n = pick (ltb c n) (Taken c) Beyond
+answerLeft (c ∷ l) g n = cond (ltb c n) (Taken c) Beyond
 
 -- One choice too many comes before a list's being used up.
 abbrev pub answerOf : View → ℕ → Answer
-answerOf v n = pick (leb limit (length (v .past))) Many (answerLeft (v .left) (v .grow) n)
+answerOf v n = cond (leb mostChoices (length (v .past))) Many (answerLeft (v .left) (v .grow) n)
 
 abbrev pub rest : List ℕ → List ℕ
 rest [] = []
@@ -72,7 +72,7 @@ afterwards v n Beyond = v
 pub record Chosen (c : Choices) (n : ℕ) (r : Picked) : Type 0 where
   pub answered : r .answer ≡ answerOf (view c) n
   pub viewed : view (r .state) ≡ afterwards (view c) n (r .answer)
-  pub sound : Sound (r .state)
+  pub sound : Invariant (r .state)
 
 -- One more entry is used, at n ways, and the list has len entries.
 abbrev pub taking : Choices → ℕ → ℕ → Choices
@@ -88,4 +88,4 @@ maybe false l = none
 pub record Moved (c : Choices) (r : Advanced) : Type 0 where
   pub moved : raise (view c .past) (view c .met) ≡ maybe (r .more) (view (r .state) .left)
   pub viewed : view (r .state) ≡ fresh (view (r .state) .left) true
-  pub sound : Sound (r .state)
+  pub sound : Invariant (r .state)

@@ -1,13 +1,13 @@
 -- Choice trees: a computation that gives a value, refuses, or chooses among a number of ways; and what it comes to under a list of entries.
 use mathlib.Core.Path.{_≡_}
-use mathlib.Core.Bool.{Bool, true, false}
+use mathlib.Core.Bool.{cond}
 use mathlib.Core.List.{List, [], _∷_}
 use Prim.Native.Nat.{ℕ, zero, suc, _≤_, _<_}
 use lib.Dec.{ltb}
 
 -- The most choices that a run may meet, and so the most entries of a list. Named here once.
-abbrev pub limit : ℕ
-limit = 64
+abbrev pub mostChoices : ℕ
+mostChoices = 64
 
 -- A tree of choices. A leaf gives a value, or stops with a refusal's number and place. A node chooses at a place among n ways,
 -- numbered from 0 to n - 1.
@@ -57,10 +57,6 @@ pub data Run (A : Type 0) : Type 0 where
   short : ℕ → ℕ → Run A
   beyond : ℕ → ℕ → List ℕ → Run A
 
-abbrev pub pick {ℓ} : {A : Type ℓ} → Bool → A → A → A
-pick true a b = a
-pick false a b = b
-
 -- The tree followed under the entries l, where k choices are allowed. A choice takes the next entry c and goes on by the way c. One choice
 -- too many is 31, and that comes before the list's being used up.
 abbrev pub follow : {A : Type 0} → Tree A → ℕ → List ℕ → Run A
@@ -68,11 +64,11 @@ follow (give a) k l = gave a k l
 follow (stop r p) k l = stopped r p l
 follow (choose p n ways) zero l = stopped 31 p l
 follow (choose p n ways) (suc k) [] = short p n
-follow (choose p n ways) (suc k) (c ∷ l) = pick (ltb c n) (follow (ways c) k l) (beyond p n (c ∷ l))
+follow (choose p n ways) (suc k) (c ∷ l) = cond (ltb c n) (follow (ways c) k l) (beyond p n (c ∷ l))
 
 -- The run of a list.
 abbrev pub run : {A : Type 0} → Tree A → List ℕ → Run A
-run t l = follow t limit l
+run t l = follow t mostChoices l
 
 -- What the run of a list finally answers: a value, or a refusal's number, place and count.
 pub data Final (A : Type 0) : Type 0 where

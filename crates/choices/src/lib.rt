@@ -4,8 +4,8 @@ ghost use mathlib.Core.Bool.{true, false};
 ghost use mathlib.Core.List.{[]};
 ghost use Prim.Native.Nat.{_≤_, _<_};
 ghost use lib.ListN.{length};
-ghost use Rattle.choices.specs.Tree.{limit};
-ghost use Rattle.choices.specs.State.{Sound, Made, Chosen, Moved, taking};
+ghost use Rattle.choices.specs.Tree.{mostChoices};
+ghost use Rattle.choices.specs.State.{Invariant, Made, Chosen, Moved, taking};
 
 // The entries, of which `len` count and `used` have been taken; beside each taken one the number of ways that it chose among.
 // Where the list is used up and `grow` is set, it grows by 0. Zeros follow its end.
@@ -67,7 +67,7 @@ impl Choices {
 
     // The entries of a list, and none to come.
     pub fn given(list: &[u8]) -> Choices
-        requires { ⌜ length (now list) ≤ limit ⌝ }
+        requires { ⌜ length (now list) ≤ mostChoices ⌝ }
         ensures { λ r. ⌜ Made (now (list .entry)) false r ⌝ }
     {
         let mut entries = [0u8; Choices::LIMIT];
@@ -89,8 +89,8 @@ impl Choices {
 
     // One more entry is used, at n ways, of a list of `len` entries.
     fn taking(mut self, n: usize, len: usize) -> Choices
-        requires { ⌜ Sound self ⌝ }
-        requires { ⌜ (self .used < limit) × (n < 256) ⌝ }
+        requires { ⌜ Invariant self ⌝ }
+        requires { ⌜ (self .used < mostChoices) × (n < 256) ⌝ }
         ensures { λ r. ⌜ r ≡ taking self n len ⌝ }
     {
         let used = self.used;
@@ -102,7 +102,7 @@ impl Choices {
 
     // A choice among n ways takes the next entry.
     pub fn choose(self, n: usize) -> Picked
-        requires { ⌜ Sound self ⌝ }
+        requires { ⌜ Invariant self ⌝ }
         requires { ⌜ (0 < n) × (n < 256) ⌝ }
         ensures { λ r. ⌜ Chosen self n r ⌝ }
     {
@@ -144,7 +144,7 @@ impl Choices {
 
     // After a run that used the whole list: the last entry that can go up goes up, and what follows it is cut. The next run grows from there.
     pub fn advance(self) -> Advanced
-        requires { ⌜ Sound self ⌝ }
+        requires { ⌜ Invariant self ⌝ }
         requires { ⌜ self .used ≡ self .len ⌝ }
         ensures { λ r. ⌜ Moved self r ⌝ }
     {

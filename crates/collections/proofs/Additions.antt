@@ -8,21 +8,22 @@ use native.Mathlib.Omega.{arith}
 use borrow.Author.Tests.{le-leb, lt-leb}
 use lib.ListN.{length}
 use lib.Seq.{sets}
+use Rattle.prelude.proofs.Absurd.{impossible}
 use Rattle.integers.specs.Bytes.{word}
-use Rattle.values.specs.Value.{Kind, set, sequence, number, Value, collection, Items, none, more, size, sizes, Shaped, limit}
+use Rattle.values.specs.Value.{Kind, set, sequence, number, Value, collection, Items, none, more, size, sizes, Shaped, mostBytes}
 use Rattle.values.specs.Items.{isMember, join, snoc, insert}
 use Rattle.values.specs.Place.{At, ItemsAt}
-use Rattle.values.specs.Encoding.{size-low, snoc-sizes, collection-size}
-use Rattle.values.specs.Records.{word-size, holds, items-to, no-items, joined, parted, collection-shaped}
-use Rattle.values.specs.Written.{heading, closed}
-use Rattle.values.specs.Frame.{items-below, outside-then, outside-none}
-use Rattle.values.specs.Contract.{PutHead}
+use Rattle.values.proofs.Encoding.{size-low, snoc-sizes, collection-size}
+use Rattle.values.proofs.Records.{word-size, holds, items-to, no-items, joined, parted, collection-shaped}
+use Rattle.values.specs.Contract.{heading, PutHead}
+use Rattle.values.proofs.Written.{headed-collection}
+use Rattle.values.proofs.Frame.{items-below, outside-then, outside-none}
 use Rattle.collections.specs.declared.building.Added.{Added}
 use Rattle.collections.specs.declared.building.Added.the-variants.{Done as Put, Full as TooLong}
 use Rattle.collections.specs.declared.finding.Sought.{Sought}
 use Rattle.collections.specs.declared.finding.Sought.the-variants.{Here, Before}
-use Rattle.collections.specs.Members.{insert-present, sizes-insert, ascending-insert}
-use Rattle.collections.specs.Seeking.{Member, belongs}
+use Rattle.values.proofs.Members.{insert-present, sizes-insert, ascending-insert}
+use Rattle.collections.proofs.Seeking.{Member, belongs}
 use Rattle.collections.specs.Finding.{Seeks}
 use Rattle.collections.proofs.Sights.{sight, contained}
 use Rattle.collections.specs.Building.{added, Room, Apart, Empties, Retags, Appends, Inserts}
@@ -30,29 +31,29 @@ use Rattle.collections.specs.Steps.{Gap, Fills, Slot, AddsAt}
 
 -- ---- answers
 
-pub added-put : (n : ℕ) → n ≤ limit → Put ≡ added n
-added-put n h = rw (le-leb n limit h)
+added-put : (n : ℕ) → n ≤ mostBytes → Put ≡ added n
+added-put n h = rw (le-leb n mostBytes h)
 
-pub added-long : (n : ℕ) → limit < n → TooLong ≡ added n
-added-long n h = rw (lt-leb n limit h)
+added-long : (n : ℕ) → mostBytes < n → TooLong ≡ added n
+added-long n h = rw (lt-leb n mostBytes h)
 
 -- two wholes of one size have one answer
 pub answered : {r : Added} (m n : ℕ) → r ≡ added m → m ≡ n → r ≡ added n
 answered m n e d = e ∙ ap added d
 
-pub not-put : {X : Type 0} → TooLong ≡ Put → X
-not-put e = let z : _≡_ {A = ℕ} 0 1 = cc in absurd (omega arith)
+not-put : {X : Type 0} → TooLong ≡ Put → X
+not-put e = impossible cc
 
-pub not-long : {X : Type 0} → Put ≡ TooLong → X
-not-long e = let z : _≡_ {A = ℕ} 0 1 = cc in absurd (omega arith)
+not-long : {X : Type 0} → Put ≡ TooLong → X
+not-long e = impossible cc
 
 -- ---- a heading before items
 
 module _ {s t : List ℕ} {at n kind : ℕ} (h : PutHead s t at n kind) where
-  pub headed-run : {to : ℕ} (k : Kind) (vs : Items) → kind ≡ number k → at + n ≡ to → n ≤ limit → Shaped k vs → ItemsAt s (at + 4) to vs → At t at (collection k vs)
-  headed-run k vs e end short shaped x = closed n (h .bytes ∙ ap (λ (j : ℕ). sets s at (heading n j)) e) end short shaped x
+  headed-run : {to : ℕ} (k : Kind) (vs : Items) → kind ≡ number k → at + n ≡ to → n ≤ mostBytes → Shaped k vs → ItemsAt s (at + 4) to vs → At t at (collection k vs)
+  headed-run k vs e end short shaped x = headed-collection n (h .bytes ∙ ap (λ (j : ℕ). sets s at (heading n j)) e) end short shaped x
 
-  pub headed-both : {p to : ℕ} (k : Kind) (us vs : Items) → kind ≡ number k → at + n ≡ to → n ≤ limit → Shaped k (join us vs)
+  pub headed-both : {p to : ℕ} (k : Kind) (us vs : Items) → kind ≡ number k → at + n ≡ to → n ≤ mostBytes → Shaped k (join us vs)
       → ItemsAt s (at + 4) p us → ItemsAt s p to vs → At t at (collection k (join us vs))
   headed-both k us vs e end short shaped x y =
       let f = x .ends in
@@ -74,15 +75,15 @@ retagged e h = record {
 -- ---- one item more
 
 module _ {s : List ℕ} {at p x : ℕ} (slot : Slot s at p x) {n m : ℕ} (en : n ≡ word s at) (em : m ≡ word s x) where
-  pub add-full : {kind : ℕ} → limit < n + m → AddsAt s s at p x kind TooLong
+  pub add-full : {kind : ℕ} → mostBytes < n + m → AddsAt s s at p x kind TooLong
   add-full h = record {
-    frame = outside-none s at (at + limit);
+    frame = outside-none s at (at + mostBytes);
     refused = λ e. refl;
     answers = added-long (word s at + word s x) (omega arith);
     made = λ k us ws v e. not-put e;
   }
 
-  pub add-gap : n + m ≤ limit → Gap s p (at + n) x
+  pub add-gap : n + m ≤ mostBytes → Gap s p (at + n) x
   add-gap h =
       let r = slot .room in
       let low = slot .low in
@@ -93,14 +94,14 @@ module _ {s : List ℕ} {at p x : ℕ} (slot : Slot s at p x) {n m : ℕ} (en : 
       go (inl b) = let low = slot .low in inl (omega arith)
       go (inr b) = inr (omega arith)
 
-  pub add-done : n + m ≤ limit → {t u : List ℕ} {kind : ℕ} → Fills s t p (at + n) x → PutHead t u at (n + m) kind → AddsAt s u at p x kind Put
+  pub add-done : n + m ≤ mostBytes → {t u : List ℕ} {kind : ℕ} → Fills s t p (at + n) x → PutHead t u at (n + m) kind → AddsAt s u at p x kind Put
   add-done h {t} {u} f q =
       let r = slot .room in
       let low = slot .low in
       let high = slot .high in
       let size-x = slot .item .low in
       record {
-        frame = outside-then at (at + limit) (omega arith) (omega arith) (omega arith) (omega arith) (f .frame) (q .outside);
+        frame = outside-then at (at + mostBytes) (omega arith) (omega arith) (omega arith) (omega arith) (f .frame) (q .outside);
         refused = λ e. not-long e;
         answers = added-put (word s at + word s x) (omega arith);
         made = λ k us ws v e d a b g shaped.
@@ -165,7 +166,7 @@ part-at {s} {at} {vs} {v} h (belongs q us ws e f g i) =
 module _ {s : List ℕ} {at x : ℕ} {sought : Sought} (f : Seeks s at x false sought) where
   pub inserted-here : (q : ℕ) → sought ≡ Here q → Inserts s s at x Put
   inserted-here q e = record {
-    frame = outside-none s at (at + limit);
+    frame = outside-none s at (at + mostBytes);
     refused = λ d. refl;
     right = λ vs v h g.
         let i = insert-present v vs (collection-shaped (h .fine)) (sym (contained f q e vs v h g)) in

@@ -1,6 +1,6 @@
 -- What the steps of building make of a map. Assumes nothing.
 use mathlib.Core.Path.{_≡_, refl, sym, ap, subst, _∙_}
-use mathlib.Core.Bool.{Bool, true, false}
+use mathlib.Core.Bool.{Bool, true, false, cond}
 use mathlib.Core.List.{List}
 use mathlib.Core.Logic.{_⊎_, inl, inr}
 use mathlib.Core.Option.{Option, none as absent, some}
@@ -8,60 +8,61 @@ use Prim.Native.Nat.{ℕ, _+_, _≤_, _<_}
 use native.Mathlib.Omega.{arith}
 use borrow.Author.Tests.{le-leb, lt-leb}
 use lib.Dec.{leb}
+use Rattle.prelude.proofs.Absurd.{impossible}
 use Rattle.integers.specs.Bytes.{word}
-use Rattle.values.specs.Value.{map, Value, collection, Items, more, size, sizes, Shaped, limit}
-use Rattle.values.specs.Items.{pick, join, same, lookup, enter}
+use Rattle.values.specs.Value.{map, Value, collection, Items, more, size, sizes, Shaped, mostBytes}
+use Rattle.values.specs.Items.{join, same, lookup, enter}
 use Rattle.values.specs.Place.{At, ItemsAt}
-use Rattle.values.specs.Laws.{same-true}
-use Rattle.values.specs.Encoding.{size-low, more-sizes, collection-size}
-use Rattle.values.specs.Records.{word-size, holds, collection-shaped}
-use Rattle.values.specs.Frame.{items-below, at-below, at-above, outside-then, outside-none}
+use Rattle.values.proofs.Order.{same-true}
+use Rattle.values.proofs.Encoding.{size-low, more-sizes, collection-size}
+use Rattle.values.proofs.Records.{word-size, holds, collection-shaped}
+use Rattle.values.proofs.Frame.{items-below, at-below, at-above, outside-then, outside-none}
 use Rattle.values.specs.Contract.{PutHead, Equal}
 use Rattle.collections.specs.declared.building.Entered.{Entered}
 use Rattle.collections.specs.declared.building.Entered.the-variants.{Done, Clash, Full}
 use Rattle.collections.specs.declared.finding.Sought.{Sought}
 use Rattle.collections.specs.declared.finding.Sought.the-variants.{Here, Before}
-use Rattle.collections.specs.Entries.{enter-present, sizes-enter, paired-enter, ascending-enter}
-use Rattle.collections.specs.Seeking.{Key, belongs}
+use Rattle.values.proofs.Entries.{enter-present, sizes-enter, paired-enter, ascending-enter}
+use Rattle.collections.proofs.Seeking.{Key, belongs}
 use Rattle.collections.specs.Finding.{Seeks}
-use Rattle.collections.specs.Building.{opened, entered, EntryRoom, Apart, Enters}
+use Rattle.collections.specs.Building.{opened, entryAnswer, EntryRoom, Apart, Enters}
 use Rattle.collections.specs.Steps.{Gap, Fills, Slot, EntersAt}
 use Rattle.collections.proofs.Sights.{key-sight, entry}
 use Rattle.collections.proofs.Additions.{headed-both, parts-at, slot-in, add-gap}
 
 -- ---- answers
 
-opened-done : (n : ℕ) → n ≤ limit → Done ≡ opened n
-opened-done n h = rw (le-leb n limit h)
+opened-done : (n : ℕ) → n ≤ mostBytes → Done ≡ opened n
+opened-done n h = rw (le-leb n mostBytes h)
 
-opened-full : (n : ℕ) → limit < n → Full ≡ opened n
-opened-full n h = rw (lt-leb n limit h)
+opened-full : (n : ℕ) → mostBytes < n → Full ≡ opened n
+opened-full n h = rw (lt-leb n mostBytes h)
 
 full-done : {X : Type 0} → Full ≡ Done → X
-full-done e = let z : _≡_ {A = ℕ} 0 1 = cc in absurd (omega arith)
+full-done e = impossible cc
 
 done-full : {X : Type 0} → Done ≡ Full → X
-done-full e = let z : _≡_ {A = ℕ} 0 1 = cc in absurd (omega arith)
+done-full e = impossible cc
 
 clash-done : {X : Type 0} → Clash ≡ Done → X
-clash-done e = let z : _≡_ {A = ℕ} 0 1 = cc in absurd (omega arith)
+clash-done e = impossible cc
 
-opened-clash : {X : Type 0} (b : Bool) → pick b Done Full ≡ Clash → X
-opened-clash true e = let z : _≡_ {A = ℕ} 0 1 = cc in absurd (omega arith)
-opened-clash false e = let z : _≡_ {A = ℕ} 0 1 = cc in absurd (omega arith)
+opened-clash : {X : Type 0} (b : Bool) → cond b Done Full ≡ Clash → X
+opened-clash true e = impossible cc
+opened-clash false e = impossible cc
 
 -- ---- one entry more
 
 module _ {s : List ℕ} {at p x y : ℕ} (key : Slot s at p x) (val : Slot s at p y) {n m l : ℕ} (en : n ≡ word s at) (em : m ≡ word s x) (el : l ≡ word s y) where
-  pub entry-full : limit < n + m + l → EntersAt s s at p x y Full
+  pub entry-full : mostBytes < n + m + l → EntersAt s s at p x y Full
   entry-full h = record {
-    frame = outside-none s at (at + limit);
+    frame = outside-none s at (at + mostBytes);
     refused = λ e. refl;
     answers = opened-full (word s at + word s x + word s y) (omega arith);
     made = λ us ws k v e. full-done e;
   }
 
-  module _ (h : n + m + l ≤ limit) where
+  module _ (h : n + m + l ≤ mostBytes) where
     pub value-gap : Gap s p (at + n) y
     value-gap = add-gap val en el (omega arith)
 
@@ -96,9 +97,9 @@ module _ {s : List ℕ} {at p x y : ℕ} (key : Slot s at p x) (val : Slot s at 
           let size-x = key .item .low in
           let kept = word-size (key-kept (key .item .value) (key .item .here)) in
           let was = word-size (key .item .here) in
-          let first = outside-then at (at + limit) (omega arith) (omega arith) (omega arith) (omega arith) (f .frame) (g .frame) in
+          let first = outside-then at (at + mostBytes) (omega arith) (omega arith) (omega arith) (omega arith) (f .frame) (g .frame) in
           record {
-            frame = outside-then at (at + limit) (omega arith) (omega arith) (omega arith) (omega arith) first (q .outside);
+            frame = outside-then at (at + mostBytes) (omega arith) (omega arith) (omega arith) (omega arith) first (q .outside);
             refused = λ e. done-full e;
             answers = opened-done (word s at + word s x + word s y) (omega arith);
             made = λ us ws k v e a b i j shaped.
@@ -142,7 +143,7 @@ module _ {s : List ℕ} {at x : ℕ} {sought : Sought} (f : Seeks s at x true so
 
     pub entered-same : b ≡ true → Enters s s at x y Done
     entered-same t = record {
-      frame = outside-none s at (at + limit);
+      frame = outside-none s at (at + mostBytes);
       clash = λ u. refl;
       full = λ u. refl;
       right = λ vs k v h g i.
@@ -151,7 +152,7 @@ module _ {s : List ℕ} {at x : ℕ} {sought : Sought} (f : Seeks s at x true so
           let u : same w v ≡ true = sym r ∙ t in
           let j = enter-present k v vs (shaped .0) (shaped .1) (o ∙ ap some (same-true w v u)) in
           record {
-            answers = sym (ap (λ (l : Option Value). entered l v (size (collection map (enter k v vs)))) o ∙ rw u);
+            answers = sym (ap (λ (l : Option Value). entryAnswer l v (size (collection map (enter k v vs)))) o ∙ rw u);
             made = λ u. rw j h;
             still = λ u. refl;
           };
@@ -159,14 +160,14 @@ module _ {s : List ℕ} {at x : ℕ} {sought : Sought} (f : Seeks s at x true so
 
     pub entered-clash : b ≡ false → Enters s s at x y Clash
     entered-clash t = record {
-      frame = outside-none s at (at + limit);
+      frame = outside-none s at (at + mostBytes);
       clash = λ u. refl;
       full = λ u. refl;
       right = λ vs k v h g i.
           let (w, o, r) = compared vs k v h g i in
           let u : same w v ≡ false = sym r ∙ t in
           record {
-            answers = sym (ap (λ (l : Option Value). entered l v (size (collection map (enter k v vs)))) o ∙ rw u);
+            answers = sym (ap (λ (l : Option Value). entryAnswer l v (size (collection map (enter k v vs)))) o ∙ rw u);
             made = λ u. clash-done u;
             still = λ u. refl;
           };
@@ -185,7 +186,7 @@ module _ {s : List ℕ} {at x : ℕ} {sought : Sought} (f : Seeks s at x true so
     pub entered-before : {y : ℕ} {t : List ℕ} {r : Entered} → EntersAt s t at q x y r → Enters s t at x y r
     entered-before {y} {t} {r} a = record {
       frame = a .frame;
-      clash = λ d. opened-clash (leb (word s at + word s x + word s y) limit) (sym (a .answers) ∙ d);
+      clash = λ d. opened-clash (leb (word s at + word s x + word s y) mostBytes) (sym (a .answers) ∙ d);
       full = a .refused;
       right = λ vs k v h g i.
           let z = parting h g in
@@ -199,7 +200,7 @@ module _ {s : List ℕ} {at x : ℕ} {sought : Sought} (f : Seeks s at x true so
           let still-map : Shaped map (enter k v vs) = (paired-enter k v vs (shaped .0), ascending-enter k v vs (shaped .0) (shaped .1)) in
           let total : word s at + word s x + word s y ≡ size (collection map (enter k v vs)) = omega arith in
           record {
-            answers = a .answers ∙ ap opened total ∙ sym (ap (λ (l : Option Value). entered l v (size (collection map (enter k v vs)))) (z .new));
+            answers = a .answers ∙ ap opened total ∙ sym (ap (λ (l : Option Value). entryAnswer l v (size (collection map (enter k v vs)))) (z .new));
             made = λ d.
                 rw (z .is v)
                 (a .made (z .us) (z .ws) k v d (z .us-at) (z .ws-at) g i (rw (z .is v) at still-map));

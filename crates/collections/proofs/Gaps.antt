@@ -8,13 +8,13 @@ use lib.ListN.{take, drop}
 use Rattle.integers.specs.Bytes.{word}
 use Rattle.values.specs.Value.{Value, size, sizes}
 use Rattle.values.specs.Place.{At, ItemsAt}
-use Rattle.values.specs.Records.{word-size, holds, more-of}
-use Rattle.values.specs.Frame.{items-moved, items-above, at-below, at-above, word-below, word-above, outside-then}
+use Rattle.values.proofs.Records.{word-size, holds, more-of}
+use Rattle.values.proofs.Frame.{items-moved, items-above, at-below, at-above, word-below, word-above, outside-then}
 use Rattle.values.specs.Contract.{Moved, Copyable, Copied}
 use Rattle.collections.specs.Steps.{Gap, Fills}
 
 module _ {s t : List ℕ} {p end x : ℕ} (gap : Gap s p end x) (n : ℕ) (is : n ≡ word s x) (m : Moved s t p (p + n) (end - p)) where
-  pub gap-word : word t x ≡ word s x
+  gap-word : word t x ≡ word s x
   gap-word = go (gap .apart)
     where
       go : (x + word s x ≤ p) ⊎ (end + word s x ≤ x) → word t x ≡ word s x

@@ -1,7 +1,11 @@
+-- What callers make of the promises, and what the proofs of the functions need.
+pub mod Shown
+pub mod Built
+mod Seeking
 mod Shifting
-mod Walks
-mod Looking
-mod Sights
-mod Gaps
 mod Additions
+mod Sights
 mod Entering
+mod Gaps
+mod Looking
+mod Walks

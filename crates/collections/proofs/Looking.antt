@@ -9,15 +9,14 @@ use Rattle.integers.specs.declared.Order.the-variants.{Higher}
 use Rattle.values.specs.Value.{Value, Items, more, size, order}
 use Rattle.values.specs.Items.{inOrder}
 use Rattle.values.specs.Place.{At}
-use Rattle.values.specs.Records.{word-size}
+use Rattle.values.proofs.Records.{word-size}
 use Rattle.values.specs.Contract.{Ordered}
 use Rattle.collections.specs.declared.finding.Sought.{Sought}
 use Rattle.collections.specs.declared.finding.Sought.the-variants.{Here, Before}
-use Rattle.collections.specs.Seeking.{seek}
-use Rattle.collections.specs.Finding.{Seeks}
+use Rattle.collections.specs.Finding.{seek, Seeks}
 use Rattle.collections.proofs.Walks.{Walk, walk-start, walk-step, walk-end, first-left}
 
-abbrev pub Look : List ℕ → ℕ → ℕ → Bool → ℕ → Bool → Items → Items → Type 0
+abbrev Look : List ℕ → ℕ → ℕ → Bool → ℕ → Bool → Items → Items → Type 0
 Look s at x entries p key vs rest = (v : Value) → At s x v → seek entries true v vs (at + 4) ≡ seek entries key v rest p
 
 abbrev pub Looking : List ℕ → ℕ → ℕ → Bool → ℕ → Bool → Type 0

@@ -6,7 +6,7 @@ use native.Mathlib.Omega.{arith}
 use lib.ListN.{length, getD, take, drop, set, length-set}
 use lib.Seq.{drop-cons, getD-set-same, drop-set-lt, take-set-le}
 use Rattle.values.specs.Place.{Outside}
-use Rattle.values.specs.Frame.{outside-none, below-less, byte-below}
+use Rattle.values.proofs.Frame.{outside-none, below-less, byte-below}
 use Rattle.values.specs.Contract.{Moved}
 
 pub record Shifting (s₀ s : List ℕ) (at to n i : ℕ) : Type 0 where

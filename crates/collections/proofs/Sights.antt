@@ -6,18 +6,15 @@ use mathlib.Core.Option.{none as absent, some}
 use Prim.Native.Nat.{ℕ, _+_, _≤_}
 use native.Mathlib.Omega.{arith}
 use Rattle.integers.specs.Bytes.{word}
-use Rattle.values.specs.Value.{Kind, set, map, Value, Items, more, collection, size, sizes}
+use Rattle.values.specs.Value.{set, map, Value, Items, more, collection, size, sizes}
 use Rattle.values.specs.Items.{isMember, join, lookup}
 use Rattle.values.specs.Place.{At, ItemsAt}
-use Rattle.values.specs.Records.{word-size, collection-shaped, items-of, parted, first-of}
+use Rattle.values.proofs.Records.{word-size, collection-shaped, items-of, parted, first-of}
 use Rattle.collections.specs.declared.finding.Found.the-variants.{At as Place, Nothing}
 use Rattle.collections.specs.declared.finding.Sought.{Sought}
 use Rattle.collections.specs.declared.finding.Sought.the-variants.{Here, Before}
-use Rattle.collections.specs.Seeking.{Member, Key, present, belongs, seek-member, seek-key}
-use Rattle.collections.specs.Finding.{HoldsKind, HoldsCollection, Seeks, Within, found, missing, Contains, AtKey}
-
-pub some-kind : {k : Kind} {s : List ℕ} {at : ℕ} → HoldsKind k s at → HoldsCollection s at
-some-kind {k} h = record { kind = k; items = h .items; here = h .here }
+use Rattle.collections.proofs.Seeking.{Member, Key, present, belongs, seek-member, seek-key}
+use Rattle.collections.specs.Finding.{Seeks, FindsIn, found, missing, Contains, AtKey}
 
 -- ---- in a set
 
@@ -84,10 +81,10 @@ module _ {s : List ℕ} {at x : ℕ} {r : Sought} (f : Seeks s at x true r) (q :
       let low = y .from in
       let high = y .to in
       let z = word-size h in
-      rw d (subst (Within s at (collection map vs) (Place (q + word s q))) (sym (y .looked)) (found (y .value-at) (omega arith) (omega arith)))
+      rw d (subst (FindsIn s at (collection map vs) (Place (q + word s q))) (sym (y .looked)) (found (y .value-at) (omega arith) (omega arith)))
 
   pub no-key : r ≡ Before q → AtKey s at x Nothing
-  no-key e vs v h g = subst (Within s at (collection map vs) Nothing) (go (subst (Key v vs (at + 4)) e (key-sight f h g))) missing
+  no-key e vs v h g = subst (FindsIn s at (collection map vs) Nothing) (go (subst (Key v vs (at + 4)) e (key-sight f h g))) missing
     where
       go : {q : ℕ} → Key v vs (at + 4) (Before q) → absent ≡ lookup v vs
       go (belongs q us ws d i j k) = sym d

@@ -8,9 +8,9 @@ use Rattle.integers.specs.Bytes.{word}
 use Rattle.values.specs.Value.{Kind, Value, Items, none, more, collection}
 use Rattle.values.specs.Items.{nth}
 use Rattle.values.specs.Place.{At, ItemsAt}
-use Rattle.values.specs.Records.{run, word-size, items-to, items-none}
+use Rattle.values.proofs.Records.{uncons, word-size, items-to, items-none}
 use Rattle.collections.specs.declared.finding.Found.the-variants.{At as Place, Nothing}
-use Rattle.collections.specs.Finding.{HoldsCollection, Within, found, missing, Item}
+use Rattle.collections.specs.Finding.{HoldsCollection, FindsIn, found, missing, Item}
 
 -- the items from p on are left, and P holds of them
 pub record Left (s : List ℕ) (at : ℕ) (P : Items → Type 0) (p : ℕ) : Type 0 where
@@ -39,7 +39,7 @@ pub record First (s : List ℕ) (at : ℕ) (P : Items → Type 0) (p : ℕ) : Ty
 
 pub first-left : {s : List ℕ} {at : ℕ} {P : Items → Type 0} {p : ℕ} → p < at + word s at → Left s at P p → First s at P p
 first-left {P = P} lt l =
-    let y = run lt (l .here) in
+    let y = uncons lt (l .here) in
     record {
       first = y .first;
       rest = y .rest;
@@ -85,8 +85,8 @@ item-found {s} {at} {p} k left w lt z kind vs h =
     let i = y .inside in
     let n = word-size h in
     let l = word-size (y .first-at) in
-    subst (Within s at (collection kind vs) (Place p)) e (found (y .first-at) m (omega arith))
+    subst (FindsIn s at (collection kind vs) (Place p)) e (found (y .first-at) m (omega arith))
 
 pub item-missing : {s : List ℕ} {at p : ℕ} (k left : ℕ) → Walk s at (λ (vs rest : Items). nth vs k ≡ nth rest left) p → at + word s at ≤ p → Item s at k Nothing
 unfolding nth
-item-missing {s} {at} k left w le kind vs h = subst (Within s at (collection kind vs) Nothing) (sym (walk-end w le kind vs h)) missing
+item-missing {s} {at} k left w le kind vs h = subst (FindsIn s at (collection kind vs) Nothing) (sym (walk-end w le kind vs h)) missing

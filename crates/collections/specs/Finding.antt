@@ -1,16 +1,16 @@
 -- What finding in collections asks and answers.
-use mathlib.Core.Path.{_≡_, refl, subst}
-use mathlib.Core.Bool.{Bool, true}
+use mathlib.Core.Path.{_≡_}
+use mathlib.Core.Bool.{Bool, true, false, not}
 use mathlib.Core.List.{List}
 use mathlib.Core.Option.{Option, none as absent, some}
 use Prim.Native.Nat.{ℕ, _+_, _≤_}
-use Rattle.values.specs.Value.{Kind, set, map, Value, collection, Items, count, size}
-use Rattle.values.specs.Items.{isMember, nth, lookup}
+use Rattle.values.specs.Value.{Kind, set, map, Value, collection, Items, none, more, count, size, order}
+use Rattle.values.specs.Items.{isMember, nth, lookup, inOrder}
 use Rattle.values.specs.Place.{At}
 use Rattle.collections.specs.declared.finding.Found.{Found}
 use Rattle.collections.specs.declared.finding.Found.the-variants.{At as Place, Nothing}
 use Rattle.collections.specs.declared.finding.Sought.{Sought}
-use Rattle.collections.specs.Seeking.{seek}
+use Rattle.collections.specs.declared.finding.Sought.the-variants.{Here, Before}
 
 -- ---- what is asked
 
@@ -27,6 +27,13 @@ pub record HoldsCollection (s : List ℕ) (at : ℕ) : Type 0 where
 
 -- ---- what is answered
 
+-- The first item, from a place on, that is not lower than v. Of entries only the keys are looked at: `key` says that the next item is one.
+-- (Among members each item counts as one.)
+unfoldable pub seek : Bool → Bool → Value → Items → ℕ → Sought
+seek entries key v none p = Before p
+seek entries true v (more w ws) p = inOrder (order v w) (Before p) (Here p) (seek entries (not entries) v ws (p + size w))
+seek entries false v (more w ws) p = seek entries true v ws (p + size w)
+
 -- r is where the value at x stands or belongs, among members or, of entries, among keys
 abbrev pub Seeks : List ℕ → ℕ → ℕ → Bool → Sought → Type 0
 Seeks s at x entries r = (kind : Kind) (vs : Items) (v : Value) → At s at (collection kind vs) → At s x v → r ≡ seek entries true v vs (at + 4)
@@ -36,29 +43,9 @@ pub data Finds (s : List ℕ) (from to : ℕ) : Found → Option Value → Type 
   found : {p : ℕ} {v : Value} → At s p v → from ≤ p → p + size v ≤ to → Finds s from to (Place p) (some v)
   missing : Finds s from to Nothing absent
 
--- What a place that was found says, and what its lack says.
-pub record Shown (s : List ℕ) (from to p : ℕ) (o : Option Value) : Type 0 where
-  pub value : Value
-  pub is : o ≡ some value
-  pub here : At s p value
-  pub low : from ≤ p
-  pub high : p + size value ≤ to
-
-shown : {s : List ℕ} {from to p : ℕ} {o : Option Value} → Finds s from to (Place p) o → Shown s from to p o
-shown (found {v = v} h low high) = record { value = v; is = refl; here = h; low = low; high = high }
-
-pub found-at : {s : List ℕ} {from to p : ℕ} {r : Found} {o : Option Value} → Finds s from to r o → r ≡ Place p → Shown s from to p o
-found-at {s} {from} {to} {p} {r} {o} f e = shown (subst (λ (q : Found). Finds s from to q o) e f)
-
-lacking : {s : List ℕ} {from to : ℕ} {o : Option Value} → Finds s from to Nothing o → o ≡ absent
-lacking missing = refl
-
-pub found-nothing : {s : List ℕ} {from to : ℕ} {r : Found} {o : Option Value} → Finds s from to r o → r ≡ Nothing → o ≡ absent
-found-nothing {s} {from} {to} {r} {o} f e = lacking (subst (λ (q : Found). Finds s from to q o) e f)
-
 -- The record is one of those within the collection at a place.
-abbrev pub Within : List ℕ → ℕ → Value → Found → Option Value → Type 0
-Within s at w r o = Finds s (at + 4) (at + size w) r o
+abbrev pub FindsIn : List ℕ → ℕ → Value → Found → Option Value → Type 0
+FindsIn s at w r o = Finds s (at + 4) (at + size w) r o
 
 -- r says whether the value at x is a member of the set
 abbrev pub Contains : List ℕ → ℕ → ℕ → Bool → Type 0
@@ -66,11 +53,11 @@ Contains s at x r = (vs : Items) (v : Value) → At s at (collection set vs) →
 
 -- r is the place of what stands, in the map, at the key that stands at k
 abbrev pub AtKey : List ℕ → ℕ → ℕ → Found → Type 0
-AtKey s at k r = (vs : Items) (v : Value) → At s at (collection map vs) → At s k v → Within s at (collection map vs) r (lookup v vs)
+AtKey s at k r = (vs : Items) (v : Value) → At s at (collection map vs) → At s k v → FindsIn s at (collection map vs) r (lookup v vs)
 
 -- r is the place of the k-th item
 abbrev pub Item : List ℕ → ℕ → ℕ → Found → Type 0
-Item s at k r = (kind : Kind) (vs : Items) → At s at (collection kind vs) → Within s at (collection kind vs) r (nth vs k)
+Item s at k r = (kind : Kind) (vs : Items) → At s at (collection kind vs) → FindsIn s at (collection kind vs) r (nth vs k)
 
 -- r is the number of items
 abbrev pub Counted : List ℕ → ℕ → ℕ → Type 0

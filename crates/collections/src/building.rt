@@ -9,13 +9,6 @@ ghost use Rattle.collections.specs.Finding.{HoldsCollection};
 ghost use Rattle.collections.specs.Building.{Room, EntryRoom, Empties, Retags, Appends, Inserts, Enters};
 ghost use Rattle.collections.specs.Steps.{Gap, Fills, Slot, AddsAt, EntersAt};
 
-// The kinds of collections that are built.
-const SET: usize = 3;
-
-const SEQUENCE: usize = 4;
-
-const MAP: usize = 5;
-
 // What adding an item comes to.
 pub enum Added {
     Done,
@@ -80,7 +73,7 @@ fn add_entry(s: &mut [u8], at: usize, p: usize, k: usize, v: usize) -> Entered
     }
     put_before(s, p, at + n, v);
     put_before(s, p, at + n + l, k);
-    values::put_head(s, at, n + m + l, MAP);
+    values::put_head(s, at, n + m + l, Value::MAP);
     Entered::Done
 }
 
@@ -89,7 +82,7 @@ pub fn put_empty(s: &mut [u8], at: usize, kind: usize)
     requires { ⌜ (at + 4 ≤ length (now s)) × (kind < 65536) ⌝ }
     ensures { λ _. ⌜ Empties (now (s .entry)) (now (s .exit)) at kind ⌝ }
 {
-    values::put_head(s, at, 4, kind);
+    values::put_head(s, at, Value::HEAD, kind);
 }
 
 // The collection at a place becomes one of another kind, with the same items.
@@ -107,7 +100,7 @@ pub fn append(s: &mut [u8], at: usize, x: usize) -> Added
     ensures { λ r. ⌜ Appends (now (s .entry)) (now (s .exit)) at x r ⌝ }
 {
     let n = values::length_of(s, at);
-    add(s, at, at + n, x, SEQUENCE)
+    add(s, at, at + n, x, Value::SEQUENCE)
 }
 
 // The member at x goes, in order, into the set at a place.
@@ -117,7 +110,7 @@ pub fn insert(s: &mut [u8], at: usize, x: usize) -> Added
 {
     match crate::finding::seek(s, at, x, false) {
         Sought::Here(_) => Added::Done,
-        Sought::Before(p) => add(s, at, p, x, SET),
+        Sought::Before(p) => add(s, at, p, x, Value::SET),
     }
 }
 

@@ -1,5 +1,6 @@
 // Finding in collections: members, what stands at a key, items by their number, and how many there are.
 use integers::Order;
+use values::Value;
 ghost use Rattle.values.specs.Value.{set, map};
 ghost use Rattle.values.specs.Place.{Holds};
 ghost use Rattle.collections.specs.Finding.{HoldsKind, HoldsCollection, Seeks, Contains, AtKey, Item, Counted};
@@ -22,7 +23,7 @@ pub fn seek(s: &[u8], at: usize, x: usize, entries: bool) -> Sought
     ensures { λ r. ⌜ Seeks (now (s .entry)) at x entries r ⌝ }
 {
     let end = at + values::length_of(s, at);
-    let mut p = at + 4;
+    let mut p = at + Value::HEAD;
     let mut key = true;
     while p < end {
         if key {
@@ -72,7 +73,7 @@ pub fn item_at(s: &[u8], at: usize, k: usize) -> Found
     ensures { λ r. ⌜ Item (now (s .entry)) at k r ⌝ }
 {
     let end = at + values::length_of(s, at);
-    let mut p = at + 4;
+    let mut p = at + Value::HEAD;
     let mut left = k;
     while p < end {
         if left == 0 {
@@ -90,7 +91,7 @@ pub fn count_of(s: &[u8], at: usize) -> usize
     ensures { λ r. ⌜ Counted (now (s .entry)) at r ⌝ }
 {
     let end = at + values::length_of(s, at);
-    let mut p = at + 4;
+    let mut p = at + Value::HEAD;
     let mut n = 0;
     while p < end {
         n += 1;

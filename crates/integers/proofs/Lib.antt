@@ -1,3 +1,10 @@
-pub mod Machine
-pub mod Rest
-pub mod Signed
+-- Laws of the definitions, which crates above cite, and of the machine's arithmetic.
+pub mod Range
+pub mod Parts
+pub mod Division
+pub mod Ordered
+pub mod Written
+mod Sample
+mod Signed
+mod Machine
+mod Rest

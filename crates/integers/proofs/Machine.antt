@@ -10,10 +10,10 @@ use lib.Signed.{mag, ltZ, quotZ, remZ, mag-rem, natAbs-le}
 use mir.Syntax.{w32, w64}
 use mir.Val.{SFits, toZ, ofZ}
 use mir.Facts.{toZ-ofZ, sfits-widen}
+use Rattle.prelude.proofs.Absurd.{never}
 use Rattle.integers.specs.Whole.{divℤ}
-use Rattle.integers.specs.Range.{never}
-use Rattle.integers.specs.Parts.{sub-ind}
-use Rattle.integers.specs.Division.{natAbs-neg}
+use Rattle.integers.proofs.Parts.{sub-ind}
+use Rattle.integers.proofs.Division.{natAbs-neg}
 
 -- ---- how large a result can be
 
@@ -69,7 +69,7 @@ module _ (x y : ℤ) (fx : SFits w32 x) (fy : SFits w32 y) where
 pub rest-fits : (x y : ℤ) → SFits w32 x → SFits w32 (remZ x y)
 rest-fits x y f = omega (arith, mag-rem x y)
 
-pub neg-fits : (x : ℤ) → SFits w32 x → SFits w64 (negℤ x)
+neg-fits : (x : ℤ) → SFits w32 x → SFits w64 (negℤ x)
 neg-fits x f = omega (arith, mag-neg x)
 
 -- ---- an integer of 32 bits, widened

@@ -1,7 +1,7 @@
 -- The rest that `floor_rest` finds, by its tests of the machine's rest and of the divisor.
 use mathlib.Core.Path.{_≡_, refl, sym, ap, _∙_}
 use mathlib.Core.Bool.{true, false}
-use Prim.Native.Nat.{ℕ, zero, suc, _+_}
+use Prim.Native.Nat.{ℕ, zero, suc}
 use native.Mathlib.Omega.{arith}
 use borrow.Author.Tests.{ltb-true, ltb-false}
 use lib.Dec.{ltb}
@@ -10,9 +10,9 @@ use lib.Signed.{ltZ, remZ}
 use mir.Syntax.{w32, w64}
 use mir.Val.{SFits, toZ, ofZ}
 use mir.Facts.{toZ-ofZ}
+use Rattle.prelude.proofs.Absurd.{never}
 use Rattle.integers.specs.Whole.{modℤ}
-use Rattle.integers.specs.Range.{never}
-use Rattle.integers.specs.Division.{turned, mod-turned}
+use Rattle.integers.proofs.Division.{turned, mod-turned}
 use Rattle.integers.proofs.Machine.{widened, widen-is, wide-is, rem-fits, rest-fits, add-fits}
 
 -- ---- `turned`, test by test

@@ -1,9 +1,4 @@
+-- The integers of a sheet and what each operation answers, their order, and numbers as bytes. Cited by values, tables and operators.
 pub mod Whole
-pub mod Sample
-pub mod Range
-pub mod Parts
-pub mod Division
 pub mod Order
-pub mod Ordered
 pub mod Bytes
-pub mod Written

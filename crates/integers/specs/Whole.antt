@@ -1,6 +1,6 @@
 -- The integers of a sheet: their range, and what each operation on them answers.
 use mathlib.Core.Path.{_≡_}
-use mathlib.Core.Bool.{Bool, true, false, _&&_}
+use mathlib.Core.Bool.{Bool, true, _&&_, cond}
 use Prim.Native.Nat.{ℕ, zero, suc, _/_}
 use lib.IntN.{ℤ, pos, negsuc, negℤ, natAbs, _+ℤ_, _-ℤ_, _*ℤ_}
 use lib.Signed.{leZ}
@@ -9,14 +9,14 @@ use Rattle.integers.specs.declared.Number.the-variants.{Is, OutOfRange, 
 
 -- ---- the range, named here and nowhere else
 
-abbrev pub least : ℤ
-least = negℤ (pos 2147483648)
+abbrev pub leastInteger : ℤ
+leastInteger = negℤ (pos 2147483648)
 
-abbrev pub greatest : ℤ
-greatest = pos 2147483647
+abbrev pub greatestInteger : ℤ
+greatestInteger = pos 2147483647
 
 abbrev pub inRange : ℤ → Bool
-inRange z = leZ least z && leZ z greatest
+inRange z = leZ leastInteger z && leZ z greatestInteger
 
 abbrev pub InRange : ℤ → Type 0
 InRange z = inRange z ≡ true
@@ -24,24 +24,20 @@ InRange z = inRange z ≡ true
 -- ---- answers
 
 -- the number of each: 0, 21 (integer out of range) or 22 (div, rem or mod by 0)
-abbrev pub refusal : Number → ℕ
-refusal (Is z) = 0
-refusal OutOfRange = 21
-refusal ByZero = 22
+abbrev pub refusalOf : Number → ℕ
+refusalOf (Is z) = 0
+refusalOf OutOfRange = 21
+refusalOf ByZero = 22
 
-abbrev pub pick : Bool → Number → Number → Number
-pick true x y = x
-pick false x y = y
-
--- a whole number that an operation gives
-unfoldable pub answer : ℤ → Number
-answer z = pick (inRange z) (Is z) OutOfRange
+-- a whole number that an operation gives, where it is in range
+unfoldable pub ranged : ℤ → Number
+ranged z = cond (inRange z) (Is z) OutOfRange
 
 -- a whole number that a division by `right` gives: of 0, none
 abbrev pub divided : ℤ → ℤ → Number
 divided (pos zero) z = ByZero
-divided (pos (suc n)) z = answer z
-divided (negsuc n) z = answer z
+divided (pos (suc n)) z = ranged z
+divided (negsuc n) z = ranged z
 
 -- ---- the two quotients, where `right` is not 0
 
@@ -69,26 +65,26 @@ modℤ left right = left -ℤ right *ℤ floorℤ left right
 
 -- ---- the operations
 
-abbrev pub sum : ℤ → ℤ → Number
-sum left right = answer (left +ℤ right)
+abbrev pub sumOf : ℤ → ℤ → Number
+sumOf left right = ranged (left +ℤ right)
 
-abbrev pub difference : ℤ → ℤ → Number
-difference left right = answer (left -ℤ right)
+abbrev pub differenceOf : ℤ → ℤ → Number
+differenceOf left right = ranged (left -ℤ right)
 
-abbrev pub product : ℤ → ℤ → Number
-product left right = answer (left *ℤ right)
+abbrev pub productOf : ℤ → ℤ → Number
+productOf left right = ranged (left *ℤ right)
 
-abbrev pub quotient : ℤ → ℤ → Number
-quotient left right = divided right (divℤ left right)
+abbrev pub quotientOf : ℤ → ℤ → Number
+quotientOf left right = divided right (divℤ left right)
 
-abbrev pub remainder : ℤ → ℤ → Number
-remainder left right = divided right (remℤ left right)
+abbrev pub remainderOf : ℤ → ℤ → Number
+remainderOf left right = divided right (remℤ left right)
 
-abbrev pub modulus : ℤ → ℤ → Number
-modulus left right = divided right (modℤ left right)
+abbrev pub modulusOf : ℤ → ℤ → Number
+modulusOf left right = divided right (modℤ left right)
 
-abbrev pub negation : ℤ → Number
-negation z = answer (negℤ z)
+abbrev pub negationOf : ℤ → Number
+negationOf z = ranged (negℤ z)
 
-abbrev pub absolute : ℤ → Number
-absolute z = answer (pos (natAbs z))
+abbrev pub absoluteOf : ℤ → Number
+absoluteOf z = ranged (pos (natAbs z))

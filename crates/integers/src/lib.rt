@@ -2,7 +2,7 @@
 ghost use mathlib.Core.Path.{_≡_};
 ghost use lib.IntN.{pos};
 ghost use lib.Signed.{ltZ};
-ghost use Rattle.integers.specs.Whole.{answer, modℤ, sum, difference, product, quotient, remainder, modulus, negation, absolute};
+ghost use Rattle.integers.specs.Whole.{ranged, modℤ, sumOf, differenceOf, productOf, quotientOf, remainderOf, modulusOf, negationOf, absoluteOf};
 ghost use Rattle.integers.specs.Order.{orderℕ, orderℤ};
 
 pub mod bytes;
@@ -30,7 +30,7 @@ pub enum Order {
 
 // An exact result as an answer. 64 bits hold the exact result of every operation.
 fn settle(z: i64) -> Number
-    ensures { λ r. ⌜ r ≡ answer z ⌝ }
+    ensures { λ r. ⌜ r ≡ ranged z ⌝ }
 {
     if z < Number::LEAST {
         return Number::OutOfRange;
@@ -43,28 +43,28 @@ fn settle(z: i64) -> Number
 
 // left + right
 pub fn add(left: i32, right: i32) -> Number
-    ensures { λ r. ⌜ r ≡ sum left right ⌝ }
+    ensures { λ r. ⌜ r ≡ sumOf left right ⌝ }
 {
     settle(left as i64 + right as i64)
 }
 
 // left − right
 pub fn sub(left: i32, right: i32) -> Number
-    ensures { λ r. ⌜ r ≡ difference left right ⌝ }
+    ensures { λ r. ⌜ r ≡ differenceOf left right ⌝ }
 {
     settle(left as i64 - right as i64)
 }
 
 // left × right
 pub fn mul(left: i32, right: i32) -> Number
-    ensures { λ r. ⌜ r ≡ product left right ⌝ }
+    ensures { λ r. ⌜ r ≡ productOf left right ⌝ }
 {
     settle(left as i64 * right as i64)
 }
 
 // left div right, which cuts toward zero
 pub fn div(left: i32, right: i32) -> Number
-    ensures { λ r. ⌜ r ≡ quotient left right ⌝ }
+    ensures { λ r. ⌜ r ≡ quotientOf left right ⌝ }
 {
     if right == 0 {
         return Number::ByZero;
@@ -74,7 +74,7 @@ pub fn div(left: i32, right: i32) -> Number
 
 // left rem right, which has the dividend's sign
 pub fn rem(left: i32, right: i32) -> Number
-    ensures { λ r. ⌜ r ≡ remainder left right ⌝ }
+    ensures { λ r. ⌜ r ≡ remainderOf left right ⌝ }
 {
     if right == 0 {
         return Number::ByZero;
@@ -106,7 +106,7 @@ fn floor_rest(left: i32, right: i32) -> i64
 
 // left mod right, which has the divisor's sign
 pub fn modulo(left: i32, right: i32) -> Number
-    ensures { λ r. ⌜ r ≡ modulus left right ⌝ }
+    ensures { λ r. ⌜ r ≡ modulusOf left right ⌝ }
 {
     if right == 0 {
         return Number::ByZero;
@@ -116,14 +116,14 @@ pub fn modulo(left: i32, right: i32) -> Number
 
 // −z
 pub fn neg(z: i32) -> Number
-    ensures { λ r. ⌜ r ≡ negation z ⌝ }
+    ensures { λ r. ⌜ r ≡ negationOf z ⌝ }
 {
     settle(-(z as i64))
 }
 
 // abs z
 pub fn abs(z: i32) -> Number
-    ensures { λ r. ⌜ r ≡ absolute z ⌝ }
+    ensures { λ r. ⌜ r ≡ absoluteOf z ⌝ }
 {
     if z < 0 {
         return settle(-(z as i64));

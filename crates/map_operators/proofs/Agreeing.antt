@@ -1,29 +1,31 @@
 -- The loop of `compatible`: the maps agree on the entries passed. Assumes nothing.
 use mathlib.Core.Path.{_≡_, refl, sym, ap, ap₂, subst, _∙_}
-use mathlib.Core.Bool.{Bool, true, false, _&&_}
+use mathlib.Core.Bool.{Bool, true, false, _&&_, cond}
 use mathlib.Core.List.{List}
 use mathlib.Core.Option.{Option}
 use Prim.Native.Nat.{ℕ, _+_, _≤_, _<_}
 use native.Mathlib.Omega.{arith}
+use Rattle.prelude.proofs.Truth.{cond-true, cond-false}
 use Rattle.integers.specs.Bytes.{word}
 use Rattle.values.specs.Value.{map, Value, Items, Paired}
-use Rattle.values.specs.Items.{pick}
 use Rattle.values.specs.Place.{ItemsAt, Holds}
 use Rattle.values.specs.Contract.{Equal}
-use Rattle.values.specs.Records.{holds, items-to, items-none, collection-shaped}
+use Rattle.values.proofs.Records.{holds, items-to, items-none, collection-shaped}
 use Rattle.collections.specs.declared.finding.Found.{Found}
 use Rattle.collections.specs.declared.finding.Found.the-variants.{At as Place, Nothing}
-use Rattle.collections.specs.Members.{pick-true, pick-false}
-use Rattle.collections.specs.Finding.{AtKey, found-at, found-nothing}
+use Rattle.collections.specs.Finding.{AtKey}
+use Rattle.collections.proofs.Shown.{found-at, found-nothing}
 use Rattle.operators.specs.Answer.{Answer, refused, clash, sized}
 use Rattle.operators.specs.Gather.{everyEntry, enterAll}
 use Rattle.operators.specs.Maps.{agrees, compatible}
-use Rattle.scalars.specs.declared.Applied.{Applied}
-use Rattle.scalars.specs.declared.Applied.the-variants.{Refused}
-use Rattle.scalars.specs.Applied.{Applies}
-use Rattle.sequence_operators.specs.Kinds.{HasTwo, OnBoth, same-items, both-by, both-off}
+use Rattle.calling.specs.Scratch.{second}
+use Rattle.calling.specs.declared.Applied.{Applied}
+use Rattle.calling.specs.declared.Applied.the-variants.{Refused}
+use Rattle.calling.specs.Applied.{Applies}
+use Rattle.calling.specs.Operands.{HasTwo, OnBoth}
+use Rattle.calling.proofs.Kinding.{same-items, both-by, both-off}
 use Rattle.map_operators.specs.Contract.{Beside, Agrees, Compatible}
-use Rattle.map_operators.proofs.Pairs.{Next, next}
+use Rattle.map_operators.proofs.Pairs.{NextEntry, next-entry}
 
 -- ---- one entry
 
@@ -50,20 +52,19 @@ pub record Agreeing (s : List ℕ) (base end p : ℕ) : Type 0 where
 from-items : {s : List ℕ} {base : ℕ} {r : Bool} (h : HasTwo map map s base) → r ≡ compatible (h .left .items) (h .right .items) → Compatible s base r
 from-items h e vs ws a b = e ∙ ap₂ compatible (same-items (h .left .here) a) (same-items (h .right .here) b)
 
-pub agree-start : {s : List ℕ} {base n : ℕ} → n ≡ word s (base + 512) → HasTwo map map s base → Agreeing s base (base + 512 + n) (base + 516)
+pub agree-start : {s : List ℕ} {base n : ℕ} → n ≡ word s (base + second) → HasTwo map map s base → Agreeing s base (base + second + n) (base + second + 4)
 agree-start {s} {base} {n} e h =
-    let place : base + 512 + 4 ≡ base + 516 = omega arith in
     record {
       maps = h;
       rest = h .right .items;
       paired = collection-shaped (h .right .here .fine) .0;
-      rest-at = subst (λ (i : ℕ). ItemsAt s i (base + 512 + n) (h .right .items)) place (items-to e (h .right .here));
+      rest-at = items-to e (h .right .here);
       so = refl;
     }
 
 module _ {s : List ℕ} {base end p m : ℕ} (w : Agreeing s base end p) (lt : p < end) (e : m ≡ word s p) where
-  pub agree-next : {l : ℕ} → l ≡ word s (p + m) → Next s p m l end (w .rest)
-  agree-next d = next lt e d (w .rest-at) (w .paired)
+  pub agree-next : {l : ℕ} → l ≡ word s (p + m) → NextEntry s p m l end (w .rest)
+  agree-next d = next-entry lt e d (w .rest-at) (w .paired)
 
   pub agree-beside : Beside map s base p (p + m)
   agree-beside = let y = agree-next refl in record { held = w .maps .left; key = holds (y .key-at); value = holds (y .value-at) }
@@ -101,7 +102,7 @@ abbrev pub over : Items → Items → Answer
 over vs ws = sized map (enterAll vs ws)
 
 abbrev pub merged : Items → Items → Answer
-merged vs ws = pick (compatible vs ws) (over vs ws) (refused clash)
+merged vs ws = cond (compatible vs ws) (over vs ws) (refused clash)
 
 module _ {s : List ℕ} {base : ℕ} {r : Bool} (h : HasTwo map map s base) (c : Compatible s base r) where
   pub merge-done : {t : List ℕ} {q : Applied} → r ≡ true → OnBoth map map over s t base q → OnBoth map map merged s t base q
@@ -111,7 +112,7 @@ module _ {s : List ℕ} {base : ℕ} {r : Bool} (h : HasTwo map map s base) (c :
       let a = h .left .here in
       let b = h .right .here in
       both-by {f = merged} (o .kept) a b
-      (subst (λ (x : Answer). Applies t base q x) (sym (pick-true (compatible vs ws) (over vs ws) (refused clash) (sym (c vs ws a b) ∙ e))) (o .right vs ws a b))
+      (subst (λ (x : Answer). Applies t base q x) (sym (cond-true (compatible vs ws) (over vs ws) (refused clash) (sym (c vs ws a b) ∙ e))) (o .right vs ws a b))
 
   pub merge-clash : r ≡ false → OnBoth map map merged s s base (Refused clash)
-  merge-clash e = both-off (λ vs ws a b. pick-false (compatible vs ws) (over vs ws) (refused clash) (sym (c vs ws a b) ∙ e))
+  merge-clash e = both-off (λ vs ws a b. cond-false (compatible vs ws) (over vs ws) (refused clash) (sym (c vs ws a b) ∙ e))

@@ -5,25 +5,25 @@ use mathlib.Core.List.{List}
 use mathlib.Core.Logic.{inr}
 use Prim.Native.Nat.{ℕ, _+_, _-_, _≤_, _<_}
 use native.Mathlib.Omega.{arith}
+use Rattle.prelude.proofs.Absurd.{never}
 use Rattle.integers.specs.Bytes.{word}
-use Rattle.integers.specs.Range.{never}
 use Rattle.values.specs.Value.{set, sequence, map, number, Value, collection, Items, none, more, everyOther, keys, mapped}
 use Rattle.values.specs.Items.{join}
 use Rattle.values.specs.Place.{At, ItemsAt}
 use Rattle.values.specs.Contract.{Movable, Moved, PutHead}
-use Rattle.values.specs.Records.{Run, run, holds, word-size, one-item, collection-shaped}
-use Rattle.collections.specs.Joined.{join-none, join-join}
+use Rattle.values.proofs.Records.{Uncons, uncons, holds, word-size, one-item, collection-shaped}
+use Rattle.values.proofs.Joined.{join-none, join-join}
 use Rattle.collections.specs.Finding.{HoldsCollection}
 use Rattle.collections.specs.Building.{Retags}
 use Rattle.operators.specs.Answer.{Answer, is}
 use Rattle.operators.specs.Gather.{insertAll}
-use Rattle.operators.specs.Operators.{unary}
-use Rattle.scalars.specs.declared.Applied.{Applied}
-use Rattle.scalars.specs.declared.Applied.the-variants.{Done}
-use Rattle.scalars.specs.Applied.{One, OnOne}
-use Rattle.scalars.specs.AppliedLaws.{is-done, kept-then, kept-outside}
-use Rattle.sequence_operators.specs.Kinds.{Has, OnItems, items-by}
-use Rattle.sequence_operators.specs.Packing.{Packing, pack-start, pack-past, pack-move, pack-end}
+use Rattle.calling.specs.declared.Applied.{Applied}
+use Rattle.calling.specs.declared.Applied.the-variants.{Done}
+use Rattle.calling.proofs.Answering.{is-done}
+use Rattle.calling.proofs.Framing.{kept-then, kept-outside}
+use Rattle.calling.specs.Operands.{Has, OnItems}
+use Rattle.calling.proofs.Kinding.{items-by}
+use Rattle.gathering.proofs.Packing.{Packing, pack-start, pack-past, pack-move, pack-end}
 use Rattle.map_operators.proofs.Pairs.{value-of}
 
 -- what the keys, or the values, of a map are
@@ -55,8 +55,8 @@ halving-start b e h = pack-start e (h .held) (record { so = refl })
 
 module _ {b wanted : Bool} {s t : List ℕ} {base end p q : ℕ} (w : Packing map (Half b wanted) s t base end p q) where
   module _ (lt : p < end) where
-    pub halving-run : Run t p end (w .rest)
-    halving-run = run lt (w .rest-at)
+    pub halving-run : Uncons t p end (w .rest)
+    halving-run = uncons lt (w .rest-at)
 
     module _ {n : ℕ} (e : n ≡ word t p) where
       pub halving-movable : Movable t p q n
@@ -109,9 +109,8 @@ module _ {s t : List ℕ} {base : ℕ} (h : Has map s base) (o : OnItems map (ha
   values-at : At t base (collection sequence (mapped (h .held .items)))
   values-at = value-of (o .right (h .held .items) (h .held .here))
 
-  pub values-one : One t base
-  values-one = let l = o .kept .long in let r = h .room in record { held = holds values-at; room = omega arith }
+  pub values-has : Has sequence t base
+  values-has = let l = o .kept .long in let r = h .room in record { held = record { items = mapped (h .held .items); here = values-at }; room = omega arith }
 
-  pub range-done : {u : List ℕ} {r : Applied} → OnOne (unary 10) t u base r → OnItems map ranged s u base r
-  unfolding unary
-  range-done x = items-by {f = ranged} (kept-then (o .kept) (x .kept)) (h .held .here) (x .right (collection sequence (mapped (h .held .items))) values-at)
+  pub range-done : {u : List ℕ} {r : Applied} → OnItems sequence (λ vs. is (collection set (insertAll none vs))) t u base r → OnItems map ranged s u base r
+  range-done x = items-by {f = ranged} (kept-then (o .kept) (x .kept)) (h .held .here) (x .right (mapped (h .held .items)) values-at)

@@ -1,20 +1,19 @@
--- The operators on maps by their numbers. Assumes nothing.
+-- The operators on maps by their numbers.
 use mathlib.Core.Path.{_≡_, ap}
 use mathlib.Core.List.{List}
 use Prim.Native.Nat.{ℕ, _≤_}
 use native.Mathlib.Omega.{arith}
 use lib.Dec.{eqb}
 use borrow.Author.Tests.{eqb-true, eqb-false}
+use Rattle.prelude.proofs.Truth.{by-test}
 use Rattle.values.specs.Value.{map}
 use Rattle.values.specs.Contract.{KindAt}
 use Rattle.operators.specs.Answer.{wrongKind}
-use Rattle.operators.specs.Operators.{unary, binary}
-use Rattle.operator_laws.specs.Tests.{by-test}
-use Rattle.scalars.specs.declared.Applied.{Applied}
-use Rattle.scalars.specs.declared.Applied.the-variants.{Refused}
-use Rattle.scalars.specs.Applied.{OnOne, OnTwo}
-use Rattle.scalars.specs.AppliedLaws.{two-same}
-use Rattle.sequence_operators.specs.Kinds.{off-one, past, meet}
+use Rattle.operators.specs.Operators.{unary}
+use Rattle.calling.specs.declared.Applied.the-variants.{Refused}
+use Rattle.calling.specs.Applied.{OnOne}
+use Rattle.calling.proofs.Kinding.{off-one}
+use Rattle.calling.proofs.Numbered.{past, meet}
 use Rattle.map_operators.proofs.Halving.{domained, ranged}
 
 pub not-fourteen : {n : ℕ} → n ≤ 15 → 14 ≤ n → (n ≡ 14 → ⊥) → n ≡ 15
@@ -28,8 +27,5 @@ not-map {n = n} low high r f =
     (λ e. off-one {k = map} {f = ranged} {g = unary n} (λ v. ap (λ (i : ℕ). unary i v) (not-fourteen high low (eqb-false n 14 e))) r f)
 
 -- the last number, where it is none of the others
-pub last : {n : ℕ} → n ≤ 28 → 25 ≤ n → (n ≡ 25 → ⊥) → (n ≡ 26 → ⊥) → (n ≡ 27 → ⊥) → n ≡ 28
-last high low a b c = meet high (past (past (past low a) b) c)
-
-pub by-number : {n m : ℕ} → n ≡ m → {s t : List ℕ} {base : ℕ} {r : Applied} → OnTwo (binary m) s t base r → OnTwo (binary n) s t base r
-by-number e = two-same (λ v w. ap (λ (i : ℕ). binary i v w) e)
+pub is-range-restriction : {n : ℕ} → n ≤ 28 → 25 ≤ n → (n ≡ 25 → ⊥) → (n ≡ 26 → ⊥) → (n ≡ 27 → ⊥) → n ≡ 28
+is-range-restriction high low a b c = meet high (past (past (past low a) b) c)

@@ -1,6 +1,6 @@
 -- The loop of `enter_all`: what is left of the first map, entered into by what is made of the second, is the whole. Assumes nothing.
 use mathlib.Core.Path.{_≡_, refl, sym, ap, subst, _∙_}
-use mathlib.Core.Bool.{Bool, true, false}
+use mathlib.Core.Bool.{Bool, true, false, cond}
 use mathlib.Core.List.{List}
 use mathlib.Core.Logic.{inl}
 use mathlib.Core.Option.{Option, none as absent, some}
@@ -8,40 +8,44 @@ use Prim.Native.Nat.{ℕ, _+_, _≤_, _<_}
 use native.Mathlib.Omega.{arith}
 use borrow.Author.Tests.{leb-false}
 use lib.Dec.{leb}
+use Rattle.prelude.proofs.Absurd.{impossible}
 use Rattle.integers.specs.Bytes.{word}
-use Rattle.values.specs.Value.{map, Value, collection, Items, more, everyOther, keys, size, sizes, Ascending, Paired, limit}
-use Rattle.values.specs.Items.{pick, same, lookup, enter}
+use Rattle.values.specs.Value.{map, Value, collection, Items, more, everyOther, keys, size, sizes, Ascending, Paired, mostBytes}
+use Rattle.values.specs.Items.{same, lookup, enter}
 use Rattle.values.specs.Place.{At, ItemsAt, Outside}
 use Rattle.values.specs.Contract.{Copyable, Copied}
-use Rattle.values.specs.Laws.{same-true}
-use Rattle.values.specs.Encoding.{collection-size}
-use Rattle.values.specs.Records.{holds, items-to, items-none, collection-shaped}
-use Rattle.values.specs.Frame.{outside-none, outside-both, items-below}
+use Rattle.values.proofs.Order.{same-true}
+use Rattle.values.proofs.Encoding.{collection-size}
+use Rattle.values.proofs.Records.{holds, items-to, items-none, collection-shaped}
+use Rattle.values.proofs.Frame.{outside-none, outside-both, items-below}
 use Rattle.collections.specs.declared.building.Entered.{Entered}
 use Rattle.collections.specs.declared.building.Entered.the-variants.{Done as Put, Clash, Full}
-use Rattle.collections.specs.Entries.{enter-present, paired-enter, ascending-enter}
-use Rattle.collections.specs.Building.{entered, EntryRoom, Maps, Enters}
+use Rattle.values.proofs.Entries.{enter-present, paired-enter, ascending-enter}
+use Rattle.collections.specs.Building.{entryAnswer, EntryRoom, Maps, Enters}
 use Rattle.operators.specs.Answer.{closed, sized, tooLarge}
 use Rattle.operators.specs.Gather.{enterAll}
-use Rattle.operator_laws.specs.EnumerationLaws.{fits, fits-not}
-use Rattle.scalars.specs.declared.Applied.the-variants.{Done, Refused}
-use Rattle.scalars.specs.AppliedLaws.{is-done, is-off, kept-then, kept-outside, copyable-down, copied-kept}
-use Rattle.sequence_operators.specs.Kinds.{HasTwo, OnBoth, both-by}
-use Rattle.map_operators.proofs.Pairs.{Next, next}
+use Rattle.operator_laws.proofs.Enumerations.{fits, fits-not}
+use Rattle.calling.specs.Scratch.{second}
+use Rattle.calling.specs.declared.Applied.the-variants.{Done, Refused}
+use Rattle.calling.proofs.Answering.{is-done, is-off}
+use Rattle.calling.proofs.Framing.{kept-then, kept-outside, copyable-down, copied-kept}
+use Rattle.calling.specs.Operands.{HasTwo, OnBoth}
+use Rattle.calling.proofs.Kinding.{both-by}
+use Rattle.map_operators.proofs.Pairs.{NextEntry, next-entry}
 use Rattle.map_operators.proofs.Agreeing.{over}
 use Rattle.map_operators.proofs.Parts.{sizes-entered, entered-new, entered-there, entered-none}
 
 pub record Overriding (s t : List ℕ) (base end p : ℕ) : Type 0 where
   pub maps : HasTwo map map s base
-  pub short : end ≤ base + limit
+  pub short : end ≤ base + mostBytes
   pub made : Items
   pub rest : Items
   pub so : enterAll (maps .left .items) (maps .right .items) ≡ enterAll rest made
   pub paired : Paired rest
   pub ascending : Ascending (keys rest)
-  pub made-at : At t (base + 512) (collection map made)
+  pub made-at : At t (base + second) (collection map made)
   pub rest-at : ItemsAt t p end rest
-  pub frame : Outside s t (base + 512) (base + 512 + limit)
+  pub frame : Outside s t (base + second) (base + second + mostBytes)
 
 pub over-start : {s : List ℕ} {base n : ℕ} → n ≡ word s base → HasTwo map map s base → Overriding s s base (base + n) (base + 4)
 over-start {s} {base} {n} e h =
@@ -57,28 +61,28 @@ over-start {s} {base} {n} e h =
       ascending = collection-shaped (a .fine) .1;
       made-at = h .right .here;
       rest-at = items-to e a;
-      frame = outside-none s (base + 512) (base + 512 + limit);
+      frame = outside-none s (base + second) (base + second + mostBytes);
     }
 
 -- ---- what an answer says
 
-full-over : {n : ℕ} (b : Bool) → b ≡ leb n limit → Full ≡ pick b Put Full → limit < n
-full-over true e d = absurd (let z : _≡_ {A = ℕ} 0 1 = cc in omega arith)
-full-over {n} false e d = leb-false n limit (sym e)
+full-over : {n : ℕ} (b : Bool) → b ≡ leb n mostBytes → Full ≡ cond b Put Full → mostBytes < n
+full-over true e d = impossible cc
+full-over {n} false e d = leb-false n mostBytes (sym e)
 
-not-full : {r : Entered} (b : Bool) → r ≡ pick b Put Full → (r ≡ Full → ⊥) → r ≡ Put
+not-full : {r : Entered} (b : Bool) → r ≡ cond b Put Full → (r ≡ Full → ⊥) → r ≡ Put
 not-full true e f = e
 not-full false e f = absurd (f e)
 
-there-full : {X : Type 0} (b : Bool) → Full ≡ pick b Put Clash → X
-there-full true e = absurd (let z : _≡_ {A = ℕ} 0 1 = cc in omega arith)
-there-full false e = absurd (let z : _≡_ {A = ℕ} 0 1 = cc in omega arith)
+there-full : {X : Type 0} (b : Bool) → Full ≡ cond b Put Clash → X
+there-full true e = impossible cc
+there-full false e = impossible cc
 
 pub put-not-full : {r : Entered} → r ≡ Put → r ≡ Full → ⊥
-put-not-full e f = let z : _≡_ {A = ℕ} 0 1 = cc in omega arith
+put-not-full e f = impossible cc
 
 pub clash-not-full : {r : Entered} → r ≡ Clash → r ≡ Full → ⊥
-clash-not-full e f = let z : _≡_ {A = ℕ} 0 1 = cc in omega arith
+clash-not-full e f = impossible cc
 
 -- a key that is there: nothing changes
 there-same : {s t : List ℕ} {at x y : ℕ} {vs : Items} {k v w : Value} {r : Entered} → Paired vs → Ascending (keys vs) → Enters s t at x y r → Maps s t at vs k v r → lookup k vs ≡ some w → t ≡ s
@@ -88,13 +92,13 @@ there-same {s} {t} {at} {x} {y} {vs} {k} {v} {w} {r} p a e m l = go (same w v) r
     go true q = m .still (enter-present k v vs p a (l ∙ ap some (same-true w v q)))
     go false q =
         e .clash
-        (m .answers ∙ ap (λ (o : Option Value). entered o v (size (collection map (enter k v vs)))) l ∙ ap (λ (b : Bool). pick b Put Clash) q)
+        (m .answers ∙ ap (λ (o : Option Value). entryAnswer o v (size (collection map (enter k v vs)))) l ∙ ap (λ (b : Bool). cond b Put Clash) q)
 
 module _ {s t : List ℕ} {base end p m l : ℕ} (w : Overriding s t base end p) (lt : p < end) (e : m ≡ word t p) (d : l ≡ word t (p + m)) where
-  pub over-next : Next t p m l end (w .rest)
-  over-next = next lt e d (w .rest-at) (w .paired)
+  pub over-next : NextEntry t p m l end (w .rest)
+  over-next = next-entry lt e d (w .rest-at) (w .paired)
 
-  pub over-room : EntryRoom t (base + 512) p (p + m)
+  pub over-room : EntryRoom t (base + second) p (p + m)
   over-room =
       let y = over-next in
       let r = w .maps .room in
@@ -105,8 +109,8 @@ module _ {s t : List ℕ} {base end p m l : ℕ} (w : Overriding s t base end p)
         value = record { held = record { items = w .made; here = w .made-at }; room = omega arith; item = holds (y .value-at); apart = inl (omega arith) };
       }
 
-module _ {s t u : List ℕ} {base end p m l : ℕ} {r : Entered} (w : Overriding s t base end p) (y : Next t p m l end (w .rest)) (x : Enters t u (base + 512) p (p + m) r) where
-  answer : Maps t u (base + 512) (w .made) (y .key) (y .value) r
+module _ {s t u : List ℕ} {base end p m l : ℕ} {r : Entered} (w : Overriding s t base end p) (y : NextEntry t p m l end (w .rest)) (x : Enters t u (base + second) p (p + m) r) where
+  answer : Maps t u (base + second) (w .made) (y .key) (y .value) r
   answer = x .right (w .made) (y .key) (y .value) (w .made-at) (y .key-at) (y .value-at)
 
   rising : Ascending (keys (more (y .key) (more (y .value) (y .rest))))
@@ -128,17 +132,17 @@ module _ {s t u : List ℕ} {base end p m l : ℕ} {r : Entered} (w : Overriding
       w .so ∙ ap (λ (vs : Items). enterAll vs (w .made)) (y .is) ∙ entered-there (y .key) (y .value) (y .rest) (w .made) (y .paired) (h .0) rising (h .1) n
 
   -- 28: what is made already is over 512 bytes, and so is the whole
-  too-long : r ≡ Full → (o : Option Value) → lookup (y .key) (w .made) ≡ o → limit < 4 + sizes (enterAll (w .maps .left .items) (w .maps .right .items))
+  too-long : r ≡ Full → (o : Option Value) → lookup (y .key) (w .made) ≡ o → mostBytes < 4 + sizes (enterAll (w .maps .left .items) (w .maps .right .items))
   too-long f absent n =
       let made = enter (y .key) (y .value) (w .made) in
       let h = collection-shaped (w .made-at .fine) in
-      let big : limit < size (collection map made) =
-      full-over (leb (size (collection map made)) limit) refl (sym f ∙ answer .answers ∙ ap (λ (o : Option Value). entered o (y .value) (size (collection map made))) n) in
+      let big : mostBytes < size (collection map made) =
+      full-over (leb (size (collection map made)) mostBytes) refl (sym f ∙ answer .answers ∙ ap (λ (o : Option Value). entryAnswer o (y .value) (size (collection map made))) n) in
       let part = sizes-entered (y .rest) made (y .paired) (paired-enter (y .key) (y .value) (w .made) (h .0)) rest-rising (ascending-enter (y .key) (y .value) (w .made) (h .0) (h .1)) in
       omega (arith, collection-size map made, ap sizes (whole-new n))
   too-long f (some z) n =
       there-full (same z (y .value))
-      (sym f ∙ answer .answers ∙ ap (λ (o : Option Value). entered o (y .value) (size (collection map (enter (y .key) (y .value) (w .made))))) n)
+      (sym f ∙ answer .answers ∙ ap (λ (o : Option Value). entryAnswer o (y .value) (size (collection map (enter (y .key) (y .value) (w .made))))) n)
 
   pub over-full : r ≡ Full → OnBoth map map over s u base (Refused tooLarge)
   over-full f =
@@ -148,7 +152,7 @@ module _ {s t u : List ℕ} {base end p m l : ℕ} {r : Entered} (w : Overriding
       (is-off (ap (closed map) (fits-not (enterAll vs ws) (too-long f (lookup (y .key) (w .made)) refl))))
 
   -- on to the next entry
-  onward : (made : Items) → enterAll (w .maps .left .items) (w .maps .right .items) ≡ enterAll (y .rest) made → At u (base + 512) (collection map made) → Overriding s u base end (p + m + l)
+  onward : (made : Items) → enterAll (w .maps .left .items) (w .maps .right .items) ≡ enterAll (y .rest) made → At u (base + second) (collection map made) → Overriding s u base end (p + m + l)
   onward made e a =
       let i = w .short in
       record {
@@ -169,19 +173,19 @@ module _ {s t u : List ℕ} {base end p m l : ℕ} {r : Entered} (w : Overriding
       let made = enter (y .key) (y .value) (w .made) in
       onward made (whole-new n)
       (answer .made
-      (not-full (leb (size (collection map made)) limit) (answer .answers ∙ ap (λ (o : Option Value). entered o (y .value) (size (collection map made))) n) f))
+      (not-full (leb (size (collection map made)) mostBytes) (answer .answers ∙ ap (λ (o : Option Value). entryAnswer o (y .value) (size (collection map made))) n) f))
   step f (some z) n =
       let h = collection-shaped (w .made-at .fine) in
-      onward (w .made) (whole-there n) (subst (λ (b : List ℕ). At b (base + 512) (collection map (w .made))) (sym (there-same (h .0) (h .1) x answer n)) (w .made-at))
+      onward (w .made) (whole-there n) (subst (λ (b : List ℕ). At b (base + second) (collection map (w .made))) (sym (there-same (h .0) (h .1) x answer n)) (w .made-at))
 
   pub over-step : (r ≡ Full → ⊥) → Overriding s u base end (p + m + l)
   over-step f = step f (lookup (y .key) (w .made)) refl
 
 module _ {s t : List ℕ} {base end p : ℕ} (w : Overriding s t base end p) where
-  pub over-copyable : Copyable t (base + 512) base
+  pub over-copyable : Copyable t (base + second) base
   over-copyable = copyable-down (omega arith) (holds (w .made-at))
 
-  pub over-end : {u : List ℕ} {r : ℕ} → end ≤ p → Copied t u (base + 512) base r → OnBoth map map over s u base Done
+  pub over-end : {u : List ℕ} {r : ℕ} → end ≤ p → Copied t u (base + second) base r → OnBoth map map over s u base Done
   over-end {u} le c =
       let vs = w .maps .left .items in
       let ws = w .maps .right .items in

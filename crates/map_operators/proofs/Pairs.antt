@@ -7,18 +7,18 @@ use native.Mathlib.Omega.{arith}
 use Rattle.integers.specs.Bytes.{word}
 use Rattle.values.specs.Value.{Value, Items, none, more, size, sizes, PairedFrom, Paired}
 use Rattle.values.specs.Place.{At, ItemsAt}
-use Rattle.values.specs.Records.{run}
-use Rattle.values.specs.Encoding.{size-low}
+use Rattle.values.proofs.Records.{uncons}
+use Rattle.values.proofs.Encoding.{size-low}
 use Rattle.operators.specs.Answer.{is}
-use Rattle.scalars.specs.declared.Applied.{Applied}
-use Rattle.scalars.specs.Applied.{Applies, done}
+use Rattle.calling.specs.declared.Applied.{Applied}
+use Rattle.calling.specs.Applied.{Applies, done}
 
 -- the value that an operator left
 pub value-of : {t : List ℕ} {base : ℕ} {r : Applied} {v : Value} → Applies t base r (is v) → At t base v
 value-of (done e a) = a
 
 -- a key of m bytes and its value of l bytes
-pub record Next (s : List ℕ) (p m l end : ℕ) (vs : Items) : Type 0 where
+pub record NextEntry (s : List ℕ) (p m l end : ℕ) (vs : Items) : Type 0 where
   pub key : Value
   pub value : Value
   pub rest : Items
@@ -36,13 +36,13 @@ unfolding PairedFrom size
 value-left {vs = none} p h = absurd p
 value-left {from = from} {to = to} {vs = more v vs} p h = let e : from + (size v + sizes vs) ≡ to = h .ends in omega (arith, size-low v)
 
-pub next : {s : List ℕ} {p m l end : ℕ} {vs : Items} → p < end → m ≡ word s p → l ≡ word s (p + m) → ItemsAt s p end vs → Paired vs → Next s p m l end vs
+pub next-entry : {s : List ℕ} {p m l end : ℕ} {vs : Items} → p < end → m ≡ word s p → l ≡ word s (p + m) → ItemsAt s p end vs → Paired vs → NextEntry s p m l end vs
 unfolding PairedFrom
-next {s} {p} {m} {l} {end} {vs} lt e d h pair =
-    let y = run lt h in
+next-entry {s} {p} {m} {l} {end} {vs} lt e d h pair =
+    let y = uncons lt h in
     let after : PairedFrom false (y .rest) = subst (λ (ws : Items). PairedFrom true ws) (y .is) pair in
     let x : ItemsAt s (p + m) end (y .rest) = subst (λ (i : ℕ). ItemsAt s (p + i) end (y .rest)) (sym e) (y .rest-at) in
-    let z = run (value-left after x) x in
+    let z = uncons (value-left after x) x in
     record {
       key = y .first;
       value = z .first;

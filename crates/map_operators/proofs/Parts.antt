@@ -1,20 +1,21 @@
 -- A map that is a part of another is no longer; and what entering the first of some entries leaves to enter. Assumes nothing.
 use mathlib.Core.Path.{_≡_, refl, sym, ap, _∙_}
-use mathlib.Core.Bool.{Bool, true, false}
+use mathlib.Core.Bool.{Bool, true, false, cond}
 use mathlib.Core.Option.{Option, none as absent, some}
-use Prim.Native.Nat.{ℕ, _≤_}
+use Prim.Native.Nat.{_≤_}
 use native.Mathlib.Omega.{arith}
+use Rattle.prelude.proofs.Absurd.{impossible}
+use Rattle.prelude.proofs.Truth.{cond-false, by-test}
 use Rattle.values.specs.Value.{Value, Items, none, more, everyOther, keys, size, sizes, Before, Ascending, PairedFrom, Paired}
-use Rattle.values.specs.Items.{pick, same, lookup, enter}
-use Rattle.values.specs.Laws.{same-equal, order-refl, higher-flip, same-true}
-use Rattle.collections.specs.Members.{pick-false, by-order}
-use Rattle.collections.specs.Entries.{by-entries, before-nothing, lookup-first, lookup-none, lookup-here, lookup-before, lookup-enter, paired-enter, ascending-enter, same-entries}
+use Rattle.values.specs.Items.{same, lookup, enter}
+use Rattle.values.proofs.Order.{same-equal, order-refl, higher-flip, same-true}
+use Rattle.values.proofs.Members.{by-order}
+use Rattle.values.proofs.Entries.{by-entries, before-nothing, lookup-first, lookup-none, lookup-here, lookup-before, lookup-enter, paired-enter, ascending-enter, same-entries}
 use Rattle.operators.specs.Gather.{enterAll}
-use Rattle.operator_laws.specs.Tests.{by-test}
-use Rattle.operator_laws.specs.EntryLaws.{paired-enterAll, ascending-enterAll, orElse, lookup-enterAll}
+use Rattle.operator_laws.proofs.Entries.{paired-enterAll, ascending-enterAll, orElse, lookup-enterAll}
 
 clash-free : {X : Type 0} {o : Option Value} {v : Value} → o ≡ absent → o ≡ some v → X
-clash-free e f = absurd (let z : _≡_ {A = ℕ} 0 1 = cc in omega arith)
+clash-free e f = impossible cc
 
 -- ---- parts
 
@@ -29,15 +30,15 @@ part-rest k v l w us vs p b i f x y e =
     by-test (same x k)
     (λ s. clash-free (ap (λ (z : Value). lookup z us) (same-true x k s) ∙ before-nothing k us p b) e)
     (λ s.
-    sym (pick-false (same x l) (some w) (lookup x vs) (ap (same x) (sym i) ∙ s)) ∙ sym (lookup-first x l w vs)
-    ∙ f x y (lookup-first x k v us ∙ pick-false (same x k) (some v) (lookup x us) s ∙ e))
+    sym (cond-false (same x l) (some w) (lookup x vs) (ap (same x) (sym i) ∙ s)) ∙ sym (lookup-first x l w vs)
+    ∙ f x y (lookup-first x k v us ∙ cond-false (same x k) (some v) (lookup x us) s ∙ e))
 
 -- the other has a lower key first, which the one has not
 part-past : (l w : Value) (us vs : Items) → lookup l us ≡ absent → Part us (more l (more w vs)) → Part us vs
 unfolding Part
 part-past l w us vs a f x y e =
     by-test (same x l) (λ s. clash-free (ap (λ (z : Value). lookup z us) (same-true x l s) ∙ a) e)
-    (λ s. sym (pick-false (same x l) (some w) (lookup x vs) s) ∙ sym (lookup-first x l w vs) ∙ f x y e)
+    (λ s. sym (cond-false (same x l) (some w) (lookup x vs) s) ∙ sym (lookup-first x l w vs) ∙ f x y e)
 
 Less : Items → Items → Type 0
 Less us vs = Ascending (keys us) → Ascending (keys vs) → Part us vs → sizes us ≤ sizes vs
@@ -86,7 +87,7 @@ module _ (k v : Value) (vs ws : Items) (p : Paired vs) (q : Paired ws) (a : Asce
   rest-ascending = a .1
 
   -- at each key: what the second has there, or the first entry, or those after it
-  both : (x : Value) → lookup x (enterAll (more k (more v vs)) ws) ≡ orElse (lookup x ws) (pick (same x k) (some v) (lookup x vs))
+  both : (x : Value) → lookup x (enterAll (more k (more v vs)) ws) ≡ orElse (lookup x ws) (cond (same x k) (some v) (lookup x vs))
   both x = lookup-enterAll x (more k (more v vs)) ws first-paired q b ∙ ap (orElse (lookup x ws)) (lookup-first x k v vs)
 
   -- a new key goes into the second
@@ -101,7 +102,7 @@ module _ (k v : Value) (vs ws : Items) (p : Paired vs) (q : Paired ws) (a : Asce
       ∙ go (same x k) (lookup x ws) (lookup x vs) (λ s. ap (λ (z : Value). lookup z ws) (same-true x k s) ∙ n)
       ∙ sym (lookup-enterAll x vs (enter k v ws) p pe ae ∙ ap (λ (o : Option Value). orElse o (lookup x vs)) (lookup-enter x k v ws q)))
     where
-      go : (t : Bool) (o r : Option Value) → (t ≡ true → o ≡ absent) → orElse o (pick t (some v) r) ≡ orElse (pick t (some v) o) r
+      go : (t : Bool) (o r : Option Value) → (t ≡ true → o ≡ absent) → orElse o (cond t (some v) r) ≡ orElse (cond t (some v) o) r
       go true o r f = ap (λ (o : Option Value). orElse o (some v)) (f refl)
       go false o r f = refl
 
@@ -113,7 +114,7 @@ module _ (k v : Value) (vs ws : Items) (p : Paired vs) (q : Paired ws) (a : Asce
       (λ x.
       both x ∙ go (same x k) (lookup x ws) (lookup x vs) (λ s. ap (λ (z : Value). lookup z ws) (same-true x k s) ∙ n) ∙ sym (lookup-enterAll x vs ws p q b))
     where
-      go : (t : Bool) (o r : Option Value) → (t ≡ true → o ≡ some w) → orElse o (pick t (some v) r) ≡ orElse o r
+      go : (t : Bool) (o r : Option Value) → (t ≡ true → o ≡ some w) → orElse o (cond t (some v) r) ≡ orElse o r
       go true o r f = ap (λ (o : Option Value). orElse o (some v)) (f refl) ∙ sym (ap (λ (o : Option Value). orElse o r) (f refl))
       go false o r f = refl
 

@@ -5,36 +5,40 @@ use mathlib.Core.List.{List}
 use mathlib.Core.Logic.{inl, inr}
 use Prim.Native.Nat.{ℕ, _+_, _-_, _≤_, _<_}
 use native.Mathlib.Omega.{arith}
+use Rattle.prelude.proofs.Absurd.{impossible}
 use Rattle.integers.specs.Bytes.{word}
 use Rattle.values.specs.Value.{set, map, number, Value, collection, Items, none, more, size, Paired, Shaped}
 use Rattle.values.specs.Items.{join, isMember}
 use Rattle.values.specs.Place.{At, ItemsAt}
 use Rattle.values.specs.Contract.{Movable, Moved, PutHead, Copyable, Copied}
-use Rattle.values.specs.Records.{holds, word-size, one-item, more-of, collection-shaped}
-use Rattle.values.specs.Encoding.{none-sizes, more-sizes}
-use Rattle.values.specs.Frame.{outside-wider}
-use Rattle.collections.specs.Joined.{join-none, join-join}
+use Rattle.values.proofs.Records.{holds, word-size, one-item, more-of, collection-shaped}
+use Rattle.values.proofs.Encoding.{none-sizes, more-sizes}
+use Rattle.values.proofs.Frame.{outside-wider}
+use Rattle.values.proofs.Joined.{join-none, join-join}
 use Rattle.collections.specs.Finding.{HoldsKind, Contains}
 use Rattle.collections.specs.Building.{Apart}
-use Rattle.collections.specs.Built.{at-apart}
+use Rattle.collections.proofs.Built.{at-apart}
 use Rattle.operators.specs.Answer.{Answer, is}
 use Rattle.operators.specs.Gather.{keepEntries}
-use Rattle.operator_laws.specs.EntryLaws.{keep-true, keep-false, paired-keep, ascending-keys}
-use Rattle.scalars.specs.declared.Applied.the-variants.{Done}
-use Rattle.scalars.specs.AppliedLaws.{is-done, kept-then, kept-less, copyable-down, copied-kept}
-use Rattle.sequence_operators.specs.Kinds.{HasTwo, OnItems, OnBoth, same-items, both-by}
-use Rattle.sequence_operators.specs.Packing.{Packing, pack-start, pack-past, pack-move, pack-end}
+use Rattle.operator_laws.proofs.Entries.{keep-true, keep-false, paired-keep, ascending-keys}
+use Rattle.calling.specs.Scratch.{second}
+use Rattle.calling.specs.declared.Applied.the-variants.{Done}
+use Rattle.calling.proofs.Answering.{is-done}
+use Rattle.calling.proofs.Framing.{kept-then, kept-less, copyable-down, copied-kept}
+use Rattle.calling.specs.Operands.{HasTwo, OnItems, OnBoth}
+use Rattle.calling.proofs.Kinding.{same-items, both-by}
+use Rattle.gathering.proofs.Packing.{Packing, pack-start, pack-past, pack-move, pack-end}
 use Rattle.map_operators.specs.Contract.{Beside, passes, Passes, Restrictable, Restricts}
-use Rattle.map_operators.proofs.Pairs.{Next, next, value-of}
+use Rattle.map_operators.proofs.Pairs.{NextEntry, next-entry, value-of}
 
 -- ---- one entry
 
 pub key-passes : {s : List ℕ} {at x y : ℕ} {by r : Bool} → by ≡ true → Contains s at x r → Passes by s at x y r
 key-passes {by = true} e c vs k v a b d = c vs k a b
-key-passes {by = false} e c vs k v a b d = absurd (let z : _≡_ {A = ℕ} 0 1 = cc in omega arith)
+key-passes {by = false} e c vs k v a b d = impossible cc
 
 pub value-passes : {s : List ℕ} {at x y : ℕ} {by r : Bool} → by ≡ false → Contains s at y r → Passes by s at x y r
-value-passes {by = true} e c vs k v a b d = absurd (let z : _≡_ {A = ℕ} 0 1 = cc in omega arith)
+value-passes {by = true} e c vs k v a b d = impossible cc
 value-passes {by = false} e c vs k v a b d = c vs v a d
 
 -- ---- all entries
@@ -76,8 +80,8 @@ module _ {by : Bool} {s t : List ℕ} {at of end p q : ℕ} (w : Restricting by 
       at-apart (outside-wider (omega arith) i (w .pack .frame)) (w .apart) (w .members .here)
 
   module _ {m l : ℕ} (lt : p < end) (e : m ≡ word t p) (d : l ≡ word t (p + m)) where
-    pub restrict-next : Next t p m l end (w .pack .rest)
-    restrict-next = next lt e d (w .pack .rest-at) (w .pack .so .paired)
+    pub restrict-next : NextEntry t p m l end (w .pack .rest)
+    restrict-next = next-entry lt e d (w .pack .rest-at) (w .pack .so .paired)
 
     pub restrict-beside : Beside set t of p (p + m)
     restrict-beside = let y = restrict-next in record { held = record { items = w .members .items; here = members-at }; key = holds (y .key-at); value = holds (y .value-at) }
@@ -152,23 +156,23 @@ abbrev pub onRange : Items → Items → Answer
 onRange vs ws = is (collection map (keepEntries (λ k x. isMember x ws) vs))
 
 module _ {s : List ℕ} {base : ℕ} (h : HasTwo set map s base) where
-  pub domain-restrictable : Restrictable s (base + 512) base
+  pub domain-restrictable : Restrictable s (base + second) base
   domain-restrictable = let a = holds (h .left .here) in record { held = h .right; members = h .left; apart = inl (omega arith) }
 
-  module _ {t : List ℕ} (o : Restricts true s t (base + 512) base) where
-    pub domain-copyable : Copyable t (base + 512) base
+  module _ {t : List ℕ} (o : Restricts true s t (base + second) base) where
+    pub domain-copyable : Copyable t (base + second) base
     domain-copyable = copyable-down (omega arith) (holds (o .right (h .right .items) (h .left .items) (h .right .here) (h .left .here)))
 
-    pub domain-restricted : {u : List ℕ} {r : ℕ} → Copied t u (base + 512) base r → OnBoth set map onDomain s u base Done
+    pub domain-restricted : {u : List ℕ} {r : ℕ} → Copied t u (base + second) base r → OnBoth set map onDomain s u base Done
     domain-restricted c =
         both-by {f = onDomain} (kept-then (kept-less (omega arith) (o .kept)) (copied-kept c)) (h .left .here) (h .right .here)
         (is-done refl (c .here _ (o .right (h .right .items) (h .left .items) (h .right .here) (h .left .here))))
 
 module _ {s : List ℕ} {base : ℕ} (h : HasTwo map set s base) where
-  pub range-restrictable : Restrictable s base (base + 512)
+  pub range-restrictable : Restrictable s base (base + second)
   range-restrictable = record { held = h .left; members = h .right; apart = inr (omega arith) }
 
-  pub range-restricted : {t : List ℕ} → Restricts false s t base (base + 512) → OnBoth map set onRange s t base Done
+  pub range-restricted : {t : List ℕ} → Restricts false s t base (base + second) → OnBoth map set onRange s t base Done
   range-restricted o =
       both-by {f = onRange} (o .kept) (h .left .here) (h .right .here)
       (is-done refl (o .right (h .left .items) (h .right .items) (h .left .here) (h .right .here)))

@@ -1,16 +1,16 @@
 -- What the functions on maps ask and promise.
 use mathlib.Core.Path.{_≡_}
-use mathlib.Core.Bool.{Bool}
+use mathlib.Core.Bool.{Bool, cond}
 use mathlib.Core.List.{List}
 use Prim.Native.Nat.{ℕ, _+_}
 use Rattle.values.specs.Value.{Kind, set, map, Value, collection, Items}
-use Rattle.values.specs.Items.{pick, isMember, lookup}
+use Rattle.values.specs.Items.{isMember, lookup}
 use Rattle.values.specs.Place.{At, Holds}
 use Rattle.collections.specs.Finding.{HoldsKind}
 use Rattle.collections.specs.Building.{Apart}
 use Rattle.operators.specs.Gather.{keepEntries}
 use Rattle.operators.specs.Maps.{agrees, compatible}
-use Rattle.scalars.specs.Applied.{Kept}
+use Rattle.calling.specs.Scratch.{second, Kept}
 
 -- ---- an entry beside a map or a set
 
@@ -26,16 +26,16 @@ Agrees s at x y r = (vs : Items) (k v : Value) → At s at (collection map vs) �
 
 -- Is the key (true) or the value (false) of an entry in the set?
 abbrev pub passes : Bool → Items → Value → Value → Bool
-passes by vs k v = isMember (pick by k v) vs
+passes by vs k v = isMember (cond by k v) vs
 
 abbrev pub Passes : Bool → List ℕ → ℕ → ℕ → ℕ → Bool → Type 0
 Passes by s at x y r = (vs : Items) (k v : Value) → At s at (collection set vs) → At s x k → At s y v → r ≡ passes by vs k v
 
 -- ---- whole maps
 
--- r says whether the maps at base and 512 bytes above it are compatible.
+-- r says whether the two maps are compatible.
 abbrev pub Compatible : List ℕ → ℕ → Bool → Type 0
-Compatible s base r = (vs ws : Items) → At s base (collection map vs) → At s (base + 512) (collection map ws) → r ≡ compatible vs ws
+Compatible s base r = (vs ws : Items) → At s base (collection map vs) → At s (base + second) (collection map ws) → r ≡ compatible vs ws
 
 -- A map stands at a place, and a set elsewhere.
 pub record Restrictable (s : List ℕ) (at of : ℕ) : Type 0 where

@@ -1,23 +1,17 @@
 // The operators on maps, on values in scratch.
+use calling::Applied;
 use collections::building::Entered;
 use collections::finding::Found;
-use scalars::Applied;
+use values::Value;
 ghost use Prim.Native.Nat.{_≤_};
 ghost use Rattle.values.specs.Value.{set, sequence, map, collection, none, everyOther, keys, mapped};
 ghost use Rattle.operators.specs.Answer.{is, sized};
 ghost use Rattle.operators.specs.Gather.{insertAll, enterAll};
 ghost use Rattle.operators.specs.Operators.{unary, binary};
-ghost use Rattle.scalars.specs.declared.Applied.the-variants.{Done};
-ghost use Rattle.scalars.specs.Applied.{One, Two, OnOne, OnTwo};
-ghost use Rattle.sequence_operators.specs.Kinds.{Has, HasTwo, OnItems, OnBoth};
+ghost use Rattle.calling.specs.declared.Applied.the-variants.{Done};
+ghost use Rattle.calling.specs.Applied.{One, Two, OnOne, OnTwo};
+ghost use Rattle.calling.specs.Operands.{Has, HasTwo, OnItems, OnBoth};
 ghost use Rattle.map_operators.specs.Contract.{Beside, Agrees, Passes, Compatible, Restrictable, Restricts};
-
-// The kinds that operands have and values are given.
-const SET: usize = 3;
-
-const SEQUENCE: usize = 4;
-
-const MAP: usize = 5;
 
 // ---- one map
 
@@ -27,8 +21,8 @@ fn every_other(s: &mut [u8], base: usize, keys: bool)
     ensures { λ _. ⌜ OnItems map (λ vs. is (collection sequence (everyOther keys vs))) (now (s .entry)) (now (s .exit)) base Done ⌝ }
 {
     let end = base + values::length_of(s, base);
-    let mut p = base + 4;
-    let mut q = base + 4;
+    let mut p = base + Value::HEAD;
+    let mut q = base + Value::HEAD;
     let mut wanted = keys;
     while p < end {
         let n = values::length_of(s, p);
@@ -40,7 +34,7 @@ fn every_other(s: &mut [u8], base: usize, keys: bool)
         wanted = !wanted;
         p = next;
     }
-    values::put_head(s, base, q - base, SEQUENCE);
+    values::put_head(s, base, q - base, Value::SEQUENCE);
 }
 
 // 14 dom: the keys ascend, so they are a set as they stand.
@@ -49,7 +43,7 @@ fn domain(s: &mut [u8], base: usize) -> Applied
     ensures { λ r. ⌜ OnItems map (λ vs. is (collection set (keys vs))) (now (s .entry)) (now (s .exit)) base r ⌝ }
 {
     every_other(s, base, true);
-    collections::building::retag(s, base, SET);
+    collections::building::retag(s, base, Value::SET);
     Applied::Done
 }
 
@@ -59,7 +53,7 @@ fn range(s: &mut [u8], base: usize) -> Applied
     ensures { λ r. ⌜ OnItems map (λ vs. is (collection set (insertAll none (mapped vs)))) (now (s .entry)) (now (s .exit)) base r ⌝ }
 {
     every_other(s, base, false);
-    sequence_operators::unary_sequence(s, base, 10)
+    gathering::elements(s, base)
 }
 
 // The unary operators 14 and 15.
@@ -68,10 +62,10 @@ pub fn unary_map(s: &mut [u8], base: usize, operator: usize) -> Applied
     ensures { λ r. ⌜ OnOne (unary operator) (now (s .entry)) (now (s .exit)) base r ⌝ }
 {
     let kind = values::kind_of(s, base);
-    if kind != MAP {
+    if kind != Value::MAP {
         return Applied::Refused(Applied::WRONG_KIND);
     }
-    if operator == 14 {
+    if operator == tables::unary::DOM {
         return domain(s, base);
     }
     range(s, base)
@@ -96,8 +90,8 @@ fn compatible(s: &[u8], base: usize) -> bool
     requires { ⌜ HasTwo map map (now s) base ⌝ }
     ensures { λ r. ⌜ Compatible (now (s .entry)) base r ⌝ }
 {
-    let end = base + 512 + values::length_of(s, base + 512);
-    let mut p = base + 516;
+    let end = base + Applied::SECOND + values::length_of(s, base + Applied::SECOND);
+    let mut p = base + Applied::SECOND + Value::HEAD;
     while p < end {
         let v = p + values::length_of(s, p);
         if agrees(s, base, p, v) {
@@ -116,11 +110,11 @@ fn enter_all(s: &mut [u8], base: usize) -> Applied
     ensures { λ r. ⌜ OnBoth map map (λ vs ws. sized map (enterAll vs ws)) (now (s .entry)) (now (s .exit)) base r ⌝ }
 {
     let end = base + values::length_of(s, base);
-    let mut p = base + 4;
+    let mut p = base + Value::HEAD;
     while p < end {
         let v = p + values::length_of(s, p);
         let next = v + values::length_of(s, v);
-        match collections::building::enter(s, base + 512, p, v) {
+        match collections::building::enter(s, base + Applied::SECOND, p, v) {
             Entered::Done => {}
             Entered::Clash => {}
             Entered::Full => {
@@ -129,7 +123,7 @@ fn enter_all(s: &mut [u8], base: usize) -> Applied
         }
         p = next;
     }
-    values::copy_value(s, base + 512, base);
+    values::copy_value(s, base + Applied::SECOND, base);
     Applied::Done
 }
 
@@ -138,7 +132,7 @@ fn merge(s: &mut [u8], base: usize) -> Applied
     requires { ⌜ Two (now s) base ⌝ }
     ensures { λ r. ⌜ OnTwo (binary 25) (now (s .entry)) (now (s .exit)) base r ⌝ }
 {
-    if sequence_operators::kinds_are(s, base, MAP, MAP) {
+    if calling::kinds_are(s, base, Value::MAP, Value::MAP) {
         if compatible(s, base) {
             return enter_all(s, base);
         }
@@ -152,7 +146,7 @@ fn replace(s: &mut [u8], base: usize) -> Applied
     requires { ⌜ Two (now s) base ⌝ }
     ensures { λ r. ⌜ OnTwo (binary 26) (now (s .entry)) (now (s .exit)) base r ⌝ }
 {
-    if sequence_operators::kinds_are(s, base, MAP, MAP) {
+    if calling::kinds_are(s, base, Value::MAP, Value::MAP) {
         return enter_all(s, base);
     }
     Applied::Refused(Applied::WRONG_KIND)
@@ -177,8 +171,8 @@ fn restrict(s: &mut [u8], at: usize, of: usize, keys: bool)
     ensures { λ _. ⌜ Restricts keys (now (s .entry)) (now (s .exit)) at of ⌝ }
 {
     let end = at + values::length_of(s, at);
-    let mut p = at + 4;
-    let mut q = at + 4;
+    let mut p = at + Value::HEAD;
+    let mut q = at + Value::HEAD;
     while p < end {
         let v = p + values::length_of(s, p);
         let next = v + values::length_of(s, v);
@@ -188,7 +182,7 @@ fn restrict(s: &mut [u8], at: usize, of: usize, keys: bool)
         }
         p = next;
     }
-    values::put_head(s, at, q - at, MAP);
+    values::put_head(s, at, q - at, Value::MAP);
 }
 
 // 27 <:
@@ -196,9 +190,9 @@ fn restrict_domain(s: &mut [u8], base: usize) -> Applied
     requires { ⌜ Two (now s) base ⌝ }
     ensures { λ r. ⌜ OnTwo (binary 27) (now (s .entry)) (now (s .exit)) base r ⌝ }
 {
-    if sequence_operators::kinds_are(s, base, SET, MAP) {
-        restrict(s, base + 512, base, true);
-        values::copy_value(s, base + 512, base);
+    if calling::kinds_are(s, base, Value::SET, Value::MAP) {
+        restrict(s, base + Applied::SECOND, base, true);
+        values::copy_value(s, base + Applied::SECOND, base);
         return Applied::Done;
     }
     Applied::Refused(Applied::WRONG_KIND)
@@ -209,8 +203,8 @@ fn restrict_range(s: &mut [u8], base: usize) -> Applied
     requires { ⌜ Two (now s) base ⌝ }
     ensures { λ r. ⌜ OnTwo (binary 28) (now (s .entry)) (now (s .exit)) base r ⌝ }
 {
-    if sequence_operators::kinds_are(s, base, MAP, SET) {
-        restrict(s, base, base + 512, false);
+    if calling::kinds_are(s, base, Value::MAP, Value::SET) {
+        restrict(s, base, base + Applied::SECOND, false);
         return Applied::Done;
     }
     Applied::Refused(Applied::WRONG_KIND)
@@ -222,9 +216,9 @@ pub fn binary_map(s: &mut [u8], base: usize, operator: usize) -> Applied
     ensures { λ r. ⌜ OnTwo (binary operator) (now (s .entry)) (now (s .exit)) base r ⌝ }
 {
     match operator {
-        25 => merge(s, base),
-        26 => replace(s, base),
-        27 => restrict_domain(s, base),
+        tables::binary::MUNION => merge(s, base),
+        tables::binary::OVERRIDE => replace(s, base),
+        tables::binary::RESTRICT_DOMAIN => restrict_domain(s, base),
         _ => restrict_range(s, base),
     }
 }

@@ -1,1 +1,2 @@
+-- The numbers of the strict operators; `trials` and the evaluator cite them.
 pub mod Numbers

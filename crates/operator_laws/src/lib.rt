@@ -1,1 +1,1 @@
-// Theorems on the operators: what each result holds, and that it is well-formed. All in specs/.
+// Theorems on the operators, in proofs/.

@@ -1,11 +1,10 @@
 -- What an operator answers: a value, or a refusal by its number in document 01, "From the state of the run".
-use mathlib.Core.Bool.{Bool}
+use mathlib.Core.Bool.{Bool, cond}
 use mathlib.Core.Option.{Option, none as absent, some}
-use Prim.Native.Nat.{ℕ, _+_}
+use Prim.Native.Nat.{ℕ, _+_, _≤_}
 use lib.Dec.{leb, eqb}
 use lib.IntN.{ℤ}
-use Rattle.values.specs.Value.{Kind, number, Value, boolean, integer, collection, Items, sizes, limit}
-use Rattle.values.specs.Items.{pick}
+use Rattle.values.specs.Value.{Kind, number, Value, boolean, integer, collection, Items, sizes, mostBytes, WellFormed}
 
 pub data Answer : Type 0 where
   is : Value → Answer
@@ -44,7 +43,7 @@ asInteger (collection k vs) = absent
 abbrev pub asKind : Kind → Value → Option Items
 asKind k (boolean b) = absent
 asKind k (integer z) = absent
-asKind k (collection l vs) = pick (eqb (number k) (number l)) (some vs) absent
+asKind k (collection l vs) = cond (eqb (number k) (number l)) (some vs) absent
 
 abbrev pub asSet : Value → Option Items
 asSet v = asKind Kind.set v
@@ -77,7 +76,7 @@ pub data Built : Type 0 where
 
 -- 28 as soon as the part built passes 512 bytes.
 abbrev pub fitting : Items → Built
-fitting vs = pick (leb (4 + sizes vs) limit) (built vs) (stopped tooLarge)
+fitting vs = cond (leb (4 + sizes vs) mostBytes) (built vs) (stopped tooLarge)
 
 -- What was built, as a collection.
 abbrev pub closed : Kind → Built → Answer
@@ -87,3 +86,8 @@ closed k (stopped n) = refused n
 -- The collection of these items, unless it is over 512 bytes.
 abbrev pub sized : Kind → Items → Answer
 sized k vs = closed k (fitting vs)
+
+-- An answer as the code of an operator needs it: a well-formed value, or a refusal from 20 to 28. (All answers are: `operator_laws`, Results.)
+abbrev pub Fine : Answer → Type 0
+Fine (is v) = WellFormed v
+Fine (refused n) = (20 ≤ n) × (n ≤ 28)

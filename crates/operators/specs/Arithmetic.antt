@@ -12,8 +12,8 @@ use Rattle.operators.specs.Booleans.{truth}
 -- An integer, 21 or 22.
 abbrev pub answered : Number → Answer
 answered (Is z) = is (integer z)
-answered OutOfRange = refused (Whole.refusal OutOfRange)
-answered ByZero = refused (Whole.refusal ByZero)
+answered OutOfRange = refused (Whole.refusalOf OutOfRange)
+answered ByZero = refused (Whole.refusalOf ByZero)
 
 -- An operation on one integer, on two, and a comparison of two.
 abbrev pub onInteger : (ℤ → Number) → Value → Answer
@@ -27,30 +27,30 @@ compared p v w = needsBoth (asInteger v) (asInteger w) (λ a b. truth (p a b))
 
 -- −x, abs x (page 9)
 abbrev pub unaryMinus : Value → Answer
-unaryMinus v = onInteger (λ a. Whole.negation a) v
+unaryMinus v = onInteger (λ a. Whole.negationOf a) v
 
 abbrev pub absoluteValue : Value → Answer
-absoluteValue v = onInteger (λ a. Whole.absolute a) v
+absoluteValue v = onInteger (λ a. Whole.absoluteOf a) v
 
 -- x + y, x − y, x * y (page 9)
 abbrev pub sum : Value → Value → Answer
-sum v w = onIntegers (λ a b. Whole.sum a b) v w
+sum v w = onIntegers (λ a b. Whole.sumOf a b) v w
 
 abbrev pub minus : Value → Value → Answer
-minus v w = onIntegers (λ a b. Whole.difference a b) v w
+minus v w = onIntegers (λ a b. Whole.differenceOf a b) v w
 
 abbrev pub product : Value → Value → Answer
-product v w = onIntegers (λ a b. Whole.product a b) v w
+product v w = onIntegers (λ a b. Whole.productOf a b) v w
 
 -- x div y, x rem y, x mod y (pages 9 and 10)
 abbrev pub integerDivision : Value → Value → Answer
-integerDivision v w = onIntegers (λ a b. Whole.quotient a b) v w
+integerDivision v w = onIntegers (λ a b. Whole.quotientOf a b) v w
 
 abbrev pub remainder : Value → Value → Answer
-remainder v w = onIntegers (λ a b. Whole.remainder a b) v w
+remainder v w = onIntegers (λ a b. Whole.remainderOf a b) v w
 
 abbrev pub modulus : Value → Value → Answer
-modulus v w = onIntegers (λ a b. Whole.modulus a b) v w
+modulus v w = onIntegers (λ a b. Whole.modulusOf a b) v w
 
 -- x < y, x <= y, x > y, x >= y (page 9)
 abbrev pub lessThan : Value → Value → Answer

@@ -1,8 +1,9 @@
 -- Building a set, a sequence, a map or a tuple part by part: of an enumeration's operands in written order, and of a comprehension's
 -- elements binding by binding. A refusal comes as soon as the part built calls for it.
 use mathlib.Core.Option.{Option, none as absent, some}
+use mathlib.Core.Bool.{cond}
 use Rattle.values.specs.Value.{set, sequence, map, tuple, Value, Items, none, more}
-use Rattle.values.specs.Items.{pick, same, snoc, insert, lookup, enter}
+use Rattle.values.specs.Items.{same, snoc, insert, lookup, enter}
 use Rattle.operators.specs.Answer.{Answer, clash, Built, built, stopped, fitting, closed}
 
 -- ---- one part more
@@ -16,7 +17,7 @@ addItem vs v = fitting (snoc vs v)
 -- A key that is there already, with this value: nothing to add. With another: 27.
 abbrev pub entered : Option Value → Items → Value → Value → Built
 entered absent vs k v = fitting (enter k v vs)
-entered (some w) vs k v = pick (same v w) (built vs) (stopped clash)
+entered (some w) vs k v = cond (same v w) (built vs) (stopped clash)
 
 abbrev pub addEntry : Items → Value → Value → Built
 addEntry vs k v = entered (lookup k vs) vs k v
@@ -24,17 +25,17 @@ addEntry vs k v = entered (lookup k vs) vs k v
 -- ---- all parts
 
 -- What is built goes on being built; what is stopped stays so.
-abbrev pub onward : Built → (Items → Built) → Built
-onward (built vs) f = f vs
-onward (stopped n) f = stopped n
+abbrev pub buildOn : Built → (Items → Built) → Built
+buildOn (built vs) f = f vs
+buildOn (stopped n) f = stopped n
 
 unfoldable pub addMembers : Items → Items → Built
 addMembers vs none = built vs
-addMembers vs (more w ws) = onward (addMember vs w) (λ us. addMembers us ws)
+addMembers vs (more w ws) = buildOn (addMember vs w) (λ us. addMembers us ws)
 
 unfoldable pub addItems : Items → Items → Built
 addItems vs none = built vs
-addItems vs (more w ws) = onward (addItem vs w) (λ us. addItems us ws)
+addItems vs (more w ws) = buildOn (addItem vs w) (λ us. addItems us ws)
 
 -- Of key, value, key, value. (The second stands where the key k was just read.)
 unfoldable mutual
@@ -44,7 +45,7 @@ unfoldable mutual
 
   pub addEntriesAt : Items → Value → Items → Built
   addEntriesAt vs k none = built vs
-  addEntriesAt vs k (more v ws) = onward (addEntry vs k v) (λ us. addEntries us ws)
+  addEntriesAt vs k (more v ws) = buildOn (addEntry vs k v) (λ us. addEntries us ws)
 
 -- ---- enumerations, of the values of all their operands
 

@@ -1,26 +1,26 @@
 -- Items gathered from items: those that pass a test, all of them put into a set or a map, the items of each of them.
-use mathlib.Core.Bool.{Bool, true, false, _&&_, _||_}
+use mathlib.Core.Bool.{Bool, true, false, _&&_, _||_, cond}
 use Prim.Native.Nat.{ℕ, zero, suc}
 use lib.Dec.{eqb}
 use lib.IntN.{ℤ, pos, _+ℤ_}
 use Rattle.values.specs.Value.{Kind, number, Value, boolean, integer, collection, Items, none, more}
-use Rattle.values.specs.Items.{pick, join, insert, enter}
+use Rattle.values.specs.Items.{join, insert, enter}
 
 -- ---- items and members
 
 -- Does every item pass the test? Does some item?
-unfoldable pub every : (Value → Bool) → Items → Bool
-every p none = true
-every p (more v vs) = p v && every p vs
+unfoldable pub everyItem : (Value → Bool) → Items → Bool
+everyItem p none = true
+everyItem p (more v vs) = p v && everyItem p vs
 
-unfoldable pub any : (Value → Bool) → Items → Bool
-any p none = false
-any p (more v vs) = p v || any p vs
+unfoldable pub anyItem : (Value → Bool) → Items → Bool
+anyItem p none = false
+anyItem p (more v vs) = p v || anyItem p vs
 
 -- The items that pass the test, in their order.
-unfoldable pub keep : (Value → Bool) → Items → Items
-keep p none = none
-keep p (more v vs) = pick (p v) (more v (keep p vs)) (keep p vs)
+unfoldable pub keepItems : (Value → Bool) → Items → Items
+keepItems p none = none
+keepItems p (more v vs) = cond (p v) (more v (keepItems p vs)) (keepItems p vs)
 
 -- The members of a set, and then each of these values put in, the first first.
 unfoldable pub insertAll : Items → Items → Items
@@ -28,10 +28,10 @@ insertAll vs none = vs
 insertAll vs (more w ws) = insertAll (insert w vs) ws
 
 -- The items of a value: of a boolean or an integer, none.
-abbrev pub itemsOf : Value → Items
-itemsOf (boolean b) = none
-itemsOf (integer z) = none
-itemsOf (collection k vs) = vs
+abbrev pub itemsIn : Value → Items
+itemsIn (boolean b) = none
+itemsIn (integer z) = none
+itemsIn (collection k vs) = vs
 
 -- Is it a collection of this kind?
 abbrev pub isKind : Kind → Value → Bool
@@ -42,7 +42,7 @@ isKind k (collection l vs) = eqb (number k) (number l)
 -- The items of the first, then those of the second, and so on.
 unfoldable pub flatten : Items → Items
 flatten none = none
-flatten (more v vs) = join (itemsOf v) (flatten vs)
+flatten (more v vs) = join (itemsIn v) (flatten vs)
 
 -- The items from the last to the first.
 unfoldable pub backwards : Items → Items
@@ -74,7 +74,7 @@ unfoldable mutual
 
   pub keepEntriesAt : (Value → Value → Bool) → Value → Items → Items
   keepEntriesAt p k none = none
-  keepEntriesAt p k (more v vs) = pick (p k v) (more k (more v (keepEntries p vs))) (keepEntries p vs)
+  keepEntriesAt p k (more v vs) = cond (p k v) (more k (more v (keepEntries p vs))) (keepEntries p vs)
 
 -- The entries of a map, and then each of these put in, the first first: a value gives way to a later one of the same key.
 unfoldable mutual

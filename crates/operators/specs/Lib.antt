@@ -1,3 +1,4 @@
+-- What each operator and enumeration of document 01 answers for values. Cited by meaning and by the operators on scratch.
 pub mod Answer
 pub mod Gather
 pub mod Booleans
@@ -7,4 +8,3 @@ pub mod Sequences
 pub mod Maps
 pub mod Enumerations
 pub mod Operators
-pub mod Samples

@@ -1,8 +1,8 @@
 -- The operators on maps: source 000, section 3.2.3, pages 19 and 20; applying a sequence or a map, page 68.
-use mathlib.Core.Bool.{Bool, true}
+use mathlib.Core.Bool.{Bool, true, cond}
 use mathlib.Core.Option.{Option, none as absent, some}
 use Rattle.values.specs.Value.{Kind, set, sequence, map, tuple, Value, boolean, integer, collection, Items, none, keys, mapped}
-use Rattle.values.specs.Items.{pick, same, isMember, lookup}
+use Rattle.values.specs.Items.{same, isMember, lookup}
 use Rattle.operators.specs.Answer.{Answer, is, refused, wrongKind, clash, asSet, asMap, asInteger, needs, needsBoth, found, sized}
 use Rattle.operators.specs.Gather.{insertAll, everyEntry, keepEntries, enterAll}
 use Rattle.operators.specs.Sequences.{itemAt}
@@ -25,8 +25,8 @@ abbrev pub compatible : Items → Items → Bool
 compatible vs ws = everyEntry (λ k v. agrees (lookup k vs) v) ws
 
 -- m1 munion m2 (page 20): the two must be compatible, which is tested first; over 512 bytes, 28
-abbrev pub merge : Value → Value → Answer
-merge v w = needsBoth (asMap v) (asMap w) (λ vs ws. pick (compatible vs ws) (sized map (enterAll vs ws)) (refused clash))
+abbrev pub mapUnion : Value → Value → Answer
+mapUnion v w = needsBoth (asMap v) (asMap w) (λ vs ws. cond (compatible vs ws) (sized map (enterAll vs ws)) (refused clash))
 
 -- m1 ++ m2 (page 20): any common keys are mapped as by m2; the finished map over 512 bytes, 28
 abbrev pub override : Value → Value → Answer

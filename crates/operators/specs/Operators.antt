@@ -8,7 +8,7 @@ use Rattle.operators.specs.Booleans.{negation, biimplication, equality, 
 use Rattle.operators.specs.Arithmetic.{unaryMinus, absoluteValue, sum, minus, product, integerDivision, remainder, modulus, lessThan, lessOrEqual, greaterThan, greaterOrEqual}
 use Rattle.operators.specs.Sets.{membership, notMembership, union, intersection, difference, subset, properSubset, cardinality, distributedUnion, distributedIntersection}
 use Rattle.operators.specs.Sequences.{head, tail, len, elements, indexes, reverse, concatenation, distributedConcatenation}
-use Rattle.operators.specs.Maps.{domain, range, merge, override, domainRestriction, rangeRestriction}
+use Rattle.operators.specs.Maps.{domain, range, mapUnion, override, domainRestriction, rangeRestriction}
 
 -- Where no operator has the number. (An accepted table names none such, by rule 4.)
 abbrev pub noUnary : Value → Answer
@@ -38,7 +38,7 @@ binaries =
     ∷ sum ∷ minus ∷ product ∷ integerDivision ∷ remainder ∷ modulus
     ∷ lessThan ∷ lessOrEqual ∷ greaterThan ∷ greaterOrEqual
     ∷ membership ∷ notMembership ∷ union ∷ intersection ∷ difference ∷ subset ∷ properSubset
-    ∷ concatenation ∷ merge ∷ override ∷ domainRestriction ∷ rangeRestriction ∷ []
+    ∷ concatenation ∷ mapUnion ∷ override ∷ domainRestriction ∷ rangeRestriction ∷ []
 
 unfoldable pub binary : ℕ → Value → Value → Answer
 binary n v w = getD binaries n noBinary v w

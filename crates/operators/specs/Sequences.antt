@@ -2,10 +2,11 @@
 use mathlib.Core.Option.{Option, none as absent}
 use Prim.Native.Nat.{zero, suc}
 use lib.IntN.{ℤ, pos, negsuc}
+use mathlib.Core.Bool.{cond}
 use Rattle.values.specs.Value.{set, sequence, Value, integer, collection, Items, none, more, count}
-use Rattle.values.specs.Items.{pick, join, nth}
+use Rattle.values.specs.Items.{join, nth}
 use Rattle.operators.specs.Answer.{Answer, is, refused, wrongKind, notThere, asSequence, needs, needsBoth, sized}
-use Rattle.operators.specs.Gather.{every, insertAll, isKind, flatten, backwards}
+use Rattle.operators.specs.Gather.{everyItem, insertAll, isKind, flatten, backwards}
 use Rattle.operators.specs.Sets.{counting}
 
 -- hd l: l must be non-empty
@@ -46,7 +47,7 @@ concatenation v w = needsBoth (asSequence v) (asSequence w) (λ vs ws. sized seq
 
 -- conc ll: a sequence of sequences; over 512 bytes, 28
 abbrev pub distributedConcatenation : Value → Answer
-distributedConcatenation v = needs (asSequence v) (λ vs. pick (every (isKind sequence) vs) (sized sequence (flatten vs)) (refused wrongKind))
+distributedConcatenation v = needs (asSequence v) (λ vs. cond (everyItem (isKind sequence) vs) (sized sequence (flatten vs)) (refused wrongKind))
 
 -- l(i): i must be in the indexes of l, which start at 1
 abbrev pub itemAt : Items → ℤ → Option Value

@@ -1,14 +1,14 @@
 -- The operators on sets: source 000, section 3.2.1, pages 14 and 15; the set range, page 62.
 -- Each is stated on the members first, and then on values, with its kinds and its limit.
-use mathlib.Core.Bool.{Bool, true, false, not, _&&_}
+use mathlib.Core.Bool.{Bool, true, false, not, _&&_, cond}
 use Prim.Native.Nat.{ℕ, _+_, _*_}
 use lib.Dec.{leb}
 use lib.IntN.{ℤ, pos, negsuc, _+ℤ_, _-ℤ_}
-use Rattle.values.specs.Value.{set, Value, integer, collection, Items, none, more, count, limit}
-use Rattle.values.specs.Items.{pick, isMember}
+use Rattle.values.specs.Value.{set, Value, integer, collection, Items, none, more, count, mostBytes}
+use Rattle.values.specs.Items.{isMember}
 use Rattle.operators.specs.Answer.{Answer, is, refused, wrongKind, notThere, tooLarge, asSet, asInteger, needs, needsBoth, sized}
 use Rattle.operators.specs.Booleans.{truth}
-use Rattle.operators.specs.Gather.{every, keep, insertAll, itemsOf, isKind, flatten, upFrom}
+use Rattle.operators.specs.Gather.{everyItem, keepItems, insertAll, itemsIn, isKind, flatten, upFrom}
 
 -- ---- on members
 
@@ -17,14 +17,14 @@ abbrev pub unite : Items → Items → Items
 unite vs ws = insertAll vs ws
 
 abbrev pub intersect : Items → Items → Items
-intersect vs ws = keep (λ v. isMember v ws) vs
+intersect vs ws = keepItems (λ v. isMember v ws) vs
 
 abbrev pub without : Items → Items → Items
-without vs ws = keep (λ v. not (isMember v ws)) vs
+without vs ws = keepItems (λ v. not (isMember v ws)) vs
 
 -- Every member of the first is in the second.
 abbrev pub isSubset : Items → Items → Bool
-isSubset vs ws = every (λ v. isMember v ws) vs
+isSubset vs ws = everyItem (λ v. isMember v ws) vs
 
 abbrev pub isEmpty : Items → Bool
 isEmpty none = true
@@ -35,7 +35,7 @@ abbrev pub uniteAll : Items → Items
 uniteAll vs = insertAll none (flatten vs)
 
 abbrev pub intersectAll : Value → Items → Items
-intersectAll v vs = keep (λ x. every (λ s. isMember x (itemsOf s)) vs) (itemsOf v)
+intersectAll v vs = keepItems (λ x. everyItem (λ s. isMember x (itemsIn s)) vs) (itemsIn v)
 
 -- ---- on values
 
@@ -72,7 +72,7 @@ cardinality v = needs (asSet v) (λ vs. is (integer (pos (count vs))))
 
 -- dunion ss (page 15): a set of sets; over 512 bytes, 28
 abbrev pub distributedUnion : Value → Answer
-distributedUnion v = needs (asSet v) (λ vs. pick (every (isKind set) vs) (sized set (uniteAll vs)) (refused wrongKind))
+distributedUnion v = needs (asSet v) (λ vs. cond (everyItem (isKind set) vs) (sized set (uniteAll vs)) (refused wrongKind))
 
 -- dinter ss (page 15): a set of sets, which must be non-empty
 abbrev pub intersectionOf : Items → Answer
@@ -80,7 +80,7 @@ intersectionOf none = refused notThere
 intersectionOf (more v vs) = is (collection set (intersectAll v vs))
 
 abbrev pub distributedIntersection : Value → Answer
-distributedIntersection v = needs (asSet v) (λ vs. pick (every (isKind set) vs) (intersectionOf vs) (refused wrongKind))
+distributedIntersection v = needs (asSet v) (λ vs. cond (everyItem (isKind set) vs) (intersectionOf vs) (refused wrongKind))
 
 -- ---- {e1, ..., e2} (page 62): the set of integers from e1 to e2 inclusive, empty if e2 is smaller
 
@@ -95,7 +95,7 @@ howMany from to = counted (to -ℤ from +ℤ pos 1)
 
 -- n integers, which take 8 bytes each, from one up; over 512 bytes, 28. (So n is judged before the members are formed.)
 abbrev pub counting : ℤ → ℕ → Answer
-counting from n = pick (leb (4 + 8 * n) limit) (is (collection set (upFrom from n))) (refused tooLarge)
+counting from n = cond (leb (4 + 8 * n) mostBytes) (is (collection set (upFrom from n))) (refused tooLarge)
 
 abbrev pub rangeOf : Value → Value → Answer
 rangeOf v w = needsBoth (asInteger v) (asInteger w) (λ from to. counting from (howMany from to))

@@ -1,1 +1,1 @@
-// The operators on abstract values: definitions and theorems, in specs/. The crates above do them on records.
+// The operators on abstract values: definitions in specs/, sample answers in proofs/. The crates above do them on records.

@@ -6,19 +6,19 @@ use mathlib.Core.Option.{Option, none as absent}
 use Prim.Native.Nat.{ℕ, _≤_}
 use native.Mathlib.Omega.{arith}
 use lib.Dec.{eqb}
-use Rattle.integers.specs.Range.{never}
+use Rattle.prelude.proofs.Absurd.{never}
 use Rattle.values.specs.Value.{Value, boolean}
 use Rattle.values.specs.Place.{At}
 use Rattle.values.specs.Contract.{Put}
-use Rattle.values.specs.Records.{one-value}
+use Rattle.values.proofs.Records.{one-value}
 use Rattle.operators.specs.Answer.{wrongKind, asBoolean}
 use Rattle.operators.specs.Booleans.{truth, Connective, and, or, implies, Left, settles, leaves, settledBy, ofLeft, left}
-use Rattle.scalars.specs.declared.Tested.{Tested}
-use Rattle.scalars.specs.declared.Tested.the-variants.{Settled, Open, Refused}
-use Rattle.scalars.specs.Applied.{Kept}
-use Rattle.scalars.specs.AppliedLaws.{kept-same, put-kept}
-use Rattle.scalars.specs.Scalars.{connective, Says, settled, undecided, off, TestsLeft}
-use Rattle.scalars.proofs.Numbers.{end, _▹_, each}
+use Rattle.calling.specs.declared.Tested.{Tested}
+use Rattle.calling.specs.declared.Tested.the-variants.{Settled, Open, Refused}
+use Rattle.calling.specs.Scratch.{Kept}
+use Rattle.calling.proofs.Framing.{kept-same, put-kept}
+use Rattle.scalars.specs.Connectives.{connective, Says, settled, undecided, off, TestsLeft}
+use Rattle.calling.proofs.Numbered.{end, _▹_, each}
 
 -- ---- the truth value that leaves the right to decide, and the answer for the other
 

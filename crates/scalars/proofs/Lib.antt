@@ -1,4 +1,3 @@
 mod Numbers
-mod Pairs
+mod Equals
 mod Lefts
-mod Spans

@@ -1,14 +1,12 @@
 -- The operators by number: what each of a run of numbers is, and what the machine computes of two integers that it read.
-use mathlib.Core.Path.{_≡_, refl, sym, ap, ap₂, subst, _∙_}
+use mathlib.Core.Path.{_≡_, refl, sym, ap, ap₂, _∙_}
 use mathlib.Core.Bool.{Bool}
-use Prim.Native.Nat.{ℕ, suc, _+_, _≤_, _<_}
+use Prim.Native.Nat.{ℕ, _+_, _≤_}
 use native.Mathlib.Omega.{arith}
-use borrow.Author.Tests.{eqb-true, eqb-false}
-use lib.Dec.{eqb}
 use lib.IntN.{ℤ}
 use lib.Signed.{ltZ, leZ}
 use mir.Syntax.{w32}
-use mir.Val.{SFits, toZ, ofZ}
+use mir.Val.{SFits}
 use mir.Facts.{toZ-ofZ}
 use Rattle.integers.specs.declared.Number.{Number}
 use Rattle.integers.specs.Whole as Whole
@@ -17,20 +15,8 @@ use Rattle.operators.specs.Answer.{Answer, asInteger, needs, needsBoth}
 use Rattle.operators.specs.Booleans.{truth}
 use Rattle.operators.specs.Arithmetic.{answered}
 use Rattle.operators.specs.Operators.{unary, binary}
-use Rattle.operator_laws.specs.Tests.{by-test}
-
--- ---- what holds of n numbers, one after another, holds of each of them
-
-pub data Run (P : ℕ → Type 0) : ℕ → ℕ → Type 0 where
-  end : {low : ℕ} → Run P low 0
-  _▹_ : {low n : ℕ} → P low → Run P (suc low) n → Run P low (suc n)
-
-infixr 5 _▹_
-pub each : {P : ℕ → Type 0} {low n : ℕ} → Run P low n → (k : ℕ) → low ≤ k → k < low + n → P k
-each end k h g = absurd (omega arith)
-each {P} {low} (p ▹ ps) k h g =
-    by-test (eqb k low) (λ e. subst P (sym (eqb-true k low e)) p)
-    (λ e. let d : (k ≡ low → ⊥) = eqb-false k low e in each ps k (omega arith) (omega arith))
+use Rattle.calling.proofs.Pairs.{machine}
+use Rattle.calling.proofs.Numbered.{end, _▹_, each}
 
 -- ---- 7 to 16 ask for two integers
 
@@ -48,12 +34,12 @@ pub on-integers : (operator : ℕ) → 7 ≤ operator → operator ≤ 16 → On
 unfolding binary
 on-integers operator h g =
     each {P = OnIntegers}
-    (of-numbers 7 (λ a b. Whole.sum a b) (λ v w. refl)
-    ▹ of-numbers 8 (λ a b. Whole.difference a b) (λ v w. refl)
-    ▹ of-numbers 9 (λ a b. Whole.product a b) (λ v w. refl)
-    ▹ of-numbers 10 (λ a b. Whole.quotient a b) (λ v w. refl)
-    ▹ of-numbers 11 (λ a b. Whole.remainder a b) (λ v w. refl)
-    ▹ of-numbers 12 (λ a b. Whole.modulus a b) (λ v w. refl)
+    (of-numbers 7 (λ a b. Whole.sumOf a b) (λ v w. refl)
+    ▹ of-numbers 8 (λ a b. Whole.differenceOf a b) (λ v w. refl)
+    ▹ of-numbers 9 (λ a b. Whole.productOf a b) (λ v w. refl)
+    ▹ of-numbers 10 (λ a b. Whole.quotientOf a b) (λ v w. refl)
+    ▹ of-numbers 11 (λ a b. Whole.remainderOf a b) (λ v w. refl)
+    ▹ of-numbers 12 (λ a b. Whole.modulusOf a b) (λ v w. refl)
     ▹ of-tests 13 (λ a b. ltZ a b) (λ v w. refl)
     ▹ of-tests 14 (λ a b. leZ a b) (λ v w. refl)
     ▹ of-tests 15 (λ a b. ltZ b a) (λ v w. refl)
@@ -71,26 +57,15 @@ pub on-integer : (operator : ℕ) → 2 ≤ operator → operator ≤ 3 → OnIn
 unfolding unary
 on-integer operator h g =
     each {P = OnInteger}
-    (record { f = λ a. answered (Whole.negation a); is = λ v. refl }
-    ▹ record { f = λ a. answered (Whole.absolute a); is = λ v. refl }
+    (record { f = λ a. answered (Whole.negationOf a); is = λ v. refl }
+    ▹ record { f = λ a. answered (Whole.absoluteOf a); is = λ v. refl }
     ▹ end)
     operator h (omega arith)
 
 -- ---- an operator that has the number n, of integers as the machine reads them
-
-abbrev pub machine : ℤ → ℤ
-machine z = toZ w32 (ofZ w32 z)
 
 pub by-unary : (n operator : ℕ) (f : ℤ → Answer) {x : ℤ} {a : Answer} → operator ≡ n → unary n (integer x) ≡ f x → SFits w32 x → a ≡ f (machine x) → unary operator (integer x) ≡ a
 by-unary n operator f {x} e b p h = ap (λ (k : ℕ). unary k (integer x)) e ∙ b ∙ sym (h ∙ ap f (toZ-ofZ p))
 
 pub by-binary : (n operator : ℕ) (f : ℤ → ℤ → Answer) {x y : ℤ} {a : Answer} → operator ≡ n → binary n (integer x) (integer y) ≡ f x y → SFits w32 x → SFits w32 y → a ≡ f (machine x) (machine y) → binary operator (integer x) (integer y) ≡ a
 by-binary n operator f {x} {y} e b p q h = ap (λ (k : ℕ). binary k (integer x) (integer y)) e ∙ b ∙ sym (h ∙ ap₂ f (toZ-ofZ p) (toZ-ofZ q))
-
--- ---- what is left of a run of numbers after some of them
-
-pub past : {k n : ℕ} → n ≤ k → (k ≡ n → ⊥) → suc n ≤ k
-past h f = omega (arith, f)
-
-pub meet : {k n : ℕ} → k ≤ n → n ≤ k → k ≡ n
-meet h g = omega arith

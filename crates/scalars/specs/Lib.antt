@@ -1,3 +1,2 @@
-pub mod Applied
-pub mod AppliedLaws
-pub mod Scalars
+-- What testing the left of and, or and => promises; `trials` and the evaluator cite it.
+pub mod Connectives

@@ -1,80 +1,19 @@
-// The operators on booleans and integers, equality and the set range, on values in scratch; and what all operators answer.
+// The operators on booleans and integers, and equality, on values in scratch.
+use calling::Applied;
+use calling::Pair;
+use calling::Tested;
 use integers::Number;
+use values::Value;
 ghost use mathlib.Core.Path.{_≡_};
 ghost use Prim.Native.Nat.{_+_, _≤_};
-ghost use lib.ListN.{length};
 ghost use Rattle.values.specs.Value.{integer};
 ghost use Rattle.values.specs.Contract.{Equal};
 ghost use Rattle.operators.specs.Booleans.{truth, right};
 ghost use Rattle.operators.specs.Arithmetic.{answered};
-ghost use Rattle.operators.specs.Sets.{howMany, counting, rangeOf};
 ghost use Rattle.operators.specs.Operators.{unary, binary};
-ghost use Rattle.operator_laws.specs.Results.{Fine};
-ghost use Rattle.scalars.specs.Applied.{One, Two, Gives, OnOne, OnTwo};
-ghost use Rattle.scalars.specs.Scalars.{connective, TestsLeft, PairAt, IntegersRoom, PutIntegers, CountingRoom};
-
-// What an operator answers: its value stands where its first operand stood, or it is refused by a number of document 01.
-pub enum Applied {
-    Done,
-    Refused(usize),
-}
-
-impl Applied {
-    // How far above the first operand the second stands.
-    pub const SECOND: usize = values::Value::LIMIT;
-
-    // The refusals of operators.
-    pub const WRONG_KIND: usize = 20;
-
-    pub const OUT_OF_RANGE: usize = 21;
-
-    pub const BY_ZERO: usize = 22;
-
-    pub const NOT_THERE: usize = 26;
-
-    pub const CLASH: usize = 27;
-
-    pub const TOO_LARGE: usize = 28;
-}
-
-// What the left of and, or and => says: the answer, which stands in its place; or that the right decides.
-pub enum Tested {
-    Settled,
-    Open,
-    Refused(usize),
-}
-
-// Two operands of which integers are asked.
-enum Pair {
-    Integers(i32, i32),
-    Others,
-}
-
-// ---- answers
-
-// A truth value as the answer.
-pub fn put_truth(s: &mut [u8], base: usize, b: bool) -> Applied
-    requires { ⌜ base + 5 ≤ length (now s) ⌝ }
-    ensures { λ r. ⌜ Gives (truth b) (now (s .entry)) (now (s .exit)) base r ⌝ }
-{
-    values::put_boolean(s, base, b);
-    Applied::Done
-}
-
-// An integer, 21 or 22 as the answer.
-pub fn put_number(s: &mut [u8], base: usize, n: Number) -> Applied
-    requires { ⌜ (base + 8 ≤ length (now s)) × Fine (answered n) ⌝ }
-    ensures { λ r. ⌜ Gives (answered n) (now (s .entry)) (now (s .exit)) base r ⌝ }
-{
-    match n {
-        Number::Is(z) => {
-            values::put_integer(s, base, z);
-            Applied::Done
-        }
-        Number::OutOfRange => Applied::Refused(Applied::OUT_OF_RANGE),
-        Number::ByZero => Applied::Refused(Applied::BY_ZERO),
-    }
-}
+ghost use Rattle.calling.specs.Scratch.{second};
+ghost use Rattle.calling.specs.Applied.{One, Two, OnOne, OnTwo};
+ghost use Rattle.scalars.specs.Connectives.{connective, TestsLeft};
 
 // ---- one operand: 1 not, 2 minus, 3 abs
 
@@ -83,11 +22,11 @@ fn negation(s: &mut [u8], base: usize) -> Applied
     ensures { λ r. ⌜ OnOne (unary 1) (now (s .entry)) (now (s .exit)) base r ⌝ }
 {
     let kind = values::kind_of(s, base);
-    if kind != 1 {
+    if kind != Value::BOOLEAN {
         return Applied::Refused(Applied::WRONG_KIND);
     }
     let b = values::boolean_at(s, base);
-    put_truth(s, base, !b)
+    calling::put_truth(s, base, !b)
 }
 
 fn sign(s: &mut [u8], base: usize, operator: usize) -> Applied
@@ -95,14 +34,14 @@ fn sign(s: &mut [u8], base: usize, operator: usize) -> Applied
     ensures { λ r. ⌜ OnOne (unary operator) (now (s .entry)) (now (s .exit)) base r ⌝ }
 {
     let kind = values::kind_of(s, base);
-    if kind != 2 {
+    if kind != Value::INTEGER {
         return Applied::Refused(Applied::WRONG_KIND);
     }
     let z = values::integer_at(s, base);
-    if operator == 2 {
-        return put_number(s, base, integers::neg(z));
+    if operator == tables::unary::MINUS {
+        return calling::put_number(s, base, integers::neg(z));
     }
-    put_number(s, base, integers::abs(z))
+    calling::put_number(s, base, integers::abs(z))
 }
 
 // The unary operators 1 to 3.
@@ -110,7 +49,7 @@ pub fn unary_scalar(s: &mut [u8], base: usize, operator: usize) -> Applied
     requires { ⌜ One (now s) base × (1 ≤ operator) × (operator ≤ 3) ⌝ }
     ensures { λ r. ⌜ OnOne (unary operator) (now (s .entry)) (now (s .exit)) base r ⌝ }
 {
-    if operator == 1 {
+    if operator == tables::unary::NOT {
         return negation(s, base);
     }
     sign(s, base, operator)
@@ -121,7 +60,7 @@ pub fn unary_scalar(s: &mut [u8], base: usize, operator: usize) -> Applied
 // Whether the operands are equal.
 fn same(s: &[u8], base: usize) -> bool
     requires { ⌜ Two (now s) base ⌝ }
-    ensures { λ r. ⌜ Equal (now (s .entry)) base (base + 512) r ⌝ }
+    ensures { λ r. ⌜ Equal (now (s .entry)) base (base + second) r ⌝ }
 {
     values::equal(s, base, base + Applied::SECOND)
 }
@@ -131,15 +70,15 @@ fn biimplication(s: &mut [u8], base: usize) -> Applied
     ensures { λ r. ⌜ OnTwo (binary 4) (now (s .entry)) (now (s .exit)) base r ⌝ }
 {
     let first = values::kind_of(s, base);
-    if first != 1 {
+    if first != Value::BOOLEAN {
         return Applied::Refused(Applied::WRONG_KIND);
     }
     let second = values::kind_of(s, base + Applied::SECOND);
-    if second != 1 {
+    if second != Value::BOOLEAN {
         return Applied::Refused(Applied::WRONG_KIND);
     }
     let equal = same(s, base);
-    put_truth(s, base, equal)
+    calling::put_truth(s, base, equal)
 }
 
 fn equality(s: &mut [u8], base: usize, operator: usize) -> Applied
@@ -147,30 +86,13 @@ fn equality(s: &mut [u8], base: usize, operator: usize) -> Applied
     ensures { λ r. ⌜ OnTwo (binary operator) (now (s .entry)) (now (s .exit)) base r ⌝ }
 {
     let equal = same(s, base);
-    if operator == 5 {
-        return put_truth(s, base, equal);
+    if operator == tables::binary::EQUAL {
+        return calling::put_truth(s, base, equal);
     }
-    put_truth(s, base, !equal)
+    calling::put_truth(s, base, !equal)
 }
 
 // ---- two integers
-
-fn operands(s: &[u8], base: usize) -> Pair
-    requires { ⌜ Two (now s) base ⌝ }
-    ensures { λ r. ⌜ PairAt (now (s .entry)) base r ⌝ }
-{
-    let first = values::kind_of(s, base);
-    if first != 2 {
-        return Pair::Others;
-    }
-    let second = values::kind_of(s, base + Applied::SECOND);
-    if second != 2 {
-        return Pair::Others;
-    }
-    let a = values::integer_at(s, base);
-    let b = values::integer_at(s, base + Applied::SECOND);
-    Pair::Integers(a, b)
-}
 
 // 7 +, 8 −, 9 ×, 10 div, 11 rem, 12 mod
 fn compute(operator: usize, a: i32, b: i32) -> Number
@@ -178,11 +100,11 @@ fn compute(operator: usize, a: i32, b: i32) -> Number
     ensures { λ r. ⌜ binary operator (integer a) (integer b) ≡ answered r ⌝ }
 {
     match operator {
-        7 => integers::add(a, b),
-        8 => integers::sub(a, b),
-        9 => integers::mul(a, b),
-        10 => integers::div(a, b),
-        11 => integers::rem(a, b),
+        tables::binary::PLUS => integers::add(a, b),
+        tables::binary::MINUS => integers::sub(a, b),
+        tables::binary::TIMES => integers::mul(a, b),
+        tables::binary::DIV => integers::div(a, b),
+        tables::binary::REM => integers::rem(a, b),
         _ => integers::modulo(a, b),
     }
 }
@@ -193,9 +115,9 @@ fn test(operator: usize, a: i32, b: i32) -> bool
     ensures { λ r. ⌜ binary operator (integer a) (integer b) ≡ truth r ⌝ }
 {
     match operator {
-        13 => integers::less(a, b),
-        14 => !integers::less(b, a),
-        15 => integers::less(b, a),
+        tables::binary::LESS => integers::less(a, b),
+        tables::binary::LESS_EQUAL => !integers::less(b, a),
+        tables::binary::GREATER => integers::less(b, a),
         _ => !integers::less(a, b),
     }
 }
@@ -204,9 +126,9 @@ fn arithmetic(s: &mut [u8], base: usize, operator: usize) -> Applied
     requires { ⌜ Two (now s) base × (7 ≤ operator) × (operator ≤ 12) ⌝ }
     ensures { λ r. ⌜ OnTwo (binary operator) (now (s .entry)) (now (s .exit)) base r ⌝ }
 {
-    let read = operands(s, base);
+    let read = calling::two_integers(s, base);
     match read {
-        Pair::Integers(a, b) => put_number(s, base, compute(operator, a, b)),
+        Pair::Integers(a, b) => calling::put_number(s, base, compute(operator, a, b)),
         Pair::Others => Applied::Refused(Applied::WRONG_KIND),
     }
 }
@@ -215,9 +137,9 @@ fn comparison(s: &mut [u8], base: usize, operator: usize) -> Applied
     requires { ⌜ Two (now s) base × (13 ≤ operator) × (operator ≤ 16) ⌝ }
     ensures { λ r. ⌜ OnTwo (binary operator) (now (s .entry)) (now (s .exit)) base r ⌝ }
 {
-    let read = operands(s, base);
+    let read = calling::two_integers(s, base);
     match read {
-        Pair::Integers(a, b) => put_truth(s, base, test(operator, a, b)),
+        Pair::Integers(a, b) => calling::put_truth(s, base, test(operator, a, b)),
         Pair::Others => Applied::Refused(Applied::WRONG_KIND),
     }
 }
@@ -227,13 +149,13 @@ pub fn binary_scalar(s: &mut [u8], base: usize, operator: usize) -> Applied
     requires { ⌜ Two (now s) base × (4 ≤ operator) × (operator ≤ 16) ⌝ }
     ensures { λ r. ⌜ OnTwo (binary operator) (now (s .entry)) (now (s .exit)) base r ⌝ }
 {
-    if operator == 4 {
+    if operator == tables::binary::EQUIVALENT {
         return biimplication(s, base);
     }
-    if operator <= 6 {
+    if operator <= tables::binary::NOT_EQUAL {
         return equality(s, base, operator);
     }
-    if operator <= 12 {
+    if operator <= tables::binary::MOD {
         return arithmetic(s, base, operator);
     }
     comparison(s, base, operator)
@@ -247,14 +169,14 @@ pub fn left(s: &mut [u8], base: usize, operator: usize) -> Tested
     ensures { λ r. ⌜ TestsLeft (connective operator) (now (s .entry)) (now (s .exit)) base r ⌝ }
 {
     let kind = values::kind_of(s, base);
-    if kind != 1 {
+    if kind != Value::BOOLEAN {
         return Tested::Refused(Applied::WRONG_KIND);
     }
     let b = values::boolean_at(s, base);
-    if b == (operator != 2) {
+    if b == (operator != tables::binary::OR) {
         return Tested::Open;
     }
-    values::put_boolean(s, base, operator != 1);
+    values::put_boolean(s, base, operator != tables::binary::AND);
     Tested::Settled
 }
 
@@ -264,59 +186,8 @@ pub fn right(s: &[u8], base: usize) -> Applied
     ensures { λ r. ⌜ OnOne right (now (s .entry)) (now (s .entry)) base r ⌝ }
 {
     let kind = values::kind_of(s, base);
-    if kind != 1 {
+    if kind != Value::BOOLEAN {
         return Applied::Refused(Applied::WRONG_KIND);
     }
     Applied::Done
-}
-
-// ---- {a, ..., b}
-
-// How many integers there are from one to another.
-fn how_many(from: i32, to: i32) -> usize
-    ensures { λ r. ⌜ r ≡ howMany from to ⌝ }
-{
-    let n = to as i64 - from as i64 + 1;
-    if n < 0 {
-        return 0;
-    }
-    n as usize
-}
-
-// Writes n integers, from one up, one after the other.
-fn put_integers(s: &mut [u8], at: usize, from: i32, n: usize)
-    requires { ⌜ IntegersRoom (now s) at from n ⌝ }
-    ensures { λ _. ⌜ PutIntegers (now (s .entry)) (now (s .exit)) at from n ⌝ }
-{
-    let mut i = 0;
-    while i < n {
-        values::put_integer(s, at + 8 * i, from + i as i32);
-        i += 1;
-    }
-}
-
-// The set of n integers, from one up: over 512 bytes, 28.
-pub fn counting(s: &mut [u8], base: usize, from: i32, n: usize) -> Applied
-    requires { ⌜ CountingRoom (now s) base from n ⌝ }
-    ensures { λ r. ⌜ Gives (counting from n) (now (s .entry)) (now (s .exit)) base r ⌝ }
-{
-    let size = 4 + 8 * n;
-    if size > values::Value::LIMIT {
-        return Applied::Refused(Applied::TOO_LARGE);
-    }
-    put_integers(s, base + 4, from, n);
-    values::put_head(s, base, size, 3);
-    Applied::Done
-}
-
-// The set of the integers from one to another.
-pub fn range(s: &mut [u8], base: usize) -> Applied
-    requires { ⌜ Two (now s) base ⌝ }
-    ensures { λ r. ⌜ OnTwo rangeOf (now (s .entry)) (now (s .exit)) base r ⌝ }
-{
-    let read = operands(s, base);
-    match read {
-        Pair::Integers(a, b) => counting(s, base, a, how_many(a, b)),
-        Pair::Others => Applied::Refused(Applied::WRONG_KIND),
-    }
 }

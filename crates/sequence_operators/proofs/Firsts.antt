@@ -9,21 +9,23 @@ use Rattle.values.specs.Value.{Kind, sequence, number, collection, Items, none}
 use Rattle.values.specs.Items.{join}
 use Rattle.values.specs.Place.{ItemsAt}
 use Rattle.values.specs.Contract.{Movable, Moved, Copied, PutHead}
-use Rattle.values.specs.Records.{Run, run, holds, items-to, items-none, no-items}
+use Rattle.values.proofs.Records.{Uncons, uncons, holds, items-to, items-none, no-items}
 use Rattle.operators.specs.Answer.{Answer, is, refused}
 use Rattle.operators.specs.Sequences.{headOf, tailOf}
-use Rattle.scalars.specs.declared.Applied.the-variants.{Done, Refused}
-use Rattle.scalars.specs.AppliedLaws.{is-done, copied-kept}
-use Rattle.sequence_operators.specs.Kinds.{Has, OnItems, items-by, items-off}
-use Rattle.sequence_operators.specs.Packing.{pack-start, pack-move, pack-end}
+use Rattle.calling.specs.declared.Applied.the-variants.{Done, Refused}
+use Rattle.calling.proofs.Answering.{is-done}
+use Rattle.calling.proofs.Framing.{copied-kept}
+use Rattle.calling.specs.Operands.{Has, OnItems}
+use Rattle.calling.proofs.Kinding.{items-by, items-off}
+use Rattle.gathering.proofs.Packing.{pack-start, pack-move, pack-end}
 
 -- four bytes hold no items
 pub none-off : {k : Kind} {f : Items → Answer} {s : List ℕ} {base n m : ℕ} → n ≡ word s base → n ≡ 4 → f none ≡ refused m → OnItems k f s s base (Refused m)
 none-off {f = f} e d h = items-off (λ vs a. ap f (items-none (omega arith) (items-to e a)) ∙ h)
 
 module _ {s : List ℕ} {base n : ℕ} (h : Has sequence s base) (e : n ≡ word s base) (some : n ≡ 4 → ⊥) where
-  pub first : Run s (base + 4) (base + n) (h .held .items)
-  first = let b = holds (h .held .here) in run (omega (arith, some)) (items-to e (h .held .here))
+  pub first : Uncons s (base + 4) (base + n) (h .held .items)
+  first = let b = holds (h .held .here) in uncons (omega (arith, some)) (items-to e (h .held .here))
 
   pub head-done : {t : List ℕ} {r : ℕ} → Copied s t (base + 4) base r → OnItems sequence headOf s t base Done
   head-done c = let y = first in items-by {f = headOf} (copied-kept c) (h .held .here) (is-done (ap headOf (y .is)) (c .here (y .first) (y .first-at)))
@@ -36,7 +38,7 @@ module _ {s : List ℕ} {base n : ℕ} (h : Has sequence s base) (e : n ≡ word
   tail-done {m = m} d moved head =
       let b = holds (h .held .here) in
       let w = pack-start {R = λ vs ds rs. (ds ≡ none) × (rs ≡ vs)} e (h .held) (refl, refl) in
-      let y = run (omega (arith, some)) (w .rest-at) in
+      let y = uncons (omega (arith, some)) (w .rest-at) in
       let x : ItemsAt s (base + 4 + m) (base + n) (y .rest) = subst (λ (i : ℕ). ItemsAt s (base + 4 + i) (base + n) (y .rest)) (sym d) (y .rest-at) in
       let end : base + n ≡ base + 4 + m + (n - 4 - m) = omega arith in
       let w′ =

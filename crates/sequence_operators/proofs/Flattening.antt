@@ -1,36 +1,38 @@
 -- The loop of `flatten`: the items of the sequences passed stand together. Assumes nothing.
 use mathlib.Core.Path.{_≡_, refl, sym, ap, subst, _∙_}
-use mathlib.Core.Bool.{Bool, false, _&&_}
+use mathlib.Core.Bool.{Bool, false, _&&_, cond}
 use mathlib.Core.List.{List}
 use mathlib.Core.Logic.{inr}
 use Prim.Native.Nat.{ℕ, _+_, _-_, _≤_, _<_}
 use native.Mathlib.Omega.{arith}
 use borrow.Author.Tests.{ne-eqb}
+use Rattle.prelude.proofs.Truth.{cond-true, cond-false}
 use Rattle.integers.specs.Bytes.{word}
 use Rattle.values.specs.Value.{sequence, number, Value, collection, Items, none, more}
-use Rattle.values.specs.Items.{pick, join}
+use Rattle.values.specs.Items.{join}
 use Rattle.values.specs.Place.{At, ItemsAt}
 use Rattle.values.specs.Contract.{KindAt, Movable, Moved, PutHead}
-use Rattle.values.specs.Records.{Run, run, items-to}
-use Rattle.collections.specs.Members.{pick-true, pick-false}
-use Rattle.collections.specs.Joined.{join-none, join-join}
+use Rattle.values.proofs.Records.{Uncons, uncons, items-to}
+use Rattle.values.proofs.Joined.{join-none, join-join}
 use Rattle.operators.specs.Answer.{Answer, is, refused, wrongKind, closed, sized}
-use Rattle.operators.specs.Gather.{every, isKind, flatten}
-use Rattle.operator_laws.specs.KindLaws.{kind-is, kind-test}
-use Rattle.operator_laws.specs.EnumerationLaws.{fits}
-use Rattle.scalars.specs.declared.Applied.the-variants.{Done, Refused}
-use Rattle.scalars.specs.AppliedLaws.{is-off, kept-outside}
-use Rattle.sequence_operators.specs.Kinds.{Has, OnItems, items-by}
-use Rattle.sequence_operators.specs.Packing.{Packing, pack-start, pack-move, pack-end}
+use Rattle.operators.specs.Gather.{everyItem, isKind, flatten}
+use Rattle.operator_laws.proofs.OfKind.{kind-is, kind-test}
+use Rattle.operator_laws.proofs.Enumerations.{fits}
+use Rattle.calling.specs.declared.Applied.the-variants.{Done, Refused}
+use Rattle.calling.proofs.Answering.{is-off}
+use Rattle.calling.proofs.Framing.{kept-outside}
+use Rattle.calling.specs.Operands.{Has, OnItems}
+use Rattle.calling.proofs.Kinding.{items-by}
+use Rattle.gathering.proofs.Packing.{Packing, pack-start, pack-move, pack-end}
 
 -- what conc answers on the items of its operand
 abbrev pub conc : Items → Answer
-conc vs = pick (every (isKind sequence) vs) (sized sequence (flatten vs)) (refused wrongKind)
+conc vs = cond (everyItem (isKind sequence) vs) (sized sequence (flatten vs)) (refused wrongKind)
 
 -- all the sequences' items are those done and those of the sequences left; all are sequences where those left are
 pub record Flat (vs ds rs : Items) : Type 0 where
   pub items : flatten vs ≡ join ds (flatten rs)
-  pub kinds : every (isKind sequence) vs ≡ every (isKind sequence) rs
+  pub kinds : everyItem (isKind sequence) vs ≡ everyItem (isKind sequence) rs
 
 abbrev pub Flattening : List ℕ → List ℕ → ℕ → ℕ → ℕ → ℕ → Type 0
 Flattening s t base end p q = Packing sequence Flat s t base end p q
@@ -41,17 +43,17 @@ flat-start e h = pack-start e (h .held) (record { items = refl; kinds = refl })
 
 -- the first of those left is a sequence, or not
 flat-on : (vs ds us rs : Items) → Flat vs ds (more (collection sequence us) rs) → Flat vs (join ds us) rs
-unfolding flatten every
+unfolding flatten everyItem
 flat-on vs ds us rs f = record { items = f .items ∙ sym (join-join ds us (flatten rs)); kinds = f .kinds }
 
 flat-off : (vs ds : Items) (v : Value) (rs : Items) → isKind sequence v ≡ false → Flat vs ds (more v rs) → conc vs ≡ refused wrongKind
-unfolding every
+unfolding everyItem
 flat-off vs ds v rs e f =
-    pick-false (every (isKind sequence) vs) (sized sequence (flatten vs)) (refused wrongKind) (f .kinds ∙ ap (λ (b : Bool). b && every (isKind sequence) rs) e)
+    cond-false (everyItem (isKind sequence) vs) (sized sequence (flatten vs)) (refused wrongKind) (f .kinds ∙ ap (λ (b : Bool). b && everyItem (isKind sequence) rs) e)
 
 module _ {s t : List ℕ} {base end p q : ℕ} (w : Flattening s t base end p q) (lt : p < end) where
-  pub flat-run : Run t p end (w .rest)
-  flat-run = run lt (w .rest-at)
+  pub flat-run : Uncons t p end (w .rest)
+  flat-run = uncons lt (w .rest-at)
 
   pub flat-wrong : {kind : ℕ} → KindAt t p kind → (kind ≡ 4 → ⊥) → OnItems sequence conc s t base (Refused wrongKind)
   flat-wrong r f =
@@ -77,7 +79,7 @@ module _ {s t : List ℕ} {base end p q : ℕ} (w : Flattening s t base end p q)
 
 -- none are left: what is done is all, and no longer than what it came from
 pub flat-end : {s t u : List ℕ} {base end p q : ℕ} → Flattening s t base end p q → end ≤ p → PutHead t u base (q - base) (number sequence) → OnItems sequence conc s u base Done
-unfolding flatten every
+unfolding flatten everyItem
 flat-end {base = base} {q = q} w le h =
     let d = w .done-at .ends in
     let b = w .behind in
@@ -86,6 +88,6 @@ flat-end {base = base} {q = q} w le h =
     pack-end w {f = conc} le (omega arith) h
     (λ vs ws a l f. (
       tt,
-      pick-true (every (isKind sequence) vs) (sized sequence (flatten vs)) (refused wrongKind) (f .kinds)
+      cond-true (everyItem (isKind sequence) vs) (sized sequence (flatten vs)) (refused wrongKind) (f .kinds)
           ∙ ap (sized sequence) (f .items ∙ join-none ws) ∙ ap (closed sequence) (fits ws l),
     ))

@@ -1,9 +1,6 @@
 mod Counts
 mod Firsts
 mod Flattening
-mod Gathering
 mod Turning
 mod Joining
-mod Finding
-mod Tested
 mod Numbered

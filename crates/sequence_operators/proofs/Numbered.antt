@@ -7,9 +7,10 @@ use Rattle.values.specs.Value.{sequence, Value, Items}
 use Rattle.values.specs.Contract.{KindAt}
 use Rattle.operators.specs.Answer.{Answer, wrongKind, asSequence, needs}
 use Rattle.operators.specs.Operators.{unary}
-use Rattle.scalars.specs.declared.Applied.the-variants.{Refused}
-use Rattle.scalars.specs.Applied.{OnOne}
-use Rattle.sequence_operators.specs.Kinds.{off-one, past, meet}
+use Rattle.calling.specs.declared.Applied.the-variants.{Refused}
+use Rattle.calling.specs.Applied.{OnOne}
+use Rattle.calling.proofs.Kinding.{off-one}
+use Rattle.calling.proofs.Numbered.{past, meet}
 
 -- It asks for a sequence.
 pub record Asks (n : ℕ) : Type 0 where
@@ -34,5 +35,5 @@ not-sequence {n = n} low high r f =
     off-one (a .is) r f
 
 -- the last number, where it is none of the others
-pub last : {n : ℕ} → n ≤ 13 → 7 ≤ n → (n ≡ 7 → ⊥) → (n ≡ 8 → ⊥) → (n ≡ 9 → ⊥) → (n ≡ 10 → ⊥) → (n ≡ 11 → ⊥) → (n ≡ 12 → ⊥) → n ≡ 13
-last high low a b c d e f = meet high (past (past (past (past (past (past low a) b) c) d) e) f)
+pub is-reverse : {n : ℕ} → n ≤ 13 → 7 ≤ n → (n ≡ 7 → ⊥) → (n ≡ 8 → ⊥) → (n ≡ 9 → ⊥) → (n ≡ 10 → ⊥) → (n ≡ 11 → ⊥) → (n ≡ 12 → ⊥) → n ≡ 13
+is-reverse high low a b c d e f = meet high (past (past (past (past (past (past low a) b) c) d) e) f)

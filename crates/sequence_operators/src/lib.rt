@@ -1,24 +1,18 @@
-// The operators on sequences, on values in scratch; and applying a sequence or a map.
-pub mod applying;
-
-use scalars::Applied;
+// The operators on sequences, on values in scratch.
+use calling::Applied;
 use values::Value;
 ghost use Prim.Native.Nat.{_≤_};
 ghost use lib.IntN.{pos};
-ghost use Rattle.values.specs.Value.{set, sequence, integer, collection, none, count};
-ghost use Rattle.values.specs.Items.{pick, join};
+ghost use mathlib.Core.Bool.{cond};
+ghost use Rattle.values.specs.Value.{sequence, integer, collection, count};
+ghost use Rattle.values.specs.Items.{join};
 ghost use Rattle.operators.specs.Answer.{is, refused, wrongKind, sized};
-ghost use Rattle.operators.specs.Gather.{every, insertAll, isKind, flatten, backwards};
+ghost use Rattle.operators.specs.Gather.{everyItem, isKind, flatten, backwards};
 ghost use Rattle.operators.specs.Sets.{counting};
 ghost use Rattle.operators.specs.Sequences.{headOf, tailOf};
 ghost use Rattle.operators.specs.Operators.{unary, binary};
-ghost use Rattle.scalars.specs.Applied.{One, Two, OnOne, OnTwo};
-ghost use Rattle.sequence_operators.specs.Kinds.{Has, HasTwo, OnItems, OnBoth, KindsAre};
-
-// The kinds that operands have and values are given.
-const SET: usize = 3;
-
-const SEQUENCE: usize = 4;
+ghost use Rattle.calling.specs.Applied.{One, Two, OnOne, OnTwo};
+ghost use Rattle.calling.specs.Operands.{Has, HasTwo, OnItems, OnBoth};
 
 // ---- one sequence
 
@@ -38,10 +32,10 @@ fn head(s: &mut [u8], base: usize) -> Applied
     ensures { λ r. ⌜ OnItems sequence headOf (now (s .entry)) (now (s .exit)) base r ⌝ }
 {
     let n = values::length_of(s, base);
-    if n == 4 {
+    if n == Value::HEAD {
         return Applied::Refused(Applied::NOT_THERE);
     }
-    values::copy_value(s, base + 4, base);
+    values::copy_value(s, base + Value::HEAD, base);
     Applied::Done
 }
 
@@ -51,29 +45,17 @@ fn tail(s: &mut [u8], base: usize) -> Applied
     ensures { λ r. ⌜ OnItems sequence tailOf (now (s .entry)) (now (s .exit)) base r ⌝ }
 {
     let n = values::length_of(s, base);
-    if n == 4 {
+    if n == Value::HEAD {
         return Applied::Refused(Applied::NOT_THERE);
     }
-    let first = values::length_of(s, base + 4);
-    values::copy_bytes(s, base + 4 + first, base + 4, n - 4 - first);
-    values::put_head(s, base, n - first, SEQUENCE);
-    Applied::Done
-}
-
-// 10 elems: every item goes into an empty set.
-fn elements(s: &mut [u8], base: usize) -> Applied
-    requires { ⌜ Has sequence (now s) base ⌝ }
-    ensures { λ r. ⌜ OnItems sequence (λ vs. is (collection set (insertAll none vs))) (now (s .entry)) (now (s .exit)) base r ⌝ }
-{
-    let end = base + values::length_of(s, base);
-    collections::building::put_empty(s, base + 512, SET);
-    let mut p = base + 4;
-    while p < end {
-        let n = values::length_of(s, p);
-        collections::building::insert(s, base + 512, p);
-        p += n;
-    }
-    values::copy_value(s, base + 512, base);
+    let first = values::length_of(s, base + Value::HEAD);
+    values::copy_bytes(
+        s,
+        base + Value::HEAD + first,
+        base + Value::HEAD,
+        n - Value::HEAD - first,
+    );
+    values::put_head(s, base, n - first, Value::SEQUENCE);
     Applied::Done
 }
 
@@ -83,27 +65,27 @@ fn indexes(s: &mut [u8], base: usize) -> Applied
     ensures { λ r. ⌜ OnItems sequence (λ vs. counting (pos 1) (count vs)) (now (s .entry)) (now (s .exit)) base r ⌝ }
 {
     let n = collections::finding::count_of(s, base);
-    scalars::counting(s, base, 1, n)
+    gathering::counting(s, base, 1, n)
 }
 
 // 12 conc: the items of each sequence move down over the headings.
 fn flatten(s: &mut [u8], base: usize) -> Applied
     requires { ⌜ Has sequence (now s) base ⌝ }
-    ensures { λ r. ⌜ OnItems sequence (λ vs. pick (every (isKind sequence) vs) (sized sequence (flatten vs)) (refused wrongKind)) (now (s .entry)) (now (s .exit)) base r ⌝ }
+    ensures { λ r. ⌜ OnItems sequence (λ vs. cond (everyItem (isKind sequence) vs) (sized sequence (flatten vs)) (refused wrongKind)) (now (s .entry)) (now (s .exit)) base r ⌝ }
 {
     let end = base + values::length_of(s, base);
-    let mut p = base + 4;
-    let mut q = base + 4;
+    let mut p = base + Value::HEAD;
+    let mut q = base + Value::HEAD;
     while p < end {
-        if values::kind_of(s, p) != SEQUENCE {
+        if values::kind_of(s, p) != Value::SEQUENCE {
             return Applied::Refused(Applied::WRONG_KIND);
         }
         let n = values::length_of(s, p);
-        values::copy_bytes(s, p + 4, q, n - 4);
-        q += n - 4;
+        values::copy_bytes(s, p + Value::HEAD, q, n - Value::HEAD);
+        q += n - Value::HEAD;
         p += n;
     }
-    values::put_head(s, base, q - base, SEQUENCE);
+    values::put_head(s, base, q - base, Value::SEQUENCE);
     Applied::Done
 }
 
@@ -113,9 +95,9 @@ fn reverse(s: &mut [u8], base: usize) -> Applied
     ensures { λ r. ⌜ OnItems sequence (λ vs. is (collection sequence (backwards vs))) (now (s .entry)) (now (s .exit)) base r ⌝ }
 {
     let n = values::length_of(s, base);
-    values::copy_value(s, base, base + 512);
-    let end = base + 512 + n;
-    let mut p = base + 516;
+    values::copy_value(s, base, base + Applied::SECOND);
+    let end = base + Applied::SECOND + n;
+    let mut p = base + Applied::SECOND + Value::HEAD;
     let mut q = base + n;
     while p < end {
         let m = values::length_of(s, p);
@@ -132,16 +114,16 @@ pub fn unary_sequence(s: &mut [u8], base: usize, operator: usize) -> Applied
     ensures { λ r. ⌜ OnOne (unary operator) (now (s .entry)) (now (s .exit)) base r ⌝ }
 {
     let kind = values::kind_of(s, base);
-    if kind != SEQUENCE {
+    if kind != Value::SEQUENCE {
         return Applied::Refused(Applied::WRONG_KIND);
     }
     match operator {
-        7 => len(s, base),
-        8 => head(s, base),
-        9 => tail(s, base),
-        10 => elements(s, base),
-        11 => indexes(s, base),
-        12 => flatten(s, base),
+        tables::unary::LEN => len(s, base),
+        tables::unary::HD => head(s, base),
+        tables::unary::TL => tail(s, base),
+        tables::unary::ELEMS => gathering::elements(s, base),
+        tables::unary::INDS => indexes(s, base),
+        tables::unary::CONC => flatten(s, base),
         _ => reverse(s, base),
     }
 }
@@ -154,26 +136,19 @@ fn join(s: &mut [u8], base: usize) -> Applied
     ensures { λ r. ⌜ OnBoth sequence sequence (λ vs ws. sized sequence (join vs ws)) (now (s .entry)) (now (s .exit)) base r ⌝ }
 {
     let n = values::length_of(s, base);
-    let m = values::length_of(s, base + 512);
-    let whole = n + m - 4;
+    let m = values::length_of(s, base + Applied::SECOND);
+    let whole = n + m - Value::HEAD;
     if Value::LIMIT < whole {
         return Applied::Refused(Applied::TOO_LARGE);
     }
-    values::copy_bytes(s, base + 516, base + n, m - 4);
-    values::put_head(s, base, whole, SEQUENCE);
+    values::copy_bytes(
+        s,
+        base + Applied::SECOND + Value::HEAD,
+        base + n,
+        m - Value::HEAD,
+    );
+    values::put_head(s, base, whole, Value::SEQUENCE);
     Applied::Done
-}
-
-// Whether the operands are of these kinds.
-pub fn kinds_are(s: &[u8], base: usize, first: usize, second: usize) -> bool
-    requires { ⌜ Two (now s) base ⌝ }
-    ensures { λ r. ⌜ KindsAre (now (s .entry)) base first second r ⌝ }
-{
-    let kind = values::kind_of(s, base);
-    if kind != first {
-        return false;
-    }
-    values::kind_of(s, base + 512) == second
 }
 
 // 24 ^
@@ -181,7 +156,7 @@ pub fn concatenate(s: &mut [u8], base: usize) -> Applied
     requires { ⌜ Two (now s) base ⌝ }
     ensures { λ r. ⌜ OnTwo (binary 24) (now (s .entry)) (now (s .exit)) base r ⌝ }
 {
-    if kinds_are(s, base, SEQUENCE, SEQUENCE) {
+    if calling::kinds_are(s, base, Value::SEQUENCE, Value::SEQUENCE) {
         return join(s, base);
     }
     Applied::Refused(Applied::WRONG_KIND)

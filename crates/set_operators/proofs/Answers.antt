@@ -1,77 +1,82 @@
 -- What the code of each operator did is what the operator promises.
 use mathlib.Core.Path.{_≡_, refl, sym, ap, ap₂, subst, _∙_}
-use mathlib.Core.Bool.{Bool, true, false, not, _&&_, Bool·beq}
+use mathlib.Core.Bool.{Bool, true, false, not, _&&_, Bool·beq, cond}
 use mathlib.Core.List.{List}
 use mathlib.Core.Logic.{inr}
 use mathlib.Core.Option.{none as absent}
 use Prim.Native.Nat.{ℕ, _+_, _≤_, _<_}
 use native.Mathlib.Omega.{arith}
 use lib.Dec.{eqb}
+use Rattle.prelude.proofs.Absurd.{never}
+use Rattle.prelude.proofs.Truth.{both-ways, by-test}
 use Rattle.integers.specs.Bytes.{word}
-use Rattle.integers.specs.Range.{never}
-use Rattle.values.specs.Value.{set, Value, collection, Items, none, more, size, Ascending, limit}
-use Rattle.values.specs.Items.{pick, same, isMember}
+use Rattle.values.specs.Value.{set, Value, collection, Items, none, more, size, Ascending, mostBytes}
+use Rattle.values.specs.Items.{same, isMember}
 use Rattle.values.specs.Place.{At, ItemsAt, HoldsItems}
 use Rattle.values.specs.Contract.{Equal, Copyable, Copied}
-use Rattle.values.specs.Laws.{same-true, true-same}
-use Rattle.values.specs.Encoding.{collection-size}
-use Rattle.values.specs.Records.{holds, word-size, items-to, one-item, collection-shaped}
+use Rattle.values.proofs.Order.{same-true, true-same}
+use Rattle.values.proofs.Encoding.{collection-size}
+use Rattle.values.proofs.Records.{holds, word-size, items-to, one-item, collection-shaped}
 use Rattle.collections.specs.declared.building.Added.{Added}
 use Rattle.collections.specs.declared.building.Added.the-variants.{Done as Fitted, Full as TooLong}
 use Rattle.collections.specs.Finding.{HoldsKind, Contains}
-use Rattle.collections.specs.Built.{fits, over}
+use Rattle.collections.proofs.Built.{fits, over}
 use Rattle.operators.specs.Answer.{is, refused, wrongKind, asSet, closed, sized}
 use Rattle.operators.specs.Booleans.{truth}
-use Rattle.operators.specs.Gather.{every, keep, insertAll}
+use Rattle.operators.specs.Gather.{everyItem, keepItems, insertAll}
 use Rattle.operators.specs.Sets.{isSubset, isEmpty, without}
 use Rattle.operators.specs.Operators.{binary}
-use Rattle.operator_laws.specs.Tests.{both-ways, by-test}
-use Rattle.operator_laws.specs.EnumerationLaws.{fits as fitting-is, fits-not}
-use Rattle.operator_laws.specs.SetLaws.{subset-all, subset-equal}
-use Rattle.scalars.specs.declared.Applied.{Applied}
-use Rattle.scalars.specs.declared.Applied.the-variants.{Done, Refused}
-use Rattle.scalars.specs.Applied.{Two, OnTwo, Gives}
-use Rattle.scalars.specs.AppliedLaws.{kept-outside, two-by, two-off, is-off, two-done, two-gives, gives-same, copyable-down, two-copied, needs-off}
-use Rattle.set_operators.specs.Members.{AllIn, Growing, Grown, InsertsAll, themselves, agrees, chosen, Choice, Chosen}
+use Rattle.operator_laws.proofs.Enumerations.{fits as fitting-is, fits-not}
+use Rattle.operator_laws.proofs.Sets.{subset-all, subset-equal}
+use Rattle.calling.specs.Scratch.{second, third}
+use Rattle.calling.specs.declared.Applied.{Applied}
+use Rattle.calling.specs.declared.Applied.the-variants.{Done, Refused}
+use Rattle.calling.specs.Applied.{Two, OnTwo, Gives}
+use Rattle.calling.proofs.Framing.{kept-outside, copyable-down}
+use Rattle.calling.proofs.Answering.{two-by, two-off, is-off, two-done, two-gives, gives-same, two-copied}
+use Rattle.calling.proofs.Kinding.{needs-off}
+use Rattle.set_operators.specs.Members.{AllIn, asWanted, wantedOf, Choice, Chosen}
+use Rattle.gathering.specs.Inserting.{Growing, Grown, InsertsAll, themselves}
 use Rattle.set_operators.specs.Operands.{IsOfKind, TwoSets}
 use Rattle.set_operators.proofs.Choosing.{as-wanted}
-use Rattle.set_operators.proofs.Telling.{either, binary-as}
+use Rattle.calling.proofs.Numbered.{binary-as}
+use Rattle.set_operators.proofs.Telling.{either}
 
 -- ---- 17 in set, 18 not in set
 
 module _ {n : ℕ} (low : 17 ≤ n) (high : n ≤ 18) where
-  member-is : (v : Value) (ws : Items) → binary n v (collection set ws) ≡ truth (agrees (eqb n 17) (isMember v ws))
+  member-is : (v : Value) (ws : Items) → binary n v (collection set ws) ≡ truth (asWanted (eqb n 17) (isMember v ws))
   unfolding binary
-  member-is v ws = either (λ (m : ℕ). binary m v (collection set ws) ≡ truth (agrees (eqb m 17) (isMember v ws))) 17 18 refl low high refl refl
+  member-is v ws = either (λ (m : ℕ). binary m v (collection set ws) ≡ truth (asWanted (eqb m 17) (isMember v ws))) 17 18 refl low high refl refl
 
   member-off : (v w : Value) → asSet w ≡ absent → binary n v w ≡ refused wrongKind
   unfolding binary
   member-off v w e =
       either (λ (m : ℕ). binary m v w ≡ refused wrongKind) 17 18 refl low high (needs-off (λ ws. truth (isMember v ws)) e) (needs-off (λ ws. truth (not (isMember v ws))) e)
 
-  module _ {s : List ℕ} {base : ℕ} {r : Bool} (k : IsOfKind s (base + 512) 3 r) where
+  module _ {s : List ℕ} {base : ℕ} {r : Bool} (k : IsOfKind s (base + second) 3 r) where
     pub membership-off : r ≡ false → OnTwo (binary n) s s base (Refused 20)
     membership-off e = two-off (λ v w a b. member-off v w (k .no set refl e w b))
 
-    pub membership-done : {t : List ℕ} {found : Bool} {q : Applied} → r ≡ true → Two s base → Contains s (base + 512) base found → Gives (truth (Bool·beq found (eqb n 17))) s t base q → OnTwo (binary n) s t base q
+    pub membership-done : {t : List ℕ} {found : Bool} {q : Applied} → r ≡ true → Two s base → Contains s (base + second) base found → Gives (truth (Bool·beq found (eqb n 17))) s t base q → OnTwo (binary n) s t base q
     membership-done {found = found} e two c g =
         let h = k .yes set refl e in
         let v = two .left .value in
         let a = two .left .here in
         let w : found ≡ isMember v (h .items) = c (h .items) v (h .here) a in
-        two-gives a (h .here) (gives-same (member-is v (h .items) ∙ ap (λ (b : Bool). truth (agrees (eqb n 17) b)) (sym w) ∙ ap truth (sym (as-wanted found (eqb n 17)))) g)
+        two-gives a (h .here) (gives-same (member-is v (h .items) ∙ ap (λ (b : Bool). truth (asWanted (eqb n 17) b)) (sym w) ∙ ap truth (sym (as-wanted found (eqb n 17)))) g)
 
 -- ---- a set that was built
 
 pub grown-done : {t : List ℕ} {at : ℕ} {us : Items} {r : Added} → Grown t at us r → r ≡ Fitted → sized set us ≡ is (collection set us)
 grown-done {us = us} g e =
-    let h : size (collection set us) ≤ limit = fits (g .answers) e in
+    let h : size (collection set us) ≤ mostBytes = fits (g .answers) e in
     let c = collection-size set us in
     ap (closed set) (fitting-is us (omega arith))
 
 pub grown-full : {t : List ℕ} {at : ℕ} {us : Items} {r : Added} → Grown t at us r → r ≡ TooLong → sized set us ≡ refused 28
 grown-full {us = us} g e =
-    let h : limit < size (collection set us) = over (g .answers) e in
+    let h : mostBytes < size (collection set us) = over (g .answers) e in
     let c = collection-size set us in
     ap (closed set) (fits-not us (omega arith))
 
@@ -82,15 +87,15 @@ module _ {s : List ℕ} {base : ℕ} {b : Bool} (k : TwoSets s base b) (two : Tw
   unfolding binary
   union-off e = two-off (λ v w x y. k .others e v w x y _)
 
-  module _ (e : b ≡ true) (n : ℕ) (q : n ≡ word s (base + 512)) where
-    pub union-room : HoldsItems s (base + 512 + 4) (base + 512 + n) × Growing s (base + 512 + 4) (base + 512 + n) base
+  module _ (e : b ≡ true) (n : ℕ) (q : n ≡ word s (base + second)) where
+    pub union-room : HoldsItems s (base + second + 4) (base + second + n) × Growing s (base + second + 4) (base + second + n) base
     union-room =
         let room = two .room in (
           (k .right e .items, items-to q (k .right e .here)),
           record { held = k .left e; room = omega arith; apart = inr (omega arith) },
         )
 
-    module _ {t : List ℕ} {r : Added} (i : InsertsAll themselves s t (base + 512 + 4) (base + 512 + n) base r) where
+    module _ {t : List ℕ} {r : Added} (i : InsertsAll themselves s t (base + second + 4) (base + second + n) base r) where
       united : Grown t base (insertAll (k .left e .items) (k .right e .items)) r
       united = i .right (k .left e .items) (k .right e .items) (k .left e .here) (items-to q (k .right e .here))
 
@@ -104,20 +109,20 @@ module _ {s : List ℕ} {base : ℕ} {b : Bool} (k : TwoSets s base b) (two : Tw
 
 -- ---- 20 inter, 21 difference
 
-keep-same : (p q : Value → Bool) (vs : Items) → ((v : Value) → p v ≡ q v) → keep p vs ≡ keep q vs
-unfolding keep
+keep-same : (p q : Value → Bool) (vs : Items) → ((v : Value) → p v ≡ q v) → keepItems p vs ≡ keepItems q vs
+unfolding keepItems
 keep-same p q none f = refl
-keep-same p q (more v vs) f = ap (λ (b : Bool). pick b (more v (keep p vs)) (keep p vs)) (f v) ∙ ap (λ (us : Items). pick (q v) (more v us) us) (keep-same p q vs f)
+keep-same p q (more v vs) f = ap (λ (b : Bool). cond b (more v (keepItems p vs)) (keepItems p vs)) (f v) ∙ ap (λ (us : Items). cond (q v) (more v us) us) (keep-same p q vs f)
 
 and-true : (b : Bool) → b ≡ b && true
 and-true true = refl
 and-true false = refl
 
 module _ {op : ℕ} (low : 20 ≤ op) (high : op ≤ 21) where
-  chosen-is : (vs ws : Items) → binary op (collection set vs) (collection set ws) ≡ is (collection set (chosen (eqb op 20) vs (more (collection set ws) none)))
-  unfolding binary every
+  chosen-is : (vs ws : Items) → binary op (collection set vs) (collection set ws) ≡ is (collection set (wantedOf (eqb op 20) vs (more (collection set ws) none)))
+  unfolding binary everyItem
   chosen-is vs ws =
-      either (λ (m : ℕ). binary m (collection set vs) (collection set ws) ≡ is (collection set (chosen (eqb m 20) vs (more (collection set ws) none)))) 20 21 refl low high
+      either (λ (m : ℕ). binary m (collection set vs) (collection set ws) ≡ is (collection set (wantedOf (eqb m 20) vs (more (collection set ws) none)))) 20 21 refl low high
       (ap (λ (us : Items). is (collection set us)) (keep-same (λ v. isMember v ws) (λ v. isMember v ws && true) vs (λ v. and-true (isMember v ws))))
       (ap (λ (us : Items). is (collection set us)) (keep-same (λ v. not (isMember v ws)) (λ v. not (isMember v ws && true)) vs (λ v. ap not (and-true (isMember v ws)))))
 
@@ -127,14 +132,14 @@ module _ {op : ℕ} (low : 20 ≤ op) (high : op ≤ 21) where
     selection-off e =
         two-off (λ v w x y. either (λ (m : ℕ). binary m v w ≡ refused wrongKind) 20 21 refl low high (k .others e v w x y _) (k .others e v w x y _))
 
-    module _ (e : b ≡ true) (n : ℕ) (q : n ≡ word s (base + 512)) where
-      right-alone : ItemsAt s (base + 512) (base + 512 + n) (more (collection set (k .right e .items)) none)
+    module _ (e : b ≡ true) (n : ℕ) (q : n ≡ word s (base + second)) where
+      right-alone : ItemsAt s (base + second) (base + second + n) (more (collection set (k .right e .items)) none)
       right-alone =
           let h = k .right e .here in
-          subst (λ (m : ℕ). ItemsAt s (base + 512) (base + 512 + m) (more (collection set (k .right e .items)) none)) (sym (q ∙ word-size h)) (one-item h)
+          subst (λ (m : ℕ). ItemsAt s (base + second) (base + second + m) (more (collection set (k .right e .items)) none)) (sym (q ∙ word-size h)) (one-item h)
 
-      pub selection-room : Choice s base (base + 512) (base + 512 + n) (base + 1024)
-      unfolding every
+      pub selection-room : Choice s base (base + second) (base + second + n) (base + third)
+      unfolding everyItem
       selection-room =
           let l = holds (k .left e .here) in
           let r = holds (k .right e .here) in
@@ -149,25 +154,25 @@ module _ {op : ℕ} (low : 20 ≤ op) (high : op ≤ 21) where
             room = omega arith;
           }
 
-      module _ {t : List ℕ} (c : Chosen s t base (base + 512) (base + 512 + n) (base + 1024) (eqb op 20)) where
-        selected : At t (base + 1024) (collection set (chosen (eqb op 20) (k .left e .items) (more (collection set (k .right e .items)) none)))
+      module _ {t : List ℕ} (c : Chosen s t base (base + second) (base + second + n) (base + third) (eqb op 20)) where
+        selected : At t (base + third) (collection set (wantedOf (eqb op 20) (k .left e .items) (more (collection set (k .right e .items)) none)))
         selected = c .right (k .left e .items) (more (collection set (k .right e .items)) none) (k .left e .here) right-alone
 
-        pub selection-copy : Copyable t (base + 1024) base
+        pub selection-copy : Copyable t (base + third) base
         selection-copy = copyable-down (omega arith) (holds selected)
 
-        pub selection-done : {u : List ℕ} {m : ℕ} → Copied t u (base + 1024) base m → OnTwo (binary op) s u base Done
+        pub selection-done : {u : List ℕ} {m : ℕ} → Copied t u (base + third) base m → OnTwo (binary op) s u base Done
         selection-done d = two-copied (kept-outside (omega arith) (c .frame)) (k .left e .here) (k .right e .here) (chosen-is (k .left e .items) (k .right e .items)) selected d
 
 -- ---- 22 subset, 23 psubset
 
 -- none is outside where every one is inside
 empty-without : (vs ws : Items) → isEmpty (without ws vs) ≡ isSubset ws vs
-unfolding keep every
+unfolding keepItems everyItem
 empty-without vs none = refl
 empty-without vs (more w ws) = go (isMember w vs) (empty-without vs ws)
   where
-    go : (b : Bool) → isEmpty (without ws vs) ≡ isSubset ws vs → isEmpty (pick (not b) (more w (without ws vs)) (without ws vs)) ≡ b && isSubset ws vs
+    go : (b : Bool) → isEmpty (without ws vs) ≡ isSubset ws vs → isEmpty (cond (not b) (more w (without ws vs)) (without ws vs)) ≡ b && isSubset ws vs
     go true e = e
     go false e = refl
 
@@ -211,10 +216,10 @@ module _ {s : List ℕ} {base : ℕ} {b : Bool} (k : TwoSets s base b) where
       two-off (λ v w x y. either (λ (m : ℕ). binary m v w ≡ refused wrongKind) 22 23 refl low high (k .others e v w x y _) (k .others e v w x y _))
 
   module _ (e : b ≡ true) (n : ℕ) (q : n ≡ word s base) where
-    pub inclusion-room : HoldsItems s (base + 4) (base + n) × HoldsKind set s (base + 512)
+    pub inclusion-room : HoldsItems s (base + 4) (base + n) × HoldsKind set s (base + second)
     inclusion-room = ((k .left e .items, items-to q (k .left e .here)), k .right e)
 
-    module _ {inside : Bool} (i : AllIn s (base + 4) (base + n) (base + 512) inside) where
+    module _ {inside : Bool} (i : AllIn s (base + 4) (base + n) (base + second) inside) where
       inside-is : inside ≡ isSubset (k .left e .items) (k .right e .items)
       inside-is = i (k .left e .items) (k .right e .items) (items-to q (k .left e .here)) (k .right e .here)
 
@@ -222,7 +227,7 @@ module _ {s : List ℕ} {base : ℕ} {b : Bool} (k : TwoSets s base b) where
       unfolding binary
       subset-done d g = binary-as 22 d (two-gives (k .left e .here) (k .right e .here) (gives-same (ap truth (sym inside-is)) g))
 
-      pub psubset-done : {t : List ℕ} {op : ℕ} {equal : Bool} {r : Applied} → op ≡ 23 → Equal s base (base + 512) equal → Gives (truth (not (Bool·beq inside equal))) s t base r → OnTwo (binary op) s t base r
+      pub psubset-done : {t : List ℕ} {op : ℕ} {equal : Bool} {r : Applied} → op ≡ 23 → Equal s base (base + second) equal → Gives (truth (not (Bool·beq inside equal))) s t base r → OnTwo (binary op) s t base r
       unfolding binary
       psubset-done {equal = equal} d f g =
           let vs = k .left e .items in

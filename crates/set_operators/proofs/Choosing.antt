@@ -1,38 +1,38 @@
 -- Members that are chosen one after another: those that were put at the end of a sequence, with those left that will be, are all that are chosen.
 use mathlib.Core.Path.{_≡_, refl, sym, ap, subst, _∙_}
-use mathlib.Core.Bool.{Bool, true, false, Bool·beq}
+use mathlib.Core.Bool.{Bool, true, false, Bool·beq, cond}
 use mathlib.Core.List.{List}
 use mathlib.Core.Logic.{inl}
 use Prim.Native.Nat.{ℕ, _+_, _≤_, _<_}
 use native.Mathlib.Omega.{arith}
 use Rattle.integers.specs.Bytes.{word}
-use Rattle.values.specs.Value.{set, sequence, Value, collection, Items, none, more, size, sizes, limit}
-use Rattle.values.specs.Items.{pick, join, snoc}
+use Rattle.values.specs.Value.{set, sequence, Value, collection, Items, none, more, size, sizes, mostBytes}
+use Rattle.values.specs.Items.{join, snoc}
 use Rattle.values.specs.Place.{At, ItemsAt, Holds, Outside}
-use Rattle.values.specs.Encoding.{collection-size, snoc-sizes}
-use Rattle.values.specs.Records.{holds, word-size, items-to, collection-shaped}
-use Rattle.values.specs.Frame.{outside-none, outside-wider, outside-both, at-below, items-below, word-below}
+use Rattle.values.proofs.Encoding.{collection-size, snoc-sizes}
+use Rattle.values.proofs.Records.{holds, word-size, items-to, collection-shaped}
+use Rattle.values.proofs.Frame.{outside-none, outside-wider, outside-both, at-below, items-below, word-below}
 use Rattle.collections.specs.declared.building.Added.{Added}
-use Rattle.collections.specs.Joined.{join-none, join-join}
+use Rattle.values.proofs.Joined.{join-none, join-join}
 use Rattle.collections.specs.Finding.{HoldsCollection}
 use Rattle.collections.specs.Building.{Appends, Empties, Retags}
-use Rattle.operators.specs.Gather.{keep}
-use Rattle.operator_laws.specs.GatherLaws.{ascending-keep}
-use Rattle.set_operators.specs.Members.{HoldsSets, inAll, InAll, agrees, chosen, Appendable, AppendsIf, Choice, Chosen}
-use Rattle.set_operators.proofs.Walks.{Left, first-left, left-on, left-none}
-use Rattle.set_operators.proofs.Growth.{Next, next-item, put-added}
+use Rattle.operators.specs.Gather.{keepItems}
+use Rattle.operator_laws.proofs.Gather.{ascending-keep}
+use Rattle.set_operators.specs.Members.{HoldsSets, inAll, InAll, asWanted, wantedOf, Appendable, AppendsIf, Choice, Chosen}
+use Rattle.gathering.proofs.Walks.{Left, first-left, left-on, left-none}
+use Rattle.gathering.proofs.Growth.{Next, next-item, put-added}
 
 -- ---- one item
 
 -- code compares what was found with what is wanted
-pub as-wanted : (found wanted : Bool) → Bool·beq found wanted ≡ agrees wanted found
+pub as-wanted : (found wanted : Bool) → Bool·beq found wanted ≡ asWanted wanted found
 as-wanted true true = refl
 as-wanted true false = refl
 as-wanted false true = refl
 as-wanted false false = refl
 
-pub appended : {s t : List ℕ} {at x : ℕ} {r : Added} {b : Bool} → Appendable s at x → Appends s t at x r → b ≡ true → AppendsIf s t at x b
-appended {s} {t} {at} {x} {r} {b} p q e =
+pub append-done : {s t : List ℕ} {at x : ℕ} {r : Added} {b : Bool} → Appendable s at x → Appends s t at x r → b ≡ true → AppendsIf s t at x b
+append-done {s} {t} {at} {x} {r} {b} p q e =
     record {
       frame = q .frame;
       right = λ us v a h.
@@ -48,14 +48,14 @@ appended {s} {t} {at} {x} {r} {b} p q e =
     }
 
 pub passed-over : (s : List ℕ) (at x : ℕ) {b : Bool} → b ≡ false → AppendsIf s s at x b
-passed-over s at x e = record { frame = outside-none s at (at + limit); right = λ us v a h. rw e a }
+passed-over s at x e = record { frame = outside-none s at (at + mostBytes); right = λ us v a h. rw e a }
 
 -- ---- what stands below stays
 
-sets-still : {s t : List ℕ} {a b at : ℕ} → Outside s t at (at + limit) → b ≤ at → HoldsSets s a b → HoldsSets t a b
+sets-still : {s t : List ℕ} {a b at : ℕ} → Outside s t at (at + mostBytes) → b ≤ at → HoldsSets s a b → HoldsSets t a b
 sets-still o h x = record { items = x .items; here = items-below o h (x .here); sets = x .sets }
 
-pub choice-still : {s t : List ℕ} {x a b at : ℕ} → Outside s t at (at + limit) → Choice s x a b at → Choice t x a b at
+pub choice-still : {s t : List ℕ} {x a b at : ℕ} → Outside s t at (at + mostBytes) → Choice s x a b at → Choice t x a b at
 choice-still {s} {t} {x} {a} {b} {at} o r =
     let n = word-size (r .held .here) in
     let h = holds (r .held .here) in
@@ -74,45 +74,45 @@ choice-still {s} {t} {x} {a} {b} {at} o r =
 
 -- ---- the walk
 
-abbrev pub passes : Bool → Items → Value → Bool
-passes wanted ws v = agrees wanted (inAll v ws)
+abbrev pub wantedIn : Bool → Items → Value → Bool
+wantedIn wanted ws v = asWanted wanted (inAll v ws)
 
 pub record Picked (s t : List ℕ) (end at p : ℕ) (q : Value → Bool) (vs : Items) : Type 0 where
   pub us : Items
   pub made : At t at (collection sequence us)
-  pub left : Left s end (λ (rest : Items). (keep q vs ≡ join us (keep q rest)) × (4 + (sizes us + sizes rest) ≤ limit)) p
+  pub left : Left s end (λ (rest : Items). (keepItems q vs ≡ join us (keepItems q rest)) × (4 + (sizes us + sizes rest) ≤ mostBytes)) p
 
 pub record Choosing (s t : List ℕ) (x a b at : ℕ) (wanted : Bool) (p : ℕ) : Type 0 where
   pub choice : Choice s x a b at
-  pub frame : Outside s t at (at + limit)
-  pub state : (vs ws : Items) → At s x (collection set vs) → ItemsAt s a b ws → Picked s t (x + word s x) at p (passes wanted ws) vs
+  pub frame : Outside s t at (at + mostBytes)
+  pub state : (vs ws : Items) → At s x (collection set vs) → ItemsAt s a b ws → Picked s t (x + word s x) at p (wantedIn wanted ws) vs
 
 pub choose-start : {s : List ℕ} {x a b at : ℕ} (wanted : Bool) → Choice s x a b at → At s at (collection sequence none) → Choosing s s x a b at wanted (x + 4)
 unfolding join size
 choose-start {s} {x} {a} {b} {at} wanted r e =
     record {
       choice = r;
-      frame = outside-none s at (at + limit);
+      frame = outside-none s at (at + mostBytes);
       state = λ vs ws h g.
           let short = h .fine .short in
           record { us = none; made = e; left = record { rest = vs; here = items-to refl h; so = (refl, omega arith) } };
     }
 
-keep-on : (q : Value → Bool) (us : Items) (v : Value) (rest : Items) (b : Bool) → q v ≡ b → join us (keep q (more v rest)) ≡ join (pick b (snoc us v) us) (keep q rest)
-unfolding keep join
-keep-on q us v rest true e = rw e (sym (join-join us (more v none) (keep q rest)))
+keep-on : (q : Value → Bool) (us : Items) (v : Value) (rest : Items) (b : Bool) → q v ≡ b → join us (keepItems q (more v rest)) ≡ join (cond b (snoc us v) us) (keepItems q rest)
+unfolding keepItems join
+keep-on q us v rest true e = rw e (sym (join-join us (more v none) (keepItems q rest)))
 keep-on q us v rest false e = rw e
 
-sizes-on : (us : Items) (v : Value) (b : Bool) → sizes (pick b (snoc us v) us) ≤ sizes us + size v
+sizes-on : (us : Items) (v : Value) (b : Bool) → sizes (cond b (snoc us v) us) ≤ sizes us + size v
 sizes-on us v true = omega (arith, snoc-sizes us v)
 sizes-on us v false = omega arith
 
 module _ {s t : List ℕ} {x a b at : ℕ} {wanted : Bool} {p : ℕ} (w : Choosing s t x a b at wanted p) where
   -- what is known of the set whose members they are, and of the sets that they are looked for in
-  one : Picked s t (x + word s x) at p (passes wanted (w .choice .others .items)) (w .choice .held .items)
+  one : Picked s t (x + word s x) at p (wantedIn wanted (w .choice .others .items)) (w .choice .held .items)
   one = w .state (w .choice .held .items) (w .choice .others .items) (w .choice .held .here) (w .choice .others .here)
 
-  pub choose-next : {u : List ℕ} → p < x + word s x → Outside s u at (at + limit) → Next s u (x + word s x) at p
+  pub choose-next : {u : List ℕ} → p < x + word s x → Outside s u at (at + mostBytes) → Next s u (x + word s x) at p
   choose-next lt o = next-item {from = p} o (inl (w .choice .below)) (omega arith) (first-left lt (one .left))
 
   pub choose-test : p < x + word s x → Holds t p × HoldsSets t a b
@@ -135,7 +135,7 @@ module _ {s t : List ℕ} {x a b at : ℕ} {wanted : Bool} {p : ℕ} (w : Choosi
   pub choose-built : HoldsCollection t at
   choose-built = record { kind = sequence; items = one .us; here = one .made }
 
-  pub choose-on : {u : List ℕ} {found flag : Bool} → p < x + word s x → InAll t p a b found → flag ≡ agrees wanted found → AppendsIf t u at p flag → (n : ℕ) → n ≡ word s p → Choosing s u x a b at wanted (p + n)
+  pub choose-on : {u : List ℕ} {found flag : Bool} → p < x + word s x → InAll t p a b found → flag ≡ asWanted wanted found → AppendsIf t u at p flag → (n : ℕ) → n ≡ word s p → Choosing s u x a b at wanted (p + n)
   unfolding size
   choose-on {u} {found} {flag} lt i f q n d =
       record {
@@ -148,17 +148,17 @@ module _ {s t : List ℕ} {x a b at : ℕ} {wanted : Bool} {p : ℕ} (w : Choosi
             let inside = y .inside in
             let m = word-size (y .first-at) in
             let v-at : At t p (y .first) = at-below (w .frame) (omega arith) (y .first-at) in
-            let e : passes wanted ws (y .first) ≡ flag = ap (agrees wanted) (sym (i (y .first) ws v-at (items-below (w .frame) (w .choice .under) g))) ∙ sym f in
+            let e : wantedIn wanted ws (y .first) ≡ flag = ap (asWanted wanted) (sym (i (y .first) ws v-at (items-below (w .frame) (w .choice .under) g))) ∙ sym f in
             let z = y .so .1 in
             record {
-              us = pick flag (snoc (k .us) (y .first)) (k .us);
+              us = cond flag (snoc (k .us) (y .first)) (k .us);
               made = q .right (k .us) (y .first) (k .made) v-at;
-              left = left-on y n d (y .so .0 ∙ keep-on (passes wanted ws) (k .us) (y .first) (y .rest) flag e, omega (arith, sizes-on (k .us) (y .first) flag));
+              left = left-on y n d (y .so .0 ∙ keep-on (wantedIn wanted ws) (k .us) (y .first) (y .rest) flag e, omega (arith, sizes-on (k .us) (y .first) flag));
             };
       }
 
-  pub choose-end : x + word s x ≤ p → (vs ws : Items) → At s x (collection set vs) → ItemsAt s a b ws → At t at (collection sequence (chosen wanted vs ws))
-  unfolding keep
+  pub choose-end : x + word s x ≤ p → (vs ws : Items) → At s x (collection set vs) → ItemsAt s a b ws → At t at (collection sequence (wantedOf wanted vs ws))
+  unfolding keepItems
   choose-end le vs ws h g =
       let k = w .state vs ws h g in
       let e = left-none le (k .left) .0 ∙ join-none (k .us) in
@@ -180,7 +180,7 @@ end-still {x = x} r e q =
 
 pub choose-close : {s t u v : List ℕ} {x a b at p : ℕ} {wanted : Bool} → Choice s x a b at → Empties s t at 4 → (w : Choosing t u x a b at wanted p) → x + word t x ≤ p → Retags u v at 3 → Chosen s v x a b at wanted
 choose-close {s} {t} {u} {v} {x} {a} {b} {at} {p} {wanted} r e w le q =
-    let o : Outside s t at (at + limit) = outside-wider (omega arith) (omega arith) (e .frame) in
+    let o : Outside s t at (at + mostBytes) = outside-wider (omega arith) (omega arith) (e .frame) in
     let n = word-size (r .held .here) in
     let below = r .below in
     record {
@@ -188,5 +188,5 @@ choose-close {s} {t} {u} {v} {x} {a} {b} {at} {p} {wanted} r e w le q =
       right = λ vs ws h g.
           let m = word-size h in
           let d = choose-end w le vs ws (at-below o (omega arith) h) (items-below o (r .under) g) in
-          q .right sequence set (chosen wanted vs ws) d refl (ascending-keep (passes wanted ws) vs (collection-shaped (h .fine)));
+          q .right sequence set (wantedOf wanted vs ws) d refl (ascending-keep (wantedIn wanted ws) vs (collection-shaped (h .fine)));
     }

@@ -1,6 +1,7 @@
-mod Walks
-mod Growth
+mod Testing
+mod Flattening
 mod Choosing
 mod Telling
 mod Answers
 mod Gathers
+mod Ranges

@@ -6,21 +6,20 @@ use Prim.Native.Nat.{ℕ, suc, _+_, _≤_}
 use native.Mathlib.Omega.{arith}
 use borrow.Author.Tests.{eqb-true, eqb-false}
 use lib.Dec.{eqb}
+use Rattle.prelude.proofs.Absurd.{impossible}
+use Rattle.prelude.proofs.Truth.{by-test}
 use Rattle.integers.specs.Bytes.{word}
-use Rattle.values.specs.Value.{set, Value, collection, Items, more, limit}
+use Rattle.values.specs.Value.{set, Value, collection, Items, more, mostBytes}
 use Rattle.values.specs.Place.{At, ItemsAt, Holds}
 use Rattle.values.specs.Contract.{KindAt}
-use Rattle.values.specs.Records.{holds, items-to, run-of}
+use Rattle.values.proofs.Records.{holds, items-to, uncons-of}
 use Rattle.operators.specs.Answer.{asSet}
-use Rattle.operators.specs.Gather.{every, isKind}
-use Rattle.operators.specs.Operators.{unary, binary}
-use Rattle.operator_laws.specs.Tests.{by-test}
-use Rattle.scalars.specs.declared.Applied.{Applied}
-use Rattle.scalars.specs.Applied.{OnOne, OnTwo}
-use Rattle.scalars.specs.AppliedLaws.{the-kind, no-kind, needs-left, needs-right}
+use Rattle.operators.specs.Gather.{everyItem, isKind}
+use Rattle.calling.specs.Scratch.{second}
+use Rattle.calling.proofs.Kinding.{the-kind, no-kind, needs-left, needs-right}
 use Rattle.set_operators.specs.Members.{AllOfKind}
 use Rattle.set_operators.specs.Operands.{IsOfKind, TwoSets}
-use Rattle.set_operators.proofs.Walks.{set-is, sets-parts}
+use Rattle.set_operators.proofs.Testing.{set-is, sets-parts}
 
 -- ---- kinds
 
@@ -40,9 +39,9 @@ left-no k e =
     }
   where
     never-true : false ≡ true → ⊥
-    never-true t = let z : _≡_ {A = ℕ} 0 1 = cc in omega arith
+    never-true t = impossible cc
 
-pub left-yes : {s : List ℕ} {base : ℕ} {a r : Bool} → IsOfKind s base 3 a → a ≡ true → IsOfKind s (base + 512) 3 r → TwoSets s base r
+pub left-yes : {s : List ℕ} {base : ℕ} {a r : Bool} → IsOfKind s base 3 a → a ≡ true → IsOfKind s (base + second) 3 r → TwoSets s base r
 left-yes k e l =
     record {
       left = λ t. k .yes set refl e;
@@ -59,21 +58,15 @@ either P {n} k l s h g p q = by-test (eqb n k) (λ e. subst P (sym (eqb-true n k
     higher : (n ≡ k → ⊥) → l ≡ n
     higher f = omega (arith, f)
 
-pub unary-as : {s t : List ℕ} {base n : ℕ} {r : Applied} (m : ℕ) → n ≡ m → OnOne (unary m) s t base r → OnOne (unary n) s t base r
-unary-as {s} {t} {base} {n} {r} m e o = subst (λ (k : ℕ). OnOne (unary k) s t base r) (sym e) o
-
-pub binary-as : {s t : List ℕ} {base n : ℕ} {r : Applied} (m : ℕ) → n ≡ m → OnTwo (binary m) s t base r → OnTwo (binary n) s t base r
-binary-as {s} {t} {base} {n} {r} m e o = subst (λ (k : ℕ). OnTwo (binary k) s t base r) (sym e) o
-
 -- ---- a set of sets
 
 pub record Family (s : List ℕ) (base end : ℕ) : Type 0 where
   pub members : Items
   pub here : At s base (collection set members)
   pub items : ItemsAt s (base + 4) end members
-  pub sets : every (isKind set) members ≡ true
+  pub sets : everyItem (isKind set) members ≡ true
   pub low : base + 4 ≤ end
-  pub high : end ≤ base + limit
+  pub high : end ≤ base + mostBytes
 
 pub family : {s : List ℕ} {base n : ℕ} {a : Bool} → IsOfKind s base 3 a → a ≡ true → n ≡ word s base → {b : Bool} → AllOfKind s (base + 4) (base + n) 3 b → b ≡ true → Family s base (base + n)
 family k e q all t =
@@ -91,13 +84,13 @@ pub record FirstOf (s : List ℕ) (base end : ℕ) (vs : Items) : Type 0 where
   pub is : vs ≡ more (collection set members) rest
   pub first-at : At s (base + 4) (collection set members)
   pub rest-at : ItemsAt s (base + 4 + word s (base + 4)) end rest
-  pub sets : every (isKind set) rest ≡ true
+  pub sets : everyItem (isKind set) rest ≡ true
   pub inside : base + 4 + word s (base + 4) ≤ end
 
 pub first-of-sets : {s : List ℕ} {base end : ℕ} → (f : Family s base end) → (end ≡ base + 4 → ⊥) → FirstOf s base end (f .members)
 first-of-sets {s} {base} {end} f ne =
-    let y = run-of (λ e. ne (sym e)) (f .items) in
-    let p = sets-parts (y .first) (y .rest) (subst (λ (vs : Items). every (isKind set) vs ≡ true) (y .is) (f .sets)) in
+    let y = uncons-of (λ e. ne (sym e)) (f .items) in
+    let p = sets-parts (y .first) (y .rest) (subst (λ (vs : Items). everyItem (isKind set) vs ≡ true) (y .is) (f .sets)) in
     let (us, e) = set-is (y .first) (p .0) in
     record {
       members = us;

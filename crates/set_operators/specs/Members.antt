@@ -1,19 +1,16 @@
--- What going over items one by one asks and promises: tests of them all, inserting them all into a set, and choosing among them.
+-- What going over items one by one asks and promises: tests of them all, and choosing among them.
 use mathlib.Core.Path.{_≡_}
-use mathlib.Core.Bool.{Bool, true, false, not}
+use mathlib.Core.Bool.{Bool, true, false, not, cond}
 use mathlib.Core.List.{List}
-use mathlib.Core.Logic.{_⊎_}
 use Prim.Native.Nat.{ℕ, _+_, _≤_}
 use lib.ListN.{length}
 use Rattle.integers.specs.Bytes.{word}
-use Rattle.values.specs.Value.{Kind, set, sequence, number, Value, collection, Items, size, limit}
-use Rattle.values.specs.Items.{pick, isMember, snoc}
+use Rattle.values.specs.Value.{Kind, set, sequence, number, Value, collection, Items, mostBytes}
+use Rattle.values.specs.Items.{isMember, snoc}
 use Rattle.values.specs.Place.{At, ItemsAt, Outside}
-use Rattle.collections.specs.declared.building.Added.{Added}
-use Rattle.collections.specs.declared.building.Added.the-variants.{Done as Put}
 use Rattle.collections.specs.Finding.{HoldsKind}
-use Rattle.collections.specs.Building.{added, Room}
-use Rattle.operators.specs.Gather.{every, keep, insertAll, itemsOf, isKind}
+use Rattle.collections.specs.Building.{Room}
+use Rattle.operators.specs.Gather.{everyItem, keepItems, itemsIn, isKind}
 use Rattle.operators.specs.Sets.{isSubset}
 
 -- ---- tests of all items from a place up to another
@@ -22,15 +19,15 @@ use Rattle.operators.specs.Sets.{isSubset}
 pub record HoldsSets (s : List ℕ) (from to : ℕ) : Type 0 where
   pub items : Items
   pub here : ItemsAt s from to items
-  pub sets : every (isKind set) items ≡ true
+  pub sets : everyItem (isKind set) items ≡ true
 
 -- r says whether all are of the kind of this number
 abbrev pub AllOfKind : List ℕ → ℕ → ℕ → ℕ → Bool → Type 0
-AllOfKind s from to n r = (k : Kind) (vs : Items) → n ≡ number k → ItemsAt s from to vs → r ≡ every (isKind k) vs
+AllOfKind s from to n r = (k : Kind) (vs : Items) → n ≡ number k → ItemsAt s from to vs → r ≡ everyItem (isKind k) vs
 
 -- v is a member of each of these sets
 abbrev pub inAll : Value → Items → Bool
-inAll v ws = every (λ w. isMember v (itemsOf w)) ws
+inAll v ws = everyItem (λ w. isMember v (itemsIn w)) ws
 
 -- r says whether the value at x is
 abbrev pub InAll : List ℕ → ℕ → ℕ → ℕ → Bool → Type 0
@@ -40,48 +37,26 @@ InAll s x from to r = (v : Value) (ws : Items) → At s x v → ItemsAt s from t
 abbrev pub AllIn : List ℕ → ℕ → ℕ → ℕ → Bool → Type 0
 AllIn s from to at r = (vs ws : Items) → ItemsAt s from to vs → At s at (collection set ws) → r ≡ isSubset vs ws
 
--- ---- inserting
-
--- A set is being built at a place, and what goes into it stands elsewhere, from a place up to another.
-pub record Growing (s : List ℕ) (from to at : ℕ) : Type 0 where
-  pub held : HoldsKind set s at
-  pub room : at + limit ≤ length s
-  pub apart : (to ≤ at) ⊎ (at + limit ≤ from)
-
--- The members of the set at a place are us now; refused exactly where that is over 512 bytes.
-pub record Grown (t : List ℕ) (at : ℕ) (us : Items) (r : Added) : Type 0 where
-  pub answers : r ≡ added (size (collection set us))
-  pub made : r ≡ Put → At t at (collection set us)
-
--- What is gathered of the items went into the set at a place.
-pub record InsertsAll (gathered : Items → Items) (s t : List ℕ) (from to at : ℕ) (r : Added) : Type 0 where
-  pub frame : Outside s t at (at + limit)
-  pub right : (vs ws : Items) → At s at (collection set vs) → ItemsAt s from to ws → Grown t at (insertAll vs (gathered ws)) r
-
--- The items themselves.
-abbrev pub themselves : Items → Items
-themselves ws = ws
-
 -- ---- choosing
 
 -- The item at x can go to the end of the sequence at a place.
 pub record Appendable (s : List ℕ) (at x : ℕ) : Type 0 where
   pub room : Room sequence s at x
-  pub fits : word s at + word s x ≤ limit
+  pub fits : word s at + word s x ≤ mostBytes
 
 -- It is there, if wanted.
 pub record AppendsIf (s t : List ℕ) (at x : ℕ) (wanted : Bool) : Type 0 where
-  pub frame : Outside s t at (at + limit)
-  pub right : (us : Items) (v : Value) → At s at (collection sequence us) → At s x v → At t at (collection sequence (pick wanted (snoc us v) us))
+  pub frame : Outside s t at (at + mostBytes)
+  pub right : (us : Items) (v : Value) → At s at (collection sequence us) → At s x v → At t at (collection sequence (cond wanted (snoc us v) us))
 
 -- Whether a test comes out as wanted.
-abbrev pub agrees : Bool → Bool → Bool
-agrees true b = b
-agrees false b = not b
+abbrev pub asWanted : Bool → Bool → Bool
+asWanted true b = b
+asWanted false b = not b
 
 -- The members of vs that are in each of the sets ws, or those that are not in each.
-abbrev pub chosen : Bool → Items → Items → Items
-chosen wanted vs ws = keep (λ v. agrees wanted (inAll v ws)) vs
+abbrev pub wantedOf : Bool → Items → Items → Items
+wantedOf wanted vs ws = keepItems (λ v. asWanted wanted (inAll v ws)) vs
 
 -- There is room at a place for members of the set at x; it and the sets from a up to b stand below.
 pub record Choice (s : List ℕ) (x a b at : ℕ) : Type 0 where
@@ -89,9 +64,9 @@ pub record Choice (s : List ℕ) (x a b at : ℕ) : Type 0 where
   pub below : x + word s x ≤ at
   pub others : HoldsSets s a b
   pub under : b ≤ at
-  pub room : at + limit ≤ length s
+  pub room : at + mostBytes ≤ length s
 
--- The chosen ones stand at that place as a set.
+-- The wantedOf ones stand at that place as a set.
 pub record Chosen (s t : List ℕ) (x a b at : ℕ) (wanted : Bool) : Type 0 where
-  pub frame : Outside s t at (at + limit)
-  pub right : (vs ws : Items) → At s x (collection set vs) → ItemsAt s a b ws → At t at (collection set (chosen wanted vs ws))
+  pub frame : Outside s t at (at + mostBytes)
+  pub right : (vs ws : Items) → At s x (collection set vs) → ItemsAt s a b ws → At t at (collection set (wantedOf wanted vs ws))

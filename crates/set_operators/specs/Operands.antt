@@ -8,6 +8,7 @@ use Rattle.values.specs.Value.{Kind, set, number, Value, Items}
 use Rattle.values.specs.Place.{At}
 use Rattle.collections.specs.Finding.{HoldsKind}
 use Rattle.operators.specs.Answer.{Answer, refused, wrongKind, asKind, asSet, needsBoth}
+use Rattle.calling.specs.Scratch.{second}
 
 -- r says whether a collection of the kind of this number stands at a place.
 pub record IsOfKind (s : List ℕ) (at n : ℕ) (r : Bool) : Type 0 where
@@ -17,5 +18,5 @@ pub record IsOfKind (s : List ℕ) (at n : ℕ) (r : Bool) : Type 0 where
 -- r says whether both operands are sets; where one is not, 20.
 pub record TwoSets (s : List ℕ) (base : ℕ) (r : Bool) : Type 0 where
   pub left : r ≡ true → HoldsKind set s base
-  pub right : r ≡ true → HoldsKind set s (base + 512)
-  pub others : r ≡ false → (v w : Value) → At s base v → At s (base + 512) w → (f : Items → Items → Answer) → needsBoth (asSet v) (asSet w) f ≡ refused wrongKind
+  pub right : r ≡ true → HoldsKind set s (base + second)
+  pub others : r ≡ false → (v w : Value) → At s base v → At s (base + second) w → (f : Items → Items → Answer) → needsBoth (asSet v) (asSet w) f ≡ refused wrongKind

@@ -1,21 +1,20 @@
-// The operators on sets, on values in scratch: the operands stand at `base` and 512 bytes above it, the value comes to stand at `base`.
+// The operators on sets and the set range, on values in scratch.
 pub mod members;
 
+use calling::Applied;
+use calling::Pair;
 use collections::building::Added;
-use scalars::Applied;
-ghost use Prim.Native.Nat.{_+_, _≤_};
+use values::Value;
+ghost use mathlib.Core.Path.{_≡_};
+ghost use Prim.Native.Nat.{_≤_};
 ghost use Rattle.values.specs.Value.{set};
 ghost use Rattle.values.specs.Place.{Holds, HoldsItems};
 ghost use Rattle.collections.specs.Finding.{HoldsKind};
+ghost use Rattle.operators.specs.Sets.{howMany, rangeOf};
 ghost use Rattle.operators.specs.Operators.{unary, binary};
-ghost use Rattle.scalars.specs.Applied.{One, Two, OnOne, OnTwo};
+ghost use Rattle.calling.specs.Applied.{One, Two, OnOne, OnTwo};
 ghost use Rattle.set_operators.specs.Members.{AllIn};
 ghost use Rattle.set_operators.specs.Operands.{IsOfKind, TwoSets};
-
-// The kinds of operands, and of what is built.
-const SET: usize = 3;
-
-const SEQUENCE: usize = 4;
 
 // ---- kinds
 
@@ -32,8 +31,8 @@ fn two_sets(s: &[u8], base: usize) -> bool
     requires { ⌜ Two (now s) base ⌝ }
     ensures { λ r. ⌜ TwoSets (now (s .entry)) base r ⌝ }
 {
-    if is_of_kind(s, base, SET) {
-        return is_of_kind(s, base + 512, SET);
+    if is_of_kind(s, base, Value::SET) {
+        return is_of_kind(s, base + Applied::SECOND, Value::SET);
     }
     false
 }
@@ -44,7 +43,7 @@ fn cardinality(s: &mut [u8], base: usize) -> Applied
     requires { ⌜ One (now s) base ⌝ }
     ensures { λ r. ⌜ OnOne (unary 4) (now (s .entry)) (now (s .exit)) base r ⌝ }
 {
-    if !is_of_kind(s, base, SET) {
+    if !is_of_kind(s, base, Value::SET) {
         return Applied::Refused(Applied::WRONG_KIND);
     }
     let n = collections::finding::count_of(s, base);
@@ -56,18 +55,18 @@ fn distributed_union(s: &mut [u8], base: usize) -> Applied
     requires { ⌜ One (now s) base ⌝ }
     ensures { λ r. ⌜ OnOne (unary 5) (now (s .entry)) (now (s .exit)) base r ⌝ }
 {
-    if !is_of_kind(s, base, SET) {
+    if !is_of_kind(s, base, Value::SET) {
         return Applied::Refused(Applied::WRONG_KIND);
     }
     let end = base + values::length_of(s, base);
-    if !members::all_of_kind(s, base + 4, end, SET) {
+    if !members::all_of_kind(s, base + Value::HEAD, end, Value::SET) {
         return Applied::Refused(Applied::WRONG_KIND);
     }
-    collections::building::put_empty(s, base + 512, SET);
-    match members::insert_each(s, base + 4, end, base + 512) {
+    collections::building::put_empty(s, base + Applied::SECOND, Value::SET);
+    match members::insert_each(s, base + Value::HEAD, end, base + Applied::SECOND) {
         Added::Full => Applied::Refused(Applied::TOO_LARGE),
         Added::Done => {
-            values::copy_value(s, base + 512, base);
+            values::copy_value(s, base + Applied::SECOND, base);
             Applied::Done
         }
     }
@@ -77,19 +76,26 @@ fn distributed_intersection(s: &mut [u8], base: usize) -> Applied
     requires { ⌜ One (now s) base ⌝ }
     ensures { λ r. ⌜ OnOne (unary 6) (now (s .entry)) (now (s .exit)) base r ⌝ }
 {
-    if !is_of_kind(s, base, SET) {
+    if !is_of_kind(s, base, Value::SET) {
         return Applied::Refused(Applied::WRONG_KIND);
     }
     let end = base + values::length_of(s, base);
-    if !members::all_of_kind(s, base + 4, end, SET) {
+    if !members::all_of_kind(s, base + Value::HEAD, end, Value::SET) {
         return Applied::Refused(Applied::WRONG_KIND);
     }
-    if end == base + 4 {
+    if end == base + Value::HEAD {
         return Applied::Refused(Applied::NOT_THERE);
     }
-    let n = values::length_of(s, base + 4);
-    members::choose(s, base + 4, base + 4 + n, end, base + 1024, true);
-    values::copy_value(s, base + 1024, base);
+    let n = values::length_of(s, base + Value::HEAD);
+    members::choose(
+        s,
+        base + Value::HEAD,
+        base + Value::HEAD + n,
+        end,
+        base + Applied::THIRD,
+        true,
+    );
+    values::copy_value(s, base + Applied::THIRD, base);
     Applied::Done
 }
 
@@ -98,10 +104,10 @@ pub fn unary_set(s: &mut [u8], base: usize, operator: usize) -> Applied
     requires { ⌜ One (now s) base × (4 ≤ operator) × (operator ≤ 6) ⌝ }
     ensures { λ r. ⌜ OnOne (unary operator) (now (s .entry)) (now (s .exit)) base r ⌝ }
 {
-    if operator == 4 {
+    if operator == tables::unary::CARD {
         return cardinality(s, base);
     }
-    if operator == 5 {
+    if operator == tables::unary::DUNION {
         return distributed_union(s, base);
     }
     distributed_intersection(s, base)
@@ -113,11 +119,11 @@ fn membership(s: &mut [u8], base: usize, operator: usize) -> Applied
     requires { ⌜ Two (now s) base × (17 ≤ operator) × (operator ≤ 18) ⌝ }
     ensures { λ r. ⌜ OnTwo (binary operator) (now (s .entry)) (now (s .exit)) base r ⌝ }
 {
-    if !is_of_kind(s, base + 512, SET) {
+    if !is_of_kind(s, base + Applied::SECOND, Value::SET) {
         return Applied::Refused(Applied::WRONG_KIND);
     }
-    let found = collections::finding::contains(s, base + 512, base);
-    scalars::put_truth(s, base, found == (operator == 17))
+    let found = collections::finding::contains(s, base + Applied::SECOND, base);
+    calling::put_truth(s, base, found == (operator == tables::binary::IN_SET))
 }
 
 fn union(s: &mut [u8], base: usize) -> Applied
@@ -127,8 +133,13 @@ fn union(s: &mut [u8], base: usize) -> Applied
     if !two_sets(s, base) {
         return Applied::Refused(Applied::WRONG_KIND);
     }
-    let n = values::length_of(s, base + 512);
-    match members::insert_all(s, base + 512 + 4, base + 512 + n, base) {
+    let n = values::length_of(s, base + Applied::SECOND);
+    match gathering::insert_all(
+        s,
+        base + Applied::SECOND + Value::HEAD,
+        base + Applied::SECOND + n,
+        base,
+    ) {
         Added::Full => Applied::Refused(Applied::TOO_LARGE),
         Added::Done => Applied::Done,
     }
@@ -142,11 +153,11 @@ fn selection(s: &mut [u8], base: usize, operator: usize) -> Applied
     if !two_sets(s, base) {
         return Applied::Refused(Applied::WRONG_KIND);
     }
-    let right = base + 512;
+    let right = base + Applied::SECOND;
     let n = values::length_of(s, right);
-    let wanted = operator == 20;
-    members::choose(s, base, right, right + n, base + 1024, wanted);
-    values::copy_value(s, base + 1024, base);
+    let wanted = operator == tables::binary::INTER;
+    members::choose(s, base, right, right + n, base + Applied::THIRD, wanted);
+    values::copy_value(s, base + Applied::THIRD, base);
     Applied::Done
 }
 
@@ -175,12 +186,12 @@ fn inclusion(s: &mut [u8], base: usize, operator: usize) -> Applied
         return Applied::Refused(Applied::WRONG_KIND);
     }
     let n = values::length_of(s, base);
-    let inside = all_in(s, base + 4, base + n, base + 512);
-    if operator == 22 {
-        return scalars::put_truth(s, base, inside);
+    let inside = all_in(s, base + Value::HEAD, base + n, base + Applied::SECOND);
+    if operator == tables::binary::SUBSET {
+        return calling::put_truth(s, base, inside);
     }
-    let same = values::equal(s, base, base + 512);
-    scalars::put_truth(s, base, inside != same)
+    let same = values::equal(s, base, base + Applied::SECOND);
+    calling::put_truth(s, base, inside != same)
 }
 
 // The binary operators 17 to 23.
@@ -188,14 +199,39 @@ pub fn binary_set(s: &mut [u8], base: usize, operator: usize) -> Applied
     requires { ⌜ Two (now s) base × (17 ≤ operator) × (operator ≤ 23) ⌝ }
     ensures { λ r. ⌜ OnTwo (binary operator) (now (s .entry)) (now (s .exit)) base r ⌝ }
 {
-    if operator <= 18 {
+    if operator <= tables::binary::NOT_IN_SET {
         return membership(s, base, operator);
     }
-    if operator == 19 {
+    if operator == tables::binary::UNION {
         return union(s, base);
     }
-    if operator <= 21 {
+    if operator <= tables::binary::DIFFERENCE {
         return selection(s, base, operator);
     }
     inclusion(s, base, operator)
+}
+
+// ---- {a, ..., b}
+
+// How many integers there are from one to another.
+fn how_many(from: i32, to: i32) -> usize
+    ensures { λ r. ⌜ r ≡ howMany from to ⌝ }
+{
+    let n = to as i64 - from as i64 + 1;
+    if n < 0 {
+        return 0;
+    }
+    n as usize
+}
+
+// The set of the integers from one to another.
+pub fn range(s: &mut [u8], base: usize) -> Applied
+    requires { ⌜ Two (now s) base ⌝ }
+    ensures { λ r. ⌜ OnTwo rangeOf (now (s .entry)) (now (s .exit)) base r ⌝ }
+{
+    let read = calling::two_integers(s, base);
+    match read {
+        Pair::Integers(a, b) => gathering::counting(s, base, a, how_many(a, b)),
+        Pair::Others => Applied::Refused(Applied::WRONG_KIND),
+    }
 }

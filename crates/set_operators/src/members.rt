@@ -1,8 +1,10 @@
-// Going over items one by one: tests of them all, inserting them all into a set, and choosing among them.
+// Going over items one by one: tests of them all, the members of them all, and choosing among them.
 use collections::building::Added;
+use values::Value;
 ghost use Rattle.values.specs.Place.{Holds, HoldsItems};
 ghost use Rattle.operators.specs.Gather.{flatten};
-ghost use Rattle.set_operators.specs.Members.{HoldsSets, AllOfKind, InAll, Growing, InsertsAll, themselves, Appendable, AppendsIf, Choice, Chosen};
+ghost use Rattle.gathering.specs.Inserting.{Growing, InsertsAll};
+ghost use Rattle.set_operators.specs.Members.{HoldsSets, AllOfKind, InAll, Appendable, AppendsIf, Choice, Chosen};
 
 // Whether all items from a place up to another are of a kind.
 pub fn all_of_kind(s: &[u8], from: usize, to: usize, kind: usize) -> bool
@@ -34,24 +36,6 @@ pub fn in_all(s: &[u8], x: usize, from: usize, to: usize) -> bool
     true
 }
 
-// Every item from a place up to another goes into the set at a place.
-pub fn insert_all(s: &mut [u8], from: usize, to: usize, at: usize) -> Added
-    requires { ⌜ HoldsItems (now s) from to × Growing (now s) from to at ⌝ }
-    ensures { λ r. ⌜ InsertsAll themselves (now (s .entry)) (now (s .exit)) from to at r ⌝ }
-{
-    let mut p = from;
-    while p < to {
-        match collections::building::insert(s, at, p) {
-            Added::Done => {}
-            Added::Full => {
-                return Added::Full;
-            }
-        }
-        p += values::length_of(s, p);
-    }
-    Added::Done
-}
-
 // Every member of each of the sets from a place up to another goes into the set at a place.
 pub fn insert_each(s: &mut [u8], from: usize, to: usize, at: usize) -> Added
     requires { ⌜ HoldsSets (now s) from to × Growing (now s) from to at ⌝ }
@@ -60,7 +44,7 @@ pub fn insert_each(s: &mut [u8], from: usize, to: usize, at: usize) -> Added
     let mut p = from;
     while p < to {
         let n = values::length_of(s, p);
-        match insert_all(s, p + 4, p + n, at) {
+        match gathering::insert_all(s, p + Value::HEAD, p + n, at) {
             Added::Done => {}
             Added::Full => {
                 return Added::Full;
@@ -87,12 +71,12 @@ pub fn choose(s: &mut [u8], x: usize, a: usize, b: usize, at: usize, wanted: boo
     ensures { λ _. ⌜ Chosen (now (s .entry)) (now (s .exit)) x a b at wanted ⌝ }
 {
     let end = x + values::length_of(s, x);
-    collections::building::put_empty(s, at, crate::SEQUENCE);
-    let mut p = x + 4;
+    collections::building::put_empty(s, at, Value::SEQUENCE);
+    let mut p = x + Value::HEAD;
     while p < end {
         let found = in_all(s, p, a, b);
         append_if(s, at, p, found == wanted);
         p += values::length_of(s, p);
     }
-    collections::building::retag(s, at, crate::SET);
+    collections::building::retag(s, at, Value::SET);
 }

@@ -5,37 +5,38 @@ use Prim.Native.Nat.{ℕ, _+_, _≤_}
 use native.Mathlib.Omega.{arith}
 use lib.ListN.{length}
 use lib.Seq.{sets, length-sets}
+use Rattle.prelude.proofs.Absurd.{impossible}
 use Rattle.values.specs.Value.{Value}
-use Rattle.values.specs.Records.{holds}
+use Rattle.values.proofs.Records.{holds}
 use Rattle.operators.specs.Answer.{Answer}
 use Rattle.operators.specs.Booleans.{Connective, Left, leaves, right}
-use Rattle.operator_laws.specs.BooleanLaws.{decided}
-use Rattle.scalars.specs.declared.Applied.{Applied}
-use Rattle.scalars.specs.declared.Applied.the-variants.{Done, Refused}
-use Rattle.scalars.specs.declared.Tested.{Tested}
-use Rattle.scalars.specs.declared.Tested.the-variants.{Settled, Open, Refused as Wrong}
-use Rattle.scalars.specs.Applied.{One, Applies, done, off, OnOne}
-use Rattle.scalars.specs.Scalars.{Says, settled, undecided, off as wrong, TestsLeft}
+use Rattle.operator_laws.proofs.Booleans.{decided}
+use Rattle.calling.specs.declared.Applied.{Applied}
+use Rattle.calling.specs.declared.Applied.the-variants.{Done, Refused}
+use Rattle.calling.specs.declared.Tested.{Tested}
+use Rattle.calling.specs.declared.Tested.the-variants.{Settled, Open, Refused as Wrong}
+use Rattle.calling.specs.Applied.{One, Applies, done, off, OnOne}
+use Rattle.scalars.specs.Connectives.{Says, settled, undecided, off as wrong, TestsLeft}
 use Rattle.trials.specs.Trial.{Operand, SomeOperand, Connects}
-use Rattle.trials.specs.Operands.{operand-low}
+use Rattle.trials.proofs.Records.{operand-low}
 use Rattle.trials.proofs.Placing.{put-at}
 
 -- ---- what the left says, by its answer
 
 says-settled : {t : List ℕ} {r : Tested} {x : Left} (y : Answer) → r ≡ Settled → Says t 0 r x → Applies t 0 Done (decided x y)
 says-settled y e (settled d h) = done refl h
-says-settled y e (undecided d) = let z : _≡_ {A = ℕ} 0 1 = cc in absurd (omega arith)
-says-settled y e (wrong d) = let z : _≡_ {A = ℕ} 0 1 = cc in absurd (omega arith)
+says-settled y e (undecided d) = impossible cc
+says-settled y e (wrong d) = impossible cc
 
 says-wrong : {t : List ℕ} {r : Tested} {x : Left} (y : Answer) {n : ℕ} → r ≡ Wrong n → Says t 0 r x → Applies t 0 (Refused n) (decided x y)
-says-wrong y e (settled d h) = let z : _≡_ {A = ℕ} 0 1 = cc in absurd (omega arith)
-says-wrong y e (undecided d) = let z : _≡_ {A = ℕ} 0 1 = cc in absurd (omega arith)
+says-wrong y e (settled d h) = impossible cc
+says-wrong y e (undecided d) = impossible cc
 says-wrong y {n} e (wrong {n = m} d) = let z : n ≡ m = cc in off (ap Refused z)
 
 says-open : {t : List ℕ} {r : Tested} {x : Left} → r ≡ Open → Says t 0 r x → x ≡ leaves
-says-open e (settled d h) = let z : _≡_ {A = ℕ} 0 1 = cc in absurd (omega arith)
+says-open e (settled d h) = impossible cc
 says-open e (undecided d) = refl
-says-open e (wrong d) = let z : _≡_ {A = ℕ} 0 1 = cc in absurd (omega arith)
+says-open e (wrong d) = impossible cc
 
 -- ---- the three answers of the code
 

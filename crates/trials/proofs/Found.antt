@@ -12,12 +12,13 @@ use mir.Syntax.{w8, w32}
 use mir.Val.{Fits, ofZ, toZ}
 use mir.ValLaws.{ofZ-toZ, toZ-fits}
 use Rattle.integers.specs.Bytes.{word, four, bits32, IsWord}
-use Rattle.integers.specs.Range.{fits-range}
-use Rattle.values.specs.Value.{Kind, number, Value, boolean, integer, collection, Items, more, kindOf, size, sizes, byteOf, encode, Shaped, limit}
+use Rattle.integers.proofs.Range.{fits-range}
+use Rattle.values.specs.Value.{Kind, number, Value, boolean, integer, collection, Items, more, kindOf, size, sizes, byteOf, encode, Shaped, mostBytes}
 use Rattle.values.specs.Place.{At, ItemsAt, Holds, HoldsItems}
-use Rattle.values.specs.Written.{heading, collection-at}
-use Rattle.values.specs.Laws.{number-low}
-use Rattle.values.specs.Records.{holds, word-size, word-kind, boolean-at, is-boolean, is-integer, is-collection, items-to, holds-items, no-items, more-of, run-of, one-list, well-formed-boolean, well-formed-integer, collection-shaped}
+use Rattle.values.specs.Contract.{heading}
+use Rattle.values.proofs.Written.{collection-at}
+use Rattle.values.proofs.Order.{number-low}
+use Rattle.values.proofs.Records.{holds, word-size, word-kind, boolean-at, is-boolean, is-integer, is-collection, items-to, holds-items, no-items, more-of, uncons-of, one-list, well-formed-boolean, well-formed-integer, collection-shaped}
 use Rattle.trials.specs.Validity.{Tells, Span, Inside, Boolean, TellsItems, ShapedAs}
 use Rattle.trials.proofs.Telling.{tells-true, tells-false, tells-of, told-false, tells-equal, tells-less}
 
@@ -94,7 +95,7 @@ module _ (s : List ℕ) (bytes : (i : ℕ) → Fits w8 (getD s i 0)) where
             ∙ ap (λ (i : ℕ). heading 8 2 ++ four i) (sym (ofZ-toZ w32 x f));
       })
 
-  pub found-collection : (at n : ℕ) (k : Kind) (vs : Items) → n ≡ word s at → word s (at + 2) ≡ number k → n ≤ limit → Shaped k vs → ItemsAt s (at + 4) (at + n) vs → Holds s at
+  pub found-collection : (at n : ℕ) (k : Kind) (vs : Items) → n ≡ word s at → word s (at + 2) ≡ number k → n ≤ mostBytes → Shaped k vs → ItemsAt s (at + 4) (at + n) vs → Holds s at
   found-collection at n k vs en ek short shaped h =
       let f = h .ends in
       let g = h .fits in
@@ -199,7 +200,7 @@ items-told {s} {at} {to} {n} p f x w t =
         (more (x .held .value) vs, more-of a (subst (λ (m : ℕ). ItemsAt s (at + m) to vs) e h) (omega arith))
 
     part : HoldsItems s at to → HoldsItems s (at + n) to
-    part (vs, h) = let y = run-of f h in (y .rest, subst (λ (m : ℕ). ItemsAt s (at + m) to (y .rest)) (sym (w .is)) (y .rest-at))
+    part (vs, h) = let y = uncons-of f h in (y .rest, subst (λ (m : ℕ). ItemsAt s (at + m) to (y .rest)) (sym (w .is)) (y .rest-at))
 
 pub items-first : {s : List ℕ} {at to : ℕ} {r : Bool} → (at ≡ to → ⊥) → Tells (Inside s at to) r → r ≡ false → Tells (HoldsItems s at to) false
-items-first f t e = tells-false (λ h. let y = run-of f (h .1) in told-false t e (record { held = holds (y .first-at); ends = y .inside }))
+items-first f t e = tells-false (λ h. let y = uncons-of f (h .1) in told-false t e (record { held = holds (y .first-at); ends = y .inside }))

@@ -1,3 +1,5 @@
+-- Laws of validating and of operands from outside; the first also serve `binding_trials`.
+pub mod Records
 pub mod Telling
 pub mod Shapes
 pub mod Found

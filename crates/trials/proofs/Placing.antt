@@ -8,20 +8,22 @@ use native.Mathlib.Omega.{arith}
 use lib.Dec.{eqb}
 use lib.ListN.{length, getD, take, drop, set}
 use lib.Seq.{sets, sets-eq, length-sets, paste, paste-zero, paste-suc, length-paste, take-all, take-length}
+use Rattle.prelude.proofs.Absurd.{never}
 use Rattle.integers.specs.Bytes.{word, IsWord}
-use Rattle.values.specs.Value.{Value, size, encode, limit}
+use Rattle.values.specs.Value.{Value, size, encode, mostBytes}
 use Rattle.values.specs.Place.{At}
-use Rattle.values.specs.Records.{holds, word-size}
-use Rattle.values.specs.Written.{written, stored}
-use Rattle.values.specs.Frame.{at-below}
+use Rattle.values.proofs.Records.{holds, word-size}
+use Rattle.values.proofs.Written.{written, stored}
+use Rattle.values.proofs.Frame.{at-below}
+use Rattle.calling.specs.Scratch.{second as upper, workspace}
 use Rattle.trials.specs.Validity.{Tells, Inside}
 use Rattle.trials.specs.Trial.{Operand, SomeOperand, Roomy, PlacesOne, PlacesTwo}
-use Rattle.trials.specs.Operands.{operand-length, operand-at, operand-low}
-use Rattle.trials.proofs.Telling.{false-true, tells-true, tells-false, tells-of, told-false, tells-equal}
+use Rattle.trials.proofs.Records.{operand-length, operand-at, operand-low}
+use Rattle.trials.proofs.Telling.{tells-true, tells-false, tells-of, told-false, tells-equal}
 
 -- ---- one record, and nothing else
 
-pub value-long : {x : List ℕ} → limit < length x → Tells (SomeOperand x) false
+pub value-long : {x : List ℕ} → mostBytes < length x → Tells (SomeOperand x) false
 value-long h = tells-false (λ o. omega (arith, operand-low o))
 
 inside-of : {x : List ℕ} → SomeOperand x → Inside x 0 (length x)
@@ -76,49 +78,49 @@ loading-all {x} {s} {t} {at} {i} l h =
 
 -- ---- one operand, and two
 
-pub put-at : {x t : List ℕ} (s : List ℕ) (at : ℕ) → at + limit ≤ length s → t ≡ sets s at x → (v : Value) → Operand x v → At t at v
+pub put-at : {x t : List ℕ} (s : List ℕ) (at : ℕ) → at + mostBytes ≤ length s → t ≡ sets s at x → (v : Value) → Operand x v → At t at v
 put-at {x} {t} s at h q v o =
     let g = o .fine .short in
     written s (q ∙ ap (sets s at) (o .is)) (o .fine) (omega arith)
 
-pub one-short : {x s : List ℕ} → length s < 1536 → PlacesOne x s s false
-one-short h = record { tells = tells-false (λ p. omega (arith, p .0)); long = refl; first = λ v e o. false-true e; still = λ e. refl }
+pub one-short : {x s : List ℕ} → length s < workspace → PlacesOne x s s false
+one-short h = record { tells = tells-false (λ p. omega (arith, p .0)); long = refl; first = λ v e o. never e; still = λ e. refl }
 
 pub one-not : {x s : List ℕ} {r : Bool} → Tells (SomeOperand x) r → r ≡ false → PlacesOne x s s false
-one-not t d = record { tells = tells-false (λ p. told-false t d (p .1)); long = refl; first = λ v e o. false-true e; still = λ e. refl }
+one-not t d = record { tells = tells-false (λ p. told-false t d (p .1)); long = refl; first = λ v e o. never e; still = λ e. refl }
 
-pub one-placed : {x s t : List ℕ} {r : Bool} → 1536 ≤ length s → Tells (SomeOperand x) r → r ≡ true → t ≡ sets s 0 x → PlacesOne x s t true
+pub one-placed : {x s t : List ℕ} {r : Bool} → workspace ≤ length s → Tells (SomeOperand x) r → r ≡ true → t ≡ sets s 0 x → PlacesOne x s t true
 one-placed {x} {s} {t} h p d q =
     record {
       tells = tells-true (h, p .sound d);
       long = ap length q ∙ length-sets s 0 x;
       first = λ v e o. put-at s 0 (omega arith) q v o;
-      still = λ e. false-true (sym e);
+      still = λ e. never (sym e);
     }
 
 pub two-not : {x y s : List ℕ} {r : Bool} → Tells (SomeOperand y) r → r ≡ false → PlacesTwo x y s s false
 two-not t d =
-    record { tells = tells-false (λ p. told-false t d (p .2)); long = refl; first = λ v e o. false-true e; second = λ w e o. false-true e; still = λ e. refl }
+    record { tells = tells-false (λ p. told-false t d (p .2)); long = refl; first = λ v e o. never e; second = λ w e o. never e; still = λ e. refl }
 
 pub two-half : {x y s t : List ℕ} {r : Bool} → PlacesOne x s t r → r ≡ false → PlacesTwo x y s t false
 two-half p d =
     record {
       tells = tells-false (λ q. told-false (p .tells) d (q .0, q .1));
       long = p .long;
-      first = λ v e o. false-true e;
-      second = λ w e o. false-true e;
+      first = λ v e o. never e;
+      second = λ w e o. never e;
       still = λ e. p .still d;
     }
 
-pub two-placed : {x y s t u : List ℕ} {r b : Bool} → Tells (SomeOperand y) r → r ≡ true → PlacesOne x s t b → b ≡ true → u ≡ sets t 512 y → PlacesTwo x y s u true
+pub two-placed : {x y s t u : List ℕ} {r b : Bool} → Tells (SomeOperand y) r → r ≡ true → PlacesOne x s t b → b ≡ true → u ≡ sets t upper y → PlacesTwo x y s u true
 two-placed {x} {y} {s} {t} {u} p d one e q =
     let i = one .tells .sound e in
     let l = one .long in
     let room = i .0 in
     record {
       tells = tells-true (i .0, i .1, p .sound d);
-      long = ap length q ∙ length-sets t 512 y ∙ l;
+      long = ap length q ∙ length-sets t upper y ∙ l;
       first = λ v f o. let h = o .fine .short in at-below {at = 0} {v = v} (stored t y q refl) (omega arith) (one .first v e o);
-      second = λ w f o. put-at t 512 (omega arith) q w o;
-      still = λ f. false-true (sym f);
+      second = λ w f o. put-at t upper (omega arith) q w o;
+      still = λ f. never (sym f);
     }

@@ -8,13 +8,13 @@ use lib.Dec.{leb}
 use Rattle.integers.specs.Bytes.{word}
 use Rattle.integers.specs.declared.Order.{Order}
 use Rattle.integers.specs.declared.Order.the-variants.{Lower, Same, Higher}
-use Rattle.values.specs.Value.{Kind, set, sequence, map, tuple, number, Value, Items, none, more, count, sizes, everyOther, keys, order, Before, Ascending, PairedFrom, Shaped, limit}
+use Rattle.values.specs.Value.{Kind, set, sequence, map, tuple, number, Value, Items, none, more, count, sizes, everyOther, keys, order, Before, Ascending, PairedFrom, Shaped, mostBytes}
 use Rattle.values.specs.Place.{At, ItemsAt, Holds, HoldsItems}
 use Rattle.values.specs.Contract.{Length, Ordered}
-use Rattle.values.specs.Laws.{number-inj, lower-same, lower-higher}
-use Rattle.values.specs.Encoding.{count-sizes}
-use Rattle.values.specs.Records.{items-none, run-of, holds}
-use Rattle.collections.specs.Members.{before-first}
+use Rattle.values.proofs.Order.{number-inj, lower-same, lower-higher}
+use Rattle.values.proofs.Encoding.{count-sizes}
+use Rattle.values.proofs.Records.{items-none, uncons-of, holds}
+use Rattle.values.proofs.Members.{before-first}
 use Rattle.trials.specs.Validity.{Tells, TellsItems, CountsItems, Entries, ShapedAs}
 use Rattle.trials.proofs.Telling.{tells-true, tells-false, tells-of, tells-most}
 
@@ -31,7 +31,7 @@ pub record Starts (s : List ℕ) (from to n : ℕ) (vs : Items) : Type 0 where
 
 pub starts : {s : List ℕ} {from to n : ℕ} {vs : Items} → (from ≡ to → ⊥) → Length s from n → ItemsAt s from to vs → Starts s from to n vs
 starts {s} {from} {to} {n} f l h =
-    let y = run-of f h in
+    let y = uncons-of f h in
     let e = l .is in
     record {
       first = y .first;
@@ -44,8 +44,8 @@ starts {s} {from} {to} {n} f l h =
     }
 
 -- the same, of whatever items stand there
-pub begun : {s : List ℕ} {from to : ℕ} → (from ≡ to → ⊥) → HoldsItems s from to → Holds s from
-begun f h = holds (run-of f (h .1) .first-at)
+pub first-held : {s : List ℕ} {from to : ℕ} → (from ≡ to → ⊥) → HoldsItems s from to → Holds s from
+first-held f h = holds (uncons-of f (h .1) .first-at)
 
 pub rest-held : {s : List ℕ} {from to n : ℕ} → (from ≡ to → ⊥) → Length s from n → HoldsItems s from to → HoldsItems s (from + n) to
 rest-held f l h = let y = starts f l (h .1) in (y .left, y .rest)
@@ -76,7 +76,7 @@ module _ {s : List ℕ} {from to n : ℕ} (f : from ≡ to → ⊥) (l : Length 
   unfolding Ascending
   ascending-on {r} e t vs h =
       let y = starts f l h in
-      let z = run-of g (y .rest) in
+      let z = uncons-of g (y .rest) in
       let v = y .first in
       let low : order v (z .first) ≡ Lower = sym (p v (z .first) (y .here) (z .first-at)) ∙ e in
       let b : Tells (Ascending (more (z .first) (z .rest))) r = subst (λ (x : Items). Tells (Ascending x) r) (z .is) (t (y .left) (y .rest)) in
@@ -87,7 +87,7 @@ module _ {s : List ℕ} {from to n : ℕ} (f : from ≡ to → ⊥) (l : Length 
   unfolding Ascending Before
   ascending-off q vs h =
       let y = starts f l h in
-      let z = run-of g (y .rest) in
+      let z = uncons-of g (y .rest) in
       let v = y .first in
       let d = p v (z .first) (y .here) (z .first-at) in
       subst (λ (x : Items). Tells (Ascending x) false) (sym (y .is ∙ ap (more v) (z .is))) (tells-false (λ a. q (d ∙ a .0 .0)))
@@ -120,7 +120,7 @@ module _ {s : List ℕ} {from to n m : ℕ} (f : from ≡ to → ⊥) (l : Lengt
     entries-on {r} e t vs h =
         let y = starts f l h in
         let x = starts g k (y .rest) in
-        let z = run-of i (x .rest) in
+        let z = uncons-of i (x .rest) in
         let v = y .first in
         let w = z .first in
         let low : order v w ≡ Lower = sym (p v w (y .here) (z .first-at)) ∙ e in
@@ -133,7 +133,7 @@ module _ {s : List ℕ} {from to n m : ℕ} (f : from ≡ to → ⊥) (l : Lengt
     entries-off q vs h =
         let y = starts f l h in
         let x = starts g k (y .rest) in
-        let z = run-of i (x .rest) in
+        let z = uncons-of i (x .rest) in
         let v = y .first in
         let d = p v (z .first) (y .here) (z .first-at) in
         subst (λ (x : Items). Tells (Entries x) false) (sym (y .is ∙ ap (more v) (x .is ∙ ap (more (x .first)) (z .is)))) (tells-false (λ a. q (d ∙ a .1 .0 .0)))
@@ -152,8 +152,8 @@ count-more f l t vs h =
     let d : count vs ≡ suc (count (y .left)) = ap count (y .is) in
     omega arith
 
-pub count-few : {s : List ℕ} {from to r : ℕ} → HoldsItems s from to → CountsItems s from to r → r ≤ limit
-count-few (vs, h) t =
+pub items-few : {s : List ℕ} {from to r : ℕ} → HoldsItems s from to → CountsItems s from to r → r ≤ mostBytes
+items-few (vs, h) t =
     let e = t vs h in
     let f = h .short in
     let g = count-sizes vs in

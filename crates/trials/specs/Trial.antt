@@ -4,14 +4,15 @@ use mathlib.Core.Bool.{Bool, true, false}
 use mathlib.Core.List.{List}
 use Prim.Native.Nat.{ℕ, _+_, _≤_}
 use lib.ListN.{length}
-use Rattle.values.specs.Value.{Value, size, encode, WellFormed, limit}
+use Rattle.values.specs.Value.{Value, size, encode, WellFormed, mostBytes}
 use Rattle.values.specs.Place.{At}
 use Rattle.operators.specs.Answer.{Answer, is, refused}
 use Rattle.operators.specs.Booleans.{Connective, left, right}
-use Rattle.operator_laws.specs.BooleanLaws.{decided}
-use Rattle.scalars.specs.declared.Applied.{Applied}
-use Rattle.scalars.specs.declared.Applied.the-variants.{Done, Refused}
-use Rattle.scalars.specs.Applied.{OnOne}
+use Rattle.operator_laws.proofs.Booleans.{decided}
+use Rattle.calling.specs.declared.Applied.{Applied}
+use Rattle.calling.specs.declared.Applied.the-variants.{Done, Refused}
+use Rattle.calling.specs.Scratch.{second as upper, workspace}
+use Rattle.calling.specs.Applied.{OnOne}
 use Rattle.trials.specs.Validity.{Tells}
 
 -- ---- operands
@@ -27,9 +28,9 @@ SomeOperand bytes = (v : Value) × Operand bytes v
 
 -- Scratch that is long enough to try an operator in.
 abbrev pub Roomy : List ℕ → Type 0
-Roomy s = 1536 ≤ length s
+Roomy s = workspace ≤ length s
 
--- The operands x, or x and y, were put at 0 and at 512 of scratch, which is t now; or they are no such operands, and nothing changed.
+-- The operands x, or x and y, were put where an operator looks for them, from 0 of scratch on, which is t now; or they are no such operands, and nothing changed.
 pub record PlacesOne (x s t : List ℕ) (r : Bool) : Type 0 where
   pub tells : Tells (Roomy s × SomeOperand x) r
   pub long : length t ≡ length s
@@ -40,7 +41,7 @@ pub record PlacesTwo (x y s t : List ℕ) (r : Bool) : Type 0 where
   pub tells : Tells (Roomy s × SomeOperand x × SomeOperand y) r
   pub long : length t ≡ length s
   pub first : (v : Value) → r ≡ true → Operand x v → At t 0 v
-  pub second : (w : Value) → r ≡ true → Operand y w → At t 512 w
+  pub second : (w : Value) → r ≡ true → Operand y w → At t upper w
   pub still : r ≡ false → t ≡ s
 
 -- ---- and, or, =>
@@ -65,9 +66,9 @@ abbrev pub badInput : ℕ
 badInput = 255
 
 -- The number of an answer: 0, or the number of the refusal.
-abbrev pub numberOf : Applied → ℕ
-numberOf Done = 0
-numberOf (Refused n) = n
+abbrev pub appliedNumber : Applied → ℕ
+appliedNumber Done = 0
+appliedNumber (Refused n) = n
 
 -- The answer as a number: 0 with the value at the start of t, or the refusal.
 pub data Answers (t : List ℕ) (r : ℕ) : Answer → Type 0 where

@@ -1,15 +1,15 @@
 // Operators tried on values from outside. Untrusted bytes are validated before anything is done with them, so nothing is asked of a caller.
-use scalars::Applied;
-use scalars::Tested;
+use calling::Applied;
+use calling::Tested;
 ghost use mathlib.Core.Path.{_≡_};
 ghost use Rattle.operators.specs.Sets.{rangeOf};
 ghost use Rattle.operators.specs.Maps.{applyTo};
 ghost use Rattle.operators.specs.Operators.{unary, binary};
-ghost use Rattle.scalars.specs.Applied.{One};
-ghost use Rattle.scalars.specs.Scalars.{connective};
+ghost use Rattle.calling.specs.Applied.{One};
+ghost use Rattle.scalars.specs.Connectives.{connective};
 ghost use Rattle.operations.specs.Numbers.{Unary, Binary};
 ghost use Rattle.trials.specs.Validity.{Tells};
-ghost use Rattle.trials.specs.Trial.{SomeOperand, Conditional, connected, Connects, numberOf, TriesOne, TriesTwo};
+ghost use Rattle.trials.specs.Trial.{SomeOperand, Conditional, connected, Connects, appliedNumber, TriesOne, TriesTwo};
 
 pub mod operands;
 mod validity;
@@ -19,7 +19,7 @@ const BAD_INPUT: usize = 255;
 
 // The number of an answer: 0, or the number of the refusal.
 fn number(answer: Applied) -> usize
-    ensures { λ r. ⌜ r ≡ numberOf answer ⌝ }
+    ensures { λ r. ⌜ r ≡ appliedNumber answer ⌝ }
 {
     match answer {
         Applied::Done => 0,
@@ -40,10 +40,10 @@ pub extern "C" fn trials_valid(bytes: &[u8]) -> bool
 pub extern "C" fn trials_unary(operator: usize, operand: &[u8], scratch: &mut [u8]) -> usize
     ensures { λ r. ⌜ TriesOne (Unary operator) (unary operator) (now (operand .entry)) (now (scratch .entry)) (now (scratch .exit)) r ⌝ }
 {
-    if operator < 1 {
+    if operator < tables::unary::NOT {
         return BAD_INPUT;
     }
-    if operator > operations::LAST_UNARY {
+    if operator > tables::unary::LAST {
         return BAD_INPUT;
     }
     if operands::place_one(operand, scratch) {
@@ -65,7 +65,7 @@ pub extern "C" fn trials_binary(
     if operator < operations::FIRST_STRICT {
         return BAD_INPUT;
     }
-    if operator > operations::LAST_BINARY {
+    if operator > tables::binary::LAST {
         return BAD_INPUT;
     }
     if operands::place_two(left, right, scratch) {
@@ -100,7 +100,7 @@ pub extern "C" fn trials_connective(
 ) -> usize
     ensures { λ r. ⌜ TriesTwo (Conditional operator) (connected (connective operator)) (now (left .entry)) (now (right .entry)) (now (scratch .entry)) (now (scratch .exit)) r ⌝ }
 {
-    if operator < 1 {
+    if operator < tables::binary::AND {
         return BAD_INPUT;
     }
     if operator >= operations::FIRST_STRICT {
@@ -118,7 +118,7 @@ pub extern "C" fn trials_range(from: &[u8], to: &[u8], scratch: &mut [u8]) -> us
     ensures { λ r. ⌜ TriesTwo (Unit {0}) rangeOf (now (from .entry)) (now (to .entry)) (now (scratch .entry)) (now (scratch .exit)) r ⌝ }
 {
     if operands::place_two(from, to, scratch) {
-        return number(scalars::range(scratch, 0));
+        return number(set_operators::range(scratch, 0));
     }
     BAD_INPUT
 }
@@ -129,7 +129,7 @@ pub extern "C" fn trials_apply(function: &[u8], argument: &[u8], scratch: &mut [
     ensures { λ r. ⌜ TriesTwo (Unit {0}) applyTo (now (function .entry)) (now (argument .entry)) (now (scratch .entry)) (now (scratch .exit)) r ⌝ }
 {
     if operands::place_two(function, argument, scratch) {
-        return number(sequence_operators::applying::apply(scratch, 0));
+        return number(application::apply(scratch, 0));
     }
     BAD_INPUT
 }

@@ -1,14 +1,12 @@
 // Operands from outside: tested, and put into scratch.
 use crate::validity;
+use calling::Applied;
 ghost use mathlib.Core.Path.{_≡_};
 ghost use Prim.Native.Nat.{_+_, _≤_};
 ghost use lib.ListN.{length};
 ghost use lib.Seq.{sets};
 ghost use Rattle.trials.specs.Validity.{Tells};
 ghost use Rattle.trials.specs.Trial.{SomeOperand, PlacesOne, PlacesTwo};
-
-// The scratch that an operator may use, from its base on.
-pub const ROOM: usize = 1536;
 
 // Whether bytes are the record of a well-formed value, and nothing else.
 pub fn is_value(bytes: &[u8]) -> bool
@@ -40,7 +38,7 @@ pub fn load(bytes: &[u8], s: &mut [u8], at: usize)
 pub fn place_one(x: &[u8], s: &mut [u8]) -> bool
     ensures { λ r. ⌜ PlacesOne (now (x .entry)) (now (s .entry)) (now (s .exit)) r ⌝ }
 {
-    if s.len() < ROOM {
+    if s.len() < Applied::WORKSPACE {
         return false;
     }
     if is_value(x) {
@@ -50,13 +48,13 @@ pub fn place_one(x: &[u8], s: &mut [u8]) -> bool
     false
 }
 
-// Puts two operands at 0 and at 512.
+// Puts two operands where an operator looks for them, from 0 on.
 pub fn place_two(x: &[u8], y: &[u8], s: &mut [u8]) -> bool
     ensures { λ r. ⌜ PlacesTwo (now (x .entry)) (now (y .entry)) (now (s .entry)) (now (s .exit)) r ⌝ }
 {
     if is_value(y) {
         if place_one(x, s) {
-            load(y, s, 512);
+            load(y, s, Applied::SECOND);
             return true;
         }
     }

@@ -1,8 +1,9 @@
 // Whether untrusted bytes are the record of a well-formed value.
 use integers::Order;
+use values::Value;
 ghost use Prim.Native.Nat.{_+_, _≤_};
 ghost use lib.ListN.{length};
-ghost use Rattle.values.specs.Value.{Ascending, Paired, keys, limit};
+ghost use Rattle.values.specs.Value.{Ascending, Paired, keys, mostBytes};
 ghost use Rattle.values.specs.Place.{HoldsItems};
 ghost use Rattle.trials.specs.Validity.{Tells, Inside, Boolean, TellsItems, CountsItems, Entries, ShapedAs, Span};
 
@@ -69,16 +70,16 @@ fn shaped(s: &[u8], from: usize, to: usize, kind: usize) -> bool
     requires { ⌜ HoldsItems (now s) from to ⌝ }
     ensures { λ r. ⌜ TellsItems (ShapedAs kind) (now (s .entry)) from to r ⌝ }
 {
-    if kind == 3 {
+    if kind == Value::SET {
         return ascending(s, from, to);
     }
-    if kind == 4 {
+    if kind == Value::SEQUENCE {
         return true;
     }
-    if kind == 5 {
+    if kind == Value::MAP {
         return entries(s, from, to);
     }
-    if kind == 6 {
+    if kind == Value::TUPLE {
         let n = count(s, from, to);
         if n < 2 {
             return false;
@@ -98,7 +99,7 @@ fn boolean(s: &[u8], at: usize, n: usize) -> bool
     if n != 5 {
         return false;
     }
-    s[at + 4] < 2
+    s[at + Value::HEAD] < 2
 }
 
 // Whether the record of some value stands at a place, and ends at another or before it.
@@ -106,25 +107,25 @@ pub fn valid(s: &[u8], at: usize, to: usize) -> bool
     requires { ⌜ Span (now s) at to ⌝ }
     ensures { λ r. ⌜ Tells (Inside (now (s .entry)) at to) r ⌝ }
 {
-    if to - at < 4 {
+    if to - at < Value::HEAD {
         return false;
     }
     let n = integers::bytes::read16(s, at);
-    if n < 4 {
+    if n < Value::HEAD {
         return false;
     }
     if to - at < n {
         return false;
     }
     let kind = integers::bytes::read16(s, at + 2);
-    if kind == 1 {
+    if kind == Value::BOOLEAN {
         return boolean(s, at, n);
     }
-    if kind == 2 {
+    if kind == Value::INTEGER {
         return n == 8;
     }
-    if valid_items(s, at + 4, at + n) {
-        return shaped(s, at + 4, at + n, kind);
+    if valid_items(s, at + Value::HEAD, at + n) {
+        return shaped(s, at + Value::HEAD, at + n, kind);
     }
     false
 }

@@ -13,8 +13,8 @@ use Rattle.integers.specs.Order.{orderℕ, orderℤ}
 use Rattle.values.specs.Items.{isSame}
 use Rattle.values.specs.Place.{At, ItemsAt, Holds, HoldsItems}
 use Rattle.values.specs.Contract.{Length, KindAt, Both, Ordered, OrderedItems, Equal}
-use Rattle.integers.specs.Ordered.{same-eq, eq-same}
-use Rattle.values.specs.Records.{one-value, is-collection, items-to, items-none, run-of, holds}
+use Rattle.integers.proofs.Ordered.{same-eq, eq-same}
+use Rattle.values.proofs.Records.{one-value, is-collection, items-to, items-none, uncons-of, holds}
 
 -- ---- two values
 
@@ -95,32 +95,32 @@ module _ {s : List ℕ} {a a′ b b′ : ℕ} where
 
   pub first-none : a ≡ a′ → (b ≡ b′ → ⊥) → OrderedItems s a a′ b b′ Lower
   unfolding within
-  first-none e f vs ws h k = sym (ap₂ orderItems (items-none (omega arith) h) (run-of f k .is))
+  first-none e f vs ws h k = sym (ap₂ orderItems (items-none (omega arith) h) (uncons-of f k .is))
 
   pub second-none : (a ≡ a′ → ⊥) → b ≡ b′ → OrderedItems s a a′ b b′ Higher
   unfolding within
-  second-none e f vs ws h k = sym (ap₂ orderItems (run-of e h .is) (items-none (omega arith) k))
+  second-none e f vs ws h k = sym (ap₂ orderItems (uncons-of e h .is) (items-none (omega arith) k))
 
   module _ {o : Order} (ea : a ≡ a′ → ⊥) (eb : b ≡ b′ → ⊥) (c : Ordered s a b o) where
     -- the first items' order, and then that of the rests
-    heads : (vs ws : Items) (h : ItemsAt s a a′ vs) (k : ItemsAt s b b′ ws) → orderItems vs ws ≡ after o (orderItems (run-of ea h .rest) (run-of eb k .rest))
+    heads : (vs ws : Items) (h : ItemsAt s a a′ vs) (k : ItemsAt s b b′ ws) → orderItems vs ws ≡ after o (orderItems (uncons-of ea h .rest) (uncons-of eb k .rest))
     unfolding within
     heads vs ws h k =
-        let x = run-of ea h in
-        let y = run-of eb k in
+        let x = uncons-of ea h in
+        let y = uncons-of eb k in
         ap₂ orderItems (x .is) (y .is)
         ∙ ap (λ (p : Order). after p (orderItems (x .rest) (y .rest))) (sym (c (x .first) (y .first) (x .first-at) (y .first-at)))
 
     pub first-lower : o ≡ Lower → OrderedItems s a a′ b b′ Lower
-    first-lower d vs ws h k = sym (heads vs ws h k ∙ ap (λ (p : Order). after p (orderItems (run-of ea h .rest) (run-of eb k .rest))) d)
+    first-lower d vs ws h k = sym (heads vs ws h k ∙ ap (λ (p : Order). after p (orderItems (uncons-of ea h .rest) (uncons-of eb k .rest))) d)
 
     pub first-higher : o ≡ Higher → OrderedItems s a a′ b b′ Higher
-    first-higher d vs ws h k = sym (heads vs ws h k ∙ ap (λ (p : Order). after p (orderItems (run-of ea h .rest) (run-of eb k .rest))) d)
+    first-higher d vs ws h k = sym (heads vs ws h k ∙ ap (λ (p : Order). after p (orderItems (uncons-of ea h .rest) (uncons-of eb k .rest))) d)
 
     pub first-same : {m n : ℕ} (r : Order) → o ≡ Same → Length s a m → Length s b n → OrderedItems s (a + m) a′ (b + n) b′ r → OrderedItems s a a′ b b′ r
     first-same r d m n q vs ws h k =
-        let x = run-of ea h in
-        let y = run-of eb k in
+        let x = uncons-of ea h in
+        let y = uncons-of eb k in
         let q′ : OrderedItems s (a + word s a) a′ (b + word s b) b′ r = rw (m .is, n .is) at q in
         q′ (x .rest) (y .rest) (x .rest-at) (y .rest-at)
         ∙ sym (heads vs ws h k ∙ ap (λ (p : Order). after p (orderItems (x .rest) (y .rest))) d)
@@ -132,12 +132,12 @@ pub record Begun (s : List ℕ) (a a′ : ℕ) : Type 0 where
   pub fits : a′ ≤ length s
 
 pub begun : {s : List ℕ} {a a′ : ℕ} → (a ≡ a′ → ⊥) → HoldsItems s a a′ → Begun s a a′
-begun f (vs, h) = let x = run-of f h in record { held = holds (x .first-at); inside = x .inside; fits = h .fits }
+begun f (vs, h) = let x = uncons-of f h in record { held = holds (x .first-at); inside = x .inside; fits = h .fits }
 
 -- the items after the first
 pub rest-items : {s : List ℕ} {a a′ m : ℕ} → (a ≡ a′ → ⊥) → Length s a m → HoldsItems s a a′ → HoldsItems s (a + m) a′
 rest-items {s} {a} {a′} f m (vs, h) =
-    let x = run-of f h in
+    let x = uncons-of f h in
     (x .rest, subst (λ (k : ℕ). ItemsAt s (a + k) a′ (x .rest)) (sym (m .is)) (x .rest-at))
 
 -- ---- equality

@@ -1,23 +1,18 @@
 -- What a record that stands somewhere gives the code that reads it.
-use mathlib.Core.Path.{_≡_, refl, sym, ap, subst, _∙_}
-use mathlib.Core.Bool.{Bool, true, false}
+use mathlib.Core.Path.{_≡_, sym, ap, subst, _∙_}
+use mathlib.Core.Bool.{Bool}
 use mathlib.Core.List.{List}
 use Prim.Native.Nat.{ℕ, _+_, _≤_}
 use native.Mathlib.Omega.{arith}
 use lib.Dec.{eqb}
 use lib.IntN.{ℤ}
 use lib.ListN.{length, getD}
-use lib.Signed.{ltZ}
-use mir.Syntax.{w32}
-use mir.Val.{SFits, toZ, ofZ}
-use mir.ValLaws.{toZ-ofZ}
 use Rattle.integers.specs.Bytes.{word, integerAt}
-use Rattle.integers.specs.declared.Order.the-variants.{Lower, Same, Higher}
-use Rattle.values.specs.Value.{set, sequence, map, tuple, Value, boolean, integer, collection, kindOf, size, byteOf}
-use Rattle.integers.specs.Order.{orderℤ}
+use Rattle.values.specs.Value.{set, sequence, map, tuple, Value, boolean, integer, collection, kindOf, size}
 use Rattle.values.specs.Place.{At, Holds}
 use Rattle.values.specs.Contract.{Length, KindAt}
-use Rattle.values.specs.Records.{word-size, word-kind, boolean-at, integer-at, is-boolean, is-integer}
+use Rattle.values.proofs.Encoding.{bool-back}
+use Rattle.values.proofs.Records.{word-size, word-kind, boolean-at, integer-at, is-boolean, is-integer}
 
 -- ---- length and kind
 
@@ -55,32 +50,10 @@ module _ {s : List ℕ} {at : ℕ} (h : Holds s at) where
   unfolding size
   integer-room e = let (z, a) = the-integer e in let f : at + 8 ≤ length s = a .fits in f
 
-  byte-back : (b : Bool) → eqb (byteOf b) 1 ≡ b
-  byte-back true = refl
-  byte-back false = refl
-
   pub boolean-here : word s (at + 2) ≡ 1 → At s at (boolean (eqb (getD s (at + 4) 0) 1))
   boolean-here e =
       let (b, a) = the-boolean e in
-      subst (λ (x : Bool). At s at (boolean x)) (sym (ap (λ (n : ℕ). eqb n 1) (boolean-at a) ∙ byte-back b)) a
+      subst (λ (x : Bool). At s at (boolean x)) (sym (ap (λ (n : ℕ). eqb n 1) (boolean-at a) ∙ bool-back b)) a
 
   pub integer-here : {r : ℤ} → word s (at + 2) ≡ 2 → r ≡ integerAt s (at + 4) → At s at (integer r)
   integer-here e d = let (z, a) = the-integer e in subst (λ (x : ℤ). At s at (integer x)) (sym (d ∙ integer-at a)) a
-
--- ---- the order of two integers, by tests that are made on their bits
-
-by-bits : {a b : ℤ} {t : Bool} → SFits w32 a → SFits w32 b → ltZ (toZ w32 (ofZ w32 a)) (toZ w32 (ofZ w32 b)) ≡ t → ltZ a b ≡ t
-by-bits {a} {b} fa fb e = rw (toZ-ofZ w32 a fa, toZ-ofZ w32 b fb) at e
-
-module _ (a b : ℤ) (fa : SFits w32 a) (fb : SFits w32 b) where
-  pub lower-bits : ltZ (toZ w32 (ofZ w32 a)) (toZ w32 (ofZ w32 b)) ≡ true → Lower ≡ orderℤ a b
-  unfolding orderℤ
-  lower-bits p = rw (by-bits fa fb p)
-
-  pub higher-bits : ltZ (toZ w32 (ofZ w32 a)) (toZ w32 (ofZ w32 b)) ≡ false → ltZ (toZ w32 (ofZ w32 b)) (toZ w32 (ofZ w32 a)) ≡ true → Higher ≡ orderℤ a b
-  unfolding orderℤ
-  higher-bits p q = rw (by-bits fa fb p, by-bits fb fa q)
-
-  pub same-bits : ltZ (toZ w32 (ofZ w32 a)) (toZ w32 (ofZ w32 b)) ≡ false → ltZ (toZ w32 (ofZ w32 b)) (toZ w32 (ofZ w32 a)) ≡ false → Same ≡ orderℤ a b
-  unfolding orderℤ
-  same-bits p q = rw (by-bits fa fb p, by-bits fb fa q)

@@ -11,10 +11,10 @@ use mir.Val.{boolByte}
 use Rattle.integers.specs.Bytes.{pair, integerBytes}
 use Rattle.integers.specs.Whole.{InRange}
 use Rattle.values.specs.Value.{Value, boolean, integer, size, byteOf, headed, encode, WellFormed}
-use Rattle.values.specs.Contract.{PutHead, Put}
-use Rattle.values.specs.Records.{well-formed-boolean, well-formed-integer}
-use Rattle.values.specs.Encoding.{encode-length}
-use Rattle.values.specs.Written.{heading, stored, stores, written}
+use Rattle.values.specs.Contract.{PutHead, Put, heading}
+use Rattle.values.proofs.Records.{well-formed-boolean, well-formed-integer}
+use Rattle.values.proofs.Encoding.{encode-length}
+use Rattle.values.proofs.Written.{stored, stores, written}
 
 pub put-heading : (s t u : List ℕ) (at n k : ℕ) → t ≡ sets s at (pair n) → u ≡ sets t (at + 2) (pair k) → PutHead s u at n k
 put-heading s t u at n k p q =

@@ -1,8 +1,8 @@
 -- What the functions on values ask and promise. Each promise is for whatever value stands at the place that a function is given: by
--- `one-value` of Records there is one.
+-- `one-value` (proofs/Records) there is one.
 use mathlib.Core.Path.{_≡_}
 use mathlib.Core.Bool.{Bool}
-use mathlib.Core.List.{List, _++_}
+use mathlib.Core.List.{List, [], _++_}
 use mathlib.Core.Logic.{_⊎_}
 use Prim.Native.Nat.{ℕ, _+_, _-_, _≤_}
 use lib.ListN.{length, take, drop, replicate}
@@ -10,10 +10,9 @@ use lib.Seq.{sets}
 use Rattle.integers.specs.Bytes.{word}
 use Rattle.integers.specs.declared.Order.{Order}
 use Rattle.values.specs.declared.Value.{Value as Copy}
-use Rattle.values.specs.Value.{Value, Items, kindOf, size, encode, order, orderItems, limit}
+use Rattle.values.specs.Value.{Value, Items, kindOf, size, headed, encode, order, orderItems, mostBytes}
 use Rattle.values.specs.Items.{same}
 use Rattle.values.specs.Place.{At, ItemsAt, Holds, Outside}
-use Rattle.values.specs.Written.{heading}
 
 -- ---- reading
 
@@ -21,7 +20,7 @@ use Rattle.values.specs.Written.{heading}
 pub record Length (s : List ℕ) (at r : ℕ) : Type 0 where
   pub is : r ≡ word s at
   pub low : 4 ≤ r
-  pub high : r ≤ limit
+  pub high : r ≤ mostBytes
   pub right : (v : Value) → At s at v → r ≡ size v
 
 -- r is the kind of the value at a place
@@ -59,13 +58,17 @@ zeros n = replicate n 0
 -- c has the bytes l, and then zeros up to the limit
 pub record Shows (l : List ℕ) (c : Copy) : Type 0 where
   pub len : c .len ≡ length l
-  pub bytes : c .bytes ≡ l ++ zeros (limit - length l)
+  pub bytes : c .bytes ≡ l ++ zeros (mostBytes - length l)
 
 -- c shows the value at a place
 abbrev pub ShowsAt : List ℕ → ℕ → Copy → Type 0
 ShowsAt s at c = (v : Value) → At s at v → Shows (encode v) c
 
 -- ---- writing
+
+-- a record's length and kind
+abbrev pub heading : ℕ → ℕ → List ℕ
+heading n k = headed n k []
 
 -- t is s with the heading of a record at a place
 pub record PutHead (s t : List ℕ) (at n k : ℕ) : Type 0 where

@@ -1,15 +1,10 @@
 -- Items taken together: joining, members, places, ordered insertion, and the entries of maps. The code of `collections` does these.
-use mathlib.Core.Bool.{Bool, true, false}
+use mathlib.Core.Bool.{Bool, true, false, cond}
 use mathlib.Core.Option.{Option, none as absent, some}
 use Prim.Native.Nat.{ℕ, zero, suc}
 use Rattle.integers.specs.declared.Order.{Order}
 use Rattle.integers.specs.declared.Order.the-variants.{Lower, Same, Higher}
 use Rattle.values.specs.Value.{Value, Items, none, more, order}
-
--- The first where the test is true, else the second.
-abbrev pub pick {ℓ} : {A : Type ℓ} → Bool → A → A → A
-pick true a b = a
-pick false a b = b
 
 abbrev pub isSame : Order → Bool
 isSame Lower = false
@@ -31,7 +26,7 @@ snoc vs w = join vs (more w none)
 -- Is this value among the items?
 unfoldable pub isMember : Value → Items → Bool
 isMember v none = false
-isMember v (more w ws) = pick (same v w) true (isMember v ws)
+isMember v (more w ws) = cond (same v w) true (isMember v ws)
 
 -- The k-th item, from 0.
 unfoldable pub nth : Items → ℕ → Option Value
@@ -57,7 +52,7 @@ unfoldable mutual
 
   pub lookupAt : Bool → Value → Items → Option Value
   lookupAt found k none = absent
-  lookupAt found k (more v vs) = pick found (some v) (lookup k vs)
+  lookupAt found k (more v vs) = cond found (some v) (lookup k vs)
 
 -- An entry put in order; where the key is there already, its value gives way to the new one.
 unfoldable mutual

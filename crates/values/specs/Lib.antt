@@ -1,10 +1,5 @@
+-- Document 01's values, their order and encoding, items taken together, and what the code on records asks and promises. Cited by every crate above.
 pub mod Value
 pub mod Items
 pub mod Place
-pub mod Laws
-pub mod Encoding
-pub mod Records
-pub mod Frame
-pub mod Written
 pub mod Contract
-pub mod Promises

@@ -21,6 +21,22 @@ impl Value {
     // A binder has at most 255 bindings of values to its names.
     pub const BINDINGS: usize = 255;
 
+    // The kinds of values.
+    pub const BOOLEAN: usize = 1;
+
+    pub const INTEGER: usize = 2;
+
+    pub const SET: usize = 3;
+
+    pub const SEQUENCE: usize = 4;
+
+    pub const MAP: usize = 5;
+
+    pub const TUPLE: usize = 6;
+
+    // Where a record's contents start: length and kind take two bytes each.
+    pub const HEAD: usize = 4;
+
     // No value: zeros.
     pub fn empty() -> Value
         ensures { λ r. ⌜ Shows [] r ⌝ }
@@ -70,7 +86,7 @@ pub fn boolean_at(s: &[u8], at: usize) -> bool
     requires { ⌜ OfKind (now s) at 1 ⌝ }
     ensures { λ r. ⌜ At (now (s .entry)) at (boolean r) ⌝ }
 {
-    s[at + 4] == 1
+    s[at + Value::HEAD] == 1
 }
 
 // The integer at a place.
@@ -78,7 +94,7 @@ pub fn integer_at(s: &[u8], at: usize) -> i32
     requires { ⌜ OfKind (now s) at 2 ⌝ }
     ensures { λ r. ⌜ At (now (s .entry)) at (integer r) ⌝ }
 {
-    integers::bytes::read32(s, at + 4)
+    integers::bytes::read32(s, at + Value::HEAD)
 }
 
 // ---- comparing
@@ -113,15 +129,15 @@ pub fn compare(s: &[u8], a: usize, b: usize) -> Order
     if ka != kb {
         return integers::compare_numbers(ka, kb);
     }
-    if ka == 1 {
+    if ka == Value::BOOLEAN {
         return compare_booleans(s, a, b);
     }
-    if ka == 2 {
+    if ka == Value::INTEGER {
         return compare_integers(s, a, b);
     }
     let la = length_of(s, a);
     let lb = length_of(s, b);
-    compare_items(s, a + 4, a + la, b + 4, b + lb)
+    compare_items(s, a + Value::HEAD, a + la, b + Value::HEAD, b + lb)
 }
 
 // The order of the items between two places each: item by item, a prefix before what extends it.
@@ -179,8 +195,8 @@ pub fn put_boolean(s: &mut [u8], at: usize, b: bool) -> usize
     requires { ⌜ at + 5 ≤ length (now s) ⌝ }
     ensures { λ r. ⌜ Put (now (s .entry)) (now (s .exit)) at (boolean b) 5 r ⌝ }
 {
-    put_head(s, at, 5, 1);
-    s[at + 4] = b as u8;
+    put_head(s, at, 5, Value::BOOLEAN);
+    s[at + Value::HEAD] = b as u8;
     at + 5
 }
 
@@ -189,8 +205,8 @@ pub fn put_integer(s: &mut [u8], at: usize, z: i32) -> usize
     requires { ⌜ (at + 8 ≤ length (now s)) × InRange z ⌝ }
     ensures { λ r. ⌜ Put (now (s .entry)) (now (s .exit)) at (integer z) 8 r ⌝ }
 {
-    put_head(s, at, 8, 2);
-    integers::bytes::put32(s, at + 4, z);
+    put_head(s, at, 8, Value::INTEGER);
+    integers::bytes::put32(s, at + Value::HEAD, z);
     at + 8
 }
 

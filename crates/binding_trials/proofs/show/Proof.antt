@@ -1,7 +1,7 @@
 -- `show` meets its contract.
 use native.Mathlib.Omega.{arith}
 use borrow.Author.Needs.{needs}
-use Rattle.trials.specs.Operands.{operand-low}
+use Rattle.trials.proofs.Records.{operand-low}
 use Rattle.binding_trials.proofs.Showing.{no-such-name, name-free, puttable, name-shown}
 use Rattle.binding_trials.proofs.show.Statement.{statement}
 use Rattle.binding_trials.proofs.show.Tie as tie

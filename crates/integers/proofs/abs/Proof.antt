@@ -2,7 +2,7 @@
 use mathlib.Core.Path.{ap, _∙_}
 use borrow.Author.Needs.{needs}
 use mir.Facts.{toZ-ofZ}
-use Rattle.integers.specs.Whole.{answer}
+use Rattle.integers.specs.Whole.{ranged}
 use Rattle.integers.proofs.Machine.{widen-fits, widen-is, negated-fits, negated-is, below-size, above-size}
 use Rattle.integers.proofs.abs.Statement.{statement}
 use Rattle.integers.proofs.abs.Tie as tie
@@ -19,7 +19,7 @@ settle-requires c κs = search needs
 returns : tie.Need-returns
 returns c =
     let s = c .before .before in
-    c .settle .ensures ∙ ap answer (negated-is (s .fits .z) ∙ below-size (s .args .z) (rw (toZ-ofZ (s .fits .z)) at (c .before .if1 .taken)))
+    c .settle .ensures ∙ ap ranged (negated-is (s .fits .z) ∙ below-size (s .args .z) (rw (toZ-ofZ (s .fits .z)) at (c .before .if1 .taken)))
 
 cast-settle-2 : tie.Need-cast-settle-2
 cast-settle-2 c = widen-fits (c .before .fits .z)
@@ -30,7 +30,7 @@ settle-requires-2 c κs = search needs
 returns-2 : tie.Need-returns-2
 returns-2 c =
     let s = c .before .before in
-    c .settle2 .ensures ∙ ap answer (widen-is (s .fits .z) ∙ above-size (s .args .z) (rw (toZ-ofZ (s .fits .z)) at (c .before .if1 .left)))
+    c .settle2 .ensures ∙ ap ranged (widen-is (s .fits .z) ∙ above-size (s .args .z) (rw (toZ-ofZ (s .fits .z)) at (c .before .if1 .left)))
 
 pub abs-spec : {M : Type 1} → statement M
 abs-spec =

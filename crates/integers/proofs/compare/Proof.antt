@@ -1,6 +1,6 @@
 -- `integers::compare` meets its contract, by its two tests.
 use mathlib.Core.Path.{sym}
-use Rattle.integers.specs.Ordered.{ltZ-lower, gtZ-higher, eqZ-same}
+use Rattle.integers.proofs.Ordered.{ltZ-lower, gtZ-higher, eqZ-same}
 use Rattle.integers.proofs.Signed.{by-bits}
 use Rattle.integers.proofs.compare.Statement.{statement}
 use Rattle.integers.proofs.compare.Tie as tie

@@ -1,7 +1,7 @@
 -- `integers::compare_numbers` meets its contract, by its two tests.
 use mathlib.Core.Path.{sym}
 use native.Mathlib.Omega.{arith}
-use Rattle.integers.specs.Ordered.{lt-lower, gt-higher, eq-same}
+use Rattle.integers.proofs.Ordered.{lt-lower, gt-higher, eq-same}
 use Rattle.integers.proofs.compare_numbers.Statement.{statement}
 use Rattle.integers.proofs.compare_numbers.Tie as tie
 

@@ -2,8 +2,8 @@
 use mathlib.Core.Path.{sym, ap, _∙_}
 use borrow.Author.Needs.{needs}
 use lib.Signed.{quotZ}
-use Rattle.integers.specs.Whole.{answer, divℤ}
-use Rattle.integers.specs.Range.{divided-zero, divided-other}
+use Rattle.integers.specs.Whole.{ranged, divℤ}
+use Rattle.integers.proofs.Range.{divided-zero, divided-other}
 use Rattle.integers.proofs.Machine.{widen-fits, quot-fits, wide-fits, wide-is, bits-zero, bits-other, divisor, div-quot}
 use Rattle.integers.proofs.div.Statement.{statement}
 use Rattle.integers.proofs.div.Tie as tie
@@ -32,7 +32,7 @@ returns-2 c =
     let a = c .before .before .args in
     let f = c .before .before .fits in
     c .settle .ensures
-    ∙ ap answer (wide-is quotZ quot-fits (f .left) (f .right) ∙ div-quot (a .left) (a .right))
+    ∙ ap ranged (wide-is quotZ quot-fits (f .left) (f .right) ∙ div-quot (a .left) (a .right))
     ∙ sym (divided-other (a .right) (divℤ (a .left) (a .right)) (bits-other (c .before .if1 .left)))
 
 pub div-spec : {M : Type 1} → statement M

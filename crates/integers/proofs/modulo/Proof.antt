@@ -3,8 +3,8 @@ use mathlib.Core.Path.{_≡_, sym, ap, ap₂, _∙_}
 use borrow.Author.Needs.{needs}
 use mir.Syntax.{w64}
 use mir.Facts.{toZ-ofZ}
-use Rattle.integers.specs.Whole.{answer, modℤ}
-use Rattle.integers.specs.Range.{divided-zero, divided-other}
+use Rattle.integers.specs.Whole.{ranged, modℤ}
+use Rattle.integers.proofs.Range.{divided-zero, divided-other}
 use Rattle.integers.proofs.Machine.{bits-zero, bits-other}
 use Rattle.integers.proofs.modulo.Statement.{statement}
 use Rattle.integers.proofs.modulo.Tie as tie
@@ -26,7 +26,7 @@ returns-2 c =
     let f = c .before .before .before .fits in
     let rest : c .before .floor-rest .result ≡ modℤ (a .left) (a .right) = c .before .floor-rest .ensures ∙ ap₂ modℤ (toZ-ofZ (f .left)) (toZ-ofZ (f .right)) in
     c .settle .ensures
-    ∙ ap answer (toZ-ofZ {w = w64} (record { sfits = c .before .floor-rest .ok }) ∙ rest)
+    ∙ ap ranged (toZ-ofZ {w = w64} (record { sfits = c .before .floor-rest .ok }) ∙ rest)
     ∙ sym (divided-other (a .right) (modℤ (a .left) (a .right)) (bits-other (c .before .before .if1 .left)))
 
 pub modulo-spec : {M : Type 1} → statement M

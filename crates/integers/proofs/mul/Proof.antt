@@ -2,7 +2,7 @@
 use mathlib.Core.Path.{ap, _∙_}
 use borrow.Author.Needs.{needs}
 use lib.IntN.{_*ℤ_}
-use Rattle.integers.specs.Whole.{answer}
+use Rattle.integers.specs.Whole.{ranged}
 use Rattle.integers.proofs.Machine.{widen-fits, mul-fits, wide-fits, wide-is}
 use Rattle.integers.proofs.mul.Statement.{statement}
 use Rattle.integers.proofs.mul.Tie as tie
@@ -20,7 +20,7 @@ settle-requires : tie.Need-settle-requires
 settle-requires c κs = search needs
 
 returns : tie.Need-returns
-returns c = c .settle .ensures ∙ ap answer (wide-is _*ℤ_ mul-fits (c .before .fits .left) (c .before .fits .right))
+returns c = c .settle .ensures ∙ ap ranged (wide-is _*ℤ_ mul-fits (c .before .fits .left) (c .before .fits .right))
 
 pub mul-spec : {M : Type 1} → statement M
 mul-spec = tie.close (tie.spec cast-settle cast-settle-2 mul-settle settle-requires returns)

@@ -1,7 +1,7 @@
 -- `integers::neg` meets its contract: 64 bits hold the exact result, and `settle` answers it.
 use mathlib.Core.Path.{ap, _∙_}
 use borrow.Author.Needs.{needs}
-use Rattle.integers.specs.Whole.{answer}
+use Rattle.integers.specs.Whole.{ranged}
 use Rattle.integers.proofs.Machine.{widen-fits, negated-fits, negated-is}
 use Rattle.integers.proofs.neg.Statement.{statement}
 use Rattle.integers.proofs.neg.Tie as tie
@@ -16,7 +16,7 @@ settle-requires : tie.Need-settle-requires
 settle-requires c κs = search needs
 
 returns : tie.Need-returns
-returns c = c .settle .ensures ∙ ap answer (negated-is (c .before .fits .z))
+returns c = c .settle .ensures ∙ ap ranged (negated-is (c .before .fits .z))
 
 pub neg-spec : {M : Type 1} → statement M
 neg-spec = tie.close (tie.spec cast-settle sub-settle settle-requires returns)

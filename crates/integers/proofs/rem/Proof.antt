@@ -2,9 +2,9 @@
 use mathlib.Core.Path.{sym, ap, _∙_}
 use borrow.Author.Needs.{needs}
 use lib.Signed.{quotZ, remZ}
-use Rattle.integers.specs.Whole.{answer, remℤ}
-use Rattle.integers.specs.Range.{divided-zero, divided-other}
-use Rattle.integers.specs.Division.{rem-sizes}
+use Rattle.integers.specs.Whole.{ranged, remℤ}
+use Rattle.integers.proofs.Range.{divided-zero, divided-other}
+use Rattle.integers.proofs.Division.{rem-sizes}
 use Rattle.integers.proofs.Machine.{widen-fits, quot-fits, rem-fits, wide-fits, wide-is, bits-zero, bits-other, divisor}
 use Rattle.integers.proofs.rem.Statement.{statement}
 use Rattle.integers.proofs.rem.Tie as tie
@@ -33,7 +33,7 @@ returns-2 c =
     let a = c .before .before .args in
     let f = c .before .before .fits in
     c .settle .ensures
-    ∙ ap answer (wide-is remZ rem-fits (f .left) (f .right) ∙ sym (rem-sizes (a .left) (a .right)))
+    ∙ ap ranged (wide-is remZ rem-fits (f .left) (f .right) ∙ sym (rem-sizes (a .left) (a .right)))
     ∙ sym (divided-other (a .right) (remℤ (a .left) (a .right)) (bits-other (c .before .if1 .left)))
 
 pub rem-spec : {M : Type 1} → statement M

@@ -5,22 +5,22 @@ use lib.Signed.{leZ, ltZ}
 use mir.Syntax.{w32}
 use mir.Val.{SFits}
 use mir.Facts.{toZ-ofZ}
-use Rattle.integers.specs.Whole.{least, greatest, InRange}
-use Rattle.integers.specs.Range.{below-range, above-range, within-range, range-fits, answer-in, answer-out}
+use Rattle.integers.specs.Whole.{leastInteger, greatestInteger, InRange}
+use Rattle.integers.proofs.Range.{below-range, above-range, within-range, range-fits, answer-in, answer-out}
 use Rattle.integers.proofs.settle.Statement.{statement}
 use Rattle.integers.proofs.settle.Tie as tie
 
 returns : tie.Need-returns
 returns c =
     let z = c .before .args .z in
-    let t : ltZ z least ≡ true = rw (toZ-ofZ (c .before .fits .z)) at (c .if1 .taken) in
+    let t : ltZ z leastInteger ≡ true = rw (toZ-ofZ (c .before .fits .z)) at (c .if1 .taken) in
     sym (answer-out z (below-range z t))
 
 inside : (c : tie.Then2) → InRange (c .before .before .args .z)
 inside c =
     let z = c .before .before .args .z in
-    let t : ltZ z least ≡ false = rw (toZ-ofZ (c .before .before .fits .z)) at (c .before .if1 .left) in
-    let u : leZ z greatest ≡ true = rw (toZ-ofZ (c .before .before .fits .z)) at (c .if2 .taken) in
+    let t : ltZ z leastInteger ≡ false = rw (toZ-ofZ (c .before .before .fits .z)) at (c .before .if1 .left) in
+    let u : leZ z greatestInteger ≡ true = rw (toZ-ofZ (c .before .before .fits .z)) at (c .if2 .taken) in
     within-range z t u
 
 fits : (c : tie.Then2) → SFits w32 (c .before .before .args .z)
@@ -35,7 +35,7 @@ returns-2 c = rw (toZ-ofZ (c .before .before .fits .z), toZ-ofZ (fits c)) (sym (
 returns-3 : tie.Need-returns-3
 returns-3 c =
     let z = c .before .before .args .z in
-    let t : leZ z greatest ≡ false = rw (toZ-ofZ (c .before .before .fits .z)) at (c .if2 .left) in
+    let t : leZ z greatestInteger ≡ false = rw (toZ-ofZ (c .before .before .fits .z)) at (c .if2 .left) in
     sym (answer-out z (above-range z t))
 
 pub settle-spec : {M : Type 1} → statement M

@@ -2,7 +2,7 @@
 use mathlib.Core.Path.{refl}
 use Prim.Native.Nat.{_-_}
 use native.Mathlib.Omega.{arith}
-use Rattle.values.specs.Records.{holds, run}
+use Rattle.values.proofs.Records.{holds, uncons}
 use Rattle.map_operators.proofs.Agreeing.{Agreeing, agree-start, agree-next, agree-beside, agree-step, agree-off, agree-end}
 use Rattle.map_operators.proofs.compatible.Statement.{statement}
 use Rattle.map_operators.proofs.compatible.Tie as tie
@@ -28,11 +28,14 @@ add-end-2 c = omega arith
 add-p : tie.Need-add-p Inv-loop μ-loop
 add-p c = omega arith
 
+add-p-2 : tie.Need-add-p-2 Inv-loop μ-loop
+add-p-2 c = omega arith
+
 loop-holds : tie.Need-loop-holds Inv-loop μ-loop
 loop-holds c = agree-start (c .length-of .ensures .is) (c .before .before .pre)
 
 length-of-requires-2 : tie.Need-length-of-requires-2 Inv-loop μ-loop
-length-of-requires-2 c κs = holds (run (omega arith) (c .before .loop .inv .rest-at) .first-at)
+length-of-requires-2 c κs = holds (uncons (omega arith) (c .before .loop .inv .rest-at) .first-at)
 
 add-v : tie.Need-add-v Inv-loop μ-loop
 add-v c = let y = agree-next (c .before .before .loop .inv) (omega arith) (c .length-of2 .ensures .is) refl in let f = y .rest-at .fits in omega arith
@@ -43,8 +46,8 @@ agrees-requires c κs = agree-beside (c .before .before .loop .inv) (omega arith
 length-of-requires-3 : tie.Need-length-of-requires-3 Inv-loop μ-loop
 length-of-requires-3 c κs = holds (agree-next (c .before .before .before .before .loop .inv) (omega arith) (c .before .before .length-of2 .ensures .is) refl .value-at)
 
-add-p-2 : tie.Need-add-p-2 Inv-loop μ-loop
-add-p-2 c = let y = agree-next (c .before .before .before .before .before .loop .inv) (omega arith) (c .before .before .before .length-of2 .ensures .is) (c .length-of3 .ensures .is) in let f = y .rest-at .fits in omega arith
+add-p-3 : tie.Need-add-p-3 Inv-loop μ-loop
+add-p-3 c = let y = agree-next (c .before .before .before .before .before .loop .inv) (omega arith) (c .before .before .before .length-of2 .ensures .is) (c .length-of3 .ensures .is) in let f = y .rest-at .fits in omega arith
 
 loop-less : tie.Need-loop-less Inv-loop μ-loop
 loop-less c = let y = agree-next (c .before .before .before .before .before .loop .inv) (omega arith) (c .before .before .before .length-of2 .ensures .is) (c .length-of3 .ensures .is) in omega arith
@@ -69,12 +72,13 @@ compatible-spec =
     length-of-requires
     add-end-2
     add-p
+    add-p-2
     loop-holds
     length-of-requires-2
     add-v
     agrees-requires
     length-of-requires-3
-    add-p-2
+    add-p-3
     loop-less
     loop-again
     returns

@@ -3,7 +3,7 @@ use mathlib.Core.Path.{refl}
 use Prim.Native.Nat.{_-_}
 use native.Mathlib.Omega.{arith}
 use borrow.Author.Needs.{needs}
-use Rattle.values.specs.Records.{holds, run}
+use Rattle.values.proofs.Records.{holds, uncons}
 use Rattle.map_operators.proofs.Overriding.{Overriding, over-start, over-next, over-room, put-not-full, clash-not-full, over-full, over-step, over-copyable, over-end}
 use Rattle.map_operators.proofs.enter_all.Statement.{statement}
 use Rattle.map_operators.proofs.enter_all.Tie as tie
@@ -27,7 +27,7 @@ loop-holds : tie.Need-loop-holds Inv-loop μ-loop
 loop-holds c = over-start (c .length-of .ensures .is) (c .before .before .before .pre)
 
 length-of-requires-2 : tie.Need-length-of-requires-2 Inv-loop μ-loop
-length-of-requires-2 c κs = holds (run (omega arith) (c .before .before .loop .inv .rest-at) .first-at)
+length-of-requires-2 c κs = holds (uncons (omega arith) (c .before .before .loop .inv .rest-at) .first-at)
 
 add-v : tie.Need-add-v Inv-loop μ-loop
 add-v c = let y = over-next (c .before .before .before .loop .inv) (omega arith) (c .length-of2 .ensures .is) refl in let f = y .rest-at .fits in omega arith

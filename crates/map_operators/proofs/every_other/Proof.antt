@@ -3,8 +3,8 @@ use mathlib.Core.Logic.{⊎-elim}
 use Prim.Native.Nat.{_-_}
 use native.Mathlib.Omega.{arith}
 use Rattle.values.specs.Value.{map}
-use Rattle.values.specs.Records.{holds}
-use Rattle.sequence_operators.specs.Packing.{Packing}
+use Rattle.values.proofs.Records.{holds}
+use Rattle.gathering.proofs.Packing.{Packing}
 use Rattle.map_operators.proofs.Halving.{Half, halving-start, halving-run, halving-movable, halving-keep, halving-past, halving-end}
 use Rattle.map_operators.proofs.every_other.Statement.{statement}
 use Rattle.map_operators.proofs.every_other.Tie as tie

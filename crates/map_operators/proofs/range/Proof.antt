@@ -1,6 +1,5 @@
 -- `range` meets its contract.
-use native.Mathlib.Omega.{arith}
-use Rattle.map_operators.proofs.Halving.{values-one, range-done}
+use Rattle.map_operators.proofs.Halving.{values-has, range-done}
 use borrow.Author.Needs.{needs}
 use Rattle.map_operators.proofs.range.Statement.{statement}
 use Rattle.map_operators.proofs.range.Tie as tie
@@ -8,14 +7,14 @@ use Rattle.map_operators.proofs.range.Tie as tie
 every-other-requires : tie.Need-every-other-requires
 every-other-requires c κs = search needs
 
-unary-sequence-requires : tie.Need-unary-sequence-requires
-unary-sequence-requires c κs = (values-one (c .before .before .before .before .before .before .pre) (c .before .before .before .every-other .ensures), omega arith, omega arith)
+elements-requires : tie.Need-elements-requires
+elements-requires c κs = values-has (c .before .before .before .before .before .before .pre) (c .before .before .before .every-other .ensures)
 
 same-length : tie.Need-same-length
 same-length c = search needs
 
 returns : tie.Need-returns
-returns c = range-done (c .before .before .before .before .before .before .before .before .before .pre) (c .before .before .before .before .before .before .every-other .ensures) (c .before .before .unary-sequence .ensures)
+returns c = range-done (c .before .before .before .before .before .before .before .before .before .pre) (c .before .before .before .before .before .before .every-other .ensures) (c .before .before .elements .ensures)
 
 pub range-spec : {M : Type 1} → statement M
-range-spec = tie.close (tie.spec every-other-requires unary-sequence-requires same-length returns)
+range-spec = tie.close (tie.spec every-other-requires elements-requires same-length returns)

@@ -2,7 +2,7 @@
 use mathlib.Core.Path.{refl}
 use Rattle.values.specs.Value.{map}
 use Rattle.operators.specs.Operators.{binary}
-use Rattle.sequence_operators.specs.Kinds.{has-two, off-two, on-two}
+use Rattle.calling.proofs.Kinding.{has-two, off-two, on-two}
 use Rattle.map_operators.proofs.Agreeing.{over}
 use borrow.Author.Needs.{needs}
 use Rattle.map_operators.proofs.replace.Statement.{statement}

@@ -2,7 +2,7 @@
 use mathlib.Core.Path.{refl}
 use Prim.Native.Nat.{_-_}
 use native.Mathlib.Omega.{arith}
-use Rattle.values.specs.Records.{holds, run}
+use Rattle.values.proofs.Records.{holds, uncons}
 use Rattle.map_operators.proofs.Restricting.{Restricting, restrict-start, restrict-next, restrict-beside, restrict-movable, restrict-keep, restrict-past, restrict-end}
 use Rattle.map_operators.proofs.restrict.Statement.{statement}
 use Rattle.map_operators.proofs.restrict.Tie as tie
@@ -29,7 +29,7 @@ loop-holds : tie.Need-loop-holds Inv-loop μ-loop
 loop-holds c = restrict-start _ (c .length-of .ensures .is) (c .before .before .before .pre)
 
 length-of-requires-2 : tie.Need-length-of-requires-2 Inv-loop μ-loop
-length-of-requires-2 c κs = holds (run (omega arith) (c .before .before .loop .inv .pack .rest-at) .first-at)
+length-of-requires-2 c κs = holds (uncons (omega arith) (c .before .before .loop .inv .pack .rest-at) .first-at)
 
 add-v : tie.Need-add-v Inv-loop μ-loop
 add-v c = let y = restrict-next (c .before .before .before .loop .inv) (omega arith) (c .length-of2 .ensures .is) refl in let f = y .rest-at .fits in omega arith

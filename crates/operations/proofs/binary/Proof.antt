@@ -1,5 +1,5 @@
--- `binary` meets its contract.
-use Rattle.operations.proofs.Dispatch.{two-number}
+-- `binary` meets its contract, by what it calls.
+use Rattle.calling.proofs.Numbered.{binary-as}
 use borrow.Author.Needs.{needs}
 use Rattle.operations.proofs.binary.Statement.{statement}
 use Rattle.operations.proofs.binary.Tie as tie
@@ -29,7 +29,7 @@ same-length-3 : tie.Need-same-length-3
 same-length-3 c = search needs
 
 returns-3 : tie.Need-returns-3
-returns-3 c = two-number (c .before .before .before .before .if3 .taken) (c .before .before .concatenate .ensures)
+returns-3 c = binary-as _ (c .before .before .before .before .if3 .taken) (c .before .before .concatenate .ensures)
 
 binary-map-requires : tie.Need-binary-map-requires
 binary-map-requires c κs = search needs

@@ -4,8 +4,9 @@ use Rattle.values.specs.Items.{same}
 use Rattle.operators.specs.Answer.{asBoolean}
 use Rattle.operators.specs.Booleans.{truth}
 use Rattle.operators.specs.Operators.{binary}
-use Rattle.scalars.specs.AppliedLaws.{two-off, no-boolean, the-boolean, needs-left, needs-right}
-use Rattle.scalars.proofs.Pairs.{booleans-give}
+use Rattle.calling.proofs.Answering.{two-off}
+use Rattle.calling.proofs.Kinding.{no-boolean, the-boolean, needs-left, needs-right}
+use Rattle.scalars.proofs.Equals.{booleans-give}
 use borrow.Author.Needs.{needs}
 use Rattle.scalars.proofs.biimplication.Statement.{statement}
 use Rattle.scalars.proofs.biimplication.Tie as tie

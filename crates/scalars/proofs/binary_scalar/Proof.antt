@@ -2,7 +2,7 @@
 use mathlib.Core.Path.{ap}
 use Prim.Native.Nat.{ℕ}
 use Rattle.operators.specs.Operators.{binary}
-use Rattle.scalars.specs.AppliedLaws.{two-same}
+use Rattle.calling.proofs.Answering.{two-same}
 use borrow.Author.Needs.{needs}
 use Rattle.scalars.proofs.binary_scalar.Statement.{statement}
 use Rattle.scalars.proofs.binary_scalar.Tie as tie

@@ -2,13 +2,13 @@
 use native.Mathlib.Omega.{arith}
 use Rattle.operators.specs.Operators.{binary}
 use Rattle.scalars.proofs.Numbers.{on-integers}
-use Rattle.scalars.proofs.Pairs.{pair-gives, pair-off}
+use Rattle.calling.proofs.Pairs.{pair-gives, pair-off}
 use borrow.Author.Needs.{needs}
 use Rattle.scalars.proofs.comparison.Statement.{statement}
 use Rattle.scalars.proofs.comparison.Tie as tie
 
-operands-requires : tie.Need-operands-requires
-operands-requires c κs = search needs
+two-integers-requires : tie.Need-two-integers-requires
+two-integers-requires c κs = search needs
 
 enum-known-read : tie.Need-enum-known-read
 enum-known-read c = search needs
@@ -26,19 +26,19 @@ same-length : tie.Need-same-length
 same-length c = search needs
 
 returns : tie.Need-returns
-returns c = pair-gives (c .before .before .before .before .before .before .before .before .operands .ensures) {f = binary (c .before .before .before .before .before .before .before .before .before .before .before .args .operator)} (c .before .before .before .before .before .before .read .given .1) (c .before .before .before .test .ensures) (c .before .before .put-truth .ensures)
+returns c = pair-gives (c .before .before .before .before .before .before .before .before .two-integers .ensures) {f = binary (c .before .before .before .before .before .before .before .before .before .before .before .args .operator)} (c .before .before .before .before .before .before .read .given .1) (c .before .before .before .test .ensures) (c .before .before .put-truth .ensures)
 
 same-length-2 : tie.Need-same-length-2
 same-length-2 c = search needs
 
 returns-2 : tie.Need-returns-2
-returns-2 c = let i = on-integers (c .before .before .before .before .before .args .operator) (omega arith) (omega arith) in pair-off (c .before .before .operands .ensures) (i .f) (i .is) (c .enum-told .given .1)
+returns-2 c = let i = on-integers (c .before .before .before .before .before .args .operator) (omega arith) (omega arith) in pair-off (c .before .before .two-integers .ensures) (i .f) (i .is) (c .enum-told .given .1)
 
 pub comparison-spec : {M : Type 1} → statement M
 comparison-spec =
     tie.close
     (tie.spec
-    operands-requires
+    two-integers-requires
     enum-known-read
     test-requires
     put-truth-requires

@@ -3,7 +3,7 @@ use mathlib.Core.Path.{_≡_, refl}
 use mathlib.Core.Bool.{not}
 use native.Mathlib.Omega.{arith}
 use Rattle.operators.specs.Operators.{binary}
-use Rattle.scalars.proofs.Pairs.{equal-gives}
+use Rattle.scalars.proofs.Equals.{equal-gives}
 use borrow.Author.Needs.{needs}
 use Rattle.scalars.proofs.equality.Statement.{statement}
 use Rattle.scalars.proofs.equality.Tie as tie

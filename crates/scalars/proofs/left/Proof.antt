@@ -1,5 +1,5 @@
 -- `left` meets its contract: one truth value waits for the right, and the other is settled.
-use Rattle.scalars.specs.AppliedLaws.{no-boolean}
+use Rattle.calling.proofs.Kinding.{no-boolean}
 use Rattle.scalars.proofs.Lefts.{no-left, left-waits, left-answers}
 use borrow.Author.Needs.{needs}
 use Rattle.scalars.proofs.left.Statement.{statement}

@@ -2,7 +2,8 @@
 use mathlib.Core.Bool.{not}
 use Rattle.operators.specs.Booleans.{truth}
 use Rattle.operators.specs.Operators.{unary}
-use Rattle.scalars.specs.AppliedLaws.{one-off, one-gives, no-boolean, needs-off}
+use Rattle.calling.proofs.Answering.{one-off, one-gives}
+use Rattle.calling.proofs.Kinding.{no-boolean, needs-off}
 use borrow.Author.Needs.{needs}
 use Rattle.scalars.proofs.negation.Statement.{statement}
 use Rattle.scalars.proofs.negation.Tie as tie

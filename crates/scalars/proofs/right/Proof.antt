@@ -1,7 +1,9 @@
 -- `right` meets its contract: nothing is written.
 use mathlib.Core.Path.{refl}
 use Rattle.operators.specs.Booleans.{truth}
-use Rattle.scalars.specs.AppliedLaws.{one-off, one-done, kept-same, no-boolean, the-boolean, needs-off}
+use Rattle.calling.proofs.Answering.{one-off, one-done}
+use Rattle.calling.proofs.Framing.{kept-same}
+use Rattle.calling.proofs.Kinding.{no-boolean, the-boolean, needs-off}
 use borrow.Author.Needs.{needs}
 use Rattle.scalars.proofs.right.Statement.{statement}
 use Rattle.scalars.proofs.right.Tie as tie

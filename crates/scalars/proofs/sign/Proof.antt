@@ -5,20 +5,22 @@ use Rattle.integers.specs.Whole as Whole
 use Rattle.values.specs.Value.{integer}
 use Rattle.operators.specs.Arithmetic.{answered}
 use Rattle.operators.specs.Operators.{unary}
-use Rattle.scalars.specs.AppliedLaws.{one-off, one-gives, gives-same, no-integer, needs-off}
+use Rattle.calling.proofs.Answering.{one-off, one-gives, gives-same}
+use Rattle.calling.proofs.Kinding.{no-integer, needs-off}
 use Rattle.scalars.proofs.Numbers.{on-integer, by-unary}
-use Rattle.scalars.proofs.Pairs.{place-fits, fine-one}
+use Rattle.calling.proofs.Pairs.{place-fits}
+use Rattle.scalars.proofs.Equals.{fine-one}
 use borrow.Author.Needs.{needs}
 use Rattle.scalars.proofs.sign.Statement.{statement}
 use Rattle.scalars.proofs.sign.Tie as tie
 
 minus : (c : tie.After-neg) → unary (c .before .before .before .before .before .before .before .before .before .args .operator) (integer (c .before .before .before .integer-at .result)) ≡ answered (c .neg .result)
 unfolding unary
-minus c = by-unary 2 (c .before .before .before .before .before .before .before .before .before .args .operator) (λ a. answered (Whole.negation a)) (c .before .before .if2 .taken) refl (place-fits (c .before .before .before .integer-at .ensures)) (ap answered (c .neg .ensures))
+minus c = by-unary 2 (c .before .before .before .before .before .before .before .before .before .args .operator) (λ a. answered (Whole.negationOf a)) (c .before .before .if2 .taken) refl (place-fits (c .before .before .before .integer-at .ensures)) (ap answered (c .neg .ensures))
 
 absolute : (c : tie.After-abs) → unary (c .before .before .before .before .before .before .before .before .before .args .operator) (integer (c .before .before .before .integer-at .result)) ≡ answered (c .abs .result)
 unfolding unary
-absolute c = by-unary 3 (c .before .before .before .before .before .before .before .before .before .args .operator) (λ a. answered (Whole.absolute a)) (omega arith) refl (place-fits (c .before .before .before .integer-at .ensures)) (ap answered (c .abs .ensures))
+absolute c = by-unary 3 (c .before .before .before .before .before .before .before .before .before .args .operator) (λ a. answered (Whole.absoluteOf a)) (omega arith) refl (place-fits (c .before .before .before .integer-at .ensures)) (ap answered (c .abs .ensures))
 
 kind-of-requires : tie.Need-kind-of-requires
 kind-of-requires c κs = search needs

@@ -3,10 +3,11 @@ use mathlib.Core.Path.{refl, sym, ap, _∙_}
 use mathlib.Core.Bool.{not}
 use native.Mathlib.Omega.{arith}
 use lib.Signed.{ltZ, leZ}
-use Rattle.integers.specs.Ordered.{leZ-ltZ}
+use Rattle.integers.proofs.Ordered.{leZ-ltZ}
 use Rattle.operators.specs.Booleans.{truth}
 use Rattle.operators.specs.Operators.{binary}
-use Rattle.scalars.proofs.Numbers.{machine, by-binary}
+use Rattle.calling.proofs.Pairs.{machine}
+use Rattle.scalars.proofs.Numbers.{by-binary}
 use borrow.Author.Needs.{needs}
 use Rattle.scalars.proofs.test.Statement.{statement}
 use Rattle.scalars.proofs.test.Tie as tie

@@ -2,7 +2,7 @@
 use mathlib.Core.Path.{ap}
 use Prim.Native.Nat.{ℕ}
 use Rattle.operators.specs.Operators.{unary}
-use Rattle.scalars.specs.AppliedLaws.{one-same}
+use Rattle.calling.proofs.Answering.{one-same}
 use borrow.Author.Needs.{needs}
 use Rattle.scalars.proofs.unary_scalar.Statement.{statement}
 use Rattle.scalars.proofs.unary_scalar.Tie as tie

@@ -2,7 +2,7 @@
 use mathlib.Core.Path.{refl}
 use Rattle.values.specs.Value.{sequence}
 use Rattle.operators.specs.Operators.{binary}
-use Rattle.sequence_operators.specs.Kinds.{has-two, off-two, on-two}
+use Rattle.calling.proofs.Kinding.{has-two, off-two, on-two}
 use Rattle.sequence_operators.proofs.Joining.{concatenated}
 use borrow.Author.Needs.{needs}
 use Rattle.sequence_operators.proofs.concatenate.Statement.{statement}

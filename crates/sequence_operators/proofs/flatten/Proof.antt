@@ -1,7 +1,7 @@
 -- `flatten` meets its contract: the items done, and those of the sequences left, are all.
 use Prim.Native.Nat.{_-_}
 use native.Mathlib.Omega.{arith}
-use Rattle.values.specs.Records.{holds}
+use Rattle.values.proofs.Records.{holds}
 use Rattle.sequence_operators.proofs.Flattening.{Flattening, flat-start, flat-run, flat-wrong, flat-movable, flat-step, flat-end}
 use Rattle.sequence_operators.proofs.flatten.Statement.{statement}
 use Rattle.sequence_operators.proofs.flatten.Tie as tie

@@ -1,8 +1,8 @@
 -- `head` meets its contract.
 use mathlib.Core.Path.{refl}
 use native.Mathlib.Omega.{arith}
-use Rattle.values.specs.Records.{holds}
-use Rattle.scalars.specs.AppliedLaws.{copyable-down}
+use Rattle.values.proofs.Records.{holds}
+use Rattle.calling.proofs.Framing.{copyable-down}
 use Rattle.sequence_operators.proofs.Firsts.{none-off, first, head-done}
 use borrow.Author.Needs.{needs}
 use Rattle.sequence_operators.proofs.head.Statement.{statement}

@@ -1,6 +1,6 @@
 -- `join` meets its contract.
 use native.Mathlib.Omega.{arith}
-use Rattle.values.specs.Records.{holds}
+use Rattle.values.proofs.Records.{holds}
 use Rattle.sequence_operators.proofs.Joining.{join-full, join-movable, join-done}
 use borrow.Author.Needs.{needs}
 use Rattle.sequence_operators.proofs.join.Statement.{statement}
@@ -33,6 +33,9 @@ add-copy-bytes c = search needs
 add-copy-bytes-2 : tie.Need-add-copy-bytes-2
 add-copy-bytes-2 c = search needs
 
+add-copy-bytes-3 : tie.Need-add-copy-bytes-3
+add-copy-bytes-3 c = search needs
+
 sub-copy-bytes : tie.Need-sub-copy-bytes
 sub-copy-bytes c = search needs
 
@@ -61,6 +64,7 @@ join-spec =
     returns
     add-copy-bytes
     add-copy-bytes-2
+    add-copy-bytes-3
     sub-copy-bytes
     copy-bytes-requires
     put-head-requires

@@ -1,7 +1,7 @@
 -- `tail` meets its contract.
 use mathlib.Core.Path.{refl}
 use native.Mathlib.Omega.{arith}
-use Rattle.values.specs.Records.{holds}
+use Rattle.values.proofs.Records.{holds}
 use Rattle.sequence_operators.proofs.Firsts.{none-off, first, tail-movable, tail-done}
 use borrow.Author.Needs.{needs}
 use Rattle.sequence_operators.proofs.tail.Statement.{statement}

@@ -2,8 +2,9 @@
 use mathlib.Core.Path.{refl}
 use Rattle.values.specs.Value.{sequence}
 use Rattle.operators.specs.Operators.{unary}
-use Rattle.sequence_operators.specs.Kinds.{has, on-unary}
-use Rattle.sequence_operators.proofs.Numbered.{not-sequence, last}
+use Rattle.calling.proofs.Kinding.{has}
+use Rattle.calling.proofs.Numbered.{on-unary}
+use Rattle.sequence_operators.proofs.Numbered.{not-sequence, is-reverse}
 use borrow.Author.Needs.{needs}
 use Rattle.sequence_operators.proofs.unary_sequence.Statement.{statement}
 use Rattle.sequence_operators.proofs.unary_sequence.Tie as tie
@@ -85,7 +86,7 @@ same-length-8 c = search needs
 
 returns-8 : tie.Need-returns-8
 unfolding unary
-returns-8 c = let r = c .before .before .before .before .match .rest in on-unary {m = 13} (last (c .before .before .before .before .before .before .before .before .before .pre .2) (c .before .before .before .before .before .before .before .before .before .pre .1) (r .0 .0 .0 .0 .0 .1) (r .0 .0 .0 .0 .1) (r .0 .0 .0 .1) (r .0 .0 .1) (r .0 .1) (r .1)) (λ v. refl) (has sequence (c .before .before .before .before .before .before .before .before .before .pre .0) (c .before .before .before .before .before .before .kind-of .ensures) (c .before .before .before .before .before .if1 .left)) (c .before .before .reverse .ensures)
+returns-8 c = let r = c .before .before .before .before .match .rest in on-unary {m = 13} (is-reverse (c .before .before .before .before .before .before .before .before .before .pre .2) (c .before .before .before .before .before .before .before .before .before .pre .1) (r .0 .0 .0 .0 .0 .1) (r .0 .0 .0 .0 .1) (r .0 .0 .0 .1) (r .0 .0 .1) (r .0 .1) (r .1)) (λ v. refl) (has sequence (c .before .before .before .before .before .before .before .before .before .pre .0) (c .before .before .before .before .before .before .kind-of .ensures) (c .before .before .before .before .before .if1 .left)) (c .before .before .reverse .ensures)
 
 pub unary-sequence-spec : {M : Type 1} → statement M
 unary-sequence-spec =

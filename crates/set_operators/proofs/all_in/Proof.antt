@@ -2,8 +2,9 @@
 use Prim.Native.Nat.{_-_}
 use native.Mathlib.Omega.{arith}
 use borrow.Author.Tests.{not-true, not-false}
-use Rattle.values.specs.Records.{holds}
-use Rattle.set_operators.proofs.Walks.{Testing, test-start, test-fails, test-on, test-end, first-left, inSet, in-set}
+use Rattle.values.proofs.Records.{holds}
+use Rattle.set_operators.proofs.Testing.{Testing, test-start, test-fails, test-on, test-end, inSet, in-set}
+use Rattle.gathering.proofs.Walks.{first-left}
 use Rattle.set_operators.proofs.all_in.Statement.{statement}
 use Rattle.set_operators.proofs.all_in.Tie as tie
 

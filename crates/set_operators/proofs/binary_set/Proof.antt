@@ -1,6 +1,6 @@
 -- `set_operators::binary_set` meets its contract.
 use borrow.Author.Needs.{needs}
-use Rattle.set_operators.proofs.Telling.{binary-as}
+use Rattle.calling.proofs.Numbered.{binary-as}
 use Rattle.set_operators.proofs.binary_set.Statement.{statement}
 use Rattle.set_operators.proofs.binary_set.Tie as tie
 

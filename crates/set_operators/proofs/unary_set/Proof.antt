@@ -1,7 +1,7 @@
 -- `set_operators::unary_set` meets its contract.
 use borrow.Author.Needs.{needs}
 use native.Mathlib.Omega.{arith}
-use Rattle.set_operators.proofs.Telling.{unary-as}
+use Rattle.calling.proofs.Numbered.{unary-as}
 use Rattle.set_operators.proofs.unary_set.Statement.{statement}
 use Rattle.set_operators.proofs.unary_set.Tie as tie
 

@@ -1,6 +1,6 @@
 -- `trials_connective` meets its contract.
 use native.Mathlib.Omega.{arith}
-use Rattle.scalars.specs.Scalars.{connective}
+use Rattle.scalars.specs.Connectives.{connective}
 use Rattle.trials.proofs.Trying.{two-unknown, first-asked, two-connected, two-bad}
 use borrow.Author.Needs.{needs}
 use Rattle.trials.proofs.trials_connective.Statement.{statement}

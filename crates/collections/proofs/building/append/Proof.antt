@@ -1,6 +1,6 @@
 -- `collections::building::append` meets its contract.
 use native.Mathlib.Omega.{arith}
-use Rattle.values.specs.Records.{holds}
+use Rattle.values.proofs.Records.{holds}
 use Rattle.collections.proofs.Additions.{append-slot, appended}
 use borrow.Author.Needs.{needs}
 use Rattle.collections.proofs.building.append.Statement.{statement}

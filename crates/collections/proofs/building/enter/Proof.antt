@@ -3,7 +3,7 @@ use mathlib.Core.Path.{sym, subst}
 use Prim.Native.Nat.{ℕ, _+_}
 use native.Mathlib.Omega.{arith}
 use Rattle.values.specs.Place.{At}
-use Rattle.values.specs.Records.{holds}
+use Rattle.values.proofs.Records.{holds}
 use Rattle.collections.proofs.Sights.{entry}
 use Rattle.collections.proofs.Entering.{entered-same, entered-clash, entry-slots, entered-before}
 use borrow.Author.Needs.{needs}

@@ -4,7 +4,7 @@ use Prim.Native.Nat.{ℕ, _+_, _-_, _≤_}
 use native.Mathlib.Omega.{arith}
 use Rattle.integers.specs.Bytes.{word}
 use Rattle.values.specs.Value.{Items, count}
-use Rattle.values.specs.Records.{holds}
+use Rattle.values.proofs.Records.{holds}
 use Rattle.collections.proofs.Walks.{Walk, walk-start, walk-run, walk-step, walk-end}
 use Rattle.collections.proofs.finding.count_of.Statement.{statement}
 use Rattle.collections.proofs.finding.count_of.Tie as tie

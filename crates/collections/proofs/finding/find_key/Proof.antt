@@ -1,6 +1,6 @@
 -- `collections::finding::find_key` meets its contract.
 use native.Mathlib.Omega.{arith}
-use Rattle.values.specs.Records.{holds}
+use Rattle.values.proofs.Records.{holds}
 use Rattle.collections.proofs.Sights.{entry, at-key, no-key}
 use borrow.Author.Needs.{needs}
 use Rattle.collections.proofs.finding.find_key.Statement.{statement}

@@ -5,7 +5,7 @@ use native.Mathlib.Omega.{arith}
 use Rattle.integers.specs.Bytes.{word}
 use Rattle.values.specs.Value.{Items}
 use Rattle.values.specs.Items.{nth}
-use Rattle.values.specs.Records.{holds}
+use Rattle.values.proofs.Records.{holds}
 use Rattle.collections.proofs.Walks.{Walk, walk-start, walk-run, walk-step, nth-on, item-found, item-missing}
 use Rattle.collections.proofs.finding.item_at.Statement.{statement}
 use Rattle.collections.proofs.finding.item_at.Tie as tie

@@ -8,7 +8,7 @@ use borrow.Author.Needs.{needs}
 use Rattle.integers.specs.Bytes.{word}
 use Rattle.integers.specs.declared.Order.{Order}
 use Rattle.values.specs.Items.{inOrder}
-use Rattle.values.specs.Records.{holds}
+use Rattle.values.proofs.Records.{holds}
 use Rattle.collections.specs.declared.finding.Sought.the-variants.{Here, Before}
 use Rattle.collections.proofs.Walks.{walk-run}
 use Rattle.collections.proofs.Looking.{Looking, look-start, look-end, look-here, look-on, look-past}

@@ -6,7 +6,7 @@ use borrow.Author.Needs.{needs}
 use lib.Seq.{sets}
 use mir.Facts.{toZ-ofZ}
 use Rattle.integers.specs.Bytes.{pair, four, bitsOf}
-use Rattle.integers.specs.Written.{sets-then}
+use Rattle.integers.proofs.Written.{sets-then}
 use Rattle.integers.proofs.bytes.put32.Statement.{statement}
 use Rattle.integers.proofs.bytes.put32.Tie as tie
 

@@ -1,6 +1,6 @@
 -- `set_operators::members::append_if` meets its contract.
 use borrow.Author.Needs.{needs}
-use Rattle.set_operators.proofs.Choosing.{appended, passed-over}
+use Rattle.set_operators.proofs.Choosing.{append-done, passed-over}
 use Rattle.set_operators.proofs.members.append_if.Statement.{statement}
 use Rattle.set_operators.proofs.members.append_if.Tie as tie
 
@@ -11,7 +11,7 @@ same-length : tie.Need-same-length
 same-length c = search needs
 
 returns : tie.Need-returns
-returns c = appended (c .before .before .before .before .before .before .pre) (c .before .before .append .ensures) (c .before .before .before .before .if1 .taken)
+returns c = append-done (c .before .before .before .before .before .before .pre) (c .before .before .append .ensures) (c .before .before .before .before .if1 .taken)
 
 returns-2 : tie.Need-returns-2
 returns-2 c = passed-over _ _ _ (c .if1 .left)

@@ -4,8 +4,8 @@ use Prim.Native.Nat.{_+_, _-_}
 use native.Mathlib.Omega.{arith}
 use borrow.Author.Needs.{needs}
 use Rattle.integers.specs.Bytes.{word}
-use Rattle.values.specs.Records.{holds}
-use Rattle.values.specs.Frame.{outside-both}
+use Rattle.values.proofs.Records.{holds}
+use Rattle.values.proofs.Frame.{outside-both}
 use Rattle.set_operators.proofs.Choosing.{Choosing, choose-begin, end-still, choose-next, choose-test, choose-room, as-wanted, choose-on, choose-built, choose-close}
 use Rattle.set_operators.proofs.members.choose.Statement.{statement}
 use Rattle.set_operators.proofs.members.choose.Tie as tie

@@ -2,8 +2,8 @@
 use Prim.Native.Nat.{_-_}
 use native.Mathlib.Omega.{arith}
 use borrow.Author.Tests.{not-true, not-false}
-use Rattle.values.specs.Records.{holds}
-use Rattle.set_operators.proofs.Walks.{Testing, test-start, test-fails, test-on, test-end, SetsLeft, sets-start, sets-on, first-set, inEach, in-each}
+use Rattle.values.proofs.Records.{holds}
+use Rattle.set_operators.proofs.Testing.{Testing, test-start, test-fails, test-on, test-end, SetsLeft, sets-start, sets-on, first-set, inEach, in-each}
 use Rattle.set_operators.proofs.members.in_all.Statement.{statement}
 use Rattle.set_operators.proofs.members.in_all.Tie as tie
 

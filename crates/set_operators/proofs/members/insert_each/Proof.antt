@@ -4,8 +4,9 @@ use Prim.Native.Nat.{_-_}
 use native.Mathlib.Omega.{arith}
 use borrow.Author.Needs.{needs}
 use Rattle.operators.specs.Gather.{flatten}
-use Rattle.set_operators.proofs.Walks.{SetsLeft, sets-start, sets-on}
-use Rattle.set_operators.proofs.Growth.{Gathering, gather-start, gather-on, gather-full, gather-end, flatten-law, each-next, each-room, each-step}
+use Rattle.set_operators.proofs.Testing.{SetsLeft, sets-start, sets-on}
+use Rattle.gathering.proofs.Growth.{Gathering, gather-start, gather-on, gather-full, gather-end}
+use Rattle.set_operators.proofs.Flattening.{flatten-law, each-next, each-room, each-step}
 use Rattle.set_operators.proofs.members.insert_each.Statement.{statement}
 use Rattle.set_operators.proofs.members.insert_each.Tie as tie
 

@@ -1,7 +1,7 @@
 -- `place_one` meets its contract.
 use native.Mathlib.Omega.{arith}
 use Rattle.trials.proofs.Placing.{one-short, one-placed, one-not}
-use Rattle.trials.specs.Operands.{operand-low}
+use Rattle.trials.proofs.Records.{operand-low}
 use borrow.Author.Needs.{needs}
 use Rattle.trials.proofs.operands.place_one.Statement.{statement}
 use Rattle.trials.proofs.operands.place_one.Tie as tie

@@ -1,7 +1,7 @@
 -- `place_two` meets its contract.
 use native.Mathlib.Omega.{arith}
 use Rattle.trials.proofs.Placing.{two-placed, two-half, two-not}
-use Rattle.trials.specs.Operands.{operand-low}
+use Rattle.trials.proofs.Records.{operand-low}
 use borrow.Author.Needs.{needs}
 use Rattle.trials.proofs.operands.place_two.Statement.{statement}
 use Rattle.trials.proofs.operands.place_two.Tie as tie

@@ -2,7 +2,7 @@
 use Prim.Native.Nat.{ℕ, _-_, _<_}
 use native.Mathlib.Omega.{arith}
 use borrow.Author.Needs.{needs}
-use Rattle.trials.proofs.Shapes.{begun, rest-held, rest-inside, ascending-none, ascending-one, ascending-on, ascending-off, same-not, higher-not}
+use Rattle.trials.proofs.Shapes.{first-held, rest-held, rest-inside, ascending-none, ascending-one, ascending-on, ascending-off, same-not, higher-not}
 use borrow.Fn.Kinds.{In}
 use borrow.Fn.PlainCycle.{Measures, is, falls, and}
 use Rattle.trials.proofs.validity.ascending.Reads as ascending
@@ -30,7 +30,7 @@ ascending-returns : (t : ℕ) → ascending-lts.Need-returns (ascending-calls t)
 ascending-returns t c = ascending-none (c .if1 .taken)
 
 ascending-length-of-requires : (t : ℕ) → ascending-lts.Need-length-of-requires (ascending-calls t) (ascending-at t) ascending.Post
-ascending-length-of-requires t c κs = begun (c .if1 .left) (c .before .before .pre .1)
+ascending-length-of-requires t c κs = first-held (c .if1 .left) (c .before .before .pre .1)
 
 ascending-add-next : (t : ℕ) → ascending-lts.Need-add-next (ascending-calls t) (ascending-at t) ascending.Post
 ascending-add-next t c = let h = c .before .before .before .pre .1 .1 .fits in let i = rest-inside (c .before .if1 .left) (c .length-of .ensures) (c .before .before .before .pre .1) in omega arith
@@ -39,7 +39,7 @@ ascending-returns-2 : (t : ℕ) → ascending-lts.Need-returns-2 (ascending-call
 ascending-returns-2 t c = ascending-one (c .before .before .if1 .left) (c .before .length-of .ensures) (c .if2 .taken)
 
 ascending-compare-requires : (t : ℕ) → ascending-lts.Need-compare-requires (ascending-calls t) (ascending-at t) ascending.Post
-ascending-compare-requires t c κs = (begun (c .before .before .if1 .left) (c .before .before .before .before .pre .1), begun (c .if2 .left) (rest-held (c .before .before .if1 .left) (c .before .length-of .ensures) (c .before .before .before .before .pre .1)))
+ascending-compare-requires t c κs = (first-held (c .before .before .if1 .left) (c .before .before .before .before .pre .1), first-held (c .if2 .left) (rest-held (c .before .before .if1 .left) (c .before .length-of .ensures) (c .before .before .before .before .pre .1)))
 
 ascending-enum-told : (t : ℕ) → ascending-lts.Need-enum-told (ascending-calls t) (ascending-at t) ascending.Post
 ascending-enum-told t c = search needs

@@ -2,7 +2,7 @@
 use Prim.Native.Nat.{ℕ, _-_, _<_}
 use native.Mathlib.Omega.{arith}
 use borrow.Author.Needs.{needs}
-use Rattle.trials.proofs.Shapes.{begun, rest-held, rest-inside, count-none, count-more, count-few}
+use Rattle.trials.proofs.Shapes.{first-held, rest-held, rest-inside, count-none, count-more, items-few}
 use borrow.Fn.Kinds.{In}
 use borrow.Fn.PlainCycle.{Measures, is, falls, and}
 use Rattle.trials.proofs.validity.count.Reads as count
@@ -28,7 +28,7 @@ count-returns : (t : ℕ) → count-lts.Need-returns (count-calls t) (count-at t
 count-returns t c = count-none (c .if1 .taken)
 
 count-length-of-requires : (t : ℕ) → count-lts.Need-length-of-requires (count-calls t) (count-at t) count.Post
-count-length-of-requires t c κs = begun (c .if1 .left) (c .before .before .pre .1)
+count-length-of-requires t c κs = first-held (c .if1 .left) (c .before .before .pre .1)
 
 count-add-next : (t : ℕ) → count-lts.Need-add-next (count-calls t) (count-at t) count.Post
 count-add-next t c = let h = c .before .before .before .pre .1 .1 .fits in let i = rest-inside (c .before .if1 .left) (c .length-of .ensures) (c .before .before .before .pre .1) in omega arith
@@ -37,7 +37,7 @@ count-count-requires : (t : ℕ) → count-lts.Need-count-requires (count-calls 
 count-count-requires t c κs = let i = rest-inside (c .before .if1 .left) (c .length-of .ensures) (c .before .before .before .pre .1) in let l = c .length-of .ensures .low in (omega arith, rest-held (c .before .if1 .left) (c .length-of .ensures) (c .before .before .before .pre .1))
 
 count-add-result : (t : ℕ) → count-lts.Need-add-result (count-calls t) (count-at t) count.Post
-count-add-result t c = let h = count-few (rest-held (c .before .before .if1 .left) (c .before .length-of .ensures) (c .before .before .before .before .pre .1)) (c .count .ensures) in omega arith
+count-add-result t c = let h = items-few (rest-held (c .before .before .if1 .left) (c .before .length-of .ensures) (c .before .before .before .before .pre .1)) (c .count .ensures) in omega arith
 
 count-returns-2 : (t : ℕ) → count-lts.Need-returns-2 (count-calls t) (count-at t) count.Post
 count-returns-2 t c = count-more (c .before .before .if1 .left) (c .before .length-of .ensures) (c .count .ensures)

@@ -1,0 +1,36 @@
+-- What applying a sequence or a map asks and promises.
+use mathlib.Core.List.{List}
+use mathlib.Core.Option.{Option}
+use Prim.Native.Nat.{ℕ, _+_, _≤_}
+use lib.ListN.{length}
+use Rattle.values.specs.Value.{Kind, Value, collection, Items}
+use Rattle.values.specs.Place.{At, Holds}
+use Rattle.collections.specs.declared.finding.Found.{Found}
+use Rattle.collections.specs.Finding.{HoldsKind, Finds}
+use Rattle.operators.specs.Answer.{found}
+use Rattle.operators.specs.Maps.{applyItems}
+use Rattle.calling.specs.declared.Applied.{Applied}
+use Rattle.calling.specs.Applied.{Applies}
+use Rattle.calling.specs.Scratch.{second, workspace, Kept}
+
+-- What was looked for within the collection at base, and whether it was found.
+pub record Sought (s : List ℕ) (base : ℕ) (f : Found) : Type 0 where
+  pub to : ℕ
+  pub value : Option Value
+  pub finds : Finds s (base + 4) to f value
+
+-- It is the answer: 26 where it is not there.
+pub record Brings (s t : List ℕ) (base : ℕ) (f : Found) (r : Applied) : Type 0 where
+  pub kept : Kept s t base
+  pub right : (to : ℕ) (o : Option Value) → Finds s (base + 4) to f o → Applies t base r (found o)
+
+-- A collection of a kind stands at base, and what it is applied to above it.
+pub record Applicable (k : Kind) (s : List ℕ) (base : ℕ) : Type 0 where
+  pub held : HoldsKind k s base
+  pub argument : Holds s (base + second)
+  pub room : base + workspace ≤ length s
+
+-- r is what the items answer, applied to the value.
+pub record OnArgument (k : Kind) (s t : List ℕ) (base : ℕ) (r : Applied) : Type 0 where
+  pub kept : Kept s t base
+  pub right : (vs : Items) (w : Value) → At s base (collection k vs) → At s (base + second) w → Applies t base r (applyItems k vs w)

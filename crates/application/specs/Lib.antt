@@ -1,0 +1,2 @@
+-- What applying a sequence or a map asks and promises inside this crate.
+pub mod Applying

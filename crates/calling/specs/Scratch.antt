@@ -1,0 +1,23 @@
+-- Scratch from a base on: how it is shared out, and what stays as it was.
+use mathlib.Core.Path.{_≡_}
+use mathlib.Core.List.{List}
+use Prim.Native.Nat.{ℕ}
+use lib.ListN.{length, take}
+use Rattle.values.specs.Value.{mostBytes}
+
+-- How far above the base a second operand stands: a value's limit.
+abbrev pub second : ℕ
+second = mostBytes
+
+-- How far above it what an operator builds stands, where the operands are still needed: two limits.
+abbrev pub third : ℕ
+third = 1024
+
+-- How many bytes an operator may use, from the base on: three values' limits.
+abbrev pub workspace : ℕ
+workspace = 1536
+
+-- t is what became of s: everything below base is as it was.
+pub record Kept (s t : List ℕ) (base : ℕ) : Type 0 where
+  pub long : length t ≡ length s
+  pub below : take base t ≡ take base s

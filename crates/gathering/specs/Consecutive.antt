@@ -1,0 +1,24 @@
+-- What writing consecutive integers asks and promises.
+use mathlib.Core.List.{List}
+use Prim.Native.Nat.{ℕ, _+_, _*_, _≤_}
+use lib.IntN.{ℤ}
+use lib.ListN.{length}
+use Rattle.values.specs.Value.{SoundItems, mostBytes}
+use Rattle.values.specs.Place.{ItemsAt, Outside}
+use Rattle.operators.specs.Gather.{upFrom}
+
+-- n integers one after another, which take 8 bytes each, can be written; and they are there.
+pub record IntegersRoom (s : List ℕ) (at : ℕ) (from : ℤ) (n : ℕ) : Type 0 where
+  pub room : at + 8 * n ≤ length s
+  pub few : 8 * n ≤ mostBytes
+  pub fine : SoundItems (upFrom from n)
+
+pub record PutIntegers (s t : List ℕ) (at : ℕ) (from : ℤ) (n : ℕ) : Type 0 where
+  pub outside : Outside s t at (at + 8 * n)
+  pub here : ItemsAt t at (at + 8 * n) (upFrom from n)
+
+-- More than fit may be asked for.
+pub record CountingRoom (s : List ℕ) (base : ℕ) (from : ℤ) (n : ℕ) : Type 0 where
+  pub room : base + mostBytes ≤ length s
+  pub few : n ≤ 4294967296
+  pub fine : SoundItems (upFrom from n)

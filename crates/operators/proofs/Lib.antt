@@ -1,0 +1,2 @@
+-- Sample answers, by computation.
+mod Samples

@@ -1,0 +1,12 @@
+-- Two constructors are never equal.
+use mathlib.Core.Path.{_≡_}
+use mathlib.Core.Bool.{true, false, false≢true}
+use Prim.Native.Nat.{ℕ}
+use native.Mathlib.Omega.{arith}
+
+-- Where the facts in scope say that two constructors are equal, `impossible cc` proves anything.
+pub impossible {ℓ} : {X : Type ℓ} → _≡_ {A = ℕ} 0 1 → X
+impossible e = absurd (omega arith)
+
+pub never {ℓ} : {X : Type ℓ} → false ≡ true → X
+never e = absurd (false≢true e)

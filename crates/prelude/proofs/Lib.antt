@@ -1,0 +1,4 @@
+-- What every crate's proofs stand on: impossible equations, tests, and what is among a list.
+pub mod Absurd
+pub mod Truth
+pub mod Membership
