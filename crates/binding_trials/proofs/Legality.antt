@@ -8,10 +8,11 @@ use native.Mathlib.Omega.{arith}
 use lib.Dec.{eqb}
 use lib.ListN.{length}
 use borrow.Author.Tests.{le-leb, eqb-true, eqb-false}
+use Rattle.prelude.proofs.Absurd.{impossible}
 use Rattle.values.specs.Value.{Value, set, kindOf}
 use Rattle.values.specs.Place.{At, Holds}
 use Rattle.values.specs.Contract.{KindAt}
-use Rattle.values.specs.Records.{holds}
+use Rattle.values.proofs.Records.{holds}
 use Rattle.tables.specs.declared.Checked.{Checked}
 use Rattle.tables.specs.declared.Checked.the-variants.{Accepted, Refused}
 use Rattle.tables.specs.declared.reading.Cutting.{Cutting}
@@ -141,7 +142,7 @@ pub no-value : {table index value : List ℕ} {f : Subject} {b : Bool} → f .le
 no-value e t d = no-subject e (λ vs l. true-false (sym (t .complete (l .operand, l .is-operand)) ∙ d))
 
 refused-not : {x : Checked} {k r n : ℕ} → x ≡ Refused k r → x ≡ Accepted n → ⊥
-refused-not e d = let z : _≡_ {A = ℕ} 0 1 = cc in omega arith
+refused-not e d = impossible cc
 
 pub no-table : {table index value : List ℕ} {f : Subject} {x : Checked} {k r : ℕ} → f .legal ≡ false → x ≡ check table → x ≡ Refused k r → SubjectOf table index value f
 no-table e d n = no-subject e (λ vs l. refused-not n (d ∙ l .accepted))

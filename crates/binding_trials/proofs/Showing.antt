@@ -10,9 +10,9 @@ use lib.ListN.{length, getD, take, drop, List·getD-eq-default, take-append-drop
 use lib.Seq.{sets, sets-eq, length-sets, take-at, take-length, drop-drop}
 use Rattle.values.specs.Value.{Value, size, encode}
 use Rattle.values.specs.Place.{At, Outside}
-use Rattle.values.specs.Encoding.{encode-length}
-use Rattle.values.specs.Records.{word-size}
-use Rattle.values.specs.Written.{drop-store}
+use Rattle.values.proofs.Encoding.{encode-length}
+use Rattle.values.proofs.Records.{word-size}
+use Rattle.values.proofs.Written.{drop-store}
 use Rattle.patterns.specs.Ways.{exists}
 use Rattle.patterns.specs.Binding.{Cell, free, is, Binding, names, cellOf}
 use Rattle.patterns.specs.Pattern.{Pattern, wide}

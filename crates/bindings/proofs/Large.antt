@@ -8,7 +8,7 @@ use lib.ListN.{length}
 use Rattle.integers.specs.Bytes.{word}
 use Rattle.values.specs.Value.{Value}
 use Rattle.values.specs.Place.{ItemsAt, Holds, HoldsItems}
-use Rattle.values.specs.Records.{holds, items-of, word-size}
+use Rattle.values.proofs.Records.{holds, items-of, word-size}
 use Rattle.tables.specs.Accepted.{records}
 use Rattle.parts.specs.Part.{PartIs, PartHeld}
 use Rattle.patterns.specs.Ways.{exists}

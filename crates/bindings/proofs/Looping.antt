@@ -1,22 +1,22 @@
 -- The loops over the ways of a value that are worth going, and over all members.
 use mathlib.Core.Path.{_≡_, refl, sym, ap, subst, _∙_}
-use mathlib.Core.Bool.{Bool, true, false, _||_, _&&_}
+use mathlib.Core.Bool.{Bool, true, false, _||_, _&&_, cond}
 use mathlib.Core.Logic.{inl}
 use mathlib.Core.Option.{Option, some}
 use mathlib.Core.List.{List, [], _∷_}
 use Prim.Native.Nat.{ℕ, zero, suc, _+_, _^_, _≤_, _<_}
 use native.Mathlib.Omega.{arith}
 use lib.ListN.{length, getD, take, drop, length-take}
+use Rattle.prelude.proofs.Truth.{or-false-left, or-false-right}
 use Rattle.values.specs.Value.{Value}
 use Rattle.integers.specs.Bytes.{word}
-use Rattle.values.specs.Items.{pick}
 use Rattle.values.specs.Place.{At, ItemsAt, Holds}
-use Rattle.values.specs.Records.{holds}
+use Rattle.values.proofs.Records.{holds}
 use Rattle.tables.specs.Accepted.{records}
 use Rattle.choices.specs.Tree.{Tree, Outcome, value}
 use Rattle.choices.specs.Paths.{outcomeAt, counts, extend, raise}
-use Rattle.choices.specs.Laws.Rank.{Bytes, rank, rank-below}
-use Rattle.choices.specs.Laws.Ahead.{step-rank}
+use Rattle.choices.proofs.Rank.{Bytes, rank, rank-below}
+use Rattle.choices.proofs.Ahead.{step-rank}
 use Rattle.digits.specs.declared.Digits.{Digits}
 use Rattle.digits.specs.declared.Advanced.{Advanced}
 use Rattle.digits.specs.Path.{most, View, view, fresh, Sound, Made, Advances, maybe}
@@ -29,7 +29,6 @@ use Rattle.ways.specs.Trimmed.{hopeful, trimmed}
 use Rattle.ways.specs.Tame.{trimmed-tame, trimmed-full, trimmed-within, tame-value}
 use Rattle.ways.specs.Read.{patternAt}
 use Rattle.ways.specs.Merging.{true-both}
-use Rattle.tables.specs.Laws.{or-left, or-right}
 use Rattle.ways.specs.Kin.{Kin}
 use Rattle.ways.specs.Best.{better, leastOver, kin-over, over-all}
 use Rattle.ways.specs.Seeking.{Seeking, seeking-start, seeking-into, seeking-now, seeking-more, seeking-done}
@@ -52,12 +51,12 @@ module _ (s : List ℕ) (f : Found) (bounds : Bounds) (t : Bool) (c : Hopes s f 
   taken e st a n h b =
       let q : (isGood st && hopeful a n (st .found)) ≡ true = sym (c st a n h b) ∙ e in
       let g : f .fits ≡ true = h .fit ∙ true-both (isGood st) (hopeful a n (st .found)) q .0 in
-      subst (λ (x : Bool). BestIs s (record { found = f; any = true }) (pick x (some (st .found)) n)) (sym q)
+      subst (λ (x : Bool). BestIs s (record { found = f; any = true }) (cond x (some (st .found)) n)) (sym q)
       (refl, record { sized = h .sized; binding-sized = h .found-sized; cells = h .cells g })
 
   pub left : t ≡ false → Considered s f bounds (bounds .best)
   left e st a n h b =
-      subst (λ (x : Bool). BestIs s (bounds .best) (pick x (some (st .found)) n)) (sym (sym (c st a n h b) ∙ e)) (b .best-is)
+      subst (λ (x : Bool). BestIs s (bounds .best) (cond x (some (st .found)) n)) (sym (sym (c st a n h b) ∙ e)) (b .best-is)
 
 -- ---- bytes
 
@@ -220,10 +219,10 @@ module _ (p : Pattern) (vs ws : List Value) (v : Value) (e : vs ≡ v ∷ ws) (n
   both = sym (ap (λ (us : List Value). exists us (wide p)) e) ∙ n
 
   first-narrow : wide p v ≡ false
-  first-narrow = or-left (wide p v) (exists ws (wide p)) both
+  first-narrow = or-false-left (wide p v) (exists ws (wide p)) both
 
   rest-narrow : exists ws (wide p) ≡ false
-  rest-narrow = or-right (wide p v) (exists ws (wide p)) both
+  rest-narrow = or-false-right (wide p v) (exists ws (wide p)) both
 
 module _ (table : List ℕ) (p : ℕ) (s : List ℕ) (from to : ℕ) (present best₀ : Best) where
   pub seen-start : Seen table p s from to present best₀ from best₀

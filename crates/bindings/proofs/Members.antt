@@ -9,11 +9,12 @@ use native.Mathlib.Decide.{ℕ-discrete, decLt}
 use native.Mathlib.Omega.{arith}
 use lib.ListN.{length, getD, drop, set as put, length-set, length-map, drop-of-length-le}
 use lib.Seq.{drop-cons, getD-set-same, getD-set-other, ext-getD}
+use Rattle.prelude.proofs.Absurd.{impossible}
 use Rattle.integers.specs.Bytes.{word}
 use Rattle.values.specs.Value.{Value, boolean, collection, set, Items, more, none as no-items, sizes}
-use Rattle.values.specs.Encoding.{none-sizes}
+use Rattle.values.proofs.Encoding.{none-sizes}
 use Rattle.values.specs.Place.{At, ItemsAt, Holds, HoldsItems}
-use Rattle.values.specs.Records.{holds, run, items-of, items-none, word-size, one-value, collection-shaped}
+use Rattle.values.proofs.Records.{holds, uncons, items-of, items-none, word-size, one-value, collection-shaped}
 use Rattle.parts.specs.declared.Part.{Part}
 use Rattle.parts.specs.Part.{PartIs, CellIs}
 use Rattle.parts.specs.Laws.{part-one, one-collection}
@@ -109,7 +110,7 @@ before q to us v rest e i = go (decLt q to)
   where
     go : Dec (q < to) → q < to
     go (yes l) = l
-    go (no l) = let n = items-none (omega (arith, l)) i in let z : _≡_ {A = ℕ} 0 1 = cc in absurd (omega arith)
+    go (no l) = let n = items-none (omega (arith, l)) i in impossible cc
 
 after-none : {s : List ℕ} (q to : ℕ) (us : Items) → us ≡ no-items → ItemsAt s q to us → to ≤ q
 after-none q to us e i = omega (arith, i .ends, ap sizes e, none-sizes)
@@ -125,9 +126,9 @@ pub record First (s : List ℕ) (at to : ℕ) (vs : List Value) : Type 0 where
 
 pub first-of : (s : List ℕ) (at to : ℕ) (vs : List Value) → at < to → ItemsAt s at to (itemsOf vs) → First s at to vs
 unfolding itemsOf
-first-of s at to [] l i = let w = run l i in let z : _≡_ {A = ℕ} 0 1 = cc (w .is) in absurd (omega arith)
+first-of s at to [] l i = let w = uncons l i in impossible (cc (w .is))
 first-of s at to (v ∷ vs) l i =
-    let w = run l i in
+    let w = uncons l i in
     let f : v ≡ w .first = cc (w .is) in
     let g : itemsOf vs ≡ w .rest = cc (w .is) in
     record {
@@ -142,7 +143,7 @@ first-of s at to (v ∷ vs) l i =
 pub none-left : (s : List ℕ) (at to : ℕ) (vs : List Value) → to ≤ at → ItemsAt s at to (itemsOf vs) → vs ≡ []
 unfolding itemsOf
 none-left s at to [] l i = refl
-none-left s at to (v ∷ vs) l i = let e = items-none l i in let c : _≡_ {A = ℕ} 0 1 = cc in absurd (omega arith)
+none-left s at to (v ∷ vs) l i = let e = items-none l i in impossible cc
 
 -- ---- the next member
 
@@ -157,7 +158,7 @@ module _ (s : List ℕ) (x at : ℕ) (lt : x < names) (vs : List Value) (h : At 
           let v = getD vs j (boolean true) in
           let d : itemsOf (drop j vs) ≡ more v (itemsOf (drop (suc j) vs)) = ap itemsOf (drop-cons vs j (boolean true) k) ∙ items-cons v (drop (suc j) vs) in
           let b = before q (at + word s at) (itemsOf (drop j vs)) v (itemsOf (drop (suc j) vs)) d i in
-          let w = run b i in
+          let w = uncons b i in
           let e : v ≡ w .first = cc (w .is, d) in
           let o = m .one b v (subst (At s q) (sym e) (w .first-at)) in
           subst (λ (a : Option Binding). BestIs s r a × StoodAt s x at r vs a) (sym (nth-map x vs j k))
@@ -197,7 +198,7 @@ module _ (s : List ℕ) (x at : ℕ) (lt : x < names) (vs : List Value) (h : At 
             let v = getD vs i (boolean true) in
             let d : itemsOf (drop i vs) ≡ more v (itemsOf (drop (suc i) vs)) = ap itemsOf (drop-cons vs i (boolean true) l) ∙ items-cons v (drop (suc i) vs) in
             let lo = before (getD (f .found .parts) x nowhere .at) (at + word s at) (itemsOf (drop i vs)) v (itemsOf (drop (suc i) vs)) d it in
-            let w = run lo it in
+            let w = uncons lo it in
             let t : itemsOf (drop (suc i) vs) ≡ w .rest = cc (w .is, d) in
             record {
               index = i;

@@ -1,6 +1,6 @@
 -- What follows the present binding, and how many there are.
 use mathlib.Core.Path.{_≡_, refl, sym, ap, ap₂, subst, _∙_}
-use mathlib.Core.Bool.{Bool, true, false}
+use mathlib.Core.Bool.{Bool, true, false, cond}
 use mathlib.Core.Option.{Option, none}
 use mathlib.Core.List.{List, [], _∷_, map}
 use Prim.Native.Nat.{ℕ, _+_, _≤_, _<_}
@@ -8,11 +8,11 @@ use native.Mathlib.Omega.{arith}
 use lib.ListN.{length}
 use lib.Dec.{leb}
 use borrow.Author.Tests.{lt-leb, leb-true}
+use Rattle.prelude.proofs.Truth.{or-false-left}
 use Rattle.integers.specs.Bytes.{word}
 use Rattle.values.specs.Value.{Value, collection, set}
-use Rattle.values.specs.Items.{pick}
 use Rattle.values.specs.Place.{At}
-use Rattle.values.specs.Records.{one-value}
+use Rattle.values.proofs.Records.{one-value}
 use Rattle.tables.specs.Record.{Record, named, nameOf, shape, isKnown, size}
 use Rattle.tables.specs.Table.{recordAt, kindAt}
 use Rattle.tables.specs.Accepted.{records, lower, fit-known, fit-least}
@@ -26,7 +26,6 @@ use Rattle.ways.specs.Read.{patternAt}
 use Rattle.ways.specs.Nodes.{pattern-at, is-name}
 use Rattle.ways.specs.Merging.{true-false}
 use Rattle.ways.specs.Following.{following}
-use Rattle.tables.specs.Laws.{or-left}
 use Rattle.ways.specs.Kin.{Kin}
 use Rattle.ways.specs.Best.{leastOver, over-all, over-following, kin-all}
 use Rattle.matching.specs.declared.Best.{Best}
@@ -79,7 +78,7 @@ module _ (table : List ℕ) (p : ℕ) (s : List ℕ) (at : ℕ) where
 
     one-narrow : (v : Value) → exists (v ∷ []) (wide P) ≡ false → wide P v ≡ false
     unfolding exists
-    one-narrow v e = or-left (wide P v) false e
+    one-narrow v e = or-false-left (wide P v) false e
 
     pub one-sought : t ≡ true → Sought table p s at present f
     one-sought e = go t e (h .are) (λ v q. one-narrow v (sym (ap (λ (ws : List Value). exists ws (wide P)) q) ∙ h .narrow))
@@ -178,7 +177,7 @@ module _ (table index : List ℕ) (p : ℕ) (c : Searchable table index p) (k : 
 module _ (table : List ℕ) (p : ℕ) (s : List ℕ) (at : ℕ) (t : Bool) where
   pub tells-29 : (w : Bool) → TellsWide table p s at t w → w ≡ true → Tallied table p s at t (Refused 29)
   tells-29 w h e vs i =
-      subst (λ (x : Formed). TellsOf x (Refused 29)) (ap (λ (b : Bool). pick b (refused 29) (fewest (bindings (patternAt (records table) p) vs))) (sym e ∙ h vs i)) refl
+      subst (λ (x : Formed). TellsOf x (Refused 29)) (ap (λ (b : Bool). cond b (refused 29) (fewest (bindings (patternAt (records table) p) vs))) (sym e ∙ h vs i)) refl
 
   -- n steps from none, at most as many as a binder may have bindings
   pub record Counted (n : ℕ) (present : Best) : Type 0 where

@@ -1,13 +1,12 @@
 -- What the functions that give the bindings one after the other ask and promise.
 use mathlib.Core.Path.{_≡_}
-use mathlib.Core.Bool.{Bool, true, false, _&&_}
+use mathlib.Core.Bool.{Bool, true, false, _&&_, cond}
 use mathlib.Core.Option.{Option, none, some}
 use mathlib.Core.List.{List, [], _∷_, map}
 use Prim.Native.Nat.{ℕ, _+_, _≤_, _<_}
 use lib.ListN.{length, getD, drop}
 use Rattle.integers.specs.Bytes.{word}
 use Rattle.values.specs.Value.{Value, boolean, collection, set}
-use Rattle.values.specs.Items.{pick}
 use Rattle.values.specs.Place.{At, ItemsAt}
 use Rattle.tables.specs.Record.{nameOf}
 use Rattle.tables.specs.Table.{recordAt, kindAt}
@@ -34,7 +33,7 @@ use Rattle.bindings.specs.declared.Tally.the-variants.{Number, Refused}
 -- What is found is the best so far where it is a match between the bounds, else the best so far stays.
 abbrev pub Considered : List ℕ → Found → Bounds → Best → Type 0
 Considered s f bounds r =
-    (st : State) (a n : Option Binding) → Stands s f st → Bounded s bounds a n → BestIs s r (pick (isGood st && hopeful a n (st .found)) (some (st .found)) n)
+    (st : State) (a n : Option Binding) → Stands s f st → Bounded s bounds a n → BestIs s r (cond (isGood st && hopeful a n (st .found)) (some (st .found)) n)
 
 -- A pattern of an accepted table, whose ways have at most as many choices as a path has digits.
 pub record Searchable (table index : List ℕ) (p : ℕ) : Type 0 where

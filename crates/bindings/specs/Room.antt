@@ -10,11 +10,12 @@ use native.Mathlib.Omega.{arith}
 use lib.Dec.{eqb}
 use lib.ListN.{length, getD, take}
 use borrow.Author.Tests.{eq-eqb, ne-eqb, eqb-true}
+use Rattle.prelude.proofs.Truth.{or-false-right}
 use Rattle.tables.specs.Record.{Record, named, operand}
 use Rattle.tables.specs.Table.{recordAt}
 use Rattle.tables.specs.Sheet.{fold, some, isIn, parent}
 use Rattle.tables.specs.Check.{allNamed}
-use Rattle.tables.specs.Laws.{Lower, fold-at, in-append, or-right, parent-higher}
+use Rattle.tables.specs.Laws.{Lower, fold-at, in-append, parent-higher}
 use Rattle.tables.specs.Accepted.{records, Clear6, lower, operand-lower, operand-first, operand-parent}
 use Rattle.patterns.specs.Pattern.{Pattern, any}
 use Rattle.ways.specs.Tries.{places, placesEach}
@@ -216,7 +217,7 @@ module _ (rs : List Record) (clear : Clear6 rs) where
     distinct : (i j : ℕ) → i < j → j < length (named (recordAt rs p)) → operand (recordAt rs p) i ≡ operand (recordAt rs p) j → ⊥
     distinct i j a l e =
         let f = operand-first rs clear p j h l in
-        let g = or-right (isIn (operand (recordAt rs p) j) (allNamed (take p rs))) (isIn (operand (recordAt rs p) j) (take j (named (recordAt rs p)))) (sym (in-append (operand (recordAt rs p) j) (allNamed (take p rs)) (take j (named (recordAt rs p)))) ∙ f) in
+        let g = or-false-right (isIn (operand (recordAt rs p) j) (allNamed (take p rs))) (isIn (operand (recordAt rs p) j) (take j (named (recordAt rs p)))) (sym (in-append (operand (recordAt rs p) j) (allNamed (take p rs)) (take j (named (recordAt rs p)))) ∙ f) in
         let t = in-take (named (recordAt rs p)) i j a (omega arith) in
         true-false (sym t ∙ ap (λ (n : ℕ). isIn n (take j (named (recordAt rs p)))) e ∙ g)
 

@@ -7,6 +7,7 @@ use Prim.Native.Nat.{ℕ, zero, suc, _+_, _≤_, _<_}
 use native.Mathlib.Numerals.{add-one}
 use native.Mathlib.Omega.{arith}
 use lib.ListN.{length, getD}
+use Rattle.prelude.proofs.Absurd.{impossible}
 use Rattle.values.specs.Value.{Value}
 use Rattle.tables.specs.Accepted.{records}
 use Rattle.patterns.specs.Ways.{gather, exists}
@@ -45,12 +46,12 @@ present-none table p s at whole f vs h i w = record { values = vs; are = i; bind
 pub nth-none : (bs : List Binding) (k : ℕ) → nth bs k ≡ none → length bs ≤ k
 unfolding nth
 nth-none [] k e = omega arith
-nth-none (b ∷ bs) zero e = let z : _≡_ {A = ℕ} 0 1 = cc in absurd (omega arith)
+nth-none (b ∷ bs) zero e = impossible cc
 nth-none (b ∷ bs) (suc k) e = omega (arith, nth-none bs k e)
 
 pub nth-some : (bs : List Binding) (k : ℕ) (b : Binding) → nth bs k ≡ some b → k < length bs
 unfolding nth
-nth-some [] k b e = let z : _≡_ {A = ℕ} 0 1 = cc in absurd (omega arith)
+nth-some [] k b e = impossible cc
 nth-some (c ∷ bs) zero b e = omega arith
 nth-some (c ∷ bs) (suc k) b e = omega (arith, nth-some bs k b e)
 

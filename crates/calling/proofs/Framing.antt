@@ -6,7 +6,7 @@ use Prim.Native.Nat.{ℕ, _+_, _≤_}
 use native.Mathlib.Omega.{arith}
 use lib.ListN.{length}
 use Rattle.integers.specs.Bytes.{word}
-use Rattle.values.specs.Value.{Value, size, mostBytes}
+use Rattle.values.specs.Value.{Value, size, valueLimit}
 use Rattle.values.specs.Place.{At, Holds, Outside}
 use Rattle.values.specs.Contract.{Put, Copyable, Copied}
 use Rattle.values.proofs.Records.{holds, word-size}
@@ -38,7 +38,7 @@ pub at-kept : {s t : List ℕ} {base at : ℕ} {v : Value} → Kept s t base →
 at-kept {base = base} k l h a = kept {base = base} (k .below) (omega (arith, k .long)) h a
 
 -- where a value's limit ends at or below the base
-pub at-low : {s t : List ℕ} {base at : ℕ} {v : Value} → Kept s t base → base ≤ length s → at + mostBytes ≤ base → At s at v → At t at v
+pub at-low : {s t : List ℕ} {base at : ℕ} {v : Value} → Kept s t base → base ≤ length s → at + valueLimit ≤ base → At s at v → At t at v
 at-low k l h a = at-kept k l (omega (arith, a .fine .short)) a
 
 pub holds-kept : {s t : List ℕ} {base at : ℕ} → Kept s t base → base ≤ length s → at + word s at ≤ base → Holds s at → Holds t at

@@ -1,6 +1,6 @@
 -- What the bits say: names, looseness and conditions.
 use mathlib.Core.Path.{_≡_, refl, sym, ap, _∙_}
-use mathlib.Core.Bool.{Bool, true, false, _&&_, _||_}
+use mathlib.Core.Bool.{Bool, true, false, _&&_, _||_, or-assoc, or-false, or-comm, cond}
 use mathlib.Core.List.{List, [], _∷_, map}
 use Prim.Native.Nat.{ℕ, zero, suc, _+_, _-_, _/_, _%_, _^_, _≤_, _<_}
 use native.Mathlib.Omega.{arith}
@@ -13,7 +13,7 @@ use lib.ListN.{length}
 use Rattle.tables.specs.declared.Role.{Role}
 use Rattle.tables.specs.declared.Role.the-variants.{Plain, Condition, Body, Pattern, Name}
 use Rattle.tables.specs.Record.{Record, shape, named, nameOf}
-use Rattle.tables.specs.Table.{pick, recordAt}
+use Rattle.tables.specs.Table.{recordAt}
 use Rattle.tables.specs.Sheet.{some, foldBy, isName, holdsName, isLoose, loose, parent, roleIn, climbBy, isCovered, isCondition, patternOf, isBound, inCondition}
 use Rattle.tables.specs.Laws.{split}
 use Rattle.checking.specs.Scopes.{hasBit, orBits, orBitsAll, own, bitsBelow, given, around}
@@ -71,7 +71,7 @@ own-name : (x : Record) (n : ℕ) → hasBit (own x) (n + 2) ≡ isName n x
 unfolding own
 own-name x n = go (eqb (x .kind) 32) (isLoose x)
   where
-    go : (t u : Bool) → hasBit (pick t (2 ^ (nameOf x + 2)) (pick u 2 0)) (n + 2) ≡ t && eqb (nameOf x) n
+    go : (t u : Bool) → hasBit (cond t (2 ^ (nameOf x + 2)) (cond u 2 0)) (n + 2) ≡ t && eqb (nameOf x) n
     go true u = bit-pow (nameOf x + 2) (n + 2) ∙ same-name (nameOf x) n
     go false true = bit-pow 1 (n + 2) ∙ ne-eqb 1 (n + 2) (λ e. omega arith)
     go false false = bit-zero (n + 2)
@@ -80,11 +80,11 @@ own-loose : (x : Record) → hasBit (own x) 1 ≡ isLoose x
 unfolding own shape
 own-loose x = go (eqb (x .kind) 32) refl
   where
-    loose-of : (u : Bool) → hasBit (pick u 2 0) 1 ≡ u
+    loose-of : (u : Bool) → hasBit (cond u 2 0) 1 ≡ u
     loose-of true = bit-pow 1 1
     loose-of false = bit-zero 1
 
-    go : (t : Bool) → eqb (x .kind) 32 ≡ t → hasBit (pick t (2 ^ (nameOf x + 2)) (pick (isLoose x) 2 0)) 1 ≡ isLoose x
+    go : (t : Bool) → eqb (x .kind) 32 ≡ t → hasBit (cond t (2 ^ (nameOf x + 2)) (cond (isLoose x) 2 0)) 1 ≡ isLoose x
     go true e = bit-pow (nameOf x + 2) 1 ∙ ne-eqb (nameOf x + 2) 1 (λ f. omega arith) ∙ sym (rw (eqb-true (x .kind) 32 e))
     go false e = loose-of (isLoose x)
 
@@ -92,26 +92,12 @@ own-even : (x : Record) → hasBit (own x) 0 ≡ false
 unfolding own
 own-even x = go (eqb (x .kind) 32) (isLoose x)
   where
-    go : (t u : Bool) → hasBit (pick t (2 ^ (nameOf x + 2)) (pick u 2 0)) 0 ≡ false
+    go : (t u : Bool) → hasBit (cond t (2 ^ (nameOf x + 2)) (cond u 2 0)) 0 ≡ false
     go true u = bit-pow (nameOf x + 2) 0 ∙ ne-eqb (nameOf x + 2) 0 (λ f. omega arith)
     go false true = bit-pow 1 0
     go false false = bit-zero 0
 
 -- ---- below a record
-
-or-assoc : (a b c : Bool) → (a || b) || c ≡ a || (b || c)
-or-assoc true b c = refl
-or-assoc false b c = refl
-
-or-false : (a : Bool) → a || false ≡ a
-or-false true = refl
-or-false false = refl
-
-or-comm : (a b : Bool) → a || b ≡ b || a
-or-comm true true = refl
-or-comm true false = refl
-or-comm false true = refl
-or-comm false false = refl
 
 bit-all : (m n : ℕ) (xs : List ℕ) → hasBit (orBitsAll m xs) n ≡ hasBit m n || some (map (λ x. hasBit x n) xs)
 bit-all m n [] = sym (or-false (hasBit m n))
@@ -162,7 +148,7 @@ module _ (n : ℕ) (test : ℕ → Role → Bool) (rs : List Record) (is : (q : 
   climb-bit zero r = bit-zero n
   climb-bit (suc b) r = go (ltb (parent rs r) (length rs)) (parent rs r) (roleIn rs (parent rs r) r) (climb-bit b (parent rs r))
     where
-      go : (t : Bool) (q : ℕ) (role : Role) → hasBit (climbBy (λ q role up. orBits up (given rs q role)) 0 rs b q) n ≡ climbBy (λ q role up. test q role || up) false rs b q → hasBit (pick t (orBits (climbBy (λ q role up. orBits up (given rs q role)) 0 rs b q) (given rs q role)) 0) n ≡ pick t (test q role || climbBy (λ q role up. test q role || up) false rs b q) false
+      go : (t : Bool) (q : ℕ) (role : Role) → hasBit (climbBy (λ q role up. orBits up (given rs q role)) 0 rs b q) n ≡ climbBy (λ q role up. test q role || up) false rs b q → hasBit (cond t (orBits (climbBy (λ q role up. orBits up (given rs q role)) 0 rs b q) (given rs q role)) 0) n ≡ cond t (test q role || climbBy (λ q role up. test q role || up) false rs b q) false
       go true q role e =
           bit-union (climbBy (λ q role up. orBits up (given rs q role)) 0 rs b q) (given rs q role) n
           ∙ or-comm (hasBit (climbBy (λ q role up. orBits up (given rs q role)) 0 rs b q) n) (hasBit (given rs q role) n)

@@ -1,6 +1,6 @@
 -- Marks at the numbers that are named, operand by operand and record by record.
 use mathlib.Core.Path.{_≡_, refl, sym, ap, _∙_}
-use mathlib.Core.Bool.{Bool, true, false, not, _||_}
+use mathlib.Core.Bool.{Bool, true, false, not, _||_, or-false, cond}
 use mathlib.Core.List.{List, [], _∷_, _++_, append-nil, append-assoc}
 use Prim.Native.Nat.{ℕ, suc, _+_, _≤_, _<_, min}
 use native.Mathlib.Omega.{arith}
@@ -9,27 +9,24 @@ use borrow.Author.Tests.{eq-eqb, ne-eqb, lt-ltb, le-ltb}
 use lib.Dec.{eqb, ltb}
 use lib.ListN.{length, take, set, length-set, replicate, length-replicate, getD-replicate}
 use lib.Seq.{getD-set-same, getD-set-other, take-suc, take-all}
+use mathlib.Mathlib.Data.Bool.Basic.{or-inr}
 use Rattle.tables.specs.declared.Role.{Role}
 use Rattle.tables.specs.Record.{Record, isPattern, named, operand, roleAt}
-use Rattle.tables.specs.Table.{pick, noRecord, recordAt, kindAt}
+use Rattle.tables.specs.Table.{noRecord, recordAt, kindAt}
 use Rattle.tables.specs.Sheet.{any, lowest, isIn}
 use Rattle.tables.specs.Check.{isOfSort, allNamed, namedBefore, isBad, hasBad, isStray, fault6}
-use Rattle.tables.specs.Laws.{split, or-some, in-append, low}
+use Rattle.tables.specs.Laws.{split, in-append, low}
 use Rattle.tables.specs.Accepted.{records}
 use Rattle.checking.proofs.Scan.{low-more, lowest-either}
 use Rattle.checking.specs.Naming.{Marked, MarkedOne, MarkedAll}
 
 -- ---- one mark
 
-or-false : (a : Bool) → a || false ≡ a
-or-false true = refl
-or-false false = refl
-
 in-more : (m n : ℕ) (ms : List ℕ) → (m ≡ n → ⊥) → isIn m (ms ++ (n ∷ [])) ≡ isIn m ms
 in-more m n ms ne = in-append m ms (n ∷ []) ∙ ap (λ (b : Bool). isIn m ms || (b || false)) (ne-eqb m n ne) ∙ or-false (isIn m ms)
 
 in-last : (n : ℕ) (ms : List ℕ) → isIn n (ms ++ (n ∷ [])) ≡ true
-in-last n ms = in-append n ms (n ∷ []) ∙ or-some (isIn n ms) (eqb n n || false) (ap (λ (b : Bool). b || false) (eq-eqb n n refl))
+in-last n ms = in-append n ms (n ∷ []) ∙ or-inr (isIn n ms) (eqb n n || false) (ap (λ (b : Bool). b || false) (eq-eqb n n refl))
 
 pub mark-one : (marks ms : List ℕ) (n : ℕ) → n < 200 → Marked marks ms → Marked (set marks n 1) (ms ++ (n ∷ []))
 mark-one marks ms n h m =
@@ -114,7 +111,7 @@ pub record Records (rs : List Record) (marks : List ℕ) (low r : ℕ) : Type 0 
 pub records-start : (rs : List Record) (marks : List ℕ) → Marked marks [] → Records rs marks 0 0
 records-start rs marks m = record { within = omega arith; is = refl; marked = m }
 
-pub records-more : (table marks marks′ : List ℕ) (l r p : ℕ) (bad : Bool) → Records (records table) marks l r → r < length (records table) → MarkedOne table r marks′ bad → p ≡ pick (ltb l r) l (pick bad r (suc r)) → Records (records table) marks′ p (r + 1)
+pub records-more : (table marks marks′ : List ℕ) (l r p : ℕ) (bad : Bool) → Records (records table) marks l r → r < length (records table) → MarkedOne table r marks′ bad → p ≡ cond (ltb l r) l (cond bad r (suc r)) → Records (records table) marks′ p (r + 1)
 records-more table marks marks′ l r p bad o h m e =
     record {
       within = omega arith;

@@ -1,6 +1,6 @@
 -- Heights from the last record down, and the lowest record of too great a height.
 use mathlib.Core.Path.{_≡_, refl, sym, ap, _∙_}
-use mathlib.Core.Bool.{Bool, true, false}
+use mathlib.Core.Bool.{Bool, true, false, cond}
 use mathlib.Core.List.{List, [], _∷_, map}
 use Prim.Native.Nat.{ℕ, zero, suc, _+_, _≤_, _<_, min, max}
 use native.Mathlib.Omega.{arith}
@@ -8,11 +8,13 @@ use native.Mathlib.Numerals.{add-one}
 use borrow.Author.Tests.{lt-ltb, le-ltb}
 use lib.ListN.{length, getD, drop}
 use lib.Seq.{drop-cons, drop-length}
+use Rattle.prelude.proofs.Absurd.{never}
+use Rattle.prelude.proofs.Truth.{or-false-both}
 use Rattle.tables.specs.Record.{Record, named, operand}
-use Rattle.tables.specs.Table.{pick, recordAt}
+use Rattle.tables.specs.Table.{recordAt}
 use Rattle.tables.specs.Sheet.{lowest, isIn, greatest, height, parent}
 use Rattle.tables.specs.Check.{mostHeight, allNamed, fault9}
-use Rattle.tables.specs.Laws.{never, split, or-none, in-append, low, low-same, Place, in-place, fold-at, parent-higher}
+use Rattle.tables.specs.Laws.{split, in-append, low, low-same, Place, in-place, fold-at, parent-higher}
 use Rattle.tables.specs.Accepted.{Clear6, lower, operand-lower, height-at, named-all}
 use Rattle.checking.specs.Heights.{leastOf, lowTall}
 
@@ -48,9 +50,9 @@ pub record Seen (rs : List Record) (r high l i : ℕ) : Type 0 where
   pub small : high ≤ r
 
 module _ (rs : List Record) (clear : Clear6 rs) where
-  low-at : (r : ℕ) → r < length rs → lowTall rs r ≡ min (leastOf (length rs) (map (lowTall rs) (named (recordAt rs r)))) (pick (fault9 rs r) r (length rs))
+  low-at : (r : ℕ) → r < length rs → lowTall rs r ≡ min (leastOf (length rs) (map (lowTall rs) (named (recordAt rs r)))) (cond (fault9 rs r) r (length rs))
   unfolding lowTall
-  low-at r h = fold-at (λ q ls. min (leastOf (length rs) ls) (pick (fault9 rs q) q (length rs))) (length rs) rs (lower rs clear) r h
+  low-at r h = fold-at (λ q ls. min (leastOf (length rs) ls) (cond (fault9 rs q) q (length rs))) (length rs) rs (lower rs clear) r h
 
   pub seen-start : (r l : ℕ) → l ≡ length rs → Seen rs r 0 l 0
   seen-start r l e =
@@ -97,7 +99,7 @@ module _ (rs : List Record) (clear : Clear6 rs) where
     unfolding fault9
     low-tall k =
         ap (λ (m : ℕ). min m r) low-all
-        ∙ sym (low-at r h ∙ ap (λ (b : Bool). min (leastOf (length rs) (map (lowTall rs) (named (recordAt rs r)))) (pick b r (length rs))) (lt-ltb mostHeight (height rs r) (omega (arith, high-is))))
+        ∙ sym (low-at r h ∙ ap (λ (b : Bool). min (leastOf (length rs) (map (lowTall rs) (named (recordAt rs r)))) (cond b r (length rs))) (lt-ltb mostHeight (height rs r) (omega (arith, high-is))))
 
     pub low-short : high < mostHeight → l ≡ lowTall rs r
     unfolding fault9
@@ -105,11 +107,11 @@ module _ (rs : List Record) (clear : Clear6 rs) where
         let last : leastOf (length rs) (map (lowTall rs) (named (recordAt rs r))) ≡ min (leastOf (length rs) (map (lowTall rs) (named (recordAt rs r)))) (length rs) =
         omega (arith, least-most (length rs) (map (lowTall rs) (named (recordAt rs r)))) in
         low-all ∙ last
-        ∙ sym (low-at r h ∙ ap (λ (b : Bool). min (leastOf (length rs) (map (lowTall rs) (named (recordAt rs r)))) (pick b r (length rs))) (le-ltb mostHeight (height rs r) (omega (arith, high-is))))
+        ∙ sym (low-at r h ∙ ap (λ (b : Bool). min (leastOf (length rs) (map (lowTall rs) (named (recordAt rs r)))) (cond b r (length rs))) (le-ltb mostHeight (height rs r) (omega (arith, high-is))))
 
   -- ---- all records
 
-  own-found : (r : ℕ) (t : Bool) → fault9 rs r ≡ t → pick t r (length rs) < length rs → fault9 rs (pick t r (length rs)) ≡ true
+  own-found : (r : ℕ) (t : Bool) → fault9 rs r ≡ t → cond t r (length rs) < length rs → fault9 rs (cond t r (length rs)) ≡ true
   own-found r true e h = e
   own-found r false e h = absurd (omega arith)
 
@@ -118,7 +120,7 @@ module _ (rs : List Record) (clear : Clear6 rs) where
   found zero r b h k = absurd (omega arith)
   found (suc bound) r b h k =
       let least : ℕ = leastOf (length rs) (map (lowTall rs) (named (recordAt rs r))) in
-      let own : ℕ = pick (fault9 rs r) r (length rs) in
+      let own : ℕ = cond (fault9 rs r) r (length rs) in
       let is : lowTall rs r ≡ min least own = low-at r h in
       split own least
       (λ l.
@@ -134,7 +136,7 @@ module _ (rs : List Record) (clear : Clear6 rs) where
 
   -- It is as low as every record of too great a height below.
   low-own : (r : ℕ) → r < length rs → fault9 rs r ≡ true → lowTall rs r ≤ r
-  low-own r h e = omega (arith, low-at r h, ap (λ (b : Bool). pick b r (length rs)) e)
+  low-own r h e = omega (arith, low-at r h, ap (λ (b : Bool). cond b r (length rs)) e)
 
   low-operand : (r i : ℕ) → r < length rs → i < length (named (recordAt rs r)) → lowTall rs r ≤ lowTall rs (operand (recordAt rs r) i)
   low-operand r i h k = omega (arith, low-at r h, least-each (length rs) (lowTall rs) (named (recordAt rs r)) i k)
@@ -146,7 +148,7 @@ module _ (rs : List Record) (clear : Clear6 rs) where
   none-named : (n : ℕ) (qs : List Record) → ((q : ℕ) → q < length qs → isIn n (named (recordAt qs q)) ≡ false) → isIn n (allNamed qs) ≡ false
   none-named n [] e = refl
   none-named n (q ∷ qs) e =
-      in-append n (named q) (allNamed qs) ∙ or-none (isIn n (named q)) (isIn n (allNamed qs)) (e 0 (omega arith)) (none-named n qs (λ k h. e (suc k) (omega arith)))
+      in-append n (named q) (allNamed qs) ∙ or-false-both (isIn n (named q)) (isIn n (allNamed qs)) (e 0 (omega arith)) (none-named n qs (λ k h. e (suc k) (omega arith)))
 
   named-parent : (r : ℕ) → suc r < length rs → parent rs r < length rs
   named-parent r h =

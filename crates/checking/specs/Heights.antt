@@ -3,8 +3,8 @@ use mathlib.Core.Path.{_≡_}
 use mathlib.Core.List.{List, [], _∷_}
 use Prim.Native.Nat.{ℕ, _+_, _<_, _≤_, min}
 use lib.ListN.{length}
+use mathlib.Core.Bool.{cond}
 use Rattle.tables.specs.Record.{Record}
-use Rattle.tables.specs.Table.{pick}
 use Rattle.tables.specs.Sheet.{fold, height}
 use Rattle.tables.specs.Check.{fault9}
 use Rattle.tables.specs.Accepted.{records}
@@ -17,7 +17,7 @@ leastOf m (x ∷ xs) = leastOf (min m x) xs
 
 -- The number of records where there is none.
 unfoldable pub lowTall : List Record → ℕ → ℕ
-lowTall rs r = fold (λ q ls. min (leastOf (length rs) ls) (pick (fault9 rs q) q (length rs))) (length rs) rs r
+lowTall rs r = fold (λ q ls. min (leastOf (length rs) ls) (cond (fault9 rs q) q (length rs))) (length rs) rs r
 
 pub record AskTall (table index : List ℕ) (count r : ℕ) : Type 0 where
   pub kept : Kept table index count

@@ -1,6 +1,6 @@
 -- What lies below and around a record, as bits of one number: bit 0 a condition, bit 1 a loose pattern, bit n + 2 the name n.
 use mathlib.Core.Path.{_≡_}
-use mathlib.Core.Bool.{Bool}
+use mathlib.Core.Bool.{Bool, cond}
 use mathlib.Core.List.{List, [], _∷_}
 use Prim.Native.Nat.{ℕ, _+_, _/_, _%_, _^_, _<_, _≤_}
 use lib.Bits.{bitOr}
@@ -9,7 +9,7 @@ use lib.ListN.{length, getD}
 use Rattle.tables.specs.declared.Role.{Role}
 use Rattle.tables.specs.declared.Role.the-variants.{Plain, Condition, Body, Pattern, Name}
 use Rattle.tables.specs.Record.{Record, nameOf}
-use Rattle.tables.specs.Table.{pick, recordAt}
+use Rattle.tables.specs.Table.{recordAt}
 use Rattle.tables.specs.Sheet.{fold, isLoose, parent, patternOf, climb}
 use Rattle.tables.specs.Check.{mostRecords}
 use Rattle.tables.specs.Accepted.{records, Clear6}
@@ -31,7 +31,7 @@ orBitsAll m (x ∷ xs) = orBitsAll (orBits m x) xs
 
 -- The bits of one record: the name of a pattern, or that it is loose.
 unfoldable pub own : Record → ℕ
-own x = pick (eqb (x .kind) 32) (2 ^ (nameOf x + 2)) (pick (isLoose x) 2 0)
+own x = cond (eqb (x .kind) 32) (2 ^ (nameOf x + 2)) (cond (isLoose x) 2 0)
 
 unfoldable pub bitsBelow : List Record → ℕ → ℕ
 bitsBelow rs r = fold (λ q ms. orBitsAll (own (recordAt rs q)) ms) 0 rs r

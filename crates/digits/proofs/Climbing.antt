@@ -9,8 +9,9 @@ use native.Mathlib.Omega.{arith}
 use lib.ListN.{length, take, drop, getD, set, length-take, length-set, take-append-drop}
 use lib.Seq.{take-suc-set, take-take, getD-set-same, getD-set-other}
 use borrow.Author.Tests.{lt-ltb, le-ltb}
+use Rattle.prelude.proofs.Absurd.{impossible}
 use Rattle.choices.specs.Paths.{raise}
-use Rattle.choices.specs.Laws.States.{left-cons, left-nil}
+use Rattle.choices.proofs.States.{left-cons, left-nil}
 use Rattle.digits.specs.declared.Digits.{Digits}
 use Rattle.digits.specs.Path.{Sound, Raisable, Advances}
 
@@ -57,7 +58,7 @@ module _ (d : Digits) (s : Sound d) where
       record { within = omega arith; stuck = k .stuck; up = λ j f. absurd (omega arith); narrow = λ j f. absurd (omega arith) }
 
   pub none-raised : (i : ℕ) → i ≡ 0 → Raisable d i → Advances d (record { more = false; digits = d })
-  none-raised i e g = let k = rw e at g in record { raised = k .stuck; viewed = λ f. let z : _≡_ {A = ℕ} 0 1 = cc in absurd (omega arith); sound = s }
+  none-raised i e g = let k = rw e at g in record { raised = k .stuck; viewed = λ f. impossible cc; sound = s }
 
   pub one-raised : (i j : ℕ) → i ≡ suc j → Raisable d i
       → Advances d (record { more = true; digits = record { entries = set (d .entries) j (getD (d .entries) j 0 + 1); counts = d .counts; len = i; used = 0 } })

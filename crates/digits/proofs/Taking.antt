@@ -9,7 +9,7 @@ use native.Mathlib.Omega.{arith}
 use lib.ListN.{length, take, drop, getD, set, length-set, replicate}
 use lib.Seq.{take-suc-set, take-set-lt, drop-set-lt, length-take-le, getD-set-same, getD-set-other}
 use borrow.Author.Tests.{lt-ltb, le-ltb}
-use Rattle.choices.specs.Laws.States.{left-cons, left-nil}
+use Rattle.choices.proofs.States.{left-cons, left-nil}
 use Rattle.choices.specs.State.{rest}
 use Rattle.digits.specs.declared.Digits.{Digits}
 use Rattle.digits.specs.Path.{most, view, Sound, Made, nextDigit, digitOf, hasRoom, Took}

@@ -1,12 +1,11 @@
 -- What a path of digits says, as lists, and what the functions on it do to them.
 use mathlib.Core.Path.{_≡_}
-use mathlib.Core.Bool.{Bool, true, false}
+use mathlib.Core.Bool.{Bool, true, false, cond}
 use mathlib.Core.Option.{Option, none, some}
 use mathlib.Core.List.{List, [], _∷_, _++_}
 use Prim.Native.Nat.{ℕ, suc, _+_, _≤_, _<_}
 use lib.Dec.{ltb}
 use lib.ListN.{length, take, drop, getD}
-use Rattle.choices.specs.Tree.{pick}
 use Rattle.choices.specs.Paths.{raise}
 use Rattle.choices.specs.State.{rest}
 use Rattle.digits.specs.declared.Digits.{Digits}
@@ -48,7 +47,7 @@ pub record Made (d : Digits) : Type 0 where
 -- The digit for a choice among n ways: the next one left, if it is one of the ways, else 0.
 abbrev pub digitOf : List ℕ → ℕ → ℕ
 digitOf [] n = 0
-digitOf (c ∷ l) n = pick (ltb c n) c 0
+digitOf (c ∷ l) n = cond (ltb c n) c 0
 
 abbrev pub nextDigit : View → ℕ → ℕ
 nextDigit v n = digitOf (v .left) n
@@ -59,10 +58,10 @@ hasRoom v = ltb (length (v .past)) most
 
 -- The digit that a choice among n ways takes, and the path after it.
 abbrev pub taken : View → ℕ → ℕ
-taken v n = pick (hasRoom v) (nextDigit v n) 0
+taken v n = cond (hasRoom v) (nextDigit v n) 0
 
 abbrev pub afterwards : View → ℕ → View
-afterwards v n = pick (hasRoom v) (record { past = v .past ++ nextDigit v n ∷ []; met = v .met ++ n ∷ []; left = rest (v .left) }) v
+afterwards v n = cond (hasRoom v) (record { past = v .past ++ nextDigit v n ∷ []; met = v .met ++ n ∷ []; left = rest (v .left) }) v
 
 pub record Took (d : Digits) (n : ℕ) (r : Taken) : Type 0 where
   pub digit : r .digit ≡ taken (view d) n

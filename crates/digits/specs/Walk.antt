@@ -6,8 +6,8 @@ use native.Mathlib.Omega.{arith}
 use lib.ListN.{length, length-append, drop}
 use borrow.Author.Tests.{lt-ltb}
 use Rattle.choices.specs.Tree.{Tree, give, stop, choose, bind, Full, Outcome, value, refusal}
-use Rattle.choices.specs.Paths.{Within, outcomeAt, counts, extend}
-use Rattle.choices.specs.Laws.Ahead.{Into, into-nil}
+use Rattle.choices.specs.Paths.{AtMost, outcomeAt, counts, extend}
+use Rattle.choices.proofs.Ahead.{Into, into-nil}
 use Rattle.digits.specs.Path.{most, View, taken, afterwards}
 
 -- The value that a walk comes to, with the path after it; or a refusal.
@@ -60,7 +60,7 @@ module _ {A : Type 0} where
   further t n c past met l x y e = λ i. finish (outcomeAt t l) (record { past = snoc-append past (extend t l) c i; met = snoc-append met (counts t (extend t l)) n i; left = e i })
 
   -- THEOREM: a walk along digits that lead into the tree, or past a leaf, comes to the leaf that they, and then zeros, lead to
-  pub walk-path : (t : Tree A) (k : ℕ) (past met l : List ℕ) → Full t → Within k t → Into t l → length past + k ≤ most
+  pub walk-path : (t : Tree A) (k : ℕ) (past met l : List ℕ) → Full t → AtMost k t → Into t l → length past + k ≤ most
       → walk t (record { past = past; met = met; left = l }) ≡ finish (outcomeAt t l) (walkedBy t past met l)
   unfolding walk
   walk-path (give a) k past met l f w h m = ap₂ (λ (x y : List ℕ). reached a (record { past = x; met = y; left = l })) (sym (append-nil past)) (sym (append-nil met))

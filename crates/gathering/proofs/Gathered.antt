@@ -6,7 +6,7 @@ use Prim.Native.Nat.{ℕ, _+_, _≤_}
 use native.Mathlib.Omega.{arith}
 use lib.ListN.{length}
 use Rattle.integers.specs.Bytes.{word}
-use Rattle.values.specs.Value.{Kind, set, sequence, number, collection, Items, none, size, mostBytes, Ascending}
+use Rattle.values.specs.Value.{Kind, set, sequence, number, collection, Items, none, size, valueLimit, Ascending}
 use Rattle.values.specs.Place.{At, ItemsAt, HoldsItems}
 use Rattle.values.specs.Contract.{Copyable, Copied}
 use Rattle.values.proofs.Records.{holds, items-to}

@@ -1,6 +1,6 @@
 -- How many ways there are, by the kind of the pattern and the items of the value.
 use mathlib.Core.Path.{_≡_, refl, sym, ap, subst, _∙_}
-use mathlib.Core.Bool.{Bool, true, false}
+use mathlib.Core.Bool.{Bool, true, false, cond}
 use mathlib.Core.Option.{none as absent, some}
 use mathlib.Core.List.{List, [], _∷_, map}
 use Prim.Native.Nat.{ℕ, zero, suc, _+_, _-_, _^_, _≤_, _<_}
@@ -10,9 +10,8 @@ use lib.Dec.{eqb, ltb}
 use lib.ListN.{length, length-map}
 use borrow.Author.Tests.{eq-eqb, ne-eqb, lt-ltb, le-ltb}
 use Rattle.values.specs.Value.{Kind, set, sequence, map as mapping, tuple, number, kindOf, Value, boolean, integer, collection, WellFormed}
-use Rattle.values.specs.Items.{pick}
-use Rattle.values.specs.Laws.{number-low, number-inj}
-use Rattle.values.specs.Encoding.{collection-size, count-sizes}
+use Rattle.values.proofs.Order.{number-low, number-inj}
+use Rattle.values.proofs.Encoding.{collection-size, count-sizes}
 use Rattle.parts.specs.declared.Part.{Part}
 use Rattle.parts.specs.Part.{PartIs, PartHeld}
 use Rattle.parts.specs.Contract.{KindOfPart, CollectionHeld, CountOfPart}
@@ -59,7 +58,7 @@ few-items k vs h =
 
 -- ---- by kind
 
-pub pick-true : {A : Type 0} {t : Bool} (xs : List A) → t ≡ true → pick t xs [] ≡ xs
+pub pick-true : {A : Type 0} {t : Bool} (xs : List A) → t ≡ true → cond t xs [] ≡ xs
 pick-true xs e = rw e
 
 only-39 : (c d : ℕ) → c ≡ 36 + d → d ≤ 4 → (c ≡ 36 → ⊥) → (c ≡ 37 → ⊥) → (c ≡ 38 → ⊥) → (c ≡ 40 → ⊥) → c ≡ 39
@@ -91,13 +90,13 @@ module _ (c n : ℕ) (v : Value) where
     pub meets-cuts : c ≡ 40 → contents sequence v ≡ some vs → (meetings c n v ≡ map (pair sequence) (cuts vs)) × (isLarge c v ≡ false)
     meets-cuts e f = (rw (e, f), rw (e, f))
 
-    pub meets-orders : c ≡ 37 → contents set v ≡ some vs → (meetings c n v ≡ pick (eqb n (length vs)) (orders vs) []) × (isLarge c v ≡ false)
+    pub meets-orders : c ≡ 37 → contents set v ≡ some vs → (meetings c n v ≡ cond (eqb n (length vs)) (orders vs) []) × (isLarge c v ≡ false)
     meets-orders e f = (rw (e, f), rw e)
 
-    pub meets-items : (c ≡ 37 → ⊥) → (c ≡ 38 → ⊥) → (c ≡ 40 → ⊥) → 36 ≤ c → c ≤ 40 → contents (collectionOf c) v ≡ some vs → (meetings c n v ≡ pick (eqb n (length vs)) (vs ∷ []) []) × (isLarge c v ≡ false)
+    pub meets-items : (c ≡ 37 → ⊥) → (c ≡ 38 → ⊥) → (c ≡ 40 → ⊥) → 36 ≤ c → c ≤ 40 → contents (collectionOf c) v ≡ some vs → (meetings c n v ≡ cond (eqb n (length vs)) (vs ∷ []) []) × (isLarge c v ≡ false)
     meets-items x y z low high f = go (ℕ-discrete c 36)
       where
-        go : Dec (c ≡ 36) → (meetings c n v ≡ pick (eqb n (length vs)) (vs ∷ []) []) × (isLarge c v ≡ false)
+        go : Dec (c ≡ 36) → (meetings c n v ≡ cond (eqb n (length vs)) (vs ∷ []) []) × (isLarge c v ≡ false)
         go (yes e) = let g : contents tuple v ≡ some vs = subst (λ (k : ℕ). contents (collectionOf k) v ≡ some vs) e f in (rw (e, g), rw e)
         go (no d) =
             let e : c ≡ 39 = only-39 c (c - 36) (omega arith) (omega arith) d x y z in

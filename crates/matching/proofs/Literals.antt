@@ -12,11 +12,12 @@ use mir.Val.{SFits, ofZ, toZ}
 use mir.ValLaws.{toZ-ofZ}
 use borrow.Author.Tests.{eq-eqb, eqb-true}
 use lib.ListN.{length}
+use Rattle.prelude.proofs.Absurd.{impossible}
 use Rattle.values.specs.Value.{Value, boolean, integer, kindOf}
 use Rattle.values.specs.Items.{same}
-use Rattle.values.specs.Laws.{true-same, false-same}
+use Rattle.values.proofs.Order.{true-same, false-same}
 use Rattle.values.specs.Place.{At}
-use Rattle.values.specs.Records.{one-value, holds, word-kind}
+use Rattle.values.proofs.Records.{one-value, holds, word-kind}
 use Rattle.values.specs.Contract.{OfKind}
 use Rattle.tables.specs.Record.{named, field, booleanOf, integerOf, headOf, size, shape}
 use Rattle.tables.specs.Table.{recordAt, kindAt}
@@ -49,7 +50,7 @@ four-bytes c e = subst (λ (k : ℕ). size (shape k .head) ≡ 4) (sym e) refl
 -- ---- truths
 
 apart : {X : Type 0} → boolean true ≡ boolean false → X
-apart e = let z : _≡_ {A = ℕ} 0 1 = cc in absurd (omega arith)
+apart e = impossible cc
 
 as-true : (x : Bool) → x ≡ same (boolean x) (boolean true)
 as-true true = sym (true-same {v = boolean true} refl)
@@ -71,7 +72,7 @@ whole-same a b fa fb = go (eqb (ofZ w32 a) (ofZ w32 b)) refl
         sym (false-same (integer a) (integer b) (λ q.
         let r : a ≡ b = cc in
         let z : true ≡ false = sym (eq-eqb (ofZ w32 a) (ofZ w32 b) (ap (ofZ w32) r)) ∙ e in
-        let n : _≡_ {A = ℕ} 0 1 = cc in omega arith))
+        impossible cc))
 
 module _ (table index : List ℕ) (p : ℕ) (h : LiteralHeld table index p) where
   within : p < length (records table)

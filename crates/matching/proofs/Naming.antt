@@ -1,7 +1,7 @@
 -- Names bound to parts.
 use mathlib.Core.Path.{_≡_, refl, sym, ap, ap₂, subst, _∙_}
-use mathlib.Core.Bool.{Bool, true, false, _&&_}
-use mathlib.Core.Logic.{_⊎_, inl, inr, ⊎-elim}
+use mathlib.Core.Bool.{Bool, true, false, _&&_, and-false, cond}
+use mathlib.Core.Logic.{inl, inr, ⊎-elim}
 use mathlib.Core.List.{List, [], _∷_}
 use Prim.Native.Nat.{ℕ, zero, suc, _<_}
 use native.Mathlib.Decide.{ℕ-discrete}
@@ -11,7 +11,7 @@ use lib.Seq.{getD-set-same, getD-set-other}
 use Rattle.integers.specs.declared.Order.{Order}
 use Rattle.integers.specs.declared.Order.the-variants.{Lower, Same, Higher}
 use Rattle.values.specs.Value.{Value}
-use Rattle.values.specs.Items.{pick, isSame}
+use Rattle.values.specs.Items.{isSame}
 use Rattle.parts.specs.declared.Part.{Part}
 use Rattle.parts.specs.Part.{PartIs, CellIs}
 use Rattle.parts.specs.Contract.{OrderedParts}
@@ -21,12 +21,6 @@ use Rattle.ways.specs.Tries.{State, start, naming, failed, isGood}
 use Rattle.ways.specs.Merging.{true-false, both-true, true-both, consistent-left}
 use Rattle.matching.specs.declared.Found.{Found}
 use Rattle.matching.specs.Found.{nowhere, Stands}
-
--- ---- truths
-
-and-false : (b : Bool) → (b && false) ≡ false
-and-false true = refl
-and-false false = refl
 
 -- ---- cells
 
@@ -75,7 +69,7 @@ agree-free free = refl
 agree-free (is v) = refl
 agree-free clash = refl
 
-unlike : (o : Order) → (o ≡ Same → ⊥) → (w : Value) → isFine (pick (isSame o) (is w) clash) ≡ false
+unlike : (o : Order) → (o ≡ Same → ⊥) → (w : Value) → isFine (cond (isSame o) (is w) clash) ≡ false
 unlike Lower f w = refl
 unlike Same f w = absurd (f refl)
 unlike Higher f w = refl
@@ -156,10 +150,10 @@ module _ (s : List ℕ) (x : ℕ) (lt : x < names) (v : Value) (st : State) wher
     bound e = ⊎-elim (λ w. absurd (e (w .0))) (λ w. w) (h .cells ok x lt)
 
     module _ (p : Part) (hp : PartIs s p v) (e : getD (f .parts) x nowhere .how ≡ 0 → ⊥) (o : Order) (c : OrderedParts s (getD (f .parts) x nowhere) p o) where
-      met : cellOf (merge (st .found) (only x v)) x ≡ pick (isSame o) (is (bound e .0)) clash
+      met : cellOf (merge (st .found) (only x v)) x ≡ cond (isSame o) (is (bound e .0)) clash
       met =
           let w = bound e in
-          at (h .found-sized) x ∙ ap₂ agree (w .1) only-here ∙ ap (λ (b : Order). pick (isSame b) (is (w .0)) clash) (sym (c (w .0) v (w .2) hp))
+          at (h .found-sized) x ∙ ap₂ agree (w .1) only-here ∙ ap (λ (b : Order). cond (isSame b) (is (w .0)) clash) (sym (c (w .0) v (w .2) hp))
 
       pub agrees : o ≡ Same → Stands s f (naming x v st)
       agrees q = record {
@@ -176,7 +170,7 @@ module _ (s : List ℕ) (x : ℕ) (lt : x < names) (v : Value) (st : State) wher
               go (yes d) =
                   let w = bound e in
                   subst (λ (k : ℕ). CellIs s (getD (f .parts) k nowhere) (cellOf (merge (st .found) (only x v)) k)) (sym d)
-                  (inr (w .0, met ∙ ap (λ (b : Order). pick (isSame b) (is (w .0)) clash) q, w .2))
+                  (inr (w .0, met ∙ ap (λ (b : Order). cond (isSame b) (is (w .0)) clash) q, w .2))
               go (no d) = subst (λ (k : Cell). CellIs s (getD (f .parts) n nowhere) k) (there (h .found-sized) n l d) (h .cells ok n l)
 
       pub clashes : (o ≡ Same → ⊥) → (g : Found) → Stands s g (failed st) → Stands s g (naming x v st)

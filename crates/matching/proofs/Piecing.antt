@@ -1,6 +1,6 @@
 -- What each part meets in a way.
 use mathlib.Core.Path.{_≡_, refl, sym, ap, subst, _∙_}
-use mathlib.Core.Bool.{Bool, true, false}
+use mathlib.Core.Bool.{Bool, true, false, cond}
 use mathlib.Core.Logic.{inl}
 use mathlib.Core.Option.{some}
 use mathlib.Core.List.{List, [], _∷_, map}
@@ -11,7 +11,6 @@ use lib.Dec.{eqb}
 use lib.ListN.{length, getD, length-map}
 use borrow.Author.Tests.{eqb-true, ltb-false}
 use Rattle.values.specs.Value.{Kind, set, sequence, number, kindOf, Value, collection}
-use Rattle.values.specs.Items.{pick}
 use Rattle.values.specs.Place.{At}
 use Rattle.parts.specs.declared.Part.{Part}
 use Rattle.parts.specs.declared.Halves.{Halves}
@@ -32,7 +31,7 @@ map-at f (x ∷ l) zero w e h = refl
 map-at f (x ∷ l) (suc n) w e h = map-at f l n w e (omega arith)
 
 -- some way there is only where the test is true
-picked-some : {A : Type 0} (t : Bool) (xs : List A) (d : ℕ) → d < length (pick t xs []) → (t ≡ true) × (d < length xs)
+picked-some : {A : Type 0} (t : Bool) (xs : List A) (d : ℕ) → d < length (cond t xs []) → (t ≡ true) × (d < length xs)
 picked-some true xs d h = (refl, h)
 picked-some false xs d h = absurd (omega arith)
 
@@ -139,7 +138,7 @@ module _ (c n : ℕ) (s : List ℕ) (p : Part) (d i : ℕ) (h : PieceHeld c n s 
     has-members : contents set (h .value) ≡ some vs
     has-members = subst (λ (x : ℕ). contents (collectionOf x) (h .value) ≡ some vs) e (has-value .has)
 
-    orders-are : meetings c n (h .value) ≡ pick (eqb n (length vs)) (orders vs) []
+    orders-are : meetings c n (h .value) ≡ cond (eqb n (length vs)) (orders vs) []
     orders-are = meets-orders c n (h .value) vs e has-members .0
 
     fits : (eqb n (length vs) ≡ true) × (d < length (orders vs))
@@ -159,7 +158,7 @@ module _ (c n : ℕ) (s : List ℕ) (p : Part) (d i : ℕ) (h : PieceHeld c n s 
         item-is q r (getD (orders vs) d []) (ap (λ (l : List (List Value)). getD l d []) (orders-are ∙ pick-true (orders vs) (fits .0))) (λ z. o .right vs z (sym count-is)) g
 
   module _ (x : c ≡ 37 → ⊥) (y : c ≡ 38 → ⊥) (w : c ≡ 40 → ⊥) where
-    items-are : meetings c n (h .value) ≡ pick (eqb n (length vs)) (vs ∷ []) []
+    items-are : meetings c n (h .value) ≡ cond (eqb n (length vs)) (vs ∷ []) []
     items-are = meets-items c n (h .value) vs x y w (h .low) (h .high) (has-value .has) .0
 
     fit : (eqb n (length vs) ≡ true) × (d < 1)

@@ -1,6 +1,6 @@
 -- A match along a path comes to what the tree comes to.
 use mathlib.Core.Path.{_≡_, refl, sym, ap, ap₂, subst, _∙_}
-use mathlib.Core.Bool.{Bool, true, false}
+use mathlib.Core.Bool.{Bool, true, false, cond}
 use mathlib.Core.Option.{Option, none as absent, some}
 use mathlib.Core.List.{List, [], _∷_, map}
 use Prim.Native.Nat.{ℕ, zero, suc, _+_, _-_, _≤_, _<_}
@@ -10,13 +10,13 @@ use lib.Dec.{eqb, leb}
 use lib.ListN.{length, getD, drop, length-map, drop-of-length-le}
 use lib.Seq.{drop-cons}
 use borrow.Author.Tests.{leb-true, eqb-true, eqb-false}
+use mathlib.Mathlib.Data.Bool.Basic.{and-elim-left, and-elim-right}
 use Rattle.values.specs.Value.{Kind, set, sequence, map as mapping, tuple, Value, boolean}
-use Rattle.values.specs.Items.{pick}
 use Rattle.tables.specs.Laws.Kinds.{pattern-least, pattern-most}
 use Rattle.tables.specs.Record.{Record, named, operand, nameOf, shape, headOf, size, isKnown}
 use Rattle.tables.specs.Table.{recordAt, kindAt}
 use Rattle.tables.specs.Accepted.{records, lower, pattern-role, operand-lower, operand-sort, named-count, fit-least, fit-most, fit-known}
-use Rattle.tables.specs.Laws.{Lower, and-left, and-right}
+use Rattle.tables.specs.Laws.{Lower}
 use Rattle.tables.specs.Reading.{HasField, HasOperand}
 use Rattle.parts.specs.declared.Part.{Part}
 use Rattle.parts.specs.Part.{PartIs, PartHeld}
@@ -124,14 +124,14 @@ module _ (table index : List ℕ) (p : ℕ) (r : Readable table index p) where
     leaf-same h t l e v st q z =
         let (w, is) = is-literal h in
         let y : _ = l v w q is in
-        (st, λ hope. ap (λ (u : Pattern). trimmed hope u v st) is ∙ ap (λ (b : Bool). give (pick b st (failed st))) (sym y ∙ e), z)
+        (st, λ hope. ap (λ (u : Pattern). trimmed hope u v st) is ∙ ap (λ (b : Bool). give (cond b st (failed st))) (sym y ∙ e), z)
 
     pub leaf-other : LiteralHeld table index p → (t : Bool) → LiteralIs table p s part t → t ≡ false → (g : Found) → ((s : List ℕ) (st : State) → Stands s f st → Stands s g (failed st)) → OnLeaf table p s part f g
     unfolding trimmed
     leaf-other h t l e g m v st q z =
         let (w, is) = is-literal h in
         let y : _ = l v w q is in
-        (failed st, λ hope. ap (λ (u : Pattern). trimmed hope u v st) is ∙ ap (λ (b : Bool). give (pick b st (failed st))) (sym y ∙ e), m s st z)
+        (failed st, λ hope. ap (λ (u : Pattern). trimmed hope u v st) is ∙ ap (λ (b : Bool). give (cond b st (failed st))) (sym y ∙ e), m s st z)
 
   -- ---- parts
 
@@ -203,7 +203,7 @@ walk-among (x ∷ xs) t f v w e h =
 
 -- ---- a meeting has as many values as there are parts
 
-picked-some : {A : Type 0} (t : Bool) (xs : List A) (d : ℕ) (z : A) → d < length (pick t xs []) → (t ≡ true) × (d < length xs) × (getD (pick t xs []) d z ≡ getD xs d z)
+picked-some : {A : Type 0} (t : Bool) (xs : List A) (d : ℕ) (z : A) → d < length (cond t xs []) → (t ≡ true) × (d < length xs) × (getD (cond t xs []) d z ≡ getD xs d z)
 picked-some true xs d z h = (refl, h, refl)
 picked-some false xs d z h = absurd (omega arith)
 
@@ -229,8 +229,8 @@ pair-length k (x ∷ hs) (suc d) h = pair-length k hs d (omega arith)
 pub meeting-length : (c n : ℕ) (v : Value) (d : ℕ) → (isHalved c ≡ true → n ≡ 2) → d < length (meetings c n v) → length (getD (meetings c n v) d []) ≡ n
 meeting-length c n v d two h = go (isHalved c) refl h
   where
-    go : (t : Bool) → isHalved c ≡ t → d < length (pick t (map (pair (collectionOf c)) (split (collectionOf c) (contents (collectionOf c) v))) (met (collectionOf c) n (contents (collectionOf c) v)))
-        → length (getD (pick t (map (pair (collectionOf c)) (split (collectionOf c) (contents (collectionOf c) v))) (met (collectionOf c) n (contents (collectionOf c) v))) d []) ≡ n
+    go : (t : Bool) → isHalved c ≡ t → d < length (cond t (map (pair (collectionOf c)) (split (collectionOf c) (contents (collectionOf c) v))) (met (collectionOf c) n (contents (collectionOf c) v)))
+        → length (getD (cond t (map (pair (collectionOf c)) (split (collectionOf c) (contents (collectionOf c) v))) (met (collectionOf c) n (contents (collectionOf c) v))) d []) ≡ n
     go true e l = pair-length (collectionOf c) (split (collectionOf c) (contents (collectionOf c) v)) d l ∙ sym (two e)
     go false e l = met-length (collectionOf c) n (contents (collectionOf c) v) d l
 
@@ -252,13 +252,13 @@ module _ (table index : List ℕ) (p : ℕ) (r : Readable table index p) (s : Li
     -- the ways, by what is met
     abbrev met-ways : (a m : Option Binding) (v : Value) (st : State) → Tree State
     met-ways a m v st =
-        pick (isLarge (kindAt (records table) p) v) (give (failed st)) (among (meetings (kindAt (records table) p) (length (named (recordAt (records table) p))) v) (give (failed st)) (λ vs. trimEach (hopeful a m) (patternsOf (innerOf table p)) vs st))
+        cond (isLarge (kindAt (records table) p) v) (give (failed st)) (among (meetings (kindAt (records table) p) (length (named (recordAt (records table) p))) v) (give (failed st)) (λ vs. trimEach (hopeful a m) (patternsOf (innerOf table p)) vs st))
 
-    by-hope : (a m : Option Binding) (v : Value) (st : State) → Stands s f st → Bounded s bounds a m → trimmed (hopeful a m) (patternAt (records table) p) v st ≡ pick t (met-ways a m v st) (give (failed st))
+    by-hope : (a m : Option Binding) (v : Value) (st : State) → Stands s f st → Bounded s bounds a m → trimmed (hopeful a m) (patternAt (records table) p) v st ≡ cond t (met-ways a m v st) (give (failed st))
     by-hope a m v st z b =
         tried table index p r c (hopeful a m) v st
-        ∙ ap (λ (n : ℕ). worth (hopeful a m) st (pick (isLarge (kindAt (records table) p) v) (give (failed st)) (among (meetings (kindAt (records table) p) n v) (give (failed st)) (λ vs. trimEach (hopeful a m) (patternsOf (innerOf table p)) vs st)))) inner-count
-        ∙ ap (λ (u : Bool). pick u (met-ways a m v st) (give (failed st))) (sym (o st a m z b))
+        ∙ ap (λ (n : ℕ). worth (hopeful a m) st (cond (isLarge (kindAt (records table) p) v) (give (failed st)) (among (meetings (kindAt (records table) p) n v) (give (failed st)) (λ vs. trimEach (hopeful a m) (patternsOf (innerOf table p)) vs st)))) inner-count
+        ∙ ap (λ (u : Bool). cond u (met-ways a m v st) (give (failed st))) (sym (o st a m z b))
 
     came-failed : (g : Found) → ((s : List ℕ) (st : State) → Stands s f st → Stands s g (failed st)) → (st : State) → Stands s f st → (u : Tree State) → u ≡ give (failed st) → Came s (record { found = g; digits = d }) (walk u (view d))
     came-failed g k st z u e = subst (λ (w : Tree State). Came s (record { found = g; digits = d }) (walk w (view d))) (sym e) (came-give s (record { found = g; digits = d }) (failed st) d refl (k s st z))
@@ -267,13 +267,13 @@ module _ (table index : List ℕ) (p : ℕ) (r : Readable table index p) (s : Li
     pub along-hopeless : t ≡ false → (g : Found) → ((s : List ℕ) (st : State) → Stands s f st → Stands s g (failed st)) → Along table p s part bounds f d (record { found = g; digits = d })
     along-hopeless e g k = record {
       came = λ v st a m q z b.
-          came-failed g k st z (trimmed (hopeful a m) (patternAt (records table) p) v st) (by-hope a m v st z b ∙ ap (λ (u : Bool). pick u (met-ways a m v st) (give (failed st))) e);
+          came-failed g k st z (trimmed (hopeful a m) (patternAt (records table) p) v st) (by-hope a m v st z b ∙ ap (λ (u : Bool). cond u (met-ways a m v st) (give (failed st))) e);
       sound = sd;
     }
 
     module _ (e : t ≡ true) (m : Meeting) (h : Meets (kindAt (records table) p) (length (named (recordAt (records table) p))) s part m) where
       by-meeting : (a b : Option Binding) (v : Value) (st : State) → Stands s f st → Bounded s bounds a b → trimmed (hopeful a b) (patternAt (records table) p) v st ≡ met-ways a b v st
-      by-meeting a b v st z k = by-hope a b v st z k ∙ ap (λ (u : Bool). pick u (met-ways a b v st) (give (failed st))) e
+      by-meeting a b v st z k = by-hope a b v st z k ∙ ap (λ (u : Bool). cond u (met-ways a b v st) (give (failed st))) e
 
       -- no way
       pub along-failed : ((w : ℕ) → m ≡ Ways w → ⊥) → (g : Found) → ((s : List ℕ) (st : State) → Stands s f st → Stands s g (failed st)) → Along table p s part bounds f d (record { found = g; digits = d })

@@ -7,7 +7,7 @@ use mathlib.Core.List.{List, [], _∷_, _++_}
 use Prim.Native.Nat.{ℕ, suc, _+_, _<_}
 use lib.Dec.{eqb}
 use lib.ListN.{take, drop}
-use Rattle.choices.specs.Tree.{limit}
+use Rattle.choices.specs.Tree.{mostChoices}
 use Rattle.meaning.specs.Answer.{numberOf}
 use Rattle.meaning.specs.Walk.{Walk}
 use Rattle.meaning.specs.Lent.{AfterWalk, firstCall, stepCall}
@@ -19,7 +19,7 @@ use Rattle.meaning.specs.Lent.{AfterWalk, firstCall, stepCall}
 pub record Part : Type 0 where
   pub from : ℕ
   pub count : ℕ
-  pub fair : (from ≡ 0) ⊎ (count < limit)
+  pub fair : (from ≡ 0) ⊎ (count < mostChoices)
 
 pub data Service : Type 0 where
   first step : Service

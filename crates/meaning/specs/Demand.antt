@@ -6,10 +6,10 @@ use mathlib.Core.Logic.{_⊎_, _↔_}
 use mathlib.Core.List.{List}
 use Prim.Native.Nat.{ℕ, _≤_, _<_}
 use lib.ListN.{length, drop}
-use Rattle.choices.specs.Tree.{follow, gave, stopped, limit, Outcome, value, refusal, Gives}
+use Rattle.prelude.specs.Membership.{In}
+use Rattle.choices.specs.Tree.{follow, gave, stopped, mostChoices, Outcome, value, refusal, Gives}
 use Rattle.choices.specs.Lists.{Complete, before, CountBefore, First, Next}
-use Rattle.values.specs.Value.{set, Value, boolean, collection, Items, encode, WellFormed, limit as largest}
-use Rattle.patterns.specs.Members.{In}
+use Rattle.values.specs.Value.{set, Value, boolean, collection, Items, encode, WellFormed, valueLimit as largest}
 use Rattle.patterns.specs.Binding.{Binding}
 use Rattle.patterns.specs.Pattern.{listOf}
 use Rattle.patterns.specs.Binder.{bound, formed}
@@ -39,12 +39,12 @@ pub record Held (table : List ℕ) (w : Walk) (k : ℕ) : Type 0 where
 -- The buffers of a call are long enough.
 pub record Enough (c : Call) (w : Walk) : Type 0 where
   pub enough-scratch : scratchBytes ≤ length (c .scratch)
-  pub enough-entries : limit ≤ length (lent (c .part) w .entries)
+  pub enough-entries : mostChoices ≤ length (lent (c .part) w .entries)
 
 -- 1: too little scratch. 10: too few entries.
 pub record Refusals (table : List ℕ) (w : Walk) : Type 0 where
   pub short-scratch : (c : Call) → length (c .scratch) < scratchBytes → called table c w .answer ≡ pack 1 0 0
-  pub few-entries : (c : Call) → scratchBytes ≤ length (c .scratch) → length (lent (c .part) w .entries) < limit → called table c w .answer ≡ pack 10 0 0
+  pub few-entries : (c : Call) → scratchBytes ≤ length (c .scratch) → length (lent (c .part) w .entries) < mostChoices → called table c w .answer ≡ pack 10 0 0
 
 -- With long enough buffers the first list is granted and shows the first complete list.
 pub record FirstAnswers (table : List ℕ) (c : Call) (w : Walk) : Type 0 where
@@ -69,7 +69,7 @@ pub record NoNext (table : List ℕ) (c : Call) (w : Walk) (l : List ℕ) : Type
 
 -- No run meets a 65th choice: under no list of up to 64 bytes does evaluating end in 31.
 abbrev pub NoMany : List ℕ → List ℕ → List ℕ → Type 0
-NoMany table scratch buffer = (l : List ℕ) → Bytes l → length l ≤ limit → numberOf (evaluateCall table l scratch buffer .answer) ≡ 31 → ⊥
+NoMany table scratch buffer = (l : List ℕ) → Bytes l → length l ≤ mostChoices → numberOf (evaluateCall table l scratch buffer .answer) ≡ 31 → ⊥
 
 -- Evaluating answers the outcome: success, with the value's encoding and then zeros in the result buffer; or the refusal's number and place, with
 -- zeros there.
@@ -112,7 +112,7 @@ pub record Demand3 (table : List ℕ) : Type 0 where
   -- After the calls the walk shows the complete list with as many complete lists before it as steps were granted since the last granted first list.
   pub held : (cs : Calls table) → Held table (walkOf cs) (stepsOf cs)
   -- Nothing beyond 64 was touched.
-  pub untouched : (cs : Calls table) → drop limit (walkOf cs .entries) ≡ drop limit (cs .start .entries)
+  pub untouched : (cs : Calls table) → drop mostChoices (walkOf cs .entries) ≡ drop mostChoices (cs .start .entries)
   -- A refusal of either call leaves the walk.
   pub refused : (w : Walk) (c : Call) → (Granted table c w → ⊥) → after table c w ≡ w
   -- What a further call answers: 1 and 10, on any walk; the first list, on any walk; the step, after the calls.

@@ -7,12 +7,12 @@ use mathlib.Core.Option.{some}
 use mathlib.Core.Logic.{_⊎_, _↔_}
 use mathlib.Core.List.{List, [], _∷_, _++_}
 use Prim.Native.Nat.{ℕ}
+use Rattle.prelude.specs.Membership.{In}
 use Rattle.choices.specs.Tree.{value}
 use Rattle.values.specs.Value.{set, sequence, map, Value, boolean, integer, collection, Items, none, more}
 use Rattle.values.specs.Items.{lookup}
 use Rattle.operators.specs.Answer.{is}
 use Rattle.operators.specs.Enumerations.{setOf, sequenceOf, mapOf}
-use Rattle.patterns.specs.Members.{In}
 use Rattle.patterns.specs.Binding.{Binding, only}
 use Rattle.patterns.specs.Pattern.{listOf, itemsOf}
 use Rattle.patterns.specs.Binder.{bound, formed}

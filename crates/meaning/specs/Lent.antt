@@ -1,14 +1,13 @@
 -- What the four services answer and leave in every byte that they are lent, refusals included. Document 01: "1 and 2 change nothing. Otherwise
 -- the first 65,536 scratch bytes end as zero; evaluating sets the first 512 result bytes to the value and then zeros, all zeros when refused.
 -- Bytes beyond are untouched." A table and a list are never changed. An exported function's promise is that it computes one of these four.
-use mathlib.Core.Bool.{Bool, _||_}
+use mathlib.Core.Bool.{Bool, _||_, cond}
 use mathlib.Core.List.{List, _++_}
 use Prim.Native.Nat.{ℕ, _-_}
 use lib.Dec.{eqb}
 use lib.ListN.{length, drop, replicate}
 use Rattle.choices.specs.Tree.{Final, result, refuses}
-use Rattle.values.specs.Value.{Value, encode, limit as largest}
-use Rattle.values.specs.Items.{pick}
+use Rattle.values.specs.Value.{Value, encode, valueLimit as largest}
 use Rattle.meaning.specs.Answer.{number, packed, records, uncounted}
 use Rattle.meaning.specs.Walk.{Walk, overwritten}
 use Rattle.meaning.specs.Service.{scratchBytes, checks, evaluates, firsts, steps}
@@ -28,11 +27,11 @@ abbrev pub isEarly : ℕ → Bool
 isEarly n = eqb n 1 || eqb n 2
 
 abbrev pub scratchAfter : {A : Type 0} → Final A → List ℕ → List ℕ
-scratchAfter answer scratch = pick (isEarly (number answer)) scratch (zeroed scratchBytes scratch)
+scratchAfter answer scratch = cond (isEarly (number answer)) scratch (zeroed scratchBytes scratch)
 
 abbrev pub resultAfter : Final Value → List ℕ → List ℕ
 resultAfter (result v) buffer = filled largest (encode v) buffer
-resultAfter (refuses n p k) buffer = pick (isEarly n) buffer (zeroed largest buffer)
+resultAfter (refuses n p k) buffer = cond (isEarly n) buffer (zeroed largest buffer)
 
 -- A refusal of either call leaves the walk.
 abbrev pub walkAfter : Final (List ℕ) → Walk → Walk

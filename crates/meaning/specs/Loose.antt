@@ -1,23 +1,22 @@
 -- Document 01, "The loose meaning": the outcomes of a record in a state. It knows no list of choices and no order among them.
 -- A set of outcomes is a predicate: `S o` says that o is one of them.
 use mathlib.Core.Path.{_≡_}
-use mathlib.Core.Bool.{Bool, true, false}
+use mathlib.Core.Bool.{Bool, true, false, cond}
 use mathlib.Core.Option.{Option, none as absent, some}
 use mathlib.Core.Logic.{_⊎_}
 use mathlib.Core.List.{List, [], _∷_, _++_}
 use Prim.Native.Nat.{ℕ, zero, suc}
 use lib.Dec.{eqb}
 use lib.ListN.{length}
+use Rattle.prelude.specs.Membership.{In}
 use Rattle.choices.specs.Tree.{Outcome, value, refusal}
 use Rattle.values.specs.Value.{Kind, set, sequence, map, Value, boolean, integer, collection, Items, none, more}
-use Rattle.values.specs.Items.{pick}
 use Rattle.operators.specs.Answer.{Answer, is, refused, Built, built, stopped, asBoolean, asInteger, asSet}
 use Rattle.operators.specs.Booleans.{Left, settles, leaves, left, right}
 use Rattle.operators.specs.Sets.{rangeOf}
 use Rattle.operators.specs.Maps.{applyTo}
 use Rattle.operators.specs.Enumerations.{addMember, addItem, addEntry}
 use Rattle.operators.specs.Operators.{unary, binary}
-use Rattle.patterns.specs.Members.{In}
 use Rattle.patterns.specs.Binding.{Binding}
 use Rattle.patterns.specs.Pattern.{Pattern, listOf}
 use Rattle.patterns.specs.Binder.{Formed, bound, refused as unformed, formed}
@@ -94,15 +93,15 @@ holds rec r c ρ b = rec c (under ρ b) then (λ v. isTrue r v)
 -- Kinds 16 and 17 test all bindings: those that make the condition true.
 unfoldable pub satisfying : Meanings → ℕ → ℕ → State → List Binding → Outcomes (List Binding)
 satisfying rec r c ρ [] = gives []
-satisfying rec r c ρ (b ∷ bs) = holds rec r c ρ b then (λ t. satisfying rec r c ρ bs then (λ sat. gives (pick t (b ∷ sat) sat)))
+satisfying rec r c ρ (b ∷ bs) = holds rec r c ρ b then (λ t. satisfying rec r c ρ bs then (λ sat. gives (cond t (b ∷ sat) sat)))
 
 unfoldable pub untilFalse : (Binding → Outcomes Bool) → List Binding → Outcomes Bool
 untilFalse test [] = gives true
-untilFalse test (b ∷ bs) = test b then (λ t. pick t (untilFalse test bs) (gives false))
+untilFalse test (b ∷ bs) = test b then (λ t. cond t (untilFalse test bs) (gives false))
 
 unfoldable pub untilTrue : (Binding → Outcomes Bool) → List Binding → Outcomes Bool
 untilTrue test [] = gives false
-untilTrue test (b ∷ bs) = test b then (λ t. pick t (gives true) (untilTrue test bs))
+untilTrue test (b ∷ bs) = test b then (λ t. cond t (gives true) (untilTrue test bs))
 
 abbrev pub quantify : Quantifier → Meanings → ℕ → ℕ → State → List Binding → Outcomes Bool
 quantify forall rec r c ρ bs = untilFalse (holds rec r c ρ) bs
@@ -116,7 +115,7 @@ unique r p (b ∷ c ∷ bs) = refuses 25 r
 
 unfoldable pub collected : (Binding → Outcomes Bool) → (Items → Binding → Outcomes Items) → Items → List Binding → Outcomes Items
 collected test add vs [] = gives vs
-collected test add vs (b ∷ bs) = test b then (λ t. pick t (add vs b then (λ ws. collected test add ws bs)) (collected test add vs bs))
+collected test add vs (b ∷ bs) = test b then (λ t. cond t (add vs b then (λ ws. collected test add ws bs)) (collected test add vs bs))
 
 abbrev pub addOne : Meanings → ℕ → (Items → Value → Built) → ℕ → State → Items → Binding → Outcomes Items
 addOne rec r add e ρ vs b = rec e (under ρ b) then (λ v. builtAt r (add vs v))
@@ -183,7 +182,7 @@ looseOf pattern rec r (named x) ρ = orElse 20 r (valueIn ρ x)
 looseOf pattern rec r (unaryOf op a) ρ = rec a ρ then (λ v. at r (unary op v))
 looseOf pattern rec r (binaryOf op a b) ρ = bothOf rec a b ρ (λ v w. at r (binary op v w))
 looseOf pattern rec r (connective c a b) ρ = rec a ρ then (λ v. rightOf rec r b ρ (left c v))
-looseOf pattern rec r (if t a b) ρ = rec t ρ then (λ v. isTrue r v then (λ y. pick y (rec a ρ) (rec b ρ)))
+looseOf pattern rec r (if t a b) ρ = rec t ρ then (λ v. isTrue r v then (λ y. cond y (rec a ρ) (rec b ρ)))
 looseOf pattern rec r (enumeration k operands) ρ = allOf rec operands ρ then (λ vs. at r (enumerated k vs))
 looseOf pattern rec r (range a b) ρ = bothOf rec a b ρ (λ v w. at r (rangeOf v w))
 looseOf pattern rec r (let-in p a b) ρ = rec a ρ then (λ v. body12 r (λ β. rec b (under ρ β)) (formed (pattern p) (v ∷ [])))

@@ -1,6 +1,6 @@
 -- Document 01, "Evaluation" and "From the state of the run": the meaning of a record in a state, as a tree of choices over values.
 -- A leaf is a value, or a refusal with its number and its place. A node is a choice among the bindings of a let-be or a loose let.
-use mathlib.Core.Bool.{Bool, true, false}
+use mathlib.Core.Bool.{Bool, true, false, cond}
 use mathlib.Core.Option.{Option, none as absent, some}
 use mathlib.Core.List.{List, [], _∷_}
 use Prim.Native.Nat.{ℕ, zero, suc}
@@ -8,7 +8,6 @@ use lib.Dec.{eqb}
 use lib.ListN.{length, getD}
 use Rattle.choices.specs.Tree.{Tree, give, stop, choose, bind}
 use Rattle.values.specs.Value.{Kind, set, sequence, map, Value, boolean, integer, collection, Items, none, more}
-use Rattle.values.specs.Items.{pick}
 use Rattle.operators.specs.Answer.{Answer, is, refused, Built, built, stopped, asBoolean, asInteger, asSet}
 use Rattle.operators.specs.Booleans.{Left, settles, leaves, left, right}
 use Rattle.operators.specs.Sets.{rangeOf}
@@ -83,7 +82,7 @@ holds rec r c ρ b = bind (rec c (under ρ b)) (λ v. isTrue r v)
 -- All bindings are tested, in order: those under which the condition holds.
 unfoldable pub satisfying : Evaluates → ℕ → ℕ → State → List Binding → Tree (List Binding)
 satisfying rec r c ρ [] = give []
-satisfying rec r c ρ (b ∷ bs) = bind (holds rec r c ρ b) (λ t. bind (satisfying rec r c ρ bs) (λ sat. give (pick t (b ∷ sat) sat)))
+satisfying rec r c ρ (b ∷ bs) = bind (holds rec r c ρ b) (λ t. bind (satisfying rec r c ρ bs) (λ sat. give (cond t (b ∷ sat) sat)))
 
 -- A choice among bindings.
 abbrev pub chosen : ℕ → List Binding → Tree Binding
@@ -103,11 +102,11 @@ satisfied r (b ∷ bs) = chosen r (b ∷ bs)
 -- forall stops at the first false, exists at the first true.
 unfoldable pub untilFalse : (Binding → Tree Bool) → List Binding → Tree Bool
 untilFalse test [] = give true
-untilFalse test (b ∷ bs) = bind (test b) (λ t. pick t (untilFalse test bs) (give false))
+untilFalse test (b ∷ bs) = bind (test b) (λ t. cond t (untilFalse test bs) (give false))
 
 unfoldable pub untilTrue : (Binding → Tree Bool) → List Binding → Tree Bool
 untilTrue test [] = give false
-untilTrue test (b ∷ bs) = bind (test b) (λ t. pick t (give true) (untilTrue test bs))
+untilTrue test (b ∷ bs) = bind (test b) (λ t. cond t (give true) (untilTrue test bs))
 
 -- exists1 tests all bindings.
 abbrev pub quantify : Quantifier → Evaluates → ℕ → ℕ → State → List Binding → Tree Bool
@@ -124,7 +123,7 @@ unique r p (b ∷ c ∷ bs) = stop 25 r
 -- Comprehensions go binding by binding in order: condition, then what is added, added before the next.
 unfoldable pub collected : (Binding → Tree Bool) → (Items → Binding → Tree Items) → Items → List Binding → Tree Items
 collected test add vs [] = give vs
-collected test add vs (b ∷ bs) = bind (test b) (λ t. pick t (bind (add vs b) (λ ws. collected test add ws bs)) (collected test add vs bs))
+collected test add vs (b ∷ bs) = bind (test b) (λ t. cond t (bind (add vs b) (λ ws. collected test add ws bs)) (collected test add vs bs))
 
 -- An element, or a key and a value, evaluated under a binding and added.
 abbrev pub addOne : Evaluates → ℕ → (Items → Value → Built) → ℕ → State → Items → Binding → Tree Items
@@ -155,7 +154,7 @@ means pattern rec r (named x) ρ = orElse 20 r (valueIn ρ x)
 means pattern rec r (unaryOf op a) ρ = bind (rec a ρ) (λ v. at r (unary op v))
 means pattern rec r (binaryOf op a b) ρ = bothOf rec a b ρ (λ v w. at r (binary op v w))
 means pattern rec r (connective c a b) ρ = bind (rec a ρ) (λ v. rightOf rec r b ρ (left c v))
-means pattern rec r (if t a b) ρ = bind (rec t ρ) (λ v. bind (isTrue r v) (λ y. pick y (rec a ρ) (rec b ρ)))
+means pattern rec r (if t a b) ρ = bind (rec t ρ) (λ v. bind (isTrue r v) (λ y. cond y (rec a ρ) (rec b ρ)))
 means pattern rec r (enumeration k operands) ρ = bind (allOf rec operands ρ) (λ vs. at r (enumerated k vs))
 means pattern rec r (range a b) ρ = bothOf rec a b ρ (λ v w. at r (rangeOf v w))
 means pattern rec r (let-in p a b) ρ =

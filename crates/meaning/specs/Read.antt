@@ -3,8 +3,8 @@ use mathlib.Core.List.{List, [], _∷_}
 use Prim.Native.Nat.{ℕ}
 use lib.Dec.{eqb}
 use lib.ListN.{length, getD}
+use mathlib.Core.Bool.{cond}
 use Rattle.values.specs.Value.{set, sequence, map, tuple}
-use Rattle.values.specs.Items.{pick}
 use Rattle.operators.specs.Booleans.{and, or, implies}
 use Rattle.tables.specs.Record.{Record, booleanOf, integerOf, nameOf, operator, operand, named as operandsOf}
 use Rattle.tables.specs.Table.{cut, recordAt}
@@ -17,7 +17,7 @@ use Rattle.meaning.specs.Sheet.{Sheet}
 -- 1 and, 2 or, 3 => may not evaluate their right; the others evaluate both.
 abbrev pub binaryNode : ℕ → ℕ → ℕ → Node
 binaryNode op a b =
-    pick (eqb op 1) (connective and a b) (pick (eqb op 2) (connective or a b) (pick (eqb op 3) (connective implies a b) (binaryOf op a b)))
+    cond (eqb op 1) (connective and a b) (cond (eqb op 2) (connective or a b) (cond (eqb op 3) (connective implies a b) (binaryOf op a b)))
 
 abbrev pub none : Record → Node
 none r = no-expression

@@ -8,9 +8,10 @@ use Prim.Native.Nat.{ℕ, _≤_, _<_}
 use native.Mathlib.Omega.{arith}
 use lib.Dec.{leb}
 use borrow.Author.Tests.{leb-true}
+use mathlib.Mathlib.Data.Bool.Basic.{and-elim-left, and-elim-right}
+use Rattle.prelude.specs.Membership.{In}
 use Rattle.choices.specs.Tree.{refusal, Gives}
 use Rattle.values.specs.Value.{Value, Items}
-use Rattle.patterns.specs.Members.{In}
 use Rattle.patterns.specs.Binding.{Binding}
 use Rattle.patterns.specs.Pattern.{Pattern, name, listOf}
 use Rattle.patterns.specs.Binder.{bound, formed}
@@ -18,7 +19,6 @@ use Rattle.tables.specs.declared.Checked.the-variants.{Accepted}
 use Rattle.tables.specs.Record.{shape, isKnown, operator}
 use Rattle.tables.specs.Table.{recordAt}
 use Rattle.tables.specs.Check.{check}
-use Rattle.tables.specs.Laws.{and-left, and-right}
 use Rattle.tables.specs.Accepted.{records, accepted-fine, fit-known}
 use Rattle.ways.specs.Read.{patternAt}
 use Rattle.meaning.specs.State.{unbound, valueIn}
@@ -53,11 +53,11 @@ module _ (table : List ℕ) (n : ℕ) (ok : check table ≡ Accepted n) where
         unary-known = λ r e.
             let o = operator (recordAt (records table) r) in
             let h = known r 4 e (omega arith) in
-            (leb-true 1 o (and-left _ (leb o 15) h), leb-true o 15 (and-right (leb 1 o) _ h));
+            (leb-true 1 o (and-elim-left _ (leb o 15) h), leb-true o 15 (and-elim-right (leb 1 o) _ h));
         binary-known = λ r e.
             let o = operator (recordAt (records table) r) in
             let h = known r 5 e (omega arith) in
-            (leb-true 1 o (and-left _ (leb o 28) h), leb-true o 28 (and-right (leb 1 o) _ h));
+            (leb-true 1 o (and-elim-left _ (leb o 28) h), leb-true o 28 (and-elim-right (leb 1 o) _ h));
         iota-named = λ r e. named-pattern table n ok r unbound e;
         iota-valued = λ r e vs bs f β i.
             let x = nameIn table r in

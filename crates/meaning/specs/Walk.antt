@@ -3,7 +3,7 @@ use mathlib.Core.Path.{_≡_}
 use mathlib.Core.List.{List, [], _∷_, _++_}
 use Prim.Native.Nat.{ℕ, _<_}
 use lib.ListN.{length, take, drop}
-use Rattle.choices.specs.Tree.{limit}
+use Rattle.choices.specs.Tree.{mostChoices}
 use Rattle.choices.specs.State.{padded}
 
 -- Entries are bytes.
@@ -22,9 +22,9 @@ listed w = take (w .len) (w .entries)
 
 -- A granted call writes 64 entries, the list and zeros after its end, and the length. It leaves what lies beyond 64.
 unfoldable pub overwritten : List ℕ → Walk → Walk
-overwritten l w = record { entries = padded l ++ drop limit (w .entries); len = length l }
+overwritten l w = record { entries = padded l ++ drop mostChoices (w .entries); len = length l }
 
 -- The walk shows the list l: the length, the entries, and zeros to 64.
 pub record Shows (w : Walk) (l : List ℕ) : Type 0 where
   pub its-length : w .len ≡ length l
-  pub its-entries : take limit (w .entries) ≡ padded l
+  pub its-entries : take mostChoices (w .entries) ≡ padded l

@@ -9,8 +9,8 @@ use lib.ListN.{length, getD, take, drop, take-append-drop}
 use Rattle.values.specs.Value.{set, sequence, Value, collection, Items, more, kindOf, sizes}
 use Rattle.values.specs.Items.{join}
 use Rattle.values.specs.Place.{ItemsAt}
-use Rattle.values.specs.Encoding.{collection-size, join-sizes}
-use Rattle.values.specs.Records.{parted}
+use Rattle.values.proofs.Encoding.{collection-size, join-sizes}
+use Rattle.values.proofs.Records.{parted}
 use Rattle.patterns.specs.Ways.{halves, splits, cuts}
 use Rattle.patterns.specs.Pattern.{itemsOf, leftOf, rightOf}
 use Rattle.parts.specs.declared.Part.{Part}

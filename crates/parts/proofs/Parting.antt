@@ -14,8 +14,8 @@ use Rattle.values.specs.Value.{Kind, number, Value, boolean, collection, kindOf
 use Rattle.values.specs.Place.{At, ItemsAt, Holds}
 use Rattle.values.specs.Contract.{Length, KindAt, Ordered}
 use Rattle.integers.specs.Order.{orderℕ}
-use Rattle.integers.specs.Ordered.{lt-lower, gt-higher, eq-same}
-use Rattle.values.specs.Records.{holds, items-to, is-collection}
+use Rattle.integers.proofs.Ordered.{lt-lower, gt-higher, eq-same}
+use Rattle.values.proofs.Records.{holds, items-to, is-collection}
 use Rattle.patterns.specs.Pattern.{listOf, itemsOf}
 use Rattle.parts.specs.declared.Part.{Part}
 use Rattle.parts.specs.declared.runs.Run.{Run}

@@ -1,6 +1,6 @@
 -- Writing what a run or a part denotes, said of lists, places and numbers alone.
 use mathlib.Core.Path.{_≡_, refl, sym, ap, subst, _∙_}
-use mathlib.Core.Bool.{Bool, true, false}
+use mathlib.Core.Bool.{Bool, true, false, cond}
 use mathlib.Core.Logic.{inl, inr}
 use mathlib.Core.List.{List, [], _∷_, _++_, append-assoc, append-nil}
 use Prim.Native.Nat.{ℕ, _+_, _-_, _≤_, _<_}
@@ -9,14 +9,14 @@ use lib.Dec.{eqb}
 use lib.ListN.{length}
 use lib.Seq.{sets}
 use Rattle.integers.specs.Bytes.{word}
-use Rattle.values.specs.Value.{Kind, set, sequence, map as mapping, tuple, number, Value, collection, none, more, size, sizes, limit}
-use Rattle.values.specs.Items.{pick, join}
+use Rattle.values.specs.Value.{Kind, set, sequence, map as mapping, tuple, number, Value, collection, none, more, size, sizes, valueLimit}
+use Rattle.values.specs.Items.{join}
 use Rattle.values.specs.Place.{At, ItemsAt, Outside}
-use Rattle.values.specs.Contract.{Copyable, Copied, PutHead}
-use Rattle.values.specs.Encoding.{collection-size, join-sizes}
-use Rattle.values.specs.Records.{holds, word-size, no-items, one-more, collection-shaped}
-use Rattle.values.specs.Frame.{items-below, outside-none, outside-then, word-below}
-use Rattle.values.specs.Written.{heading, closed}
+use Rattle.values.specs.Contract.{Copyable, Copied, PutHead, heading}
+use Rattle.values.proofs.Encoding.{collection-size, join-sizes}
+use Rattle.values.proofs.Records.{holds, word-size, no-items, one-more, collection-shaped}
+use Rattle.values.proofs.Frame.{items-below, outside-none, outside-then, word-below}
+use Rattle.values.proofs.Written.{headed-collection}
 use Rattle.patterns.specs.Pattern.{itemsOf}
 use Rattle.patterns.specs.Named.{part-sizes}
 use Rattle.parts.specs.declared.Part.{Part}
@@ -35,11 +35,11 @@ chosen-sizes : (m : ℕ) (vs : List Value) → sizes (itemsOf (chosen m vs)) ≤
 unfolding chosen
 chosen-sizes m vs = go (eqb m everyOne)
   where
-    go : (t : Bool) → sizes (itemsOf (pick t vs (keep m vs))) ≤ sizes (itemsOf vs)
+    go : (t : Bool) → sizes (itemsOf (cond t vs (keep m vs))) ≤ sizes (itemsOf vs)
     go true = omega arith
     go false = part-sizes (keep m vs) vs (keep-part m vs)
 
-run-short : {s : List ℕ} {r : Run} (vs : List Value) → RunIs s r vs → sizes (itemsOf vs) ≤ limit
+run-short : {s : List ℕ} {r : Run} (vs : List Value) → RunIs s r vs → sizes (itemsOf vs) ≤ valueLimit
 run-short {r = r} vs h =
     let e = ap (λ (l : List Value). sizes (itemsOf l)) (h .is) in
     let g = h .here .short in
@@ -256,4 +256,4 @@ module _ {s : List ℕ} {p : Part} {base : ℕ} (h : Puttable s p base) where
           let z = collection-size l (itemsOf vs) in
           let n : k ≡ number l = kinds (collection l (itemsOf vs)) a in
           let bytes = g .bytes ∙ ap (λ (m : ℕ). sets t base (heading (e - base) m)) n in
-          subst (At u base) (sym d) (closed (e - base) bytes (omega arith) (omega arith) (collection-shaped q) i)
+          subst (At u base) (sym d) (headed-collection (e - base) bytes (omega arith) (omega arith) (collection-shaped q) i)

@@ -8,11 +8,12 @@ use native.Mathlib.Numerals.{add-one}
 use native.Mathlib.Omega.{arith}
 use lib.ListN.{length, getD, drop, length-drop}
 use lib.Seq.{drop-cons}
+use Rattle.prelude.proofs.Absurd.{impossible}
 use Rattle.integers.specs.Bytes.{word}
 use Rattle.values.specs.Value.{Value, boolean, none, more, size, sizes, after}
 use Rattle.values.specs.Place.{At, ItemsAt}
-use Rattle.values.specs.Encoding.{size-low}
-use Rattle.values.specs.Records.{first-of, items-none, one-list, word-size}
+use Rattle.values.proofs.Encoding.{size-low}
+use Rattle.values.proofs.Records.{first-of, items-none, one-list, word-size}
 use Rattle.patterns.specs.Pattern.{listOf, itemsOf}
 use Rattle.patterns.specs.Matched.{list-items}
 use Rattle.parts.specs.declared.runs.Run.{Run}
@@ -154,7 +155,7 @@ unfolding itemsOf sizes
 more-less {s} {r} {v} {vs} h = go (h .all) (h .here) (h .is)
   where
     go : (all : List Value) → Stand s (r .from) (r .to) all → v ∷ vs ≡ chosen (r .mask) all → r .from < r .to
-    go [] g e = let z : v ∷ vs ≡ [] = e ∙ chosen-none (r .mask) in let y : _≡_ {A = ℕ} 0 1 = cc in absurd (omega arith)
+    go [] g e = let z : v ∷ vs ≡ [] = e ∙ chosen-none (r .mask) in impossible cc
     go (x ∷ xs) g e = let d : r .from + (size x + sizes (itemsOf xs)) ≡ r .to = g .ends in omega (arith, size-low x)
 
 pub more-held : {s : List ℕ} {r : Run} → r .from < r .to → RunHeld s r → MoreHeld s r

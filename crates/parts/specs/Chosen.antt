@@ -1,6 +1,6 @@
 -- Units that the bits of a number choose, and the splits and cuts by their number; for units of any type.
 use mathlib.Core.Path.{_≡_, refl, sym, ap, _∙_}
-use mathlib.Core.Bool.{Bool, true, false}
+use mathlib.Core.Bool.{Bool, true, false, cond}
 use mathlib.Core.List.{List, [], _∷_, _++_, map}
 use Prim.Native.Nat.{ℕ, zero, suc, _+_, _*_, _-_, _/_, _%_, _^_, _≤_, _<_}
 use native.Mathlib.Nat.{pow-suc}
@@ -9,7 +9,6 @@ use lib.Dec.{eqb, ltb}
 use lib.ListN.{length, getD, take, drop, length-append, length-map, List·getD-append}
 use lib.Seq.{getD-append-add}
 use borrow.Author.Tests.{eq-eqb, ne-eqb, ltb-true, ltb-false}
-use Rattle.values.specs.Items.{pick}
 use Rattle.patterns.specs.Ways.{Halves, halves, toLeft, toRight, splits, cuts}
 
 -- ---- chosen by bits
@@ -20,21 +19,21 @@ odd m = eqb (m % 2) 1
 
 unfoldable pub keep : {A : Type 0} → ℕ → List A → List A
 keep m [] = []
-keep m (x ∷ xs) = pick (odd m) (x ∷ keep (m / 2) xs) (keep (m / 2) xs)
+keep m (x ∷ xs) = cond (odd m) (x ∷ keep (m / 2) xs) (keep (m / 2) xs)
 
 -- A mask of at most seven bits, or this number for every unit, however many there are.
 abbrev pub everyOne : ℕ
 everyOne = 255
 
 unfoldable pub chosen : {A : Type 0} → ℕ → List A → List A
-chosen m xs = pick (eqb m everyOne) xs (keep m xs)
+chosen m xs = cond (eqb m everyOne) xs (keep m xs)
 
 -- ---- splits by number
 
 -- The d-th split: the first unit is on the left in the first half of them.
 unfoldable pub splitAt : {A : Type 0} → List A → ℕ → Halves A
 splitAt [] d = halves [] []
-splitAt (x ∷ xs) d = pick (ltb d (2 ^ length xs)) (toLeft x (splitAt xs d)) (toRight x (splitAt xs (d - 2 ^ length xs)))
+splitAt (x ∷ xs) d = cond (ltb d (2 ^ length xs)) (toLeft x (splitAt xs d)) (toRight x (splitAt xs (d - 2 ^ length xs)))
 
 pub power-pos : (n : ℕ) → 0 < 2 ^ n
 power-pos zero = omega arith
@@ -65,7 +64,7 @@ module _ {A : Type 0} where
   keep-few m [] = omega arith
   keep-few m (x ∷ xs) = go (odd m) (keep-few (m / 2) xs)
     where
-      go : (b : Bool) → length (keep (m / 2) xs) ≤ length xs → length (pick b (x ∷ keep (m / 2) xs) (keep (m / 2) xs)) ≤ suc (length xs)
+      go : (b : Bool) → length (keep (m / 2) xs) ≤ length xs → length (cond b (x ∷ keep (m / 2) xs) (keep (m / 2) xs)) ≤ suc (length xs)
       go true h = omega arith
       go false h = omega arith
 
@@ -93,7 +92,7 @@ module _ {A : Type 0} where
   unfolding chosen keep
   chosen-none m = go (eqb m everyOne)
     where
-      go : (t : Bool) → pick {A = List A} t [] [] ≡ []
+      go : (t : Bool) → cond {A = List A} t [] [] ≡ []
       go true = refl
       go false = refl
 
@@ -137,7 +136,7 @@ nth-split {A} (x ∷ xs) d h lt = go (ltb d (2 ^ length xs)) refl (λ e l. nth-s
     n = length-map (splits xs) (toLeft x) ∙ splits-length xs
 
     go : (t : Bool) → ltb d (2 ^ length xs) ≡ t → ((e : ℕ) → e < 2 ^ length xs → getD (splits xs) e h ≡ splitAt xs e)
-        → getD (ls ++ rs) d h ≡ pick t (toLeft x (splitAt xs d)) (toRight x (splitAt xs (d - 2 ^ length xs)))
+        → getD (ls ++ rs) d h ≡ cond t (toLeft x (splitAt xs d)) (toRight x (splitAt xs (d - 2 ^ length xs)))
     go true e rec =
         let l = ltb-true d (2 ^ length xs) e in
         let m = splits-length xs in

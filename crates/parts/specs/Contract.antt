@@ -4,7 +4,7 @@ use mathlib.Core.List.{List, []}
 use Prim.Native.Nat.{ℕ, _+_, _^_, _≤_, _<_}
 use lib.ListN.{length, getD}
 use Rattle.integers.specs.declared.Order.{Order}
-use Rattle.values.specs.Value.{Kind, set, sequence, Value, collection, kindOf, size, order, limit}
+use Rattle.values.specs.Value.{Kind, set, sequence, Value, collection, kindOf, size, order, valueLimit}
 use Rattle.values.specs.Place.{At, Outside}
 use Rattle.patterns.specs.Ways.{Halves as Split, halves, splits, cuts}
 use Rattle.patterns.specs.Pattern.{itemsOf, leftOf, rightOf}
@@ -98,11 +98,11 @@ pub record Puttable (s : List ℕ) (p : Part) (base : ℕ) : Type 0 where
   pub value : Value
   pub here : PartIs s p value
   pub below : endOf s p ≤ base
-  pub room : base + limit ≤ length s
+  pub room : base + valueLimit ≤ length s
 
 -- t is s with the record of the value at a place; it ends at r
 pub record PutPart (s t : List ℕ) (p : Part) (base r : ℕ) : Type 0 where
   pub outside : Outside s t base r
-  pub high : r ≤ base + limit
+  pub high : r ≤ base + valueLimit
   pub ends : (v : Value) → PartIs s p v → r ≡ base + size v
   pub right : (v : Value) → PartIs s p v → At t base v

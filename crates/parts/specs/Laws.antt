@@ -1,6 +1,6 @@
 -- Laws of parts: one part denotes one value, which is well-formed; and what is written above a part leaves it as it is.
 use mathlib.Core.Path.{_≡_, refl, sym, ap, subst, _∙_}
-use mathlib.Core.Bool.{Bool, true, false}
+use mathlib.Core.Bool.{Bool, true, false, cond}
 use mathlib.Core.Logic.{inl, inr}
 use mathlib.Core.List.{List, [], _∷_}
 use Prim.Native.Nat.{ℕ, _+_, _/_, _≤_}
@@ -10,12 +10,11 @@ use lib.Seq.{take-take}
 use borrow.Author.Tests.{eq-eqb, ne-eqb}
 use Rattle.integers.specs.Bytes.{word}
 use Rattle.values.specs.Value.{Kind, set, sequence, number, Value, collection, Items, kindOf, WellFormed}
-use Rattle.values.specs.Items.{pick}
 use Rattle.values.specs.Place.{At}
-use Rattle.values.specs.Encoding.{size-low}
-use Rattle.values.specs.Laws.{number-low, number-inj}
-use Rattle.values.specs.Records.{is-collection, one-value, one-list, word-size, well-formed-collection}
-use Rattle.values.specs.Frame.{kept, items-kept, word-kept}
+use Rattle.values.proofs.Encoding.{size-low}
+use Rattle.values.proofs.Order.{number-low, number-inj}
+use Rattle.values.proofs.Records.{is-collection, one-value, one-list, word-size, well-formed-collection}
+use Rattle.values.proofs.Frame.{kept, items-kept, word-kept}
 use Rattle.patterns.specs.Pattern.{listOf, itemsOf}
 use Rattle.patterns.specs.Matched.{items-list, list-items}
 use Rattle.patterns.specs.Named.{PartOf, part-fine}
@@ -74,7 +73,7 @@ unfolding keep
 keep-part m [] = refl
 keep-part m (v ∷ vs) = go (odd m) (keep-part (m / 2) vs)
   where
-    go : (b : Bool) → PartOf (keep (m / 2) vs) vs → PartOf (pick b (v ∷ keep (m / 2) vs) (keep (m / 2) vs)) (v ∷ vs)
+    go : (b : Bool) → PartOf (keep (m / 2) vs) vs → PartOf (cond b (v ∷ keep (m / 2) vs) (keep (m / 2) vs)) (v ∷ vs)
     go true h = inr (keep (m / 2) vs, refl, h)
     go false h = inl h
 

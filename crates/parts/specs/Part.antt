@@ -5,9 +5,9 @@ use mathlib.Core.List.{List}
 use Prim.Native.Nat.{ℕ, _+_, _^_, _≤_, _<_}
 use lib.Dec.{eqb}
 use lib.ListN.{length}
+use mathlib.Core.Bool.{cond}
 use Rattle.integers.specs.Bytes.{word}
-use Rattle.values.specs.Value.{set, sequence, Value, collection, sizes, limit}
-use Rattle.values.specs.Items.{pick}
+use Rattle.values.specs.Value.{set, sequence, Value, collection, sizes, valueLimit}
 use Rattle.values.specs.Place.{At, ItemsAt}
 use Rattle.patterns.specs.Binding.{Cell, free, is}
 use Rattle.patterns.specs.Pattern.{itemsOf}
@@ -26,7 +26,7 @@ pub record Selects (s : List ℕ) (at mask : ℕ) (v : Value) : Type 0 where
 pub record Spans (s : List ℕ) (from to : ℕ) (v : Value) : Type 0 where
   pub items : List Value
   pub here : ItemsAt s from to (itemsOf items)
-  pub short : 4 + sizes (itemsOf items) ≤ limit
+  pub short : 4 + sizes (itemsOf items) ≤ valueLimit
   pub is : v ≡ collection sequence (itemsOf items)
 
 -- A part denotes v.
@@ -40,7 +40,7 @@ pub record PartHeld (s : List ℕ) (p : Part) : Type 0 where
 
 -- Where the bytes of a part end.
 abbrev pub endOf : List ℕ → Part → ℕ
-endOf s p = pick (eqb (p .how) 3) (p .extent) (p .at + word s (p .at))
+endOf s p = cond (eqb (p .how) 3) (p .extent) (p .at + word s (p .at))
 
 -- A part stands for what is said of a name: nothing, or a value.
 abbrev pub CellIs : List ℕ → Part → Cell → Type 0

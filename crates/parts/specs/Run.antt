@@ -5,7 +5,7 @@ use Prim.Native.Nat.{ℕ, _+_, _-_, _%_, _≤_, _<_}
 use lib.ListN.{length, drop}
 use Rattle.integers.specs.declared.Order.{Order}
 use Rattle.integers.specs.Bytes.{word}
-use Rattle.values.specs.Value.{Kind, Value, collection, orderItems, limit}
+use Rattle.values.specs.Value.{Kind, Value, collection, orderItems, valueLimit}
 use Rattle.values.specs.Place.{ItemsAt, Outside}
 use Rattle.patterns.specs.Pattern.{itemsOf}
 use Rattle.parts.specs.declared.Part.{Part}
@@ -62,7 +62,7 @@ pub record RestOf (s : List ℕ) (r q : Run) : Type 0 where
 -- r has the items of the collection that p denotes
 pub record RunOf (s : List ℕ) (p : Part) (r : Run) : Type 0 where
   pub ends : r .to ≤ endOf s p
-  pub short : r .to + 4 ≤ r .from + limit
+  pub short : r .to + 4 ≤ r .from + valueLimit
   pub every : (p .how ≡ 2 → ⊥) → r .mask ≡ everyOne
   pub right : (k : Kind) (vs : List Value) → PartIs s p (collection k (itemsOf vs)) → RunIs s r vs
 

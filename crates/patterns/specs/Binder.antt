@@ -3,8 +3,8 @@ use mathlib.Core.List.{List}
 use Prim.Native.Nat.{ℕ}
 use lib.Dec.{leb}
 use lib.ListN.{length}
+use mathlib.Core.Bool.{cond}
 use Rattle.values.specs.Value.{Value}
-use Rattle.values.specs.Items.{pick}
 use Rattle.patterns.specs.Ways.{gather, exists}
 use Rattle.patterns.specs.Binding.{Binding, sorted}
 use Rattle.patterns.specs.Pattern.{Pattern, matches, wide}
@@ -23,8 +23,8 @@ pub data Formed : Type 0 where
   refused : ℕ → Formed
 
 abbrev pub few : List Binding → Formed
-few bs = pick (leb (length bs) mostBindings) (bound bs) (refused 30)
+few bs = cond (leb (length bs) mostBindings) (bound bs) (refused 30)
 
 -- All are formed before the first condition is evaluated; 29 comes before 30.
 abbrev pub formed : Pattern → List Value → Formed
-formed p vs = pick (exists vs (wide p)) (refused 29) (few (bindings p vs))
+formed p vs = cond (exists vs (wide p)) (refused 29) (few (bindings p vs))

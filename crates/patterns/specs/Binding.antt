@@ -1,12 +1,12 @@
 -- Bindings: a value for each name that a pattern holds; what two bindings say together; and their order.
-use mathlib.Core.Bool.{Bool, true, false}
+use mathlib.Core.Bool.{Bool, true, false, cond}
 use mathlib.Core.List.{List, [], _∷_, _++_}
 use Prim.Native.Nat.{ℕ}
 use lib.ListN.{getD, replicate, set}
 use Rattle.integers.specs.declared.Order.{Order}
 use Rattle.integers.specs.declared.Order.the-variants.{Lower, Same, Higher}
 use Rattle.values.specs.Value.{Value, order, after}
-use Rattle.values.specs.Items.{pick, same, inOrder}
+use Rattle.values.specs.Items.{same, inOrder}
 
 -- What is said of a name: nothing, a value, or two different values.
 pub data Cell : Type 0 where
@@ -39,7 +39,7 @@ cellOf b x = getD b x free
 abbrev pub agree : Cell → Cell → Cell
 agree free c = c
 agree (is v) free = is v
-agree (is v) (is w) = pick (same v w) (is v) clash
+agree (is v) (is w) = cond (same v w) (is v) clash
 agree (is v) clash = clash
 agree clash c = clash
 
@@ -58,7 +58,7 @@ consistent (clash ∷ bs) = false
 -- Every binding of the one with every binding of the other, where they are consistent.
 unfoldable pub withEach : Binding → List Binding → List Binding
 withEach b [] = []
-withEach b (c ∷ cs) = pick (consistent (merge b c)) (merge b c ∷ withEach b cs) (withEach b cs)
+withEach b (c ∷ cs) = cond (consistent (merge b c)) (merge b c ∷ withEach b cs) (withEach b cs)
 
 unfoldable pub together : List Binding → List Binding → List Binding
 together [] cs = []

@@ -2,11 +2,11 @@
 use mathlib.Core.Path.{_≡_, refl, sym, ap, subst, _∙_}
 use mathlib.Core.Logic.{_⊎_, inl, inr, ⊎-elim, _↔_}
 use mathlib.Core.List.{List, [], _∷_}
+use Rattle.prelude.specs.Membership.{In}
 use Rattle.integers.specs.declared.Order.the-variants.{Lower}
 use Rattle.values.specs.Value.{Value, order, Before, Ascending}
-use Rattle.values.specs.Laws.{irreflexive, asymmetric}
+use Rattle.values.proofs.Order.{irreflexive, asymmetric}
 use Rattle.patterns.specs.Ways.{halves, splits}
-use Rattle.patterns.specs.Members.{In}
 use Rattle.patterns.specs.Units.{Shared, in-splits}
 use Rattle.patterns.specs.Pattern.{itemsOf}
 use Rattle.patterns.specs.Named.{PartOf, shared-left, shared-right, part-ascending}

@@ -1,14 +1,13 @@
 -- What each answer of forming the bindings says.
 use mathlib.Core.Path.{_≡_, refl}
-use mathlib.Core.Bool.{Bool, true, false}
+use mathlib.Core.Bool.{Bool, true, false, cond}
 use mathlib.Core.List.{List, [], _∷_}
-use Prim.Native.Nat.{ℕ, _≤_}
-use native.Mathlib.Omega.{arith}
+use Prim.Native.Nat.{_≤_}
 use lib.Dec.{leb}
 use lib.ListN.{length}
 use borrow.Author.Tests.{leb-true, le-leb}
+use Rattle.prelude.proofs.Absurd.{impossible}
 use Rattle.values.specs.Value.{Value}
-use Rattle.values.specs.Items.{pick}
 use Rattle.patterns.specs.Ways.{exists}
 use Rattle.patterns.specs.Binding.{Binding}
 use Rattle.patterns.specs.Pattern.{Pattern, wide, loose}
@@ -25,12 +24,12 @@ pub record Forms (p : Pattern) (vs : List Value) (bs : List Binding) : Type 0 wh
 pub formed-bound : (p : Pattern) (vs : List Value) (bs : List Binding) → formed p vs ≡ bound bs → Forms p vs bs
 formed-bound p vs bs e = go (exists vs (wide p)) refl (leb (length (bindings p vs)) mostBindings) refl e
   where
-    go : (t : Bool) → exists vs (wide p) ≡ t → (u : Bool) → leb (length (bindings p vs)) mostBindings ≡ u → pick t (refused 29) (pick u (bound (bindings p vs)) (refused 30)) ≡ bound bs → Forms p vs bs
-    go true f u g e = let z : _≡_ {A = ℕ} 0 1 = cc in absurd (omega arith)
+    go : (t : Bool) → exists vs (wide p) ≡ t → (u : Bool) → leb (length (bindings p vs)) mostBindings ≡ u → cond t (refused 29) (cond u (bound (bindings p vs)) (refused 30)) ≡ bound bs → Forms p vs bs
+    go true f u g e = impossible cc
     go false f true g e =
         let d : bs ≡ bindings p vs = cc in
         record { all = d; few-enough = rw d (leb-true (length (bindings p vs)) mostBindings g); narrow = f }
-    go false f false g e = let z : _≡_ {A = ℕ} 0 1 = cc in absurd (omega arith)
+    go false f false g e = impossible cc
 
 pub bound-formed : (p : Pattern) (vs : List Value) → exists vs (wide p) ≡ false → length (bindings p vs) ≤ mostBindings → formed p vs ≡ bound (bindings p vs)
 bound-formed p vs f h = rw (f, le-leb (length (bindings p vs)) mostBindings h)

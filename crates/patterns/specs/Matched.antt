@@ -1,6 +1,6 @@
 -- `matches` lists exactly the bindings with which a pattern matches a value; a binder's bindings are exactly those of some value, in order.
 use mathlib.Core.Path.{_≡_, refl, sym, ap, ap₂, subst, _∙_}
-use mathlib.Core.Bool.{Bool, true, false}
+use mathlib.Core.Bool.{Bool, true, false, cond}
 use mathlib.Core.Logic.{_⊎_, inl, inr, _↔_}
 use mathlib.Core.Option.{Option, none as absent, some}
 use mathlib.Core.List.{List, [], _∷_}
@@ -9,11 +9,14 @@ use native.Mathlib.Omega.{arith}
 use lib.Dec.{eqb}
 use lib.ListN.{length, length-set}
 use borrow.Author.Tests.{eq-eqb, eqb-true}
+use Rattle.prelude.proofs.Absurd.{impossible}
+use Rattle.prelude.specs.Membership.{In}
+use Rattle.prelude.proofs.Membership.{in-one, in-left, in-right, in-joined, in-picked, picked-in}
 use Rattle.values.specs.Value.{Kind, set, sequence, map as mapping, tuple, number, Value, boolean, integer, collection, Items, none, more}
-use Rattle.values.specs.Items.{pick, same}
-use Rattle.values.specs.Laws.{number-inj, same-true, true-same}
+use Rattle.values.specs.Items.{same}
+use Rattle.values.proofs.Order.{number-inj, same-true, true-same}
 use Rattle.patterns.specs.Ways.{gather, Halves, halves}
-use Rattle.patterns.specs.Members.{In, in-one, in-left, in-right, in-joined, in-picked, picked-in, in-gather, gather-in}
+use Rattle.patterns.specs.Members.{in-gather, gather-in}
 use Rattle.patterns.specs.Units.{in-splits, in-cuts, in-orders}
 use Rattle.patterns.specs.Binding.{Cell, free, is, clash, Binding, names, nothing, only, cellOf, agree, merge, consistent, withEach, together}
 use Rattle.patterns.specs.Pattern.{Pattern, name, any, literal, each, halved, Patterns, nil, cons, parts, listOf, itemsOf, contents, arrangements, divisions, met, split, leftOf, rightOf, matches, matchEach}
@@ -53,15 +56,15 @@ is-agree : (x y : Cell) (b : Binding) → consistent (agree x y ∷ b) ≡ true 
 unfolding consistent
 is-agree free free b h = (refl, h)
 is-agree free (is w) b h = (refl, h)
-is-agree free clash b h = let z : _≡_ {A = ℕ} 0 1 = cc in absurd (omega arith)
+is-agree free clash b h = impossible cc
 is-agree (is v) free b h = (refl, h)
 is-agree (is v) (is w) b h = go (same v w) refl h
   where
-    go : (t : Bool) → same v w ≡ t → consistent (pick t (is v) clash ∷ b) ≡ true → ((v ≡ w) × (pick t (is v) clash ≡ is v)) × (consistent b ≡ true)
+    go : (t : Bool) → same v w ≡ t → consistent (cond t (is v) clash ∷ b) ≡ true → ((v ≡ w) × (cond t (is v) clash ≡ is v)) × (consistent b ≡ true)
     go true e h = ((same-true v w e, refl), h)
-    go false e h = let z : _≡_ {A = ℕ} 0 1 = cc in absurd (omega arith)
-is-agree (is v) clash b h = let z : _≡_ {A = ℕ} 0 1 = cc in absurd (omega arith)
-is-agree clash y b h = let z : _≡_ {A = ℕ} 0 1 = cc in absurd (omega arith)
+    go false e h = impossible cc
+is-agree (is v) clash b h = impossible cc
+is-agree clash y b h = impossible cc
 
 agreed-merge : (a b c : Binding) → length b ≡ length a → length c ≡ length a → ((x : ℕ) → x < length a → Agree (cellOf a x) (cellOf b x) (cellOf c x))
     → (c ≡ merge a b) × (consistent (merge a b) ≡ true)
@@ -97,7 +100,7 @@ unfolding withEach
 in-withEach c a [] i = absurd i
 in-withEach c a (b ∷ bs) i = go (consistent (merge a b)) refl i (λ j. in-withEach c a bs j)
   where
-    go : (t : Bool) → consistent (merge a b) ≡ t → In c (pick t (merge a b ∷ withEach a bs) (withEach a bs))
+    go : (t : Bool) → consistent (merge a b) ≡ t → In c (cond t (merge a b ∷ withEach a bs) (withEach a bs))
         → (In c (withEach a bs) → (d : Binding) × In d bs × (consistent (merge a d) ≡ true) × (c ≡ merge a d))
         → (d : Binding) × In d (b ∷ bs) × (consistent (merge a d) ≡ true) × (c ≡ merge a d)
     go true e (inl f) rest = (b, inl refl, e, f)
@@ -112,7 +115,7 @@ withEach-in a b (d ∷ bs) (inl p) e =
     rw f (inl (ap (merge a) p))
 withEach-in a b (d ∷ bs) (inr i) e = go (consistent (merge a d)) (withEach-in a b bs i e)
   where
-    go : (t : Bool) → In (merge a b) (withEach a bs) → In (merge a b) (pick t (merge a d ∷ withEach a bs) (withEach a bs))
+    go : (t : Bool) → In (merge a b) (withEach a bs) → In (merge a b) (cond t (merge a d ∷ withEach a bs) (withEach a bs))
     go true j = inr j
     go false j = j
 
@@ -151,15 +154,15 @@ pub contents-of : (k : Kind) (vs : List Value) → contents k (collection k (ite
 contents-of k vs = rw (eq-eqb (number k) (number k) refl) (ap some (list-items vs))
 
 pub of-contents : (k : Kind) (v : Value) (vs : List Value) → contents k v ≡ some vs → v ≡ collection k (itemsOf vs)
-of-contents k (boolean b) vs e = let z : _≡_ {A = ℕ} 0 1 = cc in absurd (omega arith)
-of-contents k (integer z) vs e = let z : _≡_ {A = ℕ} 0 1 = cc in absurd (omega arith)
+of-contents k (boolean b) vs e = impossible cc
+of-contents k (integer z) vs e = impossible cc
 of-contents k (collection l ws) vs e = go (eqb (number k) (number l)) refl e
   where
-    go : (t : Bool) → eqb (number k) (number l) ≡ t → pick t (some (listOf ws)) absent ≡ some vs → collection l ws ≡ collection k (itemsOf vs)
+    go : (t : Bool) → eqb (number k) (number l) ≡ t → cond t (some (listOf ws)) absent ≡ some vs → collection l ws ≡ collection k (itemsOf vs)
     go true f e =
         let d : listOf ws ≡ vs = cc in
         ap₂ collection (sym (number-inj k l (eqb-true (number k) (number l) f))) (sym (items-list ws) ∙ ap itemsOf d)
-    go false f e = let z : _≡_ {A = ℕ} 0 1 = cc in absurd (omega arith)
+    go false f e = impossible cc
 
 -- ---- what the parts of a pattern meet
 

@@ -10,10 +10,11 @@ use lib.Dec.{eqb}
 use lib.ListN.{getD-replicate}
 use lib.Seq.{getD-set-same, getD-set-other}
 use borrow.Author.Tests.{eq-eqb, ne-eqb}
+use Rattle.prelude.specs.Membership.{In}
+use Rattle.prelude.proofs.Membership.{in-left, in-right, in-joined}
 use Rattle.values.specs.Value.{Kind, set, sequence, map as mapping, tuple, Value, collection, size, sizes, Before, Ascending, Shaped, Sound, SoundItems, WellFormed}
-use Rattle.values.specs.Encoding.{collection-size}
-use Rattle.values.specs.Records.{collection-shaped, collection-sound, well-formed-collection}
-use Rattle.patterns.specs.Members.{In, in-left, in-right, in-joined}
+use Rattle.values.proofs.Encoding.{collection-size}
+use Rattle.values.proofs.Records.{collection-shaped, collection-sound, well-formed-collection}
 use Rattle.patterns.specs.Units.{Shared, Inserted, Permuted}
 use Rattle.patterns.specs.Binding.{Cell, free, is, clash, Binding, names, nothing, only, cellOf}
 use Rattle.patterns.specs.Pattern.{Pattern, name, any, literal, each, halved, Patterns, nil, cons, itemsOf, matches}

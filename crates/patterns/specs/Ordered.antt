@@ -3,31 +3,14 @@
 use mathlib.Core.Path.{_≡_, refl, sym, ap, ap₂, _∙_}
 use mathlib.Core.Logic.{_⊎_, inl, inr, ⊎-elim}
 use mathlib.Core.List.{List, [], _∷_}
+use Rattle.prelude.specs.Membership.{In}
 use Rattle.integers.specs.declared.Order.{Order}
 use Rattle.integers.specs.declared.Order.the-variants.{Lower, Same, Higher}
 use Rattle.values.specs.Value.{after}
 use Rattle.values.specs.Items.{inOrder}
-use Rattle.integers.specs.Ordered.{flip}
-use Rattle.values.specs.Laws.{same-equal, order-flip, order-lower, lower-same, lower-higher}
+use Rattle.integers.proofs.Ordered.{flip}
+use Rattle.values.proofs.Order.{same-equal, order-flip, order-lower, lower-same, lower-higher, after-same, after-lower, after-flip, flip-same}
 use Rattle.patterns.specs.Binding.{Cell, free, is, clash, Binding, orderCells, orderBindings, place, sorted}
-use Rattle.patterns.specs.Members.{In}
-
--- ---- one after another
-
-after-same : (o p : Order) → after o p ≡ Same → (o ≡ Same) × (p ≡ Same)
-after-same Lower p e = (cc, cc)
-after-same Same p e = (refl, e)
-after-same Higher p e = (cc, cc)
-
-after-lower : (o p : Order) → after o p ≡ Lower → (o ≡ Lower) ⊎ ((o ≡ Same) × (p ≡ Lower))
-after-lower Lower p e = inl refl
-after-lower Same p e = inr (refl, e)
-after-lower Higher p e = inl (cc)
-
-after-flip : (o p : Order) → after (flip o) (flip p) ≡ flip (after o p)
-after-flip Lower p = refl
-after-flip Same p = refl
-after-flip Higher p = refl
 
 -- ---- cells
 
@@ -109,11 +92,6 @@ bindings-lower (x ∷ a) (y ∷ b) (z ∷ c) p q =
     go (inl l) (inr m) rest = let e : orderCells x z ≡ Lower = rw (cell-same y z (m .0)) at l in rw e
     go (inr l) (inl m) rest = let e : orderCells x z ≡ Lower = rw (cell-same x y (l .0)) m in rw e
     go (inr l) (inr m) rest = let e : orderCells x z ≡ Same = rw (cell-same x y (l .0)) (m .0) in rw e (rest (l .1) (m .1))
-
-flip-same : (o : Order) → o ≡ flip o → o ≡ Same
-flip-same Lower e = cc
-flip-same Same e = refl
-flip-same Higher e = cc
 
 -- THEOREM: a binding is the same as itself
 pub bindings-refl : (a : Binding) → orderBindings a a ≡ Same

@@ -1,12 +1,12 @@
 -- Document 01, kinds 32 to 40 and "Evaluation": patterns, all bindings of a pattern and a value, and where a set is too large to split.
-use mathlib.Core.Bool.{Bool, true, false, _||_}
+use mathlib.Core.Bool.{Bool, true, false, _||_, cond}
 use mathlib.Core.Option.{Option, none as absent, some}
 use mathlib.Core.List.{List, [], _∷_}
 use Prim.Native.Nat.{ℕ, suc}
 use lib.Dec.{eqb, ltb}
 use lib.ListN.{length}
 use Rattle.values.specs.Value.{Kind, set, sequence, map as mapping, tuple, number, Value, boolean, integer, collection, Items, none, more}
-use Rattle.values.specs.Items.{pick, same}
+use Rattle.values.specs.Items.{same}
 use Rattle.patterns.specs.Ways.{gather, exists, Halves, splits, cuts, orders}
 use Rattle.patterns.specs.Binding.{Binding, nothing, only, together}
 
@@ -42,7 +42,7 @@ itemsOf (v ∷ vs) = more v (itemsOf vs)
 abbrev pub contents : Kind → Value → Option (List Value)
 contents k (boolean b) = absent
 contents k (integer z) = absent
-contents k (collection l vs) = pick (eqb (number k) (number l)) (some (listOf vs)) absent
+contents k (collection l vs) = cond (eqb (number k) (number l)) (some (listOf vs)) absent
 
 -- A set's members are paired with the parts one to one in every way; a tuple's and a sequence's items in their order.
 abbrev pub arrangements : Kind → List Value → List (List Value)
@@ -61,7 +61,7 @@ divisions tuple vs = []
 -- What n parts meet, in every way: as many items of kind k, or nothing.
 abbrev pub met : Kind → ℕ → Option (List Value) → List (List Value)
 met k n absent = []
-met k n (some vs) = pick (eqb n (length vs)) (arrangements k vs) []
+met k n (some vs) = cond (eqb n (length vs)) (arrangements k vs) []
 
 -- What two halves meet, in every way.
 abbrev pub split : Kind → Option (List Value) → List (Halves Value)
@@ -80,7 +80,7 @@ unfoldable mutual
   pub matches : Pattern → Value → List Binding
   matches (name x) v = only x v ∷ []
   matches any v = nothing ∷ []
-  matches (literal w) v = pick (same w v) (nothing ∷ []) []
+  matches (literal w) v = cond (same w v) (nothing ∷ []) []
   matches (each k ps) v = gather (met k (parts ps) (contents k v)) (λ vs. matchEach ps vs)
   matches (halved k p q) v = gather (split k (contents k v)) (λ h. together (matches p (leftOf k h)) (matches q (rightOf k h)))
 

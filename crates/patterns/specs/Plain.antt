@@ -10,9 +10,9 @@ use Rattle.integers.specs.declared.Order.{Order}
 use Rattle.integers.specs.declared.Order.the-variants.{Lower, Same, Higher}
 use Rattle.values.specs.Value.{Value, collection, set, Items, none, more, count, order, after, Before, Ascending, WellFormed}
 use Rattle.values.specs.Items.{inOrder}
-use Rattle.values.specs.Laws.{order-refl}
-use Rattle.values.specs.Encoding.{collection-size, count-sizes}
-use Rattle.values.specs.Records.{collection-shaped}
+use Rattle.values.proofs.Order.{order-refl}
+use Rattle.values.proofs.Encoding.{collection-size, count-sizes}
+use Rattle.values.proofs.Records.{collection-shaped}
 use Rattle.patterns.specs.Ways.{gather, exists}
 use Rattle.patterns.specs.Binding.{Cell, free, is, clash, Binding, names, nothing, only, orderCells, orderBindings, place, sorted}
 use Rattle.patterns.specs.Pattern.{name, listOf, matches, wide}

@@ -1,16 +1,18 @@
 -- A pattern that holds no 37, 38 or 40 has at most one binding for a value.
-use mathlib.Core.Path.{_≡_, refl}
-use mathlib.Core.Bool.{Bool, true, false, _||_}
+use mathlib.Core.Path.{_≡_}
+use mathlib.Core.Bool.{Bool, true, false, cond}
 use mathlib.Core.Option.{Option, none as absent, some}
 use mathlib.Core.List.{List, [], _∷_}
 use Prim.Native.Nat.{ℕ, suc, _≤_}
 use native.Mathlib.Omega.{arith}
 use lib.Dec.{eqb}
 use lib.ListN.{length, length-append}
+use Rattle.prelude.proofs.Absurd.{impossible}
+use Rattle.prelude.proofs.Truth.{or-false-left, or-false-right}
 use Rattle.integers.specs.declared.Order.{Order}
 use Rattle.integers.specs.declared.Order.the-variants.{Lower, Same, Higher}
 use Rattle.values.specs.Value.{Kind, set, sequence, map as mapping, tuple, Value}
-use Rattle.values.specs.Items.{pick, same, inOrder}
+use Rattle.values.specs.Items.{same, inOrder}
 use Rattle.patterns.specs.Ways.{gather}
 use Rattle.patterns.specs.Binding.{Binding, nothing, merge, consistent, withEach, together, orderBindings, place, sorted}
 use Rattle.patterns.specs.Pattern.{Pattern, name, any, literal, each, halved, Patterns, nil, cons, parts, contents, arrangements, met, matches, matchEach, isSet, loose, looseEach}
@@ -18,7 +20,7 @@ use Rattle.patterns.specs.Binder.{bindings}
 
 -- ---- lists of at most one
 
-pick-none : {A : Type 0} (t : Bool) (x : A) (xs : List A) → length (pick t (x ∷ xs) xs) ≤ suc (length xs)
+pick-none : {A : Type 0} (t : Bool) (x : A) (xs : List A) → length (cond t (x ∷ xs) xs) ≤ suc (length xs)
 pick-none true x xs = omega arith
 pick-none false x xs = omega arith
 
@@ -42,7 +44,7 @@ gather-one (x ∷ y ∷ xs) f p q = absurd (omega arith)
 
 -- items in their order are paired in one way
 arranged-one : (k : Kind) (vs : List Value) → isSet k ≡ false → length (arrangements k vs) ≤ 1
-arranged-one set vs e = let z : _≡_ {A = ℕ} 0 1 = cc in absurd (omega arith)
+arranged-one set vs e = impossible cc
 arranged-one sequence vs e = omega arith
 arranged-one mapping vs e = omega arith
 arranged-one tuple vs e = omega arith
@@ -51,21 +53,13 @@ met-one : (k : Kind) (n : ℕ) (o : Option (List Value)) → isSet k ≡ false �
 met-one k n absent e = omega arith
 met-one k n (some vs) e = go (eqb n (length vs))
   where
-    go : (t : Bool) → length (pick t (arrangements k vs) []) ≤ 1
+    go : (t : Bool) → length (cond t (arrangements k vs) []) ≤ 1
     go true = arranged-one k vs e
     go false = omega arith
 
-or-left : (s t : Bool) → (s || t) ≡ false → s ≡ false
-or-left true t e = e
-or-left false t e = refl
-
-or-right : (s t : Bool) → (s || t) ≡ false → t ≡ false
-or-right true t e = let z : _≡_ {A = ℕ} 0 1 = cc in absurd (omega arith)
-or-right false t e = e
-
 -- ---- at most one match
 
-literal-one : (t : Bool) → length (pick t (nothing ∷ []) []) ≤ 1
+literal-one : (t : Bool) → length (cond t (nothing ∷ []) []) ≤ 1
 literal-one true = omega arith
 literal-one false = omega arith
 
@@ -78,15 +72,15 @@ mutual
   match-one any v e = omega arith
   match-one (literal w) v e = literal-one (same w v)
   match-one (each k ps) v e =
-      gather-one (met k (parts ps) (contents k v)) (λ vs. matchEach ps vs) (met-one k (parts ps) (contents k v) (or-left (isSet k) (looseEach ps) e))
-      (λ vs. each-one ps vs (or-right (isSet k) (looseEach ps) e))
-  match-one (halved k p q) v e = let z : _≡_ {A = ℕ} 0 1 = cc in absurd (omega arith)
+      gather-one (met k (parts ps) (contents k v)) (λ vs. matchEach ps vs) (met-one k (parts ps) (contents k v) (or-false-left (isSet k) (looseEach ps) e))
+      (λ vs. each-one ps vs (or-false-right (isSet k) (looseEach ps) e))
+  match-one (halved k p q) v e = impossible cc
 
   each-one : (ps : Patterns) (vs : List Value) → looseEach ps ≡ false → length (matchEach ps vs) ≤ 1
   each-one nil vs e = omega arith
   each-one (cons p ps) [] e = omega arith
   each-one (cons p ps) (v ∷ vs) e =
-      together-one (matches p v) (matchEach ps vs) (match-one p v (or-left (loose p) (looseEach ps) e)) (each-one ps vs (or-right (loose p) (looseEach ps) e))
+      together-one (matches p v) (matchEach ps vs) (match-one p v (or-false-left (loose p) (looseEach ps) e)) (each-one ps vs (or-false-right (loose p) (looseEach ps) e))
 
 -- ---- and in order
 

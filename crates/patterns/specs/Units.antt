@@ -2,8 +2,10 @@
 use mathlib.Core.Path.{_≡_, refl, sym, ap, ap₂, subst, _∙_}
 use mathlib.Core.Logic.{_⊎_, inl, inr, _↔_}
 use mathlib.Core.List.{List, [], _∷_, _++_, map}
+use Rattle.prelude.specs.Membership.{In}
+use Rattle.prelude.proofs.Membership.{in-one, in-left, in-right, in-joined, map-in, in-map}
 use Rattle.patterns.specs.Ways.{Halves, halves, toLeft, toRight, splits, cuts, placed, orders}
-use Rattle.patterns.specs.Members.{In, in-one, in-left, in-right, in-joined, map-in, in-map, in-gather, gather-in}
+use Rattle.patterns.specs.Members.{in-gather, gather-in}
 
 -- Each unit of the first list goes to exactly one of the two others, and these hold nothing else (source 001, SetChop: together they are the
 -- whole, and they are disjoint).

@@ -6,8 +6,8 @@ use mathlib.Core.Logic.{_⊎_}
 use mathlib.Core.List.{List, [], _∷_, _++_}
 use Prim.Native.Nat.{_<_}
 use lib.ListN.{length}
+use Rattle.prelude.specs.Membership.{In}
 use Rattle.values.specs.Value.{set, sequence, map as mapping, tuple, Value, collection}
-use Rattle.patterns.specs.Members.{In}
 use Rattle.patterns.specs.Units.{Shared}
 use Rattle.patterns.specs.Pattern.{Pattern, name, any, literal, each, halved, Patterns, nil, cons, parts, itemsOf, mostSplit}
 

@@ -1,6 +1,6 @@
 -- A union pattern is met by a set of over seven members exactly where `wide` says so, and 29 is given exactly then.
 use mathlib.Core.Path.{_≡_, refl, sym, ap, _∙_, subst}
-use mathlib.Core.Bool.{Bool, true, false, _||_}
+use mathlib.Core.Bool.{Bool, true, false, _||_, cond}
 use mathlib.Core.Option.{Option, none as absent, some}
 use mathlib.Core.Logic.{_⊎_, inl, inr, ⊎-elim, _↔_}
 use mathlib.Core.List.{List, [], _∷_, _++_}
@@ -9,10 +9,11 @@ use native.Mathlib.Omega.{arith}
 use lib.Dec.{eqb, leb}
 use lib.ListN.{length, getD}
 use borrow.Author.Tests.{eqb-true, eq-eqb, ltb-true, lt-ltb}
+use Rattle.prelude.proofs.Absurd.{impossible}
+use Rattle.prelude.specs.Membership.{In}
+use Rattle.prelude.proofs.Membership.{in-one, in-picked, picked-in}
 use Rattle.values.specs.Value.{Kind, set, sequence, map as mapping, tuple, Value, boolean, collection}
-use Rattle.values.specs.Items.{pick}
 use Rattle.patterns.specs.Ways.{exists, Halves, halves}
-use Rattle.patterns.specs.Members.{In, in-one, in-picked, picked-in}
 use Rattle.patterns.specs.Units.{Inserted, Permuted, in-splits, in-cuts, in-orders}
 use Rattle.patterns.specs.Pattern.{Pattern, name, any, literal, each, halved, Patterns, nil, cons, parts, itemsOf, contents, arrangements, divisions, met, split, leftOf, rightOf, mostSplit, tooLarge, wide, wideEach}
 use Rattle.patterns.specs.Binder.{mostBindings, bound, refused, few, bindings, formed}
@@ -27,7 +28,7 @@ or-out false b e = inr e
 
 or-first : (a b : Bool) → a ≡ true → a || b ≡ true
 or-first true b e = refl
-or-first false b e = absurd (let z : _≡_ {A = ℕ} 0 1 = cc in omega arith)
+or-first false b e = impossible cc
 
 or-second : (a b : Bool) → b ≡ true → a || b ≡ true
 or-second true b e = refl
@@ -36,7 +37,7 @@ or-second false b e = e
 -- It is so for one of them.
 exists-out : {A : Type 0} (xs : List A) (f : A → Bool) → exists xs f ≡ true → (x : A) × In x xs × (f x ≡ true)
 unfolding exists
-exists-out [] f e = absurd (let z : _≡_ {A = ℕ} 0 1 = cc in omega arith)
+exists-out [] f e = impossible cc
 exists-out (x ∷ xs) f e = ⊎-elim (λ d. (x, inl refl, d)) (λ d. let (y, i, h) = exists-out xs f d in (y, inr i, h)) (or-out (f x) (exists xs f) e)
 
 exists-in : {A : Type 0} (x : A) (xs : List A) (f : A → Bool) → In x xs → f x ≡ true → exists xs f ≡ true
@@ -122,7 +123,7 @@ large-out : (v : Value) → tooLarge set (contents set v) ≡ true → (vs : Lis
 large-out v e = go (contents set v) refl e
   where
     go : (o : Option (List Value)) → contents set v ≡ o → tooLarge set o ≡ true → (vs : List Value) × (v ≡ collection set (itemsOf vs)) × (mostSplit < length vs)
-    go absent d e = absurd (let z : _≡_ {A = ℕ} 0 1 = cc in omega arith)
+    go absent d e = impossible cc
     go (some vs) d e = (vs, of-contents set v vs d, ltb-true mostSplit (length vs) e)
 
 large-in : (v : Value) (vs : List Value) → v ≡ collection set (itemsOf vs) → mostSplit < length vs → tooLarge set (contents set v) ≡ true
@@ -130,18 +131,18 @@ large-in v vs e h = ap (tooLarge set) (ap (contents set) e ∙ contents-of set v
 
 -- Only a set is too large, and only sets and sequences have halves.
 never-large : (o : Option (List Value)) → tooLarge sequence o ≡ true → ⊥
-never-large absent e = let z : _≡_ {A = ℕ} 0 1 = cc in omega arith
-never-large (some vs) e = let z : _≡_ {A = ℕ} 0 1 = cc in omega arith
+never-large absent e = impossible cc
+never-large (some vs) e = impossible cc
 
 no-map-halves : (o : Option (List Value)) (f : Halves Value → Bool) → tooLarge mapping o || exists (split mapping o) f ≡ true → ⊥
 unfolding exists
-no-map-halves absent f e = let z : _≡_ {A = ℕ} 0 1 = cc in omega arith
-no-map-halves (some vs) f e = let z : _≡_ {A = ℕ} 0 1 = cc in omega arith
+no-map-halves absent f e = impossible cc
+no-map-halves (some vs) f e = impossible cc
 
 no-tuple-halves : (o : Option (List Value)) (f : Halves Value → Bool) → tooLarge tuple o || exists (split tuple o) f ≡ true → ⊥
 unfolding exists
-no-tuple-halves absent f e = let z : _≡_ {A = ℕ} 0 1 = cc in omega arith
-no-tuple-halves (some vs) f e = let z : _≡_ {A = ℕ} 0 1 = cc in omega arith
+no-tuple-halves absent f e = impossible cc
+no-tuple-halves (some vs) f e = impossible cc
 
 -- ---- the theorem
 
@@ -149,9 +150,9 @@ mutual
   unfolding wide Wide
 
   widened : (p : Pattern) (v : Value) → wide p v ≡ true → Wide p v
-  widened (name x) v e = absurd (let z : _≡_ {A = ℕ} 0 1 = cc in omega arith)
-  widened any v e = absurd (let z : _≡_ {A = ℕ} 0 1 = cc in omega arith)
-  widened (literal w) v e = absurd (let z : _≡_ {A = ℕ} 0 1 = cc in omega arith)
+  widened (name x) v e = impossible cc
+  widened any v e = impossible cc
+  widened (literal w) v e = impossible cc
   widened (each set ps) v e =
       let (ws, i, h) = exists-out (met set (parts ps) (contents set v)) (λ ws. wideEach ps ws) e in
       let (vs, d, n, j) = met-out set (parts ps) v ws i in
@@ -183,13 +184,13 @@ mutual
   widened (halved tuple p q) v e = no-tuple-halves (contents tuple v) (λ h. wide p (leftOf tuple h) || wide q (rightOf tuple h)) e
 
   among : (ps : Patterns) (ws vs : List Value) → ((w : Value) → In w ws → In w vs) → wideEach ps ws ≡ true → WideAmong ps vs
-  among nil ws vs h e = absurd (let z : _≡_ {A = ℕ} 0 1 = cc in omega arith)
-  among (cons p ps) [] vs h e = absurd (let z : _≡_ {A = ℕ} 0 1 = cc in omega arith)
+  among nil ws vs h e = impossible cc
+  among (cons p ps) [] vs h e = impossible cc
   among (cons p ps) (w ∷ ws) vs h e = ⊎-elim (λ d. inl (w, h w (inl refl), widened p w d)) (λ d. inr (among ps ws vs (λ x i. h x (inr i)) d)) (or-out (wide p w) (wideEach ps ws) e)
 
   in-turn : (ps : Patterns) (vs : List Value) → wideEach ps vs ≡ true → WideInTurn ps vs
-  in-turn nil vs e = absurd (let z : _≡_ {A = ℕ} 0 1 = cc in omega arith)
-  in-turn (cons p ps) [] e = absurd (let z : _≡_ {A = ℕ} 0 1 = cc in omega arith)
+  in-turn nil vs e = impossible cc
+  in-turn (cons p ps) [] e = impossible cc
   in-turn (cons p ps) (v ∷ vs) e = ⊎-elim (λ d. inl (widened p v d)) (λ d. inr (in-turn ps vs d)) (or-out (wide p v) (wideEach ps vs) e)
 
 -- Some part at the place i is met by some member, whatever order has it there.
@@ -265,10 +266,10 @@ wide-exactly p v = (widened p v, widening p v)
 pub formed-29 : (p : Pattern) (vs : List Value) → (formed p vs ≡ refused 29) ↔ ((v : Value) × In v vs × Wide p v)
 formed-29 p vs = (
   λ e. let (v, i, h) = exists-out vs (wide p) (told (exists vs (wide p)) (leb (length (bindings p vs)) mostBindings) e) in (v, i, widened p v h),
-  λ (v, i, h). ap (λ (t : Bool). pick t (refused 29) (few (bindings p vs))) (exists-in v vs (wide p) i (widening p v h)),
+  λ (v, i, h). ap (λ (t : Bool). cond t (refused 29) (few (bindings p vs))) (exists-in v vs (wide p) i (widening p v h)),
 )
   where
-    told : (t u : Bool) → pick t (refused 29) (pick u (bound (bindings p vs)) (refused 30)) ≡ refused 29 → t ≡ true
+    told : (t u : Bool) → cond t (refused 29) (cond u (bound (bindings p vs)) (refused 30)) ≡ refused 29 → t ≡ true
     told true u e = refl
-    told false true e = absurd (let z : _≡_ {A = ℕ} 0 1 = cc in omega arith)
+    told false true e = impossible cc
     told false false e = absurd (let z : _≡_ {A = ℕ} 30 29 = cc in omega arith)

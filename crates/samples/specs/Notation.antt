@@ -4,13 +4,13 @@ use Prim.Native.Nat.{ℕ, zero, suc, _+_}
 use lib.IntN.{pos, negℤ}
 use lib.ListN.{length}
 use Rattle.integers.specs.Bytes.{integerBytes}
-use Rattle.integers.specs.Whole.{answer}
+use Rattle.integers.specs.Whole.{ranged}
 use Rattle.choices.specs.Tree.{Final}
 use Rattle.choices.specs.Paths.{allLists}
 use Rattle.integers.specs.Order.{orderℕ, orderℤ}
-use Rattle.values.specs.Value.{Value, integer, collection, set, Items, none, more, limit, count, everyOther, size, within}
+use Rattle.values.specs.Value.{Value, integer, collection, set, Items, none, more, valueLimit, count, everyOther, size, within}
 use Rattle.values.specs.Items.{join, isMember, nth, insert, lookup, enter}
-use Rattle.operators.specs.Gather.{every, any, keep, insertAll, flatten, backwards, upFrom, everyEntry, keepEntries, enterAll}
+use Rattle.operators.specs.Gather.{everyItem, anyItem, keepItems, insertAll, flatten, backwards, upFrom, everyEntry, keepEntries, enterAll}
 use Rattle.operators.specs.Enumerations.{addMembers, addItems, addEntries}
 use Rattle.operators.specs.Operators.{unary, binary}
 use Rattle.patterns.specs.Ways.{gather, exists, splits, cuts, placed, orders}
@@ -84,7 +84,7 @@ of (v ∷ vs) = more v (of vs)
 
 -- What evaluating a table under a list answers.
 abbrev pub run : List ℕ → List ℕ → Final Value
-run table l = evaluates scratchBytes limit table l
+run table l = evaluates scratchBytes valueLimit table l
 
 -- Every complete list of a table, in dictionary order, and what evaluating under it answers.
 abbrev pub walk : List ℕ → List (List ℕ × Final Value)
@@ -100,5 +100,5 @@ zeros (suc k) = 0 ∷ zeros k
 
 -- To unfold this is to unfold everything that the walk over a table computes with.
 unfoldable pub computing : ℕ
-unfolding Check.check Check.judgedCut Check.judged Check.fault6 Check.fault7 Check.fault8 Check.fault9 Check.chooses Sheet.isBound Sheet.inCondition Sheet.climbBy Sheet.height Sheet.loose Sheet.holdsName Sheet.foldBy Table.cut Table.cutBy Table.next Record.isFit Record.operands Record.shape under allOf satisfying untilFalse untilTrue collected integersAt means meaningTo meaning nodeOf patternsOf patternAt addMembers addItems addEntries every any keep insertAll flatten backwards upFrom everyEntry keepEntries enterAll unary binary count everyOther size orderℕ orderℤ within join isMember nth insert lookup enter answer gather exists splits cuts placed orders merge consistent withEach together orderBindings place sorted parts listOf itemsOf matches wide loose
+unfolding Check.check Check.judgedCut Check.judged Check.fault6 Check.fault7 Check.fault8 Check.fault9 Check.chooses Sheet.isBound Sheet.inCondition Sheet.climbBy Sheet.height Sheet.loose Sheet.holdsName Sheet.foldBy Table.cut Table.cutBy Table.next Record.isFit Record.operands Record.shape under allOf satisfying untilFalse untilTrue collected integersAt means meaningTo meaning nodeOf patternsOf patternAt addMembers addItems addEntries everyItem anyItem keepItems insertAll flatten backwards upFrom everyEntry keepEntries enterAll unary binary count everyOther size orderℕ orderℤ within join isMember nth insert lookup enter ranged gather exists splits cuts placed orders merge consistent withEach together orderBindings place sorted parts listOf itemsOf matches wide loose
 computing = 0

@@ -1,12 +1,11 @@
 -- The answer of a check, by its cases, and the whole call.
 use mathlib.Core.Path.{_≡_, sym, ap, _∙_, subst}
-use mathlib.Core.Bool.{Bool}
+use mathlib.Core.Bool.{Bool, cond}
 use mathlib.Core.List.{List}
 use Prim.Native.Nat.{ℕ, _<_, _≤_}
 use borrow.Author.Tests.{lt-ltb, le-ltb}
 use lib.ListN.{length}
 use Rattle.choices.specs.Tree.{Final, result}
-use Rattle.values.specs.Items.{pick}
 use Rattle.tables.specs.declared.Checked.{Checked}
 use Rattle.tables.specs.declared.Checked.the-variants.{Accepted, Refused}
 use Rattle.tables.specs.Check.{check}
@@ -42,7 +41,7 @@ module _ (table scratch : List ℕ) (answer : ℕ) where
 
   pub enough-call : (after : List ℕ) → scratchBytes ≤ length scratch → answer ≡ packed records due → after ≡ zeroed scratchBytes scratch → checkCall table scratch ≡ record { answer = answer; scratch = after }
   enough-call after h e d =
-      ap (λ (b : Bool). record { answer = packed records (checks (length scratch) table); scratch = pick b scratch (zeroed scratchBytes scratch) }) (check-late (length scratch) table h)
+      ap (λ (b : Bool). record { answer = packed records (checks (length scratch) table); scratch = cond b scratch (zeroed scratchBytes scratch) }) (check-late (length scratch) table h)
       ∙ ap (λ (b : Bool). record { answer = packed records (unless b 1 due); scratch = zeroed scratchBytes scratch }) (le-ltb (length scratch) scratchBytes h)
       ∙ ap (λ (x : ℕ). record { answer = x; scratch = zeroed scratchBytes scratch }) (sym e)
       ∙ ap (λ (x : List ℕ). record { answer = answer; scratch = x }) (sym d)

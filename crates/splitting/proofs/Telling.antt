@@ -9,11 +9,11 @@ use lib.Dec.{eqb}
 use lib.ListN.{length, getD, drop, length-map, drop-of-length-le}
 use lib.Seq.{drop-cons}
 use borrow.Author.Tests.{eq-eqb, ne-eqb, eqb-true, eqb-false, not-true}
+use Rattle.prelude.proofs.Truth.{or-false-right}
 use Rattle.values.specs.Value.{Value, boolean}
 use Rattle.tables.specs.Record.{named, operand}
 use Rattle.tables.specs.Table.{recordAt, kindAt}
 use Rattle.tables.specs.Accepted.{records, lower}
-use Rattle.tables.specs.Laws.{or-right}
 use Rattle.parts.specs.declared.Part.{Part}
 use Rattle.parts.specs.Part.{PartIs, PartHeld}
 use Rattle.parts.specs.Laws.{part-one}
@@ -163,7 +163,7 @@ module _ (table index : List ℕ) (p : ℕ) (r : Readable table index p) where
       pub ways-shallow : (b : Bool) → TellsShallow table p b → b ≡ true → TellsWays table p s part false
       ways-shallow b t y v q =
           let narrow : isLarge (kindAt (records table) p) v ≡ false = subst (λ (u : Value). isLarge (kindAt (records table) p) u ≡ false) (sym (part-one q (h .here))) (h .narrow) in
-          sym (or-right (isLarge (kindAt (records table) p) v) (wideWays table p (waysOf table p v))
+          sym (or-false-right (isLarge (kindAt (records table) p) v) (wideWays table p (waysOf table p v))
           (sym (wide-by (h .composed) v) ∙ go (eqb (kindAt (records table) p) 38) refl narrow))
         where
           go : (k : Bool) → eqb (kindAt (records table) p) 38 ≡ k → isLarge (kindAt (records table) p) v ≡ false → wide (patternAt (records table) p) v ≡ false

@@ -1,6 +1,6 @@
 -- Where a pattern holds union patterns, and when none of them can be met by a set too large to split.
 use mathlib.Core.Path.{_≡_, refl}
-use mathlib.Core.Bool.{Bool, true, false, not, _&&_, _||_}
+use mathlib.Core.Bool.{Bool, true, false, not, _&&_, _||_, cond}
 use mathlib.Core.Logic.{inl, inr}
 use mathlib.Core.Option.{Option, none as absent, some}
 use mathlib.Core.List.{List, [], _∷_}
@@ -8,12 +8,12 @@ use Prim.Native.Nat.{_≤_}
 use native.Mathlib.Omega.{arith}
 use borrow.Author.Tests.{le-ltb, ltb-false, not-true}
 use lib.ListN.{length}
+use mathlib.Mathlib.Data.Bool.Basic.{and-elim-left, and-elim-right}
+use Rattle.prelude.proofs.Truth.{or-false-left, or-false-right, or-false-both}
+use Rattle.prelude.specs.Membership.{In}
 use Rattle.values.specs.Value.{Kind, set, sequence, map as mapping, tuple, Value}
-use Rattle.values.specs.Items.{pick}
-use Rattle.tables.specs.Laws.{or-left, or-right, or-none, and-left, and-right}
 use Rattle.ways.specs.Merging.{true-false}
 use Rattle.patterns.specs.Ways.{Halves, exists, splits}
-use Rattle.patterns.specs.Members.{In}
 use Rattle.patterns.specs.Units.{Shared, in-splits}
 use Rattle.patterns.specs.Named.{PartOf, shared-left, shared-right}
 use Rattle.patterns.specs.Matched.{list-items}
@@ -38,14 +38,14 @@ shallow (name x) = true
 shallow any = true
 shallow (literal w) = true
 shallow (each k ps) = not (someUnion ps)
-shallow (halved k p q) = pick (isSet k) (shallow p && shallow q) (not (hasUnion p || hasUnion q))
+shallow (halved k p q) = cond (isSet k) (shallow p && shallow q) (not (hasUnion p || hasUnion q))
 
 -- ---- no union pattern
 
 none-of : {A : Type 0} (xs : List A) (f : A → Bool) → ((x : A) → In x xs → f x ≡ false) → exists xs f ≡ false
 unfolding exists
 none-of [] f h = refl
-none-of (x ∷ xs) f h = or-none (f x) (exists xs f) (h x (inl refl)) (none-of xs f (λ y i. h y (inr i)))
+none-of (x ∷ xs) f h = or-false-both (f x) (exists xs f) (h x (inl refl)) (none-of xs f (λ y i. h y (inr i)))
 
 no-set : (k : Kind) (o : Option (List Value)) → isSet k ≡ false → tooLarge k o ≡ false
 no-set set o e = true-false e
@@ -66,19 +66,19 @@ mutual
   no-union-narrow (literal w) v e = refl
   no-union-narrow (each k ps) v e = none-of (met k (parts ps) (contents k v)) (λ vs. wideEach ps vs) (λ vs i. no-union-each ps vs e)
   no-union-narrow (halved k p q) v e =
-      let inner = or-right (isSet k) (hasUnion p || hasUnion q) e in
-      or-none (tooLarge k (contents k v)) (exists (split k (contents k v)) (λ h. wide p (leftOf k h) || wide q (rightOf k h)))
-      (no-set k (contents k v) (or-left (isSet k) (hasUnion p || hasUnion q) e))
+      let inner = or-false-right (isSet k) (hasUnion p || hasUnion q) e in
+      or-false-both (tooLarge k (contents k v)) (exists (split k (contents k v)) (λ h. wide p (leftOf k h) || wide q (rightOf k h)))
+      (no-set k (contents k v) (or-false-left (isSet k) (hasUnion p || hasUnion q) e))
       (none-of (split k (contents k v)) (λ h. wide p (leftOf k h) || wide q (rightOf k h))
-      (λ h i. or-none (wide p (leftOf k h)) (wide q (rightOf k h))
-      (no-union-narrow p (leftOf k h) (or-left (hasUnion p) (hasUnion q) inner))
-      (no-union-narrow q (rightOf k h) (or-right (hasUnion p) (hasUnion q) inner))))
+      (λ h i. or-false-both (wide p (leftOf k h)) (wide q (rightOf k h))
+      (no-union-narrow p (leftOf k h) (or-false-left (hasUnion p) (hasUnion q) inner))
+      (no-union-narrow q (rightOf k h) (or-false-right (hasUnion p) (hasUnion q) inner))))
 
   no-union-each : (ps : Patterns) (vs : List Value) → someUnion ps ≡ false → wideEach ps vs ≡ false
   no-union-each nil vs e = refl
   no-union-each (cons p ps) [] e = refl
   no-union-each (cons p ps) (v ∷ vs) e =
-      or-none (wide p v) (wideEach ps vs) (no-union-narrow p v (or-left (hasUnion p) (someUnion ps) e)) (no-union-each ps vs (or-right (hasUnion p) (someUnion ps) e))
+      or-false-both (wide p v) (wideEach ps vs) (no-union-narrow p v (or-false-left (hasUnion p) (someUnion ps) e)) (no-union-each ps vs (or-false-right (hasUnion p) (someUnion ps) e))
 
 -- ---- union patterns on one set
 
@@ -101,7 +101,7 @@ halves-fit f g (some vs) e a b =
   where
     both : (h : Halves Value) → Shared vs (h .left) (h .right) → f (leftOf set h) || g (rightOf set h) ≡ false
     both h s =
-        or-none (f (leftOf set h)) (g (rightOf set h))
+        or-false-both (f (leftOf set h)) (g (rightOf set h))
         (a (leftOf set h) (part-fits (h .left) vs (shared-left vs (h .left) (h .right) s) e))
         (b (rightOf set h) (part-fits (h .right) vs (shared-right vs (h .left) (h .right) s) e))
 
@@ -113,10 +113,10 @@ shallow-narrow any v e n = refl
 shallow-narrow (literal w) v e n = refl
 shallow-narrow (each k ps) v e n = no-union-narrow (each k ps) v (not-true (someUnion ps) e)
 shallow-narrow (halved set p q) v e n =
-    or-none (tooLarge set (contents set v)) (exists (split set (contents set v)) (λ h. wide p (leftOf set h) || wide q (rightOf set h))) n
+    or-false-both (tooLarge set (contents set v)) (exists (split set (contents set v)) (λ h. wide p (leftOf set h) || wide q (rightOf set h))) n
     (halves-fit (wide p) (wide q) (contents set v) n
-    (λ w m. shallow-narrow p w (and-left (shallow p) (shallow q) e) m)
-    (λ w m. shallow-narrow q w (and-right (shallow p) (shallow q) e) m))
+    (λ w m. shallow-narrow p w (and-elim-left (shallow p) (shallow q) e) m)
+    (λ w m. shallow-narrow q w (and-elim-right (shallow p) (shallow q) e) m))
 shallow-narrow (halved sequence p q) v e n = no-union-narrow (halved sequence p q) v (not-true (hasUnion p || hasUnion q) e)
 shallow-narrow (halved mapping p q) v e n = no-union-narrow (halved mapping p q) v (not-true (hasUnion p || hasUnion q) e)
 shallow-narrow (halved tuple p q) v e n = no-union-narrow (halved tuple p q) v (not-true (hasUnion p || hasUnion q) e)

@@ -10,13 +10,13 @@ use lib.Seq.{length-take-le, getD-take, getD-drop}
 use mir.Syntax.{w32}
 use mir.Facts.{sfits-toZ}
 use borrow.Author.Tests.{leb-true}
+use mathlib.Mathlib.Data.Bool.Basic.{and-elim-left}
 use Rattle.integers.specs.Bytes.{word, bits32, integerAt}
 use Rattle.integers.specs.Whole.{inRange}
-use Rattle.integers.specs.Range.{fits-range}
+use Rattle.integers.proofs.Range.{fits-range}
 use Rattle.tables.specs.Record.{Record, Head, nothing, boolean, integer, name, unary, binary, unknown, Shape, shape, size, headOf, field, integerOf, fits, isKnown, isFit}
 use Rattle.tables.specs.Table.{first}
 use Rattle.tables.specs.Shapes.{knownFirst}
-use Rattle.tables.specs.Laws.{and-left}
 use Rattle.tables.specs.Accepted.{fit-kind}
 
 -- Four bytes are an integer in range.
@@ -64,7 +64,7 @@ module _ (bytes : List ℕ) (len : ℕ) (is : len ≡ word bytes 0) (four : 4 �
   head-within : true ≡ fits (shape (word bytes 2)) (len - 4) → size (headOf (first bytes)) ≤ len - 4
   head-within e =
       let s : Shape = shape (word bytes 2) in
-      omega (arith, leb-true (size (s .head) + s .least) (len - 4) (and-left _ (leb (len - 4) (size (s .head) + length (s .roles))) (and-left _ _ (sym e))))
+      omega (arith, leb-true (size (s .head) + s .least) (len - 4) (and-elim-left _ (leb (len - 4) (size (s .head) + length (s .roles))) (and-elim-left _ _ (sym e))))
 
   integer-long : true ≡ fits (shape (word bytes 2)) (len - 4) → headOf (first bytes) ≡ integer → 4 ≤ len - 4
   integer-long e i = omega (arith, head-within e, ap size i)

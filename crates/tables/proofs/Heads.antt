@@ -5,9 +5,11 @@ use Prim.Native.Nat.{ℕ, _≤_, _<_}
 use native.Mathlib.Omega.{arith}
 use borrow.Author.Tests.{lt-ltb, le-ltb, lt-leb, le-leb, eqb-true, ne-eqb}
 use lib.Dec.{eqb, ltb, leb}
+use Rattle.prelude.proofs.Absurd.{never}
+use Rattle.prelude.proofs.Truth.{implied}
 use Rattle.tables.specs.Record.{Head, nothing, boolean, integer, name, unary, binary, unknown, shape, isExpression, isPattern}
 use Rattle.tables.specs.Shapes.{firstOf, knownFirst}
-use Rattle.tables.specs.Laws.{never, each, implied, split}
+use Rattle.tables.specs.Laws.{each, split}
 
 -- Below 16 is up to 15.
 pub below-sixteen : (n : ℕ) → ltb n 16 ≡ leb n 15

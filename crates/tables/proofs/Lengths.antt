@@ -7,9 +7,10 @@ use native.Mathlib.Omega.{arith}
 use borrow.Author.Tests.{lt-leb, le-leb, leb-true, eqb-true, eq-eqb}
 use lib.Dec.{eqb, leb}
 use lib.ListN.{length, getD}
+use mathlib.Mathlib.Data.Bool.Basic.{and-elim-left, and-elim-right}
 use Rattle.tables.specs.declared.shape.Lengths.{Lengths}
 use Rattle.tables.specs.Record.{shape, size, fits}
-use Rattle.tables.specs.Laws.{each, and-left, and-right}
+use Rattle.tables.specs.Laws.{each}
 
 abbrev row : ℕ → ℕ → ℕ → Lengths
 row least greatest step = record { 0 = least; 1 = greatest; 2 = step }
@@ -45,16 +46,16 @@ module _ (k : ℕ) (known : k ≤ 40) where
   right = each (λ k. holds k (rowOf k)) 41 refl k (omega arith)
 
   least-is : rowOf k .0 ≡ least k
-  least-is = eqb-true _ _ (and-left _ _ (and-left _ _ (and-left _ _ right)))
+  least-is = eqb-true _ _ (and-elim-left _ _ (and-elim-left _ _ (and-elim-left _ _ right)))
 
   greatest-is : rowOf k .1 ≡ greatest k
-  greatest-is = eqb-true _ _ (and-right (eqb (rowOf k .0) (least k)) _ (and-left _ _ (and-left _ _ right)))
+  greatest-is = eqb-true _ _ (and-elim-right (eqb (rowOf k .0) (least k)) _ (and-elim-left _ _ (and-elim-left _ _ right)))
 
   step-is : rowOf k .2 ≡ shape k .step
-  step-is = eqb-true _ _ (and-right (eqb (rowOf k .0) (least k) && eqb (rowOf k .1) (greatest k)) _ (and-left _ _ right))
+  step-is = eqb-true _ _ (and-elim-right (eqb (rowOf k .0) (least k) && eqb (rowOf k .1) (greatest k)) _ (and-elim-left _ _ right))
 
   pub step-some : 0 < rowOf k .2
-  step-some = leb-true 1 _ (and-right (eqb (rowOf k .0) (least k) && eqb (rowOf k .1) (greatest k) && eqb (rowOf k .2) (shape k .step)) _ right)
+  step-some = leb-true 1 _ (and-elim-right (eqb (rowOf k .0) (least k) && eqb (rowOf k .1) (greatest k) && eqb (rowOf k .2) (shape k .step)) _ right)
 
   module _ (len : ℕ) (head : 4 ≤ len) where
     pub too-short : len < rowOf k .0 → false ≡ fits (shape k) (len - 4)

@@ -1,21 +1,20 @@
 -- What each operand of each kind is for, by tests: one test that is computed over all kinds and their operands.
 use mathlib.Core.Path.{_≡_, refl, sym, ap, _∙_}
-use mathlib.Core.Bool.{not}
+use mathlib.Core.Bool.{not, cond}
 use Prim.Native.Nat.{ℕ, zero, suc, _≤_, _<_}
 use native.Mathlib.Omega.{arith}
-use borrow.Author.Tests.{eqb-true}
+use borrow.Author.Tests.{eqb-true, not-false}
 use lib.Dec.{eqb}
 use lib.ListN.{length, getD}
 use Rattle.tables.specs.declared.Role.{Role}
 use Rattle.tables.specs.declared.Role.the-variants.{Plain, Condition, Body, Pattern, Name}
 use Rattle.tables.specs.Record.{shape, isPattern}
-use Rattle.tables.specs.Table.{pick}
 use Rattle.tables.specs.Shapes.{rolesOf, binderRole}
 use Rattle.tables.specs.Sheet.{any, isBinder}
-use Rattle.tables.specs.Laws.{not-not, any-none}
+use Rattle.tables.specs.Laws.{any-none}
 
 abbrev pub roleBy : ℕ → ℕ → Role
-roleBy kind i = pick (isPattern kind) Pattern (pick (isBinder kind) (binderRole kind i) Plain)
+roleBy kind i = cond (isPattern kind) Pattern (cond (isBinder kind) (binderRole kind i) Plain)
 
 pub binder-later : (k i : ℕ) → (i ≡ 0 → ⊥) → (i ≡ 1 → ⊥) → (i ≡ 2 → ⊥) → binderRole k i ≡ Body
 binder-later k zero a b c = absurd (a refl)
@@ -32,7 +31,7 @@ number Pattern = 3
 number Name = 4
 
 abbrev role : ℕ → Role
-role n = pick (eqb n 0) Plain (pick (eqb n 1) Condition (pick (eqb n 2) Body (pick (eqb n 3) Pattern Name)))
+role n = cond (eqb n 0) Plain (cond (eqb n 1) Condition (cond (eqb n 2) Body (cond (eqb n 3) Pattern Name)))
 
 back : (x : Role) → role (number x) ≡ x
 back Plain = refl
@@ -46,6 +45,6 @@ unfolding shape
 role-by k i h l =
     sym (back (getD (rolesOf k) i Plain))
     ∙ ap role
-    (eqb-true (number (getD (rolesOf k) i Plain)) (number (roleBy k i)) (not-not _ (any-none (λ i. not (eqb (number (getD (rolesOf k) i Plain)) (number (roleBy k i)))) (length (rolesOf k))
+    (eqb-true (number (getD (rolesOf k) i Plain)) (number (roleBy k i)) (not-false _ (any-none (λ i. not (eqb (number (getD (rolesOf k) i Plain)) (number (roleBy k i)))) (length (rolesOf k))
     (any-none (λ k. any (λ i. not (eqb (number (getD (rolesOf k) i Plain)) (number (roleBy k i)))) (length (rolesOf k))) 41 refl k (omega arith)) i l)))
     ∙ back (roleBy k i)

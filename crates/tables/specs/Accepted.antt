@@ -1,23 +1,26 @@
 -- What holds of every accepted table: it breaks no rule, and what follows for its records.
 use mathlib.Core.Path.{_≡_, refl, sym, ap, _∙_}
-use mathlib.Core.Bool.{Bool, true, false, not, _&&_, _||_}
+use mathlib.Core.Bool.{Bool, true, false, not, _&&_, _||_, cond}
 use mathlib.Core.List.{List, [], _∷_, map}
 use Prim.Native.Nat.{ℕ, zero, suc, _+_, _-_, _<_, _≤_}
 use native.Mathlib.Omega.{arith}
-use borrow.Author.Tests.{ltb-true, ltb-false, leb-true, eq-eqb, eqb-true, ne-eqb, not-true}
+use borrow.Author.Tests.{ltb-true, ltb-false, leb-true, eq-eqb, eqb-true, ne-eqb, not-true, not-false}
 use lib.Dec.{eqb, ltb, leb}
 use lib.ListN.{length, drop, length-drop}
 use lib.Seq.{getD-drop}
+use mathlib.Mathlib.Data.Bool.Basic.{and-elim-left, and-elim-right}
+use Rattle.prelude.proofs.Absurd.{never, impossible}
+use Rattle.prelude.proofs.Truth.{or-false-left, or-false-right, implied}
 use Rattle.integers.specs.Whole.{InRange}
 use Rattle.tables.specs.declared.Role.{Role}
 use Rattle.tables.specs.declared.Role.the-variants.{Pattern}
 use Rattle.tables.specs.declared.Checked.{Checked}
 use Rattle.tables.specs.declared.Checked.the-variants.{Accepted, Refused}
 use Rattle.tables.specs.Record.{Record, Shape, Head, integer, shape, field, size, headOf, isPattern, operands, named, operand, roleAt, nameOf, integerOf, fits, isKnown, isFit}
-use Rattle.tables.specs.Table.{pick, fault, one, first, cut, recordAt, kindAt}
+use Rattle.tables.specs.Table.{fault, one, first, cut, recordAt, kindAt}
 use Rattle.tables.specs.Sheet.{any, lowest, some, greatest, isIn, isName, holdsName, height, parent, roleIn, isCovered, isCondition, isBinder, patternOf, climb, isBound, inCondition}
 use Rattle.tables.specs.Check.{mostBytes, mostRecords, mostHeight, isOfSort, allNamed, namedBefore, isBad, fault6, fault7, chooses, fault8, fault9, judged, judgedCut, check}
-use Rattle.tables.specs.Laws.{never, or-left, or-right, and-left, and-right, implied, not-not, split, any-none, low, each, Lower, fold-at, climb-up, climb-top, parent-higher, parent-is, role-is}
+use Rattle.tables.specs.Laws.{split, any-none, low, each, Lower, fold-at, climb-up, climb-top, parent-higher, parent-is, role-is}
 use Rattle.tables.specs.Laws.Kinds.{beyond, pattern-most}
 use Rattle.tables.specs.Laws.Cutting.{cut-fit, cut-some}
 use Rattle.tables.specs.Laws.Operands.{isPart, is-part, all-parts, operands-few, operands-count, operands-at, isFirst, first-free, first-sort, binder-roles, some-place, greatest-all}
@@ -42,8 +45,8 @@ pub record Passed (b : Bool) (x : Checked) (n : ℕ) : Type 0 where
   pub not-refused : b ≡ false
   pub on : x ≡ Accepted n
 
-passed : (b : Bool) (k p : ℕ) (x : Checked) (n : ℕ) → pick b (Refused k p) x ≡ Accepted n → Passed b x n
-passed true k p x n e = let z : _≡_ {A = ℕ} 0 1 = cc in absurd (omega arith)
+passed : (b : Bool) (k p : ℕ) (x : Checked) (n : ℕ) → cond b (Refused k p) x ≡ Accepted n → Passed b x n
+passed true k p x n e = impossible cc
 passed false k p x n e = record { not-refused = refl; on = e }
 
 -- No record below n is at fault where the lowest one at fault is not below n.
@@ -77,7 +80,7 @@ accepted-fine table n e =
     let p8 = passed (ltb (lowest (fault8 (records table)) (length (records table))) (length (records table))) _ _ _ n (p7 .on) in
     let p9 = passed (ltb (lowest (fault9 (records table)) (length (records table))) (length (records table))) _ _ _ n (p8 .on) in (
       record {
-        some-record = some-cut table (or-left (eqb (length table) 0) _ (p3 .not-refused)) (not-not (cut table .whole) (p4 .not-refused));
+        some-record = some-cut table (or-false-left (eqb (length table) 0) _ (p3 .not-refused)) (not-false (cut table .whole) (p4 .not-refused));
         few = ltb-false mostRecords (length (records table)) (p5 .not-refused);
         fit = fit-records table;
         clear6 = clear (fault6 (records table)) (length (records table)) (p6 .not-refused);
@@ -92,7 +95,7 @@ pub accepted-short : (table : List ℕ) (n : ℕ) → check table ≡ Accepted n
 unfolding check
 accepted-short table n e =
     let p3 = passed (eqb (length table) 0 || ltb mostBytes (length table)) _ _ _ n e in
-    ltb-false mostBytes (length table) (or-right (eqb (length table) 0) _ (p3 .not-refused))
+    ltb-false mostBytes (length table) (or-false-right (eqb (length table) 0) _ (p3 .not-refused))
 
 -- ---- one record
 
@@ -111,13 +114,13 @@ module _ (r : Record) (fit : isFit r ≡ true) where
   bounds : (leb (size (headOf r) + shape (r .kind) .least) (length (r .fields)) ≡ true) × (leb (length (r .fields)) (size (headOf r) + length (shape (r .kind) .roles)) ≡ true)
   unfolding isFit
   bounds =
-      let both = and-left (leb (size (headOf r) + shape (r .kind) .least) (length (r .fields)) && leb (length (r .fields)) (size (headOf r) + length (shape (r .kind) .roles))) _ (and-left (fits (shape (r .kind)) (length (r .fields))) (isKnown (headOf r) r) fit) in
-      (and-left _ (leb (length (r .fields)) (size (headOf r) + length (shape (r .kind) .roles))) both, and-right (leb (size (headOf r) + shape (r .kind) .least) (length (r .fields))) _ both)
+      let both = and-elim-left (leb (size (headOf r) + shape (r .kind) .least) (length (r .fields)) && leb (length (r .fields)) (size (headOf r) + length (shape (r .kind) .roles))) _ (and-elim-left (fits (shape (r .kind)) (length (r .fields))) (isKnown (headOf r) r) fit) in
+      (and-elim-left _ (leb (length (r .fields)) (size (headOf r) + length (shape (r .kind) .roles))) both, and-elim-right (leb (size (headOf r) + shape (r .kind) .least) (length (r .fields))) _ both)
 
   -- Literals, names and operators are known.
   pub fit-known : isKnown (headOf r) r ≡ true
   unfolding isFit
-  fit-known = and-right (fits (shape (r .kind)) (length (r .fields))) _ fit
+  fit-known = and-elim-right (fits (shape (r .kind)) (length (r .fields))) _ fit
 
   pub fit-least : size (headOf r) + shape (r .kind) .least ≤ length (r .fields)
   fit-least = leb-true _ _ (bounds .0)
@@ -154,21 +157,21 @@ module _ (rs : List Record) (clear6 : Clear6 rs) where
     unfolding fault6
     good =
         any-none (isBad rs r) (length (named (recordAt rs r)))
-        (or-left (any (isBad rs r) (length (named (recordAt rs r)))) _ (clear6 r in-table)) i is-operand
+        (or-false-left (any (isBad rs r) (length (named (recordAt rs r)))) _ (clear6 r in-table)) i is-operand
 
     -- Every operand is lower.
     pub operand-lower : operand (recordAt rs r) i < r
     operand-lower =
-        ltb-true _ _ (not-not _ (or-left (not (ltb (operand (recordAt rs r) i) r)) _ (or-left _ (isIn (operand (recordAt rs r) i) (namedBefore rs r i)) good)))
+        ltb-true _ _ (not-false _ (or-false-left (not (ltb (operand (recordAt rs r) i) r)) _ (or-false-left _ (isIn (operand (recordAt rs r) i) (namedBefore rs r i)) good)))
 
     -- Every operand is of its sort.
     pub operand-sort : isOfSort (roleAt (recordAt rs r) i) (kindAt rs (operand (recordAt rs r) i)) ≡ true
     operand-sort =
-        not-not _ (or-right (not (ltb (operand (recordAt rs r) i) r)) _ (or-left _ (isIn (operand (recordAt rs r) i) (namedBefore rs r i)) good))
+        not-false _ (or-false-right (not (ltb (operand (recordAt rs r) i) r)) _ (or-false-left _ (isIn (operand (recordAt rs r) i) (namedBefore rs r i)) good))
 
     -- It is named by no lower record, and by no earlier operand.
     pub operand-first : isIn (operand (recordAt rs r) i) (namedBefore rs r i) ≡ false
-    operand-first = or-right (not (ltb (operand (recordAt rs r) i) r) || not (isOfSort (roleAt (recordAt rs r) i) (kindAt rs (operand (recordAt rs r) i)))) _ good
+    operand-first = or-false-right (not (ltb (operand (recordAt rs r) i) r) || not (isOfSort (roleAt (recordAt rs r) i) (kindAt rs (operand (recordAt rs r) i)))) _ good
 
     -- Its record is the one that names it, for what its place says.
     pub operand-parent : parent rs (operand (recordAt rs r) i) ≡ r
@@ -225,12 +228,12 @@ module _ (rs : List Record) (clear6 : Clear6 rs) where
   pub named-all : (r : ℕ) → suc r < length rs → isIn r (allNamed rs) ≡ true
   unfolding fault6
   named-all r h =
-      not-not _ (rw (ne-eqb (suc r) (length rs) (omega arith)) at (or-right (any (isBad rs r) (length (named (recordAt rs r)))) _ (clear6 r (omega arith))))
+      not-false _ (rw (ne-eqb (suc r) (length rs) (omega arith)) at (or-false-right (any (isBad rs r) (length (named (recordAt rs r)))) _ (clear6 r (omega arith))))
 
   -- The last is no pattern.
   pub last-sort : (r : ℕ) → suc r ≡ length rs → isPattern (kindAt rs r) ≡ false
   unfolding fault6
-  last-sort r e = rw (eq-eqb (suc r) (length rs) e) at (or-right (any (isBad rs r) (length (named (recordAt rs r)))) _ (clear6 r (omega arith)))
+  last-sort r e = rw (eq-eqb (suc r) (length rs) e) at (or-false-right (any (isBad rs r) (length (named (recordAt rs r)))) _ (clear6 r (omega arith)))
 
 -- ---- of a table that breaks no rule
 
@@ -241,14 +244,14 @@ module _ (rs : List Record) (fine : Fine rs) where
   pub name-bound : (r : ℕ) → r < length rs → kindAt rs r ≡ 3 → isBound rs r (nameOf (recordAt rs r)) ≡ true
   unfolding fault7
   name-bound r h e =
-      not-not _ (rw (eq-eqb (kindAt rs r) 3 e) at (or-left (eqb (kindAt rs r) 3 && not (isBound rs r (nameOf (recordAt rs r)))) _ (fine .clear7 r h)))
+      not-false _ (rw (eq-eqb (kindAt rs r) 3 e) at (or-false-left (eqb (kindAt rs r) 3 && not (isBound rs r (nameOf (recordAt rs r)))) _ (fine .clear7 r h)))
 
   own-fresh : (p n : ℕ) → p < length rs → isName n (recordAt rs p) ≡ true → isBound rs p n ≡ false
   unfolding fault7
   own-fresh p n h g =
-      let is : eqb (kindAt rs p) 32 ≡ true = and-left _ (eqb (nameOf (recordAt rs p)) n) g in
-      let same : nameOf (recordAt rs p) ≡ n = eqb-true _ _ (and-right (eqb (kindAt rs p) 32) _ g) in
-      rw (is, same) at (or-right (eqb (kindAt rs p) 3 && not (isBound rs p (nameOf (recordAt rs p)))) _ (fine .clear7 p h))
+      let is : eqb (kindAt rs p) 32 ≡ true = and-elim-left _ (eqb (nameOf (recordAt rs p)) n) g in
+      let same : nameOf (recordAt rs p) ≡ n = eqb-true _ _ (and-elim-right (eqb (kindAt rs p) 32) _ g) in
+      rw (is, same) at (or-false-right (eqb (kindAt rs p) 3 && not (isBound rs p (nameOf (recordAt rs p)))) _ (fine .clear7 p h))
 
   -- A pattern that holds a name lies where it is not bound.
   fresh-below : (bound p n : ℕ) → p < bound → p < length rs → isPattern (kindAt rs p) ≡ true → holdsName rs p n ≡ true → isBound rs p n ≡ false
@@ -269,12 +272,12 @@ module _ (rs : List Record) (fine : Fine rs) where
 
   module _ (r : ℕ) (in-table : r < length rs) (binder : isBinder (kindAt rs r) ≡ true) where
     first-role : isFirst (roleAt (recordAt rs r) 0) ≡ true
-    first-role = and-left _ (leb 3 (shape (kindAt rs r) .least)) (binder-roles (kindAt rs r) binder)
+    first-role = and-elim-left _ (leb 3 (shape (kindAt rs r) .least)) (binder-roles (kindAt rs r) binder)
 
     -- A binder has operands, and the first is a pattern.
     pub binder-operands : 0 < length (named (recordAt rs r))
     binder-operands =
-        let few : 3 ≤ shape (kindAt rs r) .least = leb-true _ _ (and-right (isFirst (roleAt (recordAt rs r) 0)) _ (binder-roles (kindAt rs r) binder)) in
+        let few : 3 ≤ shape (kindAt rs r) .least = leb-true _ _ (and-elim-right (isFirst (roleAt (recordAt rs r) 0)) _ (binder-roles (kindAt rs r) binder)) in
         omega (arith, named-count (recordAt rs r) (fine .fit r in-table), fit-least (recordAt rs r) (fine .fit r in-table))
 
     pub binder-pattern : isPattern (kindAt rs (patternOf rs r)) ≡ true

@@ -1,5 +1,5 @@
 -- Document 01, "From the input": rules 3 to 9, and the check of a table.
-use mathlib.Core.Bool.{Bool, not, _&&_, _||_}
+use mathlib.Core.Bool.{Bool, not, _&&_, _||_, cond}
 use mathlib.Core.List.{List, [], _∷_, _++_}
 use Prim.Native.Nat.{ℕ, suc}
 use lib.Dec.{eqb, ltb}
@@ -9,7 +9,7 @@ use Rattle.tables.specs.declared.Role.the-variants.{Plain, Condition, Bo
 use Rattle.tables.specs.declared.Checked.{Checked}
 use Rattle.tables.specs.declared.Checked.the-variants.{Accepted, Refused}
 use Rattle.tables.specs.Record.{Record, isExpression, isPattern, named, operand, roleAt, nameOf}
-use Rattle.tables.specs.Table.{pick, Cut, cut, recordAt, kindAt}
+use Rattle.tables.specs.Table.{Cut, cut, recordAt, kindAt}
 use Rattle.tables.specs.Sheet.{any, lowest, isIn, loose, height, patternOf, isBound, inCondition}
 
 -- ---- limits
@@ -54,7 +54,7 @@ hasBad rs r = any (isBad rs r) (length (named (recordAt rs r)))
 
 -- A record never named, or a pattern as the last.
 abbrev pub isStray : List Record → ℕ → Bool
-isStray rs r = pick (eqb (suc r) (length rs)) (isPattern (kindAt rs r)) (not (isIn r (allNamed rs)))
+isStray rs r = cond (eqb (suc r) (length rs)) (isPattern (kindAt rs r)) (not (isIn r (allNamed rs)))
 
 -- Rule 6: an operand not lower, of the wrong sort, or named before; a record never named; a pattern as the last.
 unfoldable pub fault6 : List Record → ℕ → Bool
@@ -95,7 +95,7 @@ judge [] rs = Accepted (length rs)
 judge (u ∷ us) rs =
     let place = lowest (u .fault rs) (length rs) in
     let later = judge us rs in
-    pick (ltb place (length rs)) (Refused (u .number) place) later
+    cond (ltb place (length rs)) (Refused (u .number) place) later
 
 unfoldable pub judged : List Record → Checked
 judged rs = judge (rule 6 fault6 ∷ rule 7 fault7 ∷ rule 8 fault8 ∷ rule 9 fault9 ∷ []) rs
@@ -104,11 +104,11 @@ judged rs = judge (rule 6 fault6 ∷ rule 7 fault7 ∷ rule 8 fault8 ∷ rule 9 
 unfoldable pub judgedCut : Cut → Checked
 judgedCut c =
     let later = judged (c .records) in
-    let counted = pick (ltb mostRecords (length (c .records))) (Refused 5 mostRecords) later in
-    pick (not (c .whole)) (Refused 4 (length (c .records))) counted
+    let counted = cond (ltb mostRecords (length (c .records))) (Refused 5 mostRecords) later in
+    cond (not (c .whole)) (Refused 4 (length (c .records))) counted
 
 -- Rule 3: table empty or over 2,400 bytes.
 unfoldable pub check : List ℕ → Checked
 check table =
     let later = judgedCut (cut table) in
-    pick (eqb (length table) 0 || ltb mostBytes (length table)) (Refused 3 0) later
+    cond (eqb (length table) 0 || ltb mostBytes (length table)) (Refused 3 0) later

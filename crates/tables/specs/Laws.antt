@@ -1,16 +1,19 @@
 -- Laws of the tests over numbers and lists, of what lies below a record and of the way up from it.
-use mathlib.Core.Path.{_≡_, refl, sym, ap, subst, _∙_}
-use mathlib.Core.Bool.{Bool, true, false, not, _&&_, _||_}
+use mathlib.Core.Path.{_≡_, refl, sym, ap, _∙_}
+use mathlib.Core.Bool.{Bool, true, false, not, _||_, cond}
 use mathlib.Core.List.{List, [], _∷_, _++_, map}
 use Prim.Native.Nat.{ℕ, zero, suc, _+_, _<_, _≤_}
 use native.Mathlib.Omega.{arith}
-use borrow.Author.Tests.{ltb-true, ltb-false, lt-ltb, le-ltb, eq-eqb, eqb-true}
-use lib.Dec.{T, eqb, ltb}
+use borrow.Author.Tests.{ltb-true, ltb-false, lt-ltb, le-ltb, eq-eqb, eqb-true, not-false}
+use lib.Dec.{eqb, ltb}
 use lib.ListN.{length, getD, take, drop}
+use mathlib.Mathlib.Data.Bool.Basic.{or-inr}
+use Rattle.prelude.proofs.Truth.{or-false-left, or-false-right, or-false-both}
+use Rattle.prelude.proofs.Absurd.{never}
 use Rattle.tables.specs.declared.Role.{Role}
 use Rattle.tables.specs.declared.Role.the-variants.{Plain}
 use Rattle.tables.specs.Record.{Record, size, headOf, operandsOf, shape, operands, numbers, named, operand, roleAt}
-use Rattle.tables.specs.Table.{pick, recordAt, kindAt}
+use Rattle.tables.specs.Table.{recordAt, kindAt}
 use Rattle.tables.specs.Sheet.{any, lowest, isIn, foldBy, fold, parent, roleOf, roleIn, climbBy, climb}
 use Rattle.tables.specs.Check.{allNamed, namedBefore}
 -- The rows of kinds; cutting a table; operands and roles.
@@ -19,40 +22,6 @@ pub mod Cutting
 pub mod Operands
 
 -- ---- truths
-
-pub never : {X : Type 0} → false ≡ true → X
-never e = absurd (subst T (sym e) tt)
-
-pub or-left : (a b : Bool) → a || b ≡ false → a ≡ false
-or-left true b e = never (sym e)
-or-left false b e = refl
-
-pub or-right : (a b : Bool) → a || b ≡ false → b ≡ false
-or-right true b e = never (sym e)
-or-right false b e = e
-
-pub or-none : (a b : Bool) → a ≡ false → b ≡ false → a || b ≡ false
-or-none a b e f = rw (e, f)
-
-pub or-some : (a b : Bool) → b ≡ true → a || b ≡ true
-or-some true b e = refl
-or-some false b e = e
-
-pub and-left : (a b : Bool) → a && b ≡ true → a ≡ true
-and-left true b e = refl
-and-left false b e = never e
-
-pub and-right : (a b : Bool) → a && b ≡ true → b ≡ true
-and-right true b e = e
-and-right false b e = never e
-
-pub implied : (a b : Bool) → not a || b ≡ true → a ≡ true → b ≡ true
-implied true b e f = e
-implied false b e f = never f
-
-pub not-not : (a : Bool) → not a ≡ false → a ≡ true
-not-not true e = refl
-not-not false e = never (sym e)
 
 -- Either a is lower than b, or not.
 pub split : {X : Type 0} (a b : ℕ) → (a < b → X) → (b ≤ a → X) → X
@@ -68,12 +37,12 @@ module _ (test : ℕ → Bool) where
   pub any-none : (n : ℕ) → any test n ≡ false → (i : ℕ) → i < n → test i ≡ false
   any-none zero e i h = absurd (omega arith)
   any-none (suc n) e i h =
-      split i n (λ l. any-none n (or-left (any test n) (test n) e) i l)
-      (λ l. let same : i ≡ n = omega arith in rw same (or-right (any test n) (test n) e))
+      split i n (λ l. any-none n (or-false-left (any test n) (test n) e) i l)
+      (λ l. let same : i ≡ n = omega arith in rw same (or-false-right (any test n) (test n) e))
 
   pub any-false : (n : ℕ) → ((i : ℕ) → i < n → test i ≡ false) → any test n ≡ false
   any-false zero f = refl
-  any-false (suc n) f = or-none (any test n) (test n) (any-false n (λ i h. f i (omega arith))) (f n (omega arith))
+  any-false (suc n) f = or-false-both (any test n) (test n) (any-false n (λ i h. f i (omega arith))) (f n (omega arith))
 
   -- ---- lowest
 
@@ -83,7 +52,7 @@ module _ (test : ℕ → Bool) where
     pub hit : r < n → test r ≡ true
     pub miss : (q : ℕ) → q < r → test q ≡ false
 
-  low-more : (n r : ℕ) (b t : Bool) → ltb r n ≡ b → test n ≡ t → Low n r → Low (suc n) (pick b r (pick t n (suc n)))
+  low-more : (n r : ℕ) (b t : Bool) → ltb r n ≡ b → test n ≡ t → Low n r → Low (suc n) (cond b r (cond t n (suc n)))
   low-more n r true t e f l = record { within = omega (arith, ltb-true r n e); hit = λ h. l .hit (ltb-true r n e); miss = l .miss }
   low-more n r false true e f l = record { within = omega arith; hit = λ h. f; miss = λ q h. l .miss q (omega (arith, ltb-false r n e, l .within)) }
   low-more n r false false e f l =
@@ -110,7 +79,7 @@ module _ (test : ℕ → Bool) where
 
 -- A test that is computed over all numbers below n holds of each.
 pub each : (test : ℕ → Bool) (n : ℕ) → any (λ k. not (test k)) n ≡ false → (k : ℕ) → k < n → test k ≡ true
-each test n e k h = not-not (test k) (any-none (λ k. not (test k)) n e k h)
+each test n e k h = not-false (test k) (any-none (λ k. not (test k)) n e k h)
 
 -- ---- being in a list
 
@@ -125,7 +94,7 @@ in-append n (m ∷ ms) ns = go (eqb n m) (in-append n ms ns)
 pub in-getD : (ms : List ℕ) (i : ℕ) → i < length ms → isIn (getD ms i 0) ms ≡ true
 in-getD [] i h = absurd (omega arith)
 in-getD (m ∷ ms) zero h = rw (eq-eqb m m refl)
-in-getD (m ∷ ms) (suc i) h = or-some (eqb (getD ms i 0) m) (isIn (getD ms i 0) ms) (in-getD ms i (omega arith))
+in-getD (m ∷ ms) (suc i) h = or-inr (eqb (getD ms i 0) m) (isIn (getD ms i 0) ms) (in-getD ms i (omega arith))
 
 -- Where a number stands that is in a list.
 pub record Place (ms : List ℕ) (n : ℕ) : Type 0 where
@@ -149,9 +118,9 @@ named-before : (n : ℕ) (rs : List Record) (r q : ℕ) → isIn n (allNamed (ta
 unfolding operands shape
 named-before n [] r q e h = refl
 named-before n (x ∷ xs) zero q e h = absurd (omega arith)
-named-before n (x ∷ xs) (suc r) zero e h = or-left _ _ (sym (in-append n (named x) (allNamed (take r xs))) ∙ e)
+named-before n (x ∷ xs) (suc r) zero e h = or-false-left _ _ (sym (in-append n (named x) (allNamed (take r xs))) ∙ e)
 named-before n (x ∷ xs) (suc r) (suc q) e h =
-    named-before n xs r q (or-right (isIn n (named x)) _ (sym (in-append n (named x) (allNamed (take r xs))) ∙ e)) (omega arith)
+    named-before n xs r q (or-false-right (isIn n (named x)) _ (sym (in-append n (named x) (allNamed (take r xs))) ∙ e)) (omega arith)
 
 -- The first operand with a number has the role that its place gives it.
 role-at : (roles : List Role) (bytes : List ℕ) (i : ℕ) → i < length (numbers (operandsOf roles bytes)) → isIn (getD (numbers (operandsOf roles bytes)) i 0) (take i (numbers (operandsOf roles bytes))) ≡ false → roleOf (getD (numbers (operandsOf roles bytes)) i 0) (operandsOf roles bytes) ≡ getD roles i Plain
@@ -159,8 +128,8 @@ role-at [] bytes i h e = absurd (omega arith)
 role-at (role ∷ roles) [] i h e = absurd (omega arith)
 role-at (role ∷ roles) (b ∷ bytes) zero h e = rw (eq-eqb b b refl)
 role-at (role ∷ roles) (b ∷ bytes) (suc i) h e =
-    rw (or-left (eqb (getD (numbers (operandsOf roles bytes)) i 0) b) _ e)
-    (role-at roles bytes i (omega arith) (or-right (eqb (getD (numbers (operandsOf roles bytes)) i 0) b) _ e))
+    rw (or-false-left (eqb (getD (numbers (operandsOf roles bytes)) i 0) b) _ e)
+    (role-at roles bytes i (omega arith) (or-false-right (eqb (getD (numbers (operandsOf roles bytes)) i 0) b) _ e))
 
 -- ---- tables in which operands are lower than their record
 
@@ -200,7 +169,7 @@ parent-higher rs lower r h =
     let p : Place (named (recordAt rs (parent rs r))) r = in-place r _ (low (λ q. isIn r (named (recordAt rs q))) (length rs) .hit h) in
     omega (arith, lower (parent rs r) (p .index) h (p .within), p .is)
 
-pick-same : {A : Type 0} (b : Bool) (x y z : A) → (b ≡ true → x ≡ y) → pick b x z ≡ pick b y z
+pick-same : {A : Type 0} (b : Bool) (x y z : A) → (b ≡ true → x ≡ y) → cond b x z ≡ cond b y z
 pick-same true x y z e = e refl
 pick-same false x y z e = refl
 
@@ -227,24 +196,24 @@ module _ {A : Type 0} (step : ℕ → Role → A → A) (none : A) (rs : List Re
   unfolding climbBy
   climb-up r q e h =
       climb-enough (length rs) (suc (length rs)) r (omega arith) (omega arith)
-      ∙ ap (λ (p : ℕ). pick (ltb p (length rs)) (step p (roleIn rs p r) (climbBy step none rs (length rs) p)) none) e
-      ∙ ap (λ (b : Bool). pick b (step q (roleIn rs q r) (climbBy step none rs (length rs) q)) none) (lt-ltb q (length rs) h)
+      ∙ ap (λ (p : ℕ). cond (ltb p (length rs)) (step p (roleIn rs p r) (climbBy step none rs (length rs) p)) none) e
+      ∙ ap (λ (b : Bool). cond b (step q (roleIn rs q r) (climbBy step none rs (length rs) q)) none) (lt-ltb q (length rs) h)
 
   -- There is no way up from a record that none names.
   pub climb-top : (r : ℕ) → length rs ≤ parent rs r → climb step none rs r ≡ none
   unfolding climbBy
   climb-top r h =
       climb-enough (length rs) (suc (length rs)) r (omega arith) (omega arith)
-      ∙ ap (λ (b : Bool). pick b (step (parent rs r) (roleIn rs (parent rs r) r) (climbBy step none rs (length rs) (parent rs r))) none) (le-ltb (parent rs r) (length rs) h)
+      ∙ ap (λ (b : Bool). cond b (step (parent rs r) (roleIn rs (parent rs r) r) (climbBy step none rs (length rs) (parent rs r))) none) (le-ltb (parent rs r) (length rs) h)
 
 -- ---- an operand whose number is not named before
 
 module _ (rs : List Record) (r i : ℕ) (in-table : r < length rs) (is-operand : i < length (named (recordAt rs r))) (first : isIn (operand (recordAt rs r) i) (namedBefore rs r i) ≡ false) where
   not-lower : isIn (operand (recordAt rs r) i) (allNamed (take r rs)) ≡ false
-  not-lower = or-left _ _ (sym (in-append (operand (recordAt rs r) i) (allNamed (take r rs)) (take i (named (recordAt rs r)))) ∙ first)
+  not-lower = or-false-left _ _ (sym (in-append (operand (recordAt rs r) i) (allNamed (take r rs)) (take i (named (recordAt rs r)))) ∙ first)
 
   not-earlier : isIn (operand (recordAt rs r) i) (take i (named (recordAt rs r))) ≡ false
-  not-earlier = or-right (isIn (operand (recordAt rs r) i) (allNamed (take r rs))) _ (sym (in-append (operand (recordAt rs r) i) (allNamed (take r rs)) (take i (named (recordAt rs r)))) ∙ first)
+  not-earlier = or-false-right (isIn (operand (recordAt rs r) i) (allNamed (take r rs))) _ (sym (in-append (operand (recordAt rs r) i) (allNamed (take r rs)) (take i (named (recordAt rs r)))) ∙ first)
 
   -- Its record is the one that names it.
   pub parent-is : parent rs (operand (recordAt rs r) i) ≡ r

@@ -1,11 +1,10 @@
 -- The shape of a kind in numbers, as a record is read by: where its operands begin, and its first field.
-use mathlib.Core.Bool.{Bool, true, false, _&&_, _||_}
+use mathlib.Core.Bool.{Bool, true, false, _&&_, _||_, cond}
 use mathlib.Core.List.{List}
 use Prim.Native.Nat.{ℕ, zero, suc, _+_}
 use lib.Dec.{eqb, leb}
 use Rattle.tables.specs.declared.Role.{Role}
 use Rattle.tables.specs.declared.Role.the-variants.{Plain, Condition, Body, Pattern, Name}
-use Rattle.tables.specs.Table.{pick}
 use Rattle.tables.specs.Record.{Head, nothing, boolean, integer, name, unary, binary, unknown, shape, size}
 
 -- The place of the first operand in a record of the kind.
@@ -17,10 +16,10 @@ rolesOf kind = shape kind .roles
 
 -- What a binder's first and third operands are for (in 17 and 19 P is kind 32; a let has no condition), and any of its operands.
 abbrev pub firstRole : ℕ → Role
-firstRole kind = pick (eqb kind 17 || eqb kind 19) Name Pattern
+firstRole kind = cond (eqb kind 17 || eqb kind 19) Name Pattern
 
 abbrev pub thirdRole : ℕ → Role
-thirdRole kind = pick (eqb kind 12) Body Condition
+thirdRole kind = cond (eqb kind 12) Body Condition
 
 abbrev pub binderRole : ℕ → ℕ → Role
 binderRole kind zero = firstRole kind

@@ -1,5 +1,5 @@
 -- How the records of a table hang together: what lies below a record, which record names it, what lies around it.
-use mathlib.Core.Bool.{Bool, true, false, _&&_, _||_}
+use mathlib.Core.Bool.{Bool, true, false, _&&_, _||_, cond}
 use mathlib.Core.List.{List, [], _∷_, map}
 use Prim.Native.Nat.{ℕ, zero, suc, max}
 use lib.Dec.{eqb, ltb}
@@ -7,7 +7,7 @@ use lib.ListN.{length}
 use Rattle.tables.specs.declared.Role.{Role}
 use Rattle.tables.specs.declared.Role.the-variants.{Plain, Condition, Body, Pattern, Name}
 use Rattle.tables.specs.Record.{Record, Operand, shape, operands, named, operand, nameOf}
-use Rattle.tables.specs.Table.{pick, recordAt}
+use Rattle.tables.specs.Table.{recordAt}
 
 -- ---- tests over numbers and lists
 
@@ -19,7 +19,7 @@ any test (suc n) = any test n || test n
 -- The lowest number below n that passes the test; n where none does.
 abbrev pub lowest : (ℕ → Bool) → ℕ → ℕ
 lowest test zero = zero
-lowest test (suc n) = let r = lowest test n in pick (ltb r n) r (pick (test n) n (suc n))
+lowest test (suc n) = let r = lowest test n in cond (ltb r n) r (cond (test n) n (suc n))
 
 abbrev pub isIn : ℕ → List ℕ → Bool
 isIn n [] = false
@@ -75,7 +75,7 @@ parent rs r = lowest (λ q. isIn r (named (recordAt rs q))) (length rs)
 
 abbrev pub roleOf : ℕ → List Operand → Role
 roleOf r [] = Plain
-roleOf r (o ∷ os) = pick (eqb r (o .number)) (o .role) (roleOf r os)
+roleOf r (o ∷ os) = cond (eqb r (o .number)) (o .role) (roleOf r os)
 
 abbrev pub roleIn : List Record → ℕ → ℕ → Role
 roleIn rs q r = roleOf r (operands (recordAt rs q))
@@ -88,7 +88,7 @@ climbBy step none rs (suc bound) r =
     let q = parent rs r in
     let up = climbBy step none rs bound q in
     let here = step q (roleIn rs q r) up in
-    pick (ltb q (length rs)) here none
+    cond (ltb q (length rs)) here none
 
 abbrev pub climb : {A : Type 0} → (ℕ → Role → A → A) → A → List Record → ℕ → A
 climb step none rs r = climbBy step none rs (length rs) r

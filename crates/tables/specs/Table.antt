@@ -1,16 +1,11 @@
 -- Document 01, "Table records" and rule 4: cutting a table into records.
-use mathlib.Core.Bool.{Bool, true, false, _||_}
+use mathlib.Core.Bool.{Bool, true, false, _||_, cond}
 use mathlib.Core.List.{List, [], _∷_}
 use Prim.Native.Nat.{ℕ, zero, suc, _-_}
 use lib.Dec.{eqb, ltb}
 use lib.ListN.{length, getD, take, drop}
 use Rattle.integers.specs.Bytes.{word}
 use Rattle.tables.specs.Record.{Record, isFit}
-
--- The first where the test is true, else the second.
-abbrev pub pick {ℓ} : {A : Type ℓ} → Bool → A → A → A
-pick true a b = a
-pick false a b = b
 
 -- The record at the start of some bytes: length of the whole record, kind, then one-byte fields.
 abbrev pub first : List ℕ → Record
@@ -24,9 +19,9 @@ pub data Next : Type 0 where
 -- Rule 4: fewer than 4 bytes left for a record; a length under 4, past the end or unfit for the kind; unknown kind, operator, name or literal.
 unfoldable pub next : List ℕ → Next
 next bytes =
-    pick (eqb (length bytes) 0) end
-    (pick (ltb (length bytes) 4 || ltb (word bytes 0) 4 || ltb (length bytes) (word bytes 0)) fault
-    (pick (isFit (first bytes)) (one (first bytes) (drop (word bytes 0) bytes)) fault))
+    cond (eqb (length bytes) 0) end
+    (cond (ltb (length bytes) 4 || ltb (word bytes 0) 4 || ltb (length bytes) (word bytes 0)) fault
+    (cond (isFit (first bytes)) (one (first bytes) (drop (word bytes 0) bytes)) fault))
 
 -- The records up to the first fault of rule 4, and whether there is none.
 pub record Cut : Type 0 where

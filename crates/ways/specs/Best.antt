@@ -1,17 +1,19 @@
 -- The least of some bindings above the present one, and of the least found before.
 use mathlib.Core.Path.{_≡_, refl, sym, ap, subst, _∙_}
-use mathlib.Core.Bool.{Bool, true, false, _&&_}
+use mathlib.Core.Bool.{Bool, true, false, _&&_, cond}
 use mathlib.Core.Logic.{_⊎_, inl, inr, ⊎-elim}
 use mathlib.Core.Option.{Option, none, some}
 use mathlib.Core.List.{List, [], _∷_, _++_}
 use Prim.Native.Nat.{ℕ, zero, suc}
-use native.Mathlib.Omega.{arith}
 use lib.ListN.{set as put}
+use Rattle.prelude.proofs.Absurd.{impossible}
+use Rattle.prelude.specs.Membership.{In}
+use Rattle.prelude.proofs.Membership.{in-one, in-picked}
 use Rattle.integers.specs.declared.Order.the-variants.{Lower}
 use Rattle.values.specs.Value.{Value}
-use Rattle.values.specs.Items.{pick, same}
+use Rattle.values.specs.Items.{same}
 use Rattle.patterns.specs.Ways.{gather}
-use Rattle.patterns.specs.Members.{In, in-one, in-picked, in-gather}
+use Rattle.patterns.specs.Members.{in-gather}
 use Rattle.patterns.specs.Binding.{free, is, clash, Binding, nothing, consistent, together, orderBindings}
 use Rattle.patterns.specs.Pattern.{Pattern, name, any, literal, each, halved, Patterns, nil, cons, parts, contents, met, split, leftOf, rightOf, matches, matchEach}
 use Rattle.patterns.specs.Binder.{bindings}
@@ -27,7 +29,7 @@ isBelow b (some m) = isLower (orderBindings b m)
 
 -- The lesser of a binding above the present one and the least so far.
 abbrev pub better : Bool → Binding → Option Binding → Option Binding → Option Binding
-better good b a m = pick (good && (isAbove a b && isBelow b m)) (some b) m
+better good b a m = cond (good && (isAbove a b && isBelow b m)) (some b) m
 
 -- The least of the bindings above the present one, and of the least so far.
 unfoldable pub leastOver : Option Binding → List Binding → Option Binding → Option Binding
@@ -72,8 +74,8 @@ better-case : (good : Bool) (b : Binding) (a m : Option Binding)
 better-case good b a m = go good (isAbove a b) (isBelow b m) refl refl refl
   where
     go : (g x y : Bool) → good ≡ g → isAbove a b ≡ x → isBelow b m ≡ y
-        → ((pick (g && (x && y)) (some b) m ≡ some b) × (g ≡ true) × (isAbove a b ≡ true) × (isBelow b m ≡ true))
-        ⊎ ((pick (g && (x && y)) (some b) m ≡ m) × (g ≡ true → isAbove a b ≡ true → isBelow b m ≡ true → ⊥))
+        → ((cond (g && (x && y)) (some b) m ≡ some b) × (g ≡ true) × (isAbove a b ≡ true) × (isBelow b m ≡ true))
+        ⊎ ((cond (g && (x && y)) (some b) m ≡ m) × (g ≡ true → isAbove a b ≡ true → isBelow b m ≡ true → ⊥))
     go true true true d e f = inl (refl, refl, e, f)
     go true true false d e f = inr (refl, λ g l h. true-false (sym h ∙ f))
     go true false y d e f = inr (refl, λ g l h. true-false (sym l ∙ e))
@@ -153,7 +155,7 @@ settles-least a bs none s = λ b i l. s .none-better b i (above-is a b l) refl
 settles-least a bs (some n) s = go (s .from)
   where
     go : From a bs none (some n) → Least (λ b. In b bs) a (some n)
-    go (inl e) = let z : _≡_ {A = ℕ} 0 1 = cc in absurd (omega arith)
+    go (inl e) = impossible cc
     go (inr (b, e, i, l, h)) =
         let q : n ≡ b = cc in
         (subst (λ (x : Binding). In x bs) (sym q) i, above-true a n (ap (isAbove a) q ∙ l), λ c j k o. s .none-better c j (above-is a c k) (lower-below c n o))

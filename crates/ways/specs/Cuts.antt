@@ -1,16 +1,16 @@
 -- The tree of the ways worth going is the tree of all ways, cut down where none of the bindings sought is ahead.
 use mathlib.Core.Path.{_≡_, refl, sym, ap, subst, _∙_}
-use mathlib.Core.Bool.{Bool, true, false, _&&_}
+use mathlib.Core.Bool.{Bool, true, false, _&&_, cond}
 use mathlib.Core.List.{List, [], _∷_}
 use Prim.Native.Nat.{_<_}
 use native.Mathlib.Omega.{arith}
 use lib.ListN.{length, getD}
+use Rattle.prelude.specs.Membership.{In}
 use Rattle.values.specs.Value.{Value}
-use Rattle.values.specs.Items.{pick, same}
+use Rattle.values.specs.Items.{same}
 use Rattle.choices.specs.Tree.{Tree, give, stop, choose, bind, value, Gives}
-use Rattle.choices.specs.Laws.Ahead.{CutTo}
+use Rattle.choices.proofs.Ahead.{CutTo}
 use Rattle.patterns.specs.Ways.{Halves}
-use Rattle.patterns.specs.Members.{In}
 use Rattle.patterns.specs.Binding.{Binding, names, nothing, only, merge, consistent}
 use Rattle.patterns.specs.Pattern.{Pattern, name, any, literal, each, halved, Patterns, nil, cons, parts, contents, met, split, leftOf, rightOf, tooLarge, matches}
 use Rattle.patterns.specs.Matched.{merge-sized, only-sized, matched, matchedEach, match-sized, each-sized}
@@ -73,11 +73,11 @@ Over u = (r : State) × (u ≡ give r) × (Good r → ⊥)
 over-failed : (st : State) → Over (give (failed st))
 over-failed st = (failed st, refl, λ g. true-false (sym (g .0)))
 
-over-literal : (t : Bool) (st : State) → (Good st → ⊥) → Over (give (pick t st (failed st)))
+over-literal : (t : Bool) (st : State) → (Good st → ⊥) → Over (give (cond t st (failed st)))
 over-literal true st b = (st, refl, b)
 over-literal false st b = over-failed st
 
-over-worth : (st : State) (t : Bool) (u : Tree State) → (Good st → ⊥) → Over (pick (isGood st && t) u (give (failed st)))
+over-worth : (st : State) (t : Bool) (u : Tree State) → (Good st → ⊥) → Over (cond (isGood st && t) u (give (failed st)))
 over-worth st t u b = rw (is-bad st b) (over-failed st)
 
 over-bind : (u : Tree State) (f : State → Tree State) → Over u → ((r : State) → (Good r → ⊥) → Over (f r)) → Over (bind u f)
@@ -94,7 +94,7 @@ module _ (h : Binding → Bool) where
     over (each k ps) v st b = over-worth st (h (st .found)) (among (met k (parts ps) (contents k v)) (give (failed st)) (λ vs. trimEach h ps vs st)) b
     over (halved k p q) v st b =
         over-worth st (h (st .found))
-        (pick (tooLarge k (contents k v)) (give (failed st)) (among (split k (contents k v)) (give (failed st)) (λ x. bind (trimmed h p (leftOf k x) st) (λ r. trimmed h q (rightOf k x) r)))) b
+        (cond (tooLarge k (contents k v)) (give (failed st)) (among (split k (contents k v)) (give (failed st)) (λ x. bind (trimmed h p (leftOf k x) st) (λ r. trimmed h q (rightOf k x) r)))) b
 
     over-each : (ps : Patterns) (vs : List Value) (st : State) → (Good st → ⊥) → Over (trimEach h ps vs st)
     over-each nil vs st b = (st, refl, b)
@@ -145,7 +145,7 @@ module _ (h : Binding → Bool) (W : Binding → Type 0) (keeps : Keeps h W) whe
       none-kept : (isGood st && h (st .found)) ≡ false → Good st → Lost W st
       none-kept e g d k x = true-false (sym (both-true (isGood st) (h (st .found)) (is-good st g) (keeps (st .found) d n k x)) ∙ e)
 
-      go : (b : Bool) → (isGood st && h (st .found)) ≡ b → Cut (pick b u (give (failed st))) t
+      go : (b : Bool) → (isGood st && h (st .found)) ≡ b → Cut (cond b u (give (failed st))) t
       go true e = c
       go false e = record {
         sized = λ s k. w n s k .0;
@@ -153,11 +153,11 @@ module _ (h : Binding → Bool) (W : Binding → Type 0) (keeps : Keeps h W) whe
         lost = λ z s k good. let grown = w n s k .1 good in lost-more W st s (none-kept e (grown .0)) grown;
       }
 
-  cut-literal : (t : Bool) (st : State) → Sized st → Cut (give (pick t st (failed st))) (give (pick t st (failed st)))
+  cut-literal : (t : Bool) (st : State) → Sized st → Cut (give (cond t st (failed st))) (give (cond t st (failed st)))
   cut-literal true st n = stands-self W st n
   cut-literal false st n = stands-self W (failed st) n
 
-  cut-pick : (b : Bool) (st : State) (u t : Tree State) → Sized st → Cut u t → Cut (pick b (give (failed st)) u) (pick b (give (failed st)) t)
+  cut-pick : (b : Bool) (st : State) (u t : Tree State) → Sized st → Cut u t → Cut (cond b (give (failed st)) u) (cond b (give (failed st)) t)
   cut-pick true st u t n c = stands-self W (failed st) n
   cut-pick false st u t n c = c
 
@@ -198,7 +198,7 @@ module _ (h : Binding → Bool) (W : Binding → Type 0) (keeps : Keeps h W) whe
         let g : Halves Value → Tree State = λ x. bind (tries p (leftOf k x) st) (λ r. tries q (rightOf k x) r) in
         let u = among ws (give (failed st)) f in
         let t = among ws (give (failed st)) g in
-        cut-worth st (pick (tooLarge k (contents k v)) (give (failed st)) u) (pick (tooLarge k (contents k v)) (give (failed st)) t) n (grows (halved k p q) v st)
+        cut-worth st (cond (tooLarge k (contents k v)) (give (failed st)) u) (cond (tooLarge k (contents k v)) (give (failed st)) t) n (grows (halved k p q) v st)
         (cut-pick (tooLarge k (contents k v)) st u t n
         (cut-among ws st f g n
         (λ x. cut-bind (trimmed h p (leftOf k x) st) (tries p (leftOf k x) st) (λ r. trimmed h q (rightOf k x) r) (λ r. tries q (rightOf k x) r)

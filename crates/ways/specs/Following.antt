@@ -1,18 +1,18 @@
 -- The bindings one after the other: the least binding above the present one.
 use mathlib.Core.Path.{_≡_, refl, sym, ap, subst, _∙_}
-use mathlib.Core.Bool.{Bool, true, false}
+use mathlib.Core.Bool.{Bool, true, false, cond}
 use mathlib.Core.Logic.{_⊎_, inl, inr, ⊎-elim}
 use mathlib.Core.Option.{Option, none, some}
 use mathlib.Core.List.{List, [], _∷_}
 use Prim.Native.Nat.{ℕ, zero, suc, _<_}
 use native.Mathlib.Omega.{arith}
 use lib.ListN.{length, getD}
+use Rattle.prelude.proofs.Absurd.{impossible}
+use Rattle.prelude.specs.Membership.{In}
 use Rattle.integers.specs.declared.Order.{Order}
 use Rattle.integers.specs.declared.Order.the-variants.{Lower, Same, Higher}
-use Rattle.integers.specs.Ordered.{flip}
-use Rattle.values.specs.Items.{pick}
-use Rattle.values.specs.Laws.{lower-same}
-use Rattle.patterns.specs.Members.{In}
+use Rattle.integers.proofs.Ordered.{flip}
+use Rattle.values.proofs.Order.{lower-same}
 use Rattle.patterns.specs.Binding.{Binding, orderBindings}
 use Rattle.patterns.specs.Ordered.{bindings-flip, bindings-refl, bindings-asymmetric, bindings-total, BeforeEach, Rising, before-in}
 use Rattle.ways.specs.Merging.{true-false}
@@ -31,7 +31,7 @@ isAbove (some a) b = isLower (orderBindings a b)
 -- The first of a list that is above the present one.
 unfoldable pub following : Option Binding → List Binding → Option Binding
 following a [] = none
-following a (b ∷ bs) = pick (isAbove a b) (some b) (following a bs)
+following a (b ∷ bs) = cond (isAbove a b) (some b) (following a bs)
 
 -- The k-th of a list, if it has so many.
 unfoldable pub nth : List Binding → ℕ → Option Binding
@@ -48,8 +48,8 @@ lower-true Higher e = true-false (sym e)
 
 pub lower-false : (o : Order) → isLower o ≡ false → o ≡ Lower → ⊥
 lower-false Lower e q = true-false e
-lower-false Same e q = let z : _≡_ {A = ℕ} 0 1 = cc in omega arith
-lower-false Higher e q = let z : _≡_ {A = ℕ} 0 1 = cc in omega arith
+lower-false Same e q = impossible cc
+lower-false Higher e q = impossible cc
 
 -- THEOREM: from none it is the first
 pub following-first : (bs : List Binding) → following none bs ≡ nth bs 0
@@ -120,7 +120,7 @@ following-least a (b ∷ bs) r = go (isAbove a b) refl (following-least a bs (r 
     rest e none h = λ c i l. ⊎-elim (λ q. above-false a b e (subst (Above a) q l)) (λ j. h c j l) i
     rest e (some m) h = (inr (h .0), h .1, λ c i l o. ⊎-elim (λ q. above-false a b e (subst (Above a) q l)) (λ j. h .2 c j l o) i)
 
-    go : (t : Bool) → isAbove a b ≡ t → Least (λ c. In c bs) a (following a bs) → Least (λ c. In c (b ∷ bs)) a (pick t (some b) (following a bs))
+    go : (t : Bool) → isAbove a b ≡ t → Least (λ c. In c bs) a (following a bs) → Least (λ c. In c (b ∷ bs)) a (cond t (some b) (following a bs))
     go true e h = (
       inl refl,
       above-true a b e,

@@ -1,18 +1,19 @@
 -- What is found on the way to a binding between the present one and the least so far is hopeful.
 use mathlib.Core.Path.{_≡_, refl, sym, ap, ap₂, subst, _∙_}
-use mathlib.Core.Bool.{Bool, true, false, _&&_}
+use mathlib.Core.Bool.{Bool, true, false, _&&_, cond}
 use mathlib.Core.Logic.{_⊎_, inl, inr}
 use mathlib.Core.Option.{Option, none, some}
 use mathlib.Core.List.{[], _∷_}
 use Prim.Native.Nat.{ℕ, suc, _<_}
 use native.Mathlib.Omega.{arith}
 use lib.ListN.{length}
+use Rattle.prelude.proofs.Absurd.{impossible}
+use Rattle.prelude.specs.Membership.{In}
 use Rattle.integers.specs.declared.Order.{Order}
 use Rattle.integers.specs.declared.Order.the-variants.{Lower, Same, Higher}
-use Rattle.integers.specs.Ordered.{flip}
+use Rattle.integers.proofs.Ordered.{flip}
 use Rattle.values.specs.Value.{Value, order, after}
-use Rattle.values.specs.Items.{pick, same}
-use Rattle.patterns.specs.Members.{In}
+use Rattle.values.specs.Items.{same}
 use Rattle.patterns.specs.Binding.{Cell, free, is, clash, Binding, names, cellOf, agree, merge, orderCells, orderBindings}
 use Rattle.patterns.specs.Pattern.{Pattern, matches}
 use Rattle.patterns.specs.Matched.{matched, match-sized}
@@ -46,10 +47,10 @@ made-is : (v u : Value) (z : Cell) → agree (is v) z ≡ is u → agree (is v) 
 made-is v u free e = refl
 made-is v u (is w) e = go (same v w) e
   where
-    go : (t : Bool) → pick t (is v) clash ≡ is u → pick t (is v) clash ≡ is v
+    go : (t : Bool) → cond t (is v) clash ≡ is u → cond t (is v) clash ≡ is v
     go true e = refl
-    go false e = let z : _≡_ {A = ℕ} 0 1 = cc in absurd (omega arith)
-made-is v u clash e = let z : _≡_ {A = ℕ} 0 1 = cc in absurd (omega arith)
+    go false e = impossible cc
+made-is v u clash e = impossible cc
 
 made : (s : Bool) (x z y : Cell) → Told s (agree x z) → Told s y → Made x (agree x z) y
 made true x z y (u, e) (w, d) = subst (Made x (agree x z)) (sym d) (go x e)

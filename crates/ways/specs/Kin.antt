@@ -1,7 +1,7 @@
 -- A binding of the pattern, or none.
 use mathlib.Core.Option.{Option, none, some}
+use Rattle.prelude.specs.Membership.{In}
 use Rattle.values.specs.Value.{Value}
-use Rattle.patterns.specs.Members.{In}
 use Rattle.patterns.specs.Binding.{Binding}
 use Rattle.patterns.specs.Pattern.{Pattern, matches}
 

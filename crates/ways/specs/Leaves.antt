@@ -1,18 +1,20 @@
 -- The good leaves of the tree of all ways are the matches, where no set is too large to split.
 use mathlib.Core.Path.{_≡_, refl, sym, ap, subst, _∙_}
-use mathlib.Core.Bool.{Bool, true, false, _||_}
+use mathlib.Core.Bool.{Bool, true, false, _||_, cond}
 use mathlib.Core.Logic.{_⊎_, inl, inr, ⊎-elim}
 use mathlib.Core.List.{List, [], _∷_}
 use Prim.Native.Nat.{ℕ, zero, suc, _<_}
 use native.Mathlib.Omega.{arith}
 use lib.ListN.{length, getD}
+use Rattle.prelude.proofs.Absurd.{impossible}
+use Rattle.prelude.proofs.Truth.{or-false-left, or-false-right}
+use Rattle.prelude.specs.Membership.{In}
 use Rattle.values.specs.Value.{Value}
-use Rattle.values.specs.Items.{pick, same}
+use Rattle.values.specs.Items.{same}
 use Rattle.choices.specs.Tree.{Tree, give, bind, Outcome, value, Gives}
-use Rattle.choices.specs.Laws.Trees.{gives-bind-out, gives-bind-in}
-use Rattle.tables.specs.Laws.{or-left, or-right}
+use Rattle.choices.proofs.Trees.{gives-bind-out, gives-bind-in}
 use Rattle.patterns.specs.Ways.{gather, exists}
-use Rattle.patterns.specs.Members.{In, in-gather, gather-in}
+use Rattle.patterns.specs.Members.{in-gather, gather-in}
 use Rattle.patterns.specs.Binding.{Binding, names, nothing, only, merge, consistent, together}
 use Rattle.patterns.specs.Pattern.{Pattern, name, any, literal, each, halved, Patterns, nil, cons, parts, contents, met, split, leftOf, rightOf, tooLarge, matches, matchEach, wide, wideEach}
 use Rattle.patterns.specs.Matched.{merge-sized, only-sized, in-together, together-in, matched, match-sized}
@@ -35,7 +37,7 @@ pub value-eq : {r st : State} → _≡_ {A = Outcome State} (value r) (value st)
 value-eq e = cc
 
 pub through : (t : Tree State) (f : State → Tree State) (r : State) → Gives (bind t f) (value r) → (m : State) × Gives t (value m) × Gives (f m) (value r)
-through t f r h = ⊎-elim (λ w. let z : _≡_ {A = ℕ} 0 1 = cc (w .2) in absurd (omega arith)) (λ w. w) (gives-bind-out t f (value r) h)
+through t f r h = ⊎-elim (λ w. impossible (cc (w .2))) (λ w. w) (gives-bind-out t f (value r) h)
 
 pub on : (t : Tree State) (f : State → Tree State) (m r : State) → Gives t (value m) → Gives (f m) (value r) → Gives (bind t f) (value r)
 on t f m r h g = gives-bind-in t f (value r) (inr (m, h, g))
@@ -58,7 +60,7 @@ any-sound st n r h =
     let e = value-eq h in
     (ap (λ (x : State). length (x .found)) e ∙ n, λ g. (subst (λ (x : State). Good x) e g, (nothing, inl refl, ap (λ (x : State). x .found) e ∙ sym (merge-nothing (st .found) n))))
 
-literal-sound : (t : Bool) (st : State) → Sound (pick t (nothing ∷ []) []) st (give (pick t st (failed st)))
+literal-sound : (t : Bool) (st : State) → Sound (cond t (nothing ∷ []) []) st (give (cond t st (failed st)))
 literal-sound true st = any-sound st
 literal-sound false st = fail-sound [] st
 
@@ -92,7 +94,7 @@ among-sound (x ∷ xs) st f t h = λ n r k.
     let w = h y n r (k .2) in
     (w .0, λ g. let (gs, found) = w .1 g in let (b, i, e) = found in (gs, (b, gather-in y b (x ∷ xs) f (at-in (x ∷ xs) (k .0) x (k .1)) i, e)))
 
-wide-sound : (t : Bool) (l : List Binding) (st : State) (u : Tree State) → Sound l st u → Sound l st (pick t (give (failed st)) u)
+wide-sound : (t : Bool) (l : List Binding) (st : State) (u : Tree State) → Sound l st u → Sound l st (cond t (give (failed st)) u)
 wide-sound true l st u h = fail-sound l st
 wide-sound false l st u h = h
 
@@ -131,7 +133,7 @@ any-complete st n b (inl e) o g =
     (st, refl, (o, ap consistent (sym f) ∙ g), n, sym f)
 any-complete st n b (inr h) o g = absurd h
 
-literal-complete : (t : Bool) (st : State) → Complete (pick t (nothing ∷ []) []) st (give (pick t st (failed st)))
+literal-complete : (t : Bool) (st : State) → Complete (cond t (nothing ∷ []) []) st (give (cond t st (failed st)))
 literal-complete true st = any-complete st
 literal-complete false st = λ n b i o g. absurd i
 
@@ -160,15 +162,15 @@ among-complete (x ∷ xs) st f u t h n b i o g =
     let (r, gr, good, nr, er) = h y iy n b ib o g in
     (r, (d, lt, subst (λ z. Gives (t z) (value r)) e gr), good, nr, er)
 
-wide-complete : (t : Bool) (l : List Binding) (st : State) (u : Tree State) → t ≡ false → Complete l st u → Complete l st (pick t (give (failed st)) u)
+wide-complete : (t : Bool) (l : List Binding) (st : State) (u : Tree State) → t ≡ false → Complete l st u → Complete l st (cond t (give (failed st)) u)
 wide-complete true l st u e h = true-false e
 wide-complete false l st u e h = h
 
 pub none-exists : {A : Type 0} (xs : List A) (f : A → Bool) → exists xs f ≡ false → (x : A) → In x xs → f x ≡ false
 unfolding exists
 none-exists [] f e x i = absurd i
-none-exists (y ∷ xs) f e x (inl q) = ap f q ∙ or-left (f y) (exists xs f) e
-none-exists (y ∷ xs) f e x (inr i) = none-exists xs f (or-right (f y) (exists xs f) e) x i
+none-exists (y ∷ xs) f e x (inl q) = ap f q ∙ or-false-left (f y) (exists xs f) e
+none-exists (y ∷ xs) f e x (inr i) = none-exists xs f (or-false-right (f y) (exists xs f) e) x i
 
 mutual
   unfolding matches tries wide
@@ -181,8 +183,8 @@ mutual
       among-complete (met k (parts ps) (contents k v)) st (λ vs. matchEach ps vs) (give (failed st)) (λ vs. tryEach ps vs st)
       (λ vs i. complete-each ps vs st (none-exists (met k (parts ps) (contents k v)) (λ vs. wideEach ps vs) w vs i))
   complete (halved k p q) v st w =
-      let e = or-left (tooLarge k (contents k v)) (exists (split k (contents k v)) (λ h. wide p (leftOf k h) || wide q (rightOf k h))) w in
-      let f = or-right (tooLarge k (contents k v)) (exists (split k (contents k v)) (λ h. wide p (leftOf k h) || wide q (rightOf k h))) w in
+      let e = or-false-left (tooLarge k (contents k v)) (exists (split k (contents k v)) (λ h. wide p (leftOf k h) || wide q (rightOf k h))) w in
+      let f = or-false-right (tooLarge k (contents k v)) (exists (split k (contents k v)) (λ h. wide p (leftOf k h) || wide q (rightOf k h))) w in
       wide-complete (tooLarge k (contents k v)) (gather (split k (contents k v)) (λ h. together (matches p (leftOf k h)) (matches q (rightOf k h)))) st
       (among (split k (contents k v)) (give (failed st)) (λ h. bind (tries p (leftOf k h) st) (λ r. tries q (rightOf k h) r))) e
       (among-complete (split k (contents k v)) st (λ h. together (matches p (leftOf k h)) (matches q (rightOf k h))) (give (failed st))
@@ -190,15 +192,15 @@ mutual
       (λ h i.
       let g = none-exists (split k (contents k v)) (λ h. wide p (leftOf k h) || wide q (rightOf k h)) f h i in
       seq-complete (matches p (leftOf k h)) (matches q (rightOf k h)) st (tries p (leftOf k h) st) (λ r. tries q (rightOf k h) r)
-      (complete p (leftOf k h) st (or-left (wide p (leftOf k h)) (wide q (rightOf k h)) g))
-      (λ r. complete q (rightOf k h) r (or-right (wide p (leftOf k h)) (wide q (rightOf k h)) g))))
+      (complete p (leftOf k h) st (or-false-left (wide p (leftOf k h)) (wide q (rightOf k h)) g))
+      (λ r. complete q (rightOf k h) r (or-false-right (wide p (leftOf k h)) (wide q (rightOf k h)) g))))
 
   complete-each : (ps : Patterns) (vs : List Value) (st : State) → wideEach ps vs ≡ false → Complete (matchEach ps vs) st (tryEach ps vs st)
   complete-each nil vs st w = any-complete st
   complete-each (cons p ps) [] st w = λ n b i o g. absurd i
   complete-each (cons p ps) (v ∷ vs) st w =
       seq-complete (matches p v) (matchEach ps vs) st (tries p v st) (λ r. tryEach ps vs r)
-      (complete p v st (or-left (wide p v) (wideEach ps vs) w)) (λ r. complete-each ps vs r (or-right (wide p v) (wideEach ps vs) w))
+      (complete p v st (or-false-left (wide p v) (wideEach ps vs) w)) (λ r. complete-each ps vs r (or-false-right (wide p v) (wideEach ps vs) w))
 
 -- ---- the theorems
 

@@ -1,17 +1,18 @@
 -- Bindings put together: an order of putting together does not matter, and what is consistent together is so apart.
 use mathlib.Core.Path.{_≡_, refl, sym, ap, ap₂, _∙_}
-use mathlib.Core.Bool.{Bool, true, false, _&&_}
+use mathlib.Core.Bool.{Bool, true, false, _&&_, cond}
 use mathlib.Core.List.{[], _∷_}
 use Prim.Native.Nat.{ℕ, zero, suc}
 use native.Mathlib.Omega.{arith}
 use lib.ListN.{length, replicate}
+use Rattle.prelude.proofs.Absurd.{impossible}
 use Rattle.values.specs.Value.{Value}
-use Rattle.values.specs.Items.{pick, same}
-use Rattle.values.specs.Laws.{same-true}
+use Rattle.values.specs.Items.{same}
+use Rattle.values.proofs.Order.{same-true}
 use Rattle.patterns.specs.Binding.{Cell, free, is, clash, Binding, names, nothing, agree, merge, consistent}
 
 pub true-false : {A : Type 0} → true ≡ false → A
-true-false e = let z : _≡_ {A = ℕ} 0 1 = cc in absurd (omega arith)
+true-false e = impossible cc
 
 pub both-true : (s t : Bool) → s ≡ true → t ≡ true → (s && t) ≡ true
 both-true true t e f = f
@@ -26,23 +27,23 @@ agree-free free = refl
 agree-free (is v) = refl
 agree-free clash = refl
 
-picked-free : (b : Bool) (v : Value) → agree (pick b (is v) clash) free ≡ pick b (is v) clash
+picked-free : (b : Bool) (v : Value) → agree (cond b (is v) clash) free ≡ cond b (is v) clash
 picked-free true v = refl
 picked-free false v = refl
 
-picked-clash : (b : Bool) (v : Value) → agree (pick b (is v) clash) clash ≡ clash
+picked-clash : (b : Bool) (v : Value) → agree (cond b (is v) clash) clash ≡ clash
 picked-clash true v = refl
 picked-clash false v = refl
 
-picked-is : (v w u : Value) (b c : Bool) → same v w ≡ b → same w u ≡ c → agree (pick b (is v) clash) (is u) ≡ agree (is v) (pick c (is w) clash)
+picked-is : (v w u : Value) (b c : Bool) → same v w ≡ b → same w u ≡ c → agree (cond b (is v) clash) (is u) ≡ agree (is v) (cond c (is w) clash)
 picked-is v w u true true e f =
     let q = same-true v w e in
     let g : same v u ≡ true = ap (λ (x : Value). same x u) q ∙ f in
-    ap (λ (x : Bool). pick x (is v) clash) (g ∙ sym e)
+    ap (λ (x : Bool). cond x (is v) clash) (g ∙ sym e)
 picked-is v w u true false e f =
     let q = same-true v w e in
-    ap (λ (x : Bool). pick x (is v) clash) (ap (λ (x : Value). same x u) q ∙ f)
-picked-is v w u false true e f = ap (λ (x : Bool). pick x (is v) clash) (sym e)
+    ap (λ (x : Bool). cond x (is v) clash) (ap (λ (x : Value). same x u) q ∙ f)
+picked-is v w u false true e f = ap (λ (x : Bool). cond x (is v) clash) (sym e)
 picked-is v w u false false e f = refl
 
 agree-assoc : (x y z : Cell) → agree (agree x y) z ≡ agree x (agree y z)

@@ -1,15 +1,14 @@
 -- A pattern that has parts, read off its record: the ways of what its parts meet, and the tree of its ways, the same for all such kinds.
 use mathlib.Core.Path.{_≡_, refl, sym, ap, _∙_}
-use mathlib.Core.Bool.{Bool, true, false, _||_}
+use mathlib.Core.Bool.{Bool, true, false, _||_, cond}
 use mathlib.Core.List.{List, [], _∷_, map}
 use Prim.Native.Nat.{ℕ, zero, suc, _+_, _-_, _≤_, _<_}
 use native.Mathlib.Omega.{arith}
 use lib.Dec.{eqb, ltb}
 use lib.ListN.{length, getD, length-map}
 use Rattle.values.specs.Value.{Kind, set, sequence, tuple, Value, boolean, integer}
-use Rattle.values.specs.Items.{pick}
 use Rattle.choices.specs.Tree.{Tree, give, choose, bind}
-use Rattle.choices.specs.Laws.Trees.{bind-cong, bind-give}
+use Rattle.choices.proofs.Trees.{bind-cong, bind-give}
 use Rattle.patterns.specs.Ways.{Halves}
 use Rattle.patterns.specs.Pattern.{Pattern, name, any, literal, each, halved, parts, contents, met, split, leftOf, rightOf, tooLarge}
 use Rattle.tables.specs.Record.{Record, named, booleanOf, integerOf, nameOf}
@@ -24,7 +23,7 @@ use Rattle.ways.specs.Read.{patternsOf, patternOf, patternAt}
 
 -- The kind of the value that has such parts: 36 a tuple, 37 and 38 a set, 39 and 40 a sequence.
 abbrev pub collectionOf : ℕ → Kind
-collectionOf c = pick (eqb c 36) tuple (pick (ltb c 39) set sequence)
+collectionOf c = cond (eqb c 36) tuple (cond (ltb c 39) set sequence)
 
 -- 38 and 40 have two parts, for two halves.
 abbrev pub isHalved : ℕ → Bool
@@ -35,15 +34,15 @@ pair k h = leftOf k h ∷ rightOf k h ∷ []
 
 -- What n parts of a pattern of kind c meet, in every way.
 abbrev pub meetings : ℕ → ℕ → Value → List (List Value)
-meetings c n v = pick (isHalved c) (map (pair (collectionOf c)) (split (collectionOf c) (contents (collectionOf c) v))) (met (collectionOf c) n (contents (collectionOf c) v))
+meetings c n v = cond (isHalved c) (map (pair (collectionOf c)) (split (collectionOf c) (contents (collectionOf c) v))) (met (collectionOf c) n (contents (collectionOf c) v))
 
 -- The set is too large to split.
 abbrev pub isLarge : ℕ → Value → Bool
-isLarge c v = pick (isHalved c) (tooLarge (collectionOf c) (contents (collectionOf c) v)) false
+isLarge c v = cond (isHalved c) (tooLarge (collectionOf c) (contents (collectionOf c) v)) false
 
 -- The ways of parts.
 abbrev pub trying : (Binding → Bool) → ℕ → List Pattern → Value → State → Tree State
-trying h c ps v st = worth h st (pick (isLarge c v) (give (failed st)) (among (meetings c (length ps) v) (give (failed st)) (λ vs. trimEach h (patternsOf ps) vs st)))
+trying h c ps v st = worth h st (cond (isLarge c v) (give (failed st)) (among (meetings c (length ps) v) (give (failed st)) (λ vs. trimEach h (patternsOf ps) vs st)))
 
 -- ---- the two forms
 
@@ -76,10 +75,10 @@ module _ (h : Binding → Bool) where
   two-ways p q l r st = bind-cong (trimmed h p l st) (λ x. trimmed h q r x) (λ x. bind (trimmed h q r x) (λ y. give y)) (λ x. sym (bind-give (trimmed h q r x)))
 
   halved-ways : (k : Kind) (p q : Pattern) (v : Value) (st : State)
-      → trimmed h (halved k p q) v st ≡ worth h st (pick (tooLarge k (contents k v)) (give (failed st)) (among (map (pair k) (split k (contents k v))) (give (failed st)) (λ vs. trimEach h (patternsOf (p ∷ q ∷ [])) vs st)))
+      → trimmed h (halved k p q) v st ≡ worth h st (cond (tooLarge k (contents k v)) (give (failed st)) (among (map (pair k) (split k (contents k v))) (give (failed st)) (λ vs. trimEach h (patternsOf (p ∷ q ∷ [])) vs st)))
   unfolding trimmed
   halved-ways k p q v st =
-      ap (λ (t : Tree State). worth h st (pick (tooLarge k (contents k v)) (give (failed st)) t))
+      ap (λ (t : Tree State). worth h st (cond (tooLarge k (contents k v)) (give (failed st)) t))
       (among-cong (split k (contents k v)) (give (failed st)) (λ x. bind (trimmed h p (leftOf k x) st) (λ r. trimmed h q (rightOf k x) r)) (λ x. trimEach h (patternsOf (p ∷ q ∷ [])) (pair k x) st)
       (λ x. two-ways p q (leftOf k x) (rightOf k x) st)
       ∙ sym (among-map (pair k) (split k (contents k v)) (give (failed st)) (λ vs. trimEach h (patternsOf (p ∷ q ∷ [])) vs st)))
@@ -110,9 +109,9 @@ module _ (r : Record) (ps : List Pattern) where
   is-composed low high two h v st = go (r .kind) refl
     where
       half : (k : Kind) → length ps ≡ 2
-          → trimmed h (halved k (getD ps 0 any) (getD ps 1 any)) v st ≡ worth h st (pick (tooLarge k (contents k v)) (give (failed st)) (among (map (pair k) (split k (contents k v))) (give (failed st)) (λ vs. trimEach h (patternsOf ps) vs st)))
+          → trimmed h (halved k (getD ps 0 any) (getD ps 1 any)) v st ≡ worth h st (cond (tooLarge k (contents k v)) (give (failed st)) (among (map (pair k) (split k (contents k v))) (give (failed st)) (λ vs. trimEach h (patternsOf ps) vs st)))
       half k e = halved-ways h k (getD ps 0 any) (getD ps 1 any) v st
-          ∙ ap (λ (qs : List Pattern). worth h st (pick (tooLarge k (contents k v)) (give (failed st)) (among (map (pair k) (split k (contents k v))) (give (failed st)) (λ vs. trimEach h (patternsOf qs) vs st)))) (two-of ps e)
+          ∙ ap (λ (qs : List Pattern). worth h st (cond (tooLarge k (contents k v)) (give (failed st)) (among (map (pair k) (split k (contents k v))) (give (failed st)) (λ vs. trimEach h (patternsOf qs) vs st)))) (two-of ps e)
 
       go : (c : ℕ) → r .kind ≡ c → trimmed h (patternOf r ps) v st ≡ trying h (r .kind) ps v st
       go c e = cases (c - 36) (omega (arith, e)) (omega (arith, e))

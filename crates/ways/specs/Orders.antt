@@ -7,8 +7,9 @@ use native.Mathlib.Nat.{suc-mul, zero-mul}
 use native.Mathlib.Omega.{arith}
 use lib.ListN.{length, getD, length-append, length-map, List·getD-append}
 use lib.Seq.{getD-append-add}
+use Rattle.prelude.specs.Membership.{In}
 use Rattle.patterns.specs.Ways.{gather, placed, orders}
-use Rattle.patterns.specs.Members.{In, in-gather}
+use Rattle.patterns.specs.Members.{in-gather}
 use Rattle.patterns.specs.Units.{in-placed}
 
 unfoldable pub factorial : ℕ → ℕ

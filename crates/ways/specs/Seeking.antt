@@ -1,16 +1,15 @@
 -- The loop over the ways worth going: the least so far changes on the way, and with it what is worth going.
 use mathlib.Core.Path.{_≡_, refl, sym, ap, subst, _∙_}
-use mathlib.Core.Bool.{Bool, true, false, _&&_}
+use mathlib.Core.Bool.{Bool, true, false, _&&_, cond}
 use mathlib.Core.Logic.{inl, ⊎-elim}
 use mathlib.Core.Option.{Option, none, some}
 use mathlib.Core.List.{List, [], _∷_}
 use Prim.Native.Nat.{ℕ}
+use Rattle.prelude.specs.Membership.{In}
 use Rattle.values.specs.Value.{Value}
-use Rattle.values.specs.Items.{pick}
 use Rattle.choices.specs.Tree.{Tree, give, stop, choose, Full, value, Gives}
 use Rattle.choices.specs.Paths.{outcomeAt, counts, extend, raise}
-use Rattle.choices.specs.Laws.Ahead.{Into, Ahead, CutTo, Passed, into-nil, ahead-all, cut-into, passed}
-use Rattle.patterns.specs.Members.{In}
+use Rattle.choices.proofs.Ahead.{Into, Ahead, CutTo, Passed, into-nil, ahead-all, cut-into, passed}
 use Rattle.patterns.specs.Binding.{Binding}
 use Rattle.patterns.specs.Pattern.{Pattern, matches, wide}
 use Rattle.ways.specs.Tries.{State, start, Good, isGood, tries}
@@ -73,11 +72,11 @@ module _ (p : Pattern) (v : Value) (a m n : Option Binding) (l : List ℕ) (x : 
     matched g = trimmed-sound (hopeful a n) p v r (subst (Gives tree) e (outcome-gives tree l (trimmed-full (hopeful a n) p v start) seeking-into)) (good-is r g)
 
     -- What is found is the less where it is a match and hopeful.
-    pub seeking-now : pick (isGood r && hopeful a n (r .found)) (some (r .found)) n ≡ now
+    pub seeking-now : cond (isGood r && hopeful a n (r .found)) (some (r .found)) n ≡ now
     seeking-now = go (isGood r) refl
       where
-        go : (t : Bool) → isGood r ≡ t → pick (t && hopeful a n (r .found)) (some (r .found)) n ≡ better t (r .found) a n
-        go true g = ap (λ (b : Bool). pick b (some (r .found)) n) (hopeful-whole p v a n x kin (r .found) (matched g))
+        go : (t : Bool) → isGood r ≡ t → cond (t && hopeful a n (r .found)) (some (r .found)) n ≡ better t (r .found) a n
+        go true g = ap (λ (b : Bool). cond b (some (r .found)) n) (hopeful-whole p v a n x kin (r .found) (matched g))
         go false g = refl
 
     step : From a (matches p v) n now

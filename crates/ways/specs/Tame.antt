@@ -1,15 +1,14 @@
 -- The tree of the ways worth going has a state at the end of every way and no refusal, each choice has at least one way, and a way has at most as many
 -- choices as the pattern has places that ask.
 use mathlib.Core.Path.{_≡_, refl}
-use mathlib.Core.Bool.{Bool, true, false, _&&_}
+use mathlib.Core.Bool.{Bool, true, false, _&&_, cond}
 use mathlib.Core.List.{List, [], _∷_}
 use Prim.Native.Nat.{ℕ, zero, suc, _+_, _≤_, _<_}
 use native.Mathlib.Omega.{arith}
 use lib.ListN.{getD}
 use Rattle.values.specs.Value.{Value}
-use Rattle.values.specs.Items.{pick}
 use Rattle.choices.specs.Tree.{Tree, give, stop, choose, bind, Full, value}
-use Rattle.choices.specs.Paths.{Within, outcomeAt}
+use Rattle.choices.specs.Paths.{AtMost, outcomeAt}
 use Rattle.patterns.specs.Pattern.{Pattern, name, any, literal, each, halved, Patterns, nil, cons, parts, contents, met, split, leftOf, rightOf, tooLarge}
 use Rattle.patterns.specs.Binding.{Binding}
 use Rattle.ways.specs.Tries.{State, failed, isGood, among, places, placesEach}
@@ -39,11 +38,11 @@ tame-among : {A : Type 0} (ws : List A) (st : State) (f : A → Tree State) (k :
 tame-among [] st f k h = tt
 tame-among (x ∷ xs) st f k h = (omega arith, λ d. h (getD (x ∷ xs) d x))
 
-tame-pick : (t : Bool) (st : State) (u : Tree State) (k : ℕ) → Tame k u → Tame k (pick t (give st) u)
+tame-pick : (t : Bool) (st : State) (u : Tree State) (k : ℕ) → Tame k u → Tame k (cond t (give st) u)
 tame-pick true st u k h = tt
 tame-pick false st u k h = h
 
-tame-worth : (t : Bool) (st : State) (u : Tree State) (k : ℕ) → Tame k u → Tame k (pick t u (give st))
+tame-worth : (t : Bool) (st : State) (u : Tree State) (k : ℕ) → Tame k u → Tame k (cond t u (give st))
 tame-worth true st u k h = h
 tame-worth false st u k h = tt
 
@@ -60,7 +59,7 @@ module _ (h : Binding → Bool) where
         (tame-among (met k (parts ps) (contents k v)) (failed st) (λ vs. trimEach h ps vs st) (placesEach ps) (λ vs. each-tame ps vs st))
     trimmed-tame (halved k p q) v st =
         tame-worth (isGood st && h (st .found)) (failed st)
-        (pick (tooLarge k (contents k v)) (give (failed st)) (among (split k (contents k v)) (give (failed st)) (λ x. bind (trimmed h p (leftOf k x) st) (λ r. trimmed h q (rightOf k x) r)))) (suc (places p + places q))
+        (cond (tooLarge k (contents k v)) (give (failed st)) (among (split k (contents k v)) (give (failed st)) (λ x. bind (trimmed h p (leftOf k x) st) (λ r. trimmed h q (rightOf k x) r)))) (suc (places p + places q))
         (tame-pick (tooLarge k (contents k v)) (failed st) (among (split k (contents k v)) (give (failed st)) (λ x. bind (trimmed h p (leftOf k x) st) (λ r. trimmed h q (rightOf k x) r))) (suc (places p + places q))
         (tame-among (split k (contents k v)) (failed st) (λ x. bind (trimmed h p (leftOf k x) st) (λ r. trimmed h q (rightOf k x) r)) (places p + places q)
         (λ x. tame-bind (trimmed h p (leftOf k x) st) (λ r. trimmed h q (rightOf k x) r) (places p) (places q) (places p + places q) (omega arith)
@@ -78,7 +77,7 @@ tame-full (stop r p) k w = tt
 tame-full (choose p n g) zero w = absurd w
 tame-full (choose p n g) (suc k) w = (w .0, λ i h. tame-full (g i) k (w .1 i))
 
-pub tame-within : (t : Tree State) (k : ℕ) → Tame k t → Within k t
+pub tame-within : (t : Tree State) (k : ℕ) → Tame k t → AtMost k t
 tame-within (give a) k w = tt
 tame-within (stop r p) k w = tt
 tame-within (choose p n g) zero w = absurd w
@@ -96,5 +95,5 @@ tame-value (choose p n g) (suc k) (c ∷ l) w = tame-value (g c) k l (w .1 c)
 pub trimmed-full : (h : Binding → Bool) (p : Pattern) (v : Value) (st : State) → Full (trimmed h p v st)
 trimmed-full h p v st = tame-full (trimmed h p v st) (places p) (trimmed-tame h p v st)
 
-pub trimmed-within : (h : Binding → Bool) (p : Pattern) (v : Value) (st : State) → Within (places p) (trimmed h p v st)
+pub trimmed-within : (h : Binding → Bool) (p : Pattern) (v : Value) (st : State) → AtMost (places p) (trimmed h p v st)
 trimmed-within h p v st = tame-within (trimmed h p v st) (places p) (trimmed-tame h p v st)

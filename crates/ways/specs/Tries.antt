@@ -1,12 +1,12 @@
 -- All ways of matching a pattern and a value, as a tree of choices. What is asked on the way depends on the pattern and the value alone, and
 -- never on what was found.
 use mathlib.Core.Path.{_≡_}
-use mathlib.Core.Bool.{Bool, true, false, _&&_}
+use mathlib.Core.Bool.{Bool, true, false, _&&_, cond}
 use mathlib.Core.List.{List, [], _∷_}
 use Prim.Native.Nat.{ℕ, suc, _+_}
 use lib.ListN.{length, getD}
 use Rattle.values.specs.Value.{Value}
-use Rattle.values.specs.Items.{pick, same}
+use Rattle.values.specs.Items.{same}
 use Rattle.choices.specs.Tree.{Tree, give, choose, bind}
 use Rattle.patterns.specs.Binding.{Binding, nothing, only, merge, consistent}
 use Rattle.patterns.specs.Pattern.{Pattern, name, any, literal, each, halved, Patterns, nil, cons, parts, contents, met, split, leftOf, rightOf, tooLarge}
@@ -44,10 +44,10 @@ unfoldable mutual
   pub tries : Pattern → Value → State → Tree State
   tries (name x) v st = give (naming x v st)
   tries any v st = give st
-  tries (literal w) v st = give (pick (same w v) st (failed st))
+  tries (literal w) v st = give (cond (same w v) st (failed st))
   tries (each k ps) v st = among (met k (parts ps) (contents k v)) (give (failed st)) (λ vs. tryEach ps vs st)
   tries (halved k p q) v st =
-      pick (tooLarge k (contents k v)) (give (failed st))
+      cond (tooLarge k (contents k v)) (give (failed st))
       (among (split k (contents k v)) (give (failed st)) (λ h. bind (tries p (leftOf k h) st) (λ r. tries q (rightOf k h) r)))
 
   -- The first part with the first item, and so on.

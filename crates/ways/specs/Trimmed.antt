@@ -1,12 +1,12 @@
 -- The ways of matching that are worth going while the least binding above the present one is sought: a way ends where a part did not match,
 -- where a name clashed, or where what is found so far cannot come between the present binding and the least found before.
-use mathlib.Core.Bool.{Bool, true, false, _&&_}
+use mathlib.Core.Bool.{Bool, true, false, _&&_, cond}
 use mathlib.Core.Option.{Option, none, some}
 use mathlib.Core.List.{List, [], _∷_}
 use Rattle.integers.specs.declared.Order.{Order}
 use Rattle.integers.specs.declared.Order.the-variants.{Lower, Same, Higher}
 use Rattle.values.specs.Value.{Value, order}
-use Rattle.values.specs.Items.{pick, same}
+use Rattle.values.specs.Items.{same}
 use Rattle.choices.specs.Tree.{Tree, give, bind}
 use Rattle.patterns.specs.Binding.{Binding, free, is, clash}
 use Rattle.patterns.specs.Pattern.{Pattern, name, any, literal, each, halved, Patterns, nil, cons, parts, contents, met, split, leftOf, rightOf, tooLarge}
@@ -61,16 +61,16 @@ hopeful a m f = aboveOf a f && belowOf m f
 
 -- The tree where there is hope, else a failed match.
 abbrev pub worth : (Binding → Bool) → State → Tree State → Tree State
-worth h st t = pick (isGood st && h (st .found)) t (give (failed st))
+worth h st t = cond (isGood st && h (st .found)) t (give (failed st))
 
 unfoldable mutual
   pub trimmed : (Binding → Bool) → Pattern → Value → State → Tree State
   trimmed h (name x) v st = give (naming x v st)
   trimmed h any v st = give st
-  trimmed h (literal w) v st = give (pick (same w v) st (failed st))
+  trimmed h (literal w) v st = give (cond (same w v) st (failed st))
   trimmed h (each k ps) v st = worth h st (among (met k (parts ps) (contents k v)) (give (failed st)) (λ vs. trimEach h ps vs st))
   trimmed h (halved k p q) v st =
-      worth h st (pick (tooLarge k (contents k v)) (give (failed st))
+      worth h st (cond (tooLarge k (contents k v)) (give (failed st))
       (among (split k (contents k v)) (give (failed st)) (λ x. bind (trimmed h p (leftOf k x) st) (λ r. trimmed h q (rightOf k x) r))))
 
   -- The first part with the first item, and so on.

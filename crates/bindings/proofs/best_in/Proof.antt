@@ -4,7 +4,7 @@ use Prim.Native.Nat.{_-_}
 use native.Mathlib.Omega.{arith}
 use borrow.Author.Needs.{needs}
 use borrow.Author.Tests.{not-true, not-false}
-use Rattle.choices.specs.Laws.Rank.{rank}
+use Rattle.choices.proofs.Rank.{rank}
 use Rattle.digits.specs.Path.{most, view}
 use Rattle.ways.specs.Tries.{start}
 use Rattle.bindings.proofs.Looping.{Going, top, starts, held-sound, held-bounds, held-standing, goes-on, all-done, less}

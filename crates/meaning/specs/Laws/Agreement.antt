@@ -1,6 +1,6 @@
 -- The leaves of a record's tree have exactly the outcomes of its loose meaning.
 use mathlib.Core.Path.{_≡_, refl, sym, subst}
-use mathlib.Core.Bool.{Bool, true, false}
+use mathlib.Core.Bool.{Bool, true, false, cond}
 use mathlib.Core.Option.{Option, none as absent, some}
 use mathlib.Core.Logic.{inl, inr, ⊎-elim, _↔_}
 use mathlib.Core.List.{List, [], _∷_}
@@ -8,10 +8,10 @@ use Prim.Native.Nat.{ℕ, zero, suc, _≤_, _<_}
 use native.Mathlib.Omega.{arith}
 use lib.Dec.{eqb}
 use lib.ListN.{length, getD}
+use Rattle.prelude.specs.Membership.{In}
 use Rattle.choices.specs.Tree.{Tree, give, stop, bind, Outcome, value, refusal, Gives}
-use Rattle.choices.specs.Laws.Trees.{gives-bind-in, gives-bind-out}
+use Rattle.choices.proofs.Trees.{gives-bind-in, gives-bind-out}
 use Rattle.values.specs.Value.{Kind, set, sequence, map, Value, boolean, integer, collection, Items, none, more}
-use Rattle.values.specs.Items.{pick}
 use Rattle.operators.specs.Answer.{Answer, is, refused, Built, built, stopped, asBoolean, asInteger, asSet}
 use Rattle.operators.specs.Booleans.{Left, settles, leaves, left, right}
 use Rattle.operators.specs.Sets.{rangeOf}
@@ -20,7 +20,6 @@ use Rattle.operators.specs.Enumerations.{addMember, addItem, addEntry}
 use Rattle.operators.specs.Operators.{unary, binary}
 use Rattle.patterns.specs.Binding.{Binding, nothing}
 use Rattle.patterns.specs.Pattern.{Pattern, loose as isLoose, listOf}
-use Rattle.patterns.specs.Members.{In}
 use Rattle.patterns.specs.Binder.{Formed, bound, refused as unformed, formed}
 use Rattle.patterns.specs.Forming.{single-formed}
 use Rattle.meaning.specs.Node.{Node, Quantifier, forall, exists, exists1, truth, whole, named, unaryOf, binaryOf, connective, if, enumeration, range, let-in, let-be, quantified, iota, set-comprehension, sequence-comprehension, map-comprehension, application, no-expression}
@@ -52,7 +51,7 @@ same-bind t S f F h k o = (
       (⊎-elim (λ w. inr (w .0, h (value (w .0)) .1 (w .1), k (w .0) o .1 (w .2))) (λ w. inl (w .0, w .1, w .3, h (refusal (w .0) (w .1)) .1 (w .2))) s),
 )
 
-same-pick : {A : Type 0} (b : Bool) (t u : Tree A) (S U : Outcomes A) → Same t S → Same u U → Same (pick b t u) (pick b S U)
+same-pick : {A : Type 0} (b : Bool) (t u : Tree A) (S U : Outcomes A) → Same t S → Same u U → Same (cond b t u) (cond b S U)
 same-pick true t u S U h k = h
 same-pick false t u S U h k = k
 
@@ -150,7 +149,7 @@ module _ (rec : tree.Evaluates) (Rec : loose.Meanings) (agrees : (a : ℕ) (ρ :
   same-satisfying r c ρ [] = same-give []
   same-satisfying r c ρ (b ∷ bs) =
       same-bind (tree.holds rec r c ρ b) (loose.holds Rec r c ρ b) _ _ (same-holds r c ρ b)
-      (λ t. same-bind (tree.satisfying rec r c ρ bs) (loose.satisfying Rec r c ρ bs) _ _ (same-satisfying r c ρ bs) (λ sat. same-give (pick t (b ∷ sat) sat)))
+      (λ t. same-bind (tree.satisfying rec r c ρ bs) (loose.satisfying Rec r c ρ bs) _ _ (same-satisfying r c ρ bs) (λ sat. same-give (cond t (b ∷ sat) sat)))
 
   same-until-false : (test : Binding → Tree Bool) (Test : Binding → Outcomes Bool) → ((b : Binding) → Same (test b) (Test b)) → (bs : List Binding) → Same (tree.untilFalse test bs) (loose.untilFalse Test bs)
   unfolding tree.untilFalse loose.untilFalse

@@ -9,12 +9,13 @@ use native.Mathlib.Omega.{arith}
 use lib.ListN.{length, getD, List·getD-eq-default}
 use lib.Seq.{getD-set-same}
 use borrow.Author.Tests.{eqb-true, leb-true}
+use Rattle.prelude.specs.Membership.{In}
+use Rattle.prelude.proofs.Membership.{in-one, in-left, in-right, in-joined}
 use Rattle.choices.specs.Tree.{value}
 use Rattle.values.specs.Value.{Kind, set, sequence, map, Value, boolean, collection, Items, none, more, PairedFrom, Paired}
 use Rattle.values.specs.Items.{lookup}
 use Rattle.operators.specs.Answer.{is, Built, built, stopped, closed}
-use Rattle.operators.specs.Enumerations.{addMember, addItem, addEntry, onward, addMembers, addItems, addEntries, addEntriesAt}
-use Rattle.patterns.specs.Members.{In, in-one, in-left, in-right, in-joined}
+use Rattle.operators.specs.Enumerations.{addMember, addItem, addEntry, buildOn, addMembers, addItems, addEntries, addEntriesAt}
 use Rattle.patterns.specs.Binding.{is as valued, free, Binding, names, nothing, only}
 use Rattle.patterns.specs.Ordered.{Rising, sorted-rising}
 use Rattle.patterns.specs.Ways.{gather}
@@ -110,7 +111,7 @@ module _ (table : List ℕ) (n : ℕ) (ok : check table ≡ Accepted n) (r : ℕ
   -- ---- one part more
 
   -- Building on with nothing to add.
-  whole : (b : Built) → onward b (λ us. built us) ≡ b
+  whole : (b : Built) → buildOn b (λ us. built us) ≡ b
   whole (built us) = refl
   whole (stopped m) = refl
 
@@ -124,11 +125,11 @@ module _ (table : List ℕ) (n : ℕ) (ok : check table ≡ Accepted n) (r : ℕ
       λ (new, (w, m, d), g). inl (w, m, built-value r (add us w) ws .1 (sym (k us w) ∙ ap (λ (l : List Value). all us (itemsOf l)) (sym d) ∙ g)),
     )
 
-    one-more : ((us : Items) (w : Value) (ws : Items) → all us (more w ws) ≡ onward (add us w) (λ zs. all zs ws)) → ((us : Items) (w : Value) → all us (more w none) ≡ add us w) → (us : Items) (b : Binding) (new rest : List Value) → Element table r ρ b new → all us (itemsOf (new ++ rest)) ≡ onward (all us (itemsOf new)) (λ zs. all zs (itemsOf rest))
+    one-more : ((us : Items) (w : Value) (ws : Items) → all us (more w ws) ≡ buildOn (add us w) (λ zs. all zs ws)) → ((us : Items) (w : Value) → all us (more w none) ≡ add us w) → (us : Items) (b : Binding) (new rest : List Value) → Element table r ρ b new → all us (itemsOf (new ++ rest)) ≡ buildOn (all us (itemsOf new)) (λ zs. all zs (itemsOf rest))
     unfolding itemsOf
     one-more j k us b new rest (w, m, d) =
         ap (λ (l : List Value). all us (itemsOf (l ++ rest))) d ∙ j us w (itemsOf rest)
-        ∙ ap (λ (x : Built). onward x (λ zs. all zs (itemsOf rest))) (sym (k us w) ∙ ap (λ (l : List Value). all us (itemsOf l)) (sym d))
+        ∙ ap (λ (x : Built). buildOn x (λ zs. all zs (itemsOf rest))) (sym (k us w) ∙ ap (λ (l : List Value). all us (itemsOf l)) (sym d))
 
   pair-is : (us : Items) (b : Binding) (ws : Items) → addPair rec r (operandOf table r 3) (operandOf table r 4) ρ us b (value ws) ↔ ((new : List Value) × Entry table r ρ b new × (addEntries us (itemsOf new) ≡ built ws))
   unfolding itemsOf addEntries addEntriesAt
@@ -141,16 +142,16 @@ module _ (table : List ℕ) (n : ℕ) (ok : check table ≡ Accepted n) (r : ℕ
         inl (k, m, inl (w, o, built-value r (addEntry us k w) ws .1 (sym (whole (addEntry us k w)) ∙ ap (λ (l : List Value). addEntries us (itemsOf l)) (sym d) ∙ g))),
   )
 
-  pair-more : (us : Items) (b : Binding) (new rest : List Value) → Entry table r ρ b new → addEntries us (itemsOf (new ++ rest)) ≡ onward (addEntries us (itemsOf new)) (λ zs. addEntries zs (itemsOf rest))
+  pair-more : (us : Items) (b : Binding) (new rest : List Value) → Entry table r ρ b new → addEntries us (itemsOf (new ++ rest)) ≡ buildOn (addEntries us (itemsOf new)) (λ zs. addEntries zs (itemsOf rest))
   unfolding itemsOf addEntries addEntriesAt
   pair-more us b new rest (k, w, m, o, d) =
       ap (λ (l : List Value). addEntries us (itemsOf (l ++ rest))) d
-      ∙ ap (λ (x : Built). onward x (λ zs. addEntries zs (itemsOf rest))) (sym (whole (addEntry us k w)) ∙ ap (λ (l : List Value). addEntries us (itemsOf l)) (sym d))
+      ∙ ap (λ (x : Built). buildOn x (λ zs. addEntries zs (itemsOf rest))) (sym (whole (addEntry us k w)) ∙ ap (λ (l : List Value). addEntries us (itemsOf l)) (sym d))
 
   -- What the bindings add is enumerated.
   comprehension-is : (k : Kind) (add : Items → Binding → Outcomes Items) (all : Items → Items → Built) (part : Binding → List Value → Type 0) → ((us : Items) → all us none ≡ built us)
       → ((us : Items) (b : Binding) (ws : Items) → add us b (value ws) ↔ ((new : List Value) × part b new × (all us (itemsOf new) ≡ built ws)))
-      → ((us : Items) (b : Binding) (new rest : List Value) → part b new → all us (itemsOf (new ++ rest)) ≡ onward (all us (itemsOf new)) (λ ws. all ws (itemsOf rest)))
+      → ((us : Items) (b : Binding) (new rest : List Value) → part b new → all us (itemsOf (new ++ rest)) ≡ buildOn (all us (itemsOf new)) (λ ws. all ws (itemsOf rest)))
       → (bs : List Binding) (v : Value) → comprehension rec r k (operandOf table r 2) ρ add bs (value v) ↔ ((es : List Value) × Added (Condition table r ρ) part bs es × (closed k (all none (itemsOf es)) ≡ is v))
   comprehension-is k add all part f g j bs v =
       Iff·trans (collected-value (holds rec r (operandOf table r 2) ρ) add all part f g j k bs v)

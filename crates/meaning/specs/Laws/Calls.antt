@@ -8,11 +8,11 @@ use Prim.Native.Nat.{ℕ, _≤_, _<_}
 use native.Mathlib.Omega.{arith}
 use lib.Dec.{eqb}
 use lib.ListN.{length, drop}
-use Rattle.choices.specs.Tree.{Final, result, refuses, limit, Full}
+use Rattle.choices.specs.Tree.{Final, result, refuses, mostChoices, Full}
 use Rattle.choices.specs.Lists.{Complete, CountBefore}
 use Rattle.choices.specs.Paths.{firstList, nextList}
-use Rattle.choices.specs.Laws.Cut.{complete-length}
-use Rattle.choices.specs.Laws.Walk.{count-first, first-list, next-list, count-next, next-last}
+use Rattle.choices.proofs.Cut.{complete-length}
+use Rattle.choices.proofs.Walk.{count-first, first-list, next-list, count-next, next-last}
 use Rattle.tables.specs.declared.Checked.the-variants.{Accepted}
 use Rattle.tables.specs.Check.{check}
 use Rattle.tables.specs.Laws.{split}
@@ -65,7 +65,7 @@ module _ (table : List ℕ) (c : Call) (w : Walk) where
   left-by : (n : ℕ) → due ≡ refuses n 0 0 → Left n
   left-by n e = record { answer = answer-is (refuses n 0 0) e; stays = after-is (refuses n 0 0) e ∙ returned-lent (c .part) w }
 
-  wrote-by : (l : List ℕ) → limit ≤ length (lent (c .part) w .entries) → due ≡ result l → Wrote l
+  wrote-by : (l : List ℕ) → mostChoices ≤ length (lent (c .part) w .entries) → due ≡ result l → Wrote l
   wrote-by l h e = record { answer = answer-is (result l) e; writes = after-is (result l) e ∙ returned-written (c .part) w l h }
 
   -- A call that is not granted is refused.
@@ -80,10 +80,10 @@ module _ (table : List ℕ) (c : Call) (w : Walk) where
   granted-is n e = ap (λ a. eqb (numberOf a) 0) e
 
   -- Either there is enough, or 1 or 10 is due.
-  by-buffers : {X : Type 0} → (length (c .scratch) < scratchBytes → X) → (scratchBytes ≤ length (c .scratch) → length (lent (c .part) w .entries) < limit → X) → (Enough c w → X) → X
+  by-buffers : {X : Type 0} → (length (c .scratch) < scratchBytes → X) → (scratchBytes ≤ length (c .scratch) → length (lent (c .part) w .entries) < mostChoices → X) → (Enough c w → X) → X
   by-buffers f g h =
       split (length (c .scratch)) scratchBytes f
-      (λ s. split (length (lent (c .part) w .entries)) limit (g s) (λ e. h (record { enough-scratch = s; enough-entries = e })))
+      (λ s. split (length (lent (c .part) w .entries)) mostChoices (g s) (λ e. h (record { enough-scratch = s; enough-entries = e })))
 
 -- ---- an accepted table
 
@@ -95,7 +95,7 @@ module _ (table : List ℕ) (n : ℕ) (ok : check table ≡ Accepted n) where
   short-by first w scratch h = firsts-1 table (length scratch) h w
   short-by step w scratch h = steps-1 table (length scratch) h w
 
-  few-by : (s : Service) (w : Walk) (scratch : List ℕ) → scratchBytes ≤ length scratch → length (w .entries) < limit → dueOf s table w scratch ≡ refuses 10 0 0
+  few-by : (s : Service) (w : Walk) (scratch : List ℕ) → scratchBytes ≤ length scratch → length (w .entries) < mostChoices → dueOf s table w scratch ≡ refuses 10 0 0
   few-by first w scratch h k = firsts-10 table (length scratch) h n ok w k
   few-by step w scratch h k = steps-10 table (length scratch) h n ok w k
 
@@ -103,7 +103,7 @@ module _ (table : List ℕ) (n : ℕ) (ok : check table ≡ Accepted n) where
     left-1 : length (c .scratch) < scratchBytes → Left table c w 1
     left-1 h = left-by table c w 1 (short-by (c .service) (lent (c .part) w) (c .scratch) h)
 
-    left-10 : scratchBytes ≤ length (c .scratch) → length (lent (c .part) w .entries) < limit → Left table c w 10
+    left-10 : scratchBytes ≤ length (c .scratch) → length (lent (c .part) w .entries) < mostChoices → Left table c w 10
     left-10 h k = left-by table c w 10 (few-by (c .service) (lent (c .part) w) (c .scratch) h k)
 
     -- A first list that is lent enough.
@@ -116,7 +116,7 @@ module _ (table : List ℕ) (n : ℕ) (ok : check table ≡ Accepted n) where
     module _ (l : List ℕ) (shown : Shows w l) (complete : Complete (tree table) l) (e : c .service ≡ step) (h : Enough c w) where
       step-due : due table c w ≡ onward (nextList (tree table) l)
       step-due =
-          let within : w .len ≤ limit = omega (arith, shown .its-length, shown-short w l shown) in
+          let within : w .len ≤ mostChoices = omega (arith, shown .its-length, shown-short w l shown) in
           ap (λ (s : Service). dueOf s table (lent (c .part) w) (c .scratch)) e
           ∙ steps-complete table (length (c .scratch)) (h .enough-scratch) n ok (lent (c .part) w) (h .enough-entries) l (listed-lent (c .part) w (h .enough-entries) within ∙ listed-shown w l shown) within complete
 
@@ -130,7 +130,7 @@ module _ (table : List ℕ) (n : ℕ) (ok : check table ≡ Accepted n) where
 
   -- Nothing beyond 64 is touched.
   abbrev Beyond : Walk → Walk → Type 0
-  Beyond w v = drop limit (v .entries) ≡ drop limit (w .entries)
+  Beyond w v = drop mostChoices (v .entries) ≡ drop mostChoices (w .entries)
 
   -- It was the walk v with so many steps granted; it is now w with k.
   record Goes (v w : Walk) (k : ℕ) : Type 0 where
@@ -223,7 +223,7 @@ module _ (table : List ℕ) (n : ℕ) (ok : check table ≡ Accepted n) where
   pub calls-held : (cs : Calls table) → Held table (walkOf cs) (stepsOf cs)
   calls-held cs = goes cs .held
 
-  pub calls-untouched : (cs : Calls table) → drop limit (walkOf cs .entries) ≡ drop limit (cs .start .entries)
+  pub calls-untouched : (cs : Calls table) → drop mostChoices (walkOf cs .entries) ≡ drop mostChoices (cs .start .entries)
   calls-untouched cs = goes cs .beyond
 
   -- ---- a further call

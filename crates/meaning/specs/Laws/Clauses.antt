@@ -1,15 +1,14 @@
 -- Kind 13 of the loose meaning: document 01's three clauses are its conditions tested one after the other, and then 24 or each of the
 -- bindings that make it true.
 use mathlib.Core.Path.{_≡_, refl, sym, ap, _∙_, subst}
-use mathlib.Core.Bool.{Bool, true, false}
+use mathlib.Core.Bool.{Bool, true, false, cond}
 use mathlib.Core.Logic.{_⊎_, inl, inr, ⊎-elim, _↔_}
 use mathlib.Core.List.{List, [], _∷_, _++_}
 use Prim.Native.Nat.{ℕ}
-use native.Mathlib.Omega.{arith}
+use Rattle.prelude.proofs.Absurd.{impossible}
+use Rattle.prelude.specs.Membership.{In}
 use Rattle.choices.specs.Tree.{Outcome, value, refusal}
 use Rattle.values.specs.Value.{Value}
-use Rattle.values.specs.Items.{pick}
-use Rattle.patterns.specs.Members.{In}
 use Rattle.patterns.specs.Binding.{Binding}
 use Rattle.meaning.specs.State.{State}
 use Rattle.meaning.specs.Loose.{Outcomes, _then_, refuses, underEach, Meanings, holds, satisfying, AllTested, AllFalse, FirstRefusal, body13}
@@ -20,7 +19,7 @@ chosenFrom r F [] = refuses 24 r
 chosenFrom r F (b ∷ bs) = underEach (b ∷ bs) F
 
 pub value≢refusal : {A : Type 0} {a : A} {n r : ℕ} → _≡_ {A = Outcome A} (value a) (refusal n r) → ⊥
-value≢refusal e = let z : _≡_ {A = ℕ} 0 1 = cc in omega arith
+value≢refusal e = impossible cc
 
 tested-more : (test : Binding → Outcomes Bool) (b : Binding) (bs : List Binding) (t : Bool) → test b (value t) → AllTested test bs → AllTested test (b ∷ bs)
 tested-more test b bs t h k c i = ⊎-elim (λ e. (t, subst (λ d. test d (value t)) (sym e) h)) (λ j. k c j) i
@@ -75,9 +74,9 @@ module _ (Rec : Meanings) (r c : ℕ) (ρ : State) where
       record { all = λ β i. absurd i; sound = λ β i. absurd (subst (λ (l : List Binding). In β l) d i); rest = λ β i. absurd i }
   found-out (b ∷ bs) sat (inr (n, p, h, e)) = absurd (value≢refusal e)
   found-out (b ∷ bs) sat (inl (t, h, inr (n, p, k, e))) = absurd (value≢refusal e)
-  found-out (b ∷ bs) sat (inl (t, h, inl (rest, k, e))) = let d : sat ≡ pick t (b ∷ rest) rest = cc in subst (Found (b ∷ bs)) (sym d) (go t h (found-out bs rest k))
+  found-out (b ∷ bs) sat (inl (t, h, inl (rest, k, e))) = let d : sat ≡ cond t (b ∷ rest) rest = cc in subst (Found (b ∷ bs)) (sym d) (go t h (found-out bs rest k))
     where
-      go : (t : Bool) → Test b (value t) → Found bs rest → Found (b ∷ bs) (pick t (b ∷ rest) rest)
+      go : (t : Bool) → Test b (value t) → Found bs rest → Found (b ∷ bs) (cond t (b ∷ rest) rest)
       go true h f =
           record {
             all = tested-more Test b bs true h (f .all);
@@ -103,7 +102,7 @@ module _ (Rec : Meanings) (r c : ℕ) (ρ : State) where
   all-in (b ∷ bs) h =
       let (t, y) = h b (inl refl) in
       let (sat, k) = all-in bs (λ β i. h β (inr i)) in
-      (pick t (b ∷ sat) sat, inl (t, y, inl (sat, k, refl)))
+      (cond t (b ∷ sat) sat, inl (t, y, inl (sat, k, refl)))
 
   pub true-in : (bs : List Binding) (β : Binding) → AllTested Test bs → In β bs → Test β (value true) → (sat : List Binding) × Sat bs (value sat) × In β sat
   unfolding satisfying
@@ -114,9 +113,9 @@ module _ (Rec : Meanings) (r c : ℕ) (ρ : State) where
   true-in (b ∷ bs) β h (inr i) k =
       let (t, y) = h b (inl refl) in
       let (sat, s, j) = true-in bs β (λ d l. h d (inr l)) i k in
-      (pick t (b ∷ sat) sat, inl (t, y, inl (sat, s, refl)), kept t sat j)
+      (cond t (b ∷ sat) sat, inl (t, y, inl (sat, s, refl)), kept t sat j)
     where
-      kept : (t : Bool) (sat : List Binding) → In β sat → In β (pick t (b ∷ sat) sat)
+      kept : (t : Bool) (sat : List Binding) → In β sat → In β (cond t (b ∷ sat) sat)
       kept true sat j = inr j
       kept false sat j = j
 

@@ -1,7 +1,7 @@
 -- What holds of the tree of every record: whatever holds of a value, of a refusal at the record, of a choice at the record, and of one tree
 -- followed by another.
 use mathlib.Core.Path.{_≡_, refl, subst}
-use mathlib.Core.Bool.{Bool, true, false}
+use mathlib.Core.Bool.{Bool, true, false, cond}
 use mathlib.Core.Option.{Option, none as absent, some}
 use mathlib.Core.Logic.{inl, inr, ⊎-elim}
 use mathlib.Core.List.{List, [], _∷_}
@@ -9,16 +9,15 @@ use Prim.Native.Nat.{ℕ, _≤_, _<_}
 use native.Mathlib.Omega.{arith}
 use lib.Dec.{eqb, leb}
 use lib.ListN.{length, getD}
+use Rattle.prelude.specs.Membership.{In}
 use Rattle.choices.specs.Tree.{Tree, give, stop, bind, Outcome, value, Gives}
 use Rattle.values.specs.Value.{Kind, set, sequence, map, tuple, Value, boolean, integer, collection, Items, none, more}
-use Rattle.values.specs.Items.{pick}
 use Rattle.operators.specs.Answer.{Answer, is, refused, Built, built, stopped, asBoolean, asInteger, asSet}
 use Rattle.operators.specs.Booleans.{Left, settles, leaves, left, right}
 use Rattle.operators.specs.Sets.{rangeOf}
 use Rattle.operators.specs.Maps.{applyTo}
 use Rattle.operators.specs.Enumerations.{addMember, addItem, addEntry}
 use Rattle.operators.specs.Operators.{unary, binary}
-use Rattle.patterns.specs.Members.{In}
 use Rattle.patterns.specs.Binding.{Binding, nothing}
 use Rattle.patterns.specs.Ways.{exists as anyOf}
 use Rattle.patterns.specs.Pattern.{Pattern, loose, listOf, wide}
@@ -81,9 +80,9 @@ some-satisfy rec r c ρ [] = only-give (Some []) [] (record { not-more = omega a
 some-satisfy rec r c ρ (b ∷ bs) =
     only-bind Any (Some (b ∷ bs)) (holds rec r c ρ b) _ (only-any (holds rec r c ρ b))
     (λ t i. only-bind (Some bs) (Some (b ∷ bs)) (satisfying rec r c ρ bs) _ (some-satisfy rec r c ρ bs)
-    (λ sat h. only-give (Some (b ∷ bs)) (pick t (b ∷ sat) sat) (kept t sat h)))
+    (λ sat h. only-give (Some (b ∷ bs)) (cond t (b ∷ sat) sat) (kept t sat h)))
   where
-    kept : (t : Bool) (sat : List Binding) → Some bs sat → Some (b ∷ bs) (pick t (b ∷ sat) sat)
+    kept : (t : Bool) (sat : List Binding) → Some bs sat → Some (b ∷ bs) (cond t (b ∷ sat) sat)
     kept true sat h = let l = h .not-more in record { not-more = omega arith; among = λ β i. ⊎-elim (λ e. inl e) (λ j. inr (h .among β j)) i }
     kept false sat h = let l = h .not-more in record { not-more = omega arith; among = λ β i. inr (h .among β i) }
 
@@ -94,7 +93,7 @@ FormedSo (unformed n) = Ranged n
 formed-number : (p : Pattern) (vs : List Value) → FormedSo (formed p vs)
 formed-number p vs = go (anyOf vs (wide p)) (leb (length (bindings p vs)) mostBindings)
   where
-    go : (b c : Bool) → FormedSo (pick b (unformed 29) (pick c (bound (bindings p vs)) (unformed 30)))
+    go : (b c : Bool) → FormedSo (cond b (unformed 29) (cond c (bound (bindings p vs)) (unformed 30)))
     go true c = (omega arith, omega arith)
     go false true = tt
     go false false = (omega arith, omega arith)
@@ -149,7 +148,7 @@ module _ (Q : (A : Type 0) → Tree A → Type 0) (May : Type 0) (r : ℕ) (clos
   then : {A B : Type 0} (t : Tree A) (f : A → Tree B) → Q A t → ((a : A) → Q B (f a)) → Q B (bind t f)
   then {A} {B} t f h k = closed .of-bind A B t f h (λ a g. k a)
 
-  by-test : {A : Type 0} (b : Bool) (t u : Tree A) → Q A t → Q A u → Q A (pick b t u)
+  by-test : {A : Type 0} (b : Bool) (t u : Tree A) → Q A t → Q A u → Q A (cond b t u)
   by-test true t u h k = h
   by-test false t u h k = k
 
@@ -259,7 +258,7 @@ module _ (Q : (A : Type 0) → Tree A → Type 0) (May : Type 0) (r : ℕ) (clos
     satisfying-closed c [] l = closed .of-give (List Binding) []
     satisfying-closed c (b ∷ bs) l =
         then (holds rec r c ρ b) _ (holds-closed c b (l b (inl refl)))
-        (λ t. then (satisfying rec r c ρ bs) _ (satisfying-closed c bs (λ d i. l d (inr i))) (λ sat. closed .of-give (List Binding) (pick t (b ∷ sat) sat)))
+        (λ t. then (satisfying rec r c ρ bs) _ (satisfying-closed c bs (λ d i. l d (inr i))) (λ sat. closed .of-give (List Binding) (cond t (b ∷ sat) sat)))
 
     quantify-closed : (q : Quantifier) (c : ℕ) (bs : List Binding) → OverAll bs c → Q Bool (quantify q rec r c ρ bs)
     quantify-closed forall c bs l = until-false-closed (holds rec r c ρ) bs (λ b i. holds-closed c b (l b i))

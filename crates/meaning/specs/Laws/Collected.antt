@@ -1,21 +1,19 @@
 -- What enumerations hold, over lists of values; and what bindings add.
 use mathlib.Core.Path.{_≡_, refl, sym, ap, _∙_, subst}
-use mathlib.Core.Bool.{Bool, true, false}
+use mathlib.Core.Bool.{Bool, true, false, and-eq-true-iff, cond}
 use mathlib.Core.Option.{some}
 use mathlib.Core.Logic.{_⊎_, inl, inr, ⊎-elim, _↔_}
 use mathlib.Core.List.{List, [], _∷_, _++_}
-use Prim.Native.Nat.{ℕ}
-use native.Mathlib.Omega.{arith}
+use Rattle.prelude.proofs.Absurd.{impossible}
+use Rattle.prelude.specs.Membership.{In}
 use Rattle.values.specs.Value.{Kind, set, sequence, map, Value, collection, Items, none, more, Paired}
-use Rattle.values.specs.Items.{isMember, same, lookup, pick}
-use Rattle.values.specs.Laws.{same-true}
+use Rattle.values.specs.Items.{isMember, same, lookup}
+use Rattle.values.proofs.Order.{same-true}
 use Rattle.operators.specs.Answer.{is, built, stopped, closed, sized}
 use Rattle.operators.specs.Gather.{insertAll, everyEntry}
 use Rattle.operators.specs.Enumerations.{setOf, sequenceOf, mapOf}
-use Rattle.operator_laws.specs.Tests.{and-parts}
-use Rattle.operator_laws.specs.GatherLaws.{same-refl, member-case, member-there, member-insertAll}
-use Rattle.operator_laws.specs.EnumerationLaws.{by-fitting, setOf-is, sequenceOf-is, mapsTo, maps-is, mapOf-entries}
-use Rattle.patterns.specs.Members.{In}
+use Rattle.operator_laws.proofs.Gather.{same-refl, member-case, member-there, member-insertAll}
+use Rattle.operator_laws.proofs.Enumerations.{by-fitting, setOf-is, sequenceOf-is, mapsTo, maps-is, mapOf-entries}
 use Rattle.patterns.specs.Binding.{Binding}
 use Rattle.patterns.specs.Pattern.{listOf, itemsOf}
 use Rattle.patterns.specs.Matched.{list-items}
@@ -27,17 +25,17 @@ use Rattle.meaning.specs.Kinds.{Added}
 sized-out : (k : Kind) (vs ws : Items) → sized k vs ≡ is (collection k ws) → ws ≡ vs
 sized-out k vs ws e =
     by-fitting vs (λ h d. let f : closed k (built vs) ≡ is (collection k ws) = ap (closed k) (sym d) ∙ e in cc)
-    (λ h d. let f : closed k (stopped 28) ≡ is (collection k ws) = ap (closed k) (sym d) ∙ e in absurd (let z : _≡_ {A = ℕ} 0 1 = cc in omega arith))
+    (λ h d. let f : closed k (stopped 28) ≡ is (collection k ws) = ap (closed k) (sym d) ∙ e in impossible cc)
 
 member-in : (w : Value) (vs : Items) → isMember w vs ≡ true → In w (listOf vs)
 unfolding isMember listOf
-member-in w none e = absurd (let z : _≡_ {A = ℕ} 0 1 = cc in omega arith)
+member-in w none e = impossible cc
 member-in w (more v vs) e = member-case w v vs e (λ d. inl d) (λ d. inr (member-in w vs d))
 
 in-member : (w : Value) (vs : Items) → In w (listOf vs) → isMember w vs ≡ true
 unfolding isMember listOf
 in-member w none i = absurd i
-in-member w (more v vs) (inl e) = subst (λ (x : Value). isMember w (more x vs) ≡ true) e (ap (λ (b : Bool). pick b true (isMember w vs)) (same-refl w))
+in-member w (more v vs) (inl e) = subst (λ (x : Value). isMember w (more x vs) ≡ true) e (ap (λ (b : Bool). cond b true (isMember w vs)) (same-refl w))
 in-member w (more v vs) (inr i) = member-there w v vs (in-member w vs i)
 
 -- A set enumeration holds the values written, and nothing else.
@@ -62,11 +60,11 @@ Paired-in k v (a ∷ b ∷ es) = ((k ≡ a) × (v ≡ b)) ⊎ Paired-in k v es
 
 looked-in : (k v : Value) (es : List Value) → lookup k (itemsOf es) ≡ some v → Paired-in k v es
 unfolding lookup itemsOf
-looked-in k v [] e = absurd (let z : _≡_ {A = ℕ} 0 1 = cc in omega arith)
-looked-in k v (a ∷ []) e = absurd (let z : _≡_ {A = ℕ} 0 1 = cc in omega arith)
+looked-in k v [] e = impossible cc
+looked-in k v (a ∷ []) e = impossible cc
 looked-in k v (a ∷ b ∷ es) e = go (same k a) refl e (λ f. looked-in k v es f)
   where
-    go : (t : Bool) → same k a ≡ t → pick t (some b) (lookup k (itemsOf es)) ≡ some v → (lookup k (itemsOf es) ≡ some v → Paired-in k v es) → Paired-in k v (a ∷ b ∷ es)
+    go : (t : Bool) → same k a ≡ t → cond t (some b) (lookup k (itemsOf es)) ≡ some v → (lookup k (itemsOf es) ≡ some v → Paired-in k v es) → Paired-in k v (a ∷ b ∷ es)
     go true s e rest = inl (same-true k a s, let z : v ≡ b = cc in z)
     go false s e rest = inr (rest e)
 
@@ -74,8 +72,8 @@ every-in : (p : Value → Value → Bool) (es : List Value) → everyEntry p (it
 unfolding everyEntry itemsOf
 every-in p [] e k v i = absurd i
 every-in p (a ∷ []) e k v i = absurd i
-every-in p (a ∷ b ∷ es) e k v (inl (d, f)) = rw (d, f) (and-parts (p a b) (everyEntry p (itemsOf es)) e .0)
-every-in p (a ∷ b ∷ es) e k v (inr i) = every-in p es (and-parts (p a b) (everyEntry p (itemsOf es)) e .1) k v i
+every-in p (a ∷ b ∷ es) e k v (inl (d, f)) = rw (d, f) (and-eq-true-iff (p a b) (everyEntry p (itemsOf es)) .0 e .0)
+every-in p (a ∷ b ∷ es) e k v (inr i) = every-in p es (and-eq-true-iff (p a b) (everyEntry p (itemsOf es)) .0 e .1) k v i
 
 -- A map enumeration maps each key written to the value written with it, and nothing else.
 pub map-holds : (es : List Value) (ws : Items) → Paired (itemsOf es) → mapOf (itemsOf es) ≡ is (collection map ws) → (k v : Value) → (lookup k ws ≡ some v) ↔ Paired-in k v es

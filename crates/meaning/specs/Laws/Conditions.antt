@@ -1,14 +1,15 @@
 -- Rule 8: in an accepted table there is no choice inside a condition. Its meaning is one leaf, a value or a refusal.
 use mathlib.Core.Path.{_≡_, refl, sym, ap, _∙_, subst}
-use mathlib.Core.Bool.{Bool, true, false, _&&_, _||_}
+use mathlib.Core.Bool.{Bool, true, false, _&&_, _||_, cond}
 use mathlib.Core.List.{List, [], _∷_}
 use Prim.Native.Nat.{ℕ, zero, suc, _+_, _<_}
 use native.Mathlib.Omega.{arith}
 use lib.Dec.{eqb}
 use lib.ListN.{length, getD, List·getD-eq-default}
 use borrow.Author.Tests.{eq-eqb}
+use mathlib.Mathlib.Data.Bool.Basic.{or-inr}
+use Rattle.prelude.proofs.Absurd.{never, impossible}
 use Rattle.choices.specs.Tree.{Tree, give, stop, choose, bind, value, Gives}
-use Rattle.values.specs.Items.{pick}
 use Rattle.operators.specs.Booleans.{and, or, implies}
 use Rattle.patterns.specs.Binding.{Binding}
 use Rattle.patterns.specs.Pattern.{loose as isLooseAt}
@@ -18,7 +19,7 @@ use Rattle.tables.specs.Record.{Record, shape, operator, named as operandsOf, o
 use Rattle.tables.specs.Table.{noRecord, recordAt, kindAt}
 use Rattle.tables.specs.Sheet.{loose, patternOf, isCondition, inCondition}
 use Rattle.tables.specs.Check.{check, chooses}
-use Rattle.tables.specs.Laws.{never, or-some, split}
+use Rattle.tables.specs.Laws.{split}
 use Rattle.tables.specs.Accepted.{records, Fine, accepted-fine, operand-lower, condition-operand, isBinder, binder-operands, binder-pattern, choice-outside, fit-least, named-count}
 use Rattle.ways.specs.Read.{patternAt}
 use Rattle.meaning.specs.Node.{Node, truth, whole, named, unaryOf, binaryOf, connective, if, enumeration, range, let-in, let-be, quantified, iota, set-comprehension, sequence-comprehension, map-comprehension, application, no-expression}
@@ -53,7 +54,7 @@ one-closed r =
 -- The value that such a tree gives is all that it is.
 pub one-gives : {A : Type 0} (t : Tree A) (a : A) → OneLeaf t → Gives t (value a) → t ≡ give a
 one-gives (give b) a h e = let d : b ≡ a = cc in ap give d
-one-gives (stop n p) a h e = let z : _≡_ {A = ℕ} 0 1 = cc in absurd (omega arith)
+one-gives (stop n p) a h e = impossible cc
 one-gives (choose p n ways) a h e = absurd h
 
 -- ---- the records that choose
@@ -91,7 +92,7 @@ tells-at k (suc j) (f ∷ fs) q h = let e : suc k + j ≡ k + suc j = omega arit
 binary-tells : (op a b : ℕ) (q : Record) (k : ℕ) → Tells (binaryNode op a b) q k
 binary-tells op a b q k = go (eqb op 1) (eqb op 2) (eqb op 3)
   where
-    go : (x y z : Bool) → Tells (pick x (connective and a b) (pick y (connective or a b) (pick z (connective implies a b) (binaryOf op a b)))) q k
+    go : (x y z : Bool) → Tells (cond x (connective and a b) (cond y (connective or a b) (cond z (connective implies a b) (binaryOf op a b)))) q k
     go true y z = tt
     go false true z = tt
     go false false true = tt
@@ -121,7 +122,7 @@ module _ (table : List ℕ) (n : ℕ) (ok : check table ≡ Accepted n) where
       let binder : isBinder (kindAt rs r) ≡ true = ap isBinder k in
       let low = operand-lower rs (fine .clear6) r 0 h (binder-operands rs fine r h binder) in
       let is : loose rs (patternOf rs r) ≡ true = loose-is table n ok (patternOf rs r) (omega arith) (binder-pattern rs fine r h binder) ∙ l in
-      or-some (eqb (kindAt rs r) 13) _ (ap (λ b. b && loose rs (patternOf rs r)) (eq-eqb (kindAt rs r) 12 k) ∙ is)
+      or-inr (eqb (kindAt rs r) 13) _ (ap (λ b. b && loose rs (patternOf rs r)) (eq-eqb (kindAt rs r) 12 k) ∙ is)
 
   let-be-chooses : (r : ℕ) → kindAt rs r ≡ 13 → chooses rs r ≡ true
   unfolding chooses
@@ -156,7 +157,7 @@ module _ (table : List ℕ) (n : ℕ) (ok : check table ≡ Accepted n) where
   -- ---- conditions
 
   inner : (r i : ℕ) → r < length rs → i < length (operandsOf (recordAt rs r)) → inCondition rs r ≡ true → inCondition rs (operand (recordAt rs r) i) ≡ true
-  inner r i h k c = condition-operand rs (fine .clear6) r i h k ∙ or-some (isCondition (roleAt (recordAt rs r) i)) _ c
+  inner r i h k c = condition-operand rs (fine .clear6) r i h k ∙ or-inr (isCondition (roleAt (recordAt rs r) i)) _ c
 
   one-to : (m r : ℕ) (ρ : State) → r < length rs → inCondition rs r ≡ true → OneLeaf (meaningTo (sheet table) m r ρ)
   unfolding meaningTo

@@ -7,10 +7,10 @@ use native.Mathlib.Omega.{arith}
 use lib.ListN.{length, getD, drop}
 use lib.Seq.{drop-cons}
 use Rattle.choices.specs.Tree.{Tree, give, bind}
-use Rattle.choices.specs.Laws.Trees.{bind-assoc, bind-cong}
+use Rattle.choices.proofs.Trees.{bind-assoc, bind-cong}
 use Rattle.values.specs.Value.{Kind, set, sequence, map, tuple, Value, Items, none, more}
 use Rattle.operators.specs.Answer.{Built, built, stopped, closed}
-use Rattle.operators.specs.Enumerations.{addMember, addItem, addEntry, onward, addMembers, addItems, addEntries, addEntriesAt}
+use Rattle.operators.specs.Enumerations.{addMember, addItem, addEntry, buildOn, addMembers, addItems, addEntries, addEntriesAt}
 use Rattle.patterns.specs.Pattern.{Pattern}
 use Rattle.meaning.specs.Node.{enumeration}
 use Rattle.meaning.specs.State.{State}
@@ -21,13 +21,13 @@ use Rattle.meaning.specs.Meaning.{Evaluates, at, allOf, means}
 -- The record r, with the operands os still to come and b built: each is evaluated and added. What is stopped stays so to the end.
 abbrev pub oneByOne : Kind → (Items → Value → Built) → Evaluates → ℕ → List ℕ → State → Built → Tree Value
 oneByOne k add rec r [] ρ b = at r (closed k b)
-oneByOne k add rec r (o ∷ os) ρ b = bind (rec o ρ) (λ v. oneByOne k add rec r os ρ (onward b (λ us. add us v)))
+oneByOne k add rec r (o ∷ os) ρ b = bind (rec o ρ) (λ v. oneByOne k add rec r os ρ (buildOn b (λ us. add us v)))
 
 -- The same of key, value, key, value: both are evaluated, then entered. (A map enumeration has no key without a value.)
 abbrev pub pairByPair : Evaluates → ℕ → List ℕ → State → Built → Tree Value
 pairByPair rec r [] ρ b = at r (closed map b)
 pairByPair rec r (o ∷ []) ρ b = bind (rec o ρ) (λ key. at r (closed map b))
-pairByPair rec r (o ∷ q ∷ os) ρ b = bind (rec o ρ) (λ key. bind (rec q ρ) (λ v. pairByPair rec r os ρ (onward b (λ us. addEntry us key v))))
+pairByPair rec r (o ∷ q ∷ os) ρ b = bind (rec o ρ) (λ key. bind (rec q ρ) (λ v. pairByPair rec r os ρ (buildOn b (λ us. addEntry us key v))))
 
 abbrev pub asTheyCome : Kind → Evaluates → ℕ → List ℕ → State → Built → Tree Value
 asTheyCome set rec r os ρ b = oneByOne set addMember rec r os ρ b
@@ -39,13 +39,13 @@ asTheyCome tuple rec r os ρ b = oneByOne tuple addItem rec r os ρ b
 
 module _ (rec : Evaluates) (r : ℕ) (os : List ℕ) (ρ : State) (i : ℕ) (b : Built) where
   pub next-one : (k : Kind) (add : Items → Value → Built) → i < length os
-      → oneByOne k add rec r (drop i os) ρ b ≡ bind (rec (getD os i 0) ρ) (λ v. oneByOne k add rec r (drop (i + 1) os) ρ (onward b (λ us. add us v)))
+      → oneByOne k add rec r (drop i os) ρ b ≡ bind (rec (getD os i 0) ρ) (λ v. oneByOne k add rec r (drop (i + 1) os) ρ (buildOn b (λ us. add us v)))
   next-one k add h =
       let z : suc i ≡ i + 1 = omega arith in
       ap (λ (ns : List ℕ). oneByOne k add rec r ns ρ b) (drop-cons os i 0 h ∙ ap (λ (m : ℕ). getD os i 0 ∷ drop m os) z)
 
   pub next-pair : i + 1 < length os
-      → pairByPair rec r (drop i os) ρ b ≡ bind (rec (getD os i 0) ρ) (λ key. bind (rec (getD os (i + 1) 0) ρ) (λ v. pairByPair rec r (drop (i + 2) os) ρ (onward b (λ us. addEntry us key v))))
+      → pairByPair rec r (drop i os) ρ b ≡ bind (rec (getD os i 0) ρ) (λ key. bind (rec (getD os (i + 1) 0) ρ) (λ v. pairByPair rec r (drop (i + 2) os) ρ (buildOn b (λ us. addEntry us key v))))
   next-pair h =
       let z : suc i ≡ i + 1 = omega arith in
       let y : suc (i + 1) ≡ i + 2 = omega arith in
@@ -64,55 +64,55 @@ module _ (rec : Evaluates) (ρ : State) where
       ∙ bind-cong (rec o ρ) _ _ (λ v. bind-assoc (allOf rec os ρ) (λ vs. give (more v vs)) f)
 
 -- Adding all, for a way to add one.
-module _ (k : Kind) (add : Items → Value → Built) (all : Items → Items → Built) (all-none : (us : Items) → all us none ≡ built us) (all-one : (us : Items) (v : Value) (vs : Items) → all us (more v vs) ≡ onward (add us v) (λ ws. all ws vs)) where
-  onward-none : (b : Built) → onward b (λ us. all us none) ≡ b
+module _ (k : Kind) (add : Items → Value → Built) (all : Items → Items → Built) (all-none : (us : Items) → all us none ≡ built us) (all-one : (us : Items) (v : Value) (vs : Items) → all us (more v vs) ≡ buildOn (add us v) (λ ws. all ws vs)) where
+  onward-none : (b : Built) → buildOn b (λ us. all us none) ≡ b
   onward-none (built us) = all-none us
   onward-none (stopped n) = refl
 
-  onward-one : (b : Built) (v : Value) (vs : Items) → onward b (λ us. all us (more v vs)) ≡ onward (onward b (λ us. add us v)) (λ us. all us vs)
+  onward-one : (b : Built) (v : Value) (vs : Items) → buildOn b (λ us. all us (more v vs)) ≡ buildOn (buildOn b (λ us. add us v)) (λ us. all us vs)
   onward-one (built us) v vs = all-one us v vs
   onward-one (stopped n) v vs = refl
 
-  one-by-one : (rec : Evaluates) (r : ℕ) (os : List ℕ) (ρ : State) (b : Built) → bind (allOf rec os ρ) (λ vs. at r (closed k (onward b (λ us. all us vs)))) ≡ oneByOne k add rec r os ρ b
+  one-by-one : (rec : Evaluates) (r : ℕ) (os : List ℕ) (ρ : State) (b : Built) → bind (allOf rec os ρ) (λ vs. at r (closed k (buildOn b (λ us. all us vs)))) ≡ oneByOne k add rec r os ρ b
   unfolding allOf
   one-by-one rec r [] ρ b = ap (λ (x : Built). at r (closed k x)) (onward-none b)
   one-by-one rec r (o ∷ os) ρ b =
-      all-more rec ρ o os (λ vs. at r (closed k (onward b (λ us. all us vs))))
+      all-more rec ρ o os (λ vs. at r (closed k (buildOn b (λ us. all us vs))))
       ∙ bind-cong (rec o ρ) _ _
       (λ v.
       bind-cong (allOf rec os ρ) _ _ (λ vs. ap (λ (x : Built). at r (closed k x)) (onward-one b v vs))
-      ∙ one-by-one rec r os ρ (onward b (λ us. add us v)))
+      ∙ one-by-one rec r os ρ (buildOn b (λ us. add us v)))
 
-onward-entry : (b : Built) (key v : Value) (vs : Items) → onward b (λ us. addEntries us (more key (more v vs))) ≡ onward (onward b (λ us. addEntry us key v)) (λ us. addEntries us vs)
+onward-entry : (b : Built) (key v : Value) (vs : Items) → buildOn b (λ us. addEntries us (more key (more v vs))) ≡ buildOn (buildOn b (λ us. addEntry us key v)) (λ us. addEntries us vs)
 unfolding addEntries addEntriesAt
 onward-entry (built us) key v vs = refl
 onward-entry (stopped n) key v vs = refl
 
-onward-key : (b : Built) (key : Value) → onward b (λ us. addEntries us (more key none)) ≡ b
+onward-key : (b : Built) (key : Value) → buildOn b (λ us. addEntries us (more key none)) ≡ b
 unfolding addEntries addEntriesAt
 onward-key (built us) key = refl
 onward-key (stopped n) key = refl
 
-onward-no-entry : (b : Built) → onward b (λ us. addEntries us none) ≡ b
+onward-no-entry : (b : Built) → buildOn b (λ us. addEntries us none) ≡ b
 unfolding addEntries
 onward-no-entry (built us) = refl
 onward-no-entry (stopped n) = refl
 
-pair-by-pair : (rec : Evaluates) (r : ℕ) (os : List ℕ) (ρ : State) (b : Built) → bind (allOf rec os ρ) (λ vs. at r (closed map (onward b (λ us. addEntries us vs)))) ≡ pairByPair rec r os ρ b
+pair-by-pair : (rec : Evaluates) (r : ℕ) (os : List ℕ) (ρ : State) (b : Built) → bind (allOf rec os ρ) (λ vs. at r (closed map (buildOn b (λ us. addEntries us vs)))) ≡ pairByPair rec r os ρ b
 unfolding allOf
 pair-by-pair rec r [] ρ b = ap (λ (x : Built). at r (closed map x)) (onward-no-entry b)
 pair-by-pair rec r (o ∷ []) ρ b =
-    all-more rec ρ o [] (λ vs. at r (closed map (onward b (λ us. addEntries us vs))))
+    all-more rec ρ o [] (λ vs. at r (closed map (buildOn b (λ us. addEntries us vs))))
     ∙ bind-cong (rec o ρ) _ _ (λ key. ap (λ (x : Built). at r (closed map x)) (onward-key b key))
 pair-by-pair rec r (o ∷ q ∷ os) ρ b =
-    all-more rec ρ o (q ∷ os) (λ vs. at r (closed map (onward b (λ us. addEntries us vs))))
+    all-more rec ρ o (q ∷ os) (λ vs. at r (closed map (buildOn b (λ us. addEntries us vs))))
     ∙ bind-cong (rec o ρ) _ _
     (λ key.
-    all-more rec ρ q os (λ vs. at r (closed map (onward b (λ us. addEntries us (more key vs)))))
+    all-more rec ρ q os (λ vs. at r (closed map (buildOn b (λ us. addEntries us (more key vs)))))
     ∙ bind-cong (rec q ρ) _ _
     (λ v.
     bind-cong (allOf rec os ρ) _ _ (λ vs. ap (λ (x : Built). at r (closed map x)) (onward-entry b key v vs))
-    ∙ pair-by-pair rec r os ρ (onward b (λ us. addEntry us key v))))
+    ∙ pair-by-pair rec r os ρ (buildOn b (λ us. addEntry us key v))))
 
 -- THEOREM: an enumeration of each kind is its operands added as they come.
 pub enumeration-is : (pattern : ℕ → Pattern) (rec : Evaluates) (r : ℕ) (k : Kind) (os : List ℕ) (ρ : State) → means pattern rec r (enumeration k os) ρ ≡ asTheyCome k rec r os ρ (built none)

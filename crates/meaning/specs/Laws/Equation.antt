@@ -1,13 +1,12 @@
 -- In a sheet whose records evaluate only lower ones, the meaning of a record is what it says over the meanings of its operands.
 use mathlib.Core.Path.{_≡_, refl, ap, _∙_}
-use mathlib.Core.Bool.{Bool, true, false}
+use mathlib.Core.Bool.{Bool, true, false, cond}
 use mathlib.Core.List.{List, [], _∷_}
 use Prim.Native.Nat.{ℕ, zero, suc, _<_}
 use native.Mathlib.Omega.{arith}
 use Rattle.choices.specs.Tree.{Tree, give, bind}
-use Rattle.choices.specs.Laws.Trees.{bind-cong}
+use Rattle.choices.proofs.Trees.{bind-cong}
 use Rattle.values.specs.Value.{Kind, set, sequence, map, Value, Items, none}
-use Rattle.values.specs.Items.{pick}
 use Rattle.operators.specs.Answer.{Built}
 use Rattle.operators.specs.Booleans.{Left, settles, leaves, left}
 use Rattle.operators.specs.Enumerations.{addMember, addItem}
@@ -83,7 +82,7 @@ Downward s = (r : ℕ) → Lower r (s .node r)
 bind-both : {A B : Type 0} (t u : Tree A) (f g : A → Tree B) → t ≡ u → ((a : A) → f a ≡ g a) → bind t f ≡ bind u g
 bind-both t u f g e h = ap (λ x. bind x f) e ∙ bind-cong u f g h
 
-pick-both : {A : Type 0} (b : Bool) (t u : Tree A) (v w : Tree A) → t ≡ u → v ≡ w → pick b t v ≡ pick b u w
+pick-both : {A : Type 0} (b : Bool) (t u : Tree A) (v w : Tree A) → t ≡ u → v ≡ w → cond b t v ≡ cond b u w
 pick-both true t u v w e d = e
 pick-both false t u v w e d = d
 

@@ -1,17 +1,17 @@
 -- A let-be refuses for want of a binding exactly when there is none.
 use mathlib.Core.Path.{_≡_, refl, sym, ap, _∙_, subst}
-use mathlib.Core.Bool.{Bool, true, false}
+use mathlib.Core.Bool.{Bool, true, false, cond as choosing, cond}
 use mathlib.Core.Logic.{inl, inr, ⊎-elim, _↔_}
 use mathlib.Core.List.{List, [], _∷_}
 use Prim.Native.Nat.{ℕ, zero, suc, _<_}
 use native.Mathlib.Omega.{arith}
 use lib.Dec.{ltb}
 use lib.ListN.{length, getD}
-use Rattle.choices.specs.Tree.{Tree, give, stop, choose, bind, gave, stopped, beyond, follow, pick as choosing}
-use Rattle.choices.specs.Laws.Trees.{bind-cong, bind-assoc, onward, follow-bind}
+use Rattle.prelude.proofs.Absurd.{impossible}
+use Rattle.prelude.specs.Membership.{In}
+use Rattle.choices.specs.Tree.{Tree, give, stop, choose, bind, gave, stopped, beyond, follow}
+use Rattle.choices.proofs.Trees.{bind-cong, bind-assoc, onward, follow-bind}
 use Rattle.values.specs.Value.{set, Value, boolean, collection, Items}
-use Rattle.values.specs.Items.{pick}
-use Rattle.patterns.specs.Members.{In}
 use Rattle.patterns.specs.Binding.{Binding, nothing}
 use Rattle.patterns.specs.Pattern.{Pattern, listOf}
 use Rattle.patterns.specs.Binder.{bound, formed, bindings}
@@ -67,18 +67,18 @@ filter rec r c ρ (b ∷ bs) h = go (filter rec r c ρ bs (λ β i. h β (inr i)
     go f (true, e) =
         record {
           sat = b ∷ f .sat;
-          is = ap (λ (t : Tree Value). bind (bind t (isTrue r)) (λ x. bind (satisfying rec r c ρ bs) (λ l. give (pick x (b ∷ l) l)))) e ∙ ap (λ (t : Tree (List Binding)). bind t (λ l. give (b ∷ l))) (f .is);
+          is = ap (λ (t : Tree Value). bind (bind t (isTrue r)) (λ x. bind (satisfying rec r c ρ bs) (λ l. give (cond x (b ∷ l) l)))) e ∙ ap (λ (t : Tree (List Binding)). bind t (λ l. give (b ∷ l))) (f .is);
           sound = λ β i. ⊎-elim (λ d. (inl d, subst (IsTrue rec c ρ) (sym d) e)) (λ j. (inr (f .sound β j .0), f .sound β j .1)) i;
           whole = λ β i t. ⊎-elim (λ d. inl d) (λ j. inr (f .whole β j t)) i;
         }
     go f (false, e) =
         record {
           sat = f .sat;
-          is = ap (λ (t : Tree Value). bind (bind t (isTrue r)) (λ x. bind (satisfying rec r c ρ bs) (λ l. give (pick x (b ∷ l) l)))) e ∙ ap (λ (t : Tree (List Binding)). bind t (λ l. give l)) (f .is);
+          is = ap (λ (t : Tree Value). bind (bind t (isTrue r)) (λ x. bind (satisfying rec r c ρ bs) (λ l. give (cond x (b ∷ l) l)))) e ∙ ap (λ (t : Tree (List Binding)). bind t (λ l. give l)) (f .is);
           sound = λ β i. (inr (f .sound β i .0), f .sound β i .1);
           whole = λ β i t.
               ⊎-elim
-              (λ d. let y : _≡_ {A = Tree Value} (give (boolean false)) (give (boolean true)) = sym e ∙ subst (IsTrue rec c ρ) d t in let z : _≡_ {A = ℕ} 0 1 = cc in absurd (omega arith))
+              (λ d. let y : _≡_ {A = Tree Value} (give (boolean false)) (give (boolean true)) = sym e ∙ subst (IsTrue rec c ρ) d t in impossible cc)
               (λ j. f .whole β j t) i;
         }
 
@@ -138,12 +138,12 @@ module _ (rec : Evaluates) (r : ℕ) (p : Pattern) (c b : ℕ) (ρ : State) (vs 
 -- A choice at r, with bodies below r, does not come to 24 at r.
 choice-not-24 : (r q n : ℕ) (ways : ℕ → Tree Value) (k : ℕ) (l left : List ℕ) → q < r → ((i : ℕ) → Placed q (ways i)) → follow (choose r n ways) k l ≡ stopped 24 r left → ⊥
 choice-not-24 r q n ways zero l left h p e = let z : _≡_ {A = ℕ} 31 24 = cc in absurd (omega arith)
-choice-not-24 r q n ways (suc k) [] left h p e = let z : _≡_ {A = ℕ} 0 1 = cc in absurd (omega arith)
+choice-not-24 r q n ways (suc k) [] left h p e = impossible cc
 choice-not-24 r q n ways (suc k) (c ∷ l) left h p e = go (ltb c n) e
   where
     go : (b : Bool) → choosing b (follow (ways c) k l) (beyond r n (c ∷ l)) ≡ stopped 24 r left → ⊥
     go true e = let i = follow-placed q (ways c) k l 24 r left (p c) e in absurd (omega arith)
-    go false e = let z : _≡_ {A = ℕ} 0 1 = cc in absurd (omega arith)
+    go false e = impossible cc
 
 satisfied-not-24 : (rec : Evaluates) (r q b : ℕ) (ρ : State) (sat : List Binding) (k : ℕ) (l left : List ℕ) → q < r → ((σ : State) → Placed q (rec b σ)) → follow (bind (satisfied r sat) (λ β. rec b (under ρ β))) k l ≡ stopped 24 r left → (β : Binding) → In β sat → ⊥
 satisfied-not-24 rec r q b ρ [] k l left h p e β i = i

@@ -1,5 +1,5 @@
 -- Every refusal of an operator has a number from 20 to 30.
-use mathlib.Core.Bool.{Bool, true, false}
+use mathlib.Core.Bool.{Bool, true, false, cond}
 use mathlib.Core.Option.{Option, none as absent, some}
 use mathlib.Core.List.{List, [], _∷_}
 use Prim.Native.Nat.{ℕ, zero, suc, _+_, _*_, _≤_}
@@ -9,17 +9,17 @@ use lib.IntN.{ℤ, pos}
 use lib.ListN.{getD}
 use Rattle.integers.specs.declared.Number.{Number}
 use Rattle.integers.specs.declared.Number.the-variants.{Is, OutOfRange, ByZero}
-use Rattle.integers.specs.Whole.{negation, absolute, sum, difference, product, quotient, remainder, modulus}
-use Rattle.values.specs.Value.{Kind, set, sequence, map, tuple, Value, boolean, integer, collection, Items, none, more, sizes, limit, count}
-use Rattle.values.specs.Items.{pick, same, lookup, join, snoc, insert, enter}
+use Rattle.integers.specs.Whole.{negationOf, absoluteOf, sumOf, differenceOf, productOf, quotientOf, remainderOf, modulusOf}
+use Rattle.values.specs.Value.{Kind, set, sequence, map, tuple, Value, boolean, integer, collection, Items, none, more, sizes, valueLimit, count}
+use Rattle.values.specs.Items.{same, lookup, join, snoc, insert, enter}
 use Rattle.operators.specs.Answer.{Answer, is, refused, Built, built, stopped, needs, needsBoth, found, fitting, closed, sized, asBoolean, asInteger, asSet, asSequence, asMap}
 use Rattle.operators.specs.Booleans.{Connective, Left, settles, leaves, and, or, implies, ofLeft, left, right}
 use Rattle.operators.specs.Arithmetic.{answered}
-use Rattle.operators.specs.Gather.{every, isKind, flatten, upFrom, enterAll}
+use Rattle.operators.specs.Gather.{everyItem, isKind, flatten, upFrom, enterAll}
 use Rattle.operators.specs.Sets.{rangeOf, counting, howMany, unite, uniteAll, intersectionOf}
 use Rattle.operators.specs.Sequences.{headOf, tailOf, itemAt}
 use Rattle.operators.specs.Maps.{applyTo, compatible}
-use Rattle.operators.specs.Enumerations.{addMember, addItem, addEntry, entered, onward, addMembers, addItems, addEntries, addEntriesAt, setOf, sequenceOf, mapOf, tupleOf}
+use Rattle.operators.specs.Enumerations.{addMember, addItem, addEntry, entered, buildOn, addMembers, addItems, addEntries, addEntriesAt, setOf, sequenceOf, mapOf, tupleOf}
 use Rattle.operators.specs.Operators.{unary, binary, unaries, binaries, noUnary, noBinary}
 
 abbrev pub Ranged : ℕ → Type 0
@@ -42,7 +42,7 @@ if-needed (some a) f h = h a
 if-both : {A B : Type 0} (x : Option A) (y : Option B) (f : A → B → Answer) → ((a : A) (b : B) → Answered (f a b)) → Answered (needsBoth x y f)
 if-both x y f h = if-needed x (λ a. needs y (λ b. f a b)) (λ a. if-needed y (λ b. f a b) (λ b. h a b))
 
-if-picked : (b : Bool) (x y : Answer) → Answered x → Answered y → Answered (pick b x y)
+if-picked : (b : Bool) (x y : Answer) → Answered x → Answered y → Answered (cond b x y)
 if-picked true x y h k = h
 if-picked false x y h k = k
 
@@ -50,12 +50,12 @@ if-found : (x : Option Value) → Answered (found x)
 if-found absent = (omega arith, omega arith)
 if-found (some v) = tt
 
-pick-built : (b : Bool) (vs : Items) (n : ℕ) → Ranged n → BuiltSo (pick b (built vs) (stopped n))
+pick-built : (b : Bool) (vs : Items) (n : ℕ) → Ranged n → BuiltSo (cond b (built vs) (stopped n))
 pick-built true vs n h = tt
 pick-built false vs n h = h
 
 pub if-fitting : (vs : Items) → BuiltSo (fitting vs)
-if-fitting vs = pick-built (leb (4 + sizes vs) limit) vs 28 (omega arith, omega arith)
+if-fitting vs = pick-built (leb (4 + sizes vs) valueLimit) vs 28 (omega arith, omega arith)
 
 if-closed : (k : Kind) (b : Built) → BuiltSo b → Answered (closed k b)
 if-closed k (built vs) h = tt
@@ -70,7 +70,7 @@ if-number OutOfRange = (omega arith, omega arith)
 if-number ByZero = (omega arith, omega arith)
 
 if-counting : (z : ℤ) (n : ℕ) → Answered (counting z n)
-if-counting z n = if-picked (leb (4 + 8 * n) limit) (is (collection set (upFrom z n))) (refused 28) tt (omega arith, omega arith)
+if-counting z n = if-picked (leb (4 + 8 * n) valueLimit) (is (collection set (upFrom z n))) (refused 28) tt (omega arith, omega arith)
 
 -- ---- operators by number
 
@@ -120,17 +120,17 @@ unfolding unary
 unary-number n v = all-at unaries n v (
     (λ v. kind-number) &
     (λ v. if-needed (asBoolean v) _ (λ b. tt)) &
-    (λ v. if-needed (asInteger v) _ (λ a. if-number (negation a))) &
-    (λ v. if-needed (asInteger v) _ (λ a. if-number (absolute a))) &
+    (λ v. if-needed (asInteger v) _ (λ a. if-number (negationOf a))) &
+    (λ v. if-needed (asInteger v) _ (λ a. if-number (absoluteOf a))) &
     (λ v. if-needed (asSet v) _ (λ vs. tt)) &
-    (λ v. if-needed (asSet v) _ (λ vs. if-picked (every (isKind set) vs) (sized set (uniteAll vs)) (refused 20) (if-sized set (uniteAll vs)) kind-number)) &
-    (λ v. if-needed (asSet v) _ (λ vs. if-picked (every (isKind set) vs) (intersectionOf vs) (refused 20) (if-intersected vs) kind-number)) &
+    (λ v. if-needed (asSet v) _ (λ vs. if-picked (everyItem (isKind set) vs) (sized set (uniteAll vs)) (refused 20) (if-sized set (uniteAll vs)) kind-number)) &
+    (λ v. if-needed (asSet v) _ (λ vs. if-picked (everyItem (isKind set) vs) (intersectionOf vs) (refused 20) (if-intersected vs) kind-number)) &
     (λ v. if-needed (asSequence v) _ (λ vs. tt)) &
     (λ v. if-needed (asSequence v) _ (λ vs. if-head vs)) &
     (λ v. if-needed (asSequence v) _ (λ vs. if-tail vs)) &
     (λ v. if-needed (asSequence v) _ (λ vs. tt)) &
     (λ v. if-needed (asSequence v) _ (λ vs. if-counting (pos 1) (count vs))) &
-    (λ v. if-needed (asSequence v) _ (λ vs. if-picked (every (isKind sequence) vs) (sized sequence (flatten vs)) (refused 20) (if-sized sequence (flatten vs)) kind-number)) &
+    (λ v. if-needed (asSequence v) _ (λ vs. if-picked (everyItem (isKind sequence) vs) (sized sequence (flatten vs)) (refused 20) (if-sized sequence (flatten vs)) kind-number)) &
     (λ v. if-needed (asSequence v) _ (λ vs. tt)) &
     (λ v. if-needed (asMap v) _ (λ vs. tt)) &
     (λ v. if-needed (asMap v) _ (λ vs. tt)) &
@@ -144,12 +144,12 @@ binary-number n v w = all-at₂ binaries n v w (
     (λ v w. if-both (asBoolean v) (asBoolean w) _ (λ a b. tt)) &
     (λ v w. tt) &
     (λ v w. tt) &
-    (λ v w. if-both (asInteger v) (asInteger w) _ (λ a b. if-number (sum a b))) &
-    (λ v w. if-both (asInteger v) (asInteger w) _ (λ a b. if-number (difference a b))) &
-    (λ v w. if-both (asInteger v) (asInteger w) _ (λ a b. if-number (product a b))) &
-    (λ v w. if-both (asInteger v) (asInteger w) _ (λ a b. if-number (quotient a b))) &
-    (λ v w. if-both (asInteger v) (asInteger w) _ (λ a b. if-number (remainder a b))) &
-    (λ v w. if-both (asInteger v) (asInteger w) _ (λ a b. if-number (modulus a b))) &
+    (λ v w. if-both (asInteger v) (asInteger w) _ (λ a b. if-number (sumOf a b))) &
+    (λ v w. if-both (asInteger v) (asInteger w) _ (λ a b. if-number (differenceOf a b))) &
+    (λ v w. if-both (asInteger v) (asInteger w) _ (λ a b. if-number (productOf a b))) &
+    (λ v w. if-both (asInteger v) (asInteger w) _ (λ a b. if-number (quotientOf a b))) &
+    (λ v w. if-both (asInteger v) (asInteger w) _ (λ a b. if-number (remainderOf a b))) &
+    (λ v w. if-both (asInteger v) (asInteger w) _ (λ a b. if-number (modulusOf a b))) &
     (λ v w. if-both (asInteger v) (asInteger w) _ (λ a b. tt)) &
     (λ v w. if-both (asInteger v) (asInteger w) _ (λ a b. tt)) &
     (λ v w. if-both (asInteger v) (asInteger w) _ (λ a b. tt)) &
@@ -214,7 +214,7 @@ member-number vs v = if-fitting (insert v vs)
 pub item-number : (vs : Items) (v : Value) → BuiltSo (addItem vs v)
 item-number vs v = if-fitting (snoc vs v)
 
-if-onward : (b : Built) (f : Items → Built) → BuiltSo b → ((vs : Items) → BuiltSo (f vs)) → BuiltSo (onward b f)
+if-onward : (b : Built) (f : Items → Built) → BuiltSo b → ((vs : Items) → BuiltSo (f vs)) → BuiltSo (buildOn b f)
 if-onward (built vs) f h k = k vs
 if-onward (stopped n) f h k = h
 

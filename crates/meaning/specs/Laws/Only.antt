@@ -1,13 +1,12 @@
 -- Trees all of whose values are of some sort.
 use mathlib.Core.Path.{_≡_, refl, subst}
-use mathlib.Core.Bool.{Bool, true, false}
+use mathlib.Core.Bool.{Bool, true, false, cond}
 use mathlib.Core.Option.{Option, none as absent, some}
 use mathlib.Core.Logic.{⊎-elim}
 use Prim.Native.Nat.{ℕ}
-use native.Mathlib.Omega.{arith}
+use Rattle.prelude.proofs.Absurd.{impossible}
 use Rattle.choices.specs.Tree.{Tree, give, stop, bind, value, Gives}
-use Rattle.choices.specs.Laws.Trees.{gives-bind-out}
-use Rattle.values.specs.Items.{pick}
+use Rattle.choices.proofs.Trees.{gives-bind-out}
 use Rattle.meaning.specs.Meaning.{orElse}
 
 -- Every value that the tree gives is so.
@@ -18,11 +17,11 @@ pub only-give : {A : Type 0} (P : A → Type 0) (a : A) → P a → Only P (give
 only-give P a h b e = let d : a ≡ b = cc in subst P d h
 
 pub only-stop : {A : Type 0} (P : A → Type 0) (n r : ℕ) → Only P (stop n r)
-only-stop P n r b e = let z : _≡_ {A = ℕ} 0 1 = cc in absurd (omega arith)
+only-stop P n r b e = impossible cc
 
 pub only-bind : {A B : Type 0} (P : A → Type 0) (Q : B → Type 0) (t : Tree A) (f : A → Tree B) → Only P t → ((a : A) → P a → Only Q (f a)) → Only Q (bind t f)
 only-bind P Q t f h k b g =
-    ⊎-elim (λ w. let e = w .2 in let z : _≡_ {A = ℕ} 0 1 = cc in absurd (omega arith)) (λ w. k (w .0) (h (w .0) (w .1)) b (w .2)) (gives-bind-out t f (value b) g)
+    ⊎-elim (λ w. let e = w .2 in impossible cc) (λ w. k (w .0) (h (w .0) (w .1)) b (w .2)) (gives-bind-out t f (value b) g)
 
 -- Nothing is said of the values of the first.
 abbrev pub Any : {A : Type 0} → A → Type 0
@@ -31,7 +30,7 @@ Any a = Unit {0}
 pub only-any : {A : Type 0} (t : Tree A) → Only Any t
 only-any t a g = tt
 
-pub only-pick : {A : Type 0} (P : A → Type 0) (b : Bool) (t u : Tree A) → Only P t → Only P u → Only P (pick b t u)
+pub only-pick : {A : Type 0} (P : A → Type 0) (b : Bool) (t u : Tree A) → Only P t → Only P u → Only P (cond b t u)
 only-pick P true t u h k = h
 only-pick P false t u h k = k
 

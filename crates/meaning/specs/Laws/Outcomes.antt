@@ -1,6 +1,6 @@
 -- What evaluating answers under the complete lists of bytes, against the loose meaning.
 use mathlib.Core.Path.{_≡_, refl, sym, ap, _∙_, subst}
-use mathlib.Core.Bool.{Bool, true, false}
+use mathlib.Core.Bool.{Bool, true, false, cond, cond as choosing}
 use mathlib.Core.Logic.{_↔_}
 use mathlib.Core.List.{List, [], _∷_, _++_, append-assoc}
 use Prim.Native.Nat.{ℕ, zero, suc, _-_, _≤_, _<_}
@@ -8,18 +8,18 @@ use native.Mathlib.Omega.{arith}
 use lib.Dec.{ltb, eqb}
 use lib.ListN.{length, drop, replicate}
 use borrow.Author.Tests.{ltb-true, ne-eqb}
-use Rattle.choices.specs.Tree.{Tree, give, stop, choose, Numbered, stopped, beyond, pick, follow, run, limit, refuses, final, Outcome, value, refusal, Gives}
+use Rattle.prelude.proofs.Absurd.{impossible}
+use Rattle.prelude.proofs.Truth.{or-false-both}
+use Rattle.choices.specs.Tree.{Tree, give, stop, choose, Numbered, stopped, beyond, follow, run, mostChoices, refuses, final, Outcome, value, refusal, Gives}
 use Rattle.choices.specs.Lists.{Complete, outcomeOf, NoMany as NoManyAtAll}
-use Rattle.choices.specs.Laws.Cut.{complete-length}
-use Rattle.choices.specs.Laws.Trees.{numbered-gives}
-use Rattle.choices.specs.Laws.Walk.{finalOf, complete-final}
-use Rattle.choices.specs.Laws.Outcomes.{gives-reached}
-use Rattle.values.specs.Value.{Value, encode, WellFormed, limit as largest}
-use Rattle.values.specs.Items.{pick as choosing}
-use Rattle.values.specs.Encoding.{valueOf, value-back}
+use Rattle.choices.proofs.Cut.{complete-length}
+use Rattle.choices.proofs.Trees.{numbered-gives}
+use Rattle.choices.proofs.Walk.{finalOf, complete-final}
+use Rattle.choices.proofs.Outcomes.{gives-reached}
+use Rattle.values.specs.Value.{Value, encode, WellFormed, valueLimit as largest}
+use Rattle.values.proofs.Encoding.{valueOf, value-back}
 use Rattle.tables.specs.declared.Checked.the-variants.{Accepted}
 use Rattle.tables.specs.Check.{check}
-use Rattle.tables.specs.Laws.{or-none}
 use Rattle.meaning.specs.State.{unbound}
 use Rattle.meaning.specs.Loose.{loose}
 use Rattle.meaning.specs.Read.{sheet}
@@ -46,16 +46,16 @@ record Taken (l left : List ℕ) : Type 0 where
   all : left ≡ []
 
 many-taken : {A : Type 0} (t : Tree A) (k : ℕ) (l : List ℕ) (p : ℕ) (left : List ℕ) → Numbered t → Narrow t → length l ≤ k → follow t k l ≡ stopped 31 p left → Taken l left
-many-taken (give a) k l p left m w h e = let z : _≡_ {A = ℕ} 0 1 = cc in absurd (omega arith)
+many-taken (give a) k l p left m w h e = impossible cc
 many-taken (stop n q) k l p left m w h e = let d : n ≡ 31 = cc in absurd (omega (arith, m .1))
 many-taken (choose q n ways) zero [] p left m w h e = let d : [] ≡ left = cc in record { bytes = tt; all = sym d }
 many-taken (choose q n ways) zero (c ∷ l) p left m w h e = absurd (omega arith)
-many-taken (choose q n ways) (suc k) [] p left m w h e = let z : _≡_ {A = ℕ} 0 1 = cc in absurd (omega arith)
+many-taken (choose q n ways) (suc k) [] p left m w h e = impossible cc
 many-taken (choose q n ways) (suc k) (c ∷ l) p left m w h e = go (ltb c n) refl e (λ i f. many-taken (ways c) k l p left (m c i) (w .1 c i) (omega arith) f)
   where
-    go : (b : Bool) → ltb c n ≡ b → pick b (follow (ways c) k l) (beyond q n (c ∷ l)) ≡ stopped 31 p left → (c < n → follow (ways c) k l ≡ stopped 31 p left → Taken l left) → Taken (c ∷ l) left
+    go : (b : Bool) → ltb c n ≡ b → cond b (follow (ways c) k l) (beyond q n (c ∷ l)) ≡ stopped 31 p left → (c < n → follow (ways c) k l ≡ stopped 31 p left → Taken l left) → Taken (c ∷ l) left
     go true d f rest = let i = ltb-true c n d in let x = rest i f in record { bytes = (omega (arith, w .0), x .bytes); all = x .all }
-    go false d f rest = let z : _≡_ {A = ℕ} 0 1 = cc in absurd (omega arith)
+    go false d f rest = impossible cc
 
 -- ---- what evaluating answers
 
@@ -92,7 +92,7 @@ module _ (scratch buffer : List ℕ) where
     f .0,
     h n p refl,
     refl,
-    ap (λ b. choosing b buffer (zeroed largest buffer)) (or-none (eqb n 1) (eqb n 2) (ne-eqb n 1 (λ e. omega (arith, f .0))) (ne-eqb n 2 (λ e. omega (arith, f .0)))),
+    ap (λ b. choosing b buffer (zeroed largest buffer)) (or-false-both (eqb n 1) (eqb n 2) (ne-eqb n 1 (λ e. omega (arith, f .0))) (ne-eqb n 2 (λ e. omega (arith, f .0)))),
   )
 
 -- ---- an accepted table
@@ -100,7 +100,7 @@ module _ (scratch buffer : List ℕ) where
 module _ (table : List ℕ) (n : ℕ) (ok : check table ≡ Accepted n) where
   -- What the tree gives is an outcome of document 01.
   proper : (o : Outcome Value) → Gives (tree table) o → Proper o × ((m p : ℕ) → o ≡ refusal m p → m ≤ 30)
-  proper (value v) g = (tree-well-formed table n ok v g, λ m p e. let z : _≡_ {A = ℕ} 0 1 = cc in absurd (omega arith))
+  proper (value v) g = (tree-well-formed table n ok v g, λ m p e. impossible cc)
   proper (refusal m p) g =
       let r = numbered-gives (tree table) m p (sure-meaning (sheet table) (last (sheet table)) unbound .numbered) g in
       ((r .0, omega (arith, r .1)), λ i q e. let d : m ≡ i = cc in omega (arith, r .1))
@@ -110,7 +110,7 @@ module _ (table : List ℕ) (n : ℕ) (ok : check table ≡ Accepted n) where
     no-many : NoManyAtAll (tree table)
     no-many l p left within e =
         let sure = sure-meaning (sheet table) (last (sheet table)) unbound in
-        let x = many-taken (tree table) limit l p left (sure .numbered) (sure .narrow) within e in
+        let x = many-taken (tree table) mostChoices l p left (sure .numbered) (sure .narrow) within e in
         let a : evaluates (length scratch) (length buffer) table l ≡ refuses 31 p 0 =
         evaluates-run table (length scratch) enough n ok (length buffer) l room within ∙ ap (final (last (sheet table))) (e ∙ ap (stopped 31 p) (x .all)) in
         no l (x .bytes) within (ap (λ f. numberOf (packed uncounted f)) a ∙ (let z : numberOf (pack 31 p 0) ≡ 31 = omega arith in z))

@@ -1,7 +1,7 @@
 -- The patterns that the meaning reads in an accepted table hold what the check's tests of their records say: the same names, and the same
 -- looseness. So rule 8 and a choice speak of the same lets.
 use mathlib.Core.Path.{_≡_, refl, sym, ap, _∙_, subst}
-use mathlib.Core.Bool.{Bool, true, false, _&&_, _||_}
+use mathlib.Core.Bool.{Bool, true, false, _&&_, _||_, or-false}
 use mathlib.Core.List.{List, [], _∷_, map}
 use Prim.Native.Nat.{ℕ, zero, suc, _+_, _-_, _≤_, _<_}
 use native.Mathlib.Omega.{arith}
@@ -128,14 +128,10 @@ unfolding holdsAt patternsOf
 name-parts x [] = refl
 name-parts x (p ∷ ps) = ap (λ b. holdsAt p x || b) (name-parts x ps)
 
-or-none : (b : Bool) → b || false ≡ b
-or-none true = refl
-or-none false = refl
-
 two-parts : (m : Pattern → Bool) (ps : List Pattern) → length ps ≡ 2 → some (map m ps) ≡ m (getD ps 0 any) || m (getD ps 1 any)
 two-parts m [] e = absurd (omega arith)
 two-parts m (p ∷ []) e = absurd (omega arith)
-two-parts m (p ∷ q ∷ []) e = ap (λ b. m p || b) (or-none (m q))
+two-parts m (p ∷ q ∷ []) e = ap (λ b. m p || b) (or-false (m q))
 two-parts m (p ∷ q ∷ s ∷ ps) e = absurd (omega arith)
 
 abbrev nameKind : ℕ → ℕ → ℕ → Bool
@@ -144,7 +140,7 @@ nameKind x y k = eqb k 32 && eqb y x
 each-name : (x : ℕ) → EachAgrees (isName x) (λ p. holdsAt p x) 32 patterns
 unfolding holdsAt shape
 each-name x =
-    (λ q e ps c. sym (or-none (eqb (nameOf q) x)) ∙ or-both (ap (nameKind x (nameOf q)) e) (no-parts (λ p. holdsAt p x) 32 ps refl c))
+    (λ q e ps c. sym (or-false (eqb (nameOf q) x)) ∙ or-both (ap (nameKind x (nameOf q)) e) (no-parts (λ p. holdsAt p x) 32 ps refl c))
     & (λ q e ps c. or-both (ap (nameKind x (nameOf q)) e) (no-parts (λ p. holdsAt p x) 33 ps refl c))
     & (λ q e ps c. or-both (ap (nameKind x (nameOf q)) e) (no-parts (λ p. holdsAt p x) 34 ps refl c))
     & (λ q e ps c. or-both (ap (nameKind x (nameOf q)) e) (no-parts (λ p. holdsAt p x) 35 ps refl c))

@@ -1,16 +1,16 @@
 -- What an accepted table's records say: they evaluate only lower ones, integer literals are in range, and enumerations have operands in the
 -- numbers that their kinds ask for.
 use mathlib.Core.Path.{_≡_, refl, sym, ap, _∙_, subst}
-use mathlib.Core.Bool.{Bool, true, false, _&&_}
+use mathlib.Core.Bool.{Bool, true, false, _&&_, cond}
 use mathlib.Core.List.{List, [], _∷_}
 use Prim.Native.Nat.{ℕ, zero, suc, _+_, _-_, _%_, _≤_, _<_}
 use native.Mathlib.Omega.{arith}
 use lib.Dec.{eqb, leb}
 use lib.ListN.{length, getD, replicate, List·getD-eq-default}
 use borrow.Author.Tests.{eqb-true, leb-true}
+use mathlib.Mathlib.Data.Bool.Basic.{and-elim-left, and-elim-right}
 use Rattle.integers.specs.Whole.{InRange}
 use Rattle.values.specs.Value.{Kind, set, sequence, map, tuple}
-use Rattle.values.specs.Items.{pick}
 use Rattle.operators.specs.Booleans.{and, or, implies}
 use Rattle.tables.specs.declared.Role.the-variants.{Plain}
 use Rattle.tables.specs.declared.Checked.the-variants.{Accepted}
@@ -18,7 +18,7 @@ use Rattle.tables.specs.Record.{Record, shape, size, headOf, fits, named as ope
 use Rattle.tables.specs.Table.{noRecord, recordAt}
 use Rattle.tables.specs.Sheet.{isCovered}
 use Rattle.tables.specs.Check.{check}
-use Rattle.tables.specs.Laws.{and-left, and-right, split}
+use Rattle.tables.specs.Laws.{split}
 use Rattle.tables.specs.Accepted.{records, Fine, accepted-fine, operand-lower, fit-least, fit-known, named-count}
 use Rattle.meaning.specs.Node.{Node, truth, whole, named, unaryOf, binaryOf, connective, if, enumeration, range, let-in, let-be, quantified, iota, set-comprehension, sequence-comprehension, map-comprehension, application, no-expression}
 use Rattle.meaning.specs.Read.{nodes, nodeOf, none, binaryNode, sheet}
@@ -131,7 +131,7 @@ module _ (P : ℕ → Type 0) (C : ℕ → ℕ → Type 0) where
     unfolding isFit
     count-fit =
         subst (λ m. fits (shape m) (length (q .fields)) ≡ true) (h .kind-is)
-        (and-left (fits (shape (q .kind)) (length (q .fields))) (isKnown (headOf q) q) (h .fit))
+        (and-elim-left (fits (shape (q .kind)) (length (q .fields))) (isKnown (headOf q) q) (h .fit))
 
     there : (i : ℕ) → i < shape k .least → i < length (operandsOf q)
     there i l =
@@ -153,16 +153,16 @@ module _ (P : ℕ → Type 0) (C : ℕ → ℕ → Type 0) where
   unfolding shape
   tuple-numbered q h =
       let c = count-known 10 q h in
-      let e = and-left (leb 2 (length (q .fields)) && leb (length (q .fields)) 4) _ (count-fit 10 q h) in
-      let l = leb-true 2 (length (q .fields)) (and-left _ (leb (length (q .fields)) 4) e) in
-      let m = leb-true (length (q .fields)) 4 (and-right (leb 2 (length (q .fields))) _ e) in
+      let e = and-elim-left (leb 2 (length (q .fields)) && leb (length (q .fields)) 4) _ (count-fit 10 q h) in
+      let l = leb-true 2 (length (q .fields)) (and-elim-left _ (leb (length (q .fields)) 4) e) in
+      let m = leb-true (length (q .fields)) 4 (and-elim-right (leb 2 (length (q .fields))) _ e) in
       (omega arith, omega arith)
 
   map-numbered : (q : Record) → Known P C 9 q → Numbered map (length (operandsOf q))
   unfolding shape
   map-numbered q h =
       let c = count-known 9 q h in
-      let e = eqb-true _ 0 (and-right (leb 0 (length (q .fields)) && leb (length (q .fields)) 8) (eqb ((length (q .fields) - 0) % 2) 0) (count-fit 9 q h)) in
+      let e = eqb-true _ 0 (and-elim-right (leb 0 (length (q .fields)) && leb (length (q .fields)) 8) (eqb ((length (q .fields) - 0) % 2) 0) (count-fit 9 q h)) in
       ap (λ m. m % 2) c ∙ e
 
   integer-literal : (q : Record) → Known P C 2 q → InRange (integerOf q)
@@ -172,7 +172,7 @@ module _ (P : ℕ → Type 0) (C : ℕ → ℕ → Type 0) where
   binary-proper : (op a b : ℕ) → P a → P b → Proper P C (binaryNode op a b)
   binary-proper op a b h i = go (eqb op 1) (eqb op 2) (eqb op 3)
     where
-      go : (x y z : Bool) → Proper P C (pick x (connective and a b) (pick y (connective or a b) (pick z (connective implies a b) (binaryOf op a b))))
+      go : (x y z : Bool) → Proper P C (cond x (connective and a b) (cond y (connective or a b) (cond z (connective implies a b) (binaryOf op a b))))
       go true y z = record { plain-ones = h & i & tt; covered-ones = tt; literal = tt }
       go false true z = record { plain-ones = h & i & tt; covered-ones = tt; literal = tt }
       go false false true = record { plain-ones = h & i & tt; covered-ones = tt; literal = tt }

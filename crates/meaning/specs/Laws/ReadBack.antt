@@ -1,6 +1,6 @@
 -- How great the numbers, places and counts of the services' answers can be: each can be read back from the packed answer.
 use mathlib.Core.Path.{_≡_, refl, ap, _∙_}
-use mathlib.Core.Bool.{Bool, true, false, not, _||_}
+use mathlib.Core.Bool.{Bool, true, false, not, _||_, cond as choosing, cond}
 use mathlib.Core.Option.{Option, none as absent, some}
 use mathlib.Core.List.{List, [], _∷_}
 use Prim.Native.Nat.{ℕ, zero, suc, _+_, _*_, _≤_, _<_}
@@ -8,18 +8,19 @@ use native.Mathlib.Omega.{arith}
 use borrow.Author.Tests.{ltb-true, ltb-false, le-ltb, eqb-false, not-true}
 use lib.Dec.{eqb, ltb}
 use lib.ListN.{length, length-drop}
+use Rattle.prelude.proofs.Absurd.{impossible}
+use Rattle.prelude.proofs.Truth.{or-false-right}
 use Rattle.integers.specs.Bytes.{word}
-use Rattle.choices.specs.Tree.{Tree, give, stop, choose, Run, gave, stopped, short, beyond, pick as choosing, follow, run, limit, Numbered, Final, result, refuses, final}
+use Rattle.choices.specs.Tree.{Tree, give, stop, choose, Run, gave, stopped, short, beyond, follow, run, mostChoices, Numbered, Final, result, refuses, final}
 use Rattle.choices.specs.Paths.{nextList}
-use Rattle.values.specs.Value.{limit as largest}
+use Rattle.values.specs.Value.{valueLimit as largest}
 use Rattle.patterns.specs.Binder.{mostBindings}
 use Rattle.tables.specs.declared.Checked.{Checked}
 use Rattle.tables.specs.declared.Checked.the-variants.{Accepted, Refused}
 use Rattle.tables.specs.Record.{Record}
-use Rattle.tables.specs.Table.{pick, Next, end, fault, one, next, after, Cut, cutBy, cut}
+use Rattle.tables.specs.Table.{Next, end, fault, one, next, after, Cut, cutBy, cut}
 use Rattle.tables.specs.Sheet.{lowest}
 use Rattle.tables.specs.Check.{mostBytes, mostRecords, Rule, judge, judged, judgedCut, check, rule, fault6, fault7, fault8, fault9}
-use Rattle.tables.specs.Laws.{or-right}
 use Rattle.tables.specs.Accepted.{accepted-fine, next-is}
 use Rattle.meaning.specs.State.{unbound}
 use Rattle.meaning.specs.Read.{sheet}
@@ -38,7 +39,7 @@ abbrev pub Small : Checked → Type 0
 Small (Accepted n) = n ≤ 200
 Small (Refused n r) = (3 ≤ n) × (n ≤ 9) × (r < 600)
 
-small-pick : (b : Bool) (x y : Checked) → (b ≡ true → Small x) → (b ≡ false → Small y) → Small (pick b x y)
+small-pick : (b : Bool) (x y : Checked) → (b ≡ true → Small x) → (b ≡ false → Small y) → Small (cond b x y)
 small-pick true x y f g = f refl
 small-pick false x y f g = g refl
 
@@ -51,8 +52,8 @@ fault-some : (bytes : List ℕ) → next bytes ≡ fault → 0 < length bytes
 unfolding next
 fault-some bytes e = go (eqb (length bytes) 0) _ refl e
   where
-    go : (z : Bool) (x : Next) → eqb (length bytes) 0 ≡ z → pick z end x ≡ fault → 0 < length bytes
-    go true x f k = let z : _≡_ {A = ℕ} 0 1 = cc in absurd (omega arith)
+    go : (z : Bool) (x : Next) → eqb (length bytes) 0 ≡ z → cond z end x ≡ fault → 0 < length bytes
+    go true x f k = impossible cc
     go false x f k = omega (arith, eqb-false (length bytes) 0 f)
 
 cut-small : (bound : ℕ) (bytes : List ℕ) → 4 * length (cutBy bound bytes .records) + broken (cutBy bound bytes .whole) ≤ length bytes
@@ -104,7 +105,7 @@ small-check table =
     (λ e. (omega arith, omega arith, omega arith))
     (λ e.
     small-cut (cut table)
-    (omega (arith, cut-small (length table) table, ltb-false mostBytes (length table) (or-right (eqb (length table) 0) (ltb mostBytes (length table)) e))))
+    (omega (arith, cut-small (length table) table, ltb-false mostBytes (length table) (or-false-right (eqb (length table) 0) (ltb mostBytes (length table)) e))))
 
 -- ---- every service
 
@@ -185,7 +186,7 @@ module _ (table : List ℕ) (n : ℕ) (ok : check table ≡ Accepted n) (l : Lis
   run-fits : FitsRun (run (tree table) l)
   run-fits =
       let sure = sure-meaning (sheet table) (last (sheet table)) unbound in
-      follow-fits (last (sheet table)) (tree table) limit l last-low (placed-meaning (sheet table) (downward table n ok) (last (sheet table)) unbound) (sure .numbered) (sure .narrow)
+      follow-fits (last (sheet table)) (tree table) mostChoices l last-low (placed-meaning (sheet table) (downward table n ok) (last (sheet table)) unbound) (sure .numbered) (sure .narrow)
 
   pub fits-runs : Fits uncounted (runs table l)
   fits-runs = fits-final (last (sheet table)) (run (tree table) l) last-low run-fits
@@ -218,19 +219,19 @@ module _ (scratch : ℕ) (table : List ℕ) where
   fits-evaluate buffer list =
       fits-unless uncounted (ltb scratch scratchBytes) 1 _ (omega arith) (omega arith)
       (fits-unless uncounted (ltb buffer largest) 2 _ (omega arith) (omega arith)
-      (fits-accepted uncounted (check table) _ (small-check table) (λ n ok. fits-unless uncounted (ltb limit (length list)) 10 _ (omega arith) (omega arith) (fits-runs table n ok list))))
+      (fits-accepted uncounted (check table) _ (small-check table) (λ n ok. fits-unless uncounted (ltb mostChoices (length list)) 10 _ (omega arith) (omega arith) (fits-runs table n ok list))))
 
   pub fits-first : (w : Walk) → Fits uncounted (firsts scratch table w)
   fits-first w =
       fits-unless uncounted (ltb scratch scratchBytes) 1 _ (omega arith) (omega arith)
-      (fits-accepted uncounted (check table) _ (small-check table) (λ n ok. fits-unless uncounted (ltb (length (w .entries)) limit) 10 _ (omega arith) (omega arith) (fits-result _)))
+      (fits-accepted uncounted (check table) _ (small-check table) (λ n ok. fits-unless uncounted (ltb (length (w .entries)) mostChoices) 10 _ (omega arith) (omega arith) (fits-result _)))
 
   pub fits-step : (w : Walk) → Fits uncounted (steps scratch table w)
   fits-step w =
       fits-unless uncounted (ltb scratch scratchBytes) 1 _ (omega arith) (omega arith)
       (fits-accepted uncounted (check table) _ (small-check table)
       (λ n ok.
-      fits-unless uncounted (ltb (length (w .entries)) limit || ltb limit (w .len)) 10 _ (omega arith) (omega arith)
+      fits-unless uncounted (ltb (length (w .entries)) mostChoices || ltb mostChoices (w .len)) 10 _ (omega arith) (omega arith)
       (fits-stepped (runs table (listed w)) _ (fits-runs table n ok (listed w)) (fits-onward (nextList (tree table) (listed w))))))
 
   -- THEOREM: number, place and count of each service's answer are read back from the packed one.
@@ -296,16 +297,16 @@ module _ (scratch : ℕ) (table : List ℕ) (enough : scratchBytes ≤ scratch) 
   evaluate-late buffer list room =
       past-1 _
       (late-past (ltb buffer largest) 2 _ (le-ltb buffer largest room)
-      (late-accepted (check table) (λ n. unless (ltb limit (length list)) 10 (runs table list)) (small-check table)
-      (λ n ok. late-unless (ltb limit (length list)) 10 (runs table list) (omega arith) (late-final (last (sheet table)) (run (tree table) list) (run-fits table n ok list)))))
+      (late-accepted (check table) (λ n. unless (ltb mostChoices (length list)) 10 (runs table list)) (small-check table)
+      (λ n ok. late-unless (ltb mostChoices (length list)) 10 (runs table list) (omega arith) (late-final (last (sheet table)) (run (tree table) list) (run-fits table n ok list)))))
 
   pub first-late : (w : Walk) → Late (firsts scratch table w)
-  first-late w = past-1 _ (late-accepted (check table) _ (small-check table) (λ n ok. late-unless (ltb (length (w .entries)) limit) 10 _ (omega arith) refl))
+  first-late w = past-1 _ (late-accepted (check table) _ (small-check table) (λ n ok. late-unless (ltb (length (w .entries)) mostChoices) 10 _ (omega arith) refl))
 
   pub step-late : (w : Walk) → Late (steps scratch table w)
   step-late w =
       past-1 _
       (late-accepted (check table) _ (small-check table)
       (λ n ok.
-      late-unless (ltb (length (w .entries)) limit || ltb limit (w .len)) 10 _ (omega arith)
+      late-unless (ltb (length (w .entries)) mostChoices || ltb mostChoices (w .len)) 10 _ (omega arith)
       (late-stepped (runs table (listed w)) _ (late-final _ (run (tree table) (listed w)) (run-fits table n ok (listed w))) (late-onward (nextList (tree table) (listed w))))))

@@ -10,8 +10,11 @@ use native.Mathlib.Omega.{arith}
 use lib.Dec.{eqb, leb}
 use lib.ListN.{length, getD}
 use borrow.Author.Tests.{leb-true, eqb-true}
+use mathlib.Mathlib.Data.Bool.Basic.{or-inr, and-elim-left, and-elim-right}
+use Rattle.prelude.proofs.Absurd.{never, impossible}
+use Rattle.prelude.proofs.Truth.{implied}
 use Rattle.choices.specs.Tree.{Tree, give, refusal, Gives}
-use Rattle.choices.specs.Laws.Trees.{gives-bind-out}
+use Rattle.choices.proofs.Trees.{gives-bind-out}
 use Rattle.values.specs.Value.{Value}
 use Rattle.patterns.specs.Binding.{is as valued, Binding, names, cellOf}
 use Rattle.patterns.specs.Matched.{match-sized}
@@ -23,7 +26,7 @@ use Rattle.tables.specs.Record.{Record, Head, nothing, boolean, integer, name, 
 use Rattle.tables.specs.Table.{recordAt, kindAt}
 use Rattle.tables.specs.Sheet.{some as someOf, isCovered, isBound, holdsName, patternOf}
 use Rattle.tables.specs.Check.{check}
-use Rattle.tables.specs.Laws.{never, or-some, and-left, and-right, implied, each, split}
+use Rattle.tables.specs.Laws.{each, split}
 use Rattle.tables.specs.Laws.Kinds.{expression-least, expression-most}
 use Rattle.tables.specs.Accepted.{records, Fine, accepted-fine, operand-lower, operand-sort, bound-operand, bound-last, name-bound, last-sort, fit-known, fit-kind}
 use Rattle.meaning.specs.State.{State, unbound, over, under, held, valueIn}
@@ -62,7 +65,7 @@ isFirst Name = true
 some-at : (roles : List Role) (i : ℕ) → isCovered (getD roles i Plain) ≡ true → someOf (map isCovered roles) ≡ true
 some-at [] i e = e
 some-at (x ∷ roles) zero e = ap (λ b. b || someOf (map isCovered roles)) e
-some-at (x ∷ roles) (suc i) e = or-some (isCovered x) _ (some-at roles i e)
+some-at (x ∷ roles) (suc i) e = or-inr (isCovered x) _ (some-at roles i e)
 
 -- A kind with a covered operand has a pattern as its first.
 first-role : (k i : ℕ) → k ≤ 40 → isCovered (getD (shape k .roles) i Plain) ≡ true → isFirst (getD (shape k .roles) 0 Plain) ≡ true
@@ -118,7 +121,7 @@ module _ (table : List ℕ) (n : ℕ) (ok : check table ≡ Accepted n) where
   Refusing A t = (m p : ℕ) → Gives t (refusal m p) → Operator p
 
   give-refusing : {A : Type 0} (a : A) → Refusing A (give a)
-  give-refusing a m p e = let z : _≡_ {A = ℕ} 0 1 = cc in absurd (omega arith)
+  give-refusing a m p e = impossible cc
 
   closed : (r : ℕ) → Operator r → Closed Refusing (Unit {0}) r
   closed r o =

@@ -1,6 +1,6 @@
 -- The services case by case, in the order of document 01's tests: what they answer, and what they leave in the lent bytes.
 use mathlib.Core.Path.{_≡_, refl, ap, _∙_}
-use mathlib.Core.Bool.{Bool, true, false, _||_}
+use mathlib.Core.Bool.{Bool, true, false, _||_, cond}
 use mathlib.Core.Logic.{⊎-elim}
 use mathlib.Core.List.{List}
 use Prim.Native.Nat.{ℕ, _≤_, _<_}
@@ -8,16 +8,16 @@ use native.Mathlib.Omega.{arith}
 use lib.Dec.{eqb, ltb}
 use lib.ListN.{length}
 use borrow.Author.Tests.{lt-ltb, le-ltb, ne-eqb}
-use Rattle.choices.specs.Tree.{Final, result, refuses, limit}
+use mathlib.Mathlib.Data.Bool.Basic.{or-inr}
+use Rattle.prelude.proofs.Truth.{or-false-both}
+use Rattle.choices.specs.Tree.{Final, result, refuses, mostChoices}
 use Rattle.choices.specs.Lists.{Complete}
 use Rattle.choices.specs.Paths.{firstList, nextList}
-use Rattle.choices.specs.Laws.Walk.{Incomplete, incomplete, Whole, complete-whole}
-use Rattle.values.specs.Value.{Value, encode, limit as largest}
-use Rattle.values.specs.Items.{pick}
+use Rattle.choices.proofs.Walk.{Incomplete, incomplete, Settles, complete-whole}
+use Rattle.values.specs.Value.{Value, encode, valueLimit as largest}
 use Rattle.tables.specs.declared.Checked.{Checked}
 use Rattle.tables.specs.declared.Checked.the-variants.{Accepted, Refused}
 use Rattle.tables.specs.Check.{check}
-use Rattle.tables.specs.Laws.{or-none, or-some}
 use Rattle.meaning.specs.State.{unbound}
 use Rattle.meaning.specs.Read.{sheet}
 use Rattle.meaning.specs.Answer.{pack}
@@ -40,19 +40,19 @@ or-first a b e = ap (λ x. x || b) e
 
 -- A number other than 1 and 2.
 pub late-number : (n : ℕ) → 3 ≤ n → isEarly n ≡ false
-late-number n h = or-none (eqb n 1) (eqb n 2) (ne-eqb n 1 (λ e. omega arith)) (ne-eqb n 2 (λ e. omega arith))
+late-number n h = or-false-both (eqb n 1) (eqb n 2) (ne-eqb n 1 (λ e. omega arith)) (ne-eqb n 2 (λ e. omega arith))
 
 -- ---- from one list to the next
 
-whole-stepped : {A : Type 0} (f : Final A) (next : Final (List ℕ)) → Whole f → steppedFrom f next ≡ next
+whole-stepped : {A : Type 0} (f : Final A) (next : Final (List ℕ)) → Settles f → steppedFrom f next ≡ next
 whole-stepped (result a) next h = refl
-whole-stepped (refuses n p k) next h = ap (λ b. pick b next (refuses n p k)) (lt-ltb n 32 h)
+whole-stepped (refuses n p k) next h = ap (λ b. cond b next (refuses n p k)) (lt-ltb n 32 h)
 
 other-stepped : {A : Type 0} (f : Final A) (next : Final (List ℕ)) (n p k : ℕ) → Incomplete f → f ≡ refuses n p k → steppedFrom f next ≡ refuses n p k
 other-stepped (result a) next n p k h e = absurd h
 other-stepped (refuses m q j) next n p k h e =
     let low : 32 ≤ m = ⊎-elim (λ d. omega arith) (λ t. ⊎-elim (λ d. omega arith) (λ d. omega arith) t) h in
-    ap (λ b. pick b next (refuses m q j)) (le-ltb m 32 low) ∙ cc
+    ap (λ b. cond b next (refuses m q j)) (le-ltb m 32 low) ∙ cc
 
 module _ (table l : List ℕ) (next : Final (List ℕ)) where
   -- A complete list's run leads on to the next list.
@@ -122,45 +122,45 @@ module _ (table : List ℕ) (scratch : ℕ) where
 
       -- Evaluating. 10: a list longer than 64.
       module _ (buffer : ℕ) (l : List ℕ) (room : largest ≤ buffer) where
-        evaluates-on : evaluates scratch buffer table l ≡ unless (ltb limit (length l)) 10 (runs table l)
-        evaluates-on = past-2 buffer _ room ∙ ap (λ (c : Checked). accepted c (λ k. unless (ltb limit (length l)) 10 (runs table l))) ok
+        evaluates-on : evaluates scratch buffer table l ≡ unless (ltb mostChoices (length l)) 10 (runs table l)
+        evaluates-on = past-2 buffer _ room ∙ ap (λ (c : Checked). accepted c (λ k. unless (ltb mostChoices (length l)) 10 (runs table l))) ok
 
-        pub evaluates-10 : limit < length l → evaluates scratch buffer table l ≡ refuses 10 0 0
-        evaluates-10 long = evaluates-on ∙ unless-true 10 _ (ltb limit (length l)) (lt-ltb limit (length l) long)
+        pub evaluates-10 : mostChoices < length l → evaluates scratch buffer table l ≡ refuses 10 0 0
+        evaluates-10 long = evaluates-on ∙ unless-true 10 _ (ltb mostChoices (length l)) (lt-ltb mostChoices (length l) long)
 
-        pub evaluates-run : length l ≤ limit → evaluates scratch buffer table l ≡ runs table l
-        evaluates-run within = evaluates-on ∙ unless-false 10 _ (ltb limit (length l)) (le-ltb limit (length l) within)
+        pub evaluates-run : length l ≤ mostChoices → evaluates scratch buffer table l ≡ runs table l
+        evaluates-run within = evaluates-on ∙ unless-false 10 _ (ltb mostChoices (length l)) (le-ltb mostChoices (length l) within)
 
       module _ (w : Walk) where
         -- 10: too few entries.
-        module _ (few : length (w .entries) < limit) where
+        module _ (few : length (w .entries) < mostChoices) where
           pub firsts-10 : firsts scratch table w ≡ refuses 10 0 0
-          firsts-10 = on _ ∙ unless-true 10 _ (ltb (length (w .entries)) limit) (lt-ltb (length (w .entries)) limit few)
+          firsts-10 = on _ ∙ unless-true 10 _ (ltb (length (w .entries)) mostChoices) (lt-ltb (length (w .entries)) mostChoices few)
 
           pub steps-10 : steps scratch table w ≡ refuses 10 0 0
           steps-10 =
               on _
-              ∙ unless-true 10 _ (ltb (length (w .entries)) limit || ltb limit (w .len))
-              (or-first (ltb (length (w .entries)) limit) (ltb limit (w .len)) (lt-ltb (length (w .entries)) limit few))
+              ∙ unless-true 10 _ (ltb (length (w .entries)) mostChoices || ltb mostChoices (w .len))
+              (or-first (ltb (length (w .entries)) mostChoices) (ltb mostChoices (w .len)) (lt-ltb (length (w .entries)) mostChoices few))
 
         -- 10: a length over 64, whatever the entries.
-        pub steps-long : limit < w .len → steps scratch table w ≡ refuses 10 0 0
+        pub steps-long : mostChoices < w .len → steps scratch table w ≡ refuses 10 0 0
         steps-long long =
             on _
-            ∙ unless-true 10 _ (ltb (length (w .entries)) limit || ltb limit (w .len)) (or-some (ltb (length (w .entries)) limit) (ltb limit (w .len)) (lt-ltb limit (w .len) long))
+            ∙ unless-true 10 _ (ltb (length (w .entries)) mostChoices || ltb mostChoices (w .len)) (or-inr (ltb (length (w .entries)) mostChoices) (ltb mostChoices (w .len)) (lt-ltb mostChoices (w .len) long))
 
-        module _ (all : limit ≤ length (w .entries)) where
+        module _ (all : mostChoices ≤ length (w .entries)) where
           pub firsts-granted : firsts scratch table w ≡ result (firstList (tree table))
-          firsts-granted = on _ ∙ unless-false 10 _ (ltb (length (w .entries)) limit) (le-ltb (length (w .entries)) limit all)
+          firsts-granted = on _ ∙ unless-false 10 _ (ltb (length (w .entries)) mostChoices) (le-ltb (length (w .entries)) mostChoices all)
 
-          pub steps-run : w .len ≤ limit → steps scratch table w ≡ steppedFrom (runs table (listed w)) (onward (nextList (tree table) (listed w)))
+          pub steps-run : w .len ≤ mostChoices → steps scratch table w ≡ steppedFrom (runs table (listed w)) (onward (nextList (tree table) (listed w)))
           steps-run within =
               on _
-              ∙ unless-false 10 _ (ltb (length (w .entries)) limit || ltb limit (w .len))
-              (or-none (ltb (length (w .entries)) limit) (ltb limit (w .len)) (le-ltb (length (w .entries)) limit all) (le-ltb limit (w .len) within))
+              ∙ unless-false 10 _ (ltb (length (w .entries)) mostChoices || ltb mostChoices (w .len))
+              (or-false-both (ltb (length (w .entries)) mostChoices) (ltb mostChoices (w .len)) (le-ltb (length (w .entries)) mostChoices all) (le-ltb mostChoices (w .len) within))
 
           -- From a complete list.
-          pub steps-complete : (l : List ℕ) → listed w ≡ l → w .len ≤ limit → Complete (tree table) l → steps scratch table w ≡ onward (nextList (tree table) l)
+          pub steps-complete : (l : List ℕ) → listed w ≡ l → w .len ≤ mostChoices → Complete (tree table) l → steps scratch table w ≡ onward (nextList (tree table) l)
           steps-complete l e within c =
               steps-run within
               ∙ ap (λ x. steppedFrom (runs table x) (onward (nextList (tree table) x))) e
@@ -172,13 +172,13 @@ module _ (table : List ℕ) (scratch : ℕ) where
 module _ (scratch : List ℕ) where
   module _ (n p k : ℕ) (late : 3 ≤ n) where
     pub check-left : afterCheck (refuses n p k) scratch ≡ record { answer = pack n p k; scratch = zeroed scratchBytes scratch }
-    check-left = ap (λ (b : Bool). record { answer = pack n p k; scratch = pick b scratch (zeroed scratchBytes scratch) }) (late-number n late)
+    check-left = ap (λ (b : Bool). record { answer = pack n p k; scratch = cond b scratch (zeroed scratchBytes scratch) }) (late-number n late)
 
     pub evaluate-left : (buffer : List ℕ) → afterEvaluate (refuses n p k) scratch buffer ≡ record { answer = pack n p k; scratch = zeroed scratchBytes scratch; buffer = zeroed largest buffer }
-    evaluate-left buffer = ap (λ (b : Bool). record { answer = pack n p k; scratch = pick b scratch (zeroed scratchBytes scratch); buffer = pick b buffer (zeroed largest buffer) }) (late-number n late)
+    evaluate-left buffer = ap (λ (b : Bool). record { answer = pack n p k; scratch = cond b scratch (zeroed scratchBytes scratch); buffer = cond b buffer (zeroed largest buffer) }) (late-number n late)
 
     pub walk-left : (w : Walk) → afterWalk (refuses n p k) scratch w ≡ record { answer = pack n p k; scratch = zeroed scratchBytes scratch; walk = w }
-    walk-left w = ap (λ (b : Bool). record { answer = pack n p k; scratch = pick b scratch (zeroed scratchBytes scratch); walk = w }) (late-number n late)
+    walk-left w = ap (λ (b : Bool). record { answer = pack n p k; scratch = cond b scratch (zeroed scratchBytes scratch); walk = w }) (late-number n late)
 
   pub check-done : (n : ℕ) → afterCheck (result n) scratch ≡ record { answer = pack 0 0 n; scratch = zeroed scratchBytes scratch }
   check-done n = refl

@@ -1,14 +1,15 @@
 -- Every choice has 1 to 255 ways, every refusal in a tree is one of 20 to 30, and its place is the record or one below it.
 use mathlib.Core.Path.{_≡_, refl}
-use mathlib.Core.Bool.{Bool, true, false}
+use mathlib.Core.Bool.{Bool, true, false, cond}
 use mathlib.Core.List.{List, [], _∷_}
 use Prim.Native.Nat.{ℕ, zero, suc, _≤_, _<_}
 use native.Mathlib.Omega.{arith}
 use lib.Dec.{ltb}
 use borrow.Author.Tests.{ltb-true}
-use Rattle.choices.specs.Tree.{Tree, give, stop, choose, bind, value, Gives, Full, Numbered, stopped, beyond, pick, follow, limit}
+use Rattle.prelude.proofs.Absurd.{impossible}
+use Rattle.choices.specs.Tree.{Tree, give, stop, choose, bind, value, Gives, Full, Numbered, stopped, beyond, follow, mostChoices}
 use Rattle.choices.specs.Lists.{Ended, Complete}
-use Rattle.choices.specs.Laws.Trees.{full-bind, numbered-bind}
+use Rattle.choices.proofs.Trees.{full-bind, numbered-bind}
 use Rattle.values.specs.Value.{Value}
 use Rattle.patterns.specs.Binder.{mostBindings}
 use Rattle.meaning.specs.State.{State, under}
@@ -73,21 +74,21 @@ Bytes (c ∷ l) = (c < mostBindings) × Bytes l
 
 follow-bytes : {A : Type 0} (t : Tree A) (k : ℕ) (l : List ℕ) → Narrow t → Ended (follow t k l) → Bytes l
 follow-bytes (give a) k [] h e = tt
-follow-bytes (give a) k (c ∷ l) h e = let z : _≡_ {A = ℕ} 0 1 = cc in absurd (omega arith)
+follow-bytes (give a) k (c ∷ l) h e = impossible cc
 follow-bytes (stop n p) k [] h e = tt
-follow-bytes (stop n p) k (c ∷ l) h e = let z : _≡_ {A = ℕ} 0 1 = cc in absurd (omega arith)
+follow-bytes (stop n p) k (c ∷ l) h e = impossible cc
 follow-bytes (choose p n ways) zero [] h e = tt
-follow-bytes (choose p n ways) zero (c ∷ l) h e = let z : _≡_ {A = ℕ} 0 1 = cc in absurd (omega arith)
+follow-bytes (choose p n ways) zero (c ∷ l) h e = impossible cc
 follow-bytes (choose p n ways) (suc k) [] h e = absurd e
 follow-bytes (choose p n ways) (suc k) (c ∷ l) h e = go (ltb c n) refl e (λ i f. follow-bytes (ways c) k l (h .1 c i) f)
   where
-    go : (b : Bool) → ltb c n ≡ b → Ended (pick b (follow (ways c) k l) (beyond p n (c ∷ l))) → (c < n → Ended (follow (ways c) k l) → Bytes l) → Bytes (c ∷ l)
+    go : (b : Bool) → ltb c n ≡ b → Ended (cond b (follow (ways c) k l) (beyond p n (c ∷ l))) → (c < n → Ended (follow (ways c) k l) → Bytes l) → Bytes (c ∷ l)
     go true d e rest = let i = ltb-true c n d in let m = h .0 in (omega arith, rest i e)
     go false d e rest = absurd e
 
 -- THEOREM: the entries of a complete list are bytes.
 pub complete-bytes : (s : Sheet) (r : ℕ) (ρ : State) (l : List ℕ) → Complete (meaning s r ρ) l → Bytes l
-complete-bytes s r ρ l e = follow-bytes (meaning s r ρ) limit l (sure-meaning s r ρ .narrow) e
+complete-bytes s r ρ l e = follow-bytes (meaning s r ρ) mostChoices l (sure-meaning s r ρ .narrow) e
 
 -- ---- places
 
@@ -135,12 +136,12 @@ placed-meaning s d r ρ = placed-to s d (suc r) r ρ
 
 -- So is the place of a run's refusal.
 pub follow-placed : {A : Type 0} (r : ℕ) (t : Tree A) (k : ℕ) (l : List ℕ) (n p : ℕ) (m : List ℕ) → Placed r t → follow t k l ≡ stopped n p m → p ≤ r
-follow-placed r (give a) k l n p m h e = let z : _≡_ {A = ℕ} 0 1 = cc in absurd (omega arith)
+follow-placed r (give a) k l n p m h e = impossible cc
 follow-placed r (stop x q) k l n p m h e = let d : q ≡ p = cc in omega arith
 follow-placed r (choose q x ways) zero l n p m h e = let d : q ≡ p = cc in let i = h .0 in omega arith
-follow-placed r (choose q x ways) (suc k) [] n p m h e = let z : _≡_ {A = ℕ} 0 1 = cc in absurd (omega arith)
+follow-placed r (choose q x ways) (suc k) [] n p m h e = impossible cc
 follow-placed {A} r (choose q x ways) (suc k) (c ∷ l) n p m h e = go (ltb c x) refl e (λ i f. follow-placed r (ways c) k l n p m (h .1 c i) f)
   where
-    go : (b : Bool) → ltb c x ≡ b → pick b (follow (ways c) k l) (beyond q x (c ∷ l)) ≡ stopped n p m → (c < x → follow (ways c) k l ≡ stopped n p m → p ≤ r) → p ≤ r
+    go : (b : Bool) → ltb c x ≡ b → cond b (follow (ways c) k l) (beyond q x (c ∷ l)) ≡ stopped n p m → (c < x → follow (ways c) k l ≡ stopped n p m → p ≤ r) → p ≤ r
     go true d e rest = rest (ltb-true c x d) e
-    go false d e rest = let z : _≡_ {A = ℕ} 0 1 = cc in absurd (omega arith)
+    go false d e rest = impossible cc

@@ -1,6 +1,6 @@
 -- The building blocks of the loose meaning's binders: when they give a value.
 use mathlib.Core.Path.{_≡_, refl, sym, ap, _∙_, subst}
-use mathlib.Core.Bool.{Bool, true, false}
+use mathlib.Core.Bool.{Bool, true, false, cond}
 use mathlib.Core.Option.{Option, none as absent, some}
 use mathlib.Core.Logic.{_⊎_, inl, inr, ⊎-elim, _↔_}
 use mathlib.Core.List.{List, [], _∷_, _++_}
@@ -9,12 +9,12 @@ use native.Mathlib.Omega.{arith}
 use lib.Dec.{eqb}
 use lib.ListN.{length}
 use borrow.Author.Tests.{eqb-true, ne-eqb}
+use Rattle.prelude.proofs.Absurd.{impossible}
+use Rattle.prelude.specs.Membership.{In}
 use Rattle.choices.specs.Tree.{value}
 use Rattle.values.specs.Value.{Kind, set, sequence, map, tuple, Value, boolean, integer, collection, Items, none, more}
-use Rattle.values.specs.Items.{pick}
 use Rattle.operators.specs.Answer.{is, Built, built, stopped, closed, asBoolean, asSet}
-use Rattle.operators.specs.Enumerations.{onward}
-use Rattle.patterns.specs.Members.{In}
+use Rattle.operators.specs.Enumerations.{buildOn}
 use Rattle.integers.specs.declared.Order.the-variants.{Lower}
 use Rattle.patterns.specs.Binding.{Binding, orderBindings}
 use Rattle.patterns.specs.Ordered.{BeforeEach, Rising, before-in, bindings-asymmetric}
@@ -32,31 +32,31 @@ pub then-value : {A B : Type 0} (S : Outcomes A) (F : A → Outcomes B) (b : B) 
 then-value S F b = (λ h. ⊎-elim (λ w. w) (λ w. absurd (value≢refusal (w .3))) h, λ w. inl w)
 
 pub else-value : {A : Type 0} (n r : ℕ) (x : Option A) (a : A) → orElse n r x (value a) ↔ (x ≡ some a)
-else-value n r absent a = (λ e. absurd (value≢refusal e), λ e. absurd (let z : _≡_ {A = ℕ} 0 1 = cc in omega arith))
+else-value n r absent a = (λ e. absurd (value≢refusal e), λ e. impossible cc)
 else-value n r (some b) a = (λ e. let d : b ≡ a = cc in ap some d, λ e. let d : a ≡ b = cc in ap value d)
 
 pub built-value : (r : ℕ) (b : Built) (vs : Items) → builtAt r b (value vs) ↔ (b ≡ built vs)
 built-value r (built us) vs = (λ e. let d : us ≡ vs = cc in ap built d, λ e. let d : vs ≡ us = cc in ap value d)
-built-value r (stopped n) vs = (λ e. absurd (value≢refusal e), λ e. absurd (let z : _≡_ {A = ℕ} 0 1 = cc in omega arith))
+built-value r (stopped n) vs = (λ e. absurd (value≢refusal e), λ e. impossible cc)
 
 formed-value : (r : ℕ) (x : Formed) (bs : List Binding) → formedAt r x (value bs) ↔ (x ≡ bound bs)
 formed-value r (bound cs) bs = (λ e. let d : cs ≡ bs = cc in ap bound d, λ e. let d : bs ≡ cs = cc in ap value d)
-formed-value r (unformed n) bs = (λ e. absurd (value≢refusal e), λ e. absurd (let z : _≡_ {A = ℕ} 0 1 = cc in omega arith))
+formed-value r (unformed n) bs = (λ e. absurd (value≢refusal e), λ e. impossible cc)
 
 -- ---- kinds
 
 boolean-value : (v : Value) (t : Bool) → (asBoolean v ≡ some t) ↔ (v ≡ boolean t)
 boolean-value (boolean b) t = (λ e. let d : b ≡ t = cc in ap boolean d, λ e. let d : b ≡ t = cc in ap some d)
-boolean-value (integer z) t = (λ e. absurd (let y : _≡_ {A = ℕ} 0 1 = cc in omega arith), λ e. absurd (let y : _≡_ {A = ℕ} 0 1 = cc in omega arith))
-boolean-value (collection k vs) t = (λ e. absurd (let y : _≡_ {A = ℕ} 0 1 = cc in omega arith), λ e. absurd (let y : _≡_ {A = ℕ} 0 1 = cc in omega arith))
+boolean-value (integer z) t = (λ e. impossible cc, λ e. impossible cc)
+boolean-value (collection k vs) t = (λ e. impossible cc, λ e. impossible cc)
 
 set-value : (v : Value) (vs : Items) → (asSet v ≡ some vs) ↔ (v ≡ collection set vs)
-set-value (boolean b) vs = (λ e. absurd (let y : _≡_ {A = ℕ} 0 1 = cc in omega arith), λ e. absurd (let y : _≡_ {A = ℕ} 0 1 = cc in omega arith))
-set-value (integer z) vs = (λ e. absurd (let y : _≡_ {A = ℕ} 0 1 = cc in omega arith), λ e. absurd (let y : _≡_ {A = ℕ} 0 1 = cc in omega arith))
+set-value (boolean b) vs = (λ e. impossible cc, λ e. impossible cc)
+set-value (integer z) vs = (λ e. impossible cc, λ e. impossible cc)
 set-value (collection set us) vs = (λ e. let d : us ≡ vs = cc in ap (collection set) d, λ e. let d : us ≡ vs = cc in ap some d)
-set-value (collection sequence us) vs = (λ e. absurd (let y : _≡_ {A = ℕ} 0 1 = cc in omega arith), λ e. absurd (let y : _≡_ {A = ℕ} 0 1 = cc in omega arith))
-set-value (collection map us) vs = (λ e. absurd (let y : _≡_ {A = ℕ} 0 1 = cc in omega arith), λ e. absurd (let y : _≡_ {A = ℕ} 0 1 = cc in omega arith))
-set-value (collection tuple us) vs = (λ e. absurd (let y : _≡_ {A = ℕ} 0 1 = cc in omega arith), λ e. absurd (let y : _≡_ {A = ℕ} 0 1 = cc in omega arith))
+set-value (collection sequence us) vs = (λ e. impossible cc, λ e. impossible cc)
+set-value (collection map us) vs = (λ e. impossible cc, λ e. impossible cc)
+set-value (collection tuple us) vs = (λ e. impossible cc, λ e. impossible cc)
 
 integers-out : (r : ℕ) (vs ws : Items) → integersAt r vs (value ws) → Integers vs × (ws ≡ vs)
 unfolding integersAt
@@ -131,7 +131,7 @@ module _ (test : Binding → Outcomes Bool) where
   unfolding untilFalse
   false-true [] e β i = absurd i
   false-true (b ∷ bs) (inl (true, h, k)) β i = ⊎-elim (λ e. subst (Is true) (sym e) h) (λ j. false-true bs k β j) i
-  false-true (b ∷ bs) (inl (false, h, k)) β i = absurd (let z : _≡_ {A = ℕ} 0 1 = cc in omega arith)
+  false-true (b ∷ bs) (inl (false, h, k)) β i = impossible cc
   false-true (b ∷ bs) (inr (n, p, h, e)) β i = absurd (value≢refusal e)
 
   true-false : (bs : List Binding) → ((β : Binding) → In β bs → Is true β) → untilFalse test bs (value true)
@@ -141,7 +141,7 @@ module _ (test : Binding → Outcomes Bool) where
 
   false-first : (bs : List Binding) → untilFalse test bs (value false) → FirstOf (Is true) (Is false) bs
   unfolding untilFalse
-  false-first [] e = absurd (let z : _≡_ {A = ℕ} 0 1 = cc in omega arith)
+  false-first [] e = impossible cc
   false-first (b ∷ bs) (inl (true, h, k)) = first-more h (false-first bs k)
   false-first (b ∷ bs) (inl (false, h, k)) = record { earlier = []; binding = b; later = bs; in-order = refl; before = λ β i. absurd i; there = h }
   false-first (b ∷ bs) (inr (n, p, h, e)) = absurd (value≢refusal e)
@@ -165,7 +165,7 @@ module _ (test : Binding → Outcomes Bool) where
   unfolding untilTrue
   true-false-out [] e β i = absurd i
   true-false-out (b ∷ bs) (inl (false, h, k)) β i = ⊎-elim (λ e. subst (Is false) (sym e) h) (λ j. true-false-out bs k β j) i
-  true-false-out (b ∷ bs) (inl (true, h, k)) β i = absurd (let z : _≡_ {A = ℕ} 0 1 = cc in omega arith)
+  true-false-out (b ∷ bs) (inl (true, h, k)) β i = impossible cc
   true-false-out (b ∷ bs) (inr (n, p, h, e)) β i = absurd (value≢refusal e)
 
   true-false-in : (bs : List Binding) → ((β : Binding) → In β bs → Is false β) → untilTrue test bs (value false)
@@ -175,7 +175,7 @@ module _ (test : Binding → Outcomes Bool) where
 
   true-first : (bs : List Binding) → untilTrue test bs (value true) → FirstOf (Is false) (Is true) bs
   unfolding untilTrue
-  true-first [] e = absurd (let z : _≡_ {A = ℕ} 0 1 = cc in omega arith)
+  true-first [] e = impossible cc
   true-first (b ∷ bs) (inl (false, h, k)) = first-more h (true-first bs k)
   true-first (b ∷ bs) (inl (true, h, k)) = record { earlier = []; binding = b; later = bs; in-order = refl; before = λ β i. absurd i; there = h }
   true-first (b ∷ bs) (inr (n, p, h, e)) = absurd (value≢refusal e)
@@ -253,10 +253,10 @@ module _ (rec : Meanings) (r c : ℕ) (ρ : State) where
   sat-rising (b ∷ bs) sat h (inr (n, p, k, e)) = absurd (value≢refusal e)
   sat-rising (b ∷ bs) sat h (inl (t, k, inr (n, p, l, e))) = absurd (value≢refusal e)
   sat-rising (b ∷ bs) sat h (inl (t, k, inl (rest, l, e))) =
-      let d : pick t (b ∷ rest) rest ≡ sat = cc in
+      let d : cond t (b ∷ rest) rest ≡ sat = cc in
       subst Rising d (go t (sat-rising bs rest (h .1) l) (before-some b bs rest (h .0) (λ β i. found-out rec r c ρ bs rest l .sound β i .0)))
     where
-      go : (t : Bool) → Rising rest → BeforeEach b rest → Rising (pick t (b ∷ rest) rest)
+      go : (t : Bool) → Rising rest → BeforeEach b rest → Rising (cond t (b ∷ rest) rest)
       go true x y = (y, x)
       go false x y = x
 
@@ -274,9 +274,9 @@ module _ (rec : Meanings) (r c : ℕ) (ρ : State) where
   both-in (b ∷ bs) β γ h (inr i) (inr j) d t u =
       let (x, y) = h b (inl refl) in
       let (sat, s, k, l) = both-in bs β γ (λ z m. h z (inr m)) i j d t u in
-      (pick x (b ∷ sat) sat, inl (x, y, inl (sat, s, refl)), kept x sat β k, kept x sat γ l)
+      (cond x (b ∷ sat) sat, inl (x, y, inl (sat, s, refl)), kept x sat β k, kept x sat γ l)
     where
-      kept : (x : Bool) (sat : List Binding) (δ : Binding) → In δ sat → In δ (pick x (b ∷ sat) sat)
+      kept : (x : Bool) (sat : List Binding) (δ : Binding) → In δ sat → In δ (cond x (b ∷ sat) sat)
       kept true sat δ k = inr k
       kept false sat δ k = k
 
@@ -285,7 +285,7 @@ module _ (rec : Meanings) (r c : ℕ) (ρ : State) where
 
   unique-out : (bs : List Binding) → Unique bs true → (β : Binding) × OnlyOne False True bs β
   unique-out bs (inr (n, p, h, e)) = absurd (value≢refusal e)
-  unique-out bs (inl ([], h, e)) = absurd (let z : _≡_ {A = ℕ} 0 1 = cc in omega arith)
+  unique-out bs (inl ([], h, e)) = impossible cc
   unique-out bs (inl (β ∷ [], h, e)) = (β, one-out bs β h)
   unique-out bs (inl (β ∷ γ ∷ sat, h, e)) = let d : true ≡ eqb (length (β ∷ γ ∷ sat)) 1 = cc in absurd (omega (arith, eqb-true (length (β ∷ γ ∷ sat)) 1 (sym d)))
 
@@ -296,7 +296,7 @@ module _ (rec : Meanings) (r c : ℕ) (ρ : State) where
   several-out : (bs : List Binding) → Rising bs → Unique bs false → AllFalse Test bs ⊎ (AllTested Test bs × Several True bs)
   several-out bs h (inr (n, p, k, e)) = absurd (value≢refusal e)
   several-out bs h (inl ([], k, e)) = inl (λ β i. ⊎-elim (λ j. absurd j) (λ f. f) (found-out rec r c ρ bs [] k .rest β i))
-  several-out bs h (inl (β ∷ [], k, e)) = absurd (let z : _≡_ {A = ℕ} 0 1 = cc in omega arith)
+  several-out bs h (inl (β ∷ [], k, e)) = impossible cc
   several-out bs h (inl (β ∷ γ ∷ sat, k, e)) =
       let f = found-out rec r c ρ bs (β ∷ γ ∷ sat) k in
       let up = sat-rising bs (β ∷ γ ∷ sat) h k in
@@ -324,7 +324,7 @@ module _ (rec : Meanings) (r c : ℕ) (ρ : State) where
 
 -- ---- comprehensions
 
-module _ (test : Binding → Outcomes Bool) (add : Items → Binding → Outcomes Items) (all : Items → Items → Built) (part : Binding → List Value → Type 0) (all-none : (us : Items) → all us none ≡ built us) (add-is : (us : Items) (b : Binding) (ws : Items) → add us b (value ws) ↔ ((new : List Value) × part b new × (all us (itemsOf new) ≡ built ws))) (all-more : (us : Items) (b : Binding) (new rest : List Value) → part b new → all us (itemsOf (new ++ rest)) ≡ onward (all us (itemsOf new)) (λ ws. all ws (itemsOf rest))) where
+module _ (test : Binding → Outcomes Bool) (add : Items → Binding → Outcomes Items) (all : Items → Items → Built) (part : Binding → List Value → Type 0) (all-none : (us : Items) → all us none ≡ built us) (add-is : (us : Items) (b : Binding) (ws : Items) → add us b (value ws) ↔ ((new : List Value) × part b new × (all us (itemsOf new) ≡ built ws))) (all-more : (us : Items) (b : Binding) (new rest : List Value) → part b new → all us (itemsOf (new ++ rest)) ≡ buildOn (all us (itemsOf new)) (λ ws. all ws (itemsOf rest))) where
   abbrev Adding : List Binding → List Value → Type 0
   Adding bs es = Added (λ t b. test b (value t)) part bs es
 
@@ -337,12 +337,12 @@ module _ (test : Binding → Outcomes Bool) (add : Items → Binding → Outcome
   added-out us (b ∷ bs) ws (inl (true, h, inl (vs, k, l))) =
       let (new, y, d) = add-is us b vs .0 k in
       let (rest, a, e) = added-out vs bs ws l in
-      (new ++ rest, inr (new, rest, h, y, refl, a), all-more us b new rest y ∙ ap (λ (x : Built). onward x (λ zs. all zs (itemsOf rest))) d ∙ e)
+      (new ++ rest, inr (new, rest, h, y, refl, a), all-more us b new rest y ∙ ap (λ (x : Built). buildOn x (λ zs. all zs (itemsOf rest))) d ∙ e)
 
   -- What is built on is built.
-  was-built : (x : Built) (f : Items → Built) (ws : Items) → onward x f ≡ built ws → (vs : Items) × (x ≡ built vs) × (f vs ≡ built ws)
+  was-built : (x : Built) (f : Items → Built) (ws : Items) → buildOn x f ≡ built ws → (vs : Items) × (x ≡ built vs) × (f vs ≡ built ws)
   was-built (built vs) f ws e = (vs, refl, e)
-  was-built (stopped n) f ws e = absurd (let z : _≡_ {A = ℕ} 0 1 = cc in omega arith)
+  was-built (stopped n) f ws e = impossible cc
 
   added-in : (us : Items) (bs : List Binding) (es : List Value) (ws : Items) → Adding bs es → all us (itemsOf es) ≡ built ws → collected test add us bs (value ws)
   unfolding collected itemsOf
@@ -362,7 +362,7 @@ module _ (test : Binding → Outcomes Bool) (add : Items → Binding → Outcome
 
       ended : (x : Built) → closed k x ≡ is v → (vs : Items) × (x ≡ built vs) × (v ≡ collection k vs)
       ended (built vs) e = (vs, refl, let z : v ≡ collection k vs = cc in z)
-      ended (stopped n) e = absurd (let z : _≡_ {A = ℕ} 0 1 = cc in omega arith)
+      ended (stopped n) e = impossible cc
 
       into : (es : List Value) × Adding bs es × (closed k (all none (itemsOf es)) ≡ is v) → (collected test add none bs then (λ vs. gives (collection k vs))) (value v)
       into (es, a, e) = let (vs, d, f) = ended (all none (itemsOf es)) e in inl (vs, added-in none bs es vs a d, ap value f)

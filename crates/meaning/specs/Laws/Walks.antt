@@ -6,35 +6,35 @@ use Prim.Native.Nat.{ℕ, _+_, _-_, _≤_}
 use native.Mathlib.Omega.{arith}
 use lib.ListN.{length, take, drop, replicate, length-append, length-take, length-replicate, take-append-drop}
 use lib.Seq.{take-at, drop-at, take-take, take-append-seam, drop-append-le, take-add}
-use Rattle.choices.specs.Tree.{limit}
+use Rattle.choices.specs.Tree.{mostChoices}
 use Rattle.choices.specs.State.{padded}
 use Rattle.meaning.specs.Walk.{Walk, listed, overwritten, Shows}
 use Rattle.meaning.specs.Calls.{Part, lent, returned}
 
-pub padded-length : (l : List ℕ) → length l ≤ limit → length (padded l) ≡ limit
-padded-length l h = omega (arith, length-append l (replicate (limit - length l) 0), length-replicate {A = ℕ} (limit - length l) 0)
+pub padded-length : (l : List ℕ) → length l ≤ mostChoices → length (padded l) ≡ mostChoices
+padded-length l h = omega (arith, length-append l (replicate (mostChoices - length l) 0), length-replicate {A = ℕ} (mostChoices - length l) 0)
 
 -- ---- showing a list
 
 module _ (w : Walk) (l : List ℕ) (s : Shows w l) where
   -- It is short, and there are 64 entries.
-  sizes : limit ≤ length (padded l)
-  sizes = omega (arith, length-append l (replicate (limit - length l) 0), length-replicate {A = ℕ} (limit - length l) 0)
+  sizes : mostChoices ≤ length (padded l)
+  sizes = omega (arith, length-append l (replicate (mostChoices - length l) 0), length-replicate {A = ℕ} (mostChoices - length l) 0)
 
-  pub shown-short : length l ≤ limit
+  pub shown-short : length l ≤ mostChoices
   shown-short =
-      omega (arith, ap length (s .its-entries), length-take limit (w .entries), length-append l (replicate (limit - length l) 0))
+      omega (arith, ap length (s .its-entries), length-take mostChoices (w .entries), length-append l (replicate (mostChoices - length l) 0))
 
-  pub shown-entries : limit ≤ length (w .entries)
-  shown-entries = omega (arith, ap length (s .its-entries), length-take limit (w .entries), sizes)
+  pub shown-entries : mostChoices ≤ length (w .entries)
+  shown-entries = omega (arith, ap length (s .its-entries), length-take mostChoices (w .entries), sizes)
 
   -- The entries below the length are the list.
   pub listed-shown : listed w ≡ l
   listed-shown =
       ap (λ n. take n (w .entries)) (s .its-length)
-      ∙ sym (take-take (length l) limit (w .entries) shown-short)
+      ∙ sym (take-take (length l) mostChoices (w .entries) shown-short)
       ∙ ap (take (length l)) (s .its-entries)
-      ∙ take-append-seam l (replicate (limit - length l) 0)
+      ∙ take-append-seam l (replicate (mostChoices - length l) 0)
 
 -- It shows one list.
 pub shows-one : (w : Walk) (l m : List ℕ) → Shows w l → Shows w m → l ≡ m
@@ -42,13 +42,13 @@ shows-one w l m s t = sym (listed-shown w l s) ∙ listed-shown w m t
 
 -- ---- writing
 
-pub shows-written : (l : List ℕ) (w : Walk) → length l ≤ limit → Shows (overwritten l w) l
+pub shows-written : (l : List ℕ) (w : Walk) → length l ≤ mostChoices → Shows (overwritten l w) l
 unfolding overwritten
-shows-written l w h = record { its-length = refl; its-entries = take-at (padded l) (drop limit (w .entries)) limit (padded-length l h) }
+shows-written l w h = record { its-length = refl; its-entries = take-at (padded l) (drop mostChoices (w .entries)) mostChoices (padded-length l h) }
 
-pub written-beyond : (l : List ℕ) (w : Walk) → length l ≤ limit → drop limit (overwritten l w .entries) ≡ drop limit (w .entries)
+pub written-beyond : (l : List ℕ) (w : Walk) → length l ≤ mostChoices → drop mostChoices (overwritten l w .entries) ≡ drop mostChoices (w .entries)
 unfolding overwritten
-written-beyond l w h = drop-at (padded l) (drop limit (w .entries)) limit (padded-length l h)
+written-beyond l w h = drop-at (padded l) (drop mostChoices (w .entries)) mostChoices (padded-length l h)
 
 -- ---- lending
 
@@ -63,28 +63,28 @@ returned-lent p w =
     ∙ take-append-drop (p .from + p .count) (w .entries))
 
 -- A part of 64 entries starts with the first.
-pub lent-first : (p : Part) (w : Walk) → limit ≤ length (lent p w .entries) → p .from ≡ 0
+pub lent-first : (p : Part) (w : Walk) → mostChoices ≤ length (lent p w .entries) → p .from ≡ 0
 lent-first p w h =
     ⊎-elim (λ e. e) (λ few. absurd (omega (arith, length-take (p .count) (drop (p .from) (w .entries))))) (p .fair)
 
-from-first : (a n : ℕ) (l es : List ℕ) → a ≡ 0 → limit ≤ length (take n (drop a es))
-    → take a es ++ (padded l ++ drop limit (take n (drop a es))) ++ drop (a + n) es ≡ padded l ++ drop limit es
-from-first a n l es e h = subst (λ b. limit ≤ length (take n (drop b es)) → take b es ++ (padded l ++ drop limit (take n (drop b es))) ++ drop (b + n) es ≡ padded l ++ drop limit es) (sym e) start h
+from-first : (a n : ℕ) (l es : List ℕ) → a ≡ 0 → mostChoices ≤ length (take n (drop a es))
+    → take a es ++ (padded l ++ drop mostChoices (take n (drop a es))) ++ drop (a + n) es ≡ padded l ++ drop mostChoices es
+from-first a n l es e h = subst (λ b. mostChoices ≤ length (take n (drop b es)) → take b es ++ (padded l ++ drop mostChoices (take n (drop b es))) ++ drop (b + n) es ≡ padded l ++ drop mostChoices es) (sym e) start h
   where
-    start : limit ≤ length (take n es) → (padded l ++ drop limit (take n es)) ++ drop (0 + n) es ≡ padded l ++ drop limit es
+    start : mostChoices ≤ length (take n es) → (padded l ++ drop mostChoices (take n es)) ++ drop (0 + n) es ≡ padded l ++ drop mostChoices es
     start k =
-        (let e : 0 + n ≡ n = omega arith in ap (λ m. (padded l ++ drop limit (take n es)) ++ drop m es) e)
-        ∙ append-assoc (padded l) (drop limit (take n es)) (drop n es)
-        ∙ ap (λ (x : List ℕ). padded l ++ x) (sym (drop-append-le limit (take n es) (drop n es) k) ∙ ap (drop limit) (take-append-drop n es))
+        (let e : 0 + n ≡ n = omega arith in ap (λ m. (padded l ++ drop mostChoices (take n es)) ++ drop m es) e)
+        ∙ append-assoc (padded l) (drop mostChoices (take n es)) (drop n es)
+        ∙ ap (λ (x : List ℕ). padded l ++ x) (sym (drop-append-le mostChoices (take n es) (drop n es) k) ∙ ap (drop mostChoices) (take-append-drop n es))
 
 -- What a granted call writes into such a part is written into the walk.
-pub returned-written : (p : Part) (w : Walk) (l : List ℕ) → limit ≤ length (lent p w .entries) → returned p w (overwritten l (lent p w)) ≡ overwritten l w
+pub returned-written : (p : Part) (w : Walk) (l : List ℕ) → mostChoices ≤ length (lent p w .entries) → returned p w (overwritten l (lent p w)) ≡ overwritten l w
 unfolding overwritten
 returned-written p w l h = ap (λ (x : List ℕ). record { entries = x; len = length l }) (from-first (p .from) (p .count) l (w .entries) (lent-first p w h) h)
 
 -- A step that is lent such a part reads the walk's list.
-pub listed-lent : (p : Part) (w : Walk) → limit ≤ length (lent p w .entries) → w .len ≤ limit → listed (lent p w) ≡ listed w
+pub listed-lent : (p : Part) (w : Walk) → mostChoices ≤ length (lent p w .entries) → w .len ≤ mostChoices → listed (lent p w) ≡ listed w
 listed-lent p w h k =
-    let n : limit ≤ p .count = omega (arith, length-take (p .count) (drop (p .from) (w .entries))) in
+    let n : mostChoices ≤ p .count = omega (arith, length-take (p .count) (drop (p .from) (w .entries))) in
     ap (λ a. take (w .len) (take (p .count) (drop a (w .entries)))) (lent-first p w h)
     ∙ take-take (w .len) (p .count) (w .entries) (omega arith)

@@ -1,7 +1,7 @@
 -- Every value that a run of an accepted table gives is well-formed: its integers are in range, its sets and keys strictly ascending, its tuples
 -- of 2 to 4, and it takes at most 512 bytes. (What a run gives follows from table and list alone: evaluating is a function of the two.)
 use mathlib.Core.Path.{_≡_, refl, sym, ap, _∙_, subst}
-use mathlib.Core.Bool.{Bool, true, false}
+use mathlib.Core.Bool.{Bool, true, false, cond}
 use mathlib.Core.Option.{some}
 use mathlib.Core.Logic.{inl, inr}
 use mathlib.Core.List.{List, [], _∷_}
@@ -9,20 +9,20 @@ use Prim.Native.Nat.{ℕ, zero, suc, _+_, _%_, _≤_, _<_}
 use native.Mathlib.Omega.{arith}
 use lib.Dec.{ltb}
 use lib.ListN.{length, getD, getD-replicate}
-use Rattle.choices.specs.Tree.{Tree, bind, value, Gives, Run, gave, stopped, short, beyond, run, Final, result, final, limit}
-use Rattle.choices.specs.Laws.Outcomes.{follow-given, Given}
-use Rattle.values.specs.Value.{Kind, set, sequence, map, tuple, Value, boolean, integer, collection, Items, none, more, count, size, sizes, limit as largest, Sound, SoundItems, PairedFrom, WellFormed}
-use Rattle.values.specs.Items.{pick}
-use Rattle.values.specs.Records.{well-formed-boolean, well-formed-integer}
-use Rattle.operators.specs.Answer.{Answer, is, refused, Built, built, stopped as unbuilt, asInteger, asSet}
+use Rattle.prelude.proofs.Absurd.{impossible}
+use Rattle.prelude.specs.Membership.{In}
+use Rattle.choices.specs.Tree.{Tree, bind, value, Gives, Run, gave, stopped, short, beyond, run, Final, result, final, mostChoices}
+use Rattle.choices.proofs.Outcomes.{follow-given, Given}
+use Rattle.values.specs.Value.{Kind, set, sequence, map, tuple, Value, boolean, integer, collection, Items, none, more, count, size, sizes, valueLimit as largest, Sound, SoundItems, PairedFrom, WellFormed}
+use Rattle.values.proofs.Records.{well-formed-boolean, well-formed-integer}
+use Rattle.operators.specs.Answer.{Answer, is, refused, Built, built, stopped as unbuilt, asInteger, asSet, FineAnswer}
 use Rattle.operators.specs.Booleans.{Left, settles, leaves, left, right}
 use Rattle.operators.specs.Sets.{rangeOf}
 use Rattle.operators.specs.Maps.{applyTo}
 use Rattle.operators.specs.Enumerations.{addMember, addItem, addEntry}
 use Rattle.operators.specs.Operators.{unary, binary}
-use Rattle.operator_laws.specs.Results.{Good, good, wellFormed, Fine, unary-fine, binary-fine, apply-fine, range-fine, FineLeft, left-fine, right-fine}
-use Rattle.operator_laws.specs.EnumerationLaws.{FineBuilt, addMember-fine, addItem-fine, addEntry-fine, no-members, no-items, no-entries, setOf-fine, sequenceOf-fine, mapOf-fine, tupleOf-fine}
-use Rattle.patterns.specs.Members.{In}
+use Rattle.operator_laws.proofs.Results.{Good, good, wellFormed, unary-fine, binary-fine, apply-fine, range-fine, FineLeft, left-fine, right-fine}
+use Rattle.operator_laws.proofs.Enumerations.{FineBuilt, addMember-fine, addItem-fine, addEntry-fine, no-members, no-items, no-entries, setOf-fine, sequenceOf-fine, mapOf-fine, tupleOf-fine}
 use Rattle.patterns.specs.Binding.{Cell, free, is as valued, clash, Binding, names, nothing, cellOf}
 use Rattle.patterns.specs.Pattern.{Pattern, loose, listOf}
 use Rattle.patterns.specs.Binder.{Formed, bound, refused as unformed, formed, bindings}
@@ -43,7 +43,7 @@ use Rattle.meaning.specs.Laws.Proper.{Numbered, Literal, proper}
 
 -- ---- answers
 
-only-at : (r : ℕ) (a : Answer) → Fine a → Only WellFormed (at r a)
+only-at : (r : ℕ) (a : Answer) → FineAnswer a → Only WellFormed (at r a)
 only-at r (is v) h = only-give WellFormed v h
 only-at r (refused n) h = only-stop _ n r
 
@@ -74,9 +74,9 @@ fine-cell (c ∷ cs) zero h = h .0
 fine-cell (c ∷ cs) (suc x) h = fine-cell cs x (h .1)
 
 fine-held : (c : Cell) (v : Value) → FineCell c → held c ≡ some v → WellFormed v
-fine-held free v h e = let z : _≡_ {A = ℕ} 0 1 = cc in absurd (omega arith)
+fine-held free v h e = impossible cc
 fine-held (valued w) v h e = let d : w ≡ v = cc in subst WellFormed d h
-fine-held clash v h e = let z : _≡_ {A = ℕ} 0 1 = cc in absurd (omega arith)
+fine-held clash v h e = impossible cc
 
 fine-value : (ρ : State) (x : ℕ) (v : Value) → FineState ρ → valueIn ρ x ≡ some v → WellFormed v
 fine-value ρ x v h e = fine-held (cellOf ρ x) v (fine-cell ρ x h) e
@@ -119,12 +119,12 @@ members-well : (vs : Items) → WellFormed (collection set vs) → AllWell (list
 members-well vs h = let g = good h in items-well vs (g .sound) (g .short)
 
 set-well : (v : Value) (vs : Items) → WellFormed v → asSet v ≡ some vs → WellFormed (collection set vs)
-set-well (boolean b) vs h e = let z : _≡_ {A = ℕ} 0 1 = cc in absurd (omega arith)
-set-well (integer i) vs h e = let z : _≡_ {A = ℕ} 0 1 = cc in absurd (omega arith)
+set-well (boolean b) vs h e = impossible cc
+set-well (integer i) vs h e = impossible cc
 set-well (collection set ws) vs h e = let d : ws ≡ vs = cc in subst (λ (us : Items). WellFormed (collection set us)) d h
-set-well (collection sequence ws) vs h e = let z : _≡_ {A = ℕ} 0 1 = cc in absurd (omega arith)
-set-well (collection map ws) vs h e = let z : _≡_ {A = ℕ} 0 1 = cc in absurd (omega arith)
-set-well (collection tuple ws) vs h e = let z : _≡_ {A = ℕ} 0 1 = cc in absurd (omega arith)
+set-well (collection sequence ws) vs h e = impossible cc
+set-well (collection map ws) vs h e = impossible cc
+set-well (collection tuple ws) vs h e = impossible cc
 
 only-members : (r : ℕ) (v : Value) → WellFormed v → Only (λ vs. WellFormed (collection set vs)) (membersAt r v)
 only-members r v h = only-else (λ vs. WellFormed (collection set vs)) 20 r (asSet v) (λ vs e. set-well v vs h e)
@@ -164,7 +164,7 @@ paired-from false none h = absurd (omega arith)
 paired-from true (more k vs) h = paired-from false vs (omega arith)
 paired-from false (more v vs) h = paired-from true vs (omega arith)
 
-enumerated-fine : (k : Kind) (n : ℕ) → Numbered k n → (vs : Items) → Items-of n vs → Fine (enumerated k vs)
+enumerated-fine : (k : Kind) (n : ℕ) → Numbered k n → (vs : Items) → Items-of n vs → FineAnswer (enumerated k vs)
 enumerated-fine set n h vs (s, c) = setOf-fine vs s
 enumerated-fine sequence n h vs (s, c) = sequenceOf-fine vs s
 enumerated-fine map n h vs (s, c) = mapOf-fine vs (paired-from true vs (ap (λ m. m % 2) c ∙ h)) s
@@ -217,9 +217,9 @@ module _ (rec : Evaluates) (well : (a : ℕ) (ρ : State) → FineState ρ → O
   only-satisfying r c ρ (b ∷ bs) h =
       only-bind Any AllFine (holds rec r c ρ b) _ (only-any (holds rec r c ρ b))
       (λ t i. only-bind AllFine AllFine (satisfying rec r c ρ bs) _ (only-satisfying r c ρ bs (λ d j. h d (inr j)))
-      (λ sat j. only-give AllFine (pick t (b ∷ sat) sat) (kept t sat j)))
+      (λ sat j. only-give AllFine (cond t (b ∷ sat) sat) (kept t sat j)))
     where
-      kept : (t : Bool) (sat : List Binding) → AllFine sat → AllFine (pick t (b ∷ sat) sat)
+      kept : (t : Bool) (sat : List Binding) → AllFine sat → AllFine (cond t (b ∷ sat) sat)
       kept true sat j d (inl e) = subst FineState (sym e) (h b (inl refl))
       kept true sat j d (inr i) = j d i
       kept false sat j d i = j d i
@@ -309,27 +309,27 @@ tree-well-formed table n ok v g = well-formed table n ok (last (sheet table)) un
 -- THEOREM: the value of a run under a list is well-formed.
 pub run-well-formed : (table : List ℕ) (n : ℕ) → check table ≡ Accepted n → (l : List ℕ) (v : Value) (k : ℕ) (rest : List ℕ) → run (tree table) l ≡ gave v k rest → WellFormed v
 run-well-formed table n ok l v k rest e =
-    tree-well-formed table n ok v (subst (Given (tree table)) e (follow-given (tree table) limit l))
+    tree-well-formed table n ok v (subst (Given (tree table)) e (follow-given (tree table) mostChoices l))
 
 -- What evaluating answers as a value.
 final-gave : (p : ℕ) (r : Run Value) (v : Value) → final p r ≡ result v → (k : ℕ) × (rest : List ℕ) × (r ≡ gave v k rest)
 final-gave p (gave w k []) v e = let d : w ≡ v = cc in (k, [], ap (λ x. gave x k []) d)
-final-gave p (gave w k (c ∷ l)) v e = let z : _≡_ {A = ℕ} 0 1 = cc in absurd (omega arith)
-final-gave p (stopped n q []) v e = let z : _≡_ {A = ℕ} 0 1 = cc in absurd (omega arith)
-final-gave p (stopped n q (c ∷ l)) v e = let z : _≡_ {A = ℕ} 0 1 = cc in absurd (omega arith)
-final-gave p (short q n) v e = let z : _≡_ {A = ℕ} 0 1 = cc in absurd (omega arith)
-final-gave p (beyond q n l) v e = let z : _≡_ {A = ℕ} 0 1 = cc in absurd (omega arith)
+final-gave p (gave w k (c ∷ l)) v e = impossible cc
+final-gave p (stopped n q []) v e = impossible cc
+final-gave p (stopped n q (c ∷ l)) v e = impossible cc
+final-gave p (short q n) v e = impossible cc
+final-gave p (beyond q n l) v e = impossible cc
 
 unless-result : {A : Type 0} (b : Bool) (n : ℕ) (f : Final A) (v : A) → unless b n f ≡ result v → f ≡ result v
-unless-result true n f v e = let z : _≡_ {A = ℕ} 0 1 = cc in absurd (omega arith)
+unless-result true n f v e = impossible cc
 unless-result false n f v e = e
 
 -- THEOREM: the value that evaluating answers is well-formed, whatever it is lent.
 pub evaluates-well-formed : (scratch buffer : ℕ) (table l : List ℕ) (v : Value) → evaluates scratch buffer table l ≡ result v → WellFormed v
 evaluates-well-formed scratch buffer table l v e = go (check table) refl (unless-result (ltb buffer largest) 2 _ v (unless-result (ltb scratch scratchBytes) 1 _ v e))
   where
-    go : (c : Checked) → check table ≡ c → accepted c (λ n. unless (ltb limit (length l)) 10 (final (last (sheet table)) (run (tree table) l))) ≡ result v → WellFormed v
+    go : (c : Checked) → check table ≡ c → accepted c (λ n. unless (ltb mostChoices (length l)) 10 (final (last (sheet table)) (run (tree table) l))) ≡ result v → WellFormed v
     go (Accepted n) ok f =
-        let (k, rest, g) = final-gave (last (sheet table)) (run (tree table) l) v (unless-result (ltb limit (length l)) 10 _ v f) in
+        let (k, rest, g) = final-gave (last (sheet table)) (run (tree table) l) v (unless-result (ltb mostChoices (length l)) 10 _ v f) in
         run-well-formed table n ok l v k rest g
-    go (Refused n p) ok f = let z : _≡_ {A = ℕ} 0 1 = cc in absurd (omega arith)
+    go (Refused n p) ok f = impossible cc

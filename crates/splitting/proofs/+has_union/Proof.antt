@@ -1,9 +1,8 @@
-use Prim.Native.Nat.{_-_}
+use Prim.Native.Nat.{_-_, ℕ, _<_}
 use native.Mathlib.Omega.{arith}
 use mathlib.Core.Path.{refl}
 use Rattle.matching.proofs.Walking.{has-operand, operand-readable}
 use Rattle.splitting.proofs.Telling.{UnionLeft, union-leaf, union-here, union-found, union-next, union-none}
-use Prim.Native.Nat.{ℕ, _<_}
 use borrow.Fn.Kinds.{In}
 use borrow.Fn.PlainCycle.{Measures, is, falls, and}
 use Rattle.splitting.proofs.has_union.Reads as has-union

@@ -1,11 +1,10 @@
-use Prim.Native.Nat.{_*_, _+_, _-_, _≤_}
+use Prim.Native.Nat.{_*_, _+_, _-_, _≤_, ℕ, _<_}
 use native.Mathlib.Omega.{arith}
 use Rattle.tables.specs.Table.{kindAt}
 use Rattle.tables.specs.Accepted.{records}
 use borrow.Author.Needs.{needs}
 use Rattle.matching.proofs.Walking.{count-few, has-operand, operand-readable, recast-meets}
 use Rattle.splitting.proofs.Telling.{PartsLeft, WaysLeft, wide-leaf, wide-unfit, wide-large, ways-held, wide-ways, ways-shallow, ways-start, ways-none, way-held, ways-found, ways-next, parts-start, parts-none, piece-asked, piece-held, parts-found, parts-next}
-use Prim.Native.Nat.{ℕ, _<_}
 use borrow.Fn.Kinds.{In}
 use borrow.Fn.PlainCycle.{Measures, is, falls, and}
 use Rattle.splitting.proofs.in_way.Reads as in-way

@@ -1,16 +1,16 @@
 -- Laws of cutting a table: what stands next, and what every record that is cut out has.
 use mathlib.Core.Path.{_≡_, refl, sym, ap, _∙_}
-use mathlib.Core.Bool.{Bool, true, false, _||_}
+use mathlib.Core.Bool.{Bool, true, false, _||_, cond}
 use mathlib.Core.List.{List}
 use Prim.Native.Nat.{ℕ, zero, suc, _<_, _≤_}
 use native.Mathlib.Omega.{arith}
 use borrow.Author.Tests.{ltb-false, eqb-true}
 use lib.Dec.{eqb, ltb}
 use lib.ListN.{length, drop}
+use Rattle.prelude.proofs.Absurd.{never, impossible}
 use Rattle.integers.specs.Bytes.{word}
 use Rattle.tables.specs.Record.{Record, isFit}
-use Rattle.tables.specs.Table.{pick, Next, end, fault, one, next, first, after, cutBy, recordAt}
-use Rattle.tables.specs.Laws.{never}
+use Rattle.tables.specs.Table.{Next, end, fault, one, next, first, after, cutBy, recordAt}
 
 -- What is known where a record stands next.
 pub record IsNext (bytes : List ℕ) (r : Record) (rest : List ℕ) : Type 0 where
@@ -21,12 +21,12 @@ pub record IsNext (bytes : List ℕ) (r : Record) (rest : List ℕ) : Type 0 whe
   pub is : first bytes ≡ r
   pub then : drop (word bytes 0) bytes ≡ rest
 
-is-next : (bytes : List ℕ) (b c d e : Bool) (r : Record) (rest : List ℕ) → ltb (length bytes) 4 ≡ b → ltb (word bytes 0) 4 ≡ c → ltb (length bytes) (word bytes 0) ≡ d → isFit (first bytes) ≡ e → (z : Bool) → pick z end (pick (b || c || d) fault (pick e (one (first bytes) (drop (word bytes 0) bytes)) fault)) ≡ one r rest → IsNext bytes r rest
-is-next bytes b c d e r rest hb hc hd he true k = let z : _≡_ {A = ℕ} 0 1 = cc in absurd (omega arith)
-is-next bytes true c d e r rest hb hc hd he false k = let z : _≡_ {A = ℕ} 0 1 = cc in absurd (omega arith)
-is-next bytes false true d e r rest hb hc hd he false k = let z : _≡_ {A = ℕ} 0 1 = cc in absurd (omega arith)
-is-next bytes false false true e r rest hb hc hd he false k = let z : _≡_ {A = ℕ} 0 1 = cc in absurd (omega arith)
-is-next bytes false false false false r rest hb hc hd he false k = let z : _≡_ {A = ℕ} 0 1 = cc in absurd (omega arith)
+is-next : (bytes : List ℕ) (b c d e : Bool) (r : Record) (rest : List ℕ) → ltb (length bytes) 4 ≡ b → ltb (word bytes 0) 4 ≡ c → ltb (length bytes) (word bytes 0) ≡ d → isFit (first bytes) ≡ e → (z : Bool) → cond z end (cond (b || c || d) fault (cond e (one (first bytes) (drop (word bytes 0) bytes)) fault)) ≡ one r rest → IsNext bytes r rest
+is-next bytes b c d e r rest hb hc hd he true k = impossible cc
+is-next bytes true c d e r rest hb hc hd he false k = impossible cc
+is-next bytes false true d e r rest hb hc hd he false k = impossible cc
+is-next bytes false false true e r rest hb hc hd he false k = impossible cc
+is-next bytes false false false false r rest hb hc hd he false k = impossible cc
 is-next bytes false false false true r rest hb hc hd he false k =
     let same : first bytes ≡ r = cc in
     record {
@@ -60,7 +60,7 @@ unfolding cutBy next
 cut-some bound bytes h e =
     go (eqb (length bytes) 0) (ltb (length bytes) 4 || ltb (word bytes 0) 4 || ltb (length bytes) (word bytes 0)) (isFit (first bytes)) refl e
   where
-    go : (z t u : Bool) → eqb (length bytes) 0 ≡ z → after (pick z end (pick t fault (pick u (one (first bytes) (drop (word bytes 0) bytes)) fault))) (λ rest. cutBy bound rest) .whole ≡ true → 0 < length (after (pick z end (pick t fault (pick u (one (first bytes) (drop (word bytes 0) bytes)) fault))) (λ rest. cutBy bound rest) .records)
+    go : (z t u : Bool) → eqb (length bytes) 0 ≡ z → after (cond z end (cond t fault (cond u (one (first bytes) (drop (word bytes 0) bytes)) fault))) (λ rest. cutBy bound rest) .whole ≡ true → 0 < length (after (cond z end (cond t fault (cond u (one (first bytes) (drop (word bytes 0) bytes)) fault))) (λ rest. cutBy bound rest) .records)
     go true t u f k = absurd (omega (arith, eqb-true (length bytes) 0 f))
     go false true u f k = never k
     go false false true f k = omega arith

@@ -7,9 +7,11 @@ use native.Mathlib.Omega.{arith}
 use borrow.Author.Tests.{lt-leb, le-leb, leb-true, ne-eqb}
 use lib.Dec.{eqb, leb}
 use lib.ListN.{List·getD-eq-default}
+use mathlib.Mathlib.Data.Bool.Basic.{and-elim-left, and-elim-right}
+use Rattle.prelude.proofs.Absurd.{never}
 use Rattle.tables.specs.Record.{Record, Shape, missing, shapes, shape, ofExpressions, ofPatterns, isExpression, isPattern}
 use Rattle.tables.specs.Sheet.{any, some, isLoose, isCovered, isBinder}
-use Rattle.tables.specs.Laws.{never, and-left, and-right, split, each}
+use Rattle.tables.specs.Laws.{split, each}
 
 -- There is no kind above 40.
 pub beyond : (k : ℕ) → 40 < k → shape k ≡ missing
@@ -66,19 +68,19 @@ binder-kinds =
 
 -- Bounds of each.
 pub expression-least : (k : ℕ) → isExpression k ≡ true → 1 ≤ k
-expression-least k e = leb-true 1 k (and-left _ (leb k 21) (sym (expression-kinds k) ∙ e))
+expression-least k e = leb-true 1 k (and-elim-left _ (leb k 21) (sym (expression-kinds k) ∙ e))
 
 pub expression-most : (k : ℕ) → isExpression k ≡ true → k ≤ 21
-expression-most k e = leb-true k 21 (and-right (leb 1 k) _ (sym (expression-kinds k) ∙ e))
+expression-most k e = leb-true k 21 (and-elim-right (leb 1 k) _ (sym (expression-kinds k) ∙ e))
 
 pub pattern-most : (k : ℕ) → isPattern k ≡ true → k ≤ 40
-pattern-most k e = leb-true k 40 (and-right (leb 32 k) _ (sym (pattern-kinds k) ∙ e))
+pattern-most k e = leb-true k 40 (and-elim-right (leb 32 k) _ (sym (pattern-kinds k) ∙ e))
 
 pub pattern-least : (k : ℕ) → isPattern k ≡ true → 32 ≤ k
-pattern-least k e = leb-true 32 k (and-left _ (leb k 40) (sym (pattern-kinds k) ∙ e))
+pattern-least k e = leb-true 32 k (and-elim-left _ (leb k 40) (sym (pattern-kinds k) ∙ e))
 
 pub binder-most : (k : ℕ) → isBinder k ≡ true → k ≤ 20
-binder-most k e = leb-true k 20 (and-right (leb 12 k) _ (sym (binder-kinds k) ∙ e))
+binder-most k e = leb-true k 20 (and-elim-right (leb 12 k) _ (sym (binder-kinds k) ∙ e))
 
 -- And from the bounds.
 pub expression-kind : (k : ℕ) → 1 ≤ k → k ≤ 21 → isExpression k ≡ true

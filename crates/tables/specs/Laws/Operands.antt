@@ -4,15 +4,17 @@ use mathlib.Core.Bool.{Bool, true, false, not, _&&_, _||_}
 use mathlib.Core.List.{List, [], _∷_, map}
 use Prim.Native.Nat.{ℕ, zero, suc, _<_, _≤_}
 use native.Mathlib.Omega.{arith}
-use borrow.Author.Tests.{eqb-true}
+use borrow.Author.Tests.{eqb-true, not-false}
 use lib.Dec.{leb}
 use lib.ListN.{length, getD}
+use Rattle.prelude.proofs.Absurd.{never}
+use Rattle.prelude.proofs.Truth.{or-false-left, or-false-right, implied}
 use Rattle.tables.specs.declared.Role.{Role}
 use Rattle.tables.specs.declared.Role.the-variants.{Plain, Condition, Body, Pattern, Name}
 use Rattle.tables.specs.Record.{shape, isPattern, operandsOf, numbers}
 use Rattle.tables.specs.Sheet.{some, greatest, isCovered, isBinder}
 use Rattle.tables.specs.Check.{isOfSort}
-use Rattle.tables.specs.Laws.{never, or-left, or-right, not-not, implied, each}
+use Rattle.tables.specs.Laws.{each}
 use Rattle.tables.specs.Laws.Kinds.{binder-most}
 
 -- ---- patterns
@@ -33,8 +35,8 @@ is-part Name e = never e
 
 pub all-parts : (roles : List Role) (i : ℕ) → some (map (λ x. not (isPart x)) roles) ≡ false → i < length roles → isPart (getD roles i Plain) ≡ true
 all-parts [] i e h = absurd (omega arith)
-all-parts (x ∷ xs) zero e h = not-not (isPart x) (or-left (not (isPart x)) _ e)
-all-parts (x ∷ xs) (suc i) e h = all-parts xs i (or-right (not (isPart x)) _ e) (omega arith)
+all-parts (x ∷ xs) zero e h = not-false (isPart x) (or-false-left (not (isPart x)) _ e)
+all-parts (x ∷ xs) (suc i) e h = all-parts xs i (or-false-right (not (isPart x)) _ e) (omega arith)
 
 -- No record has more operands than its kind has roles.
 pub operands-few : (roles : List Role) (bytes : List ℕ) → length (numbers (operandsOf roles bytes)) ≤ length roles

@@ -4,7 +4,7 @@ use native.Mathlib.Omega.{arith}
 use borrow.Author.Needs.{needs}
 use borrow.Fn.Kinds.{In}
 use borrow.Fn.PlainCycle.{Measures, is, falls, and}
-use Rattle.values.specs.Records.{holds}
+use Rattle.values.proofs.Records.{holds}
 use Rattle.parts.proofs.Running.{run-head, more-held}
 use Rattle.parts.proofs.Comparing.{apart, both-end, first-end, second-end, first-lower, first-higher, first-same, rest-held}
 use Rattle.parts.proofs.runs.order.Reads as order

@@ -1,7 +1,7 @@
 -- `ready`: what is chosen of the rest is what is chosen of all.
 use Prim.Native.Nat.{_-_}
 use native.Mathlib.Omega.{arith}
-use Rattle.values.specs.Records.{holds}
+use Rattle.values.proofs.Records.{holds}
 use Rattle.parts.proofs.Running.{Seeking, seeking-start, seeking-held, seeking-more, seeking-found, seeking-end, between}
 use Rattle.parts.proofs.runs.ready.Statement.{statement}
 use Rattle.parts.proofs.runs.ready.Tie as tie

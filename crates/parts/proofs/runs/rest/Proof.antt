@@ -1,6 +1,6 @@
 -- `rest`: past the item at which the run stands, and on to the next that is chosen.
 use native.Mathlib.Omega.{arith}
-use Rattle.values.specs.Records.{holds}
+use Rattle.values.proofs.Records.{holds}
 use Rattle.parts.proofs.Running.{head, rest-every, rest-startable, rest-some}
 use Rattle.parts.proofs.runs.rest.Statement.{statement}
 use Rattle.parts.proofs.runs.rest.Tie as tie
