@@ -17,10 +17,10 @@ use Rattle.tables.specs.declared.Role.the-variants.{Plain, Condition}
 use Rattle.tables.specs.declared.Checked.the-variants.{Accepted}
 use Rattle.tables.specs.Record.{Record, shape, operator, named as operandsOf, operand, roleAt}
 use Rattle.tables.specs.Table.{noRecord, recordAt, kindAt}
-use Rattle.tables.specs.Sheet.{loose, patternOf, isCondition, inCondition}
+use Rattle.tables.specs.Sheet.{loose, patternOf, isCondition, isBinder, inCondition}
 use Rattle.tables.specs.Check.{check, chooses}
 use Rattle.tables.specs.Laws.{split}
-use Rattle.tables.specs.Accepted.{records, Fine, accepted-fine, operand-lower, condition-operand, isBinder, binder-operands, binder-pattern, choice-outside, fit-least, named-count}
+use Rattle.tables.specs.Accepted.{records, Fine, accepted-fine, operand-lower, condition-operand, binder-operands, binder-pattern, choice-outside, fit-least, named-count}
 use Rattle.ways.specs.Read.{patternAt}
 use Rattle.meaning.specs.Node.{Node, truth, whole, named, unaryOf, binaryOf, connective, if, enumeration, range, let-in, let-be, quantified, iota, set-comprehension, sequence-comprehension, map-comprehension, application, no-expression}
 use Rattle.meaning.specs.State.{State, under}
@@ -117,7 +117,7 @@ module _ (table : List ℕ) (n : ℕ) (ok : check table ≡ Accepted n) where
 
   -- A record that chooses is one of which rule 8 speaks.
   let-chooses : (r : ℕ) → r < length rs → kindAt rs r ≡ 12 → isLooseAt (patternAt rs (patternOf rs r)) ≡ true → chooses rs r ≡ true
-  unfolding chooses
+  unfolding chooses shape
   let-chooses r h k l =
       let binder : isBinder (kindAt rs r) ≡ true = ap isBinder k in
       let low = operand-lower rs (fine .clear6) r 0 h (binder-operands rs fine r h binder) in
