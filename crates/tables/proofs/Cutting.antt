@@ -16,7 +16,7 @@ use Rattle.tables.specs.Laws.{split, each}
 use Rattle.tables.specs.Accepted.{records, fit-kind, fit-most}
 use Rattle.tables.specs.Laws.Cutting.{IsNext, next-is}
 use Rattle.tables.specs.Reading.{Stands, Places, Measured, CutOut}
-use Rattle.tables.proofs.Fit.{fields-long, field-at}
+use Rattle.tables.proofs.Fit.{plus-zero, plus-four, fields-long, field-at}
 
 -- ---- one record
 
@@ -86,12 +86,6 @@ stands table at rest n =
           λ i h.
           sym (field-at (drop at table) (word (drop at table) 0) refl (n .long) (n .whole) i (omega arith) ∙ getD-drop at table (4 + i) 0 ∙ ap (λ (k : ℕ). getD table k 0) (plus-four at i));
     }
-  where
-    plus-zero : (a : ℕ) → a + 0 ≡ a
-    plus-zero a = omega arith
-
-    plus-four : (a i : ℕ) → a + (4 + i) ≡ a + 4 + i
-    plus-four a i = omega arith
 
 -- ---- the loop
 
