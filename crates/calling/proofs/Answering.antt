@@ -72,9 +72,6 @@ two-done k a b e h = two-by k a b (is-done e h)
 pub one-put : {f : Value → Answer} {s t : List ℕ} {base n r : ℕ} {v x : Value} → Put s t base x n r → At s base v → f v ≡ is x → OnOne f s t base Done
 one-put p a e = one-done (put-kept p) a e (p .here)
 
-pub two-put : {f : Value → Value → Answer} {s t : List ℕ} {base n r : ℕ} {v w x : Value} → Put s t base x n r → At s base v → At s (base + second) w → f v w ≡ is x → OnTwo f s t base Done
-two-put p a b e = two-done (put-kept p) a b e (p .here)
-
 pub gives-put : {s t : List ℕ} {base n r : ℕ} {x : Value} → Put s t base x n r → Gives (is x) s t base Done
 gives-put p = record { kept = put-kept p; right = done refl (p .here) }
 

@@ -10,7 +10,7 @@ use borrow.Author.Tests.{eqb-true, eqb-false, eq-eqb, ne-eqb}
 use Rattle.prelude.proofs.Truth.{by-test}
 use Rattle.values.specs.Value.{Kind, number, kindOf, Value, boolean, integer, collection, Items}
 use Rattle.values.specs.Place.{At, Holds}
-use Rattle.values.specs.Contract.{KindAt, OfKind}
+use Rattle.values.specs.Contract.{KindAt}
 use Rattle.values.proofs.Records.{one-value, is-boolean, is-integer}
 use Rattle.operators.specs.Answer.{Answer, refused, wrongKind, asBoolean, asInteger, asKind, needs, needsBoth}
 use Rattle.operator_laws.proofs.OfKind.{boolean-not, integer-not, kind-is, kind-not, kind-view}
@@ -23,9 +23,6 @@ use Rattle.calling.proofs.Framing.{kept-same}
 use Rattle.calling.proofs.Answering.{one-by, two-by, one-off, two-off, is-off}
 
 -- ---- as `kind_of` reads them
-
-pub of-kind : {s : List ℕ} {at k n : ℕ} → Holds s at → KindAt s at k → k ≡ n → OfKind s at n
-of-kind h k e = record { held = h; kind = sym (k .is) ∙ e }
 
 module _ {s : List ℕ} {at k : ℕ} (read : KindAt s at k) where
   pub no-boolean : (k ≡ 1 → ⊥) → (v : Value) → At s at v → asBoolean v ≡ absent

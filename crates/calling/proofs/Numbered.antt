@@ -32,11 +32,11 @@ pub data Run (P : ℕ → Type 0) : ℕ → ℕ → Type 0 where
   _▹_ : {low n : ℕ} → P low → Run P (suc low) n → Run P low (suc n)
 
 infixr 5 _▹_
-pub each : {P : ℕ → Type 0} {low n : ℕ} → Run P low n → (k : ℕ) → low ≤ k → k < low + n → P k
-each end k h g = absurd (omega arith)
-each {P} {low} (p ▹ ps) k h g =
+pub at-each : {P : ℕ → Type 0} {low n : ℕ} → Run P low n → (k : ℕ) → low ≤ k → k < low + n → P k
+at-each end k h g = absurd (omega arith)
+at-each {P} {low} (p ▹ ps) k h g =
     by-test (eqb k low) (λ e. subst P (sym (eqb-true k low e)) p)
-    (λ e. let d : (k ≡ low → ⊥) = eqb-false k low e in each ps k (omega arith) (omega arith))
+    (λ e. let d : (k ≡ low → ⊥) = eqb-false k low e in at-each ps k (omega arith) (omega arith))
 
 -- ---- what is left of a run of numbers after some of them
 

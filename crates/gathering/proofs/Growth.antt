@@ -21,7 +21,7 @@ use Rattle.collections.proofs.Built.{over, at-apart}
 use Rattle.operators.specs.Gather.{insertAll}
 use Rattle.operator_laws.proofs.Gather.{sizes-grow-all}
 use Rattle.gathering.specs.Inserting.{Growing, Grown, InsertsAll, themselves}
-use Rattle.gathering.proofs.Walks.{Left, First, first-left, left-on, left-none}
+use Rattle.gathering.proofs.Walks.{Left, First, items-first, items-on, items-end}
 
 -- ---- what goes in next
 
@@ -108,7 +108,7 @@ module _ {g : Items → Items} {s t : List ℕ} {from to at p : ℕ} (w : Gather
   pub gather-next : {u : List ℕ} → p < to → Outside s u at (at + valueLimit) → HoldsItems s from to → Growing s from to at → Next s u to at p
   gather-next lt o h r =
       let k = w .state (r .held .items) (h .0) (r .held .here) (h .1) in
-      next-item o (r .apart) (w .past) (first-left lt (k .left))
+      next-item o (r .apart) (w .past) (items-first lt (k .left))
 
   pub gather-room : p < to → HoldsItems s from to → Growing s from to at → Room set t at p
   gather-room lt h r =
@@ -128,9 +128,9 @@ module _ {g : Items → Items} {s t : List ℕ} {from to at p : ℕ} (w : Gather
           past = let b = w .past in omega arith;
           state = λ vs ws a h.
               let k = w .state vs ws a h in
-              let y = first-left lt (k .left) in
+              let y = items-first lt (k .left) in
               let x = q .right (k .us) (y .first) (k .made) (at-apart (w .frame) (apart-at s p apart (w .past) (y .inside)) (y .first-at)) in
-              record { us = f (k .us) (y .first); made = x .made e; left = left-on y n d (y .so ∙ law (k .us) (y .first) (y .rest)) };
+              record { us = f (k .us) (y .first); made = x .made e; left = items-on y n d (y .so ∙ law (k .us) (y .first) (y .rest)) };
         }
 
     pub gather-full : r ≡ TooLong → InsertsAll g s u from to at TooLong
@@ -139,7 +139,7 @@ module _ {g : Items → Items} {s t : List ℕ} {from to at p : ℕ} (w : Gather
           frame = outside-both (w .frame) (q .frame);
           right = λ vs ws a h.
               let k = w .state vs ws a h in
-              let y = first-left lt (k .left) in
+              let y = items-first lt (k .left) in
               let x = q .right (k .us) (y .first) (k .made) (at-apart (w .frame) (apart-at s p apart (w .past) (y .inside)) (y .first-at)) in
               let whole = y .so ∙ law (k .us) (y .first) (y .rest) in
               let b : valueLimit < size (collection set (f (k .us) (y .first))) = over (x .answers) e in
@@ -156,7 +156,7 @@ module _ {g : Items → Items} {s t : List ℕ} {from to at p : ℕ} (w : Gather
         frame = w .frame;
         right = λ vs ws a h.
             let k = w .state vs ws a h in
-            let whole : insertAll vs (g ws) ≡ k .us = left-none le (k .left) ∙ ap (insertAll (k .us)) e in
+            let whole : insertAll vs (g ws) ≡ k .us = items-end le (k .left) ∙ ap (insertAll (k .us)) e in
             let m = subst (λ (us : Items). At t at (collection set us)) (sym whole) (k .made) in
             record { answers = put-added (size (collection set (insertAll vs (g ws)))) (m .fine .short); made = λ z. m };
       }

@@ -18,8 +18,8 @@ pub record Left (s : List ℕ) (to : ℕ) (P : Items → Type 0) (p : ℕ) : Typ
 abbrev pub Walk : List ℕ → ℕ → ℕ → (Items → Items → Type 0) → ℕ → Type 0
 Walk s from to R p = (vs : Items) → ItemsAt s from to vs → Left s to (R vs) p
 
-pub walk-start : {s : List ℕ} {from to : ℕ} (R : Items → Items → Type 0) → ((vs : Items) → R vs vs) → Walk s from to R from
-walk-start R r = λ vs h. record { rest = vs; here = h; so = r vs }
+pub items-start : {s : List ℕ} {from to : ℕ} (R : Items → Items → Type 0) → ((vs : Items) → R vs vs) → Walk s from to R from
+items-start R r = λ vs h. record { rest = vs; here = h; so = r vs }
 
 -- the first of those that are left, with what code needs to know of its length
 pub record First (s : List ℕ) (to : ℕ) (P : Items → Type 0) (p : ℕ) : Type 0 where
@@ -33,8 +33,8 @@ pub record First (s : List ℕ) (to : ℕ) (P : Items → Type 0) (p : ℕ) : Ty
   pub inside : p + word s p ≤ to
   pub fits : to ≤ length s
 
-pub first-left : {s : List ℕ} {to : ℕ} {P : Items → Type 0} {p : ℕ} → p < to → Left s to P p → First s to P p
-first-left {P = P} lt l =
+pub items-first : {s : List ℕ} {to : ℕ} {P : Items → Type 0} {p : ℕ} → p < to → Left s to P p → First s to P p
+items-first {P = P} lt l =
     let y = uncons lt (l .here) in
     record {
       first = y .first;
@@ -48,8 +48,8 @@ first-left {P = P} lt l =
       fits = l .here .fits;
     }
 
-pub left-on : {s : List ℕ} {to : ℕ} {P Q : Items → Type 0} {p : ℕ} (y : First s to P p) (n : ℕ) → n ≡ word s p → Q (y .rest) → Left s to Q (p + n)
-left-on {s} {to} {P} {Q} {p} y n e q = record { rest = y .rest; here = subst (λ (m : ℕ). ItemsAt s (p + m) to (y .rest)) (sym e) (y .rest-at); so = q }
+pub items-on : {s : List ℕ} {to : ℕ} {P Q : Items → Type 0} {p : ℕ} (y : First s to P p) (n : ℕ) → n ≡ word s p → Q (y .rest) → Left s to Q (p + n)
+items-on {s} {to} {P} {Q} {p} y n e q = record { rest = y .rest; here = subst (λ (m : ℕ). ItemsAt s (p + m) to (y .rest)) (sym e) (y .rest-at); so = q }
 
-pub left-none : {s : List ℕ} {to : ℕ} {P : Items → Type 0} {p : ℕ} → to ≤ p → Left s to P p → P none
-left-none {P = P} le l = subst P (items-none le (l .here)) (l .so)
+pub items-end : {s : List ℕ} {to : ℕ} {P : Items → Type 0} {p : ℕ} → to ≤ p → Left s to P p → P none
+items-end {P = P} le l = subst P (items-none le (l .here)) (l .so)

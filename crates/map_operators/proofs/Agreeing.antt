@@ -98,21 +98,21 @@ agree-end w le = from-items (w .maps) (sym (w .so ∙ ap (compatible (w .maps .l
 
 -- ---- munion: 27 first
 
-abbrev pub over : Items → Items → Answer
-over vs ws = sized map (enterAll vs ws)
+abbrev pub enteredAll : Items → Items → Answer
+enteredAll vs ws = sized map (enterAll vs ws)
 
-abbrev pub merged : Items → Items → Answer
-merged vs ws = cond (compatible vs ws) (over vs ws) (refused clash)
+abbrev pub mergedMaps : Items → Items → Answer
+mergedMaps vs ws = cond (compatible vs ws) (enteredAll vs ws) (refused clash)
 
 module _ {s : List ℕ} {base : ℕ} {r : Bool} (h : HasTwo map map s base) (c : Compatible s base r) where
-  pub merge-done : {t : List ℕ} {q : Applied} → r ≡ true → OnBoth map map over s t base q → OnBoth map map merged s t base q
+  pub merge-done : {t : List ℕ} {q : Applied} → r ≡ true → OnBoth map map enteredAll s t base q → OnBoth map map mergedMaps s t base q
   merge-done {t} {q} e o =
       let vs = h .left .items in
       let ws = h .right .items in
       let a = h .left .here in
       let b = h .right .here in
-      both-by {f = merged} (o .kept) a b
-      (subst (λ (x : Answer). Applies t base q x) (sym (cond-true (compatible vs ws) (over vs ws) (refused clash) (sym (c vs ws a b) ∙ e))) (o .right vs ws a b))
+      both-by {f = mergedMaps} (o .kept) a b
+      (subst (λ (x : Answer). Applies t base q x) (sym (cond-true (compatible vs ws) (enteredAll vs ws) (refused clash) (sym (c vs ws a b) ∙ e))) (o .right vs ws a b))
 
-  pub merge-clash : r ≡ false → OnBoth map map merged s s base (Refused clash)
-  merge-clash e = both-off (λ vs ws a b. cond-false (compatible vs ws) (over vs ws) (refused clash) (sym (c vs ws a b) ∙ e))
+  pub merge-clash : r ≡ false → OnBoth map map mergedMaps s s base (Refused clash)
+  merge-clash e = both-off (λ vs ws a b. cond-false (compatible vs ws) (enteredAll vs ws) (refused clash) (sym (c vs ws a b) ∙ e))

@@ -84,8 +84,8 @@ module _ {b wanted : Bool} {s t : List ℕ} {base end p q : ℕ} (w : Packing ma
 
 -- ---- dom: the keys are a set
 
-abbrev pub domained : Items → Answer
-domained vs = is (collection set (keys vs))
+abbrev pub domAnswer : Items → Answer
+domAnswer vs = is (collection set (keys vs))
 
 module _ {s t : List ℕ} {base : ℕ} (h : Has map s base) (o : OnItems map (halved true) s t base Done) where
   keys-at : At t base (collection sequence (keys (h .held .items)))
@@ -94,16 +94,16 @@ module _ {s t : List ℕ} {base : ℕ} (h : Has map s base) (o : OnItems map (ha
   pub keys-held : HoldsCollection t base
   keys-held = record { kind = sequence; items = keys (h .held .items); here = keys-at }
 
-  pub domain-done : {u : List ℕ} → Retags t u base 3 → OnItems map domained s u base Done
+  pub domain-done : {u : List ℕ} → Retags t u base 3 → OnItems map domAnswer s u base Done
   domain-done x =
       let a = h .held .here in
-      items-by {f = domained} (kept-then (o .kept) (kept-outside (omega arith) (x .frame))) a
+      items-by {f = domAnswer} (kept-then (o .kept) (kept-outside (omega arith) (x .frame))) a
       (is-done refl (x .right sequence set (keys (h .held .items)) keys-at refl (collection-shaped (a .fine) .1)))
 
 -- ---- rng: the elements of the values
 
-abbrev pub ranged : Items → Answer
-ranged vs = is (collection set (insertAll none (mapped vs)))
+abbrev pub rngAnswer : Items → Answer
+rngAnswer vs = is (collection set (insertAll none (mapped vs)))
 
 module _ {s t : List ℕ} {base : ℕ} (h : Has map s base) (o : OnItems map (halved false) s t base Done) where
   values-at : At t base (collection sequence (mapped (h .held .items)))
@@ -112,5 +112,5 @@ module _ {s t : List ℕ} {base : ℕ} (h : Has map s base) (o : OnItems map (ha
   pub values-has : Has sequence t base
   values-has = let l = o .kept .long in let r = h .room in record { held = record { items = mapped (h .held .items); here = values-at }; room = omega arith }
 
-  pub range-done : {u : List ℕ} {r : Applied} → OnItems sequence (λ vs. is (collection set (insertAll none vs))) t u base r → OnItems map ranged s u base r
-  range-done x = items-by {f = ranged} (kept-then (o .kept) (x .kept)) (h .held .here) (x .right (mapped (h .held .items)) values-at)
+  pub range-done : {u : List ℕ} {r : Applied} → OnItems sequence (λ vs. is (collection set (insertAll none vs))) t u base r → OnItems map rngAnswer s u base r
+  range-done x = items-by {f = rngAnswer} (kept-then (o .kept) (x .kept)) (h .held .here) (x .right (mapped (h .held .items)) values-at)

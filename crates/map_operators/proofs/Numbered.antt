@@ -14,7 +14,7 @@ use Rattle.calling.specs.declared.Applied.the-variants.{Refused}
 use Rattle.calling.specs.Applied.{OnOne}
 use Rattle.calling.proofs.Kinding.{off-one}
 use Rattle.calling.proofs.Numbered.{past, meet}
-use Rattle.map_operators.proofs.Halving.{domained, ranged}
+use Rattle.map_operators.proofs.Halving.{domAnswer, rngAnswer}
 
 pub not-fourteen : {n : ℕ} → n ≤ 15 → 14 ≤ n → (n ≡ 14 → ⊥) → n ≡ 15
 not-fourteen high low f = omega (arith, f)
@@ -23,8 +23,8 @@ pub not-map : {s : List ℕ} {base kind n : ℕ} → 14 ≤ n → n ≤ 15 → K
 unfolding unary
 not-map {n = n} low high r f =
     by-test (eqb n 14)
-    (λ e. off-one {k = map} {f = domained} {g = unary n} (λ v. ap (λ (i : ℕ). unary i v) (eqb-true n 14 e)) r f)
-    (λ e. off-one {k = map} {f = ranged} {g = unary n} (λ v. ap (λ (i : ℕ). unary i v) (not-fourteen high low (eqb-false n 14 e))) r f)
+    (λ e. off-one {k = map} {f = domAnswer} {g = unary n} (λ v. ap (λ (i : ℕ). unary i v) (eqb-true n 14 e)) r f)
+    (λ e. off-one {k = map} {f = rngAnswer} {g = unary n} (λ v. ap (λ (i : ℕ). unary i v) (not-fourteen high low (eqb-false n 14 e))) r f)
 
 -- the last number, where it is none of the others
 pub is-range-restriction : {n : ℕ} → n ≤ 28 → 25 ≤ n → (n ≡ 25 → ⊥) → (n ≡ 26 → ⊥) → (n ≡ 27 → ⊥) → n ≡ 28

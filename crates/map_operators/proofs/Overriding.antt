@@ -32,7 +32,7 @@ use Rattle.calling.proofs.Framing.{kept-then, kept-outside, copyable-down, copi
 use Rattle.calling.specs.Operands.{HasTwo, OnBoth}
 use Rattle.calling.proofs.Kinding.{both-by}
 use Rattle.map_operators.proofs.Pairs.{NextEntry, next-entry}
-use Rattle.map_operators.proofs.Agreeing.{over}
+use Rattle.map_operators.proofs.Agreeing.{enteredAll}
 use Rattle.map_operators.proofs.Parts.{sizes-entered, entered-new, entered-there, entered-none}
 
 pub record Overriding (s t : List ℕ) (base end p : ℕ) : Type 0 where
@@ -144,11 +144,11 @@ module _ {s t u : List ℕ} {base end p m l : ℕ} {r : Entered} (w : Overriding
       there-full (same z (y .value))
       (sym f ∙ answer .answers ∙ ap (λ (o : Option Value). entryAnswer o (y .value) (size (collection map (enter (y .key) (y .value) (w .made))))) n)
 
-  pub over-full : r ≡ Full → OnBoth map map over s u base (Refused tooLarge)
+  pub over-full : r ≡ Full → OnBoth map map enteredAll s u base (Refused tooLarge)
   over-full f =
       let vs = w .maps .left .items in
       let ws = w .maps .right .items in
-      both-by {f = over} (kept-outside (omega arith) (outside-both (w .frame) (x .frame))) (w .maps .left .here) (w .maps .right .here)
+      both-by {f = enteredAll} (kept-outside (omega arith) (outside-both (w .frame) (x .frame))) (w .maps .left .here) (w .maps .right .here)
       (is-off (ap (closed map) (fits-not (enterAll vs ws) (too-long f (lookup (y .key) (w .made)) refl))))
 
   -- on to the next entry
@@ -185,7 +185,7 @@ module _ {s t : List ℕ} {base end p : ℕ} (w : Overriding s t base end p) whe
   pub over-copyable : Copyable t (base + second) base
   over-copyable = copyable-down (omega arith) (holds (w .made-at))
 
-  pub over-end : {u : List ℕ} {r : ℕ} → end ≤ p → Copied t u (base + second) base r → OnBoth map map over s u base Done
+  pub over-end : {u : List ℕ} {r : ℕ} → end ≤ p → Copied t u (base + second) base r → OnBoth map map enteredAll s u base Done
   over-end {u} le c =
       let vs = w .maps .left .items in
       let ws = w .maps .right .items in
@@ -193,5 +193,5 @@ module _ {s t : List ℕ} {base end p : ℕ} (w : Overriding s t base end p) whe
       let e : enterAll vs ws ≡ w .made = w .so ∙ ap (λ (us : Items). enterAll us (w .made)) (items-none le (w .rest-at)) ∙ entered-none (w .made) (h .0) (h .1) in
       let l = w .made-at .fine .short in
       let z = collection-size map (w .made) in
-      both-by {f = over} (kept-then (kept-outside (omega arith) (w .frame)) (copied-kept c)) (w .maps .left .here) (w .maps .right .here)
+      both-by {f = enteredAll} (kept-then (kept-outside (omega arith) (w .frame)) (copied-kept c)) (w .maps .left .here) (w .maps .right .here)
       (is-done (ap (sized map) e ∙ ap (closed map) (fits (w .made) (omega arith))) (c .here (collection map (w .made)) (w .made-at)))

@@ -18,7 +18,7 @@ use Rattle.calling.specs.declared.Tested.the-variants.{Settled, Open, Refused}
 use Rattle.calling.specs.Scratch.{Kept}
 use Rattle.calling.proofs.Framing.{kept-same, put-kept}
 use Rattle.scalars.specs.Connectives.{connective, Says, settled, undecided, off, TestsLeft}
-use Rattle.calling.proofs.Numbered.{end, _▹_, each}
+use Rattle.calling.proofs.Numbered.{end, _▹_, at-each}
 
 -- ---- the truth value that leaves the right to decide, and the answer for the other
 
@@ -62,7 +62,7 @@ implies-decides = record { waits = λ b e. go b e; answers = λ b e. on b e }
 
 decides : (operator : ℕ) → 1 ≤ operator → operator ≤ 3 → Decides (connective operator) (not (eqb operator 2)) (not (eqb operator 1))
 decides operator h g =
-    each {P = λ k. Decides (connective k) (not (eqb k 2)) (not (eqb k 1))} (and-decides ▹ or-decides ▹ implies-decides ▹ end) operator h (omega arith)
+    at-each {P = λ k. Decides (connective k) (not (eqb k 2)) (not (eqb k 1))} (and-decides ▹ or-decides ▹ implies-decides ▹ end) operator h (omega arith)
 
 -- ---- the three answers of the code
 

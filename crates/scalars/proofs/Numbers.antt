@@ -16,7 +16,7 @@ use Rattle.operators.specs.Booleans.{truth}
 use Rattle.operators.specs.Arithmetic.{answered}
 use Rattle.operators.specs.Operators.{unary, binary}
 use Rattle.calling.proofs.Pairs.{machine}
-use Rattle.calling.proofs.Numbered.{end, _▹_, each}
+use Rattle.calling.proofs.Numbered.{end, _▹_, at-each}
 
 -- ---- 7 to 16 ask for two integers
 
@@ -33,7 +33,7 @@ of-tests operator f e = record { f = λ a b. truth (f a b); is = e }
 pub on-integers : (operator : ℕ) → 7 ≤ operator → operator ≤ 16 → OnIntegers operator
 unfolding binary
 on-integers operator h g =
-    each {P = OnIntegers}
+    at-each {P = OnIntegers}
     (of-numbers 7 (λ a b. Whole.sumOf a b) (λ v w. refl)
     ▹ of-numbers 8 (λ a b. Whole.differenceOf a b) (λ v w. refl)
     ▹ of-numbers 9 (λ a b. Whole.productOf a b) (λ v w. refl)
@@ -56,7 +56,7 @@ pub record OnInteger (operator : ℕ) : Type 0 where
 pub on-integer : (operator : ℕ) → 2 ≤ operator → operator ≤ 3 → OnInteger operator
 unfolding unary
 on-integer operator h g =
-    each {P = OnInteger}
+    at-each {P = OnInteger}
     (record { f = λ a. answered (Whole.negationOf a); is = λ v. refl }
     ▹ record { f = λ a. answered (Whole.absoluteOf a); is = λ v. refl }
     ▹ end)

@@ -24,14 +24,14 @@ pub none-off : {k : Kind} {f : Items → Answer} {s : List ℕ} {base n m : ℕ}
 none-off {f = f} e d h = items-off (λ vs a. ap f (items-none (omega arith) (items-to e a)) ∙ h)
 
 module _ {s : List ℕ} {base n : ℕ} (h : Has sequence s base) (e : n ≡ word s base) (some : n ≡ 4 → ⊥) where
-  pub first : Uncons s (base + 4) (base + n) (h .held .items)
-  first = let b = holds (h .held .here) in uncons (omega (arith, some)) (items-to e (h .held .here))
+  pub first-item : Uncons s (base + 4) (base + n) (h .held .items)
+  first-item = let b = holds (h .held .here) in uncons (omega (arith, some)) (items-to e (h .held .here))
 
   pub head-done : {t : List ℕ} {r : ℕ} → Copied s t (base + 4) base r → OnItems sequence headOf s t base Done
-  head-done c = let y = first in items-by {f = headOf} (copied-kept c) (h .held .here) (is-done (ap headOf (y .is)) (c .here (y .first) (y .first-at)))
+  head-done c = let y = first-item in items-by {f = headOf} (copied-kept c) (h .held .here) (is-done (ap headOf (y .is)) (c .here (y .first) (y .first-at)))
 
   pub tail-movable : {m : ℕ} → m ≡ word s (base + 4) → Movable s (base + 4 + m) (base + 4) (n - 4 - m)
-  tail-movable d = let b = holds (h .held .here) in let y = first in record { there = omega arith; room = omega arith; apart = inr (omega arith) }
+  tail-movable d = let b = holds (h .held .here) in let y = first-item in record { there = omega arith; room = omega arith; apart = inr (omega arith) }
 
   pub tail-done : {t u : List ℕ} {m : ℕ} → m ≡ word s (base + 4) → Moved s t (base + 4 + m) (base + 4) (n - 4 - m) → PutHead t u base (n - m) (number sequence) → OnItems sequence tailOf s u base Done
   unfolding join

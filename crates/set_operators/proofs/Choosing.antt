@@ -19,7 +19,7 @@ use Rattle.collections.specs.Building.{Appends, Empties, Retags}
 use Rattle.operators.specs.Gather.{keepItems}
 use Rattle.operator_laws.proofs.Gather.{ascending-keep}
 use Rattle.set_operators.specs.Members.{HoldsSets, inAll, InAll, asWanted, wantedOf, Appendable, AppendsIf, Choice, Chosen}
-use Rattle.gathering.proofs.Walks.{Left, first-left, left-on, left-none}
+use Rattle.gathering.proofs.Walks.{Left, items-first, items-on, items-end}
 use Rattle.gathering.proofs.Growth.{Next, next-item, put-added}
 
 -- ---- one item
@@ -55,7 +55,11 @@ passed-over s at x e = record { frame = outside-none s at (at + valueLimit); rig
 sets-still : {s t : List ℕ} {a b at : ℕ} → Outside s t at (at + valueLimit) → b ≤ at → HoldsSets s a b → HoldsSets t a b
 sets-still o h x = record { items = x .items; here = items-below o h (x .here); sets = x .sets }
 
+<<<<<<< HEAD
 pub choice-still : {s t : List ℕ} {x a b at : ℕ} → Outside s t at (at + valueLimit) → Choice s x a b at → Choice t x a b at
+=======
+choice-still : {s t : List ℕ} {x a b at : ℕ} → Outside s t at (at + mostBytes) → Choice s x a b at → Choice t x a b at
+>>>>>>> abc89bfd6783cac8bf8eda8032e9ff0586ee1b00
 choice-still {s} {t} {x} {a} {b} {at} o r =
     let n = word-size (r .held .here) in
     let h = holds (r .held .here) in
@@ -87,7 +91,7 @@ pub record Choosing (s t : List ℕ) (x a b at : ℕ) (wanted : Bool) (p : ℕ) 
   pub frame : Outside s t at (at + valueLimit)
   pub state : (vs ws : Items) → At s x (collection set vs) → ItemsAt s a b ws → Picked s t (x + word s x) at p (wantedIn wanted ws) vs
 
-pub choose-start : {s : List ℕ} {x a b at : ℕ} (wanted : Bool) → Choice s x a b at → At s at (collection sequence none) → Choosing s s x a b at wanted (x + 4)
+choose-start : {s : List ℕ} {x a b at : ℕ} (wanted : Bool) → Choice s x a b at → At s at (collection sequence none) → Choosing s s x a b at wanted (x + 4)
 unfolding join size
 choose-start {s} {x} {a} {b} {at} wanted r e =
     record {
@@ -112,8 +116,13 @@ module _ {s t : List ℕ} {x a b at : ℕ} {wanted : Bool} {p : ℕ} (w : Choosi
   one : Picked s t (x + word s x) at p (wantedIn wanted (w .choice .others .items)) (w .choice .held .items)
   one = w .state (w .choice .held .items) (w .choice .others .items) (w .choice .held .here) (w .choice .others .here)
 
+<<<<<<< HEAD
   pub choose-next : {u : List ℕ} → p < x + word s x → Outside s u at (at + valueLimit) → Next s u (x + word s x) at p
   choose-next lt o = next-item {from = p} o (inl (w .choice .below)) (omega arith) (first-left lt (one .left))
+=======
+  pub choose-next : {u : List ℕ} → p < x + word s x → Outside s u at (at + mostBytes) → Next s u (x + word s x) at p
+  choose-next lt o = next-item {from = p} o (inl (w .choice .below)) (omega arith) (items-first lt (one .left))
+>>>>>>> abc89bfd6783cac8bf8eda8032e9ff0586ee1b00
 
   pub choose-test : p < x + word s x → Holds t p × HoldsSets t a b
   choose-test lt = (choose-next lt (w .frame) .item, sets-still (w .frame) (w .choice .under) (w .choice .others))
@@ -122,7 +131,7 @@ module _ {s t : List ℕ} {x a b at : ℕ} {wanted : Bool} {p : ℕ} (w : Choosi
   unfolding size
   choose-room lt =
       let n = choose-next lt (w .frame) in
-      let y = first-left lt (one .left) in
+      let y = items-first lt (one .left) in
       let c₁ = collection-size sequence (one .us) in
       let m = word-size (one .made) in
       let l = word-size (y .first-at) in
@@ -143,7 +152,7 @@ module _ {s t : List ℕ} {x a b at : ℕ} {wanted : Bool} {p : ℕ} (w : Choosi
         frame = outside-both (w .frame) (q .frame);
         state = λ vs ws h g.
             let k = w .state vs ws h g in
-            let y = first-left lt (k .left) in
+            let y = items-first lt (k .left) in
             let below = w .choice .below in
             let inside = y .inside in
             let m = word-size (y .first-at) in
@@ -153,15 +162,15 @@ module _ {s t : List ℕ} {x a b at : ℕ} {wanted : Bool} {p : ℕ} (w : Choosi
             record {
               us = cond flag (snoc (k .us) (y .first)) (k .us);
               made = q .right (k .us) (y .first) (k .made) v-at;
-              left = left-on y n d (y .so .0 ∙ keep-on (wantedIn wanted ws) (k .us) (y .first) (y .rest) flag e, omega (arith, sizes-on (k .us) (y .first) flag));
+              left = items-on y n d (y .so .0 ∙ keep-on (wantedIn wanted ws) (k .us) (y .first) (y .rest) flag e, omega (arith, sizes-on (k .us) (y .first) flag));
             };
       }
 
-  pub choose-end : x + word s x ≤ p → (vs ws : Items) → At s x (collection set vs) → ItemsAt s a b ws → At t at (collection sequence (wantedOf wanted vs ws))
+  choose-end : x + word s x ≤ p → (vs ws : Items) → At s x (collection set vs) → ItemsAt s a b ws → At t at (collection sequence (wantedOf wanted vs ws))
   unfolding keepItems
   choose-end le vs ws h g =
       let k = w .state vs ws h g in
-      let e = left-none le (k .left) .0 ∙ join-none (k .us) in
+      let e = items-end le (k .left) .0 ∙ join-none (k .us) in
       subst (λ (us : Items). At t at (collection sequence us)) (sym e) (k .made)
 
 -- ---- from the empty sequence to the set

@@ -34,11 +34,11 @@ use Rattle.gathering.specs.Consecutive.{CountingRoom}
 abbrev wide : ℤ → ℤ
 wide z = toZ w64 (ofZ w64 (machine z))
 
-pub wide-fits : {z : ℤ} → SFits w32 z → SFits w64 (machine z)
-wide-fits f = rw (toZ-ofZ f) (sfits-widen tt f)
+pub widened-fits : {z : ℤ} → SFits w32 z → SFits w64 (machine z)
+widened-fits f = rw (toZ-ofZ f) (sfits-widen tt f)
 
 wide-is : {z : ℤ} → SFits w32 z → wide z ≡ z
-wide-is f = toZ-ofZ (wide-fits f) ∙ toZ-ofZ f
+wide-is f = toZ-ofZ (widened-fits f) ∙ toZ-ofZ f
 
 size-up : (z : ℤ) (a b : ℕ) → up z + a ≡ b + down z → mag z ≤ a + b
 size-up (pos n) a b e = omega arith

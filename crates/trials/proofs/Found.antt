@@ -58,7 +58,7 @@ module _ (s : List ℕ) (bytes : (i : ℕ) → Fits w8 (getD s i 0)) where
   bool-of (suc zero) h = (true, refl)
   bool-of (suc (suc n)) h = let z : ⊥ = omega arith in absurd z
 
-  pub found-boolean : (at : ℕ) → at + 5 ≤ length s → word s at ≡ 5 → word s (at + 2) ≡ 1 → getD s (at + 4) 0 < 2 → Holds s at
+  found-boolean : (at : ℕ) → at + 5 ≤ length s → word s at ≡ 5 → word s (at + 2) ≡ 1 → getD s (at + 4) 0 < 2 → Holds s at
   unfolding size encode
   found-boolean at h n k lt =
       let (b, e) = bool-of (getD s (at + 4) 0) lt in
@@ -81,7 +81,7 @@ module _ (s : List ℕ) (bytes : (i : ℕ) → Fits w8 (getD s i 0)) where
       let h : word s (at + 2) ≡ bits32 s at / 65536 = omega arith in
       ap₂ heading l h
 
-  pub found-integer : (at : ℕ) → at + 8 ≤ length s → word s at ≡ 8 → word s (at + 2) ≡ 2 → Holds s at
+  found-integer : (at : ℕ) → at + 8 ≤ length s → word s at ≡ 8 → word s (at + 2) ≡ 2 → Holds s at
   unfolding size encode
   found-integer at h n k =
       let x : ℕ = bits32 s (at + 4) in
@@ -95,7 +95,11 @@ module _ (s : List ℕ) (bytes : (i : ℕ) → Fits w8 (getD s i 0)) where
             ∙ ap (λ (i : ℕ). heading 8 2 ++ four i) (sym (ofZ-toZ w32 x f));
       })
 
+<<<<<<< HEAD
   pub found-collection : (at n : ℕ) (k : Kind) (vs : Items) → n ≡ word s at → word s (at + 2) ≡ number k → n ≤ valueLimit → Shaped k vs → ItemsAt s (at + 4) (at + n) vs → Holds s at
+=======
+  found-collection : (at n : ℕ) (k : Kind) (vs : Items) → n ≡ word s at → word s (at + 2) ≡ number k → n ≤ mostBytes → Shaped k vs → ItemsAt s (at + 4) (at + n) vs → Holds s at
+>>>>>>> abc89bfd6783cac8bf8eda8032e9ff0586ee1b00
   found-collection at n k vs en ek short shaped h =
       let f = h .ends in
       let g = h .fits in

@@ -3,7 +3,7 @@ use mathlib.Core.Path.{refl}
 use Rattle.values.specs.Value.{map}
 use Rattle.operators.specs.Operators.{binary}
 use Rattle.calling.proofs.Kinding.{has-two, off-two, on-two}
-use Rattle.map_operators.proofs.Agreeing.{merged, merge-done, merge-clash}
+use Rattle.map_operators.proofs.Agreeing.{mergedMaps, merge-done, merge-clash}
 use borrow.Author.Needs.{needs}
 use Rattle.map_operators.proofs.merge.Statement.{statement}
 use Rattle.map_operators.proofs.merge.Tie as tie
@@ -36,7 +36,7 @@ same-length-3 c = search needs
 
 returns-3 : tie.Need-returns-3
 unfolding binary
-returns-3 c = off-two {k = map} {l = map} {f = merged} (λ v w. refl) (c .before .kinds-are .ensures) (c .if1 .left)
+returns-3 c = off-two {k = map} {l = map} {f = mergedMaps} (λ v w. refl) (c .before .kinds-are .ensures) (c .if1 .left)
 
 pub merge-spec : {M : Type 1} → statement M
 merge-spec =

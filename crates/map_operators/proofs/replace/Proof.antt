@@ -3,7 +3,7 @@ use mathlib.Core.Path.{refl}
 use Rattle.values.specs.Value.{map}
 use Rattle.operators.specs.Operators.{binary}
 use Rattle.calling.proofs.Kinding.{has-two, off-two, on-two}
-use Rattle.map_operators.proofs.Agreeing.{over}
+use Rattle.map_operators.proofs.Agreeing.{enteredAll}
 use borrow.Author.Needs.{needs}
 use Rattle.map_operators.proofs.replace.Statement.{statement}
 use Rattle.map_operators.proofs.replace.Tie as tie
@@ -26,7 +26,7 @@ same-length-2 c = search needs
 
 returns-2 : tie.Need-returns-2
 unfolding binary
-returns-2 c = off-two {k = map} {l = map} {f = over} (λ v w. refl) (c .before .kinds-are .ensures) (c .if1 .left)
+returns-2 c = off-two {k = map} {l = map} {f = enteredAll} (λ v w. refl) (c .before .kinds-are .ensures) (c .if1 .left)
 
 pub replace-spec : {M : Type 1} → statement M
 replace-spec =

@@ -3,7 +3,7 @@ use mathlib.Core.Path.{refl}
 use native.Mathlib.Omega.{arith}
 use Rattle.values.proofs.Records.{holds}
 use Rattle.calling.proofs.Framing.{copyable-down}
-use Rattle.sequence_operators.proofs.Firsts.{none-off, first, head-done}
+use Rattle.sequence_operators.proofs.Firsts.{none-off, first-item, head-done}
 use borrow.Author.Needs.{needs}
 use Rattle.sequence_operators.proofs.head.Statement.{statement}
 use Rattle.sequence_operators.proofs.head.Tie as tie
@@ -21,7 +21,7 @@ add-copy-value : tie.Need-add-copy-value
 add-copy-value c = search needs
 
 copy-value-requires : tie.Need-copy-value-requires
-copy-value-requires c κs = copyable-down (omega arith) (holds (first (c .before .before .before .before .before .pre) (c .before .before .length-of .ensures .is) (c .before .if1 .left) .first-at))
+copy-value-requires c κs = copyable-down (omega arith) (holds (first-item (c .before .before .before .before .before .pre) (c .before .before .length-of .ensures .is) (c .before .if1 .left) .first-at))
 
 same-length-2 : tie.Need-same-length-2
 same-length-2 c = search needs

@@ -2,7 +2,7 @@
 use mathlib.Core.Path.{refl}
 use native.Mathlib.Omega.{arith}
 use Rattle.values.proofs.Records.{holds}
-use Rattle.sequence_operators.proofs.Firsts.{none-off, first, tail-movable, tail-done}
+use Rattle.sequence_operators.proofs.Firsts.{none-off, first-item, tail-movable, tail-done}
 use borrow.Author.Needs.{needs}
 use Rattle.sequence_operators.proofs.tail.Statement.{statement}
 use Rattle.sequence_operators.proofs.tail.Tie as tie
@@ -20,7 +20,7 @@ add-length-of : tie.Need-add-length-of
 add-length-of c = search needs
 
 length-of-requires-2 : tie.Need-length-of-requires-2
-length-of-requires-2 c κs = holds (first (c .before .before .before .before .before .pre) (c .before .before .length-of .ensures .is) (c .before .if1 .left) .first-at)
+length-of-requires-2 c κs = holds (first-item (c .before .before .before .before .before .pre) (c .before .before .length-of .ensures .is) (c .before .if1 .left) .first-at)
 
 add-copy-bytes : tie.Need-add-copy-bytes
 add-copy-bytes c = search needs
@@ -35,13 +35,13 @@ sub-copy-bytes : tie.Need-sub-copy-bytes
 sub-copy-bytes c = search needs
 
 sub-copy-bytes-2 : tie.Need-sub-copy-bytes-2
-sub-copy-bytes-2 c = let y = first (c .before .before .before .before .before .before .before .pre) (c .before .before .before .before .length-of .ensures .is) (c .before .before .before .if1 .left) in omega arith
+sub-copy-bytes-2 c = let y = first-item (c .before .before .before .before .before .before .before .pre) (c .before .before .before .before .length-of .ensures .is) (c .before .before .before .if1 .left) in omega arith
 
 copy-bytes-requires : tie.Need-copy-bytes-requires
 copy-bytes-requires c κs = tail-movable (c .before .before .before .before .before .before .before .pre) (c .before .before .before .before .length-of .ensures .is) (c .before .before .before .if1 .left) (c .before .length-of2 .ensures .is)
 
 sub-put-head : tie.Need-sub-put-head
-sub-put-head c = let y = first (c .before .before .before .before .before .before .before .before .before .before .before .pre) (c .before .before .before .before .before .before .before .before .length-of .ensures .is) (c .before .before .before .before .before .before .before .if1 .left) in omega arith
+sub-put-head c = let y = first-item (c .before .before .before .before .before .before .before .before .before .before .before .pre) (c .before .before .before .before .before .before .before .before .length-of .ensures .is) (c .before .before .before .before .before .before .before .if1 .left) in omega arith
 
 put-head-requires : tie.Need-put-head-requires
 put-head-requires c κs = search needs

@@ -6,7 +6,7 @@ use lib.IntN.{ℤ, pos, natAbs, _+ℤ_, _-ℤ_}
 use lib.Signed.{ltZ, nonNeg}
 use mir.Syntax.{w64}
 use mir.Val.{Fits}
-use Rattle.set_operators.proofs.Ranges.{wide-fits, apart-fits, sum-fits, total-is, total-fits, counted-below, Counted, counted-other}
+use Rattle.set_operators.proofs.Ranges.{widened-fits, apart-fits, sum-fits, total-is, total-fits, counted-below, Counted, counted-other}
 use Rattle.set_operators.proofs.how_many.Statement.{statement}
 use Rattle.set_operators.proofs.how_many.Tie as tie
 
@@ -14,10 +14,10 @@ found : (c : tie.Else1) → Counted (c .before .args .to -ℤ c .before .args .f
 found c = counted-other _ (total-fits (c .before .fits .from) (c .before .fits .to)) (subst (λ (z : ℤ). ltZ z (pos 0) ≡ false) (total-is (c .before .fits .from) (c .before .fits .to)) (c .if1 .left))
 
 cast-n : tie.Need-cast-n
-cast-n c = wide-fits (c .fits .to)
+cast-n c = widened-fits (c .fits .to)
 
 cast-n-2 : tie.Need-cast-n-2
-cast-n-2 c = wide-fits (c .fits .from)
+cast-n-2 c = widened-fits (c .fits .from)
 
 sub-n : tie.Need-sub-n
 sub-n c = apart-fits (c .fits .from) (c .fits .to)
