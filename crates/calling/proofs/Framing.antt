@@ -34,17 +34,11 @@ put-kept p = record { long = p .outside .long; below = p .outside .below }
 -- ---- what stands below the base
 
 -- a value stays where its limit ends at or below the base, or its record does
-pub at-kept : {s t : List ℕ} {base at : ℕ} {v : Value} → Kept s t base → base ≤ length s → at + mostBytes ≤ base → At s at v → At t at v
+pub at-kept : {s t : List ℕ} {base at : ℕ} {v : Value} → Kept s t base → base ≤ length s → at + valueLimit ≤ base → At s at v → At t at v
 at-kept {base = base} k l h a = kept {base = base} (k .below) (omega (arith, k .long)) (omega (arith, a .fine .short)) a
 
-<<<<<<< HEAD
--- where a value's limit ends at or below the base
-pub at-low : {s t : List ℕ} {base at : ℕ} {v : Value} → Kept s t base → base ≤ length s → at + valueLimit ≤ base → At s at v → At t at v
-at-low k l h a = at-kept k l (omega (arith, a .fine .short)) a
-=======
 pub record-kept : {s t : List ℕ} {base at : ℕ} {v : Value} → Kept s t base → base ≤ length s → at + size v ≤ base → At s at v → At t at v
 record-kept {base = base} k l h a = kept {base = base} (k .below) (omega (arith, k .long)) h a
->>>>>>> abc89bfd6783cac8bf8eda8032e9ff0586ee1b00
 
 pub held-kept : {s t : List ℕ} {base at : ℕ} → Kept s t base → base ≤ length s → at + word s at ≤ base → Holds s at → Holds t at
 held-kept k l h a = let w = word-size (a .here) in holds (record-kept k l (omega arith) (a .here))

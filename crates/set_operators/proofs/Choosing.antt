@@ -55,11 +55,7 @@ passed-over s at x e = record { frame = outside-none s at (at + valueLimit); rig
 sets-still : {s t : List ℕ} {a b at : ℕ} → Outside s t at (at + valueLimit) → b ≤ at → HoldsSets s a b → HoldsSets t a b
 sets-still o h x = record { items = x .items; here = items-below o h (x .here); sets = x .sets }
 
-<<<<<<< HEAD
-pub choice-still : {s t : List ℕ} {x a b at : ℕ} → Outside s t at (at + valueLimit) → Choice s x a b at → Choice t x a b at
-=======
-choice-still : {s t : List ℕ} {x a b at : ℕ} → Outside s t at (at + mostBytes) → Choice s x a b at → Choice t x a b at
->>>>>>> abc89bfd6783cac8bf8eda8032e9ff0586ee1b00
+choice-still : {s t : List ℕ} {x a b at : ℕ} → Outside s t at (at + valueLimit) → Choice s x a b at → Choice t x a b at
 choice-still {s} {t} {x} {a} {b} {at} o r =
     let n = word-size (r .held .here) in
     let h = holds (r .held .here) in
@@ -116,13 +112,8 @@ module _ {s t : List ℕ} {x a b at : ℕ} {wanted : Bool} {p : ℕ} (w : Choosi
   one : Picked s t (x + word s x) at p (wantedIn wanted (w .choice .others .items)) (w .choice .held .items)
   one = w .state (w .choice .held .items) (w .choice .others .items) (w .choice .held .here) (w .choice .others .here)
 
-<<<<<<< HEAD
   pub choose-next : {u : List ℕ} → p < x + word s x → Outside s u at (at + valueLimit) → Next s u (x + word s x) at p
-  choose-next lt o = next-item {from = p} o (inl (w .choice .below)) (omega arith) (first-left lt (one .left))
-=======
-  pub choose-next : {u : List ℕ} → p < x + word s x → Outside s u at (at + mostBytes) → Next s u (x + word s x) at p
   choose-next lt o = next-item {from = p} o (inl (w .choice .below)) (omega arith) (items-first lt (one .left))
->>>>>>> abc89bfd6783cac8bf8eda8032e9ff0586ee1b00
 
   pub choose-test : p < x + word s x → Holds t p × HoldsSets t a b
   choose-test lt = (choose-next lt (w .frame) .item, sets-still (w .frame) (w .choice .under) (w .choice .others))

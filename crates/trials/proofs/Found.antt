@@ -95,11 +95,7 @@ module _ (s : List ℕ) (bytes : (i : ℕ) → Fits w8 (getD s i 0)) where
             ∙ ap (λ (i : ℕ). heading 8 2 ++ four i) (sym (ofZ-toZ w32 x f));
       })
 
-<<<<<<< HEAD
-  pub found-collection : (at n : ℕ) (k : Kind) (vs : Items) → n ≡ word s at → word s (at + 2) ≡ number k → n ≤ valueLimit → Shaped k vs → ItemsAt s (at + 4) (at + n) vs → Holds s at
-=======
-  found-collection : (at n : ℕ) (k : Kind) (vs : Items) → n ≡ word s at → word s (at + 2) ≡ number k → n ≤ mostBytes → Shaped k vs → ItemsAt s (at + 4) (at + n) vs → Holds s at
->>>>>>> abc89bfd6783cac8bf8eda8032e9ff0586ee1b00
+  found-collection : (at n : ℕ) (k : Kind) (vs : Items) → n ≡ word s at → word s (at + 2) ≡ number k → n ≤ valueLimit → Shaped k vs → ItemsAt s (at + 4) (at + n) vs → Holds s at
   found-collection at n k vs en ek short shaped h =
       let f = h .ends in
       let g = h .fits in
