@@ -10,7 +10,7 @@ use lib.ListN.{length}
 use lib.Seq.{sets}
 use Rattle.prelude.proofs.Absurd.{impossible}
 use Rattle.integers.specs.Bytes.{word}
-use Rattle.values.specs.Value.{Kind, set, sequence, number, Value, collection, Items, none, more, size, sizes, Shaped, mostBytes}
+use Rattle.values.specs.Value.{Kind, set, sequence, number, Value, collection, Items, none, more, size, sizes, Shaped, valueLimit}
 use Rattle.values.specs.Items.{isMember, join, snoc, insert}
 use Rattle.values.specs.Place.{At, ItemsAt}
 use Rattle.values.proofs.Encoding.{size-low, snoc-sizes, collection-size}
@@ -31,11 +31,11 @@ use Rattle.collections.specs.Steps.{Gap, Fills, Slot, AddsAt}
 
 -- ---- answers
 
-added-put : (n : ℕ) → n ≤ mostBytes → Put ≡ added n
-added-put n h = rw (le-leb n mostBytes h)
+added-put : (n : ℕ) → n ≤ valueLimit → Put ≡ added n
+added-put n h = rw (le-leb n valueLimit h)
 
-added-long : (n : ℕ) → mostBytes < n → TooLong ≡ added n
-added-long n h = rw (lt-leb n mostBytes h)
+added-long : (n : ℕ) → valueLimit < n → TooLong ≡ added n
+added-long n h = rw (lt-leb n valueLimit h)
 
 -- two wholes of one size have one answer
 pub answered : {r : Added} (m n : ℕ) → r ≡ added m → m ≡ n → r ≡ added n
@@ -50,10 +50,10 @@ not-long e = impossible cc
 -- ---- a heading before items
 
 module _ {s t : List ℕ} {at n kind : ℕ} (h : PutHead s t at n kind) where
-  headed-run : {to : ℕ} (k : Kind) (vs : Items) → kind ≡ number k → at + n ≡ to → n ≤ mostBytes → Shaped k vs → ItemsAt s (at + 4) to vs → At t at (collection k vs)
+  headed-run : {to : ℕ} (k : Kind) (vs : Items) → kind ≡ number k → at + n ≡ to → n ≤ valueLimit → Shaped k vs → ItemsAt s (at + 4) to vs → At t at (collection k vs)
   headed-run k vs e end short shaped x = headed-collection n (h .bytes ∙ ap (λ (j : ℕ). sets s at (heading n j)) e) end short shaped x
 
-  pub headed-both : {p to : ℕ} (k : Kind) (us vs : Items) → kind ≡ number k → at + n ≡ to → n ≤ mostBytes → Shaped k (join us vs)
+  pub headed-both : {p to : ℕ} (k : Kind) (us vs : Items) → kind ≡ number k → at + n ≡ to → n ≤ valueLimit → Shaped k (join us vs)
       → ItemsAt s (at + 4) p us → ItemsAt s p to vs → At t at (collection k (join us vs))
   headed-both k us vs e end short shaped x y =
       let f = x .ends in
@@ -75,15 +75,15 @@ retagged e h = record {
 -- ---- one item more
 
 module _ {s : List ℕ} {at p x : ℕ} (slot : Slot s at p x) {n m : ℕ} (en : n ≡ word s at) (em : m ≡ word s x) where
-  pub add-full : {kind : ℕ} → mostBytes < n + m → AddsAt s s at p x kind TooLong
+  pub add-full : {kind : ℕ} → valueLimit < n + m → AddsAt s s at p x kind TooLong
   add-full h = record {
-    frame = outside-none s at (at + mostBytes);
+    frame = outside-none s at (at + valueLimit);
     refused = λ e. refl;
     answers = added-long (word s at + word s x) (omega arith);
     made = λ k us ws v e. not-put e;
   }
 
-  pub add-gap : n + m ≤ mostBytes → Gap s p (at + n) x
+  pub add-gap : n + m ≤ valueLimit → Gap s p (at + n) x
   add-gap h =
       let r = slot .room in
       let low = slot .low in
@@ -94,14 +94,14 @@ module _ {s : List ℕ} {at p x : ℕ} (slot : Slot s at p x) {n m : ℕ} (en : 
       go (inl b) = let low = slot .low in inl (omega arith)
       go (inr b) = inr (omega arith)
 
-  pub add-done : n + m ≤ mostBytes → {t u : List ℕ} {kind : ℕ} → Fills s t p (at + n) x → PutHead t u at (n + m) kind → AddsAt s u at p x kind Put
+  pub add-done : n + m ≤ valueLimit → {t u : List ℕ} {kind : ℕ} → Fills s t p (at + n) x → PutHead t u at (n + m) kind → AddsAt s u at p x kind Put
   add-done h {t} {u} f q =
       let r = slot .room in
       let low = slot .low in
       let high = slot .high in
       let size-x = slot .item .low in
       record {
-        frame = outside-then at (at + mostBytes) (omega arith) (omega arith) (omega arith) (omega arith) (f .frame) (q .outside);
+        frame = outside-then at (at + valueLimit) (omega arith) (omega arith) (omega arith) (omega arith) (f .frame) (q .outside);
         refused = λ e. not-long e;
         answers = added-put (word s at + word s x) (omega arith);
         made = λ k us ws v e d a b g shaped.
@@ -166,7 +166,7 @@ part-at {s} {at} {vs} {v} h (belongs q us ws e f g i) =
 module _ {s : List ℕ} {at x : ℕ} {sought : Sought} (f : Seeks s at x false sought) where
   pub inserted-here : (q : ℕ) → sought ≡ Here q → Inserts s s at x Put
   inserted-here q e = record {
-    frame = outside-none s at (at + mostBytes);
+    frame = outside-none s at (at + valueLimit);
     refused = λ d. refl;
     right = λ vs v h g.
         let i = insert-present v vs (collection-shaped (h .fine)) (sym (contained f q e vs v h g)) in

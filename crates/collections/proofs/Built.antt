@@ -8,7 +8,7 @@ use native.Mathlib.Omega.{arith}
 use borrow.Author.Tests.{leb-true, leb-false}
 use lib.Dec.{leb}
 use lib.ListN.{length}
-use Rattle.values.specs.Value.{Kind, Value, collection, Items, mostBytes}
+use Rattle.values.specs.Value.{Kind, Value, collection, Items, valueLimit}
 use Rattle.values.specs.Place.{At, Holds, Outside}
 use Rattle.values.proofs.Records.{word-size, holds}
 use Rattle.values.proofs.Frame.{at-below, at-above, word-below}
@@ -26,15 +26,15 @@ long-over : (b : Bool) → TooLong ≡ cond b Put TooLong → b ≡ false
 long-over true e = cc
 long-over false e = refl
 
-pub fits : {n : ℕ} {r : Added} → r ≡ added n → r ≡ Put → n ≤ mostBytes
-fits {n} e d = leb-true n mostBytes (put-fits (leb n mostBytes) (sym d ∙ e))
+pub fits : {n : ℕ} {r : Added} → r ≡ added n → r ≡ Put → n ≤ valueLimit
+fits {n} e d = leb-true n valueLimit (put-fits (leb n valueLimit) (sym d ∙ e))
 
-pub over : {n : ℕ} {r : Added} → r ≡ added n → r ≡ TooLong → mostBytes < n
-over {n} e d = leb-false n mostBytes (long-over (leb n mostBytes) (sym d ∙ e))
+pub over : {n : ℕ} {r : Added} → r ≡ added n → r ≡ TooLong → valueLimit < n
+over {n} e d = leb-false n valueLimit (long-over (leb n valueLimit) (sym d ∙ e))
 
 -- ---- what stands elsewhere stays
 
-module _ {s t : List ℕ} {at x : ℕ} (o : Outside s t at (at + mostBytes)) (a : Apart s at x) where
+module _ {s t : List ℕ} {at x : ℕ} (o : Outside s t at (at + valueLimit)) (a : Apart s at x) where
   pub at-apart : {v : Value} → At s x v → At t x v
   at-apart {v} h = go a
     where
@@ -53,5 +53,5 @@ module _ {s t : List ℕ} {at x : ℕ} (o : Outside s t at (at + mostBytes)) (a 
       go (inr b) = inr b
 
   -- the room for the next item, once the collection has been built so far
-  pub room-still : {k : Kind} {vs : Items} → at + mostBytes ≤ length s → Holds s x → At t at (collection k vs) → Room k t at x
+  pub room-still : {k : Kind} {vs : Items} → at + valueLimit ≤ length s → Holds s x → At t at (collection k vs) → Room k t at x
   room-still {vs = vs} r h c = let l = o .long in record { held = record { items = vs; here = c }; room = omega arith; item = holds-apart h; apart = apart-still h }

@@ -10,7 +10,7 @@ use borrow.Author.Tests.{le-leb, lt-leb}
 use lib.Dec.{leb}
 use Rattle.prelude.proofs.Absurd.{impossible}
 use Rattle.integers.specs.Bytes.{word}
-use Rattle.values.specs.Value.{map, Value, collection, Items, more, size, sizes, Shaped, mostBytes}
+use Rattle.values.specs.Value.{map, Value, collection, Items, more, size, sizes, Shaped, valueLimit}
 use Rattle.values.specs.Items.{join, same, lookup, enter}
 use Rattle.values.specs.Place.{At, ItemsAt}
 use Rattle.values.proofs.Order.{same-true}
@@ -32,11 +32,11 @@ use Rattle.collections.proofs.Additions.{headed-both, parts-at, slot-in
 
 -- ---- answers
 
-opened-done : (n : ℕ) → n ≤ mostBytes → Done ≡ opened n
-opened-done n h = rw (le-leb n mostBytes h)
+opened-done : (n : ℕ) → n ≤ valueLimit → Done ≡ opened n
+opened-done n h = rw (le-leb n valueLimit h)
 
-opened-full : (n : ℕ) → mostBytes < n → Full ≡ opened n
-opened-full n h = rw (lt-leb n mostBytes h)
+opened-full : (n : ℕ) → valueLimit < n → Full ≡ opened n
+opened-full n h = rw (lt-leb n valueLimit h)
 
 full-done : {X : Type 0} → Full ≡ Done → X
 full-done e = impossible cc
@@ -54,15 +54,15 @@ opened-clash false e = impossible cc
 -- ---- one entry more
 
 module _ {s : List ℕ} {at p x y : ℕ} (key : Slot s at p x) (val : Slot s at p y) {n m l : ℕ} (en : n ≡ word s at) (em : m ≡ word s x) (el : l ≡ word s y) where
-  pub entry-full : mostBytes < n + m + l → EntersAt s s at p x y Full
+  pub entry-full : valueLimit < n + m + l → EntersAt s s at p x y Full
   entry-full h = record {
-    frame = outside-none s at (at + mostBytes);
+    frame = outside-none s at (at + valueLimit);
     refused = λ e. refl;
     answers = opened-full (word s at + word s x + word s y) (omega arith);
     made = λ us ws k v e. full-done e;
   }
 
-  module _ (h : n + m + l ≤ mostBytes) where
+  module _ (h : n + m + l ≤ valueLimit) where
     pub value-gap : Gap s p (at + n) y
     value-gap = add-gap val en el (omega arith)
 
@@ -97,9 +97,9 @@ module _ {s : List ℕ} {at p x y : ℕ} (key : Slot s at p x) (val : Slot s at 
           let size-x = key .item .low in
           let kept = word-size (key-kept (key .item .value) (key .item .here)) in
           let was = word-size (key .item .here) in
-          let first = outside-then at (at + mostBytes) (omega arith) (omega arith) (omega arith) (omega arith) (f .frame) (g .frame) in
+          let first = outside-then at (at + valueLimit) (omega arith) (omega arith) (omega arith) (omega arith) (f .frame) (g .frame) in
           record {
-            frame = outside-then at (at + mostBytes) (omega arith) (omega arith) (omega arith) (omega arith) first (q .outside);
+            frame = outside-then at (at + valueLimit) (omega arith) (omega arith) (omega arith) (omega arith) first (q .outside);
             refused = λ e. done-full e;
             answers = opened-done (word s at + word s x + word s y) (omega arith);
             made = λ us ws k v e a b i j shaped.
@@ -143,7 +143,7 @@ module _ {s : List ℕ} {at x : ℕ} {sought : Sought} (f : Seeks s at x true so
 
     pub entered-same : b ≡ true → Enters s s at x y Done
     entered-same t = record {
-      frame = outside-none s at (at + mostBytes);
+      frame = outside-none s at (at + valueLimit);
       clash = λ u. refl;
       full = λ u. refl;
       right = λ vs k v h g i.
@@ -160,7 +160,7 @@ module _ {s : List ℕ} {at x : ℕ} {sought : Sought} (f : Seeks s at x true so
 
     pub entered-clash : b ≡ false → Enters s s at x y Clash
     entered-clash t = record {
-      frame = outside-none s at (at + mostBytes);
+      frame = outside-none s at (at + valueLimit);
       clash = λ u. refl;
       full = λ u. refl;
       right = λ vs k v h g i.
@@ -186,7 +186,7 @@ module _ {s : List ℕ} {at x : ℕ} {sought : Sought} (f : Seeks s at x true so
     pub entered-before : {y : ℕ} {t : List ℕ} {r : Entered} → EntersAt s t at q x y r → Enters s t at x y r
     entered-before {y} {t} {r} a = record {
       frame = a .frame;
-      clash = λ d. opened-clash (leb (word s at + word s x + word s y) mostBytes) (sym (a .answers) ∙ d);
+      clash = λ d. opened-clash (leb (word s at + word s x + word s y) valueLimit) (sym (a .answers) ∙ d);
       full = a .refused;
       right = λ vs k v h g i.
           let z = parting h g in

@@ -8,7 +8,7 @@ use lib.Dec.{leb}
 use lib.ListN.{length}
 use mathlib.Core.Bool.{cond}
 use Rattle.integers.specs.Bytes.{word}
-use Rattle.values.specs.Value.{Kind, set, sequence, map, number, Value, collection, Items, none, size, Shaped, mostBytes}
+use Rattle.values.specs.Value.{Kind, set, sequence, map, number, Value, collection, Items, none, size, Shaped, valueLimit}
 use Rattle.values.specs.Items.{same, snoc, insert, lookup, enter}
 use Rattle.values.specs.Place.{At, Holds, Outside}
 use Rattle.collections.specs.declared.building.Added.{Added}
@@ -31,10 +31,10 @@ enteredNumber Full = 28
 
 -- A whole of n bytes is refused exactly where it is over the limit.
 abbrev pub added : ℕ → Added
-added n = cond (leb n mostBytes) Put TooLong
+added n = cond (leb n valueLimit) Put TooLong
 
 abbrev pub opened : ℕ → Entered
-opened n = cond (leb n mostBytes) Done Full
+opened n = cond (leb n valueLimit) Done Full
 
 -- By what stands at the key: nothing, or the same value or another.
 abbrev pub entryAnswer : Option Value → Value → ℕ → Entered
@@ -45,12 +45,12 @@ entryAnswer (some w) v n = cond (same w v) Done Clash
 
 -- The record at x lies outside the 512 bytes at a place.
 abbrev pub Apart : List ℕ → ℕ → ℕ → Type 0
-Apart s at x = (x + word s x ≤ at) ⊎ (at + mostBytes ≤ x)
+Apart s at x = (x + word s x ≤ at) ⊎ (at + valueLimit ≤ x)
 
 -- A collection of a kind is being built at a place, and an item for it stands at x.
 pub record Room (k : Kind) (s : List ℕ) (at x : ℕ) : Type 0 where
   pub held : HoldsKind k s at
-  pub room : at + mostBytes ≤ length s
+  pub room : at + valueLimit ≤ length s
   pub item : Holds s x
   pub apart : Apart s at x
 
@@ -69,7 +69,7 @@ pub record Builds (k : Kind) (s t : List ℕ) (at : ℕ) (vs ws : Items) (r : Ad
 
 -- The item at x was added to the collection at a place.
 pub record Adds (k : Kind) (add : Items → Value → Items) (s t : List ℕ) (at x : ℕ) (r : Added) : Type 0 where
-  pub frame : Outside s t at (at + mostBytes)
+  pub frame : Outside s t at (at + valueLimit)
   pub refused : r ≡ TooLong → t ≡ s
   pub right : (vs : Items) (v : Value) → At s at (collection k vs) → At s x v → Builds k s t at vs (add vs v) r
 
@@ -89,7 +89,7 @@ pub record Maps (s t : List ℕ) (at : ℕ) (vs : Items) (k v : Value) (r : Ente
 
 -- The entry of the key at x and the value at y was put in order into the map at a place.
 pub record Enters (s t : List ℕ) (at x y : ℕ) (r : Entered) : Type 0 where
-  pub frame : Outside s t at (at + mostBytes)
+  pub frame : Outside s t at (at + valueLimit)
   pub clash : r ≡ Clash → t ≡ s
   pub full : r ≡ Full → t ≡ s
   pub right : (vs : Items) (k v : Value) → At s at (collection map vs) → At s x k → At s y v → Maps s t at vs k v r

@@ -9,14 +9,14 @@ use lib.Dec.{leb}
 use mathlib.Mathlib.Data.Bool.Basic.{and-intro}
 use Rattle.prelude.proofs.Absurd.{impossible}
 use Rattle.prelude.proofs.Truth.{cond-true, cond-false, by-test}
-use Rattle.values.specs.Value.{Kind, set, sequence, map, tuple, Value, collection, Items, none, more, count, everyOther, size, sizes, mostBytes, Ascending, PairedFrom, Paired, Shaped, Sound, SoundItems}
+use Rattle.values.specs.Value.{Kind, set, sequence, map, tuple, Value, collection, Items, none, more, count, everyOther, size, sizes, valueLimit, Ascending, PairedFrom, Paired, Shaped, Sound, SoundItems}
 use Rattle.values.specs.Items.{same, join, snoc, insert, lookup, enter}
 use Rattle.values.proofs.Order.{same-true, true-same}
 use Rattle.values.proofs.Encoding.{join-sizes, join-sound, snoc-sizes}
 use Rattle.values.proofs.Members.{ascending-insert, sound-insert}
 use Rattle.values.proofs.Joined.{join-none, join-join}
 use Rattle.values.proofs.Entries.{by-entries, paired-enter, ascending-enter, sound-enter, lookup-enter}
-use Rattle.operators.specs.Answer.{is, Built, built, stopped, fitting, closed, sized, Fine}
+use Rattle.operators.specs.Answer.{is, Built, built, stopped, fitting, closed, sized, FineAnswer}
 use Rattle.operators.specs.Gather.{insertAll, everyEntry}
 use Rattle.operators.specs.Enumerations.{addMember, addItem, entered, addEntry, buildOn, addMembers, addItems, addEntries, setOf, sequenceOf, mapOf, tupleOf}
 use Rattle.operator_laws.proofs.Gather.{same-refl, sizes-grow-all, ascending-insertAll, sound-insertAll}
@@ -25,18 +25,18 @@ use Rattle.operator_laws.proofs.Results.{Good, wellFormed, sized-fine}
 
 -- ---- what fits
 
-pub fits : (vs : Items) → 4 + sizes vs ≤ mostBytes → fitting vs ≡ built vs
-fits vs h = rw (le-leb (4 + sizes vs) mostBytes h)
+pub fits : (vs : Items) → 4 + sizes vs ≤ valueLimit → fitting vs ≡ built vs
+fits vs h = rw (le-leb (4 + sizes vs) valueLimit h)
 
-pub fits-not : (vs : Items) → mostBytes < 4 + sizes vs → fitting vs ≡ stopped 28
-fits-not vs h = rw (lt-leb (4 + sizes vs) mostBytes h)
+pub fits-not : (vs : Items) → valueLimit < 4 + sizes vs → fitting vs ≡ stopped 28
+fits-not vs h = rw (lt-leb (4 + sizes vs) valueLimit h)
 
 -- A proof by whether it fits.
-pub by-fitting : {P : Type 0} (vs : Items) → (4 + sizes vs ≤ mostBytes → fitting vs ≡ built vs → P) → (mostBytes < 4 + sizes vs → fitting vs ≡ stopped 28 → P) → P
+pub by-fitting : {P : Type 0} (vs : Items) → (4 + sizes vs ≤ valueLimit → fitting vs ≡ built vs → P) → (valueLimit < 4 + sizes vs → fitting vs ≡ stopped 28 → P) → P
 by-fitting vs f g =
-    by-test (leb (4 + sizes vs) mostBytes)
-    (λ e. let h : 4 + sizes vs ≤ mostBytes = leb-true (4 + sizes vs) mostBytes e in f h (fits vs h))
-    (λ e. let h : mostBytes < 4 + sizes vs = leb-false (4 + sizes vs) mostBytes e in g h (fits-not vs h))
+    by-test (leb (4 + sizes vs) valueLimit)
+    (λ e. let h : 4 + sizes vs ≤ valueLimit = leb-true (4 + sizes vs) valueLimit e in f h (fits vs h))
+    (λ e. let h : valueLimit < 4 + sizes vs = leb-false (4 + sizes vs) valueLimit e in g h (fits-not vs h))
 
 -- What was built is one thing alone.
 built-one : {vs ws : Items} → built vs ≡ built ws → vs ≡ ws
@@ -48,7 +48,7 @@ never-built e = impossible cc
 -- ---- sets, sequences, tuples: 28 comes exactly when what is finished is over 512 bytes
 
 -- Members added one by one are the members added, if they fit.
-addMembers-is : (vs ws : Items) → 4 + sizes vs ≤ mostBytes → addMembers vs ws ≡ fitting (insertAll vs ws)
+addMembers-is : (vs ws : Items) → 4 + sizes vs ≤ valueLimit → addMembers vs ws ≡ fitting (insertAll vs ws)
 unfolding addMembers insertAll
 addMembers-is vs none h = sym (fits vs h)
 addMembers-is vs (more w ws) h =
@@ -56,7 +56,7 @@ addMembers-is vs (more w ws) h =
     (λ g e. ap (λ (b : Built). buildOn b (λ us. addMembers us ws)) e ∙ sym (fits-not (insertAll (insert w vs) ws) (omega (arith, sizes-grow-all (insert w vs) ws))))
 
 -- Items added one by one are the items joined, if they fit.
-addItems-is : (vs ws : Items) → 4 + sizes vs ≤ mostBytes → addItems vs ws ≡ fitting (join vs ws)
+addItems-is : (vs ws : Items) → 4 + sizes vs ≤ valueLimit → addItems vs ws ≡ fitting (join vs ws)
 unfolding addItems join size
 addItems-is vs none h = sym (fits vs h) ∙ ap fitting (sym (join-none vs))
 addItems-is vs (more w ws) h =
@@ -66,7 +66,7 @@ addItems-is vs (more w ws) h =
     ap (λ (b : Built). buildOn b (λ us. addItems us ws)) e
     ∙ sym (fits-not (join vs (more w ws)) (omega (arith, snoc-sizes vs w, join-sizes vs (more w ws)))))
 
-nothing-fits : 4 + sizes none ≤ mostBytes
+nothing-fits : 4 + sizes none ≤ valueLimit
 unfolding size
 nothing-fits = omega arith
 
@@ -238,7 +238,7 @@ abbrev pub FineBuilt : Kind → Built → Type 0
 FineBuilt k (built vs) = Good k vs
 FineBuilt k (stopped n) = (20 ≤ n) × (n ≤ 28)
 
-closed-fine : (k : Kind) (b : Built) → FineBuilt k b → Fine (closed k b)
+closed-fine : (k : Kind) (b : Built) → FineBuilt k b → FineAnswer (closed k b)
 closed-fine k (built vs) g = wellFormed g
 closed-fine k (stopped n) g = g
 
@@ -284,15 +284,15 @@ addEntries-fine vs ws q g s =
     go ws (stopped n) h f = h
 
 -- THEOREMS: enumerations of sound values
-pub setOf-fine : (vs : Items) → SoundItems vs → Fine (setOf vs)
+pub setOf-fine : (vs : Items) → SoundItems vs → FineAnswer (setOf vs)
 unfolding Ascending Sound
 setOf-fine vs s = rw (setOf-is vs) (sized-fine set (insertAll none vs) (ascending-insertAll none vs tt) (sound-insertAll none vs tt s))
 
-pub sequenceOf-fine : (vs : Items) → SoundItems vs → Fine (sequenceOf vs)
+pub sequenceOf-fine : (vs : Items) → SoundItems vs → FineAnswer (sequenceOf vs)
 sequenceOf-fine vs s = rw (sequenceOf-is vs) (sized-fine sequence vs tt s)
 
-pub tupleOf-fine : (vs : Items) → 2 ≤ count vs → count vs ≤ 4 → SoundItems vs → Fine (tupleOf vs)
+pub tupleOf-fine : (vs : Items) → 2 ≤ count vs → count vs ≤ 4 → SoundItems vs → FineAnswer (tupleOf vs)
 tupleOf-fine vs l h s = rw (tupleOf-is vs) (sized-fine tuple vs (l, h) s)
 
-pub mapOf-fine : (vs : Items) → Paired vs → SoundItems vs → Fine (mapOf vs)
+pub mapOf-fine : (vs : Items) → Paired vs → SoundItems vs → FineAnswer (mapOf vs)
 mapOf-fine vs p s = closed-fine map (addEntries none vs) (addEntries-fine none vs p no-entries s)

@@ -7,7 +7,7 @@ use native.Mathlib.Omega.{arith}
 use mathlib.Mathlib.Data.Bool.Basic.{and-intro}
 use Rattle.prelude.proofs.Absurd.{never, impossible}
 use Rattle.prelude.proofs.Truth.{cond-true, cond-false, by-test}
-use Rattle.values.specs.Value.{Value, Items, none, more, everyOther, keys, mapped, sizes, mostBytes, Before, Ascending, Paired}
+use Rattle.values.specs.Value.{Value, Items, none, more, everyOther, keys, mapped, sizes, valueLimit, Before, Ascending, Paired}
 use Rattle.values.specs.Items.{same, isMember, lookup, enter}
 use Rattle.values.proofs.Order.{same-true, true-same}
 use Rattle.values.proofs.Members.{member-here}
@@ -147,11 +147,11 @@ merge-grows vs ws p a q b c =
     ws q vs p a b c
 
 -- THEOREM: the entries of a compatible map added one by one are the two maps merged, if that fits
-addEntries-is : (vs ws : Items) → Paired vs → Ascending (keys vs) → Paired ws → Ascending (keys ws) → 4 + sizes vs ≤ mostBytes → compatible vs ws ≡ true → addEntries vs ws ≡ fitting (enterAll vs ws)
+addEntries-is : (vs ws : Items) → Paired vs → Ascending (keys vs) → Paired ws → Ascending (keys ws) → 4 + sizes vs ≤ valueLimit → compatible vs ws ≡ true → addEntries vs ws ≡ fitting (enterAll vs ws)
 unfolding everyOther Ascending enterAll addEntries
 addEntries-is vs ws p a q b l c =
     by-entries
-    (λ (ws : Items). (vs : Items) → Paired vs → Ascending (keys vs) → Ascending (keys ws) → 4 + sizes vs ≤ mostBytes → compatible vs ws ≡ true → addEntries vs ws ≡ fitting (enterAll vs ws))
+    (λ (ws : Items). (vs : Items) → Paired vs → Ascending (keys vs) → Ascending (keys ws) → 4 + sizes vs ≤ valueLimit → compatible vs ws ≡ true → addEntries vs ws ≡ fitting (enterAll vs ws))
     (λ vs p a b l c. sym (fits vs l))
     (λ k v ws q r vs p a b l c.
     by-first vs ws k v c

@@ -14,12 +14,12 @@ use Rattle.prelude.proofs.Truth.{cond-true, cond-false, by-test}
 use Rattle.integers.specs.declared.Number.{Number}
 use Rattle.integers.specs.Whole as Whole
 use Rattle.integers.specs.Whole.{greatestInteger, inRange, InRange, ranged, divided, divℤ, remℤ, modℤ}
-use Rattle.values.specs.Value.{Kind, set, sequence, map, tuple, number, Value, boolean, integer, collection, Items, none, more, count, keys, mapped, size, sizes, mostBytes, Ascending, Paired, Shaped, Sound, SoundItems, WellFormed}
+use Rattle.values.specs.Value.{Kind, set, sequence, map, tuple, number, Value, boolean, integer, collection, Items, none, more, count, keys, mapped, size, sizes, valueLimit, Ascending, Paired, Shaped, Sound, SoundItems, WellFormed}
 use Rattle.values.specs.Items.{same, join, nth, lookup}
 use Rattle.values.proofs.Order.{number-inj}
 use Rattle.values.proofs.Encoding.{count-sizes, join-sound}
 use Rattle.values.proofs.Entries.{by-entries}
-use Rattle.operators.specs.Answer.{Answer, is, refused, wrongKind, clash, asBoolean, asInteger, asKind, needs, needsBoth, found, sized, Fine}
+use Rattle.operators.specs.Answer.{Answer, is, refused, wrongKind, clash, asBoolean, asInteger, asKind, needs, needsBoth, found, sized, FineAnswer}
 use Rattle.operators.specs.Booleans.{truth, negation, biimplication, Connective, and, or, implies, Left, settles, leaves, settledBy, left, right}
 use Rattle.operators.specs.Arithmetic.{answered, onInteger, onIntegers, compared}
 use Rattle.operators.specs.Gather.{everyItem, keepItems, insertAll, itemsIn, isKind, flatten, backwards, upFrom, keepEntries, enterAll}
@@ -37,7 +37,7 @@ use Rattle.operator_laws.proofs.Entries.{sound-everyOther, sizes-everyO
 pub record Good (k : Kind) (vs : Items) : Type 0 where
   pub shaped : Shaped k vs
   pub sound : SoundItems vs
-  pub short : 4 + sizes vs ≤ mostBytes
+  pub short : 4 + sizes vs ≤ valueLimit
 
 pub good : {k : Kind} {vs : Items} → WellFormed (collection k vs) → Good k vs
 unfolding Sound size
@@ -49,34 +49,34 @@ wellFormed g = record { sound = (g .shaped, g .sound); short = g .short }
 
 -- ---- fine answers
 
-truth-fine : (b : Bool) → Fine (truth b)
+truth-fine : (b : Bool) → FineAnswer (truth b)
 unfolding Sound size
 truth-fine b = record { sound = tt; short = omega arith }
 
-integer-fine : (z : ℤ) → InRange z → Fine (is (integer z))
+integer-fine : (z : ℤ) → InRange z → FineAnswer (is (integer z))
 unfolding Sound size
 integer-fine z h = record { sound = h; short = omega arith }
 
 -- The number of items of a well-formed value.
-count-fine : {k : Kind} {vs : Items} → Good k vs → Fine (is (integer (pos (count vs))))
+count-fine : {k : Kind} {vs : Items} → Good k vs → FineAnswer (is (integer (pos (count vs))))
 count-fine {k} {vs} g = let s = g .short in integer-fine (pos (count vs)) (up-le (pos (count vs)) greatestInteger (omega (arith, count-sizes vs)))
 
-pub sized-fine : (k : Kind) (vs : Items) → Shaped k vs → SoundItems vs → Fine (sized k vs)
+pub sized-fine : (k : Kind) (vs : Items) → Shaped k vs → SoundItems vs → FineAnswer (sized k vs)
 sized-fine k vs p s =
-    by-test (leb (4 + sizes vs) mostBytes) (λ e. rw e (wellFormed (record { shaped = p; sound = s; short = leb-true (4 + sizes vs) mostBytes e }))) (λ e. rw e (omega arith))
+    by-test (leb (4 + sizes vs) valueLimit) (λ e. rw e (wellFormed (record { shaped = p; sound = s; short = leb-true (4 + sizes vs) valueLimit e }))) (λ e. rw e (omega arith))
 
-found-fine : (o : Option Value) → ((v : Value) → o ≡ some v → Sound v × (size v ≤ mostBytes)) → Fine (found o)
+found-fine : (o : Option Value) → ((v : Value) → o ≡ some v → Sound v × (size v ≤ valueLimit)) → FineAnswer (found o)
 found-fine absent f = omega arith
 found-fine (some v) f = let h = f v refl in record { sound = h .0; short = h .1 }
 
 -- An answer that is given where a test passes, and else a refusal.
-unless-fine : (b : Bool) (x : Answer) (n : ℕ) → (20 ≤ n) × (n ≤ 28) → (b ≡ true → Fine x) → Fine (cond b x (refused n))
+unless-fine : (b : Bool) (x : Answer) (n : ℕ) → (20 ≤ n) × (n ≤ 28) → (b ≡ true → FineAnswer x) → FineAnswer (cond b x (refused n))
 unless-fine true x n l f = f refl
 unless-fine false x n l f = l
 
 -- ---- kinds
 
-kind-fine : (k : Kind) (f : Items → Answer) → ((vs : Items) → Good k vs → Fine (f vs)) → (v : Value) → WellFormed v → Fine (needs (asKind k v) f)
+kind-fine : (k : Kind) (f : Items → Answer) → ((vs : Items) → Good k vs → FineAnswer (f vs)) → (v : Value) → WellFormed v → FineAnswer (needs (asKind k v) f)
 kind-fine k f h (boolean b) w = omega arith
 kind-fine k f h (integer z) w = omega arith
 kind-fine k f h (collection l vs) w =
@@ -84,69 +84,69 @@ kind-fine k f h (collection l vs) w =
     (λ e. rw e (h vs (subst (λ (j : Kind). Good j vs) (sym (number-inj k l (eqb-true (number k) (number l) e))) (good w))))
     (λ e. rw e (omega arith))
 
-kinds-fine : (k l : Kind) (f : Items → Items → Answer) → ((vs ws : Items) → Good k vs → Good l ws → Fine (f vs ws))
-    → (v w : Value) → WellFormed v → WellFormed w → Fine (needsBoth (asKind k v) (asKind l w) f)
+kinds-fine : (k l : Kind) (f : Items → Items → Answer) → ((vs ws : Items) → Good k vs → Good l ws → FineAnswer (f vs ws))
+    → (v w : Value) → WellFormed v → WellFormed w → FineAnswer (needsBoth (asKind k v) (asKind l w) f)
 kinds-fine k l f h v w p q =
     kind-fine k (λ vs. needs (asKind l w) (λ ws. f vs ws)) (λ vs g. kind-fine l (λ ws. f vs ws) (λ ws g′. h vs ws g g′) w q) v p
 
-boolean-fine : (f : Bool → Answer) → ((b : Bool) → Fine (f b)) → (v : Value) → Fine (needs (asBoolean v) f)
+boolean-fine : (f : Bool → Answer) → ((b : Bool) → FineAnswer (f b)) → (v : Value) → FineAnswer (needs (asBoolean v) f)
 boolean-fine f h (boolean b) = h b
 boolean-fine f h (integer z) = omega arith
 boolean-fine f h (collection k vs) = omega arith
 
-whole-fine : (f : ℤ → Answer) → ((z : ℤ) → InRange z → Fine (f z)) → (v : Value) → WellFormed v → Fine (needs (asInteger v) f)
+whole-fine : (f : ℤ → Answer) → ((z : ℤ) → InRange z → FineAnswer (f z)) → (v : Value) → WellFormed v → FineAnswer (needs (asInteger v) f)
 unfolding Sound
 whole-fine f h (boolean b) w = omega arith
 whole-fine f h (integer z) w = h z (w .sound)
 whole-fine f h (collection k vs) w = omega arith
 
-wholes-fine : (f : ℤ → ℤ → Answer) → ((a b : ℤ) → InRange a → InRange b → Fine (f a b)) → (v w : Value) → WellFormed v → WellFormed w → Fine (needsBoth (asInteger v) (asInteger w) f)
+wholes-fine : (f : ℤ → ℤ → Answer) → ((a b : ℤ) → InRange a → InRange b → FineAnswer (f a b)) → (v w : Value) → WellFormed v → WellFormed w → FineAnswer (needsBoth (asInteger v) (asInteger w) f)
 wholes-fine f h v w p q = whole-fine (λ a. needs (asInteger w) (λ b. f a b)) (λ a r. whole-fine (λ b. f a b) (λ b t. h a b r t) w q) v p
 
 -- ---- booleans and integers
 
-negation-fine : (v : Value) → WellFormed v → Fine (negation v)
+negation-fine : (v : Value) → WellFormed v → FineAnswer (negation v)
 negation-fine v w = boolean-fine (λ b. truth (not b)) (λ b. truth-fine (not b)) v
 
-biimplication-fine : (v w : Value) → WellFormed v → WellFormed w → Fine (biimplication v w)
+biimplication-fine : (v w : Value) → WellFormed v → WellFormed w → FineAnswer (biimplication v w)
 biimplication-fine v w p q = boolean-fine _ (λ a. boolean-fine _ (λ b. truth-fine _) w) v
 
-answer-fine : (z : ℤ) → Fine (answered (ranged z))
+answer-fine : (z : ℤ) → FineAnswer (answered (ranged z))
 unfolding ranged
 answer-fine z = by-test (inRange z) (λ e. rw e (integer-fine z e)) (λ e. rw e (omega arith))
 
-divided-fine : (right z : ℤ) → Fine (answered (divided right z))
+divided-fine : (right z : ℤ) → FineAnswer (answered (divided right z))
 divided-fine (pos zero) z = omega arith
 divided-fine (pos (suc n)) z = answer-fine z
 divided-fine (negsuc n) z = answer-fine z
 
-onInteger-fine : (f : ℤ → Number) → ((a : ℤ) → Fine (answered (f a))) → (v : Value) → WellFormed v → Fine (onInteger f v)
+onInteger-fine : (f : ℤ → Number) → ((a : ℤ) → FineAnswer (answered (f a))) → (v : Value) → WellFormed v → FineAnswer (onInteger f v)
 onInteger-fine f h v w = whole-fine (λ a. answered (f a)) (λ a r. h a) v w
 
-onIntegers-fine : (f : ℤ → ℤ → Number) → ((a b : ℤ) → Fine (answered (f a b))) → (v w : Value) → WellFormed v → WellFormed w → Fine (onIntegers f v w)
+onIntegers-fine : (f : ℤ → ℤ → Number) → ((a b : ℤ) → FineAnswer (answered (f a b))) → (v w : Value) → WellFormed v → WellFormed w → FineAnswer (onIntegers f v w)
 onIntegers-fine f h v w p q = wholes-fine (λ a b. answered (f a b)) (λ a b r t. h a b) v w p q
 
-compared-fine : (f : ℤ → ℤ → Bool) (v w : Value) → WellFormed v → WellFormed w → Fine (compared f v w)
+compared-fine : (f : ℤ → ℤ → Bool) (v w : Value) → WellFormed v → WellFormed w → FineAnswer (compared f v w)
 compared-fine f v w p q = wholes-fine (λ a b. truth (f a b)) (λ a b r t. truth-fine (f a b)) v w p q
 
 -- ---- sets
 
 -- A set of some members of another is no longer.
-keep-fine : (p : Value → Bool) (vs : Items) → Good set vs → Fine (is (collection set (keepItems p vs)))
+keep-fine : (p : Value → Bool) (vs : Items) → Good set vs → FineAnswer (is (collection set (keepItems p vs)))
 keep-fine p vs g =
     let s = g .short in
     wellFormed (record { shaped = ascending-keep p vs (g .shaped); sound = sound-keep p vs (g .sound); short = omega (arith, sizes-keep p vs) })
 
 -- So is a set of some items, whatever their order.
-insertAll-fine : (vs : Items) → SoundItems vs → 4 + sizes vs ≤ mostBytes → Fine (is (collection set (insertAll none vs)))
+insertAll-fine : (vs : Items) → SoundItems vs → 4 + sizes vs ≤ valueLimit → FineAnswer (is (collection set (insertAll none vs)))
 unfolding Ascending Sound size
 insertAll-fine vs s h =
     wellFormed (record { shaped = ascending-insertAll none vs tt; sound = sound-insertAll none vs tt s; short = omega (arith, sizes-insertAll none vs) })
 
-unite-fine : (vs ws : Items) → Good set vs → Good set ws → Fine (sized set (insertAll vs ws))
+unite-fine : (vs ws : Items) → Good set vs → Good set ws → FineAnswer (sized set (insertAll vs ws))
 unite-fine vs ws g h = sized-fine set (insertAll vs ws) (ascending-insertAll vs ws (g .shaped)) (sound-insertAll vs ws (g .sound) (h .sound))
 
-uniteAll-fine : (vs : Items) → Good set vs → Fine (sized set (insertAll none (flatten vs)))
+uniteAll-fine : (vs : Items) → Good set vs → FineAnswer (sized set (insertAll none (flatten vs)))
 unfolding Ascending Sound
 uniteAll-fine vs g = sized-fine set (insertAll none (flatten vs)) (ascending-insertAll none (flatten vs) tt) (sound-insertAll none (flatten vs) tt (sound-flatten vs (g .sound)))
 
@@ -161,39 +161,39 @@ item-fine : {k : Kind} (v : Value) (vs : Items) → Good k (more v vs) → WellF
 unfolding Sound size
 item-fine v vs g = let h = g .short in record { sound = g .sound .0; short = omega arith }
 
-intersectionOf-fine : (vs : Items) → everyItem (isKind set) vs ≡ true → Good set vs → Fine (intersectionOf vs)
+intersectionOf-fine : (vs : Items) → everyItem (isKind set) vs ≡ true → Good set vs → FineAnswer (intersectionOf vs)
 unfolding everyItem
 intersectionOf-fine none e g = omega arith
 intersectionOf-fine (more v vs) e g =
     keep-fine _ (itemsIn v) (first-good v (and-eq-true-iff (isKind set v) (everyItem (isKind set) vs) .0 e .0) (item-fine v vs g))
 
-counting-fine : (z : ℤ) (n : ℕ) → (8 * n + 4 ≤ mostBytes → SoundItems (upFrom z n)) → Fine (counting z n)
+counting-fine : (z : ℤ) (n : ℕ) → (8 * n + 4 ≤ valueLimit → SoundItems (upFrom z n)) → FineAnswer (counting z n)
 counting-fine z n f =
-    by-test (leb (4 + 8 * n) mostBytes)
+    by-test (leb (4 + 8 * n) valueLimit)
     (λ e.
-    let h = leb-true (4 + 8 * n) mostBytes e in
+    let h = leb-true (4 + 8 * n) valueLimit e in
     rw e (wellFormed (record { shaped = ascending-up z n; sound = f (omega arith); short = omega (arith, sizes-up z n) })))
     (λ e. rw e (omega arith))
 
 -- ---- sequences
 
-headOf-fine : (vs : Items) → Good sequence vs → Fine (headOf vs)
+headOf-fine : (vs : Items) → Good sequence vs → FineAnswer (headOf vs)
 headOf-fine none g = omega arith
 headOf-fine (more v vs) g = item-fine v vs g
 
-tailOf-fine : (vs : Items) → Good sequence vs → Fine (tailOf vs)
+tailOf-fine : (vs : Items) → Good sequence vs → FineAnswer (tailOf vs)
 unfolding Sound size
 tailOf-fine none g = omega arith
 tailOf-fine (more v vs) g = let h = g .short in wellFormed (record { shaped = tt; sound = g .sound .1; short = omega arith })
 
-backwards-fine : (vs : Items) → Good sequence vs → Fine (is (collection sequence (backwards vs)))
+backwards-fine : (vs : Items) → Good sequence vs → FineAnswer (is (collection sequence (backwards vs)))
 backwards-fine vs g = let h = g .short in wellFormed (record { shaped = tt; sound = sound-backwards vs (g .sound); short = omega (arith, sizes-backwards vs) })
 
 one-in : InRange (pos 1)
 one-in = refl
 
 -- The indexes of a sequence are in range.
-indexes-fine : (vs : Items) → Good sequence vs → Fine (counting (pos 1) (count vs))
+indexes-fine : (vs : Items) → Good sequence vs → FineAnswer (counting (pos 1) (count vs))
 indexes-fine vs g =
     counting-fine (pos 1) (count vs)
     (λ h. sound-up (pos 1) greatestInteger one-in refl (pos 1) (count vs) (omega arith) (omega arith))
@@ -204,26 +204,26 @@ nth-fine none n s v e = impossible cc
 nth-fine (more w ws) zero s v e = let q : w ≡ v = cc in let d = ap size q in (subst Sound q (s .0), omega arith)
 nth-fine (more w ws) (suc n) s v e = let h = nth-fine ws n (s .1) v e in (h .0, omega (arith, h .1))
 
-itemAt-fine : (vs : Items) (i : ℤ) → Good sequence vs → Fine (found (itemAt vs i))
+itemAt-fine : (vs : Items) (i : ℤ) → Good sequence vs → FineAnswer (found (itemAt vs i))
 itemAt-fine vs (pos zero) g = omega arith
 itemAt-fine vs (pos (suc n)) g = let s = g .short in found-fine (nth vs n) (λ v e. let h = nth-fine vs n (g .sound) v e in (h .0, omega (arith, h .1)))
 itemAt-fine vs (negsuc n) g = omega arith
 
 -- ---- maps
 
-keys-fine : (vs : Items) → Good map vs → Fine (is (collection set (keys vs)))
+keys-fine : (vs : Items) → Good map vs → FineAnswer (is (collection set (keys vs)))
 keys-fine vs g = let s = g .short in wellFormed (record { shaped = g .shaped .1; sound = sound-everyOther true vs (g .sound); short = omega (arith, sizes-everyOther true vs) })
 
-mapped-fine : (vs : Items) → Good map vs → Fine (is (collection set (insertAll none (mapped vs))))
+mapped-fine : (vs : Items) → Good map vs → FineAnswer (is (collection set (insertAll none (mapped vs))))
 mapped-fine vs g = let s = g .short in insertAll-fine (mapped vs) (sound-everyOther false vs (g .sound)) (omega (arith, sizes-everyOther false vs))
 
-enterAll-fine : (vs ws : Items) → Good map vs → Good map ws → Fine (sized map (enterAll vs ws))
+enterAll-fine : (vs ws : Items) → Good map vs → Good map ws → FineAnswer (sized map (enterAll vs ws))
 enterAll-fine vs ws g h =
     let p = g .shaped .0 in
     let q = h .shaped .0 in
     sized-fine map (enterAll vs ws) (paired-enterAll vs ws p q, ascending-enterAll vs ws p q (g .shaped .1)) (sound-enterAll vs ws p q (g .sound) (h .sound))
 
-keepEntries-fine : (p : Value → Value → Bool) (vs : Items) → Good map vs → Fine (is (collection map (keepEntries p vs)))
+keepEntries-fine : (p : Value → Value → Bool) (vs : Items) → Good map vs → FineAnswer (is (collection map (keepEntries p vs)))
 keepEntries-fine p vs g =
     let q = g .shaped .0 in
     let s = g .short in
@@ -241,25 +241,25 @@ lookup-fine k vs p s v e =
 
 -- ---- apply
 
-applyItems-fine : (k : Kind) (vs : Items) (w : Value) → Good k vs → WellFormed w → Fine (applyItems k vs w)
+applyItems-fine : (k : Kind) (vs : Items) (w : Value) → Good k vs → WellFormed w → FineAnswer (applyItems k vs w)
 applyItems-fine set vs w g q = omega arith
 applyItems-fine sequence vs w g q = whole-fine (λ i. found (itemAt vs i)) (λ i r. itemAt-fine vs i g) w q
 applyItems-fine map vs w g q = let s = g .short in found-fine (lookup w vs) (λ v e. let h = lookup-fine w vs (g .shaped .0) (g .sound) v e in (h .0, omega (arith, h .1)))
 applyItems-fine tuple vs w g q = omega arith
 
 -- THEOREM: applying a sequence or a map
-pub apply-fine : (v w : Value) → WellFormed v → WellFormed w → Fine (applyTo v w)
+pub apply-fine : (v w : Value) → WellFormed v → WellFormed w → FineAnswer (applyTo v w)
 apply-fine (boolean b) w p q = omega arith
 apply-fine (integer z) w p q = omega arith
 apply-fine (collection k vs) w p q = applyItems-fine k vs w (good p) q
 
 -- THEOREM: a set range
-pub range-fine : (v w : Value) → WellFormed v → WellFormed w → Fine (rangeOf v w)
+pub range-fine : (v w : Value) → WellFormed v → WellFormed w → FineAnswer (rangeOf v w)
 range-fine v w p q = wholes-fine (λ a b. counting a (howMany a b)) (λ a b r t. counting-fine a (howMany a b) (λ h. sound-range a b r t)) v w p q
 
 -- THEOREM: what the left of and, or and => settles, and what the right gives
 abbrev pub FineLeft : Left → Type 0
-FineLeft (settles a) = Fine a
+FineLeft (settles a) = FineAnswer a
 FineLeft leaves = Unit {0}
 
 settledBy-fine : (c : Connective) (b : Bool) → FineLeft (settledBy c b)
@@ -275,7 +275,7 @@ left-fine c (boolean b) = settledBy-fine c b
 left-fine c (integer z) = omega arith
 left-fine c (collection k vs) = omega arith
 
-pub right-fine : (w : Value) → Fine (right w)
+pub right-fine : (w : Value) → FineAnswer (right w)
 right-fine w = boolean-fine (λ b. truth b) (λ b. truth-fine b) w
 
 -- ---- by number
@@ -284,25 +284,25 @@ right-fine w = boolean-fine (λ b. truth b) (λ b. truth-fine b) w
 infixr 40 _▹_
 data Unaries : List (Value → Answer) → Type 0 where
   end : Unaries []
-  _▹_ : {f : Value → Answer} {fs : List (Value → Answer)} → ((v : Value) → WellFormed v → Fine (f v)) → Unaries fs → Unaries (f ∷ fs)
+  _▹_ : {f : Value → Answer} {fs : List (Value → Answer)} → ((v : Value) → WellFormed v → FineAnswer (f v)) → Unaries fs → Unaries (f ∷ fs)
 
 infixr 40 _▸_
 data Binaries : List (Value → Value → Answer) → Type 0 where
   end₂ : Binaries []
-  _▸_ : {f : Value → Value → Answer} {fs : List (Value → Value → Answer)} → ((v w : Value) → WellFormed v → WellFormed w → Fine (f v w)) → Binaries fs → Binaries (f ∷ fs)
+  _▸_ : {f : Value → Value → Answer} {fs : List (Value → Value → Answer)} → ((v w : Value) → WellFormed v → WellFormed w → FineAnswer (f v w)) → Binaries fs → Binaries (f ∷ fs)
 
-no-unary-fine : (v : Value) → WellFormed v → Fine (noUnary v)
+no-unary-fine : (v : Value) → WellFormed v → FineAnswer (noUnary v)
 no-unary-fine v w = omega arith
 
-no-binary-fine : (v w : Value) → WellFormed v → WellFormed w → Fine (noBinary v w)
+no-binary-fine : (v w : Value) → WellFormed v → WellFormed w → FineAnswer (noBinary v w)
 no-binary-fine v w p q = omega arith
 
-at-fine : {fs : List (Value → Answer)} → Unaries fs → (n : ℕ) (v : Value) → WellFormed v → Fine (getD fs n noUnary v)
+at-fine : {fs : List (Value → Answer)} → Unaries fs → (n : ℕ) (v : Value) → WellFormed v → FineAnswer (getD fs n noUnary v)
 at-fine end n v w = no-unary-fine v w
 at-fine (f ▹ fs) zero v w = f v w
 at-fine (f ▹ fs) (suc n) v w = at-fine fs n v w
 
-at-fine₂ : {fs : List (Value → Value → Answer)} → Binaries fs → (n : ℕ) (v w : Value) → WellFormed v → WellFormed w → Fine (getD fs n noBinary v w)
+at-fine₂ : {fs : List (Value → Value → Answer)} → Binaries fs → (n : ℕ) (v w : Value) → WellFormed v → WellFormed w → FineAnswer (getD fs n noBinary v w)
 at-fine₂ end₂ n v w p q = no-binary-fine v w p q
 at-fine₂ (f ▸ fs) zero v w p q = f v w p q
 at-fine₂ (f ▸ fs) (suc n) v w p q = at-fine₂ fs n v w p q
@@ -355,11 +355,11 @@ all-binaries =
     ▸ end₂
 
 -- THEOREM: a unary operator
-pub unary-fine : (n : ℕ) (v : Value) → WellFormed v → Fine (unary n v)
+pub unary-fine : (n : ℕ) (v : Value) → WellFormed v → FineAnswer (unary n v)
 unfolding unary
 unary-fine n v w = at-fine all-unaries n v w
 
 -- THEOREM: a binary operator, 4 to 28
-pub binary-fine : (n : ℕ) (v w : Value) → WellFormed v → WellFormed w → Fine (binary n v w)
+pub binary-fine : (n : ℕ) (v w : Value) → WellFormed v → WellFormed w → FineAnswer (binary n v w)
 unfolding binary
 binary-fine n v w p q = at-fine₂ all-binaries n v w p q

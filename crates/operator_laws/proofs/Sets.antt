@@ -9,7 +9,7 @@ use lib.IntN.{ℤ}
 use mathlib.Mathlib.Data.Bool.Basic.{and-intro}
 use Rattle.prelude.proofs.Absurd.{never}
 use Rattle.prelude.proofs.Truth.{cond-false, both-ways, by-test}
-use Rattle.values.specs.Value.{set, Value, collection, Items, none, more, count, size, sizes, mostBytes, Ascending}
+use Rattle.values.specs.Value.{set, Value, collection, Items, none, more, count, size, sizes, valueLimit, Ascending}
 use Rattle.values.specs.Items.{same, isMember, insert}
 use Rattle.values.proofs.Order.{same-true}
 use Rattle.values.proofs.Members.{member-here, member-insert, before-apart, insert-present, sizes-insert, count-insert, ascending-insert, same-members}
@@ -143,7 +143,7 @@ unite-counts vs (more w ws) a b =
 
 -- THEOREM: integers that are counted, judged by their number before any is formed, are judged as the finished set is
 counting-is : (z : ℤ) (n : ℕ) → counting z n ≡ sized set (upFrom z n)
-counting-is z n = ap (λ (k : ℕ). cond (leb (4 + k) mostBytes) (is (collection set (upFrom z n))) (refused tooLarge)) (sym (sizes-up z n)) ∙ go (leb (4 + sizes (upFrom z n)) mostBytes)
+counting-is z n = ap (λ (k : ℕ). cond (leb (4 + k) valueLimit) (is (collection set (upFrom z n))) (refused tooLarge)) (sym (sizes-up z n)) ∙ go (leb (4 + sizes (upFrom z n)) valueLimit)
   where
     go : (b : Bool) → cond b (is (collection set (upFrom z n))) (refused tooLarge) ≡ closed set (cond b (built (upFrom z n)) (stopped tooLarge))
     go true = refl

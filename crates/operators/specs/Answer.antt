@@ -4,7 +4,7 @@ use mathlib.Core.Option.{Option, none as absent, some}
 use Prim.Native.Nat.{ℕ, _+_, _≤_}
 use lib.Dec.{leb, eqb}
 use lib.IntN.{ℤ}
-use Rattle.values.specs.Value.{Kind, number, Value, boolean, integer, collection, Items, sizes, mostBytes, WellFormed}
+use Rattle.values.specs.Value.{Kind, number, Value, boolean, integer, collection, Items, sizes, valueLimit, WellFormed}
 
 pub data Answer : Type 0 where
   is : Value → Answer
@@ -76,7 +76,7 @@ pub data Built : Type 0 where
 
 -- 28 as soon as the part built passes 512 bytes.
 abbrev pub fitting : Items → Built
-fitting vs = cond (leb (4 + sizes vs) mostBytes) (built vs) (stopped tooLarge)
+fitting vs = cond (leb (4 + sizes vs) valueLimit) (built vs) (stopped tooLarge)
 
 -- What was built, as a collection.
 abbrev pub closed : Kind → Built → Answer
@@ -88,6 +88,6 @@ abbrev pub sized : Kind → Items → Answer
 sized k vs = closed k (fitting vs)
 
 -- An answer as the code of an operator needs it: a well-formed value, or a refusal from 20 to 28. (All answers are: `operator_laws`, Results.)
-abbrev pub Fine : Answer → Type 0
-Fine (is v) = WellFormed v
-Fine (refused n) = (20 ≤ n) × (n ≤ 28)
+abbrev pub FineAnswer : Answer → Type 0
+FineAnswer (is v) = WellFormed v
+FineAnswer (refused n) = (20 ≤ n) × (n ≤ 28)

@@ -4,7 +4,7 @@ use mathlib.Core.Bool.{Bool, true, false, not, _&&_, cond}
 use Prim.Native.Nat.{ℕ, _+_, _*_}
 use lib.Dec.{leb}
 use lib.IntN.{ℤ, pos, negsuc, _+ℤ_, _-ℤ_}
-use Rattle.values.specs.Value.{set, Value, integer, collection, Items, none, more, count, mostBytes}
+use Rattle.values.specs.Value.{set, Value, integer, collection, Items, none, more, count, valueLimit}
 use Rattle.values.specs.Items.{isMember}
 use Rattle.operators.specs.Answer.{Answer, is, refused, wrongKind, notThere, tooLarge, asSet, asInteger, needs, needsBoth, sized}
 use Rattle.operators.specs.Booleans.{truth}
@@ -95,7 +95,7 @@ howMany from to = counted (to -ℤ from +ℤ pos 1)
 
 -- n integers, which take 8 bytes each, from one up; over 512 bytes, 28. (So n is judged before the members are formed.)
 abbrev pub counting : ℤ → ℕ → Answer
-counting from n = cond (leb (4 + 8 * n) mostBytes) (is (collection set (upFrom from n))) (refused tooLarge)
+counting from n = cond (leb (4 + 8 * n) valueLimit) (is (collection set (upFrom from n))) (refused tooLarge)
 
 abbrev pub rangeOf : Value → Value → Answer
 rangeOf v w = needsBoth (asInteger v) (asInteger w) (λ from to. counting from (howMany from to))

@@ -9,7 +9,7 @@ use native.Mathlib.Omega.{arith}
 use lib.ListN.{length, getD, take, drop, set, length-take, length-drop, List·getD-append}
 use lib.Seq.{paste, paste-zero, paste-suc, length-paste, drop-paste, getD-take, getD-drop, take-at, drop-at, length-take-le}
 use Rattle.values.specs.declared.Value.{Value as Copy}
-use Rattle.values.specs.Value.{size, encode, mostBytes}
+use Rattle.values.specs.Value.{size, encode, valueLimit}
 use Rattle.values.specs.Place.{Holds}
 use Rattle.values.specs.Contract.{Movable, Moved, Copyable, Copied, Length, zeros, ShowsAt}
 use Rattle.values.proofs.Frame.{moved}
@@ -123,7 +123,7 @@ copied {s} {t} {from} {to} {n} c l m =
 
 -- i bytes of a list, from a place on, and then zeros up to the limit
 abbrev shown : List ℕ → ℕ → ℕ → List ℕ
-shown s at i = paste (zeros mostBytes) 0 (drop at s) i
+shown s at i = paste (zeros valueLimit) 0 (drop at s) i
 
 -- after i turns: the record at a place has n bytes, of which i are copied
 pub record Showing (s : List ℕ) (at n : ℕ) (t : List ℕ) (i : ℕ) : Type 0 where
@@ -132,13 +132,13 @@ pub record Showing (s : List ℕ) (at n : ℕ) (t : List ℕ) (i : ℕ) : Type 0
   pub some : i ≤ n
   pub is : t ≡ shown s at i
 
-pub showing-none : {s : List ℕ} {at n : ℕ} → Holds s at → Length s at n → Showing s at n (zeros mostBytes) 0
+pub showing-none : {s : List ℕ} {at n : ℕ} → Holds s at → Length s at n → Showing s at n (zeros valueLimit) 0
 showing-none {s} {at} h l =
-    record { long = l; there = omega (arith, h .whole, l .is); some = omega arith; is = paste-zero (zeros mostBytes) 0 (drop at s) }
+    record { long = l; there = omega (arith, h .whole, l .is); some = omega arith; is = paste-zero (zeros valueLimit) 0 (drop at s) }
 
 pub showing-more : {s t : List ℕ} {at n i : ℕ} → Showing s at n t i → i < n → Showing s at n (set t i (getD s (at + i) 0)) (i + 1)
 showing-more {s} {t} {at} {n} {i} c h =
-    let here : 0 + i < length (zeros mostBytes) = omega (arith, c .long .high) in
+    let here : 0 + i < length (zeros valueLimit) = omega (arith, c .long .high) in
     let there : i < length (drop at s) = simp length-drop (omega (arith, c .there)) in
     record {
       long = c .long;
@@ -147,7 +147,7 @@ showing-more {s} {t} {at} {n} {i} c h =
       is =
           ap (λ (l : List ℕ). set l i (getD s (at + i) 0)) (c .is)
           ∙ ap₂ (set (shown s at i)) (sym (zero-add i)) (sym (getD-drop at s i 0))
-          ∙ paste-suc (zeros mostBytes) 0 (drop at s) i 0 here there
+          ∙ paste-suc (zeros valueLimit) 0 (drop at s) i 0 here there
           ∙ ap (shown s at) (sym (add-one i));
     }
 
@@ -166,5 +166,5 @@ showing-all {s} {at} {n} {i} r c el g v a =
       len = el ∙ w ∙ sym q;
       bytes =
           c .is
-          ∙ ap₂ {C = List ℕ} _++_ (ap (λ (k : ℕ). take k (drop at s)) d ∙ a .bytes) (ap (λ (k : ℕ). drop k (zeros mostBytes)) (zero-add i ∙ m) ∙ drop-zeros mostBytes (length (encode v)));
+          ∙ ap₂ {C = List ℕ} _++_ (ap (λ (k : ℕ). take k (drop at s)) d ∙ a .bytes) (ap (λ (k : ℕ). drop k (zeros valueLimit)) (zero-add i ∙ m) ∙ drop-zeros valueLimit (length (encode v)));
     }

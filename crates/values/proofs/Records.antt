@@ -14,7 +14,7 @@ use mir.ValLaws.{toZ-ofZ}
 use Rattle.integers.specs.Bytes.{word, bits32, integerAt}
 use Rattle.integers.specs.Whole.{InRange}
 use Rattle.integers.proofs.Range.{range-fits}
-use Rattle.values.specs.Value.{Kind, number, Value, boolean, integer, collection, Items, none, more, kindOf, size, sizes, byteOf, encode, encodeItems, Shaped, Sound, SoundItems, WellFormed, mostBytes}
+use Rattle.values.specs.Value.{Kind, number, Value, boolean, integer, collection, Items, none, more, kindOf, size, sizes, byteOf, encode, encodeItems, Shaped, Sound, SoundItems, WellFormed, valueLimit}
 use Rattle.values.specs.Items.{join, snoc}
 use Rattle.values.specs.Place.{At, ItemsAt, Holds, HoldsItems}
 use Rattle.values.proofs.Order.{number-low}
@@ -30,7 +30,7 @@ pub collection-sound : {k : Kind} {vs : Items} → WellFormed (collection k vs) 
 unfolding Sound
 collection-sound f = f .sound .1
 
-pub well-formed-collection : {k : Kind} {vs : Items} → Shaped k vs → SoundItems vs → 4 + sizes vs ≤ mostBytes → WellFormed (collection k vs)
+pub well-formed-collection : {k : Kind} {vs : Items} → Shaped k vs → SoundItems vs → 4 + sizes vs ≤ valueLimit → WellFormed (collection k vs)
 unfolding Sound size
 well-formed-collection f g h = record { sound = (f, g); short = h }
 
@@ -132,7 +132,7 @@ items-of {s} {at} {k} {vs} h =
     let n = 4 + sizes vs in
     let x : List ℕ = n % 256 ∷ n / 256 ∷ number k % 256 ∷ number k / 256 ∷ [] in
     let f : at + n ≤ length s = h .fits in
-    let g : n ≤ mostBytes = h .fine .short in
+    let g : n ≤ valueLimit = h .fine .short in
     let p = split 4 (sizes vs) (drop at s) x (encodeItems vs) (simp length-drop (omega arith)) refl (h .bytes) in
     record { ends = omega arith; fits = h .fits; fine = h .fine .sound .1; short = omega arith; bytes = rw drop-drop at (p .1) }
 
@@ -157,13 +157,13 @@ unfolding size encode Sound
 first-of {s} {from} {to} {v} {vs} h =
     let e : from + (size v + sizes vs) ≡ to = h .ends in
     let f = h .fits in
-    let g : size v + sizes vs ≤ mostBytes = h .short in
+    let g : size v + sizes vs ≤ valueLimit = h .short in
     let p = split (size v) (sizes vs) (drop from s) (encode v) (encodeItems vs) (simp length-drop (omega arith)) (encode-length v) (h .bytes) in (
       record { fits = omega arith; fine = record { sound = h .fine .0; short = omega arith }; bytes = p .0 },
       record { ends = omega arith; fits = f; fine = h .fine .1; short = omega arith; bytes = rw drop-drop at (p .1) },
     )
 
-pub more-of : {s : List ℕ} {from to : ℕ} {v : Value} {vs : Items} → At s from v → ItemsAt s (from + size v) to vs → size v + sizes vs ≤ mostBytes → ItemsAt s from to (more v vs)
+pub more-of : {s : List ℕ} {from to : ℕ} {v : Value} {vs : Items} → At s from v → ItemsAt s (from + size v) to vs → size v + sizes vs ≤ valueLimit → ItemsAt s from to (more v vs)
 unfolding size encode Sound
 more-of {s} {from} {to} {v} {vs} h x g =
     let e : from + size v + sizes vs ≡ to = x .ends in
@@ -192,7 +192,7 @@ pub record Uncons (s : List ℕ) (from to : ℕ) (vs : Items) : Type 0 where
   pub first-at : At s from first
   pub rest-at : ItemsAt s (from + word s from) to rest
   pub low : 4 ≤ word s from
-  pub high : word s from ≤ mostBytes
+  pub high : word s from ≤ valueLimit
   pub inside : from + word s from ≤ to
 
 pub uncons : {s : List ℕ} {from to : ℕ} {vs : Items} → from < to → ItemsAt s from to vs → Uncons s from to vs
@@ -220,7 +220,7 @@ uncons-of {from = from} {to = to} {vs = vs} f h = let e : from + sizes vs ≡ to
 
 -- ---- items joined
 
-pub joined : {s : List ℕ} {from mid to : ℕ} {vs ws : Items} → ItemsAt s from mid vs → ItemsAt s mid to ws → sizes vs + sizes ws ≤ mostBytes → ItemsAt s from to (join vs ws)
+pub joined : {s : List ℕ} {from mid to : ℕ} {vs ws : Items} → ItemsAt s from mid vs → ItemsAt s mid to ws → sizes vs + sizes ws ≤ valueLimit → ItemsAt s from to (join vs ws)
 joined {s} {from} {mid} {to} {vs} {ws} h x g =
     let e = join-sizes vs ws in
     let f = h .ends in
@@ -258,7 +258,7 @@ one-item {s} {at} {v} h =
     let g = h .fine .short in
     more-of h (no-items s (at + size v) f) (omega arith)
 
-pub one-more : {s : List ℕ} {from to : ℕ} {vs : Items} {w : Value} → ItemsAt s from to vs → At s to w → sizes vs + size w ≤ mostBytes → ItemsAt s from (to + size w) (snoc vs w)
+pub one-more : {s : List ℕ} {from to : ℕ} {vs : Items} {w : Value} → ItemsAt s from to vs → At s to w → sizes vs + size w ≤ valueLimit → ItemsAt s from (to + size w) (snoc vs w)
 unfolding size
 one-more h x g = joined h (one-item x) (omega arith)
 

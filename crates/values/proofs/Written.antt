@@ -5,7 +5,7 @@ use Prim.Native.Nat.{ℕ, suc, _+_, _≤_}
 use native.Mathlib.Omega.{arith}
 use lib.ListN.{length, take, drop, set}
 use lib.Seq.{sets, sets-eq, length-sets, take-set-le, drop-set-lt, take-at, drop-at, length-take-le, take-add, drop-drop}
-use Rattle.values.specs.Value.{Kind, number, Value, collection, Items, size, sizes, encode, Shaped, Sound, WellFormed, mostBytes}
+use Rattle.values.specs.Value.{Kind, number, Value, collection, Items, size, sizes, encode, Shaped, Sound, WellFormed, valueLimit}
 use Rattle.values.specs.Place.{At, ItemsAt, Outside}
 use Rattle.values.specs.Contract.{heading}
 use Rattle.values.proofs.Encoding.{encode-length}
@@ -57,7 +57,7 @@ written s {t} {at} {v} q f h =
 -- ---- collections
 
 -- THEOREM: a heading and items after it are a collection, if they are shaped as its kind asks and not too long
-pub collection-at : {s : List ℕ} {at to : ℕ} {k : Kind} {vs : Items} (n : ℕ) → take 4 (drop at s) ≡ heading n (number k) → at + n ≡ to → n ≤ mostBytes → Shaped k vs → ItemsAt s (at + 4) to vs → At s at (collection k vs)
+pub collection-at : {s : List ℕ} {at to : ℕ} {k : Kind} {vs : Items} (n : ℕ) → take 4 (drop at s) ≡ heading n (number k) → at + n ≡ to → n ≤ valueLimit → Shaped k vs → ItemsAt s (at + 4) to vs → At s at (collection k vs)
 unfolding size encode Sound
 collection-at {s} {at} {to} {k} {vs} n b e short shaped h =
     let f : at + 4 + sizes vs ≡ to = h .ends in
@@ -72,7 +72,7 @@ collection-at {s} {at} {to} {k} {vs} n b e short shaped h =
     }
 
 -- a heading that is stored before items makes a collection
-pub headed-collection : {s t : List ℕ} {at to : ℕ} {k : Kind} {vs : Items} (n : ℕ) → t ≡ sets s at (heading n (number k)) → at + n ≡ to → n ≤ mostBytes → Shaped k vs → ItemsAt s (at + 4) to vs → At t at (collection k vs)
+pub headed-collection : {s t : List ℕ} {at to : ℕ} {k : Kind} {vs : Items} (n : ℕ) → t ≡ sets s at (heading n (number k)) → at + n ≡ to → n ≤ valueLimit → Shaped k vs → ItemsAt s (at + 4) to vs → At t at (collection k vs)
 headed-collection {s} {t} {at} {to} {k} {vs} n q e short shaped h =
     let f = h .ends in
     let g = h .fits in

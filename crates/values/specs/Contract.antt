@@ -10,7 +10,7 @@ use lib.Seq.{sets}
 use Rattle.integers.specs.Bytes.{word}
 use Rattle.integers.specs.declared.Order.{Order}
 use Rattle.values.specs.declared.Value.{Value as Copy}
-use Rattle.values.specs.Value.{Value, Items, kindOf, size, headed, encode, order, orderItems, mostBytes}
+use Rattle.values.specs.Value.{Value, Items, kindOf, size, headed, encode, order, orderItems, valueLimit}
 use Rattle.values.specs.Items.{same}
 use Rattle.values.specs.Place.{At, ItemsAt, Holds, Outside}
 
@@ -20,7 +20,7 @@ use Rattle.values.specs.Place.{At, ItemsAt, Holds, Outside}
 pub record Length (s : List ℕ) (at r : ℕ) : Type 0 where
   pub is : r ≡ word s at
   pub low : 4 ≤ r
-  pub high : r ≤ mostBytes
+  pub high : r ≤ valueLimit
   pub right : (v : Value) → At s at v → r ≡ size v
 
 -- r is the kind of the value at a place
@@ -58,7 +58,7 @@ zeros n = replicate n 0
 -- c has the bytes l, and then zeros up to the limit
 pub record Shows (l : List ℕ) (c : Copy) : Type 0 where
   pub len : c .len ≡ length l
-  pub bytes : c .bytes ≡ l ++ zeros (mostBytes - length l)
+  pub bytes : c .bytes ≡ l ++ zeros (valueLimit - length l)
 
 -- c shows the value at a place
 abbrev pub ShowsAt : List ℕ → ℕ → Copy → Type 0

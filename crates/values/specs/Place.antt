@@ -4,7 +4,7 @@ use mathlib.Core.List.{List}
 use Prim.Native.Nat.{ℕ, _+_, _≤_}
 use lib.ListN.{length, take, drop}
 use Rattle.integers.specs.Bytes.{word}
-use Rattle.values.specs.Value.{Value, Items, size, sizes, encode, encodeItems, SoundItems, WellFormed, mostBytes}
+use Rattle.values.specs.Value.{Value, Items, size, sizes, encode, encodeItems, SoundItems, WellFormed, valueLimit}
 
 -- The record of the well-formed value v stands at a place of s.
 pub record At (s : List ℕ) (at : ℕ) (v : Value) : Type 0 where
@@ -17,7 +17,7 @@ pub record ItemsAt (s : List ℕ) (from to : ℕ) (vs : Items) : Type 0 where
   pub ends : from + sizes vs ≡ to
   pub fits : to ≤ length s
   pub fine : SoundItems vs
-  pub short : sizes vs ≤ mostBytes
+  pub short : sizes vs ≤ valueLimit
   pub bytes : take (sizes vs) (drop from s) ≡ encodeItems vs
 
 -- Some value's record stands at a place, with what code needs to know of its length.
@@ -25,7 +25,7 @@ pub record Holds (s : List ℕ) (at : ℕ) : Type 0 where
   pub value : Value
   pub here : At s at value
   pub low : 4 ≤ word s at
-  pub high : word s at ≤ mostBytes
+  pub high : word s at ≤ valueLimit
   pub whole : at + word s at ≤ length s
 
 -- Some items' records stand from a place up to another.

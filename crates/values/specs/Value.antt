@@ -125,8 +125,8 @@ order v w = after (orderℕ (kindOf v) (kindOf w)) (within v w)
 -- ---- well-formed values
 
 -- No value exceeds 512 bytes.
-abbrev pub mostBytes : ℕ
-mostBytes = 512
+abbrev pub valueLimit : ℕ
+valueLimit = 512
 
 -- v is lower than each of the items.
 unfoldable pub Before : Value → Items → Type 0
@@ -169,4 +169,4 @@ unfoldable mutual
 -- A value of document 01: sound, and of at most 512 bytes.
 pub record WellFormed (v : Value) : Type 0 where
   pub sound : Sound v
-  pub short : size v ≤ mostBytes
+  pub short : size v ≤ valueLimit
