@@ -11,7 +11,7 @@ use Rattle.tables.specs.Table.{recordAt}
 use Rattle.tables.specs.Sheet.{parent, isIn, climb}
 use Rattle.tables.specs.Laws.{split, low, Place, in-place, parent-higher, climb-up, climb-top}
 use Rattle.tables.specs.Accepted.{Clear6, lower, operand-lower, operand-parent, operand-role}
-use Rattle.checking.specs.Scopes.{union, given, around, Around}
+use Rattle.checking.specs.Scopes.{orBits, given, around, Around}
 
 -- The bits around record q are handed on to its operands below i.
 pub record Pushed (rs : List Record) (q : ℕ) (bits : List ℕ) (i : ℕ) : Type 0 where
@@ -26,15 +26,15 @@ zeros (suc n) zero = refl
 zeros (suc n) (suc r) = zeros n r
 
 module _ (rs : List Record) (clear : Clear6 rs) where
-  around-operand : (q i : ℕ) → q < length rs → i < length (named (recordAt rs q)) → around rs (operand (recordAt rs q) i) ≡ union (around rs q) (given rs q (roleAt (recordAt rs q) i))
+  around-operand : (q i : ℕ) → q < length rs → i < length (named (recordAt rs q)) → around rs (operand (recordAt rs q) i) ≡ orBits (around rs q) (given rs q (roleAt (recordAt rs q) i))
   unfolding around
   around-operand q i h k =
-      climb-up (λ q role up. union up (given rs q role)) 0 rs (lower rs clear) (operand (recordAt rs q) i) q (operand-parent rs clear q i h k) h
-      ∙ ap (λ (role : Role). union (climb (λ q role up. union up (given rs q role)) 0 rs q) (given rs q role)) (operand-role rs clear q i h k)
+      climb-up (λ q role up. orBits up (given rs q role)) 0 rs (lower rs clear) (operand (recordAt rs q) i) q (operand-parent rs clear q i h k) h
+      ∙ ap (λ (role : Role). orBits (climb (λ q role up. orBits up (given rs q role)) 0 rs q) (given rs q role)) (operand-role rs clear q i h k)
 
   around-top : (r : ℕ) → length rs ≤ parent rs r → around rs r ≡ 0
   unfolding around
-  around-top r h = climb-top (λ q role up. union up (given rs q role)) 0 rs (lower rs clear) r h
+  around-top r h = climb-top (λ q role up. orBits up (given rs q role)) 0 rs (lower rs clear) r h
 
   -- Where nothing is handed on yet, all bits are 0.
   pub around-start : Around rs (replicate 200 0) (length rs)
@@ -61,7 +61,7 @@ module _ (rs : List Record) (clear : Clear6 rs) where
       a .is q h
       (split (parent rs q) (length rs) (λ k. omega (arith, parent-higher rs (lower rs clear) q k)) (λ k. omega arith))
 
-  pub push-more : (q i n m : ℕ) (bits bits′ : List ℕ) → q < length rs → length rs ≤ 200 → i < length (named (recordAt rs q)) → Pushed rs q bits i → n ≡ operand (recordAt rs q) i → m ≡ union (around rs q) (given rs q (roleAt (recordAt rs q) i)) → bits′ ≡ set bits n m → Pushed rs q bits′ (i + 1)
+  pub push-more : (q i n m : ℕ) (bits bits′ : List ℕ) → q < length rs → length rs ≤ 200 → i < length (named (recordAt rs q)) → Pushed rs q bits i → n ≡ operand (recordAt rs q) i → m ≡ orBits (around rs q) (given rs q (roleAt (recordAt rs q) i)) → bits′ ≡ set bits n m → Pushed rs q bits′ (i + 1)
   push-more q i n m bits bits′ h few k p e f g =
       let lw : n < q = omega (arith, operand-lower rs clear q i h k) in
       let right : m ≡ around rs n = f ∙ sym (around-operand q i h k) ∙ ap (around rs) (sym e) in

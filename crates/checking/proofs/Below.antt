@@ -14,7 +14,7 @@ use Rattle.tables.specs.Table.{recordAt}
 use Rattle.tables.specs.Sheet.{isLoose}
 use Rattle.tables.specs.Laws.{split, Lower, fold-at}
 use Rattle.tables.specs.Accepted.{fit-least, fit-known}
-use Rattle.checking.specs.Scopes.{union, unionOf, own, held, Below}
+use Rattle.checking.specs.Scopes.{orBits, orBitsAll, own, bitsBelow, Below}
 
 pub one-bit : (n : ℕ) → n < 32 → (1 * 2 ^ n) % 4294967296 ≡ 2 ^ n
 one-bit n h = shl-exact {a = 1} 1 n 32 (omega arith) (omega arith) ∙ omega arith
@@ -57,38 +57,38 @@ own-none x a e = rw (ne-eqb (x .kind) 32 a, e)
 
 pub record Turn (rs : List Record) (r m i : ℕ) : Type 0 where
   pub within : i ≤ length (named (recordAt rs r))
-  pub is : unionOf m (map (held rs) (drop i (named (recordAt rs r)))) ≡ held rs r
+  pub is : orBitsAll m (map (bitsBelow rs) (drop i (named (recordAt rs r)))) ≡ bitsBelow rs r
 
 pub turn-start : (rs : List Record) (r m : ℕ) → Lower rs → r < length rs → m ≡ own (recordAt rs r) → Turn rs r m 0
-unfolding held
+unfolding bitsBelow
 turn-start rs r m lower h e =
     record {
       within = omega arith;
-      is = ap (λ (k : ℕ). unionOf k (map (held rs) (named (recordAt rs r)))) e ∙ sym (fold-at (λ q ms. unionOf (own (recordAt rs q)) ms) 0 rs lower r h);
+      is = ap (λ (k : ℕ). orBitsAll k (map (bitsBelow rs) (named (recordAt rs r)))) e ∙ sym (fold-at (λ q ms. orBitsAll (own (recordAt rs q)) ms) 0 rs lower r h);
     }
 
-pub turn-more : (rs : List Record) (r m i n x : ℕ) → Turn rs r m i → i < length (named (recordAt rs r)) → x ≡ held rs (operand (recordAt rs r) i) → n ≡ union m x → Turn rs r n (i + 1)
+pub turn-more : (rs : List Record) (r m i n x : ℕ) → Turn rs r m i → i < length (named (recordAt rs r)) → x ≡ bitsBelow rs (operand (recordAt rs r) i) → n ≡ orBits m x → Turn rs r n (i + 1)
 turn-more rs r m i n x t h e f =
     record {
       within = omega arith;
       is =
           rw (add-one i)
-          (ap (λ (k : ℕ). unionOf k (map (held rs) (drop (suc i) (named (recordAt rs r))))) (f ∙ ap (union m) e)
-          ∙ sym (ap (λ (ns : List ℕ). unionOf m (map (held rs) ns)) (drop-cons (named (recordAt rs r)) i 0 h)) ∙ t .is);
+          (ap (λ (k : ℕ). orBitsAll k (map (bitsBelow rs) (drop (suc i) (named (recordAt rs r))))) (f ∙ ap (orBits m) e)
+          ∙ sym (ap (λ (ns : List ℕ). orBitsAll m (map (bitsBelow rs) ns)) (drop-cons (named (recordAt rs r)) i 0 h)) ∙ t .is);
     }
 
-pub turn-end : (rs : List Record) (r m i : ℕ) → Turn rs r m i → length (named (recordAt rs r)) ≤ i → m ≡ held rs r
+pub turn-end : (rs : List Record) (r m i : ℕ) → Turn rs r m i → length (named (recordAt rs r)) ≤ i → m ≡ bitsBelow rs r
 turn-end rs r m i t h =
     let all : i ≡ length (named (recordAt rs r)) = omega (arith, t .within) in
     let none : drop i (named (recordAt rs r)) ≡ [] = rw all (drop-length (named (recordAt rs r))) in
-    sym (ap (λ (ns : List ℕ). unionOf m (map (held rs) ns)) none) ∙ t .is
+    sym (ap (λ (ns : List ℕ). orBitsAll m (map (bitsBelow rs) ns)) none) ∙ t .is
 
 -- ---- all records
 
 pub below-start : (rs : List Record) (bits : List ℕ) → length bits ≡ 200 → Below rs bits 0
 below-start rs bits h = record { long = h; is = λ q k. absurd (omega arith) }
 
-pub below-more : (rs : List Record) (bits bits′ : List ℕ) (r m : ℕ) → r < 200 → Below rs bits r → m ≡ held rs r → bits′ ≡ set bits r m → Below rs bits′ (r + 1)
+pub below-more : (rs : List Record) (bits bits′ : List ℕ) (r m : ℕ) → r < 200 → Below rs bits r → m ≡ bitsBelow rs r → bits′ ≡ set bits r m → Below rs bits′ (r + 1)
 below-more rs bits bits′ r m h b e f =
     record {
       long = rw f (length-set bits r m ∙ b .long);

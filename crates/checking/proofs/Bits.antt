@@ -16,7 +16,7 @@ use Rattle.tables.specs.Record.{Record, shape, named, nameOf}
 use Rattle.tables.specs.Table.{pick, recordAt}
 use Rattle.tables.specs.Sheet.{some, foldBy, isName, holdsName, isLoose, loose, parent, roleIn, climbBy, isCovered, isCondition, patternOf, isBound, inCondition}
 use Rattle.tables.specs.Laws.{split}
-use Rattle.checking.specs.Scopes.{hasBit, union, unionOf, own, held, given, around}
+use Rattle.checking.specs.Scopes.{hasBit, orBits, orBitsAll, own, bitsBelow, given, around}
 
 -- ---- single bits
 
@@ -29,8 +29,8 @@ digit (suc zero) (suc zero) h k = refl
 digit (suc zero) (suc (suc v)) h k = absurd (omega arith)
 digit (suc (suc u)) v h k = absurd (omega arith)
 
-bit-union : (a b n : ℕ) → hasBit (union a b) n ≡ hasBit a n || hasBit b n
-unfolding hasBit union
+bit-union : (a b n : ℕ) → hasBit (orBits a b) n ≡ hasBit a n || hasBit b n
+unfolding hasBit orBits
 bit-union a b n =
     ap (λ (m : ℕ). eqb (m % 2) 1) (or-shr a b n) ∙ ap (λ (m : ℕ). eqb m 1) (or-mod (a / 2 ^ n) (b / 2 ^ n) 1)
     ∙ digit (a / 2 ^ n % 2) (b / 2 ^ n % 2) (omega arith) (omega arith)
@@ -113,10 +113,10 @@ or-comm true false = refl
 or-comm false true = refl
 or-comm false false = refl
 
-bit-all : (m n : ℕ) (xs : List ℕ) → hasBit (unionOf m xs) n ≡ hasBit m n || some (map (λ x. hasBit x n) xs)
+bit-all : (m n : ℕ) (xs : List ℕ) → hasBit (orBitsAll m xs) n ≡ hasBit m n || some (map (λ x. hasBit x n) xs)
 bit-all m n [] = sym (or-false (hasBit m n))
 bit-all m n (x ∷ xs) =
-    bit-all (union m x) n xs ∙ ap (λ (b : Bool). b || some (map (λ x. hasBit x n) xs)) (bit-union m x n)
+    bit-all (orBits m x) n xs ∙ ap (λ (b : Bool). b || some (map (λ x. hasBit x n) xs)) (bit-union m x n)
     ∙ or-assoc (hasBit m n) (hasBit x n) (some (map (λ x. hasBit x n) xs))
 
 some-same : (n : ℕ) (f : ℕ → ℕ) (g : ℕ → Bool) (ms : List ℕ) → ((k : ℕ) → hasBit (f k) n ≡ g k) → some (map (λ x. hasBit x n) (map f ms)) ≡ some (map g ms)
@@ -124,21 +124,21 @@ some-same n f g [] e = refl
 some-same n f g (m ∷ ms) e = ap (λ (b : Bool). b || some (map (λ x. hasBit x n) (map f ms))) (e m) ∙ ap (λ (b : Bool). g m || b) (some-same n f g ms e)
 
 module _ (n : ℕ) (test : Record → Bool) (is : (x : Record) → hasBit (own x) n ≡ test x) (rs : List Record) where
-  fold-bit : (b r : ℕ) → hasBit (foldBy (λ q ms. unionOf (own (recordAt rs q)) ms) 0 rs b r) n ≡ foldBy (λ q bs. test (recordAt rs q) || some bs) false rs b r
+  fold-bit : (b r : ℕ) → hasBit (foldBy (λ q ms. orBitsAll (own (recordAt rs q)) ms) 0 rs b r) n ≡ foldBy (λ q bs. test (recordAt rs q) || some bs) false rs b r
   unfolding foldBy
   fold-bit zero r = bit-zero n
   fold-bit (suc b) r =
-      bit-all (own (recordAt rs r)) n (map (λ k. foldBy (λ q ms. unionOf (own (recordAt rs q)) ms) 0 rs b k) (named (recordAt rs r)))
-      ∙ ap (λ (t : Bool). t || some (map (λ x. hasBit x n) (map (λ k. foldBy (λ q ms. unionOf (own (recordAt rs q)) ms) 0 rs b k) (named (recordAt rs r))))) (is (recordAt rs r))
+      bit-all (own (recordAt rs r)) n (map (λ k. foldBy (λ q ms. orBitsAll (own (recordAt rs q)) ms) 0 rs b k) (named (recordAt rs r)))
+      ∙ ap (λ (t : Bool). t || some (map (λ x. hasBit x n) (map (λ k. foldBy (λ q ms. orBitsAll (own (recordAt rs q)) ms) 0 rs b k) (named (recordAt rs r))))) (is (recordAt rs r))
       ∙ ap (λ (t : Bool). test (recordAt rs r) || t)
-      (some-same n (λ k. foldBy (λ q ms. unionOf (own (recordAt rs q)) ms) 0 rs b k) (λ k. foldBy (λ q bs. test (recordAt rs q) || some bs) false rs b k) (named (recordAt rs r)) (fold-bit b))
+      (some-same n (λ k. foldBy (λ q ms. orBitsAll (own (recordAt rs q)) ms) 0 rs b k) (λ k. foldBy (λ q bs. test (recordAt rs q) || some bs) false rs b k) (named (recordAt rs r)) (fold-bit b))
 
-pub held-name : (rs : List Record) (p n : ℕ) → hasBit (held rs p) (n + 2) ≡ holdsName rs p n
-unfolding held holdsName
+pub held-name : (rs : List Record) (p n : ℕ) → hasBit (bitsBelow rs p) (n + 2) ≡ holdsName rs p n
+unfolding bitsBelow holdsName
 held-name rs p n = fold-bit (n + 2) (isName n) (λ x. own-name x n) rs (suc p) p
 
-pub held-loose : (rs : List Record) (p : ℕ) → hasBit (held rs p) 1 ≡ loose rs p
-unfolding held loose
+pub held-loose : (rs : List Record) (p : ℕ) → hasBit (bitsBelow rs p) 1 ≡ loose rs p
+unfolding bitsBelow loose
 held-loose rs p = fold-bit 1 isLoose own-loose rs (suc p) p
 
 none-below : (rs : List Record) (b r : ℕ) → foldBy (λ q bs. false || some bs) false rs b r ≡ false
@@ -150,32 +150,32 @@ none-below rs (suc b) r = go (named (recordAt rs r)) (none-below rs b)
     go [] e = refl
     go (m ∷ ms) e = ap (λ (t : Bool). t || some (map (λ k. foldBy (λ q bs. false || some bs) false rs b k) ms)) (e m) ∙ go ms e
 
-held-even : (rs : List Record) (p : ℕ) → hasBit (held rs p) 0 ≡ false
-unfolding held
+held-even : (rs : List Record) (p : ℕ) → hasBit (bitsBelow rs p) 0 ≡ false
+unfolding bitsBelow
 held-even rs p = fold-bit 0 (λ x. false) own-even rs (suc p) p ∙ none-below rs (suc p) p
 
 -- ---- around a record
 
 module _ (n : ℕ) (test : ℕ → Role → Bool) (rs : List Record) (is : (q : ℕ) (role : Role) → hasBit (given rs q role) n ≡ test q role) where
-  climb-bit : (b r : ℕ) → hasBit (climbBy (λ q role up. union up (given rs q role)) 0 rs b r) n ≡ climbBy (λ q role up. test q role || up) false rs b r
+  climb-bit : (b r : ℕ) → hasBit (climbBy (λ q role up. orBits up (given rs q role)) 0 rs b r) n ≡ climbBy (λ q role up. test q role || up) false rs b r
   unfolding climbBy
   climb-bit zero r = bit-zero n
   climb-bit (suc b) r = go (ltb (parent rs r) (length rs)) (parent rs r) (roleIn rs (parent rs r) r) (climb-bit b (parent rs r))
     where
-      go : (t : Bool) (q : ℕ) (role : Role) → hasBit (climbBy (λ q role up. union up (given rs q role)) 0 rs b q) n ≡ climbBy (λ q role up. test q role || up) false rs b q → hasBit (pick t (union (climbBy (λ q role up. union up (given rs q role)) 0 rs b q) (given rs q role)) 0) n ≡ pick t (test q role || climbBy (λ q role up. test q role || up) false rs b q) false
+      go : (t : Bool) (q : ℕ) (role : Role) → hasBit (climbBy (λ q role up. orBits up (given rs q role)) 0 rs b q) n ≡ climbBy (λ q role up. test q role || up) false rs b q → hasBit (pick t (orBits (climbBy (λ q role up. orBits up (given rs q role)) 0 rs b q) (given rs q role)) 0) n ≡ pick t (test q role || climbBy (λ q role up. test q role || up) false rs b q) false
       go true q role e =
-          bit-union (climbBy (λ q role up. union up (given rs q role)) 0 rs b q) (given rs q role) n
-          ∙ or-comm (hasBit (climbBy (λ q role up. union up (given rs q role)) 0 rs b q) n) (hasBit (given rs q role) n)
-          ∙ ap (λ (t : Bool). t || hasBit (climbBy (λ q role up. union up (given rs q role)) 0 rs b q) n) (is q role)
+          bit-union (climbBy (λ q role up. orBits up (given rs q role)) 0 rs b q) (given rs q role) n
+          ∙ or-comm (hasBit (climbBy (λ q role up. orBits up (given rs q role)) 0 rs b q) n) (hasBit (given rs q role) n)
+          ∙ ap (λ (t : Bool). t || hasBit (climbBy (λ q role up. orBits up (given rs q role)) 0 rs b q) n) (is q role)
           ∙ ap (λ (t : Bool). test q role || t) e
       go false q role e = bit-zero n
 
 given-name : (rs : List Record) (n q : ℕ) (role : Role) → hasBit (given rs q role) (n + 2) ≡ isCovered role && holdsName rs (patternOf rs q) n
 given-name rs n q Plain = bit-zero (n + 2)
 given-name rs n q Condition =
-    bit-union (held rs (patternOf rs q)) 1 (n + 2)
-    ∙ ap (λ (t : Bool). hasBit (held rs (patternOf rs q)) (n + 2) || t) (bit-pow 0 (n + 2) ∙ ne-eqb 0 (n + 2) (λ e. omega arith))
-    ∙ or-false (hasBit (held rs (patternOf rs q)) (n + 2)) ∙ held-name rs (patternOf rs q) n
+    bit-union (bitsBelow rs (patternOf rs q)) 1 (n + 2)
+    ∙ ap (λ (t : Bool). hasBit (bitsBelow rs (patternOf rs q)) (n + 2) || t) (bit-pow 0 (n + 2) ∙ ne-eqb 0 (n + 2) (λ e. omega arith))
+    ∙ or-false (hasBit (bitsBelow rs (patternOf rs q)) (n + 2)) ∙ held-name rs (patternOf rs q) n
 given-name rs n q Body = held-name rs (patternOf rs q) n
 given-name rs n q Pattern = bit-zero (n + 2)
 given-name rs n q Name = bit-zero (n + 2)
@@ -183,7 +183,7 @@ given-name rs n q Name = bit-zero (n + 2)
 given-condition : (rs : List Record) (q : ℕ) (role : Role) → hasBit (given rs q role) 0 ≡ isCondition role
 given-condition rs q Plain = bit-zero 0
 given-condition rs q Condition =
-    bit-union (held rs (patternOf rs q)) 1 0
+    bit-union (bitsBelow rs (patternOf rs q)) 1 0
     ∙ ap (λ (t : Bool). t || hasBit 1 0) (held-even rs (patternOf rs q)) ∙ bit-pow 0 0
 given-condition rs q Body = held-even rs (patternOf rs q)
 given-condition rs q Pattern = bit-zero 0

@@ -1,6 +1,6 @@
 -- Rules 7 and 8, by kind.
-use mathlib.Core.Path.{_≡_, refl, ap, _∙_}
-use mathlib.Core.Bool.{Bool, true, false, not, _||_}
+use mathlib.Core.Path.{_≡_, sym, ap, _∙_}
+use mathlib.Core.Bool.{Bool, true, false, not, or-false}
 use mathlib.Core.List.{List}
 use Prim.Native.Nat.{ℕ, _<_}
 use native.Mathlib.Omega.{arith}
@@ -12,14 +12,10 @@ use Rattle.tables.specs.Sheet.{loose, patternOf, isBound, inCondition}
 use Rattle.tables.specs.Check.{fault7, chooses, fault8}
 use Rattle.tables.specs.Accepted.{named-count, fit-least}
 
-or-false : (a : Bool) → a ≡ a || false
-or-false true = refl
-or-false false = refl
-
 module _ (rs : List Record) (r : ℕ) (b : Bool) where
   pub read7 : kindAt rs r ≡ 3 → b ≡ isBound rs r (nameOf (recordAt rs r)) → not b ≡ fault7 rs r
   unfolding fault7
-  read7 e f = rw e (ap not f ∙ or-false (not (isBound rs r (nameOf (recordAt rs r)))))
+  read7 e f = rw e (ap not f ∙ sym (or-false (not (isBound rs r (nameOf (recordAt rs r))))))
 
   pub pattern7 : kindAt rs r ≡ 32 → b ≡ isBound rs r (nameOf (recordAt rs r)) → b ≡ fault7 rs r
   unfolding fault7

@@ -53,9 +53,9 @@ module _ (rs : List Record) (n : ℕ) (all : n ≡ length rs) where
               rw (above (fault6 rs) l6 e6 c6, above (fault7 rs) l7 e7 c7, above (fault8 rs) l8 e8 c8, below (fault9 rs) l9 e9 h)
               (ap (Refused 9) (low-all (fault9 rs) l9 e9))
 
-          pub accepted : n ≤ l9 → Accepted n ≡ judged rs
+          pub none-broken : n ≤ l9 → Accepted n ≡ judged rs
           unfolding judged
-          accepted h =
+          none-broken h =
               rw (above (fault6 rs) l6 e6 c6, above (fault7 rs) l7 e7 c7, above (fault8 rs) l8 e8 c8, above (fault9 rs) l9 e9 h) (ap Accepted all)
 
 -- ---- rules 3 to 5

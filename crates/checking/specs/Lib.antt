@@ -1,3 +1,4 @@
+-- What each pass of the check asks and gives, for the contracts of this crate alone; what the check answers stands in `tables/Check`.
 pub mod Naming
 pub mod Scopes
 pub mod Heights

@@ -20,12 +20,12 @@ use Rattle.checking.specs.Naming.{Whole}
 unfoldable pub hasBit : ℕ → ℕ → Bool
 hasBit m n = eqb (m / 2 ^ n % 2) 1
 
-unfoldable pub union : ℕ → ℕ → ℕ
-union a b = bitOr a b
+unfoldable pub orBits : ℕ → ℕ → ℕ
+orBits a b = bitOr a b
 
-abbrev pub unionOf : ℕ → List ℕ → ℕ
-unionOf m [] = m
-unionOf m (x ∷ xs) = unionOf (union m x) xs
+abbrev pub orBitsAll : ℕ → List ℕ → ℕ
+orBitsAll m [] = m
+orBitsAll m (x ∷ xs) = orBitsAll (orBits m x) xs
 
 -- ---- below a record
 
@@ -33,28 +33,28 @@ unionOf m (x ∷ xs) = unionOf (union m x) xs
 unfoldable pub own : Record → ℕ
 own x = pick (eqb (x .kind) 32) (2 ^ (nameOf x + 2)) (pick (isLoose x) 2 0)
 
-unfoldable pub held : List Record → ℕ → ℕ
-held rs r = fold (λ q ms. unionOf (own (recordAt rs q)) ms) 0 rs r
+unfoldable pub bitsBelow : List Record → ℕ → ℕ
+bitsBelow rs r = fold (λ q ms. orBitsAll (own (recordAt rs q)) ms) 0 rs r
 
 -- ---- around a record
 
 -- What a record adds around an operand of a role: its pattern's bits where its names cover it, and that it is a condition.
 abbrev pub given : List Record → ℕ → Role → ℕ
 given rs q Plain = 0
-given rs q Condition = union (held rs (patternOf rs q)) 1
-given rs q Body = held rs (patternOf rs q)
+given rs q Condition = orBits (bitsBelow rs (patternOf rs q)) 1
+given rs q Body = bitsBelow rs (patternOf rs q)
 given rs q Pattern = 0
 given rs q Name = 0
 
 unfoldable pub around : List Record → ℕ → ℕ
-around rs r = climb (λ q role up. union up (given rs q role)) 0 rs r
+around rs r = climb (λ q role up. orBits up (given rs q role)) 0 rs r
 
 -- ---- the passes
 
 -- The bits below each record lower than r stand in the list.
 pub record Below (rs : List Record) (bits : List ℕ) (r : ℕ) : Type 0 where
   pub long : length bits ≡ mostRecords
-  pub is : (q : ℕ) → q < r → getD bits q 0 ≡ held rs q
+  pub is : (q : ℕ) → q < r → getD bits q 0 ≡ bitsBelow rs q
 
 -- The bits around each record that one from q on names, or none.
 pub record Around (rs : List Record) (bits : List ℕ) (q : ℕ) : Type 0 where

@@ -4,10 +4,11 @@ ghost use mathlib.Core.Bool.{_&&_, _||_};
 ghost use Prim.Native.Nat.{suc, _+_, _<_, _≤_, min};
 ghost use lib.Dec.{leb, ltb};
 ghost use Rattle.tables.specs.Table.{pick};
+ghost use Rattle.tables.specs.Check.{mostRecords};
 
 // The lowest fault below r + 1, where `low` is the lowest below r (r where there is none).
 pub fn next_low(low: usize, r: usize, fault: bool) -> usize
-    requires { ⌜ (low ≤ r) × (r < 200) ⌝ }
+    requires { ⌜ (low ≤ r) × (r < mostRecords) ⌝ }
     ensures { λ p. ⌜ p ≡ pick (ltb low r) low (pick fault r (suc r)) ⌝ }
 {
     if low < r {

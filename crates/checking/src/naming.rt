@@ -4,7 +4,7 @@ ghost use mathlib.Core.List.{List, [], _∷_, _++_};
 ghost use Prim.Native.Nat.{ℕ, _+_, _<_};
 ghost use lib.Dec.{eqb};
 ghost use lib.ListN.{getD};
-ghost use Rattle.tables.specs.Check.{isOfSort, isBad, isStray, fault6};
+ghost use Rattle.tables.specs.Check.{mostRecords, isOfSort, isBad, isStray, fault6};
 ghost use Rattle.tables.specs.Sheet.{lowest as lowestOf};
 ghost use Rattle.tables.specs.Accepted.{records};
 ghost use Rattle.checking.specs.Naming.{Marked, AskBad, AskMarks, MarkedOne, Whole, AskAll, MarkedAll, AskStray};
@@ -37,7 +37,7 @@ fn is_of_sort(role: Role, kind: usize) -> bool
 
 // The number n is marked.
 fn is_marked(marks: &[u8; MOST_RECORDS], n: usize) -> bool
-    requires { ⌜ n < 200 ⌝ }
+    requires { ⌜ n < mostRecords ⌝ }
     ensures { λ b. ⌜ b ≡ eqb (getD (now (marks .entry)) n 0) 1 ⌝ }
 {
     marks[n] == 1

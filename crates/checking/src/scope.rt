@@ -5,10 +5,10 @@ ghost use lib.ListN.{length};
 ghost use Rattle.tables.specs.Record.{roleAt};
 ghost use Rattle.tables.specs.Table.{recordAt};
 ghost use Rattle.tables.specs.Sheet.{lowest as lowestOf, patternOf};
-ghost use Rattle.tables.specs.Check.{fault7 as fault7Of, fault8 as fault8Of};
+ghost use Rattle.tables.specs.Check.{mostRecords, fault7 as fault7Of, fault8 as fault8Of};
 ghost use Rattle.tables.specs.Accepted.{records};
 ghost use Rattle.tables.specs.Reading.{Here};
-ghost use Rattle.checking.specs.Scopes.{hasBit, union as unionIn, own as ownOf, held as heldOf, given as givenBy, Below, Around, AskBelow, Kept, AskGiven, AskPush, AskAround, AskName, AskChoice, AskScoped};
+ghost use Rattle.checking.specs.Scopes.{hasBit, orBits, own as ownOf, bitsBelow, given as givenBy, Below, Around, AskBelow, Kept, AskGiven, AskPush, AskAround, AskName, AskChoice, AskScoped};
 use crate::lowest::next_low;
 use tables::Index;
 use tables::MOST_RECORDS;
@@ -27,7 +27,7 @@ const CONDITION: u32 = 1;
 const LOOSE: u32 = 2;
 
 fn union(a: u32, b: u32) -> u32
-    ensures { λ r. ⌜ r ≡ unionIn a b ⌝ }
+    ensures { λ r. ⌜ r ≡ orBits a b ⌝ }
 {
     a | b
 }
@@ -64,7 +64,7 @@ fn own(table: &[u8], index: &Index, r: usize) -> u32
 // The bits of record r and of all below it.
 fn held_at(table: &[u8], index: &Index, r: usize, below: &[u32; MOST_RECORDS]) -> u32
     requires { ⌜ AskBelow (now table) (now index) r (now below) ⌝ }
-    ensures { λ m. ⌜ m ≡ heldOf (records (now (table .entry))) r ⌝ }
+    ensures { λ m. ⌜ m ≡ bitsBelow (records (now (table .entry))) r ⌝ }
 {
     let count = operand_count(table, index, r);
     let mut m = own(table, index, r);
@@ -79,7 +79,7 @@ fn held_at(table: &[u8], index: &Index, r: usize, below: &[u32; MOST_RECORDS]) -
 
 // Fills in the bits below each record, from the first on.
 fn fill_below(table: &[u8], index: &Index, count: usize, below: &mut [u32; MOST_RECORDS])
-    requires { ⌜ Kept (now table) (now index) count × (length (now below) ≡ 200) ⌝ }
+    requires { ⌜ Kept (now table) (now index) count × (length (now below) ≡ mostRecords) ⌝ }
     ensures { λ _. ⌜ Below (records (now (table .entry))) (now (below .exit)) (length (records (now (table .entry)))) ⌝ }
 {
     let mut r = 0;
@@ -93,7 +93,7 @@ fn fill_below(table: &[u8], index: &Index, count: usize, below: &mut [u32; MOST_
 // The bits of the pattern of record q.
 fn pattern_bits(table: &[u8], index: &Index, q: usize, below: &[u32; MOST_RECORDS]) -> u32
     requires { ⌜ AskGiven (now table) (now index) q 0 (now below) ⌝ }
-    ensures { λ m. ⌜ m ≡ heldOf (records (now (table .entry))) (patternOf (records (now (table .entry))) q) ⌝ }
+    ensures { λ m. ⌜ m ≡ bitsBelow (records (now (table .entry))) (patternOf (records (now (table .entry))) q) ⌝ }
 {
     let p = operand(table, index, q, 0);
     below[p]

@@ -12,6 +12,7 @@ use lib.Seq.{drop-cons}
 use borrow.Author.Tests.{leb-true, eqb-true, eqb-false}
 use Rattle.values.specs.Value.{Kind, set, sequence, map as mapping, tuple, Value, boolean}
 use Rattle.values.specs.Items.{pick}
+use Rattle.tables.specs.Laws.Kinds.{pattern-least, pattern-most}
 use Rattle.tables.specs.Record.{Record, named, operand, nameOf, shape, headOf, size, isKnown}
 use Rattle.tables.specs.Table.{recordAt, kindAt}
 use Rattle.tables.specs.Accepted.{records, lower, pattern-role, operand-lower, operand-sort, named-count, fit-least, fit-most, fit-known}
@@ -76,10 +77,10 @@ module _ (table index : List ℕ) (p : ℕ) (r : Readable table index p) where
   low = lower (records table) (r .fine .clear6)
 
   pub kind-low : 32 ≤ kindAt (records table) p
-  kind-low = leb-true _ _ (and-left (leb 32 (kindAt (records table) p)) (leb (kindAt (records table) p) 40) (r .pattern))
+  kind-low = pattern-least (kindAt (records table) p) (r .pattern)
 
   pub kind-high : kindAt (records table) p ≤ 40
-  kind-high = leb-true _ _ (and-right (leb 32 (kindAt (records table) p)) (leb (kindAt (records table) p) 40) (r .pattern))
+  kind-high = pattern-most (kindAt (records table) p) (r .pattern)
 
   -- ---- a name
 

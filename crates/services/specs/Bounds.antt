@@ -18,7 +18,7 @@ use Rattle.tables.specs.Table.{pick, Next, end, fault, one, next, after, Cut, c
 use Rattle.tables.specs.Sheet.{lowest}
 use Rattle.tables.specs.Check.{mostBytes, mostRecords, Rule, judge, judged, judgedCut, check, rule, fault6, fault7, fault8, fault9}
 use Rattle.tables.specs.Laws.{or-right}
-use Rattle.tables.specs.Accepted.{next-is}
+use Rattle.tables.specs.Laws.Cutting.{next-is}
 
 -- At most 200 records are counted. A rule's number is at most 9. Rule 4 can break at any of the 600 records that fit 2,400 bytes.
 abbrev pub Small : Checked → Type 0

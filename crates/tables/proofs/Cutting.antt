@@ -13,9 +13,10 @@ use Rattle.tables.specs.Record.{Record, shape, size, isFit}
 use Rattle.tables.specs.Table.{first, Next, fault, one, next, Cut, after, cutBy, cut, noRecord}
 use Rattle.tables.specs.Check.{mostRecords}
 use Rattle.tables.specs.Laws.{split, each}
-use Rattle.tables.specs.Accepted.{IsNext, next-is, records, fit-kind, fit-most}
+use Rattle.tables.specs.Accepted.{records, fit-kind, fit-most}
+use Rattle.tables.specs.Laws.Cutting.{IsNext, next-is}
 use Rattle.tables.specs.Reading.{Stands, Places, Measured, CutOut}
-use Rattle.tables.proofs.Fit.{fields-long, field-at}
+use Rattle.tables.proofs.Fit.{plus-zero, plus-four, fields-long, field-at}
 
 -- ---- one record
 
@@ -40,7 +41,7 @@ module _ (bytes : List ℕ) (some : 0 < length bytes) where
   next-unfit h l m e =
       rw (ne-eqb (length bytes) 0 (omega arith), le-ltb (length bytes) 4 h, le-ltb (word bytes 0) 4 l, le-ltb (length bytes) (word bytes 0) m, e)
 
-  pub next-one : 4 ≤ length bytes → 4 ≤ word bytes 0 → word bytes 0 ≤ length bytes → isFit (first bytes) ≡ true → next bytes ≡ one (first bytes) (drop (word bytes 0) bytes)
+  next-one : 4 ≤ length bytes → 4 ≤ word bytes 0 → word bytes 0 ≤ length bytes → isFit (first bytes) ≡ true → next bytes ≡ one (first bytes) (drop (word bytes 0) bytes)
   unfolding next
   next-one h l m e =
       rw (ne-eqb (length bytes) 0 (omega arith), le-ltb (length bytes) 4 h, le-ltb (word bytes 0) 4 l, le-ltb (length bytes) (word bytes 0) m, e)
@@ -85,12 +86,6 @@ stands table at rest n =
           λ i h.
           sym (field-at (drop at table) (word (drop at table) 0) refl (n .long) (n .whole) i (omega arith) ∙ getD-drop at table (4 + i) 0 ∙ ap (λ (k : ℕ). getD table k 0) (plus-four at i));
     }
-  where
-    plus-zero : (a : ℕ) → a + 0 ≡ a
-    plus-zero a = omega arith
-
-    plus-four : (a i : ℕ) → a + (4 + i) ≡ a + 4 + i
-    plus-four a i = omega arith
 
 -- ---- the loop
 

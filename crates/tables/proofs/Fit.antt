@@ -19,6 +19,13 @@ use Rattle.tables.specs.Shapes.{knownFirst}
 use Rattle.tables.specs.Laws.{and-left}
 use Rattle.tables.specs.Accepted.{fit-kind}
 
+-- A place in a record, from its start and from its fields.
+pub plus-zero : (a : ℕ) → a + 0 ≡ a
+plus-zero a = omega arith
+
+pub plus-four : (a i : ℕ) → a + (4 + i) ≡ a + 4 + i
+plus-four a i = omega arith
+
 -- Four bytes are an integer in range.
 bytes-range : (fs : List ℕ) → ((i : ℕ) → i < 4 → getD fs i 0 < 256) → inRange (integerAt fs 0) ≡ true
 bytes-range fs small =

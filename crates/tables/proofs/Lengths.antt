@@ -14,7 +14,7 @@ use Rattle.tables.specs.Laws.{each, and-left, and-right}
 abbrev row : ℕ → ℕ → ℕ → Lengths
 row least greatest step = record { 0 = least; 1 = greatest; 2 = step }
 
-abbrev pub rows : List Lengths
+abbrev rows : List Lengths
 rows =
     row 4 4 1 ∷ row 5 5 1 ∷ row 8 8 1 ∷ row 5 5 1 ∷ row 6 6 1 ∷
     row 7 7 1 ∷ row 7 7 1 ∷ row 4 12 1 ∷ row 4 12 1 ∷ row 4 12 2 ∷

@@ -4,3 +4,4 @@ mod Heads
 mod Fit
 mod Cutting
 mod Stand
+mod Sample

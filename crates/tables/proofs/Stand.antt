@@ -15,6 +15,7 @@ use Rattle.tables.specs.Check.{mostRecords}
 use Rattle.tables.specs.Shapes.{firstOf, rolesOf}
 use Rattle.tables.specs.Accepted.{records, fit-records, fit-kind, fit-least, fit-most, named-count, operand-field}
 use Rattle.tables.specs.Reading.{Stands, Here}
+use Rattle.tables.proofs.Fit.{plus-four}
 use Rattle.tables.proofs.Cutting.{part-rest, fields-few}
 
 pub part-at : (s : List ℕ) (at i : ℕ) → getD (take (length s - at) (drop at s)) i 0 ≡ getD s (at + i) 0
@@ -74,10 +75,7 @@ module _ (table index : List ℕ) (r : ℕ) (h : Here table index r) where
     field-within = omega (arith, stands .fits)
 
     pub field-is : getD table (getD index r 0 + (4 + i)) 0 ≡ field (recordAt (records table) r) i
-    field-is = ap (λ (k : ℕ). getD table k 0) (regroup (getD index r 0) i) ∙ stands .field i has
-      where
-        regroup : (a i : ℕ) → a + (4 + i) ≡ a + 4 + i
-        regroup a i = omega arith
+    field-is = ap (λ (k : ℕ). getD table k 0) (plus-four (getD index r 0) i) ∙ stands .field i has
 
   pub integer-is : (at : ℕ) → at ≡ getD index r 0 → 3 < length (recordAt (records table) r .fields) → integerAt (take (length table - at) (drop at table)) 4 ≡ integerOf (recordAt (records table) r)
   integer-is at e has =

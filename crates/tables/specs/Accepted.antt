@@ -1,4 +1,4 @@
--- What holds of every accepted table: the theorems that an evaluator leans on.
+-- What holds of every accepted table: it breaks no rule, and what follows for its records.
 use mathlib.Core.Path.{_≡_, refl, sym, ap, _∙_}
 use mathlib.Core.Bool.{Bool, true, false, not, _&&_, _||_}
 use mathlib.Core.List.{List, [], _∷_, map}
@@ -6,20 +6,21 @@ use Prim.Native.Nat.{ℕ, zero, suc, _+_, _-_, _<_, _≤_}
 use native.Mathlib.Omega.{arith}
 use borrow.Author.Tests.{ltb-true, ltb-false, leb-true, eq-eqb, eqb-true, ne-eqb, not-true}
 use lib.Dec.{eqb, ltb, leb}
-use lib.ListN.{length, getD, drop, length-drop, List·getD-eq-default}
+use lib.ListN.{length, drop, length-drop}
 use lib.Seq.{getD-drop}
-use Rattle.integers.specs.Bytes.{word}
 use Rattle.integers.specs.Whole.{InRange}
 use Rattle.tables.specs.declared.Role.{Role}
-use Rattle.tables.specs.declared.Role.the-variants.{Plain, Condition, Body, Pattern, Name}
+use Rattle.tables.specs.declared.Role.the-variants.{Pattern}
 use Rattle.tables.specs.declared.Checked.{Checked}
 use Rattle.tables.specs.declared.Checked.the-variants.{Accepted, Refused}
-use Rattle.tables.specs.Record.{Record, Shape, Head, integer, missing, shapes, shape, field, size, headOf, isPattern, operandsOf, operands, numbers, named, operand, roleAt, nameOf, integerOf, fits, isKnown, isFit}
-use Rattle.tables.specs.Table.{pick, Next, end, fault, one, next, first, after, cutBy, cut, recordAt, kindAt}
+use Rattle.tables.specs.Record.{Record, Shape, Head, integer, shape, field, size, headOf, isPattern, operands, named, operand, roleAt, nameOf, integerOf, fits, isKnown, isFit}
+use Rattle.tables.specs.Table.{pick, fault, one, first, cut, recordAt, kindAt}
 use Rattle.tables.specs.Sheet.{any, lowest, some, greatest, isIn, isName, holdsName, height, parent, roleIn, isCovered, isCondition, isBinder, patternOf, climb, isBound, inCondition}
 use Rattle.tables.specs.Check.{mostBytes, mostRecords, mostHeight, isOfSort, allNamed, namedBefore, isBad, fault6, fault7, chooses, fault8, fault9, judged, judgedCut, check}
 use Rattle.tables.specs.Laws.{never, or-left, or-right, and-left, and-right, implied, not-not, split, any-none, low, each, Lower, fold-at, climb-up, climb-top, parent-higher, parent-is, role-is}
-use Rattle.tables.specs.Laws.Kinds.{beyond, pattern-most, binder-most}
+use Rattle.tables.specs.Laws.Kinds.{beyond, pattern-most}
+use Rattle.tables.specs.Laws.Cutting.{cut-fit, cut-some}
+use Rattle.tables.specs.Laws.Operands.{isPart, is-part, all-parts, operands-few, operands-count, operands-at, isFirst, first-free, first-sort, binder-roles, some-place, greatest-all}
 
 -- The records of a table.
 abbrev pub records : List ℕ → List Record
@@ -50,60 +51,6 @@ clear : (test : ℕ → Bool) (n : ℕ) → ltb (lowest test n) n ≡ false → 
 clear test n e r h = low test n .miss r (omega (arith, ltb-false (lowest test n) n e))
 
 -- ---- cutting
-
--- What is known where a record stands next.
-pub record IsNext (bytes : List ℕ) (r : Record) (rest : List ℕ) : Type 0 where
-  pub four : 4 ≤ length bytes
-  pub long : 4 ≤ word bytes 0
-  pub whole : word bytes 0 ≤ length bytes
-  pub fit : isFit r ≡ true
-  pub is : first bytes ≡ r
-  pub then : drop (word bytes 0) bytes ≡ rest
-
-is-next : (bytes : List ℕ) (b c d e : Bool) (r : Record) (rest : List ℕ) → ltb (length bytes) 4 ≡ b → ltb (word bytes 0) 4 ≡ c → ltb (length bytes) (word bytes 0) ≡ d → isFit (first bytes) ≡ e → (z : Bool) → pick z end (pick (b || c || d) fault (pick e (one (first bytes) (drop (word bytes 0) bytes)) fault)) ≡ one r rest → IsNext bytes r rest
-is-next bytes b c d e r rest hb hc hd he true k = let z : _≡_ {A = ℕ} 0 1 = cc in absurd (omega arith)
-is-next bytes true c d e r rest hb hc hd he false k = let z : _≡_ {A = ℕ} 0 1 = cc in absurd (omega arith)
-is-next bytes false true d e r rest hb hc hd he false k = let z : _≡_ {A = ℕ} 0 1 = cc in absurd (omega arith)
-is-next bytes false false true e r rest hb hc hd he false k = let z : _≡_ {A = ℕ} 0 1 = cc in absurd (omega arith)
-is-next bytes false false false false r rest hb hc hd he false k = let z : _≡_ {A = ℕ} 0 1 = cc in absurd (omega arith)
-is-next bytes false false false true r rest hb hc hd he false k =
-    let same : first bytes ≡ r = cc in
-    record {
-      four = ltb-false _ _ hb;
-      long = ltb-false _ _ hc;
-      whole = ltb-false _ _ hd;
-      fit = sym (ap isFit same) ∙ he;
-      is = same;
-      then = cc;
-    }
-
-pub next-is : (bytes : List ℕ) (r : Record) (rest : List ℕ) → next bytes ≡ one r rest → IsNext bytes r rest
-unfolding next
-next-is bytes r rest e = is-next bytes _ _ _ _ r rest refl refl refl refl (eqb (length bytes) 0) e
-
--- Each record that was cut out is fit for its kind.
-cut-fit : (bound : ℕ) (bytes : List ℕ) (r : ℕ) → r < length (cutBy bound bytes .records) → isFit (recordAt (cutBy bound bytes .records) r) ≡ true
-unfolding cutBy
-cut-fit zero bytes r h = absurd (omega arith)
-cut-fit (suc bound) bytes r h = go (next bytes) refl r h (λ rest q k. cut-fit bound rest q k)
-  where
-    go : (n : Next) → next bytes ≡ n → (r : ℕ) → r < length (after n (λ rest. cutBy bound rest) .records) → ((rest : List ℕ) (q : ℕ) → q < length (cutBy bound rest .records) → isFit (recordAt (cutBy bound rest .records) q) ≡ true) → isFit (recordAt (after n (λ rest. cutBy bound rest) .records) r) ≡ true
-    go end e r k f = absurd (omega arith)
-    go fault e r k f = absurd (omega arith)
-    go (one x rest) e zero k f = next-is bytes x rest e .fit
-    go (one x rest) e (suc r) k f = f rest r (omega arith)
-
--- A table with a byte that is cut to its end has a record.
-cut-some : (bound : ℕ) (bytes : List ℕ) → 0 < length bytes → cutBy (suc bound) bytes .whole ≡ true → 0 < length (cutBy (suc bound) bytes .records)
-unfolding cutBy next
-cut-some bound bytes h e =
-    go (eqb (length bytes) 0) (ltb (length bytes) 4 || ltb (word bytes 0) 4 || ltb (length bytes) (word bytes 0)) (isFit (first bytes)) refl e
-  where
-    go : (z t u : Bool) → eqb (length bytes) 0 ≡ z → after (pick z end (pick t fault (pick u (one (first bytes) (drop (word bytes 0) bytes)) fault))) (λ rest. cutBy bound rest) .whole ≡ true → 0 < length (after (pick z end (pick t fault (pick u (one (first bytes) (drop (word bytes 0) bytes)) fault))) (λ rest. cutBy bound rest) .records)
-    go true t u f k = absurd (omega (arith, eqb-true (length bytes) 0 f))
-    go false true u f k = never k
-    go false false true f k = omega arith
-    go false false false f k = never k
 
 pub some-cut : (table : List ℕ) → eqb (length table) 0 ≡ false → cut table .whole ≡ true → 0 < length (records table)
 unfolding cut
@@ -147,32 +94,7 @@ accepted-short table n e =
     let p3 = passed (eqb (length table) 0 || ltb mostBytes (length table)) _ _ _ n e in
     ltb-false mostBytes (length table) (or-right (eqb (length table) 0) _ (p3 .not-refused))
 
--- ---- roles
-
-abbrev isPart : Role → Bool
-isPart Plain = false
-isPart Condition = false
-isPart Body = false
-isPart Pattern = true
-isPart Name = false
-
-is-part : (role : Role) → isPart role ≡ true → role ≡ Pattern
-is-part Plain e = never e
-is-part Condition e = never e
-is-part Body e = never e
-is-part Pattern e = refl
-is-part Name e = never e
-
-all-parts : (roles : List Role) (i : ℕ) → some (map (λ x. not (isPart x)) roles) ≡ false → i < length roles → isPart (getD roles i Plain) ≡ true
-all-parts [] i e h = absurd (omega arith)
-all-parts (x ∷ xs) zero e h = not-not (isPart x) (or-left (not (isPart x)) _ e)
-all-parts (x ∷ xs) (suc i) e h = all-parts xs i (or-right (not (isPart x)) _ e) (omega arith)
-
--- No record has more operands than its kind has roles.
-operands-few : (roles : List Role) (bytes : List ℕ) → length (numbers (operandsOf roles bytes)) ≤ length roles
-operands-few [] bytes = omega arith
-operands-few (x ∷ xs) [] = omega arith
-operands-few (x ∷ xs) (b ∷ bytes) = omega (arith, operands-few xs bytes)
+-- ---- one record
 
 -- The operands of a pattern are patterns.
 pub pattern-role : (r : Record) (i : ℕ) → isPattern (r .kind) ≡ true → i < length (named r) → roleAt r i ≡ Pattern
@@ -184,19 +106,6 @@ pattern-role r i e h =
     (each (λ k. not (isPattern k) || not (some (map (λ x. not (isPart x)) (shape k .roles)))) 41 refl (r .kind) (omega (arith, pattern-most (r .kind) e)))
     e))
     (omega (arith, operands-few (shape (r .kind) .roles) (drop (size (headOf r)) (r .fields)))))
-
--- The operands of a record are the fields after its head.
-operands-count : (roles : List Role) (bytes : List ℕ) → length bytes ≤ length roles → length (numbers (operandsOf roles bytes)) ≡ length bytes
-operands-count [] [] h = refl
-operands-count [] (b ∷ bytes) h = absurd (omega arith)
-operands-count (x ∷ xs) [] h = refl
-operands-count (x ∷ xs) (b ∷ bytes) h = ap suc (operands-count xs bytes (omega arith))
-
-operands-at : (roles : List Role) (bytes : List ℕ) (i : ℕ) → i < length (numbers (operandsOf roles bytes)) → getD (numbers (operandsOf roles bytes)) i 0 ≡ getD bytes i 0
-operands-at [] bytes i h = absurd (omega arith)
-operands-at (x ∷ xs) [] i h = absurd (omega arith)
-operands-at (x ∷ xs) (b ∷ bytes) zero h = refl
-operands-at (x ∷ xs) (b ∷ bytes) (suc i) h = operands-at xs bytes i (omega arith)
 
 module _ (r : Record) (fit : isFit r ≡ true) where
   bounds : (leb (size (headOf r) + shape (r .kind) .least) (length (r .fields)) ≡ true) × (leb (length (r .fields)) (size (headOf r) + length (shape (r .kind) .roles)) ≡ true)
@@ -232,52 +141,6 @@ pub fit-kind : (r : Record) → isFit r ≡ true → r .kind ≤ 40
 unfolding shape
 fit-kind r fit =
     split 40 (r .kind) (λ h. never (sym (ap (λ (s : Shape). isKnown (s .head) r) (beyond (r .kind) h)) ∙ fit-known r fit)) (λ h. h)
-
--- ---- binders
-
-abbrev isFirst : Role → Bool
-isFirst Plain = false
-isFirst Condition = false
-isFirst Body = false
-isFirst Pattern = true
-isFirst Name = true
-
-first-free : (role : Role) (b : Bool) → isFirst role ≡ true → isCovered role && b ≡ false
-first-free Plain b e = never e
-first-free Condition b e = never e
-first-free Body b e = never e
-first-free Pattern b e = refl
-first-free Name b e = refl
-
-first-sort : (role : Role) (k : ℕ) → isFirst role ≡ true → isOfSort role k ≡ true → isPattern k ≡ true
-unfolding shape
-first-sort Plain k e f = never e
-first-sort Condition k e f = never e
-first-sort Body k e f = never e
-first-sort Pattern k e f = f
-first-sort Name k e f = rw (eqb-true k 32 f)
-
--- A binder has at least three operands, and the first is its pattern.
-binder-roles : (k : ℕ) → isBinder k ≡ true → isFirst (getD (shape k .roles) 0 Plain) && leb 3 (shape k .least) ≡ true
-unfolding shape
-binder-roles k e =
-    implied (isBinder k) _
-    (each (λ k. not (isBinder k) || (isFirst (getD (shape k .roles) 0 Plain) && leb 3 (shape k .least))) 41 refl k (omega (arith, binder-most k e))) e
-
--- Where some truth of a list is.
-some-place : (f : ℕ → Bool) (ms : List ℕ) → some (map f ms) ≡ true → (i : ℕ) × (i < length ms) × (f (getD ms i 0) ≡ true)
-some-place f [] e = never e
-some-place f (m ∷ ms) e = go (f m) refl e (some-place f ms)
-  where
-    go : (b : Bool) → f m ≡ b → b || some (map f ms) ≡ true → (some (map f ms) ≡ true → (i : ℕ) × (i < length ms) × (f (getD ms i 0) ≡ true)) → (i : ℕ) × (i < length (m ∷ ms)) × (f (getD (m ∷ ms) i 0) ≡ true)
-    go true g h k = (zero, omega arith, g)
-    go false g h k = let p = k h in (suc (p .0), omega (arith, p .1), p .2)
-
--- The greatest of what a list gives is as great as each.
-greatest-all : (f : ℕ → ℕ) (ms : List ℕ) (i : ℕ) → i < length ms → f (getD ms i 0) ≤ greatest (map f ms)
-greatest-all f [] i h = absurd (omega arith)
-greatest-all f (m ∷ ms) zero h = omega arith
-greatest-all f (m ∷ ms) (suc i) h = omega (arith, greatest-all f ms i (omega arith))
 
 -- ---- of a table that keeps rule 6
 

@@ -13,8 +13,10 @@ use Rattle.tables.specs.Record.{Record, size, headOf, operandsOf, shape,
 use Rattle.tables.specs.Table.{pick, recordAt, kindAt}
 use Rattle.tables.specs.Sheet.{any, lowest, isIn, foldBy, fold, parent, roleOf, roleIn, climbBy, climb}
 use Rattle.tables.specs.Check.{allNamed, namedBefore}
--- The rows of kinds, and the kinds of each sort.
+-- The rows of kinds; cutting a table; operands and roles.
 pub mod Kinds
+pub mod Cutting
+pub mod Operands
 
 -- ---- truths
 
@@ -103,11 +105,8 @@ module _ (test : ℕ → Bool) where
       split r s (λ h. never (sym (m .miss r h) ∙ l .hit (omega (arith, m .within))))
       (λ h. split s r (λ k. never (sym (l .miss s k) ∙ m .hit (omega (arith, l .within)))) (λ k. omega arith))
 
-  pub lowest-is : (n r : ℕ) → r < n → test r ≡ true → ((q : ℕ) → q < r → test q ≡ false) → lowest test n ≡ r
+  lowest-is : (n r : ℕ) → r < n → test r ≡ true → ((q : ℕ) → q < r → test q ≡ false) → lowest test n ≡ r
   lowest-is n r h e f = low-same (low n) (record { within = omega arith; hit = λ k. e; miss = f })
-
-  pub lowest-none : (n : ℕ) → ((q : ℕ) → q < n → test q ≡ false) → lowest test n ≡ n
-  lowest-none n f = low-same (low n) (record { within = omega arith; hit = λ k. absurd (omega arith); miss = f })
 
 -- A test that is computed over all numbers below n holds of each.
 pub each : (test : ℕ → Bool) (n : ℕ) → any (λ k. not (test k)) n ≡ false → (k : ℕ) → k < n → test k ≡ true

@@ -43,10 +43,10 @@ pub record Shape : Type 0 where
 abbrev pub just : Sort → Head → List Role → Shape
 just sort head roles = record { sort = sort; head = head; roles = roles; least = length roles; step = 1; loose = false }
 
--- From `least` to `most` operands of one role.
-abbrev pub several : Sort → ℕ → ℕ → ℕ → Role → Shape
-several sort least most step role =
-    record { sort = sort; head = nothing; roles = replicate most role; least = least; step = step; loose = false }
+-- A head, and from `least` to `most` operands of one role.
+abbrev pub several : Sort → Head → ℕ → ℕ → ℕ → Role → Shape
+several sort head least most step role =
+    record { sort = sort; head = head; roles = replicate most role; least = least; step = step; loose = false }
 
 abbrev pub choosing : Shape → Shape
 choosing s = record { sort = s .sort; head = s .head; roles = s .roles; least = s .least; step = s .step; loose = true }
@@ -69,10 +69,10 @@ shapes =
     -- 6 if: test, then, else
     just expression nothing (Plain ∷ Plain ∷ Plain ∷ []) ∷
     -- 7 set, 8 sequence, 9 map enumeration, 10 tuple
-    several expression 0 8 1 Plain ∷
-    several expression 0 8 1 Plain ∷
-    several expression 0 8 2 Plain ∷
-    several expression 2 4 1 Plain ∷
+    several expression nothing 0 8 1 Plain ∷
+    several expression nothing 0 8 1 Plain ∷
+    several expression nothing 0 8 2 Plain ∷
+    several expression nothing 2 4 1 Plain ∷
     -- 11 set range: from, to
     just expression nothing (Plain ∷ Plain ∷ []) ∷
     -- 12 let, 13 let-be
@@ -97,14 +97,17 @@ shapes =
     just pattern boolean [] ∷
     just pattern integer [] ∷
     -- 36 tuple
-    several pattern 2 4 1 Pattern ∷
+    several pattern nothing 2 4 1 Pattern ∷
     -- 37 set enumeration, 38 union
-    choosing (several pattern 0 4 1 Pattern) ∷
+    choosing (several pattern nothing 0 4 1 Pattern) ∷
     choosing (just pattern nothing (Pattern ∷ Pattern ∷ [])) ∷
     -- 39 sequence enumeration, 40 concatenation
-    several pattern 0 4 1 Pattern ∷
+    several pattern nothing 0 4 1 Pattern ∷
     choosing (just pattern nothing (Pattern ∷ Pattern ∷ [])) ∷
     []
+
+abbrev pub lastKind : ℕ
+lastKind = 40
 
 unfoldable pub shape : ℕ → Shape
 shape kind = getD shapes kind missing

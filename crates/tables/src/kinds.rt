@@ -59,5 +59,9 @@ pub const SEQUENCE_PATTERN: usize = 39;
 
 pub const CONCATENATION_PATTERN: usize = 40;
 
-// The last kind of all.
+// Where expressions end, patterns begin, and all kinds end.
+pub const LAST_EXPRESSION: usize = APPLY;
+
+pub const FIRST_PATTERN: usize = NAME_PATTERN;
+
 pub const LAST: usize = CONCATENATION_PATTERN;

@@ -12,6 +12,9 @@ pub const MOST_RECORDS: usize = 200;
 
 pub const MOST_HEIGHT: usize = 32;
 
+// The bytes of a record's length and kind, after which its fields stand.
+pub const HEADING: usize = 4;
+
 // Names are 0 to 15.
 pub const NAMES: usize = 16;
 

@@ -2,11 +2,12 @@
 ghost use mathlib.Core.Path.{_≡_};
 ghost use Prim.Native.Nat.{_+_, _<_, _≤_};
 ghost use lib.ListN.{length, getD};
-ghost use Rattle.tables.specs.Record.{named, operand as operandIn, roleAt, field as fieldIn, integerOf};
+ghost use Rattle.tables.specs.Record.{lastKind, named, operand as operandIn, roleAt, field as fieldIn, integerOf};
 ghost use Rattle.tables.specs.Table.{recordAt, kindAt};
 ghost use Rattle.tables.specs.Check.{mostBytes, mostRecords};
 ghost use Rattle.tables.specs.Accepted.{records};
 ghost use Rattle.tables.specs.Reading.{Measured, CutOut, Here, HasField, HasOperand};
+use crate::HEADING;
 use crate::Index;
 use crate::MOST_RECORDS;
 use crate::Role;
@@ -28,11 +29,11 @@ pub fn measure(part: &[u8]) -> usize
     requires { ⌜ 0 < length (now part) ⌝ }
     ensures { λ n. ⌜ Measured (now (part .entry)) n ⌝ }
 {
-    if part.len() < 4 {
+    if part.len() < HEADING {
         return 0;
     }
     let len = read16(part, 0);
-    if len < 4 {
+    if len < HEADING {
         return 0;
     }
     if part.len() < len {
@@ -95,7 +96,7 @@ fn wide16(n: u16) -> usize
 
 // Where record r begins.
 fn place(index: &Index, r: usize) -> usize
-    requires { ⌜ r < 200 ⌝ }
+    requires { ⌜ r < mostRecords ⌝ }
     ensures { λ at. ⌜ at ≡ getD (now (index .entry)) r 0 ⌝ }
 {
     wide16(index[r])
@@ -104,7 +105,7 @@ fn place(index: &Index, r: usize) -> usize
 // The kind of record r.
 pub fn kind(table: &[u8], index: &Index, r: usize) -> usize
     requires { ⌜ Here (now table) (now index) r ⌝ }
-    ensures { λ k. ⌜ (k ≡ kindAt (records (now (table .entry))) r) × (k ≤ 40) ⌝ }
+    ensures { λ k. ⌜ (k ≡ kindAt (records (now (table .entry))) r) × (k ≤ lastKind) ⌝ }
 {
     let at = place(index, r);
     kind_of(&table[at..])
@@ -116,7 +117,7 @@ pub fn field(table: &[u8], index: &Index, r: usize, i: usize) -> usize
     ensures { λ b. ⌜ (b ≡ fieldIn (recordAt (records (now (table .entry))) r) i) × (b < 256) ⌝ }
 {
     let at = place(index, r);
-    byte_of(&table[at..], 4 + i)
+    byte_of(&table[at..], HEADING + i)
 }
 
 // The number of operands of record r.
@@ -153,5 +154,5 @@ pub fn integer(table: &[u8], index: &Index, r: usize) -> i32
     ensures { λ z. ⌜ z ≡ integerOf (recordAt (records (now (table .entry))) r) ⌝ }
 {
     let at = place(index, r);
-    read32(&table[at..], 4)
+    read32(&table[at..], HEADING)
 }

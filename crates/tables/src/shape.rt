@@ -5,21 +5,27 @@ ghost use mathlib.Core.Bool.{_&&_, _||_};
 ghost use lib.Dec.{leb};
 ghost use lib.ListN.{length, getD};
 ghost use Rattle.integers.specs.Bytes.{word};
-ghost use Rattle.tables.specs.Record.{shape, isExpression, isPattern, fits, isFit};
+ghost use Rattle.tables.specs.Record.{shape, lastKind, isExpression, isPattern, fits, isFit};
 ghost use Rattle.tables.specs.Table.{first};
 ghost use Rattle.tables.specs.Sheet.{isBinder};
 ghost use Rattle.tables.specs.Shapes.{firstOf, rolesOf, firstRole, thirdRole, binderRole, knownFirst};
+use crate::HEADING;
 use crate::NAMES;
 use crate::Role;
 use crate::binary;
 use crate::kinds;
 use crate::unary;
 
+// The places past a field of one byte and past an integer, as the first field.
+const PAST_BYTE: usize = HEADING + 1;
+
+const PAST_INTEGER: usize = HEADING + 4;
+
 // The least and the greatest length of a record, and the step from one length to the next.
 struct Lengths(u8, u8, u8);
 
 // The lengths of each kind from 0 on. No record has kind 0 or 22 to 31.
-const LENGTHS: [Lengths; 41] = [
+const LENGTHS: [Lengths; kinds::LAST + 1] = [
     Lengths(4, 4, 1),
     // 1 boolean, 2 integer, 3 name
     Lengths(5, 5, 1),
@@ -93,13 +99,13 @@ pub fn is_between(low: usize, n: usize, high: usize) -> bool
 pub fn is_expression(kind: usize) -> bool
     ensures { λ r. ⌜ r ≡ isExpression kind ⌝ }
 {
-    is_between(kinds::BOOLEAN, kind, kinds::APPLY)
+    is_between(kinds::BOOLEAN, kind, kinds::LAST_EXPRESSION)
 }
 
 pub fn is_pattern(kind: usize) -> bool
     ensures { λ r. ⌜ r ≡ isPattern kind ⌝ }
 {
-    is_between(kinds::NAME_PATTERN, kind, kinds::LAST)
+    is_between(kinds::FIRST_PATTERN, kind, kinds::LAST)
 }
 
 // A kind that binds the names of its first operand.
@@ -125,7 +131,7 @@ pub fn is_loose(kind: usize) -> bool
 
 // The length is fit for the kind.
 pub fn fits_kind(kind: usize, len: usize) -> bool
-    requires { ⌜ (kind ≤ 40) × (4 ≤ len) ⌝ }
+    requires { ⌜ (kind ≤ lastKind) × (4 ≤ len) ⌝ }
     ensures { λ r. ⌜ r ≡ fits (shape kind) (len - 4) ⌝ }
 {
     let row = LENGTHS[kind];
@@ -146,19 +152,19 @@ pub fn fits_kind(kind: usize, len: usize) -> bool
 
 // The place of the first operand in a record of the kind: after length and kind, and what stands before the operands.
 pub fn first_operand(kind: usize) -> usize
-    requires { ⌜ kind ≤ 40 ⌝ }
+    requires { ⌜ kind ≤ lastKind ⌝ }
     ensures { λ r. ⌜ (r ≡ firstOf kind) × (r ≤ 8) ⌝ }
 {
     match kind {
-        kinds::UNARY => 5,
-        kinds::BINARY => 5,
-        kinds::BOOLEAN => 5,
-        kinds::NAME => 5,
-        kinds::NAME_PATTERN => 5,
-        kinds::BOOLEAN_PATTERN => 5,
-        kinds::INTEGER => 8,
-        kinds::INTEGER_PATTERN => 8,
-        _ => 4,
+        kinds::UNARY => PAST_BYTE,
+        kinds::BINARY => PAST_BYTE,
+        kinds::BOOLEAN => PAST_BYTE,
+        kinds::NAME => PAST_BYTE,
+        kinds::NAME_PATTERN => PAST_BYTE,
+        kinds::BOOLEAN_PATTERN => PAST_BYTE,
+        kinds::INTEGER => PAST_INTEGER,
+        kinds::INTEGER_PATTERN => PAST_INTEGER,
+        _ => HEADING,
     }
 }
 
@@ -166,7 +172,7 @@ pub fn first_operand(kind: usize) -> usize
 
 // What operand i of a record of the kind is for.
 pub fn role_of(kind: usize, i: usize) -> Role
-    requires { ⌜ (kind ≤ 40) × (i < length (rolesOf kind)) ⌝ }
+    requires { ⌜ (kind ≤ lastKind) × (i < length (rolesOf kind)) ⌝ }
     ensures { λ r. ⌜ r ≡ getD (rolesOf kind) i Role.Plain ⌝ }
 {
     if is_pattern(kind) {
@@ -215,7 +221,7 @@ fn third_role(kind: usize) -> Role
 
 // They are known, where n is the first field.
 fn is_known(kind: usize, n: usize) -> bool
-    requires { ⌜ kind ≤ 40 ⌝ }
+    requires { ⌜ kind ≤ lastKind ⌝ }
     ensures { λ r. ⌜ r ≡ knownFirst (shape kind .head) n ⌝ }
 {
     match kind {
@@ -251,8 +257,8 @@ pub fn is_fit(part: &[u8], kind: usize, len: usize) -> bool
     if !fit {
         return false;
     }
-    if len == 4 {
+    if len == HEADING {
         return is_known(kind, 0);
     }
-    is_known(kind, wide(part[4]))
+    is_known(kind, wide(part[HEADING]))
 }

@@ -1,5 +1,5 @@
 -- The rules one after the other.
-use Rattle.checking.proofs.Verdict.{clear-all, refused6, refused7, refused8, refused9, accepted}
+use Rattle.checking.proofs.Verdict.{clear-all, refused6, refused7, refused8, refused9, none-broken}
 use Rattle.tables.specs.Accepted.{records}
 use Rattle.checking.proofs.judge.Statement.{statement}
 use Rattle.checking.proofs.judge.Tie as tie
@@ -26,7 +26,7 @@ returns-4 : tie.Need-returns-4
 returns-4 c = refused9 (records (c .before .before .before .before .before .before .before .before .args .table .now)) (c .before .before .before .before .before .before .before .before .args .count) (c .before .before .before .before .before .before .before .before .pre .0 .all) (c .before .before .before .before .before .before .lowest6 .result) (c .before .before .before .before .before .before .lowest6 .ensures) (c .before .before .before .before .before .if1 .left) (c .before .before .before .before .lowest78 .result .low7) (c .before .before .before .before .lowest78 .ensures .0) (c .before .before .before .if2 .left) (c .before .before .before .before .lowest78 .result .low8) (c .before .before .before .before .lowest78 .ensures .1) (c .before .before .if3 .left) (c .before .lowest9 .result) (c .before .lowest9 .ensures) (c .if4 .taken)
 
 returns-5 : tie.Need-returns-5
-returns-5 c = accepted (records (c .before .before .before .before .before .before .before .before .args .table .now)) (c .before .before .before .before .before .before .before .before .args .count) (c .before .before .before .before .before .before .before .before .pre .0 .all) (c .before .before .before .before .before .before .lowest6 .result) (c .before .before .before .before .before .before .lowest6 .ensures) (c .before .before .before .before .before .if1 .left) (c .before .before .before .before .lowest78 .result .low7) (c .before .before .before .before .lowest78 .ensures .0) (c .before .before .before .if2 .left) (c .before .before .before .before .lowest78 .result .low8) (c .before .before .before .before .lowest78 .ensures .1) (c .before .before .if3 .left) (c .before .lowest9 .result) (c .before .lowest9 .ensures) (c .if4 .left)
+returns-5 c = none-broken (records (c .before .before .before .before .before .before .before .before .args .table .now)) (c .before .before .before .before .before .before .before .before .args .count) (c .before .before .before .before .before .before .before .before .pre .0 .all) (c .before .before .before .before .before .before .lowest6 .result) (c .before .before .before .before .before .before .lowest6 .ensures) (c .before .before .before .before .before .if1 .left) (c .before .before .before .before .lowest78 .result .low7) (c .before .before .before .before .lowest78 .ensures .0) (c .before .before .before .if2 .left) (c .before .before .before .before .lowest78 .result .low8) (c .before .before .before .before .lowest78 .ensures .1) (c .before .before .if3 .left) (c .before .lowest9 .result) (c .before .lowest9 .ensures) (c .if4 .left)
 
 pub judge-spec : {M : Type 1} → statement M
 judge-spec =

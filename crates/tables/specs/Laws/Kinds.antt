@@ -1,7 +1,7 @@
 -- The rows of the table of kinds: what holds of each holds of every kind, and the kinds of each sort are those that document 01 names.
 use mathlib.Core.Path.{_≡_, refl, sym, ap, _∙_}
 use mathlib.Core.Bool.{Bool, true, false, not, Bool·beq, _&&_, _||_}
-use mathlib.Core.List.{map}
+use mathlib.Core.List.{[], map}
 use Prim.Native.Nat.{ℕ, _≤_, _<_}
 use native.Mathlib.Omega.{arith}
 use borrow.Author.Tests.{lt-leb, le-leb, leb-true, ne-eqb}
@@ -16,14 +16,14 @@ pub beyond : (k : ℕ) → 40 < k → shape k ≡ missing
 unfolding shape
 beyond k h = List·getD-eq-default shapes missing {n = k} (omega arith)
 
+beq-same : (b c : Bool) → Bool·beq b c ≡ true → b ≡ c
+beq-same true true e = refl
+beq-same true false e = never e
+beq-same false true e = never e
+beq-same false false e = refl
+
 -- Two tests of a kind that agree above 40, and by computing on each kind up to it, agree.
 module _ (one other : ℕ → Bool) (above : (k : ℕ) → 40 < k → one k ≡ other k) where
-  beq-same : (b c : Bool) → Bool·beq b c ≡ true → b ≡ c
-  beq-same true true e = refl
-  beq-same true false e = never e
-  beq-same false true e = never e
-  beq-same false false e = refl
-
   pub on-kinds : any (λ k. not (Bool·beq (one k) (other k))) 41 ≡ false → (k : ℕ) → one k ≡ other k
   on-kinds e k = split 40 k (above k) (λ h. beq-same (one k) (other k) (each (λ k. Bool·beq (one k) (other k)) 41 e k (omega arith)))
 
@@ -50,6 +50,13 @@ unfolding shape
 loose-kinds r =
     on-kinds (λ k. shape k .loose) (λ k. eqb k 37 || eqb k 38 || eqb k 40)
     (λ k h. ap (λ (s : Shape). s .loose) (beyond k h) ∙ rw (ne-eqb k 37 (omega arith), ne-eqb k 38 (omega arith), ne-eqb k 40 (omega arith))) refl (r .kind)
+
+pub loose-kind : {k : ℕ} → (k ≡ 37 → shape k .loose ≡ true) × (k ≡ 38 → shape k .loose ≡ true) × (k ≡ 40 → shape k .loose ≡ true)
+unfolding shape
+loose-kind = (λ e. ap (λ (k : ℕ). shape k .loose) e, λ e. ap (λ (k : ℕ). shape k .loose) e, λ e. ap (λ (k : ℕ). shape k .loose) e)
+
+pub not-loose : (k : ℕ) → (k ≡ 37 → ⊥) → (k ≡ 38 → ⊥) → (k ≡ 40 → ⊥) → shape k .loose ≡ false
+not-loose k a b d = loose-kinds (record { kind = k; fields = [] }) ∙ rw (ne-eqb k 37 a, ne-eqb k 38 b, ne-eqb k 40 d)
 
 pub binder-kinds : (k : ℕ) → isBinder k ≡ leb 12 k && leb k 20
 unfolding shape

@@ -1,5 +1,5 @@
 -- By role.
-use Rattle.checking.specs.Scopes.{union}
+use Rattle.checking.specs.Scopes.{orBits}
 use Prim.Native.Nat.{ℕ}
 use native.Mathlib.Omega.{arith}
 use mathlib.Core.Path.{sym, ap, _∙_}
@@ -38,7 +38,7 @@ returns : tie.Need-returns
 returns c = rw (sym (c .before .before .role .ensures), c .enum-told .given .1)
 
 returns-2 : tie.Need-returns-2
-returns-2 c = rw (sym (c .before .before .before .before .role .ensures), c .before .before .enum-told2 .given .1) (c .union .ensures ∙ ap (λ (k : ℕ). union k 1) (c .before .pattern-bits .ensures))
+returns-2 c = rw (sym (c .before .before .before .before .role .ensures), c .before .before .enum-told2 .given .1) (c .union .ensures ∙ ap (λ (k : ℕ). orBits k 1) (c .before .pattern-bits .ensures))
 
 returns-3 : tie.Need-returns-3
 returns-3 c = rw (sym (c .before .before .before .role .ensures), c .before .enum-told3 .given .1) (c .pattern-bits2 .ensures)

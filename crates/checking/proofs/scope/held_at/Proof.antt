@@ -1,5 +1,5 @@
 -- The bits of the operands that are left make the rest.
-use Rattle.checking.specs.Scopes.{held}
+use Rattle.checking.specs.Scopes.{bitsBelow}
 use lib.ListN.{getD}
 use Rattle.checking.proofs.Below.{Turn, turn-start, turn-more, turn-end}
 use Rattle.tables.specs.Accepted.{lower, operand-lower}
@@ -45,7 +45,7 @@ loop-less : tie.Need-loop-less Inv-loop μ-loop
 loop-less c = omega arith
 
 loop-again : tie.Need-loop-again Inv-loop μ-loop
-loop-again c = turn-more (records (c .before .before .before .before .before .before .before .before .args .table .now)) (c .before .before .before .before .before .before .before .before .args .r) (c .before .before .before .before .loop .m) (c .before .before .before .before .loop .i) (c .union .result) (getD (c .before .before .before .before .before .before .before .before .args .below .now) (c .before .before .operand .result) 0) (c .before .before .before .before .loop .inv) (omega (arith, c .before .before .before .loop-test .taken, c .before .before .before .before .before .before .operand-count .ensures .0)) (c .before .before .before .before .before .before .before .before .pre .below .is (c .before .before .operand .result) (omega (arith, c .before .before .operand .ensures .0, operand-lower (records (c .before .before .before .before .before .before .before .before .args .table .now)) (c .before .before .before .before .before .before .before .before .pre .clear) (c .before .before .before .before .before .before .before .before .args .r) (c .before .before .before .before .loop .i) (c .before .before .before .before .before .before .before .before .pre .here .within) (omega (arith, c .before .before .before .loop-test .taken, c .before .before .before .before .before .before .operand-count .ensures .0)))) ∙ ap (held (records (c .before .before .before .before .before .before .before .before .args .table .now))) (c .before .before .operand .ensures .0)) (c .union .ensures)
+loop-again c = turn-more (records (c .before .before .before .before .before .before .before .before .args .table .now)) (c .before .before .before .before .before .before .before .before .args .r) (c .before .before .before .before .loop .m) (c .before .before .before .before .loop .i) (c .union .result) (getD (c .before .before .before .before .before .before .before .before .args .below .now) (c .before .before .operand .result) 0) (c .before .before .before .before .loop .inv) (omega (arith, c .before .before .before .loop-test .taken, c .before .before .before .before .before .before .operand-count .ensures .0)) (c .before .before .before .before .before .before .before .before .pre .below .is (c .before .before .operand .result) (omega (arith, c .before .before .operand .ensures .0, operand-lower (records (c .before .before .before .before .before .before .before .before .args .table .now)) (c .before .before .before .before .before .before .before .before .pre .clear) (c .before .before .before .before .before .before .before .before .args .r) (c .before .before .before .before .loop .i) (c .before .before .before .before .before .before .before .before .pre .here .within) (omega (arith, c .before .before .before .loop-test .taken, c .before .before .before .before .before .before .operand-count .ensures .0)))) ∙ ap (bitsBelow (records (c .before .before .before .before .before .before .before .before .args .table .now))) (c .before .before .operand .ensures .0)) (c .union .ensures)
 
 returns : tie.Need-returns Inv-loop μ-loop
 returns c = turn-end (records (c .before .before .before .before .before .args .table .now)) (c .before .before .before .before .before .args .r) (c .before .loop .m) (c .before .loop .i) (c .before .loop .inv) (omega (arith, c .loop-test .left, c .before .before .before .operand-count .ensures .0))

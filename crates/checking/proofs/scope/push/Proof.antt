@@ -1,6 +1,6 @@
 -- The bits around the record stand, and go on to the operands below i.
 use Rattle.checking.proofs.Above.{Pushed, push-start, own-around, push-more, push-end}
-use Rattle.checking.specs.Scopes.{union, around}
+use Rattle.checking.specs.Scopes.{orBits, around}
 use Rattle.tables.specs.Accepted.{operand-lower}
 use Rattle.tables.specs.Accepted.{records}
 use Prim.Native.Nat.{ℕ, _-_}
@@ -50,7 +50,7 @@ loop-less : tie.Need-loop-less Inv-loop μ-loop
 loop-less c = omega arith
 
 loop-again : tie.Need-loop-again Inv-loop μ-loop
-loop-again c = push-more (records (c .before .before .before .before .before .before .before .before .args .table .now)) (c .before .before .before .before .before .before .before .before .pre .clear) (c .before .before .before .before .before .before .before .before .args .q) (c .before .before .before .before .loop .i) (c .before .before .operand .result) (c .union .result) (c .before .before .before .before .loop .above) _ (c .before .before .before .before .before .before .before .before .pre .here .within) (c .before .before .before .before .before .before .before .before .pre .here .indexed .few) (omega (arith, c .before .before .before .loop-test .taken, c .before .before .before .before .before .before .operand-count .ensures .0)) (c .before .before .before .before .loop .inv) (c .before .before .operand .ensures .0) (c .union .ensures ∙ ap (λ (k : ℕ). union k (c .before .given .result)) (own-around (records (c .before .before .before .before .before .before .before .before .args .table .now)) (c .before .before .before .before .before .before .before .before .pre .clear) (c .before .before .before .before .before .before .before .before .args .q) (c .before .before .before .before .before .before .before .before .args .above .now) (c .before .before .before .before .before .before .before .before .pre .here .within) (c .before .before .before .before .before .before .before .before .pre .around)) ∙ ap (union (around (records (c .before .before .before .before .before .before .before .before .args .table .now)) (c .before .before .before .before .before .before .before .before .args .q))) (c .before .given .ensures)) refl
+loop-again c = push-more (records (c .before .before .before .before .before .before .before .before .args .table .now)) (c .before .before .before .before .before .before .before .before .pre .clear) (c .before .before .before .before .before .before .before .before .args .q) (c .before .before .before .before .loop .i) (c .before .before .operand .result) (c .union .result) (c .before .before .before .before .loop .above) _ (c .before .before .before .before .before .before .before .before .pre .here .within) (c .before .before .before .before .before .before .before .before .pre .here .indexed .few) (omega (arith, c .before .before .before .loop-test .taken, c .before .before .before .before .before .before .operand-count .ensures .0)) (c .before .before .before .before .loop .inv) (c .before .before .operand .ensures .0) (c .union .ensures ∙ ap (λ (k : ℕ). orBits k (c .before .given .result)) (own-around (records (c .before .before .before .before .before .before .before .before .args .table .now)) (c .before .before .before .before .before .before .before .before .pre .clear) (c .before .before .before .before .before .before .before .before .args .q) (c .before .before .before .before .before .before .before .before .args .above .now) (c .before .before .before .before .before .before .before .before .pre .here .within) (c .before .before .before .before .before .before .before .before .pre .around)) ∙ ap (orBits (around (records (c .before .before .before .before .before .before .before .before .args .table .now)) (c .before .before .before .before .before .before .before .before .args .q))) (c .before .given .ensures)) refl
 
 returns : tie.Need-returns Inv-loop μ-loop
 returns c = push-end (records (c .before .before .before .before .before .args .table .now)) (c .before .before .before .before .before .pre .clear) (c .before .before .before .before .before .args .q) (c .before .loop .i) (c .before .loop .above) (c .before .before .before .before .before .pre .here .within) (c .before .loop .inv) (omega (arith, c .loop-test .left, c .before .before .before .operand-count .ensures .0))

@@ -1,5 +1,6 @@
 -- The length less what stands before the operands.
 use Rattle.tables.specs.Shapes.{firstOf}
+use Rattle.tables.proofs.Fit.{plus-zero}
 use Rattle.tables.proofs.Stand.{byte-at, part-long, in-index, four, count-is, count-few}
 use lib.ListN.{length, getD}
 use Rattle.tables.specs.Record.{named}
@@ -11,9 +12,6 @@ use mathlib.Core.Path.{_≡_, ap, _∙_}
 use borrow.Author.Needs.{needs}
 use Rattle.tables.proofs.reading.operand_count.Statement.{statement}
 use Rattle.tables.proofs.reading.operand_count.Tie as tie
-
-plus-zero : (a : ℕ) → a + 0 ≡ a
-plus-zero a = omega arith
 
 place-requires : tie.Need-place-requires
 place-requires c κs = in-index (c .before .args .table .now) (c .before .args .index .now) (c .before .args .r) (c .before .pre)

@@ -1,9 +1,7 @@
 -- Kinds 37, 38 and 40.
-use mathlib.Core.Path.{sym, _∙_}
-use mathlib.Core.List.{[]}
-use borrow.Author.Tests.{ne-eqb}
+use mathlib.Core.Path.{sym}
 use Rattle.tables.specs.Record.{shape}
-use Rattle.tables.specs.Laws.Kinds.{loose-kinds}
+use Rattle.tables.specs.Laws.Kinds.{not-loose}
 use Rattle.tables.proofs.shape.is_loose.Statement.{statement}
 use Rattle.tables.proofs.shape.is_loose.Tie as tie
 
@@ -20,9 +18,7 @@ unfolding shape
 returns-3 c = rw (c .match .keys3)
 
 returns-4 : tie.Need-returns-4
-returns-4 c =
-    sym (loose-kinds (record { kind = c .before .args .kind; fields = [] })
-    ∙ rw (ne-eqb (c .before .args .kind) 37 (c .match .rest .0 .0 .1), ne-eqb (c .before .args .kind) 38 (c .match .rest .0 .1), ne-eqb (c .before .args .kind) 40 (c .match .rest .1)))
+returns-4 c = sym (not-loose (c .before .args .kind) (c .match .rest .0 .0 .1) (c .match .rest .0 .1) (c .match .rest .1))
 
 pub is-loose-spec : {M : Type 1} → statement M
 is-loose-spec = tie.close (tie.spec returns returns-2 returns-3 returns-4)

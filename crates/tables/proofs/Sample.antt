@@ -28,7 +28,7 @@ pattern n = row 32 (n ∷ [])
 
 -- ---- the example of "The walk print"
 
-abbrev pub example : List ℕ
+abbrev example : List ℕ
 example =
     rows
     (pattern 0
@@ -44,74 +44,74 @@ example =
     ∷ (8 ∷ 0 ∷ 13 ∷ 0 ∷ 0 ∷ 3 ∷ 6 ∷ 9 ∷ [])
     ∷ [])
 
-pub example-accepted : check example ≡ Accepted 11
+example-accepted : check example ≡ Accepted 11
 unfolding check judgedCut judged fault6 fault7 fault8 fault9 chooses isBound inCondition climbBy height loose holdsName foldBy cut cutBy next isFit operands shape
 example-accepted = refl
 
 -- ---- a table refused by each rule
 
 -- 3: no byte.
-pub empty : check [] ≡ Refused 3 0
+empty : check [] ≡ Refused 3 0
 unfolding check judgedCut judged fault6 fault7 fault8 fault9 chooses isBound inCondition climbBy height loose holdsName foldBy cut cutBy next isFit operands shape
 empty = refl
 
 -- 3: 2,401 bytes.
-pub too-long : check (replicate 2401 0) ≡ Refused 3 0
+too-long : check (replicate 2401 0) ≡ Refused 3 0
 unfolding check judgedCut judged fault6 fault7 fault8 fault9 chooses isBound inCondition climbBy height loose holdsName foldBy cut cutBy next isFit operands shape
 too-long = refl
 
 -- 4: fewer than 4 bytes left for record 1.
-pub cut-off : check (rows (whole 1 ∷ (5 ∷ 0 ∷ 1 ∷ []) ∷ [])) ≡ Refused 4 1
+cut-off : check (rows (whole 1 ∷ (5 ∷ 0 ∷ 1 ∷ []) ∷ [])) ≡ Refused 4 1
 unfolding check judgedCut judged fault6 fault7 fault8 fault9 chooses isBound inCondition climbBy height loose holdsName foldBy cut cutBy next isFit operands shape
 cut-off = refl
 
 -- 4: record 1 has an unknown kind.
-pub unknown-kind : check (rows (whole 1 ∷ row 22 [] ∷ whole 2 ∷ [])) ≡ Refused 4 1
+unknown-kind : check (rows (whole 1 ∷ row 22 [] ∷ whole 2 ∷ [])) ≡ Refused 4 1
 unfolding check judgedCut judged fault6 fault7 fault8 fault9 chooses isBound inCondition climbBy height loose holdsName foldBy cut cutBy next isFit operands shape
 unknown-kind = refl
 
 -- 4: a map enumeration with a key and no value.
-pub odd-map : check (rows (whole 1 ∷ row 9 (0 ∷ []) ∷ [])) ≡ Refused 4 1
+odd-map : check (rows (whole 1 ∷ row 9 (0 ∷ []) ∷ [])) ≡ Refused 4 1
 unfolding check judgedCut judged fault6 fault7 fault8 fault9 chooses isBound inCondition climbBy height loose holdsName foldBy cut cutBy next isFit operands shape
 odd-map = refl
 
 -- 5: 201 records.
-pub too-many : check (rows (replicate 201 (row 33 []))) ≡ Refused 5 200
+too-many : check (rows (replicate 201 (row 33 []))) ≡ Refused 5 200
 unfolding check judgedCut judged fault6 fault7 fault8 fault9 chooses isBound inCondition climbBy height loose holdsName foldBy cut cutBy next isFit operands shape
 too-many = refl
 
 -- 6: record 1 names record 0 twice.
-pub named-twice : check (rows (whole 1 ∷ row 5 (7 ∷ 0 ∷ 0 ∷ []) ∷ [])) ≡ Refused 6 1
+named-twice : check (rows (whole 1 ∷ row 5 (7 ∷ 0 ∷ 0 ∷ []) ∷ [])) ≡ Refused 6 1
 unfolding check judgedCut judged fault6 fault7 fault8 fault9 chooses isBound inCondition climbBy height loose holdsName foldBy cut cutBy next isFit operands shape
 named-twice = refl
 
 -- 6: no record names record 0; and record 2 names itself, but 0 is lower.
-pub never-named : check (rows (whole 1 ∷ whole 2 ∷ row 4 (2 ∷ 2 ∷ []) ∷ [])) ≡ Refused 6 0
+never-named : check (rows (whole 1 ∷ whole 2 ∷ row 4 (2 ∷ 2 ∷ []) ∷ [])) ≡ Refused 6 0
 unfolding check judgedCut judged fault6 fault7 fault8 fault9 chooses isBound inCondition climbBy height loose holdsName foldBy cut cutBy next isFit operands shape
 never-named = refl
 
 -- 6: the last record is a pattern.
-pub last-pattern : check (pattern 0) ≡ Refused 6 0
+last-pattern : check (pattern 0) ≡ Refused 6 0
 unfolding check judgedCut judged fault6 fault7 fault8 fault9 chooses isBound inCondition climbBy height loose holdsName foldBy cut cutBy next isFit operands shape
 last-pattern = refl
 
 -- 6: the pattern of iota is no name.
-pub iota-any : check (rows (row 33 [] ∷ row 7 [] ∷ row 1 (1 ∷ []) ∷ row 17 (0 ∷ 1 ∷ 2 ∷ []) ∷ [])) ≡ Refused 6 3
+iota-any : check (rows (row 33 [] ∷ row 7 [] ∷ row 1 (1 ∷ []) ∷ row 17 (0 ∷ 1 ∷ 2 ∷ []) ∷ [])) ≡ Refused 6 3
 unfolding check judgedCut judged fault6 fault7 fault8 fault9 chooses isBound inCondition climbBy height loose holdsName foldBy cut cutBy next isFit operands shape
 iota-any = refl
 
 -- 7: forall 0 in set {0} with true: the name in the set operand is not bound.
-pub unbound : check (rows (pattern 0 ∷ name 0 ∷ row 7 (1 ∷ []) ∷ row 1 (1 ∷ []) ∷ row 14 (0 ∷ 2 ∷ 3 ∷ []) ∷ [])) ≡ Refused 7 1
+unbound : check (rows (pattern 0 ∷ name 0 ∷ row 7 (1 ∷ []) ∷ row 1 (1 ∷ []) ∷ row 14 (0 ∷ 2 ∷ 3 ∷ []) ∷ [])) ≡ Refused 7 1
 unfolding check judgedCut judged fault6 fault7 fault8 fault9 chooses isBound inCondition climbBy height loose holdsName foldBy cut cutBy next isFit operands shape
 unbound = refl
 
 -- 7: forall 0 in set {} with (forall 0 in set {} with true): the inner pattern is bound around its binder.
-pub bound-twice : check (rows (pattern 0 ∷ row 7 [] ∷ pattern 0 ∷ row 7 [] ∷ row 1 (1 ∷ []) ∷ row 14 (2 ∷ 3 ∷ 4 ∷ []) ∷ row 14 (0 ∷ 1 ∷ 5 ∷ []) ∷ [])) ≡ Refused 7 2
+bound-twice : check (rows (pattern 0 ∷ row 7 [] ∷ pattern 0 ∷ row 7 [] ∷ row 1 (1 ∷ []) ∷ row 14 (2 ∷ 3 ∷ 4 ∷ []) ∷ row 14 (0 ∷ 1 ∷ 5 ∷ []) ∷ [])) ≡ Refused 7 2
 unfolding check judgedCut judged fault6 fault7 fault8 fault9 chooses isBound inCondition climbBy height loose holdsName foldBy cut cutBy next isFit operands shape
 bound-twice = refl
 
 -- 8: forall 0 in set {} with (let {1} = {} in true).
-pub choice-in-condition : check (rows (pattern 0 ∷ row 7 [] ∷ pattern 1 ∷ row 37 (2 ∷ []) ∷ row 7 [] ∷ row 1 (1 ∷ []) ∷ row 12 (3 ∷ 4 ∷ 5 ∷ []) ∷ row 14 (0 ∷ 1 ∷ 6 ∷ []) ∷ [])) ≡ Refused 8 6
+choice-in-condition : check (rows (pattern 0 ∷ row 7 [] ∷ pattern 1 ∷ row 37 (2 ∷ []) ∷ row 7 [] ∷ row 1 (1 ∷ []) ∷ row 12 (3 ∷ 4 ∷ 5 ∷ []) ∷ row 14 (0 ∷ 1 ∷ 6 ∷ []) ∷ [])) ≡ Refused 8 6
 unfolding check judgedCut judged fault6 fault7 fault8 fault9 chooses isBound inCondition climbBy height loose holdsName foldBy cut cutBy next isFit operands shape
 choice-in-condition = refl
 
@@ -121,14 +121,14 @@ nots zero r = []
 nots (suc n) r = row 4 (1 ∷ r ∷ []) ++ nots n (suc r)
 
 -- not .. not true, of height n + 1.
-abbrev pub tower : ℕ → List ℕ
+abbrev tower : ℕ → List ℕ
 tower n = row 1 (1 ∷ []) ++ nots n 0
 
 -- Height 32 is accepted, 33 is not.
-pub high-enough : check (tower 31) ≡ Accepted 32
+high-enough : check (tower 31) ≡ Accepted 32
 unfolding check judgedCut judged fault6 fault7 fault8 fault9 chooses isBound inCondition climbBy height loose holdsName foldBy cut cutBy next isFit operands shape
 high-enough = refl
 
-pub too-high : check (tower 32) ≡ Refused 9 32
+too-high : check (tower 32) ≡ Refused 9 32
 unfolding check judgedCut judged fault6 fault7 fault8 fault9 chooses isBound inCondition climbBy height loose holdsName foldBy cut cutBy next isFit operands shape
 too-high = refl
