@@ -6,7 +6,7 @@ use Prim.Native.Nat.{ℕ, _+_, _≤_}
 use native.Mathlib.Omega.{arith}
 use lib.ListN.{length}
 use Rattle.integers.specs.Bytes.{word}
-use Rattle.values.specs.Value.{Value, size, mostBytes}
+use Rattle.values.specs.Value.{Value, size, valueLimit}
 use Rattle.values.specs.Place.{At, Holds, Outside}
 use Rattle.values.specs.Contract.{Put, Copyable, Copied}
 use Rattle.values.proofs.Records.{holds, word-size}
@@ -34,7 +34,7 @@ put-kept p = record { long = p .outside .long; below = p .outside .below }
 -- ---- what stands below the base
 
 -- a value stays where its limit ends at or below the base, or its record does
-pub at-kept : {s t : List ℕ} {base at : ℕ} {v : Value} → Kept s t base → base ≤ length s → at + mostBytes ≤ base → At s at v → At t at v
+pub at-kept : {s t : List ℕ} {base at : ℕ} {v : Value} → Kept s t base → base ≤ length s → at + valueLimit ≤ base → At s at v → At t at v
 at-kept {base = base} k l h a = kept {base = base} (k .below) (omega (arith, k .long)) (omega (arith, a .fine .short)) a
 
 pub record-kept : {s t : List ℕ} {base at : ℕ} {v : Value} → Kept s t base → base ≤ length s → at + size v ≤ base → At s at v → At t at v

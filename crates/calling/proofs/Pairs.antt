@@ -14,7 +14,7 @@ use Rattle.values.specs.Value.{Value, integer}
 use Rattle.values.specs.Place.{At}
 use Rattle.values.specs.Contract.{Put}
 use Rattle.values.proofs.Records.{integer-range}
-use Rattle.operators.specs.Answer.{Answer, is, refused, wrongKind, asInteger, needsBoth, Fine}
+use Rattle.operators.specs.Answer.{Answer, is, refused, wrongKind, asInteger, needsBoth, FineAnswer}
 use Rattle.operators.specs.Arithmetic.{answered}
 use Rattle.operators.specs.Operators.{binary}
 use Rattle.operator_laws.proofs.Results.{binary-fine}
@@ -36,16 +36,16 @@ machine z = toZ w32 (ofZ w32 z)
 pub place-fits : {s : List ℕ} {at : ℕ} {z : ℤ} → At s at (integer z) → SFits w32 z
 place-fits {z = z} a = range-fits z (integer-range (a .fine))
 
-number-in : {n : Number} {z : ℤ} → n ≡ Is z → Fine (answered n) → InRange z
-number-in e f = integer-range (subst (λ (m : Number). Fine (answered m)) e f)
+number-in : {n : Number} {z : ℤ} → n ≡ Is z → FineAnswer (answered n) → InRange z
+number-in e f = integer-range (subst (λ (m : Number). FineAnswer (answered m)) e f)
 
-exact : {n : Number} {z : ℤ} → n ≡ Is z → Fine (answered n) → machine z ≡ z
+exact : {n : Number} {z : ℤ} → n ≡ Is z → FineAnswer (answered n) → machine z ≡ z
 exact {z = z} e f = toZ-ofZ (range-fits z (number-in e f))
 
-pub number-range : {n : Number} {z : ℤ} → n ≡ Is z → Fine (answered n) → InRange (machine z)
+pub number-range : {n : Number} {z : ℤ} → n ≡ Is z → FineAnswer (answered n) → InRange (machine z)
 number-range e f = subst InRange (sym (exact e f)) (number-in e f)
 
-pub number-gives : {n : Number} {z : ℤ} {s t : List ℕ} {base k r : ℕ} → n ≡ Is z → Fine (answered n) → Put s t base (integer (machine z)) k r → Gives (answered n) s t base Done
+pub number-gives : {n : Number} {z : ℤ} {s t : List ℕ} {base k r : ℕ} → n ≡ Is z → FineAnswer (answered n) → Put s t base (integer (machine z)) k r → Gives (answered n) s t base Done
 number-gives e f p = gives-same (ap answered e ∙ ap (λ (x : ℤ). is (integer x)) (sym (exact e f))) (gives-put p)
 
 -- ---- two integers that were read
@@ -68,9 +68,9 @@ module _ {s : List ℕ} {base : ℕ} {p : Pair} (read : PairAt s base p) where
   pub pair-right : {a b : ℤ} → p ≡ Integers a b → At s (base + second) (integer (machine b))
   pair-right e = let h = both-of (subst (PairAt s base) e read) .1 in subst (λ (z : ℤ). At s (base + second) (integer z)) (sym (toZ-ofZ (place-fits h))) h
 
-  pub pair-fine : (operator : ℕ) {a b : ℤ} {x : Answer} → p ≡ Integers a b → binary operator (integer (machine a)) (integer (machine b)) ≡ x → Fine x
+  pub pair-fine : (operator : ℕ) {a b : ℤ} {x : Answer} → p ≡ Integers a b → binary operator (integer (machine a)) (integer (machine b)) ≡ x → FineAnswer x
   pair-fine operator {a} {b} e h =
-      subst Fine h (binary-fine operator (integer (machine a)) (integer (machine b)) (pair-left e .fine) (pair-right e .fine))
+      subst FineAnswer h (binary-fine operator (integer (machine a)) (integer (machine b)) (pair-left e .fine) (pair-right e .fine))
 
   pub pair-gives : {f : Value → Value → Answer} {a b : ℤ} {t : List ℕ} {r : Applied} {x : Answer} → p ≡ Integers a b → f (integer (machine a)) (integer (machine b)) ≡ x → Gives x s t base r → OnTwo f s t base r
   pair-gives e h g = two-gives (pair-left e) (pair-right e) (gives-same h g)

@@ -3,11 +3,11 @@ use mathlib.Core.Path.{_≡_}
 use mathlib.Core.List.{List}
 use Prim.Native.Nat.{ℕ}
 use lib.ListN.{length, take}
-use Rattle.values.specs.Value.{mostBytes}
+use Rattle.values.specs.Value.{valueLimit}
 
 -- How far above the base a second operand stands: a value's limit.
 abbrev pub second : ℕ
-second = mostBytes
+second = valueLimit
 
 -- How far above it what an operator builds stands, where the operands are still needed: two limits.
 abbrev pub third : ℕ

@@ -5,7 +5,7 @@ ghost use Prim.Native.Nat.{_+_, _≤_};
 ghost use lib.ListN.{length};
 ghost use Rattle.operators.specs.Booleans.{truth};
 ghost use Rattle.operators.specs.Arithmetic.{answered};
-ghost use Rattle.operators.specs.Answer.{Fine};
+ghost use Rattle.operators.specs.Answer.{FineAnswer};
 ghost use Rattle.calling.specs.Applied.{Two, Gives};
 ghost use Rattle.calling.specs.Operands.{KindsAre, PairAt};
 
@@ -97,7 +97,7 @@ pub fn put_truth(s: &mut [u8], base: usize, b: bool) -> Applied
 
 // An integer, 21 or 22 as the answer.
 pub fn put_number(s: &mut [u8], base: usize, n: Number) -> Applied
-    requires { ⌜ (base + 8 ≤ length (now s)) × Fine (answered n) ⌝ }
+    requires { ⌜ (base + 8 ≤ length (now s)) × FineAnswer (answered n) ⌝ }
     ensures { λ r. ⌜ Gives (answered n) (now (s .entry)) (now (s .exit)) base r ⌝ }
 {
     match n {

@@ -4,11 +4,10 @@ use mathlib.Core.List.{List}
 use mathlib.Core.Logic.{_⊎_, inl, inr}
 use Prim.Native.Nat.{ℕ, _+_, _≤_, _<_}
 use native.Mathlib.Omega.{arith}
-use borrow.Author.Tests.{le-leb, lt-leb}
 use lib.ListN.{length}
 use Rattle.prelude.proofs.Absurd.{impossible}
 use Rattle.integers.specs.Bytes.{word}
-use Rattle.values.specs.Value.{set, Value, collection, Items, none, more, size, sizes, mostBytes}
+use Rattle.values.specs.Value.{set, Value, collection, Items, none, more, size, sizes, valueLimit}
 use Rattle.values.specs.Items.{insert}
 use Rattle.values.specs.Place.{At, ItemsAt, Holds, HoldsItems, Outside}
 use Rattle.values.proofs.Encoding.{collection-size}
@@ -17,6 +16,7 @@ use Rattle.values.proofs.Frame.{outside-none, outside-both, word-below, word-ab
 use Rattle.collections.specs.declared.building.Added.{Added}
 use Rattle.collections.specs.declared.building.Added.the-variants.{Done as Put, Full as TooLong}
 use Rattle.collections.specs.Building.{added, Apart, Room, Inserts}
+use Rattle.collections.proofs.Additions.{added-put, added-long}
 use Rattle.collections.proofs.Built.{over, at-apart}
 use Rattle.operators.specs.Gather.{insertAll}
 use Rattle.operator_laws.proofs.Gather.{sizes-grow-all}
@@ -26,11 +26,11 @@ use Rattle.gathering.proofs.Walks.{Left, First, items-first, items-on, 
 -- ---- what goes in next
 
 -- an item among those from a place up to another, none of which stands where the set is built
-pub apart-at : (s : List ℕ) {from to at : ℕ} (p : ℕ) → (to ≤ at) ⊎ (at + mostBytes ≤ from) → from ≤ p → p + word s p ≤ to → Apart s at p
+pub apart-at : (s : List ℕ) {from to at : ℕ} (p : ℕ) → (to ≤ at) ⊎ (at + valueLimit ≤ from) → from ≤ p → p + word s p ≤ to → Apart s at p
 apart-at s p (inl b) h g = inl (omega arith)
 apart-at s p (inr b) h g = inr (omega arith)
 
-pub word-apart : {s t : List ℕ} {at p : ℕ} → Outside s t at (at + mostBytes) → Apart s at p → 4 ≤ word s p → word t p ≡ word s p
+pub word-apart : {s t : List ℕ} {at p : ℕ} → Outside s t at (at + valueLimit) → Apart s at p → 4 ≤ word s p → word t p ≡ word s p
 word-apart {p = p} o (inl b) h = word-below o p (omega arith)
 word-apart {p = p} o (inr b) h = word-above o p (omega arith)
 
@@ -41,11 +41,11 @@ pub record Next (s t : List ℕ) (to at p : ℕ) : Type 0 where
   pub length-same : length t ≡ length s
   pub word-same : word t p ≡ word s p
   pub low : 4 ≤ word t p
-  pub high : word t p ≤ mostBytes
+  pub high : word t p ≤ valueLimit
   pub inside : p + word t p ≤ to
   pub fits : to ≤ length s
 
-pub next-item : {s t : List ℕ} {from to at p : ℕ} {P : Items → Type 0} → Outside s t at (at + mostBytes) → (to ≤ at) ⊎ (at + mostBytes ≤ from) → from ≤ p → First s to P p → Next s t to at p
+pub next-item : {s t : List ℕ} {from to at p : ℕ} {P : Items → Type 0} → Outside s t at (at + valueLimit) → (to ≤ at) ⊎ (at + valueLimit ≤ from) → from ≤ p → First s to P p → Next s t to at p
 next-item {s} {t} {from} {to} {at} {p} o a h y =
     let i = y .inside in
     let b : Apart s at p = apart-at s p a h i in
@@ -67,7 +67,7 @@ next-item {s} {t} {from} {to} {at} {p} o a h y =
 
 -- what f says went into the set, of the value at p
 pub record Steps (f : Items → Value → Items) (s t : List ℕ) (at p : ℕ) (r : Added) : Type 0 where
-  pub frame : Outside s t at (at + mostBytes)
+  pub frame : Outside s t at (at + valueLimit)
   pub right : (us : Items) (w : Value) → At s at (collection set us) → At s p w → Grown t at (f us w) r
 
 abbrev pub insertOne : Items → Value → Items
@@ -85,27 +85,21 @@ pub record Gathered (g : Items → Items) (s t : List ℕ) (to at p : ℕ) (whol
   pub left : Left s to (λ (rest : Items). whole ≡ insertAll us (g rest)) p
 
 pub record Gathering (g : Items → Items) (s t : List ℕ) (from to at p : ℕ) : Type 0 where
-  pub frame : Outside s t at (at + mostBytes)
+  pub frame : Outside s t at (at + valueLimit)
   pub past : from ≤ p
   pub state : (vs ws : Items) → At s at (collection set vs) → ItemsAt s from to ws → Gathered g s t to at p (insertAll vs (g ws))
 
 pub gather-start : (g : Items → Items) (s : List ℕ) (from to at : ℕ) → Gathering g s s from to at from
 gather-start g s from to at =
     record {
-      frame = outside-none s at (at + mostBytes);
+      frame = outside-none s at (at + valueLimit);
       past = omega arith;
       state = λ vs ws a h. record { us = vs; made = a; left = record { rest = ws; here = h; so = refl } };
     }
 
-pub put-added : (n : ℕ) → n ≤ mostBytes → Put ≡ added n
-put-added n h = rw (le-leb n mostBytes h)
-
-long-added : (n : ℕ) → mostBytes < n → TooLong ≡ added n
-long-added n h = rw (lt-leb n mostBytes h)
-
 module _ {g : Items → Items} {s t : List ℕ} {from to at p : ℕ} (w : Gathering g s t from to at p) where
   -- what the code needs to know of the record at p, once the slice has become u
-  pub gather-next : {u : List ℕ} → p < to → Outside s u at (at + mostBytes) → HoldsItems s from to → Growing s from to at → Next s u to at p
+  pub gather-next : {u : List ℕ} → p < to → Outside s u at (at + valueLimit) → HoldsItems s from to → Growing s from to at → Next s u to at p
   gather-next lt o h r =
       let k = w .state (r .held .items) (h .0) (r .held .here) (h .1) in
       next-item o (r .apart) (w .past) (items-first lt (k .left))
@@ -119,10 +113,10 @@ module _ {g : Items → Items} {s t : List ℕ} {from to at p : ℕ} (w : Gather
       record { held = record { items = k .us; here = k .made }; room = omega arith; item = n .item; apart = n .apart }
 
   -- f puts in what g gathers of one item
-  module _ {f : Items → Value → Items} (law : (us : Items) (v : Value) (rest : Items) → insertAll us (g (more v rest)) ≡ insertAll (f us v) (g rest)) {u : List ℕ} {r : Added} (lt : p < to) (apart : (to ≤ at) ⊎ (at + mostBytes ≤ from)) (q : Steps f t u at p r) where
+  module _ {f : Items → Value → Items} (law : (us : Items) (v : Value) (rest : Items) → insertAll us (g (more v rest)) ≡ insertAll (f us v) (g rest)) {u : List ℕ} {r : Added} (lt : p < to) (apart : (to ≤ at) ⊎ (at + valueLimit ≤ from)) (q : Steps f t u at p r) where
     pub gather-on : r ≡ Put → (n : ℕ) → n ≡ word s p → Gathering g s u from to at (p + n)
     gather-on e n d =
-        let o : Outside s u at (at + mostBytes) = outside-both (w .frame) (q .frame) in
+        let o : Outside s u at (at + valueLimit) = outside-both (w .frame) (q .frame) in
         record {
           frame = o;
           past = let b = w .past in omega arith;
@@ -142,11 +136,11 @@ module _ {g : Items → Items} {s t : List ℕ} {from to at p : ℕ} (w : Gather
               let y = items-first lt (k .left) in
               let x = q .right (k .us) (y .first) (k .made) (at-apart (w .frame) (apart-at s p apart (w .past) (y .inside)) (y .first-at)) in
               let whole = y .so ∙ law (k .us) (y .first) (y .rest) in
-              let b : mostBytes < size (collection set (f (k .us) (y .first))) = over (x .answers) e in
+              let b : valueLimit < size (collection set (f (k .us) (y .first))) = over (x .answers) e in
               let c₁ = collection-size set (f (k .us) (y .first)) in
               let c₂ = collection-size set (insertAll vs (g ws)) in
               let m = ap sizes whole in
-              record { answers = long-added (size (collection set (insertAll vs (g ws)))) (omega (arith, sizes-grow-all (f (k .us) (y .first)) (g (y .rest)))); made = λ z. impossible cc };
+              record { answers = added-long (size (collection set (insertAll vs (g ws)))) (omega (arith, sizes-grow-all (f (k .us) (y .first)) (g (y .rest)))); made = λ z. impossible cc };
         }
 
   pub gather-end : g none ≡ none → to ≤ p → InsertsAll g s t from to at Put
@@ -158,7 +152,7 @@ module _ {g : Items → Items} {s t : List ℕ} {from to at p : ℕ} (w : Gather
             let k = w .state vs ws a h in
             let whole : insertAll vs (g ws) ≡ k .us = items-end le (k .left) ∙ ap (insertAll (k .us)) e in
             let m = subst (λ (us : Items). At t at (collection set us)) (sym whole) (k .made) in
-            record { answers = put-added (size (collection set (insertAll vs (g ws)))) (m .fine .short); made = λ z. m };
+            record { answers = added-put (size (collection set (insertAll vs (g ws)))) (m .fine .short); made = λ z. m };
       }
 
 -- ---- the items themselves

@@ -6,7 +6,7 @@ use Prim.Native.Nat.{ℕ, _+_, _≤_}
 use native.Mathlib.Omega.{arith}
 use lib.ListN.{take, drop}
 use Rattle.integers.specs.Bytes.{word}
-use Rattle.values.specs.Value.{Kind, number, collection, Items, none, sizes, Shaped, mostBytes}
+use Rattle.values.specs.Value.{Kind, number, collection, Items, none, sizes, Shaped, valueLimit}
 use Rattle.values.specs.Items.{join}
 use Rattle.values.specs.Place.{At, ItemsAt, Outside}
 use Rattle.values.specs.Contract.{Moved, PutHead}
@@ -32,7 +32,7 @@ pub record Packing (k : Kind) (R : Items → Items → Items → Type 0) (s t : 
   pub done-at : ItemsAt t (at + 4) q done
   pub rest-at : ItemsAt t p end rest
   pub behind : q ≤ p
-  pub short : end ≤ at + mostBytes
+  pub short : end ≤ at + valueLimit
   pub frame : Outside s t (at + 4) end
 
 -- at first nothing is done
@@ -99,7 +99,7 @@ module _ {k : Kind} {R : Items → Items → Items → Type 0} {s t : List ℕ} 
 
   -- none are left, and the heading is written anew
   pub pack-end : {l : Kind} {f : Items → Answer} {u : List ℕ} {n : ℕ} → end ≤ p → at + n ≡ q → PutHead t u at n (number l)
-      → ((vs ws : Items) → At s at (collection k vs) → 4 + sizes ws ≤ mostBytes → R vs ws none → Shaped l ws × (f vs ≡ is (collection l ws)))
+      → ((vs ws : Items) → At s at (collection k vs) → 4 + sizes ws ≤ valueLimit → R vs ws none → Shaped l ws × (f vs ≡ is (collection l ws)))
       → OnItems k f s u at Done
   pack-end {l} {f} {u} {n} le e h g =
       let b = w .behind in

@@ -13,7 +13,7 @@ use mir.Facts.{toZ-ofZ, toZ-pos}
 use Rattle.integers.specs.Whole.{InRange}
 use Rattle.integers.proofs.Range.{range-fits}
 use Rattle.integers.proofs.Parts.{parts-add, eq-parts}
-use Rattle.values.specs.Value.{set, number, integer, Items, none, more, size, collection, mostBytes, Sound, SoundItems}
+use Rattle.values.specs.Value.{set, number, integer, Items, none, more, size, collection, valueLimit, Sound, SoundItems}
 use Rattle.values.specs.Items.{join, snoc}
 use Rattle.values.specs.Place.{ItemsAt}
 use Rattle.values.specs.Contract.{Put, PutHead}
@@ -65,7 +65,7 @@ integers-none s at z h =
     let e : at ≡ at + 8 * 0 = omega arith in
     record { outside = outside-none s at (at + 8 * 0); here = subst (λ (k : ℕ). ItemsAt s at k none) e (no-items s at h) }
 
-pub integers-more : {s t u : List ℕ} {at : ℕ} {z x : ℤ} (i : ℕ) {r : ℕ} → PutIntegers s t at z i → x ≡ z +ℤ pos i → Put t u (at + 8 * i) (integer x) 8 r → 8 * (i + 1) ≤ mostBytes → PutIntegers s u at z (i + 1)
+pub integers-more : {s t u : List ℕ} {at : ℕ} {z x : ℤ} (i : ℕ) {r : ℕ} → PutIntegers s t at z i → x ≡ z +ℤ pos i → Put t u (at + 8 * i) (integer x) 8 r → 8 * (i + 1) ≤ valueLimit → PutIntegers s u at z (i + 1)
 integers-more {s} {t} {u} {at} {z} {x} i p d q h =
     let n = sizes-up z i in
     let m = q .sized in
@@ -99,13 +99,13 @@ module _ {z : ℤ} (f : SFits w32 z) {i n : ℕ} (low : i < 2147483648) (s : Sou
 
 -- ---- the set of them
 
-pub counting-off : (z : ℤ) (n : ℕ) → mostBytes < 4 + 8 * n → counting z n ≡ refused tooLarge
-counting-off z n h = ap (λ (b : Bool). cond b (is (collection set (upFrom z n))) (refused tooLarge)) (lt-leb (4 + 8 * n) mostBytes h)
+pub counting-off : (z : ℤ) (n : ℕ) → valueLimit < 4 + 8 * n → counting z n ≡ refused tooLarge
+counting-off z n h = ap (λ (b : Bool). cond b (is (collection set (upFrom z n))) (refused tooLarge)) (lt-leb (4 + 8 * n) valueLimit h)
 
-counting-on : (z : ℤ) (n : ℕ) → 4 + 8 * n ≤ mostBytes → counting z n ≡ is (collection set (upFrom z n))
-counting-on z n h = ap (λ (b : Bool). cond b (is (collection set (upFrom z n))) (refused tooLarge)) (le-leb (4 + 8 * n) mostBytes h)
+counting-on : (z : ℤ) (n : ℕ) → 4 + 8 * n ≤ valueLimit → counting z n ≡ is (collection set (upFrom z n))
+counting-on z n h = ap (λ (b : Bool). cond b (is (collection set (upFrom z n))) (refused tooLarge)) (le-leb (4 + 8 * n) valueLimit h)
 
-pub counting-gives : {s t u : List ℕ} {base : ℕ} {z : ℤ} (n : ℕ) → SFits w32 z → 4 + 8 * n ≤ mostBytes → PutIntegers s t (base + 4) (machine z) n → PutHead t u base (4 + 8 * n) 3 → Gives (counting z n) s u base Done
+pub counting-gives : {s t u : List ℕ} {base : ℕ} {z : ℤ} (n : ℕ) → SFits w32 z → 4 + 8 * n ≤ valueLimit → PutIntegers s t (base + 4) (machine z) n → PutHead t u base (4 + 8 * n) 3 → Gives (counting z n) s u base Done
 counting-gives {s} {t} {u} {base} {z} n f h p q =
     let here = subst (λ (x : ℤ). ItemsAt t (base + 4) (base + 4 + 8 * n) (upFrom x n)) (toZ-ofZ f) (p .here) in
     record {

@@ -4,7 +4,7 @@ use mathlib.Core.List.{List}
 use Prim.Native.Nat.{ℕ, _+_, _≤_, _<_}
 use lib.ListN.{length}
 use Rattle.integers.specs.Bytes.{word}
-use Rattle.values.specs.Value.{Value, Items, none, more, mostBytes}
+use Rattle.values.specs.Value.{Value, Items, none, more, valueLimit}
 use Rattle.values.specs.Place.{At, ItemsAt}
 use Rattle.values.proofs.Records.{uncons, items-none}
 
@@ -29,7 +29,7 @@ pub record First (s : List ℕ) (to : ℕ) (P : Items → Type 0) (p : ℕ) : Ty
   pub rest-at : ItemsAt s (p + word s p) to rest
   pub so : P (more first rest)
   pub low : 4 ≤ word s p
-  pub high : word s p ≤ mostBytes
+  pub high : word s p ≤ valueLimit
   pub inside : p + word s p ≤ to
   pub fits : to ≤ length s
 

@@ -3,14 +3,14 @@ use mathlib.Core.List.{List}
 use Prim.Native.Nat.{ℕ, _+_, _*_, _≤_}
 use lib.IntN.{ℤ}
 use lib.ListN.{length}
-use Rattle.values.specs.Value.{SoundItems, mostBytes}
+use Rattle.values.specs.Value.{SoundItems, valueLimit}
 use Rattle.values.specs.Place.{ItemsAt, Outside}
 use Rattle.operators.specs.Gather.{upFrom}
 
 -- n integers one after another, which take 8 bytes each, can be written; and they are there.
 pub record IntegersRoom (s : List ℕ) (at : ℕ) (from : ℤ) (n : ℕ) : Type 0 where
   pub room : at + 8 * n ≤ length s
-  pub few : 8 * n ≤ mostBytes
+  pub few : 8 * n ≤ valueLimit
   pub fine : SoundItems (upFrom from n)
 
 pub record PutIntegers (s t : List ℕ) (at : ℕ) (from : ℤ) (n : ℕ) : Type 0 where
@@ -19,6 +19,6 @@ pub record PutIntegers (s t : List ℕ) (at : ℕ) (from : ℤ) (n : ℕ) : Type
 
 -- More than fit may be asked for.
 pub record CountingRoom (s : List ℕ) (base : ℕ) (from : ℤ) (n : ℕ) : Type 0 where
-  pub room : base + mostBytes ≤ length s
+  pub room : base + valueLimit ≤ length s
   pub few : n ≤ 4294967296
   pub fine : SoundItems (upFrom from n)

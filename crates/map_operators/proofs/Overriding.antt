@@ -10,7 +10,7 @@ use borrow.Author.Tests.{leb-false}
 use lib.Dec.{leb}
 use Rattle.prelude.proofs.Absurd.{impossible}
 use Rattle.integers.specs.Bytes.{word}
-use Rattle.values.specs.Value.{map, Value, collection, Items, more, everyOther, keys, size, sizes, Ascending, Paired, mostBytes}
+use Rattle.values.specs.Value.{map, Value, collection, Items, more, everyOther, keys, size, sizes, Ascending, Paired, valueLimit}
 use Rattle.values.specs.Items.{same, lookup, enter}
 use Rattle.values.specs.Place.{At, ItemsAt, Outside}
 use Rattle.values.specs.Contract.{Copyable, Copied}
@@ -37,7 +37,7 @@ use Rattle.map_operators.proofs.Parts.{sizes-entered, entered-new, ente
 
 pub record Overriding (s t : List ℕ) (base end p : ℕ) : Type 0 where
   pub maps : HasTwo map map s base
-  pub short : end ≤ base + mostBytes
+  pub short : end ≤ base + valueLimit
   pub made : Items
   pub rest : Items
   pub so : enterAll (maps .left .items) (maps .right .items) ≡ enterAll rest made
@@ -45,7 +45,7 @@ pub record Overriding (s t : List ℕ) (base end p : ℕ) : Type 0 where
   pub ascending : Ascending (keys rest)
   pub made-at : At t (base + second) (collection map made)
   pub rest-at : ItemsAt t p end rest
-  pub frame : Outside s t (base + second) (base + second + mostBytes)
+  pub frame : Outside s t (base + second) (base + second + valueLimit)
 
 pub over-start : {s : List ℕ} {base n : ℕ} → n ≡ word s base → HasTwo map map s base → Overriding s s base (base + n) (base + 4)
 over-start {s} {base} {n} e h =
@@ -61,14 +61,14 @@ over-start {s} {base} {n} e h =
       ascending = collection-shaped (a .fine) .1;
       made-at = h .right .here;
       rest-at = items-to e a;
-      frame = outside-none s (base + second) (base + second + mostBytes);
+      frame = outside-none s (base + second) (base + second + valueLimit);
     }
 
 -- ---- what an answer says
 
-full-over : {n : ℕ} (b : Bool) → b ≡ leb n mostBytes → Full ≡ cond b Put Full → mostBytes < n
+full-over : {n : ℕ} (b : Bool) → b ≡ leb n valueLimit → Full ≡ cond b Put Full → valueLimit < n
 full-over true e d = impossible cc
-full-over {n} false e d = leb-false n mostBytes (sym e)
+full-over {n} false e d = leb-false n valueLimit (sym e)
 
 not-full : {r : Entered} (b : Bool) → r ≡ cond b Put Full → (r ≡ Full → ⊥) → r ≡ Put
 not-full true e f = e
@@ -132,12 +132,12 @@ module _ {s t u : List ℕ} {base end p m l : ℕ} {r : Entered} (w : Overriding
       w .so ∙ ap (λ (vs : Items). enterAll vs (w .made)) (y .is) ∙ entered-there (y .key) (y .value) (y .rest) (w .made) (y .paired) (h .0) rising (h .1) n
 
   -- 28: what is made already is over 512 bytes, and so is the whole
-  too-long : r ≡ Full → (o : Option Value) → lookup (y .key) (w .made) ≡ o → mostBytes < 4 + sizes (enterAll (w .maps .left .items) (w .maps .right .items))
+  too-long : r ≡ Full → (o : Option Value) → lookup (y .key) (w .made) ≡ o → valueLimit < 4 + sizes (enterAll (w .maps .left .items) (w .maps .right .items))
   too-long f absent n =
       let made = enter (y .key) (y .value) (w .made) in
       let h = collection-shaped (w .made-at .fine) in
-      let big : mostBytes < size (collection map made) =
-      full-over (leb (size (collection map made)) mostBytes) refl (sym f ∙ answer .answers ∙ ap (λ (o : Option Value). entryAnswer o (y .value) (size (collection map made))) n) in
+      let big : valueLimit < size (collection map made) =
+      full-over (leb (size (collection map made)) valueLimit) refl (sym f ∙ answer .answers ∙ ap (λ (o : Option Value). entryAnswer o (y .value) (size (collection map made))) n) in
       let part = sizes-entered (y .rest) made (y .paired) (paired-enter (y .key) (y .value) (w .made) (h .0)) rest-rising (ascending-enter (y .key) (y .value) (w .made) (h .0) (h .1)) in
       omega (arith, collection-size map made, ap sizes (whole-new n))
   too-long f (some z) n =
@@ -173,7 +173,7 @@ module _ {s t u : List ℕ} {base end p m l : ℕ} {r : Entered} (w : Overriding
       let made = enter (y .key) (y .value) (w .made) in
       onward made (whole-new n)
       (answer .made
-      (not-full (leb (size (collection map made)) mostBytes) (answer .answers ∙ ap (λ (o : Option Value). entryAnswer o (y .value) (size (collection map made))) n) f))
+      (not-full (leb (size (collection map made)) valueLimit) (answer .answers ∙ ap (λ (o : Option Value). entryAnswer o (y .value) (size (collection map made))) n) f))
   step f (some z) n =
       let h = collection-shaped (w .made-at .fine) in
       onward (w .made) (whole-there n) (subst (λ (b : List ℕ). At b (base + second) (collection map (w .made))) (sym (there-same (h .0) (h .1) x answer n)) (w .made-at))

@@ -8,7 +8,7 @@ use Rattle.values.specs.Value.{Value, boolean, integer}
 use Rattle.values.specs.Items.{same}
 use Rattle.values.specs.Place.{At}
 use Rattle.values.specs.Contract.{Equal}
-use Rattle.operators.specs.Answer.{Answer, Fine}
+use Rattle.operators.specs.Answer.{Answer, FineAnswer}
 use Rattle.operators.specs.Booleans.{truth}
 use Rattle.operators.specs.Operators.{unary, binary}
 use Rattle.operator_laws.proofs.Results.{unary-fine}
@@ -17,8 +17,8 @@ use Rattle.calling.specs.Scratch.{second}
 use Rattle.calling.specs.Applied.{Two, Gives, OnTwo}
 use Rattle.calling.proofs.Answering.{gives-same, two-gives}
 
-pub fine-one : (operator : ℕ) {s : List ℕ} {at : ℕ} {z : ℤ} {x : Answer} → At s at (integer z) → unary operator (integer z) ≡ x → Fine x
-fine-one operator {z = z} a e = subst Fine e (unary-fine operator (integer z) (a .fine))
+pub fine-one : (operator : ℕ) {s : List ℕ} {at : ℕ} {z : ℤ} {x : Answer} → At s at (integer z) → unary operator (integer z) ≡ x → FineAnswer x
+fine-one operator {z = z} a e = subst FineAnswer e (unary-fine operator (integer z) (a .fine))
 
 -- ---- two operands of which r says whether they are equal
 

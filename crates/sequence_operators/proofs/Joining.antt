@@ -6,7 +6,7 @@ use Prim.Native.Nat.{ℕ, _+_, _-_, _≤_, _<_}
 use native.Mathlib.Omega.{arith}
 use lib.ListN.{take, drop}
 use Rattle.integers.specs.Bytes.{word}
-use Rattle.values.specs.Value.{sequence, number, Items, sizes, mostBytes}
+use Rattle.values.specs.Value.{sequence, number, Items, sizes, valueLimit}
 use Rattle.values.specs.Items.{join}
 use Rattle.values.specs.Place.{ItemsAt}
 use Rattle.values.specs.Contract.{Movable, Moved, PutHead}
@@ -28,7 +28,7 @@ abbrev pub concatenated : Items → Items → Answer
 concatenated vs ws = sized sequence (join vs ws)
 
 module _ {s : List ℕ} {base n m : ℕ} (e : n ≡ word s base) (d : m ≡ word s (base + second)) where
-  pub join-full : mostBytes < n + m - 4 → OnBoth sequence sequence concatenated s s base (Refused 28)
+  pub join-full : valueLimit < n + m - 4 → OnBoth sequence sequence concatenated s s base (Refused 28)
   join-full f =
       both-off
       (λ vs ws a b.
@@ -36,7 +36,7 @@ module _ {s : List ℕ} {base n m : ℕ} (e : n ≡ word s base) (d : m ≡ word
       let y = items-to d b .ends in
       ap (answered sequence) (fits-not (join vs ws) (omega (arith, join-sizes vs ws))))
 
-  module _ (h : HasTwo sequence sequence s base) (f : n + m - 4 ≤ mostBytes) where
+  module _ (h : HasTwo sequence sequence s base) (f : n + m - 4 ≤ valueLimit) where
     pub join-movable : Movable s (base + second + 4) (base + n) (m - 4)
     join-movable = let a = holds (h .left .here) in let b = holds (h .right .here) in let r = h .room in record { there = omega arith; room = omega arith; apart = inr (omega arith) }
 

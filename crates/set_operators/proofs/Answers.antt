@@ -10,7 +10,7 @@ use lib.Dec.{eqb}
 use Rattle.prelude.proofs.Absurd.{never}
 use Rattle.prelude.proofs.Truth.{both-ways, by-test}
 use Rattle.integers.specs.Bytes.{word}
-use Rattle.values.specs.Value.{set, Value, collection, Items, none, more, size, Ascending, mostBytes}
+use Rattle.values.specs.Value.{set, Value, collection, Items, none, more, size, Ascending, valueLimit}
 use Rattle.values.specs.Items.{same, isMember}
 use Rattle.values.specs.Place.{At, ItemsAt, HoldsItems}
 use Rattle.values.specs.Contract.{Equal, Copyable, Copied}
@@ -70,13 +70,13 @@ module _ {n : ℕ} (low : 17 ≤ n) (high : n ≤ 18) where
 
 pub grown-done : {t : List ℕ} {at : ℕ} {us : Items} {r : Added} → Grown t at us r → r ≡ Fitted → sized set us ≡ is (collection set us)
 grown-done {us = us} g e =
-    let h : size (collection set us) ≤ mostBytes = fits (g .answers) e in
+    let h : size (collection set us) ≤ valueLimit = fits (g .answers) e in
     let c = collection-size set us in
     ap (closed set) (fitting-is us (omega arith))
 
 pub grown-full : {t : List ℕ} {at : ℕ} {us : Items} {r : Added} → Grown t at us r → r ≡ TooLong → sized set us ≡ refused 28
 grown-full {us = us} g e =
-    let h : mostBytes < size (collection set us) = over (g .answers) e in
+    let h : valueLimit < size (collection set us) = over (g .answers) e in
     let c = collection-size set us in
     ap (closed set) (fits-not us (omega arith))
 

@@ -6,7 +6,7 @@ use mathlib.Core.Logic.{inl}
 use Prim.Native.Nat.{ℕ, _+_, _≤_, _<_}
 use native.Mathlib.Omega.{arith}
 use Rattle.integers.specs.Bytes.{word}
-use Rattle.values.specs.Value.{set, sequence, Value, collection, Items, none, more, size, sizes, mostBytes}
+use Rattle.values.specs.Value.{set, sequence, Value, collection, Items, none, more, size, sizes, valueLimit}
 use Rattle.values.specs.Items.{join, snoc}
 use Rattle.values.specs.Place.{At, ItemsAt, Holds, Outside}
 use Rattle.values.proofs.Encoding.{collection-size, snoc-sizes}
@@ -16,11 +16,12 @@ use Rattle.collections.specs.declared.building.Added.{Added}
 use Rattle.values.proofs.Joined.{join-none, join-join}
 use Rattle.collections.specs.Finding.{HoldsCollection}
 use Rattle.collections.specs.Building.{Appends, Empties, Retags}
+use Rattle.collections.proofs.Additions.{added-put}
 use Rattle.operators.specs.Gather.{keepItems}
 use Rattle.operator_laws.proofs.Gather.{ascending-keep}
 use Rattle.set_operators.specs.Members.{HoldsSets, inAll, InAll, asWanted, wantedOf, Appendable, AppendsIf, Choice, Chosen}
 use Rattle.gathering.proofs.Walks.{Left, items-first, items-on, items-end}
-use Rattle.gathering.proofs.Growth.{Next, next-item, put-added}
+use Rattle.gathering.proofs.Growth.{Next, next-item}
 
 -- ---- one item
 
@@ -43,19 +44,19 @@ append-done {s} {t} {at} {x} {r} {b} p q e =
           let m = word-size a in
           let n = word-size h in
           let f = p .fits in
-          let d = y .made (y .answers ∙ sym (put-added (size (collection sequence (snoc us v))) (omega arith))) in
+          let d = y .made (y .answers ∙ sym (added-put (size (collection sequence (snoc us v))) (omega arith))) in
           rw e d;
     }
 
 pub passed-over : (s : List ℕ) (at x : ℕ) {b : Bool} → b ≡ false → AppendsIf s s at x b
-passed-over s at x e = record { frame = outside-none s at (at + mostBytes); right = λ us v a h. rw e a }
+passed-over s at x e = record { frame = outside-none s at (at + valueLimit); right = λ us v a h. rw e a }
 
 -- ---- what stands below stays
 
-sets-still : {s t : List ℕ} {a b at : ℕ} → Outside s t at (at + mostBytes) → b ≤ at → HoldsSets s a b → HoldsSets t a b
+sets-still : {s t : List ℕ} {a b at : ℕ} → Outside s t at (at + valueLimit) → b ≤ at → HoldsSets s a b → HoldsSets t a b
 sets-still o h x = record { items = x .items; here = items-below o h (x .here); sets = x .sets }
 
-choice-still : {s t : List ℕ} {x a b at : ℕ} → Outside s t at (at + mostBytes) → Choice s x a b at → Choice t x a b at
+choice-still : {s t : List ℕ} {x a b at : ℕ} → Outside s t at (at + valueLimit) → Choice s x a b at → Choice t x a b at
 choice-still {s} {t} {x} {a} {b} {at} o r =
     let n = word-size (r .held .here) in
     let h = holds (r .held .here) in
@@ -80,11 +81,11 @@ wantedIn wanted ws v = asWanted wanted (inAll v ws)
 pub record Picked (s t : List ℕ) (end at p : ℕ) (q : Value → Bool) (vs : Items) : Type 0 where
   pub us : Items
   pub made : At t at (collection sequence us)
-  pub left : Left s end (λ (rest : Items). (keepItems q vs ≡ join us (keepItems q rest)) × (4 + (sizes us + sizes rest) ≤ mostBytes)) p
+  pub left : Left s end (λ (rest : Items). (keepItems q vs ≡ join us (keepItems q rest)) × (4 + (sizes us + sizes rest) ≤ valueLimit)) p
 
 pub record Choosing (s t : List ℕ) (x a b at : ℕ) (wanted : Bool) (p : ℕ) : Type 0 where
   pub choice : Choice s x a b at
-  pub frame : Outside s t at (at + mostBytes)
+  pub frame : Outside s t at (at + valueLimit)
   pub state : (vs ws : Items) → At s x (collection set vs) → ItemsAt s a b ws → Picked s t (x + word s x) at p (wantedIn wanted ws) vs
 
 choose-start : {s : List ℕ} {x a b at : ℕ} (wanted : Bool) → Choice s x a b at → At s at (collection sequence none) → Choosing s s x a b at wanted (x + 4)
@@ -92,7 +93,7 @@ unfolding join size
 choose-start {s} {x} {a} {b} {at} wanted r e =
     record {
       choice = r;
-      frame = outside-none s at (at + mostBytes);
+      frame = outside-none s at (at + valueLimit);
       state = λ vs ws h g.
           let short = h .fine .short in
           record { us = none; made = e; left = record { rest = vs; here = items-to refl h; so = (refl, omega arith) } };
@@ -112,7 +113,7 @@ module _ {s t : List ℕ} {x a b at : ℕ} {wanted : Bool} {p : ℕ} (w : Choosi
   one : Picked s t (x + word s x) at p (wantedIn wanted (w .choice .others .items)) (w .choice .held .items)
   one = w .state (w .choice .held .items) (w .choice .others .items) (w .choice .held .here) (w .choice .others .here)
 
-  pub choose-next : {u : List ℕ} → p < x + word s x → Outside s u at (at + mostBytes) → Next s u (x + word s x) at p
+  pub choose-next : {u : List ℕ} → p < x + word s x → Outside s u at (at + valueLimit) → Next s u (x + word s x) at p
   choose-next lt o = next-item {from = p} o (inl (w .choice .below)) (omega arith) (items-first lt (one .left))
 
   pub choose-test : p < x + word s x → Holds t p × HoldsSets t a b
@@ -180,7 +181,7 @@ end-still {x = x} r e q =
 
 pub choose-close : {s t u v : List ℕ} {x a b at p : ℕ} {wanted : Bool} → Choice s x a b at → Empties s t at 4 → (w : Choosing t u x a b at wanted p) → x + word t x ≤ p → Retags u v at 3 → Chosen s v x a b at wanted
 choose-close {s} {t} {u} {v} {x} {a} {b} {at} {p} {wanted} r e w le q =
-    let o : Outside s t at (at + mostBytes) = outside-wider (omega arith) (omega arith) (e .frame) in
+    let o : Outside s t at (at + valueLimit) = outside-wider (omega arith) (omega arith) (e .frame) in
     let n = word-size (r .held .here) in
     let below = r .below in
     record {

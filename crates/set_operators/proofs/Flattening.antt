@@ -5,7 +5,7 @@ use mathlib.Core.Logic.{_⊎_, inl, inr}
 use Prim.Native.Nat.{ℕ, _+_, _≤_, _<_}
 use native.Mathlib.Omega.{arith}
 use Rattle.integers.specs.Bytes.{word}
-use Rattle.values.specs.Value.{set, Value, collection, Items, none, more, mostBytes}
+use Rattle.values.specs.Value.{set, Value, collection, Items, none, more, valueLimit}
 use Rattle.values.specs.Items.{join, insert}
 use Rattle.values.specs.Place.{At, HoldsItems, Outside}
 use Rattle.values.proofs.Records.{items-to, one-value}
@@ -35,7 +35,7 @@ module _ {s t : List ℕ} {from to at p : ℕ} (w : Gathering flatten s t from t
   set-still : At t p (collection set (first-set l lt h .members))
   set-still = let y = first-set l lt h in at-apart (w .frame) (apart-at s p (r .apart) (w .past) (y .inside)) (y .set-at)
 
-  pub each-next : {u : List ℕ} → Outside s u at (at + mostBytes) → Next s u to at p
+  pub each-next : {u : List ℕ} → Outside s u at (at + valueLimit) → Next s u to at p
   each-next o = gather-next w lt o (h .items, h .here) r
 
   pub each-step : {u : List ℕ} {a : Added} (n : ℕ) → n ≡ word t p → InsertsAll themselves t u (p + 4) (p + n) at a → Steps insertItems t u at p a
@@ -55,6 +55,6 @@ module _ {s t : List ℕ} {from to at p : ℕ} (w : Gathering flatten s t from t
         record { held = record { items = k .us; here = k .made }; room = omega arith; apart = within (m .apart) },
       )
     where
-      within : Apart t at p → (p + n ≤ at) ⊎ (at + mostBytes ≤ p + 4)
+      within : Apart t at p → (p + n ≤ at) ⊎ (at + valueLimit ≤ p + 4)
       within (inl b) = inl (omega arith)
       within (inr b) = inr (omega arith)

@@ -13,7 +13,7 @@ use mir.ValLaws.{toZ-pos}
 use Rattle.prelude.proofs.Truth.{cond-true, cond-false}
 use Rattle.integers.specs.Bytes.{word}
 use Rattle.integers.specs.Whole.{greatestInteger, InRange}
-use Rattle.values.specs.Value.{Kind, set, integer, collection, Items, none, count, Ascending, mostBytes}
+use Rattle.values.specs.Value.{Kind, set, integer, collection, Items, none, count, Ascending, valueLimit}
 use Rattle.values.specs.Place.{At, ItemsAt, Holds, HoldsItems}
 use Rattle.values.specs.Contract.{Put, Copyable, Copied}
 use Rattle.values.proofs.Encoding.{collection-size, count-sizes}
@@ -52,7 +52,7 @@ module _ {s : List ℕ} {base : ℕ} {b : Bool} (k : IsOfKind s base 3 b) where
   card-room e = let h = k .yes set refl e in record { kind = set; items = h .items; here = h .here }
 
   -- the number of members is small
-  card-few : {n : ℕ} → b ≡ true → Counted s base n → n ≤ mostBytes
+  card-few : {n : ℕ} → b ≡ true → Counted s base n → n ≤ valueLimit
   card-few {n} e c =
       let h = k .yes set refl e in
       let q : n ≡ count (h .items) = c set (h .items) (h .here) in
@@ -61,7 +61,7 @@ module _ {s : List ℕ} {base : ℕ} {b : Bool} (k : IsOfKind s base 3 b) where
       omega (arith, count-sizes (h .items))
 
   module _ {n : ℕ} (e : b ≡ true) (c : Counted s base n) where
-    few : n ≤ mostBytes
+    few : n ≤ valueLimit
     few = card-few e c
 
     exact : toZ w32 n ≡ pos n

@@ -15,7 +15,7 @@ use mir.Facts.{toZ-ofZ, sfits-widen}
 use Rattle.prelude.proofs.Absurd.{never}
 use Rattle.integers.proofs.Range.{range-fits}
 use Rattle.integers.proofs.Parts.{up, down, parts-add, parts-minus}
-use Rattle.values.specs.Value.{mostBytes, SoundItems}
+use Rattle.values.specs.Value.{valueLimit, SoundItems}
 use Rattle.values.proofs.Records.{integer-range}
 use Rattle.operators.specs.Gather.{upFrom}
 use Rattle.operators.specs.Sets.{counted, howMany, counting, rangeOf}
@@ -105,7 +105,7 @@ counted-other (negsuc n) f e = never (sym e)
 
 -- ---- from two integers that were read
 module _ {s : List ℕ} {base : ℕ} {p : Pair} (read : PairAt s base p) {a b : ℤ} (e : p ≡ Integers a b) {n : ℕ} (h : n ≡ howMany (machine a) (machine b)) where
-  pub range-count : base + mostBytes ≤ length s → CountingRoom s base (machine a) n
+  pub range-count : base + valueLimit ≤ length s → CountingRoom s base (machine a) n
   range-count room =
       let f = integer-range (pair-left read e .fine) in
       let g = integer-range (pair-right read e .fine) in

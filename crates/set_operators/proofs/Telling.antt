@@ -9,7 +9,7 @@ use lib.Dec.{eqb}
 use Rattle.prelude.proofs.Absurd.{impossible}
 use Rattle.prelude.proofs.Truth.{by-test}
 use Rattle.integers.specs.Bytes.{word}
-use Rattle.values.specs.Value.{set, Value, collection, Items, more, mostBytes}
+use Rattle.values.specs.Value.{set, Value, collection, Items, more, valueLimit}
 use Rattle.values.specs.Place.{At, ItemsAt, Holds}
 use Rattle.values.specs.Contract.{KindAt}
 use Rattle.values.proofs.Records.{holds, items-to, uncons-of}
@@ -66,7 +66,7 @@ pub record Family (s : List ℕ) (base end : ℕ) : Type 0 where
   pub items : ItemsAt s (base + 4) end members
   pub sets : everyItem (isKind set) members ≡ true
   pub low : base + 4 ≤ end
-  pub high : end ≤ base + mostBytes
+  pub high : end ≤ base + valueLimit
 
 pub family : {s : List ℕ} {base n : ℕ} {a : Bool} → IsOfKind s base 3 a → a ≡ true → n ≡ word s base → {b : Bool} → AllOfKind s (base + 4) (base + n) 3 b → b ≡ true → Family s base (base + n)
 family k e q all t =

@@ -7,7 +7,7 @@ use borrow.Author.Tests.{eq-eqb, ne-eqb}
 use lib.ListN.{length}
 use Rattle.prelude.proofs.Absurd.{never}
 use Rattle.integers.specs.Bytes.{word}
-use Rattle.values.specs.Value.{Kind, set, sequence, map, tuple, number, Value, boolean, integer, collection, Items, none, more, kindOf, mostBytes}
+use Rattle.values.specs.Value.{Kind, set, sequence, map, tuple, number, Value, boolean, integer, collection, Items, none, more, kindOf, valueLimit}
 use Rattle.values.specs.Items.{isMember}
 use Rattle.values.specs.Place.{At, ItemsAt}
 use Rattle.values.specs.Contract.{KindAt}
@@ -113,7 +113,7 @@ pub record FirstSet (s : List ℕ) (to p : ℕ) : Type 0 where
   pub members : Items
   pub set-at : At s p (collection set members)
   pub low : 4 ≤ word s p
-  pub high : word s p ≤ mostBytes
+  pub high : word s p ≤ valueLimit
   pub inside : p + word s p ≤ to
   pub fits : to ≤ length s
 

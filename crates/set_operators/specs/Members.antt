@@ -5,7 +5,7 @@ use mathlib.Core.List.{List}
 use Prim.Native.Nat.{ℕ, _+_, _≤_}
 use lib.ListN.{length}
 use Rattle.integers.specs.Bytes.{word}
-use Rattle.values.specs.Value.{Kind, set, sequence, number, Value, collection, Items, mostBytes}
+use Rattle.values.specs.Value.{Kind, set, sequence, number, Value, collection, Items, valueLimit}
 use Rattle.values.specs.Items.{isMember, snoc}
 use Rattle.values.specs.Place.{At, ItemsAt, Outside}
 use Rattle.collections.specs.Finding.{HoldsKind}
@@ -42,11 +42,11 @@ AllIn s from to at r = (vs ws : Items) → ItemsAt s from to vs → At s at (col
 -- The item at x can go to the end of the sequence at a place.
 pub record Appendable (s : List ℕ) (at x : ℕ) : Type 0 where
   pub room : Room sequence s at x
-  pub fits : word s at + word s x ≤ mostBytes
+  pub fits : word s at + word s x ≤ valueLimit
 
 -- It is there, if wanted.
 pub record AppendsIf (s t : List ℕ) (at x : ℕ) (wanted : Bool) : Type 0 where
-  pub frame : Outside s t at (at + mostBytes)
+  pub frame : Outside s t at (at + valueLimit)
   pub right : (us : Items) (v : Value) → At s at (collection sequence us) → At s x v → At t at (collection sequence (cond wanted (snoc us v) us))
 
 -- Whether a test comes out as wanted.
@@ -64,9 +64,9 @@ pub record Choice (s : List ℕ) (x a b at : ℕ) : Type 0 where
   pub below : x + word s x ≤ at
   pub others : HoldsSets s a b
   pub under : b ≤ at
-  pub room : at + mostBytes ≤ length s
+  pub room : at + valueLimit ≤ length s
 
 -- The wantedOf ones stand at that place as a set.
 pub record Chosen (s t : List ℕ) (x a b at : ℕ) (wanted : Bool) : Type 0 where
-  pub frame : Outside s t at (at + mostBytes)
+  pub frame : Outside s t at (at + valueLimit)
   pub right : (vs ws : Items) → At s x (collection set vs) → ItemsAt s a b ws → At t at (collection set (wantedOf wanted vs ws))

@@ -13,7 +13,7 @@ use mir.Val.{Fits, ofZ, toZ}
 use mir.ValLaws.{ofZ-toZ, toZ-fits}
 use Rattle.integers.specs.Bytes.{word, four, bits32, IsWord}
 use Rattle.integers.proofs.Range.{fits-range}
-use Rattle.values.specs.Value.{Kind, number, Value, boolean, integer, collection, Items, more, kindOf, size, sizes, byteOf, encode, Shaped, mostBytes}
+use Rattle.values.specs.Value.{Kind, number, Value, boolean, integer, collection, Items, more, kindOf, size, sizes, byteOf, encode, Shaped, valueLimit}
 use Rattle.values.specs.Place.{At, ItemsAt, Holds, HoldsItems}
 use Rattle.values.specs.Contract.{heading}
 use Rattle.values.proofs.Written.{collection-at}
@@ -95,7 +95,7 @@ module _ (s : List ℕ) (bytes : (i : ℕ) → Fits w8 (getD s i 0)) where
             ∙ ap (λ (i : ℕ). heading 8 2 ++ four i) (sym (ofZ-toZ w32 x f));
       })
 
-  found-collection : (at n : ℕ) (k : Kind) (vs : Items) → n ≡ word s at → word s (at + 2) ≡ number k → n ≤ mostBytes → Shaped k vs → ItemsAt s (at + 4) (at + n) vs → Holds s at
+  found-collection : (at n : ℕ) (k : Kind) (vs : Items) → n ≡ word s at → word s (at + 2) ≡ number k → n ≤ valueLimit → Shaped k vs → ItemsAt s (at + 4) (at + n) vs → Holds s at
   found-collection at n k vs en ek short shaped h =
       let f = h .ends in
       let g = h .fits in

@@ -10,7 +10,7 @@ use lib.ListN.{length, getD, take, drop, set}
 use lib.Seq.{sets, sets-eq, length-sets, paste, paste-zero, paste-suc, length-paste, take-all, take-length}
 use Rattle.prelude.proofs.Absurd.{never}
 use Rattle.integers.specs.Bytes.{word, IsWord}
-use Rattle.values.specs.Value.{Value, size, encode, mostBytes}
+use Rattle.values.specs.Value.{Value, size, encode, valueLimit}
 use Rattle.values.specs.Place.{At}
 use Rattle.values.proofs.Records.{holds, word-size}
 use Rattle.values.proofs.Written.{written, stored}
@@ -23,7 +23,7 @@ use Rattle.trials.proofs.Telling.{tells-true, tells-false, tells-of, to
 
 -- ---- one record, and nothing else
 
-pub value-long : {x : List ℕ} → mostBytes < length x → Tells (SomeOperand x) false
+pub value-long : {x : List ℕ} → valueLimit < length x → Tells (SomeOperand x) false
 value-long h = tells-false (λ o. omega (arith, operand-low o))
 
 inside-of : {x : List ℕ} → SomeOperand x → Inside x 0 (length x)
@@ -78,7 +78,7 @@ loading-all {x} {s} {t} {at} {i} l h =
 
 -- ---- one operand, and two
 
-pub put-at : {x t : List ℕ} (s : List ℕ) (at : ℕ) → at + mostBytes ≤ length s → t ≡ sets s at x → (v : Value) → Operand x v → At t at v
+pub put-at : {x t : List ℕ} (s : List ℕ) (at : ℕ) → at + valueLimit ≤ length s → t ≡ sets s at x → (v : Value) → Operand x v → At t at v
 put-at {x} {t} s at h q v o =
     let g = o .fine .short in
     written s (q ∙ ap (sets s at) (o .is)) (o .fine) (omega arith)

@@ -5,7 +5,7 @@ use Prim.Native.Nat.{ℕ, _≤_}
 use native.Mathlib.Omega.{arith}
 use lib.ListN.{length}
 use lib.Seq.{take-all}
-use Rattle.values.specs.Value.{Value, size, mostBytes}
+use Rattle.values.specs.Value.{Value, size, valueLimit}
 use Rattle.values.specs.Place.{At}
 use Rattle.values.proofs.Encoding.{encode-length}
 use Rattle.trials.specs.Trial.{Operand, SomeOperand}
@@ -18,5 +18,5 @@ operand-at {x} {v} o =
     let e = operand-length o in
     record { fits = omega arith; fine = o .fine; bytes = take-all (size v) x (omega arith) ∙ o .is }
 
-pub operand-low : {x : List ℕ} → SomeOperand x → length x ≤ mostBytes
+pub operand-low : {x : List ℕ} → SomeOperand x → length x ≤ valueLimit
 operand-low (v, o) = let e = operand-length o in let h = o .fine .short in omega arith

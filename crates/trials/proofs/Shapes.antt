@@ -8,7 +8,7 @@ use lib.Dec.{leb}
 use Rattle.integers.specs.Bytes.{word}
 use Rattle.integers.specs.declared.Order.{Order}
 use Rattle.integers.specs.declared.Order.the-variants.{Lower, Same, Higher}
-use Rattle.values.specs.Value.{Kind, set, sequence, map, tuple, number, Value, Items, none, more, count, sizes, everyOther, keys, order, Before, Ascending, PairedFrom, Shaped, mostBytes}
+use Rattle.values.specs.Value.{Kind, set, sequence, map, tuple, number, Value, Items, none, more, count, sizes, everyOther, keys, order, Before, Ascending, PairedFrom, Shaped, valueLimit}
 use Rattle.values.specs.Place.{At, ItemsAt, Holds, HoldsItems}
 use Rattle.values.specs.Contract.{Length, Ordered}
 use Rattle.values.proofs.Order.{number-inj, lower-same, lower-higher}
@@ -152,7 +152,7 @@ count-more f l t vs h =
     let d : count vs ≡ suc (count (y .left)) = ap count (y .is) in
     omega arith
 
-pub items-few : {s : List ℕ} {from to r : ℕ} → HoldsItems s from to → CountsItems s from to r → r ≤ mostBytes
+pub items-few : {s : List ℕ} {from to r : ℕ} → HoldsItems s from to → CountsItems s from to r → r ≤ valueLimit
 items-few (vs, h) t =
     let e = t vs h in
     let f = h .short in

@@ -4,7 +4,7 @@ use mathlib.Core.Bool.{Bool, true, false}
 use mathlib.Core.List.{List}
 use Prim.Native.Nat.{ℕ, _+_, _≤_}
 use lib.ListN.{length}
-use Rattle.values.specs.Value.{Value, size, encode, WellFormed, mostBytes}
+use Rattle.values.specs.Value.{Value, size, encode, WellFormed, valueLimit}
 use Rattle.values.specs.Place.{At}
 use Rattle.operators.specs.Answer.{Answer, is, refused}
 use Rattle.operators.specs.Booleans.{Connective, left, right}

@@ -5,7 +5,7 @@ use mathlib.Core.List.{List}
 use Prim.Native.Nat.{ℕ, _+_, _≤_}
 use lib.ListN.{length}
 use Rattle.integers.specs.Bytes.{word}
-use Rattle.values.specs.Value.{Kind, number, Items, count, keys, Ascending, Paired, Shaped, mostBytes}
+use Rattle.values.specs.Value.{Kind, number, Items, count, keys, Ascending, Paired, Shaped, valueLimit}
 use Rattle.values.specs.Place.{ItemsAt, Holds}
 
 -- r says whether X is so.
@@ -17,7 +17,7 @@ pub record Tells (X : Type 0) (r : Bool) : Type 0 where
 pub record Span (s : List ℕ) (at to : ℕ) : Type 0 where
   pub order : at ≤ to
   pub fits : to ≤ length s
-  pub short : to ≤ at + mostBytes
+  pub short : to ≤ at + valueLimit
 
 -- The record of some well-formed value stands at a place, and ends at another or before it.
 pub record Inside (s : List ℕ) (at to : ℕ) : Type 0 where

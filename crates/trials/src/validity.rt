@@ -3,7 +3,7 @@ use integers::Order;
 use values::Value;
 ghost use Prim.Native.Nat.{_+_, _≤_};
 ghost use lib.ListN.{length};
-ghost use Rattle.values.specs.Value.{Ascending, Paired, keys, mostBytes};
+ghost use Rattle.values.specs.Value.{Ascending, Paired, keys, valueLimit};
 ghost use Rattle.values.specs.Place.{HoldsItems};
 ghost use Rattle.trials.specs.Validity.{Tells, Inside, Boolean, TellsItems, CountsItems, Entries, ShapedAs, Span};
 
