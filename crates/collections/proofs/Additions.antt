@@ -31,10 +31,10 @@ use Rattle.collections.specs.Steps.{Gap, Fills, Slot, AddsAt}
 
 -- ---- answers
 
-added-put : (n : ℕ) → n ≤ valueLimit → Put ≡ added n
+pub added-put : (n : ℕ) → n ≤ valueLimit → Put ≡ added n
 added-put n h = rw (le-leb n valueLimit h)
 
-added-long : (n : ℕ) → valueLimit < n → TooLong ≡ added n
+pub added-long : (n : ℕ) → valueLimit < n → TooLong ≡ added n
 added-long n h = rw (lt-leb n valueLimit h)
 
 -- two wholes of one size have one answer

@@ -3,7 +3,7 @@ pub mod Shown
 pub mod Built
 mod Seeking
 mod Shifting
-mod Additions
+pub mod Additions
 mod Sights
 mod Entering
 mod Gaps

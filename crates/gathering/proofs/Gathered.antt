@@ -15,6 +15,7 @@ use Rattle.values.proofs.Frame.{outside-wider, outside-both, items-below}
 use Rattle.collections.specs.declared.building.Added.{Added}
 use Rattle.collections.specs.declared.building.Added.the-variants.{Done as Put}
 use Rattle.collections.specs.Building.{Empties}
+use Rattle.collections.proofs.Additions.{added-put}
 use Rattle.operators.specs.Answer.{Answer, is}
 use Rattle.operators.specs.Gather.{insertAll}
 use Rattle.operator_laws.proofs.Gather.{sizes-insertAll}
@@ -25,7 +26,6 @@ use Rattle.calling.proofs.Framing.{kept-then, kept-outside, copyable-down, copi
 use Rattle.calling.proofs.Answering.{is-done}
 use Rattle.calling.proofs.Kinding.{items-by}
 use Rattle.gathering.specs.Inserting.{Growing, Grown, InsertsAll, themselves}
-use Rattle.gathering.proofs.Growth.{put-added}
 
 -- ---- whatever is gathered of them
 
@@ -68,7 +68,7 @@ module _ {s t : List ℕ} {base n : ℕ} (h : Has sequence s base) (q : n ≡ wo
         let short = h .held .here .fine .short in
         let c₁ = collection-size sequence vs in
         let c₂ = collection-size set (insertAll none vs) in
-        g .made (g .answers ∙ sym (put-added (size (collection set (insertAll none vs))) (omega (arith, sizes-insertAll none vs, none-sizes))))
+        g .made (g .answers ∙ sym (added-put (size (collection set (insertAll none vs))) (omega (arith, sizes-insertAll none vs, none-sizes))))
 
     pub elements-copy : Copyable u (base + second) base
     elements-copy = copyable-down (omega arith) (holds all-in)

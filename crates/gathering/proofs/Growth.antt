@@ -4,7 +4,6 @@ use mathlib.Core.List.{List}
 use mathlib.Core.Logic.{_⊎_, inl, inr}
 use Prim.Native.Nat.{ℕ, _+_, _≤_, _<_}
 use native.Mathlib.Omega.{arith}
-use borrow.Author.Tests.{le-leb, lt-leb}
 use lib.ListN.{length}
 use Rattle.prelude.proofs.Absurd.{impossible}
 use Rattle.integers.specs.Bytes.{word}
@@ -17,6 +16,7 @@ use Rattle.values.proofs.Frame.{outside-none, outside-both, word-below, word-ab
 use Rattle.collections.specs.declared.building.Added.{Added}
 use Rattle.collections.specs.declared.building.Added.the-variants.{Done as Put, Full as TooLong}
 use Rattle.collections.specs.Building.{added, Apart, Room, Inserts}
+use Rattle.collections.proofs.Additions.{added-put, added-long}
 use Rattle.collections.proofs.Built.{over, at-apart}
 use Rattle.operators.specs.Gather.{insertAll}
 use Rattle.operator_laws.proofs.Gather.{sizes-grow-all}
@@ -97,12 +97,15 @@ gather-start g s from to at =
       state = λ vs ws a h. record { us = vs; made = a; left = record { rest = ws; here = h; so = refl } };
     }
 
+<<<<<<< HEAD
 pub put-added : (n : ℕ) → n ≤ valueLimit → Put ≡ added n
 put-added n h = rw (le-leb n valueLimit h)
 
 long-added : (n : ℕ) → valueLimit < n → TooLong ≡ added n
 long-added n h = rw (lt-leb n valueLimit h)
 
+=======
+>>>>>>> e195ed9c6c0a57133a7a8cf0d13f1cf353e8242a
 module _ {g : Items → Items} {s t : List ℕ} {from to at p : ℕ} (w : Gathering g s t from to at p) where
   -- what the code needs to know of the record at p, once the slice has become u
   pub gather-next : {u : List ℕ} → p < to → Outside s u at (at + valueLimit) → HoldsItems s from to → Growing s from to at → Next s u to at p
@@ -146,7 +149,7 @@ module _ {g : Items → Items} {s t : List ℕ} {from to at p : ℕ} (w : Gather
               let c₁ = collection-size set (f (k .us) (y .first)) in
               let c₂ = collection-size set (insertAll vs (g ws)) in
               let m = ap sizes whole in
-              record { answers = long-added (size (collection set (insertAll vs (g ws)))) (omega (arith, sizes-grow-all (f (k .us) (y .first)) (g (y .rest)))); made = λ z. impossible cc };
+              record { answers = added-long (size (collection set (insertAll vs (g ws)))) (omega (arith, sizes-grow-all (f (k .us) (y .first)) (g (y .rest)))); made = λ z. impossible cc };
         }
 
   pub gather-end : g none ≡ none → to ≤ p → InsertsAll g s t from to at Put
@@ -158,7 +161,7 @@ module _ {g : Items → Items} {s t : List ℕ} {from to at p : ℕ} (w : Gather
             let k = w .state vs ws a h in
             let whole : insertAll vs (g ws) ≡ k .us = items-end le (k .left) ∙ ap (insertAll (k .us)) e in
             let m = subst (λ (us : Items). At t at (collection set us)) (sym whole) (k .made) in
-            record { answers = put-added (size (collection set (insertAll vs (g ws)))) (m .fine .short); made = λ z. m };
+            record { answers = added-put (size (collection set (insertAll vs (g ws)))) (m .fine .short); made = λ z. m };
       }
 
 -- ---- the items themselves

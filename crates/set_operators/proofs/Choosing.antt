@@ -16,11 +16,12 @@ use Rattle.collections.specs.declared.building.Added.{Added}
 use Rattle.values.proofs.Joined.{join-none, join-join}
 use Rattle.collections.specs.Finding.{HoldsCollection}
 use Rattle.collections.specs.Building.{Appends, Empties, Retags}
+use Rattle.collections.proofs.Additions.{added-put}
 use Rattle.operators.specs.Gather.{keepItems}
 use Rattle.operator_laws.proofs.Gather.{ascending-keep}
 use Rattle.set_operators.specs.Members.{HoldsSets, inAll, InAll, asWanted, wantedOf, Appendable, AppendsIf, Choice, Chosen}
 use Rattle.gathering.proofs.Walks.{Left, items-first, items-on, items-end}
-use Rattle.gathering.proofs.Growth.{Next, next-item, put-added}
+use Rattle.gathering.proofs.Growth.{Next, next-item}
 
 -- ---- one item
 
@@ -43,7 +44,7 @@ append-done {s} {t} {at} {x} {r} {b} p q e =
           let m = word-size a in
           let n = word-size h in
           let f = p .fits in
-          let d = y .made (y .answers ∙ sym (put-added (size (collection sequence (snoc us v))) (omega arith))) in
+          let d = y .made (y .answers ∙ sym (added-put (size (collection sequence (snoc us v))) (omega arith))) in
           rw e d;
     }
 
