@@ -97,15 +97,6 @@ gather-start g s from to at =
       state = λ vs ws a h. record { us = vs; made = a; left = record { rest = ws; here = h; so = refl } };
     }
 
-<<<<<<< HEAD
-pub put-added : (n : ℕ) → n ≤ valueLimit → Put ≡ added n
-put-added n h = rw (le-leb n valueLimit h)
-
-long-added : (n : ℕ) → valueLimit < n → TooLong ≡ added n
-long-added n h = rw (lt-leb n valueLimit h)
-
-=======
->>>>>>> e195ed9c6c0a57133a7a8cf0d13f1cf353e8242a
 module _ {g : Items → Items} {s t : List ℕ} {from to at p : ℕ} (w : Gathering g s t from to at p) where
   -- what the code needs to know of the record at p, once the slice has become u
   pub gather-next : {u : List ℕ} → p < to → Outside s u at (at + valueLimit) → HoldsItems s from to → Growing s from to at → Next s u to at p
