@@ -1,103 +1,98 @@
--- How many bindings, and binding k: what the answers say.
+-- What is tried, and how many bindings it has.
 use mathlib.Core.Path.{_≡_, refl, sym, ap, subst, _∙_}
 use mathlib.Core.Bool.{Bool, true, false}
-use mathlib.Core.Option.{none}
 use mathlib.Core.List.{List, [], _∷_}
-use Prim.Native.Nat.{ℕ, zero, suc, _+_, _*_, _≤_, _<_}
+use Prim.Native.Nat.{ℕ, _+_, _*_, _≤_, _<_}
 use native.Mathlib.Omega.{arith}
-use lib.ListN.{length}
+use lib.ListN.{length, take, drop}
+use lib.Seq.{sets, length-sets, take-at, take-take, take-length, length-take-le, take-all}
 use Rattle.values.specs.Value.{Value}
+use Rattle.values.specs.Place.{At}
+use Rattle.values.proofs.Frame.{kept}
+use Rattle.values.proofs.Written.{drop-store}
 use Rattle.tables.specs.Accepted.{records}
-use Rattle.patterns.specs.Binding.{Binding}
 use Rattle.patterns.specs.Pattern.{Pattern}
-use Rattle.patterns.specs.Binder.{bindings, Formed, bound, refused, formed}
-use Rattle.patterns.specs.Forming.{formed-bound}
-use Rattle.ways.specs.Read.{patternAt}
-use Rattle.ways.specs.Following.{nth}
-use Rattle.matching.specs.declared.Best.{Best}
-use Rattle.matching.specs.Found.{BestIs, NoneYet}
-use Rattle.bindings.specs.declared.Tally.{Tally}
-use Rattle.bindings.specs.declared.Tally.the-variants.{Number, Refused}
-use Rattle.bindings.specs.Bound.{Searchable, Bindable, TellsWide, NextOf, TellsOf, Tallied}
-use Rattle.bindings.specs.Room.{searchable}
-use Rattle.bindings.specs.Stepping.{Stepped, stepped-none, step-to, step-end, stepped-more}
-use Rattle.trials.specs.Trial.{badInput}
+use Rattle.patterns.specs.Binder.{Formed, bound, refused, formed}
+use Rattle.patterns.specs.Read.{patternAt}
+use Rattle.bindings.specs.declared.Opened.{Opened}
+use Rattle.bindings.specs.declared.Opened.the-variants.{Bound, Refused}
+use Rattle.bindings.specs.Window.{Values, Bindable, Lent, TellsOpened, OpenedAs}
+use Rattle.trials.specs.Trial.{SomeOperand, badInput}
+use Rattle.trials.proofs.Records.{operand-low}
 use Rattle.binding_trials.specs.declared.input.Subject.{Subject}
-use Rattle.binding_trials.specs.Trial.{lastPattern, numberOf, Counts}
-use Rattle.binding_trials.specs.Contract.{Tried, SubjectOf, Few, numberIn, NarrowHeld, NthOf}
+use Rattle.binding_trials.specs.Trial.{lastPattern, Legal, numberOf, Counts}
+use Rattle.binding_trials.specs.Contract.{Tried, SubjectOf, Few, numberIn, Loaded}
 
 -- ---- what is tried
 
 module _ {table index value : List ℕ} {p : ℕ} {whole : Bool} (h : Tried table index value p whole) where
-  pub tried-searchable : Searchable table index p
-  tried-searchable = searchable table index p (h .readable)
-
-  pub tried-bindable : Bindable value 0 whole
-  tried-bindable = (h .values, h .are (h .values) (h .legal))
-
-  pub tried-narrow : {w : Bool} → TellsWide table p value 0 whole w → w ≡ false → NarrowHeld table p value whole
-  tried-narrow t e = record { values = h .values; are = h .are (h .values) (h .legal); narrow = sym (t (h .values) (h .are (h .values) (h .legal))) ∙ e }
+  pub tried-operand : SomeOperand value
+  tried-operand = (h .legal .operand, h .legal .is-operand)
 
   pub pattern-is : patternAt (records table) p ≡ lastPattern table
   pattern-is = ap (patternAt (records table)) (h .is-pattern)
 
+  -- a value copied to the start of a buffer
+  pub loaded : (s t : List ℕ) → length s ≡ 1024 → t ≡ sets s 0 value → Loaded table index value t p whole
+  loaded s t l q =
+      let low = operand-low tried-operand in
+      record {
+        tried = h;
+        operand = tried-operand;
+        long = ap length q ∙ length-sets s 0 value ∙ l;
+        is = ap (take (length value)) (q ∙ drop-store s 0 value (omega arith)) ∙ take-at value (drop (0 + length value) s) (length value) refl;
+      }
+
+module _ {table index value s : List ℕ} {p : ℕ} {whole : Bool} (h : Loaded table index value s p whole) where
+  low : length value ≤ 512
+  low = operand-low (h .operand)
+
+  at-start : (v : Value) → At value 0 v → At (take 512 s) 0 v
+  at-start v i =
+      let e : take (length value) (take 512 s) ≡ take (length value) value = take-take (length value) 512 s low ∙ h .is ∙ sym (take-length value) in
+      let l = length-take-le 512 s (omega (arith, h .long)) in
+      kept {s = value} {t = take 512 s} {base = length value} e (omega (arith, l, low)) (i .fits) i
+
+  pub values-there : (vs : List Value) → Values value 0 whole vs → Values (take 512 s) 0 whole vs
+  values-there vs i = go whole i
+    where
+      go : (w : Bool) → Values value 0 w vs → Values (take 512 s) 0 w vs
+      go true (v, j, e) = (v, at-start v j, e)
+      go false j = at-start _ j
+
+  pub some-values : (vs : List Value) × Values value 0 whole vs
+  some-values = (h .tried .values, h .tried .are (h .tried .values) (h .tried .legal))
+
+  pub loaded-bindable : Bindable (take 512 s) 0 whole
+  loaded-bindable = let (vs, i) = some-values in (vs, values-there vs i)
+
+  pub loaded-lent : Lent s 0 whole 512
+  loaded-lent = record { bindable = loaded-bindable; room = omega (arith, h .long); short = omega (arith, h .long) }
+
 -- ---- how many
 
-few-formed : (p : Pattern) (vs : List Value) (t : Tally) → TellsOf (formed p vs) t → Few t
-few-formed p vs t = go (formed p vs) refl t
-  where
-    go : (x : Formed) → formed p vs ≡ x → (t : Tally) → TellsOf x t → Few t
-    go (bound bs) e (Number n) h = let f = formed-bound p vs bs e .few-enough in omega arith
-    go (bound bs) e (Refused n) h = tt
-    go (refused k) e (Number n) h = absurd h
-    go (refused k) e (Refused n) h = tt
+few-opened : (t : List ℕ) (x : Formed) (r : Opened) → TellsOpened t 512 x r → Few r
+few-opened t (bound bs) (Bound c) h = h .0 .few
+few-opened t (bound bs) (Refused n) h = tt
+few-opened t (refused k) (Bound c) h = absurd h
+few-opened t (refused k) (Refused n) h = tt
 
-number-formed : (x : Formed) (t : Tally) → TellsOf x t → numberIn t ≡ numberOf x
-number-formed (bound bs) (Number n) h = ap (λ (m : ℕ). 65536 * m) (sym h)
-number-formed (bound bs) (Refused n) h = absurd h
-number-formed (refused k) (Number n) h = absurd h
-number-formed (refused k) (Refused n) h = sym h
+number-formed : (t : List ℕ) (x : Formed) (r : Opened) → TellsOpened t 512 x r → numberIn r ≡ numberOf x
+number-formed t (bound bs) (Bound c) h = ap (λ (m : ℕ). 65536 * m) (sym (h .0 .count))
+number-formed t (bound bs) (Refused n) h = absurd h
+number-formed t (refused k) (Bound c) h = absurd h
+number-formed t (refused k) (Refused n) h = sym h
 
 pub counts-bad : {table index value : List ℕ} {f : Subject} → SubjectOf table index value f → f .legal ≡ false → Counts table value badInput
 counts-bad s e = record { right = λ vs l. absurd (s .bad e vs l); bad = λ n. refl }
 
-module _ {table index value : List ℕ} {p : ℕ} {whole : Bool} (h : Tried table index value p whole) (t : Tally) (c : Tallied table p value 0 whole t) where
-  pub few-counted : Few t
-  few-counted = few-formed (patternAt (records table) p) (h .values) t (c (h .values) (h .are (h .values) (h .legal)))
+module _ {table index value s t : List ℕ} {p : ℕ} {whole : Bool} {r : Opened} (h : Loaded table index value s p whole) (o : OpenedAs table p s t 0 whole 512 r) where
+  pub few-counted : Few r
+  few-counted = let (vs, i) = some-values h in few-opened t (formed (patternAt (records table) p) vs) r (o .tells vs (values-there h vs i))
 
-  pub counts : {r : ℕ} → r ≡ numberIn t → Counts table value r
+  pub counts : {n : ℕ} → n ≡ numberIn r → Counts table value n
   counts e = record {
     right = λ vs l.
-        e ∙ number-formed (formed (patternAt (records table) p) vs) t (c vs (h .are vs l)) ∙ ap (λ (q : Pattern). numberOf (formed q vs)) (pattern-is h);
-    bad = λ n. absurd (n (h .values) (h .legal));
+        e ∙ number-formed t (formed (patternAt (records table) p) vs) r (o .tells vs (values-there h vs (h .tried .are vs l))) ∙ ap (λ (q : Pattern). numberOf (formed q vs)) (pattern-is (h .tried));
+    bad = λ n. absurd (n (h .tried .values) (h .tried .legal));
   }
-
--- ---- binding k
-
--- after i steps from none
-pub record Stepping (table : List ℕ) (p : ℕ) (s : List ℕ) (whole : Bool) (k i : ℕ) (present : Best) : Type 0 where
-  pub within : i ≤ k
-  pub stepped : Stepped table p s 0 whole i present
-
-pub stepping-none : {table : List ℕ} {p : ℕ} {s : List ℕ} {whole : Bool} {k : ℕ} {f : Best} → NoneYet f → NarrowHeld table p s whole → Stepping table p s whole k 0 f
-stepping-none {table} {p} {s} {whole} {k} {f} n h = record { within = omega arith; stepped = stepped-none table p s 0 whole f (h .values) n (h .are) (h .narrow) }
-
-nth-past : (bs : List Binding) (k : ℕ) → length bs ≤ k → nth bs k ≡ none
-unfolding nth
-nth-past [] k h = refl
-nth-past (b ∷ bs) zero h = absurd (omega arith)
-nth-past (b ∷ bs) (suc k) h = nth-past bs k (omega arith)
-
-module _ {table : List ℕ} {p : ℕ} {s : List ℕ} {whole : Bool} {k i : ℕ} {present r : Best} (g : Stepping table p s whole k i present) (nx : NextOf table p s 0 whole present r) where
-  pub nth-end : r .any ≡ false → NthOf table p s whole k r
-  nth-end e vs v =
-      let l = step-end table p s 0 whole i present (g .stepped) r nx e vs v in
-      subst (BestIs s r) (sym (nth-past (bindings (patternAt (records table) p) vs) k (omega (arith, l, g .within)))) e
-
-  pub nth-here : k ≤ i → NthOf table p s whole k r
-  nth-here h vs v =
-      let e : i ≡ k = omega (arith, g .within) in
-      subst (λ (j : ℕ). BestIs s r (nth (bindings (patternAt (records table) p) vs) j)) e (step-to table p s 0 whole i present (g .stepped) r nx vs v)
-
-  pub stepping-more : r .any ≡ true → i < k → Stepping table p s whole k (i + 1) r
-  stepping-more e h = record { within = omega arith; stepped = stepped-more table p s 0 whole i present (g .stepped) r nx e }

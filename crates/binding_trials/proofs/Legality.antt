@@ -13,20 +13,20 @@ use Rattle.values.specs.Value.{Value, set, kindOf}
 use Rattle.values.specs.Place.{At, Holds}
 use Rattle.values.specs.Contract.{KindAt}
 use Rattle.values.proofs.Records.{holds}
+use Rattle.tables.specs.Laws.Kinds.{binder-kind}
 use Rattle.tables.specs.declared.Checked.{Checked}
 use Rattle.tables.specs.declared.Checked.the-variants.{Accepted, Refused}
 use Rattle.tables.specs.declared.reading.Cutting.{Cutting}
 use Rattle.tables.specs.Record.{isPattern, operand}
 use Rattle.tables.specs.Table.{recordAt, kindAt}
-use Rattle.tables.specs.Sheet.{isBinder, patternOf}
-use Rattle.tables.specs.Laws.Kinds.{binder-kind}
+use Rattle.tables.specs.Sheet.{patternOf, isBinder}
 use Rattle.tables.specs.Check.{mostBytes, check}
 use Rattle.tables.specs.Accepted.{records, Fine, accepted-fine, accepted-short, operand-lower, binder-operands, binder-pattern}
 use Rattle.tables.specs.Reading.{Here, HasOperand, CutOut, cut-accepted}
 use Rattle.parts.specs.Laws.{of-kind}
-use Rattle.ways.specs.Merging.{true-false}
-use Rattle.matching.specs.Node.{Readable}
-use Rattle.bindings.specs.Bound.{Values}
+use Rattle.patterns.specs.Merging.{true-false}
+use Rattle.patterns.specs.Read.{Readable}
+use Rattle.bindings.specs.Window.{Values}
 use Rattle.trials.specs.Validity.{Tells}
 use Rattle.trials.specs.Trial.{SomeOperand}
 use Rattle.trials.proofs.Records.{operand-at}

@@ -1,11 +1,9 @@
 -- What the trials of matching answer, for whatever bytes they are given.
 use mathlib.Core.Path.{_≡_}
-use mathlib.Core.Bool.{true, false}
 use mathlib.Core.Logic.{_⊎_}
-use mathlib.Core.Option.{Option, none, some}
 use mathlib.Core.List.{List, [], _∷_}
-use Prim.Native.Nat.{ℕ, _*_, _-_, _≤_}
-use lib.ListN.{length}
+use Prim.Native.Nat.{ℕ, _*_, _-_, _≤_, _<_}
+use lib.ListN.{length, getD}
 use lib.Seq.{sets}
 use Rattle.values.specs.Value.{Value, collection, set, encode}
 use Rattle.values.specs.Place.{At}
@@ -14,12 +12,10 @@ use Rattle.tables.specs.Table.{kindAt}
 use Rattle.tables.specs.Sheet.{patternOf}
 use Rattle.tables.specs.Check.{check}
 use Rattle.tables.specs.Accepted.{records}
-use Rattle.patterns.specs.Ways.{exists}
-use Rattle.patterns.specs.Binding.{Cell, free, is, Binding, cellOf}
-use Rattle.patterns.specs.Pattern.{Pattern, itemsOf, wide}
-use Rattle.patterns.specs.Binder.{bindings, Formed, bound, refused, formed}
-use Rattle.ways.specs.Read.{patternAt}
-use Rattle.ways.specs.Following.{nth}
+use Rattle.patterns.specs.Binding.{Cell, free, is, Binding, nothing, cellOf}
+use Rattle.patterns.specs.Pattern.{Pattern, itemsOf}
+use Rattle.patterns.specs.Binder.{Formed, bound, refused, formed}
+use Rattle.patterns.specs.Read.{patternAt}
 use Rattle.trials.specs.Trial.{Operand, badInput}
 
 -- ---- what is tried
@@ -66,16 +62,17 @@ Roomy s = 1024 ≤ length s
 -- What a binding says of a name: 0, with the value's record at 512 of scratch, which was s and is t; or 1. No name of a binding clashes.
 pub data Says (value s t : List ℕ) (r : ℕ) : Cell → Type 0 where
   given : {v : Value} → r ≡ 0 → At t 512 v → t ≡ sets (sets s 0 value) 512 (encode v) → Says value s t r (is v)
-  nothing : r ≡ 1 → t ≡ s → Says value s t r free
+  silent : r ≡ 1 → t ≡ s → Says value s t r free
 
--- The same of a binding, if there is one; 2 if there is none.
-abbrev pub Looks : List ℕ → List ℕ → List ℕ → ℕ → ℕ → Option Binding → Type 0
-Looks value s t r name none = (r ≡ 2) × (t ≡ s)
-Looks value s t r name (some b) = Says value s t r (cellOf b name)
+-- Binding k, from 0, says that of a name; past the last the answer is 2. Where there is a refusal it is the answer.
+pub record LooksAt (value s t : List ℕ) (k name r : ℕ) (bs : List Binding) : Type 0 where
+  pub there : k < length bs → Says value s t r (cellOf (getD bs k nothing) name)
+  pub past : length bs ≤ k → (r ≡ 2) × (t ≡ s)
 
--- Binding k was looked at, from 0. 29 comes first; 30 is not given, so that a 256th binding can be looked at.
+abbrev pub Looks : List ℕ → List ℕ → List ℕ → ℕ → ℕ → ℕ → Formed → Type 0
+Looks value s t k name r (bound bs) = LooksAt value s t k name r bs
+Looks value s t k name r (refused n) = (r ≡ n) × (t ≡ s)
+
 pub record Shows (table value : List ℕ) (k name : ℕ) (s t : List ℕ) (r : ℕ) : Type 0 where
-  pub right : (vs : List Value) → Roomy s → Legal table value vs → exists vs (wide (lastPattern table)) ≡ false
-      → Looks value s t r name (nth (bindings (lastPattern table) vs) k)
-  pub too-wide : (vs : List Value) → Roomy s → Legal table value vs → exists vs (wide (lastPattern table)) ≡ true → (r ≡ 29) × (t ≡ s)
+  pub right : (vs : List Value) → Roomy s → Legal table value vs → Looks value s t k name r (formed (lastPattern table) vs)
   pub bad : (Roomy s → (vs : List Value) → Legal table value vs → ⊥) → (r ≡ badInput) × (t ≡ s)

@@ -1,11 +1,11 @@
 // Matching tried on tables and values from outside. Untrusted bytes are tested before anything is done with them, so nothing is asked of a caller.
-use bindings::Tally;
-use matching::Best;
-use matching::Found;
+use bindings::Opened;
+use parts::words;
+use parts::words::Env;
 ghost use mathlib.Core.Path.{_≡_};
-ghost use Rattle.bindings.specs.Bound.{Searchable};
+ghost use mathlib.Core.Bool.{true};
 ghost use Rattle.binding_trials.specs.Trial.{Counts, Shows};
-ghost use Rattle.binding_trials.specs.Contract.{Few, numberIn, NarrowHeld, NthOf, Showable, ShowsName};
+ghost use Rattle.binding_trials.specs.Contract.{Few, numberIn, Loaded, LookedUp, Showable, ShowsName};
 
 mod input;
 
@@ -19,21 +19,25 @@ const WEIGHT: usize = 65536;
 // The scratch that a value needs: the value that is matched, and from 512 on the one that a name gets.
 const ROOM: usize = 1024;
 
-// The binding gives the name no value; there is no such binding; a union pattern was met by a set of over seven members.
+// The binding gives the name no value; there is no such binding.
 const NO_VALUE: usize = 1;
 
 const NO_BINDING: usize = 2;
 
-const TOO_WIDE: usize = 29;
+// An answer, and where it is 0 what each name stands for.
+pub struct Look {
+    pub answer: usize,
+    pub env: Env,
+}
 
 // The number of an answer: 65,536 for each binding, or the refusal.
-fn number(tally: Tally) -> usize
-    requires { ⌜ Few tally ⌝ }
-    ensures { λ r. ⌜ r ≡ numberIn tally ⌝ }
+fn number(opened: Opened) -> usize
+    requires { ⌜ Few opened ⌝ }
+    ensures { λ r. ⌜ r ≡ numberIn opened ⌝ }
 {
-    match tally {
-        Tally::Number(n) => WEIGHT * n,
-        Tally::Refused(n) => n,
+    match opened {
+        Opened::Bound(c) => WEIGHT * c.count,
+        Opened::Refused(n) => n,
     }
 }
 
@@ -50,55 +54,64 @@ pub extern "C" fn binding_trials_count(table: &[u8], value: &[u8]) -> usize
     }
     let p = subject.pattern;
     let whole = subject.whole;
-    number(bindings::count_bindings(table, &index, p, value, 0, whole))
+    let mut s = [0u8; ROOM];
+    trials::operands::load(value, &mut s, 0);
+    let opened = bindings::open(table, &index, p, &mut s, 0, whole, values::Value::LIMIT);
+    number(opened)
 }
 
-// Binding k, from 0: k + 1 steps from none, or fewer where a step finds none.
-fn nth_binding(
+// Binding k, from 0, of a pattern over the value at the start of a buffer, whose second half takes the window.
+fn look_up(
     table: &[u8],
     index: &[u16; 200],
     p: usize,
     value: &[u8],
+    s: &mut [u8],
     whole: bool,
     k: usize,
-) -> Best
-    requires { ⌜ Searchable (now table) (now index) p ⌝ }
-    requires { ⌜ NarrowHeld (now table) p (now value) whole ⌝ }
-    ensures { λ r. ⌜ NthOf (now (table .entry)) p (now (value .entry)) whole k r ⌝ }
+) -> Look
+    requires { ⌜ Loaded (now table) (now index) (now value) (now s) p whole ⌝ }
+    ensures { λ r. ⌜ LookedUp (now (table .entry)) p (now (value .entry)) (now (s .exit)) whole k r ⌝ }
 {
-    let mut present = Best::none();
-    let mut i = 0;
-    loop {
-        let next = bindings::next_binding(table, index, p, value, 0, whole, present);
-        if !next.any {
-            return next;
+    let env = Env::empty();
+    let opened = bindings::open(table, index, p, s, 0, whole, values::Value::LIMIT);
+    match opened {
+        Opened::Refused(n) => Look { answer: n, env },
+        Opened::Bound(c) => {
+            if c.count <= k {
+                return Look {
+                    answer: NO_BINDING,
+                    env,
+                };
+            }
+            let c = bindings::reach(table, index, p, s, 0, whole, values::Value::LIMIT, c, k);
+            let env = bindings::under(s, values::Value::LIMIT, c, k, env);
+            Look { answer: 0, env }
         }
-        if k <= i {
-            return next;
-        }
-        i += 1;
-        present = next;
     }
 }
 
-// Writes what a binding of parts of a value gives a name, at 512 of scratch; the value itself goes to 0.
-fn show(value: &[u8], found: Found, name: usize, scratch: &mut [u8]) -> usize
-    requires { ⌜ Showable (now value) found (now scratch) ⌝ }
-    ensures { λ r. ⌜ ShowsName (now (value .entry)) found name (now (scratch .entry)) (now (scratch .exit)) r ⌝ }
+// Writes what a name stands for, at 512 of scratch; the value itself goes to 0. A buffer with the value at its start takes the name's first.
+fn show(value: &[u8], buffer: &mut [u8], env: Env, name: usize, scratch: &mut [u8]) -> usize
+    requires { ⌜ Showable (now value) (now buffer) env (now scratch) ⌝ }
+    ensures { λ r. ⌜ ShowsName (now (value .entry)) (now (buffer .entry)) env name (now (scratch .entry)) (now (scratch .exit)) r ⌝ }
 {
-    if Found::NAMES <= name {
+    if Env::NAMES <= name {
         return NO_VALUE;
     }
-    let part = found.parts[name];
-    if part.how == 0 {
+    let word = env.words[name];
+    if word == 0 {
         return NO_VALUE;
     }
+    let part = words::unpack(word);
+    let from = values::Value::LIMIT;
+    let end = parts::put_part(buffer, part, from);
     trials::operands::load(value, scratch, 0);
-    parts::put_part(scratch, part, values::Value::LIMIT);
+    trials::operands::load(&buffer[from..end], scratch, from);
     0
 }
 
-// What binding k gives a name, at 512 of scratch. 30 is not given: this goes by the list of bindings itself, so that a 256th can be looked at.
+// What binding k gives a name, at 512 of scratch; 29 or 30 where there is a refusal.
 #[no_mangle]
 pub extern "C" fn binding_trials_value(
     table: &[u8],
@@ -119,14 +132,12 @@ pub extern "C" fn binding_trials_value(
     }
     let p = subject.pattern;
     let whole = subject.whole;
-    let wide = bindings::is_wide(table, &index, p, value, 0, whole);
-    if wide {
-        return TOO_WIDE;
+    let mut s = [0u8; ROOM];
+    trials::operands::load(value, &mut s, 0);
+    let look = look_up(table, &index, p, value, &mut s, whole, k);
+    if look.answer != 0 {
+        return look.answer;
     }
-    let best = nth_binding(table, &index, p, value, whole, k);
-    if !best.any {
-        return NO_BINDING;
-    }
-    let found = best.found;
-    show(value, found, name, scratch)
+    let env = look.env;
+    show(value, &mut s, env, name, scratch)
 }

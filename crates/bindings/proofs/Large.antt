@@ -14,10 +14,10 @@ use Rattle.parts.specs.Part.{PartIs, PartHeld}
 use Rattle.patterns.specs.Ways.{exists}
 use Rattle.patterns.specs.Pattern.{Pattern, itemsOf, listOf, wide}
 use Rattle.patterns.specs.Matched.{items-list}
-use Rattle.ways.specs.Read.{patternAt}
-use Rattle.ways.specs.Merging.{true-false}
+use Rattle.patterns.specs.Read.{patternAt}
+use Rattle.patterns.specs.Merging.{true-false}
 use Rattle.splitting.specs.Composed.{or-last}
-use Rattle.bindings.specs.Bound.{Values, Bindable, TellsWideIn, TellsWide}
+use Rattle.bindings.specs.Forming.{Values, Bindable, TellsWideIn, TellsWide}
 use Rattle.bindings.proofs.Members.{first-of, none-left}
 
 -- What is told of the value at a place.

@@ -1,5 +1,6 @@
--- What the proofs of the functions cite.
-pub mod Members
-pub mod Looping
-pub mod Large
-pub mod Telling
+mod Members
+mod Large
+mod Room
+mod Telling
+mod Writing
+mod Windows

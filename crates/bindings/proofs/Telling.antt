@@ -1,207 +1,235 @@
--- What follows the present binding, and how many there are.
+-- From the rows of one value to those of a binder.
 use mathlib.Core.Path.{_≡_, refl, sym, ap, ap₂, subst, _∙_}
-use mathlib.Core.Bool.{Bool, true, false, cond}
-use mathlib.Core.Option.{Option, none}
-use mathlib.Core.List.{List, [], _∷_, map}
-use Prim.Native.Nat.{ℕ, _+_, _≤_, _<_}
+use mathlib.Core.Bool.{Bool, true, false, _||_, cond}
+use mathlib.Core.Logic.{inl, inr}
+use mathlib.Core.List.{List, [], _∷_, _++_}
+use Prim.Native.Nat.{ℕ, zero, suc, _+_, _*_, _/_, _%_, _≤_, _<_}
 use native.Mathlib.Omega.{arith}
-use lib.ListN.{length}
 use lib.Dec.{leb}
-use borrow.Author.Tests.{lt-leb, leb-true}
-use Rattle.prelude.proofs.Truth.{or-false-left}
+use lib.ListN.{length, getD, set, length-set}
+use lib.Seq.{getD-set-same, getD-set-other}
+use borrow.Author.Tests.{le-leb, lt-leb}
+use Rattle.prelude.proofs.Truth.{or-false-left, or-false-right}
 use Rattle.integers.specs.Bytes.{word}
-use Rattle.values.specs.Value.{Value, collection, set}
-use Rattle.values.specs.Place.{At}
-use Rattle.values.proofs.Records.{one-value}
-use Rattle.tables.specs.Record.{Record, named, nameOf, shape, isKnown, size}
-use Rattle.tables.specs.Table.{recordAt, kindAt}
-use Rattle.tables.specs.Accepted.{records, lower, fit-known, fit-least}
-use Rattle.tables.specs.Reading.{HasField}
+use Rattle.values.specs.Value.{Value}
+use Rattle.values.specs.Place.{At, ItemsAt, Holds, HoldsItems}
+use Rattle.values.proofs.Records.{holds}
+use Rattle.tables.specs.Accepted.{records}
+use Rattle.parts.specs.Part.{PartIs}
 use Rattle.patterns.specs.Ways.{gather, exists}
-use Rattle.patterns.specs.Binding.{Binding, only}
-use Rattle.patterns.specs.Pattern.{Pattern, name, itemsOf, matches, wide}
-use Rattle.patterns.specs.Binder.{bindings, Formed, refused, few as fewest, formed}
-use Rattle.patterns.specs.Forming.{bound-formed}
-use Rattle.ways.specs.Read.{patternAt}
-use Rattle.ways.specs.Nodes.{pattern-at, is-name}
-use Rattle.ways.specs.Merging.{true-false}
-use Rattle.ways.specs.Following.{following}
-use Rattle.ways.specs.Kin.{Kin}
-use Rattle.ways.specs.Best.{leastOver, over-all, over-following, kin-all}
-use Rattle.matching.specs.declared.Best.{Best}
-use Rattle.matching.specs.Found.{BestIs, NoneYet}
-use Rattle.bindings.specs.declared.Tally.the-variants.{Number, Refused}
-use Rattle.bindings.specs.Bound.{Bounding, Sought, SoughtAll, SoughtOf, SoughtOfAll, Searchable, Values, Bindable, Follows, StoodAt, MemberHeld, MemberFollows, MemberNext, TellsWide, Present, NextOf, TellsOf, Tallied}
-use Rattle.bindings.proofs.Members.{best-one, set-one, plain-are}
-use Rattle.bindings.proofs.Large.{members-at}
-use Rattle.bindings.specs.Stepping.{Stepped, stepped-none, step-end, step-more, stepped-more}
+use Rattle.patterns.specs.Binding.{Binding, nothing, consistent, sorted}
+use Rattle.patterns.specs.Pattern.{Pattern, itemsOf, matches, wide}
+use Rattle.patterns.specs.Binder.{bindings, Formed as Outcome, bound, refused, few, formed, mostBindings}
+use Rattle.patterns.specs.Merging.{true-false}
+use Rattle.patterns.specs.Read.{Readable, patternAt}
+use Rattle.matching.specs.declared.leaves.Match.{Match}
+use Rattle.matching.specs.Leaf.{Stands}
+use Rattle.bindings.proofs.Members.{first-of, none-left}
+use Rattle.bindings.proofs.Large.{members-at, set-held}
+use Rattle.forming.specs.declared.Formed.{Formed}
+use Rattle.forming.specs.declared.Formed.the-variants.{Number, Refused}
+use Rattle.forming.specs.Onward.{Task, task, onward, onward-one}
+use Rattle.forming.specs.Adding.{adding, adding-none, adding-more, adding-longer, adding-sorted}
+use Rattle.parts.specs.Word.{unpacked}
+use Rattle.forming.specs.Rows.{RowsAre, Entered}
+use Rattle.forming.specs.Pending.{Pending, AgendaIs, spaces, Solvable, Solved}
+use Rattle.bindings.specs.Forming.{Values, Bindable, TellsWide, OneHeld, OneFormed, AllHeld, AllFormed, TellsRows, RowsFormed}
+use Rattle.bindings.proofs.Room.{inner-few}
 
--- ---- the record of a name
+-- ---- one value
 
-name-is-small : (c : ℕ) (r : Record) → c ≡ 32 → isKnown (shape c .head) r ≡ true → nameOf r < 16
-unfolding shape
-name-is-small c r e h =
-    let k : leb (nameOf r) 15 ≡ true = subst (λ (n : ℕ). isKnown (shape n .head) r ≡ true) e h in
-    let l : nameOf r ≤ 15 = leb-true (nameOf r) 15 k in
-    omega arith
+abbrev pub seeded : List ℕ → ℕ → ℕ → List ℕ
+seeded a p at = set (set (set a 3 p) 4 (1 + 4 * at)) 5 0
 
-name-is-byte : (c : ℕ) → c ≡ 32 → size (shape c .head) ≡ 1
-unfolding shape
-name-is-byte c e = subst (λ (n : ℕ). size (shape n .head) ≡ 1) (sym e) refl
+module _ (table index : List ℕ) (p : ℕ) (s : List ℕ) (at : ℕ) (a rows order : List ℕ) (n : ℕ) (h : OneHeld table index p s at a rows order n) where
+  seed-long : length (seeded a p at) ≡ length a
+  seed-long = length-set (set (set a 3 p) 4 (1 + 4 * at)) 5 0 ∙ length-set (set a 3 p) 4 (1 + 4 * at) ∙ length-set a 3 p
 
--- ---- one binder, one binding
+  seed-first : getD (seeded a p at) 3 0 ≡ p
+  seed-first =
+      getD-set-other (set (set a 3 p) 4 (1 + 4 * at)) 5 3 0 0 (λ e. absurd (omega arith)) ∙ getD-set-other (set a 3 p) 4 3 (1 + 4 * at) 0 (λ e. absurd (omega arith)) ∙ getD-set-same a 3 p 0 (omega (arith, h .long))
 
-values-one : (s : List ℕ) (at : ℕ) (t : Bool) (vs ws : List Value) → Values s at t vs → Values s at t ws → vs ≡ ws
-values-one s at true vs ws (v, i, q) (w, j, r) = q ∙ ap (λ (x : Value). x ∷ []) (one-value i j) ∙ sym r
-values-one s at false vs ws i j = set-one vs ws i j
+  seed-second : getD (seeded a p at) 4 0 ≡ 1 + 4 * at
+  seed-second = getD-set-other (set (set a 3 p) 4 (1 + 4 * at)) 5 4 0 0 (λ e. absurd (omega arith)) ∙ getD-set-same (set a 3 p) 4 (1 + 4 * at) 0 (omega (arith, h .long, length-set a 3 p))
 
--- What follows a binding is a binding of the pattern.
-following-kin : (p : Pattern) (vs : List Value) (a : Option Binding) → Kin p (following a (bindings p vs))
-following-kin p vs a = subst (Kin p) (over-following p vs a) (kin-all p vs a none tt)
+  seed-third : getD (seeded a p at) 5 0 ≡ 0
+  seed-third = getD-set-same (set (set a 3 p) 4 (1 + 4 * at)) 5 0 0 (omega (arith, h .long, length-set (set a 3 p) 4 (1 + 4 * at), length-set a 3 p))
 
-one-following : (p : Pattern) (v : Value) (a : Option Binding) → leastOver a (matches p v) none ≡ following a (bindings p (v ∷ []))
-unfolding gather leastOver
-one-following p v a = sym (over-all p v [] a none) ∙ over-following p (v ∷ []) a
+  pub at-low : at ≤ 65536
+  at-low = omega (arith, h .here .fits, h .short)
 
--- ---- what the search asks, and gives
+  seed-agenda : (v : Value) → At s at v → wide (patternAt (records table) p) v ≡ false → AgendaIs table index s (seeded a p at) 2 1 (task (patternAt (records table) p) v ∷ [])
+  seed-agenda v i w = (
+    record {
+      some = omega arith;
+      below = omega arith;
+      falls = omega (arith, seed-third);
+      readable = subst (Readable table index) (sym seed-first) (h .readable);
+      pattern = ap (patternAt (records table)) (sym seed-first);
+      here = subst (λ (c : ℕ). PartIs s (unpacked c) v) (sym seed-second) (inl (omega arith, subst (λ (c : ℕ). At s c v) (omega (arith, at-low)) i));
+      narrow = w;
+    },
+    seed-third,
+  )
 
-module _ (table : List ℕ) (p : ℕ) (s : List ℕ) (at : ℕ) where
-  module _ (t : Bool) (present f : Best) (h : Present table p s at t present) (o : NoneYet f) where
-    abbrev P : Pattern
-    P = patternAt (records table) p
+  module _ (f : Match) (nothing-yet : (s : List ℕ) → Stands s f nothing) where
+    pub one-asked : Solvable table index s (seeded a p at) 1 2 f rows order n
+    one-asked = record {
+      short = h .short;
+      tasks = task (patternAt (records table) p) (h .value) ∷ [];
+      are = seed-agenda (h .value) (h .here) (h .narrow);
+      long = seed-long ∙ h .long;
+      low = omega arith;
+      room = omega (arith, inner-few table index p (h .readable));
+      binding = nothing;
+      stands = nothing-yet s;
+      bindings = h .bindings;
+      rows-are = h .rows-are;
+    }
 
-    bounding : (a : Option Binding) → BestIs s present a → Bounding P s present f a none
-    bounding a x = record { present-is = x; best-is = o .nothing; present-kin = subst (Kin P) (best-one s present (h .binding) a (h .is) x) (h .kin); best-kin = tt }
+    pub one-formed : (b rows′ order′ : List ℕ) (r : Formed) → Solved table index s (seeded a p at) b 1 2 f rows order n rows′ order′ r → OneFormed table p s at a b rows order n rows′ order′ r
+    one-formed b rows′ order′ r d = record {
+      long = d .long ∙ seed-long;
+      right = λ v bs i w g.
+          subst (λ (l : List Binding). Entered s rows′ order′ (adding l bs) r) (onward-one (patternAt (records table) p) v)
+          (d .right (task (patternAt (records table) p) v ∷ []) nothing bs (seed-agenda v i w) (nothing-yet s) g);
+    }
 
-    narrow-of : (vs : List Value) → Values s at t vs → exists vs (wide P) ≡ false
-    narrow-of vs i = ap (λ (ws : List Value). exists ws (wide P)) (values-one s at t vs (h .values) i (h .are)) ∙ h .narrow
+-- ---- all members
 
-    one-narrow : (v : Value) → exists (v ∷ []) (wide P) ≡ false → wide P v ≡ false
+none-sorted : [] ≡ sorted []
+unfolding sorted
+none-sorted = refl
+
+pub no-rows : (s rows order : List ℕ) → length rows ≡ 4080 → length order ≡ 255 → RowsAre s rows order 0 []
+no-rows s rows order l m = record { wide = l; long = m; count = refl; few = omega arith; given = []; ordered = none-sorted; row = λ j k. absurd (omega arith); each = λ j k. absurd (omega arith) }
+
+pub record AllSoFar (table : List ℕ) (p : ℕ) (s : List ℕ) (from to : ℕ) (a b rows order : List ℕ) (n at : ℕ) : Type 0 where
+  pub long : length b ≡ length a
+  pub right : (vs : List Value) → ItemsAt s from to (itemsOf vs) → exists vs (wide (patternAt (records table) p)) ≡ false
+      → (ws : List Value) × (cs : List Binding) × ItemsAt s at to (itemsOf ws) × (exists ws (wide (patternAt (records table) p)) ≡ false) × RowsAre s rows order n cs
+      × (adding (gather ws (matches (patternAt (records table) p))) cs ≡ adding (gather vs (matches (patternAt (records table) p))) [])
+
+module _ (table index : List ℕ) (p : ℕ) (s : List ℕ) (from to : ℕ) (a rows₀ order₀ : List ℕ) (h : AllHeld table index p s from to a rows₀ order₀) where
+  abbrev P : Pattern
+  P = patternAt (records table) p
+
+  pub all-start : AllSoFar table p s from to a a rows₀ order₀ 0 from
+  all-start = record { long = refl; right = λ vs i w. (vs, [], i, w, no-rows s rows₀ order₀ (h .rows-long) (h .order-long), refl) }
+
+  module _ (b rows order : List ℕ) (n at : ℕ) (z : AllSoFar table p s from to a b rows order n at) where
+    pub all-inside : at < to → (at + word s at ≤ to) × (to ≤ length s)
+    all-inside l = let w = z .right (h .values) (h .here) (h .narrow) in (first-of s at to (w .0) l (w .2) .inside, w .2 .fits)
+
+    pub all-holds : at < to → Holds s at
+    all-holds l = let w = z .right (h .values) (h .here) (h .narrow) in holds (first-of s at to (w .0) l (w .2) .first-at)
+
+    cons-narrow : (ws us : List Value) (v : Value) → ws ≡ v ∷ us → exists ws (wide P) ≡ false → (wide P v ≡ false) × (exists us (wide P) ≡ false)
     unfolding exists
-    one-narrow v e = or-false-left (wide P v) false e
+    cons-narrow ws us v e f = let g : (wide P v || exists us (wide P)) ≡ false = ap (λ (xs : List Value). exists xs (wide P)) (sym e) ∙ f in (or-false-left (wide P v) (exists us (wide P)) g, or-false-right (wide P v) (exists us (wide P)) g)
 
-    pub one-sought : t ≡ true → Sought table p s at present f
-    one-sought e = go t e (h .are) (λ v q. one-narrow v (sym (ap (λ (ws : List Value). exists ws (wide P)) q) ∙ h .narrow))
+    pub one-held : at < to → OneHeld table index p s at b rows order n
+    one-held l =
+        let w = z .right (h .values) (h .here) (h .narrow) in
+        let f = first-of s at to (w .0) l (w .2) in
+        record {
+          readable = h .readable;
+          short = h .short;
+          value = f .first;
+          here = f .first-at;
+          narrow = cons-narrow (w .0) (f .others) (f .first) (f .is) (w .3) .0;
+          long = z .long ∙ h .long;
+          bindings = w .1;
+          rows-are = w .4;
+        }
+
+    pub all-end : to ≤ at → AllFormed table p s from to rows order (Number n)
+    unfolding gather
+    all-end l vs i u =
+        let w = z .right vs i u in
+        let e = none-left s at to (w .0) l (w .2) in
+        subst (RowsAre s rows order n) (sym (adding-none (w .1)) ∙ ap (λ (xs : List Value). adding (gather xs (matches P)) (w .1)) (sym e) ∙ w .5) (w .4)
+
+    module _ (l : at < to) (b′ rows′ order′ : List ℕ) (r : Formed) (o : OneFormed table p s at b b′ rows order n rows′ order′ r) where
+      step : (vs : List Value) → ItemsAt s from to (itemsOf vs) → exists vs (wide P) ≡ false
+          → (us : List Value) × (ds : List Binding) × ItemsAt s (at + word s at) to (itemsOf us) × (exists us (wide P) ≡ false) × Entered s rows′ order′ ds r × (adding (gather us (matches P)) ds ≡ adding (gather vs (matches P)) [])
+      step vs i u =
+          let w = z .right vs i u in
+          let f = first-of s at to (w .0) l (w .2) in
+          let k = cons-narrow (w .0) (f .others) (f .first) (f .is) (w .3) in (
+            f .others,
+            adding (matches P (f .first)) (w .1),
+            f .others-at,
+            k .1,
+            o .right (f .first) (w .1) (f .first-at) (k .0) (w .4),
+            sym (adding-more (f .first) (f .others) (matches P) (w .1)) ∙ ap (λ (xs : List Value). adding (gather xs (matches P)) (w .1)) (sym (f .is)) ∙ w .5,
+          )
+
+      pub all-full : (j : ℕ) → r ≡ Refused j → AllFormed table p s from to rows′ order′ (Refused j)
+      all-full j e vs i u =
+          let w = step vs i u in
+          let k : Entered s rows′ order′ (w .1) (Refused j) = subst (Entered s rows′ order′ (w .1)) e (w .4) in
+          let m = adding-longer (gather (w .0) (matches P)) (w .1) in
+          let q : length (adding (gather (w .0) (matches P)) (w .1)) ≡ length (adding (gather vs (matches P)) []) = ap length (w .5) in
+          (k .0, omega (arith, k .1, m, q))
+
+      pub all-more : (j : ℕ) → r ≡ Number j → (k : ℕ) → k ≡ word s at → AllSoFar table p s from to a b′ rows′ order′ j (at + k)
+      all-more j e k q = record {
+        long = o .long ∙ z .long;
+        right = λ vs i u.
+            let w = step vs i u in
+            (w .0, w .1, subst (λ (x : ℕ). ItemsAt s (at + x) to (itemsOf (w .0))) (sym q) (w .2), w .3, subst (Entered s rows′ order′ (w .1)) e (w .4), w .5);
+      }
+
+-- ---- a binder
+
+rows-few : (s rows order : List ℕ) (bs : List Binding) (r : Formed) → Entered s rows order bs r → TellsRows s rows order (few bs) r
+rows-few s rows order bs (Number n) g = rw (le-leb (length bs) mostBindings (omega (arith, g .few, g .count))) g
+rows-few s rows order bs (Refused k) g = rw (lt-leb (length bs) mostBindings (g .1)) (sym (g .0))
+
+rows-told : (table : List ℕ) (p : ℕ) (s rows order : List ℕ) (vs : List Value) (r : Formed) → exists vs (wide (patternAt (records table) p)) ≡ false
+    → Entered s rows order (adding (gather vs (matches (patternAt (records table) p))) []) r → TellsRows s rows order (formed (patternAt (records table) p) vs) r
+rows-told table p s rows order vs r w g =
+    rw w (rows-few s rows order (bindings (patternAt (records table) p) vs) r (subst (λ (l : List Binding). Entered s rows order l r) (adding-sorted (gather vs (matches (patternAt (records table) p)))) g))
+
+module _ (table : List ℕ) (p : ℕ) (s : List ℕ) (at : ℕ) (whole : Bool) (r : Bool) (t : TellsWide table p s at whole r) where
+  pub form-wide : r ≡ true → (rows order : List ℕ) → RowsFormed table p s at whole rows order (Refused 29)
+  form-wide e rows order vs i = let w : exists vs (wide (patternAt (records table) p)) ≡ true = sym (t vs i) ∙ e in rw w refl
+
+  module _ (n : r ≡ false) where
+    narrow : (vs : List Value) → Values s at whole vs → exists vs (wide (patternAt (records table) p)) ≡ false
+    narrow vs i = sym (t vs i) ∙ n
+
+    one-narrow : (v : Value) (vs : List Value) → vs ≡ v ∷ [] → exists vs (wide (patternAt (records table) p)) ≡ false → wide (patternAt (records table) p) v ≡ false
+    unfolding exists
+    one-narrow v vs e w = or-false-left (wide (patternAt (records table) p) v) false (ap (λ (xs : List Value). exists xs (wide (patternAt (records table) p))) (sym e) ∙ w)
+
+    pub value-held : whole ≡ true → Bindable s at whole → (index a rows order : List ℕ) → Readable table index p → length s ≤ 65536 → length a ≡ 603 → length rows ≡ 4080 → length order ≡ 255
+        → OneHeld table index p s at a rows order 0
+    value-held e b index a rows order se l la lr lo =
+        let (vs, i) = b in
+        let (v, j, q) : (v : Value) × At s at v × (vs ≡ v ∷ []) = subst (λ (u : Bool). Values s at u vs) e i in
+        record { readable = se; short = l; value = v; here = j; narrow = one-narrow v vs q (narrow vs i); long = la; bindings = []; rows-are = no-rows s rows order lr lo }
+
+    one-gather : (v : Value) (vs : List Value) → vs ≡ v ∷ [] → gather vs (matches (patternAt (records table) p)) ≡ matches (patternAt (records table) p) v
+    unfolding gather
+    one-gather v vs e = ap (λ (xs : List Value). gather xs (matches (patternAt (records table) p))) e ∙ append-nil (matches (patternAt (records table) p) v)
       where
-        go : (t : Bool) → t ≡ true → Values s at t (h .values) → ((v : Value) → h .values ≡ v ∷ [] → wide P v ≡ false) → Sought table p s at present f
-        go true e (v, i, q) w = record { value = v; here = i; narrow = w v q; a = h .binding; m = none; bounding = bounding (h .binding) (h .is) }
-        go false e i w = true-false (sym e)
+        append-nil : (xs : List Binding) → xs ++ [] ≡ xs
+        append-nil [] = refl
+        append-nil (x ∷ xs) = ap (λ (l : List Binding). x ∷ l) (append-nil xs)
 
-    pub all-sought : t ≡ false → (n : ℕ) → n ≡ word s at → SoughtAll table p s (at + 4) (at + n) present f
-    all-sought e n q = record {
-      values = h .values;
-      here = members-at s at (h .values) n q (subst (λ (b : Bool). Values s at b (h .values)) e (h .are));
-      narrow = h .narrow;
-      a = h .binding;
-      m = none;
-      bounding = bounding (h .binding) (h .is);
-    }
+    pub value-told : whole ≡ true → (a b rows order rows′ order′ : List ℕ) (q : Formed) → length rows ≡ 4080 → length order ≡ 255 → OneFormed table p s at a b rows order 0 rows′ order′ q → RowsFormed table p s at whole rows′ order′ q
+    value-told e a b rows order rows′ order′ q lr lo o vs i =
+        let (v, j, d) : (v : Value) × At s at v × (vs ≡ v ∷ []) = subst (λ (u : Bool). Values s at u vs) e i in
+        rows-told table p s rows′ order′ vs q (narrow vs i)
+        (subst (λ (l : List Binding). Entered s rows′ order′ (adding l []) q) (sym (one-gather v vs d)) (o .right v [] j (one-narrow v vs d (narrow vs i)) (no-rows s rows order lr lo)))
 
-    pub follows-one : t ≡ true → (r : Best) → SoughtOf table p s at present f r → Follows table p s at t present r
-    follows-one e r g vs a i x = go t e i (narrow-of vs i)
-      where
-        go : (t : Bool) → t ≡ true → Values s at t vs → exists vs (wide P) ≡ false → BestIs s r (following a (bindings P vs))
-        go true e (v, j, q) w =
-            subst (λ (ws : List Value). BestIs s r (following a (bindings P ws))) (sym q)
-            (subst (BestIs s r) (one-following P v a) (g v a none j (one-narrow v (sym (ap (λ (ws : List Value). exists ws (wide P)) q) ∙ w)) (bounding a x)))
-        go false e j w = true-false (sym e)
+    pub members-held : whole ≡ false → Bindable s at whole → (k : ℕ) → k ≡ word s at → (index a rows order : List ℕ) → Readable table index p → length s ≤ 65536 → length a ≡ 603 → length rows ≡ 4080 → length order ≡ 255
+        → AllHeld table index p s (at + 4) (at + k) a rows order
+    members-held e b k q index a rows order se l la lr lo =
+        let (vs, i) = b in
+        record { readable = se; short = l; values = vs; here = members-at s at vs k q (subst (λ (u : Bool). Values s at u vs) e i); narrow = narrow vs i; long = la; rows-long = lr; order-long = lo }
 
-    pub follows-all : t ≡ false → (n : ℕ) → n ≡ word s at → (r : Best) → SoughtOfAll table p s (at + 4) (at + n) present f r → Follows table p s at t present r
-    follows-all e n q r g vs a i x =
-        subst (BestIs s r) (over-following P vs a)
-        (g vs a none (members-at s at vs n q (subst (λ (b : Bool). Values s at b vs) e i)) (narrow-of vs i) (bounding a x))
-
-    -- not a plain name over a set
-    pub next-searched : (t ≡ false → kindAt (records table) p ≡ 32 → ⊥) → (r : Best) → Follows table p s at t present r → NextOf table p s at t present r
-    next-searched n r g = record {
-      follows = g;
-      stays = record {
-        values = h .values;
-        are = h .are;
-        binding = following (h .binding) (bindings P (h .values));
-        is = g (h .values) (h .binding) (h .are) (h .is);
-        narrow = h .narrow;
-        kin = following-kin P (h .values) (h .binding);
-        stood = λ e k. absurd (n e k);
-      };
-    }
-
-module _ (table index : List ℕ) (p : ℕ) (c : Searchable table index p) (k : kindAt (records table) p ≡ 32) (s : List ℕ) (at : ℕ) where
-  small : nameOf (recordAt (records table) p) < 16
-  small = name-is-small (kindAt (records table) p) (recordAt (records table) p) k (fit-known (recordAt (records table) p) (c .readable .fine .fit p (c .readable .here .within)))
-
-  pub plain-field : HasField table index p 0
-  plain-field = record { here = c .readable .here; has = omega (arith, fit-least (recordAt (records table) p) (c .readable .fine .fit p (c .readable .here .within)), name-is-byte (kindAt (records table) p) k) }
-
-  is-plain : patternAt (records table) p ≡ name (nameOf (recordAt (records table) p))
-  is-plain = pattern-at (records table) (lower (records table) (c .readable .fine .clear6)) p (c .readable .here .within) ∙ is-name (recordAt (records table) p) (map (patternAt (records table)) (named (recordAt (records table) p))) k
-
-  module _ (t : Bool) (whole : t ≡ false) (f : Best) (h : Present table p s at t f) (y : ℕ) (e : y ≡ nameOf (recordAt (records table) p)) where
-    as-set : At s at (collection set (itemsOf (h .values)))
-    as-set = subst (λ (b : Bool). Values s at b (h .values)) whole (h .are)
-
-    pub plain-held : (y < 16) × MemberHeld s y at f
-    plain-held = (
-      omega (arith, e, small),
-      record { values = h .values; are = as-set; binding = h .binding; is = h .is; stood = subst (λ (n : ℕ). StoodAt s n at f (h .values) (h .binding)) (sym e) (h .stood whole k) },
-    )
-
-    pub next-plain : (r : Best) → MemberNext s y at f r → NextOf table p s at t f r
-    next-plain r o = record {
-      follows = λ vs a i b.
-          let q : vs ≡ h .values = values-one s at t vs (h .values) i (h .are) in
-          let u : a ≡ h .binding = best-one s f a (h .binding) b (h .is) in
-          subst (BestIs s r) (sym (ap₂ following u (ap (bindings (patternAt (records table) p)) q ∙ plainly))) (got .next);
-      stays = record {
-        values = h .values;
-        are = h .are;
-        binding = following (h .binding) (map (only y) (h .values));
-        is = got .next;
-        narrow = h .narrow;
-        kin = subst (λ (bs : List Binding). Kin (patternAt (records table) p) (following (h .binding) bs)) plainly (following-kin (patternAt (records table) p) (h .values) (h .binding));
-        stood = λ a b. subst (λ (n : ℕ). StoodAt s n at r (h .values) (following (h .binding) (map (only y) (h .values)))) e (got .stands);
-      };
-    }
-      where
-        got : MemberFollows s y at (h .values) (h .binding) r
-        got = o (h .values) (h .binding) as-set (h .is) (subst (λ (n : ℕ). StoodAt s n at f (h .values) (h .binding)) (sym e) (h .stood whole k))
-
-        plainly : bindings (patternAt (records table) p) (h .values) ≡ map (only y) (h .values)
-        plainly =
-            ap (λ (w : Pattern). bindings w (h .values)) is-plain
-            ∙ plain-are (nameOf (recordAt (records table) p)) (h .values) (omega (arith, small)) as-set
-            ∙ ap (λ (n : ℕ). map (only n) (h .values)) (sym e)
-
--- ---- how many
-
-module _ (table : List ℕ) (p : ℕ) (s : List ℕ) (at : ℕ) (t : Bool) where
-  pub tells-29 : (w : Bool) → TellsWide table p s at t w → w ≡ true → Tallied table p s at t (Refused 29)
-  tells-29 w h e vs i =
-      subst (λ (x : Formed). TellsOf x (Refused 29)) (ap (λ (b : Bool). cond b (refused 29) (fewest (bindings (patternAt (records table) p) vs))) (sym e ∙ h vs i)) refl
-
-  -- n steps from none, at most as many as a binder may have bindings
-  pub record Counted (n : ℕ) (present : Best) : Type 0 where
-    pub few : n ≤ 255
-    pub stepped : Stepped table p s at t n present
-    pub no-wide : (vs : List Value) → Values s at t vs → exists vs (wide (patternAt (records table) p)) ≡ false
-
-  pub counted-none : (w : Bool) → TellsWide table p s at t w → w ≡ false → (f : Best) → NoneYet f → Bindable s at t → Counted 0 f
-  counted-none w g e f h k = record { few = omega arith; stepped = stepped-none table p s at t f (k .0) h (k .1) (no-wide (k .0) (k .1)); no-wide = no-wide }
-    where
-      no-wide : (vs : List Value) → Values s at t vs → exists vs (wide (patternAt (records table) p)) ≡ false
-      no-wide vs i = sym (g vs i) ∙ e
-
-  module _ (n : ℕ) (present : Best) (g : Counted n present) (r : Best) (nx : NextOf table p s at t present r) where
-    pub tells-number : r .any ≡ false → Tallied table p s at t (Number n)
-    tells-number e vs i =
-        let l = step-end table p s at t n present (g .stepped) r nx e vs i in
-        subst (λ (x : Formed). TellsOf x (Number n)) (sym (bound-formed (patternAt (records table) p) vs (g .no-wide vs i) (omega (arith, l, g .few)))) l
-
-    pub tells-30 : r .any ≡ true → 255 ≤ n → Tallied table p s at t (Refused 30)
-    tells-30 e h vs i =
-        let l = step-more table p s at t n present (g .stepped) r nx e vs i in
-        let f : formed (patternAt (records table) p) vs ≡ refused 30 = rw (g .no-wide vs i, lt-leb (length (bindings (patternAt (records table) p) vs)) 255 (omega (arith, l))) in
-        subst (λ (x : Formed). TellsOf x (Refused 30)) (sym f) refl
-
-    pub counted-more : r .any ≡ true → n < 255 → Counted (n + 1) r
-    counted-more e h = record { few = omega arith; stepped = stepped-more table p s at t n present (g .stepped) r nx e; no-wide = g .no-wide }
+    pub members-told : whole ≡ false → (k : ℕ) → k ≡ word s at → (rows order : List ℕ) (q : Formed) → AllFormed table p s (at + 4) (at + k) rows order q → RowsFormed table p s at whole rows order q
+    members-told e k d rows order q o vs i = rows-told table p s rows order vs q (narrow vs i) (o vs (members-at s at vs k d (subst (λ (u : Bool). Values s at u vs) e i)) (narrow vs i))

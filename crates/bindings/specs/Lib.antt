@@ -1,4 +1,6 @@
--- What the functions that give the bindings one after the other ask and promise, and how stepping counts them.
-pub mod Bound
-pub mod Stepping
-pub mod Room
+-- The bindings of a binder in a window of scratch: what the evaluator asks, and what it is promised.
+pub mod Window
+pub mod Laws
+pub mod Forming
+pub mod Filling
+pub mod Opening

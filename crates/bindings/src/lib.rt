@@ -1,245 +1,207 @@
-// The bindings of a pattern one after the other: the least binding above the present one, over all ways worth going and all members.
-use digits::Digits;
-use matching::Best;
-use matching::Bounds;
-use matching::Found;
-use parts::Part;
-ghost use Prim.Native.Nat.{_<_};
-ghost use Rattle.values.specs.Place.{HoldsItems};
-ghost use Rattle.matching.specs.Found.{Standing, BoundsHeld};
-ghost use Rattle.bindings.specs.Bound.{Considered, Searchable, Sought, SoughtAll, SoughtOf, SoughtOfAll, Bindable, MemberBound, MemberHeld, MemberNext, TellsWide, TellsWideIn, Present, NextOf, Tallied};
+// The bindings of a binder. All are formed in one pass; some of them stand in a window of scratch, which is filled again where another is asked for.
+mod filling;
+mod forms;
 
-// How many bindings there are, or refusal 29 or 30.
-pub enum Tally {
-    Number(usize),
+use forming::Formed;
+use integers::bytes::read16;
+use parts::words::Env;
+ghost use mathlib.Core.Path.{_≡_};
+ghost use Prim.Native.Nat.{_+_, _<_, _≤_};
+ghost use lib.ListN.{length};
+ghost use Rattle.integers.specs.Bytes.{bits32};
+ghost use Rattle.patterns.specs.Read.{Readable};
+ghost use Rattle.bindings.specs.Window.{Lent, OpenedAs, Reachable, Reached, Underneath, UnderBinding};
+ghost use Rattle.bindings.specs.Opening.{PlainHeld, PlainOpened, CursorHeld, CursorOver};
+
+// How many bindings there are; the names that they give values, as a mask, and how many these are; and the first binding in the window.
+pub struct Cursor {
+    pub count: usize,
+    pub names: usize,
+    pub width: usize,
+    pub from: usize,
+}
+
+impl Cursor {
+    // The bytes of a window.
+    pub const WINDOW: usize = 512;
+}
+
+// The bindings, or refusal 29 or 30.
+pub enum Opened {
+    Bound(Cursor),
     Refused(usize),
 }
 
-// What is found counts where it is a match and lies between the bounds.
-fn consider(s: &[u8], f: Found, bounds: Bounds) -> Best
-    requires { ⌜ Standing (now s) f × BoundsHeld (now s) bounds ⌝ }
-    ensures { λ r. ⌜ Considered (now (s .entry)) f bounds r ⌝ }
+// The word at a place.
+fn read_word(s: &[u8], at: usize) -> u32
+    requires { ⌜ at + 4 ≤ length (now s) ⌝ }
+    ensures { λ r. ⌜ r ≡ bits32 (now (s .entry)) at ⌝ }
 {
-    let better = matching::is_hopeful(s, f, bounds);
-    if better {
-        return Best {
-            found: f,
-            any: true,
-        };
-    }
-    bounds.best
+    let low = read16(s, at);
+    let high = read16(s, at + 2);
+    (low + 65536 * high) as u32
 }
 
-// Over all ways of the value at a place that are worth going.
-fn best_in(
-    table: &[u8],
-    index: &[u16; 200],
-    p: usize,
-    s: &[u8],
-    at: usize,
-    present: Best,
-    best: Best,
-) -> Best
-    requires { ⌜ Searchable (now table) (now index) p ⌝ }
-    requires { ⌜ Sought (now table) p (now s) at present best ⌝ }
-    ensures { λ r. ⌜ SoughtOf (now (table .entry)) p (now (s .entry)) at present best r ⌝ }
-{
-    let mut digits = Digits::first();
-    let mut best = best;
-    loop {
-        let bounds = Bounds { present, best };
-        let start = Found::nothing();
-        let m = matching::match_along(
-            table,
-            index,
-            p,
-            s,
-            Part {
-                how: 1,
-                at,
-                extent: 0,
-            },
-            bounds,
-            start,
-            digits,
-        );
-        let f = m.found;
-        best = consider(s, f, bounds);
-        let rest = m.digits;
-        let a = rest.advance();
-        if !a.more {
-            return best;
-        }
-        digits = a.digits;
-    }
-}
-
-// Over all members from a place up to another.
-fn best_all(
-    table: &[u8],
-    index: &[u16; 200],
-    p: usize,
-    s: &[u8],
-    from: usize,
-    to: usize,
-    present: Best,
-    best: Best,
-) -> Best
-    requires { ⌜ Searchable (now table) (now index) p ⌝ }
-    requires { ⌜ SoughtAll (now table) p (now s) from to present best ⌝ }
-    ensures { λ r. ⌜ SoughtOfAll (now (table .entry)) p (now (s .entry)) from to present best r ⌝ }
-{
-    let mut at = from;
-    let mut best = best;
-    while at < to {
-        let n = values::length_of(s, at);
-        best = best_in(table, index, p, s, at, present, best);
-        at += n;
-    }
-    best
-}
-
-// The member at a place bound to a name; none at the end of the members.
-fn bind_member(s: &[u8], x: usize, at: usize, to: usize) -> Best
-    requires { ⌜ (x < 16) × HoldsItems (now s) at to ⌝ }
-    ensures { λ r. ⌜ MemberBound (now (s .entry)) x at to r ⌝ }
-{
-    if to <= at {
-        return Best::none();
-    }
-    let found = Found::nothing();
-    let mut parts = found.parts;
-    parts[x] = Part {
-        how: 1,
-        at,
-        extent: 0,
-    };
-    let found = Found { parts, fits: true };
-    Best { found, any: true }
-}
-
-// A plain name over a set: the member after the present one, with no search.
-fn next_member(s: &[u8], x: usize, at: usize, present: Best) -> Best
-    requires { ⌜ (x < 16) × MemberHeld (now s) x at present ⌝ }
-    ensures { λ r. ⌜ MemberNext (now (s .entry)) x at present r ⌝ }
+// A plain name, bound to the value at a place or to each member of the set there: their words as they stand, with no pass.
+fn open_plain(s: &mut [u8], at: usize, whole: bool, to: usize, x: usize) -> Cursor
+    requires { ⌜ PlainHeld (now s) at whole to x ⌝ }
+    ensures { λ r. ⌜ PlainOpened (now (s .entry)) (now (s .exit)) at whole to x r ⌝ }
 {
     let n = values::length_of(s, at);
-    if !present.any {
-        return bind_member(s, x, at + 4, at + n);
+    let names = filling::one_name(x);
+    let from = forms::first_at(at, whole);
+    let count = filling::put_members(s, to, from, at + n);
+    Cursor {
+        count,
+        names,
+        width: 1,
+        from: 0,
     }
-    let f = present.found;
-    let q = f.parts[x];
-    let m = q.at;
-    let k = values::length_of(s, m);
-    bind_member(s, x, m + k, at + n)
 }
 
-// The binding that follows the present one: of a pattern over the members of the set at a place, or over the one value there.
-pub fn next_binding(
+// The cursor over n rows, at binding k.
+fn cursor_over(rows: &[u32; 4080], order: &[u8; 255], n: usize, k: usize) -> Cursor
+    requires { ⌜ CursorHeld (now rows) (now order) n k ⌝ }
+    ensures { λ r. ⌜ CursorOver (now (rows .entry)) (now (order .entry)) n k r ⌝ }
+{
+    if n == 0 {
+        return Cursor {
+            count: 0,
+            names: 0,
+            width: 0,
+            from: 0,
+        };
+    }
+    let r = order[0] as usize;
+    let names = filling::names_of(rows, r);
+    Cursor {
+        count: n,
+        names: names.mask,
+        width: names.width,
+        from: k,
+    }
+}
+
+// The bindings of a pattern over the members of the set at a place, or over the one value there, with the first of them in the window from `to`
+// on; or 29 or 30.
+pub fn open(
     table: &[u8],
     index: &[u16; 200],
     p: usize,
-    s: &[u8],
+    s: &mut [u8],
     at: usize,
     whole: bool,
-    present: Best,
-) -> Best
-    requires { ⌜ Searchable (now table) (now index) p ⌝ }
-    requires { ⌜ Present (now table) p (now s) at whole present ⌝ }
-    ensures { λ r. ⌜ NextOf (now (table .entry)) p (now (s .entry)) at whole present r ⌝ }
+    to: usize,
+) -> Opened
+    requires { ⌜ Readable (now table) (now index) p ⌝ }
+    requires { ⌜ Lent (now s) at whole to ⌝ }
+    ensures { λ r. ⌜ OpenedAs (now (table .entry)) p (now (s .entry)) (now (s .exit)) at whole to r ⌝ }
 {
-    let none = Best::none();
-    if whole {
-        return best_in(table, index, p, s, at, present, none);
-    }
     let kind = tables::reading::kind(table, index, p);
     if kind == 32 {
         let x = tables::reading::field(table, index, p, 0);
-        return next_member(s, x, at, present);
+        let c = open_plain(s, at, whole, to, x);
+        return Opened::Bound(c);
     }
-    let n = values::length_of(s, at);
-    best_all(table, index, p, s, at + 4, at + n, present, none)
+    open_formed(table, index, p, s, at, whole, to)
 }
 
-// Some member from a place up to another has a set too large to split.
-fn any_large(table: &[u8], index: &[u16; 200], p: usize, s: &[u8], from: usize, to: usize) -> bool
-    requires { ⌜ Searchable (now table) (now index) p ⌝ }
-    requires { ⌜ HoldsItems (now s) from to ⌝ }
-    ensures { λ r. ⌜ TellsWideIn (now (table .entry)) p (now (s .entry)) from to r ⌝ }
-{
-    let mut at = from;
-    while at < to {
-        let n = values::length_of(s, at);
-        let large = splitting::too_large(
-            table,
-            index,
-            p,
-            s,
-            Part {
-                how: 1,
-                at,
-                extent: 0,
-            },
-        );
-        if large {
-            return true;
-        }
-        at += n;
-    }
-    false
-}
-
-// A union pattern is met by a set of over seven members somewhere: number 29.
-pub fn is_wide(table: &[u8], index: &[u16; 200], p: usize, s: &[u8], at: usize, whole: bool) -> bool
-    requires { ⌜ Searchable (now table) (now index) p ⌝ }
-    requires { ⌜ Bindable (now s) at whole ⌝ }
-    ensures { λ r. ⌜ TellsWide (now (table .entry)) p (now (s .entry)) at whole r ⌝ }
-{
-    if whole {
-        return splitting::too_large(
-            table,
-            index,
-            p,
-            s,
-            Part {
-                how: 1,
-                at,
-                extent: 0,
-            },
-        );
-    }
-    let n = values::length_of(s, at);
-    any_large(table, index, p, s, at + 4, at + n)
-}
-
-// The number of bindings, or 29 or 30.
-pub fn count_bindings(
+// The same of any pattern, all bindings formed in one pass.
+fn open_formed(
     table: &[u8],
     index: &[u16; 200],
     p: usize,
-    s: &[u8],
+    s: &mut [u8],
     at: usize,
     whole: bool,
-) -> Tally
-    requires { ⌜ Searchable (now table) (now index) p ⌝ }
-    requires { ⌜ Bindable (now s) at whole ⌝ }
-    ensures { λ r. ⌜ Tallied (now (table .entry)) p (now (s .entry)) at whole r ⌝ }
+    to: usize,
+) -> Opened
+    requires { ⌜ Readable (now table) (now index) p ⌝ }
+    requires { ⌜ Lent (now s) at whole to ⌝ }
+    ensures { λ r. ⌜ OpenedAs (now (table .entry)) p (now (s .entry)) (now (s .exit)) at whole to r ⌝ }
 {
-    let wide = is_wide(table, index, p, s, at, whole);
-    if wide {
-        return Tally::Refused(29);
-    }
-    let mut present = Best::none();
-    let mut n = 0;
-    loop {
-        let next = next_binding(table, index, p, s, at, whole, present);
-        if !next.any {
-            return Tally::Number(n);
+    let mut rows = [0u32; 4080];
+    let mut order = [0u8; 255];
+    let r = forms::form_rows(table, index, p, &s[0..to], at, whole, &mut rows, &mut order);
+    match r {
+        Formed::Refused(k) => Opened::Refused(k),
+        Formed::Number(n) => {
+            let c = cursor_over(&rows, &order, n, 0);
+            filling::fill(s, to, &rows, &order, c);
+            Opened::Bound(c)
         }
-        if values::Value::BINDINGS <= n {
-            return Tally::Refused(30);
-        }
-        n += 1;
-        present = next;
     }
+}
+
+// Binding k in the window: the window is filled again from it on, unless it is there.
+pub fn reach(
+    table: &[u8],
+    index: &[u16; 200],
+    p: usize,
+    s: &mut [u8],
+    at: usize,
+    whole: bool,
+    to: usize,
+    cursor: Cursor,
+    k: usize,
+) -> Cursor
+    requires { ⌜ Readable (now table) (now index) p ⌝ }
+    requires { ⌜ Reachable (now table) p (now s) at whole to cursor k ⌝ }
+    ensures { λ r. ⌜ Reached (now (table .entry)) p (now (s .entry)) (now (s .exit)) at whole to cursor k r ⌝ }
+{
+    if cursor.from <= k {
+        if 4 * (cursor.width * (k - cursor.from) + cursor.width) <= Cursor::WINDOW {
+            return cursor;
+        }
+    }
+    fill_from(table, index, p, s, at, whole, to, cursor, k)
+}
+
+// The window filled from binding k on.
+fn fill_from(
+    table: &[u8],
+    index: &[u16; 200],
+    p: usize,
+    s: &mut [u8],
+    at: usize,
+    whole: bool,
+    to: usize,
+    cursor: Cursor,
+    k: usize,
+) -> Cursor
+    requires { ⌜ Readable (now table) (now index) p ⌝ }
+    requires { ⌜ Reachable (now table) p (now s) at whole to cursor k ⌝ }
+    ensures { λ r. ⌜ Reached (now (table .entry)) p (now (s .entry)) (now (s .exit)) at whole to cursor k r ⌝ }
+{
+    let mut rows = [0u32; 4080];
+    let mut order = [0u8; 255];
+    let r = forms::form_rows(table, index, p, &s[0..to], at, whole, &mut rows, &mut order);
+    match r {
+        Formed::Refused(j) => cursor,
+        Formed::Number(n) => {
+            let c = cursor_over(&rows, &order, n, k);
+            filling::fill(s, to, &rows, &order, c);
+            c
+        }
+    }
+}
+
+// What each name stands for under binding k, which is in the window.
+pub fn under(s: &[u8], to: usize, cursor: Cursor, k: usize, env: Env) -> Env
+    requires { ⌜ Underneath (now s) to cursor k env ⌝ }
+    ensures { λ r. ⌜ UnderBinding (now (s .entry)) to cursor k env r ⌝ }
+{
+    let mut words = env.words;
+    let mut at = to + 4 * (cursor.width * (k - cursor.from));
+    let mut left = cursor.names;
+    let mut x = 0;
+    while 0 < left {
+        if left % 2 == 1 {
+            words[x] = read_word(s, at);
+            at += 4;
+        }
+        left /= 2;
+        x += 1;
+    }
+    Env { words }
 }

@@ -22,8 +22,8 @@ use Rattle.patterns.specs.Ways.{splits, cuts, orders}
 use Rattle.patterns.specs.Pattern.{listOf, itemsOf, contents, tooLarge}
 use Rattle.patterns.specs.Matched.{items-list, list-items}
 use Rattle.patterns.specs.Plain.{count-list}
-use Rattle.ways.specs.Nodes.{collectionOf, isHalved, pair, meetings, isLarge}
-use Rattle.ways.specs.Orders.{factorial, orders-length}
+use Rattle.patterns.specs.Nodes.{collectionOf, isHalved, pair, meetings, isLarge}
+use Rattle.patterns.specs.Orders.{factorial, orders-length}
 use Rattle.matching.specs.declared.nodes.Meeting.the-variants.{Unfit, Large, Ways}
 use Rattle.matching.specs.Node.{MeetsAs, Meets}
 

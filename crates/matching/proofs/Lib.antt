@@ -1,8 +1,7 @@
--- What the proofs of the functions cite.
-pub mod Naming
-pub mod Settling
+-- What the proofs of the functions cite, and those of forming and splitting.
 pub mod Placing
 pub mod Counting
 pub mod Piecing
 pub mod Literals
-pub mod Walking
+pub mod Records
+pub mod Naming

@@ -29,8 +29,8 @@ use Rattle.parts.specs.Part.{PartIs, PartHeld}
 use Rattle.parts.specs.Contract.{KindOfPart}
 use Rattle.parts.specs.Laws.{whole-of}
 use Rattle.patterns.specs.Pattern.{literal}
-use Rattle.ways.specs.Read.{patternAt}
-use Rattle.ways.specs.Nodes.{pattern-at, is-boolean, is-integer}
+use Rattle.patterns.specs.Read.{patternAt}
+use Rattle.patterns.specs.Nodes.{pattern-at, is-boolean, is-integer}
 use Rattle.matching.specs.Node.{LiteralHeld, LiteralIs}
 
 -- a part of a kind below 3 is a whole record

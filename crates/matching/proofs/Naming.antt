@@ -1,26 +1,36 @@
--- Names bound to parts.
+-- Names bound to parts, and the other patterns without parts.
 use mathlib.Core.Path.{_≡_, refl, sym, ap, ap₂, subst, _∙_}
-use mathlib.Core.Bool.{Bool, true, false, _&&_, and-false, cond}
+use mathlib.Core.Bool.{Bool, true, false, cond}
 use mathlib.Core.Logic.{inl, inr, ⊎-elim}
 use mathlib.Core.List.{List, [], _∷_}
-use Prim.Native.Nat.{ℕ, zero, suc, _<_}
+use Prim.Native.Nat.{ℕ, zero, suc, _%_, _<_}
 use native.Mathlib.Decide.{ℕ-discrete}
 use native.Mathlib.Omega.{arith}
 use lib.ListN.{length, getD, set, length-set, replicate, getD-replicate}
 use lib.Seq.{getD-set-same, getD-set-other}
+use Rattle.prelude.specs.Membership.{In}
 use Rattle.integers.specs.declared.Order.{Order}
 use Rattle.integers.specs.declared.Order.the-variants.{Lower, Same, Higher}
 use Rattle.values.specs.Value.{Value}
-use Rattle.values.specs.Items.{isSame}
+use Rattle.values.specs.Items.{isSame, same}
+use Rattle.tables.specs.Record.{nameOf}
+use Rattle.tables.specs.Table.{recordAt, kindAt}
+use Rattle.tables.specs.Accepted.{records}
 use Rattle.parts.specs.declared.Part.{Part}
-use Rattle.parts.specs.Part.{PartIs, CellIs}
-use Rattle.parts.specs.Contract.{OrderedParts}
-use Rattle.patterns.specs.Binding.{Cell, free, is, clash, Binding, names, nothing, only, cellOf, agree, merge, consistent}
+use Rattle.parts.specs.Part.{PartIs, PartHeld, CellIs}
+use Rattle.parts.specs.Word.{unpacked, WordHeld, OrderedWords}
+use Rattle.patterns.specs.Members.{Alike}
+use Rattle.patterns.specs.Binding.{Cell, free, is, clash, Binding, names, nothing, only, cellOf, agree, merge, consistent, withEach, orderCells}
+use Rattle.patterns.specs.Pattern.{Pattern, name, any, literal, matches}
 use Rattle.patterns.specs.Matched.{merge-sized, only-sized}
-use Rattle.ways.specs.Tries.{State, start, naming, failed, isGood}
-use Rattle.ways.specs.Merging.{true-false, both-true, true-both, consistent-left}
-use Rattle.matching.specs.declared.Found.{Found}
-use Rattle.matching.specs.Found.{nowhere, Stands}
+use Rattle.patterns.specs.Merging.{true-false}
+use Rattle.patterns.specs.Together.{Fine, with-only}
+use Rattle.patterns.specs.Nodes.{is-name, is-any}
+use Rattle.patterns.specs.Read.{Readable, patternAt}
+use Rattle.matching.specs.declared.leaves.Match.{Match}
+use Rattle.matching.specs.Leaf.{Stands, Standing, Went, Named, LeafTold}
+use Rattle.matching.specs.Node.{LiteralHeld, LiteralIs, innerOf}
+use Rattle.matching.proofs.Records.{by-record, is-literal}
 
 -- ---- cells
 
@@ -29,7 +39,7 @@ isFine free = true
 isFine (is v) = true
 isFine clash = false
 
-merge-cell : (a b : Binding) (x : ℕ) → length a ≡ length b → cellOf (merge a b) x ≡ agree (cellOf a x) (cellOf b x)
+pub merge-cell : (a b : Binding) (x : ℕ) → length a ≡ length b → cellOf (merge a b) x ≡ agree (cellOf a x) (cellOf b x)
 unfolding merge
 merge-cell [] [] x e = refl
 merge-cell [] (y ∷ b) x e = absurd (omega arith)
@@ -44,7 +54,7 @@ consistent-from (free ∷ a) h = consistent-from a (λ x l. h (suc x) (omega ari
 consistent-from (is v ∷ a) h = consistent-from a (λ x l. h (suc x) (omega arith))
 consistent-from (clash ∷ a) h = h 0 (omega arith)
 
-consistent-at : (a : Binding) → consistent a ≡ true → (x : ℕ) → x < length a → isFine (cellOf a x) ≡ true
+pub consistent-at : (a : Binding) → consistent a ≡ true → (x : ℕ) → x < length a → isFine (cellOf a x) ≡ true
 unfolding consistent
 consistent-at [] e x l = absurd (omega arith)
 consistent-at (free ∷ a) e zero l = refl
@@ -64,7 +74,7 @@ clash-at a x l e = go (consistent a) refl
 cell-fine : (s : List ℕ) (p : Part) (c : Cell) → CellIs s p c → isFine c ≡ true
 cell-fine s p c h = ⊎-elim (λ w. ap isFine (w .1)) (λ w. ap isFine (w .1)) h
 
-agree-free : (c : Cell) → agree c free ≡ c
+pub agree-free : (c : Cell) → agree c free ≡ c
 agree-free free = refl
 agree-free (is v) = refl
 agree-free clash = refl
@@ -74,130 +84,176 @@ unlike Lower f w = refl
 unlike Same f w = absurd (f refl)
 unlike Higher f w = refl
 
-module _ (s : List ℕ) (x : ℕ) (lt : x < names) (v : Value) (st : State) where
+-- what a match stands for has no clash
+pub stands-fine : (s : List ℕ) (m : Match) (b : Binding) → Stands s m b → Fine b
+stands-fine s m b h = record { sized = h .binding-sized; agrees = consistent-from b (λ x l. cell-fine s (unpacked (getD (m .words) x 0)) (cellOf b x) (h .cells x (omega (arith, h .binding-sized)))) }
+
+same-alike : (xs ys : List Binding) → xs ≡ ys → Alike xs ys
+same-alike xs ys e c = (λ i. subst (In c) e i, λ i. subst (In c) (sym e) i)
+
+-- ---- a name
+
+with-name : (x : ℕ) (v : Value) (b : Binding) → withEach b (matches (name x) v) ≡ cond (consistent (merge b (only x v))) (merge b (only x v) ∷ []) []
+unfolding withEach matches
+with-name x v b = refl
+
+module _ (s : List ℕ) (x : ℕ) (lt : x < names) (v : Value) (b : Binding) (sized : length b ≡ names) where
   only-here : cellOf (only x v) x ≡ is v
   only-here = getD-set-same nothing x (is v) free lt
 
   only-there : (n : ℕ) → n < names → (n ≡ x → ⊥) → cellOf (only x v) n ≡ free
   only-there n l f = getD-set-other nothing x n (is v) free f ∙ getD-replicate names n free free l
 
-  module _ (sized : length (st .found) ≡ names) where
-    both-sized : length (merge (st .found) (only x v)) ≡ names
-    both-sized = merge-sized (st .found) (only x v) (sized ∙ sym (only-sized x v)) ∙ sized
+  both-sized : length (merge b (only x v)) ≡ names
+  both-sized = merge-sized b (only x v) (sized ∙ sym (only-sized x v)) ∙ sized
 
-    at : (n : ℕ) → cellOf (merge (st .found) (only x v)) n ≡ agree (cellOf (st .found) n) (cellOf (only x v) n)
-    at n = merge-cell (st .found) (only x v) n (sized ∙ sym (only-sized x v))
+  at : (n : ℕ) → cellOf (merge b (only x v)) n ≡ agree (cellOf b n) (cellOf (only x v) n)
+  at n = merge-cell b (only x v) n (sized ∙ sym (only-sized x v))
 
-    -- elsewhere nothing changes
-    there : (n : ℕ) → n < names → (n ≡ x → ⊥) → cellOf (st .found) n ≡ cellOf (merge (st .found) (only x v)) n
-    there n l f = sym (at n ∙ ap (agree (cellOf (st .found) n)) (only-there n l f) ∙ agree-free (cellOf (st .found) n))
+  -- elsewhere nothing changes
+  there : (n : ℕ) → n < names → (n ≡ x → ⊥) → cellOf b n ≡ cellOf (merge b (only x v)) n
+  there n l f = sym (at n ∙ ap (agree (cellOf b n)) (only-there n l f) ∙ agree-free (cellOf b n))
 
-    -- cells that stand are consistent
-    good : (ps : List Part) → st .fits ≡ true → ((n : ℕ) → n < names → CellIs s (getD ps n nowhere) (cellOf (merge (st .found) (only x v)) n)) → isGood (naming x v st) ≡ true
-    good ps f h =
-        both-true (st .fits) (consistent (merge (st .found) (only x v))) f
-        (consistent-from (merge (st .found) (only x v)) (λ n l. cell-fine s (getD ps n nowhere) (cellOf (merge (st .found) (only x v)) n) (h n (omega (arith, both-sized)))))
-
-  -- what failed stays so
-  pub stays-failed : (f : Found) → f .fits ≡ false → Stands s f st → Stands s f (naming x v st)
-  stays-failed f e h = record {
-    fit = e ∙ sym (dead (isGood (naming x v st)) refl);
-    sized = h .sized;
-    found-sized = both-sized (h .found-sized);
-    cells = λ q. true-false (sym q ∙ e);
+  -- where both stand, they agree
+  went : (r : Match) → Stands s r (merge b (only x v)) → Went s b (name x) v r
+  went r h = record {
+    good = λ e. (
+      merge b (only x v),
+      same-alike (withEach b (matches (name x) v)) (merge b (only x v) ∷ []) (with-name x v b ∙ ap (λ (t : Bool). cond t (merge b (only x v) ∷ []) []) (stands-fine s r (merge b (only x v)) h .agrees)),
+      h,
+    );
+    bad = λ e. true-false (sym (h .fit) ∙ e);
   }
+
+pub part-word : (s : List ℕ) (word : ℕ) → PartHeld s (unpacked word) → WordHeld s word
+part-word s word h = record {
+  cell = is (h .value);
+  is = inr (h .value, refl, h .here);
+  blank = λ z. absurd (⊎-elim (λ u. omega (arith, u .0)) (λ u. ⊎-elim (λ y. omega (arith, y .0)) (λ y. omega (arith, y .0)) u) (h .here));
+}
+
+module _ (s : List ℕ) (x : ℕ) (lt : x < names) (word : ℕ) (m : Match) where
+  -- a name that has no value is bound
+  pub binds : getD (m .words) x 0 ≡ 0 → (r : Match) → r .fits ≡ true → r .words ≡ set (m .words) x word → Named s x word m r
+  binds e r rf re v b hp h = went s x lt v b (h .binding-sized) r (record {
+    fit = rf;
+    sized = ap length re ∙ length-set (m .words) x word ∙ h .sized;
+    binding-sized = both-sized s x lt v b (h .binding-sized);
+    cells = λ n l. subst (λ (q : List ℕ). CellIs s (unpacked (getD q n 0)) (cellOf (merge b (only x v)) n)) (sym re) (cell n l (ℕ-discrete n x));
+    blank = λ n l. subst (λ (q : List ℕ). getD q n 0 % 4 ≡ 0 → getD q n 0 ≡ 0) (sym re) (blank n l (ℕ-discrete n x));
+  })
     where
-      dead : (b : Bool) → isGood (naming x v st) ≡ b → b ≡ false
-      dead true q =
-          let w = true-both (st .fits) (consistent (merge (st .found) (only x v))) q in
-          let g : isGood st ≡ true = both-true (st .fits) (consistent (st .found)) (w .0) (consistent-left (st .found) (only x v) (w .1)) in
-          sym (sym e ∙ h .fit ∙ g)
-      dead false q = refl
+      inside : x < length (m .words)
+      inside = omega (arith, h .sized)
 
-  module _ (f : Found) (h : Stands s f st) (ok : f .fits ≡ true) where
-    st-fits : st .fits ≡ true
-    st-fits = true-both (st .fits) (consistent (st .found)) (sym (h .fit) ∙ ok) .0
+      was-free : cellOf b x ≡ free
+      was-free = ⊎-elim (λ w. w .1) (λ w. absurd (⊎-elim (λ u. omega (arith, u .0)) (λ u. ⊎-elim (λ z. omega (arith, z .0)) (λ z. omega (arith, z .0)) u) (w .2))) (h .cells x lt)
 
-    -- a name that is free is bound
-    pub binds : (p : Part) (g : Found) → PartIs s p v → getD (f .parts) x nowhere .how ≡ 0 → g .fits ≡ true → g .parts ≡ set (f .parts) x p → Stands s g (naming x v st)
-    binds p g hp e gf gp = record {
-      fit = gf ∙ sym (good (h .found-sized) (g .parts) st-fits cell);
-      sized = ap length gp ∙ length-set (f .parts) x p ∙ h .sized;
-      found-sized = both-sized (h .found-sized);
-      cells = λ q n l. cell n l;
-    }
+      cell : (n : ℕ) → n < names → Dec (n ≡ x) → CellIs s (unpacked (getD (set (m .words) x word) n 0)) (cellOf (merge b (only x v)) n)
+      cell n l (yes q) =
+          let d : getD (set (m .words) x word) n 0 ≡ word = ap (λ (k : ℕ). getD (set (m .words) x word) k 0) q ∙ getD-set-same (m .words) x word 0 inside in
+          let c : cellOf (merge b (only x v)) n ≡ is v = ap (cellOf (merge b (only x v))) q ∙ at s x lt v b (h .binding-sized) x ∙ ap₂ agree was-free (only-here s x lt v b (h .binding-sized)) in
+          inr (v, c, subst (λ (k : ℕ). PartIs s (unpacked k) v) (sym d) hp)
+      cell n l (no q) =
+          let d : getD (set (m .words) x word) n 0 ≡ getD (m .words) n 0 = getD-set-other (m .words) x n word 0 q in
+          subst (λ (k : ℕ). CellIs s (unpacked k) (cellOf (merge b (only x v)) n)) (sym d)
+          (subst (CellIs s (unpacked (getD (m .words) n 0))) (there s x lt v b (h .binding-sized) n l q) (h .cells n l))
+
+      how-some : word % 4 ≡ 0 → ⊥
+      how-some z = ⊎-elim (λ u. omega (arith, u .0)) (λ u. ⊎-elim (λ y. omega (arith, y .0)) (λ y. omega (arith, y .0)) u) hp
+
+      blank : (n : ℕ) → n < names → Dec (n ≡ x) → getD (set (m .words) x word) n 0 % 4 ≡ 0 → getD (set (m .words) x word) n 0 ≡ 0
+      blank n l (yes q) z =
+          let d : getD (set (m .words) x word) n 0 ≡ word = ap (λ (k : ℕ). getD (set (m .words) x word) k 0) q ∙ getD-set-same (m .words) x word 0 inside in
+          absurd (how-some (ap (λ (k : ℕ). k % 4) (sym d) ∙ z))
+      blank n l (no q) z =
+          let d : getD (set (m .words) x word) n 0 ≡ getD (m .words) n 0 = getD-set-other (m .words) x n word 0 q in
+          d ∙ h .blank n l (ap (λ (k : ℕ). k % 4) (sym d) ∙ z)
+
+  -- a name that has one
+  pub word-held : Standing s m → WordHeld s (getD (m .words) x 0)
+  word-held (b, h) = record { cell = cellOf b x; is = h .cells x lt; blank = h .blank x lt }
+
+  module _ (f : getD (m .words) x 0 ≡ 0 → ⊥) (o : Order) (c : OrderedWords s (getD (m .words) x 0) word o) where
+    has : (b : Binding) → Stands s m b → (w : Value) × (cellOf b x ≡ is w)
+    has b h = ⊎-elim (λ z. absurd (f (h .blank x lt (z .0)))) (λ z. (z .0, z .1)) (h .cells x lt)
+
+    met : (v : Value) (b : Binding) (hp : PartIs s (unpacked word) v) (h : Stands s m b) → cellOf (merge b (only x v)) x ≡ cond (isSame o) (is (has b h .0)) clash
+    met v b hp h =
+        let w = has b h in
+        let d : o ≡ orderCells (is (w .0)) (is v) = c (is (w .0)) (is v) (subst (CellIs s (unpacked (getD (m .words) x 0))) (w .1) (h .cells x lt)) (inr (v, refl, hp)) in
+        at s x lt v b (h .binding-sized) x ∙ ap₂ agree (w .1) (only-here s x lt v b (h .binding-sized)) ∙ ap (λ (k : Order). cond (isSame k) (is (w .0)) clash) (sym d)
+
+    pub agrees : o ≡ Same → Named s x word m m
+    agrees q v b hp h = went s x lt v b (h .binding-sized) m (record {
+      fit = h .fit;
+      sized = h .sized;
+      binding-sized = both-sized s x lt v b (h .binding-sized);
+      cells = λ n l. cell n l (ℕ-discrete n x);
+      blank = h .blank;
+    })
       where
-        was-free : cellOf (st .found) x ≡ free
-        was-free = ⊎-elim (λ w. w .1) (λ w. absurd (⊎-elim (λ u. omega (arith, u .0)) (λ u. ⊎-elim (λ z. omega (arith, z .0)) (λ z. omega (arith, z .0)) u) (w .2))) (h .cells ok x lt)
+        cell : (n : ℕ) → n < names → Dec (n ≡ x) → CellIs s (unpacked (getD (m .words) n 0)) (cellOf (merge b (only x v)) n)
+        cell n l (yes d) =
+            let w = has b h in
+            let e : cellOf (merge b (only x v)) n ≡ cellOf b n = ap (cellOf (merge b (only x v))) d ∙ met v b hp h ∙ ap (λ (k : Order). cond (isSame k) (is (w .0)) clash) q ∙ sym (w .1) ∙ ap (cellOf b) (sym d) in
+            subst (CellIs s (unpacked (getD (m .words) n 0))) (sym e) (h .cells n l)
+        cell n l (no d) = subst (CellIs s (unpacked (getD (m .words) n 0))) (there s x lt v b (h .binding-sized) n l d) (h .cells n l)
 
-        here : CellIs s (getD (set (f .parts) x p) x nowhere) (cellOf (merge (st .found) (only x v)) x)
-        here =
-            let l = h .sized in
-            inr (v, at (h .found-sized) x ∙ ap₂ agree was-free only-here, subst (λ (q : Part). PartIs s q v) (sym (getD-set-same (f .parts) x p nowhere (omega arith))) hp)
+    pub clashes : (o ≡ Same → ⊥) → (r : Match) → r .fits ≡ false → Named s x word m r
+    clashes q r rf v b hp h = record {
+      good = λ e. true-false (sym e ∙ rf);
+      bad = λ e.
+          with-name x v b ∙ ap (λ (t : Bool). cond t (merge b (only x v) ∷ []) [])
+          (clash-at (merge b (only x v)) x (omega (arith, both-sized s x lt v b (h .binding-sized))) (ap isFine (met v b hp h) ∙ unlike o q (has b h .0)));
+    }
 
-        cell : (n : ℕ) → n < names → CellIs s (getD (g .parts) n nowhere) (cellOf (merge (st .found) (only x v)) n)
-        cell n l = subst (λ (q : List Part). CellIs s (getD q n nowhere) (cellOf (merge (st .found) (only x v)) n)) (sym gp) (go (ℕ-discrete n x))
-          where
-            go : Dec (n ≡ x) → CellIs s (getD (set (f .parts) x p) n nowhere) (cellOf (merge (st .found) (only x v)) n)
-            go (yes q) = subst (λ (k : ℕ). CellIs s (getD (set (f .parts) x p) k nowhere) (cellOf (merge (st .found) (only x v)) k)) (sym q) here
-            go (no q) =
-                let e′ : getD (set (f .parts) x p) n nowhere ≡ getD (f .parts) n nowhere = getD-set-other (f .parts) x n p nowhere q in
-                subst (λ (k : Part). CellIs s k (cellOf (merge (st .found) (only x v)) n)) (sym e′)
-                (subst (λ (c : Cell). CellIs s (getD (f .parts) n nowhere) c) (there (h .found-sized) n l q) (h .cells ok n l))
+-- ---- nothing found
 
-    -- a name that is bound already
-    pub bound : (getD (f .parts) x nowhere .how ≡ 0 → ⊥) → (w : Value) × (cellOf (st .found) x ≡ is w) × PartIs s (getD (f .parts) x nowhere) w
-    bound e = ⊎-elim (λ w. absurd (e (w .0))) (λ w. w) (h .cells ok x lt)
-
-    module _ (p : Part) (hp : PartIs s p v) (e : getD (f .parts) x nowhere .how ≡ 0 → ⊥) (o : Order) (c : OrderedParts s (getD (f .parts) x nowhere) p o) where
-      met : cellOf (merge (st .found) (only x v)) x ≡ cond (isSame o) (is (bound e .0)) clash
-      met =
-          let w = bound e in
-          at (h .found-sized) x ∙ ap₂ agree (w .1) only-here ∙ ap (λ (b : Order). cond (isSame b) (is (w .0)) clash) (sym (c (w .0) v (w .2) hp))
-
-      pub agrees : o ≡ Same → Stands s f (naming x v st)
-      agrees q = record {
-        fit = ok ∙ sym (good (h .found-sized) (f .parts) st-fits cell);
-        sized = h .sized;
-        found-sized = both-sized (h .found-sized);
-        cells = λ z n l. cell n l;
-      }
-        where
-          cell : (n : ℕ) → n < names → CellIs s (getD (f .parts) n nowhere) (cellOf (merge (st .found) (only x v)) n)
-          cell n l = go (ℕ-discrete n x)
-            where
-              go : Dec (n ≡ x) → CellIs s (getD (f .parts) n nowhere) (cellOf (merge (st .found) (only x v)) n)
-              go (yes d) =
-                  let w = bound e in
-                  subst (λ (k : ℕ). CellIs s (getD (f .parts) k nowhere) (cellOf (merge (st .found) (only x v)) k)) (sym d)
-                  (inr (w .0, met ∙ ap (λ (b : Order). cond (isSame b) (is (w .0)) clash) q, w .2))
-              go (no d) = subst (λ (k : Cell). CellIs s (getD (f .parts) n nowhere) k) (there (h .found-sized) n l d) (h .cells ok n l)
-
-      pub clashes : (o ≡ Same → ⊥) → (g : Found) → Stands s g (failed st) → Stands s g (naming x v st)
-      clashes q g k = record {
-        fit = k .fit ∙ sym (ap (λ (b : Bool). st .fits && b) (clash-at (merge (st .found) (only x v)) x (omega (arith, both-sized (h .found-sized))) (ap isFine met ∙ unlike o q (bound e .0))) ∙ and-false (st .fits));
-        sized = k .sized;
-        found-sized = both-sized (h .found-sized);
-        cells = λ z. true-false (sym z ∙ k .fit);
-      }
-
--- ---- no match, and nothing found
-
-pub failed-now : (s : List ℕ) (f g : Found) (st : State) → g .fits ≡ false → g .parts ≡ f .parts → Stands s f st → Stands s g (failed st)
-failed-now s f g st e ep h = record {
-  fit = e;
-  sized = ap length ep ∙ h .sized;
-  found-sized = h .found-sized;
-  cells = λ z. true-false (sym z ∙ e);
-}
-
-pub nothing-stands : (s : List ℕ) → Stands s (record { parts = replicate names nowhere; fits = true }) start
+pub nothing-stands : (s : List ℕ) → Stands s (record { words = replicate names 0; fits = true }) nothing
 nothing-stands s = record {
-  fit = nothing-good;
+  fit = refl;
   sized = refl;
-  found-sized = refl;
-  cells = λ e n l. inl (ap (λ (p : Part). p .how) (getD-replicate names n nowhere nowhere l), getD-replicate names n free free l);
+  binding-sized = refl;
+  cells = λ n l. inl (ap (λ (k : ℕ). k % 4) (getD-replicate names n 0 0 l), getD-replicate names n free free l);
+  blank = λ n l e. getD-replicate names n 0 0 l;
 }
+
+-- ---- any, and literals
+
+with-any : (v : Value) (b : Binding) → Fine b → withEach b (matches any v) ≡ b ∷ []
+unfolding matches
+with-any v b h = with-only b h
+
+with-literal : (w v : Value) (b : Binding) → Fine b → withEach b (matches (literal w) v) ≡ cond (same w v) (b ∷ []) []
+unfolding matches withEach
+with-literal w v b h = go (same w v)
   where
-    nothing-good : true ≡ isGood start
-    nothing-good = sym (consistent-from nothing (λ x l. ap isFine (getD-replicate names x free free l)))
+    go : (t : Bool) → withEach b (cond t (nothing ∷ []) []) ≡ cond t (b ∷ []) []
+    go true = with-only b h
+    go false = refl
+
+module _ (table index : List ℕ) (p : ℕ) (r : Readable table index p) (s : List ℕ) (word : ℕ) (m : Match) where
+  pub leaf-name : (x : ℕ) (g : Match) → kindAt (records table) p ≡ 32 → x ≡ nameOf (recordAt (records table) p) → Named s x word m g → LeafTold table p s word m g
+  leaf-name x g e n h v b q z = subst (λ (k : Pattern). Went s b k v g) (ap name n ∙ sym (by-record table index p r ∙ is-name (recordAt (records table) p) (innerOf table p) e)) (h v b q z)
+
+  stays : (k : Pattern) (v : Value) (b : Binding) → withEach b (matches k v) ≡ b ∷ [] → Stands s m b → Went s b k v m
+  stays k v b e z = record { good = λ f. (b, same-alike (withEach b (matches k v)) (b ∷ []) e, z); bad = λ f. true-false (sym (z .fit) ∙ f) }
+
+  pub leaf-any : kindAt (records table) p ≡ 33 → LeafTold table p s word m m
+  leaf-any e v b q z =
+      subst (λ (k : Pattern). Went s b k v m) (sym (by-record table index p r ∙ is-any (recordAt (records table) p) (innerOf table p) e))
+      (stays any v b (with-any v b (stands-fine s m b z)) z)
+
+  module _ (h : LiteralHeld table index p) (part : Part) (pe : part ≡ unpacked word) (t : Bool) (l : LiteralIs table p s part t) where
+    tells : (v : Value) (b : Binding) → PartIs s (unpacked word) v → Stands s m b → withEach b (matches (patternAt (records table) p) v) ≡ cond t (b ∷ []) []
+    tells v b q z =
+        let (w, e) = is-literal table index p r h in
+        let y : t ≡ same w v = l v w (subst (λ (k : Part). PartIs s k v) (sym pe) q) e in
+        ap (λ (k : Pattern). withEach b (matches k v)) e ∙ with-literal w v b (stands-fine s m b z) ∙ ap (λ (u : Bool). cond u (b ∷ []) []) (sym y)
+
+    pub leaf-same : t ≡ true → LeafTold table p s word m m
+    leaf-same e v b q z = stays (patternAt (records table) p) v b (tells v b q z ∙ ap (λ (u : Bool). cond u (b ∷ []) []) e) z
+
+    pub leaf-other : t ≡ false → (g : Match) → g .fits ≡ false → LeafTold table p s word m g
+    leaf-other e g gf v b q z = record { good = λ f. true-false (sym f ∙ gf); bad = λ f. tells v b q z ∙ ap (λ (u : Bool). cond u (b ∷ []) []) e }

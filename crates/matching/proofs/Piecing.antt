@@ -20,8 +20,8 @@ use Rattle.parts.specs.Laws.{part-one}
 use Rattle.parts.specs.Chosen.{splits-length, cuts-length}
 use Rattle.patterns.specs.Ways.{halves, splits, cuts, orders}
 use Rattle.patterns.specs.Pattern.{itemsOf, contents, leftOf, rightOf}
-use Rattle.ways.specs.Nodes.{collectionOf, pair, meetings}
-use Rattle.ways.specs.Orders.{factorial, orders-length}
+use Rattle.patterns.specs.Nodes.{collectionOf, pair, meetings}
+use Rattle.patterns.specs.Orders.{factorial, orders-length}
 use Rattle.matching.specs.Node.{Ordinal, PieceHeld, PieceOf}
 use Rattle.matching.proofs.Counting.{pick-true, Has, contents-other, contents-same, none-meets, meets-splits, meets-cuts, meets-orders, meets-items}
 

@@ -1,5 +1,3 @@
--- What the functions that match ask and promise.
-pub mod Found
+-- What the functions that match the parts of a pattern ask and promise; forming and splitting cite it.
 pub mod Node
-pub mod Along
-pub mod Lent
+pub mod Leaf

@@ -1,29 +1,22 @@
 -- What the functions on the parts of a pattern ask and promise.
 use mathlib.Core.Path.{_≡_}
 use mathlib.Core.Bool.{Bool, true, false}
-use mathlib.Core.List.{List, []}
+use mathlib.Core.List.{List, [], map}
 use Prim.Native.Nat.{ℕ, _≤_, _<_}
 use lib.ListN.{length, getD}
 use Rattle.values.specs.Value.{Value}
 use Rattle.values.specs.Items.{same}
-use Rattle.tables.specs.Record.{isPattern}
-use Rattle.tables.specs.Table.{kindAt}
-use Rattle.tables.specs.Accepted.{records, Fine}
-use Rattle.tables.specs.Reading.{Here}
+use Rattle.tables.specs.Record.{named}
+use Rattle.tables.specs.Table.{recordAt, kindAt}
+use Rattle.tables.specs.Accepted.{records}
 use Rattle.parts.specs.declared.Part.{Part}
 use Rattle.parts.specs.Part.{PartIs}
 use Rattle.patterns.specs.Ways.{orders}
-use Rattle.patterns.specs.Pattern.{literal}
-use Rattle.ways.specs.Nodes.{meetings, isLarge, isHalved}
-use Rattle.ways.specs.Read.{patternAt}
+use Rattle.patterns.specs.Pattern.{Pattern, literal}
+use Rattle.patterns.specs.Nodes.{meetings, isLarge, isHalved}
+use Rattle.patterns.specs.Read.{Readable, patternAt}
 use Rattle.matching.specs.declared.nodes.Meeting.{Meeting}
 use Rattle.matching.specs.declared.nodes.Meeting.the-variants.{Unfit, Large, Ways}
-
--- A pattern record of an accepted table with an index of its records.
-pub record Readable (table index : List ℕ) (p : ℕ) : Type 0 where
-  pub fine : Fine (records table)
-  pub here : Here table index p
-  pub pattern : isPattern (kindAt (records table) p) ≡ true
 
 -- One without parts.
 pub record LeafHeld (table index : List ℕ) (p : ℕ) : Type 0 where
@@ -69,3 +62,25 @@ pub record LiteralHeld (table index : List ℕ) (p : ℕ) : Type 0 where
 -- r says whether the part denotes the literal
 abbrev pub LiteralIs : List ℕ → ℕ → List ℕ → Part → Bool → Type 0
 LiteralIs table p s part r = (v w : Value) → PartIs s part v → patternAt (records table) p ≡ literal w → r ≡ same w v
+
+-- ---- the parts of a record
+
+-- The patterns of the parts of a record.
+abbrev pub innerOf : List ℕ → ℕ → List Pattern
+innerOf table p = map (patternAt (records table)) (named (recordAt (records table) p))
+
+-- What they meet, in every way, and in the way d.
+abbrev pub waysOf : List ℕ → ℕ → Value → List (List Value)
+waysOf table p v = meetings (kindAt (records table) p) (length (named (recordAt (records table) p))) v
+
+abbrev pub metBy : List ℕ → ℕ → Value → ℕ → List Value
+metBy table p v d = getD (waysOf table p v) d []
+
+-- A way d in which the parts of a record meet a value, of which those from i on are left.
+pub record WayHeld (table : List ℕ) (p i : ℕ) (s : List ℕ) (part : Part) (d : ℕ) : Type 0 where
+  pub composed : 36 ≤ kindAt (records table) p
+  pub value : Value
+  pub here : PartIs s part value
+  pub narrow : isLarge (kindAt (records table) p) value ≡ false
+  pub below : d < length (meetings (kindAt (records table) p) (length (named (recordAt (records table) p))) value)
+  pub within : i ≤ length (named (recordAt (records table) p))

@@ -4,8 +4,8 @@ ghost use mathlib.Core.Path.{_≡_};
 ghost use Prim.Native.Nat.{_≤_, _<_};
 ghost use Rattle.parts.specs.Part.{PartHeld};
 ghost use Rattle.values.specs.Value.{number};
-ghost use Rattle.ways.specs.Nodes.{collectionOf};
-ghost use Rattle.ways.specs.Orders.{factorial};
+ghost use Rattle.patterns.specs.Nodes.{collectionOf};
+ghost use Rattle.patterns.specs.Orders.{factorial};
 ghost use Rattle.matching.specs.Node.{Ordinal, Meets, PieceHeld, PieceOf, LiteralHeld, LiteralIs};
 
 // Kind or count do not fit; a set is too large to split; or so many ways.

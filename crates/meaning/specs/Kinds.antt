@@ -19,7 +19,7 @@ use Rattle.patterns.specs.Binder.{bound, formed}
 use Rattle.tables.specs.Record.{operand, nameOf}
 use Rattle.tables.specs.Table.{recordAt, kindAt}
 use Rattle.tables.specs.Accepted.{records}
-use Rattle.ways.specs.Read.{patternAt}
+use Rattle.patterns.specs.Read.{patternAt}
 use Rattle.meaning.specs.State.{State, under}
 use Rattle.meaning.specs.Read.{sheet}
 use Rattle.meaning.specs.Loose.{loose}

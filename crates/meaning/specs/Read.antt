@@ -8,7 +8,7 @@ use Rattle.values.specs.Value.{set, sequence, map, tuple}
 use Rattle.operators.specs.Booleans.{and, or, implies}
 use Rattle.tables.specs.Record.{Record, booleanOf, integerOf, nameOf, operator, operand, named as operandsOf}
 use Rattle.tables.specs.Table.{cut, recordAt}
-use Rattle.ways.specs.Read.{patternAt}
+use Rattle.patterns.specs.Read.{patternAt}
 use Rattle.meaning.specs.Node.{Node, forall, exists, exists1, truth, whole, named, unaryOf, binaryOf, connective, if, enumeration, range, let-in, let-be, quantified, iota, set-comprehension, sequence-comprehension, map-comprehension, application, no-expression}
 use Rattle.meaning.specs.Sheet.{Sheet}
 

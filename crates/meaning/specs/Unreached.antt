@@ -20,7 +20,7 @@ use Rattle.tables.specs.Record.{shape, isKnown, operator}
 use Rattle.tables.specs.Table.{recordAt}
 use Rattle.tables.specs.Check.{check}
 use Rattle.tables.specs.Accepted.{records, accepted-fine, fit-known}
-use Rattle.ways.specs.Read.{patternAt}
+use Rattle.patterns.specs.Read.{patternAt}
 use Rattle.meaning.specs.State.{unbound, valueIn}
 use Rattle.meaning.specs.Sheet.{nameOf}
 use Rattle.meaning.specs.Service.{tree}

@@ -4,3 +4,5 @@ mod Comparing
 mod Parting
 mod Halving
 mod Putting
+pub mod Packing
+pub mod Masking

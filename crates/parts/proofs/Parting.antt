@@ -143,7 +143,7 @@ pub plain-order : {s : List ℕ} {p q : Part} {k l : ℕ} {o : Order} → KindOf
 plain-order cp cq h g c v w x y = c v w (whole-of (plain-how cp h x) x) (whole-of (plain-how cq g y) y)
 
 -- two collections of one kind are ordered as their items
-collections-order : (k l : Kind) (vs ws : List Value) → number k ≡ number l → order (collection k (itemsOf vs)) (collection l (itemsOf ws)) ≡ orderItems (itemsOf vs) (itemsOf ws)
+pub collections-order : (k l : Kind) (vs ws : List Value) → number k ≡ number l → order (collection k (itemsOf vs)) (collection l (itemsOf ws)) ≡ orderItems (itemsOf vs) (itemsOf ws)
 unfolding within
 collections-order k l vs ws e = rw (eq-same (number k) (number l) e)
 

@@ -3,7 +3,9 @@ use mathlib.Core.Path.{_≡_}
 use mathlib.Core.List.{List}
 use Prim.Native.Nat.{ℕ, _+_, _-_, _^_, _≤_, _<_}
 use lib.ListN.{length}
-use Rattle.values.specs.Value.{Value}
+use Rattle.integers.specs.declared.Order.{Order}
+use Rattle.values.specs.Value.{Value, Ascending, orderItems}
+use Rattle.patterns.specs.Pattern.{itemsOf}
 use Rattle.parts.specs.Chosen.{keep, splitAt}
 
 -- r has k bits, all ones
@@ -30,3 +32,7 @@ pub record Spread (m d r : ℕ) : Type 0 where
   pub low : r ≤ m
   pub left : (vs : List Value) → m < 2 ^ length vs → keep r vs ≡ splitAt (keep m vs) d .left
   pub right : (vs : List Value) → m < 2 ^ length vs → keep (m - r) vs ≡ splitAt (keep m vs) d .right
+
+-- o is the order of the sets that two masks choose of one set
+abbrev pub OrderedMasks : ℕ → ℕ → Order → Type 0
+OrderedMasks a b o = (vs : List Value) → a < 2 ^ length vs → b < 2 ^ length vs → Ascending (itemsOf vs) → o ≡ orderItems (itemsOf (keep a vs)) (itemsOf (keep b vs))

@@ -1,6 +1,7 @@
 // Parts of a value where they lie, by value and without copying: a whole record, some members of a set, a span of a sequence.
 pub mod masks;
 pub mod runs;
+pub mod words;
 
 use integers::Order;
 ghost use Rattle.parts.specs.Part.{PartHeld};

@@ -1,6 +1,10 @@
 // Bits that choose members of a set of at most seven.
+use integers::Order;
+ghost use mathlib.Core.Path.{_≡_};
 ghost use Prim.Native.Nat.{_≤_, _<_};
-ghost use Rattle.parts.specs.Mask.{Full, Ways, Spreadable, Spread};
+ghost use mathlib.Core.Bool.{cond};
+ghost use Rattle.integers.specs.declared.Order.the-variants.{Lower, Higher};
+ghost use Rattle.parts.specs.Mask.{Full, Ways, Spreadable, Spread, OrderedMasks};
 
 // The mask of all of k members.
 pub fn full(k: usize) -> usize
@@ -50,4 +54,37 @@ pub fn spread(m: usize, d: usize, n: usize) -> usize
     }
     let r = spread(m / 2, d - half, half);
     2 * r
+}
+
+// The order of the sets that two masks choose of one set: the lowest bit that differs decides, unless one of them ends before it.
+pub fn order(a: usize, b: usize) -> Order
+    ensures { λ r. ⌜ OrderedMasks a b r ⌝ }
+{
+    let mut x = a;
+    let mut y = b;
+    while x != y {
+        if x == 0 {
+            return Order::Lower;
+        }
+        if y == 0 {
+            return Order::Higher;
+        }
+        if x % 2 != y % 2 {
+            let left = x % 2 == 1;
+            return first(left);
+        }
+        x /= 2;
+        y /= 2;
+    }
+    Order::Same
+}
+
+// The one that has the lowest bit comes first.
+fn first(left: bool) -> Order
+    ensures { λ r. ⌜ r ≡ cond left Lower Higher ⌝ }
+{
+    if left {
+        return Order::Lower;
+    }
+    Order::Higher
 }

@@ -12,6 +12,11 @@ pub mod Widened
 pub mod Single
 pub mod Named
 pub mod Chopped
+pub mod Read
+pub mod Nodes
+pub mod Orders
+pub mod Merging
+pub mod Together
 pub mod Forming
 pub mod Plain
 pub mod Samples

@@ -1,10 +1,23 @@
 -- What is among a list, and the laws of it: lists joined, mapped, and gathered.
 use mathlib.Core.Path.{_≡_, refl, subst}
-use mathlib.Core.Logic.{_⊎_, inl, inr}
+use mathlib.Core.Logic.{_⊎_, inl, inr, _↔_}
 use mathlib.Core.List.{List, [], _∷_}
+use Prim.Native.Nat.{ℕ, zero, suc, _<_}
+use native.Mathlib.Omega.{arith}
+use lib.ListN.{length, getD}
 use Rattle.prelude.proofs.Membership.{in-left, in-right, in-joined}
 use Rattle.prelude.specs.Membership.{In}
 use Rattle.patterns.specs.Ways.{gather}
+
+-- The same are among two lists, however often.
+abbrev pub Alike : {A : Type 0} → List A → List A → Type 0
+Alike {A} xs ys = (x : A) → In x xs ↔ In x ys
+
+module _ {A : Type 0} where
+  pub at-in : (xs : List A) (d : ℕ) (z : A) → d < length xs → In (getD xs d z) xs
+  at-in [] d z h = absurd (omega arith)
+  at-in (x ∷ xs) zero z h = inl refl
+  at-in (x ∷ xs) (suc d) z h = inr (at-in xs d z (omega arith))
 
 module _ {A B : Type 0} where
   -- ---- gathered: it is among what f gives for one of them

@@ -26,7 +26,7 @@ after-rest Lower = refl
 after-rest Same = refl
 after-rest Higher = refl
 
-cell-refl : (c : Cell) → orderCells c c ≡ Same
+pub cell-refl : (c : Cell) → orderCells c c ≡ Same
 cell-refl free = refl
 cell-refl (is v) = order-refl v
 cell-refl clash = refl

@@ -22,7 +22,7 @@ use Rattle.tables.specs.Sheet as Sheet
 use Rattle.tables.specs.Check as Check
 use Rattle.meaning.specs.State.{under}
 use Rattle.meaning.specs.Meaning.{allOf, satisfying, untilFalse, untilTrue, collected, integersAt, means, meaningTo, meaning}
-use Rattle.ways.specs.Read.{patternsOf, patternAt}
+use Rattle.patterns.specs.Read.{patternsOf, patternAt}
 use Rattle.meaning.specs.Read.{nodeOf}
 use Rattle.meaning.specs.Service.{scratchBytes, tree, evaluates}
 

@@ -19,17 +19,16 @@ use Rattle.parts.specs.Part.{PartIs, PartHeld}
 use Rattle.parts.specs.Laws.{part-one}
 use Rattle.patterns.specs.Ways.{exists}
 use Rattle.patterns.specs.Pattern.{Pattern, any, wide, wideEach}
-use Rattle.ways.specs.Read.{patternsOf, patternOf, patternAt}
-use Rattle.ways.specs.Nodes.{isHalved, meetings, isLarge, pattern-at}
+use Rattle.patterns.specs.Read.{patternsOf, patternOf, patternAt, Readable}
+use Rattle.patterns.specs.Nodes.{isHalved, meetings, isLarge, pattern-at}
 use Rattle.matching.specs.declared.nodes.Meeting.{Meeting}
 use Rattle.matching.specs.declared.nodes.Meeting.the-variants.{Unfit, Large, Ways}
-use Rattle.matching.specs.Node.{Readable, MeetsAs, Meets, PieceHeld, PieceOf}
-use Rattle.matching.specs.Along.{innerOf, metBy, WayHeld}
+use Rattle.matching.specs.Node.{MeetsAs, Meets, PieceHeld, PieceOf, innerOf, waysOf, metBy, WayHeld}
 use Rattle.matching.proofs.Piecing.{map-at}
-use Rattle.matching.proofs.Walking.{kind-low, kind-high, count-few, count-two, meeting-length}
+use Rattle.matching.proofs.Records.{kind-low, kind-high, count-few, count-two, meeting-length}
 use Rattle.splitting.specs.Union.{hasUnion, someUnion, shallow, no-union-narrow, shallow-narrow}
 use Rattle.splitting.specs.Composed.{leaf-no-union, wide-composed, union-composed, shallow-union, shallow-other}
-use Rattle.splitting.specs.Told.{TellsUnion, TellsShallow, TellsWide, TellsWays, TellsWay, WaysHeld, waysOf, wideWays}
+use Rattle.splitting.specs.Told.{TellsUnion, TellsShallow, TellsWide, TellsWays, TellsWay, WaysHeld, wideWays}
 
 -- one more item is looked at
 drop-next : {A : Type 0} (l : List A) (i : ℕ) (z : A) → i < length l → drop i l ≡ getD l i z ∷ drop (i + 1) l

@@ -10,8 +10,8 @@ use Rattle.values.specs.Value.{Kind, set, sequence, tuple, Value}
 use Rattle.tables.specs.Record.{Record}
 use Rattle.patterns.specs.Ways.{exists}
 use Rattle.patterns.specs.Pattern.{Pattern, any, each, halved, contents, met, split, leftOf, rightOf, tooLarge, wide, wideEach}
-use Rattle.ways.specs.Read.{patternsOf, patternOf}
-use Rattle.ways.specs.Nodes.{isHalved, pair, meetings, isLarge, parts-length, is-name, is-any, is-boolean, is-integer}
+use Rattle.patterns.specs.Read.{patternsOf, patternOf}
+use Rattle.patterns.specs.Nodes.{isHalved, pair, meetings, isLarge, parts-length, is-name, is-any, is-boolean, is-integer}
 use Rattle.splitting.specs.Union.{hasUnion, someUnion, shallow}
 
 pub or-last : (b : Bool) → b ≡ b || false

@@ -5,16 +5,15 @@ use mathlib.Core.List.{List}
 use Prim.Native.Nat.{ℕ, _≤_}
 use lib.ListN.{length}
 use Rattle.values.specs.Value.{Value}
-use Rattle.tables.specs.Record.{named}
-use Rattle.tables.specs.Table.{recordAt, kindAt}
+use Rattle.tables.specs.Table.{kindAt}
 use Rattle.tables.specs.Accepted.{records}
 use Rattle.parts.specs.declared.Part.{Part}
 use Rattle.parts.specs.Part.{PartIs}
 use Rattle.patterns.specs.Ways.{exists}
 use Rattle.patterns.specs.Pattern.{wide, wideEach}
-use Rattle.ways.specs.Read.{patternsOf, patternAt}
-use Rattle.ways.specs.Nodes.{meetings, isLarge}
-use Rattle.matching.specs.Along.{innerOf, metBy}
+use Rattle.patterns.specs.Read.{patternsOf, patternAt}
+use Rattle.patterns.specs.Nodes.{isLarge}
+use Rattle.matching.specs.Node.{innerOf, waysOf, metBy}
 use Rattle.splitting.specs.Union.{hasUnion, shallow}
 
 -- r says whether pattern record p holds a union pattern, and whether it is shallow
@@ -27,10 +26,6 @@ TellsShallow table p r = r ≡ shallow (patternAt (records table) p)
 -- r says whether a union pattern in pattern record p is met by a set of over seven members, where p meets what the part denotes: number 29
 abbrev pub TellsWide : List ℕ → ℕ → List ℕ → Part → Bool → Type 0
 TellsWide table p s part r = (v : Value) → PartIs s part v → r ≡ wide (patternAt (records table) p) v
-
--- What the parts of pattern record p meet, in every way.
-abbrev pub waysOf : List ℕ → ℕ → Value → List (List Value)
-waysOf table p v = meetings (kindAt (records table) p) (length (named (recordAt (records table) p))) v
 
 -- In one of these ways a part is wide with what it meets.
 abbrev pub wideWays : List ℕ → ℕ → List (List Value) → Bool

@@ -12,7 +12,7 @@ use mathlib.Mathlib.Data.Bool.Basic.{and-elim-left, and-elim-right}
 use Rattle.prelude.proofs.Truth.{or-false-left, or-false-right, or-false-both}
 use Rattle.prelude.specs.Membership.{In}
 use Rattle.values.specs.Value.{Kind, set, sequence, map as mapping, tuple, Value}
-use Rattle.ways.specs.Merging.{true-false}
+use Rattle.patterns.specs.Merging.{true-false}
 use Rattle.patterns.specs.Ways.{Halves, exists, splits}
 use Rattle.patterns.specs.Units.{Shared, in-splits}
 use Rattle.patterns.specs.Named.{PartOf, shared-left, shared-right}

@@ -5,8 +5,8 @@ use parts::Part;
 use tables::reading::kind;
 use tables::reading::operand;
 use tables::reading::operand_count;
-ghost use Rattle.matching.specs.Along.{WayHeld};
-ghost use Rattle.matching.specs.Node.{Readable};
+ghost use Rattle.matching.specs.Node.{WayHeld};
+ghost use Rattle.patterns.specs.Read.{Readable};
 ghost use Rattle.parts.specs.Part.{PartHeld};
 ghost use Rattle.splitting.specs.Told.{TellsUnion, TellsShallow, TellsWide, TellsWays, TellsWay, WaysHeld};
 

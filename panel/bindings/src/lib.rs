@@ -57,9 +57,8 @@ pub fn count(table: &[u8], value: &[u8]) -> usize {
 
 /// What binding number `k`, from 0 in order, gives a name. The answer is 0 with the value's record at
 /// [`VALUE_AT`] of scratch, and that of the value tried at its start; [`NO_VALUE`] or [`NO_BINDING`]; or 29
-/// as for [`count`], but never 30, so that bindings past the 255th can be looked at. It is [`BAD_INPUT`]
-/// for what is no trial, and where scratch is shorter than [`SCRATCH`]. All other bytes of scratch, and
-/// with any answer but 0 all of them, are left as they were.
+/// or 30 as for [`count`]. It is [`BAD_INPUT`] for what is no trial, and where scratch is shorter than
+/// [`SCRATCH`]. All other bytes of scratch, and with any answer but 0 all of them, are left as they were.
 pub fn value(table: &[u8], value: &[u8], k: usize, name: usize, scratch: &mut [u8]) -> usize {
     // SAFETY: pointers and lengths are those of slices, of which only scratch is written.
     unsafe {

@@ -11,7 +11,7 @@ use reference::answer::WIDE_UNION;
 use reference::value::Value;
 use std::collections::{BTreeMap, BTreeSet};
 
-/// The most ways of a case times its bindings: at worst all are gone over for each binding.
+/// The most ways of a case times its bindings: all are gone over for each binding that is looked at.
 const MOST_STEPS: usize = 2_000;
 
 /// How many cases of each sort were compared.
@@ -50,8 +50,7 @@ impl Tally {
         let steps = match &expected {
             Ok(found) => ways * (found.len() + 1),
             Err(WIDE_UNION) => ways,
-            // At worst all ways are gone over for every binding up to the 256th, but few of them are looked at.
-            Err(_) => ways * 4,
+            Err(_) => ways,
         };
         if steps > MOST_STEPS {
             self.left_out += 1;

@@ -32,7 +32,7 @@ use Rattle.tables.specs.Table.{noRecord, recordAt, kindAt}
 use Rattle.tables.specs.Check.{check, isOfSort}
 use Rattle.tables.specs.Laws.{split}
 use Rattle.tables.specs.Accepted.{records, Fine, accepted-fine, operand-lower, operand-sort, fit-known, fit-least, named-count}
-use Rattle.ways.specs.Read.{patterns, patternAt}
+use Rattle.patterns.specs.Read.{patterns, patternAt}
 use Rattle.meaning.specs.Node.{Node, Quantifier, forall, exists, exists1, quantified}
 use Rattle.meaning.specs.State.{State, under, held, valueIn}
 use Rattle.meaning.specs.Read.{nodes, nodeOf, none as noNode, sheet}

@@ -21,7 +21,7 @@ use Rattle.tables.specs.Sheet.{loose, patternOf, isCondition, isBinder, inCondi
 use Rattle.tables.specs.Check.{check, chooses}
 use Rattle.tables.specs.Laws.{split}
 use Rattle.tables.specs.Accepted.{records, Fine, accepted-fine, operand-lower, condition-operand, binder-operands, binder-pattern, choice-outside, fit-least, named-count}
-use Rattle.ways.specs.Read.{patternAt}
+use Rattle.patterns.specs.Read.{patternAt}
 use Rattle.meaning.specs.Node.{Node, truth, whole, named, unaryOf, binaryOf, connective, if, enumeration, range, let-in, let-be, quantified, iota, set-comprehension, sequence-comprehension, map-comprehension, application, no-expression}
 use Rattle.meaning.specs.State.{State, under}
 use Rattle.meaning.specs.Meaning.{meaningTo, meaning}

@@ -18,7 +18,7 @@ use Rattle.tables.specs.Laws.{fold-at}
 use Rattle.tables.specs.Laws.Kinds.{pattern-least}
 use Rattle.tables.specs.Accepted.{records, Fine, accepted-fine, operand-lower, operand-sort, pattern-role, lower, fit-least, fit-most, fit-kind, named-count}
 use Rattle.meaning.specs.Laws.Proper.{_&_}
-use Rattle.ways.specs.Read.{patternsOf, patterns, patternOf, patternAt}
+use Rattle.patterns.specs.Read.{patternsOf, patterns, patternOf, patternAt}
 
 -- ---- the number of operands of a kind
 

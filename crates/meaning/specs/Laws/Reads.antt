@@ -31,7 +31,7 @@ use Rattle.tables.specs.Laws.Kinds.{expression-least, expression-most}
 use Rattle.tables.specs.Accepted.{records, Fine, accepted-fine, operand-lower, operand-sort, bound-operand, bound-last, name-bound, last-sort, fit-known, fit-kind}
 use Rattle.meaning.specs.State.{State, unbound, over, under, held, valueIn}
 use Rattle.meaning.specs.Meaning.{orElse, means, meaningTo, meaning}
-use Rattle.ways.specs.Read.{patternAt}
+use Rattle.patterns.specs.Read.{patternAt}
 use Rattle.meaning.specs.Read.{nodes, nodeOf, none, sheet}
 use Rattle.meaning.specs.Service.{last, tree}
 use Rattle.meaning.specs.Laws.Proper.{inside}

@@ -1,7 +1,7 @@
 use Prim.Native.Nat.{_-_, ℕ, _<_}
 use native.Mathlib.Omega.{arith}
 use mathlib.Core.Path.{refl}
-use Rattle.matching.proofs.Walking.{has-operand, operand-readable}
+use Rattle.matching.proofs.Records.{has-operand, operand-readable}
 use Rattle.splitting.proofs.Telling.{UnionLeft, union-leaf, union-here, union-found, union-next, union-none}
 use borrow.Fn.Kinds.{In}
 use borrow.Fn.PlainCycle.{Measures, is, falls, and}

@@ -1,6 +1,6 @@
 use native.Mathlib.Omega.{arith}
 use borrow.Author.Tests.{not-true, not-false}
-use Rattle.matching.proofs.Walking.{has-operand, operand-readable}
+use Rattle.matching.proofs.Records.{has-operand, operand-readable}
 use Rattle.splitting.proofs.Telling.{shallow-no-union, union-two, shallow-not, shallow-both}
 use Prim.Native.Nat.{ℕ, _<_}
 use borrow.Fn.Kinds.{In}

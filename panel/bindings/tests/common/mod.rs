@@ -16,8 +16,7 @@ use reference::matching::{self, Binding, MAX_BINDINGS};
 use reference::operators::Tried;
 use reference::table::{Record, Table};
 use reference::value::Value;
-use reference::{definition, walk};
-use std::collections::BTreeSet;
+use reference::walk;
 use std::fmt;
 
 /// The names that a binding may give a value.
@@ -95,7 +94,7 @@ pub enum Extent {
     Spread,
 }
 
-/// What a case may cost, in ways of matching: to find binding k all ways are at worst gone over k + 1 times.
+/// What a case may cost, in ways of matching: to look at a binding all ways are gone over, twice where the window is filled again.
 const MOST_STEPS: usize = 30_000;
 
 /// A binder and a value that it is tried on.
@@ -154,16 +153,6 @@ impl<'t> Case<'t> {
         matching::bindings(&self.sheet, self.number, self.values.iter().copied())
     }
 
-    /// All bindings, also where there are over 255.
-    fn all_bindings(&self) -> Vec<Binding> {
-        let found = self.values.iter().flat_map(|value| {
-            let found = definition::bindings(&self.sheet, self.number, value);
-            found.expect("no set that is too large")
-        });
-        let found: BTreeSet<Binding> = found.collect();
-        found.into_iter().collect()
-    }
-
     /// Compares with what is expected. Tells whether every binding was looked at, with all names of the
     /// pattern.
     pub fn compare(&self, expected: &Tried<Vec<Binding>>, extent: Extent) -> bool {
@@ -180,7 +169,7 @@ impl<'t> Case<'t> {
         assert_eq!(self.count(), count * BINDING, "{self}");
         let ways = self.ways(usize::MAX);
         let names = self.names();
-        let all_once = ways * (count + 1) * (count + 2) / 2;
+        let all_once = 2 * ways * (count + 1);
         let is_cheap = all_once * NAMES <= MOST_STEPS;
         let is_whole = extent == Extent::Every || all_once * names.len() <= MOST_STEPS;
         let stride = all_once / MOST_STEPS + 1;
@@ -218,18 +207,15 @@ impl<'t> Case<'t> {
         }
     }
 
-    /// The first and the 256th binding are looked at, and the last where that does not cost too much.
+    /// A refusal is the answer for every binding and name.
     fn compare_many(&self) {
-        let found = self.all_bindings();
-        let count = found.len();
-        assert!(count > MAX_BINDINGS);
-        assert_eq!(self.count(), MANY_BINDINGS as usize, "{self}");
-        let names = self.names();
-        self.compare_cell(&found, 0, names[0]);
-        self.compare_cell(&found, MAX_BINDINGS, names[names.len() - 1]);
-        if self.ways(usize::MAX) * count <= 5 * MOST_STEPS {
-            self.compare_cell(&found, count - 1, names[0]);
-            self.compare_cell(&found, count, names[0]);
+        let many = MANY_BINDINGS as usize;
+        assert_eq!(self.count(), many, "{self}");
+        for name in self.names() {
+            self.compare_look(0, name, Err(many));
+        }
+        for k in [1, MAX_BINDINGS, usize::MAX] {
+            self.compare_look(k, NAMES, Err(many));
         }
     }
 

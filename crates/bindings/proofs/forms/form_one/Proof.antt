@@ -1,0 +1,65 @@
+use Rattle.bindings.proofs.Telling.{at-low, one-asked, one-formed}
+use Prim.Native.Nat.{_-_}
+use native.Mathlib.Omega.{arith}
+use borrow.Author.Needs.{needs}
+use Rattle.bindings.proofs.forms.form_one.Statement.{statement}
+use Rattle.bindings.proofs.forms.form_one.Tie as tie
+use Rattle.bindings.proofs.forms.form_one.Reads as reads
+use Rattle.bindings.proofs.forms.form_one.Lts as lts
+use Rattle.forming.proofs.solve.Reads as solve-reads
+use Rattle.matching.proofs.leaves.Match.nothing.Reads as nothing-reads
+
+-- src/forms.rt:90:17
+cast-agenda : tie.Need-cast-agenda
+cast-agenda c = omega (arith, c .before .before .pre .readable .here .within, c .before .before .pre .readable .fine .few)
+
+-- src/forms.rt:90:5
+element-write-agenda : tie.Need-element-write-agenda
+element-write-agenda c = search needs
+
+-- src/forms.rt:91:22
+mul-agenda : tie.Need-mul-agenda
+mul-agenda c = omega (arith, at-low _ _ _ _ _ _ _ _ _ (c .before .before .pre))
+
+-- src/forms.rt:91:18
+add-agenda : tie.Need-add-agenda
+add-agenda c = omega (arith, at-low _ _ _ _ _ _ _ _ _ (c .before .before .pre))
+
+-- src/forms.rt:91:17
+cast-agenda-2 : tie.Need-cast-agenda-2
+cast-agenda-2 c = omega (arith, at-low _ _ _ _ _ _ _ _ _ (c .before .before .pre))
+
+-- src/forms.rt:91:5
+element-write-agenda-2 : tie.Need-element-write-agenda-2
+element-write-agenda-2 c = search needs
+
+-- src/forms.rt:92:5
+element-write-agenda-3 : tie.Need-element-write-agenda-3
+element-write-agenda-3 c = search needs
+
+-- src/forms.rt:93:9
+nothing-requires : tie.Need-nothing-requires
+nothing-requires c κs = search needs
+
+-- src/forms.rt:94:5
+solve-requires : tie.Need-solve-requires
+solve-requires c κs = one-asked _ _ _ _ _ _ _ _ _ (c .before .before .before .before .before .before .pre) _ (c .before .before .before .nothing .ensures)
+
+-- src/forms.rt:76:1
+returns : tie.Need-returns
+returns c = one-formed _ _ _ _ _ _ _ _ _ (c .before .before .before .before .before .before .before .pre) _ (c .before .before .before .before .nothing .ensures) _ _ _ _ (c .solve .ensures)
+
+pub form-one-spec : {M : Type 1} → statement M
+form-one-spec =
+    tie.close
+    (tie.spec
+    cast-agenda
+    element-write-agenda
+    mul-agenda
+    add-agenda
+    cast-agenda-2
+    element-write-agenda-2
+    element-write-agenda-3
+    nothing-requires
+    solve-requires
+    returns)

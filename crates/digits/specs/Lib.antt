@@ -1,3 +1,0 @@
--- A path of digits, and a tree walked along it.
-pub mod Path
-pub mod Walk

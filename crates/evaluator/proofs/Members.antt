@@ -1,0 +1,220 @@
+-- What each member without a binder asks and promises at each place, over what its calls promised.
+use mathlib.Core.Path.{_≡_, refl, sym, ap, subst, _∙_}
+use mathlib.Core.List.{List, [], _∷_}
+use types.Run.{OneOf}
+use mathlib.Core.Logic.{_⊎_, inl, inr}
+use Prim.Native.Nat.{ℕ, zero, suc, _+_, _≤_, _<_}
+use native.Mathlib.Omega.{arith}
+use borrow.Author.Tests.{eq-eqb, ne-eqb}
+use mathlib.Core.Bool.{cond}
+use Rattle.values.specs.Value.{Value}
+use Rattle.values.specs.Place.{At}
+use Rattle.choices.specs.declared.Choices.{Choices}
+use Rattle.choices.specs.Tree.{Tree, stop, bind}
+use Rattle.operators.specs.Booleans.{left, right}
+use Rattle.operators.specs.Operators.{unary, binary}
+use Rattle.tables.specs.Record.{shape, operand}
+use Rattle.tables.specs.Table.{recordAt, kindAt}
+use Rattle.tables.specs.Accepted.{records}
+use Rattle.tables.specs.Reading.{HasOperand, HasField}
+use Rattle.operations.specs.Numbers.{Unary}
+use Rattle.calling.specs.declared.Applied.{Applied}
+use Rattle.calling.specs.declared.Tested.{Tested}
+use Rattle.calling.specs.declared.Tested.the-variants.{Settled, Open, Refused as Off}
+use Rattle.calling.specs.Applied.{One, Two, OnOne, OnTwo}
+use Rattle.calling.specs.Scratch.{Kept}
+use Rattle.scalars.specs.Connectives.{connective, TestsLeft}
+use Rattle.meaning.specs.State.{State}
+use Rattle.meaning.specs.Meaning.{at, isTrue, rightOf}
+use Rattle.evaluator.specs.declared.Outcome.{Outcome}
+use Rattle.evaluator.specs.declared.Outcome.the-variants.{Value as HasValue}
+use Rattle.parts.specs.declared.words.Env.{Env}
+use Rattle.evaluator.specs.declared.Truth.{Truth}
+use Rattle.evaluator.specs.declared.Truth.the-variants.{True, False, Other}
+use Rattle.evaluator.specs.Contract.{Evaluated, ended, Ask, Gives, meant, level, operatorAt, refusedAs}
+use Rattle.evaluator.specs.Leaves.{applied, Tells, ofTwo, OfTwo, Strict}
+use Rattle.evaluator.proofs.Tables.{has-operand, has-field, lower-down, unary-number, binary-number}
+use Rattle.evaluator.proofs.Equations.{mean-unary, mean-binary, mean-two, mean-logic, mean-if, mean-pattern, mean-nothing}
+use Rattle.evaluator.proofs.Plain.{gives-refused, gives-stop, gives-at, gives-one, gives-both, gives-second-off, ask-first, ask-next, one-held, two-held, logic-settled, logic-refused, logic-right-off, logic-right, if-other, if-true, if-false}
+
+module _ {table index : List ℕ} {r : ℕ} {s : List ℕ} {base : ℕ} {env : Env} {c : Choices} (a : Ask table index r s base env c) where
+  -- operand i, of a record that has one
+  pub first-asked : {i b : ℕ} → HasOperand table index r i → b ≡ operand (recordAt (records table) r) i → (b < r) × Ask table index b s base env c
+  first-asked {i} h d = (lower-down a i (h .has) d, ask-first a i (h .has) d)
+
+  pub next-asked : {ma : State → Tree Value} {i b : ℕ} {t u : List ℕ} {e : Evaluated} (base′ : ℕ) → HasOperand table index r i → b ≡ operand (recordAt (records table) r) i → Gives ma (At t base) s t base env c e → Kept t u base → base ≤ base′ → base′ ≤ base + level → (b < r) × Ask table index b u base′ env (e .choices)
+  next-asked {i = i} base′ h d k l m n = (lower-down a i (h .has) d, ask-next a k i (h .has) d l m n)
+
+  -- 4
+  module _ (d : kindAt (records table) r ≡ 4) where
+    pub un-has : HasOperand table index r 0
+    unfolding shape
+    un-has = has-operand a d 0 (omega arith)
+
+    pub un-field : HasField table index r 0
+    unfolding shape
+    un-field = has-field a d 0 (omega arith)
+
+    module _ {b : ℕ} (q : b ≡ operand (recordAt (records table) r) 0) {t : List ℕ} {e : Evaluated} (k : Gives (meant table b) (At t base) s t base env c e) where
+      pub un-off : (e .outcome ≡ HasValue → ⊥) → Gives (meant table r) (At t base) s t base env c e
+      un-off h = gives-stop (gives-at table q k) (λ ρ v. at r (unary (operatorAt table r) v)) h (λ ρ. mean-unary (a .legal) r ρ d)
+
+      module _ (h : e .outcome ≡ HasValue) {n : ℕ} (o : n ≡ operatorAt table r) where
+        pub un-held : One t base × Unary n
+        un-held = (one-held a k h, subst Unary (sym o) (unary-number a d))
+
+        pub un-done : {u : List ℕ} {x : Applied} {z : Outcome} → OnOne (unary n) t u base x → z ≡ applied x r → Gives (meant table r) (At u base) s u base env c (ended z (e .choices))
+        un-done {u} {x} f g =
+            gives-one a (gives-at table q k) (unary (operatorAt table r)) h (subst (λ (m : ℕ). OnOne (unary m) t u base x) o f) g (λ ρ. mean-unary (a .legal) r ρ d)
+
+  -- 5, 11, 21
+  module _ {k op : ℕ} (d : kindAt (records table) r ≡ k) (w : Strict table r k op) where
+    two-has : (i : ℕ) → i < 2 → HasOperand table index r i
+    unfolding shape
+    two-has i l = go w
+      where
+        go : Strict table r k op → HasOperand table index r i
+        go (inl x) = has-operand a (d ∙ x .0) i l
+        go (inr (inl x)) = has-operand a (d ∙ x) i l
+        go (inr (inr x)) = has-operand a (d ∙ x) i l
+
+    pub bin-left : HasOperand table index r 0
+    bin-left = two-has 0 (omega arith)
+
+    pub bin-right : HasOperand table index r 1
+    bin-right = two-has 1 (omega arith)
+
+    two-means : (ρ : State) → meant table r ρ ≡ bind (meant table (operand (recordAt (records table) r) 0) ρ) (λ v. bind (meant table (operand (recordAt (records table) r) 1) ρ) (λ y. at r (ofTwo k op v y)))
+    two-means ρ = go w
+      where
+        go : Strict table r k op → meant table r ρ ≡ bind (meant table (operand (recordAt (records table) r) 0) ρ) (λ v. bind (meant table (operand (recordAt (records table) r) 1) ρ) (λ y. at r (ofTwo k op v y)))
+        go (inl (x, y, l)) = rw (eq-eqb k 5 x) (mean-binary (a .legal) r ρ (d ∙ x) (omega arith) ∙ ap (λ (m : ℕ). bind (meant table (operand (recordAt (records table) r) 0) ρ) (λ v. bind (meant table (operand (recordAt (records table) r) 1) ρ) (λ y. at r (binary m v y)))) (sym y))
+        go (inr (inl x)) = rw (ne-eqb k 5 (λ z. omega arith), eq-eqb k 11 x) (mean-two (a .legal) r ρ .0 (d ∙ x))
+        go (inr (inr x)) = rw (ne-eqb k 5 (λ z. omega arith), ne-eqb k 11 (λ z. omega arith)) (mean-two (a .legal) r ρ .1 (d ∙ x))
+
+    two-of : OfTwo k op
+    two-of = go w
+      where
+        go : Strict table r k op → OfTwo k op
+        go (inl (x, y, l)) = inl (x, record { low = l; high = omega (arith, binary-number a (d ∙ x) .1) })
+        go (inr x) = inr x
+
+    module _ {b : ℕ} (q : b ≡ operand (recordAt (records table) r) 0) {t : List ℕ} {e : Evaluated} (g : Gives (meant table b) (At t base) s t base env c e) where
+      pub bin-off : (e .outcome ≡ HasValue → ⊥) → Gives (meant table r) (At t base) s t base env c e
+      bin-off h = gives-stop (gives-at table q g) (λ ρ v. bind (meant table (operand (recordAt (records table) r) 1) ρ) (λ y. at r (ofTwo k op v y))) h two-means
+
+      module _ (h : e .outcome ≡ HasValue) {b′ : ℕ} (q′ : b′ ≡ operand (recordAt (records table) r) 1) {u : List ℕ} {f : Evaluated} (g′ : Gives (meant table b′) (At u (base + 512)) t u (base + 512) env (e .choices) f) where
+        pub bin-off-right : (f .outcome ≡ HasValue → ⊥) → Gives (meant table r) (At u base) s u base env c f
+        bin-off-right h′ = gives-second-off a (gives-at table q g) (gives-at table q′ g′) (λ ρ v y. at r (ofTwo k op v y)) h h′ two-means
+
+        pub bin-held : f .outcome ≡ HasValue → Two u base × OfTwo k op
+        bin-held h′ = (two-held a g g′ h h′, two-of)
+
+        pub bin-done : {x : List ℕ} {y : Applied} {z : Outcome} → f .outcome ≡ HasValue → OnTwo (ofTwo k op) u x base y → z ≡ applied y r → Gives (meant table r) (At x base) s x base env c (ended z (f .choices))
+        bin-done h′ o z = gives-both a (gives-at table q g) (gives-at table q′ g′) (ofTwo k op) h h′ o z two-means
+
+  -- 5: and, or, =>
+  module _ (d : kindAt (records table) r ≡ 5) where
+    pub logic-left : HasOperand table index r 0
+    unfolding shape
+    logic-left = has-operand a d 0 (omega arith)
+
+    pub logic-next : HasOperand table index r 1
+    unfolding shape
+    logic-next = has-operand a d 1 (omega arith)
+
+    pub binary-field : HasField table index r 0
+    unfolding shape
+    binary-field = has-field a d 0 (omega arith)
+
+    module _ {n : ℕ} (o : n ≡ operatorAt table r) {b : ℕ} (q : b ≡ operand (recordAt (records table) r) 0) {t : List ℕ} {e : Evaluated} (k : Gives (meant table b) (At t base) s t base env c e) where
+      -- and, or, =>
+      module _ (l : n ≤ 3) where
+        equation : (ρ : State) → meant table r ρ ≡ bind (meant table b ρ) (λ v. rightOf (meant table) r (operand (recordAt (records table) r) 1) ρ (left (connective n) v))
+        equation ρ =
+            mean-logic (a .legal) r ρ d (binary-number a d .0) (omega arith)
+            ∙ ap (λ (m : ℕ). bind (meant table (operand (recordAt (records table) r) 0) ρ) (λ v. rightOf (meant table) r (operand (recordAt (records table) r) 1) ρ (left (connective m) v))) (sym o)
+            ∙ ap (λ (x : ℕ). bind (meant table x ρ) (λ v. rightOf (meant table) r (operand (recordAt (records table) r) 1) ρ (left (connective n) v))) (sym q)
+
+        pub logic-off : (e .outcome ≡ HasValue → ⊥) → Gives (meant table r) (At t base) s t base env c e
+        logic-off h = gives-stop k (λ ρ v. rightOf (meant table) r (operand (recordAt (records table) r) 1) ρ (left (connective n) v)) h equation
+
+        pub logic-held : e .outcome ≡ HasValue → One t base × (1 ≤ n) × (n ≤ 3)
+        logic-held h = (one-held a k h, omega (arith, binary-number a d .0), l)
+
+        module _ (h : e .outcome ≡ HasValue) {u : List ℕ} {x : Tested} (g : TestsLeft (connective n) t u base x) where
+          pub logic-done : x ≡ Settled → Gives (meant table r) (At u base) s u base env c e
+          logic-done z = logic-settled a k n h g (meant table) (operand (recordAt (records table) r) 1) equation z
+
+          pub logic-bad : (j : ℕ) → x ≡ Off j → Gives (meant table r) (At u base) s u base env c (refusedAs j r (e .choices))
+          logic-bad j z = logic-refused a k n h g (meant table) (operand (recordAt (records table) r) 1) equation j z
+
+          module _ (z : x ≡ Open) {b′ : ℕ} (q′ : b′ ≡ operand (recordAt (records table) r) 1) {w : List ℕ} {f : Evaluated} (k′ : Gives (meant table b′) (At w base) u w base env (e .choices) f) where
+            pub logic-off-right : (f .outcome ≡ HasValue → ⊥) → Gives (meant table r) (At w base) s w base env c f
+            logic-off-right h′ = logic-right-off a k n h g (meant table) (operand (recordAt (records table) r) 1) equation z (gives-at table q′ k′) h′
+
+            pub logic-both : {x′ : Applied} {z′ : Outcome} → f .outcome ≡ HasValue → OnOne right w w base x′ → z′ ≡ applied x′ r → Gives (meant table r) (At w base) s w base env c (ended z′ (f .choices))
+            logic-both h′ o′ y = logic-right a k n h g (meant table) (operand (recordAt (records table) r) 1) equation z (gives-at table q′ k′) h′ o′ y
+
+            pub logic-right-held : f .outcome ≡ HasValue → One w base
+            logic-right-held h′ = one-held (next-asked base logic-next q′ k (g .kept) (omega arith) (omega arith) .1) k′ h′
+
+  -- 6
+  module _ (d : kindAt (records table) r ≡ 6) where
+    pub if-test : HasOperand table index r 0
+    unfolding shape
+    if-test = has-operand a d 0 (omega arith)
+
+    pub if-then : HasOperand table index r 1
+    unfolding shape
+    if-then = has-operand a d 1 (omega arith)
+
+    pub if-else : HasOperand table index r 2
+    unfolding shape
+    if-else = has-operand a d 2 (omega arith)
+
+    module _ {b : ℕ} (q : b ≡ operand (recordAt (records table) r) 0) {t : List ℕ} {e : Evaluated} (k : Gives (meant table b) (At t base) s t base env c e) where
+      abbrev thens : State → Tree Value
+      thens ρ = meant table (operand (recordAt (records table) r) 1) ρ
+
+      abbrev elses : State → Tree Value
+      elses ρ = meant table (operand (recordAt (records table) r) 2) ρ
+
+      pub if-off : (e .outcome ≡ HasValue → ⊥) → Gives (meant table r) (At t base) s t base env c e
+      if-off h = gives-stop (gives-at table q k) (λ ρ v. bind (isTrue r v) (λ y. cond y (thens ρ) (elses ρ))) h (λ ρ. mean-if (a .legal) r ρ d)
+
+      module _ (h : e .outcome ≡ HasValue) {x : Truth} (o : Tells t base x) where
+        pub if-bad : x ≡ Other → Gives (meant table r) (At t base) s t base env c (refusedAs 20 r (e .choices))
+        if-bad z = if-other a (gives-at table q k) x thens elses h o (λ ρ. mean-if (a .legal) r ρ d) z
+
+        pub if-yes : {b′ : ℕ} {u : List ℕ} {f : Evaluated} → x ≡ True → b′ ≡ operand (recordAt (records table) r) 1 → Gives (meant table b′) (At u base) t u base env (e .choices) f → Gives (meant table r) (At u base) s u base env c f
+        if-yes z q′ k′ = if-true a (gives-at table q k) x thens elses h o (λ ρ. mean-if (a .legal) r ρ d) z (gives-at table q′ k′)
+
+        pub if-no : {b′ : ℕ} {u : List ℕ} {f : Evaluated} → x ≡ False → b′ ≡ operand (recordAt (records table) r) 2 → Gives (meant table b′) (At u base) t u base env (e .choices) f → Gives (meant table r) (At u base) s u base env c f
+        if-no z q′ k′ = if-false a (gives-at table q k) x thens elses h o (λ ρ. mean-if (a .legal) r ρ d) z (gives-at table q′ k′)
+
+  -- what is left are patterns
+  pub eval-last : {k : ℕ} → k ≡ kindAt (records table) r → (k ≡ 0) ⊎ (22 ≤ k) → Gives (meant table r) (At s base) s s base env c (refusedAs 20 r c)
+  eval-last {k} d w = gives-refused 20 r a (λ ρ. go ρ w)
+    where
+      go : (ρ : State) → (k ≡ 0) ⊎ (22 ≤ k) → meant table r ρ ≡ stop 20 r
+      go ρ (inl h) = mean-nothing (a .legal) r ρ (sym d ∙ h)
+      go ρ (inr h) = mean-pattern (a .legal) r ρ (omega arith)
+
+  -- none of the kinds that are evaluated
+  abbrev Unlike : ℕ → ℕ → Type 0
+  Unlike n k = OneOf (n ∷ []) k → ⊥
+
+  next-up : (n k : ℕ) → n ≤ k → (k ≡ n → ⊥) → n + 1 ≤ k
+  next-up n k l h = omega arith
+
+  pub unmatched : {k : ℕ} → (((((((((((((((((((((Unit {0} × Unlike 1 k) × Unlike 2 k) × Unlike 3 k) × Unlike 4 k) × Unlike 5 k) × Unlike 6 k) × Unlike 7 k) × Unlike 8 k) × Unlike 9 k) × Unlike 10 k) × Unlike 11 k) × Unlike 12 k) × Unlike 13 k) × Unlike 14 k) × Unlike 15 k) × Unlike 16 k) × Unlike 17 k) × Unlike 18 k) × Unlike 19 k) × Unlike 20 k) × Unlike 21 k) → (k ≡ 0) ⊎ (22 ≤ k)
+  unmatched {k} (((((((((((((((((((((u, a1), a2), a3), a4), a5), a6), a7), a8), a9), a10), a11), a12), a13), a14), a15), a16), a17), a18), a19), a20), a21) = go (zero-or k)
+    where
+      zero-or : (k : ℕ) → (k ≡ 0) ⊎ (1 ≤ k)
+      zero-or zero = inl refl
+      zero-or (suc k) = inr (omega arith)
+
+      go : (k ≡ 0) ⊎ (1 ≤ k) → (k ≡ 0) ⊎ (22 ≤ k)
+      go (inl z) = inl z
+      go (inr l) = inr (next-up 21 k (next-up 20 k (next-up 19 k (next-up 18 k (next-up 17 k (next-up 16 k (next-up 15 k (next-up 14 k (next-up 13 k (next-up 12 k (next-up 11 k (next-up 10 k (next-up 9 k (next-up 8 k (next-up 7 k (next-up 6 k (next-up 5 k (next-up 4 k (next-up 3 k (next-up 2 k (next-up 1 k l a1) a2) a3) a4) a5) a6) a7) a8) a9) a10) a11) a12) a13) a14) a15) a16) a17) a18) a19) a20) a21)

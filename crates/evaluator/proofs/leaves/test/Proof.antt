@@ -1,0 +1,33 @@
+use mathlib.Core.Bool.{true, false}
+use Rattle.calling.proofs.Kinding.{no-boolean}
+use Rattle.evaluator.proofs.Simple.{told-boolean}
+use borrow.Author.Needs.{needs}
+use Rattle.evaluator.proofs.leaves.test.Statement.{statement}
+use Rattle.evaluator.proofs.leaves.test.Tie as tie
+use Rattle.evaluator.proofs.leaves.test.Reads as reads
+use Rattle.evaluator.proofs.leaves.test.Lts as lts
+use Rattle.values.proofs.boolean_at.Reads as boolean-at-reads
+use Rattle.values.proofs.kind_of.Reads as kind-of-reads
+
+-- src/leaves.rt:83:9
+kind-of-requires : tie.Need-kind-of-requires
+kind-of-requires c κs = search needs
+
+-- src/leaves.rt:85:9
+returns : tie.Need-returns
+returns c = λ v a. no-boolean (c .before .kind-of .ensures) (c .if1 .taken) v a
+
+-- src/leaves.rt:87:9
+boolean-at-requires : tie.Need-boolean-at-requires
+boolean-at-requires c κs = search needs
+
+-- src/leaves.rt:89:9
+returns-2 : tie.Need-returns-2
+returns-2 c = told-boolean true (c .before .boolean-at .ensures) (c .if2 .taken)
+
+-- src/leaves.rt:79:1
+returns-3 : tie.Need-returns-3
+returns-3 c = told-boolean false (c .before .boolean-at .ensures) (c .if2 .left)
+
+pub test-spec : {M : Type 1} → statement M
+test-spec = tie.close (tie.spec kind-of-requires returns boolean-at-requires returns-2 returns-3)

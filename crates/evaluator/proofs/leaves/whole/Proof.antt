@@ -1,0 +1,32 @@
+use mathlib.Core.Path.{sym, subst, _∙_}
+use native.Mathlib.Omega.{arith}
+use mir.Facts.{toZ-ofZ}
+use Rattle.integers.specs.Whole.{InRange}
+use Rattle.evaluator.proofs.Tables.{field-four, integer-number, room-here}
+use Rattle.evaluator.proofs.Simple.{whole-done}
+use borrow.Author.Needs.{needs}
+use Rattle.evaluator.proofs.leaves.whole.Statement.{statement}
+use Rattle.evaluator.proofs.leaves.whole.Tie as tie
+use Rattle.evaluator.proofs.leaves.whole.Reads as reads
+use Rattle.evaluator.proofs.leaves.whole.Lts as lts
+use Rattle.tables.proofs.reading.integer.Reads as integer-reads
+use Rattle.values.proofs.put_integer.Reads as put-integer-reads
+
+-- src/leaves.rt:58:9
+integer-requires : tie.Need-integer-requires
+integer-requires c κs = field-four (c .before .before .pre .0) (c .before .before .pre .1)
+
+-- src/leaves.rt:59:5
+put-integer-requires : tie.Need-put-integer-requires
+put-integer-requires c κs = (omega (arith, room-here (c .before .before .before .before .pre .0)), subst InRange (sym (toZ-ofZ (record { sfits = c .before .integer .ok }) ∙ c .before .integer .ensures)) (integer-number (c .before .before .before .before .pre .0) (c .before .before .before .before .pre .1)))
+
+-- src/leaves.rt:54:1
+same-length : tie.Need-same-length
+same-length c = search needs
+
+-- src/leaves.rt:54:1
+returns : tie.Need-returns
+returns c = whole-done (c .before .before .before .before .before .before .before .pre .0) (c .before .before .before .before .before .before .before .pre .1) (toZ-ofZ (record { sfits = c .before .before .before .before .integer .ok }) ∙ c .before .before .before .before .integer .ensures) (c .before .before .put-integer .ensures)
+
+pub whole-spec : {M : Type 1} → statement M
+whole-spec = tie.close (tie.spec integer-requires put-integer-requires same-length returns)

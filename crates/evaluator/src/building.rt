@@ -1,0 +1,80 @@
+// What an enumeration builds, operand by operand. A refusal of the building is remembered, and stays.
+use crate::Outcome;
+use collections::building::Added;
+use collections::building::Entered;
+use collections::building::append;
+use collections::building::enter;
+use collections::building::insert;
+use collections::building::retag;
+ghost use mathlib.Core.Path.{_≡_};
+ghost use Rattle.collections.specs.Building.{addedNumber, enteredNumber};
+ghost use Rattle.evaluator.specs.Building.{AddHeld, AddsNext, EnterHeld, EntersNext, startedAs, Finishable, Finishes};
+
+// The kind of what is built: a set, or a sequence. A tuple is built as a sequence.
+pub fn started(k: usize) -> usize
+    ensures { λ r. ⌜ r ≡ startedAs k ⌝ }
+{
+    if k == 7 { 3 } else { 4 }
+}
+
+// What is built so far takes one more, which stands 512 bytes above it; 28 where it is too large.
+pub fn add(s: &mut [u8], base: usize, k: usize, bad: usize) -> usize
+    requires { ⌜ AddHeld k (now s) base bad ⌝ }
+    ensures { λ r. ⌜ AddsNext k (now (s .entry)) (now (s .exit)) base bad r ⌝ }
+{
+    if bad != 0 {
+        return bad;
+    }
+    if k == 7 {
+        let a = insert(s, base, base + 512);
+        return added(a);
+    }
+    let b = append(s, base, base + 512);
+    added(b)
+}
+
+fn added(a: Added) -> usize
+    ensures { λ r. ⌜ r ≡ addedNumber a ⌝ }
+{
+    match a {
+        Added::Done => 0,
+        Added::Full => 28,
+    }
+}
+
+// The map that is built so far takes one more key and value, which stand 512 and 1,024 bytes above it; 27 or 28 where it cannot.
+pub fn enter_next(s: &mut [u8], base: usize, bad: usize) -> usize
+    requires { ⌜ EnterHeld (now s) base bad ⌝ }
+    ensures { λ r. ⌜ EntersNext (now (s .entry)) (now (s .exit)) base bad r ⌝ }
+{
+    if bad != 0 {
+        return bad;
+    }
+    let a = enter(s, base, base + 512, base + 1024);
+    entered(a)
+}
+
+fn entered(a: Entered) -> usize
+    ensures { λ r. ⌜ r ≡ enteredNumber a ⌝ }
+{
+    match a {
+        Entered::Done => 0,
+        Entered::Clash => 27,
+        Entered::Full => 28,
+    }
+}
+
+// What was built, or its refusal.
+pub fn finish(s: &mut [u8], base: usize, k: usize, bad: usize, r: usize) -> Outcome
+    requires { ⌜ Finishable k (now s) base bad ⌝ }
+    ensures { λ o. ⌜ Finishes k (now (s .entry)) (now (s .exit)) base bad r o ⌝ }
+{
+    if bad != 0 {
+        return Outcome::Refused(bad, r, 0);
+    }
+    if k == 10 {
+        retag(s, base, 6);
+        return Outcome::Value;
+    }
+    Outcome::Value
+}

@@ -1,0 +1,106 @@
+// What is evaluated without evaluating anything else: literals, names, tests, and the operators of two operands.
+use crate::Outcome;
+use crate::RUN;
+use crate::Truth;
+use calling::Applied;
+use parts::words::Env;
+use parts::words::unpack;
+use tables::reading::field;
+use tables::reading::integer;
+ghost use mathlib.Core.Path.{_≡_};
+ghost use Rattle.values.specs.Place.{Holds};
+ghost use Rattle.calling.specs.Applied.{Two, OnTwo};
+ghost use Rattle.tables.specs.Table.{kindAt};
+ghost use Rattle.tables.specs.Accepted.{records};
+ghost use Rattle.evaluator.specs.Run.{lent};
+ghost use Rattle.evaluator.specs.Contract.{Ask, Evaluates, ended};
+ghost use Rattle.evaluator.specs.Leaves.{Tells, OfTwo, ofTwo};
+
+// 1: a boolean literal.
+pub fn truth(
+    table: &[u8],
+    index: &[u16; 200],
+    r: usize,
+    s: &mut [u8],
+    base: usize,
+    env: Env,
+    run: &mut [u8; RUN],
+) -> Outcome
+    requires { ⌜ Ask (now table) (now index) r (now s) base env (lent (now run)) × (kindAt (records (now table)) r ≡ 1) ⌝ }
+    ensures { λ o. ⌜ Evaluates (now (table .entry)) r (now (s .entry)) (now (s .exit)) base env (lent (now (run .entry))) (ended o (lent (now (run .exit)))) ⌝ }
+{
+    let b = field(table, index, r, 0);
+    values::put_boolean(s, base, b == 1);
+    Outcome::Value
+}
+
+// 2: an integer literal.
+pub fn whole(
+    table: &[u8],
+    index: &[u16; 200],
+    r: usize,
+    s: &mut [u8],
+    base: usize,
+    env: Env,
+    run: &mut [u8; RUN],
+) -> Outcome
+    requires { ⌜ Ask (now table) (now index) r (now s) base env (lent (now run)) × (kindAt (records (now table)) r ≡ 2) ⌝ }
+    ensures { λ o. ⌜ Evaluates (now (table .entry)) r (now (s .entry)) (now (s .exit)) base env (lent (now (run .entry))) (ended o (lent (now (run .exit)))) ⌝ }
+{
+    let z = integer(table, index, r);
+    values::put_integer(s, base, z);
+    Outcome::Value
+}
+
+// 3: a name. Its value is built where the name is read.
+pub fn name(
+    table: &[u8],
+    index: &[u16; 200],
+    r: usize,
+    s: &mut [u8],
+    base: usize,
+    env: Env,
+    run: &mut [u8; RUN],
+) -> Outcome
+    requires { ⌜ Ask (now table) (now index) r (now s) base env (lent (now run)) × (kindAt (records (now table)) r ≡ 3) ⌝ }
+    ensures { λ o. ⌜ Evaluates (now (table .entry)) r (now (s .entry)) (now (s .exit)) base env (lent (now (run .entry))) (ended o (lent (now (run .exit)))) ⌝ }
+{
+    let x = field(table, index, r, 0);
+    let word = env.words[x];
+    let part = unpack(word);
+    if part.how == 0 {
+        return Outcome::Refused(Applied::WRONG_KIND, r, 0);
+    }
+    parts::put_part(s, part, base);
+    Outcome::Value
+}
+
+// The boolean at a place, if it is one.
+pub fn test(s: &[u8], at: usize) -> Truth
+    requires { ⌜ Holds (now s) at ⌝ }
+    ensures { λ t. ⌜ Tells (now (s .entry)) at t ⌝ }
+{
+    let k = values::kind_of(s, at);
+    if k != 1 {
+        return Truth::Other;
+    }
+    let b = values::boolean_at(s, at);
+    if b {
+        return Truth::True;
+    }
+    Truth::False
+}
+
+// 5, 11, 21: a strict binary operator, a set range, an application, on the values at base and 512 bytes above it.
+pub fn two(s: &mut [u8], base: usize, k: usize, op: usize) -> Applied
+    requires { ⌜ Two (now s) base × OfTwo k op ⌝ }
+    ensures { λ r. ⌜ OnTwo (ofTwo k op) (now (s .entry)) (now (s .exit)) base r ⌝ }
+{
+    if k == 5 {
+        return operations::binary(s, base, op);
+    }
+    if k == 11 {
+        return set_operators::range(s, base);
+    }
+    application::apply(s, base)
+}

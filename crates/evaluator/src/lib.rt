@@ -1,0 +1,848 @@
+// The evaluator: the recursion on record numbers, over lent scratch. A record's value is left at its base; what lies below the base stays.
+mod binding;
+mod building;
+mod leaves;
+mod looseness;
+mod run;
+
+use binding::BUILT;
+use binding::INSIDE;
+use binding::WINDOW;
+use binding::agree;
+use binding::built;
+use binding::fetch;
+use binding::judge;
+use binding::mark;
+use binding::nowhere;
+use binding::opening;
+use binding::suits;
+use binding::tally;
+use binding::unchosen;
+use bindings::Cursor;
+use building::add;
+use building::enter_next;
+use building::finish;
+use building::started;
+use calling::Applied;
+use calling::Tested;
+use choices::Answer;
+use collections::building::put_empty;
+use leaves::name;
+use leaves::test;
+use leaves::truth;
+use leaves::two;
+use leaves::whole;
+use looseness::is_loose;
+use parts::words::Env;
+use run::choose;
+use run::decide;
+use run::wanted;
+use tables::reading::field;
+use tables::reading::kind;
+use tables::reading::operand;
+use tables::reading::operand_count;
+ghost use mathlib.Core.Path.{_≡_};
+ghost use mathlib.Core.Bool.{true, false};
+ghost use Prim.Native.Nat.{_≤_, _<_};
+ghost use Rattle.tables.specs.Table.{kindAt};
+ghost use Rattle.tables.specs.Accepted.{records};
+ghost use Rattle.tables.specs.Reading.{HasOperand};
+ghost use Rattle.evaluator.specs.Run.{lent};
+ghost use Rattle.evaluator.specs.Contract.{Ask, Evaluates, ended, operatorAt, operandAt};
+ghost use Rattle.evaluator.specs.Leaves.{applied, Strict};
+ghost use Rattle.evaluator.specs.Building.{Enumerated};
+ghost use Rattle.evaluator.specs.Sheet.{Runnable, Runs};
+ghost use Rattle.evaluator.specs.Binding.{Binder, Surveyed, Unique, Comprehension, Upward, quantified, Begins, Stands, Insides, Tests, Surveys, Extends, Extended, addsIn, stepIn};
+
+// A value, which stands at the base; or a refusal's number, place and count.
+pub enum Outcome {
+    Value,
+    Refused(usize, usize, usize),
+}
+
+// A condition is true, false, or no boolean.
+pub enum Truth {
+    True,
+    False,
+    Other,
+}
+
+// What an evaluation in a binder came to, and where its bindings stand.
+pub struct Placed {
+    pub outcome: Outcome,
+    pub cursor: Cursor,
+}
+
+// What a condition came to under a binding.
+pub struct Held {
+    pub outcome: Outcome,
+    pub cursor: Cursor,
+    pub yes: bool,
+}
+
+// How many bindings satisfy, and which of all is the wanted one of them.
+pub struct Counted {
+    pub outcome: Outcome,
+    pub cursor: Cursor,
+    pub count: usize,
+    pub at: usize,
+}
+
+// The bytes of a run's choices: how many entries, how many used, whether it grows, entries, numbers of ways.
+pub const RUN: usize = 131;
+
+// How far above the base of a record its parts stand: the right operand, or the next one of an enumeration; and the next after that.
+const NEXT: usize = 512;
+
+const AFTER: usize = 1024;
+
+// How many bytes a record takes from its base on, before its operands' own.
+const LEVEL: usize = 2048;
+
+// An operator's answer at the record r.
+fn answer(a: Applied, r: usize) -> Outcome
+    ensures { λ o. ⌜ o ≡ applied a r ⌝ }
+{
+    match a {
+        Applied::Done => Outcome::Value,
+        Applied::Refused(n) => Outcome::Refused(n, r, 0),
+    }
+}
+
+// 4: a unary operator.
+fn un(
+    table: &[u8],
+    index: &[u16; 200],
+    r: usize,
+    s: &mut [u8],
+    base: usize,
+    env: Env,
+    run: &mut [u8; RUN],
+) -> Outcome
+    requires { ⌜ Ask (now table) (now index) r (now s) base env (lent (now run)) × (kindAt (records (now table)) r ≡ 4) ⌝ }
+    ensures { λ o. ⌜ Evaluates (now (table .entry)) r (now (s .entry)) (now (s .exit)) base env (lent (now (run .entry))) (ended o (lent (now (run .exit)))) ⌝ }
+{
+    let a = operand(table, index, r, 0);
+    let o = eval(table, index, a, s, base, env, run);
+    let Outcome::Value = o else {
+        return o;
+    };
+    let op = field(table, index, r, 0);
+    let applied = operations::unary(s, base, op);
+    answer(applied, r)
+}
+
+// 5, 11, 21: what takes both operands: a strict binary operator, a set range, an application.
+fn bin(
+    table: &[u8],
+    index: &[u16; 200],
+    r: usize,
+    s: &mut [u8],
+    base: usize,
+    env: Env,
+    run: &mut [u8; RUN],
+    k: usize,
+    op: usize,
+) -> Outcome
+    requires { ⌜ Ask (now table) (now index) r (now s) base env (lent (now run)) × (kindAt (records (now table)) r ≡ k) × Strict (now table) r k op ⌝ }
+    ensures { λ o. ⌜ Evaluates (now (table .entry)) r (now (s .entry)) (now (s .exit)) base env (lent (now (run .entry))) (ended o (lent (now (run .exit)))) ⌝ }
+{
+    let a = operand(table, index, r, 0);
+    let o = eval(table, index, a, s, base, env, run);
+    let Outcome::Value = o else {
+        return o;
+    };
+    let b = operand(table, index, r, 1);
+    let q = eval(table, index, b, s, base + NEXT, env, run);
+    let Outcome::Value = q else {
+        return q;
+    };
+    let applied = two(s, base, k, op);
+    answer(applied, r)
+}
+
+// 5: and, or, =>.
+fn logic(
+    table: &[u8],
+    index: &[u16; 200],
+    r: usize,
+    s: &mut [u8],
+    base: usize,
+    env: Env,
+    run: &mut [u8; RUN],
+    op: usize,
+) -> Outcome
+    requires { ⌜ Ask (now table) (now index) r (now s) base env (lent (now run)) × (kindAt (records (now table)) r ≡ 5) × (op ≡ operatorAt (now table) r) × (op ≤ 3) ⌝ }
+    ensures { λ o. ⌜ Evaluates (now (table .entry)) r (now (s .entry)) (now (s .exit)) base env (lent (now (run .entry))) (ended o (lent (now (run .exit)))) ⌝ }
+{
+    let a = operand(table, index, r, 0);
+    let o = eval(table, index, a, s, base, env, run);
+    let Outcome::Value = o else {
+        return o;
+    };
+    let t = scalars::left(s, base, op);
+    match t {
+        Tested::Settled => o,
+        Tested::Refused(n) => Outcome::Refused(n, r, 0),
+        Tested::Open => {
+            let b = operand(table, index, r, 1);
+            let q = eval(table, index, b, s, base, env, run);
+            let Outcome::Value = q else {
+                return q;
+            };
+            let applied = scalars::right(s, base);
+            answer(applied, r)
+        }
+    }
+}
+
+// 6: if.
+fn cond(
+    table: &[u8],
+    index: &[u16; 200],
+    r: usize,
+    s: &mut [u8],
+    base: usize,
+    env: Env,
+    run: &mut [u8; RUN],
+) -> Outcome
+    requires { ⌜ Ask (now table) (now index) r (now s) base env (lent (now run)) × (kindAt (records (now table)) r ≡ 6) ⌝ }
+    ensures { λ o. ⌜ Evaluates (now (table .entry)) r (now (s .entry)) (now (s .exit)) base env (lent (now (run .entry))) (ended o (lent (now (run .exit)))) ⌝ }
+{
+    let a = operand(table, index, r, 0);
+    let o = eval(table, index, a, s, base, env, run);
+    let Outcome::Value = o else {
+        return o;
+    };
+    let t = test(s, base);
+    match t {
+        Truth::Other => Outcome::Refused(Applied::WRONG_KIND, r, 0),
+        Truth::True => {
+            let b = operand(table, index, r, 1);
+            eval(table, index, b, s, base, env, run)
+        }
+        Truth::False => {
+            let d = operand(table, index, r, 2);
+            eval(table, index, d, s, base, env, run)
+        }
+    }
+}
+
+// 7, 8, 10: a set, a sequence, a tuple. A refusal of the building is kept while the other operands are evaluated.
+fn many(
+    table: &[u8],
+    index: &[u16; 200],
+    r: usize,
+    s: &mut [u8],
+    base: usize,
+    env: Env,
+    run: &mut [u8; RUN],
+    k: usize,
+) -> Outcome
+    requires { ⌜ Ask (now table) (now index) r (now s) base env (lent (now run)) × (kindAt (records (now table)) r ≡ k) × Enumerated k ⌝ }
+    ensures { λ o. ⌜ Evaluates (now (table .entry)) r (now (s .entry)) (now (s .exit)) base env (lent (now (run .entry))) (ended o (lent (now (run .exit)))) ⌝ }
+{
+    let n = operand_count(table, index, r);
+    put_empty(s, base, started(k));
+    let mut bad = 0;
+    let mut i = 0;
+    while i < n {
+        let a = operand(table, index, r, i);
+        let o = eval(table, index, a, s, base + NEXT, env, run);
+        let Outcome::Value = o else {
+            return o;
+        };
+        bad = add(s, base, k, bad);
+        i += 1;
+    }
+    finish(s, base, k, bad, r)
+}
+
+// 9: a map, key by key and value by value.
+fn maps(
+    table: &[u8],
+    index: &[u16; 200],
+    r: usize,
+    s: &mut [u8],
+    base: usize,
+    env: Env,
+    run: &mut [u8; RUN],
+) -> Outcome
+    requires { ⌜ Ask (now table) (now index) r (now s) base env (lent (now run)) × (kindAt (records (now table)) r ≡ 9) ⌝ }
+    ensures { λ o. ⌜ Evaluates (now (table .entry)) r (now (s .entry)) (now (s .exit)) base env (lent (now (run .entry))) (ended o (lent (now (run .exit)))) ⌝ }
+{
+    let n = operand_count(table, index, r);
+    put_empty(s, base, 5);
+    let mut bad = 0;
+    let mut i = 0;
+    while i < n {
+        let a = operand(table, index, r, i);
+        let o = eval(table, index, a, s, base + NEXT, env, run);
+        let Outcome::Value = o else {
+            return o;
+        };
+        let b = operand(table, index, r, i + 1);
+        let q = eval(table, index, b, s, base + AFTER, env, run);
+        let Outcome::Value = q else {
+            return q;
+        };
+        bad = enter_next(s, base, bad);
+        i += 2;
+    }
+    finish(s, base, 9, bad, r)
+}
+
+// ---- binders: from the base on stand the set or value, the window of its bindings, what is built, and what an operand gives under a binding
+
+// Operand 1 of the binder r of kind k is evaluated, and its bindings are formed.
+fn begin(
+    table: &[u8],
+    index: &[u16; 200],
+    r: usize,
+    s: &mut [u8],
+    base: usize,
+    env: Env,
+    run: &mut [u8; RUN],
+    k: usize,
+) -> Placed
+    requires { ⌜ Ask (now table) (now index) r (now s) base env (lent (now run)) × (kindAt (records (now table)) r ≡ k) × Binder k ⌝ }
+    ensures { λ x. ⌜ Begins (now (table .entry)) r k (now (s .entry)) (now (s .exit)) base env (lent (now (run .entry))) x (lent (now (run .exit))) ⌝ }
+{
+    let a = operand(table, index, r, 1);
+    let o = eval(table, index, a, s, base, env, run);
+    let Outcome::Value = o else {
+        return Placed {
+            outcome: o,
+            cursor: nowhere(),
+        };
+    };
+    if !suits(s, base, k) {
+        return Placed {
+            outcome: Outcome::Refused(Applied::WRONG_KIND, r, 0),
+            cursor: nowhere(),
+        };
+    }
+    let p = operand(table, index, r, 0);
+    let opened = bindings::open(table, index, p, s, base, k == 12, base + WINDOW);
+    opening(opened, r)
+}
+
+// Operand i of the binder r, evaluated under binding j at a place above base.
+fn inside(
+    table: &[u8],
+    index: &[u16; 200],
+    r: usize,
+    s: &mut [u8],
+    base: usize,
+    env: Env,
+    run: &mut [u8; RUN],
+    whole: bool,
+    cursor: Cursor,
+    j: usize,
+    i: usize,
+    up: usize,
+) -> Placed
+    requires { ⌜ Stands (now table) (now index) r whole (now s) base env (lent (now run)) cursor j × HasOperand (now table) (now index) r i × Upward up ⌝ }
+    ensures { λ x. ⌜ Insides (now (table .entry)) r (operandAt (now (table .entry)) r i) whole (now (s .entry)) (now (s .exit)) base up env (lent (now (run .entry))) cursor j x (lent (now (run .exit))) ⌝ }
+{
+    let p = operand(table, index, r, 0);
+    let near = bindings::reach(table, index, p, s, base, whole, base + WINDOW, cursor, j);
+    let inner = bindings::under(s, base + WINDOW, near, j, env);
+    let q = operand(table, index, r, i);
+    let outcome = eval(table, index, q, s, base + up, inner, run);
+    Placed {
+        outcome,
+        cursor: near,
+    }
+}
+
+// Does the condition of the binder r hold under binding j?
+fn holds(
+    table: &[u8],
+    index: &[u16; 200],
+    r: usize,
+    s: &mut [u8],
+    base: usize,
+    env: Env,
+    run: &mut [u8; RUN],
+    cursor: Cursor,
+    j: usize,
+) -> Held
+    requires { ⌜ Stands (now table) (now index) r false (now s) base env (lent (now run)) cursor j ⌝ }
+    ensures { λ h. ⌜ Tests (now (table .entry)) r (now (s .entry)) (now (s .exit)) base env (lent (now (run .entry))) cursor j h (lent (now (run .exit))) ⌝ }
+{
+    let x = inside(
+        table,
+        index,
+        r,
+        s,
+        base,
+        env,
+        run,
+        false,
+        cursor,
+        j,
+        2,
+        INSIDE,
+    );
+    let o = x.outcome;
+    let near = x.cursor;
+    let Outcome::Value = o else {
+        return Held {
+            outcome: o,
+            cursor: near,
+            yes: false,
+        };
+    };
+    let t = test(s, base + INSIDE);
+    judge(t, r, near)
+}
+
+// 14, 15: forall stops at the first false, exists at the first true.
+fn quant(
+    table: &[u8],
+    index: &[u16; 200],
+    r: usize,
+    s: &mut [u8],
+    base: usize,
+    env: Env,
+    run: &mut [u8; RUN],
+    k: usize,
+    want: bool,
+) -> Outcome
+    requires { ⌜ Ask (now table) (now index) r (now s) base env (lent (now run)) × (kindAt (records (now table)) r ≡ k) × (k ≡ quantified want) ⌝ }
+    ensures { λ o. ⌜ Evaluates (now (table .entry)) r (now (s .entry)) (now (s .exit)) base env (lent (now (run .entry))) (ended o (lent (now (run .exit)))) ⌝ }
+{
+    let b = begin(table, index, r, s, base, env, run, k);
+    let o = b.outcome;
+    let Outcome::Value = o else {
+        return o;
+    };
+    let mut cursor = b.cursor;
+    let n = cursor.count;
+    let mut found = !want;
+    let mut j = 0;
+    'all: while j < n {
+        let h = holds(table, index, r, s, base, env, run, cursor, j);
+        let q = h.outcome;
+        let Outcome::Value = q else {
+            return q;
+        };
+        cursor = h.cursor;
+        if agree(h.yes, want) {
+            found = want;
+            break 'all;
+        }
+        j += 1;
+    }
+    values::put_boolean(s, base, found);
+    Outcome::Value
+}
+
+// 13, 16, 17: all bindings are tested. The satisfying ones are counted, and the wanted one is remembered as it passes.
+fn survey(
+    table: &[u8],
+    index: &[u16; 200],
+    r: usize,
+    s: &mut [u8],
+    base: usize,
+    env: Env,
+    run: &mut [u8; RUN],
+    k: usize,
+) -> Counted
+    requires { ⌜ Ask (now table) (now index) r (now s) base env (lent (now run)) × (kindAt (records (now table)) r ≡ k) × Surveyed k ⌝ }
+    ensures { λ v. ⌜ Surveys (now (table .entry)) r k (now (s .entry)) (now (s .exit)) base env (lent (now (run .entry))) v (lent (now (run .exit))) ⌝ }
+{
+    let b = begin(table, index, r, s, base, env, run, k);
+    let o = b.outcome;
+    let mut cursor = b.cursor;
+    let Outcome::Value = o else {
+        return Counted {
+            outcome: o,
+            cursor,
+            count: 0,
+            at: 0,
+        };
+    };
+    let due = wanted(run, k);
+    let n = cursor.count;
+    let mut count = 0;
+    let mut at = 0;
+    let mut j = 0;
+    while j < n {
+        let h = holds(table, index, r, s, base, env, run, cursor, j);
+        let q = h.outcome;
+        cursor = h.cursor;
+        let Outcome::Value = q else {
+            return Counted {
+                outcome: q,
+                cursor,
+                count,
+                at,
+            };
+        };
+        at = mark(h.yes, count, due, j, at);
+        count = tally(h.yes, count);
+        j += 1;
+    }
+    Counted {
+        outcome: Outcome::Value,
+        cursor,
+        count,
+        at,
+    }
+}
+
+// 16, 17: is there exactly one; the one that there is.
+fn one(
+    table: &[u8],
+    index: &[u16; 200],
+    r: usize,
+    s: &mut [u8],
+    base: usize,
+    env: Env,
+    run: &mut [u8; RUN],
+    k: usize,
+) -> Outcome
+    requires { ⌜ Ask (now table) (now index) r (now s) base env (lent (now run)) × (kindAt (records (now table)) r ≡ k) × Unique k ⌝ }
+    ensures { λ o. ⌜ Evaluates (now (table .entry)) r (now (s .entry)) (now (s .exit)) base env (lent (now (run .entry))) (ended o (lent (now (run .exit)))) ⌝ }
+{
+    let v = survey(table, index, r, s, base, env, run, k);
+    let o = v.outcome;
+    let Outcome::Value = o else {
+        return o;
+    };
+    if k == 16 {
+        values::put_boolean(s, base, v.count == 1);
+        return Outcome::Value;
+    }
+    if v.count != 1 {
+        return Outcome::Refused(25, r, 0);
+    }
+    let cursor = v.cursor;
+    fetch(table, index, r, s, base, env, cursor, v.at);
+    Outcome::Value
+}
+
+// 13: let-be. A choice among the satisfying bindings, and the body under the one chosen.
+fn such(
+    table: &[u8],
+    index: &[u16; 200],
+    r: usize,
+    s: &mut [u8],
+    base: usize,
+    env: Env,
+    run: &mut [u8; RUN],
+) -> Outcome
+    requires { ⌜ Ask (now table) (now index) r (now s) base env (lent (now run)) × (kindAt (records (now table)) r ≡ 13) ⌝ }
+    ensures { λ o. ⌜ Evaluates (now (table .entry)) r (now (s .entry)) (now (s .exit)) base env (lent (now (run .entry))) (ended o (lent (now (run .exit)))) ⌝ }
+{
+    let v = survey(table, index, r, s, base, env, run, 13);
+    let o = v.outcome;
+    let Outcome::Value = o else {
+        return o;
+    };
+    let n = v.count;
+    if n == 0 {
+        return Outcome::Refused(24, r, 0);
+    }
+    let a = choose(run, n);
+    let Answer::Taken(_) = a else {
+        return unchosen(a, r, n);
+    };
+    let cursor = v.cursor;
+    let x = inside(
+        table,
+        index,
+        r,
+        s,
+        base,
+        env,
+        run,
+        false,
+        cursor,
+        v.at,
+        3,
+        INSIDE,
+    );
+    let q = x.outcome;
+    let Outcome::Value = q else {
+        return q;
+    };
+    values::copy_value(s, base + INSIDE, base);
+    Outcome::Value
+}
+
+// 12: let. A loose pattern chooses among its bindings.
+fn local(
+    table: &[u8],
+    index: &[u16; 200],
+    r: usize,
+    s: &mut [u8],
+    base: usize,
+    env: Env,
+    run: &mut [u8; RUN],
+) -> Outcome
+    requires { ⌜ Ask (now table) (now index) r (now s) base env (lent (now run)) × (kindAt (records (now table)) r ≡ 12) ⌝ }
+    ensures { λ o. ⌜ Evaluates (now (table .entry)) r (now (s .entry)) (now (s .exit)) base env (lent (now (run .entry))) (ended o (lent (now (run .exit)))) ⌝ }
+{
+    let b = begin(table, index, r, s, base, env, run, 12);
+    let o = b.outcome;
+    let Outcome::Value = o else {
+        return o;
+    };
+    let cursor = b.cursor;
+    let n = cursor.count;
+    if n == 0 {
+        return Outcome::Refused(23, r, 0);
+    }
+    let p = operand(table, index, r, 0);
+    let loose = is_loose(table, index, p);
+    let a = decide(run, n, loose);
+    let Answer::Taken(i) = a else {
+        return unchosen(a, r, n);
+    };
+    let x = inside(
+        table,
+        index,
+        r,
+        s,
+        base,
+        env,
+        run,
+        true,
+        cursor,
+        i,
+        2,
+        INSIDE,
+    );
+    let q = x.outcome;
+    let Outcome::Value = q else {
+        return q;
+    };
+    values::copy_value(s, base + INSIDE, base);
+    Outcome::Value
+}
+
+// 18, 19: an element, evaluated under binding j and added to what is built.
+fn item(
+    table: &[u8],
+    index: &[u16; 200],
+    r: usize,
+    s: &mut [u8],
+    base: usize,
+    env: Env,
+    run: &mut [u8; RUN],
+    k: usize,
+    cursor: Cursor,
+    j: usize,
+) -> Placed
+    requires { ⌜ Extends (now table) (now index) r k (now s) base env (lent (now run)) cursor j × (k < 20) ⌝ }
+    ensures { λ x. ⌜ Extended (addsIn (now (table .entry)) r k) (now (table .entry)) r k (now (s .entry)) (now (s .exit)) base env (lent (now (run .entry))) cursor j x (lent (now (run .exit))) ⌝ }
+{
+    let x = inside(
+        table,
+        index,
+        r,
+        s,
+        base,
+        env,
+        run,
+        false,
+        cursor,
+        j,
+        3,
+        INSIDE,
+    );
+    let o = x.outcome;
+    let Outcome::Value = o else {
+        return x;
+    };
+    let bad = add(s, base + BUILT, k - 11, 0);
+    let near = x.cursor;
+    Placed {
+        outcome: built(bad, r),
+        cursor: near,
+    }
+}
+
+// 20: a key and a value, evaluated under binding j and entered into what is built.
+fn pair(
+    table: &[u8],
+    index: &[u16; 200],
+    r: usize,
+    s: &mut [u8],
+    base: usize,
+    env: Env,
+    run: &mut [u8; RUN],
+    cursor: Cursor,
+    j: usize,
+) -> Placed
+    requires { ⌜ Extends (now table) (now index) r 20 (now s) base env (lent (now run)) cursor j ⌝ }
+    ensures { λ x. ⌜ Extended (addsIn (now (table .entry)) r 20) (now (table .entry)) r 20 (now (s .entry)) (now (s .exit)) base env (lent (now (run .entry))) cursor j x (lent (now (run .exit))) ⌝ }
+{
+    let x = inside(
+        table,
+        index,
+        r,
+        s,
+        base,
+        env,
+        run,
+        false,
+        cursor,
+        j,
+        3,
+        INSIDE,
+    );
+    let o = x.outcome;
+    let Outcome::Value = o else {
+        return x;
+    };
+    let next = x.cursor;
+    let y = inside(table, index, r, s, base, env, run, false, next, j, 4, LEVEL);
+    let q = y.outcome;
+    let Outcome::Value = q else {
+        return y;
+    };
+    let bad = enter_next(s, base + BUILT, 0);
+    let near = y.cursor;
+    Placed {
+        outcome: built(bad, r),
+        cursor: near,
+    }
+}
+
+// One binding of a comprehension: its condition, and where that holds what is added.
+fn step(
+    table: &[u8],
+    index: &[u16; 200],
+    r: usize,
+    s: &mut [u8],
+    base: usize,
+    env: Env,
+    run: &mut [u8; RUN],
+    k: usize,
+    cursor: Cursor,
+    j: usize,
+) -> Placed
+    requires { ⌜ Extends (now table) (now index) r k (now s) base env (lent (now run)) cursor j ⌝ }
+    ensures { λ x. ⌜ Extended (stepIn (now (table .entry)) r k) (now (table .entry)) r k (now (s .entry)) (now (s .exit)) base env (lent (now (run .entry))) cursor j x (lent (now (run .exit))) ⌝ }
+{
+    let h = holds(table, index, r, s, base, env, run, cursor, j);
+    let o = h.outcome;
+    let near = h.cursor;
+    let Outcome::Value = o else {
+        return Placed {
+            outcome: o,
+            cursor: near,
+        };
+    };
+    if !h.yes {
+        return Placed {
+            outcome: Outcome::Value,
+            cursor: near,
+        };
+    }
+    if k == 20 {
+        return pair(table, index, r, s, base, env, run, near, j);
+    }
+    item(table, index, r, s, base, env, run, k, near, j)
+}
+
+// 18, 19, 20: a set, a sequence, a map, built binding by binding.
+fn comp(
+    table: &[u8],
+    index: &[u16; 200],
+    r: usize,
+    s: &mut [u8],
+    base: usize,
+    env: Env,
+    run: &mut [u8; RUN],
+    k: usize,
+) -> Outcome
+    requires { ⌜ Ask (now table) (now index) r (now s) base env (lent (now run)) × (kindAt (records (now table)) r ≡ k) × Comprehension k ⌝ }
+    ensures { λ o. ⌜ Evaluates (now (table .entry)) r (now (s .entry)) (now (s .exit)) base env (lent (now (run .entry))) (ended o (lent (now (run .exit)))) ⌝ }
+{
+    let b = begin(table, index, r, s, base, env, run, k);
+    let o = b.outcome;
+    let Outcome::Value = o else {
+        return o;
+    };
+    put_empty(s, base + BUILT, k - 15);
+    let mut cursor = b.cursor;
+    let n = cursor.count;
+    let mut j = 0;
+    while j < n {
+        let x = step(table, index, r, s, base, env, run, k, cursor, j);
+        let q = x.outcome;
+        let Outcome::Value = q else {
+            return q;
+        };
+        cursor = x.cursor;
+        j += 1;
+    }
+    values::copy_value(s, base + BUILT, base);
+    Outcome::Value
+}
+
+// The record r evaluated.
+pub fn eval(
+    table: &[u8],
+    index: &[u16; 200],
+    r: usize,
+    s: &mut [u8],
+    base: usize,
+    env: Env,
+    run: &mut [u8; RUN],
+) -> Outcome
+    requires { ⌜ Ask (now table) (now index) r (now s) base env (lent (now run)) ⌝ }
+    ensures { λ o. ⌜ Evaluates (now (table .entry)) r (now (s .entry)) (now (s .exit)) base env (lent (now (run .entry))) (ended o (lent (now (run .exit)))) ⌝ }
+{
+    let k = kind(table, index, r);
+    match k {
+        1 => truth(table, index, r, s, base, env, run),
+        2 => whole(table, index, r, s, base, env, run),
+        3 => name(table, index, r, s, base, env, run),
+        4 => un(table, index, r, s, base, env, run),
+        5 => {
+            let op = field(table, index, r, 0);
+            if op <= 3 {
+                return logic(table, index, r, s, base, env, run, op);
+            }
+            bin(table, index, r, s, base, env, run, k, op)
+        }
+        6 => cond(table, index, r, s, base, env, run),
+        7 => many(table, index, r, s, base, env, run, k),
+        8 => many(table, index, r, s, base, env, run, k),
+        9 => maps(table, index, r, s, base, env, run),
+        10 => many(table, index, r, s, base, env, run, k),
+        11 => bin(table, index, r, s, base, env, run, k, 0),
+        12 => local(table, index, r, s, base, env, run),
+        13 => such(table, index, r, s, base, env, run),
+        14 => quant(table, index, r, s, base, env, run, k, false),
+        15 => quant(table, index, r, s, base, env, run, k, true),
+        16 => one(table, index, r, s, base, env, run, k),
+        17 => one(table, index, r, s, base, env, run, k),
+        18 => comp(table, index, r, s, base, env, run, k),
+        19 => comp(table, index, r, s, base, env, run, k),
+        20 => comp(table, index, r, s, base, env, run, k),
+        21 => bin(table, index, r, s, base, env, run, k, 0),
+        _ => Outcome::Refused(Applied::WRONG_KIND, r, 0),
+    }
+}
+
+// The run of an accepted, indexed table under the lent choices, over the scratch of a service. Its value is left at the start of scratch.
+pub fn run_sheet(
+    table: &[u8],
+    index: &[u16; 200],
+    count: usize,
+    s: &mut [u8],
+    run: &mut [u8; RUN],
+) -> Outcome
+    requires { ⌜ Runnable (now table) (now index) count (now s) (lent (now run)) ⌝ }
+    ensures { λ o. ⌜ Runs (now (table .entry)) (now (s .exit)) (lent (now (run .entry))) (ended o (lent (now (run .exit)))) ⌝ }
+{
+    let env = Env::empty();
+    eval(table, index, count - 1, s, 0, env, run)
+}

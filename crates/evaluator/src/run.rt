@@ -1,0 +1,83 @@
+// The choices of a run as lent bytes: how many entries, how many used, whether it grows, 64 entries, 64 numbers of ways.
+use crate::RUN;
+use choices::Answer;
+ghost use mathlib.Core.Path.{_≡_};
+ghost use Prim.Native.Nat.{_<_};
+ghost use Rattle.choices.specs.State.{Invariant, Chosen};
+ghost use Rattle.evaluator.specs.Run.{lent};
+ghost use Rattle.evaluator.specs.Binding.{dueFor, Picks};
+
+// Where the bytes stand.
+const LEN: usize = 0;
+
+const USED: usize = 1;
+
+const GROW: usize = 2;
+
+const ENTRIES: usize = 3;
+
+const COUNTS: usize = 67;
+
+const LIMIT: usize = 64;
+
+fn number(b: u8) -> usize
+    ensures { λ r. ⌜ r ≡ b ⌝ }
+{
+    b as usize
+}
+
+// Which of the satisfying bindings is wanted: by a let-be the one that it will choose, by other binders the first.
+pub fn wanted(run: &[u8; RUN], k: usize) -> usize
+    requires { ⌜ Invariant (lent (now run)) ⌝ }
+    ensures { λ d. ⌜ d ≡ dueFor k (lent (now (run .entry))) ⌝ }
+{
+    if k != 13 {
+        return 0;
+    }
+    let used = run[USED] as usize;
+    let len = run[LEN] as usize;
+    if used < len {
+        return number(run[ENTRIES + used]);
+    }
+    0
+}
+
+// A choice among n ways takes the next entry.
+pub fn choose(run: &mut [u8; RUN], n: usize) -> Answer
+    requires { ⌜ Invariant (lent (now run)) × (0 < n) × (n < 256) ⌝ }
+    ensures { λ a. ⌜ Chosen (lent (now (run .entry))) n (record { answer = a; state = lent (now (run .exit)) }) ⌝ }
+{
+    let used = run[USED] as usize;
+    if LIMIT <= used {
+        return Answer::Many;
+    }
+    let len = run[LEN] as usize;
+    if used < len {
+        let entry = number(run[ENTRIES + used]);
+        if n <= entry {
+            return Answer::Beyond;
+        }
+        run[COUNTS + used] = n as u8;
+        run[USED] = (used + 1) as u8;
+        return Answer::Taken(entry);
+    }
+    let grow = number(run[GROW]);
+    if grow == 1 {
+        run[COUNTS + used] = n as u8;
+        run[LEN] = (used + 1) as u8;
+        run[USED] = (used + 1) as u8;
+        return Answer::Taken(0);
+    }
+    Answer::Short
+}
+
+// A loose let chooses among its n bindings, another takes its only one.
+pub fn decide(run: &mut [u8; RUN], n: usize, loose: bool) -> Answer
+    requires { ⌜ Invariant (lent (now run)) × (0 < n) × (n < 256) ⌝ }
+    ensures { λ a. ⌜ Picks loose (lent (now (run .entry))) n a (lent (now (run .exit))) ⌝ }
+{
+    if loose {
+        return choose(run, n);
+    }
+    Answer::Taken(0)
+}

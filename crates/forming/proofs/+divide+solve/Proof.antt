@@ -1,0 +1,719 @@
+use mathlib.Core.Path.{sym, subst}
+use mathlib.Core.Logic.{⊎-elim}
+use Prim.Native.Nat.{_+_, _-_, _*_, ℕ, _<_}
+use native.Mathlib.Omega.{arith}
+use borrow.Author.Needs.{needs}
+use borrow.Author.Tests.{not-true, not-false}
+use Rattle.parts.specs.declared.Part.{Part}
+use Rattle.parts.specs.Part.{PartIs}
+use Rattle.matching.proofs.Records.{count-few}
+use Rattle.forming.proofs.Solving.{SolveSoFar, solve-start, head-low, entry-low, entry-readable, next-lower, divide-asked, divide-told, leaf-asked, solve-failed, solve-more, enter-asked, solve-end, DivideSoFar, divide-start, push-asked, top-room, falls-on, recast-word, part-of, solve-asked, divide-full, divide-more, divide-end, divide-none, ways-few}
+use borrow.Fn.Kinds.{In}
+use borrow.Fn.PlainCycle.{Measures, is, falls, and}
+use Rattle.forming.proofs.divide.Reads as divide
+use Rattle.forming.proofs.divide.Kinds as divide-kinds
+use Rattle.forming.proofs.+divide+solve.Lts-divide as divide-lts
+use Rattle.forming.proofs.solve.Reads as solve
+use Rattle.forming.proofs.solve.Kinds as solve-kinds
+use Rattle.forming.proofs.+divide+solve.Lts-solve as solve-lts
+use Rattle.forming.proofs.push.Reads as push-reads
+use Rattle.forming.proofs.rows.enter.Reads as enter-reads
+use Rattle.matching.proofs.leaves.match_leaf.Reads as match-leaf-reads
+use Rattle.matching.proofs.nodes.meet.Reads as meet-reads
+use Rattle.parts.proofs.words.unpack.Reads as unpack-reads
+use Rattle.tables.proofs.reading.kind.Reads as kind-reads
+use Rattle.tables.proofs.reading.operand_count.Reads as operand-count-reads
+use Rattle.forming.proofs.+divide+solve.{statement}
+use Rattle.forming.proofs.+divide+solve.Tie.{close}
+
+abbrev μ-divide : Measures 6 divide-kinds.ps ℕ
+μ-divide κs a = 2 * (201 * (201 - a .1 .1 .1 .1 .1 .1 .1 .0) + a .1 .1 .1 .1 .1 .1 .0) + 2
+
+abbrev μ-solve : Measures 6 solve-kinds.ps ℕ
+μ-solve κs a = 2 * (201 * (201 - a .1 .1 .1 .1 .1 .0) + a .1 .1 .1 .1 .0) + 1
+
+abbrev divide-at : ℕ → In 6 divide-kinds.ps
+divide-at t = and 6 divide-kinds.ps (is 6 divide-kinds.ps μ-divide t) divide.Pre
+
+abbrev divide-below : ℕ → In 6 divide-kinds.ps
+divide-below t = and 6 divide-kinds.ps (falls 6 divide-kinds.ps _<_ μ-divide t) divide.Pre
+
+abbrev solve-at : ℕ → In 6 solve-kinds.ps
+solve-at t = and 6 solve-kinds.ps (is 6 solve-kinds.ps μ-solve t) solve.Pre
+
+abbrev solve-below : ℕ → In 6 solve-kinds.ps
+solve-below t = and 6 solve-kinds.ps (falls 6 solve-kinds.ps _<_ μ-solve t) solve.Pre
+
+abbrev divide-Inv-loop : divide-lts.InvT-loop
+divide-Inv-loop table index p s word agenda₀ next top found rows₀ order₀ n k c n₀ w d₀ agenda rows order n' d = DivideSoFar table index p s word agenda₀ next top found rows₀ order₀ n w agenda rows order n' d
+
+abbrev divide-μ-loop : divide-lts.MeasureT-loop
+divide-μ-loop table index p s word agenda₀ next top found rows₀ order₀ n k c n₀ w d₀ agenda rows order n' d = w - d
+
+-- src/lib.rt:110:9
+divide-kind-requires : (t : ℕ) → divide-lts.Need-kind-requires (
+  kind-reads.Asked,
+  kind-reads.Learnt,
+  operand-count-reads.Asked,
+  operand-count-reads.Learnt,
+  unpack-reads.Asked,
+  unpack-reads.Learnt,
+  meet-reads.Asked,
+  meet-reads.Learnt,
+  push-reads.Asked,
+  push-reads.Learnt,
+  solve-below t,
+  solve.Post,
+) (divide-at t) divide.Post divide-Inv-loop divide-μ-loop
+divide-kind-requires t c κs = c .before .before .pre .1 .readable .here
+
+-- src/lib.rt:111:9
+divide-operand-count-requires : (t : ℕ) → divide-lts.Need-operand-count-requires (
+  kind-reads.Asked,
+  kind-reads.Learnt,
+  operand-count-reads.Asked,
+  operand-count-reads.Learnt,
+  unpack-reads.Asked,
+  unpack-reads.Learnt,
+  meet-reads.Asked,
+  meet-reads.Learnt,
+  push-reads.Asked,
+  push-reads.Learnt,
+  solve-below t,
+  solve.Post,
+) (divide-at t) divide.Post divide-Inv-loop divide-μ-loop
+divide-operand-count-requires t c κs = c .before .before .before .pre .1 .readable .here
+
+-- src/lib.rt:112:9
+divide-unpack-requires : (t : ℕ) → divide-lts.Need-unpack-requires (
+  kind-reads.Asked,
+  kind-reads.Learnt,
+  operand-count-reads.Asked,
+  operand-count-reads.Learnt,
+  unpack-reads.Asked,
+  unpack-reads.Learnt,
+  meet-reads.Asked,
+  meet-reads.Learnt,
+  push-reads.Asked,
+  push-reads.Learnt,
+  solve-below t,
+  solve.Post,
+) (divide-at t) divide.Post divide-Inv-loop divide-μ-loop
+divide-unpack-requires t c κs = search needs
+
+-- src/lib.rt:113:9
+divide-meet-requires : (t : ℕ) → divide-lts.Need-meet-requires (
+  kind-reads.Asked,
+  kind-reads.Learnt,
+  operand-count-reads.Asked,
+  operand-count-reads.Learnt,
+  unpack-reads.Asked,
+  unpack-reads.Learnt,
+  meet-reads.Asked,
+  meet-reads.Learnt,
+  push-reads.Asked,
+  push-reads.Learnt,
+  solve-below t,
+  solve.Post,
+) (divide-at t) divide.Post divide-Inv-loop divide-μ-loop
+divide-meet-requires t c κs = (omega (arith, c .before .before .kind .ensures .0, c .before .before .before .before .before .pre .1 .composed), omega (arith, c .before .before .kind .ensures .1), omega (arith, c .before .operand-count .ensures .0, count-few _ _ _ (c .before .before .before .before .before .pre .1 .readable) (c .before .before .before .before .before .pre .1 .composed)), part-of _ _ _ (c .before .before .before .before .before .pre .1 .value) (c .unpack .ensures) (c .before .before .before .before .before .pre .1 .here))
+
+-- src/lib.rt:115:26
+divide-enum-known-m : (t : ℕ) → divide-lts.Need-enum-known-m (
+  kind-reads.Asked,
+  kind-reads.Learnt,
+  operand-count-reads.Asked,
+  operand-count-reads.Learnt,
+  unpack-reads.Asked,
+  unpack-reads.Learnt,
+  meet-reads.Asked,
+  meet-reads.Learnt,
+  push-reads.Asked,
+  push-reads.Learnt,
+  solve-below t,
+  solve.Post,
+) (divide-at t) divide.Post divide-Inv-loop divide-μ-loop
+divide-enum-known-m t c = search needs
+
+-- src/lib.rt:117:9
+divide-loop-holds : (t : ℕ) → divide-lts.Need-loop-holds (
+  kind-reads.Asked,
+  kind-reads.Learnt,
+  operand-count-reads.Asked,
+  operand-count-reads.Learnt,
+  unpack-reads.Asked,
+  unpack-reads.Learnt,
+  meet-reads.Asked,
+  meet-reads.Learnt,
+  push-reads.Asked,
+  push-reads.Learnt,
+  solve-below t,
+  solve.Post,
+) (divide-at t) divide.Post divide-Inv-loop divide-μ-loop
+divide-loop-holds t c = divide-start _ _ _ _ _ _ _ _ _ _ _ _ (c .before .before .before .before .before .before .before .before .before .pre .1) _
+
+-- src/lib.rt:118:17
+divide-push-requires : (t : ℕ) → divide-lts.Need-push-requires (
+  kind-reads.Asked,
+  kind-reads.Learnt,
+  operand-count-reads.Asked,
+  operand-count-reads.Learnt,
+  unpack-reads.Asked,
+  unpack-reads.Learnt,
+  meet-reads.Asked,
+  meet-reads.Learnt,
+  push-reads.Asked,
+  push-reads.Learnt,
+  solve-below t,
+  solve.Post,
+) (divide-at t) divide.Post divide-Inv-loop divide-μ-loop
+divide-push-requires t c κs = push-asked _ _ _ _ _ _ _ _ _ _ _ _ (c .before .before .before .before .before .before .before .before .before .before .before .before .pre .1) (c .before .before .before .before .before .before .meet .result) (recast-word (c .before .before .before .before .before .before .before .before .before .before .before .before .args .word) _ _ _ _ (c .before .before .before .before .before .before .meet .result) (c .before .before .before .before .before .before .before .before .before .kind .ensures .0) (c .before .before .before .before .before .before .before .before .operand-count .ensures .0) (c .before .before .before .before .before .before .before .unpack .ensures) (c .before .before .before .before .before .before .meet .ensures)) _ (c .before .before .before .before .m .given .1) _ _ _ _ _ (c .before .before .loop .inv) (omega arith)
+
+-- src/lib.rt:119:58
+divide-add-solve : (t : ℕ) → divide-lts.Need-add-solve (
+  kind-reads.Asked,
+  kind-reads.Learnt,
+  operand-count-reads.Asked,
+  operand-count-reads.Learnt,
+  unpack-reads.Asked,
+  unpack-reads.Learnt,
+  meet-reads.Asked,
+  meet-reads.Learnt,
+  push-reads.Asked,
+  push-reads.Learnt,
+  solve-below t,
+  solve.Post,
+) (divide-at t) divide.Post divide-Inv-loop divide-μ-loop
+divide-add-solve t c = omega (arith, top-room _ _ _ _ _ _ _ _ _ _ _ _ (c .before .before .before .before .before .before .before .before .before .before .before .before .before .before .pre .1), c .before .before .before .before .before .before .before .before .before .before .operand-count .ensures .0)
+
+-- src/lib.rt:119:17
+divide-solve-requires : (t : ℕ) → divide-lts.Need-solve-requires (
+  kind-reads.Asked,
+  kind-reads.Learnt,
+  operand-count-reads.Asked,
+  operand-count-reads.Learnt,
+  unpack-reads.Asked,
+  unpack-reads.Learnt,
+  meet-reads.Asked,
+  meet-reads.Learnt,
+  push-reads.Asked,
+  push-reads.Learnt,
+  solve-below t,
+  solve.Post,
+) (divide-at t) divide.Post divide-Inv-loop divide-μ-loop
+divide-solve-requires t c κs = (omega (arith, c .before .before .before .before .before .before .before .before .before .before .before .before .before .before .before .before .pre .0, falls-on (c .before .before .before .before .before .before .before .before .before .before .before .before .before .before .before .before .args .top) (c .before .before .before .before .before .before .before .before .before .before .before .before .before .before .before .before .args .next) (c .before .before .before .before .before .before .before .before .before .before .before .before .operand-count .result) (c .before .before .before .push .result) (omega (arith, top-room _ _ _ _ _ _ _ _ _ _ _ _ (c .before .before .before .before .before .before .before .before .before .before .before .before .before .before .before .before .pre .1), c .before .before .before .before .before .before .before .before .before .before .before .before .operand-count .ensures .0)) (omega (arith, c .before .before .before .push .ensures .low, c .before .before .before .before .before .before .before .before .before .before .before .before .operand-count .ensures .0)) (λ z. c .before .before .before .push .ensures .none (omega (arith, c .before .before .before .before .before .before .before .before .before .before .before .before .operand-count .ensures .0, z)))), solve-asked _ _ _ _ _ _ _ _ _ _ _ _ (c .before .before .before .before .before .before .before .before .before .before .before .before .before .before .before .before .pre .1) (c .before .before .before .before .before .before .before .before .before .before .meet .result) (recast-word (c .before .before .before .before .before .before .before .before .before .before .before .before .before .before .before .before .args .word) _ _ _ _ (c .before .before .before .before .before .before .before .before .before .before .meet .result) (c .before .before .before .before .before .before .before .before .before .before .before .before .before .kind .ensures .0) (c .before .before .before .before .before .before .before .before .before .before .before .before .operand-count .ensures .0) (c .before .before .before .before .before .before .before .before .before .before .before .unpack .ensures) (c .before .before .before .before .before .before .before .before .before .before .meet .ensures)) _ (c .before .before .before .before .before .before .before .before .m .given .1) _ _ _ _ _ (c .before .before .before .before .before .before .loop .inv) (omega arith) _ _ (c .before .before .before .push .ensures) _ (c .before .before .before .before .before .before .before .before .before .before .before .before .operand-count .ensures .0))
+
+-- src/lib.rt:121:33
+divide-enum-known-r : (t : ℕ) → divide-lts.Need-enum-known-r (
+  kind-reads.Asked,
+  kind-reads.Learnt,
+  operand-count-reads.Asked,
+  operand-count-reads.Learnt,
+  unpack-reads.Asked,
+  unpack-reads.Learnt,
+  meet-reads.Asked,
+  meet-reads.Learnt,
+  push-reads.Asked,
+  push-reads.Learnt,
+  solve-below t,
+  solve.Post,
+) (divide-at t) divide.Post divide-Inv-loop divide-μ-loop
+divide-enum-known-r t c = search needs
+
+-- src/lib.rt:121:39
+divide-returns : (t : ℕ) → divide-lts.Need-returns (
+  kind-reads.Asked,
+  kind-reads.Learnt,
+  operand-count-reads.Asked,
+  operand-count-reads.Learnt,
+  unpack-reads.Asked,
+  unpack-reads.Learnt,
+  meet-reads.Asked,
+  meet-reads.Learnt,
+  push-reads.Asked,
+  push-reads.Learnt,
+  solve-below t,
+  solve.Post,
+) (divide-at t) divide.Post divide-Inv-loop divide-μ-loop
+divide-returns t c = divide-full _ _ _ _ _ _ _ _ _ _ _ _ (c .before .before .before .before .before .before .before .before .before .before .before .before .before .before .before .before .before .before .before .before .pre .1) (c .before .before .before .before .before .before .before .before .before .before .before .before .before .before .meet .result) (recast-word (c .before .before .before .before .before .before .before .before .before .before .before .before .before .before .before .before .before .before .before .before .args .word) _ _ _ _ (c .before .before .before .before .before .before .before .before .before .before .before .before .before .before .meet .result) (c .before .before .before .before .before .before .before .before .before .before .before .before .before .before .before .before .before .kind .ensures .0) (c .before .before .before .before .before .before .before .before .before .before .before .before .before .before .before .before .operand-count .ensures .0) (c .before .before .before .before .before .before .before .before .before .before .before .before .before .before .before .unpack .ensures) (c .before .before .before .before .before .before .before .before .before .before .before .before .before .before .meet .ensures)) _ (c .before .before .before .before .before .before .before .before .before .before .before .before .m .given .1) _ _ _ _ _ (c .before .before .before .before .before .before .before .before .before .before .loop .inv) (omega arith) _ _ (c .before .before .before .before .before .before .before .push .ensures) _ (c .before .before .before .before .before .before .before .before .before .before .before .before .before .before .before .before .operand-count .ensures .0) _ _ _ _ (c .before .before .before .solve .ensures) _ (c .before .r .given .1)
+
+-- src/lib.rt:122:32
+divide-enum-known-r-2 : (t : ℕ) → divide-lts.Need-enum-known-r-2 (
+  kind-reads.Asked,
+  kind-reads.Learnt,
+  operand-count-reads.Asked,
+  operand-count-reads.Learnt,
+  unpack-reads.Asked,
+  unpack-reads.Learnt,
+  meet-reads.Asked,
+  meet-reads.Learnt,
+  push-reads.Asked,
+  push-reads.Learnt,
+  solve-below t,
+  solve.Post,
+) (divide-at t) divide.Post divide-Inv-loop divide-μ-loop
+divide-enum-known-r-2 t c = search needs
+
+-- src/lib.rt:126:13
+divide-add-d : (t : ℕ) → divide-lts.Need-add-d (
+  kind-reads.Asked,
+  kind-reads.Learnt,
+  operand-count-reads.Asked,
+  operand-count-reads.Learnt,
+  unpack-reads.Asked,
+  unpack-reads.Learnt,
+  meet-reads.Asked,
+  meet-reads.Learnt,
+  push-reads.Asked,
+  push-reads.Learnt,
+  solve-below t,
+  solve.Post,
+) (divide-at t) divide.Post divide-Inv-loop divide-μ-loop
+divide-add-d t c = omega (arith, ways-few _ _ _ _ _ _ _ _ _ _ _ _ (c .before .before .before .before .before .before .before .before .before .before .before .before .before .before .before .before .before .before .before .before .pre .1) (c .before .before .before .before .before .before .before .before .before .before .before .before .before .before .meet .result) (recast-word (c .before .before .before .before .before .before .before .before .before .before .before .before .before .before .before .before .before .before .before .before .args .word) _ _ _ _ (c .before .before .before .before .before .before .before .before .before .before .before .before .before .before .meet .result) (c .before .before .before .before .before .before .before .before .before .before .before .before .before .before .before .before .before .kind .ensures .0) (c .before .before .before .before .before .before .before .before .before .before .before .before .before .before .before .before .operand-count .ensures .0) (c .before .before .before .before .before .before .before .before .before .before .before .before .before .before .before .unpack .ensures) (c .before .before .before .before .before .before .before .before .before .before .before .before .before .before .meet .ensures)) _ (c .before .before .before .before .before .before .before .before .before .before .before .before .m .given .1))
+
+-- src/lib.rt:117:9
+divide-loop-less : (t : ℕ) → divide-lts.Need-loop-less (
+  kind-reads.Asked,
+  kind-reads.Learnt,
+  operand-count-reads.Asked,
+  operand-count-reads.Learnt,
+  unpack-reads.Asked,
+  unpack-reads.Learnt,
+  meet-reads.Asked,
+  meet-reads.Learnt,
+  push-reads.Asked,
+  push-reads.Learnt,
+  solve-below t,
+  solve.Post,
+) (divide-at t) divide.Post divide-Inv-loop divide-μ-loop
+divide-loop-less t c = omega arith
+
+-- src/lib.rt:117:9
+divide-loop-again : (t : ℕ) → divide-lts.Need-loop-again (
+  kind-reads.Asked,
+  kind-reads.Learnt,
+  operand-count-reads.Asked,
+  operand-count-reads.Learnt,
+  unpack-reads.Asked,
+  unpack-reads.Learnt,
+  meet-reads.Asked,
+  meet-reads.Learnt,
+  push-reads.Asked,
+  push-reads.Learnt,
+  solve-below t,
+  solve.Post,
+) (divide-at t) divide.Post divide-Inv-loop divide-μ-loop
+divide-loop-again t c = divide-more _ _ _ _ _ _ _ _ _ _ _ _ (c .before .before .before .before .before .before .before .before .before .before .before .before .before .before .before .before .before .before .before .before .pre .1) (c .before .before .before .before .before .before .before .before .before .before .before .before .before .before .meet .result) (recast-word (c .before .before .before .before .before .before .before .before .before .before .before .before .before .before .before .before .before .before .before .before .args .word) _ _ _ _ (c .before .before .before .before .before .before .before .before .before .before .before .before .before .before .meet .result) (c .before .before .before .before .before .before .before .before .before .before .before .before .before .before .before .before .before .kind .ensures .0) (c .before .before .before .before .before .before .before .before .before .before .before .before .before .before .before .before .operand-count .ensures .0) (c .before .before .before .before .before .before .before .before .before .before .before .before .before .before .before .unpack .ensures) (c .before .before .before .before .before .before .before .before .before .before .before .before .before .before .meet .ensures)) _ (c .before .before .before .before .before .before .before .before .before .before .before .before .m .given .1) _ _ _ _ _ (c .before .before .before .before .before .before .before .before .before .before .loop .inv) (omega arith) _ _ (c .before .before .before .before .before .before .before .push .ensures) _ (c .before .before .before .before .before .before .before .before .before .before .before .before .before .before .before .before .operand-count .ensures .0) _ _ _ _ (c .before .before .before .solve .ensures) _ (c .before .r2 .given .1)
+
+-- src/lib.rt:93:1
+divide-returns-2 : (t : ℕ) → divide-lts.Need-returns-2 (
+  kind-reads.Asked,
+  kind-reads.Learnt,
+  operand-count-reads.Asked,
+  operand-count-reads.Learnt,
+  unpack-reads.Asked,
+  unpack-reads.Learnt,
+  meet-reads.Asked,
+  meet-reads.Learnt,
+  push-reads.Asked,
+  push-reads.Learnt,
+  solve-below t,
+  solve.Post,
+) (divide-at t) divide.Post divide-Inv-loop divide-μ-loop
+divide-returns-2 t c = divide-end _ _ _ _ _ _ _ _ _ _ _ _ (c .before .before .before .before .before .before .before .before .before .before .before .pre .1) (c .before .before .before .before .before .meet .result) (recast-word (c .before .before .before .before .before .before .before .before .before .before .before .args .word) _ _ _ _ (c .before .before .before .before .before .meet .result) (c .before .before .before .before .before .before .before .before .kind .ensures .0) (c .before .before .before .before .before .before .before .operand-count .ensures .0) (c .before .before .before .before .before .before .unpack .ensures) (c .before .before .before .before .before .meet .ensures)) _ (c .before .before .before .m .given .1) _ _ _ _ _ (c .before .loop .inv) (omega arith)
+
+-- src/lib.rt:93:1
+divide-returns-3 : (t : ℕ) → divide-lts.Need-returns-3 (
+  kind-reads.Asked,
+  kind-reads.Learnt,
+  operand-count-reads.Asked,
+  operand-count-reads.Learnt,
+  unpack-reads.Asked,
+  unpack-reads.Learnt,
+  meet-reads.Asked,
+  meet-reads.Learnt,
+  push-reads.Asked,
+  push-reads.Learnt,
+  solve-below t,
+  solve.Post,
+) (divide-at t) divide.Post divide-Inv-loop divide-μ-loop
+divide-returns-3 t c = divide-none _ _ _ _ _ _ _ _ _ _ _ _ (c .before .before .before .before .before .before .before .pre .1) (c .before .meet .result) (recast-word (c .before .before .before .before .before .before .before .args .word) _ _ _ _ (c .before .meet .result) (c .before .before .before .before .kind .ensures .0) (c .before .before .before .operand-count .ensures .0) (c .before .before .unpack .ensures) (c .before .meet .ensures)) (λ w d. ⊎-elim (λ k. let e = rw d at k in omega arith) (λ k. let e = rw d at k in omega arith) (c .match .keys2))
+
+abbrev solve-Inv-loop : solve-lts.InvT-loop
+solve-Inv-loop table index s agenda₀ head top rows₀ order₀ n head₀ found₀ agenda rows order head' found = SolveSoFar table index s agenda₀ head top found₀ rows₀ order₀ n agenda rows order head' found
+
+abbrev solve-μ-loop : solve-lts.MeasureT-loop
+solve-μ-loop table index s agenda₀ head top rows₀ order₀ n head₀ found₀ agenda rows order head' found = head'
+
+-- src/lib.rt:75:5
+solve-loop-holds : (t : ℕ) → solve-lts.Need-loop-holds (
+  kind-reads.Asked,
+  kind-reads.Learnt,
+  divide-below t,
+  divide.Post,
+  match-leaf-reads.Asked,
+  match-leaf-reads.Learnt,
+  enter-reads.Asked,
+  enter-reads.Learnt,
+) (solve-at t) solve.Post solve-Inv-loop solve-μ-loop
+solve-loop-holds t c = solve-start _ _ _ _ _ _ _ _ _ _ (c .before .before .pre .1)
+
+-- src/lib.rt:76:24
+solve-mul-p : (t : ℕ) → solve-lts.Need-mul-p (
+  kind-reads.Asked,
+  kind-reads.Learnt,
+  divide-below t,
+  divide.Post,
+  match-leaf-reads.Asked,
+  match-leaf-reads.Learnt,
+  enter-reads.Asked,
+  enter-reads.Learnt,
+) (solve-at t) solve.Post solve-Inv-loop solve-μ-loop
+solve-mul-p t c = omega (arith, head-low _ _ _ _ _ _ _ _ _ _ (c .before .before .before .before .pre .1) _ _ _ _ _ (c .before .loop .inv))
+
+-- src/lib.rt:76:17
+solve-mul-p-2 : (t : ℕ) → solve-lts.Need-mul-p-2 (
+  kind-reads.Asked,
+  kind-reads.Learnt,
+  divide-below t,
+  divide.Post,
+  match-leaf-reads.Asked,
+  match-leaf-reads.Learnt,
+  enter-reads.Asked,
+  enter-reads.Learnt,
+) (solve-at t) solve.Post solve-Inv-loop solve-μ-loop
+solve-mul-p-2 t c = omega (arith, head-low _ _ _ _ _ _ _ _ _ _ (c .before .before .before .before .pre .1) _ _ _ _ _ (c .before .loop .inv))
+
+-- src/lib.rt:76:17
+solve-element-copy-out-p : (t : ℕ) → solve-lts.Need-element-copy-out-p (
+  kind-reads.Asked,
+  kind-reads.Learnt,
+  divide-below t,
+  divide.Post,
+  match-leaf-reads.Asked,
+  match-leaf-reads.Learnt,
+  enter-reads.Asked,
+  enter-reads.Learnt,
+) (solve-at t) solve.Post solve-Inv-loop solve-μ-loop
+solve-element-copy-out-p t c = omega (arith, head-low _ _ _ _ _ _ _ _ _ _ (c .before .before .before .before .pre .1) _ _ _ _ _ (c .before .loop .inv))
+
+-- src/lib.rt:76:17
+solve-cast-p : (t : ℕ) → solve-lts.Need-cast-p (
+  kind-reads.Asked,
+  kind-reads.Learnt,
+  divide-below t,
+  divide.Post,
+  match-leaf-reads.Asked,
+  match-leaf-reads.Learnt,
+  enter-reads.Asked,
+  enter-reads.Learnt,
+) (solve-at t) solve.Post solve-Inv-loop solve-μ-loop
+solve-cast-p t c = omega (arith, entry-low _ _ _ _ _ _ _ _ _ _ (c .before .before .before .before .before .pre .1) _ _ _ _ _ (c .before .before .loop .inv) (omega arith))
+
+-- src/lib.rt:77:27
+solve-mul-word : (t : ℕ) → solve-lts.Need-mul-word (
+  kind-reads.Asked,
+  kind-reads.Learnt,
+  divide-below t,
+  divide.Post,
+  match-leaf-reads.Asked,
+  match-leaf-reads.Learnt,
+  enter-reads.Asked,
+  enter-reads.Learnt,
+) (solve-at t) solve.Post solve-Inv-loop solve-μ-loop
+solve-mul-word t c = omega (arith, head-low _ _ _ _ _ _ _ _ _ _ (c .before .before .before .before .before .pre .1) _ _ _ _ _ (c .before .before .loop .inv))
+
+-- src/lib.rt:77:27
+solve-add-word : (t : ℕ) → solve-lts.Need-add-word (
+  kind-reads.Asked,
+  kind-reads.Learnt,
+  divide-below t,
+  divide.Post,
+  match-leaf-reads.Asked,
+  match-leaf-reads.Learnt,
+  enter-reads.Asked,
+  enter-reads.Learnt,
+) (solve-at t) solve.Post solve-Inv-loop solve-μ-loop
+solve-add-word t c = omega (arith, head-low _ _ _ _ _ _ _ _ _ _ (c .before .before .before .before .before .pre .1) _ _ _ _ _ (c .before .before .loop .inv))
+
+-- src/lib.rt:77:20
+solve-mul-word-2 : (t : ℕ) → solve-lts.Need-mul-word-2 (
+  kind-reads.Asked,
+  kind-reads.Learnt,
+  divide-below t,
+  divide.Post,
+  match-leaf-reads.Asked,
+  match-leaf-reads.Learnt,
+  enter-reads.Asked,
+  enter-reads.Learnt,
+) (solve-at t) solve.Post solve-Inv-loop solve-μ-loop
+solve-mul-word-2 t c = omega (arith, head-low _ _ _ _ _ _ _ _ _ _ (c .before .before .before .before .before .pre .1) _ _ _ _ _ (c .before .before .loop .inv))
+
+-- src/lib.rt:77:20
+solve-element-copy-out-word : (t : ℕ) → solve-lts.Need-element-copy-out-word (
+  kind-reads.Asked,
+  kind-reads.Learnt,
+  divide-below t,
+  divide.Post,
+  match-leaf-reads.Asked,
+  match-leaf-reads.Learnt,
+  enter-reads.Asked,
+  enter-reads.Learnt,
+) (solve-at t) solve.Post solve-Inv-loop solve-μ-loop
+solve-element-copy-out-word t c = omega (arith, head-low _ _ _ _ _ _ _ _ _ _ (c .before .before .before .before .before .pre .1) _ _ _ _ _ (c .before .before .loop .inv))
+
+-- src/lib.rt:78:27
+solve-mul-next : (t : ℕ) → solve-lts.Need-mul-next (
+  kind-reads.Asked,
+  kind-reads.Learnt,
+  divide-below t,
+  divide.Post,
+  match-leaf-reads.Asked,
+  match-leaf-reads.Learnt,
+  enter-reads.Asked,
+  enter-reads.Learnt,
+) (solve-at t) solve.Post solve-Inv-loop solve-μ-loop
+solve-mul-next t c = omega (arith, head-low _ _ _ _ _ _ _ _ _ _ (c .before .before .before .before .before .before .pre .1) _ _ _ _ _ (c .before .before .before .loop .inv))
+
+-- src/lib.rt:78:27
+solve-add-next : (t : ℕ) → solve-lts.Need-add-next (
+  kind-reads.Asked,
+  kind-reads.Learnt,
+  divide-below t,
+  divide.Post,
+  match-leaf-reads.Asked,
+  match-leaf-reads.Learnt,
+  enter-reads.Asked,
+  enter-reads.Learnt,
+) (solve-at t) solve.Post solve-Inv-loop solve-μ-loop
+solve-add-next t c = omega (arith, head-low _ _ _ _ _ _ _ _ _ _ (c .before .before .before .before .before .before .pre .1) _ _ _ _ _ (c .before .before .before .loop .inv))
+
+-- src/lib.rt:78:20
+solve-mul-next-2 : (t : ℕ) → solve-lts.Need-mul-next-2 (
+  kind-reads.Asked,
+  kind-reads.Learnt,
+  divide-below t,
+  divide.Post,
+  match-leaf-reads.Asked,
+  match-leaf-reads.Learnt,
+  enter-reads.Asked,
+  enter-reads.Learnt,
+) (solve-at t) solve.Post solve-Inv-loop solve-μ-loop
+solve-mul-next-2 t c = omega (arith, head-low _ _ _ _ _ _ _ _ _ _ (c .before .before .before .before .before .before .pre .1) _ _ _ _ _ (c .before .before .before .loop .inv))
+
+-- src/lib.rt:78:20
+solve-element-copy-out-next : (t : ℕ) → solve-lts.Need-element-copy-out-next (
+  kind-reads.Asked,
+  kind-reads.Learnt,
+  divide-below t,
+  divide.Post,
+  match-leaf-reads.Asked,
+  match-leaf-reads.Learnt,
+  enter-reads.Asked,
+  enter-reads.Learnt,
+) (solve-at t) solve.Post solve-Inv-loop solve-μ-loop
+solve-element-copy-out-next t c = omega (arith, head-low _ _ _ _ _ _ _ _ _ _ (c .before .before .before .before .before .before .pre .1) _ _ _ _ _ (c .before .before .before .loop .inv))
+
+-- src/lib.rt:78:20
+solve-cast-next : (t : ℕ) → solve-lts.Need-cast-next (
+  kind-reads.Asked,
+  kind-reads.Learnt,
+  divide-below t,
+  divide.Post,
+  match-leaf-reads.Asked,
+  match-leaf-reads.Learnt,
+  enter-reads.Asked,
+  enter-reads.Learnt,
+) (solve-at t) solve.Post solve-Inv-loop solve-μ-loop
+solve-cast-next t c = omega (arith, next-lower _ _ _ _ _ _ _ _ _ _ (c .before .before .before .before .before .before .before .pre .1) _ _ _ _ _ (c .before .before .before .before .loop .inv) (omega arith), head-low _ _ _ _ _ _ _ _ _ _ (c .before .before .before .before .before .before .before .pre .1) _ _ _ _ _ (c .before .before .before .before .loop .inv))
+
+-- src/lib.rt:79:13
+solve-kind-requires : (t : ℕ) → solve-lts.Need-kind-requires (
+  kind-reads.Asked,
+  kind-reads.Learnt,
+  divide-below t,
+  divide.Post,
+  match-leaf-reads.Asked,
+  match-leaf-reads.Learnt,
+  enter-reads.Asked,
+  enter-reads.Learnt,
+) (solve-at t) solve.Post solve-Inv-loop solve-μ-loop
+solve-kind-requires t c κs = entry-readable _ _ _ _ _ _ _ _ _ _ (c .before .before .before .before .before .before .before .pre .1) _ _ _ _ _ (c .before .before .before .before .loop .inv) (omega arith) .here
+
+-- src/lib.rt:81:13
+solve-divide-requires : (t : ℕ) → solve-lts.Need-divide-requires (
+  kind-reads.Asked,
+  kind-reads.Learnt,
+  divide-below t,
+  divide.Post,
+  match-leaf-reads.Asked,
+  match-leaf-reads.Learnt,
+  enter-reads.Asked,
+  enter-reads.Learnt,
+) (solve-at t) solve.Post solve-Inv-loop solve-μ-loop
+solve-divide-requires t c κs = (omega (arith, c .before .before .before .before .before .before .before .before .before .before .before .before .pre .0, c .before .before .before .before .before .before .before .before .before .loop .inv .falls, next-lower _ _ _ _ _ _ _ _ _ _ (c .before .before .before .before .before .before .before .before .before .before .before .before .pre .1) _ _ _ _ _ (c .before .before .before .before .before .before .before .before .before .loop .inv) (omega arith)), divide-asked _ _ _ _ _ _ _ _ _ _ (c .before .before .before .before .before .before .before .before .before .before .before .before .pre .1) _ _ _ _ _ (c .before .before .before .before .before .before .before .before .before .loop .inv) (omega arith) (omega (arith, c .before .before .before .before .kind .ensures .0)))
+
+-- src/lib.rt:81:13
+solve-returns : (t : ℕ) → solve-lts.Need-returns (
+  kind-reads.Asked,
+  kind-reads.Learnt,
+  divide-below t,
+  divide.Post,
+  match-leaf-reads.Asked,
+  match-leaf-reads.Learnt,
+  enter-reads.Asked,
+  enter-reads.Learnt,
+) (solve-at t) solve.Post solve-Inv-loop solve-μ-loop
+solve-returns t c = divide-told _ _ _ _ _ _ _ _ _ _ (c .before .before .before .before .before .before .before .before .before .before .before .before .before .pre .1) _ _ _ _ _ (c .before .before .before .before .before .before .before .before .before .before .loop .inv) (omega arith) _ _ _ _ (c .divide .ensures)
+
+-- src/lib.rt:83:9
+solve-match-leaf-requires : (t : ℕ) → solve-lts.Need-match-leaf-requires (
+  kind-reads.Asked,
+  kind-reads.Learnt,
+  divide-below t,
+  divide.Post,
+  match-leaf-reads.Asked,
+  match-leaf-reads.Learnt,
+  enter-reads.Asked,
+  enter-reads.Learnt,
+) (solve-at t) solve.Post solve-Inv-loop solve-μ-loop
+solve-match-leaf-requires t c κs = leaf-asked _ _ _ _ _ _ _ _ _ _ (c .before .before .before .before .before .before .before .before .before .pre .1) _ _ _ _ _ (c .before .before .before .before .before .before .loop .inv) (omega arith) (omega (arith, c .before .kind .ensures .0))
+
+-- src/lib.rt:85:13
+solve-returns-2 : (t : ℕ) → solve-lts.Need-returns-2 (
+  kind-reads.Asked,
+  kind-reads.Learnt,
+  divide-below t,
+  divide.Post,
+  match-leaf-reads.Asked,
+  match-leaf-reads.Learnt,
+  enter-reads.Asked,
+  enter-reads.Learnt,
+) (solve-at t) solve.Post solve-Inv-loop solve-μ-loop
+solve-returns-2 t c = solve-failed _ _ _ _ _ _ _ _ _ _ (c .before .before .before .before .before .before .before .before .before .before .before .before .pre .1) _ _ _ _ _ (c .before .before .before .before .before .before .before .before .before .loop .inv) (omega arith) _ (λ v b q n h. c .before .before .match-leaf .ensures v b q h) (not-true _ (c .if2 .taken))
+
+-- src/lib.rt:75:5
+solve-loop-less : (t : ℕ) → solve-lts.Need-loop-less (
+  kind-reads.Asked,
+  kind-reads.Learnt,
+  divide-below t,
+  divide.Post,
+  match-leaf-reads.Asked,
+  match-leaf-reads.Learnt,
+  enter-reads.Asked,
+  enter-reads.Learnt,
+) (solve-at t) solve.Post solve-Inv-loop solve-μ-loop
+solve-loop-less t c = next-lower _ _ _ _ _ _ _ _ _ _ (c .before .before .before .before .before .before .before .before .before .before .before .before .pre .1) _ _ _ _ _ (c .before .before .before .before .before .before .before .before .before .loop .inv) (omega arith)
+
+-- src/lib.rt:75:5
+solve-loop-again : (t : ℕ) → solve-lts.Need-loop-again (
+  kind-reads.Asked,
+  kind-reads.Learnt,
+  divide-below t,
+  divide.Post,
+  match-leaf-reads.Asked,
+  match-leaf-reads.Learnt,
+  enter-reads.Asked,
+  enter-reads.Learnt,
+) (solve-at t) solve.Post solve-Inv-loop solve-μ-loop
+solve-loop-again t c = solve-more _ _ _ _ _ _ _ _ _ _ (c .before .before .before .before .before .before .before .before .before .before .before .before .pre .1) _ _ _ _ _ (c .before .before .before .before .before .before .before .before .before .loop .inv) (omega arith) _ (λ v b q n h. c .before .before .match-leaf .ensures v b q h) (not-false _ (c .if2 .left))
+
+-- src/lib.rt:89:5
+solve-enter-requires : (t : ℕ) → solve-lts.Need-enter-requires (
+  kind-reads.Asked,
+  kind-reads.Learnt,
+  divide-below t,
+  divide.Post,
+  match-leaf-reads.Asked,
+  match-leaf-reads.Learnt,
+  enter-reads.Asked,
+  enter-reads.Learnt,
+) (solve-at t) solve.Post solve-Inv-loop solve-μ-loop
+solve-enter-requires t c κs = enter-asked _ _ _ _ _ _ _ _ _ _ (c .before .before .before .before .before .before .pre .1) _ _ _ _ _ (c .before .before .before .loop .inv)
+
+-- src/lib.rt:58:1
+solve-returns-3 : (t : ℕ) → solve-lts.Need-returns-3 (
+  kind-reads.Asked,
+  kind-reads.Learnt,
+  divide-below t,
+  divide.Post,
+  match-leaf-reads.Asked,
+  match-leaf-reads.Learnt,
+  enter-reads.Asked,
+  enter-reads.Learnt,
+) (solve-at t) solve.Post solve-Inv-loop solve-μ-loop
+solve-returns-3 t c = solve-end _ _ _ _ _ _ _ _ _ _ (c .before .before .before .before .before .before .before .pre .1) _ _ _ _ _ (c .before .before .before .before .loop .inv) (omega arith) _ _ _ (c .enter .ensures)
+
+pub +divide+solve-spec : {M : Type 1} → statement M
++divide+solve-spec = close μ-divide μ-solve (λ t. divide-lts.spec (
+  kind-reads.Asked,
+  kind-reads.Learnt,
+  operand-count-reads.Asked,
+  operand-count-reads.Learnt,
+  unpack-reads.Asked,
+  unpack-reads.Learnt,
+  meet-reads.Asked,
+  meet-reads.Learnt,
+  push-reads.Asked,
+  push-reads.Learnt,
+  solve-below t,
+  solve.Post,
+)
+    (divide-at t)
+    divide.Post
+    divide-Inv-loop
+    divide-μ-loop
+    (divide-kind-requires t)
+    (divide-operand-count-requires t)
+    (divide-unpack-requires t)
+    (divide-meet-requires t)
+    (divide-enum-known-m t)
+    (divide-loop-holds t)
+    (divide-push-requires t)
+    (divide-add-solve t)
+    (divide-solve-requires t)
+    (divide-enum-known-r t)
+    (divide-returns t)
+    (divide-enum-known-r-2 t)
+    (divide-add-d t)
+    (divide-loop-less t)
+    (divide-loop-again t)
+    (divide-returns-2 t)
+    (divide-returns-3 t))
+    λ t. solve-lts.spec (
+      kind-reads.Asked,
+      kind-reads.Learnt,
+      divide-below t,
+      divide.Post,
+      match-leaf-reads.Asked,
+      match-leaf-reads.Learnt,
+      enter-reads.Asked,
+      enter-reads.Learnt,
+    )
+    (solve-at t)
+    solve.Post
+    solve-Inv-loop
+    solve-μ-loop
+    (solve-loop-holds t)
+    (solve-mul-p t)
+    (solve-mul-p-2 t)
+    (solve-element-copy-out-p t)
+    (solve-cast-p t)
+    (solve-mul-word t)
+    (solve-add-word t)
+    (solve-mul-word-2 t)
+    (solve-element-copy-out-word t)
+    (solve-mul-next t)
+    (solve-add-next t)
+    (solve-mul-next-2 t)
+    (solve-element-copy-out-next t)
+    (solve-cast-next t)
+    (solve-kind-requires t)
+    (solve-divide-requires t)
+    (solve-returns t)
+    (solve-match-leaf-requires t)
+    (solve-returns-2 t)
+    (solve-loop-less t)
+    (solve-loop-again t)
+    (solve-enter-requires t)
+    (solve-returns-3 t)

@@ -1,0 +1,3 @@
+mod Rowing
+mod Pushing
+mod Solving

@@ -1,0 +1,236 @@
+-- The parts of a pattern put before the rest of an agenda.
+use mathlib.Core.Path.{_≡_, refl, sym, ap, ap₂, subst, _∙_}
+use mathlib.Core.Bool.{Bool, true, false, _||_}
+use mathlib.Core.Logic.{inl, inr}
+use mathlib.Core.List.{List, [], _∷_, _++_, map}
+use Prim.Native.Nat.{ℕ, zero, suc, _+_, _-_, _*_, _≤_, _<_}
+use native.Mathlib.Numerals.{add-one}
+use native.Mathlib.Omega.{arith}
+use lib.ListN.{length, getD, set, drop, length-map, drop-of-length-le, length-set}
+use lib.Seq.{drop-cons, getD-set-same, getD-set-other}
+use Rattle.prelude.proofs.Absurd.{impossible}
+use Rattle.prelude.proofs.Truth.{or-false-left, or-false-right}
+use Rattle.values.specs.Value.{Value, boolean}
+use Rattle.tables.specs.Record.{named, operand}
+use Rattle.tables.specs.Table.{recordAt, kindAt}
+use Rattle.tables.specs.Accepted.{records, lower}
+use Rattle.tables.specs.Reading.{HasOperand}
+use Rattle.parts.specs.declared.Part.{Part}
+use Rattle.parts.specs.Part.{PartIs, PartHeld, CellIs}
+use Rattle.parts.specs.Laws.{part-one}
+use Rattle.patterns.specs.Ways.{exists}
+use Rattle.patterns.specs.Binding.{Cell, free, is}
+use Rattle.patterns.specs.Pattern.{Pattern, any, wide, wideEach}
+use Rattle.patterns.specs.Read.{patternsOf, patternOf, patternAt, Readable}
+use Rattle.patterns.specs.Nodes.{isHalved, meetings, isLarge, pattern-at}
+use Rattle.matching.specs.Node.{PieceHeld, PieceOf, innerOf, waysOf, metBy}
+use Rattle.matching.proofs.Records.{by-record, inner-length, kind-high, count-few, count-two, meeting-length, operand-readable}
+use Rattle.splitting.specs.Composed.{wideParts, wide-composed}
+use Rattle.parts.specs.Word.{unpacked, CellHeld, Packed}
+use Rattle.forming.specs.Onward.{Task, task, zipped}
+use Rattle.forming.specs.Pending.{entries, Pending, AgendaIs, Kept, Pushable, Pushed}
+
+-- ---- the agenda is kept where nothing below its top changed
+
+pub agenda-kept : (table index s a b : List ℕ) (top high head : ℕ) (ts : List Task) → top ≤ high → Kept a b (3 * top) → AgendaIs table index s a top head ts → AgendaIs table index s b high head ts
+agenda-kept table index s a b top high head [] l k h = h
+agenda-kept table index s a b top high head (t ∷ ts) l k (p, h) =
+    let e0 = k (3 * head) (omega (arith, p .below)) in
+    let e1 = k (3 * head + 1) (omega (arith, p .below)) in
+    let e2 = k (3 * head + 2) (omega (arith, p .below)) in (
+      record {
+        some = p .some;
+        below = omega (arith, p .below);
+        falls = omega (arith, p .falls, e2);
+        readable = subst (Readable table index) (sym e0) (p .readable);
+        pattern = p .pattern ∙ ap (patternAt (records table)) (sym e0);
+        here = subst (λ (n : ℕ). PartIs s (unpacked n) (t .value)) (sym e1) (p .here);
+        narrow = p .narrow;
+      },
+      subst (λ (n : ℕ). AgendaIs table index s b high n ts) (sym e2) (agenda-kept table index s a b top high (getD a (3 * head + 2) 0) ts l k h),
+    )
+
+pub kept-then : (a b c : List ℕ) (m n : ℕ) → m ≤ n → Kept a b m → Kept b c n → Kept a c m
+kept-then a b c m n l h g j k = g j (omega arith) ∙ h j k
+
+-- ---- an entry stored
+
+pub record EntryPut (a b : List ℕ) (k x y z : ℕ) : Type 0 where
+  pub first : getD b k 0 ≡ x
+  pub second : getD b (k + 1) 0 ≡ y
+  pub third : getD b (k + 2) 0 ≡ z
+  pub kept : Kept a b k
+  pub long : length b ≡ length a
+
+entry-put : (a : List ℕ) (k x y z : ℕ) → k + 2 < length a → EntryPut a (set (set (set a k x) (k + 1) y) (k + 2) z) k x y z
+entry-put a k x y z l =
+    let a1 = set a k x in
+    let a2 = set a1 (k + 1) y in
+    let l1 : length a1 ≡ length a = length-set a k x in
+    let l2 : length a2 ≡ length a = length-set a1 (k + 1) y ∙ l1 in
+    record {
+      first = getD-set-other a2 (k + 2) k z 0 (λ e. absurd (omega arith)) ∙ getD-set-other a1 (k + 1) k y 0 (λ e. absurd (omega arith)) ∙ getD-set-same a k x 0 (omega arith);
+      second = getD-set-other a2 (k + 2) (k + 1) z 0 (λ e. absurd (omega arith)) ∙ getD-set-same a1 (k + 1) y 0 (omega arith);
+      third = getD-set-same a2 (k + 2) z 0 (omega arith);
+      kept = λ j h. getD-set-other a2 (k + 2) j z 0 (λ e. absurd (omega arith)) ∙ getD-set-other a1 (k + 1) j y 0 (λ e. absurd (omega arith)) ∙ getD-set-other a k j x 0 (λ e. absurd (omega arith));
+      long = length-set a2 (k + 2) z ∙ l2;
+    }
+
+-- ---- parts packed
+
+packed-part : (s : List ℕ) (p : Part) (n : ℕ) (v : Value) → Packed s p n → PartIs s p v → PartIs s (unpacked n) v
+packed-part s p n v k h = go (k .is (is v) (inr (v, refl, h)))
+  where
+    go : CellIs s (unpacked n) (is v) → PartIs s (unpacked n) v
+    go (inl g) = impossible (cc (g .1))
+    go (inr (w, e, g)) = let d : w ≡ v = cc in subst (PartIs s (unpacked n)) d g
+
+-- ---- narrow parts
+
+exists-at : {A : Type 0} (xs : List A) (f : A → Bool) (d : ℕ) (z : A) → exists xs f ≡ false → d < length xs → f (getD xs d z) ≡ false
+unfolding exists
+exists-at [] f d z e l = absurd (omega arith)
+exists-at (x ∷ xs) f zero z e l = or-false-left (f x) (exists xs f) e
+exists-at (x ∷ xs) f (suc d) z e l = exists-at xs f d z (or-false-right (f x) (exists xs f) e) (omega arith)
+
+each-at : (ps : List Pattern) (vs : List Value) (i : ℕ) (q : Pattern) (z : Value) → wideEach (patternsOf ps) vs ≡ false → i < length ps → i < length vs → wide (getD ps i q) (getD vs i z) ≡ false
+unfolding wide patternsOf
+each-at [] vs i q z e l m = absurd (omega arith)
+each-at (p ∷ ps) [] i q z e l m = absurd (omega arith)
+each-at (p ∷ ps) (v ∷ vs) zero q z e l m = or-false-left (wide p v) (wideEach (patternsOf ps) vs) e
+each-at (p ∷ ps) (v ∷ vs) (suc i) q z e l m = each-at ps vs i q z (or-false-right (wide p v) (wideEach (patternsOf ps) vs) e) (omega arith) (omega arith)
+
+at-map : {A B : Type 0} (f : A → B) (l : List A) (i : ℕ) (a : A) (b : B) → i < length l → getD (map f l) i b ≡ f (getD l i a)
+at-map f [] i a b h = absurd (omega arith)
+at-map f (x ∷ l) zero a b h = refl
+at-map f (x ∷ l) (suc i) a b h = at-map f l i a b (omega arith)
+
+abbrev pub countOf : List ℕ → ℕ → ℕ
+countOf table p = length (named (recordAt (records table) p))
+
+module _ (table index : List ℕ) (p : ℕ) (r : Readable table index p) where
+  module _ (c : 36 ≤ kindAt (records table) p) where
+    pub wide-by : (v : Value) → wide (patternAt (records table) p) v ≡ isLarge (kindAt (records table) p) v || exists (waysOf table p v) (λ vs. wideEach (patternsOf (innerOf table p)) vs)
+    wide-by v =
+        ap (λ (x : Pattern). wide x v) (by-record table index p r)
+        ∙ wide-composed (recordAt (records table) p) (innerOf table p) c (kind-high table index p r) (λ e. inner-length table index p r ∙ count-two table index p r c e) v
+        ∙ ap (λ (n : ℕ). isLarge (kindAt (records table) p) v || exists (meetings (kindAt (records table) p) n v) (λ vs. wideEach (patternsOf (innerOf table p)) vs)) (inner-length table index p r)
+
+    module _ (v : Value) (d : ℕ) (l : d < length (waysOf table p v)) where
+      pub met-long : length (metBy table p v d) ≡ countOf table p
+      met-long = meeting-length (kindAt (records table) p) (countOf table p) v d (count-two table index p r c) l
+
+      narrow-part : wide (patternAt (records table) p) v ≡ false → (i : ℕ) → i < countOf table p → wide (getD (innerOf table p) i any) (getD (metBy table p v d) i (boolean true)) ≡ false
+      narrow-part w i k =
+          each-at (innerOf table p) (metBy table p v d) i any (boolean true)
+          (exists-at (waysOf table p v) (λ vs. wideEach (patternsOf (innerOf table p)) vs) d [] (or-false-right (isLarge (kindAt (records table) p) v) (exists (waysOf table p v) (λ vs. wideEach (patternsOf (innerOf table p)) vs)) (sym (wide-by v) ∙ w)) l)
+          (omega (arith, inner-length table index p r)) (omega (arith, met-long))
+
+-- ---- one after the other, the last first
+
+-- The parts from i on stand before the rest.
+pub record PushSoFar (table index : List ℕ) (p : ℕ) (s : List ℕ) (word : ℕ) (d : ℕ) (a : List ℕ) (next top : ℕ) (b : List ℕ) (head i to : ℕ) : Type 0 where
+  pub within : i ≤ countOf table p
+  pub ends : to + i ≡ top + countOf table p
+  pub low : head < to
+  pub first : i ≡ countOf table p → head ≡ next
+  pub kept : Kept a b (3 * top)
+  pub long : length b ≡ length a
+  pub right : (v : Value) (ts : List Task) → PartIs s (unpacked word) v → wide (patternAt (records table) p) v ≡ false → AgendaIs table index s a top next ts
+      → AgendaIs table index s b to head (zipped (drop i (innerOf table p)) (drop i (metBy table p v d)) ++ ts)
+
+module _ (table index : List ℕ) (p : ℕ) (s : List ℕ) (word : ℕ) (d : ℕ) (a : List ℕ) (next top : ℕ) (h : Pushable table index p s word d a next top) where
+  pub push-start : (n : ℕ) → n ≡ countOf table p → PushSoFar table index p s word d a next top a next n top
+  unfolding zipped
+  push-start n e = record {
+    within = omega arith;
+    ends = omega arith;
+    low = h .low;
+    first = λ z. refl;
+    kept = λ j k. refl;
+    long = refl;
+    right = λ v ts q w g.
+        let z : drop n (innerOf table p) ≡ [] = drop-of-length-le (innerOf table p) {i = n} (omega (arith, inner-length table index p (h .readable))) in
+        subst (λ (ps : List Pattern). AgendaIs table index s a top next (zipped ps (drop n (metBy table p v d)) ++ ts)) (sym z) g;
+  }
+
+  pub piece-asked : (i kind n : ℕ) (part : Part) → part ≡ unpacked word → i < countOf table p → kind ≡ kindAt (records table) p → n ≡ countOf table p → PieceHeld kind n s part d i
+  piece-asked i kind n part pe l x y = rw (x, y, pe) (record {
+    low = h .composed;
+    high = kind-high table index p (h .readable);
+    few = count-few table index p (h .readable) (h .composed);
+    two = count-two table index p (h .readable) (h .composed);
+    value = h .value;
+    here = h .here;
+    narrow = h .narrow;
+    below = h .below;
+    within = l;
+  })
+
+  pub few : countOf table p ≤ 4
+  few = count-few table index p (h .readable) (h .composed)
+
+  module _ (i kind n : ℕ) (l : i < countOf table p) (x : kind ≡ kindAt (records table) p) (y : n ≡ countOf table p) (part : Part) (pe : part ≡ unpacked word) (part′ : Part) (o : PieceOf kind n s part d i part′) where
+    piece-is : (v : Value) → PartIs s (unpacked word) v → PartIs s part′ (getD (metBy table p v d) i (boolean true))
+    piece-is v q =
+        subst (λ (c : ℕ). PartIs s part′ (getD (getD (meetings c (countOf table p) v) d []) i (boolean true))) x
+        (subst (λ (k : ℕ). PartIs s part′ (getD (getD (meetings kind k v) d []) i (boolean true))) y (o v (boolean true) (subst (λ (k : Part). PartIs s k v) (sym pe) q)))
+
+    pub piece-held : CellHeld s part′
+    piece-held = (is (getD (metBy table p (h .value) d) i (boolean true)), inr (getD (metBy table p (h .value) d) i (boolean true), refl, piece-is (h .value) (h .here)))
+
+    module _ (q : ℕ) (b : q ≡ operand (recordAt (records table) p) i) (cell : ℕ) (pk : Packed s part′ cell) (now : List ℕ) (head suci to : ℕ) (si : suci ≡ i + 1)
+        (w : PushSoFar table index p s word d a next top now head suci to) where
+      pub push-more : PushSoFar table index p s word d a next top (set (set (set now (3 * to) q) (3 * to + 1) cell) (3 * to + 2) head) to i (to + 1)
+      unfolding zipped
+      push-more = record {
+        within = omega arith;
+        ends = omega (arith, w .ends);
+        low = omega arith;
+        first = λ z. absurd (omega arith);
+        kept = kept-then a now (set (set (set now (3 * to) q) (3 * to + 1) cell) (3 * to + 2) head) (3 * top) (3 * to) (omega (arith, w .ends)) (w .kept) (put .kept);
+        long = put .long ∙ w .long;
+        right = λ v ts z u g. go v ts z u g;
+      }
+        where
+          after : List ℕ
+          after = set (set (set now (3 * to) q) (3 * to + 1) cell) (3 * to + 2) head
+
+          put : EntryPut now (set (set (set now (3 * to) q) (3 * to + 1) cell) (3 * to + 2) head) (3 * to) q cell head
+          put = entry-put now (3 * to) q cell head (omega (arith, w .long, w .ends, h .long, h .room))
+
+          go : (v : Value) (ts : List Task) → PartIs s (unpacked word) v → wide (patternAt (records table) p) v ≡ false → AgendaIs table index s a top next ts
+              → AgendaIs table index s (set (set (set now (3 * to) q) (3 * to + 1) cell) (3 * to + 2) head) (to + 1) to (zipped (drop i (innerOf table p)) (drop i (metBy table p v d)) ++ ts)
+          go v ts z u g =
+              let below : d < length (waysOf table p v) = subst (λ (e : Value). d < length (waysOf table p e)) (sym (part-one z (h .here))) (h .below) in
+              let long = met-long table index p (h .readable) (h .composed) v d below in
+              let it : getD (innerOf table p) i any ≡ patternAt (records table) q = at-map (patternAt (records table)) (named (recordAt (records table) p)) i 0 any l ∙ ap (patternAt (records table)) (sym b) in
+              let pats : drop i (innerOf table p) ≡ getD (innerOf table p) i any ∷ drop suci (innerOf table p) =
+              drop-cons (innerOf table p) i any (omega (arith, inner-length table index p (h .readable))) ∙ ap (λ (j : ℕ). getD (innerOf table p) i any ∷ drop j (innerOf table p)) (sym (add-one i) ∙ sym si) in
+              let vals : drop i (metBy table p v d) ≡ getD (metBy table p v d) i (boolean true) ∷ drop suci (metBy table p v d) =
+              drop-cons (metBy table p v d) i (boolean true) (omega (arith, long)) ∙ ap (λ (j : ℕ). getD (metBy table p v d) i (boolean true) ∷ drop j (metBy table p v d)) (sym (add-one i) ∙ sym si) in
+              let rest = agenda-kept table index s now (set (set (set now (3 * to) q) (3 * to + 1) cell) (3 * to + 2) head) to (to + 1) head (zipped (drop suci (innerOf table p)) (drop suci (metBy table p v d)) ++ ts) (omega arith) (put .kept) (w .right v ts z u g) in
+              let first : Pending table index s (set (set (set now (3 * to) q) (3 * to + 1) cell) (3 * to + 2) head) (to + 1) to (task (getD (innerOf table p) i any) (getD (metBy table p v d) i (boolean true))) = record {
+                some = omega (arith, w .low);
+                below = omega arith;
+                falls = omega (arith, put .third, w .low);
+                readable = subst (Readable table index) (sym (put .first)) (operand-readable table index p (h .readable) i l (h .composed) q b .0);
+                pattern = it ∙ ap (patternAt (records table)) (sym (put .first));
+                here = subst (λ (e : ℕ). PartIs s (unpacked e) (getD (metBy table p v d) i (boolean true))) (sym (put .second)) (packed-part s part′ cell (getD (metBy table p v d) i (boolean true)) pk (piece-is v z));
+                narrow = narrow-part table index p (h .readable) (h .composed) v d below u i l;
+              } in
+              subst (λ (ps : List Pattern). AgendaIs table index s (set (set (set now (3 * to) q) (3 * to + 1) cell) (3 * to + 2) head) (to + 1) to (zipped ps (drop i (metBy table p v d)) ++ ts)) (sym pats)
+              (subst (λ (vs : List Value). AgendaIs table index s (set (set (set now (3 * to) q) (3 * to + 1) cell) (3 * to + 2) head) (to + 1) to (zipped (getD (innerOf table p) i any ∷ drop suci (innerOf table p)) vs ++ ts)) (sym vals)
+              (first, subst (λ (e : ℕ). AgendaIs table index s (set (set (set now (3 * to) q) (3 * to + 1) cell) (3 * to + 2) head) (to + 1) e (zipped (drop suci (innerOf table p)) (drop suci (metBy table p v d)) ++ ts)) (sym (put .third)) rest))
+
+  pub push-end : (now : List ℕ) (head i to : ℕ) → i ≤ 0 → PushSoFar table index p s word d a next top now head i to → Pushed table index p s word d a next top now head
+  push-end now head i to l w = record {
+    low = omega (arith, w .low, w .ends);
+    none = λ z. w .first (omega arith);
+    kept = w .kept;
+    long = w .long;
+    right = λ v ts q u g.
+        let e : i ≡ 0 = omega arith in
+        agenda-kept table index s now now to (top + countOf table p) head (zipped (innerOf table p) (metBy table p v d) ++ ts) (omega (arith, w .ends)) (λ j k. refl)
+        (subst (λ (j : ℕ). AgendaIs table index s now to head (zipped (drop j (innerOf table p)) (drop j (metBy table p v d)) ++ ts)) e (w .right v ts q u g));
+  }

@@ -1,0 +1,417 @@
+-- All matches of an agenda: what a leaf does, and what the ways of a pattern with parts do.
+use mathlib.Core.Path.{_≡_, refl, sym, ap, ap₂, subst, _∙_}
+use mathlib.Core.Bool.{Bool, true, false, _&&_, cond}
+use mathlib.Core.Logic.{inl, inr}
+use mathlib.Core.List.{List, [], _∷_, _++_, map}
+use Prim.Native.Nat.{ℕ, zero, suc, _+_, _-_, _*_, _≤_, _<_}
+use native.Mathlib.Numerals.{add-one}
+use native.Mathlib.Omega.{arith}
+use lib.ListN.{length, getD, drop, drop-of-length-le}
+use lib.Seq.{drop-cons}
+use Rattle.prelude.proofs.Truth.{or-false-left}
+use Rattle.prelude.specs.Membership.{In}
+use Rattle.values.specs.Value.{Value}
+use Rattle.values.specs.Items.{same}
+use Rattle.tables.specs.Record.{Record, named}
+use Rattle.tables.specs.Table.{recordAt, kindAt}
+use Rattle.tables.specs.Accepted.{records}
+use Rattle.parts.specs.declared.Part.{Part}
+use Rattle.parts.specs.Part.{PartIs, PartHeld}
+use Rattle.parts.specs.Laws.{part-one}
+use Rattle.patterns.specs.Ways.{gather}
+use Rattle.parts.specs.Word.{unpacked}
+use Rattle.patterns.specs.Members.{Alike}
+use Rattle.patterns.specs.Binding.{Binding, place}
+use Rattle.patterns.specs.Pattern.{Pattern, name, any, literal, each, halved, Patterns, nil, cons, wide}
+use Rattle.patterns.specs.Merging.{true-false, true-both}
+use Rattle.patterns.specs.Read.{patternsOf, patternOf, patternAt, Readable}
+use Rattle.patterns.specs.Nodes.{isHalved, meetings, isLarge}
+use Rattle.matching.specs.declared.leaves.Match.{Match}
+use Rattle.matching.specs.declared.nodes.Meeting.{Meeting}
+use Rattle.matching.specs.declared.nodes.Meeting.the-variants.{Unfit, Large, Ways}
+use Rattle.matching.specs.Leaf.{Stands, Standing, Went, LeafTold}
+use Rattle.matching.specs.Node.{LeafHeld, MeetsAs, Meets, innerOf, waysOf, metBy}
+use Rattle.matching.proofs.Records.{by-record, inner-length, kind-high, count-two, recast-meets}
+use Rattle.matching.proofs.Naming.{stands-fine}
+use Rattle.forming.specs.declared.Formed.{Formed}
+use Rattle.forming.specs.declared.Formed.the-variants.{Number, Refused}
+use Rattle.forming.specs.Onward.{Task, task, matchesAll, onward, zipped, oneWay, onward-end, onward-went, onward-none, one-way, onward-ways}
+use Rattle.forming.specs.Adding.{adding, adding-one, adding-none, adding-more, adding-longer, adding-alike}
+use Rattle.forming.specs.Rows.{RowsAre, EntryHeld, Entered, Entry}
+use Rattle.forming.specs.Pending.{inner, innerEach, entries, Pending, AgendaIs, spaces, Kept, Pushable, Pushed, Solvable, Solved, Dividable, Divided}
+use Rattle.forming.proofs.Pushing.{agenda-kept, kept-then, countOf, wide-by, met-long}
+
+-- ---- the agenda
+
+some-task : (table index s a : List ℕ) (top head : ℕ) (ts : List Task) → AgendaIs table index s a top head ts → 0 < head
+    → (t : Task) × (us : List Task) × (ts ≡ t ∷ us) × Pending table index s a top head t × AgendaIs table index s a top (getD a (3 * head + 2) 0) us
+some-task table index s a top head [] h l = absurd (omega (arith, h))
+some-task table index s a top head (t ∷ ts) h l = (t, ts, refl, h .0, h .1)
+
+no-task : (table index s a : List ℕ) (top head : ℕ) (ts : List Task) → AgendaIs table index s a top head ts → head ≤ 0 → ts ≡ []
+no-task table index s a top head [] h l = refl
+no-task table index s a top head (t ∷ ts) h l = absurd (omega (arith, h .0 .some))
+
+agenda-low : (table index s a : List ℕ) (top head : ℕ) (ts : List Task) → 0 < top → AgendaIs table index s a top head ts → head < top
+agenda-low table index s a top head [] l h = omega (arith, h)
+agenda-low table index s a top head (t ∷ ts) l h = h .0 .below
+
+-- ---- solve
+
+pub record SolveSoFar (table index s a : List ℕ) (head top : ℕ) (f : Match) (rows order : List ℕ) (n : ℕ) (b rows′ order′ : List ℕ) (head′ : ℕ) (g : Match) : Type 0 where
+  pub kept : Kept a b (3 * top)
+  pub long : length b ≡ length a
+  pub rows-are : (bs : List Binding) → RowsAre s rows order n bs → RowsAre s rows′ order′ n bs
+  pub falls : head′ ≤ head
+  pub tasks : List Task
+  pub are : AgendaIs table index s b top head′ tasks
+  pub room : top + spaces tasks ≤ entries
+  pub binding : Binding
+  pub stands : Stands s g binding
+  pub right : (ts : List Task) (st : Binding) → AgendaIs table index s a top head ts → Stands s f st
+      → (us : List Task) × (q : Binding) × AgendaIs table index s b top head′ us × Stands s g q × Alike (onward ts st) (onward us q)
+
+module _ (table index s a : List ℕ) (head top : ℕ) (f : Match) (rows order : List ℕ) (n : ℕ) (h : Solvable table index s a head top f rows order n) where
+  pub solve-start : SolveSoFar table index s a head top f rows order n a rows order head f
+  solve-start = record {
+    kept = λ j k. refl;
+    long = refl;
+    rows-are = λ bs k. k;
+    falls = omega arith;
+    tasks = h .tasks;
+    are = h .are;
+    room = h .room;
+    binding = h .binding;
+    stands = h .stands;
+    right = λ ts st k l. (ts, st, k, l, λ c. (λ i. i, λ i. i));
+  }
+
+  module _ (b rows′ order′ : List ℕ) (head′ : ℕ) (g : Match) (w : SolveSoFar table index s a head top f rows order n b rows′ order′ head′ g) where
+    pub head-low : head′ < entries
+    head-low = omega (arith, agenda-low table index s b top head′ (w .tasks) (h .low) (w .are), w .room)
+
+    module _ (l : 0 < head′) where
+      pub entry-readable : Readable table index (getD b (3 * head′) 0)
+      entry-readable = let (t, us, e, p, k) = some-task table index s b top head′ (w .tasks) (w .are) l in p .readable
+
+      pub entry-low : getD b (3 * head′) 0 < 200
+      entry-low = omega (arith, entry-readable .here .within, entry-readable .fine .few)
+
+      pub next-lower : getD b (3 * head′ + 2) 0 < head′
+      next-lower = let (t, us, e, p, k) = some-task table index s b top head′ (w .tasks) (w .are) l in p .falls
+
+      abbrev W : ℕ
+      W = getD b (3 * head′ + 1) 0
+
+      abbrev Q : ℕ
+      Q = getD b (3 * head′) 0
+
+      pub part-held : PartHeld s (unpacked W)
+      part-held = let (t, us, e, p, k) = some-task table index s b top head′ (w .tasks) (w .are) l in record { value = t .value; here = p .here }
+
+      room-first : (t : Task) (us : List Task) → w .tasks ≡ t ∷ us → top + (inner (t .what) + spaces us) ≤ entries
+      room-first t us e = subst (λ (x : List Task). top + spaces x ≤ entries) e (w .room)
+
+      -- a pattern with parts
+      pub divide-asked : 36 ≤ kindAt (records table) Q → Dividable table index Q s W b (getD b (3 * head′ + 2) 0) top g rows′ order′ n
+      divide-asked c =
+          let (t, us, e, p, k) = some-task table index s b top head′ (w .tasks) (w .are) l in
+          record {
+            readable = p .readable;
+            composed = c;
+            short = h .short;
+            value = t .value;
+            here = p .here;
+            narrow = subst (λ (q : Pattern). wide q (t .value) ≡ false) (p .pattern) (p .narrow);
+            tasks = us;
+            are = k;
+            long = w .long ∙ h .long;
+            low = h .low;
+            room = subst (λ (x : Pattern). top + (inner x + spaces us) ≤ entries) (p .pattern) (room-first t us e);
+            binding = w .binding;
+            stands = w .stands;
+            bindings = h .bindings;
+            rows-are = w .rows-are (h .bindings) (h .rows-are);
+          }
+
+      first-task : (us : List Task) → AgendaIs table index s b top head′ us → (v : Value) × (vs : List Task) × (us ≡ task (patternAt (records table) Q) v ∷ vs) × PartIs s (unpacked W) v
+          × (wide (patternAt (records table) Q) v ≡ false) × AgendaIs table index s b top (getD b (3 * head′ + 2) 0) vs
+      first-task us i =
+          let (t, vs, m, p, k) = some-task table index s b top head′ us i l in
+          (t .value, vs, m ∙ ap (λ (x : Pattern). task x (t .value) ∷ vs) (p .pattern), p .here, subst (λ (x : Pattern). wide x (t .value) ≡ false) (p .pattern) (p .narrow), k)
+
+      -- what is entered of an agenda that is alike
+      alike-entered : (ts us : List Task) (st q : Binding) (bs : List Binding) (rows″ order″ : List ℕ) (r : Formed) → Alike (onward ts st) (onward us q) → RowsAre s rows order n bs
+          → Entered s rows″ order″ (adding (onward us q) bs) r → Entered s rows″ order″ (adding (onward ts st) bs) r
+      alike-entered ts us st q bs rows″ order″ r e v z =
+          subst (λ (x : List Binding). Entered s rows″ order″ x r) (sym (adding-alike (onward ts st) (onward us q) bs (v .given) (v .ordered) e)) z
+
+      pub divide-told : (c rows″ order″ : List ℕ) (r : Formed) → Divided table index Q s W b c (getD b (3 * head′ + 2) 0) top g rows′ order′ n rows″ order″ r
+          → Solved table index s a c head top f rows order n rows″ order″ r
+      divide-told c rows″ order″ r d = record {
+        kept = kept-then a b c (3 * top) (3 * top) (omega arith) (w .kept) (d .kept);
+        long = d .long ∙ w .long;
+        right = λ ts st bs x y z.
+            let (us, q, i, j, e) = w .right ts st x y in
+            let (v, vs, same, here, narrow, k) = first-task us i in
+            alike-entered ts (task (patternAt (records table) Q) v ∷ vs) st q bs rows″ order″ (r) (subst (λ (o : List Task). Alike (onward ts st) (onward o q)) same e) z (d .right v vs q bs here narrow k j (w .rows-are bs z));
+      }
+
+      -- one that gives at most one binding
+      module _ (g′ : Match) (o : (v : Value) (b′ : Binding) → PartIs s (unpacked W) v → wide (patternAt (records table) Q) v ≡ false → Stands s g b′ → Went s b′ (patternAt (records table) Q) v g′) where
+        pub solve-more : g′ .fits ≡ true → SolveSoFar table index s a head top f rows order n b rows′ order′ (getD b (3 * head′ + 2) 0) g′
+        solve-more fit =
+            let (t, us, e, p, k) = some-task table index s b top head′ (w .tasks) (w .are) l in
+            let (q, al, z) = o (t .value) (w .binding) (p .here) (subst (λ (x : Pattern). wide x (t .value) ≡ false) (p .pattern) (p .narrow)) (w .stands) .good fit in
+            record {
+              kept = w .kept;
+              long = w .long;
+              rows-are = w .rows-are;
+              falls = omega (arith, w .falls, next-lower);
+              tasks = us;
+              are = k;
+              room = omega (arith, room-first t us e);
+              binding = q;
+              stands = z;
+              right = λ ts st x y.
+                  let (us′, q′, i, j, al′) = w .right ts st x y in
+                  let (v, vs, same, here, narrow, k′) = first-task us′ i in
+                  let (q″, al″, z″) = o v q′ here narrow j .good fit in
+                  let on = onward-went (patternAt (records table) Q) v vs q′ q″ al″ in
+                  let al‴ = subst (λ (y : List Task). Alike (onward ts st) (onward y q′)) same al′ in
+                  (vs, q″, k′, z″, λ c. (λ m. on c .0 (al‴ c .0 m), λ m. al‴ c .1 (on c .1 m)));
+            }
+
+        pub solve-failed : g′ .fits ≡ false → Solved table index s a b head top f rows order n rows′ order′ (Number n)
+        solve-failed fit = record {
+          kept = w .kept;
+          long = w .long;
+          right = λ ts st bs x y z.
+              let (us, q, i, j, e) = w .right ts st x y in
+              let (v, vs, same, here, narrow, k) = first-task us i in
+              let none : onward (task (patternAt (records table) Q) v ∷ vs) q ≡ [] = onward-none (patternAt (records table) Q) v vs q (o v q here narrow j .bad fit) in
+              alike-entered ts (task (patternAt (records table) Q) v ∷ vs) st q bs rows′ order′ (Number n) (subst (λ (y : List Task). Alike (onward ts st) (onward y q)) same e) z
+              (subst (RowsAre s rows′ order′ n) (sym (ap (λ (l : List Binding). adding l bs) none ∙ adding-none bs)) (w .rows-are bs z));
+        }
+
+      pub leaf-asked : kindAt (records table) Q < 36 → LeafHeld table index Q × (PartHeld s (unpacked W) × Standing s g)
+      leaf-asked c = (record { readable = entry-readable; leaf = c }, (part-held, (w .binding, w .stands)))
+
+    -- the end
+    pub enter-asked : EntryHeld s g rows′ order′ n
+    enter-asked = record { binding = w .binding; stands = w .stands; bindings = h .bindings; are = w .rows-are (h .bindings) (h .rows-are) }
+
+    pub solve-end : head′ ≤ 0 → (rows″ order″ : List ℕ) (r : Formed) → Entry s g rows′ order′ n rows″ order″ r → Solved table index s a b head top f rows order n rows″ order″ r
+    solve-end l rows″ order″ r d = record {
+      kept = w .kept;
+      long = w .long;
+      right = λ ts st bs x y v.
+          let (us, q, i, j, e) = w .right ts st x y in
+          let none = no-task table index s b top head′ us i l in
+          let one : onward us q ≡ q ∷ [] = ap (λ (x : List Task). onward x q) none ∙ onward-end q (stands-fine s g q j) in
+          subst (λ (l : List Binding). Entered s rows″ order″ l r)
+          (sym (adding-alike (onward ts st) (onward us q) bs (v .given) (v .ordered) e ∙ ap (λ (l : List Binding). adding l bs) one ∙ adding-one q bs))
+          (d q bs j (w .rows-are bs v));
+    }
+
+-- ---- divide
+
+-- the agenda grows, or it loses its first entry
+pub falls-on : (top next c head : ℕ) → top + c ≤ entries → head < top + c → (c ≡ 0 → head ≡ next) → 2 * (201 * (201 - (top + c)) + head) + 1 < 2 * (201 * (201 - top) + next) + 2
+falls-on top next zero head l h e = omega (arith, e refl)
+falls-on top next (suc c) head l h e = omega arith
+
+pub recast-word : (word : ℕ) {c k : ℕ} (kind n : ℕ) (s : List ℕ) (part : Part) (m : Meeting) → kind ≡ c → n ≡ k → part ≡ unpacked word → Meets kind n s part m → Meets c k s (unpacked word) m
+recast-word word {c} {k} kind n s part m e d p h = subst (λ (q : Part). Meets c k s q m) p (recast-meets kind n s part m e d h)
+
+pub part-of : (s : List ℕ) (word : ℕ) (part : Part) (v : Value) → part ≡ unpacked word → PartIs s (unpacked word) v → PartHeld s part
+part-of s word part v e h = record { value = v; here = subst (λ (k : Part). PartIs s k v) (sym e) h }
+
+inner-composed : (r : Record) (ps : List Pattern) → 36 ≤ r .kind → r .kind ≤ 40 → (isHalved (r .kind) ≡ true → length ps ≡ 2) → inner (patternOf r ps) ≡ innerEach (patternsOf ps)
+unfolding inner patternsOf
+inner-composed r ps low high two = cases (r .kind - 36) (omega arith) (omega arith)
+  where
+    half : (ps : List Pattern) → length ps ≡ 2 → suc (suc (inner (getD ps 0 any) + inner (getD ps 1 any))) ≡ innerEach (patternsOf ps)
+    half [] e = absurd (omega arith)
+    half (p ∷ []) e = absurd (omega arith)
+    half (p ∷ q ∷ []) e = omega arith
+    half (p ∷ q ∷ r ∷ ps) e = absurd (omega arith)
+
+    cases : (d : ℕ) → r .kind ≡ 36 + d → d ≤ 4 → inner (patternOf r ps) ≡ innerEach (patternsOf ps)
+    cases zero f l = rw f
+    cases (suc zero) f l = rw f
+    cases (suc (suc zero)) f l = rw f (half ps (two (rw f)))
+    cases (suc (suc (suc zero))) f l = rw f
+    cases (suc (suc (suc (suc zero)))) f l = rw f (half ps (two (rw f)))
+    cases (suc (suc (suc (suc (suc d))))) f l = absurd (omega arith)
+
+inner-least : (ps : List Pattern) → length ps ≤ innerEach (patternsOf ps)
+unfolding inner patternsOf
+inner-least [] = omega arith
+inner-least (p ∷ ps) = omega (arith, inner-least ps)
+
+spaces-zipped : (ps : List Pattern) (vs : List Value) (ts : List Task) → spaces (zipped ps vs ++ ts) + length ps ≤ innerEach (patternsOf ps) + spaces ts
+unfolding zipped patternsOf inner
+spaces-zipped [] vs ts = omega arith
+spaces-zipped (p ∷ ps) [] ts = omega (arith, inner-least ps)
+spaces-zipped (p ∷ ps) (v ∷ vs) ts = omega (arith, spaces-zipped ps vs ts)
+
+pub record Given (table index : List ℕ) (p : ℕ) (s : List ℕ) (word : ℕ) (a : List ℕ) (next top : ℕ) (f : Match) (rows order : List ℕ) (n : ℕ) (v : Value) (ts : List Task) (st : Binding) (bs : List Binding) : Type 0 where
+  pub here : PartIs s (unpacked word) v
+  pub narrow : wide (patternAt (records table) p) v ≡ false
+  pub are : AgendaIs table index s a top next ts
+  pub stands : Stands s f st
+  pub rows-are : RowsAre s rows order n bs
+
+-- The ways below d are done.
+pub record DivideSoFar (table index : List ℕ) (p : ℕ) (s : List ℕ) (word : ℕ) (a : List ℕ) (next top : ℕ) (f : Match) (rows order : List ℕ) (n w : ℕ) (b rows′ order′ : List ℕ) (n′ d : ℕ) : Type 0 where
+  pub within : d ≤ w
+  pub kept : Kept a b (3 * top)
+  pub long : length b ≡ length a
+  pub right : (v : Value) (ts : List Task) (st : Binding) (bs : List Binding) → Given table index p s word a next top f rows order n v ts st bs
+      → (cs : List Binding) × RowsAre s rows′ order′ n′ cs × (adding (gather (drop d (waysOf table p v)) (oneWay (innerOf table p) ts st)) cs ≡ adding (gather (waysOf table p v) (oneWay (innerOf table p) ts st)) bs)
+
+module _ (table index : List ℕ) (p : ℕ) (s : List ℕ) (word : ℕ) (a : List ℕ) (next top : ℕ) (f : Match) (rows order : List ℕ) (n : ℕ) (h : Dividable table index p s word a next top f rows order n) where
+  whole : (v : Value) (ts : List Task) (b : Binding) → onward (task (patternAt (records table) p) v ∷ ts) b ≡ gather (waysOf table p v) (oneWay (innerOf table p) ts b)
+  whole v ts b =
+      ap (λ (q : Pattern). onward (task q v ∷ ts) b) (by-record table index p (h .readable))
+      ∙ onward-ways (recordAt (records table) p) (innerOf table p) (h .composed) (kind-high table index p (h .readable)) (λ e. inner-length table index p (h .readable) ∙ count-two table index p (h .readable) (h .composed) e) v ts b
+      ∙ ap (λ (k : ℕ). gather (meetings (kindAt (records table) p) k v) (oneWay (innerOf table p) ts b)) (inner-length table index p (h .readable))
+
+  pub this : Given table index p s word a next top f rows order n (h .value) (h .tasks) (h .binding) (h .bindings)
+  this = record { here = h .here; narrow = h .narrow; are = h .are; stands = h .stands; rows-are = h .rows-are }
+
+  placed : inner (patternAt (records table) p) ≡ innerEach (patternsOf (innerOf table p))
+  placed =
+      ap inner (by-record table index p (h .readable))
+      ∙ inner-composed (recordAt (records table) p) (innerOf table p) (h .composed) (kind-high table index p (h .readable)) (λ e. inner-length table index p (h .readable) ∙ count-two table index p (h .readable) (h .composed) e)
+
+  pub top-room : top + countOf table p ≤ entries
+  top-room = omega (arith, h .room, placed, inner-least (innerOf table p), inner-length table index p (h .readable))
+
+  pub divide-start : (w : ℕ) → DivideSoFar table index p s word a next top f rows order n w a rows order n 0
+  divide-start w = record { within = omega arith; kept = λ j k. refl; long = refl; right = λ v ts st bs g. (bs, g .rows-are, refl) }
+
+  module _ (m : Meeting) (met : Meets (kindAt (records table) p) (countOf table p) s (unpacked word) m) where
+    -- no way
+    pub divide-none : ((w : ℕ) → m ≡ Ways w → ⊥) → Divided table index p s word a a next top f rows order n rows order (Number n)
+    unfolding gather
+    divide-none nope = record {
+      kept = λ j k. refl;
+      long = refl;
+      right = λ v ts st bs q u x y g. subst (RowsAre s rows order n) (sym (ap (λ (l : List Binding). adding l bs) (whole v ts st ∙ ap (λ (ws : List (List Value)). gather ws (oneWay (innerOf table p) ts st)) (go v u m nope (met v q))) ∙ adding-none bs)) g;
+    }
+      where
+        go : (v : Value) → wide (patternAt (records table) p) v ≡ false → (x : Meeting) → ((w : ℕ) → x ≡ Ways w → ⊥) → MeetsAs (kindAt (records table) p) (countOf table p) v x → waysOf table p v ≡ []
+        go v u Unfit nope k = k .1
+        go v u Large nope k = true-false (sym k ∙ or-false-left (isLarge (kindAt (records table) p) v) _ (sym (wide-by table index p (h .readable) (h .composed) v) ∙ u))
+        go v u (Ways w) nope k = absurd (nope w refl)
+
+    module _ (w : ℕ) (me : m ≡ Ways w) where
+      ways-are : (v : Value) → PartIs s (unpacked word) v → MeetsAs (kindAt (records table) p) (countOf table p) v (Ways w)
+      ways-are v q = subst (MeetsAs (kindAt (records table) p) (countOf table p) v) me (met v q)
+
+      pub ways-few : w < 256
+      ways-few = ways-are (h .value) (h .here) .3
+
+      module _ (b rows′ order′ : List ℕ) (n′ d : ℕ) (i : DivideSoFar table index p s word a next top f rows order n w b rows′ order′ n′ d) where
+        pub divide-end : w ≤ d → Divided table index p s word a b next top f rows order n rows′ order′ (Number n′)
+        unfolding gather
+        divide-end l = record {
+          kept = i .kept;
+          long = i .long;
+          right = λ v ts st bs q u x y g.
+              let (cs, k, e) = i .right v ts st bs (record { here = q; narrow = u; are = x; stands = y; rows-are = g }) in
+              let none : drop d (waysOf table p v) ≡ [] = drop-of-length-le (waysOf table p v) {i = d} (omega (arith, ways-are v q .1)) in
+              subst (RowsAre s rows′ order′ n′)
+              (sym (adding-none cs) ∙ ap (λ (ws : List (List Value)). adding (gather ws (oneWay (innerOf table p) ts st)) cs) (sym none) ∙ e ∙ ap (λ (l : List Binding). adding l bs) (sym (whole v ts st))) k;
+        }
+
+        module _ (l : d < w) where
+          pub push-asked : Pushable table index p s word d b next top
+          push-asked = record {
+            readable = h .readable;
+            composed = h .composed;
+            short = h .short;
+            value = h .value;
+            here = h .here;
+            narrow = ways-are (h .value) (h .here) .0;
+            below = omega (arith, ways-are (h .value) (h .here) .1);
+            low = agenda-low table index s a top next (h .tasks) (h .low) (h .are);
+            room = top-room;
+            long = i .long ∙ h .long;
+          }
+
+          module _ (b₁ : List ℕ) (head : ℕ) (pushed : Pushed table index p s word d b next top b₁ head) where
+            agenda-at : {v : Value} {ts : List Task} {st : Binding} {bs : List Binding} → Given table index p s word a next top f rows order n v ts st bs → AgendaIs table index s b₁ (top + countOf table p) head (zipped (innerOf table p) (metBy table p v d) ++ ts)
+            agenda-at {v} {ts} g = pushed .right v ts (g .here) (g .narrow) (agenda-kept table index s a b top top next ts (omega arith) (i .kept) (g .are))
+
+            solve-asked-here : Solvable table index s b₁ head (top + countOf table p) f rows′ order′ n′
+            solve-asked-here =
+                let (cs, k, e) = i .right (h .value) (h .tasks) (h .binding) (h .bindings) this in
+                record {
+                  short = h .short;
+                  tasks = zipped (innerOf table p) (metBy table p (h .value) d) ++ h .tasks;
+                  are = agenda-at this;
+                  long = pushed .long ∙ i .long ∙ h .long;
+                  low = omega (arith, h .low);
+                  room = omega (arith, h .room, placed, spaces-zipped (innerOf table p) (metBy table p (h .value) d) (h .tasks), inner-length table index p (h .readable));
+                  binding = h .binding;
+                  stands = h .stands;
+                  bindings = cs;
+                  rows-are = k;
+                }
+
+            pub solve-asked : (k : ℕ) → k ≡ countOf table p → Solvable table index s b₁ head (top + k) f rows′ order′ n′
+            solve-asked k e = subst (λ (x : ℕ). Solvable table index s b₁ head (top + x) f rows′ order′ n′) (sym e) solve-asked-here
+
+            module _ (k₀ : ℕ) (ke : k₀ ≡ countOf table p) (b₂ rows″ order″ : List ℕ) (r : Formed) (solved₀ : Solved table index s b₁ b₂ head (top + k₀) f rows′ order′ n′ rows″ order″ r) where
+              solved : Solved table index s b₁ b₂ head (top + countOf table p) f rows′ order′ n′ rows″ order″ r
+              solved = subst (λ (x : ℕ). Solved table index s b₁ b₂ head (top + x) f rows′ order′ n′ rows″ order″ r) ke solved₀
+
+              all-kept : Kept a b₂ (3 * top)
+              all-kept = kept-then a b₁ b₂ (3 * top) (3 * (top + countOf table p)) (omega arith) (kept-then a b b₁ (3 * top) (3 * top) (omega arith) (i .kept) (pushed .kept)) (solved .kept)
+
+              all-long : length b₂ ≡ length a
+              all-long = solved .long ∙ pushed .long ∙ i .long
+
+              -- what one way enters
+              step : (v : Value) (ts : List Task) (st : Binding) (bs : List Binding) → Given table index p s word a next top f rows order n v ts st bs
+                  → (ds : List Binding) × Entered s rows″ order″ ds r × (adding (gather (drop (d + 1) (waysOf table p v)) (oneWay (innerOf table p) ts st)) ds ≡ adding (gather (waysOf table p v) (oneWay (innerOf table p) ts st)) bs)
+              step v ts st bs g =
+                  let (cs, k, e) = i .right v ts st bs g in
+                  let below : d < length (waysOf table p v) = omega (arith, ways-are v (g .here) .1) in
+                  let here : drop d (waysOf table p v) ≡ metBy table p v d ∷ drop (d + 1) (waysOf table p v) =
+                  drop-cons (waysOf table p v) d [] below ∙ ap (λ (j : ℕ). metBy table p v d ∷ drop j (waysOf table p v)) (sym (add-one d)) in
+                  let one : oneWay (innerOf table p) ts st (metBy table p v d) ≡ onward (zipped (innerOf table p) (metBy table p v d) ++ ts) st =
+                  one-way (innerOf table p) ts st (metBy table p v d) (met-long table index p (h .readable) (h .composed) v d below ∙ sym (inner-length table index p (h .readable))) in (
+                    adding (onward (zipped (innerOf table p) (metBy table p v d) ++ ts) st) cs,
+                    solved .right (zipped (innerOf table p) (metBy table p v d) ++ ts) st cs (agenda-at g) (g .stands) k,
+                    ap (λ (x : List Binding). adding (gather (drop (d + 1) (waysOf table p v)) (oneWay (innerOf table p) ts st)) (adding x cs)) (sym one)
+                        ∙ sym (adding-more (metBy table p v d) (drop (d + 1) (waysOf table p v)) (oneWay (innerOf table p) ts st) cs)
+                        ∙ ap (λ (ws : List (List Value)). adding (gather ws (oneWay (innerOf table p) ts st)) cs) (sym here)
+                        ∙ e,
+                  )
+
+              pub divide-more : (j : ℕ) → r ≡ Number j → DivideSoFar table index p s word a next top f rows order n w b₂ rows″ order″ j (d + 1)
+              divide-more j re = record {
+                within = omega arith;
+                kept = all-kept;
+                long = all-long;
+                right = λ v ts st bs g.
+                    let (ds, k, e) = step v ts st bs g in
+                    (ds, subst (Entered s rows″ order″ ds) re k, e);
+              }
+
+              pub divide-full : (j : ℕ) → r ≡ Refused j → Divided table index p s word a b₂ next top f rows order n rows″ order″ (Refused j)
+              divide-full j re = record {
+                kept = all-kept;
+                long = all-long;
+                right = λ v ts st bs q u x y g.
+                    let (ds, k, e) = step v ts st bs (record { here = q; narrow = u; are = x; stands = y; rows-are = g }) in
+                    let full : Entered s rows″ order″ ds (Refused j) = subst (Entered s rows″ order″ ds) re k in
+                    let more = adding-longer (gather (drop (d + 1) (waysOf table p v)) (oneWay (innerOf table p) ts st)) ds in
+                    let same : length (adding (onward (task (patternAt (records table) p) v ∷ ts) st) bs) ≡ length (adding (gather (drop (d + 1) (waysOf table p v)) (oneWay (innerOf table p) ts st)) ds) =
+                    ap length (ap (λ (l : List Binding). adding l bs) (whole v ts st) ∙ sym e) in
+                    (full .0, omega (arith, full .1, more, same));
+              }

@@ -1,0 +1,76 @@
+-- Bindings as rows of packed parts, in order by an array of row numbers.
+use mathlib.Core.Path.{_≡_}
+use mathlib.Core.Bool.{true, false}
+use mathlib.Core.List.{List, _∷_, _++_}
+use Prim.Native.Nat.{ℕ, suc, _+_, _*_, _%_, _≤_, _<_}
+use lib.ListN.{length, getD, take, drop}
+use Rattle.parts.specs.declared.Part.{Part}
+use Rattle.parts.specs.Part.{CellIs}
+use Rattle.parts.specs.Word.{unpacked}
+use Rattle.patterns.specs.Binding.{Cell, Binding, names, nothing, cellOf, place, sorted}
+use Rattle.matching.specs.declared.leaves.Match.{Match}
+use Rattle.matching.specs.Leaf.{Stands}
+use Rattle.forming.specs.declared.rows.Seek.{Seek}
+use Rattle.forming.specs.declared.Formed.{Formed}
+use Rattle.forming.specs.declared.Formed.the-variants.{Number, Refused}
+
+-- Row r stands for the binding b.
+pub record RowIs (s rows : List ℕ) (r : ℕ) (b : Binding) : Type 0 where
+  pub sized : length b ≡ names
+  pub cells : (x : ℕ) → x < names → CellIs s (unpacked (getD rows (16 * r + x) 0)) (cellOf b x)
+  pub blank : (x : ℕ) → x < names → getD rows (16 * r + x) 0 % 4 ≡ 0 → getD rows (16 * r + x) 0 ≡ 0
+
+pub record RowHeld (s rows : List ℕ) (r : ℕ) : Type 0 where
+  pub low : r < 255
+  pub binding : Binding
+  pub is : RowIs s rows r binding
+
+-- The first n rows, in the order given, are the bindings bs, distinct and ascending.
+pub record RowsAre (s rows order : List ℕ) (n : ℕ) (bs : List Binding) : Type 0 where
+  pub wide : length rows ≡ 4080
+  pub long : length order ≡ 255
+  pub count : length bs ≡ n
+  pub few : n ≤ 255
+  pub given : List Binding
+  pub ordered : bs ≡ sorted given
+  pub row : (j : ℕ) → j < n → getD order j 0 < n
+  pub each : (j : ℕ) → j < n → RowIs s rows (getD order j 0) (getD bs j nothing)
+
+abbrev pub RowsHeld : List ℕ → List ℕ → List ℕ → ℕ → Type 0
+RowsHeld s rows order n = (bs : List Binding) × RowsAre s rows order n bs
+
+-- The place of a binding among the rows.
+pub record SoughtIn (b : Binding) (bs : List Binding) (n : ℕ) (r : Seek) : Type 0 where
+  pub within : r .at ≤ n
+  pub there : r .there ≡ true → place b bs ≡ bs
+  pub new : r .there ≡ false → place b bs ≡ take (r .at) bs ++ (b ∷ drop (r .at) bs)
+
+abbrev pub Sought : List ℕ → Match → List ℕ → List ℕ → ℕ → Seek → Type 0
+Sought s m rows order n r = (b : Binding) (bs : List Binding) → Stands s m b → RowsAre s rows order n bs → SoughtIn b bs n r
+
+-- Row r was written, and nothing before it changed.
+pub record RowPut (s : List ℕ) (m : Match) (rows after : List ℕ) (r : ℕ) : Type 0 where
+  pub right : (b : Binding) → Stands s m b → RowIs s after r b
+  pub before : (j : ℕ) → j < 16 * r → getD after j 0 ≡ getD rows j 0
+  pub long : length after ≡ length rows
+
+-- n was put in at a place.
+pub record Shifted (order after : List ℕ) (at n : ℕ) : Type 0 where
+  pub before : (j : ℕ) → j < at → getD after j 0 ≡ getD order j 0
+  pub here : getD after at 0 ≡ n
+  pub long : length after ≡ length order
+  pub from : (j : ℕ) → at ≤ j → j < n → getD after (suc j) 0 ≡ getD order j 0
+
+pub record EntryHeld (s : List ℕ) (m : Match) (rows order : List ℕ) (n : ℕ) : Type 0 where
+  pub binding : Binding
+  pub stands : Stands s m binding
+  pub bindings : List Binding
+  pub are : RowsAre s rows order n bindings
+
+-- The bindings were entered, or they are too many.
+abbrev pub Entered : List ℕ → List ℕ → List ℕ → List Binding → Formed → Type 0
+Entered s rows order bs (Number n) = RowsAre s rows order n bs
+Entered s rows order bs (Refused k) = (k ≡ 30) × (255 < length bs)
+
+abbrev pub Entry : List ℕ → Match → List ℕ → List ℕ → ℕ → List ℕ → List ℕ → Formed → Type 0
+Entry s m rows order n rows′ order′ r = (b : Binding) (bs : List Binding) → Stands s m b → RowsAre s rows order n bs → Entered s rows′ order′ (place b bs) r

@@ -1,0 +1,154 @@
+// The bindings of a pattern formed once: all ways are gone through with an agenda of what is still to be matched, and each match found is
+// entered in order, once, into rows.
+mod rows;
+
+use matching::leaves;
+use matching::leaves::Match;
+use matching::nodes;
+use matching::nodes::Meeting;
+use parts::words;
+use tables::reading::kind;
+use tables::reading::operand;
+use tables::reading::operand_count;
+ghost use Rattle.forming.specs.Pending.{Pushable, Pushed, Solvable, Solved, Dividable, Divided};
+
+// How many bindings there are, or refusal 29 or 30.
+pub enum Formed {
+    Number(usize),
+    Refused(usize),
+}
+
+// Puts the parts of a pattern, each with what it meets in the way d, before the rest of the agenda. An entry is the record of a pattern, the
+// part that it meets, and the entry that follows.
+fn push(
+    table: &[u8],
+    index: &[u16; 200],
+    p: usize,
+    s: &[u8],
+    word: u32,
+    d: usize,
+    agenda: &mut [u32; 603],
+    next: usize,
+    top: usize,
+) -> usize
+    requires { ⌜ Pushable (now table) (now index) p (now s) word d (now agenda) next top ⌝ }
+    ensures { λ r. ⌜ Pushed (now (table .entry)) (now (index .entry)) p (now (s .entry)) word d (now (agenda .entry)) next top (now (agenda .exit)) r ⌝ }
+{
+    let k = kind(table, index, p);
+    let n = operand_count(table, index, p);
+    let part = words::unpack(word);
+    let mut head = next;
+    let mut i = n;
+    let mut to = top;
+    while 0 < i {
+        i -= 1;
+        let a = nodes::piece(k, n, s, part, d, i);
+        let q = operand(table, index, p, i);
+        let c = words::pack(s, a);
+        agenda[3 * to] = q as u32;
+        agenda[3 * to + 1] = c;
+        agenda[3 * to + 2] = head as u32;
+        head = to;
+        to += 1;
+    }
+    head
+}
+
+// All matches of an agenda that go on from what is found: each is entered.
+pub fn solve(
+    table: &[u8],
+    index: &[u16; 200],
+    s: &[u8],
+    agenda: &mut [u32; 603],
+    head: usize,
+    top: usize,
+    found: Match,
+    rows: &mut [u32; 4080],
+    order: &mut [u8; 255],
+    n: usize,
+) -> Formed
+    requires { ⌜ Solvable (now table) (now index) (now s) (now agenda) head top found (now rows) (now order) n ⌝ }
+    ensures { λ r. ⌜ Solved (now (table .entry)) (now (index .entry)) (now (s .entry)) (now (agenda .entry)) (now (agenda .exit)) head top found (now (rows .entry)) (now (order .entry)) n (now (rows .exit)) (now (order .exit)) r ⌝ }
+{
+    let mut head = head;
+    let mut found = found;
+    while 0 < head {
+        let p = agenda[3 * head] as usize;
+        let word = agenda[3 * head + 1];
+        let next = agenda[3 * head + 2] as usize;
+        let k = kind(table, index, p);
+        if 36 <= k {
+            return divide(
+                table,
+                index,
+                p,
+                s,
+                word,
+                agenda,
+                next,
+                top,
+                found,
+                rows,
+                order,
+                n,
+            );
+        }
+        found = leaves::match_leaf(table, index, p, s, word, found);
+        if !found.fits {
+            return Formed::Number(n);
+        }
+        head = next;
+    }
+    rows::enter(s, found, rows, order, n)
+}
+
+// A pattern with parts, before the rest of an agenda: all its ways.
+fn divide(
+    table: &[u8],
+    index: &[u16; 200],
+    p: usize,
+    s: &[u8],
+    word: u32,
+    agenda: &mut [u32; 603],
+    next: usize,
+    top: usize,
+    found: Match,
+    rows: &mut [u32; 4080],
+    order: &mut [u8; 255],
+    n: usize,
+) -> Formed
+    requires { ⌜ Dividable (now table) (now index) p (now s) word (now agenda) next top found (now rows) (now order) n ⌝ }
+    ensures { λ r. ⌜ Divided (now (table .entry)) (now (index .entry)) p (now (s .entry)) word (now (agenda .entry)) (now (agenda .exit)) next top found (now (rows .entry)) (now (order .entry)) n (now (rows .exit)) (now (order .exit)) r ⌝ }
+{
+    let k = kind(table, index, p);
+    let c = operand_count(table, index, p);
+    let part = words::unpack(word);
+    let m = nodes::meet(k, c, s, part);
+    let mut n = n;
+    if let Meeting::Ways(w) = m {
+        let mut d = 0;
+        while d < w {
+            let head = push(table, index, p, s, word, d, agenda, next, top);
+            let r = solve(
+                table,
+                index,
+                s,
+                agenda,
+                head,
+                top + c,
+                found,
+                rows,
+                order,
+                n,
+            );
+            match r {
+                Formed::Refused(j) => return Formed::Refused(j),
+                Formed::Number(j) => {
+                    n = j;
+                }
+            }
+            d += 1;
+        }
+    }
+    Formed::Number(n)
+}

@@ -1,0 +1,126 @@
+// Bindings as rows of words, only appended to, and their order: a permutation of the rows.
+use crate::Formed;
+use integers::Order;
+use matching::leaves::Match;
+use parts::words;
+use parts::words::Env;
+ghost use mathlib.Core.Path.{_≡_};
+ghost use Prim.Native.Nat.{ℕ, _≤_, _<_};
+ghost use lib.ListN.{length};
+ghost use Rattle.patterns.specs.Binding.{Binding, orderBindings};
+ghost use Rattle.matching.specs.Leaf.{Stands, Standing};
+ghost use Rattle.forming.specs.Rows.{RowIs, RowHeld, RowPut, RowsHeld, Sought, Shifted, EntryHeld, Entry};
+
+// Where a binding has its place among the rows, and whether it is there.
+pub struct Seek {
+    pub at: usize,
+    pub there: bool,
+}
+
+// The order of a binding and a row.
+fn order_row(s: &[u8], found: Match, rows: &[u32; 4080], r: usize) -> Order
+    requires { ⌜ Standing (now s) found × RowHeld (now s) (now rows) r ⌝ }
+    ensures { λ o. ⌜ ((b c : Binding) → Stands (now (s .entry)) found b → RowIs (now (s .entry)) (now (rows .entry)) r c → o ≡ orderBindings b c) ⌝ }
+{
+    let mut x = 0;
+    while x < Env::NAMES {
+        let a = found.words[x];
+        let b = rows[16 * r + x];
+        if a == b {
+            x += 1;
+        } else {
+            let o = words::order_words(s, a, b);
+            match o {
+                Order::Lower => return Order::Lower,
+                Order::Higher => return Order::Higher,
+                Order::Same => {
+                    x += 1;
+                }
+            }
+        }
+    }
+    Order::Same
+}
+
+// Where a binding has its place among n rows.
+fn find_place(s: &[u8], found: Match, rows: &[u32; 4080], order: &[u8; 255], n: usize) -> Seek
+    requires { ⌜ Standing (now s) found × RowsHeld (now s) (now rows) (now order) n ⌝ }
+    ensures { λ r. ⌜ Sought (now (s .entry)) found (now (rows .entry)) (now (order .entry)) n r ⌝ }
+{
+    let mut low = 0;
+    let mut high = n;
+    while low < high {
+        let middle = low + (high - low) / 2;
+        let r = order[middle] as usize;
+        let o = order_row(s, found, rows, r);
+        match o {
+            Order::Lower => {
+                high = middle;
+            }
+            Order::Higher => {
+                low = middle + 1;
+            }
+            Order::Same => {
+                return Seek {
+                    at: middle,
+                    there: true,
+                };
+            }
+        }
+    }
+    Seek {
+        at: low,
+        there: false,
+    }
+}
+
+// Writes a binding as row r.
+fn put_row(s: &[u8], found: Match, rows: &mut [u32; 4080], r: usize)
+    requires { ⌜ Standing (now s) found × (r < 255) × (length (now rows) ≡ 4080) ⌝ }
+    ensures { λ u. ⌜ RowPut (now (s .entry)) found (now (rows .entry)) (now (rows .exit)) r ⌝ }
+{
+    let mut x = 0;
+    while x < Env::NAMES {
+        let c = found.words[x];
+        rows[16 * r + x] = c;
+        x += 1;
+    }
+}
+
+// Puts n in at a place among n numbers, those from there on one further.
+fn shift_in(order: &mut [u8; 255], at: usize, n: usize)
+    requires { ⌜ (at ≤ n) × (n < 255) × (length (now order) ≡ 255) ⌝ }
+    ensures { λ u. ⌜ Shifted (now (order .entry)) (now (order .exit)) at n ⌝ }
+{
+    let mut i = n;
+    while at < i {
+        let x = order[i - 1];
+        order[i] = x;
+        i -= 1;
+    }
+    order[at] = n as u8;
+}
+
+// Enters a binding in order, unless it is there.
+pub fn enter(
+    s: &[u8],
+    found: Match,
+    rows: &mut [u32; 4080],
+    order: &mut [u8; 255],
+    n: usize,
+) -> Formed
+    requires { ⌜ EntryHeld (now s) found (now rows) (now order) n ⌝ }
+    ensures { λ r. ⌜ Entry (now (s .entry)) found (now (rows .entry)) (now (order .entry)) n (now (rows .exit)) (now (order .exit)) r ⌝ }
+{
+    let k = find_place(s, found, rows, order, n);
+    if k.there {
+        return Formed::Number(n);
+    }
+    if values::Value::BINDINGS <= n {
+        return Formed::Refused(30);
+    }
+    let at = k.at;
+    put_row(s, found, rows, n);
+    shift_in(order, at, n);
+    Formed::Number(n + 1)
+}

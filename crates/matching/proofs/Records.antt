@@ -1,0 +1,154 @@
+-- The records of patterns: what their kind says of their parts, and how many values a meeting has.
+use mathlib.Core.Path.{_≡_, refl, sym, ap, subst, _∙_}
+use mathlib.Core.Bool.{Bool, true, false, cond}
+use mathlib.Core.Option.{Option, none as absent, some}
+use mathlib.Core.List.{List, [], _∷_, map}
+use Prim.Native.Nat.{ℕ, zero, suc, _+_, _-_, _≤_, _<_}
+use native.Mathlib.Omega.{arith}
+use lib.Dec.{eqb, leb}
+use lib.ListN.{length, getD, length-map}
+use borrow.Author.Tests.{leb-true, eqb-true, eqb-false}
+use mathlib.Mathlib.Data.Bool.Basic.{and-elim-left, and-elim-right}
+use Rattle.values.specs.Value.{Kind, set, sequence, map as mapping, tuple, Value}
+use Rattle.tables.specs.Laws.Kinds.{pattern-least, pattern-most}
+use Rattle.tables.specs.Record.{Record, named, operand, nameOf, shape, headOf, size, isKnown}
+use Rattle.tables.specs.Table.{recordAt, kindAt}
+use Rattle.tables.specs.Accepted.{records, lower, pattern-role, operand-lower, operand-sort, named-count, fit-least, fit-most, fit-known}
+use Rattle.tables.specs.Laws.{Lower}
+use Rattle.tables.specs.Reading.{HasField, HasOperand}
+use Rattle.parts.specs.declared.Part.{Part}
+use Rattle.patterns.specs.Ways.{Halves, orders}
+use Rattle.patterns.specs.Members.{at-in}
+use Rattle.patterns.specs.Pattern.{Pattern, literal, arrangements, contents, met, split}
+use Rattle.patterns.specs.Merging.{true-false}
+use Rattle.patterns.specs.Orders.{order-length}
+use Rattle.patterns.specs.Read.{Readable, patternOf, patternAt}
+use Rattle.patterns.specs.Nodes.{collectionOf, isHalved, pair, meetings, is-boolean, is-integer, pattern-at}
+use Rattle.matching.specs.declared.nodes.Meeting.{Meeting}
+use Rattle.matching.specs.Node.{LiteralHeld, Meets, innerOf, metBy}
+
+-- ---- the shapes of patterns with parts
+
+pub record Shapely (c : ℕ) : Type 0 where
+  pub no-head : size (shape c .head) ≡ 0
+  pub most : length (shape c .roles) ≤ 4
+  pub two : isHalved c ≡ true → (2 ≤ shape c .least) × (length (shape c .roles) ≤ 2)
+
+shapely-by : (d : ℕ) → d ≤ 4 → Shapely (36 + d)
+unfolding shape
+shapely-by zero h = record { no-head = refl; most = omega arith; two = λ e. true-false (sym e) }
+shapely-by (suc zero) h = record { no-head = refl; most = omega arith; two = λ e. true-false (sym e) }
+shapely-by (suc (suc zero)) h = record { no-head = refl; most = omega arith; two = λ e. (omega arith, omega arith) }
+shapely-by (suc (suc (suc zero))) h = record { no-head = refl; most = omega arith; two = λ e. true-false (sym e) }
+shapely-by (suc (suc (suc (suc zero)))) h = record { no-head = refl; most = omega arith; two = λ e. (omega arith, omega arith) }
+shapely-by (suc (suc (suc (suc (suc d))))) h = absurd (omega arith)
+
+shapely : (c : ℕ) → 36 ≤ c → c ≤ 40 → Shapely c
+shapely c l h = let e : 36 + (c - 36) ≡ c = omega arith in subst Shapely e (shapely-by (c - 36) (omega arith))
+
+named-head : (c : ℕ) (r : Record) → c ≡ 32 → (size (shape c .head) ≡ 1) × (isKnown (shape c .head) r ≡ leb (nameOf r) 15)
+unfolding shape
+named-head c r e = subst (λ (k : ℕ). (size (shape k .head) ≡ 1) × (isKnown (shape k .head) r ≡ leb (nameOf r) 15)) (sym e) (refl, refl)
+
+module _ (table index : List ℕ) (p : ℕ) (r : Readable table index p) where
+  within : p < length (records table)
+  within = r .here .within
+
+  low : Lower (records table)
+  low = lower (records table) (r .fine .clear6)
+
+  pub kind-low : 32 ≤ kindAt (records table) p
+  kind-low = pattern-least (kindAt (records table) p) (r .pattern)
+
+  pub kind-high : kindAt (records table) p ≤ 40
+  kind-high = pattern-most (kindAt (records table) p) (r .pattern)
+
+  -- ---- a name
+
+  name-head : kindAt (records table) p ≡ 32 → (size (headOf (recordAt (records table) p)) ≡ 1) × (isKnown (headOf (recordAt (records table) p)) (recordAt (records table) p) ≡ leb (nameOf (recordAt (records table) p)) 15)
+  name-head e = named-head (kindAt (records table) p) (recordAt (records table) p) e
+
+  pub name-field : kindAt (records table) p ≡ 32 → HasField table index p 0
+  name-field e = record { here = r .here; has = omega (arith, fit-least (recordAt (records table) p) (r .fine .fit p within), name-head e .0) }
+
+  pub name-small : kindAt (records table) p ≡ 32 → nameOf (recordAt (records table) p) < 16
+  name-small e =
+      let k : nameOf (recordAt (records table) p) ≤ 15 = leb-true (nameOf (recordAt (records table) p)) 15 (sym (name-head e .1) ∙ fit-known (recordAt (records table) p) (r .fine .fit p within)) in
+      omega arith
+
+  pub by-record : patternAt (records table) p ≡ patternOf (recordAt (records table) p) (innerOf table p)
+  by-record = pattern-at (records table) low p within
+
+  pub inner-length : length (innerOf table p) ≡ length (named (recordAt (records table) p))
+  inner-length = length-map (named (recordAt (records table) p)) (patternAt (records table))
+
+  pub literal-held : (kindAt (records table) p ≡ 32 → ⊥) → (kindAt (records table) p ≡ 33 → ⊥) → kindAt (records table) p < 36 → LiteralHeld table index p
+  literal-held a b k = record { readable = r; low = omega (arith, kind-low, a, b); high = omega arith }
+
+  pub is-literal : LiteralHeld table index p → (w : Value) × (patternAt (records table) p ≡ literal w)
+  is-literal h = go (eqb (kindAt (records table) p) 34) refl
+    where
+      go : (t : Bool) → eqb (kindAt (records table) p) 34 ≡ t → (w : Value) × (patternAt (records table) p ≡ literal w)
+      go true e = (_, by-record ∙ is-boolean (recordAt (records table) p) (innerOf table p) (eqb-true _ _ e))
+      go false e = (_, by-record ∙ is-integer (recordAt (records table) p) (innerOf table p) (omega (arith, h .low, h .high, eqb-false (kindAt (records table) p) 34 e)))
+
+  -- ---- parts
+
+  module _ (c : 36 ≤ kindAt (records table) p) where
+    shaped : Shapely (kindAt (records table) p)
+    shaped = shapely (kindAt (records table) p) c kind-high
+
+    pub count-few : length (named (recordAt (records table) p)) ≤ 4
+    count-few = omega (arith, named-count (recordAt (records table) p) (r .fine .fit p within), fit-most (recordAt (records table) p) (r .fine .fit p within), shaped .no-head, shaped .most)
+
+    pub count-two : isHalved (kindAt (records table) p) ≡ true → length (named (recordAt (records table) p)) ≡ 2
+    count-two e =
+        let t = shaped .two e in
+        omega (arith, named-count (recordAt (records table) p) (r .fine .fit p within), fit-least (recordAt (records table) p) (r .fine .fit p within), fit-most (recordAt (records table) p) (r .fine .fit p within), shaped .no-head, t .0, t .1)
+
+  module _ (i : ℕ) (l : i < length (named (recordAt (records table) p))) where
+    pub has-operand : HasOperand table index p i
+    has-operand = record { here = r .here; has = l }
+
+    pub operand-readable : (36 ≤ kindAt (records table) p) → (q : ℕ) → q ≡ operand (recordAt (records table) p) i → Readable table index q × (q < p)
+    operand-readable c q e =
+        let lo : operand (recordAt (records table) p) i < p = operand-lower (records table) (r .fine .clear6) p i within l in
+        let so = operand-sort (records table) (r .fine .clear6) p i within l in
+        let ro = pattern-role (recordAt (records table) p) i (r .pattern) l in
+        (record { fine = r .fine; here = record { indexed = r .here .indexed; within = omega arith }; pattern = rw e (rw ro at so) }, omega arith)
+
+pub recast-meets : {c k : ℕ} (kind n : ℕ) (s : List ℕ) (part : Part) (m : Meeting) → kind ≡ c → n ≡ k → Meets kind n s part m → Meets c k s part m
+recast-meets {c} {k} kind n s part m e f h = subst (λ (x : ℕ). Meets x k s part m) e (subst (λ (y : ℕ). Meets kind y s part m) f h)
+
+-- ---- a meeting has as many values as there are parts
+
+picked-some : {A : Type 0} (t : Bool) (xs : List A) (d : ℕ) (z : A) → d < length (cond t xs []) → (t ≡ true) × (d < length xs) × (getD (cond t xs []) d z ≡ getD xs d z)
+picked-some true xs d z h = (refl, h, refl)
+picked-some false xs d z h = absurd (omega arith)
+
+arranged-length : (k : Kind) (vs : List Value) (d : ℕ) → d < length (arrangements k vs) → length (getD (arrangements k vs) d []) ≡ length vs
+arranged-length set vs d h = order-length vs (getD (orders vs) d []) (at-in (orders vs) d [] h)
+arranged-length sequence vs zero h = refl
+arranged-length sequence vs (suc d) h = absurd (omega arith)
+arranged-length mapping vs d h = absurd (omega arith)
+arranged-length tuple vs zero h = refl
+arranged-length tuple vs (suc d) h = absurd (omega arith)
+
+met-length : (k : Kind) (n : ℕ) (o : Option (List Value)) (d : ℕ) → d < length (met k n o) → length (getD (met k n o) d []) ≡ n
+met-length k n absent d h = absurd (omega arith)
+met-length k n (some vs) d h =
+    let (e, l, g) = picked-some (eqb n (length vs)) (arrangements k vs) d [] h in
+    ap length g ∙ arranged-length k vs d l ∙ sym (eqb-true n (length vs) e)
+
+pair-length : (k : Kind) (hs : List (Halves Value)) (d : ℕ) → d < length (map (pair k) hs) → length (getD (map (pair k) hs) d []) ≡ 2
+pair-length k [] d h = absurd (omega arith)
+pair-length k (x ∷ hs) zero h = refl
+pair-length k (x ∷ hs) (suc d) h = pair-length k hs d (omega arith)
+
+pub meeting-length : (c n : ℕ) (v : Value) (d : ℕ) → (isHalved c ≡ true → n ≡ 2) → d < length (meetings c n v) → length (getD (meetings c n v) d []) ≡ n
+meeting-length c n v d two h = go (isHalved c) refl h
+  where
+    go : (t : Bool) → isHalved c ≡ t → d < length (cond t (map (pair (collectionOf c)) (split (collectionOf c) (contents (collectionOf c) v))) (met (collectionOf c) n (contents (collectionOf c) v)))
+        → length (getD (cond t (map (pair (collectionOf c)) (split (collectionOf c) (contents (collectionOf c) v))) (met (collectionOf c) n (contents (collectionOf c) v))) d []) ≡ n
+    go true e l = pair-length (collectionOf c) (split (collectionOf c) (contents (collectionOf c) v)) d l ∙ sym (two e)
+    go false e l = met-length (collectionOf c) n (contents (collectionOf c) v) d l

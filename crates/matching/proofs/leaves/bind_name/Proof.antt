@@ -1,0 +1,66 @@
+use Rattle.matching.proofs.Naming.{binds, word-held, part-word, agrees, clashes}
+use mathlib.Core.Logic.{⊎-elim}
+use mathlib.Core.Path.{refl}
+use native.Mathlib.Omega.{arith}
+use borrow.Author.Needs.{needs}
+use Rattle.matching.proofs.leaves.bind_name.Statement.{statement}
+use Rattle.matching.proofs.leaves.bind_name.Tie as tie
+use Rattle.matching.proofs.leaves.bind_name.Reads as reads
+use Rattle.matching.proofs.leaves.bind_name.Lts as lts
+use Rattle.matching.proofs.leaves.Match.failed.Reads as failed-reads
+use Rattle.parts.proofs.words.order_words.Reads as order-words-reads
+
+-- src/leaves.rt:47:15
+mul-old : tie.Need-mul-old
+mul-old c = search needs
+
+-- src/leaves.rt:47:15
+element-copy-out-old : tie.Need-element-copy-out-old
+element-copy-out-old c = search needs
+
+-- src/leaves.rt:50:9
+mul-words : tie.Need-mul-words
+mul-words c = search needs
+
+-- src/leaves.rt:50:9
+array-write-words : tie.Need-array-write-words
+array-write-words c = search needs
+
+-- src/leaves.rt:51:9
+returns : tie.Need-returns
+returns c = binds _ _ (c .before .before .before .before .pre .0) _ _ (c .before .if1 .taken) _ refl refl
+
+-- src/leaves.rt:53:9
+order-words-requires : tie.Need-order-words-requires
+order-words-requires c κs = (word-held _ _ (c .before .before .before .pre .0) (c .before .before .before .args .word) _ (c .before .before .before .pre .2), part-word _ _ (c .before .before .before .pre .1))
+
+-- src/leaves.rt:55:9
+enum-told : tie.Need-enum-told
+enum-told c = search needs
+
+-- src/leaves.rt:55:9
+returns-2 : tie.Need-returns-2
+returns-2 c = agrees _ _ (c .before .before .before .before .before .before .pre .0) _ _ (c .before .before .before .if1 .left) _ (c .before .before .order-words .ensures) (c .enum-told .given .1)
+
+-- src/leaves.rt:57:5
+failed-requires : tie.Need-failed-requires
+failed-requires c κs = search needs
+
+-- src/leaves.rt:43:1
+returns-3 : tie.Need-returns-3
+returns-3 c = clashes _ _ (c .before .before .before .before .before .before .pre .0) _ _ (c .before .before .before .if1 .left) _ (c .before .before .order-words .ensures) (λ d. ⊎-elim (λ k. let e = rw d at k in omega arith) (λ k. let e = rw d at k in omega arith) (c .before .match .keys2)) _ (c .failed .ensures)
+
+pub bind-name-spec : {M : Type 1} → statement M
+bind-name-spec =
+    tie.close
+    (tie.spec
+    mul-old
+    element-copy-out-old
+    mul-words
+    array-write-words
+    returns
+    order-words-requires
+    enum-told
+    returns-2
+    failed-requires
+    returns-3)

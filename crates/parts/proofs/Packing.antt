@@ -1,0 +1,150 @@
+-- Parts as numbers, and the order of cells.
+use mathlib.Core.Path.{_≡_, refl, sym, ap, ap₂, subst, _∙_}
+use mathlib.Core.Bool.{Bool, true, false, cond}
+use mathlib.Core.Logic.{inl, inr}
+use mathlib.Core.List.{List}
+use Prim.Native.Nat.{ℕ, zero, suc, _+_, _-_, _*_, _/_, _%_, _^_, _≤_, _<_}
+use native.Mathlib.Omega.{arith}
+use lib.Dec.{eqb}
+use lib.ListN.{length}
+use borrow.Author.Tests.{eq-eqb, ne-eqb}
+use Rattle.integers.specs.declared.Order.{Order}
+use Rattle.integers.specs.declared.Order.the-variants.{Lower, Same, Higher}
+use Rattle.values.specs.Value.{Value, set, collection, size, sizes}
+use Rattle.values.specs.Place.{At, ItemsAt}
+use Rattle.parts.specs.declared.Part.{Part}
+use Rattle.parts.specs.Part.{PartIs, PartHeld, CellIs, Selects, Spans}
+use Rattle.parts.specs.Contract.{OrderedParts}
+use Rattle.patterns.specs.Binding.{Cell, free, is, orderCells}
+use Rattle.parts.specs.Word.{unpacked, CellHeld, Packed}
+
+pub cell-free : {s : List ℕ} {p : Part} {c : Cell} → p .how ≡ 0 → CellIs s p c → c ≡ free
+cell-free e (inl h) = h .1
+cell-free e (inr (v, f, inl h)) = absurd (omega (arith, h .0))
+cell-free e (inr (v, f, inr (inl h))) = absurd (omega (arith, h .0))
+cell-free e (inr (v, f, inr (inr h))) = absurd (omega (arith, h .0))
+
+pub cell-value : {s : List ℕ} {p : Part} {c : Cell} → (p .how ≡ 0 → ⊥) → CellIs s p c → (v : Value) × (c ≡ is v) × PartIs s p v
+cell-value f (inl h) = absurd (f (h .0))
+cell-value f (inr h) = h
+
+-- ---- packing
+
+mask-low : (n m : ℕ) → n ≤ 7 → m < 2 ^ n → m < 128
+mask-low zero m h l = omega arith
+mask-low (suc zero) m h l = omega arith
+mask-low (suc (suc zero)) m h l = omega arith
+mask-low (suc (suc (suc zero))) m h l = omega arith
+mask-low (suc (suc (suc (suc zero)))) m h l = omega arith
+mask-low (suc (suc (suc (suc (suc zero))))) m h l = omega arith
+mask-low (suc (suc (suc (suc (suc (suc zero)))))) m h l = omega arith
+mask-low (suc (suc (suc (suc (suc (suc (suc zero))))))) m h l = omega arith
+mask-low (suc (suc (suc (suc (suc (suc (suc (suc n)))))))) m h l = absurd (omega arith)
+
+module _ (s : List ℕ) (p : Part) where
+  pub pack-none : p .how ≡ 0 → Packed s p 0
+  pack-none e = record { is = λ c h. inl (refl, cell-free e h); small = omega arith; blank = λ e. refl }
+
+  -- What the bounds of a part are, by how.
+  pub record Low : Type 0 where
+    pub how : p .how ≤ 3
+    pub at : p .at ≤ 65536
+    pub mask : p .how ≡ 2 → p .extent < 128
+    pub ordered : p .how ≡ 3 → p .at ≤ p .extent
+    pub span : p .how ≡ 3 → p .extent ≤ p .at + 508
+
+  module _ (short : length s ≤ 65536) where
+    part-low : (v : Value) → PartIs s p v → Low
+    part-low v (inl h) = record { how = omega (arith, h .0); at = omega (arith, h .1 .fits); mask = λ e. absurd (omega (arith, h .0)); ordered = λ e. absurd (omega (arith, h .0)); span = λ e. absurd (omega (arith, h .0)) }
+    part-low v (inr (inl h)) = record { how = omega (arith, h .0); at = omega (arith, h .1 .here .fits); mask = λ e. mask-low _ _ (h .1 .few) (h .1 .below); ordered = λ e. absurd (omega (arith, h .0)); span = λ e. absurd (omega (arith, h .0)) }
+    part-low v (inr (inr h)) = record { how = omega (arith, h .0); at = omega (arith, h .1 .here .fits, h .1 .here .ends); mask = λ e. absurd (omega (arith, h .0)); ordered = λ e. omega (arith, h .1 .here .ends); span = λ e. omega (arith, h .1 .here .ends, h .1 .short) }
+
+    pub cell-low : (p .how ≡ 0 → ⊥) → CellHeld s p → Low
+    cell-low f h = let x = cell-value f (h .1) in part-low (x .0) (x .2)
+
+    pub pack-whole : p .how ≡ 1 → CellHeld s p → Packed s p (1 + 4 * p .at)
+    pack-whole e z = record { is = λ c h. go c (cell-value {s = s} {p = p} {c = c} (λ z. omega arith) h); small = omega (arith, cell-low (λ z. omega arith) z .at); blank = λ e. absurd (omega arith) }
+      where
+        go : (c : Cell) → (v : Value) × (c ≡ is v) × PartIs s p v → CellIs s (unpacked (1 + 4 * p .at)) c
+        go c (v, f, inl k) =
+            let i : p .at ≤ 65536 = omega (arith, k .1 .fits) in
+            let d : p .at ≡ (1 + 4 * p .at) / 4 % 131072 = omega arith in
+            inr (v, f, inl (omega arith, subst (λ (n : ℕ). At s n v) d (k .1)))
+        go c (v, f, inr (inl k)) = absurd (omega (arith, k .0))
+        go c (v, f, inr (inr k)) = absurd (omega (arith, k .0))
+
+    pub pack-mask : p .how ≡ 2 → CellHeld s p → Packed s p (2 + 4 * (p .at + 131072 * p .extent))
+    pack-mask e z = record { is = λ c h. go c (cell-value {s = s} {p = p} {c = c} (λ z. omega arith) h); small = let l = cell-low (λ z. omega arith) z in omega (arith, l .at, l .mask e); blank = λ e. absurd (omega arith) }
+      where
+        go : (c : Cell) → (v : Value) × (c ≡ is v) × PartIs s p v → CellIs s (unpacked (2 + 4 * (p .at + 131072 * p .extent))) c
+        go c (v, f, inl k) = absurd (omega (arith, k .0))
+        go c (v, f, inr (inl k)) =
+            let l = part-low v (inr (inl k)) in
+            let n = 2 + 4 * (p .at + 131072 * p .extent) in
+            let a : n % 4 ≡ 2 = omega arith in
+            let b : p .at + 131072 * p .extent ≡ n / 4 = omega arith in
+            let d : p .at ≡ (p .at + 131072 * p .extent) % 131072 = omega (arith, l .at) in
+            let i : p .extent ≡ (p .at + 131072 * p .extent) / 131072 = omega (arith, l .at) in
+            let m : eqb (n % 4) 3 ≡ false = ne-eqb (n % 4) 3 (λ z. absurd (omega arith)) in
+            let x : p .extent ≡ cond (eqb (n % 4) 3) (n / 4 % 131072 + n / 4 / 131072) (n / 4 / 131072) = i ∙ ap (λ (y : ℕ). y / 131072) b ∙ ap (λ (t : Bool). cond t (n / 4 % 131072 + n / 4 / 131072) (n / 4 / 131072)) (sym m) in
+            inr (v, f, inr (inl (a, subst (λ (y : ℕ). Selects s (unpacked n .at) y v) x (subst (λ (y : ℕ). Selects s y (p .extent) v) (d ∙ ap (λ (y : ℕ). y % 131072) b) (k .1)))))
+        go c (v, f, inr (inr k)) = absurd (omega (arith, k .0))
+
+    pub pack-span : (long : ℕ) → long ≡ p .extent - p .at → (p .how ≡ 0 → ⊥) → (p .how ≡ 1 → ⊥) → (p .how ≡ 2 → ⊥) → CellHeld s p → Packed s p (3 + 4 * (p .at + 131072 * long))
+    pack-span long se f0 f1 f2 z =
+        let l = cell-low f0 z in
+        let three : p .how ≡ 3 = omega (arith, l .how, f0, f1, f2) in
+        record { is = λ c h. go c (cell-value {s = s} {p = p} {c = c} f0 h); small = omega (arith, l .at, l .span three); blank = λ e. absurd (omega arith) }
+      where
+        go : (c : Cell) → (v : Value) × (c ≡ is v) × PartIs s p v → CellIs s (unpacked (3 + 4 * (p .at + 131072 * long))) c
+        go c (v, f, inl k) = absurd (f1 (k .0))
+        go c (v, f, inr (inl k)) = absurd (f2 (k .0))
+        go c (v, f, inr (inr k)) =
+            let l = part-low v (inr (inr k)) in
+            let o = l .ordered (k .0) in
+            let n = 3 + 4 * (p .at + 131072 * long) in
+            let a : n % 4 ≡ 3 = omega arith in
+            let b : p .at + 131072 * long ≡ n / 4 = omega arith in
+            let d : p .at ≡ (p .at + 131072 * long) % 131072 = omega (arith, l .at) in
+            let i : long ≡ (p .at + 131072 * long) / 131072 = omega (arith, l .at) in
+            let d′ : p .at ≡ n / 4 % 131072 = d ∙ ap (λ (y : ℕ). y % 131072) b in
+            let i′ : long ≡ n / 4 / 131072 = i ∙ ap (λ (y : ℕ). y / 131072) b in
+            let m : eqb (n % 4) 3 ≡ true = eq-eqb (n % 4) 3 a in
+            let e : p .extent ≡ p .at + long = omega (arith, o) in
+            let x : p .extent ≡ cond (eqb (n % 4) 3) (n / 4 % 131072 + n / 4 / 131072) (n / 4 / 131072) = e ∙ ap₂ _+_ d′ i′ ∙ ap (λ (t : Bool). cond t (n / 4 % 131072 + n / 4 / 131072) (n / 4 / 131072)) (sym m) in
+            inr (v, f, inr (inr (a, subst (λ (y : ℕ). Spans s (unpacked n .at) y v) x (subst (λ (y : ℕ). Spans s y (p .extent) v) d′ (k .1)))))
+
+-- ---- the order of cells
+
+abbrev pub CellsOrdered : List ℕ → Part → Part → Order → Type 0
+CellsOrdered s p q r = (a b : Cell) → CellIs s p a → CellIs s q b → r ≡ orderCells a b
+
+module _ (s : List ℕ) (p q : Part) where
+  pub order-free : p .how ≡ 0 → q .how ≡ 0 → CellsOrdered s p q Same
+  order-free e f a b h g = sym (ap₂ orderCells (cell-free e h) (cell-free f g))
+
+  pub order-left : p .how ≡ 0 → (q .how ≡ 0 → ⊥) → CellsOrdered s p q Lower
+  order-left e f a b h g = sym (ap₂ orderCells (cell-free e h) (cell-value f g .1))
+
+  pub order-right : (p .how ≡ 0 → ⊥) → q .how ≡ 0 → CellsOrdered s p q Higher
+  order-right e f a b h g = sym (ap₂ orderCells (cell-value e h .1) (cell-free f g))
+
+  pub parts-held : (p .how ≡ 0 → ⊥) → (q .how ≡ 0 → ⊥) → CellHeld s p → CellHeld s q → PartHeld s p × PartHeld s q
+  parts-held e f h g =
+      let x = cell-value e (h .1) in
+      let y = cell-value f (g .1) in
+      (record { value = x .0; here = x .2 }, record { value = y .0; here = y .2 })
+
+  pub order-both : (p .how ≡ 0 → ⊥) → (q .how ≡ 0 → ⊥) → (o : Order) → OrderedParts s p q o → CellsOrdered s p q o
+  order-both e f o c a b h g =
+      let x = cell-value e h in
+      let y = cell-value f g in
+      c (x .0) (y .0) (x .2) (y .2) ∙ sym (ap₂ orderCells (x .1) (y .1))
+
+-- ---- unpacking
+
+pub unpack-span : (n : ℕ) → n % 4 ≡ 3 → record { how = n % 4; at = n / 4 % 131072; extent = n / 4 % 131072 + n / 4 / 131072 } ≡ unpacked n
+unpack-span n e = rw (eq-eqb (n % 4) 3 e)
+
+pub unpack-other : (n : ℕ) → (n % 4 ≡ 3 → ⊥) → record { how = n % 4; at = n / 4 % 131072; extent = n / 4 / 131072 } ≡ unpacked n
+unpack-other n e = rw (ne-eqb (n % 4) 3 e)

@@ -1,1 +1,0 @@
-// All ways of matching a pattern and a value, and the bindings one after the other: definitions and theorems, no code.
