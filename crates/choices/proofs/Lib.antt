@@ -14,6 +14,6 @@ pub mod Ran
 pub mod Runs
 pub mod Came
 pub mod Stepping
-mod Choosing
+pub mod Choosing
 mod Raising
 mod Making
