@@ -23,8 +23,8 @@ use Rattle.tables.specs.Sheet.{patternOf, isBinder}
 use Rattle.tables.specs.Check.{mostBytes, check}
 use Rattle.tables.specs.Accepted.{records, Fine, accepted-fine, accepted-short, operand-lower, binder-operands, binder-pattern}
 use Rattle.tables.specs.Reading.{Here, HasOperand, CutOut, cut-accepted}
-use Rattle.parts.specs.Laws.{of-kind}
-use Rattle.patterns.specs.Merging.{true-false}
+use Rattle.parts.proofs.Laws.{of-kind}
+use Rattle.patterns.specs.Laws.Merging.{true-false}
 use Rattle.patterns.specs.Read.{Readable}
 use Rattle.bindings.specs.Window.{Values}
 use Rattle.trials.specs.Validity.{Tells}

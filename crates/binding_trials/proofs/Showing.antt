@@ -23,7 +23,7 @@ use Rattle.parts.specs.declared.Part.{Part}
 use Rattle.parts.specs.Part.{PartIs}
 use Rattle.parts.specs.Word.{unpacked}
 use Rattle.parts.specs.Contract.{Puttable, PutPart}
-use Rattle.parts.specs.Laws.{part-longer}
+use Rattle.parts.proofs.Laws.{part-longer}
 use Rattle.parts.specs.declared.words.Env.{Env}
 use Rattle.bindings.specs.declared.Cursor.{Cursor}
 use Rattle.bindings.specs.declared.Opened.{Opened}

@@ -23,7 +23,7 @@ use Rattle.matching.specs.Node.{innerOf}
 use Rattle.matching.proofs.Records.{by-record, inner-length, kind-low, count-two, operand-readable}
 use Rattle.patterns.specs.Read.{Readable, patternsOf, patterns, patternOf, patternAt}
 use Rattle.patterns.specs.Nodes.{isHalved, pattern-at}
-use Rattle.patterns.specs.Merging.{true-false}
+use Rattle.patterns.specs.Laws.Merging.{true-false}
 
 -- ---- truths
 

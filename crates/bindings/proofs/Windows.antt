@@ -33,11 +33,11 @@ use Rattle.patterns.specs.Members.{at-in, in-gather}
 use Rattle.patterns.specs.Binding.{Cell, free, is, clash, Binding, names, nothing, only, cellOf, sorted, place}
 use Rattle.patterns.specs.Pattern.{Pattern, name, itemsOf, listOf, matches, wide}
 use Rattle.patterns.specs.Binder.{bindings, Formed as Outcome, bound, refused, formed, few}
-use Rattle.patterns.specs.Forming.{formed-bound}
-use Rattle.patterns.specs.Ordered.{in-sorted}
-use Rattle.patterns.specs.Named.{named, Told, told}
-use Rattle.patterns.specs.Matched.{matched, only-sized, list-items}
-use Rattle.patterns.specs.Plain.{plain-formed}
+use Rattle.patterns.specs.Laws.Forming.{formed-bound}
+use Rattle.patterns.specs.Laws.Ordered.{in-sorted}
+use Rattle.patterns.specs.Laws.Named.{named, Told, told}
+use Rattle.patterns.specs.Laws.Matched.{matched, only-sized, list-items}
+use Rattle.patterns.specs.Laws.Plain.{plain-formed}
 use Rattle.patterns.specs.Read.{Readable, patternAt}
 use Rattle.patterns.specs.Nodes.{is-name, pattern-at}
 use Rattle.forming.specs.declared.Formed.{Formed}

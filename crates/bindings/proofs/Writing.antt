@@ -19,7 +19,7 @@ use Rattle.values.specs.Place.{At, ItemsAt, Holds, HoldsItems, Outside}
 use Rattle.values.proofs.Frame.{kept}
 use Rattle.values.proofs.Records.{holds, word-size}
 use Rattle.patterns.specs.Pattern.{itemsOf, listOf}
-use Rattle.patterns.specs.Matched.{items-list}
+use Rattle.patterns.specs.Laws.Matched.{items-list}
 use Rattle.parts.specs.Chosen.{odd}
 use Rattle.bindings.specs.declared.Cursor.{Cursor}
 use Rattle.bindings.specs.declared.filling.Names.{Names}

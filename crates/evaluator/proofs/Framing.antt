@@ -11,7 +11,7 @@ use Rattle.values.specs.Place.{At}
 use Rattle.values.proofs.Frame.{kept}
 use Rattle.parts.specs.declared.Part.{Part}
 use Rattle.parts.specs.Part.{PartIs, CellIs}
-use Rattle.parts.specs.Laws.{part-longer}
+use Rattle.parts.proofs.Laws.{part-longer}
 use Rattle.patterns.specs.Binding.{Cell, cellOf}
 use Rattle.calling.specs.Scratch.{Kept}
 use Rattle.meaning.specs.State.{State}

@@ -37,7 +37,7 @@ use Rattle.collections.specs.Building.{addedNumber, enteredNumber, added, opene
 use Rattle.parts.specs.declared.Part.{Part}
 use Rattle.parts.specs.Part.{PartIs, CellIs}
 use Rattle.parts.specs.Contract.{Puttable, PutPart}
-use Rattle.parts.specs.Laws.{part-longer}
+use Rattle.parts.proofs.Laws.{part-longer}
 use Rattle.patterns.specs.Binding.{Cell, free, is, cellOf}
 use Rattle.tables.specs.Record.{field, integerOf}
 use Rattle.tables.specs.Table.{recordAt, kindAt}

@@ -26,16 +26,16 @@ use Rattle.patterns.specs.Read.{Readable, patternAt}
 use Rattle.patterns.specs.Binding.{is, Binding, nothing, cellOf}
 use Rattle.patterns.specs.Ways.{gather}
 use Rattle.patterns.specs.Members.{in-gather}
-use Rattle.patterns.specs.Ordered.{in-sorted}
-use Rattle.patterns.specs.Named.{named as names-of, Told, told}
+use Rattle.patterns.specs.Laws.Ordered.{in-sorted}
+use Rattle.patterns.specs.Laws.Named.{named as names-of, Told, told}
 use Rattle.patterns.specs.Pattern.{Pattern, name, matches}
 use Rattle.patterns.specs.Binder.{bindings}
-use Rattle.patterns.specs.Forming.{formed-bound}
-use Rattle.patterns.specs.Matched.{matched}
+use Rattle.patterns.specs.Laws.Forming.{formed-bound}
+use Rattle.patterns.specs.Laws.Matched.{matched}
 use Rattle.parts.specs.declared.Part.{Part}
 use Rattle.parts.specs.Part.{PartIs}
 use Rattle.parts.specs.Contract.{Puttable, PutPart}
-use Rattle.parts.specs.Laws.{part-longer}
+use Rattle.parts.proofs.Laws.{part-longer}
 use Rattle.patterns.specs.Nodes.{is-name, pattern-at}
 use Rattle.patterns.specs.Members.{at-in}
 use Rattle.calling.specs.Scratch.{Kept}

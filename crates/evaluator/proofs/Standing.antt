@@ -24,7 +24,7 @@ use Rattle.patterns.specs.Read.{Readable}
 use Rattle.patterns.specs.Binding.{Cell, free, is, clash, Binding, nothing, cellOf}
 use Rattle.patterns.specs.Pattern.{listOf, itemsOf}
 use Rattle.patterns.specs.Binder.{bound, formed}
-use Rattle.patterns.specs.Matched.{list-items}
+use Rattle.patterns.specs.Laws.Matched.{list-items}
 use Rattle.parts.specs.Part.{CellIs}
 use Rattle.calling.specs.Scratch.{Kept}
 use Rattle.meaning.specs.State.{State, over, under}

@@ -18,7 +18,7 @@ use Rattle.operators.specs.Answer.{asInteger, asSet}
 use Rattle.operators.specs.Gather.{everyItem}
 use Rattle.operator_laws.proofs.OfKind.{integer-not}
 use Rattle.patterns.specs.Pattern.{listOf}
-use Rattle.parts.specs.Laws.{as-list}
+use Rattle.parts.proofs.Laws.{as-list}
 use Rattle.calling.proofs.Kinding.{no-kind, the-kind}
 use Rattle.meaning.specs.Meaning.{orElse, integersAt}
 use Rattle.bindings.specs.Window.{Values}

@@ -17,7 +17,7 @@ use Rattle.tables.specs.Accepted.{records, lower}
 use Rattle.tables.specs.Reading.{HasOperand}
 use Rattle.parts.specs.declared.Part.{Part}
 use Rattle.parts.specs.Part.{PartIs, PartHeld, CellIs}
-use Rattle.parts.specs.Laws.{part-one}
+use Rattle.parts.proofs.Laws.{part-one}
 use Rattle.patterns.specs.Ways.{exists}
 use Rattle.patterns.specs.Binding.{Cell, free, is}
 use Rattle.patterns.specs.Pattern.{Pattern, any, wide, wideEach}
@@ -25,7 +25,7 @@ use Rattle.patterns.specs.Read.{patternsOf, patternOf, patternAt, Readable}
 use Rattle.patterns.specs.Nodes.{isHalved, meetings, isLarge, pattern-at}
 use Rattle.matching.specs.Node.{PieceHeld, PieceOf, innerOf, waysOf, metBy}
 use Rattle.matching.proofs.Records.{by-record, inner-length, kind-high, count-few, count-two, meeting-length, operand-readable}
-use Rattle.splitting.specs.Composed.{wideParts, wide-composed}
+use Rattle.splitting.proofs.Composed.{wideParts, wide-composed}
 use Rattle.parts.specs.Word.{unpacked, CellHeld, Packed}
 use Rattle.forming.specs.Onward.{Task, task, zipped}
 use Rattle.forming.specs.Pending.{entries, Pending, AgendaIs, Kept, Pushable, Pushed}

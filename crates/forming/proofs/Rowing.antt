@@ -17,7 +17,7 @@ use Rattle.values.specs.Value.{after}
 use Rattle.parts.specs.Part.{CellIs}
 use Rattle.patterns.specs.Members.{at-in}
 use Rattle.patterns.specs.Binding.{Cell, free, Binding, names, nothing, cellOf, orderCells, orderBindings, place, sorted}
-use Rattle.patterns.specs.Ordered.{Rising, before-in, bindings-same, bindings-lower, bindings-flip, higher-lower, sorted-rising}
+use Rattle.patterns.specs.Laws.Ordered.{Rising, before-in, bindings-same, bindings-lower, bindings-flip, higher-lower, sorted-rising}
 use Rattle.matching.specs.declared.leaves.Match.{Match}
 use Rattle.matching.specs.Leaf.{Stands, Standing}
 use Rattle.parts.specs.Word.{unpacked, WordHeld, OrderedWords}

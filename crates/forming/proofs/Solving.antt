@@ -17,13 +17,13 @@ use Rattle.tables.specs.Table.{recordAt, kindAt}
 use Rattle.tables.specs.Accepted.{records}
 use Rattle.parts.specs.declared.Part.{Part}
 use Rattle.parts.specs.Part.{PartIs, PartHeld}
-use Rattle.parts.specs.Laws.{part-one}
+use Rattle.parts.proofs.Laws.{part-one}
 use Rattle.patterns.specs.Ways.{gather}
 use Rattle.parts.specs.Word.{unpacked}
 use Rattle.patterns.specs.Members.{Alike}
 use Rattle.patterns.specs.Binding.{Binding, place}
 use Rattle.patterns.specs.Pattern.{Pattern, name, any, literal, each, halved, Patterns, nil, cons, wide}
-use Rattle.patterns.specs.Merging.{true-false, true-both}
+use Rattle.patterns.specs.Laws.Merging.{true-false, true-both}
 use Rattle.patterns.specs.Read.{patternsOf, patternOf, patternAt, Readable}
 use Rattle.patterns.specs.Nodes.{isHalved, meetings, isLarge}
 use Rattle.matching.specs.declared.leaves.Match.{Match}

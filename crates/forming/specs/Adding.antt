@@ -13,7 +13,7 @@ use Rattle.values.specs.Items.{inOrder}
 use Rattle.patterns.specs.Ways.{gather}
 use Rattle.patterns.specs.Members.{Alike}
 use Rattle.patterns.specs.Binding.{Binding, nothing, orderBindings, place, sorted}
-use Rattle.patterns.specs.Ordered.{Rising, BeforeEach, before-in, bindings-refl, bindings-flip, higher-lower, bindings-lower, sorted-rising, sorted-in, in-sorted, rising-unique}
+use Rattle.patterns.specs.Laws.Ordered.{Rising, BeforeEach, before-in, bindings-refl, bindings-flip, higher-lower, bindings-lower, sorted-rising, sorted-in, in-sorted, rising-unique}
 
 unfoldable pub adding : List Binding → List Binding → List Binding
 adding [] bs = bs

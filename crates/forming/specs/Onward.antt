@@ -13,8 +13,8 @@ use Rattle.patterns.specs.Ways.{gather, Halves}
 use Rattle.patterns.specs.Members.{Alike}
 use Rattle.patterns.specs.Binding.{Binding, nothing, merge, consistent, withEach, together}
 use Rattle.patterns.specs.Pattern.{Pattern, any, each, halved, contents, met, split, leftOf, rightOf, matches, matchEach}
-use Rattle.patterns.specs.Matched.{in-together, together-in}
-use Rattle.patterns.specs.Together.{gather-cong, gather-map, with-none, with-gather, together-with, together-gather, together-assoc, Fine, all-fine, nothing-fine, matches-fine, with-nothing, nothing-together, with-only, together-nothing, one-together}
+use Rattle.patterns.specs.Laws.Matched.{in-together, together-in}
+use Rattle.patterns.specs.Laws.Together.{gather-cong, gather-map, with-none, with-gather, together-with, together-gather, together-assoc, Fine, all-fine, nothing-fine, matches-fine, with-nothing, nothing-together, with-only, together-nothing, one-together}
 use Rattle.patterns.specs.Read.{patternsOf, patternOf}
 use Rattle.patterns.specs.Nodes.{collectionOf, isHalved, pair, meetings, parts-length, two-of}
 

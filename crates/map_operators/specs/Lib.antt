@@ -1,1 +1,2 @@
+-- What the operators on maps ask and promise. Cited by operations.
 pub mod Contract

@@ -16,14 +16,14 @@ use Rattle.parts.specs.declared.Part.{Part}
 use Rattle.parts.specs.Part.{PartIs, PartHeld}
 use Rattle.parts.specs.Contract.{KindOfPart, CollectionHeld, CountOfPart}
 use Rattle.parts.specs.Mask.{Full}
-use Rattle.parts.specs.Laws.{part-well-formed}
+use Rattle.parts.proofs.Laws.{part-well-formed}
 use Rattle.parts.specs.Chosen.{splits-length, cuts-length}
 use Rattle.patterns.specs.Ways.{splits, cuts, orders}
 use Rattle.patterns.specs.Pattern.{listOf, itemsOf, contents, tooLarge}
-use Rattle.patterns.specs.Matched.{items-list, list-items}
-use Rattle.patterns.specs.Plain.{count-list}
+use Rattle.patterns.specs.Laws.Matched.{items-list, list-items}
+use Rattle.patterns.specs.Laws.Plain.{count-list}
 use Rattle.patterns.specs.Nodes.{collectionOf, isHalved, pair, meetings, isLarge}
-use Rattle.patterns.specs.Orders.{factorial, orders-length}
+use Rattle.patterns.specs.Laws.Orders.{factorial, orders-length}
 use Rattle.matching.specs.declared.nodes.Meeting.the-variants.{Unfit, Large, Ways}
 use Rattle.matching.specs.Node.{MeetsAs, Meets}
 

@@ -27,7 +27,7 @@ use Rattle.tables.specs.Reading.{HasField}
 use Rattle.parts.specs.declared.Part.{Part}
 use Rattle.parts.specs.Part.{PartIs, PartHeld}
 use Rattle.parts.specs.Contract.{KindOfPart}
-use Rattle.parts.specs.Laws.{whole-of}
+use Rattle.parts.proofs.Laws.{whole-of}
 use Rattle.patterns.specs.Pattern.{literal}
 use Rattle.patterns.specs.Read.{patternAt}
 use Rattle.patterns.specs.Nodes.{pattern-at, is-boolean, is-integer}

@@ -22,9 +22,9 @@ use Rattle.parts.specs.Word.{unpacked, WordHeld, OrderedWords}
 use Rattle.patterns.specs.Members.{Alike}
 use Rattle.patterns.specs.Binding.{Cell, free, is, clash, Binding, names, nothing, only, cellOf, agree, merge, consistent, withEach, orderCells}
 use Rattle.patterns.specs.Pattern.{Pattern, name, any, literal, matches}
-use Rattle.patterns.specs.Matched.{merge-sized, only-sized}
-use Rattle.patterns.specs.Merging.{true-false}
-use Rattle.patterns.specs.Together.{Fine, with-only}
+use Rattle.patterns.specs.Laws.Matched.{merge-sized, only-sized}
+use Rattle.patterns.specs.Laws.Merging.{true-false}
+use Rattle.patterns.specs.Laws.Together.{Fine, with-only}
 use Rattle.patterns.specs.Nodes.{is-name, is-any}
 use Rattle.patterns.specs.Read.{Readable, patternAt}
 use Rattle.matching.specs.declared.leaves.Match.{Match}

@@ -16,12 +16,12 @@ use Rattle.parts.specs.declared.Part.{Part}
 use Rattle.parts.specs.declared.Halves.{Halves}
 use Rattle.parts.specs.Part.{PartIs}
 use Rattle.parts.specs.Contract.{ItemHeld, ItemOfPart, SplitHeld, SplitOf, CutHeld, CutOf}
-use Rattle.parts.specs.Laws.{part-one}
+use Rattle.parts.proofs.Laws.{part-one}
 use Rattle.parts.specs.Chosen.{splits-length, cuts-length}
 use Rattle.patterns.specs.Ways.{halves, splits, cuts, orders}
 use Rattle.patterns.specs.Pattern.{itemsOf, contents, leftOf, rightOf}
 use Rattle.patterns.specs.Nodes.{collectionOf, pair, meetings}
-use Rattle.patterns.specs.Orders.{factorial, orders-length}
+use Rattle.patterns.specs.Laws.Orders.{factorial, orders-length}
 use Rattle.matching.specs.Node.{Ordinal, PieceHeld, PieceOf}
 use Rattle.matching.proofs.Counting.{pick-true, Has, contents-other, contents-same, none-meets, meets-splits, meets-cuts, meets-orders, meets-items}
 

@@ -7,7 +7,7 @@ use native.Mathlib.Omega.{arith}
 use lib.ListN.{length, getD}
 use Rattle.values.specs.Value.{Value}
 use Rattle.patterns.specs.Ways.{orders}
-use Rattle.patterns.specs.Orders.{factorial, factorial-more, order-here, order-before, order-after}
+use Rattle.patterns.specs.Laws.Orders.{factorial, factorial-more, order-here, order-before, order-after}
 use Rattle.matching.specs.Node.{Ordinal}
 
 -- ---- the numbers of orders

@@ -20,8 +20,8 @@ use Rattle.parts.specs.declared.Part.{Part}
 use Rattle.patterns.specs.Ways.{Halves, orders}
 use Rattle.patterns.specs.Members.{at-in}
 use Rattle.patterns.specs.Pattern.{Pattern, literal, arrangements, contents, met, split}
-use Rattle.patterns.specs.Merging.{true-false}
-use Rattle.patterns.specs.Orders.{order-length}
+use Rattle.patterns.specs.Laws.Merging.{true-false}
+use Rattle.patterns.specs.Laws.Orders.{order-length}
 use Rattle.patterns.specs.Read.{Readable, patternOf, patternAt}
 use Rattle.patterns.specs.Nodes.{collectionOf, isHalved, pair, meetings, is-boolean, is-integer, pattern-at}
 use Rattle.matching.specs.declared.nodes.Meeting.{Meeting}

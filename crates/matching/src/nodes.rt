@@ -5,7 +5,7 @@ ghost use Prim.Native.Nat.{_≤_, _<_};
 ghost use Rattle.parts.specs.Part.{PartHeld};
 ghost use Rattle.values.specs.Value.{number};
 ghost use Rattle.patterns.specs.Nodes.{collectionOf};
-ghost use Rattle.patterns.specs.Orders.{factorial};
+ghost use Rattle.patterns.specs.Laws.Orders.{factorial};
 ghost use Rattle.matching.specs.Node.{Ordinal, Meets, PieceHeld, PieceOf, LiteralHeld, LiteralIs};
 
 // Kind or count do not fit; a set is too large to split; or so many ways.

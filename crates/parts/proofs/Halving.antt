@@ -18,7 +18,7 @@ use Rattle.parts.specs.declared.runs.Run.{Run}
 use Rattle.parts.specs.Chosen.{everyOne, keep, chosen, splitAt, chosen-all, keep-full, nth-split, nth-cut}
 use Rattle.parts.specs.Mask.{Full, Ways, Spreadable, Spread}
 use Rattle.parts.specs.Part.{Selects, PartIs}
-use Rattle.parts.specs.Laws.{selects-of, part-one, part-well-formed, one-collection, end-record}
+use Rattle.parts.proofs.Laws.{selects-of, part-one, part-well-formed, one-collection, end-record}
 use Rattle.parts.specs.Run.{RunIs, RunOf, SkipHeld, Skipped}
 use Rattle.parts.specs.Contract.{CollectionHeld, CountOfPart, HalvesAre, Countable, MaskOf, SplitHeld, SplitOf, CutHeld, CutOf}
 

@@ -6,3 +6,4 @@ mod Halving
 mod Putting
 pub mod Packing
 pub mod Masking
+pub mod Laws

@@ -18,14 +18,14 @@ use Rattle.values.proofs.Order.{order-refl, items-refl, lower-flip}
 use Rattle.values.proofs.Records.{collection-shaped, one-value}
 use Rattle.patterns.specs.Pattern.{itemsOf}
 use Rattle.patterns.specs.Binding.{Cell, free, is, orderCells}
-use Rattle.patterns.specs.Plain.{cell-refl}
+use Rattle.patterns.specs.Laws.Plain.{cell-refl}
 use Rattle.parts.specs.declared.Part.{Part}
 use Rattle.parts.specs.Chosen.{keep, keep-zero, keep-odd, keep-even}
 use Rattle.parts.specs.Mask.{OrderedMasks}
 use Rattle.parts.specs.Part.{PartIs, PartHeld, CellIs}
 use Rattle.parts.specs.Contract.{OrderedParts}
 use Rattle.parts.specs.Word.{unpacked, WordHeld, OrderedWords}
-use Rattle.parts.specs.Laws.{selects-of, part-one, one-collection}
+use Rattle.parts.proofs.Laws.{selects-of, part-one, one-collection}
 use Rattle.values.specs.Place.{At}
 use Rattle.parts.proofs.Parting.{collections-order}
 use Rattle.parts.proofs.Packing.{cell-value, cell-free, order-left, order-right, order-both}

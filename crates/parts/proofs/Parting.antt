@@ -21,7 +21,7 @@ use Rattle.parts.specs.declared.Part.{Part}
 use Rattle.parts.specs.declared.runs.Run.{Run}
 use Rattle.parts.specs.Chosen.{everyOne, keep, chosen-all, chosen-keep}
 use Rattle.parts.specs.Part.{PartIs, PartHeld, endOf}
-use Rattle.parts.specs.Laws.{as-list, whole-of, selects-of, spans-of, part-one, one-collection, end-span, end-record}
+use Rattle.parts.proofs.Laws.{as-list, whole-of, selects-of, spans-of, part-one, one-collection, end-span, end-record}
 use Rattle.parts.specs.Run.{RunIs, RunHeld, Startable, ReadyRun, RunOf, CountOf, SkipHeld, Skipped, OrderedRuns}
 use Rattle.parts.specs.Contract.{KindOfPart, CollectionHeld, CountOfPart, OrderedParts, ItemHeld, ItemOfPart}
 use Rattle.parts.proofs.Running.{ready-odd, run-head, more-less}

@@ -18,12 +18,12 @@ use Rattle.values.proofs.Records.{holds, word-size, no-items, one-more, collect
 use Rattle.values.proofs.Frame.{items-below, outside-none, outside-then, word-below}
 use Rattle.values.proofs.Written.{headed-collection}
 use Rattle.patterns.specs.Pattern.{itemsOf}
-use Rattle.patterns.specs.Named.{part-sizes}
+use Rattle.patterns.specs.Laws.Named.{part-sizes}
 use Rattle.parts.specs.declared.Part.{Part}
 use Rattle.parts.specs.declared.runs.Run.{Run}
 use Rattle.parts.specs.Chosen.{everyOne, keep, chosen}
 use Rattle.parts.specs.Part.{PartIs, PartHeld}
-use Rattle.parts.specs.Laws.{whole-of, keep-part, part-one, part-well-formed, end-record}
+use Rattle.parts.proofs.Laws.{whole-of, keep-part, part-one, part-well-formed, end-record}
 use Rattle.parts.specs.Run.{RunIs, MoreHeld, RestOf, RunOf, PutHeld, PutRun}
 use Rattle.parts.specs.Contract.{KindOfPart, CollectionHeld, Puttable, PutPart}
 use Rattle.parts.proofs.Running.{run-one, run-end, run-head, more-held}

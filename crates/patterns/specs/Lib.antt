@@ -1,22 +1,12 @@
+-- Patterns, all ways of matching, bindings and their order, a binder's bindings; the pattern of a table's record. Cited by parts to bindings, meaning and the evaluator.
 pub mod Ways
 pub mod Binding
 pub mod Pattern
 pub mod Binder
 pub mod Members
 pub mod Units
-pub mod Ordered
 pub mod Relation
-pub mod Matched
 pub mod Wide
-pub mod Widened
-pub mod Single
-pub mod Named
-pub mod Chopped
 pub mod Read
 pub mod Nodes
-pub mod Orders
-pub mod Merging
-pub mod Together
-pub mod Forming
-pub mod Plain
-pub mod Samples
+pub mod Laws

@@ -1,2 +1,3 @@
 -- What the proofs of the functions cite.
 pub mod Telling
+pub mod Composed

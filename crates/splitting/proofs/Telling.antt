@@ -16,7 +16,7 @@ use Rattle.tables.specs.Table.{recordAt, kindAt}
 use Rattle.tables.specs.Accepted.{records, lower}
 use Rattle.parts.specs.declared.Part.{Part}
 use Rattle.parts.specs.Part.{PartIs, PartHeld}
-use Rattle.parts.specs.Laws.{part-one}
+use Rattle.parts.proofs.Laws.{part-one}
 use Rattle.patterns.specs.Ways.{exists}
 use Rattle.patterns.specs.Pattern.{Pattern, any, wide, wideEach}
 use Rattle.patterns.specs.Read.{patternsOf, patternOf, patternAt, Readable}
@@ -27,7 +27,7 @@ use Rattle.matching.specs.Node.{MeetsAs, Meets, PieceHeld, PieceOf, innerOf, wa
 use Rattle.matching.proofs.Piecing.{map-at}
 use Rattle.matching.proofs.Records.{kind-low, kind-high, count-few, count-two, meeting-length}
 use Rattle.splitting.specs.Union.{hasUnion, someUnion, shallow, no-union-narrow, shallow-narrow}
-use Rattle.splitting.specs.Composed.{leaf-no-union, wide-composed, union-composed, shallow-union, shallow-other}
+use Rattle.splitting.proofs.Composed.{leaf-no-union, wide-composed, union-composed, shallow-union, shallow-other}
 use Rattle.splitting.specs.Told.{TellsUnion, TellsShallow, TellsWide, TellsWays, TellsWay, WaysHeld, wideWays}
 
 -- one more item is looked at

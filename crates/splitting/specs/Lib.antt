@@ -1,4 +1,3 @@
 -- Whether a union pattern is met by a set too large to split: what the functions ask and promise.
 pub mod Union
-pub mod Composed
 pub mod Told

@@ -21,7 +21,7 @@ use Rattle.operators.specs.Operators.{unary, binary}
 use Rattle.patterns.specs.Binding.{Binding, nothing}
 use Rattle.patterns.specs.Pattern.{Pattern, loose as isLoose, listOf}
 use Rattle.patterns.specs.Binder.{Formed, bound, refused as unformed, formed}
-use Rattle.patterns.specs.Forming.{single-formed}
+use Rattle.patterns.specs.Laws.Forming.{single-formed}
 use Rattle.meaning.specs.Node.{Node, Quantifier, forall, exists, exists1, truth, whole, named, unaryOf, binaryOf, connective, if, enumeration, range, let-in, let-be, quantified, iota, set-comprehension, sequence-comprehension, map-comprehension, application, no-expression}
 use Rattle.meaning.specs.State.{State, under, valueIn}
 use Rattle.meaning.specs.Meaning as tree

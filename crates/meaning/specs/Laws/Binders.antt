@@ -17,13 +17,13 @@ use Rattle.values.specs.Items.{lookup}
 use Rattle.operators.specs.Answer.{is, Built, built, stopped, closed}
 use Rattle.operators.specs.Enumerations.{addMember, addItem, addEntry, buildOn, addMembers, addItems, addEntries, addEntriesAt}
 use Rattle.patterns.specs.Binding.{is as valued, free, Binding, names, nothing, only}
-use Rattle.patterns.specs.Ordered.{Rising, sorted-rising}
+use Rattle.patterns.specs.Laws.Ordered.{Rising, sorted-rising}
 use Rattle.patterns.specs.Ways.{gather}
 use Rattle.patterns.specs.Pattern.{Pattern, name, any, listOf, itemsOf, matches}
 use Rattle.patterns.specs.Relation.{Matches}
 use Rattle.patterns.specs.Binder.{bound, formed}
-use Rattle.patterns.specs.Matched.{bindings-exactly}
-use Rattle.patterns.specs.Forming.{formed-bound}
+use Rattle.patterns.specs.Laws.Matched.{bindings-exactly}
+use Rattle.patterns.specs.Laws.Forming.{formed-bound}
 use Rattle.tables.specs.declared.Role.{Role}
 use Rattle.tables.specs.declared.Role.the-variants.{Plain, Name}
 use Rattle.tables.specs.declared.Checked.the-variants.{Accepted}

@@ -23,8 +23,8 @@ use Rattle.patterns.specs.Ways.{exists as anyOf}
 use Rattle.patterns.specs.Pattern.{Pattern, loose, listOf, wide}
 use Rattle.patterns.specs.Binder.{Formed, bound, refused as unformed, formed, bindings, mostBindings}
 use Rattle.patterns.specs.Relation.{Matches}
-use Rattle.patterns.specs.Matched.{bindings-exactly}
-use Rattle.patterns.specs.Forming.{formed-bound}
+use Rattle.patterns.specs.Laws.Matched.{bindings-exactly}
+use Rattle.patterns.specs.Laws.Forming.{formed-bound}
 use Rattle.meaning.specs.Node.{Node, Quantifier, forall, exists, exists1, truth, whole, named, unaryOf, binaryOf, connective, if, enumeration, range, let-in, let-be, quantified, iota, set-comprehension, sequence-comprehension, map-comprehension, application, no-expression}
 use Rattle.meaning.specs.State.{State, under, valueIn}
 use Rattle.meaning.specs.Meaning.{Evaluates, at, builtAt, orElse, allOf, bothOf, rightOf, isTrue, enumerated, formedAt, membersAt, bindingsOf, holds, satisfying, chosen, matched, satisfied, untilFalse, untilTrue, quantify, nameOf, unique, collected, addOne, addPair, integersAt, integerBindings, comprehension, means}

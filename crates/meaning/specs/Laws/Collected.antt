@@ -16,7 +16,7 @@ use Rattle.operator_laws.proofs.Gather.{same-refl, member-case, member-there, m
 use Rattle.operator_laws.proofs.Enumerations.{by-fitting, setOf-is, sequenceOf-is, mapsTo, maps-is, mapOf-entries}
 use Rattle.patterns.specs.Binding.{Binding}
 use Rattle.patterns.specs.Pattern.{listOf, itemsOf}
-use Rattle.patterns.specs.Matched.{list-items}
+use Rattle.patterns.specs.Laws.Matched.{list-items}
 use Rattle.meaning.specs.Kinds.{Added}
 
 -- ---- enumerations

@@ -16,8 +16,8 @@ use Rattle.patterns.specs.Binding.{Binding, nothing}
 use Rattle.patterns.specs.Pattern.{Pattern, listOf}
 use Rattle.patterns.specs.Binder.{bound, formed, bindings}
 use Rattle.patterns.specs.Relation.{Matches}
-use Rattle.patterns.specs.Matched.{bindings-exactly}
-use Rattle.patterns.specs.Forming.{formed-bound}
+use Rattle.patterns.specs.Laws.Matched.{bindings-exactly}
+use Rattle.patterns.specs.Laws.Forming.{formed-bound}
 use Rattle.meaning.specs.Node.{Node, let-be}
 use Rattle.meaning.specs.State.{State, under}
 use Rattle.meaning.specs.Meaning.{Evaluates, isTrue, formedAt, membersAt, satisfying, satisfied, means, Sheet, meaning}

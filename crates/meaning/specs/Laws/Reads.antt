@@ -17,8 +17,8 @@ use Rattle.choices.specs.Tree.{Tree, give, refusal, Gives}
 use Rattle.choices.proofs.Trees.{gives-bind-out}
 use Rattle.values.specs.Value.{Value}
 use Rattle.patterns.specs.Binding.{is as valued, Binding, names, cellOf}
-use Rattle.patterns.specs.Matched.{match-sized}
-use Rattle.patterns.specs.Named.{named as holdsAt, Told, told}
+use Rattle.patterns.specs.Laws.Matched.{match-sized}
+use Rattle.patterns.specs.Laws.Named.{named as holdsAt, Told, told}
 use Rattle.tables.specs.declared.Role.{Role}
 use Rattle.tables.specs.declared.Role.the-variants.{Plain, Condition, Body, Pattern as Part, Name}
 use Rattle.tables.specs.declared.Checked.the-variants.{Accepted}

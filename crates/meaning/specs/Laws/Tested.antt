@@ -17,7 +17,7 @@ use Rattle.operators.specs.Answer.{is, Built, built, stopped, closed, asBoolean
 use Rattle.operators.specs.Enumerations.{buildOn}
 use Rattle.integers.specs.declared.Order.the-variants.{Lower}
 use Rattle.patterns.specs.Binding.{Binding, orderBindings}
-use Rattle.patterns.specs.Ordered.{BeforeEach, Rising, before-in, bindings-asymmetric}
+use Rattle.patterns.specs.Laws.Ordered.{BeforeEach, Rising, before-in, bindings-asymmetric}
 use Rattle.patterns.specs.Pattern.{Pattern, listOf, itemsOf}
 use Rattle.patterns.specs.Binder.{Formed, bound, refused as unformed, formed}
 use Rattle.meaning.specs.State.{State, under}

@@ -26,9 +26,9 @@ use Rattle.operator_laws.proofs.Enumerations.{FineBuilt, addMember-fine, addIte
 use Rattle.patterns.specs.Binding.{Cell, free, is as valued, clash, Binding, names, nothing, cellOf}
 use Rattle.patterns.specs.Pattern.{Pattern, loose, listOf}
 use Rattle.patterns.specs.Binder.{Formed, bound, refused as unformed, formed, bindings}
-use Rattle.patterns.specs.Matched.{match-sized, bindings-exactly}
-use Rattle.patterns.specs.Forming.{formed-bound}
-use Rattle.patterns.specs.Named.{FineCell, fine}
+use Rattle.patterns.specs.Laws.Matched.{match-sized, bindings-exactly}
+use Rattle.patterns.specs.Laws.Forming.{formed-bound}
+use Rattle.patterns.specs.Laws.Named.{FineCell, fine}
 use Rattle.tables.specs.declared.Checked.{Checked}
 use Rattle.tables.specs.declared.Checked.the-variants.{Accepted, Refused}
 use Rattle.tables.specs.Check.{check}

@@ -2,7 +2,7 @@
 use Prim.Native.Nat.{_<_}
 use mathlib.Core.Path.{_≡_}
 use native.Mathlib.Omega.{arith}
-use Rattle.parts.specs.Laws.{collection-held}
+use Rattle.parts.proofs.Laws.{collection-held}
 use Rattle.parts.proofs.Parting.{kinds-lower, kinds-higher, plain-held, plain-order, run-held, runs-order}
 use Rattle.parts.proofs.order_parts.Statement.{statement}
 use Rattle.parts.proofs.order_parts.Tie as tie

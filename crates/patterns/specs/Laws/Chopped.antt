@@ -9,7 +9,7 @@ use Rattle.values.proofs.Order.{irreflexive, asymmetric}
 use Rattle.patterns.specs.Ways.{halves, splits}
 use Rattle.patterns.specs.Units.{Shared, in-splits}
 use Rattle.patterns.specs.Pattern.{itemsOf}
-use Rattle.patterns.specs.Named.{PartOf, shared-left, shared-right, part-ascending}
+use Rattle.patterns.specs.Laws.Named.{PartOf, shared-left, shared-right, part-ascending}
 
 -- Two sets whose union is the set of these members, and whose intersection is empty.
 pub record SetChop (vs ls rs : List Value) : Type 0 where

@@ -19,7 +19,7 @@ use Rattle.patterns.specs.Units.{Shared, Inserted, Permuted}
 use Rattle.patterns.specs.Binding.{Cell, free, is, clash, Binding, names, nothing, only, cellOf}
 use Rattle.patterns.specs.Pattern.{Pattern, name, any, literal, each, halved, Patterns, nil, cons, itemsOf, matches}
 use Rattle.patterns.specs.Relation.{Agree, Arranged, Divided, Matches, MatchesEach}
-use Rattle.patterns.specs.Matched.{matched}
+use Rattle.patterns.specs.Laws.Matched.{matched}
 
 -- ---- the cells of one name and of nothing
 

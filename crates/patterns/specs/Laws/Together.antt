@@ -13,8 +13,8 @@ use Rattle.patterns.specs.Ways.{gather}
 use Rattle.patterns.specs.Members.{in-gather}
 use Rattle.patterns.specs.Binding.{free, is, clash, Binding, names, nothing, only, merge, consistent, withEach, together}
 use Rattle.patterns.specs.Pattern.{Pattern, name, any, literal, each, halved, Patterns, nil, cons, parts, contents, met, split, leftOf, rightOf, matches, matchEach}
-use Rattle.patterns.specs.Matched.{in-together, matched, match-sized, matchedEach, each-sized}
-use Rattle.patterns.specs.Merging.{true-false, merge-assoc, merge-nothing, nothing-merge, consistent-left, consistent-right}
+use Rattle.patterns.specs.Laws.Matched.{in-together, matched, match-sized, matchedEach, each-sized}
+use Rattle.patterns.specs.Laws.Merging.{true-false, merge-assoc, merge-nothing, nothing-merge, consistent-left, consistent-right}
 
 -- ---- lists
 

@@ -21,7 +21,7 @@ use Rattle.patterns.specs.Units.{in-splits, in-cuts, in-orders}
 use Rattle.patterns.specs.Binding.{Cell, free, is, clash, Binding, names, nothing, only, cellOf, agree, merge, consistent, withEach, together}
 use Rattle.patterns.specs.Pattern.{Pattern, name, any, literal, each, halved, Patterns, nil, cons, parts, listOf, itemsOf, contents, arrangements, divisions, met, split, leftOf, rightOf, matches, matchEach}
 use Rattle.patterns.specs.Binder.{bindings}
-use Rattle.patterns.specs.Ordered.{sorted-in, in-sorted}
+use Rattle.patterns.specs.Laws.Ordered.{sorted-in, in-sorted}
 use Rattle.patterns.specs.Relation.{Agree, Joined, Arranged, Divided, Matches, MatchesEach}
 
 -- ---- bindings have a cell for each name

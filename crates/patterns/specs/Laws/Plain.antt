@@ -17,7 +17,7 @@ use Rattle.patterns.specs.Ways.{gather, exists}
 use Rattle.patterns.specs.Binding.{Cell, free, is, clash, Binding, names, nothing, only, orderCells, orderBindings, place, sorted}
 use Rattle.patterns.specs.Pattern.{name, listOf, matches, wide}
 use Rattle.patterns.specs.Binder.{bindings, bound, formed, few}
-use Rattle.patterns.specs.Ordered.{bindings-refl, BeforeEach, Rising}
+use Rattle.patterns.specs.Laws.Ordered.{bindings-refl, BeforeEach, Rising}
 
 -- ---- one name's value decides
 

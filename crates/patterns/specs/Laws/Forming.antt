@@ -12,7 +12,7 @@ use Rattle.patterns.specs.Ways.{exists}
 use Rattle.patterns.specs.Binding.{Binding}
 use Rattle.patterns.specs.Pattern.{Pattern, wide, loose}
 use Rattle.patterns.specs.Binder.{mostBindings, bindings, bound, refused, formed}
-use Rattle.patterns.specs.Single.{single}
+use Rattle.patterns.specs.Laws.Single.{single}
 
 -- The bindings were formed: neither 29 nor 30.
 pub record Forms (p : Pattern) (vs : List Value) (bs : List Binding) : Type 0 where

@@ -17,7 +17,7 @@ use Rattle.patterns.specs.Ways.{exists, Halves, halves}
 use Rattle.patterns.specs.Units.{Inserted, Permuted, in-splits, in-cuts, in-orders}
 use Rattle.patterns.specs.Pattern.{Pattern, name, any, literal, each, halved, Patterns, nil, cons, parts, itemsOf, contents, arrangements, divisions, met, split, leftOf, rightOf, mostSplit, tooLarge, wide, wideEach}
 use Rattle.patterns.specs.Binder.{mostBindings, bound, refused, few, bindings, formed}
-use Rattle.patterns.specs.Matched.{contents-of, of-contents}
+use Rattle.patterns.specs.Laws.Matched.{contents-of, of-contents}
 use Rattle.patterns.specs.Wide.{Wide, WideAmong, WideInTurn}
 
 -- ---- tests

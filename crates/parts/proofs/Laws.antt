@@ -16,8 +16,8 @@ use Rattle.values.proofs.Order.{number-low, number-inj}
 use Rattle.values.proofs.Records.{is-collection, one-value, one-list, word-size, well-formed-collection}
 use Rattle.values.proofs.Frame.{kept, items-kept, word-kept}
 use Rattle.patterns.specs.Pattern.{listOf, itemsOf}
-use Rattle.patterns.specs.Matched.{items-list, list-items}
-use Rattle.patterns.specs.Named.{PartOf, part-fine}
+use Rattle.patterns.specs.Laws.Matched.{items-list, list-items}
+use Rattle.patterns.specs.Laws.Named.{PartOf, part-fine}
 use Rattle.parts.specs.declared.Part.{Part}
 use Rattle.parts.specs.Chosen.{odd, keep}
 use Rattle.parts.specs.Part.{Selects, Spans, PartIs, PartHeld, endOf}
