@@ -1,7 +1,7 @@
 //! Prints how long a check takes, the clearing of the scratch included: the mean, and the slowest tables.
 
 use generator::{accepted, at_limits, damaged};
-use sheets::{check, SCRATCH_SIZE};
+use sheets::lent::{check, SCRATCH_SIZE};
 use std::time::{Duration, Instant};
 
 const ROUNDS: u32 = 100;
@@ -10,7 +10,7 @@ const ROUNDS: u32 = 100;
 fn time(table: &[u8], scratch: &mut [u8]) -> Duration {
     let once = |_| {
         let start = Instant::now();
-        check(table, scratch);
+        let _ = check(table, scratch);
         start.elapsed()
     };
     (0..ROUNDS).map(once).min().expect("a round")
