@@ -3,36 +3,46 @@
 use std::error::Error;
 use std::fmt;
 
-/// The numbers of the refusals.
+/// The numbers of the refusals: 1 to 10 from the input, in the order in which they are tested, and 20 to 35 from the
+/// state of the run.
 pub mod number {
-    // From the input, in the order in which they are tested.
-    pub const SHORT_SCRATCH: u16 = 1;
-    pub const SHORT_RESULT: u16 = 2;
-    pub const TABLE_SIZE: u16 = 3;
-    pub const RECORD_FORM: u16 = 4;
-    pub const RECORD_COUNT: u16 = 5;
-    pub const OPERANDS: u16 = 6;
-    pub const NAMES: u16 = 7;
-    pub const LOOSE_CONDITION: u16 = 8;
-    pub const HEIGHT: u16 = 9;
-    pub const LIST_SIZE: u16 = 10;
-    // From the state of the run.
-    pub const KIND: u16 = 20;
-    pub const RANGE: u16 = 21;
-    pub const ZERO: u16 = 22;
-    pub const NO_MATCH: u16 = 23;
-    pub const NO_BINDING: u16 = 24;
-    pub const NOT_UNIQUE: u16 = 25;
-    pub const ABSENT: u16 = 26;
-    pub const CLASH: u16 = 27;
-    pub const LARGE: u16 = 28;
-    pub const SPLIT: u16 = 29;
-    pub const BINDINGS: u16 = 30;
-    pub const CHOICES: u16 = 31;
-    pub const USED_UP: u16 = 32;
-    pub const TOO_HIGH: u16 = 33;
-    pub const LEFT_OVER: u16 = 34;
-    pub const NO_NEXT: u16 = 35;
+    macro_rules! numbers {
+        ($($name:ident = $number:literal, $sentence:literal;)*) => {
+            $(#[doc = $sentence] pub const $name: u16 = $number;)*
+
+            /// Every number with its name and its sentence.
+            pub const ALL: &[(u16, &str, &str)] = &[$(($number, stringify!($name), $sentence),)*];
+        };
+    }
+
+    numbers! {
+        SHORT_SCRATCH = 1, "the scratch is shorter than 65536 bytes";
+        SHORT_RESULT = 2, "the result buffer is shorter than 512 bytes";
+        BAD_SIZE = 3, "the table is empty or over 2400 bytes";
+        RECORD_FORM = 4, "the record is cut off, or its length, kind, operator, name or literal is wrong";
+        RECORD_COUNT = 5, "the table has over 200 records";
+        OPERANDS = 6, "an operand is not lower, of the wrong sort or named before, or the record is never named, or it is the last and a pattern";
+        NAMES = 7, "the name is not bound around the record, or it is bound around the binder of its pattern";
+        LOOSE_CONDITION = 8, "a let-be or a loose let stands inside a condition";
+        HEIGHT = 9, "the height is over 32";
+        LIST_SIZE = 10, "the choice list is longer than 64, or fewer than 64 entries are lent";
+        KIND = 20, "a value is of the wrong kind";
+        RANGE = 21, "an integer is out of range";
+        ZERO = 22, "div, rem or mod by 0";
+        NO_MATCH = 23, "the value does not match the pattern of the let";
+        NO_BINDING = 24, "no binding of the let-be satisfies its condition";
+        NOT_UNIQUE = 25, "not exactly one binding of the iota satisfies its condition";
+        ABSENT = 26, "hd or tl of [], dinter of {}, or an absent index or key";
+        CLASH = 27, "one key has two values";
+        LARGE = 28, "the value is over 512 bytes";
+        SPLIT = 29, "a union pattern meets a set of over 7 members";
+        BINDINGS = 30, "the binder has over 255 distinct bindings";
+        CHOICES = 31, "the run meets a 65th choice";
+        USED_UP = 32, "the list is used up before a choice";
+        TOO_HIGH = 33, "an entry is not below the number of bindings";
+        LEFT_OVER = 34, "entries are left over";
+        NO_NEXT = 35, "there is no next list";
+    }
 }
 
 /// The answer of a service: number 0 with place 0 when granted, otherwise the refusal and its record.
@@ -108,14 +118,10 @@ impl Refusal {
 
     /// What is wrong, in one sentence without its place.
     pub fn sentence(&self) -> &'static str {
-        let (rules, index) = match self.number() {
-            from_run @ number::KIND.. => (RUN_SENTENCES, from_run - number::KIND),
-            from_input => (INPUT_SENTENCES, from_input - number::SHORT_SCRATCH),
-        };
-        rules
-            .get(usize::from(index))
-            .copied()
-            .unwrap_or("unknown number")
+        let rule = number::ALL
+            .iter()
+            .find(|(number, _, _)| *number == self.number());
+        rule.map_or("unknown number", |(_, _, sentence)| sentence)
     }
 }
 
@@ -146,38 +152,4 @@ const WORDS: [&str; 12] = [
     "split",
     "bindings",
     "choices",
-];
-
-/// The sentences for the refusals from 1 on.
-const INPUT_SENTENCES: &[&str] = &[
-    "the scratch is shorter than 65536 bytes",
-    "the result buffer is shorter than 512 bytes",
-    "the table is empty or over 2400 bytes",
-    "the record is cut off, or its length, kind, operator, name or literal is wrong",
-    "the table has over 200 records",
-    "an operand is not lower, of the wrong sort or named before, or the record is never named, or the last is a pattern",
-    "the name is not bound around the record, or a pattern name is already bound around its binder",
-    "a let-be or a loose let stands inside a condition",
-    "the height is over 32",
-    "the choice list is longer than 64, or fewer than 64 entries are lent",
-];
-
-/// The sentences for the refusals from 20 on.
-const RUN_SENTENCES: &[&str] = &[
-    "a value is of the wrong kind",
-    "an integer is out of range",
-    "div, rem or mod by 0",
-    "the value does not match the pattern of the let",
-    "no binding of the let-be satisfies its condition",
-    "not exactly one binding of the iota satisfies its condition",
-    "hd or tl of [], dinter of {}, or an absent index or key",
-    "one key has two values",
-    "the value is over 512 bytes",
-    "a union pattern meets a set of over 7 members",
-    "the binder has over 255 distinct bindings",
-    "the run meets a 65th choice",
-    "the list is used up before a choice",
-    "an entry is not below the number of bindings",
-    "entries are left over",
-    "there is no next list",
 ];

@@ -3,7 +3,7 @@
 mod common;
 
 use generator::{accepted, damaged, Random};
-use sheets::{List, Refusal, Sheet, Value};
+use sheets::{number, List, Refusal, Sheet, Value};
 
 #[test]
 fn a_walk_goes_on_from_any_list_that_was_noted() {
@@ -62,7 +62,7 @@ fn refusals_say_what_is_wrong() {
     let text = |table: &str, list| refusal(table, list).to_string();
     assert_eq!(
         text("name 0", List::EMPTY),
-        "refusal 7 at record 0: the name is not bound around the record, or a pattern name is already bound around its binder"
+        "refusal 7 at record 0: the name is not bound around the record, or it is bound around the binder of its pattern"
     );
     assert_eq!(
         text("integer 1\nnot 0", List::EMPTY),
@@ -81,6 +81,8 @@ fn refusals_say_what_is_wrong() {
         Some("kind")
     );
     assert_eq!(refusal(choice, List::EMPTY).word(), None);
+    let numbers: Vec<u16> = number::ALL.iter().map(|(number, _, _)| *number).collect();
+    assert_eq!(numbers, (1..=10).chain(20..=35).collect::<Vec<u16>>());
 }
 
 /// The value of every list of many sheets, decoded, printed and ordered as the reference has it.
