@@ -4,7 +4,7 @@
 mod common;
 
 use common::{bytes, samples, Both, Lending};
-use generator::{accepted, at_limits, damaged, Random};
+use generator::{accepted, at_limits, damaged, deepest, Random};
 use sheets::lent::SCRATCH_SIZE;
 
 /// Lengths around what is needed, and of a walk that are no length of a list.
@@ -240,10 +240,13 @@ fn changed_tables() {
 }
 
 #[test]
-fn sheets_at_the_limits() {
+fn sheets_at_the_limits_and_deep_ones() {
     let mut both = Both::new();
     let mut random = Random::new(3);
-    for (label, table) in at_limits() {
+    let at_limits = at_limits()
+        .into_iter()
+        .map(|(l, table)| (l.to_string(), table));
+    for (label, table) in at_limits.chain(deepest()) {
         eprintln!("{label}");
         call_all(&mut both, &table, &mut random);
         if both.check(&table).number == 0 {
