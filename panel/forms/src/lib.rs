@@ -165,7 +165,7 @@ impl Fields {
     pub fn takes(self, count: usize) -> bool {
         match self {
             Fields::Operands { least, most, step } => {
-                (least..=most).contains(&count) && (count - least) % step == 0
+                (least..=most).contains(&count) && (count - least).is_multiple_of(step)
             }
             _ => false,
         }

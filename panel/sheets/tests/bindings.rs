@@ -175,6 +175,6 @@ fn lists_are_read_and_printed_as_in_the_walk_print() {
     for text in ["", "256", "1,", "-1", "a", " 1"] {
         assert!(text.parse::<List>().is_err(), "{text:?}");
     }
-    let longest = vec![1; List::MAX_LENGTH];
+    let longest = [1; List::MAX_LENGTH];
     assert_eq!(List::try_from(&longest[..]).map(|list| list.len()), Ok(64));
 }

@@ -65,7 +65,7 @@ fn neighbours(list: &[u8], random: &mut Random) -> Vec<Vec<u8>> {
     lists.push([list, &more[..more.len().min(1)]].concat());
     lists.push([list, &more].concat());
     lists.push([list, &more, &[0]].concat());
-    lists.push([list, &vec![0; 200]].concat());
+    lists.push([list, &[0; 200]].concat());
     lists
 }
 
