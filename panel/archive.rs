@@ -18,12 +18,13 @@ fn main() {
         .expect("the workspace");
     let repository = panel.parent().expect("the repository");
     let given = env::var_os(FOLDER).map(PathBuf::from);
+    let is_given = given.is_some();
     let folder = given.unwrap_or_else(|| repository.join("target/staticlib"));
     let archive = folder.join(format!("lib{name}.a"));
     println!("cargo:rerun-if-env-changed={FOLDER}");
     println!("cargo:rerun-if-changed={}", archive.display());
 
-    if !archive.is_file() {
+    if !archive.is_file() && !is_given {
         // A failure shows as the archive that is still missing.
         let _ = make(&name, &archive, repository);
     }
