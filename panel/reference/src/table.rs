@@ -314,14 +314,14 @@ impl Table {
 
 /// The names that a pattern holds.
 pub fn pattern_names(records: &[Record], pattern: usize) -> BTreeSet<u8> {
-    match &records[pattern] {
-        Record::NamePattern(name) => BTreeSet::from([*name]),
-        record => record
-            .operands()
-            .iter()
-            .flat_map(|&(part, _)| pattern_names(records, part))
-            .collect(),
+    let mut names = BTreeSet::new();
+    if let Record::NamePattern(name) = records[pattern] {
+        names.insert(name);
     }
+    for (part, _) in records[pattern].operands() {
+        names.extend(pattern_names(records, part));
+    }
+    names
 }
 
 /// Whether a pattern may match in several ways: it holds a set enumeration, union or concatenation.

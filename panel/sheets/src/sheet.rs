@@ -1,5 +1,7 @@
 //! Accepted sheets.
 
+use std::fmt;
+
 use crate::answer::Refusal;
 use crate::lent::{self, SCRATCH_SIZE};
 use crate::list::List;
@@ -33,7 +35,7 @@ pub type Outcome = Result<Value, Refusal>;
 /// assert_eq!(lines, ["0 =2", "1 =4"]);
 /// # Ok::<(), sheets::Refusal>(())
 /// ```
-#[derive(Clone, Debug)]
+#[derive(Clone)]
 pub struct Sheet {
     table: Vec<u8>,
     records: usize,
@@ -112,5 +114,12 @@ impl Sheet {
         let List { entries, length } = list;
         let answer = lent::step(&self.table, entries, length, &mut self.scratch);
         answer.granted().map(|_| ())
+    }
+}
+
+impl fmt::Debug for Sheet {
+    fn fmt(&self, f: &mut fmt::Formatter) -> fmt::Result {
+        let mut shown = f.debug_struct("Sheet");
+        shown.field("table", &self.table).finish_non_exhaustive()
     }
 }

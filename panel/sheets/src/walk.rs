@@ -29,6 +29,7 @@ use crate::sheet::{Outcome, Sheet};
 /// # Ok::<(), sheets::Refusal>(())
 /// ```
 #[derive(Debug)]
+#[must_use = "a walk goes nowhere by itself"]
 pub struct Walk<'a> {
     sheet: &'a mut Sheet,
     /// The list at which the walk stands; none before the first.
@@ -61,6 +62,7 @@ impl<'a> Walk<'a> {
     }
 
     /// Goes to the next list, from the start to the first; false at the last, where the walk stays.
+    #[must_use = "at the last list the walk stays"]
     pub fn step(&mut self) -> bool {
         let Some(list) = &mut self.list else {
             self.first();

@@ -42,7 +42,8 @@ struct Memory {
     scratch: Vec<u8>,
     result: Vec<u8>,
     entries: Vec<u8>,
-    length: usize,
+    /// The length of the walk, between numbers that no call writes.
+    lengths: [usize; 3],
 }
 
 /// The same memory for both, dirty before each call.
@@ -64,7 +65,7 @@ impl Both {
             scratch: dirt.clone(),
             result: dirt[..LONGEST + 2 * GUARD].to_vec(),
             entries: dirt[..LONGEST + 2 * GUARD].to_vec(),
-            length: usize::MAX,
+            lengths: [usize::MAX; 3],
         };
         Both {
             ours: memory.clone(),
@@ -82,14 +83,14 @@ impl Both {
             lending
                 .of(&mut memory.entries, entries.len())
                 .copy_from_slice(entries);
-            memory.length = length;
+            memory.lengths[1] = length;
         }
     }
 
     /// The list that the walk holds; nothing where its length is over 64.
     pub fn list(&self) -> Vec<u8> {
         let entries = &self.ours.entries[self.lending.start..];
-        let held = entries[..List::MAX_LENGTH].get(..self.ours.length);
+        let held = entries[..List::MAX_LENGTH].get(..self.ours.lengths[1]);
         held.unwrap_or_default().to_vec()
     }
 
@@ -125,7 +126,7 @@ impl Both {
         self.call("first", table, &[], |lending, memory, table, _| {
             let scratch = lending.of(&mut memory.scratch, lending.scratch);
             let entries = lending.of(&mut memory.entries, lending.entries);
-            let length = &mut memory.length;
+            let length = &mut memory.lengths[1];
             match table {
                 By::Services(table) => lent::first(table, entries, length, scratch),
                 By::Reference(table) => {
@@ -139,7 +140,7 @@ impl Both {
         self.call("step", table, &[], |lending, memory, table, _| {
             let scratch = lending.of(&mut memory.scratch, lending.scratch);
             let entries = lending.of(&mut memory.entries, lending.entries);
-            let length = &mut memory.length;
+            let length = &mut memory.lengths[1];
             match table {
                 By::Services(table) => lent::step(table, entries, length, scratch),
                 By::Reference(table) => {
@@ -161,7 +162,7 @@ impl Both {
             memory.scratch.copy_from_slice(&self.dirt);
             memory.result.fill(0xA5);
         }
-        let before = (self.list(), self.ours.length);
+        let before = (self.list(), self.ours.lengths[1]);
         let (lent_table, lent_list) = (table.to_vec(), list.to_vec());
         let lending = &self.lending;
         let ours = call(
@@ -177,7 +178,7 @@ impl Both {
         assert!(left.scratch == due.scratch, "scratch after {}", what());
         assert!(left.result == due.result, "result after {}", what());
         assert!(left.entries == due.entries, "entries after {}", what());
-        assert_eq!(left.length, due.length, "length after {}", what());
+        assert_eq!(left.lengths, due.lengths, "length after {}", what());
         assert!(lent_table == table && lent_list == list, "{}", what());
         self.calls += 1;
         ours
