@@ -290,47 +290,64 @@ fn slowest_refused() -> Vec<u8> {
 }
 
 fn rows() -> Vec<Row> {
-    use Call::{Check, Evaluate, Step, Walk};
-    let long = cases::four_choices;
-    vec![
-        Row::new("check, the largest accepted table", Check, cases::largest()),
-        Row::new("check, the slowest refused table", Check, slowest_refused()),
+    let mut rows = vec![
         Row::new(
-            "walk of 975 lists: a let-be of 40 over one of 25",
-            Walk,
-            cases::nested_choices(),
+            "check, the largest accepted table",
+            Call::Check,
+            cases::largest(),
         ),
         Row::new(
-            "evaluate, the same under its last list",
-            Evaluate,
+            "check, the slowest refused table",
+            Call::Check,
+            slowest_refused(),
+        ),
+    ];
+    rows.extend(walks());
+    rows.extend(evaluations());
+    rows.extend(steps());
+    rows
+}
+
+fn walks() -> [Row; 2] {
+    [
+        (
+            "walk of 975 lists: a let-be of 40 over one of 25",
             cases::nested_choices(),
-        )
-        .under(vec![39, 24]),
-        Row::new(
+        ),
+        (
             "walk of 128 lists: let a union b = {1,...,7}",
-            Walk,
             cases::union_of_seven(),
         ),
-        Row::new(
+    ]
+    .map(|(label, table)| Row::new(label, Call::Walk, table))
+}
+
+fn evaluations() -> [Row; 5] {
+    let deterministic = [
+        (
             "evaluate, nested comprehensions of 63 × 63",
-            Evaluate,
             cases::nested_comprehensions(),
         ),
-        Row::new(
-            "evaluate, quantifiers over 63 × 63",
-            Evaluate,
-            cases::quantifiers(),
-        ),
-        Row::new(
+        ("evaluate, quantifiers over 63 × 63", cases::quantifiers()),
+        (
             "evaluate, a map comprehension with 31 applications",
-            Evaluate,
             cases::applied_map(),
         ),
-        Row::new("evaluate, height 32", Evaluate, cases::chain(32)),
-        Row::new("step, list 1 of 14,641", Step, long()).under(vec![0, 0, 0, 0]),
-        Row::new("step, list 1,000", Step, long()).under(vec![0, 8, 2, 9]),
-        Row::new("step, list 10,000", Step, long()).under(vec![7, 5, 7, 0]),
+        ("evaluate, height 32", cases::chain(32)),
+    ];
+    let [a, b, c, d] = deterministic.map(|(label, table)| Row::new(label, Call::Evaluate, table));
+    let label = "evaluate, list 975 of a let-be of 40 over one of 25";
+    let chosen = Row::new(label, Call::Evaluate, cases::nested_choices()).under(vec![39, 24]);
+    [chosen, a, b, c, d]
+}
+
+fn steps() -> [Row; 3] {
+    [
+        ("step from list 1 of 14,641", [0, 0, 0, 0]),
+        ("step from list 1,000", [0, 8, 2, 9]),
+        ("step from list 10,000", [7, 5, 7, 0]),
     ]
+    .map(|(label, list)| Row::new(label, Call::Step, cases::four_choices()).under(list.to_vec()))
 }
 
 fn main() {
