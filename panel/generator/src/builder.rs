@@ -1,91 +1,9 @@
 //! Builds tables: records are appended one by one, and each is known by its number.
 
+use forms::HEADER;
+pub use forms::{binary, kind, unary};
+
 use crate::random::Random;
-
-/// The kinds of table records.
-pub mod kind {
-    pub const BOOLEAN: u16 = 1;
-    pub const INTEGER: u16 = 2;
-    pub const NAME: u16 = 3;
-    pub const UNARY: u16 = 4;
-    pub const BINARY: u16 = 5;
-    pub const IF: u16 = 6;
-    pub const SET: u16 = 7;
-    pub const SEQUENCE: u16 = 8;
-    pub const MAP: u16 = 9;
-    pub const TUPLE: u16 = 10;
-    pub const RANGE: u16 = 11;
-    pub const LET: u16 = 12;
-    pub const LET_BE: u16 = 13;
-    pub const FORALL: u16 = 14;
-    pub const EXISTS: u16 = 15;
-    pub const EXISTS1: u16 = 16;
-    pub const IOTA: u16 = 17;
-    pub const SET_COMPREHENSION: u16 = 18;
-    pub const SEQUENCE_COMPREHENSION: u16 = 19;
-    pub const MAP_COMPREHENSION: u16 = 20;
-    pub const APPLY: u16 = 21;
-    pub const P_NAME: u16 = 32;
-    pub const P_ANY: u16 = 33;
-    pub const P_BOOLEAN: u16 = 34;
-    pub const P_INTEGER: u16 = 35;
-    pub const P_TUPLE: u16 = 36;
-    pub const P_SET: u16 = 37;
-    pub const P_UNION: u16 = 38;
-    pub const P_SEQUENCE: u16 = 39;
-    pub const P_CONCATENATION: u16 = 40;
-}
-
-/// The unary operators.
-pub mod unary {
-    pub const NOT: u8 = 1;
-    pub const NEGATE: u8 = 2;
-    pub const ABS: u8 = 3;
-    pub const CARD: u8 = 4;
-    pub const DUNION: u8 = 5;
-    pub const DINTER: u8 = 6;
-    pub const LEN: u8 = 7;
-    pub const HD: u8 = 8;
-    pub const TL: u8 = 9;
-    pub const ELEMS: u8 = 10;
-    pub const INDS: u8 = 11;
-    pub const CONC: u8 = 12;
-    pub const REVERSE: u8 = 13;
-    pub const DOM: u8 = 14;
-    pub const RNG: u8 = 15;
-}
-
-/// The binary operators.
-pub mod binary {
-    pub const AND: u8 = 1;
-    pub const OR: u8 = 2;
-    pub const IMPLIES: u8 = 3;
-    pub const EQUIVALENT: u8 = 4;
-    pub const EQUAL: u8 = 5;
-    pub const NOT_EQUAL: u8 = 6;
-    pub const PLUS: u8 = 7;
-    pub const MINUS: u8 = 8;
-    pub const TIMES: u8 = 9;
-    pub const DIV: u8 = 10;
-    pub const REM: u8 = 11;
-    pub const MOD: u8 = 12;
-    pub const LESS: u8 = 13;
-    pub const LESS_OR_EQUAL: u8 = 14;
-    pub const GREATER: u8 = 15;
-    pub const GREATER_OR_EQUAL: u8 = 16;
-    pub const IN_SET: u8 = 17;
-    pub const NOT_IN_SET: u8 = 18;
-    pub const UNION: u8 = 19;
-    pub const INTER: u8 = 20;
-    pub const DIFFERENCE: u8 = 21;
-    pub const SUBSET: u8 = 22;
-    pub const PSUBSET: u8 = 23;
-    pub const CONCATENATE: u8 = 24;
-    pub const MUNION: u8 = 25;
-    pub const OVERRIDE: u8 = 26;
-    pub const DOMAIN_RESTRICTION: u8 = 27;
-    pub const RANGE_RESTRICTION: u8 = 28;
-}
 
 /// One record: its kind, the bytes of its operator or literal, and the records that it names.
 #[derive(Clone, Debug, PartialEq, Eq)]
@@ -101,7 +19,7 @@ impl Record {
     }
 
     pub fn bytes(&self) -> Vec<u8> {
-        let length = (4 + self.constants.len() + self.operands.len()) as u16;
+        let length = (HEADER + self.constants.len() + self.operands.len()) as u16;
         let mut bytes = Vec::from(length.to_le_bytes());
         bytes.extend(self.kind.to_le_bytes());
         bytes.extend(&self.constants);

@@ -5,6 +5,7 @@
 mod binders;
 pub mod builder;
 mod damage;
+mod depths;
 mod expressions;
 mod limits;
 mod patterns;
@@ -14,6 +15,7 @@ mod writer;
 
 pub use builder::Builder;
 pub use damage::damaged;
+pub use depths::deepest;
 pub use limits::at_limits;
 pub use random::Random;
 

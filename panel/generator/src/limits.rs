@@ -194,7 +194,7 @@ fn records(b: &mut Builder, count: usize) -> usize {
         });
         terms = pairs.collect();
     }
-    if count % 2 == 0 {
+    if count.is_multiple_of(2) {
         return b.unary(unary::NEGATE, terms[0]);
     }
     terms[0]

@@ -1,6 +1,6 @@
 //! The generated tables are what they are meant to be, as the reference judges them.
 
-use generator::{accepted, at_limits, damaged};
+use generator::{accepted, at_limits, damaged, deepest};
 use reference::check::check;
 use reference::print::walk_print;
 
@@ -163,4 +163,23 @@ fn choices(label: &str) -> String {
         "65 choices" => format!("table 30\n{zeros},0 !31 choices\nend 1\n"),
         _ => panic!("nothing is expected of {label}"),
     }
+}
+
+/// Each deep sheet is accepted, ends in values and is 31 or 32 high.
+#[test]
+fn deep_sheets_are_accepted_and_end_in_values() {
+    for (label, table) in deepest() {
+        let print = walk_print(&table);
+        assert!(print.starts_with("table "), "{label}: {print}");
+        assert!(!print.contains('!'), "{label}: {print}");
+        assert!(is_high(&table), "{label}");
+    }
+}
+
+/// Whether two more minuses make a table too high.
+fn is_high(table: &[u8]) -> bool {
+    let records = check(table).expect("an accepted table") as u8;
+    let minuses = [6, 0, 4, 0, 2, records - 1, 6, 0, 4, 0, 2, records];
+    let higher = check(&[table, &minuses].concat());
+    higher.is_err_and(|refusal| refusal.number == 9)
 }

@@ -1,6 +1,6 @@
 //! From the bytes of a table to the notation.
 
-use crate::forms::{by_kind, Fields, Form, BINARY, HEADER, LAST_NAME, UNARY};
+use forms::{by_kind, kind, Fields, Form, HEADER, LAST_NAME};
 use std::fmt;
 
 /// Why bytes cannot be cut into well-formed records: the record's number and the offset of its first byte.
@@ -66,7 +66,7 @@ fn first_record(bytes: &[u8]) -> Result<(usize, String), String> {
 
 /// The form of a record of this kind, and the contents after the operator.
 fn form_of(kind: u16, contents: &[u8]) -> Result<(&'static Form, &[u8]), String> {
-    if kind != UNARY && kind != BINARY {
+    if kind != kind::UNARY && kind != kind::BINARY {
         let form = by_kind(kind, None).ok_or_else(|| format!("unknown kind {kind}"))?;
         return Ok((form, contents));
     }

@@ -1,6 +1,6 @@
 //! From the notation to the bytes of a table.
 
-use crate::forms::{by_word, Fields, Form, HEADER, LAST_NAME};
+use forms::{by_word, Fields, Form, HEADER, LAST_NAME};
 use std::fmt;
 use std::str::FromStr;
 

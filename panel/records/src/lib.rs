@@ -13,7 +13,6 @@
 
 mod decode;
 mod encode;
-pub mod forms;
 
 pub use decode::{decode, Malformed};
 pub use encode::{encode, Mistake};

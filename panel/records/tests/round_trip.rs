@@ -1,12 +1,12 @@
 //! Encoding and decoding undo each other, on every form of record.
 
-use records::forms::{Fields, FORMS};
+use forms::Fields;
 use records::{decode, encode};
 
 /// A line of each form with each number of fields that it takes.
 fn lines() -> Vec<String> {
     let mut lines = Vec::new();
-    for form in FORMS {
+    for form in forms::all() {
         let fields: Vec<String> = match form.fields {
             Fields::Boolean => ["false", "true"].map(String::from).to_vec(),
             Fields::Integer => [i32::MIN, -1, 0, 256, i32::MAX]

@@ -37,22 +37,22 @@ pub fn evaluate(table: &[u8], list: &[u8], scratch: &mut [u8], result: &mut [u8]
 }
 
 /// Overwrites the walk with the first complete list.
-pub fn first(table: &[u8], scratch: &mut [u8], entries: &mut [u8], length: &mut usize) -> Answer {
-    match try_first(table, scratch, entries) {
+pub fn first(table: &[u8], entries: &mut [u8], length: &mut usize, scratch: &mut [u8]) -> Answer {
+    match try_first(table, entries, scratch) {
         Ok(list) => grant(&list, entries, length),
         Err(answer) => answer,
     }
 }
 
-fn try_first(table: &[u8], scratch: &mut [u8], entries: &[u8]) -> Result<Vec<u8>, Answer> {
+fn try_first(table: &[u8], entries: &[u8], scratch: &mut [u8]) -> Result<Vec<u8>, Answer> {
     clear(scratch)?;
     let table = accept_with_walk(table, entries)?;
     Ok(walk::first(&table))
 }
 
 /// Overwrites the walk with the complete list after the one that it holds.
-pub fn step(table: &[u8], scratch: &mut [u8], entries: &mut [u8], length: &mut usize) -> Answer {
-    match try_step(table, scratch, entries, *length) {
+pub fn step(table: &[u8], entries: &mut [u8], length: &mut usize, scratch: &mut [u8]) -> Answer {
+    match try_step(table, entries, *length, scratch) {
         Ok(list) => grant(&list, entries, length),
         Err(answer) => answer,
     }
@@ -60,9 +60,9 @@ pub fn step(table: &[u8], scratch: &mut [u8], entries: &mut [u8], length: &mut u
 
 fn try_step(
     table: &[u8],
-    scratch: &mut [u8],
     entries: &[u8],
     length: usize,
+    scratch: &mut [u8],
 ) -> Result<Vec<u8>, Answer> {
     clear(scratch)?;
     let table = accept_with_walk(table, entries)?;

@@ -2,123 +2,10 @@
 
 use std::collections::BTreeSet;
 
+use forms::{kind, HEADER, LAST_NAME};
+pub use forms::{Binary, Unary};
+
 use crate::answer::{Refusal, RECORD_FORM};
-
-/// The unary operators, in the order of their numbers from 1.
-#[derive(Clone, Copy, Debug, PartialEq, Eq)]
-pub enum Unary {
-    Not,
-    Minus,
-    Abs,
-    Card,
-    DistributedUnion,
-    DistributedInter,
-    Len,
-    Hd,
-    Tl,
-    Elems,
-    Inds,
-    Conc,
-    Reverse,
-    Dom,
-    Rng,
-}
-
-impl Unary {
-    const ALL: [Unary; 15] = [
-        Unary::Not,
-        Unary::Minus,
-        Unary::Abs,
-        Unary::Card,
-        Unary::DistributedUnion,
-        Unary::DistributedInter,
-        Unary::Len,
-        Unary::Hd,
-        Unary::Tl,
-        Unary::Elems,
-        Unary::Inds,
-        Unary::Conc,
-        Unary::Reverse,
-        Unary::Dom,
-        Unary::Rng,
-    ];
-
-    fn from_number(number: u8) -> Option<Unary> {
-        Unary::ALL.get(usize::from(number).checked_sub(1)?).copied()
-    }
-}
-
-/// The binary operators, in the order of their numbers from 1.
-#[derive(Clone, Copy, Debug, PartialEq, Eq)]
-pub enum Binary {
-    And,
-    Or,
-    Implies,
-    Equivalent,
-    Equal,
-    NotEqual,
-    Plus,
-    Minus,
-    Times,
-    Div,
-    Rem,
-    Mod,
-    Less,
-    LessOrEqual,
-    Greater,
-    GreaterOrEqual,
-    InSet,
-    NotInSet,
-    Union,
-    Inter,
-    Difference,
-    Subset,
-    ProperSubset,
-    Concatenate,
-    MapUnion,
-    Override,
-    DomainRestrict,
-    RangeRestrict,
-}
-
-impl Binary {
-    const ALL: [Binary; 28] = [
-        Binary::And,
-        Binary::Or,
-        Binary::Implies,
-        Binary::Equivalent,
-        Binary::Equal,
-        Binary::NotEqual,
-        Binary::Plus,
-        Binary::Minus,
-        Binary::Times,
-        Binary::Div,
-        Binary::Rem,
-        Binary::Mod,
-        Binary::Less,
-        Binary::LessOrEqual,
-        Binary::Greater,
-        Binary::GreaterOrEqual,
-        Binary::InSet,
-        Binary::NotInSet,
-        Binary::Union,
-        Binary::Inter,
-        Binary::Difference,
-        Binary::Subset,
-        Binary::ProperSubset,
-        Binary::Concatenate,
-        Binary::MapUnion,
-        Binary::Override,
-        Binary::DomainRestrict,
-        Binary::RangeRestrict,
-    ];
-
-    fn from_number(number: u8) -> Option<Binary> {
-        Binary::ALL
-            .get(usize::from(number).checked_sub(1)?)
-            .copied()
-    }
-}
 
 /// The binders that give a boolean, or (iota) the value bound.
 #[derive(Clone, Copy, Debug, PartialEq, Eq)]
@@ -210,8 +97,8 @@ impl Record {
     /// Reads a whole record from its own part of the table; nothing if it is malformed.
     pub fn read(part: &[u8]) -> Option<Record> {
         let kind = u16::from_le_bytes([*part.get(2)?, *part.get(3)?]);
-        let fields = part.get(4..)?;
-        if !lengths(kind).contains(&part.len()) {
+        let fields = part.get(HEADER..)?;
+        if !forms::fits(kind, part.len()) {
             return None;
         }
         let at = |index: usize| usize::from(fields[index]);
@@ -222,57 +109,57 @@ impl Record {
             condition: at(2),
         };
         Some(match kind {
-            1 => Record::Boolean(boolean(fields)?),
-            2 => Record::Integer(integer(fields)?),
-            3 => Record::Name(name(fields)?),
-            4 => Record::Unary(Unary::from_number(fields[0])?, at(1)),
-            5 => Record::Binary(Binary::from_number(fields[0])?, at(1), at(2)),
-            6 => Record::If {
+            kind::BOOLEAN => Record::Boolean(boolean(fields)?),
+            kind::INTEGER => Record::Integer(integer(fields)?),
+            kind::NAME => Record::Name(name(fields)?),
+            kind::UNARY => Record::Unary(Unary::from_number(fields[0])?, at(1)),
+            kind::BINARY => Record::Binary(Binary::from_number(fields[0])?, at(1), at(2)),
+            kind::IF => Record::If {
                 test: at(0),
                 then: at(1),
                 otherwise: at(2),
             },
-            7 => Record::SetEnumeration(operands()),
-            8 => Record::SequenceEnumeration(operands()),
-            9 => Record::MapEnumeration(operands()),
-            10 => Record::Tuple(operands()),
-            11 => Record::SetRange(at(0), at(1)),
-            12 => Record::Let {
+            kind::SET => Record::SetEnumeration(operands()),
+            kind::SEQUENCE => Record::SequenceEnumeration(operands()),
+            kind::MAP => Record::MapEnumeration(operands()),
+            kind::TUPLE => Record::Tuple(operands()),
+            kind::RANGE => Record::SetRange(at(0), at(1)),
+            kind::LET => Record::Let {
                 pattern: at(0),
                 value: at(1),
                 body: at(2),
             },
-            13 => Record::LetBe {
+            kind::LET_BE => Record::LetBe {
                 bind: bind(),
                 body: at(3),
             },
-            14 => Record::Quantified(Quantifier::Forall, bind()),
-            15 => Record::Quantified(Quantifier::Exists, bind()),
-            16 => Record::Quantified(Quantifier::Exists1, bind()),
-            17 => Record::Quantified(Quantifier::Iota, bind()),
-            18 => Record::SetComprehension {
+            kind::FORALL => Record::Quantified(Quantifier::Forall, bind()),
+            kind::EXISTS => Record::Quantified(Quantifier::Exists, bind()),
+            kind::EXISTS1 => Record::Quantified(Quantifier::Exists1, bind()),
+            kind::IOTA => Record::Quantified(Quantifier::Iota, bind()),
+            kind::SET_COMPREHENSION => Record::SetComprehension {
                 bind: bind(),
                 element: at(3),
             },
-            19 => Record::SequenceComprehension {
+            kind::SEQUENCE_COMPREHENSION => Record::SequenceComprehension {
                 bind: bind(),
                 element: at(3),
             },
-            20 => Record::MapComprehension {
+            kind::MAP_COMPREHENSION => Record::MapComprehension {
                 bind: bind(),
                 key: at(3),
                 value: at(4),
             },
-            21 => Record::Apply(at(0), at(1)),
-            32 => Record::NamePattern(name(fields)?),
-            33 => Record::AnyPattern,
-            34 => Record::BooleanPattern(boolean(fields)?),
-            35 => Record::IntegerPattern(integer(fields)?),
-            36 => Record::TuplePattern(operands()),
-            37 => Record::SetPattern(operands()),
-            38 => Record::UnionPattern(at(0), at(1)),
-            39 => Record::SequencePattern(operands()),
-            40 => Record::ConcatenationPattern(at(0), at(1)),
+            kind::APPLY => Record::Apply(at(0), at(1)),
+            kind::P_NAME => Record::NamePattern(name(fields)?),
+            kind::P_ANY => Record::AnyPattern,
+            kind::P_BOOLEAN => Record::BooleanPattern(boolean(fields)?),
+            kind::P_INTEGER => Record::IntegerPattern(integer(fields)?),
+            kind::P_TUPLE => Record::TuplePattern(operands()),
+            kind::P_SET => Record::SetPattern(operands()),
+            kind::P_UNION => Record::UnionPattern(at(0), at(1)),
+            kind::P_SEQUENCE => Record::SequencePattern(operands()),
+            kind::P_CONCATENATION => Record::ConcatenationPattern(at(0), at(1)),
             _ => return None,
         })
     }
@@ -360,23 +247,6 @@ impl Record {
     }
 }
 
-/// The lengths that fit a kind; none for an unknown kind.
-fn lengths(kind: u16) -> &'static [usize] {
-    match kind {
-        33 => &[4],
-        1 | 3 | 32 | 34 => &[5],
-        4 | 11 | 21 | 38 | 40 => &[6],
-        5 | 6 | 12 | 14..=17 => &[7],
-        2 | 13 | 18 | 19 | 35 => &[8],
-        20 => &[9],
-        7 | 8 => &[4, 5, 6, 7, 8, 9, 10, 11, 12],
-        9 => &[4, 6, 8, 10, 12],
-        10 | 36 => &[6, 7, 8],
-        37 | 39 => &[4, 5, 6, 7, 8],
-        _ => &[],
-    }
-}
-
 fn boolean(fields: &[u8]) -> Option<bool> {
     match fields[0] {
         0 => Some(false),
@@ -390,7 +260,7 @@ fn integer(fields: &[u8]) -> Option<i32> {
 }
 
 fn name(fields: &[u8]) -> Option<u8> {
-    Some(fields[0]).filter(|&name| name < 16)
+    Some(fields[0]).filter(|&name| name <= LAST_NAME)
 }
 
 /// Cuts a table into its records; rule 4 with the first record at fault.
@@ -444,14 +314,14 @@ impl Table {
 
 /// The names that a pattern holds.
 pub fn pattern_names(records: &[Record], pattern: usize) -> BTreeSet<u8> {
-    match &records[pattern] {
-        Record::NamePattern(name) => BTreeSet::from([*name]),
-        record => record
-            .operands()
-            .iter()
-            .flat_map(|&(part, _)| pattern_names(records, part))
-            .collect(),
+    let mut names = BTreeSet::new();
+    if let Record::NamePattern(name) = records[pattern] {
+        names.insert(name);
     }
+    for (part, _) in records[pattern].operands() {
+        names.extend(pattern_names(records, part));
+    }
+    names
 }
 
 /// Whether a pattern may match in several ways: it holds a set enumeration, union or concatenation.

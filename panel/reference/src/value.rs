@@ -102,7 +102,9 @@ impl Value {
             }
             6 => {
                 let items = items(contents)?;
-                (2..=4).contains(&items.len()).then(|| Value::Tuple(items))
+                (2..=4)
+                    .contains(&items.len())
+                    .then_some(Value::Tuple(items))
             }
             _ => None,
         }

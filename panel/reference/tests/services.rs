@@ -40,18 +40,18 @@ impl Lent {
     fn first(&mut self, table: &[u8]) -> Answer {
         first(
             table,
-            &mut self.scratch,
             &mut self.entries,
             &mut self.length,
+            &mut self.scratch,
         )
     }
 
     fn step(&mut self, table: &[u8]) -> Answer {
         step(
             table,
-            &mut self.scratch,
             &mut self.entries,
             &mut self.length,
+            &mut self.scratch,
         )
     }
 

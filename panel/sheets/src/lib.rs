@@ -1,50 +1,20 @@
-//! The proved services, called from Rust.
+//! The proved services for step sheets, called from Rust.
+//!
+//! A [`Sheet`] is a table that the check accepted. It is evaluated under a [`List`] of choices, to a [`Value`] or a
+//! [`Refusal`], and walked over all its complete lists. The memory that the services work in belongs to the sheet and
+//! is allocated once; those who lend their own find the four calls in [`lent`].
+#![deny(unsafe_code)]
 
-/// The scratch that every service needs and leaves as zeros.
-pub const SCRATCH_SIZE: usize = 65_536;
+mod answer;
+mod exported;
+pub mod lent;
+mod list;
+mod sheet;
+mod value;
+mod walk;
 
-/// The answer of a service: number 0 with place 0 when granted, otherwise the refusal and its record.
-#[derive(Clone, Copy, Debug, PartialEq, Eq)]
-pub struct Answer {
-    pub number: u16,
-    pub place: u16,
-    /// The records of an accepted table, the bindings with 32 and 33, and otherwise 0.
-    pub count: u32,
-}
-
-impl Answer {
-    /// Takes apart number + 65,536 × place + 4,294,967,296 × count.
-    fn unpack(packed: u64) -> Answer {
-        Answer {
-            number: packed as u16,
-            place: (packed >> 16) as u16,
-            count: (packed >> 32) as u32,
-        }
-    }
-}
-
-/// The exported functions. A slice is passed as its pointer and then its length.
-mod exported {
-    extern "C" {
-        pub fn services_check(
-            table: *const u8,
-            table_length: usize,
-            scratch: *mut u8,
-            scratch_length: usize,
-        ) -> u64;
-    }
-}
-
-/// Checks a table.
-pub fn check(table: &[u8], scratch: &mut [u8]) -> Answer {
-    // SAFETY: both slices are valid for their lengths and do not overlap, and the function asks nothing else.
-    let packed = unsafe {
-        exported::services_check(
-            table.as_ptr(),
-            table.len(),
-            scratch.as_mut_ptr(),
-            scratch.len(),
-        )
-    };
-    Answer::unpack(packed)
-}
+pub use answer::{number, Answer, Refusal};
+pub use list::{List, NotAList};
+pub use sheet::{Outcome, Sheet};
+pub use value::Value;
+pub use walk::Walk;

@@ -1,7 +1,7 @@
 //! A tiny builder of tables for the tests: nested records, each placed after its operands.
 #![allow(dead_code, unused_imports)]
 
-pub use generator::builder::{binary, unary};
+pub use forms::{binary, kind, unary};
 use reference::eval::{evaluate, Evaluation};
 
 /// A record with its operands nested in it.
@@ -81,124 +81,136 @@ pub fn node(kind: u16, bytes: &[u8], operands: &[Node]) -> Node {
 }
 
 pub fn boolean(truth: bool) -> Node {
-    node(1, &[u8::from(truth)], &[])
+    node(kind::BOOLEAN, &[u8::from(truth)], &[])
 }
 
 pub fn int(number: i32) -> Node {
-    node(2, &number.to_le_bytes(), &[])
+    node(kind::INTEGER, &number.to_le_bytes(), &[])
 }
 
 pub fn name(name: u8) -> Node {
-    node(3, &[name], &[])
+    node(kind::NAME, &[name], &[])
 }
 
 pub fn un(operator: u8, operand: Node) -> Node {
-    node(4, &[operator], &[operand])
+    node(kind::UNARY, &[operator], &[operand])
 }
 
 pub fn bin(operator: u8, left: Node, right: Node) -> Node {
-    node(5, &[operator], &[left, right])
+    node(kind::BINARY, &[operator], &[left, right])
 }
 
 pub fn if_(test: Node, then: Node, otherwise: Node) -> Node {
-    node(6, &[], &[test, then, otherwise])
+    node(kind::IF, &[], &[test, then, otherwise])
 }
 
 pub fn set(operands: &[Node]) -> Node {
-    node(7, &[], operands)
+    node(kind::SET, &[], operands)
 }
 
 pub fn seq(operands: &[Node]) -> Node {
-    node(8, &[], operands)
+    node(kind::SEQUENCE, &[], operands)
 }
 
 /// Key, value, key, value.
 pub fn map(operands: &[Node]) -> Node {
-    node(9, &[], operands)
+    node(kind::MAP, &[], operands)
 }
 
 pub fn tuple(operands: &[Node]) -> Node {
-    node(10, &[], operands)
+    node(kind::TUPLE, &[], operands)
 }
 
 pub fn range(from: i32, to: i32) -> Node {
-    node(11, &[], &[int(from), int(to)])
+    node(kind::RANGE, &[], &[int(from), int(to)])
 }
 
 pub fn let_(pattern: Node, value: Node, body: Node) -> Node {
-    node(12, &[], &[pattern, value, body])
+    node(kind::LET, &[], &[pattern, value, body])
 }
 
 pub fn let_be(pattern: Node, set: Node, condition: Node, body: Node) -> Node {
-    node(13, &[], &[pattern, set, condition, body])
+    node(kind::LET_BE, &[], &[pattern, set, condition, body])
 }
 
 pub fn forall(pattern: Node, set: Node, condition: Node) -> Node {
-    node(14, &[], &[pattern, set, condition])
+    node(kind::FORALL, &[], &[pattern, set, condition])
 }
 
 pub fn exists(pattern: Node, set: Node, condition: Node) -> Node {
-    node(15, &[], &[pattern, set, condition])
+    node(kind::EXISTS, &[], &[pattern, set, condition])
 }
 
 pub fn exists1(pattern: Node, set: Node, condition: Node) -> Node {
-    node(16, &[], &[pattern, set, condition])
+    node(kind::EXISTS1, &[], &[pattern, set, condition])
 }
 
 pub fn iota(pattern: Node, set: Node, condition: Node) -> Node {
-    node(17, &[], &[pattern, set, condition])
+    node(kind::IOTA, &[], &[pattern, set, condition])
 }
 
 pub fn set_comp(pattern: Node, set: Node, condition: Node, element: Node) -> Node {
-    node(18, &[], &[pattern, set, condition, element])
+    node(
+        kind::SET_COMPREHENSION,
+        &[],
+        &[pattern, set, condition, element],
+    )
 }
 
 pub fn seq_comp(pattern: Node, set: Node, condition: Node, element: Node) -> Node {
-    node(19, &[], &[pattern, set, condition, element])
+    node(
+        kind::SEQUENCE_COMPREHENSION,
+        &[],
+        &[pattern, set, condition, element],
+    )
 }
 
 pub fn map_comp(pattern: Node, set: Node, condition: Node, key: Node, value: Node) -> Node {
-    node(20, &[], &[pattern, set, condition, key, value])
+    node(
+        kind::MAP_COMPREHENSION,
+        &[],
+        &[pattern, set, condition, key, value],
+    )
 }
 
 pub fn apply(function: Node, argument: Node) -> Node {
-    node(21, &[], &[function, argument])
+    node(kind::APPLY, &[], &[function, argument])
 }
 
 pub fn p_name(name: u8) -> Node {
-    node(32, &[name], &[])
+    node(kind::P_NAME, &[name], &[])
 }
 
 pub fn p_any() -> Node {
-    node(33, &[], &[])
+    node(kind::P_ANY, &[], &[])
 }
 
 pub fn p_boolean(truth: bool) -> Node {
-    node(34, &[u8::from(truth)], &[])
+    node(kind::P_BOOLEAN, &[u8::from(truth)], &[])
 }
 
 pub fn p_int(number: i32) -> Node {
-    node(35, &number.to_le_bytes(), &[])
+    node(kind::P_INTEGER, &number.to_le_bytes(), &[])
 }
 
 pub fn p_tuple(parts: &[Node]) -> Node {
-    node(36, &[], parts)
+    node(kind::P_TUPLE, &[], parts)
 }
 
 pub fn p_set(parts: &[Node]) -> Node {
-    node(37, &[], parts)
+    node(kind::P_SET, &[], parts)
 }
 
 pub fn p_union(left: Node, right: Node) -> Node {
-    node(38, &[], &[left, right])
+    node(kind::P_UNION, &[], &[left, right])
 }
 
 pub fn p_seq(parts: &[Node]) -> Node {
-    node(39, &[], parts)
+    node(kind::P_SEQUENCE, &[], parts)
 }
 
 pub fn p_conc(left: Node, right: Node) -> Node {
-    node(40, &[], &[left, right])
+    node(kind::P_CONCATENATION, &[], &[left, right])
 }
 
 /// A set, sequence or the like of integers.

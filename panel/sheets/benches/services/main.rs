@@ -1,0 +1,369 @@
+//! The services against the second evaluator, on the same inputs in one run, as a table: for both the median time of a
+//! call or walk with its quartiles, and how many times the second evaluator's median ours is.
+//!
+//! A word after `--` picks the rows whose label holds it: `cargo bench -p sheets -- step`.
+
+mod cases;
+
+use generator::{accepted, damaged};
+use sheets::lent::{self, SCRATCH_SIZE};
+use sheets::{Answer, List, Value};
+use std::hint::black_box;
+use std::time::{Duration, Instant};
+
+/// How long each row is measured, and how often, within what bounds.
+const BUDGET: Duration = Duration::from_secs(2);
+const FEWEST: usize = 11;
+const MOST: usize = 301;
+/// The least time of one measurement, so that the clock does not matter.
+const LEAST: Duration = Duration::from_micros(100);
+
+/// The buffers that are lent.
+struct Lent {
+    scratch: Vec<u8>,
+    result: Vec<u8>,
+    entries: [u8; List::MAX_LENGTH],
+    length: usize,
+}
+
+impl Lent {
+    fn new() -> Lent {
+        Lent {
+            scratch: vec![0; SCRATCH_SIZE],
+            result: vec![0; Value::MAX_SIZE],
+            entries: [0; List::MAX_LENGTH],
+            length: 0,
+        }
+    }
+
+    fn hold(&mut self, list: &[u8]) {
+        self.entries.fill(0);
+        self.entries[..list.len()].copy_from_slice(list);
+        self.length = list.len();
+    }
+}
+
+/// The four calls, by one evaluator or the other.
+trait Evaluator {
+    fn check(lent: &mut Lent, table: &[u8]) -> u32;
+    fn evaluate(lent: &mut Lent, table: &[u8]) -> u32;
+    fn first(lent: &mut Lent, table: &[u8]) -> u32;
+    fn step(lent: &mut Lent, table: &[u8]) -> u32;
+
+    /// The first list, then steps to the end, each list evaluated; how many there are.
+    fn walk(lent: &mut Lent, table: &[u8]) -> u32 {
+        let mut lists = 0;
+        let mut number = Self::first(lent, table);
+        while number == 0 {
+            black_box(Self::evaluate(lent, table));
+            lists += 1;
+            number = Self::step(lent, table);
+        }
+        lists
+    }
+}
+
+struct Ours;
+
+impl Evaluator for Ours {
+    fn check(lent: &mut Lent, table: &[u8]) -> u32 {
+        number(lent::check(table, &mut lent.scratch))
+    }
+
+    fn evaluate(lent: &mut Lent, table: &[u8]) -> u32 {
+        let list = &lent.entries[..lent.length];
+        let answer = lent::evaluate(table, list, &mut lent.scratch, &mut lent.result);
+        number(answer)
+    }
+
+    fn first(lent: &mut Lent, table: &[u8]) -> u32 {
+        let answer = lent::first(
+            table,
+            &mut lent.entries,
+            &mut lent.length,
+            &mut lent.scratch,
+        );
+        number(answer)
+    }
+
+    fn step(lent: &mut Lent, table: &[u8]) -> u32 {
+        let answer = lent::step(
+            table,
+            &mut lent.entries,
+            &mut lent.length,
+            &mut lent.scratch,
+        );
+        number(answer)
+    }
+}
+
+fn number(answer: Answer) -> u32 {
+    answer.number.into()
+}
+
+struct Second;
+
+impl Evaluator for Second {
+    fn check(lent: &mut Lent, table: &[u8]) -> u32 {
+        reference::services::check(table, &mut lent.scratch).number
+    }
+
+    fn evaluate(lent: &mut Lent, table: &[u8]) -> u32 {
+        let list = &lent.entries[..lent.length];
+        reference::services::evaluate(table, list, &mut lent.scratch, &mut lent.result).number
+    }
+
+    fn first(lent: &mut Lent, table: &[u8]) -> u32 {
+        let Lent {
+            scratch,
+            entries,
+            length,
+            ..
+        } = lent;
+        reference::services::first(table, entries, length, scratch).number
+    }
+
+    fn step(lent: &mut Lent, table: &[u8]) -> u32 {
+        let Lent {
+            scratch,
+            entries,
+            length,
+            ..
+        } = lent;
+        reference::services::step(table, entries, length, scratch).number
+    }
+}
+
+/// What a row measures.
+#[derive(Clone, Copy)]
+enum Call {
+    Check,
+    /// Evaluates under the list.
+    Evaluate,
+    /// Steps from the list, set anew each time.
+    Step,
+    Walk,
+}
+
+/// A row of the table.
+struct Row {
+    label: String,
+    call: Call,
+    table: Vec<u8>,
+    list: Vec<u8>,
+}
+
+impl Row {
+    fn new(label: &str, call: Call, table: Vec<u8>) -> Row {
+        Row {
+            label: label.to_string(),
+            call,
+            table,
+            list: Vec::new(),
+        }
+    }
+
+    fn under(self, list: Vec<u8>) -> Row {
+        Row { list, ..self }
+    }
+
+    fn run<E: Evaluator>(&self, lent: &mut Lent) -> u32 {
+        let table = black_box(&self.table[..]);
+        match self.call {
+            Call::Check => E::check(lent, table),
+            Call::Evaluate => {
+                lent.hold(&self.list);
+                E::evaluate(lent, table)
+            }
+            Call::Step => {
+                lent.hold(&self.list);
+                E::step(lent, table)
+            }
+            Call::Walk => E::walk(lent, table),
+        }
+    }
+
+    /// Measures both in turn, and prints the row.
+    fn print(&self) {
+        let mut lent = Lent::new();
+        assert_eq!(self.run::<Ours>(&mut lent), self.run::<Second>(&mut lent));
+        let [ours, second] = measured([&mut |lent| self.run::<Ours>(lent), &mut |lent| {
+            self.run::<Second>(lent)
+        }]);
+        let ratio = ours.median.as_secs_f64() / second.median.as_secs_f64();
+        println!("| {} | {ours} | {second} | {ratio:.3} |", self.label);
+    }
+}
+
+/// The median and the quartiles of many times.
+struct Times {
+    lower: Duration,
+    median: Duration,
+    upper: Duration,
+    count: usize,
+}
+
+impl Times {
+    fn of(mut times: Vec<Duration>) -> Times {
+        times.sort();
+        let at = |quarter: usize| times[(times.len() - 1) * quarter / 4];
+        Times {
+            lower: at(1),
+            median: at(2),
+            upper: at(3),
+            count: times.len(),
+        }
+    }
+}
+
+impl std::fmt::Display for Times {
+    fn fmt(&self, f: &mut std::fmt::Formatter) -> std::fmt::Result {
+        let [lower, median, upper] = [self.lower, self.median, self.upper].map(micros);
+        write!(f, "{median} µs ({lower} to {upper}, {} times)", self.count)
+    }
+}
+
+fn micros(time: Duration) -> String {
+    let micros = time.as_secs_f64() * 1e6;
+    let decimals = if micros < 10.0 {
+        2
+    } else {
+        usize::from(micros < 1000.0)
+    };
+    format!("{micros:.decimals$}")
+}
+
+type Work<'a> = &'a mut dyn FnMut(&mut Lent) -> u32;
+
+/// Measures works in turn, so that whatever slows the machine slows all of them.
+fn measured<const N: usize>(mut works: [Work; N]) -> [Times; N] {
+    let mut lent = Lent::new();
+    let batches: Vec<u32> = works
+        .iter_mut()
+        .map(|work| batch(work, &mut lent))
+        .collect();
+    let mut times = [const { Vec::new() }; N];
+    let start = Instant::now();
+    while times[0].len() < FEWEST || (start.elapsed() < BUDGET && times[0].len() < MOST) {
+        for ((work, &batch), times) in works.iter_mut().zip(&batches).zip(&mut times) {
+            times.push(time(work, &mut lent, batch));
+        }
+    }
+    times.map(Times::of)
+}
+
+/// The time of one of so many runs.
+fn time(work: &mut Work, lent: &mut Lent, runs: u32) -> Duration {
+    let start = Instant::now();
+    for _ in 0..runs {
+        black_box(work(lent));
+    }
+    start.elapsed() / runs
+}
+
+/// How many runs take long enough to be measured.
+fn batch(work: &mut Work, lent: &mut Lent) -> u32 {
+    let mut runs = 1;
+    while runs < 1 << 20 && time(work, lent, runs) * runs < LEAST {
+        runs *= 2;
+    }
+    runs
+}
+
+/// The refused table, among many, whose check takes longest.
+fn slowest_refused() -> Vec<u8> {
+    let mut lent = Lent::new();
+    let mut tables = vec![cases::chain(200), [4, 0, 33, 0].repeat(600)];
+    tables.push([12, 0, 8, 0, 0, 0, 0, 0, 0, 0, 0, 0].repeat(200));
+    tables.extend((0..1_400).map(|seed| damaged(seed).1));
+    tables.extend((0..200).map(|seed| {
+        // A name that is bound nowhere, after the whole sheet.
+        let table = accepted(seed);
+        [&table[..], &[5, 0, 3, 0, 9]].concat()
+    }));
+    let slowness = |table: &Vec<u8>| {
+        let mut check = |lent: &mut Lent| Ours::check(lent, table);
+        let mut work: Work = &mut check;
+        (0..9).map(|_| time(&mut work, &mut lent, 1)).min()
+    };
+    tables.into_iter().max_by_key(slowness).expect("a table")
+}
+
+fn rows() -> Vec<Row> {
+    let mut rows = vec![
+        Row::new(
+            "check, the largest accepted table",
+            Call::Check,
+            cases::largest(),
+        ),
+        Row::new(
+            "check, the slowest refused table",
+            Call::Check,
+            slowest_refused(),
+        ),
+    ];
+    rows.extend(walks());
+    rows.extend(evaluations());
+    rows.extend(steps());
+    rows
+}
+
+fn walks() -> [Row; 2] {
+    [
+        (
+            "walk of 975 lists: a let-be of 40 over one of 25",
+            cases::nested_choices(),
+        ),
+        (
+            "walk of 128 lists: let a union b = {1,...,7}",
+            cases::union_of_seven(),
+        ),
+    ]
+    .map(|(label, table)| Row::new(label, Call::Walk, table))
+}
+
+fn evaluations() -> [Row; 5] {
+    let deterministic = [
+        (
+            "evaluate, nested comprehensions of 63 × 63",
+            cases::nested_comprehensions(),
+        ),
+        ("evaluate, quantifiers over 63 × 63", cases::quantifiers()),
+        (
+            "evaluate, a map comprehension with 31 applications",
+            cases::applied_map(),
+        ),
+        ("evaluate, height 32", cases::chain(32)),
+    ];
+    let [a, b, c, d] = deterministic.map(|(label, table)| Row::new(label, Call::Evaluate, table));
+    let label = "evaluate, list 975 of a let-be of 40 over one of 25";
+    let chosen = Row::new(label, Call::Evaluate, cases::nested_choices()).under(vec![39, 24]);
+    [chosen, a, b, c, d]
+}
+
+fn steps() -> [Row; 3] {
+    [
+        ("step from list 1 of 14,641", [0, 0, 0, 0]),
+        ("step from list 1,000", [0, 8, 2, 9]),
+        ("step from list 10,000", [7, 5, 7, 0]),
+    ]
+    .map(|(label, list)| Row::new(label, Call::Step, cases::four_choices()).under(list.to_vec()))
+}
+
+fn main() {
+    let words: Vec<String> = std::env::args()
+        .skip(1)
+        .filter(|w| !w.starts_with("--"))
+        .collect();
+    let is_picked = |label: &str| words.is_empty() || words.iter().any(|w| label.contains(&w[..]));
+    println!("| | ours | second evaluator | ratio |");
+    println!("|---|---|---|---|");
+    let [floor] = measured([&mut |lent| {
+        lent.scratch.fill(0);
+        black_box(&lent.scratch).len() as u32
+    }]);
+    println!("| the floor: clearing 65,536 bytes | {floor} | | |");
+    for row in rows().iter().filter(|row| is_picked(&row.label)) {
+        row.print();
+    }
+}
