@@ -11,8 +11,10 @@ use calling::Applied;
 use choices::Answer;
 use parts::words::Env;
 use parts::words::unpack;
+use tables::kinds;
 use tables::reading::field;
 use tables::reading::operand;
+use values::Value;
 ghost use mathlib.Core.Path.{_≡_};
 ghost use Rattle.values.specs.Place.{Holds, HoldsItems};
 ghost use Prim.Native.Nat.{_<_};
@@ -44,7 +46,7 @@ fn all_integers(s: &[u8], from: usize, to: usize) -> bool
 {
     let mut p = from;
     while p < to {
-        if values::kind_of(s, p) != 2 {
+        if values::kind_of(s, p) != Value::INTEGER {
             return false;
         }
         p += values::length_of(s, p);
@@ -57,13 +59,13 @@ pub fn suits(s: &[u8], at: usize, k: usize) -> bool
     requires { ⌜ Holds (now s) at ⌝ }
     ensures { λ b. ⌜ Suits k (now (s .entry)) at b ⌝ }
 {
-    if k == 12 {
+    if k == kinds::LET {
         return true;
     }
-    if values::kind_of(s, at) != 3 {
+    if values::kind_of(s, at) != Value::SET {
         return false;
     }
-    if k != 19 {
+    if k != kinds::SEQUENCE_COMPREHENSION {
         return true;
     }
     let n = values::length_of(s, at);
@@ -139,9 +141,9 @@ pub fn unchosen(a: Answer, r: usize, n: usize) -> Outcome
 {
     match a {
         Answer::Taken(_) => Outcome::Value,
-        Answer::Many => Outcome::Refused(31, r, 0),
-        Answer::Short => Outcome::Refused(32, r, n),
-        Answer::Beyond => Outcome::Refused(33, r, n),
+        Answer::Many => Outcome::Refused(Outcome::MANY, r, 0),
+        Answer::Short => Outcome::Refused(Outcome::SHORT, r, n),
+        Answer::Beyond => Outcome::Refused(Outcome::BEYOND, r, n),
     }
 }
 

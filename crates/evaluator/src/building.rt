@@ -1,11 +1,14 @@
 // What an enumeration builds, operand by operand. A refusal of the building is remembered, and stays.
 use crate::Outcome;
+use calling::Applied;
 use collections::building::Added;
 use collections::building::Entered;
 use collections::building::append;
 use collections::building::enter;
 use collections::building::insert;
 use collections::building::retag;
+use tables::kinds;
+use values::Value;
 ghost use mathlib.Core.Path.{_≡_};
 ghost use Rattle.collections.specs.Building.{addedNumber, enteredNumber};
 ghost use Rattle.evaluator.specs.Building.{AddHeld, AddsNext, EnterHeld, EntersNext, startedAs, Finishable, Finishes};
@@ -14,7 +17,11 @@ ghost use Rattle.evaluator.specs.Building.{AddHeld, AddsNext, EnterHeld,
 pub fn started(k: usize) -> usize
     ensures { λ r. ⌜ r ≡ startedAs k ⌝ }
 {
-    if k == 7 { 3 } else { 4 }
+    if k == kinds::SET {
+        Value::SET
+    } else {
+        Value::SEQUENCE
+    }
 }
 
 // What is built so far takes one more, which stands 512 bytes above it; 28 where it is too large.
@@ -25,11 +32,11 @@ pub fn add(s: &mut [u8], base: usize, k: usize, bad: usize) -> usize
     if bad != 0 {
         return bad;
     }
-    if k == 7 {
-        let a = insert(s, base, base + 512);
+    if k == kinds::SET {
+        let a = insert(s, base, base + Applied::SECOND);
         return added(a);
     }
-    let b = append(s, base, base + 512);
+    let b = append(s, base, base + Applied::SECOND);
     added(b)
 }
 
@@ -38,7 +45,7 @@ fn added(a: Added) -> usize
 {
     match a {
         Added::Done => 0,
-        Added::Full => 28,
+        Added::Full => Applied::TOO_LARGE,
     }
 }
 
@@ -50,7 +57,7 @@ pub fn enter_next(s: &mut [u8], base: usize, bad: usize) -> usize
     if bad != 0 {
         return bad;
     }
-    let a = enter(s, base, base + 512, base + 1024);
+    let a = enter(s, base, base + Applied::SECOND, base + Applied::THIRD);
     entered(a)
 }
 
@@ -59,8 +66,8 @@ fn entered(a: Entered) -> usize
 {
     match a {
         Entered::Done => 0,
-        Entered::Clash => 27,
-        Entered::Full => 28,
+        Entered::Clash => Applied::CLASH,
+        Entered::Full => Applied::TOO_LARGE,
     }
 }
 
@@ -72,8 +79,8 @@ pub fn finish(s: &mut [u8], base: usize, k: usize, bad: usize, r: usize) -> Outc
     if bad != 0 {
         return Outcome::Refused(bad, r, 0);
     }
-    if k == 10 {
-        retag(s, base, 6);
+    if k == kinds::TUPLE {
+        retag(s, base, Value::TUPLE);
         return Outcome::Value;
     }
     Outcome::Value

@@ -5,8 +5,10 @@ use crate::Truth;
 use calling::Applied;
 use parts::words::Env;
 use parts::words::unpack;
+use tables::kinds;
 use tables::reading::field;
 use tables::reading::integer;
+use values::Value;
 ghost use mathlib.Core.Path.{_≡_};
 ghost use Rattle.values.specs.Place.{Holds};
 ghost use Rattle.calling.specs.Applied.{Two, OnTwo};
@@ -81,7 +83,7 @@ pub fn test(s: &[u8], at: usize) -> Truth
     ensures { λ t. ⌜ Tells (now (s .entry)) at t ⌝ }
 {
     let k = values::kind_of(s, at);
-    if k != 1 {
+    if k != Value::BOOLEAN {
         return Truth::Other;
     }
     let b = values::boolean_at(s, at);
@@ -96,10 +98,10 @@ pub fn two(s: &mut [u8], base: usize, k: usize, op: usize) -> Applied
     requires { ⌜ Two (now s) base × OfTwo k op ⌝ }
     ensures { λ r. ⌜ OnTwo (ofTwo k op) (now (s .entry)) (now (s .exit)) base r ⌝ }
 {
-    if k == 5 {
+    if k == kinds::BINARY {
         return operations::binary(s, base, op);
     }
-    if k == 11 {
+    if k == kinds::RANGE {
         return set_operators::range(s, base);
     }
     application::apply(s, base)

@@ -37,10 +37,13 @@ use parts::words::Env;
 use run::choose;
 use run::decide;
 use run::wanted;
+use tables::binary;
+use tables::kinds;
 use tables::reading::field;
 use tables::reading::kind;
 use tables::reading::operand;
 use tables::reading::operand_count;
+use values::Value;
 ghost use mathlib.Core.Path.{_≡_};
 ghost use mathlib.Core.Bool.{true, false};
 ghost use Prim.Native.Nat.{_≤_, _<_};
@@ -58,6 +61,21 @@ ghost use Rattle.evaluator.specs.Binding.{Binder, Surveyed, Unique, Comp
 pub enum Outcome {
     Value,
     Refused(usize, usize, usize),
+}
+
+// The refusals of let, let-be and iota, and of choices; the others are the operators' own.
+impl Outcome {
+    pub const NO_MATCH: usize = 23;
+
+    pub const NO_BINDING: usize = 24;
+
+    pub const NOT_UNIQUE: usize = 25;
+
+    pub const MANY: usize = 31;
+
+    pub const SHORT: usize = 32;
+
+    pub const BEYOND: usize = 33;
 }
 
 // A condition is true, false, or no boolean.
@@ -92,9 +110,9 @@ pub struct Counted {
 pub const RUN: usize = 131;
 
 // How far above the base of a record its parts stand: the right operand, or the next one of an enumeration; and the next after that.
-const NEXT: usize = 512;
+const NEXT: usize = Applied::SECOND;
 
-const AFTER: usize = 1024;
+const AFTER: usize = Applied::THIRD;
 
 // How many bytes a record takes from its base on, before its operands' own.
 const LEVEL: usize = 2048;
@@ -272,7 +290,7 @@ fn maps(
     ensures { λ o. ⌜ Evaluates (now (table .entry)) r (now (s .entry)) (now (s .exit)) base env (lent (now (run .entry))) (ended o (lent (now (run .exit)))) ⌝ }
 {
     let n = operand_count(table, index, r);
-    put_empty(s, base, 5);
+    put_empty(s, base, Value::MAP);
     let mut bad = 0;
     let mut i = 0;
     while i < n {
@@ -289,7 +307,7 @@ fn maps(
         bad = enter_next(s, base, bad);
         i += 2;
     }
-    finish(s, base, 9, bad, r)
+    finish(s, base, kinds::MAP, bad, r)
 }
 
 // ---- binders: from the base on stand the set or value, the window of its bindings, what is built, and what an operand gives under a binding
@@ -323,7 +341,7 @@ fn begin(
         };
     }
     let p = operand(table, index, r, 0);
-    let opened = bindings::open(table, index, p, s, base, k == 12, base + WINDOW);
+    let opened = bindings::open(table, index, p, s, base, k == kinds::LET, base + WINDOW);
     opening(opened, r)
 }
 
@@ -512,12 +530,12 @@ fn one(
     let Outcome::Value = o else {
         return o;
     };
-    if k == 16 {
+    if k == kinds::EXISTS1 {
         values::put_boolean(s, base, v.count == 1);
         return Outcome::Value;
     }
     if v.count != 1 {
-        return Outcome::Refused(25, r, 0);
+        return Outcome::Refused(Outcome::NOT_UNIQUE, r, 0);
     }
     let cursor = v.cursor;
     fetch(table, index, r, s, base, env, cursor, v.at);
@@ -537,14 +555,14 @@ fn such(
     requires { ⌜ Ask (now table) (now index) r (now s) base env (lent (now run)) × (kindAt (records (now table)) r ≡ 13) ⌝ }
     ensures { λ o. ⌜ Evaluates (now (table .entry)) r (now (s .entry)) (now (s .exit)) base env (lent (now (run .entry))) (ended o (lent (now (run .exit)))) ⌝ }
 {
-    let v = survey(table, index, r, s, base, env, run, 13);
+    let v = survey(table, index, r, s, base, env, run, kinds::LET_BE);
     let o = v.outcome;
     let Outcome::Value = o else {
         return o;
     };
     let n = v.count;
     if n == 0 {
-        return Outcome::Refused(24, r, 0);
+        return Outcome::Refused(Outcome::NO_BINDING, r, 0);
     }
     let a = choose(run, n);
     let Answer::Taken(_) = a else {
@@ -586,7 +604,7 @@ fn local(
     requires { ⌜ Ask (now table) (now index) r (now s) base env (lent (now run)) × (kindAt (records (now table)) r ≡ 12) ⌝ }
     ensures { λ o. ⌜ Evaluates (now (table .entry)) r (now (s .entry)) (now (s .exit)) base env (lent (now (run .entry))) (ended o (lent (now (run .exit)))) ⌝ }
 {
-    let b = begin(table, index, r, s, base, env, run, 12);
+    let b = begin(table, index, r, s, base, env, run, kinds::LET);
     let o = b.outcome;
     let Outcome::Value = o else {
         return o;
@@ -594,7 +612,7 @@ fn local(
     let cursor = b.cursor;
     let n = cursor.count;
     if n == 0 {
-        return Outcome::Refused(23, r, 0);
+        return Outcome::Refused(Outcome::NO_MATCH, r, 0);
     }
     let p = operand(table, index, r, 0);
     let loose = is_loose(table, index, p);
@@ -744,7 +762,7 @@ fn step(
             cursor: near,
         };
     }
-    if k == 20 {
+    if k == kinds::MAP_COMPREHENSION {
         return pair(table, index, r, s, base, env, run, near, j);
     }
     item(table, index, r, s, base, env, run, k, near, j)
@@ -801,33 +819,33 @@ pub fn eval(
 {
     let k = kind(table, index, r);
     match k {
-        1 => truth(table, index, r, s, base, env, run),
-        2 => whole(table, index, r, s, base, env, run),
-        3 => name(table, index, r, s, base, env, run),
-        4 => un(table, index, r, s, base, env, run),
-        5 => {
+        kinds::BOOLEAN => truth(table, index, r, s, base, env, run),
+        kinds::INTEGER => whole(table, index, r, s, base, env, run),
+        kinds::NAME => name(table, index, r, s, base, env, run),
+        kinds::UNARY => un(table, index, r, s, base, env, run),
+        kinds::BINARY => {
             let op = field(table, index, r, 0);
-            if op <= 3 {
+            if op <= binary::IMPLIES {
                 return logic(table, index, r, s, base, env, run, op);
             }
             bin(table, index, r, s, base, env, run, k, op)
         }
-        6 => cond(table, index, r, s, base, env, run),
-        7 => many(table, index, r, s, base, env, run, k),
-        8 => many(table, index, r, s, base, env, run, k),
-        9 => maps(table, index, r, s, base, env, run),
-        10 => many(table, index, r, s, base, env, run, k),
-        11 => bin(table, index, r, s, base, env, run, k, 0),
-        12 => local(table, index, r, s, base, env, run),
-        13 => such(table, index, r, s, base, env, run),
-        14 => quant(table, index, r, s, base, env, run, k, false),
-        15 => quant(table, index, r, s, base, env, run, k, true),
-        16 => one(table, index, r, s, base, env, run, k),
-        17 => one(table, index, r, s, base, env, run, k),
-        18 => comp(table, index, r, s, base, env, run, k),
-        19 => comp(table, index, r, s, base, env, run, k),
-        20 => comp(table, index, r, s, base, env, run, k),
-        21 => bin(table, index, r, s, base, env, run, k, 0),
+        kinds::IF => cond(table, index, r, s, base, env, run),
+        kinds::SET => many(table, index, r, s, base, env, run, k),
+        kinds::SEQUENCE => many(table, index, r, s, base, env, run, k),
+        kinds::MAP => maps(table, index, r, s, base, env, run),
+        kinds::TUPLE => many(table, index, r, s, base, env, run, k),
+        kinds::RANGE => bin(table, index, r, s, base, env, run, k, 0),
+        kinds::LET => local(table, index, r, s, base, env, run),
+        kinds::LET_BE => such(table, index, r, s, base, env, run),
+        kinds::FORALL => quant(table, index, r, s, base, env, run, k, false),
+        kinds::EXISTS => quant(table, index, r, s, base, env, run, k, true),
+        kinds::EXISTS1 => one(table, index, r, s, base, env, run, k),
+        kinds::IOTA => one(table, index, r, s, base, env, run, k),
+        kinds::SET_COMPREHENSION => comp(table, index, r, s, base, env, run, k),
+        kinds::SEQUENCE_COMPREHENSION => comp(table, index, r, s, base, env, run, k),
+        kinds::MAP_COMPREHENSION => comp(table, index, r, s, base, env, run, k),
+        kinds::APPLY => bin(table, index, r, s, base, env, run, k, 0),
         _ => Outcome::Refused(Applied::WRONG_KIND, r, 0),
     }
 }

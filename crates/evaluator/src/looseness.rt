@@ -1,4 +1,5 @@
 // A let is loose where its pattern holds a 37, 38 or 40: by recursion on the record number, which falls at each operand.
+use tables::kinds;
 use tables::reading::kind;
 use tables::reading::operand;
 use tables::reading::operand_count;
@@ -13,13 +14,13 @@ pub fn is_loose(table: &[u8], index: &[u16; 200], p: usize) -> bool
     ensures { λ b. ⌜ b ≡ loose (records (now (table .entry))) p ⌝ }
 {
     let k = kind(table, index, p);
-    if k == 37 {
+    if k == kinds::SET_PATTERN {
         return true;
     }
-    if k == 38 {
+    if k == kinds::UNION_PATTERN {
         return true;
     }
-    if k == 40 {
+    if k == kinds::CONCATENATION_PATTERN {
         return true;
     }
     let n = operand_count(table, index, p);

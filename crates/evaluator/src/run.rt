@@ -1,6 +1,7 @@
 // The choices of a run as lent bytes: how many entries, how many used, whether it grows, 64 entries, 64 numbers of ways.
 use crate::RUN;
 use choices::Answer;
+use tables::kinds;
 ghost use mathlib.Core.Path.{_≡_};
 ghost use Prim.Native.Nat.{_<_};
 ghost use Rattle.choices.specs.State.{Invariant, Chosen};
@@ -31,7 +32,7 @@ pub fn wanted(run: &[u8; RUN], k: usize) -> usize
     requires { ⌜ Invariant (lent (now run)) ⌝ }
     ensures { λ d. ⌜ d ≡ dueFor k (lent (now (run .entry))) ⌝ }
 {
-    if k != 13 {
+    if k != kinds::LET_BE {
         return 0;
     }
     let used = run[USED] as usize;
