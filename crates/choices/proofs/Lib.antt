@@ -14,6 +14,6 @@ pub mod Ran
 pub mod Runs
 pub mod Came
 pub mod Stepping
-mod Choosing
-mod Raising
+pub mod Choosing
+pub mod Raising
 mod Making
