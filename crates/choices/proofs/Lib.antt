@@ -15,5 +15,6 @@ pub mod Runs
 pub mod Came
 pub mod Stepping
 pub mod Choosing
+pub mod Choosing
 pub mod Raising
 mod Making

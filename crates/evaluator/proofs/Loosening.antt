@@ -20,6 +20,7 @@ abbrev pub isLooseKind : ℕ → Bool
 isLooseKind k = shape k .loose
 
 pub loose-kind : {k : ℕ} → (k ≡ 37 → isLooseKind k ≡ true) × (k ≡ 38 → isLooseKind k ≡ true) × (k ≡ 40 → isLooseKind k ≡ true)
+unfolding shape
 loose-kind = (λ e. ap isLooseKind e, λ e. ap isLooseKind e, λ e. ap isLooseKind e)
 
 module _ {table index : List ℕ} {p : ℕ} (fine : Fine (records table)) (h : Here table index p) where

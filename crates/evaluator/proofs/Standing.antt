@@ -13,6 +13,7 @@ use Rattle.values.specs.Value.{Value}
 use Rattle.values.proofs.Records.{one-value}
 use Rattle.values.proofs.Frame.{below-less}
 use Rattle.choices.specs.declared.Choices.{Choices}
+use Rattle.tables.specs.Laws.Kinds.{binder-kind}
 use Rattle.tables.specs.Record.{shape, isPattern}
 use Rattle.tables.specs.Table.{recordAt, kindAt}
 use Rattle.tables.specs.Laws.{each}
@@ -95,7 +96,7 @@ around-under {s} {base} {to} {k} {j} {env} {inner} {bs} {ρ} u w h l a =
 -- ---- the operands of a binder
 
 binder-true : {k : ℕ} → Binder k → isBinder k ≡ true
-binder-true {k} b = rw (le-leb 12 k (b .0), le-leb k 20 (b .1)) refl
+binder-true {k} b = binder-kind k (b .0) (b .1)
 
 binder-least : (k : ℕ) → Binder k → 3 ≤ shape k .least
 unfolding shape
