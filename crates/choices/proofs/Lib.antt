@@ -15,6 +15,5 @@ pub mod Runs
 pub mod Came
 pub mod Stepping
 pub mod Choosing
-pub mod Choosing
 pub mod Raising
 mod Making
