@@ -131,7 +131,12 @@ fn handed(o: Outcome, scratch: &[u8]) -> Value
 
 // Evaluates a table under a choice list.
 #[no_mangle]
-pub extern "C" fn dengwizo_evaluate(table: &[u8], list: &[u8], scratch: &mut [u8], result: &mut [u8]) -> u64
+pub extern "C" fn dengwizo_evaluate(
+    table: &[u8],
+    list: &[u8],
+    scratch: &mut [u8],
+    result: &mut [u8],
+) -> u64
     ensures { λ a. ⌜ evaluateCall (now (table .entry)) (now (list .entry)) (now (scratch .entry)) (now (result .entry)) ≡ record { answer = a; scratch = now (scratch .exit); buffer = now (result .exit) } ⌝ }
 {
     if scratch.len() < SCRATCH {
@@ -195,7 +200,12 @@ fn first_checked(table: &[u8], entries: &mut [u8], len: &mut usize, scratch: &mu
 
 // Gives the first choice list of a table.
 #[no_mangle]
-pub extern "C" fn dengwizo_first(table: &[u8], entries: &mut [u8], length: &mut usize, scratch: &mut [u8]) -> u64
+pub extern "C" fn dengwizo_first(
+    table: &[u8],
+    entries: &mut [u8],
+    length: &mut usize,
+    scratch: &mut [u8],
+) -> u64
     ensures { λ a. ⌜ firstCall (now (table .entry)) (walkOf (now (entries .entry)) (now (length .entry))) (now (scratch .entry)) ≡ record { answer = a; scratch = now (scratch .exit); walk = walkOf (now (entries .exit)) (now (length .exit)) } ⌝ }
 {
     if scratch.len() < SCRATCH {
@@ -219,7 +229,12 @@ fn step_checked(table: &[u8], entries: &mut [u8], len: &mut usize, scratch: &mut
 
 // Steps to the next choice list of a table.
 #[no_mangle]
-pub extern "C" fn dengwizo_step(table: &[u8], entries: &mut [u8], length: &mut usize, scratch: &mut [u8]) -> u64
+pub extern "C" fn dengwizo_step(
+    table: &[u8],
+    entries: &mut [u8],
+    length: &mut usize,
+    scratch: &mut [u8],
+) -> u64
     ensures { λ a. ⌜ stepCall (now (table .entry)) (walkOf (now (entries .entry)) (now (length .entry))) (now (scratch .entry)) ≡ record { answer = a; scratch = now (scratch .exit); walk = walkOf (now (entries .exit)) (now (length .exit)) } ⌝ }
 {
     if scratch.len() < SCRATCH {

@@ -123,7 +123,14 @@ pub struct Stepped {
 }
 
 // On from the end of a complete list's run, which has learnt the numbers of ways: `advance`, and a run that grows.
-fn next_list(walk: Walk, table: &[u8], index: &[u16; 200], count: usize, s: &mut [u8], learnt: [u8; RUN]) -> Stepped
+fn next_list(
+    walk: Walk,
+    table: &[u8],
+    index: &[u16; 200],
+    count: usize,
+    s: &mut [u8],
+    learnt: [u8; RUN],
+) -> Stepped
     requires { ⌜ Indexes (now table) (now index) count (now s) × AtEnd (now table) walk learnt ⌝ }
     ensures { λ r. ⌜ Answers (onward (nextList (tree (now (table .entry))) (listOf walk))) walk r ⌝ }
 {
