@@ -26,9 +26,40 @@ impl Answer {
 /// The exported functions. A slice is passed as its pointer and then its length.
 mod exported {
     extern "C" {
-        pub fn services_check(
+        pub fn dengwizo_check(
             table: *const u8,
             table_length: usize,
+            scratch: *mut u8,
+            scratch_length: usize,
+        ) -> u64;
+
+        pub fn dengwizo_evaluate(
+            table: *const u8,
+            table_length: usize,
+            list: *const u8,
+            list_length: usize,
+            scratch: *mut u8,
+            scratch_length: usize,
+            result: *mut u8,
+            result_length: usize,
+        ) -> u64;
+
+        pub fn dengwizo_first(
+            table: *const u8,
+            table_length: usize,
+            entries: *mut u8,
+            entries_length: usize,
+            length: *mut usize,
+            scratch: *mut u8,
+            scratch_length: usize,
+        ) -> u64;
+
+        pub fn dengwizo_step(
+            table: *const u8,
+            table_length: usize,
+            entries: *mut u8,
+            entries_length: usize,
+            length: *mut usize,
             scratch: *mut u8,
             scratch_length: usize,
         ) -> u64;
@@ -37,11 +68,63 @@ mod exported {
 
 /// Checks a table.
 pub fn check(table: &[u8], scratch: &mut [u8]) -> Answer {
-    // SAFETY: both slices are valid for their lengths and do not overlap, and the function asks nothing else.
+    // SAFETY: the slices are valid for their lengths and do not overlap, and the function asks nothing else.
     let packed = unsafe {
-        exported::services_check(
+        exported::dengwizo_check(
             table.as_ptr(),
             table.len(),
+            scratch.as_mut_ptr(),
+            scratch.len(),
+        )
+    };
+    Answer::unpack(packed)
+}
+
+/// Evaluates a table under a choice list, and writes its value to the start of `result`.
+pub fn evaluate(table: &[u8], list: &[u8], scratch: &mut [u8], result: &mut [u8]) -> Answer {
+    // SAFETY: as in `check`.
+    let packed = unsafe {
+        exported::dengwizo_evaluate(
+            table.as_ptr(),
+            table.len(),
+            list.as_ptr(),
+            list.len(),
+            scratch.as_mut_ptr(),
+            scratch.len(),
+            result.as_mut_ptr(),
+            result.len(),
+        )
+    };
+    Answer::unpack(packed)
+}
+
+/// Overwrites a walk with the first list of a table.
+pub fn first(table: &[u8], entries: &mut [u8], length: &mut usize, scratch: &mut [u8]) -> Answer {
+    // SAFETY: as in `check`; `length` is valid and is none of the slices.
+    let packed = unsafe {
+        exported::dengwizo_first(
+            table.as_ptr(),
+            table.len(),
+            entries.as_mut_ptr(),
+            entries.len(),
+            length,
+            scratch.as_mut_ptr(),
+            scratch.len(),
+        )
+    };
+    Answer::unpack(packed)
+}
+
+/// Overwrites a walk with the list after its own.
+pub fn step(table: &[u8], entries: &mut [u8], length: &mut usize, scratch: &mut [u8]) -> Answer {
+    // SAFETY: as in `first`.
+    let packed = unsafe {
+        exported::dengwizo_step(
+            table.as_ptr(),
+            table.len(),
+            entries.as_mut_ptr(),
+            entries.len(),
+            length,
             scratch.as_mut_ptr(),
             scratch.len(),
         )
