@@ -27,6 +27,7 @@ use Rattle.matching.specs.Leaf.{Stands}
 use Rattle.bindings.proofs.Members.{first-of, none-left}
 use Rattle.bindings.proofs.Large.{members-at, set-held}
 use Rattle.forming.specs.declared.Formed.{Formed}
+use Rattle.forming.specs.declared.Step.{Step}
 use Rattle.forming.specs.declared.Formed.the-variants.{Number, Refused}
 use Rattle.forming.specs.Onward.{Task, task, onward, onward-one}
 use Rattle.forming.specs.Adding.{adding, adding-none, adding-more, adding-longer, adding-sorted}
@@ -87,11 +88,11 @@ module _ (table index : List ℕ) (p : ℕ) (s : List ℕ) (at : ℕ) (a rows or
       rows-are = h .rows-are;
     }
 
-    pub one-formed : (b rows′ order′ : List ℕ) (r : Formed) → Solved table index s (seeded a p at) b 1 2 f rows order n rows′ order′ r → OneFormed table p s at a b rows order n rows′ order′ r
+    pub one-formed : (b rows′ order′ : List ℕ) (r : Step) → Solved table index s (seeded a p at) b 1 2 f rows order n rows′ order′ r → OneFormed table p s at a b rows order n rows′ order′ (r .formed)
     one-formed b rows′ order′ r d = record {
       long = d .long ∙ seed-long;
       right = λ v bs i w g.
-          subst (λ (l : List Binding). Entered s rows′ order′ (adding l bs) r) (onward-one (patternAt (records table) p) v)
+          subst (λ (l : List Binding). Entered s rows′ order′ (adding l bs) (r .formed)) (onward-one (patternAt (records table) p) v)
           (d .right (task (patternAt (records table) p) v ∷ []) nothing bs (seed-agenda v i w) (nothing-yet s) g);
     }
 

@@ -91,7 +91,8 @@ fn form_one(
     agenda[4] = (1 + 4 * at) as u32;
     agenda[5] = 0;
     let found = Match::nothing();
-    forming::solve(table, index, s, agenda, 1, 2, found, rows, order, n)
+    let r = forming::solve(table, index, s, agenda, 1, 2, found, rows, order, n);
+    r.formed
 }
 
 // The matches of all members from a place up to another.

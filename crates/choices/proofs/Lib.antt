@@ -15,5 +15,5 @@ pub mod Runs
 pub mod Came
 pub mod Stepping
 pub mod Choosing
-mod Raising
+pub mod Raising
 mod Making

@@ -3,4 +3,5 @@ pub mod Tree
 pub mod Lists
 pub mod Paths
 pub mod State
+pub mod Listing
 pub mod Runs

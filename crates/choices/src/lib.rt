@@ -6,6 +6,9 @@ ghost use Prim.Native.Nat.{_≤_, _<_};
 ghost use lib.ListN.{length};
 ghost use Rattle.choices.specs.Tree.{mostChoices};
 ghost use Rattle.choices.specs.State.{Invariant, Made, Chosen, Moved, taking};
+use list::Walk;
+
+pub mod list;
 
 // The entries, of which `len` count and `used` have been taken; beside each taken one the number of ways that it chose among.
 // Where the list is used up and `grow` is set, it grows by 0. Zeros follow its end.
@@ -36,8 +39,8 @@ pub struct Advanced {
 }
 
 impl Choices {
-    // The most choices that a run may meet, and so the most entries of a list.
-    pub const LIMIT: usize = 64;
+    // The most entries: a walk's.
+    pub const LIMIT: usize = Walk::LIMIT;
 
     // No entries, and none to come.
     pub fn empty() -> Choices

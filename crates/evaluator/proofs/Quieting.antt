@@ -22,10 +22,9 @@ use Rattle.tables.specs.Laws.Kinds.{binder-kind}
 use Rattle.tables.specs.Record.{Record, named as operandsOf, operand, operator, roleAt, shape}
 use Rattle.tables.specs.declared.Role.the-variants.{Plain}
 use Rattle.tables.specs.Table.{recordAt, kindAt}
-use Rattle.tables.specs.Sheet.{inCondition, isCondition, patternOf, loose as looseIn}
+use Rattle.tables.specs.Sheet.{inCondition, isCondition, patternOf, loose as looseIn, isBinder}
 use Rattle.tables.specs.Check.{chooses}
 use Rattle.tables.specs.Accepted.{records, Fine, operand-lower, condition-operand, choice-outside, binder-pattern}
-use Rattle.tables.specs.Sheet.{isBinder}
 use Rattle.patterns.specs.Binding.{Binding}
 use Rattle.patterns.specs.Pattern.{Pattern, loose, listOf}
 use Rattle.patterns.specs.Binder.{Formed, bound, refused as unformed, formed}

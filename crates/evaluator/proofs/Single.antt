@@ -25,7 +25,7 @@ use Rattle.tables.specs.Reading.{HasField}
 use Rattle.patterns.specs.Read.{Readable, patternAt}
 use Rattle.patterns.specs.Binding.{is, Binding, nothing, cellOf}
 use Rattle.patterns.specs.Ways.{gather}
-use Rattle.patterns.specs.Members.{in-gather}
+use Rattle.patterns.specs.Members.{in-gather, at-in}
 use Rattle.patterns.specs.Laws.Ordered.{in-sorted}
 use Rattle.patterns.specs.Laws.Named.{named as names-of, Told, told}
 use Rattle.patterns.specs.Pattern.{Pattern, name, matches}
@@ -37,7 +37,6 @@ use Rattle.parts.specs.Part.{PartIs}
 use Rattle.parts.specs.Contract.{Puttable, PutPart}
 use Rattle.parts.proofs.Laws.{part-longer}
 use Rattle.patterns.specs.Nodes.{is-name, pattern-at}
-use Rattle.patterns.specs.Members.{at-in}
 use Rattle.calling.specs.Scratch.{Kept}
 use Rattle.calling.proofs.Framing.{kept-outside, kept-then, kept-less, put-kept, copyable-down, copied-kept}
 use Rattle.meaning.specs.State.{valueIn, held}

@@ -1,3 +1,4 @@
 mod Rowing
 mod Pushing
 mod Solving
+mod Settling

@@ -100,7 +100,7 @@ each-at (p ∷ ps) [] i q z e l m = absurd (omega arith)
 each-at (p ∷ ps) (v ∷ vs) zero q z e l m = or-false-left (wide p v) (wideEach (patternsOf ps) vs) e
 each-at (p ∷ ps) (v ∷ vs) (suc i) q z e l m = each-at ps vs i q z (or-false-right (wide p v) (wideEach (patternsOf ps) vs) e) (omega arith) (omega arith)
 
-at-map : {A B : Type 0} (f : A → B) (l : List A) (i : ℕ) (a : A) (b : B) → i < length l → getD (map f l) i b ≡ f (getD l i a)
+pub at-map : {A B : Type 0} (f : A → B) (l : List A) (i : ℕ) (a : A) (b : B) → i < length l → getD (map f l) i b ≡ f (getD l i a)
 at-map f [] i a b h = absurd (omega arith)
 at-map f (x ∷ l) zero a b h = refl
 at-map f (x ∷ l) (suc i) a b h = at-map f l i a b (omega arith)

@@ -1,7 +1,7 @@
 -- All matches of an agenda: what a leaf does, and what the ways of a pattern with parts do.
 use mathlib.Core.Path.{_≡_, refl, sym, ap, ap₂, subst, _∙_}
-use mathlib.Core.Bool.{Bool, true, false, _&&_, cond}
-use mathlib.Core.Logic.{inl, inr}
+use mathlib.Core.Bool.{Bool, true, false, _||_, cond}
+use mathlib.Core.Logic.{inl, inr, ⊎-elim}
 use mathlib.Core.List.{List, [], _∷_, _++_, map}
 use Prim.Native.Nat.{ℕ, zero, suc, _+_, _-_, _*_, _≤_, _<_}
 use native.Mathlib.Numerals.{add-one}
@@ -20,7 +20,10 @@ use Rattle.parts.specs.Part.{PartIs, PartHeld}
 use Rattle.parts.proofs.Laws.{part-one}
 use Rattle.patterns.specs.Ways.{gather}
 use Rattle.parts.specs.Word.{unpacked}
-use Rattle.patterns.specs.Members.{Alike}
+use Rattle.patterns.specs.Members.{Alike, at-in, in-gather, gather-in}
+use Rattle.patterns.specs.Laws.Ordered.{Rising, sorted-rising}
+use Rattle.forming.specs.Settled.{Settled, TellsSettled, NextWay}
+use Rattle.forming.proofs.Settling.{or-some, settled-less, several-more}
 use Rattle.patterns.specs.Binding.{Binding, place}
 use Rattle.patterns.specs.Pattern.{Pattern, name, any, literal, each, halved, Patterns, nil, cons, wide}
 use Rattle.patterns.specs.Laws.Merging.{true-false, true-both}
@@ -34,12 +37,13 @@ use Rattle.matching.specs.Node.{LeafHeld, MeetsAs, Meets, innerOf, waysOf, metB
 use Rattle.matching.proofs.Records.{by-record, inner-length, kind-high, count-two, recast-meets}
 use Rattle.matching.proofs.Naming.{stands-fine}
 use Rattle.forming.specs.declared.Formed.{Formed}
+use Rattle.forming.specs.declared.Step.{Step}
 use Rattle.forming.specs.declared.Formed.the-variants.{Number, Refused}
 use Rattle.forming.specs.Onward.{Task, task, matchesAll, onward, zipped, oneWay, onward-end, onward-went, onward-none, one-way, onward-ways}
-use Rattle.forming.specs.Adding.{adding, adding-one, adding-none, adding-more, adding-longer, adding-alike}
+use Rattle.forming.specs.Adding.{adding, adding-one, adding-none, adding-more, adding-longer, adding-alike, adding-in, adding-there}
 use Rattle.forming.specs.Rows.{RowsAre, EntryHeld, Entered, Entry}
 use Rattle.forming.specs.Pending.{inner, innerEach, entries, Pending, AgendaIs, spaces, Kept, Pushable, Pushed, Solvable, Solved, Dividable, Divided}
-use Rattle.forming.proofs.Pushing.{agenda-kept, kept-then, countOf, wide-by, met-long}
+use Rattle.forming.proofs.Pushing.{agenda-kept, kept-then, at-map, countOf, wide-by, met-long}
 
 -- ---- the agenda
 
@@ -146,7 +150,7 @@ module _ (table index s a : List ℕ) (head top : ℕ) (f : Match) (rows order :
       alike-entered ts us st q bs rows″ order″ r e v z =
           subst (λ (x : List Binding). Entered s rows″ order″ x r) (sym (adding-alike (onward ts st) (onward us q) bs (v .given) (v .ordered) e)) z
 
-      pub divide-told : (c rows″ order″ : List ℕ) (r : Formed) → Divided table index Q s W b c (getD b (3 * head′ + 2) 0) top g rows′ order′ n rows″ order″ r
+      pub divide-told : (c rows″ order″ : List ℕ) (r : Step) → Divided table index Q s W b c (getD b (3 * head′ + 2) 0) top g rows′ order′ n rows″ order″ r
           → Solved table index s a c head top f rows order n rows″ order″ r
       divide-told c rows″ order″ r d = record {
         kept = kept-then a b c (3 * top) (3 * top) (omega arith) (w .kept) (d .kept);
@@ -154,7 +158,12 @@ module _ (table index s a : List ℕ) (head top : ℕ) (f : Match) (rows order :
         right = λ ts st bs x y z.
             let (us, q, i, j, e) = w .right ts st x y in
             let (v, vs, same, here, narrow, k) = first-task us i in
-            alike-entered ts (task (patternAt (records table) Q) v ∷ vs) st q bs rows″ order″ (r) (subst (λ (o : List Task). Alike (onward ts st) (onward o q)) same e) z (d .right v vs q bs here narrow k j (w .rows-are bs z));
+            alike-entered ts (task (patternAt (records table) Q) v ∷ vs) st q bs rows″ order″ (r .formed) (subst (λ (o : List Task). Alike (onward ts st) (onward o q)) same e) z (d .right v vs q bs here narrow k j (w .rows-are bs z));
+        some = λ a ts st x y.
+            let (us, q, i, j, e) = w .right ts st x y in
+            let (v, vs, same, here, narrow, k) = first-task us i in
+            let (c′, there) = d .some a v vs q here narrow k j in
+            (c′, e c′ .1 (subst (λ (o : List Task). In c′ (onward o q)) (sym same) there));
       }
 
       -- one that gives at most one binding
@@ -182,7 +191,7 @@ module _ (table index s a : List ℕ) (head top : ℕ) (f : Match) (rows order :
                   (vs, q″, k′, z″, λ c. (λ m. on c .0 (al‴ c .0 m), λ m. al‴ c .1 (on c .1 m)));
             }
 
-        pub solve-failed : g′ .fits ≡ false → Solved table index s a b head top f rows order n rows′ order′ (Number n)
+        pub solve-failed : g′ .fits ≡ false → Solved table index s a b head top f rows order n rows′ order′ (record { formed = Number n; any = false })
         solve-failed fit = record {
           kept = w .kept;
           long = w .long;
@@ -192,6 +201,7 @@ module _ (table index s a : List ℕ) (head top : ℕ) (f : Match) (rows order :
               let none : onward (task (patternAt (records table) Q) v ∷ vs) q ≡ [] = onward-none (patternAt (records table) Q) v vs q (o v q here narrow j .bad fit) in
               alike-entered ts (task (patternAt (records table) Q) v ∷ vs) st q bs rows′ order′ (Number n) (subst (λ (y : List Task). Alike (onward ts st) (onward y q)) same e) z
               (subst (RowsAre s rows′ order′ n) (sym (ap (λ (l : List Binding). adding l bs) none ∙ adding-none bs)) (w .rows-are bs z));
+          some = λ a. true-false (sym a);
         }
 
       pub leaf-asked : kindAt (records table) Q < 36 → LeafHeld table index Q × (PartHeld s (unpacked W) × Standing s g)
@@ -201,7 +211,7 @@ module _ (table index s a : List ℕ) (head top : ℕ) (f : Match) (rows order :
     pub enter-asked : EntryHeld s g rows′ order′ n
     enter-asked = record { binding = w .binding; stands = w .stands; bindings = h .bindings; are = w .rows-are (h .bindings) (h .rows-are) }
 
-    pub solve-end : head′ ≤ 0 → (rows″ order″ : List ℕ) (r : Formed) → Entry s g rows′ order′ n rows″ order″ r → Solved table index s a b head top f rows order n rows″ order″ r
+    pub solve-end : head′ ≤ 0 → (rows″ order″ : List ℕ) (r : Formed) → Entry s g rows′ order′ n rows″ order″ r → Solved table index s a b head top f rows order n rows″ order″ (record { formed = r; any = true })
     solve-end l rows″ order″ r d = record {
       kept = w .kept;
       long = w .long;
@@ -212,6 +222,11 @@ module _ (table index s a : List ℕ) (head top : ℕ) (f : Match) (rows order :
           subst (λ (l : List Binding). Entered s rows″ order″ l r)
           (sym (adding-alike (onward ts st) (onward us q) bs (v .given) (v .ordered) e ∙ ap (λ (l : List Binding). adding l bs) one ∙ adding-one q bs))
           (d q bs j (w .rows-are bs v));
+      some = λ a ts st x y.
+          let (us, q, i, j, e) = w .right ts st x y in
+          let none = no-task table index s b top head′ us i l in
+          let one : onward us q ≡ q ∷ [] = ap (λ (x : List Task). onward x q) none ∙ onward-end q (stands-fine s g q j) in
+          (q, e q .1 (subst (In q) (sym one) (inl refl)));
     }
 
 -- ---- divide
@@ -220,6 +235,10 @@ module _ (table index s a : List ℕ) (head top : ℕ) (f : Match) (rows order :
 pub falls-on : (top next c head : ℕ) → top + c ≤ entries → head < top + c → (c ≡ 0 → head ≡ next) → 2 * (201 * (201 - (top + c)) + head) + 1 < 2 * (201 * (201 - top) + next) + 2
 falls-on top next zero head l h e = omega (arith, e refl)
 falls-on top next (suc c) head l h e = omega arith
+
+-- fewer ways are left
+pub falls-way : (d w : ℕ) (once found : Bool) (r : ℕ) → d < w → NextWay d w once found r → w - r < w - d
+falls-way d w once found r l h = ⊎-elim (λ e. omega arith) (λ e. omega (arith, e .0)) (h .on)
 
 pub recast-word : (word : ℕ) {c k : ℕ} (kind n : ℕ) (s : List ℕ) (part : Part) (m : Meeting) → kind ≡ c → n ≡ k → part ≡ unpacked word → Meets kind n s part m → Meets c k s (unpacked word) m
 recast-word word {c} {k} kind n s part m e d p h = subst (λ (q : Part). Meets c k s q m) p (recast-meets kind n s part m e d h)
@@ -256,6 +275,15 @@ spaces-zipped [] vs ts = omega arith
 spaces-zipped (p ∷ ps) [] ts = omega (arith, inner-least ps)
 spaces-zipped (p ∷ ps) (v ∷ vs) ts = omega (arith, spaces-zipped ps vs ts)
 
+in-drop : {A : Type 0} (n : ℕ) (xs : List A) (x : A) → In x (drop n xs) → In x xs
+in-drop zero xs x i = i
+in-drop (suc n) [] x i = i
+in-drop (suc n) (y ∷ xs) x i = inr (in-drop n xs x i)
+
+none-entered : (g : List Value → List Binding) (ds : List Binding) → adding (gather [] g) ds ≡ ds
+unfolding gather
+none-entered g ds = adding-none ds
+
 pub record Given (table index : List ℕ) (p : ℕ) (s : List ℕ) (word : ℕ) (a : List ℕ) (next top : ℕ) (f : Match) (rows order : List ℕ) (n : ℕ) (v : Value) (ts : List Task) (st : Binding) (bs : List Binding) : Type 0 where
   pub here : PartIs s (unpacked word) v
   pub narrow : wide (patternAt (records table) p) v ≡ false
@@ -264,12 +292,14 @@ pub record Given (table index : List ℕ) (p : ℕ) (s : List ℕ) (word : ℕ) 
   pub rows-are : RowsAre s rows order n bs
 
 -- The ways below d are done.
-pub record DivideSoFar (table index : List ℕ) (p : ℕ) (s : List ℕ) (word : ℕ) (a : List ℕ) (next top : ℕ) (f : Match) (rows order : List ℕ) (n w : ℕ) (b rows′ order′ : List ℕ) (n′ d : ℕ) : Type 0 where
+pub record DivideSoFar (table index : List ℕ) (p : ℕ) (s : List ℕ) (word : ℕ) (a : List ℕ) (next top : ℕ) (f : Match) (rows order : List ℕ) (n w : ℕ) (b rows′ order′ : List ℕ) (n′ : ℕ) (any′ : Bool) (d : ℕ) : Type 0 where
   pub within : d ≤ w
   pub kept : Kept a b (3 * top)
   pub long : length b ≡ length a
   pub right : (v : Value) (ts : List Task) (st : Binding) (bs : List Binding) → Given table index p s word a next top f rows order n v ts st bs
       → (cs : List Binding) × RowsAre s rows′ order′ n′ cs × (adding (gather (drop d (waysOf table p v)) (oneWay (innerOf table p) ts st)) cs ≡ adding (gather (waysOf table p v) (oneWay (innerOf table p) ts st)) bs)
+  pub some : any′ ≡ true → (v : Value) (ts : List Task) (st : Binding) (bs : List Binding) → Given table index p s word a next top f rows order n v ts st bs
+      → (c : Binding) × In c (gather (waysOf table p v) (oneWay (innerOf table p) ts st))
 
 module _ (table index : List ℕ) (p : ℕ) (s : List ℕ) (word : ℕ) (a : List ℕ) (next top : ℕ) (f : Match) (rows order : List ℕ) (n : ℕ) (h : Dividable table index p s word a next top f rows order n) where
   whole : (v : Value) (ts : List Task) (b : Binding) → onward (task (patternAt (records table) p) v ∷ ts) b ≡ gather (waysOf table p v) (oneWay (innerOf table p) ts b)
@@ -289,17 +319,18 @@ module _ (table index : List ℕ) (p : ℕ) (s : List ℕ) (word : ℕ) (a : Lis
   pub top-room : top + countOf table p ≤ entries
   top-room = omega (arith, h .room, placed, inner-least (innerOf table p), inner-length table index p (h .readable))
 
-  pub divide-start : (w : ℕ) → DivideSoFar table index p s word a next top f rows order n w a rows order n 0
-  divide-start w = record { within = omega arith; kept = λ j k. refl; long = refl; right = λ v ts st bs g. (bs, g .rows-are, refl) }
+  pub divide-start : (w : ℕ) → DivideSoFar table index p s word a next top f rows order n w a rows order n false 0
+  divide-start w = record { within = omega arith; kept = λ j k. refl; long = refl; right = λ v ts st bs g. (bs, g .rows-are, refl); some = λ e. true-false (sym e) }
 
   module _ (m : Meeting) (met : Meets (kindAt (records table) p) (countOf table p) s (unpacked word) m) where
     -- no way
-    pub divide-none : ((w : ℕ) → m ≡ Ways w → ⊥) → Divided table index p s word a a next top f rows order n rows order (Number n)
+    pub divide-none : ((w : ℕ) → m ≡ Ways w → ⊥) → Divided table index p s word a a next top f rows order n rows order (record { formed = Number n; any = false })
     unfolding gather
     divide-none nope = record {
       kept = λ j k. refl;
       long = refl;
       right = λ v ts st bs q u x y g. subst (RowsAre s rows order n) (sym (ap (λ (l : List Binding). adding l bs) (whole v ts st ∙ ap (λ (ws : List (List Value)). gather ws (oneWay (innerOf table p) ts st)) (go v u m nope (met v q))) ∙ adding-none bs)) g;
+      some = λ a. true-false (sym a);
     }
       where
         go : (v : Value) → wide (patternAt (records table) p) v ≡ false → (x : Meeting) → ((w : ℕ) → x ≡ Ways w → ⊥) → MeetsAs (kindAt (records table) p) (countOf table p) v x → waysOf table p v ≡ []
@@ -314,8 +345,8 @@ module _ (table index : List ℕ) (p : ℕ) (s : List ℕ) (word : ℕ) (a : Lis
       pub ways-few : w < 256
       ways-few = ways-are (h .value) (h .here) .3
 
-      module _ (b rows′ order′ : List ℕ) (n′ d : ℕ) (i : DivideSoFar table index p s word a next top f rows order n w b rows′ order′ n′ d) where
-        pub divide-end : w ≤ d → Divided table index p s word a b next top f rows order n rows′ order′ (Number n′)
+      module _ (b rows′ order′ : List ℕ) (n′ : ℕ) (any′ : Bool) (d : ℕ) (i : DivideSoFar table index p s word a next top f rows order n w b rows′ order′ n′ any′ d) where
+        pub divide-end : w ≤ d → Divided table index p s word a b next top f rows order n rows′ order′ (record { formed = Number n′; any = any′ })
         unfolding gather
         divide-end l = record {
           kept = i .kept;
@@ -325,6 +356,9 @@ module _ (table index : List ℕ) (p : ℕ) (s : List ℕ) (word : ℕ) (a : Lis
               let none : drop d (waysOf table p v) ≡ [] = drop-of-length-le (waysOf table p v) {i = d} (omega (arith, ways-are v q .1)) in
               subst (RowsAre s rows′ order′ n′)
               (sym (adding-none cs) ∙ ap (λ (ws : List (List Value)). adding (gather ws (oneWay (innerOf table p) ts st)) cs) (sym none) ∙ e ∙ ap (λ (l : List Binding). adding l bs) (sym (whole v ts st))) k;
+          some = λ a v ts st q u x y.
+              let (c, there) = i .some a v ts st (h .bindings) (record { here = q; narrow = u; are = x; stands = y; rows-are = h .rows-are }) in
+              (c, subst (In c) (sym (whole v ts st)) there);
         }
 
         module _ (l : d < w) where
@@ -365,7 +399,7 @@ module _ (table index : List ℕ) (p : ℕ) (s : List ℕ) (word : ℕ) (a : Lis
             pub solve-asked : (k : ℕ) → k ≡ countOf table p → Solvable table index s b₁ head (top + k) f rows′ order′ n′
             solve-asked k e = subst (λ (x : ℕ). Solvable table index s b₁ head (top + x) f rows′ order′ n′) (sym e) solve-asked-here
 
-            module _ (k₀ : ℕ) (ke : k₀ ≡ countOf table p) (b₂ rows″ order″ : List ℕ) (r : Formed) (solved₀ : Solved table index s b₁ b₂ head (top + k₀) f rows′ order′ n′ rows″ order″ r) where
+            module _ (k₀ : ℕ) (ke : k₀ ≡ countOf table p) (b₂ rows″ order″ : List ℕ) (r : Step) (solved₀ : Solved table index s b₁ b₂ head (top + k₀) f rows′ order′ n′ rows″ order″ r) where
               solved : Solved table index s b₁ b₂ head (top + countOf table p) f rows′ order′ n′ rows″ order″ r
               solved = subst (λ (x : ℕ). Solved table index s b₁ b₂ head (top + x) f rows′ order′ n′ rows″ order″ r) ke solved₀
 
@@ -377,7 +411,8 @@ module _ (table index : List ℕ) (p : ℕ) (s : List ℕ) (word : ℕ) (a : Lis
 
               -- what one way enters
               step : (v : Value) (ts : List Task) (st : Binding) (bs : List Binding) → Given table index p s word a next top f rows order n v ts st bs
-                  → (ds : List Binding) × Entered s rows″ order″ ds r × (adding (gather (drop (d + 1) (waysOf table p v)) (oneWay (innerOf table p) ts st)) ds ≡ adding (gather (waysOf table p v) (oneWay (innerOf table p) ts st)) bs)
+                  → (ds : List Binding) × Entered s rows″ order″ ds (r .formed) × (adding (gather (drop (d + 1) (waysOf table p v)) (oneWay (innerOf table p) ts st)) ds ≡ adding (gather (waysOf table p v) (oneWay (innerOf table p) ts st)) bs)
+                  × ((c : Binding) → In c (onward (zipped (innerOf table p) (metBy table p v d) ++ ts) st) → In c ds)
               step v ts st bs g =
                   let (cs, k, e) = i .right v ts st bs g in
                   let below : d < length (waysOf table p v) = omega (arith, ways-are v (g .here) .1) in
@@ -391,27 +426,77 @@ module _ (table index : List ℕ) (p : ℕ) (s : List ℕ) (word : ℕ) (a : Lis
                         ∙ sym (adding-more (metBy table p v d) (drop (d + 1) (waysOf table p v)) (oneWay (innerOf table p) ts st) cs)
                         ∙ ap (λ (ws : List (List Value)). adding (gather ws (oneWay (innerOf table p) ts st)) cs) (sym here)
                         ∙ e,
+                    λ c m. adding-in (onward (zipped (innerOf table p) (metBy table p v d) ++ ts) st) cs (k .given) (k .ordered) c m,
                   )
 
-              pub divide-more : (j : ℕ) → r ≡ Number j → DivideSoFar table index p s word a next top f rows order n w b₂ rows″ order″ j (d + 1)
-              divide-more j re = record {
-                within = omega arith;
-                kept = all-kept;
-                long = all-long;
-                right = λ v ts st bs g.
-                    let (ds, k, e) = step v ts st bs g in
-                    (ds, subst (Entered s rows″ order″ ds) re k, e);
-              }
+              same-way : (v : Value) (ts : List Task) (st : Binding) → PartIs s (unpacked word) v → oneWay (innerOf table p) ts st (metBy table p v d) ≡ onward (zipped (innerOf table p) (metBy table p v d) ++ ts) st
+              same-way v ts st q =
+                  let below : d < length (waysOf table p v) = omega (arith, ways-are v q .1) in
+                  one-way (innerOf table p) ts st (metBy table p v d) (met-long table index p (h .readable) (h .composed) v d below ∙ sym (inner-length table index p (h .readable)))
 
-              pub divide-full : (j : ℕ) → r ≡ Refused j → Divided table index p s word a b₂ next top f rows order n rows″ order″ (Refused j)
+              -- some way has a match
+              some-now : (a′ : Bool) → a′ ≡ (any′ || r .any) → a′ ≡ true → (v : Value) (ts : List Task) (st : Binding) (bs : List Binding) → Given table index p s word a next top f rows order n v ts st bs
+                  → (c : Binding) × In c (gather (waysOf table p v) (oneWay (innerOf table p) ts st))
+              some-now a′ e t v ts st bs g = ⊎-elim (λ x. i .some x v ts st bs g) (λ x. here x) (or-some any′ (r .any) (sym e ∙ t))
+                where
+                  here : r .any ≡ true → (c : Binding) × In c (gather (waysOf table p v) (oneWay (innerOf table p) ts st))
+                  here x =
+                      let (c, m) = solved .some x (zipped (innerOf table p) (metBy table p v d) ++ ts) st (agenda-at g) (g .stands) in
+                      (c, gather-in (metBy table p v d) c (waysOf table p v) (oneWay (innerOf table p) ts st) (at-in (waysOf table p v) d [] (omega (arith, ways-are v (g .here) .1))) (subst (In c) (sym (same-way v ts st (g .here))) m))
+
+              -- the other ways give nothing new
+              others-there : (once : Bool) → TellsSettled table p f once → once ≡ true → r .any ≡ true → (v : Value) (ts : List Task) (st : Binding) (bs : List Binding) → Given table index p s word a next top f rows order n v ts st bs
+                  → (c : Binding) → In c (gather (drop (d + 1) (waysOf table p v)) (oneWay (innerOf table p) ts st)) → In c (onward (zipped (innerOf table p) (metBy table p v d) ++ ts) st)
+              others-there once o t x v ts st bs g c m =
+                  let (w′, i′, j′) = in-gather c (drop (d + 1) (waysOf table p v)) (oneWay (innerOf table p) ts st) m in
+                  let all : In c (gather (waysOf table p v) (oneWay (innerOf table p) ts st)) = gather-in w′ c (waysOf table p v) (oneWay (innerOf table p) ts st) (in-drop (d + 1) (waysOf table p v) w′ i′) j′ in
+                  let rest = settled-less s f st (g .stands) (patternAt (records table) p) (o .says t) v ts c (subst (In c) (sym (whole v ts st)) all) in
+                  let (b′, there) = solved .some x (zipped (innerOf table p) (metBy table p v d) ++ ts) st (agenda-at g) (g .stands) in
+                  several-more s f st (g .stands) (innerOf table p) (metBy table p v d) ts
+                  (λ j l. let q : j < countOf table p = omega (arith, inner-length table index p (h .readable)) in
+                  subst (λ (y : Pattern). Settled y (f .words)) (sym (at-map (patternAt (records table)) (named (recordAt (records table) p)) j 0 any q)) (o .each t (h .composed) j q))
+                  b′ there c rest
+
+              pub divide-more : (j : ℕ) → r .formed ≡ Number j → (once : Bool) → TellsSettled table p f once → (a′ : Bool) → a′ ≡ (any′ || r .any) → (d′ : ℕ) → NextWay d w once (r .any) d′
+                  → DivideSoFar table index p s word a next top f rows order n w b₂ rows″ order″ j a′ d′
+              divide-more j re once o a′ ae d′ nw = ⊎-elim (λ x. on x) (λ x. last (x .0) (x .1) (x .2)) (nw .on)
+                where
+                  on : d′ ≡ d + 1 → DivideSoFar table index p s word a next top f rows order n w b₂ rows″ order″ j a′ d′
+                  on x = record {
+                    within = omega arith;
+                    kept = all-kept;
+                    long = all-long;
+                    right = λ v ts st bs g.
+                        let (ds, k, e, m) = step v ts st bs g in
+                        (ds, subst (Entered s rows″ order″ ds) re k, subst (λ (y : ℕ). adding (gather (drop y (waysOf table p v)) (oneWay (innerOf table p) ts st)) ds ≡ adding (gather (waysOf table p v) (oneWay (innerOf table p) ts st)) bs) (sym x) e);
+                    some = λ t v ts st bs g. some-now a′ ae t v ts st bs g;
+                  }
+
+                  last : d′ ≡ w → once ≡ true → r .any ≡ true → DivideSoFar table index p s word a next top f rows order n w b₂ rows″ order″ j a′ d′
+                  last x t y = record {
+                    within = omega arith;
+                    kept = all-kept;
+                    long = all-long;
+                    right = λ v ts st bs g.
+                        let (ds, k, e, m) = step v ts st bs g in
+                        let rows-now : RowsAre s rows″ order″ j ds = subst (Entered s rows″ order″ ds) re k in
+                        let rising : Rising ds = subst Rising (sym (rows-now .ordered)) (sorted-rising (rows-now .given)) in
+                        let stay = adding-there (gather (drop (d + 1) (waysOf table p v)) (oneWay (innerOf table p) ts st)) ds rising (λ c q. m c (others-there once o t y v ts st bs g c q)) in
+                        let none : drop d′ (waysOf table p v) ≡ [] = drop-of-length-le (waysOf table p v) {i = d′} (omega (arith, ways-are v (g .here) .1)) in
+                        (ds, rows-now, ap (λ (ws : List (List Value)). adding (gather ws (oneWay (innerOf table p) ts st)) ds) none ∙ none-entered (oneWay (innerOf table p) ts st) ds ∙ sym stay ∙ e);
+                    some = λ t v ts st bs g. some-now a′ ae t v ts st bs g;
+                  }
+
+              pub divide-full : (j : ℕ) → r .formed ≡ Refused j → Divided table index p s word a b₂ next top f rows order n rows″ order″ (record { formed = Refused j; any = false })
               divide-full j re = record {
                 kept = all-kept;
                 long = all-long;
                 right = λ v ts st bs q u x y g.
-                    let (ds, k, e) = step v ts st bs (record { here = q; narrow = u; are = x; stands = y; rows-are = g }) in
+                    let (ds, k, e, m) = step v ts st bs (record { here = q; narrow = u; are = x; stands = y; rows-are = g }) in
                     let full : Entered s rows″ order″ ds (Refused j) = subst (Entered s rows″ order″ ds) re k in
                     let more = adding-longer (gather (drop (d + 1) (waysOf table p v)) (oneWay (innerOf table p) ts st)) ds in
                     let same : length (adding (onward (task (patternAt (records table) p) v ∷ ts) st) bs) ≡ length (adding (gather (drop (d + 1) (waysOf table p v)) (oneWay (innerOf table p) ts st)) ds) =
                     ap length (ap (λ (l : List Binding). adding l bs) (whole v ts st) ∙ sym e) in
                     (full .0, omega (arith, full .1, more, same));
+                some = λ t. true-false (sym t);
               }

@@ -61,7 +61,7 @@ onward-one p v =
     let e = together-nothing (matches p v) (matches-fine p v) in
     ap (withEach nothing) e ∙ with-nothing (matches p v) (matches-fine p v)
 
-onward-first : (p : Pattern) (v : Value) (ts : List Task) (b : Binding) → onward (task p v ∷ ts) b ≡ together (withEach b (matches p v)) (matchesAll ts)
+pub onward-first : (p : Pattern) (v : Value) (ts : List Task) (b : Binding) → onward (task p v ∷ ts) b ≡ together (withEach b (matches p v)) (matchesAll ts)
 unfolding matchesAll
 onward-first p v ts b = sym (together-with b (matches p v) (matchesAll ts))
 

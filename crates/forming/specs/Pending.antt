@@ -4,6 +4,7 @@ use mathlib.Core.Bool.{true, false}
 use mathlib.Core.List.{List, [], _∷_, _++_}
 use Prim.Native.Nat.{ℕ, suc, _+_, _*_, _≤_, _<_}
 use lib.ListN.{length, getD}
+use Rattle.prelude.specs.Membership.{In}
 use Rattle.values.specs.Value.{Value}
 use Rattle.tables.specs.Record.{named}
 use Rattle.tables.specs.Table.{recordAt, kindAt}
@@ -16,7 +17,7 @@ use Rattle.patterns.specs.Nodes.{meetings, isLarge}
 use Rattle.matching.specs.declared.leaves.Match.{Match}
 use Rattle.matching.specs.Leaf.{Stands}
 use Rattle.matching.specs.Node.{innerOf, metBy}
-use Rattle.forming.specs.declared.Formed.{Formed}
+use Rattle.forming.specs.declared.Step.{Step}
 use Rattle.forming.specs.Onward.{Task, task, onward, zipped}
 use Rattle.forming.specs.Adding.{adding}
 use Rattle.parts.specs.Word.{unpacked}
@@ -101,11 +102,12 @@ pub record Solvable (table index s a : List ℕ) (head top : ℕ) (m : Match) (r
   pub bindings : List Binding
   pub rows-are : RowsAre s rows order n bindings
 
-pub record Solved (table index s a b : List ℕ) (head top : ℕ) (m : Match) (rows order : List ℕ) (n : ℕ) (rows′ order′ : List ℕ) (r : Formed) : Type 0 where
+pub record Solved (table index s a b : List ℕ) (head top : ℕ) (m : Match) (rows order : List ℕ) (n : ℕ) (rows′ order′ : List ℕ) (r : Step) : Type 0 where
   pub kept : Kept a b (3 * top)
   pub long : length b ≡ length a
   pub right : (ts : List Task) (b′ : Binding) (bs : List Binding) → AgendaIs table index s a top head ts → Stands s m b′ → RowsAre s rows order n bs
-      → Entered s rows′ order′ (adding (onward ts b′) bs) r
+      → Entered s rows′ order′ (adding (onward ts b′) bs) (r .formed)
+  pub some : r .any ≡ true → (ts : List Task) (b′ : Binding) → AgendaIs table index s a top head ts → Stands s m b′ → (c : Binding) × In c (onward ts b′)
 
 -- ---- one pattern with parts, before the rest
 
@@ -126,8 +128,10 @@ pub record Dividable (table index : List ℕ) (p : ℕ) (s : List ℕ) (word : �
   pub bindings : List Binding
   pub rows-are : RowsAre s rows order n bindings
 
-pub record Divided (table index : List ℕ) (p : ℕ) (s : List ℕ) (word : ℕ) (a b : List ℕ) (next top : ℕ) (m : Match) (rows order : List ℕ) (n : ℕ) (rows′ order′ : List ℕ) (r : Formed) : Type 0 where
+pub record Divided (table index : List ℕ) (p : ℕ) (s : List ℕ) (word : ℕ) (a b : List ℕ) (next top : ℕ) (m : Match) (rows order : List ℕ) (n : ℕ) (rows′ order′ : List ℕ) (r : Step) : Type 0 where
   pub kept : Kept a b (3 * top)
   pub long : length b ≡ length a
   pub right : (v : Value) (ts : List Task) (b′ : Binding) (bs : List Binding) → PartIs s (unpacked word) v → wide (patternAt (records table) p) v ≡ false → AgendaIs table index s a top next ts → Stands s m b′
-      → RowsAre s rows order n bs → Entered s rows′ order′ (adding (onward (task (patternAt (records table) p) v ∷ ts) b′) bs) r
+      → RowsAre s rows order n bs → Entered s rows′ order′ (adding (onward (task (patternAt (records table) p) v ∷ ts) b′) bs) (r .formed)
+  pub some : r .any ≡ true → (v : Value) (ts : List Task) (b′ : Binding) → PartIs s (unpacked word) v → wide (patternAt (records table) p) v ≡ false → AgendaIs table index s a top next ts → Stands s m b′
+      → (c : Binding) × In c (onward (task (patternAt (records table) p) v ∷ ts) b′)

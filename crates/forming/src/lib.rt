@@ -1,6 +1,7 @@
 // The bindings of a pattern formed once: all ways are gone through with an agenda of what is still to be matched, and each match found is
 // entered in order, once, into rows.
 mod rows;
+mod settled;
 
 use matching::leaves;
 use matching::leaves::Match;
@@ -16,6 +17,12 @@ ghost use Rattle.forming.specs.Pending.{Pushable, Pushed, Solvable, Solv
 pub enum Formed {
     Number(usize),
     Refused(usize),
+}
+
+// The bindings so far, or a refusal; and whether a match was found.
+pub struct Step {
+    pub formed: Formed,
+    pub any: bool,
 }
 
 // Puts the parts of a pattern, each with what it meets in the way d, before the rest of the agenda. An entry is the record of a pattern, the
@@ -66,7 +73,7 @@ pub fn solve(
     rows: &mut [u32; 4080],
     order: &mut [u8; 255],
     n: usize,
-) -> Formed
+) -> Step
     requires { ⌜ Solvable (now table) (now index) (now s) (now agenda) head top found (now rows) (now order) n ⌝ }
     ensures { λ r. ⌜ Solved (now (table .entry)) (now (index .entry)) (now (s .entry)) (now (agenda .entry)) (now (agenda .exit)) head top found (now (rows .entry)) (now (order .entry)) n (now (rows .exit)) (now (order .exit)) r ⌝ }
 {
@@ -95,14 +102,18 @@ pub fn solve(
         }
         found = leaves::match_leaf(table, index, p, s, word, found);
         if !found.fits {
-            return Formed::Number(n);
+            return Step {
+                formed: Formed::Number(n),
+                any: false,
+            };
         }
         head = next;
     }
-    rows::enter(s, found, rows, order, n)
+    let formed = rows::enter(s, found, rows, order, n);
+    Step { formed, any: true }
 }
 
-// A pattern with parts, before the rest of an agenda: all its ways.
+// A pattern with parts, before the rest of an agenda: all its ways; of a pattern that is only a test, up to the first with a match.
 fn divide(
     table: &[u8],
     index: &[u16; 200],
@@ -116,7 +127,7 @@ fn divide(
     rows: &mut [u32; 4080],
     order: &mut [u8; 255],
     n: usize,
-) -> Formed
+) -> Step
     requires { ⌜ Dividable (now table) (now index) p (now s) word (now agenda) next top found (now rows) (now order) n ⌝ }
     ensures { λ r. ⌜ Divided (now (table .entry)) (now (index .entry)) p (now (s .entry)) word (now (agenda .entry)) (now (agenda .exit)) next top found (now (rows .entry)) (now (order .entry)) n (now (rows .exit)) (now (order .exit)) r ⌝ }
 {
@@ -124,7 +135,9 @@ fn divide(
     let c = operand_count(table, index, p);
     let part = words::unpack(word);
     let m = nodes::meet(k, c, s, part);
+    let once = settled::is_settled(table, index, p, found);
     let mut n = n;
+    let mut any = false;
     if let Meeting::Ways(w) = m {
         let mut d = 0;
         while d < w {
@@ -141,14 +154,24 @@ fn divide(
                 order,
                 n,
             );
-            match r {
-                Formed::Refused(j) => return Formed::Refused(j),
+            let formed = r.formed;
+            match formed {
+                Formed::Refused(j) => {
+                    return Step {
+                        formed: Formed::Refused(j),
+                        any: false,
+                    };
+                }
                 Formed::Number(j) => {
                     n = j;
                 }
             }
-            d += 1;
+            any = settled::either(any, r.any);
+            d = settled::next_way(d, w, once, r.any);
         }
     }
-    Formed::Number(n)
+    Step {
+        formed: Formed::Number(n),
+        any,
+    }
 }

@@ -1,2 +1,4 @@
 mod Zeros
 mod Packing
+mod Writing
+mod Calls

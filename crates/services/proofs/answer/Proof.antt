@@ -7,33 +7,27 @@ use Rattle.services.proofs.answer.Statement.{statement}
 use Rattle.services.proofs.answer.Tie as tie
 use Rattle.services.proofs.answer.Reads as reads
 use Rattle.services.proofs.answer.Lts as lts
-use Rattle.services.proofs.pack.Reads as pack-reads
+use Rattle.walks.proofs.pack.Reads as pack-reads
 
--- src/lib.rt:37:27
 enum-known-checked : tie.Need-enum-known-checked
 enum-known-checked c = search needs
 
--- src/lib.rt:37:33
 pack-requires : tie.Need-pack-requires
 pack-requires c κs =
     let few = accepted-few (c .before .before .before .args .checked) _ (c .before .checked .given .1) (c .before .before .before .pre) in
     (omega (arith, few), omega (arith, few), omega (arith, few))
 
--- src/lib.rt:38:26
 enum-known-checked-2 : tie.Need-enum-known-checked-2
 enum-known-checked-2 c = search needs
 
--- src/lib.rt:38:35
 pack-requires-2 : tie.Need-pack-requires-2
 pack-requires-2 c κs =
     let low = refused-low (c .before .before .before .args .checked) _ _ (c .before .checked2 .given .1) (c .before .before .before .pre) in
     (omega (arith, low .1), omega (arith, low .2), omega arith)
 
--- src/lib.rt:32:1
 returns : tie.Need-returns
 returns c = c .pack .ensures ∙ accepted-packed (c .before .before .before .before .args .checked) _ (c .before .before .checked .given .1)
 
--- src/lib.rt:32:1
 returns-2 : tie.Need-returns-2
 returns-2 c = c .pack2 .ensures ∙ refused-packed (c .before .before .before .before .args .checked) _ _ (c .before .before .checked2 .given .1)
 

@@ -14,31 +14,24 @@ Inv-loop scratch₀ i₀ scratch i = Zeroed scratch₀ scratch i
 abbrev μ-loop : tie.MeasureT-loop
 μ-loop scratch₀ i₀ scratch i = scratchBytes - i
 
--- src/lib.rt:48:5
 loop-holds : tie.Need-loop-holds Inv-loop μ-loop
 loop-holds c = zeros-start (c .args .scratch .now)
 
--- src/lib.rt:49:9
 slice-write-scratch : tie.Need-slice-write-scratch Inv-loop μ-loop
 slice-write-scratch c = omega (arith, c .before .loop .inv .long, c .before .before .pre)
 
--- src/lib.rt:50:9
 add-i : tie.Need-add-i Inv-loop μ-loop
 add-i c = omega arith
 
--- src/lib.rt:48:5
 loop-less : tie.Need-loop-less Inv-loop μ-loop
 loop-less c = omega arith
 
--- src/lib.rt:48:5
 loop-again : tie.Need-loop-again Inv-loop μ-loop
 loop-again c = zeros-more (c .before .before .args .scratch .now) (c .before .before .pre) (c .before .loop .scratch) (c .before .loop .i) (c .before .loop .inv) _ (omega arith) (omega (arith, c .loop-test .taken))
 
--- src/lib.rt:43:1
 same-length : tie.Need-same-length Inv-loop μ-loop
 same-length c = c .before .loop .inv .long
 
--- src/lib.rt:43:1
 returns : tie.Need-returns Inv-loop μ-loop
 returns c = zeros-end (c .before .before .args .scratch .now) (c .before .before .pre) (c .before .loop .scratch) (c .before .loop .i) (c .before .loop .inv) (omega (arith, c .loop-test .left))
 

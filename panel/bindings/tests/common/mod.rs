@@ -17,6 +17,7 @@ use reference::operators::Tried;
 use reference::table::{Record, Table};
 use reference::value::Value;
 use reference::walk;
+use std::collections::BTreeSet;
 use std::fmt;
 
 /// The names that a binding may give a value.

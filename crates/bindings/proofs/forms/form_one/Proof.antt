@@ -41,7 +41,7 @@ element-write-agenda-3 c = search needs
 nothing-requires : tie.Need-nothing-requires
 nothing-requires c κs = search needs
 
--- src/forms.rt:94:5
+-- src/forms.rt:94:9
 solve-requires : tie.Need-solve-requires
 solve-requires c κs = one-asked _ _ _ _ _ _ _ _ _ (c .before .before .before .before .before .before .pre) _ (c .before .before .before .nothing .ensures)
 

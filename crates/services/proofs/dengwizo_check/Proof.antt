@@ -7,47 +7,40 @@ use Rattle.meaning.specs.Answer.{packed, records}
 use Rattle.meaning.specs.Laws.ReadBack.{Small, small-check}
 use Rattle.services.proofs.Packing.{short-call, enough-call}
 use borrow.Author.Needs.{needs}
-use Rattle.services.proofs.services_check.Statement.{statement}
-use Rattle.services.proofs.services_check.Tie as tie
-use Rattle.services.proofs.services_check.Reads as reads
-use Rattle.services.proofs.services_check.Lts as lts
+use Rattle.services.proofs.dengwizo_check.Statement.{statement}
+use Rattle.services.proofs.dengwizo_check.Tie as tie
+use Rattle.services.proofs.dengwizo_check.Reads as reads
+use Rattle.services.proofs.dengwizo_check.Lts as lts
 use Rattle.checking.proofs.check.Reads as check-reads
 use Rattle.services.proofs.answer.Reads as answer-reads
 use Rattle.services.proofs.clear.Reads as clear-reads
-use Rattle.services.proofs.pack.Reads as pack-reads
+use Rattle.walks.proofs.pack.Reads as pack-reads
 
--- src/lib.rt:60:9
 pack-requires : tie.Need-pack-requires
 pack-requires c κs = search needs
 
--- src/lib.rt:60:9
 returns : tie.Need-returns
 returns c = short-call (c .before .before .before .before .args .table .now) (c .before .before .before .before .args .scratch .now) (c .pack .result) (c .before .if1 .taken) (c .pack .ensures)
 
--- src/lib.rt:62:5
 clear-requires : tie.Need-clear-requires
 clear-requires c κs = search needs
 
--- src/lib.rt:63:12
 check-requires : tie.Need-check-requires
 check-requires c κs = search needs
 
--- src/lib.rt:63:5
 answer-requires : tie.Need-answer-requires
 answer-requires c κs = subst Small (sym (c .check .ensures)) (small-check (c .before .before .before .before .before .before .before .before .args .table .now))
 
--- src/lib.rt:55:1
 same-length : tie.Need-same-length
 same-length c = search needs
 
--- src/lib.rt:55:1
 returns-2 : tie.Need-returns-2
 returns-2 c =
     enough-call (c .before .before .before .before .before .before .before .before .before .args .table .now) (c .before .before .before .before .before .before .before .before .before .args .scratch .now) (c .answer .result) _ (c .before .before .before .before .before .before .if1 .left)
     (c .answer .ensures ∙ ap (λ (x : Checked). packed records (accepted x (λ n. result n))) (c .before .check .ensures)) (c .before .before .before .before .clear .ensures)
 
-pub services-check-spec : {M : Type 1} → statement M
-services-check-spec =
+pub dengwizo-check-spec : {M : Type 1} → statement M
+dengwizo-check-spec =
     tie.close
     (tie.spec
     pack-requires

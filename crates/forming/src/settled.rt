@@ -1,0 +1,70 @@
+// Patterns that are only a test: every name in them has a value already, so they give no name one, and one way of matching is enough.
+use matching::leaves::Match;
+use tables::reading::field;
+use tables::reading::kind;
+use tables::reading::operand;
+use tables::reading::operand_count;
+ghost use mathlib.Core.Path.{_≡_};
+ghost use mathlib.Core.Bool.{_||_};
+ghost use Prim.Native.Nat.{_<_};
+ghost use Rattle.patterns.specs.Read.{Readable};
+ghost use Rattle.forming.specs.Settled.{TellsSettled, HasWord, NextWay};
+
+// Every name of a pattern has a value.
+pub fn is_settled(table: &[u8], index: &[u16; 200], p: usize, found: Match) -> bool
+    requires { ⌜ Readable (now table) (now index) p ⌝ }
+    ensures { λ r. ⌜ TellsSettled (now (table .entry)) p found r ⌝ }
+{
+    let k = kind(table, index, p);
+    if k == 32 {
+        let x = field(table, index, p, 0);
+        return has_word(found, x);
+    }
+    if k < 36 {
+        return true;
+    }
+    let n = operand_count(table, index, p);
+    let mut i = 0;
+    while i < n {
+        let q = operand(table, index, p, i);
+        let settled = is_settled(table, index, q, found);
+        if !settled {
+            return false;
+        }
+        i += 1;
+    }
+    true
+}
+
+// A name has a value.
+fn has_word(found: Match, x: usize) -> bool
+    ensures { λ r. ⌜ HasWord found x r ⌝ }
+{
+    if 16 <= x {
+        return false;
+    }
+    found.words[x] != 0
+}
+
+// One of the two.
+pub fn either(a: bool, b: bool) -> bool
+    ensures { λ r. ⌜ r ≡ (a || b) ⌝ }
+{
+    if a {
+        return true;
+    }
+    b
+}
+
+// The way after d, of w; past the last where one is enough and was found.
+pub fn next_way(d: usize, w: usize, once: bool, found: bool) -> usize
+    requires { ⌜ d < w ⌝ }
+    ensures { λ r. ⌜ NextWay d w once found r ⌝ }
+{
+    if once {
+        if found {
+            return w;
+        }
+    }
+    d + 1
+}

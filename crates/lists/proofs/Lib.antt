@@ -1,0 +1,2 @@
+mod Starting
+mod Moving

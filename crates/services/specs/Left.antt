@@ -1,0 +1,64 @@
+-- What the parts of a service leave, before the scratch is cleared: the exported functions' promises are in meaning's `Lent`.
+use mathlib.Core.Path.{_≡_}
+use mathlib.Core.List.{List, [], _++_}
+use Prim.Native.Nat.{ℕ, _≤_}
+use lib.ListN.{length, take, drop}
+use Rattle.choices.specs.Tree.{Final, result, mostChoices}
+use Rattle.choices.specs.declared.list.Walk.{Walk as Held}
+use Rattle.values.specs.declared.Value.{Value as Copy}
+use Rattle.values.specs.Value.{Value}
+use Rattle.values.specs.Place.{At, Holds}
+use Rattle.values.specs.Contract.{Shows, ShowsAt}
+use Rattle.tables.specs.Check.{check}
+use Rattle.tables.specs.declared.Checked.the-variants.{Accepted}
+use Rattle.meaning.specs.Answer.{packed, uncounted}
+use Rattle.meaning.specs.Walk.{Walk}
+use Rattle.meaning.specs.Service.{scratchBytes}
+use Rattle.meaning.specs.Lent.{AfterWalk, walkAfter}
+use Rattle.evaluator.specs.declared.Outcome.{Outcome}
+use Rattle.evaluator.specs.declared.Outcome.the-variants.{Value as HasValue, Refused}
+use Rattle.walks.specs.Steps.{outcomeOf}
+
+-- ---- walks
+
+-- Lent entries and a length, as a walk.
+abbrev pub walkOf : List ℕ → ℕ → Walk
+walkOf entries len = record { entries = entries; len = len }
+
+-- A walk taken from lent entries and a length.
+pub record Loaded (entries : List ℕ) (len : ℕ) (w : Held) : Type 0 where
+  pub entries-are : w .entries ≡ take mostChoices entries
+  pub len-is : w .len ≡ len
+
+-- Lent entries and a length after a walk is written into them.
+abbrev pub stored : Held → List ℕ → Walk
+stored w entries = record { entries = w .entries ++ drop mostChoices entries; len = w .len }
+
+-- An accepted table and enough scratch.
+pub record Accepts (table scratch : List ℕ) : Type 0 where
+  pub count : ℕ
+  pub ok : check table ≡ Accepted count
+  pub enough : scratchBytes ≤ length scratch
+
+-- What is due is answered, the walk is the one after it, and what lies beyond the scratch that is needed is untouched.
+pub record Left (due : Final (List ℕ)) (w : Walk) (scratch : List ℕ) (r : AfterWalk) : Type 0 where
+  pub answered : r .answer ≡ packed uncounted due
+  pub walked : r .walk ≡ walkAfter due w
+  pub beyond : drop scratchBytes (r .scratch) ≡ drop scratchBytes scratch
+
+-- ---- outcomes
+
+-- What is due is the outcome, its value stands at the start of the scratch, and what lies beyond is untouched.
+pub record Evaluated (due : Final Value) (before after : List ℕ) (o : Outcome) : Type 0 where
+  pub outcome : o ≡ outcomeOf due
+  pub value : (v : Value) → due ≡ result v → At after 0 v
+  pub beyond : drop scratchBytes after ≡ drop scratchBytes before
+
+-- A value's record stands at the start of the scratch; and the value that is handed out.
+abbrev pub Valued : Outcome → List ℕ → Type 0
+Valued HasValue scratch = Holds scratch 0
+Valued (Refused n p k) scratch = Unit {0}
+
+abbrev pub Handed : Outcome → List ℕ → Copy → Type 0
+Handed HasValue scratch c = ShowsAt scratch 0 c
+Handed (Refused n p k) scratch c = Shows [] c

@@ -1,0 +1,2 @@
+-- What the exported functions' own parts leave in the lent bytes, before the scratch is cleared.
+pub mod Left

@@ -1,0 +1,2 @@
+pub mod Settling
+mod Stepping

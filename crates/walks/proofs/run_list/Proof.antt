@@ -1,0 +1,44 @@
+-- One run, settled.
+use mathlib.Core.Path.{refl, ap, _∙_}
+use Prim.Native.Nat.{_-_}
+use native.Mathlib.Omega.{arith}
+use Rattle.lists.specs.Lent.{lent}
+use Rattle.walks.specs.Steps.{settled}
+use Rattle.walks.proofs.Settling.{comes-sound, arrived, ran}
+use Rattle.walks.proofs.Stepping.{cut-asked, some-record, asked}
+use borrow.Author.Needs.{needs}
+use Rattle.walks.proofs.run_list.Statement.{statement}
+use Rattle.walks.proofs.run_list.Tie as tie
+
+cut-requires : tie.Need-cut-requires
+cut-requires c κs = cut-asked (c .before .before .before .before .args .table .now) (c .before .before .before .before .args .s .now) (c .before .before .before .before .pre .0)
+
+start-requires : tie.Need-start-requires
+start-requires c κs = search needs
+
+run-sheet-requires : tie.Need-run-sheet-requires
+run-sheet-requires c κs = asked (c .before .before .before .before .before .before .before .before .before .args .table .now) (c .before .before .before .before .before .before .before .before .before .args .s .now) (c .before .before .before .before .before .before .before .before .before .pre .0) _ _ (c .before .before .before .before .cut .ensures) _ refl _ (c .before .before .before .start .ensures .sound)
+
+sub-settle : tie.Need-sub-settle
+sub-settle c = omega (arith, c .before .before .before .before .before .before .before .before .cut .ensures .count, some-record (c .before .before .before .before .before .before .before .before .before .before .before .before .before .args .table .now) (c .before .before .before .before .before .before .before .before .before .before .before .before .before .args .s .now) (c .before .before .before .before .before .before .before .before .before .before .before .before .before .pre .0))
+
+settle-requires : tie.Need-settle-requires
+settle-requires c κs = comes-sound (c .before .before .before .run-sheet .ensures)
+
+same-length : tie.Need-same-length
+same-length c = search needs
+
+returns : tie.Need-returns
+returns c = ran (c .before .before .before .before .before .before .before .before .before .before .before .before .before .before .args .table .now) (c .before .before .before .before .before .before .before .before .before .before .before .before .before .before .args .list .now) (lent (c .before .before .before .before .before .before .before .before .start .result)) (c .before .before .before .before .run-sheet .result) (lent (c .before .before .before .before .run-sheet .last .1 .1 .1 .1 .0)) (c .before .before .before .before .run-sheet .last .1 .1 .1 .0) (c .before .before .before .before .before .before .before .before .start .ensures) (arrived (c .before .before .before .before .before .before .before .before .before .before .before .before .before .before .args .table .now) (lent (c .before .before .before .before .before .before .before .before .start .result)) (c .before .before .before .before .run-sheet .result) (lent (c .before .before .before .before .run-sheet .last .1 .1 .1 .1 .0)) (c .before .before .before .before .run-sheet .last .1 .1 .1 .0) (c .before .before .before .before .run-sheet .ensures)) (c .settle .result) (c .settle .ensures ∙ ap (λ n. settled (c .before .before .before .before .run-sheet .result) (lent (c .before .before .before .before .run-sheet .last .1 .1 .1 .1 .0)) (n - 1)) (c .before .before .before .before .before .before .before .before .before .cut .ensures .count))
+
+pub run-list-spec : {M : Type 1} → statement M
+run-list-spec =
+    tie.close
+    (tie.spec
+    cut-requires
+    start-requires
+    run-sheet-requires
+    sub-settle
+    settle-requires
+    same-length
+    returns)
