@@ -1,5 +1,7 @@
 // Input from outside: tested before anything is done with it.
 use tables::Checked;
+use tables::Index;
+use tables::kinds;
 ghost use mathlib.Core.Path.{_≡_};
 ghost use mathlib.Core.Bool.{false};
 ghost use lib.ListN.{length};
@@ -27,19 +29,19 @@ impl Subject {
 }
 
 // The last record of an accepted table tried on a value.
-fn subject_of_last(table: &[u8], index: &[u16; 200], last: usize, value: &[u8]) -> Subject
+fn subject_of_last(table: &[u8], index: &Index, last: usize, value: &[u8]) -> Subject
     requires { ⌜ LastHeld (now table) (now index) last (now value) ⌝ }
     ensures { λ r. ⌜ SubjectOf (now (table .entry)) (now (index .entry)) (now (value .entry)) r ⌝ }
 {
     let kind = tables::reading::kind(table, index, last);
-    if kind < 12 {
+    if kind < kinds::LET {
         return Subject::none();
     }
     if kind > 20 {
         return Subject::none();
     }
     let pattern = tables::reading::operand(table, index, last, 0);
-    if kind == 12 {
+    if kind == kinds::LET {
         return Subject {
             legal: true,
             pattern,
@@ -55,7 +57,7 @@ fn subject_of_last(table: &[u8], index: &[u16; 200], last: usize, value: &[u8]) 
 }
 
 // What is tried, with an index of the table's records.
-pub fn subject_of(table: &[u8], value: &[u8], index: &mut [u16; 200]) -> Subject
+pub fn subject_of(table: &[u8], value: &[u8], index: &mut Index) -> Subject
     requires { ⌜ length (now index) ≡ mostRecords ⌝ }
     ensures { λ r. ⌜ SubjectOf (now (table .entry)) (now (index .exit)) (now (value .entry)) r ⌝ }
 {

@@ -2,6 +2,8 @@
 use bindings::Opened;
 use parts::words;
 use parts::words::Env;
+use tables::Index;
+use tables::MOST_RECORDS;
 ghost use mathlib.Core.Path.{_≡_};
 ghost use mathlib.Core.Bool.{true};
 ghost use Rattle.binding_trials.specs.Trial.{Counts, Shows};
@@ -47,7 +49,7 @@ fn number(opened: Opened) -> usize
 pub extern "C" fn binding_trials_count(table: &[u8], value: &[u8]) -> usize
     ensures { λ r. ⌜ Counts (now (table .entry)) (now (value .entry)) r ⌝ }
 {
-    let mut index = [0u16; 200];
+    let mut index = [0u16; MOST_RECORDS];
     let subject = input::subject_of(table, value, &mut index);
     if !subject.legal {
         return BAD_INPUT;
@@ -63,7 +65,7 @@ pub extern "C" fn binding_trials_count(table: &[u8], value: &[u8]) -> usize
 // Binding k, from 0, of a pattern over the value at the start of a buffer, whose second half takes the window.
 fn look_up(
     table: &[u8],
-    index: &[u16; 200],
+    index: &Index,
     p: usize,
     value: &[u8],
     s: &mut [u8],
@@ -125,7 +127,7 @@ pub extern "C" fn binding_trials_value(
     if scratch.len() < ROOM {
         return BAD_INPUT;
     }
-    let mut index = [0u16; 200];
+    let mut index = [0u16; MOST_RECORDS];
     let subject = input::subject_of(table, value, &mut index);
     if !subject.legal {
         return BAD_INPUT;

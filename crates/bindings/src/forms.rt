@@ -2,6 +2,7 @@
 use forming::Formed;
 use matching::leaves::Match;
 use parts::Part;
+use tables::Index;
 ghost use mathlib.Core.Path.{_≡_};
 ghost use Prim.Native.Nat.{_+_, _≤_, _<_};
 ghost use lib.ListN.{length};
@@ -22,7 +23,7 @@ pub fn first_at(at: usize, whole: bool) -> usize
 }
 
 // Some member from a place up to another has a set too large to split.
-fn any_large(table: &[u8], index: &[u16; 200], p: usize, s: &[u8], from: usize, to: usize) -> bool
+fn any_large(table: &[u8], index: &Index, p: usize, s: &[u8], from: usize, to: usize) -> bool
     requires { ⌜ Readable (now table) (now index) p ⌝ }
     requires { ⌜ HoldsItems (now s) from to ⌝ }
     ensures { λ r. ⌜ TellsWideIn (now (table .entry)) p (now (s .entry)) from to r ⌝ }
@@ -36,7 +37,7 @@ fn any_large(table: &[u8], index: &[u16; 200], p: usize, s: &[u8], from: usize, 
             p,
             s,
             Part {
-                how: 1,
+                how: Part::WHOLE,
                 at,
                 extent: 0,
             },
@@ -50,7 +51,7 @@ fn any_large(table: &[u8], index: &[u16; 200], p: usize, s: &[u8], from: usize, 
 }
 
 // A union pattern is met by a set of over seven members somewhere: number 29.
-pub fn is_wide(table: &[u8], index: &[u16; 200], p: usize, s: &[u8], at: usize, whole: bool) -> bool
+pub fn is_wide(table: &[u8], index: &Index, p: usize, s: &[u8], at: usize, whole: bool) -> bool
     requires { ⌜ Readable (now table) (now index) p ⌝ }
     requires { ⌜ Bindable (now s) at whole ⌝ }
     ensures { λ r. ⌜ TellsWide (now (table .entry)) p (now (s .entry)) at whole r ⌝ }
@@ -62,7 +63,7 @@ pub fn is_wide(table: &[u8], index: &[u16; 200], p: usize, s: &[u8], at: usize, 
             p,
             s,
             Part {
-                how: 1,
+                how: Part::WHOLE,
                 at,
                 extent: 0,
             },
@@ -75,7 +76,7 @@ pub fn is_wide(table: &[u8], index: &[u16; 200], p: usize, s: &[u8], at: usize, 
 // The matches of the value at a place, entered among n rows.
 fn form_one(
     table: &[u8],
-    index: &[u16; 200],
+    index: &Index,
     p: usize,
     s: &[u8],
     at: usize,
@@ -98,7 +99,7 @@ fn form_one(
 // The matches of all members from a place up to another.
 fn form_all(
     table: &[u8],
-    index: &[u16; 200],
+    index: &Index,
     p: usize,
     s: &[u8],
     from: usize,
@@ -129,7 +130,7 @@ fn form_all(
 // All bindings of a pattern over the members of the set at a place, or over the one value there, as rows in order; or 29 or 30.
 pub fn form_rows(
     table: &[u8],
-    index: &[u16; 200],
+    index: &Index,
     p: usize,
     s: &[u8],
     at: usize,

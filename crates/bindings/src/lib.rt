@@ -5,6 +5,8 @@ mod forms;
 use forming::Formed;
 use integers::bytes::read16;
 use parts::words::Env;
+use tables::Index;
+use tables::kinds;
 ghost use mathlib.Core.Path.{_≡_};
 ghost use Prim.Native.Nat.{_+_, _<_, _≤_};
 ghost use lib.ListN.{length};
@@ -86,7 +88,7 @@ fn cursor_over(rows: &[u32; 4080], order: &[u8; 255], n: usize, k: usize) -> Cur
 // on; or 29 or 30.
 pub fn open(
     table: &[u8],
-    index: &[u16; 200],
+    index: &Index,
     p: usize,
     s: &mut [u8],
     at: usize,
@@ -98,7 +100,7 @@ pub fn open(
     ensures { λ r. ⌜ OpenedAs (now (table .entry)) p (now (s .entry)) (now (s .exit)) at whole to r ⌝ }
 {
     let kind = tables::reading::kind(table, index, p);
-    if kind == 32 {
+    if kind == kinds::NAME_PATTERN {
         let x = tables::reading::field(table, index, p, 0);
         let c = open_plain(s, at, whole, to, x);
         return Opened::Bound(c);
@@ -109,7 +111,7 @@ pub fn open(
 // The same of any pattern, all bindings formed in one pass.
 fn open_formed(
     table: &[u8],
-    index: &[u16; 200],
+    index: &Index,
     p: usize,
     s: &mut [u8],
     at: usize,
@@ -136,7 +138,7 @@ fn open_formed(
 // Binding k in the window: the window is filled again from it on, unless it is there.
 pub fn reach(
     table: &[u8],
-    index: &[u16; 200],
+    index: &Index,
     p: usize,
     s: &mut [u8],
     at: usize,
@@ -160,7 +162,7 @@ pub fn reach(
 // The window filled from binding k on.
 fn fill_from(
     table: &[u8],
-    index: &[u16; 200],
+    index: &Index,
     p: usize,
     s: &mut [u8],
     at: usize,

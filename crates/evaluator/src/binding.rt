@@ -11,6 +11,7 @@ use calling::Applied;
 use choices::Answer;
 use parts::words::Env;
 use parts::words::unpack;
+use tables::Index;
 use tables::kinds;
 use tables::reading::field;
 use tables::reading::operand;
@@ -161,7 +162,7 @@ pub fn built(bad: usize, r: usize) -> Outcome
 // 17: the value that binding j gives the name of the pattern, brought down to base.
 pub fn fetch(
     table: &[u8],
-    index: &[u16; 200],
+    index: &Index,
     r: usize,
     s: &mut [u8],
     base: usize,

@@ -3,8 +3,10 @@ use crate::Outcome;
 use crate::RUN;
 use crate::Truth;
 use calling::Applied;
+use parts::Part;
 use parts::words::Env;
 use parts::words::unpack;
+use tables::Index;
 use tables::kinds;
 use tables::reading::field;
 use tables::reading::integer;
@@ -21,7 +23,7 @@ ghost use Rattle.evaluator.specs.Leaves.{Tells, OfTwo, ofTwo};
 // 1: a boolean literal.
 pub fn truth(
     table: &[u8],
-    index: &[u16; 200],
+    index: &Index,
     r: usize,
     s: &mut [u8],
     base: usize,
@@ -39,7 +41,7 @@ pub fn truth(
 // 2: an integer literal.
 pub fn whole(
     table: &[u8],
-    index: &[u16; 200],
+    index: &Index,
     r: usize,
     s: &mut [u8],
     base: usize,
@@ -57,7 +59,7 @@ pub fn whole(
 // 3: a name. Its value is built where the name is read.
 pub fn name(
     table: &[u8],
-    index: &[u16; 200],
+    index: &Index,
     r: usize,
     s: &mut [u8],
     base: usize,
@@ -70,7 +72,7 @@ pub fn name(
     let x = field(table, index, r, 0);
     let word = env.words[x];
     let part = unpack(word);
-    if part.how == 0 {
+    if part.how == Part::NOTHING {
         return Outcome::Refused(Applied::WRONG_KIND, r, 0);
     }
     parts::put_part(s, part, base);

@@ -37,6 +37,7 @@ use parts::words::Env;
 use run::choose;
 use run::decide;
 use run::wanted;
+use tables::Index;
 use tables::binary;
 use tables::kinds;
 use tables::reading::field;
@@ -130,7 +131,7 @@ fn answer(a: Applied, r: usize) -> Outcome
 // 4: a unary operator.
 fn un(
     table: &[u8],
-    index: &[u16; 200],
+    index: &Index,
     r: usize,
     s: &mut [u8],
     base: usize,
@@ -153,7 +154,7 @@ fn un(
 // 5, 11, 21: what takes both operands: a strict binary operator, a set range, an application.
 fn bin(
     table: &[u8],
-    index: &[u16; 200],
+    index: &Index,
     r: usize,
     s: &mut [u8],
     base: usize,
@@ -182,7 +183,7 @@ fn bin(
 // 5: and, or, =>.
 fn logic(
     table: &[u8],
-    index: &[u16; 200],
+    index: &Index,
     r: usize,
     s: &mut [u8],
     base: usize,
@@ -217,7 +218,7 @@ fn logic(
 // 6: if.
 fn cond(
     table: &[u8],
-    index: &[u16; 200],
+    index: &Index,
     r: usize,
     s: &mut [u8],
     base: usize,
@@ -249,7 +250,7 @@ fn cond(
 // 7, 8, 10: a set, a sequence, a tuple. A refusal of the building is kept while the other operands are evaluated.
 fn many(
     table: &[u8],
-    index: &[u16; 200],
+    index: &Index,
     r: usize,
     s: &mut [u8],
     base: usize,
@@ -279,7 +280,7 @@ fn many(
 // 9: a map, key by key and value by value.
 fn maps(
     table: &[u8],
-    index: &[u16; 200],
+    index: &Index,
     r: usize,
     s: &mut [u8],
     base: usize,
@@ -315,7 +316,7 @@ fn maps(
 // Operand 1 of the binder r of kind k is evaluated, and its bindings are formed.
 fn begin(
     table: &[u8],
-    index: &[u16; 200],
+    index: &Index,
     r: usize,
     s: &mut [u8],
     base: usize,
@@ -348,7 +349,7 @@ fn begin(
 // Operand i of the binder r, evaluated under binding j at a place above base.
 fn inside(
     table: &[u8],
-    index: &[u16; 200],
+    index: &Index,
     r: usize,
     s: &mut [u8],
     base: usize,
@@ -377,7 +378,7 @@ fn inside(
 // Does the condition of the binder r hold under binding j?
 fn holds(
     table: &[u8],
-    index: &[u16; 200],
+    index: &Index,
     r: usize,
     s: &mut [u8],
     base: usize,
@@ -419,7 +420,7 @@ fn holds(
 // 14, 15: forall stops at the first false, exists at the first true.
 fn quant(
     table: &[u8],
-    index: &[u16; 200],
+    index: &Index,
     r: usize,
     s: &mut [u8],
     base: usize,
@@ -460,7 +461,7 @@ fn quant(
 // 13, 16, 17: all bindings are tested. The satisfying ones are counted, and the wanted one is remembered as it passes.
 fn survey(
     table: &[u8],
-    index: &[u16; 200],
+    index: &Index,
     r: usize,
     s: &mut [u8],
     base: usize,
@@ -514,7 +515,7 @@ fn survey(
 // 16, 17: is there exactly one; the one that there is.
 fn one(
     table: &[u8],
-    index: &[u16; 200],
+    index: &Index,
     r: usize,
     s: &mut [u8],
     base: usize,
@@ -545,7 +546,7 @@ fn one(
 // 13: let-be. A choice among the satisfying bindings, and the body under the one chosen.
 fn such(
     table: &[u8],
-    index: &[u16; 200],
+    index: &Index,
     r: usize,
     s: &mut [u8],
     base: usize,
@@ -594,7 +595,7 @@ fn such(
 // 12: let. A loose pattern chooses among its bindings.
 fn local(
     table: &[u8],
-    index: &[u16; 200],
+    index: &Index,
     r: usize,
     s: &mut [u8],
     base: usize,
@@ -645,7 +646,7 @@ fn local(
 // 18, 19: an element, evaluated under binding j and added to what is built.
 fn item(
     table: &[u8],
-    index: &[u16; 200],
+    index: &Index,
     r: usize,
     s: &mut [u8],
     base: usize,
@@ -687,7 +688,7 @@ fn item(
 // 20: a key and a value, evaluated under binding j and entered into what is built.
 fn pair(
     table: &[u8],
-    index: &[u16; 200],
+    index: &Index,
     r: usize,
     s: &mut [u8],
     base: usize,
@@ -734,7 +735,7 @@ fn pair(
 // One binding of a comprehension: its condition, and where that holds what is added.
 fn step(
     table: &[u8],
-    index: &[u16; 200],
+    index: &Index,
     r: usize,
     s: &mut [u8],
     base: usize,
@@ -771,7 +772,7 @@ fn step(
 // 18, 19, 20: a set, a sequence, a map, built binding by binding.
 fn comp(
     table: &[u8],
-    index: &[u16; 200],
+    index: &Index,
     r: usize,
     s: &mut [u8],
     base: usize,
@@ -807,7 +808,7 @@ fn comp(
 // The record r evaluated.
 pub fn eval(
     table: &[u8],
-    index: &[u16; 200],
+    index: &Index,
     r: usize,
     s: &mut [u8],
     base: usize,
@@ -853,7 +854,7 @@ pub fn eval(
 // The run of an accepted, indexed table under the lent choices, over the scratch of a service. Its value is left at the start of scratch.
 pub fn run_sheet(
     table: &[u8],
-    index: &[u16; 200],
+    index: &Index,
     count: usize,
     s: &mut [u8],
     run: &mut [u8; RUN],

@@ -1,4 +1,5 @@
 // A let is loose where its pattern holds a 37, 38 or 40: by recursion on the record number, which falls at each operand.
+use tables::Index;
 use tables::kinds;
 use tables::reading::kind;
 use tables::reading::operand;
@@ -9,7 +10,7 @@ ghost use Rattle.tables.specs.Accepted.{records, Fine};
 ghost use Rattle.tables.specs.Reading.{Here};
 
 // Does the record p, or one below it, pair members or split?
-pub fn is_loose(table: &[u8], index: &[u16; 200], p: usize) -> bool
+pub fn is_loose(table: &[u8], index: &Index, p: usize) -> bool
     requires { ⌜ Fine (records (now table)) × Here (now table) (now index) p ⌝ }
     ensures { λ b. ⌜ b ≡ loose (records (now (table .entry))) p ⌝ }
 {

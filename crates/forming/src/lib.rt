@@ -8,6 +8,8 @@ use matching::leaves::Match;
 use matching::nodes;
 use matching::nodes::Meeting;
 use parts::words;
+use tables::Index;
+use tables::kinds;
 use tables::reading::kind;
 use tables::reading::operand;
 use tables::reading::operand_count;
@@ -29,7 +31,7 @@ pub struct Step {
 // part that it meets, and the entry that follows.
 fn push(
     table: &[u8],
-    index: &[u16; 200],
+    index: &Index,
     p: usize,
     s: &[u8],
     word: u32,
@@ -64,7 +66,7 @@ fn push(
 // All matches of an agenda that go on from what is found: each is entered.
 pub fn solve(
     table: &[u8],
-    index: &[u16; 200],
+    index: &Index,
     s: &[u8],
     agenda: &mut [u32; 603],
     head: usize,
@@ -84,7 +86,7 @@ pub fn solve(
         let word = agenda[3 * head + 1];
         let next = agenda[3 * head + 2] as usize;
         let k = kind(table, index, p);
-        if 36 <= k {
+        if kinds::TUPLE_PATTERN <= k {
             return divide(
                 table,
                 index,
@@ -116,7 +118,7 @@ pub fn solve(
 // A pattern with parts, before the rest of an agenda: all its ways; of a pattern that is only a test, up to the first with a match.
 fn divide(
     table: &[u8],
-    index: &[u16; 200],
+    index: &Index,
     p: usize,
     s: &[u8],
     word: u32,

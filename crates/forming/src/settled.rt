@@ -1,5 +1,7 @@
 // Patterns that are only a test: every name in them has a value already, so they give no name one, and one way of matching is enough.
 use matching::leaves::Match;
+use tables::Index;
+use tables::kinds;
 use tables::reading::field;
 use tables::reading::kind;
 use tables::reading::operand;
@@ -11,16 +13,16 @@ ghost use Rattle.patterns.specs.Read.{Readable};
 ghost use Rattle.forming.specs.Settled.{TellsSettled, HasWord, NextWay};
 
 // Every name of a pattern has a value.
-pub fn is_settled(table: &[u8], index: &[u16; 200], p: usize, found: Match) -> bool
+pub fn is_settled(table: &[u8], index: &Index, p: usize, found: Match) -> bool
     requires { ⌜ Readable (now table) (now index) p ⌝ }
     ensures { λ r. ⌜ TellsSettled (now (table .entry)) p found r ⌝ }
 {
     let k = kind(table, index, p);
-    if k == 32 {
+    if k == kinds::NAME_PATTERN {
         let x = field(table, index, p, 0);
         return has_word(found, x);
     }
-    if k < 36 {
+    if k < kinds::TUPLE_PATTERN {
         return true;
     }
     let n = operand_count(table, index, p);

@@ -3,6 +3,8 @@ use crate::nodes;
 use integers::Order;
 use parts::words;
 use parts::words::Env;
+use tables::Index;
+use tables::kinds;
 ghost use mathlib.Core.Path.{_≡_};
 ghost use mathlib.Core.Bool.{true, false};
 ghost use mathlib.Core.List.{List};
@@ -58,24 +60,17 @@ fn bind_name(s: &[u8], x: usize, word: u32, m: Match) -> Match
 }
 
 // A pattern without parts.
-pub fn match_leaf(
-    table: &[u8],
-    index: &[u16; 200],
-    p: usize,
-    s: &[u8],
-    word: u32,
-    m: Match,
-) -> Match
+pub fn match_leaf(table: &[u8], index: &Index, p: usize, s: &[u8], word: u32, m: Match) -> Match
     requires { ⌜ LeafHeld (now table) (now index) p ⌝ }
     requires { ⌜ PartHeld (now s) (unpacked word) × Standing (now s) m ⌝ }
     ensures { λ r. ⌜ LeafTold (now (table .entry)) p (now (s .entry)) word m r ⌝ }
 {
     let kind = tables::reading::kind(table, index, p);
-    if kind == 32 {
+    if kind == kinds::NAME_PATTERN {
         let x = tables::reading::field(table, index, p, 0);
         return bind_name(s, x, word, m);
     }
-    if kind == 33 {
+    if kind == kinds::ANY_PATTERN {
         return m;
     }
     let part = words::unpack(word);

@@ -1,5 +1,8 @@
 // What the parts of a pattern meet: how many ways there are, and what each part meets in a way.
 use parts::Part;
+use tables::Index;
+use tables::kinds;
+use values::Value;
 ghost use mathlib.Core.Path.{_≡_};
 ghost use Prim.Native.Nat.{_≤_, _<_};
 ghost use Rattle.parts.specs.Part.{PartHeld};
@@ -51,10 +54,10 @@ fn member(n: usize, d: usize, i: usize) -> usize
 fn collection_of(kind: usize) -> usize
     ensures { λ r. ⌜ r ≡ number (collectionOf kind) ⌝ }
 {
-    if kind == 36 {
+    if kind == kinds::TUPLE_PATTERN {
         return 6;
     }
-    if kind < 39 {
+    if kind < kinds::SEQUENCE_PATTERN {
         return 3;
     }
     4
@@ -71,20 +74,20 @@ pub fn meet(kind: usize, n: usize, s: &[u8], part: Part) -> Meeting
         return Meeting::Unfit;
     }
     let count = parts::count_of_part(s, part);
-    if kind == 38 {
+    if kind == kinds::UNION_PATTERN {
         if 7 < count {
             return Meeting::Large;
         }
         let m = parts::masks::full(count);
         return Meeting::Ways(m + 1);
     }
-    if kind == 40 {
+    if kind == kinds::CONCATENATION_PATTERN {
         return Meeting::Ways(count + 1);
     }
     if count != n {
         return Meeting::Unfit;
     }
-    if kind == 37 {
+    if kind == kinds::SET_PATTERN {
         let m = orders(n);
         return Meeting::Ways(m);
     }
@@ -96,21 +99,21 @@ pub fn piece(kind: usize, n: usize, s: &[u8], part: Part, d: usize, i: usize) ->
     requires { ⌜ PieceHeld kind n (now s) part d i ⌝ }
     ensures { λ r. ⌜ PieceOf kind n (now (s .entry)) part d i r ⌝ }
 {
-    if kind == 38 {
+    if kind == kinds::UNION_PATTERN {
         let h = parts::split_part(s, part, d);
         if i == 0 {
             return h.left;
         }
         return h.right;
     }
-    if kind == 40 {
+    if kind == kinds::CONCATENATION_PATTERN {
         let h = parts::cut_part(s, part, d);
         if i == 0 {
             return h.left;
         }
         return h.right;
     }
-    if kind == 37 {
+    if kind == kinds::SET_PATTERN {
         let k = member(n, d, i);
         return parts::item_of_part(s, part, k);
     }
@@ -118,15 +121,15 @@ pub fn piece(kind: usize, n: usize, s: &[u8], part: Part, d: usize, i: usize) ->
 }
 
 // A part of a value is the literal of a pattern of kind 34 or 35.
-pub fn is_literal(table: &[u8], index: &[u16; 200], p: usize, s: &[u8], part: Part) -> bool
+pub fn is_literal(table: &[u8], index: &Index, p: usize, s: &[u8], part: Part) -> bool
     requires { ⌜ LiteralHeld (now table) (now index) p × PartHeld (now s) part ⌝ }
     ensures { λ r. ⌜ LiteralIs (now (table .entry)) p (now (s .entry)) part r ⌝ }
 {
     let kind = tables::reading::kind(table, index, p);
     let k = parts::kind_of_part(s, part);
     let at = part.at;
-    if kind == 34 {
-        if k != 1 {
+    if kind == kinds::BOOLEAN_PATTERN {
+        if k != Value::BOOLEAN {
             return false;
         }
         let w = tables::reading::field(table, index, p, 0);
@@ -136,7 +139,7 @@ pub fn is_literal(table: &[u8], index: &[u16; 200], p: usize, s: &[u8], part: Pa
         }
         return w != 1;
     }
-    if k != 2 {
+    if k != Value::INTEGER {
         return false;
     }
     let w = tables::reading::integer(table, index, p);

@@ -4,15 +4,26 @@ pub mod runs;
 pub mod words;
 
 use integers::Order;
+use values::Value;
 ghost use Rattle.parts.specs.Part.{PartHeld};
 ghost use Rattle.parts.specs.Contract.{KindOfPart, CollectionHeld, Countable, OrderedParts, CountOfPart, ItemHeld, ItemOfPart, SplitHeld, CutHeld, SplitOf, CutOf, Puttable, PutPart, MaskOf};
 
-// Nothing (0); the whole record at a place (1); of the set of at most seven members whose record stands at a place, those that the bits of
-// `extent` choose, the first member by the lowest bit (2); the sequence of the items from a place up to `extent` (3).
+// Nothing; the whole record at a place; of the set of at most seven members whose record stands at a place, those that the bits of `extent`
+// choose, the first member by the lowest bit; the sequence of the items from a place up to `extent`.
 pub struct Part {
     pub how: usize,
     pub at: usize,
     pub extent: usize,
+}
+
+impl Part {
+    pub const NOTHING: usize = 0;
+
+    pub const WHOLE: usize = 1;
+
+    pub const MEMBERS: usize = 2;
+
+    pub const SPAN: usize = 3;
 }
 
 // The two halves of a part.
@@ -26,11 +37,11 @@ pub fn kind_of_part(s: &[u8], p: Part) -> usize
     requires { ⌜ PartHeld (now s) p ⌝ }
     ensures { λ r. ⌜ KindOfPart (now (s .entry)) p r ⌝ }
 {
-    if p.how == 2 {
-        return 3;
+    if p.how == Part::MEMBERS {
+        return Value::SET;
     }
-    if p.how == 3 {
-        return 4;
+    if p.how == Part::SPAN {
+        return Value::SEQUENCE;
     }
     let at = p.at;
     values::kind_of(s, at)
@@ -58,7 +69,7 @@ pub fn order_parts(s: &[u8], p: Part, q: Part) -> Order
     if kq < kp {
         return Order::Higher;
     }
-    if kp < 3 {
+    if kp < Value::SET {
         let a = p.at;
         let b = q.at;
         return values::compare(s, a, b);
@@ -77,7 +88,7 @@ pub fn item_of_part(s: &[u8], p: Part, k: usize) -> Part
     let r = runs::skip(s, all, k);
     let at = r.from;
     Part {
-        how: 1,
+        how: Part::WHOLE,
         at,
         extent: 0,
     }
@@ -94,12 +105,12 @@ pub fn split_part(s: &[u8], p: Part, d: usize) -> Halves
     let left = masks::spread(mask, d, n);
     Halves {
         left: Part {
-            how: 2,
+            how: Part::MEMBERS,
             at,
             extent: left,
         },
         right: Part {
-            how: 2,
+            how: Part::MEMBERS,
             at,
             extent: mask - left,
         },
@@ -111,7 +122,7 @@ fn mask_of(s: &[u8], p: Part) -> usize
     requires { ⌜ Countable (now s) p ⌝ }
     ensures { λ r. ⌜ MaskOf (now (s .entry)) p r ⌝ }
 {
-    if p.how == 2 {
+    if p.how == Part::MEMBERS {
         return p.extent;
     }
     let n = count_of_part(s, p);
@@ -130,12 +141,12 @@ pub fn cut_part(s: &[u8], p: Part, k: usize) -> Halves
     let to = all.to;
     Halves {
         left: Part {
-            how: 3,
+            how: Part::SPAN,
             at: from,
             extent: middle,
         },
         right: Part {
-            how: 3,
+            how: Part::SPAN,
             at: middle,
             extent: to,
         },
@@ -147,7 +158,7 @@ pub fn put_part(s: &mut [u8], p: Part, base: usize) -> usize
     requires { ⌜ Puttable (now s) p base ⌝ }
     ensures { λ r. ⌜ PutPart (now (s .entry)) (now (s .exit)) p base r ⌝ }
 {
-    if p.how == 1 {
+    if p.how == Part::WHOLE {
         let at = p.at;
         return values::copy_value(s, at, base);
     }

@@ -64,7 +64,7 @@ pub fn run_of(s: &[u8], p: Part) -> Run
 {
     let at = p.at;
     let extent = p.extent;
-    if p.how == 3 {
+    if p.how == Part::SPAN {
         return Run {
             from: at,
             to: extent,
@@ -72,7 +72,7 @@ pub fn run_of(s: &[u8], p: Part) -> Run
         };
     }
     let end = at + values::length_of(s, at);
-    if p.how == 2 {
+    if p.how == Part::MEMBERS {
         return ready(
             s,
             Run {

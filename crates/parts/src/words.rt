@@ -36,13 +36,13 @@ pub fn pack(s: &[u8], p: Part) -> u32
     requires { ⌜ (length (now s) ≤ 65536) × CellHeld (now s) p ⌝ }
     ensures { λ r. ⌜ Packed (now (s .entry)) p r ⌝ }
 {
-    if p.how == 0 {
+    if p.how == Part::NOTHING {
         return 0;
     }
-    if p.how == 1 {
+    if p.how == Part::WHOLE {
         return (1 + 4 * p.at) as u32;
     }
-    if p.how == 2 {
+    if p.how == Part::MEMBERS {
         return (2 + 4 * (p.at + PLACES * p.extent)) as u32;
     }
     let size = p.extent - p.at;
@@ -58,7 +58,7 @@ pub fn unpack(word: u32) -> Part
     let q = n / 4;
     let at = q % PLACES;
     let more = q / PLACES;
-    if how == 3 {
+    if how == Part::SPAN {
         return Part {
             how,
             at,
@@ -96,8 +96,8 @@ fn order_apart(s: &[u8], p: Part, q: Part) -> Order
     requires { ⌜ PartHeld (now s) p × PartHeld (now s) q ⌝ }
     ensures { λ r. ⌜ OrderedParts (now (s .entry)) p q r ⌝ }
 {
-    if p.how == 2 {
-        if q.how == 2 {
+    if p.how == Part::MEMBERS {
+        if q.how == Part::MEMBERS {
             if p.at == q.at {
                 return masks::order(p.extent, q.extent);
             }

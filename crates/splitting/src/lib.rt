@@ -2,6 +2,8 @@
 use matching::nodes;
 use matching::nodes::Meeting;
 use parts::Part;
+use tables::Index;
+use tables::kinds;
 use tables::reading::kind;
 use tables::reading::operand;
 use tables::reading::operand_count;
@@ -11,15 +13,15 @@ ghost use Rattle.parts.specs.Part.{PartHeld};
 ghost use Rattle.splitting.specs.Told.{TellsUnion, TellsShallow, TellsWide, TellsWays, TellsWay, WaysHeld};
 
 // A pattern holds a union pattern.
-fn has_union(table: &[u8], index: &[u16; 200], p: usize) -> bool
+fn has_union(table: &[u8], index: &Index, p: usize) -> bool
     requires { ⌜ Readable (now table) (now index) p ⌝ }
     ensures { λ r. ⌜ TellsUnion (now (table .entry)) p r ⌝ }
 {
     let k = kind(table, index, p);
-    if k < 36 {
+    if k < kinds::TUPLE_PATTERN {
         return false;
     }
-    if k == 38 {
+    if k == kinds::UNION_PATTERN {
         return true;
     }
     let n = operand_count(table, index, p);
@@ -36,12 +38,12 @@ fn has_union(table: &[u8], index: &[u16; 200], p: usize) -> bool
 }
 
 // A pattern holds no union pattern but itself and its halves: all of them meet parts of one set.
-fn is_shallow(table: &[u8], index: &[u16; 200], p: usize) -> bool
+fn is_shallow(table: &[u8], index: &Index, p: usize) -> bool
     requires { ⌜ Readable (now table) (now index) p ⌝ }
     ensures { λ r. ⌜ TellsShallow (now (table .entry)) p r ⌝ }
 {
     let k = kind(table, index, p);
-    if k != 38 {
+    if k != kinds::UNION_PATTERN {
         let has = has_union(table, index, p);
         return !has;
     }
@@ -55,12 +57,12 @@ fn is_shallow(table: &[u8], index: &[u16; 200], p: usize) -> bool
 }
 
 // A pattern with a part of a value: number 29.
-pub fn too_large(table: &[u8], index: &[u16; 200], p: usize, s: &[u8], part: Part) -> bool
+pub fn too_large(table: &[u8], index: &Index, p: usize, s: &[u8], part: Part) -> bool
     requires { ⌜ Readable (now table) (now index) p × PartHeld (now s) part ⌝ }
     ensures { λ r. ⌜ TellsWide (now (table .entry)) p (now (s .entry)) part r ⌝ }
 {
     let k = kind(table, index, p);
-    if k < 36 {
+    if k < kinds::TUPLE_PATTERN {
         return false;
     }
     let n = operand_count(table, index, p);
@@ -73,7 +75,7 @@ pub fn too_large(table: &[u8], index: &[u16; 200], p: usize, s: &[u8], part: Par
 }
 
 // The parts of a pattern, in one of w ways. Those of a shallow pattern meet no more members than it does, and so are not tried.
-fn in_ways(table: &[u8], index: &[u16; 200], p: usize, s: &[u8], part: Part, w: usize) -> bool
+fn in_ways(table: &[u8], index: &Index, p: usize, s: &[u8], part: Part, w: usize) -> bool
     requires { ⌜ Readable (now table) (now index) p × WaysHeld (now table) p (now s) part w ⌝ }
     ensures { λ r. ⌜ TellsWays (now (table .entry)) p (now (s .entry)) part r ⌝ }
 {
@@ -93,7 +95,7 @@ fn in_ways(table: &[u8], index: &[u16; 200], p: usize, s: &[u8], part: Part, w: 
 }
 
 // The parts of a pattern, each with what it meets in the way d.
-fn in_way(table: &[u8], index: &[u16; 200], p: usize, s: &[u8], part: Part, d: usize) -> bool
+fn in_way(table: &[u8], index: &Index, p: usize, s: &[u8], part: Part, d: usize) -> bool
     requires { ⌜ Readable (now table) (now index) p × WayHeld (now table) p 0 (now s) part d ⌝ }
     ensures { λ r. ⌜ TellsWay (now (table .entry)) p (now (s .entry)) part d r ⌝ }
 {

@@ -22,6 +22,8 @@ use lists::advance;
 use lists::list_of;
 use lists::start;
 use lists::start_walk;
+use tables::Index;
+use tables::MOST_RECORDS;
 use tables::reading::cut;
 use tables::shape::wide;
 
@@ -95,7 +97,7 @@ pub fn run_list(list: &[u8], table: &[u8], s: &mut [u8]) -> Outcome
     requires { ⌜ Ready (now table) (now s) × (length (now list) ≤ mostChoices) ⌝ }
     ensures { λ o. ⌜ Ran (now (table .entry)) (now (list .entry)) (now (s .exit)) o ⌝ }
 {
-    let mut index = [0u16; 200];
+    let mut index = [0u16; MOST_RECORDS];
     let c = cut(table, &mut index);
     let count = c.count;
     let mut run = start(list, false);
@@ -108,7 +110,7 @@ pub fn first_walk(table: &[u8], s: &mut [u8]) -> Walk
     requires { ⌜ Ready (now table) (now s) ⌝ }
     ensures { λ w. ⌜ Lists w (firstList (tree (now (table .entry)))) × (length (w .entries) ≡ mostChoices) ⌝ }
 {
-    let mut index = [0u16; 200];
+    let mut index = [0u16; MOST_RECORDS];
     let c = cut(table, &mut index);
     let count = c.count;
     let mut run = start_walk(Walk::empty(), true);
@@ -126,7 +128,7 @@ pub struct Stepped {
 fn next_list(
     walk: Walk,
     table: &[u8],
-    index: &[u16; 200],
+    index: &Index,
     count: usize,
     s: &mut [u8],
     learnt: [u8; RUN],
@@ -154,7 +156,7 @@ pub fn next_walk(walk: Walk, table: &[u8], s: &mut [u8]) -> Stepped
     requires { ⌜ Steppable (now table) (now s) walk ⌝ }
     ensures { λ r. ⌜ Steps (now (table .entry)) walk r ⌝ }
 {
-    let mut index = [0u16; 200];
+    let mut index = [0u16; MOST_RECORDS];
     let c = cut(table, &mut index);
     let count = c.count;
     let mut run = start_walk(walk, false);
