@@ -71,8 +71,16 @@ fn main() {
     show(kind::LET, "a union (b union c)", &numbers(7));
     let text = "{a} union ({b} union ({c} union d))";
     show(kind::LET, text, &numbers(7));
-    show(kind::LET, "mk_(a union b, c union d)", &pair(numbers(3), numbers(3)));
-    show(kind::LET, "mk_(a union b, a union b)", &pair(numbers(7), numbers(7)));
+    show(
+        kind::LET,
+        "mk_(a union b, c union d)",
+        &pair(numbers(3), numbers(3)),
+    );
+    show(
+        kind::LET,
+        "mk_(a union b, a union b)",
+        &pair(numbers(7), numbers(7)),
+    );
     show(kind::LET, "(- union -) union a", &numbers(7));
     show(kind::LET, "a union (- union -)", &numbers(7));
     show(kind::LET, "- union (- union (- union -))", &numbers(7));
@@ -82,8 +90,16 @@ fn main() {
         let nested = |first: &str, rest: &str| {
             let mut text = rest.to_string();
             for n in (0..parts - 1).rev() {
-                let name = if first == "-" { "-".to_string() } else { ((b'a' + n as u8) as char).to_string() };
-                text = if n == parts - 2 { format!("{name} union {text}") } else { format!("{name} union ({text})") };
+                let name = if first == "-" {
+                    "-".to_string()
+                } else {
+                    ((b'a' + n as u8) as char).to_string()
+                };
+                text = if n == parts - 2 {
+                    format!("{name} union {text}")
+                } else {
+                    format!("{name} union ({text})")
+                };
             }
             text
         };

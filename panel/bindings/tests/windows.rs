@@ -82,7 +82,13 @@ fn a_plain_name() {
     assert_eq!(every(kind::LET_BE, "p", &numbers(63)), 63);
     assert_eq!(every(kind::LET_BE, "a", &numbers(0)), 0);
     assert_eq!(every(kind::LET, "a", &numbers(63)), 1);
-    let mixed = set_of([numbers(3), value("true"), value("[]"), value("{}"), value("7")]);
+    let mixed = set_of([
+        numbers(3),
+        value("true"),
+        value("[]"),
+        value("{}"),
+        value("7"),
+    ]);
     assert_eq!(every(kind::LET_BE, "k", &mixed), 5);
 }
 
