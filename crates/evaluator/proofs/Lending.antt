@@ -12,7 +12,7 @@ use Rattle.choices.specs.Tree.{mostChoices}
 use Rattle.choices.specs.State.{Invariant, Chosen, taking}
 use Rattle.choices.proofs.States.{left-cons, left-nil}
 use Rattle.choices.proofs.Choosing.{many-law, beyond-law, short-law, taken-law, grown-law}
-use Rattle.evaluator.specs.Run.{lent}
+use Rattle.lists.specs.Lent.{lent}
 use Rattle.evaluator.specs.Binding.{first, dueFor}
 
 module _ (l : List ℕ) (s : Invariant (lent l)) where

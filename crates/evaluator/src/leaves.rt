@@ -1,8 +1,8 @@
 // What is evaluated without evaluating anything else: literals, names, tests, and the operators of two operands.
 use crate::Outcome;
-use crate::RUN;
 use crate::Truth;
 use calling::Applied;
+use lists::RUN;
 use parts::Part;
 use parts::words::Env;
 use parts::words::unpack;
@@ -16,7 +16,7 @@ ghost use Rattle.values.specs.Place.{Holds};
 ghost use Rattle.calling.specs.Applied.{Two, OnTwo};
 ghost use Rattle.tables.specs.Table.{kindAt};
 ghost use Rattle.tables.specs.Accepted.{records};
-ghost use Rattle.evaluator.specs.Run.{lent};
+ghost use Rattle.lists.specs.Lent.{lent};
 ghost use Rattle.evaluator.specs.Contract.{Ask, Evaluates, ended};
 ghost use Rattle.evaluator.specs.Leaves.{Tells, OfTwo, ofTwo};
 

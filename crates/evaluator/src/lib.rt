@@ -32,6 +32,7 @@ use leaves::test;
 use leaves::truth;
 use leaves::two;
 use leaves::whole;
+use lists::RUN;
 use looseness::is_loose;
 use parts::words::Env;
 use run::choose;
@@ -51,7 +52,7 @@ ghost use Prim.Native.Nat.{_≤_, _<_};
 ghost use Rattle.tables.specs.Table.{kindAt};
 ghost use Rattle.tables.specs.Accepted.{records};
 ghost use Rattle.tables.specs.Reading.{HasOperand};
-ghost use Rattle.evaluator.specs.Run.{lent};
+ghost use Rattle.lists.specs.Lent.{lent};
 ghost use Rattle.evaluator.specs.Contract.{Ask, Evaluates, ended, operatorAt, operandAt};
 ghost use Rattle.evaluator.specs.Leaves.{applied, Strict};
 ghost use Rattle.evaluator.specs.Building.{Enumerated};
@@ -106,9 +107,6 @@ pub struct Counted {
     pub count: usize,
     pub at: usize,
 }
-
-// The bytes of a run's choices: how many entries, how many used, whether it grows, entries, numbers of ways.
-pub const RUN: usize = 131;
 
 // How far above the base of a record its parts stand: the right operand, or the next one of an enumeration; and the next after that.
 const NEXT: usize = Applied::SECOND;

@@ -1,25 +1,18 @@
 // The choices of a run as lent bytes: how many entries, how many used, whether it grows, 64 entries, 64 numbers of ways.
-use crate::RUN;
 use choices::Answer;
+use choices::list::Walk;
+use lists::ENTRIES;
+use lists::GROW;
+use lists::LEN;
+use lists::RUN;
+use lists::USED;
+use lists::WAYS;
 use tables::kinds;
 ghost use mathlib.Core.Path.{_≡_};
 ghost use Prim.Native.Nat.{_<_};
 ghost use Rattle.choices.specs.State.{Invariant, Chosen};
-ghost use Rattle.evaluator.specs.Run.{lent};
+ghost use Rattle.lists.specs.Lent.{lent};
 ghost use Rattle.evaluator.specs.Binding.{dueFor, Picks};
-
-// Where the bytes stand.
-const LEN: usize = 0;
-
-const USED: usize = 1;
-
-const GROW: usize = 2;
-
-const ENTRIES: usize = 3;
-
-const COUNTS: usize = 67;
-
-const LIMIT: usize = 64;
 
 fn number(b: u8) -> usize
     ensures { λ r. ⌜ r ≡ b ⌝ }
@@ -49,7 +42,7 @@ pub fn choose(run: &mut [u8; RUN], n: usize) -> Answer
     ensures { λ a. ⌜ Chosen (lent (now (run .entry))) n (record { answer = a; state = lent (now (run .exit)) }) ⌝ }
 {
     let used = run[USED] as usize;
-    if LIMIT <= used {
+    if Walk::LIMIT <= used {
         return Answer::Many;
     }
     let len = run[LEN] as usize;
@@ -58,13 +51,13 @@ pub fn choose(run: &mut [u8; RUN], n: usize) -> Answer
         if n <= entry {
             return Answer::Beyond;
         }
-        run[COUNTS + used] = n as u8;
+        run[WAYS + used] = n as u8;
         run[USED] = (used + 1) as u8;
         return Answer::Taken(entry);
     }
     let grow = number(run[GROW]);
     if grow == 1 {
-        run[COUNTS + used] = n as u8;
+        run[WAYS + used] = n as u8;
         run[LEN] = (used + 1) as u8;
         run[USED] = (used + 1) as u8;
         return Answer::Taken(0);

@@ -18,11 +18,11 @@ pub const LEN: usize = 0;
 
 pub const USED: usize = 1;
 
-const GROW: usize = 2;
+pub const GROW: usize = 2;
 
-const ENTRIES: usize = 3;
+pub const ENTRIES: usize = 3;
 
-const WAYS: usize = 67;
+pub const WAYS: usize = 67;
 
 // The start of a run under a list.
 pub fn start(list: &[u8], grow: bool) -> [u8; RUN]

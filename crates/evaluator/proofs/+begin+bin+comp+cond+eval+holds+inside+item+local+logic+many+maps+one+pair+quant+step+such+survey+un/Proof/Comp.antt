@@ -1,6 +1,6 @@
 -- The member `comp` of the cycle.
 use Prim.Native.Nat.{_-_, ℕ}
-use Rattle.evaluator.specs.Run.{lent}
+use Rattle.lists.specs.Lent.{lent}
 use Rattle.evaluator.proofs.Coming.{no-value}
 use Rattle.evaluator.proofs.Comprehending.{Collects, comp-off, comp-room, comp-start, comp-whole, collects-extends, collects-off, collects-more, collects-copyable, collects-end}
 use native.Mathlib.Omega.{arith}

@@ -1,7 +1,7 @@
 -- The member `many` of the cycle.
 use Prim.Native.Nat.{_-_, ℕ}
 use mathlib.Core.Logic.{inl}
-use Rattle.evaluator.specs.Run.{lent}
+use Rattle.lists.specs.Lent.{lent}
 use Rattle.evaluator.proofs.Coming.{no-value}
 use Rattle.evaluator.proofs.Tables.{here, room-here}
 use Rattle.evaluator.proofs.Simple.{started-small}

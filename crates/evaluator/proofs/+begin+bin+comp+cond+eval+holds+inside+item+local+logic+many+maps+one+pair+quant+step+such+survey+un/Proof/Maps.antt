@@ -1,7 +1,7 @@
 -- The member `maps` of the cycle.
 use Prim.Native.Nat.{_-_, ℕ}
 use mathlib.Core.Logic.{inr}
-use Rattle.evaluator.specs.Run.{lent}
+use Rattle.lists.specs.Lent.{lent}
 use Rattle.evaluator.proofs.Coming.{no-value}
 use Rattle.evaluator.proofs.Tables.{here, room-here}
 use Rattle.evaluator.proofs.Enumerating.{Building, not-nine, building-start, building-has, building-ask, key-off, second-has, value-ask, value-off, pair-held, pair-next, building-finish, building-end, from-entry, empties-kept}

@@ -1,6 +1,6 @@
 -- The member `quant` of the cycle.
 use Prim.Native.Nat.{_-_, ℕ}
-use Rattle.evaluator.specs.Run.{lent}
+use Rattle.lists.specs.Lent.{lent}
 use Rattle.evaluator.proofs.Coming.{no-value}
 use Rattle.evaluator.proofs.Tables.{room-here}
 use mathlib.Core.Logic.{⊎-elim}

@@ -1,6 +1,6 @@
 -- The member `survey` of the cycle.
 use Prim.Native.Nat.{_-_, ℕ}
-use Rattle.evaluator.specs.Run.{lent}
+use Rattle.lists.specs.Lent.{lent}
 use Rattle.evaluator.proofs.Coming.{no-value, comes-sound}
 use Rattle.evaluator.proofs.Quieting.{quiet}
 use Rattle.evaluator.proofs.Surveying.{Counts, counts-end, counts-stands, counts-off, counts-more, survey-off, survey-start, survey-whole}
