@@ -4,7 +4,7 @@
 mod common;
 mod script;
 
-use common::program::{built, print, run};
+use common::program::{built, print};
 use common::{bytes, samples};
 use generator::builder::{binary, kind, unary};
 use generator::{accepted, at_limits, damaged, Builder, Random};
