@@ -3,6 +3,7 @@
 //!
 //! A word after `--` picks the rows whose label holds it: `cargo bench -p sheets -- step`.
 
+mod bindings;
 mod cases;
 
 use generator::{accepted, damaged};
@@ -305,6 +306,11 @@ fn rows() -> Vec<Row> {
     rows.extend(walks());
     rows.extend(evaluations());
     rows.extend(steps());
+    rows.extend(
+        bindings::tables()
+            .into_iter()
+            .map(|(label, table)| Row::new(&label, Call::Evaluate, table)),
+    );
     rows
 }
 
