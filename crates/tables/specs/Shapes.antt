@@ -1,11 +1,19 @@
 -- The shape of a kind in numbers, as a record is read by: where its operands begin, and its first field.
 use mathlib.Core.Bool.{Bool, true, false, _&&_, _||_, cond}
-use mathlib.Core.List.{List}
+use mathlib.Core.List.{List, [], _∷_}
 use Prim.Native.Nat.{ℕ, zero, suc, _+_}
 use lib.Dec.{eqb, leb}
+use lib.ListN.{getD}
 use Rattle.tables.specs.declared.Role.{Role}
 use Rattle.tables.specs.declared.Role.the-variants.{Plain, Condition, Body, Pattern, Name}
 use Rattle.tables.specs.Record.{Head, nothing, boolean, integer, name, unary, binary, unknown, shape, size}
+
+-- The kinds that may have a length, as bits: bit k for kind k. (`proofs/Lengths` has that they are those whose rows say so.)
+abbrev pub kindsOf : ℕ → ℕ
+kindsOf len =
+    getD
+    (0 ∷ 0 ∷ 0 ∷ 0 ∷ 700075475841 ∷ 708669604234 ∷ 2130305879952 ∷ 755914495456 ∷ 790274779012 ∷ 1048960 ∷ 896 ∷ 384 ∷ 896 ∷ [])
+    len 0
 
 -- The place of the first operand in a record of the kind.
 abbrev pub firstOf : ℕ → ℕ
