@@ -21,8 +21,9 @@ use Rattle.tables.specs.Record.{isPattern, operand}
 use Rattle.tables.specs.Table.{recordAt, kindAt}
 use Rattle.tables.specs.Sheet.{patternOf, isBinder}
 use Rattle.tables.specs.Check.{mostBytes, check}
-use Rattle.tables.specs.Accepted.{records, Fine, accepted-fine, accepted-short, operand-lower, binder-operands, binder-pattern}
-use Rattle.tables.specs.Reading.{Here, HasOperand, CutOut, cut-accepted}
+use Rattle.tables.specs.Accepted.{records, Fine}
+use Rattle.tables.specs.Laws.Accepted.{accepted-fine, accepted-short, operand-lower, binder-operands, binder-pattern, cut-accepted}
+use Rattle.tables.specs.Reading.{Here, HasOperand, CutOut}
 use Rattle.parts.proofs.Laws.{of-kind}
 use Rattle.patterns.specs.Laws.Merging.{true-false}
 use Rattle.patterns.specs.Read.{Readable}

@@ -10,7 +10,7 @@ use lib.ListN.{length, getD}
 use mathlib.Mathlib.Data.Bool.Basic.{and-elim-left, and-elim-right}
 use Rattle.tables.specs.declared.shape.Lengths.{Lengths}
 use Rattle.tables.specs.Record.{shape, size, fits}
-use Rattle.tables.specs.Laws.{each}
+use Rattle.tables.specs.Laws.Tests.{each}
 
 abbrev row : ℕ → ℕ → ℕ → Lengths
 row least greatest step = record { 0 = least; 1 = greatest; 2 = step }
