@@ -15,14 +15,17 @@ use Rattle.tables.specs.Record.{Record, named, operand}
 use Rattle.tables.specs.Table.{recordAt, kindAt}
 use Rattle.tables.specs.Sheet.{fold, some, isIn, parent}
 use Rattle.tables.specs.Check.{allNamed}
-use Rattle.tables.specs.Laws.{Lower, fold-at, in-append, parent-higher}
-use Rattle.tables.specs.Accepted.{records, Clear6, lower, operand-lower, operand-first, operand-parent}
+use Rattle.tables.specs.Laws.Below.{Lower, fold-at, parent-higher}
+use Rattle.tables.specs.Laws.Tests.{in-append}
+use Rattle.tables.specs.Accepted.{records}
+use Rattle.tables.specs.Laws.Accepted.{Clear6, lower, operand-lower, operand-first, operand-parent}
 use Rattle.patterns.specs.Pattern.{Pattern, any}
 use Rattle.forming.specs.Pending.{inner, innerEach}
 use Rattle.matching.specs.Node.{innerOf}
 use Rattle.matching.proofs.Records.{by-record, inner-length, kind-low, count-two, operand-readable}
 use Rattle.patterns.specs.Read.{Readable, patternsOf, patterns, patternOf, patternAt}
-use Rattle.patterns.specs.Nodes.{isHalved, pattern-at}
+use Rattle.patterns.specs.Nodes.{isHalved}
+use Rattle.patterns.specs.Laws.Nodes.{pattern-at}
 use Rattle.patterns.specs.Laws.Merging.{true-false}
 
 -- ---- truths

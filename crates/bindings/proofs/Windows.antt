@@ -21,7 +21,8 @@ use Rattle.values.proofs.Records.{holds, word-size, one-item}
 use Rattle.values.proofs.Frame.{kept}
 use Rattle.tables.specs.Record.{Record, named as operandsOf, nameOf, shape, isKnown, size as sizeOf}
 use Rattle.tables.specs.Table.{recordAt, kindAt}
-use Rattle.tables.specs.Accepted.{records, lower, fit-known, fit-least}
+use Rattle.tables.specs.Accepted.{records}
+use Rattle.tables.specs.Laws.Accepted.{lower, fit-known, fit-least}
 use Rattle.tables.specs.Reading.{HasField}
 use Rattle.parts.specs.Part.{PartIs, CellIs}
 use Rattle.parts.specs.Chosen.{odd}
@@ -29,7 +30,8 @@ use Rattle.parts.specs.Word.{unpacked}
 use Rattle.parts.specs.declared.words.Env.{Env}
 use Rattle.parts.proofs.Packing.{cell-free, cell-value}
 use Rattle.patterns.specs.Ways.{gather, exists}
-use Rattle.patterns.specs.Members.{at-in, in-gather}
+use Rattle.prelude.proofs.Membership.{at-in}
+use Rattle.patterns.specs.Laws.Members.{in-gather}
 use Rattle.patterns.specs.Binding.{Cell, free, is, clash, Binding, names, nothing, only, cellOf, sorted, place}
 use Rattle.patterns.specs.Pattern.{Pattern, name, itemsOf, listOf, matches, wide}
 use Rattle.patterns.specs.Binder.{bindings, Formed as Outcome, bound, refused, formed, few}
@@ -39,7 +41,7 @@ use Rattle.patterns.specs.Laws.Named.{named, Told, told}
 use Rattle.patterns.specs.Laws.Matched.{matched, only-sized, list-items}
 use Rattle.patterns.specs.Laws.Plain.{plain-formed}
 use Rattle.patterns.specs.Read.{Readable, patternAt}
-use Rattle.patterns.specs.Nodes.{is-name, pattern-at}
+use Rattle.patterns.specs.Laws.Nodes.{is-name, pattern-at}
 use Rattle.forming.specs.declared.Formed.{Formed}
 use Rattle.forming.specs.declared.Formed.the-variants.{Number, Refused}
 use Rattle.forming.specs.Rows.{RowIs, RowsAre}

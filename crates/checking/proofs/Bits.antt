@@ -15,7 +15,7 @@ use Rattle.tables.specs.declared.Role.the-variants.{Plain, Condition, Body, Pat
 use Rattle.tables.specs.Record.{Record, shape, named, nameOf}
 use Rattle.tables.specs.Table.{recordAt}
 use Rattle.tables.specs.Sheet.{some, foldBy, isName, holdsName, isLoose, loose, parent, roleIn, climbBy, isCovered, isCondition, patternOf, isBound, inCondition}
-use Rattle.tables.specs.Laws.{split}
+use Rattle.prelude.proofs.Truth.{by-lower}
 use Rattle.checking.specs.Scopes.{hasBit, orBits, orBitsAll, own, bitsBelow, given, around}
 
 -- ---- single bits
@@ -42,7 +42,7 @@ bit-zero n = ne-eqb (0 / 2 ^ n % 2) 1 (λ e. omega (arith, shr-le 0 n))
 bit-pow : (k n : ℕ) → hasBit (2 ^ k) n ≡ eqb k n
 unfolding hasBit
 bit-pow k n =
-    split k n
+    by-lower k n
     (λ h.
     let none : 2 ^ k / 2 ^ n < 1 = shr-lt {n = 2 ^ k} 0 n (rw (zero-add n) (pow-lt h)) in
     ne-eqb (2 ^ k / 2 ^ n % 2) 1 (λ e. omega arith) ∙ sym (ne-eqb k n (λ e. omega arith)))

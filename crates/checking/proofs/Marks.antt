@@ -15,7 +15,8 @@ use Rattle.tables.specs.Record.{Record, isPattern, named, operand, roleAt}
 use Rattle.tables.specs.Table.{noRecord, recordAt, kindAt}
 use Rattle.tables.specs.Sheet.{any, lowest, isIn}
 use Rattle.tables.specs.Check.{isOfSort, allNamed, namedBefore, isBad, hasBad, isStray, fault6}
-use Rattle.tables.specs.Laws.{split, in-append, low}
+use Rattle.prelude.proofs.Truth.{by-lower}
+use Rattle.tables.specs.Laws.Tests.{in-append, low}
 use Rattle.tables.specs.Accepted.{records}
 use Rattle.checking.proofs.Scan.{low-more, lowest-either}
 use Rattle.checking.specs.Naming.{Marked, MarkedOne, MarkedAll}
@@ -34,9 +35,9 @@ mark-one marks ms n h m =
       long = length-set marks n 1 ∙ m .long;
       is =
           λ k l.
-          split k n (λ a. rw (getD-set-other marks n k 1 0 (λ e. omega arith), in-more k n ms (λ e. omega arith)) (m .is k l))
+          by-lower k n (λ a. rw (getD-set-other marks n k 1 0 (λ e. omega arith), in-more k n ms (λ e. omega arith)) (m .is k l))
           (λ a.
-          split n k (λ b. rw (getD-set-other marks n k 1 0 (λ e. omega arith), in-more k n ms (λ e. omega arith)) (m .is k l))
+          by-lower n k (λ b. rw (getD-set-other marks n k 1 0 (λ e. omega arith), in-more k n ms (λ e. omega arith)) (m .is k l))
           (λ b.
           let same : k ≡ n = omega arith in
           rw (same, getD-set-same marks n 1 0 (omega (arith, m .long)), in-last n ms)));

@@ -11,8 +11,9 @@ use Rattle.tables.specs.declared.Checked.the-variants.{Accepted, Refused}
 use Rattle.tables.specs.Record.{Record}
 use Rattle.tables.specs.Sheet.{lowest}
 use Rattle.tables.specs.Check.{mostBytes, mostRecords, fault6, fault7, fault8, fault9, judged, judgedCut, check}
-use Rattle.tables.specs.Laws.{low}
-use Rattle.tables.specs.Accepted.{records, Clear6, some-cut}
+use Rattle.tables.specs.Laws.Tests.{low}
+use Rattle.tables.specs.Accepted.{records}
+use Rattle.tables.specs.Laws.Accepted.{Clear6, some-cut}
 use Rattle.tables.specs.Reading.{Indexed, CutOut}
 use Rattle.tables.specs.declared.reading.Cutting.{Cutting}
 

@@ -17,7 +17,8 @@ use Rattle.operators.specs.Answer.{Built, built}
 use Rattle.operators.specs.Enumerations.{addEntry}
 use Rattle.tables.specs.Record.{named}
 use Rattle.tables.specs.Table.{recordAt}
-use Rattle.tables.specs.Accepted.{records, height-operand, height-at, operand-lower}
+use Rattle.tables.specs.Accepted.{records}
+use Rattle.tables.specs.Laws.Accepted.{height-operand, height-at, operand-lower}
 use Rattle.patterns.specs.Binding.{Binding, nothing}
 use Rattle.calling.specs.Scratch.{Kept}
 use Rattle.calling.proofs.Framing.{kept-then, kept-less, kept-same}

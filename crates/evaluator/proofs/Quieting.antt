@@ -24,7 +24,8 @@ use Rattle.tables.specs.declared.Role.the-variants.{Plain}
 use Rattle.tables.specs.Table.{recordAt, kindAt}
 use Rattle.tables.specs.Sheet.{inCondition, isCondition, patternOf, loose as looseIn, isBinder}
 use Rattle.tables.specs.Check.{chooses}
-use Rattle.tables.specs.Accepted.{records, Fine, operand-lower, condition-operand, choice-outside, binder-pattern}
+use Rattle.tables.specs.Accepted.{records, Fine}
+use Rattle.tables.specs.Laws.Accepted.{operand-lower, condition-operand, choice-outside, binder-pattern}
 use Rattle.patterns.specs.Binding.{Binding}
 use Rattle.patterns.specs.Pattern.{Pattern, loose, listOf}
 use Rattle.patterns.specs.Binder.{Formed, bound, refused as unformed, formed}
@@ -37,7 +38,7 @@ use Rattle.meaning.specs.Laws.Proper.{Proper, inside, downward}
 use Rattle.meaning.specs.Laws.PatternLaws.{loose-is}
 use Rattle.evaluator.specs.Contract.{Legal, meant, operandAt}
 use Rattle.evaluator.proofs.Leading.{Leaf, leaf-bind}
-use Rattle.tables.specs.Laws.{each as all-kinds}
+use Rattle.tables.specs.Laws.Tests.{each as all-kinds}
 use Rattle.evaluator.proofs.Tables.{fine-of, operand-here}
 
 -- ---- what stands at a record has no choice

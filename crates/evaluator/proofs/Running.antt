@@ -6,7 +6,8 @@ use Prim.Native.Nat.{ℕ, _-_, _≤_, _<_}
 use native.Mathlib.Omega.{arith}
 use lib.ListN.{length, getD, replicate, getD-replicate}
 use Rattle.values.specs.Place.{At}
-use Rattle.tables.specs.Accepted.{records, accepted-fine, height-most}
+use Rattle.tables.specs.Accepted.{records}
+use Rattle.tables.specs.Laws.Accepted.{accepted-fine, height-most}
 use Rattle.choices.specs.declared.Choices.{Choices}
 use Rattle.patterns.specs.Binding.{free}
 use Rattle.parts.specs.declared.words.Env.{Env}

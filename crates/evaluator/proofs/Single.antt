@@ -20,12 +20,14 @@ use Rattle.tables.specs.declared.Role.the-variants.{Plain, Name}
 use Rattle.tables.specs.Record.{Record, field, nameOf as nameOfRecord, shape, size, isKnown, named}
 use Rattle.tables.specs.Table.{recordAt, kindAt}
 use Rattle.tables.specs.Check.{isOfSort}
-use Rattle.tables.specs.Accepted.{records, fit-least, fit-known, lower, operand-sort}
+use Rattle.tables.specs.Accepted.{records}
+use Rattle.tables.specs.Laws.Accepted.{fit-least, fit-known, lower, operand-sort}
 use Rattle.tables.specs.Reading.{HasField}
 use Rattle.patterns.specs.Read.{Readable, patternAt}
 use Rattle.patterns.specs.Binding.{is, Binding, nothing, cellOf}
 use Rattle.patterns.specs.Ways.{gather}
-use Rattle.patterns.specs.Members.{in-gather, at-in}
+use Rattle.patterns.specs.Laws.Members.{in-gather}
+use Rattle.prelude.proofs.Membership.{at-in}
 use Rattle.patterns.specs.Laws.Ordered.{in-sorted}
 use Rattle.patterns.specs.Laws.Named.{named as names-of, Told, told}
 use Rattle.patterns.specs.Pattern.{Pattern, name, matches}
@@ -36,7 +38,7 @@ use Rattle.parts.specs.declared.Part.{Part}
 use Rattle.parts.specs.Part.{PartIs}
 use Rattle.parts.specs.Contract.{Puttable, PutPart}
 use Rattle.parts.proofs.Laws.{part-longer}
-use Rattle.patterns.specs.Nodes.{is-name, pattern-at}
+use Rattle.patterns.specs.Laws.Nodes.{is-name, pattern-at}
 use Rattle.calling.specs.Scratch.{Kept}
 use Rattle.calling.proofs.Framing.{kept-outside, kept-then, kept-less, put-kept, copyable-down, copied-kept}
 use Rattle.meaning.specs.State.{valueIn, held}

@@ -16,8 +16,9 @@ use Rattle.choices.specs.declared.Choices.{Choices}
 use Rattle.tables.specs.Laws.Kinds.{binder-kind}
 use Rattle.tables.specs.Record.{shape, isPattern}
 use Rattle.tables.specs.Table.{recordAt, kindAt}
-use Rattle.tables.specs.Laws.{each}
-use Rattle.tables.specs.Accepted.{records, fit-least, named-count, binder-pattern}
+use Rattle.tables.specs.Laws.Tests.{each}
+use Rattle.tables.specs.Accepted.{records}
+use Rattle.tables.specs.Laws.Accepted.{fit-least, named-count, binder-pattern}
 use Rattle.tables.specs.Sheet.{isBinder}
 use Rattle.tables.specs.Reading.{HasOperand}
 use Rattle.patterns.specs.Read.{Readable}

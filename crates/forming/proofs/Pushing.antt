@@ -13,7 +13,8 @@ use Rattle.prelude.proofs.Truth.{or-false-left, or-false-right}
 use Rattle.values.specs.Value.{Value, boolean}
 use Rattle.tables.specs.Record.{named, operand}
 use Rattle.tables.specs.Table.{recordAt, kindAt}
-use Rattle.tables.specs.Accepted.{records, lower}
+use Rattle.tables.specs.Accepted.{records}
+use Rattle.tables.specs.Laws.Accepted.{lower}
 use Rattle.tables.specs.Reading.{HasOperand}
 use Rattle.parts.specs.declared.Part.{Part}
 use Rattle.parts.specs.Part.{PartIs, PartHeld, CellIs}
@@ -22,7 +23,8 @@ use Rattle.patterns.specs.Ways.{exists}
 use Rattle.patterns.specs.Binding.{Cell, free, is}
 use Rattle.patterns.specs.Pattern.{Pattern, any, wide, wideEach}
 use Rattle.patterns.specs.Read.{patternsOf, patternOf, patternAt, Readable}
-use Rattle.patterns.specs.Nodes.{isHalved, meetings, isLarge, pattern-at}
+use Rattle.patterns.specs.Nodes.{isHalved, meetings, isLarge}
+use Rattle.patterns.specs.Laws.Nodes.{pattern-at}
 use Rattle.matching.specs.Node.{PieceHeld, PieceOf, innerOf, waysOf, metBy}
 use Rattle.matching.proofs.Records.{by-record, inner-length, kind-high, count-few, count-two, meeting-length, operand-readable}
 use Rattle.splitting.proofs.Composed.{wideParts, wide-composed}

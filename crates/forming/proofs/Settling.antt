@@ -26,7 +26,8 @@ use Rattle.patterns.specs.Laws.Named.{named, namedEach, Told, told}
 use Rattle.patterns.specs.Laws.Matched.{in-together, together-in, matched, match-sized, merge-sized}
 use Rattle.patterns.specs.Laws.Merging.{true-false}
 use Rattle.patterns.specs.Laws.Together.{one-together}
-use Rattle.patterns.specs.Nodes.{isHalved, is-name, is-any, is-boolean, is-integer}
+use Rattle.patterns.specs.Nodes.{isHalved}
+use Rattle.patterns.specs.Laws.Nodes.{is-name, is-any, is-boolean-literal, is-integer-literal}
 use Rattle.patterns.specs.Read.{Readable, patternsOf, patternOf, patternAt}
 use Rattle.matching.specs.declared.leaves.Match.{Match}
 use Rattle.matching.specs.Leaf.{Stands}
@@ -84,8 +85,8 @@ no-names r ps n low high y = cases (r .kind - 32) (omega arith) (omega arith)
     cases : (d : ℕ) → r .kind ≡ 32 + d → d ≤ 3 → named (patternOf r ps) y ≡ false
     cases zero f l = absurd (n f)
     cases (suc zero) f l = ap (λ (q : Pattern). named q y) (is-any r ps f)
-    cases (suc (suc zero)) f l = ap (λ (q : Pattern). named q y) (is-boolean r ps f)
-    cases (suc (suc (suc zero))) f l = ap (λ (q : Pattern). named q y) (is-integer r ps f)
+    cases (suc (suc zero)) f l = ap (λ (q : Pattern). named q y) (is-boolean-literal r ps f)
+    cases (suc (suc (suc zero))) f l = ap (λ (q : Pattern). named q y) (is-integer-literal r ps f)
     cases (suc (suc (suc (suc d)))) f l = absurd (omega arith)
 
 only-name : (x : ℕ) (words : List ℕ) → (getD words x 0 ≡ 0 → ⊥) → (y : ℕ) → eqb x y ≡ true → getD words y 0 ≡ 0 → ⊥

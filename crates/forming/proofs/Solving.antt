@@ -20,7 +20,9 @@ use Rattle.parts.specs.Part.{PartIs, PartHeld}
 use Rattle.parts.proofs.Laws.{part-one}
 use Rattle.patterns.specs.Ways.{gather}
 use Rattle.parts.specs.Word.{unpacked}
-use Rattle.patterns.specs.Members.{Alike, at-in, in-gather, gather-in}
+use Rattle.patterns.specs.Members.{Alike}
+use Rattle.prelude.proofs.Membership.{at-in}
+use Rattle.patterns.specs.Laws.Members.{in-gather, gather-in}
 use Rattle.patterns.specs.Laws.Ordered.{Rising, sorted-rising}
 use Rattle.forming.specs.Settled.{Settled, TellsSettled, NextWay}
 use Rattle.forming.proofs.Settling.{or-some, settled-less, several-more}

@@ -25,7 +25,7 @@ use Rattle.patterns.specs.Pattern.{Pattern, name, any, literal, matches}
 use Rattle.patterns.specs.Laws.Matched.{merge-sized, only-sized}
 use Rattle.patterns.specs.Laws.Merging.{true-false}
 use Rattle.patterns.specs.Laws.Together.{Fine, with-only}
-use Rattle.patterns.specs.Nodes.{is-name, is-any}
+use Rattle.patterns.specs.Laws.Nodes.{is-name, is-any}
 use Rattle.patterns.specs.Read.{Readable, patternAt}
 use Rattle.matching.specs.declared.leaves.Match.{Match}
 use Rattle.matching.specs.Leaf.{Stands, Standing, Went, Named, LeafTold}

@@ -19,7 +19,8 @@ use Rattle.tables.specs.declared.Checked.the-variants.{Accepted}
 use Rattle.tables.specs.Record.{shape, isKnown, operator}
 use Rattle.tables.specs.Table.{recordAt}
 use Rattle.tables.specs.Check.{check}
-use Rattle.tables.specs.Accepted.{records, accepted-fine, fit-known}
+use Rattle.tables.specs.Accepted.{records}
+use Rattle.tables.specs.Laws.Accepted.{accepted-fine, fit-known}
 use Rattle.patterns.specs.Read.{patternAt}
 use Rattle.meaning.specs.State.{unbound, valueIn}
 use Rattle.meaning.specs.Sheet.{nameOf}

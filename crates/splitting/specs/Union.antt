@@ -14,7 +14,8 @@ use Rattle.prelude.specs.Membership.{In}
 use Rattle.values.specs.Value.{Kind, set, sequence, map as mapping, tuple, Value}
 use Rattle.patterns.specs.Laws.Merging.{true-false}
 use Rattle.patterns.specs.Ways.{Halves, exists, splits}
-use Rattle.patterns.specs.Units.{Shared, in-splits}
+use Rattle.patterns.specs.Units.{Shared}
+use Rattle.patterns.specs.Laws.Units.{in-splits}
 use Rattle.patterns.specs.Laws.Named.{PartOf, shared-left, shared-right}
 use Rattle.patterns.specs.Laws.Matched.{list-items}
 use Rattle.patterns.specs.Pattern.{Pattern, name, any, literal, each, halved, Patterns, nil, cons, parts, listOf, itemsOf, contents, met, split, leftOf, rightOf, tooLarge, isSet, wide, wideEach}

@@ -12,8 +12,10 @@ use Rattle.integers.specs.Bytes.{word}
 use Rattle.tables.specs.Record.{Record, shape, size, isFit}
 use Rattle.tables.specs.Table.{first, Next, fault, one, next, Cut, after, cutBy, cut, noRecord}
 use Rattle.tables.specs.Check.{mostRecords}
-use Rattle.tables.specs.Laws.{split, each}
-use Rattle.tables.specs.Accepted.{records, fit-kind, fit-most}
+use Rattle.prelude.proofs.Truth.{by-lower}
+use Rattle.tables.specs.Laws.Tests.{each}
+use Rattle.tables.specs.Accepted.{records}
+use Rattle.tables.specs.Laws.Accepted.{fit-kind, fit-most}
 use Rattle.tables.specs.Laws.Cutting.{IsNext, next-is}
 use Rattle.tables.specs.Reading.{Stands, Places, Measured, CutOut}
 use Rattle.tables.proofs.Fit.{plus-zero, plus-four, fields-long, field-at}
@@ -210,7 +212,7 @@ module _ (table index : List ℕ) (at count : ℕ) (t : Turn table index at coun
               ∙ sym (ap (λ (c : Cut). c .whole) out) ∙ t .same;
           places =
               λ r k l.
-              split r count (λ h. rw (noted .others r h) (t .places r h l))
+              by-lower r count (λ h. rw (noted .others r h) (t .places r h l))
               (λ h.
               let same : r ≡ count = omega arith in
               rw (same, noted .here (omega arith), hd .is) (stands table at (drop n (drop at table)) i));

@@ -6,14 +6,14 @@ use native.Mathlib.Omega.{arith}
 use borrow.Author.Tests.{lt-ltb, le-ltb, lt-leb, le-leb, eqb-true, ne-eqb}
 use lib.Dec.{eqb, ltb, leb}
 use Rattle.prelude.proofs.Absurd.{never}
-use Rattle.prelude.proofs.Truth.{implied}
+use Rattle.prelude.proofs.Truth.{implied, by-lower}
 use Rattle.tables.specs.Record.{Head, nothing, boolean, integer, name, unary, binary, unknown, shape, isExpression, isPattern}
 use Rattle.tables.specs.Shapes.{firstOf, knownFirst}
-use Rattle.tables.specs.Laws.{each, split}
+use Rattle.tables.specs.Laws.Tests.{each}
 
 -- Below 16 is up to 15.
 pub below-sixteen : (n : ℕ) → ltb n 16 ≡ leb n 15
-below-sixteen n = split n 16 (λ h. lt-ltb n 16 h ∙ sym (le-leb n 15 (omega arith))) (λ h. le-ltb n 16 h ∙ sym (lt-leb n 15 (omega arith)))
+below-sixteen n = by-lower n 16 (λ h. lt-ltb n 16 h ∙ sym (le-leb n 15 (omega arith))) (λ h. le-ltb n 16 h ∙ sym (lt-leb n 15 (omega arith)))
 
 -- Heads without a first field that is tested, by whether their kind is known.
 abbrev isFree : Bool → Head → Bool

@@ -10,7 +10,7 @@ use Rattle.prelude.proofs.Truth.{implied}
 use Rattle.tables.specs.Record.{shape, size, fits}
 use Rattle.tables.specs.Sheet.{any}
 use Rattle.tables.specs.Shapes.{kindsOf, firstOf}
-use Rattle.tables.specs.Laws.{each}
+use Rattle.tables.specs.Laws.Tests.{each}
 
 -- Two truths are the same.
 abbrev same : Bool → Bool → Bool

@@ -26,8 +26,9 @@ use Rattle.values.specs.Value.{Value}
 use Rattle.lists.specs.Lent.{lent}
 use Rattle.lists.specs.Runs.{Whole as Used, Kept}
 use Rattle.tables.specs.Check.{check, mostBytes, mostRecords}
-use Rattle.tables.specs.Accepted.{records, accepted-short, accepted-fine}
-use Rattle.tables.specs.Reading.{Indexed, CutOut, cut-accepted}
+use Rattle.tables.specs.Accepted.{records}
+use Rattle.tables.specs.Laws.Accepted.{accepted-short, accepted-fine, cut-accepted}
+use Rattle.tables.specs.Reading.{Indexed, CutOut}
 use Rattle.tables.specs.declared.Checked.the-variants.{Accepted}
 use Rattle.tables.specs.declared.reading.Cutting.{Cutting}
 use Rattle.meaning.specs.Read.{sheet}

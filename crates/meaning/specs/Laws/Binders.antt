@@ -30,8 +30,9 @@ use Rattle.tables.specs.declared.Checked.the-variants.{Accepted}
 use Rattle.tables.specs.Record.{Record, shape, headOf, isKnown, nameOf, named as operandsOf, roleAt}
 use Rattle.tables.specs.Table.{noRecord, recordAt, kindAt}
 use Rattle.tables.specs.Check.{check, isOfSort}
-use Rattle.tables.specs.Laws.{split}
-use Rattle.tables.specs.Accepted.{records, Fine, accepted-fine, operand-lower, operand-sort, fit-known, fit-least, named-count}
+use Rattle.prelude.proofs.Truth.{by-lower}
+use Rattle.tables.specs.Accepted.{records, Fine}
+use Rattle.tables.specs.Laws.Accepted.{accepted-fine, operand-lower, operand-sort, fit-known, fit-least, named-count}
 use Rattle.patterns.specs.Read.{patterns, patternAt}
 use Rattle.meaning.specs.Node.{Node, Quantifier, forall, exists, exists1, quantified}
 use Rattle.meaning.specs.State.{State, under, held, valueIn}
@@ -50,7 +51,7 @@ use Rattle.meaning.specs.Laws.Collected.{Paired-in, set-holds, sequence-
 -- A record of a kind from 1 up is in the table.
 pub in-table : (table : List ℕ) (r k : ℕ) → kindOf table r ≡ k → 0 < k → r < length (records table)
 in-table table r k e h =
-    split r (length (records table)) (λ l. l)
+    by-lower r (length (records table)) (λ l. l)
     (λ l. let z : 0 ≡ k = ap (λ (q : Record). q .kind) (sym (List·getD-eq-default (records table) noRecord l)) ∙ e in absurd (omega arith))
 
 module _ (table : List ℕ) (n : ℕ) (ok : check table ≡ Accepted n) (r : ℕ) (ρ : State) where

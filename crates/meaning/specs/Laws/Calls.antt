@@ -15,7 +15,7 @@ use Rattle.choices.proofs.Cut.{complete-length}
 use Rattle.choices.proofs.Walk.{count-first, first-list, next-list, count-next, next-last}
 use Rattle.tables.specs.declared.Checked.the-variants.{Accepted}
 use Rattle.tables.specs.Check.{check}
-use Rattle.tables.specs.Laws.{split}
+use Rattle.prelude.proofs.Truth.{by-lower}
 use Rattle.meaning.specs.State.{unbound}
 use Rattle.meaning.specs.Read.{sheet}
 use Rattle.meaning.specs.Answer.{pack, packed, uncounted, numberOf}
@@ -82,8 +82,8 @@ module _ (table : List ℕ) (c : Call) (w : Walk) where
   -- Either there is enough, or 1 or 10 is due.
   by-buffers : {X : Type 0} → (length (c .scratch) < scratchBytes → X) → (scratchBytes ≤ length (c .scratch) → length (lent (c .part) w .entries) < mostChoices → X) → (Enough c w → X) → X
   by-buffers f g h =
-      split (length (c .scratch)) scratchBytes f
-      (λ s. split (length (lent (c .part) w .entries)) mostChoices (g s) (λ e. h (record { enough-scratch = s; enough-entries = e })))
+      by-lower (length (c .scratch)) scratchBytes f
+      (λ s. by-lower (length (lent (c .part) w .entries)) mostChoices (g s) (λ e. h (record { enough-scratch = s; enough-entries = e })))
 
 -- ---- an accepted table
 

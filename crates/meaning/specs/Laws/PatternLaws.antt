@@ -14,9 +14,10 @@ use Rattle.tables.specs.Record.{Record, shape, isPattern, isFit, nameOf, named 
 use Rattle.tables.specs.Table.{recordAt, kindAt}
 use Rattle.tables.specs.Sheet.{some, holds, isName, holdsName, isLoose, loose}
 use Rattle.tables.specs.Check.{check}
-use Rattle.tables.specs.Laws.{fold-at}
+use Rattle.tables.specs.Laws.Below.{fold-at}
 use Rattle.tables.specs.Laws.Kinds.{pattern-least}
-use Rattle.tables.specs.Accepted.{records, Fine, accepted-fine, operand-lower, operand-sort, pattern-role, lower, fit-least, fit-most, fit-kind, named-count}
+use Rattle.tables.specs.Accepted.{records, Fine}
+use Rattle.tables.specs.Laws.Accepted.{accepted-fine, operand-lower, operand-sort, pattern-role, lower, fit-least, fit-most, fit-kind, named-count}
 use Rattle.meaning.specs.Laws.Proper.{_&_}
 use Rattle.patterns.specs.Read.{patternsOf, patterns, patternOf, patternAt}
 

@@ -18,8 +18,9 @@ use Rattle.tables.specs.Record.{Record, shape, size, headOf, fits, named as ope
 use Rattle.tables.specs.Table.{noRecord, recordAt}
 use Rattle.tables.specs.Sheet.{isCovered}
 use Rattle.tables.specs.Check.{check}
-use Rattle.tables.specs.Laws.{split}
-use Rattle.tables.specs.Accepted.{records, Fine, accepted-fine, operand-lower, fit-least, fit-known, named-count}
+use Rattle.prelude.proofs.Truth.{by-lower}
+use Rattle.tables.specs.Accepted.{records, Fine}
+use Rattle.tables.specs.Laws.Accepted.{accepted-fine, operand-lower, fit-least, fit-known, named-count}
 use Rattle.meaning.specs.Node.{Node, truth, whole, named, unaryOf, binaryOf, connective, if, enumeration, range, let-in, let-be, quantified, iota, set-comprehension, sequence-comprehension, map-comprehension, application, no-expression}
 use Rattle.meaning.specs.Read.{nodes, nodeOf, none, binaryNode, sheet}
 use Rattle.meaning.specs.Laws.Equation.{plain, covered, Each, Downward}
@@ -230,7 +231,7 @@ pub proper : (table : List ℕ) (n : ℕ) → check table ≡ Accepted n → (r 
 proper table n ok r =
     let fine = accepted-fine table n ok .0 in
     let rs = records table in
-    split r (length rs)
+    by-lower r (length rs)
     (λ h. inside rs fine (λ a. a < r) (λ p a. a < r) r h (λ i k e. operand-lower rs (fine .clear6) r i h k) (λ i k e. operand-lower rs (fine .clear6) r i h k))
     (λ h. outside rs fine (λ a. a < r) (λ p a. a < r) r h)
 

@@ -21,7 +21,7 @@ use Rattle.tables.specs.Record.{Record}
 use Rattle.tables.specs.Table.{Next, end, fault, one, next, after, Cut, cutBy, cut}
 use Rattle.tables.specs.Sheet.{lowest}
 use Rattle.tables.specs.Check.{mostBytes, mostRecords, Rule, judge, judged, judgedCut, check, rule, fault6, fault7, fault8, fault9}
-use Rattle.tables.specs.Accepted.{accepted-fine}
+use Rattle.tables.specs.Laws.Accepted.{accepted-fine}
 use Rattle.tables.specs.Laws.Cutting.{next-is}
 use Rattle.meaning.specs.State.{unbound}
 use Rattle.meaning.specs.Read.{sheet}

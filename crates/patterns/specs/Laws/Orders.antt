@@ -9,8 +9,8 @@ use lib.ListN.{length, getD, length-append, length-map, List·getD-append}
 use lib.Seq.{getD-append-add}
 use Rattle.prelude.specs.Membership.{In}
 use Rattle.patterns.specs.Ways.{gather, placed, orders}
-use Rattle.patterns.specs.Members.{in-gather}
-use Rattle.patterns.specs.Units.{in-placed}
+use Rattle.patterns.specs.Laws.Members.{in-gather}
+use Rattle.patterns.specs.Laws.Units.{in-placed}
 
 unfoldable pub factorial : ℕ → ℕ
 factorial zero = 1

@@ -10,7 +10,7 @@ use Rattle.prelude.proofs.Membership.{in-one, in-picked}
 use Rattle.values.specs.Value.{Value}
 use Rattle.values.specs.Items.{same}
 use Rattle.patterns.specs.Ways.{gather}
-use Rattle.patterns.specs.Members.{in-gather}
+use Rattle.patterns.specs.Laws.Members.{in-gather}
 use Rattle.patterns.specs.Binding.{free, is, clash, Binding, names, nothing, only, merge, consistent, withEach, together}
 use Rattle.patterns.specs.Pattern.{Pattern, name, any, literal, each, halved, Patterns, nil, cons, parts, contents, met, split, leftOf, rightOf, matches, matchEach}
 use Rattle.patterns.specs.Laws.Matched.{in-together, matched, match-sized, matchedEach, each-sized}

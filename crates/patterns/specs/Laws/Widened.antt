@@ -14,7 +14,8 @@ use Rattle.prelude.specs.Membership.{In}
 use Rattle.prelude.proofs.Membership.{in-one, in-picked, picked-in}
 use Rattle.values.specs.Value.{Kind, set, sequence, map as mapping, tuple, Value, boolean, collection}
 use Rattle.patterns.specs.Ways.{exists, Halves, halves}
-use Rattle.patterns.specs.Units.{Inserted, Permuted, in-splits, in-cuts, in-orders}
+use Rattle.patterns.specs.Units.{Inserted, Permuted}
+use Rattle.patterns.specs.Laws.Units.{in-splits, in-cuts, in-orders}
 use Rattle.patterns.specs.Pattern.{Pattern, name, any, literal, each, halved, Patterns, nil, cons, parts, itemsOf, contents, arrangements, divisions, met, split, leftOf, rightOf, mostSplit, tooLarge, wide, wideEach}
 use Rattle.patterns.specs.Binder.{mostBindings, bound, refused, few, bindings, formed}
 use Rattle.patterns.specs.Laws.Matched.{contents-of, of-contents}

@@ -11,7 +11,8 @@ use mathlib.Mathlib.Data.Bool.Basic.{and-elim-left, and-elim-right}
 use Rattle.prelude.proofs.Absurd.{never}
 use Rattle.tables.specs.Record.{Record, Shape, missing, shapes, shape, ofExpressions, ofPatterns, isExpression, isPattern}
 use Rattle.tables.specs.Sheet.{any, some, isLoose, isCovered, isBinder}
-use Rattle.tables.specs.Laws.{split, each}
+use Rattle.prelude.proofs.Truth.{by-lower}
+use Rattle.tables.specs.Laws.Tests.{each}
 
 -- There is no kind above 40.
 pub beyond : (k : ℕ) → 40 < k → shape k ≡ missing
@@ -27,7 +28,7 @@ beq-same false false e = refl
 -- Two tests of a kind that agree above 40, and by computing on each kind up to it, agree.
 module _ (one other : ℕ → Bool) (above : (k : ℕ) → 40 < k → one k ≡ other k) where
   pub on-kinds : any (λ k. not (Bool·beq (one k) (other k))) 41 ≡ false → (k : ℕ) → one k ≡ other k
-  on-kinds e k = split 40 k (above k) (λ h. beq-same (one k) (other k) (each (λ k. Bool·beq (one k) (other k)) 41 e k (omega arith)))
+  on-kinds e k = by-lower 40 k (above k) (λ h. beq-same (one k) (other k) (each (λ k. Bool·beq (one k) (other k)) 41 e k (omega arith)))
 
 off-and : (b : Bool) {c : Bool} → c ≡ false → b && c ≡ false
 off-and true e = e
