@@ -8,12 +8,11 @@ use Rattle.tables.specs.declared.Role.{Role}
 use Rattle.tables.specs.declared.Role.the-variants.{Plain, Condition, Body, Pattern, Name}
 use Rattle.tables.specs.Record.{Head, nothing, boolean, integer, name, unary, binary, unknown, shape, size}
 
--- The kinds that may have a length, as bits: bit k for kind k. (`proofs/Lengths` has that they are those whose rows say so.)
-abbrev pub kindsOf : ℕ → ℕ
-kindsOf len =
-    getD
-    (0 ∷ 0 ∷ 0 ∷ 0 ∷ 700075475841 ∷ 708669604234 ∷ 2130305879952 ∷ 755914495456 ∷ 790274779012 ∷ 1048960 ∷ 896 ∷ 384 ∷ 896 ∷ [])
-    len 0
+-- The lengths of each kind, as bits: bit n where its records have n bytes after their heading. (`proofs/Lengths`: it is where its row in `shape` says so.)
+abbrev pub lengthRows : List ℕ
+lengthRows =
+    1 ∷ 2 ∷ 16 ∷ 2 ∷ 4 ∷ 8 ∷ 8 ∷ 511 ∷ 511 ∷ 341 ∷ 28 ∷ 4 ∷ 8 ∷ 16 ∷ 8 ∷ 8 ∷ 8 ∷ 8 ∷ 16 ∷ 16 ∷ 32 ∷ 4 ∷
+    1 ∷ 1 ∷ 1 ∷ 1 ∷ 1 ∷ 1 ∷ 1 ∷ 1 ∷ 1 ∷ 1 ∷ 2 ∷ 1 ∷ 2 ∷ 16 ∷ 28 ∷ 31 ∷ 4 ∷ 31 ∷ 4 ∷ []
 
 -- The place of the first operand in a record of the kind.
 abbrev pub firstOf : ℕ → ℕ

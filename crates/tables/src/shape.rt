@@ -1,4 +1,4 @@
-// The shape of each kind of record, as its row in the definition tells it: lengths and first operands by bits, the rest by the kinds' names.
+// The shape of each kind of record, as its row in the definition tells it: lengths by a constant table, first operands by bits, the rest by the kinds' names.
 ghost use mathlib.Core.Path.{_≡_};
 ghost use Prim.Native.Nat.{_-_, _<_, _≤_};
 ghost use mathlib.Core.Bool.{_&&_, _||_};
@@ -8,7 +8,7 @@ ghost use Rattle.integers.specs.Bytes.{word};
 ghost use Rattle.tables.specs.Record.{shape, lastKind, isExpression, isPattern, fits, isFit};
 ghost use Rattle.tables.specs.Table.{first};
 ghost use Rattle.tables.specs.Sheet.{isBinder};
-ghost use Rattle.tables.specs.Shapes.{kindsOf, firstOf, rolesOf, firstRole, thirdRole, binderRole, knownFirst};
+ghost use Rattle.tables.specs.Shapes.{lengthRows, firstOf, rolesOf, firstRole, thirdRole, binderRole, knownFirst};
 use crate::HEADING;
 use crate::NAMES;
 use crate::Role;
@@ -18,6 +18,82 @@ use crate::unary;
 
 // No record is longer.
 const LONGEST: usize = HEADING + 8;
+
+// The lengths of records, a row for each kind: bit n is set where records of the kind have n bytes after their heading.
+pub type Lengths = [u16; kinds::LAST + 1];
+
+const NO_FIELD: u16 = 1;
+
+const ONE: u16 = 2;
+
+const TWO: u16 = 4;
+
+const THREE: u16 = 8;
+
+const FOUR: u16 = 16;
+
+const FIVE: u16 = 32;
+
+const TWO_TO_FOUR: u16 = 0x1c;
+
+const UP_TO_FOUR: u16 = 0x1f;
+
+const UP_TO_EIGHT: u16 = 0x1ff;
+
+const PAIRS: u16 = 0x155;
+
+// The kinds from 0 on. No record has kind 0 or 22 to 31. Whoever tests many records lends this table, since it is built anew where it is named.
+pub const LENGTHS: Lengths = [
+    NO_FIELD,
+    // 1 boolean, 2 integer, 3 name
+    ONE,
+    FOUR,
+    ONE,
+    // 4 unary, 5 binary, 6 if
+    TWO,
+    THREE,
+    THREE,
+    // 7 set, 8 sequence, 9 map enumeration, 10 tuple, 11 set range
+    UP_TO_EIGHT,
+    UP_TO_EIGHT,
+    PAIRS,
+    TWO_TO_FOUR,
+    TWO,
+    // 12 let, 13 let-be, 14 forall, 15 exists, 16 exists1, 17 iota
+    THREE,
+    FOUR,
+    THREE,
+    THREE,
+    THREE,
+    THREE,
+    // 18 set, 19 sequence, 20 map comprehension, 21 apply
+    FOUR,
+    FOUR,
+    FIVE,
+    TWO,
+    // 22 to 31
+    NO_FIELD,
+    NO_FIELD,
+    NO_FIELD,
+    NO_FIELD,
+    NO_FIELD,
+    NO_FIELD,
+    NO_FIELD,
+    NO_FIELD,
+    NO_FIELD,
+    NO_FIELD,
+    // 32 name, 33 any, 34 boolean, 35 integer
+    ONE,
+    NO_FIELD,
+    ONE,
+    FOUR,
+    // 36 tuple, 37 set enumeration, 38 union, 39 sequence enumeration, 40 concatenation
+    TWO_TO_FOUR,
+    UP_TO_FOUR,
+    TWO,
+    UP_TO_FOUR,
+    TWO,
+];
 
 // Bit k is set for each kind k whose records have one byte before their operands (1, 3, 4, 5, 32, 34), or an integer (2, 35).
 const BYTE_FIRST: u64 = 0x5_0000_003a;
@@ -76,42 +152,16 @@ pub fn is_loose(kind: usize) -> bool
 
 // ---- lengths
 
-// Bit k is set for each kind k whose records may have this length. Kinds 0 and 22 to 31, which no record has, are refused by `is_known`.
-fn kinds_of(len: usize) -> u64
-    requires { ⌜ (4 ≤ len) × (len ≤ 12) ⌝ }
-    ensures { λ m. ⌜ m ≡ kindsOf len ⌝ }
-{
-    match len {
-        // any
-        4 => 0xa2_ffc0_0381,
-        // booleans, names; enumerations of one
-        5 => 0xa5_0000_018a,
-        // unary, set range, apply, union, concatenation; enumerations and tuples of two
-        6 => 0x1f0_0020_0f90,
-        // binary, if, let, forall to iota; enumerations and tuples of three
-        7 => 0xb0_0003_d5e0,
-        // integers, let-be, set and sequence comprehension; enumerations and tuples of four
-        8 => 0xb8_000c_2784,
-        // map comprehension; a set or sequence of five
-        9 => 0x10_0180,
-        // a set, sequence or map of six
-        10 => 0x380,
-        // a set or sequence of seven
-        11 => 0x180,
-        // a set, sequence or map of eight
-        _ => 0x380,
-    }
-}
-
 // The length is fit for the kind.
-pub fn fits_kind(kind: usize, len: usize) -> bool
+pub fn fits_kind(lengths: &Lengths, kind: usize, len: usize) -> bool
+    requires { ⌜ now lengths ≡ lengthRows ⌝ }
     requires { ⌜ (kind ≤ lastKind) × (4 ≤ len) ⌝ }
     ensures { λ r. ⌜ r ≡ fits (shape kind) (len - 4) ⌝ }
 {
     if LONGEST < len {
         return false;
     }
-    (kinds_of(len) >> kind) % 2 == 1
+    (lengths[kind] >> (len - HEADING)) % 2 == 1
 }
 
 // The place of the first operand in a record of the kind: after length and kind, and what stands before the operands.
@@ -202,14 +252,15 @@ fn is_kind(kind: usize) -> bool
 }
 
 // The record of this kind and length at the start of the part is fit for its kind.
-pub fn is_fit(part: &[u8], kind: usize, len: usize) -> bool
+pub fn is_fit(lengths: &Lengths, part: &[u8], kind: usize, len: usize) -> bool
+    requires { ⌜ now lengths ≡ lengthRows ⌝ }
     requires { ⌜ (kind ≡ word (now part) 2) × (len ≡ word (now part) 0) × (4 ≤ len) × (len ≤ length (now part)) ⌝ }
     ensures { λ r. ⌜ r ≡ isFit (first (now (part .entry))) ⌝ }
 {
     if kinds::LAST < kind {
         return false;
     }
-    let fit = fits_kind(kind, len);
+    let fit = fits_kind(lengths, kind, len);
     if !fit {
         return false;
     }
