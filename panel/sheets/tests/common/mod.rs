@@ -1,6 +1,7 @@
 //! Every call made twice, by the linked services and by the reference: the answers and every byte must be the same.
 #![allow(dead_code)]
 
+pub mod program;
 pub mod values;
 pub mod written;
 
