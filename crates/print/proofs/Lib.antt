@@ -1,0 +1,1 @@
+-- Laws of the print's texts, which the proofs of the functions cite.
