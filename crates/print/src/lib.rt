@@ -102,10 +102,11 @@ pub fn put_number(n: usize, out: &mut [u8], at: usize) -> usize
     requires { ⌜ Room (now out) at (decimal n) ⌝ }
     ensures { λ r. ⌜ Wrote (now (out .entry)) (now (out .exit)) at (decimal n) r ⌝ }
 {
-    let mut last = at;
-    if 10 <= n {
-        last = put_number(n / 10, out, at);
+    if n < 10 {
+        out[at] = b'0' + n as u8;
+        return at + 1;
     }
+    let last = put_number(n / 10, out, at);
     out[last] = b'0' + (n % 10) as u8;
     last + 1
 }
@@ -171,16 +172,17 @@ fn put_opening(kind: usize, is_empty: bool, out: &mut [u8], at: usize) -> usize
     requires { ⌜ at + 4 ≤ length (now out) ⌝ }
     ensures { λ r. ⌜ Opened kind «is_empty» (now (out .entry)) (now (out .exit)) at r ⌝ }
 {
-    if kind == Value::TUPLE {
-        return put_bytes(b"mk_(", out, at);
+    if kind == Value::SET {
+        return put_bytes(b"{", out, at);
     }
     if kind == Value::SEQUENCE {
         return put_bytes(b"[", out, at);
     }
-    if kind == Value::MAP {
-        if is_empty {
-            return put_bytes(b"{|->", out, at);
-        }
+    if kind == Value::TUPLE {
+        return put_bytes(b"mk_(", out, at);
+    }
+    if is_empty {
+        return put_bytes(b"{|->", out, at);
     }
     put_bytes(b"{", out, at)
 }
