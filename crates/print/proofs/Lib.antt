@@ -6,3 +6,5 @@ mod Signs
 mod Enclosing
 mod Items
 mod Listing
+mod Wording
+pub mod Lines

@@ -1,3 +1,5 @@
+-- `put_cut` meets its contract: the last line of a print that is cut.
+use Rattle.print.proofs.Writing.{wrote-then}
 use borrow.Author.Needs.{needs}
 use Rattle.print.proofs.put_cut.Statement.{statement}
 use Rattle.print.proofs.put_cut.Tie as tie
@@ -24,7 +26,7 @@ same-length c = search needs
 
 -- src/lib.rt:338:1
 returns : tie.Need-returns
-returns c = ?
+returns c = wrote-then (c .before .before .before .before .before .before .put-bytes .ensures) (c .before .before .put-count .ensures)
 
 pub put-cut-spec : {M : Type 1} → statement M
 put-cut-spec =

@@ -1,3 +1,5 @@
+-- `put_end` meets its contract: the last line.
+use Rattle.print.proofs.Writing.{wrote-then}
 use borrow.Author.Needs.{needs}
 use Rattle.print.proofs.put_end.Statement.{statement}
 use Rattle.print.proofs.put_end.Tie as tie
@@ -24,7 +26,7 @@ same-length c = search needs
 
 -- src/lib.rt:330:1
 returns : tie.Need-returns
-returns c = ?
+returns c = wrote-then (c .before .before .before .before .before .before .put-bytes .ensures) (c .before .before .put-count .ensures)
 
 pub put-end-spec : {M : Type 1} → statement M
 put-end-spec =

@@ -1,3 +1,5 @@
+-- `put_first` meets its contract: the first line.
+use Rattle.print.proofs.Writing.{wrote-then}
 use borrow.Author.Needs.{needs}
 use Rattle.print.proofs.put_first.Statement.{statement}
 use Rattle.print.proofs.put_first.Tie as tie
@@ -24,7 +26,7 @@ same-length c = search needs
 
 -- src/lib.rt:322:1
 returns : tie.Need-returns
-returns c = ?
+returns c = wrote-then (c .before .before .before .before .before .before .put-bytes .ensures) (c .before .before .put-count .ensures)
 
 pub put-first-spec : {M : Type 1} → statement M
 put-first-spec =
