@@ -5,4 +5,7 @@ mod Above
 mod Bits
 mod Faults
 mod Tallness
+mod Leaving
+mod Closing
+mod Gathering
 mod Verdict
