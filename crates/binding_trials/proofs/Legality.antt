@@ -8,7 +8,7 @@ use native.Mathlib.Omega.{arith}
 use lib.Dec.{eqb}
 use lib.ListN.{length}
 use borrow.Author.Tests.{le-leb, eqb-true, eqb-false}
-use Rattle.prelude.proofs.Absurd.{impossible}
+use Rattle.prelude.proofs.Absurd.{impossible, true-false}
 use Rattle.values.specs.Value.{Value, set, kindOf}
 use Rattle.values.specs.Place.{At, Holds}
 use Rattle.values.specs.Contract.{KindAt}
@@ -25,7 +25,6 @@ use Rattle.tables.specs.Accepted.{records, Fine}
 use Rattle.tables.specs.Laws.Accepted.{accepted-fine, accepted-short, operand-lower, binder-operands, binder-pattern, cut-accepted}
 use Rattle.tables.specs.Reading.{Here, HasOperand, CutOut}
 use Rattle.parts.proofs.Laws.{of-kind}
-use Rattle.patterns.specs.Laws.Merging.{true-false}
 use Rattle.patterns.specs.Read.{Readable}
 use Rattle.bindings.specs.Window.{Values}
 use Rattle.trials.specs.Validity.{Tells}

@@ -8,11 +8,10 @@ use native.Mathlib.Omega.{arith}
 use lib.ListN.{length, take, drop, getD, set, length-set}
 use lib.Seq.{take-suc, take-suc-set, length-take-le}
 use borrow.Author.Tests.{lt-ltb, le-ltb, le-leb, lt-leb}
-use Rattle.choices.specs.declared.Choices.{Choices}
+use Rattle.choices.specs.State.{Choices, view, Invariant, answerLeft, answerOf, rest, Chosen, taking}
 use Rattle.choices.specs.declared.Answer.the-variants.{Taken, Many, Short, Beyond}
 use Rattle.choices.specs.Tree.{mostChoices}
 use Rattle.choices.proofs.States.{left-cons, left-nil}
-use Rattle.choices.specs.State.{view, Invariant, answerLeft, answerOf, rest, Chosen, taking}
 
 module _ (c : Choices) (n : ℕ) (s : Invariant c) where
   past-length : c .used ≤ mostChoices → length (take (c .used) (c .entries)) ≡ c .used

@@ -5,10 +5,7 @@ pub mod Paths
 pub mod Steps
 pub mod Cut
 pub mod Walk
-pub mod Ahead
-pub mod Parts
 pub mod Outcomes
-pub mod Rank
 pub mod States
 pub mod Ran
 pub mod Runs
@@ -16,4 +13,3 @@ pub mod Came
 pub mod Stepping
 pub mod Choosing
 pub mod Raising
-mod Making

@@ -1,7 +1,7 @@
 -- The complete lists of a tree, their order, and how many come before a list.
 use mathlib.Core.Path.{_≡_}
 use mathlib.Core.Logic.{_⊎_, _↔_}
-use mathlib.Core.List.{List, [], _∷_, _++_}
+use mathlib.Core.List.{List, [], _∷_}
 use Prim.Native.Nat.{ℕ, _≤_, _<_}
 use lib.ListN.{length}
 use Rattle.prelude.specs.Membership.{In}
@@ -58,7 +58,3 @@ pub record Next {A : Type 0} (t : Tree A) (l m : List ℕ) : Type 0 where
   pub complete : Complete t m
   pub after : before l m
   pub between : (x : List ℕ) → Complete t x → before l x → before x m → ⊥
-
--- m begins with the entries l.
-abbrev pub Begins : List ℕ → List ℕ → Type 0
-Begins l m = (rest : List ℕ) × (m ≡ l ++ rest)

@@ -12,9 +12,8 @@ use Rattle.values.specs.Value.{Value, boolean}
 use Rattle.values.specs.Place.{At}
 use Rattle.values.specs.Contract.{Put, Copyable, Copied}
 use Rattle.values.proofs.Records.{holds as held-at}
-use Rattle.choices.specs.declared.Choices.{Choices}
+use Rattle.choices.specs.State.{Choices, Invariant}
 use Rattle.choices.specs.Tree.{stop}
-use Rattle.choices.specs.State.{Invariant}
 use Rattle.tables.specs.declared.Role.{Role}
 use Rattle.tables.specs.declared.Role.the-variants.{Plain, Name}
 use Rattle.tables.specs.Record.{Record, field, nameOf as nameOfRecord, shape, size, isKnown, named}

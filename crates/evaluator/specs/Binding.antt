@@ -10,11 +10,10 @@ use lib.Dec.{eqb}
 use lib.ListN.{length, getD, take}
 use Rattle.values.specs.Value.{Kind, Value, kindOf, collection, Items}
 use Rattle.values.specs.Place.{At, ItemsAt}
-use Rattle.choices.specs.declared.Choices.{Choices}
+use Rattle.choices.specs.State.{Choices, view, Chosen}
 use Rattle.choices.specs.Tree.{Tree, give, stop, bind}
 use Rattle.choices.specs.declared.Answer.{Answer}
 use Rattle.choices.specs.declared.Answer.the-variants.{Taken, Many, Short, Beyond}
-use Rattle.choices.specs.State.{view, Chosen}
 use Rattle.operators.specs.Enumerations.{addMember, addItem}
 use Rattle.operators.specs.Gather.{everyItem}
 use Rattle.tables.specs.Table.{kindAt}

@@ -10,6 +10,7 @@ use native.Mathlib.Omega.{arith}
 use lib.Dec.{eqb}
 use lib.ListN.{length, getD, length-map}
 use borrow.Author.Tests.{eqb-true, ltb-false}
+use Rattle.prelude.proofs.Lists.{map-at}
 use Rattle.values.specs.Value.{Kind, set, sequence, number, kindOf, Value, collection}
 use Rattle.values.specs.Place.{At}
 use Rattle.parts.specs.declared.Part.{Part}
@@ -24,11 +25,6 @@ use Rattle.patterns.specs.Nodes.{collectionOf, meetings, bothOf}
 use Rattle.patterns.specs.Laws.Orders.{factorial, orders-length}
 use Rattle.matching.specs.Node.{Ordinal, PieceHeld, PieceOf}
 use Rattle.matching.proofs.Counting.{pick-true, Has, contents-other, contents-same, none-meets, meets-splits, meets-cuts, meets-orders, meets-items}
-
-pub map-at : {A B : Type 0} (f : A → B) (l : List A) (n : ℕ) (w : A) (e : B) → n < length l → getD (map f l) n e ≡ f (getD l n w)
-map-at f [] n w e h = absurd (omega arith)
-map-at f (x ∷ l) zero w e h = refl
-map-at f (x ∷ l) (suc n) w e h = map-at f l n w e (omega arith)
 
 -- some way there is only where the test is true
 picked-some : {A : Type 0} (t : Bool) (xs : List A) (d : ℕ) → d < length (cond t xs []) → (t ≡ true) × (d < length xs)

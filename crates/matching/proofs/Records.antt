@@ -21,7 +21,7 @@ use Rattle.parts.specs.declared.Part.{Part}
 use Rattle.patterns.specs.Ways.{Halves, orders}
 use Rattle.prelude.proofs.Membership.{at-in}
 use Rattle.patterns.specs.Pattern.{Pattern, literal, arrangements, contents, met, split}
-use Rattle.patterns.specs.Laws.Merging.{true-false}
+use Rattle.prelude.proofs.Absurd.{true-false}
 use Rattle.patterns.specs.Laws.Orders.{order-length}
 use Rattle.patterns.specs.Read.{Readable, patternOf, patternAt}
 use Rattle.patterns.specs.Nodes.{collectionOf, isHalved, meetings, bothOf}

@@ -8,5 +8,8 @@ use native.Mathlib.Omega.{arith}
 pub impossible {ℓ} : {X : Type ℓ} → _≡_ {A = ℕ} 0 1 → X
 impossible e = absurd (omega arith)
 
+pub true-false {ℓ} : {X : Type ℓ} → true ≡ false → X
+true-false e = impossible cc
+
 pub never {ℓ} : {X : Type ℓ} → false ≡ true → X
 never e = absurd (false≢true e)

@@ -44,7 +44,7 @@ module _ (s t : List ℕ) (long : length t ≡ scratchBytes) where
   pub rest-kept : drop scratchBytes (t ++ drop scratchBytes s) ≡ drop scratchBytes s
   rest-kept = drop-at t (drop scratchBytes s) scratchBytes long
 
-  pub value-kept : (v : Value) → At t 0 v → At (t ++ drop scratchBytes s) 0 v
+  value-kept : (v : Value) → At t 0 v → At (t ++ drop scratchBytes s) 0 v
   value-kept v a =
       record {
         fits = omega (arith, a .fits, length-append t (drop scratchBytes s));

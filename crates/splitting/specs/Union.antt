@@ -12,7 +12,7 @@ use mathlib.Mathlib.Data.Bool.Basic.{and-elim-left, and-elim-right}
 use Rattle.prelude.proofs.Truth.{or-false-left, or-false-right, or-false-both}
 use Rattle.prelude.specs.Membership.{In}
 use Rattle.values.specs.Value.{Kind, set, sequence, map as mapping, tuple, Value}
-use Rattle.patterns.specs.Laws.Merging.{true-false}
+use Rattle.prelude.proofs.Absurd.{true-false}
 use Rattle.patterns.specs.Ways.{Halves, exists, splits}
 use Rattle.patterns.specs.Units.{Shared}
 use Rattle.patterns.specs.Laws.Units.{in-splits}

@@ -5,22 +5,18 @@ use mathlib.Core.List.{List, [], _∷_}
 use Prim.Native.Nat.{ℕ, _<_, _≤_}
 use native.Mathlib.Omega.{arith}
 use lib.Dec.{ltb}
-use lib.ListN.{length}
 use borrow.Author.Tests.{ltb-true, ltb-false, lt-ltb, le-ltb}
 use Rattle.prelude.proofs.Absurd.{impossible}
-use Rattle.choices.specs.declared.Choices.{Choices}
-use Rattle.choices.specs.Tree.{Tree, Final, result, refuses, final, run, mostChoices, unlessLeft}
-use Rattle.choices.specs.State.{View, view, Invariant, Made}
+use Rattle.choices.specs.State.{Choices, View, view, Invariant, Made}
+use Rattle.choices.specs.Tree.{Tree, Final, result, refuses, final, unlessLeft}
 use Rattle.choices.specs.Runs.{Came, settle, endedBy}
 use Rattle.choices.proofs.Came.{came-final, settled-value, settled-value-left, settled-refusal, settled-refusal-left, settled-list}
 use Rattle.values.specs.Value.{Value}
 use Rattle.values.specs.Place.{At}
-use Rattle.tables.specs.Check.{check, mostBytes, mostRecords}
-use Rattle.tables.specs.declared.Checked.the-variants.{Accepted}
 use Rattle.meaning.specs.State.{unbound}
 use Rattle.meaning.specs.Read.{sheet}
 use Rattle.meaning.specs.Laws.Sure.{Sure, sure-meaning}
-use Rattle.meaning.specs.Answer.{weight, packed, uncounted}
+use Rattle.meaning.specs.Answer.{weight, uncounted}
 use Rattle.meaning.specs.Service.{tree, last, runs}
 use Rattle.meaning.specs.Laws.ReadBack.{Fits, fits-runs}
 use Rattle.evaluator.specs.declared.Outcome.{Outcome}
@@ -34,9 +30,6 @@ sure-tree table = sure-meaning (sheet table) (last (sheet table)) unbound
 -- ---- the code's answers by cases
 
 module _ (o : Outcome) where
-  pub whole-value : o ≡ HasValue → true ≡ isWhole o
-  whole-value e = ap isWhole (sym e)
-
   module _ (n p k : ℕ) (e : o ≡ Refused n p k) where
     pub whole-refused : (b : Bool) → b ≡ ltb n 32 → b ≡ isWhole o
     whole-refused b h = h ∙ ap isWhole (sym e)

@@ -1,22 +1,18 @@
 -- The first list and the step, from what the runs come to.
 use mathlib.Core.Path.{_≡_, refl, sym, ap, _∙_, subst}
 use mathlib.Core.Bool.{Bool, true, false, cond}
-use mathlib.Core.Option.{Option, none as absent, some}
-use mathlib.Core.List.{List, [], _∷_, _++_, append-nil}
+use mathlib.Core.Option.{Option}
+use mathlib.Core.List.{List, [], _++_, append-nil}
 use Prim.Native.Nat.{ℕ, _<_, _≤_}
 use native.Mathlib.Omega.{arith}
-use lib.Dec.{ltb}
 use lib.ListN.{length, take, drop, drop-of-length-le, replicate, length-replicate}
-use borrow.Author.Tests.{ltb-true, ltb-false}
-use Rattle.choices.specs.declared.Choices.{Choices}
-use Rattle.choices.specs.declared.Advanced.{Advanced}
+use borrow.Author.Tests.{ltb-true}
+use Rattle.choices.specs.State.{Choices, view, Invariant, Made, Moved, padded}
 use Rattle.choices.specs.declared.list.Walk.{Walk as Held}
-use Rattle.choices.specs.Tree.{Tree, Final, result, refuses, final, run, mostChoices}
+use Rattle.choices.specs.Tree.{Final, result, refuses, mostChoices}
 use Rattle.choices.specs.Lists.{Complete}
 use Rattle.choices.specs.Paths.{firstList, nextList}
-use Rattle.choices.specs.State.{View, view, Invariant, Made, Moved, padded}
 use Rattle.choices.specs.Listing.{Lists, Runnable, listOf}
-use Rattle.choices.specs.Runs.{Came}
 use Rattle.choices.proofs.Ran.{atEnd}
 use Rattle.choices.proofs.States.{Holds, end-holds}
 use Rattle.choices.proofs.Walk.{Settles, complete-whole}
@@ -24,7 +20,7 @@ use Rattle.choices.proofs.Came.{came-complete, came-first, came-holds, came-nex
 use Rattle.choices.proofs.Stepping.{step-none}
 use Rattle.values.specs.Value.{Value}
 use Rattle.lists.specs.Lent.{lent}
-use Rattle.lists.specs.Runs.{Whole as Used, Kept}
+use Rattle.lists.specs.Runs.{Whole as Used}
 use Rattle.tables.specs.Check.{check, mostBytes, mostRecords}
 use Rattle.tables.specs.Accepted.{records}
 use Rattle.tables.specs.Laws.Accepted.{accepted-short, accepted-fine, cut-accepted}
@@ -32,16 +28,14 @@ use Rattle.tables.specs.Reading.{Indexed, CutOut}
 use Rattle.tables.specs.declared.Checked.the-variants.{Accepted}
 use Rattle.tables.specs.declared.reading.Cutting.{Cutting}
 use Rattle.meaning.specs.Read.{sheet}
-use Rattle.meaning.specs.Answer.{pack, packed, uncounted}
-use Rattle.meaning.specs.Walk.{Walk, overwritten}
+use Rattle.meaning.specs.Answer.{pack}
+use Rattle.meaning.specs.Walk.{overwritten}
 use Rattle.meaning.specs.Service.{tree, last, runs, onward, steppedFrom}
-use Rattle.meaning.specs.Lent.{walkAfter}
 use Rattle.walks.specs.declared.Stepped.{Stepped}
 use Rattle.evaluator.specs.declared.Outcome.{Outcome}
-use Rattle.evaluator.specs.declared.Outcome.the-variants.{Value as HasValue, Refused}
 use Rattle.evaluator.specs.Sheet.{Runnable as Asked}
-use Rattle.walks.specs.Steps.{Ready, Indexes, outcomeOf, packedOf, isWhole, Ran, lentOf, Answers, AtEnd, Steps}
-use Rattle.walks.proofs.Settling.{sure-tree, Arrived, arrived}
+use Rattle.walks.specs.Steps.{Ready, outcomeOf, packedOf, isWhole, Ran, lentOf, Answers, AtEnd, Steps}
+use Rattle.walks.proofs.Settling.{sure-tree, Arrived}
 
 -- ---- the index
 

@@ -5,14 +5,13 @@ use mathlib.Core.List.{List}
 use Prim.Native.Nat.{ℕ, _<_}
 use lib.Dec.{ltb}
 use lib.ListN.{length}
-use Rattle.choices.specs.declared.Choices.{Choices}
+use Rattle.choices.specs.State.{Choices, view, Invariant}
 use Rattle.choices.specs.declared.list.Walk.{Walk as Held}
 use Rattle.choices.specs.Tree.{Final, result, refuses, mostChoices}
 use Rattle.choices.specs.Lists.{Complete}
 use Rattle.choices.specs.Paths.{nextList}
 use Rattle.choices.specs.Listing.{Runnable, listOf}
 use Rattle.choices.proofs.Ran.{atEnd}
-use Rattle.choices.specs.State.{view, Invariant}
 use Rattle.lists.specs.Lent.{lent}
 use Rattle.values.specs.Value.{Value}
 use Rattle.values.specs.Place.{At}

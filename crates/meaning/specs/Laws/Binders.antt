@@ -42,7 +42,7 @@ use Rattle.meaning.specs.Kinds.{Binders, Comprehensions, Added, Integers
 use Rattle.meaning.specs.Laws.Agreement.{loose-meaning-is}
 use Rattle.meaning.specs.Laws.Proper.{downward}
 use Rattle.meaning.specs.Laws.PatternLaws.{pattern-is}
-use Rattle.meaning.specs.Laws.Clauses.{value≢refusal}
+use Rattle.choices.proofs.Trees.{value≢refusal}
 use Rattle.meaning.specs.Laws.Tested.{then-value, else-value, built-value, bindings-value, integer-bindings-value, holds-value, satisfying-one, collected-value, until-false-true, until-false-false, until-true-true, until-true-false, unique-true, unique-false, first-map, one-map, several-map, added-map}
 use Rattle.meaning.specs.Laws.Collected.{Paired-in, set-holds, sequence-holds, map-holds, added-sound, added-whole}
 

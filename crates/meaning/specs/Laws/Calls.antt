@@ -242,7 +242,7 @@ module _ (table : List ℕ) (n : ℕ) (ok : check table ≡ Accepted n) where
 
   module _ (w : Walk) (c : Call) (e : c .service ≡ step) (h : Enough c w) (l : List ℕ) (shown : Shows w l) (d : Complete (tree table) l) where
     -- THEOREM: a step is granted, or it is 35.
-    pub step-from : Stepped table c w l ⊎ NoNext table c w l
+    step-from : Stepped table c w l ⊎ NoNext table c w l
     step-from = go (nextList (tree table) l) refl
       where
         go : (o : Option (List ℕ)) → nextList (tree table) l ≡ o → Stepped table c w l ⊎ NoNext table c w l

@@ -207,7 +207,7 @@ module _ (P : ℕ → Type 0) (C : ℕ → ℕ → Type 0) where
       & tt
 
   -- The node of a record that is fit.
-  pub node-proper : (q : Record) → Known P C (q .kind) q → Proper P C (nodeOf q)
+  node-proper : (q : Record) → Known P C (q .kind) q → Proper P C (nodeOf q)
   unfolding nodeOf
   node-proper q h = node-at 0 (q .kind) nodes q each-node (let e : q .kind ≡ 0 + q .kind = omega arith in subst (λ k. Known P C k q) e h)
 

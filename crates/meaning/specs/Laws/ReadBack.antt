@@ -40,9 +40,9 @@ abbrev pub Small : Checked → Type 0
 Small (Accepted n) = n ≤ 200
 Small (Refused n r) = (3 ≤ n) × (n ≤ 9) × (r < 600)
 
-small-pick : (b : Bool) (x y : Checked) → (b ≡ true → Small x) → (b ≡ false → Small y) → Small (cond b x y)
-small-pick true x y f g = f refl
-small-pick false x y f g = g refl
+small-cond : (b : Bool) (x y : Checked) → (b ≡ true → Small x) → (b ≡ false → Small y) → Small (cond b x y)
+small-cond true x y f g = f refl
+small-cond false x y f g = g refl
 
 -- Records have four bytes or more, and a record that is at fault has one.
 abbrev broken : Bool → ℕ
@@ -72,7 +72,7 @@ cut-small (suc bound) bytes = go (next bytes) refl (λ rest. cut-small bound res
 module _ (rs : List Record) (few : length rs ≤ 200) where
   small-rule : (u : Rule) (us : List Rule) → 3 ≤ u .number → u .number ≤ 9 → Small (judge us rs) → Small (judge (u ∷ us) rs)
   small-rule u us l h later =
-      small-pick (ltb (lowest (u .fault rs) (length rs)) (length rs)) (Refused (u .number) (lowest (u .fault rs) (length rs))) (judge us rs)
+      small-cond (ltb (lowest (u .fault rs) (length rs)) (length rs)) (Refused (u .number) (lowest (u .fault rs) (length rs))) (judge us rs)
       (λ e. (l, h, omega (arith, ltb-true (lowest (u .fault rs) (length rs)) (length rs) e)))
       (λ e. later)
 
@@ -91,10 +91,10 @@ module _ (c : Cut) (short-enough : 4 * length (c .records) + broken (c .whole) �
   small-cut : Small (judgedCut c)
   unfolding judgedCut
   small-cut =
-      small-pick (not (c .whole)) (Refused 4 (length (c .records))) _
+      small-cond (not (c .whole)) (Refused 4 (length (c .records))) _
       (λ e. (omega arith, omega arith, broken-small (not-true (c .whole) e)))
       (λ e.
-      small-pick (ltb mostRecords (length (c .records))) (Refused 5 mostRecords) _
+      small-cond (ltb mostRecords (length (c .records))) (Refused 5 mostRecords) _
       (λ f. (omega arith, omega arith, omega arith))
       (λ f. small-judged (c .records) (ltb-false mostRecords (length (c .records)) f)))
 
@@ -102,7 +102,7 @@ module _ (c : Cut) (short-enough : 4 * length (c .records) + broken (c .whole) �
 pub small-check : (table : List ℕ) → Small (check table)
 unfolding check cut
 small-check table =
-    small-pick (eqb (length table) 0 || ltb mostBytes (length table)) (Refused 3 0) _
+    small-cond (eqb (length table) 0 || ltb mostBytes (length table)) (Refused 3 0) _
     (λ e. (omega arith, omega arith, omega arith))
     (λ e.
     small-cut (cut table)
@@ -207,7 +207,7 @@ fits-stepped (refuses n p k) next f h = go (ltb n 32)
 -- ---- the four services
 
 module _ (scratch : ℕ) (table : List ℕ) where
-  pub fits-check : Fits records (checks scratch table)
+  fits-check : Fits records (checks scratch table)
   fits-check =
       fits-unless records (ltb scratch scratchBytes) 1 _ (omega arith) (omega arith)
       (go (check table) (small-check table))
@@ -222,7 +222,7 @@ module _ (scratch : ℕ) (table : List ℕ) where
       (fits-unless uncounted (ltb buffer largest) 2 _ (omega arith) (omega arith)
       (fits-accepted uncounted (check table) _ (small-check table) (λ n ok. fits-unless uncounted (ltb mostChoices (length list)) 10 _ (omega arith) (omega arith) (fits-runs table n ok list))))
 
-  pub fits-first : (w : Walk) → Fits uncounted (firsts scratch table w)
+  fits-first : (w : Walk) → Fits uncounted (firsts scratch table w)
   fits-first w =
       fits-unless uncounted (ltb scratch scratchBytes) 1 _ (omega arith) (omega arith)
       (fits-accepted uncounted (check table) _ (small-check table) (λ n ok. fits-unless uncounted (ltb (length (w .entries)) mostChoices) 10 _ (omega arith) (omega arith) (fits-result _)))

@@ -17,16 +17,10 @@ padded-length l h = omega (arith, length-append l (replicate (mostChoices - leng
 -- ---- showing a list
 
 module _ (w : Walk) (l : List ℕ) (s : Shows w l) where
-  -- It is short, and there are 64 entries.
-  sizes : mostChoices ≤ length (padded l)
-  sizes = omega (arith, length-append l (replicate (mostChoices - length l) 0), length-replicate {A = ℕ} (mostChoices - length l) 0)
-
+  -- It is short.
   pub shown-short : length l ≤ mostChoices
   shown-short =
       omega (arith, ap length (s .its-entries), length-take mostChoices (w .entries), length-append l (replicate (mostChoices - length l) 0))
-
-  pub shown-entries : mostChoices ≤ length (w .entries)
-  shown-entries = omega (arith, ap length (s .its-entries), length-take mostChoices (w .entries), sizes)
 
   -- The entries below the length are the list.
   pub listed-shown : listed w ≡ l

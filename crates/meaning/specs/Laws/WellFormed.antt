@@ -38,7 +38,7 @@ use Rattle.meaning.specs.Meaning.{Evaluates, at, builtAt, orElse, allOf,
 use Rattle.meaning.specs.Read.{sheet}
 use Rattle.meaning.specs.Service.{scratchBytes, last, tree, unless, accepted, evaluates}
 use Rattle.meaning.specs.Laws.Agreement.{at-in}
-use Rattle.meaning.specs.Laws.Only.{Only, only-give, only-stop, only-bind, Any, only-any, only-pick, only-else}
+use Rattle.meaning.specs.Laws.Only.{Only, only-give, only-stop, only-bind, Any, only-any, only-cond, only-else}
 use Rattle.meaning.specs.Laws.Proper.{Numbered, Literal, proper}
 
 -- ---- answers
@@ -229,7 +229,7 @@ module _ (rec : Evaluates) (well : (a : ℕ) (ρ : State) → FineState ρ → O
   only-collected k test add f vs g [] h = only-give (Good k) vs g
   only-collected k test add f vs g (b ∷ bs) h =
       only-bind Any (Good k) (test b) _ (only-any (test b))
-      (λ t i. only-pick (Good k) t (bind (add vs b) (λ ws. collected test add ws bs)) (collected test add vs bs)
+      (λ t i. only-cond (Good k) t (bind (add vs b) (λ ws. collected test add ws bs)) (collected test add vs bs)
       (only-bind (Good k) (Good k) (add vs b) _ (f vs b g (h b (inl refl))) (λ ws j. only-collected k test add f ws j bs (λ d l. h d (inr l))))
       (only-collected k test add f vs g bs (λ d l. h d (inr l))))
 
@@ -258,7 +258,7 @@ module _ (rec : Evaluates) (well : (a : ℕ) (ρ : State) → FineState ρ → O
   only-node pattern r (connective c a b) l ρ h = only-bind WellFormed WellFormed (rec a ρ) _ (well a ρ h) (λ v i. only-right r b ρ h (left c v) (left-fine c v))
   only-node pattern r (if t a b) l ρ h =
       only-bind Any WellFormed (rec t ρ) _ (only-any (rec t ρ))
-      (λ v i. only-bind Any WellFormed (isTrue r v) _ (only-any (isTrue r v)) (λ y j. only-pick WellFormed y (rec a ρ) (rec b ρ) (well a ρ h) (well b ρ h)))
+      (λ v i. only-bind Any WellFormed (isTrue r v) _ (only-any (isTrue r v)) (λ y j. only-cond WellFormed y (rec a ρ) (rec b ρ) (well a ρ h) (well b ρ h)))
   only-node pattern r (enumeration k os) l ρ h =
       only-bind (Items-of (length os)) WellFormed (allOf rec os ρ) _ (only-all os ρ h) (λ vs i. only-at r (enumerated k vs) (enumerated-fine k (length os) l vs i))
   only-node pattern r (range a b) l ρ h = only-both a b ρ h _ (λ v w i j. only-at r (rangeOf v w) (range-fine v w i j))
@@ -307,7 +307,7 @@ pub tree-well-formed : (table : List ℕ) (n : ℕ) → check table ≡ Accepted
 tree-well-formed table n ok v g = well-formed table n ok (last (sheet table)) unbound fine-unbound v g
 
 -- THEOREM: the value of a run under a list is well-formed.
-pub run-well-formed : (table : List ℕ) (n : ℕ) → check table ≡ Accepted n → (l : List ℕ) (v : Value) (k : ℕ) (rest : List ℕ) → run (tree table) l ≡ gave v k rest → WellFormed v
+run-well-formed : (table : List ℕ) (n : ℕ) → check table ≡ Accepted n → (l : List ℕ) (v : Value) (k : ℕ) (rest : List ℕ) → run (tree table) l ≡ gave v k rest → WellFormed v
 run-well-formed table n ok l v k rest e =
     tree-well-formed table n ok v (subst (Given (tree table)) e (follow-given (tree table) mostChoices l))
 

@@ -21,10 +21,6 @@ module _ (test : ℕ → Bool) where
       by-lower i n (λ l. any-none n (or-false-left (any test n) (test n) e) i l)
       (λ l. let same : i ≡ n = omega arith in rw same (or-false-right (any test n) (test n) e))
 
-  pub any-false : (n : ℕ) → ((i : ℕ) → i < n → test i ≡ false) → any test n ≡ false
-  any-false zero f = refl
-  any-false (suc n) f = or-false-both (any test n) (test n) (any-false n (λ i h. f i (omega arith))) (f n (omega arith))
-
   -- ---- lowest
 
   -- r is the lowest number below n that passes the test, or n.
