@@ -115,7 +115,7 @@ pub run-follow : {A : Type 0} (t : Tree A) (l : List ℕ) → runOn t (fresh l f
 run-follow t l = run-trail t mostChoices [] [] l refl
 
 -- The entries that a run leaves.
-abbrev pub leftOf : {A : Type 0} → Run A → List ℕ
+abbrev leftOf : {A : Type 0} → Run A → List ℕ
 leftOf (gave a k l) = l
 leftOf (stopped r p l) = l
 leftOf (short p n) = []

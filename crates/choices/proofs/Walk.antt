@@ -64,7 +64,7 @@ module _ {A : Type 0} (t : Tree A) where
           absurd (before-asym (getD (allLists t) i []) (getD (allLists t) j []) b (asc-at (allLists t) j i (paths-ascend (cutAfter mostChoices t)) (omega (arith, n)) hi))
 
   -- Every complete list has a number of complete lists before it.
-  pub counted : (l : List ℕ) → Complete t l → (k : ℕ) × CountBefore t l k
+  counted : (l : List ℕ) → Complete t l → (k : ℕ) × CountBefore t l k
   counted l h = let w = at l h in (w .0, subst (λ (x : List ℕ). CountBefore t x (w .0)) (sym (w .2)) (count-at (w .0) (w .1)))
 
   index-is : (l : List ℕ) (k : ℕ) (h : Complete t l) → CountBefore t l k → k ≡ at l h .0

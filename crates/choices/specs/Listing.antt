@@ -18,5 +18,5 @@ pub record Runnable (w : Walk) : Type 0 where
   pub short : w .len ≤ mostChoices
 
 -- The entries below the length.
-abbrev pub listOf : Walk → List ℕ
-listOf w = take (w .len) (w .entries)
+abbrev pub listHeld : Walk → List ℕ
+listHeld w = take (w .len) (w .entries)

@@ -24,7 +24,7 @@ use Rattle.patterns.specs.Binder.{bound, formed}
 use Rattle.patterns.specs.Read.{patternAt}
 use Rattle.calling.specs.Scratch.{Kept}
 use Rattle.meaning.specs.State.{State, under, valueIn}
-use Rattle.meaning.specs.Meaning.{formedAt, membersAt, integersAt, bindingsOf, integerBindings, holds, satisfying, nameOf, addOne, addPair}
+use Rattle.meaning.specs.Meaning.{formedAt, membersAt, integersAt, bindingsOf, integerBindings, holds, satisfying, addOne, addPair, patternName}
 use Rattle.bindings.specs.declared.Cursor.{Cursor}
 use Rattle.bindings.specs.declared.Opened.{Opened}
 use Rattle.bindings.specs.declared.Opened.the-variants.{Bound, Refused as Unbound}
@@ -201,7 +201,7 @@ pub record Fetchable (table index : List ℕ) (r : ℕ) (s : List ℕ) (base : �
 -- The value that binding j gives to the name of the pattern, left at base.
 pub record Fetches (table : List ℕ) (r : ℕ) (s t : List ℕ) (base : ℕ) (cursor : Cursor) (j : ℕ) : Type 0 where
   pub kept : Kept s t base
-  pub right : (bs : List Binding) → Standing table r false s base cursor bs → (v : Value) × (valueIn (getD bs j nothing) (nameOf (patternFor table r)) ≡ some v) × At t base v
+  pub right : (bs : List Binding) → Standing table r false s base cursor bs → (v : Value) × (valueIn (getD bs j nothing) (patternName (patternFor table r)) ≡ some v) × At t base v
 
 -- ---- a choice: 12 and 13
 

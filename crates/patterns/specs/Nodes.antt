@@ -16,12 +16,12 @@ abbrev pub isHalved : ℕ → Bool
 isHalved c = eqb c 38 || eqb c 40
 
 -- Both, one after the other.
-abbrev pub bothOf : Kind → Halves Value → List Value
-bothOf k h = leftOf k h ∷ rightOf k h ∷ []
+abbrev pub bothHalves : Kind → Halves Value → List Value
+bothHalves k h = leftOf k h ∷ rightOf k h ∷ []
 
 -- What n parts of a pattern of kind c meet, in every way.
 abbrev pub meetings : ℕ → ℕ → Value → List (List Value)
-meetings c n v = cond (isHalved c) (map (bothOf (collectionOf c)) (split (collectionOf c) (contents (collectionOf c) v))) (met (collectionOf c) n (contents (collectionOf c) v))
+meetings c n v = cond (isHalved c) (map (bothHalves (collectionOf c)) (split (collectionOf c) (contents (collectionOf c) v))) (met (collectionOf c) n (contents (collectionOf c) v))
 
 -- The set is too large to split.
 abbrev pub isLarge : ℕ → Value → Bool

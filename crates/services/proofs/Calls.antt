@@ -11,7 +11,7 @@ use Rattle.choices.specs.declared.list.Walk.{Walk as Held}
 use Rattle.choices.specs.Tree.{Final, result, refuses, mostChoices}
 use Rattle.choices.specs.Paths.{firstList, nextList}
 use Rattle.choices.specs.State.{padded}
-use Rattle.choices.specs.Listing.{Lists, Runnable, listOf}
+use Rattle.choices.specs.Listing.{Lists, Runnable, listHeld}
 use Rattle.values.specs.declared.Value.{Value as Copy}
 use Rattle.values.specs.Value.{Value, encode, size, valueLimit as largest}
 use Rattle.values.proofs.Encoding.{encode-length}
@@ -21,7 +21,7 @@ use Rattle.values.specs.Contract.{Shows}
 use Rattle.tables.specs.Check.{check}
 use Rattle.tables.specs.declared.Checked.{Checked}
 use Rattle.tables.specs.declared.Checked.the-variants.{Accepted, Refused as Faulty}
-use Rattle.meaning.specs.Answer.{number, pack, packed, uncounted}
+use Rattle.meaning.specs.Answer.{pack, packed, uncounted, answerNumber}
 use Rattle.meaning.specs.Walk.{Walk, listed, overwritten}
 use Rattle.meaning.specs.Service.{scratchBytes, tree, runs, evaluates, firsts, steps, onward, steppedFrom}
 use Rattle.meaning.specs.Lent.{zeroed, filled, isEarly, AfterWalk, afterWalk, afterEvaluate, walkAfter, resultAfter, evaluateCall, firstCall, stepCall}
@@ -198,7 +198,7 @@ module _ (table s : List ℕ) (w : Walk) where
         step-left within v h r k v′ e =
             let due = steppedFrom (runs table (listed w)) (onward (nextList (tree table) (listed w))) in
             let g = steps-run table (length s) enough n ok w all within in
-            let same : listOf v ≡ listed w = ap (λ (m : ℕ). take m (v .entries)) (h .len-is) ∙ ap (take (w .len)) (h .entries-are) ∙ take-take (w .len) mostChoices (w .entries) within in
+            let same : listHeld v ≡ listed w = ap (λ (m : ℕ). take m (v .entries)) (h .len-is) ∙ ap (take (w .len)) (h .entries-are) ∙ take-take (w .len) mostChoices (w .entries) within in
             let j : Answers due v r = subst (λ (l : List ℕ). Answers (steppedFrom (runs table l) (onward (nextList (tree table) l))) v r) same k in
             record {
               answered = j .answer ∙ sym (ap (packed uncounted) g);

@@ -12,7 +12,7 @@ use Rattle.choices.specs.declared.list.Walk.{Walk as Held}
 use Rattle.choices.specs.Tree.{Final, result, refuses, mostChoices}
 use Rattle.choices.specs.Lists.{Complete}
 use Rattle.choices.specs.Paths.{firstList, nextList}
-use Rattle.choices.specs.Listing.{Lists, Runnable, listOf}
+use Rattle.choices.specs.Listing.{Lists, Runnable, listHeld}
 use Rattle.choices.proofs.Ran.{atEnd}
 use Rattle.choices.proofs.States.{Holds, end-holds}
 use Rattle.choices.proofs.Walk.{Settles, complete-whole}
@@ -62,7 +62,7 @@ module _ (w : Held) (h : Lists w []) where
   pub runnable-empty : Runnable w
   runnable-empty = record { sized = ap length (h .padding) ∙ length-replicate {A = ℕ} mostChoices 0; short = omega (arith, h .long) }
 
-  pub empty-list : listOf w ≡ []
+  pub empty-list : listHeld w ≡ []
   empty-list = ap (λ n. take n (w .entries)) (h .long)
 
 module _ (table : List ℕ) (c : Choices) (o : Outcome) (d : Choices) (t : List ℕ) (a : Arrived table c o d t) where
@@ -74,10 +74,10 @@ module _ (table : List ℕ) (c : Choices) (o : Outcome) (d : Choices) (t : List 
 
   -- ---- the run of a complete list
 
-  pub at-end : (w : Held) → Runnable w → Made (listOf w) false c → Complete (tree table) (listOf w) → (view d ≡ atEnd (tree table) (listOf w) false) × (d .used ≡ d .len)
+  pub at-end : (w : Held) → Runnable w → Made (listHeld w) false c → Complete (tree table) (listHeld w) → (view d ≡ atEnd (tree table) (listHeld w) false) × (d .used ≡ d .len)
   at-end w k m full =
-      let v = came-complete (tree table) (a .came) (listOf w) m full in
-      (v, came-holds (tree table) (listOf w) false (a .came) v .used)
+      let v = came-complete (tree table) (a .came) (listHeld w) m full in
+      (v, came-holds (tree table) (listHeld w) false (a .came) v .used)
 
 whole-of : (f : Final Value) → isWhole (outcomeOf f) ≡ true → Settles f
 whole-of (result v) e = tt
@@ -102,17 +102,17 @@ whole-on : (f : Final Value) (next : Final (List ℕ)) → isWhole (outcomeOf f)
 whole-on (result v) next e = refl
 whole-on (refuses n p k) next e = ap (λ b. cond b next (refuses n p k)) e
 
-module _ (table t : List ℕ) (w : Held) (o : Outcome) (r : Ran table (listOf w) t o) where
+module _ (table t : List ℕ) (w : Held) (o : Outcome) (r : Ran table (listHeld w) t o) where
   abbrev next : Final (List ℕ)
-  next = onward (nextList (tree table) (listOf w))
+  next = onward (nextList (tree table) (listHeld w))
 
   pub steps-other : Runnable w → isWhole o ≡ false → (a : ℕ) → a ≡ packedOf o → Steps table w (record { answer = a; walk = w })
   steps-other y e a q =
-      subst (λ x. Answers (steppedFrom (runs table (listOf w)) next) w (record { answer = x; walk = w })) (sym (q ∙ ap packedOf (r .outcome)))
-      (not-whole (runs table (listOf w)) next w y (ap isWhole (sym (r .outcome)) ∙ e))
+      subst (λ x. Answers (steppedFrom (runs table (listHeld w)) next) w (record { answer = x; walk = w })) (sym (q ∙ ap packedOf (r .outcome)))
+      (not-whole (runs table (listHeld w)) next w y (ap isWhole (sym (r .outcome)) ∙ e))
 
   pub steps-on : isWhole o ≡ true → (s : Stepped) → Answers next w s → Steps table w s
-  steps-on e s h = subst (λ x. Answers x w s) (sym (whole-on (runs table (listOf w)) next (ap isWhole (sym (r .outcome)) ∙ e))) h
+  steps-on e s h = subst (λ x. Answers x w s) (sym (whole-on (runs table (listHeld w)) next (ap isWhole (sym (r .outcome)) ∙ e))) h
 
 -- A granted step overwrites all 64 entries.
 walk-over : (w : Held) (m : List ℕ) (v : Held) → Runnable w → v .entries ≡ padded m → v .len ≡ length m → lentOf v ≡ overwritten m (lentOf w)
@@ -124,18 +124,18 @@ walk-over w m v k e n =
 module _ (table : List ℕ) (w : Held) (run₀ : List ℕ) (b : AtEnd table w run₀) where
   pub used-all : Used run₀
   used-all =
-      record { sound = b .sound; used = end-holds (tree table) (listOf w) false (lent run₀) (b .sound) (b .ended) .used }
+      record { sound = b .sound; used = end-holds (tree table) (listHeld w) false (lent run₀) (b .sound) (b .ended) .used }
 
   module _ (more : Bool) (run₁ : List ℕ) (k : Moved (lent run₀) (record { more = more; state = lent run₁ })) where
-    pub answers-none : more ≡ false → (a : ℕ) → a ≡ pack 35 0 0 → Answers (onward (nextList (tree table) (listOf w))) w (record { answer = a; walk = w })
+    pub answers-none : more ≡ false → (a : ℕ) → a ≡ pack 35 0 0 → Answers (onward (nextList (tree table) (listHeld w))) w (record { answer = a; walk = w })
     answers-none q a e =
-        subst (λ (o : Option (List ℕ)). Answers (onward o) w (record { answer = a; walk = w })) (sym (step-none (tree table) (listOf w) false (lent run₀) _ (b .ended) k q))
+        subst (λ (o : Option (List ℕ)). Answers (onward o) w (record { answer = a; walk = w })) (sym (step-none (tree table) (listHeld w) false (lent run₀) _ (b .ended) k q))
         (record { answer = e; walk = refl; sized = b .runnable .sized })
 
     pub answers-next : more ≡ true → (o : Outcome) (d : Choices) (t : List ℕ) → Arrived table (lent run₁) o d t → (v : Held) → v .entries ≡ d .entries → v .len ≡ d .len → (a : ℕ) → a ≡ pack 0 0 0
-        → Answers (onward (nextList (tree table) (listOf w))) w (record { answer = a; walk = v })
+        → Answers (onward (nextList (tree table) (listHeld w))) w (record { answer = a; walk = v })
     answers-next q o d t h v e n a z =
-        let f = came-next (tree table) (listOf w) false (sure-tree table .full) (b .complete) (b .ended) k q (h .came) in
+        let f = came-next (tree table) (listHeld w) false (sure-tree table .full) (b .complete) (b .ended) k q (h .came) in
         let hold = came-holds (tree table) (f .0) true (h .came) (f .3) in
         subst (λ (x : Option (List ℕ)). Answers (onward x) w (record { answer = a; walk = v })) (sym (f .1))
         (record { answer = z; walk = walk-over w (f .0) v (b .runnable) (e ∙ hold .entries) (n ∙ hold .len); sized = ap length e ∙ h .came .sound .entries-sized })

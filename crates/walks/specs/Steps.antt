@@ -10,7 +10,7 @@ use Rattle.choices.specs.declared.list.Walk.{Walk as Held}
 use Rattle.choices.specs.Tree.{Final, result, refuses, mostChoices}
 use Rattle.choices.specs.Lists.{Complete}
 use Rattle.choices.specs.Paths.{nextList}
-use Rattle.choices.specs.Listing.{Runnable, listOf}
+use Rattle.choices.specs.Listing.{Runnable, listHeld}
 use Rattle.choices.proofs.Ran.{atEnd}
 use Rattle.lists.specs.Lent.{lent}
 use Rattle.values.specs.Value.{Value}
@@ -87,9 +87,9 @@ pub record Answers (due : Final (List ℕ)) (w : Held) (r : Stepped) : Type 0 wh
 -- The run of a walk's list has ended, and the list is complete.
 pub record AtEnd (table : List ℕ) (w : Held) (run : List ℕ) : Type 0 where
   pub runnable : Runnable w
-  pub complete : Complete (tree table) (listOf w)
+  pub complete : Complete (tree table) (listHeld w)
   pub sound : Invariant (lent run)
-  pub ended : view (lent run) ≡ atEnd (tree table) (listOf w) false
+  pub ended : view (lent run) ≡ atEnd (tree table) (listHeld w) false
 
 -- What a step by a walk asks, and what it answers.
 pub record Steppable (table s : List ℕ) (w : Held) : Type 0 where
@@ -97,4 +97,4 @@ pub record Steppable (table s : List ℕ) (w : Held) : Type 0 where
   pub runnable : Runnable w
 
 abbrev pub Steps : List ℕ → Held → Stepped → Type 0
-Steps table w r = Answers (steppedFrom (runs table (listOf w)) (onward (nextList (tree table) (listOf w)))) w r
+Steps table w r = Answers (steppedFrom (runs table (listHeld w)) (onward (nextList (tree table) (listHeld w)))) w r

@@ -25,7 +25,7 @@ use Rattle.patterns.specs.Laws.Forming.{single-formed}
 use Rattle.meaning.specs.Node.{Node, Quantifier, forall, exists, exists1, truth, whole, named, unaryOf, binaryOf, connective, if, enumeration, range, let-in, let-be, quantified, iota, set-comprehension, sequence-comprehension, map-comprehension, application, no-expression}
 use Rattle.meaning.specs.State.{State, under, valueIn}
 use Rattle.meaning.specs.Meaning as tree
-use Rattle.meaning.specs.Sheet.{Sheet, nameOf, enumerated}
+use Rattle.meaning.specs.Sheet.{Sheet, enumerated, patternName}
 use Rattle.meaning.specs.Loose as loose
 use Rattle.meaning.specs.Loose.{Outcomes, _then_, gives, refuses, underEach, looseOf}
 use Rattle.meaning.specs.Laws.Clauses.{chosenFrom, clauses-of-13}
@@ -115,7 +115,7 @@ same-satisfied r (b ∷ bs) f F h = same-chosen r (b ∷ bs) f F h
 
 same-unique : (r : ℕ) (p : Pattern) (bs : List Binding) → Same (tree.unique r p bs) (loose.unique r p bs)
 same-unique r p [] = same-stop 25 r
-same-unique r p (b ∷ []) = same-else 25 r (valueIn b (nameOf p))
+same-unique r p (b ∷ []) = same-else 25 r (valueIn b (patternName p))
 same-unique r p (b ∷ c ∷ bs) = same-stop 25 r
 
 -- ---- records, over records that agree

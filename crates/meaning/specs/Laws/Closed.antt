@@ -27,7 +27,7 @@ use Rattle.patterns.specs.Laws.Matched.{bindings-exactly}
 use Rattle.patterns.specs.Laws.Forming.{formed-bound}
 use Rattle.meaning.specs.Node.{Node, Quantifier, forall, exists, exists1, truth, whole, named, unaryOf, binaryOf, connective, if, enumeration, range, let-in, let-be, quantified, iota, set-comprehension, sequence-comprehension, map-comprehension, application, no-expression}
 use Rattle.meaning.specs.State.{State, under, valueIn}
-use Rattle.meaning.specs.Meaning.{Evaluates, at, builtAt, orElse, allOf, bothOf, rightOf, isTrue, enumerated, formedAt, membersAt, bindingsOf, holds, satisfying, chosen, matched, satisfied, untilFalse, untilTrue, quantify, nameOf, unique, collected, addOne, addPair, integersAt, integerBindings, comprehension, means}
+use Rattle.meaning.specs.Meaning.{Evaluates, at, builtAt, orElse, allOf, bothOf, rightOf, isTrue, enumerated, formedAt, membersAt, bindingsOf, holds, satisfying, chosen, matched, satisfied, untilFalse, untilTrue, quantify, unique, collected, addOne, addPair, integersAt, integerBindings, comprehension, means, patternName}
 use Rattle.meaning.specs.Laws.Equation.{plain, covered, Each}
 use Rattle.meaning.specs.Laws.Proper.{binderOf}
 use Rattle.meaning.specs.Laws.Agreement.{at-in}
@@ -36,7 +36,7 @@ use Rattle.meaning.specs.Laws.Only.{Only, only-give, only-stop, only-bin
 
 -- ---- the bindings of a binder
 
-abbrev pub Few : List Binding → Type 0
+abbrev Few : List Binding → Type 0
 Few bs = length bs ≤ mostBindings
 
 -- The binding matches some value.
@@ -187,7 +187,7 @@ module _ (Q : (A : Type 0) → Tree A → Type 0) (May : Type 0) (r : ℕ) (clos
 
   unique-closed : (p : Pattern) (bs : List Binding) → Q Value (unique r p bs)
   unique-closed p [] = closed .of-stop Value 25 unique-number
-  unique-closed p (b ∷ []) = else-closed 25 (valueIn b (nameOf p)) unique-number
+  unique-closed p (b ∷ []) = else-closed 25 (valueIn b (patternName p)) unique-number
   unique-closed p (b ∷ c ∷ bs) = closed .of-stop Value 25 unique-number
 
   until-false-closed : (test : Binding → Tree Bool) (bs : List Binding) → ((b : Binding) → In b bs → Q Bool (test b)) → Q Bool (untilFalse test bs)

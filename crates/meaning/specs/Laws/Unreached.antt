@@ -16,14 +16,14 @@ use Rattle.tables.specs.Check.{check}
 use Rattle.tables.specs.Accepted.{records}
 use Rattle.tables.specs.Laws.Accepted.{accepted-fine, fit-known}
 use Rattle.meaning.specs.State.{unbound, valueIn}
-use Rattle.meaning.specs.Sheet.{nameOf}
-use Rattle.meaning.specs.Kinds.{kindOf, nameIn}
+use Rattle.meaning.specs.Sheet.{patternName}
+use Rattle.meaning.specs.Kinds.{nameIn, kindIn}
 use Rattle.meaning.specs.Laws.Reads.{refuses-at}
 use Rattle.meaning.specs.Laws.Binders.{in-table, named-pattern, named-low, bindings-in, cell-only}
 use Rattle.meaning.specs.Unreached.{Unreached}
 
 module _ (table : List ℕ) (n : ℕ) (ok : check table ≡ Accepted n) where
-  known : (r k : ℕ) → kindOf table r ≡ k → 0 < k → isKnown (shape k .head) (recordAt (records table) r) ≡ true
+  known : (r k : ℕ) → kindIn table r ≡ k → 0 < k → isKnown (shape k .head) (recordAt (records table) r) ≡ true
   known r k e h =
       let q = recordAt (records table) r in
       subst (λ (m : ℕ). isKnown (shape m .head) q ≡ true) e (fit-known q (accepted-fine table n ok .0 .fit r (in-table table r k e h)))
@@ -45,6 +45,6 @@ module _ (table : List ℕ) (n : ℕ) (ok : check table ≡ Accepted n) where
         iota-valued = λ r e vs bs f β i.
             let x = nameIn table r in
             let (m, j, d) = bindings-in table n ok r unbound x (named-pattern table n ok r unbound e) (named-low table n ok r unbound e) vs bs f β i in
-            (m, ap (λ (p : Pattern). valueIn β (nameOf p)) (named-pattern table n ok r unbound e) ∙ ap (λ (b : Binding). valueIn b x) d ∙ cell-only table n ok r unbound x m (named-low table n ok r unbound e));
+            (m, ap (λ (p : Pattern). valueIn β (patternName p)) (named-pattern table n ok r unbound e) ∙ ap (λ (b : Binding). valueIn b x) d ∙ cell-only table n ok r unbound x m (named-low table n ok r unbound e));
         refused-there = λ m p g. refuses-at table n ok m p g;
       }

@@ -34,12 +34,12 @@ use Rattle.tables.specs.declared.Checked.the-variants.{Accepted, Refused}
 use Rattle.tables.specs.Check.{check}
 use Rattle.meaning.specs.Node.{Node, truth, whole, named, unaryOf, binaryOf, connective, if, enumeration, range, let-in, let-be, quantified, iota, set-comprehension, sequence-comprehension, map-comprehension, application, no-expression}
 use Rattle.meaning.specs.State.{State, unbound, over, under, held, valueIn}
-use Rattle.meaning.specs.Meaning.{Evaluates, at, builtAt, orElse, allOf, bothOf, rightOf, isTrue, enumerated, formedAt, membersAt, bindingsOf, holds, satisfying, chosen, matched, satisfied, quantify, nameOf, unique, collected, addOne, addPair, integersAt, integerBindings, comprehension, means, Sheet, meaningTo, meaning}
+use Rattle.meaning.specs.Meaning.{Evaluates, at, builtAt, orElse, allOf, bothOf, rightOf, isTrue, enumerated, formedAt, membersAt, bindingsOf, holds, satisfying, chosen, matched, satisfied, quantify, unique, collected, addOne, addPair, integersAt, integerBindings, comprehension, means, Sheet, meaningTo, meaning, patternName}
 use Rattle.meaning.specs.Read.{sheet}
 use Rattle.meaning.specs.Service.{scratchBytes, last, tree, unless, accepted, evaluates}
 use Rattle.meaning.specs.Laws.Agreement.{at-in}
 use Rattle.meaning.specs.Laws.Only.{Only, only-give, only-stop, only-bind, Any, only-any, only-cond, only-else}
-use Rattle.meaning.specs.Laws.Proper.{Numbered, Literal, proper}
+use Rattle.meaning.specs.Laws.Proper.{Literal, proper, WellNumbered}
 
 -- ---- answers
 
@@ -143,7 +143,7 @@ only-satisfied r (b ∷ bs) f h k = only-chosen WellFormed r (b ∷ bs) f h k
 
 only-unique : (r : ℕ) (p : Pattern) (bs : List Binding) → AllFine bs → Only WellFormed (unique r p bs)
 only-unique r p [] h = only-stop _ 25 r
-only-unique r p (b ∷ []) h = only-else WellFormed 25 r (valueIn b (nameOf p)) (λ v e. fine-value b (nameOf p) v (h b (inl refl)) e)
+only-unique r p (b ∷ []) h = only-else WellFormed 25 r (valueIn b (patternName p)) (λ v e. fine-value b (patternName p) v (h b (inl refl)) e)
 only-unique r p (b ∷ c ∷ bs) h = only-stop _ 25 r
 
 -- ---- enumerations
@@ -164,7 +164,7 @@ paired-from false none h = absurd (omega arith)
 paired-from true (more k vs) h = paired-from false vs (omega arith)
 paired-from false (more v vs) h = paired-from true vs (omega arith)
 
-enumerated-fine : (k : Kind) (n : ℕ) → Numbered k n → (vs : Items) → Items-of n vs → FineAnswer (enumerated k vs)
+enumerated-fine : (k : Kind) (n : ℕ) → WellNumbered k n → (vs : Items) → Items-of n vs → FineAnswer (enumerated k vs)
 enumerated-fine set n h vs (s, c) = setOf-fine vs s
 enumerated-fine sequence n h vs (s, c) = sequenceOf-fine vs s
 enumerated-fine map n h vs (s, c) = mapOf-fine vs (paired-from true vs (ap (λ m. m % 2) c ∙ h)) s

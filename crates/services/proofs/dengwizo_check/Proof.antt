@@ -3,7 +3,7 @@ use mathlib.Core.Path.{sym, ap, subst, _∙_}
 use Rattle.choices.specs.Tree.{result}
 use Rattle.meaning.specs.Service.{accepted}
 use Rattle.tables.specs.declared.Checked.{Checked}
-use Rattle.meaning.specs.Answer.{packed, records}
+use Rattle.meaning.specs.Answer.{packed, recordCount}
 use Rattle.meaning.specs.Laws.ReadBack.{Small, small-check}
 use Rattle.services.proofs.Packing.{short-call, enough-call}
 use borrow.Author.Needs.{needs}
@@ -37,7 +37,7 @@ same-length c = search needs
 returns-2 : tie.Need-returns-2
 returns-2 c =
     enough-call (c .before .before .before .before .before .before .before .before .before .args .table .now) (c .before .before .before .before .before .before .before .before .before .args .scratch .now) (c .answer .result) _ (c .before .before .before .before .before .before .if1 .left)
-    (c .answer .ensures ∙ ap (λ (x : Checked). packed records (accepted x (λ n. result n))) (c .before .check .ensures)) (c .before .before .before .before .clear .ensures)
+    (c .answer .ensures ∙ ap (λ (x : Checked). packed recordCount (accepted x (λ n. result n))) (c .before .check .ensures)) (c .before .before .before .before .clear .ensures)
 
 pub dengwizo-check-spec : {M : Type 1} → statement M
 dengwizo-check-spec =
