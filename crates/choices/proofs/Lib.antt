@@ -1,5 +1,6 @@
--- Laws of trees, lists and runs, which crates above cite, and what the proofs of the functions need.
+-- Laws of trees, lists and runs. Cited by meaning, lists, the evaluator and walks.
 pub mod Order
+pub mod Leaves
 pub mod Trees
 pub mod Paths
 pub mod Steps

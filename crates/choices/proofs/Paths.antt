@@ -14,7 +14,8 @@ use Rattle.prelude.proofs.Membership.{in-left, in-right, in-joined}
 use Rattle.prelude.specs.Membership.{In}
 use Rattle.choices.specs.Tree.{Tree, give, stop, choose, Full, Outcome, Gives}
 use Rattle.choices.specs.Lists.{AscendingLists}
-use Rattle.choices.specs.Paths.{Leaf, Prefix, outcomeAt, counts, prefixed, fan, paths, extend, consOr, raise}
+use Rattle.choices.specs.Paths.{counts, prefixed, fan, paths, extend, consOr, raise}
+use Rattle.choices.proofs.Leaves.{Leaf, Prefix, outcomeAt}
 use Rattle.choices.proofs.Order.{asc-append}
 
 -- ---- paths and leaves

@@ -14,7 +14,8 @@ use Rattle.choices.specs.declared.Answer.{Answer}
 use Rattle.choices.specs.declared.Answer.the-variants.{Taken, Many, Short, Beyond}
 use Rattle.choices.specs.Tree.{Tree, give, stop, choose, bind, mostChoices, Full, Numbered, Run, gave, stopped, short, beyond, follow, run, Outcome, value, refusal, refuses, unlessLeft, final}
 use Rattle.choices.specs.Lists.{Ended, Complete, outcomeOf}
-use Rattle.choices.specs.Paths.{Leaf, Prefix, outcomeAt, counts, extend, AtMost, cutAfter}
+use Rattle.choices.specs.Paths.{counts, extend, cutAfter}
+use Rattle.choices.proofs.Leaves.{Leaf, Prefix, outcomeAt, AtMost}
 use Rattle.choices.specs.Runs.{Ran, ran, refused, onAnswer, runOn, settle}
 use Rattle.choices.proofs.Ran.{stateOf, further, ranAs, trail, atEnd}
 use Rattle.choices.proofs.Paths.{prefix-nil, extend-leaf, outcome-extend}

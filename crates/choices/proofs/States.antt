@@ -6,7 +6,8 @@ use Prim.Native.Nat.{ℕ, suc, _+_, _-_, _≤_, _<_}
 use native.Mathlib.Omega.{arith}
 use lib.ListN.{length, take, drop, getD, length-take, length-drop, drop-of-length-le, take-append-drop, replicate, length-replicate, getD-replicate}
 use lib.Seq.{drop-cons, getD-take, getD-drop, length-take-le, take-take, ext-getD}
-use Rattle.choices.specs.State.{Choices, View, view, Invariant, padded}
+use Rattle.choices.specs.State.{Choices, View, view, Invariant}
+use Rattle.choices.specs.Lists.{padded}
 use Rattle.choices.specs.Tree.{Tree, mostChoices, Final, refuses, unlessLeft}
 use Rattle.choices.proofs.Ran.{atEnd}
 

@@ -3,8 +3,8 @@ use mathlib.Core.Path.{_≡_}
 use mathlib.Core.Bool.{Bool, true, false, cond}
 use mathlib.Core.Option.{Option, none, some}
 use mathlib.Core.List.{List, [], _∷_, _++_}
-use Prim.Native.Nat.{ℕ, _+_, _-_, _≤_}
-use lib.ListN.{length, take, drop, getD, set, replicate}
+use Prim.Native.Nat.{ℕ, _+_, _≤_}
+use lib.ListN.{length, take, drop, getD, set}
 use lib.Dec.{ltb, leb}
 use Rattle.choices.specs.declared.Answer.{Answer}
 use Rattle.choices.specs.declared.Answer.the-variants.{Taken, Many, Short, Beyond}
@@ -37,10 +37,6 @@ pub record Invariant (c : Choices) : Type 0 where
   pub entries-sized : length (c .entries) ≡ mostChoices
   pub counts-sized : length (c .counts) ≡ mostChoices
   pub zeroed : (k : ℕ) → c .len ≤ k → getD (c .entries) k 0 ≡ 0
-
--- The list, and zeros after its end.
-abbrev pub padded : List ℕ → List ℕ
-padded l = l ++ replicate (mostChoices - length l) 0
 
 -- The state before a run under l.
 abbrev pub fresh : List ℕ → Bool → View

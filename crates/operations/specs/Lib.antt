@@ -1,2 +1,2 @@
--- The numbers of the strict operators; `trials` and the evaluator cite them.
+-- The numbers of the strict operators. Cited by the evaluator.
 pub mod Numbers

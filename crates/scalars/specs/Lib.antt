@@ -1,2 +1,2 @@
--- What testing the left of and, or and => promises; `trials` and the evaluator cite it.
+-- What testing the left of and, or and => promises. Cited by the evaluator.
 pub mod Connectives

@@ -10,7 +10,7 @@ use Rattle.prelude.proofs.Absurd.{impossible}
 use Rattle.choices.specs.declared.list.Walk.{Walk as Held}
 use Rattle.choices.specs.Tree.{Final, result, refuses, mostChoices}
 use Rattle.choices.specs.Paths.{firstList, nextList}
-use Rattle.choices.specs.State.{padded}
+use Rattle.choices.specs.Lists.{padded}
 use Rattle.choices.specs.Listing.{Lists, Runnable, listHeld}
 use Rattle.values.specs.declared.Value.{Value as Copy}
 use Rattle.values.specs.Value.{Value, encode, size, valueLimit as largest}

@@ -7,10 +7,10 @@ use Prim.Native.Nat.{ℕ, _<_, _≤_}
 use native.Mathlib.Omega.{arith}
 use lib.ListN.{length, take, drop, drop-of-length-le, replicate, length-replicate}
 use borrow.Author.Tests.{ltb-true}
-use Rattle.choices.specs.State.{Choices, view, Invariant, Made, Moved, padded}
+use Rattle.choices.specs.State.{Choices, view, Invariant, Made, Moved}
+use Rattle.choices.specs.Lists.{padded, Complete}
 use Rattle.choices.specs.declared.list.Walk.{Walk as Held}
 use Rattle.choices.specs.Tree.{Final, result, refuses, mostChoices}
-use Rattle.choices.specs.Lists.{Complete}
 use Rattle.choices.specs.Paths.{firstList, nextList}
 use Rattle.choices.specs.Listing.{Lists, Runnable, listHeld}
 use Rattle.choices.proofs.Ran.{atEnd}

@@ -11,7 +11,8 @@ use borrow.Author.Tests.{ltb-true, ne-eqb}
 use Rattle.prelude.proofs.Absurd.{impossible}
 use Rattle.prelude.proofs.Truth.{or-false-both}
 use Rattle.choices.specs.Tree.{Tree, give, stop, choose, Numbered, stopped, beyond, follow, run, mostChoices, refuses, final, Outcome, value, refusal, Gives}
-use Rattle.choices.specs.Lists.{Complete, outcomeOf, NoMany as NoManyAtAll}
+use Rattle.choices.specs.Lists.{Complete, outcomeOf}
+use Rattle.choices.proofs.Leaves.{NoMany as NoManyAtAll}
 use Rattle.choices.proofs.Cut.{complete-length}
 use Rattle.choices.proofs.Trees.{numbered-gives}
 use Rattle.choices.proofs.Walk.{finalOf, complete-final}

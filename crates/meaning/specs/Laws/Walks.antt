@@ -7,7 +7,7 @@ use native.Mathlib.Omega.{arith}
 use lib.ListN.{length, take, drop, replicate, length-append, length-take, length-replicate, take-append-drop}
 use lib.Seq.{take-at, drop-at, take-take, take-append-seam, drop-append-le, take-add}
 use Rattle.choices.specs.Tree.{mostChoices}
-use Rattle.choices.specs.State.{padded}
+use Rattle.choices.specs.Lists.{padded}
 use Rattle.meaning.specs.Walk.{Walk, listed, overwritten, Shows}
 use Rattle.meaning.specs.Calls.{Part, returned, lentWalk}
 
