@@ -59,13 +59,13 @@ answerLeft (c ∷ l) g n = cond (ltb c n) (Taken c) Beyond
 abbrev pub answerOf : View → ℕ → Answer
 answerOf v n = cond (leb mostChoices (length (v .past))) Many (answerLeft (v .left) (v .grow) n)
 
-abbrev pub tailOf : List ℕ → List ℕ
-tailOf [] = []
-tailOf (c ∷ l) = l
+abbrev pub afterFirst : List ℕ → List ℕ
+afterFirst [] = []
+afterFirst (c ∷ l) = l
 
 -- The state after an answer to a choice among n ways.
 abbrev pub afterwards : View → ℕ → Answer → View
-afterwards v n (Taken c) = record { past = v .past ++ c ∷ []; met = v .met ++ n ∷ []; left = tailOf (v .left); grow = v .grow }
+afterwards v n (Taken c) = record { past = v .past ++ c ∷ []; met = v .met ++ n ∷ []; left = afterFirst (v .left); grow = v .grow }
 afterwards v n Many = v
 afterwards v n Short = v
 afterwards v n Beyond = v

@@ -25,11 +25,11 @@ long-over : (b : Bool) → TooLong ≡ cond b Put TooLong → b ≡ false
 long-over true e = cc
 long-over false e = refl
 
-pub fits : {n : ℕ} {r : Added} → r ≡ added n → r ≡ Put → n ≤ valueLimit
-fits {n} e d = leb-true n valueLimit (put-fits (leb n valueLimit) (sym d ∙ e))
+pub put-within : {n : ℕ} {r : Added} → r ≡ added n → r ≡ Put → n ≤ valueLimit
+put-within {n} e d = leb-true n valueLimit (put-fits (leb n valueLimit) (sym d ∙ e))
 
-pub over : {n : ℕ} {r : Added} → r ≡ added n → r ≡ TooLong → valueLimit < n
-over {n} e d = leb-false n valueLimit (long-over (leb n valueLimit) (sym d ∙ e))
+pub long-past : {n : ℕ} {r : Added} → r ≡ added n → r ≡ TooLong → valueLimit < n
+long-past {n} e d = leb-false n valueLimit (long-over (leb n valueLimit) (sym d ∙ e))
 
 -- ---- what stands elsewhere stays
 

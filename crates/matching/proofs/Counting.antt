@@ -19,7 +19,7 @@ use Rattle.parts.specs.Mask.{Full}
 use Rattle.parts.proofs.Laws.{part-well-formed}
 use Rattle.parts.specs.Chosen.{splits-length, cuts-length}
 use Rattle.patterns.specs.Ways.{splits, cuts, orders}
-use Rattle.patterns.specs.Pattern.{listOf, itemsOf, contents, tooLarge}
+use Rattle.patterns.specs.Pattern.{listOf, itemsOf, contents, isTooLarge}
 use Rattle.patterns.specs.Laws.Matched.{items-list, list-items}
 use Rattle.patterns.specs.Laws.Plain.{count-list}
 use Rattle.patterns.specs.Nodes.{collectionOf, isHalved, meetings, isLarge, bothHalves}
@@ -73,7 +73,7 @@ module _ (c n : ℕ) (v : Value) where
   pub none-meets : 36 ≤ c → c ≤ 40 → contents (collectionOf c) v ≡ absent → MeetsAs c n v Unfit
   none-meets low high e = go (isHalved c) refl
     where
-      large : (k : Kind) → contents k v ≡ absent → tooLarge k (contents k v) ≡ false
+      large : (k : Kind) → contents k v ≡ absent → isTooLarge k (contents k v) ≡ false
       large set f = rw f
       large sequence f = rw f
       large mapping f = rw f

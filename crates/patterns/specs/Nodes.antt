@@ -5,7 +5,7 @@ use Prim.Native.Nat.{ℕ}
 use lib.Dec.{eqb, ltb}
 use Rattle.values.specs.Value.{Kind, set, sequence, tuple, Value}
 use Rattle.patterns.specs.Ways.{Halves}
-use Rattle.patterns.specs.Pattern.{contents, met, split, leftOf, rightOf, tooLarge}
+use Rattle.patterns.specs.Pattern.{contents, met, split, leftOf, rightOf, isTooLarge}
 
 -- The kind of the value that has such parts: 36 a tuple, 37 and 38 a set, 39 and 40 a sequence.
 abbrev pub collectionOf : ℕ → Kind
@@ -25,4 +25,4 @@ meetings c n v = cond (isHalved c) (map (bothHalves (collectionOf c)) (split (co
 
 -- The set is too large to split.
 abbrev pub isLarge : ℕ → Value → Bool
-isLarge c v = cond (isHalved c) (tooLarge (collectionOf c) (contents (collectionOf c) v)) false
+isLarge c v = cond (isHalved c) (isTooLarge (collectionOf c) (contents (collectionOf c) v)) false

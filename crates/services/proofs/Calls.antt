@@ -30,7 +30,7 @@ use Rattle.meaning.specs.Laws.Services.{evaluates-1, evaluates-2, evaluates-ref
 use Rattle.walks.specs.declared.Stepped.{Stepped}
 use Rattle.evaluator.specs.declared.Outcome.{Outcome}
 use Rattle.evaluator.specs.declared.Outcome.the-variants.{Value as HasValue, Refused}
-use Rattle.walks.specs.Steps.{Ready, outcomeOf, Small, packedOf, Ran, Answers, lentOf, Steppable, Steps}
+use Rattle.walks.specs.Steps.{Ready, Small, packedOf, Ran, Answers, lentOf, Steppable, Steps, outcomeAs}
 use Rattle.walks.proofs.Settling.{small-final}
 use Rattle.services.specs.Left.{Accepts, Loaded, walkOf, stored, Left, Evaluated, Valued, Handed}
 
@@ -68,11 +68,11 @@ no-value n p k v e = impossible cc
 
 module _ (due : Final Value) (s : List ℕ) where
   pub evaluated-off : (n p k : ℕ) → due ≡ refuses n p k → Evaluated due s s (Refused n p k)
-  evaluated-off n p k e = record { outcome = sym (ap outcomeOf e); value = λ v q. absurd (no-value n p k v (sym e ∙ q)); beyond = refl }
+  evaluated-off n p k e = record { outcome = sym (ap outcomeAs e); value = λ v q. absurd (no-value n p k v (sym e ∙ q)); beyond = refl }
 
   pub evaluated-ran : (table l t : List ℕ) (o : Outcome) → due ≡ runs table l → length t ≡ scratchBytes → Ran table l t o → Evaluated due s (t ++ drop scratchBytes s) o
   evaluated-ran table l t o e long r =
-      record { outcome = r .outcome ∙ sym (ap outcomeOf e); value = λ v q. value-kept s t long v (r .value v (sym e ∙ q)); beyond = rest-kept s t long }
+      record { outcome = r .outcome ∙ sym (ap outcomeAs e); value = λ v q. value-kept s t long v (r .value v (sym e ∙ q)); beyond = rest-kept s t long }
 
 pub valued : (due : Final Value) (s t : List ℕ) (o : Outcome) → Evaluated due s t o → Valued o t
 valued (result v) s t o e = subst (λ x. Valued x t) (sym (e .outcome)) (holds (e .value v refl))
@@ -88,7 +88,7 @@ shown (result v) s t o c e h =
     (subst (λ x. Handed x t c) (e .outcome) h v (e .value v refl), omega (arith, encode-length v, e .value v refl .fine .short))
 shown (refuses n p k) s t o c e h = (subst (λ x. Handed x t c) (e .outcome) h, omega arith)
 
-packed-outcome : (due : Final Value) → packedOf (outcomeOf due) ≡ packed uncounted due
+packed-outcome : (due : Final Value) → packedOf (outcomeAs due) ≡ packed uncounted due
 packed-outcome (result v) = refl
 packed-outcome (refuses n p k) = refl
 

@@ -12,19 +12,19 @@ use Rattle.tables.specs.Check.{check}
 use Rattle.meaning.specs.Answer.{pack, packed, recordCount}
 use Rattle.meaning.specs.Service.{scratchBytes, unless, accepted, checks}
 use Rattle.meaning.specs.Lent.{zeroed, afterCheck, checkCall}
-use Rattle.meaning.specs.Laws.ReadBack.{Small, check-late}
+use Rattle.meaning.specs.Laws.ReadBack.{check-late, SmallCheck}
 
 module _ (checked : Checked) where
   module _ (n : ℕ) (e : checked ≡ Accepted n) where
-    pub accepted-few : Small checked → n ≤ 200
-    accepted-few s = subst Small e s
+    pub accepted-few : SmallCheck checked → n ≤ 200
+    accepted-few s = subst SmallCheck e s
 
     pub accepted-packed : pack 0 0 n ≡ packed recordCount (accepted checked (λ k. result k))
     accepted-packed = ap (λ (x : Checked). packed recordCount (accepted x (λ k. result k))) (sym e)
 
   module _ (n r : ℕ) (e : checked ≡ Refused n r) where
-    pub refused-low : Small checked → (3 ≤ n) × (n ≤ 9) × (r < 600)
-    refused-low s = subst Small e s
+    pub refused-low : SmallCheck checked → (3 ≤ n) × (n ≤ 9) × (r < 600)
+    refused-low s = subst SmallCheck e s
 
     pub refused-packed : pack n r 0 ≡ packed recordCount (accepted checked (λ k. result k))
     refused-packed = ap (λ (x : Checked). packed recordCount (accepted x (λ k. result k))) (sym e)

@@ -8,7 +8,7 @@ ghost use Rattle.values.specs.Value.{valueLimit as largest};
 ghost use Rattle.meaning.specs.Answer.{packed, recordCount};
 ghost use Rattle.meaning.specs.Service.{scratchBytes, accepted, evaluates, firsts, steps};
 ghost use Rattle.meaning.specs.Lent.{zeroed, checkCall, evaluateCall, firstCall, stepCall};
-ghost use Rattle.meaning.specs.Laws.ReadBack.{Small};
+ghost use Rattle.meaning.specs.Laws.ReadBack.{SmallCheck};
 ghost use Rattle.services.specs.Left.{Accepts, Loaded, walkOf, stored, Evaluated, Valued, Handed, Left};
 use checking::check;
 use choices::list::Walk;
@@ -80,7 +80,7 @@ fn store(walk: Walk, entries: &mut [u8], len: &mut usize)
 
 // The answer of the check of a table.
 fn answer(checked: Checked) -> u64
-    requires { ⌜ Small checked ⌝ }
+    requires { ⌜ SmallCheck checked ⌝ }
     ensures { λ a. ⌜ a ≡ packed recordCount (accepted checked (λ n. result n)) ⌝ }
 {
     match checked {

@@ -34,7 +34,7 @@ use Rattle.meaning.specs.Service.{tree, last, runs, onward, steppedFrom}
 use Rattle.walks.specs.declared.Stepped.{Stepped}
 use Rattle.evaluator.specs.declared.Outcome.{Outcome}
 use Rattle.evaluator.specs.Sheet.{Runnable as Asked}
-use Rattle.walks.specs.Steps.{Ready, outcomeOf, packedOf, isWhole, Ran, lentOf, Answers, AtEnd, Steps}
+use Rattle.walks.specs.Steps.{Ready, packedOf, isWhole, Ran, lentOf, Answers, AtEnd, Steps, outcomeAs}
 use Rattle.walks.proofs.Settling.{sure-tree, Arrived}
 
 -- ---- the index
@@ -43,18 +43,18 @@ module _ (table s : List ℕ) (y : Ready table s) where
   pub cut-asked : (length table ≤ mostBytes) × (length {A = ℕ} (replicate 200 0) ≡ mostRecords)
   cut-asked = (accepted-short table (y .count) (y .ok), length-replicate {A = ℕ} 200 0)
 
-  pub some-record : 0 < length (records table)
-  some-record = accepted-fine table (y .count) (y .ok) .0 .some-record
+  pub has-record : 0 < length (records table)
+  has-record = accepted-fine table (y .count) (y .ok) .0 .some-record
 
   module _ (index : List ℕ) (c : Cutting) (out : CutOut table index c) where
-    pub indexed : Indexed table index
-    indexed = cut-accepted table index c (y .count) out (y .ok)
+    pub is-indexed : Indexed table index
+    is-indexed = cut-accepted table index c (y .count) out (y .ok)
 
-    pub counted : check table ≡ Accepted (c .count)
-    counted = y .ok ∙ ap Accepted (accepted-fine table (y .count) (y .ok) .1 ∙ sym (out .count))
+    pub is-counted : check table ≡ Accepted (c .count)
+    is-counted = y .ok ∙ ap Accepted (accepted-fine table (y .count) (y .ok) .1 ∙ sym (out .count))
 
     pub asked : (n : ℕ) → n ≡ c .count → (d : Choices) → Invariant d → Asked table index n s d
-    asked n e d k = record { accepted = counted ∙ ap Accepted (sym e); indexed = indexed; room = y .room; sound = k }
+    asked n e d k = record { accepted = is-counted ∙ ap Accepted (sym e); indexed = is-indexed; room = y .room; sound = k }
 
 -- ---- the first list
 
@@ -79,7 +79,7 @@ module _ (table : List ℕ) (c : Choices) (o : Outcome) (d : Choices) (t : List 
       let v = came-complete (tree table) (a .came) (listHeld w) m full in
       (v, came-holds (tree table) (listHeld w) false (a .came) v .used)
 
-whole-of : (f : Final Value) → isWhole (outcomeOf f) ≡ true → Settles f
+whole-of : (f : Final Value) → isWhole (outcomeAs f) ≡ true → Settles f
 whole-of (result v) e = tt
 whole-of (refuses n p k) e = ltb-true n 32 e
 
@@ -91,14 +91,14 @@ module _ (table l t : List ℕ) (o : Outcome) (r : Ran table l t o) where
 
 -- ---- answers
 
-not-whole : (f : Final Value) (next : Final (List ℕ)) (w : Held) → Runnable w → isWhole (outcomeOf f) ≡ false → Answers (steppedFrom f next) w (record { answer = packedOf (outcomeOf f); walk = w })
+not-whole : (f : Final Value) (next : Final (List ℕ)) (w : Held) → Runnable w → isWhole (outcomeAs f) ≡ false → Answers (steppedFrom f next) w (record { answer = packedOf (outcomeAs f); walk = w })
 not-whole (result v) next w y e = let z : _≡_ {A = ℕ} 0 1 = absurd-bool e in absurd (omega arith)
   where
     absurd-bool : true ≡ false → _≡_ {A = ℕ} 0 1
     absurd-bool q = cc
 not-whole (refuses n p k) next w y e = subst (λ x. Answers x w (record { answer = pack n p k; walk = w })) (sym (ap (λ b. cond b next (refuses n p k)) e)) (record { answer = refl; walk = refl; sized = y .sized })
 
-whole-on : (f : Final Value) (next : Final (List ℕ)) → isWhole (outcomeOf f) ≡ true → steppedFrom f next ≡ next
+whole-on : (f : Final Value) (next : Final (List ℕ)) → isWhole (outcomeAs f) ≡ true → steppedFrom f next ≡ next
 whole-on (result v) next e = refl
 whole-on (refuses n p k) next e = ap (λ b. cond b next (refuses n p k)) e
 

@@ -40,9 +40,9 @@ pub record Indexes (table index : List ℕ) (count : ℕ) (s : List ℕ) : Type 
 
 -- ---- outcomes: the code's word for what a run answers
 
-abbrev pub outcomeOf : {A : Type 0} → Final A → Outcome
-outcomeOf (result a) = HasValue
-outcomeOf (refuses n p k) = Refused n p k
+abbrev pub outcomeAs : {A : Type 0} → Final A → Outcome
+outcomeAs (result a) = HasValue
+outcomeAs (refuses n p k) = Refused n p k
 
 abbrev pub Small : Outcome → Type 0
 Small HasValue = Unit {0}
@@ -69,7 +69,7 @@ settled o d last = cond (ltb (d .used) (d .len)) (leftOver o last) o
 
 -- What it answers; and the value, at the start of the scratch.
 pub record Ran (table l s : List ℕ) (o : Outcome) : Type 0 where
-  pub outcome : o ≡ outcomeOf (runs table l)
+  pub outcome : o ≡ outcomeAs (runs table l)
   pub value : (v : Value) → runs table l ≡ result v → At s 0 v
 
 -- ---- from one list to the next

@@ -9,6 +9,7 @@ use native.Mathlib.Omega.{arith}
 use lib.Dec.{eqb}
 use lib.ListN.{length, getD}
 use Rattle.prelude.specs.Membership.{In}
+use Rattle.prelude.proofs.Membership.{at-in}
 use Rattle.choices.specs.Tree.{Tree, give, stop, bind, Outcome, value, refusal, Gives}
 use Rattle.choices.proofs.Trees.{gives-bind-in, gives-bind-out}
 use Rattle.values.specs.Value.{Kind, set, sequence, map, Value, boolean, integer, collection, Items, none, more}
@@ -82,14 +83,9 @@ in-at b [] h = absurd h
 in-at b (c ∷ bs) (inl e) = (0, omega arith, sym e)
 in-at b (c ∷ bs) (inr h) = let w = in-at b bs h in (suc (w .0), omega (arith, w .1), w .2)
 
-pub at-in : (bs : List Binding) (i : ℕ) → i < length bs → In (getD bs i nothing) bs
-at-in [] i h = absurd (omega arith)
-at-in (c ∷ bs) zero h = inl refl
-at-in (c ∷ bs) (suc i) h = inr (at-in bs i (omega arith))
-
 same-chosen : {A : Type 0} (r : ℕ) (bs : List Binding) (f : Binding → Tree A) (F : Binding → Outcomes A) → ((b : Binding) → Same (f b) (F b)) → Same (bind (tree.chosen r bs) f) (underEach bs F)
 same-chosen r bs f F h o = (
-  λ g. (getD bs (g .0) nothing, at-in bs (g .0) (g .1), h (getD bs (g .0) nothing) o .0 (g .2)),
+  λ g. (getD bs (g .0) nothing, at-in bs (g .0) nothing (g .1), h (getD bs (g .0) nothing) o .0 (g .2)),
   λ w. let i = in-at (w .0) bs (w .1) in (i .0, i .1, subst (λ b. Gives (f b) o) (sym (i .2)) (h (w .0) o .1 (w .2))),
 )
 

@@ -23,7 +23,7 @@ use Rattle.tables.specs.Accepted.{records, Fine}
 use Rattle.tables.specs.Laws.Accepted.{accepted-fine, operand-lower, fit-least, fit-known, named-count}
 use Rattle.meaning.specs.Node.{Node, truth, whole, named, unaryOf, binaryOf, connective, if, enumeration, range, let-in, let-be, quantified, iota, set-comprehension, sequence-comprehension, map-comprehension, application, no-expression}
 use Rattle.meaning.specs.Read.{nodes, nodeOf, none, binaryNode, sheet}
-use Rattle.meaning.specs.Laws.Equation.{plain, covered, Each, Downward}
+use Rattle.meaning.specs.Laws.Equation.{covered, Each, Downward, plainOperands}
 
 infixr 30 _&_
 -- A pair.
@@ -87,7 +87,7 @@ Literal no-expression = Unit {0}
 
 -- Of a node: P of the records that it evaluates in its own state; C, with the binder's pattern, of those under its bindings; and literals.
 pub record Proper (P : ℕ → Type 0) (C : ℕ → ℕ → Type 0) (n : Node) : Type 0 where
-  pub plain-ones : Each P (plain n)
+  pub plain-ones : Each P (plainOperands n)
   pub covered-ones : Each (C (binderOf n)) (covered n)
   pub literal : Literal n
 

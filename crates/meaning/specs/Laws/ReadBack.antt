@@ -36,11 +36,11 @@ use Rattle.meaning.specs.Laws.Services.{late-number}
 -- ---- the check
 
 -- At most 200 records are counted. A rule's number is 3 to 9. Rule 4 can break at any of the 600 records that fit 2,400 bytes.
-abbrev pub Small : Checked → Type 0
-Small (Accepted n) = n ≤ 200
-Small (Refused n r) = (3 ≤ n) × (n ≤ 9) × (r < 600)
+abbrev pub SmallCheck : Checked → Type 0
+SmallCheck (Accepted n) = n ≤ 200
+SmallCheck (Refused n r) = (3 ≤ n) × (n ≤ 9) × (r < 600)
 
-small-cond : (b : Bool) (x y : Checked) → (b ≡ true → Small x) → (b ≡ false → Small y) → Small (cond b x y)
+small-cond : (b : Bool) (x y : Checked) → (b ≡ true → SmallCheck x) → (b ≡ false → SmallCheck y) → SmallCheck (cond b x y)
 small-cond true x y f g = f refl
 small-cond false x y f g = g refl
 
@@ -70,13 +70,13 @@ cut-small (suc bound) bytes = go (next bytes) refl (λ rest. cut-small bound res
         omega (arith, f rest, is .long, is .whole, ap length (is .then), length-drop (word bytes 0) bytes)
 
 module _ (rs : List Record) (few : length rs ≤ 200) where
-  small-rule : (u : Rule) (us : List Rule) → 3 ≤ u .number → u .number ≤ 9 → Small (judge us rs) → Small (judge (u ∷ us) rs)
+  small-rule : (u : Rule) (us : List Rule) → 3 ≤ u .number → u .number ≤ 9 → SmallCheck (judge us rs) → SmallCheck (judge (u ∷ us) rs)
   small-rule u us l h later =
       small-cond (ltb (lowest (u .fault rs) (length rs)) (length rs)) (Refused (u .number) (lowest (u .fault rs) (length rs))) (judge us rs)
       (λ e. (l, h, omega (arith, ltb-true (lowest (u .fault rs) (length rs)) (length rs) e)))
       (λ e. later)
 
-  small-judged : Small (judged rs)
+  small-judged : SmallCheck (judged rs)
   unfolding judged
   small-judged =
       small-rule (rule 6 fault6) (rule 7 fault7 ∷ rule 8 fault8 ∷ rule 9 fault9 ∷ []) (omega arith) (omega arith)
@@ -88,7 +88,7 @@ module _ (c : Cut) (short-enough : 4 * length (c .records) + broken (c .whole) �
   broken-small : c .whole ≡ false → length (c .records) < 600
   broken-small e = let one : broken (c .whole) ≡ 1 = ap broken e in omega (arith, short-enough, one)
 
-  small-cut : Small (judgedCut c)
+  small-cut : SmallCheck (judgedCut c)
   unfolding judgedCut
   small-cut =
       small-cond (not (c .whole)) (Refused 4 (length (c .records))) _
@@ -99,7 +99,7 @@ module _ (c : Cut) (short-enough : 4 * length (c .records) + broken (c .whole) �
       (λ f. small-judged (c .records) (ltb-false mostRecords (length (c .records)) f)))
 
 -- Every answer of a check is small.
-pub small-check : (table : List ℕ) → Small (check table)
+pub small-check : (table : List ℕ) → SmallCheck (check table)
 unfolding check cut
 small-check table =
     small-cond (eqb (length table) 0 || ltb mostBytes (length table)) (Refused 3 0) _
@@ -145,7 +145,7 @@ module _ {A : Type 0} (counted : A → ℕ) where
   fits-unless true n f l h x = fits-refusal n 0 0 l h (omega arith) (omega arith)
   fits-unless false n f l h x = x
 
-  fits-accepted : (checked : Checked) (f : ℕ → Final A) → Small checked → ((n : ℕ) → checked ≡ Accepted n → Fits counted (f n)) → Fits counted (accepted checked f)
+  fits-accepted : (checked : Checked) (f : ℕ → Final A) → SmallCheck checked → ((n : ℕ) → checked ≡ Accepted n → Fits counted (f n)) → Fits counted (accepted checked f)
   fits-accepted (Accepted n) f s h = h n refl
   fits-accepted (Refused n p) f s h = fits-refusal n p 0 (omega (arith, s .0)) (omega (arith, s .1)) (s .2) (omega arith)
 
@@ -212,7 +212,7 @@ module _ (scratch : ℕ) (table : List ℕ) where
       fits-unless recordCount (ltb scratch scratchBytes) 1 _ (omega arith) (omega arith)
       (go (check table) (small-check table))
     where
-      go : (c : Checked) → Small c → Fits recordCount (accepted c (λ n. result n))
+      go : (c : Checked) → SmallCheck c → Fits recordCount (accepted c (λ n. result n))
       go (Accepted n) s = record { numbered = tt; number-fits = omega arith; place-fits = omega arith; count-fits = omega arith }
       go (Refused n p) s = fits-refusal recordCount n p 0 (omega (arith, s .0)) (omega (arith, s .1)) (s .2) (omega arith)
 
@@ -262,7 +262,7 @@ module _ {A : Type 0} where
   late-past : (b : Bool) (n : ℕ) (f : Final A) → b ≡ false → Late f → Late (unless b n f)
   late-past b n f e h = ap (λ x. isEarly (answerNumber (unless x n f))) e ∙ h
 
-  late-accepted : (checked : Checked) (f : ℕ → Final A) → Small checked → ((n : ℕ) → checked ≡ Accepted n → Late (f n)) → Late (accepted checked f)
+  late-accepted : (checked : Checked) (f : ℕ → Final A) → SmallCheck checked → ((n : ℕ) → checked ≡ Accepted n → Late (f n)) → Late (accepted checked f)
   late-accepted (Accepted n) f s h = h n refl
   late-accepted (Refused n p) f s h = late-number n (s .0)
 

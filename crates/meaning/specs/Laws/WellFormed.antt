@@ -11,6 +11,7 @@ use lib.Dec.{ltb}
 use lib.ListN.{length, getD, getD-replicate}
 use Rattle.prelude.proofs.Absurd.{impossible}
 use Rattle.prelude.specs.Membership.{In}
+use Rattle.prelude.proofs.Membership.{at-in}
 use Rattle.choices.specs.Tree.{Tree, bind, value, Gives, Run, gave, stopped, short, beyond, run, Final, result, final, mostChoices}
 use Rattle.choices.proofs.Outcomes.{follow-given, Given}
 use Rattle.values.specs.Value.{Kind, set, sequence, map, tuple, Value, boolean, integer, collection, Items, none, more, count, size, sizes, valueLimit as largest, Sound, SoundItems, PairedFrom, WellFormed}
@@ -37,7 +38,6 @@ use Rattle.meaning.specs.State.{State, unbound, over, under, held, value
 use Rattle.meaning.specs.Meaning.{Evaluates, at, builtAt, orElse, allOf, bothOf, rightOf, isTrue, enumerated, formedAt, membersAt, bindingsOf, holds, satisfying, chosen, matched, satisfied, quantify, unique, collected, addOne, addPair, integersAt, integerBindings, comprehension, means, Sheet, meaningTo, meaning, patternName}
 use Rattle.meaning.specs.Read.{sheet}
 use Rattle.meaning.specs.Service.{scratchBytes, last, tree, unless, accepted, evaluates}
-use Rattle.meaning.specs.Laws.Agreement.{at-in}
 use Rattle.meaning.specs.Laws.Only.{Only, only-give, only-stop, only-bind, Any, only-any, only-cond, only-else}
 use Rattle.meaning.specs.Laws.Proper.{Literal, proper, WellNumbered}
 
@@ -130,7 +130,7 @@ only-members : (r : ℕ) (v : Value) → WellFormed v → Only (λ vs. WellForme
 only-members r v h = only-else (λ vs. WellFormed (collection set vs)) 20 r (asSet v) (λ vs e. set-well v vs h e)
 
 only-chosen : {A : Type 0} (P : A → Type 0) (r : ℕ) (bs : List Binding) (f : Binding → Tree A) → AllFine bs → ((b : Binding) → FineState b → Only P (f b)) → Only P (bind (chosen r bs) f)
-only-chosen P r bs f h k a g = k (getD bs (g .0) nothing) (h _ (at-in bs (g .0) (g .1))) a (g .2)
+only-chosen P r bs f h k a g = k (getD bs (g .0) nothing) (h _ (at-in bs (g .0) nothing (g .1))) a (g .2)
 
 only-matched : (r : ℕ) (l : Bool) (bs : List Binding) (f : Binding → Tree Value) → AllFine bs → ((b : Binding) → FineState b → Only WellFormed (f b)) → Only WellFormed (bind (matched r l bs) f)
 only-matched r l [] f h k = only-stop _ 23 r

@@ -26,6 +26,9 @@ use Rattle.patterns.specs.Relation.{Agree, Joined, Arranged, Divided, Ma
 
 -- ---- bindings have a cell for each name
 
+pub nothing-sized : length nothing ≡ names
+nothing-sized = refl
+
 pub only-sized : (x : ℕ) (v : Value) → length (only x v) ≡ names
 only-sized x v = length-set nothing x (is v)
 
@@ -84,10 +87,10 @@ merge-agreed (x ∷ a) (y ∷ b) p h zero l = is-agree x y (merge a b) h .0
 merge-agreed (x ∷ a) (y ∷ b) p h (suc n) l = merge-agreed a b (omega arith) (is-agree x y (merge a b) h .1) n (omega arith)
 
 -- THEOREM: bindings are joined exactly when the third is the merged one, and that is consistent
-joined-merge : (a b c : Binding) → length a ≡ names → length b ≡ names → Joined a b c → (c ≡ merge a b) × (consistent (merge a b) ≡ true)
+pub joined-merge : (a b c : Binding) → length a ≡ names → length b ≡ names → Joined a b c → (c ≡ merge a b) × (consistent (merge a b) ≡ true)
 joined-merge a b c p q h = agreed-merge a b c (q ∙ sym p) (h .sized ∙ sym p) (λ x l. h .agreed x (omega arith))
 
-merge-joined : (a b : Binding) → length a ≡ names → length b ≡ names → consistent (merge a b) ≡ true → Joined a b (merge a b)
+pub merge-joined : (a b : Binding) → length a ≡ names → length b ≡ names → consistent (merge a b) ≡ true → Joined a b (merge a b)
 merge-joined a b p q h = record { sized = merge-sized a b (p ∙ sym q) ∙ p; agreed = λ x l. merge-agreed a b (q ∙ sym p) h x (omega arith) }
 
 -- ---- every one with every one

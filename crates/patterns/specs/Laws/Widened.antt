@@ -18,7 +18,7 @@ use Rattle.values.specs.Value.{Kind, set, sequence, map as mapping, tuple, Valu
 use Rattle.patterns.specs.Ways.{exists, Halves, halves}
 use Rattle.patterns.specs.Units.{Inserted, Permuted}
 use Rattle.patterns.specs.Laws.Units.{in-splits, in-cuts, in-orders}
-use Rattle.patterns.specs.Pattern.{Pattern, name, any, literal, each, halved, Patterns, nil, cons, parts, itemsOf, contents, arrangements, divisions, met, split, leftOf, rightOf, mostSplit, tooLarge, wide, wideEach}
+use Rattle.patterns.specs.Pattern.{Pattern, name, any, literal, each, halved, Patterns, nil, cons, parts, itemsOf, contents, arrangements, divisions, met, split, leftOf, rightOf, mostSplit, wide, wideEach, isTooLarge}
 use Rattle.patterns.specs.Binder.{mostBindings, bound, refused, few, bindings, formed}
 use Rattle.patterns.specs.Laws.Matched.{contents-of, of-contents}
 use Rattle.patterns.specs.Wide.{Wide, WideAmong, WideInTurn}
@@ -108,27 +108,27 @@ split-out k v h i = go (contents k v) refl i
 split-in : (k : Kind) (v : Value) (vs : List Value) (h : Halves Value) → v ≡ collection k (itemsOf vs) → In h (divisions k vs) → In h (split k (contents k v))
 split-in k v vs h e i = subst (λ (o : Option (List Value)). In h (split k o)) (sym (ap (contents k) e ∙ contents-of k vs)) i
 
-large-out : (v : Value) → tooLarge set (contents set v) ≡ true → (vs : List Value) × (v ≡ collection set (itemsOf vs)) × (mostSplit < length vs)
+large-out : (v : Value) → isTooLarge set (contents set v) ≡ true → (vs : List Value) × (v ≡ collection set (itemsOf vs)) × (mostSplit < length vs)
 large-out v e = go (contents set v) refl e
   where
-    go : (o : Option (List Value)) → contents set v ≡ o → tooLarge set o ≡ true → (vs : List Value) × (v ≡ collection set (itemsOf vs)) × (mostSplit < length vs)
+    go : (o : Option (List Value)) → contents set v ≡ o → isTooLarge set o ≡ true → (vs : List Value) × (v ≡ collection set (itemsOf vs)) × (mostSplit < length vs)
     go absent d e = impossible cc
     go (some vs) d e = (vs, of-contents set v vs d, ltb-true mostSplit (length vs) e)
 
-large-in : (v : Value) (vs : List Value) → v ≡ collection set (itemsOf vs) → mostSplit < length vs → tooLarge set (contents set v) ≡ true
-large-in v vs e h = ap (tooLarge set) (ap (contents set) e ∙ contents-of set vs) ∙ lt-ltb mostSplit (length vs) h
+large-in : (v : Value) (vs : List Value) → v ≡ collection set (itemsOf vs) → mostSplit < length vs → isTooLarge set (contents set v) ≡ true
+large-in v vs e h = ap (isTooLarge set) (ap (contents set) e ∙ contents-of set vs) ∙ lt-ltb mostSplit (length vs) h
 
 -- Only a set is too large, and only sets and sequences have halves.
-never-large : (o : Option (List Value)) → tooLarge sequence o ≡ true → ⊥
+never-large : (o : Option (List Value)) → isTooLarge sequence o ≡ true → ⊥
 never-large absent e = impossible cc
 never-large (some vs) e = impossible cc
 
-no-map-halves : (o : Option (List Value)) (f : Halves Value → Bool) → tooLarge mapping o || exists (split mapping o) f ≡ true → ⊥
+no-map-halves : (o : Option (List Value)) (f : Halves Value → Bool) → isTooLarge mapping o || exists (split mapping o) f ≡ true → ⊥
 unfolding exists
 no-map-halves absent f e = impossible cc
 no-map-halves (some vs) f e = impossible cc
 
-no-tuple-halves : (o : Option (List Value)) (f : Halves Value → Bool) → tooLarge tuple o || exists (split tuple o) f ≡ true → ⊥
+no-tuple-halves : (o : Option (List Value)) (f : Halves Value → Bool) → isTooLarge tuple o || exists (split tuple o) f ≡ true → ⊥
 unfolding exists
 no-tuple-halves absent f e = impossible cc
 no-tuple-halves (some vs) f e = impossible cc
@@ -161,14 +161,14 @@ mutual
       let (h, i, g) = exists-out (split set (contents set v)) (λ h. wide p (leftOf set h) || wide q (rightOf set h)) d in
       let (vs, f, j) = split-out set v h i in
       (vs, f, inr (h .left, h .right, in-splits vs h .0 j, ⊎-elim (λ x. inl (widened p (leftOf set h) x)) (λ x. inr (widened q (rightOf set h) x)) (or-cases (wide p (leftOf set h)) (wide q (rightOf set h)) g))))
-      (or-cases (tooLarge set (contents set v)) _ e)
+      (or-cases (isTooLarge set (contents set v)) _ e)
   widened (halved sequence p q) v e =
       ⊎-elim (λ d. absurd (never-large (contents sequence v) d))
       (λ d.
       let (h, i, g) = exists-out (split sequence (contents sequence v)) (λ h. wide p (leftOf sequence h) || wide q (rightOf sequence h)) d in
       let (vs, f, j) = split-out sequence v h i in
       (h .left, h .right, f ∙ ap (λ (l : List Value). collection sequence (itemsOf l)) (in-cuts vs h .0 j), ⊎-elim (λ x. inl (widened p (leftOf sequence h) x)) (λ x. inr (widened q (rightOf sequence h) x)) (or-cases (wide p (leftOf sequence h)) (wide q (rightOf sequence h)) g)))
-      (or-cases (tooLarge sequence (contents sequence v)) _ e)
+      (or-cases (isTooLarge sequence (contents sequence v)) _ e)
   widened (halved mapping p q) v e = no-map-halves (contents mapping v) (λ h. wide p (leftOf mapping h) || wide q (rightOf mapping h)) e
   widened (halved tuple p q) v e = no-tuple-halves (contents tuple v) (λ h. wide p (leftOf tuple h) || wide q (rightOf tuple h)) e
 
@@ -203,7 +203,7 @@ later-meets p ps i v h (w ∷ ws) l d = or-inr (wide p w) (wideEach ps ws) (h ws
 in-half : (k : Kind) (p q : Pattern) (v : Value) (vs : List Value) (h : Halves Value) → v ≡ collection k (itemsOf vs) → In h (divisions k vs) → (wide p (leftOf k h) ≡ true) ⊎ (wide q (rightOf k h) ≡ true) → wide (halved k p q) v ≡ true
 unfolding wide
 in-half k p q v vs h e i g =
-    or-inr (tooLarge k (contents k v)) (exists (split k (contents k v)) (λ y. wide p (leftOf k y) || wide q (rightOf k y)))
+    or-inr (isTooLarge k (contents k v)) (exists (split k (contents k v)) (λ y. wide p (leftOf k y) || wide q (rightOf k y)))
     (exists-in h (split k (contents k v)) (λ y. wide p (leftOf k y) || wide q (rightOf k y)) (split-in k v vs h e i)
     (⊎-elim (λ x. or-inl (wide p (leftOf k h)) (wide q (rightOf k h)) x) (λ x. or-inr (wide p (leftOf k h)) (wide q (rightOf k h)) x) g))
 
@@ -226,7 +226,7 @@ mutual
   widening (each sequence ps) v (vs, e, n, h) = in-arrangement sequence ps v vs vs e n (inl refl) (turning ps vs h)
   widening (each mapping ps) v h = absurd h
   widening (each tuple ps) v (vs, e, n, h) = in-arrangement tuple ps v vs vs e n (inl refl) (turning ps vs h)
-  widening (halved set p q) v (vs, e, inl l) = or-inl (tooLarge set (contents set v)) _ (large-in v vs e l)
+  widening (halved set p q) v (vs, e, inl l) = or-inl (isTooLarge set (contents set v)) _ (large-in v vs e l)
   widening (halved set p q) v (vs, e, inr (ls, rs, s, inl h)) = in-half set p q v vs (halves ls rs) e (in-splits vs (halves ls rs) .1 s) (inl (widening p (collection set (itemsOf ls)) h))
   widening (halved set p q) v (vs, e, inr (ls, rs, s, inr h)) = in-half set p q v vs (halves ls rs) e (in-splits vs (halves ls rs) .1 s) (inr (widening q (collection set (itemsOf rs)) h))
   widening (halved sequence p q) v (ls, rs, e, inl h) = in-half sequence p q v (ls ++ rs) (halves ls rs) e (in-cuts (ls ++ rs) (halves ls rs) .1 refl) (inl (widening p (collection sequence (itemsOf ls)) h))

@@ -4,7 +4,7 @@ use Rattle.choices.specs.Tree.{result}
 use Rattle.meaning.specs.Service.{accepted}
 use Rattle.tables.specs.declared.Checked.{Checked}
 use Rattle.meaning.specs.Answer.{packed, recordCount}
-use Rattle.meaning.specs.Laws.ReadBack.{Small, small-check}
+use Rattle.meaning.specs.Laws.ReadBack.{small-check, SmallCheck}
 use Rattle.services.proofs.Packing.{short-call, enough-call}
 use borrow.Author.Needs.{needs}
 use Rattle.services.proofs.dengwizo_check.Statement.{statement}
@@ -29,7 +29,7 @@ check-requires : tie.Need-check-requires
 check-requires c κs = search needs
 
 answer-requires : tie.Need-answer-requires
-answer-requires c κs = subst Small (sym (c .check .ensures)) (small-check (c .before .before .before .before .before .before .before .before .args .table .now))
+answer-requires c κs = subst SmallCheck (sym (c .check .ensures)) (small-check (c .before .before .before .before .before .before .before .before .args .table .now))
 
 same-length : tie.Need-same-length
 same-length c = search needs

@@ -54,10 +54,6 @@ loose-kinds r =
     on-kinds (λ k. shape k .loose) (λ k. eqb k 37 || eqb k 38 || eqb k 40)
     (λ k h. ap (λ (s : Shape). s .loose) (beyond k h) ∙ rw (ne-eqb k 37 (omega arith), ne-eqb k 38 (omega arith), ne-eqb k 40 (omega arith))) refl (r .kind)
 
-pub loose-kind : {k : ℕ} → (k ≡ 37 → shape k .loose ≡ true) × (k ≡ 38 → shape k .loose ≡ true) × (k ≡ 40 → shape k .loose ≡ true)
-unfolding shape
-loose-kind = (λ e. ap (λ (k : ℕ). shape k .loose) e, λ e. ap (λ (k : ℕ). shape k .loose) e, λ e. ap (λ (k : ℕ). shape k .loose) e)
-
 pub not-loose : (k : ℕ) → (k ≡ 37 → ⊥) → (k ≡ 38 → ⊥) → (k ≡ 40 → ⊥) → shape k .loose ≡ false
 not-loose k a b d = loose-kinds (record { kind = k; fields = [] }) ∙ rw (ne-eqb k 37 a, ne-eqb k 38 b, ne-eqb k 40 d)
 

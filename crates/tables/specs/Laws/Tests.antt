@@ -8,7 +8,7 @@ use borrow.Author.Tests.{ltb-true, ltb-false, eq-eqb, eqb-true, not-false}
 use lib.Dec.{eqb, ltb}
 use lib.ListN.{length, getD}
 use mathlib.Mathlib.Data.Bool.Basic.{or-inr}
-use Rattle.prelude.proofs.Truth.{by-lower, or-false-left, or-false-right, or-false-both}
+use Rattle.prelude.proofs.Truth.{by-lower, or-false-left, or-false-right}
 use Rattle.prelude.proofs.Absurd.{never}
 use Rattle.tables.specs.Sheet.{any, lowest, isIn}
 

@@ -7,7 +7,7 @@ use Rattle.choices.specs.Listing.{listHeld}
 use Rattle.lists.specs.Lent.{lent}
 use Rattle.walks.specs.Steps.{settled, Ran}
 use Rattle.walks.proofs.Settling.{comes-sound, Arrived, arrived, ran, small-ran}
-use Rattle.walks.proofs.Stepping.{cut-asked, some-record, indexed, counted, asked, at-end, complete-ran, steps-other, steps-on}
+use Rattle.walks.proofs.Stepping.{cut-asked, asked, at-end, complete-ran, steps-other, steps-on, has-record, is-indexed, is-counted}
 use borrow.Author.Needs.{needs}
 use Rattle.walks.proofs.next_walk.Statement.{statement}
 use Rattle.walks.proofs.next_walk.Tie as tie
@@ -29,7 +29,7 @@ run-sheet-requires : tie.Need-run-sheet-requires
 run-sheet-requires c κs = asked (c .before .before .before .before .before .before .before .before .args .table .now) (c .before .before .before .before .before .before .before .before .args .s .now) (c .before .before .before .before .before .before .before .before .pre .ready) _ _ (c .before .before .before .before .cut .ensures) _ refl _ (c .before .before .before .start-walk .ensures .sound)
 
 sub-settle : tie.Need-sub-settle
-sub-settle c = omega (arith, c .before .before .before .before .before .before .before .before .cut .ensures .count, some-record (c .before .before .before .before .before .before .before .before .before .before .before .before .args .table .now) (c .before .before .before .before .before .before .before .before .before .before .before .before .args .s .now) (c .before .before .before .before .before .before .before .before .before .before .before .before .pre .ready))
+sub-settle c = omega (arith, c .before .before .before .before .before .before .before .before .cut .ensures .count, has-record (c .before .before .before .before .before .before .before .before .before .before .before .before .args .table .now) (c .before .before .before .before .before .before .before .before .before .before .before .before .args .s .now) (c .before .before .before .before .before .before .before .before .before .before .before .before .pre .ready))
 
 settle-requires : tie.Need-settle-requires
 settle-requires c κs = comes-sound (c .before .before .before .run-sheet .ensures)
@@ -53,9 +53,9 @@ next-list-requires c κs =
     let full = complete-ran (c .before .before .before .before .before .before .before .before .before .before .before .before .before .before .before .before .before .args .table .now) (listHeld (c .before .before .before .before .before .before .before .before .before .before .before .before .before .before .before .before .before .args .walk)) (c .before .before .before .before .before .before .before .before .run-sheet .last .1 .1 .1 .0) (c .before .before .before .before .settle .result) h (sym (c .before .before .before .is-whole .ensures) ∙ not-false _ (c .before .before .if1 .left)) in
     let e = at-end (c .before .before .before .before .before .before .before .before .before .before .before .before .before .before .before .before .before .args .table .now) (lent (c .before .before .before .before .before .before .before .before .before .before .before .before .start-walk .result)) (c .before .before .before .before .before .before .before .before .run-sheet .result) (lent (c .before .before .before .before .before .before .before .before .run-sheet .last .1 .1 .1 .1 .0)) (c .before .before .before .before .before .before .before .before .run-sheet .last .1 .1 .1 .0) a (c .before .before .before .before .before .before .before .before .before .before .before .before .before .before .before .before .before .args .walk) (c .before .before .before .before .before .before .before .before .before .before .before .before .before .before .before .before .before .pre .runnable) (c .before .before .before .before .before .before .before .before .before .before .before .before .start-walk .ensures) full in (
       record {
-        ok = counted (c .before .before .before .before .before .before .before .before .before .before .before .before .before .before .before .before .before .args .table .now) (c .before .before .before .before .before .before .before .before .before .before .before .before .before .before .before .before .before .args .s .now) (c .before .before .before .before .before .before .before .before .before .before .before .before .before .before .before .before .before .pre .ready) _ _ (c .before .before .before .before .before .before .before .before .before .before .before .before .before .cut .ensures);
+        ok = is-counted (c .before .before .before .before .before .before .before .before .before .before .before .before .before .before .before .before .before .args .table .now) (c .before .before .before .before .before .before .before .before .before .before .before .before .before .before .before .before .before .args .s .now) (c .before .before .before .before .before .before .before .before .before .before .before .before .before .before .before .before .before .pre .ready) _ _ (c .before .before .before .before .before .before .before .before .before .before .before .before .before .cut .ensures);
         room = c .before .before .before .before .before .before .before .before .run-sheet .kept .1 .1 .1 .0 ∙ c .before .before .before .before .before .before .before .before .before .before .before .before .before .before .before .before .before .pre .ready .room;
-        indexed = indexed (c .before .before .before .before .before .before .before .before .before .before .before .before .before .before .before .before .before .args .table .now) (c .before .before .before .before .before .before .before .before .before .before .before .before .before .before .before .before .before .args .s .now) (c .before .before .before .before .before .before .before .before .before .before .before .before .before .before .before .before .before .pre .ready) _ _ (c .before .before .before .before .before .before .before .before .before .before .before .before .before .cut .ensures);
+        is-indexed = is-indexed (c .before .before .before .before .before .before .before .before .before .before .before .before .before .before .before .before .before .args .table .now) (c .before .before .before .before .before .before .before .before .before .before .before .before .before .before .before .before .before .args .s .now) (c .before .before .before .before .before .before .before .before .before .before .before .before .before .before .before .before .before .pre .ready) _ _ (c .before .before .before .before .before .before .before .before .before .before .before .before .before .cut .ensures);
       },
       record { runnable = c .before .before .before .before .before .before .before .before .before .before .before .before .before .before .before .before .before .pre .runnable; complete = full; sound = a .came .sound; ended = e .0 },
     )
