@@ -1,2 +1,2 @@
--- The numbers of the strict operators. Cited by the evaluator.
+-- The numbers of the strict operators; the evaluator cites them.
 pub mod Numbers
