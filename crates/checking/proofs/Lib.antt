@@ -1,3 +1,4 @@
+-- What the proofs of the passes need; nobody else cites it.
 mod Scan
 mod Marks
 mod Below

@@ -10,9 +10,8 @@ use borrow.Author.Tests.{eq-eqb, ne-eqb}
 use Rattle.values.specs.Value.{Value, collection, Items}
 use Rattle.values.specs.Place.{At}
 use Rattle.values.proofs.Records.{holds as held-at}
-use Rattle.choices.specs.declared.Choices.{Choices}
+use Rattle.choices.specs.State.{Choices, Invariant}
 use Rattle.choices.specs.Tree.{Tree, give, stop, bind}
-use Rattle.choices.specs.State.{Invariant}
 use Rattle.operators.specs.Answer.{Built, built}
 use Rattle.operators.specs.Enumerations.{addEntry}
 use Rattle.tables.specs.Record.{named}

@@ -12,7 +12,7 @@ use Rattle.prelude.proofs.Truth.{implied}
 use Rattle.values.specs.Value.{Value}
 use Rattle.values.proofs.Records.{one-value}
 use Rattle.values.proofs.Frame.{below-less}
-use Rattle.choices.specs.declared.Choices.{Choices}
+use Rattle.choices.specs.State.{Choices}
 use Rattle.tables.specs.Laws.Kinds.{binder-kind}
 use Rattle.tables.specs.Record.{shape, isPattern}
 use Rattle.tables.specs.Table.{recordAt, kindAt}

@@ -14,8 +14,7 @@ use Rattle.tables.specs.Table.{recordAt, kindAt}
 use Rattle.tables.specs.Accepted.{records, Fine}
 use Rattle.tables.specs.Laws.Accepted.{accepted-fine, operand-lower, height-operand, height-at, fit-least, fit-known, named-count}
 use Rattle.tables.specs.Reading.{Here, HasField, HasOperand}
-use Rattle.choices.specs.declared.Choices.{Choices}
-use Rattle.choices.specs.State.{Invariant}
+use Rattle.choices.specs.State.{Choices, Invariant}
 use Rattle.operations.specs.Numbers.{Unary}
 use Rattle.meaning.specs.State.{State}
 use Rattle.parts.specs.declared.words.Env.{Env}

@@ -21,10 +21,10 @@ use Rattle.parts.specs.declared.Part.{Part}
 use Rattle.patterns.specs.Ways.{Halves, orders}
 use Rattle.prelude.proofs.Membership.{at-in}
 use Rattle.patterns.specs.Pattern.{Pattern, literal, arrangements, contents, met, split}
-use Rattle.patterns.specs.Laws.Merging.{true-false}
+use Rattle.prelude.proofs.Absurd.{true-false}
 use Rattle.patterns.specs.Laws.Orders.{order-length}
 use Rattle.patterns.specs.Read.{Readable, patternOf, patternAt}
-use Rattle.patterns.specs.Nodes.{collectionOf, isHalved, meetings, bothOf}
+use Rattle.patterns.specs.Nodes.{collectionOf, isHalved, meetings, bothHalves}
 use Rattle.patterns.specs.Laws.Nodes.{is-boolean-literal, is-integer-literal, pattern-at}
 use Rattle.matching.specs.declared.nodes.Meeting.{Meeting}
 use Rattle.matching.specs.Node.{LiteralHeld, Meets, innerOf, metBy}
@@ -142,7 +142,7 @@ met-length k n (some vs) d h =
     let (e, l, g) = picked-some (eqb n (length vs)) (arrangements k vs) d [] h in
     ap length g ∙ arranged-length k vs d l ∙ sym (eqb-true n (length vs) e)
 
-pair-length : (k : Kind) (hs : List (Halves Value)) (d : ℕ) → d < length (map (bothOf k) hs) → length (getD (map (bothOf k) hs) d []) ≡ 2
+pair-length : (k : Kind) (hs : List (Halves Value)) (d : ℕ) → d < length (map (bothHalves k) hs) → length (getD (map (bothHalves k) hs) d []) ≡ 2
 pair-length k [] d h = absurd (omega arith)
 pair-length k (x ∷ hs) zero h = refl
 pair-length k (x ∷ hs) (suc d) h = pair-length k hs d (omega arith)
@@ -150,7 +150,7 @@ pair-length k (x ∷ hs) (suc d) h = pair-length k hs d (omega arith)
 pub meeting-length : (c n : ℕ) (v : Value) (d : ℕ) → (isHalved c ≡ true → n ≡ 2) → d < length (meetings c n v) → length (getD (meetings c n v) d []) ≡ n
 meeting-length c n v d two h = go (isHalved c) refl h
   where
-    go : (t : Bool) → isHalved c ≡ t → d < length (cond t (map (bothOf (collectionOf c)) (split (collectionOf c) (contents (collectionOf c) v))) (met (collectionOf c) n (contents (collectionOf c) v)))
-        → length (getD (cond t (map (bothOf (collectionOf c)) (split (collectionOf c) (contents (collectionOf c) v))) (met (collectionOf c) n (contents (collectionOf c) v))) d []) ≡ n
+    go : (t : Bool) → isHalved c ≡ t → d < length (cond t (map (bothHalves (collectionOf c)) (split (collectionOf c) (contents (collectionOf c) v))) (met (collectionOf c) n (contents (collectionOf c) v)))
+        → length (getD (cond t (map (bothHalves (collectionOf c)) (split (collectionOf c) (contents (collectionOf c) v))) (met (collectionOf c) n (contents (collectionOf c) v))) d []) ≡ n
     go true e l = pair-length (collectionOf c) (split (collectionOf c) (contents (collectionOf c) v)) d l ∙ sym (two e)
     go false e l = met-length (collectionOf c) n (contents (collectionOf c) v) d l

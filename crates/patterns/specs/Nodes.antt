@@ -5,7 +5,7 @@ use Prim.Native.Nat.{ℕ}
 use lib.Dec.{eqb, ltb}
 use Rattle.values.specs.Value.{Kind, set, sequence, tuple, Value}
 use Rattle.patterns.specs.Ways.{Halves}
-use Rattle.patterns.specs.Pattern.{contents, met, split, leftOf, rightOf, tooLarge}
+use Rattle.patterns.specs.Pattern.{contents, met, split, leftOf, rightOf, isTooLarge}
 
 -- The kind of the value that has such parts: 36 a tuple, 37 and 38 a set, 39 and 40 a sequence.
 abbrev pub collectionOf : ℕ → Kind
@@ -16,13 +16,13 @@ abbrev pub isHalved : ℕ → Bool
 isHalved c = eqb c 38 || eqb c 40
 
 -- Both, one after the other.
-abbrev pub bothOf : Kind → Halves Value → List Value
-bothOf k h = leftOf k h ∷ rightOf k h ∷ []
+abbrev pub bothHalves : Kind → Halves Value → List Value
+bothHalves k h = leftOf k h ∷ rightOf k h ∷ []
 
 -- What n parts of a pattern of kind c meet, in every way.
 abbrev pub meetings : ℕ → ℕ → Value → List (List Value)
-meetings c n v = cond (isHalved c) (map (bothOf (collectionOf c)) (split (collectionOf c) (contents (collectionOf c) v))) (met (collectionOf c) n (contents (collectionOf c) v))
+meetings c n v = cond (isHalved c) (map (bothHalves (collectionOf c)) (split (collectionOf c) (contents (collectionOf c) v))) (met (collectionOf c) n (contents (collectionOf c) v))
 
 -- The set is too large to split.
 abbrev pub isLarge : ℕ → Value → Bool
-isLarge c v = cond (isHalved c) (tooLarge (collectionOf c) (contents (collectionOf c) v)) false
+isLarge c v = cond (isHalved c) (isTooLarge (collectionOf c) (contents (collectionOf c) v)) false

@@ -9,9 +9,9 @@ use lib.ListN.{length, getD}
 use Rattle.values.specs.Value.{Kind, set, sequence, tuple, Value}
 use Rattle.tables.specs.Record.{Record}
 use Rattle.patterns.specs.Ways.{exists}
-use Rattle.patterns.specs.Pattern.{Pattern, any, each, halved, contents, met, split, leftOf, rightOf, tooLarge, wide, wideEach}
+use Rattle.patterns.specs.Pattern.{Pattern, any, each, halved, contents, met, split, leftOf, rightOf, wide, wideEach, isTooLarge}
 use Rattle.patterns.specs.Read.{patternsOf, patternOf}
-use Rattle.patterns.specs.Nodes.{isHalved, meetings, isLarge, bothOf}
+use Rattle.patterns.specs.Nodes.{isHalved, meetings, isLarge, bothHalves}
 use Rattle.patterns.specs.Laws.Nodes.{parts-length, is-name, is-any, is-boolean-literal, is-integer-literal}
 use Rattle.splitting.specs.Union.{hasUnion, someUnion, shallow}
 
@@ -38,15 +38,15 @@ unfolding wide
 wide-each k ps v = ap (λ (n : ℕ). exists (met k n (contents k v)) (λ vs. wideEach (patternsOf ps) vs)) (parts-length ps)
 
 wide-halved : (k : Kind) (ps : List Pattern) (v : Value) → length ps ≡ 2
-    → wide (halved k (getD ps 0 any) (getD ps 1 any)) v ≡ tooLarge k (contents k v) || exists (map (bothOf k) (split k (contents k v))) (λ vs. wideEach (patternsOf ps) vs)
+    → wide (halved k (getD ps 0 any) (getD ps 1 any)) v ≡ isTooLarge k (contents k v) || exists (map (bothHalves k) (split k (contents k v))) (λ vs. wideEach (patternsOf ps) vs)
 unfolding wide patternsOf
 wide-halved k [] v e = absurd (omega arith)
 wide-halved k (p ∷ []) v e = absurd (omega arith)
 wide-halved k (p ∷ q ∷ []) v e =
-    ap (λ (b : Bool). tooLarge k (contents k v) || b)
-    (exists-same (split k (contents k v)) (λ h. wide p (leftOf k h) || wide q (rightOf k h)) (λ h. wideEach (patternsOf (p ∷ q ∷ [])) (bothOf k h))
+    ap (λ (b : Bool). isTooLarge k (contents k v) || b)
+    (exists-same (split k (contents k v)) (λ h. wide p (leftOf k h) || wide q (rightOf k h)) (λ h. wideEach (patternsOf (p ∷ q ∷ [])) (bothHalves k h))
     (λ h. ap (λ (b : Bool). wide p (leftOf k h) || b) (or-last (wide q (rightOf k h))))
-    ∙ sym (exists-map (bothOf k) (split k (contents k v)) (λ vs. wideEach (patternsOf (p ∷ q ∷ [])) vs)))
+    ∙ sym (exists-map (bothHalves k) (split k (contents k v)) (λ vs. wideEach (patternsOf (p ∷ q ∷ [])) vs)))
 wide-halved k (p ∷ q ∷ r ∷ ps) v e = absurd (omega arith)
 
 union-halved : (ps : List Pattern) → length ps ≡ 2 → hasUnion (getD ps 0 any) || hasUnion (getD ps 1 any) ≡ someUnion (patternsOf ps)

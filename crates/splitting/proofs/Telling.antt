@@ -26,7 +26,7 @@ use Rattle.patterns.specs.Laws.Nodes.{pattern-at}
 use Rattle.matching.specs.declared.nodes.Meeting.{Meeting}
 use Rattle.matching.specs.declared.nodes.Meeting.the-variants.{Unfit, Large, Ways}
 use Rattle.matching.specs.Node.{MeetsAs, Meets, PieceHeld, PieceOf, innerOf, waysOf, metBy, WayHeld}
-use Rattle.matching.proofs.Piecing.{map-at}
+use Rattle.prelude.proofs.Lists.{map-at}
 use Rattle.matching.proofs.Records.{kind-low, kind-high, count-few, count-two, meeting-length}
 use Rattle.splitting.specs.Union.{hasUnion, someUnion, shallow, no-union-narrow, shallow-narrow}
 use Rattle.splitting.proofs.Composed.{leaf-no-union, wide-composed, union-composed, shallow-union, shallow-other}

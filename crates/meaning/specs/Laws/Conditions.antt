@@ -53,10 +53,10 @@ one-closed r =
     }
 
 -- The value that such a tree gives is all that it is.
-pub one-gives : {A : Type 0} (t : Tree A) (a : A) → OneLeaf t → Gives t (value a) → t ≡ give a
-one-gives (give b) a h e = let d : b ≡ a = cc in ap give d
-one-gives (stop n p) a h e = impossible cc
-one-gives (choose p n ways) a h e = absurd h
+pub leaf-gives : {A : Type 0} (t : Tree A) (a : A) → OneLeaf t → Gives t (value a) → t ≡ give a
+leaf-gives (give b) a h e = let d : b ≡ a = cc in ap give d
+leaf-gives (stop n p) a h e = impossible cc
+leaf-gives (choose p n ways) a h e = absurd h
 
 -- ---- the records that choose
 

@@ -11,12 +11,11 @@ use lib.Seq.{getD-drop}
 use mathlib.Mathlib.Data.Bool.Basic.{and-elim-left, and-elim-right}
 use Rattle.prelude.proofs.Absurd.{never, impossible}
 use Rattle.prelude.proofs.Truth.{or-false-left, or-false-right, implied, by-lower}
-use Rattle.integers.specs.Whole.{InRange}
 use Rattle.tables.specs.declared.Role.{Role}
 use Rattle.tables.specs.declared.Role.the-variants.{Pattern}
 use Rattle.tables.specs.declared.Checked.{Checked}
 use Rattle.tables.specs.declared.Checked.the-variants.{Accepted, Refused}
-use Rattle.tables.specs.Record.{Record, Shape, Head, integer, shape, field, size, headOf, isPattern, operands, named, operand, roleAt, nameOf, integerOf, fits, isKnown, isFit}
+use Rattle.tables.specs.Record.{Record, Shape, shape, field, size, headOf, isPattern, operands, named, operand, roleAt, nameOf, fits, isKnown, isFit}
 use Rattle.tables.specs.Table.{cut, recordAt, kindAt}
 use Rattle.tables.specs.Sheet.{any, lowest, some, greatest, isIn, isName, holdsName, height, parent, roleIn, isCovered, isCondition, isBinder, patternOf, climb, isBound, inCondition}
 use Rattle.tables.specs.Check.{mostBytes, mostRecords, mostHeight, isOfSort, allNamed, namedBefore, isBad, fault6, fault7, chooses, fault8, fault9, judged, judgedCut, check}
@@ -265,9 +264,3 @@ module _ (rs : List Record) (fine : Fine rs) where
   pub height-most : (r : ℕ) → r < length rs → height rs r ≤ mostHeight
   unfolding fault9
   height-most r h = ltb-false mostHeight (height rs r) (fine .clear9 r h)
-
-  -- ---- integers
-
-  -- Integer literals are in range.
-  pub integer-range : (r : ℕ) → r < length rs → headOf (recordAt rs r) ≡ integer → InRange (integerOf (recordAt rs r))
-  integer-range r h e = sym (ap (λ (k : Head). isKnown k (recordAt rs r)) e) ∙ fit-known (recordAt rs r) (fine .fit r h)
