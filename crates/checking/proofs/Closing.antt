@@ -11,13 +11,15 @@ use lib.Dec.{eqb}
 use lib.ListN.{length, getD}
 use mathlib.Mathlib.Data.Bool.Basic.{or-inl, or-inr}
 use Rattle.prelude.proofs.Absurd.{never}
-use Rattle.prelude.proofs.Truth.{by-test, or-false-both}
+use Rattle.prelude.proofs.Truth.{by-test, or-false-both, by-lower}
 use Rattle.tables.specs.Record.{Record, named, operand, roleAt, nameOf}
 use Rattle.tables.specs.Table.{recordAt, kindAt}
 use Rattle.tables.specs.Sheet.{some, isIn, isName, holdsName, isCovered, isCondition, parent, patternOf, isBound, inCondition}
 use Rattle.tables.specs.Check.{chooses, fault7, fault8}
-use Rattle.tables.specs.Laws.{split, low, Place, in-place, parent-higher}
-use Rattle.tables.specs.Accepted.{Clear6, lower, bound-operand, condition-operand, bound-last, condition-last, holds-at}
+use Rattle.tables.specs.Laws.Tests.{low, Place, in-place}
+use Rattle.tables.specs.Laws.Below.{parent-higher}
+use Rattle.tables.specs.Accepted.{condition-last}
+use Rattle.tables.specs.Laws.Accepted.{Clear6, lower, bound-operand, condition-operand, bound-last, holds-at}
 use Rattle.checking.specs.Scopes.{hasBit}
 use Rattle.checking.specs.Sweeps.{without, apart, Passes, Frees}
 use Rattle.checking.proofs.Tallness.{named-parent}
@@ -120,7 +122,7 @@ module _ (rs : List Record) (clear : Clear6 rs) (frees : List ℕ) (all : (q : �
     each-around : (bound r : ℕ) → length rs ≤ r + bound → r < length rs → Around rs frees r
     each-around zero r b h = absurd (omega arith)
     each-around (suc bound) r b h =
-        split r last
+        by-lower r last
         (λ l.
         let q : ℕ = parent rs r in
         let k : q < length rs = named-parent rs clear r (omega arith) in

@@ -12,16 +12,16 @@ use lib.ListN.{length, getD, set, length-set, drop, take}
 use lib.Seq.{drop-cons, drop-length, take-suc, take-all, getD-set-same, getD-set-other}
 use mathlib.Mathlib.Data.Bool.Basic.{or-inl, or-inr, and-elim-left, and-elim-right}
 use Rattle.prelude.proofs.Absurd.{never}
-use Rattle.prelude.proofs.Truth.{by-test, implied}
+use Rattle.prelude.proofs.Truth.{by-test, implied, by-lower}
 use Rattle.tables.specs.declared.Role.{Role}
 use Rattle.tables.specs.declared.Role.the-variants.{Plain, Condition, Body, Pattern, Name}
 use Rattle.tables.specs.Record.{Record, shape, size, headOf, isFit, operands, named, operand, roleAt, nameOf}
 use Rattle.tables.specs.Table.{recordAt, kindAt}
 use Rattle.tables.specs.Sheet.{some, lowest, greatest, height, loose, holdsName, isCovered, isCondition, isBinder, patternOf}
 use Rattle.tables.specs.Check.{mostHeight, isOfSort, allNamed, namedBefore, isBad, hasBad, chooses, fault9}
-use Rattle.tables.specs.Laws.{split, each, any-false}
+use Rattle.tables.specs.Laws.Tests.{each, any-false}
 use Rattle.tables.specs.Laws.Operands.{operands-few, isFirst, binder-roles}
-use Rattle.tables.specs.Accepted.{Clear6, lower, operand-lower, height-at, named-count, fit-least}
+use Rattle.tables.specs.Laws.Accepted.{Clear6, lower, operand-lower, height-at, named-count, fit-least}
 use Rattle.checking.specs.declared.sweep.Sum.{Sum}
 use Rattle.checking.specs.declared.sweep.Handed.{Handed}
 use Rattle.checking.specs.declared.sweep.Swept.{Swept}
@@ -239,7 +239,7 @@ module _ (rs : List Record) (r names : ℕ) (left below frees highs : List ℕ) 
       }
     where
       split-at : {P : ℕ → Type 0} (j : ℕ) → j < i + 1 → ((m : ℕ) → m < i → P m) → P i → P j
-      split-at {P} j l a b = split j i (λ m. a j m) (λ m. let same : i ≡ j = omega arith in subst P same b)
+      split-at {P} j l a b = by-lower j i (λ m. a j m) (λ m. let same : i ≡ j = omega arith in subst P same b)
 
       old : Clear6 rs → max high (max (height rs n) (greatest (map (height rs) (drop (suc i) (named (recordAt rs r)))))) ≡ greatest (map (height rs) (named (recordAt rs r)))
       old clear =
@@ -309,7 +309,7 @@ binder-some x fit e =
 -- What holds of the entries below r of a list, and of one more, holds of those below r + 1.
 set-more : (P : ℕ → ℕ → Type 0) (xs xs′ : List ℕ) (r v : ℕ) → r < length xs → ((q : ℕ) → q < r → P q (getD xs q 0)) → P r v → xs′ ≡ set xs r v → (q : ℕ) → q < r + 1 → P q (getD xs′ q 0)
 set-more P xs xs′ r v h a b e q k =
-    split q r (λ l. subst (P q) (sym (ap (λ (ys : List ℕ). getD ys q 0) e ∙ getD-set-other xs r q v 0 (λ same. omega arith))) (a q l))
+    by-lower q r (λ l. subst (P q) (sym (ap (λ (ys : List ℕ). getD ys q 0) e ∙ getD-set-other xs r q v 0 (λ same. omega arith))) (a q l))
     (λ l.
     let same : r ≡ q = omega arith in
     subst (λ (p : ℕ). P p (getD xs′ p 0)) same (subst (P r) (sym (ap (λ (ys : List ℕ). getD ys r 0) e ∙ getD-set-same xs r v 0 h)) b))
@@ -361,7 +361,7 @@ module _ (rs : List Record) (below frees highs : List ℕ) (least r : ℕ) (left
   runs-more left′ below′ frees′ highs′ least′ x tall ex el eb ef eg et en =
       record {
         within = omega arith;
-        good = λ q h. split q r (λ k. good q k) (λ k. let same : q ≡ r = omega arith in rw same (sums .good));
+        good = λ q h. by-lower q r (λ k. good q k) (λ k. let same : q ≡ r = omega arith in rw same (sums .good));
         left-is = rw (add-one r) at-next;
         kept =
             record {
@@ -411,7 +411,7 @@ settled rs left frees last s e few p c =
 -- ---- numbers
 
 pub tall-is : (high : ℕ) → leb mostHeight high ≡ ltb mostHeight (high + 1)
-tall-is high = split high mostHeight (λ h. lt-leb mostHeight high h ∙ sym (le-ltb mostHeight (high + 1) (omega arith))) (λ h. le-leb mostHeight high h ∙ sym (lt-ltb mostHeight (high + 1) (omega arith)))
+tall-is high = by-lower high mostHeight (λ h. lt-leb mostHeight high h ∙ sym (le-ltb mostHeight (high + 1) (omega arith))) (λ h. le-leb mostHeight high h ∙ sym (lt-ltb mostHeight (high + 1) (omega arith)))
 
 or-left : (a b : ℕ) → a ≤ bitOr a b
 or-left a b = omega (arith, or-add-and a b, and-le-r a b)
@@ -422,7 +422,7 @@ or-right a b = omega (arith, or-add-and a b, and-le-l a b)
 -- Each entry passed is at most what they come to.
 pub or-more : (xs : List ℕ) (x y i : ℕ) → ((q : ℕ) → q < i → getD xs q 0 ≤ x) → y ≡ bitOr x (getD xs i 0) → (q : ℕ) → q < i + 1 → getD xs q 0 ≤ y
 or-more xs x y i a e q h =
-    split q i (λ k. omega (arith, a q k, or-left x (getD xs i 0)))
+    by-lower q i (λ k. omega (arith, a q k, or-left x (getD xs i 0)))
     (λ k. let same : getD xs q 0 ≡ getD xs i 0 = (let at : q ≡ i = omega arith in ap (λ (j : ℕ). getD xs j 0) at) in omega (arith, or-right x (getD xs i 0)))
 
 -- A record that is left is lower.

@@ -10,14 +10,14 @@ use lib.ListN.{length, getD, set, length-set, replicate, length-replicate, getD-
 use lib.Seq.{getD-set-same, getD-set-other}
 use mathlib.Mathlib.Data.Bool.Basic.{and-elim-left, and-elim-right}
 use Rattle.prelude.proofs.Absurd.{never}
-use Rattle.prelude.proofs.Truth.{by-test, implied, or-false-both}
+use Rattle.prelude.proofs.Truth.{by-test, implied, or-false-both, by-lower}
 use Rattle.tables.specs.declared.Role.{Role}
 use Rattle.tables.specs.Record.{Record, Head, nothing, boolean, integer, name, unary, binary, unknown, shape, headOf, isExpression, isPattern, isKnown, isFit, named, operand, roleAt}
 use Rattle.tables.specs.Table.{recordAt, kindAt}
 use Rattle.tables.specs.Sheet.{isIn}
 use Rattle.tables.specs.Check.{isOfSort, allNamed, namedBefore, isBad, hasBad, isStray, fault6}
-use Rattle.tables.specs.Laws.{split, each}
-use Rattle.tables.specs.Accepted.{Clear6, fit-known, fit-kind}
+use Rattle.tables.specs.Laws.Tests.{each}
+use Rattle.tables.specs.Laws.Accepted.{Clear6, fit-known, fit-kind}
 use Rattle.checking.specs.Sweeps.{sortOf, leftAt, Left}
 use Rattle.checking.proofs.Marks.{in-more, in-last, bad-named}
 
@@ -51,15 +51,15 @@ left-take rs r ms left left′ n l h lw f =
       long = rw f (length-set left n 0 ∙ l .long);
       is =
           λ k m.
-          split k n (λ a. other k m (λ e. omega arith))
+          by-lower k n (λ a. other k m (λ e. omega arith))
           (λ a.
-          split n k (λ b. other k m (λ e. omega arith))
+          by-lower n k (λ b. other k m (λ e. omega arith))
           (λ b. let same : k ≡ n = omega arith in rw (f, same, getD-set-same left n 0 0 (omega (arith, l .long)), in-last n ms, off-and (ltb n r))));
       lower =
           λ k e.
-          split k n (λ a. l .lower k (sym (in-more k n ms (λ g. omega arith)) ∙ e))
+          by-lower k n (λ a. l .lower k (sym (in-more k n ms (λ g. omega arith)) ∙ e))
           (λ a.
-          split n k (λ b. l .lower k (sym (in-more k n ms (λ g. omega arith)) ∙ e)) (λ b. omega arith));
+          by-lower n k (λ b. l .lower k (sym (in-more k n ms (λ g. omega arith)) ∙ e)) (λ b. omega arith));
     }
   where
     other : (k : ℕ) → k < 256 → (k ≡ n → ⊥) → getD left′ k 0 ≡ leftAt rs r (ms ++ (n ∷ [])) k
@@ -71,9 +71,9 @@ left-more rs r ms left left′ x l h e f =
       long = rw f (length-set left r x ∙ l .long);
       is =
           λ k m.
-          split k r (λ a. rw (f, getD-set-other left r k x 0 (λ g. omega arith), lt-ltb k (r + 1) (omega arith) ∙ sym (lt-ltb k r a)) (l .is k m))
+          by-lower k r (λ a. rw (f, getD-set-other left r k x 0 (λ g. omega arith), lt-ltb k (r + 1) (omega arith) ∙ sym (lt-ltb k r a)) (l .is k m))
           (λ a.
-          split r k (λ b. rw (f, getD-set-other left r k x 0 (λ g. omega arith), le-ltb k (r + 1) (omega arith) ∙ sym (le-ltb k r a)) (l .is k m))
+          by-lower r k (λ b. rw (f, getD-set-other left r k x 0 (λ g. omega arith), le-ltb k (r + 1) (omega arith) ∙ sym (le-ltb k r a)) (l .is k m))
           (λ b. let same : k ≡ r = omega arith in rw (f, same, getD-set-same left r x 0 (omega (arith, l .long)), lt-ltb r (r + 1) (omega arith), new) e));
       lower = λ k g. omega (arith, l .lower k g);
     }
@@ -137,7 +137,7 @@ pub clear : (rs : List Record) (left : List ℕ) (last : ℕ) → suc last ≡ l
 unfolding fault6
 clear rs left last is few good l none one r h =
     or-false-both _ _ (good r h)
-    (split r last
+    (by-lower r last
     (λ k. rw (ne-eqb (suc r) (length rs) (λ e. omega arith)) (ap not (named r k)))
     (λ k.
     let same : r ≡ last = omega arith in

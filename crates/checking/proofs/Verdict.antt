@@ -12,8 +12,10 @@ use Rattle.tables.specs.Record.{Record}
 use Rattle.tables.specs.Sheet.{lowest}
 use Rattle.tables.specs.Check.{mostBytes, mostRecords, fault6, fault7, fault8, fault9, judged, judgedCut, check}
 use Rattle.prelude.proofs.Absurd.{never}
-use Rattle.tables.specs.Laws.{split, low}
-use Rattle.tables.specs.Accepted.{records, Clear6, some-cut}
+use Rattle.prelude.proofs.Truth.{by-lower}
+use Rattle.tables.specs.Laws.Tests.{low}
+use Rattle.tables.specs.Accepted.{records}
+use Rattle.tables.specs.Laws.Accepted.{Clear6, some-cut}
 use Rattle.tables.specs.Reading.{Indexed, CutOut}
 use Rattle.tables.specs.declared.reading.Cutting.{Cutting}
 use Rattle.checking.specs.declared.sweep.Swept.{Swept}
@@ -64,7 +66,7 @@ module _ (rs : List Record) (n : ℕ) (all : n ≡ length rs) where
 -- Where rules 6 to 8 are kept, rule 9 decides.
 module _ (rs : List Record) (n : ℕ) (all : n ≡ length rs) (s : Swept) (kept : Settled rs s) where
   none-low : (test : ℕ → Bool) → ((r : ℕ) → r < length rs → test r ≡ false) → n ≤ lowest test n
-  none-low test none = split (lowest test n) n (λ h. never (sym (none (lowest test n) (omega arith)) ∙ low test n .hit h)) (λ h. h)
+  none-low test none = by-lower (lowest test n) n (λ h. never (sym (none (lowest test n) (omega arith)) ∙ low test n .hit h)) (λ h. h)
 
   low-is : s .low ≡ lowest (fault9 rs) n
   low-is = kept .low ∙ ap (lowest (fault9 rs)) (sym all)

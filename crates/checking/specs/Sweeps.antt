@@ -12,7 +12,8 @@ use Rattle.tables.specs.Record.{Record, isPattern, named, operand, roleAt, name
 use Rattle.tables.specs.Table.{recordAt, kindAt}
 use Rattle.tables.specs.Sheet.{lowest, isIn, height, holdsName, isCovered, isCondition, isBinder, patternOf}
 use Rattle.tables.specs.Check.{mostRecords, allNamed, hasBad, chooses, fault7, fault8, fault9}
-use Rattle.tables.specs.Accepted.{records, Clear6}
+use Rattle.tables.specs.Accepted.{records}
+use Rattle.tables.specs.Laws.Accepted.{Clear6}
 use Rattle.tables.specs.Reading.{Here}
 use Rattle.checking.specs.Naming.{Whole}
 use Rattle.checking.specs.Scopes.{hasBit, bitsBelow}

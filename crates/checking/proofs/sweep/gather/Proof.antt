@@ -4,7 +4,8 @@ use native.Mathlib.Omega.{arith}
 use borrow.Author.Needs.{needs}
 use borrow.Author.Tests.{not-false}
 use Rattle.prelude.proofs.Absurd.{never}
-use Rattle.tables.specs.Accepted.{fit-records, records}
+use Rattle.tables.specs.Accepted.{records}
+use Rattle.tables.specs.Laws.Accepted.{fit-records}
 use Rattle.checking.proofs.Gathering.{Gathers, gathers-start, gathers-more, gathers-end, left-lower}
 use Rattle.checking.proofs.sweep.gather.Statement.{statement}
 use Rattle.checking.proofs.sweep.gather.Tie as tie

@@ -2,7 +2,8 @@ use mathlib.Core.Path.{sym, ap, _∙_}
 use native.Mathlib.Omega.{arith}
 use borrow.Author.Tests.{not-true, not-false}
 use Rattle.prelude.proofs.Absurd.{never}
-use Rattle.tables.specs.Accepted.{fit-records, operand-lower, records}
+use Rattle.tables.specs.Accepted.{records}
+use Rattle.tables.specs.Laws.Accepted.{fit-records, operand-lower}
 use Rattle.tables.specs.Table.{recordAt}
 use Rattle.tables.specs.Sheet.{isBinder}
 use Rattle.checking.specs.Scopes.{bitsBelow}

@@ -1,7 +1,8 @@
 use mathlib.Core.Path.{sym, _∙_}
 use mathlib.Core.Bool.{true, false}
 use native.Mathlib.Omega.{arith}
-use Rattle.tables.specs.Accepted.{fit-records, records}
+use Rattle.tables.specs.Accepted.{records}
+use Rattle.tables.specs.Laws.Accepted.{fit-records}
 use Rattle.tables.specs.Table.{recordAt}
 use Rattle.checking.proofs.Below.{name-read}
 use Rattle.checking.proofs.Gathering.{free-name, free-let-be, free-let, free-other}
