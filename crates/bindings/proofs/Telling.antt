@@ -20,7 +20,7 @@ use Rattle.patterns.specs.Ways.{gather, exists}
 use Rattle.patterns.specs.Binding.{Binding, nothing, consistent, sorted}
 use Rattle.patterns.specs.Pattern.{Pattern, itemsOf, matches, wide}
 use Rattle.patterns.specs.Binder.{bindings, Formed as Outcome, bound, refused, few, formed, mostBindings}
-use Rattle.patterns.specs.Laws.Merging.{true-false}
+use Rattle.prelude.proofs.Absurd.{true-false}
 use Rattle.patterns.specs.Read.{Readable, patternAt}
 use Rattle.matching.specs.declared.leaves.Match.{Match}
 use Rattle.matching.specs.Leaf.{Stands}

@@ -12,12 +12,13 @@ use Rattle.prelude.proofs.Truth.{implied}
 use Rattle.values.specs.Value.{Value}
 use Rattle.values.proofs.Records.{one-value}
 use Rattle.values.proofs.Frame.{below-less}
-use Rattle.choices.specs.declared.Choices.{Choices}
+use Rattle.choices.specs.State.{Choices}
 use Rattle.tables.specs.Laws.Kinds.{binder-kind}
 use Rattle.tables.specs.Record.{shape, isPattern}
 use Rattle.tables.specs.Table.{recordAt, kindAt}
-use Rattle.tables.specs.Laws.{each}
-use Rattle.tables.specs.Accepted.{records, fit-least, named-count, binder-pattern}
+use Rattle.tables.specs.Laws.Tests.{each}
+use Rattle.tables.specs.Accepted.{records}
+use Rattle.tables.specs.Laws.Accepted.{fit-least, named-count, binder-pattern}
 use Rattle.tables.specs.Sheet.{isBinder}
 use Rattle.tables.specs.Reading.{HasOperand}
 use Rattle.patterns.specs.Read.{Readable}

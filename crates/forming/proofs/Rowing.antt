@@ -15,7 +15,7 @@ use Rattle.integers.specs.declared.Order.{Order}
 use Rattle.integers.specs.declared.Order.the-variants.{Lower, Same, Higher}
 use Rattle.values.specs.Value.{after}
 use Rattle.parts.specs.Part.{CellIs}
-use Rattle.patterns.specs.Members.{at-in}
+use Rattle.prelude.proofs.Membership.{at-in}
 use Rattle.patterns.specs.Binding.{Cell, free, Binding, names, nothing, cellOf, orderCells, orderBindings, place, sorted}
 use Rattle.patterns.specs.Laws.Ordered.{Rising, before-in, bindings-same, bindings-lower, bindings-flip, higher-lower, sorted-rising}
 use Rattle.matching.specs.declared.leaves.Match.{Match}

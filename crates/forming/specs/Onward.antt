@@ -16,7 +16,8 @@ use Rattle.patterns.specs.Pattern.{Pattern, any, each, halved, contents, met, s
 use Rattle.patterns.specs.Laws.Matched.{in-together, together-in}
 use Rattle.patterns.specs.Laws.Together.{gather-cong, gather-map, with-none, with-gather, together-with, together-gather, together-assoc, Fine, all-fine, nothing-fine, matches-fine, with-nothing, nothing-together, with-only, together-nothing, one-together}
 use Rattle.patterns.specs.Read.{patternsOf, patternOf}
-use Rattle.patterns.specs.Nodes.{collectionOf, isHalved, pair, meetings, parts-length, two-of}
+use Rattle.patterns.specs.Nodes.{collectionOf, isHalved, meetings, bothHalves}
+use Rattle.patterns.specs.Laws.Nodes.{parts-length, two-of}
 
 -- A pattern that is still to be matched, with its value.
 pub record Task : Type 0 where
@@ -112,22 +113,22 @@ each-ways k ps v ts b =
     ∙ ap (withEach b) (together-gather (met k (length ps) (contents k v)) (λ vs. matchEach (patternsOf ps) vs) (matchesAll ts))
     ∙ with-gather b (met k (length ps) (contents k v)) (λ vs. together (matchEach (patternsOf ps) vs) (matchesAll ts))
 
-halved-ways : (k : Kind) (p q : Pattern) (v : Value) (ts : List Task) (b : Binding) → onward (task (halved k p q) v ∷ ts) b ≡ gather (map (pair k) (split k (contents k v))) (oneWay (p ∷ q ∷ []) ts b)
+halved-ways : (k : Kind) (p q : Pattern) (v : Value) (ts : List Task) (b : Binding) → onward (task (halved k p q) v ∷ ts) b ≡ gather (map (bothHalves k) (split k (contents k v))) (oneWay (p ∷ q ∷ []) ts b)
 unfolding matchesAll matches patternsOf
 halved-ways k p q v ts b =
     ap (withEach b) (together-gather (split k (contents k v)) (λ h. together (matches p (leftOf k h)) (matches q (rightOf k h))) (matchesAll ts))
     ∙ with-gather b (split k (contents k v)) (λ h. together (together (matches p (leftOf k h)) (matches q (rightOf k h))) (matchesAll ts))
-    ∙ gather-cong (split k (contents k v)) (λ h. withEach b (together (together (matches p (leftOf k h)) (matches q (rightOf k h))) (matchesAll ts))) (λ h. oneWay (p ∷ q ∷ []) ts b (pair k h))
+    ∙ gather-cong (split k (contents k v)) (λ h. withEach b (together (together (matches p (leftOf k h)) (matches q (rightOf k h))) (matchesAll ts))) (λ h. oneWay (p ∷ q ∷ []) ts b (bothHalves k h))
     (λ h. ap (λ (l : List Binding). withEach b (together (together (matches p (leftOf k h)) l) (matchesAll ts))) (sym (together-nothing (matches q (rightOf k h)) (matches-fine q (rightOf k h)))))
-    ∙ sym (gather-map (pair k) (split k (contents k v)) (oneWay (p ∷ q ∷ []) ts b))
+    ∙ sym (gather-map (bothHalves k) (split k (contents k v)) (oneWay (p ∷ q ∷ []) ts b))
 
 -- THEOREM: a pattern with parts goes on in all its ways, one after the other
 pub onward-ways : (r : Record) (ps : List Pattern) → 36 ≤ r .kind → r .kind ≤ 40 → (isHalved (r .kind) ≡ true → length ps ≡ 2) → (v : Value) (ts : List Task) (b : Binding)
     → onward (task (patternOf r ps) v ∷ ts) b ≡ gather (meetings (r .kind) (length ps) v) (oneWay ps ts b)
 onward-ways r ps low high two v ts b = cases (r .kind - 36) (omega arith) (omega arith)
   where
-    half : (k : Kind) → length ps ≡ 2 → onward (task (halved k (getD ps 0 any) (getD ps 1 any)) v ∷ ts) b ≡ gather (map (pair k) (split k (contents k v))) (oneWay ps ts b)
-    half k e = halved-ways k (getD ps 0 any) (getD ps 1 any) v ts b ∙ ap (λ (qs : List Pattern). gather (map (pair k) (split k (contents k v))) (oneWay qs ts b)) (two-of ps e)
+    half : (k : Kind) → length ps ≡ 2 → onward (task (halved k (getD ps 0 any) (getD ps 1 any)) v ∷ ts) b ≡ gather (map (bothHalves k) (split k (contents k v))) (oneWay ps ts b)
+    half k e = halved-ways k (getD ps 0 any) (getD ps 1 any) v ts b ∙ ap (λ (qs : List Pattern). gather (map (bothHalves k) (split k (contents k v))) (oneWay qs ts b)) (two-of ps e)
 
     cases : (d : ℕ) → r .kind ≡ 36 + d → d ≤ 4 → onward (task (patternOf r ps) v ∷ ts) b ≡ gather (meetings (r .kind) (length ps) v) (oneWay ps ts b)
     cases zero f l = rw f (each-ways tuple ps v ts b)

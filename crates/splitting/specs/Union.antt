@@ -12,12 +12,13 @@ use mathlib.Mathlib.Data.Bool.Basic.{and-elim-left, and-elim-right}
 use Rattle.prelude.proofs.Truth.{or-false-left, or-false-right, or-false-both}
 use Rattle.prelude.specs.Membership.{In}
 use Rattle.values.specs.Value.{Kind, set, sequence, map as mapping, tuple, Value}
-use Rattle.patterns.specs.Laws.Merging.{true-false}
+use Rattle.prelude.proofs.Absurd.{true-false}
 use Rattle.patterns.specs.Ways.{Halves, exists, splits}
-use Rattle.patterns.specs.Units.{Shared, in-splits}
+use Rattle.patterns.specs.Units.{Shared}
+use Rattle.patterns.specs.Laws.Units.{in-splits}
 use Rattle.patterns.specs.Laws.Named.{PartOf, shared-left, shared-right}
 use Rattle.patterns.specs.Laws.Matched.{list-items}
-use Rattle.patterns.specs.Pattern.{Pattern, name, any, literal, each, halved, Patterns, nil, cons, parts, listOf, itemsOf, contents, met, split, leftOf, rightOf, tooLarge, isSet, wide, wideEach}
+use Rattle.patterns.specs.Pattern.{Pattern, name, any, literal, each, halved, Patterns, nil, cons, parts, listOf, itemsOf, contents, met, split, leftOf, rightOf, isSet, wide, wideEach, isTooLarge}
 
 -- The pattern holds a union pattern, at any depth.
 unfoldable mutual
@@ -47,7 +48,7 @@ unfolding exists
 none-of [] f h = refl
 none-of (x ∷ xs) f h = or-false-both (f x) (exists xs f) (h x (inl refl)) (none-of xs f (λ y i. h y (inr i)))
 
-no-set : (k : Kind) (o : Option (List Value)) → isSet k ≡ false → tooLarge k o ≡ false
+no-set : (k : Kind) (o : Option (List Value)) → isSet k ≡ false → isTooLarge k o ≡ false
 no-set set o e = true-false e
 no-set sequence absent e = refl
 no-set sequence (some vs) e = refl
@@ -67,7 +68,7 @@ mutual
   no-union-narrow (each k ps) v e = none-of (met k (parts ps) (contents k v)) (λ vs. wideEach ps vs) (λ vs i. no-union-each ps vs e)
   no-union-narrow (halved k p q) v e =
       let inner = or-false-right (isSet k) (hasUnion p || hasUnion q) e in
-      or-false-both (tooLarge k (contents k v)) (exists (split k (contents k v)) (λ h. wide p (leftOf k h) || wide q (rightOf k h)))
+      or-false-both (isTooLarge k (contents k v)) (exists (split k (contents k v)) (λ h. wide p (leftOf k h) || wide q (rightOf k h)))
       (no-set k (contents k v) (or-false-left (isSet k) (hasUnion p || hasUnion q) e))
       (none-of (split k (contents k v)) (λ h. wide p (leftOf k h) || wide q (rightOf k h))
       (λ h i. or-false-both (wide p (leftOf k h)) (wide q (rightOf k h))
@@ -88,11 +89,11 @@ part-length ls (v ∷ vs) (inl p) = omega (arith, part-length ls vs p)
 part-length ls (v ∷ vs) (inr (ms, e, p)) = rw e (omega (arith, part-length ms vs p))
 
 -- a part of a set of at most seven members has at most seven
-part-fits : (ls vs : List Value) → PartOf ls vs → tooLarge set (some vs) ≡ false → tooLarge set (some (listOf (itemsOf ls))) ≡ false
+part-fits : (ls vs : List Value) → PartOf ls vs → isTooLarge set (some vs) ≡ false → isTooLarge set (some (listOf (itemsOf ls))) ≡ false
 part-fits ls vs h e = rw (list-items ls) (le-ltb 7 (length ls) (omega (arith, part-length ls vs h, ltb-false 7 (length vs) e)))
 
-halves-fit : (f g : Value → Bool) (o : Option (List Value)) → tooLarge set o ≡ false
-    → ((v : Value) → tooLarge set (contents set v) ≡ false → f v ≡ false) → ((v : Value) → tooLarge set (contents set v) ≡ false → g v ≡ false)
+halves-fit : (f g : Value → Bool) (o : Option (List Value)) → isTooLarge set o ≡ false
+    → ((v : Value) → isTooLarge set (contents set v) ≡ false → f v ≡ false) → ((v : Value) → isTooLarge set (contents set v) ≡ false → g v ≡ false)
     → exists (split set o) (λ h. f (leftOf set h) || g (rightOf set h)) ≡ false
 unfolding exists
 halves-fit f g absent e a b = refl
@@ -106,14 +107,14 @@ halves-fit f g (some vs) e a b =
         (b (rightOf set h) (part-fits (h .right) vs (shared-right vs (h .left) (h .right) s) e))
 
 -- THEOREM: a shallow pattern is not wide with anything but a set of over seven members
-pub shallow-narrow : (p : Pattern) (v : Value) → shallow p ≡ true → tooLarge set (contents set v) ≡ false → wide p v ≡ false
+pub shallow-narrow : (p : Pattern) (v : Value) → shallow p ≡ true → isTooLarge set (contents set v) ≡ false → wide p v ≡ false
 unfolding shallow hasUnion wide
 shallow-narrow (name x) v e n = refl
 shallow-narrow any v e n = refl
 shallow-narrow (literal w) v e n = refl
 shallow-narrow (each k ps) v e n = no-union-narrow (each k ps) v (not-true (someUnion ps) e)
 shallow-narrow (halved set p q) v e n =
-    or-false-both (tooLarge set (contents set v)) (exists (split set (contents set v)) (λ h. wide p (leftOf set h) || wide q (rightOf set h))) n
+    or-false-both (isTooLarge set (contents set v)) (exists (split set (contents set v)) (λ h. wide p (leftOf set h) || wide q (rightOf set h))) n
     (halves-fit (wide p) (wide q) (contents set v) n
     (λ w m. shallow-narrow p w (and-elim-left (shallow p) (shallow q) e) m)
     (λ w m. shallow-narrow q w (and-elim-right (shallow p) (shallow q) e) m))
