@@ -18,8 +18,7 @@ use Rattle.tables.specs.Sheet.{some, isIn, isName, holdsName, isCovered, isCond
 use Rattle.tables.specs.Check.{chooses, fault7, fault8}
 use Rattle.tables.specs.Laws.Tests.{low, Place, in-place}
 use Rattle.tables.specs.Laws.Below.{parent-higher}
-use Rattle.tables.specs.Accepted.{condition-last}
-use Rattle.tables.specs.Laws.Accepted.{Clear6, lower, bound-operand, condition-operand, bound-last, holds-at}
+use Rattle.tables.specs.Laws.Accepted.{condition-last, Clear6, lower, bound-operand, condition-operand, bound-last, holds-at}
 use Rattle.checking.specs.Scopes.{hasBit}
 use Rattle.checking.specs.Sweeps.{without, apart, Passes, Frees}
 use Rattle.checking.proofs.Tallness.{named-parent}
