@@ -254,16 +254,16 @@ same-to s zero r ρ = same-stop 20 r
 same-to s (suc n) r ρ = same-node (λ a σ. tree.meaningTo s n a σ) (λ a σ. loose.looseTo s n a σ) (λ a σ. same-to s n a σ) (s .pattern) r (s .node r) ρ
 
 -- The outcomes at the leaves of a record's tree are exactly those of its loose meaning.
-pub agreement : (s : Sheet) (r : ℕ) (ρ : State) (o : Outcome Value) → Gives (tree.meaning s r ρ) o ↔ loose.loose s r ρ o
-unfolding tree.meaning loose.loose
+pub agreement : (s : Sheet) (r : ℕ) (ρ : State) (o : Outcome Value) → Gives (tree.meaning s r ρ) o ↔ loose.looseMeaning s r ρ o
+unfolding tree.meaning loose.looseMeaning
 agreement s r ρ o = same-to s (suc r) r ρ o
 
 -- THEOREM: the loose meaning of a record is what it says over the loose meanings of the records that it names. No bound is in it.
-pub loose-meaning-is : (s : Sheet) → Downward s → (r : ℕ) (ρ : State) (o : Outcome Value) → loose.loose s r ρ o ↔ looseOf (s .pattern) (λ a σ. loose.loose s a σ) r (s .node r) ρ o
+pub loose-meaning-is : (s : Sheet) → Downward s → (r : ℕ) (ρ : State) (o : Outcome Value) → loose.looseMeaning s r ρ o ↔ looseOf (s .pattern) (λ a σ. loose.looseMeaning s a σ) r (s .node r) ρ o
 loose-meaning-is s d r ρ o = (
   λ h. said o .0 (subst (λ t. Gives t o) (meaning-is s d r ρ) (agreement s r ρ o .1 h)),
   λ h. agreement s r ρ o .0 (subst (λ t. Gives t o) (sym (meaning-is s d r ρ)) (said o .1 h)),
 )
   where
-    said : Same (tree.means (s .pattern) (λ a σ. tree.meaning s a σ) r (s .node r) ρ) (looseOf (s .pattern) (λ a σ. loose.loose s a σ) r (s .node r) ρ)
-    said = same-node (λ a σ. tree.meaning s a σ) (λ a σ. loose.loose s a σ) (λ a σ. agreement s a σ) (s .pattern) r (s .node r) ρ
+    said : Same (tree.means (s .pattern) (λ a σ. tree.meaning s a σ) r (s .node r) ρ) (looseOf (s .pattern) (λ a σ. loose.looseMeaning s a σ) r (s .node r) ρ)
+    said = same-node (λ a σ. tree.meaning s a σ) (λ a σ. loose.looseMeaning s a σ) (λ a σ. agreement s a σ) (s .pattern) r (s .node r) ρ
