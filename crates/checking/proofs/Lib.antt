@@ -6,4 +6,7 @@ mod Above
 mod Bits
 mod Faults
 mod Tallness
+mod Leaving
+mod Closing
+mod Gathering
 mod Verdict

@@ -23,10 +23,10 @@ use Rattle.checking.specs.Naming.{Marked, MarkedOne, MarkedAll}
 
 -- ---- one mark
 
-in-more : (m n : ℕ) (ms : List ℕ) → (m ≡ n → ⊥) → isIn m (ms ++ (n ∷ [])) ≡ isIn m ms
+pub in-more : (m n : ℕ) (ms : List ℕ) → (m ≡ n → ⊥) → isIn m (ms ++ (n ∷ [])) ≡ isIn m ms
 in-more m n ms ne = in-append m ms (n ∷ []) ∙ ap (λ (b : Bool). isIn m ms || (b || false)) (ne-eqb m n ne) ∙ or-false (isIn m ms)
 
-in-last : (n : ℕ) (ms : List ℕ) → isIn n (ms ++ (n ∷ [])) ≡ true
+pub in-last : (n : ℕ) (ms : List ℕ) → isIn n (ms ++ (n ∷ [])) ≡ true
 in-last n ms = in-append n ms (n ∷ []) ∙ or-inr (isIn n ms) (eqb n n || false) (ap (λ (b : Bool). b || false) (eq-eqb n n refl))
 
 pub mark-one : (marks ms : List ℕ) (n : ℕ) → n < 200 → Marked marks ms → Marked (set marks n 1) (ms ++ (n ∷ []))
@@ -88,7 +88,7 @@ all-append : (rs qs : List Record) → allNamed (rs ++ qs) ≡ allNamed rs ++ al
 all-append [] qs = refl
 all-append (r ∷ rs) qs = ap (λ (ns : List ℕ). named r ++ ns) (all-append rs qs) ∙ sym (append-assoc (named r) (allNamed rs) (allNamed qs))
 
-all-more : (rs : List Record) (r : ℕ) → r < length rs → allNamed (take (suc r) rs) ≡ allNamed (take r rs) ++ named (recordAt rs r)
+pub all-more : (rs : List Record) (r : ℕ) → r < length rs → allNamed (take (suc r) rs) ≡ allNamed (take r rs) ++ named (recordAt rs r)
 all-more rs r h =
     ap allNamed (take-suc rs r noRecord h) ∙ all-append (take r rs) (recordAt rs r ∷ [])
     ∙ ap (λ (ns : List ℕ). allNamed (take r rs) ++ ns) (append-nil (named (recordAt rs r)))

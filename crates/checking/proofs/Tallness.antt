@@ -151,7 +151,7 @@ module _ (rs : List Record) (clear : Clear6 rs) where
   none-named n (q ∷ qs) e =
       in-append n (named q) (allNamed qs) ∙ or-false-both (isIn n (named q)) (isIn n (allNamed qs)) (e 0 (omega arith)) (none-named n qs (λ k h. e (suc k) (omega arith)))
 
-  named-parent : (r : ℕ) → suc r < length rs → parent rs r < length rs
+  pub named-parent : (r : ℕ) → suc r < length rs → parent rs r < length rs
   named-parent r h =
       by-lower (parent rs r) (length rs) (λ k. k)
       (λ k.

@@ -45,14 +45,3 @@ other-known k n h a b c d e f =
     free-known (isExpression k || isPattern k) (shape k .head) n
     (implied (not (isTested k)) _ (each (λ k. not (not (isTested k)) || isFree (isExpression k || isPattern k) (shape k .head)) 41 refl k (omega arith))
     (rw (ne-eqb k 1 a, ne-eqb k 34 b, ne-eqb k 3 c, ne-eqb k 32 d, ne-eqb k 4 e, ne-eqb k 5 f)))
-
--- All other kinds but the integers' have nothing there.
-abbrev isHeaded : ℕ → Bool
-isHeaded k = isTested k || eqb k 2 || eqb k 35
-
-pub nothing-before : (k : ℕ) → k ≤ 40 → (k ≡ 4 → ⊥) → (k ≡ 5 → ⊥) → (k ≡ 1 → ⊥) → (k ≡ 3 → ⊥) → (k ≡ 32 → ⊥) → (k ≡ 34 → ⊥) → (k ≡ 2 → ⊥) → (k ≡ 35 → ⊥) → 4 ≡ firstOf k
-unfolding shape
-nothing-before k h a b c d e f g i =
-    eqb-true 4 (firstOf k)
-    (implied (not (isHeaded k)) _ (each (λ k. not (not (isHeaded k)) || eqb 4 (firstOf k)) 41 refl k (omega arith))
-    (rw (ne-eqb k 1 c, ne-eqb k 34 f, ne-eqb k 3 d, ne-eqb k 32 e, ne-eqb k 4 a, ne-eqb k 5 b, ne-eqb k 2 g, ne-eqb k 35 i)))

@@ -199,6 +199,10 @@ module _ (rs : List Record) (clear6 : Clear6 rs) where
   unfolding isBound
   bound-last r n e = climb-top (λ q role up. (isCovered role && holdsName rs (patternOf rs q) n) || up) false rs lower r (last-top r e)
 
+  pub condition-last : (r : ℕ) → suc r ≡ length rs → inCondition rs r ≡ false
+  unfolding inCondition
+  condition-last r e = climb-top (λ q role up. isCondition role || up) false rs lower r (last-top r e)
+
   -- ---- what lies below
 
   -- What a pattern holds.

@@ -8,7 +8,7 @@ use borrow.Author.Tests.{ltb-true, ltb-false, eq-eqb, eqb-true, not-false}
 use lib.Dec.{eqb, ltb}
 use lib.ListN.{length, getD}
 use mathlib.Mathlib.Data.Bool.Basic.{or-inr}
-use Rattle.prelude.proofs.Truth.{by-lower, or-false-left, or-false-right}
+use Rattle.prelude.proofs.Truth.{by-lower, or-false-left, or-false-right, or-false-both}
 use Rattle.prelude.proofs.Absurd.{never}
 use Rattle.tables.specs.Sheet.{any, lowest, isIn}
 
@@ -20,6 +20,10 @@ module _ (test : ℕ → Bool) where
   any-none (suc n) e i h =
       by-lower i n (λ l. any-none n (or-false-left (any test n) (test n) e) i l)
       (λ l. let same : i ≡ n = omega arith in rw same (or-false-right (any test n) (test n) e))
+
+  pub any-false : (n : ℕ) → ((i : ℕ) → i < n → test i ≡ false) → any test n ≡ false
+  any-false zero f = refl
+  any-false (suc n) f = or-false-both (any test n) (test n) (any-false n (λ i h. f i (omega arith))) (f n (omega arith))
 
   -- ---- lowest
 

@@ -1,6 +1,10 @@
 //! Every call made twice, by the linked services and by the reference: the answers and every byte must be the same.
 #![allow(dead_code)]
 
+pub mod program;
+pub mod values;
+pub mod written;
+
 use generator::Random;
 use sheets::lent::{self, SCRATCH_SIZE};
 use sheets::{Answer, List, Value};
