@@ -129,7 +129,7 @@ pub fn put_integer(z: i32, out: &mut [u8], at: usize) -> usize
 // ---- values
 
 // What stands before an item of a collection.
-pub enum Separator {
+enum Separator {
     Nothing,
     Comma,
     Arrow,
