@@ -2,3 +2,4 @@ mod Rowing
 mod Pushing
 mod Solving
 mod Settling
+mod Reducing

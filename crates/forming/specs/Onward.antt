@@ -66,7 +66,7 @@ unfolding matchesAll
 onward-first p v ts b = sym (together-with b (matches p v) (matchesAll ts))
 
 -- what is put together with the same is the same
-together-alike : (xs ys ds : List Binding) → Alike xs ys → Alike (together xs ds) (together ys ds)
+pub together-alike : (xs ys ds : List Binding) → Alike xs ys → Alike (together xs ds) (together ys ds)
 together-alike xs ys ds h c = (go xs ys (λ x i. h x .0 i), go ys xs (λ x i. h x .1 i))
   where
     go : (us ws : List Binding) → ((x : Binding) → In x us → In x ws) → In c (together us ds) → In c (together ws ds)

@@ -1,5 +1,6 @@
 // The bindings of a pattern formed once: all ways are gone through with an agenda of what is still to be matched, and each match found is
 // entered in order, once, into rows.
+mod reduced;
 mod rows;
 mod settled;
 
@@ -87,10 +88,11 @@ pub fn solve(
         let next = agenda[3 * head + 2] as usize;
         let k = kind(table, index, p);
         if kinds::TUPLE_PATTERN <= k {
+            let q = reduced::reduced(table, index, p);
             return divide(
                 table,
                 index,
-                p,
+                q,
                 s,
                 word,
                 agenda,
