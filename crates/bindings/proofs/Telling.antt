@@ -22,7 +22,6 @@ use Rattle.patterns.specs.Pattern.{Pattern, itemsOf, matches, wide}
 use Rattle.patterns.specs.Binder.{bindings, Formed as Outcome, bound, refused, few, formed, mostBindings}
 use Rattle.patterns.specs.Laws.Merging.{true-false}
 use Rattle.patterns.specs.Read.{Readable, patternAt}
-use Rattle.matching.specs.declared.leaves.Match.{Match}
 use Rattle.matching.specs.Leaf.{Stands}
 use Rattle.bindings.proofs.Members.{first-of, none-left}
 use Rattle.bindings.proofs.Large.{members-at, set-held}
@@ -73,7 +72,7 @@ module _ (table index : List ℕ) (p : ℕ) (s : List ℕ) (at : ℕ) (a rows or
     seed-third,
   )
 
-  module _ (f : Match) (nothing-yet : (s : List ℕ) → Stands s f nothing) where
+  module _ (f : List ℕ) (nothing-yet : (s : List ℕ) → Stands s f nothing) where
     pub one-asked : Solvable table index s (seeded a p at) 1 2 f rows order n
     one-asked = record {
       short = h .short;

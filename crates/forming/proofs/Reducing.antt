@@ -31,7 +31,6 @@ use Rattle.forming.specs.Onward.{Task, task, matchesAll, onward, togethe
 use Rattle.forming.specs.Adding.{adding, adding-alike}
 use Rattle.forming.specs.Rows.{Entered}
 use Rattle.forming.specs.declared.Step.{Step}
-use Rattle.matching.specs.declared.leaves.Match.{Match}
 use Rattle.forming.specs.Reduced.{AcceptsAll, Beside, TakesMore, Splits, TellsAll, TellsMore, Reduced, TellsSpare}
 use Rattle.forming.proofs.Pushing.{at-map}
 
@@ -381,7 +380,7 @@ pub onward-alike : (p q : Pattern) (v : Value) (ts : List Task) (b : Binding) �
 unfolding matchesAll
 onward-alike p q v ts b h = with-alike b (together (matches p v) (matchesAll ts)) (together (matches q v) (matchesAll ts)) (together-alike (matches p v) (matches q v) (matchesAll ts) h)
 
-module _ (table index : List ℕ) (p q : ℕ) (x : Reduced table index p q) (s : List ℕ) (word : ℕ) (a : List ℕ) (next top : ℕ) (m : Match) (rows order : List ℕ) (n : ℕ) where
+module _ (table index : List ℕ) (p q : ℕ) (x : Reduced table index p q) (s : List ℕ) (word : ℕ) (a : List ℕ) (next top : ℕ) (m : List ℕ) (rows order : List ℕ) (n : ℕ) where
   pub reduced-asked : Dividable table index p s word a next top m rows order n → Dividable table index q s word a next top m rows order n
   reduced-asked h = record {
     readable = x .readable;

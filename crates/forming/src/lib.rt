@@ -5,10 +5,10 @@ mod rows;
 mod settled;
 
 use matching::leaves;
-use matching::leaves::Match;
 use matching::nodes;
 use matching::nodes::Meeting;
 use parts::words;
+use parts::words::Env;
 use tables::Index;
 use tables::kinds;
 use tables::reading::kind;
@@ -72,16 +72,16 @@ pub fn solve(
     agenda: &mut [u32; 603],
     head: usize,
     top: usize,
-    found: Match,
+    found: &[u32; Env::NAMES],
     rows: &mut [u32; 4080],
     order: &mut [u8; 255],
     n: usize,
 ) -> Step
-    requires { ⌜ Solvable (now table) (now index) (now s) (now agenda) head top found (now rows) (now order) n ⌝ }
-    ensures { λ r. ⌜ Solved (now (table .entry)) (now (index .entry)) (now (s .entry)) (now (agenda .entry)) (now (agenda .exit)) head top found (now (rows .entry)) (now (order .entry)) n (now (rows .exit)) (now (order .exit)) r ⌝ }
+    requires { ⌜ Solvable (now table) (now index) (now s) (now agenda) head top (now found) (now rows) (now order) n ⌝ }
+    ensures { λ r. ⌜ Solved (now (table .entry)) (now (index .entry)) (now (s .entry)) (now (agenda .entry)) (now (agenda .exit)) head top (now (found .entry)) (now (rows .entry)) (now (order .entry)) n (now (rows .exit)) (now (order .exit)) r ⌝ }
 {
     let mut head = head;
-    let mut found = found;
+    let mut words = *found;
     while 0 < head {
         let p = agenda[3 * head] as usize;
         let word = agenda[3 * head + 1];
@@ -98,14 +98,14 @@ pub fn solve(
                 agenda,
                 next,
                 top,
-                found,
+                &words,
                 rows,
                 order,
                 n,
             );
         }
-        found = leaves::match_leaf(table, index, p, s, word, found);
-        if !found.fits {
+        let fits = leaves::match_leaf(table, index, p, s, word, &mut words);
+        if !fits {
             return Step {
                 formed: Formed::Number(n),
                 any: false,
@@ -113,7 +113,7 @@ pub fn solve(
         }
         head = next;
     }
-    let formed = rows::enter(s, found, rows, order, n);
+    let formed = rows::enter(s, &words, rows, order, n);
     Step { formed, any: true }
 }
 
@@ -127,13 +127,13 @@ fn divide(
     agenda: &mut [u32; 603],
     next: usize,
     top: usize,
-    found: Match,
+    found: &[u32; Env::NAMES],
     rows: &mut [u32; 4080],
     order: &mut [u8; 255],
     n: usize,
 ) -> Step
-    requires { ⌜ Dividable (now table) (now index) p (now s) word (now agenda) next top found (now rows) (now order) n ⌝ }
-    ensures { λ r. ⌜ Divided (now (table .entry)) (now (index .entry)) p (now (s .entry)) word (now (agenda .entry)) (now (agenda .exit)) next top found (now (rows .entry)) (now (order .entry)) n (now (rows .exit)) (now (order .exit)) r ⌝ }
+    requires { ⌜ Dividable (now table) (now index) p (now s) word (now agenda) next top (now found) (now rows) (now order) n ⌝ }
+    ensures { λ r. ⌜ Divided (now (table .entry)) (now (index .entry)) p (now (s .entry)) word (now (agenda .entry)) (now (agenda .exit)) next top (now (found .entry)) (now (rows .entry)) (now (order .entry)) n (now (rows .exit)) (now (order .exit)) r ⌝ }
 {
     let k = kind(table, index, p);
     let c = operand_count(table, index, p);

@@ -31,23 +31,23 @@ use Rattle.tables.proofs.reading.operand_count.Reads as operand-count-reads
 use Rattle.forming.proofs.+divide+solve.{statement}
 use Rattle.forming.proofs.+divide+solve.Tie.{close}
 
-abbrev μ-divide : Measures 6 divide-kinds.ps ℕ
+abbrev μ-divide : Measures 7 divide-kinds.ps ℕ
 μ-divide κs a = 2 * (201 * (201 - a .1 .1 .1 .1 .1 .1 .1 .0) + a .1 .1 .1 .1 .1 .1 .0) + 2
 
-abbrev μ-solve : Measures 6 solve-kinds.ps ℕ
+abbrev μ-solve : Measures 7 solve-kinds.ps ℕ
 μ-solve κs a = 2 * (201 * (201 - a .1 .1 .1 .1 .1 .0) + a .1 .1 .1 .1 .0) + 1
 
-abbrev divide-at : ℕ → In 6 divide-kinds.ps
-divide-at t = and 6 divide-kinds.ps (is 6 divide-kinds.ps μ-divide t) divide.Pre
+abbrev divide-at : ℕ → In 7 divide-kinds.ps
+divide-at t = and 7 divide-kinds.ps (is 7 divide-kinds.ps μ-divide t) divide.Pre
 
-abbrev divide-below : ℕ → In 6 divide-kinds.ps
-divide-below t = and 6 divide-kinds.ps (falls 6 divide-kinds.ps _<_ μ-divide t) divide.Pre
+abbrev divide-below : ℕ → In 7 divide-kinds.ps
+divide-below t = and 7 divide-kinds.ps (falls 7 divide-kinds.ps _<_ μ-divide t) divide.Pre
 
-abbrev solve-at : ℕ → In 6 solve-kinds.ps
-solve-at t = and 6 solve-kinds.ps (is 6 solve-kinds.ps μ-solve t) solve.Pre
+abbrev solve-at : ℕ → In 7 solve-kinds.ps
+solve-at t = and 7 solve-kinds.ps (is 7 solve-kinds.ps μ-solve t) solve.Pre
 
-abbrev solve-below : ℕ → In 6 solve-kinds.ps
-solve-below t = and 6 solve-kinds.ps (falls 6 solve-kinds.ps _<_ μ-solve t) solve.Pre
+abbrev solve-below : ℕ → In 7 solve-kinds.ps
+solve-below t = and 7 solve-kinds.ps (falls 7 solve-kinds.ps _<_ μ-solve t) solve.Pre
 
 abbrev divide-calls : ℕ → divide-lts.Claims
 divide-calls t = (kind-reads.Asked, kind-reads.Learnt, operand-count-reads.Asked, operand-count-reads.Learnt, unpack-reads.Asked, unpack-reads.Learnt, meet-reads.Asked, meet-reads.Learnt, is-settled-reads.Asked, is-settled-reads.Learnt, push-reads.Asked, push-reads.Learnt, solve-below t, solve.Post, either-reads.Asked, either-reads.Learnt, next-way-reads.Asked, next-way-reads.Learnt)
@@ -138,106 +138,106 @@ divide-returns-3 : (t : ℕ) → divide-lts.Need-returns-3 (divide-calls t) (div
 divide-returns-3 t c = divide-none _ _ _ _ _ _ _ _ _ _ _ _ (c .before .before .before .before .before .before .before .before .pre .1) (c .before .before .meet .result) (recast-word (c .before .before .before .before .before .before .before .before .args .word) _ _ _ _ (c .before .before .meet .result) (c .before .before .before .before .before .kind .ensures .0) (c .before .before .before .before .operand-count .ensures .0) (c .before .before .before .unpack .ensures) (c .before .before .meet .ensures)) (λ w d. ⊎-elim (λ k. let e = rw d at k in omega arith) (λ k. let e = rw d at k in omega arith) (c .match .keys2))
 
 abbrev solve-Inv-loop : solve-lts.InvT-loop
-solve-Inv-loop table index s agenda₀ head top rows₀ order₀ n head₀ found₀ agenda rows order head' found = SolveSoFar table index s agenda₀ head top found₀ rows₀ order₀ n agenda rows order head' found
+solve-Inv-loop table index s agenda₀ head top found rows₀ order₀ n head₀ words₀ agenda rows order head' words = SolveSoFar table index s agenda₀ head top found rows₀ order₀ n agenda rows order head' words
 
 abbrev solve-μ-loop : solve-lts.MeasureT-loop
-solve-μ-loop table index s agenda₀ head top rows₀ order₀ n head₀ found₀ agenda rows order head' found = head'
+solve-μ-loop table index s agenda₀ head top found rows₀ order₀ n head₀ words₀ agenda rows order head' words = head'
 
 -- src/lib.rt:82:5
 solve-loop-holds : (t : ℕ) → solve-lts.Need-loop-holds (solve-calls t) (solve-at t) solve.Post solve-Inv-loop solve-μ-loop
-solve-loop-holds t c = solve-start _ _ _ _ _ _ _ _ _ _ (c .before .before .pre .1)
+solve-loop-holds t c = solve-start _ _ _ _ _ _ _ _ _ _ (c .before .before .before .pre .1)
 
 -- src/lib.rt:83:24
 solve-mul-p : (t : ℕ) → solve-lts.Need-mul-p (solve-calls t) (solve-at t) solve.Post solve-Inv-loop solve-μ-loop
-solve-mul-p t c = omega (arith, head-low _ _ _ _ _ _ _ _ _ _ (c .before .before .before .before .pre .1) _ _ _ _ _ (c .before .loop .inv))
+solve-mul-p t c = omega (arith, head-low _ _ _ _ _ _ _ _ _ _ (c .before .before .before .before .before .pre .1) _ _ _ _ _ (c .before .loop .inv))
 
 -- src/lib.rt:83:17
 solve-mul-p-2 : (t : ℕ) → solve-lts.Need-mul-p-2 (solve-calls t) (solve-at t) solve.Post solve-Inv-loop solve-μ-loop
-solve-mul-p-2 t c = omega (arith, head-low _ _ _ _ _ _ _ _ _ _ (c .before .before .before .before .pre .1) _ _ _ _ _ (c .before .loop .inv))
+solve-mul-p-2 t c = omega (arith, head-low _ _ _ _ _ _ _ _ _ _ (c .before .before .before .before .before .pre .1) _ _ _ _ _ (c .before .loop .inv))
 
 -- src/lib.rt:83:17
 solve-element-copy-out-p : (t : ℕ) → solve-lts.Need-element-copy-out-p (solve-calls t) (solve-at t) solve.Post solve-Inv-loop solve-μ-loop
-solve-element-copy-out-p t c = omega (arith, head-low _ _ _ _ _ _ _ _ _ _ (c .before .before .before .before .pre .1) _ _ _ _ _ (c .before .loop .inv))
+solve-element-copy-out-p t c = omega (arith, head-low _ _ _ _ _ _ _ _ _ _ (c .before .before .before .before .before .pre .1) _ _ _ _ _ (c .before .loop .inv))
 
 -- src/lib.rt:83:17
 solve-cast-p : (t : ℕ) → solve-lts.Need-cast-p (solve-calls t) (solve-at t) solve.Post solve-Inv-loop solve-μ-loop
-solve-cast-p t c = omega (arith, entry-low _ _ _ _ _ _ _ _ _ _ (c .before .before .before .before .before .pre .1) _ _ _ _ _ (c .before .before .loop .inv) (omega arith))
+solve-cast-p t c = omega (arith, entry-low _ _ _ _ _ _ _ _ _ _ (c .before .before .before .before .before .before .pre .1) _ _ _ _ _ (c .before .before .loop .inv) (omega arith))
 
 -- src/lib.rt:84:27
 solve-mul-word : (t : ℕ) → solve-lts.Need-mul-word (solve-calls t) (solve-at t) solve.Post solve-Inv-loop solve-μ-loop
-solve-mul-word t c = omega (arith, head-low _ _ _ _ _ _ _ _ _ _ (c .before .before .before .before .before .pre .1) _ _ _ _ _ (c .before .before .loop .inv))
+solve-mul-word t c = omega (arith, head-low _ _ _ _ _ _ _ _ _ _ (c .before .before .before .before .before .before .pre .1) _ _ _ _ _ (c .before .before .loop .inv))
 
 -- src/lib.rt:84:27
 solve-add-word : (t : ℕ) → solve-lts.Need-add-word (solve-calls t) (solve-at t) solve.Post solve-Inv-loop solve-μ-loop
-solve-add-word t c = omega (arith, head-low _ _ _ _ _ _ _ _ _ _ (c .before .before .before .before .before .pre .1) _ _ _ _ _ (c .before .before .loop .inv))
+solve-add-word t c = omega (arith, head-low _ _ _ _ _ _ _ _ _ _ (c .before .before .before .before .before .before .pre .1) _ _ _ _ _ (c .before .before .loop .inv))
 
 -- src/lib.rt:84:20
 solve-mul-word-2 : (t : ℕ) → solve-lts.Need-mul-word-2 (solve-calls t) (solve-at t) solve.Post solve-Inv-loop solve-μ-loop
-solve-mul-word-2 t c = omega (arith, head-low _ _ _ _ _ _ _ _ _ _ (c .before .before .before .before .before .pre .1) _ _ _ _ _ (c .before .before .loop .inv))
+solve-mul-word-2 t c = omega (arith, head-low _ _ _ _ _ _ _ _ _ _ (c .before .before .before .before .before .before .pre .1) _ _ _ _ _ (c .before .before .loop .inv))
 
 -- src/lib.rt:84:20
 solve-element-copy-out-word : (t : ℕ) → solve-lts.Need-element-copy-out-word (solve-calls t) (solve-at t) solve.Post solve-Inv-loop solve-μ-loop
-solve-element-copy-out-word t c = omega (arith, head-low _ _ _ _ _ _ _ _ _ _ (c .before .before .before .before .before .pre .1) _ _ _ _ _ (c .before .before .loop .inv))
+solve-element-copy-out-word t c = omega (arith, head-low _ _ _ _ _ _ _ _ _ _ (c .before .before .before .before .before .before .pre .1) _ _ _ _ _ (c .before .before .loop .inv))
 
 -- src/lib.rt:85:27
 solve-mul-next : (t : ℕ) → solve-lts.Need-mul-next (solve-calls t) (solve-at t) solve.Post solve-Inv-loop solve-μ-loop
-solve-mul-next t c = omega (arith, head-low _ _ _ _ _ _ _ _ _ _ (c .before .before .before .before .before .before .pre .1) _ _ _ _ _ (c .before .before .before .loop .inv))
+solve-mul-next t c = omega (arith, head-low _ _ _ _ _ _ _ _ _ _ (c .before .before .before .before .before .before .before .pre .1) _ _ _ _ _ (c .before .before .before .loop .inv))
 
 -- src/lib.rt:85:27
 solve-add-next : (t : ℕ) → solve-lts.Need-add-next (solve-calls t) (solve-at t) solve.Post solve-Inv-loop solve-μ-loop
-solve-add-next t c = omega (arith, head-low _ _ _ _ _ _ _ _ _ _ (c .before .before .before .before .before .before .pre .1) _ _ _ _ _ (c .before .before .before .loop .inv))
+solve-add-next t c = omega (arith, head-low _ _ _ _ _ _ _ _ _ _ (c .before .before .before .before .before .before .before .pre .1) _ _ _ _ _ (c .before .before .before .loop .inv))
 
 -- src/lib.rt:85:20
 solve-mul-next-2 : (t : ℕ) → solve-lts.Need-mul-next-2 (solve-calls t) (solve-at t) solve.Post solve-Inv-loop solve-μ-loop
-solve-mul-next-2 t c = omega (arith, head-low _ _ _ _ _ _ _ _ _ _ (c .before .before .before .before .before .before .pre .1) _ _ _ _ _ (c .before .before .before .loop .inv))
+solve-mul-next-2 t c = omega (arith, head-low _ _ _ _ _ _ _ _ _ _ (c .before .before .before .before .before .before .before .pre .1) _ _ _ _ _ (c .before .before .before .loop .inv))
 
 -- src/lib.rt:85:20
 solve-element-copy-out-next : (t : ℕ) → solve-lts.Need-element-copy-out-next (solve-calls t) (solve-at t) solve.Post solve-Inv-loop solve-μ-loop
-solve-element-copy-out-next t c = omega (arith, head-low _ _ _ _ _ _ _ _ _ _ (c .before .before .before .before .before .before .pre .1) _ _ _ _ _ (c .before .before .before .loop .inv))
+solve-element-copy-out-next t c = omega (arith, head-low _ _ _ _ _ _ _ _ _ _ (c .before .before .before .before .before .before .before .pre .1) _ _ _ _ _ (c .before .before .before .loop .inv))
 
 -- src/lib.rt:85:20
 solve-cast-next : (t : ℕ) → solve-lts.Need-cast-next (solve-calls t) (solve-at t) solve.Post solve-Inv-loop solve-μ-loop
-solve-cast-next t c = omega (arith, next-lower _ _ _ _ _ _ _ _ _ _ (c .before .before .before .before .before .before .before .pre .1) _ _ _ _ _ (c .before .before .before .before .loop .inv) (omega arith), head-low _ _ _ _ _ _ _ _ _ _ (c .before .before .before .before .before .before .before .pre .1) _ _ _ _ _ (c .before .before .before .before .loop .inv))
+solve-cast-next t c = omega (arith, next-lower _ _ _ _ _ _ _ _ _ _ (c .before .before .before .before .before .before .before .before .pre .1) _ _ _ _ _ (c .before .before .before .before .loop .inv) (omega arith), head-low _ _ _ _ _ _ _ _ _ _ (c .before .before .before .before .before .before .before .before .pre .1) _ _ _ _ _ (c .before .before .before .before .loop .inv))
 
 -- src/lib.rt:86:13
 solve-kind-requires : (t : ℕ) → solve-lts.Need-kind-requires (solve-calls t) (solve-at t) solve.Post solve-Inv-loop solve-μ-loop
-solve-kind-requires t c κs = entry-readable _ _ _ _ _ _ _ _ _ _ (c .before .before .before .before .before .before .before .pre .1) _ _ _ _ _ (c .before .before .before .before .loop .inv) (omega arith) .here
+solve-kind-requires t c κs = entry-readable _ _ _ _ _ _ _ _ _ _ (c .before .before .before .before .before .before .before .before .pre .1) _ _ _ _ _ (c .before .before .before .before .loop .inv) (omega arith) .here
 
 -- src/lib.rt:90:21
 solve-reduced-requires : (t : ℕ) → solve-lts.Need-reduced-requires (solve-calls t) (solve-at t) solve.Post solve-Inv-loop solve-μ-loop
-solve-reduced-requires t c κs = (entry-readable _ _ _ _ _ _ _ _ _ _ (c .before .before .before .before .before .before .before .before .before .pre .1) _ _ _ _ _ (c .before .before .before .before .before .before .loop .inv) (omega arith), omega (arith, c .before .kind .ensures .0))
+solve-reduced-requires t c κs = (entry-readable _ _ _ _ _ _ _ _ _ _ (c .before .before .before .before .before .before .before .before .before .before .pre .1) _ _ _ _ _ (c .before .before .before .before .before .before .loop .inv) (omega arith), omega (arith, c .before .kind .ensures .0))
 
 -- src/lib.rt:88:13
 solve-divide-requires : (t : ℕ) → solve-lts.Need-divide-requires (solve-calls t) (solve-at t) solve.Post solve-Inv-loop solve-μ-loop
-solve-divide-requires t c κs = (omega (arith, c .before .before .before .before .before .before .before .before .before .before .before .before .before .pre .0, c .before .before .before .before .before .before .before .before .before .before .loop .inv .falls, next-lower _ _ _ _ _ _ _ _ _ _ (c .before .before .before .before .before .before .before .before .before .before .before .before .before .pre .1) _ _ _ _ _ (c .before .before .before .before .before .before .before .before .before .before .loop .inv) (omega arith)), reduced-asked _ _ _ _ (c .before .before .before .reduced .ensures) _ _ _ _ _ _ _ _ _ (divide-asked _ _ _ _ _ _ _ _ _ _ (c .before .before .before .before .before .before .before .before .before .before .before .before .before .pre .1) _ _ _ _ _ (c .before .before .before .before .before .before .before .before .before .before .loop .inv) (omega arith) (omega (arith, c .before .before .before .before .before .kind .ensures .0))))
+solve-divide-requires t c κs = (omega (arith, c .before .before .before .before .before .before .before .before .before .before .before .before .before .before .before .pre .0, c .before .before .before .before .before .before .before .before .before .before .before .loop .inv .falls, next-lower _ _ _ _ _ _ _ _ _ _ (c .before .before .before .before .before .before .before .before .before .before .before .before .before .before .before .pre .1) _ _ _ _ _ (c .before .before .before .before .before .before .before .before .before .before .before .loop .inv) (omega arith)), reduced-asked _ _ _ _ (c .before .before .before .before .reduced .ensures) _ _ _ _ _ _ _ _ _ (divide-asked _ _ _ _ _ _ _ _ _ _ (c .before .before .before .before .before .before .before .before .before .before .before .before .before .before .before .pre .1) _ _ _ _ _ (c .before .before .before .before .before .before .before .before .before .before .before .loop .inv) (omega arith) (omega (arith, c .before .before .before .before .before .before .kind .ensures .0))))
 
 -- src/lib.rt:88:13
 solve-returns : (t : ℕ) → solve-lts.Need-returns (solve-calls t) (solve-at t) solve.Post solve-Inv-loop solve-μ-loop
-solve-returns t c = divide-told _ _ _ _ _ _ _ _ _ _ (c .before .before .before .before .before .before .before .before .before .before .before .before .before .before .pre .1) _ _ _ _ _ (c .before .before .before .before .before .before .before .before .before .before .before .loop .inv) (omega arith) _ _ _ _ (reduced-told _ _ _ _ (c .before .before .before .before .reduced .ensures) _ _ _ _ _ _ _ _ _ _ _ _ _ (c .divide .ensures))
+solve-returns t c = divide-told _ _ _ _ _ _ _ _ _ _ (c .before .before .before .before .before .before .before .before .before .before .before .before .before .before .before .before .pre .1) _ _ _ _ _ (c .before .before .before .before .before .before .before .before .before .before .before .before .loop .inv) (omega arith) _ _ _ _ (reduced-told _ _ _ _ (c .before .before .before .before .before .reduced .ensures) _ _ _ _ _ _ _ _ _ _ _ _ _ (c .divide .ensures))
 
 -- src/lib.rt:103:9
 solve-match-leaf-requires : (t : ℕ) → solve-lts.Need-match-leaf-requires (solve-calls t) (solve-at t) solve.Post solve-Inv-loop solve-μ-loop
-solve-match-leaf-requires t c κs = leaf-asked _ _ _ _ _ _ _ _ _ _ (c .before .before .before .before .before .before .before .before .before .pre .1) _ _ _ _ _ (c .before .before .before .before .before .before .loop .inv) (omega arith) (omega (arith, c .before .kind .ensures .0))
+solve-match-leaf-requires t c κs = leaf-asked _ _ _ _ _ _ _ _ _ _ (c .before .before .before .before .before .before .before .before .before .before .before .pre .1) _ _ _ _ _ (c .before .before .before .before .before .before .before .loop .inv) (omega arith) (omega (arith, c .before .before .kind .ensures .0))
 
 -- src/lib.rt:105:13
 solve-returns-2 : (t : ℕ) → solve-lts.Need-returns-2 (solve-calls t) (solve-at t) solve.Post solve-Inv-loop solve-μ-loop
-solve-returns-2 t c = solve-failed _ _ _ _ _ _ _ _ _ _ (c .before .before .before .before .before .before .before .before .before .before .before .before .pre .1) _ _ _ _ _ (c .before .before .before .before .before .before .before .before .before .loop .inv) (omega arith) _ (λ v b q n h. c .before .before .match-leaf .ensures v b q h) (not-true _ (c .if2 .taken))
+solve-returns-2 t c = solve-failed _ _ _ _ _ _ _ _ _ _ (c .before .before .before .before .before .before .before .before .before .before .before .before .before .pre .1) _ _ _ _ _ (c .before .before .before .before .before .before .before .before .before .loop .inv) (omega arith) _ _ (λ v b q n h. c .before .match-leaf .ensures v b q h) (not-true _ (c .if2 .taken))
 
 -- src/lib.rt:82:5
 solve-loop-less : (t : ℕ) → solve-lts.Need-loop-less (solve-calls t) (solve-at t) solve.Post solve-Inv-loop solve-μ-loop
-solve-loop-less t c = next-lower _ _ _ _ _ _ _ _ _ _ (c .before .before .before .before .before .before .before .before .before .before .before .before .pre .1) _ _ _ _ _ (c .before .before .before .before .before .before .before .before .before .loop .inv) (omega arith)
+solve-loop-less t c = next-lower _ _ _ _ _ _ _ _ _ _ (c .before .before .before .before .before .before .before .before .before .before .before .before .before .pre .1) _ _ _ _ _ (c .before .before .before .before .before .before .before .before .before .loop .inv) (omega arith)
 
 -- src/lib.rt:82:5
 solve-loop-again : (t : ℕ) → solve-lts.Need-loop-again (solve-calls t) (solve-at t) solve.Post solve-Inv-loop solve-μ-loop
-solve-loop-again t c = solve-more _ _ _ _ _ _ _ _ _ _ (c .before .before .before .before .before .before .before .before .before .before .before .before .pre .1) _ _ _ _ _ (c .before .before .before .before .before .before .before .before .before .loop .inv) (omega arith) _ (λ v b q n h. c .before .before .match-leaf .ensures v b q h) (not-false _ (c .if2 .left))
+solve-loop-again t c = solve-more _ _ _ _ _ _ _ _ _ _ (c .before .before .before .before .before .before .before .before .before .before .before .before .before .pre .1) _ _ _ _ _ (c .before .before .before .before .before .before .before .before .before .loop .inv) (omega arith) _ _ (λ v b q n h. c .before .match-leaf .ensures v b q h) (not-false _ (c .if2 .left))
 
 -- src/lib.rt:112:9
 solve-enter-requires : (t : ℕ) → solve-lts.Need-enter-requires (solve-calls t) (solve-at t) solve.Post solve-Inv-loop solve-μ-loop
-solve-enter-requires t c κs = enter-asked _ _ _ _ _ _ _ _ _ _ (c .before .before .before .before .before .before .pre .1) _ _ _ _ _ (c .before .before .before .loop .inv)
+solve-enter-requires t c κs = enter-asked _ _ _ _ _ _ _ _ _ _ (c .before .before .before .before .before .before .before .before .pre .1) _ _ _ _ _ (c .before .before .before .before .loop .inv)
 
 -- src/lib.rt:65:1
 solve-returns-3 : (t : ℕ) → solve-lts.Need-returns-3 (solve-calls t) (solve-at t) solve.Post solve-Inv-loop solve-μ-loop
-solve-returns-3 t c = solve-end _ _ _ _ _ _ _ _ _ _ (c .before .before .before .before .before .before .before .pre .1) _ _ _ _ _ (c .before .before .before .before .loop .inv) (omega arith) _ _ _ (c .enter .ensures)
+solve-returns-3 t c = solve-end _ _ _ _ _ _ _ _ _ _ (c .before .before .before .before .before .before .before .before .before .pre .1) _ _ _ _ _ (c .before .before .before .before .before .loop .inv) (omega arith) _ _ _ (c .enter .ensures)
 
 pub +divide+solve-spec : {M : Type 1} → statement M
 +divide+solve-spec = close μ-divide μ-solve (λ t. divide-lts.spec (divide-calls t)
