@@ -3,3 +3,5 @@ mod Pushing
 mod Solving
 mod Settling
 mod Reducing
+mod Sizing
+mod Skipping

@@ -89,7 +89,7 @@ more-after tuple vs es rs ls qs h g = absurd h
 
 -- ---- patterns
 
-items-same : (k : Kind) (vs ws : List Value) → collection k (itemsOf vs) ≡ collection k (itemsOf ws) → vs ≡ ws
+pub items-same : (k : Kind) (vs ws : List Value) → collection k (itemsOf vs) ≡ collection k (itemsOf ws) → vs ≡ ws
 items-same k vs ws e = let f : itemsOf vs ≡ itemsOf ws = cc in sym (list-items vs) ∙ ap listOf f ∙ list-items ws
 
 more-any : (k : Kind) (side : ℕ) → TakesMore k side any
@@ -216,7 +216,7 @@ halved-by : (r : Record) (ps : List Pattern) (c : ℕ) → r .kind ≡ c → Spl
 halved-by r ps c e (inl f) = let d : r .kind ≡ 38 = e ∙ f in rw (d, f) refl
 halved-by r ps c e (inr f) = let d : r .kind ≡ 40 = e ∙ f in rw (d, f) refl
 
-is-halved : (c : ℕ) → Splits c → isHalved c ≡ true
+pub is-halved : (c : ℕ) → Splits c → isHalved c ≡ true
 is-halved c (inl f) = rw f refl
 is-halved c (inr f) = rw f refl
 
@@ -245,7 +245,7 @@ module _ (table index : List ℕ) (p : ℕ) (h : Readable table index p) where
     abbrev half : ℕ → Pattern
     half i = patternAt (records table) (operand (recordAt (records table) p) i)
 
-    is-two : patternAt (records table) p ≡ halved (collectionOf c) (half 0) (half 1)
+    pub is-two : patternAt (records table) p ≡ halved (collectionOf c) (half 0) (half 1)
     is-two =
         by-record table index p h ∙ halved-by (recordAt (records table) p) (innerOf table p) c e u
         ∙ ap₂ (halved (collectionOf c)) (at-map (patternAt (records table)) (operandsOf (recordAt (records table) p)) 0 0 any (omega (arith, two-halves)))

@@ -338,7 +338,7 @@ module _ (table index : List ℕ) (p : ℕ) (s : List ℕ) (word : ℕ) (a : Lis
         go v u (Ways w) nope k = absurd (nope w refl)
 
     module _ (w : ℕ) (me : m ≡ Ways w) where
-      ways-are : (v : Value) → PartIs s (unpacked word) v → MeetsAs (kindAt (records table) p) (countOf table p) v (Ways w)
+      pub ways-are : (v : Value) → PartIs s (unpacked word) v → MeetsAs (kindAt (records table) p) (countOf table p) v (Ways w)
       ways-are v q = subst (MeetsAs (kindAt (records table) p) (countOf table p) v) me (met v q)
 
       pub ways-few : w < 256

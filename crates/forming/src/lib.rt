@@ -3,6 +3,7 @@
 mod reduced;
 mod rows;
 mod settled;
+mod sizes;
 
 use matching::leaves;
 use matching::nodes;
@@ -140,10 +141,11 @@ fn divide(
     let part = words::unpack(word);
     let m = nodes::meet(k, c, s, part);
     let once = settled::is_settled(table, index, p, found);
+    let sizes = sizes::sizes_of(table, index, p, k);
     let mut n = n;
     let mut any = false;
     if let Meeting::Ways(w) = m {
-        let mut d = 0;
+        let mut d = sizes::way_from(k, w, 0, sizes);
         while d < w {
             let head = push(table, index, p, s, word, d, agenda, next, top);
             let r = solve(
@@ -171,7 +173,8 @@ fn divide(
                 }
             }
             any = settled::either(any, r.any);
-            d = settled::next_way(d, w, once, r.any);
+            let after = settled::next_way(d, w, once, r.any);
+            d = sizes::way_from(k, w, after, sizes);
         }
     }
     Step {

@@ -13,7 +13,7 @@ ghost use Rattle.patterns.specs.Read.{Readable};
 ghost use Rattle.forming.specs.Reduced.{Splits, TellsAll, TellsMore, SpareHeld, TellsSpare, Reduced};
 
 // Patterns of this kind have two halves.
-fn splits(k: usize) -> bool
+pub fn splits(k: usize) -> bool
     ensures { λ r. ⌜ (r ≡ true → Splits k) ⌝ }
 {
     if k == kinds::UNION_PATTERN {

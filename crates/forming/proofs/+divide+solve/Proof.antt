@@ -23,6 +23,9 @@ use Rattle.forming.proofs.reduced.reduced.Reads as reduced-reads
 use Rattle.forming.proofs.settled.either.Reads as either-reads
 use Rattle.forming.proofs.settled.is_settled.Reads as is-settled-reads
 use Rattle.forming.proofs.settled.next_way.Reads as next-way-reads
+use Rattle.forming.proofs.sizes.sizes_of.Reads as sizes-of-reads
+use Rattle.forming.proofs.sizes.way_from.Reads as way-from-reads
+use Rattle.forming.proofs.Skipping.{from-asked, divide-skip}
 use Rattle.matching.proofs.leaves.match_leaf.Reads as match-leaf-reads
 use Rattle.matching.proofs.nodes.meet.Reads as meet-reads
 use Rattle.parts.proofs.words.unpack.Reads as unpack-reads
@@ -50,16 +53,16 @@ abbrev solve-below : ℕ → In 7 solve-kinds.ps
 solve-below t = and 7 solve-kinds.ps (falls 7 solve-kinds.ps _<_ μ-solve t) solve.Pre
 
 abbrev divide-calls : ℕ → divide-lts.Claims
-divide-calls t = (kind-reads.Asked, kind-reads.Learnt, operand-count-reads.Asked, operand-count-reads.Learnt, unpack-reads.Asked, unpack-reads.Learnt, meet-reads.Asked, meet-reads.Learnt, is-settled-reads.Asked, is-settled-reads.Learnt, push-reads.Asked, push-reads.Learnt, solve-below t, solve.Post, either-reads.Asked, either-reads.Learnt, next-way-reads.Asked, next-way-reads.Learnt)
+divide-calls t = (kind-reads.Asked, kind-reads.Learnt, operand-count-reads.Asked, operand-count-reads.Learnt, unpack-reads.Asked, unpack-reads.Learnt, meet-reads.Asked, meet-reads.Learnt, is-settled-reads.Asked, is-settled-reads.Learnt, sizes-of-reads.Asked, sizes-of-reads.Learnt, way-from-reads.Asked, way-from-reads.Learnt, push-reads.Asked, push-reads.Learnt, solve-below t, solve.Post, either-reads.Asked, either-reads.Learnt, next-way-reads.Asked, next-way-reads.Learnt)
 
 abbrev solve-calls : ℕ → solve-lts.Claims
 solve-calls t = (kind-reads.Asked, kind-reads.Learnt, reduced-reads.Asked, reduced-reads.Learnt, divide-below t, divide.Post, match-leaf-reads.Asked, match-leaf-reads.Learnt, enter-reads.Asked, enter-reads.Learnt)
 
 abbrev divide-Inv-loop : divide-lts.InvT-loop
-divide-Inv-loop table index p s word agenda₀ next top found rows₀ order₀ n k c once n₀ any₀ w d₀ agenda rows order n' any d = DivideSoFar table index p s word agenda₀ next top found rows₀ order₀ n w agenda rows order n' any d
+divide-Inv-loop table index p s word agenda₀ next top found rows₀ order₀ n k c once sizes n₀ any₀ w d₀ agenda rows order n' any d = DivideSoFar table index p s word agenda₀ next top found rows₀ order₀ n w agenda rows order n' any d
 
 abbrev divide-μ-loop : divide-lts.MeasureT-loop
-divide-μ-loop table index p s word agenda₀ next top found rows₀ order₀ n k c once n₀ any₀ w d₀ agenda rows order n' any d = w - d
+divide-μ-loop table index p s word agenda₀ next top found rows₀ order₀ n k c once sizes n₀ any₀ w d₀ agenda rows order n' any d = w - d
 
 -- src/lib.rt:134:9
 divide-kind-requires : (t : ℕ) → divide-lts.Need-kind-requires (divide-calls t) (divide-at t) divide.Post divide-Inv-loop divide-μ-loop
@@ -81,25 +84,33 @@ divide-meet-requires t c κs = (omega (arith, c .before .before .kind .ensures .
 divide-is-settled-requires : (t : ℕ) → divide-lts.Need-is-settled-requires (divide-calls t) (divide-at t) divide.Post divide-Inv-loop divide-μ-loop
 divide-is-settled-requires t c κs = c .before .before .before .before .before .before .pre .1 .readable
 
+-- src/lib.rt:143:17
+divide-sizes-of-requires : (t : ℕ) → divide-lts.Need-sizes-of-requires (divide-calls t) (divide-at t) divide.Post divide-Inv-loop divide-μ-loop
+divide-sizes-of-requires t c κs = record { readable = c .before .before .before .before .before .before .before .pre .1 .readable; of-kind = sym (c .before .before .before .before .kind .ensures .0) }
+
 -- src/lib.rt:141:26
 divide-enum-known-m : (t : ℕ) → divide-lts.Need-enum-known-m (divide-calls t) (divide-at t) divide.Post divide-Inv-loop divide-μ-loop
 divide-enum-known-m t c = search needs
 
+-- src/lib.rt:147:21
+divide-way-from-requires : (t : ℕ) → divide-lts.Need-way-from-requires (divide-calls t) (divide-at t) divide.Post divide-Inv-loop divide-μ-loop
+divide-way-from-requires t c κs = from-asked _ _ _ _ _ _ _ _ _ _ _ _ (c .before .before .before .before .before .before .before .before .before .before .before .pre .1) (c .before .before .before .before .before .meet .result) (recast-word (c .before .before .before .before .before .before .before .before .before .before .before .args .word) _ _ _ _ (c .before .before .before .before .before .meet .result) (c .before .before .before .before .before .before .before .before .kind .ensures .0) (c .before .before .before .before .before .before .before .operand-count .ensures .0) (c .before .before .before .before .before .before .unpack .ensures) (c .before .before .before .before .before .meet .ensures)) _ (c .before .m .given .1) _ (c .before .before .before .before .before .before .before .before .kind .ensures .0) _ (c .before .before .before .sizes-of .ensures)
+
 -- src/lib.rt:143:9
 divide-loop-holds : (t : ℕ) → divide-lts.Need-loop-holds (divide-calls t) (divide-at t) divide.Post divide-Inv-loop divide-μ-loop
-divide-loop-holds t c = divide-start _ _ _ _ _ _ _ _ _ _ _ _ (c .before .before .before .before .before .before .before .before .before .before .pre .1) _
+divide-loop-holds t c = divide-skip _ _ _ _ _ _ _ _ _ _ _ _ (c .before .before .before .before .before .before .before .before .before .before .before .before .pre .1) (c .before .before .before .before .before .before .meet .result) (recast-word (c .before .before .before .before .before .before .before .before .before .before .before .before .args .word) _ _ _ _ (c .before .before .before .before .before .before .meet .result) (c .before .before .before .before .before .before .before .before .before .kind .ensures .0) (c .before .before .before .before .before .before .before .before .operand-count .ensures .0) (c .before .before .before .before .before .before .before .unpack .ensures) (c .before .before .before .before .before .before .meet .ensures)) _ (c .before .before .m .given .1) _ (c .before .before .before .before .before .before .before .before .before .kind .ensures .0) _ (c .before .before .before .before .sizes-of .ensures) _ _ _ _ _ _ (divide-start _ _ _ _ _ _ _ _ _ _ _ _ (c .before .before .before .before .before .before .before .before .before .before .before .before .pre .1) _) _ (c .way-from .ensures)
 
 -- src/lib.rt:144:17
 divide-push-requires : (t : ℕ) → divide-lts.Need-push-requires (divide-calls t) (divide-at t) divide.Post divide-Inv-loop divide-μ-loop
-divide-push-requires t c κs = push-asked _ _ _ _ _ _ _ _ _ _ _ _ (c .before .before .before .before .before .before .before .before .before .before .before .before .before .pre .1) (c .before .before .before .before .before .before .before .meet .result) (recast-word (c .before .before .before .before .before .before .before .before .before .before .before .before .before .args .word) _ _ _ _ (c .before .before .before .before .before .before .before .meet .result) (c .before .before .before .before .before .before .before .before .before .before .kind .ensures .0) (c .before .before .before .before .before .before .before .before .before .operand-count .ensures .0) (c .before .before .before .before .before .before .before .before .unpack .ensures) (c .before .before .before .before .before .before .before .meet .ensures)) _ (c .before .before .before .before .m .given .1) _ _ _ _ _ _ (c .before .before .loop .inv) (omega arith)
+divide-push-requires t c κs = push-asked _ _ _ _ _ _ _ _ _ _ _ _ (c .before .before .before .before .before .before .before .before .before .before .before .before .before .before .before .pre .1) (c .before .before .before .before .before .before .before .before .before .meet .result) (recast-word (c .before .before .before .before .before .before .before .before .before .before .before .before .before .before .before .args .word) _ _ _ _ (c .before .before .before .before .before .before .before .before .before .meet .result) (c .before .before .before .before .before .before .before .before .before .before .before .before .kind .ensures .0) (c .before .before .before .before .before .before .before .before .before .before .before .operand-count .ensures .0) (c .before .before .before .before .before .before .before .before .before .before .unpack .ensures) (c .before .before .before .before .before .before .before .before .before .meet .ensures)) _ (c .before .before .before .before .before .m .given .1) _ _ _ _ _ _ (c .before .before .loop .inv) (omega arith)
 
 -- src/lib.rt:151:17
 divide-add-solve : (t : ℕ) → divide-lts.Need-add-solve (divide-calls t) (divide-at t) divide.Post divide-Inv-loop divide-μ-loop
-divide-add-solve t c = omega (arith, top-room _ _ _ _ _ _ _ _ _ _ _ _ (c .before .before .before .before .before .before .before .before .before .before .before .before .before .before .before .pre .1), c .before .before .before .before .before .before .before .before .before .before .before .operand-count .ensures .0)
+divide-add-solve t c = omega (arith, top-room _ _ _ _ _ _ _ _ _ _ _ _ (c .before .before .before .before .before .before .before .before .before .before .before .before .before .before .before .before .before .pre .1), c .before .before .before .before .before .before .before .before .before .before .before .before .before .operand-count .ensures .0)
 
 -- src/lib.rt:145:17
 divide-solve-requires : (t : ℕ) → divide-lts.Need-solve-requires (divide-calls t) (divide-at t) divide.Post divide-Inv-loop divide-μ-loop
-divide-solve-requires t c κs = (omega (arith, c .before .before .before .before .before .before .before .before .before .before .before .before .before .before .before .before .before .pre .0, falls-on (c .before .before .before .before .before .before .before .before .before .before .before .before .before .before .before .before .before .args .top) (c .before .before .before .before .before .before .before .before .before .before .before .before .before .before .before .before .before .args .next) (c .before .before .before .before .before .before .before .before .before .before .before .before .before .operand-count .result) (c .before .before .before .push .result) (omega (arith, top-room _ _ _ _ _ _ _ _ _ _ _ _ (c .before .before .before .before .before .before .before .before .before .before .before .before .before .before .before .before .before .pre .1), c .before .before .before .before .before .before .before .before .before .before .before .before .before .operand-count .ensures .0)) (omega (arith, c .before .before .before .push .ensures .low, c .before .before .before .before .before .before .before .before .before .before .before .before .before .operand-count .ensures .0)) (λ z. c .before .before .before .push .ensures .none (omega (arith, c .before .before .before .before .before .before .before .before .before .before .before .before .before .operand-count .ensures .0, z)))), solve-asked _ _ _ _ _ _ _ _ _ _ _ _ (c .before .before .before .before .before .before .before .before .before .before .before .before .before .before .before .before .before .pre .1) (c .before .before .before .before .before .before .before .before .before .before .before .meet .result) (recast-word (c .before .before .before .before .before .before .before .before .before .before .before .before .before .before .before .before .before .args .word) _ _ _ _ (c .before .before .before .before .before .before .before .before .before .before .before .meet .result) (c .before .before .before .before .before .before .before .before .before .before .before .before .before .before .kind .ensures .0) (c .before .before .before .before .before .before .before .before .before .before .before .before .before .operand-count .ensures .0) (c .before .before .before .before .before .before .before .before .before .before .before .before .unpack .ensures) (c .before .before .before .before .before .before .before .before .before .before .before .meet .ensures)) _ (c .before .before .before .before .before .before .before .before .m .given .1) _ _ _ _ _ _ (c .before .before .before .before .before .before .loop .inv) (omega arith) _ _ (c .before .before .before .push .ensures) _ (c .before .before .before .before .before .before .before .before .before .before .before .before .before .operand-count .ensures .0))
+divide-solve-requires t c κs = (omega (arith, c .before .before .before .before .before .before .before .before .before .before .before .before .before .before .before .before .before .before .before .pre .0, falls-on (c .before .before .before .before .before .before .before .before .before .before .before .before .before .before .before .before .before .before .before .args .top) (c .before .before .before .before .before .before .before .before .before .before .before .before .before .before .before .before .before .before .before .args .next) (c .before .before .before .before .before .before .before .before .before .before .before .before .before .before .before .operand-count .result) (c .before .before .before .push .result) (omega (arith, top-room _ _ _ _ _ _ _ _ _ _ _ _ (c .before .before .before .before .before .before .before .before .before .before .before .before .before .before .before .before .before .before .before .pre .1), c .before .before .before .before .before .before .before .before .before .before .before .before .before .before .before .operand-count .ensures .0)) (omega (arith, c .before .before .before .push .ensures .low, c .before .before .before .before .before .before .before .before .before .before .before .before .before .before .before .operand-count .ensures .0)) (λ z. c .before .before .before .push .ensures .none (omega (arith, c .before .before .before .before .before .before .before .before .before .before .before .before .before .before .before .operand-count .ensures .0, z)))), solve-asked _ _ _ _ _ _ _ _ _ _ _ _ (c .before .before .before .before .before .before .before .before .before .before .before .before .before .before .before .before .before .before .before .pre .1) (c .before .before .before .before .before .before .before .before .before .before .before .before .before .meet .result) (recast-word (c .before .before .before .before .before .before .before .before .before .before .before .before .before .before .before .before .before .before .before .args .word) _ _ _ _ (c .before .before .before .before .before .before .before .before .before .before .before .before .before .meet .result) (c .before .before .before .before .before .before .before .before .before .before .before .before .before .before .before .before .kind .ensures .0) (c .before .before .before .before .before .before .before .before .before .before .before .before .before .before .before .operand-count .ensures .0) (c .before .before .before .before .before .before .before .before .before .before .before .before .before .before .unpack .ensures) (c .before .before .before .before .before .before .before .before .before .before .before .before .before .meet .ensures)) _ (c .before .before .before .before .before .before .before .before .before .m .given .1) _ _ _ _ _ _ (c .before .before .before .before .before .before .loop .inv) (omega arith) _ _ (c .before .before .before .push .ensures) _ (c .before .before .before .before .before .before .before .before .before .before .before .before .before .before .before .operand-count .ensures .0))
 
 -- src/lib.rt:159:33
 divide-enum-known-formed : (t : ℕ) → divide-lts.Need-enum-known-formed (divide-calls t) (divide-at t) divide.Post divide-Inv-loop divide-μ-loop
@@ -107,7 +118,7 @@ divide-enum-known-formed t c = search needs
 
 -- src/lib.rt:160:21
 divide-returns : (t : ℕ) → divide-lts.Need-returns (divide-calls t) (divide-at t) divide.Post divide-Inv-loop divide-μ-loop
-divide-returns t c = divide-full _ _ _ _ _ _ _ _ _ _ _ _ (c .before .before .before .before .before .before .before .before .before .before .before .before .before .before .before .before .before .before .before .before .before .pre .1) (c .before .before .before .before .before .before .before .before .before .before .before .before .before .before .before .meet .result) (recast-word (c .before .before .before .before .before .before .before .before .before .before .before .before .before .before .before .before .before .before .before .before .before .args .word) _ _ _ _ (c .before .before .before .before .before .before .before .before .before .before .before .before .before .before .before .meet .result) (c .before .before .before .before .before .before .before .before .before .before .before .before .before .before .before .before .before .before .kind .ensures .0) (c .before .before .before .before .before .before .before .before .before .before .before .before .before .before .before .before .before .operand-count .ensures .0) (c .before .before .before .before .before .before .before .before .before .before .before .before .before .before .before .before .unpack .ensures) (c .before .before .before .before .before .before .before .before .before .before .before .before .before .before .before .meet .ensures)) _ (c .before .before .before .before .before .before .before .before .before .before .before .before .m .given .1) _ _ _ _ _ _ (c .before .before .before .before .before .before .before .before .before .before .loop .inv) (omega arith) _ _ (c .before .before .before .before .before .before .before .push .ensures) _ (c .before .before .before .before .before .before .before .before .before .before .before .before .before .before .before .before .before .operand-count .ensures .0) _ _ _ _ (c .before .before .before .solve .ensures) _ (c .before .formed .given .1)
+divide-returns t c = divide-full _ _ _ _ _ _ _ _ _ _ _ _ (c .before .before .before .before .before .before .before .before .before .before .before .before .before .before .before .before .before .before .before .before .before .before .before .pre .1) (c .before .before .before .before .before .before .before .before .before .before .before .before .before .before .before .before .before .meet .result) (recast-word (c .before .before .before .before .before .before .before .before .before .before .before .before .before .before .before .before .before .before .before .before .before .before .before .args .word) _ _ _ _ (c .before .before .before .before .before .before .before .before .before .before .before .before .before .before .before .before .before .meet .result) (c .before .before .before .before .before .before .before .before .before .before .before .before .before .before .before .before .before .before .before .before .kind .ensures .0) (c .before .before .before .before .before .before .before .before .before .before .before .before .before .before .before .before .before .before .before .operand-count .ensures .0) (c .before .before .before .before .before .before .before .before .before .before .before .before .before .before .before .before .before .before .unpack .ensures) (c .before .before .before .before .before .before .before .before .before .before .before .before .before .before .before .before .before .meet .ensures)) _ (c .before .before .before .before .before .before .before .before .before .before .before .before .before .m .given .1) _ _ _ _ _ _ (c .before .before .before .before .before .before .before .before .before .before .loop .inv) (omega arith) _ _ (c .before .before .before .before .before .before .before .push .ensures) _ (c .before .before .before .before .before .before .before .before .before .before .before .before .before .before .before .before .before .before .before .operand-count .ensures .0) _ _ _ _ (c .before .before .before .solve .ensures) _ (c .before .formed .given .1)
 
 -- src/lib.rt:165:32
 divide-enum-known-formed-2 : (t : ℕ) → divide-lts.Need-enum-known-formed-2 (divide-calls t) (divide-at t) divide.Post divide-Inv-loop divide-μ-loop
@@ -121,21 +132,25 @@ divide-either-requires t c κs = search needs
 divide-next-way-requires : (t : ℕ) → divide-lts.Need-next-way-requires (divide-calls t) (divide-at t) divide.Post divide-Inv-loop divide-μ-loop
 divide-next-way-requires t c κs = omega arith
 
+-- src/lib.rt:177:17
+divide-way-from-requires-2 : (t : ℕ) → divide-lts.Need-way-from-requires-2 (divide-calls t) (divide-at t) divide.Post divide-Inv-loop divide-μ-loop
+divide-way-from-requires-2 t c κs = from-asked _ _ _ _ _ _ _ _ _ _ _ _ (c .before .before .before .before .before .before .before .before .before .before .before .before .before .before .before .before .before .before .before .before .before .before .before .before .before .pre .1) (c .before .before .before .before .before .before .before .before .before .before .before .before .before .before .before .before .before .before .before .meet .result) (recast-word (c .before .before .before .before .before .before .before .before .before .before .before .before .before .before .before .before .before .before .before .before .before .before .before .before .before .args .word) _ _ _ _ (c .before .before .before .before .before .before .before .before .before .before .before .before .before .before .before .before .before .before .before .meet .result) (c .before .before .before .before .before .before .before .before .before .before .before .before .before .before .before .before .before .before .before .before .before .before .kind .ensures .0) (c .before .before .before .before .before .before .before .before .before .before .before .before .before .before .before .before .before .before .before .before .before .operand-count .ensures .0) (c .before .before .before .before .before .before .before .before .before .before .before .before .before .before .before .before .before .before .before .before .unpack .ensures) (c .before .before .before .before .before .before .before .before .before .before .before .before .before .before .before .before .before .before .before .meet .ensures)) _ (c .before .before .before .before .before .before .before .before .before .before .before .before .before .before .before .m .given .1) _ (c .before .before .before .before .before .before .before .before .before .before .before .before .before .before .before .before .before .before .before .before .before .before .kind .ensures .0) _ (c .before .before .before .before .before .before .before .before .before .before .before .before .before .before .before .before .before .sizes-of .ensures)
+
 -- src/lib.rt:143:9
 divide-loop-less : (t : ℕ) → divide-lts.Need-loop-less (divide-calls t) (divide-at t) divide.Post divide-Inv-loop divide-μ-loop
-divide-loop-less t c = falls-way _ _ _ _ _ (omega arith) (c .next-way .ensures)
+divide-loop-less t c = omega (arith, falls-way _ _ _ _ _ (omega arith) (c .before .next-way .ensures), c .way-from2 .ensures .low)
 
 -- src/lib.rt:143:9
 divide-loop-again : (t : ℕ) → divide-lts.Need-loop-again (divide-calls t) (divide-at t) divide.Post divide-Inv-loop divide-μ-loop
-divide-loop-again t c = divide-more _ _ _ _ _ _ _ _ _ _ _ _ (c .before .before .before .before .before .before .before .before .before .before .before .before .before .before .before .before .before .before .before .before .before .before .before .pre .1) (c .before .before .before .before .before .before .before .before .before .before .before .before .before .before .before .before .before .meet .result) (recast-word (c .before .before .before .before .before .before .before .before .before .before .before .before .before .before .before .before .before .before .before .before .before .before .before .args .word) _ _ _ _ (c .before .before .before .before .before .before .before .before .before .before .before .before .before .before .before .before .before .meet .result) (c .before .before .before .before .before .before .before .before .before .before .before .before .before .before .before .before .before .before .before .before .kind .ensures .0) (c .before .before .before .before .before .before .before .before .before .before .before .before .before .before .before .before .before .before .before .operand-count .ensures .0) (c .before .before .before .before .before .before .before .before .before .before .before .before .before .before .before .before .before .before .unpack .ensures) (c .before .before .before .before .before .before .before .before .before .before .before .before .before .before .before .before .before .meet .ensures)) _ (c .before .before .before .before .before .before .before .before .before .before .before .before .before .before .m .given .1) _ _ _ _ _ _ (c .before .before .before .before .before .before .before .before .before .before .before .before .loop .inv) (omega arith) _ _ (c .before .before .before .before .before .before .before .before .before .push .ensures) _ (c .before .before .before .before .before .before .before .before .before .before .before .before .before .before .before .before .before .before .before .operand-count .ensures .0) _ _ _ _ (c .before .before .before .before .before .solve .ensures) _ (c .before .before .before .formed2 .given .1) _ (c .before .before .before .before .before .before .before .before .before .before .before .before .before .before .before .before .is-settled .ensures) _ (c .before .either .ensures) _ (c .next-way .ensures)
+divide-loop-again t c = divide-skip _ _ _ _ _ _ _ _ _ _ _ _ (c .before .before .before .before .before .before .before .before .before .before .before .before .before .before .before .before .before .before .before .before .before .before .before .before .before .before .pre .1) (c .before .before .before .before .before .before .before .before .before .before .before .before .before .before .before .before .before .before .before .before .meet .result) (recast-word (c .before .before .before .before .before .before .before .before .before .before .before .before .before .before .before .before .before .before .before .before .before .before .before .before .before .before .args .word) _ _ _ _ (c .before .before .before .before .before .before .before .before .before .before .before .before .before .before .before .before .before .before .before .before .meet .result) (c .before .before .before .before .before .before .before .before .before .before .before .before .before .before .before .before .before .before .before .before .before .before .before .kind .ensures .0) (c .before .before .before .before .before .before .before .before .before .before .before .before .before .before .before .before .before .before .before .before .before .before .operand-count .ensures .0) (c .before .before .before .before .before .before .before .before .before .before .before .before .before .before .before .before .before .before .before .before .before .unpack .ensures) (c .before .before .before .before .before .before .before .before .before .before .before .before .before .before .before .before .before .before .before .before .meet .ensures)) _ (c .before .before .before .before .before .before .before .before .before .before .before .before .before .before .before .before .m .given .1) _ (c .before .before .before .before .before .before .before .before .before .before .before .before .before .before .before .before .before .before .before .before .before .before .before .kind .ensures .0) _ (c .before .before .before .before .before .before .before .before .before .before .before .before .before .before .before .before .before .before .sizes-of .ensures) _ _ _ _ _ _ (divide-more _ _ _ _ _ _ _ _ _ _ _ _ (c .before .before .before .before .before .before .before .before .before .before .before .before .before .before .before .before .before .before .before .before .before .before .before .before .before .before .pre .1) (c .before .before .before .before .before .before .before .before .before .before .before .before .before .before .before .before .before .before .before .before .meet .result) (recast-word (c .before .before .before .before .before .before .before .before .before .before .before .before .before .before .before .before .before .before .before .before .before .before .before .before .before .before .args .word) _ _ _ _ (c .before .before .before .before .before .before .before .before .before .before .before .before .before .before .before .before .before .before .before .before .meet .result) (c .before .before .before .before .before .before .before .before .before .before .before .before .before .before .before .before .before .before .before .before .before .before .before .kind .ensures .0) (c .before .before .before .before .before .before .before .before .before .before .before .before .before .before .before .before .before .before .before .before .before .before .operand-count .ensures .0) (c .before .before .before .before .before .before .before .before .before .before .before .before .before .before .before .before .before .before .before .before .before .unpack .ensures) (c .before .before .before .before .before .before .before .before .before .before .before .before .before .before .before .before .before .before .before .before .meet .ensures)) _ (c .before .before .before .before .before .before .before .before .before .before .before .before .before .before .before .before .m .given .1) _ _ _ _ _ _ (c .before .before .before .before .before .before .before .before .before .before .before .before .before .loop .inv) (omega arith) _ _ (c .before .before .before .before .before .before .before .before .before .before .push .ensures) _ (c .before .before .before .before .before .before .before .before .before .before .before .before .before .before .before .before .before .before .before .before .before .before .operand-count .ensures .0) _ _ _ _ (c .before .before .before .before .before .before .solve .ensures) _ (c .before .before .before .before .formed2 .given .1) _ (c .before .before .before .before .before .before .before .before .before .before .before .before .before .before .before .before .before .before .before .is-settled .ensures) _ (c .before .before .either .ensures) _ (c .before .next-way .ensures)) _ (c .way-from2 .ensures)
 
 -- src/lib.rt:117:1
 divide-returns-2 : (t : ℕ) → divide-lts.Need-returns-2 (divide-calls t) (divide-at t) divide.Post divide-Inv-loop divide-μ-loop
-divide-returns-2 t c = divide-end _ _ _ _ _ _ _ _ _ _ _ _ (c .before .before .before .before .before .before .before .before .before .before .before .before .pre .1) (c .before .before .before .before .before .before .meet .result) (recast-word (c .before .before .before .before .before .before .before .before .before .before .before .before .args .word) _ _ _ _ (c .before .before .before .before .before .before .meet .result) (c .before .before .before .before .before .before .before .before .before .kind .ensures .0) (c .before .before .before .before .before .before .before .before .operand-count .ensures .0) (c .before .before .before .before .before .before .before .unpack .ensures) (c .before .before .before .before .before .before .meet .ensures)) _ (c .before .before .before .m .given .1) _ _ _ _ _ _ (c .before .loop .inv) (omega arith)
+divide-returns-2 t c = divide-end _ _ _ _ _ _ _ _ _ _ _ _ (c .before .before .before .before .before .before .before .before .before .before .before .before .before .before .pre .1) (c .before .before .before .before .before .before .before .before .meet .result) (recast-word (c .before .before .before .before .before .before .before .before .before .before .before .before .before .before .args .word) _ _ _ _ (c .before .before .before .before .before .before .before .before .meet .result) (c .before .before .before .before .before .before .before .before .before .before .before .kind .ensures .0) (c .before .before .before .before .before .before .before .before .before .before .operand-count .ensures .0) (c .before .before .before .before .before .before .before .before .before .unpack .ensures) (c .before .before .before .before .before .before .before .before .meet .ensures)) _ (c .before .before .before .before .m .given .1) _ _ _ _ _ _ (c .before .loop .inv) (omega arith)
 
 -- src/lib.rt:117:1
 divide-returns-3 : (t : ℕ) → divide-lts.Need-returns-3 (divide-calls t) (divide-at t) divide.Post divide-Inv-loop divide-μ-loop
-divide-returns-3 t c = divide-none _ _ _ _ _ _ _ _ _ _ _ _ (c .before .before .before .before .before .before .before .before .pre .1) (c .before .before .meet .result) (recast-word (c .before .before .before .before .before .before .before .before .args .word) _ _ _ _ (c .before .before .meet .result) (c .before .before .before .before .before .kind .ensures .0) (c .before .before .before .before .operand-count .ensures .0) (c .before .before .before .unpack .ensures) (c .before .before .meet .ensures)) (λ w d. ⊎-elim (λ k. let e = rw d at k in omega arith) (λ k. let e = rw d at k in omega arith) (c .match .keys2))
+divide-returns-3 t c = divide-none _ _ _ _ _ _ _ _ _ _ _ _ (c .before .before .before .before .before .before .before .before .before .pre .1) (c .before .before .before .meet .result) (recast-word (c .before .before .before .before .before .before .before .before .before .args .word) _ _ _ _ (c .before .before .before .meet .result) (c .before .before .before .before .before .before .kind .ensures .0) (c .before .before .before .before .before .operand-count .ensures .0) (c .before .before .before .before .unpack .ensures) (c .before .before .before .meet .ensures)) (λ w d. ⊎-elim (λ k. let e = rw d at k in omega arith) (λ k. let e = rw d at k in omega arith) (c .match .keys2))
 
 abbrev solve-Inv-loop : solve-lts.InvT-loop
 solve-Inv-loop table index s agenda₀ head top found rows₀ order₀ n head₀ words₀ agenda rows order head' words = SolveSoFar table index s agenda₀ head top found rows₀ order₀ n agenda rows order head' words
@@ -250,7 +265,9 @@ pub +divide+solve-spec : {M : Type 1} → statement M
     (divide-unpack-requires t)
     (divide-meet-requires t)
     (divide-is-settled-requires t)
+    (divide-sizes-of-requires t)
     (divide-enum-known-m t)
+    (divide-way-from-requires t)
     (divide-loop-holds t)
     (divide-push-requires t)
     (divide-add-solve t)
@@ -260,6 +277,7 @@ pub +divide+solve-spec : {M : Type 1} → statement M
     (divide-enum-known-formed-2 t)
     (divide-either-requires t)
     (divide-next-way-requires t)
+    (divide-way-from-requires-2 t)
     (divide-loop-less t)
     (divide-loop-again t)
     (divide-returns-2 t)
