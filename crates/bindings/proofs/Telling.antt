@@ -20,7 +20,7 @@ use Rattle.patterns.specs.Ways.{gather, exists}
 use Rattle.patterns.specs.Binding.{Binding, nothing, consistent, sorted}
 use Rattle.patterns.specs.Pattern.{Pattern, itemsOf, matches, wide}
 use Rattle.patterns.specs.Binder.{bindings, Formed as Outcome, bound, refused, few, formed, mostBindings}
-use Rattle.patterns.specs.Laws.Merging.{true-false}
+use Rattle.prelude.proofs.Absurd.{true-false}
 use Rattle.patterns.specs.Read.{Readable, patternAt}
 use Rattle.matching.specs.Leaf.{Stands}
 use Rattle.bindings.proofs.Members.{first-of, none-left}
@@ -28,8 +28,10 @@ use Rattle.bindings.proofs.Large.{members-at, set-held}
 use Rattle.forming.specs.declared.Formed.{Formed}
 use Rattle.forming.specs.declared.Step.{Step}
 use Rattle.forming.specs.declared.Formed.the-variants.{Number, Refused}
-use Rattle.forming.specs.Onward.{Task, task, onward, onward-one}
-use Rattle.forming.specs.Adding.{adding, adding-none, adding-more, adding-longer, adding-sorted}
+use Rattle.forming.specs.Onward.{Task, task, onward}
+use Rattle.forming.specs.Laws.Onward.{onward-one}
+use Rattle.forming.specs.Adding.{adding}
+use Rattle.forming.specs.Laws.Adding.{adding-none, adding-more, adding-longer, adding-sorted}
 use Rattle.parts.specs.Word.{unpacked}
 use Rattle.forming.specs.Rows.{RowsAre, Entered}
 use Rattle.forming.specs.Pending.{Pending, AgendaIs, spaces, Solvable, Solved}

@@ -21,7 +21,8 @@ use Rattle.values.proofs.Records.{holds, word-size, one-item}
 use Rattle.values.proofs.Frame.{kept}
 use Rattle.tables.specs.Record.{Record, named as operandsOf, nameOf, shape, isKnown, size as sizeOf}
 use Rattle.tables.specs.Table.{recordAt, kindAt}
-use Rattle.tables.specs.Accepted.{records, lower, fit-known, fit-least}
+use Rattle.tables.specs.Accepted.{records}
+use Rattle.tables.specs.Laws.Accepted.{lower, fit-known, fit-least}
 use Rattle.tables.specs.Reading.{HasField}
 use Rattle.parts.specs.Part.{PartIs, CellIs}
 use Rattle.parts.specs.Chosen.{odd}
@@ -29,7 +30,9 @@ use Rattle.parts.specs.Word.{unpacked}
 use Rattle.parts.specs.declared.words.Env.{Env}
 use Rattle.parts.proofs.Packing.{cell-free, cell-value}
 use Rattle.patterns.specs.Ways.{gather, exists}
-use Rattle.patterns.specs.Members.{at-in, in-gather}
+use Rattle.prelude.proofs.Lists.{map-at}
+use Rattle.prelude.proofs.Membership.{at-in}
+use Rattle.patterns.specs.Laws.Members.{in-gather}
 use Rattle.patterns.specs.Binding.{Cell, free, is, clash, Binding, names, nothing, only, cellOf, sorted, place}
 use Rattle.patterns.specs.Pattern.{Pattern, name, itemsOf, listOf, matches, wide}
 use Rattle.patterns.specs.Binder.{bindings, Formed as Outcome, bound, refused, formed, few}
@@ -39,7 +42,7 @@ use Rattle.patterns.specs.Laws.Named.{named, Told, told}
 use Rattle.patterns.specs.Laws.Matched.{matched, only-sized, list-items}
 use Rattle.patterns.specs.Laws.Plain.{plain-formed}
 use Rattle.patterns.specs.Read.{Readable, patternAt}
-use Rattle.patterns.specs.Nodes.{is-name, pattern-at}
+use Rattle.patterns.specs.Laws.Nodes.{is-name, pattern-at}
 use Rattle.forming.specs.declared.Formed.{Formed}
 use Rattle.forming.specs.declared.Formed.the-variants.{Number, Refused}
 use Rattle.forming.specs.Rows.{RowIs, RowsAre}
@@ -48,7 +51,7 @@ use Rattle.bindings.specs.declared.Opened.{Opened}
 use Rattle.bindings.specs.declared.Opened.the-variants as answer
 use Rattle.bindings.specs.Forming.{Values, Bindable, TellsRows, RowsFormed}
 use Rattle.bindings.specs.Window.{window, CellAt, past, CellsAt, placeOf, InWindow, Windowed, Lent, TellsFrom, OpenedAs, Reachable, Reached, Underneath, WordFor, UnderBinding}
-use Rattle.bindings.specs.Laws.{cells-end}
+use Rattle.bindings.specs.Laws.Window.{cells-end}
 use Rattle.bindings.specs.Filling.{rowWords, bit, maskOf, filled, WordAt, WordsAt, RowHeld, NamesAre, FillHeld, Filled, OneName, MembersHeld, MemberAt, MembersPut}
 use Rattle.bindings.specs.Opening.{PlainHeld, PlainOpened, CursorHeld, CursorOver, LentFrom, FormedFrom}
 use Rattle.bindings.proofs.Large.{members-at}
@@ -309,11 +312,6 @@ module _ (u t : List ℕ) where
       let b : 2 ^ suc x / 2 ≡ 2 ^ x = omega (arith, pow-suc 2 x) in
       rw (a, b) (refl, only-cells n x at v (omega arith) h)
 
-map-at : (x : ℕ) (vs : List Value) (j : ℕ) (z : Binding) → j < length vs → getD (map (only x) vs) j z ≡ only x (getD vs j (boolean true))
-map-at x [] j z h = absurd (omega arith)
-map-at x (v ∷ vs) zero z h = refl
-map-at x (v ∷ vs) (suc j) z h = map-at x vs j z (omega arith)
-
 member-part : (s t : List ℕ) (at : ℕ) (v : Value) → MemberAt s t at v → PartIs s (unpacked (bits32 t at)) v
 member-part s t at v m =
     rw (m .word-is) (inl (omega arith, subst (λ (n : ℕ). At s n v) (omega (arith, m .low)) (m .here)))
@@ -364,10 +362,10 @@ module _ (s : List ℕ) (at : ℕ) (whole : Bool) (to x : ℕ) (h : PlainHeld s 
               let a : to + 4 * (1 * (k - 0)) ≡ to + 4 * k = omega arith in
               let b : to + 4 * k + 4 * 1 ≡ to + 4 * k + 4 = omega arith in
               let y = member-part (take to s) t (to + 4 * k) (getD vs k (boolean true)) (each k (i .below)) in
-              rw (a, b, map-at x vs k nothing l, m .outside .below, o .is) (only-cells t (take to s) names x (to + 4 * k) (getD vs k (boolean true)) (h .low) y);
+              rw (a, b, map-at (only x) vs k (boolean true) nothing l, m .outside .below, o .is) (only-cells t (take to s) names x (to + 4 * k) (getD vs k (boolean true)) (h .low) y);
           sized = λ k l.
               let i : k < length vs = omega (arith, length-map vs (only x)) in
-              ap length (map-at x vs k nothing i) ∙ only-sized x (getD vs k (boolean true));
+              ap length (map-at (only x) vs k (boolean true) nothing i) ∙ only-sized x (getD vs k (boolean true));
         }
 
 -- ---- the environment

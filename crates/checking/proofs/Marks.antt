@@ -15,17 +15,18 @@ use Rattle.tables.specs.Record.{Record, isPattern, named, operand, roleAt}
 use Rattle.tables.specs.Table.{noRecord, recordAt, kindAt}
 use Rattle.tables.specs.Sheet.{any, lowest, isIn}
 use Rattle.tables.specs.Check.{isOfSort, allNamed, namedBefore, isBad, hasBad, isStray, fault6}
-use Rattle.tables.specs.Laws.{split, in-append, low}
+use Rattle.prelude.proofs.Truth.{by-lower}
+use Rattle.tables.specs.Laws.Tests.{in-append, low}
 use Rattle.tables.specs.Accepted.{records}
 use Rattle.checking.proofs.Scan.{low-more, lowest-either}
 use Rattle.checking.specs.Naming.{Marked, MarkedOne, MarkedAll}
 
 -- ---- one mark
 
-in-more : (m n : ℕ) (ms : List ℕ) → (m ≡ n → ⊥) → isIn m (ms ++ (n ∷ [])) ≡ isIn m ms
+pub in-more : (m n : ℕ) (ms : List ℕ) → (m ≡ n → ⊥) → isIn m (ms ++ (n ∷ [])) ≡ isIn m ms
 in-more m n ms ne = in-append m ms (n ∷ []) ∙ ap (λ (b : Bool). isIn m ms || (b || false)) (ne-eqb m n ne) ∙ or-false (isIn m ms)
 
-in-last : (n : ℕ) (ms : List ℕ) → isIn n (ms ++ (n ∷ [])) ≡ true
+pub in-last : (n : ℕ) (ms : List ℕ) → isIn n (ms ++ (n ∷ [])) ≡ true
 in-last n ms = in-append n ms (n ∷ []) ∙ or-inr (isIn n ms) (eqb n n || false) (ap (λ (b : Bool). b || false) (eq-eqb n n refl))
 
 pub mark-one : (marks ms : List ℕ) (n : ℕ) → n < 200 → Marked marks ms → Marked (set marks n 1) (ms ++ (n ∷ []))
@@ -34,9 +35,9 @@ mark-one marks ms n h m =
       long = length-set marks n 1 ∙ m .long;
       is =
           λ k l.
-          split k n (λ a. rw (getD-set-other marks n k 1 0 (λ e. omega arith), in-more k n ms (λ e. omega arith)) (m .is k l))
+          by-lower k n (λ a. rw (getD-set-other marks n k 1 0 (λ e. omega arith), in-more k n ms (λ e. omega arith)) (m .is k l))
           (λ a.
-          split n k (λ b. rw (getD-set-other marks n k 1 0 (λ e. omega arith), in-more k n ms (λ e. omega arith)) (m .is k l))
+          by-lower n k (λ b. rw (getD-set-other marks n k 1 0 (λ e. omega arith), in-more k n ms (λ e. omega arith)) (m .is k l))
           (λ b.
           let same : k ≡ n = omega arith in
           rw (same, getD-set-same marks n 1 0 (omega (arith, m .long)), in-last n ms)));
@@ -87,7 +88,7 @@ all-append : (rs qs : List Record) → allNamed (rs ++ qs) ≡ allNamed rs ++ al
 all-append [] qs = refl
 all-append (r ∷ rs) qs = ap (λ (ns : List ℕ). named r ++ ns) (all-append rs qs) ∙ sym (append-assoc (named r) (allNamed rs) (allNamed qs))
 
-all-more : (rs : List Record) (r : ℕ) → r < length rs → allNamed (take (suc r) rs) ≡ allNamed (take r rs) ++ named (recordAt rs r)
+pub all-more : (rs : List Record) (r : ℕ) → r < length rs → allNamed (take (suc r) rs) ≡ allNamed (take r rs) ++ named (recordAt rs r)
 all-more rs r h =
     ap allNamed (take-suc rs r noRecord h) ∙ all-append (take r rs) (recordAt rs r ∷ [])
     ∙ ap (λ (ns : List ℕ). allNamed (take r rs) ++ ns) (append-nil (named (recordAt rs r)))

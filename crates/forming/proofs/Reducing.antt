@@ -1,12 +1,11 @@
 -- Wildcards beside wildcards: one half that matches all, beside one that takes in any more, adds nothing.
 use mathlib.Core.Path.{_≡_, refl, sym, ap, ap₂, subst, _∙_}
 use mathlib.Core.Bool.{Bool, true, false}
-use mathlib.Core.Logic.{_⊎_, inl, inr}
-use mathlib.Core.List.{List, [], _∷_, _++_, map}
+use mathlib.Core.Logic.{inl, inr}
+use mathlib.Core.List.{List, [], _∷_, _++_}
 use Prim.Native.Nat.{ℕ, zero, suc, _+_, _-_, _≤_, _<_}
 use native.Mathlib.Omega.{arith}
 use lib.ListN.{length, getD}
-use Rattle.prelude.proofs.Absurd.{impossible}
 use Rattle.prelude.specs.Membership.{In}
 use Rattle.values.specs.Value.{Kind, set, sequence, map as mapping, tuple, Value, collection}
 use Rattle.tables.specs.Record.{Record, named as operandsOf, operand}
@@ -19,20 +18,23 @@ use Rattle.patterns.specs.Pattern.{Pattern, any, halved, itemsOf, listOf, match
 use Rattle.patterns.specs.Relation.{Joined, Divided, Matches}
 use Rattle.patterns.specs.Wide.{Wide}
 use Rattle.patterns.specs.Laws.Matched.{in-together, together-in, matched, matching, match-sized, joined-merge, merge-joined, nothing-sized, list-items}
-use Rattle.patterns.specs.Laws.Merging.{true-false, nothing-merge, merge-nothing}
+use Rattle.prelude.proofs.Absurd.{true-false}
+use Rattle.patterns.specs.Laws.Merging.{nothing-merge, merge-nothing}
 use Rattle.patterns.specs.Laws.Together.{one-together, append-nil, append-assoc, Fine, nothing-fine, match-consistent}
 use Rattle.patterns.specs.Laws.Widened.{wide-exactly}
-use Rattle.patterns.specs.Nodes.{collectionOf, isHalved, is-any}
+use Rattle.patterns.specs.Nodes.{collectionOf, isHalved}
+use Rattle.patterns.specs.Laws.Nodes.{is-any}
 use Rattle.patterns.specs.Read.{Readable, patternOf, patternAt}
 use Rattle.matching.specs.Node.{innerOf}
 use Rattle.matching.proofs.Records.{by-record, count-two}
 use Rattle.forming.specs.Pending.{inner, Dividable, Divided as DividedAs}
-use Rattle.forming.specs.Onward.{Task, task, matchesAll, onward, together-alike}
-use Rattle.forming.specs.Adding.{adding, adding-alike}
+use Rattle.forming.specs.Onward.{Task, task, matchesAll, onward}
+use Rattle.forming.specs.Laws.Onward.{together-alike}
+use Rattle.forming.specs.Laws.Adding.{adding-alike}
 use Rattle.forming.specs.Rows.{Entered}
 use Rattle.forming.specs.declared.Step.{Step}
 use Rattle.forming.specs.Reduced.{AcceptsAll, Beside, TakesMore, Splits, TellsAll, TellsMore, Reduced, TellsSpare}
-use Rattle.forming.proofs.Pushing.{at-map}
+use Rattle.prelude.proofs.Lists.{map-at}
 
 -- ---- halves of halves
 
@@ -248,8 +250,8 @@ module _ (table index : List ℕ) (p : ℕ) (h : Readable table index p) where
     pub is-two : patternAt (records table) p ≡ halved (collectionOf c) (half 0) (half 1)
     is-two =
         by-record table index p h ∙ halved-by (recordAt (records table) p) (innerOf table p) c e u
-        ∙ ap₂ (halved (collectionOf c)) (at-map (patternAt (records table)) (operandsOf (recordAt (records table) p)) 0 0 any (omega (arith, two-halves)))
-        (at-map (patternAt (records table)) (operandsOf (recordAt (records table) p)) 1 0 any (omega (arith, two-halves)))
+        ∙ ap₂ (halved (collectionOf c)) (map-at (patternAt (records table)) (operandsOf (recordAt (records table) p)) 0 0 any (omega (arith, two-halves)))
+        (map-at (patternAt (records table)) (operandsOf (recordAt (records table) p)) 1 0 any (omega (arith, two-halves)))
 
     -- ---- what accepts_all and takes_more tell
 

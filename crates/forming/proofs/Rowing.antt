@@ -15,14 +15,14 @@ use Rattle.integers.specs.declared.Order.{Order}
 use Rattle.integers.specs.declared.Order.the-variants.{Lower, Same, Higher}
 use Rattle.values.specs.Value.{after}
 use Rattle.parts.specs.Part.{CellIs}
-use Rattle.patterns.specs.Members.{at-in}
+use Rattle.prelude.proofs.Membership.{at-in}
 use Rattle.patterns.specs.Binding.{Cell, free, Binding, names, nothing, cellOf, orderCells, orderBindings, place, sorted}
 use Rattle.patterns.specs.Laws.Ordered.{Rising, before-in, bindings-same, bindings-lower, bindings-flip, higher-lower, sorted-rising}
 use Rattle.matching.specs.Leaf.{Stands, Standing}
 use Rattle.parts.specs.Word.{unpacked, WordHeld, OrderedWords}
 use Rattle.forming.specs.declared.rows.Seek.{Seek}
 use Rattle.forming.specs.Rows.{RowIs, RowHeld, RowsAre, RowsHeld, SoughtIn, Sought, RowPut, Shifted, Entered}
-use Rattle.forming.specs.Adding.{Parted, place-there, place-parted, placed-sorted}
+use Rattle.forming.specs.Laws.Adding.{Parted, place-there, place-parted, placed-sorted}
 
 -- ---- a stored cell
 

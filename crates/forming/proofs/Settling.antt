@@ -10,6 +10,7 @@ use lib.Dec.{eqb}
 use lib.ListN.{length, getD, drop}
 use lib.Seq.{ext-getD}
 use borrow.Author.Tests.{eqb-true}
+use Rattle.prelude.proofs.Truth.{or-cases}
 use Rattle.prelude.specs.Membership.{In}
 use Rattle.prelude.proofs.Membership.{in-one}
 use Rattle.values.specs.Value.{Value, set, sequence, tuple}
@@ -24,23 +25,22 @@ use Rattle.patterns.specs.Binding.{Cell, free, is, clash, Binding, names, cellO
 use Rattle.patterns.specs.Pattern.{Pattern, any, Patterns, matches}
 use Rattle.patterns.specs.Laws.Named.{named, namedEach, Told, told}
 use Rattle.patterns.specs.Laws.Matched.{in-together, together-in, matched, match-sized, merge-sized}
-use Rattle.patterns.specs.Laws.Merging.{true-false}
+use Rattle.prelude.proofs.Absurd.{true-false}
 use Rattle.patterns.specs.Laws.Together.{one-together}
-use Rattle.patterns.specs.Nodes.{isHalved, is-name, is-any, is-boolean, is-integer}
+use Rattle.patterns.specs.Nodes.{isHalved}
+use Rattle.patterns.specs.Laws.Nodes.{is-name, is-any, is-boolean-literal, is-integer-literal}
 use Rattle.patterns.specs.Read.{Readable, patternsOf, patternOf, patternAt}
 use Rattle.matching.specs.Leaf.{Stands}
 use Rattle.matching.specs.Node.{innerOf}
 use Rattle.matching.proofs.Records.{by-record, inner-length, kind-low, kind-high, count-two}
-use Rattle.matching.proofs.Naming.{merge-cell, consistent-at, agree-free, stands-fine}
+use Rattle.matching.proofs.Naming.{merge-cell, consistent-at, stands-fine}
+use Rattle.patterns.specs.Laws.Merging.{agree-free}
 use Rattle.forming.specs.Settled.{Settled, TellsSettled, HasWord}
-use Rattle.forming.specs.Onward.{Task, task, matchesAll, onward, zipped, onward-first}
+use Rattle.forming.specs.Onward.{Task, task, matchesAll, onward, zipped}
+use Rattle.forming.specs.Laws.Onward.{onward-first}
 use Rattle.forming.specs.Adding.{adding}
 
 -- ---- the names of a pattern by its record
-
-pub or-some : (a b : Bool) → (a || b) ≡ true → (a ≡ true) ⊎ (b ≡ true)
-or-some true b e = inl refl
-or-some false b e = inr e
 
 -- each of the patterns is settled
 abbrev AllSettled : List Pattern → List ℕ → Type 0
@@ -50,7 +50,7 @@ each-settled : (ps : List Pattern) (words : List ℕ) → AllSettled ps words �
 unfolding named patternsOf
 each-settled [] words h y l e z = true-false (sym e)
 each-settled (p ∷ ps) words h y l e z =
-    ⊎-elim (λ a. h 0 (omega arith) y l a z) (λ a. each-settled ps words (λ j k. h (suc j) (omega arith)) y l a z) (or-some (named p y) (namedEach (patternsOf ps) y) e)
+    ⊎-elim (λ a. h 0 (omega arith) y l a z) (λ a. each-settled ps words (λ j k. h (suc j) (omega arith)) y l a z) (or-cases (named p y) (namedEach (patternsOf ps) y) e)
 
 named-halved : (ps : List Pattern) → length ps ≡ 2 → (y : ℕ) → (named (getD ps 0 any) y || named (getD ps 1 any) y) ≡ true → namedEach (patternsOf ps) y ≡ true
 unfolding named patternsOf
@@ -83,8 +83,8 @@ no-names r ps n low high y = cases (r .kind - 32) (omega arith) (omega arith)
     cases : (d : ℕ) → r .kind ≡ 32 + d → d ≤ 3 → named (patternOf r ps) y ≡ false
     cases zero f l = absurd (n f)
     cases (suc zero) f l = ap (λ (q : Pattern). named q y) (is-any r ps f)
-    cases (suc (suc zero)) f l = ap (λ (q : Pattern). named q y) (is-boolean r ps f)
-    cases (suc (suc (suc zero))) f l = ap (λ (q : Pattern). named q y) (is-integer r ps f)
+    cases (suc (suc zero)) f l = ap (λ (q : Pattern). named q y) (is-boolean-literal r ps f)
+    cases (suc (suc (suc zero))) f l = ap (λ (q : Pattern). named q y) (is-integer-literal r ps f)
     cases (suc (suc (suc (suc d)))) f l = absurd (omega arith)
 
 only-name : (x : ℕ) (words : List ℕ) → (getD words x 0 ≡ 0 → ⊥) → (y : ℕ) → eqb x y ≡ true → getD words y 0 ≡ 0 → ⊥

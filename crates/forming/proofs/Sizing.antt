@@ -1,45 +1,38 @@
 -- What patterns take, how many the halves of a way have, and ways without a match.
 use mathlib.Core.Path.{_≡_, refl, sym, ap, subst, _∙_}
-use mathlib.Core.Bool.{Bool, true, false, _||_, cond}
-use mathlib.Core.Logic.{_⊎_, inl, inr}
-use mathlib.Core.Option.{Option, none as absent, some}
-use mathlib.Core.List.{List, [], _∷_, _++_, map}
+use mathlib.Core.Bool.{Bool, true, false, _||_}
+use mathlib.Core.Logic.{inl, inr}
+use mathlib.Core.List.{List, [], _∷_}
 use Prim.Native.Nat.{ℕ, zero, suc, _+_, _-_, _*_, _/_, _^_, _≤_, _<_}
 use native.Mathlib.Nat.{pow-suc}
 use native.Mathlib.Omega.{arith}
-use native.Mathlib.Numerals.{add-one}
-use lib.Dec.{eqb, ltb}
-use lib.ListN.{length, getD, take, drop, length-append, length-map, length-take, length-drop}
-use lib.Seq.{drop-cons, length-take-le}
+use lib.Dec.{eqb}
+use lib.ListN.{length, take, drop, length-append, length-drop}
+use lib.Seq.{length-take-le}
 use borrow.Author.Tests.{lt-ltb, le-ltb, eq-eqb}
 use Rattle.prelude.proofs.Truth.{or-false-left, or-false-right}
-use Rattle.prelude.proofs.Absurd.{impossible}
-use Rattle.prelude.specs.Membership.{In}
-use Rattle.values.specs.Value.{Kind, set, sequence, map as mapping, tuple, Value, boolean, collection}
+use Rattle.values.specs.Value.{Kind, set, sequence, map as mapping, tuple, Value}
 use Rattle.tables.specs.Record.{Record, named as operandsOf, operand}
 use Rattle.tables.specs.Table.{recordAt, kindAt}
 use Rattle.tables.specs.Accepted.{records}
-use Rattle.parts.specs.Chosen.{power-pos, splitAt, splits-length, cuts-length, nth-split, nth-cut}
-use Rattle.parts.specs.Part.{PartIs}
-use Rattle.parts.specs.Word.{unpacked}
+use Rattle.parts.specs.Chosen.{splitAt}
+use Rattle.parts.specs.Laws.Chosen.{power-pos, splits-length, cuts-length, nth-split, nth-cut}
 use Rattle.patterns.specs.Units.{Shared}
-use Rattle.patterns.specs.Ways.{Halves, halves, toLeft, toRight, splits, gather}
-use Rattle.patterns.specs.Binding.{Binding, withEach, together}
-use Rattle.patterns.specs.Pattern.{Pattern, any, each, halved, parts, itemsOf, contents, divisions, split, leftOf, rightOf, matches, matchEach}
+use Rattle.patterns.specs.Ways.{Halves, halves, toLeft, toRight, splits}
+use Rattle.patterns.specs.Binding.{together}
+use Rattle.patterns.specs.Pattern.{Pattern, each, halved, divisions}
 use Rattle.patterns.specs.Relation.{Divided, Matches}
-use Rattle.patterns.specs.Laws.Matched.{in-together, matched, matchedEach, of-contents, contents-of}
-use Rattle.patterns.specs.Laws.Merging.{true-false}
-use Rattle.patterns.specs.Laws.Together.{with-none}
-use Rattle.patterns.specs.Nodes.{collectionOf, isHalved, pair, meetings, parts-length}
+use Rattle.prelude.proofs.Absurd.{true-false}
+use Rattle.patterns.specs.Nodes.{collectionOf}
+use Rattle.patterns.specs.Laws.Nodes.{parts-length}
 use Rattle.patterns.specs.Read.{Readable, patternsOf, patternOf, patternAt}
-use Rattle.matching.specs.Node.{innerOf, waysOf, metBy}
+use Rattle.matching.specs.Node.{innerOf}
 use Rattle.matching.proofs.Records.{by-record, inner-length}
 use Rattle.forming.specs.declared.sizes.Size.{Size}
 use Rattle.forming.specs.declared.sizes.Sizes.{Sizes}
 use Rattle.forming.specs.declared.sizes.Sides.{Sides}
 use Rattle.forming.specs.Reduced.{Splits}
-use Rattle.forming.specs.Sizes.{Sized, Takes, TellsSize, Sum, HalvesHeld, HalvesTake, TellsSizes, SplitHeld, CountsAre, NotSized, NotBoth, halfAt, Barren, Divisible, WayHeld, FromHeld, From}
-use Rattle.forming.proofs.Pushing.{at-map}
+use Rattle.forming.specs.Sizes.{Sized, Takes, TellsSize, Sum, TellsSizes, SplitHeld, CountsAre, NotSized, NotBoth, halfAt, Barren, WayHeld, From}
 use Rattle.forming.proofs.Reducing.{items-same, is-two}
 
 -- ---- two sizes together

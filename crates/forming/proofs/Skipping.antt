@@ -1,6 +1,6 @@
 -- Ways that are passed over: their halves have other sizes than the patterns take, and so no match.
-use mathlib.Core.Path.{_≡_, refl, sym, ap, subst, _∙_}
-use mathlib.Core.Bool.{Bool, true}
+use mathlib.Core.Path.{_≡_, refl, sym, ap, _∙_}
+use mathlib.Core.Bool.{Bool}
 use mathlib.Core.Logic.{inl, inr}
 use mathlib.Core.Option.{Option, none as absent, some}
 use mathlib.Core.List.{List, [], _∷_, _++_, map}
@@ -15,12 +15,13 @@ use Rattle.tables.specs.Table.{recordAt, kindAt}
 use Rattle.tables.specs.Accepted.{records}
 use Rattle.parts.specs.Part.{PartIs}
 use Rattle.parts.specs.Word.{unpacked}
-use Rattle.patterns.specs.Ways.{Halves, halves, gather}
+use Rattle.patterns.specs.Ways.{halves, gather}
 use Rattle.patterns.specs.Binding.{Binding, withEach, together}
-use Rattle.patterns.specs.Pattern.{Pattern, any, itemsOf, contents, divisions, split, leftOf, rightOf, matches, matchEach}
+use Rattle.patterns.specs.Pattern.{Pattern, any, contents, divisions, split, leftOf, rightOf, matches, matchEach}
 use Rattle.patterns.specs.Laws.Matched.{in-together, matched}
 use Rattle.patterns.specs.Laws.Together.{with-none}
-use Rattle.patterns.specs.Nodes.{collectionOf, pair, meetings, two-of}
+use Rattle.patterns.specs.Nodes.{collectionOf, bothHalves, meetings}
+use Rattle.patterns.specs.Laws.Nodes.{two-of}
 use Rattle.patterns.specs.Read.{Readable, patternsOf, patternAt}
 use Rattle.matching.specs.declared.nodes.Meeting.{Meeting}
 use Rattle.matching.specs.declared.nodes.Meeting.the-variants.{Ways}
@@ -31,10 +32,11 @@ use Rattle.forming.specs.Onward.{Task, matchesAll, oneWay}
 use Rattle.forming.specs.Adding.{adding}
 use Rattle.forming.specs.Pending.{Dividable}
 use Rattle.forming.specs.Reduced.{Splits}
-use Rattle.forming.specs.Sizes.{HalvesTake, TellsSizes, halfAt, Barren, Divisible, FromHeld, From}
-use Rattle.forming.proofs.Pushing.{at-map, countOf}
+use Rattle.forming.specs.Sizes.{HalvesTake, TellsSizes, halfAt, Barren, FromHeld, From}
+use Rattle.prelude.proofs.Lists.{map-at}
+use Rattle.forming.proofs.Pushing.{countOf}
 use Rattle.forming.proofs.Reducing.{two-halves}
-use Rattle.forming.proofs.Solving.{Given, DivideSoFar, ways-are}
+use Rattle.forming.proofs.Solving.{DivideSoFar, ways-are}
 
 -- ---- lists
 
@@ -67,7 +69,7 @@ no-way ps ts b vs e = ap (λ (l : List Binding). withEach b (together l (matches
 
 -- ---- the ways of a pattern with two halves
 
-meetings-two : (c n : ℕ) (v : Value) → Splits c → meetings c n v ≡ map (pair (collectionOf c)) (split (collectionOf c) (contents (collectionOf c) v))
+meetings-two : (c n : ℕ) (v : Value) → Splits c → meetings c n v ≡ map (bothHalves (collectionOf c)) (split (collectionOf c) (contents (collectionOf c) v))
 meetings-two c n v (inl e) = rw e refl
 meetings-two c n v (inr e) = rw e refl
 
@@ -82,28 +84,28 @@ module _ (table index : List ℕ) (p : ℕ) (h : Readable table index p) (c : �
   inner-two =
       let two = two-halves table index p h c (sym ec) u in
       sym (two-of (innerOf table p) (inner-length table index p h ∙ two))
-      ∙ ap (λ (x : Pattern). x ∷ getD (innerOf table p) 1 any ∷ []) (at-map (patternAt (records table)) (operandsOf (recordAt (records table) p)) 0 0 any (omega (arith, two)))
-      ∙ ap (λ (x : Pattern). half 0 ∷ x ∷ []) (at-map (patternAt (records table)) (operandsOf (recordAt (records table) p)) 1 0 any (omega (arith, two)))
+      ∙ ap (λ (x : Pattern). x ∷ getD (innerOf table p) 1 any ∷ []) (map-at (patternAt (records table)) (operandsOf (recordAt (records table) p)) 0 0 any (omega (arith, two)))
+      ∙ ap (λ (x : Pattern). half 0 ∷ x ∷ []) (map-at (patternAt (records table)) (operandsOf (recordAt (records table) p)) 1 0 any (omega (arith, two)))
 
-  ways-two : (v : Value) → waysOf table p v ≡ map (pair K) (split K (contents K v))
+  ways-two : (v : Value) → waysOf table p v ≡ map (bothHalves K) (split K (contents K v))
   ways-two v = ap (λ (k : ℕ). meetings k (length (operandsOf (recordAt (records table) p))) v) (sym ec) ∙ meetings-two c (length (operandsOf (recordAt (records table) p))) v u
 
   -- there are some, so the value is a collection of the kind
-  some-ways : (v : Value) (w : ℕ) → length (waysOf table p v) ≡ w → 0 < w → (vs : List Value) × (waysOf table p v ≡ map (pair K) (divisions K vs)) × (length (divisions K vs) ≡ w)
+  some-ways : (v : Value) (w : ℕ) → length (waysOf table p v) ≡ w → 0 < w → (vs : List Value) × (waysOf table p v ≡ map (bothHalves K) (divisions K vs)) × (length (divisions K vs) ≡ w)
   some-ways v w e l = go (contents K v) (ways-two v)
     where
-      go : (o : Option (List Value)) → waysOf table p v ≡ map (pair K) (split K o) → (vs : List Value) × (waysOf table p v ≡ map (pair K) (divisions K vs)) × (length (divisions K vs) ≡ w)
+      go : (o : Option (List Value)) → waysOf table p v ≡ map (bothHalves K) (split K o) → (vs : List Value) × (waysOf table p v ≡ map (bothHalves K) (divisions K vs)) × (length (divisions K vs) ≡ w)
       go absent q = absurd (omega (arith, e, ap length q))
-      go (some vs) q = (vs, q, sym (length-map (divisions K vs) (pair K)) ∙ ap length (sym q) ∙ e)
+      go (some vs) q = (vs, q, sym (length-map (divisions K vs) (bothHalves K)) ∙ ap length (sym q) ∙ e)
 
   -- a way whose halves have other sizes has no match
   barren-way : (z : Sizes) → HalvesTake table p c z → (w j : ℕ) → j < w → Barren c w z j → (v : Value) → length (waysOf table p v) ≡ w → (ts : List Task) (st : Binding) → oneWay (innerOf table p) ts st (metBy table p v j) ≡ []
   barren-way z t w j l n v e ts st =
       let (vs, q, d) = some-ways v w e (omega arith) in
-      let at : metBy table p v j ≡ pair K (halfAt c vs j) = ap (λ (ws : List (List Value)). getD ws j []) q ∙ at-map (pair K) (divisions K vs) j (halves [] []) [] (omega (arith, d)) in
+      let at : metBy table p v j ≡ bothHalves K (halfAt c vs j) = ap (λ (ws : List (List Value)). getD ws j []) q ∙ map-at (bothHalves K) (divisions K vs) j (halves [] []) [] (omega (arith, d)) in
       ap (λ (x : List Value). oneWay (innerOf table p) ts st x) at
-      ∙ ap (λ (ps : List Pattern). oneWay ps ts st (pair K (halfAt c vs j))) inner-two
-      ∙ no-way (half 0 ∷ half 1 ∷ []) ts st (pair K (halfAt c vs j))
+      ∙ ap (λ (ps : List Pattern). oneWay ps ts st (bothHalves K (halfAt c vs j))) inner-two
+      ∙ no-way (half 0 ∷ half 1 ∷ []) ts st (bothHalves K (halfAt c vs j))
       (no-pair (half 0) (half 1) (leftOf K (halfAt c vs j)) (rightOf K (halfAt c vs j)) (λ a b m o.
       n vs d
       (t .left (halfAt c vs j .left) a (matched (half 0) (leftOf K (halfAt c vs j)) a m))

@@ -8,7 +8,7 @@ use native.Mathlib.Numerals.{add-one}
 use native.Mathlib.Omega.{arith}
 use lib.ListN.{length, getD, drop, drop-of-length-le}
 use lib.Seq.{drop-cons}
-use Rattle.prelude.proofs.Truth.{or-false-left}
+use Rattle.prelude.proofs.Truth.{or-false-left, or-cases}
 use Rattle.prelude.specs.Membership.{In}
 use Rattle.values.specs.Value.{Value}
 use Rattle.values.specs.Items.{same}
@@ -20,13 +20,15 @@ use Rattle.parts.specs.Part.{PartIs, PartHeld}
 use Rattle.parts.proofs.Laws.{part-one}
 use Rattle.patterns.specs.Ways.{gather}
 use Rattle.parts.specs.Word.{unpacked}
-use Rattle.patterns.specs.Members.{Alike, at-in, in-gather, gather-in}
+use Rattle.patterns.specs.Members.{Alike}
+use Rattle.prelude.proofs.Membership.{at-in}
+use Rattle.patterns.specs.Laws.Members.{in-gather, gather-in}
 use Rattle.patterns.specs.Laws.Ordered.{Rising, sorted-rising}
 use Rattle.forming.specs.Settled.{Settled, TellsSettled, NextWay}
-use Rattle.forming.proofs.Settling.{or-some, settled-less, several-more}
+use Rattle.forming.proofs.Settling.{settled-less, several-more}
 use Rattle.patterns.specs.Binding.{Binding, place}
 use Rattle.patterns.specs.Pattern.{Pattern, name, any, literal, each, halved, Patterns, nil, cons, wide}
-use Rattle.patterns.specs.Laws.Merging.{true-false, true-both}
+use Rattle.prelude.proofs.Absurd.{true-false}
 use Rattle.patterns.specs.Read.{patternsOf, patternOf, patternAt, Readable}
 use Rattle.patterns.specs.Nodes.{isHalved, meetings, isLarge}
 use Rattle.matching.specs.declared.nodes.Meeting.{Meeting}
@@ -38,11 +40,14 @@ use Rattle.matching.proofs.Naming.{stands-fine}
 use Rattle.forming.specs.declared.Formed.{Formed}
 use Rattle.forming.specs.declared.Step.{Step}
 use Rattle.forming.specs.declared.Formed.the-variants.{Number, Refused}
-use Rattle.forming.specs.Onward.{Task, task, matchesAll, onward, zipped, oneWay, onward-end, onward-went, onward-none, one-way, onward-ways}
-use Rattle.forming.specs.Adding.{adding, adding-one, adding-none, adding-more, adding-longer, adding-alike, adding-in, adding-there}
+use Rattle.forming.specs.Onward.{Task, task, matchesAll, onward, zipped, oneWay}
+use Rattle.forming.specs.Laws.Onward.{onward-end, onward-went, onward-none, onward-ways, one-way}
+use Rattle.forming.specs.Adding.{adding}
+use Rattle.forming.specs.Laws.Adding.{adding-one, adding-none, adding-more, adding-longer, adding-alike, adding-in, adding-there}
 use Rattle.forming.specs.Rows.{RowsAre, EntryHeld, Entered, Entry}
 use Rattle.forming.specs.Pending.{inner, innerEach, entries, Pending, AgendaIs, spaces, Kept, Pushable, Pushed, Solvable, Solved, Dividable, Divided}
-use Rattle.forming.proofs.Pushing.{agenda-kept, kept-then, at-map, countOf, wide-by, met-long}
+use Rattle.forming.proofs.Pushing.{agenda-kept, kept-then, countOf, wide-by, met-long}
+use Rattle.prelude.proofs.Lists.{map-at}
 
 -- ---- the agenda
 
@@ -436,7 +441,7 @@ module _ (table index : List ℕ) (p : ℕ) (s : List ℕ) (word : ℕ) (a : Lis
               -- some way has a match
               some-now : (a′ : Bool) → a′ ≡ (any′ || r .any) → a′ ≡ true → (v : Value) (ts : List Task) (st : Binding) (bs : List Binding) → Given table index p s word a next top f rows order n v ts st bs
                   → (c : Binding) × In c (gather (waysOf table p v) (oneWay (innerOf table p) ts st))
-              some-now a′ e t v ts st bs g = ⊎-elim (λ x. i .some x v ts st bs g) (λ x. here x) (or-some any′ (r .any) (sym e ∙ t))
+              some-now a′ e t v ts st bs g = ⊎-elim (λ x. i .some x v ts st bs g) (λ x. here x) (or-cases any′ (r .any) (sym e ∙ t))
                 where
                   here : r .any ≡ true → (c : Binding) × In c (gather (waysOf table p v) (oneWay (innerOf table p) ts st))
                   here x =
@@ -453,7 +458,7 @@ module _ (table index : List ℕ) (p : ℕ) (s : List ℕ) (word : ℕ) (a : Lis
                   let (b′, there) = solved .some x (zipped (innerOf table p) (metBy table p v d) ++ ts) st (agenda-at g) (g .stands) in
                   several-more s f st (g .stands) (innerOf table p) (metBy table p v d) ts
                   (λ j l. let q : j < countOf table p = omega (arith, inner-length table index p (h .readable)) in
-                  subst (λ (y : Pattern). Settled y f) (sym (at-map (patternAt (records table)) (named (recordAt (records table) p)) j 0 any q)) (o .each t (h .composed) j q))
+                  subst (λ (y : Pattern). Settled y f) (sym (map-at (patternAt (records table)) (named (recordAt (records table) p)) j 0 any q)) (o .each t (h .composed) j q))
                   b′ there c rest
 
               pub divide-more : (j : ℕ) → r .formed ≡ Number j → (once : Bool) → TellsSettled table p f once → (a′ : Bool) → a′ ≡ (any′ || r .any) → (d′ : ℕ) → NextWay d w once (r .any) d′

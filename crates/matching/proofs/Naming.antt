@@ -23,9 +23,10 @@ use Rattle.patterns.specs.Members.{Alike}
 use Rattle.patterns.specs.Binding.{Cell, free, is, clash, Binding, names, nothing, only, cellOf, agree, merge, consistent, withEach, orderCells}
 use Rattle.patterns.specs.Pattern.{Pattern, name, any, literal, matches}
 use Rattle.patterns.specs.Laws.Matched.{merge-sized, only-sized}
-use Rattle.patterns.specs.Laws.Merging.{true-false}
+use Rattle.patterns.specs.Laws.Merging.{agree-free}
+use Rattle.prelude.proofs.Absurd.{true-false}
 use Rattle.patterns.specs.Laws.Together.{Fine, with-only}
-use Rattle.patterns.specs.Nodes.{is-name, is-any}
+use Rattle.patterns.specs.Laws.Nodes.{is-name, is-any}
 use Rattle.patterns.specs.Read.{Readable, patternAt}
 use Rattle.matching.specs.Leaf.{Stands, Standing, Went, Named, LeafTold}
 use Rattle.matching.specs.Node.{LiteralHeld, LiteralIs, innerOf}
@@ -72,11 +73,6 @@ clash-at a x l e = go (consistent a) refl
 
 cell-fine : (s : List ℕ) (p : Part) (c : Cell) → CellIs s p c → isFine c ≡ true
 cell-fine s p c h = ⊎-elim (λ w. ap isFine (w .1)) (λ w. ap isFine (w .1)) h
-
-pub agree-free : (c : Cell) → agree c free ≡ c
-agree-free free = refl
-agree-free (is v) = refl
-agree-free clash = refl
 
 unlike : (o : Order) → (o ≡ Same → ⊥) → (w : Value) → isFine (cond (isSame o) (is w) clash) ≡ false
 unlike Lower f w = refl

@@ -17,7 +17,7 @@ use Rattle.integers.proofs.Range.{fits-range}
 use Rattle.tables.specs.Record.{Record, Head, nothing, boolean, integer, name, unary, binary, unknown, Shape, shape, size, headOf, field, integerOf, fits, isKnown, isFit}
 use Rattle.tables.specs.Table.{first}
 use Rattle.tables.specs.Shapes.{knownFirst}
-use Rattle.tables.specs.Accepted.{fit-kind}
+use Rattle.tables.specs.Laws.Accepted.{fit-kind}
 
 -- A place in a record, from its start and from its fields.
 pub plus-zero : (a : ℕ) → a + 0 ≡ a

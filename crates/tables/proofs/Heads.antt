@@ -6,14 +6,14 @@ use native.Mathlib.Omega.{arith}
 use borrow.Author.Tests.{lt-ltb, le-ltb, lt-leb, le-leb, eqb-true, ne-eqb}
 use lib.Dec.{eqb, ltb, leb}
 use Rattle.prelude.proofs.Absurd.{never}
-use Rattle.prelude.proofs.Truth.{implied}
+use Rattle.prelude.proofs.Truth.{implied, by-lower}
 use Rattle.tables.specs.Record.{Head, nothing, boolean, integer, name, unary, binary, unknown, shape, isExpression, isPattern}
 use Rattle.tables.specs.Shapes.{firstOf, knownFirst}
-use Rattle.tables.specs.Laws.{each, split}
+use Rattle.tables.specs.Laws.Tests.{each}
 
 -- Below 16 is up to 15.
 pub below-sixteen : (n : ℕ) → ltb n 16 ≡ leb n 15
-below-sixteen n = split n 16 (λ h. lt-ltb n 16 h ∙ sym (le-leb n 15 (omega arith))) (λ h. le-ltb n 16 h ∙ sym (lt-leb n 15 (omega arith)))
+below-sixteen n = by-lower n 16 (λ h. lt-ltb n 16 h ∙ sym (le-leb n 15 (omega arith))) (λ h. le-ltb n 16 h ∙ sym (lt-leb n 15 (omega arith)))
 
 -- Heads without a first field that is tested, by whether their kind is known.
 abbrev isFree : Bool → Head → Bool
@@ -45,14 +45,3 @@ other-known k n h a b c d e f =
     free-known (isExpression k || isPattern k) (shape k .head) n
     (implied (not (isTested k)) _ (each (λ k. not (not (isTested k)) || isFree (isExpression k || isPattern k) (shape k .head)) 41 refl k (omega arith))
     (rw (ne-eqb k 1 a, ne-eqb k 34 b, ne-eqb k 3 c, ne-eqb k 32 d, ne-eqb k 4 e, ne-eqb k 5 f)))
-
--- All other kinds but the integers' have nothing there.
-abbrev isHeaded : ℕ → Bool
-isHeaded k = isTested k || eqb k 2 || eqb k 35
-
-pub nothing-before : (k : ℕ) → k ≤ 40 → (k ≡ 4 → ⊥) → (k ≡ 5 → ⊥) → (k ≡ 1 → ⊥) → (k ≡ 3 → ⊥) → (k ≡ 32 → ⊥) → (k ≡ 34 → ⊥) → (k ≡ 2 → ⊥) → (k ≡ 35 → ⊥) → 4 ≡ firstOf k
-unfolding shape
-nothing-before k h a b c d e f g i =
-    eqb-true 4 (firstOf k)
-    (implied (not (isHeaded k)) _ (each (λ k. not (not (isHeaded k)) || eqb 4 (firstOf k)) 41 refl k (omega arith))
-    (rw (ne-eqb k 1 c, ne-eqb k 34 f, ne-eqb k 3 d, ne-eqb k 32 e, ne-eqb k 4 a, ne-eqb k 5 b, ne-eqb k 2 g, ne-eqb k 35 i)))

@@ -12,21 +12,21 @@ use Rattle.tables.proofs.shape.is_fit.Statement.{statement}
 use Rattle.tables.proofs.shape.is_fit.Tie as tie
 
 returns : tie.Need-returns
-returns c = fit-beyond (c .before .before .args .part .now) (omega (arith, c .before .before .pre .0))
+returns c = fit-beyond (c .before .before .args .part .now) (omega (arith, c .before .before .pre .1 .0))
 
 fits-kind-requires : tie.Need-fits-kind-requires
 fits-kind-requires c κs = search needs
 
 returns-2 : tie.Need-returns-2
-returns-2 c = fit-unfit (c .before .before .before .before .args .part .now) (c .before .before .before .before .args .len) (c .before .before .before .before .pre .1) (c .before .before .before .before .pre .2) (c .before .before .before .before .pre .3) (sym (not-true _ (c .if2 .taken)) ∙ c .before .fits-kind .ensures ∙ ap (λ (k : ℕ). fits (shape k) (c .before .before .before .before .args .len - 4)) (c .before .before .before .before .pre .0))
+returns-2 c = fit-unfit (c .before .before .before .before .args .part .now) (c .before .before .before .before .args .len) (c .before .before .before .before .pre .1 .1) (c .before .before .before .before .pre .1 .2) (c .before .before .before .before .pre .1 .3) (sym (not-true _ (c .if2 .taken)) ∙ c .before .fits-kind .ensures ∙ ap (λ (k : ℕ). fits (shape k) (c .before .before .before .before .args .len - 4)) (c .before .before .before .before .pre .1 .0))
 
 is-known-requires : tie.Need-is-known-requires
 is-known-requires c κs = search needs
 
 returns-3 : tie.Need-returns-3
 returns-3 c =
-    c .is-known .ensures ∙ ap (λ (k : ℕ). knownFirst (shape k .head) 0) (c .before .before .before .before .before .before .pre .0)
-    ∙ sym (fit-empty (c .before .before .before .before .before .before .args .part .now) (c .before .before .before .before .before .before .args .len) (c .before .before .before .before .before .before .pre .1) (c .before .before .before .before .before .before .pre .2) (c .before .before .before .before .before .before .pre .3) (sym (not-false _ (c .before .before .if2 .left)) ∙ c .before .before .before .fits-kind .ensures ∙ ap (λ (k : ℕ). fits (shape k) (c .before .before .before .before .before .before .args .len - 4)) (c .before .before .before .before .before .before .pre .0)) (c .before .if3 .taken))
+    c .is-known .ensures ∙ ap (λ (k : ℕ). knownFirst (shape k .head) 0) (c .before .before .before .before .before .before .pre .1 .0)
+    ∙ sym (fit-empty (c .before .before .before .before .before .before .args .part .now) (c .before .before .before .before .before .before .args .len) (c .before .before .before .before .before .before .pre .1 .1) (c .before .before .before .before .before .before .pre .1 .2) (c .before .before .before .before .before .before .pre .1 .3) (sym (not-false _ (c .before .before .if2 .left)) ∙ c .before .before .before .fits-kind .ensures ∙ ap (λ (k : ℕ). fits (shape k) (c .before .before .before .before .before .before .args .len - 4)) (c .before .before .before .before .before .before .pre .1 .0)) (c .before .if3 .taken))
 
 shared-slice-read-wide : tie.Need-shared-slice-read-wide
 shared-slice-read-wide c = search needs
@@ -40,8 +40,8 @@ is-known-requires-2 c κs = search needs
 returns-4 : tie.Need-returns-4
 returns-4 c =
     c .is-known2 .ensures ∙ ap (λ (n : ℕ). knownFirst (shape (c .before .before .before .before .before .before .before .before .args .kind) .head) n) (c .before .wide .ensures .0)
-    ∙ ap (λ (k : ℕ). knownFirst (shape k .head) (getD (c .before .before .before .before .before .before .before .before .args .part .now) 4 0)) (c .before .before .before .before .before .before .before .before .pre .0)
-    ∙ sym (fit-first (c .before .before .before .before .before .before .before .before .args .part .now) (c .before .before .before .before .before .before .before .before .args .len) (c .before .before .before .before .before .before .before .before .pre .1) (c .before .before .before .before .before .before .before .before .pre .2) (c .before .before .before .before .before .before .before .before .pre .3) (sym (not-false _ (c .before .before .before .before .if2 .left)) ∙ c .before .before .before .before .before .fits-kind .ensures ∙ ap (λ (k : ℕ). fits (shape k) (c .before .before .before .before .before .before .before .before .args .len - 4)) (c .before .before .before .before .before .before .before .before .pre .0)) (omega (arith, c .before .before .before .if3 .left)) (λ i. omega (arith, c .before .before .before .before .before .before .before .shared-slice-known .given i)))
+    ∙ ap (λ (k : ℕ). knownFirst (shape k .head) (getD (c .before .before .before .before .before .before .before .before .args .part .now) 4 0)) (c .before .before .before .before .before .before .before .before .pre .1 .0)
+    ∙ sym (fit-first (c .before .before .before .before .before .before .before .before .args .part .now) (c .before .before .before .before .before .before .before .before .args .len) (c .before .before .before .before .before .before .before .before .pre .1 .1) (c .before .before .before .before .before .before .before .before .pre .1 .2) (c .before .before .before .before .before .before .before .before .pre .1 .3) (sym (not-false _ (c .before .before .before .before .if2 .left)) ∙ c .before .before .before .before .before .fits-kind .ensures ∙ ap (λ (k : ℕ). fits (shape k) (c .before .before .before .before .before .before .before .before .args .len - 4)) (c .before .before .before .before .before .before .before .before .pre .1 .0)) (omega (arith, c .before .before .before .if3 .left)) (λ i. omega (arith, c .before .before .before .before .before .before .before .shared-slice-known .given i)))
 
 pub is-fit-spec : {M : Type 1} → statement M
 is-fit-spec =
