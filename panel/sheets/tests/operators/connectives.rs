@@ -99,13 +99,12 @@ fn a_right_that_is_refused_is_met_only_where_it_is_tested() {
             let one = sheet.integer(1);
             let right = sheet.binary(binary::EQUAL, quotient, one);
             sheet.binary(operator, left_record, right);
-            let answer = BOTH.with_borrow_mut(|both| both.evaluate(&sheet.table(), &[]));
-            let due = if left == settling {
-                (0, 0)
-            } else {
-                (22, quotient)
-            };
-            assert_eq!((answer.number, usize::from(answer.place)), due);
+            let met =
+                evaluated(&sheet.table(), &[]).map_err(|answer| (answer.number, answer.place));
+            match left == settling {
+                true => assert!(met.is_ok()),
+                false => assert_eq!(met, Err((22, quotient as u16))),
+            }
         }
     }
 }

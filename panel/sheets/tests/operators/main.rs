@@ -12,13 +12,11 @@ mod random;
 
 use common::values::*;
 use common::written::write;
-use common::Both;
+use common::{evaluated, fits};
 use generator::builder::kind;
 use generator::Builder;
 use reference::operators::Tried;
 use reference::value::Value;
-use sheets::Sheet;
-use std::cell::RefCell;
 
 /// The record of a sheet's value, or the number of its refusal.
 type Outcome = Result<Vec<u8>, u16>;
@@ -30,35 +28,14 @@ const ABSENT: Outcome = Err(26);
 const CLASH: Outcome = Err(27);
 const TOO_LARGE: Outcome = Err(28);
 
-/// The highest sheet that is accepted.
-const MOST_HEIGHT: usize = 32;
-
-thread_local! {
-    static BOTH: RefCell<Both> = RefCell::new(Both::new());
-}
-
 /// What a sheet without choices comes to; a refusal is at its last record.
 #[track_caller]
 fn outcome(sheet: &Builder) -> Outcome {
-    BOTH.with_borrow_mut(|both| {
-        let answer = both.evaluate(&sheet.table(), &[]);
-        if answer.number != 0 {
-            let last = sheet.records.len() - 1;
-            assert_eq!((usize::from(answer.place), answer.count), (last, 0));
-            return Err(answer.number);
-        }
-        let result = both.result();
-        let length = usize::from(u16::from_le_bytes([result[0], result[1]]));
-        Ok(result[..length].to_vec())
+    evaluated(&sheet.table(), &[]).map_err(|answer| {
+        let last = sheet.records.len() - 1;
+        assert_eq!((usize::from(answer.place), answer.count), (last, 0));
+        answer.number
     })
-}
-
-/// Whether a table can hold the sheet.
-fn fits(sheet: &Builder) -> bool {
-    let heights = sheet.heights().into_iter();
-    sheet.records.len() <= Sheet::MAX_RECORDS
-        && sheet.table().len() <= Sheet::MAX_SIZE
-        && heights.max().is_some_and(|height| height <= MOST_HEIGHT)
 }
 
 /// The sheet of an operator, a set range or an application on values.

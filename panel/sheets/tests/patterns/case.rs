@@ -1,7 +1,7 @@
 //! A binder over a value that its table builds, and every binding of it made visible.
 
 use crate::common::written::write;
-use crate::common::Both;
+use crate::common::{evaluated, fits};
 use crate::pattern::Pattern;
 use generator::builder::{binary, kind};
 use generator::Builder;
@@ -9,8 +9,7 @@ use reference::check::accept;
 use reference::matching::{self, Binding};
 use reference::operators::Tried;
 use reference::value::Value;
-use sheets::{Answer, Sheet};
-use std::cell::RefCell;
+use sheets::Answer;
 use std::collections::BTreeSet;
 use std::fmt;
 
@@ -31,27 +30,13 @@ pub const OF_NAMES: [u16; 2] = [kind::IOTA, kind::SEQUENCE_COMPREHENSION];
 const MOST_STEPS: usize = 100_000;
 /// The most names that an enumeration shows.
 const ENUMERATED: usize = 8;
-/// The highest sheet that is accepted.
-const MOST_HEIGHT: usize = 32;
 
 /// A value that no binding gives.
 const NOWHERE: i32 = 123_456_789;
 
-thread_local! {
-    static BOTH: RefCell<Both> = RefCell::new(Both::new());
-}
-
 /// The value that a table comes to under a list, or the answer.
 pub fn run(table: &[u8], list: &[u8]) -> Result<Value, Answer> {
-    BOTH.with_borrow_mut(|both| {
-        let answer = both.evaluate(table, list);
-        if answer.number != 0 {
-            return Err(answer);
-        }
-        let result = both.result();
-        let length = usize::from(u16::from_le_bytes([result[0], result[1]]));
-        Ok(Value::decode(&result[..length]).expect("a value"))
-    })
+    evaluated(table, list).map(|record| Value::decode(&record).expect("a value"))
 }
 
 /// A binder and the value of its second operand.
@@ -122,12 +107,7 @@ impl<'a> Case<'a> {
         if let Ok(found) = &self.expected {
             shown.extend(found.iter().map(|b| self.shows(&self.names, Some(b))));
         }
-        shown.iter().all(|sheet| {
-            let heights = sheet.heights().into_iter();
-            sheet.records.len() <= Sheet::MAX_RECORDS
-                && sheet.table().len() <= Sheet::MAX_SIZE
-                && heights.max().is_some_and(|height| height <= MOST_HEIGHT)
-        })
+        shown.iter().all(fits)
     }
 
     // ---- sheets

@@ -13,7 +13,7 @@ use sheets::List;
 use std::fs::File;
 use std::io::{Read, Write};
 use std::path::PathBuf;
-use std::process::{Command, Stdio};
+use std::process::{Child, Command, Stdio};
 
 fn program() -> PathBuf {
     built().expect("target/bin/walk: run `rt check walk` in the repository")
@@ -153,48 +153,43 @@ fn the_longest_lines() {
     assert_eq!(print.len(), expected.len());
 }
 
-/// Nobody reads on: the program ends, quietly and with a status that is not 0.
-#[test]
-fn a_closed_pipe() {
+/// The program on the sheet of long lines, which it has read, with its print going somewhere.
+fn printing_to(output: impl Into<Stdio>) -> Child {
     let mut child = Command::new(program())
         .stdin(Stdio::piped())
-        .stdout(Stdio::piped())
+        .stdout(output)
         .stderr(Stdio::piped())
         .spawn()
         .expect("the program starts");
     let mut input = child.stdin.take().expect("a pipe");
-    input
-        .write_all(&long_lines().table())
-        .expect("the program reads");
-    drop(input);
-    let mut output = child.stdout.take().expect("a pipe");
-    let mut start = [0; 6];
-    output.read_exact(&mut start).expect("a first line");
-    assert_eq!(&start, b"table ");
-    drop(output);
+    let table = long_lines().table();
+    input.write_all(&table).expect("the program reads");
+    child
+}
+
+/// It ends quietly, and with a status that is not 0.
+fn ends_quietly(child: Child) {
     let ended = child.wait_with_output().expect("an end");
     assert!(!ended.status.success());
     assert_eq!(String::from_utf8_lossy(&ended.stderr), "");
 }
 
 #[test]
+fn a_closed_pipe() {
+    let mut child = printing_to(Stdio::piped());
+    let mut output = child.stdout.take().expect("a pipe");
+    let mut start = [0; 6];
+    output.read_exact(&mut start).expect("a first line");
+    assert_eq!(&start, b"table ");
+    drop(output);
+    ends_quietly(child);
+}
+
+#[test]
 fn output_that_cannot_be_written() {
-    let full = File::options().write(true).open("/dev/full");
-    let Ok(full) = full else { return };
-    let mut child = Command::new(program())
-        .stdin(Stdio::piped())
-        .stdout(full)
-        .stderr(Stdio::piped())
-        .spawn()
-        .expect("the program starts");
-    let mut input = child.stdin.take().expect("a pipe");
-    input
-        .write_all(&long_lines().table())
-        .expect("the program reads");
-    drop(input);
-    let ended = child.wait_with_output().expect("an end");
-    assert!(!ended.status.success());
-    assert_eq!(String::from_utf8_lossy(&ended.stderr), "");
+    if let Ok(full) = File::options().write(true).open("/dev/full") {
+        ends_quietly(printing_to(full));
+    }
 }
 
 /// A folder cannot be read: that is said on standard error, and nothing is printed.
