@@ -51,7 +51,7 @@ use Rattle.bindings.specs.declared.Opened.{Opened}
 use Rattle.bindings.specs.declared.Opened.the-variants as answer
 use Rattle.bindings.specs.Forming.{Values, Bindable, TellsRows, RowsFormed}
 use Rattle.bindings.specs.Window.{window, CellAt, past, CellsAt, placeOf, InWindow, Windowed, Lent, TellsFrom, OpenedAs, Reachable, Reached, Underneath, WordFor, UnderBinding}
-use Rattle.bindings.specs.Laws.{cells-end}
+use Rattle.bindings.specs.Laws.Window.{cells-end}
 use Rattle.bindings.specs.Filling.{rowWords, bit, maskOf, filled, WordAt, WordsAt, RowHeld, NamesAre, FillHeld, Filled, OneName, MembersHeld, MemberAt, MembersPut}
 use Rattle.bindings.specs.Opening.{PlainHeld, PlainOpened, CursorHeld, CursorOver, LentFrom, FormedFrom}
 use Rattle.bindings.proofs.Large.{members-at}

@@ -33,7 +33,7 @@ use Rattle.bindings.specs.declared.Cursor.{Cursor}
 use Rattle.parts.specs.declared.words.Env.{Env}
 use Rattle.parts.specs.Word.{unpacked}
 use Rattle.bindings.specs.Window.{Values, Windowed, WordFor, UnderBinding}
-use Rattle.bindings.specs.Laws.{windowed-kept}
+use Rattle.bindings.specs.Laws.Window.{windowed-kept}
 use Rattle.evaluator.specs.Contract.{Ask, Around, operandAt}
 use Rattle.evaluator.specs.Binding.{Binder, patternFor, Standing}
 use Rattle.evaluator.proofs.Framing.{cell-up}

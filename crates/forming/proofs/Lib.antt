@@ -3,3 +3,6 @@ mod Rowing
 mod Pushing
 mod Solving
 mod Settling
+mod Reducing
+mod Sizing
+mod Skipping

@@ -17,7 +17,7 @@ use Rattle.parts.specs.Part.{PartIs, PartHeld}
 use Rattle.parts.specs.Contract.{KindOfPart, CollectionHeld, CountOfPart}
 use Rattle.parts.specs.Mask.{Full}
 use Rattle.parts.proofs.Laws.{part-well-formed}
-use Rattle.parts.specs.Chosen.{splits-length, cuts-length}
+use Rattle.parts.specs.Laws.Chosen.{splits-length, cuts-length}
 use Rattle.patterns.specs.Ways.{splits, cuts, orders}
 use Rattle.patterns.specs.Pattern.{listOf, itemsOf, contents, isTooLarge}
 use Rattle.patterns.specs.Laws.Matched.{items-list, list-items}

@@ -18,7 +18,7 @@ use Rattle.parts.specs.declared.Halves.{Halves}
 use Rattle.parts.specs.Part.{PartIs}
 use Rattle.parts.specs.Contract.{ItemHeld, ItemOfPart, SplitHeld, SplitOf, CutHeld, CutOf}
 use Rattle.parts.proofs.Laws.{part-one}
-use Rattle.parts.specs.Chosen.{splits-length, cuts-length}
+use Rattle.parts.specs.Laws.Chosen.{splits-length, cuts-length}
 use Rattle.patterns.specs.Ways.{halves, splits, cuts, orders}
 use Rattle.patterns.specs.Pattern.{itemsOf, contents, leftOf, rightOf}
 use Rattle.patterns.specs.Nodes.{collectionOf, meetings, bothHalves}

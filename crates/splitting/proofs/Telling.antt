@@ -28,7 +28,8 @@ use Rattle.matching.specs.declared.nodes.Meeting.the-variants.{Unfit, Large, Wa
 use Rattle.matching.specs.Node.{MeetsAs, Meets, PieceHeld, PieceOf, innerOf, waysOf, metBy, WayHeld}
 use Rattle.prelude.proofs.Lists.{map-at}
 use Rattle.matching.proofs.Records.{kind-low, kind-high, count-few, count-two, meeting-length}
-use Rattle.splitting.specs.Union.{hasUnion, someUnion, shallow, no-union-narrow, shallow-narrow}
+use Rattle.splitting.specs.Union.{hasUnion, someUnion, shallow}
+use Rattle.splitting.specs.Laws.Union.{no-union-narrow, shallow-narrow}
 use Rattle.splitting.proofs.Composed.{leaf-no-union, wide-composed, union-composed, shallow-union, shallow-other}
 use Rattle.splitting.specs.Told.{TellsUnion, TellsShallow, TellsWide, TellsWays, TellsWay, WaysHeld, wideWays}
 
