@@ -27,7 +27,7 @@ pub record Wrote (s t : List ℕ) (at : ℕ) (bytes : List ℕ) (r : ℕ) : Type
 
 -- ---- limits
 
--- No line is longer: 64 entries of up to three digits and 63 commas, a space, `=`, 1,021 bytes of a value, the line's end. `longest-line` (proofs/Limits).
+-- No line is longer: 64 entries of up to three digits and 63 commas, a space, `=`, 1,021 bytes of a value, the line's end. `longest-line` (proofs/Lines).
 abbrev pub longestLine : ℕ
 longestLine = 1279
 

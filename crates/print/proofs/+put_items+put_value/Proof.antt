@@ -56,13 +56,13 @@ abbrev put-value-calls : ℕ → put-value-lts.Claims
 put-value-calls t = (kind-of-reads.Asked, kind-of-reads.Learnt, boolean-at-reads.Asked, boolean-at-reads.Learnt, put-boolean-reads.Asked, put-boolean-reads.Learnt, integer-at-reads.Asked, integer-at-reads.Learnt, put-integer-reads.Asked, put-integer-reads.Learnt, length-of-reads.Asked, length-of-reads.Learnt, put-opening-reads.Asked, put-opening-reads.Learnt, put-items-below t, put-items.Post, put-closing-reads.Asked, put-closing-reads.Learnt)
 
 put-items-returns : (t : ℕ) → put-items-lts.Need-returns (put-items-calls t) (put-items-at t) put-items.Post
-put-items-returns t c = items-end (c .before .before .before .args .is-map) (c .before .before .before .args .x) (c .before .before .before .args .out .now) (c .before .before .before .args .at) (c .if1 .taken)
+put-items-returns t c = items-end (c .before .before .before .args .is-map) (c .before .before .before .args .separator) (c .before .before .before .args .out .now) (c .before .before .before .args .at) (c .if1 .taken)
 
 put-items-put-separator-requires : (t : ℕ) → put-items-lts.Need-put-separator-requires (put-items-calls t) (put-items-at t) put-items.Post
-put-items-put-separator-requires t c κs = separator-room (c .before .if1 .left) (c .before .before .before .before .args .x) (c .before .before .before .before .pre .1)
+put-items-put-separator-requires t c κs = separator-room (c .before .if1 .left) (c .before .before .before .before .args .separator) (c .before .before .before .before .pre .1)
 
 put-items-put-value-requires : (t : ℕ) → put-items-lts.Need-put-value-requires (put-items-calls t) (put-items-at t) put-items.Post
-put-items-put-value-requires t c κs = let u = begun (c .before .before .before .before .before .if1 .left) (c .before .before .before .before .before .before .before .before .pre .1 .held) in (omega arith, first-room (c .before .before .before .before .before .if1 .left) (c .before .before .before .before .before .before .before .before .args .x) (c .before .before .before .put-separator .ensures) (c .before .before .before .before .before .before .before .before .pre .1))
+put-items-put-value-requires t c κs = let u = begun (c .before .before .before .before .before .if1 .left) (c .before .before .before .before .before .before .before .before .pre .1 .held) in (omega arith, first-room (c .before .before .before .before .before .if1 .left) (c .before .before .before .before .before .before .before .before .args .separator) (c .before .before .before .put-separator .ensures) (c .before .before .before .before .before .before .before .before .pre .1))
 
 put-items-length-of-requires : (t : ℕ) → put-items-lts.Need-length-of-requires (put-items-calls t) (put-items-at t) put-items.Post
 put-items-length-of-requires t c κs = first-holds (c .before .before .before .before .before .before .before .before .if1 .left) (c .before .before .before .before .before .before .before .before .before .before .before .pre .1 .held)
@@ -74,13 +74,13 @@ put-items-add-put-items : (t : ℕ) → put-items-lts.Need-add-put-items (put-it
 put-items-add-put-items t c = let u = begun (c .before .before .before .before .before .before .before .before .before .before .if1 .left) (c .before .before .before .before .before .before .before .before .before .before .before .before .before .pre .1 .held) in omega (arith, c .before .length-of .ensures .is)
 
 put-items-put-items-requires : (t : ℕ) → put-items-lts.Need-put-items-requires (put-items-calls t) (put-items-at t) put-items.Post
-put-items-put-items-requires t c κs = let u = begun (c .before .before .before .before .before .before .before .before .before .before .before .if1 .left) (c .before .before .before .before .before .before .before .before .before .before .before .before .before .before .pre .1 .held) in (omega (arith, c .before .before .length-of .ensures .is), rest-room (c .before .before .before .before .before .before .before .before .before .before .before .if1 .left) (c .before .before .before .before .before .before .before .before .before .before .before .before .before .before .args .x) (c .before .before .before .before .before .before .before .before .before .put-separator .ensures) (c .before .before .length-of .ensures) (c .before .before .before .before .before .put-value .ensures) (c .before .before .before .before .before .before .before .before .before .before .before .before .before .before .pre .1))
+put-items-put-items-requires t c κs = let u = begun (c .before .before .before .before .before .before .before .before .before .before .before .if1 .left) (c .before .before .before .before .before .before .before .before .before .before .before .before .before .before .pre .1 .held) in (omega (arith, c .before .before .length-of .ensures .is), rest-room (c .before .before .before .before .before .before .before .before .before .before .before .if1 .left) (c .before .before .before .before .before .before .before .before .before .before .before .before .before .before .args .separator) (c .before .before .before .before .before .before .before .before .before .put-separator .ensures) (c .before .before .length-of .ensures) (c .before .before .before .before .before .put-value .ensures) (c .before .before .before .before .before .before .before .before .before .before .before .before .before .before .pre .1))
 
 put-items-same-length : (t : ℕ) → put-items-lts.Need-same-length (put-items-calls t) (put-items-at t) put-items.Post
 put-items-same-length t c = search needs
 
 put-items-returns-2 : (t : ℕ) → put-items-lts.Need-returns-2 (put-items-calls t) (put-items-at t) put-items.Post
-put-items-returns-2 t c = items-written (c .before .before .before .before .before .before .before .before .before .before .before .before .before .before .if1 .left) (c .before .before .before .before .before .before .before .before .before .before .before .before .before .before .before .before .before .args .x) (c .before .before .before .before .before .before .before .before .before .before .before .before .put-separator .ensures) (c .before .before .before .before .before .length-of .ensures) (c .before .before .before .before .before .before .before .before .put-value .ensures) (c .before .before .before .before .before .before .before .before .before .before .before .before .before .before .before .before .before .args .is-map) (c .before .before .before .before .following .ensures) (c .before .before .put-items .ensures)
+put-items-returns-2 t c = items-written (c .before .before .before .before .before .before .before .before .before .before .before .before .before .before .if1 .left) (c .before .before .before .before .before .before .before .before .before .before .before .before .before .before .before .before .before .args .separator) (c .before .before .before .before .before .before .before .before .before .before .before .before .put-separator .ensures) (c .before .before .before .before .before .length-of .ensures) (c .before .before .before .before .before .before .before .before .put-value .ensures) (c .before .before .before .before .before .before .before .before .before .before .before .before .before .before .before .before .before .args .is-map) (c .before .before .before .before .following .ensures) (c .before .before .put-items .ensures)
 
 put-value-kind-of-requires : (t : ℕ) → put-value-lts.Need-kind-of-requires (put-value-calls t) (put-value-at t) put-value.Post
 put-value-kind-of-requires t c κs = c .before .before .pre .1 .held

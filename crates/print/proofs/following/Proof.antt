@@ -8,7 +8,7 @@ use Rattle.print.proofs.following.Statement.{statement}
 use Rattle.print.proofs.following.Tie as tie
 
 returns : tie.Need-returns
-returns c = sym (ap (λ (b : Bool). following b (c .before .args .x)) (not-true (c .before .args .is-map) (c .if1 .taken)))
+returns c = sym (ap (λ (b : Bool). following b (c .before .args .separator)) (not-true (c .before .args .is-map) (c .if1 .taken)))
 
 enum-told : tie.Need-enum-told
 enum-told c = search needs
