@@ -9,7 +9,7 @@ use borrow.Author.Tests.{eq-eqb, ne-eqb}
 use mathlib.Core.Bool.{cond}
 use Rattle.values.specs.Value.{Value}
 use Rattle.values.specs.Place.{At}
-use Rattle.choices.specs.declared.Choices.{Choices}
+use Rattle.choices.specs.State.{Choices}
 use Rattle.choices.specs.Tree.{Tree, stop, bind}
 use Rattle.operators.specs.Booleans.{left, right}
 use Rattle.operators.specs.Operators.{unary, binary}

@@ -6,7 +6,7 @@ use native.Mathlib.Omega.{arith}
 use borrow.Author.Tests.{leb-true, eqb-true}
 use lib.Dec.{leb, eqb}
 use lib.ListN.{length, getD, take, List·getD-map}
-use Rattle.tables.specs.Laws.{each as for-each}
+use Rattle.tables.specs.Laws.Tests.{each as for-each}
 use Rattle.print.specs.declared.Word.{Word}
 use Rattle.print.specs.Ascii.{ascii}
 use Rattle.print.specs.Text.{words, word}

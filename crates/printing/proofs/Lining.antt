@@ -7,12 +7,10 @@ use native.Mathlib.Omega.{arith}
 use lib.ListN.{length, take, replicate, length-take}
 use lib.Seq.{take-append-seam}
 use Rattle.prelude.proofs.Absurd.{impossible}
-use Rattle.choices.specs.declared.Choices.{Choices}
-use Rattle.choices.specs.declared.Advanced.{Advanced}
+use Rattle.choices.specs.State.{Choices, Advanced, Invariant, Moved}
 use Rattle.choices.specs.declared.list.Walk.{Walk}
 use Rattle.choices.specs.Tree.{Tree, Numbered, Run, gave, stopped, short, beyond, run, result, refuses, final, mostChoices}
 use Rattle.choices.specs.Lists.{Ended, Complete}
-use Rattle.choices.specs.State.{Invariant, Moved}
 use Rattle.choices.proofs.Walk.{stopped-number}
 use Rattle.choices.proofs.States.{Holds}
 use Rattle.lists.specs.Lent.{lent}
