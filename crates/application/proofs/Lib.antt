@@ -1,1 +1,2 @@
+-- What the proofs of applying need; nobody else cites it.
 mod Finding

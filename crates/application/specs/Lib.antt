@@ -1,2 +1,2 @@
--- What applying a sequence or a map asks and promises inside this crate.
+-- What applying a sequence or a map asks and promises, for the contracts of this crate alone.
 pub mod Applying

@@ -15,7 +15,7 @@ use Rattle.patterns.specs.Ways.{exists}
 use Rattle.patterns.specs.Pattern.{Pattern, itemsOf, listOf, wide}
 use Rattle.patterns.specs.Laws.Matched.{items-list}
 use Rattle.patterns.specs.Read.{patternAt}
-use Rattle.patterns.specs.Laws.Merging.{true-false}
+use Rattle.prelude.proofs.Absurd.{true-false}
 use Rattle.splitting.proofs.Composed.{or-last}
 use Rattle.bindings.specs.Forming.{Values, Bindable, TellsWideIn, TellsWide}
 use Rattle.bindings.proofs.Members.{first-of, none-left}

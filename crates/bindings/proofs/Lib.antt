@@ -1,3 +1,4 @@
+-- What the proofs of the functions need; nobody else cites it.
 mod Members
 mod Large
 mod Room

@@ -10,20 +10,23 @@ use native.Mathlib.Omega.{arith}
 use lib.Dec.{eqb, leb}
 use lib.ListN.{length, getD, take}
 use borrow.Author.Tests.{eq-eqb, ne-eqb, eqb-true, leb-true, leb-false}
-use Rattle.prelude.proofs.Truth.{or-false-right}
+use Rattle.prelude.proofs.Truth.{or-false-right, or-cases}
 use Rattle.tables.specs.Record.{Record, named, operand}
 use Rattle.tables.specs.Table.{recordAt, kindAt}
 use Rattle.tables.specs.Sheet.{fold, some, isIn, parent}
 use Rattle.tables.specs.Check.{allNamed}
-use Rattle.tables.specs.Laws.{Lower, fold-at, in-append, parent-higher}
-use Rattle.tables.specs.Accepted.{records, Clear6, lower, operand-lower, operand-first, operand-parent}
+use Rattle.tables.specs.Laws.Below.{Lower, fold-at, parent-higher}
+use Rattle.tables.specs.Laws.Tests.{in-append}
+use Rattle.tables.specs.Accepted.{records}
+use Rattle.tables.specs.Laws.Accepted.{Clear6, lower, operand-lower, operand-first, operand-parent}
 use Rattle.patterns.specs.Pattern.{Pattern, any}
 use Rattle.forming.specs.Pending.{inner, innerEach}
 use Rattle.matching.specs.Node.{innerOf}
 use Rattle.matching.proofs.Records.{by-record, inner-length, kind-low, count-two, operand-readable}
 use Rattle.patterns.specs.Read.{Readable, patternsOf, patterns, patternOf, patternAt}
-use Rattle.patterns.specs.Nodes.{isHalved, pattern-at}
-use Rattle.patterns.specs.Laws.Merging.{true-false}
+use Rattle.patterns.specs.Nodes.{isHalved}
+use Rattle.patterns.specs.Laws.Nodes.{pattern-at}
+use Rattle.prelude.proofs.Absurd.{true-false}
 
 -- ---- truths
 
@@ -31,10 +34,6 @@ or-in : (a b : Bool) → (a ≡ true) ⊎ (b ≡ true) → (a || b) ≡ true
 or-in true b h = refl
 or-in false b (inl e) = true-false (sym e)
 or-in false b (inr e) = e
-
-or-out : (a b : Bool) → (a || b) ≡ true → (a ≡ true) ⊎ (b ≡ true)
-or-out true b e = inl refl
-or-out false b e = inr e
 
 -- ---- how many numbers below n pass a test
 
@@ -106,7 +105,7 @@ module _ (rs : List Record) (clear : Clear6 rs) where
   -- the operand under which it lies
   some-at : (ns : List ℕ) (x : ℕ) → some (map (λ q. under q x) ns) ≡ true → (i : ℕ) × (i < length ns) × (under (getD ns i 0) x ≡ true)
   some-at [] x e = true-false (sym e)
-  some-at (n ∷ ns) x e = go (or-out (under n x) (some (map (λ q. under q x) ns)) e) (λ d. some-at ns x d)
+  some-at (n ∷ ns) x e = go (or-cases (under n x) (some (map (λ q. under q x) ns)) e) (λ d. some-at ns x d)
     where
       go : (under n x ≡ true) ⊎ (some (map (λ q. under q x) ns) ≡ true) → (some (map (λ q. under q x) ns) ≡ true → (i : ℕ) × (i < length ns) × (under (getD ns i 0) x ≡ true))
           → (i : ℕ) × (i < length (n ∷ ns)) × (under (getD (n ∷ ns) i 0) x ≡ true)
@@ -121,7 +120,7 @@ module _ (rs : List Record) (clear : Clear6 rs) where
   below-or : (p x : ℕ) → p < length rs → under p x ≡ true → (p ≡ x) ⊎ ((i : ℕ) × (i < length (named (recordAt rs p))) × (under (operand (recordAt rs p) i) x ≡ true))
   below-or p x h e =
       ⊎-elim (λ d. inl (eqb-true p x d)) (λ d. inr (some-at (named (recordAt rs p)) x d))
-      (or-out (eqb p x) (some (map (λ q. under q x) (named (recordAt rs p)))) (sym (under-at p x h) ∙ e))
+      (or-cases (eqb p x) (some (map (λ q. under q x) (named (recordAt rs p)))) (sym (under-at p x h) ∙ e))
 
   -- what lies below is not higher
   under-low : (b p x : ℕ) → p < b → p < length rs → under p x ≡ true → x ≤ p

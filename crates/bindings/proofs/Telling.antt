@@ -20,17 +20,18 @@ use Rattle.patterns.specs.Ways.{gather, exists}
 use Rattle.patterns.specs.Binding.{Binding, nothing, consistent, sorted}
 use Rattle.patterns.specs.Pattern.{Pattern, itemsOf, matches, wide}
 use Rattle.patterns.specs.Binder.{bindings, Formed as Outcome, bound, refused, few, formed, mostBindings}
-use Rattle.patterns.specs.Laws.Merging.{true-false}
+use Rattle.prelude.proofs.Absurd.{true-false}
 use Rattle.patterns.specs.Read.{Readable, patternAt}
-use Rattle.matching.specs.declared.leaves.Match.{Match}
 use Rattle.matching.specs.Leaf.{Stands}
 use Rattle.bindings.proofs.Members.{first-of, none-left}
 use Rattle.bindings.proofs.Large.{members-at, set-held}
 use Rattle.forming.specs.declared.Formed.{Formed}
 use Rattle.forming.specs.declared.Step.{Step}
 use Rattle.forming.specs.declared.Formed.the-variants.{Number, Refused}
-use Rattle.forming.specs.Onward.{Task, task, onward, onward-one}
-use Rattle.forming.specs.Adding.{adding, adding-none, adding-more, adding-longer, adding-sorted}
+use Rattle.forming.specs.Onward.{Task, task, onward}
+use Rattle.forming.specs.Laws.Onward.{onward-one}
+use Rattle.forming.specs.Adding.{adding}
+use Rattle.forming.specs.Laws.Adding.{adding-none, adding-more, adding-longer, adding-sorted}
 use Rattle.parts.specs.Word.{unpacked}
 use Rattle.forming.specs.Rows.{RowsAre, Entered}
 use Rattle.forming.specs.Pending.{Pending, AgendaIs, spaces, Solvable, Solved}
@@ -73,7 +74,7 @@ module _ (table index : List ℕ) (p : ℕ) (s : List ℕ) (at : ℕ) (a rows or
     seed-third,
   )
 
-  module _ (f : Match) (nothing-yet : (s : List ℕ) → Stands s f nothing) where
+  module _ (f : List ℕ) (nothing-yet : (s : List ℕ) → Stands s f nothing) where
     pub one-asked : Solvable table index s (seeded a p at) 1 2 f rows order n
     one-asked = record {
       short = h .short;

@@ -21,7 +21,8 @@ use Rattle.values.proofs.Records.{holds, word-size, one-item}
 use Rattle.values.proofs.Frame.{kept}
 use Rattle.tables.specs.Record.{Record, named as operandsOf, nameOf, shape, isKnown, size as sizeOf}
 use Rattle.tables.specs.Table.{recordAt, kindAt}
-use Rattle.tables.specs.Accepted.{records, lower, fit-known, fit-least}
+use Rattle.tables.specs.Accepted.{records}
+use Rattle.tables.specs.Laws.Accepted.{lower, fit-known, fit-least}
 use Rattle.tables.specs.Reading.{HasField}
 use Rattle.parts.specs.Part.{PartIs, CellIs}
 use Rattle.parts.specs.Chosen.{odd}
@@ -29,7 +30,9 @@ use Rattle.parts.specs.Word.{unpacked}
 use Rattle.parts.specs.declared.words.Env.{Env}
 use Rattle.parts.proofs.Packing.{cell-free, cell-value}
 use Rattle.patterns.specs.Ways.{gather, exists}
-use Rattle.patterns.specs.Members.{at-in, in-gather}
+use Rattle.prelude.proofs.Lists.{map-at}
+use Rattle.prelude.proofs.Membership.{at-in}
+use Rattle.patterns.specs.Laws.Members.{in-gather}
 use Rattle.patterns.specs.Binding.{Cell, free, is, clash, Binding, names, nothing, only, cellOf, sorted, place}
 use Rattle.patterns.specs.Pattern.{Pattern, name, itemsOf, listOf, matches, wide}
 use Rattle.patterns.specs.Binder.{bindings, Formed as Outcome, bound, refused, formed, few}
@@ -39,7 +42,7 @@ use Rattle.patterns.specs.Laws.Named.{named, Told, told}
 use Rattle.patterns.specs.Laws.Matched.{matched, only-sized, list-items}
 use Rattle.patterns.specs.Laws.Plain.{plain-formed}
 use Rattle.patterns.specs.Read.{Readable, patternAt}
-use Rattle.patterns.specs.Nodes.{is-name, pattern-at}
+use Rattle.patterns.specs.Laws.Nodes.{is-name, pattern-at}
 use Rattle.forming.specs.declared.Formed.{Formed}
 use Rattle.forming.specs.declared.Formed.the-variants.{Number, Refused}
 use Rattle.forming.specs.Rows.{RowIs, RowsAre}
@@ -47,10 +50,10 @@ use Rattle.bindings.specs.declared.Cursor.{Cursor}
 use Rattle.bindings.specs.declared.Opened.{Opened}
 use Rattle.bindings.specs.declared.Opened.the-variants as answer
 use Rattle.bindings.specs.Forming.{Values, Bindable, TellsRows, RowsFormed}
-use Rattle.bindings.specs.Window.{window, CellAt, past, CellsAt, placeOf, InWindow, Windowed, Lent, TellsOpened, OpenedAs, Reachable, Reached, Underneath, WordFor, UnderBinding}
-use Rattle.bindings.specs.Laws.{cells-end}
+use Rattle.bindings.specs.Window.{window, CellAt, past, CellsAt, placeOf, InWindow, Windowed, Lent, TellsFrom, OpenedAs, Reachable, Reached, Underneath, WordFor, UnderBinding}
+use Rattle.bindings.specs.Laws.Window.{cells-end}
 use Rattle.bindings.specs.Filling.{rowWords, bit, maskOf, filled, WordAt, WordsAt, RowHeld, NamesAre, FillHeld, Filled, OneName, MembersHeld, MemberAt, MembersPut}
-use Rattle.bindings.specs.Opening.{PlainHeld, PlainOpened, CursorHeld, CursorOver}
+use Rattle.bindings.specs.Opening.{PlainHeld, PlainOpened, CursorHeld, CursorOver, LentFrom, FormedFrom}
 use Rattle.bindings.proofs.Large.{members-at}
 use Rattle.bindings.proofs.Writing.{mask-cons, filled-cons, mask-half, odd-some, odd-none, row-length, row-at, outside-wider}
 
@@ -202,11 +205,14 @@ module _ (table : List ℕ) (p : ℕ) (s : List ℕ) (at : ℕ) (whole : Bool) (
       let (f, g) = formed-rows n e vs i in
       record { wide = g .wide; long = g .long; few = g .few; row = λ l. omega (arith, g .row 0 l, g .few) }
 
-  pub open-refused : (k : ℕ) → r ≡ Refused k → OpenedAs table p s s at whole to (answer.Refused k)
-  open-refused k e = record {
+  pub from-refused : (k j : ℕ) → r ≡ Refused j → FormedFrom table p s s at whole to k (answer.Refused j)
+  from-refused k j e = record {
     outside = record { long = refl; below = refl; above = refl };
-    tells = λ vs i. let f = is-refused (take to s) rows order (formed P vs) k (subst (TellsRows (take to s) rows order (formed P vs)) e (h vs i)) in rw f refl;
+    tells = λ vs i. let f = is-refused (take to s) rows order (formed P vs) j (subst (TellsRows (take to s) rows order (formed P vs)) e (h vs i)) in rw f refl;
   }
+
+  pub from-low : (n : ℕ) → r ≡ Number n → (k : ℕ) → LentFrom table p s at whole to k → k ≤ n
+  from-low n e k q = let (f, g) = formed-rows n e (q .values) (q .are) in omega (arith, q .low (bindings P (q .values)) f, g .count)
 
   module _ (n : ℕ) (e : r ≡ Number n) (some : Bindable (take to s) at whole) (k : ℕ) (c : Cursor) (o : CursorOver rows order n k c) where
     pub filling-asked : k ≤ n → FillHeld s to rows order c
@@ -220,47 +226,67 @@ module _ (table : List ℕ) (p : ℕ) (s : List ℕ) (at : ℕ) (whole : Bool) (
         let (f, g) = formed-rows n e vs i in
         windowed-of P vs (take to s) rows order n g k low c o s t to refl (filling-asked low) w
 
-    pub open-told : k ≡ 0 → (t : List ℕ) → Filled s t to rows order c → OpenedAs table p s t at whole to (answer.Bound c)
-    open-told z t w = record {
+    pub from-told : k ≤ n → (t : List ℕ) → Filled s t to rows order c → FormedFrom table p s t at whole to k (answer.Bound c)
+    from-told low t w = record {
       outside = w .outside;
       tells = λ vs i.
           let f = formed-rows n e vs i .0 in
-          rw f (window-of (omega arith) t w vs i, starts (n - 0) refl);
+          rw f (window-of low t w vs i, starts (n - 0) refl);
     }
       where
-        starts : (d : ℕ) → n - 0 ≡ d → c .from ≡ 0
-        starts zero d = o .none (omega arith) .0
-        starts (suc m) d = o .some (omega arith) .0 ∙ z
+        starts : (d : ℕ) → n - 0 ≡ d → c .from ≡ k
+        starts zero d = omega (arith, o .none (omega arith) .0)
+        starts (suc m) d = o .some (omega arith) .0
 
-    pub reach-told : k < n → (c₀ : Cursor) → c₀ .count ≡ n → (t : List ℕ) → Filled s t to rows order c → Reached table p s t at whole to c₀ k c
-    reach-told l c₀ q t w = record {
-      outside = w .outside;
-      count = o .count ∙ sym q;
-      window-is = λ vs bs i f v.
-          let g = formed-rows n e vs i .0 in
-          let d : bs ≡ bindings P vs = formed-bound P vs bs f .all in
-          subst (Windowed t to c) (sym d) (window-of (omega arith) t w vs i);
+-- The first bindings, and those from binding k on.
+pub first-lent : (table : List ℕ) (p : ℕ) (s : List ℕ) (at : ℕ) (whole : Bool) (to : ℕ) → Lent s at whole to → LentFrom table p s at whole to 0
+first-lent table p s at whole to h = record { room = h .room; short = h .short; values = h .bindable .0; are = h .bindable .1; low = λ bs f. omega arith }
+
+pub opened-first : (table : List ℕ) (p : ℕ) (s t : List ℕ) (at : ℕ) (whole : Bool) (to : ℕ) (r : Opened) → FormedFrom table p s t at whole to 0 r → OpenedAs table p s t at whole to r
+opened-first table p s t at whole to r h = record { outside = h .outside; tells = h .tells }
+
+module _ (table : List ℕ) (p : ℕ) (s : List ℕ) (at : ℕ) (whole : Bool) (to : ℕ) (c : Cursor) (k : ℕ) (h : Reachable table p s at whole to c k) where
+  pub reach-lent : LentFrom table p s at whole to k
+  reach-lent = record {
+    room = h .room;
+    short = h .short;
+    values = h .values;
+    are = h .are;
+    low = λ bs f.
+        let e : bs ≡ h .bindings = formed-bound (patternAt (records table) p) (h .values) bs f .all ∙ sym (formed-bound (patternAt (records table) p) (h .values) (h .bindings) (h .bound-are) .all) in
+        omega (arith, ap (length {A = Binding}) e, h .window-is .count, h .below);
+  }
+
+  module _ (t : List ℕ) (r : Opened) (o : FormedFrom table p s t at whole to k r) where
+    tells-here : TellsFrom t to k (bound (h .bindings)) r
+    tells-here = subst (λ (x : Outcome). TellsFrom t to k x r) (h .bound-are) (o .tells (h .values) (h .are))
+
+    pub reach-never : (j : ℕ) → r ≡ answer.Refused j → ⊥
+    reach-never j e = subst (TellsFrom t to k (bound (h .bindings))) e tells-here
+
+    pub reach-told : (d : Cursor) → r ≡ answer.Bound d → Reached table p s t at whole to c k d
+    reach-told d e = record {
+      outside = o .outside;
+      count = sym (w .count) ∙ h .window-is .count;
+      window-is = λ vs bs i f v. subst (TellsFrom t to k (bound bs)) e (subst (λ (x : Outcome). TellsFrom t to k x r) f (o .tells vs i)) .0;
       within = record {
-        low = omega (arith, o .some (omega arith) .0);
-        below = omega (arith, o .count);
+        low = omega (arith, from-is);
+        below = omega (arith, w .count, h .window-is .count, h .below);
         fits =
-            let y : k - c .from ≡ 0 = omega (arith, o .some (omega arith) .0) in
-            let x : c .width * (k - c .from) ≡ 0 = ap (λ (m : ℕ). c .width * m) y ∙ mul-zero (c .width) in
-            omega (arith, x, o .some (omega arith) .1 .narrow);
+            let y : k - d .from ≡ 0 = omega (arith, from-is) in
+            let x : d .width * (k - d .from) ≡ 0 = ap (λ (m : ℕ). d .width * m) y ∙ mul-zero (d .width) in
+            omega (arith, x, w .narrow);
       };
     }
+      where
+        here : TellsFrom t to k (bound (h .bindings)) (answer.Bound d)
+        here = subst (TellsFrom t to k (bound (h .bindings))) e tells-here
 
-  -- the number of rows is that of the cursor
-  pub same-count : (n : ℕ) → r ≡ Number n → (c : Cursor) (k : ℕ) → Reachable table p s at whole to c k → c .count ≡ n
-  same-count n e c k q =
-      let (f, g) = formed-rows n e (q .values) (q .are) in
-      let d : q .bindings ≡ bindings P (q .values) = formed-bound P (q .values) (q .bindings) (q .bound-are) .all in
-      sym (q .window-is .count) ∙ ap length d ∙ g .count
+        w : Windowed t to d (h .bindings)
+        w = here .0
 
-  pub never-refused : (j : ℕ) → r ≡ Refused j → (c : Cursor) (k : ℕ) → Reachable table p s at whole to c k → ⊥
-  never-refused j e c k q =
-      let f = is-refused (take to s) rows order (formed P (q .values)) j (subst (TellsRows (take to s) rows order (formed P (q .values))) e (h (q .values) (q .are))) in
-      impossible (cc (f, q .bound-are))
+        from-is : d .from ≡ k
+        from-is = here .1
 
 pub reach-there : (table : List ℕ) (p : ℕ) (s : List ℕ) (at : ℕ) (whole : Bool) (to : ℕ) (c : Cursor) (k : ℕ) → Reachable table p s at whole to c k → c .from ≤ k → 4 * (c .width * (k - c .from) + c .width) ≤ 512
     → Reached table p s s at whole to c k c
@@ -285,11 +311,6 @@ module _ (u t : List ℕ) where
       let a : odd (2 ^ suc x) ≡ false = ne-eqb (2 ^ suc x % 2) 1 (λ z. omega (arith, pow-suc 2 x)) in
       let b : 2 ^ suc x / 2 ≡ 2 ^ x = omega (arith, pow-suc 2 x) in
       rw (a, b) (refl, only-cells n x at v (omega arith) h)
-
-map-at : (x : ℕ) (vs : List Value) (j : ℕ) (z : Binding) → j < length vs → getD (map (only x) vs) j z ≡ only x (getD vs j (boolean true))
-map-at x [] j z h = absurd (omega arith)
-map-at x (v ∷ vs) zero z h = refl
-map-at x (v ∷ vs) (suc j) z h = map-at x vs j z (omega arith)
 
 member-part : (s t : List ℕ) (at : ℕ) (v : Value) → MemberAt s t at v → PartIs s (unpacked (bits32 t at)) v
 member-part s t at v m =
@@ -341,10 +362,10 @@ module _ (s : List ℕ) (at : ℕ) (whole : Bool) (to x : ℕ) (h : PlainHeld s 
               let a : to + 4 * (1 * (k - 0)) ≡ to + 4 * k = omega arith in
               let b : to + 4 * k + 4 * 1 ≡ to + 4 * k + 4 = omega arith in
               let y = member-part (take to s) t (to + 4 * k) (getD vs k (boolean true)) (each k (i .below)) in
-              rw (a, b, map-at x vs k nothing l, m .outside .below, o .is) (only-cells t (take to s) names x (to + 4 * k) (getD vs k (boolean true)) (h .low) y);
+              rw (a, b, map-at (only x) vs k (boolean true) nothing l, m .outside .below, o .is) (only-cells t (take to s) names x (to + 4 * k) (getD vs k (boolean true)) (h .low) y);
           sized = λ k l.
               let i : k < length vs = omega (arith, length-map vs (only x)) in
-              ap length (map-at x vs k nothing i) ∙ only-sized x (getD vs k (boolean true));
+              ap length (map-at (only x) vs k (boolean true) nothing i) ∙ only-sized x (getD vs k (boolean true));
         }
 
 -- ---- the environment

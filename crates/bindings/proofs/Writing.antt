@@ -24,7 +24,7 @@ use Rattle.parts.specs.Chosen.{odd}
 use Rattle.bindings.specs.declared.Cursor.{Cursor}
 use Rattle.bindings.specs.declared.filling.Names.{Names}
 use Rattle.bindings.specs.Window.{window, past, placeOf, InWindow}
-use Rattle.bindings.specs.Laws.{bits-kept, past-after}
+use Rattle.bindings.specs.Laws.Window.{bits-kept, past-after}
 use Rattle.bindings.specs.Filling.{rowWords, bit, maskOf, filled, WordAt, WordsAt, RowHeld, NamesAre, RowPuttable, RowPut, FillHeld, Filled, OneName, MembersHeld, MemberAt, MembersPut}
 use Rattle.bindings.proofs.Members.{first-of, none-left}
 

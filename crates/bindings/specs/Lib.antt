@@ -1,4 +1,4 @@
--- The bindings of a binder in a window of scratch: what the evaluator asks, and what it is promised.
+-- The bindings of a binder in a window of scratch: what is asked and promised. Cited by the evaluator.
 pub mod Window
 pub mod Laws
 pub mod Forming

@@ -6,9 +6,13 @@ use Prim.Native.Nat.{ℕ, _+_, _≤_, _<_}
 use lib.ListN.{length, getD, take}
 use Rattle.values.specs.Value.{Value}
 use Rattle.values.specs.Place.{Outside}
-use Rattle.patterns.specs.Binding.{names, only}
+use Rattle.tables.specs.Accepted.{records}
+use Rattle.patterns.specs.Binding.{Binding, names, only}
+use Rattle.patterns.specs.Binder.{bound, formed}
+use Rattle.patterns.specs.Read.{patternAt}
 use Rattle.bindings.specs.declared.Cursor.{Cursor}
-use Rattle.bindings.specs.Window.{window, Values, Bindable, Windowed}
+use Rattle.bindings.specs.declared.Opened.{Opened}
+use Rattle.bindings.specs.Window.{window, Values, Bindable, Windowed, TellsFrom}
 use Rattle.bindings.specs.Filling.{rowWords, NamesAre}
 
 pub record PlainHeld (s : List ℕ) (at : ℕ) (whole : Bool) (to x : ℕ) : Type 0 where
@@ -32,3 +36,15 @@ pub record CursorOver (rows order : List ℕ) (n k : ℕ) (r : Cursor) : Type 0 
   pub count : r .count ≡ n
   pub none : n ≡ 0 → (r .from ≡ 0) × (r .width ≡ 0)
   pub some : 0 < n → (r .from ≡ k) × NamesAre (rowWords rows (getD order 0 0)) (record { mask = r .names; width = r .width })
+
+-- No fewer bindings than k.
+pub record LentFrom (table : List ℕ) (p : ℕ) (s : List ℕ) (at : ℕ) (whole : Bool) (to k : ℕ) : Type 0 where
+  pub room : to + window ≤ length s
+  pub short : length s ≤ 65536
+  pub values : List Value
+  pub are : Values (take to s) at whole values
+  pub low : (bs : List Binding) → formed (patternAt (records table) p) values ≡ bound bs → k ≤ length bs
+
+pub record FormedFrom (table : List ℕ) (p : ℕ) (s t : List ℕ) (at : ℕ) (whole : Bool) (to k : ℕ) (r : Opened) : Type 0 where
+  pub outside : Outside s t to (to + window)
+  pub tells : (vs : List Value) → Values (take to s) at whole vs → TellsFrom t to k (formed (patternAt (records table) p) vs) r

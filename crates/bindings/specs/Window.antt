@@ -72,11 +72,15 @@ pub record Lent (s : List ℕ) (at : ℕ) (whole : Bool) (to : ℕ) : Type 0 whe
   pub room : to + window ≤ length s
   pub short : length s ≤ 65536
 
+-- What is answered where the bindings from k on come first in the window.
+abbrev pub TellsFrom : List ℕ → ℕ → ℕ → Formed → Opened → Type 0
+TellsFrom t to k (bound bs) (Bound c) = Windowed t to c bs × (c .from ≡ k)
+TellsFrom t to k (bound bs) (Refused j) = ⊥
+TellsFrom t to k (refused i) (Bound c) = ⊥
+TellsFrom t to k (refused i) (Refused j) = i ≡ j
+
 abbrev pub TellsOpened : List ℕ → ℕ → Formed → Opened → Type 0
-TellsOpened t to (bound bs) (Bound c) = Windowed t to c bs × (c .from ≡ 0)
-TellsOpened t to (bound bs) (Refused k) = ⊥
-TellsOpened t to (refused j) (Bound c) = ⊥
-TellsOpened t to (refused j) (Refused k) = j ≡ k
+TellsOpened t to = TellsFrom t to 0
 
 pub record OpenedAs (table : List ℕ) (p : ℕ) (s t : List ℕ) (at : ℕ) (whole : Bool) (to : ℕ) (r : Opened) : Type 0 where
   pub outside : Outside s t to (to + window)

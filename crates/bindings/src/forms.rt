@@ -1,7 +1,7 @@
 // The bindings of a binder as rows, formed in one pass over the one value or over all members.
 use forming::Formed;
-use matching::leaves::Match;
 use parts::Part;
+use parts::words::Env;
 use tables::Index;
 ghost use mathlib.Core.Path.{_≡_};
 ghost use Prim.Native.Nat.{_+_, _≤_, _<_};
@@ -91,8 +91,8 @@ fn form_one(
     agenda[3] = p as u32;
     agenda[4] = (1 + 4 * at) as u32;
     agenda[5] = 0;
-    let found = Match::nothing();
-    let r = forming::solve(table, index, s, agenda, 1, 2, found, rows, order, n);
+    let found = [0u32; Env::NAMES];
+    let r = forming::solve(table, index, s, agenda, 1, 2, &found, rows, order, n);
     r.formed
 }
 

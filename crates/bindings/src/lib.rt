@@ -13,7 +13,7 @@ ghost use lib.ListN.{length};
 ghost use Rattle.integers.specs.Bytes.{bits32};
 ghost use Rattle.patterns.specs.Read.{Readable};
 ghost use Rattle.bindings.specs.Window.{Lent, OpenedAs, Reachable, Reached, Underneath, UnderBinding};
-ghost use Rattle.bindings.specs.Opening.{PlainHeld, PlainOpened, CursorHeld, CursorOver};
+ghost use Rattle.bindings.specs.Opening.{PlainHeld, PlainOpened, CursorHeld, CursorOver, LentFrom, FormedFrom};
 
 // How many bindings there are; the names that they give values, as a mask, and how many these are; and the first binding in the window.
 pub struct Cursor {
@@ -105,11 +105,11 @@ pub fn open(
         let c = open_plain(s, at, whole, to, x);
         return Opened::Bound(c);
     }
-    open_formed(table, index, p, s, at, whole, to)
+    form_from(table, index, p, s, at, whole, to, 0)
 }
 
-// The same of any pattern, all bindings formed in one pass.
-fn open_formed(
+// The bindings of any pattern, all formed in one pass, with those from binding k on in the window.
+fn form_from(
     table: &[u8],
     index: &Index,
     p: usize,
@@ -117,18 +117,19 @@ fn open_formed(
     at: usize,
     whole: bool,
     to: usize,
+    k: usize,
 ) -> Opened
     requires { ⌜ Readable (now table) (now index) p ⌝ }
-    requires { ⌜ Lent (now s) at whole to ⌝ }
-    ensures { λ r. ⌜ OpenedAs (now (table .entry)) p (now (s .entry)) (now (s .exit)) at whole to r ⌝ }
+    requires { ⌜ LentFrom (now table) p (now s) at whole to k ⌝ }
+    ensures { λ r. ⌜ FormedFrom (now (table .entry)) p (now (s .entry)) (now (s .exit)) at whole to k r ⌝ }
 {
     let mut rows = [0u32; 4080];
     let mut order = [0u8; 255];
     let r = forms::form_rows(table, index, p, &s[0..to], at, whole, &mut rows, &mut order);
     match r {
-        Formed::Refused(k) => Opened::Refused(k),
+        Formed::Refused(j) => Opened::Refused(j),
         Formed::Number(n) => {
-            let c = cursor_over(&rows, &order, n, 0);
+            let c = cursor_over(&rows, &order, n, k);
             filling::fill(s, to, &rows, &order, c);
             Opened::Bound(c)
         }
@@ -156,35 +157,10 @@ pub fn reach(
             return cursor;
         }
     }
-    fill_from(table, index, p, s, at, whole, to, cursor, k)
-}
-
-// The window filled from binding k on.
-fn fill_from(
-    table: &[u8],
-    index: &Index,
-    p: usize,
-    s: &mut [u8],
-    at: usize,
-    whole: bool,
-    to: usize,
-    cursor: Cursor,
-    k: usize,
-) -> Cursor
-    requires { ⌜ Readable (now table) (now index) p ⌝ }
-    requires { ⌜ Reachable (now table) p (now s) at whole to cursor k ⌝ }
-    ensures { λ r. ⌜ Reached (now (table .entry)) p (now (s .entry)) (now (s .exit)) at whole to cursor k r ⌝ }
-{
-    let mut rows = [0u32; 4080];
-    let mut order = [0u8; 255];
-    let r = forms::form_rows(table, index, p, &s[0..to], at, whole, &mut rows, &mut order);
+    let r = form_from(table, index, p, s, at, whole, to, k);
     match r {
-        Formed::Refused(j) => cursor,
-        Formed::Number(n) => {
-            let c = cursor_over(&rows, &order, n, k);
-            filling::fill(s, to, &rows, &order, c);
-            c
-        }
+        Opened::Refused(j) => cursor,
+        Opened::Bound(c) => c,
     }
 }
 

@@ -1,16 +1,13 @@
 -- The frame: what an operator leaves as it was, from one change to the next and from one base to another.
-use mathlib.Core.Path.{_≡_, refl, _∙_}
+use mathlib.Core.Path.{refl, _∙_}
 use mathlib.Core.Logic.{inr}
 use mathlib.Core.List.{List}
-use Prim.Native.Nat.{ℕ, _+_, _≤_}
+use Prim.Native.Nat.{ℕ, _≤_}
 use native.Mathlib.Omega.{arith}
-use lib.ListN.{length}
-use Rattle.integers.specs.Bytes.{word}
-use Rattle.values.specs.Value.{Value, size, valueLimit}
-use Rattle.values.specs.Place.{At, Holds, Outside}
+use Rattle.values.specs.Value.{Value}
+use Rattle.values.specs.Place.{Holds, Outside}
 use Rattle.values.specs.Contract.{Put, Copyable, Copied}
-use Rattle.values.proofs.Records.{holds, word-size}
-use Rattle.values.proofs.Frame.{below-less, kept}
+use Rattle.values.proofs.Frame.{below-less}
 use Rattle.calling.specs.Scratch.{Kept}
 
 -- ---- changes one after another, and a lower base
@@ -30,18 +27,6 @@ kept-outside {s} {t} {base} {from} h o = record { long = o .long; below = below-
 
 pub put-kept : {s t : List ℕ} {at n r : ℕ} {x : Value} → Put s t at x n r → Kept s t at
 put-kept p = record { long = p .outside .long; below = p .outside .below }
-
--- ---- what stands below the base
-
--- a value stays where its limit ends at or below the base, or its record does
-pub at-kept : {s t : List ℕ} {base at : ℕ} {v : Value} → Kept s t base → base ≤ length s → at + valueLimit ≤ base → At s at v → At t at v
-at-kept {base = base} k l h a = kept {base = base} (k .below) (omega (arith, k .long)) (omega (arith, a .fine .short)) a
-
-pub record-kept : {s t : List ℕ} {base at : ℕ} {v : Value} → Kept s t base → base ≤ length s → at + size v ≤ base → At s at v → At t at v
-record-kept {base = base} k l h a = kept {base = base} (k .below) (omega (arith, k .long)) h a
-
-pub held-kept : {s t : List ℕ} {base at : ℕ} → Kept s t base → base ≤ length s → at + word s at ≤ base → Holds s at → Holds t at
-held-kept k l h a = let w = word-size (a .here) in holds (record-kept k l (omega arith) (a .here))
 
 -- ---- copying down to the base, from anywhere above it
 

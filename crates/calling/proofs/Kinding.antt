@@ -5,13 +5,12 @@ use mathlib.Core.Bool.{Bool, true, false, _&&_, and-eq-true-iff}
 use mathlib.Core.Option.{Option, none as absent, some}
 use Prim.Native.Nat.{ℕ, _+_}
 use lib.Dec.{eqb}
-use lib.IntN.{ℤ}
 use borrow.Author.Tests.{eqb-true, eqb-false, eq-eqb, ne-eqb}
 use Rattle.prelude.proofs.Truth.{by-test}
-use Rattle.values.specs.Value.{Kind, number, kindOf, Value, boolean, integer, collection, Items}
+use Rattle.values.specs.Value.{Kind, number, kindOf, Value, boolean, collection, Items}
 use Rattle.values.specs.Place.{At, Holds}
 use Rattle.values.specs.Contract.{KindAt}
-use Rattle.values.proofs.Records.{one-value, is-boolean, is-integer}
+use Rattle.values.proofs.Records.{one-value, is-boolean}
 use Rattle.operators.specs.Answer.{Answer, refused, wrongKind, asBoolean, asInteger, asKind, needs, needsBoth}
 use Rattle.operator_laws.proofs.OfKind.{boolean-not, integer-not, kind-is, kind-not, kind-view}
 use Rattle.calling.specs.declared.Applied.{Applied}
@@ -34,11 +33,6 @@ module _ {s : List ℕ} {at k : ℕ} (read : KindAt s at k) where
   pub the-boolean : k ≡ 1 → Holds s at → (b : Bool) × At s at (boolean b)
   the-boolean e h =
       let i = is-boolean (h .value) (sym (read .right (h .value) (h .here)) ∙ e) in
-      (i .0, subst (λ (v : Value). At s at v) (i .1) (h .here))
-
-  pub the-integer : k ≡ 2 → Holds s at → (z : ℤ) × At s at (integer z)
-  the-integer e h =
-      let i = is-integer (h .value) (sym (read .right (h .value) (h .here)) ∙ e) in
       (i .0, subst (λ (v : Value). At s at v) (i .1) (h .here))
 
   -- of a set, a sequence, a map or a tuple

@@ -9,8 +9,10 @@ use Rattle.tables.specs.declared.Role.{Role}
 use Rattle.tables.specs.Record.{Record, named, operand, roleAt}
 use Rattle.tables.specs.Table.{recordAt}
 use Rattle.tables.specs.Sheet.{parent, isIn, climb}
-use Rattle.tables.specs.Laws.{split, low, Place, in-place, parent-higher, climb-up, climb-top}
-use Rattle.tables.specs.Accepted.{Clear6, lower, operand-lower, operand-parent, operand-role}
+use Rattle.prelude.proofs.Truth.{by-lower}
+use Rattle.tables.specs.Laws.Tests.{low, Place, in-place}
+use Rattle.tables.specs.Laws.Below.{parent-higher, climb-up, climb-top}
+use Rattle.tables.specs.Laws.Accepted.{Clear6, lower, operand-lower, operand-parent, operand-role}
 use Rattle.checking.specs.Scopes.{orBits, given, around, Around}
 
 -- The bits around record q are handed on to its operands below i.
@@ -20,7 +22,7 @@ pub record Pushed (rs : List Record) (q : ℕ) (bits : List ℕ) (i : ℕ) : Typ
   pub higher : (r : ℕ) → r < length rs → q < parent rs r → getD bits r 0 ≡ around rs r
   pub done : (j : ℕ) → j < i → getD bits (operand (recordAt rs q) j) 0 ≡ around rs (operand (recordAt rs q) j)
 
-zeros : (n r : ℕ) → getD (replicate {A = ℕ} n 0) r 0 ≡ 0
+pub zeros : (n r : ℕ) → getD (replicate {A = ℕ} n 0) r 0 ≡ 0
 zeros zero r = refl
 zeros (suc n) zero = refl
 zeros (suc n) (suc r) = zeros n r
@@ -59,7 +61,7 @@ module _ (rs : List Record) (clear : Clear6 rs) where
   pub own-around : (q : ℕ) (bits : List ℕ) → q < length rs → Around rs bits (q + 1) → getD bits q 0 ≡ around rs q
   own-around q bits h a =
       a .is q h
-      (split (parent rs q) (length rs) (λ k. omega (arith, parent-higher rs (lower rs clear) q k)) (λ k. omega arith))
+      (by-lower (parent rs q) (length rs) (λ k. omega (arith, parent-higher rs (lower rs clear) q k)) (λ k. omega arith))
 
   pub push-more : (q i n m : ℕ) (bits bits′ : List ℕ) → q < length rs → length rs ≤ 200 → i < length (named (recordAt rs q)) → Pushed rs q bits i → n ≡ operand (recordAt rs q) i → m ≡ orBits (around rs q) (given rs q (roleAt (recordAt rs q) i)) → bits′ ≡ set bits n m → Pushed rs q bits′ (i + 1)
   push-more q i n m bits bits′ h few k p e f g =
@@ -77,19 +79,19 @@ module _ (rs : List Record) (clear : Clear6 rs) where
         done =
             λ j l.
             let o : ℕ = operand (recordAt rs q) j in
-            split o n (λ a. rw g (getD-set-other bits n o m 0 (λ same. omega arith) ∙ p .done j (before j l o refl a)))
+            by-lower o n (λ a. rw g (getD-set-other bits n o m 0 (λ same. omega arith) ∙ p .done j (before j l o refl a)))
             (λ a.
-            split n o (λ b. rw g (getD-set-other bits n o m 0 (λ same. omega arith) ∙ p .done j (after j l o refl b)))
+            by-lower n o (λ b. rw g (getD-set-other bits n o m 0 (λ same. omega arith) ∙ p .done j (after j l o refl b)))
             (λ b. let same : o ≡ n = omega arith in rw same here));
       }
     where
       before : (j : ℕ) → j < i + 1 → (o : ℕ) → o ≡ operand (recordAt rs q) j → o < n → j < i
       before j l o is a =
-          split j i (λ b. b) (λ b. let same : j ≡ i = omega arith in absurd (omega (arith, is ∙ ap (operand (recordAt rs q)) same, e)))
+          by-lower j i (λ b. b) (λ b. let same : j ≡ i = omega arith in absurd (omega (arith, is ∙ ap (operand (recordAt rs q)) same, e)))
 
       after : (j : ℕ) → j < i + 1 → (o : ℕ) → o ≡ operand (recordAt rs q) j → n < o → j < i
       after j l o is a =
-          split j i (λ b. b) (λ b. let same : j ≡ i = omega arith in absurd (omega (arith, is ∙ ap (operand (recordAt rs q)) same, e)))
+          by-lower j i (λ b. b) (λ b. let same : j ≡ i = omega arith in absurd (omega (arith, is ∙ ap (operand (recordAt rs q)) same, e)))
 
   pub push-end : (q i : ℕ) (bits : List ℕ) → q < length rs → Pushed rs q bits i → length (named (recordAt rs q)) ≤ i → Around rs bits q
   push-end q i bits h p l =
@@ -97,7 +99,7 @@ module _ (rs : List Record) (clear : Clear6 rs) where
         long = p .long;
         is =
             λ r k o.
-            split q (parent rs r) (λ a. p .higher r k a)
+            by-lower q (parent rs r) (λ a. p .higher r k a)
             (λ a.
             let same : parent rs r ≡ q = omega arith in
             let at : Place (named (recordAt rs q)) r = in-place r (named (recordAt rs q)) (rw same at (low (λ q. isIn r (named (recordAt rs q))) (length rs) .hit (omega arith))) in

@@ -12,8 +12,9 @@ use lib.Seq.{drop-cons, drop-length, getD-set-same, getD-set-other}
 use Rattle.tables.specs.Record.{Record, Head, name, shape, size, headOf, named, operand, nameOf, isKnown, isFit}
 use Rattle.tables.specs.Table.{recordAt}
 use Rattle.tables.specs.Sheet.{isLoose}
-use Rattle.tables.specs.Laws.{split, Lower, fold-at}
-use Rattle.tables.specs.Accepted.{fit-least, fit-known}
+use Rattle.prelude.proofs.Truth.{by-lower}
+use Rattle.tables.specs.Laws.Below.{Lower, fold-at}
+use Rattle.tables.specs.Laws.Accepted.{fit-least, fit-known}
 use Rattle.checking.specs.Scopes.{orBits, orBitsAll, own, bitsBelow, Below}
 
 pub one-bit : (n : ℕ) → n < 32 → (1 * 2 ^ n) % 4294967296 ≡ 2 ^ n
@@ -94,7 +95,7 @@ below-more rs bits bits′ r m h b e f =
       long = rw f (length-set bits r m ∙ b .long);
       is =
           λ q k.
-          split q r (λ l. rw (f, getD-set-other bits r q m 0 (λ same. omega arith)) (b .is q l))
+          by-lower q r (λ l. rw (f, getD-set-other bits r q m 0 (λ same. omega arith)) (b .is q l))
           (λ l.
           let same : q ≡ r = omega arith in
           rw (f, same, getD-set-same bits r m 0 (omega (arith, b .long))) e);

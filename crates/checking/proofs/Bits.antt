@@ -15,7 +15,7 @@ use Rattle.tables.specs.declared.Role.the-variants.{Plain, Condition, Body, Pat
 use Rattle.tables.specs.Record.{Record, shape, named, nameOf}
 use Rattle.tables.specs.Table.{recordAt}
 use Rattle.tables.specs.Sheet.{some, foldBy, isName, holdsName, isLoose, loose, parent, roleIn, climbBy, isCovered, isCondition, patternOf, isBound, inCondition}
-use Rattle.tables.specs.Laws.{split}
+use Rattle.prelude.proofs.Truth.{by-lower}
 use Rattle.checking.specs.Scopes.{hasBit, orBits, orBitsAll, own, bitsBelow, given, around}
 
 -- ---- single bits
@@ -29,20 +29,20 @@ digit (suc zero) (suc zero) h k = refl
 digit (suc zero) (suc (suc v)) h k = absurd (omega arith)
 digit (suc (suc u)) v h k = absurd (omega arith)
 
-bit-union : (a b n : ℕ) → hasBit (orBits a b) n ≡ hasBit a n || hasBit b n
+pub bit-union : (a b n : ℕ) → hasBit (orBits a b) n ≡ hasBit a n || hasBit b n
 unfolding hasBit orBits
 bit-union a b n =
     ap (λ (m : ℕ). eqb (m % 2) 1) (or-shr a b n) ∙ ap (λ (m : ℕ). eqb m 1) (or-mod (a / 2 ^ n) (b / 2 ^ n) 1)
     ∙ digit (a / 2 ^ n % 2) (b / 2 ^ n % 2) (omega arith) (omega arith)
 
-bit-zero : (n : ℕ) → hasBit 0 n ≡ false
+pub bit-zero : (n : ℕ) → hasBit 0 n ≡ false
 unfolding hasBit
 bit-zero n = ne-eqb (0 / 2 ^ n % 2) 1 (λ e. omega (arith, shr-le 0 n))
 
-bit-pow : (k n : ℕ) → hasBit (2 ^ k) n ≡ eqb k n
+pub bit-pow : (k n : ℕ) → hasBit (2 ^ k) n ≡ eqb k n
 unfolding hasBit
 bit-pow k n =
-    split k n
+    by-lower k n
     (λ h.
     let none : 2 ^ k / 2 ^ n < 1 = shr-lt {n = 2 ^ k} 0 n (rw (zero-add n) (pow-lt h)) in
     ne-eqb (2 ^ k / 2 ^ n % 2) 1 (λ e. omega arith) ∙ sym (ne-eqb k n (λ e. omega arith)))
@@ -136,7 +136,7 @@ none-below rs (suc b) r = go (named (recordAt rs r)) (none-below rs b)
     go [] e = refl
     go (m ∷ ms) e = ap (λ (t : Bool). t || some (map (λ k. foldBy (λ q bs. false || some bs) false rs b k) ms)) (e m) ∙ go ms e
 
-held-even : (rs : List Record) (p : ℕ) → hasBit (bitsBelow rs p) 0 ≡ false
+pub held-even : (rs : List Record) (p : ℕ) → hasBit (bitsBelow rs p) 0 ≡ false
 unfolding bitsBelow
 held-even rs p = fold-bit 0 (λ x. false) own-even rs (suc p) p ∙ none-below rs (suc p) p
 

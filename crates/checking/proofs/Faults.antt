@@ -10,7 +10,7 @@ use Rattle.tables.specs.Record.{Record, shape, size, named, nameOf, isFit}
 use Rattle.tables.specs.Table.{recordAt, kindAt}
 use Rattle.tables.specs.Sheet.{loose, patternOf, isBound, inCondition}
 use Rattle.tables.specs.Check.{fault7, chooses, fault8}
-use Rattle.tables.specs.Accepted.{named-count, fit-least}
+use Rattle.tables.specs.Laws.Accepted.{named-count, fit-least}
 
 module _ (rs : List Record) (r : ℕ) (b : Bool) where
   pub read7 : kindAt rs r ≡ 3 → b ≡ isBound rs r (nameOf (recordAt rs r)) → not b ≡ fault7 rs r

@@ -1,3 +1,4 @@
+-- What the proofs of the passes need; nobody else cites it.
 mod Scan
 mod Marks
 mod Below
@@ -5,4 +6,7 @@ mod Above
 mod Bits
 mod Faults
 mod Tallness
+mod Leaving
+mod Closing
+mod Gathering
 mod Verdict

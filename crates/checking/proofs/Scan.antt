@@ -6,9 +6,9 @@ use native.Mathlib.Omega.{arith}
 use native.Mathlib.Numerals.{add-one}
 use lib.Dec.{ltb}
 use mathlib.Mathlib.Data.Bool.Basic.{or-inl, or-inr}
-use Rattle.prelude.proofs.Truth.{or-false-both}
+use Rattle.prelude.proofs.Truth.{or-false-both, by-lower}
 use Rattle.tables.specs.Sheet.{lowest}
-use Rattle.tables.specs.Laws.{split, low, low-same}
+use Rattle.tables.specs.Laws.Tests.{low, low-same}
 
 module _ (test : ℕ → Bool) where
   pub low-within : (l r : ℕ) → l ≡ lowest test r → l ≤ r
@@ -31,7 +31,7 @@ lowest-either s t n =
       within = omega (arith, low s n .within);
       hit =
           λ h.
-          split (lowest t n) (lowest s n)
+          by-lower (lowest t n) (lowest s n)
           (λ l.
           let is : min (lowest s n) (lowest t n) ≡ lowest t n = omega arith in
           rw is (or-inr (s (lowest t n)) (t (lowest t n)) (low t n .hit (omega arith))))

@@ -9,13 +9,14 @@ use borrow.Author.Tests.{lt-ltb, le-ltb}
 use lib.ListN.{length, getD, drop}
 use lib.Seq.{drop-cons, drop-length}
 use Rattle.prelude.proofs.Absurd.{never}
-use Rattle.prelude.proofs.Truth.{or-false-both}
+use Rattle.prelude.proofs.Truth.{or-false-both, by-lower}
 use Rattle.tables.specs.Record.{Record, named, operand}
 use Rattle.tables.specs.Table.{recordAt}
 use Rattle.tables.specs.Sheet.{lowest, isIn, greatest, height, parent}
 use Rattle.tables.specs.Check.{mostHeight, allNamed, fault9}
-use Rattle.tables.specs.Laws.{split, in-append, low, low-same, Place, in-place, fold-at, parent-higher}
-use Rattle.tables.specs.Accepted.{Clear6, lower, operand-lower, height-at, named-all}
+use Rattle.tables.specs.Laws.Tests.{in-append, low, low-same, Place, in-place}
+use Rattle.tables.specs.Laws.Below.{fold-at, parent-higher}
+use Rattle.tables.specs.Laws.Accepted.{Clear6, lower, operand-lower, height-at, named-all}
 use Rattle.checking.specs.Heights.{leastOf, lowTall}
 
 -- ---- the least of a list
@@ -35,7 +36,7 @@ least-from m n f [] h P g e = g h
 least-from m n f (x ∷ xs) h P g e =
     least-from (min m (f x)) n f xs h P
     (λ k.
-    split m (f x)
+    by-lower m (f x)
     (λ l. let is : min m (f x) ≡ m = omega arith in rw is (g (omega arith)))
     (λ l. let is : min m (f x) ≡ f x = omega arith in rw is (e 0 (omega arith) (omega arith))))
     (λ i k. e (suc i) (omega arith))
@@ -122,7 +123,7 @@ module _ (rs : List Record) (clear : Clear6 rs) where
       let least : ℕ = leastOf (length rs) (map (lowTall rs) (named (recordAt rs r))) in
       let own : ℕ = cond (fault9 rs r) r (length rs) in
       let is : lowTall rs r ≡ min least own = low-at r h in
-      split own least
+      by-lower own least
       (λ l.
       let same : lowTall rs r ≡ own = omega arith in
       rw same (own-found r (fault9 rs r) refl (omega arith)))
@@ -150,9 +151,9 @@ module _ (rs : List Record) (clear : Clear6 rs) where
   none-named n (q ∷ qs) e =
       in-append n (named q) (allNamed qs) ∙ or-false-both (isIn n (named q)) (isIn n (allNamed qs)) (e 0 (omega arith)) (none-named n qs (λ k h. e (suc k) (omega arith)))
 
-  named-parent : (r : ℕ) → suc r < length rs → parent rs r < length rs
+  pub named-parent : (r : ℕ) → suc r < length rs → parent rs r < length rs
   named-parent r h =
-      split (parent rs r) (length rs) (λ k. k)
+      by-lower (parent rs r) (length rs) (λ k. k)
       (λ k.
       never (sym (none-named r rs (λ q l. low (λ q. isIn r (named (recordAt rs q))) (length rs) .miss q (omega arith))) ∙ named-all rs clear r h))
 
@@ -160,7 +161,7 @@ module _ (rs : List Record) (clear : Clear6 rs) where
   below-last : (bound r last : ℕ) → length rs ≤ r + bound → suc last ≡ length rs → r < length rs → lowTall rs last ≤ lowTall rs r
   below-last zero r last b e h = absurd (omega arith)
   below-last (suc bound) r last b e h =
-      split r last
+      by-lower r last
       (λ l.
       let q : ℕ = parent rs r in
       let k : q < length rs = named-parent r (omega arith) in

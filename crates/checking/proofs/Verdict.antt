@@ -1,5 +1,5 @@
 -- The rules in their order.
-use mathlib.Core.Path.{_≡_, sym, ap, _∙_}
+use mathlib.Core.Path.{_≡_, refl, sym, ap, _∙_}
 use mathlib.Core.Bool.{Bool, true, false}
 use mathlib.Core.List.{List}
 use Prim.Native.Nat.{ℕ, _≤_, _<_}
@@ -11,10 +11,15 @@ use Rattle.tables.specs.declared.Checked.the-variants.{Accepted, Refused}
 use Rattle.tables.specs.Record.{Record}
 use Rattle.tables.specs.Sheet.{lowest}
 use Rattle.tables.specs.Check.{mostBytes, mostRecords, fault6, fault7, fault8, fault9, judged, judgedCut, check}
-use Rattle.tables.specs.Laws.{low}
-use Rattle.tables.specs.Accepted.{records, Clear6, some-cut}
+use Rattle.prelude.proofs.Absurd.{never}
+use Rattle.prelude.proofs.Truth.{by-lower}
+use Rattle.tables.specs.Laws.Tests.{low}
+use Rattle.tables.specs.Accepted.{records}
+use Rattle.tables.specs.Laws.Accepted.{Clear6, some-cut}
 use Rattle.tables.specs.Reading.{Indexed, CutOut}
 use Rattle.tables.specs.declared.reading.Cutting.{Cutting}
+use Rattle.checking.specs.declared.sweep.Swept.{Swept}
+use Rattle.checking.specs.Sweeps.{Settled}
 
 -- ---- rules 6 to 9
 
@@ -57,6 +62,24 @@ module _ (rs : List Record) (n : ℕ) (all : n ≡ length rs) where
           unfolding judged
           none-broken h =
               rw (above (fault6 rs) l6 e6 c6, above (fault7 rs) l7 e7 c7, above (fault8 rs) l8 e8 c8, above (fault9 rs) l9 e9 h) (ap Accepted all)
+
+-- Where rules 6 to 8 are kept, rule 9 decides.
+module _ (rs : List Record) (n : ℕ) (all : n ≡ length rs) (s : Swept) (kept : Settled rs s) where
+  none-low : (test : ℕ → Bool) → ((r : ℕ) → r < length rs → test r ≡ false) → n ≤ lowest test n
+  none-low test none = by-lower (lowest test n) n (λ h. never (sym (none (lowest test n) (omega arith)) ∙ low test n .hit h)) (λ h. h)
+
+  low-is : s .low ≡ lowest (fault9 rs) n
+  low-is = kept .low ∙ ap (lowest (fault9 rs)) (sym all)
+
+  pub settled9 : s .low < n → Refused 9 (s .low) ≡ judged rs
+  settled9 =
+      refused9 rs n all (lowest (fault6 rs) n) refl (none-low (fault6 rs) (kept .clear6)) (lowest (fault7 rs) n) refl (none-low (fault7 rs) (kept .clear7)) (lowest (fault8 rs) n) refl
+      (none-low (fault8 rs) (kept .clear8)) (s .low) low-is
+
+  pub settled-none : n ≤ s .low → Accepted n ≡ judged rs
+  settled-none =
+      none-broken rs n all (lowest (fault6 rs) n) refl (none-low (fault6 rs) (kept .clear6)) (lowest (fault7 rs) n) refl (none-low (fault7 rs) (kept .clear7)) (lowest (fault8 rs) n) refl
+      (none-low (fault8 rs) (kept .clear8)) (s .low) low-is
 
 -- ---- rules 3 to 5
 

@@ -2,3 +2,4 @@
 pub mod Naming
 pub mod Scopes
 pub mod Heights
+pub mod Sweeps

@@ -12,7 +12,8 @@ use Rattle.tables.specs.Record.{Record, nameOf}
 use Rattle.tables.specs.Table.{recordAt}
 use Rattle.tables.specs.Sheet.{fold, isLoose, parent, patternOf, climb}
 use Rattle.tables.specs.Check.{mostRecords}
-use Rattle.tables.specs.Accepted.{records, Clear6}
+use Rattle.tables.specs.Accepted.{records}
+use Rattle.tables.specs.Laws.Accepted.{Clear6}
 use Rattle.tables.specs.Reading.{Here, HasOperand}
 use Rattle.checking.specs.Naming.{Whole}
 

@@ -19,7 +19,7 @@ pub struct Height {
 }
 
 // The higher of two numbers.
-fn higher(a: usize, b: usize) -> usize
+pub fn higher(a: usize, b: usize) -> usize
     ensures { λ r. ⌜ r ≡ max a b ⌝ }
 {
     if a < b { b } else { a }

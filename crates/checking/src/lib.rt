@@ -1,4 +1,4 @@
-// The check of a table: document 01's rules 3 to 9, each in one or two passes over the records.
+// The check of a table: document 01's rules 3 to 9. One pass settles most tables; each rule has its own passes where that one finds a fault.
 ghost use mathlib.Core.Path.{_≡_};
 ghost use Prim.Native.Nat.{_<_};
 ghost use Rattle.tables.specs.Check.{check as checkOf, judged};
@@ -7,6 +7,7 @@ ghost use Rattle.checking.specs.Naming.{Whole};
 use height::lowest9;
 use naming::lowest6;
 use scope::lowest78;
+use sweep::sweep;
 use tables::Checked;
 use tables::Index;
 use tables::MOST_BYTES;
@@ -17,9 +18,10 @@ pub mod height;
 pub mod lowest;
 pub mod naming;
 pub mod scope;
+pub mod sweep;
 
-// Rules 6 to 9 on the records that an index finds.
-fn judge(table: &[u8], index: &Index, count: usize) -> Checked
+// Rules 6 to 9 on the records that an index finds, one after the other.
+fn judge_each(table: &[u8], index: &Index, count: usize) -> Checked
     requires { ⌜ Whole (now table) (now index) count × (0 < count) ⌝ }
     ensures { λ a. ⌜ a ≡ judged (records (now (table .entry))) ⌝ }
 {
@@ -39,6 +41,23 @@ fn judge(table: &[u8], index: &Index, count: usize) -> Checked
     let low9 = lowest9(table, index, count);
     if low9 < count {
         return Checked::Refused(9, low9);
+    }
+    Checked::Accepted(count)
+}
+
+// The same: one pass settles a table that keeps rules 6 to 8.
+fn judge(table: &[u8], index: &Index, count: usize) -> Checked
+    requires { ⌜ Whole (now table) (now index) count × (0 < count) ⌝ }
+    ensures { λ a. ⌜ a ≡ judged (records (now (table .entry))) ⌝ }
+{
+    let s = sweep(table, index, count);
+    let fine = s.fine;
+    if !fine {
+        return judge_each(table, index, count);
+    }
+    let low = s.low;
+    if low < count {
+        return Checked::Refused(9, low);
     }
     Checked::Accepted(count)
 }

@@ -26,20 +26,20 @@ const CONDITION: u32 = 1;
 
 const LOOSE: u32 = 2;
 
-fn union(a: u32, b: u32) -> u32
+pub fn union(a: u32, b: u32) -> u32
     ensures { λ r. ⌜ r ≡ orBits a b ⌝ }
 {
     a | b
 }
 
-fn bit(n: usize) -> u32
+pub fn bit(n: usize) -> u32
     requires { ⌜ n < 32 ⌝ }
     ensures { λ r. ⌜ r ≡ 2 ^ n ⌝ }
 {
     1 << n
 }
 
-fn has(m: u32, n: usize) -> bool
+pub fn has(m: u32, n: usize) -> bool
     requires { ⌜ n < 32 ⌝ }
     ensures { λ b. ⌜ b ≡ hasBit m n ⌝ }
 {
@@ -47,7 +47,7 @@ fn has(m: u32, n: usize) -> bool
 }
 
 // The bits of record r itself.
-fn own(table: &[u8], index: &Index, r: usize) -> u32
+pub fn own(table: &[u8], index: &Index, r: usize) -> u32
     requires { ⌜ Here (now table) (now index) r ⌝ }
     ensures { λ m. ⌜ m ≡ ownOf (recordAt (records (now (table .entry))) r) ⌝ }
 {

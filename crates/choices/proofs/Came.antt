@@ -5,17 +5,14 @@ use mathlib.Core.Option.{some}
 use mathlib.Core.List.{List, []}
 use Prim.Native.Nat.{ℕ, _≤_, _<_}
 use borrow.Author.Tests.{lt-ltb, le-ltb}
-use Rattle.choices.specs.declared.Choices.{Choices}
-use Rattle.choices.specs.declared.Picked.{Picked}
-use Rattle.choices.specs.declared.Advanced.{Advanced}
+use Rattle.choices.specs.State.{Choices, Picked, Advanced, View, view, fresh, Invariant, Made, Chosen, Moved}
 use Rattle.choices.specs.declared.Answer.the-variants.{Taken, Many, Short, Beyond}
-use Rattle.choices.specs.Tree.{Tree, give, stop, choose, bind, Full, Numbered, value, Gives, Final, result, refuses, final, run}
+use Rattle.choices.specs.Tree.{Tree, give, stop, choose, bind, Full, Numbered, Final, result, refuses, final, run}
 use Rattle.choices.specs.Lists.{Complete}
 use Rattle.choices.specs.Paths.{firstList, nextList}
-use Rattle.choices.specs.State.{View, view, fresh, Invariant, Made, Chosen, Moved}
 use Rattle.choices.specs.Runs.{runOn, settle, endedBy, Came}
 use Rattle.choices.proofs.Ran.{stateOf, ranAs, atEnd}
-use Rattle.choices.proofs.Runs.{bind-ran, bind-refused, chosen, run-gives, state-as, run-final, run-complete}
+use Rattle.choices.proofs.Runs.{bind-ran, bind-refused, chosen, state-as, run-final, run-complete}
 use Rattle.choices.proofs.States.{unless-none, unless-some, Holds, end-holds}
 use Rattle.choices.proofs.Stepping.{first-run, step-more}
 
@@ -48,10 +45,6 @@ module _ {A B : Type 0} (t : Tree A) (g : A → Tree B) where
 
   pub came-off : {r p n : ℕ} {c d : Choices} → Came t c (refuses r p n) d → Came (bind t g) c (refuses r p n) d
   came-off {r} {p} {n} {c} {d} h = record { right = bind-refused t g (view c) (view d) r p n (h .right); sound = h .sound }
-
--- A value that a run came to is one that the tree gives.
-pub came-gives : {A : Type 0} {t : Tree A} {a : A} {c d : Choices} → Full t → Came t c (result a) d → Gives t (value a)
-came-gives {t = t} {a = a} {c = c} {d = d} f h = run-gives t (view c) (view d) a f (h .right)
 
 -- ---- a whole run
 

@@ -8,11 +8,10 @@ use native.Mathlib.Omega.{arith}
 use lib.ListN.{length, take, drop, getD, set, length-set}
 use lib.Seq.{take-suc, take-suc-set, length-take-le}
 use borrow.Author.Tests.{lt-ltb, le-ltb, le-leb, lt-leb}
-use Rattle.choices.specs.declared.Choices.{Choices}
+use Rattle.choices.specs.State.{Choices, view, Invariant, answerLeft, answerOf, Chosen, taking, afterFirst}
 use Rattle.choices.specs.declared.Answer.the-variants.{Taken, Many, Short, Beyond}
 use Rattle.choices.specs.Tree.{mostChoices}
 use Rattle.choices.proofs.States.{left-cons, left-nil}
-use Rattle.choices.specs.State.{view, Invariant, answerLeft, answerOf, rest, Chosen, taking}
 
 module _ (c : Choices) (n : ℕ) (s : Invariant c) where
   past-length : c .used ≤ mostChoices → length (take (c .used) (c .entries)) ≡ c .used
@@ -57,7 +56,7 @@ module _ (c : Choices) (n : ℕ) (s : Invariant c) where
       let f = left-cons (c .entries) (c .used) (c .len) k (omega arith) in
       let p = past-more (getD (c .entries) (c .used) 0) h refl in
       let m = met-more h in
-      let q : drop (c .used + 1) (take (c .len) (c .entries)) ≡ rest (drop (c .used) (take (c .len) (c .entries))) = rw (add-one, f) in
+      let q : drop (c .used + 1) (take (c .len) (c .entries)) ≡ afterFirst (drop (c .used) (take (c .len) (c .entries))) = rw (add-one, f) in
       subst (λ (x : Choices). Chosen c n (record { answer = Taken (getD (c .entries) (c .used) 0); state = x })) (sym e)
       (record {
         answered = sym (room h ∙ rw (f, lt-ltb (getD (c .entries) (c .used) 0) n b));
@@ -70,7 +69,7 @@ module _ (c : Choices) (n : ℕ) (s : Invariant c) where
       let f = left-nil (c .entries) (c .used) (c .len) k in
       let p = past-more 0 h (s .zeroed (c .used) k) in
       let m = met-more h in
-      let q : drop (c .used + 1) (take (c .used + 1) (c .entries)) ≡ rest (drop (c .used) (take (c .len) (c .entries))) = rw f (left-nil (c .entries) (c .used + 1) (c .used + 1) (omega arith)) in
+      let q : drop (c .used + 1) (take (c .used + 1) (c .entries)) ≡ afterFirst (drop (c .used) (take (c .len) (c .entries))) = rw f (left-nil (c .entries) (c .used + 1) (c .used + 1) (omega arith)) in
       subst (λ (x : Choices). Chosen c n (record { answer = Taken 0; state = x })) (sym e)
       (record {
         answered = sym (room h ∙ rw (f, b));

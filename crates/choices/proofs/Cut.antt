@@ -11,8 +11,9 @@ use borrow.Author.Tests.{lt-ltb, ltb-true}
 use Rattle.prelude.proofs.Absurd.{impossible}
 use Rattle.prelude.specs.Membership.{In}
 use Rattle.choices.specs.Tree.{Tree, give, stop, choose, mostChoices, Full, stopped, beyond, follow, run, Outcome, Gives}
-use Rattle.choices.specs.Lists.{Ended, Complete, outcomeOf, NoMany}
-use Rattle.choices.specs.Paths.{Leaf, outcomeAt, AtMost, cutAfter, allLists}
+use Rattle.choices.specs.Lists.{Ended, Complete, outcomeOf}
+use Rattle.choices.proofs.Leaves.{NoMany, Leaf, outcomeAt, AtMost}
+use Rattle.choices.specs.Paths.{cutAfter, allLists}
 use Rattle.choices.proofs.Paths.{leaf-in, in-leaf}
 
 -- ---- the cut tree

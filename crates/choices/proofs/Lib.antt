@@ -1,14 +1,12 @@
--- Laws of trees, lists and runs, which crates above cite, and what the proofs of the functions need.
+-- Laws of trees, lists and runs. Cited by meaning, lists, the evaluator and walks.
 pub mod Order
+pub mod Leaves
 pub mod Trees
 pub mod Paths
 pub mod Steps
 pub mod Cut
 pub mod Walk
-pub mod Ahead
-pub mod Parts
 pub mod Outcomes
-pub mod Rank
 pub mod States
 pub mod Ran
 pub mod Runs
@@ -16,4 +14,3 @@ pub mod Came
 pub mod Stepping
 pub mod Choosing
 pub mod Raising
-mod Making

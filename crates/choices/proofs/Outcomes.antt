@@ -7,7 +7,8 @@ use Prim.Native.Nat.{ℕ, zero, suc}
 use lib.Dec.{ltb}
 use borrow.Author.Tests.{ltb-true}
 use Rattle.choices.specs.Tree.{Tree, give, stop, choose, mostChoices, Run, gave, stopped, short, beyond, follow, run, Outcome, value, refusal, Gives}
-use Rattle.choices.specs.Lists.{Complete, outcomeOf, NoMany}
+use Rattle.choices.specs.Lists.{Complete, outcomeOf}
+use Rattle.choices.proofs.Leaves.{NoMany}
 use Rattle.choices.specs.Paths.{cutAfter}
 use Rattle.choices.proofs.Paths.{gives-leaf}
 use Rattle.choices.proofs.Cut.{complete-leaf, leaf-complete, complete-outcome, gives-cut, no-many-within}

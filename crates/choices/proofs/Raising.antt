@@ -9,9 +9,8 @@ use native.Mathlib.Decide.{ℕ-discrete}
 use lib.ListN.{length, take, drop, getD, set, length-take, length-set, take-append-drop}
 use lib.Seq.{take-suc-set, getD-take, take-set-le, take-take, getD-set-same, getD-set-other}
 use borrow.Author.Tests.{lt-ltb, le-ltb}
-use Rattle.choices.specs.declared.Choices.{Choices}
+use Rattle.choices.specs.State.{Choices, View, Invariant, fresh, Made, Moved}
 use Rattle.choices.specs.Paths.{raise}
-use Rattle.choices.specs.State.{View, Invariant, fresh, Made, Moved}
 use Rattle.choices.proofs.States.{left-cons, left-nil}
 
 -- a list of two parts, of which the second can be raised
@@ -78,9 +77,6 @@ module _ (e₀ ns : List ℕ) (i₀ : ℕ) (roomy : i₀ ≤ length e₀) (count
 module _ (c : Choices) (s : Invariant c) (e : List ℕ) (i : ℕ) (g : Seeking (c .entries) (c .counts) (c .used) e i) where
   pub turn-at : (j : ℕ) → i ≡ suc j → getD (c .counts) j 0 ≤ getD e j 0 + 1 → Seeking (c .entries) (c .counts) (c .used) (set e j 0) j
   turn-at j q h = turn (c .entries) (c .counts) (c .used) (omega arith) (omega arith) e j (rw q at g) h
-
-  pub same-entry : (j : ℕ) → i ≡ suc j → getD e j 0 ≡ getD (c .entries) j 0
-  same-entry j q = same-at (c .entries) (c .counts) (c .used) (omega arith) (omega arith) e j (rw q at g)
 
   pub raised-moved : (j : ℕ) → i ≡ suc j → getD e j 0 + 1 < getD (c .counts) j 0 → Moved c (record { more = true; state = record { entries = set e j (getD e j 0 + 1); counts = c .counts; len = i; used = 0; grow = true } })
   raised-moved j q h =

@@ -9,14 +9,13 @@ use lib.Seq.{append-snoc}
 use lib.Dec.{ltb, leb}
 use borrow.Author.Tests.{lt-ltb, lt-leb, le-leb, ltb-true}
 use Rattle.prelude.proofs.Absurd.{impossible}
-use Rattle.choices.specs.declared.Choices.{Choices}
-use Rattle.choices.specs.declared.Picked.{Picked}
+use Rattle.choices.specs.State.{Choices, Picked, View, view, fresh, answerLeft, answerOf, afterwards, Chosen}
 use Rattle.choices.specs.declared.Answer.{Answer}
 use Rattle.choices.specs.declared.Answer.the-variants.{Taken, Many, Short, Beyond}
-use Rattle.choices.specs.Tree.{Tree, give, stop, choose, bind, mostChoices, Full, Numbered, Run, gave, stopped, short, beyond, follow, run, Outcome, value, refusal, Gives, refuses, unlessLeft, final}
+use Rattle.choices.specs.Tree.{Tree, give, stop, choose, bind, mostChoices, Full, Numbered, Run, gave, stopped, short, beyond, follow, run, Outcome, value, refusal, refuses, unlessLeft, final}
 use Rattle.choices.specs.Lists.{Ended, Complete, outcomeOf}
-use Rattle.choices.specs.Paths.{Leaf, Prefix, outcomeAt, counts, extend, AtMost, cutAfter}
-use Rattle.choices.specs.State.{View, view, fresh, answerLeft, answerOf, afterwards, Chosen}
+use Rattle.choices.specs.Paths.{counts, extend, cutAfter}
+use Rattle.choices.proofs.Leaves.{Leaf, Prefix, outcomeAt, AtMost}
 use Rattle.choices.specs.Runs.{Ran, ran, refused, onAnswer, runOn, settle}
 use Rattle.choices.proofs.Ran.{stateOf, further, ranAs, trail, atEnd}
 use Rattle.choices.proofs.Paths.{prefix-nil, extend-leaf, outcome-extend}
@@ -87,18 +86,6 @@ taken-below v n i h e = room-below (leb mostChoices (length (v .past))) (v .left
 pub chosen-below : (c : Choices) (n i : ℕ) (r : Picked) → 0 < n → Chosen c n r → r .answer ≡ Taken i → i < n
 chosen-below c n i r h k e = taken-below (view c) n i h (sym (k .answered) ∙ e)
 
--- A run's value is one that the tree gives.
-pub run-gives : {A : Type 0} (t : Tree A) (v w : View) (a : A) → Full t → runOn t v ≡ ran a w → Gives t (value a)
-run-gives (give b) v w a f e = cc
-run-gives (stop r p) v w a f e = impossible cc
-run-gives (choose p n ways) v w a f e = go (answerOf v n) refl (λ i h d. run-gives (ways i) (afterwards v n (Taken i)) w a (f .1 i h) d) e
-  where
-    go : (b : Answer) → answerOf v n ≡ b → ((i : ℕ) → i < n → runOn (ways i) (afterwards v n (Taken i)) ≡ ran a w → Gives (ways i) (value a)) → onAnswer b p n v (λ i. runOn (ways i) (afterwards v n (Taken i))) ≡ ran a w → (i : ℕ) × (i < n) × Gives (ways i) (value a)
-    go (Taken i) q rec d = let h = taken-below v n i (f .0) q in (i, h, rec i h d)
-    go Many q rec d = impossible cc
-    go Short q rec d = impossible cc
-    go Beyond q rec d = impossible cc
-
 -- ---- under a list that is given
 
 pub state-as : {A : Type 0} (r : Run A) (v : View) → stateOf (ranAs r v) ≡ v
@@ -129,15 +116,15 @@ pub run-follow : {A : Type 0} (t : Tree A) (l : List ℕ) → runOn t (fresh l f
 run-follow t l = run-trail t mostChoices [] [] l refl
 
 -- The entries that a run leaves.
-abbrev pub leftOf : {A : Type 0} → Run A → List ℕ
+abbrev leftOf : {A : Type 0} → Run A → List ℕ
 leftOf (gave a k l) = l
 leftOf (stopped r p l) = l
 leftOf (short p n) = []
 leftOf (beyond p n l) = l
 
-left-pick : {A : Type 0} (b : Bool) (p n c : ℕ) (l past met : List ℕ) (w : View) (r : Run A) → w .left ≡ leftOf r → cond b w (record { past = past; met = met; left = c ∷ l; grow = false }) .left ≡ leftOf (cond b r (beyond p n (c ∷ l)))
-left-pick true p n c l past met w r h = h
-left-pick false p n c l past met w r h = refl
+left-cond : {A : Type 0} (b : Bool) (p n c : ℕ) (l past met : List ℕ) (w : View) (r : Run A) → w .left ≡ leftOf r → cond b w (record { past = past; met = met; left = c ∷ l; grow = false }) .left ≡ leftOf (cond b r (beyond p n (c ∷ l)))
+left-cond true p n c l past met w r h = h
+left-cond false p n c l past met w r h = refl
 
 pub trail-left : {A : Type 0} (t : Tree A) (k : ℕ) (past met left : List ℕ) → trail t k past met left .left ≡ leftOf (follow t k left)
 trail-left (give a) k past met left = refl
@@ -145,7 +132,7 @@ trail-left (stop r p) k past met left = refl
 trail-left (choose p n ways) zero past met left = refl
 trail-left (choose p n ways) (suc k) past met [] = refl
 trail-left (choose p n ways) (suc k) past met (c ∷ l) =
-    left-pick (ltb c n) p n c l past met (trail (ways c) k (past ++ c ∷ []) (met ++ n ∷ []) l) (follow (ways c) k l) (trail-left (ways c) k (past ++ c ∷ []) (met ++ n ∷ []) l)
+    left-cond (ltb c n) p n c l past met (trail (ways c) k (past ++ c ∷ []) (met ++ n ∷ []) l) (follow (ways c) k l) (trail-left (ways c) k (past ++ c ∷ []) (met ++ n ∷ []) l)
 
 -- ---- what it finally answers
 
@@ -190,9 +177,6 @@ trail-leaf (choose p n ways) (suc k) past met (c ∷ l) h =
 pub run-complete : {A : Type 0} (t : Tree A) (l : List ℕ) → Complete t l → runOn t (fresh l false) ≡ ranAs (run t l) (atEnd t l false)
 unfolding ended-view
 run-complete t l h = run-follow t l ∙ ap (ranAs (run t l)) (trail-leaf t mostChoices [] [] l (complete-leaf t l h))
-
-pub complete-state : {A : Type 0} (t : Tree A) (l : List ℕ) → Complete t l → stateOf (runOn t (fresh l false)) ≡ atEnd t l false
-complete-state t l h = ap stateOf (run-complete t l h) ∙ state-as (run t l) (atEnd t l false)
 
 -- ---- under a list that grows
 

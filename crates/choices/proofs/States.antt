@@ -6,9 +6,9 @@ use Prim.Native.Nat.{ℕ, suc, _+_, _-_, _≤_, _<_}
 use native.Mathlib.Omega.{arith}
 use lib.ListN.{length, take, drop, getD, length-take, length-drop, drop-of-length-le, take-append-drop, replicate, length-replicate, getD-replicate}
 use lib.Seq.{drop-cons, getD-take, getD-drop, length-take-le, take-take, ext-getD}
-use Rattle.choices.specs.declared.Choices.{Choices}
+use Rattle.choices.specs.State.{Choices, View, view, Invariant}
+use Rattle.choices.specs.Lists.{padded}
 use Rattle.choices.specs.Tree.{Tree, mostChoices, Final, refuses, unlessLeft}
-use Rattle.choices.specs.State.{View, view, Invariant, padded}
 use Rattle.choices.proofs.Ran.{atEnd}
 
 -- ---- the entries left
@@ -27,7 +27,7 @@ module _ (c : Choices) (s : Invariant c) where
   pub left-none : c .len ≤ c .used → view c .left ≡ []
   left-none h = left-nil (c .entries) (c .used) (c .len) h
 
-  pub left-some : c .used < c .len → view c .left ≡ getD (c .entries) (c .used) 0 ∷ drop (suc (c .used)) (take (c .len) (c .entries))
+  left-some : c .used < c .len → view c .left ≡ getD (c .entries) (c .used) 0 ∷ drop (suc (c .used)) (take (c .len) (c .entries))
   left-some h = left-cons (c .entries) (c .used) (c .len) h (omega arith)
 
   pub unless-none : {A : Type 0} (p : ℕ) (f : Final A) → c .len ≤ c .used → unlessLeft (view c .left) p f ≡ f
@@ -54,7 +54,7 @@ module _ (c : Choices) (s : Invariant c) where
       (λ i h. getD-drop (c .len) (c .entries) i 0 ∙ s .zeroed (c .len + i) (omega arith) ∙ sym (getD-replicate (mostChoices - c .len) i 0 0 (omega arith)))
 
   -- They are its entries, with zeros after them.
-  pub list-entries : c .entries ≡ padded (view c .past ++ view c .left)
+  list-entries : c .entries ≡ padded (view c .past ++ view c .left)
   list-entries =
       sym (take-append-drop (c .len) (c .entries))
       ∙ ap₂ (λ (a b : List ℕ). a ++ b) (sym list-split) (zeros ∙ ap (λ (n : ℕ). replicate (mostChoices - n) 0) list-length)

@@ -4,12 +4,10 @@ use mathlib.Core.Bool.{Bool, true, false}
 use mathlib.Core.Option.{none, some}
 use mathlib.Core.List.{List, []}
 use Prim.Native.Nat.{ℕ}
-use Rattle.choices.specs.declared.Choices.{Choices}
-use Rattle.choices.specs.declared.Advanced.{Advanced}
+use Rattle.choices.specs.State.{Choices, Advanced, View, view, fresh, maybe, Moved}
 use Rattle.choices.specs.Tree.{Tree, mostChoices, Full, run}
 use Rattle.choices.specs.Lists.{Complete}
 use Rattle.choices.specs.Paths.{counts, extend, raise, onSome, cutAfter, firstList, nextList}
-use Rattle.choices.specs.State.{View, view, fresh, maybe, Moved}
 use Rattle.choices.specs.Runs.{runOn}
 use Rattle.choices.proofs.Ran.{stateOf, ranAs, atEnd}
 use Rattle.choices.proofs.Paths.{prefix-nil, raise-prefix}
@@ -19,9 +17,6 @@ use Rattle.choices.proofs.Runs.{state-as, run-grow}
 -- A growing run from nothing runs the first list, and leaves the state at its end.
 pub first-run : {A : Type 0} (t : Tree A) → Full t → runOn t (fresh [] true) ≡ ranAs (run t (firstList t)) (atEnd t (firstList t) true)
 first-run t f = run-grow t [] f (prefix-nil (cutAfter mostChoices t)) .1
-
-pub first-state : {A : Type 0} (t : Tree A) → Full t → stateOf (runOn t (fresh [] true)) ≡ atEnd t (firstList t) true
-first-state t f = ap stateOf (first-run t f) ∙ state-as (run t (firstList t)) (atEnd t (firstList t) true)
 
 -- m is the list after l, and a run on v runs it and leaves the state at its end.
 pub record Follows {A : Type 0} (t : Tree A) (l m : List ℕ) (v : View) : Type 0 where

@@ -35,9 +35,9 @@ onward (stopped r p l) f = stopped r p l
 onward (short p n) f = short p n
 onward (beyond p n l) f = beyond p n l
 
-onward-pick : {A B : Type 0} (b : Bool) (r s : Run A) (f : A → ℕ → List ℕ → Run B) → onward (cond b r s) f ≡ cond b (onward r f) (onward s f)
-onward-pick true r s f = refl
-onward-pick false r s f = refl
+onward-cond : {A B : Type 0} (b : Bool) (r s : Run A) (f : A → ℕ → List ℕ → Run B) → onward (cond b r s) f ≡ cond b (onward r f) (onward s f)
+onward-cond true r s f = refl
+onward-cond false r s f = refl
 
 -- Following one after the other: the second from the choices and entries that the first left.
 pub follow-bind : {A B : Type 0} (t : Tree A) (f : A → Tree B) (k : ℕ) (l : List ℕ) → follow (bind t f) k l ≡ onward (follow t k l) (λ a k′ l′. follow (f a) k′ l′)
@@ -47,7 +47,7 @@ follow-bind (choose p n ways) f zero l = refl
 follow-bind (choose p n ways) f (suc k) [] = refl
 follow-bind (choose p n ways) f (suc k) (c ∷ l) =
     ap (λ r. cond (ltb c n) r (beyond p n (c ∷ l))) (follow-bind (ways c) f k l)
-    ∙ sym (onward-pick (ltb c n) (follow (ways c) k l) (beyond p n (c ∷ l)) (λ a k′ l′. follow (f a) k′ l′))
+    ∙ sym (onward-cond (ltb c n) (follow (ways c) k l) (beyond p n (c ∷ l)) (λ a k′ l′. follow (f a) k′ l′))
 
 -- ---- outcomes
 
@@ -59,7 +59,7 @@ Refuses t o = (r : ℕ) × (p : ℕ) × (o ≡ refusal r p) × Gives t (refusal 
 abbrev Through : {A B : Type 0} → Tree A → (A → Tree B) → Outcome B → Type 0
 Through {A} t f o = (a : A) × Gives t (value a) × Gives (f a) o
 
-value≢refusal : {A : Type 0} {a : A} {r p : ℕ} → _≡_ {A = Outcome A} (value a) (refusal r p) → ⊥
+pub value≢refusal : {A : Type 0} {a : A} {r p : ℕ} → _≡_ {A = Outcome A} (value a) (refusal r p) → ⊥
 value≢refusal e = impossible cc
 
 pub gives-bind-out : {A B : Type 0} (t : Tree A) (f : A → Tree B) (o : Outcome B) → Gives (bind t f) o → Refuses t o ⊎ Through t f o

@@ -5,7 +5,7 @@ use Prim.Native.Nat.{ℕ, _≤_}
 use lib.ListN.{length, take}
 use Rattle.choices.specs.declared.list.Walk.{Walk}
 use Rattle.choices.specs.Tree.{mostChoices}
-use Rattle.choices.specs.State.{padded}
+use Rattle.choices.specs.Lists.{padded}
 
 -- The walk holds the list l, and zeros after its end.
 pub record Lists (w : Walk) (l : List ℕ) : Type 0 where
@@ -18,5 +18,5 @@ pub record Runnable (w : Walk) : Type 0 where
   pub short : w .len ≤ mostChoices
 
 -- The entries below the length.
-abbrev pub listOf : Walk → List ℕ
-listOf w = take (w .len) (w .entries)
+abbrev pub listHeld : Walk → List ℕ
+listHeld w = take (w .len) (w .entries)

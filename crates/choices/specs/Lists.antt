@@ -2,8 +2,8 @@
 use mathlib.Core.Path.{_≡_}
 use mathlib.Core.Logic.{_⊎_, _↔_}
 use mathlib.Core.List.{List, [], _∷_, _++_}
-use Prim.Native.Nat.{ℕ, _≤_, _<_}
-use lib.ListN.{length}
+use Prim.Native.Nat.{ℕ, _-_, _<_}
+use lib.ListN.{length, replicate}
 use Rattle.prelude.specs.Membership.{In}
 use Rattle.choices.specs.Tree.{Tree, mostChoices, Run, gave, stopped, short, beyond, run, Outcome, value, refusal}
 
@@ -24,10 +24,6 @@ outcomeOf (gave a k l) = value a
 outcomeOf (stopped r p l) = refusal r p
 outcomeOf (short p n) = refusal 32 p
 outcomeOf (beyond p n l) = refusal 33 p
-
--- No run, under a list of up to 64 entries, meets a 65th choice: none ends in 31.
-abbrev pub NoMany : {A : Type 0} → Tree A → Type 0
-NoMany t = (l : List ℕ) (p : ℕ) (left : List ℕ) → length l ≤ mostChoices → run t l ≡ stopped 31 p left → ⊥
 
 -- Dictionary order: by the first entry that differs, a prefix first.
 abbrev pub before : List ℕ → List ℕ → Type 0
@@ -59,6 +55,6 @@ pub record Next {A : Type 0} (t : Tree A) (l m : List ℕ) : Type 0 where
   pub after : before l m
   pub between : (x : List ℕ) → Complete t x → before l x → before x m → ⊥
 
--- m begins with the entries l.
-abbrev pub Begins : List ℕ → List ℕ → Type 0
-Begins l m = (rest : List ℕ) × (m ≡ l ++ rest)
+-- The 64 entries of a walk that holds l: the list, and zeros after its end.
+abbrev pub padded : List ℕ → List ℕ
+padded l = l ++ replicate (mostChoices - length l) 0

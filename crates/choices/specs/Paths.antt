@@ -1,37 +1,10 @@
 -- The paths to a tree's leaves, of any length; the first, and the one after a path; and the tree cut where a run must stop.
 use mathlib.Core.Option.{Option, none, some}
 use mathlib.Core.List.{List, [], _∷_, _++_}
-use Prim.Native.Nat.{ℕ, zero, suc, _<_}
+use Prim.Native.Nat.{ℕ, zero, suc}
 use lib.Dec.{ltb}
 use mathlib.Core.Bool.{cond}
-use Rattle.choices.specs.Tree.{Tree, give, stop, choose, mostChoices, Outcome, value, refusal}
-
--- ---- lists that lead into a tree
-
--- l leads to a leaf.
-abbrev pub Leaf : {A : Type 0} → Tree A → List ℕ → Type 0
-Leaf (give a) [] = Unit {0}
-Leaf (give a) (c ∷ l) = ⊥
-Leaf (stop r p) [] = Unit {0}
-Leaf (stop r p) (c ∷ l) = ⊥
-Leaf (choose p n ways) [] = ⊥
-Leaf (choose p n ways) (c ∷ l) = (c < n) × Leaf (ways c) l
-
--- l leads into the tree, and not past a leaf.
-abbrev pub Prefix : {A : Type 0} → Tree A → List ℕ → Type 0
-Prefix (give a) [] = Unit {0}
-Prefix (give a) (c ∷ l) = ⊥
-Prefix (stop r p) [] = Unit {0}
-Prefix (stop r p) (c ∷ l) = ⊥
-Prefix (choose p n ways) [] = Unit {0}
-Prefix (choose p n ways) (c ∷ l) = (c < n) × Prefix (ways c) l
-
--- The outcome of the leaf that l, and then zeros, leads to.
-abbrev pub outcomeAt : {A : Type 0} → Tree A → List ℕ → Outcome A
-outcomeAt (give a) l = value a
-outcomeAt (stop r p) l = refusal r p
-outcomeAt (choose p n ways) [] = outcomeAt (ways 0) []
-outcomeAt (choose p n ways) (c ∷ l) = outcomeAt (ways c) l
+use Rattle.choices.specs.Tree.{Tree, give, stop, choose, mostChoices}
 
 -- The numbers of ways met along l.
 abbrev pub counts : {A : Type 0} → Tree A → List ℕ → List ℕ
@@ -89,14 +62,7 @@ onSome f (some l) = some (f l)
 abbrev pub nextPath : {A : Type 0} → Tree A → List ℕ → Option (List ℕ)
 nextPath t l = onSome (extend t) (raise l (counts t l))
 
--- ---- at most so many choices
-
--- No path has more than k choices.
-abbrev pub AtMost : {A : Type 0} → ℕ → Tree A → Type 0
-AtMost k (give a) = Unit {0}
-AtMost k (stop r p) = Unit {0}
-AtMost zero (choose p n ways) = ⊥
-AtMost (suc k) (choose p n ways) = (i : ℕ) → i < n → AtMost k (ways i)
+-- ---- the tree cut where a run must stop
 
 -- The tree cut after k choices: one more is 31 at its place.
 abbrev pub cutAfter : {A : Type 0} → ℕ → Tree A → Tree A

@@ -3,11 +3,10 @@ use mathlib.Core.Path.{_≡_}
 use mathlib.Core.Bool.{cond}
 use Prim.Native.Nat.{ℕ}
 use lib.Dec.{ltb}
-use Rattle.choices.specs.declared.Choices.{Choices}
+use Rattle.choices.specs.State.{Choices, View, view, Invariant, answerOf, afterwards}
 use Rattle.choices.specs.declared.Answer.{Answer}
 use Rattle.choices.specs.declared.Answer.the-variants.{Taken, Many, Short, Beyond}
 use Rattle.choices.specs.Tree.{Tree, give, stop, choose, Final, result, refuses, unlessLeft}
-use Rattle.choices.specs.State.{View, view, Invariant, answerOf, afterwards}
 
 -- What a run on a state comes to: a value, or a refusal's number, place and count; and the state after it.
 pub data Ran (A : Type 0) : Type 0 where

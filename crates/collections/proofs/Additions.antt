@@ -38,7 +38,7 @@ pub added-long : (n : ℕ) → valueLimit < n → TooLong ≡ added n
 added-long n h = rw (lt-leb n valueLimit h)
 
 -- two wholes of one size have one answer
-pub answered : {r : Added} (m n : ℕ) → r ≡ added m → m ≡ n → r ≡ added n
+answered : {r : Added} (m n : ℕ) → r ≡ added m → m ≡ n → r ≡ added n
 answered m n e d = e ∙ ap added d
 
 not-put : {X : Type 0} → TooLong ≡ Put → X

@@ -1,4 +1,4 @@
--- What callers make of the promises, and what the proofs of the functions need.
+-- What callers make of the promises, and what the proofs of the functions need. Cited by the operators on scratch and the evaluator.
 pub mod Shown
 pub mod Built
 mod Seeking

@@ -10,14 +10,14 @@ use borrow.Author.Tests.{eq-eqb, ne-eqb}
 use Rattle.values.specs.Value.{Value, collection, Items}
 use Rattle.values.specs.Place.{At}
 use Rattle.values.proofs.Records.{holds as held-at}
-use Rattle.choices.specs.declared.Choices.{Choices}
+use Rattle.choices.specs.State.{Choices, Invariant}
 use Rattle.choices.specs.Tree.{Tree, give, stop, bind}
-use Rattle.choices.specs.State.{Invariant}
 use Rattle.operators.specs.Answer.{Built, built}
 use Rattle.operators.specs.Enumerations.{addEntry}
 use Rattle.tables.specs.Record.{named}
 use Rattle.tables.specs.Table.{recordAt}
-use Rattle.tables.specs.Accepted.{records, height-operand, height-at, operand-lower}
+use Rattle.tables.specs.Accepted.{records}
+use Rattle.tables.specs.Laws.Accepted.{height-operand, height-at, operand-lower}
 use Rattle.patterns.specs.Binding.{Binding, nothing}
 use Rattle.calling.specs.Scratch.{Kept}
 use Rattle.calling.proofs.Framing.{kept-then, kept-less, kept-same}

@@ -12,9 +12,8 @@ use Rattle.values.specs.Value.{Value}
 use Rattle.values.specs.Place.{At, Holds}
 use Rattle.values.proofs.Records.{holds as held-at}
 use Rattle.values.proofs.Frame.{kept}
-use Rattle.choices.specs.declared.Choices.{Choices}
+use Rattle.choices.specs.State.{Choices, Invariant}
 use Rattle.choices.specs.Tree.{Tree, give, stop, bind}
-use Rattle.choices.specs.State.{Invariant}
 use Rattle.choices.proofs.Trees.{bind-assoc, bind-cong}
 use Rattle.tables.specs.Accepted.{records}
 use Rattle.patterns.specs.Binding.{Binding}

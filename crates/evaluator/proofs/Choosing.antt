@@ -7,12 +7,10 @@ use native.Mathlib.Omega.{arith}
 use lib.Dec.{ltb, leb}
 use lib.ListN.{length, getD}
 use Rattle.prelude.proofs.Absurd.{impossible}
-use Rattle.choices.specs.declared.Choices.{Choices}
-use Rattle.choices.specs.declared.Picked.{Picked}
+use Rattle.choices.specs.State.{Choices, Picked, view, answerLeft, Chosen}
 use Rattle.choices.specs.declared.Answer.{Answer}
 use Rattle.choices.specs.declared.Answer.the-variants.{Taken, Many, Short, Beyond}
 use Rattle.choices.specs.Tree.{Tree, give, stop, choose, bind, mostChoices, Final, refuses}
-use Rattle.choices.specs.State.{view, answerLeft, Chosen}
 use Rattle.choices.specs.Runs.{Came}
 use Rattle.choices.proofs.Came.{came-taken, came-many, came-short, came-beyond}
 use Rattle.patterns.specs.Binding.{Binding, nothing}

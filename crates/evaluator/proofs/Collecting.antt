@@ -7,7 +7,7 @@ use mathlib.Core.Logic.{_⊎_, inl, inr}
 use Prim.Native.Nat.{ℕ}
 use lib.IntN.{ℤ}
 use Rattle.values.specs.Value.{Kind, Value, collection, Items, none, more}
-use Rattle.choices.specs.declared.Choices.{Choices}
+use Rattle.choices.specs.State.{Choices}
 use Rattle.choices.specs.Tree.{Tree, give, stop, bind, result, refuses}
 use Rattle.choices.specs.Runs.{Came}
 use Rattle.choices.proofs.Trees.{bind-assoc, bind-cong}

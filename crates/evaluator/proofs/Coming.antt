@@ -7,9 +7,8 @@ use denote.Enum.Declared.{tagOf}
 use types.Run.{OneOf}
 use Rattle.prelude.proofs.Absurd.{impossible}
 use Rattle.values.specs.Place.{At}
-use Rattle.choices.specs.declared.Choices.{Choices}
+use Rattle.choices.specs.State.{Choices, Invariant}
 use Rattle.choices.specs.Tree.{Tree, give, stop, bind, result}
-use Rattle.choices.specs.State.{Invariant}
 use Rattle.choices.specs.Runs.{Came}
 use Rattle.choices.proofs.Came.{came-give, came-stop, came-then, came-off}
 use Rattle.operators.specs.Answer.{Answer}

@@ -11,9 +11,8 @@ use Rattle.values.specs.Value.{Kind, number, Ascending, PairedFrom, everyOther,
 use Rattle.values.specs.Place.{At}
 use Rattle.values.specs.Contract.{Copyable, Copied}
 use Rattle.values.proofs.Records.{holds as held-at, one-value}
-use Rattle.choices.specs.declared.Choices.{Choices}
+use Rattle.choices.specs.State.{Choices, Invariant}
 use Rattle.choices.specs.Tree.{Tree, bind}
-use Rattle.choices.specs.State.{Invariant}
 use Rattle.collections.specs.Building.{Empties}
 use Rattle.tables.specs.Table.{kindAt}
 use Rattle.tables.specs.Accepted.{records}

@@ -9,7 +9,7 @@ use native.Mathlib.Decide.{ℕ-discrete}
 use denote.Enum.Declared.{tagOf}
 use types.Run.{OneOf}
 use Rattle.prelude.proofs.Absurd.{impossible}
-use Rattle.choices.specs.declared.Choices.{Choices}
+use Rattle.choices.specs.State.{Choices}
 use Rattle.choices.specs.declared.Answer.{Answer}
 use Rattle.choices.specs.declared.Answer.the-variants.{Taken, Many, Short, Beyond}
 use Rattle.choices.proofs.Answer as answer

@@ -8,9 +8,8 @@ use lib.ListN.{length, getD}
 use Rattle.values.specs.Place.{At, Holds}
 use Rattle.values.proofs.Records.{holds as held-at}
 use Rattle.values.proofs.Frame.{at-above}
-use Rattle.choices.specs.declared.Choices.{Choices}
+use Rattle.choices.specs.State.{Choices, Invariant}
 use Rattle.choices.specs.Tree.{Tree, give, stop}
-use Rattle.choices.specs.State.{Invariant}
 use Rattle.tables.specs.Record.{named}
 use Rattle.tables.specs.Table.{recordAt}
 use Rattle.tables.specs.Accepted.{records}

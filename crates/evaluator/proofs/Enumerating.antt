@@ -17,9 +17,8 @@ use Rattle.values.specs.Place.{At}
 use Rattle.values.proofs.Records.{holds}
 use Rattle.collections.specs.Building.{Empties}
 use Rattle.values.proofs.Joined.{count-snoc}
-use Rattle.choices.specs.declared.Choices.{Choices}
+use Rattle.choices.specs.State.{Choices, Invariant}
 use Rattle.choices.specs.Tree.{Tree, give, bind}
-use Rattle.choices.specs.State.{Invariant}
 use Rattle.choices.proofs.Came.{came-give, came-stop}
 use Rattle.choices.proofs.Trees.{bind-assoc, bind-cong}
 use Rattle.operators.specs.Answer.{Answer, Built, built, stopped, closed}

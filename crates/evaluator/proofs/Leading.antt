@@ -1,9 +1,8 @@
 -- How the run of a tree goes on: what is left comes to what the whole comes to.
 use mathlib.Core.Path.{_≡_, ap, _∙_}
 use Prim.Native.Nat.{ℕ}
-use Rattle.choices.specs.declared.Choices.{Choices}
+use Rattle.choices.specs.State.{Choices, view, Invariant}
 use Rattle.choices.specs.Tree.{Tree, give, stop, choose, bind, Final, result, refuses}
-use Rattle.choices.specs.State.{view, Invariant}
 use Rattle.choices.specs.Runs.{runOn, Came}
 use Rattle.choices.proofs.Runs.{bind-ran}
 use Rattle.choices.proofs.Came.{came-off}

@@ -9,11 +9,10 @@ use Rattle.values.specs.Value.{Value}
 use Rattle.values.specs.Place.{At}
 use Rattle.values.specs.Contract.{Copyable, Copied}
 use Rattle.values.proofs.Records.{holds as held-at}
-use Rattle.choices.specs.declared.Choices.{Choices}
+use Rattle.choices.specs.State.{Choices, Invariant, Chosen}
 use Rattle.choices.specs.declared.Answer.{Answer}
 use Rattle.choices.specs.declared.Answer.the-variants.{Taken}
 use Rattle.choices.specs.Tree.{Tree, bind}
-use Rattle.choices.specs.State.{Invariant, Chosen}
 use Rattle.choices.proofs.Runs.{chosen-below}
 use Rattle.tables.specs.Table.{kindAt}
 use Rattle.tables.specs.Accepted.{records}

@@ -12,8 +12,9 @@ use Rattle.tables.specs.Laws.Kinds.{not-loose}
 use Rattle.tables.specs.Record.{shape, Record, named, operand}
 use Rattle.tables.specs.Table.{recordAt, kindAt}
 use Rattle.tables.specs.Sheet.{some, isLoose, loose}
-use Rattle.tables.specs.Laws.{fold-at}
-use Rattle.tables.specs.Accepted.{records, Fine, lower, operand-lower}
+use Rattle.tables.specs.Laws.Below.{fold-at}
+use Rattle.tables.specs.Accepted.{records, Fine}
+use Rattle.tables.specs.Laws.Accepted.{lower, operand-lower}
 use Rattle.tables.specs.Reading.{Here, HasOperand}
 
 abbrev pub isLooseKind : ℕ → Bool

@@ -12,7 +12,7 @@ use Rattle.operators.specs.Answer.{FineAnswer}
 use Rattle.operator_laws.proofs.Results.{unary-fine, binary-fine, range-fine, apply-fine, FineLeft, left-fine, right-fine}
 use Rattle.prelude.proofs.Absurd.{impossible}
 use Rattle.values.specs.Place.{At}
-use Rattle.choices.specs.declared.Choices.{Choices}
+use Rattle.choices.specs.State.{Choices}
 use Rattle.choices.specs.Tree.{Tree, stop, bind}
 use Rattle.operators.specs.Booleans.{Left, left, right}
 use Rattle.operators.specs.Operators.{unary, binary}

@@ -10,7 +10,7 @@ use Rattle.prelude.proofs.Absurd.{impossible}
 use Rattle.values.specs.Value.{Value}
 use Rattle.values.specs.Place.{At}
 use Rattle.values.proofs.Records.{holds}
-use Rattle.choices.specs.declared.Choices.{Choices}
+use Rattle.choices.specs.State.{Choices}
 use Rattle.choices.specs.Tree.{Tree, stop, bind}
 use Rattle.choices.proofs.Came.{came-give}
 use Rattle.operators.specs.Answer.{Answer, asBoolean}

@@ -8,9 +8,8 @@ use lib.ListN.{length, getD, drop}
 use lib.Seq.{drop-cons, drop-length}
 use Rattle.values.specs.Value.{Value, boolean}
 use Rattle.values.specs.Contract.{Put}
-use Rattle.choices.specs.declared.Choices.{Choices}
+use Rattle.choices.specs.State.{Choices, Invariant}
 use Rattle.choices.specs.Tree.{give}
-use Rattle.choices.specs.State.{Invariant}
 use Rattle.tables.specs.Table.{kindAt}
 use Rattle.tables.specs.Accepted.{records}
 use Rattle.patterns.specs.Binding.{Binding, nothing}

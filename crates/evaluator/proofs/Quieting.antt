@@ -24,20 +24,21 @@ use Rattle.tables.specs.declared.Role.the-variants.{Plain}
 use Rattle.tables.specs.Table.{recordAt, kindAt}
 use Rattle.tables.specs.Sheet.{inCondition, isCondition, patternOf, loose as looseIn, isBinder}
 use Rattle.tables.specs.Check.{chooses}
-use Rattle.tables.specs.Accepted.{records, Fine, operand-lower, condition-operand, choice-outside, binder-pattern}
+use Rattle.tables.specs.Accepted.{records, Fine}
+use Rattle.tables.specs.Laws.Accepted.{operand-lower, condition-operand, choice-outside, binder-pattern}
 use Rattle.patterns.specs.Binding.{Binding}
 use Rattle.patterns.specs.Pattern.{Pattern, loose, listOf}
 use Rattle.patterns.specs.Binder.{Formed, bound, refused as unformed, formed}
 use Rattle.meaning.specs.Node.{Node, Quantifier, forall, exists, exists1, truth, whole, named, unaryOf, binaryOf, connective, if, enumeration, range, let-in, let-be, quantified, iota, set-comprehension, sequence-comprehension, map-comprehension, application, no-expression}
 use Rattle.meaning.specs.State.{State, under, valueIn}
-use Rattle.meaning.specs.Meaning.{Evaluates, enumerated, at, builtAt, orElse, allOf, rightOf, isTrue, formedAt, membersAt, bindingsOf, holds, satisfying, matched, untilFalse, untilTrue, quantify, nameOf, unique, collected, addOne, addPair, integersAt, integerBindings, means}
-use Rattle.meaning.specs.Laws.Equation.{plain, covered, Each, meaning-is}
+use Rattle.meaning.specs.Meaning.{Evaluates, enumerated, at, builtAt, orElse, allOf, rightOf, isTrue, formedAt, membersAt, bindingsOf, holds, satisfying, matched, untilFalse, untilTrue, quantify, unique, collected, addOne, addPair, integersAt, integerBindings, means, patternName}
+use Rattle.meaning.specs.Laws.Equation.{covered, Each, meaning-is, plainOperands}
 use Rattle.meaning.specs.Read.{nodes, none, nodeOf, binaryNode, sheet}
 use Rattle.meaning.specs.Laws.Proper.{Proper, inside, downward}
 use Rattle.meaning.specs.Laws.PatternLaws.{loose-is}
 use Rattle.evaluator.specs.Contract.{Legal, meant, operandAt}
 use Rattle.evaluator.proofs.Leading.{Leaf, leaf-bind}
-use Rattle.tables.specs.Laws.{each as all-kinds}
+use Rattle.tables.specs.Laws.Tests.{each as all-kinds}
 use Rattle.evaluator.proofs.Tables.{fine-of, operand-here}
 
 -- ---- what stands at a record has no choice
@@ -68,7 +69,7 @@ plain-leaf r (b ∷ bs) = tt
 
 unique-leaf : (r : ℕ) (p : Pattern) (bs : List Binding) → Leaf (unique r p bs)
 unique-leaf r p [] = tt
-unique-leaf r p (b ∷ []) = else-leaf 25 r (valueIn b (nameOf p))
+unique-leaf r p (b ∷ []) = else-leaf 25 r (valueIn b (patternName p))
 unique-leaf r p (b ∷ c ∷ bs) = tt
 
 integers-leaf : (r : ℕ) (vs : Items) → Leaf (integersAt r vs)
@@ -161,7 +162,7 @@ module _ (pattern : ℕ → Pattern) (rec : Evaluates) (r : ℕ) where
   building-leaf : (c : ℕ) (ρ : State) (add : Items → Binding → Tree Items) (f : Items → Value) (bs : List Binding) → Quietly c → ((vs : Items) (b : Binding) → Leaf (add vs b)) → Leaf (bind (collected (holds rec r c ρ) add nil bs) (λ vs. give (f vs)))
   building-leaf c ρ add f bs h k = leaf-bind (collected (holds rec r c ρ) add nil bs) _ (collected-leaf (holds rec r c ρ) add nil bs (λ b. holds-leaf c ρ b h) k) (λ vs. tt)
 
-  node-leaf : (n : Node) (ρ : State) → Plainly pattern n → Each Quietly (plain n) → Each Quietly (covered n) → Leaf (means pattern rec r n ρ)
+  node-leaf : (n : Node) (ρ : State) → Plainly pattern n → Each Quietly (plainOperands n) → Each Quietly (covered n) → Leaf (means pattern rec r n ρ)
   unfolding means
   node-leaf (truth b) ρ y l m = tt
   node-leaf (whole z) ρ y l m = tt

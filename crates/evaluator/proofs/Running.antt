@@ -6,8 +6,9 @@ use Prim.Native.Nat.{ℕ, _-_, _≤_, _<_}
 use native.Mathlib.Omega.{arith}
 use lib.ListN.{length, getD, replicate, getD-replicate}
 use Rattle.values.specs.Place.{At}
-use Rattle.tables.specs.Accepted.{records, accepted-fine, height-most}
-use Rattle.choices.specs.declared.Choices.{Choices}
+use Rattle.tables.specs.Accepted.{records}
+use Rattle.tables.specs.Laws.Accepted.{accepted-fine, height-most}
+use Rattle.choices.specs.State.{Choices}
 use Rattle.patterns.specs.Binding.{free}
 use Rattle.parts.specs.declared.words.Env.{Env}
 use Rattle.parts.specs.Word.{unpacked}

@@ -8,7 +8,7 @@ use lib.Dec.{eqb}
 use lib.ListN.{length, getD, length-append}
 use lib.Seq.{append-snoc}
 use borrow.Author.Tests.{eqb-true, eqb-false}
-use Rattle.choices.specs.declared.Choices.{Choices}
+use Rattle.choices.specs.State.{Choices}
 use Rattle.choices.specs.Tree.{Tree, give, bind, result, refuses}
 use Rattle.choices.specs.Runs.{Came}
 use Rattle.choices.proofs.Trees.{bind-give, bind-assoc, bind-cong}

@@ -4,7 +4,7 @@ use mathlib.Core.Bool.{Bool, true, false, not, cond}
 use mathlib.Core.List.{List, [], _∷_}
 use Prim.Native.Nat.{ℕ}
 use Rattle.values.specs.Value.{Value, boolean}
-use Rattle.choices.specs.declared.Choices.{Choices}
+use Rattle.choices.specs.State.{Choices}
 use Rattle.choices.specs.Tree.{Tree, give, bind, result, refuses}
 use Rattle.choices.specs.Runs.{Came}
 use Rattle.choices.proofs.Trees.{bind-assoc, bind-cong}

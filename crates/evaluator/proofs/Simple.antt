@@ -18,7 +18,7 @@ use Rattle.values.specs.Contract.{Put}
 use Rattle.values.proofs.Encoding.{collection-size}
 use Rattle.values.proofs.Records.{one-value, collection-shaped, holds}
 use Rattle.values.proofs.Order.{same-flip}
-use Rattle.choices.specs.declared.Choices.{Choices}
+use Rattle.choices.specs.State.{Choices}
 use Rattle.choices.specs.Tree.{give}
 use Rattle.operators.specs.Answer.{asBoolean, Built, built, stopped, fitting, closed}
 use Rattle.operators.specs.Enumerations.{buildOn, addEntry}

@@ -12,20 +12,21 @@ use Rattle.values.specs.Value.{Value, boolean}
 use Rattle.values.specs.Place.{At}
 use Rattle.values.specs.Contract.{Put, Copyable, Copied}
 use Rattle.values.proofs.Records.{holds as held-at}
-use Rattle.choices.specs.declared.Choices.{Choices}
+use Rattle.choices.specs.State.{Choices, Invariant}
 use Rattle.choices.specs.Tree.{stop}
-use Rattle.choices.specs.State.{Invariant}
 use Rattle.tables.specs.declared.Role.{Role}
 use Rattle.tables.specs.declared.Role.the-variants.{Plain, Name}
 use Rattle.tables.specs.Record.{Record, field, nameOf as nameOfRecord, shape, size, isKnown, named}
 use Rattle.tables.specs.Table.{recordAt, kindAt}
 use Rattle.tables.specs.Check.{isOfSort}
-use Rattle.tables.specs.Accepted.{records, fit-least, fit-known, lower, operand-sort}
+use Rattle.tables.specs.Accepted.{records}
+use Rattle.tables.specs.Laws.Accepted.{fit-least, fit-known, lower, operand-sort}
 use Rattle.tables.specs.Reading.{HasField}
 use Rattle.patterns.specs.Read.{Readable, patternAt}
 use Rattle.patterns.specs.Binding.{is, Binding, nothing, cellOf}
 use Rattle.patterns.specs.Ways.{gather}
-use Rattle.patterns.specs.Members.{in-gather, at-in}
+use Rattle.patterns.specs.Laws.Members.{in-gather}
+use Rattle.prelude.proofs.Membership.{at-in}
 use Rattle.patterns.specs.Laws.Ordered.{in-sorted}
 use Rattle.patterns.specs.Laws.Named.{named as names-of, Told, told}
 use Rattle.patterns.specs.Pattern.{Pattern, name, matches}
@@ -36,11 +37,11 @@ use Rattle.parts.specs.declared.Part.{Part}
 use Rattle.parts.specs.Part.{PartIs}
 use Rattle.parts.specs.Contract.{Puttable, PutPart}
 use Rattle.parts.proofs.Laws.{part-longer}
-use Rattle.patterns.specs.Nodes.{is-name, pattern-at}
+use Rattle.patterns.specs.Laws.Nodes.{is-name, pattern-at}
 use Rattle.calling.specs.Scratch.{Kept}
 use Rattle.calling.proofs.Framing.{kept-outside, kept-then, kept-less, put-kept, copyable-down, copied-kept}
 use Rattle.meaning.specs.State.{valueIn, held}
-use Rattle.meaning.specs.Meaning.{orElse, unique, nameOf}
+use Rattle.meaning.specs.Meaning.{orElse, unique, patternName}
 use Rattle.evaluator.specs.declared.Outcome.the-variants.{Value as HasValue}
 use Rattle.bindings.specs.declared.Cursor.{Cursor}
 use Rattle.parts.specs.declared.words.Env.{Env}
@@ -142,12 +143,12 @@ module _ {table index : List ℕ} {r : ℕ} {s : List ℕ} {base : ℕ} {env : E
           fetch-done {w} e =
               record {
                 kept = kept-then (kept-less (omega arith) kept-low) (kept-then (kept-outside (omega arith) (k .outside)) (copied-kept e));
-                right = λ bs h. (given h .0, ap (λ (q : Pattern). valueIn (getD bs j nothing) (nameOf q)) pattern-is ∙ ap held (given h .1), e .here (given h .0) (k .right (given h .0) (part-here h)));
+                right = λ bs h. (given h .0, ap (λ (q : Pattern). valueIn (getD bs j nothing) (patternName q)) pattern-is ∙ ap held (given h .1), e .here (given h .0) (k .right (given h .0) (part-here h)));
               }
 
 -- ---- exists1 and iota
 
-unique-one : (r : ℕ) (p : Pattern) (sat : List Binding) → length sat ≡ 1 → unique r p sat ≡ orElse 25 r (valueIn (getD sat 0 nothing) (nameOf p))
+unique-one : (r : ℕ) (p : Pattern) (sat : List Binding) → length sat ≡ 1 → unique r p sat ≡ orElse 25 r (valueIn (getD sat 0 nothing) (patternName p))
 unique-one r p [] e = absurd (omega arith)
 unique-one r p (b ∷ []) e = refl
 unique-one r p (b ∷ c ∷ sat) e = absurd (omega arith)
@@ -204,6 +205,6 @@ module _ {table index : List ℕ} {r : ℕ} {s : List ℕ} {base : ℕ} {env : E
                 let (w, e, i) = f .right (m .bindings) (m .standing) in
                 comes-as
                 (unique-one r (patternFor table r) sat (sym (m .marks .count) ∙ n)
-                ∙ ap (λ (b : Binding). orElse 25 r (valueIn b (nameOf (patternFor table r)))) (sym (m .marks .is (omega arith)))
+                ∙ ap (λ (b : Binding). orElse 25 r (valueIn b (patternName (patternFor table r)))) (sym (m .marks .is (omega arith)))
                 ∙ ap (orElse 25 r) e)
                 (comes-value l i)

@@ -12,12 +12,13 @@ use Rattle.prelude.proofs.Truth.{implied}
 use Rattle.values.specs.Value.{Value}
 use Rattle.values.proofs.Records.{one-value}
 use Rattle.values.proofs.Frame.{below-less}
-use Rattle.choices.specs.declared.Choices.{Choices}
+use Rattle.choices.specs.State.{Choices}
 use Rattle.tables.specs.Laws.Kinds.{binder-kind}
 use Rattle.tables.specs.Record.{shape, isPattern}
 use Rattle.tables.specs.Table.{recordAt, kindAt}
-use Rattle.tables.specs.Laws.{each}
-use Rattle.tables.specs.Accepted.{records, fit-least, named-count, binder-pattern}
+use Rattle.tables.specs.Laws.Tests.{each}
+use Rattle.tables.specs.Accepted.{records}
+use Rattle.tables.specs.Laws.Accepted.{fit-least, named-count, binder-pattern}
 use Rattle.tables.specs.Sheet.{isBinder}
 use Rattle.tables.specs.Reading.{HasOperand}
 use Rattle.patterns.specs.Read.{Readable}
@@ -32,7 +33,7 @@ use Rattle.bindings.specs.declared.Cursor.{Cursor}
 use Rattle.parts.specs.declared.words.Env.{Env}
 use Rattle.parts.specs.Word.{unpacked}
 use Rattle.bindings.specs.Window.{Values, Windowed, WordFor, UnderBinding}
-use Rattle.bindings.specs.Laws.{windowed-kept}
+use Rattle.bindings.specs.Laws.Window.{windowed-kept}
 use Rattle.evaluator.specs.Contract.{Ask, Around, operandAt}
 use Rattle.evaluator.specs.Binding.{Binder, patternFor, Standing}
 use Rattle.evaluator.proofs.Framing.{cell-up}

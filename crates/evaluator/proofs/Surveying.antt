@@ -10,9 +10,8 @@ use lib.ListN.{length, getD, drop}
 use lib.Seq.{drop-cons, drop-length}
 use borrow.Author.Tests.{ne-eqb}
 use Rattle.prelude.proofs.Absurd.{impossible}
-use Rattle.choices.specs.declared.Choices.{Choices}
+use Rattle.choices.specs.State.{Choices, View, view, Invariant}
 use Rattle.choices.specs.Tree.{Tree, give, stop, choose, result}
-use Rattle.choices.specs.State.{View, view, Invariant}
 use Rattle.choices.specs.Runs.{Came}
 use Rattle.choices.proofs.Came.{came-give}
 use Rattle.operators.specs.Answer.{asBoolean}

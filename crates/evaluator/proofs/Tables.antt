@@ -11,10 +11,10 @@ use mathlib.Mathlib.Data.Bool.Basic.{and-elim-left, and-elim-right}
 use Rattle.integers.specs.Whole.{InRange}
 use Rattle.tables.specs.Record.{shape, size, named, operand, nameOf, isKnown, headOf, integerOf}
 use Rattle.tables.specs.Table.{recordAt, kindAt}
-use Rattle.tables.specs.Accepted.{records, Fine, accepted-fine, operand-lower, height-operand, height-at, fit-least, fit-known, named-count}
+use Rattle.tables.specs.Accepted.{records, Fine}
+use Rattle.tables.specs.Laws.Accepted.{accepted-fine, operand-lower, height-operand, height-at, fit-least, fit-known, named-count}
 use Rattle.tables.specs.Reading.{Here, HasField, HasOperand}
-use Rattle.choices.specs.declared.Choices.{Choices}
-use Rattle.choices.specs.State.{Invariant}
+use Rattle.choices.specs.State.{Choices, Invariant}
 use Rattle.operations.specs.Numbers.{Unary}
 use Rattle.meaning.specs.State.{State}
 use Rattle.parts.specs.declared.words.Env.{Env}

@@ -10,11 +10,10 @@ use lib.Dec.{eqb}
 use lib.ListN.{length, getD, take}
 use Rattle.values.specs.Value.{Kind, Value, kindOf, collection, Items}
 use Rattle.values.specs.Place.{At, ItemsAt}
-use Rattle.choices.specs.declared.Choices.{Choices}
+use Rattle.choices.specs.State.{Choices, view, Chosen}
 use Rattle.choices.specs.Tree.{Tree, give, stop, bind}
 use Rattle.choices.specs.declared.Answer.{Answer}
 use Rattle.choices.specs.declared.Answer.the-variants.{Taken, Many, Short, Beyond}
-use Rattle.choices.specs.State.{view, Chosen}
 use Rattle.operators.specs.Enumerations.{addMember, addItem}
 use Rattle.operators.specs.Gather.{everyItem}
 use Rattle.tables.specs.Table.{kindAt}
@@ -25,7 +24,7 @@ use Rattle.patterns.specs.Binder.{bound, formed}
 use Rattle.patterns.specs.Read.{patternAt}
 use Rattle.calling.specs.Scratch.{Kept}
 use Rattle.meaning.specs.State.{State, under, valueIn}
-use Rattle.meaning.specs.Meaning.{formedAt, membersAt, integersAt, bindingsOf, integerBindings, holds, satisfying, nameOf, addOne, addPair}
+use Rattle.meaning.specs.Meaning.{formedAt, membersAt, integersAt, bindingsOf, integerBindings, holds, satisfying, addOne, addPair, patternName}
 use Rattle.bindings.specs.declared.Cursor.{Cursor}
 use Rattle.bindings.specs.declared.Opened.{Opened}
 use Rattle.bindings.specs.declared.Opened.the-variants.{Bound, Refused as Unbound}
@@ -235,7 +234,7 @@ pub record Fetchable (table index : List ℕ) (r : ℕ) (s : List ℕ) (base : �
 -- The value that binding j gives to the name of the pattern, left at base.
 pub record Fetches (table : List ℕ) (r : ℕ) (s t : List ℕ) (base : ℕ) (cursor : Cursor) (j : ℕ) : Type 0 where
   pub kept : Kept s t base
-  pub right : (bs : List Binding) → Standing table r false s base cursor bs → (v : Value) × (valueIn (getD bs j nothing) (nameOf (patternFor table r)) ≡ some v) × At t base v
+  pub right : (bs : List Binding) → Standing table r false s base cursor bs → (v : Value) × (valueIn (getD bs j nothing) (patternName (patternFor table r)) ≡ some v) × At t base v
 
 -- ---- a choice: 12 and 13
 

@@ -13,9 +13,8 @@ use Rattle.tables.specs.Check.{check}
 use Rattle.tables.specs.Accepted.{records}
 use Rattle.tables.specs.Reading.{Indexed}
 use Rattle.tables.specs.declared.Checked.the-variants.{Accepted}
-use Rattle.choices.specs.declared.Choices.{Choices}
+use Rattle.choices.specs.State.{Choices, Invariant}
 use Rattle.choices.specs.Tree.{Tree, result, refuses}
-use Rattle.choices.specs.State.{Invariant}
 use Rattle.choices.specs.Runs.{Came}
 use Rattle.parts.specs.Part.{CellIs}
 use Rattle.patterns.specs.Binding.{names, cellOf}

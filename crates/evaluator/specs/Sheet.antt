@@ -7,8 +7,7 @@ use Rattle.values.specs.Place.{At}
 use Rattle.tables.specs.Check.{check}
 use Rattle.tables.specs.Reading.{Indexed}
 use Rattle.tables.specs.declared.Checked.the-variants.{Accepted}
-use Rattle.choices.specs.declared.Choices.{Choices}
-use Rattle.choices.specs.State.{Invariant}
+use Rattle.choices.specs.State.{Choices, Invariant}
 use Rattle.meaning.specs.Service.{tree, scratchBytes}
 use Rattle.evaluator.specs.Contract.{Evaluated, Comes}
 

@@ -8,12 +8,14 @@ use native.Mathlib.Numerals.{add-one}
 use native.Mathlib.Omega.{arith}
 use lib.ListN.{length, getD, set, drop, length-map, drop-of-length-le, length-set}
 use lib.Seq.{drop-cons, getD-set-same, getD-set-other}
+use Rattle.prelude.proofs.Lists.{map-at}
 use Rattle.prelude.proofs.Absurd.{impossible}
 use Rattle.prelude.proofs.Truth.{or-false-left, or-false-right}
 use Rattle.values.specs.Value.{Value, boolean}
 use Rattle.tables.specs.Record.{named, operand}
 use Rattle.tables.specs.Table.{recordAt, kindAt}
-use Rattle.tables.specs.Accepted.{records, lower}
+use Rattle.tables.specs.Accepted.{records}
+use Rattle.tables.specs.Laws.Accepted.{lower}
 use Rattle.tables.specs.Reading.{HasOperand}
 use Rattle.parts.specs.declared.Part.{Part}
 use Rattle.parts.specs.Part.{PartIs, PartHeld, CellIs}
@@ -22,7 +24,8 @@ use Rattle.patterns.specs.Ways.{exists}
 use Rattle.patterns.specs.Binding.{Cell, free, is}
 use Rattle.patterns.specs.Pattern.{Pattern, any, wide, wideEach}
 use Rattle.patterns.specs.Read.{patternsOf, patternOf, patternAt, Readable}
-use Rattle.patterns.specs.Nodes.{isHalved, meetings, isLarge, pattern-at}
+use Rattle.patterns.specs.Nodes.{isHalved, meetings, isLarge}
+use Rattle.patterns.specs.Laws.Nodes.{pattern-at}
 use Rattle.matching.specs.Node.{PieceHeld, PieceOf, innerOf, waysOf, metBy}
 use Rattle.matching.proofs.Records.{by-record, inner-length, kind-high, count-few, count-two, meeting-length, operand-readable}
 use Rattle.splitting.proofs.Composed.{wideParts, wide-composed}
@@ -99,11 +102,6 @@ each-at [] vs i q z e l m = absurd (omega arith)
 each-at (p ∷ ps) [] i q z e l m = absurd (omega arith)
 each-at (p ∷ ps) (v ∷ vs) zero q z e l m = or-false-left (wide p v) (wideEach (patternsOf ps) vs) e
 each-at (p ∷ ps) (v ∷ vs) (suc i) q z e l m = each-at ps vs i q z (or-false-right (wide p v) (wideEach (patternsOf ps) vs) e) (omega arith) (omega arith)
-
-pub at-map : {A B : Type 0} (f : A → B) (l : List A) (i : ℕ) (a : A) (b : B) → i < length l → getD (map f l) i b ≡ f (getD l i a)
-at-map f [] i a b h = absurd (omega arith)
-at-map f (x ∷ l) zero a b h = refl
-at-map f (x ∷ l) (suc i) a b h = at-map f l i a b (omega arith)
 
 abbrev pub countOf : List ℕ → ℕ → ℕ
 countOf table p = length (named (recordAt (records table) p))
@@ -204,7 +202,7 @@ module _ (table index : List ℕ) (p : ℕ) (s : List ℕ) (word : ℕ) (d : ℕ
           go v ts z u g =
               let below : d < length (waysOf table p v) = subst (λ (e : Value). d < length (waysOf table p e)) (sym (part-one z (h .here))) (h .below) in
               let long = met-long table index p (h .readable) (h .composed) v d below in
-              let it : getD (innerOf table p) i any ≡ patternAt (records table) q = at-map (patternAt (records table)) (named (recordAt (records table) p)) i 0 any l ∙ ap (patternAt (records table)) (sym b) in
+              let it : getD (innerOf table p) i any ≡ patternAt (records table) q = map-at (patternAt (records table)) (named (recordAt (records table) p)) i 0 any l ∙ ap (patternAt (records table)) (sym b) in
               let pats : drop i (innerOf table p) ≡ getD (innerOf table p) i any ∷ drop suci (innerOf table p) =
               drop-cons (innerOf table p) i any (omega (arith, inner-length table index p (h .readable))) ∙ ap (λ (j : ℕ). getD (innerOf table p) i any ∷ drop j (innerOf table p)) (sym (add-one i) ∙ sym si) in
               let vals : drop i (metBy table p v d) ≡ getD (metBy table p v d) i (boolean true) ∷ drop suci (metBy table p v d) =

@@ -15,15 +15,14 @@ use Rattle.integers.specs.declared.Order.{Order}
 use Rattle.integers.specs.declared.Order.the-variants.{Lower, Same, Higher}
 use Rattle.values.specs.Value.{after}
 use Rattle.parts.specs.Part.{CellIs}
-use Rattle.patterns.specs.Members.{at-in}
+use Rattle.prelude.proofs.Membership.{at-in}
 use Rattle.patterns.specs.Binding.{Cell, free, Binding, names, nothing, cellOf, orderCells, orderBindings, place, sorted}
 use Rattle.patterns.specs.Laws.Ordered.{Rising, before-in, bindings-same, bindings-lower, bindings-flip, higher-lower, sorted-rising}
-use Rattle.matching.specs.declared.leaves.Match.{Match}
 use Rattle.matching.specs.Leaf.{Stands, Standing}
 use Rattle.parts.specs.Word.{unpacked, WordHeld, OrderedWords}
 use Rattle.forming.specs.declared.rows.Seek.{Seek}
 use Rattle.forming.specs.Rows.{RowIs, RowHeld, RowsAre, RowsHeld, SoughtIn, Sought, RowPut, Shifted, Entered}
-use Rattle.forming.specs.Adding.{Parted, place-there, place-parted, placed-sorted}
+use Rattle.forming.specs.Laws.Adding.{Parted, place-there, place-parted, placed-sorted}
 
 -- ---- a stored cell
 
@@ -37,18 +36,18 @@ cell l i j a z r h f g = go (ℕ-discrete j i)
 -- ---- the order of a binding and a row
 
 -- The names below x are equal.
-pub record EvenRow (s : List ℕ) (f : Match) (rows : List ℕ) (r x : ℕ) : Type 0 where
+pub record EvenRow (s : List ℕ) (f : List ℕ) (rows : List ℕ) (r x : ℕ) : Type 0 where
   pub within : x ≤ names
   pub rest : (b c : Binding) → Stands s f b → RowIs s rows r c → orderBindings (drop x b) (drop x c) ≡ orderBindings b c
 
-abbrev RowOrdered : List ℕ → Match → List ℕ → ℕ → Order → Type 0
+abbrev RowOrdered : List ℕ → List ℕ → List ℕ → ℕ → Order → Type 0
 RowOrdered s f rows r o = (b c : Binding) → Stands s f b → RowIs s rows r c → o ≡ orderBindings b c
 
-pub row-start : (s : List ℕ) (f : Match) (rows : List ℕ) (r : ℕ) → EvenRow s f rows r 0
+pub row-start : (s : List ℕ) (f : List ℕ) (rows : List ℕ) (r : ℕ) → EvenRow s f rows r 0
 row-start s f rows r = record { within = omega arith; rest = λ b c h g. refl }
 
-module _ (s : List ℕ) (f : Match) (rows : List ℕ) (r x : ℕ) (e : EvenRow s f rows r x) where
-  pub row-words : Standing s f → RowHeld s rows r → x < names → WordHeld s (getD (f .words) x 0) × WordHeld s (getD rows (16 * r + x) 0)
+module _ (s : List ℕ) (f : List ℕ) (rows : List ℕ) (r x : ℕ) (e : EvenRow s f rows r x) where
+  pub row-words : Standing s f → RowHeld s rows r → x < names → WordHeld s (getD f x 0) × WordHeld s (getD rows (16 * r + x) 0)
   row-words h k l = (record { cell = cellOf (h .0) x; is = h .1 .cells x l; blank = h .1 .blank x l }, record { cell = cellOf (k .binding) x; is = k .is .cells x l; blank = k .is .blank x l })
 
   pub row-end : names ≤ x → RowOrdered s f rows r Same
@@ -58,7 +57,7 @@ module _ (s : List ℕ) (f : Match) (rows : List ℕ) (r x : ℕ) (e : EvenRow s
       let q : drop x c ≡ [] = drop-of-length-le c {i = x} (omega (arith, k .sized)) in
       sym (ap₂ orderBindings p q) ∙ e .rest b c h k
 
-  module _ (l : x < names) (o : Order) (g : OrderedWords s (getD (f .words) x 0) (getD rows (16 * r + x) 0) o) where
+  module _ (l : x < names) (o : Order) (g : OrderedWords s (getD f x 0) (getD rows (16 * r + x) 0) o) where
     at : (b c : Binding) → Stands s f b → RowIs s rows r c → orderBindings b c ≡ after o (orderBindings (drop (x + 1) b) (drop (x + 1) c))
     unfolding orderBindings
     at b c h k =
@@ -88,7 +87,7 @@ flip-higher : (a b : Binding) → orderBindings a b ≡ Lower → orderBindings 
 flip-higher a b e = bindings-flip a b ∙ rw e
 
 -- The place is not below low and not above high.
-pub record Between (s : List ℕ) (f : Match) (rows order : List ℕ) (n low high : ℕ) : Type 0 where
+pub record Between (s : List ℕ) (f : List ℕ) (rows order : List ℕ) (n low high : ℕ) : Type 0 where
   pub ordered : low ≤ high
   pub within : high ≤ n
   pub below : (b : Binding) (bs : List Binding) → Stands s f b → RowsAre s rows order n bs → (j : ℕ) → j < low → orderBindings b (getD bs j nothing) ≡ Higher
@@ -97,16 +96,16 @@ pub record Between (s : List ℕ) (f : Match) (rows order : List ℕ) (n low hig
 rows-rising : {s rows order : List ℕ} {n : ℕ} {bs : List Binding} → RowsAre s rows order n bs → Rising bs
 rows-rising h = subst Rising (sym (h .ordered)) (sorted-rising (h .given))
 
-module _ (s : List ℕ) (f : Match) (rows order : List ℕ) (n : ℕ) where
+pub row-held : (s rows order : List ℕ) (n : ℕ) → RowsHeld s rows order n → (m r : ℕ) → m < n → r ≡ getD order m 0 → RowHeld s rows r
+row-held s rows order n h m r l e = record {
+  low = omega (arith, h .1 .row m l, h .1 .few);
+  binding = getD (h .0) m nothing;
+  is = subst (λ (i : ℕ). RowIs s rows i (getD (h .0) m nothing)) (sym e) (h .1 .each m l);
+}
+
+module _ (s : List ℕ) (f : List ℕ) (rows order : List ℕ) (n : ℕ) where
   pub between-start : Between s f rows order n 0 n
   between-start = record { ordered = omega arith; within = omega arith; below = λ b bs h g j l. absurd (omega arith); above = λ b bs h g j l m. absurd (omega arith) }
-
-  pub row-held : RowsHeld s rows order n → (m r : ℕ) → m < n → r ≡ getD order m 0 → RowHeld s rows r
-  row-held h m r l e = record {
-    low = omega (arith, h .1 .row m l, h .1 .few);
-    binding = getD (h .0) m nothing;
-    is = subst (λ (i : ℕ). RowIs s rows i (getD (h .0) m nothing)) (sym e) (h .1 .each m l);
-  }
 
   module _ (low high : ℕ) (w : Between s f rows order n low high) where
     pub between-end : high ≤ low → Sought s f rows order n (record { at = low; there = false })
@@ -163,16 +162,16 @@ module _ (s : List ℕ) (f : Match) (rows order : List ℕ) (n : ℕ) where
 
 -- ---- a row written
 
-pub record RowSoFar (f : Match) (rows now : List ℕ) (r x : ℕ) : Type 0 where
+pub record RowSoFar (f : List ℕ) (rows now : List ℕ) (r x : ℕ) : Type 0 where
   pub within : x ≤ names
-  pub words : (y : ℕ) → y < x → getD now (16 * r + y) 0 ≡ getD (f .words) y 0
+  pub words : (y : ℕ) → y < x → getD now (16 * r + y) 0 ≡ getD f y 0
   pub before : (j : ℕ) → j < 16 * r → getD now j 0 ≡ getD rows j 0
   pub long : length now ≡ length rows
 
-pub so-far-start : (f : Match) (rows : List ℕ) (r : ℕ) → RowSoFar f rows rows r 0
+pub so-far-start : (f : List ℕ) (rows : List ℕ) (r : ℕ) → RowSoFar f rows rows r 0
 so-far-start f rows r = record { within = omega arith; words = λ y l. absurd (omega arith); before = λ j l. refl; long = refl }
 
-module _ (f : Match) (rows now : List ℕ) (r x : ℕ) (w : RowSoFar f rows now r x) where
+module _ (f : List ℕ) (rows now : List ℕ) (r x : ℕ) (w : RowSoFar f rows now r x) where
   pub so-far-end : names ≤ x → (s : List ℕ) → RowPut s f rows now r
   so-far-end l s = record {
     right = λ b h. record {
@@ -184,12 +183,12 @@ module _ (f : Match) (rows now : List ℕ) (r x : ℕ) (w : RowSoFar f rows now 
     long = w .long;
   }
 
-  pub so-far-more : x < names → r < 255 → length rows ≡ 4080 → RowSoFar f rows (set now (16 * r + x) (getD (f .words) x 0)) r (x + 1)
+  pub so-far-more : x < names → r < 255 → length rows ≡ 4080 → RowSoFar f rows (set now (16 * r + x) (getD f x 0)) r (x + 1)
   so-far-more l m n = record {
     within = omega arith;
-    words = λ y k. cell now (16 * r + x) (16 * r + y) (getD (f .words) x 0) 0 (getD (f .words) y 0) (omega (arith, w .long)) (λ e. ap (λ (z : ℕ). getD (f .words) z 0) (omega arith)) (λ e. w .words y (omega (arith, e)));
-    before = λ j k. getD-set-other now (16 * r + x) j (getD (f .words) x 0) 0 (λ e. absurd (omega arith)) ∙ w .before j k;
-    long = length-set now (16 * r + x) (getD (f .words) x 0) ∙ w .long;
+    words = λ y k. cell now (16 * r + x) (16 * r + y) (getD f x 0) 0 (getD f y 0) (omega (arith, w .long)) (λ e. ap (λ (z : ℕ). getD f z 0) (omega arith)) (λ e. w .words y (omega (arith, e)));
+    before = λ j k. getD-set-other now (16 * r + x) j (getD f x 0) 0 (λ e. absurd (omega arith)) ∙ w .before j k;
+    long = length-set now (16 * r + x) (getD f x 0) ∙ w .long;
   }
 
 -- ---- a number put in
@@ -264,7 +263,7 @@ sides (suc j) (suc k) = go (sides j k)
 row-kept : {s rows after : List ℕ} {r : ℕ} {b : Binding} (n : ℕ) → r < n → ((j : ℕ) → j < 16 * n → getD after j 0 ≡ getD rows j 0) → RowIs s rows r b → RowIs s after r b
 row-kept {s} {rows} {after} {r} {b} n l k h = record { sized = h .sized; cells = λ x m. subst (λ (z : ℕ). CellIs s (unpacked z) (cellOf b x)) (sym (k (16 * r + x) (omega arith))) (h .cells x m); blank = λ x m z. k (16 * r + x) (omega arith) ∙ h .blank x m (ap (λ (n : ℕ). n % 4) (sym (k (16 * r + x) (omega arith))) ∙ z) }
 
-module _ (s : List ℕ) (f : Match) (rows order : List ℕ) (n : ℕ) (q : Seek) (sought : Sought s f rows order n q) where
+module _ (s : List ℕ) (f : List ℕ) (rows order : List ℕ) (n : ℕ) (q : Seek) (sought : Sought s f rows order n q) where
   pub enter-there : q .there ≡ true → (b : Binding) (bs : List Binding) → Stands s f b → RowsAre s rows order n bs → RowsAre s rows order n (place b bs)
   enter-there e b bs h g = subst (RowsAre s rows order n) (sym (sought b bs h g .there e)) g
 

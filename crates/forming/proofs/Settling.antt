@@ -10,6 +10,7 @@ use lib.Dec.{eqb}
 use lib.ListN.{length, getD, drop}
 use lib.Seq.{ext-getD}
 use borrow.Author.Tests.{eqb-true}
+use Rattle.prelude.proofs.Truth.{or-cases}
 use Rattle.prelude.specs.Membership.{In}
 use Rattle.prelude.proofs.Membership.{in-one}
 use Rattle.values.specs.Value.{Value, set, sequence, tuple}
@@ -24,24 +25,22 @@ use Rattle.patterns.specs.Binding.{Cell, free, is, clash, Binding, names, cellO
 use Rattle.patterns.specs.Pattern.{Pattern, any, Patterns, matches}
 use Rattle.patterns.specs.Laws.Named.{named, namedEach, Told, told}
 use Rattle.patterns.specs.Laws.Matched.{in-together, together-in, matched, match-sized, merge-sized}
-use Rattle.patterns.specs.Laws.Merging.{true-false}
+use Rattle.prelude.proofs.Absurd.{true-false}
 use Rattle.patterns.specs.Laws.Together.{one-together}
-use Rattle.patterns.specs.Nodes.{isHalved, is-name, is-any, is-boolean, is-integer}
+use Rattle.patterns.specs.Nodes.{isHalved}
+use Rattle.patterns.specs.Laws.Nodes.{is-name, is-any, is-boolean-literal, is-integer-literal}
 use Rattle.patterns.specs.Read.{Readable, patternsOf, patternOf, patternAt}
-use Rattle.matching.specs.declared.leaves.Match.{Match}
 use Rattle.matching.specs.Leaf.{Stands}
 use Rattle.matching.specs.Node.{innerOf}
 use Rattle.matching.proofs.Records.{by-record, inner-length, kind-low, kind-high, count-two}
-use Rattle.matching.proofs.Naming.{merge-cell, consistent-at, agree-free, stands-fine}
+use Rattle.matching.proofs.Naming.{merge-cell, consistent-at, stands-fine}
+use Rattle.patterns.specs.Laws.Merging.{agree-free}
 use Rattle.forming.specs.Settled.{Settled, TellsSettled, HasWord}
-use Rattle.forming.specs.Onward.{Task, task, matchesAll, onward, zipped, onward-first}
+use Rattle.forming.specs.Onward.{Task, task, matchesAll, onward, zipped}
+use Rattle.forming.specs.Laws.Onward.{onward-first}
 use Rattle.forming.specs.Adding.{adding}
 
 -- ---- the names of a pattern by its record
-
-pub or-some : (a b : Bool) → (a || b) ≡ true → (a ≡ true) ⊎ (b ≡ true)
-or-some true b e = inl refl
-or-some false b e = inr e
 
 -- each of the patterns is settled
 abbrev AllSettled : List Pattern → List ℕ → Type 0
@@ -51,7 +50,7 @@ each-settled : (ps : List Pattern) (words : List ℕ) → AllSettled ps words �
 unfolding named patternsOf
 each-settled [] words h y l e z = true-false (sym e)
 each-settled (p ∷ ps) words h y l e z =
-    ⊎-elim (λ a. h 0 (omega arith) y l a z) (λ a. each-settled ps words (λ j k. h (suc j) (omega arith)) y l a z) (or-some (named p y) (namedEach (patternsOf ps) y) e)
+    ⊎-elim (λ a. h 0 (omega arith) y l a z) (λ a. each-settled ps words (λ j k. h (suc j) (omega arith)) y l a z) (or-cases (named p y) (namedEach (patternsOf ps) y) e)
 
 named-halved : (ps : List Pattern) → length ps ≡ 2 → (y : ℕ) → (named (getD ps 0 any) y || named (getD ps 1 any) y) ≡ true → namedEach (patternsOf ps) y ≡ true
 unfolding named patternsOf
@@ -84,8 +83,8 @@ no-names r ps n low high y = cases (r .kind - 32) (omega arith) (omega arith)
     cases : (d : ℕ) → r .kind ≡ 32 + d → d ≤ 3 → named (patternOf r ps) y ≡ false
     cases zero f l = absurd (n f)
     cases (suc zero) f l = ap (λ (q : Pattern). named q y) (is-any r ps f)
-    cases (suc (suc zero)) f l = ap (λ (q : Pattern). named q y) (is-boolean r ps f)
-    cases (suc (suc (suc zero))) f l = ap (λ (q : Pattern). named q y) (is-integer r ps f)
+    cases (suc (suc zero)) f l = ap (λ (q : Pattern). named q y) (is-boolean-literal r ps f)
+    cases (suc (suc (suc zero))) f l = ap (λ (q : Pattern). named q y) (is-integer-literal r ps f)
     cases (suc (suc (suc (suc d)))) f l = absurd (omega arith)
 
 only-name : (x : ℕ) (words : List ℕ) → (getD words x 0 ≡ 0 → ⊥) → (y : ℕ) → eqb x y ≡ true → getD words y 0 ≡ 0 → ⊥
@@ -94,16 +93,16 @@ only-name x words h y e z = h (ap (λ (n : ℕ). getD words n 0) (eqb-true x y e
 -- ---- is_settled
 
 -- the operands before i are settled
-pub record SettledTo (table : List ℕ) (p : ℕ) (m : Match) (i : ℕ) : Type 0 where
-  pub before : (j : ℕ) → j < i → Settled (patternAt (records table) (operand (recordAt (records table) p) j)) (m .words)
+pub record SettledTo (table : List ℕ) (p : ℕ) (m : List ℕ) (i : ℕ) : Type 0 where
+  pub before : (j : ℕ) → j < i → Settled (patternAt (records table) (operand (recordAt (records table) p) j)) m
 
-module _ (table index : List ℕ) (p : ℕ) (r : Readable table index p) (m : Match) where
+module _ (table index : List ℕ) (p : ℕ) (r : Readable table index p) (m : List ℕ) where
   pub settled-name : kindAt (records table) p ≡ 32 → (x : ℕ) → x ≡ nameOf (recordAt (records table) p) → (t : Bool) → HasWord m x t → TellsSettled table p m t
   unfolding named
   settled-name e x q t h = record {
     says = λ k.
-        subst (λ (w : Pattern). Settled w (m .words)) (sym (by-record table index p r ∙ is-name (recordAt (records table) p) (innerOf table p) e))
-        (λ y l n z. only-name (nameOf (recordAt (records table) p)) (m .words) (subst (λ (a : ℕ). getD (m .words) a 0 ≡ 0 → ⊥) q (h .says k)) y n z);
+        subst (λ (w : Pattern). Settled w m) (sym (by-record table index p r ∙ is-name (recordAt (records table) p) (innerOf table p) e))
+        (λ y l n z. only-name (nameOf (recordAt (records table) p)) m (subst (λ (a : ℕ). getD m a 0 ≡ 0 → ⊥) q (h .says k)) y n z);
     each = λ k c. absurd (omega (arith, e));
   }
 
@@ -129,29 +128,29 @@ module _ (table index : List ℕ) (p : ℕ) (r : Readable table index p) (m : Ma
     pub settled-all : (i : ℕ) → SettledTo table p m i → length (operandsOf (recordAt (records table) p)) ≤ i → TellsSettled table p m true
     settled-all i h l = record {
       says = λ k.
-          composed (m .words) (λ j b.
+          composed m (λ j b.
           let q : j < length (operandsOf (recordAt (records table) p)) = omega (arith, inner-length table index p r) in
-          subst (λ (w : Pattern). Settled w (m .words)) (sym (at-map (operandsOf (recordAt (records table) p)) j q)) (h .before j (omega arith)));
+          subst (λ (w : Pattern). Settled w m) (sym (at-map (operandsOf (recordAt (records table) p)) j q)) (h .before j (omega arith)));
       each = λ k c j b. h .before j (omega arith);
     }
 
   pub settled-next : (i : ℕ) → SettledTo table p m i → (q : ℕ) → q ≡ operand (recordAt (records table) p) i → (t : Bool) → TellsSettled table q m t → t ≡ true → SettledTo table p m (i + 1)
   settled-next i h q e t o k = record { before = λ j l. go j l (ℕ-discrete j i) }
     where
-      go : (j : ℕ) → j < i + 1 → Dec (j ≡ i) → Settled (patternAt (records table) (operand (recordAt (records table) p) j)) (m .words)
-      go j l (yes d) = subst (λ (x : ℕ). Settled (patternAt (records table) x) (m .words)) (e ∙ ap (operand (recordAt (records table) p)) (sym d)) (o .says k)
+      go : (j : ℕ) → j < i + 1 → Dec (j ≡ i) → Settled (patternAt (records table) (operand (recordAt (records table) p) j)) m
+      go j l (yes d) = subst (λ (x : ℕ). Settled (patternAt (records table) x) m) (e ∙ ap (operand (recordAt (records table) p)) (sym d)) (o .says k)
       go j l (no d) = h .before j (omega (arith, d))
 
-pub settled-start : (table : List ℕ) (p : ℕ) (m : Match) → SettledTo table p m 0
+pub settled-start : (table : List ℕ) (p : ℕ) (m : List ℕ) → SettledTo table p m 0
 settled-start table p m = record { before = λ j l. absurd (omega arith) }
 
-pub settled-no : (table : List ℕ) (p : ℕ) (m : Match) → TellsSettled table p m false
+pub settled-no : (table : List ℕ) (p : ℕ) (m : List ℕ) → TellsSettled table p m false
 settled-no table p m = record { says = λ e. true-false (sym e); each = λ e. true-false (sym e) }
 
 -- ---- a settled pattern gives nothing new
 
-module _ (s : List ℕ) (m : Match) (b : Binding) (h : Stands s m b) where
-  has-value : (y : ℕ) → y < names → (getD (m .words) y 0 ≡ 0 → ⊥) → (v : Value) × (cellOf b y ≡ is v)
+module _ (s : List ℕ) (m : List ℕ) (b : Binding) (h : Stands s m b) where
+  has-value : (y : ℕ) → y < names → (getD m y 0 ≡ 0 → ⊥) → (v : Value) × (cellOf b y ≡ is v)
   has-value y l f = ⊎-elim (λ z. absurd (f (h .blank y l (z .0)))) (λ z. (z .0, z .1)) (h .cells y l)
 
   abbrev isFine : Cell → Bool
@@ -171,7 +170,7 @@ module _ (s : List ℕ) (m : Match) (b : Binding) (h : Stands s m b) where
       a ∙ agreed v w (same v w) (ap isFine (sym a) ∙ k) ∙ sym g
   same-cell false c d f e k = ap (agree c) e ∙ agree-free c
 
-  module _ (p : Pattern) (settled : Settled p (m .words)) (v : Value) where
+  module _ (p : Pattern) (settled : Settled p m) (v : Value) where
     -- THEOREM: with what is found a settled pattern gives what is found
     settled-same : (c : Binding) → In c (matches p v) → consistent (merge b c) ≡ true → merge b c ≡ b
     settled-same c i k =
@@ -206,7 +205,7 @@ module _ (s : List ℕ) (m : Match) (b : Binding) (h : Stands s m b) where
   with-one : (ds : List Binding) (c : Binding) → In c (withEach b ds) → In c (together (b ∷ []) ds)
   with-one ds c i = subst (In c) (sym (one-together b ds)) i
 
-  module _ (p : Pattern) (settled : Settled p (m .words)) (v : Value) (ts : List Task) where
+  module _ (p : Pattern) (settled : Settled p m) (v : Value) (ts : List Task) where
     -- what goes on goes on without it
     pub settled-less : (c : Binding) → In c (onward (task p v ∷ ts) b) → In c (onward ts b)
     settled-less c i =
@@ -228,7 +227,7 @@ module _ (s : List ℕ) (m : Match) (b : Binding) (h : Stands s m b) where
 
   -- the same of several
   abbrev pub EachSettled : List Pattern → Type 0
-  EachSettled ps = (j : ℕ) → j < length ps → Settled (getD ps j any) (m .words)
+  EachSettled ps = (j : ℕ) → j < length ps → Settled (getD ps j any) m
 
   pub several-more : (ps : List Pattern) (vs : List Value) (ts : List Task) → EachSettled ps → (o : Binding) → In o (onward (zipped ps vs ++ ts) b) → (c : Binding) → In c (onward ts b) → In c (onward (zipped ps vs ++ ts) b)
   unfolding zipped

@@ -8,7 +8,7 @@ use native.Mathlib.Numerals.{add-one}
 use native.Mathlib.Omega.{arith}
 use lib.ListN.{length, getD, drop, drop-of-length-le}
 use lib.Seq.{drop-cons}
-use Rattle.prelude.proofs.Truth.{or-false-left}
+use Rattle.prelude.proofs.Truth.{or-false-left, or-cases}
 use Rattle.prelude.specs.Membership.{In}
 use Rattle.values.specs.Value.{Value}
 use Rattle.values.specs.Items.{same}
@@ -20,16 +20,17 @@ use Rattle.parts.specs.Part.{PartIs, PartHeld}
 use Rattle.parts.proofs.Laws.{part-one}
 use Rattle.patterns.specs.Ways.{gather}
 use Rattle.parts.specs.Word.{unpacked}
-use Rattle.patterns.specs.Members.{Alike, at-in, in-gather, gather-in}
+use Rattle.patterns.specs.Members.{Alike}
+use Rattle.prelude.proofs.Membership.{at-in}
+use Rattle.patterns.specs.Laws.Members.{in-gather, gather-in}
 use Rattle.patterns.specs.Laws.Ordered.{Rising, sorted-rising}
 use Rattle.forming.specs.Settled.{Settled, TellsSettled, NextWay}
-use Rattle.forming.proofs.Settling.{or-some, settled-less, several-more}
+use Rattle.forming.proofs.Settling.{settled-less, several-more}
 use Rattle.patterns.specs.Binding.{Binding, place}
 use Rattle.patterns.specs.Pattern.{Pattern, name, any, literal, each, halved, Patterns, nil, cons, wide}
-use Rattle.patterns.specs.Laws.Merging.{true-false, true-both}
+use Rattle.prelude.proofs.Absurd.{true-false}
 use Rattle.patterns.specs.Read.{patternsOf, patternOf, patternAt, Readable}
 use Rattle.patterns.specs.Nodes.{isHalved, meetings, isLarge}
-use Rattle.matching.specs.declared.leaves.Match.{Match}
 use Rattle.matching.specs.declared.nodes.Meeting.{Meeting}
 use Rattle.matching.specs.declared.nodes.Meeting.the-variants.{Unfit, Large, Ways}
 use Rattle.matching.specs.Leaf.{Stands, Standing, Went, LeafTold}
@@ -39,11 +40,14 @@ use Rattle.matching.proofs.Naming.{stands-fine}
 use Rattle.forming.specs.declared.Formed.{Formed}
 use Rattle.forming.specs.declared.Step.{Step}
 use Rattle.forming.specs.declared.Formed.the-variants.{Number, Refused}
-use Rattle.forming.specs.Onward.{Task, task, matchesAll, onward, zipped, oneWay, onward-end, onward-went, onward-none, one-way, onward-ways}
-use Rattle.forming.specs.Adding.{adding, adding-one, adding-none, adding-more, adding-longer, adding-alike, adding-in, adding-there}
+use Rattle.forming.specs.Onward.{Task, task, matchesAll, onward, zipped, oneWay}
+use Rattle.forming.specs.Laws.Onward.{onward-end, onward-went, onward-none, onward-ways, one-way}
+use Rattle.forming.specs.Adding.{adding}
+use Rattle.forming.specs.Laws.Adding.{adding-one, adding-none, adding-more, adding-longer, adding-alike, adding-in, adding-there}
 use Rattle.forming.specs.Rows.{RowsAre, EntryHeld, Entered, Entry}
 use Rattle.forming.specs.Pending.{inner, innerEach, entries, Pending, AgendaIs, spaces, Kept, Pushable, Pushed, Solvable, Solved, Dividable, Divided}
-use Rattle.forming.proofs.Pushing.{agenda-kept, kept-then, at-map, countOf, wide-by, met-long}
+use Rattle.forming.proofs.Pushing.{agenda-kept, kept-then, countOf, wide-by, met-long}
+use Rattle.prelude.proofs.Lists.{map-at}
 
 -- ---- the agenda
 
@@ -62,7 +66,7 @@ agenda-low table index s a top head (t ∷ ts) l h = h .0 .below
 
 -- ---- solve
 
-pub record SolveSoFar (table index s a : List ℕ) (head top : ℕ) (f : Match) (rows order : List ℕ) (n : ℕ) (b rows′ order′ : List ℕ) (head′ : ℕ) (g : Match) : Type 0 where
+pub record SolveSoFar (table index s a : List ℕ) (head top : ℕ) (f : List ℕ) (rows order : List ℕ) (n : ℕ) (b rows′ order′ : List ℕ) (head′ : ℕ) (g : List ℕ) : Type 0 where
   pub kept : Kept a b (3 * top)
   pub long : length b ≡ length a
   pub rows-are : (bs : List Binding) → RowsAre s rows order n bs → RowsAre s rows′ order′ n bs
@@ -75,7 +79,7 @@ pub record SolveSoFar (table index s a : List ℕ) (head top : ℕ) (f : Match) 
   pub right : (ts : List Task) (st : Binding) → AgendaIs table index s a top head ts → Stands s f st
       → (us : List Task) × (q : Binding) × AgendaIs table index s b top head′ us × Stands s g q × Alike (onward ts st) (onward us q)
 
-module _ (table index s a : List ℕ) (head top : ℕ) (f : Match) (rows order : List ℕ) (n : ℕ) (h : Solvable table index s a head top f rows order n) where
+module _ (table index s a : List ℕ) (head top : ℕ) (f : List ℕ) (rows order : List ℕ) (n : ℕ) (h : Solvable table index s a head top f rows order n) where
   pub solve-start : SolveSoFar table index s a head top f rows order n a rows order head f
   solve-start = record {
     kept = λ j k. refl;
@@ -90,7 +94,7 @@ module _ (table index s a : List ℕ) (head top : ℕ) (f : Match) (rows order :
     right = λ ts st k l. (ts, st, k, l, λ c. (λ i. i, λ i. i));
   }
 
-  module _ (b rows′ order′ : List ℕ) (head′ : ℕ) (g : Match) (w : SolveSoFar table index s a head top f rows order n b rows′ order′ head′ g) where
+  module _ (b rows′ order′ : List ℕ) (head′ : ℕ) (g : List ℕ) (w : SolveSoFar table index s a head top f rows order n b rows′ order′ head′ g) where
     pub head-low : head′ < entries
     head-low = omega (arith, agenda-low table index s b top head′ (w .tasks) (h .low) (w .are), w .room)
 
@@ -167,8 +171,8 @@ module _ (table index s a : List ℕ) (head top : ℕ) (f : Match) (rows order :
       }
 
       -- one that gives at most one binding
-      module _ (g′ : Match) (o : (v : Value) (b′ : Binding) → PartIs s (unpacked W) v → wide (patternAt (records table) Q) v ≡ false → Stands s g b′ → Went s b′ (patternAt (records table) Q) v g′) where
-        pub solve-more : g′ .fits ≡ true → SolveSoFar table index s a head top f rows order n b rows′ order′ (getD b (3 * head′ + 2) 0) g′
+      module _ (g′ : List ℕ) (fits : Bool) (o : (v : Value) (b′ : Binding) → PartIs s (unpacked W) v → wide (patternAt (records table) Q) v ≡ false → Stands s g b′ → Went s b′ (patternAt (records table) Q) v g′ fits) where
+        pub solve-more : fits ≡ true → SolveSoFar table index s a head top f rows order n b rows′ order′ (getD b (3 * head′ + 2) 0) g′
         solve-more fit =
             let (t, us, e, p, k) = some-task table index s b top head′ (w .tasks) (w .are) l in
             let (q, al, z) = o (t .value) (w .binding) (p .here) (subst (λ (x : Pattern). wide x (t .value) ≡ false) (p .pattern) (p .narrow)) (w .stands) .good fit in
@@ -191,7 +195,7 @@ module _ (table index s a : List ℕ) (head top : ℕ) (f : Match) (rows order :
                   (vs, q″, k′, z″, λ c. (λ m. on c .0 (al‴ c .0 m), λ m. al‴ c .1 (on c .1 m)));
             }
 
-        pub solve-failed : g′ .fits ≡ false → Solved table index s a b head top f rows order n rows′ order′ (record { formed = Number n; any = false })
+        pub solve-failed : fits ≡ false → Solved table index s a b head top f rows order n rows′ order′ (record { formed = Number n; any = false })
         solve-failed fit = record {
           kept = w .kept;
           long = w .long;
@@ -284,7 +288,7 @@ none-entered : (g : List Value → List Binding) (ds : List Binding) → adding 
 unfolding gather
 none-entered g ds = adding-none ds
 
-pub record Given (table index : List ℕ) (p : ℕ) (s : List ℕ) (word : ℕ) (a : List ℕ) (next top : ℕ) (f : Match) (rows order : List ℕ) (n : ℕ) (v : Value) (ts : List Task) (st : Binding) (bs : List Binding) : Type 0 where
+pub record Given (table index : List ℕ) (p : ℕ) (s : List ℕ) (word : ℕ) (a : List ℕ) (next top : ℕ) (f : List ℕ) (rows order : List ℕ) (n : ℕ) (v : Value) (ts : List Task) (st : Binding) (bs : List Binding) : Type 0 where
   pub here : PartIs s (unpacked word) v
   pub narrow : wide (patternAt (records table) p) v ≡ false
   pub are : AgendaIs table index s a top next ts
@@ -292,7 +296,7 @@ pub record Given (table index : List ℕ) (p : ℕ) (s : List ℕ) (word : ℕ) 
   pub rows-are : RowsAre s rows order n bs
 
 -- The ways below d are done.
-pub record DivideSoFar (table index : List ℕ) (p : ℕ) (s : List ℕ) (word : ℕ) (a : List ℕ) (next top : ℕ) (f : Match) (rows order : List ℕ) (n w : ℕ) (b rows′ order′ : List ℕ) (n′ : ℕ) (any′ : Bool) (d : ℕ) : Type 0 where
+pub record DivideSoFar (table index : List ℕ) (p : ℕ) (s : List ℕ) (word : ℕ) (a : List ℕ) (next top : ℕ) (f : List ℕ) (rows order : List ℕ) (n w : ℕ) (b rows′ order′ : List ℕ) (n′ : ℕ) (any′ : Bool) (d : ℕ) : Type 0 where
   pub within : d ≤ w
   pub kept : Kept a b (3 * top)
   pub long : length b ≡ length a
@@ -301,7 +305,7 @@ pub record DivideSoFar (table index : List ℕ) (p : ℕ) (s : List ℕ) (word :
   pub some : any′ ≡ true → (v : Value) (ts : List Task) (st : Binding) (bs : List Binding) → Given table index p s word a next top f rows order n v ts st bs
       → (c : Binding) × In c (gather (waysOf table p v) (oneWay (innerOf table p) ts st))
 
-module _ (table index : List ℕ) (p : ℕ) (s : List ℕ) (word : ℕ) (a : List ℕ) (next top : ℕ) (f : Match) (rows order : List ℕ) (n : ℕ) (h : Dividable table index p s word a next top f rows order n) where
+module _ (table index : List ℕ) (p : ℕ) (s : List ℕ) (word : ℕ) (a : List ℕ) (next top : ℕ) (f : List ℕ) (rows order : List ℕ) (n : ℕ) (h : Dividable table index p s word a next top f rows order n) where
   whole : (v : Value) (ts : List Task) (b : Binding) → onward (task (patternAt (records table) p) v ∷ ts) b ≡ gather (waysOf table p v) (oneWay (innerOf table p) ts b)
   whole v ts b =
       ap (λ (q : Pattern). onward (task q v ∷ ts) b) (by-record table index p (h .readable))
@@ -339,7 +343,7 @@ module _ (table index : List ℕ) (p : ℕ) (s : List ℕ) (word : ℕ) (a : Lis
         go v u (Ways w) nope k = absurd (nope w refl)
 
     module _ (w : ℕ) (me : m ≡ Ways w) where
-      ways-are : (v : Value) → PartIs s (unpacked word) v → MeetsAs (kindAt (records table) p) (countOf table p) v (Ways w)
+      pub ways-are : (v : Value) → PartIs s (unpacked word) v → MeetsAs (kindAt (records table) p) (countOf table p) v (Ways w)
       ways-are v q = subst (MeetsAs (kindAt (records table) p) (countOf table p) v) me (met v q)
 
       pub ways-few : w < 256
@@ -437,7 +441,7 @@ module _ (table index : List ℕ) (p : ℕ) (s : List ℕ) (word : ℕ) (a : Lis
               -- some way has a match
               some-now : (a′ : Bool) → a′ ≡ (any′ || r .any) → a′ ≡ true → (v : Value) (ts : List Task) (st : Binding) (bs : List Binding) → Given table index p s word a next top f rows order n v ts st bs
                   → (c : Binding) × In c (gather (waysOf table p v) (oneWay (innerOf table p) ts st))
-              some-now a′ e t v ts st bs g = ⊎-elim (λ x. i .some x v ts st bs g) (λ x. here x) (or-some any′ (r .any) (sym e ∙ t))
+              some-now a′ e t v ts st bs g = ⊎-elim (λ x. i .some x v ts st bs g) (λ x. here x) (or-cases any′ (r .any) (sym e ∙ t))
                 where
                   here : r .any ≡ true → (c : Binding) × In c (gather (waysOf table p v) (oneWay (innerOf table p) ts st))
                   here x =
@@ -454,7 +458,7 @@ module _ (table index : List ℕ) (p : ℕ) (s : List ℕ) (word : ℕ) (a : Lis
                   let (b′, there) = solved .some x (zipped (innerOf table p) (metBy table p v d) ++ ts) st (agenda-at g) (g .stands) in
                   several-more s f st (g .stands) (innerOf table p) (metBy table p v d) ts
                   (λ j l. let q : j < countOf table p = omega (arith, inner-length table index p (h .readable)) in
-                  subst (λ (y : Pattern). Settled y (f .words)) (sym (at-map (patternAt (records table)) (named (recordAt (records table) p)) j 0 any q)) (o .each t (h .composed) j q))
+                  subst (λ (y : Pattern). Settled y f) (sym (map-at (patternAt (records table)) (named (recordAt (records table) p)) j 0 any q)) (o .each t (h .composed) j q))
                   b′ there c rest
 
               pub divide-more : (j : ℕ) → r .formed ≡ Number j → (once : Bool) → TellsSettled table p f once → (a′ : Bool) → a′ ≡ (any′ || r .any) → (d′ : ℕ) → NextWay d w once (r .any) d′

@@ -14,7 +14,6 @@ use Rattle.patterns.specs.Binding.{Binding}
 use Rattle.patterns.specs.Pattern.{Pattern, name, any, literal, each, halved, Patterns, nil, cons, wide}
 use Rattle.patterns.specs.Read.{patternAt, Readable}
 use Rattle.patterns.specs.Nodes.{meetings, isLarge}
-use Rattle.matching.specs.declared.leaves.Match.{Match}
 use Rattle.matching.specs.Leaf.{Stands}
 use Rattle.matching.specs.Node.{innerOf, metBy}
 use Rattle.forming.specs.declared.Step.{Step}
@@ -90,7 +89,7 @@ pub record Pushed (table index : List ℕ) (p : ℕ) (s : List ℕ) (word : ℕ)
 
 -- ---- all matches of an agenda
 
-pub record Solvable (table index s a : List ℕ) (head top : ℕ) (m : Match) (rows order : List ℕ) (n : ℕ) : Type 0 where
+pub record Solvable (table index s a : List ℕ) (head top : ℕ) (m : List ℕ) (rows order : List ℕ) (n : ℕ) : Type 0 where
   pub short : length s ≤ 65536
   pub tasks : List Task
   pub are : AgendaIs table index s a top head tasks
@@ -102,7 +101,7 @@ pub record Solvable (table index s a : List ℕ) (head top : ℕ) (m : Match) (r
   pub bindings : List Binding
   pub rows-are : RowsAre s rows order n bindings
 
-pub record Solved (table index s a b : List ℕ) (head top : ℕ) (m : Match) (rows order : List ℕ) (n : ℕ) (rows′ order′ : List ℕ) (r : Step) : Type 0 where
+pub record Solved (table index s a b : List ℕ) (head top : ℕ) (m : List ℕ) (rows order : List ℕ) (n : ℕ) (rows′ order′ : List ℕ) (r : Step) : Type 0 where
   pub kept : Kept a b (3 * top)
   pub long : length b ≡ length a
   pub right : (ts : List Task) (b′ : Binding) (bs : List Binding) → AgendaIs table index s a top head ts → Stands s m b′ → RowsAre s rows order n bs
@@ -111,7 +110,7 @@ pub record Solved (table index s a b : List ℕ) (head top : ℕ) (m : Match) (r
 
 -- ---- one pattern with parts, before the rest
 
-pub record Dividable (table index : List ℕ) (p : ℕ) (s : List ℕ) (word : ℕ) (a : List ℕ) (next top : ℕ) (m : Match) (rows order : List ℕ) (n : ℕ) : Type 0 where
+pub record Dividable (table index : List ℕ) (p : ℕ) (s : List ℕ) (word : ℕ) (a : List ℕ) (next top : ℕ) (m : List ℕ) (rows order : List ℕ) (n : ℕ) : Type 0 where
   pub readable : Readable table index p
   pub composed : 36 ≤ kindAt (records table) p
   pub short : length s ≤ 65536
@@ -128,7 +127,7 @@ pub record Dividable (table index : List ℕ) (p : ℕ) (s : List ℕ) (word : �
   pub bindings : List Binding
   pub rows-are : RowsAre s rows order n bindings
 
-pub record Divided (table index : List ℕ) (p : ℕ) (s : List ℕ) (word : ℕ) (a b : List ℕ) (next top : ℕ) (m : Match) (rows order : List ℕ) (n : ℕ) (rows′ order′ : List ℕ) (r : Step) : Type 0 where
+pub record Divided (table index : List ℕ) (p : ℕ) (s : List ℕ) (word : ℕ) (a b : List ℕ) (next top : ℕ) (m : List ℕ) (rows order : List ℕ) (n : ℕ) (rows′ order′ : List ℕ) (r : Step) : Type 0 where
   pub kept : Kept a b (3 * top)
   pub long : length b ≡ length a
   pub right : (v : Value) (ts : List Task) (b′ : Binding) (bs : List Binding) → PartIs s (unpacked word) v → wide (patternAt (records table) p) v ≡ false → AgendaIs table index s a top next ts → Stands s m b′

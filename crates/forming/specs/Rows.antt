@@ -8,7 +8,6 @@ use Rattle.parts.specs.declared.Part.{Part}
 use Rattle.parts.specs.Part.{CellIs}
 use Rattle.parts.specs.Word.{unpacked}
 use Rattle.patterns.specs.Binding.{Cell, Binding, names, nothing, cellOf, place, sorted}
-use Rattle.matching.specs.declared.leaves.Match.{Match}
 use Rattle.matching.specs.Leaf.{Stands}
 use Rattle.forming.specs.declared.rows.Seek.{Seek}
 use Rattle.forming.specs.declared.Formed.{Formed}
@@ -45,11 +44,11 @@ pub record SoughtIn (b : Binding) (bs : List Binding) (n : ℕ) (r : Seek) : Typ
   pub there : r .there ≡ true → place b bs ≡ bs
   pub new : r .there ≡ false → place b bs ≡ take (r .at) bs ++ (b ∷ drop (r .at) bs)
 
-abbrev pub Sought : List ℕ → Match → List ℕ → List ℕ → ℕ → Seek → Type 0
+abbrev pub Sought : List ℕ → List ℕ → List ℕ → List ℕ → ℕ → Seek → Type 0
 Sought s m rows order n r = (b : Binding) (bs : List Binding) → Stands s m b → RowsAre s rows order n bs → SoughtIn b bs n r
 
 -- Row r was written, and nothing before it changed.
-pub record RowPut (s : List ℕ) (m : Match) (rows after : List ℕ) (r : ℕ) : Type 0 where
+pub record RowPut (s : List ℕ) (m : List ℕ) (rows after : List ℕ) (r : ℕ) : Type 0 where
   pub right : (b : Binding) → Stands s m b → RowIs s after r b
   pub before : (j : ℕ) → j < 16 * r → getD after j 0 ≡ getD rows j 0
   pub long : length after ≡ length rows
@@ -61,7 +60,7 @@ pub record Shifted (order after : List ℕ) (at n : ℕ) : Type 0 where
   pub long : length after ≡ length order
   pub from : (j : ℕ) → at ≤ j → j < n → getD after (suc j) 0 ≡ getD order j 0
 
-pub record EntryHeld (s : List ℕ) (m : Match) (rows order : List ℕ) (n : ℕ) : Type 0 where
+pub record EntryHeld (s : List ℕ) (m : List ℕ) (rows order : List ℕ) (n : ℕ) : Type 0 where
   pub binding : Binding
   pub stands : Stands s m binding
   pub bindings : List Binding
@@ -72,5 +71,5 @@ abbrev pub Entered : List ℕ → List ℕ → List ℕ → List Binding → For
 Entered s rows order bs (Number n) = RowsAre s rows order n bs
 Entered s rows order bs (Refused k) = (k ≡ 30) × (255 < length bs)
 
-abbrev pub Entry : List ℕ → Match → List ℕ → List ℕ → ℕ → List ℕ → List ℕ → Formed → Type 0
+abbrev pub Entry : List ℕ → List ℕ → List ℕ → List ℕ → ℕ → List ℕ → List ℕ → Formed → Type 0
 Entry s m rows order n rows′ order′ r = (b : Binding) (bs : List Binding) → Stands s m b → RowsAre s rows order n bs → Entered s rows′ order′ (place b bs) r

@@ -12,18 +12,17 @@ use Rattle.patterns.specs.Binding.{names}
 use Rattle.patterns.specs.Pattern.{Pattern}
 use Rattle.patterns.specs.Laws.Named.{named}
 use Rattle.patterns.specs.Read.{patternAt}
-use Rattle.matching.specs.declared.leaves.Match.{Match}
 
 -- Each name of the pattern has a word.
 abbrev pub Settled : Pattern → List ℕ → Type 0
 Settled p words = (y : ℕ) → y < names → named p y ≡ true → getD words y 0 ≡ 0 → ⊥
 
-pub record TellsSettled (table : List ℕ) (p : ℕ) (m : Match) (r : Bool) : Type 0 where
-  pub says : r ≡ true → Settled (patternAt (records table) p) (m .words)
-  pub each : r ≡ true → 36 ≤ kindAt (records table) p → (j : ℕ) → j < length (operandsOf (recordAt (records table) p)) → Settled (patternAt (records table) (operand (recordAt (records table) p) j)) (m .words)
+pub record TellsSettled (table : List ℕ) (p : ℕ) (m : List ℕ) (r : Bool) : Type 0 where
+  pub says : r ≡ true → Settled (patternAt (records table) p) m
+  pub each : r ≡ true → 36 ≤ kindAt (records table) p → (j : ℕ) → j < length (operandsOf (recordAt (records table) p)) → Settled (patternAt (records table) (operand (recordAt (records table) p) j)) m
 
-pub record HasWord (m : Match) (x : ℕ) (r : Bool) : Type 0 where
-  pub says : r ≡ true → getD (m .words) x 0 ≡ 0 → ⊥
+pub record HasWord (m : List ℕ) (x : ℕ) (r : Bool) : Type 0 where
+  pub says : r ≡ true → getD m x 0 ≡ 0 → ⊥
 
 -- r is the way after d, or w where one way is enough and was found.
 pub record NextWay (d w : ℕ) (once found : Bool) (r : ℕ) : Type 0 where

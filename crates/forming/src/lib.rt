@@ -1,13 +1,15 @@
 // The bindings of a pattern formed once: all ways are gone through with an agenda of what is still to be matched, and each match found is
 // entered in order, once, into rows.
+mod reduced;
 mod rows;
 mod settled;
+mod sizes;
 
 use matching::leaves;
-use matching::leaves::Match;
 use matching::nodes;
 use matching::nodes::Meeting;
 use parts::words;
+use parts::words::Env;
 use tables::Index;
 use tables::kinds;
 use tables::reading::kind;
@@ -71,39 +73,40 @@ pub fn solve(
     agenda: &mut [u32; 603],
     head: usize,
     top: usize,
-    found: Match,
+    found: &[u32; Env::NAMES],
     rows: &mut [u32; 4080],
     order: &mut [u8; 255],
     n: usize,
 ) -> Step
-    requires { ⌜ Solvable (now table) (now index) (now s) (now agenda) head top found (now rows) (now order) n ⌝ }
-    ensures { λ r. ⌜ Solved (now (table .entry)) (now (index .entry)) (now (s .entry)) (now (agenda .entry)) (now (agenda .exit)) head top found (now (rows .entry)) (now (order .entry)) n (now (rows .exit)) (now (order .exit)) r ⌝ }
+    requires { ⌜ Solvable (now table) (now index) (now s) (now agenda) head top (now found) (now rows) (now order) n ⌝ }
+    ensures { λ r. ⌜ Solved (now (table .entry)) (now (index .entry)) (now (s .entry)) (now (agenda .entry)) (now (agenda .exit)) head top (now (found .entry)) (now (rows .entry)) (now (order .entry)) n (now (rows .exit)) (now (order .exit)) r ⌝ }
 {
     let mut head = head;
-    let mut found = found;
+    let mut words = *found;
     while 0 < head {
         let p = agenda[3 * head] as usize;
         let word = agenda[3 * head + 1];
         let next = agenda[3 * head + 2] as usize;
         let k = kind(table, index, p);
         if kinds::TUPLE_PATTERN <= k {
+            let q = reduced::reduced(table, index, p);
             return divide(
                 table,
                 index,
-                p,
+                q,
                 s,
                 word,
                 agenda,
                 next,
                 top,
-                found,
+                &words,
                 rows,
                 order,
                 n,
             );
         }
-        found = leaves::match_leaf(table, index, p, s, word, found);
-        if !found.fits {
+        let fits = leaves::match_leaf(table, index, p, s, word, &mut words);
+        if !fits {
             return Step {
                 formed: Formed::Number(n),
                 any: false,
@@ -111,7 +114,7 @@ pub fn solve(
         }
         head = next;
     }
-    let formed = rows::enter(s, found, rows, order, n);
+    let formed = rows::enter(s, &words, rows, order, n);
     Step { formed, any: true }
 }
 
@@ -125,23 +128,24 @@ fn divide(
     agenda: &mut [u32; 603],
     next: usize,
     top: usize,
-    found: Match,
+    found: &[u32; Env::NAMES],
     rows: &mut [u32; 4080],
     order: &mut [u8; 255],
     n: usize,
 ) -> Step
-    requires { ⌜ Dividable (now table) (now index) p (now s) word (now agenda) next top found (now rows) (now order) n ⌝ }
-    ensures { λ r. ⌜ Divided (now (table .entry)) (now (index .entry)) p (now (s .entry)) word (now (agenda .entry)) (now (agenda .exit)) next top found (now (rows .entry)) (now (order .entry)) n (now (rows .exit)) (now (order .exit)) r ⌝ }
+    requires { ⌜ Dividable (now table) (now index) p (now s) word (now agenda) next top (now found) (now rows) (now order) n ⌝ }
+    ensures { λ r. ⌜ Divided (now (table .entry)) (now (index .entry)) p (now (s .entry)) word (now (agenda .entry)) (now (agenda .exit)) next top (now (found .entry)) (now (rows .entry)) (now (order .entry)) n (now (rows .exit)) (now (order .exit)) r ⌝ }
 {
     let k = kind(table, index, p);
     let c = operand_count(table, index, p);
     let part = words::unpack(word);
     let m = nodes::meet(k, c, s, part);
     let once = settled::is_settled(table, index, p, found);
+    let sizes = sizes::sizes_of(table, index, p, k);
     let mut n = n;
     let mut any = false;
     if let Meeting::Ways(w) = m {
-        let mut d = 0;
+        let mut d = sizes::way_from(k, w, 0, sizes);
         while d < w {
             let head = push(table, index, p, s, word, d, agenda, next, top);
             let r = solve(
@@ -169,7 +173,8 @@ fn divide(
                 }
             }
             any = settled::either(any, r.any);
-            d = settled::next_way(d, w, once, r.any);
+            let after = settled::next_way(d, w, once, r.any);
+            d = sizes::way_from(k, w, after, sizes);
         }
     }
     Step {

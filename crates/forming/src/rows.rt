@@ -1,7 +1,6 @@
 // Bindings as rows of words, only appended to, and their order: a permutation of the rows.
 use crate::Formed;
 use integers::Order;
-use matching::leaves::Match;
 use parts::words;
 use parts::words::Env;
 ghost use mathlib.Core.Path.{_≡_};
@@ -18,13 +17,13 @@ pub struct Seek {
 }
 
 // The order of a binding and a row.
-fn order_row(s: &[u8], found: Match, rows: &[u32; 4080], r: usize) -> Order
-    requires { ⌜ Standing (now s) found × RowHeld (now s) (now rows) r ⌝ }
-    ensures { λ o. ⌜ ((b c : Binding) → Stands (now (s .entry)) found b → RowIs (now (s .entry)) (now (rows .entry)) r c → o ≡ orderBindings b c) ⌝ }
+fn order_row(s: &[u8], found: &[u32; Env::NAMES], rows: &[u32; 4080], r: usize) -> Order
+    requires { ⌜ Standing (now s) (now found) × RowHeld (now s) (now rows) r ⌝ }
+    ensures { λ o. ⌜ ((b c : Binding) → Stands (now (s .entry)) (now (found .entry)) b → RowIs (now (s .entry)) (now (rows .entry)) r c → o ≡ orderBindings b c) ⌝ }
 {
     let mut x = 0;
     while x < Env::NAMES {
-        let a = found.words[x];
+        let a = found[x];
         let b = rows[16 * r + x];
         if a == b {
             x += 1;
@@ -43,9 +42,15 @@ fn order_row(s: &[u8], found: Match, rows: &[u32; 4080], r: usize) -> Order
 }
 
 // Where a binding has its place among n rows.
-fn find_place(s: &[u8], found: Match, rows: &[u32; 4080], order: &[u8; 255], n: usize) -> Seek
-    requires { ⌜ Standing (now s) found × RowsHeld (now s) (now rows) (now order) n ⌝ }
-    ensures { λ r. ⌜ Sought (now (s .entry)) found (now (rows .entry)) (now (order .entry)) n r ⌝ }
+fn find_place(
+    s: &[u8],
+    found: &[u32; Env::NAMES],
+    rows: &[u32; 4080],
+    order: &[u8; 255],
+    n: usize,
+) -> Seek
+    requires { ⌜ Standing (now s) (now found) × RowsHeld (now s) (now rows) (now order) n ⌝ }
+    ensures { λ r. ⌜ Sought (now (s .entry)) (now (found .entry)) (now (rows .entry)) (now (order .entry)) n r ⌝ }
 {
     let mut low = 0;
     let mut high = n;
@@ -75,13 +80,13 @@ fn find_place(s: &[u8], found: Match, rows: &[u32; 4080], order: &[u8; 255], n: 
 }
 
 // Writes a binding as row r.
-fn put_row(s: &[u8], found: Match, rows: &mut [u32; 4080], r: usize)
-    requires { ⌜ Standing (now s) found × (r < 255) × (length (now rows) ≡ 4080) ⌝ }
-    ensures { λ u. ⌜ RowPut (now (s .entry)) found (now (rows .entry)) (now (rows .exit)) r ⌝ }
+fn put_row(s: &[u8], found: &[u32; Env::NAMES], rows: &mut [u32; 4080], r: usize)
+    requires { ⌜ Standing (now s) (now found) × (r < 255) × (length (now rows) ≡ 4080) ⌝ }
+    ensures { λ u. ⌜ RowPut (now (s .entry)) (now (found .entry)) (now (rows .entry)) (now (rows .exit)) r ⌝ }
 {
     let mut x = 0;
     while x < Env::NAMES {
-        let c = found.words[x];
+        let c = found[x];
         rows[16 * r + x] = c;
         x += 1;
     }
@@ -104,13 +109,13 @@ fn shift_in(order: &mut [u8; 255], at: usize, n: usize)
 // Enters a binding in order, unless it is there.
 pub fn enter(
     s: &[u8],
-    found: Match,
+    found: &[u32; Env::NAMES],
     rows: &mut [u32; 4080],
     order: &mut [u8; 255],
     n: usize,
 ) -> Formed
-    requires { ⌜ EntryHeld (now s) found (now rows) (now order) n ⌝ }
-    ensures { λ r. ⌜ Entry (now (s .entry)) found (now (rows .entry)) (now (order .entry)) n (now (rows .exit)) (now (order .exit)) r ⌝ }
+    requires { ⌜ EntryHeld (now s) (now found) (now rows) (now order) n ⌝ }
+    ensures { λ r. ⌜ Entry (now (s .entry)) (now (found .entry)) (now (rows .entry)) (now (order .entry)) n (now (rows .exit)) (now (order .exit)) r ⌝ }
 {
     let k = find_place(s, found, rows, order, n);
     if k.there {

@@ -1,5 +1,5 @@
 // Patterns that are only a test: every name in them has a value already, so they give no name one, and one way of matching is enough.
-use matching::leaves::Match;
+use parts::words::Env;
 use tables::Index;
 use tables::kinds;
 use tables::reading::field;
@@ -13,9 +13,9 @@ ghost use Rattle.patterns.specs.Read.{Readable};
 ghost use Rattle.forming.specs.Settled.{TellsSettled, HasWord, NextWay};
 
 // Every name of a pattern has a value.
-pub fn is_settled(table: &[u8], index: &Index, p: usize, found: Match) -> bool
+pub fn is_settled(table: &[u8], index: &Index, p: usize, found: &[u32; Env::NAMES]) -> bool
     requires { ⌜ Readable (now table) (now index) p ⌝ }
-    ensures { λ r. ⌜ TellsSettled (now (table .entry)) p found r ⌝ }
+    ensures { λ r. ⌜ TellsSettled (now (table .entry)) p (now (found .entry)) r ⌝ }
 {
     let k = kind(table, index, p);
     if k == kinds::NAME_PATTERN {
@@ -39,13 +39,13 @@ pub fn is_settled(table: &[u8], index: &Index, p: usize, found: Match) -> bool
 }
 
 // A name has a value.
-fn has_word(found: Match, x: usize) -> bool
-    ensures { λ r. ⌜ HasWord found x r ⌝ }
+fn has_word(found: &[u32; Env::NAMES], x: usize) -> bool
+    ensures { λ r. ⌜ HasWord (now (found .entry)) x r ⌝ }
 {
     if 16 <= x {
         return false;
     }
-    found.words[x] != 0
+    found[x] != 0
 }
 
 // One of the two.

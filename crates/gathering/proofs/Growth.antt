@@ -17,7 +17,7 @@ use Rattle.collections.specs.declared.building.Added.{Added}
 use Rattle.collections.specs.declared.building.Added.the-variants.{Done as Put, Full as TooLong}
 use Rattle.collections.specs.Building.{added, Apart, Room, Inserts}
 use Rattle.collections.proofs.Additions.{added-put, added-long}
-use Rattle.collections.proofs.Built.{over, at-apart}
+use Rattle.collections.proofs.Built.{at-apart, long-past}
 use Rattle.operators.specs.Gather.{insertAll}
 use Rattle.operator_laws.proofs.Gather.{sizes-grow-all}
 use Rattle.gathering.specs.Inserting.{Growing, Grown, InsertsAll, themselves}
@@ -136,7 +136,7 @@ module _ {g : Items → Items} {s t : List ℕ} {from to at p : ℕ} (w : Gather
               let y = items-first lt (k .left) in
               let x = q .right (k .us) (y .first) (k .made) (at-apart (w .frame) (apart-at s p apart (w .past) (y .inside)) (y .first-at)) in
               let whole = y .so ∙ law (k .us) (y .first) (y .rest) in
-              let b : valueLimit < size (collection set (f (k .us) (y .first))) = over (x .answers) e in
+              let b : valueLimit < size (collection set (f (k .us) (y .first))) = long-past (x .answers) e in
               let c₁ = collection-size set (f (k .us) (y .first)) in
               let c₂ = collection-size set (insertAll vs (g ws)) in
               let m = ap sizes whole in

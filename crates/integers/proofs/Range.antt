@@ -58,11 +58,6 @@ pub answer-out : (z : ℤ) → inRange z ≡ false → ranged z ≡ OutOfRange
 unfolding ranged
 answer-out z e = ap (λ (t : Bool). cond t (Is z) OutOfRange) e
 
--- what an answer that is a number says
-pub record Answered (z n : ℤ) : Type 0 where
-  pub exact : n ≡ z
-  pub inside : InRange n
-
 -- ---- division
 
 pub divided-other : (right z : ℤ) → (right ≡ pos 0 → ⊥) → divided right z ≡ ranged z

@@ -1,13 +1,13 @@
 -- Laws of numbers as bytes: what was written is read back, and what was read is written back.
 use mathlib.Core.Path.{_≡_, refl, sym, ap, ap₂, _∙_}
 use mathlib.Core.List.{List, [], _∷_, _++_, append-assoc}
-use Prim.Native.Nat.{ℕ, suc, _+_, _*_, _≤_, _<_}
+use Prim.Native.Nat.{ℕ, suc, _+_, _≤_, _<_}
 use native.Mathlib.Numerals.{add-one, add-two}
 use native.Mathlib.Nat.{add-zero}
 use native.Mathlib.Omega.{arith}
 use lib.IntN.{ℤ}
 use lib.ListN.{length, getD, set, take, drop}
-use lib.Seq.{sets, sets-eq, getD-take, getD-drop, take-set-le, drop-at, drop-cons, drop-drop, take-add, length-take-le}
+use lib.Seq.{sets, sets-eq, getD-drop, take-set-le, drop-at, drop-cons, drop-drop, take-add, length-take-le}
 use mir.Syntax.{w32}
 use mir.Val.{SFits, toZ}
 use mir.Facts.{toZ-ofZ, ofZ-toZ}
@@ -72,15 +72,6 @@ drop-sets vs s at h =
     let rest = drop (at + length vs) s in
     let g : at ≤ length s = omega arith in
     ap (drop at) (sets-eq vs s at h ∙ append-assoc (take at s) vs rest) ∙ drop-at (take at s) (vs ++ rest) at (length-take-le at s g)
-
--- ---- below a place up to which two lists agree
-
-module _ (s t : List ℕ) (base : ℕ) (kept : take base t ≡ take base s) where
-  byte-kept : (i : ℕ) → i < base → getD t i 0 ≡ getD s i 0
-  byte-kept i h = sym (getD-take base t i 0 h) ∙ ap (λ (l : List ℕ). getD l i 0) kept ∙ getD-take base s i 0 h
-
-  pub word-kept : (at : ℕ) → at + 2 ≤ base → word t at ≡ word s at
-  word-kept at h = ap₂ (λ (x y : ℕ). x + 256 * y) (byte-kept at (omega arith)) (byte-kept (at + 1) (omega arith))
 
 -- ---- what was read is what stands there
 

@@ -1,2 +1,3 @@
+-- What the proofs of the functions need; nobody else cites it.
 mod Starting
 mod Moving

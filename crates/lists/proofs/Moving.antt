@@ -1,17 +1,15 @@
 -- What holds of the bytes while `advance` looks for the last entry that can go up, and when it is found.
 use mathlib.Core.Path.{_≡_, refl, sym, ap, _∙_, subst}
-use mathlib.Core.Bool.{Bool, true, false}
+use mathlib.Core.Bool.{true, false}
 use mathlib.Core.List.{List, []}
 use Prim.Native.Nat.{ℕ, suc, _+_, _≤_, _<_}
 use native.Mathlib.Omega.{arith}
 use lib.Dec.{eqb}
 use lib.ListN.{length, take, drop, getD, set, length-set, length-take, length-drop}
 use lib.Seq.{take-set-lt, getD-take, getD-drop, drop-set-add, drop-set-lt, getD-set-same, getD-set-other}
-use Rattle.choices.specs.declared.Choices.{Choices}
-use Rattle.choices.specs.declared.Advanced.{Advanced}
+use Rattle.choices.specs.State.{Choices, Made, Moved}
 use Rattle.choices.specs.Tree.{mostChoices}
-use Rattle.choices.specs.State.{Invariant, Made, Moved, fresh}
-use Rattle.choices.proofs.Raising.{Seeking, seeking-all, turn-at, same-entry, raised-moved, ended-moved}
+use Rattle.choices.proofs.Raising.{Seeking, seeking-all, turn-at, raised-moved, ended-moved}
 use Rattle.lists.specs.Lent.{runBytes, lent}
 use Rattle.lists.proofs.Starting.{sound-long}
 use Rattle.lists.specs.Runs.{Whole, restarted}

@@ -10,10 +10,8 @@ use lib.Dec.{eqb}
 use mir.Val.{boolByte}
 use lib.ListN.{length, take, drop, getD, set, length-set, length-take, length-drop, replicate, length-replicate}
 use lib.Seq.{take-suc, take-suc-set, take-all, take-take, getD-take, getD-drop, drop-set-add, drop-set-lt, getD-set-same, getD-set-other}
-use Rattle.choices.specs.declared.Choices.{Choices}
-use Rattle.choices.specs.declared.list.Walk.{Walk}
+use Rattle.choices.specs.State.{Choices, view, fresh, Invariant, Made}
 use Rattle.choices.specs.Tree.{mostChoices}
-use Rattle.choices.specs.State.{View, view, fresh, Invariant, Made}
 use Rattle.lists.specs.Lent.{runBytes, lent}
 use Rattle.lists.specs.Runs.{Kept}
 

@@ -4,7 +4,7 @@ ghost use Prim.Native.Nat.{ℕ, _+_, _≤_, _<_};
 ghost use lib.ListN.{length, set};
 ghost use Rattle.choices.specs.Tree.{mostChoices};
 ghost use Rattle.choices.specs.State.{Made, Invariant, Moved};
-ghost use Rattle.choices.specs.Listing.{Runnable, listOf};
+ghost use Rattle.choices.specs.Listing.{Runnable, listHeld};
 ghost use Rattle.lists.specs.Lent.{runBytes, lent};
 ghost use Rattle.lists.specs.Runs.{Whole, Kept, restarted};
 use choices::list::Walk;
@@ -43,7 +43,7 @@ pub fn start(list: &[u8], grow: bool) -> [u8; RUN]
 // The same under the list of a walk.
 pub fn start_walk(walk: Walk, grow: bool) -> [u8; RUN]
     requires { ⌜ Runnable walk ⌝ }
-    ensures { λ r. ⌜ Made (listOf walk) grow (lent r) ⌝ }
+    ensures { λ r. ⌜ Made (listHeld walk) grow (lent r) ⌝ }
 {
     let entries = walk.entries;
     let len = walk.len;

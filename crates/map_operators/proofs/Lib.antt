@@ -1,3 +1,4 @@
+-- What the proofs of the operators on maps need; nobody else cites it.
 mod Pairs
 mod Halving
 mod Agreeing

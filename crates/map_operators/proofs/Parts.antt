@@ -4,7 +4,7 @@ use mathlib.Core.Bool.{Bool, true, false, cond}
 use mathlib.Core.Option.{Option, none as absent, some}
 use Prim.Native.Nat.{_≤_}
 use native.Mathlib.Omega.{arith}
-use Rattle.prelude.proofs.Absurd.{impossible}
+use Rattle.prelude.proofs.Absurd.{none-some}
 use Rattle.prelude.proofs.Truth.{cond-false, by-test}
 use Rattle.values.specs.Value.{Value, Items, none, more, everyOther, keys, size, sizes, Before, Ascending, PairedFrom, Paired}
 use Rattle.values.specs.Items.{same, lookup, enter}
@@ -12,10 +12,7 @@ use Rattle.values.proofs.Order.{same-equal, order-refl, higher-flip, same-true}
 use Rattle.values.proofs.Members.{by-order}
 use Rattle.values.proofs.Entries.{by-entries, before-nothing, lookup-first, lookup-none, lookup-here, lookup-before, lookup-enter, paired-enter, ascending-enter, same-entries}
 use Rattle.operators.specs.Gather.{enterAll}
-use Rattle.operator_laws.proofs.Entries.{paired-enterAll, ascending-enterAll, orElse, lookup-enterAll}
-
-clash-free : {X : Type 0} {o : Option Value} {v : Value} → o ≡ absent → o ≡ some v → X
-clash-free e f = impossible cc
+use Rattle.operator_laws.proofs.Entries.{paired-enterAll, ascending-enterAll, lookup-enterAll, firstSome}
 
 -- ---- parts
 
@@ -28,7 +25,7 @@ part-rest : (k v l w : Value) (us vs : Items) → Paired us → Before k (keys u
 unfolding Part
 part-rest k v l w us vs p b i f x y e =
     by-test (same x k)
-    (λ s. clash-free (ap (λ (z : Value). lookup z us) (same-true x k s) ∙ before-nothing k us p b) e)
+    (λ s. none-some (ap (λ (z : Value). lookup z us) (same-true x k s) ∙ before-nothing k us p b) e)
     (λ s.
     sym (cond-false (same x l) (some w) (lookup x vs) (ap (same x) (sym i) ∙ s)) ∙ sym (lookup-first x l w vs)
     ∙ f x y (lookup-first x k v us ∙ cond-false (same x k) (some v) (lookup x us) s ∙ e))
@@ -37,7 +34,7 @@ part-rest k v l w us vs p b i f x y e =
 part-past : (l w : Value) (us vs : Items) → lookup l us ≡ absent → Part us (more l (more w vs)) → Part us vs
 unfolding Part
 part-past l w us vs a f x y e =
-    by-test (same x l) (λ s. clash-free (ap (λ (z : Value). lookup z us) (same-true x l s) ∙ a) e)
+    by-test (same x l) (λ s. none-some (ap (λ (z : Value). lookup z us) (same-true x l s) ∙ a) e)
     (λ s. sym (cond-false (same x l) (some w) (lookup x vs) s) ∙ sym (lookup-first x l w vs) ∙ f x y e)
 
 Less : Items → Items → Type 0
@@ -49,12 +46,12 @@ unfolding Less Part everyOther Ascending PairedFrom size
 sizes-part us vs p q =
     by-entries (λ (vs : Items). (us : Items) → Paired us → Less us vs)
     (by-entries (λ (us : Items). Less us none) (λ a b f. omega arith)
-    (λ k v us p r a b f. clash-free (lookup-none k) (f k v (lookup-here k k v us (order-refl k)))))
+    (λ k v us p r a b f. none-some (lookup-none k) (f k v (lookup-here k k v us (order-refl k)))))
     (λ l w vs q r.
     by-entries (λ (us : Items). Less us (more l (more w vs))) (λ a b f. omega arith)
     (λ k v us p r′ a b f.
     let here = f k v (lookup-here k k v us (order-refl k)) in
-    by-order k l (λ o. clash-free (lookup-before k l w vs q (b .0) o) here)
+    by-order k l (λ o. none-some (lookup-before k l w vs q (b .0) o) here)
     (λ o.
     let i : k ≡ l = same-equal k l o in
     let g = lookup-here k l w vs o in
@@ -73,7 +70,7 @@ pub sizes-entered : (vs ws : Items) → Paired vs → Paired ws → Ascending (k
 unfolding Less Part
 sizes-entered vs ws p q a b =
     sizes-part ws (enterAll vs ws) q (paired-enterAll vs ws p q) b (ascending-enterAll vs ws p q a)
-    (λ x y e. lookup-enterAll x vs ws p q b ∙ ap (λ (o : Option Value). orElse o (lookup x vs)) e)
+    (λ x y e. lookup-enterAll x vs ws p q b ∙ ap (λ (o : Option Value). firstSome o (lookup x vs)) e)
 
 -- ---- the first of the entries that are entered into
 
@@ -87,8 +84,8 @@ module _ (k v : Value) (vs ws : Items) (p : Paired vs) (q : Paired ws) (a : Asce
   rest-ascending = a .1
 
   -- at each key: what the second has there, or the first entry, or those after it
-  both : (x : Value) → lookup x (enterAll (more k (more v vs)) ws) ≡ orElse (lookup x ws) (cond (same x k) (some v) (lookup x vs))
-  both x = lookup-enterAll x (more k (more v vs)) ws first-paired q b ∙ ap (orElse (lookup x ws)) (lookup-first x k v vs)
+  both : (x : Value) → lookup x (enterAll (more k (more v vs)) ws) ≡ firstSome (lookup x ws) (cond (same x k) (some v) (lookup x vs))
+  both x = lookup-enterAll x (more k (more v vs)) ws first-paired q b ∙ ap (firstSome (lookup x ws)) (lookup-first x k v vs)
 
   -- a new key goes into the second
   pub entered-new : lookup k ws ≡ absent → enterAll (more k (more v vs)) ws ≡ enterAll vs (enter k v ws)
@@ -100,10 +97,10 @@ module _ (k v : Value) (vs ws : Items) (p : Paired vs) (q : Paired ws) (a : Asce
       (λ x.
       both x
       ∙ go (same x k) (lookup x ws) (lookup x vs) (λ s. ap (λ (z : Value). lookup z ws) (same-true x k s) ∙ n)
-      ∙ sym (lookup-enterAll x vs (enter k v ws) p pe ae ∙ ap (λ (o : Option Value). orElse o (lookup x vs)) (lookup-enter x k v ws q)))
+      ∙ sym (lookup-enterAll x vs (enter k v ws) p pe ae ∙ ap (λ (o : Option Value). firstSome o (lookup x vs)) (lookup-enter x k v ws q)))
     where
-      go : (t : Bool) (o r : Option Value) → (t ≡ true → o ≡ absent) → orElse o (cond t (some v) r) ≡ orElse (cond t (some v) o) r
-      go true o r f = ap (λ (o : Option Value). orElse o (some v)) (f refl)
+      go : (t : Bool) (o r : Option Value) → (t ≡ true → o ≡ absent) → firstSome o (cond t (some v) r) ≡ firstSome (cond t (some v) o) r
+      go true o r f = ap (λ (o : Option Value). firstSome o (some v)) (f refl)
       go false o r f = refl
 
   -- a key that is there leaves the second as it is
@@ -114,8 +111,8 @@ module _ (k v : Value) (vs ws : Items) (p : Paired vs) (q : Paired ws) (a : Asce
       (λ x.
       both x ∙ go (same x k) (lookup x ws) (lookup x vs) (λ s. ap (λ (z : Value). lookup z ws) (same-true x k s) ∙ n) ∙ sym (lookup-enterAll x vs ws p q b))
     where
-      go : (t : Bool) (o r : Option Value) → (t ≡ true → o ≡ some w) → orElse o (cond t (some v) r) ≡ orElse o r
-      go true o r f = ap (λ (o : Option Value). orElse o (some v)) (f refl) ∙ sym (ap (λ (o : Option Value). orElse o r) (f refl))
+      go : (t : Bool) (o r : Option Value) → (t ≡ true → o ≡ some w) → firstSome o (cond t (some v) r) ≡ firstSome o r
+      go true o r f = ap (λ (o : Option Value). firstSome o (some v)) (f refl) ∙ sym (ap (λ (o : Option Value). firstSome o r) (f refl))
       go false o r f = refl
 
 -- entering into nothing
@@ -123,8 +120,8 @@ pub entered-none : (ws : Items) → Paired ws → Ascending (keys ws) → enterA
 unfolding everyOther Ascending PairedFrom
 entered-none ws q b =
     same-entries (enterAll none ws) ws (paired-enterAll none ws tt q) q (ascending-enterAll none ws tt q tt) b
-    (λ x. lookup-enterAll x none ws tt q b ∙ ap (orElse (lookup x ws)) (lookup-none x) ∙ go (lookup x ws))
+    (λ x. lookup-enterAll x none ws tt q b ∙ ap (firstSome (lookup x ws)) (lookup-none x) ∙ go (lookup x ws))
   where
-    go : (o : Option Value) → orElse o absent ≡ o
+    go : (o : Option Value) → firstSome o absent ≡ o
     go absent = refl
     go (some v) = refl

@@ -1,2 +1,2 @@
--- What the operators on maps ask and promise. Cited by operations.
+-- What the operators on maps ask and promise, for the contracts of this crate alone.
 pub mod Contract

@@ -17,12 +17,12 @@ use Rattle.parts.specs.Part.{PartIs, PartHeld}
 use Rattle.parts.specs.Contract.{KindOfPart, CollectionHeld, CountOfPart}
 use Rattle.parts.specs.Mask.{Full}
 use Rattle.parts.proofs.Laws.{part-well-formed}
-use Rattle.parts.specs.Chosen.{splits-length, cuts-length}
+use Rattle.parts.specs.Laws.Chosen.{splits-length, cuts-length}
 use Rattle.patterns.specs.Ways.{splits, cuts, orders}
-use Rattle.patterns.specs.Pattern.{listOf, itemsOf, contents, tooLarge}
+use Rattle.patterns.specs.Pattern.{listOf, itemsOf, contents, isTooLarge}
 use Rattle.patterns.specs.Laws.Matched.{items-list, list-items}
 use Rattle.patterns.specs.Laws.Plain.{count-list}
-use Rattle.patterns.specs.Nodes.{collectionOf, isHalved, pair, meetings, isLarge}
+use Rattle.patterns.specs.Nodes.{collectionOf, isHalved, meetings, isLarge, bothHalves}
 use Rattle.patterns.specs.Laws.Orders.{factorial, orders-length}
 use Rattle.matching.specs.declared.nodes.Meeting.the-variants.{Unfit, Large, Ways}
 use Rattle.matching.specs.Node.{MeetsAs, Meets}
@@ -73,7 +73,7 @@ module _ (c n : ℕ) (v : Value) where
   pub none-meets : 36 ≤ c → c ≤ 40 → contents (collectionOf c) v ≡ absent → MeetsAs c n v Unfit
   none-meets low high e = go (isHalved c) refl
     where
-      large : (k : Kind) → contents k v ≡ absent → tooLarge k (contents k v) ≡ false
+      large : (k : Kind) → contents k v ≡ absent → isTooLarge k (contents k v) ≡ false
       large set f = rw f
       large sequence f = rw f
       large mapping f = rw f
@@ -84,10 +84,10 @@ module _ (c n : ℕ) (v : Value) where
       go false f = (rw f, rw (f, e))
 
   module _ (vs : List Value) where
-    pub meets-splits : c ≡ 38 → contents set v ≡ some vs → (meetings c n v ≡ map (pair set) (splits vs)) × (isLarge c v ≡ ltb 7 (length vs))
+    pub meets-splits : c ≡ 38 → contents set v ≡ some vs → (meetings c n v ≡ map (bothHalves set) (splits vs)) × (isLarge c v ≡ ltb 7 (length vs))
     meets-splits e f = (rw (e, f), rw (e, f))
 
-    pub meets-cuts : c ≡ 40 → contents sequence v ≡ some vs → (meetings c n v ≡ map (pair sequence) (cuts vs)) × (isLarge c v ≡ false)
+    pub meets-cuts : c ≡ 40 → contents sequence v ≡ some vs → (meetings c n v ≡ map (bothHalves sequence) (cuts vs)) × (isLarge c v ≡ false)
     meets-cuts e f = (rw (e, f), rw (e, f))
 
     pub meets-orders : c ≡ 37 → contents set v ≡ some vs → (meetings c n v ≡ cond (eqb n (length vs)) (orders vs) []) × (isLarge c v ≡ false)
@@ -138,7 +138,7 @@ module _ (c n : ℕ) (s : List ℕ) (p : Part) (low : 36 ≤ c) (high : c ≤ 40
           let q = counts v h in
           let a = meets-splits c n v (w .items) e f in
           let len : length (meetings c n v) ≡ m + 1 =
-          ap length (a .0) ∙ length-map (splits (w .items)) (pair set) ∙ splits-length (w .items) ∙ ap (λ (x : ℕ). 2 ^ x) (sym q) ∙ sym (full .power) in
+          ap length (a .0) ∙ length-map (splits (w .items)) (bothHalves set) ∙ splits-length (w .items) ∙ ap (λ (x : ℕ). 2 ^ x) (sym q) ∙ sym (full .power) in
           (a .1 ∙ le-ltb 7 (length (w .items)) (omega (arith, q)), len, omega arith, omega (arith, full .small))
 
       pub by-cuts : c ≡ 40 → PartHeld s p → Meets c n s p (Ways (count + 1))
@@ -148,7 +148,7 @@ module _ (c n : ℕ) (s : List ℕ) (p : Part) (low : 36 ≤ c) (high : c ≤ 40
           let q = counts v h in
           let a = meets-cuts c n v (w .items) e f in
           let len : length (meetings c n v) ≡ count + 1 =
-          ap length (a .0) ∙ length-map (cuts (w .items)) (pair sequence) ∙ cuts-length (w .items) ∙ omega (arith, q) in
+          ap length (a .0) ∙ length-map (cuts (w .items)) (bothHalves sequence) ∙ cuts-length (w .items) ∙ omega (arith, q) in
           (a .1, len, omega arith, omega (arith, count-few held))
 
       module _ (not38 : c ≡ 38 → ⊥) (not40 : c ≡ 40 → ⊥) where

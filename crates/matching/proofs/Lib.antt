@@ -1,4 +1,4 @@
--- What the proofs of the functions cite, and those of forming and splitting.
+-- What the proofs of the functions need; splitting, forming and bindings cite it too.
 pub mod Placing
 pub mod Counting
 pub mod Piecing

@@ -21,8 +21,9 @@ use Rattle.values.proofs.Records.{one-value, holds, word-kind}
 use Rattle.values.specs.Contract.{OfKind}
 use Rattle.tables.specs.Record.{named, field, booleanOf, integerOf, headOf, size, shape}
 use Rattle.tables.specs.Table.{recordAt, kindAt}
-use Rattle.tables.specs.Accepted.{records, lower, fit-least}
-use Rattle.tables.specs.Laws.{Lower}
+use Rattle.tables.specs.Accepted.{records}
+use Rattle.tables.specs.Laws.Accepted.{lower, fit-least}
+use Rattle.tables.specs.Laws.Below.{Lower}
 use Rattle.tables.specs.Reading.{HasField}
 use Rattle.parts.specs.declared.Part.{Part}
 use Rattle.parts.specs.Part.{PartIs, PartHeld}
@@ -30,7 +31,7 @@ use Rattle.parts.specs.Contract.{KindOfPart}
 use Rattle.parts.proofs.Laws.{whole-of}
 use Rattle.patterns.specs.Pattern.{literal}
 use Rattle.patterns.specs.Read.{patternAt}
-use Rattle.patterns.specs.Nodes.{pattern-at, is-boolean, is-integer}
+use Rattle.patterns.specs.Laws.Nodes.{pattern-at, is-boolean-literal, is-integer-literal}
 use Rattle.matching.specs.Node.{LiteralHeld, LiteralIs}
 
 -- a part of a kind below 3 is a whole record
@@ -84,14 +85,14 @@ module _ (table index : List ℕ) (p : ℕ) (h : LiteralHeld table index p) wher
   pub is-truth : kindAt (records table) p ≡ 34 → (w : Value) → patternAt (records table) p ≡ literal w → w ≡ boolean (booleanOf (recordAt (records table) p))
   is-truth e w f =
       let g : literal (boolean (booleanOf (recordAt (records table) p))) ≡ literal w =
-      sym (pattern-at (records table) low p within ∙ is-boolean (recordAt (records table) p) (map (patternAt (records table)) (named (recordAt (records table) p))) e) ∙ f in
+      sym (pattern-at (records table) low p within ∙ is-boolean-literal (recordAt (records table) p) (map (patternAt (records table)) (named (recordAt (records table) p))) e) ∙ f in
       cc
 
   pub is-whole : (kindAt (records table) p ≡ 34 → ⊥) → (w : Value) → patternAt (records table) p ≡ literal w → w ≡ integer (integerOf (recordAt (records table) p))
   is-whole d w f =
       let e : kindAt (records table) p ≡ 35 = omega (arith, h .low, h .high, d) in
       let g : literal (integer (integerOf (recordAt (records table) p))) ≡ literal w =
-      sym (pattern-at (records table) low p within ∙ is-integer (recordAt (records table) p) (map (patternAt (records table)) (named (recordAt (records table) p))) e) ∙ f in
+      sym (pattern-at (records table) low p within ∙ is-integer-literal (recordAt (records table) p) (map (patternAt (records table)) (named (recordAt (records table) p))) e) ∙ f in
       cc
 
   head-one : kindAt (records table) p ≡ 34 → size (headOf (recordAt (records table) p)) ≡ 1

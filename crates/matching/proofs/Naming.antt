@@ -23,11 +23,11 @@ use Rattle.patterns.specs.Members.{Alike}
 use Rattle.patterns.specs.Binding.{Cell, free, is, clash, Binding, names, nothing, only, cellOf, agree, merge, consistent, withEach, orderCells}
 use Rattle.patterns.specs.Pattern.{Pattern, name, any, literal, matches}
 use Rattle.patterns.specs.Laws.Matched.{merge-sized, only-sized}
-use Rattle.patterns.specs.Laws.Merging.{true-false}
+use Rattle.patterns.specs.Laws.Merging.{agree-free}
+use Rattle.prelude.proofs.Absurd.{true-false}
 use Rattle.patterns.specs.Laws.Together.{Fine, with-only}
-use Rattle.patterns.specs.Nodes.{is-name, is-any}
+use Rattle.patterns.specs.Laws.Nodes.{is-name, is-any}
 use Rattle.patterns.specs.Read.{Readable, patternAt}
-use Rattle.matching.specs.declared.leaves.Match.{Match}
 use Rattle.matching.specs.Leaf.{Stands, Standing, Went, Named, LeafTold}
 use Rattle.matching.specs.Node.{LiteralHeld, LiteralIs, innerOf}
 use Rattle.matching.proofs.Records.{by-record, is-literal}
@@ -74,19 +74,14 @@ clash-at a x l e = go (consistent a) refl
 cell-fine : (s : List ℕ) (p : Part) (c : Cell) → CellIs s p c → isFine c ≡ true
 cell-fine s p c h = ⊎-elim (λ w. ap isFine (w .1)) (λ w. ap isFine (w .1)) h
 
-pub agree-free : (c : Cell) → agree c free ≡ c
-agree-free free = refl
-agree-free (is v) = refl
-agree-free clash = refl
-
 unlike : (o : Order) → (o ≡ Same → ⊥) → (w : Value) → isFine (cond (isSame o) (is w) clash) ≡ false
 unlike Lower f w = refl
 unlike Same f w = absurd (f refl)
 unlike Higher f w = refl
 
 -- what a match stands for has no clash
-pub stands-fine : (s : List ℕ) (m : Match) (b : Binding) → Stands s m b → Fine b
-stands-fine s m b h = record { sized = h .binding-sized; agrees = consistent-from b (λ x l. cell-fine s (unpacked (getD (m .words) x 0)) (cellOf b x) (h .cells x (omega (arith, h .binding-sized)))) }
+pub stands-fine : (s : List ℕ) (m : List ℕ) (b : Binding) → Stands s m b → Fine b
+stands-fine s m b h = record { sized = h .binding-sized; agrees = consistent-from b (λ x l. cell-fine s (unpacked (getD m x 0)) (cellOf b x) (h .cells x (omega (arith, h .binding-sized)))) }
 
 same-alike : (xs ys : List Binding) → xs ≡ ys → Alike xs ys
 same-alike xs ys e c = (λ i. subst (In c) e i, λ i. subst (In c) (sym e) i)
@@ -115,14 +110,14 @@ module _ (s : List ℕ) (x : ℕ) (lt : x < names) (v : Value) (b : Binding) (si
   there n l f = sym (at n ∙ ap (agree (cellOf b n)) (only-there n l f) ∙ agree-free (cellOf b n))
 
   -- where both stand, they agree
-  went : (r : Match) → Stands s r (merge b (only x v)) → Went s b (name x) v r
+  went : (r : List ℕ) → Stands s r (merge b (only x v)) → Went s b (name x) v r true
   went r h = record {
     good = λ e. (
       merge b (only x v),
       same-alike (withEach b (matches (name x) v)) (merge b (only x v) ∷ []) (with-name x v b ∙ ap (λ (t : Bool). cond t (merge b (only x v) ∷ []) []) (stands-fine s r (merge b (only x v)) h .agrees)),
       h,
     );
-    bad = λ e. true-false (sym (h .fit) ∙ e);
+    bad = λ e. true-false e;
   }
 
 pub part-word : (s : List ℕ) (word : ℕ) → PartHeld s (unpacked word) → WordHeld s word
@@ -132,77 +127,75 @@ part-word s word h = record {
   blank = λ z. absurd (⊎-elim (λ u. omega (arith, u .0)) (λ u. ⊎-elim (λ y. omega (arith, y .0)) (λ y. omega (arith, y .0)) u) (h .here));
 }
 
-module _ (s : List ℕ) (x : ℕ) (lt : x < names) (word : ℕ) (m : Match) where
+module _ (s : List ℕ) (x : ℕ) (lt : x < names) (word : ℕ) (m : List ℕ) where
   -- a name that has no value is bound
-  pub binds : getD (m .words) x 0 ≡ 0 → (r : Match) → r .fits ≡ true → r .words ≡ set (m .words) x word → Named s x word m r
-  binds e r rf re v b hp h = went s x lt v b (h .binding-sized) r (record {
-    fit = rf;
-    sized = ap length re ∙ length-set (m .words) x word ∙ h .sized;
+  pub binds : getD m x 0 ≡ 0 → (r : List ℕ) → r ≡ set m x word → Named s x word m r true
+  binds e r re v b hp h = went s x lt v b (h .binding-sized) r (record {
+    sized = ap length re ∙ length-set m x word ∙ h .sized;
     binding-sized = both-sized s x lt v b (h .binding-sized);
     cells = λ n l. subst (λ (q : List ℕ). CellIs s (unpacked (getD q n 0)) (cellOf (merge b (only x v)) n)) (sym re) (cell n l (ℕ-discrete n x));
     blank = λ n l. subst (λ (q : List ℕ). getD q n 0 % 4 ≡ 0 → getD q n 0 ≡ 0) (sym re) (blank n l (ℕ-discrete n x));
   })
     where
-      inside : x < length (m .words)
+      inside : x < length m
       inside = omega (arith, h .sized)
 
       was-free : cellOf b x ≡ free
       was-free = ⊎-elim (λ w. w .1) (λ w. absurd (⊎-elim (λ u. omega (arith, u .0)) (λ u. ⊎-elim (λ z. omega (arith, z .0)) (λ z. omega (arith, z .0)) u) (w .2))) (h .cells x lt)
 
-      cell : (n : ℕ) → n < names → Dec (n ≡ x) → CellIs s (unpacked (getD (set (m .words) x word) n 0)) (cellOf (merge b (only x v)) n)
+      cell : (n : ℕ) → n < names → Dec (n ≡ x) → CellIs s (unpacked (getD (set m x word) n 0)) (cellOf (merge b (only x v)) n)
       cell n l (yes q) =
-          let d : getD (set (m .words) x word) n 0 ≡ word = ap (λ (k : ℕ). getD (set (m .words) x word) k 0) q ∙ getD-set-same (m .words) x word 0 inside in
+          let d : getD (set m x word) n 0 ≡ word = ap (λ (k : ℕ). getD (set m x word) k 0) q ∙ getD-set-same m x word 0 inside in
           let c : cellOf (merge b (only x v)) n ≡ is v = ap (cellOf (merge b (only x v))) q ∙ at s x lt v b (h .binding-sized) x ∙ ap₂ agree was-free (only-here s x lt v b (h .binding-sized)) in
           inr (v, c, subst (λ (k : ℕ). PartIs s (unpacked k) v) (sym d) hp)
       cell n l (no q) =
-          let d : getD (set (m .words) x word) n 0 ≡ getD (m .words) n 0 = getD-set-other (m .words) x n word 0 q in
+          let d : getD (set m x word) n 0 ≡ getD m n 0 = getD-set-other m x n word 0 q in
           subst (λ (k : ℕ). CellIs s (unpacked k) (cellOf (merge b (only x v)) n)) (sym d)
-          (subst (CellIs s (unpacked (getD (m .words) n 0))) (there s x lt v b (h .binding-sized) n l q) (h .cells n l))
+          (subst (CellIs s (unpacked (getD m n 0))) (there s x lt v b (h .binding-sized) n l q) (h .cells n l))
 
       how-some : word % 4 ≡ 0 → ⊥
       how-some z = ⊎-elim (λ u. omega (arith, u .0)) (λ u. ⊎-elim (λ y. omega (arith, y .0)) (λ y. omega (arith, y .0)) u) hp
 
-      blank : (n : ℕ) → n < names → Dec (n ≡ x) → getD (set (m .words) x word) n 0 % 4 ≡ 0 → getD (set (m .words) x word) n 0 ≡ 0
+      blank : (n : ℕ) → n < names → Dec (n ≡ x) → getD (set m x word) n 0 % 4 ≡ 0 → getD (set m x word) n 0 ≡ 0
       blank n l (yes q) z =
-          let d : getD (set (m .words) x word) n 0 ≡ word = ap (λ (k : ℕ). getD (set (m .words) x word) k 0) q ∙ getD-set-same (m .words) x word 0 inside in
+          let d : getD (set m x word) n 0 ≡ word = ap (λ (k : ℕ). getD (set m x word) k 0) q ∙ getD-set-same m x word 0 inside in
           absurd (how-some (ap (λ (k : ℕ). k % 4) (sym d) ∙ z))
       blank n l (no q) z =
-          let d : getD (set (m .words) x word) n 0 ≡ getD (m .words) n 0 = getD-set-other (m .words) x n word 0 q in
+          let d : getD (set m x word) n 0 ≡ getD m n 0 = getD-set-other m x n word 0 q in
           d ∙ h .blank n l (ap (λ (k : ℕ). k % 4) (sym d) ∙ z)
 
   -- a name that has one
-  pub word-held : Standing s m → WordHeld s (getD (m .words) x 0)
+  pub word-held : Standing s m → WordHeld s (getD m x 0)
   word-held (b, h) = record { cell = cellOf b x; is = h .cells x lt; blank = h .blank x lt }
 
-  module _ (f : getD (m .words) x 0 ≡ 0 → ⊥) (o : Order) (c : OrderedWords s (getD (m .words) x 0) word o) where
+  module _ (f : getD m x 0 ≡ 0 → ⊥) (o : Order) (c : OrderedWords s (getD m x 0) word o) where
     has : (b : Binding) → Stands s m b → (w : Value) × (cellOf b x ≡ is w)
     has b h = ⊎-elim (λ z. absurd (f (h .blank x lt (z .0)))) (λ z. (z .0, z .1)) (h .cells x lt)
 
     met : (v : Value) (b : Binding) (hp : PartIs s (unpacked word) v) (h : Stands s m b) → cellOf (merge b (only x v)) x ≡ cond (isSame o) (is (has b h .0)) clash
     met v b hp h =
         let w = has b h in
-        let d : o ≡ orderCells (is (w .0)) (is v) = c (is (w .0)) (is v) (subst (CellIs s (unpacked (getD (m .words) x 0))) (w .1) (h .cells x lt)) (inr (v, refl, hp)) in
+        let d : o ≡ orderCells (is (w .0)) (is v) = c (is (w .0)) (is v) (subst (CellIs s (unpacked (getD m x 0))) (w .1) (h .cells x lt)) (inr (v, refl, hp)) in
         at s x lt v b (h .binding-sized) x ∙ ap₂ agree (w .1) (only-here s x lt v b (h .binding-sized)) ∙ ap (λ (k : Order). cond (isSame k) (is (w .0)) clash) (sym d)
 
-    pub agrees : o ≡ Same → Named s x word m m
+    pub agrees : o ≡ Same → Named s x word m m true
     agrees q v b hp h = went s x lt v b (h .binding-sized) m (record {
-      fit = h .fit;
       sized = h .sized;
       binding-sized = both-sized s x lt v b (h .binding-sized);
       cells = λ n l. cell n l (ℕ-discrete n x);
       blank = h .blank;
     })
       where
-        cell : (n : ℕ) → n < names → Dec (n ≡ x) → CellIs s (unpacked (getD (m .words) n 0)) (cellOf (merge b (only x v)) n)
+        cell : (n : ℕ) → n < names → Dec (n ≡ x) → CellIs s (unpacked (getD m n 0)) (cellOf (merge b (only x v)) n)
         cell n l (yes d) =
             let w = has b h in
             let e : cellOf (merge b (only x v)) n ≡ cellOf b n = ap (cellOf (merge b (only x v))) d ∙ met v b hp h ∙ ap (λ (k : Order). cond (isSame k) (is (w .0)) clash) q ∙ sym (w .1) ∙ ap (cellOf b) (sym d) in
-            subst (CellIs s (unpacked (getD (m .words) n 0))) (sym e) (h .cells n l)
-        cell n l (no d) = subst (CellIs s (unpacked (getD (m .words) n 0))) (there s x lt v b (h .binding-sized) n l d) (h .cells n l)
+            subst (CellIs s (unpacked (getD m n 0))) (sym e) (h .cells n l)
+        cell n l (no d) = subst (CellIs s (unpacked (getD m n 0))) (there s x lt v b (h .binding-sized) n l d) (h .cells n l)
 
-    pub clashes : (o ≡ Same → ⊥) → (r : Match) → r .fits ≡ false → Named s x word m r
-    clashes q r rf v b hp h = record {
-      good = λ e. true-false (sym e ∙ rf);
+    pub clashes : (o ≡ Same → ⊥) → Named s x word m m false
+    clashes q v b hp h = record {
+      good = λ e. true-false (sym e);
       bad = λ e.
           with-name x v b ∙ ap (λ (t : Bool). cond t (merge b (only x v) ∷ []) [])
           (clash-at (merge b (only x v)) x (omega (arith, both-sized s x lt v b (h .binding-sized))) (ap isFine (met v b hp h) ∙ unlike o q (has b h .0)));
@@ -210,9 +203,8 @@ module _ (s : List ℕ) (x : ℕ) (lt : x < names) (word : ℕ) (m : Match) wher
 
 -- ---- nothing found
 
-pub nothing-stands : (s : List ℕ) → Stands s (record { words = replicate names 0; fits = true }) nothing
+pub nothing-stands : (s : List ℕ) → Stands s (replicate names 0) nothing
 nothing-stands s = record {
-  fit = refl;
   sized = refl;
   binding-sized = refl;
   cells = λ n l. inl (ap (λ (k : ℕ). k % 4) (getD-replicate names n 0 0 l), getD-replicate names n free free l);
@@ -233,16 +225,16 @@ with-literal w v b h = go (same w v)
     go true = with-only b h
     go false = refl
 
-module _ (table index : List ℕ) (p : ℕ) (r : Readable table index p) (s : List ℕ) (word : ℕ) (m : Match) where
-  pub leaf-name : (x : ℕ) (g : Match) → kindAt (records table) p ≡ 32 → x ≡ nameOf (recordAt (records table) p) → Named s x word m g → LeafTold table p s word m g
-  leaf-name x g e n h v b q z = subst (λ (k : Pattern). Went s b k v g) (ap name n ∙ sym (by-record table index p r ∙ is-name (recordAt (records table) p) (innerOf table p) e)) (h v b q z)
+module _ (table index : List ℕ) (p : ℕ) (r : Readable table index p) (s : List ℕ) (word : ℕ) (m : List ℕ) where
+  pub leaf-name : (x : ℕ) (g : List ℕ) (t : Bool) → kindAt (records table) p ≡ 32 → x ≡ nameOf (recordAt (records table) p) → Named s x word m g t → LeafTold table p s word m g t
+  leaf-name x g t e n h v b q z = subst (λ (k : Pattern). Went s b k v g t) (ap name n ∙ sym (by-record table index p r ∙ is-name (recordAt (records table) p) (innerOf table p) e)) (h v b q z)
 
-  stays : (k : Pattern) (v : Value) (b : Binding) → withEach b (matches k v) ≡ b ∷ [] → Stands s m b → Went s b k v m
-  stays k v b e z = record { good = λ f. (b, same-alike (withEach b (matches k v)) (b ∷ []) e, z); bad = λ f. true-false (sym (z .fit) ∙ f) }
+  stays : (k : Pattern) (v : Value) (b : Binding) → withEach b (matches k v) ≡ b ∷ [] → Stands s m b → Went s b k v m true
+  stays k v b e z = record { good = λ f. (b, same-alike (withEach b (matches k v)) (b ∷ []) e, z); bad = λ f. true-false f }
 
-  pub leaf-any : kindAt (records table) p ≡ 33 → LeafTold table p s word m m
+  pub leaf-any : kindAt (records table) p ≡ 33 → LeafTold table p s word m m true
   leaf-any e v b q z =
-      subst (λ (k : Pattern). Went s b k v m) (sym (by-record table index p r ∙ is-any (recordAt (records table) p) (innerOf table p) e))
+      subst (λ (k : Pattern). Went s b k v m true) (sym (by-record table index p r ∙ is-any (recordAt (records table) p) (innerOf table p) e))
       (stays any v b (with-any v b (stands-fine s m b z)) z)
 
   module _ (h : LiteralHeld table index p) (part : Part) (pe : part ≡ unpacked word) (t : Bool) (l : LiteralIs table p s part t) where
@@ -252,8 +244,8 @@ module _ (table index : List ℕ) (p : ℕ) (r : Readable table index p) (s : Li
         let y : t ≡ same w v = l v w (subst (λ (k : Part). PartIs s k v) (sym pe) q) e in
         ap (λ (k : Pattern). withEach b (matches k v)) e ∙ with-literal w v b (stands-fine s m b z) ∙ ap (λ (u : Bool). cond u (b ∷ []) []) (sym y)
 
-    pub leaf-same : t ≡ true → LeafTold table p s word m m
-    leaf-same e v b q z = stays (patternAt (records table) p) v b (tells v b q z ∙ ap (λ (u : Bool). cond u (b ∷ []) []) e) z
-
-    pub leaf-other : t ≡ false → (g : Match) → g .fits ≡ false → LeafTold table p s word m g
-    leaf-other e g gf v b q z = record { good = λ f. true-false (sym f ∙ gf); bad = λ f. tells v b q z ∙ ap (λ (u : Bool). cond u (b ∷ []) []) e }
+    pub leaf-literal : LeafTold table p s word m m t
+    leaf-literal v b q z = record {
+      good = λ e. stays (patternAt (records table) p) v b (tells v b q z ∙ ap (λ (u : Bool). cond u (b ∷ []) []) e) z .good refl;
+      bad = λ e. tells v b q z ∙ ap (λ (u : Bool). cond u (b ∷ []) []) e;
+    }

@@ -10,6 +10,7 @@ use native.Mathlib.Omega.{arith}
 use lib.Dec.{eqb}
 use lib.ListN.{length, getD, length-map}
 use borrow.Author.Tests.{eqb-true, ltb-false}
+use Rattle.prelude.proofs.Lists.{map-at}
 use Rattle.values.specs.Value.{Kind, set, sequence, number, kindOf, Value, collection}
 use Rattle.values.specs.Place.{At}
 use Rattle.parts.specs.declared.Part.{Part}
@@ -17,18 +18,13 @@ use Rattle.parts.specs.declared.Halves.{Halves}
 use Rattle.parts.specs.Part.{PartIs}
 use Rattle.parts.specs.Contract.{ItemHeld, ItemOfPart, SplitHeld, SplitOf, CutHeld, CutOf}
 use Rattle.parts.proofs.Laws.{part-one}
-use Rattle.parts.specs.Chosen.{splits-length, cuts-length}
+use Rattle.parts.specs.Laws.Chosen.{splits-length, cuts-length}
 use Rattle.patterns.specs.Ways.{halves, splits, cuts, orders}
 use Rattle.patterns.specs.Pattern.{itemsOf, contents, leftOf, rightOf}
-use Rattle.patterns.specs.Nodes.{collectionOf, pair, meetings}
+use Rattle.patterns.specs.Nodes.{collectionOf, meetings, bothHalves}
 use Rattle.patterns.specs.Laws.Orders.{factorial, orders-length}
 use Rattle.matching.specs.Node.{Ordinal, PieceHeld, PieceOf}
 use Rattle.matching.proofs.Counting.{pick-true, Has, contents-other, contents-same, none-meets, meets-splits, meets-cuts, meets-orders, meets-items}
-
-pub map-at : {A B : Type 0} (f : A → B) (l : List A) (n : ℕ) (w : A) (e : B) → n < length l → getD (map f l) n e ≡ f (getD l n w)
-map-at f [] n w e h = absurd (omega arith)
-map-at f (x ∷ l) zero w e h = refl
-map-at f (x ∷ l) (suc n) w e h = map-at f l n w e (omega arith)
 
 -- some way there is only where the test is true
 picked-some : {A : Type 0} (t : Bool) (xs : List A) (d : ℕ) → d < length (cond t xs []) → (t ≡ true) × (d < length xs)
@@ -61,11 +57,11 @@ module _ (c n : ℕ) (s : List ℕ) (p : Part) (d i : ℕ) (h : PieceHeld c n s 
     has-set : contents set (h .value) ≡ some vs
     has-set = subst (λ (x : ℕ). contents (collectionOf x) (h .value) ≡ some vs) e (has-value .has)
 
-    splits-are : meetings c n (h .value) ≡ map (pair set) (splits vs)
+    splits-are : meetings c n (h .value) ≡ map (bothHalves set) (splits vs)
     splits-are = meets-splits c n (h .value) vs e has-set .0
 
     below-splits : d < length (splits vs)
-    below-splits = omega (arith, h .below, ap length splits-are, length-map (splits vs) (pair set))
+    below-splits = omega (arith, h .below, ap length splits-are, length-map (splits vs) (bothHalves set))
 
     pub split-held : SplitHeld s p d
     split-held = record {
@@ -75,51 +71,51 @@ module _ (c n : ℕ) (s : List ℕ) (p : Part) (d i : ℕ) (h : PieceHeld c n s 
       below = omega (arith, below-splits, splits-length vs);
     }
 
-    split-way : getD (meetings c n (h .value)) d [] ≡ pair set (getD (splits vs) d (halves [] []))
-    split-way = ap (λ (l : List (List Value)). getD l d []) splits-are ∙ map-at (pair set) (splits vs) d (halves [] []) [] below-splits
+    split-way : getD (meetings c n (h .value)) d [] ≡ bothHalves set (getD (splits vs) d (halves [] []))
+    split-way = ap (λ (l : List (List Value)). getD l d []) splits-are ∙ map-at (bothHalves set) (splits vs) d (halves [] []) [] below-splits
 
     module _ (r : Halves) (o : SplitOf s p d r) where
       pub split-left : i ≡ 0 → PieceOf c n s p d i (r .left)
       split-left f v z q =
           let g : getD (getD (meetings c n v) d []) i z ≡ leftOf set (getD (splits vs) d (halves [] [])) =
-          ap (λ (w : Value). getD (getD (meetings c n w) d []) i z) (same-value v q) ∙ ap (λ (l : List Value). getD l i z) split-way ∙ ap (λ (k : ℕ). getD (pair set (getD (splits vs) d (halves [] []))) k z) f in
+          ap (λ (w : Value). getD (getD (meetings c n w) d []) i z) (same-value v q) ∙ ap (λ (l : List Value). getD l i z) split-way ∙ ap (λ (k : ℕ). getD (bothHalves set (getD (splits vs) d (halves [] []))) k z) f in
           subst (PartIs s (r .left)) (sym g) (o .right vs (here set (rw e)) .left)
 
       pub split-right : (i ≡ 0 → ⊥) → PieceOf c n s p d i (r .right)
       split-right f v z q =
           let i1 : i ≡ 1 = omega (arith, h .two (rw e), h .within, f) in
           let g : getD (getD (meetings c n v) d []) i z ≡ rightOf set (getD (splits vs) d (halves [] [])) =
-          ap (λ (w : Value). getD (getD (meetings c n w) d []) i z) (same-value v q) ∙ ap (λ (l : List Value). getD l i z) split-way ∙ ap (λ (k : ℕ). getD (pair set (getD (splits vs) d (halves [] []))) k z) i1 in
+          ap (λ (w : Value). getD (getD (meetings c n w) d []) i z) (same-value v q) ∙ ap (λ (l : List Value). getD l i z) split-way ∙ ap (λ (k : ℕ). getD (bothHalves set (getD (splits vs) d (halves [] []))) k z) i1 in
           subst (PartIs s (r .right)) (sym g) (o .right vs (here set (rw e)) .right)
 
   module _ (e : c ≡ 40) where
     has-sequence : contents sequence (h .value) ≡ some vs
     has-sequence = subst (λ (x : ℕ). contents (collectionOf x) (h .value) ≡ some vs) e (has-value .has)
 
-    cuts-are : meetings c n (h .value) ≡ map (pair sequence) (cuts vs)
+    cuts-are : meetings c n (h .value) ≡ map (bothHalves sequence) (cuts vs)
     cuts-are = meets-cuts c n (h .value) vs e has-sequence .0
 
     below-cuts : d < length (cuts vs)
-    below-cuts = omega (arith, h .below, ap length cuts-are, length-map (cuts vs) (pair sequence))
+    below-cuts = omega (arith, h .below, ap length cuts-are, length-map (cuts vs) (bothHalves sequence))
 
     pub cut-held : CutHeld s p d
     cut-held = record { items = vs; here = here sequence (rw e); below = omega (arith, below-cuts, cuts-length vs) }
 
-    cut-way : getD (meetings c n (h .value)) d [] ≡ pair sequence (getD (cuts vs) d (halves [] []))
-    cut-way = ap (λ (l : List (List Value)). getD l d []) cuts-are ∙ map-at (pair sequence) (cuts vs) d (halves [] []) [] below-cuts
+    cut-way : getD (meetings c n (h .value)) d [] ≡ bothHalves sequence (getD (cuts vs) d (halves [] []))
+    cut-way = ap (λ (l : List (List Value)). getD l d []) cuts-are ∙ map-at (bothHalves sequence) (cuts vs) d (halves [] []) [] below-cuts
 
     module _ (r : Halves) (o : CutOf s p d r) where
       pub cut-left : i ≡ 0 → PieceOf c n s p d i (r .left)
       cut-left f v z q =
           let g : getD (getD (meetings c n v) d []) i z ≡ leftOf sequence (getD (cuts vs) d (halves [] [])) =
-          ap (λ (w : Value). getD (getD (meetings c n w) d []) i z) (same-value v q) ∙ ap (λ (l : List Value). getD l i z) cut-way ∙ ap (λ (k : ℕ). getD (pair sequence (getD (cuts vs) d (halves [] []))) k z) f in
+          ap (λ (w : Value). getD (getD (meetings c n w) d []) i z) (same-value v q) ∙ ap (λ (l : List Value). getD l i z) cut-way ∙ ap (λ (k : ℕ). getD (bothHalves sequence (getD (cuts vs) d (halves [] []))) k z) f in
           subst (PartIs s (r .left)) (sym g) (o .right vs (here sequence (rw e)) .left)
 
       pub cut-right : (i ≡ 0 → ⊥) → PieceOf c n s p d i (r .right)
       cut-right f v z q =
           let i1 : i ≡ 1 = omega (arith, h .two (rw e), h .within, f) in
           let g : getD (getD (meetings c n v) d []) i z ≡ rightOf sequence (getD (cuts vs) d (halves [] [])) =
-          ap (λ (w : Value). getD (getD (meetings c n w) d []) i z) (same-value v q) ∙ ap (λ (l : List Value). getD l i z) cut-way ∙ ap (λ (k : ℕ). getD (pair sequence (getD (cuts vs) d (halves [] []))) k z) i1 in
+          ap (λ (w : Value). getD (getD (meetings c n w) d []) i z) (same-value v q) ∙ ap (λ (l : List Value). getD l i z) cut-way ∙ ap (λ (k : ℕ). getD (bothHalves sequence (getD (cuts vs) d (halves [] []))) k z) i1 in
           subst (PartIs s (r .right)) (sym g) (o .right vs (here sequence (rw e)) .right)
 
   -- ---- one item each

@@ -13,17 +13,19 @@ use Rattle.values.specs.Value.{Kind, set, sequence, map as mapping, tuple, Valu
 use Rattle.tables.specs.Laws.Kinds.{pattern-least, pattern-most}
 use Rattle.tables.specs.Record.{Record, named, operand, nameOf, shape, headOf, size, isKnown}
 use Rattle.tables.specs.Table.{recordAt, kindAt}
-use Rattle.tables.specs.Accepted.{records, lower, pattern-role, operand-lower, operand-sort, named-count, fit-least, fit-most, fit-known}
-use Rattle.tables.specs.Laws.{Lower}
+use Rattle.tables.specs.Accepted.{records}
+use Rattle.tables.specs.Laws.Accepted.{lower, pattern-role, operand-lower, operand-sort, named-count, fit-least, fit-most, fit-known}
+use Rattle.tables.specs.Laws.Below.{Lower}
 use Rattle.tables.specs.Reading.{HasField, HasOperand}
 use Rattle.parts.specs.declared.Part.{Part}
 use Rattle.patterns.specs.Ways.{Halves, orders}
-use Rattle.patterns.specs.Members.{at-in}
+use Rattle.prelude.proofs.Membership.{at-in}
 use Rattle.patterns.specs.Pattern.{Pattern, literal, arrangements, contents, met, split}
-use Rattle.patterns.specs.Laws.Merging.{true-false}
+use Rattle.prelude.proofs.Absurd.{true-false}
 use Rattle.patterns.specs.Laws.Orders.{order-length}
 use Rattle.patterns.specs.Read.{Readable, patternOf, patternAt}
-use Rattle.patterns.specs.Nodes.{collectionOf, isHalved, pair, meetings, is-boolean, is-integer, pattern-at}
+use Rattle.patterns.specs.Nodes.{collectionOf, isHalved, meetings, bothHalves}
+use Rattle.patterns.specs.Laws.Nodes.{is-boolean-literal, is-integer-literal, pattern-at}
 use Rattle.matching.specs.declared.nodes.Meeting.{Meeting}
 use Rattle.matching.specs.Node.{LiteralHeld, Meets, innerOf, metBy}
 
@@ -89,8 +91,8 @@ module _ (table index : List ℕ) (p : ℕ) (r : Readable table index p) where
   is-literal h = go (eqb (kindAt (records table) p) 34) refl
     where
       go : (t : Bool) → eqb (kindAt (records table) p) 34 ≡ t → (w : Value) × (patternAt (records table) p ≡ literal w)
-      go true e = (_, by-record ∙ is-boolean (recordAt (records table) p) (innerOf table p) (eqb-true _ _ e))
-      go false e = (_, by-record ∙ is-integer (recordAt (records table) p) (innerOf table p) (omega (arith, h .low, h .high, eqb-false (kindAt (records table) p) 34 e)))
+      go true e = (_, by-record ∙ is-boolean-literal (recordAt (records table) p) (innerOf table p) (eqb-true _ _ e))
+      go false e = (_, by-record ∙ is-integer-literal (recordAt (records table) p) (innerOf table p) (omega (arith, h .low, h .high, eqb-false (kindAt (records table) p) 34 e)))
 
   -- ---- parts
 
@@ -140,7 +142,7 @@ met-length k n (some vs) d h =
     let (e, l, g) = picked-some (eqb n (length vs)) (arrangements k vs) d [] h in
     ap length g ∙ arranged-length k vs d l ∙ sym (eqb-true n (length vs) e)
 
-pair-length : (k : Kind) (hs : List (Halves Value)) (d : ℕ) → d < length (map (pair k) hs) → length (getD (map (pair k) hs) d []) ≡ 2
+pair-length : (k : Kind) (hs : List (Halves Value)) (d : ℕ) → d < length (map (bothHalves k) hs) → length (getD (map (bothHalves k) hs) d []) ≡ 2
 pair-length k [] d h = absurd (omega arith)
 pair-length k (x ∷ hs) zero h = refl
 pair-length k (x ∷ hs) (suc d) h = pair-length k hs d (omega arith)
@@ -148,7 +150,7 @@ pair-length k (x ∷ hs) (suc d) h = pair-length k hs d (omega arith)
 pub meeting-length : (c n : ℕ) (v : Value) (d : ℕ) → (isHalved c ≡ true → n ≡ 2) → d < length (meetings c n v) → length (getD (meetings c n v) d []) ≡ n
 meeting-length c n v d two h = go (isHalved c) refl h
   where
-    go : (t : Bool) → isHalved c ≡ t → d < length (cond t (map (pair (collectionOf c)) (split (collectionOf c) (contents (collectionOf c) v))) (met (collectionOf c) n (contents (collectionOf c) v)))
-        → length (getD (cond t (map (pair (collectionOf c)) (split (collectionOf c) (contents (collectionOf c) v))) (met (collectionOf c) n (contents (collectionOf c) v))) d []) ≡ n
+    go : (t : Bool) → isHalved c ≡ t → d < length (cond t (map (bothHalves (collectionOf c)) (split (collectionOf c) (contents (collectionOf c) v))) (met (collectionOf c) n (contents (collectionOf c) v)))
+        → length (getD (cond t (map (bothHalves (collectionOf c)) (split (collectionOf c) (contents (collectionOf c) v))) (met (collectionOf c) n (contents (collectionOf c) v))) d []) ≡ n
     go true e l = pair-length (collectionOf c) (split (collectionOf c) (contents (collectionOf c) v)) d l ∙ sym (two e)
     go false e l = met-length (collectionOf c) n (contents (collectionOf c) v) d l

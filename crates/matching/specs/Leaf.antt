@@ -1,6 +1,6 @@
 -- A match in the making, as words for parts of values in a slice, and a pattern more.
 use mathlib.Core.Path.{_≡_}
-use mathlib.Core.Bool.{true, false}
+use mathlib.Core.Bool.{Bool, true, false}
 use mathlib.Core.List.{List, [], _∷_}
 use Prim.Native.Nat.{ℕ, _%_, _<_}
 use lib.ListN.{length, getD}
@@ -12,26 +12,25 @@ use Rattle.patterns.specs.Members.{Alike}
 use Rattle.patterns.specs.Binding.{Binding, names, cellOf, withEach}
 use Rattle.patterns.specs.Pattern.{Pattern, name, matches}
 use Rattle.patterns.specs.Read.{patternAt}
-use Rattle.matching.specs.declared.leaves.Match.{Match}
 
--- A match stands for the binding b.
-pub record Stands (s : List ℕ) (m : Match) (b : Binding) : Type 0 where
-  pub fit : m .fits ≡ true
-  pub sized : length (m .words) ≡ names
+-- The words stand for the binding b: a word for each name that has a value, 0 for the others.
+pub record Stands (s found : List ℕ) (b : Binding) : Type 0 where
+  pub sized : length found ≡ names
   pub binding-sized : length b ≡ names
-  pub cells : (x : ℕ) → x < names → CellIs s (unpacked (getD (m .words) x 0)) (cellOf b x)
-  pub blank : (x : ℕ) → x < names → getD (m .words) x 0 % 4 ≡ 0 → getD (m .words) x 0 ≡ 0
+  pub cells : (x : ℕ) → x < names → CellIs s (unpacked (getD found x 0)) (cellOf b x)
+  pub blank : (x : ℕ) → x < names → getD found x 0 % 4 ≡ 0 → getD found x 0 ≡ 0
 
-abbrev pub Standing : List ℕ → Match → Type 0
-Standing s m = (b : Binding) × Stands s m b
+abbrev pub Standing : List ℕ → List ℕ → Type 0
+Standing s found = (b : Binding) × Stands s found b
 
--- The pattern p met v: r stands for b with what p gives, which is one binding however often it is given; or nothing agrees with b.
-pub record Went (s : List ℕ) (b : Binding) (p : Pattern) (v : Value) (r : Match) : Type 0 where
-  pub good : r .fits ≡ true → (q : Binding) × Alike (withEach b (matches p v)) (q ∷ []) × Stands s r q
-  pub bad : r .fits ≡ false → withEach b (matches p v) ≡ []
+-- The pattern p met v. It agrees: the words now stand for b with what p gives, which is one binding however often it is given; or nothing
+-- agrees with b.
+pub record Went (s : List ℕ) (b : Binding) (p : Pattern) (v : Value) (after : List ℕ) (agrees : Bool) : Type 0 where
+  pub good : agrees ≡ true → (q : Binding) × Alike (withEach b (matches p v)) (q ∷ []) × Stands s after q
+  pub bad : agrees ≡ false → withEach b (matches p v) ≡ []
 
-abbrev pub Named : List ℕ → ℕ → ℕ → Match → Match → Type 0
-Named s x word m r = (v : Value) (b : Binding) → PartIs s (unpacked word) v → Stands s m b → Went s b (name x) v r
+abbrev pub Named : List ℕ → ℕ → ℕ → List ℕ → List ℕ → Bool → Type 0
+Named s x word found after agrees = (v : Value) (b : Binding) → PartIs s (unpacked word) v → Stands s found b → Went s b (name x) v after agrees
 
-abbrev pub LeafTold : List ℕ → ℕ → List ℕ → ℕ → Match → Match → Type 0
-LeafTold table p s word m r = (v : Value) (b : Binding) → PartIs s (unpacked word) v → Stands s m b → Went s b (patternAt (records table) p) v r
+abbrev pub LeafTold : List ℕ → ℕ → List ℕ → ℕ → List ℕ → List ℕ → Bool → Type 0
+LeafTold table p s word found after agrees = (v : Value) (b : Binding) → PartIs s (unpacked word) v → Stands s found b → Went s b (patternAt (records table) p) v after agrees

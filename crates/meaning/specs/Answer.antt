@@ -7,21 +7,21 @@ use Rattle.choices.specs.Tree.{Final, result, refuses}
 -- ---- number, place and count
 
 -- Success is number 0 with place 0. A refusal has all three.
-abbrev pub number : {A : Type 0} → Final A → ℕ
-number (result a) = 0
-number (refuses n p k) = n
+abbrev pub answerNumber : {A : Type 0} → Final A → ℕ
+answerNumber (result a) = 0
+answerNumber (refuses n p k) = n
 
-abbrev pub place : {A : Type 0} → Final A → ℕ
-place (result a) = 0
-place (refuses n p k) = p
+abbrev pub answerPlace : {A : Type 0} → Final A → ℕ
+answerPlace (result a) = 0
+answerPlace (refuses n p k) = p
 
 -- The count after success depends on the service: the number of records after an accepted check, and otherwise 0.
-abbrev pub count : {A : Type 0} → (A → ℕ) → Final A → ℕ
-count counted (result a) = counted a
-count counted (refuses n p k) = k
+abbrev pub answerCount : {A : Type 0} → (A → ℕ) → Final A → ℕ
+answerCount counted (result a) = counted a
+answerCount counted (refuses n p k) = k
 
-abbrev pub records : ℕ → ℕ
-records n = n
+abbrev pub recordCount : ℕ → ℕ
+recordCount n = n
 
 abbrev pub uncounted : {A : Type 0} → A → ℕ
 uncounted a = 0
@@ -36,7 +36,7 @@ abbrev pub pack : ℕ → ℕ → ℕ → ℕ
 pack n p k = n + weight * (p + weight * k)
 
 abbrev pub packed : {A : Type 0} → (A → ℕ) → Final A → ℕ
-packed counted answer = pack (number answer) (place answer) (count counted answer)
+packed counted answer = pack (answerNumber answer) (answerPlace answer) (answerCount counted answer)
 
 abbrev pub numberOf : ℕ → ℕ
 numberOf answer = answer % weight
@@ -49,7 +49,7 @@ countOf answer = answer / weight / weight
 
 -- Each is read back from the packed one, and number 0 is success. (Of every service's answers: `Laws/ReadBack`.)
 pub record ReadBack {A : Type 0} (counted : A → ℕ) (answer : Final A) : Type 0 where
-  pub number-back : numberOf (packed counted answer) ≡ number answer
-  pub place-back : placeOf (packed counted answer) ≡ place answer
-  pub count-back : countOf (packed counted answer) ≡ count counted answer
+  pub number-back : numberOf (packed counted answer) ≡ answerNumber answer
+  pub place-back : placeOf (packed counted answer) ≡ answerPlace answer
+  pub count-back : countOf (packed counted answer) ≡ answerCount counted answer
   pub success-back : numberOf (packed counted answer) ≡ 0 → (a : A) × (answer ≡ result a)

@@ -30,8 +30,8 @@ pub record Call : Type 0 where
   pub scratch : List ℕ
 
 -- The walk as it is lent; and the walk w again, after a call that left v of what it was lent.
-abbrev pub lent : Part → Walk → Walk
-lent p w = record { entries = take (p .count) (drop (p .from) (w .entries)); len = w .len }
+abbrev pub lentWalk : Part → Walk → Walk
+lentWalk p w = record { entries = take (p .count) (drop (p .from) (w .entries)); len = w .len }
 
 abbrev pub returned : Part → Walk → Walk → Walk
 returned p w v = record { entries = take (p .from) (w .entries) ++ v .entries ++ drop (p .from + p .count) (w .entries); len = v .len }
@@ -42,11 +42,11 @@ serve first table w scratch = firstCall table w scratch
 serve step table w scratch = stepCall table w scratch
 
 abbrev pub called : List ℕ → Call → Walk → AfterWalk
-called table c w = serve (c .service) table (lent (c .part) w) (c .scratch)
+called table c w = serve (c .service) table (lentWalk (c .part) w) (c .scratch)
 
 -- The walk after a call.
-abbrev pub after : List ℕ → Call → Walk → Walk
-after table c w = returned (c .part) w (called table c w .walk)
+abbrev pub afterCall : List ℕ → Call → Walk → Walk
+afterCall table c w = returned (c .part) w (called table c w .walk)
 
 -- Granted means number 0.
 abbrev pub Granted : List ℕ → Call → Walk → Type 0
@@ -60,7 +60,7 @@ isGranted table c w = eqb (numberOf (called table c w .answer)) 0
 -- The walk after one call after the other, the first of the list first.
 abbrev pub afterAll : List ℕ → List Call → Walk → Walk
 afterAll table [] w = w
-afterAll table (c ∷ cs) w = afterAll table cs (after table c w)
+afterAll table (c ∷ cs) w = afterAll table cs (afterCall table c w)
 
 -- The steps granted since the last granted first list: after a call, where there were k before it; and after a list of calls.
 abbrev pub tally : Service → Bool → ℕ → ℕ
@@ -70,7 +70,7 @@ tally step true k = suc k
 
 abbrev pub granted : List ℕ → List Call → Walk → ℕ → ℕ
 granted table [] w k = k
-granted table (c ∷ cs) w k = granted table cs (after table c w) (tally (c .service) (isGranted table c w) k)
+granted table (c ∷ cs) w k = granted table cs (afterCall table c w) (tally (c .service) (isGranted table c w) k)
 
 -- The calls of demand 3 start from any entries and any length whatever, followed by a granted first list; and then any calls.
 pub record Calls (table : List ℕ) : Type 0 where
@@ -81,8 +81,8 @@ pub record Calls (table : List ℕ) : Type 0 where
   pub more : List Call
 
 -- The walk after them, and the number of steps granted since the last granted first list.
-abbrev pub walkOf : {table : List ℕ} → Calls table → Walk
-walkOf {table} cs = afterAll table (cs .begin ∷ cs .more) (cs .start)
+abbrev pub finalWalk : {table : List ℕ} → Calls table → Walk
+finalWalk {table} cs = afterAll table (cs .begin ∷ cs .more) (cs .start)
 
 abbrev pub stepsOf : {table : List ℕ} → Calls table → ℕ
 stepsOf {table} cs = granted table (cs .begin ∷ cs .more) (cs .start) 0

@@ -17,13 +17,13 @@ use Rattle.patterns.specs.Relation.{Matches}
 use Rattle.meaning.specs.Node.{let-be}
 use Rattle.meaning.specs.State.{State, unbound, under}
 use Rattle.meaning.specs.Meaning.{meaning}
-use Rattle.meaning.specs.Loose.{loose}
+use Rattle.meaning.specs.Loose.{looseMeaning}
 use Rattle.meaning.specs.Read.{sheet}
 use Rattle.meaning.specs.Answer.{pack, numberOf}
 use Rattle.meaning.specs.Walk.{Bytes, Walk, Shows}
 use Rattle.meaning.specs.Service.{scratchBytes, last, tree}
 use Rattle.meaning.specs.Lent.{AfterEvaluate, evaluateCall, filled, zeroed}
-use Rattle.meaning.specs.Calls.{first, step, Call, lent, called, after, Granted, Calls, walkOf, stepsOf}
+use Rattle.meaning.specs.Calls.{first, step, Call, called, Granted, Calls, stepsOf, lentWalk, afterCall, finalWalk}
 
 -- ---- what the walk shows
 
@@ -39,18 +39,18 @@ pub record Held (table : List ℕ) (w : Walk) (k : ℕ) : Type 0 where
 -- The buffers of a call are long enough.
 pub record Enough (c : Call) (w : Walk) : Type 0 where
   pub enough-scratch : scratchBytes ≤ length (c .scratch)
-  pub enough-entries : mostChoices ≤ length (lent (c .part) w .entries)
+  pub enough-entries : mostChoices ≤ length (lentWalk (c .part) w .entries)
 
 -- 1: too little scratch. 10: too few entries.
 pub record Refusals (table : List ℕ) (w : Walk) : Type 0 where
   pub short-scratch : (c : Call) → length (c .scratch) < scratchBytes → called table c w .answer ≡ pack 1 0 0
-  pub few-entries : (c : Call) → scratchBytes ≤ length (c .scratch) → length (lent (c .part) w .entries) < mostChoices → called table c w .answer ≡ pack 10 0 0
+  pub few-entries : (c : Call) → scratchBytes ≤ length (c .scratch) → length (lentWalk (c .part) w .entries) < mostChoices → called table c w .answer ≡ pack 10 0 0
 
 -- With long enough buffers the first list is granted and shows the first complete list.
 pub record FirstAnswers (table : List ℕ) (c : Call) (w : Walk) : Type 0 where
   pub answer : called table c w .answer ≡ pack 0 0 0
   pub list : List ℕ
-  pub shown : Shows (after table c w) list
+  pub shown : Shows (afterCall table c w) list
   pub is-first : First (tree table) list
 
 -- With long enough buffers a step of a walk that shows l is granted and shows the next complete list; or it answers 35, where no complete list
@@ -58,7 +58,7 @@ pub record FirstAnswers (table : List ℕ) (c : Call) (w : Walk) : Type 0 where
 pub record Stepped (table : List ℕ) (c : Call) (w : Walk) (l : List ℕ) : Type 0 where
   pub answer : called table c w .answer ≡ pack 0 0 0
   pub list : List ℕ
-  pub shown : Shows (after table c w) list
+  pub shown : Shows (afterCall table c w) list
   pub is-next : Next (tree table) l list
 
 pub record NoNext (table : List ℕ) (c : Call) (w : Walk) (l : List ℕ) : Type 0 where
@@ -68,8 +68,8 @@ pub record NoNext (table : List ℕ) (c : Call) (w : Walk) (l : List ℕ) : Type
 -- ---- outcomes
 
 -- No run meets a 65th choice: under no list of up to 64 bytes does evaluating end in 31.
-abbrev pub NoMany : List ℕ → List ℕ → List ℕ → Type 0
-NoMany table scratch buffer = (l : List ℕ) → Bytes l → length l ≤ mostChoices → numberOf (evaluateCall table l scratch buffer .answer) ≡ 31 → ⊥
+abbrev pub NeverMany : List ℕ → List ℕ → List ℕ → Type 0
+NeverMany table scratch buffer = (l : List ℕ) → Bytes l → length l ≤ mostChoices → numberOf (evaluateCall table l scratch buffer .answer) ≡ 31 → ⊥
 
 -- Evaluating answers the outcome: success, with the value's encoding and then zeros in the result buffer; or the refusal's number and place, with
 -- zeros there.
@@ -110,19 +110,19 @@ NoBinding table p c ρ vs = (v : Value) (β : Binding) → In v (listOf vs) → 
 
 pub record Demand3 (table : List ℕ) : Type 0 where
   -- After the calls the walk shows the complete list with as many complete lists before it as steps were granted since the last granted first list.
-  pub held : (cs : Calls table) → Held table (walkOf cs) (stepsOf cs)
+  pub held : (cs : Calls table) → Held table (finalWalk cs) (stepsOf cs)
   -- Nothing beyond 64 was touched.
-  pub untouched : (cs : Calls table) → drop mostChoices (walkOf cs .entries) ≡ drop mostChoices (cs .start .entries)
+  pub untouched : (cs : Calls table) → drop mostChoices (finalWalk cs .entries) ≡ drop mostChoices (cs .start .entries)
   -- A refusal of either call leaves the walk.
-  pub refused : (w : Walk) (c : Call) → (Granted table c w → ⊥) → after table c w ≡ w
+  pub refused : (w : Walk) (c : Call) → (Granted table c w → ⊥) → afterCall table c w ≡ w
   -- What a further call answers: 1 and 10, on any walk; the first list, on any walk; the step, after the calls.
   pub refusals : (w : Walk) → Refusals table w
   pub first-granted : (w : Walk) (c : Call) → c .service ≡ first → Enough c w → FirstAnswers table c w
-  pub step-answers : (cs : Calls table) (c : Call) → c .service ≡ step → Enough c (walkOf cs) → (l : List ℕ) → Shows (walkOf cs) l
-      → Stepped table c (walkOf cs) l ⊎ NoNext table c (walkOf cs) l
+  pub step-answers : (cs : Calls table) (c : Call) → c .service ≡ step → Enough c (finalWalk cs) → (l : List ℕ) → Shows (finalWalk cs) l
+      → Stepped table c (finalWalk cs) l ⊎ NoNext table c (finalWalk cs) l
   -- Where no run meets a 65th choice, some complete list of bytes evaluates to an outcome exactly when the loose meaning of the last record has it.
-  pub outcomes : (scratch buffer : List ℕ) → scratchBytes ≤ length scratch → largest ≤ length buffer → NoMany table scratch buffer → (o : Outcome Value)
-      → Reached table scratch buffer o ↔ loose (sheet table) (last (sheet table)) unbound o
+  pub outcomes : (scratch buffer : List ℕ) → scratchBytes ≤ length scratch → largest ≤ length buffer → NeverMany table scratch buffer → (o : Outcome Value)
+      → Reached table scratch buffer o ↔ looseMeaning (sheet table) (last (sheet table)) unbound o
   -- A let-be reached in a run, with bindings within the limits and a condition true or false at each, gives 24 exactly when no binding matches a
   -- member of its set and makes its condition true.
   pub no-binding : (r p t c b : ℕ) (ρ : State) (k : ℕ) (l : List ℕ) (vs : Items) (j : ℕ) (m : List ℕ) → LetBe table r p t c b ρ k l vs j m → Settled table p c ρ vs

@@ -22,7 +22,7 @@ use Rattle.tables.specs.Accepted.{records}
 use Rattle.patterns.specs.Read.{patternAt}
 use Rattle.meaning.specs.State.{State, under}
 use Rattle.meaning.specs.Read.{sheet}
-use Rattle.meaning.specs.Loose.{loose}
+use Rattle.meaning.specs.Loose.{looseMeaning}
 
 -- ---- of bindings
 
@@ -68,14 +68,14 @@ Integers (more (collection k us) vs) = ⊥
 module _ (table : List ℕ) where
   -- v is one of the values of the record a in a state.
   abbrev pub May : ℕ → State → Value → Type 0
-  May a ρ v = loose (sheet table) a ρ (value v)
+  May a ρ v = looseMeaning (sheet table) a ρ (value v)
 
   -- The i-th operand of the record r.
   abbrev pub operandOf : ℕ → ℕ → ℕ
   operandOf r i = operand (recordAt (records table) r) i
 
-  abbrev pub kindOf : ℕ → ℕ
-  kindOf r = kindAt (records table) r
+  abbrev pub kindIn : ℕ → ℕ
+  kindIn r = kindAt (records table) r
 
   -- The name of its pattern, where that is a name.
   abbrev pub nameIn : ℕ → ℕ
@@ -90,8 +90,8 @@ module _ (table : List ℕ) where
     abbrev pub Element : Binding → List Value → Type 0
     Element β new = (v : Value) × May (operandOf r 3) (under ρ β) v × (new ≡ v ∷ [])
 
-    abbrev pub Entry : Binding → List Value → Type 0
-    Entry β new = (k v : Value) × May (operandOf r 3) (under ρ β) k × May (operandOf r 4) (under ρ β) v × (new ≡ k ∷ v ∷ [])
+    abbrev pub Maplet : Binding → List Value → Type 0
+    Maplet β new = (k v : Value) × May (operandOf r 3) (under ρ β) k × May (operandOf r 4) (under ρ β) v × (new ≡ k ∷ v ∷ [])
 
     -- The set operand of the binder r may give a set, forming its bindings gives neither 29 nor 30, and Q holds of members and bindings. (The
     -- bindings are those with which P matches a member, distinct and in order: `bindings-exactly`, `sorted-rising` in `patterns`.)
@@ -118,34 +118,34 @@ module _ (table : List ℕ) where
     pub record Binders : Type 0 where
       -- ---- 14 forall
       -- It is true exactly when the condition is true under every binding.
-      pub forall-true : kindOf r ≡ 14 → May r ρ (boolean true) ↔ Over (λ ms bs. (β : Binding) → In β bs → Condition true β)
+      pub forall-true : kindIn r ≡ 14 → May r ρ (boolean true) ↔ Over (λ ms bs. (β : Binding) → In β bs → Condition true β)
       -- It is false exactly when the condition is false under a binding and true under those before it.
-      pub forall-false : kindOf r ≡ 14 → May r ρ (boolean false) ↔ Over (λ ms bs. FirstOf (Condition true) (Condition false) bs)
+      pub forall-false : kindIn r ≡ 14 → May r ρ (boolean false) ↔ Over (λ ms bs. FirstOf (Condition true) (Condition false) bs)
       -- ---- 15 exists
       -- It is true exactly when the condition is true under a binding and false under those before it.
-      pub exists-true : kindOf r ≡ 15 → May r ρ (boolean true) ↔ Over (λ ms bs. FirstOf (Condition false) (Condition true) bs)
+      pub exists-true : kindIn r ≡ 15 → May r ρ (boolean true) ↔ Over (λ ms bs. FirstOf (Condition false) (Condition true) bs)
       -- It is false exactly when the condition is false under every binding.
-      pub exists-false : kindOf r ≡ 15 → May r ρ (boolean false) ↔ Over (λ ms bs. (β : Binding) → In β bs → Condition false β)
+      pub exists-false : kindIn r ≡ 15 → May r ρ (boolean false) ↔ Over (λ ms bs. (β : Binding) → In β bs → Condition false β)
       -- ---- 16 exists1
       -- It is true exactly when the condition is true under one binding and false under all others.
-      pub exists1-true : kindOf r ≡ 16 → May r ρ (boolean true) ↔ Over (λ ms bs. (β : Binding) × OnlyOne (Condition false) (Condition true) bs β)
+      pub exists1-true : kindIn r ≡ 16 → May r ρ (boolean true) ↔ Over (λ ms bs. (β : Binding) × OnlyOne (Condition false) (Condition true) bs β)
       -- It is false exactly when the condition is false under every binding, or it is boolean under every binding and true under two.
-      pub exists1-false : kindOf r ≡ 16 → May r ρ (boolean false) ↔ Over (λ ms bs.
+      pub exists1-false : kindIn r ≡ 16 → May r ρ (boolean false) ↔ Over (λ ms bs.
           ((β : Binding) → In β bs → Condition false β) ⊎ (((β : Binding) → In β bs → (t : Bool) × Condition t β) × Several (Condition true) bs))
       -- ---- 17 iota
       -- Its value is the member of the set under which the condition is true; it is false under all others. P is a name.
-      pub iota-value : kindOf r ≡ 17 → (v : Value) → May r ρ v ↔ Over (λ ms bs.
+      pub iota-value : kindIn r ≡ 17 → (v : Value) → May r ρ v ↔ Over (λ ms bs.
           In v (listOf ms) × Condition true (only (nameIn r) v) × ((w : Value) → In w (listOf ms) → (w ≡ v → ⊥) → Condition false (only (nameIn r) w)))
       -- ---- 18 set, 19 sequence, 20 map comprehension
       -- The comprehension's values are those of the enumeration of what the bindings add, in their order.
-      pub set-comprehension-is : kindOf r ≡ 18 → (v : Value) → May r ρ v ↔ Over (λ ms bs. (es : List Value) × Added Condition Element bs es × (setOf (itemsOf es) ≡ is v))
+      pub set-comprehension-is : kindIn r ≡ 18 → (v : Value) → May r ρ v ↔ Over (λ ms bs. (es : List Value) × Added Condition Element bs es × (setOf (itemsOf es) ≡ is v))
       -- Kind 19 needs a set of integers.
-      pub sequence-comprehension-is : kindOf r ≡ 19 → (v : Value) → May r ρ v ↔ Over (λ ms bs. Integers ms × ((es : List Value) × Added Condition Element bs es × (sequenceOf (itemsOf es) ≡ is v)))
-      pub map-comprehension-is : kindOf r ≡ 20 → (v : Value) → May r ρ v ↔ Over (λ ms bs. (es : List Value) × Added Condition Entry bs es × (mapOf (itemsOf es) ≡ is v))
+      pub sequence-comprehension-is : kindIn r ≡ 19 → (v : Value) → May r ρ v ↔ Over (λ ms bs. Integers ms × ((es : List Value) × Added Condition Element bs es × (sequenceOf (itemsOf es) ≡ is v)))
+      pub map-comprehension-is : kindIn r ≡ 20 → (v : Value) → May r ρ v ↔ Over (λ ms bs. (es : List Value) × Added Condition Maplet bs es × (mapOf (itemsOf es) ≡ is v))
 
     -- What comprehensions hold.
     pub record Comprehensions : Type 0 where
-      pub members : kindOf r ≡ 18 → (ws : Items) → May r ρ (collection set ws) → Over (λ ms bs. MembersAre bs ws)
+      pub members : kindIn r ≡ 18 → (ws : Items) → May r ρ (collection set ws) → Over (λ ms bs. MembersAre bs ws)
       -- In the bindings' order.
-      pub items : kindOf r ≡ 19 → (ws : Items) → May r ρ (collection sequence ws) → Over (λ ms bs. Integers ms × Added Condition Element bs (listOf ws))
-      pub entries-are : kindOf r ≡ 20 → (ws : Items) → May r ρ (collection map ws) → Over (λ ms bs. EntriesAre bs ws)
+      pub items : kindIn r ≡ 19 → (ws : Items) → May r ρ (collection sequence ws) → Over (λ ms bs. Integers ms × Added Condition Element bs (listOf ws))
+      pub entries-are : kindIn r ≡ 20 → (ws : Items) → May r ρ (collection map ws) → Over (λ ms bs. EntriesAre bs ws)

@@ -10,7 +10,6 @@ pub mod Closed
 pub mod Sure
 pub mod WellFormed
 pub mod Reads
-pub mod Enumerating
 pub mod Tested
 pub mod Collected
 pub mod Binders
@@ -22,3 +21,4 @@ pub mod Conditions
 pub mod LetBe
 pub mod Demand
 pub mod ReadBack
+pub mod Unreached

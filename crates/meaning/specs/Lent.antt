@@ -8,7 +8,7 @@ use lib.Dec.{eqb}
 use lib.ListN.{length, drop, replicate}
 use Rattle.choices.specs.Tree.{Final, result, refuses}
 use Rattle.values.specs.Value.{Value, encode, valueLimit as largest}
-use Rattle.meaning.specs.Answer.{number, packed, records, uncounted}
+use Rattle.meaning.specs.Answer.{packed, uncounted, answerNumber, recordCount}
 use Rattle.meaning.specs.Walk.{Walk, overwritten}
 use Rattle.meaning.specs.Service.{scratchBytes, checks, evaluates, firsts, steps}
 
@@ -27,7 +27,7 @@ abbrev pub isEarly : ℕ → Bool
 isEarly n = eqb n 1 || eqb n 2
 
 abbrev pub scratchAfter : {A : Type 0} → Final A → List ℕ → List ℕ
-scratchAfter answer scratch = cond (isEarly (number answer)) scratch (zeroed scratchBytes scratch)
+scratchAfter answer scratch = cond (isEarly (answerNumber answer)) scratch (zeroed scratchBytes scratch)
 
 abbrev pub resultAfter : Final Value → List ℕ → List ℕ
 resultAfter (result v) buffer = filled largest (encode v) buffer
@@ -46,7 +46,7 @@ pub record AfterCheck : Type 0 where
   pub scratch : List ℕ
 
 abbrev pub afterCheck : Final ℕ → List ℕ → AfterCheck
-afterCheck due scratch = record { answer = packed records due; scratch = scratchAfter due scratch }
+afterCheck due scratch = record { answer = packed recordCount due; scratch = scratchAfter due scratch }
 
 -- The check of a table, with a scratch.
 abbrev pub checkCall : List ℕ → List ℕ → AfterCheck

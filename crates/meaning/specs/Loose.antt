@@ -22,7 +22,7 @@ use Rattle.patterns.specs.Pattern.{Pattern, listOf}
 use Rattle.patterns.specs.Binder.{Formed, bound, refused as unformed, formed}
 use Rattle.meaning.specs.Node.{Node, Quantifier, forall, exists, exists1, truth, whole, named, unaryOf, binaryOf, connective, if, enumeration, range, let-in, let-be, quantified, iota, set-comprehension, sequence-comprehension, map-comprehension, application, no-expression}
 use Rattle.meaning.specs.State.{State, under, valueIn}
-use Rattle.meaning.specs.Sheet.{Sheet, enumerated, nameOf}
+use Rattle.meaning.specs.Sheet.{Sheet, enumerated, patternName}
 
 -- ---- sets of outcomes
 
@@ -110,7 +110,7 @@ quantify exists1 rec r c ρ bs = satisfying rec r c ρ bs then (λ sat. gives (e
 
 abbrev pub unique : ℕ → Pattern → List Binding → Outcomes Value
 unique r p [] = refuses 25 r
-unique r p (b ∷ []) = orElse 25 r (valueIn b (nameOf p))
+unique r p (b ∷ []) = orElse 25 r (valueIn b (patternName p))
 unique r p (b ∷ c ∷ bs) = refuses 25 r
 
 unfoldable pub collected : (Binding → Outcomes Bool) → (Items → Binding → Outcomes Items) → Items → List Binding → Outcomes Items
@@ -204,5 +204,5 @@ looseTo sheet zero r ρ = refuses 20 r
 looseTo sheet (suc n) r ρ = looseOf (sheet .pattern) (λ a σ. looseTo sheet n a σ) r (sheet .node r) ρ
 
 -- The outcomes of the record r in a state.
-unfoldable pub loose : Sheet → ℕ → State → Outcomes Value
-loose sheet r ρ = looseTo sheet (suc r) r ρ
+unfoldable pub looseMeaning : Sheet → ℕ → State → Outcomes Value
+looseMeaning sheet r ρ = looseTo sheet (suc r) r ρ

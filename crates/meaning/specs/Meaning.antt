@@ -19,7 +19,7 @@ use Rattle.patterns.specs.Pattern.{Pattern, loose, listOf}
 use Rattle.patterns.specs.Binder.{Formed, bound, refused as unformed, formed}
 use Rattle.meaning.specs.Node.{Node, Quantifier, forall, exists, exists1, truth, whole, named, unaryOf, binaryOf, connective, if, enumeration, range, let-in, let-be, quantified, iota, set-comprehension, sequence-comprehension, map-comprehension, application, no-expression}
 use Rattle.meaning.specs.State.{State, under, valueIn}
-pub use Rattle.meaning.specs.Sheet.{Sheet, enumerated, nameOf}
+pub use Rattle.meaning.specs.Sheet.{Sheet, enumerated, patternName}
 
 -- ---- an answer at a place
 
@@ -117,7 +117,7 @@ quantify exists1 rec r c ρ bs = bind (satisfying rec r c ρ bs) (λ sat. give (
 -- iota gives what its pattern, a name, is bound to; 25 without exactly one.
 abbrev pub unique : ℕ → Pattern → List Binding → Tree Value
 unique r p [] = stop 25 r
-unique r p (b ∷ []) = orElse 25 r (valueIn b (nameOf p))
+unique r p (b ∷ []) = orElse 25 r (valueIn b (patternName p))
 unique r p (b ∷ c ∷ bs) = stop 25 r
 
 -- Comprehensions go binding by binding in order: condition, then what is added, added before the next.

@@ -20,9 +20,9 @@ enumerated map vs = mapOf vs
 enumerated tuple vs = tupleOf vs
 
 -- iota's pattern is a name ("In 17 and 19 P is kind 32"); what stands for the others is of no account.
-abbrev pub nameOf : Pattern → ℕ
-nameOf (name x) = x
-nameOf any = 0
-nameOf (literal w) = 0
-nameOf (each k ps) = 0
-nameOf (halved k p q) = 0
+abbrev pub patternName : Pattern → ℕ
+patternName (name x) = x
+patternName any = 0
+patternName (literal w) = 0
+patternName (each k ps) = 0
+patternName (halved k p q) = 0

@@ -4,7 +4,7 @@ use mathlib.Core.List.{List, [], _∷_, _++_}
 use Prim.Native.Nat.{ℕ, _<_}
 use lib.ListN.{length, take, drop}
 use Rattle.choices.specs.Tree.{mostChoices}
-use Rattle.choices.specs.State.{padded}
+use Rattle.choices.specs.Lists.{padded}
 
 -- Entries are bytes.
 abbrev pub Bytes : List ℕ → Type 0

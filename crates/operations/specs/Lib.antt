@@ -1,2 +1,2 @@
--- The numbers of the strict operators; `trials` and the evaluator cite them.
+-- The numbers of the strict operators; the evaluator cites them.
 pub mod Numbers

@@ -136,24 +136,24 @@ sound-enterAll vs ws p q s t =
     ws q vs p s t
 
 -- The first, or else the second.
-abbrev pub orElse : Option Value → Option Value → Option Value
-orElse absent o = o
-orElse (some v) o = some v
+abbrev pub firstSome : Option Value → Option Value → Option Value
+firstSome absent o = o
+firstSome (some v) o = some v
 
 -- What stands at a key is what the entries put in say of it, and else what stood there.
-pub lookup-enterAll : (x : Value) (vs ws : Items) → Paired vs → Paired ws → Ascending (keys ws) → lookup x (enterAll vs ws) ≡ orElse (lookup x ws) (lookup x vs)
+pub lookup-enterAll : (x : Value) (vs ws : Items) → Paired vs → Paired ws → Ascending (keys ws) → lookup x (enterAll vs ws) ≡ firstSome (lookup x ws) (lookup x vs)
 unfolding everyOther Ascending enterAll lookup
 lookup-enterAll x vs ws p q a =
-    by-entries (λ (ws : Items). (vs : Items) → Paired vs → Ascending (keys ws) → lookup x (enterAll vs ws) ≡ orElse (lookup x ws) (lookup x vs)) (λ vs p a. refl)
+    by-entries (λ (ws : Items). (vs : Items) → Paired vs → Ascending (keys ws) → lookup x (enterAll vs ws) ≡ firstSome (lookup x ws) (lookup x vs)) (λ vs p a. refl)
     (λ k v ws q r vs p a.
     let f = r (enter k v vs) (paired-enter k v vs p) (a .1) in
     let g = lookup-enter x k v vs p in
     by-test (same x k)
     (λ s.
     let gone : lookup x ws ≡ absent = ap (λ (y : Value). lookup y ws) (same-true x k s) ∙ before-nothing k ws q (a .0) in
-    f ∙ ap (λ (o : Option Value). orElse o (lookup x (enter k v vs))) gone ∙ g ∙ cond-true (same x k) (some v) (lookup x vs) s
-    ∙ sym (ap (λ (o : Option Value). orElse o (lookup x vs)) (cond-true (same x k) (some v) (lookup x ws) s)))
+    f ∙ ap (λ (o : Option Value). firstSome o (lookup x (enter k v vs))) gone ∙ g ∙ cond-true (same x k) (some v) (lookup x vs) s
+    ∙ sym (ap (λ (o : Option Value). firstSome o (lookup x vs)) (cond-true (same x k) (some v) (lookup x ws) s)))
     (λ s.
-    f ∙ ap (orElse (lookup x ws)) (g ∙ cond-false (same x k) (some v) (lookup x vs) s)
-    ∙ sym (ap (λ (o : Option Value). orElse o (lookup x vs)) (cond-false (same x k) (some v) (lookup x ws) s))))
+    f ∙ ap (firstSome (lookup x ws)) (g ∙ cond-false (same x k) (some v) (lookup x vs) s)
+    ∙ sym (ap (λ (o : Option Value). firstSome o (lookup x vs)) (cond-false (same x k) (some v) (lookup x ws) s))))
     ws q vs p a

@@ -20,7 +20,7 @@ use Rattle.operators.specs.Answer.{is, Built, built, stopped, fitting, closed, 
 use Rattle.operators.specs.Gather.{insertAll, everyEntry}
 use Rattle.operators.specs.Enumerations.{addMember, addItem, entered, addEntry, buildOn, addMembers, addItems, addEntries, setOf, sequenceOf, mapOf, tupleOf}
 use Rattle.operator_laws.proofs.Gather.{same-refl, sizes-grow-all, ascending-insertAll, sound-insertAll}
-use Rattle.operator_laws.proofs.Entries.{orElse}
+use Rattle.operator_laws.proofs.Entries.{firstSome}
 use Rattle.operator_laws.proofs.Results.{Good, wellFormed, sized-fine}
 
 -- ---- what fits
@@ -120,16 +120,16 @@ module _ {P : Type 0} (vs : Items) (k v : Value) where
 
 -- What is built of entries: at every key what stood there, or else what is written first, and every entry written.
 pub record Entered (vs ws us : Items) : Type 0 where
-  pub at : (x : Value) → lookup x us ≡ orElse (lookup x vs) (lookup x ws)
+  pub at : (x : Value) → lookup x us ≡ firstSome (lookup x vs) (lookup x ws)
   pub all : everyEntry (λ k v. mapsTo us k v) ws ≡ true
 
-orElse-absent : (o : Option Value) → o ≡ orElse o absent
+orElse-absent : (o : Option Value) → o ≡ firstSome o absent
 orElse-absent absent = refl
 orElse-absent (some v) = refl
 
 -- what stood there stays
 stays : {vs ws us : Items} → Entered vs ws us → (k v : Value) → lookup k vs ≡ some v → lookup k us ≡ some v
-stays {vs} {ws} {us} h k v e = h .at k ∙ ap (λ (o : Option Value). orElse o (lookup k ws)) e
+stays {vs} {ws} {us} h k v e = h .at k ∙ ap (λ (o : Option Value). firstSome o (lookup k ws)) e
 
 first-entered : (vs ws us : Items) (k v : Value) → Paired vs → lookup k vs ≡ absent → Entered (enter k v vs) ws us → Entered vs (more k (more v ws)) us
 unfolding lookup everyEntry
@@ -137,16 +137,16 @@ first-entered vs ws us k v p e h = record {
   at =
       λ x.
       let g = lookup-enter x k v vs p in
-      h .at x ∙ ap (λ (o : Option Value). orElse o (lookup x ws)) g
+      h .at x ∙ ap (λ (o : Option Value). firstSome o (lookup x ws)) g
       ∙ by-test (same x k)
       (λ s.
       let i : x ≡ k = same-true x k s in
       let a : lookup x vs ≡ absent = ap (λ (y : Value). lookup y vs) i ∙ e in
-      ap (λ (o : Option Value). orElse o (lookup x ws)) (cond-true (same x k) (some v) (lookup x vs) s)
-      ∙ sym (ap (λ (o : Option Value). orElse o (cond (same x k) (some v) (lookup x ws))) a ∙ cond-true (same x k) (some v) (lookup x ws) s))
+      ap (λ (o : Option Value). firstSome o (lookup x ws)) (cond-true (same x k) (some v) (lookup x vs) s)
+      ∙ sym (ap (λ (o : Option Value). firstSome o (cond (same x k) (some v) (lookup x ws))) a ∙ cond-true (same x k) (some v) (lookup x ws) s))
       (λ s.
-      ap (λ (o : Option Value). orElse o (lookup x ws)) (cond-false (same x k) (some v) (lookup x vs) s)
-      ∙ sym (ap (orElse (lookup x vs)) (cond-false (same x k) (some v) (lookup x ws) s)));
+      ap (λ (o : Option Value). firstSome o (lookup x ws)) (cond-false (same x k) (some v) (lookup x vs) s)
+      ∙ sym (ap (firstSome (lookup x vs)) (cond-false (same x k) (some v) (lookup x ws) s)));
   all =
       let g = lookup-enter k k v vs p ∙ cond-true (same k k) (some v) (lookup k vs) (same-refl k) in
       and-intro (is-maps us k v (stays h k v g)) (h .all);
@@ -162,8 +162,8 @@ again-entered vs ws us k v e h = record {
       (λ s.
       let i : x ≡ k = same-true x k s in
       let a : lookup x vs ≡ some v = ap (λ (y : Value). lookup y vs) i ∙ e in
-      ap (λ (o : Option Value). orElse o (lookup x ws)) a ∙ sym (ap (λ (o : Option Value). orElse o (cond (same x k) (some v) (lookup x ws))) a))
-      (λ s. sym (ap (orElse (lookup x vs)) (cond-false (same x k) (some v) (lookup x ws) s)));
+      ap (λ (o : Option Value). firstSome o (lookup x ws)) a ∙ sym (ap (λ (o : Option Value). firstSome o (cond (same x k) (some v) (lookup x ws))) a))
+      (λ s. sym (ap (firstSome (lookup x vs)) (cond-false (same x k) (some v) (lookup x ws) s)));
   all = and-intro (is-maps us k v (stays h k v e)) (h .all);
 }
 

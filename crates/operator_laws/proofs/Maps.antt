@@ -5,7 +5,7 @@ use mathlib.Core.Option.{Option, none as absent, some}
 use Prim.Native.Nat.{_+_, _≤_}
 use native.Mathlib.Omega.{arith}
 use mathlib.Mathlib.Data.Bool.Basic.{and-intro}
-use Rattle.prelude.proofs.Absurd.{never, impossible}
+use Rattle.prelude.proofs.Absurd.{never, none-some}
 use Rattle.prelude.proofs.Truth.{cond-true, cond-false, by-test}
 use Rattle.values.specs.Value.{Value, Items, none, more, everyOther, keys, mapped, sizes, valueLimit, Before, Ascending, Paired}
 use Rattle.values.specs.Items.{same, isMember, lookup, enter}
@@ -17,7 +17,7 @@ use Rattle.operators.specs.Gather.{insertAll, everyEntry, keepEntries, enterAll
 use Rattle.operators.specs.Maps.{agrees, compatible}
 use Rattle.operators.specs.Enumerations.{addEntry, buildOn, addEntries}
 use Rattle.operator_laws.proofs.Gather.{same-refl, member-none, member-case, member-there, member-insertAll}
-use Rattle.operator_laws.proofs.Entries.{everyEntry-at, passing, lookup-keep, orElse, lookup-enterAll}
+use Rattle.operator_laws.proofs.Entries.{everyEntry-at, passing, lookup-keep, lookup-enterAll, firstSome}
 use Rattle.operator_laws.proofs.Enumerations.{fits, fits-not, by-fitting, by-entry}
 
 -- ---- dom, rng
@@ -27,16 +27,13 @@ pub record Mapped (x : Value) (vs : Items) : Type 0 where
   pub key : Value
   pub maps : lookup key vs ≡ some x
 
-clash-free : {X : Type 0} {o : Option Value} {v : Value} → o ≡ absent → o ≡ some v → X
-clash-free e f = impossible cc
-
 mapped-later : (x k v : Value) (vs : Items) → Paired vs → Before k (keys vs) → Mapped x vs → Mapped x (more k (more v vs))
 unfolding lookup
 mapped-later x k v vs p b h = record {
   key = h .key;
   maps =
       by-test (same (h .key) k)
-      (λ s. clash-free (ap (λ (y : Value). lookup y vs) (same-true (h .key) k s) ∙ before-nothing k vs p b) (h .maps))
+      (λ s. none-some (ap (λ (y : Value). lookup y vs) (same-true (h .key) k s) ∙ before-nothing k vs p b) (h .maps))
       (λ s. cond-false (same (h .key) k) (some v) (lookup (h .key) vs) s ∙ h .maps);
 }
 
@@ -51,7 +48,7 @@ in-mapped x =
 mapped-in : (k x : Value) (vs : Items) → Paired vs → lookup k vs ≡ some x → isMember x (mapped vs) ≡ true
 unfolding everyOther lookup
 mapped-in k x =
-    by-entries (λ (vs : Items). lookup k vs ≡ some x → isMember x (mapped vs) ≡ true) (λ e. clash-free refl e)
+    by-entries (λ (vs : Items). lookup k vs ≡ some x → isMember x (mapped vs) ≡ true) (λ e. none-some refl e)
     (λ l v vs p r e.
     by-test (same k l)
     (λ s. let i : x ≡ v = cc (cond-true (same k l) (some v) (lookup k vs) s) in rw i (member-here v (mapped vs)))
@@ -82,7 +79,7 @@ everyEntry-all p =
     and-intro (f k v (cond-true (same k k) (some v) (lookup k vs) (same-refl k))) (r (a .1)
     (λ l w e.
     f l w
-    (by-test (same l k) (λ s. clash-free (ap (λ (y : Value). lookup y vs) (same-true l k s) ∙ before-nothing k vs q (a .0)) e)
+    (by-test (same l k) (λ s. none-some (ap (λ (y : Value). lookup y vs) (same-true l k s) ∙ before-nothing k vs q (a .0)) e)
     (λ s. cond-false (same l k) (some v) (lookup l vs) s ∙ e)))))
 
 compatible-all : (vs ws : Items) → Paired ws → Ascending (keys ws) → ((k v w : Value) → lookup k vs ≡ some v → lookup k ws ≡ some w → v ≡ w) → compatible vs ws ≡ true
@@ -95,17 +92,17 @@ compatible-all vs ws q a f = everyEntry-all (λ k v. agrees (lookup k vs) v) ws 
 -- THEOREM: m1 munion m2 maps the keys of m1 as m1 does, and the keys of m2 as m2 does
 module _ (vs ws : Items) (p : Paired vs) (q : Paired ws) (a : Ascending (keys ws)) where
   merge-right : (k v : Value) → lookup k ws ≡ some v → lookup k (enterAll vs ws) ≡ some v
-  merge-right k v e = lookup-enterAll k vs ws p q a ∙ ap (λ (o : Option Value). orElse o (lookup k vs)) e
+  merge-right k v e = lookup-enterAll k vs ws p q a ∙ ap (λ (o : Option Value). firstSome o (lookup k vs)) e
 
   merge-left : compatible vs ws ≡ true → (k v : Value) → lookup k vs ≡ some v → lookup k (enterAll vs ws) ≡ some v
   merge-left c k v e = lookup-enterAll k vs ws p q a ∙ go (lookup k ws) refl
     where
-      go : (o : Option Value) → lookup k ws ≡ o → orElse o (lookup k vs) ≡ some v
+      go : (o : Option Value) → lookup k ws ≡ o → firstSome o (lookup k vs) ≡ some v
       go absent d = e
       go (some w) d = ap some (sym (compatible-at vs ws q c k v w e d))
 
   merge-neither : (k : Value) → lookup k vs ≡ absent → lookup k ws ≡ absent → lookup k (enterAll vs ws) ≡ absent
-  merge-neither k e f = lookup-enterAll k vs ws p q a ∙ ap (λ (o : Option Value). orElse o (lookup k vs)) f ∙ e
+  merge-neither k e f = lookup-enterAll k vs ws p q a ∙ ap (λ (o : Option Value). firstSome o (lookup k vs)) f ∙ e
 
 -- ---- munion part by part
 
@@ -114,7 +111,7 @@ compatible-enter : (vs ws : Items) (k v : Value) → Paired vs → Paired ws →
 compatible-enter vs ws k v p q a n c =
     compatible-all (enter k v vs) ws q a
     (λ l x y e f.
-    by-test (same l k) (λ s. clash-free (ap (λ (z : Value). lookup z ws) (same-true l k s) ∙ n) f)
+    by-test (same l k) (λ s. none-some (ap (λ (z : Value). lookup z ws) (same-true l k s) ∙ n) f)
     (λ s. compatible-at vs ws q c l x y (sym (lookup-enter l k v vs p ∙ cond-false (same l k) (some v) (lookup l vs) s) ∙ e) f))
 
 -- The first entry of the second map beside the first map: its key is new, or has this value.

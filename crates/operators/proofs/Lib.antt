@@ -1,2 +1,2 @@
--- Sample answers, by computation.
+-- Sample answers, by computation. Nobody cites it.
 mod Samples

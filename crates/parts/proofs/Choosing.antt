@@ -10,7 +10,8 @@ use lib.ListN.{length}
 use borrow.Author.Tests.{lt-ltb, le-ltb}
 use Rattle.values.specs.Value.{Value, boolean}
 use Rattle.patterns.specs.Ways.{Halves, toLeft, toRight}
-use Rattle.parts.specs.Chosen.{keep, splitAt, keep-zero, keep-none, keep-odd, keep-even}
+use Rattle.parts.specs.Chosen.{keep, splitAt}
+use Rattle.parts.specs.Laws.Chosen.{keep-zero, keep-none, keep-odd, keep-even}
 use Rattle.parts.specs.Mask.{Counts, Ways, Spreadable, Spread}
 
 -- ---- all ones

@@ -15,7 +15,8 @@ use Rattle.patterns.specs.Ways.{halves, splits, cuts}
 use Rattle.patterns.specs.Pattern.{itemsOf, leftOf, rightOf}
 use Rattle.parts.specs.declared.Part.{Part}
 use Rattle.parts.specs.declared.runs.Run.{Run}
-use Rattle.parts.specs.Chosen.{everyOne, keep, chosen, splitAt, chosen-all, keep-full, nth-split, nth-cut}
+use Rattle.parts.specs.Chosen.{everyOne, keep, chosen, splitAt}
+use Rattle.parts.specs.Laws.Chosen.{chosen-all, keep-full, nth-split, nth-cut}
 use Rattle.parts.specs.Mask.{Full, Ways, Spreadable, Spread}
 use Rattle.parts.specs.Part.{Selects, PartIs}
 use Rattle.parts.proofs.Laws.{selects-of, part-one, part-well-formed, one-collection, end-record}

@@ -1,3 +1,4 @@
+-- Laws of parts, of their words and of masks, which matching to the evaluator cite, and what the proofs of the functions need.
 mod Choosing
 mod Running
 mod Comparing

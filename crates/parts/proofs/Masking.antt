@@ -20,7 +20,8 @@ use Rattle.patterns.specs.Pattern.{itemsOf}
 use Rattle.patterns.specs.Binding.{Cell, free, is, orderCells}
 use Rattle.patterns.specs.Laws.Plain.{cell-refl}
 use Rattle.parts.specs.declared.Part.{Part}
-use Rattle.parts.specs.Chosen.{keep, keep-zero, keep-odd, keep-even}
+use Rattle.parts.specs.Chosen.{keep}
+use Rattle.parts.specs.Laws.Chosen.{keep-zero, keep-odd, keep-even}
 use Rattle.parts.specs.Mask.{OrderedMasks}
 use Rattle.parts.specs.Part.{PartIs, PartHeld, CellIs}
 use Rattle.parts.specs.Contract.{OrderedParts}

@@ -19,7 +19,8 @@ use Rattle.values.proofs.Records.{holds, items-to, is-collection}
 use Rattle.patterns.specs.Pattern.{listOf, itemsOf}
 use Rattle.parts.specs.declared.Part.{Part}
 use Rattle.parts.specs.declared.runs.Run.{Run}
-use Rattle.parts.specs.Chosen.{everyOne, keep, chosen-all, chosen-keep}
+use Rattle.parts.specs.Chosen.{everyOne, keep}
+use Rattle.parts.specs.Laws.Chosen.{chosen-all, chosen-keep}
 use Rattle.parts.specs.Part.{PartIs, PartHeld, endOf}
 use Rattle.parts.proofs.Laws.{as-list, whole-of, selects-of, spans-of, part-one, one-collection, end-span, end-record}
 use Rattle.parts.specs.Run.{RunIs, RunHeld, Startable, ReadyRun, RunOf, CountOf, SkipHeld, Skipped, OrderedRuns}

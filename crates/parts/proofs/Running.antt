@@ -17,7 +17,8 @@ use Rattle.values.proofs.Records.{first-of, items-none, one-list, word-size}
 use Rattle.patterns.specs.Pattern.{listOf, itemsOf}
 use Rattle.patterns.specs.Laws.Matched.{list-items}
 use Rattle.parts.specs.declared.runs.Run.{Run}
-use Rattle.parts.specs.Chosen.{everyOne, chosen, keep-odd, keep-even, chosen-all, chosen-keep, chosen-none}
+use Rattle.parts.specs.Chosen.{everyOne, chosen}
+use Rattle.parts.specs.Laws.Chosen.{keep-odd, keep-even, chosen-all, chosen-keep, chosen-none}
 use Rattle.parts.specs.Run.{Ready, RunIs, RunHeld, MoreHeld, Startable, ReadyRun, RestOf, CountOf, SkipHeld, Skipped}
 
 -- ---- lists of values whose records stand between two places

@@ -5,3 +5,4 @@ pub mod Part
 pub mod Word
 pub mod Run
 pub mod Contract
+pub mod Laws

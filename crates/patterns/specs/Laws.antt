@@ -1,4 +1,7 @@
 -- Theorems on matching and bindings, and what their proofs need. Cited by meaning, forming, bindings and the evaluator.
+pub mod Members
+pub mod Units
+pub mod Nodes
 pub mod Ordered
 pub mod Matched
 pub mod Widened

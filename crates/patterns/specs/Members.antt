@@ -1,38 +1,8 @@
--- What is among a list, and the laws of it: lists joined, mapped, and gathered.
-use mathlib.Core.Path.{_≡_, refl, subst}
-use mathlib.Core.Logic.{_⊎_, inl, inr, _↔_}
-use mathlib.Core.List.{List, [], _∷_}
-use Prim.Native.Nat.{ℕ, zero, suc, _<_}
-use native.Mathlib.Omega.{arith}
-use lib.ListN.{length, getD}
-use Rattle.prelude.proofs.Membership.{in-left, in-right, in-joined}
+-- Two lists with the same members. Contracts of matching and forming cite it.
+use mathlib.Core.Logic.{_↔_}
+use mathlib.Core.List.{List}
 use Rattle.prelude.specs.Membership.{In}
-use Rattle.patterns.specs.Ways.{gather}
 
 -- The same are among two lists, however often.
 abbrev pub Alike : {A : Type 0} → List A → List A → Type 0
 Alike {A} xs ys = (x : A) → In x xs ↔ In x ys
-
-module _ {A : Type 0} where
-  pub at-in : (xs : List A) (d : ℕ) (z : A) → d < length xs → In (getD xs d z) xs
-  at-in [] d z h = absurd (omega arith)
-  at-in (x ∷ xs) zero z h = inl refl
-  at-in (x ∷ xs) (suc d) z h = inr (at-in xs d z (omega arith))
-
-module _ {A B : Type 0} where
-  -- ---- gathered: it is among what f gives for one of them
-
-  pub in-gather : (z : B) (xs : List A) (f : A → List B) → In z (gather xs f) → (x : A) × In x xs × In z (f x)
-  unfolding gather
-  in-gather z [] f h = absurd h
-  in-gather z (y ∷ xs) f h = go (in-joined z (f y) (gather xs f) h) (λ i. in-gather z xs f i)
-    where
-      go : In z (f y) ⊎ In z (gather xs f) → (In z (gather xs f) → (x : A) × In x xs × In z (f x)) → (x : A) × In x (y ∷ xs) × In z (f x)
-      go (inl i) rest = (y, inl refl, i)
-      go (inr i) rest = let (x, j, k) = rest i in (x, inr j, k)
-
-  pub gather-in : (x : A) (z : B) (xs : List A) (f : A → List B) → In x xs → In z (f x) → In z (gather xs f)
-  unfolding gather
-  gather-in x z [] f i h = absurd i
-  gather-in x z (y ∷ xs) f (inl e) h = in-left z (f y) (gather xs f) (subst (λ (w : A). In z (f w)) e h)
-  gather-in x z (y ∷ xs) f (inr i) h = in-right z (f y) (gather xs f) (gather-in x z xs f i h)

@@ -96,12 +96,12 @@ unfoldable mutual
 abbrev pub mostSplit : ℕ
 mostSplit = 7
 
-abbrev pub tooLarge : Kind → Option (List Value) → Bool
-tooLarge k absent = false
-tooLarge set (some vs) = ltb mostSplit (length vs)
-tooLarge sequence (some vs) = false
-tooLarge mapping (some vs) = false
-tooLarge tuple (some vs) = false
+abbrev pub isTooLarge : Kind → Option (List Value) → Bool
+isTooLarge k absent = false
+isTooLarge set (some vs) = ltb mostSplit (length vs)
+isTooLarge sequence (some vs) = false
+isTooLarge mapping (some vs) = false
+isTooLarge tuple (some vs) = false
 
 -- Somewhere a union pattern is met by a set of over seven members. All parts are tried where kind and count fit.
 unfoldable mutual
@@ -110,7 +110,7 @@ unfoldable mutual
   wide any v = false
   wide (literal w) v = false
   wide (each k ps) v = exists (met k (parts ps) (contents k v)) (λ vs. wideEach ps vs)
-  wide (halved k p q) v = tooLarge k (contents k v) || exists (split k (contents k v)) (λ h. wide p (leftOf k h) || wide q (rightOf k h))
+  wide (halved k p q) v = isTooLarge k (contents k v) || exists (split k (contents k v)) (λ h. wide p (leftOf k h) || wide q (rightOf k h))
 
   pub wideEach : Patterns → List Value → Bool
   wideEach nil vs = false

@@ -2,6 +2,10 @@
 -- `and-intro`, `and-elim-left`, .. (mathlib.Mathlib.Data.Bool.Basic) and `not-true`, `not-false` (borrow.Author.Tests).
 use mathlib.Core.Path.{_≡_, refl}
 use mathlib.Core.Bool.{Bool, true, false, not, cond, _||_}
+use mathlib.Core.Logic.{_⊎_, inl, inr}
+use Prim.Native.Nat.{ℕ, _<_, _≤_}
+use borrow.Author.Tests.{ltb-true, ltb-false}
+use lib.Dec.{ltb}
 use Rattle.prelude.proofs.Absurd.{never}
 
 -- ---- by cases
@@ -9,6 +13,10 @@ use Rattle.prelude.proofs.Absurd.{never}
 pub by-test {ℓ} : {P : Type ℓ} (b : Bool) → (b ≡ true → P) → (b ≡ false → P) → P
 by-test true f g = f refl
 by-test false f g = g refl
+
+-- Either a is lower than b, or not.
+pub by-lower {ℓ} : {P : Type ℓ} (a b : ℕ) → (a < b → P) → (b ≤ a → P) → P
+by-lower a b f g = by-test (ltb a b) (λ e. f (ltb-true a b e)) (λ e. g (ltb-false a b e))
 
 pub both-ways : (b c : Bool) → (b ≡ true → c ≡ true) → (c ≡ true → b ≡ true) → b ≡ c
 both-ways true c f g = cc (f refl)
@@ -26,7 +34,11 @@ pub cond-or : (b c : Bool) → cond b true c ≡ b || c
 cond-or true c = refl
 cond-or false c = refl
 
--- ---- neither of two is true
+-- ---- one of two is true, or neither
+
+pub or-cases : (a b : Bool) → a || b ≡ true → (a ≡ true) ⊎ (b ≡ true)
+or-cases true b e = inl refl
+or-cases false b e = inr e
 
 pub or-false-left : (a b : Bool) → a || b ≡ false → a ≡ false
 or-false-left true b e = cc

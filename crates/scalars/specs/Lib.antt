@@ -1,2 +1,2 @@
--- What testing the left of and, or and => promises; `trials` and the evaluator cite it.
+-- What testing the left of and, or and => promises; the evaluator cites it.
 pub mod Connectives

@@ -1,3 +1,4 @@
+-- What the proofs of the operators on sequences need; nobody else cites it.
 mod Counts
 mod Firsts
 mod Flattening

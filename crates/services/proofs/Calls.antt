@@ -10,8 +10,8 @@ use Rattle.prelude.proofs.Absurd.{impossible}
 use Rattle.choices.specs.declared.list.Walk.{Walk as Held}
 use Rattle.choices.specs.Tree.{Final, result, refuses, mostChoices}
 use Rattle.choices.specs.Paths.{firstList, nextList}
-use Rattle.choices.specs.State.{padded}
-use Rattle.choices.specs.Listing.{Lists, Runnable, listOf}
+use Rattle.choices.specs.Lists.{padded}
+use Rattle.choices.specs.Listing.{Lists, Runnable, listHeld}
 use Rattle.values.specs.declared.Value.{Value as Copy}
 use Rattle.values.specs.Value.{Value, encode, size, valueLimit as largest}
 use Rattle.values.proofs.Encoding.{encode-length}
@@ -21,7 +21,7 @@ use Rattle.values.specs.Contract.{Shows}
 use Rattle.tables.specs.Check.{check}
 use Rattle.tables.specs.declared.Checked.{Checked}
 use Rattle.tables.specs.declared.Checked.the-variants.{Accepted, Refused as Faulty}
-use Rattle.meaning.specs.Answer.{number, pack, packed, uncounted}
+use Rattle.meaning.specs.Answer.{pack, packed, uncounted, answerNumber}
 use Rattle.meaning.specs.Walk.{Walk, listed, overwritten}
 use Rattle.meaning.specs.Service.{scratchBytes, tree, runs, evaluates, firsts, steps, onward, steppedFrom}
 use Rattle.meaning.specs.Lent.{zeroed, filled, isEarly, AfterWalk, afterWalk, afterEvaluate, walkAfter, resultAfter, evaluateCall, firstCall, stepCall}
@@ -30,7 +30,7 @@ use Rattle.meaning.specs.Laws.Services.{evaluates-1, evaluates-2, evaluates-ref
 use Rattle.walks.specs.declared.Stepped.{Stepped}
 use Rattle.evaluator.specs.declared.Outcome.{Outcome}
 use Rattle.evaluator.specs.declared.Outcome.the-variants.{Value as HasValue, Refused}
-use Rattle.walks.specs.Steps.{Ready, outcomeOf, Small, packedOf, Ran, Answers, lentOf, Steppable, Steps}
+use Rattle.walks.specs.Steps.{Ready, Small, packedOf, Ran, Answers, lentOf, Steppable, Steps, outcomeAs}
 use Rattle.walks.proofs.Settling.{small-final}
 use Rattle.services.specs.Left.{Accepts, Loaded, walkOf, stored, Left, Evaluated, Valued, Handed}
 
@@ -44,7 +44,7 @@ module _ (s t : List ℕ) (long : length t ≡ scratchBytes) where
   pub rest-kept : drop scratchBytes (t ++ drop scratchBytes s) ≡ drop scratchBytes s
   rest-kept = drop-at t (drop scratchBytes s) scratchBytes long
 
-  pub value-kept : (v : Value) → At t 0 v → At (t ++ drop scratchBytes s) 0 v
+  value-kept : (v : Value) → At t 0 v → At (t ++ drop scratchBytes s) 0 v
   value-kept v a =
       record {
         fits = omega (arith, a .fits, length-append t (drop scratchBytes s));
@@ -68,11 +68,11 @@ no-value n p k v e = impossible cc
 
 module _ (due : Final Value) (s : List ℕ) where
   pub evaluated-off : (n p k : ℕ) → due ≡ refuses n p k → Evaluated due s s (Refused n p k)
-  evaluated-off n p k e = record { outcome = sym (ap outcomeOf e); value = λ v q. absurd (no-value n p k v (sym e ∙ q)); beyond = refl }
+  evaluated-off n p k e = record { outcome = sym (ap outcomeAs e); value = λ v q. absurd (no-value n p k v (sym e ∙ q)); beyond = refl }
 
   pub evaluated-ran : (table l t : List ℕ) (o : Outcome) → due ≡ runs table l → length t ≡ scratchBytes → Ran table l t o → Evaluated due s (t ++ drop scratchBytes s) o
   evaluated-ran table l t o e long r =
-      record { outcome = r .outcome ∙ sym (ap outcomeOf e); value = λ v q. value-kept s t long v (r .value v (sym e ∙ q)); beyond = rest-kept s t long }
+      record { outcome = r .outcome ∙ sym (ap outcomeAs e); value = λ v q. value-kept s t long v (r .value v (sym e ∙ q)); beyond = rest-kept s t long }
 
 pub valued : (due : Final Value) (s t : List ℕ) (o : Outcome) → Evaluated due s t o → Valued o t
 valued (result v) s t o e = subst (λ x. Valued x t) (sym (e .outcome)) (holds (e .value v refl))
@@ -88,7 +88,7 @@ shown (result v) s t o c e h =
     (subst (λ x. Handed x t c) (e .outcome) h v (e .value v refl), omega (arith, encode-length v, e .value v refl .fine .short))
 shown (refuses n p k) s t o c e h = (subst (λ x. Handed x t c) (e .outcome) h, omega arith)
 
-packed-outcome : (due : Final Value) → packedOf (outcomeOf due) ≡ packed uncounted due
+packed-outcome : (due : Final Value) → packedOf (outcomeAs due) ≡ packed uncounted due
 packed-outcome (result v) = refl
 packed-outcome (refuses n p k) = refl
 
@@ -198,7 +198,7 @@ module _ (table s : List ℕ) (w : Walk) where
         step-left within v h r k v′ e =
             let due = steppedFrom (runs table (listed w)) (onward (nextList (tree table) (listed w))) in
             let g = steps-run table (length s) enough n ok w all within in
-            let same : listOf v ≡ listed w = ap (λ (m : ℕ). take m (v .entries)) (h .len-is) ∙ ap (take (w .len)) (h .entries-are) ∙ take-take (w .len) mostChoices (w .entries) within in
+            let same : listHeld v ≡ listed w = ap (λ (m : ℕ). take m (v .entries)) (h .len-is) ∙ ap (take (w .len)) (h .entries-are) ∙ take-take (w .len) mostChoices (w .entries) within in
             let j : Answers due v r = subst (λ (l : List ℕ). Answers (steppedFrom (runs table l) (onward (nextList (tree table) l))) v r) same k in
             record {
               answered = j .answer ∙ sym (ap (packed uncounted) g);

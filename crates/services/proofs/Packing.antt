@@ -9,25 +9,25 @@ use Rattle.choices.specs.Tree.{Final, result}
 use Rattle.tables.specs.declared.Checked.{Checked}
 use Rattle.tables.specs.declared.Checked.the-variants.{Accepted, Refused}
 use Rattle.tables.specs.Check.{check}
-use Rattle.meaning.specs.Answer.{pack, packed, records}
+use Rattle.meaning.specs.Answer.{pack, packed, recordCount}
 use Rattle.meaning.specs.Service.{scratchBytes, unless, accepted, checks}
 use Rattle.meaning.specs.Lent.{zeroed, afterCheck, checkCall}
-use Rattle.meaning.specs.Laws.ReadBack.{Small, check-late}
+use Rattle.meaning.specs.Laws.ReadBack.{check-late, SmallCheck}
 
 module _ (checked : Checked) where
   module _ (n : ℕ) (e : checked ≡ Accepted n) where
-    pub accepted-few : Small checked → n ≤ 200
-    accepted-few s = subst Small e s
+    pub accepted-few : SmallCheck checked → n ≤ 200
+    accepted-few s = subst SmallCheck e s
 
-    pub accepted-packed : pack 0 0 n ≡ packed records (accepted checked (λ k. result k))
-    accepted-packed = ap (λ (x : Checked). packed records (accepted x (λ k. result k))) (sym e)
+    pub accepted-packed : pack 0 0 n ≡ packed recordCount (accepted checked (λ k. result k))
+    accepted-packed = ap (λ (x : Checked). packed recordCount (accepted x (λ k. result k))) (sym e)
 
   module _ (n r : ℕ) (e : checked ≡ Refused n r) where
-    pub refused-low : Small checked → (3 ≤ n) × (n ≤ 9) × (r < 600)
-    refused-low s = subst Small e s
+    pub refused-low : SmallCheck checked → (3 ≤ n) × (n ≤ 9) × (r < 600)
+    refused-low s = subst SmallCheck e s
 
-    pub refused-packed : pack n r 0 ≡ packed records (accepted checked (λ k. result k))
-    refused-packed = ap (λ (x : Checked). packed records (accepted x (λ k. result k))) (sym e)
+    pub refused-packed : pack n r 0 ≡ packed recordCount (accepted checked (λ k. result k))
+    refused-packed = ap (λ (x : Checked). packed recordCount (accepted x (λ k. result k))) (sym e)
 
 module _ (table scratch : List ℕ) (answer : ℕ) where
   abbrev due : Final ℕ
@@ -39,9 +39,9 @@ module _ (table scratch : List ℕ) (answer : ℕ) where
       ap (λ (b : Bool). afterCheck (unless b 1 due) scratch) (lt-ltb (length scratch) scratchBytes h)
       ∙ ap (λ (x : ℕ). record { answer = x; scratch = scratch }) (sym e)
 
-  pub enough-call : (after : List ℕ) → scratchBytes ≤ length scratch → answer ≡ packed records due → after ≡ zeroed scratchBytes scratch → checkCall table scratch ≡ record { answer = answer; scratch = after }
+  pub enough-call : (after : List ℕ) → scratchBytes ≤ length scratch → answer ≡ packed recordCount due → after ≡ zeroed scratchBytes scratch → checkCall table scratch ≡ record { answer = answer; scratch = after }
   enough-call after h e d =
-      ap (λ (b : Bool). record { answer = packed records (checks (length scratch) table); scratch = cond b scratch (zeroed scratchBytes scratch) }) (check-late (length scratch) table h)
-      ∙ ap (λ (b : Bool). record { answer = packed records (unless b 1 due); scratch = zeroed scratchBytes scratch }) (le-ltb (length scratch) scratchBytes h)
+      ap (λ (b : Bool). record { answer = packed recordCount (checks (length scratch) table); scratch = cond b scratch (zeroed scratchBytes scratch) }) (check-late (length scratch) table h)
+      ∙ ap (λ (b : Bool). record { answer = packed recordCount (unless b 1 due); scratch = zeroed scratchBytes scratch }) (le-ltb (length scratch) scratchBytes h)
       ∙ ap (λ (x : ℕ). record { answer = x; scratch = zeroed scratchBytes scratch }) (sym e)
       ∙ ap (λ (x : List ℕ). record { answer = answer; scratch = x }) (sym d)

@@ -17,7 +17,7 @@ use Rattle.meaning.specs.Service.{scratchBytes}
 use Rattle.meaning.specs.Lent.{AfterWalk, walkAfter}
 use Rattle.evaluator.specs.declared.Outcome.{Outcome}
 use Rattle.evaluator.specs.declared.Outcome.the-variants.{Value as HasValue, Refused}
-use Rattle.walks.specs.Steps.{outcomeOf}
+use Rattle.walks.specs.Steps.{outcomeAs}
 
 -- ---- walks
 
@@ -50,7 +50,7 @@ pub record Left (due : Final (List ℕ)) (w : Walk) (scratch : List ℕ) (r : Af
 
 -- What is due is the outcome, its value stands at the start of the scratch, and what lies beyond is untouched.
 pub record Evaluated (due : Final Value) (before after : List ℕ) (o : Outcome) : Type 0 where
-  pub outcome : o ≡ outcomeOf due
+  pub outcome : o ≡ outcomeAs due
   pub value : (v : Value) → due ≡ result v → At after 0 v
   pub beyond : drop scratchBytes after ≡ drop scratchBytes before
 

@@ -5,10 +5,10 @@ ghost use Prim.Native.Nat.{ℕ, _<_, _≤_};
 ghost use lib.ListN.{length, drop};
 ghost use Rattle.choices.specs.Tree.{result, mostChoices};
 ghost use Rattle.values.specs.Value.{valueLimit as largest};
-ghost use Rattle.meaning.specs.Answer.{packed, records};
+ghost use Rattle.meaning.specs.Answer.{packed, recordCount};
 ghost use Rattle.meaning.specs.Service.{scratchBytes, accepted, evaluates, firsts, steps};
 ghost use Rattle.meaning.specs.Lent.{zeroed, checkCall, evaluateCall, firstCall, stepCall};
-ghost use Rattle.meaning.specs.Laws.ReadBack.{Small};
+ghost use Rattle.meaning.specs.Laws.ReadBack.{SmallCheck};
 ghost use Rattle.services.specs.Left.{Accepts, Loaded, walkOf, stored, Evaluated, Valued, Handed, Left};
 use checking::check;
 use choices::list::Walk;
@@ -80,8 +80,8 @@ fn store(walk: Walk, entries: &mut [u8], len: &mut usize)
 
 // The answer of the check of a table.
 fn answer(checked: Checked) -> u64
-    requires { ⌜ Small checked ⌝ }
-    ensures { λ a. ⌜ a ≡ packed records (accepted checked (λ n. result n)) ⌝ }
+    requires { ⌜ SmallCheck checked ⌝ }
+    ensures { λ a. ⌜ a ≡ packed recordCount (accepted checked (λ n. result n)) ⌝ }
 {
     match checked {
         Checked::Accepted(n) => pack(0, 0, n),

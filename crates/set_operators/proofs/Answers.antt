@@ -20,7 +20,7 @@ use Rattle.values.proofs.Records.{holds, word-size, items-to, one-item, collect
 use Rattle.collections.specs.declared.building.Added.{Added}
 use Rattle.collections.specs.declared.building.Added.the-variants.{Done as Fitted, Full as TooLong}
 use Rattle.collections.specs.Finding.{HoldsKind, Contains}
-use Rattle.collections.proofs.Built.{fits, over}
+use Rattle.collections.proofs.Built.{put-within, long-past}
 use Rattle.operators.specs.Answer.{is, refused, wrongKind, asSet, closed, sized}
 use Rattle.operators.specs.Booleans.{truth}
 use Rattle.operators.specs.Gather.{everyItem, keepItems, insertAll}
@@ -70,13 +70,13 @@ module _ {n : ℕ} (low : 17 ≤ n) (high : n ≤ 18) where
 
 pub grown-done : {t : List ℕ} {at : ℕ} {us : Items} {r : Added} → Grown t at us r → r ≡ Fitted → sized set us ≡ is (collection set us)
 grown-done {us = us} g e =
-    let h : size (collection set us) ≤ valueLimit = fits (g .answers) e in
+    let h : size (collection set us) ≤ valueLimit = put-within (g .answers) e in
     let c = collection-size set us in
     ap (closed set) (fitting-is us (omega arith))
 
 pub grown-full : {t : List ℕ} {at : ℕ} {us : Items} {r : Added} → Grown t at us r → r ≡ TooLong → sized set us ≡ refused 28
 grown-full {us = us} g e =
-    let h : valueLimit < size (collection set us) = over (g .answers) e in
+    let h : valueLimit < size (collection set us) = long-past (g .answers) e in
     let c = collection-size set us in
     ap (closed set) (fits-not us (omega arith))
 

@@ -1,3 +1,4 @@
+-- What the proofs of the operators on sets need; nobody else cites it.
 mod Testing
 mod Flattening
 mod Choosing

@@ -9,9 +9,10 @@ use lib.ListN.{length, getD}
 use Rattle.values.specs.Value.{Kind, set, sequence, tuple, Value}
 use Rattle.tables.specs.Record.{Record}
 use Rattle.patterns.specs.Ways.{exists}
-use Rattle.patterns.specs.Pattern.{Pattern, any, each, halved, contents, met, split, leftOf, rightOf, tooLarge, wide, wideEach}
+use Rattle.patterns.specs.Pattern.{Pattern, any, each, halved, contents, met, split, leftOf, rightOf, wide, wideEach, isTooLarge}
 use Rattle.patterns.specs.Read.{patternsOf, patternOf}
-use Rattle.patterns.specs.Nodes.{isHalved, pair, meetings, isLarge, parts-length, is-name, is-any, is-boolean, is-integer}
+use Rattle.patterns.specs.Nodes.{isHalved, meetings, isLarge, bothHalves}
+use Rattle.patterns.specs.Laws.Nodes.{parts-length, is-name, is-any, is-boolean-literal, is-integer-literal}
 use Rattle.splitting.specs.Union.{hasUnion, someUnion, shallow}
 
 pub or-last : (b : Bool) → b ≡ b || false
@@ -37,15 +38,15 @@ unfolding wide
 wide-each k ps v = ap (λ (n : ℕ). exists (met k n (contents k v)) (λ vs. wideEach (patternsOf ps) vs)) (parts-length ps)
 
 wide-halved : (k : Kind) (ps : List Pattern) (v : Value) → length ps ≡ 2
-    → wide (halved k (getD ps 0 any) (getD ps 1 any)) v ≡ tooLarge k (contents k v) || exists (map (pair k) (split k (contents k v))) (λ vs. wideEach (patternsOf ps) vs)
+    → wide (halved k (getD ps 0 any) (getD ps 1 any)) v ≡ isTooLarge k (contents k v) || exists (map (bothHalves k) (split k (contents k v))) (λ vs. wideEach (patternsOf ps) vs)
 unfolding wide patternsOf
 wide-halved k [] v e = absurd (omega arith)
 wide-halved k (p ∷ []) v e = absurd (omega arith)
 wide-halved k (p ∷ q ∷ []) v e =
-    ap (λ (b : Bool). tooLarge k (contents k v) || b)
-    (exists-same (split k (contents k v)) (λ h. wide p (leftOf k h) || wide q (rightOf k h)) (λ h. wideEach (patternsOf (p ∷ q ∷ [])) (pair k h))
+    ap (λ (b : Bool). isTooLarge k (contents k v) || b)
+    (exists-same (split k (contents k v)) (λ h. wide p (leftOf k h) || wide q (rightOf k h)) (λ h. wideEach (patternsOf (p ∷ q ∷ [])) (bothHalves k h))
     (λ h. ap (λ (b : Bool). wide p (leftOf k h) || b) (or-last (wide q (rightOf k h))))
-    ∙ sym (exists-map (pair k) (split k (contents k v)) (λ vs. wideEach (patternsOf (p ∷ q ∷ [])) vs)))
+    ∙ sym (exists-map (bothHalves k) (split k (contents k v)) (λ vs. wideEach (patternsOf (p ∷ q ∷ [])) vs)))
 wide-halved k (p ∷ q ∷ r ∷ ps) v e = absurd (omega arith)
 
 union-halved : (ps : List Pattern) → length ps ≡ 2 → hasUnion (getD ps 0 any) || hasUnion (getD ps 1 any) ≡ someUnion (patternsOf ps)
@@ -64,8 +65,8 @@ module _ (r : Record) (ps : List Pattern) where
       cases : (d : ℕ) → r .kind ≡ 32 + d → d ≤ 3 → hasUnion (patternOf r ps) ≡ false
       cases zero f l = ap hasUnion (is-name r ps f)
       cases (suc zero) f l = ap hasUnion (is-any r ps f)
-      cases (suc (suc zero)) f l = ap hasUnion (is-boolean r ps f)
-      cases (suc (suc (suc zero))) f l = ap hasUnion (is-integer r ps f)
+      cases (suc (suc zero)) f l = ap hasUnion (is-boolean-literal r ps f)
+      cases (suc (suc (suc zero))) f l = ap hasUnion (is-integer-literal r ps f)
       cases (suc (suc (suc (suc d)))) f l = absurd (omega arith)
 
   module _ (low : 36 ≤ r .kind) (high : r .kind ≤ 40) (two : isHalved (r .kind) ≡ true → length ps ≡ 2) where

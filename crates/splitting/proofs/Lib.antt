@@ -1,3 +1,3 @@
--- What the proofs of the functions cite.
+-- What the proofs of the functions need; forming and bindings cite `Composed`.
 pub mod Telling
 pub mod Composed

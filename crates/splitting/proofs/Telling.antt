@@ -13,20 +13,23 @@ use Rattle.prelude.proofs.Truth.{or-false-right}
 use Rattle.values.specs.Value.{Value, boolean}
 use Rattle.tables.specs.Record.{named, operand}
 use Rattle.tables.specs.Table.{recordAt, kindAt}
-use Rattle.tables.specs.Accepted.{records, lower}
+use Rattle.tables.specs.Accepted.{records}
+use Rattle.tables.specs.Laws.Accepted.{lower}
 use Rattle.parts.specs.declared.Part.{Part}
 use Rattle.parts.specs.Part.{PartIs, PartHeld}
 use Rattle.parts.proofs.Laws.{part-one}
 use Rattle.patterns.specs.Ways.{exists}
 use Rattle.patterns.specs.Pattern.{Pattern, any, wide, wideEach}
 use Rattle.patterns.specs.Read.{patternsOf, patternOf, patternAt, Readable}
-use Rattle.patterns.specs.Nodes.{isHalved, meetings, isLarge, pattern-at}
+use Rattle.patterns.specs.Nodes.{isHalved, meetings, isLarge}
+use Rattle.patterns.specs.Laws.Nodes.{pattern-at}
 use Rattle.matching.specs.declared.nodes.Meeting.{Meeting}
 use Rattle.matching.specs.declared.nodes.Meeting.the-variants.{Unfit, Large, Ways}
 use Rattle.matching.specs.Node.{MeetsAs, Meets, PieceHeld, PieceOf, innerOf, waysOf, metBy, WayHeld}
-use Rattle.matching.proofs.Piecing.{map-at}
+use Rattle.prelude.proofs.Lists.{map-at}
 use Rattle.matching.proofs.Records.{kind-low, kind-high, count-few, count-two, meeting-length}
-use Rattle.splitting.specs.Union.{hasUnion, someUnion, shallow, no-union-narrow, shallow-narrow}
+use Rattle.splitting.specs.Union.{hasUnion, someUnion, shallow}
+use Rattle.splitting.specs.Laws.Union.{no-union-narrow, shallow-narrow}
 use Rattle.splitting.proofs.Composed.{leaf-no-union, wide-composed, union-composed, shallow-union, shallow-other}
 use Rattle.splitting.specs.Told.{TellsUnion, TellsShallow, TellsWide, TellsWays, TellsWay, WaysHeld, wideWays}
 

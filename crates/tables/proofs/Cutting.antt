@@ -10,10 +10,12 @@ use lib.ListN.{length, getD, take, drop, set, length-drop, length-set}
 use lib.Seq.{take-all, getD-set-same, getD-set-other, getD-drop, drop-drop, drop-length}
 use Rattle.integers.specs.Bytes.{word}
 use Rattle.tables.specs.Record.{Record, shape, size, isFit}
-use Rattle.tables.specs.Table.{first, Next, fault, one, next, Cut, after, cutBy, cut, noRecord}
+use Rattle.tables.specs.Table.{first, Next, fault, one, next, Cut, cutBy, cut, noRecord, onNext}
 use Rattle.tables.specs.Check.{mostRecords}
-use Rattle.tables.specs.Laws.{split, each}
-use Rattle.tables.specs.Accepted.{records, fit-kind, fit-most}
+use Rattle.prelude.proofs.Truth.{by-lower}
+use Rattle.tables.specs.Laws.Tests.{each}
+use Rattle.tables.specs.Accepted.{records}
+use Rattle.tables.specs.Laws.Accepted.{fit-kind, fit-most}
 use Rattle.tables.specs.Laws.Cutting.{IsNext, next-is}
 use Rattle.tables.specs.Reading.{Stands, Places, Measured, CutOut}
 use Rattle.tables.proofs.Fit.{plus-zero, plus-four, fields-long, field-at}
@@ -174,7 +176,7 @@ module _ (table index : List ℕ) (at count : ℕ) (t : Turn table index at coun
     room : length table - count ≡ suc (length table - (count + 1))
     room = omega (arith, t .steps)
 
-    unrolled : cutBy (length table - count) (drop at table) ≡ after (next (drop at table)) (λ rest. cutBy (length table - (count + 1)) rest)
+    unrolled : cutBy (length table - count) (drop at table) ≡ onNext (next (drop at table)) (λ rest. cutBy (length table - (count + 1)) rest)
     unfolding cutBy
     unrolled = ap (λ (b : ℕ). cutBy b (drop at table)) room
 
@@ -182,7 +184,7 @@ module _ (table index : List ℕ) (at count : ℕ) (t : Turn table index at coun
     pub turn-bad : next (drop at table) ≡ fault → CutOut table index (record { count = count; whole = false })
     turn-bad e =
         let out : cutBy (length table - count) (drop at table) ≡ record { records = []; whole = false } =
-        unrolled ∙ ap (λ (n : Next). after n (λ rest. cutBy (length table - (count + 1)) rest)) e in
+        unrolled ∙ ap (λ (n : Next). onNext n (λ rest. cutBy (length table - (count + 1)) rest)) e in
         let over : drop count (records table) ≡ [] = sym (t .left) ∙ ap (λ (c : Cut). c .records) out in
         let last : count ≡ length (records table) = omega (arith, t .fits, length-drop count (records table), ap length over) in
         record {
@@ -196,8 +198,8 @@ module _ (table index : List ℕ) (at count : ℕ) (t : Turn table index at coun
     turn-more n index′ e is noted =
         let x : Record = first (drop at table) in
         let i : IsNext (drop at table) x (drop n (drop at table)) = next-is (drop at table) x (drop n (drop at table)) e in
-        let out : cutBy (length table - count) (drop at table) ≡ after (one x (drop n (drop at table))) (λ rest. cutBy (length table - (count + 1)) rest) =
-        unrolled ∙ ap (λ (n : Next). after n (λ rest. cutBy (length table - (count + 1)) rest)) e in
+        let out : cutBy (length table - count) (drop at table) ≡ onNext (one x (drop n (drop at table))) (λ rest. cutBy (length table - (count + 1)) rest) =
+        unrolled ∙ ap (λ (n : Next). onNext n (λ rest. cutBy (length table - (count + 1)) rest)) e in
         let hd : Head (records table) count x (cutBy (length table - (count + 1)) (drop n (drop at table)) .records) =
         drop-head (records table) count x _ (sym (t .left) ∙ ap (λ (c : Cut). c .records) out) in
         record {
@@ -210,7 +212,7 @@ module _ (table index : List ℕ) (at count : ℕ) (t : Turn table index at coun
               ∙ sym (ap (λ (c : Cut). c .whole) out) ∙ t .same;
           places =
               λ r k l.
-              split r count (λ h. rw (noted .others r h) (t .places r h l))
+              by-lower r count (λ h. rw (noted .others r h) (t .places r h l))
               (λ h.
               let same : r ≡ count = omega arith in
               rw (same, noted .here (omega arith), hd .is) (stands table at (drop n (drop at table)) i));

@@ -1,78 +1,62 @@
--- The constant table holds the lengths of all kinds: its rule is one test of a row that is computed over all kinds.
+-- The constant table holds the lengths of all kinds, and bits where their operands begin: each rule is one test that is computed over all kinds.
 use mathlib.Core.Path.{_≡_, refl, sym, ap, _∙_}
-use mathlib.Core.Bool.{Bool, true, false, _&&_}
-use mathlib.Core.List.{List, [], _∷_}
-use Prim.Native.Nat.{ℕ, _+_, _-_, _%_, _≤_, _<_}
+use mathlib.Core.Bool.{Bool, true, false, not, _&&_, _||_}
+use Prim.Native.Nat.{ℕ, _+_, _-_, _*_, _/_, _%_, _^_, _≤_, _<_}
 use native.Mathlib.Omega.{arith}
-use borrow.Author.Tests.{lt-leb, le-leb, leb-true, eqb-true, eq-eqb}
-use lib.Dec.{eqb, leb}
+use borrow.Author.Tests.{lt-leb, le-ltb, leb-true, eqb-true, ne-eqb, not-true}
+use lib.Dec.{eqb, ltb, leb}
 use lib.ListN.{length, getD}
-use mathlib.Mathlib.Data.Bool.Basic.{and-elim-left, and-elim-right}
-use Rattle.tables.specs.declared.shape.Lengths.{Lengths}
+use Rattle.prelude.proofs.Truth.{implied}
 use Rattle.tables.specs.Record.{shape, size, fits}
-use Rattle.tables.specs.Laws.{each}
+use Rattle.tables.specs.Sheet.{any}
+use Rattle.tables.specs.Shapes.{lengthRows, firstOf}
+use Rattle.tables.specs.Laws.Tests.{each}
 
-abbrev row : ℕ → ℕ → ℕ → Lengths
-row least greatest step = record { 0 = least; 1 = greatest; 2 = step }
+-- Two truths are the same.
+abbrev pub same : Bool → Bool → Bool
+same true b = b
+same false b = not b
 
-abbrev rows : List Lengths
-rows =
-    row 4 4 1 ∷ row 5 5 1 ∷ row 8 8 1 ∷ row 5 5 1 ∷ row 6 6 1 ∷
-    row 7 7 1 ∷ row 7 7 1 ∷ row 4 12 1 ∷ row 4 12 1 ∷ row 4 12 2 ∷
-    row 6 8 1 ∷ row 6 6 1 ∷ row 7 7 1 ∷ row 8 8 1 ∷ row 7 7 1 ∷
-    row 7 7 1 ∷ row 7 7 1 ∷ row 7 7 1 ∷ row 8 8 1 ∷ row 8 8 1 ∷
-    row 9 9 1 ∷ row 6 6 1 ∷ row 4 4 1 ∷ row 4 4 1 ∷ row 4 4 1 ∷
-    row 4 4 1 ∷ row 4 4 1 ∷ row 4 4 1 ∷ row 4 4 1 ∷ row 4 4 1 ∷
-    row 4 4 1 ∷ row 4 4 1 ∷ row 5 5 1 ∷ row 4 4 1 ∷ row 5 5 1 ∷
-    row 8 8 1 ∷ row 6 8 1 ∷ row 4 8 1 ∷ row 6 6 1 ∷ row 4 8 1 ∷
-    row 6 6 1 ∷ []
+pub same-is : (a b : Bool) → same a b ≡ true → a ≡ b
+same-is true b e = sym e
+same-is false b e = sym (not-true b e)
 
-abbrev pub rowOf : ℕ → Lengths
-rowOf k = getD rows k (row 0 0 0)
+-- ---- lengths
 
--- The least length of a kind, the greatest and the step.
-abbrev least : ℕ → ℕ
-least k = 4 + (size (shape k .head) + shape k .least)
+-- Of d bytes after the heading.
+abbrev right : ℕ → ℕ → Bool
+right d k = same (eqb (getD lengthRows k 0 / 2 ^ d % 2) 1) (fits (shape k) d)
 
-abbrev greatest : ℕ → ℕ
-greatest k = 4 + (size (shape k .head) + length (shape k .roles))
+right-all : (d k : ℕ) → d < 9 → k ≤ 40 → right d k ≡ true
+unfolding shape
+right-all d k h known =
+    each (right d) 41 (not-true (any (λ k. not (right d k)) 41) (each (λ d. not (any (λ k. not (right d k)) 41)) 9 refl d h)) k (omega arith)
 
-abbrev holds : ℕ → Lengths → Bool
-holds k r = eqb (r .0) (least k) && eqb (r .1) (greatest k) && eqb (r .2) (shape k .step) && leb 1 (r .2)
+-- No kind has more than eight fields.
+few-fields : (k : ℕ) → k ≤ 40 → leb (size (shape k .head) + length (shape k .roles)) 8 ≡ true
+unfolding shape
+few-fields k h = each (λ k. leb (size (shape k .head) + length (shape k .roles)) 8) 41 refl k (omega arith)
 
-module _ (k : ℕ) (known : k ≤ 40) where
-  right : holds k (rowOf k) ≡ true
-  unfolding shape
-  right = each (λ k. holds k (rowOf k)) 41 refl k (omega arith)
+module _ (k : ℕ) (known : k ≤ 40) (len : ℕ) (head : 4 ≤ len) where
+  pub too-long : 12 < len → false ≡ fits (shape k) (len - 4)
+  too-long h =
+      rw (lt-leb (len - 4) (size (shape k .head) + length (shape k .roles)) (omega (arith, leb-true (size (shape k .head) + length (shape k .roles)) 8 (few-fields k known))))
+      (middle (leb (size (shape k .head) + shape k .least) (len - 4)) (eqb ((len - 4 - (size (shape k .head) + shape k .least)) % shape k .step) 0))
+    where
+      middle : (a b : Bool) → false ≡ (a && false) && b
+      middle true b = refl
+      middle false b = refl
 
-  least-is : rowOf k .0 ≡ least k
-  least-is = eqb-true _ _ (and-elim-left _ _ (and-elim-left _ _ (and-elim-left _ _ right)))
+  pub by-bit : len ≤ 12 → eqb (getD lengthRows k 0 / 2 ^ (len - 4) % 2) 1 ≡ fits (shape k) (len - 4)
+  by-bit h = same-is (eqb (getD lengthRows k 0 / 2 ^ (len - 4) % 2) 1) (fits (shape k) (len - 4)) (right-all (len - 4) k (omega arith) known)
 
-  greatest-is : rowOf k .1 ≡ greatest k
-  greatest-is = eqb-true _ _ (and-elim-right (eqb (rowOf k .0) (least k)) _ (and-elim-left _ _ (and-elim-left _ _ right)))
+-- ---- first operands
 
-  step-is : rowOf k .2 ≡ shape k .step
-  step-is = eqb-true _ _ (and-elim-right (eqb (rowOf k .0) (least k) && eqb (rowOf k .1) (greatest k)) _ (and-elim-left _ _ right))
+pub first-is : (k : ℕ) → k ≤ 40 → 4 + 21474836538 / 2 ^ k % 2 + 4 * (34359738372 / 2 ^ k % 2) ≡ firstOf k
+unfolding shape
+first-is k h =
+    eqb-true _ _ (each (λ k. eqb (4 + 21474836538 / 2 ^ k % 2 + 4 * (34359738372 / 2 ^ k % 2)) (firstOf k)) 41 refl k (omega arith))
 
-  pub step-some : 0 < rowOf k .2
-  step-some = leb-true 1 _ (and-elim-right (eqb (rowOf k .0) (least k) && eqb (rowOf k .1) (greatest k) && eqb (rowOf k .2) (shape k .step)) _ right)
-
-  module _ (len : ℕ) (head : 4 ≤ len) where
-    pub too-short : len < rowOf k .0 → false ≡ fits (shape k) (len - 4)
-    too-short h = rw (lt-leb (size (shape k .head) + shape k .least) (len - 4) (omega (arith, least-is)))
-
-    module _ (long : rowOf k .0 ≤ len) where
-      pub too-long : rowOf k .1 < len → false ≡ fits (shape k) (len - 4)
-      too-long h =
-          rw (le-leb (size (shape k .head) + shape k .least) (len - 4) (omega (arith, least-is)), lt-leb (len - 4) (size (shape k .head) + length (shape k .roles)) (omega (arith, greatest-is)))
-
-      -- Between the two, the step decides.
-      pub by-step : len ≤ rowOf k .1 → eqb ((len - rowOf k .0) % rowOf k .2) 0 ≡ fits (shape k) (len - 4)
-      by-step h =
-          let past : len - rowOf k .0 ≡ (len - 4) - (size (shape k .head) + shape k .least) = omega (arith, least-is) in
-          rw (le-leb (size (shape k .head) + shape k .least) (len - 4) (omega (arith, least-is)), le-leb (len - 4) (size (shape k .head) + length (shape k .roles)) (omega (arith, greatest-is)))
-          (ap (λ (n : ℕ). eqb (n % rowOf k .2) 0) past ∙ ap (λ (n : ℕ). eqb (((len - 4) - (size (shape k .head) + shape k .least)) % n) 0) step-is)
-
-      pub by-one : len ≤ rowOf k .1 → rowOf k .2 ≡ 1 → true ≡ fits (shape k) (len - 4)
-      by-one h e =
-          sym (eq-eqb ((len - rowOf k .0) % 1) 0 (omega arith)) ∙ ap (λ (n : ℕ). eqb ((len - rowOf k .0) % n) 0) (sym e) ∙ by-step h
+pub first-most : (k : ℕ) → k ≤ 40 → firstOf k ≤ 8
+unfolding shape
+first-most k h = leb-true (firstOf k) 8 (each (λ k. leb (firstOf k) 8) 41 refl k (omega arith))

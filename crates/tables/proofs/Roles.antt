@@ -11,7 +11,7 @@ use Rattle.tables.specs.declared.Role.the-variants.{Plain, Condition, Bo
 use Rattle.tables.specs.Record.{shape, isPattern}
 use Rattle.tables.specs.Shapes.{rolesOf, binderRole}
 use Rattle.tables.specs.Sheet.{any, isBinder}
-use Rattle.tables.specs.Laws.{any-none}
+use Rattle.tables.specs.Laws.Tests.{any-none}
 
 abbrev pub roleBy : ℕ → ℕ → Role
 roleBy kind i = cond (isPattern kind) Pattern (cond (isBinder kind) (binderRole kind i) Plain)

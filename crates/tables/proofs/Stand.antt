@@ -13,7 +13,8 @@ use Rattle.tables.specs.Record.{size, headOf, field, named, operand, int
 use Rattle.tables.specs.Table.{recordAt, kindAt}
 use Rattle.tables.specs.Check.{mostRecords}
 use Rattle.tables.specs.Shapes.{firstOf, rolesOf}
-use Rattle.tables.specs.Accepted.{records, fit-records, fit-kind, fit-least, fit-most, named-count, operand-field}
+use Rattle.tables.specs.Accepted.{records}
+use Rattle.tables.specs.Laws.Accepted.{fit-records, fit-kind, fit-least, fit-most, named-count, operand-field}
 use Rattle.tables.specs.Reading.{Stands, Here}
 use Rattle.tables.proofs.Fit.{plus-four}
 use Rattle.tables.proofs.Cutting.{part-rest, fields-few}

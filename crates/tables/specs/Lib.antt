@@ -1,5 +1,4 @@
--- Records, rules 3 to 9 and the check of a table: `Record`, `Table`, `Sheet` and `Check` are what a reader believes. Contracts of this crate and of
--- `checking` cite `Shapes` and `Reading`; whoever reads an accepted table, in specs or proofs, cites `Accepted`, and `Laws` below it.
+-- Records, rules 3 to 9 and the check (`Record`, `Table`, `Sheet`, `Check`); what an accepted table has, and what the readers ask and promise. Cited by whoever reads a table.
 pub mod Record
 pub mod Table
 pub mod Sheet

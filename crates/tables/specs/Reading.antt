@@ -2,14 +2,12 @@
 use mathlib.Core.Path.{_≡_}
 use mathlib.Core.List.{List}
 use Prim.Native.Nat.{ℕ, _+_, _≤_, _<_}
-use native.Mathlib.Omega.{arith}
 use lib.ListN.{length, getD, drop}
 use Rattle.integers.specs.Bytes.{word}
 use Rattle.tables.specs.Record.{Record, named}
 use Rattle.tables.specs.Table.{fault, one, next, first, recordAt, cut}
-use Rattle.tables.specs.Check.{mostRecords, check}
-use Rattle.tables.specs.Accepted.{records, accepted-fine}
-use Rattle.tables.specs.declared.Checked.the-variants.{Accepted}
+use Rattle.tables.specs.Check.{mostRecords}
+use Rattle.tables.specs.Accepted.{records}
 use Rattle.tables.specs.declared.reading.Cutting.{Cutting}
 
 -- The record x stands at a place of the table: length, kind, then one-byte fields. (Length and kind are below 256.)
@@ -53,9 +51,3 @@ pub record CutOut (table index : List ℕ) (c : Cutting) : Type 0 where
   pub count : c .count ≡ length (records table)
   pub whole : c .whole ≡ cut table .whole
   pub places : Places table index (length (records table))
-
--- An index of an accepted table finds all its records.
-pub cut-accepted : (table index : List ℕ) (c : Cutting) (n : ℕ) → CutOut table index c → check table ≡ Accepted n → Indexed table index
-cut-accepted table index c n out e =
-    let few : length (records table) ≤ mostRecords = accepted-fine table n e .0 .few in
-    record { few = few; place = λ r h. out .places r h (omega arith) }

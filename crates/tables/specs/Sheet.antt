@@ -46,22 +46,22 @@ abbrev pub fold : {A : Type 0} → (ℕ → List A → A) → A → List Record 
 fold node none rs r = foldBy node none rs (suc r) r
 
 -- The record r or one below it passes the test.
-abbrev pub holds : (Record → Bool) → List Record → ℕ → Bool
-holds test rs r = fold (λ q bs. test (recordAt rs q) || some bs) false rs r
+abbrev pub anyBelow : (Record → Bool) → List Record → ℕ → Bool
+anyBelow test rs r = fold (λ q bs. test (recordAt rs q) || some bs) false rs r
 
 -- A pattern holds the name n: it is, or has below it, a pattern of kind 32 with that name.
 abbrev pub isName : ℕ → Record → Bool
 isName n r = eqb (r .kind) 32 && eqb (nameOf r) n
 
 unfoldable pub holdsName : List Record → ℕ → ℕ → Bool
-holdsName rs p n = holds (isName n) rs p
+holdsName rs p n = anyBelow (isName n) rs p
 
 -- A pattern is loose when it holds a 37, 38 or 40: a let with it is a choice.
 abbrev pub isLoose : Record → Bool
 isLoose r = shape (r .kind) .loose
 
 unfoldable pub loose : List Record → ℕ → Bool
-loose rs p = holds isLoose rs p
+loose rs p = anyBelow isLoose rs p
 
 -- A record without operands has height 1, others one more than the highest operand.
 unfoldable pub height : List Record → ℕ → ℕ

@@ -31,15 +31,15 @@ pub record Cut : Type 0 where
 abbrev pub put : Record → Cut → Cut
 put r c = record { records = r ∷ c .records; whole = c .whole }
 
-abbrev pub after : Next → (List ℕ → Cut) → Cut
-after end more = record { records = []; whole = true }
-after fault more = record { records = []; whole = false }
-after (one r rest) more = put r (more rest)
+abbrev pub onNext : Next → (List ℕ → Cut) → Cut
+onNext end more = record { records = []; whole = true }
+onNext fault more = record { records = []; whole = false }
+onNext (one r rest) more = put r (more rest)
 
 -- By recursion on a bound above the number of records.
 unfoldable pub cutBy : ℕ → List ℕ → Cut
 cutBy zero bytes = record { records = []; whole = true }
-cutBy (suc bound) bytes = after (next bytes) (λ rest. cutBy bound rest)
+cutBy (suc bound) bytes = onNext (next bytes) (λ rest. cutBy bound rest)
 
 unfoldable pub cut : List ℕ → Cut
 cut table = cutBy (length table) table

@@ -5,12 +5,15 @@ ghost use lib.ListN.{length, getD};
 ghost use Rattle.tables.specs.Record.{lastKind, named, operand as operandIn, roleAt, field as fieldIn, integerOf};
 ghost use Rattle.tables.specs.Table.{recordAt, kindAt};
 ghost use Rattle.tables.specs.Check.{mostBytes, mostRecords};
+ghost use Rattle.tables.specs.Shapes.{lengthRows};
 ghost use Rattle.tables.specs.Accepted.{records};
 ghost use Rattle.tables.specs.Reading.{Measured, CutOut, Here, HasField, HasOperand};
 use crate::HEADING;
 use crate::Index;
 use crate::MOST_RECORDS;
 use crate::Role;
+use crate::shape::LENGTHS;
+use crate::shape::Lengths;
 use crate::shape::first_operand;
 use crate::shape::is_fit;
 use crate::shape::role_of;
@@ -25,7 +28,8 @@ pub struct Cutting {
 }
 
 // The length of the record at the start of the part; 0 where rule 4 finds a fault.
-pub fn measure(part: &[u8]) -> usize
+pub fn measure(lengths: &Lengths, part: &[u8]) -> usize
+    requires { ⌜ now lengths ≡ lengthRows ⌝ }
     requires { ⌜ 0 < length (now part) ⌝ }
     ensures { λ n. ⌜ Measured (now (part .entry)) n ⌝ }
 {
@@ -40,7 +44,7 @@ pub fn measure(part: &[u8]) -> usize
         return 0;
     }
     let kind = read16(part, 2);
-    let fit = is_fit(part, kind, len);
+    let fit = is_fit(lengths, part, kind, len);
     if !fit {
         return 0;
     }
@@ -52,10 +56,11 @@ pub fn cut(table: &[u8], index: &mut Index) -> Cutting
     requires { ⌜ (length (now table) ≤ mostBytes) × (length (now index) ≡ mostRecords) ⌝ }
     ensures { λ c. ⌜ CutOut (now (table .entry)) (now (index .exit)) c ⌝ }
 {
+    let lengths = LENGTHS;
     let mut at = 0;
     let mut count = 0;
     while at < table.len() {
-        let len = measure(&table[at..]);
+        let len = measure(&lengths, &table[at..]);
         if len == 0 {
             return Cutting {
                 count,

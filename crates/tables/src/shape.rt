@@ -1,4 +1,4 @@
-// The shape of each kind of record, as its row in the definition tells it: lengths by a constant table, the rest by the kinds' names.
+// The shape of each kind of record, as its row in the definition tells it: lengths by a constant table, first operands by bits, the rest by the kinds' names.
 ghost use mathlib.Core.Path.{_≡_};
 ghost use Prim.Native.Nat.{_-_, _<_, _≤_};
 ghost use mathlib.Core.Bool.{_&&_, _||_};
@@ -8,7 +8,7 @@ ghost use Rattle.integers.specs.Bytes.{word};
 ghost use Rattle.tables.specs.Record.{shape, lastKind, isExpression, isPattern, fits, isFit};
 ghost use Rattle.tables.specs.Table.{first};
 ghost use Rattle.tables.specs.Sheet.{isBinder};
-ghost use Rattle.tables.specs.Shapes.{firstOf, rolesOf, firstRole, thirdRole, binderRole, knownFirst};
+ghost use Rattle.tables.specs.Shapes.{lengthRows, firstOf, rolesOf, firstRole, thirdRole, binderRole, isTested, knownFirst};
 use crate::HEADING;
 use crate::NAMES;
 use crate::Role;
@@ -16,66 +16,92 @@ use crate::binary;
 use crate::kinds;
 use crate::unary;
 
-// The places past a field of one byte and past an integer, as the first field.
-const PAST_BYTE: usize = HEADING + 1;
+// No record is longer.
+const LONGEST: usize = HEADING + 8;
 
-const PAST_INTEGER: usize = HEADING + 4;
+// The lengths of records, a row for each kind: bit n is set where records of the kind have n bytes after their heading.
+pub type Lengths = [u16; kinds::LAST + 1];
 
-// The least and the greatest length of a record, and the step from one length to the next.
-struct Lengths(u8, u8, u8);
+const NO_FIELD: u16 = 1;
 
-// The lengths of each kind from 0 on. No record has kind 0 or 22 to 31.
-const LENGTHS: [Lengths; kinds::LAST + 1] = [
-    Lengths(4, 4, 1),
+const ONE: u16 = 2;
+
+const TWO: u16 = 4;
+
+const THREE: u16 = 8;
+
+const FOUR: u16 = 16;
+
+const FIVE: u16 = 32;
+
+const TWO_TO_FOUR: u16 = 0x1c;
+
+const UP_TO_FOUR: u16 = 0x1f;
+
+const UP_TO_EIGHT: u16 = 0x1ff;
+
+const PAIRS: u16 = 0x155;
+
+// The kinds from 0 on. No record has kind 0 or 22 to 31. Whoever tests many records lends this table, since it is built anew where it is named.
+pub const LENGTHS: Lengths = [
+    NO_FIELD,
     // 1 boolean, 2 integer, 3 name
-    Lengths(5, 5, 1),
-    Lengths(8, 8, 1),
-    Lengths(5, 5, 1),
+    ONE,
+    FOUR,
+    ONE,
     // 4 unary, 5 binary, 6 if
-    Lengths(6, 6, 1),
-    Lengths(7, 7, 1),
-    Lengths(7, 7, 1),
+    TWO,
+    THREE,
+    THREE,
     // 7 set, 8 sequence, 9 map enumeration, 10 tuple, 11 set range
-    Lengths(4, 12, 1),
-    Lengths(4, 12, 1),
-    Lengths(4, 12, 2),
-    Lengths(6, 8, 1),
-    Lengths(6, 6, 1),
+    UP_TO_EIGHT,
+    UP_TO_EIGHT,
+    PAIRS,
+    TWO_TO_FOUR,
+    TWO,
     // 12 let, 13 let-be, 14 forall, 15 exists, 16 exists1, 17 iota
-    Lengths(7, 7, 1),
-    Lengths(8, 8, 1),
-    Lengths(7, 7, 1),
-    Lengths(7, 7, 1),
-    Lengths(7, 7, 1),
-    Lengths(7, 7, 1),
+    THREE,
+    FOUR,
+    THREE,
+    THREE,
+    THREE,
+    THREE,
     // 18 set, 19 sequence, 20 map comprehension, 21 apply
-    Lengths(8, 8, 1),
-    Lengths(8, 8, 1),
-    Lengths(9, 9, 1),
-    Lengths(6, 6, 1),
+    FOUR,
+    FOUR,
+    FIVE,
+    TWO,
     // 22 to 31
-    Lengths(4, 4, 1),
-    Lengths(4, 4, 1),
-    Lengths(4, 4, 1),
-    Lengths(4, 4, 1),
-    Lengths(4, 4, 1),
-    Lengths(4, 4, 1),
-    Lengths(4, 4, 1),
-    Lengths(4, 4, 1),
-    Lengths(4, 4, 1),
-    Lengths(4, 4, 1),
+    NO_FIELD,
+    NO_FIELD,
+    NO_FIELD,
+    NO_FIELD,
+    NO_FIELD,
+    NO_FIELD,
+    NO_FIELD,
+    NO_FIELD,
+    NO_FIELD,
+    NO_FIELD,
     // 32 name, 33 any, 34 boolean, 35 integer
-    Lengths(5, 5, 1),
-    Lengths(4, 4, 1),
-    Lengths(5, 5, 1),
-    Lengths(8, 8, 1),
+    ONE,
+    NO_FIELD,
+    ONE,
+    FOUR,
     // 36 tuple, 37 set enumeration, 38 union, 39 sequence enumeration, 40 concatenation
-    Lengths(6, 8, 1),
-    Lengths(4, 8, 1),
-    Lengths(6, 6, 1),
-    Lengths(4, 8, 1),
-    Lengths(6, 6, 1),
+    TWO_TO_FOUR,
+    UP_TO_FOUR,
+    TWO,
+    UP_TO_FOUR,
+    TWO,
 ];
+
+// Bit k is set for each kind k whose records have one byte before their operands (1, 3, 4, 5, 32, 34), or an integer (2, 35).
+const BYTE_FIRST: u64 = 0x5_0000_003a;
+
+const INTEGER_FIRST: u64 = 0x8_0000_0004;
+
+// Bit k is set for each kind k that there is: 1 to 21, 32 to 40.
+const KNOWN: u64 = 0x1ff_003f_fffe;
 
 // A byte as a number.
 pub fn wide(b: u8) -> usize
@@ -130,24 +156,15 @@ pub fn is_loose(kind: usize) -> bool
 // ---- lengths
 
 // The length is fit for the kind.
-pub fn fits_kind(kind: usize, len: usize) -> bool
+pub fn fits_kind(lengths: &Lengths, kind: usize, len: usize) -> bool
+    requires { ⌜ now lengths ≡ lengthRows ⌝ }
     requires { ⌜ (kind ≤ lastKind) × (4 ≤ len) ⌝ }
     ensures { λ r. ⌜ r ≡ fits (shape kind) (len - 4) ⌝ }
 {
-    let row = LENGTHS[kind];
-    let least = wide(row.0);
-    if len < least {
+    if LONGEST < len {
         return false;
     }
-    let greatest = wide(row.1);
-    if greatest < len {
-        return false;
-    }
-    let step = wide(row.2);
-    if step == 1 {
-        return true;
-    }
-    (len - least) % step == 0
+    (lengths[kind] >> (len - HEADING)) % 2 == 1
 }
 
 // The place of the first operand in a record of the kind: after length and kind, and what stands before the operands.
@@ -155,17 +172,9 @@ pub fn first_operand(kind: usize) -> usize
     requires { ⌜ kind ≤ lastKind ⌝ }
     ensures { λ r. ⌜ (r ≡ firstOf kind) × (r ≤ 8) ⌝ }
 {
-    match kind {
-        kinds::UNARY => PAST_BYTE,
-        kinds::BINARY => PAST_BYTE,
-        kinds::BOOLEAN => PAST_BYTE,
-        kinds::NAME => PAST_BYTE,
-        kinds::NAME_PATTERN => PAST_BYTE,
-        kinds::BOOLEAN_PATTERN => PAST_BYTE,
-        kinds::INTEGER => PAST_INTEGER,
-        kinds::INTEGER_PATTERN => PAST_INTEGER,
-        _ => HEADING,
-    }
+    let byte = (BYTE_FIRST >> kind) % 2;
+    let integer = (INTEGER_FIRST >> kind) % 2;
+    HEADING + byte as usize + 4 * (integer as usize)
 }
 
 // ---- operands
@@ -237,28 +246,36 @@ fn is_known(kind: usize, n: usize) -> bool
 
 // There is such a kind.
 fn is_kind(kind: usize) -> bool
+    requires { ⌜ kind ≤ lastKind ⌝ }
     ensures { λ r. ⌜ r ≡ isExpression kind || isPattern kind ⌝ }
 {
-    if is_expression(kind) {
-        return true;
-    }
-    is_pattern(kind)
+    (KNOWN >> kind) % 2 == 1
+}
+
+// The first field is tested: booleans, names and operators.
+fn is_tested(kind: usize) -> bool
+    requires { ⌜ kind ≤ lastKind ⌝ }
+    ensures { λ r. ⌜ r ≡ isTested kind ⌝ }
+{
+    (BYTE_FIRST >> kind) % 2 == 1
 }
 
 // The record of this kind and length at the start of the part is fit for its kind.
-pub fn is_fit(part: &[u8], kind: usize, len: usize) -> bool
+pub fn is_fit(lengths: &Lengths, part: &[u8], kind: usize, len: usize) -> bool
+    requires { ⌜ now lengths ≡ lengthRows ⌝ }
     requires { ⌜ (kind ≡ word (now part) 2) × (len ≡ word (now part) 0) × (4 ≤ len) × (len ≤ length (now part)) ⌝ }
     ensures { λ r. ⌜ r ≡ isFit (first (now (part .entry))) ⌝ }
 {
     if kinds::LAST < kind {
         return false;
     }
-    let fit = fits_kind(kind, len);
+    let fit = fits_kind(lengths, kind, len);
     if !fit {
         return false;
     }
-    if len == HEADING {
-        return is_known(kind, 0);
+    let tested = is_tested(kind);
+    if !tested {
+        return is_kind(kind);
     }
     is_known(kind, wide(part[HEADING]))
 }

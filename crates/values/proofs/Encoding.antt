@@ -103,7 +103,7 @@ unfoldable mutual
       (cond (eqb (word l 2) 2) (integer (integerAt l 4))
       (collection (collectionKind (word l 2)) (itemsOf n (take (word l 0 - 4) (drop 4 l)))))
 
-  pub itemsOf : ℕ → List ℕ → Items
+  itemsOf : ℕ → List ℕ → Items
   itemsOf zero l = none
   itemsOf (suc n) [] = none
   itemsOf (suc n) (b ∷ l) = more (valueOf n (b ∷ l)) (itemsOf n (drop (word (b ∷ l) 0) (b ∷ l)))

@@ -7,8 +7,7 @@ use lib.ListN.{length, getD, take, drop}
 use lib.Seq.{take-take, drop-drop, getD-take, getD-drop}
 use Rattle.integers.specs.Bytes.{word}
 use Rattle.values.specs.Value.{Value, Items, size, sizes}
-use Rattle.values.specs.Place.{At, ItemsAt, Holds, Outside}
-use Rattle.values.proofs.Records.{word-size, holds}
+use Rattle.values.specs.Place.{At, ItemsAt, Outside}
 
 -- ---- moved: the bytes at one place are those that stood at another
 
@@ -46,9 +45,6 @@ pub items-kept : {s t : List ℕ} {base from to : ℕ} {vs : Items} → take bas
 items-kept {s} {t} {base} {from} {to} {vs} e g h a =
     let f = a .ends in
     record { ends = f; fits = omega arith; fine = a .fine; short = a .short; bytes = unchanged base from (sizes vs) s t (omega arith) e ∙ a .bytes }
-
-pub holds-kept : {s t : List ℕ} {base at : ℕ} → take base t ≡ take base s → base ≤ length t → at + word s at ≤ base → Holds s at → Holds t at
-holds-kept {s} {t} {base} {at} e g h a = let w = word-size (a .here) in holds (kept e g (omega arith) (a .here))
 
 -- ---- outside: what changed lies between two places
 

@@ -11,3 +11,7 @@ mod Reading
 mod Writing
 mod Copying
 mod Ordering
+mod Telling
+mod Shapes
+mod Found
+pub mod Alone

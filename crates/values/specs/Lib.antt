@@ -3,3 +3,4 @@ pub mod Value
 pub mod Items
 pub mod Place
 pub mod Contract
+pub mod Validity

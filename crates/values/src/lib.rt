@@ -8,6 +8,8 @@ ghost use Rattle.values.specs.Value.{boolean, integer};
 ghost use Rattle.values.specs.Place.{At, Holds, HoldsItems};
 ghost use Rattle.values.specs.Contract.{Length, KindAt, OfKind, Both, Ordered, OrderedItems, Equal, Shows, ShowsAt, PutHead, Put, Movable, Moved, Copyable, Copied};
 
+pub mod validity;
+
 // A value that is handed out: its record, and zeros after it.
 pub struct Value {
     pub bytes: [u8; Value::LIMIT],

@@ -1,2 +1,3 @@
+-- A run settled, and first and step put together; services cite it.
 pub mod Settling
 mod Stepping

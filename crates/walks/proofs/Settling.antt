@@ -5,28 +5,24 @@ use mathlib.Core.List.{List, [], _∷_}
 use Prim.Native.Nat.{ℕ, _<_, _≤_}
 use native.Mathlib.Omega.{arith}
 use lib.Dec.{ltb}
-use lib.ListN.{length}
 use borrow.Author.Tests.{ltb-true, ltb-false, lt-ltb, le-ltb}
 use Rattle.prelude.proofs.Absurd.{impossible}
-use Rattle.choices.specs.declared.Choices.{Choices}
-use Rattle.choices.specs.Tree.{Tree, Final, result, refuses, final, run, mostChoices, unlessLeft}
-use Rattle.choices.specs.State.{View, view, Invariant, Made}
+use Rattle.choices.specs.State.{Choices, View, view, Invariant, Made}
+use Rattle.choices.specs.Tree.{Tree, Final, result, refuses, final, unlessLeft}
 use Rattle.choices.specs.Runs.{Came, settle, endedBy}
 use Rattle.choices.proofs.Came.{came-final, settled-value, settled-value-left, settled-refusal, settled-refusal-left, settled-list}
 use Rattle.values.specs.Value.{Value}
 use Rattle.values.specs.Place.{At}
-use Rattle.tables.specs.Check.{check, mostBytes, mostRecords}
-use Rattle.tables.specs.declared.Checked.the-variants.{Accepted}
 use Rattle.meaning.specs.State.{unbound}
 use Rattle.meaning.specs.Read.{sheet}
 use Rattle.meaning.specs.Laws.Sure.{Sure, sure-meaning}
-use Rattle.meaning.specs.Answer.{weight, packed, uncounted}
+use Rattle.meaning.specs.Answer.{weight, uncounted}
 use Rattle.meaning.specs.Service.{tree, last, runs}
 use Rattle.meaning.specs.Laws.ReadBack.{Fits, fits-runs}
 use Rattle.evaluator.specs.declared.Outcome.{Outcome}
 use Rattle.evaluator.specs.declared.Outcome.the-variants.{Value as HasValue, Refused}
 use Rattle.evaluator.specs.Contract.{Evaluated, Comes, gave, off, ended}
-use Rattle.walks.specs.Steps.{Ready, outcomeOf, Small, packedOf, isWhole, leftOver, settled, Ran}
+use Rattle.walks.specs.Steps.{Ready, Small, packedOf, isWhole, leftOver, settled, Ran, outcomeAs}
 
 pub sure-tree : (table : List ℕ) → Sure (tree table)
 sure-tree table = sure-meaning (sheet table) (last (sheet table)) unbound
@@ -34,9 +30,6 @@ sure-tree table = sure-meaning (sheet table) (last (sheet table)) unbound
 -- ---- the code's answers by cases
 
 module _ (o : Outcome) where
-  pub whole-value : o ≡ HasValue → true ≡ isWhole o
-  whole-value e = ap isWhole (sym e)
-
   module _ (n p k : ℕ) (e : o ≡ Refused n p k) where
     pub whole-refused : (b : Bool) → b ≡ ltb n 32 → b ≡ isWhole o
     whole-refused b h = h ∙ ap isWhole (sym e)
@@ -67,16 +60,16 @@ module _ (o : Outcome) (d : Choices) (last : ℕ) where
 -- ---- settling as the definitions have it
 
 module _ (d : Choices) (s : Invariant d) (last : ℕ) where
-  settled-as : (f : Final Value) (b : Bool) → ltb (d .used) (d .len) ≡ b → cond b (leftOver (outcomeOf f) last) (outcomeOf f) ≡ outcomeOf (settle last (endedBy f (view d)))
-  settled-as (result a) true h = ap outcomeOf (sym (settled-value-left last d s a (ltb-true (d .used) (d .len) h)))
-  settled-as (result a) false h = ap outcomeOf (sym (settled-value last d s a (ltb-false (d .used) (d .len) h)))
+  settled-as : (f : Final Value) (b : Bool) → ltb (d .used) (d .len) ≡ b → cond b (leftOver (outcomeAs f) last) (outcomeAs f) ≡ outcomeAs (settle last (endedBy f (view d)))
+  settled-as (result a) true h = ap outcomeAs (sym (settled-value-left last d s a (ltb-true (d .used) (d .len) h)))
+  settled-as (result a) false h = ap outcomeAs (sym (settled-value last d s a (ltb-false (d .used) (d .len) h)))
   settled-as (refuses n p k) b h = go (ltb n 32) refl b h
     where
-      go : (low : Bool) → ltb n 32 ≡ low → (b : Bool) → ltb (d .used) (d .len) ≡ b → cond b (cond (ltb n 32) (Refused 34 p 0) (Refused n p k)) (Refused n p k) ≡ outcomeOf (settle {A = Value} last (endedBy (refuses n p k) (view d)))
-      go true e true h = ap (λ x. cond x (Refused 34 p 0) (Refused n p k)) e ∙ ap outcomeOf (sym (settled-refusal-left last d s n p k (ltb-true n 32 e) (ltb-true (d .used) (d .len) h)))
-      go true e false h = ap outcomeOf (sym (settled-refusal last d s n p k (ltb-true n 32 e) (ltb-false (d .used) (d .len) h)))
-      go false e true h = ap (λ x. cond x (Refused 34 p 0) (Refused n p k)) e ∙ ap outcomeOf (sym (settled-list last d s n p k (ltb-false n 32 e)))
-      go false e false h = ap outcomeOf (sym (settled-list last d s n p k (ltb-false n 32 e)))
+      go : (low : Bool) → ltb n 32 ≡ low → (b : Bool) → ltb (d .used) (d .len) ≡ b → cond b (cond (ltb n 32) (Refused 34 p 0) (Refused n p k)) (Refused n p k) ≡ outcomeAs (settle {A = Value} last (endedBy (refuses n p k) (view d)))
+      go true e true h = ap (λ x. cond x (Refused 34 p 0) (Refused n p k)) e ∙ ap outcomeAs (sym (settled-refusal-left last d s n p k (ltb-true n 32 e) (ltb-true (d .used) (d .len) h)))
+      go true e false h = ap outcomeAs (sym (settled-refusal last d s n p k (ltb-true n 32 e) (ltb-false (d .used) (d .len) h)))
+      go false e true h = ap (λ x. cond x (Refused 34 p 0) (Refused n p k)) e ∙ ap outcomeAs (sym (settled-list last d s n p k (ltb-false n 32 e)))
+      go false e false h = ap outcomeAs (sym (settled-list last d s n p k (ltb-false n 32 e)))
 
 -- A refusal is not settled as a value.
 unless-refusal : {A : Type 0} (l : List ℕ) (p n q k : ℕ) (a : A) → unlessLeft l p (refuses n q k) ≡ result a → ⊥
@@ -104,7 +97,7 @@ comes-sound (off q h) = h .sound
 -- What a run came to, as a final answer.
 pub record Arrived (table : List ℕ) (c : Choices) (o : Outcome) (d : Choices) (t : List ℕ) : Type 0 where
   pub final : Final Value
-  pub outcome : o ≡ outcomeOf final
+  pub outcome : o ≡ outcomeAs final
   pub came : Came (tree table) c final d
   pub value : (v : Value) → final ≡ result v → At t 0 v
 
@@ -126,7 +119,7 @@ module _ (table l : List ℕ) (c : Choices) (o : Outcome) (d : Choices) (t : Lis
             e
             ∙ ap (λ x. settled x d (last (sheet table))) (a .outcome)
             ∙ settled-as d (a .came .sound) (last (sheet table)) (a .final) (ltb (d .used) (d .len)) refl
-            ∙ ap outcomeOf settled-runs;
+            ∙ ap outcomeAs settled-runs;
         value = λ v q. go (a .final) (a .value) (settled-runs ∙ q);
       }
     where
@@ -136,7 +129,7 @@ module _ (table l : List ℕ) (c : Choices) (o : Outcome) (d : Choices) (t : Lis
 
 -- ---- numbers fit
 
-pub small-final : (f : Final Value) → Fits uncounted f → Small (outcomeOf f)
+pub small-final : (f : Final Value) → Fits uncounted f → Small (outcomeAs f)
 small-final (result v) f = tt
 small-final (refuses n p k) f = (omega (arith, f .number-fits), omega (arith, f .place-fits), omega (arith, f .count-fits))
 

@@ -1,22 +1,18 @@
 -- The first list and the step, from what the runs come to.
 use mathlib.Core.Path.{_≡_, refl, sym, ap, _∙_, subst}
 use mathlib.Core.Bool.{Bool, true, false, cond}
-use mathlib.Core.Option.{Option, none as absent, some}
-use mathlib.Core.List.{List, [], _∷_, _++_, append-nil}
+use mathlib.Core.Option.{Option}
+use mathlib.Core.List.{List, [], _++_, append-nil}
 use Prim.Native.Nat.{ℕ, _<_, _≤_}
 use native.Mathlib.Omega.{arith}
-use lib.Dec.{ltb}
 use lib.ListN.{length, take, drop, drop-of-length-le, replicate, length-replicate}
-use borrow.Author.Tests.{ltb-true, ltb-false}
-use Rattle.choices.specs.declared.Choices.{Choices}
-use Rattle.choices.specs.declared.Advanced.{Advanced}
+use borrow.Author.Tests.{ltb-true}
+use Rattle.choices.specs.State.{Choices, view, Invariant, Made, Moved}
+use Rattle.choices.specs.Lists.{padded, Complete}
 use Rattle.choices.specs.declared.list.Walk.{Walk as Held}
-use Rattle.choices.specs.Tree.{Tree, Final, result, refuses, final, run, mostChoices}
-use Rattle.choices.specs.Lists.{Complete}
+use Rattle.choices.specs.Tree.{Final, result, refuses, mostChoices}
 use Rattle.choices.specs.Paths.{firstList, nextList}
-use Rattle.choices.specs.State.{View, view, Invariant, Made, Moved, padded}
-use Rattle.choices.specs.Listing.{Lists, Runnable, listOf}
-use Rattle.choices.specs.Runs.{Came}
+use Rattle.choices.specs.Listing.{Lists, Runnable, listHeld}
 use Rattle.choices.proofs.Ran.{atEnd}
 use Rattle.choices.proofs.States.{Holds, end-holds}
 use Rattle.choices.proofs.Walk.{Settles, complete-whole}
@@ -24,23 +20,22 @@ use Rattle.choices.proofs.Came.{came-complete, came-first, came-holds, came-nex
 use Rattle.choices.proofs.Stepping.{step-none}
 use Rattle.values.specs.Value.{Value}
 use Rattle.lists.specs.Lent.{lent}
-use Rattle.lists.specs.Runs.{Whole as Used, Kept}
+use Rattle.lists.specs.Runs.{Whole as Used}
 use Rattle.tables.specs.Check.{check, mostBytes, mostRecords}
-use Rattle.tables.specs.Accepted.{records, accepted-short, accepted-fine}
-use Rattle.tables.specs.Reading.{Indexed, CutOut, cut-accepted}
+use Rattle.tables.specs.Accepted.{records}
+use Rattle.tables.specs.Laws.Accepted.{accepted-short, accepted-fine, cut-accepted}
+use Rattle.tables.specs.Reading.{Indexed, CutOut}
 use Rattle.tables.specs.declared.Checked.the-variants.{Accepted}
 use Rattle.tables.specs.declared.reading.Cutting.{Cutting}
 use Rattle.meaning.specs.Read.{sheet}
-use Rattle.meaning.specs.Answer.{pack, packed, uncounted}
-use Rattle.meaning.specs.Walk.{Walk, overwritten}
+use Rattle.meaning.specs.Answer.{pack}
+use Rattle.meaning.specs.Walk.{overwritten}
 use Rattle.meaning.specs.Service.{tree, last, runs, onward, steppedFrom}
-use Rattle.meaning.specs.Lent.{walkAfter}
 use Rattle.walks.specs.declared.Stepped.{Stepped}
 use Rattle.evaluator.specs.declared.Outcome.{Outcome}
-use Rattle.evaluator.specs.declared.Outcome.the-variants.{Value as HasValue, Refused}
 use Rattle.evaluator.specs.Sheet.{Runnable as Asked}
-use Rattle.walks.specs.Steps.{Ready, Indexes, outcomeOf, packedOf, isWhole, Ran, lentOf, Answers, AtEnd, Steps}
-use Rattle.walks.proofs.Settling.{sure-tree, Arrived, arrived}
+use Rattle.walks.specs.Steps.{Ready, packedOf, isWhole, Ran, lentOf, Answers, AtEnd, Steps, outcomeAs}
+use Rattle.walks.proofs.Settling.{sure-tree, Arrived}
 
 -- ---- the index
 
@@ -48,18 +43,18 @@ module _ (table s : List ℕ) (y : Ready table s) where
   pub cut-asked : (length table ≤ mostBytes) × (length {A = ℕ} (replicate 200 0) ≡ mostRecords)
   cut-asked = (accepted-short table (y .count) (y .ok), length-replicate {A = ℕ} 200 0)
 
-  pub some-record : 0 < length (records table)
-  some-record = accepted-fine table (y .count) (y .ok) .0 .some-record
+  pub has-record : 0 < length (records table)
+  has-record = accepted-fine table (y .count) (y .ok) .0 .some-record
 
   module _ (index : List ℕ) (c : Cutting) (out : CutOut table index c) where
-    pub indexed : Indexed table index
-    indexed = cut-accepted table index c (y .count) out (y .ok)
+    pub is-indexed : Indexed table index
+    is-indexed = cut-accepted table index c (y .count) out (y .ok)
 
-    pub counted : check table ≡ Accepted (c .count)
-    counted = y .ok ∙ ap Accepted (accepted-fine table (y .count) (y .ok) .1 ∙ sym (out .count))
+    pub is-counted : check table ≡ Accepted (c .count)
+    is-counted = y .ok ∙ ap Accepted (accepted-fine table (y .count) (y .ok) .1 ∙ sym (out .count))
 
     pub asked : (n : ℕ) → n ≡ c .count → (d : Choices) → Invariant d → Asked table index n s d
-    asked n e d k = record { accepted = counted ∙ ap Accepted (sym e); indexed = indexed; room = y .room; sound = k }
+    asked n e d k = record { accepted = is-counted ∙ ap Accepted (sym e); indexed = is-indexed; room = y .room; sound = k }
 
 -- ---- the first list
 
@@ -67,7 +62,7 @@ module _ (w : Held) (h : Lists w []) where
   pub runnable-empty : Runnable w
   runnable-empty = record { sized = ap length (h .padding) ∙ length-replicate {A = ℕ} mostChoices 0; short = omega (arith, h .long) }
 
-  pub empty-list : listOf w ≡ []
+  pub empty-list : listHeld w ≡ []
   empty-list = ap (λ n. take n (w .entries)) (h .long)
 
 module _ (table : List ℕ) (c : Choices) (o : Outcome) (d : Choices) (t : List ℕ) (a : Arrived table c o d t) where
@@ -79,12 +74,12 @@ module _ (table : List ℕ) (c : Choices) (o : Outcome) (d : Choices) (t : List 
 
   -- ---- the run of a complete list
 
-  pub at-end : (w : Held) → Runnable w → Made (listOf w) false c → Complete (tree table) (listOf w) → (view d ≡ atEnd (tree table) (listOf w) false) × (d .used ≡ d .len)
+  pub at-end : (w : Held) → Runnable w → Made (listHeld w) false c → Complete (tree table) (listHeld w) → (view d ≡ atEnd (tree table) (listHeld w) false) × (d .used ≡ d .len)
   at-end w k m full =
-      let v = came-complete (tree table) (a .came) (listOf w) m full in
-      (v, came-holds (tree table) (listOf w) false (a .came) v .used)
+      let v = came-complete (tree table) (a .came) (listHeld w) m full in
+      (v, came-holds (tree table) (listHeld w) false (a .came) v .used)
 
-whole-of : (f : Final Value) → isWhole (outcomeOf f) ≡ true → Settles f
+whole-of : (f : Final Value) → isWhole (outcomeAs f) ≡ true → Settles f
 whole-of (result v) e = tt
 whole-of (refuses n p k) e = ltb-true n 32 e
 
@@ -96,28 +91,28 @@ module _ (table l t : List ℕ) (o : Outcome) (r : Ran table l t o) where
 
 -- ---- answers
 
-not-whole : (f : Final Value) (next : Final (List ℕ)) (w : Held) → Runnable w → isWhole (outcomeOf f) ≡ false → Answers (steppedFrom f next) w (record { answer = packedOf (outcomeOf f); walk = w })
+not-whole : (f : Final Value) (next : Final (List ℕ)) (w : Held) → Runnable w → isWhole (outcomeAs f) ≡ false → Answers (steppedFrom f next) w (record { answer = packedOf (outcomeAs f); walk = w })
 not-whole (result v) next w y e = let z : _≡_ {A = ℕ} 0 1 = absurd-bool e in absurd (omega arith)
   where
     absurd-bool : true ≡ false → _≡_ {A = ℕ} 0 1
     absurd-bool q = cc
 not-whole (refuses n p k) next w y e = subst (λ x. Answers x w (record { answer = pack n p k; walk = w })) (sym (ap (λ b. cond b next (refuses n p k)) e)) (record { answer = refl; walk = refl; sized = y .sized })
 
-whole-on : (f : Final Value) (next : Final (List ℕ)) → isWhole (outcomeOf f) ≡ true → steppedFrom f next ≡ next
+whole-on : (f : Final Value) (next : Final (List ℕ)) → isWhole (outcomeAs f) ≡ true → steppedFrom f next ≡ next
 whole-on (result v) next e = refl
 whole-on (refuses n p k) next e = ap (λ b. cond b next (refuses n p k)) e
 
-module _ (table t : List ℕ) (w : Held) (o : Outcome) (r : Ran table (listOf w) t o) where
+module _ (table t : List ℕ) (w : Held) (o : Outcome) (r : Ran table (listHeld w) t o) where
   abbrev next : Final (List ℕ)
-  next = onward (nextList (tree table) (listOf w))
+  next = onward (nextList (tree table) (listHeld w))
 
   pub steps-other : Runnable w → isWhole o ≡ false → (a : ℕ) → a ≡ packedOf o → Steps table w (record { answer = a; walk = w })
   steps-other y e a q =
-      subst (λ x. Answers (steppedFrom (runs table (listOf w)) next) w (record { answer = x; walk = w })) (sym (q ∙ ap packedOf (r .outcome)))
-      (not-whole (runs table (listOf w)) next w y (ap isWhole (sym (r .outcome)) ∙ e))
+      subst (λ x. Answers (steppedFrom (runs table (listHeld w)) next) w (record { answer = x; walk = w })) (sym (q ∙ ap packedOf (r .outcome)))
+      (not-whole (runs table (listHeld w)) next w y (ap isWhole (sym (r .outcome)) ∙ e))
 
   pub steps-on : isWhole o ≡ true → (s : Stepped) → Answers next w s → Steps table w s
-  steps-on e s h = subst (λ x. Answers x w s) (sym (whole-on (runs table (listOf w)) next (ap isWhole (sym (r .outcome)) ∙ e))) h
+  steps-on e s h = subst (λ x. Answers x w s) (sym (whole-on (runs table (listHeld w)) next (ap isWhole (sym (r .outcome)) ∙ e))) h
 
 -- A granted step overwrites all 64 entries.
 walk-over : (w : Held) (m : List ℕ) (v : Held) → Runnable w → v .entries ≡ padded m → v .len ≡ length m → lentOf v ≡ overwritten m (lentOf w)
@@ -129,18 +124,18 @@ walk-over w m v k e n =
 module _ (table : List ℕ) (w : Held) (run₀ : List ℕ) (b : AtEnd table w run₀) where
   pub used-all : Used run₀
   used-all =
-      record { sound = b .sound; used = end-holds (tree table) (listOf w) false (lent run₀) (b .sound) (b .ended) .used }
+      record { sound = b .sound; used = end-holds (tree table) (listHeld w) false (lent run₀) (b .sound) (b .ended) .used }
 
   module _ (more : Bool) (run₁ : List ℕ) (k : Moved (lent run₀) (record { more = more; state = lent run₁ })) where
-    pub answers-none : more ≡ false → (a : ℕ) → a ≡ pack 35 0 0 → Answers (onward (nextList (tree table) (listOf w))) w (record { answer = a; walk = w })
+    pub answers-none : more ≡ false → (a : ℕ) → a ≡ pack 35 0 0 → Answers (onward (nextList (tree table) (listHeld w))) w (record { answer = a; walk = w })
     answers-none q a e =
-        subst (λ (o : Option (List ℕ)). Answers (onward o) w (record { answer = a; walk = w })) (sym (step-none (tree table) (listOf w) false (lent run₀) _ (b .ended) k q))
+        subst (λ (o : Option (List ℕ)). Answers (onward o) w (record { answer = a; walk = w })) (sym (step-none (tree table) (listHeld w) false (lent run₀) _ (b .ended) k q))
         (record { answer = e; walk = refl; sized = b .runnable .sized })
 
     pub answers-next : more ≡ true → (o : Outcome) (d : Choices) (t : List ℕ) → Arrived table (lent run₁) o d t → (v : Held) → v .entries ≡ d .entries → v .len ≡ d .len → (a : ℕ) → a ≡ pack 0 0 0
-        → Answers (onward (nextList (tree table) (listOf w))) w (record { answer = a; walk = v })
+        → Answers (onward (nextList (tree table) (listHeld w))) w (record { answer = a; walk = v })
     answers-next q o d t h v e n a z =
-        let f = came-next (tree table) (listOf w) false (sure-tree table .full) (b .complete) (b .ended) k q (h .came) in
+        let f = came-next (tree table) (listHeld w) false (sure-tree table .full) (b .complete) (b .ended) k q (h .came) in
         let hold = came-holds (tree table) (f .0) true (h .came) (f .3) in
         subst (λ (x : Option (List ℕ)). Answers (onward x) w (record { answer = a; walk = v })) (sym (f .1))
         (record { answer = z; walk = walk-over w (f .0) v (b .runnable) (e ∙ hold .entries) (n ∙ hold .len); sized = ap length e ∙ h .came .sound .entries-sized })

@@ -5,14 +5,13 @@ use mathlib.Core.List.{List}
 use Prim.Native.Nat.{ℕ, _<_}
 use lib.Dec.{ltb}
 use lib.ListN.{length}
-use Rattle.choices.specs.declared.Choices.{Choices}
+use Rattle.choices.specs.State.{Choices, view, Invariant}
 use Rattle.choices.specs.declared.list.Walk.{Walk as Held}
 use Rattle.choices.specs.Tree.{Final, result, refuses, mostChoices}
 use Rattle.choices.specs.Lists.{Complete}
 use Rattle.choices.specs.Paths.{nextList}
-use Rattle.choices.specs.Listing.{Runnable, listOf}
+use Rattle.choices.specs.Listing.{Runnable, listHeld}
 use Rattle.choices.proofs.Ran.{atEnd}
-use Rattle.choices.specs.State.{view, Invariant}
 use Rattle.lists.specs.Lent.{lent}
 use Rattle.values.specs.Value.{Value}
 use Rattle.values.specs.Place.{At}
@@ -41,9 +40,9 @@ pub record Indexes (table index : List ℕ) (count : ℕ) (s : List ℕ) : Type 
 
 -- ---- outcomes: the code's word for what a run answers
 
-abbrev pub outcomeOf : {A : Type 0} → Final A → Outcome
-outcomeOf (result a) = HasValue
-outcomeOf (refuses n p k) = Refused n p k
+abbrev pub outcomeAs : {A : Type 0} → Final A → Outcome
+outcomeAs (result a) = HasValue
+outcomeAs (refuses n p k) = Refused n p k
 
 abbrev pub Small : Outcome → Type 0
 Small HasValue = Unit {0}
@@ -70,7 +69,7 @@ settled o d last = cond (ltb (d .used) (d .len)) (leftOver o last) o
 
 -- What it answers; and the value, at the start of the scratch.
 pub record Ran (table l s : List ℕ) (o : Outcome) : Type 0 where
-  pub outcome : o ≡ outcomeOf (runs table l)
+  pub outcome : o ≡ outcomeAs (runs table l)
   pub value : (v : Value) → runs table l ≡ result v → At s 0 v
 
 -- ---- from one list to the next
@@ -88,9 +87,9 @@ pub record Answers (due : Final (List ℕ)) (w : Held) (r : Stepped) : Type 0 wh
 -- The run of a walk's list has ended, and the list is complete.
 pub record AtEnd (table : List ℕ) (w : Held) (run : List ℕ) : Type 0 where
   pub runnable : Runnable w
-  pub complete : Complete (tree table) (listOf w)
+  pub complete : Complete (tree table) (listHeld w)
   pub sound : Invariant (lent run)
-  pub ended : view (lent run) ≡ atEnd (tree table) (listOf w) false
+  pub ended : view (lent run) ≡ atEnd (tree table) (listHeld w) false
 
 -- What a step by a walk asks, and what it answers.
 pub record Steppable (table s : List ℕ) (w : Held) : Type 0 where
@@ -98,4 +97,4 @@ pub record Steppable (table s : List ℕ) (w : Held) : Type 0 where
   pub runnable : Runnable w
 
 abbrev pub Steps : List ℕ → Held → Stepped → Type 0
-Steps table w r = Answers (steppedFrom (runs table (listOf w)) (onward (nextList (tree table) (listOf w)))) w r
+Steps table w r = Answers (steppedFrom (runs table (listHeld w)) (onward (nextList (tree table) (listHeld w)))) w r

@@ -6,7 +6,7 @@ ghost use lib.Dec.{ltb};
 ghost use lib.ListN.{length};
 ghost use Rattle.choices.specs.State.{Invariant};
 ghost use Rattle.choices.specs.Tree.{mostChoices};
-ghost use Rattle.choices.specs.Listing.{Lists, listOf};
+ghost use Rattle.choices.specs.Listing.{Lists, listHeld};
 ghost use Rattle.choices.specs.Paths.{firstList, nextList};
 ghost use Rattle.lists.specs.Lent.{lent};
 ghost use Rattle.meaning.specs.Answer.{weight, pack};
@@ -134,7 +134,7 @@ fn next_list(
     learnt: [u8; RUN],
 ) -> Stepped
     requires { ⌜ Indexes (now table) (now index) count (now s) × AtEnd (now table) walk learnt ⌝ }
-    ensures { λ r. ⌜ Answers (onward (nextList (tree (now (table .entry))) (listOf walk))) walk r ⌝ }
+    ensures { λ r. ⌜ Answers (onward (nextList (tree (now (table .entry))) (listHeld walk))) walk r ⌝ }
 {
     let mut run = learnt;
     let more = advance(&mut run);

@@ -81,6 +81,15 @@ impl Builder {
         self.node(kind::RANGE, &[from, to])
     }
 
+    /// let a in set {from,...,to} be st true in a, where a is the name.
+    pub fn choice(&mut self, name: u8, from: i32, to: i32) -> usize {
+        let pattern = self.p_name(name);
+        let set = self.range(from, to);
+        let condition = self.boolean(true);
+        let body = self.name(name);
+        self.node(kind::LET_BE, &[pattern, set, condition, body])
+    }
+
     pub fn p_name(&mut self, name: u8) -> usize {
         self.record(kind::P_NAME, &[name], &[])
     }

@@ -156,26 +156,17 @@ fn choices(b: &mut Builder, count: usize) -> usize {
     let pattern = b.p_name(0);
     let set = b.range(1, 63);
     let condition = b.boolean(true);
-    let element = choice(b, 1);
+    let element = b.choice(1, 1, 1);
     let items = b.node(
         kind::SEQUENCE_COMPREHENSION,
         &[pattern, set, condition, element],
     );
     let mut sum = b.unary(unary::LEN, items);
     for index in 64..=count {
-        let right = choice(b, if index == count { 2 } else { 1 });
+        let right = b.choice(1, 1, if index == count { 2 } else { 1 });
         sum = b.binary(binary::PLUS, sum, right);
     }
     sum
-}
-
-/// let x in set {1,...,n} be st true in x, with name 1.
-fn choice(b: &mut Builder, members: i32) -> usize {
-    let pattern = b.p_name(1);
-    let set = b.range(1, members);
-    let condition = b.boolean(true);
-    let body = b.name(1);
-    b.node(kind::LET_BE, &[pattern, set, condition, body])
 }
 
 /// Unary minuses on a literal.

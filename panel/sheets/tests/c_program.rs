@@ -2,6 +2,7 @@
 
 mod common;
 
+use common::program::print;
 use common::samples;
 use generator::builder::kind;
 use generator::{accepted, damaged, Builder};
@@ -9,9 +10,8 @@ use sheets::lent::SCRATCH_SIZE;
 use sheets::{number, List, Sheet, Value};
 use std::collections::BTreeMap;
 use std::fs;
-use std::io::Write;
 use std::path::{Path, PathBuf};
-use std::process::{Command, Stdio};
+use std::process::Command;
 
 const WARNINGS: [&str; 9] = [
     "-Wall",
@@ -47,20 +47,6 @@ fn compiled(name: &str) -> PathBuf {
     program
 }
 
-/// What the program writes for a table.
-fn print(program: &Path, table: &[u8]) -> String {
-    let mut child = Command::new(program)
-        .stdin(Stdio::piped())
-        .stdout(Stdio::piped())
-        .spawn()
-        .expect("the program runs");
-    // A program that has read enough may have closed its end.
-    let _ = child.stdin.take().expect("a pipe").write_all(table);
-    let output = child.wait_with_output().expect("an end");
-    assert!(output.status.success());
-    String::from_utf8(output.stdout).expect("a text")
-}
-
 #[test]
 fn the_program_prints_walks() {
     let program = compiled("print");
@@ -79,7 +65,7 @@ fn the_program_prints_walks() {
 #[test]
 fn a_long_walk_is_cut() {
     let mut builder = Builder::new();
-    let choices: Vec<usize> = (0..4).map(|name| choice(&mut builder, name)).collect();
+    let choices: Vec<usize> = (0..4).map(|name| builder.choice(name, 0, 10)).collect();
     builder.node(kind::TUPLE, &choices);
     let print = print(&compiled("print-long"), &builder.table());
     let lines: Vec<&str> = print.lines().collect();
@@ -87,15 +73,6 @@ fn a_long_walk_is_cut() {
     assert_eq!(lines[1], "0,0,0,0 =mk_(0,0,0,0)");
     assert_eq!(lines[10_000], "7,5,7,0 =mk_(7,5,7,0)");
     assert_eq!(lines[10_001], "cut 10000");
-}
-
-/// let a in set {0,...,10} be st true in a.
-fn choice(builder: &mut Builder, name: u8) -> usize {
-    let pattern = builder.p_name(name);
-    let set = builder.range(0, 10);
-    let condition = builder.boolean(true);
-    let body = builder.name(name);
-    builder.node(kind::LET_BE, &[pattern, set, condition, body])
 }
 
 /// The constants of the header are those of the Rust side.

@@ -8,6 +8,7 @@ use Rattle.parts.specs.declared.Part.{Part}
 use Rattle.parts.specs.Part.{PartIs}
 use Rattle.matching.proofs.Records.{count-few}
 use Rattle.forming.proofs.Solving.{SolveSoFar, solve-start, head-low, entry-low, entry-readable, next-lower, divide-asked, divide-told, leaf-asked, solve-failed, solve-more, enter-asked, solve-end, DivideSoFar, divide-start, push-asked, top-room, falls-on, falls-way, recast-word, part-of, solve-asked, divide-full, divide-more, divide-end, divide-none, ways-few}
+use Rattle.forming.proofs.Reducing.{reduced-asked, reduced-told}
 use borrow.Fn.Kinds.{In}
 use borrow.Fn.PlainCycle.{Measures, is, falls, and}
 use Rattle.forming.proofs.divide.Reads as divide
@@ -18,9 +19,13 @@ use Rattle.forming.proofs.solve.Kinds as solve-kinds
 use Rattle.forming.proofs.+divide+solve.Lts-solve as solve-lts
 use Rattle.forming.proofs.push.Reads as push-reads
 use Rattle.forming.proofs.rows.enter.Reads as enter-reads
+use Rattle.forming.proofs.reduced.reduced.Reads as reduced-reads
 use Rattle.forming.proofs.settled.either.Reads as either-reads
 use Rattle.forming.proofs.settled.is_settled.Reads as is-settled-reads
 use Rattle.forming.proofs.settled.next_way.Reads as next-way-reads
+use Rattle.forming.proofs.sizes.sizes_of.Reads as sizes-of-reads
+use Rattle.forming.proofs.sizes.way_from.Reads as way-from-reads
+use Rattle.forming.proofs.Skipping.{from-asked, divide-skip}
 use Rattle.matching.proofs.leaves.match_leaf.Reads as match-leaf-reads
 use Rattle.matching.proofs.nodes.meet.Reads as meet-reads
 use Rattle.parts.proofs.words.unpack.Reads as unpack-reads
@@ -29,793 +34,228 @@ use Rattle.tables.proofs.reading.operand_count.Reads as operand-count-reads
 use Rattle.forming.proofs.+divide+solve.{statement}
 use Rattle.forming.proofs.+divide+solve.Tie.{close}
 
-abbrev μ-divide : Measures 6 divide-kinds.ps ℕ
+abbrev μ-divide : Measures 7 divide-kinds.ps ℕ
 μ-divide κs a = 2 * (201 * (201 - a .1 .1 .1 .1 .1 .1 .1 .0) + a .1 .1 .1 .1 .1 .1 .0) + 2
 
-abbrev μ-solve : Measures 6 solve-kinds.ps ℕ
+abbrev μ-solve : Measures 7 solve-kinds.ps ℕ
 μ-solve κs a = 2 * (201 * (201 - a .1 .1 .1 .1 .1 .0) + a .1 .1 .1 .1 .0) + 1
 
-abbrev divide-at : ℕ → In 6 divide-kinds.ps
-divide-at t = and 6 divide-kinds.ps (is 6 divide-kinds.ps μ-divide t) divide.Pre
+abbrev divide-at : ℕ → In 7 divide-kinds.ps
+divide-at t = and 7 divide-kinds.ps (is 7 divide-kinds.ps μ-divide t) divide.Pre
 
-abbrev divide-below : ℕ → In 6 divide-kinds.ps
-divide-below t = and 6 divide-kinds.ps (falls 6 divide-kinds.ps _<_ μ-divide t) divide.Pre
+abbrev divide-below : ℕ → In 7 divide-kinds.ps
+divide-below t = and 7 divide-kinds.ps (falls 7 divide-kinds.ps _<_ μ-divide t) divide.Pre
 
-abbrev solve-at : ℕ → In 6 solve-kinds.ps
-solve-at t = and 6 solve-kinds.ps (is 6 solve-kinds.ps μ-solve t) solve.Pre
+abbrev solve-at : ℕ → In 7 solve-kinds.ps
+solve-at t = and 7 solve-kinds.ps (is 7 solve-kinds.ps μ-solve t) solve.Pre
 
-abbrev solve-below : ℕ → In 6 solve-kinds.ps
-solve-below t = and 6 solve-kinds.ps (falls 6 solve-kinds.ps _<_ μ-solve t) solve.Pre
+abbrev solve-below : ℕ → In 7 solve-kinds.ps
+solve-below t = and 7 solve-kinds.ps (falls 7 solve-kinds.ps _<_ μ-solve t) solve.Pre
+
+abbrev divide-calls : ℕ → divide-lts.Claims
+divide-calls t = (kind-reads.Asked, kind-reads.Learnt, operand-count-reads.Asked, operand-count-reads.Learnt, unpack-reads.Asked, unpack-reads.Learnt, meet-reads.Asked, meet-reads.Learnt, is-settled-reads.Asked, is-settled-reads.Learnt, sizes-of-reads.Asked, sizes-of-reads.Learnt, way-from-reads.Asked, way-from-reads.Learnt, push-reads.Asked, push-reads.Learnt, solve-below t, solve.Post, either-reads.Asked, either-reads.Learnt, next-way-reads.Asked, next-way-reads.Learnt)
+
+abbrev solve-calls : ℕ → solve-lts.Claims
+solve-calls t = (kind-reads.Asked, kind-reads.Learnt, reduced-reads.Asked, reduced-reads.Learnt, divide-below t, divide.Post, match-leaf-reads.Asked, match-leaf-reads.Learnt, enter-reads.Asked, enter-reads.Learnt)
 
 abbrev divide-Inv-loop : divide-lts.InvT-loop
-divide-Inv-loop table index p s word agenda₀ next top found rows₀ order₀ n k c once n₀ any₀ w d₀ agenda rows order n' any d = DivideSoFar table index p s word agenda₀ next top found rows₀ order₀ n w agenda rows order n' any d
+divide-Inv-loop table index p s word agenda₀ next top found rows₀ order₀ n k c once sizes n₀ any₀ w d₀ agenda rows order n' any d = DivideSoFar table index p s word agenda₀ next top found rows₀ order₀ n w agenda rows order n' any d
 
 abbrev divide-μ-loop : divide-lts.MeasureT-loop
-divide-μ-loop table index p s word agenda₀ next top found rows₀ order₀ n k c once n₀ any₀ w d₀ agenda rows order n' any d = w - d
+divide-μ-loop table index p s word agenda₀ next top found rows₀ order₀ n k c once sizes n₀ any₀ w d₀ agenda rows order n' any d = w - d
 
 -- src/lib.rt:134:9
-divide-kind-requires : (t : ℕ) → divide-lts.Need-kind-requires (
-  kind-reads.Asked,
-  kind-reads.Learnt,
-  operand-count-reads.Asked,
-  operand-count-reads.Learnt,
-  unpack-reads.Asked,
-  unpack-reads.Learnt,
-  meet-reads.Asked,
-  meet-reads.Learnt,
-  is-settled-reads.Asked,
-  is-settled-reads.Learnt,
-  push-reads.Asked,
-  push-reads.Learnt,
-  solve-below t,
-  solve.Post,
-  either-reads.Asked,
-  either-reads.Learnt,
-  next-way-reads.Asked,
-  next-way-reads.Learnt,
-) (divide-at t) divide.Post divide-Inv-loop divide-μ-loop
+divide-kind-requires : (t : ℕ) → divide-lts.Need-kind-requires (divide-calls t) (divide-at t) divide.Post divide-Inv-loop divide-μ-loop
 divide-kind-requires t c κs = c .before .before .pre .1 .readable .here
 
 -- src/lib.rt:135:9
-divide-operand-count-requires : (t : ℕ) → divide-lts.Need-operand-count-requires (
-  kind-reads.Asked,
-  kind-reads.Learnt,
-  operand-count-reads.Asked,
-  operand-count-reads.Learnt,
-  unpack-reads.Asked,
-  unpack-reads.Learnt,
-  meet-reads.Asked,
-  meet-reads.Learnt,
-  is-settled-reads.Asked,
-  is-settled-reads.Learnt,
-  push-reads.Asked,
-  push-reads.Learnt,
-  solve-below t,
-  solve.Post,
-  either-reads.Asked,
-  either-reads.Learnt,
-  next-way-reads.Asked,
-  next-way-reads.Learnt,
-) (divide-at t) divide.Post divide-Inv-loop divide-μ-loop
+divide-operand-count-requires : (t : ℕ) → divide-lts.Need-operand-count-requires (divide-calls t) (divide-at t) divide.Post divide-Inv-loop divide-μ-loop
 divide-operand-count-requires t c κs = c .before .before .before .pre .1 .readable .here
 
 -- src/lib.rt:136:9
-divide-unpack-requires : (t : ℕ) → divide-lts.Need-unpack-requires (
-  kind-reads.Asked,
-  kind-reads.Learnt,
-  operand-count-reads.Asked,
-  operand-count-reads.Learnt,
-  unpack-reads.Asked,
-  unpack-reads.Learnt,
-  meet-reads.Asked,
-  meet-reads.Learnt,
-  is-settled-reads.Asked,
-  is-settled-reads.Learnt,
-  push-reads.Asked,
-  push-reads.Learnt,
-  solve-below t,
-  solve.Post,
-  either-reads.Asked,
-  either-reads.Learnt,
-  next-way-reads.Asked,
-  next-way-reads.Learnt,
-) (divide-at t) divide.Post divide-Inv-loop divide-μ-loop
+divide-unpack-requires : (t : ℕ) → divide-lts.Need-unpack-requires (divide-calls t) (divide-at t) divide.Post divide-Inv-loop divide-μ-loop
 divide-unpack-requires t c κs = search needs
 
 -- src/lib.rt:137:9
-divide-meet-requires : (t : ℕ) → divide-lts.Need-meet-requires (
-  kind-reads.Asked,
-  kind-reads.Learnt,
-  operand-count-reads.Asked,
-  operand-count-reads.Learnt,
-  unpack-reads.Asked,
-  unpack-reads.Learnt,
-  meet-reads.Asked,
-  meet-reads.Learnt,
-  is-settled-reads.Asked,
-  is-settled-reads.Learnt,
-  push-reads.Asked,
-  push-reads.Learnt,
-  solve-below t,
-  solve.Post,
-  either-reads.Asked,
-  either-reads.Learnt,
-  next-way-reads.Asked,
-  next-way-reads.Learnt,
-) (divide-at t) divide.Post divide-Inv-loop divide-μ-loop
+divide-meet-requires : (t : ℕ) → divide-lts.Need-meet-requires (divide-calls t) (divide-at t) divide.Post divide-Inv-loop divide-μ-loop
 divide-meet-requires t c κs = (omega (arith, c .before .before .kind .ensures .0, c .before .before .before .before .before .pre .1 .composed), omega (arith, c .before .before .kind .ensures .1), omega (arith, c .before .operand-count .ensures .0, count-few _ _ _ (c .before .before .before .before .before .pre .1 .readable) (c .before .before .before .before .before .pre .1 .composed)), part-of _ _ _ (c .before .before .before .before .before .pre .1 .value) (c .unpack .ensures) (c .before .before .before .before .before .pre .1 .here))
 
 -- src/lib.rt:138:9
-divide-is-settled-requires : (t : ℕ) → divide-lts.Need-is-settled-requires (
-  kind-reads.Asked,
-  kind-reads.Learnt,
-  operand-count-reads.Asked,
-  operand-count-reads.Learnt,
-  unpack-reads.Asked,
-  unpack-reads.Learnt,
-  meet-reads.Asked,
-  meet-reads.Learnt,
-  is-settled-reads.Asked,
-  is-settled-reads.Learnt,
-  push-reads.Asked,
-  push-reads.Learnt,
-  solve-below t,
-  solve.Post,
-  either-reads.Asked,
-  either-reads.Learnt,
-  next-way-reads.Asked,
-  next-way-reads.Learnt,
-) (divide-at t) divide.Post divide-Inv-loop divide-μ-loop
+divide-is-settled-requires : (t : ℕ) → divide-lts.Need-is-settled-requires (divide-calls t) (divide-at t) divide.Post divide-Inv-loop divide-μ-loop
 divide-is-settled-requires t c κs = c .before .before .before .before .before .before .pre .1 .readable
 
+-- src/lib.rt:143:17
+divide-sizes-of-requires : (t : ℕ) → divide-lts.Need-sizes-of-requires (divide-calls t) (divide-at t) divide.Post divide-Inv-loop divide-μ-loop
+divide-sizes-of-requires t c κs = record { readable = c .before .before .before .before .before .before .before .pre .1 .readable; of-kind = sym (c .before .before .before .before .kind .ensures .0) }
+
 -- src/lib.rt:141:26
-divide-enum-known-m : (t : ℕ) → divide-lts.Need-enum-known-m (
-  kind-reads.Asked,
-  kind-reads.Learnt,
-  operand-count-reads.Asked,
-  operand-count-reads.Learnt,
-  unpack-reads.Asked,
-  unpack-reads.Learnt,
-  meet-reads.Asked,
-  meet-reads.Learnt,
-  is-settled-reads.Asked,
-  is-settled-reads.Learnt,
-  push-reads.Asked,
-  push-reads.Learnt,
-  solve-below t,
-  solve.Post,
-  either-reads.Asked,
-  either-reads.Learnt,
-  next-way-reads.Asked,
-  next-way-reads.Learnt,
-) (divide-at t) divide.Post divide-Inv-loop divide-μ-loop
+divide-enum-known-m : (t : ℕ) → divide-lts.Need-enum-known-m (divide-calls t) (divide-at t) divide.Post divide-Inv-loop divide-μ-loop
 divide-enum-known-m t c = search needs
 
+-- src/lib.rt:147:21
+divide-way-from-requires : (t : ℕ) → divide-lts.Need-way-from-requires (divide-calls t) (divide-at t) divide.Post divide-Inv-loop divide-μ-loop
+divide-way-from-requires t c κs = from-asked _ _ _ _ _ _ _ _ _ _ _ _ (c .before .before .before .before .before .before .before .before .before .before .before .pre .1) (c .before .before .before .before .before .meet .result) (recast-word (c .before .before .before .before .before .before .before .before .before .before .before .args .word) _ _ _ _ (c .before .before .before .before .before .meet .result) (c .before .before .before .before .before .before .before .before .kind .ensures .0) (c .before .before .before .before .before .before .before .operand-count .ensures .0) (c .before .before .before .before .before .before .unpack .ensures) (c .before .before .before .before .before .meet .ensures)) _ (c .before .m .given .1) _ (c .before .before .before .before .before .before .before .before .kind .ensures .0) _ (c .before .before .before .sizes-of .ensures)
+
 -- src/lib.rt:143:9
-divide-loop-holds : (t : ℕ) → divide-lts.Need-loop-holds (
-  kind-reads.Asked,
-  kind-reads.Learnt,
-  operand-count-reads.Asked,
-  operand-count-reads.Learnt,
-  unpack-reads.Asked,
-  unpack-reads.Learnt,
-  meet-reads.Asked,
-  meet-reads.Learnt,
-  is-settled-reads.Asked,
-  is-settled-reads.Learnt,
-  push-reads.Asked,
-  push-reads.Learnt,
-  solve-below t,
-  solve.Post,
-  either-reads.Asked,
-  either-reads.Learnt,
-  next-way-reads.Asked,
-  next-way-reads.Learnt,
-) (divide-at t) divide.Post divide-Inv-loop divide-μ-loop
-divide-loop-holds t c = divide-start _ _ _ _ _ _ _ _ _ _ _ _ (c .before .before .before .before .before .before .before .before .before .before .pre .1) _
+divide-loop-holds : (t : ℕ) → divide-lts.Need-loop-holds (divide-calls t) (divide-at t) divide.Post divide-Inv-loop divide-μ-loop
+divide-loop-holds t c = divide-skip _ _ _ _ _ _ _ _ _ _ _ _ (c .before .before .before .before .before .before .before .before .before .before .before .before .pre .1) (c .before .before .before .before .before .before .meet .result) (recast-word (c .before .before .before .before .before .before .before .before .before .before .before .before .args .word) _ _ _ _ (c .before .before .before .before .before .before .meet .result) (c .before .before .before .before .before .before .before .before .before .kind .ensures .0) (c .before .before .before .before .before .before .before .before .operand-count .ensures .0) (c .before .before .before .before .before .before .before .unpack .ensures) (c .before .before .before .before .before .before .meet .ensures)) _ (c .before .before .m .given .1) _ (c .before .before .before .before .before .before .before .before .before .kind .ensures .0) _ (c .before .before .before .before .sizes-of .ensures) _ _ _ _ _ _ (divide-start _ _ _ _ _ _ _ _ _ _ _ _ (c .before .before .before .before .before .before .before .before .before .before .before .before .pre .1) _) _ (c .way-from .ensures)
 
 -- src/lib.rt:144:17
-divide-push-requires : (t : ℕ) → divide-lts.Need-push-requires (
-  kind-reads.Asked,
-  kind-reads.Learnt,
-  operand-count-reads.Asked,
-  operand-count-reads.Learnt,
-  unpack-reads.Asked,
-  unpack-reads.Learnt,
-  meet-reads.Asked,
-  meet-reads.Learnt,
-  is-settled-reads.Asked,
-  is-settled-reads.Learnt,
-  push-reads.Asked,
-  push-reads.Learnt,
-  solve-below t,
-  solve.Post,
-  either-reads.Asked,
-  either-reads.Learnt,
-  next-way-reads.Asked,
-  next-way-reads.Learnt,
-) (divide-at t) divide.Post divide-Inv-loop divide-μ-loop
-divide-push-requires t c κs = push-asked _ _ _ _ _ _ _ _ _ _ _ _ (c .before .before .before .before .before .before .before .before .before .before .before .before .before .pre .1) (c .before .before .before .before .before .before .before .meet .result) (recast-word (c .before .before .before .before .before .before .before .before .before .before .before .before .before .args .word) _ _ _ _ (c .before .before .before .before .before .before .before .meet .result) (c .before .before .before .before .before .before .before .before .before .before .kind .ensures .0) (c .before .before .before .before .before .before .before .before .before .operand-count .ensures .0) (c .before .before .before .before .before .before .before .before .unpack .ensures) (c .before .before .before .before .before .before .before .meet .ensures)) _ (c .before .before .before .before .m .given .1) _ _ _ _ _ _ (c .before .before .loop .inv) (omega arith)
+divide-push-requires : (t : ℕ) → divide-lts.Need-push-requires (divide-calls t) (divide-at t) divide.Post divide-Inv-loop divide-μ-loop
+divide-push-requires t c κs = push-asked _ _ _ _ _ _ _ _ _ _ _ _ (c .before .before .before .before .before .before .before .before .before .before .before .before .before .before .before .pre .1) (c .before .before .before .before .before .before .before .before .before .meet .result) (recast-word (c .before .before .before .before .before .before .before .before .before .before .before .before .before .before .before .args .word) _ _ _ _ (c .before .before .before .before .before .before .before .before .before .meet .result) (c .before .before .before .before .before .before .before .before .before .before .before .before .kind .ensures .0) (c .before .before .before .before .before .before .before .before .before .before .before .operand-count .ensures .0) (c .before .before .before .before .before .before .before .before .before .before .unpack .ensures) (c .before .before .before .before .before .before .before .before .before .meet .ensures)) _ (c .before .before .before .before .before .m .given .1) _ _ _ _ _ _ (c .before .before .loop .inv) (omega arith)
 
 -- src/lib.rt:151:17
-divide-add-solve : (t : ℕ) → divide-lts.Need-add-solve (
-  kind-reads.Asked,
-  kind-reads.Learnt,
-  operand-count-reads.Asked,
-  operand-count-reads.Learnt,
-  unpack-reads.Asked,
-  unpack-reads.Learnt,
-  meet-reads.Asked,
-  meet-reads.Learnt,
-  is-settled-reads.Asked,
-  is-settled-reads.Learnt,
-  push-reads.Asked,
-  push-reads.Learnt,
-  solve-below t,
-  solve.Post,
-  either-reads.Asked,
-  either-reads.Learnt,
-  next-way-reads.Asked,
-  next-way-reads.Learnt,
-) (divide-at t) divide.Post divide-Inv-loop divide-μ-loop
-divide-add-solve t c = omega (arith, top-room _ _ _ _ _ _ _ _ _ _ _ _ (c .before .before .before .before .before .before .before .before .before .before .before .before .before .before .before .pre .1), c .before .before .before .before .before .before .before .before .before .before .before .operand-count .ensures .0)
+divide-add-solve : (t : ℕ) → divide-lts.Need-add-solve (divide-calls t) (divide-at t) divide.Post divide-Inv-loop divide-μ-loop
+divide-add-solve t c = omega (arith, top-room _ _ _ _ _ _ _ _ _ _ _ _ (c .before .before .before .before .before .before .before .before .before .before .before .before .before .before .before .before .before .pre .1), c .before .before .before .before .before .before .before .before .before .before .before .before .before .operand-count .ensures .0)
 
 -- src/lib.rt:145:17
-divide-solve-requires : (t : ℕ) → divide-lts.Need-solve-requires (
-  kind-reads.Asked,
-  kind-reads.Learnt,
-  operand-count-reads.Asked,
-  operand-count-reads.Learnt,
-  unpack-reads.Asked,
-  unpack-reads.Learnt,
-  meet-reads.Asked,
-  meet-reads.Learnt,
-  is-settled-reads.Asked,
-  is-settled-reads.Learnt,
-  push-reads.Asked,
-  push-reads.Learnt,
-  solve-below t,
-  solve.Post,
-  either-reads.Asked,
-  either-reads.Learnt,
-  next-way-reads.Asked,
-  next-way-reads.Learnt,
-) (divide-at t) divide.Post divide-Inv-loop divide-μ-loop
-divide-solve-requires t c κs = (omega (arith, c .before .before .before .before .before .before .before .before .before .before .before .before .before .before .before .before .before .pre .0, falls-on (c .before .before .before .before .before .before .before .before .before .before .before .before .before .before .before .before .before .args .top) (c .before .before .before .before .before .before .before .before .before .before .before .before .before .before .before .before .before .args .next) (c .before .before .before .before .before .before .before .before .before .before .before .before .before .operand-count .result) (c .before .before .before .push .result) (omega (arith, top-room _ _ _ _ _ _ _ _ _ _ _ _ (c .before .before .before .before .before .before .before .before .before .before .before .before .before .before .before .before .before .pre .1), c .before .before .before .before .before .before .before .before .before .before .before .before .before .operand-count .ensures .0)) (omega (arith, c .before .before .before .push .ensures .low, c .before .before .before .before .before .before .before .before .before .before .before .before .before .operand-count .ensures .0)) (λ z. c .before .before .before .push .ensures .none (omega (arith, c .before .before .before .before .before .before .before .before .before .before .before .before .before .operand-count .ensures .0, z)))), solve-asked _ _ _ _ _ _ _ _ _ _ _ _ (c .before .before .before .before .before .before .before .before .before .before .before .before .before .before .before .before .before .pre .1) (c .before .before .before .before .before .before .before .before .before .before .before .meet .result) (recast-word (c .before .before .before .before .before .before .before .before .before .before .before .before .before .before .before .before .before .args .word) _ _ _ _ (c .before .before .before .before .before .before .before .before .before .before .before .meet .result) (c .before .before .before .before .before .before .before .before .before .before .before .before .before .before .kind .ensures .0) (c .before .before .before .before .before .before .before .before .before .before .before .before .before .operand-count .ensures .0) (c .before .before .before .before .before .before .before .before .before .before .before .before .unpack .ensures) (c .before .before .before .before .before .before .before .before .before .before .before .meet .ensures)) _ (c .before .before .before .before .before .before .before .before .m .given .1) _ _ _ _ _ _ (c .before .before .before .before .before .before .loop .inv) (omega arith) _ _ (c .before .before .before .push .ensures) _ (c .before .before .before .before .before .before .before .before .before .before .before .before .before .operand-count .ensures .0))
+divide-solve-requires : (t : ℕ) → divide-lts.Need-solve-requires (divide-calls t) (divide-at t) divide.Post divide-Inv-loop divide-μ-loop
+divide-solve-requires t c κs = (omega (arith, c .before .before .before .before .before .before .before .before .before .before .before .before .before .before .before .before .before .before .before .pre .0, falls-on (c .before .before .before .before .before .before .before .before .before .before .before .before .before .before .before .before .before .before .before .args .top) (c .before .before .before .before .before .before .before .before .before .before .before .before .before .before .before .before .before .before .before .args .next) (c .before .before .before .before .before .before .before .before .before .before .before .before .before .before .before .operand-count .result) (c .before .before .before .push .result) (omega (arith, top-room _ _ _ _ _ _ _ _ _ _ _ _ (c .before .before .before .before .before .before .before .before .before .before .before .before .before .before .before .before .before .before .before .pre .1), c .before .before .before .before .before .before .before .before .before .before .before .before .before .before .before .operand-count .ensures .0)) (omega (arith, c .before .before .before .push .ensures .low, c .before .before .before .before .before .before .before .before .before .before .before .before .before .before .before .operand-count .ensures .0)) (λ z. c .before .before .before .push .ensures .none (omega (arith, c .before .before .before .before .before .before .before .before .before .before .before .before .before .before .before .operand-count .ensures .0, z)))), solve-asked _ _ _ _ _ _ _ _ _ _ _ _ (c .before .before .before .before .before .before .before .before .before .before .before .before .before .before .before .before .before .before .before .pre .1) (c .before .before .before .before .before .before .before .before .before .before .before .before .before .meet .result) (recast-word (c .before .before .before .before .before .before .before .before .before .before .before .before .before .before .before .before .before .before .before .args .word) _ _ _ _ (c .before .before .before .before .before .before .before .before .before .before .before .before .before .meet .result) (c .before .before .before .before .before .before .before .before .before .before .before .before .before .before .before .before .kind .ensures .0) (c .before .before .before .before .before .before .before .before .before .before .before .before .before .before .before .operand-count .ensures .0) (c .before .before .before .before .before .before .before .before .before .before .before .before .before .before .unpack .ensures) (c .before .before .before .before .before .before .before .before .before .before .before .before .before .meet .ensures)) _ (c .before .before .before .before .before .before .before .before .before .m .given .1) _ _ _ _ _ _ (c .before .before .before .before .before .before .loop .inv) (omega arith) _ _ (c .before .before .before .push .ensures) _ (c .before .before .before .before .before .before .before .before .before .before .before .before .before .before .before .operand-count .ensures .0))
 
 -- src/lib.rt:159:33
-divide-enum-known-formed : (t : ℕ) → divide-lts.Need-enum-known-formed (
-  kind-reads.Asked,
-  kind-reads.Learnt,
-  operand-count-reads.Asked,
-  operand-count-reads.Learnt,
-  unpack-reads.Asked,
-  unpack-reads.Learnt,
-  meet-reads.Asked,
-  meet-reads.Learnt,
-  is-settled-reads.Asked,
-  is-settled-reads.Learnt,
-  push-reads.Asked,
-  push-reads.Learnt,
-  solve-below t,
-  solve.Post,
-  either-reads.Asked,
-  either-reads.Learnt,
-  next-way-reads.Asked,
-  next-way-reads.Learnt,
-) (divide-at t) divide.Post divide-Inv-loop divide-μ-loop
+divide-enum-known-formed : (t : ℕ) → divide-lts.Need-enum-known-formed (divide-calls t) (divide-at t) divide.Post divide-Inv-loop divide-μ-loop
 divide-enum-known-formed t c = search needs
 
 -- src/lib.rt:160:21
-divide-returns : (t : ℕ) → divide-lts.Need-returns (
-  kind-reads.Asked,
-  kind-reads.Learnt,
-  operand-count-reads.Asked,
-  operand-count-reads.Learnt,
-  unpack-reads.Asked,
-  unpack-reads.Learnt,
-  meet-reads.Asked,
-  meet-reads.Learnt,
-  is-settled-reads.Asked,
-  is-settled-reads.Learnt,
-  push-reads.Asked,
-  push-reads.Learnt,
-  solve-below t,
-  solve.Post,
-  either-reads.Asked,
-  either-reads.Learnt,
-  next-way-reads.Asked,
-  next-way-reads.Learnt,
-) (divide-at t) divide.Post divide-Inv-loop divide-μ-loop
-divide-returns t c = divide-full _ _ _ _ _ _ _ _ _ _ _ _ (c .before .before .before .before .before .before .before .before .before .before .before .before .before .before .before .before .before .before .before .before .before .pre .1) (c .before .before .before .before .before .before .before .before .before .before .before .before .before .before .before .meet .result) (recast-word (c .before .before .before .before .before .before .before .before .before .before .before .before .before .before .before .before .before .before .before .before .before .args .word) _ _ _ _ (c .before .before .before .before .before .before .before .before .before .before .before .before .before .before .before .meet .result) (c .before .before .before .before .before .before .before .before .before .before .before .before .before .before .before .before .before .before .kind .ensures .0) (c .before .before .before .before .before .before .before .before .before .before .before .before .before .before .before .before .before .operand-count .ensures .0) (c .before .before .before .before .before .before .before .before .before .before .before .before .before .before .before .before .unpack .ensures) (c .before .before .before .before .before .before .before .before .before .before .before .before .before .before .before .meet .ensures)) _ (c .before .before .before .before .before .before .before .before .before .before .before .before .m .given .1) _ _ _ _ _ _ (c .before .before .before .before .before .before .before .before .before .before .loop .inv) (omega arith) _ _ (c .before .before .before .before .before .before .before .push .ensures) _ (c .before .before .before .before .before .before .before .before .before .before .before .before .before .before .before .before .before .operand-count .ensures .0) _ _ _ _ (c .before .before .before .solve .ensures) _ (c .before .formed .given .1)
+divide-returns : (t : ℕ) → divide-lts.Need-returns (divide-calls t) (divide-at t) divide.Post divide-Inv-loop divide-μ-loop
+divide-returns t c = divide-full _ _ _ _ _ _ _ _ _ _ _ _ (c .before .before .before .before .before .before .before .before .before .before .before .before .before .before .before .before .before .before .before .before .before .before .before .pre .1) (c .before .before .before .before .before .before .before .before .before .before .before .before .before .before .before .before .before .meet .result) (recast-word (c .before .before .before .before .before .before .before .before .before .before .before .before .before .before .before .before .before .before .before .before .before .before .before .args .word) _ _ _ _ (c .before .before .before .before .before .before .before .before .before .before .before .before .before .before .before .before .before .meet .result) (c .before .before .before .before .before .before .before .before .before .before .before .before .before .before .before .before .before .before .before .before .kind .ensures .0) (c .before .before .before .before .before .before .before .before .before .before .before .before .before .before .before .before .before .before .before .operand-count .ensures .0) (c .before .before .before .before .before .before .before .before .before .before .before .before .before .before .before .before .before .before .unpack .ensures) (c .before .before .before .before .before .before .before .before .before .before .before .before .before .before .before .before .before .meet .ensures)) _ (c .before .before .before .before .before .before .before .before .before .before .before .before .before .m .given .1) _ _ _ _ _ _ (c .before .before .before .before .before .before .before .before .before .before .loop .inv) (omega arith) _ _ (c .before .before .before .before .before .before .before .push .ensures) _ (c .before .before .before .before .before .before .before .before .before .before .before .before .before .before .before .before .before .before .before .operand-count .ensures .0) _ _ _ _ (c .before .before .before .solve .ensures) _ (c .before .formed .given .1)
 
 -- src/lib.rt:165:32
-divide-enum-known-formed-2 : (t : ℕ) → divide-lts.Need-enum-known-formed-2 (
-  kind-reads.Asked,
-  kind-reads.Learnt,
-  operand-count-reads.Asked,
-  operand-count-reads.Learnt,
-  unpack-reads.Asked,
-  unpack-reads.Learnt,
-  meet-reads.Asked,
-  meet-reads.Learnt,
-  is-settled-reads.Asked,
-  is-settled-reads.Learnt,
-  push-reads.Asked,
-  push-reads.Learnt,
-  solve-below t,
-  solve.Post,
-  either-reads.Asked,
-  either-reads.Learnt,
-  next-way-reads.Asked,
-  next-way-reads.Learnt,
-) (divide-at t) divide.Post divide-Inv-loop divide-μ-loop
+divide-enum-known-formed-2 : (t : ℕ) → divide-lts.Need-enum-known-formed-2 (divide-calls t) (divide-at t) divide.Post divide-Inv-loop divide-μ-loop
 divide-enum-known-formed-2 t c = search needs
 
 -- src/lib.rt:169:13
-divide-either-requires : (t : ℕ) → divide-lts.Need-either-requires (
-  kind-reads.Asked,
-  kind-reads.Learnt,
-  operand-count-reads.Asked,
-  operand-count-reads.Learnt,
-  unpack-reads.Asked,
-  unpack-reads.Learnt,
-  meet-reads.Asked,
-  meet-reads.Learnt,
-  is-settled-reads.Asked,
-  is-settled-reads.Learnt,
-  push-reads.Asked,
-  push-reads.Learnt,
-  solve-below t,
-  solve.Post,
-  either-reads.Asked,
-  either-reads.Learnt,
-  next-way-reads.Asked,
-  next-way-reads.Learnt,
-) (divide-at t) divide.Post divide-Inv-loop divide-μ-loop
+divide-either-requires : (t : ℕ) → divide-lts.Need-either-requires (divide-calls t) (divide-at t) divide.Post divide-Inv-loop divide-μ-loop
 divide-either-requires t c κs = search needs
 
 -- src/lib.rt:170:13
-divide-next-way-requires : (t : ℕ) → divide-lts.Need-next-way-requires (
-  kind-reads.Asked,
-  kind-reads.Learnt,
-  operand-count-reads.Asked,
-  operand-count-reads.Learnt,
-  unpack-reads.Asked,
-  unpack-reads.Learnt,
-  meet-reads.Asked,
-  meet-reads.Learnt,
-  is-settled-reads.Asked,
-  is-settled-reads.Learnt,
-  push-reads.Asked,
-  push-reads.Learnt,
-  solve-below t,
-  solve.Post,
-  either-reads.Asked,
-  either-reads.Learnt,
-  next-way-reads.Asked,
-  next-way-reads.Learnt,
-) (divide-at t) divide.Post divide-Inv-loop divide-μ-loop
+divide-next-way-requires : (t : ℕ) → divide-lts.Need-next-way-requires (divide-calls t) (divide-at t) divide.Post divide-Inv-loop divide-μ-loop
 divide-next-way-requires t c κs = omega arith
 
--- src/lib.rt:143:9
-divide-loop-less : (t : ℕ) → divide-lts.Need-loop-less (
-  kind-reads.Asked,
-  kind-reads.Learnt,
-  operand-count-reads.Asked,
-  operand-count-reads.Learnt,
-  unpack-reads.Asked,
-  unpack-reads.Learnt,
-  meet-reads.Asked,
-  meet-reads.Learnt,
-  is-settled-reads.Asked,
-  is-settled-reads.Learnt,
-  push-reads.Asked,
-  push-reads.Learnt,
-  solve-below t,
-  solve.Post,
-  either-reads.Asked,
-  either-reads.Learnt,
-  next-way-reads.Asked,
-  next-way-reads.Learnt,
-) (divide-at t) divide.Post divide-Inv-loop divide-μ-loop
-divide-loop-less t c = falls-way _ _ _ _ _ (omega arith) (c .next-way .ensures)
+-- src/lib.rt:177:17
+divide-way-from-requires-2 : (t : ℕ) → divide-lts.Need-way-from-requires-2 (divide-calls t) (divide-at t) divide.Post divide-Inv-loop divide-μ-loop
+divide-way-from-requires-2 t c κs = from-asked _ _ _ _ _ _ _ _ _ _ _ _ (c .before .before .before .before .before .before .before .before .before .before .before .before .before .before .before .before .before .before .before .before .before .before .before .before .before .pre .1) (c .before .before .before .before .before .before .before .before .before .before .before .before .before .before .before .before .before .before .before .meet .result) (recast-word (c .before .before .before .before .before .before .before .before .before .before .before .before .before .before .before .before .before .before .before .before .before .before .before .before .before .args .word) _ _ _ _ (c .before .before .before .before .before .before .before .before .before .before .before .before .before .before .before .before .before .before .before .meet .result) (c .before .before .before .before .before .before .before .before .before .before .before .before .before .before .before .before .before .before .before .before .before .before .kind .ensures .0) (c .before .before .before .before .before .before .before .before .before .before .before .before .before .before .before .before .before .before .before .before .before .operand-count .ensures .0) (c .before .before .before .before .before .before .before .before .before .before .before .before .before .before .before .before .before .before .before .before .unpack .ensures) (c .before .before .before .before .before .before .before .before .before .before .before .before .before .before .before .before .before .before .before .meet .ensures)) _ (c .before .before .before .before .before .before .before .before .before .before .before .before .before .before .before .m .given .1) _ (c .before .before .before .before .before .before .before .before .before .before .before .before .before .before .before .before .before .before .before .before .before .before .kind .ensures .0) _ (c .before .before .before .before .before .before .before .before .before .before .before .before .before .before .before .before .before .sizes-of .ensures)
 
 -- src/lib.rt:143:9
-divide-loop-again : (t : ℕ) → divide-lts.Need-loop-again (
-  kind-reads.Asked,
-  kind-reads.Learnt,
-  operand-count-reads.Asked,
-  operand-count-reads.Learnt,
-  unpack-reads.Asked,
-  unpack-reads.Learnt,
-  meet-reads.Asked,
-  meet-reads.Learnt,
-  is-settled-reads.Asked,
-  is-settled-reads.Learnt,
-  push-reads.Asked,
-  push-reads.Learnt,
-  solve-below t,
-  solve.Post,
-  either-reads.Asked,
-  either-reads.Learnt,
-  next-way-reads.Asked,
-  next-way-reads.Learnt,
-) (divide-at t) divide.Post divide-Inv-loop divide-μ-loop
-divide-loop-again t c = divide-more _ _ _ _ _ _ _ _ _ _ _ _ (c .before .before .before .before .before .before .before .before .before .before .before .before .before .before .before .before .before .before .before .before .before .before .before .pre .1) (c .before .before .before .before .before .before .before .before .before .before .before .before .before .before .before .before .before .meet .result) (recast-word (c .before .before .before .before .before .before .before .before .before .before .before .before .before .before .before .before .before .before .before .before .before .before .before .args .word) _ _ _ _ (c .before .before .before .before .before .before .before .before .before .before .before .before .before .before .before .before .before .meet .result) (c .before .before .before .before .before .before .before .before .before .before .before .before .before .before .before .before .before .before .before .before .kind .ensures .0) (c .before .before .before .before .before .before .before .before .before .before .before .before .before .before .before .before .before .before .before .operand-count .ensures .0) (c .before .before .before .before .before .before .before .before .before .before .before .before .before .before .before .before .before .before .unpack .ensures) (c .before .before .before .before .before .before .before .before .before .before .before .before .before .before .before .before .before .meet .ensures)) _ (c .before .before .before .before .before .before .before .before .before .before .before .before .before .before .m .given .1) _ _ _ _ _ _ (c .before .before .before .before .before .before .before .before .before .before .before .before .loop .inv) (omega arith) _ _ (c .before .before .before .before .before .before .before .before .before .push .ensures) _ (c .before .before .before .before .before .before .before .before .before .before .before .before .before .before .before .before .before .before .before .operand-count .ensures .0) _ _ _ _ (c .before .before .before .before .before .solve .ensures) _ (c .before .before .before .formed2 .given .1) _ (c .before .before .before .before .before .before .before .before .before .before .before .before .before .before .before .before .is-settled .ensures) _ (c .before .either .ensures) _ (c .next-way .ensures)
+divide-loop-less : (t : ℕ) → divide-lts.Need-loop-less (divide-calls t) (divide-at t) divide.Post divide-Inv-loop divide-μ-loop
+divide-loop-less t c = omega (arith, falls-way _ _ _ _ _ (omega arith) (c .before .next-way .ensures), c .way-from2 .ensures .low)
+
+-- src/lib.rt:143:9
+divide-loop-again : (t : ℕ) → divide-lts.Need-loop-again (divide-calls t) (divide-at t) divide.Post divide-Inv-loop divide-μ-loop
+divide-loop-again t c = divide-skip _ _ _ _ _ _ _ _ _ _ _ _ (c .before .before .before .before .before .before .before .before .before .before .before .before .before .before .before .before .before .before .before .before .before .before .before .before .before .before .pre .1) (c .before .before .before .before .before .before .before .before .before .before .before .before .before .before .before .before .before .before .before .before .meet .result) (recast-word (c .before .before .before .before .before .before .before .before .before .before .before .before .before .before .before .before .before .before .before .before .before .before .before .before .before .before .args .word) _ _ _ _ (c .before .before .before .before .before .before .before .before .before .before .before .before .before .before .before .before .before .before .before .before .meet .result) (c .before .before .before .before .before .before .before .before .before .before .before .before .before .before .before .before .before .before .before .before .before .before .before .kind .ensures .0) (c .before .before .before .before .before .before .before .before .before .before .before .before .before .before .before .before .before .before .before .before .before .before .operand-count .ensures .0) (c .before .before .before .before .before .before .before .before .before .before .before .before .before .before .before .before .before .before .before .before .before .unpack .ensures) (c .before .before .before .before .before .before .before .before .before .before .before .before .before .before .before .before .before .before .before .before .meet .ensures)) _ (c .before .before .before .before .before .before .before .before .before .before .before .before .before .before .before .before .m .given .1) _ (c .before .before .before .before .before .before .before .before .before .before .before .before .before .before .before .before .before .before .before .before .before .before .before .kind .ensures .0) _ (c .before .before .before .before .before .before .before .before .before .before .before .before .before .before .before .before .before .before .sizes-of .ensures) _ _ _ _ _ _ (divide-more _ _ _ _ _ _ _ _ _ _ _ _ (c .before .before .before .before .before .before .before .before .before .before .before .before .before .before .before .before .before .before .before .before .before .before .before .before .before .before .pre .1) (c .before .before .before .before .before .before .before .before .before .before .before .before .before .before .before .before .before .before .before .before .meet .result) (recast-word (c .before .before .before .before .before .before .before .before .before .before .before .before .before .before .before .before .before .before .before .before .before .before .before .before .before .before .args .word) _ _ _ _ (c .before .before .before .before .before .before .before .before .before .before .before .before .before .before .before .before .before .before .before .before .meet .result) (c .before .before .before .before .before .before .before .before .before .before .before .before .before .before .before .before .before .before .before .before .before .before .before .kind .ensures .0) (c .before .before .before .before .before .before .before .before .before .before .before .before .before .before .before .before .before .before .before .before .before .before .operand-count .ensures .0) (c .before .before .before .before .before .before .before .before .before .before .before .before .before .before .before .before .before .before .before .before .before .unpack .ensures) (c .before .before .before .before .before .before .before .before .before .before .before .before .before .before .before .before .before .before .before .before .meet .ensures)) _ (c .before .before .before .before .before .before .before .before .before .before .before .before .before .before .before .before .m .given .1) _ _ _ _ _ _ (c .before .before .before .before .before .before .before .before .before .before .before .before .before .loop .inv) (omega arith) _ _ (c .before .before .before .before .before .before .before .before .before .before .push .ensures) _ (c .before .before .before .before .before .before .before .before .before .before .before .before .before .before .before .before .before .before .before .before .before .before .operand-count .ensures .0) _ _ _ _ (c .before .before .before .before .before .before .solve .ensures) _ (c .before .before .before .before .formed2 .given .1) _ (c .before .before .before .before .before .before .before .before .before .before .before .before .before .before .before .before .before .before .before .is-settled .ensures) _ (c .before .before .either .ensures) _ (c .before .next-way .ensures)) _ (c .way-from2 .ensures)
 
 -- src/lib.rt:117:1
-divide-returns-2 : (t : ℕ) → divide-lts.Need-returns-2 (
-  kind-reads.Asked,
-  kind-reads.Learnt,
-  operand-count-reads.Asked,
-  operand-count-reads.Learnt,
-  unpack-reads.Asked,
-  unpack-reads.Learnt,
-  meet-reads.Asked,
-  meet-reads.Learnt,
-  is-settled-reads.Asked,
-  is-settled-reads.Learnt,
-  push-reads.Asked,
-  push-reads.Learnt,
-  solve-below t,
-  solve.Post,
-  either-reads.Asked,
-  either-reads.Learnt,
-  next-way-reads.Asked,
-  next-way-reads.Learnt,
-) (divide-at t) divide.Post divide-Inv-loop divide-μ-loop
-divide-returns-2 t c = divide-end _ _ _ _ _ _ _ _ _ _ _ _ (c .before .before .before .before .before .before .before .before .before .before .before .before .pre .1) (c .before .before .before .before .before .before .meet .result) (recast-word (c .before .before .before .before .before .before .before .before .before .before .before .before .args .word) _ _ _ _ (c .before .before .before .before .before .before .meet .result) (c .before .before .before .before .before .before .before .before .before .kind .ensures .0) (c .before .before .before .before .before .before .before .before .operand-count .ensures .0) (c .before .before .before .before .before .before .before .unpack .ensures) (c .before .before .before .before .before .before .meet .ensures)) _ (c .before .before .before .m .given .1) _ _ _ _ _ _ (c .before .loop .inv) (omega arith)
+divide-returns-2 : (t : ℕ) → divide-lts.Need-returns-2 (divide-calls t) (divide-at t) divide.Post divide-Inv-loop divide-μ-loop
+divide-returns-2 t c = divide-end _ _ _ _ _ _ _ _ _ _ _ _ (c .before .before .before .before .before .before .before .before .before .before .before .before .before .before .pre .1) (c .before .before .before .before .before .before .before .before .meet .result) (recast-word (c .before .before .before .before .before .before .before .before .before .before .before .before .before .before .args .word) _ _ _ _ (c .before .before .before .before .before .before .before .before .meet .result) (c .before .before .before .before .before .before .before .before .before .before .before .kind .ensures .0) (c .before .before .before .before .before .before .before .before .before .before .operand-count .ensures .0) (c .before .before .before .before .before .before .before .before .before .unpack .ensures) (c .before .before .before .before .before .before .before .before .meet .ensures)) _ (c .before .before .before .before .m .given .1) _ _ _ _ _ _ (c .before .loop .inv) (omega arith)
 
 -- src/lib.rt:117:1
-divide-returns-3 : (t : ℕ) → divide-lts.Need-returns-3 (
-  kind-reads.Asked,
-  kind-reads.Learnt,
-  operand-count-reads.Asked,
-  operand-count-reads.Learnt,
-  unpack-reads.Asked,
-  unpack-reads.Learnt,
-  meet-reads.Asked,
-  meet-reads.Learnt,
-  is-settled-reads.Asked,
-  is-settled-reads.Learnt,
-  push-reads.Asked,
-  push-reads.Learnt,
-  solve-below t,
-  solve.Post,
-  either-reads.Asked,
-  either-reads.Learnt,
-  next-way-reads.Asked,
-  next-way-reads.Learnt,
-) (divide-at t) divide.Post divide-Inv-loop divide-μ-loop
-divide-returns-3 t c = divide-none _ _ _ _ _ _ _ _ _ _ _ _ (c .before .before .before .before .before .before .before .before .pre .1) (c .before .before .meet .result) (recast-word (c .before .before .before .before .before .before .before .before .args .word) _ _ _ _ (c .before .before .meet .result) (c .before .before .before .before .before .kind .ensures .0) (c .before .before .before .before .operand-count .ensures .0) (c .before .before .before .unpack .ensures) (c .before .before .meet .ensures)) (λ w d. ⊎-elim (λ k. let e = rw d at k in omega arith) (λ k. let e = rw d at k in omega arith) (c .match .keys2))
+divide-returns-3 : (t : ℕ) → divide-lts.Need-returns-3 (divide-calls t) (divide-at t) divide.Post divide-Inv-loop divide-μ-loop
+divide-returns-3 t c = divide-none _ _ _ _ _ _ _ _ _ _ _ _ (c .before .before .before .before .before .before .before .before .before .pre .1) (c .before .before .before .meet .result) (recast-word (c .before .before .before .before .before .before .before .before .before .args .word) _ _ _ _ (c .before .before .before .meet .result) (c .before .before .before .before .before .before .kind .ensures .0) (c .before .before .before .before .before .operand-count .ensures .0) (c .before .before .before .before .unpack .ensures) (c .before .before .before .meet .ensures)) (λ w d. ⊎-elim (λ k. let e = rw d at k in omega arith) (λ k. let e = rw d at k in omega arith) (c .match .keys2))
 
 abbrev solve-Inv-loop : solve-lts.InvT-loop
-solve-Inv-loop table index s agenda₀ head top rows₀ order₀ n head₀ found₀ agenda rows order head' found = SolveSoFar table index s agenda₀ head top found₀ rows₀ order₀ n agenda rows order head' found
+solve-Inv-loop table index s agenda₀ head top found rows₀ order₀ n head₀ words₀ agenda rows order head' words = SolveSoFar table index s agenda₀ head top found rows₀ order₀ n agenda rows order head' words
 
 abbrev solve-μ-loop : solve-lts.MeasureT-loop
-solve-μ-loop table index s agenda₀ head top rows₀ order₀ n head₀ found₀ agenda rows order head' found = head'
+solve-μ-loop table index s agenda₀ head top found rows₀ order₀ n head₀ words₀ agenda rows order head' words = head'
 
 -- src/lib.rt:82:5
-solve-loop-holds : (t : ℕ) → solve-lts.Need-loop-holds (
-  kind-reads.Asked,
-  kind-reads.Learnt,
-  divide-below t,
-  divide.Post,
-  match-leaf-reads.Asked,
-  match-leaf-reads.Learnt,
-  enter-reads.Asked,
-  enter-reads.Learnt,
-) (solve-at t) solve.Post solve-Inv-loop solve-μ-loop
-solve-loop-holds t c = solve-start _ _ _ _ _ _ _ _ _ _ (c .before .before .pre .1)
+solve-loop-holds : (t : ℕ) → solve-lts.Need-loop-holds (solve-calls t) (solve-at t) solve.Post solve-Inv-loop solve-μ-loop
+solve-loop-holds t c = solve-start _ _ _ _ _ _ _ _ _ _ (c .before .before .before .pre .1)
 
 -- src/lib.rt:83:24
-solve-mul-p : (t : ℕ) → solve-lts.Need-mul-p (
-  kind-reads.Asked,
-  kind-reads.Learnt,
-  divide-below t,
-  divide.Post,
-  match-leaf-reads.Asked,
-  match-leaf-reads.Learnt,
-  enter-reads.Asked,
-  enter-reads.Learnt,
-) (solve-at t) solve.Post solve-Inv-loop solve-μ-loop
-solve-mul-p t c = omega (arith, head-low _ _ _ _ _ _ _ _ _ _ (c .before .before .before .before .pre .1) _ _ _ _ _ (c .before .loop .inv))
+solve-mul-p : (t : ℕ) → solve-lts.Need-mul-p (solve-calls t) (solve-at t) solve.Post solve-Inv-loop solve-μ-loop
+solve-mul-p t c = omega (arith, head-low _ _ _ _ _ _ _ _ _ _ (c .before .before .before .before .before .pre .1) _ _ _ _ _ (c .before .loop .inv))
 
 -- src/lib.rt:83:17
-solve-mul-p-2 : (t : ℕ) → solve-lts.Need-mul-p-2 (
-  kind-reads.Asked,
-  kind-reads.Learnt,
-  divide-below t,
-  divide.Post,
-  match-leaf-reads.Asked,
-  match-leaf-reads.Learnt,
-  enter-reads.Asked,
-  enter-reads.Learnt,
-) (solve-at t) solve.Post solve-Inv-loop solve-μ-loop
-solve-mul-p-2 t c = omega (arith, head-low _ _ _ _ _ _ _ _ _ _ (c .before .before .before .before .pre .1) _ _ _ _ _ (c .before .loop .inv))
+solve-mul-p-2 : (t : ℕ) → solve-lts.Need-mul-p-2 (solve-calls t) (solve-at t) solve.Post solve-Inv-loop solve-μ-loop
+solve-mul-p-2 t c = omega (arith, head-low _ _ _ _ _ _ _ _ _ _ (c .before .before .before .before .before .pre .1) _ _ _ _ _ (c .before .loop .inv))
 
 -- src/lib.rt:83:17
-solve-element-copy-out-p : (t : ℕ) → solve-lts.Need-element-copy-out-p (
-  kind-reads.Asked,
-  kind-reads.Learnt,
-  divide-below t,
-  divide.Post,
-  match-leaf-reads.Asked,
-  match-leaf-reads.Learnt,
-  enter-reads.Asked,
-  enter-reads.Learnt,
-) (solve-at t) solve.Post solve-Inv-loop solve-μ-loop
-solve-element-copy-out-p t c = omega (arith, head-low _ _ _ _ _ _ _ _ _ _ (c .before .before .before .before .pre .1) _ _ _ _ _ (c .before .loop .inv))
+solve-element-copy-out-p : (t : ℕ) → solve-lts.Need-element-copy-out-p (solve-calls t) (solve-at t) solve.Post solve-Inv-loop solve-μ-loop
+solve-element-copy-out-p t c = omega (arith, head-low _ _ _ _ _ _ _ _ _ _ (c .before .before .before .before .before .pre .1) _ _ _ _ _ (c .before .loop .inv))
 
 -- src/lib.rt:83:17
-solve-cast-p : (t : ℕ) → solve-lts.Need-cast-p (
-  kind-reads.Asked,
-  kind-reads.Learnt,
-  divide-below t,
-  divide.Post,
-  match-leaf-reads.Asked,
-  match-leaf-reads.Learnt,
-  enter-reads.Asked,
-  enter-reads.Learnt,
-) (solve-at t) solve.Post solve-Inv-loop solve-μ-loop
-solve-cast-p t c = omega (arith, entry-low _ _ _ _ _ _ _ _ _ _ (c .before .before .before .before .before .pre .1) _ _ _ _ _ (c .before .before .loop .inv) (omega arith))
+solve-cast-p : (t : ℕ) → solve-lts.Need-cast-p (solve-calls t) (solve-at t) solve.Post solve-Inv-loop solve-μ-loop
+solve-cast-p t c = omega (arith, entry-low _ _ _ _ _ _ _ _ _ _ (c .before .before .before .before .before .before .pre .1) _ _ _ _ _ (c .before .before .loop .inv) (omega arith))
 
 -- src/lib.rt:84:27
-solve-mul-word : (t : ℕ) → solve-lts.Need-mul-word (
-  kind-reads.Asked,
-  kind-reads.Learnt,
-  divide-below t,
-  divide.Post,
-  match-leaf-reads.Asked,
-  match-leaf-reads.Learnt,
-  enter-reads.Asked,
-  enter-reads.Learnt,
-) (solve-at t) solve.Post solve-Inv-loop solve-μ-loop
-solve-mul-word t c = omega (arith, head-low _ _ _ _ _ _ _ _ _ _ (c .before .before .before .before .before .pre .1) _ _ _ _ _ (c .before .before .loop .inv))
+solve-mul-word : (t : ℕ) → solve-lts.Need-mul-word (solve-calls t) (solve-at t) solve.Post solve-Inv-loop solve-μ-loop
+solve-mul-word t c = omega (arith, head-low _ _ _ _ _ _ _ _ _ _ (c .before .before .before .before .before .before .pre .1) _ _ _ _ _ (c .before .before .loop .inv))
 
 -- src/lib.rt:84:27
-solve-add-word : (t : ℕ) → solve-lts.Need-add-word (
-  kind-reads.Asked,
-  kind-reads.Learnt,
-  divide-below t,
-  divide.Post,
-  match-leaf-reads.Asked,
-  match-leaf-reads.Learnt,
-  enter-reads.Asked,
-  enter-reads.Learnt,
-) (solve-at t) solve.Post solve-Inv-loop solve-μ-loop
-solve-add-word t c = omega (arith, head-low _ _ _ _ _ _ _ _ _ _ (c .before .before .before .before .before .pre .1) _ _ _ _ _ (c .before .before .loop .inv))
+solve-add-word : (t : ℕ) → solve-lts.Need-add-word (solve-calls t) (solve-at t) solve.Post solve-Inv-loop solve-μ-loop
+solve-add-word t c = omega (arith, head-low _ _ _ _ _ _ _ _ _ _ (c .before .before .before .before .before .before .pre .1) _ _ _ _ _ (c .before .before .loop .inv))
 
 -- src/lib.rt:84:20
-solve-mul-word-2 : (t : ℕ) → solve-lts.Need-mul-word-2 (
-  kind-reads.Asked,
-  kind-reads.Learnt,
-  divide-below t,
-  divide.Post,
-  match-leaf-reads.Asked,
-  match-leaf-reads.Learnt,
-  enter-reads.Asked,
-  enter-reads.Learnt,
-) (solve-at t) solve.Post solve-Inv-loop solve-μ-loop
-solve-mul-word-2 t c = omega (arith, head-low _ _ _ _ _ _ _ _ _ _ (c .before .before .before .before .before .pre .1) _ _ _ _ _ (c .before .before .loop .inv))
+solve-mul-word-2 : (t : ℕ) → solve-lts.Need-mul-word-2 (solve-calls t) (solve-at t) solve.Post solve-Inv-loop solve-μ-loop
+solve-mul-word-2 t c = omega (arith, head-low _ _ _ _ _ _ _ _ _ _ (c .before .before .before .before .before .before .pre .1) _ _ _ _ _ (c .before .before .loop .inv))
 
 -- src/lib.rt:84:20
-solve-element-copy-out-word : (t : ℕ) → solve-lts.Need-element-copy-out-word (
-  kind-reads.Asked,
-  kind-reads.Learnt,
-  divide-below t,
-  divide.Post,
-  match-leaf-reads.Asked,
-  match-leaf-reads.Learnt,
-  enter-reads.Asked,
-  enter-reads.Learnt,
-) (solve-at t) solve.Post solve-Inv-loop solve-μ-loop
-solve-element-copy-out-word t c = omega (arith, head-low _ _ _ _ _ _ _ _ _ _ (c .before .before .before .before .before .pre .1) _ _ _ _ _ (c .before .before .loop .inv))
+solve-element-copy-out-word : (t : ℕ) → solve-lts.Need-element-copy-out-word (solve-calls t) (solve-at t) solve.Post solve-Inv-loop solve-μ-loop
+solve-element-copy-out-word t c = omega (arith, head-low _ _ _ _ _ _ _ _ _ _ (c .before .before .before .before .before .before .pre .1) _ _ _ _ _ (c .before .before .loop .inv))
 
 -- src/lib.rt:85:27
-solve-mul-next : (t : ℕ) → solve-lts.Need-mul-next (
-  kind-reads.Asked,
-  kind-reads.Learnt,
-  divide-below t,
-  divide.Post,
-  match-leaf-reads.Asked,
-  match-leaf-reads.Learnt,
-  enter-reads.Asked,
-  enter-reads.Learnt,
-) (solve-at t) solve.Post solve-Inv-loop solve-μ-loop
-solve-mul-next t c = omega (arith, head-low _ _ _ _ _ _ _ _ _ _ (c .before .before .before .before .before .before .pre .1) _ _ _ _ _ (c .before .before .before .loop .inv))
+solve-mul-next : (t : ℕ) → solve-lts.Need-mul-next (solve-calls t) (solve-at t) solve.Post solve-Inv-loop solve-μ-loop
+solve-mul-next t c = omega (arith, head-low _ _ _ _ _ _ _ _ _ _ (c .before .before .before .before .before .before .before .pre .1) _ _ _ _ _ (c .before .before .before .loop .inv))
 
 -- src/lib.rt:85:27
-solve-add-next : (t : ℕ) → solve-lts.Need-add-next (
-  kind-reads.Asked,
-  kind-reads.Learnt,
-  divide-below t,
-  divide.Post,
-  match-leaf-reads.Asked,
-  match-leaf-reads.Learnt,
-  enter-reads.Asked,
-  enter-reads.Learnt,
-) (solve-at t) solve.Post solve-Inv-loop solve-μ-loop
-solve-add-next t c = omega (arith, head-low _ _ _ _ _ _ _ _ _ _ (c .before .before .before .before .before .before .pre .1) _ _ _ _ _ (c .before .before .before .loop .inv))
+solve-add-next : (t : ℕ) → solve-lts.Need-add-next (solve-calls t) (solve-at t) solve.Post solve-Inv-loop solve-μ-loop
+solve-add-next t c = omega (arith, head-low _ _ _ _ _ _ _ _ _ _ (c .before .before .before .before .before .before .before .pre .1) _ _ _ _ _ (c .before .before .before .loop .inv))
 
 -- src/lib.rt:85:20
-solve-mul-next-2 : (t : ℕ) → solve-lts.Need-mul-next-2 (
-  kind-reads.Asked,
-  kind-reads.Learnt,
-  divide-below t,
-  divide.Post,
-  match-leaf-reads.Asked,
-  match-leaf-reads.Learnt,
-  enter-reads.Asked,
-  enter-reads.Learnt,
-) (solve-at t) solve.Post solve-Inv-loop solve-μ-loop
-solve-mul-next-2 t c = omega (arith, head-low _ _ _ _ _ _ _ _ _ _ (c .before .before .before .before .before .before .pre .1) _ _ _ _ _ (c .before .before .before .loop .inv))
+solve-mul-next-2 : (t : ℕ) → solve-lts.Need-mul-next-2 (solve-calls t) (solve-at t) solve.Post solve-Inv-loop solve-μ-loop
+solve-mul-next-2 t c = omega (arith, head-low _ _ _ _ _ _ _ _ _ _ (c .before .before .before .before .before .before .before .pre .1) _ _ _ _ _ (c .before .before .before .loop .inv))
 
 -- src/lib.rt:85:20
-solve-element-copy-out-next : (t : ℕ) → solve-lts.Need-element-copy-out-next (
-  kind-reads.Asked,
-  kind-reads.Learnt,
-  divide-below t,
-  divide.Post,
-  match-leaf-reads.Asked,
-  match-leaf-reads.Learnt,
-  enter-reads.Asked,
-  enter-reads.Learnt,
-) (solve-at t) solve.Post solve-Inv-loop solve-μ-loop
-solve-element-copy-out-next t c = omega (arith, head-low _ _ _ _ _ _ _ _ _ _ (c .before .before .before .before .before .before .pre .1) _ _ _ _ _ (c .before .before .before .loop .inv))
+solve-element-copy-out-next : (t : ℕ) → solve-lts.Need-element-copy-out-next (solve-calls t) (solve-at t) solve.Post solve-Inv-loop solve-μ-loop
+solve-element-copy-out-next t c = omega (arith, head-low _ _ _ _ _ _ _ _ _ _ (c .before .before .before .before .before .before .before .pre .1) _ _ _ _ _ (c .before .before .before .loop .inv))
 
 -- src/lib.rt:85:20
-solve-cast-next : (t : ℕ) → solve-lts.Need-cast-next (
-  kind-reads.Asked,
-  kind-reads.Learnt,
-  divide-below t,
-  divide.Post,
-  match-leaf-reads.Asked,
-  match-leaf-reads.Learnt,
-  enter-reads.Asked,
-  enter-reads.Learnt,
-) (solve-at t) solve.Post solve-Inv-loop solve-μ-loop
-solve-cast-next t c = omega (arith, next-lower _ _ _ _ _ _ _ _ _ _ (c .before .before .before .before .before .before .before .pre .1) _ _ _ _ _ (c .before .before .before .before .loop .inv) (omega arith), head-low _ _ _ _ _ _ _ _ _ _ (c .before .before .before .before .before .before .before .pre .1) _ _ _ _ _ (c .before .before .before .before .loop .inv))
+solve-cast-next : (t : ℕ) → solve-lts.Need-cast-next (solve-calls t) (solve-at t) solve.Post solve-Inv-loop solve-μ-loop
+solve-cast-next t c = omega (arith, next-lower _ _ _ _ _ _ _ _ _ _ (c .before .before .before .before .before .before .before .before .pre .1) _ _ _ _ _ (c .before .before .before .before .loop .inv) (omega arith), head-low _ _ _ _ _ _ _ _ _ _ (c .before .before .before .before .before .before .before .before .pre .1) _ _ _ _ _ (c .before .before .before .before .loop .inv))
 
 -- src/lib.rt:86:13
-solve-kind-requires : (t : ℕ) → solve-lts.Need-kind-requires (
-  kind-reads.Asked,
-  kind-reads.Learnt,
-  divide-below t,
-  divide.Post,
-  match-leaf-reads.Asked,
-  match-leaf-reads.Learnt,
-  enter-reads.Asked,
-  enter-reads.Learnt,
-) (solve-at t) solve.Post solve-Inv-loop solve-μ-loop
-solve-kind-requires t c κs = entry-readable _ _ _ _ _ _ _ _ _ _ (c .before .before .before .before .before .before .before .pre .1) _ _ _ _ _ (c .before .before .before .before .loop .inv) (omega arith) .here
+solve-kind-requires : (t : ℕ) → solve-lts.Need-kind-requires (solve-calls t) (solve-at t) solve.Post solve-Inv-loop solve-μ-loop
+solve-kind-requires t c κs = entry-readable _ _ _ _ _ _ _ _ _ _ (c .before .before .before .before .before .before .before .before .pre .1) _ _ _ _ _ (c .before .before .before .before .loop .inv) (omega arith) .here
+
+-- src/lib.rt:90:21
+solve-reduced-requires : (t : ℕ) → solve-lts.Need-reduced-requires (solve-calls t) (solve-at t) solve.Post solve-Inv-loop solve-μ-loop
+solve-reduced-requires t c κs = (entry-readable _ _ _ _ _ _ _ _ _ _ (c .before .before .before .before .before .before .before .before .before .before .pre .1) _ _ _ _ _ (c .before .before .before .before .before .before .loop .inv) (omega arith), omega (arith, c .before .kind .ensures .0))
 
 -- src/lib.rt:88:13
-solve-divide-requires : (t : ℕ) → solve-lts.Need-divide-requires (
-  kind-reads.Asked,
-  kind-reads.Learnt,
-  divide-below t,
-  divide.Post,
-  match-leaf-reads.Asked,
-  match-leaf-reads.Learnt,
-  enter-reads.Asked,
-  enter-reads.Learnt,
-) (solve-at t) solve.Post solve-Inv-loop solve-μ-loop
-solve-divide-requires t c κs = (omega (arith, c .before .before .before .before .before .before .before .before .before .before .before .before .pre .0, c .before .before .before .before .before .before .before .before .before .loop .inv .falls, next-lower _ _ _ _ _ _ _ _ _ _ (c .before .before .before .before .before .before .before .before .before .before .before .before .pre .1) _ _ _ _ _ (c .before .before .before .before .before .before .before .before .before .loop .inv) (omega arith)), divide-asked _ _ _ _ _ _ _ _ _ _ (c .before .before .before .before .before .before .before .before .before .before .before .before .pre .1) _ _ _ _ _ (c .before .before .before .before .before .before .before .before .before .loop .inv) (omega arith) (omega (arith, c .before .before .before .before .kind .ensures .0)))
+solve-divide-requires : (t : ℕ) → solve-lts.Need-divide-requires (solve-calls t) (solve-at t) solve.Post solve-Inv-loop solve-μ-loop
+solve-divide-requires t c κs = (omega (arith, c .before .before .before .before .before .before .before .before .before .before .before .before .before .before .before .pre .0, c .before .before .before .before .before .before .before .before .before .before .before .loop .inv .falls, next-lower _ _ _ _ _ _ _ _ _ _ (c .before .before .before .before .before .before .before .before .before .before .before .before .before .before .before .pre .1) _ _ _ _ _ (c .before .before .before .before .before .before .before .before .before .before .before .loop .inv) (omega arith)), reduced-asked _ _ _ _ (c .before .before .before .before .reduced .ensures) _ _ _ _ _ _ _ _ _ (divide-asked _ _ _ _ _ _ _ _ _ _ (c .before .before .before .before .before .before .before .before .before .before .before .before .before .before .before .pre .1) _ _ _ _ _ (c .before .before .before .before .before .before .before .before .before .before .before .loop .inv) (omega arith) (omega (arith, c .before .before .before .before .before .before .kind .ensures .0))))
 
 -- src/lib.rt:88:13
-solve-returns : (t : ℕ) → solve-lts.Need-returns (
-  kind-reads.Asked,
-  kind-reads.Learnt,
-  divide-below t,
-  divide.Post,
-  match-leaf-reads.Asked,
-  match-leaf-reads.Learnt,
-  enter-reads.Asked,
-  enter-reads.Learnt,
-) (solve-at t) solve.Post solve-Inv-loop solve-μ-loop
-solve-returns t c = divide-told _ _ _ _ _ _ _ _ _ _ (c .before .before .before .before .before .before .before .before .before .before .before .before .before .pre .1) _ _ _ _ _ (c .before .before .before .before .before .before .before .before .before .before .loop .inv) (omega arith) _ _ _ _ (c .divide .ensures)
+solve-returns : (t : ℕ) → solve-lts.Need-returns (solve-calls t) (solve-at t) solve.Post solve-Inv-loop solve-μ-loop
+solve-returns t c = divide-told _ _ _ _ _ _ _ _ _ _ (c .before .before .before .before .before .before .before .before .before .before .before .before .before .before .before .before .pre .1) _ _ _ _ _ (c .before .before .before .before .before .before .before .before .before .before .before .before .loop .inv) (omega arith) _ _ _ _ (reduced-told _ _ _ _ (c .before .before .before .before .before .reduced .ensures) _ _ _ _ _ _ _ _ _ _ _ _ _ (c .divide .ensures))
 
 -- src/lib.rt:103:9
-solve-match-leaf-requires : (t : ℕ) → solve-lts.Need-match-leaf-requires (
-  kind-reads.Asked,
-  kind-reads.Learnt,
-  divide-below t,
-  divide.Post,
-  match-leaf-reads.Asked,
-  match-leaf-reads.Learnt,
-  enter-reads.Asked,
-  enter-reads.Learnt,
-) (solve-at t) solve.Post solve-Inv-loop solve-μ-loop
-solve-match-leaf-requires t c κs = leaf-asked _ _ _ _ _ _ _ _ _ _ (c .before .before .before .before .before .before .before .before .before .pre .1) _ _ _ _ _ (c .before .before .before .before .before .before .loop .inv) (omega arith) (omega (arith, c .before .kind .ensures .0))
+solve-match-leaf-requires : (t : ℕ) → solve-lts.Need-match-leaf-requires (solve-calls t) (solve-at t) solve.Post solve-Inv-loop solve-μ-loop
+solve-match-leaf-requires t c κs = leaf-asked _ _ _ _ _ _ _ _ _ _ (c .before .before .before .before .before .before .before .before .before .before .before .pre .1) _ _ _ _ _ (c .before .before .before .before .before .before .before .loop .inv) (omega arith) (omega (arith, c .before .before .kind .ensures .0))
 
 -- src/lib.rt:105:13
-solve-returns-2 : (t : ℕ) → solve-lts.Need-returns-2 (
-  kind-reads.Asked,
-  kind-reads.Learnt,
-  divide-below t,
-  divide.Post,
-  match-leaf-reads.Asked,
-  match-leaf-reads.Learnt,
-  enter-reads.Asked,
-  enter-reads.Learnt,
-) (solve-at t) solve.Post solve-Inv-loop solve-μ-loop
-solve-returns-2 t c = solve-failed _ _ _ _ _ _ _ _ _ _ (c .before .before .before .before .before .before .before .before .before .before .before .before .pre .1) _ _ _ _ _ (c .before .before .before .before .before .before .before .before .before .loop .inv) (omega arith) _ (λ v b q n h. c .before .before .match-leaf .ensures v b q h) (not-true _ (c .if2 .taken))
+solve-returns-2 : (t : ℕ) → solve-lts.Need-returns-2 (solve-calls t) (solve-at t) solve.Post solve-Inv-loop solve-μ-loop
+solve-returns-2 t c = solve-failed _ _ _ _ _ _ _ _ _ _ (c .before .before .before .before .before .before .before .before .before .before .before .before .before .pre .1) _ _ _ _ _ (c .before .before .before .before .before .before .before .before .before .loop .inv) (omega arith) _ _ (λ v b q n h. c .before .match-leaf .ensures v b q h) (not-true _ (c .if2 .taken))
 
 -- src/lib.rt:82:5
-solve-loop-less : (t : ℕ) → solve-lts.Need-loop-less (
-  kind-reads.Asked,
-  kind-reads.Learnt,
-  divide-below t,
-  divide.Post,
-  match-leaf-reads.Asked,
-  match-leaf-reads.Learnt,
-  enter-reads.Asked,
-  enter-reads.Learnt,
-) (solve-at t) solve.Post solve-Inv-loop solve-μ-loop
-solve-loop-less t c = next-lower _ _ _ _ _ _ _ _ _ _ (c .before .before .before .before .before .before .before .before .before .before .before .before .pre .1) _ _ _ _ _ (c .before .before .before .before .before .before .before .before .before .loop .inv) (omega arith)
+solve-loop-less : (t : ℕ) → solve-lts.Need-loop-less (solve-calls t) (solve-at t) solve.Post solve-Inv-loop solve-μ-loop
+solve-loop-less t c = next-lower _ _ _ _ _ _ _ _ _ _ (c .before .before .before .before .before .before .before .before .before .before .before .before .before .pre .1) _ _ _ _ _ (c .before .before .before .before .before .before .before .before .before .loop .inv) (omega arith)
 
 -- src/lib.rt:82:5
-solve-loop-again : (t : ℕ) → solve-lts.Need-loop-again (
-  kind-reads.Asked,
-  kind-reads.Learnt,
-  divide-below t,
-  divide.Post,
-  match-leaf-reads.Asked,
-  match-leaf-reads.Learnt,
-  enter-reads.Asked,
-  enter-reads.Learnt,
-) (solve-at t) solve.Post solve-Inv-loop solve-μ-loop
-solve-loop-again t c = solve-more _ _ _ _ _ _ _ _ _ _ (c .before .before .before .before .before .before .before .before .before .before .before .before .pre .1) _ _ _ _ _ (c .before .before .before .before .before .before .before .before .before .loop .inv) (omega arith) _ (λ v b q n h. c .before .before .match-leaf .ensures v b q h) (not-false _ (c .if2 .left))
+solve-loop-again : (t : ℕ) → solve-lts.Need-loop-again (solve-calls t) (solve-at t) solve.Post solve-Inv-loop solve-μ-loop
+solve-loop-again t c = solve-more _ _ _ _ _ _ _ _ _ _ (c .before .before .before .before .before .before .before .before .before .before .before .before .before .pre .1) _ _ _ _ _ (c .before .before .before .before .before .before .before .before .before .loop .inv) (omega arith) _ _ (λ v b q n h. c .before .match-leaf .ensures v b q h) (not-false _ (c .if2 .left))
 
 -- src/lib.rt:112:9
-solve-enter-requires : (t : ℕ) → solve-lts.Need-enter-requires (
-  kind-reads.Asked,
-  kind-reads.Learnt,
-  divide-below t,
-  divide.Post,
-  match-leaf-reads.Asked,
-  match-leaf-reads.Learnt,
-  enter-reads.Asked,
-  enter-reads.Learnt,
-) (solve-at t) solve.Post solve-Inv-loop solve-μ-loop
-solve-enter-requires t c κs = enter-asked _ _ _ _ _ _ _ _ _ _ (c .before .before .before .before .before .before .pre .1) _ _ _ _ _ (c .before .before .before .loop .inv)
+solve-enter-requires : (t : ℕ) → solve-lts.Need-enter-requires (solve-calls t) (solve-at t) solve.Post solve-Inv-loop solve-μ-loop
+solve-enter-requires t c κs = enter-asked _ _ _ _ _ _ _ _ _ _ (c .before .before .before .before .before .before .before .before .pre .1) _ _ _ _ _ (c .before .before .before .before .loop .inv)
 
 -- src/lib.rt:65:1
-solve-returns-3 : (t : ℕ) → solve-lts.Need-returns-3 (
-  kind-reads.Asked,
-  kind-reads.Learnt,
-  divide-below t,
-  divide.Post,
-  match-leaf-reads.Asked,
-  match-leaf-reads.Learnt,
-  enter-reads.Asked,
-  enter-reads.Learnt,
-) (solve-at t) solve.Post solve-Inv-loop solve-μ-loop
-solve-returns-3 t c = solve-end _ _ _ _ _ _ _ _ _ _ (c .before .before .before .before .before .before .before .pre .1) _ _ _ _ _ (c .before .before .before .before .loop .inv) (omega arith) _ _ _ (c .enter .ensures)
+solve-returns-3 : (t : ℕ) → solve-lts.Need-returns-3 (solve-calls t) (solve-at t) solve.Post solve-Inv-loop solve-μ-loop
+solve-returns-3 t c = solve-end _ _ _ _ _ _ _ _ _ _ (c .before .before .before .before .before .before .before .before .before .pre .1) _ _ _ _ _ (c .before .before .before .before .before .loop .inv) (omega arith) _ _ _ (c .enter .ensures)
 
 pub +divide+solve-spec : {M : Type 1} → statement M
-+divide+solve-spec = close μ-divide μ-solve (λ t. divide-lts.spec (
-  kind-reads.Asked,
-  kind-reads.Learnt,
-  operand-count-reads.Asked,
-  operand-count-reads.Learnt,
-  unpack-reads.Asked,
-  unpack-reads.Learnt,
-  meet-reads.Asked,
-  meet-reads.Learnt,
-  is-settled-reads.Asked,
-  is-settled-reads.Learnt,
-  push-reads.Asked,
-  push-reads.Learnt,
-  solve-below t,
-  solve.Post,
-  either-reads.Asked,
-  either-reads.Learnt,
-  next-way-reads.Asked,
-  next-way-reads.Learnt,
-)
++divide+solve-spec = close μ-divide μ-solve (λ t. divide-lts.spec (divide-calls t)
     (divide-at t)
     divide.Post
     divide-Inv-loop
@@ -825,7 +265,9 @@ pub +divide+solve-spec : {M : Type 1} → statement M
     (divide-unpack-requires t)
     (divide-meet-requires t)
     (divide-is-settled-requires t)
+    (divide-sizes-of-requires t)
     (divide-enum-known-m t)
+    (divide-way-from-requires t)
     (divide-loop-holds t)
     (divide-push-requires t)
     (divide-add-solve t)
@@ -835,20 +277,12 @@ pub +divide+solve-spec : {M : Type 1} → statement M
     (divide-enum-known-formed-2 t)
     (divide-either-requires t)
     (divide-next-way-requires t)
+    (divide-way-from-requires-2 t)
     (divide-loop-less t)
     (divide-loop-again t)
     (divide-returns-2 t)
     (divide-returns-3 t))
-    λ t. solve-lts.spec (
-      kind-reads.Asked,
-      kind-reads.Learnt,
-      divide-below t,
-      divide.Post,
-      match-leaf-reads.Asked,
-      match-leaf-reads.Learnt,
-      enter-reads.Asked,
-      enter-reads.Learnt,
-    )
+    λ t. solve-lts.spec (solve-calls t)
     (solve-at t)
     solve.Post
     solve-Inv-loop
@@ -868,6 +302,7 @@ pub +divide+solve-spec : {M : Type 1} → statement M
     (solve-element-copy-out-next t)
     (solve-cast-next t)
     (solve-kind-requires t)
+    (solve-reduced-requires t)
     (solve-divide-requires t)
     (solve-returns t)
     (solve-match-leaf-requires t)

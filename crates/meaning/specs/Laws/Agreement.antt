@@ -9,6 +9,7 @@ use native.Mathlib.Omega.{arith}
 use lib.Dec.{eqb}
 use lib.ListN.{length, getD}
 use Rattle.prelude.specs.Membership.{In}
+use Rattle.prelude.proofs.Membership.{at-in}
 use Rattle.choices.specs.Tree.{Tree, give, stop, bind, Outcome, value, refusal, Gives}
 use Rattle.choices.proofs.Trees.{gives-bind-in, gives-bind-out}
 use Rattle.values.specs.Value.{Kind, set, sequence, map, Value, boolean, integer, collection, Items, none, more}
@@ -25,7 +26,7 @@ use Rattle.patterns.specs.Laws.Forming.{single-formed}
 use Rattle.meaning.specs.Node.{Node, Quantifier, forall, exists, exists1, truth, whole, named, unaryOf, binaryOf, connective, if, enumeration, range, let-in, let-be, quantified, iota, set-comprehension, sequence-comprehension, map-comprehension, application, no-expression}
 use Rattle.meaning.specs.State.{State, under, valueIn}
 use Rattle.meaning.specs.Meaning as tree
-use Rattle.meaning.specs.Sheet.{Sheet, nameOf, enumerated}
+use Rattle.meaning.specs.Sheet.{Sheet, enumerated, patternName}
 use Rattle.meaning.specs.Loose as loose
 use Rattle.meaning.specs.Loose.{Outcomes, _then_, gives, refuses, underEach, looseOf}
 use Rattle.meaning.specs.Laws.Clauses.{chosenFrom, clauses-of-13}
@@ -51,9 +52,9 @@ same-bind t S f F h k o = (
       (⊎-elim (λ w. inr (w .0, h (value (w .0)) .1 (w .1), k (w .0) o .1 (w .2))) (λ w. inl (w .0, w .1, w .3, h (refusal (w .0) (w .1)) .1 (w .2))) s),
 )
 
-same-pick : {A : Type 0} (b : Bool) (t u : Tree A) (S U : Outcomes A) → Same t S → Same u U → Same (cond b t u) (cond b S U)
-same-pick true t u S U h k = h
-same-pick false t u S U h k = k
+same-cond : {A : Type 0} (b : Bool) (t u : Tree A) (S U : Outcomes A) → Same t S → Same u U → Same (cond b t u) (cond b S U)
+same-cond true t u S U h k = h
+same-cond false t u S U h k = k
 
 -- The same outcomes, told otherwise.
 same-told : {A : Type 0} (t : Tree A) (S U : Outcomes A) → Same t S → ((o : Outcome A) → S o ↔ U o) → Same t U
@@ -82,14 +83,9 @@ in-at b [] h = absurd h
 in-at b (c ∷ bs) (inl e) = (0, omega arith, sym e)
 in-at b (c ∷ bs) (inr h) = let w = in-at b bs h in (suc (w .0), omega (arith, w .1), w .2)
 
-pub at-in : (bs : List Binding) (i : ℕ) → i < length bs → In (getD bs i nothing) bs
-at-in [] i h = absurd (omega arith)
-at-in (c ∷ bs) zero h = inl refl
-at-in (c ∷ bs) (suc i) h = inr (at-in bs i (omega arith))
-
 same-chosen : {A : Type 0} (r : ℕ) (bs : List Binding) (f : Binding → Tree A) (F : Binding → Outcomes A) → ((b : Binding) → Same (f b) (F b)) → Same (bind (tree.chosen r bs) f) (underEach bs F)
 same-chosen r bs f F h o = (
-  λ g. (getD bs (g .0) nothing, at-in bs (g .0) (g .1), h (getD bs (g .0) nothing) o .0 (g .2)),
+  λ g. (getD bs (g .0) nothing, at-in bs (g .0) nothing (g .1), h (getD bs (g .0) nothing) o .0 (g .2)),
   λ w. let i = in-at (w .0) bs (w .1) in (i .0, i .1, subst (λ b. Gives (f b) o) (sym (i .2)) (h (w .0) o .1 (w .2))),
 )
 
@@ -115,7 +111,7 @@ same-satisfied r (b ∷ bs) f F h = same-chosen r (b ∷ bs) f F h
 
 same-unique : (r : ℕ) (p : Pattern) (bs : List Binding) → Same (tree.unique r p bs) (loose.unique r p bs)
 same-unique r p [] = same-stop 25 r
-same-unique r p (b ∷ []) = same-else 25 r (valueIn b (nameOf p))
+same-unique r p (b ∷ []) = same-else 25 r (valueIn b (patternName p))
 same-unique r p (b ∷ c ∷ bs) = same-stop 25 r
 
 -- ---- records, over records that agree
@@ -156,14 +152,14 @@ module _ (rec : tree.Evaluates) (Rec : loose.Meanings) (agrees : (a : ℕ) (ρ :
   same-until-false test Test h [] = same-give true
   same-until-false test Test h (b ∷ bs) =
       same-bind (test b) (Test b) _ _ (h b)
-      (λ t. same-pick t (tree.untilFalse test bs) (give false) (loose.untilFalse Test bs) (gives false) (same-until-false test Test h bs) (same-give false))
+      (λ t. same-cond t (tree.untilFalse test bs) (give false) (loose.untilFalse Test bs) (gives false) (same-until-false test Test h bs) (same-give false))
 
   same-until-true : (test : Binding → Tree Bool) (Test : Binding → Outcomes Bool) → ((b : Binding) → Same (test b) (Test b)) → (bs : List Binding) → Same (tree.untilTrue test bs) (loose.untilTrue Test bs)
   unfolding tree.untilTrue loose.untilTrue
   same-until-true test Test h [] = same-give false
   same-until-true test Test h (b ∷ bs) =
       same-bind (test b) (Test b) _ _ (h b)
-      (λ t. same-pick t (give true) (tree.untilTrue test bs) (gives true) (loose.untilTrue Test bs) (same-give true) (same-until-true test Test h bs))
+      (λ t. same-cond t (give true) (tree.untilTrue test bs) (gives true) (loose.untilTrue Test bs) (same-give true) (same-until-true test Test h bs))
 
   same-quantify : (q : Quantifier) (r c : ℕ) (ρ : State) (bs : List Binding) → Same (tree.quantify q rec r c ρ bs) (loose.quantify q Rec r c ρ bs)
   same-quantify forall r c ρ bs = same-until-false (tree.holds rec r c ρ) (loose.holds Rec r c ρ) (same-holds r c ρ) bs
@@ -176,7 +172,7 @@ module _ (rec : tree.Evaluates) (Rec : loose.Meanings) (agrees : (a : ℕ) (ρ :
   same-collected test Test add Add h k vs [] = same-give vs
   same-collected test Test add Add h k vs (b ∷ bs) =
       same-bind (test b) (Test b) _ _ (h b)
-      (λ t. same-pick t (bind (add vs b) (λ ws. tree.collected test add ws bs)) (tree.collected test add vs bs) (Add vs b then (λ ws. loose.collected Test Add ws bs)) (loose.collected Test Add vs bs)
+      (λ t. same-cond t (bind (add vs b) (λ ws. tree.collected test add ws bs)) (tree.collected test add vs bs) (Add vs b then (λ ws. loose.collected Test Add ws bs)) (loose.collected Test Add vs bs)
       (same-bind (add vs b) (Add vs b) _ _ (k vs b) (λ ws. same-collected test Test add Add h k ws bs))
       (same-collected test Test add Add h k vs bs))
 
@@ -224,7 +220,7 @@ module _ (rec : tree.Evaluates) (Rec : loose.Meanings) (agrees : (a : ℕ) (ρ :
   same-node pattern r (connective c a b) ρ = same-bind (rec a ρ) (Rec a ρ) _ _ (agrees a ρ) (λ v. same-right r b ρ (left c v))
   same-node pattern r (if t a b) ρ =
       same-bind (rec t ρ) (Rec t ρ) _ _ (agrees t ρ)
-      (λ v. same-bind (tree.isTrue r v) (loose.isTrue r v) _ _ (same-else 20 r (asBoolean v)) (λ y. same-pick y (rec a ρ) (rec b ρ) (Rec a ρ) (Rec b ρ) (agrees a ρ) (agrees b ρ)))
+      (λ v. same-bind (tree.isTrue r v) (loose.isTrue r v) _ _ (same-else 20 r (asBoolean v)) (λ y. same-cond y (rec a ρ) (rec b ρ) (Rec a ρ) (Rec b ρ) (agrees a ρ) (agrees b ρ)))
   same-node pattern r (enumeration k os) ρ = same-bind (tree.allOf rec os ρ) (loose.allOf Rec os ρ) _ _ (same-all os ρ) (λ vs. same-at r (enumerated k vs))
   same-node pattern r (range a b) ρ = same-both a b ρ _ _ (λ v w. same-at r (rangeOf v w))
   same-node pattern r (let-in p a b) ρ =
@@ -258,16 +254,16 @@ same-to s zero r ρ = same-stop 20 r
 same-to s (suc n) r ρ = same-node (λ a σ. tree.meaningTo s n a σ) (λ a σ. loose.looseTo s n a σ) (λ a σ. same-to s n a σ) (s .pattern) r (s .node r) ρ
 
 -- The outcomes at the leaves of a record's tree are exactly those of its loose meaning.
-pub agreement : (s : Sheet) (r : ℕ) (ρ : State) (o : Outcome Value) → Gives (tree.meaning s r ρ) o ↔ loose.loose s r ρ o
-unfolding tree.meaning loose.loose
+pub agreement : (s : Sheet) (r : ℕ) (ρ : State) (o : Outcome Value) → Gives (tree.meaning s r ρ) o ↔ loose.looseMeaning s r ρ o
+unfolding tree.meaning loose.looseMeaning
 agreement s r ρ o = same-to s (suc r) r ρ o
 
 -- THEOREM: the loose meaning of a record is what it says over the loose meanings of the records that it names. No bound is in it.
-pub loose-meaning-is : (s : Sheet) → Downward s → (r : ℕ) (ρ : State) (o : Outcome Value) → loose.loose s r ρ o ↔ looseOf (s .pattern) (λ a σ. loose.loose s a σ) r (s .node r) ρ o
+pub loose-meaning-is : (s : Sheet) → Downward s → (r : ℕ) (ρ : State) (o : Outcome Value) → loose.looseMeaning s r ρ o ↔ looseOf (s .pattern) (λ a σ. loose.looseMeaning s a σ) r (s .node r) ρ o
 loose-meaning-is s d r ρ o = (
   λ h. said o .0 (subst (λ t. Gives t o) (meaning-is s d r ρ) (agreement s r ρ o .1 h)),
   λ h. agreement s r ρ o .0 (subst (λ t. Gives t o) (sym (meaning-is s d r ρ)) (said o .1 h)),
 )
   where
-    said : Same (tree.means (s .pattern) (λ a σ. tree.meaning s a σ) r (s .node r) ρ) (looseOf (s .pattern) (λ a σ. loose.loose s a σ) r (s .node r) ρ)
-    said = same-node (λ a σ. tree.meaning s a σ) (λ a σ. loose.loose s a σ) (λ a σ. agreement s a σ) (s .pattern) r (s .node r) ρ
+    said : Same (tree.means (s .pattern) (λ a σ. tree.meaning s a σ) r (s .node r) ρ) (looseOf (s .pattern) (λ a σ. loose.looseMeaning s a σ) r (s .node r) ρ)
+    said = same-node (λ a σ. tree.meaning s a σ) (λ a σ. loose.looseMeaning s a σ) (λ a σ. agreement s a σ) (s .pattern) r (s .node r) ρ

@@ -30,32 +30,33 @@ use Rattle.tables.specs.declared.Checked.the-variants.{Accepted}
 use Rattle.tables.specs.Record.{Record, shape, headOf, isKnown, nameOf, named as operandsOf, roleAt}
 use Rattle.tables.specs.Table.{noRecord, recordAt, kindAt}
 use Rattle.tables.specs.Check.{check, isOfSort}
-use Rattle.tables.specs.Laws.{split}
-use Rattle.tables.specs.Accepted.{records, Fine, accepted-fine, operand-lower, operand-sort, fit-known, fit-least, named-count}
+use Rattle.prelude.proofs.Truth.{by-lower}
+use Rattle.tables.specs.Accepted.{records, Fine}
+use Rattle.tables.specs.Laws.Accepted.{accepted-fine, operand-lower, operand-sort, fit-known, fit-least, named-count}
 use Rattle.patterns.specs.Read.{patterns, patternAt}
 use Rattle.meaning.specs.Node.{Node, Quantifier, forall, exists, exists1, quantified}
 use Rattle.meaning.specs.State.{State, under, held, valueIn}
 use Rattle.meaning.specs.Read.{nodes, nodeOf, none as noNode, sheet}
-use Rattle.meaning.specs.Loose.{Outcomes, _then_, gives, bindingsOf, integerBindings, builtAt, holds, satisfying, quantify, unique, addOne, addPair, comprehension, loose, looseOf}
-use Rattle.meaning.specs.Kinds.{Binders, Comprehensions, Added, Integers, May, operandOf, kindOf, nameIn, Condition, Element, Entry, Over, MembersAre, EntriesAre}
+use Rattle.meaning.specs.Loose.{Outcomes, _then_, gives, bindingsOf, integerBindings, builtAt, holds, satisfying, quantify, unique, addOne, addPair, comprehension, looseOf, looseMeaning}
+use Rattle.meaning.specs.Kinds.{Binders, Comprehensions, Added, Integers, May, operandOf, nameIn, Condition, Element, Over, MembersAre, EntriesAre, kindIn, Maplet}
 use Rattle.meaning.specs.Laws.Agreement.{loose-meaning-is}
 use Rattle.meaning.specs.Laws.Proper.{downward}
 use Rattle.meaning.specs.Laws.PatternLaws.{pattern-is}
-use Rattle.meaning.specs.Laws.Clauses.{value≢refusal}
+use Rattle.choices.proofs.Trees.{value≢refusal}
 use Rattle.meaning.specs.Laws.Tested.{then-value, else-value, built-value, bindings-value, integer-bindings-value, holds-value, satisfying-one, collected-value, until-false-true, until-false-false, until-true-true, until-true-false, unique-true, unique-false, first-map, one-map, several-map, added-map}
 use Rattle.meaning.specs.Laws.Collected.{Paired-in, set-holds, sequence-holds, map-holds, added-sound, added-whole}
 
 -- ---- from a record to its node
 
 -- A record of a kind from 1 up is in the table.
-pub in-table : (table : List ℕ) (r k : ℕ) → kindOf table r ≡ k → 0 < k → r < length (records table)
+pub in-table : (table : List ℕ) (r k : ℕ) → kindIn table r ≡ k → 0 < k → r < length (records table)
 in-table table r k e h =
-    split r (length (records table)) (λ l. l)
+    by-lower r (length (records table)) (λ l. l)
     (λ l. let z : 0 ≡ k = ap (λ (q : Record). q .kind) (sym (List·getD-eq-default (records table) noRecord l)) ∙ e in absurd (omega arith))
 
 module _ (table : List ℕ) (n : ℕ) (ok : check table ≡ Accepted n) (r : ℕ) (ρ : State) where
   abbrev rec : ℕ → State → Outcomes Value
-  rec a σ = loose (sheet table) a σ
+  rec a σ = looseMeaning (sheet table) a σ
 
   abbrev P : Pattern
   P = patternAt (records table) (operandOf table r 0)
@@ -63,7 +64,7 @@ module _ (table : List ℕ) (n : ℕ) (ok : check table ≡ Accepted n) (r : ℕ
   said : (m : Node) → sheet table .node r ≡ m → (v : Value) → May table r ρ v ↔ looseOf (sheet table .pattern) rec r m ρ (value v)
   said m e v = subst (λ (x : Node). May table r ρ v ↔ looseOf (sheet table .pattern) rec r x ρ (value v)) e (loose-meaning-is (sheet table) (downward table n ok) r ρ (value v))
 
-  node-is : (k : ℕ) → kindOf table r ≡ k → sheet table .node r ≡ getD nodes k noNode (recordAt (records table) r)
+  node-is : (k : ℕ) → kindIn table r ≡ k → sheet table .node r ≡ getD nodes k noNode (recordAt (records table) r)
   unfolding nodeOf
   node-is k e = ap (λ (m : ℕ). getD nodes m noNode (recordAt (records table) r)) e
 
@@ -131,7 +132,7 @@ module _ (table : List ℕ) (n : ℕ) (ok : check table ≡ Accepted n) (r : ℕ
         ap (λ (l : List Value). all us (itemsOf (l ++ rest))) d ∙ j us w (itemsOf rest)
         ∙ ap (λ (x : Built). buildOn x (λ zs. all zs (itemsOf rest))) (sym (k us w) ∙ ap (λ (l : List Value). all us (itemsOf l)) (sym d))
 
-  pair-is : (us : Items) (b : Binding) (ws : Items) → addPair rec r (operandOf table r 3) (operandOf table r 4) ρ us b (value ws) ↔ ((new : List Value) × Entry table r ρ b new × (addEntries us (itemsOf new) ≡ built ws))
+  pair-is : (us : Items) (b : Binding) (ws : Items) → addPair rec r (operandOf table r 3) (operandOf table r 4) ρ us b (value ws) ↔ ((new : List Value) × Maplet table r ρ b new × (addEntries us (itemsOf new) ≡ built ws))
   unfolding itemsOf addEntries addEntriesAt
   pair-is us b ws = (
     λ h.
@@ -142,7 +143,7 @@ module _ (table : List ℕ) (n : ℕ) (ok : check table ≡ Accepted n) (r : ℕ
         inl (k, m, inl (w, o, built-value r (addEntry us k w) ws .1 (sym (whole (addEntry us k w)) ∙ ap (λ (l : List Value). addEntries us (itemsOf l)) (sym d) ∙ g))),
   )
 
-  pair-more : (us : Items) (b : Binding) (new rest : List Value) → Entry table r ρ b new → addEntries us (itemsOf (new ++ rest)) ≡ buildOn (addEntries us (itemsOf new)) (λ zs. addEntries zs (itemsOf rest))
+  pair-more : (us : Items) (b : Binding) (new rest : List Value) → Maplet table r ρ b new → addEntries us (itemsOf (new ++ rest)) ≡ buildOn (addEntries us (itemsOf new)) (λ zs. addEntries zs (itemsOf rest))
   unfolding itemsOf addEntries addEntriesAt
   pair-more us b new rest (k, w, m, o, d) =
       ap (λ (l : List Value). addEntries us (itemsOf (l ++ rest))) d
@@ -179,25 +180,25 @@ module _ (table : List ℕ) (n : ℕ) (ok : check table ≡ Accepted n) (r : ℕ
   abbrev Held : Value × Value → List Value → Type 0
   Held e es = Paired-in (e .0) (e .1) es
 
-  entry-joined : (e : Value × Value) (β : Binding) (new rest : List Value) → Entry table r ρ β new → Held e (new ++ rest) ↔ (Held e new ⊎ Held e rest)
+  entry-joined : (e : Value × Value) (β : Binding) (new rest : List Value) → Maplet table r ρ β new → Held e (new ++ rest) ↔ (Held e new ⊎ Held e rest)
   entry-joined e β new rest (k, v, m, o, d) = subst (λ (l : List Value). Held e (l ++ rest) ↔ (Held e l ⊎ Held e rest)) (sym d) (
     λ h. ⊎-elim (λ x. inl (inl x)) (λ x. inr x) h,
     λ h. ⊎-elim (λ x. ⊎-elim (λ y. inl y) (λ z. absurd z) x) (λ x. inr x) h,
   )
 
-  entries : (bs : List Binding) (es : List Value) (ws : Items) → Added (Condition table r ρ) (Entry table r ρ) bs es → ((k v : Value) → (lookup k ws ≡ some v) ↔ Paired-in k v es) → EntriesAre table r ρ bs ws
+  entries : (bs : List Binding) (es : List Value) (ws : Items) → Added (Condition table r ρ) (Maplet table r ρ) bs es → ((k v : Value) → (lookup k ws ≡ some v) ↔ Paired-in k v es) → EntriesAre table r ρ bs ws
   entries bs es ws a h =
       record {
         sound = λ k v i.
-            let (β, new, j, t, (x, y, m, o, d), l) = added-sound (Condition table r ρ) (Entry table r ρ) Held (λ z w. w) entry-joined bs es a (k, v) (h k v .0 i) in
+            let (β, new, j, t, (x, y, m, o, d), l) = added-sound (Condition table r ρ) (Maplet table r ρ) Held (λ z w. w) entry-joined bs es a (k, v) (h k v .0 i) in
             let (e, f) = ⊎-elim (λ z. z) (λ z. absurd z) (subst (Held (k, v)) d l) in
             (β, j, t, subst (May table (operandOf table r 3) (under ρ β)) (sym e) m, subst (May table (operandOf table r 4) (under ρ β)) (sym f) o);
         whole = λ β i.
             ⊎-elim (λ f. inl f) (λ (new, t, (x, y, m, o, d), on). inr (x, y, t, m, o, h x y .1 (on (x, y) (subst (Held (x, y)) (sym d) (inl (refl, refl))))))
-            (added-whole (Condition table r ρ) (Entry table r ρ) Held (λ z w. w) entry-joined bs es a β i);
+            (added-whole (Condition table r ρ) (Maplet table r ρ) Held (λ z w. w) entry-joined bs es a β i);
       }
 
-  paired-entries : (bs : List Binding) (es : List Value) → Added (Condition table r ρ) (Entry table r ρ) bs es → Paired (itemsOf es)
+  paired-entries : (bs : List Binding) (es : List Value) → Added (Condition table r ρ) (Maplet table r ρ) bs es → Paired (itemsOf es)
   unfolding PairedFrom itemsOf
   paired-entries [] es e = subst (λ (l : List Value). Paired (itemsOf l)) (sym e) tt
   paired-entries (b ∷ bs) es (inl (h, a)) = paired-entries bs es a
@@ -209,7 +210,7 @@ module _ (table : List ℕ) (n : ℕ) (ok : check table ≡ Accepted n) (r : ℕ
   fine : Fine (records table)
   fine = accepted-fine table n ok .0
 
-  iota-operands : kindOf table r ≡ 17 → 0 < length (operandsOf (recordAt (records table) r))
+  iota-operands : kindIn table r ≡ 17 → 0 < length (operandsOf (recordAt (records table) r))
   unfolding shape
   iota-operands e =
       let q = recordAt (records table) r in
@@ -217,22 +218,22 @@ module _ (table : List ℕ) (n : ℕ) (ok : check table ≡ Accepted n) (r : ℕ
       let l : shape (q .kind) .least ≡ 3 = ap (λ (k : ℕ). shape k .least) e in
       omega (arith, named-count q f, fit-least q f)
 
-  iota-pattern : kindOf table r ≡ 17 → kindAt (records table) (operandOf table r 0) ≡ 32
+  iota-pattern : kindIn table r ≡ 17 → kindAt (records table) (operandOf table r 0) ≡ 32
   unfolding shape
   iota-pattern e =
       let role : roleAt (recordAt (records table) r) 0 ≡ Name = ap (λ (k : ℕ). getD (shape k .roles) 0 Plain) e in
       eqb-true _ 32 (subst (λ (x : Role). isOfSort x (kindAt (records table) (operandOf table r 0)) ≡ true) role (operand-sort (records table) (fine .clear6) r 0 (in-table table r 17 e (omega arith)) (iota-operands e)))
 
-  iota-lower : kindOf table r ≡ 17 → operandOf table r 0 < length (records table)
+  iota-lower : kindIn table r ≡ 17 → operandOf table r 0 < length (records table)
   iota-lower e = omega (arith, in-table table r 17 e (omega arith), operand-lower (records table) (fine .clear6) r 0 (in-table table r 17 e (omega arith)) (iota-operands e))
 
-  pub named-pattern : kindOf table r ≡ 17 → P ≡ name (nameIn table r)
+  pub named-pattern : kindIn table r ≡ 17 → P ≡ name (nameIn table r)
   named-pattern e =
       let q = recordAt (records table) (operandOf table r 0) in
       pattern-is table n ok (operandOf table r 0) (iota-lower e)
       ∙ ap (λ (k : ℕ). getD patterns (k - 32) (λ x xs. any) q (lmap (patternAt (records table)) (operandsOf q))) (iota-pattern e)
 
-  pub named-low : kindOf table r ≡ 17 → nameIn table r < names
+  pub named-low : kindIn table r ≡ 17 → nameIn table r < names
   unfolding shape
   named-low e =
       let q = recordAt (records table) (operandOf table r 0) in
@@ -339,7 +340,7 @@ module _ (table : List ℕ) (n : ℕ) (ok : check table ≡ Accepted n) (r : ℕ
         map-comprehension-is = λ e v.
             Iff·trans (said _ (node-is 20 e) v)
             (over-is (λ bs. comprehension rec r map (operandOf table r 2) ρ (addPair rec r (operandOf table r 3) (operandOf table r 4) ρ) bs) v _
-            (λ vs bs f. comprehension-is map (addPair rec r (operandOf table r 3) (operandOf table r 4) ρ) addEntries (Entry table r ρ) (λ us. refl) pair-is pair-more bs v));
+            (λ vs bs f. comprehension-is map (addPair rec r (operandOf table r 3) (operandOf table r 4) ρ) addEntries (Maplet table r ρ) (λ us. refl) pair-is pair-more bs v));
       }
 
   -- THEOREM: what comprehensions hold.

@@ -15,14 +15,14 @@ use Rattle.choices.proofs.Cut.{complete-length}
 use Rattle.choices.proofs.Walk.{count-first, first-list, next-list, count-next, next-last}
 use Rattle.tables.specs.declared.Checked.the-variants.{Accepted}
 use Rattle.tables.specs.Check.{check}
-use Rattle.tables.specs.Laws.{split}
+use Rattle.prelude.proofs.Truth.{by-lower}
 use Rattle.meaning.specs.State.{unbound}
 use Rattle.meaning.specs.Read.{sheet}
 use Rattle.meaning.specs.Answer.{pack, packed, uncounted, numberOf}
 use Rattle.meaning.specs.Walk.{Walk, overwritten, Shows}
 use Rattle.meaning.specs.Service.{scratchBytes, last, tree, onward, firsts, steps}
 use Rattle.meaning.specs.Lent.{AfterWalk, walkAfter, afterWalk}
-use Rattle.meaning.specs.Calls.{Service, first, step, Call, lent, returned, serve, called, after, Granted, isGranted, afterAll, tally, granted, Calls, walkOf, stepsOf}
+use Rattle.meaning.specs.Calls.{Service, first, step, Call, returned, serve, called, Granted, isGranted, afterAll, tally, granted, Calls, stepsOf, lentWalk, afterCall, finalWalk}
 use Rattle.meaning.specs.Demand.{Held, Enough, Refusals, FirstAnswers, Stepped, NoNext}
 use Rattle.meaning.specs.Laws.Sure.{sure-meaning}
 use Rattle.meaning.specs.Laws.Walks.{listed-shown, shows-one, shown-short, shows-written, written-beyond, returned-lent, returned-written, listed-lent}
@@ -41,38 +41,38 @@ serve-is step table w scratch = refl
 
 module _ (table : List ℕ) (c : Call) (w : Walk) where
   abbrev due : Final (List ℕ)
-  due = dueOf (c .service) table (lent (c .part) w) (c .scratch)
+  due = dueOf (c .service) table (lentWalk (c .part) w) (c .scratch)
 
-  called-is : called table c w ≡ afterWalk due (c .scratch) (lent (c .part) w)
-  called-is = serve-is (c .service) table (lent (c .part) w) (c .scratch)
+  called-is : called table c w ≡ afterWalk due (c .scratch) (lentWalk (c .part) w)
+  called-is = serve-is (c .service) table (lentWalk (c .part) w) (c .scratch)
 
   answer-is : (f : Final (List ℕ)) → due ≡ f → called table c w .answer ≡ packed uncounted f
   answer-is f e = ap (λ (x : AfterWalk). x .answer) called-is ∙ ap (packed uncounted) e
 
-  after-is : (f : Final (List ℕ)) → due ≡ f → after table c w ≡ returned (c .part) w (walkAfter f (lent (c .part) w))
-  after-is f e = ap (λ (x : AfterWalk). returned (c .part) w (x .walk)) called-is ∙ ap (λ (x : Final (List ℕ)). returned (c .part) w (walkAfter x (lent (c .part) w))) e
+  after-is : (f : Final (List ℕ)) → due ≡ f → afterCall table c w ≡ returned (c .part) w (walkAfter f (lentWalk (c .part) w))
+  after-is f e = ap (λ (x : AfterWalk). returned (c .part) w (x .walk)) called-is ∙ ap (λ (x : Final (List ℕ)). returned (c .part) w (walkAfter x (lentWalk (c .part) w))) e
 
   -- A refusal leaves the walk.
   record Left (n : ℕ) : Type 0 where
     answer : called table c w .answer ≡ pack n 0 0
-    stays : after table c w ≡ w
+    stays : afterCall table c w ≡ w
 
   -- A granted call writes the list.
   record Wrote (l : List ℕ) : Type 0 where
     answer : called table c w .answer ≡ pack 0 0 0
-    writes : after table c w ≡ overwritten l w
+    writes : afterCall table c w ≡ overwritten l w
 
   left-by : (n : ℕ) → due ≡ refuses n 0 0 → Left n
   left-by n e = record { answer = answer-is (refuses n 0 0) e; stays = after-is (refuses n 0 0) e ∙ returned-lent (c .part) w }
 
-  wrote-by : (l : List ℕ) → mostChoices ≤ length (lent (c .part) w .entries) → due ≡ result l → Wrote l
+  wrote-by : (l : List ℕ) → mostChoices ≤ length (lentWalk (c .part) w .entries) → due ≡ result l → Wrote l
   wrote-by l h e = record { answer = answer-is (result l) e; writes = after-is (result l) e ∙ returned-written (c .part) w l h }
 
   -- A call that is not granted is refused.
-  pub refused : (Granted table c w → ⊥) → after table c w ≡ w
+  pub refused : (Granted table c w → ⊥) → afterCall table c w ≡ w
   refused h = go due refl
     where
-      go : (f : Final (List ℕ)) → due ≡ f → after table c w ≡ w
+      go : (f : Final (List ℕ)) → due ≡ f → afterCall table c w ≡ w
       go (result l) e = absurd (h (ap numberOf (answer-is (result l) e)))
       go (refuses n p k) e = after-is (refuses n p k) e ∙ returned-lent (c .part) w
 
@@ -80,10 +80,10 @@ module _ (table : List ℕ) (c : Call) (w : Walk) where
   granted-is n e = ap (λ a. eqb (numberOf a) 0) e
 
   -- Either there is enough, or 1 or 10 is due.
-  by-buffers : {X : Type 0} → (length (c .scratch) < scratchBytes → X) → (scratchBytes ≤ length (c .scratch) → length (lent (c .part) w .entries) < mostChoices → X) → (Enough c w → X) → X
+  by-buffers : {X : Type 0} → (length (c .scratch) < scratchBytes → X) → (scratchBytes ≤ length (c .scratch) → length (lentWalk (c .part) w .entries) < mostChoices → X) → (Enough c w → X) → X
   by-buffers f g h =
-      split (length (c .scratch)) scratchBytes f
-      (λ s. split (length (lent (c .part) w .entries)) mostChoices (g s) (λ e. h (record { enough-scratch = s; enough-entries = e })))
+      by-lower (length (c .scratch)) scratchBytes f
+      (λ s. by-lower (length (lentWalk (c .part) w .entries)) mostChoices (g s) (λ e. h (record { enough-scratch = s; enough-entries = e })))
 
 -- ---- an accepted table
 
@@ -101,24 +101,24 @@ module _ (table : List ℕ) (n : ℕ) (ok : check table ≡ Accepted n) where
 
   module _ (c : Call) (w : Walk) where
     left-1 : length (c .scratch) < scratchBytes → Left table c w 1
-    left-1 h = left-by table c w 1 (short-by (c .service) (lent (c .part) w) (c .scratch) h)
+    left-1 h = left-by table c w 1 (short-by (c .service) (lentWalk (c .part) w) (c .scratch) h)
 
-    left-10 : scratchBytes ≤ length (c .scratch) → length (lent (c .part) w .entries) < mostChoices → Left table c w 10
-    left-10 h k = left-by table c w 10 (few-by (c .service) (lent (c .part) w) (c .scratch) h k)
+    left-10 : scratchBytes ≤ length (c .scratch) → length (lentWalk (c .part) w .entries) < mostChoices → Left table c w 10
+    left-10 h k = left-by table c w 10 (few-by (c .service) (lentWalk (c .part) w) (c .scratch) h k)
 
     -- A first list that is lent enough.
     first-wrote : c .service ≡ first → Enough c w → Wrote table c w (firstList (tree table))
     first-wrote e h =
         wrote-by table c w (firstList (tree table)) (h .enough-entries)
-        (ap (λ (s : Service). dueOf s table (lent (c .part) w) (c .scratch)) e ∙ firsts-granted table (length (c .scratch)) (h .enough-scratch) n ok (lent (c .part) w) (h .enough-entries))
+        (ap (λ (s : Service). dueOf s table (lentWalk (c .part) w) (c .scratch)) e ∙ firsts-granted table (length (c .scratch)) (h .enough-scratch) n ok (lentWalk (c .part) w) (h .enough-entries))
 
     -- A step of a complete list that is lent enough.
     module _ (l : List ℕ) (shown : Shows w l) (complete : Complete (tree table) l) (e : c .service ≡ step) (h : Enough c w) where
       step-due : due table c w ≡ onward (nextList (tree table) l)
       step-due =
           let within : w .len ≤ mostChoices = omega (arith, shown .its-length, shown-short w l shown) in
-          ap (λ (s : Service). dueOf s table (lent (c .part) w) (c .scratch)) e
-          ∙ steps-complete table (length (c .scratch)) (h .enough-scratch) n ok (lent (c .part) w) (h .enough-entries) l (listed-lent (c .part) w (h .enough-entries) within ∙ listed-shown w l shown) within complete
+          ap (λ (s : Service). dueOf s table (lentWalk (c .part) w) (c .scratch)) e
+          ∙ steps-complete table (length (c .scratch)) (h .enough-scratch) n ok (lentWalk (c .part) w) (h .enough-entries) l (listed-lent (c .part) w (h .enough-entries) within ∙ listed-shown w l shown) within complete
 
       step-wrote : (m : List ℕ) → nextList (tree table) l ≡ some m → Wrote table c w m
       step-wrote m f = wrote-by table c w m (h .enough-entries) (step-due ∙ ap onward f)
@@ -158,16 +158,16 @@ module _ (table : List ℕ) (n : ℕ) (ok : check table ≡ Accepted n) where
   module _ (v w : Walk) (k : ℕ) (c : Call) (g : Goes v w k) where
     -- The walk and the number after it.
     abbrev Onward : Service → Type 0
-    Onward s = Goes v (after table c w) (tally s (isGranted table c w) k)
+    Onward s = Goes v (afterCall table c w) (tally s (isGranted table c w) k)
 
     stays-so : (s : Service) (m : ℕ) → Left table c w m → eqb (numberOf (pack m 0 0)) 0 ≡ false → Onward s
     stays-so s m h e =
-        subst (λ j. Goes v (after table c w) j) (sym (tally-left s (isGranted table c w) k (granted-is table c w m (h .answer) ∙ e)))
-        (goes-left v w (after table c w) k (h .stays) g)
+        subst (λ j. Goes v (afterCall table c w) j) (sym (tally-left s (isGranted table c w) k (granted-is table c w m (h .answer) ∙ e)))
+        (goes-left v w (afterCall table c w) k (h .stays) g)
 
     writes-so : (s : Service) (l : List ℕ) → Wrote table c w l → Complete (tree table) l → CountBefore (tree table) l (tally s true k) → Onward s
     writes-so s l h d m =
-        written v w (after table c w) l (tally s (isGranted table c w) k) (h .writes) d
+        written v w (afterCall table c w) l (tally s (isGranted table c w) k) (h .writes) d
         (subst (λ b. CountBefore (tree table) l (tally s b k)) (sym (granted-is table c w 0 (h .answer))) m) (g .beyond)
 
     goes-step : (o : Option (List ℕ)) → nextList (tree table) (g .held .list) ≡ o → c .service ≡ step → Enough c w → Onward step
@@ -196,7 +196,7 @@ module _ (table : List ℕ) (n : ℕ) (ok : check table ≡ Accepted n) where
 
   goes-all : (cs : List Call) (v w : Walk) (k : ℕ) → Goes v w k → Goes v (afterAll table cs w) (granted table cs w k)
   goes-all [] v w k g = g
-  goes-all (c ∷ cs) v w k g = goes-all cs v (after table c w) (tally (c .service) (isGranted table c w) k) (goes-call v w k c g)
+  goes-all (c ∷ cs) v w k g = goes-all cs v (afterCall table c w) (tally (c .service) (isGranted table c w) k) (goes-call v w k c g)
 
   tally-none : (s : Service) (b : Bool) → s ≡ first → tally s b 0 ≡ 0
   tally-none s true e = ap (λ x. tally x true 0) e
@@ -206,24 +206,24 @@ module _ (table : List ℕ) (n : ℕ) (ok : check table ≡ Accepted n) where
   not-granted : (c : Call) (w : Walk) (m : ℕ) → Granted table c w → Left table c w m → 0 < numberOf (pack m 0 0) → ⊥
   not-granted c w m g h p = let z : numberOf (pack m 0 0) ≡ 0 = sym (ap numberOf (h .answer)) ∙ g in omega arith
 
-  goes-begun : (v : Walk) (c : Call) → c .service ≡ first → Granted table c v → Goes v (after table c v) 0
+  goes-begun : (v : Walk) (c : Call) → c .service ≡ first → Granted table c v → Goes v (afterCall table c v) 0
   goes-begun v c e g =
       by-buffers table c v
       (λ s. absurd (not-granted c v 1 g (left-1 c v s) (omega arith)))
       (λ s f. absurd (not-granted c v 10 g (left-10 c v s f) (omega arith)))
-      (λ h. written v v (after table c v) (firstList (tree table)) 0 (first-wrote c v e h .writes) (first-list (tree table) full .complete) (count-first (tree table) full) refl)
+      (λ h. written v v (afterCall table c v) (firstList (tree table)) 0 (first-wrote c v e h .writes) (first-list (tree table) full .complete) (count-first (tree table) full) refl)
 
-  goes : (cs : Calls table) → Goes (cs .start) (walkOf cs) (stepsOf cs)
+  goes : (cs : Calls table) → Goes (cs .start) (finalWalk cs) (stepsOf cs)
   goes cs =
-      goes-all (cs .more) (cs .start) (after table (cs .begin) (cs .start)) (tally (cs .begin .service) (isGranted table (cs .begin) (cs .start)) 0)
-      (subst (λ k. Goes (cs .start) (after table (cs .begin) (cs .start)) k) (sym (tally-none (cs .begin .service) (isGranted table (cs .begin) (cs .start)) (cs .is-first)))
+      goes-all (cs .more) (cs .start) (afterCall table (cs .begin) (cs .start)) (tally (cs .begin .service) (isGranted table (cs .begin) (cs .start)) 0)
+      (subst (λ k. Goes (cs .start) (afterCall table (cs .begin) (cs .start)) k) (sym (tally-none (cs .begin .service) (isGranted table (cs .begin) (cs .start)) (cs .is-first)))
       (goes-begun (cs .start) (cs .begin) (cs .is-first) (cs .is-granted)))
 
   -- THEOREM: after the calls the walk shows the complete list with as many complete lists before it as steps were granted.
-  pub calls-held : (cs : Calls table) → Held table (walkOf cs) (stepsOf cs)
+  pub calls-held : (cs : Calls table) → Held table (finalWalk cs) (stepsOf cs)
   calls-held cs = goes cs .held
 
-  pub calls-untouched : (cs : Calls table) → drop mostChoices (walkOf cs .entries) ≡ drop mostChoices (cs .start .entries)
+  pub calls-untouched : (cs : Calls table) → drop mostChoices (finalWalk cs .entries) ≡ drop mostChoices (cs .start .entries)
   calls-untouched cs = goes cs .beyond
 
   -- ---- a further call
@@ -231,7 +231,7 @@ module _ (table : List ℕ) (n : ℕ) (ok : check table ≡ Accepted n) where
   pub refusals : (w : Walk) → Refusals table w
   refusals w = record { short-scratch = λ c h. left-1 c w h .answer; few-entries = λ c h k. left-10 c w h k .answer }
 
-  shows-after : (c : Call) (w : Walk) (l : List ℕ) → Wrote table c w l → Complete (tree table) l → Shows (after table c w) l
+  shows-after : (c : Call) (w : Walk) (l : List ℕ) → Wrote table c w l → Complete (tree table) l → Shows (afterCall table c w) l
   shows-after c w l h d = subst (λ x. Shows x l) (sym (h .writes)) (shows-written l w (complete-length (tree table) l d))
 
   pub first-answers : (w : Walk) (c : Call) → c .service ≡ first → Enough c w → FirstAnswers table c w
@@ -242,7 +242,7 @@ module _ (table : List ℕ) (n : ℕ) (ok : check table ≡ Accepted n) where
 
   module _ (w : Walk) (c : Call) (e : c .service ≡ step) (h : Enough c w) (l : List ℕ) (shown : Shows w l) (d : Complete (tree table) l) where
     -- THEOREM: a step is granted, or it is 35.
-    pub step-from : Stepped table c w l ⊎ NoNext table c w l
+    step-from : Stepped table c w l ⊎ NoNext table c w l
     step-from = go (nextList (tree table) l) refl
       where
         go : (o : Option (List ℕ)) → nextList (tree table) l ≡ o → Stepped table c w l ⊎ NoNext table c w l
@@ -252,7 +252,7 @@ module _ (table : List ℕ) (n : ℕ) (ok : check table ≡ Accepted n) where
             let o = step-wrote c w l shown d e h m f in
             inl (record { answer = o .answer; list = m; shown = shows-after c w m o (x .complete); is-next = x })
 
-  pub calls-step : (cs : Calls table) (c : Call) → c .service ≡ step → Enough c (walkOf cs) → (l : List ℕ) → Shows (walkOf cs) l → Stepped table c (walkOf cs) l ⊎ NoNext table c (walkOf cs) l
+  pub calls-step : (cs : Calls table) (c : Call) → c .service ≡ step → Enough c (finalWalk cs) → (l : List ℕ) → Shows (finalWalk cs) l → Stepped table c (finalWalk cs) l ⊎ NoNext table c (finalWalk cs) l
   calls-step cs c e h l shown =
       let g = calls-held cs in
-      step-from (walkOf cs) c e h l shown (subst (Complete (tree table)) (shows-one (walkOf cs) (g .list) l (g .shown) shown) (g .complete))
+      step-from (finalWalk cs) c e h l shown (subst (Complete (tree table)) (shows-one (finalWalk cs) (g .list) l (g .shown) shown) (g .complete))

@@ -5,8 +5,8 @@ use mathlib.Core.Bool.{Bool, true, false, cond}
 use mathlib.Core.Logic.{_⊎_, inl, inr, ⊎-elim, _↔_}
 use mathlib.Core.List.{List, [], _∷_, _++_}
 use Prim.Native.Nat.{ℕ}
-use Rattle.prelude.proofs.Absurd.{impossible}
 use Rattle.prelude.specs.Membership.{In}
+use Rattle.choices.proofs.Trees.{value≢refusal}
 use Rattle.choices.specs.Tree.{Outcome, value, refusal}
 use Rattle.values.specs.Value.{Value}
 use Rattle.patterns.specs.Binding.{Binding}
@@ -17,9 +17,6 @@ use Rattle.meaning.specs.Loose.{Outcomes, _then_, refuses, underEach, Me
 abbrev pub chosenFrom : ℕ → (Binding → Outcomes Value) → List Binding → Outcomes Value
 chosenFrom r F [] = refuses 24 r
 chosenFrom r F (b ∷ bs) = underEach (b ∷ bs) F
-
-pub value≢refusal : {A : Type 0} {a : A} {n r : ℕ} → _≡_ {A = Outcome A} (value a) (refusal n r) → ⊥
-value≢refusal e = impossible cc
 
 tested-more : (test : Binding → Outcomes Bool) (b : Binding) (bs : List Binding) (t : Bool) → test b (value t) → AllTested test bs → AllTested test (b ∷ bs)
 tested-more test b bs t h k c i = ⊎-elim (λ e. (t, subst (λ d. test d (value t)) (sym e) h)) (λ j. k c j) i

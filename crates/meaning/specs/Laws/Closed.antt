@@ -10,6 +10,7 @@ use native.Mathlib.Omega.{arith}
 use lib.Dec.{eqb, leb}
 use lib.ListN.{length, getD}
 use Rattle.prelude.specs.Membership.{In}
+use Rattle.prelude.proofs.Membership.{at-in}
 use Rattle.choices.specs.Tree.{Tree, give, stop, bind, Outcome, value, Gives}
 use Rattle.values.specs.Value.{Kind, set, sequence, map, tuple, Value, boolean, integer, collection, Items, none, more}
 use Rattle.operators.specs.Answer.{Answer, is, refused, Built, built, stopped, asBoolean, asInteger, asSet}
@@ -27,16 +28,15 @@ use Rattle.patterns.specs.Laws.Matched.{bindings-exactly}
 use Rattle.patterns.specs.Laws.Forming.{formed-bound}
 use Rattle.meaning.specs.Node.{Node, Quantifier, forall, exists, exists1, truth, whole, named, unaryOf, binaryOf, connective, if, enumeration, range, let-in, let-be, quantified, iota, set-comprehension, sequence-comprehension, map-comprehension, application, no-expression}
 use Rattle.meaning.specs.State.{State, under, valueIn}
-use Rattle.meaning.specs.Meaning.{Evaluates, at, builtAt, orElse, allOf, bothOf, rightOf, isTrue, enumerated, formedAt, membersAt, bindingsOf, holds, satisfying, chosen, matched, satisfied, untilFalse, untilTrue, quantify, nameOf, unique, collected, addOne, addPair, integersAt, integerBindings, comprehension, means}
-use Rattle.meaning.specs.Laws.Equation.{plain, covered, Each}
+use Rattle.meaning.specs.Meaning.{Evaluates, at, builtAt, orElse, allOf, bothOf, rightOf, isTrue, enumerated, formedAt, membersAt, bindingsOf, holds, satisfying, chosen, matched, satisfied, untilFalse, untilTrue, quantify, unique, collected, addOne, addPair, integersAt, integerBindings, comprehension, means, patternName}
+use Rattle.meaning.specs.Laws.Equation.{covered, Each, plainOperands}
 use Rattle.meaning.specs.Laws.Proper.{binderOf}
-use Rattle.meaning.specs.Laws.Agreement.{at-in}
 use Rattle.meaning.specs.Laws.Numbers.{Ranged, Answered, BuiltSo, LeftSo, unary-number, binary-number, range-number, right-number, left-number, apply-number, entry-number, member-number, item-number, set-number, sequence-number, map-number, tuple-number}
 use Rattle.meaning.specs.Laws.Only.{Only, only-give, only-stop, only-bind, Any, only-any}
 
 -- ---- the bindings of a binder
 
-abbrev pub Few : List Binding → Type 0
+abbrev Few : List Binding → Type 0
 Few bs = length bs ≤ mostBindings
 
 -- The binding matches some value.
@@ -174,7 +174,7 @@ module _ (Q : (A : Type 0) → Tree A → Type 0) (May : Type 0) (r : ℕ) (clos
   choice-closed : May → (bs : List Binding) (f : Binding → Tree Value) → 0 < length bs → Few bs → ((b : Binding) → In b bs → Q Value (f b)) → Q Value (bind (chosen r bs) f)
   choice-closed may bs f n e h =
       closed .of-bind Binding Value (chosen r bs) f (closed .of-choice may bs n e)
-      (λ β g. h β (let d : getD bs (g .0) nothing ≡ β = value-is (g .2) in subst (λ x. In x bs) d (at-in bs (g .0) (g .1))))
+      (λ β g. h β (let d : getD bs (g .0) nothing ≡ β = value-is (g .2) in subst (λ x. In x bs) d (at-in bs (g .0) nothing (g .1))))
 
   matched-closed : (l : Bool) → (l ≡ true → May) → (bs : List Binding) (f : Binding → Tree Value) → Few bs → ((b : Binding) → In b bs → Q Value (f b)) → Q Value (bind (matched r l bs) f)
   matched-closed l may [] f e h = closed .of-stop Value 23 (omega arith, omega arith)
@@ -187,7 +187,7 @@ module _ (Q : (A : Type 0) → Tree A → Type 0) (May : Type 0) (r : ℕ) (clos
 
   unique-closed : (p : Pattern) (bs : List Binding) → Q Value (unique r p bs)
   unique-closed p [] = closed .of-stop Value 25 unique-number
-  unique-closed p (b ∷ []) = else-closed 25 (valueIn b (nameOf p)) unique-number
+  unique-closed p (b ∷ []) = else-closed 25 (valueIn b (patternName p)) unique-number
   unique-closed p (b ∷ c ∷ bs) = closed .of-stop Value 25 unique-number
 
   until-false-closed : (test : Binding → Tree Bool) (bs : List Binding) → ((b : Binding) → In b bs → Q Bool (test b)) → Q Bool (untilFalse test bs)
@@ -297,7 +297,7 @@ module _ (Q : (A : Type 0) → Tree A → Type 0) (May : Type 0) (r : ℕ) (clos
         satisfied-closed may sat (λ β. rec b (under ρ β)) (omega arith) (λ β i. over p bs b f o β (some .among β i)))
 
     -- THEOREM: it holds of what a record says.
-    pub closed-node : (pattern : ℕ → Pattern) (n : Node) → (Chooses pattern n → May) → Each Here (plain n) → Each (Under (pattern (binderOf n))) (covered n) → Q Value (means pattern rec r n ρ)
+    pub closed-node : (pattern : ℕ → Pattern) (n : Node) → (Chooses pattern n → May) → Each Here (plainOperands n) → Each (Under (pattern (binderOf n))) (covered n) → Q Value (means pattern rec r n ρ)
     unfolding means
     closed-node pattern (truth b) may l m = closed .of-give Value (boolean b)
     closed-node pattern (whole z) may l m = closed .of-give Value (integer z)

@@ -19,8 +19,9 @@ use Rattle.tables.specs.Record.{Record, shape, operator, named as operandsOf, o
 use Rattle.tables.specs.Table.{noRecord, recordAt, kindAt}
 use Rattle.tables.specs.Sheet.{loose, patternOf, isCondition, isBinder, inCondition}
 use Rattle.tables.specs.Check.{check, chooses}
-use Rattle.tables.specs.Laws.{split}
-use Rattle.tables.specs.Accepted.{records, Fine, accepted-fine, operand-lower, condition-operand, binder-operands, binder-pattern, choice-outside, fit-least, named-count}
+use Rattle.prelude.proofs.Truth.{by-lower}
+use Rattle.tables.specs.Accepted.{records, Fine}
+use Rattle.tables.specs.Laws.Accepted.{accepted-fine, operand-lower, condition-operand, binder-operands, binder-pattern, choice-outside, fit-least, named-count}
 use Rattle.patterns.specs.Read.{patternAt}
 use Rattle.meaning.specs.Node.{Node, truth, whole, named, unaryOf, binaryOf, connective, if, enumeration, range, let-in, let-be, quantified, iota, set-comprehension, sequence-comprehension, map-comprehension, application, no-expression}
 use Rattle.meaning.specs.State.{State, under}
@@ -52,10 +53,10 @@ one-closed r =
     }
 
 -- The value that such a tree gives is all that it is.
-pub one-gives : {A : Type 0} (t : Tree A) (a : A) → OneLeaf t → Gives t (value a) → t ≡ give a
-one-gives (give b) a h e = let d : b ≡ a = cc in ap give d
-one-gives (stop n p) a h e = impossible cc
-one-gives (choose p n ways) a h e = absurd h
+pub leaf-gives : {A : Type 0} (t : Tree A) (a : A) → OneLeaf t → Gives t (value a) → t ≡ give a
+leaf-gives (give b) a h e = let d : b ≡ a = cc in ap give d
+leaf-gives (stop n p) a h e = impossible cc
+leaf-gives (choose p n ways) a h e = absurd h
 
 -- ---- the records that choose
 
@@ -181,7 +182,7 @@ module _ (table : List ℕ) (n : ℕ) (ok : check table ≡ Accepted n) where
     told = subst (λ (m : Node). Tells m (recordAt rs r) (kindAt rs r)) is (node-tells (recordAt rs r))
 
     there : r < length rs
-    there = split r (length rs) (λ h. h) (λ h. let z : _≡_ {A = ℕ} 0 13 = sym (ap (λ (q : Record). q .kind) (List·getD-eq-default rs noRecord h)) ∙ told .0 in absurd (omega arith))
+    there = by-lower r (length rs) (λ h. h) (λ h. let z : _≡_ {A = ℕ} 0 13 = sym (ap (λ (q : Record). q .kind) (List·getD-eq-default rs noRecord h)) ∙ told .0 in absurd (omega arith))
 
     has : 2 < length (operandsOf (recordAt rs r))
     unfolding shape

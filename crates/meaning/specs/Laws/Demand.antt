@@ -14,7 +14,7 @@ use Rattle.meaning.specs.Meaning.{meaning}
 use Rattle.meaning.specs.Read.{sheet}
 use Rattle.meaning.specs.Laws.Proper.{downward}
 use Rattle.meaning.specs.Demand.{LetBe, ConditionIs, Settled, NoBinding, Demand3}
-use Rattle.meaning.specs.Laws.Conditions.{one-gives, let-be-condition}
+use Rattle.meaning.specs.Laws.Conditions.{let-be-condition, leaf-gives}
 use Rattle.meaning.specs.Laws.LetBe.{NoneTrue, let-be-run}
 use Rattle.meaning.specs.Laws.Calls.{refused, calls-held, calls-untouched, refusals, first-answers, calls-step}
 use Rattle.meaning.specs.Laws.Outcomes.{outcomes}
@@ -32,7 +32,7 @@ module _ (table : List ℕ) (n : ℕ) (ok : check table ≡ Accepted n) where
     where
       -- The condition is one leaf, so what it comes to is all that it is.
       leaf : (β : Binding) (x : Bool) → ConditionIs table c ρ β x → meaning (sheet table) c (under ρ β) ≡ give (boolean x)
-      leaf β x g = one-gives (meaning (sheet table) c (under ρ β)) (boolean x) (let-be-condition table n ok r p t c b (h .is-let-be) (under ρ β)) g
+      leaf β x g = leaf-gives (meaning (sheet table) c (under ρ β)) (boolean x) (let-be-condition table n ok r p t c b (h .is-let-be) (under ρ β)) g
 
       by-leaf : ((left : List ℕ) × (follow (meaning (sheet table) r ρ) k l ≡ stopped 24 r left)) ↔ NoneTrue (meaning (sheet table)) (sheet table .pattern p) c ρ vs
       by-leaf =

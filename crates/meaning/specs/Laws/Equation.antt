@@ -20,25 +20,25 @@ use Rattle.meaning.specs.Meaning.{Evaluates, allOf, bothOf, rightOf, isT
 -- ---- what a record evaluates
 
 -- The records that a node evaluates in its own state. (A pattern is not evaluated.)
-abbrev pub plain : Node → List ℕ
-plain (truth b) = []
-plain (whole z) = []
-plain (named x) = []
-plain (unaryOf op a) = a ∷ []
-plain (binaryOf op a b) = a ∷ b ∷ []
-plain (connective c a b) = a ∷ b ∷ []
-plain (if t a b) = t ∷ a ∷ b ∷ []
-plain (enumeration k operands) = operands
-plain (range a b) = a ∷ b ∷ []
-plain (let-in p a b) = a ∷ []
-plain (let-be p s c b) = s ∷ []
-plain (quantified q p s c) = s ∷ []
-plain (iota p s c) = s ∷ []
-plain (set-comprehension p s c e) = s ∷ []
-plain (sequence-comprehension p s c e) = s ∷ []
-plain (map-comprehension p s c k e) = s ∷ []
-plain (application a b) = a ∷ b ∷ []
-plain no-expression = []
+abbrev pub plainOperands : Node → List ℕ
+plainOperands (truth b) = []
+plainOperands (whole z) = []
+plainOperands (named x) = []
+plainOperands (unaryOf op a) = a ∷ []
+plainOperands (binaryOf op a b) = a ∷ b ∷ []
+plainOperands (connective c a b) = a ∷ b ∷ []
+plainOperands (if t a b) = t ∷ a ∷ b ∷ []
+plainOperands (enumeration k operands) = operands
+plainOperands (range a b) = a ∷ b ∷ []
+plainOperands (let-in p a b) = a ∷ []
+plainOperands (let-be p s c b) = s ∷ []
+plainOperands (quantified q p s c) = s ∷ []
+plainOperands (iota p s c) = s ∷ []
+plainOperands (set-comprehension p s c e) = s ∷ []
+plainOperands (sequence-comprehension p s c e) = s ∷ []
+plainOperands (map-comprehension p s c k e) = s ∷ []
+plainOperands (application a b) = a ∷ b ∷ []
+plainOperands no-expression = []
 
 -- The records that a binder evaluates under its bindings.
 abbrev pub covered : Node → List ℕ
@@ -71,7 +71,7 @@ AllBelow r os = Each (λ a. a < r) os
 
 -- Every record evaluates only lower ones.
 pub record Lower (r : ℕ) (n : Node) : Type 0 where
-  pub plain-ones : AllBelow r (plain n)
+  pub plain-ones : AllBelow r (plainOperands n)
   pub covered-ones : AllBelow r (covered n)
 
 abbrev pub Downward : Sheet → Type 0

@@ -21,6 +21,7 @@ use Rattle.operators.specs.Sequences.{headOf, tailOf, itemAt}
 use Rattle.operators.specs.Maps.{applyTo, compatible}
 use Rattle.operators.specs.Enumerations.{addMember, addItem, addEntry, entered, buildOn, addMembers, addItems, addEntries, addEntriesAt, setOf, sequenceOf, mapOf, tupleOf}
 use Rattle.operators.specs.Operators.{unary, binary, unaries, binaries, noUnary, noBinary}
+use Rattle.meaning.specs.Laws.Proper.{_&_}
 
 abbrev pub Ranged : ℕ → Type 0
 Ranged n = (20 ≤ n) × (n ≤ 30)
@@ -73,10 +74,6 @@ if-counting : (z : ℤ) (n : ℕ) → Answered (counting z n)
 if-counting z n = if-picked (leb (4 + 8 * n) valueLimit) (is (collection set (upFrom z n))) (refused 28) tt (omega arith, omega arith)
 
 -- ---- operators by number
-
-infixr 20 _&_
-_&_ : {A B : Type 0} → A → B → A × B
-a & b = (a, b)
 
 -- Each of a list of operators refuses with such a number.
 abbrev All : List (Value → Answer) → Type 0

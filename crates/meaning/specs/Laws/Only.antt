@@ -30,9 +30,9 @@ Any a = Unit {0}
 pub only-any : {A : Type 0} (t : Tree A) → Only Any t
 only-any t a g = tt
 
-pub only-pick : {A : Type 0} (P : A → Type 0) (b : Bool) (t u : Tree A) → Only P t → Only P u → Only P (cond b t u)
-only-pick P true t u h k = h
-only-pick P false t u h k = k
+pub only-cond : {A : Type 0} (P : A → Type 0) (b : Bool) (t u : Tree A) → Only P t → Only P u → Only P (cond b t u)
+only-cond P true t u h k = h
+only-cond P false t u h k = k
 
 pub only-else : {A : Type 0} (P : A → Type 0) (n r : ℕ) (x : Option A) → ((a : A) → x ≡ some a → P a) → Only P (orElse n r x)
 only-else P n r absent h = only-stop P n r

@@ -11,7 +11,8 @@ use borrow.Author.Tests.{ltb-true, ne-eqb}
 use Rattle.prelude.proofs.Absurd.{impossible}
 use Rattle.prelude.proofs.Truth.{or-false-both}
 use Rattle.choices.specs.Tree.{Tree, give, stop, choose, Numbered, stopped, beyond, follow, run, mostChoices, refuses, final, Outcome, value, refusal, Gives}
-use Rattle.choices.specs.Lists.{Complete, outcomeOf, NoMany as NoManyAtAll}
+use Rattle.choices.specs.Lists.{Complete, outcomeOf}
+use Rattle.choices.proofs.Leaves.{NoMany as NoManyAtAll}
 use Rattle.choices.proofs.Cut.{complete-length}
 use Rattle.choices.proofs.Trees.{numbered-gives}
 use Rattle.choices.proofs.Walk.{finalOf, complete-final}
@@ -21,13 +22,13 @@ use Rattle.values.proofs.Encoding.{valueOf, value-back}
 use Rattle.tables.specs.declared.Checked.the-variants.{Accepted}
 use Rattle.tables.specs.Check.{check}
 use Rattle.meaning.specs.State.{unbound}
-use Rattle.meaning.specs.Loose.{loose}
+use Rattle.meaning.specs.Loose.{looseMeaning}
 use Rattle.meaning.specs.Read.{sheet}
 use Rattle.meaning.specs.Answer.{pack, packed, uncounted, numberOf}
 use Rattle.meaning.specs.Walk.{Bytes}
 use Rattle.meaning.specs.Service.{scratchBytes, last, tree, evaluates}
 use Rattle.meaning.specs.Lent.{filled, zeroed, afterEvaluate, evaluateCall}
-use Rattle.meaning.specs.Demand.{NoMany, EvaluatesTo, Reached}
+use Rattle.meaning.specs.Demand.{EvaluatesTo, Reached, NeverMany}
 use Rattle.meaning.specs.Agreement.{agreement}
 use Rattle.meaning.specs.Laws.Sure.{Narrow, sure-meaning, Bytes as NarrowBytes, complete-bytes}
 use Rattle.meaning.specs.Laws.WellFormed.{tree-well-formed}
@@ -105,7 +106,7 @@ module _ (table : List ℕ) (n : ℕ) (ok : check table ≡ Accepted n) where
       let r = numbered-gives (tree table) m p (sure-meaning (sheet table) (last (sheet table)) unbound .numbered) g in
       ((r .0, omega (arith, r .1)), λ i q e. let d : m ≡ i = cc in omega (arith, r .1))
 
-  module _ (scratch buffer : List ℕ) (enough : scratchBytes ≤ length scratch) (room : largest ≤ length buffer) (no : NoMany table scratch buffer) where
+  module _ (scratch buffer : List ℕ) (enough : scratchBytes ≤ length scratch) (room : largest ≤ length buffer) (no : NeverMany table scratch buffer) where
     -- Evaluating ends in 31 where a run does, so none does.
     no-many : NoManyAtAll (tree table)
     no-many l p left within e =
@@ -121,7 +122,7 @@ module _ (table : List ℕ) (n : ℕ) (ok : check table ≡ Accepted n) where
         (evaluates-run table (length scratch) enough n ok (length buffer) l room (complete-length (tree table) l c) ∙ complete-final (tree table) l (last (sheet table)) c)
 
     -- THEOREM: some complete list of bytes evaluates to an outcome exactly when the loose meaning of the last record has it.
-    pub outcomes : (o : Outcome Value) → Reached table scratch buffer o ↔ loose (sheet table) (last (sheet table)) unbound o
+    pub outcomes : (o : Outcome Value) → Reached table scratch buffer o ↔ looseMeaning (sheet table) (last (sheet table)) unbound o
     outcomes o = (
       λ w.
           let x = outcomeOf (run (tree table) (w .list)) in

@@ -12,11 +12,12 @@ use Rattle.patterns.specs.Laws.Named.{named as holdsAt, namedEach}
 use Rattle.tables.specs.declared.Checked.the-variants.{Accepted}
 use Rattle.tables.specs.Record.{Record, shape, isPattern, isFit, nameOf, named as operandsOf, operand}
 use Rattle.tables.specs.Table.{recordAt, kindAt}
-use Rattle.tables.specs.Sheet.{some, holds, isName, holdsName, isLoose, loose}
+use Rattle.tables.specs.Sheet.{some, isName, holdsName, isLoose, loose, anyBelow}
 use Rattle.tables.specs.Check.{check}
-use Rattle.tables.specs.Laws.{fold-at}
+use Rattle.tables.specs.Laws.Below.{fold-at}
 use Rattle.tables.specs.Laws.Kinds.{pattern-least}
-use Rattle.tables.specs.Accepted.{records, Fine, accepted-fine, operand-lower, operand-sort, pattern-role, lower, fit-least, fit-most, fit-kind, named-count}
+use Rattle.tables.specs.Accepted.{records, Fine}
+use Rattle.tables.specs.Laws.Accepted.{accepted-fine, operand-lower, operand-sort, pattern-role, lower, fit-least, fit-most, fit-kind, named-count}
 use Rattle.meaning.specs.Laws.Proper.{_&_}
 use Rattle.patterns.specs.Read.{patternsOf, patterns, patternOf, patternAt}
 
@@ -55,7 +56,7 @@ module _ (test : Record → Bool) (m : Pattern → Bool) (agree : EachAgrees tes
   unfolding patternAt
   pattern-at r h = fold-at (λ q ps. patternOf (recordAt rs q) ps) any rs (lower rs (fine .clear6)) r h
 
-  holds-at : (r : ℕ) → r < length rs → holds test rs r ≡ test (recordAt rs r) || some (map (holds test rs) (operandsOf (recordAt rs r)))
+  holds-at : (r : ℕ) → r < length rs → anyBelow test rs r ≡ test (recordAt rs r) || some (map (anyBelow test rs) (operandsOf (recordAt rs r)))
   holds-at r h = fold-at (λ q bs. test (recordAt rs q) || some bs) false rs (lower rs (fine .clear6)) r h
 
   kinds : (r : ℕ) → isPattern (kindAt rs r) ≡ true → 32 ≤ kindAt rs r
@@ -69,17 +70,17 @@ module _ (test : Record → Bool) (m : Pattern → Bool) (agree : EachAgrees tes
       agrees-at test m 32 (kindAt rs r - 32) patterns (omega arith) agree (recordAt rs r) e ps
       (subst (Counted _) (sym n) (counted (recordAt rs r) _ e (fine .fit r h)))
 
-  parts-same : (os : List ℕ) → ((i : ℕ) → i < length os → holds test rs (getD os i 0) ≡ m (patternAt rs (getD os i 0))) → map (holds test rs) os ≡ map m (map (patternAt rs) os)
+  parts-same : (os : List ℕ) → ((i : ℕ) → i < length os → anyBelow test rs (getD os i 0) ≡ m (patternAt rs (getD os i 0))) → map (anyBelow test rs) os ≡ map m (map (patternAt rs) os)
   parts-same [] h = refl
   parts-same (a ∷ os) h =
-      let here : holds test rs a ≡ m (patternAt rs a) = h 0 (omega arith) in
-      let there : map (holds test rs) os ≡ map m (map (patternAt rs) os) = parts-same os (λ i j. h (suc i) (omega arith)) in
+      let here : anyBelow test rs a ≡ m (patternAt rs a) = h 0 (omega arith) in
+      let there : map (anyBelow test rs) os ≡ map m (map (patternAt rs) os) = parts-same os (λ i j. h (suc i) (omega arith)) in
       cc
 
   part-is-pattern : (r i : ℕ) → r < length rs → i < length (operandsOf (recordAt rs r)) → isPattern (kindAt rs r) ≡ true → isPattern (kindAt rs (operand (recordAt rs r) i)) ≡ true
   part-is-pattern r i h k p = rw (pattern-role (recordAt rs r) i p k) at (operand-sort rs (fine .clear6) r i h k)
 
-  same-to : (n r : ℕ) → r < n → r < length rs → isPattern (kindAt rs r) ≡ true → holds test rs r ≡ m (patternAt rs r)
+  same-to : (n r : ℕ) → r < n → r < length rs → isPattern (kindAt rs r) ≡ true → anyBelow test rs r ≡ m (patternAt rs r)
   same-to zero r l h p = absurd (omega arith)
   same-to (suc n) r l h p =
       holds-at r h

@@ -18,11 +18,12 @@ use Rattle.tables.specs.Record.{Record, shape, size, headOf, fits, named as ope
 use Rattle.tables.specs.Table.{noRecord, recordAt}
 use Rattle.tables.specs.Sheet.{isCovered}
 use Rattle.tables.specs.Check.{check}
-use Rattle.tables.specs.Laws.{split}
-use Rattle.tables.specs.Accepted.{records, Fine, accepted-fine, operand-lower, fit-least, fit-known, named-count}
+use Rattle.prelude.proofs.Truth.{by-lower}
+use Rattle.tables.specs.Accepted.{records, Fine}
+use Rattle.tables.specs.Laws.Accepted.{accepted-fine, operand-lower, fit-least, fit-known, named-count}
 use Rattle.meaning.specs.Node.{Node, truth, whole, named, unaryOf, binaryOf, connective, if, enumeration, range, let-in, let-be, quantified, iota, set-comprehension, sequence-comprehension, map-comprehension, application, no-expression}
 use Rattle.meaning.specs.Read.{nodes, nodeOf, none, binaryNode, sheet}
-use Rattle.meaning.specs.Laws.Equation.{plain, covered, Each, Downward}
+use Rattle.meaning.specs.Laws.Equation.{covered, Each, Downward, plainOperands}
 
 infixr 30 _&_
 -- A pair.
@@ -37,11 +38,11 @@ plain-roles (suc n) (suc i) = plain-roles n i
 -- ---- a proper node
 
 -- So many operands as the kind asks for: 2 to 4 in a tuple, as many keys as values in a map.
-abbrev pub Numbered : Kind → ℕ → Type 0
-Numbered set n = Unit {0}
-Numbered sequence n = Unit {0}
-Numbered map n = n % 2 ≡ 0
-Numbered tuple n = (2 ≤ n) × (n ≤ 4)
+abbrev pub WellNumbered : Kind → ℕ → Type 0
+WellNumbered set n = Unit {0}
+WellNumbered sequence n = Unit {0}
+WellNumbered map n = n % 2 ≡ 0
+WellNumbered tuple n = (2 ≤ n) × (n ≤ 4)
 
 -- The pattern's record of a binder.
 abbrev pub binderOf : Node → ℕ
@@ -72,7 +73,7 @@ Literal (unaryOf op a) = Unit {0}
 Literal (binaryOf op a b) = Unit {0}
 Literal (connective c a b) = Unit {0}
 Literal (if t a b) = Unit {0}
-Literal (enumeration k os) = Numbered k (length os)
+Literal (enumeration k os) = WellNumbered k (length os)
 Literal (range a b) = Unit {0}
 Literal (let-in p a b) = Unit {0}
 Literal (let-be p s c b) = Unit {0}
@@ -86,7 +87,7 @@ Literal no-expression = Unit {0}
 
 -- Of a node: P of the records that it evaluates in its own state; C, with the binder's pattern, of those under its bindings; and literals.
 pub record Proper (P : ℕ → Type 0) (C : ℕ → ℕ → Type 0) (n : Node) : Type 0 where
-  pub plain-ones : Each P (plain n)
+  pub plain-ones : Each P (plainOperands n)
   pub covered-ones : Each (C (binderOf n)) (covered n)
   pub literal : Literal n
 
@@ -149,7 +150,7 @@ module _ (P : ℕ → Type 0) (C : ℕ → ℕ → Type 0) where
     all-own : (n : ℕ) → shape k .roles ≡ replicate n Plain → Each P (operandsOf q)
     all-own n e = each-of P (operandsOf q) (λ i l. h .of-plain i l (role-is i ∙ ap (λ x. getD x i Plain) e ∙ plain-roles n i))
 
-  tuple-numbered : (q : Record) → Known P C 10 q → Numbered tuple (length (operandsOf q))
+  tuple-numbered : (q : Record) → Known P C 10 q → WellNumbered tuple (length (operandsOf q))
   unfolding shape
   tuple-numbered q h =
       let c = count-known 10 q h in
@@ -158,7 +159,7 @@ module _ (P : ℕ → Type 0) (C : ℕ → ℕ → Type 0) where
       let m = leb-true (length (q .fields)) 4 (and-elim-right (leb 2 (length (q .fields))) _ e) in
       (omega arith, omega arith)
 
-  map-numbered : (q : Record) → Known P C 9 q → Numbered map (length (operandsOf q))
+  map-numbered : (q : Record) → Known P C 9 q → WellNumbered map (length (operandsOf q))
   unfolding shape
   map-numbered q h =
       let c = count-known 9 q h in
@@ -206,7 +207,7 @@ module _ (P : ℕ → Type 0) (C : ℕ → ℕ → Type 0) where
       & tt
 
   -- The node of a record that is fit.
-  pub node-proper : (q : Record) → Known P C (q .kind) q → Proper P C (nodeOf q)
+  node-proper : (q : Record) → Known P C (q .kind) q → Proper P C (nodeOf q)
   unfolding nodeOf
   node-proper q h = node-at 0 (q .kind) nodes q each-node (let e : q .kind ≡ 0 + q .kind = omega arith in subst (λ k. Known P C k q) e h)
 
@@ -230,7 +231,7 @@ pub proper : (table : List ℕ) (n : ℕ) → check table ≡ Accepted n → (r 
 proper table n ok r =
     let fine = accepted-fine table n ok .0 in
     let rs = records table in
-    split r (length rs)
+    by-lower r (length rs)
     (λ h. inside rs fine (λ a. a < r) (λ p a. a < r) r h (λ i k e. operand-lower rs (fine .clear6) r i h k) (λ i k e. operand-lower rs (fine .clear6) r i h k))
     (λ h. outside rs fine (λ a. a < r) (λ p a. a < r) r h)
 

@@ -18,14 +18,14 @@ use Rattle.patterns.specs.Binder.{mostBindings}
 use Rattle.tables.specs.declared.Checked.{Checked}
 use Rattle.tables.specs.declared.Checked.the-variants.{Accepted, Refused}
 use Rattle.tables.specs.Record.{Record}
-use Rattle.tables.specs.Table.{Next, end, fault, one, next, after, Cut, cutBy, cut}
+use Rattle.tables.specs.Table.{Next, end, fault, one, next, Cut, cutBy, cut, onNext}
 use Rattle.tables.specs.Sheet.{lowest}
 use Rattle.tables.specs.Check.{mostBytes, mostRecords, Rule, judge, judged, judgedCut, check, rule, fault6, fault7, fault8, fault9}
-use Rattle.tables.specs.Accepted.{accepted-fine}
+use Rattle.tables.specs.Laws.Accepted.{accepted-fine}
 use Rattle.tables.specs.Laws.Cutting.{next-is}
 use Rattle.meaning.specs.State.{unbound}
 use Rattle.meaning.specs.Read.{sheet}
-use Rattle.meaning.specs.Answer.{number, place, count, records, uncounted, ReadBack}
+use Rattle.meaning.specs.Answer.{uncounted, ReadBack, answerNumber, answerPlace, answerCount, recordCount}
 use Rattle.meaning.specs.Walk.{Walk, listed}
 use Rattle.meaning.specs.Service.{scratchBytes, last, tree, unless, accepted, checks, runs, evaluates, onward, steppedFrom, firsts, steps}
 use Rattle.meaning.specs.Lent.{isEarly}
@@ -36,13 +36,13 @@ use Rattle.meaning.specs.Laws.Services.{late-number}
 -- ---- the check
 
 -- At most 200 records are counted. A rule's number is 3 to 9. Rule 4 can break at any of the 600 records that fit 2,400 bytes.
-abbrev pub Small : Checked → Type 0
-Small (Accepted n) = n ≤ 200
-Small (Refused n r) = (3 ≤ n) × (n ≤ 9) × (r < 600)
+abbrev pub SmallCheck : Checked → Type 0
+SmallCheck (Accepted n) = n ≤ 200
+SmallCheck (Refused n r) = (3 ≤ n) × (n ≤ 9) × (r < 600)
 
-small-pick : (b : Bool) (x y : Checked) → (b ≡ true → Small x) → (b ≡ false → Small y) → Small (cond b x y)
-small-pick true x y f g = f refl
-small-pick false x y f g = g refl
+small-cond : (b : Bool) (x y : Checked) → (b ≡ true → SmallCheck x) → (b ≡ false → SmallCheck y) → SmallCheck (cond b x y)
+small-cond true x y f g = f refl
+small-cond false x y f g = g refl
 
 -- Records have four bytes or more, and a record that is at fault has one.
 abbrev broken : Bool → ℕ
@@ -62,7 +62,7 @@ unfolding cutBy
 cut-small zero bytes = omega arith
 cut-small (suc bound) bytes = go (next bytes) refl (λ rest. cut-small bound rest)
   where
-    go : (n : Next) → next bytes ≡ n → ((rest : List ℕ) → 4 * length (cutBy bound rest .records) + broken (cutBy bound rest .whole) ≤ length rest) → 4 * length (after n (λ rest. cutBy bound rest) .records) + broken (after n (λ rest. cutBy bound rest) .whole) ≤ length bytes
+    go : (n : Next) → next bytes ≡ n → ((rest : List ℕ) → 4 * length (cutBy bound rest .records) + broken (cutBy bound rest .whole) ≤ length rest) → 4 * length (onNext n (λ rest. cutBy bound rest) .records) + broken (onNext n (λ rest. cutBy bound rest) .whole) ≤ length bytes
     go end e f = omega arith
     go fault e f = omega (arith, fault-some bytes e)
     go (one x rest) e f =
@@ -70,13 +70,13 @@ cut-small (suc bound) bytes = go (next bytes) refl (λ rest. cut-small bound res
         omega (arith, f rest, is .long, is .whole, ap length (is .then), length-drop (word bytes 0) bytes)
 
 module _ (rs : List Record) (few : length rs ≤ 200) where
-  small-rule : (u : Rule) (us : List Rule) → 3 ≤ u .number → u .number ≤ 9 → Small (judge us rs) → Small (judge (u ∷ us) rs)
+  small-rule : (u : Rule) (us : List Rule) → 3 ≤ u .number → u .number ≤ 9 → SmallCheck (judge us rs) → SmallCheck (judge (u ∷ us) rs)
   small-rule u us l h later =
-      small-pick (ltb (lowest (u .fault rs) (length rs)) (length rs)) (Refused (u .number) (lowest (u .fault rs) (length rs))) (judge us rs)
+      small-cond (ltb (lowest (u .fault rs) (length rs)) (length rs)) (Refused (u .number) (lowest (u .fault rs) (length rs))) (judge us rs)
       (λ e. (l, h, omega (arith, ltb-true (lowest (u .fault rs) (length rs)) (length rs) e)))
       (λ e. later)
 
-  small-judged : Small (judged rs)
+  small-judged : SmallCheck (judged rs)
   unfolding judged
   small-judged =
       small-rule (rule 6 fault6) (rule 7 fault7 ∷ rule 8 fault8 ∷ rule 9 fault9 ∷ []) (omega arith) (omega arith)
@@ -88,21 +88,21 @@ module _ (c : Cut) (short-enough : 4 * length (c .records) + broken (c .whole) �
   broken-small : c .whole ≡ false → length (c .records) < 600
   broken-small e = let one : broken (c .whole) ≡ 1 = ap broken e in omega (arith, short-enough, one)
 
-  small-cut : Small (judgedCut c)
+  small-cut : SmallCheck (judgedCut c)
   unfolding judgedCut
   small-cut =
-      small-pick (not (c .whole)) (Refused 4 (length (c .records))) _
+      small-cond (not (c .whole)) (Refused 4 (length (c .records))) _
       (λ e. (omega arith, omega arith, broken-small (not-true (c .whole) e)))
       (λ e.
-      small-pick (ltb mostRecords (length (c .records))) (Refused 5 mostRecords) _
+      small-cond (ltb mostRecords (length (c .records))) (Refused 5 mostRecords) _
       (λ f. (omega arith, omega arith, omega arith))
       (λ f. small-judged (c .records) (ltb-false mostRecords (length (c .records)) f)))
 
 -- Every answer of a check is small.
-pub small-check : (table : List ℕ) → Small (check table)
+pub small-check : (table : List ℕ) → SmallCheck (check table)
 unfolding check cut
 small-check table =
-    small-pick (eqb (length table) 0 || ltb mostBytes (length table)) (Refused 3 0) _
+    small-cond (eqb (length table) 0 || ltb mostBytes (length table)) (Refused 3 0) _
     (λ e. (omega arith, omega arith, omega arith))
     (λ e.
     small-cut (cut table)
@@ -117,11 +117,11 @@ Refused-so (refuses n p k) = 0 < n
 -- Numbers go up to 35, places to 599, counts to 255. A refusal's number is not 0.
 pub record Fits {A : Type 0} (counted : A → ℕ) (answer : Final A) : Type 0 where
   pub numbered : Refused-so answer
-  pub number-fits : number answer ≤ 35
-  pub place-fits : place answer < 600
-  pub count-fits : count counted answer ≤ 255
+  pub number-fits : answerNumber answer ≤ 35
+  pub place-fits : answerPlace answer < 600
+  pub count-fits : answerCount counted answer ≤ 255
 
-success : {A : Type 0} (answer : Final A) → Refused-so answer → number answer ≡ 0 → (a : A) × (answer ≡ result a)
+success : {A : Type 0} (answer : Final A) → Refused-so answer → answerNumber answer ≡ 0 → (a : A) × (answer ≡ result a)
 success (result a) h e = (a, refl)
 success (refuses n p k) h e = absurd (omega arith)
 
@@ -145,7 +145,7 @@ module _ {A : Type 0} (counted : A → ℕ) where
   fits-unless true n f l h x = fits-refusal n 0 0 l h (omega arith) (omega arith)
   fits-unless false n f l h x = x
 
-  fits-accepted : (checked : Checked) (f : ℕ → Final A) → Small checked → ((n : ℕ) → checked ≡ Accepted n → Fits counted (f n)) → Fits counted (accepted checked f)
+  fits-accepted : (checked : Checked) (f : ℕ → Final A) → SmallCheck checked → ((n : ℕ) → checked ≡ Accepted n → Fits counted (f n)) → Fits counted (accepted checked f)
   fits-accepted (Accepted n) f s h = h n refl
   fits-accepted (Refused n p) f s h = fits-refusal n p 0 (omega (arith, s .0)) (omega (arith, s .1)) (s .2) (omega arith)
 
@@ -171,13 +171,13 @@ follow-fits {A} r (choose q n ways) (suc k) (c ∷ l) h p m w = go (ltb c n) ref
     go true e f = f (ltb-true c n e)
     go false e f = (omega (arith, p .0), w .0)
 
-fits-final : {A : Type 0} (place : ℕ) (r : Run A) → place < 600 → FitsRun r → Fits uncounted (final place r)
-fits-final place (gave a k []) h f = fits-result a
-fits-final place (gave a k (c ∷ l)) h f = fits-refusal uncounted 34 place 0 (omega arith) (omega arith) h (omega arith)
-fits-final place (stopped n p []) h f = fits-refusal uncounted n p 0 (omega (arith, f .0)) (omega (arith, f .1)) (f .2) (omega arith)
-fits-final place (stopped n p (c ∷ l)) h f = fits-refusal uncounted 34 p 0 (omega arith) (omega arith) (f .2) (omega arith)
-fits-final place (short p n) h f = fits-refusal uncounted 32 p n (omega arith) (omega arith) (f .0) (f .1)
-fits-final place (beyond p n l) h f = fits-refusal uncounted 33 p n (omega arith) (omega arith) (f .0) (f .1)
+fits-final : {A : Type 0} (answerPlace : ℕ) (r : Run A) → answerPlace < 600 → FitsRun r → Fits uncounted (final answerPlace r)
+fits-final answerPlace (gave a k []) h f = fits-result a
+fits-final answerPlace (gave a k (c ∷ l)) h f = fits-refusal uncounted 34 answerPlace 0 (omega arith) (omega arith) h (omega arith)
+fits-final answerPlace (stopped n p []) h f = fits-refusal uncounted n p 0 (omega (arith, f .0)) (omega (arith, f .1)) (f .2) (omega arith)
+fits-final answerPlace (stopped n p (c ∷ l)) h f = fits-refusal uncounted 34 p 0 (omega arith) (omega arith) (f .2) (omega arith)
+fits-final answerPlace (short p n) h f = fits-refusal uncounted 32 p n (omega arith) (omega arith) (f .0) (f .1)
+fits-final answerPlace (beyond p n l) h f = fits-refusal uncounted 33 p n (omega arith) (omega arith) (f .0) (f .1)
 
 -- The run of a list of an accepted table, and what it answers.
 module _ (table : List ℕ) (n : ℕ) (ok : check table ≡ Accepted n) (l : List ℕ) where
@@ -207,14 +207,14 @@ fits-stepped (refuses n p k) next f h = go (ltb n 32)
 -- ---- the four services
 
 module _ (scratch : ℕ) (table : List ℕ) where
-  pub fits-check : Fits records (checks scratch table)
+  fits-check : Fits recordCount (checks scratch table)
   fits-check =
-      fits-unless records (ltb scratch scratchBytes) 1 _ (omega arith) (omega arith)
+      fits-unless recordCount (ltb scratch scratchBytes) 1 _ (omega arith) (omega arith)
       (go (check table) (small-check table))
     where
-      go : (c : Checked) → Small c → Fits records (accepted c (λ n. result n))
+      go : (c : Checked) → SmallCheck c → Fits recordCount (accepted c (λ n. result n))
       go (Accepted n) s = record { numbered = tt; number-fits = omega arith; place-fits = omega arith; count-fits = omega arith }
-      go (Refused n p) s = fits-refusal records n p 0 (omega (arith, s .0)) (omega (arith, s .1)) (s .2) (omega arith)
+      go (Refused n p) s = fits-refusal recordCount n p 0 (omega (arith, s .0)) (omega (arith, s .1)) (s .2) (omega arith)
 
   pub fits-evaluate : (buffer : ℕ) (list : List ℕ) → Fits uncounted (evaluates scratch buffer table list)
   fits-evaluate buffer list =
@@ -222,7 +222,7 @@ module _ (scratch : ℕ) (table : List ℕ) where
       (fits-unless uncounted (ltb buffer largest) 2 _ (omega arith) (omega arith)
       (fits-accepted uncounted (check table) _ (small-check table) (λ n ok. fits-unless uncounted (ltb mostChoices (length list)) 10 _ (omega arith) (omega arith) (fits-runs table n ok list))))
 
-  pub fits-first : (w : Walk) → Fits uncounted (firsts scratch table w)
+  fits-first : (w : Walk) → Fits uncounted (firsts scratch table w)
   fits-first w =
       fits-unless uncounted (ltb scratch scratchBytes) 1 _ (omega arith) (omega arith)
       (fits-accepted uncounted (check table) _ (small-check table) (λ n ok. fits-unless uncounted (ltb (length (w .entries)) mostChoices) 10 _ (omega arith) (omega arith) (fits-result _)))
@@ -236,8 +236,8 @@ module _ (scratch : ℕ) (table : List ℕ) where
       (fits-stepped (runs table (listed w)) _ (fits-runs table n ok (listed w)) (fits-onward (nextList (tree table) (listed w))))))
 
   -- THEOREM: number, place and count of each service's answer are read back from the packed one.
-  pub check-read-back : ReadBack records (checks scratch table)
-  check-read-back = read-back records (checks scratch table) fits-check
+  pub check-read-back : ReadBack recordCount (checks scratch table)
+  check-read-back = read-back recordCount (checks scratch table) fits-check
 
   pub evaluate-read-back : (buffer : ℕ) (list : List ℕ) → ReadBack uncounted (evaluates scratch buffer table list)
   evaluate-read-back buffer list = read-back uncounted (evaluates scratch buffer table list) (fits-evaluate buffer list)
@@ -252,7 +252,7 @@ module _ (scratch : ℕ) (table : List ℕ) where
 
 -- The answer is neither 1 nor 2, so the scratch is cleared and the result buffer set.
 abbrev pub Late : {A : Type 0} → Final A → Type 0
-Late answer = isEarly (number answer) ≡ false
+Late answer = isEarly (answerNumber answer) ≡ false
 
 module _ {A : Type 0} where
   late-unless : (b : Bool) (n : ℕ) (f : Final A) → 3 ≤ n → Late f → Late (unless b n f)
@@ -260,19 +260,19 @@ module _ {A : Type 0} where
   late-unless false n f h x = x
 
   late-past : (b : Bool) (n : ℕ) (f : Final A) → b ≡ false → Late f → Late (unless b n f)
-  late-past b n f e h = ap (λ x. isEarly (number (unless x n f))) e ∙ h
+  late-past b n f e h = ap (λ x. isEarly (answerNumber (unless x n f))) e ∙ h
 
-  late-accepted : (checked : Checked) (f : ℕ → Final A) → Small checked → ((n : ℕ) → checked ≡ Accepted n → Late (f n)) → Late (accepted checked f)
+  late-accepted : (checked : Checked) (f : ℕ → Final A) → SmallCheck checked → ((n : ℕ) → checked ≡ Accepted n → Late (f n)) → Late (accepted checked f)
   late-accepted (Accepted n) f s h = h n refl
   late-accepted (Refused n p) f s h = late-number n (s .0)
 
-  late-final : (place : ℕ) (r : Run A) → FitsRun r → Late (final place r)
-  late-final place (gave a k []) f = refl
-  late-final place (gave a k (c ∷ l)) f = refl
-  late-final place (stopped n p []) f = late-number n (omega (arith, f .0))
-  late-final place (stopped n p (c ∷ l)) f = refl
-  late-final place (short p n) f = refl
-  late-final place (beyond p n l) f = refl
+  late-final : (answerPlace : ℕ) (r : Run A) → FitsRun r → Late (final answerPlace r)
+  late-final answerPlace (gave a k []) f = refl
+  late-final answerPlace (gave a k (c ∷ l)) f = refl
+  late-final answerPlace (stopped n p []) f = late-number n (omega (arith, f .0))
+  late-final answerPlace (stopped n p (c ∷ l)) f = refl
+  late-final answerPlace (short p n) f = refl
+  late-final answerPlace (beyond p n l) f = refl
 
   late-stepped : (f : Final A) (next : Final (List ℕ)) → Late f → Late next → Late (steppedFrom f next)
   late-stepped (result a) next f h = h

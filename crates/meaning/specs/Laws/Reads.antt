@@ -12,7 +12,7 @@ use lib.ListN.{length, getD}
 use borrow.Author.Tests.{leb-true, eqb-true}
 use mathlib.Mathlib.Data.Bool.Basic.{or-inr, and-elim-left, and-elim-right}
 use Rattle.prelude.proofs.Absurd.{never, impossible}
-use Rattle.prelude.proofs.Truth.{implied}
+use Rattle.prelude.proofs.Truth.{implied, by-lower}
 use Rattle.choices.specs.Tree.{Tree, give, refusal, Gives}
 use Rattle.choices.proofs.Trees.{gives-bind-out}
 use Rattle.values.specs.Value.{Value}
@@ -26,9 +26,10 @@ use Rattle.tables.specs.Record.{Record, Head, nothing, boolean, integer, name, 
 use Rattle.tables.specs.Table.{recordAt, kindAt}
 use Rattle.tables.specs.Sheet.{some as someOf, isCovered, isBound, holdsName, patternOf}
 use Rattle.tables.specs.Check.{check}
-use Rattle.tables.specs.Laws.{each, split}
+use Rattle.tables.specs.Laws.Tests.{each}
 use Rattle.tables.specs.Laws.Kinds.{expression-least, expression-most}
-use Rattle.tables.specs.Accepted.{records, Fine, accepted-fine, operand-lower, operand-sort, bound-operand, bound-last, name-bound, last-sort, fit-known, fit-kind}
+use Rattle.tables.specs.Accepted.{records, Fine}
+use Rattle.tables.specs.Laws.Accepted.{accepted-fine, operand-lower, operand-sort, bound-operand, bound-last, name-bound, last-sort, fit-known, fit-kind}
 use Rattle.meaning.specs.State.{State, unbound, over, under, held, valueIn}
 use Rattle.meaning.specs.Meaning.{orElse, means, meaningTo, meaning}
 use Rattle.patterns.specs.Read.{patternAt}
@@ -229,7 +230,7 @@ module _ (table : List ℕ) (n : ℕ) (ok : check table ≡ Accepted n) where
   reads-to (suc m) r ρ l h e c =
       let low = expression-least (kindAt rs r) e in
       let high = expression-most (kindAt rs r) e in
-      split (kindAt rs r) 4
+      by-lower (kindAt rs r) 4
       (λ u. leaf (λ a σ. meaningTo (sheet table) m a σ) r ρ (kindAt rs r) refl low u h c)
       (λ u.
       let all =

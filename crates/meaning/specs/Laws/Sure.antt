@@ -14,7 +14,7 @@ use Rattle.values.specs.Value.{Value}
 use Rattle.patterns.specs.Binder.{mostBindings}
 use Rattle.meaning.specs.State.{State, under}
 use Rattle.meaning.specs.Meaning.{Sheet, meaningTo, meaning}
-use Rattle.meaning.specs.Laws.Equation.{plain, covered, Each, AllBelow, Downward}
+use Rattle.meaning.specs.Laws.Equation.{covered, Each, AllBelow, Downward, plainOperands}
 use Rattle.meaning.specs.Laws.Closed.{Closed, closed-node}
 
 -- ---- ways and numbers
@@ -59,7 +59,7 @@ unfolding meaningTo
 sure-to s zero r ρ = sure-closed r .of-stop Value 20 (omega arith, omega arith)
 sure-to s (suc n) r ρ =
     closed-node (λ A t. Sure t) (Unit {0}) r (sure-closed r) (λ a σ. meaningTo s n a σ) ρ (s .pattern) (s .node r) (λ c. tt)
-    (each-one (λ a. Sure (meaningTo s n a ρ)) (λ a. sure-to s n a ρ) (plain (s .node r)))
+    (each-one (λ a. Sure (meaningTo s n a ρ)) (λ a. sure-to s n a ρ) (plainOperands (s .node r)))
     (each-one _ (λ a β c. sure-to s n a (under ρ β)) (covered (s .node r)))
 
 -- THEOREM: a run never meets a choice with no way or with more than 255, and refuses only by the numbers of document 01.
@@ -126,7 +126,7 @@ unfolding meaningTo
 placed-to s d zero r ρ = omega arith
 placed-to s d (suc n) r ρ =
     closed-node (λ A t. Placed r t) (Unit {0}) r (placed-closed r) (λ a σ. meaningTo s n a σ) ρ (s .pattern) (s .node r) (λ c. tt)
-    (each-lower r _ (λ a l. placed-up a r (meaningTo s n a ρ) (omega arith) (placed-to s d n a ρ)) (plain (s .node r)) (d r .plain-ones))
+    (each-lower r _ (λ a l. placed-up a r (meaningTo s n a ρ) (omega arith) (placed-to s d n a ρ)) (plainOperands (s .node r)) (d r .plain-ones))
     (each-lower r _ (λ a l β c. placed-up a r (meaningTo s n a (under ρ β)) (omega arith) (placed-to s d n a (under ρ β))) (covered (s .node r)) (d r .covered-ones))
 
 -- THEOREM: the place of a refusal is the record evaluated or one below it.

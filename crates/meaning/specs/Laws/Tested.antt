@@ -23,7 +23,8 @@ use Rattle.patterns.specs.Binder.{Formed, bound, refused as unformed, formed}
 use Rattle.meaning.specs.State.{State, under}
 use Rattle.meaning.specs.Loose.{Outcomes, _then_, gives, orElse, builtAt, Meanings, isTrue, formedAt, bindingsOf, holds, satisfying, untilFalse, untilTrue, collected, integersAt, integerBindings, AllTested, AllFalse}
 use Rattle.meaning.specs.Kinds.{FirstOf, OnlyOne, Several, Added, Integers}
-use Rattle.meaning.specs.Laws.Clauses.{value≢refusal, found-out, none-in, true-in}
+use Rattle.meaning.specs.Laws.Clauses.{found-out, none-in, true-in}
+use Rattle.choices.proofs.Trees.{value≢refusal}
 
 -- ---- one after the other
 

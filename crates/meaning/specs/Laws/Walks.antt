@@ -7,9 +7,9 @@ use native.Mathlib.Omega.{arith}
 use lib.ListN.{length, take, drop, replicate, length-append, length-take, length-replicate, take-append-drop}
 use lib.Seq.{take-at, drop-at, take-take, take-append-seam, drop-append-le, take-add}
 use Rattle.choices.specs.Tree.{mostChoices}
-use Rattle.choices.specs.State.{padded}
+use Rattle.choices.specs.Lists.{padded}
 use Rattle.meaning.specs.Walk.{Walk, listed, overwritten, Shows}
-use Rattle.meaning.specs.Calls.{Part, lent, returned}
+use Rattle.meaning.specs.Calls.{Part, returned, lentWalk}
 
 pub padded-length : (l : List ℕ) → length l ≤ mostChoices → length (padded l) ≡ mostChoices
 padded-length l h = omega (arith, length-append l (replicate (mostChoices - length l) 0), length-replicate {A = ℕ} (mostChoices - length l) 0)
@@ -17,16 +17,10 @@ padded-length l h = omega (arith, length-append l (replicate (mostChoices - leng
 -- ---- showing a list
 
 module _ (w : Walk) (l : List ℕ) (s : Shows w l) where
-  -- It is short, and there are 64 entries.
-  sizes : mostChoices ≤ length (padded l)
-  sizes = omega (arith, length-append l (replicate (mostChoices - length l) 0), length-replicate {A = ℕ} (mostChoices - length l) 0)
-
+  -- It is short.
   pub shown-short : length l ≤ mostChoices
   shown-short =
       omega (arith, ap length (s .its-entries), length-take mostChoices (w .entries), length-append l (replicate (mostChoices - length l) 0))
-
-  pub shown-entries : mostChoices ≤ length (w .entries)
-  shown-entries = omega (arith, ap length (s .its-entries), length-take mostChoices (w .entries), sizes)
 
   -- The entries below the length are the list.
   pub listed-shown : listed w ≡ l
@@ -56,14 +50,14 @@ walk-with : (w : Walk) (es : List ℕ) → es ≡ w .entries → _≡_ {A = Walk
 walk-with w es e = ap (λ (x : List ℕ). record { entries = x; len = w .len }) e
 
 -- What is lent and left as it was is the walk again.
-pub returned-lent : (p : Part) (w : Walk) → returned p w (lent p w) ≡ w
+pub returned-lent : (p : Part) (w : Walk) → returned p w (lentWalk p w) ≡ w
 returned-lent p w =
     walk-with w _
     (ap (λ (x : List ℕ). x ++ drop (p .from + p .count) (w .entries)) (sym (take-add (p .from) (p .count) (w .entries)))
     ∙ take-append-drop (p .from + p .count) (w .entries))
 
 -- A part of 64 entries starts with the first.
-pub lent-first : (p : Part) (w : Walk) → mostChoices ≤ length (lent p w .entries) → p .from ≡ 0
+pub lent-first : (p : Part) (w : Walk) → mostChoices ≤ length (lentWalk p w .entries) → p .from ≡ 0
 lent-first p w h =
     ⊎-elim (λ e. e) (λ few. absurd (omega (arith, length-take (p .count) (drop (p .from) (w .entries))))) (p .fair)
 
@@ -78,12 +72,12 @@ from-first a n l es e h = subst (λ b. mostChoices ≤ length (take n (drop b es
         ∙ ap (λ (x : List ℕ). padded l ++ x) (sym (drop-append-le mostChoices (take n es) (drop n es) k) ∙ ap (drop mostChoices) (take-append-drop n es))
 
 -- What a granted call writes into such a part is written into the walk.
-pub returned-written : (p : Part) (w : Walk) (l : List ℕ) → mostChoices ≤ length (lent p w .entries) → returned p w (overwritten l (lent p w)) ≡ overwritten l w
+pub returned-written : (p : Part) (w : Walk) (l : List ℕ) → mostChoices ≤ length (lentWalk p w .entries) → returned p w (overwritten l (lentWalk p w)) ≡ overwritten l w
 unfolding overwritten
 returned-written p w l h = ap (λ (x : List ℕ). record { entries = x; len = length l }) (from-first (p .from) (p .count) l (w .entries) (lent-first p w h) h)
 
 -- A step that is lent such a part reads the walk's list.
-pub listed-lent : (p : Part) (w : Walk) → mostChoices ≤ length (lent p w .entries) → w .len ≤ mostChoices → listed (lent p w) ≡ listed w
+pub listed-lent : (p : Part) (w : Walk) → mostChoices ≤ length (lentWalk p w .entries) → w .len ≤ mostChoices → listed (lentWalk p w) ≡ listed w
 listed-lent p w h k =
     let n : mostChoices ≤ p .count = omega (arith, length-take (p .count) (drop (p .from) (w .entries))) in
     ap (λ a. take (w .len) (take (p .count) (drop a (w .entries)))) (lent-first p w h)

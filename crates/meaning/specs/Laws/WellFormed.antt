@@ -11,6 +11,7 @@ use lib.Dec.{ltb}
 use lib.ListN.{length, getD, getD-replicate}
 use Rattle.prelude.proofs.Absurd.{impossible}
 use Rattle.prelude.specs.Membership.{In}
+use Rattle.prelude.proofs.Membership.{at-in}
 use Rattle.choices.specs.Tree.{Tree, bind, value, Gives, Run, gave, stopped, short, beyond, run, Final, result, final, mostChoices}
 use Rattle.choices.proofs.Outcomes.{follow-given, Given}
 use Rattle.values.specs.Value.{Kind, set, sequence, map, tuple, Value, boolean, integer, collection, Items, none, more, count, size, sizes, valueLimit as largest, Sound, SoundItems, PairedFrom, WellFormed}
@@ -34,12 +35,11 @@ use Rattle.tables.specs.declared.Checked.the-variants.{Accepted, Refused}
 use Rattle.tables.specs.Check.{check}
 use Rattle.meaning.specs.Node.{Node, truth, whole, named, unaryOf, binaryOf, connective, if, enumeration, range, let-in, let-be, quantified, iota, set-comprehension, sequence-comprehension, map-comprehension, application, no-expression}
 use Rattle.meaning.specs.State.{State, unbound, over, under, held, valueIn}
-use Rattle.meaning.specs.Meaning.{Evaluates, at, builtAt, orElse, allOf, bothOf, rightOf, isTrue, enumerated, formedAt, membersAt, bindingsOf, holds, satisfying, chosen, matched, satisfied, quantify, nameOf, unique, collected, addOne, addPair, integersAt, integerBindings, comprehension, means, Sheet, meaningTo, meaning}
+use Rattle.meaning.specs.Meaning.{Evaluates, at, builtAt, orElse, allOf, bothOf, rightOf, isTrue, enumerated, formedAt, membersAt, bindingsOf, holds, satisfying, chosen, matched, satisfied, quantify, unique, collected, addOne, addPair, integersAt, integerBindings, comprehension, means, Sheet, meaningTo, meaning, patternName}
 use Rattle.meaning.specs.Read.{sheet}
 use Rattle.meaning.specs.Service.{scratchBytes, last, tree, unless, accepted, evaluates}
-use Rattle.meaning.specs.Laws.Agreement.{at-in}
-use Rattle.meaning.specs.Laws.Only.{Only, only-give, only-stop, only-bind, Any, only-any, only-pick, only-else}
-use Rattle.meaning.specs.Laws.Proper.{Numbered, Literal, proper}
+use Rattle.meaning.specs.Laws.Only.{Only, only-give, only-stop, only-bind, Any, only-any, only-cond, only-else}
+use Rattle.meaning.specs.Laws.Proper.{Literal, proper, WellNumbered}
 
 -- ---- answers
 
@@ -130,7 +130,7 @@ only-members : (r : ℕ) (v : Value) → WellFormed v → Only (λ vs. WellForme
 only-members r v h = only-else (λ vs. WellFormed (collection set vs)) 20 r (asSet v) (λ vs e. set-well v vs h e)
 
 only-chosen : {A : Type 0} (P : A → Type 0) (r : ℕ) (bs : List Binding) (f : Binding → Tree A) → AllFine bs → ((b : Binding) → FineState b → Only P (f b)) → Only P (bind (chosen r bs) f)
-only-chosen P r bs f h k a g = k (getD bs (g .0) nothing) (h _ (at-in bs (g .0) (g .1))) a (g .2)
+only-chosen P r bs f h k a g = k (getD bs (g .0) nothing) (h _ (at-in bs (g .0) nothing (g .1))) a (g .2)
 
 only-matched : (r : ℕ) (l : Bool) (bs : List Binding) (f : Binding → Tree Value) → AllFine bs → ((b : Binding) → FineState b → Only WellFormed (f b)) → Only WellFormed (bind (matched r l bs) f)
 only-matched r l [] f h k = only-stop _ 23 r
@@ -143,7 +143,7 @@ only-satisfied r (b ∷ bs) f h k = only-chosen WellFormed r (b ∷ bs) f h k
 
 only-unique : (r : ℕ) (p : Pattern) (bs : List Binding) → AllFine bs → Only WellFormed (unique r p bs)
 only-unique r p [] h = only-stop _ 25 r
-only-unique r p (b ∷ []) h = only-else WellFormed 25 r (valueIn b (nameOf p)) (λ v e. fine-value b (nameOf p) v (h b (inl refl)) e)
+only-unique r p (b ∷ []) h = only-else WellFormed 25 r (valueIn b (patternName p)) (λ v e. fine-value b (patternName p) v (h b (inl refl)) e)
 only-unique r p (b ∷ c ∷ bs) h = only-stop _ 25 r
 
 -- ---- enumerations
@@ -164,7 +164,7 @@ paired-from false none h = absurd (omega arith)
 paired-from true (more k vs) h = paired-from false vs (omega arith)
 paired-from false (more v vs) h = paired-from true vs (omega arith)
 
-enumerated-fine : (k : Kind) (n : ℕ) → Numbered k n → (vs : Items) → Items-of n vs → FineAnswer (enumerated k vs)
+enumerated-fine : (k : Kind) (n : ℕ) → WellNumbered k n → (vs : Items) → Items-of n vs → FineAnswer (enumerated k vs)
 enumerated-fine set n h vs (s, c) = setOf-fine vs s
 enumerated-fine sequence n h vs (s, c) = sequenceOf-fine vs s
 enumerated-fine map n h vs (s, c) = mapOf-fine vs (paired-from true vs (ap (λ m. m % 2) c ∙ h)) s
@@ -229,7 +229,7 @@ module _ (rec : Evaluates) (well : (a : ℕ) (ρ : State) → FineState ρ → O
   only-collected k test add f vs g [] h = only-give (Good k) vs g
   only-collected k test add f vs g (b ∷ bs) h =
       only-bind Any (Good k) (test b) _ (only-any (test b))
-      (λ t i. only-pick (Good k) t (bind (add vs b) (λ ws. collected test add ws bs)) (collected test add vs bs)
+      (λ t i. only-cond (Good k) t (bind (add vs b) (λ ws. collected test add ws bs)) (collected test add vs bs)
       (only-bind (Good k) (Good k) (add vs b) _ (f vs b g (h b (inl refl))) (λ ws j. only-collected k test add f ws j bs (λ d l. h d (inr l))))
       (only-collected k test add f vs g bs (λ d l. h d (inr l))))
 
@@ -258,7 +258,7 @@ module _ (rec : Evaluates) (well : (a : ℕ) (ρ : State) → FineState ρ → O
   only-node pattern r (connective c a b) l ρ h = only-bind WellFormed WellFormed (rec a ρ) _ (well a ρ h) (λ v i. only-right r b ρ h (left c v) (left-fine c v))
   only-node pattern r (if t a b) l ρ h =
       only-bind Any WellFormed (rec t ρ) _ (only-any (rec t ρ))
-      (λ v i. only-bind Any WellFormed (isTrue r v) _ (only-any (isTrue r v)) (λ y j. only-pick WellFormed y (rec a ρ) (rec b ρ) (well a ρ h) (well b ρ h)))
+      (λ v i. only-bind Any WellFormed (isTrue r v) _ (only-any (isTrue r v)) (λ y j. only-cond WellFormed y (rec a ρ) (rec b ρ) (well a ρ h) (well b ρ h)))
   only-node pattern r (enumeration k os) l ρ h =
       only-bind (Items-of (length os)) WellFormed (allOf rec os ρ) _ (only-all os ρ h) (λ vs i. only-at r (enumerated k vs) (enumerated-fine k (length os) l vs i))
   only-node pattern r (range a b) l ρ h = only-both a b ρ h _ (λ v w i j. only-at r (rangeOf v w) (range-fine v w i j))
@@ -307,7 +307,7 @@ pub tree-well-formed : (table : List ℕ) (n : ℕ) → check table ≡ Accepted
 tree-well-formed table n ok v g = well-formed table n ok (last (sheet table)) unbound fine-unbound v g
 
 -- THEOREM: the value of a run under a list is well-formed.
-pub run-well-formed : (table : List ℕ) (n : ℕ) → check table ≡ Accepted n → (l : List ℕ) (v : Value) (k : ℕ) (rest : List ℕ) → run (tree table) l ≡ gave v k rest → WellFormed v
+run-well-formed : (table : List ℕ) (n : ℕ) → check table ≡ Accepted n → (l : List ℕ) (v : Value) (k : ℕ) (rest : List ℕ) → run (tree table) l ≡ gave v k rest → WellFormed v
 run-well-formed table n ok l v k rest e =
     tree-well-formed table n ok v (subst (Given (tree table)) e (follow-given (tree table) mostChoices l))
 

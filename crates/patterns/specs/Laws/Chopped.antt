@@ -7,7 +7,8 @@ use Rattle.integers.specs.declared.Order.the-variants.{Lower}
 use Rattle.values.specs.Value.{Value, order, Before, Ascending}
 use Rattle.values.proofs.Order.{irreflexive, asymmetric}
 use Rattle.patterns.specs.Ways.{halves, splits}
-use Rattle.patterns.specs.Units.{Shared, in-splits}
+use Rattle.patterns.specs.Units.{Shared}
+use Rattle.patterns.specs.Laws.Units.{in-splits}
 use Rattle.patterns.specs.Pattern.{itemsOf}
 use Rattle.patterns.specs.Laws.Named.{PartOf, shared-left, shared-right, part-ascending}
 

@@ -16,8 +16,8 @@ use Rattle.values.specs.Value.{Kind, set, sequence, map as mapping, tuple, numb
 use Rattle.values.specs.Items.{same}
 use Rattle.values.proofs.Order.{number-inj, same-true, true-same}
 use Rattle.patterns.specs.Ways.{gather, Halves, halves}
-use Rattle.patterns.specs.Members.{in-gather, gather-in}
-use Rattle.patterns.specs.Units.{in-splits, in-cuts, in-orders}
+use Rattle.patterns.specs.Laws.Members.{in-gather, gather-in}
+use Rattle.patterns.specs.Laws.Units.{in-splits, in-cuts, in-orders}
 use Rattle.patterns.specs.Binding.{Cell, free, is, clash, Binding, names, nothing, only, cellOf, agree, merge, consistent, withEach, together}
 use Rattle.patterns.specs.Pattern.{Pattern, name, any, literal, each, halved, Patterns, nil, cons, parts, listOf, itemsOf, contents, arrangements, divisions, met, split, leftOf, rightOf, matches, matchEach}
 use Rattle.patterns.specs.Binder.{bindings}

@@ -1,28 +1,17 @@
 -- Bindings put together: an order of putting together does not matter, and what is consistent together is so apart.
 use mathlib.Core.Path.{_≡_, refl, sym, ap, ap₂, _∙_}
-use mathlib.Core.Bool.{Bool, true, false, _&&_, cond}
+use mathlib.Core.Bool.{Bool, true, false, cond}
 use mathlib.Core.List.{[], _∷_}
 use Prim.Native.Nat.{ℕ, zero, suc}
 use native.Mathlib.Omega.{arith}
 use lib.ListN.{length, replicate}
-use Rattle.prelude.proofs.Absurd.{impossible}
+use Rattle.prelude.proofs.Absurd.{true-false}
 use Rattle.values.specs.Value.{Value}
 use Rattle.values.specs.Items.{same}
 use Rattle.values.proofs.Order.{same-true}
 use Rattle.patterns.specs.Binding.{Cell, free, is, clash, Binding, names, nothing, agree, merge, consistent}
 
-pub true-false : {A : Type 0} → true ≡ false → A
-true-false e = impossible cc
-
-pub both-true : (s t : Bool) → s ≡ true → t ≡ true → (s && t) ≡ true
-both-true true t e f = f
-both-true false t e f = e
-
-pub true-both : (s t : Bool) → (s && t) ≡ true → (s ≡ true) × (t ≡ true)
-true-both true t e = (refl, e)
-true-both false t e = true-false (sym e)
-
-agree-free : (c : Cell) → agree c free ≡ c
+pub agree-free : (c : Cell) → agree c free ≡ c
 agree-free free = refl
 agree-free (is v) = refl
 agree-free clash = refl

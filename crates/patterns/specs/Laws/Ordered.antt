@@ -104,7 +104,7 @@ pub bindings-asymmetric : (a b : Binding) → orderBindings a b ≡ Lower → or
 bindings-asymmetric a b p q = lower-higher q (bindings-flip a b ∙ ap flip p)
 
 -- THEOREM: of any two bindings the first is lower, or they are equal, or the second is lower
-pub bindings-total : (a b : Binding) → (orderBindings a b ≡ Lower) ⊎ ((a ≡ b) ⊎ (orderBindings b a ≡ Lower))
+bindings-total : (a b : Binding) → (orderBindings a b ≡ Lower) ⊎ ((a ≡ b) ⊎ (orderBindings b a ≡ Lower))
 bindings-total a b = go (orderBindings a b) refl
   where
     go : (o : Order) → orderBindings a b ≡ o → (orderBindings a b ≡ Lower) ⊎ ((a ≡ b) ⊎ (orderBindings b a ≡ Lower))

@@ -1,16 +1,17 @@
 -- The orders of units by their number: how many there are, and which unit stands where.
 use mathlib.Core.Path.{_≡_, refl, sym, ap, _∙_}
 use mathlib.Core.Logic.{inl, inr}
-use mathlib.Core.List.{List, [], _∷_, _++_, map}
-use Prim.Native.Nat.{ℕ, zero, suc, _+_, _*_, _-_, _≤_, _<_}
+use mathlib.Core.List.{List, [], _∷_, _++_}
+use Prim.Native.Nat.{ℕ, zero, suc, _+_, _*_, _≤_, _<_}
 use native.Mathlib.Nat.{suc-mul, zero-mul}
 use native.Mathlib.Omega.{arith}
 use lib.ListN.{length, getD, length-append, length-map, List·getD-append}
 use lib.Seq.{getD-append-add}
+use Rattle.prelude.proofs.Lists.{map-at}
 use Rattle.prelude.specs.Membership.{In}
 use Rattle.patterns.specs.Ways.{gather, placed, orders}
-use Rattle.patterns.specs.Members.{in-gather}
-use Rattle.patterns.specs.Units.{in-placed}
+use Rattle.patterns.specs.Laws.Members.{in-gather}
+use Rattle.patterns.specs.Laws.Units.{in-placed}
 
 unfoldable pub factorial : ℕ → ℕ
 factorial zero = 1
@@ -64,11 +65,6 @@ module _ {A : Type 0} where
       gather-length (suc (length xs)) (orders xs) (placed x) (λ ys i. placed-length x ys ∙ ap suc (order-length xs ys i))
       ∙ ap (λ (k : ℕ). k * suc (length xs)) (orders-length xs)
 
-  map-at : (f : List A → List A) (ls : List (List A)) (i : ℕ) → i < length ls → getD (map f ls) i [] ≡ f (getD ls i [])
-  map-at f [] i h = absurd (omega arith)
-  map-at f (l ∷ ls) zero h = refl
-  map-at f (l ∷ ls) (suc i) h = map-at f ls i (omega arith)
-
   -- the unit x put at r: before it the units as they were, after it moved by one
   placed-here : (x : A) (ys : List A) (r : ℕ) (z : A) → r ≤ length ys → getD (getD (placed x ys) r []) r z ≡ x
   unfolding placed
@@ -76,15 +72,15 @@ module _ {A : Type 0} where
   placed-here x [] (suc r) z h = absurd (omega arith)
   placed-here x (y ∷ ys) zero z h = refl
   placed-here x (y ∷ ys) (suc r) z h =
-      ap (λ (l : List A). getD l (suc r) z) (map-at (λ zs. y ∷ zs) (placed x ys) r (omega (arith, placed-length x ys))) ∙ placed-here x ys r z (omega arith)
+      ap (λ (l : List A). getD l (suc r) z) (map-at (λ zs. y ∷ zs) (placed x ys) r [] [] (omega (arith, placed-length x ys))) ∙ placed-here x ys r z (omega arith)
 
   placed-before : (x : A) (ys : List A) (r i : ℕ) (z : A) → r ≤ length ys → i < r → getD (getD (placed x ys) r []) i z ≡ getD ys i z
   unfolding placed
   placed-before x [] r i z h l = absurd (omega arith)
   placed-before x (y ∷ ys) zero i z h l = absurd (omega arith)
-  placed-before x (y ∷ ys) (suc r) zero z h l = ap (λ (l : List A). getD l 0 z) (map-at (λ zs. y ∷ zs) (placed x ys) r (omega (arith, placed-length x ys)))
+  placed-before x (y ∷ ys) (suc r) zero z h l = ap (λ (l : List A). getD l 0 z) (map-at (λ zs. y ∷ zs) (placed x ys) r [] [] (omega (arith, placed-length x ys)))
   placed-before x (y ∷ ys) (suc r) (suc i) z h l =
-      ap (λ (l : List A). getD l (suc i) z) (map-at (λ zs. y ∷ zs) (placed x ys) r (omega (arith, placed-length x ys))) ∙ placed-before x ys r i z (omega arith) (omega arith)
+      ap (λ (l : List A). getD l (suc i) z) (map-at (λ zs. y ∷ zs) (placed x ys) r [] [] (omega (arith, placed-length x ys))) ∙ placed-before x ys r i z (omega arith) (omega arith)
 
   placed-after : (x : A) (ys : List A) (r i : ℕ) (z : A) → r ≤ length ys → r ≤ i → getD (getD (placed x ys) r []) (suc i) z ≡ getD ys i z
   unfolding placed
@@ -93,7 +89,7 @@ module _ {A : Type 0} where
   placed-after x (y ∷ ys) zero i z h l = refl
   placed-after x (y ∷ ys) (suc r) zero z h l = absurd (omega arith)
   placed-after x (y ∷ ys) (suc r) (suc i) z h l =
-      ap (λ (l : List A). getD l (suc (suc i)) z) (map-at (λ zs. y ∷ zs) (placed x ys) r (omega (arith, placed-length x ys))) ∙ placed-after x ys r i z (omega arith) (omega arith)
+      ap (λ (l : List A). getD l (suc (suc i)) z) (map-at (λ zs. y ∷ zs) (placed x ys) r [] [] (omega (arith, placed-length x ys))) ∙ placed-after x ys r i z (omega arith) (omega arith)
 
   -- The order at q * n + r of n units is the order at q of the units but the first, with the first put at r.
   module _ (x : A) (xs : List A) (q r : ℕ) (z : A) (lq : q < factorial (length xs)) (lr : r < suc (length xs)) where

@@ -38,7 +38,7 @@ put-order (c ∷ b) zero v w h = rw (bindings-refl b) (after-rest (order v w))
 put-order (c ∷ b) (suc x) v w h = rw (cell-refl c) (put-order b x v w (omega arith))
 
 -- two bindings of one name are ordered as its values
-pub only-order : (x : ℕ) (v w : Value) → x < names → orderBindings (only x v) (only x w) ≡ order v w
+only-order : (x : ℕ) (v w : Value) → x < names → orderBindings (only x v) (only x w) ≡ order v w
 only-order x v w h = put-order nothing x v w h
 
 -- ---- in order already

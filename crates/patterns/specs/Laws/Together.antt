@@ -1,5 +1,5 @@
 -- Bindings put together with others, as lists: each law an equation.
-use mathlib.Core.Path.{_≡_, refl, sym, ap, ap₂, subst, _∙_}
+use mathlib.Core.Path.{_≡_, refl, sym, ap, ap₂, _∙_}
 use mathlib.Core.Bool.{Bool, true, false, cond}
 use mathlib.Core.Logic.{inl, inr}
 use mathlib.Core.List.{List, [], _∷_, _++_, map}
@@ -10,11 +10,12 @@ use Rattle.prelude.proofs.Membership.{in-one, in-picked}
 use Rattle.values.specs.Value.{Value}
 use Rattle.values.specs.Items.{same}
 use Rattle.patterns.specs.Ways.{gather}
-use Rattle.patterns.specs.Members.{in-gather}
+use Rattle.patterns.specs.Laws.Members.{in-gather}
 use Rattle.patterns.specs.Binding.{free, is, clash, Binding, names, nothing, only, merge, consistent, withEach, together}
 use Rattle.patterns.specs.Pattern.{Pattern, name, any, literal, each, halved, Patterns, nil, cons, parts, contents, met, split, leftOf, rightOf, matches, matchEach}
-use Rattle.patterns.specs.Laws.Matched.{in-together, matched, match-sized, matchedEach, each-sized}
-use Rattle.patterns.specs.Laws.Merging.{true-false, merge-assoc, merge-nothing, nothing-merge, consistent-left, consistent-right}
+use Rattle.patterns.specs.Laws.Matched.{in-together, matched, match-sized}
+use Rattle.patterns.specs.Laws.Merging.{merge-assoc, merge-nothing, nothing-merge, consistent-left, consistent-right}
+use Rattle.prelude.proofs.Absurd.{true-false}
 
 -- ---- lists
 
@@ -53,14 +54,14 @@ unfolding together
 together-append [] ys cs = refl
 together-append (x ∷ xs) ys cs = ap (λ (l : List Binding). withEach x cs ++ l) (together-append xs ys cs) ∙ sym (append-assoc (withEach x cs) (together xs cs) (together ys cs))
 
-pub not-right : (a b : Binding) → consistent b ≡ false → consistent (merge a b) ≡ false
+not-right : (a b : Binding) → consistent b ≡ false → consistent (merge a b) ≡ false
 not-right a b e = go (consistent (merge a b)) refl
   where
     go : (t : Bool) → consistent (merge a b) ≡ t → t ≡ false
     go true f = sym (consistent-right a b f) ∙ e
     go false f = refl
 
-pub not-left : (a b : Binding) → consistent a ≡ false → consistent (merge a b) ≡ false
+not-left : (a b : Binding) → consistent a ≡ false → consistent (merge a b) ≡ false
 not-left a b e = go (consistent (merge a b)) refl
   where
     go : (t : Bool) → consistent (merge a b) ≡ t → t ≡ false
@@ -148,7 +149,7 @@ set-consistent (free ∷ b) (suc x) v e = set-consistent b x v e
 set-consistent (is w ∷ b) (suc x) v e = set-consistent b x v e
 set-consistent (clash ∷ b) (suc x) v e = e
 
-pub only-consistent : (x : ℕ) (v : Value) → consistent (only x v) ≡ true
+only-consistent : (x : ℕ) (v : Value) → consistent (only x v) ≡ true
 only-consistent x v = set-consistent nothing x v (nothing-fine .agrees)
 
 mutual

@@ -9,42 +9,31 @@ use native.Mathlib.Omega.{arith}
 use lib.Dec.{eqb, leb}
 use lib.ListN.{length, getD}
 use borrow.Author.Tests.{eqb-true, eq-eqb, ltb-true, lt-ltb}
+use mathlib.Mathlib.Data.Bool.Basic.{or-inl, or-inr}
 use Rattle.prelude.proofs.Absurd.{impossible}
+use Rattle.prelude.proofs.Truth.{or-cases}
 use Rattle.prelude.specs.Membership.{In}
 use Rattle.prelude.proofs.Membership.{in-one, in-picked, picked-in}
 use Rattle.values.specs.Value.{Kind, set, sequence, map as mapping, tuple, Value, boolean, collection}
 use Rattle.patterns.specs.Ways.{exists, Halves, halves}
-use Rattle.patterns.specs.Units.{Inserted, Permuted, in-splits, in-cuts, in-orders}
-use Rattle.patterns.specs.Pattern.{Pattern, name, any, literal, each, halved, Patterns, nil, cons, parts, itemsOf, contents, arrangements, divisions, met, split, leftOf, rightOf, mostSplit, tooLarge, wide, wideEach}
+use Rattle.patterns.specs.Units.{Inserted, Permuted}
+use Rattle.patterns.specs.Laws.Units.{in-splits, in-cuts, in-orders}
+use Rattle.patterns.specs.Pattern.{Pattern, name, any, literal, each, halved, Patterns, nil, cons, parts, itemsOf, contents, arrangements, divisions, met, split, leftOf, rightOf, mostSplit, wide, wideEach, isTooLarge}
 use Rattle.patterns.specs.Binder.{mostBindings, bound, refused, few, bindings, formed}
 use Rattle.patterns.specs.Laws.Matched.{contents-of, of-contents}
 use Rattle.patterns.specs.Wide.{Wide, WideAmong, WideInTurn}
-
--- ---- tests
-
-or-out : (a b : Bool) → a || b ≡ true → (a ≡ true) ⊎ (b ≡ true)
-or-out true b e = inl refl
-or-out false b e = inr e
-
-or-first : (a b : Bool) → a ≡ true → a || b ≡ true
-or-first true b e = refl
-or-first false b e = impossible cc
-
-or-second : (a b : Bool) → b ≡ true → a || b ≡ true
-or-second true b e = refl
-or-second false b e = e
 
 -- It is so for one of them.
 exists-out : {A : Type 0} (xs : List A) (f : A → Bool) → exists xs f ≡ true → (x : A) × In x xs × (f x ≡ true)
 unfolding exists
 exists-out [] f e = impossible cc
-exists-out (x ∷ xs) f e = ⊎-elim (λ d. (x, inl refl, d)) (λ d. let (y, i, h) = exists-out xs f d in (y, inr i, h)) (or-out (f x) (exists xs f) e)
+exists-out (x ∷ xs) f e = ⊎-elim (λ d. (x, inl refl, d)) (λ d. let (y, i, h) = exists-out xs f d in (y, inr i, h)) (or-cases (f x) (exists xs f) e)
 
 exists-in : {A : Type 0} (x : A) (xs : List A) (f : A → Bool) → In x xs → f x ≡ true → exists xs f ≡ true
 unfolding exists
 exists-in x [] f i e = absurd i
-exists-in x (y ∷ xs) f (inl d) e = or-first (f y) (exists xs f) (ap f (sym d) ∙ e)
-exists-in x (y ∷ xs) f (inr i) e = or-second (f y) (exists xs f) (exists-in x xs f i e)
+exists-in x (y ∷ xs) f (inl d) e = or-inl (f y) (exists xs f) (ap f (sym d) ∙ e)
+exists-in x (y ∷ xs) f (inr i) e = or-inr (f y) (exists xs f) (exists-in x xs f i e)
 
 -- ---- any member at any place
 
@@ -119,27 +108,27 @@ split-out k v h i = go (contents k v) refl i
 split-in : (k : Kind) (v : Value) (vs : List Value) (h : Halves Value) → v ≡ collection k (itemsOf vs) → In h (divisions k vs) → In h (split k (contents k v))
 split-in k v vs h e i = subst (λ (o : Option (List Value)). In h (split k o)) (sym (ap (contents k) e ∙ contents-of k vs)) i
 
-large-out : (v : Value) → tooLarge set (contents set v) ≡ true → (vs : List Value) × (v ≡ collection set (itemsOf vs)) × (mostSplit < length vs)
+large-out : (v : Value) → isTooLarge set (contents set v) ≡ true → (vs : List Value) × (v ≡ collection set (itemsOf vs)) × (mostSplit < length vs)
 large-out v e = go (contents set v) refl e
   where
-    go : (o : Option (List Value)) → contents set v ≡ o → tooLarge set o ≡ true → (vs : List Value) × (v ≡ collection set (itemsOf vs)) × (mostSplit < length vs)
+    go : (o : Option (List Value)) → contents set v ≡ o → isTooLarge set o ≡ true → (vs : List Value) × (v ≡ collection set (itemsOf vs)) × (mostSplit < length vs)
     go absent d e = impossible cc
     go (some vs) d e = (vs, of-contents set v vs d, ltb-true mostSplit (length vs) e)
 
-large-in : (v : Value) (vs : List Value) → v ≡ collection set (itemsOf vs) → mostSplit < length vs → tooLarge set (contents set v) ≡ true
-large-in v vs e h = ap (tooLarge set) (ap (contents set) e ∙ contents-of set vs) ∙ lt-ltb mostSplit (length vs) h
+large-in : (v : Value) (vs : List Value) → v ≡ collection set (itemsOf vs) → mostSplit < length vs → isTooLarge set (contents set v) ≡ true
+large-in v vs e h = ap (isTooLarge set) (ap (contents set) e ∙ contents-of set vs) ∙ lt-ltb mostSplit (length vs) h
 
 -- Only a set is too large, and only sets and sequences have halves.
-never-large : (o : Option (List Value)) → tooLarge sequence o ≡ true → ⊥
+never-large : (o : Option (List Value)) → isTooLarge sequence o ≡ true → ⊥
 never-large absent e = impossible cc
 never-large (some vs) e = impossible cc
 
-no-map-halves : (o : Option (List Value)) (f : Halves Value → Bool) → tooLarge mapping o || exists (split mapping o) f ≡ true → ⊥
+no-map-halves : (o : Option (List Value)) (f : Halves Value → Bool) → isTooLarge mapping o || exists (split mapping o) f ≡ true → ⊥
 unfolding exists
 no-map-halves absent f e = impossible cc
 no-map-halves (some vs) f e = impossible cc
 
-no-tuple-halves : (o : Option (List Value)) (f : Halves Value → Bool) → tooLarge tuple o || exists (split tuple o) f ≡ true → ⊥
+no-tuple-halves : (o : Option (List Value)) (f : Halves Value → Bool) → isTooLarge tuple o || exists (split tuple o) f ≡ true → ⊥
 unfolding exists
 no-tuple-halves absent f e = impossible cc
 no-tuple-halves (some vs) f e = impossible cc
@@ -171,27 +160,27 @@ mutual
       (λ d.
       let (h, i, g) = exists-out (split set (contents set v)) (λ h. wide p (leftOf set h) || wide q (rightOf set h)) d in
       let (vs, f, j) = split-out set v h i in
-      (vs, f, inr (h .left, h .right, in-splits vs h .0 j, ⊎-elim (λ x. inl (widened p (leftOf set h) x)) (λ x. inr (widened q (rightOf set h) x)) (or-out (wide p (leftOf set h)) (wide q (rightOf set h)) g))))
-      (or-out (tooLarge set (contents set v)) _ e)
+      (vs, f, inr (h .left, h .right, in-splits vs h .0 j, ⊎-elim (λ x. inl (widened p (leftOf set h) x)) (λ x. inr (widened q (rightOf set h) x)) (or-cases (wide p (leftOf set h)) (wide q (rightOf set h)) g))))
+      (or-cases (isTooLarge set (contents set v)) _ e)
   widened (halved sequence p q) v e =
       ⊎-elim (λ d. absurd (never-large (contents sequence v) d))
       (λ d.
       let (h, i, g) = exists-out (split sequence (contents sequence v)) (λ h. wide p (leftOf sequence h) || wide q (rightOf sequence h)) d in
       let (vs, f, j) = split-out sequence v h i in
-      (h .left, h .right, f ∙ ap (λ (l : List Value). collection sequence (itemsOf l)) (in-cuts vs h .0 j), ⊎-elim (λ x. inl (widened p (leftOf sequence h) x)) (λ x. inr (widened q (rightOf sequence h) x)) (or-out (wide p (leftOf sequence h)) (wide q (rightOf sequence h)) g)))
-      (or-out (tooLarge sequence (contents sequence v)) _ e)
+      (h .left, h .right, f ∙ ap (λ (l : List Value). collection sequence (itemsOf l)) (in-cuts vs h .0 j), ⊎-elim (λ x. inl (widened p (leftOf sequence h) x)) (λ x. inr (widened q (rightOf sequence h) x)) (or-cases (wide p (leftOf sequence h)) (wide q (rightOf sequence h)) g)))
+      (or-cases (isTooLarge sequence (contents sequence v)) _ e)
   widened (halved mapping p q) v e = no-map-halves (contents mapping v) (λ h. wide p (leftOf mapping h) || wide q (rightOf mapping h)) e
   widened (halved tuple p q) v e = no-tuple-halves (contents tuple v) (λ h. wide p (leftOf tuple h) || wide q (rightOf tuple h)) e
 
   among : (ps : Patterns) (ws vs : List Value) → ((w : Value) → In w ws → In w vs) → wideEach ps ws ≡ true → WideAmong ps vs
   among nil ws vs h e = impossible cc
   among (cons p ps) [] vs h e = impossible cc
-  among (cons p ps) (w ∷ ws) vs h e = ⊎-elim (λ d. inl (w, h w (inl refl), widened p w d)) (λ d. inr (among ps ws vs (λ x i. h x (inr i)) d)) (or-out (wide p w) (wideEach ps ws) e)
+  among (cons p ps) (w ∷ ws) vs h e = ⊎-elim (λ d. inl (w, h w (inl refl), widened p w d)) (λ d. inr (among ps ws vs (λ x i. h x (inr i)) d)) (or-cases (wide p w) (wideEach ps ws) e)
 
   in-turn : (ps : Patterns) (vs : List Value) → wideEach ps vs ≡ true → WideInTurn ps vs
   in-turn nil vs e = impossible cc
   in-turn (cons p ps) [] e = impossible cc
-  in-turn (cons p ps) (v ∷ vs) e = ⊎-elim (λ d. inl (widened p v d)) (λ d. inr (in-turn ps vs d)) (or-out (wide p v) (wideEach ps vs) e)
+  in-turn (cons p ps) (v ∷ vs) e = ⊎-elim (λ d. inl (widened p v d)) (λ d. inr (in-turn ps vs d)) (or-cases (wide p v) (wideEach ps vs) e)
 
 -- Some part at the place i is met by some member, whatever order has it there.
 record Meeting (ps : Patterns) (vs : List Value) : Type 0 where
@@ -204,19 +193,19 @@ record Meeting (ps : Patterns) (vs : List Value) : Type 0 where
 first-meets : (p : Pattern) (ps : Patterns) (v : Value) → wide p v ≡ true → (ws : List Value) → 0 < length ws → getD ws 0 (boolean false) ≡ v → wideEach (cons p ps) ws ≡ true
 unfolding wide
 first-meets p ps v e [] l d = absurd (omega arith)
-first-meets p ps v e (w ∷ ws) l d = or-first (wide p w) (wideEach ps ws) (ap (wide p) d ∙ e)
+first-meets p ps v e (w ∷ ws) l d = or-inl (wide p w) (wideEach ps ws) (ap (wide p) d ∙ e)
 
 later-meets : (p : Pattern) (ps : Patterns) (i : ℕ) (v : Value) → ((ws : List Value) → i < length ws → getD ws i (boolean false) ≡ v → wideEach ps ws ≡ true) → (ws : List Value) → suc i < length ws → getD ws (suc i) (boolean false) ≡ v → wideEach (cons p ps) ws ≡ true
 unfolding wide
 later-meets p ps i v h [] l d = absurd (omega arith)
-later-meets p ps i v h (w ∷ ws) l d = or-second (wide p w) (wideEach ps ws) (h ws (omega arith) d)
+later-meets p ps i v h (w ∷ ws) l d = or-inr (wide p w) (wideEach ps ws) (h ws (omega arith) d)
 
 in-half : (k : Kind) (p q : Pattern) (v : Value) (vs : List Value) (h : Halves Value) → v ≡ collection k (itemsOf vs) → In h (divisions k vs) → (wide p (leftOf k h) ≡ true) ⊎ (wide q (rightOf k h) ≡ true) → wide (halved k p q) v ≡ true
 unfolding wide
 in-half k p q v vs h e i g =
-    or-second (tooLarge k (contents k v)) (exists (split k (contents k v)) (λ y. wide p (leftOf k y) || wide q (rightOf k y)))
+    or-inr (isTooLarge k (contents k v)) (exists (split k (contents k v)) (λ y. wide p (leftOf k y) || wide q (rightOf k y)))
     (exists-in h (split k (contents k v)) (λ y. wide p (leftOf k y) || wide q (rightOf k y)) (split-in k v vs h e i)
-    (⊎-elim (λ x. or-first (wide p (leftOf k h)) (wide q (rightOf k h)) x) (λ x. or-second (wide p (leftOf k h)) (wide q (rightOf k h)) x) g))
+    (⊎-elim (λ x. or-inl (wide p (leftOf k h)) (wide q (rightOf k h)) x) (λ x. or-inr (wide p (leftOf k h)) (wide q (rightOf k h)) x) g))
 
 in-arrangement : (k : Kind) (ps : Patterns) (v : Value) (vs ws : List Value) → v ≡ collection k (itemsOf vs) → parts ps ≡ length vs → In ws (arrangements k vs) → wideEach ps ws ≡ true → wide (each k ps) v ≡ true
 unfolding wide
@@ -237,7 +226,7 @@ mutual
   widening (each sequence ps) v (vs, e, n, h) = in-arrangement sequence ps v vs vs e n (inl refl) (turning ps vs h)
   widening (each mapping ps) v h = absurd h
   widening (each tuple ps) v (vs, e, n, h) = in-arrangement tuple ps v vs vs e n (inl refl) (turning ps vs h)
-  widening (halved set p q) v (vs, e, inl l) = or-first (tooLarge set (contents set v)) _ (large-in v vs e l)
+  widening (halved set p q) v (vs, e, inl l) = or-inl (isTooLarge set (contents set v)) _ (large-in v vs e l)
   widening (halved set p q) v (vs, e, inr (ls, rs, s, inl h)) = in-half set p q v vs (halves ls rs) e (in-splits vs (halves ls rs) .1 s) (inl (widening p (collection set (itemsOf ls)) h))
   widening (halved set p q) v (vs, e, inr (ls, rs, s, inr h)) = in-half set p q v vs (halves ls rs) e (in-splits vs (halves ls rs) .1 s) (inr (widening q (collection set (itemsOf rs)) h))
   widening (halved sequence p q) v (ls, rs, e, inl h) = in-half sequence p q v (ls ++ rs) (halves ls rs) e (in-cuts (ls ++ rs) (halves ls rs) .1 refl) (inl (widening p (collection sequence (itemsOf ls)) h))
@@ -255,8 +244,8 @@ mutual
   turning : (ps : Patterns) (vs : List Value) → WideInTurn ps vs → wideEach ps vs ≡ true
   turning nil vs h = absurd h
   turning (cons p ps) [] h = absurd h
-  turning (cons p ps) (v ∷ vs) (inl h) = or-first (wide p v) (wideEach ps vs) (widening p v h)
-  turning (cons p ps) (v ∷ vs) (inr h) = or-second (wide p v) (wideEach ps vs) (turning ps vs h)
+  turning (cons p ps) (v ∷ vs) (inl h) = or-inl (wide p v) (wideEach ps vs) (widening p v h)
+  turning (cons p ps) (v ∷ vs) (inr h) = or-inr (wide p v) (wideEach ps vs) (turning ps vs h)
 
 -- THEOREM: a set is too large somewhere exactly when a union pattern is met by a set of over seven members
 pub wide-exactly : (p : Pattern) (v : Value) → (wide p v ≡ true) ↔ Wide p v

@@ -3,8 +3,8 @@ use mathlib.Core.Path.{sym, ap, subst, _∙_}
 use Rattle.choices.specs.Tree.{result}
 use Rattle.meaning.specs.Service.{accepted}
 use Rattle.tables.specs.declared.Checked.{Checked}
-use Rattle.meaning.specs.Answer.{packed, records}
-use Rattle.meaning.specs.Laws.ReadBack.{Small, small-check}
+use Rattle.meaning.specs.Answer.{packed, recordCount}
+use Rattle.meaning.specs.Laws.ReadBack.{small-check, SmallCheck}
 use Rattle.services.proofs.Packing.{short-call, enough-call}
 use borrow.Author.Needs.{needs}
 use Rattle.services.proofs.dengwizo_check.Statement.{statement}
@@ -29,7 +29,7 @@ check-requires : tie.Need-check-requires
 check-requires c κs = search needs
 
 answer-requires : tie.Need-answer-requires
-answer-requires c κs = subst Small (sym (c .check .ensures)) (small-check (c .before .before .before .before .before .before .before .before .args .table .now))
+answer-requires c κs = subst SmallCheck (sym (c .check .ensures)) (small-check (c .before .before .before .before .before .before .before .before .args .table .now))
 
 same-length : tie.Need-same-length
 same-length c = search needs
@@ -37,7 +37,7 @@ same-length c = search needs
 returns-2 : tie.Need-returns-2
 returns-2 c =
     enough-call (c .before .before .before .before .before .before .before .before .before .args .table .now) (c .before .before .before .before .before .before .before .before .before .args .scratch .now) (c .answer .result) _ (c .before .before .before .before .before .before .if1 .left)
-    (c .answer .ensures ∙ ap (λ (x : Checked). packed records (accepted x (λ n. result n))) (c .before .check .ensures)) (c .before .before .before .before .clear .ensures)
+    (c .answer .ensures ∙ ap (λ (x : Checked). packed recordCount (accepted x (λ n. result n))) (c .before .check .ensures)) (c .before .before .before .before .clear .ensures)
 
 pub dengwizo-check-spec : {M : Type 1} → statement M
 dengwizo-check-spec =

@@ -10,7 +10,7 @@ use lib.ListN.{length, drop}
 use Rattle.prelude.proofs.Absurd.{never, impossible}
 use Rattle.integers.specs.Bytes.{word}
 use Rattle.tables.specs.Record.{Record, isFit}
-use Rattle.tables.specs.Table.{Next, end, fault, one, next, first, after, cutBy, recordAt}
+use Rattle.tables.specs.Table.{Next, end, fault, one, next, first, cutBy, recordAt, onNext}
 
 -- What is known where a record stands next.
 pub record IsNext (bytes : List ℕ) (r : Record) (rest : List ℕ) : Type 0 where
@@ -48,7 +48,7 @@ unfolding cutBy
 cut-fit zero bytes r h = absurd (omega arith)
 cut-fit (suc bound) bytes r h = go (next bytes) refl r h (λ rest q k. cut-fit bound rest q k)
   where
-    go : (n : Next) → next bytes ≡ n → (r : ℕ) → r < length (after n (λ rest. cutBy bound rest) .records) → ((rest : List ℕ) (q : ℕ) → q < length (cutBy bound rest .records) → isFit (recordAt (cutBy bound rest .records) q) ≡ true) → isFit (recordAt (after n (λ rest. cutBy bound rest) .records) r) ≡ true
+    go : (n : Next) → next bytes ≡ n → (r : ℕ) → r < length (onNext n (λ rest. cutBy bound rest) .records) → ((rest : List ℕ) (q : ℕ) → q < length (cutBy bound rest .records) → isFit (recordAt (cutBy bound rest .records) q) ≡ true) → isFit (recordAt (onNext n (λ rest. cutBy bound rest) .records) r) ≡ true
     go end e r k f = absurd (omega arith)
     go fault e r k f = absurd (omega arith)
     go (one x rest) e zero k f = next-is bytes x rest e .fit
@@ -60,7 +60,7 @@ unfolding cutBy next
 cut-some bound bytes h e =
     go (eqb (length bytes) 0) (ltb (length bytes) 4 || ltb (word bytes 0) 4 || ltb (length bytes) (word bytes 0)) (isFit (first bytes)) refl e
   where
-    go : (z t u : Bool) → eqb (length bytes) 0 ≡ z → after (cond z end (cond t fault (cond u (one (first bytes) (drop (word bytes 0) bytes)) fault))) (λ rest. cutBy bound rest) .whole ≡ true → 0 < length (after (cond z end (cond t fault (cond u (one (first bytes) (drop (word bytes 0) bytes)) fault))) (λ rest. cutBy bound rest) .records)
+    go : (z t u : Bool) → eqb (length bytes) 0 ≡ z → onNext (cond z end (cond t fault (cond u (one (first bytes) (drop (word bytes 0) bytes)) fault))) (λ rest. cutBy bound rest) .whole ≡ true → 0 < length (onNext (cond z end (cond t fault (cond u (one (first bytes) (drop (word bytes 0) bytes)) fault))) (λ rest. cutBy bound rest) .records)
     go true t u f k = absurd (omega (arith, eqb-true (length bytes) 0 f))
     go false true u f k = never k
     go false false true f k = omega arith

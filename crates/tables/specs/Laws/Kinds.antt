@@ -11,7 +11,8 @@ use mathlib.Mathlib.Data.Bool.Basic.{and-elim-left, and-elim-right}
 use Rattle.prelude.proofs.Absurd.{never}
 use Rattle.tables.specs.Record.{Record, Shape, missing, shapes, shape, ofExpressions, ofPatterns, isExpression, isPattern}
 use Rattle.tables.specs.Sheet.{any, some, isLoose, isCovered, isBinder}
-use Rattle.tables.specs.Laws.{split, each}
+use Rattle.prelude.proofs.Truth.{by-lower}
+use Rattle.tables.specs.Laws.Tests.{each}
 
 -- There is no kind above 40.
 pub beyond : (k : ℕ) → 40 < k → shape k ≡ missing
@@ -27,7 +28,7 @@ beq-same false false e = refl
 -- Two tests of a kind that agree above 40, and by computing on each kind up to it, agree.
 module _ (one other : ℕ → Bool) (above : (k : ℕ) → 40 < k → one k ≡ other k) where
   pub on-kinds : any (λ k. not (Bool·beq (one k) (other k))) 41 ≡ false → (k : ℕ) → one k ≡ other k
-  on-kinds e k = split 40 k (above k) (λ h. beq-same (one k) (other k) (each (λ k. Bool·beq (one k) (other k)) 41 e k (omega arith)))
+  on-kinds e k = by-lower 40 k (above k) (λ h. beq-same (one k) (other k) (each (λ k. Bool·beq (one k) (other k)) 41 e k (omega arith)))
 
 off-and : (b : Bool) {c : Bool} → c ≡ false → b && c ≡ false
 off-and true e = e
@@ -47,15 +48,11 @@ pattern-kinds =
     (λ k h. ap (λ (s : Shape). ofPatterns (s .sort)) (beyond k h) ∙ sym (off-and (leb 32 k) (lt-leb k 40 (omega arith)))) refl
 
 -- Kinds 37, 38 and 40 are loose, 12 to 20 bind.
-pub loose-kinds : (r : Record) → isLoose r ≡ eqb (r .kind) 37 || eqb (r .kind) 38 || eqb (r .kind) 40
+loose-kinds : (r : Record) → isLoose r ≡ eqb (r .kind) 37 || eqb (r .kind) 38 || eqb (r .kind) 40
 unfolding shape
 loose-kinds r =
     on-kinds (λ k. shape k .loose) (λ k. eqb k 37 || eqb k 38 || eqb k 40)
     (λ k h. ap (λ (s : Shape). s .loose) (beyond k h) ∙ rw (ne-eqb k 37 (omega arith), ne-eqb k 38 (omega arith), ne-eqb k 40 (omega arith))) refl (r .kind)
-
-pub loose-kind : {k : ℕ} → (k ≡ 37 → shape k .loose ≡ true) × (k ≡ 38 → shape k .loose ≡ true) × (k ≡ 40 → shape k .loose ≡ true)
-unfolding shape
-loose-kind = (λ e. ap (λ (k : ℕ). shape k .loose) e, λ e. ap (λ (k : ℕ). shape k .loose) e, λ e. ap (λ (k : ℕ). shape k .loose) e)
 
 pub not-loose : (k : ℕ) → (k ≡ 37 → ⊥) → (k ≡ 38 → ⊥) → (k ≡ 40 → ⊥) → shape k .loose ≡ false
 not-loose k a b d = loose-kinds (record { kind = k; fields = [] }) ∙ rw (ne-eqb k 37 a, ne-eqb k 38 b, ne-eqb k 40 d)
@@ -81,13 +78,6 @@ pattern-least k e = leb-true 32 k (and-elim-left _ (leb k 40) (sym (pattern-kind
 
 pub binder-most : (k : ℕ) → isBinder k ≡ true → k ≤ 20
 binder-most k e = leb-true k 20 (and-elim-right (leb 12 k) _ (sym (binder-kinds k) ∙ e))
-
--- And from the bounds.
-pub expression-kind : (k : ℕ) → 1 ≤ k → k ≤ 21 → isExpression k ≡ true
-expression-kind k l m = expression-kinds k ∙ rw (le-leb 1 k l, le-leb k 21 m)
-
-pub pattern-kind : (k : ℕ) → 32 ≤ k → k ≤ 40 → isPattern k ≡ true
-pattern-kind k l m = pattern-kinds k ∙ rw (le-leb 32 k l, le-leb k 40 m)
 
 pub binder-kind : (k : ℕ) → 12 ≤ k → k ≤ 20 → isBinder k ≡ true
 binder-kind k l m = binder-kinds k ∙ rw (le-leb 12 k l, le-leb k 20 m)

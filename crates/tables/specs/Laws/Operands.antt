@@ -12,9 +12,9 @@ use Rattle.prelude.proofs.Truth.{or-false-left, or-false-right, implied}
 use Rattle.tables.specs.declared.Role.{Role}
 use Rattle.tables.specs.declared.Role.the-variants.{Plain, Condition, Body, Pattern, Name}
 use Rattle.tables.specs.Record.{shape, isPattern, operandsOf, numbers}
-use Rattle.tables.specs.Sheet.{some, greatest, isCovered, isBinder}
+use Rattle.tables.specs.Sheet.{some, greatest, isBinder}
 use Rattle.tables.specs.Check.{isOfSort}
-use Rattle.tables.specs.Laws.{each}
+use Rattle.tables.specs.Laws.Tests.{each}
 use Rattle.tables.specs.Laws.Kinds.{binder-most}
 
 -- ---- patterns
@@ -68,13 +68,6 @@ isFirst Body = false
 isFirst Pattern = true
 isFirst Name = true
 
-pub first-free : (role : Role) (b : Bool) → isFirst role ≡ true → isCovered role && b ≡ false
-first-free Plain b e = never e
-first-free Condition b e = never e
-first-free Body b e = never e
-first-free Pattern b e = refl
-first-free Name b e = refl
-
 pub first-sort : (role : Role) (k : ℕ) → isFirst role ≡ true → isOfSort role k ≡ true → isPattern k ≡ true
 unfolding shape
 first-sort Plain k e f = never e
@@ -89,15 +82,6 @@ unfolding shape
 binder-roles k e =
     implied (isBinder k) _
     (each (λ k. not (isBinder k) || (isFirst (getD (shape k .roles) 0 Plain) && leb 3 (shape k .least))) 41 refl k (omega (arith, binder-most k e))) e
-
--- Where some truth of a list is.
-pub some-place : (f : ℕ → Bool) (ms : List ℕ) → some (map f ms) ≡ true → (i : ℕ) × (i < length ms) × (f (getD ms i 0) ≡ true)
-some-place f [] e = never e
-some-place f (m ∷ ms) e = go (f m) refl e (some-place f ms)
-  where
-    go : (b : Bool) → f m ≡ b → b || some (map f ms) ≡ true → (some (map f ms) ≡ true → (i : ℕ) × (i < length ms) × (f (getD ms i 0) ≡ true)) → (i : ℕ) × (i < length (m ∷ ms)) × (f (getD (m ∷ ms) i 0) ≡ true)
-    go true g h k = (zero, omega arith, g)
-    go false g h k = let p = k h in (suc (p .0), omega (arith, p .1), p .2)
 
 -- The greatest of what a list gives is as great as each.
 pub greatest-all : (f : ℕ → ℕ) (ms : List ℕ) (i : ℕ) → i < length ms → f (getD ms i 0) ≤ greatest (map f ms)

@@ -3,11 +3,11 @@ use mathlib.Core.Path.{refl, sym, ap, _∙_}
 use Prim.Native.Nat.{_-_}
 use native.Mathlib.Omega.{arith}
 use borrow.Author.Tests.{not-true, not-false}
-use Rattle.choices.specs.Listing.{listOf}
+use Rattle.choices.specs.Listing.{listHeld}
 use Rattle.lists.specs.Lent.{lent}
 use Rattle.walks.specs.Steps.{settled, Ran}
 use Rattle.walks.proofs.Settling.{comes-sound, Arrived, arrived, ran, small-ran}
-use Rattle.walks.proofs.Stepping.{cut-asked, some-record, indexed, counted, asked, at-end, complete-ran, steps-other, steps-on}
+use Rattle.walks.proofs.Stepping.{cut-asked, asked, at-end, complete-ran, steps-other, steps-on, has-record, is-indexed, is-counted}
 use borrow.Author.Needs.{needs}
 use Rattle.walks.proofs.next_walk.Statement.{statement}
 use Rattle.walks.proofs.next_walk.Tie as tie
@@ -16,8 +16,8 @@ use Rattle.walks.proofs.next_walk.Tie as tie
 came-here : (c : tie.After-settle) → Arrived (c .before .before .before .before .before .before .before .before .before .before .before .before .before .args .table .now) (lent (c .before .before .before .before .before .before .before .before .start-walk .result)) (c .before .before .before .before .run-sheet .result) (lent (c .before .before .before .before .run-sheet .last .1 .1 .1 .1 .0)) (c .before .before .before .before .run-sheet .last .1 .1 .1 .0)
 came-here c = arrived (c .before .before .before .before .before .before .before .before .before .before .before .before .before .args .table .now) (lent (c .before .before .before .before .before .before .before .before .start-walk .result)) (c .before .before .before .before .run-sheet .result) (lent (c .before .before .before .before .run-sheet .last .1 .1 .1 .1 .0)) (c .before .before .before .before .run-sheet .last .1 .1 .1 .0) (c .before .before .before .before .run-sheet .ensures)
 
-ran-here : (c : tie.After-settle) → Ran (c .before .before .before .before .before .before .before .before .before .before .before .before .before .args .table .now) (listOf (c .before .before .before .before .before .before .before .before .before .before .before .before .before .args .walk)) (c .before .before .before .before .run-sheet .last .1 .1 .1 .0) (c .settle .result)
-ran-here c = ran (c .before .before .before .before .before .before .before .before .before .before .before .before .before .args .table .now) (listOf (c .before .before .before .before .before .before .before .before .before .before .before .before .before .args .walk)) (lent (c .before .before .before .before .before .before .before .before .start-walk .result)) (c .before .before .before .before .run-sheet .result) (lent (c .before .before .before .before .run-sheet .last .1 .1 .1 .1 .0)) (c .before .before .before .before .run-sheet .last .1 .1 .1 .0) (c .before .before .before .before .before .before .before .before .start-walk .ensures) (came-here c) (c .settle .result) (c .settle .ensures ∙ ap (λ n. settled (c .before .before .before .before .run-sheet .result) (lent (c .before .before .before .before .run-sheet .last .1 .1 .1 .1 .0)) (n - 1)) (c .before .before .before .before .before .before .before .before .before .cut .ensures .count))
+ran-here : (c : tie.After-settle) → Ran (c .before .before .before .before .before .before .before .before .before .before .before .before .before .args .table .now) (listHeld (c .before .before .before .before .before .before .before .before .before .before .before .before .before .args .walk)) (c .before .before .before .before .run-sheet .last .1 .1 .1 .0) (c .settle .result)
+ran-here c = ran (c .before .before .before .before .before .before .before .before .before .before .before .before .before .args .table .now) (listHeld (c .before .before .before .before .before .before .before .before .before .before .before .before .before .args .walk)) (lent (c .before .before .before .before .before .before .before .before .start-walk .result)) (c .before .before .before .before .run-sheet .result) (lent (c .before .before .before .before .run-sheet .last .1 .1 .1 .1 .0)) (c .before .before .before .before .run-sheet .last .1 .1 .1 .0) (c .before .before .before .before .before .before .before .before .start-walk .ensures) (came-here c) (c .settle .result) (c .settle .ensures ∙ ap (λ n. settled (c .before .before .before .before .run-sheet .result) (lent (c .before .before .before .before .run-sheet .last .1 .1 .1 .1 .0)) (n - 1)) (c .before .before .before .before .before .before .before .before .before .cut .ensures .count))
 
 cut-requires : tie.Need-cut-requires
 cut-requires c κs = cut-asked (c .before .before .before .args .table .now) (c .before .before .before .args .s .now) (c .before .before .before .pre .ready)
@@ -29,7 +29,7 @@ run-sheet-requires : tie.Need-run-sheet-requires
 run-sheet-requires c κs = asked (c .before .before .before .before .before .before .before .before .args .table .now) (c .before .before .before .before .before .before .before .before .args .s .now) (c .before .before .before .before .before .before .before .before .pre .ready) _ _ (c .before .before .before .before .cut .ensures) _ refl _ (c .before .before .before .start-walk .ensures .sound)
 
 sub-settle : tie.Need-sub-settle
-sub-settle c = omega (arith, c .before .before .before .before .before .before .before .before .cut .ensures .count, some-record (c .before .before .before .before .before .before .before .before .before .before .before .before .args .table .now) (c .before .before .before .before .before .before .before .before .before .before .before .before .args .s .now) (c .before .before .before .before .before .before .before .before .before .before .before .before .pre .ready))
+sub-settle c = omega (arith, c .before .before .before .before .before .before .before .before .cut .ensures .count, has-record (c .before .before .before .before .before .before .before .before .before .before .before .before .args .table .now) (c .before .before .before .before .before .before .before .before .before .before .before .before .args .s .now) (c .before .before .before .before .before .before .before .before .before .before .before .before .pre .ready))
 
 settle-requires : tie.Need-settle-requires
 settle-requires c κs = comes-sound (c .before .before .before .run-sheet .ensures)
@@ -38,7 +38,7 @@ is-whole-requires : tie.Need-is-whole-requires
 is-whole-requires c κs = search needs
 
 answer-requires : tie.Need-answer-requires
-answer-requires c κs = small-ran (c .before .before .before .before .before .before .before .before .before .before .before .before .before .before .before .args .table .now) (listOf (c .before .before .before .before .before .before .before .before .before .before .before .before .before .before .before .args .walk)) (c .before .before .before .before .before .before .run-sheet .last .1 .1 .1 .0) (c .before .before .before .before .before .before .before .before .before .before .before .before .before .before .before .args .s .now) (c .before .before .settle .result) (c .before .before .before .before .before .before .before .before .before .before .before .before .before .before .before .pre .ready) (ran-here (c .before .before))
+answer-requires c κs = small-ran (c .before .before .before .before .before .before .before .before .before .before .before .before .before .before .before .args .table .now) (listHeld (c .before .before .before .before .before .before .before .before .before .before .before .before .before .before .before .args .walk)) (c .before .before .before .before .before .before .run-sheet .last .1 .1 .1 .0) (c .before .before .before .before .before .before .before .before .before .before .before .before .before .before .before .args .s .now) (c .before .before .settle .result) (c .before .before .before .before .before .before .before .before .before .before .before .before .before .before .before .pre .ready) (ran-here (c .before .before))
 
 same-length : tie.Need-same-length
 same-length c = search needs
@@ -50,12 +50,12 @@ next-list-requires : tie.Need-next-list-requires
 next-list-requires c κs =
     let h = ran-here (c .before .before .before .before) in
     let a = came-here (c .before .before .before .before) in
-    let full = complete-ran (c .before .before .before .before .before .before .before .before .before .before .before .before .before .before .before .before .before .args .table .now) (listOf (c .before .before .before .before .before .before .before .before .before .before .before .before .before .before .before .before .before .args .walk)) (c .before .before .before .before .before .before .before .before .run-sheet .last .1 .1 .1 .0) (c .before .before .before .before .settle .result) h (sym (c .before .before .before .is-whole .ensures) ∙ not-false _ (c .before .before .if1 .left)) in
+    let full = complete-ran (c .before .before .before .before .before .before .before .before .before .before .before .before .before .before .before .before .before .args .table .now) (listHeld (c .before .before .before .before .before .before .before .before .before .before .before .before .before .before .before .before .before .args .walk)) (c .before .before .before .before .before .before .before .before .run-sheet .last .1 .1 .1 .0) (c .before .before .before .before .settle .result) h (sym (c .before .before .before .is-whole .ensures) ∙ not-false _ (c .before .before .if1 .left)) in
     let e = at-end (c .before .before .before .before .before .before .before .before .before .before .before .before .before .before .before .before .before .args .table .now) (lent (c .before .before .before .before .before .before .before .before .before .before .before .before .start-walk .result)) (c .before .before .before .before .before .before .before .before .run-sheet .result) (lent (c .before .before .before .before .before .before .before .before .run-sheet .last .1 .1 .1 .1 .0)) (c .before .before .before .before .before .before .before .before .run-sheet .last .1 .1 .1 .0) a (c .before .before .before .before .before .before .before .before .before .before .before .before .before .before .before .before .before .args .walk) (c .before .before .before .before .before .before .before .before .before .before .before .before .before .before .before .before .before .pre .runnable) (c .before .before .before .before .before .before .before .before .before .before .before .before .start-walk .ensures) full in (
       record {
-        ok = counted (c .before .before .before .before .before .before .before .before .before .before .before .before .before .before .before .before .before .args .table .now) (c .before .before .before .before .before .before .before .before .before .before .before .before .before .before .before .before .before .args .s .now) (c .before .before .before .before .before .before .before .before .before .before .before .before .before .before .before .before .before .pre .ready) _ _ (c .before .before .before .before .before .before .before .before .before .before .before .before .before .cut .ensures);
+        ok = is-counted (c .before .before .before .before .before .before .before .before .before .before .before .before .before .before .before .before .before .args .table .now) (c .before .before .before .before .before .before .before .before .before .before .before .before .before .before .before .before .before .args .s .now) (c .before .before .before .before .before .before .before .before .before .before .before .before .before .before .before .before .before .pre .ready) _ _ (c .before .before .before .before .before .before .before .before .before .before .before .before .before .cut .ensures);
         room = c .before .before .before .before .before .before .before .before .run-sheet .kept .1 .1 .1 .0 ∙ c .before .before .before .before .before .before .before .before .before .before .before .before .before .before .before .before .before .pre .ready .room;
-        indexed = indexed (c .before .before .before .before .before .before .before .before .before .before .before .before .before .before .before .before .before .args .table .now) (c .before .before .before .before .before .before .before .before .before .before .before .before .before .before .before .before .before .args .s .now) (c .before .before .before .before .before .before .before .before .before .before .before .before .before .before .before .before .before .pre .ready) _ _ (c .before .before .before .before .before .before .before .before .before .before .before .before .before .cut .ensures);
+        indexed = is-indexed (c .before .before .before .before .before .before .before .before .before .before .before .before .before .before .before .before .before .args .table .now) (c .before .before .before .before .before .before .before .before .before .before .before .before .before .before .before .before .before .args .s .now) (c .before .before .before .before .before .before .before .before .before .before .before .before .before .before .before .before .before .pre .ready) _ _ (c .before .before .before .before .before .before .before .before .before .before .before .before .before .cut .ensures);
       },
       record { runnable = c .before .before .before .before .before .before .before .before .before .before .before .before .before .before .before .before .before .pre .runnable; complete = full; sound = a .came .sound; ended = e .0 },
     )

@@ -5,7 +5,7 @@ use native.Mathlib.Omega.{arith}
 use Rattle.lists.specs.Lent.{lent}
 use Rattle.walks.specs.Steps.{settled}
 use Rattle.walks.proofs.Settling.{comes-sound, arrived, ran}
-use Rattle.walks.proofs.Stepping.{cut-asked, some-record, asked}
+use Rattle.walks.proofs.Stepping.{cut-asked, asked, has-record}
 use borrow.Author.Needs.{needs}
 use Rattle.walks.proofs.run_list.Statement.{statement}
 use Rattle.walks.proofs.run_list.Tie as tie
@@ -20,7 +20,7 @@ run-sheet-requires : tie.Need-run-sheet-requires
 run-sheet-requires c κs = asked (c .before .before .before .before .before .before .before .before .before .args .table .now) (c .before .before .before .before .before .before .before .before .before .args .s .now) (c .before .before .before .before .before .before .before .before .before .pre .0) _ _ (c .before .before .before .before .cut .ensures) _ refl _ (c .before .before .before .start .ensures .sound)
 
 sub-settle : tie.Need-sub-settle
-sub-settle c = omega (arith, c .before .before .before .before .before .before .before .before .cut .ensures .count, some-record (c .before .before .before .before .before .before .before .before .before .before .before .before .before .args .table .now) (c .before .before .before .before .before .before .before .before .before .before .before .before .before .args .s .now) (c .before .before .before .before .before .before .before .before .before .before .before .before .before .pre .0))
+sub-settle c = omega (arith, c .before .before .before .before .before .before .before .before .cut .ensures .count, has-record (c .before .before .before .before .before .before .before .before .before .before .before .before .before .args .table .now) (c .before .before .before .before .before .before .before .before .before .before .before .before .before .args .s .now) (c .before .before .before .before .before .before .before .before .before .before .before .before .before .pre .0))
 
 settle-requires : tie.Need-settle-requires
 settle-requires c κs = comes-sound (c .before .before .before .run-sheet .ensures)

@@ -109,21 +109,12 @@ pub fn applied_map() -> Vec<u8> {
     })
 }
 
-/// Four choices among 11 in a tuple: 14,641 lists.
-pub fn four_choices() -> Vec<u8> {
+/// Four choices among so many in a tuple: for 10 there are 10,000 lists, for 11 14,641.
+pub fn four_choices(members: i32) -> Vec<u8> {
     build(|b| {
-        let choices: Vec<usize> = (0..4).map(|name| choice(b, name)).collect();
+        let choices: Vec<usize> = (0..4).map(|name| b.choice(name, 0, members - 1)).collect();
         b.node(kind::TUPLE, &choices)
     })
-}
-
-/// let a in set {0,...,10} be st true in a.
-fn choice(b: &mut Builder, name: u8) -> usize {
-    let pattern = b.p_name(name);
-    let set = b.range(0, 10);
-    let condition = b.boolean(true);
-    let body = b.name(name);
-    b.node(kind::LET_BE, &[pattern, set, condition, body])
 }
 
 /// An operator on the names 0 and 1.

@@ -3,7 +3,9 @@
 //!
 //! A word after `--` picks the rows whose label holds it: `cargo bench -p sheets -- step`.
 
+mod bindings;
 mod cases;
+mod programs;
 
 use generator::{accepted, damaged};
 use sheets::lent::{self, SCRATCH_SIZE};
@@ -49,6 +51,8 @@ trait Evaluator {
     fn evaluate(lent: &mut Lent, table: &[u8]) -> u32;
     fn first(lent: &mut Lent, table: &[u8]) -> u32;
     fn step(lent: &mut Lent, table: &[u8]) -> u32;
+    /// Runs the walk program; how many bytes it prints.
+    fn print(table: &[u8]) -> u32;
 
     /// The first list, then steps to the end, each list evaluated; how many there are.
     fn walk(lent: &mut Lent, table: &[u8]) -> u32 {
@@ -95,6 +99,10 @@ impl Evaluator for Ours {
         );
         number(answer)
     }
+
+    fn print(table: &[u8]) -> u32 {
+        programs::printed(programs::ours().expect("the walk program"), table)
+    }
 }
 
 fn number(answer: Answer) -> u32 {
@@ -132,6 +140,10 @@ impl Evaluator for Second {
         } = lent;
         reference::services::step(table, entries, length, scratch).number
     }
+
+    fn print(table: &[u8]) -> u32 {
+        programs::printed(programs::second(), table)
+    }
 }
 
 /// What a row measures.
@@ -143,6 +155,8 @@ enum Call {
     /// Steps from the list, set anew each time.
     Step,
     Walk,
+    /// Runs the walk program.
+    Print,
 }
 
 /// A row of the table.
@@ -180,6 +194,7 @@ impl Row {
                 E::step(lent, table)
             }
             Call::Walk => E::walk(lent, table),
+            Call::Print => E::print(table),
         }
     }
 
@@ -305,6 +320,12 @@ fn rows() -> Vec<Row> {
     rows.extend(walks());
     rows.extend(evaluations());
     rows.extend(steps());
+    rows.extend(prints());
+    rows.extend(
+        bindings::tables()
+            .into_iter()
+            .map(|(label, table)| Row::new(&label, Call::Evaluate, table)),
+    );
     rows
 }
 
@@ -341,20 +362,58 @@ fn evaluations() -> [Row; 5] {
     [chosen, a, b, c, d]
 }
 
+/// The walk programs; no row where ours is not built.
+fn prints() -> Vec<Row> {
+    if programs::ours().is_none() {
+        eprintln!("target/bin/walk is missing, so it is not measured: run `rt check walk`");
+        return Vec::new();
+    }
+    [
+        (
+            "walk program, 975 lists: a let-be of 40 over one of 25",
+            cases::nested_choices(),
+        ),
+        (
+            "walk program, 128 lists: let a union b = {1,...,7}",
+            cases::union_of_seven(),
+        ),
+        (
+            "walk program, nested comprehensions of 63 × 63",
+            cases::nested_comprehensions(),
+        ),
+        (
+            "walk program, quantifiers over 63 × 63",
+            cases::quantifiers(),
+        ),
+        (
+            "walk program, a map comprehension with 31 applications",
+            cases::applied_map(),
+        ),
+        ("walk program, height 32", cases::chain(32)),
+        (
+            "walk program, 10,000 lists: four choices among 10",
+            cases::four_choices(10),
+        ),
+    ]
+    .map(|(label, table)| Row::new(label, Call::Print, table))
+    .into()
+}
+
 fn steps() -> [Row; 3] {
     [
         ("step from list 1 of 14,641", [0, 0, 0, 0]),
         ("step from list 1,000", [0, 8, 2, 9]),
         ("step from list 10,000", [7, 5, 7, 0]),
     ]
-    .map(|(label, list)| Row::new(label, Call::Step, cases::four_choices()).under(list.to_vec()))
+    .map(|(label, list)| Row::new(label, Call::Step, cases::four_choices(11)).under(list.to_vec()))
 }
 
 fn main() {
-    let words: Vec<String> = std::env::args()
-        .skip(1)
-        .filter(|w| !w.starts_with("--"))
-        .collect();
+    let words = std::env::args().skip(1).filter(|w| !w.starts_with("--"));
+    let words: Vec<String> = words.collect();
+    if words == [programs::SECOND] {
+        return programs::print().expect("a print");
+    }
     let is_picked = |label: &str| words.is_empty() || words.iter().any(|w| label.contains(&w[..]));
     println!("| | ours | second evaluator | ratio |");
     println!("|---|---|---|---|");

@@ -1,9 +1,14 @@
 //! Every call made twice, by the linked services and by the reference: the answers and every byte must be the same.
 #![allow(dead_code)]
 
-use generator::Random;
+pub mod program;
+pub mod values;
+pub mod written;
+
+use generator::{Builder, Random};
 use sheets::lent::{self, SCRATCH_SIZE};
-use sheets::{Answer, List, Value};
+use sheets::{Answer, List, Sheet, Value};
+use std::cell::RefCell;
 use std::fs;
 use std::path::{Path, PathBuf};
 
@@ -12,6 +17,9 @@ const GUARD: usize = 64;
 /// The longest scratch, and the longest result or entries, that are lent.
 const LONGEST_SCRATCH: usize = 70_000;
 const LONGEST: usize = 1_000;
+
+/// The highest sheet that is accepted.
+const MOST_HEIGHT: usize = 32;
 
 /// How many bytes are lent, and how far from the start of the memory.
 #[derive(Clone, Copy, Debug)]
@@ -185,6 +193,24 @@ impl Both {
     }
 }
 
+thread_local! {
+    static BOTH: RefCell<Both> = RefCell::new(Both::new());
+}
+
+/// The record of the value that a table comes to under a list, or the answer, from both.
+#[track_caller]
+pub fn evaluated(table: &[u8], list: &[u8]) -> Result<Vec<u8>, Answer> {
+    BOTH.with_borrow_mut(|both| {
+        let answer = both.evaluate(table, list);
+        if answer.number != 0 {
+            return Err(answer);
+        }
+        let result = both.result();
+        let length = usize::from(u16::from_le_bytes([result[0], result[1]]));
+        Ok(result[..length].to_vec())
+    })
+}
+
 /// By whom a call is made, and of which table.
 #[derive(Clone, Copy)]
 enum By<'a> {
@@ -198,6 +224,14 @@ fn answer(by_reference: reference::services::Answer) -> Answer {
         place: by_reference.place as u16,
         count: by_reference.count as u32,
     }
+}
+
+/// Whether a table can hold the sheet.
+pub fn fits(sheet: &Builder) -> bool {
+    let heights = sheet.heights().into_iter();
+    sheet.records.len() <= Sheet::MAX_RECORDS
+        && sheet.table().len() <= Sheet::MAX_SIZE
+        && heights.max().is_some_and(|height| height <= MOST_HEIGHT)
 }
 
 /// So many random bytes below a bound.

@@ -1,3 +1,4 @@
+use Rattle.matching.proofs.Naming.{nothing-stands}
 use Rattle.bindings.proofs.Telling.{at-low, one-asked, one-formed}
 use Prim.Native.Nat.{_-_}
 use native.Mathlib.Omega.{arith}
@@ -7,7 +8,6 @@ use Rattle.bindings.proofs.forms.form_one.Tie as tie
 use Rattle.bindings.proofs.forms.form_one.Reads as reads
 use Rattle.bindings.proofs.forms.form_one.Lts as lts
 use Rattle.forming.proofs.solve.Reads as solve-reads
-use Rattle.matching.proofs.leaves.Match.nothing.Reads as nothing-reads
 
 -- src/forms.rt:90:17
 cast-agenda : tie.Need-cast-agenda
@@ -37,17 +37,13 @@ element-write-agenda-2 c = search needs
 element-write-agenda-3 : tie.Need-element-write-agenda-3
 element-write-agenda-3 c = search needs
 
--- src/forms.rt:93:9
-nothing-requires : tie.Need-nothing-requires
-nothing-requires c κs = search needs
-
 -- src/forms.rt:94:9
 solve-requires : tie.Need-solve-requires
-solve-requires c κs = one-asked _ _ _ _ _ _ _ _ _ (c .before .before .before .before .before .before .pre) _ (c .before .before .before .nothing .ensures)
+solve-requires c κs = one-asked _ _ _ _ _ _ _ _ _ (c .before .before .before .before .before .before .pre) _ nothing-stands
 
 -- src/forms.rt:76:1
 returns : tie.Need-returns
-returns c = one-formed _ _ _ _ _ _ _ _ _ (c .before .before .before .before .before .before .before .pre) _ (c .before .before .before .before .nothing .ensures) _ _ _ _ (c .solve .ensures)
+returns c = one-formed _ _ _ _ _ _ _ _ _ (c .before .before .before .before .before .before .before .pre) _ nothing-stands _ _ _ _ (c .solve .ensures)
 
 pub form-one-spec : {M : Type 1} → statement M
 form-one-spec =
@@ -60,6 +56,5 @@ form-one-spec =
     cast-agenda-2
     element-write-agenda-2
     element-write-agenda-3
-    nothing-requires
     solve-requires
     returns)

@@ -5,7 +5,8 @@ use native.Mathlib.Omega.{arith}
 use borrow.Author.Needs.{needs}
 use borrow.Fn.Kinds.{In}
 use borrow.Fn.PlainCycle.{Measures, is, falls, and}
-use Rattle.tables.specs.Accepted.{records, operand-lower}
+use Rattle.tables.specs.Accepted.{records}
+use Rattle.tables.specs.Laws.Accepted.{operand-lower}
 use Rattle.checking.proofs.Tallness.{Seen, seen-start, seen-more, high-is, low-tall, low-short}
 use Rattle.checking.proofs.height.tall.Reads as tall
 use Rattle.checking.proofs.height.tall.Kinds as tall-kinds

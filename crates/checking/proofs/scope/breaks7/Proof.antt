@@ -3,7 +3,8 @@ use Rattle.checking.proofs.Faults.{read7, pattern7, other7}
 use Rattle.checking.proofs.Below.{name-pattern, name-read}
 use Rattle.checking.proofs.Bits.{around-name}
 use Rattle.checking.specs.Scopes.{hasBit, around}
-use Rattle.tables.specs.Accepted.{fit-records, records}
+use Rattle.tables.specs.Accepted.{records}
+use Rattle.tables.specs.Laws.Accepted.{fit-records}
 use Rattle.tables.specs.Table.{recordAt}
 use Rattle.tables.specs.Record.{nameOf}
 use Prim.Native.Nat.{ℕ, _+_}

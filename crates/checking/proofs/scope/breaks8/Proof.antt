@@ -4,7 +4,8 @@ use Rattle.tables.specs.Sheet.{patternOf}
 use borrow.Author.Tests.{not-true, not-false}
 use Rattle.checking.proofs.Bits.{around-condition, held-loose}
 use Rattle.checking.specs.Scopes.{hasBit, around}
-use Rattle.tables.specs.Accepted.{fit-records, records}
+use Rattle.tables.specs.Accepted.{records}
+use Rattle.tables.specs.Laws.Accepted.{fit-records}
 use Rattle.tables.specs.Table.{recordAt}
 use Prim.Native.Nat.{ℕ}
 use native.Mathlib.Omega.{arith}

@@ -2,7 +2,8 @@
 use Rattle.checking.specs.Scopes.{bitsBelow}
 use lib.ListN.{getD}
 use Rattle.checking.proofs.Below.{Turn, turn-start, turn-more, turn-end}
-use Rattle.tables.specs.Accepted.{lower, operand-lower, records}
+use Rattle.tables.specs.Accepted.{records}
+use Rattle.tables.specs.Laws.Accepted.{lower, operand-lower}
 use Prim.Native.Nat.{_-_}
 use borrow.Author.Needs.{needs}
 use native.Mathlib.Omega.{arith}

@@ -1,6 +1,7 @@
 -- By kind.
 use Rattle.checking.proofs.Below.{name-pattern, own-name, own-loose, own-none}
-use Rattle.tables.specs.Accepted.{fit-records, records}
+use Rattle.tables.specs.Accepted.{records}
+use Rattle.tables.specs.Laws.Accepted.{fit-records}
 use Rattle.tables.specs.Table.{recordAt}
 use native.Mathlib.Omega.{arith}
 use mathlib.Core.Path.{sym, ap, _∙_}

@@ -1,6 +1,7 @@
 -- The pattern is lower.
 use Rattle.checking.specs.Scopes.{bitsBelow}
-use Rattle.tables.specs.Accepted.{operand-lower, records}
+use Rattle.tables.specs.Accepted.{records}
+use Rattle.tables.specs.Laws.Accepted.{operand-lower}
 use native.Mathlib.Omega.{arith}
 use mathlib.Core.Path.{ap, _∙_}
 use Rattle.checking.proofs.scope.pattern_bits.Statement.{statement}

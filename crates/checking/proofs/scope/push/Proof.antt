@@ -1,7 +1,8 @@
 -- The bits around the record stand, and go on to the operands below i.
 use Rattle.checking.proofs.Above.{Pushed, push-start, own-around, push-more, push-end}
 use Rattle.checking.specs.Scopes.{orBits, around}
-use Rattle.tables.specs.Accepted.{operand-lower, records}
+use Rattle.tables.specs.Accepted.{records}
+use Rattle.tables.specs.Laws.Accepted.{operand-lower}
 use Prim.Native.Nat.{ℕ, _-_}
 use borrow.Author.Needs.{needs}
 use native.Mathlib.Omega.{arith}

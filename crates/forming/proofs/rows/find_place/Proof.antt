@@ -37,7 +37,7 @@ cast-r c = omega (arith, c .before .before .before .before .pre .1 .1 .row (c .b
 
 -- src/rows.rt:55:13
 order-row-requires : tie.Need-order-row-requires Inv-loop μ-loop
-order-row-requires c κs = (c .before .before .before .before .pre .0, row-held _ (c .before .before .before .before .args .found) _ _ _ (c .before .before .before .before .pre .1) _ _ (omega (arith, c .before .before .loop .inv .within)) refl)
+order-row-requires c κs = (c .before .before .before .before .pre .0, row-held _ _ _ _ (c .before .before .before .before .pre .1) _ _ (omega (arith, c .before .before .loop .inv .within)) refl)
 
 -- src/rows.rt:58:17
 enum-told : tie.Need-enum-told Inv-loop μ-loop

@@ -11,10 +11,10 @@ use Rattle.forming.proofs.rows.order_row.Lts as lts
 use Rattle.parts.proofs.words.order_words.Reads as order-words-reads
 
 abbrev Inv-loop : tie.InvT-loop
-Inv-loop s rows r found x₀ x = EvenRow s found rows r x
+Inv-loop s found rows r x₀ x = EvenRow s found rows r x
 
 abbrev μ-loop : tie.MeasureT-loop
-μ-loop s rows r found x₀ x = 16 - x
+μ-loop s found rows r x₀ x = 16 - x
 
 -- src/rows.rt:26:5
 loop-holds : tie.Need-loop-holds Inv-loop μ-loop

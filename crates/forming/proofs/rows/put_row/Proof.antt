@@ -8,10 +8,10 @@ use Rattle.forming.proofs.rows.put_row.Reads as reads
 use Rattle.forming.proofs.rows.put_row.Lts as lts
 
 abbrev Inv-loop : tie.InvT-loop
-Inv-loop s rows₀ r found x₀ rows x = RowSoFar found rows₀ rows r x
+Inv-loop s found rows₀ r x₀ rows x = RowSoFar found rows₀ rows r x
 
 abbrev μ-loop : tie.MeasureT-loop
-μ-loop s rows₀ r found x₀ rows x = 16 - x
+μ-loop s found rows₀ r x₀ rows x = 16 - x
 
 -- src/rows.rt:83:5
 loop-holds : tie.Need-loop-holds Inv-loop μ-loop

@@ -18,16 +18,19 @@ use Rattle.tables.proofs.reading.operand_count.Reads as operand-count-reads
 use Rattle.forming.proofs.settled.+is_settled.{statement}
 use Rattle.forming.proofs.settled.+is_settled.Tie.{close}
 
-abbrev μ-is-settled : Measures 2 is-settled-kinds.ps ℕ
+abbrev μ-is-settled : Measures 3 is-settled-kinds.ps ℕ
 μ-is-settled κs a = a .1 .1 .0
 
-abbrev is-settled-at : ℕ → In 2 is-settled-kinds.ps
+abbrev is-settled-at : ℕ → In 3 is-settled-kinds.ps
 is-settled-at t =
-    and 2 is-settled-kinds.ps (is 2 is-settled-kinds.ps μ-is-settled t) is-settled.Pre
+    and 3 is-settled-kinds.ps (is 3 is-settled-kinds.ps μ-is-settled t) is-settled.Pre
 
-abbrev is-settled-below : ℕ → In 2 is-settled-kinds.ps
+abbrev is-settled-below : ℕ → In 3 is-settled-kinds.ps
 is-settled-below t =
-    and 2 is-settled-kinds.ps (falls 2 is-settled-kinds.ps _<_ μ-is-settled t) is-settled.Pre
+    and 3 is-settled-kinds.ps (falls 3 is-settled-kinds.ps _<_ μ-is-settled t) is-settled.Pre
+
+abbrev is-settled-calls : ℕ → is-settled-lts.Claims
+is-settled-calls t = (kind-reads.Asked, kind-reads.Learnt, field-reads.Asked, field-reads.Learnt, has-word-reads.Asked, has-word-reads.Learnt, operand-count-reads.Asked, operand-count-reads.Learnt, operand-reads.Asked, operand-reads.Learnt, is-settled-below t, is-settled.Post)
 
 abbrev is-settled-Inv-loop : is-settled-lts.InvT-loop
 is-settled-Inv-loop table index p found k n i₀ i = SettledTo table p found i
@@ -36,258 +39,63 @@ abbrev is-settled-μ-loop : is-settled-lts.MeasureT-loop
 is-settled-μ-loop table index p found k n i₀ i = n - i
 
 -- src/settled.rt:15:9
-is-settled-kind-requires : (t : ℕ) → is-settled-lts.Need-kind-requires (
-  kind-reads.Asked,
-  kind-reads.Learnt,
-  field-reads.Asked,
-  field-reads.Learnt,
-  has-word-reads.Asked,
-  has-word-reads.Learnt,
-  operand-count-reads.Asked,
-  operand-count-reads.Learnt,
-  operand-reads.Asked,
-  operand-reads.Learnt,
-  is-settled-below t,
-  is-settled.Post,
-) (is-settled-at t) is-settled.Post is-settled-Inv-loop is-settled-μ-loop
+is-settled-kind-requires : (t : ℕ) → is-settled-lts.Need-kind-requires (is-settled-calls t) (is-settled-at t) is-settled.Post is-settled-Inv-loop is-settled-μ-loop
 is-settled-kind-requires t c κs = c .before .pre .1 .here
 
 -- src/settled.rt:17:13
-is-settled-field-requires : (t : ℕ) → is-settled-lts.Need-field-requires (
-  kind-reads.Asked,
-  kind-reads.Learnt,
-  field-reads.Asked,
-  field-reads.Learnt,
-  has-word-reads.Asked,
-  has-word-reads.Learnt,
-  operand-count-reads.Asked,
-  operand-count-reads.Learnt,
-  operand-reads.Asked,
-  operand-reads.Learnt,
-  is-settled-below t,
-  is-settled.Post,
-) (is-settled-at t) is-settled.Post is-settled-Inv-loop is-settled-μ-loop
+is-settled-field-requires : (t : ℕ) → is-settled-lts.Need-field-requires (is-settled-calls t) (is-settled-at t) is-settled.Post is-settled-Inv-loop is-settled-μ-loop
 is-settled-field-requires t c κs = name-field _ _ _ (c .before .before .before .pre .1) (sym (c .before .kind .ensures .0) ∙ c .if1 .taken)
 
 -- src/settled.rt:18:9
-is-settled-has-word-requires : (t : ℕ) → is-settled-lts.Need-has-word-requires (
-  kind-reads.Asked,
-  kind-reads.Learnt,
-  field-reads.Asked,
-  field-reads.Learnt,
-  has-word-reads.Asked,
-  has-word-reads.Learnt,
-  operand-count-reads.Asked,
-  operand-count-reads.Learnt,
-  operand-reads.Asked,
-  operand-reads.Learnt,
-  is-settled-below t,
-  is-settled.Post,
-) (is-settled-at t) is-settled.Post is-settled-Inv-loop is-settled-μ-loop
+is-settled-has-word-requires : (t : ℕ) → is-settled-lts.Need-has-word-requires (is-settled-calls t) (is-settled-at t) is-settled.Post is-settled-Inv-loop is-settled-μ-loop
 is-settled-has-word-requires t c κs = search needs
 
 -- src/settled.rt:18:9
-is-settled-returns : (t : ℕ) → is-settled-lts.Need-returns (
-  kind-reads.Asked,
-  kind-reads.Learnt,
-  field-reads.Asked,
-  field-reads.Learnt,
-  has-word-reads.Asked,
-  has-word-reads.Learnt,
-  operand-count-reads.Asked,
-  operand-count-reads.Learnt,
-  operand-reads.Asked,
-  operand-reads.Learnt,
-  is-settled-below t,
-  is-settled.Post,
-) (is-settled-at t) is-settled.Post is-settled-Inv-loop is-settled-μ-loop
+is-settled-returns : (t : ℕ) → is-settled-lts.Need-returns (is-settled-calls t) (is-settled-at t) is-settled.Post is-settled-Inv-loop is-settled-μ-loop
 is-settled-returns t c = settled-name _ _ _ (c .before .before .before .before .before .pre .1) _ (sym (c .before .before .before .kind .ensures .0) ∙ c .before .before .if1 .taken) _ (c .before .field .ensures .0) _ (c .has-word .ensures)
 
 -- src/settled.rt:21:9
-is-settled-returns-2 : (t : ℕ) → is-settled-lts.Need-returns-2 (
-  kind-reads.Asked,
-  kind-reads.Learnt,
-  field-reads.Asked,
-  field-reads.Learnt,
-  has-word-reads.Asked,
-  has-word-reads.Learnt,
-  operand-count-reads.Asked,
-  operand-count-reads.Learnt,
-  operand-reads.Asked,
-  operand-reads.Learnt,
-  is-settled-below t,
-  is-settled.Post,
-) (is-settled-at t) is-settled.Post is-settled-Inv-loop is-settled-μ-loop
+is-settled-returns-2 : (t : ℕ) → is-settled-lts.Need-returns-2 (is-settled-calls t) (is-settled-at t) is-settled.Post is-settled-Inv-loop is-settled-μ-loop
 is-settled-returns-2 t c = settled-leaf _ _ _ (c .before .before .before .before .pre .1) _ (λ e. c .before .if1 .left (c .before .before .kind .ensures .0 ∙ e)) (omega (arith, c .before .before .kind .ensures .0))
 
 -- src/settled.rt:23:9
-is-settled-operand-count-requires : (t : ℕ) → is-settled-lts.Need-operand-count-requires (
-  kind-reads.Asked,
-  kind-reads.Learnt,
-  field-reads.Asked,
-  field-reads.Learnt,
-  has-word-reads.Asked,
-  has-word-reads.Learnt,
-  operand-count-reads.Asked,
-  operand-count-reads.Learnt,
-  operand-reads.Asked,
-  operand-reads.Learnt,
-  is-settled-below t,
-  is-settled.Post,
-) (is-settled-at t) is-settled.Post is-settled-Inv-loop is-settled-μ-loop
+is-settled-operand-count-requires : (t : ℕ) → is-settled-lts.Need-operand-count-requires (is-settled-calls t) (is-settled-at t) is-settled.Post is-settled-Inv-loop is-settled-μ-loop
 is-settled-operand-count-requires t c κs = c .before .before .before .before .pre .1 .here
 
 -- src/settled.rt:25:5
-is-settled-loop-holds : (t : ℕ) → is-settled-lts.Need-loop-holds (
-  kind-reads.Asked,
-  kind-reads.Learnt,
-  field-reads.Asked,
-  field-reads.Learnt,
-  has-word-reads.Asked,
-  has-word-reads.Learnt,
-  operand-count-reads.Asked,
-  operand-count-reads.Learnt,
-  operand-reads.Asked,
-  operand-reads.Learnt,
-  is-settled-below t,
-  is-settled.Post,
-) (is-settled-at t) is-settled.Post is-settled-Inv-loop is-settled-μ-loop
+is-settled-loop-holds : (t : ℕ) → is-settled-lts.Need-loop-holds (is-settled-calls t) (is-settled-at t) is-settled.Post is-settled-Inv-loop is-settled-μ-loop
 is-settled-loop-holds t c = settled-start _ _ _
 
 -- src/settled.rt:26:13
-is-settled-operand-requires : (t : ℕ) → is-settled-lts.Need-operand-requires (
-  kind-reads.Asked,
-  kind-reads.Learnt,
-  field-reads.Asked,
-  field-reads.Learnt,
-  has-word-reads.Asked,
-  has-word-reads.Learnt,
-  operand-count-reads.Asked,
-  operand-count-reads.Learnt,
-  operand-reads.Asked,
-  operand-reads.Learnt,
-  is-settled-below t,
-  is-settled.Post,
-) (is-settled-at t) is-settled.Post is-settled-Inv-loop is-settled-μ-loop
+is-settled-operand-requires : (t : ℕ) → is-settled-lts.Need-operand-requires (is-settled-calls t) (is-settled-at t) is-settled.Post is-settled-Inv-loop is-settled-μ-loop
 is-settled-operand-requires t c κs = has-operand _ _ _ (c .before .before .before .before .before .before .before .pre .1) _ (omega (arith, c .before .before .operand-count .ensures .0))
 
 -- src/settled.rt:27:13
-is-settled-is-settled-requires : (t : ℕ) → is-settled-lts.Need-is-settled-requires (
-  kind-reads.Asked,
-  kind-reads.Learnt,
-  field-reads.Asked,
-  field-reads.Learnt,
-  has-word-reads.Asked,
-  has-word-reads.Learnt,
-  operand-count-reads.Asked,
-  operand-count-reads.Learnt,
-  operand-reads.Asked,
-  operand-reads.Learnt,
-  is-settled-below t,
-  is-settled.Post,
-) (is-settled-at t) is-settled.Post is-settled-Inv-loop is-settled-μ-loop
+is-settled-is-settled-requires : (t : ℕ) → is-settled-lts.Need-is-settled-requires (is-settled-calls t) (is-settled-at t) is-settled.Post is-settled-Inv-loop is-settled-μ-loop
 is-settled-is-settled-requires t c κs = let o = operand-readable _ _ _ (c .before .before .before .before .before .before .before .before .pre .1) _ (omega (arith, c .before .before .before .operand-count .ensures .0)) (omega (arith, c .before .before .before .before .before .before .kind .ensures .0)) _ (c .operand .ensures .0) in (omega (arith, o .1, c .before .before .before .before .before .before .before .before .pre .0), o .0)
 
 -- src/settled.rt:29:13
-is-settled-returns-3 : (t : ℕ) → is-settled-lts.Need-returns-3 (
-  kind-reads.Asked,
-  kind-reads.Learnt,
-  field-reads.Asked,
-  field-reads.Learnt,
-  has-word-reads.Asked,
-  has-word-reads.Learnt,
-  operand-count-reads.Asked,
-  operand-count-reads.Learnt,
-  operand-reads.Asked,
-  operand-reads.Learnt,
-  is-settled-below t,
-  is-settled.Post,
-) (is-settled-at t) is-settled.Post is-settled-Inv-loop is-settled-μ-loop
+is-settled-returns-3 : (t : ℕ) → is-settled-lts.Need-returns-3 (is-settled-calls t) (is-settled-at t) is-settled.Post is-settled-Inv-loop is-settled-μ-loop
 is-settled-returns-3 t c = settled-no _ _ _
 
 -- src/settled.rt:31:9
-is-settled-add-i : (t : ℕ) → is-settled-lts.Need-add-i (
-  kind-reads.Asked,
-  kind-reads.Learnt,
-  field-reads.Asked,
-  field-reads.Learnt,
-  has-word-reads.Asked,
-  has-word-reads.Learnt,
-  operand-count-reads.Asked,
-  operand-count-reads.Learnt,
-  operand-reads.Asked,
-  operand-reads.Learnt,
-  is-settled-below t,
-  is-settled.Post,
-) (is-settled-at t) is-settled.Post is-settled-Inv-loop is-settled-μ-loop
+is-settled-add-i : (t : ℕ) → is-settled-lts.Need-add-i (is-settled-calls t) (is-settled-at t) is-settled.Post is-settled-Inv-loop is-settled-μ-loop
 is-settled-add-i t c = omega (arith, c .before .before .before .before .before .operand-count .ensures .1)
 
 -- src/settled.rt:25:5
-is-settled-loop-less : (t : ℕ) → is-settled-lts.Need-loop-less (
-  kind-reads.Asked,
-  kind-reads.Learnt,
-  field-reads.Asked,
-  field-reads.Learnt,
-  has-word-reads.Asked,
-  has-word-reads.Learnt,
-  operand-count-reads.Asked,
-  operand-count-reads.Learnt,
-  operand-reads.Asked,
-  operand-reads.Learnt,
-  is-settled-below t,
-  is-settled.Post,
-) (is-settled-at t) is-settled.Post is-settled-Inv-loop is-settled-μ-loop
+is-settled-loop-less : (t : ℕ) → is-settled-lts.Need-loop-less (is-settled-calls t) (is-settled-at t) is-settled.Post is-settled-Inv-loop is-settled-μ-loop
 is-settled-loop-less t c = omega arith
 
 -- src/settled.rt:25:5
-is-settled-loop-again : (t : ℕ) → is-settled-lts.Need-loop-again (
-  kind-reads.Asked,
-  kind-reads.Learnt,
-  field-reads.Asked,
-  field-reads.Learnt,
-  has-word-reads.Asked,
-  has-word-reads.Learnt,
-  operand-count-reads.Asked,
-  operand-count-reads.Learnt,
-  operand-reads.Asked,
-  operand-reads.Learnt,
-  is-settled-below t,
-  is-settled.Post,
-) (is-settled-at t) is-settled.Post is-settled-Inv-loop is-settled-μ-loop
+is-settled-loop-again : (t : ℕ) → is-settled-lts.Need-loop-again (is-settled-calls t) (is-settled-at t) is-settled.Post is-settled-Inv-loop is-settled-μ-loop
 is-settled-loop-again t c = settled-next _ _ _ (c .before .before .before .before .before .before .before .before .before .before .pre .1) _ _ (c .before .before .before .before .loop .inv) _ (c .before .before .operand .ensures .0) _ (c .before .is-settled .ensures) (not-false _ (c .if3 .left))
 
 -- src/settled.rt:11:1
-is-settled-returns-4 : (t : ℕ) → is-settled-lts.Need-returns-4 (
-  kind-reads.Asked,
-  kind-reads.Learnt,
-  field-reads.Asked,
-  field-reads.Learnt,
-  has-word-reads.Asked,
-  has-word-reads.Learnt,
-  operand-count-reads.Asked,
-  operand-count-reads.Learnt,
-  operand-reads.Asked,
-  operand-reads.Learnt,
-  is-settled-below t,
-  is-settled.Post,
-) (is-settled-at t) is-settled.Post is-settled-Inv-loop is-settled-μ-loop
+is-settled-returns-4 : (t : ℕ) → is-settled-lts.Need-returns-4 (is-settled-calls t) (is-settled-at t) is-settled.Post is-settled-Inv-loop is-settled-μ-loop
 is-settled-returns-4 t c = settled-all _ _ _ (c .before .before .before .before .before .before .before .pre .1) _ (omega (arith, c .before .before .before .before .before .kind .ensures .0)) _ (c .before .loop .inv) (omega (arith, c .before .before .operand-count .ensures .0))
 
 pub +is-settled-spec : {M : Type 1} → statement M
-+is-settled-spec = close μ-is-settled λ t. is-settled-lts.spec (
-  kind-reads.Asked,
-  kind-reads.Learnt,
-  field-reads.Asked,
-  field-reads.Learnt,
-  has-word-reads.Asked,
-  has-word-reads.Learnt,
-  operand-count-reads.Asked,
-  operand-count-reads.Learnt,
-  operand-reads.Asked,
-  operand-reads.Learnt,
-  is-settled-below t,
-  is-settled.Post,
-)
++is-settled-spec = close μ-is-settled λ t. is-settled-lts.spec (is-settled-calls t)
     (is-settled-at t)
     is-settled.Post
     is-settled-Inv-loop

@@ -1,5 +1,5 @@
 use mathlib.Core.Path.{refl, sym, _∙_}
-use Rattle.patterns.specs.Laws.Merging.{true-false}
+use Rattle.prelude.proofs.Absurd.{true-false}
 use borrow.Author.Needs.{needs}
 use Rattle.forming.proofs.settled.has_word.Statement.{statement}
 use Rattle.forming.proofs.settled.has_word.Tie as tie

@@ -7,48 +7,43 @@ use Rattle.matching.proofs.leaves.bind_name.Statement.{statement}
 use Rattle.matching.proofs.leaves.bind_name.Tie as tie
 use Rattle.matching.proofs.leaves.bind_name.Reads as reads
 use Rattle.matching.proofs.leaves.bind_name.Lts as lts
-use Rattle.matching.proofs.leaves.Match.failed.Reads as failed-reads
 use Rattle.parts.proofs.words.order_words.Reads as order-words-reads
 
--- src/leaves.rt:47:15
+-- src/leaves.rt:19:15
 mul-old : tie.Need-mul-old
 mul-old c = search needs
 
--- src/leaves.rt:47:15
+-- src/leaves.rt:19:15
 element-copy-out-old : tie.Need-element-copy-out-old
 element-copy-out-old c = search needs
 
--- src/leaves.rt:50:9
-mul-words : tie.Need-mul-words
-mul-words c = search needs
+-- src/leaves.rt:21:9
+mul-found : tie.Need-mul-found
+mul-found c = search needs
 
--- src/leaves.rt:50:9
-array-write-words : tie.Need-array-write-words
-array-write-words c = search needs
+-- src/leaves.rt:21:9
+element-write-found : tie.Need-element-write-found
+element-write-found c = search needs
 
--- src/leaves.rt:51:9
+-- src/leaves.rt:22:9
 returns : tie.Need-returns
-returns c = binds _ _ (c .before .before .before .before .pre .0) _ _ (c .before .if1 .taken) _ refl refl
+returns c = binds _ _ (c .before .before .before .pre .0) _ _ (c .if1 .taken) _ refl
 
--- src/leaves.rt:53:9
+-- src/leaves.rt:24:9
 order-words-requires : tie.Need-order-words-requires
 order-words-requires c κs = (word-held _ _ (c .before .before .before .pre .0) (c .before .before .before .args .word) _ (c .before .before .before .pre .2), part-word _ _ (c .before .before .before .pre .1))
 
--- src/leaves.rt:55:9
+-- src/leaves.rt:26:9
 enum-told : tie.Need-enum-told
 enum-told c = search needs
 
--- src/leaves.rt:55:9
+-- src/leaves.rt:26:9
 returns-2 : tie.Need-returns-2
 returns-2 c = agrees _ _ (c .before .before .before .before .before .before .pre .0) _ _ (c .before .before .before .if1 .left) _ (c .before .before .order-words .ensures) (c .enum-told .given .1)
 
--- src/leaves.rt:57:5
-failed-requires : tie.Need-failed-requires
-failed-requires c κs = search needs
-
--- src/leaves.rt:43:1
+-- src/leaves.rt:15:1
 returns-3 : tie.Need-returns-3
-returns-3 c = clashes _ _ (c .before .before .before .before .before .before .pre .0) _ _ (c .before .before .before .if1 .left) _ (c .before .before .order-words .ensures) (λ d. ⊎-elim (λ k. let e = rw d at k in omega arith) (λ k. let e = rw d at k in omega arith) (c .before .match .keys2)) _ (c .failed .ensures)
+returns-3 c = clashes _ _ (c .before .before .before .before .before .pre .0) _ _ (c .before .before .if1 .left) _ (c .before .order-words .ensures) (λ d. ⊎-elim (λ k. let e = rw d at k in omega arith) (λ k. let e = rw d at k in omega arith) (c .match .keys2))
 
 pub bind-name-spec : {M : Type 1} → statement M
 bind-name-spec =
@@ -56,11 +51,10 @@ bind-name-spec =
     (tie.spec
     mul-old
     element-copy-out-old
-    mul-words
-    array-write-words
+    mul-found
+    element-write-found
     returns
     order-words-requires
     enum-told
     returns-2
-    failed-requires
     returns-3)

@@ -1,24 +1,26 @@
 -- The records that are left are those of the bytes that are left.
+use mathlib.Core.Path.{_≡_, refl}
 use Prim.Native.Nat.{_-_}
 use native.Mathlib.Omega.{arith}
 use borrow.Author.Needs.{needs}
 use mathlib.Core.Logic.{⊎-elim}
 use lib.ListN.{length, length-drop}
+use Rattle.tables.specs.Shapes.{lengthRows}
 use Rattle.tables.proofs.Cutting.{part-rest, measured, measured-within, noted, not-noted, Turn, turn-start, turn-end, turn-bad, turn-more}
 use Rattle.tables.proofs.reading.cut.Statement.{statement}
 use Rattle.tables.proofs.reading.cut.Tie as tie
 
 abbrev Inv-loop : tie.InvT-loop
-Inv-loop table index₀ at₀ count₀ index at count = Turn table index at count
+Inv-loop table index₀ lengths at₀ count₀ index at count = Turn table index at count × (lengths ≡ lengthRows)
 
 abbrev μ-loop : tie.MeasureT-loop
-μ-loop table index₀ at₀ count₀ index at count = length table - at
+μ-loop table index₀ lengths at₀ count₀ index at count = length table - at
 
 loop-holds : tie.Need-loop-holds Inv-loop μ-loop
-loop-holds c = turn-start _ _ (c .before .pre .1)
+loop-holds c = (turn-start _ _ (c .before .pre .1), refl)
 
 sub-measure : tie.Need-sub-measure Inv-loop μ-loop
-sub-measure c = omega (arith, c .before .loop .inv .within)
+sub-measure c = omega (arith, c .before .before .loop .inv .0 .within)
 
 part-measure-start : tie.Need-part-measure-start Inv-loop μ-loop
 part-measure-start c = search needs
@@ -27,36 +29,38 @@ part-measure-end : tie.Need-part-measure-end Inv-loop μ-loop
 part-measure-end c = search needs
 
 measure-requires : tie.Need-measure-requires Inv-loop μ-loop
-measure-requires c κs = rw (part-rest (c .before .before .before .before .args .table .now) (c .before .before .loop .at)) (omega (arith, length-drop (c .before .before .loop .at) (c .before .before .before .before .args .table .now)))
+measure-requires c κs = (c .before .before .before .loop .inv .1, rw (part-rest (c .before .before .before .before .before .args .table .now) (c .before .before .before .loop .at)) (omega (arith, length-drop (c .before .before .before .loop .at) (c .before .before .before .before .before .args .table .now))))
 
 returns : tie.Need-returns Inv-loop μ-loop
-returns c = turn-bad (c .before .before .before .before .before .before .args .table .now) (c .before .before .before .before .loop .index) (c .before .before .before .before .loop .at) (c .before .before .before .before .loop .count) (c .before .before .before .before .loop .inv) (c .before .before .before .loop-test .taken) ((measured (c .before .before .before .before .before .before .args .table .now) (c .before .before .before .before .loop .at) (c .before .measure .result) (c .before .measure .ensures)) .bad (c .if1 .taken))
+returns c = turn-bad (c .before .before .before .before .before .before .before .args .table .now) (c .before .before .before .before .before .loop .index) (c .before .before .before .before .before .loop .at) (c .before .before .before .before .before .loop .count) (c .before .before .before .before .before .loop .inv .0) (c .before .before .before .before .loop-test .taken) ((measured (c .before .before .before .before .before .before .before .args .table .now) (c .before .before .before .before .before .loop .at) (c .before .measure .result) (c .before .measure .ensures)) .bad (c .if1 .taken))
 
 cast-index : tie.Need-cast-index Inv-loop μ-loop
-cast-index c = omega (arith, c .before .before .before .before .before .loop .inv .within)
+cast-index c = omega (arith, c .before .before .before .before .before .before .loop .inv .0 .within)
 
 mul-index : tie.Need-mul-index Inv-loop μ-loop
-mul-index c = omega (arith, c .before .before .before .before .before .loop .inv .within)
+mul-index c = omega (arith, c .before .before .before .before .before .before .loop .inv .0 .within)
 
 element-write-index : tie.Need-element-write-index Inv-loop μ-loop
-element-write-index c = omega (arith, c .before .before .before .before .before .loop .inv .within)
+element-write-index c = omega (arith, c .before .before .before .before .before .before .loop .inv .0 .within)
 
 add-at : tie.Need-add-at Inv-loop μ-loop
-add-at c = omega (arith, measured-within (c .before .before .before .before .before .before .before .args .table .now) (c .before .before .before .before .before .loop .at) (c .before .before .measure .result) (measured (c .before .before .before .before .before .before .before .args .table .now) (c .before .before .before .before .before .loop .at) (c .before .before .measure .result) (c .before .before .measure .ensures)) (omega (arith, c .before .if1 .left)))
+add-at c = omega (arith, measured-within (c .before .before .before .before .before .before .before .before .args .table .now) (c .before .before .before .before .before .before .loop .at) (c .before .before .measure .result) (measured (c .before .before .before .before .before .before .before .before .args .table .now) (c .before .before .before .before .before .before .loop .at) (c .before .before .measure .result) (c .before .before .measure .ensures)) (omega (arith, c .before .if1 .left)))
 
 add-count : tie.Need-add-count Inv-loop μ-loop
-add-count c = omega (arith, c .before .before .before .before .before .loop .inv .within)
+add-count c = omega (arith, c .before .before .before .before .before .before .loop .inv .0 .within)
 
 loop-less : tie.Need-loop-less Inv-loop μ-loop
-loop-less c = omega (arith, c .before .before .before .before .before .loop .inv .within)
+loop-less c = omega (arith, c .before .before .before .before .before .before .loop .inv .0 .within)
 
 loop-again : tie.Need-loop-again Inv-loop μ-loop
-loop-again c =
-    turn-more (c .before .before .before .before .before .before .before .args .table .now) (c .before .before .before .before .before .loop .index) (c .before .before .before .before .before .loop .at) (c .before .before .before .before .before .loop .count) (c .before .before .before .before .before .loop .inv) (c .before .before .before .before .loop-test .taken) (c .before .before .measure .result) (c .if2 .index) ((measured (c .before .before .before .before .before .before .before .args .table .now) (c .before .before .before .before .before .loop .at) (c .before .before .measure .result) (c .before .before .measure .ensures)) .good (omega (arith, c .before .if1 .left))) ((measured (c .before .before .before .before .before .before .before .args .table .now) (c .before .before .before .before .before .loop .at) (c .before .before .measure .result) (c .before .before .measure .ensures)) .long (omega (arith, c .before .if1 .left)))
-    (⊎-elim (λ w. noted (c .before .before .before .before .before .loop .index) (c .if2 .index) (c .before .before .before .before .before .loop .count) (c .before .before .before .before .before .loop .at) (c .before .before .before .before .before .loop .inv .long) (w .1)) (λ w. not-noted (c .before .before .before .before .before .loop .index) (c .if2 .index) (c .before .before .before .before .before .loop .count) (c .before .before .before .before .before .loop .at) (c .before .before .before .before .before .loop .inv .long) (w .1) (w .0 .left)) (c .if2 .came))
+loop-again c = (
+  (turn-more (c .before .before .before .before .before .before .before .before .args .table .now) (c .before .before .before .before .before .before .loop .index) (c .before .before .before .before .before .before .loop .at) (c .before .before .before .before .before .before .loop .count) (c .before .before .before .before .before .before .loop .inv .0) (c .before .before .before .before .before .loop-test .taken) (c .before .before .measure .result) (c .if2 .index) ((measured (c .before .before .before .before .before .before .before .before .args .table .now) (c .before .before .before .before .before .before .loop .at) (c .before .before .measure .result) (c .before .before .measure .ensures)) .good (omega (arith, c .before .if1 .left))) ((measured (c .before .before .before .before .before .before .before .before .args .table .now) (c .before .before .before .before .before .before .loop .at) (c .before .before .measure .result) (c .before .before .measure .ensures)) .long (omega (arith, c .before .if1 .left)))
+      (⊎-elim (λ w. noted (c .before .before .before .before .before .before .loop .index) (c .if2 .index) (c .before .before .before .before .before .before .loop .count) (c .before .before .before .before .before .before .loop .at) (c .before .before .before .before .before .before .loop .inv .0 .long) (w .1)) (λ w. not-noted (c .before .before .before .before .before .before .loop .index) (c .if2 .index) (c .before .before .before .before .before .before .loop .count) (c .before .before .before .before .before .before .loop .at) (c .before .before .before .before .before .before .loop .inv .0 .long) (w .1) (w .0 .left)) (c .if2 .came))),
+  c .before .before .before .before .before .before .loop .inv .1,
+)
 
 returns-2 : tie.Need-returns-2 Inv-loop μ-loop
-returns-2 c = turn-end (c .before .before .before .args .table .now) (c .before .loop .index) (c .before .loop .at) (c .before .loop .count) (c .before .loop .inv) (c .loop-test .left)
+returns-2 c = turn-end (c .before .before .before .args .table .now) (c .before .loop .index) (c .before .loop .at) (c .before .loop .count) (c .before .loop .inv .0) (c .loop-test .left)
 
 pub cut-spec : {M : Type 1} → statement M
 cut-spec =

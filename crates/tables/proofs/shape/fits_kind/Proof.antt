@@ -1,56 +1,38 @@
--- The length is fit for the kind where the constant table says so.
-use mathlib.Core.Path.{sym, ap, _∙_}
-use native.Mathlib.Omega.{arith}
+-- The bit of the length in the row of the kind decides; no record is longer than 12.
 use borrow.Author.Needs.{needs}
-use lib.Dec.{eqb}
-use Rattle.tables.proofs.Lengths.{step-some, too-short, too-long, by-step, by-one}
+use Rattle.tables.proofs.Lengths.{too-long, by-bit}
 use Rattle.tables.proofs.shape.fits_kind.Statement.{statement}
 use Rattle.tables.proofs.shape.fits_kind.Tie as tie
 
-mul-row : tie.Need-mul-row
-mul-row c = search needs
-
-array-copy-out-row : tie.Need-array-copy-out-row
-array-copy-out-row c = search needs
-
-wide-requires : tie.Need-wide-requires
-wide-requires c κs = search needs
-
 returns : tie.Need-returns
-returns c = too-short (c .before .before .before .args .kind) (c .before .before .before .pre .0) (c .before .before .before .args .len) (c .before .before .before .pre .1) (omega (arith, c .before .wide .ensures .0))
+returns c = too-long (c .before .args .kind) (c .before .pre .1 .0) (c .before .args .len) (c .before .pre .1 .1) (c .if1 .taken)
 
-wide-requires-2 : tie.Need-wide-requires-2
-wide-requires-2 c κs = search needs
+mul-result : tie.Need-mul-result
+mul-result c = search needs
+
+element-copy-out-result : tie.Need-element-copy-out-result
+element-copy-out-result c = search needs
+
+sub-result : tie.Need-sub-result
+sub-result c = search needs
+
+cast-result : tie.Need-cast-result
+cast-result c = search needs
+
+shr-result : tie.Need-shr-result
+shr-result c = search needs
 
 returns-2 : tie.Need-returns-2
-returns-2 c = too-long (c .before .before .before .before .before .args .kind) (c .before .before .before .before .before .pre .0) (c .before .before .before .before .before .args .len) (c .before .before .before .before .before .pre .1) (omega (arith, c .before .before .before .wide .ensures .0)) (omega (arith, c .before .wide2 .ensures .0))
-
-wide-requires-3 : tie.Need-wide-requires-3
-wide-requires-3 c κs = search needs
-
-returns-3 : tie.Need-returns-3
-returns-3 c = by-one (c .before .before .before .before .before .before .before .args .kind) (c .before .before .before .before .before .before .before .pre .0) (c .before .before .before .before .before .before .before .args .len) (c .before .before .before .before .before .before .before .pre .1) (omega (arith, c .before .before .before .before .before .wide .ensures .0)) (omega (arith, c .before .before .before .wide2 .ensures .0)) (omega (arith, c .before .wide3 .ensures .0))
-
-rem-result : tie.Need-rem-result
-rem-result c = omega (arith, c .before .wide3 .ensures .0, step-some (c .before .before .before .before .before .before .before .args .kind) (c .before .before .before .before .before .before .before .pre .0))
-
-returns-4 : tie.Need-returns-4
-returns-4 c =
-    let least = c .before .before .before .before .before .wide .ensures .0 in
-    let step = c .before .wide3 .ensures .0 in
-    rw (least, step) (by-step (c .before .before .before .before .before .before .before .args .kind) (c .before .before .before .before .before .before .before .pre .0) (c .before .before .before .before .before .before .before .args .len) (c .before .before .before .before .before .before .before .pre .1) (omega (arith, c .before .before .before .before .before .wide .ensures .0)) (omega (arith, c .before .before .before .wide2 .ensures .0)))
+returns-2 c = rw (c .before .before .pre .0) (by-bit (c .before .before .args .kind) (c .before .before .pre .1 .0) (c .before .before .args .len) (c .before .before .pre .1 .1) (c .before .if1 .left))
 
 pub fits-kind-spec : {M : Type 1} → statement M
 fits-kind-spec =
     tie.close
     (tie.spec
-    mul-row
-    array-copy-out-row
-    wide-requires
     returns
-    wide-requires-2
-    returns-2
-    wide-requires-3
-    returns-3
-    rem-result
-    returns-4)
+    mul-result
+    element-copy-out-result
+    sub-result
+    cast-result
+    shr-result
+    returns-2)

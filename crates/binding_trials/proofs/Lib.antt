@@ -1,3 +1,0 @@
-mod Legality
-mod Counting
-mod Showing

@@ -1,0 +1,175 @@
+-- What one pass over the records keeps: which are left to be named, what each holds and leaves free, and its height.
+use mathlib.Core.Path.{_≡_}
+use mathlib.Core.Bool.{Bool, true, false, not, _&&_, _||_, cond}
+use mathlib.Core.List.{List, []}
+use Prim.Native.Nat.{ℕ, suc, _+_, _^_, _<_, _≤_}
+use lib.Bits.{bitAnd, bitOr, bitXor}
+use lib.Dec.{eqb, ltb}
+use lib.ListN.{length, getD, take}
+use Rattle.tables.specs.declared.Role.{Role}
+use Rattle.tables.specs.declared.Role.the-variants.{Plain, Condition, Body, Pattern, Name}
+use Rattle.tables.specs.Record.{Record, isPattern, named, operand, roleAt, nameOf}
+use Rattle.tables.specs.Table.{recordAt, kindAt}
+use Rattle.tables.specs.Sheet.{lowest, isIn, height, holdsName, isCovered, isCondition, isBinder, patternOf}
+use Rattle.tables.specs.Check.{mostRecords, mostHeight, allNamed, hasBad, chooses, fault7, fault8, fault9}
+use Rattle.tables.specs.Accepted.{records}
+use Rattle.tables.specs.Laws.Accepted.{Clear6}
+use Rattle.tables.specs.Reading.{Here}
+use Rattle.checking.specs.Naming.{Whole}
+use Rattle.checking.specs.Scopes.{hasBit, bitsBelow}
+use Rattle.checking.specs.declared.sweep.Sum.{Sum}
+use Rattle.checking.specs.declared.sweep.Handed.{Handed}
+use Rattle.checking.specs.declared.sweep.Swept.{Swept}
+
+-- ---- bits
+
+-- The bits of a that b does not have.
+unfoldable pub without : ℕ → ℕ → ℕ
+without a b = bitXor (bitOr a b) b
+
+-- Two records hold no name in common: names are the bits from 2 on.
+unfoldable pub apart : ℕ → ℕ → Bool
+apart a b = ltb (bitAnd a b) 4
+
+-- ---- records left to be named
+
+-- 1 for an expression, 2 for a pattern.
+abbrev pub sortOf : ℕ → ℕ
+sortOf kind = cond (isPattern kind) 2 1
+
+-- The sort of each record below r that is not named in ms, and 0 elsewhere.
+abbrev pub leftAt : List Record → ℕ → List ℕ → ℕ → ℕ
+leftAt rs r ms n = cond (ltb n r && not (isIn n ms)) (sortOf (kindAt rs n)) 0
+
+pub record Left (rs : List Record) (left : List ℕ) (r : ℕ) (ms : List ℕ) : Type 0 where
+  pub long : length left ≡ 256
+  pub is : (n : ℕ) → n < 256 → getD left n 0 ≡ leftAt rs r ms n
+  pub lower : (n : ℕ) → isIn n ms ≡ true → n < r
+
+-- The sort that a role asks for, and whether a record is a name where one is asked for.
+abbrev pub asked : Role → ℕ
+asked Plain = 1
+asked Condition = 1
+asked Body = 1
+asked Pattern = 2
+asked Name = 2
+
+abbrev pub isNamed : Role → ℕ → Bool
+isNamed Plain kind = true
+isNamed Condition kind = true
+isNamed Body kind = true
+isNamed Pattern kind = true
+isNamed Name kind = eqb kind 32
+
+-- ---- names that are read and not bound, and choices
+
+-- What a record hands on of an operand's free bits: all, or without the names that it binds; none where a name is bound anew or a condition has a choice.
+abbrev pub hands : ℕ → Handed
+hands free = record { fine = true; free = free }
+
+abbrev pub stops : Handed
+stops = record { fine = false; free = 0 }
+
+abbrev pub coveredBy : ℕ → ℕ → ℕ → Handed
+coveredBy names held free = cond (apart held names) (hands (without free names)) stops
+
+abbrev pub handedOn : Role → ℕ → ℕ → ℕ → Handed
+handedOn Plain names held free = hands free
+handedOn Condition names held free = cond (hasBit free 0) stops (coveredBy names held free)
+handedOn Body names held free = coveredBy names held free
+handedOn Pattern names held free = hands free
+handedOn Name names held free = hands free
+
+-- The bits that are free at a record by itself: the name that it reads, or that it chooses.
+unfoldable pub freeOwn : Record → ℕ → ℕ
+freeOwn x names =
+    cond (eqb (x .kind) 3) (2 ^ (nameOf x + 2)) (cond (eqb (x .kind) 13 || (eqb (x .kind) 12 && hasBit names 1)) 1 0)
+
+-- The free bits m of operand i of record q are among its own, o, or bound there; no name is bound anew, and no condition has a choice.
+pub record Passes (rs : List Record) (q i m o : ℕ) : Type 0 where
+  pub name : (n : ℕ) → hasBit m (n + 2) ≡ true → hasBit o (n + 2) || (isCovered (roleAt (recordAt rs q) i) && holdsName rs (patternOf rs q) n) ≡ true
+  pub choice : hasBit m 0 ≡ true → hasBit o 0 ≡ true
+  pub outside : hasBit m 0 ≡ true → isCondition (roleAt (recordAt rs q) i) ≡ false
+  pub fresh : (n : ℕ) → holdsName rs (operand (recordAt rs q) i) n ≡ true → isCovered (roleAt (recordAt rs q) i) && holdsName rs (patternOf rs q) n ≡ false
+
+-- The free bits of record q have what it reads and chooses, and what its operands leave free.
+pub record Frees (rs : List Record) (frees : List ℕ) (q o : ℕ) : Type 0 where
+  pub read : kindAt rs q ≡ 3 → hasBit o (nameOf (recordAt rs q) + 2) ≡ true
+  pub chosen : chooses rs q ≡ true → hasBit o 0 ≡ true
+  pub pass : (i : ℕ) → i < length (named (recordAt rs q)) → Passes rs q i (getD frees (operand (recordAt rs q) i) 0) o
+
+-- ---- the pass
+
+-- What is known of the records below r; most of it where all keep rule 6, which the pass finds out by the way.
+pub record Kept (rs : List Record) (below frees highs : List ℕ) (r : ℕ) : Type 0 where
+  pub long-below : length below ≡ mostRecords
+  pub long-frees : length frees ≡ mostRecords
+  pub long-highs : length highs ≡ mostRecords
+  pub held : Clear6 rs → (q : ℕ) → q < r → getD below q 0 ≡ bitsBelow rs q
+  pub high : Clear6 rs → (q : ℕ) → q < r → getD highs q 0 ≡ height rs q
+  pub few : (q : ℕ) → q < r → getD highs q 0 ≤ q + 1
+  pub zero-below : (q : ℕ) → r ≤ q → getD below q 0 ≡ 0
+  pub zero-frees : (q : ℕ) → r ≤ q → getD frees q 0 ≡ 0
+  pub free : Clear6 rs → (q : ℕ) → q < r → Frees rs frees q (getD frees q 0)
+
+pub record AskSum (table index : List ℕ) (r : ℕ) (left below frees highs : List ℕ) : Type 0 where
+  pub here : Here table index r
+  pub left-is : Left (records table) left r (allNamed (take r (records table)))
+  pub kept : Kept (records table) below frees highs r
+
+-- The names that a binder's pattern holds.
+pub record Names (rs : List Record) (r names : ℕ) : Type 0 where
+  pub are : Clear6 rs → isBinder (kindAt rs r) ≡ true → names ≡ bitsBelow rs (patternOf rs r)
+
+pub record AskNames (table index : List ℕ) (r : ℕ) (below : List ℕ) : Type 0 where
+  pub here : Here table index r
+  pub long : length below ≡ mostRecords
+  pub held : Clear6 (records table) → (q : ℕ) → q < r → getD below q 0 ≡ bitsBelow (records table) q
+
+pub record AskGather (table index : List ℕ) (r names : ℕ) (left below frees highs : List ℕ) : Type 0 where
+  pub ask : AskSum table index r left below frees highs
+  pub names-are : Names (records table) r names
+
+-- What the operands of a record that is not at fault come to.
+pub record Sums (rs : List Record) (r : ℕ) (left frees : List ℕ) (s : Sum) : Type 0 where
+  pub good : hasBad rs r ≡ false
+  pub left-is : Left rs left r (allNamed (take (suc r) rs))
+  pub held : Clear6 rs → s .held ≡ bitsBelow rs r
+  pub high : Clear6 rs → s .high + 1 ≡ height rs r
+  pub few : s .high ≤ r
+  pub free : Clear6 rs → Frees rs frees r (s .free)
+
+-- What is known once it is entered.
+pub record Entered (rs : List Record) (r : ℕ) (left below frees highs : List ℕ) : Type 0 where
+  pub good : hasBad rs r ≡ false
+  pub left-is : Left rs left (r + 1) (allNamed (take (suc r) rs))
+  pub kept : Kept rs below frees highs (r + 1)
+
+pub record AskSweep (table index : List ℕ) (count : ℕ) (left below frees highs : List ℕ) : Type 0 where
+  pub whole : Whole table index count
+  pub left-is : Left (records table) left 0 []
+  pub kept : Kept (records table) below frees highs 0
+
+-- What is known after all records.
+pub record Passed (rs : List Record) (left frees highs : List ℕ) : Type 0 where
+  pub good : (q : ℕ) → q < length rs → hasBad rs q ≡ false
+  pub left-is : Left rs left (length rs) (allNamed rs)
+  pub free : Clear6 rs → (q : ℕ) → q < length rs → Frees rs frees q (getD frees q 0)
+  pub high : Clear6 rs → (q : ℕ) → q < length rs → getD highs q 0 ≡ height rs q
+
+-- Rule 9, of the heights.
+abbrev pub isTall : List ℕ → ℕ → Bool
+isTall highs q = ltb mostHeight (getD highs q 0)
+
+-- The last record is an expression, with no name free, and the only one left.
+pub record Closed (left frees : List ℕ) (last : ℕ) : Type 0 where
+  pub one : getD left last 0 ≡ 1
+  pub none : (q : ℕ) → q < last → getD left q 0 ≡ 0
+  pub shut : getD frees last 0 < 4
+
+-- What the pass answers: where it is fine, rules 6 to 8 are kept, and the lowest record that breaks rule 9 is known.
+pub record Settled (rs : List Record) (s : Swept) : Type 0 where
+  pub clear6 : Clear6 rs
+  pub clear7 : (r : ℕ) → r < length rs → fault7 rs r ≡ false
+  pub clear8 : (r : ℕ) → r < length rs → fault8 rs r ≡ false
+  pub low : s .low ≡ lowest (fault9 rs) (length rs)

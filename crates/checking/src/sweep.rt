@@ -1,0 +1,420 @@
+// One pass over the records that settles every table which keeps rules 6 to 8; where it finds a fault, the passes rule by rule tell which.
+ghost use mathlib.Core.Path.{_≡_};
+ghost use mathlib.Core.Bool.{true, false};
+ghost use Prim.Native.Nat.{ℕ, _<_, _≤_, max};
+ghost use lib.ListN.{getD};
+ghost use Rattle.tables.specs.Table.{recordAt, kindAt};
+ghost use Rattle.tables.specs.Sheet.{lowest as lowestOf};
+ghost use Rattle.tables.specs.Check.{mostRecords};
+ghost use Rattle.tables.specs.Accepted.{records};
+ghost use Rattle.tables.specs.Reading.{Here};
+ghost use Rattle.checking.specs.Naming.{Whole};
+ghost use Rattle.checking.specs.Sweeps.{without as withoutOf, apart, sortOf, asked, isNamed, coveredBy, handedOn, freeOwn, Names, AskNames, AskSum, AskGather, Sums, Entered, AskSweep, Passed, isTall, Closed, Settled};
+use crate::height::higher;
+use crate::scope::bit;
+use crate::scope::has;
+use crate::scope::own;
+use crate::scope::union;
+use tables::Index;
+use tables::MOST_RECORDS;
+use tables::Role;
+use tables::kinds;
+use tables::reading::field;
+use tables::reading::kind;
+use tables::reading::operand;
+use tables::reading::operand_count;
+use tables::reading::role;
+use tables::shape::is_binder;
+use tables::shape::is_pattern;
+use tables::shape::wide;
+
+// For each number that a byte holds: whether such a record is left to be named, and of which sort.
+pub type Left = [u8; 256];
+
+const EXPRESSION: u8 = 1;
+
+const PATTERN: u8 = 2;
+
+const HIGHEST: u8 = 32;
+
+// The first bit of a name; a choice is bit 0.
+const CHOICE: u32 = 1;
+
+const FIRST_NAME: u32 = 4;
+
+// What a record and its operands come to: the bits held at and below it, as in `scope`; the names that are free there (bits from 2 on) and
+// whether there is a choice (bit 0); the greatest height of an operand.
+pub struct Sum {
+    pub fine: bool,
+    pub held: u32,
+    pub free: u32,
+    pub high: usize,
+}
+
+// What a record hands on of an operand's free bits.
+pub struct Handed {
+    pub fine: bool,
+    pub free: u32,
+}
+
+// What the pass answers: whether rules 6 to 8 are kept, and the lowest record that breaks rule 9.
+pub struct Swept {
+    pub fine: bool,
+    pub low: usize,
+}
+
+// ---- bits
+
+fn without(a: u32, b: u32) -> u32
+    ensures { λ r. ⌜ r ≡ withoutOf a b ⌝ }
+{
+    (a | b) ^ b
+}
+
+// No name is in both.
+fn is_apart(a: u32, b: u32) -> bool
+    ensures { λ r. ⌜ r ≡ apart a b ⌝ }
+{
+    (a & b) < FIRST_NAME
+}
+
+// ---- one operand
+
+// The sort that a role asks for.
+fn wanted(role: Role) -> u8
+    ensures { λ x. ⌜ x ≡ asked role ⌝ }
+{
+    match role {
+        Role::Plain => EXPRESSION,
+        Role::Condition => EXPRESSION,
+        Role::Body => EXPRESSION,
+        Role::Pattern => PATTERN,
+        Role::Name => PATTERN,
+    }
+}
+
+// Record n is a name where the role asks for one.
+fn is_named(table: &[u8], index: &Index, role: Role, n: usize) -> bool
+    requires { ⌜ Here (now table) (now index) n ⌝ }
+    ensures { λ b. ⌜ b ≡ isNamed role (kindAt (records (now (table .entry))) n) ⌝ }
+{
+    match role {
+        Role::Plain => true,
+        Role::Condition => true,
+        Role::Body => true,
+        Role::Pattern => true,
+        Role::Name => kind(table, index, n) == kinds::NAME_PATTERN,
+    }
+}
+
+// What is handed on of an operand that a binder's names cover: none of them is bound there anew.
+fn covered(names: u32, held: u32, free: u32) -> Handed
+    ensures { λ h. ⌜ h ≡ coveredBy names held free ⌝ }
+{
+    if is_apart(held, names) {
+        return Handed {
+            fine: true,
+            free: without(free, names),
+        };
+    }
+    Handed {
+        fine: false,
+        free: 0,
+    }
+}
+
+// The same for each role: a condition has no choice.
+fn hand_on(role: Role, names: u32, held: u32, free: u32) -> Handed
+    ensures { λ h. ⌜ h ≡ handedOn role names held free ⌝ }
+{
+    match role {
+        Role::Plain => Handed { fine: true, free },
+        Role::Condition => {
+            if has(free, 0) {
+                return Handed {
+                    fine: false,
+                    free: 0,
+                };
+            }
+            covered(names, held, free)
+        }
+        Role::Body => covered(names, held, free),
+        Role::Pattern => Handed { fine: true, free },
+        Role::Name => Handed { fine: true, free },
+    }
+}
+
+// ---- one record
+
+// The bits that the pattern of record r holds, where it is a binder.
+fn names_of(table: &[u8], index: &Index, r: usize, below: &[u32; MOST_RECORDS]) -> u32
+    requires { ⌜ AskNames (now table) (now index) r (now below) ⌝ }
+    ensures { λ m. ⌜ Names (records (now (table .entry))) r m ⌝ }
+{
+    let binds = is_binder(kind(table, index, r));
+    if !binds {
+        return 0;
+    }
+    let p = operand(table, index, r, 0);
+    if r <= p {
+        return 0;
+    }
+    below[p]
+}
+
+// The bits that are free at record r by itself: the name that it reads, or that it chooses.
+fn own_free(table: &[u8], index: &Index, r: usize, names: u32) -> u32
+    requires { ⌜ Here (now table) (now index) r ⌝ }
+    ensures { λ m. ⌜ m ≡ freeOwn (recordAt (records (now (table .entry))) r) names ⌝ }
+{
+    let k = kind(table, index, r);
+    if k == kinds::NAME {
+        return bit(field(table, index, r, 0) + 2);
+    }
+    if k == kinds::LET_BE {
+        return CHOICE;
+    }
+    if k != kinds::LET {
+        return 0;
+    }
+    if has(names, 1) {
+        return CHOICE;
+    }
+    0
+}
+
+// What record r and its operands come to, which are not left to be named any more; not fine where a rule is broken.
+fn gather(
+    table: &[u8],
+    index: &Index,
+    r: usize,
+    names: u32,
+    left: &mut Left,
+    below: &[u32; MOST_RECORDS],
+    frees: &[u32; MOST_RECORDS],
+    highs: &[u8; MOST_RECORDS],
+) -> Sum
+    requires { ⌜ AskGather (now table) (now index) r names (now left) (now below) (now frees) (now highs) ⌝ }
+    ensures { λ s. ⌜ (s .fine ≡ true → Sums (records (now (table .entry))) r (now (left .exit)) (now (frees .entry)) s) ⌝ }
+{
+    let count = operand_count(table, index, r);
+    let mut held = own(table, index, r);
+    let mut free = own_free(table, index, r, names);
+    let mut high = 0;
+    let mut i = 0;
+    while i < count {
+        let x = role(table, index, r, i);
+        let n = operand(table, index, r, i);
+        if left[n] != wanted(x) {
+            return stop();
+        }
+        let named = is_named(table, index, x, n);
+        if !named {
+            return stop();
+        }
+        left[n] = 0;
+        let inner = below[n];
+        let handed = hand_on(x, names, inner, frees[n]);
+        let fine = handed.fine;
+        if !fine {
+            return stop();
+        }
+        held = union(held, inner);
+        free = union(free, handed.free);
+        high = higher(high, wide(highs[n]));
+        i += 1;
+    }
+    Sum {
+        fine: true,
+        held,
+        free,
+        high,
+    }
+}
+
+fn stop() -> Sum
+    ensures { λ s. ⌜ s .fine ≡ false ⌝ }
+{
+    Sum {
+        fine: false,
+        held: 0,
+        free: 0,
+        high: 0,
+    }
+}
+
+// ---- all records
+
+fn sort_of(kind: usize) -> u8
+    ensures { λ x. ⌜ x ≡ sortOf kind ⌝ }
+{
+    if is_pattern(kind) {
+        return PATTERN;
+    }
+    EXPRESSION
+}
+
+// Enters record r with what it and its operands come to, and leaves it to be named; false where a rule is broken. A literal has no operands,
+// and holds and leaves nothing.
+fn enter(
+    table: &[u8],
+    index: &Index,
+    r: usize,
+    left: &mut Left,
+    below: &mut [u32; MOST_RECORDS],
+    frees: &mut [u32; MOST_RECORDS],
+    highs: &mut [u8; MOST_RECORDS],
+) -> bool
+    requires { ⌜ AskSum (now table) (now index) r (now left) (now below) (now frees) (now highs) ⌝ }
+    ensures { λ b. ⌜ (b ≡ true → Entered (records (now (table .entry))) r (now (left .exit)) (now (below .exit)) (now (frees .exit)) (now (highs .exit))) ⌝ }
+{
+    let k = kind(table, index, r);
+    if k < kinds::NAME {
+        left[r] = EXPRESSION;
+        highs[r] = 1;
+        return true;
+    }
+    let names = names_of(table, index, r, below);
+    let s = gather(table, index, r, names, left, below, frees, highs);
+    let fine = s.fine;
+    if !fine {
+        return false;
+    }
+    left[r] = sort_of(k);
+    below[r] = s.held;
+    frees[r] = s.free;
+    let high = s.high;
+    highs[r] = (high + 1) as u8;
+    true
+}
+
+// Enters all records, from the first on.
+fn enter_all(
+    table: &[u8],
+    index: &Index,
+    count: usize,
+    left: &mut Left,
+    below: &mut [u32; MOST_RECORDS],
+    frees: &mut [u32; MOST_RECORDS],
+    highs: &mut [u8; MOST_RECORDS],
+) -> bool
+    requires { ⌜ AskSweep (now table) (now index) count (now left) (now below) (now frees) (now highs) ⌝ }
+    ensures { λ b. ⌜ (b ≡ true → Passed (records (now (table .entry))) (now (left .exit)) (now (frees .exit)) (now (highs .exit))) ⌝ }
+{
+    let mut r = 0;
+    while r < count {
+        let fine = enter(table, index, r, left, below, frees, highs);
+        if !fine {
+            return false;
+        }
+        r += 1;
+    }
+    true
+}
+
+// ---- rule 9
+
+fn higher_byte(a: u8, b: u8) -> u8
+    ensures { λ x. ⌜ x ≡ max a b ⌝ }
+{
+    if a < b { b } else { a }
+}
+
+// No height is greater.
+fn greatest(highs: &[u8; MOST_RECORDS], count: usize) -> u8
+    requires { ⌜ count ≤ mostRecords ⌝ }
+    ensures { λ x. ⌜ ((q : ℕ) → q < count → getD (now (highs .entry)) q 0 ≤ x) ⌝ }
+{
+    let mut x = 0;
+    let mut i = 0;
+    while i < count {
+        x = higher_byte(x, highs[i]);
+        i += 1;
+    }
+    x
+}
+
+// The lowest height over 32; the number of records where there is none.
+fn lowest_tall(highs: &[u8; MOST_RECORDS], count: usize) -> usize
+    requires { ⌜ count ≤ mostRecords ⌝ }
+    ensures { λ p. ⌜ p ≡ lowestOf (isTall (now (highs .entry))) count ⌝ }
+{
+    if greatest(highs, count) <= HIGHEST {
+        return count;
+    }
+    let mut r = 0;
+    while r < count {
+        if HIGHEST < highs[r] {
+            return r;
+        }
+        r += 1;
+    }
+    count
+}
+
+// ---- the pass
+
+// No record below n is left where this is 0.
+fn left_below(left: &Left, n: usize) -> u8
+    requires { ⌜ n ≤ 256 ⌝ }
+    ensures { λ x. ⌜ (x ≡ 0 → (q : ℕ) → q < n → getD (now (left .entry)) q 0 ≡ 0) ⌝ }
+{
+    let mut x = 0;
+    let mut i = 0;
+    while i < n {
+        x = x | left[i];
+        i += 1;
+    }
+    x
+}
+
+// The last record is an expression, with no name free, and the only one left.
+fn is_closed(left: &Left, frees: &[u32; MOST_RECORDS], last: usize) -> bool
+    requires { ⌜ last < mostRecords ⌝ }
+    ensures { λ b. ⌜ (b ≡ true → Closed (now (left .entry)) (now (frees .entry)) last) ⌝ }
+{
+    if left[last] != EXPRESSION {
+        return false;
+    }
+    if FIRST_NAME <= frees[last] {
+        return false;
+    }
+    left_below(left, last) == 0
+}
+
+// One pass over all records. Where it is fine, rules 6 to 8 are kept.
+pub fn sweep(table: &[u8], index: &Index, count: usize) -> Swept
+    requires { ⌜ Whole (now table) (now index) count × (0 < count) ⌝ }
+    ensures { λ s. ⌜ (s .fine ≡ true → Settled (records (now (table .entry))) s) ⌝ }
+{
+    let mut left = [0u8; 256];
+    let mut below = [0u32; MOST_RECORDS];
+    let mut frees = [0u32; MOST_RECORDS];
+    let mut highs = [0u8; MOST_RECORDS];
+    let fine = enter_all(
+        table,
+        index,
+        count,
+        &mut left,
+        &mut below,
+        &mut frees,
+        &mut highs,
+    );
+    if !fine {
+        return Swept {
+            fine: false,
+            low: 0,
+        };
+    }
+    let closed = is_closed(&left, &frees, count - 1);
+    if !closed {
+        return Swept {
+            fine: false,
+            low: 0,
+        };
+    }
+    Swept {
+        fine: true,
+        low: lowest_tall(&highs, count),
+    }
+}

@@ -1,0 +1,146 @@
+-- Ways that are passed over: their halves have other sizes than the patterns take, and so no match.
+use mathlib.Core.Path.{_≡_, refl, sym, ap, _∙_}
+use mathlib.Core.Bool.{Bool}
+use mathlib.Core.Logic.{inl, inr}
+use mathlib.Core.Option.{Option, none as absent, some}
+use mathlib.Core.List.{List, [], _∷_, _++_, map}
+use Prim.Native.Nat.{ℕ, zero, suc, _+_, _-_, _≤_, _<_}
+use native.Mathlib.Omega.{arith}
+use lib.ListN.{length, getD, drop, length-map}
+use lib.Seq.{drop-cons}
+use Rattle.prelude.specs.Membership.{In}
+use Rattle.values.specs.Value.{Kind, Value, collection}
+use Rattle.tables.specs.Record.{named as operandsOf, operand}
+use Rattle.tables.specs.Table.{recordAt, kindAt}
+use Rattle.tables.specs.Accepted.{records}
+use Rattle.parts.specs.Part.{PartIs}
+use Rattle.parts.specs.Word.{unpacked}
+use Rattle.patterns.specs.Ways.{halves, gather}
+use Rattle.patterns.specs.Binding.{Binding, withEach, together}
+use Rattle.patterns.specs.Pattern.{Pattern, any, contents, divisions, split, leftOf, rightOf, matches, matchEach}
+use Rattle.patterns.specs.Laws.Matched.{in-together, matched}
+use Rattle.patterns.specs.Laws.Together.{with-none}
+use Rattle.patterns.specs.Nodes.{collectionOf, bothHalves, meetings}
+use Rattle.patterns.specs.Laws.Nodes.{two-of}
+use Rattle.patterns.specs.Read.{Readable, patternsOf, patternAt}
+use Rattle.matching.specs.declared.nodes.Meeting.{Meeting}
+use Rattle.matching.specs.declared.nodes.Meeting.the-variants.{Ways}
+use Rattle.matching.specs.Node.{Meets, innerOf, waysOf, metBy}
+use Rattle.matching.proofs.Records.{inner-length}
+use Rattle.forming.specs.declared.sizes.Sizes.{Sizes}
+use Rattle.forming.specs.Onward.{Task, matchesAll, oneWay}
+use Rattle.forming.specs.Adding.{adding}
+use Rattle.forming.specs.Pending.{Dividable}
+use Rattle.forming.specs.Reduced.{Splits}
+use Rattle.forming.specs.Sizes.{HalvesTake, TellsSizes, halfAt, Barren, FromHeld, From}
+use Rattle.prelude.proofs.Lists.{map-at}
+use Rattle.forming.proofs.Pushing.{countOf}
+use Rattle.forming.proofs.Reducing.{two-halves}
+use Rattle.forming.proofs.Solving.{DivideSoFar, ways-are}
+
+-- ---- lists
+
+none-in : {A : Type 0} (xs : List A) → ((x : A) → In x xs → ⊥) → xs ≡ []
+none-in [] h = refl
+none-in (x ∷ xs) h = absurd (h x (inl refl))
+
+gather-skip : {A B : Type 0} (xs : List A) (z : A) (f : A → List B) (n d : ℕ) → d + n ≤ length xs → ((j : ℕ) → d ≤ j → j < d + n → f (getD xs j z) ≡ []) → gather (drop (d + n) xs) f ≡ gather (drop d xs) f
+unfolding gather
+gather-skip {A} {B} xs z f zero d l h = let e : d + 0 ≡ d = omega arith in ap (λ (k : ℕ). gather (drop k xs) f) e
+gather-skip {A} {B} xs z f (suc n) d l h =
+    let here : drop d xs ≡ getD xs d z ∷ drop (suc d) xs = drop-cons xs d z (omega arith) in
+    let e : d + suc n ≡ suc d + n = omega arith in
+    let on : gather (drop (suc d + n) xs) f ≡ gather (drop (suc d) xs) f = gather-skip xs z f n (suc d) (omega arith) (λ j a b. h j (omega arith) (omega arith)) in
+    ap (λ (k : ℕ). gather (drop k xs) f) e ∙ on ∙ ap (λ (l : List B). l ++ gather (drop (suc d) xs) f) (sym (h d (omega arith) (omega arith))) ∙ ap (λ (l : List A). gather l f) (sym here)
+
+-- ---- two parts, one of which has no match
+
+no-pair : (l r : Pattern) (x y : Value) → ((a b : Binding) → In a (matches l x) → In b (matches r y) → ⊥) → matchEach (patternsOf (l ∷ r ∷ [])) (x ∷ y ∷ []) ≡ []
+unfolding matches patternsOf
+no-pair l r x y h =
+    none-in (together (matches l x) (matchEach (patternsOf (r ∷ [])) (y ∷ []))) (λ c i.
+    let (a, b, m, n, t, e) = in-together c (matches l x) (matchEach (patternsOf (r ∷ [])) (y ∷ [])) i in
+    let (a′, b′, m′, n′, t′, e′) = in-together b (matches r y) (matchEach (patternsOf []) []) n in
+    h a a′ m m′)
+
+no-way : (ps : List Pattern) (ts : List Task) (b : Binding) (vs : List Value) → matchEach (patternsOf ps) vs ≡ [] → oneWay ps ts b vs ≡ []
+unfolding together
+no-way ps ts b vs e = ap (λ (l : List Binding). withEach b (together l (matchesAll ts))) e ∙ with-none b
+
+-- ---- the ways of a pattern with two halves
+
+meetings-two : (c n : ℕ) (v : Value) → Splits c → meetings c n v ≡ map (bothHalves (collectionOf c)) (split (collectionOf c) (contents (collectionOf c) v))
+meetings-two c n v (inl e) = rw e refl
+meetings-two c n v (inr e) = rw e refl
+
+module _ (table index : List ℕ) (p : ℕ) (h : Readable table index p) (c : ℕ) (ec : c ≡ kindAt (records table) p) (u : Splits c) where
+  abbrev K : Kind
+  K = collectionOf c
+
+  abbrev half : ℕ → Pattern
+  half i = patternAt (records table) (operand (recordAt (records table) p) i)
+
+  inner-two : innerOf table p ≡ half 0 ∷ half 1 ∷ []
+  inner-two =
+      let two = two-halves table index p h c (sym ec) u in
+      sym (two-of (innerOf table p) (inner-length table index p h ∙ two))
+      ∙ ap (λ (x : Pattern). x ∷ getD (innerOf table p) 1 any ∷ []) (map-at (patternAt (records table)) (operandsOf (recordAt (records table) p)) 0 0 any (omega (arith, two)))
+      ∙ ap (λ (x : Pattern). half 0 ∷ x ∷ []) (map-at (patternAt (records table)) (operandsOf (recordAt (records table) p)) 1 0 any (omega (arith, two)))
+
+  ways-two : (v : Value) → waysOf table p v ≡ map (bothHalves K) (split K (contents K v))
+  ways-two v = ap (λ (k : ℕ). meetings k (length (operandsOf (recordAt (records table) p))) v) (sym ec) ∙ meetings-two c (length (operandsOf (recordAt (records table) p))) v u
+
+  -- there are some, so the value is a collection of the kind
+  some-ways : (v : Value) (w : ℕ) → length (waysOf table p v) ≡ w → 0 < w → (vs : List Value) × (waysOf table p v ≡ map (bothHalves K) (divisions K vs)) × (length (divisions K vs) ≡ w)
+  some-ways v w e l = go (contents K v) (ways-two v)
+    where
+      go : (o : Option (List Value)) → waysOf table p v ≡ map (bothHalves K) (split K o) → (vs : List Value) × (waysOf table p v ≡ map (bothHalves K) (divisions K vs)) × (length (divisions K vs) ≡ w)
+      go absent q = absurd (omega (arith, e, ap length q))
+      go (some vs) q = (vs, q, sym (length-map (divisions K vs) (bothHalves K)) ∙ ap length (sym q) ∙ e)
+
+  -- a way whose halves have other sizes has no match
+  barren-way : (z : Sizes) → HalvesTake table p c z → (w j : ℕ) → j < w → Barren c w z j → (v : Value) → length (waysOf table p v) ≡ w → (ts : List Task) (st : Binding) → oneWay (innerOf table p) ts st (metBy table p v j) ≡ []
+  barren-way z t w j l n v e ts st =
+      let (vs, q, d) = some-ways v w e (omega arith) in
+      let at : metBy table p v j ≡ bothHalves K (halfAt c vs j) = ap (λ (ws : List (List Value)). getD ws j []) q ∙ map-at (bothHalves K) (divisions K vs) j (halves [] []) [] (omega (arith, d)) in
+      ap (λ (x : List Value). oneWay (innerOf table p) ts st x) at
+      ∙ ap (λ (ps : List Pattern). oneWay ps ts st (bothHalves K (halfAt c vs j))) inner-two
+      ∙ no-way (half 0 ∷ half 1 ∷ []) ts st (bothHalves K (halfAt c vs j))
+      (no-pair (half 0) (half 1) (leftOf K (halfAt c vs j)) (rightOf K (halfAt c vs j)) (λ a b m o.
+      n vs d
+      (t .left (halfAt c vs j .left) a (matched (half 0) (leftOf K (halfAt c vs j)) a m))
+      (t .right (halfAt c vs j .right) b (matched (half 1) (rightOf K (halfAt c vs j)) b o))))
+
+-- ---- in the loop over all ways
+
+module _ (table index : List ℕ) (p : ℕ) (s : List ℕ) (word : ℕ) (a : List ℕ) (next top : ℕ) (f : List ℕ) (rows order : List ℕ) (n : ℕ) (h : Dividable table index p s word a next top f rows order n)
+    (m : Meeting) (met : Meets (kindAt (records table) p) (countOf table p) s (unpacked word) m) (w : ℕ) (me : m ≡ Ways w) (c : ℕ) (ec : c ≡ kindAt (records table) p) (z : Sizes) (t : TellsSizes table p c z) where
+  count-is : (v : Value) → PartIs s (unpacked word) v → length (waysOf table p v) ≡ w
+  count-is v q = ways-are table index p s word a next top f rows order n h m met w me v q .1
+
+  pub from-asked : FromHeld c w z
+  from-asked b =
+      let k = t b in
+      let (vs, q, d) = some-ways table index p (h .readable) c ec (k .splits) (h .value) w (count-is (h .value) (h .here)) (ways-are table index p s word a next top f rows order n h m met w me (h .value) (h .here) .2) in
+      record { splits = k .splits; values = vs; ways = d }
+
+  pub divide-skip : (b rows′ order′ : List ℕ) (n′ : ℕ) (any′ : Bool) (d : ℕ) → DivideSoFar table index p s word a next top f rows order n w b rows′ order′ n′ any′ d → (e : ℕ) → From c w d z e
+      → DivideSoFar table index p s word a next top f rows order n w b rows′ order′ n′ any′ e
+  divide-skip b rows′ order′ n′ any′ d i e k = record {
+    within = k .within (i .within);
+    kept = i .kept;
+    long = i .long;
+    right = λ v ts st bs g.
+        let (cs, r, q) = i .right v ts st bs g in
+        (cs, r, ap (λ (l : List Binding). adding l cs) (passed v ts st (count-is v (g .here))) ∙ q);
+    some = i .some;
+  }
+    where
+      passed : (v : Value) (ts : List Task) (st : Binding) → length (waysOf table p v) ≡ w → gather (drop e (waysOf table p v)) (oneWay (innerOf table p) ts st) ≡ gather (drop d (waysOf table p v)) (oneWay (innerOf table p) ts st)
+      passed v ts st l =
+          let x : d + (e - d) ≡ e = omega (arith, k .low) in
+          let y : e ≤ w = k .within (i .within) in
+          ap (λ (j : ℕ). gather (drop j (waysOf table p v)) (oneWay (innerOf table p) ts st)) (sym x)
+          ∙ gather-skip (waysOf table p v) [] (oneWay (innerOf table p) ts st) (e - d) d (omega (arith, l, x, y)) (λ j u o.
+          let (bound, n) = k .barren j u (omega (arith, x)) in
+          barren-way table index p (h .readable) c ec (t bound .splits) z (t bound) w j (omega (arith, x, y)) n v l ts st)

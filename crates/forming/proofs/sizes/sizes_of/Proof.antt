@@ -1,0 +1,69 @@
+use native.Mathlib.Omega.{arith}
+use borrow.Author.Tests.{not-false}
+use Rattle.matching.proofs.Records.{has-operand, operand-readable}
+use Rattle.forming.proofs.Reducing.{splits-low, two-halves}
+use Rattle.forming.proofs.Sizing.{no-sizes, sizes-told}
+use borrow.Author.Needs.{needs}
+use Rattle.forming.proofs.sizes.sizes_of.Statement.{statement}
+use Rattle.forming.proofs.sizes.sizes_of.Tie as tie
+use Rattle.forming.proofs.sizes.sizes_of.Reads as reads
+use Rattle.forming.proofs.sizes.sizes_of.Lts as lts
+use Rattle.forming.proofs.reduced.splits.Reads as splits-reads
+use Rattle.forming.proofs.sizes.is_any.Reads as is-any-reads
+use Rattle.forming.proofs.sizes.size_of.Reads as size-of-reads
+use Rattle.tables.proofs.reading.operand.Reads as operand-reads
+
+-- src/sizes.rt:93:9
+splits-requires : tie.Need-splits-requires
+splits-requires c κs = search needs
+
+-- src/sizes.rt:95:9
+returns : tie.Need-returns
+returns c = no-sizes _ _ (c .before .before .before .args .k) _ _
+
+-- src/sizes.rt:101:9
+operand-requires : tie.Need-operand-requires
+operand-requires c κs = has-operand _ _ _ (c .before .before .before .pre .readable) 0 (omega (arith, two-halves _ _ _ (c .before .before .before .pre .readable) (c .before .before .before .args .k) (c .before .before .before .pre .of-kind) (c .before .splits .ensures (not-false _ (c .if1 .left)))))
+
+-- src/sizes.rt:102:9
+size-of-requires : tie.Need-size-of-requires
+size-of-requires c κs = (operand-readable _ _ _ (c .before .before .before .before .pre .readable) 0 (omega (arith, two-halves _ _ _ (c .before .before .before .before .pre .readable) (c .before .before .before .before .args .k) (c .before .before .before .before .pre .of-kind) (c .before .before .splits .ensures (not-false _ (c .before .if1 .left))))) (omega (arith, c .before .before .before .before .pre .of-kind, splits-low (c .before .before .before .before .args .k) (c .before .before .splits .ensures (not-false _ (c .before .if1 .left))))) _ (c .operand .ensures .0) .0, c .before .before .splits .ensures (not-false _ (c .before .if1 .left)))
+
+-- src/sizes.rt:103:9
+operand-requires-2 : tie.Need-operand-requires-2
+operand-requires-2 c κs = has-operand _ _ _ (c .before .before .before .before .before .pre .readable) 1 (omega (arith, two-halves _ _ _ (c .before .before .before .before .before .pre .readable) (c .before .before .before .before .before .args .k) (c .before .before .before .before .before .pre .of-kind) (c .before .before .before .splits .ensures (not-false _ (c .before .before .if1 .left)))))
+
+-- src/sizes.rt:104:9
+size-of-requires-2 : tie.Need-size-of-requires-2
+size-of-requires-2 c κs = (operand-readable _ _ _ (c .before .before .before .before .before .before .pre .readable) 1 (omega (arith, two-halves _ _ _ (c .before .before .before .before .before .before .pre .readable) (c .before .before .before .before .before .before .args .k) (c .before .before .before .before .before .before .pre .of-kind) (c .before .before .before .before .splits .ensures (not-false _ (c .before .before .before .if1 .left))))) (omega (arith, c .before .before .before .before .before .before .pre .of-kind, splits-low (c .before .before .before .before .before .before .args .k) (c .before .before .before .before .splits .ensures (not-false _ (c .before .before .before .if1 .left))))) _ (c .operand2 .ensures .0) .0, c .before .before .before .before .splits .ensures (not-false _ (c .before .before .before .if1 .left)))
+
+-- src/sizes.rt:105:9
+is-any-requires : tie.Need-is-any-requires
+is-any-requires c κs = search needs
+
+-- src/sizes.rt:106:28
+is-any-requires-2 : tie.Need-is-any-requires-2
+is-any-requires-2 c κs = search needs
+
+-- src/sizes.rt:85:1
+returns-2 : tie.Need-returns-2
+returns-2 c = sizes-told _ _ _ (c .before .before .before .before .before .before .before .before .before .before .pre .readable) (c .before .before .before .before .before .before .before .before .before .before .args .k) (c .before .before .before .before .before .before .before .before .splits .ensures (not-false _ (c .before .before .before .before .before .before .before .if1 .left))) (c .before .before .before .before .before .before .before .before .before .before .pre .of-kind) _ (c .before .before .before .before .before .before .operand .ensures .0) _ (c .before .before .before .before .operand2 .ensures .0) _ _ (c .before .before .before .before .before .size-of .ensures) (c .before .before .before .size-of2 .ensures) _
+
+-- src/sizes.rt:85:1
+returns-3 : tie.Need-returns-3
+returns-3 c = sizes-told _ _ _ (c .before .before .before .before .before .before .before .before .before .pre .readable) (c .before .before .before .before .before .before .before .before .before .args .k) (c .before .before .before .before .before .before .before .splits .ensures (not-false _ (c .before .before .before .before .before .before .if1 .left))) (c .before .before .before .before .before .before .before .before .before .pre .of-kind) _ (c .before .before .before .before .before .operand .ensures .0) _ (c .before .before .before .operand2 .ensures .0) _ _ (c .before .before .before .before .size-of .ensures) (c .before .before .size-of2 .ensures) _
+
+pub sizes-of-spec : {M : Type 1} → statement M
+sizes-of-spec =
+    tie.close
+    (tie.spec
+    splits-requires
+    returns
+    operand-requires
+    size-of-requires
+    operand-requires-2
+    size-of-requires-2
+    is-any-requires
+    is-any-requires-2
+    returns-2
+    returns-3)

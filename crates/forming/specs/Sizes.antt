@@ -1,0 +1,96 @@
+-- How many members or items a pattern takes, and the ways that give its halves so many.
+use mathlib.Core.Path.{_≡_}
+use mathlib.Core.Bool.{Bool, true, false}
+use mathlib.Core.List.{List, []}
+use Prim.Native.Nat.{ℕ, _+_, _^_, _≤_, _<_}
+use lib.ListN.{length, getD}
+use Rattle.values.specs.Value.{Kind, Value, collection}
+use Rattle.tables.specs.Record.{operand}
+use Rattle.tables.specs.Table.{recordAt, kindAt}
+use Rattle.tables.specs.Accepted.{records}
+use Rattle.patterns.specs.Ways.{Halves, halves}
+use Rattle.patterns.specs.Binding.{Binding}
+use Rattle.patterns.specs.Pattern.{Pattern, itemsOf, divisions}
+use Rattle.patterns.specs.Relation.{Matches}
+use Rattle.patterns.specs.Nodes.{collectionOf}
+use Rattle.patterns.specs.Read.{Readable, patternAt}
+use Rattle.parts.specs.Chosen.{splitAt}
+use Rattle.forming.specs.declared.sizes.Size.{Size}
+use Rattle.forming.specs.declared.sizes.Sizes.{Sizes}
+use Rattle.forming.specs.declared.sizes.Sides.{Sides}
+use Rattle.forming.specs.Reduced.{Splits}
+
+-- A size that n is.
+pub record Sized (z : Size) (n : ℕ) : Type 0 where
+  pub least : z .least ≤ n
+  pub exact : z .more ≡ false → n ≡ z .least
+
+-- What the pattern matches of the kind has such a size.
+abbrev pub Takes : Kind → Pattern → Size → Type 0
+Takes k p z = (vs : List Value) (b : Binding) → Matches p (collection k (itemsOf vs)) b → Sized z (length vs)
+
+abbrev pub TellsSize : List ℕ → ℕ → ℕ → Size → Type 0
+TellsSize table p c z = Takes (collectionOf c) (patternAt (records table) p) z
+
+pub record Sum (l r z : Size) : Type 0 where
+  pub right : (m n : ℕ) → Sized l m → Sized r n → Sized z (m + n)
+
+-- ---- the halves of a pattern of kind c
+
+pub record HalvesHeld (table index : List ℕ) (p c : ℕ) : Type 0 where
+  pub readable : Readable table index p
+  pub of-kind : kindAt (records table) p ≡ c
+
+pub record HalvesTake (table : List ℕ) (p c : ℕ) (z : Sizes) : Type 0 where
+  pub splits : Splits c
+  pub left : TellsSize table (operand (recordAt (records table) p) 0) c (z .left)
+  pub right : TellsSize table (operand (recordAt (records table) p) 1) c (z .right)
+
+abbrev pub TellsSizes : List ℕ → ℕ → ℕ → Sizes → Type 0
+TellsSizes table p c z = z .bound ≡ true → HalvesTake table p c z
+
+-- ---- how many the halves have in a way
+
+pub record SplitHeld (d w : ℕ) : Type 0 where
+  pub below : d < w
+  pub size : ℕ
+  pub power : w ≡ 2 ^ size
+
+pub record CountsAre (d w : ℕ) (r : Sides) : Type 0 where
+  pub few-left : r .left < w
+  pub few-right : r .right < w
+  pub left : (vs : List Value) → w ≡ 2 ^ length vs → r .left ≡ length (splitAt vs d .left)
+  pub right : (vs : List Value) → w ≡ 2 ^ length vs → r .right ≡ length (splitAt vs d .right)
+
+-- Where r says no, n is no such size; the same of two.
+abbrev pub NotSized : Size → ℕ → Bool → Type 0
+NotSized z n r = r ≡ false → Sized z n → ⊥
+
+abbrev pub NotBoth : Sizes → ℕ → ℕ → Bool → Type 0
+NotBoth z l r t = t ≡ false → Sized (z .left) l → Sized (z .right) r → ⊥
+
+-- ---- ways without a match
+
+abbrev pub halfAt : ℕ → List Value → ℕ → Halves Value
+halfAt c vs j = getD (divisions (collectionOf c) vs) j (halves [] [])
+
+-- The halves of way j of w have no such sizes.
+abbrev pub Barren : ℕ → ℕ → Sizes → ℕ → Type 0
+Barren c w z j = (vs : List Value) → length (divisions (collectionOf c) vs) ≡ w → Sized (z .left) (length (halfAt c vs j .left)) → Sized (z .right) (length (halfAt c vs j .right)) → ⊥
+
+pub record Divisible (c w : ℕ) : Type 0 where
+  pub splits : Splits c
+  pub values : List Value
+  pub ways : length (divisions (collectionOf c) values) ≡ w
+
+pub record WayHeld (c w d : ℕ) : Type 0 where
+  pub divisible : Divisible c w
+  pub below : d < w
+
+abbrev pub FromHeld : ℕ → ℕ → Sizes → Type 0
+FromHeld c w z = z .bound ≡ true → Divisible c w
+
+pub record From (c w d : ℕ) (z : Sizes) (r : ℕ) : Type 0 where
+  pub low : d ≤ r
+  pub within : d ≤ w → r ≤ w
+  pub barren : (j : ℕ) → d ≤ j → j < r → (z .bound ≡ true) × Barren c w z j

@@ -1,0 +1,27 @@
+-- `put_cut` meets its contract: the last line of a print that is cut.
+use Rattle.print.proofs.Writing.{wrote-then}
+use borrow.Author.Needs.{needs}
+use Rattle.print.proofs.put_cut.Statement.{statement}
+use Rattle.print.proofs.put_cut.Tie as tie
+use Rattle.print.proofs.put_bytes.Reads as put-bytes-reads
+use Rattle.print.proofs.put_count.Reads as put-count-reads
+
+slice-aggregate-put-bytes : tie.Need-slice-aggregate-put-bytes
+slice-aggregate-put-bytes c = search needs
+
+put-bytes-requires : tie.Need-put-bytes-requires
+put-bytes-requires c κs = search needs
+
+put-count-requires : tie.Need-put-count-requires
+put-count-requires c κs = search needs
+
+same-length : tie.Need-same-length
+same-length c = search needs
+
+returns : tie.Need-returns
+returns c = wrote-then (c .before .before .before .before .before .before .put-bytes .ensures) (c .before .before .put-count .ensures)
+
+pub put-cut-spec : {M : Type 1} → statement M
+put-cut-spec =
+    tie.close
+    (tie.spec slice-aggregate-put-bytes put-bytes-requires put-count-requires same-length returns)

@@ -1,0 +1,206 @@
+-- From bytes to a value: where the bytes are those of a record some value's record stands, and nowhere else.
+use mathlib.Core.Path.{_≡_, refl, sym, ap, ap₂, subst, _∙_}
+use mathlib.Core.Bool.{Bool, true, false}
+use mathlib.Core.List.{List, [], _∷_, _++_}
+use Prim.Native.Nat.{ℕ, zero, suc, _+_, _*_, _-_, _/_, _%_, _≤_, _<_}
+use native.Mathlib.Numerals.{add-one, add-two}
+use native.Mathlib.Omega.{arith}
+use lib.Dec.{eqb, ltb}
+use lib.ListN.{length, getD, take, drop}
+use lib.Seq.{drop-cons, take-add, drop-drop}
+use mir.Syntax.{w8, w32}
+use mir.Val.{Fits, ofZ, toZ}
+use mir.ValLaws.{ofZ-toZ, toZ-fits}
+use Rattle.integers.specs.Bytes.{word, four, bits32, IsWord}
+use Rattle.integers.proofs.Range.{fits-range}
+use Rattle.values.specs.Value.{Kind, number, Value, boolean, integer, collection, Items, more, kindOf, size, sizes, byteOf, encode, Shaped, valueLimit}
+use Rattle.values.specs.Place.{At, ItemsAt, Holds, HoldsItems}
+use Rattle.values.specs.Contract.{heading}
+use Rattle.values.proofs.Written.{collection-at}
+use Rattle.values.proofs.Order.{number-low}
+use Rattle.values.proofs.Records.{holds, word-size, word-kind, boolean-at, is-boolean, is-integer, is-collection, items-to, holds-items, no-items, more-of, uncons-of, one-list, well-formed-boolean, well-formed-integer, collection-shaped}
+use Rattle.values.specs.Validity.{Tells, Span, Inside, Boolean, TellsItems, ShapedAs}
+use Rattle.values.proofs.Telling.{tells-true, tells-false, tells-of, told-false, tells-equal, tells-less}
+
+-- ---- the bytes of records
+
+module _ (s : List ℕ) (bytes : (i : ℕ) → Fits w8 (getD s i 0)) where
+  one-byte : (at n : ℕ) → at < length s → take (suc n) (drop at s) ≡ getD s at 0 ∷ take n (drop (suc at) s)
+  one-byte at n h = ap (take (suc n)) (drop-cons s at 0 h)
+
+  -- four bytes are two words
+  four-bytes : (at : ℕ) → at + 4 ≤ length s → take 4 (drop at s) ≡ heading (word s at) (word s (at + 2))
+  four-bytes at h =
+      let e₂ : getD s (at + 2) 0 ≡ getD s (suc (suc at)) 0 = ap (λ (k : ℕ). getD s k 0) (add-two at) in
+      let e₁ : getD s (at + 1) 0 ≡ getD s (suc at) 0 = ap (λ (k : ℕ). getD s k 0) (add-one at) in
+      let t : at + 2 + 1 ≡ suc (suc (suc at)) = omega arith in
+      let e₃ : getD s (at + 2 + 1) 0 ≡ getD s (suc (suc (suc at))) 0 = ap (λ (k : ℕ). getD s k 0) t in
+      let b₀ = bytes at in
+      let b₁ = bytes (suc at) in
+      let b₂ = bytes (suc (suc at)) in
+      let b₃ = bytes (suc (suc (suc at))) in
+      let l₀ : getD s at 0 ≡ word s at % 256 = omega arith in
+      let l₁ : getD s (suc at) 0 ≡ word s at / 256 = omega arith in
+      let l₂ : getD s (suc (suc at)) 0 ≡ word s (at + 2) % 256 = omega arith in
+      let l₃ : getD s (suc (suc (suc at))) 0 ≡ word s (at + 2) / 256 = omega arith in
+      one-byte at 3 (omega arith)
+      ∙ ap₂ {C = List ℕ} _∷_ l₀ (one-byte (suc at) 2 (omega arith)
+      ∙ ap₂ {C = List ℕ} _∷_ l₁ (one-byte (suc (suc at)) 1 (omega arith)
+      ∙ ap₂ {C = List ℕ} _∷_ l₂ (one-byte (suc (suc (suc at))) 0 (omega arith)
+      ∙ ap (λ (x : ℕ). x ∷ []) l₃)))
+
+  -- a heading, and then m bytes
+  headed-by : (at m : ℕ) (bs : List ℕ) → at + 4 ≤ length s → take m (drop (at + 4) s) ≡ bs → take (4 + m) (drop at s) ≡ heading (word s at) (word s (at + 2)) ++ bs
+  headed-by at m bs h e = take-add 4 m (drop at s) ∙ ap₂ _++_ (four-bytes at h) (ap (take m) (drop-drop 4 at s) ∙ e)
+
+  bool-of : (n : ℕ) → n < 2 → (b : Bool) × (byteOf b ≡ n)
+  bool-of zero h = (false, refl)
+  bool-of (suc zero) h = (true, refl)
+  bool-of (suc (suc n)) h = let z : ⊥ = omega arith in absurd z
+
+  found-boolean : (at : ℕ) → at + 5 ≤ length s → word s at ≡ 5 → word s (at + 2) ≡ 1 → getD s (at + 4) 0 < 2 → Holds s at
+  unfolding size encode
+  found-boolean at h n k lt =
+      let (b, e) = bool-of (getD s (at + 4) 0) lt in
+      holds {v = boolean b} (record {
+        fits = h;
+        fine = well-formed-boolean b;
+        bytes =
+            headed-by at 1 (byteOf b ∷ []) (omega arith) (one-byte (at + 4) 0 (omega arith) ∙ ap (λ (x : ℕ). x ∷ []) (sym e))
+            ∙ ap₂ (λ (x y : ℕ). heading x y ++ (byteOf b ∷ [])) n k;
+      })
+
+  bits-fit : (at : ℕ) → Fits w32 (bits32 s at)
+  bits-fit at = record { fits = omega (arith, bytes at, bytes (at + 1), bytes (at + 2), bytes (at + 2 + 1)) }
+
+  halves : (at : ℕ) → heading (word s at) (word s (at + 2)) ≡ four (bits32 s at)
+  halves at =
+      let b₀ = bytes at in
+      let b₁ = bytes (at + 1) in
+      let l : word s at ≡ bits32 s at % 65536 = omega arith in
+      let h : word s (at + 2) ≡ bits32 s at / 65536 = omega arith in
+      ap₂ heading l h
+
+  found-integer : (at : ℕ) → at + 8 ≤ length s → word s at ≡ 8 → word s (at + 2) ≡ 2 → Holds s at
+  unfolding size encode
+  found-integer at h n k =
+      let x : ℕ = bits32 s (at + 4) in
+      let f = bits-fit (at + 4) in
+      holds {v = integer (toZ w32 x)} (record {
+        fits = h;
+        fine = well-formed-integer (fits-range (toZ w32 x) (toZ-fits w32 x f));
+        bytes =
+            headed-by at 4 (four x) (omega arith) (four-bytes (at + 4) (omega arith) ∙ halves (at + 4))
+            ∙ ap₂ (λ (i j : ℕ). heading i j ++ four x) n k
+            ∙ ap (λ (i : ℕ). heading 8 2 ++ four i) (sym (ofZ-toZ w32 x f));
+      })
+
+  found-collection : (at n : ℕ) (k : Kind) (vs : Items) → n ≡ word s at → word s (at + 2) ≡ number k → n ≤ valueLimit → Shaped k vs → ItemsAt s (at + 4) (at + n) vs → Holds s at
+  found-collection at n k vs en ek short shaped h =
+      let f = h .ends in
+      let g = h .fits in
+      holds {v = collection k vs} (collection-at {s = s} {at = at} {k = k} {vs = vs} n (four-bytes at (omega arith) ∙ ap₂ heading (sym en) ek) refl short shaped h)
+
+-- ---- what a record's kind says of its length
+
+boolean-size : {s : List ℕ} {at : ℕ} → Holds s at → word s (at + 2) ≡ 1 → (word s at ≡ 5) × (getD s (at + 4) 0 < 2)
+unfolding size
+boolean-size {s} {at} h k =
+    let (b, e) = is-boolean (h .value) (sym (word-kind (h .here)) ∙ k) in
+    let a : At s at (boolean b) = subst (At s at) e (h .here) in
+    (word-size a, subst (λ (n : ℕ). n < 2) (sym (boolean-at a)) (low b))
+  where
+    low : (b : Bool) → byteOf b < 2
+    low true = omega arith
+    low false = omega arith
+
+integer-size : {s : List ℕ} {at : ℕ} → Holds s at → word s (at + 2) ≡ 2 → word s at ≡ 8
+unfolding size
+integer-size {s} {at} h k =
+    let (z, e) = is-integer (h .value) (sym (word-kind (h .here)) ∙ k) in
+    word-size (subst (At s at) e (h .here))
+
+-- ---- a boolean
+
+pub boolean-long : {s : List ℕ} {at n : ℕ} → Boolean s at n → (n ≡ 5 → ⊥) → Tells (Inside s at (at + n)) false
+boolean-long b f = tells-false (λ x. f (b .len ∙ boolean-size (x .held) (b .kind) .0))
+
+pub boolean-told : {s : List ℕ} → ((i : ℕ) → Fits w8 (getD s i 0)) → {at n : ℕ} → Boolean s at n → n ≡ 5 → Tells (Inside s at (at + n)) (ltb (getD s (at + 4) 0) 2)
+boolean-told {s} bytes {at} {n} b e =
+    let f = b .fits in
+    let g = b .len in
+    tells-of (λ l. record { held = found-boolean s bytes at (omega arith) (omega arith) (b .kind) l; ends = omega arith }) (λ x. boolean-size (x .held) (b .kind) .1)
+    (tells-less (getD s (at + 4) 0) 2)
+
+-- ---- any value, by its heading
+
+-- n is the length that the heading at a place gives, and it reaches no farther than `to`
+pub record Headed (s : List ℕ) (at to n : ℕ) : Type 0 where
+  pub span : Span s at to
+  pub len : n ≡ word s at
+  pub low : 4 ≤ n
+  pub inside : at + n ≤ to
+
+-- a record ends where its heading says
+pub ends-there : {s : List ℕ} {at to n : ℕ} {r : Bool} → Headed s at to n → Tells (Inside s at (at + n)) r → Tells (Inside s at to) r
+ends-there h t =
+    let e = h .len in
+    let f = h .inside in
+    tells-of (λ x. record { held = x .held; ends = omega (arith, x .ends) }) (λ x. record { held = x .held; ends = omega arith }) t
+
+module _ {s : List ℕ} (bytes : (i : ℕ) → Fits w8 (getD s i 0)) {at to n : ℕ} (h : Headed s at to n) where
+  pub integer-told : {k : ℕ} → IsWord s (at + 2) k → k ≡ 2 → Tells (Inside s at to) (eqb n 8)
+  integer-told k e =
+      let f = h .inside in
+      let g = h .len in
+      let l = h .span .fits in
+      let two : word s (at + 2) ≡ 2 = sym (k .is) ∙ e in
+      tells-of (λ d. record { held = found-integer s bytes at (omega arith) (omega arith) two; ends = omega arith }) (λ x. g ∙ integer-size (x .held) two) (tells-equal n 8)
+
+  pub collection-told : {k : ℕ} {r : Bool} → IsWord s (at + 2) k → (k ≡ 1 → ⊥) → (k ≡ 2 → ⊥) → HoldsItems s (at + 4) (at + n) → TellsItems (ShapedAs k) s (at + 4) (at + n) r → Tells (Inside s at to) r
+  collection-told {k} k-is not1 not2 (vs, items) t =
+      let f = h .inside in
+      let g = h .len in
+      let o = h .span .short in
+      tells-of (λ x. record { held = found-collection s bytes at n (x .0) vs g (sym (k-is .is) ∙ x .1) (omega arith) (x .2) items; ends = omega arith }) back (t vs items)
+    where
+      back : Inside s at to → ShapedAs k vs
+      back x =
+          let y = x .held .here in
+          let kind = word-kind y in
+          let i = k-is .is in
+          let (l, ws, d) = is-collection (x .held .value) (λ e. not1 (i ∙ kind ∙ e)) (λ e. not2 (i ∙ kind ∙ e)) in
+          let a : At s at (collection l ws) = subst (At s at) d y in
+          let same : ws ≡ vs = one-list (items-to (h .len) a) items in
+          (l, i ∙ word-kind a, subst (Shaped l) same (collection-shaped (a .fine)))
+
+  pub items-missing : {k : ℕ} {r : Bool} → IsWord s (at + 2) k → (k ≡ 1 → ⊥) → (k ≡ 2 → ⊥) → Tells (HoldsItems s (at + 4) (at + n)) r → r ≡ false → Tells (Inside s at to) false
+  items-missing k-is not1 not2 t e =
+      tells-false (λ x. told-false t e (holds-items (h .len) (x .held) (λ d. not1 (k-is .is ∙ d)) (λ d. not2 (k-is .is ∙ d))))
+
+-- ---- items
+
+pub items-end : {s : List ℕ} {at to : ℕ} → Span s at to → at ≡ to → Tells (HoldsItems s at to) true
+items-end {s} {at} {to} p e =
+    let f = p .fits in
+    tells-true (subst (λ (m : ℕ). HoldsItems s at m) e (_, no-items s at (omega arith)))
+
+pub items-told : {s : List ℕ} {at to n : ℕ} {r : Bool} → Span s at to → (at ≡ to → ⊥) → Inside s at to → IsWord s at n → Tells (HoldsItems s (at + n) to) r → Tells (HoldsItems s at to) r
+items-told {s} {at} {to} {n} p f x w t =
+    tells-of join part t
+  where
+    a : At s at (x .held .value)
+    a = x .held .here
+
+    join : HoldsItems s (at + n) to → HoldsItems s at to
+    join (vs, h) =
+        let e : n ≡ size (x .held .value) = w .is ∙ word-size a in
+        let g = h .ends in
+        let o = p .short in
+        (more (x .held .value) vs, more-of a (subst (λ (m : ℕ). ItemsAt s (at + m) to vs) e h) (omega arith))
+
+    part : HoldsItems s at to → HoldsItems s (at + n) to
+    part (vs, h) = let y = uncons-of f h in (y .rest, subst (λ (m : ℕ). ItemsAt s (at + m) to (y .rest)) (sym (w .is)) (y .rest-at))
+
+pub items-first : {s : List ℕ} {at to : ℕ} {r : Bool} → (at ≡ to → ⊥) → Tells (Inside s at to) r → r ≡ false → Tells (HoldsItems s at to) false
+items-first f t e = tells-false (λ h. let y = uncons-of f (h .1) in told-false t e (record { held = holds (y .first-at); ends = y .inside }))

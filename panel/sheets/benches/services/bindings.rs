@@ -1,0 +1,91 @@
+//! Lets and let-bes whose bindings are formed and counted: with an empty list a run ends in 32 once they are, or in 30.
+
+#[allow(dead_code)]
+#[path = "../../tests/patterns/pattern.rs"]
+mod pattern;
+#[path = "../../tests/common/written.rs"]
+mod written;
+
+use generator::builder::kind;
+use generator::Builder;
+
+/// Patterns of a let, each with the value that it is matched with.
+const LETS: [(&str, &str); 15] = [
+    ("mk_(a ^ -, b)", "mk_([],{1,2,3})"),
+    ("{a,b,c,d}", "{1,2,3,4}"),
+    (
+        "a ^ (b ^ c)",
+        "[1,2,3,4,5,6,7,8,9,10,11,12,13,14,15,16,17,18,19,20]",
+    ),
+    ("a union b", "{1,...,7}"),
+    ("b union a", "{1,...,7}"),
+    ("a union (b union c)", "{1,...,4}"),
+    ("a union (b union c)", "{1,...,7}"),
+    ("{a} union ({b} union ({c} union d))", "{1,...,7}"),
+    ("mk_(a union b, c union d)", "mk_({1,2,3},{1,2,3})"),
+    ("mk_(a union b, a union b)", "mk_({1,...,7},{1,...,7})"),
+    ("(- union -) union a", "{1,...,7}"),
+    ("a union (- union -)", "{1,...,7}"),
+    ("- union (- union (- union -))", "{1,...,7}"),
+    ("{-} union ({-} union a)", "{1,...,7}"),
+    (
+        "- ^ (- ^ (- ^ a))",
+        "[1,2,3,4,5,6,7,8,9,10,11,12,13,14,15,16,17,18,19,20]",
+    ),
+];
+
+/// The same of a let-be, with its set.
+const LET_BES: [(&str, &str); 2] = [
+    ("a", "{1,...,63}"),
+    (
+        "a union b",
+        "{{1},{1,2},{1,2,3},{1,...,4},{1,...,5},{1,...,6},{1,...,7}}",
+    ),
+];
+
+/// Labels and tables.
+pub fn tables() -> Vec<(String, Vec<u8>)> {
+    let lets = LETS.map(|(pattern, value)| row(kind::LET, pattern, value));
+    let let_bes = LET_BES.map(|(pattern, set)| row(kind::LET_BE, pattern, set));
+    let chains = (4..=8).flat_map(|parts| {
+        [
+            ("names", 'a', 'p'),
+            ("wildcards", '-', '-'),
+            ("wildcards and a name at the end", '-', 'a'),
+        ]
+        .map(|(what, first, last)| {
+            let (_, table) = row(kind::LET, &chain(parts, first, last), "{1,...,7}");
+            (
+                format!("bindings, a union of {parts} parts, {what}, over {{1,...,7}}"),
+                table,
+            )
+        })
+    });
+    lets.into_iter().chain(let_bes).chain(chains).collect()
+}
+
+fn row(kind: u16, pattern: &str, value: &str) -> (String, Vec<u8>) {
+    let mut sheet = Builder::new();
+    let mut operands = vec![
+        pattern::pattern(pattern).write(&mut sheet),
+        written::write(&mut sheet, &pattern::value(value), &[0]),
+    ];
+    if kind == kind::LET_BE {
+        operands.push(sheet.boolean(true));
+    }
+    operands.push(sheet.boolean(true));
+    sheet.node(kind, &operands);
+    (format!("bindings, `{pattern}` over {value}"), sheet.table())
+}
+
+/// `a union (b union (.. union p))`, or with the same sign for all parts but the last.
+fn chain(parts: u8, first: char, last: char) -> String {
+    let sign = |part: u8| match first {
+        'a' => char::from(b'a' + part),
+        sign => sign,
+    };
+    let innermost = format!("{} union {last}", sign(parts - 2));
+    (0..parts - 2).rev().fold(innermost, |text, part| {
+        format!("{} union ({text})", sign(part))
+    })
+}
