@@ -7,12 +7,10 @@ use native.Mathlib.Omega.{arith}
 use lib.ListN.{length, take, replicate, length-take}
 use lib.Seq.{take-append-seam}
 use Rattle.prelude.proofs.Absurd.{impossible}
-use Rattle.choices.specs.declared.Choices.{Choices}
-use Rattle.choices.specs.declared.Advanced.{Advanced}
+use Rattle.choices.specs.State.{Choices, Advanced, Invariant, Moved}
 use Rattle.choices.specs.declared.list.Walk.{Walk}
 use Rattle.choices.specs.Tree.{Tree, Numbered, Run, gave, stopped, short, beyond, run, result, refuses, final, mostChoices}
 use Rattle.choices.specs.Lists.{Ended, Complete}
-use Rattle.choices.specs.State.{Invariant, Moved}
 use Rattle.choices.proofs.Walk.{stopped-number}
 use Rattle.choices.proofs.States.{Holds}
 use Rattle.lists.specs.Lent.{lent}
@@ -29,7 +27,7 @@ use Rattle.print.specs.Contract.{longestLine, Wrote, Answers, gave as answers-g
 use Rattle.printing.specs.declared.Progress.{Progress}
 use Rattle.printing.specs.Due.{listAt, Due, Behind}
 use Rattle.printing.specs.Rest.{fromList}
-use Rattle.printing.specs.Contract.{numberOf, due, Ready, Lined}
+use Rattle.printing.specs.Contract.{outcomeNumber, due, Ready, Lined}
 use Rattle.printing.proofs.Walking.{complete-at, due-final, due-holds, due-behind}
 use Rattle.printing.proofs.Texts.{is-due, from-next, wrote-inside, wrote-next}
 
@@ -47,7 +45,7 @@ refusal-number {A} t l last n p k m h e = go (run t l) refl h e
 
 -- What the run of the k-th list tells: its answer, the list itself, and where the advance leads.
 pub record Told (table s run : List ℕ) (o : Outcome) (k : ℕ) : Type 0 where
-  pub answers : Answers s (numberOf o) (runs table (listAt (tree table) k))
+  pub answers : Answers s (outcomeNumber o) (runs table (listAt (tree table) k))
   pub holds : Holds (lent run) (listAt (tree table) k)
   pub sound : Invariant (lent run)
   pub onward : (r : Advanced) → Moved (lent run) r → Behind (tree table) (suc k) (r .more) (r .state)
@@ -56,7 +54,7 @@ module _ (table s run′ : List ℕ) (o : Outcome) (k : ℕ) (c : Choices) (d : 
   pub told : Comes (tree table) (At s 0) c (ended o (lent run′)) → Told table s run′ o k
   told (came-gave {a} e v h) =
       record {
-        answers = answers-gave (ap numberOf e) a (sym (due-final (tree table) k c d (result a) (lent run′) h (last (sheet table)))) v;
+        answers = answers-gave (ap outcomeNumber e) a (sym (due-final (tree table) k c d (result a) (lent run′) h (last (sheet table)))) v;
         holds = due-holds (tree table) k c d (result a) (lent run′) h;
         sound = h .sound;
         onward = λ r m. due-behind (tree table) k c d (result a) (lent run′) h (sure-tree table .full) r m;
@@ -64,7 +62,7 @@ module _ (table s run′ : List ℕ) (o : Outcome) (k : ℕ) (c : Choices) (d : 
   told (came-off {n} {p} {k = j} e h) =
       let q = due-final (tree table) k c d (refuses n p j) (lent run′) h (last (sheet table)) in
       let b = refusal-number (tree table) (listAt (tree table) k) (last (sheet table)) n p j (sure-tree table .numbered) (complete-at (tree table) k (d .below)) q in
-      let m : numberOf o ≡ n = ap numberOf e in
+      let m : outcomeNumber o ≡ n = ap outcomeNumber e in
       record {
         answers = answers-refused (omega (arith, b .0)) (omega (arith, b .1)) p j (sym q ∙ ap (λ (x : ℕ). refuses x p j) (sym m));
         holds = due-holds (tree table) k c d (refuses n p j) (lent run′) h;
@@ -86,7 +84,7 @@ module _ (table s run : List ℕ) (o : Outcome) (k : ℕ) (t : Told table s run 
         ap₂ (λ (n : ℕ) (l : List ℕ). take n l) (kept .len ∙ t .holds .len) (kept .entries ∙ t .holds .entries)
         ∙ take-append-seam (listAt (tree table) k) (replicate (mostChoices - length (listAt (tree table) k)) 0)
 
-    pub line-room : (n : ℕ) → n ≡ numberOf o → (out : List ℕ) (at : ℕ) → at + longestLine ≤ length out → LineRoom (take (w .len) (w .entries)) n s out at
+    pub line-room : (n : ℕ) → n ≡ outcomeNumber o → (out : List ℕ) (at : ℕ) → at + longestLine ≤ length out → LineRoom (take (w .len) (w .entries)) n s out at
     line-room n e out at room =
         record {
           few = simp length-take (omega (arith, kept .len, t .sound .len-within));
@@ -103,7 +101,7 @@ module _ (table index : List ℕ) (count : ℕ) (s run out : List ℕ) (p : Prog
   pub ready-few : p .lists < mostLines
   ready-few = is-due table p (lent run) (y .stands .behind) (y .stands .few) e .1
 
-  module _ (s′ run′ : List ℕ) (o : Outcome) (t : Told table s′ run′ o (p .lists)) (w : Walk) (kept : Kept run′ w) (n : ℕ) (q : n ≡ numberOf o) (out′ : List ℕ) (r : ℕ) (h : LineWritten (take (w .len) (w .entries)) n s′ out out′ (p .at) r) where
+  module _ (s′ run′ : List ℕ) (o : Outcome) (t : Told table s′ run′ o (p .lists)) (w : Walk) (kept : Kept run′ w) (n : ℕ) (q : n ≡ outcomeNumber o) (out′ : List ℕ) (r : ℕ) (h : LineWritten (take (w .len) (w .entries)) n s′ out out′ (p .at) r) where
     abbrev list : List ℕ
     list = listAt (tree table) (p .lists)
 

@@ -9,7 +9,7 @@ use lib.ListN.{length, take, drop, getD, length-take, length-append, drop-of-len
 use lib.Seq.{sets-eq, take-at, length-take-le, drop-cons, getD-take}
 use borrow.Author.Tests.{ltb-true, ltb-false}
 use Rattle.prelude.proofs.Absurd.{never}
-use Rattle.choices.specs.declared.Choices.{Choices}
+use Rattle.choices.specs.State.{Choices}
 use Rattle.choices.specs.Paths.{allLists}
 use Rattle.meaning.specs.Service.{tree, runs}
 use Rattle.print.specs.Text.{line}

@@ -6,12 +6,10 @@ use Prim.Native.Nat.{ℕ, suc, _<_}
 use lib.ListN.{length}
 use Rattle.prelude.proofs.Absurd.{impossible}
 use Rattle.prelude.proofs.Membership.{at-in}
-use Rattle.choices.specs.declared.Choices.{Choices}
-use Rattle.choices.specs.declared.Advanced.{Advanced}
+use Rattle.choices.specs.State.{Choices, Advanced, View, view, Made, Moved}
 use Rattle.choices.specs.Tree.{Tree, Full, Run, gave, stopped, short, beyond, run, Final, result, refuses, final, mostChoices}
 use Rattle.choices.specs.Lists.{Ended, Complete}
 use Rattle.choices.specs.Paths.{allLists, cutAfter}
-use Rattle.choices.specs.State.{View, view, Made, Moved}
 use Rattle.choices.specs.Runs.{runOn, endedBy, Came}
 use Rattle.choices.proofs.Ran.{stateOf, ranAs, atEnd}
 use Rattle.choices.proofs.Runs.{state-as}

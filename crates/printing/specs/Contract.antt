@@ -17,9 +17,9 @@ use Rattle.printing.specs.Due.{Behind}
 use Rattle.printing.specs.Rest.{fromList, fromLine, toCome}
 
 -- The number of an outcome: 0 with a value.
-abbrev pub numberOf : Outcome → ℕ
-numberOf HasValue = 0
-numberOf (Refused n p k) = n
+abbrev pub outcomeNumber : Outcome → ℕ
+outcomeNumber HasValue = 0
+outcomeNumber (Refused n p k) = n
 
 -- A line of a list comes next: there is a list more, and the limit is not reached.
 abbrev pub due : Progress → Bool

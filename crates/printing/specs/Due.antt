@@ -4,10 +4,9 @@ use mathlib.Core.Bool.{Bool, true, false}
 use mathlib.Core.List.{List, []}
 use Prim.Native.Nat.{ℕ, _<_}
 use lib.ListN.{length, getD}
-use Rattle.choices.specs.declared.Choices.{Choices}
+use Rattle.choices.specs.State.{Choices, view, Invariant}
 use Rattle.choices.specs.Tree.{Tree, run}
 use Rattle.choices.specs.Paths.{allLists}
-use Rattle.choices.specs.State.{view, Invariant}
 use Rattle.choices.specs.Runs.{runOn}
 use Rattle.choices.proofs.Ran.{ranAs, atEnd}
 

@@ -5,7 +5,7 @@ ghost use Prim.Native.Nat.{_+_, _≤_, _<_};
 ghost use lib.ListN.{length};
 ghost use Rattle.print.specs.Print.{mostLines};
 ghost use Rattle.print.specs.Contract.{shortLine};
-ghost use Rattle.printing.specs.Contract.{Begun, numberOf, due, Ready, Lined, Closed, Filled};
+ghost use Rattle.printing.specs.Contract.{Begun, outcomeNumber, due, Ready, Lined, Closed, Filled};
 use evaluator::Outcome;
 use evaluator::run_sheet;
 use lists::RUN;
@@ -58,7 +58,7 @@ pub fn begin(count: usize, out: &mut [u8]) -> Progress
 
 // The number of an outcome: 0 with a value.
 fn number(o: Outcome) -> usize
-    ensures { λ n. ⌜ n ≡ numberOf o ⌝ }
+    ensures { λ n. ⌜ n ≡ outcomeNumber o ⌝ }
 {
     match o {
         Outcome::Value => 0,

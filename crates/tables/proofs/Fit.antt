@@ -104,3 +104,10 @@ module _ (bytes : List ℕ) (len : ℕ) (is : len ≡ word bytes 0) (four : 4 �
         (λ l.
         let none : len - 4 ≡ 0 = omega arith in
         never (sym (tested-long (word bytes 2) known t) ∙ sym (fit ∙ ap (fits (shape (word bytes 2))) none)))
+
+-- An integer literal of eight bytes is fit.
+pub integer-fit : (bytes : List ℕ) → word bytes 0 ≡ 8 → word bytes 2 ≡ 2 → 8 ≤ length bytes → ((i : ℕ) → getD bytes i 0 < 256) → isFit (first bytes) ≡ true
+unfolding shape
+integer-fit bytes e k h small =
+    fit-untested bytes 8 (sym e) (omega arith) h (sym (ap (λ (n : ℕ). fits (shape n) 4) k)) (omega arith) (ap isTested k) small
+    ∙ ap (λ (n : ℕ). isExpression n || isPattern n) k

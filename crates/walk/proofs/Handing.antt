@@ -8,7 +8,7 @@ use lib.ListN.{length, take, length-append}
 use Rattle.prelude.proofs.Absurd.{never}
 use Rattle.choices.specs.declared.list.Walk.{Walk}
 use Rattle.choices.specs.State.{Made}
-use Rattle.choices.specs.Listing.{Lists, listOf}
+use Rattle.choices.specs.Listing.{Lists, listHeld}
 use Rattle.lists.specs.Lent.{lent}
 use Rattle.tables.specs.Check.{check}
 use Rattle.tables.specs.Reading.{Indexed}
@@ -92,7 +92,7 @@ module _ (table index : List ℕ) (count : ℕ) (s run out : List ℕ) (n : ℕ)
       })
 
 -- Choices made of the empty walk.
-pub made-empty : (w : Walk) → Lists w [] → (run : List ℕ) → Made (listOf w) true (lent run) → Made [] true (lent run)
+pub made-empty : (w : Walk) → Lists w [] → (run : List ℕ) → Made (listHeld w) true (lent run) → Made [] true (lent run)
 made-empty w h run m = subst (λ (l : List ℕ). Made l true (lent run)) (ap (λ (n : ℕ). take n (w .entries)) (h .long)) m
 
 -- ---- reading

@@ -3,8 +3,7 @@ use mathlib.Core.Path.{sym}
 use Prim.Native.Nat.{ℕ}
 use native.Mathlib.Omega.{arith}
 use lib.ListN.{length-replicate}
-use Rattle.tables.specs.Accepted.{accepted-short}
-use Rattle.tables.specs.Reading.{cut-accepted}
+use Rattle.tables.specs.Laws.Accepted.{accepted-short, cut-accepted}
 use Rattle.walk.proofs.Handing.{made-empty, printing-start}
 use borrow.Author.Needs.{needs}
 use Rattle.walk.proofs.print_accepted.Statement.{statement}
