@@ -8,8 +8,8 @@ use std::process::Command;
 
 /// What the script needs besides `rt` and `cargo`.
 const TOOLS: [&str; 17] = [
-    "awk", "bash", "cat", "cp", "dirname", "env", "find", "flock", "grep", "mkdir", "mktemp", "readlink",
-    "rm", "sh", "tail", "tee", "touch",
+    "awk", "bash", "cat", "cp", "dirname", "env", "find", "flock", "grep", "mkdir", "mktemp",
+    "readlink", "rm", "sh", "tail", "tee", "touch",
 ];
 
 /// Proves two crates, and links a program that prints its input.
