@@ -7,9 +7,9 @@ use std::path::{Path, PathBuf};
 use std::process::Command;
 
 /// What the script needs besides `rt` and `cargo`.
-const TOOLS: [&str; 16] = [
-    "awk", "bash", "cat", "cp", "dirname", "env", "find", "flock", "mkdir", "mktemp", "readlink",
-    "rm", "sh", "tail", "tee", "touch",
+const TOOLS: [&str; 17] = [
+    "awk", "bash", "cat", "cp", "dirname", "env", "find", "flock", "grep", "mkdir", "mktemp",
+    "readlink", "rm", "sh", "tail", "tee", "touch",
 ];
 
 /// Proves two crates, and links a program that prints its input.
@@ -199,12 +199,17 @@ fn tools_that_are_missing() {
 #[test]
 fn a_proof_that_fails() {
     let made = Repository::new("no-proof");
-    made.program("bin/rt", "echo 'rt: walk is not proved'\nexit 1\n");
+    let wrong = "echo 'a.antt:1:2: error: wrong'
+echo 'logic=not-proved'
+echo 'rt: FAILED: walk'
+exit 1
+";
+    made.program("bin/rt", wrong);
     let ended = made.walk(&[], "input");
     assert_eq!((ended.status, ended.output), (Some(1), String::new()));
-    assert_eq!(ended.errors[1], "rt: walk is not proved");
-    let last = ended.errors.last().expect("a line");
-    assert!(last.starts_with("walk: rt could not prove the program"));
+    let told = ["a.antt:1:2: error: wrong", "rt: FAILED: walk"];
+    assert_eq!(ended.errors[1..3], told);
+    assert!(ended.errors[3].starts_with("walk: rt could not prove the program"));
 }
 
 /// What the program says on standard error becomes a status.
