@@ -1,7 +1,7 @@
 -- What a record and its operands come to, operand by operand.
 use mathlib.Core.Path.{_≡_, refl, sym, ap, subst, _∙_}
 use mathlib.Core.Bool.{Bool, true, false, not, _&&_, _||_, cond}
-use mathlib.Core.List.{List, [], _∷_, _++_, map, append-nil, append-assoc}
+use mathlib.Core.List.{List, [], _∷_, map, append-nil, append-assoc}
 use Prim.Native.Nat.{ℕ, zero, suc, _+_, _^_, _≤_, _<_, max}
 use native.Mathlib.Omega.{arith}
 use native.Mathlib.Numerals.{add-one}
@@ -12,7 +12,6 @@ use lib.ListN.{length, getD, set, length-set, drop, take, replicate, length-repl
 use lib.Seq.{drop-cons, drop-length, take-suc, take-all, getD-set-same, getD-set-other}
 use mathlib.Mathlib.Data.Bool.Basic.{or-inl, or-inr, and-elim-left, and-elim-right}
 use Rattle.prelude.proofs.Absurd.{never}
-use Rattle.prelude.proofs.Truth.{by-test, implied}
 use Rattle.tables.specs.declared.Role.{Role}
 use Rattle.tables.specs.declared.Role.the-variants.{Plain, Condition, Body, Pattern, Name}
 use Rattle.tables.specs.Record.{Record, shape, size, headOf, isPattern, isFit, operands, named, operand, roleAt, nameOf}
@@ -27,7 +26,7 @@ use Rattle.checking.specs.declared.sweep.Handed.{Handed}
 use Rattle.checking.specs.declared.sweep.Swept.{Swept}
 use Rattle.checking.specs.Scopes.{hasBit, orBits, own, bitsBelow}
 use Rattle.checking.specs.Sweeps.{without, apart, sortOf, Left, asked, isNamed, hands, stops, coveredBy, handedOn, freeOwn, Passes, Frees, Known, Names, Sums, Entered, Passed, isTall, Closed, Settled}
-use Rattle.checking.proofs.Bits.{bit-union, bit-zero, bit-pow, held-name, held-loose, held-even}
+use Rattle.checking.proofs.Bits.{bit-union, bit-pow, held-name, held-loose, held-even}
 use Rattle.checking.proofs.Marks.{all-more}
 use Rattle.checking.proofs.Below.{Turn, turn-start, turn-more, turn-end, own-none}
 use Rattle.checking.proofs.Above.{zeros}
@@ -53,7 +52,7 @@ module _ (x : Record) (names : ℕ) where
   unfolding freeOwn
   free-other a b d = rw (ne-eqb (x .kind) 3 a, ne-eqb (x .kind) 13 b, ne-eqb (x .kind) 12 d)
 
-  pub own-read : x .kind ≡ 3 → hasBit (freeOwn x names) (nameOf x + 2) ≡ true
+  own-read : x .kind ≡ 3 → hasBit (freeOwn x names) (nameOf x + 2) ≡ true
   own-read e = ap (λ (m : ℕ). hasBit m (nameOf x + 2)) (sym (free-name (nameOf x) e refl)) ∙ bit-pow (nameOf x + 2) (nameOf x + 2) ∙ eq-eqb (nameOf x + 2) (nameOf x + 2) refl
 
   own-choice : x .kind ≡ 13 → hasBit (freeOwn x names) 0 ≡ true
@@ -66,7 +65,7 @@ let-binds : (k : ℕ) → k ≡ 12 → isBinder k ≡ true
 unfolding shape
 let-binds k e = rw e
 
-pub own-chosen : (rs : List Record) (r names : ℕ) → Clear6 rs → Names rs r names → chooses rs r ≡ true → hasBit (freeOwn (recordAt rs r) names) 0 ≡ true
+own-chosen : (rs : List Record) (r names : ℕ) → Clear6 rs → Names rs r names → chooses rs r ≡ true → hasBit (freeOwn (recordAt rs r) names) 0 ≡ true
 unfolding chooses
 own-chosen rs r names clear are e = go (eqb (kindAt rs r) 13) refl e
   where
@@ -79,7 +78,7 @@ own-chosen rs r names clear are e = go (eqb (kindAt rs r) 13) refl e
 
 -- ---- one operand
 
-pub asked-some : (x : Role) → 0 < asked x
+asked-some : (x : Role) → 0 < asked x
 asked-some Plain = omega arith
 asked-some Condition = omega arith
 asked-some Body = omega arith
@@ -209,7 +208,7 @@ gathers-start rs r left frees held free h l e =
     }
 
 module _ (rs : List Record) (r names : ℕ) (left below frees highs : List ℕ) (first held free high i : ℕ) (g : Gathers rs r frees first left held free high i) (kept : Known rs below frees highs r) (are : Names rs r names) (fit : (q : ℕ) → q < length rs → isFit (recordAt rs q) ≡ true) (in-table : r < length rs) (has : i < length (named (recordAt rs r))) (n : ℕ) (is : n ≡ operand (recordAt rs r) i) (byte : n < 256) (x : Role) (role : x ≡ roleAt (recordAt rs r) i) (sort : getD left n 0 ≡ asked x) where
-  pub due-is : Due rs r (namedBefore rs r i) n (asked x)
+  due-is : Due rs r (namedBefore rs r i) n (asked x)
   due-is = due rs r (namedBefore rs r i) left n (asked x) (g .left-is) byte sort (asked-some x)
 
   pub gathers-more : (left′ : List ℕ) (handed : Handed) (held′ free′ high′ : ℕ) → isNamed x (kindAt rs n) ≡ true → left′ ≡ set left n 0 → handed ≡ handedOn x names (getD below n 0) (getD frees n 0) → handed .fine ≡ true → held′ ≡ orBits held (getD below n 0) → free′ ≡ orBits free (handed .free) → high′ ≡ max high (getD highs n 0) → Gathers rs r frees first left′ held′ free′ high′ (i + 1)
@@ -291,7 +290,7 @@ literal-expression : (k : ℕ) → k < 3 → isPattern k ≡ false
 unfolding shape
 literal-expression k h = not-true (isPattern k) (each (λ k. not (isPattern k)) 3 refl k h)
 
-pub literal : (rs : List Record) (r : ℕ) (left frees : List ℕ) (s : Sum) → r < length rs → kindAt rs r < 3 → Left rs left r (allNamed (take r rs)) → s .held ≡ 0 → s .free ≡ 0 → s .high ≡ 0 → Sums rs r left frees s
+literal : (rs : List Record) (r : ℕ) (left frees : List ℕ) (s : Sum) → r < length rs → kindAt rs r < 3 → Left rs left r (allNamed (take r rs)) → s .held ≡ 0 → s .free ≡ 0 → s .high ≡ 0 → Sums rs r left frees s
 unfolding operands
 literal rs r left frees s h lit l eh ef eg =
     gathers-end rs r 0 left frees 0 0 0 0 s 0 h
