@@ -55,7 +55,7 @@ next-list-requires c κs =
       record {
         ok = is-counted (c .before .before .before .before .before .before .before .before .before .before .before .before .before .before .before .before .before .args .table .now) (c .before .before .before .before .before .before .before .before .before .before .before .before .before .before .before .before .before .args .s .now) (c .before .before .before .before .before .before .before .before .before .before .before .before .before .before .before .before .before .pre .ready) _ _ (c .before .before .before .before .before .before .before .before .before .before .before .before .before .cut .ensures);
         room = c .before .before .before .before .before .before .before .before .run-sheet .kept .1 .1 .1 .0 ∙ c .before .before .before .before .before .before .before .before .before .before .before .before .before .before .before .before .before .pre .ready .room;
-        is-indexed = is-indexed (c .before .before .before .before .before .before .before .before .before .before .before .before .before .before .before .before .before .args .table .now) (c .before .before .before .before .before .before .before .before .before .before .before .before .before .before .before .before .before .args .s .now) (c .before .before .before .before .before .before .before .before .before .before .before .before .before .before .before .before .before .pre .ready) _ _ (c .before .before .before .before .before .before .before .before .before .before .before .before .before .cut .ensures);
+        indexed = is-indexed (c .before .before .before .before .before .before .before .before .before .before .before .before .before .before .before .before .before .args .table .now) (c .before .before .before .before .before .before .before .before .before .before .before .before .before .before .before .before .before .args .s .now) (c .before .before .before .before .before .before .before .before .before .before .before .before .before .before .before .before .before .pre .ready) _ _ (c .before .before .before .before .before .before .before .before .before .before .before .before .before .cut .ensures);
       },
       record { runnable = c .before .before .before .before .before .before .before .before .before .before .before .before .before .before .before .before .before .pre .runnable; complete = full; sound = a .came .sound; ended = e .0 },
     )
