@@ -10,7 +10,7 @@ use generator::builder::kind;
 use generator::Builder;
 
 /// Patterns of a let, each with the value that it is matched with.
-const LETS: [(&str, &str); 15] = [
+const LETS: [(&str, &str); 22] = [
     ("mk_(a ^ -, b)", "mk_([],{1,2,3})"),
     ("{a,b,c,d}", "{1,2,3,4}"),
     (
@@ -28,8 +28,24 @@ const LETS: [(&str, &str); 15] = [
     ("a union (- union -)", "{1,...,7}"),
     ("- union (- union (- union -))", "{1,...,7}"),
     ("{-} union ({-} union a)", "{1,...,7}"),
+    ("- union (a union -)", "{1,...,7}"),
+    ("(a union -) union (- union -)", "{1,...,7}"),
+    ("((a union {b}) union {-}) union {c}", "{1,...,7}"),
+    ("((- union a) union a) union a", "{1,...,7}"),
+    (
+        "((- union {a}) union {-}) union (- union ({-} union {b}))",
+        "{1,...,7}",
+    ),
+    (
+        "(({-} union {-}) union ({-} union {-})) union (({-} union {-}) union a)",
+        "{1,...,7}",
+    ),
     (
         "- ^ (- ^ (- ^ a))",
+        "[1,2,3,4,5,6,7,8,9,10,11,12,13,14,15,16,17,18,19,20]",
+    ),
+    (
+        "(- ^ [a]) ^ (- ^ [b])",
         "[1,2,3,4,5,6,7,8,9,10,11,12,13,14,15,16,17,18,19,20]",
     ),
 ];
