@@ -10,13 +10,13 @@ use lib.ListN.{length, getD, set, length-set, replicate, length-replicate, getD-
 use lib.Seq.{getD-set-same, getD-set-other}
 use mathlib.Mathlib.Data.Bool.Basic.{and-elim-left, and-elim-right}
 use Rattle.prelude.proofs.Absurd.{never}
-use Rattle.prelude.proofs.Truth.{by-test, or-false-both}
+use Rattle.prelude.proofs.Truth.{by-test, or-false-both, by-lower}
 use Rattle.tables.specs.Record.{Record, Head, nothing, boolean, integer, name, unary, binary, unknown, shape, headOf, isExpression, isPattern, isKnown, isFit, named, operand, roleAt}
 use Rattle.tables.specs.Table.{recordAt, kindAt}
 use Rattle.tables.specs.Sheet.{isIn}
 use Rattle.tables.specs.Check.{isOfSort, allNamed, namedBefore, isBad, hasBad, fault6}
-use Rattle.tables.specs.Laws.{split, each}
-use Rattle.tables.specs.Accepted.{Clear6, fit-known, fit-kind}
+use Rattle.tables.specs.Laws.Tests.{each}
+use Rattle.tables.specs.Laws.Accepted.{Clear6, fit-known, fit-kind}
 use Rattle.checking.specs.Sweeps.{sortOf, leftAt, Left}
 use Rattle.checking.proofs.Marks.{in-more, in-last, bad-named}
 
