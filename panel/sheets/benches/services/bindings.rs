@@ -1,4 +1,5 @@
-//! Lets and let-bes whose bindings are formed and counted: with an empty list a run ends in 32 once they are, or in 30.
+//! Lets and let-bes whose bindings are formed and counted: with an empty list a run ends in 32 once they are, or in 30. An exists whose first binding settles it
+//! takes what forming them takes, and no more; a let-be tests every binding, window by window.
 
 #[allow(dead_code)]
 #[path = "../../tests/patterns/pattern.rs"]
@@ -50,8 +51,8 @@ const LETS: [(&str, &str); 22] = [
     ),
 ];
 
-/// The same of a let-be, with its set.
-const LET_BES: [(&str, &str); 2] = [
+/// The same of a let-be and of an exists, with their set.
+const SETS: [(&str, &str); 2] = [
     ("a", "{1,...,63}"),
     (
         "a union b",
@@ -62,7 +63,11 @@ const LET_BES: [(&str, &str); 2] = [
 /// Labels and tables.
 pub fn tables() -> Vec<(String, Vec<u8>)> {
     let lets = LETS.map(|(pattern, value)| row(kind::LET, pattern, value));
-    let let_bes = LET_BES.map(|(pattern, set)| row(kind::LET_BE, pattern, set));
+    let let_bes = SETS.map(|(pattern, set)| row(kind::LET_BE, pattern, set));
+    let exists = SETS.map(|(pattern, set)| {
+        let (label, table) = row(kind::EXISTS, pattern, set);
+        (format!("{label}, formed alone"), table)
+    });
     let chains = (4..=8).flat_map(|parts| {
         [
             ("names", 'a', 'p'),
@@ -77,7 +82,11 @@ pub fn tables() -> Vec<(String, Vec<u8>)> {
             )
         })
     });
-    lets.into_iter().chain(let_bes).chain(chains).collect()
+    lets.into_iter()
+        .chain(let_bes)
+        .chain(exists)
+        .chain(chains)
+        .collect()
 }
 
 fn row(kind: u16, pattern: &str, value: &str) -> (String, Vec<u8>) {
