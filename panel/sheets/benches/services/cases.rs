@@ -17,6 +17,13 @@ pub fn chain(height: usize) -> Vec<u8> {
     })
 }
 
+/// The deepest sheet that nests what the label says.
+pub fn deepest(label: &str) -> Vec<u8> {
+    let sheets = generator::deepest();
+    let found = sheets.into_iter().find(|(nested, _)| nested == label);
+    found.expect("a label of the deepest sheets").1
+}
+
 /// 200 records, as many bytes as their tree allows: sequences of eight, of literals at last.
 pub fn largest() -> Vec<u8> {
     build(|b| {

@@ -343,7 +343,7 @@ fn walks() -> [Row; 2] {
     .map(|(label, table)| Row::new(label, Call::Walk, table))
 }
 
-fn evaluations() -> [Row; 5] {
+fn evaluations() -> [Row; 7] {
     let deterministic = [
         (
             "evaluate, nested comprehensions of 63 × 63",
@@ -354,12 +354,20 @@ fn evaluations() -> [Row; 5] {
             "evaluate, a map comprehension with 31 applications",
             cases::applied_map(),
         ),
-        ("evaluate, height 32", cases::chain(32)),
+        ("evaluate, height 32: minuses", cases::chain(32)),
+        (
+            "evaluate, height 32: foralls in conditions",
+            cases::deepest("foralls in conditions"),
+        ),
+        (
+            "evaluate, height 32: set comprehensions in elements",
+            cases::deepest("set comprehensions in elements"),
+        ),
     ];
-    let [a, b, c, d] = deterministic.map(|(label, table)| Row::new(label, Call::Evaluate, table));
+    let [a, b, c, d, e, f] = deterministic.map(|(label, table)| Row::new(label, Call::Evaluate, table));
     let label = "evaluate, list 975 of a let-be of 40 over one of 25";
     let chosen = Row::new(label, Call::Evaluate, cases::nested_choices()).under(vec![39, 24]);
-    [chosen, a, b, c, d]
+    [chosen, a, b, c, d, e, f]
 }
 
 /// The walk programs; no row where ours is not built.
