@@ -14,7 +14,7 @@ use Rattle.prelude.proofs.Absurd.{never}
 use Rattle.prelude.proofs.Truth.{by-test, or-false-both, by-lower}
 use Rattle.tables.specs.Record.{Record, named, operand, roleAt, nameOf}
 use Rattle.tables.specs.Table.{recordAt, kindAt}
-use Rattle.tables.specs.Sheet.{some, isIn, isName, holdsName, isCovered, isCondition, parent, patternOf, isBound, inCondition}
+use Rattle.tables.specs.Sheet.{some, isIn, isName, holdsName, isCovered, parent, patternOf, isBound, inCondition}
 use Rattle.tables.specs.Check.{chooses, fault7, fault8}
 use Rattle.tables.specs.Laws.Tests.{low, Place, in-place}
 use Rattle.tables.specs.Laws.Below.{parent-higher}
@@ -44,10 +44,8 @@ none-above : (m n : ℕ) → m < 4 → m / 2 ^ (n + 2) < 1
 none-above m n h =
     let four : 2 ^ (n + 2) ≡ 2 ^ n * 4 = pow-add 2 n 2 in
     let some : 0 < 2 ^ n = pow-pos n in
-    shr-lt {n = m} 0 (n + 2) (rw (zero-add (n + 2)) (omega arith))
-  where
-    zero-add : (n : ℕ) → 0 + n ≡ n
-    zero-add n = omega arith
+    let same : 0 + (n + 2) ≡ n + 2 = omega arith in
+    shr-lt {n = m} 0 (n + 2) (rw same (omega arith))
 
 pub low-bits : (m n : ℕ) → m < 4 → hasBit m (n + 2) ≡ false
 unfolding hasBit
@@ -80,10 +78,6 @@ some-in : (f : ℕ → Bool) (ms : List ℕ) (i : ℕ) → i < length ms → f (
 some-in f [] i h e = absurd (omega arith)
 some-in f (m ∷ ms) zero h e = or-inl (f m) (some (map f ms)) e
 some-in f (m ∷ ms) (suc i) h e = or-inr (f m) (some (map f ms)) (some-in f ms i (omega arith) e)
-
-either : (a b : Bool) → a || b ≡ true → (a ≡ true → b ≡ true) → b ≡ true
-either true b e f = f refl
-either false b e f = e
 
 module _ (rs : List Record) (clear : Clear6 rs) (frees : List ℕ) (all : (q : ℕ) → q < length rs → Frees rs frees q (getD frees q 0)) where
   holds-up : (q i n : ℕ) → q < length rs → i < length (named (recordAt rs q)) → holdsName rs (operand (recordAt rs q) i) n ≡ true → holdsName rs q n ≡ true

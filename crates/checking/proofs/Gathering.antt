@@ -1,7 +1,7 @@
 -- What a record and its operands come to, operand by operand.
 use mathlib.Core.Path.{_≡_, refl, sym, ap, subst, _∙_}
 use mathlib.Core.Bool.{Bool, true, false, not, _&&_, _||_, cond}
-use mathlib.Core.List.{List, [], _∷_, _++_, map, append-nil, append-assoc}
+use mathlib.Core.List.{List, [], _∷_, map, append-nil, append-assoc}
 use Prim.Native.Nat.{ℕ, zero, suc, _+_, _^_, _≤_, _<_, max}
 use native.Mathlib.Omega.{arith}
 use native.Mathlib.Numerals.{add-one}
@@ -12,7 +12,7 @@ use lib.ListN.{length, getD, set, length-set, drop, take, replicate, length-repl
 use lib.Seq.{drop-cons, drop-length, take-suc, take-all, getD-set-same, getD-set-other}
 use mathlib.Mathlib.Data.Bool.Basic.{or-inl, or-inr, and-elim-left, and-elim-right}
 use Rattle.prelude.proofs.Absurd.{never}
-use Rattle.prelude.proofs.Truth.{by-test, implied, by-lower}
+use Rattle.prelude.proofs.Truth.{by-lower}
 use Rattle.tables.specs.declared.Role.{Role}
 use Rattle.tables.specs.declared.Role.the-variants.{Plain, Condition, Body, Pattern, Name}
 use Rattle.tables.specs.Record.{Record, shape, size, headOf, isPattern, isFit, operands, named, operand, roleAt, nameOf}
@@ -26,8 +26,8 @@ use Rattle.checking.specs.declared.sweep.Sum.{Sum}
 use Rattle.checking.specs.declared.sweep.Handed.{Handed}
 use Rattle.checking.specs.declared.sweep.Swept.{Swept}
 use Rattle.checking.specs.Scopes.{hasBit, orBits, own, bitsBelow}
-use Rattle.checking.specs.Sweeps.{without, apart, sortOf, Left, asked, isNamed, hands, stops, coveredBy, handedOn, freeOwn, Passes, Frees, Kept, Names, Sums, Entered, Passed, isTall, Closed, Settled}
-use Rattle.checking.proofs.Bits.{bit-union, bit-zero, bit-pow, held-name, held-loose, held-even}
+use Rattle.checking.specs.Sweeps.{without, apart, sortOf, Left, asked, isNamed, hands, stops, coveredBy, handedOn, freeOwn, Passes, Frees, Known, Names, Sums, Entered, Passed, isTall, Closed, Settled}
+use Rattle.checking.proofs.Bits.{bit-union, bit-pow, held-name, held-loose, held-even}
 use Rattle.checking.proofs.Marks.{all-more}
 use Rattle.checking.proofs.Below.{Turn, turn-start, turn-more, turn-end, own-none}
 use Rattle.checking.proofs.Above.{zeros}
@@ -53,7 +53,7 @@ module _ (x : Record) (names : ℕ) where
   unfolding freeOwn
   free-other a b d = rw (ne-eqb (x .kind) 3 a, ne-eqb (x .kind) 13 b, ne-eqb (x .kind) 12 d)
 
-  pub own-read : x .kind ≡ 3 → hasBit (freeOwn x names) (nameOf x + 2) ≡ true
+  own-read : x .kind ≡ 3 → hasBit (freeOwn x names) (nameOf x + 2) ≡ true
   own-read e = ap (λ (m : ℕ). hasBit m (nameOf x + 2)) (sym (free-name (nameOf x) e refl)) ∙ bit-pow (nameOf x + 2) (nameOf x + 2) ∙ eq-eqb (nameOf x + 2) (nameOf x + 2) refl
 
   own-choice : x .kind ≡ 13 → hasBit (freeOwn x names) 0 ≡ true
@@ -66,7 +66,7 @@ let-binds : (k : ℕ) → k ≡ 12 → isBinder k ≡ true
 unfolding shape
 let-binds k e = rw e
 
-pub own-chosen : (rs : List Record) (r names : ℕ) → Clear6 rs → Names rs r names → chooses rs r ≡ true → hasBit (freeOwn (recordAt rs r) names) 0 ≡ true
+own-chosen : (rs : List Record) (r names : ℕ) → Clear6 rs → Names rs r names → chooses rs r ≡ true → hasBit (freeOwn (recordAt rs r) names) 0 ≡ true
 unfolding chooses
 own-chosen rs r names clear are e = go (eqb (kindAt rs r) 13) refl e
   where
@@ -79,7 +79,7 @@ own-chosen rs r names clear are e = go (eqb (kindAt rs r) 13) refl e
 
 -- ---- one operand
 
-pub asked-some : (x : Role) → 0 < asked x
+asked-some : (x : Role) → 0 < asked x
 asked-some Plain = omega arith
 asked-some Condition = omega arith
 asked-some Body = omega arith
@@ -208,8 +208,8 @@ gathers-start rs r left frees held free h l e =
       pass = λ clear j k. absurd (omega arith);
     }
 
-module _ (rs : List Record) (r names : ℕ) (left below frees highs : List ℕ) (first held free high i : ℕ) (g : Gathers rs r frees first left held free high i) (kept : Kept rs below frees highs r) (are : Names rs r names) (fit : (q : ℕ) → q < length rs → isFit (recordAt rs q) ≡ true) (in-table : r < length rs) (has : i < length (named (recordAt rs r))) (n : ℕ) (is : n ≡ operand (recordAt rs r) i) (byte : n < 256) (x : Role) (role : x ≡ roleAt (recordAt rs r) i) (sort : getD left n 0 ≡ asked x) where
-  pub due-is : Due rs r (namedBefore rs r i) n (asked x)
+module _ (rs : List Record) (r names : ℕ) (left below frees highs : List ℕ) (first held free high i : ℕ) (g : Gathers rs r frees first left held free high i) (kept : Known rs below frees highs r) (are : Names rs r names) (fit : (q : ℕ) → q < length rs → isFit (recordAt rs q) ≡ true) (in-table : r < length rs) (has : i < length (named (recordAt rs r))) (n : ℕ) (is : n ≡ operand (recordAt rs r) i) (byte : n < 256) (x : Role) (role : x ≡ roleAt (recordAt rs r) i) (sort : getD left n 0 ≡ asked x) where
+  due-is : Due rs r (namedBefore rs r i) n (asked x)
   due-is = due rs r (namedBefore rs r i) left n (asked x) (g .left-is) byte sort (asked-some x)
 
   pub gathers-more : (left′ : List ℕ) (handed : Handed) (held′ free′ high′ : ℕ) → isNamed x (kindAt rs n) ≡ true → left′ ≡ set left n 0 → handed ≡ handedOn x names (getD below n 0) (getD frees n 0) → handed .fine ≡ true → held′ ≡ orBits held (getD below n 0) → free′ ≡ orBits free (handed .free) → high′ ≡ max high (getD highs n 0) → Gathers rs r frees first left′ held′ free′ high′ (i + 1)
@@ -291,7 +291,7 @@ literal-expression : (k : ℕ) → k < 3 → isPattern k ≡ false
 unfolding shape
 literal-expression k h = not-true (isPattern k) (each (λ k. not (isPattern k)) 3 refl k h)
 
-pub literal : (rs : List Record) (r : ℕ) (left frees : List ℕ) (s : Sum) → r < length rs → kindAt rs r < 3 → Left rs left r (allNamed (take r rs)) → s .held ≡ 0 → s .free ≡ 0 → s .high ≡ 0 → Sums rs r left frees s
+literal : (rs : List Record) (r : ℕ) (left frees : List ℕ) (s : Sum) → r < length rs → kindAt rs r < 3 → Left rs left r (allNamed (take r rs)) → s .held ≡ 0 → s .free ≡ 0 → s .high ≡ 0 → Sums rs r left frees s
 unfolding operands
 literal rs r left frees s h lit l eh ef eg =
     gathers-end rs r 0 left frees 0 0 0 0 s 0 h
@@ -331,7 +331,7 @@ frees-set rs frees frees′ r v q o clear h k e f =
           (f .pass i l);
     }
 
-module _ (rs : List Record) (below frees highs : List ℕ) (r : ℕ) (left : List ℕ) (s : Sum) (few : length rs ≤ 200) (in-table : r < length rs) (kept : Kept rs below frees highs r) (sums : Sums rs r left frees s) where
+module _ (rs : List Record) (below frees highs : List ℕ) (r : ℕ) (left : List ℕ) (s : Sum) (few : length rs ≤ 200) (in-table : r < length rs) (kept : Known rs below frees highs r) (sums : Sums rs r left frees s) where
   pub entered : (left′ below′ frees′ highs′ : List ℕ) (x : ℕ) → x ≡ sortOf (kindAt rs r) → left′ ≡ set left r x → below′ ≡ set below r (s .held) → frees′ ≡ set frees r (s .free) → highs′ ≡ set highs r (s .high + 1) → Entered rs r left′ below′ frees′ highs′
   entered left′ below′ frees′ highs′ x ex el eb ef eg =
       record {
@@ -360,7 +360,7 @@ set-own [] r = refl
 set-own (x ∷ xs) zero = refl
 set-own (x ∷ xs) (suc r) = ap (λ (ys : List ℕ). x ∷ ys) (set-own xs r)
 
-pub entered-literal : (rs : List Record) (below frees highs : List ℕ) (r : ℕ) (left : List ℕ) → length rs ≤ 200 → r < length rs → kindAt rs r < 3 → Left rs left r (allNamed (take r rs)) → Kept rs below frees highs r → Entered rs r (set left r 1) below frees (set highs r 1)
+pub entered-literal : (rs : List Record) (below frees highs : List ℕ) (r : ℕ) (left : List ℕ) → length rs ≤ 200 → r < length rs → kindAt rs r < 3 → Left rs left r (allNamed (take r rs)) → Known rs below frees highs r → Entered rs r (set left r 1) below frees (set highs r 1)
 entered-literal rs below frees highs r left few h lit l kept =
     entered rs below frees highs r left nothing few h kept (literal rs r left frees nothing h lit l refl refl refl) (set left r 1) below frees (set highs r 1) 1
     (sort-literal (kindAt rs r) lit) refl
@@ -378,9 +378,9 @@ pub record Runs (rs : List Record) (left below frees highs : List ℕ) (r : ℕ)
   pub within : r ≤ length rs
   pub good : (q : ℕ) → q < r → hasBad rs q ≡ false
   pub left-is : Left rs left r (allNamed (take r rs))
-  pub kept : Kept rs below frees highs r
+  pub kept : Known rs below frees highs r
 
-pub none-kept : (rs : List Record) → Kept rs (replicate 200 0) (replicate 200 0) (replicate 200 0) 0
+pub none-kept : (rs : List Record) → Known rs (replicate 200 0) (replicate 200 0) (replicate 200 0) 0
 none-kept rs =
     record {
       long-below = length-replicate {A = ℕ} 200 0;
@@ -394,7 +394,7 @@ none-kept rs =
       free = λ clear q h. absurd (omega arith);
     }
 
-pub runs-start : (rs : List Record) (left below frees highs : List ℕ) → Left rs left 0 [] → Kept rs below frees highs 0 → Runs rs left below frees highs 0
+pub runs-start : (rs : List Record) (left below frees highs : List ℕ) → Left rs left 0 [] → Known rs below frees highs 0 → Runs rs left below frees highs 0
 runs-start rs left below frees highs l k = record { within = omega arith; good = λ q h. absurd (omega arith); left-is = l; kept = k }
 
 pub runs-more : (rs : List Record) (left below frees highs left′ below′ frees′ highs′ : List ℕ) (r : ℕ) → r < length rs → Runs rs left below frees highs r → Entered rs r left′ below′ frees′ highs′ → Runs rs left′ below′ frees′ highs′ (r + 1)

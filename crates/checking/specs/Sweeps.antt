@@ -101,7 +101,7 @@ pub record Frees (rs : List Record) (frees : List ℕ) (q o : ℕ) : Type 0 wher
 -- ---- the pass
 
 -- What is known of the records below r; most of it where all keep rule 6, which the pass finds out by the way.
-pub record Kept (rs : List Record) (below frees highs : List ℕ) (r : ℕ) : Type 0 where
+pub record Known (rs : List Record) (below frees highs : List ℕ) (r : ℕ) : Type 0 where
   pub long-below : length below ≡ mostRecords
   pub long-frees : length frees ≡ mostRecords
   pub long-highs : length highs ≡ mostRecords
@@ -115,7 +115,7 @@ pub record Kept (rs : List Record) (below frees highs : List ℕ) (r : ℕ) : Ty
 pub record AskSum (table index : List ℕ) (r : ℕ) (left below frees highs : List ℕ) : Type 0 where
   pub here : Here table index r
   pub left-is : Left (records table) left r (allNamed (take r (records table)))
-  pub kept : Kept (records table) below frees highs r
+  pub kept : Known (records table) below frees highs r
 
 -- The names that a binder's pattern holds.
 pub record Names (rs : List Record) (r names : ℕ) : Type 0 where
@@ -143,12 +143,12 @@ pub record Sums (rs : List Record) (r : ℕ) (left frees : List ℕ) (s : Sum) :
 pub record Entered (rs : List Record) (r : ℕ) (left below frees highs : List ℕ) : Type 0 where
   pub good : hasBad rs r ≡ false
   pub left-is : Left rs left (r + 1) (allNamed (take (suc r) rs))
-  pub kept : Kept rs below frees highs (r + 1)
+  pub kept : Known rs below frees highs (r + 1)
 
 pub record AskSweep (table index : List ℕ) (count : ℕ) (left below frees highs : List ℕ) : Type 0 where
   pub whole : Whole table index count
   pub left-is : Left (records table) left 0 []
-  pub kept : Kept (records table) below frees highs 0
+  pub kept : Known (records table) below frees highs 0
 
 -- What is known after all records.
 pub record Passed (rs : List Record) (left frees highs : List ℕ) : Type 0 where

@@ -6,7 +6,8 @@ use mathlib.Core.Option.{Option, none as absent, some}
 use Prim.Native.Nat.{ℕ, _+_, _≤_}
 use Rattle.values.specs.Value.{Kind, set, map, Value, collection, Items, none, more, count, size, order}
 use Rattle.values.specs.Items.{isMember, nth, lookup, inOrder}
-use Rattle.values.specs.Place.{At}
+use Rattle.values.specs.Place.{At, ItemsAt}
+use Rattle.integers.specs.Bytes.{word}
 use Rattle.collections.specs.declared.finding.Found.{Found}
 use Rattle.collections.specs.declared.finding.Found.the-variants.{At as Place, Nothing}
 use Rattle.collections.specs.declared.finding.Sought.{Sought}
@@ -37,6 +38,11 @@ seek entries false v (more w ws) p = seek entries true v ws (p + size w)
 -- r is where the value at x stands or belongs, among members or, of entries, among keys
 abbrev pub Seeks : List ℕ → ℕ → ℕ → Bool → Sought → Type 0
 Seeks s at x entries r = (kind : Kind) (vs : Items) (v : Value) → At s at (collection kind vs) → At s x v → r ≡ seek entries true v vs (at + 4)
+
+-- Seeking from p on, among the items that are left there, is seeking from the first item on.
+pub record SeeksOn (s : List ℕ) (at x : ℕ) (entries : Bool) (p : ℕ) : Type 0 where
+  pub from : at + 4 ≤ p
+  pub left : (kind : Kind) (vs : Items) → At s at (collection kind vs) → (rest : Items) × ItemsAt s p (at + word s at) rest × ((v : Value) → At s x v → seek entries true v vs (at + 4) ≡ seek entries true v rest p)
 
 -- A place between two others where the value stands, if there is one.
 pub data Finds (s : List ℕ) (from to : ℕ) : Found → Option Value → Type 0 where

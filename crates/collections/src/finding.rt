@@ -1,9 +1,11 @@
 // Finding in collections: members, what stands at a key, items by their number, and how many there are.
 use integers::Order;
 use values::Value;
+ghost use mathlib.Core.Bool.{false};
 ghost use Rattle.values.specs.Value.{set, map};
 ghost use Rattle.values.specs.Place.{Holds};
-ghost use Rattle.collections.specs.Finding.{HoldsKind, HoldsCollection, Seeks, Contains, AtKey, Item, Counted};
+ghost use Rattle.values.specs.Contract.{Length, OfKind};
+ghost use Rattle.collections.specs.Finding.{HoldsKind, HoldsCollection, Seeks, SeeksOn, Contains, AtKey, Item, Counted};
 
 // Where the record that was looked for stands.
 pub enum Found {
@@ -17,13 +19,63 @@ pub enum Sought {
     Before(usize),
 }
 
+// The bytes of an integer's record.
+const INTEGER: usize = 8;
+
+// The length of the record at a place. That of an integer is known by its kind, so that the next place need not wait for it.
+fn past(s: &[u8], p: usize) -> usize
+    requires { ⌜ Holds (now s) p ⌝ }
+    ensures { λ n. ⌜ Length (now (s .entry)) p n ⌝ }
+{
+    if values::kind_of(s, p) == Value::INTEGER {
+        return INTEGER;
+    }
+    values::length_of(s, p)
+}
+
+// Past the integers of the collection at a place that come first in it and are lower than the integer at x. Their records are of one length.
+fn pass_lower(s: &[u8], at: usize, x: usize) -> usize
+    requires { ⌜ HoldsCollection (now s) at × OfKind (now s) x 2 ⌝ }
+    ensures { λ p. ⌜ SeeksOn (now (s .entry)) at x false p ⌝ }
+{
+    let end = at + values::length_of(s, at);
+    let z = values::integer_at(s, x);
+    let mut p = at + Value::HEAD;
+    while p < end {
+        if values::kind_of(s, p) != Value::INTEGER {
+            return p;
+        }
+        let y = values::integer_at(s, p);
+        let o = integers::compare(z, y);
+        let Order::Higher = o else {
+            return p;
+        };
+        p += INTEGER;
+    }
+    p
+}
+
+// Where seeking starts: past integers that are lower, among members.
+fn start(s: &[u8], at: usize, x: usize, entries: bool) -> usize
+    requires { ⌜ HoldsCollection (now s) at × Holds (now s) x ⌝ }
+    ensures { λ p. ⌜ SeeksOn (now (s .entry)) at x entries p ⌝ }
+{
+    if entries {
+        return at + Value::HEAD;
+    }
+    if values::kind_of(s, x) != Value::INTEGER {
+        return at + Value::HEAD;
+    }
+    pass_lower(s, at, x)
+}
+
 // The place of the value at x among the members of the set at a place, or among the keys of the map there.
 pub fn seek(s: &[u8], at: usize, x: usize, entries: bool) -> Sought
     requires { ⌜ HoldsCollection (now s) at × Holds (now s) x ⌝ }
     ensures { λ r. ⌜ Seeks (now (s .entry)) at x entries r ⌝ }
 {
     let end = at + values::length_of(s, at);
-    let mut p = at + Value::HEAD;
+    let mut p = start(s, at, x, entries);
     let mut key = true;
     while p < end {
         if key {
@@ -40,7 +92,7 @@ pub fn seek(s: &[u8], at: usize, x: usize, entries: bool) -> Sought
         } else {
             key = true;
         }
-        p += values::length_of(s, p);
+        p += past(s, p);
     }
     Sought::Before(p)
 }

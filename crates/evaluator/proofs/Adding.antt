@@ -27,11 +27,9 @@ use Rattle.evaluator.specs.declared.Outcome.{Outcome}
 use Rattle.evaluator.specs.declared.Outcome.the-variants.{Value as HasValue}
 use Rattle.bindings.specs.declared.Cursor.{Cursor}
 use Rattle.parts.specs.declared.words.Env.{Env}
-use Rattle.evaluator.specs.Binding.{Placed}
-use Rattle.evaluator.specs.Binding.{Held}
+use Rattle.evaluator.specs.Binding.{Placed, Held, Standing, Stands, Insides, holdsIn, Tests, kindFor, addsIn, stepIn, BuiltAt, Extends, Extended}
 use Rattle.evaluator.specs.Building.{Enumerated, builtKind, addTo, Pending, going, halted, AddHeld, AddsNext, EnterHeld, EntersNext}
-use Rattle.evaluator.specs.Contract.{Ask, Around, ended, Comes, meant, operandAt, refusedAs}
-use Rattle.evaluator.specs.Binding.{Standing, Stands, Insides, holdsIn, Tests, kindFor, addsIn, stepIn, BuiltAt, Extends, Extended}
+use Rattle.evaluator.specs.Contract.{Ask, Around, ended, Comes, meant, operandAt}
 use Rattle.evaluator.specs.Word.{outcomeOf, ending, wordOf, builtWord}
 use Rattle.evaluator.proofs.Wording.{decoded}
 use Rattle.evaluator.proofs.Framing.{around-kept}

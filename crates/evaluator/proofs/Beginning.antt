@@ -31,10 +31,9 @@ use Rattle.bindings.specs.declared.Cursor.{Cursor}
 use Rattle.parts.specs.declared.words.Env.{Env}
 use Rattle.bindings.specs.declared.Opened.{Opened}
 use Rattle.bindings.specs.declared.Opened.the-variants.{Bound, Refused as Unbound}
-use Rattle.evaluator.specs.Binding.{Placed}
+use Rattle.evaluator.specs.Binding.{Placed, patternFor, wholly, listed, Standing, valuesFor, Suits, fit, unfit, Begins}
 use Rattle.bindings.specs.Window.{Values, Lent, TellsOpened, OpenedAs}
 use Rattle.evaluator.specs.Contract.{Ask, Around, Evaluated, ended, Comes, Gives, Evaluates, meant, operandAt}
-use Rattle.evaluator.specs.Binding.{patternFor, wholly, listed, Standing, valuesFor, Suits, fit, unfit, Begins}
 use Rattle.evaluator.proofs.Coming.{comes-on, comes-stop, comes-as, comes-sound, comes-held, comes-value, comes-refused}
 use Rattle.evaluator.proofs.Tables.{room-here}
 

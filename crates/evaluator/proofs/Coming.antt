@@ -1,10 +1,7 @@
 -- How what parts of an evaluation come to is put together.
 use mathlib.Core.Path.{_≡_, refl, sym, subst, _∙_}
-use mathlib.Core.List.{List, [], _∷_}
+use mathlib.Core.List.{List}
 use Prim.Native.Nat.{ℕ}
-use native.Mathlib.Omega.{arith}
-use denote.Enum.Declared.{tagOf}
-use types.Run.{OneOf}
 use Rattle.prelude.proofs.Absurd.{impossible}
 use Rattle.values.specs.Place.{At}
 use Rattle.choices.specs.State.{Choices, Invariant}
@@ -19,14 +16,7 @@ use Rattle.evaluator.specs.declared.Outcome.{Outcome}
 use Rattle.evaluator.specs.declared.Outcome.the-variants.{Value as HasValue, Refused}
 use Rattle.evaluator.specs.Contract.{Evaluated, ended, Comes, gave, off, valueAs, refusedAs}
 use Rattle.evaluator.specs.Leaves.{applied, appliedAs}
-use Rattle.evaluator.proofs.Outcome as outcome
 use Rattle.evaluator.proofs.Leading.{Leads, leads-came, leads-off, leads-then}
-
-pub no-value : (o : Outcome) → OneOf (1 ∷ []) (tagOf outcome.the-type o) → o ≡ HasValue → ⊥
-no-value o k q = none (subst (λ (x : Outcome). OneOf (1 ∷ []) (tagOf outcome.the-type x)) q k)
-  where
-    none : OneOf (1 ∷ []) 0 → ⊥
-    none h = omega arith
 
 pub value-refused : {X : Type 0} {o : Outcome} {n p k : ℕ} → o ≡ HasValue → o ≡ Refused n p k → X
 value-refused e f = let g = sym e ∙ f in impossible cc

@@ -22,11 +22,9 @@ use Rattle.patterns.specs.Pattern.{loose}
 use Rattle.patterns.specs.Read.{patternAt}
 use Rattle.meaning.specs.Laws.PatternLaws.{loose-is}
 use Rattle.parts.specs.declared.words.Env.{Env}
-use Rattle.evaluator.specs.declared.Outcome.the-variants.{Value as HasValue, Refused}
-use Rattle.evaluator.specs.Binding.{Placed}
-use Rattle.evaluator.specs.Binding.{Counted}
+use Rattle.evaluator.specs.declared.Outcome.the-variants.{Value as HasValue}
+use Rattle.evaluator.specs.Binding.{Placed, Counted, Binder, quantified, patternFor, Begins, agrees, IsTaken, Picks, Unique, Surveys}
 use Rattle.evaluator.specs.Contract.{Ask, ended, Evaluates, operandAt}
-use Rattle.evaluator.specs.Binding.{Binder, quantified, patternFor, Begins, agrees, IsTaken, Picks, Unique, Surveys}
 use Rattle.evaluator.proofs.Single.{exists1-off, iota-off}
 use Rattle.evaluator.proofs.Tables.{has-operand}
 use Rattle.evaluator.proofs.Standing.{binder-readable}

@@ -26,12 +26,10 @@ use Rattle.evaluator.specs.declared.Truth.{Truth}
 use Rattle.evaluator.specs.declared.Truth.the-variants.{True, False, Other}
 use Rattle.bindings.specs.declared.Cursor.{Cursor}
 use Rattle.parts.specs.declared.words.Env.{Env}
-use Rattle.evaluator.specs.Binding.{Placed}
-use Rattle.evaluator.specs.Binding.{Held}
+use Rattle.evaluator.specs.Binding.{Placed, Held, Standing, Stands, Enters, Upward, Insides, holdsIn, Tests}
 use Rattle.bindings.specs.Window.{Values, Reachable, Reached, Underneath, UnderBinding}
 use Rattle.evaluator.specs.Contract.{Ask, Around, Evaluated, ended, Comes, Gives, Evaluates, meant, operandAt}
 use Rattle.evaluator.specs.Leaves.{readAs, Tells}
-use Rattle.evaluator.specs.Binding.{Standing, Stands, Enters, Upward, Insides, holdsIn, Tests}
 use Rattle.evaluator.proofs.Framing.{around-kept, around-up, at-kept}
 use Rattle.evaluator.proofs.Coming.{comes-on, comes-stop, comes-as, comes-sound, comes-held, comes-value, comes-refused}
 use Rattle.evaluator.proofs.Tables.{ask-down, lower-down, room-here}

@@ -26,13 +26,11 @@ use Rattle.evaluator.specs.declared.Outcome.{Outcome}
 use Rattle.evaluator.specs.declared.Outcome.the-variants.{Value as HasValue, Refused}
 use Rattle.bindings.specs.declared.Cursor.{Cursor}
 use Rattle.parts.specs.declared.words.Env.{Env}
-use Rattle.evaluator.specs.Binding.{Placed}
-use Rattle.evaluator.specs.Binding.{Counted}
+use Rattle.evaluator.specs.Binding.{Placed, Counted, Binder, patternFor, listed, Standing, Begins, Stands, Insides, dueIn, Marked, Surveys, Picks, loosely, plainly, answerNumber, answerCount, IsTaken}
 use Rattle.evaluator.specs.Word.{ending, wordOf, unchosenWord}
 use Rattle.evaluator.proofs.Wording.{refused-at, word-unchosen}
 use Rattle.evaluator.proofs.Tables.{small-place}
 use Rattle.evaluator.specs.Contract.{Ask, Around, Evaluated, ended, Comes, gave, off, Gives, Evaluates, meant, operandAt, valueAs}
-use Rattle.evaluator.specs.Binding.{Binder, patternFor, listed, Standing, Begins, Stands, Insides, dueIn, Marked, Surveys, Picks, loosely, plainly, answerNumber, answerCount, IsTaken}
 use Rattle.evaluator.proofs.Framing.{around-kept}
 use Rattle.evaluator.proofs.Coming.{value-refused, comes-on, comes-stop, comes-as, comes-sound, comes-held, comes-anywhere, comes-refused}
 use Rattle.evaluator.proofs.Choosing.{chosen-due, choice-taken, choice-off, matched-none, matched-loose, matched-plain, satisfied-none, satisfied-some}

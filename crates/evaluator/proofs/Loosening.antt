@@ -1,13 +1,11 @@
 -- Looseness operand by operand: what is left decides as the whole does.
-use mathlib.Core.Path.{_≡_, refl, sym, ap, _∙_}
+use mathlib.Core.Path.{_≡_, sym, ap, _∙_}
 use mathlib.Core.Bool.{Bool, true, false, _||_}
 use mathlib.Core.List.{List, _∷_, map}
 use Prim.Native.Nat.{ℕ, suc, _+_, _≤_, _<_}
 use native.Mathlib.Omega.{arith}
-use lib.Dec.{eqb}
 use lib.ListN.{length, getD, drop}
 use lib.Seq.{drop-cons, drop-length}
-use borrow.Author.Tests.{ne-eqb}
 use Rattle.tables.specs.Laws.Kinds.{not-loose}
 use Rattle.tables.specs.Record.{shape, Record, named, operand}
 use Rattle.tables.specs.Table.{recordAt, kindAt}

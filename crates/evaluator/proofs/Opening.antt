@@ -12,9 +12,8 @@ use Rattle.calling.proofs.Framing.{kept-then}
 use Rattle.meaning.specs.State.{State}
 use Rattle.evaluator.specs.declared.Outcome.the-variants.{Value as HasValue}
 use Rattle.parts.specs.declared.words.Env.{Env}
-use Rattle.evaluator.specs.Binding.{Placed}
+use Rattle.evaluator.specs.Binding.{Placed, wholly, listed, Standing, Begins}
 use Rattle.evaluator.specs.Contract.{Ask, Evaluated, ended, Comes, gave, off, Gives}
-use Rattle.evaluator.specs.Binding.{wholly, listed, Standing, Begins}
 use Rattle.evaluator.proofs.Framing.{around-kept}
 use Rattle.evaluator.proofs.Coming.{comes-on, comes-stop, comes-as, comes-sound, comes-held}
 use Rattle.evaluator.proofs.Leading.{Leads}

@@ -1,5 +1,5 @@
 -- How the bindings were opened, and how a condition was judged, by cases.
-use mathlib.Core.Path.{_≡_, refl, ap, subst, _∙_}
+use mathlib.Core.Path.{_≡_, refl, ap, _∙_}
 use native.Mathlib.Omega.{arith}
 use lib.Dec.{eqb}
 use mathlib.Core.Bool.{Bool, true, false}
@@ -8,16 +8,14 @@ use Prim.Native.Nat.{ℕ, _+_}
 use Rattle.choices.specs.State.{Choices}
 use Rattle.bindings.specs.declared.Cursor.{Cursor}
 use Rattle.bindings.specs.declared.Opened.{Opened}
-use Rattle.bindings.specs.declared.Opened.the-variants.{Bound, Refused as Unbound}
 use Rattle.bindings.specs.Window.{OpenedAs}
 use Rattle.parts.specs.declared.words.Env.{Env}
 use Rattle.evaluator.specs.declared.Outcome.the-variants.{Value as HasValue}
-use Rattle.evaluator.specs.Binding.{Placed}
+use Rattle.evaluator.specs.Binding.{Placed, wholly, Suits, OpeningIs, opens, fails, Begins, Stands, Insides, Tests, Held, placed}
 use Rattle.evaluator.specs.declared.Truth.{Truth}
 use Rattle.evaluator.specs.declared.Truth.the-variants.{True, False, Other}
 use Rattle.evaluator.specs.Contract.{Ask, Evaluated, Evaluates, operandAt}
 use Rattle.evaluator.specs.Leaves.{Tells}
-use Rattle.evaluator.specs.Binding.{wholly, Suits, OpeningIs, opens, fails, Begins, Stands, Insides, Tests, Held, placed}
 use Rattle.evaluator.specs.Word.{outcomeOf, judgedWord}
 use Rattle.evaluator.proofs.Wording.{decoded, zero-valued, two-valued}
 use Rattle.evaluator.proofs.Tables.{small-place}

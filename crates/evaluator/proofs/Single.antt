@@ -45,13 +45,12 @@ use Rattle.meaning.specs.Meaning.{orElse, unique, patternName}
 use Rattle.evaluator.specs.declared.Outcome.the-variants.{Value as HasValue}
 use Rattle.bindings.specs.declared.Cursor.{Cursor}
 use Rattle.parts.specs.declared.words.Env.{Env}
-use Rattle.evaluator.specs.Binding.{Counted}
+use Rattle.evaluator.specs.Binding.{Counted, Binder, patternFor, Standing, Stands, Marked, Surveys, Fetches}
 use Rattle.parts.specs.Word.{unpacked}
 use Rattle.bindings.specs.Window.{WordFor, Reached, UnderBinding}
 use Rattle.evaluator.specs.Contract.{Ask, ended, Comes, Evaluates, operandAt, valueAs}
 use Rattle.evaluator.specs.Word.{ending, wordOf}
 use Rattle.evaluator.proofs.Wording.{refused-at}
-use Rattle.evaluator.specs.Binding.{Binder, patternFor, Standing, Stands, Marked, Surveys, Fetches}
 use Rattle.evaluator.proofs.Coming.{comes-on, comes-stop, comes-as, comes-sound, comes-held, comes-value, comes-refused}
 use Rattle.evaluator.proofs.Tables.{fine-of, room-here}
 use Rattle.evaluator.proofs.Standing.{binder-has, binder-readable}

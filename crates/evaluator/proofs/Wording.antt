@@ -1,12 +1,10 @@
 -- What a word says: whether a value was given, and the refusals that are read back from it.
 use mathlib.Core.Path.{_≡_, refl, sym, ap, subst, _∙_}
 use mathlib.Core.List.{List}
-use Prim.Native.Nat.{ℕ, _+_, _*_, _/_, _%_, _≤_, _<_}
+use Prim.Native.Nat.{ℕ, _+_, _*_, _/_, _%_, _<_}
 use native.Mathlib.Omega.{arith}
-use lib.Dec.{eqb}
 use borrow.Author.Tests.{eq-eqb, ne-eqb}
 use Rattle.prelude.proofs.Absurd.{impossible}
-use Rattle.values.specs.Value.{Value}
 use Rattle.choices.specs.State.{Choices}
 use Rattle.choices.specs.declared.Answer.{Answer}
 use Rattle.choices.specs.declared.Answer.the-variants.{Taken, Many, Short, Beyond}
@@ -20,7 +18,7 @@ use Rattle.evaluator.specs.declared.Outcome.{Outcome}
 use Rattle.evaluator.specs.declared.Outcome.the-variants.{Value as HasValue, Refused}
 use Rattle.evaluator.specs.Contract.{Ask, ended, refusedAs, Gives}
 use Rattle.evaluator.specs.Leaves.{applied}
-use Rattle.evaluator.specs.Word.{outcomeOf, ending, wordOf, appliedWord, unchosenWord, builtWord}
+use Rattle.evaluator.specs.Word.{outcomeOf, ending, wordOf, appliedWord, unchosenWord}
 use Rattle.evaluator.specs.Binding.{answerNumber, answerCount, IsTaken}
 use Rattle.evaluator.proofs.Tables.{small-place}
 

@@ -30,9 +30,6 @@ use Rattle.bindings.specs.declared.Opened.{Opened}
 use Rattle.bindings.specs.declared.Opened.the-variants.{Bound, Refused as Unbound}
 use Rattle.parts.specs.declared.words.Env.{Env}
 use Rattle.evaluator.specs.declared.Outcome.{Outcome}
-use Rattle.evaluator.specs.declared.Outcome.the-variants.{Value as HasValue, Refused}
-use Rattle.evaluator.specs.declared.Truth.{Truth}
-use Rattle.evaluator.specs.declared.Truth.the-variants.{True, False, Other}
 use Rattle.evaluator.specs.declared.Tally.{Tally}
 use Rattle.bindings.specs.Window.{Values, Windowed, Reached, UnderBinding}
 use Rattle.evaluator.specs.Building.{builtKind}

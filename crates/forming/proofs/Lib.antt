@@ -6,3 +6,4 @@ mod Settling
 mod Reducing
 mod Sizing
 mod Skipping
+mod Leaving

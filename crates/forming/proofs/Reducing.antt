@@ -370,7 +370,7 @@ module _ (table index : List ℕ) (p : ℕ) where
 
 -- ---- before the rest of an agenda
 
-with-alike : (b : Binding) (xs ys : List Binding) → Alike xs ys → Alike (withEach b xs) (withEach b ys)
+pub with-alike : (b : Binding) (xs ys : List Binding) → Alike xs ys → Alike (withEach b xs) (withEach b ys)
 with-alike b xs ys h c = (go xs ys (λ x i. h x .0 i), go ys xs (λ x i. h x .1 i))
   where
     go : (us ws : List Binding) → ((x : Binding) → In x us → In x ws) → In c (withEach b us) → In c (withEach b ws)

@@ -7,22 +7,19 @@ use Prim.Native.Nat.{ℕ, zero, suc, _+_, _-_, _≤_, _<_}
 use native.Mathlib.Decide.{ℕ-discrete}
 use native.Mathlib.Omega.{arith}
 use lib.Dec.{eqb}
-use lib.ListN.{length, getD, drop}
+use lib.ListN.{length, getD}
 use lib.Seq.{ext-getD}
 use borrow.Author.Tests.{eqb-true}
 use Rattle.prelude.proofs.Truth.{or-cases}
 use Rattle.prelude.specs.Membership.{In}
 use Rattle.prelude.proofs.Membership.{in-one}
-use Rattle.values.specs.Value.{Value, set, sequence, tuple}
+use Rattle.values.specs.Value.{Value}
 use Rattle.values.specs.Items.{same}
 use Rattle.tables.specs.Record.{Record, named as operandsOf, operand, nameOf}
 use Rattle.tables.specs.Table.{recordAt, kindAt}
 use Rattle.tables.specs.Accepted.{records}
-use Rattle.parts.specs.Part.{CellIs}
-use Rattle.parts.specs.Word.{unpacked}
-use Rattle.patterns.specs.Ways.{gather}
-use Rattle.patterns.specs.Binding.{Cell, free, is, clash, Binding, names, cellOf, agree, merge, consistent, withEach, together, place, sorted}
-use Rattle.patterns.specs.Pattern.{Pattern, any, Patterns, matches}
+use Rattle.patterns.specs.Binding.{Cell, free, is, clash, Binding, names, cellOf, agree, merge, consistent, withEach, together}
+use Rattle.patterns.specs.Pattern.{Pattern, any, matches}
 use Rattle.patterns.specs.Laws.Named.{named, namedEach, Told, told}
 use Rattle.patterns.specs.Laws.Matched.{in-together, together-in, matched, match-sized, merge-sized}
 use Rattle.prelude.proofs.Absurd.{true-false}
@@ -33,12 +30,11 @@ use Rattle.patterns.specs.Read.{Readable, patternsOf, patternOf, patternAt}
 use Rattle.matching.specs.Leaf.{Stands}
 use Rattle.matching.specs.Node.{innerOf}
 use Rattle.matching.proofs.Records.{by-record, inner-length, kind-low, kind-high, count-two}
-use Rattle.matching.proofs.Naming.{merge-cell, consistent-at, stands-fine}
+use Rattle.matching.proofs.Naming.{merge-cell, consistent-at}
 use Rattle.patterns.specs.Laws.Merging.{agree-free}
 use Rattle.forming.specs.Settled.{Settled, TellsSettled, HasWord}
 use Rattle.forming.specs.Onward.{Task, task, matchesAll, onward, zipped}
 use Rattle.forming.specs.Laws.Onward.{onward-first}
-use Rattle.forming.specs.Adding.{adding}
 
 -- ---- the names of a pattern by its record
 

@@ -1,8 +1,8 @@
 -- All matches of an agenda: what a leaf does, and what the ways of a pattern with parts do.
-use mathlib.Core.Path.{_≡_, refl, sym, ap, ap₂, subst, _∙_}
-use mathlib.Core.Bool.{Bool, true, false, _||_, cond}
-use mathlib.Core.Logic.{inl, inr, ⊎-elim}
-use mathlib.Core.List.{List, [], _∷_, _++_, map}
+use mathlib.Core.Path.{_≡_, refl, sym, ap, subst, _∙_}
+use mathlib.Core.Bool.{Bool, true, false, _||_}
+use mathlib.Core.Logic.{inr, ⊎-elim}
+use mathlib.Core.List.{List, [], _∷_, _++_}
 use Prim.Native.Nat.{ℕ, zero, suc, _+_, _-_, _*_, _≤_, _<_}
 use native.Mathlib.Numerals.{add-one}
 use native.Mathlib.Omega.{arith}
@@ -17,221 +17,48 @@ use Rattle.tables.specs.Table.{recordAt, kindAt}
 use Rattle.tables.specs.Accepted.{records}
 use Rattle.parts.specs.declared.Part.{Part}
 use Rattle.parts.specs.Part.{PartIs, PartHeld}
-use Rattle.parts.proofs.Laws.{part-one}
 use Rattle.patterns.specs.Ways.{gather}
 use Rattle.parts.specs.Word.{unpacked}
-use Rattle.patterns.specs.Members.{Alike}
 use Rattle.prelude.proofs.Membership.{at-in}
 use Rattle.patterns.specs.Laws.Members.{in-gather, gather-in}
 use Rattle.patterns.specs.Laws.Ordered.{Rising, sorted-rising}
 use Rattle.forming.specs.Settled.{Settled, TellsSettled, NextWay}
 use Rattle.forming.proofs.Settling.{settled-less, several-more}
-use Rattle.patterns.specs.Binding.{Binding, place}
-use Rattle.patterns.specs.Pattern.{Pattern, name, any, literal, each, halved, Patterns, nil, cons, wide}
+use Rattle.patterns.specs.Binding.{Binding}
+use Rattle.patterns.specs.Pattern.{Pattern, any, each, wide}
 use Rattle.prelude.proofs.Absurd.{true-false}
-use Rattle.patterns.specs.Read.{patternsOf, patternOf, patternAt, Readable}
+use Rattle.patterns.specs.Read.{patternsOf, patternOf, patternAt}
 use Rattle.patterns.specs.Nodes.{isHalved, meetings, isLarge}
 use Rattle.matching.specs.declared.nodes.Meeting.{Meeting}
 use Rattle.matching.specs.declared.nodes.Meeting.the-variants.{Unfit, Large, Ways}
-use Rattle.matching.specs.Leaf.{Stands, Standing, Went, LeafTold}
-use Rattle.matching.specs.Node.{LeafHeld, MeetsAs, Meets, innerOf, waysOf, metBy}
+use Rattle.matching.specs.Leaf.{Stands}
+use Rattle.matching.specs.Node.{MeetsAs, Meets, innerOf, waysOf, metBy}
 use Rattle.matching.proofs.Records.{by-record, inner-length, kind-high, count-two, recast-meets}
-use Rattle.matching.proofs.Naming.{stands-fine}
-use Rattle.forming.specs.declared.Formed.{Formed}
 use Rattle.forming.specs.declared.Step.{Step}
 use Rattle.forming.specs.declared.Formed.the-variants.{Number, Refused}
-use Rattle.forming.specs.Onward.{Task, task, matchesAll, onward, zipped, oneWay}
-use Rattle.forming.specs.Laws.Onward.{onward-end, onward-went, onward-none, onward-ways, one-way}
+use Rattle.forming.specs.Onward.{Task, task, onward, zipped, oneWay}
+use Rattle.forming.specs.Laws.Onward.{onward-ways, one-way}
 use Rattle.forming.specs.Adding.{adding}
-use Rattle.forming.specs.Laws.Adding.{adding-one, adding-none, adding-more, adding-longer, adding-alike, adding-in, adding-there}
-use Rattle.forming.specs.Rows.{RowsAre, EntryHeld, Entered, Entry}
+use Rattle.forming.specs.Laws.Adding.{adding-none, adding-more, adding-longer, adding-in, adding-there}
+use Rattle.forming.specs.Rows.{RowsAre, Entered}
 use Rattle.forming.specs.Pending.{inner, innerEach, entries, Pending, AgendaIs, spaces, Kept, Pushable, Pushed, Solvable, Solved, Dividable, Divided}
 use Rattle.forming.proofs.Pushing.{agenda-kept, kept-then, countOf, wide-by, met-long}
 use Rattle.prelude.proofs.Lists.{map-at}
 
 -- ---- the agenda
 
-some-task : (table index s a : List ℕ) (top head : ℕ) (ts : List Task) → AgendaIs table index s a top head ts → 0 < head
+pub some-task : (table index s a : List ℕ) (top head : ℕ) (ts : List Task) → AgendaIs table index s a top head ts → 0 < head
     → (t : Task) × (us : List Task) × (ts ≡ t ∷ us) × Pending table index s a top head t × AgendaIs table index s a top (getD a (3 * head + 2) 0) us
 some-task table index s a top head [] h l = absurd (omega (arith, h))
 some-task table index s a top head (t ∷ ts) h l = (t, ts, refl, h .0, h .1)
 
-no-task : (table index s a : List ℕ) (top head : ℕ) (ts : List Task) → AgendaIs table index s a top head ts → head ≤ 0 → ts ≡ []
+pub no-task : (table index s a : List ℕ) (top head : ℕ) (ts : List Task) → AgendaIs table index s a top head ts → head ≤ 0 → ts ≡ []
 no-task table index s a top head [] h l = refl
 no-task table index s a top head (t ∷ ts) h l = absurd (omega (arith, h .0 .some))
 
-agenda-low : (table index s a : List ℕ) (top head : ℕ) (ts : List Task) → 0 < top → AgendaIs table index s a top head ts → head < top
+pub agenda-low : (table index s a : List ℕ) (top head : ℕ) (ts : List Task) → 0 < top → AgendaIs table index s a top head ts → head < top
 agenda-low table index s a top head [] l h = omega (arith, h)
 agenda-low table index s a top head (t ∷ ts) l h = h .0 .below
-
--- ---- solve
-
-pub record SolveSoFar (table index s a : List ℕ) (head top : ℕ) (f : List ℕ) (rows order : List ℕ) (n : ℕ) (b rows′ order′ : List ℕ) (head′ : ℕ) (g : List ℕ) : Type 0 where
-  pub kept : Kept a b (3 * top)
-  pub long : length b ≡ length a
-  pub rows-are : (bs : List Binding) → RowsAre s rows order n bs → RowsAre s rows′ order′ n bs
-  pub falls : head′ ≤ head
-  pub tasks : List Task
-  pub are : AgendaIs table index s b top head′ tasks
-  pub room : top + spaces tasks ≤ entries
-  pub binding : Binding
-  pub stands : Stands s g binding
-  pub right : (ts : List Task) (st : Binding) → AgendaIs table index s a top head ts → Stands s f st
-      → (us : List Task) × (q : Binding) × AgendaIs table index s b top head′ us × Stands s g q × Alike (onward ts st) (onward us q)
-
-module _ (table index s a : List ℕ) (head top : ℕ) (f : List ℕ) (rows order : List ℕ) (n : ℕ) (h : Solvable table index s a head top f rows order n) where
-  pub solve-start : SolveSoFar table index s a head top f rows order n a rows order head f
-  solve-start = record {
-    kept = λ j k. refl;
-    long = refl;
-    rows-are = λ bs k. k;
-    falls = omega arith;
-    tasks = h .tasks;
-    are = h .are;
-    room = h .room;
-    binding = h .binding;
-    stands = h .stands;
-    right = λ ts st k l. (ts, st, k, l, λ c. (λ i. i, λ i. i));
-  }
-
-  module _ (b rows′ order′ : List ℕ) (head′ : ℕ) (g : List ℕ) (w : SolveSoFar table index s a head top f rows order n b rows′ order′ head′ g) where
-    pub head-low : head′ < entries
-    head-low = omega (arith, agenda-low table index s b top head′ (w .tasks) (h .low) (w .are), w .room)
-
-    module _ (l : 0 < head′) where
-      pub entry-readable : Readable table index (getD b (3 * head′) 0)
-      entry-readable = let (t, us, e, p, k) = some-task table index s b top head′ (w .tasks) (w .are) l in p .readable
-
-      pub entry-low : getD b (3 * head′) 0 < 200
-      entry-low = omega (arith, entry-readable .here .within, entry-readable .fine .few)
-
-      pub next-lower : getD b (3 * head′ + 2) 0 < head′
-      next-lower = let (t, us, e, p, k) = some-task table index s b top head′ (w .tasks) (w .are) l in p .falls
-
-      abbrev W : ℕ
-      W = getD b (3 * head′ + 1) 0
-
-      abbrev Q : ℕ
-      Q = getD b (3 * head′) 0
-
-      pub part-held : PartHeld s (unpacked W)
-      part-held = let (t, us, e, p, k) = some-task table index s b top head′ (w .tasks) (w .are) l in record { value = t .value; here = p .here }
-
-      room-first : (t : Task) (us : List Task) → w .tasks ≡ t ∷ us → top + (inner (t .what) + spaces us) ≤ entries
-      room-first t us e = subst (λ (x : List Task). top + spaces x ≤ entries) e (w .room)
-
-      -- a pattern with parts
-      pub divide-asked : 36 ≤ kindAt (records table) Q → Dividable table index Q s W b (getD b (3 * head′ + 2) 0) top g rows′ order′ n
-      divide-asked c =
-          let (t, us, e, p, k) = some-task table index s b top head′ (w .tasks) (w .are) l in
-          record {
-            readable = p .readable;
-            composed = c;
-            short = h .short;
-            value = t .value;
-            here = p .here;
-            narrow = subst (λ (q : Pattern). wide q (t .value) ≡ false) (p .pattern) (p .narrow);
-            tasks = us;
-            are = k;
-            long = w .long ∙ h .long;
-            low = h .low;
-            room = subst (λ (x : Pattern). top + (inner x + spaces us) ≤ entries) (p .pattern) (room-first t us e);
-            binding = w .binding;
-            stands = w .stands;
-            bindings = h .bindings;
-            rows-are = w .rows-are (h .bindings) (h .rows-are);
-          }
-
-      first-task : (us : List Task) → AgendaIs table index s b top head′ us → (v : Value) × (vs : List Task) × (us ≡ task (patternAt (records table) Q) v ∷ vs) × PartIs s (unpacked W) v
-          × (wide (patternAt (records table) Q) v ≡ false) × AgendaIs table index s b top (getD b (3 * head′ + 2) 0) vs
-      first-task us i =
-          let (t, vs, m, p, k) = some-task table index s b top head′ us i l in
-          (t .value, vs, m ∙ ap (λ (x : Pattern). task x (t .value) ∷ vs) (p .pattern), p .here, subst (λ (x : Pattern). wide x (t .value) ≡ false) (p .pattern) (p .narrow), k)
-
-      -- what is entered of an agenda that is alike
-      alike-entered : (ts us : List Task) (st q : Binding) (bs : List Binding) (rows″ order″ : List ℕ) (r : Formed) → Alike (onward ts st) (onward us q) → RowsAre s rows order n bs
-          → Entered s rows″ order″ (adding (onward us q) bs) r → Entered s rows″ order″ (adding (onward ts st) bs) r
-      alike-entered ts us st q bs rows″ order″ r e v z =
-          subst (λ (x : List Binding). Entered s rows″ order″ x r) (sym (adding-alike (onward ts st) (onward us q) bs (v .given) (v .ordered) e)) z
-
-      pub divide-told : (c rows″ order″ : List ℕ) (r : Step) → Divided table index Q s W b c (getD b (3 * head′ + 2) 0) top g rows′ order′ n rows″ order″ r
-          → Solved table index s a c head top f rows order n rows″ order″ r
-      divide-told c rows″ order″ r d = record {
-        kept = kept-then a b c (3 * top) (3 * top) (omega arith) (w .kept) (d .kept);
-        long = d .long ∙ w .long;
-        right = λ ts st bs x y z.
-            let (us, q, i, j, e) = w .right ts st x y in
-            let (v, vs, same, here, narrow, k) = first-task us i in
-            alike-entered ts (task (patternAt (records table) Q) v ∷ vs) st q bs rows″ order″ (r .formed) (subst (λ (o : List Task). Alike (onward ts st) (onward o q)) same e) z (d .right v vs q bs here narrow k j (w .rows-are bs z));
-        some = λ a ts st x y.
-            let (us, q, i, j, e) = w .right ts st x y in
-            let (v, vs, same, here, narrow, k) = first-task us i in
-            let (c′, there) = d .some a v vs q here narrow k j in
-            (c′, e c′ .1 (subst (λ (o : List Task). In c′ (onward o q)) (sym same) there));
-      }
-
-      -- one that gives at most one binding
-      module _ (g′ : List ℕ) (fits : Bool) (o : (v : Value) (b′ : Binding) → PartIs s (unpacked W) v → wide (patternAt (records table) Q) v ≡ false → Stands s g b′ → Went s b′ (patternAt (records table) Q) v g′ fits) where
-        pub solve-more : fits ≡ true → SolveSoFar table index s a head top f rows order n b rows′ order′ (getD b (3 * head′ + 2) 0) g′
-        solve-more fit =
-            let (t, us, e, p, k) = some-task table index s b top head′ (w .tasks) (w .are) l in
-            let (q, al, z) = o (t .value) (w .binding) (p .here) (subst (λ (x : Pattern). wide x (t .value) ≡ false) (p .pattern) (p .narrow)) (w .stands) .good fit in
-            record {
-              kept = w .kept;
-              long = w .long;
-              rows-are = w .rows-are;
-              falls = omega (arith, w .falls, next-lower);
-              tasks = us;
-              are = k;
-              room = omega (arith, room-first t us e);
-              binding = q;
-              stands = z;
-              right = λ ts st x y.
-                  let (us′, q′, i, j, al′) = w .right ts st x y in
-                  let (v, vs, same, here, narrow, k′) = first-task us′ i in
-                  let (q″, al″, z″) = o v q′ here narrow j .good fit in
-                  let on = onward-went (patternAt (records table) Q) v vs q′ q″ al″ in
-                  let al‴ = subst (λ (y : List Task). Alike (onward ts st) (onward y q′)) same al′ in
-                  (vs, q″, k′, z″, λ c. (λ m. on c .0 (al‴ c .0 m), λ m. al‴ c .1 (on c .1 m)));
-            }
-
-        pub solve-failed : fits ≡ false → Solved table index s a b head top f rows order n rows′ order′ (record { formed = Number n; any = false })
-        solve-failed fit = record {
-          kept = w .kept;
-          long = w .long;
-          right = λ ts st bs x y z.
-              let (us, q, i, j, e) = w .right ts st x y in
-              let (v, vs, same, here, narrow, k) = first-task us i in
-              let none : onward (task (patternAt (records table) Q) v ∷ vs) q ≡ [] = onward-none (patternAt (records table) Q) v vs q (o v q here narrow j .bad fit) in
-              alike-entered ts (task (patternAt (records table) Q) v ∷ vs) st q bs rows′ order′ (Number n) (subst (λ (y : List Task). Alike (onward ts st) (onward y q)) same e) z
-              (subst (RowsAre s rows′ order′ n) (sym (ap (λ (l : List Binding). adding l bs) none ∙ adding-none bs)) (w .rows-are bs z));
-          some = λ a. true-false (sym a);
-        }
-
-      pub leaf-asked : kindAt (records table) Q < 36 → LeafHeld table index Q × (PartHeld s (unpacked W) × Standing s g)
-      leaf-asked c = (record { readable = entry-readable; leaf = c }, (part-held, (w .binding, w .stands)))
-
-    -- the end
-    pub enter-asked : EntryHeld s g rows′ order′ n
-    enter-asked = record { binding = w .binding; stands = w .stands; bindings = h .bindings; are = w .rows-are (h .bindings) (h .rows-are) }
-
-    pub solve-end : head′ ≤ 0 → (rows″ order″ : List ℕ) (r : Formed) → Entry s g rows′ order′ n rows″ order″ r → Solved table index s a b head top f rows order n rows″ order″ (record { formed = r; any = true })
-    solve-end l rows″ order″ r d = record {
-      kept = w .kept;
-      long = w .long;
-      right = λ ts st bs x y v.
-          let (us, q, i, j, e) = w .right ts st x y in
-          let none = no-task table index s b top head′ us i l in
-          let one : onward us q ≡ q ∷ [] = ap (λ (x : List Task). onward x q) none ∙ onward-end q (stands-fine s g q j) in
-          subst (λ (l : List Binding). Entered s rows″ order″ l r)
-          (sym (adding-alike (onward ts st) (onward us q) bs (v .given) (v .ordered) e ∙ ap (λ (l : List Binding). adding l bs) one ∙ adding-one q bs))
-          (d q bs j (w .rows-are bs v));
-      some = λ a ts st x y.
-          let (us, q, i, j, e) = w .right ts st x y in
-          let none = no-task table index s b top head′ us i l in
-          let one : onward us q ≡ q ∷ [] = ap (λ (x : List Task). onward x q) none ∙ onward-end q (stands-fine s g q j) in
-          (q, e q .1 (subst (In q) (sym one) (inl refl)));
-    }
 
 -- ---- divide
 

@@ -11,12 +11,14 @@ use Rattle.tables.specs.Table.{recordAt, kindAt}
 use Rattle.tables.specs.Accepted.{records}
 use Rattle.parts.specs.Part.{PartIs}
 use Rattle.patterns.specs.Binding.{Binding}
+use Rattle.patterns.specs.Members.{Alike}
 use Rattle.patterns.specs.Pattern.{Pattern, name, any, literal, each, halved, Patterns, nil, cons, wide}
 use Rattle.patterns.specs.Read.{patternAt, Readable}
 use Rattle.patterns.specs.Nodes.{meetings, isLarge}
 use Rattle.matching.specs.Leaf.{Stands}
 use Rattle.matching.specs.Node.{innerOf, metBy}
 use Rattle.forming.specs.declared.Step.{Step}
+use Rattle.forming.specs.declared.taking.Left.{Left}
 use Rattle.forming.specs.Onward.{Task, task, onward, zipped}
 use Rattle.forming.specs.Adding.{adding}
 use Rattle.parts.specs.Word.{unpacked}
@@ -86,6 +88,40 @@ pub record Pushed (table index : List ℕ) (p : ℕ) (s : List ℕ) (word : ℕ)
   pub long : length b ≡ length a
   pub right : (v : Value) (ts : List Task) → PartIs s (unpacked word) v → wide (patternAt (records table) p) v ≡ false → AgendaIs table index s a top next ts
       → AgendaIs table index s b (top + length (named (recordAt (records table) p))) r (zipped (innerOf table p) (metBy table p v d) ++ ts)
+
+-- ---- leaves taken off an agenda
+
+-- An entry with parts that waits, or none.
+abbrev pub WaitsAre : List ℕ → List ℕ → List ℕ → List ℕ → ℕ → ℕ → List Task → Type 0
+WaitsAre table index s a top wait [] = wait ≡ 0
+WaitsAre table index s a top wait (t ∷ []) = Pending table index s a top wait t × (36 ≤ kindAt (records table) (getD a (3 * wait) 0))
+WaitsAre table index s a top wait (t ∷ u ∷ ts) = ⊥
+
+-- What is left of the tasks ts, going on from b: the one that waits, and those from head on, with what is found now.
+pub record LeftOf (table index s a : List ℕ) (top wait head : ℕ) (found : List ℕ) (ts : List Task) (b : Binding) : Type 0 where
+  pub waits : List Task
+  pub tasks : List Task
+  pub binding : Binding
+  pub waits-are : WaitsAre table index s a top wait waits
+  pub are : AgendaIs table index s a top head tasks
+  pub stands : Stands s found binding
+  pub alike : Alike (onward ts b) (onward (waits ++ tasks) binding)
+  pub room : spaces (waits ++ tasks) ≤ spaces ts
+
+pub record TakeHeld (table index s a : List ℕ) (head : ℕ) (found : List ℕ) : Type 0 where
+  pub top : ℕ
+  pub tasks : List Task
+  pub are : AgendaIs table index s a top head tasks
+  pub low : 0 < top
+  pub room : top ≤ entries
+  pub binding : Binding
+  pub stands : Stands s found binding
+
+pub record Taken (table index s a : List ℕ) (head : ℕ) (found after : List ℕ) (r : Left) : Type 0 where
+  pub falls : 0 < r .wait → r .head < head
+  pub ends : r .fits ≡ true → r .wait ≡ 0 → r .head ≡ 0
+  pub none : r .fits ≡ false → (top : ℕ) (ts : List Task) (b : Binding) → AgendaIs table index s a top head ts → Stands s found b → Alike (onward ts b) []
+  pub some : r .fits ≡ true → (top : ℕ) (ts : List Task) (b : Binding) → AgendaIs table index s a top head ts → Stands s found b → LeftOf table index s a top (r .wait) (r .head) after ts b
 
 -- ---- all matches of an agenda
 

@@ -4,8 +4,8 @@ mod reduced;
 mod rows;
 mod settled;
 mod sizes;
+mod taking;
 
-use matching::leaves;
 use matching::nodes;
 use matching::nodes::Meeting;
 use parts::words;
@@ -81,41 +81,36 @@ pub fn solve(
     requires { ⌜ Solvable (now table) (now index) (now s) (now agenda) head top (now found) (now rows) (now order) n ⌝ }
     ensures { λ r. ⌜ Solved (now (table .entry)) (now (index .entry)) (now (s .entry)) (now (agenda .entry)) (now (agenda .exit)) head top (now (found .entry)) (now (rows .entry)) (now (order .entry)) n (now (rows .exit)) (now (order .exit)) r ⌝ }
 {
-    let mut head = head;
     let mut words = *found;
-    while 0 < head {
-        let p = agenda[3 * head] as usize;
-        let word = agenda[3 * head + 1];
-        let next = agenda[3 * head + 2] as usize;
-        let k = kind(table, index, p);
-        if kinds::TUPLE_PATTERN <= k {
-            let q = reduced::reduced(table, index, p);
-            return divide(
-                table,
-                index,
-                q,
-                s,
-                word,
-                agenda,
-                next,
-                top,
-                &words,
-                rows,
-                order,
-                n,
-            );
-        }
-        let fits = leaves::match_leaf(table, index, p, s, word, &mut words);
-        if !fits {
-            return Step {
-                formed: Formed::Number(n),
-                any: false,
-            };
-        }
-        head = next;
+    let left = taking::take_leaves(table, index, s, agenda, head, &mut words);
+    if !left.fits {
+        return Step {
+            formed: Formed::Number(n),
+            any: false,
+        };
     }
-    let formed = rows::enter(s, &words, rows, order, n);
-    Step { formed, any: true }
+    let at = left.wait;
+    if at == 0 {
+        let formed = rows::enter(s, &words, rows, order, n);
+        return Step { formed, any: true };
+    }
+    let p = agenda[3 * at] as usize;
+    let word = agenda[3 * at + 1];
+    let q = reduced::reduced(table, index, p);
+    divide(
+        table,
+        index,
+        q,
+        s,
+        word,
+        agenda,
+        left.head,
+        top,
+        &words,
+        rows,
+        order,
+        n,
+    )
 }
 
 // A pattern with parts, before the rest of an agenda: all its ways; of a pattern that is only a test, up to the first with a match.

@@ -42,9 +42,9 @@ pub fn measure(lengths: &Lengths, part: &[u8]) -> usize
     if part.len() < HEADING {
         return 0;
     }
-    // An integer literal goes on by a constant, so that the next record does not wait for this one's length.
     let len = read16(part, 0);
     let kind = read16(part, 2);
+    // The length of an integer literal is a constant here, so that cutting goes on without waiting for the one that was read.
     if len + 65536 * kind == INTEGER_HEADING {
         if part.len() < INTEGER_LENGTH {
             return 0;

@@ -1,1 +1,2 @@
+-- What the proofs of the program need; nobody else cites it.
 mod Handing

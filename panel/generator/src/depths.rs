@@ -75,6 +75,15 @@ const FORMS: &[(&str, Start, Wrap)] = &[
         let (pattern, set, condition) = over_truths(b);
         b.node(kind::SET_COMPREHENSION, &[pattern, set, condition, inner])
     }),
+    ("set comprehensions in set operands", truths, |b, inner| {
+        let (pattern, condition, element) = (b.p_any(), b.boolean(true), b.boolean(true));
+        let operands = [pattern, inner, condition, element];
+        b.node(kind::SET_COMPREHENSION, &operands)
+    }),
+    ("let-bes in set operands", truths, |b, inner| {
+        let (pattern, condition, body) = (b.p_any(), b.boolean(true), truths(b));
+        b.node(kind::LET_BE, &[pattern, inner, condition, body])
+    }),
     ("map comprehensions in keys", five, |b, inner| {
         let (pattern, set, condition) = over_truths(b);
         let value = b.integer(0);

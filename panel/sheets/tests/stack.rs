@@ -1,11 +1,11 @@
-//! How much stack the services need: the deepest sheets run in a thread that has 640 KB of it (docs/evaluator.md says which take how much).
+//! How much stack the services need: the deepest sheets run in a thread that has 64 KB of it (docs/evaluator.md says which take how much).
 
 use generator::{accepted, at_limits, deepest};
 use sheets::lent::{self, SCRATCH_SIZE};
 use sheets::{Answer, List, Value};
 use std::thread;
 
-const STACK: usize = 10 * 65_536;
+const STACK: usize = 65_536;
 /// The most lists of a sheet that are walked.
 const MOST_LISTS: usize = 40;
 
@@ -26,7 +26,7 @@ fn walk(table: &[u8], scratch: &mut [u8], result: &mut [u8]) -> Answer {
 }
 
 #[test]
-fn deep_sheets_run_in_640_kilobytes_of_stack() {
+fn deep_sheets_run_in_64_kilobytes_of_stack() {
     let mut tables = deepest();
     for (label, table) in &tables {
         let answer = lent::check(table, &mut vec![0; SCRATCH_SIZE]);

@@ -4,9 +4,6 @@ use Rattle.evaluator.specs.Word.{appliedWord}
 use borrow.Author.Needs.{needs}
 use Rattle.evaluator.proofs.answer.Statement.{statement}
 use Rattle.evaluator.proofs.answer.Tie as tie
-use Rattle.evaluator.proofs.answer.Reads as reads
-use Rattle.evaluator.proofs.answer.Lts as lts
-use Rattle.evaluator.proofs.words.refusal.Reads as refusal-reads
 
 -- src/lib.rt:116:26
 enum-told : tie.Need-enum-told

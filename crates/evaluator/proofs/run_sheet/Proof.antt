@@ -4,10 +4,6 @@ use borrow.Author.Needs.{needs}
 use Rattle.evaluator.proofs.Running.{run-some, run-asks, run-done, run-told}
 use Rattle.evaluator.proofs.run_sheet.Statement.{statement}
 use Rattle.evaluator.proofs.run_sheet.Tie as tie
-use Rattle.evaluator.proofs.run_sheet.Reads as reads
-use Rattle.evaluator.proofs.run_sheet.Lts as lts
-use Rattle.evaluator.proofs.eval.Reads as eval-reads
-use Rattle.evaluator.proofs.words.outcome.Reads as outcome-reads
 
 sub-eval : tie.Need-sub-eval
 sub-eval c = omega (arith, run-some (c .before .before .pre))

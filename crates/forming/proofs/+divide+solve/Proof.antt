@@ -7,7 +7,8 @@ use borrow.Author.Tests.{not-true, not-false}
 use Rattle.parts.specs.declared.Part.{Part}
 use Rattle.parts.specs.Part.{PartIs}
 use Rattle.matching.proofs.Records.{count-few}
-use Rattle.forming.proofs.Solving.{SolveSoFar, solve-start, head-low, entry-low, entry-readable, next-lower, divide-asked, divide-told, leaf-asked, solve-failed, solve-more, enter-asked, solve-end, DivideSoFar, divide-start, push-asked, top-room, falls-on, falls-way, recast-word, part-of, solve-asked, divide-full, divide-more, divide-end, divide-none, ways-few}
+use Rattle.forming.proofs.Solving.{DivideSoFar, divide-start, push-asked, top-room, falls-on, falls-way, recast-word, part-of, solve-asked, divide-full, divide-more, divide-end, divide-none}
+use Rattle.forming.proofs.Leaving.{take-asked, solve-none, enter-asked, solve-end, wait-low, wait-small, wait-readable, wait-composed, divide-asked, divide-told}
 use Rattle.forming.proofs.Reducing.{reduced-asked, reduced-told}
 use borrow.Fn.Kinds.{In}
 use borrow.Fn.PlainCycle.{Measures, is, falls, and}
@@ -26,7 +27,7 @@ use Rattle.forming.proofs.settled.next_way.Reads as next-way-reads
 use Rattle.forming.proofs.sizes.sizes_of.Reads as sizes-of-reads
 use Rattle.forming.proofs.sizes.way_from.Reads as way-from-reads
 use Rattle.forming.proofs.Skipping.{from-asked, divide-skip}
-use Rattle.matching.proofs.leaves.match_leaf.Reads as match-leaf-reads
+use Rattle.forming.proofs.taking.take_leaves.Reads as take-leaves-reads
 use Rattle.matching.proofs.nodes.meet.Reads as meet-reads
 use Rattle.parts.proofs.words.unpack.Reads as unpack-reads
 use Rattle.tables.proofs.reading.kind.Reads as kind-reads
@@ -56,7 +57,7 @@ abbrev divide-calls : ℕ → divide-lts.Claims
 divide-calls t = (kind-reads.Asked, kind-reads.Learnt, operand-count-reads.Asked, operand-count-reads.Learnt, unpack-reads.Asked, unpack-reads.Learnt, meet-reads.Asked, meet-reads.Learnt, is-settled-reads.Asked, is-settled-reads.Learnt, sizes-of-reads.Asked, sizes-of-reads.Learnt, way-from-reads.Asked, way-from-reads.Learnt, push-reads.Asked, push-reads.Learnt, solve-below t, solve.Post, either-reads.Asked, either-reads.Learnt, next-way-reads.Asked, next-way-reads.Learnt)
 
 abbrev solve-calls : ℕ → solve-lts.Claims
-solve-calls t = (kind-reads.Asked, kind-reads.Learnt, reduced-reads.Asked, reduced-reads.Learnt, divide-below t, divide.Post, match-leaf-reads.Asked, match-leaf-reads.Learnt, enter-reads.Asked, enter-reads.Learnt)
+solve-calls t = (take-leaves-reads.Asked, take-leaves-reads.Learnt, enter-reads.Asked, enter-reads.Learnt, reduced-reads.Asked, reduced-reads.Learnt, divide-below t, divide.Post)
 
 abbrev divide-Inv-loop : divide-lts.InvT-loop
 divide-Inv-loop table index p s word agenda₀ next top found rows₀ order₀ n k c once sizes n₀ any₀ w d₀ agenda rows order n' any d = DivideSoFar table index p s word agenda₀ next top found rows₀ order₀ n w agenda rows order n' any d
@@ -152,107 +153,65 @@ divide-returns-2 t c = divide-end _ _ _ _ _ _ _ _ _ _ _ _ (c .before .before .be
 divide-returns-3 : (t : ℕ) → divide-lts.Need-returns-3 (divide-calls t) (divide-at t) divide.Post divide-Inv-loop divide-μ-loop
 divide-returns-3 t c = divide-none _ _ _ _ _ _ _ _ _ _ _ _ (c .before .before .before .before .before .before .before .before .before .pre .1) (c .before .before .before .meet .result) (recast-word (c .before .before .before .before .before .before .before .before .before .args .word) _ _ _ _ (c .before .before .before .meet .result) (c .before .before .before .before .before .before .kind .ensures .0) (c .before .before .before .before .before .operand-count .ensures .0) (c .before .before .before .before .unpack .ensures) (c .before .before .before .meet .ensures)) (λ w d. ⊎-elim (λ k. let e = rw d at k in omega arith) (λ k. let e = rw d at k in omega arith) (c .match .keys2))
 
-abbrev solve-Inv-loop : solve-lts.InvT-loop
-solve-Inv-loop table index s agenda₀ head top found rows₀ order₀ n head₀ words₀ agenda rows order head' words = SolveSoFar table index s agenda₀ head top found rows₀ order₀ n agenda rows order head' words
+-- src/lib.rt:70:1
+solve-take-leaves-requires : (t : ℕ) → solve-lts.Need-take-leaves-requires (solve-calls t) (solve-at t) solve.Post
+solve-take-leaves-requires t c κs = take-asked _ _ _ _ _ _ _ _ _ _ (c .before .before .before .before .before .pre .1)
 
-abbrev solve-μ-loop : solve-lts.MeasureT-loop
-solve-μ-loop table index s agenda₀ head top found rows₀ order₀ n head₀ words₀ agenda rows order head' words = head'
+-- src/lib.rt:70:1
+solve-returns : (t : ℕ) → solve-lts.Need-returns (solve-calls t) (solve-at t) solve.Post
+solve-returns t c = solve-none _ _ _ _ _ _ _ _ _ _ (c .before .before .before .before .before .before .before .before .pre .1) _ _ (c .before .before .take-leaves .ensures) (not-true _ (c .if1 .taken))
 
--- src/lib.rt:82:5
-solve-loop-holds : (t : ℕ) → solve-lts.Need-loop-holds (solve-calls t) (solve-at t) solve.Post solve-Inv-loop solve-μ-loop
-solve-loop-holds t c = solve-start _ _ _ _ _ _ _ _ _ _ (c .before .before .before .pre .1)
+-- src/lib.rt:70:1
+solve-enter-requires : (t : ℕ) → solve-lts.Need-enter-requires (solve-calls t) (solve-at t) solve.Post
+solve-enter-requires t c κs = enter-asked _ _ _ _ _ _ _ _ _ _ (c .before .before .before .before .before .before .before .before .before .before .before .before .pre .1) _ _ (c .before .before .before .before .before .before .take-leaves .ensures) (not-false _ (c .before .before .before .before .if1 .left)) (c .before .before .before .if2 .taken)
 
--- src/lib.rt:83:24
-solve-mul-p : (t : ℕ) → solve-lts.Need-mul-p (solve-calls t) (solve-at t) solve.Post solve-Inv-loop solve-μ-loop
-solve-mul-p t c = omega (arith, head-low _ _ _ _ _ _ _ _ _ _ (c .before .before .before .before .before .pre .1) _ _ _ _ _ (c .before .loop .inv))
+-- src/lib.rt:70:1
+solve-returns-2 : (t : ℕ) → solve-lts.Need-returns-2 (solve-calls t) (solve-at t) solve.Post
+solve-returns-2 t c = solve-end _ _ _ _ _ _ _ _ _ _ (c .before .before .before .before .before .before .before .before .before .before .before .before .before .pre .1) _ _ (c .before .before .before .before .before .before .before .take-leaves .ensures) (not-false _ (c .before .before .before .before .before .if1 .left)) (c .before .before .before .before .if2 .taken) _ _ _ (c .enter .ensures)
 
--- src/lib.rt:83:17
-solve-mul-p-2 : (t : ℕ) → solve-lts.Need-mul-p-2 (solve-calls t) (solve-at t) solve.Post solve-Inv-loop solve-μ-loop
-solve-mul-p-2 t c = omega (arith, head-low _ _ _ _ _ _ _ _ _ _ (c .before .before .before .before .before .pre .1) _ _ _ _ _ (c .before .loop .inv))
+-- src/lib.rt:70:1
+solve-mul-p : (t : ℕ) → solve-lts.Need-mul-p (solve-calls t) (solve-at t) solve.Post
+solve-mul-p t c = omega (arith, wait-low _ _ _ _ _ _ _ _ _ _ (c .before .before .before .before .before .before .before .before .before .pre .1) _ _ (c .before .before .before .take-leaves .ensures) (not-false _ (c .before .if1 .left)) (omega arith))
 
--- src/lib.rt:83:17
-solve-element-copy-out-p : (t : ℕ) → solve-lts.Need-element-copy-out-p (solve-calls t) (solve-at t) solve.Post solve-Inv-loop solve-μ-loop
-solve-element-copy-out-p t c = omega (arith, head-low _ _ _ _ _ _ _ _ _ _ (c .before .before .before .before .before .pre .1) _ _ _ _ _ (c .before .loop .inv))
+-- src/lib.rt:70:1
+solve-mul-p-2 : (t : ℕ) → solve-lts.Need-mul-p-2 (solve-calls t) (solve-at t) solve.Post
+solve-mul-p-2 t c = omega (arith, wait-low _ _ _ _ _ _ _ _ _ _ (c .before .before .before .before .before .before .before .before .before .pre .1) _ _ (c .before .before .before .take-leaves .ensures) (not-false _ (c .before .if1 .left)) (omega arith))
 
--- src/lib.rt:83:17
-solve-cast-p : (t : ℕ) → solve-lts.Need-cast-p (solve-calls t) (solve-at t) solve.Post solve-Inv-loop solve-μ-loop
-solve-cast-p t c = omega (arith, entry-low _ _ _ _ _ _ _ _ _ _ (c .before .before .before .before .before .before .pre .1) _ _ _ _ _ (c .before .before .loop .inv) (omega arith))
+-- src/lib.rt:70:1
+solve-element-copy-out-p : (t : ℕ) → solve-lts.Need-element-copy-out-p (solve-calls t) (solve-at t) solve.Post
+solve-element-copy-out-p t c = omega (arith, wait-low _ _ _ _ _ _ _ _ _ _ (c .before .before .before .before .before .before .before .before .before .pre .1) _ _ (c .before .before .before .take-leaves .ensures) (not-false _ (c .before .if1 .left)) (omega arith))
 
--- src/lib.rt:84:27
-solve-mul-word : (t : ℕ) → solve-lts.Need-mul-word (solve-calls t) (solve-at t) solve.Post solve-Inv-loop solve-μ-loop
-solve-mul-word t c = omega (arith, head-low _ _ _ _ _ _ _ _ _ _ (c .before .before .before .before .before .before .pre .1) _ _ _ _ _ (c .before .before .loop .inv))
+-- src/lib.rt:70:1
+solve-cast-p : (t : ℕ) → solve-lts.Need-cast-p (solve-calls t) (solve-at t) solve.Post
+solve-cast-p t c = omega (arith, wait-small _ _ _ _ _ _ _ _ _ _ (c .before .before .before .before .before .before .before .before .before .before .pre .1) _ _ (c .before .before .before .before .take-leaves .ensures) (not-false _ (c .before .before .if1 .left)) (omega arith))
 
--- src/lib.rt:84:27
-solve-add-word : (t : ℕ) → solve-lts.Need-add-word (solve-calls t) (solve-at t) solve.Post solve-Inv-loop solve-μ-loop
-solve-add-word t c = omega (arith, head-low _ _ _ _ _ _ _ _ _ _ (c .before .before .before .before .before .before .pre .1) _ _ _ _ _ (c .before .before .loop .inv))
+-- src/lib.rt:70:1
+solve-mul-word : (t : ℕ) → solve-lts.Need-mul-word (solve-calls t) (solve-at t) solve.Post
+solve-mul-word t c = omega (arith, wait-low _ _ _ _ _ _ _ _ _ _ (c .before .before .before .before .before .before .before .before .before .before .pre .1) _ _ (c .before .before .before .before .take-leaves .ensures) (not-false _ (c .before .before .if1 .left)) (omega arith))
 
--- src/lib.rt:84:20
-solve-mul-word-2 : (t : ℕ) → solve-lts.Need-mul-word-2 (solve-calls t) (solve-at t) solve.Post solve-Inv-loop solve-μ-loop
-solve-mul-word-2 t c = omega (arith, head-low _ _ _ _ _ _ _ _ _ _ (c .before .before .before .before .before .before .pre .1) _ _ _ _ _ (c .before .before .loop .inv))
+-- src/lib.rt:70:1
+solve-add-word : (t : ℕ) → solve-lts.Need-add-word (solve-calls t) (solve-at t) solve.Post
+solve-add-word t c = omega (arith, wait-low _ _ _ _ _ _ _ _ _ _ (c .before .before .before .before .before .before .before .before .before .before .pre .1) _ _ (c .before .before .before .before .take-leaves .ensures) (not-false _ (c .before .before .if1 .left)) (omega arith))
 
--- src/lib.rt:84:20
-solve-element-copy-out-word : (t : ℕ) → solve-lts.Need-element-copy-out-word (solve-calls t) (solve-at t) solve.Post solve-Inv-loop solve-μ-loop
-solve-element-copy-out-word t c = omega (arith, head-low _ _ _ _ _ _ _ _ _ _ (c .before .before .before .before .before .before .pre .1) _ _ _ _ _ (c .before .before .loop .inv))
+-- src/lib.rt:70:1
+solve-mul-word-2 : (t : ℕ) → solve-lts.Need-mul-word-2 (solve-calls t) (solve-at t) solve.Post
+solve-mul-word-2 t c = omega (arith, wait-low _ _ _ _ _ _ _ _ _ _ (c .before .before .before .before .before .before .before .before .before .before .pre .1) _ _ (c .before .before .before .before .take-leaves .ensures) (not-false _ (c .before .before .if1 .left)) (omega arith))
 
--- src/lib.rt:85:27
-solve-mul-next : (t : ℕ) → solve-lts.Need-mul-next (solve-calls t) (solve-at t) solve.Post solve-Inv-loop solve-μ-loop
-solve-mul-next t c = omega (arith, head-low _ _ _ _ _ _ _ _ _ _ (c .before .before .before .before .before .before .before .pre .1) _ _ _ _ _ (c .before .before .before .loop .inv))
+-- src/lib.rt:70:1
+solve-element-copy-out-word : (t : ℕ) → solve-lts.Need-element-copy-out-word (solve-calls t) (solve-at t) solve.Post
+solve-element-copy-out-word t c = omega (arith, wait-low _ _ _ _ _ _ _ _ _ _ (c .before .before .before .before .before .before .before .before .before .before .pre .1) _ _ (c .before .before .before .before .take-leaves .ensures) (not-false _ (c .before .before .if1 .left)) (omega arith))
 
--- src/lib.rt:85:27
-solve-add-next : (t : ℕ) → solve-lts.Need-add-next (solve-calls t) (solve-at t) solve.Post solve-Inv-loop solve-μ-loop
-solve-add-next t c = omega (arith, head-low _ _ _ _ _ _ _ _ _ _ (c .before .before .before .before .before .before .before .pre .1) _ _ _ _ _ (c .before .before .before .loop .inv))
+-- src/lib.rt:70:1
+solve-reduced-requires : (t : ℕ) → solve-lts.Need-reduced-requires (solve-calls t) (solve-at t) solve.Post
+solve-reduced-requires t c κs = (wait-readable _ _ _ _ _ _ _ _ _ _ (c .before .before .before .before .before .before .before .before .before .before .before .pre .1) _ _ (c .before .before .before .before .before .take-leaves .ensures) (not-false _ (c .before .before .before .if1 .left)) (omega arith), wait-composed _ _ _ _ _ _ _ _ _ _ (c .before .before .before .before .before .before .before .before .before .before .before .pre .1) _ _ (c .before .before .before .before .before .take-leaves .ensures) (not-false _ (c .before .before .before .if1 .left)) (omega arith))
 
--- src/lib.rt:85:20
-solve-mul-next-2 : (t : ℕ) → solve-lts.Need-mul-next-2 (solve-calls t) (solve-at t) solve.Post solve-Inv-loop solve-μ-loop
-solve-mul-next-2 t c = omega (arith, head-low _ _ _ _ _ _ _ _ _ _ (c .before .before .before .before .before .before .before .pre .1) _ _ _ _ _ (c .before .before .before .loop .inv))
+-- src/lib.rt:70:1
+solve-divide-requires : (t : ℕ) → solve-lts.Need-divide-requires (solve-calls t) (solve-at t) solve.Post
+solve-divide-requires t c κs = (omega (arith, c .before .before .before .before .before .before .before .before .before .before .before .before .before .before .before .before .pre .0, c .before .before .before .before .before .before .before .before .before .before .take-leaves .ensures .falls (omega arith)), reduced-asked _ _ _ _ (c .before .before .before .before .reduced .ensures) _ _ _ _ _ _ _ _ _ (divide-asked _ _ _ _ _ _ _ _ _ _ (c .before .before .before .before .before .before .before .before .before .before .before .before .before .before .before .before .pre .1) _ _ (c .before .before .before .before .before .before .before .before .before .before .take-leaves .ensures) (not-false _ (c .before .before .before .before .before .before .before .before .if1 .left)) (omega arith)))
 
--- src/lib.rt:85:20
-solve-element-copy-out-next : (t : ℕ) → solve-lts.Need-element-copy-out-next (solve-calls t) (solve-at t) solve.Post solve-Inv-loop solve-μ-loop
-solve-element-copy-out-next t c = omega (arith, head-low _ _ _ _ _ _ _ _ _ _ (c .before .before .before .before .before .before .before .pre .1) _ _ _ _ _ (c .before .before .before .loop .inv))
-
--- src/lib.rt:85:20
-solve-cast-next : (t : ℕ) → solve-lts.Need-cast-next (solve-calls t) (solve-at t) solve.Post solve-Inv-loop solve-μ-loop
-solve-cast-next t c = omega (arith, next-lower _ _ _ _ _ _ _ _ _ _ (c .before .before .before .before .before .before .before .before .pre .1) _ _ _ _ _ (c .before .before .before .before .loop .inv) (omega arith), head-low _ _ _ _ _ _ _ _ _ _ (c .before .before .before .before .before .before .before .before .pre .1) _ _ _ _ _ (c .before .before .before .before .loop .inv))
-
--- src/lib.rt:86:13
-solve-kind-requires : (t : ℕ) → solve-lts.Need-kind-requires (solve-calls t) (solve-at t) solve.Post solve-Inv-loop solve-μ-loop
-solve-kind-requires t c κs = entry-readable _ _ _ _ _ _ _ _ _ _ (c .before .before .before .before .before .before .before .before .pre .1) _ _ _ _ _ (c .before .before .before .before .loop .inv) (omega arith) .here
-
--- src/lib.rt:90:21
-solve-reduced-requires : (t : ℕ) → solve-lts.Need-reduced-requires (solve-calls t) (solve-at t) solve.Post solve-Inv-loop solve-μ-loop
-solve-reduced-requires t c κs = (entry-readable _ _ _ _ _ _ _ _ _ _ (c .before .before .before .before .before .before .before .before .before .before .pre .1) _ _ _ _ _ (c .before .before .before .before .before .before .loop .inv) (omega arith), omega (arith, c .before .kind .ensures .0))
-
--- src/lib.rt:88:13
-solve-divide-requires : (t : ℕ) → solve-lts.Need-divide-requires (solve-calls t) (solve-at t) solve.Post solve-Inv-loop solve-μ-loop
-solve-divide-requires t c κs = (omega (arith, c .before .before .before .before .before .before .before .before .before .before .before .before .before .before .before .pre .0, c .before .before .before .before .before .before .before .before .before .before .before .loop .inv .falls, next-lower _ _ _ _ _ _ _ _ _ _ (c .before .before .before .before .before .before .before .before .before .before .before .before .before .before .before .pre .1) _ _ _ _ _ (c .before .before .before .before .before .before .before .before .before .before .before .loop .inv) (omega arith)), reduced-asked _ _ _ _ (c .before .before .before .before .reduced .ensures) _ _ _ _ _ _ _ _ _ (divide-asked _ _ _ _ _ _ _ _ _ _ (c .before .before .before .before .before .before .before .before .before .before .before .before .before .before .before .pre .1) _ _ _ _ _ (c .before .before .before .before .before .before .before .before .before .before .before .loop .inv) (omega arith) (omega (arith, c .before .before .before .before .before .before .kind .ensures .0))))
-
--- src/lib.rt:88:13
-solve-returns : (t : ℕ) → solve-lts.Need-returns (solve-calls t) (solve-at t) solve.Post solve-Inv-loop solve-μ-loop
-solve-returns t c = divide-told _ _ _ _ _ _ _ _ _ _ (c .before .before .before .before .before .before .before .before .before .before .before .before .before .before .before .before .pre .1) _ _ _ _ _ (c .before .before .before .before .before .before .before .before .before .before .before .before .loop .inv) (omega arith) _ _ _ _ (reduced-told _ _ _ _ (c .before .before .before .before .before .reduced .ensures) _ _ _ _ _ _ _ _ _ _ _ _ _ (c .divide .ensures))
-
--- src/lib.rt:103:9
-solve-match-leaf-requires : (t : ℕ) → solve-lts.Need-match-leaf-requires (solve-calls t) (solve-at t) solve.Post solve-Inv-loop solve-μ-loop
-solve-match-leaf-requires t c κs = leaf-asked _ _ _ _ _ _ _ _ _ _ (c .before .before .before .before .before .before .before .before .before .before .before .pre .1) _ _ _ _ _ (c .before .before .before .before .before .before .before .loop .inv) (omega arith) (omega (arith, c .before .before .kind .ensures .0))
-
--- src/lib.rt:105:13
-solve-returns-2 : (t : ℕ) → solve-lts.Need-returns-2 (solve-calls t) (solve-at t) solve.Post solve-Inv-loop solve-μ-loop
-solve-returns-2 t c = solve-failed _ _ _ _ _ _ _ _ _ _ (c .before .before .before .before .before .before .before .before .before .before .before .before .before .pre .1) _ _ _ _ _ (c .before .before .before .before .before .before .before .before .before .loop .inv) (omega arith) _ _ (λ v b q n h. c .before .match-leaf .ensures v b q h) (not-true _ (c .if2 .taken))
-
--- src/lib.rt:82:5
-solve-loop-less : (t : ℕ) → solve-lts.Need-loop-less (solve-calls t) (solve-at t) solve.Post solve-Inv-loop solve-μ-loop
-solve-loop-less t c = next-lower _ _ _ _ _ _ _ _ _ _ (c .before .before .before .before .before .before .before .before .before .before .before .before .before .pre .1) _ _ _ _ _ (c .before .before .before .before .before .before .before .before .before .loop .inv) (omega arith)
-
--- src/lib.rt:82:5
-solve-loop-again : (t : ℕ) → solve-lts.Need-loop-again (solve-calls t) (solve-at t) solve.Post solve-Inv-loop solve-μ-loop
-solve-loop-again t c = solve-more _ _ _ _ _ _ _ _ _ _ (c .before .before .before .before .before .before .before .before .before .before .before .before .before .pre .1) _ _ _ _ _ (c .before .before .before .before .before .before .before .before .before .loop .inv) (omega arith) _ _ (λ v b q n h. c .before .match-leaf .ensures v b q h) (not-false _ (c .if2 .left))
-
--- src/lib.rt:112:9
-solve-enter-requires : (t : ℕ) → solve-lts.Need-enter-requires (solve-calls t) (solve-at t) solve.Post solve-Inv-loop solve-μ-loop
-solve-enter-requires t c κs = enter-asked _ _ _ _ _ _ _ _ _ _ (c .before .before .before .before .before .before .before .before .pre .1) _ _ _ _ _ (c .before .before .before .before .loop .inv)
-
--- src/lib.rt:65:1
-solve-returns-3 : (t : ℕ) → solve-lts.Need-returns-3 (solve-calls t) (solve-at t) solve.Post solve-Inv-loop solve-μ-loop
-solve-returns-3 t c = solve-end _ _ _ _ _ _ _ _ _ _ (c .before .before .before .before .before .before .before .before .before .pre .1) _ _ _ _ _ (c .before .before .before .before .before .loop .inv) (omega arith) _ _ _ (c .enter .ensures)
+-- src/lib.rt:70:1
+solve-returns-3 : (t : ℕ) → solve-lts.Need-returns-3 (solve-calls t) (solve-at t) solve.Post
+solve-returns-3 t c = divide-told _ _ _ _ _ _ _ _ _ _ (c .before .before .before .before .before .before .before .before .before .before .before .before .before .before .before .before .before .pre .1) _ _ (c .before .before .before .before .before .before .before .before .before .before .before .take-leaves .ensures) (not-false _ (c .before .before .before .before .before .before .before .before .before .if1 .left)) (omega arith) _ _ _ _ (reduced-told _ _ _ _ (c .before .before .before .before .before .reduced .ensures) _ _ _ _ _ _ _ _ _ _ _ _ _ (c .divide .ensures))
 
 pub +divide+solve-spec : {M : Type 1} → statement M
 +divide+solve-spec = close μ-divide μ-solve (λ t. divide-lts.spec (divide-calls t)
@@ -285,9 +244,10 @@ pub +divide+solve-spec : {M : Type 1} → statement M
     λ t. solve-lts.spec (solve-calls t)
     (solve-at t)
     solve.Post
-    solve-Inv-loop
-    solve-μ-loop
-    (solve-loop-holds t)
+    (solve-take-leaves-requires t)
+    (solve-returns t)
+    (solve-enter-requires t)
+    (solve-returns-2 t)
     (solve-mul-p t)
     (solve-mul-p-2 t)
     (solve-element-copy-out-p t)
@@ -296,18 +256,6 @@ pub +divide+solve-spec : {M : Type 1} → statement M
     (solve-add-word t)
     (solve-mul-word-2 t)
     (solve-element-copy-out-word t)
-    (solve-mul-next t)
-    (solve-add-next t)
-    (solve-mul-next-2 t)
-    (solve-element-copy-out-next t)
-    (solve-cast-next t)
-    (solve-kind-requires t)
     (solve-reduced-requires t)
     (solve-divide-requires t)
-    (solve-returns t)
-    (solve-match-leaf-requires t)
-    (solve-returns-2 t)
-    (solve-loop-less t)
-    (solve-loop-again t)
-    (solve-enter-requires t)
     (solve-returns-3 t)

@@ -1,4 +1,5 @@
-//! Lets and let-bes whose bindings are formed and counted: with an empty list a run ends in 32 once they are, or in 30.
+//! Lets and let-bes whose bindings are formed and counted: with an empty list a run ends in 32 once they are, or in 30. An exists whose first binding settles it
+//! takes what forming them takes, and no more; a let-be tests every binding, window by window.
 
 #[allow(dead_code)]
 #[path = "../../tests/patterns/pattern.rs"]
@@ -10,7 +11,7 @@ use generator::builder::kind;
 use generator::Builder;
 
 /// Patterns of a let, each with the value that it is matched with.
-const LETS: [(&str, &str); 15] = [
+const LETS: [(&str, &str); 22] = [
     ("mk_(a ^ -, b)", "mk_([],{1,2,3})"),
     ("{a,b,c,d}", "{1,2,3,4}"),
     (
@@ -28,14 +29,30 @@ const LETS: [(&str, &str); 15] = [
     ("a union (- union -)", "{1,...,7}"),
     ("- union (- union (- union -))", "{1,...,7}"),
     ("{-} union ({-} union a)", "{1,...,7}"),
+    ("- union (a union -)", "{1,...,7}"),
+    ("(a union -) union (- union -)", "{1,...,7}"),
+    ("((a union {b}) union {-}) union {c}", "{1,...,7}"),
+    ("((- union a) union a) union a", "{1,...,7}"),
+    (
+        "((- union {a}) union {-}) union (- union ({-} union {b}))",
+        "{1,...,7}",
+    ),
+    (
+        "(({-} union {-}) union ({-} union {-})) union (({-} union {-}) union a)",
+        "{1,...,7}",
+    ),
     (
         "- ^ (- ^ (- ^ a))",
         "[1,2,3,4,5,6,7,8,9,10,11,12,13,14,15,16,17,18,19,20]",
     ),
+    (
+        "(- ^ [a]) ^ (- ^ [b])",
+        "[1,2,3,4,5,6,7,8,9,10,11,12,13,14,15,16,17,18,19,20]",
+    ),
 ];
 
-/// The same of a let-be, with its set.
-const LET_BES: [(&str, &str); 2] = [
+/// The same of a let-be and of an exists, with their set.
+const SETS: [(&str, &str); 2] = [
     ("a", "{1,...,63}"),
     (
         "a union b",
@@ -46,7 +63,11 @@ const LET_BES: [(&str, &str); 2] = [
 /// Labels and tables.
 pub fn tables() -> Vec<(String, Vec<u8>)> {
     let lets = LETS.map(|(pattern, value)| row(kind::LET, pattern, value));
-    let let_bes = LET_BES.map(|(pattern, set)| row(kind::LET_BE, pattern, set));
+    let let_bes = SETS.map(|(pattern, set)| row(kind::LET_BE, pattern, set));
+    let exists = SETS.map(|(pattern, set)| {
+        let (label, table) = row(kind::EXISTS, pattern, set);
+        (format!("{label}, formed alone"), table)
+    });
     let chains = (4..=8).flat_map(|parts| {
         [
             ("names", 'a', 'p'),
@@ -61,7 +82,11 @@ pub fn tables() -> Vec<(String, Vec<u8>)> {
             )
         })
     });
-    lets.into_iter().chain(let_bes).chain(chains).collect()
+    lets.into_iter()
+        .chain(let_bes)
+        .chain(exists)
+        .chain(chains)
+        .collect()
 }
 
 fn row(kind: u16, pattern: &str, value: &str) -> (String, Vec<u8>) {

@@ -1,5 +1,4 @@
 -- What is found stays, and only the marks go on.
-use borrow.Author.Needs.{needs}
 use native.Mathlib.Omega.{arith}
 use Rattle.tables.specs.Accepted.{records}
 use Rattle.tables.specs.Check.{hasBad}

@@ -4,10 +4,6 @@ use native.Mathlib.Omega.{arith}
 use Prim.Native.Nat.{_-_}
 use Rattle.evaluator.proofs.binding.all_integers.Statement.{statement}
 use Rattle.evaluator.proofs.binding.all_integers.Tie as tie
-use Rattle.evaluator.proofs.binding.all_integers.Reads as reads
-use Rattle.evaluator.proofs.binding.all_integers.Lts as lts
-use Rattle.values.proofs.kind_of.Reads as kind-of-reads
-use Rattle.values.proofs.length_of.Reads as length-of-reads
 
 abbrev Inv-loop : tie.InvT-loop
 Inv-loop s from to p₀ p = Walks s from to p

@@ -3,9 +3,6 @@ use borrow.Author.Tests.{eq-eqb, ne-eqb}
 use borrow.Author.Needs.{needs}
 use Rattle.evaluator.proofs.binding.built.Statement.{statement}
 use Rattle.evaluator.proofs.binding.built.Tie as tie
-use Rattle.evaluator.proofs.binding.built.Reads as reads
-use Rattle.evaluator.proofs.binding.built.Lts as lts
-use Rattle.evaluator.proofs.words.refusal.Reads as refusal-reads
 
 -- src/binding.rt:167:9
 refusal-requires : tie.Need-refusal-requires

@@ -4,11 +4,6 @@ use Rattle.evaluator.proofs.Entering.{inside-reachable, inside-under, e
 use borrow.Author.Needs.{needs}
 use Rattle.evaluator.proofs.binding.enter.Statement.{statement}
 use Rattle.evaluator.proofs.binding.enter.Tie as tie
-use Rattle.evaluator.proofs.binding.enter.Reads as reads
-use Rattle.evaluator.proofs.binding.enter.Lts as lts
-use Rattle.bindings.proofs.reach.Reads as reach-reads
-use Rattle.bindings.proofs.under.Reads as under-reads
-use Rattle.tables.proofs.reading.operand.Reads as operand-reads
 
 -- src/binding.rt:53:9
 operand-requires : tie.Need-operand-requires

@@ -6,14 +6,6 @@ use Rattle.evaluator.proofs.Single.{fetch-field, fetch-name, fetch-putt
 use borrow.Author.Needs.{needs}
 use Rattle.evaluator.proofs.binding.fetch.Statement.{statement}
 use Rattle.evaluator.proofs.binding.fetch.Tie as tie
-use Rattle.evaluator.proofs.binding.fetch.Reads as reads
-use Rattle.evaluator.proofs.binding.fetch.Lts as lts
-use Rattle.evaluator.proofs.binding.enter.Reads as enter-reads
-use Rattle.parts.proofs.put_part.Reads as put-part-reads
-use Rattle.parts.proofs.words.unpack.Reads as unpack-reads
-use Rattle.tables.proofs.reading.field.Reads as field-reads
-use Rattle.tables.proofs.reading.operand.Reads as operand-reads
-use Rattle.values.proofs.copy_value.Reads as copy-value-reads
 
 -- src/binding.rt:187:5
 enter-requires : tie.Need-enter-requires

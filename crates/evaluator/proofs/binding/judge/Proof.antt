@@ -4,9 +4,6 @@ use Rattle.evaluator.specs.Word.{judgedWord}
 use borrow.Author.Needs.{needs}
 use Rattle.evaluator.proofs.binding.judge.Statement.{statement}
 use Rattle.evaluator.proofs.binding.judge.Tie as tie
-use Rattle.evaluator.proofs.binding.judge.Reads as reads
-use Rattle.evaluator.proofs.binding.judge.Lts as lts
-use Rattle.evaluator.proofs.words.refusal.Reads as refusal-reads
 
 -- src/binding.rt:118:25
 enum-told : tie.Need-enum-told

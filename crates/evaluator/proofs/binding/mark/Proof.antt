@@ -2,8 +2,6 @@ use mathlib.Core.Path.{refl}
 use borrow.Author.Tests.{eq-eqb, ne-eqb, not-true, not-false}
 use Rattle.evaluator.proofs.binding.mark.Statement.{statement}
 use Rattle.evaluator.proofs.binding.mark.Tie as tie
-use Rattle.evaluator.proofs.binding.mark.Reads as reads
-use Rattle.evaluator.proofs.binding.mark.Lts as lts
 
 -- src/binding.rt:129:9
 returns : tie.Need-returns

@@ -3,9 +3,6 @@ use Rattle.evaluator.specs.Binding.{opens, fails}
 use borrow.Author.Needs.{needs}
 use Rattle.evaluator.proofs.binding.opening.Statement.{statement}
 use Rattle.evaluator.proofs.binding.opening.Tie as tie
-use Rattle.evaluator.proofs.binding.opening.Reads as reads
-use Rattle.evaluator.proofs.binding.opening.Lts as lts
-use Rattle.evaluator.proofs.words.refusal.Reads as refusal-reads
 
 -- src/binding.rt:105:23
 enum-known-o : tie.Need-enum-known-o

@@ -2,11 +2,6 @@ use Rattle.evaluator.proofs.Suiting.{suits-let, suits-none, suits-set, 
 use borrow.Author.Needs.{needs}
 use Rattle.evaluator.proofs.binding.suits.Statement.{statement}
 use Rattle.evaluator.proofs.binding.suits.Tie as tie
-use Rattle.evaluator.proofs.binding.suits.Reads as reads
-use Rattle.evaluator.proofs.binding.suits.Lts as lts
-use Rattle.evaluator.proofs.binding.all_integers.Reads as all-integers-reads
-use Rattle.values.proofs.kind_of.Reads as kind-of-reads
-use Rattle.values.proofs.length_of.Reads as length-of-reads
 
 -- src/binding.rt:61:9
 returns : tie.Need-returns

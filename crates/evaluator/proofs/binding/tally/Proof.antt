@@ -2,8 +2,6 @@ use borrow.Author.Needs.{needs}
 use mathlib.Core.Path.{refl}
 use Rattle.evaluator.proofs.binding.tally.Statement.{statement}
 use Rattle.evaluator.proofs.binding.tally.Tie as tie
-use Rattle.evaluator.proofs.binding.tally.Reads as reads
-use Rattle.evaluator.proofs.binding.tally.Lts as lts
 
 -- src/binding.rt:121:14
 add-result : tie.Need-add-result

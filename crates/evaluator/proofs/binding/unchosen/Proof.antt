@@ -4,9 +4,6 @@ use Rattle.evaluator.specs.Word.{unchosenWord}
 use borrow.Author.Needs.{needs}
 use Rattle.evaluator.proofs.binding.unchosen.Statement.{statement}
 use Rattle.evaluator.proofs.binding.unchosen.Tie as tie
-use Rattle.evaluator.proofs.binding.unchosen.Reads as reads
-use Rattle.evaluator.proofs.binding.unchosen.Lts as lts
-use Rattle.evaluator.proofs.words.refusal.Reads as refusal-reads
 
 -- src/binding.rt:153:29
 enum-told : tie.Need-enum-told

@@ -4,11 +4,6 @@ use Rattle.evaluator.proofs.Simple.{add-room, add-done, add-still, set-
 use borrow.Author.Needs.{needs}
 use Rattle.evaluator.proofs.building.add.Statement.{statement}
 use Rattle.evaluator.proofs.building.add.Tie as tie
-use Rattle.evaluator.proofs.building.add.Reads as reads
-use Rattle.evaluator.proofs.building.add.Lts as lts
-use Rattle.collections.proofs.building.append.Reads as append-reads
-use Rattle.collections.proofs.building.insert.Reads as insert-reads
-use Rattle.evaluator.proofs.building.added.Reads as added-reads
 
 -- src/building.rt:26:9
 returns : tie.Need-returns

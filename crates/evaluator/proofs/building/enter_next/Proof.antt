@@ -2,10 +2,6 @@ use Rattle.evaluator.proofs.Simple.{enter-room, enter-still, enter-done
 use borrow.Author.Needs.{needs}
 use Rattle.evaluator.proofs.building.enter_next.Statement.{statement}
 use Rattle.evaluator.proofs.building.enter_next.Tie as tie
-use Rattle.evaluator.proofs.building.enter_next.Reads as reads
-use Rattle.evaluator.proofs.building.enter_next.Lts as lts
-use Rattle.collections.proofs.building.enter.Reads as enter-reads
-use Rattle.evaluator.proofs.building.entered.Reads as entered-reads
 
 -- src/building.rt:51:9
 returns : tie.Need-returns

@@ -3,10 +3,6 @@ use Rattle.evaluator.proofs.Simple.{finish-off, finish-value, finish-he
 use borrow.Author.Needs.{needs}
 use Rattle.evaluator.proofs.building.finish.Statement.{statement}
 use Rattle.evaluator.proofs.building.finish.Tie as tie
-use Rattle.evaluator.proofs.building.finish.Reads as reads
-use Rattle.evaluator.proofs.building.finish.Lts as lts
-use Rattle.collections.proofs.building.retag.Reads as retag-reads
-use Rattle.evaluator.proofs.words.refusal.Reads as refusal-reads
 
 -- src/building.rt:82:9
 refusal-requires : tie.Need-refusal-requires

@@ -2,8 +2,6 @@ use mathlib.Core.Path.{refl}
 use borrow.Author.Tests.{eq-eqb, ne-eqb}
 use Rattle.evaluator.proofs.building.started.Statement.{statement}
 use Rattle.evaluator.proofs.building.started.Tie as tie
-use Rattle.evaluator.proofs.building.started.Reads as reads
-use Rattle.evaluator.proofs.building.started.Lts as lts
 
 -- src/building.rt:14:1
 returns : tie.Need-returns

@@ -7,15 +7,6 @@ use Rattle.evaluator.proofs.Simple.{name-below, part-free, part-held, p
 use borrow.Author.Needs.{needs}
 use Rattle.evaluator.proofs.leaves.name.Statement.{statement}
 use Rattle.evaluator.proofs.leaves.name.Tie as tie
-use Rattle.evaluator.proofs.leaves.name.Reads as reads
-use Rattle.evaluator.proofs.leaves.name.Lts as lts
-use Rattle.evaluator.proofs.words.refusal.Reads as refusal-reads
-use Rattle.parts.proofs.put_part.Reads as put-part-reads
-use Rattle.parts.proofs.words.unpack.Reads as unpack-reads
-use Rattle.tables.proofs.reading.field.Reads as field-reads
-use Rattle.values.proofs.integer_at.Reads as integer-at-reads
-use Rattle.values.proofs.kind_of.Reads as kind-of-reads
-use Rattle.values.proofs.put_integer.Reads as put-integer-reads
 
 -- src/leaves.rt:74:9
 field-requires : tie.Need-field-requires

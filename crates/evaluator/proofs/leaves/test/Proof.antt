@@ -4,10 +4,6 @@ use Rattle.evaluator.proofs.Simple.{told-boolean}
 use borrow.Author.Needs.{needs}
 use Rattle.evaluator.proofs.leaves.test.Statement.{statement}
 use Rattle.evaluator.proofs.leaves.test.Tie as tie
-use Rattle.evaluator.proofs.leaves.test.Reads as reads
-use Rattle.evaluator.proofs.leaves.test.Lts as lts
-use Rattle.values.proofs.boolean_at.Reads as boolean-at-reads
-use Rattle.values.proofs.kind_of.Reads as kind-of-reads
 
 -- src/leaves.rt:83:9
 kind-of-requires : tie.Need-kind-of-requires

@@ -4,10 +4,6 @@ use Rattle.evaluator.proofs.Simple.{truth-done}
 use borrow.Author.Needs.{needs}
 use Rattle.evaluator.proofs.leaves.truth.Statement.{statement}
 use Rattle.evaluator.proofs.leaves.truth.Tie as tie
-use Rattle.evaluator.proofs.leaves.truth.Reads as reads
-use Rattle.evaluator.proofs.leaves.truth.Lts as lts
-use Rattle.tables.proofs.reading.field.Reads as field-reads
-use Rattle.values.proofs.put_boolean.Reads as put-boolean-reads
 
 -- src/leaves.rt:48:9
 field-requires : tie.Need-field-requires

@@ -2,11 +2,6 @@ use Rattle.evaluator.proofs.Simple.{two-binary, two-range, two-apply, t
 use borrow.Author.Needs.{needs}
 use Rattle.evaluator.proofs.leaves.two.Statement.{statement}
 use Rattle.evaluator.proofs.leaves.two.Tie as tie
-use Rattle.evaluator.proofs.leaves.two.Reads as reads
-use Rattle.evaluator.proofs.leaves.two.Lts as lts
-use Rattle.operations.proofs.binary.Reads as binary-reads
-use Rattle.set_operators.proofs.range.Reads as range-reads
-use Rattle.application.proofs.apply.Reads as apply-reads
 
 -- src/leaves.rt:100:9
 binary-requires : tie.Need-binary-requires

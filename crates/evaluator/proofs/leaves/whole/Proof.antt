@@ -7,10 +7,6 @@ use Rattle.evaluator.proofs.Simple.{whole-done}
 use borrow.Author.Needs.{needs}
 use Rattle.evaluator.proofs.leaves.whole.Statement.{statement}
 use Rattle.evaluator.proofs.leaves.whole.Tie as tie
-use Rattle.evaluator.proofs.leaves.whole.Reads as reads
-use Rattle.evaluator.proofs.leaves.whole.Lts as lts
-use Rattle.tables.proofs.reading.integer.Reads as integer-reads
-use Rattle.values.proofs.put_integer.Reads as put-integer-reads
 
 -- src/leaves.rt:58:9
 integer-requires : tie.Need-integer-requires

@@ -2,9 +2,6 @@ use borrow.Author.Needs.{needs}
 use Rattle.evaluator.proofs.Lending.{lent-many, lent-beyond, lent-short, lent-chosen, lent-extended}
 use Rattle.evaluator.proofs.run.choose.Statement.{statement}
 use Rattle.evaluator.proofs.run.choose.Tie as tie
-use Rattle.evaluator.proofs.run.choose.Reads as reads
-use Rattle.evaluator.proofs.run.choose.Lts as lts
-use Rattle.evaluator.proofs.run.number.Reads as number-reads
 
 -- src/run.rt:50:16
 element-copy-out-used : tie.Need-element-copy-out-used

@@ -3,9 +3,6 @@ use mathlib.Core.Path.{refl}
 use Rattle.evaluator.specs.Binding.{loosely, plainly}
 use Rattle.evaluator.proofs.run.decide.Statement.{statement}
 use Rattle.evaluator.proofs.run.decide.Tie as tie
-use Rattle.evaluator.proofs.run.decide.Reads as reads
-use Rattle.evaluator.proofs.run.decide.Lts as lts
-use Rattle.evaluator.proofs.run.choose.Reads as choose-reads
 
 -- src/run.rt:80:9
 choose-requires : tie.Need-choose-requires

@@ -4,9 +4,6 @@ use mathlib.Core.Path.{refl, sym, _∙_}
 use Rattle.evaluator.proofs.Lending.{due-left, due-none}
 use Rattle.evaluator.proofs.run.wanted.Statement.{statement}
 use Rattle.evaluator.proofs.run.wanted.Tie as tie
-use Rattle.evaluator.proofs.run.wanted.Reads as reads
-use Rattle.evaluator.proofs.run.wanted.Lts as lts
-use Rattle.evaluator.proofs.run.number.Reads as number-reads
 
 -- src/run.rt:35:9
 returns : tie.Need-returns

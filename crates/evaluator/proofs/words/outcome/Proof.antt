@@ -3,8 +3,6 @@ use Prim.Native.Nat.{_%_}
 use borrow.Author.Tests.{eq-eqb, ne-eqb}
 use Rattle.evaluator.proofs.words.outcome.Statement.{statement}
 use Rattle.evaluator.proofs.words.outcome.Tie as tie
-use Rattle.evaluator.proofs.words.outcome.Reads as reads
-use Rattle.evaluator.proofs.words.outcome.Lts as lts
 
 -- src/words.rt:27:9
 returns : tie.Need-returns

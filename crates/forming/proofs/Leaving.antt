@@ -1,0 +1,357 @@
+-- Leaves taken off an agenda before the pattern with parts that stands before them: tasks go in any order.
+use mathlib.Core.Path.{_≡_, refl, sym, ap, subst, _∙_}
+use mathlib.Core.Bool.{Bool, true, false}
+use mathlib.Core.Logic.{inl}
+use mathlib.Core.List.{List, [], _∷_, _++_}
+use Prim.Native.Nat.{ℕ, _+_, _-_, _*_, _≤_, _<_}
+use native.Mathlib.Omega.{arith}
+use lib.ListN.{length, getD}
+use Rattle.prelude.specs.Membership.{In}
+use Rattle.prelude.proofs.Absurd.{true-false}
+use Rattle.values.specs.Value.{Value}
+use Rattle.tables.specs.Table.{kindAt}
+use Rattle.tables.specs.Accepted.{records}
+use Rattle.parts.specs.Part.{PartIs, PartHeld}
+use Rattle.parts.specs.Word.{unpacked}
+use Rattle.patterns.specs.Members.{Alike}
+use Rattle.patterns.specs.Binding.{Cell, free, is, clash, Binding, names, cellOf, merge, withEach, together}
+use Rattle.patterns.specs.Pattern.{Pattern, matches, wide}
+use Rattle.patterns.specs.Relation.{Agree, Joined}
+use Rattle.patterns.specs.Laws.Matched.{in-together, together-in, joined-merge, merge-joined, matched, match-sized}
+use Rattle.patterns.specs.Laws.Together.{together-assoc}
+use Rattle.patterns.specs.Read.{Readable, patternAt}
+use Rattle.matching.specs.Leaf.{Stands, Standing, Went}
+use Rattle.matching.specs.Node.{LeafHeld}
+use Rattle.matching.proofs.Naming.{stands-fine}
+use Rattle.forming.specs.declared.Formed.{Formed}
+use Rattle.forming.specs.declared.Formed.the-variants.{Number}
+use Rattle.forming.specs.declared.Step.{Step}
+use Rattle.forming.specs.declared.taking.Left.{Left}
+use Rattle.forming.specs.Onward.{Task, task, matchesAll, onward}
+use Rattle.forming.specs.Laws.Onward.{onward-end, onward-went, onward-none, together-alike}
+use Rattle.forming.specs.Adding.{adding}
+use Rattle.forming.specs.Laws.Adding.{adding-one, adding-none, adding-alike}
+use Rattle.forming.specs.Rows.{RowsAre, EntryHeld, Entered, Entry}
+use Rattle.forming.specs.Pending.{inner, entries, Pending, AgendaIs, spaces, WaitsAre, LeftOf, TakeHeld, Taken, Solvable, Solved, Dividable, Divided}
+use Rattle.forming.proofs.Reducing.{with-alike}
+use Rattle.forming.proofs.Solving.{some-task, no-task, agenda-low}
+
+-- ---- in any order
+
+agree-swap : (a b c : Cell) → Agree a b c → Agree b a c
+agree-swap free free c h = h
+agree-swap free (is w) c h = h
+agree-swap free clash c h = absurd h
+agree-swap (is v) free c h = h
+agree-swap (is v) (is w) c h = (sym (h .0), h .1 ∙ ap is (h .0))
+agree-swap (is v) clash c h = absurd h
+agree-swap clash b c h = absurd h
+
+joined-swap : (a b c : Binding) → Joined a b c → Joined b a c
+joined-swap a b c h = record { sized = h .sized; agreed = λ x l. agree-swap (cellOf a x) (cellOf b x) (cellOf c x) (h .agreed x l) }
+
+abbrev AllSized : List Binding → Type 0
+AllSized xs = (b : Binding) → In b xs → length b ≡ names
+
+together-swap : (xs ys : List Binding) → AllSized xs → AllSized ys → (c : Binding) → In c (together xs ys) → In c (together ys xs)
+together-swap xs ys hx hy c i =
+    let (a, d, m, n, t, e) = in-together c xs ys i in
+    let (f, u) = joined-merge d a (merge a d) (hy d n) (hx a m) (joined-swap a d (merge a d) (merge-joined a d (hx a m) (hy d n) t)) in
+    subst (λ (x : Binding). In x (together ys xs)) (sym (e ∙ f)) (together-in d a ys xs n m u)
+
+matches-sized : (p : Pattern) (v : Value) → AllSized (matches p v)
+matches-sized p v b i = match-sized p v b (matched p v b i)
+
+-- THEOREM: two tasks may change places
+onward-swap : (t u : Task) (ts : List Task) (b : Binding) → Alike (onward (t ∷ u ∷ ts) b) (onward (u ∷ t ∷ ts) b)
+unfolding matchesAll
+onward-swap t u ts b = with-alike b (together T (together U M)) (together U (together T M)) (λ c. (λ i. go T U sized-t sized-u c i, λ i. go U T sized-u sized-t c i))
+  where
+    T : List Binding
+    T = matches (t .what) (t .value)
+
+    U : List Binding
+    U = matches (u .what) (u .value)
+
+    M : List Binding
+    M = matchesAll ts
+
+    sized-t : AllSized T
+    sized-t = matches-sized (t .what) (t .value)
+
+    sized-u : AllSized U
+    sized-u = matches-sized (u .what) (u .value)
+
+    go : (xs ys : List Binding) → AllSized xs → AllSized ys → (c : Binding) → In c (together xs (together ys M)) → In c (together ys (together xs M))
+    go xs ys hx hy c i =
+        subst (In c) (together-assoc ys xs M)
+        (together-alike (together xs ys) (together ys xs) M (λ d. (λ j. together-swap xs ys hx hy d j, λ j. together-swap ys xs hy hx d j)) c .0
+        (subst (In c) (sym (together-assoc xs ys M)) i))
+
+-- a task behind at most one other
+went-behind : (ws us : List Task) (p : Pattern) (v : Value) (b q : Binding) → length ws ≤ 1 → Alike (withEach b (matches p v)) (q ∷ []) → Alike (onward (ws ++ task p v ∷ us) b) (onward (ws ++ us) q)
+went-behind [] us p v b q l h = onward-went p v us b q h
+went-behind (w ∷ []) us p v b q l h =
+    λ c.
+    let s = onward-swap w (task p v) us b c in
+    let o = onward-went p v (w ∷ us) b q h c in
+    (λ i. o .0 (s .0 i), λ i. s .1 (o .1 i))
+went-behind (w ∷ x ∷ ws) us p v b q l h = absurd (omega arith)
+
+none-behind : (ws us : List Task) (p : Pattern) (v : Value) (b : Binding) → length ws ≤ 1 → withEach b (matches p v) ≡ [] → Alike (onward (ws ++ task p v ∷ us) b) []
+none-behind [] us p v b l e c = (λ i. subst (In c) (onward-none p v us b e) i, λ i. absurd i)
+none-behind (w ∷ []) us p v b l e c = (λ i. subst (In c) (onward-none p v (w ∷ us) b e) (onward-swap w (task p v) us b c .0 i), λ i. absurd i)
+none-behind (w ∷ x ∷ ws) us p v b l e c = absurd (omega arith)
+
+-- ---- what waits
+
+few-wait : (table index s a : List ℕ) (top wait : ℕ) (ws : List Task) → WaitsAre table index s a top wait ws → length ws ≤ 1
+few-wait table index s a top wait [] h = omega arith
+few-wait table index s a top wait (t ∷ []) h = omega arith
+few-wait table index s a top wait (t ∷ u ∷ ws) h = absurd h
+
+none-waits : (table index s a : List ℕ) (top wait : ℕ) (ws : List Task) → WaitsAre table index s a top wait ws → wait ≤ 0 → ws ≡ []
+none-waits table index s a top wait [] h l = refl
+none-waits table index s a top wait (t ∷ []) h l = absurd (omega (arith, h .0 .some))
+none-waits table index s a top wait (t ∷ u ∷ ws) h l = absurd h
+
+one-waits : (table index s a : List ℕ) (top wait : ℕ) (ws : List Task) → WaitsAre table index s a top wait ws → 0 < wait → (t : Task) × (ws ≡ t ∷ []) × Pending table index s a top wait t × (36 ≤ kindAt (records table) (getD a (3 * wait) 0))
+one-waits table index s a top wait [] h l = absurd (omega (arith, h))
+one-waits table index s a top wait (t ∷ []) h l = (t, refl, h .0, h .1)
+one-waits table index s a top wait (t ∷ u ∷ ws) h l = absurd h
+
+spaces-less : (ws us : List Task) (t : Task) → spaces (ws ++ us) ≤ spaces (ws ++ t ∷ us)
+spaces-less [] us t = omega arith
+spaces-less (w ∷ ws) us t = omega (arith, spaces-less ws us t)
+
+-- ---- take_leaves
+
+pub record TakeSoFar (table index s a : List ℕ) (head₀ : ℕ) (f : List ℕ) (head wait : ℕ) (g : List ℕ) : Type 0 where
+  pub falls : head ≤ head₀
+  pub before : 0 < wait → head < head₀
+  pub right : (top : ℕ) (ts : List Task) (b : Binding) → AgendaIs table index s a top head₀ ts → Stands s f b → LeftOf table index s a top wait head g ts b
+
+module _ (table index s a : List ℕ) (head₀ : ℕ) (f : List ℕ) (h : TakeHeld table index s a head₀ f) where
+  pub take-start : TakeSoFar table index s a head₀ f head₀ 0 f
+  take-start = record {
+    falls = omega arith;
+    before = λ l. absurd (omega arith);
+    right = λ top ts b k z. record { waits = []; tasks = ts; binding = b; waits-are = refl; are = k; stands = z; alike = λ c. (λ i. i, λ i. i); room = omega arith };
+  }
+
+  module _ (head wait : ℕ) (g : List ℕ) (w : TakeSoFar table index s a head₀ f head wait g) where
+    now : LeftOf table index s a (h .top) wait head g (h .tasks) (h .binding)
+    now = w .right (h .top) (h .tasks) (h .binding) (h .are) (h .stands)
+
+    pub head-low : head < entries
+    head-low = omega (arith, agenda-low table index s a (h .top) head (now .tasks) (h .low) (now .are), h .room)
+
+    module _ (l : 0 < head) where
+      abbrev W : ℕ
+      W = getD a (3 * head + 1) 0
+
+      abbrev Q : ℕ
+      Q = getD a (3 * head) 0
+
+      abbrev N : ℕ
+      N = getD a (3 * head + 2) 0
+
+      pub entry-readable : Readable table index Q
+      entry-readable = let (t, us, e, p, k) = some-task table index s a (h .top) head (now .tasks) (now .are) l in p .readable
+
+      pub entry-low : Q < 200
+      entry-low = omega (arith, entry-readable .here .within, entry-readable .fine .few)
+
+      pub next-lower : N < head
+      next-lower = let (t, us, e, p, k) = some-task table index s a (h .top) head (now .tasks) (now .are) l in p .falls
+
+      pub leaf-asked : kindAt (records table) Q < 36 → LeafHeld table index Q × (PartHeld s (unpacked W) × Standing s g)
+      leaf-asked c =
+          let (t, us, e, p, k) = some-task table index s a (h .top) head (now .tasks) (now .are) l in
+          (record { readable = entry-readable; leaf = c }, (record { value = t .value; here = p .here }, (now .binding, now .stands)))
+
+      -- a pattern with parts waits
+      pub take-wait : 36 ≤ kindAt (records table) Q → wait ≤ 0 → TakeSoFar table index s a head₀ f N head g
+      take-wait c o = record {
+        falls = omega (arith, next-lower, w .falls);
+        before = λ m. omega (arith, next-lower, w .falls);
+        right = λ top ts b k z.
+            let r = w .right top ts b k z in
+            let (t, us, e, p, m) = some-task table index s a top head (r .tasks) (r .are) l in
+            let q : r .waits ++ r .tasks ≡ t ∷ us = ap (λ (ws : List Task). ws ++ r .tasks) (none-waits table index s a top wait (r .waits) (r .waits-are) o) ∙ e in
+            record {
+              waits = t ∷ [];
+              tasks = us;
+              binding = r .binding;
+              waits-are = (p, c);
+              are = m;
+              stands = r .stands;
+              alike = subst (λ (vs : List Task). Alike (onward ts b) (onward vs (r .binding))) q (r .alike);
+              room = subst (λ (vs : List Task). spaces vs ≤ spaces ts) q (r .room);
+            };
+      }
+
+      module _ (g′ : List ℕ) (fits : Bool) (o : (v : Value) (b : Binding) → PartIs s (unpacked W) v → Stands s g b → Went s b (patternAt (records table) Q) v g′ fits) where
+        -- a leaf that agrees
+        pub take-leaf : fits ≡ true → TakeSoFar table index s a head₀ f N wait g′
+        take-leaf fit = record {
+          falls = omega (arith, next-lower, w .falls);
+          before = λ m. omega (arith, next-lower, w .before m);
+          right = λ top ts b k z.
+              let r = w .right top ts b k z in
+              let (t, us, e, p, m) = some-task table index s a top head (r .tasks) (r .are) l in
+              let (q, al, st) = o (t .value) (r .binding) (p .here) (r .stands) .good fit in
+              let al′ : Alike (withEach (r .binding) (matches (t .what) (t .value))) (q ∷ []) = subst (λ (x : Pattern). Alike (withEach (r .binding) (matches x (t .value))) (q ∷ [])) (sym (p .pattern)) al in
+              let on = went-behind (r .waits) us (t .what) (t .value) (r .binding) q (few-wait table index s a top wait (r .waits) (r .waits-are)) al′ in
+              let al″ : Alike (onward ts b) (onward (r .waits ++ t ∷ us) (r .binding)) = subst (λ (vs : List Task). Alike (onward ts b) (onward (r .waits ++ vs) (r .binding))) e (r .alike) in
+              let ro : spaces (r .waits ++ t ∷ us) ≤ spaces ts = subst (λ (vs : List Task). spaces (r .waits ++ vs) ≤ spaces ts) e (r .room) in
+              record {
+                waits = r .waits;
+                tasks = us;
+                binding = q;
+                waits-are = r .waits-are;
+                are = m;
+                stands = st;
+                alike = λ c. (λ i. on c .0 (al″ c .0 i), λ i. al″ c .1 (on c .1 i));
+                room = omega (arith, spaces-less (r .waits) us t, ro);
+              };
+        }
+
+        -- one that does not
+        pub take-none : fits ≡ false → Taken table index s a head₀ f g′ (record { wait = wait; head = head; fits = false })
+        take-none fit = record {
+          falls = w .before;
+          ends = λ e. true-false (sym e);
+          none = λ x top ts b k z.
+              let r = w .right top ts b k z in
+              let (t, us, e, p, m) = some-task table index s a top head (r .tasks) (r .are) l in
+              let no : withEach (r .binding) (matches (t .what) (t .value)) ≡ [] = ap (λ (y : Pattern). withEach (r .binding) (matches y (t .value))) (p .pattern) ∙ o (t .value) (r .binding) (p .here) (r .stands) .bad fit in
+              let nb = none-behind (r .waits) us (t .what) (t .value) (r .binding) (few-wait table index s a top wait (r .waits) (r .waits-are)) no in
+              let al : Alike (onward ts b) (onward (r .waits ++ t ∷ us) (r .binding)) = subst (λ (vs : List Task). Alike (onward ts b) (onward (r .waits ++ vs) (r .binding))) e (r .alike) in
+              λ c. (λ i. nb c .0 (al c .0 i), λ i. absurd i);
+          some = λ e. true-false (sym e);
+        }
+
+    -- the second pattern with parts, or the end
+    pub take-full : 0 < wait → Taken table index s a head₀ f g (record { wait = wait; head = head; fits = true })
+    take-full m = record { falls = w .before; ends = λ e z. absurd (omega arith); none = λ e. true-false e; some = λ e. w .right }
+
+    pub take-end : head ≤ 0 → Taken table index s a head₀ f g (record { wait = wait; head = head; fits = true })
+    take-end m = record { falls = w .before; ends = λ e z. omega arith; none = λ e. true-false e; some = λ e. w .right }
+
+-- ---- solve
+
+module _ (table index s a : List ℕ) (head top : ℕ) (f : List ℕ) (rows order : List ℕ) (n : ℕ) (h : Solvable table index s a head top f rows order n) where
+  pub take-asked : TakeHeld table index s a head f
+  take-asked = record { top = top; tasks = h .tasks; are = h .are; low = h .low; room = omega (arith, h .room); binding = h .binding; stands = h .stands }
+
+  module _ (g : List ℕ) (r : Left) (k : Taken table index s a head f g r) where
+    alike-entered : (ts : List Task) (st : Binding) (xs bs : List Binding) (rows′ order′ : List ℕ) (o : Formed) → Alike (onward ts st) xs → RowsAre s rows order n bs → Entered s rows′ order′ (adding xs bs) o → Entered s rows′ order′ (adding (onward ts st) bs) o
+    alike-entered ts st xs bs rows′ order′ o e v z = subst (λ (x : List Binding). Entered s rows′ order′ x o) (sym (adding-alike (onward ts st) xs bs (v .given) (v .ordered) e)) z
+
+    pub solve-none : r .fits ≡ false → Solved table index s a a head top f rows order n rows order (record { formed = Number n; any = false })
+    solve-none e = record {
+      kept = λ j l. refl;
+      long = refl;
+      right = λ ts st bs x y z. alike-entered ts st [] bs rows order (Number n) (k .none e top ts st x y) z (subst (RowsAre s rows order n) (sym (adding-none bs)) z);
+      some = λ t. true-false (sym t);
+    }
+
+    module _ (fit : r .fits ≡ true) where
+      left : (ts : List Task) (st : Binding) → AgendaIs table index s a top head ts → Stands s f st → LeftOf table index s a top (r .wait) (r .head) g ts st
+      left ts st x y = k .some fit top ts st x y
+
+      here : LeftOf table index s a top (r .wait) (r .head) g (h .tasks) (h .binding)
+      here = left (h .tasks) (h .binding) (h .are) (h .stands)
+
+      -- nothing is left
+      module _ (e : r .wait ≡ 0) where
+        all-done : (ts : List Task) (st : Binding) (x : AgendaIs table index s a top head ts) (y : Stands s f st) → Alike (onward ts st) (left ts st x y .binding ∷ [])
+        all-done ts st x y =
+            let q = left ts st x y in
+            let none : q .waits ++ q .tasks ≡ [] =
+            ap (λ (ws : List Task). ws ++ q .tasks) (none-waits table index s a top (r .wait) (q .waits) (q .waits-are) (omega arith)) ∙ no-task table index s a top (r .head) (q .tasks) (q .are) (omega (arith, k .ends fit e)) in
+            subst (Alike (onward ts st)) (ap (λ (vs : List Task). onward vs (q .binding)) none ∙ onward-end (q .binding) (stands-fine s g (q .binding) (q .stands))) (q .alike)
+
+        pub enter-asked : EntryHeld s g rows order n
+        enter-asked = record { binding = here .binding; stands = here .stands; bindings = h .bindings; are = h .rows-are }
+
+        pub solve-end : (rows′ order′ : List ℕ) (o : Formed) → Entry s g rows order n rows′ order′ o → Solved table index s a a head top f rows order n rows′ order′ (record { formed = o; any = true })
+        solve-end rows′ order′ o d = record {
+          kept = λ j l. refl;
+          long = refl;
+          right = λ ts st bs x y z.
+              let q = left ts st x y in
+              alike-entered ts st (q .binding ∷ []) bs rows′ order′ o (all-done ts st x y) z (subst (λ (l : List Binding). Entered s rows′ order′ l o) (sym (adding-one (q .binding) bs)) (d (q .binding) bs (q .stands) z));
+          some = λ t ts st x y. (left ts st x y .binding, all-done ts st x y (left ts st x y .binding) .1 (inl refl));
+        }
+
+      -- a pattern with parts is left
+      module _ (m : 0 < r .wait) where
+        abbrev P : ℕ
+        P = getD a (3 * r .wait) 0
+
+        abbrev X : ℕ
+        X = getD a (3 * r .wait + 1) 0
+
+        waiting : (ts : List Task) (st : Binding) (x : AgendaIs table index s a top head ts) (y : Stands s f st)
+            → (t : Task) × (left ts st x y .waits ≡ t ∷ []) × Pending table index s a top (r .wait) t × (36 ≤ kindAt (records table) P)
+        waiting ts st x y = one-waits table index s a top (r .wait) (left ts st x y .waits) (left ts st x y .waits-are) m
+
+        pub wait-readable : Readable table index P
+        wait-readable = waiting (h .tasks) (h .binding) (h .are) (h .stands) .2 .readable
+
+        pub wait-composed : 36 ≤ kindAt (records table) P
+        wait-composed = waiting (h .tasks) (h .binding) (h .are) (h .stands) .3
+
+        pub wait-low : r .wait < entries
+        wait-low = omega (arith, waiting (h .tasks) (h .binding) (h .are) (h .stands) .2 .below, h .room)
+
+        pub wait-small : P < 200
+        wait-small = omega (arith, wait-readable .here .within, wait-readable .fine .few)
+
+        pub divide-asked : Dividable table index P s X a (r .head) top g rows order n
+        unfolding left here
+        divide-asked =
+            let (t, e, p, c) = waiting (h .tasks) (h .binding) (h .are) (h .stands) in
+            let ro : spaces (t ∷ here .tasks) ≤ spaces (h .tasks) = subst (λ (ws : List Task). spaces (ws ++ here .tasks) ≤ spaces (h .tasks)) e (here .room) in
+            record {
+              readable = p .readable;
+              composed = c;
+              short = h .short;
+              value = t .value;
+              here = p .here;
+              narrow = subst (λ (q : Pattern). wide q (t .value) ≡ false) (p .pattern) (p .narrow);
+              tasks = here .tasks;
+              are = here .are;
+              long = h .long;
+              low = h .low;
+              room = subst (λ (x : Pattern). top + (inner x + spaces (here .tasks)) ≤ entries) (p .pattern) (omega (arith, ro, h .room));
+              binding = here .binding;
+              stands = here .stands;
+              bindings = h .bindings;
+              rows-are = h .rows-are;
+            }
+
+        on-with : (ts : List Task) (st : Binding) (x : AgendaIs table index s a top head ts) (y : Stands s f st)
+            → (v : Value) × PartIs s (unpacked X) v × (wide (patternAt (records table) P) v ≡ false) × Alike (onward ts st) (onward (task (patternAt (records table) P) v ∷ left ts st x y .tasks) (left ts st x y .binding))
+        on-with ts st x y =
+            let q = left ts st x y in
+            let (t, e, p, c) = waiting ts st x y in
+            let same : q .waits ++ q .tasks ≡ task (patternAt (records table) P) (t .value) ∷ q .tasks = ap (λ (ws : List Task). ws ++ q .tasks) e ∙ ap (λ (z : Pattern). task z (t .value) ∷ q .tasks) (p .pattern) in
+            (t .value, p .here, subst (λ (z : Pattern). wide z (t .value) ≡ false) (p .pattern) (p .narrow), subst (λ (vs : List Task). Alike (onward ts st) (onward vs (q .binding))) same (q .alike))
+
+        pub divide-told : (c rows′ order′ : List ℕ) (o : Step) → Divided table index P s X a c (r .head) top g rows order n rows′ order′ o → Solved table index s a c head top f rows order n rows′ order′ o
+        divide-told c rows′ order′ o d = record {
+          kept = d .kept;
+          long = d .long;
+          right = λ ts st bs x y z.
+              let q = left ts st x y in
+              let (v, i, w, e) = on-with ts st x y in
+              alike-entered ts st (onward (task (patternAt (records table) P) v ∷ q .tasks) (q .binding)) bs rows′ order′ (o .formed) e z (d .right v (q .tasks) (q .binding) bs i w (q .are) (q .stands) z);
+          some = λ t ts st x y.
+              let q = left ts st x y in
+              let (v, i, w, e) = on-with ts st x y in
+              let (b, j) = d .some t v (q .tasks) (q .binding) i w (q .are) (q .stands) in
+              (b, e b .1 j);
+        }

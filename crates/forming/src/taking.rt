@@ -1,0 +1,62 @@
+// Leaves taken off an agenda: names, any and literals are matched before a pattern with parts that stands before them.
+use matching::leaves;
+use parts::words::Env;
+use tables::Index;
+use tables::kinds;
+use tables::reading::kind;
+ghost use Rattle.forming.specs.Pending.{TakeHeld, Taken};
+
+// The entry with parts that waits, 0 where there is none; the entry to go on from; and whether all leaves up to there agree.
+pub struct Left {
+    pub wait: usize,
+    pub head: usize,
+    pub fits: bool,
+}
+
+// Takes leaves off an agenda, up to its end or to the second pattern with parts.
+pub fn take_leaves(
+    table: &[u8],
+    index: &Index,
+    s: &[u8],
+    agenda: &[u32; 603],
+    head: usize,
+    found: &mut [u32; Env::NAMES],
+) -> Left
+    requires { ⌜ TakeHeld (now table) (now index) (now s) (now agenda) head (now found) ⌝ }
+    ensures { λ r. ⌜ Taken (now (table .entry)) (now (index .entry)) (now (s .entry)) (now (agenda .entry)) head (now (found .entry)) (now (found .exit)) r ⌝ }
+{
+    let mut head = head;
+    let mut wait = 0;
+    while 0 < head {
+        let p = agenda[3 * head] as usize;
+        let next = agenda[3 * head + 2] as usize;
+        let k = kind(table, index, p);
+        if kinds::TUPLE_PATTERN <= k {
+            if 0 < wait {
+                return Left {
+                    wait,
+                    head,
+                    fits: true,
+                };
+            }
+            wait = head;
+            head = next;
+        } else {
+            let word = agenda[3 * head + 1];
+            let fits = leaves::match_leaf(table, index, p, s, word, found);
+            if !fits {
+                return Left {
+                    wait,
+                    head,
+                    fits: false,
+                };
+            }
+            head = next;
+        }
+    }
+    Left {
+        wait,
+        head,
+        fits: true,
+    }
+}
