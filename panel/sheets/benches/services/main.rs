@@ -364,7 +364,8 @@ fn evaluations() -> [Row; 7] {
             cases::deepest("set comprehensions in elements"),
         ),
     ];
-    let [a, b, c, d, e, f] = deterministic.map(|(label, table)| Row::new(label, Call::Evaluate, table));
+    let [a, b, c, d, e, f] =
+        deterministic.map(|(label, table)| Row::new(label, Call::Evaluate, table));
     let label = "evaluate, list 975 of a let-be of 40 over one of 25";
     let chosen = Row::new(label, Call::Evaluate, cases::nested_choices()).under(vec![39, 24]);
     [chosen, a, b, c, d, e, f]
