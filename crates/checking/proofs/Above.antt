@@ -22,7 +22,7 @@ pub record Pushed (rs : List Record) (q : ℕ) (bits : List ℕ) (i : ℕ) : Typ
   pub higher : (r : ℕ) → r < length rs → q < parent rs r → getD bits r 0 ≡ around rs r
   pub done : (j : ℕ) → j < i → getD bits (operand (recordAt rs q) j) 0 ≡ around rs (operand (recordAt rs q) j)
 
-zeros : (n r : ℕ) → getD (replicate {A = ℕ} n 0) r 0 ≡ 0
+pub zeros : (n r : ℕ) → getD (replicate {A = ℕ} n 0) r 0 ≡ 0
 zeros zero r = refl
 zeros (suc n) zero = refl
 zeros (suc n) (suc r) = zeros n r

@@ -5,32 +5,32 @@ use mathlib.Core.List.{List, [], _∷_, _++_, map, append-nil, append-assoc}
 use Prim.Native.Nat.{ℕ, zero, suc, _+_, _^_, _≤_, _<_, max}
 use native.Mathlib.Omega.{arith}
 use native.Mathlib.Numerals.{add-one}
-use borrow.Author.Tests.{eqb-true, eq-eqb, ne-eqb, leb-true, lt-leb, le-leb, lt-ltb, le-ltb, not-true}
+use borrow.Author.Tests.{eqb-true, eq-eqb, ne-eqb, leb-true, lt-ltb, le-ltb, not-true}
 use lib.Bits.{bitOr, or-add-and, and-le-l, and-le-r}
-use lib.Dec.{eqb, ltb, leb}
-use lib.ListN.{length, getD, set, length-set, drop, take}
+use lib.Dec.{eqb, ltb}
+use lib.ListN.{length, getD, set, length-set, drop, take, replicate, length-replicate}
 use lib.Seq.{drop-cons, drop-length, take-suc, take-all, getD-set-same, getD-set-other}
 use mathlib.Mathlib.Data.Bool.Basic.{or-inl, or-inr, and-elim-left, and-elim-right}
 use Rattle.prelude.proofs.Absurd.{never}
 use Rattle.prelude.proofs.Truth.{by-test, implied, by-lower}
 use Rattle.tables.specs.declared.Role.{Role}
 use Rattle.tables.specs.declared.Role.the-variants.{Plain, Condition, Body, Pattern, Name}
-use Rattle.tables.specs.Record.{Record, shape, size, headOf, isFit, operands, named, operand, roleAt, nameOf}
+use Rattle.tables.specs.Record.{Record, shape, size, headOf, isPattern, isFit, operands, named, operand, roleAt, nameOf}
 use Rattle.tables.specs.Table.{recordAt, kindAt}
 use Rattle.tables.specs.Sheet.{some, lowest, greatest, height, loose, holdsName, isCovered, isCondition, isBinder, patternOf}
 use Rattle.tables.specs.Check.{mostHeight, isOfSort, allNamed, namedBefore, isBad, hasBad, chooses, fault9}
-use Rattle.tables.specs.Laws.Tests.{each, any-false}
+use Rattle.tables.specs.Laws.Tests.{each, any-false, low, low-same}
 use Rattle.tables.specs.Laws.Operands.{operands-few, isFirst, binder-roles}
 use Rattle.tables.specs.Laws.Accepted.{Clear6, lower, operand-lower, height-at, named-count, fit-least}
 use Rattle.checking.specs.declared.sweep.Sum.{Sum}
 use Rattle.checking.specs.declared.sweep.Handed.{Handed}
 use Rattle.checking.specs.declared.sweep.Swept.{Swept}
 use Rattle.checking.specs.Scopes.{hasBit, orBits, own, bitsBelow}
-use Rattle.checking.specs.Sweeps.{without, apart, sortOf, Left, asked, isNamed, hands, stops, coveredBy, handedOn, freeOwn, Passes, Frees, Kept, Names, Sums, Passed, Closed, Settled}
+use Rattle.checking.specs.Sweeps.{without, apart, sortOf, Left, asked, isNamed, hands, stops, coveredBy, handedOn, freeOwn, Passes, Frees, Kept, Names, Sums, Entered, Passed, isTall, Closed, Settled}
 use Rattle.checking.proofs.Bits.{bit-union, bit-zero, bit-pow, held-name, held-loose, held-even}
 use Rattle.checking.proofs.Marks.{all-more}
 use Rattle.checking.proofs.Below.{Turn, turn-start, turn-more, turn-end, own-none}
-use Rattle.checking.proofs.Scan.{low-more}
+use Rattle.checking.proofs.Above.{zeros}
 use Rattle.checking.proofs.Leaving.{Due, due, left-take, left-more, sort-expression, sort-pattern, not-bad, clear}
 use Rattle.checking.proofs.Closing.{without-bit, apart-bit, low-bits, closed7, closed8}
 
@@ -287,6 +287,10 @@ literal-free : (k : ℕ) → k < 3 → isBinder k ≡ false
 unfolding shape
 literal-free k h = not-true (isBinder k) (each (λ k. not (isBinder k)) 3 refl k h)
 
+literal-expression : (k : ℕ) → k < 3 → isPattern k ≡ false
+unfolding shape
+literal-expression k h = not-true (isPattern k) (each (λ k. not (isPattern k)) 3 refl k h)
+
 pub literal : (rs : List Record) (r : ℕ) (left frees : List ℕ) (s : Sum) → r < length rs → kindAt rs r < 3 → Left rs left r (allNamed (take r rs)) → s .held ≡ 0 → s .free ≡ 0 → s .high ≡ 0 → Sums rs r left frees s
 unfolding operands
 literal rs r left frees s h lit l eh ef eg =
@@ -327,42 +331,12 @@ frees-set rs frees frees′ r v q o clear h k e f =
           (f .pass i l);
     }
 
-pub record Runs (rs : List Record) (left below frees highs : List ℕ) (least r : ℕ) : Type 0 where
-  pub within : r ≤ length rs
-  pub good : (q : ℕ) → q < r → hasBad rs q ≡ false
-  pub left-is : Left rs left r (allNamed (take r rs))
-  pub kept : Kept rs below frees highs r
-  pub low-is : Clear6 rs → least ≡ lowest (fault9 rs) r
-  pub low-within : least ≤ r
-
-pub runs-start : (rs : List Record) (left below frees highs : List ℕ) → Left rs left 0 [] → length below ≡ 200 → length frees ≡ 200 → length highs ≡ 200 → Runs rs left below frees highs 0 0
-runs-start rs left below frees highs l a b d =
-    record {
-      within = omega arith;
-      good = λ q h. absurd (omega arith);
-      left-is = l;
-      kept =
-          record {
-            long-below = a;
-            long-frees = b;
-            long-highs = d;
-            held = λ clear q h. absurd (omega arith);
-            high = λ clear q h. absurd (omega arith);
-            few = λ q h. absurd (omega arith);
-            free = λ clear q h. absurd (omega arith);
-          };
-      low-is = λ clear. refl;
-      low-within = omega arith;
-    }
-
-module _ (rs : List Record) (below frees highs : List ℕ) (least r : ℕ) (left : List ℕ) (s : Sum) (few : length rs ≤ 200) (in-table : r < length rs) (kept : Kept rs below frees highs r) (good : (q : ℕ) → q < r → hasBad rs q ≡ false) (low-is : Clear6 rs → least ≡ lowest (fault9 rs) r) (low-within : least ≤ r) (sums : Sums rs r left frees s) where
-  pub runs-more : (left′ below′ frees′ highs′ : List ℕ) (least′ x : ℕ) (tall : Bool) → x ≡ sortOf (kindAt rs r) → left′ ≡ set left r x → below′ ≡ set below r (s .held) → frees′ ≡ set frees r (s .free) → highs′ ≡ set highs r (s .high + 1) → tall ≡ ltb mostHeight (s .high + 1) → least′ ≡ cond (ltb least r) least (cond tall r (suc r)) → Runs rs left′ below′ frees′ highs′ least′ (r + 1)
-  unfolding fault9
-  runs-more left′ below′ frees′ highs′ least′ x tall ex el eb ef eg et en =
+module _ (rs : List Record) (below frees highs : List ℕ) (r : ℕ) (left : List ℕ) (s : Sum) (few : length rs ≤ 200) (in-table : r < length rs) (kept : Kept rs below frees highs r) (sums : Sums rs r left frees s) where
+  pub entered : (left′ below′ frees′ highs′ : List ℕ) (x : ℕ) → x ≡ sortOf (kindAt rs r) → left′ ≡ set left r x → below′ ≡ set below r (s .held) → frees′ ≡ set frees r (s .free) → highs′ ≡ set highs r (s .high + 1) → Entered rs r left′ below′ frees′ highs′
+  entered left′ below′ frees′ highs′ x ex el eb ef eg =
       record {
-        within = omega arith;
-        good = λ q h. by-lower q r (λ k. good q k) (λ k. let same : q ≡ r = omega arith in rw same (sums .good));
-        left-is = rw (add-one r) at-next;
+        good = sums .good;
+        left-is = left-more rs r (allNamed (take (suc r) rs)) left left′ x (sums .left-is) (omega arith) ex el;
         kept =
             record {
               long-below = rw eb (length-set below r (s .held) ∙ kept .long-below);
@@ -371,47 +345,119 @@ module _ (rs : List Record) (below frees highs : List ℕ) (least r : ℕ) (left
               held = λ clear. set-more (λ q x. x ≡ bitsBelow rs q) below below′ r (s .held) (omega (arith, kept .long-below)) (kept .held clear) (sums .held clear) eb;
               high = λ clear. set-more (λ q x. x ≡ height rs q) highs highs′ r (s .high + 1) (omega (arith, kept .long-highs)) (kept .high clear) (sums .high clear) eg;
               few = set-more (λ q x. x ≤ q + 1) highs highs′ r (s .high + 1) (omega (arith, kept .long-highs)) (kept .few) (omega (arith, sums .few)) eg;
+              zero-below = λ q h. ap (λ (ys : List ℕ). getD ys q 0) eb ∙ getD-set-other below r q (s .held) 0 (λ same. omega arith) ∙ kept .zero-below q (omega arith);
+              zero-frees = λ q h. ap (λ (ys : List ℕ). getD ys q 0) ef ∙ getD-set-other frees r q (s .free) 0 (λ same. omega arith) ∙ kept .zero-frees q (omega arith);
               free =
                   λ clear q h.
                   frees-set rs frees frees′ r (s .free) q (getD frees′ q 0) clear (omega arith) (omega arith) ef
                   (set-more (λ q x. Frees rs frees q x) frees frees′ r (s .free) (omega (arith, kept .long-frees)) (kept .free clear) (sums .free clear) ef q h);
             };
-        low-is = λ clear. low-more (fault9 rs) least r least′ tall (low-is clear) (et ∙ ap (ltb mostHeight) (sums .high clear)) en;
-        low-within = rw en (next-within (ltb least r) tall);
       }
-    where
-      at-next : Left rs left′ (suc r) (allNamed (take (suc r) rs))
-      at-next = rw (add-one r) at (left-more rs r (allNamed (take (suc r) rs)) left left′ x (sums .left-is) (omega arith) ex el)
 
-      next-within : (a b : Bool) → cond a least (cond b r (suc r)) ≤ r + 1
-      next-within true b = omega arith
-      next-within false true = omega arith
-      next-within false false = omega arith
+-- To set an entry to what it is changes nothing.
+set-own : (xs : List ℕ) (r : ℕ) → xs ≡ set xs r (getD xs r 0)
+set-own [] r = refl
+set-own (x ∷ xs) zero = refl
+set-own (x ∷ xs) (suc r) = ap (λ (ys : List ℕ). x ∷ ys) (set-own xs r)
 
-pub runs-end : (rs : List Record) (left below frees highs : List ℕ) (least r : ℕ) → Runs rs left below frees highs least r → length rs ≤ r → Passed rs left frees least
-runs-end rs left below frees highs least r o h =
+pub entered-literal : (rs : List Record) (below frees highs : List ℕ) (r : ℕ) (left : List ℕ) → length rs ≤ 200 → r < length rs → kindAt rs r < 3 → Left rs left r (allNamed (take r rs)) → Kept rs below frees highs r → Entered rs r (set left r 1) below frees (set highs r 1)
+entered-literal rs below frees highs r left few h lit l kept =
+    entered rs below frees highs r left nothing few h kept (literal rs r left frees nothing h lit l refl refl refl) (set left r 1) below frees (set highs r 1) 1
+    (sort-literal (kindAt rs r) lit) refl
+    (set-own below r ∙ ap (set below r) (kept .zero-below r (omega arith))) (set-own frees r ∙ ap (set frees r) (kept .zero-frees r (omega arith))) refl
+  where
+    nothing : Sum
+    nothing = record { fine = true; held = 0; free = 0; high = 0 }
+
+    sort-literal : (k : ℕ) → k < 3 → 1 ≡ sortOf k
+    sort-literal k h = sym (rw (literal-expression k h))
+
+-- ---- all records
+
+pub record Runs (rs : List Record) (left below frees highs : List ℕ) (r : ℕ) : Type 0 where
+  pub within : r ≤ length rs
+  pub good : (q : ℕ) → q < r → hasBad rs q ≡ false
+  pub left-is : Left rs left r (allNamed (take r rs))
+  pub kept : Kept rs below frees highs r
+
+pub none-kept : (rs : List Record) → Kept rs (replicate 200 0) (replicate 200 0) (replicate 200 0) 0
+none-kept rs =
+    record {
+      long-below = length-replicate {A = ℕ} 200 0;
+      long-frees = length-replicate {A = ℕ} 200 0;
+      long-highs = length-replicate {A = ℕ} 200 0;
+      held = λ clear q h. absurd (omega arith);
+      high = λ clear q h. absurd (omega arith);
+      few = λ q h. absurd (omega arith);
+      zero-below = λ q h. zeros 200 q;
+      zero-frees = λ q h. zeros 200 q;
+      free = λ clear q h. absurd (omega arith);
+    }
+
+pub runs-start : (rs : List Record) (left below frees highs : List ℕ) → Left rs left 0 [] → Kept rs below frees highs 0 → Runs rs left below frees highs 0
+runs-start rs left below frees highs l k = record { within = omega arith; good = λ q h. absurd (omega arith); left-is = l; kept = k }
+
+pub runs-more : (rs : List Record) (left below frees highs left′ below′ frees′ highs′ : List ℕ) (r : ℕ) → r < length rs → Runs rs left below frees highs r → Entered rs r left′ below′ frees′ highs′ → Runs rs left′ below′ frees′ highs′ (r + 1)
+runs-more rs left below frees highs left′ below′ frees′ highs′ r h o e =
+    record {
+      within = omega arith;
+      good = λ q k. by-lower q r (λ l. o .good q l) (λ l. let same : q ≡ r = omega arith in rw same (e .good));
+      left-is = subst (λ (n : ℕ). Left rs left′ (r + 1) (allNamed (take n rs))) (sym (add-one r)) (e .left-is);
+      kept = e .kept;
+    }
+
+pub runs-end : (rs : List Record) (left below frees highs : List ℕ) (r : ℕ) → Runs rs left below frees highs r → length rs ≤ r → Passed rs left frees highs
+runs-end rs left below frees highs r o h =
     let all : r ≡ length rs = omega (arith, o .within) in
     record {
       good = λ q k. o .good q (omega arith);
       left-is = subst (λ (n : ℕ). Left rs left n (allNamed rs)) all (subst (λ (xs : List Record). Left rs left r (allNamed xs)) (take-all r rs h) (o .left-is));
       free = λ clear q k. o .kept .free clear q (omega arith);
-      low-is = λ clear. o .low-is clear ∙ ap (lowest (fault9 rs)) all;
+      high = λ clear q k. o .kept .high clear q (omega arith);
     }
 
-pub settled : (rs : List Record) (left frees : List ℕ) (last : ℕ) (s : Swept) → suc last ≡ length rs → length rs ≤ 200 → Passed rs left frees (s .low) → Closed left frees last → Settled rs s
-settled rs left frees last s e few p c =
+-- Two tests that agree below n have the same lowest.
+lowest-same : (s t : ℕ → Bool) (n : ℕ) → ((q : ℕ) → q < n → s q ≡ t q) → lowest s n ≡ lowest t n
+lowest-same s t n e =
+    low-same t
+    (record {
+      within = low s n .within;
+      hit = λ h. sym (e (lowest s n) h) ∙ low s n .hit h;
+      miss = λ q h. sym (e q (omega (arith, low s n .within))) ∙ low s n .miss q h;
+    })
+    (low t n)
+
+pub settled : (rs : List Record) (left frees highs : List ℕ) (last n : ℕ) (s : Swept) → suc last ≡ length rs → n ≡ length rs → length rs ≤ 200 → Passed rs left frees highs → Closed left frees last → s .low ≡ lowest (isTall highs) n → Settled rs s
+unfolding fault9
+settled rs left frees highs last n s e all few p c l =
     let six : Clear6 rs = clear rs left last e few (p .good) (p .left-is) (c .none) (c .one) in
     record {
       clear6 = six;
       clear7 = closed7 rs six frees (p .free six) last e (λ n. low-bits (getD frees last 0) n (c .shut));
       clear8 = closed8 rs six frees (p .free six) last e (λ n. low-bits (getD frees last 0) n (c .shut));
-      low = p .low-is six;
+      low = l ∙ ap (lowest (isTall highs)) all ∙ lowest-same (isTall highs) (fault9 rs) (length rs) (λ q h. ap (ltb mostHeight) (p .high six q h));
     }
 
--- ---- numbers
+-- ---- rule 9
 
-pub tall-is : (high : ℕ) → leb mostHeight high ≡ ltb mostHeight (high + 1)
-tall-is high = by-lower high mostHeight (λ h. lt-leb mostHeight high h ∙ sym (le-ltb mostHeight (high + 1) (omega arith))) (λ h. le-leb mostHeight high h ∙ sym (lt-ltb mostHeight (high + 1) (omega arith)))
+-- The lowest is n where no test below it passes, and r where r is the first that does.
+pub lowest-none : (highs : List ℕ) (n x : ℕ) → ((q : ℕ) → q < n → getD highs q 0 ≤ x) → x ≤ mostHeight → n ≡ lowest (isTall highs) n
+lowest-none highs n x a h =
+    low-same (isTall highs) (record { within = omega arith; hit = λ k. absurd (omega arith); miss = λ q k. le-ltb mostHeight (getD highs q 0) (omega (arith, a q k)) }) (low (isTall highs) n)
+
+pub lowest-first : (highs : List ℕ) (n r : ℕ) → r ≤ n → ((q : ℕ) → q < r → isTall highs q ≡ false) → (r < n → mostHeight < getD highs r 0) → r ≡ lowest (isTall highs) n
+lowest-first highs n r w a h =
+    low-same (isTall highs) (record { within = w; hit = λ k. lt-ltb mostHeight (getD highs r 0) (h k); miss = a }) (low (isTall highs) n)
+
+pub short-more : (highs : List ℕ) (r : ℕ) → ((q : ℕ) → q < r → isTall highs q ≡ false) → getD highs r 0 ≤ mostHeight → (q : ℕ) → q < r + 1 → isTall highs q ≡ false
+short-more highs r a h q k = by-lower q r (λ l. a q l) (λ l. let same : q ≡ r = omega arith in rw same (le-ltb mostHeight (getD highs r 0) h))
+
+pub max-more : (xs : List ℕ) (x y i : ℕ) → ((q : ℕ) → q < i → getD xs q 0 ≤ x) → y ≡ max x (getD xs i 0) → (q : ℕ) → q < i + 1 → getD xs q 0 ≤ y
+max-more xs x y i a e q h =
+    by-lower q i (λ k. omega (arith, a q k))
+    (λ k. let same : getD xs q 0 ≡ getD xs i 0 = (let at : q ≡ i = omega arith in ap (λ (j : ℕ). getD xs j 0) at) in omega arith)
+
+-- ---- numbers
 
 or-left : (a b : ℕ) → a ≤ bitOr a b
 or-left a b = omega (arith, or-add-and a b, and-le-r a b)

@@ -19,7 +19,7 @@ use Rattle.prelude.proofs.Truth.{by-lower}
 use Rattle.tables.specs.Laws.Tests.{in-append, low}
 use Rattle.tables.specs.Accepted.{records}
 use Rattle.checking.proofs.Scan.{low-more, lowest-either}
-use Rattle.checking.specs.Naming.{Marked, MarkedOne, MarkedAll}
+use Rattle.checking.specs.Naming.{Marked, MarkedOne, MarkedNext, MarkedAll}
 
 -- ---- one mark
 
@@ -83,6 +83,22 @@ operands-more rs r i n marks marks′ bad bad′ fault o h is e f m =
           rw (add-one i, take-suc (named (recordAt rs r)) i 0 h, sym (append-assoc (allNamed (take r rs)) (take i (named (recordAt rs r))) (operand (recordAt rs r) i ∷ [])), sym is) m;
     }
 
+-- The same of the marks alone.
+pub record Names (rs : List Record) (r : ℕ) (marks : List ℕ) (i : ℕ) : Type 0 where
+  pub within : i ≤ length (named (recordAt rs r))
+  pub marked : Marked marks (namedBefore rs r i)
+
+pub names-start : (rs : List Record) (r : ℕ) (marks : List ℕ) → Marked marks (allNamed (take r rs)) → Names rs r marks 0
+names-start rs r marks m = record { within = omega arith; marked = rw (append-nil (allNamed (take r rs))) m }
+
+pub names-more : (rs : List Record) (r i n : ℕ) (marks : List ℕ) → i < length (named (recordAt rs r)) → n ≡ operand (recordAt rs r) i → Marked marks (namedBefore rs r i ++ (n ∷ [])) → Names rs r marks (i + 1)
+names-more rs r i n marks h is m =
+    record {
+      within = omega arith;
+      marked =
+          rw (add-one i, take-suc (named (recordAt rs r)) i 0 h, sym (append-assoc (allNamed (take r rs)) (take i (named (recordAt rs r))) (operand (recordAt rs r) i ∷ [])), sym is) m;
+    }
+
 -- All that a list of records names, with one record more.
 all-append : (rs qs : List Record) → allNamed (rs ++ qs) ≡ allNamed rs ++ allNamed qs
 all-append [] qs = refl
@@ -102,7 +118,18 @@ operands-end table r marks bad i h o l =
           rw (all-more (records table) r h, sym (take-all i (named (recordAt (records table) r)) l)) (o .marked);
     }
 
+pub names-end : (rs : List Record) (r i : ℕ) (marks : List ℕ) → r < length rs → Names rs r marks i → length (named (recordAt rs r)) ≤ i → Marked marks (allNamed (take (suc r) rs))
+names-end rs r i marks h o l = rw (all-more rs r h, sym (take-all i (named (recordAt rs r)) l)) (o .marked)
+
 -- ---- all records
+
+-- What is found stays.
+pub next-found : (table marks : List ℕ) (l r : ℕ) → l ≡ lowest (hasBad (records table)) r → l < r → Marked marks (allNamed (take (suc r) (records table))) → MarkedNext table r marks l
+next-found table marks l r e h m =
+    record { is = low-more (hasBad (records table)) l r l (hasBad (records table) r) e refl (sym (rw (lt-ltb l r h))); marked = m }
+
+pub next-marked : (table marks : List ℕ) (l r p : ℕ) (bad : Bool) → l ≡ lowest (hasBad (records table)) r → MarkedOne table r marks bad → p ≡ cond (ltb l r) l (cond bad r (suc r)) → MarkedNext table r marks p
+next-marked table marks l r p bad e m f = record { is = low-more (hasBad (records table)) l r p bad e (m .is) f; marked = m .marked }
 
 pub record Records (rs : List Record) (marks : List ℕ) (low r : ℕ) : Type 0 where
   pub within : r ≤ length rs
@@ -112,13 +139,8 @@ pub record Records (rs : List Record) (marks : List ℕ) (low r : ℕ) : Type 0 
 pub records-start : (rs : List Record) (marks : List ℕ) → Marked marks [] → Records rs marks 0 0
 records-start rs marks m = record { within = omega arith; is = refl; marked = m }
 
-pub records-more : (table marks marks′ : List ℕ) (l r p : ℕ) (bad : Bool) → Records (records table) marks l r → r < length (records table) → MarkedOne table r marks′ bad → p ≡ cond (ltb l r) l (cond bad r (suc r)) → Records (records table) marks′ p (r + 1)
-records-more table marks marks′ l r p bad o h m e =
-    record {
-      within = omega arith;
-      is = low-more (hasBad (records table)) l r p bad (o .is) (m .is) e;
-      marked = rw (add-one r) (m .marked);
-    }
+pub records-more : (table marks marks′ : List ℕ) (l r p : ℕ) → Records (records table) marks l r → r < length (records table) → MarkedNext table r marks′ p → Records (records table) marks′ p (r + 1)
+records-more table marks marks′ l r p o h m = record { within = omega arith; is = m .is; marked = rw (add-one r) (m .marked) }
 
 pub records-end : (table marks : List ℕ) (l r : ℕ) → Records (records table) marks l r → length (records table) ≤ r → MarkedAll table marks l
 records-end table marks l r o h =

@@ -2,7 +2,7 @@
 use mathlib.Core.Path.{_≡_}
 use mathlib.Core.Bool.{Bool}
 use mathlib.Core.List.{List, []}
-use Prim.Native.Nat.{ℕ, suc, _<_}
+use Prim.Native.Nat.{ℕ, suc, _+_, _<_}
 use lib.Dec.{eqb}
 use lib.ListN.{length, getD, take}
 use Rattle.tables.specs.Sheet.{lowest, isIn}
@@ -25,6 +25,14 @@ pub record AskMarks (table index : List ℕ) (r : ℕ) (marks : List ℕ) : Type
 
 pub record MarkedOne (table : List ℕ) (r : ℕ) (marks : List ℕ) (bad : Bool) : Type 0 where
   pub is : bad ≡ hasBad (records table) r
+  pub marked : Marked marks (allNamed (take (suc r) (records table)))
+
+pub record AskNext (table index : List ℕ) (r low : ℕ) (marks : List ℕ) : Type 0 where
+  pub ask : AskMarks table index r marks
+  pub is : low ≡ lowest (hasBad (records table)) r
+
+pub record MarkedNext (table : List ℕ) (r : ℕ) (marks : List ℕ) (low : ℕ) : Type 0 where
+  pub is : low ≡ lowest (hasBad (records table)) (r + 1)
   pub marked : Marked marks (allNamed (take (suc r) (records table)))
 
 -- A table with an index, and the number of its records.

@@ -11,7 +11,7 @@ use Rattle.tables.specs.declared.Role.the-variants.{Plain, Condition, Body, Pat
 use Rattle.tables.specs.Record.{Record, isPattern, named, operand, roleAt, nameOf}
 use Rattle.tables.specs.Table.{recordAt, kindAt}
 use Rattle.tables.specs.Sheet.{lowest, isIn, height, holdsName, isCovered, isCondition, isBinder, patternOf}
-use Rattle.tables.specs.Check.{mostRecords, allNamed, hasBad, chooses, fault7, fault8, fault9}
+use Rattle.tables.specs.Check.{mostRecords, mostHeight, allNamed, hasBad, chooses, fault7, fault8, fault9}
 use Rattle.tables.specs.Accepted.{records}
 use Rattle.tables.specs.Laws.Accepted.{Clear6}
 use Rattle.tables.specs.Reading.{Here}
@@ -108,6 +108,8 @@ pub record Kept (rs : List Record) (below frees highs : List ℕ) (r : ℕ) : Ty
   pub held : Clear6 rs → (q : ℕ) → q < r → getD below q 0 ≡ bitsBelow rs q
   pub high : Clear6 rs → (q : ℕ) → q < r → getD highs q 0 ≡ height rs q
   pub few : (q : ℕ) → q < r → getD highs q 0 ≤ q + 1
+  pub zero-below : (q : ℕ) → r ≤ q → getD below q 0 ≡ 0
+  pub zero-frees : (q : ℕ) → r ≤ q → getD frees q 0 ≡ 0
   pub free : Clear6 rs → (q : ℕ) → q < r → Frees rs frees q (getD frees q 0)
 
 pub record AskSum (table index : List ℕ) (r : ℕ) (left below frees highs : List ℕ) : Type 0 where
@@ -137,19 +139,27 @@ pub record Sums (rs : List Record) (r : ℕ) (left frees : List ℕ) (s : Sum) :
   pub few : s .high ≤ r
   pub free : Clear6 rs → Frees rs frees r (s .free)
 
+-- What is known once it is entered.
+pub record Entered (rs : List Record) (r : ℕ) (left below frees highs : List ℕ) : Type 0 where
+  pub good : hasBad rs r ≡ false
+  pub left-is : Left rs left (r + 1) (allNamed (take (suc r) rs))
+  pub kept : Kept rs below frees highs (r + 1)
+
 pub record AskSweep (table index : List ℕ) (count : ℕ) (left below frees highs : List ℕ) : Type 0 where
   pub whole : Whole table index count
   pub left-is : Left (records table) left 0 []
-  pub long-below : length below ≡ mostRecords
-  pub long-frees : length frees ≡ mostRecords
-  pub long-highs : length highs ≡ mostRecords
+  pub kept : Kept (records table) below frees highs 0
 
 -- What is known after all records.
-pub record Passed (rs : List Record) (left frees : List ℕ) (low : ℕ) : Type 0 where
+pub record Passed (rs : List Record) (left frees highs : List ℕ) : Type 0 where
   pub good : (q : ℕ) → q < length rs → hasBad rs q ≡ false
   pub left-is : Left rs left (length rs) (allNamed rs)
   pub free : Clear6 rs → (q : ℕ) → q < length rs → Frees rs frees q (getD frees q 0)
-  pub low-is : Clear6 rs → low ≡ lowest (fault9 rs) (length rs)
+  pub high : Clear6 rs → (q : ℕ) → q < length rs → getD highs q 0 ≡ height rs q
+
+-- Rule 9, of the heights.
+abbrev pub isTall : List ℕ → ℕ → Bool
+isTall highs q = ltb mostHeight (getD highs q 0)
 
 -- The last record is an expression, with no name free, and the only one left.
 pub record Closed (left frees : List ℕ) (last : ℕ) : Type 0 where

@@ -1,13 +1,13 @@
 // Rule 6: operands lower, of their sort and named once; no record but the last without a name; no pattern as the last.
 ghost use mathlib.Core.Path.{_≡_};
 ghost use mathlib.Core.List.{List, [], _∷_, _++_};
-ghost use Prim.Native.Nat.{ℕ, _+_, _<_};
+ghost use Prim.Native.Nat.{ℕ, suc, _+_, _<_};
 ghost use lib.Dec.{eqb};
-ghost use lib.ListN.{getD};
-ghost use Rattle.tables.specs.Check.{mostRecords, isOfSort, isBad, isStray, fault6};
+ghost use lib.ListN.{getD, take};
+ghost use Rattle.tables.specs.Check.{mostRecords, allNamed, isOfSort, isBad, isStray, fault6};
 ghost use Rattle.tables.specs.Sheet.{lowest as lowestOf};
 ghost use Rattle.tables.specs.Accepted.{records};
-ghost use Rattle.checking.specs.Naming.{Marked, AskBad, AskMarks, MarkedOne, Whole, AskAll, MarkedAll, AskStray};
+ghost use Rattle.checking.specs.Naming.{Marked, AskBad, AskMarks, MarkedOne, AskNext, MarkedNext, Whole, AskAll, MarkedAll, AskStray};
 use crate::lowest::either;
 use crate::lowest::lower;
 use crate::lowest::next_low;
@@ -85,6 +85,38 @@ fn mark_operands(table: &[u8], index: &Index, r: usize, marks: &mut [u8; MOST_RE
     bad
 }
 
+// Marks the numbers that record r names.
+fn mark_named(table: &[u8], index: &Index, r: usize, marks: &mut [u8; MOST_RECORDS])
+    requires { ⌜ AskMarks (now table) (now index) r (now marks) ⌝ }
+    ensures { λ _. ⌜ Marked (now (marks .exit)) (allNamed (take (suc r) (records (now (table .entry))))) ⌝ }
+{
+    let count = operand_count(table, index, r);
+    let mut i = 0;
+    while i < count {
+        mark(marks, operand(table, index, r, i));
+        i += 1;
+    }
+}
+
+// The lowest record up to r with an operand at fault, where `low` is the lowest below r (r where there is none); marks the numbers that r names.
+fn mark_next(
+    table: &[u8],
+    index: &Index,
+    r: usize,
+    low: usize,
+    marks: &mut [u8; MOST_RECORDS],
+) -> usize
+    requires { ⌜ AskNext (now table) (now index) r low (now marks) ⌝ }
+    ensures { λ p. ⌜ MarkedNext (now (table .entry)) r (now (marks .exit)) p ⌝ }
+{
+    if low < r {
+        mark_named(table, index, r, marks);
+        return low;
+    }
+    let bad = mark_operands(table, index, r, marks);
+    next_low(low, r, bad)
+}
+
 // The lowest record with an operand at fault; marks all numbers that are named.
 fn mark_all(table: &[u8], index: &Index, count: usize, marks: &mut [u8; MOST_RECORDS]) -> usize
     requires { ⌜ AskAll (now table) (now index) count (now marks) ⌝ }
@@ -93,8 +125,7 @@ fn mark_all(table: &[u8], index: &Index, count: usize, marks: &mut [u8; MOST_REC
     let mut low = 0;
     let mut r = 0;
     while r < count {
-        let bad = mark_operands(table, index, r, marks);
-        low = next_low(low, r, bad);
+        low = mark_next(table, index, r, low, marks);
         r += 1;
     }
     low

@@ -1,23 +1,21 @@
 // One pass over the records that settles every table which keeps rules 6 to 8; where it finds a fault, the passes rule by rule tell which.
 ghost use mathlib.Core.Path.{_≡_};
 ghost use mathlib.Core.Bool.{true, false};
-ghost use Prim.Native.Nat.{ℕ, _+_, _<_, _≤_};
-ghost use lib.Dec.{ltb};
+ghost use Prim.Native.Nat.{ℕ, _<_, _≤_, max};
 ghost use lib.ListN.{getD};
 ghost use Rattle.tables.specs.Table.{recordAt, kindAt};
-ghost use Rattle.tables.specs.Check.{mostRecords, mostHeight};
+ghost use Rattle.tables.specs.Sheet.{lowest as lowestOf};
+ghost use Rattle.tables.specs.Check.{mostRecords};
 ghost use Rattle.tables.specs.Accepted.{records};
 ghost use Rattle.tables.specs.Reading.{Here};
 ghost use Rattle.checking.specs.Naming.{Whole};
-ghost use Rattle.checking.specs.Sweeps.{without as withoutOf, apart, sortOf, asked, isNamed, coveredBy, handedOn, freeOwn, Names, AskNames, AskSum, AskGather, Sums, AskSweep, Passed, Closed, Settled};
+ghost use Rattle.checking.specs.Sweeps.{without as withoutOf, apart, sortOf, asked, isNamed, coveredBy, handedOn, freeOwn, Names, AskNames, AskSum, AskGather, Sums, Entered, AskSweep, Passed, isTall, Closed, Settled};
 use crate::height::higher;
-use crate::lowest::next_low;
 use crate::scope::bit;
 use crate::scope::has;
 use crate::scope::own;
 use crate::scope::union;
 use tables::Index;
-use tables::MOST_HEIGHT;
 use tables::MOST_RECORDS;
 use tables::Role;
 use tables::kinds;
@@ -36,6 +34,8 @@ pub type Left = [u8; 256];
 const EXPRESSION: u8 = 1;
 
 const PATTERN: u8 = 2;
+
+const HIGHEST: u8 = 32;
 
 // The first bit of a name; a choice is bit 0.
 const CHOICE: u32 = 1;
@@ -243,32 +243,6 @@ fn stop() -> Sum
     }
 }
 
-// The same, where literals, which have no operands, are told first.
-fn summed(
-    table: &[u8],
-    index: &Index,
-    r: usize,
-    left: &mut Left,
-    below: &[u32; MOST_RECORDS],
-    frees: &[u32; MOST_RECORDS],
-    highs: &[u8; MOST_RECORDS],
-) -> Sum
-    requires { ⌜ AskSum (now table) (now index) r (now left) (now below) (now frees) (now highs) ⌝ }
-    ensures { λ s. ⌜ (s .fine ≡ true → Sums (records (now (table .entry))) r (now (left .exit)) (now (frees .entry)) s) ⌝ }
-{
-    let k = kind(table, index, r);
-    if k < kinds::NAME {
-        return Sum {
-            fine: true,
-            held: 0,
-            free: 0,
-            high: 0,
-        };
-    }
-    let names = names_of(table, index, r, below);
-    gather(table, index, r, names, left, below, frees, highs)
-}
-
 // ---- all records
 
 fn sort_of(kind: usize) -> u8
@@ -280,15 +254,42 @@ fn sort_of(kind: usize) -> u8
     EXPRESSION
 }
 
-// A record over operands of this height breaks rule 9.
-fn is_tall(high: usize) -> bool
-    ensures { λ b. ⌜ b ≡ ltb mostHeight (high + 1) ⌝ }
+// Enters record r with what it and its operands come to, and leaves it to be named; false where a rule is broken. A literal has no operands,
+// and holds and leaves nothing.
+fn enter(
+    table: &[u8],
+    index: &Index,
+    r: usize,
+    left: &mut Left,
+    below: &mut [u32; MOST_RECORDS],
+    frees: &mut [u32; MOST_RECORDS],
+    highs: &mut [u8; MOST_RECORDS],
+) -> bool
+    requires { ⌜ AskSum (now table) (now index) r (now left) (now below) (now frees) (now highs) ⌝ }
+    ensures { λ b. ⌜ (b ≡ true → Entered (records (now (table .entry))) r (now (left .exit)) (now (below .exit)) (now (frees .exit)) (now (highs .exit))) ⌝ }
 {
-    MOST_HEIGHT <= high
+    let k = kind(table, index, r);
+    if k < kinds::NAME {
+        left[r] = EXPRESSION;
+        highs[r] = 1;
+        return true;
+    }
+    let names = names_of(table, index, r, below);
+    let s = gather(table, index, r, names, left, below, frees, highs);
+    let fine = s.fine;
+    if !fine {
+        return false;
+    }
+    left[r] = sort_of(k);
+    below[r] = s.held;
+    frees[r] = s.free;
+    let high = s.high;
+    highs[r] = (high + 1) as u8;
+    true
 }
 
-// Takes in all records, from the first on.
-fn take_in(
+// Enters all records, from the first on.
+fn enter_all(
     table: &[u8],
     index: &Index,
     count: usize,
@@ -296,31 +297,62 @@ fn take_in(
     below: &mut [u32; MOST_RECORDS],
     frees: &mut [u32; MOST_RECORDS],
     highs: &mut [u8; MOST_RECORDS],
-) -> Swept
+) -> bool
     requires { ⌜ AskSweep (now table) (now index) count (now left) (now below) (now frees) (now highs) ⌝ }
-    ensures { λ s. ⌜ (s .fine ≡ true → Passed (records (now (table .entry))) (now (left .exit)) (now (frees .exit)) (s .low)) ⌝ }
+    ensures { λ b. ⌜ (b ≡ true → Passed (records (now (table .entry))) (now (left .exit)) (now (frees .exit)) (now (highs .exit))) ⌝ }
 {
-    let mut low = 0;
     let mut r = 0;
     while r < count {
-        let s = summed(table, index, r, left, below, frees, highs);
-        let fine = s.fine;
+        let fine = enter(table, index, r, left, below, frees, highs);
         if !fine {
-            return Swept {
-                fine: false,
-                low: 0,
-            };
+            return false;
         }
-        left[r] = sort_of(kind(table, index, r));
-        below[r] = s.held;
-        frees[r] = s.free;
-        let high = s.high;
-        highs[r] = (high + 1) as u8;
-        low = next_low(low, r, is_tall(high));
         r += 1;
     }
-    Swept { fine: true, low }
+    true
 }
+
+// ---- rule 9
+
+fn higher_byte(a: u8, b: u8) -> u8
+    ensures { λ x. ⌜ x ≡ max a b ⌝ }
+{
+    if a < b { b } else { a }
+}
+
+// No height is greater.
+fn greatest(highs: &[u8; MOST_RECORDS], count: usize) -> u8
+    requires { ⌜ count ≤ mostRecords ⌝ }
+    ensures { λ x. ⌜ ((q : ℕ) → q < count → getD (now (highs .entry)) q 0 ≤ x) ⌝ }
+{
+    let mut x = 0;
+    let mut i = 0;
+    while i < count {
+        x = higher_byte(x, highs[i]);
+        i += 1;
+    }
+    x
+}
+
+// The lowest height over 32; the number of records where there is none.
+fn lowest_tall(highs: &[u8; MOST_RECORDS], count: usize) -> usize
+    requires { ⌜ count ≤ mostRecords ⌝ }
+    ensures { λ p. ⌜ p ≡ lowestOf (isTall (now (highs .entry))) count ⌝ }
+{
+    if greatest(highs, count) <= HIGHEST {
+        return count;
+    }
+    let mut r = 0;
+    while r < count {
+        if HIGHEST < highs[r] {
+            return r;
+        }
+        r += 1;
+    }
+    count
+}
+
+// ---- the pass
 
 // No record below n is left where this is 0.
 fn left_below(left: &Left, n: usize) -> u8
@@ -359,7 +391,7 @@ pub fn sweep(table: &[u8], index: &Index, count: usize) -> Swept
     let mut below = [0u32; MOST_RECORDS];
     let mut frees = [0u32; MOST_RECORDS];
     let mut highs = [0u8; MOST_RECORDS];
-    let s = take_in(
+    let fine = enter_all(
         table,
         index,
         count,
@@ -368,9 +400,11 @@ pub fn sweep(table: &[u8], index: &Index, count: usize) -> Swept
         &mut frees,
         &mut highs,
     );
-    let fine = s.fine;
     if !fine {
-        return s;
+        return Swept {
+            fine: false,
+            low: 0,
+        };
     }
     let closed = is_closed(&left, &frees, count - 1);
     if !closed {
@@ -379,5 +413,8 @@ pub fn sweep(table: &[u8], index: &Index, count: usize) -> Swept
             low: 0,
         };
     }
-    s
+    Swept {
+        fine: true,
+        low: lowest_tall(&highs, count),
+    }
 }

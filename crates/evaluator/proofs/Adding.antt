@@ -27,15 +27,17 @@ use Rattle.evaluator.specs.declared.Outcome.{Outcome}
 use Rattle.evaluator.specs.declared.Outcome.the-variants.{Value as HasValue}
 use Rattle.bindings.specs.declared.Cursor.{Cursor}
 use Rattle.parts.specs.declared.words.Env.{Env}
-use Rattle.evaluator.specs.declared.Placed.{Placed}
-use Rattle.evaluator.specs.declared.Held.{Held}
+use Rattle.evaluator.specs.Binding.{Placed}
+use Rattle.evaluator.specs.Binding.{Held}
 use Rattle.evaluator.specs.Building.{Enumerated, builtKind, addTo, Pending, going, halted, AddHeld, AddsNext, EnterHeld, EntersNext}
 use Rattle.evaluator.specs.Contract.{Ask, Around, ended, Comes, meant, operandAt, refusedAs}
-use Rattle.evaluator.specs.Binding.{Standing, Stands, Insides, holdsIn, Tests, kindFor, addsIn, stepIn, BuiltAt, Extends, Extended, builtAs}
+use Rattle.evaluator.specs.Binding.{Standing, Stands, Insides, holdsIn, Tests, kindFor, addsIn, stepIn, BuiltAt, Extends, Extended}
+use Rattle.evaluator.specs.Word.{outcomeOf, ending, wordOf, builtWord}
+use Rattle.evaluator.proofs.Wording.{decoded}
 use Rattle.evaluator.proofs.Framing.{around-kept}
 use Rattle.evaluator.proofs.Coming.{comes-on, comes-stop, comes-as, comes-sound, comes-held, comes-value, comes-refused}
 use Rattle.evaluator.proofs.Standing.{standing-kept}
-use Rattle.evaluator.proofs.Tables.{fine-of}
+use Rattle.evaluator.proofs.Tables.{small-place, fine-of}
 use Rattle.evaluator.proofs.Opening.{ask-again}
 
 -- ---- room for a value above the level
@@ -49,10 +51,10 @@ module _ {table index : List ℕ} {r : ℕ} {s : List ℕ} {base : ℕ} {env : E
 
 -- ---- what was built, as an outcome
 
-pending-comes : {k : ℕ} {t : List ℕ} {at bad : ℕ} (r : ℕ) {c : Choices} {b : Built} → Invariant c → Pending k t at bad b → Comes (builtAt r b) (λ ws. At t at (collection (builtKind k) ws)) c (ended (builtAs bad r) c)
-pending-comes {bad = bad} r h (going e a) = rw (eq-eqb bad 0 e) (comes-value h a)
-pending-comes {k} {t} {at} {bad} r {c} h (halted {n = m} e l) =
-    rw (ne-eqb bad 0 (λ z. omega arith)) (subst (λ (y : ℕ). Comes (stop m r) (λ ws. At t at (collection (builtKind k) ws)) c (refusedAs y r c)) (sym e) (comes-refused m r h))
+pending-comes : {k : ℕ} {t : List ℕ} {at bad : ℕ} (r : ℕ) → r < 65536 → {c : Choices} {b : Built} → Invariant c → Pending k t at bad b → Comes (builtAt r b) (λ ws. At t at (collection (builtKind k) ws)) c (ending (builtWord bad r) c)
+pending-comes {bad = bad} r m h (going e a) = rw (eq-eqb bad 0 e) (comes-value h a)
+pending-comes {k} {t} {at} {bad} r low {c} h (halted {n = m} e l u) =
+    rw (ne-eqb bad 0 (λ z. omega arith)) (subst (λ (y : Outcome). Comes (stop m r) (λ ws. At t at (collection (builtKind k) ws)) c (ended y c)) (sym (decoded {n = m} (omega arith) low (omega arith) (ap (λ (y : ℕ). wordOf y r 0) e))) (comes-refused m r h))
 
 -- ---- an element: 18, 19
 
@@ -93,7 +95,7 @@ module _ {table index : List ℕ} {r k : ℕ} {s : List ℕ} {base : ℕ} {env :
           room = omega (arith, room-two (a .stands .asked) l, o .turned (a .stands .bindings) (a .stands .standing) .low .long);
         }
 
-    pub item-done : {u : List ℕ} {bad : ℕ} → AddsNext (k - 11) t u (base + 1024) 0 bad → {y : Placed} → y .outcome ≡ builtAs bad r → y .cursor ≡ x .cursor → Extended (addsIn table r k) table r k s u base env c cursor j y d
+    pub item-done : {u : List ℕ} {bad : ℕ} → AddsNext (k - 11) t u (base + 1024) 0 bad → {y : Placed} → y .outcome ≡ outcomeOf (builtWord bad r) → y .cursor ≡ x .cursor → Extended (addsIn table r k) table r k s u base env c cursor j y d
     item-done {u} {bad} f {y} e e′ bs vs h g =
         let w = o .turned bs h in
         record {
@@ -101,7 +103,7 @@ module _ {table index : List ℕ} {r k : ℕ} {s : List ℕ} {base : ℕ} {env :
             kept = kept-then (w .given .kept) (kept-less (omega arith) (f .kept));
             right = λ ρ b. subst (λ (p : Outcome). Comes (addsIn table r k ρ vs (getD bs j nothing)) (BuiltAt k u base) c (ended p d)) (sym e)
                 (comes-as (adds-one table r k ρ vs (getD bs j nothing) one)
-                (comes-on (λ v. builtAt r (addTo (k - 11) vs v)) (element h ρ b) v (λ z i. pending-comes r (comes-sound (element h ρ b))
+                (comes-on (λ v. builtAt r (addTo (k - 11) vs v)) (element h ρ b) v (λ z i. pending-comes r (small-place (a .stands .asked)) (comes-sound (element h ρ b))
                 (f .right (built vs) z (going refl (built-still g)) (subst (λ (n : ℕ). At t n z) (let m : base + 1536 ≡ base + 1024 + 512 = omega arith in m) i)))));
           };
           low = kept-then (w .low) (kept-less (omega arith) (f .kept));
@@ -185,15 +187,15 @@ module _ {table index : List ℕ} {r k : ℕ} {s : List ℕ} {base : ℕ} {env :
               room = omega (arith, room-two (b .asked) l, o .turned (b .bindings) (b .standing) .low .long, o′ .turned (b .bindings) (o .turned (b .bindings) (b .standing) .standing) .low .long);
             }
 
-        pub pair-done : {u′ : List ℕ} {bad : ℕ} → EntersNext u u′ (base + 1024) 0 bad → {z : Placed} → z .outcome ≡ builtAs bad r → z .cursor ≡ y .cursor → Extended (addsIn table r k) table r k s u′ base env c cursor j z f
+        pub pair-done : {u′ : List ℕ} {bad : ℕ} → EntersNext u u′ (base + 1024) 0 bad → {z : Placed} → z .outcome ≡ outcomeOf (builtWord bad r) → z .cursor ≡ y .cursor → Extended (addsIn table r k) table r k s u′ base env c cursor j z f
         pair-done {u′} {bad} g {z} e e′ =
             both (addsIn table r k) {z = z} (g .kept) e′ (λ bs vs h b ρ n.
             subst (λ (p : Outcome). Comes (addsIn table r k ρ vs (getD bs j nothing)) (BuiltAt k u′ base) c (ended p f)) (sym e)
             (comes-as (adds-pair table r k ρ vs (getD bs j nothing) is-20)
             (comes-on (after ρ vs (getD bs j nothing)) (key h ρ n) v (λ w i.
             comes-on (λ y. builtAt r (addEntry vs w y)) (value h ρ n) v′ (λ w′ i′.
-            subst (λ (m : ℕ). Comes (builtAt r (addEntry vs w w′)) (λ ws. At u′ (base + 1024) (collection (kindFor m) ws)) f (ended (builtAs bad r) f)) (sym is-20)
-            (pending-comes r (comes-sound (value h ρ n))
+            subst (λ (m : ℕ). Comes (builtAt r (addEntry vs w w′)) (λ ws. At u′ (base + 1024) (collection (kindFor m) ws)) f (ending (builtWord bad r) f)) (sym is-20)
+            (pending-comes r (small-place (a .stands .asked)) (comes-sound (value h ρ n))
             (g .right (built vs) w w′ (going refl (as-map (built-up b)))
             (subst (λ (n : ℕ). At u n w) (let z : base + 1536 ≡ base + 1024 + 512 = omega arith in z) (key-up i))
             (subst (λ (n : ℕ). At u n w′) (let z : base + 2048 ≡ base + 1024 + 1024 = omega arith in z) i′))))))))

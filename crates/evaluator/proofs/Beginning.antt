@@ -2,9 +2,9 @@
 use mathlib.Core.Path.{_≡_, refl, sym, ap, subst, _∙_}
 use mathlib.Core.Bool.{Bool, true, false, cond}
 use mathlib.Core.List.{List, [], _∷_}
-use Prim.Native.Nat.{ℕ, _+_, _≤_}
+use Prim.Native.Nat.{ℕ, _+_, _≤_, _<_}
 use native.Mathlib.Omega.{arith}
-use lib.Dec.{eqb}
+use lib.Dec.{eqb, leb}
 use lib.ListN.{length, take, length-take}
 use lib.Seq.{take-take}
 use Rattle.prelude.proofs.Absurd.{impossible}
@@ -17,8 +17,9 @@ use Rattle.choices.specs.Tree.{Tree, give, stop, bind}
 use Rattle.choices.proofs.Trees.{bind-assoc, bind-cong}
 use Rattle.tables.specs.Accepted.{records}
 use Rattle.patterns.specs.Binding.{Binding}
-use Rattle.patterns.specs.Pattern.{listOf}
-use Rattle.patterns.specs.Binder.{Formed, bound, refused, formed}
+use Rattle.patterns.specs.Ways.{exists}
+use Rattle.patterns.specs.Pattern.{Pattern, listOf, wide}
+use Rattle.patterns.specs.Binder.{Formed, bound, refused, formed, bindings, mostBindings}
 use Rattle.patterns.specs.Read.{patternAt}
 use Rattle.calling.specs.Scratch.{Kept}
 use Rattle.calling.proofs.Framing.{kept-outside, kept-then, kept-less}
@@ -30,7 +31,7 @@ use Rattle.bindings.specs.declared.Cursor.{Cursor}
 use Rattle.parts.specs.declared.words.Env.{Env}
 use Rattle.bindings.specs.declared.Opened.{Opened}
 use Rattle.bindings.specs.declared.Opened.the-variants.{Bound, Refused as Unbound}
-use Rattle.evaluator.specs.declared.Placed.{Placed}
+use Rattle.evaluator.specs.Binding.{Placed}
 use Rattle.bindings.specs.Window.{Values, Lent, TellsOpened, OpenedAs}
 use Rattle.evaluator.specs.Contract.{Ask, Around, Evaluated, ended, Comes, Gives, Evaluates, meant, operandAt}
 use Rattle.evaluator.specs.Binding.{patternFor, wholly, listed, Standing, valuesFor, Suits, fit, unfit, Begins}
@@ -60,6 +61,15 @@ listed-is table r k ρ = go (eqb k 12) (eqb k 19)
         bind-cong m _ _ (λ v. sym (bind-assoc (membersAt r v) (λ vs. bind (integersAt r vs) (λ ws. give (listOf ws))) (over table r)
         ∙ bind-cong (membersAt r v) _ _ (λ vs. bind-assoc (integersAt r vs) (λ ws. give (listOf ws)) (over table r))))
     go false false = bind-cong m _ _ (λ v. sym (bind-assoc (membersAt r v) (λ vs. give (listOf vs)) (over table r)))
+
+-- Refusals of forming are 29 and 30.
+formed-number : (p : Pattern) (vs : List Value) (i : ℕ) → formed p vs ≡ refused i → i ≤ 30
+formed-number p vs i e = go (exists vs (wide p)) (leb (length (bindings p vs)) mostBindings) e
+  where
+    go : (t u : Bool) → cond t (refused 29) (cond u (bound (bindings p vs)) (refused 30)) ≡ refused i → i ≤ 30
+    go true u e = let d : 29 ≡ i = cc in omega arith
+    go false true e = impossible cc
+    go false false e = let d : 30 ≡ i = cc in omega arith
 
 -- ---- what stands below the window
 
@@ -132,6 +142,13 @@ module _ {table index : List ℕ} {r : ℕ} {s : List ℕ} {base : ℕ} {env : E
 
           told : TellsOpened u (base + 512) (formed (patternFor table r) (fits .values)) n
           told = subst (λ (m : ℕ). TellsOpened u (base + 512) (formed (patternAt (records table) m) (fits .values)) n) is-p (o .tells (fits .values) are-low)
+
+          pub begin-small : (m : ℕ) → n ≡ Unbound m → m < 65536
+          begin-small m d = go (formed (patternFor table r) (fits .values)) refl (subst (TellsOpened u (base + 512) (formed (patternFor table r) (fits .values))) d told)
+            where
+              go : (f : Formed) → formed (patternFor table r) (fits .values) ≡ f → TellsOpened u (base + 512) f (Unbound m) → m < 65536
+              go (bound bs) y w = absurd w
+              go (refused i) y w = omega (arith, formed-number (patternFor table r) (fits .values) i y, w)
 
           from-values : {P : List Binding → Type 0} {o : Outcome} (f : Formed) → formed (patternFor table r) (fits .values) ≡ f → (Invariant (e .choices) → Comes (formedAt r f) P (e .choices) (ended o (e .choices))) → Gives (listed table r k) P s u base env c (ended o (e .choices))
           from-values f y w =

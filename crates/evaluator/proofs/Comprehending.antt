@@ -23,7 +23,7 @@ use Rattle.meaning.specs.State.{State}
 use Rattle.evaluator.specs.declared.Outcome.the-variants.{Value as HasValue}
 use Rattle.bindings.specs.declared.Cursor.{Cursor}
 use Rattle.parts.specs.declared.words.Env.{Env}
-use Rattle.evaluator.specs.declared.Placed.{Placed}
+use Rattle.evaluator.specs.Binding.{Placed}
 use Rattle.evaluator.specs.Contract.{Ask, Around, Evaluated, ended, Comes, gave, off, Gives, Evaluates, meant, valueAs}
 use Rattle.evaluator.specs.Binding.{Binder, wholly, listed, Standing, Begins, Turned, holdsIn, Comprehension, kindFor, addsIn, stepIn, BuiltAt, Extends, Extended}
 use Rattle.evaluator.proofs.Framing.{around-kept}

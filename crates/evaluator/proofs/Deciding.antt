@@ -23,10 +23,10 @@ use Rattle.patterns.specs.Read.{patternAt}
 use Rattle.meaning.specs.Laws.PatternLaws.{loose-is}
 use Rattle.parts.specs.declared.words.Env.{Env}
 use Rattle.evaluator.specs.declared.Outcome.the-variants.{Value as HasValue, Refused}
-use Rattle.evaluator.specs.declared.Placed.{Placed}
-use Rattle.evaluator.specs.declared.Counted.{Counted}
+use Rattle.evaluator.specs.Binding.{Placed}
+use Rattle.evaluator.specs.Binding.{Counted}
 use Rattle.evaluator.specs.Contract.{Ask, ended, Evaluates, operandAt}
-use Rattle.evaluator.specs.Binding.{Binder, quantified, patternFor, Begins, agrees, answerNumber, answerCount, unchosenAs, IsTaken, Picks, Unique, Surveys}
+use Rattle.evaluator.specs.Binding.{Binder, quantified, patternFor, Begins, agrees, IsTaken, Picks, Unique, Surveys}
 use Rattle.evaluator.proofs.Single.{exists1-off, iota-off}
 use Rattle.evaluator.proofs.Tables.{has-operand}
 use Rattle.evaluator.proofs.Standing.{binder-readable}
@@ -43,12 +43,6 @@ not-taken (Taken i) k t = none k
 not-taken Many k t = t
 not-taken Short k t = t
 not-taken Beyond k t = t
-
-pub unchosen-is : (a : Answer) (r n : ℕ) → (IsTaken a → ⊥) → unchosenAs a r n ≡ Refused (answerNumber a) r (answerCount a n)
-unchosen-is (Taken i) r n h = absurd (h tt)
-unchosen-is Many r n h = refl
-unchosen-is Short r n h = refl
-unchosen-is Beyond r n h = refl
 
 -- ---- truths that agree
 

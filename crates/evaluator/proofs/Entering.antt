@@ -26,12 +26,12 @@ use Rattle.evaluator.specs.declared.Truth.{Truth}
 use Rattle.evaluator.specs.declared.Truth.the-variants.{True, False, Other}
 use Rattle.bindings.specs.declared.Cursor.{Cursor}
 use Rattle.parts.specs.declared.words.Env.{Env}
-use Rattle.evaluator.specs.declared.Placed.{Placed}
-use Rattle.evaluator.specs.declared.Held.{Held}
+use Rattle.evaluator.specs.Binding.{Placed}
+use Rattle.evaluator.specs.Binding.{Held}
 use Rattle.bindings.specs.Window.{Values, Reachable, Reached, Underneath, UnderBinding}
 use Rattle.evaluator.specs.Contract.{Ask, Around, Evaluated, ended, Comes, Gives, Evaluates, meant, operandAt}
 use Rattle.evaluator.specs.Leaves.{readAs, Tells}
-use Rattle.evaluator.specs.Binding.{Standing, Stands, Upward, Insides, holdsIn, Tests}
+use Rattle.evaluator.specs.Binding.{Standing, Stands, Enters, Upward, Insides, holdsIn, Tests}
 use Rattle.evaluator.proofs.Framing.{around-kept, around-up, at-kept}
 use Rattle.evaluator.proofs.Coming.{comes-on, comes-stop, comes-as, comes-sound, comes-held, comes-value, comes-refused}
 use Rattle.evaluator.proofs.Tables.{ask-down, lower-down, room-here}
@@ -106,6 +106,14 @@ module _ {table index : List ℕ} {r : ℕ} {whole : Bool} {s : List ℕ} {base 
             where
               low : Kept s v (base + 512)
               low = kept-then kept-low (kept-less (omega arith) (g .kept))
+
+-- ---- entering a binding, as one call
+
+pub entering : {table : List ℕ} {r p : ℕ} → p ≡ operandAt table r 0 → {whole : Bool} {s t : List ℕ} {base : ℕ} {env : Env} {cursor : Cursor} {j : ℕ} {near : Cursor} {inner : Env} → Reached table p s t base whole (base + 512) cursor j near → UnderBinding t (base + 512) near j env inner → Enters table r whole s t base env cursor j near inner
+entering {table} e {whole} {s} {t} {base} {cursor = cursor} {j} {near} h u = record { reached = subst (λ (m : ℕ). Reached table m s t base whole (base + 512) cursor j near) e h; under = u }
+
+pub entered : {table : List ℕ} {r p : ℕ} → p ≡ operandAt table r 0 → {whole : Bool} {s t : List ℕ} {base : ℕ} {env : Env} {cursor : Cursor} {j : ℕ} {near : Cursor} {inner : Env} → Enters table r whole s t base env cursor j near inner → Reached table p s t base whole (base + 512) cursor j near
+entered {table} e {whole} {s} {t} {base} {cursor = cursor} {j} {near} h = subst (λ (m : ℕ). Reached table m s t base whole (base + 512) cursor j near) (sym e) (h .reached)
 
 -- ---- a condition
 

@@ -39,7 +39,7 @@ use Rattle.evaluator.specs.Building.{Enumerated, builtKind, finalKind, s
 use Rattle.evaluator.proofs.Leading.{Leads, leads-start, leads-as}
 use Rattle.evaluator.proofs.Framing.{around-kept, around-up, at-kept}
 use Rattle.evaluator.proofs.Coming.{comes-held, leads-comes, leads-stop, leads-on}
-use Rattle.evaluator.proofs.Tables.{here, ask-down, lower-down, room-here}
+use Rattle.evaluator.proofs.Tables.{small-place, here, ask-down, lower-down, room-here}
 use Rattle.evaluator.proofs.Equations.{mean-many, map-even, tuple-few}
 
 -- ---- what is built, with these items added
@@ -253,7 +253,7 @@ module _ {table index : List ℕ} {r : ℕ} {s₀ : List ℕ} {base : ℕ} {env 
 
   pending-up : {t : List ℕ} {up : ℕ} → Kept s t up → base + 512 ≤ up → up ≤ base + 2048 → {x : Built} → Pending k s base bad x → Pending k t base bad x
   pending-up {up = up} g h h′ (going d a) = going d (at-kept {base = up} g (omega (arith, building-room)) (omega arith) a)
-  pending-up g h h′ (halted d m) = halted d m
+  pending-up g h h′ (halted d m n) = halted d m n
 
   -- ---- one by one
   module _ (w : Enumerated k) (l : i < n) {o : ℕ} (q : o ≡ operand (recordAt (records table) r) i) {t : List ℕ} {e : Evaluated} (g : Gives (meant table o) (At t (base + 512)) s t (base + 512) env c e) where
@@ -371,7 +371,7 @@ module _ {table index : List ℕ} {r : ℕ} {s₀ : List ℕ} {base : ℕ} {env 
           where
             again : {x : Built} → Pending k t base bad x → Pending k t′ base bad x
             again (going d a) = going d (at-kept {base = base + 1024} (g′ .kept) (omega (arith, building-room, g .kept .long)) (omega arith) a)
-            again (halted d m) = halted d m
+            again (halted d m n) = halted d m n
 
         key-still : {key : Value} → At t (base + 512) key → At t′ (base + 512) key
         key-still a = at-kept {base = base + 1024} (g′ .kept) (omega (arith, building-room, g .kept .long)) (omega arith) a
@@ -417,8 +417,8 @@ module _ {table index : List ℕ} {r : ℕ} {s₀ : List ℕ} {base : ℕ} {env 
                   no-tuple (stopped n) = tt
 
   -- ---- the end
-  pub building-finish : Finishable k s base bad
-  building-finish = let x = b .right (b .asked .state) (b .asked .around) in record { so-far = x .so-far; pending = x .pending }
+  pub building-finish : Finishable k s base bad r
+  building-finish = let x = b .right (b .asked .state) (b .asked .around) in record { so-far = x .so-far; pending = x .pending; place = small-place (b .asked) }
 
   shaped-now : (x : Built) → n ≤ i → Tallied k x i → ShapedAs k x
   shaped-now (built vs) l h = λ e. let z = tuple-few (b .asked .legal) r (b .asked .state) (b .kind-is ∙ e) in let y = h e in (omega (arith, b .count, b .within, z .0), omega (arith, b .count, b .within, z .1))

@@ -9,7 +9,7 @@ use Rattle.tables.specs.Record.{shape}
 use Rattle.tables.specs.Reading.{HasOperand}
 use Rattle.bindings.specs.declared.Cursor.{Cursor}
 use Rattle.parts.specs.declared.words.Env.{Env}
-use Rattle.evaluator.specs.declared.Placed.{Placed}
+use Rattle.evaluator.specs.Binding.{Placed}
 use Rattle.evaluator.specs.Binding.{Comprehension, addsIn, Extends, Extended}
 use Rattle.evaluator.proofs.Tables.{has-operand}
 

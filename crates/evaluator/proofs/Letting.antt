@@ -26,9 +26,12 @@ use Rattle.evaluator.specs.declared.Outcome.{Outcome}
 use Rattle.evaluator.specs.declared.Outcome.the-variants.{Value as HasValue, Refused}
 use Rattle.bindings.specs.declared.Cursor.{Cursor}
 use Rattle.parts.specs.declared.words.Env.{Env}
-use Rattle.evaluator.specs.declared.Placed.{Placed}
-use Rattle.evaluator.specs.declared.Counted.{Counted}
-use Rattle.evaluator.specs.Contract.{Ask, Around, Evaluated, ended, Comes, gave, off, Gives, Evaluates, meant, operandAt, valueAs, refusedAs}
+use Rattle.evaluator.specs.Binding.{Placed}
+use Rattle.evaluator.specs.Binding.{Counted}
+use Rattle.evaluator.specs.Word.{ending, wordOf, unchosenWord}
+use Rattle.evaluator.proofs.Wording.{refused-at, word-unchosen}
+use Rattle.evaluator.proofs.Tables.{small-place}
+use Rattle.evaluator.specs.Contract.{Ask, Around, Evaluated, ended, Comes, gave, off, Gives, Evaluates, meant, operandAt, valueAs}
 use Rattle.evaluator.specs.Binding.{Binder, patternFor, listed, Standing, Begins, Stands, Insides, dueIn, Marked, Surveys, Picks, loosely, plainly, answerNumber, answerCount, IsTaken}
 use Rattle.evaluator.proofs.Framing.{around-kept}
 use Rattle.evaluator.proofs.Coming.{value-refused, comes-on, comes-stop, comes-as, comes-sound, comes-held, comes-anywhere, comes-refused}
@@ -99,10 +102,11 @@ module _ {table index : List ℕ} {r : ℕ} {s : List ℕ} {base : ℕ} {env : E
     the-found : (sat : List Binding) × Found sat
     the-found = comes-held (g .right (a .state) (a .around)) h
 
-    pub such-none : v .count ≡ 0 → Evaluates table r s t base env c (refusedAs 24 r c₁)
-    such-none z =
-        onward (record { long = refl; below = refl })
-        (λ ρ u sat w. comes-as (ap (λ (m : Tree Binding). bind m (bodyIn table r ρ 3)) (satisfied-none r sat (omega (arith, w .marks .count)))) (comes-refused 24 r sound-now))
+    pub such-none : v .count ≡ 0 → {w : ℕ} → w ≡ wordOf 24 r 0 → Evaluates table r s t base env c (ending w c₁)
+    such-none z d =
+        refused-at 24 (omega arith) a d
+        (onward (record { long = refl; below = refl })
+        (λ ρ u sat w. comes-as (ap (λ (m : Tree Binding). bind m (bodyIn table r ρ 3)) (satisfied-none r sat (omega (arith, w .marks .count)))) (comes-refused 24 r sound-now)))
 
     module _ (z : v .count ≡ 0 → ⊥) where
       pub such-some : Invariant c₁ × (0 < v .count) × (v .count < 256)
@@ -112,8 +116,9 @@ module _ {table index : List ℕ} {r : ℕ} {s : List ℕ} {base : ℕ} {env : E
         chosen-is : (ρ : State) (sat : List Binding) → Found sat → suchIn table r ρ sat ≡ bind (chosen r sat) (bodyIn table r ρ 3)
         chosen-is ρ sat w = ap (λ (m : Tree Binding). bind m (bodyIn table r ρ 3)) (satisfied-some r sat (omega (arith, w .marks .count, such-some .1)))
 
-        pub such-unchosen : (IsTaken x → ⊥) → {o : Outcome} → o ≡ Refused (answerNumber x) r (answerCount x (v .count)) → Evaluates table r s t base env c (ended o c₂)
-        such-unchosen n y =
+        pub such-unchosen : (IsTaken x → ⊥) → {o : ℕ} → o ≡ unchosenWord x r (v .count) → Evaluates table r s t base env c (ending o c₂)
+        such-unchosen n d =
+            let y = word-unchosen x r (v .count) n (small-place a) (omega (arith, such-some .2)) d in
             onward (record { long = refl; below = refl }) (λ ρ u sat w. comes-as (chosen-is ρ sat w) (comes-untaken r sat (bodyIn table r ρ 3) (w .marks .count) k n y))
 
         module _ {i : ℕ} (e : x ≡ Taken i) where
@@ -164,28 +169,29 @@ module _ {table index : List ℕ} {r : ℕ} {s : List ℕ} {base : ℕ} {env : E
     from-list : {bs : List Binding} → Standing table r true t base (x .cursor) bs → {u : List ℕ} {P : Value → Type 0} {e : Evaluated} → Gives (λ ρ. letIn table r ρ bs) P t u base env c₁ e → Gives (meant table r) P s u base env c e
     from-list w n = opened-on 12 a g h (letIn table r) equation w n
 
-    pub local-none : x .cursor .count ≡ 0 → Evaluates table r s t base env c (refusedAs 23 r c₁)
-    local-none z =
+    pub local-none : x .cursor .count ≡ 0 → {o : ℕ} → o ≡ wordOf 23 r 0 → Evaluates table r s t base env c (ending o c₁)
+    local-none z d =
         let (bs, w) = opened-standing 12 a g h in
-        from-list w
+        refused-at 23 (omega arith) a d
+        (from-list w
         (record {
           kept = record { long = refl; below = refl };
           right = λ ρ u. comes-as (ap (λ (m : Tree Binding). bind m (bodyIn table r ρ 2)) (matched-none r (loose (patternFor table r)) bs (omega (arith, w .window .count)))) (comes-refused 23 r sound-start);
-        })
+        }))
 
     module _ (z : x .cursor .count ≡ 0 → ⊥) where
       pub local-some : Invariant c₁ × (0 < x .cursor .count) × (x .cursor .count < 256)
       local-some = let (bs, w) = opened-standing 12 a g h in (sound-start, positive (x .cursor .count) z, omega (arith, w .window .few))
 
       module _ {y : Answer} {c₂ : Choices} (k : Picks (loose (patternFor table r)) c₁ (x .cursor .count) y c₂) where
-        pub local-unchosen : (IsTaken y → ⊥) → {o : Outcome} → o ≡ Refused (answerNumber y) r (answerCount y (x .cursor .count)) → Evaluates table r s t base env c (ended o c₂)
+        pub local-unchosen : (IsTaken y → ⊥) → {o : ℕ} → o ≡ unchosenWord y r (x .cursor .count) → Evaluates table r s t base env c (ending o c₂)
         local-unchosen n {o} d =
             let (bs, w) = opened-standing 12 a g h in
             from-list w (record { kept = record { long = refl; below = refl }; right = λ ρ u. go ρ bs (w .window .count) k })
           where
-            go : (ρ : State) (bs : List Binding) → length bs ≡ x .cursor .count → Picks (loose (patternFor table r)) c₁ (x .cursor .count) y c₂ → Comes (letIn table r ρ bs) (At t base) c₁ (ended o c₂)
+            go : (ρ : State) (bs : List Binding) → length bs ≡ x .cursor .count → Picks (loose (patternFor table r)) c₁ (x .cursor .count) y c₂ → Comes (letIn table r ρ bs) (At t base) c₁ (ending o c₂)
             go ρ bs e (loosely l m) =
-                comes-as (ap (λ (m : Tree Binding). bind m (bodyIn table r ρ 2)) (matched-loose r (loose (patternFor table r)) bs l (omega (arith, e, local-some .1)))) (comes-untaken r bs (bodyIn table r ρ 2) (sym e) m n d)
+                comes-as (ap (λ (m : Tree Binding). bind m (bodyIn table r ρ 2)) (matched-loose r (loose (patternFor table r)) bs l (omega (arith, e, local-some .1)))) (comes-untaken r bs (bodyIn table r ρ 2) (sym e) m n (word-unchosen y r (x .cursor .count) n (small-place a) (omega (arith, local-some .2)) d))
             go ρ bs e (plainly l m m′) = absurd (n (subst IsTaken (sym m) tt))
 
         module _ {i : ℕ} (e : y ≡ Taken i) where

@@ -7,11 +7,14 @@ use Prim.Native.Nat.{ℕ, zero, suc, _+_, _≤_, _<_}
 use native.Mathlib.Omega.{arith}
 use borrow.Author.Tests.{eq-eqb, ne-eqb}
 use mathlib.Core.Bool.{cond}
-use Rattle.values.specs.Value.{Value}
+use Rattle.values.specs.Value.{Value, WellFormed}
+use Rattle.operators.specs.Answer.{FineAnswer}
+use Rattle.operator_laws.proofs.Results.{unary-fine, binary-fine, range-fine, apply-fine, FineLeft, left-fine, right-fine}
+use Rattle.prelude.proofs.Absurd.{impossible}
 use Rattle.values.specs.Place.{At}
 use Rattle.choices.specs.State.{Choices}
 use Rattle.choices.specs.Tree.{Tree, stop, bind}
-use Rattle.operators.specs.Booleans.{left, right}
+use Rattle.operators.specs.Booleans.{Left, left, right}
 use Rattle.operators.specs.Operators.{unary, binary}
 use Rattle.tables.specs.Record.{shape, operand}
 use Rattle.tables.specs.Table.{recordAt, kindAt}
@@ -23,17 +26,18 @@ use Rattle.calling.specs.declared.Tested.{Tested}
 use Rattle.calling.specs.declared.Tested.the-variants.{Settled, Open, Refused as Off}
 use Rattle.calling.specs.Applied.{One, Two, OnOne, OnTwo}
 use Rattle.calling.specs.Scratch.{Kept}
-use Rattle.scalars.specs.Connectives.{connective, TestsLeft}
+use Rattle.scalars.specs.Connectives.{connective, Says, settled, undecided, off as not-said, TestsLeft}
 use Rattle.meaning.specs.State.{State}
 use Rattle.meaning.specs.Meaning.{at, isTrue, rightOf}
-use Rattle.evaluator.specs.declared.Outcome.{Outcome}
 use Rattle.evaluator.specs.declared.Outcome.the-variants.{Value as HasValue}
 use Rattle.parts.specs.declared.words.Env.{Env}
 use Rattle.evaluator.specs.declared.Truth.{Truth}
 use Rattle.evaluator.specs.declared.Truth.the-variants.{True, False, Other}
-use Rattle.evaluator.specs.Contract.{Evaluated, ended, Ask, Gives, meant, level, operatorAt, refusedAs}
-use Rattle.evaluator.specs.Leaves.{applied, Tells, ofTwo, OfTwo, Strict}
-use Rattle.evaluator.proofs.Tables.{has-operand, has-field, lower-down, unary-number, binary-number}
+use Rattle.evaluator.specs.Contract.{Evaluated, Ask, Gives, meant, level, operatorAt}
+use Rattle.evaluator.specs.Leaves.{Tells, ofTwo, OfTwo, Strict}
+use Rattle.evaluator.specs.Word.{ending, wordOf, appliedWord}
+use Rattle.evaluator.proofs.Wording.{word-applied, decoded, as-word, refused-at}
+use Rattle.evaluator.proofs.Tables.{small-place, has-operand, has-field, lower-down, unary-number, binary-number}
 use Rattle.evaluator.proofs.Equations.{mean-unary, mean-binary, mean-two, mean-logic, mean-if, mean-pattern, mean-nothing}
 use Rattle.evaluator.proofs.Plain.{gives-refused, gives-stop, gives-at, gives-one, gives-both, gives-second-off, ask-first, ask-next, one-held, two-held, logic-settled, logic-refused, logic-right-off, logic-right, if-other, if-true, if-false}
 
@@ -63,9 +67,11 @@ module _ {table index : List ℕ} {r : ℕ} {s : List ℕ} {base : ℕ} {env : E
         pub un-held : One t base × Unary n
         un-held = (one-held a k h, subst Unary (sym o) (unary-number a d))
 
-        pub un-done : {u : List ℕ} {x : Applied} {z : Outcome} → OnOne (unary n) t u base x → z ≡ applied x r → Gives (meant table r) (At u base) s u base env c (ended z (e .choices))
+        pub un-done : {u : List ℕ} {x : Applied} {w : ℕ} → OnOne (unary n) t u base x → w ≡ appliedWord x r → Gives (meant table r) (At u base) s u base env c (ending w (e .choices))
         un-done {u} {x} f g =
-            gives-one a (gives-at table q k) (unary (operatorAt table r)) h (subst (λ (m : ℕ). OnOne (unary m) t u base x) o f) g (λ ρ. mean-unary (a .legal) r ρ d)
+            let v = one-held a k h .held in
+            gives-one a (gives-at table q k) (unary (operatorAt table r)) h (subst (λ (m : ℕ). OnOne (unary m) t u base x) o f)
+            (word-applied (f .right (v .value) (v .here)) (unary-fine n (v .value) (v .here .fine)) (small-place a) g) (λ ρ. mean-unary (a .legal) r ρ d)
 
   -- 5, 11, 21
   module _ {k op : ℕ} (d : kindAt (records table) r ≡ k) (w : Strict table r k op) where
@@ -92,6 +98,14 @@ module _ {table index : List ℕ} {r : ℕ} {s : List ℕ} {base : ℕ} {env : E
         go (inr (inl x)) = rw (ne-eqb k 5 (λ z. omega arith), eq-eqb k 11 x) (mean-two (a .legal) r ρ .0 (d ∙ x))
         go (inr (inr x)) = rw (ne-eqb k 5 (λ z. omega arith), ne-eqb k 11 (λ z. omega arith)) (mean-two (a .legal) r ρ .1 (d ∙ x))
 
+    two-fine : (v y : Value) → WellFormed v → WellFormed y → FineAnswer (ofTwo k op v y)
+    two-fine v y l m = go w
+      where
+        go : Strict table r k op → FineAnswer (ofTwo k op v y)
+        go (inl (x, _, _)) = rw (eq-eqb k 5 x) (binary-fine op v y l m)
+        go (inr (inl x)) = rw (ne-eqb k 5 (λ z. omega arith), eq-eqb k 11 x) (range-fine v y l m)
+        go (inr (inr x)) = rw (ne-eqb k 5 (λ z. omega arith), ne-eqb k 11 (λ z. omega arith)) (apply-fine v y l m)
+
     two-of : OfTwo k op
     two-of = go w
       where
@@ -110,8 +124,11 @@ module _ {table index : List ℕ} {r : ℕ} {s : List ℕ} {base : ℕ} {env : E
         pub bin-held : f .outcome ≡ HasValue → Two u base × OfTwo k op
         bin-held h′ = (two-held a g g′ h h′, two-of)
 
-        pub bin-done : {x : List ℕ} {y : Applied} {z : Outcome} → f .outcome ≡ HasValue → OnTwo (ofTwo k op) u x base y → z ≡ applied y r → Gives (meant table r) (At x base) s x base env c (ended z (f .choices))
-        bin-done h′ o z = gives-both a (gives-at table q g) (gives-at table q′ g′) (ofTwo k op) h h′ o z two-means
+        pub bin-done : {x : List ℕ} {y : Applied} {z : ℕ} → f .outcome ≡ HasValue → OnTwo (ofTwo k op) u x base y → z ≡ appliedWord y r → Gives (meant table r) (At x base) s x base env c (ending z (f .choices))
+        bin-done h′ o z =
+            let two = two-held a g g′ h h′ in
+            gives-both a (gives-at table q g) (gives-at table q′ g′) (ofTwo k op) h h′ o
+            (word-applied (o .right (two .left .value) (two .right .value) (two .left .here) (two .right .here)) (two-fine (two .left .value) (two .right .value) (two .left .here .fine) (two .right .here .fine)) (small-place a) z) two-means
 
   -- 5: and, or, =>
   module _ (d : kindAt (records table) r ≡ 5) where
@@ -146,18 +163,29 @@ module _ {table index : List ℕ} {r : ℕ} {s : List ℕ} {base : ℕ} {env : E
           pub logic-done : x ≡ Settled → Gives (meant table r) (At u base) s u base env c e
           logic-done z = logic-settled a k n h g (meant table) (operand (recordAt (records table) r) 1) equation z
 
-          pub logic-bad : (j : ℕ) → x ≡ Off j → Gives (meant table r) (At u base) s u base env c (refusedAs j r (e .choices))
-          logic-bad j z = logic-refused a k n h g (meant table) (operand (recordAt (records table) r) 1) equation j z
+          left-small : (j : ℕ) → x ≡ Off j → j < 65536
+          left-small j z = let v = one-held a k h .held in go (left-fine (connective n) (v .value)) (g .right (v .value) (v .here))
+            where
+              go : {l : Left} → FineLeft l → Says u base x l → j < 65536
+              go f (settled y i) = let y′ = sym y ∙ z in impossible cc
+              go f (undecided y) = let y′ = sym y ∙ z in impossible cc
+              go f (not-said {n = i} y) = let y′ = sym y ∙ z in let e′ : i ≡ j = cc in omega (arith, f .1)
+
+          pub logic-bad : (j : ℕ) → x ≡ Off j → {w : ℕ} → w ≡ wordOf j r 0 → Gives (meant table r) (At u base) s u base env c (ending w (e .choices))
+          logic-bad j z {w} y = as-word w (decoded (left-small j z) (small-place a) (omega arith) y) (logic-refused a k n h g (meant table) (operand (recordAt (records table) r) 1) equation j z)
 
           module _ (z : x ≡ Open) {b′ : ℕ} (q′ : b′ ≡ operand (recordAt (records table) r) 1) {w : List ℕ} {f : Evaluated} (k′ : Gives (meant table b′) (At w base) u w base env (e .choices) f) where
             pub logic-off-right : (f .outcome ≡ HasValue → ⊥) → Gives (meant table r) (At w base) s w base env c f
             logic-off-right h′ = logic-right-off a k n h g (meant table) (operand (recordAt (records table) r) 1) equation z (gives-at table q′ k′) h′
 
-            pub logic-both : {x′ : Applied} {z′ : Outcome} → f .outcome ≡ HasValue → OnOne right w w base x′ → z′ ≡ applied x′ r → Gives (meant table r) (At w base) s w base env c (ended z′ (f .choices))
-            logic-both h′ o′ y = logic-right a k n h g (meant table) (operand (recordAt (records table) r) 1) equation z (gives-at table q′ k′) h′ o′ y
-
             pub logic-right-held : f .outcome ≡ HasValue → One w base
             logic-right-held h′ = one-held (next-asked base logic-next q′ k (g .kept) (omega arith) (omega arith) .1) k′ h′
+
+            pub logic-both : {x′ : Applied} {z′ : ℕ} → f .outcome ≡ HasValue → OnOne right w w base x′ → z′ ≡ appliedWord x′ r → Gives (meant table r) (At w base) s w base env c (ending z′ (f .choices))
+            logic-both h′ o′ y =
+                let v = logic-right-held h′ .held in
+                logic-right a k n h g (meant table) (operand (recordAt (records table) r) 1) equation z (gives-at table q′ k′) h′ o′
+                (word-applied (o′ .right (v .value) (v .here)) (right-fine (v .value)) (small-place a) y)
 
   -- 6
   module _ (d : kindAt (records table) r ≡ 6) where
@@ -184,8 +212,8 @@ module _ {table index : List ℕ} {r : ℕ} {s : List ℕ} {base : ℕ} {env : E
       if-off h = gives-stop (gives-at table q k) (λ ρ v. bind (isTrue r v) (λ y. cond y (thens ρ) (elses ρ))) h (λ ρ. mean-if (a .legal) r ρ d)
 
       module _ (h : e .outcome ≡ HasValue) {x : Truth} (o : Tells t base x) where
-        pub if-bad : x ≡ Other → Gives (meant table r) (At t base) s t base env c (refusedAs 20 r (e .choices))
-        if-bad z = if-other a (gives-at table q k) x thens elses h o (λ ρ. mean-if (a .legal) r ρ d) z
+        pub if-bad : x ≡ Other → {w : ℕ} → w ≡ wordOf 20 r 0 → Gives (meant table r) (At t base) s t base env c (ending w (e .choices))
+        if-bad z y = refused-at 20 (omega arith) a y (if-other a (gives-at table q k) x thens elses h o (λ ρ. mean-if (a .legal) r ρ d) z)
 
         pub if-yes : {b′ : ℕ} {u : List ℕ} {f : Evaluated} → x ≡ True → b′ ≡ operand (recordAt (records table) r) 1 → Gives (meant table b′) (At u base) t u base env (e .choices) f → Gives (meant table r) (At u base) s u base env c f
         if-yes z q′ k′ = if-true a (gives-at table q k) x thens elses h o (λ ρ. mean-if (a .legal) r ρ d) z (gives-at table q′ k′)
@@ -194,8 +222,8 @@ module _ {table index : List ℕ} {r : ℕ} {s : List ℕ} {base : ℕ} {env : E
         if-no z q′ k′ = if-false a (gives-at table q k) x thens elses h o (λ ρ. mean-if (a .legal) r ρ d) z (gives-at table q′ k′)
 
   -- what is left are patterns
-  pub eval-last : {k : ℕ} → k ≡ kindAt (records table) r → (k ≡ 0) ⊎ (22 ≤ k) → Gives (meant table r) (At s base) s s base env c (refusedAs 20 r c)
-  eval-last {k} d w = gives-refused 20 r a (λ ρ. go ρ w)
+  pub eval-last : {k : ℕ} → k ≡ kindAt (records table) r → (k ≡ 0) ⊎ (22 ≤ k) → {y : ℕ} → y ≡ wordOf 20 r 0 → Gives (meant table r) (At s base) s s base env c (ending y c)
+  eval-last {k} d w e = refused-at 20 (omega arith) a e (gives-refused 20 r a (λ ρ. go ρ w))
     where
       go : (ρ : State) → (k ≡ 0) ⊎ (22 ≤ k) → meant table r ρ ≡ stop 20 r
       go ρ (inl h) = mean-nothing (a .legal) r ρ (sym d ∙ h)

@@ -19,8 +19,8 @@ use Rattle.meaning.specs.State.{State}
 use Rattle.evaluator.specs.declared.Outcome.the-variants.{Value as HasValue}
 use Rattle.bindings.specs.declared.Cursor.{Cursor}
 use Rattle.parts.specs.declared.words.Env.{Env}
-use Rattle.evaluator.specs.declared.Placed.{Placed}
-use Rattle.evaluator.specs.declared.Held.{Held}
+use Rattle.evaluator.specs.Binding.{Placed}
+use Rattle.evaluator.specs.Binding.{Held}
 use Rattle.evaluator.specs.Contract.{Ask, Around, Evaluated, ended, Comes, gave, off, Gives, Evaluates, meant, operandAt, valueAs}
 use Rattle.evaluator.specs.Binding.{Binder, quantified, wholly, Standing, Begins, Stands, Turned, holdsIn, Tests}
 use Rattle.evaluator.proofs.Framing.{around-kept}

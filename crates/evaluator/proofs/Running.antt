@@ -13,7 +13,8 @@ use Rattle.patterns.specs.Binding.{free}
 use Rattle.parts.specs.declared.words.Env.{Env}
 use Rattle.parts.specs.Word.{unpacked}
 use Rattle.meaning.specs.State.{unbound}
-use Rattle.evaluator.specs.Contract.{Evaluated, Around, Ask, Comes, Evaluates, meant}
+use Rattle.evaluator.specs.declared.Outcome.{Outcome}
+use Rattle.evaluator.specs.Contract.{Evaluated, ended, Around, Ask, Comes, Evaluates, meant}
 use Rattle.evaluator.specs.Sheet.{Runnable, Runs}
 
 nothing-around : (s : List ℕ) {env : Env} → env .words ≡ replicate 16 0 → Around s 0 env unbound
@@ -48,3 +49,7 @@ module _ {table index : List ℕ} {count : ℕ} {s : List ℕ} {c : Choices} (a 
   run-done {env} {r} {t} {e} w q g =
       let z : r ≡ length (records table) - 1 = omega (arith, counted) in
       subst (λ (n : ℕ). Comes (meant table n unbound) (At t 0) c e) z (g .right unbound (nothing-around s w))
+
+-- The same of the outcome that the word says.
+pub run-told : (table : List ℕ) {t : List ℕ} {c d : Choices} {o p : Outcome} → o ≡ p → Runs table t c (ended p d) → Runs table t c (ended o d)
+run-told table {t} {c} {d} e h = subst (λ (x : Outcome). Runs table t c (ended x d)) (sym e) h

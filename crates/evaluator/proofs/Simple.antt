@@ -10,12 +10,13 @@ use lib.IntN.{ℤ}
 use lib.Dec.{eqb, leb}
 use lib.ListN.{getD, take}
 use borrow.Author.Tests.{eq-eqb, ne-eqb}
-use Rattle.values.specs.Value.{Kind, set, sequence, map, tuple, Value, boolean, integer, collection, Items, size, sizes, valueLimit}
+use Rattle.values.specs.Value.{Kind, set, sequence, map, tuple, Value, boolean, integer, collection, Items, size, sizes, valueLimit, Sound}
 use Rattle.values.specs.Items.{same, snoc, insert, lookup, enter}
-use Rattle.values.specs.Place.{At}
+use Rattle.values.specs.Place.{At, Holds}
+use Rattle.integers.specs.Whole.{InRange}
 use Rattle.values.specs.Contract.{Put}
 use Rattle.values.proofs.Encoding.{collection-size}
-use Rattle.values.proofs.Records.{one-value, collection-shaped}
+use Rattle.values.proofs.Records.{one-value, collection-shaped, holds}
 use Rattle.values.proofs.Order.{same-flip}
 use Rattle.choices.specs.State.{Choices}
 use Rattle.choices.specs.Tree.{give}
@@ -53,12 +54,18 @@ use Rattle.parts.specs.Word.{unpacked}
 use Rattle.evaluator.specs.Contract.{Ask, Around, Gives, meant, valueAs, refusedAs}
 use Rattle.evaluator.specs.Leaves.{ofTwo, OfTwo}
 use Rattle.evaluator.specs.Building.{Enumerated, builtKind, finalKind, startedAs, addTo, Pending, going, halted, AddHeld, AddsNext, EnterHeld, EntersNext, ShapedAs, Finishable, Answers, valued, unvalued, Finishes}
+use Rattle.evaluator.specs.Word.{outcomeOf, wordOf}
+use Rattle.evaluator.proofs.Wording.{decoded}
 use Rattle.evaluator.proofs.Coming.{comes-as, comes-value, comes-refused}
 use Rattle.evaluator.proofs.Tables.{room-here, name-number}
 use Rattle.evaluator.proofs.Equations.{mean-truth, mean-whole, mean-name}
 
 pub told-boolean : {s : List ℕ} {at : ℕ} {b : Bool} (d : Bool) → At s at (boolean b) → b ≡ d → (v : Value) → At s at v → asBoolean v ≡ some d
 told-boolean d h e v a = ap asBoolean (one-value a h) ∙ ap some e
+
+pub whole-range : {s : List ℕ} {at : ℕ} {z z′ : ℤ} → z′ ≡ z → At s at (integer z) → InRange z′
+unfolding Sound
+whole-range e h = subst InRange (sym e) (h .fine .sound)
 
 module _ {table index : List ℕ} {r : ℕ} {s : List ℕ} {base : ℕ} {env : Env} {c : Choices} (a : Ask table index r s base env c) where
   put-done : {v : Value} {t : List ℕ} {n m : ℕ} → Put s t base v n m → ((ρ : State) → meant table r ρ ≡ give v) → Gives (meant table r) (At t base) s t base env c (valueAs c)
@@ -121,6 +128,30 @@ module _ {table index : List ℕ} {r : ℕ} {s : List ℕ} {base : ℕ} {env : E
     pub part-held : (p .how ≡ 0 → ⊥) → Puttable s p base
     part-held z = subst (λ (y : Part). Puttable s y base) (sym q) (name-held d e (λ w. z (ap (λ (y : Part). y .how) q ∙ w)))
 
+    -- a whole record is where it says
+    whole-here : p .how ≡ 1 → (ρ : State) → Around s base env ρ → (v : Value) × (cellOf ρ x ≡ is v) × At s (p .at) v
+    whole-here z ρ u =
+        let (v, g, h) = bound-cell d e ρ (λ w. let n = ap (λ (y : Part). y .how) q in omega (arith, z, w, n)) (here-cell d e ρ u) in
+        let (i, l) = part-longer {s = s} {p = unpacked (getD (env .words) x 0)} {v = v} base (omega (arith, room-here a)) h in
+        (v, g, only (subst (λ (y : Part). PartIs s y v) (sym q) i))
+      where
+        only : {v : Value} → PartIs s p v → At s (p .at) v
+        only (inl h) = h .1
+        only (inr (inl h)) = absurd (omega (arith, h .0, z))
+        only (inr (inr h)) = absurd (omega (arith, h .0, z))
+
+    pub part-whole : p .how ≡ 1 → Holds s (p .at)
+    part-whole z = let (v, g, h) = whole-here z (a .state) (a .around) in holds h
+
+    pub part-number : p .how ≡ 1 → {z z′ : ℤ} → z′ ≡ z → At s (p .at) (integer z) → {t : List ℕ} {m : ℕ} → Put s t base (integer z′) 8 m → Gives (meant table r) (At t base) s t base env c (valueAs c)
+    part-number how {z} {z′} y i {t} k =
+        record {
+          kept = put-kept k;
+          right = λ ρ u.
+              let (v, g, h) = whole-here how ρ u in
+              comes-as (meant-name d e ρ ∙ ap (λ (w : Cell). orElse 20 r (held w)) g) (comes-value (a .sound) (subst (At t base) (ap integer y ∙ one-value i h) (k .here)));
+        }
+
     pub part-done : (p .how ≡ 0 → ⊥) → {t : List ℕ} {n : ℕ} → PutPart s t p base n → Gives (meant table r) (At t base) s t base env c (valueAs c)
     part-done z {t} {n} w = name-done d e (λ v. z (ap (λ (y : Part). y .how) q ∙ v)) (subst (λ (y : Part). PutPart s t y base n) q w)
 
@@ -129,11 +160,11 @@ module _ {table index : List ℕ} {r : ℕ} {s : List ℕ} {base : ℕ} {env : E
 module _ {k : ℕ} {s : List ℕ} {base bad : ℕ} where
   pub pending-none : bad ≡ 0 → {b : Built} → Pending k s base bad b → (vs : Items) × (b ≡ built vs) × At s base (collection (builtKind k) vs)
   pending-none e (going {vs = vs} d a) = (vs, refl, a)
-  pending-none e (halted d l) = absurd (omega arith)
+  pending-none e (halted d l m) = absurd (omega arith)
 
   pub pending-some : (bad ≡ 0 → ⊥) → {b : Built} → Pending k s base bad b → b ≡ stopped bad
   pending-some e (going d a) = absurd (e d)
-  pending-some e (halted d l) = ap stopped (sym d)
+  pending-some e (halted d l m) = ap stopped (sym d)
 
   module _ (a : AddHeld k s base bad) (K : Kind) (is-kind : builtKind k ≡ K) where
     pub add-room : bad ≡ 0 → Room K s base (base + 512)
@@ -149,7 +180,7 @@ module _ {k : ℕ} {s : List ℕ} {base bad : ℕ} where
           where
             go : (y : Bool) → x ≡ cond y Fits Full → Pending k t base n (cond y (built ws) (stopped 28))
             go true z = going (d ∙ ap addedNumber z) (subst (λ (l : Kind). At t base (collection l ws)) (sym is-kind) (m z))
-            go false z = halted (d ∙ ap addedNumber z) (omega arith)
+            go false z = halted (d ∙ ap addedNumber z) (omega arith) (omega arith)
 
         by : (b : Built) (v : Value) → Pending k s base bad b → At s (base + 512) v → Pending k t base n (buildOn b (λ vs. addTo k vs v))
         by b v p i =
@@ -207,14 +238,14 @@ module _ {s : List ℕ} {base bad : ℕ} where
               by-entry vs k v
               (λ l z. subst (Pending 9 t base n) (sym z) (fit (w .answers ∙ ap (λ (o : Option Value). entryAnswer o v (size (collection map (enter k v vs)))) l ∙ ap opened (collection-size map (enter k v vs)))))
               (λ l z. subst (Pending 9 t base n) (sym z) (there l (w .answers ∙ ap (λ (o : Option Value). entryAnswer o v (size (collection map (enter k v vs)))) l ∙ ap (λ (b : Bool). cond b In Clash) (same-refl v))))
-              (λ u l y z. subst (Pending 9 t base n) (sym z) (halted (d ∙ ap enteredNumber (w .answers ∙ ap (λ (o : Option Value). entryAnswer o v (size (collection map (enter k v vs)))) l ∙ ap (λ (b : Bool). cond b In Clash) (same-flip v u ∙ y))) (omega arith)))
+              (λ u l y z. subst (Pending 9 t base n) (sym z) (halted (d ∙ ap enteredNumber (w .answers ∙ ap (λ (o : Option Value). entryAnswer o v (size (collection map (enter k v vs)))) l ∙ ap (λ (b : Bool). cond b In Clash) (same-flip v u ∙ y))) (omega arith) (omega arith)))
             where
               fit : x ≡ opened (4 + sizes (enter k v vs)) → Pending 9 t base n (fitting (enter k v vs))
               fit z = go (leb (4 + sizes (enter k v vs)) valueLimit) z
                 where
                   go : (y : Bool) → x ≡ cond y In Over → Pending 9 t base n (cond y (built (enter k v vs)) (stopped 28))
                   go true z = going (d ∙ ap enteredNumber z) (w .made z)
-                  go false z = halted (d ∙ ap enteredNumber z) (omega arith)
+                  go false z = halted (d ∙ ap enteredNumber z) (omega arith) (omega arith)
 
               there : lookup k vs ≡ some v → x ≡ In → Pending 9 t base n (built vs)
               there l z =
@@ -224,8 +255,15 @@ module _ {s : List ℕ} {base bad : ℕ} where
 -- ---- the end
 
 module _ {k : ℕ} {s : List ℕ} {base bad r : ℕ} where
-  pub finish-off : (bad ≡ 0 → ⊥) → Finishes k s s base bad r (Refused bad r 0)
-  finish-off e = record { kept = kept-same s base; right = λ b p h. subst (λ (x : Built). Answers s base r (Refused bad r 0) (closed (finalKind k) x)) (sym (pending-some e p)) (unvalued refl) }
+  finished-off : (bad ≡ 0 → ⊥) → Finishes k s s base bad r (Refused bad r 0)
+  finished-off e = record { kept = kept-same s base; right = λ b p h. subst (λ (x : Built). Answers s base r (Refused bad r 0) (closed (finalKind k) x)) (sym (pending-some e p)) (unvalued refl) }
+
+  pub finish-off : Finishable k s base bad r → (bad ≡ 0 → ⊥) → {w : ℕ} → w ≡ wordOf bad r 0 → Finishes k s s base bad r (outcomeOf w)
+  finish-off f e y = subst (Finishes k s s base bad r) (sym (decoded (small (f .pending)) (f .place) (omega arith) y)) (finished-off e)
+    where
+      small : {b : Built} → Pending k s base bad b → bad < 65536
+      small (going d a) = omega arith
+      small (halted d l m) = omega arith
 
   pub finish-value : bad ≡ 0 → (k ≡ 10 → ⊥) → Finishes k s s base bad r HasValue
   finish-value e n =
@@ -243,7 +281,7 @@ module _ {k : ℕ} {s : List ℕ} {base bad r : ℕ} where
             subst (λ (x : Built). ShapedAs k x → Answers t base r HasValue (closed (finalKind k) x)) (sym q) (λ f. rw (eq-eqb k 10 n) (valued refl (h .right (builtKind k) tuple vs g refl (f n)))) f;
       }
 
-pub finish-held : {k : ℕ} {s : List ℕ} {base bad : ℕ} → Finishable k s base bad → bad ≡ 0 → HoldsCollection s base
+pub finish-held : {k : ℕ} {s : List ℕ} {base bad r : ℕ} → Finishable k s base bad r → bad ≡ 0 → HoldsCollection s base
 finish-held {k} f e = let (vs, q, g) = pending-none e (f .pending) in record { kind = builtKind k; items = vs; here = g }
 
 -- ---- both operands

@@ -45,10 +45,12 @@ use Rattle.meaning.specs.Meaning.{orElse, unique, patternName}
 use Rattle.evaluator.specs.declared.Outcome.the-variants.{Value as HasValue}
 use Rattle.bindings.specs.declared.Cursor.{Cursor}
 use Rattle.parts.specs.declared.words.Env.{Env}
-use Rattle.evaluator.specs.declared.Counted.{Counted}
+use Rattle.evaluator.specs.Binding.{Counted}
 use Rattle.parts.specs.Word.{unpacked}
 use Rattle.bindings.specs.Window.{WordFor, Reached, UnderBinding}
-use Rattle.evaluator.specs.Contract.{Ask, ended, Comes, Evaluates, operandAt, valueAs, refusedAs}
+use Rattle.evaluator.specs.Contract.{Ask, ended, Comes, Evaluates, operandAt, valueAs}
+use Rattle.evaluator.specs.Word.{ending, wordOf}
+use Rattle.evaluator.proofs.Wording.{refused-at}
 use Rattle.evaluator.specs.Binding.{Binder, patternFor, Standing, Stands, Marked, Surveys, Fetches}
 use Rattle.evaluator.proofs.Coming.{comes-on, comes-stop, comes-as, comes-sound, comes-held, comes-value, comes-refused}
 use Rattle.evaluator.proofs.Tables.{fine-of, room-here}
@@ -176,13 +178,14 @@ module _ {table index : List ℕ} {r : ℕ} {s : List ℕ} {base : ℕ} {env : E
     iota-off h = record { kept = g .kept; right = λ ρ u. comes-as (mean-iota (a .legal) r ρ is-17) (comes-stop (uniqueIn table r ρ) (g .right ρ u) h) }
 
     module _ (h : v .outcome ≡ HasValue) where
-      pub iota-not : (v .count ≡ 1 → ⊥) → Evaluates table r s t base env c (refusedAs 25 r c₁)
-      iota-not n =
-          record {
+      pub iota-not : (v .count ≡ 1 → ⊥) → {w : ℕ} → w ≡ wordOf 25 r 0 → Evaluates table r s t base env c (ending w c₁)
+      iota-not n y =
+          refused-at 25 (omega arith) a y
+          (record {
             kept = g .kept;
             right = λ ρ w. comes-as (mean-iota (a .legal) r ρ is-17) (comes-on (uniqueIn table r ρ) (g .right ρ w) h (λ sat m.
                 comes-as (unique-not r (patternFor table r) sat (λ e. n (m .marks .count ∙ e))) (comes-refused 25 r (comes-sound (g .right ρ w)))));
-          }
+          })
 
       module _ (n : v .count ≡ 1) where
         pub iota-stands : Stands table index r false t base env c₁ (v .cursor) (v .at)

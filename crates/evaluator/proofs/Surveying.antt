@@ -26,9 +26,9 @@ use Rattle.evaluator.specs.declared.Outcome.{Outcome}
 use Rattle.evaluator.specs.declared.Outcome.the-variants.{Value as HasValue}
 use Rattle.bindings.specs.declared.Cursor.{Cursor}
 use Rattle.parts.specs.declared.words.Env.{Env}
-use Rattle.evaluator.specs.declared.Placed.{Placed}
-use Rattle.evaluator.specs.declared.Held.{Held}
-use Rattle.evaluator.specs.declared.Counted.{Counted}
+use Rattle.evaluator.specs.Binding.{Placed}
+use Rattle.evaluator.specs.Binding.{Held}
+use Rattle.evaluator.specs.Binding.{Counted}
 use Rattle.evaluator.specs.Contract.{Ask, Around, ended, Comes, gave, off, Gives, meant, operandAt}
 use Rattle.evaluator.specs.Binding.{Binder, patternFor, listed, Standing, Begins, Stands, Turned, holdsIn, Tests, Marks, first, dueFor, surveyed, counting, marking, Marked, Surveys}
 use Rattle.evaluator.proofs.Framing.{around-kept}

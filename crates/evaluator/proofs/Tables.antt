@@ -42,6 +42,10 @@ module _ {table index : List ℕ} (L : Legal table index) {r k : ℕ} (w : r < l
   pub known-here : isKnown (shape k .head) (recordAt (records table) r) ≡ true
   known-here = subst (λ (m : ℕ). isKnown (shape m .head) (recordAt (records table) r) ≡ true) e (fit-known (recordAt (records table) r) (fine-of L .fit r w))
 
+-- a record's number is small
+pub small-place : {table index : List ℕ} {r : ℕ} {s : List ℕ} {base : ℕ} {env : Env} {c : Choices} → Ask table index r s base env c → r < 65536
+small-place a = omega (arith, a .within, a .legal .indexed .few)
+
 -- every record has a level
 pub room-here : {table index : List ℕ} {r : ℕ} {s : List ℕ} {base : ℕ} {env : Env} {c : Choices} → Ask table index r s base env c → base + level ≤ length s
 room-here {table} {r = r} a = omega (arith, a .room, height-at (records table) (fine-of (a .legal) .clear6) r (a .within))

@@ -33,12 +33,43 @@ use Rattle.evaluator.specs.declared.Outcome.{Outcome}
 use Rattle.evaluator.specs.declared.Outcome.the-variants.{Value as HasValue, Refused}
 use Rattle.evaluator.specs.declared.Truth.{Truth}
 use Rattle.evaluator.specs.declared.Truth.the-variants.{True, False, Other}
-use Rattle.evaluator.specs.declared.Placed.{Placed}
-use Rattle.evaluator.specs.declared.Held.{Held}
-use Rattle.evaluator.specs.declared.Counted.{Counted}
-use Rattle.bindings.specs.Window.{Values, Windowed}
+use Rattle.evaluator.specs.declared.Tally.{Tally}
+use Rattle.bindings.specs.Window.{Values, Windowed, Reached, UnderBinding}
 use Rattle.evaluator.specs.Building.{builtKind}
+use Rattle.evaluator.specs.Word.{outcomeOf, wordOf}
 use Rattle.evaluator.specs.Contract.{Ask, Evaluated, ended, Gives, meant, operandAt}
+
+-- ---- a cursor, lent as its four numbers
+
+abbrev pub cursorOf : List ℕ → Cursor
+cursorOf l = record { count = getD l 0 0; names = getD l 1 0; width = getD l 2 0; from = getD l 3 0 }
+
+-- What an evaluation in a binder came to, and where its bindings stand.
+pub record Placed : Type 0 where
+  pub outcome : Outcome
+  pub cursor : Cursor
+
+abbrev pub placed : ℕ → List ℕ → Placed
+placed w l = record { outcome = outcomeOf w; cursor = cursorOf l }
+
+-- What a condition came to under a binding.
+pub record Held : Type 0 where
+  pub outcome : Outcome
+  pub cursor : Cursor
+  pub yes : Bool
+
+abbrev pub held : ℕ → List ℕ → Held
+held w l = record { outcome = outcomeOf w; cursor = cursorOf l; yes = eqb w 2 }
+
+-- How many bindings satisfy, and which of all is the wanted one of them.
+pub record Counted : Type 0 where
+  pub outcome : Outcome
+  pub cursor : Cursor
+  pub count : ℕ
+  pub at : ℕ
+
+abbrev pub counted : Tally → List ℕ → Counted
+counted v l = record { outcome = outcomeOf (v .word); cursor = cursorOf l; count = v .count; at = v .at }
 
 -- ---- the bindings of a binder
 
@@ -95,12 +126,10 @@ isInteger v = eqb (kindOf v) 2
 abbrev pub AllIntegers : List ℕ → ℕ → ℕ → Bool → Type 0
 AllIntegers s from to r = (vs : Items) → ItemsAt s from to vs → r ≡ everyItem isInteger vs
 
-abbrev pub noCursor : Cursor
-noCursor = record { count = 0; names = 0; width = 0; from = 0 }
-
-abbrev pub openedAs : Opened → ℕ → Placed
-openedAs (Bound cursor) r = record { outcome = HasValue; cursor = cursor }
-openedAs (Unbound n) r = record { outcome = Refused n r 0; cursor = noCursor }
+-- The cursor over the bindings, or their refusal.
+pub data OpeningIs (o : Opened) (r w : ℕ) (l : List ℕ) : Type 0 where
+  opens : {cursor : Cursor} → o ≡ Bound cursor → w ≡ 0 → cursorOf l ≡ cursor → OpeningIs o r w l
+  fails : {n : ℕ} → o ≡ Unbound n → w ≡ wordOf n r 0 → OpeningIs o r w l
 
 abbrev pub Begins : List ℕ → ℕ → ℕ → List ℕ → List ℕ → ℕ → Env → Choices → Placed → Choices → Type 0
 Begins table r k s t base env c b d = Gives (listed table r k) (Standing table r (wholly k) t base (b .cursor)) s t base env c (ended (b .outcome) d)
@@ -114,6 +143,15 @@ pub record Stands (table index : List ℕ) (r : ℕ) (whole : Bool) (s : List �
   pub bindings : List Binding
   pub standing : Standing table r whole s base cursor bindings
   pub below : j < length bindings
+
+-- What is asked and promised of entering it: it is brought into the window, and the environment is the one under it.
+pub record Enterable (table index : List ℕ) (r : ℕ) (whole : Bool) (s : List ℕ) (base : ℕ) (env : Env) (cursor : Cursor) (j : ℕ) : Type 0 where
+  pub choices : Choices
+  pub stands : Stands table index r whole s base env choices cursor j
+
+pub record Enters (table : List ℕ) (r : ℕ) (whole : Bool) (s t : List ℕ) (base : ℕ) (env : Env) (cursor : Cursor) (j : ℕ) (near : Cursor) (inner : Env) : Type 0 where
+  pub reached : Reached table (operandAt table r 0) s t base whole (base + 512) cursor j near
+  pub under : UnderBinding t (base + 512) near j env inner
 
 -- What is promised of m: it is given, the binder's value stays, and its bindings stand there again.
 pub record Turned {A : Type 0} (m : State → Tree A) (P : A → Type 0) (table : List ℕ) (r : ℕ) (whole : Bool) (bs : List Binding) (s t : List ℕ) (base : ℕ) (env : Env) (c : Choices) (e : Evaluated) (cursor : Cursor) : Type 0 where
@@ -142,11 +180,6 @@ pub record Tests (table : List ℕ) (r : ℕ) (s t : List ℕ) (base : ℕ) (env
   pub turned : (bs : List Binding) → Standing table r false s base cursor bs
       → Turned (λ ρ. holdsIn table r ρ (getD bs j nothing)) (λ t. h .yes ≡ t) table r false bs s t base env c (ended (h .outcome) d) (h .cursor)
   pub between : Between s t base (base + 1536)
-
-abbrev pub judgedAs : Truth → ℕ → Cursor → Held
-judgedAs Other r cursor = record { outcome = Refused 20 r 0; cursor = cursor; yes = false }
-judgedAs True r cursor = record { outcome = HasValue; cursor = cursor; yes = true }
-judgedAs False r cursor = record { outcome = HasValue; cursor = cursor; yes = false }
 
 -- Two truths agree.
 abbrev pub agrees : Bool → Bool → Bool
@@ -218,12 +251,6 @@ answerCount Many n = 0
 answerCount Short n = n
 answerCount Beyond n = n
 
-abbrev pub unchosenAs : Answer → ℕ → ℕ → Outcome
-unchosenAs (Taken i) r n = HasValue
-unchosenAs Many r n = Refused 31 r 0
-unchosenAs Short r n = Refused 32 r n
-unchosenAs Beyond r n = Refused 33 r n
-
 abbrev pub IsTaken : Answer → Type 0
 IsTaken (Taken i) = Unit {0}
 IsTaken Many = ⊥
@@ -272,7 +299,3 @@ pub record Extends (table index : List ℕ) (r k : ℕ) (s : List ℕ) (base : �
 abbrev pub Extended : (State → Items → Binding → Tree Items) → List ℕ → ℕ → ℕ → List ℕ → List ℕ → ℕ → Env → Choices → Cursor → ℕ → Placed → Choices → Type 0
 Extended m table r k s t base env c cursor j x d = (bs : List Binding) (vs : Items) → Standing table r false s base cursor bs → BuiltAt k s base vs
     → Turned (λ ρ. m ρ vs (getD bs j nothing)) (BuiltAt k t base) table r false bs s t base env c (ended (x .outcome) d) (x .cursor)
-
--- What a number of the building means at the record r.
-abbrev pub builtAs : ℕ → ℕ → Outcome
-builtAs bad r = cond (eqb bad 0) HasValue (Refused bad r 0)

@@ -34,7 +34,7 @@ addTo k vs v = cond (eqb k 7) (addMember vs v) (addItem vs v)
 -- What is built so far stands at base, or its refusal is kept.
 pub data Pending (k : ℕ) (s : List ℕ) (base bad : ℕ) : Built → Type 0 where
   going : {vs : Items} → bad ≡ 0 → At s base (collection (builtKind k) vs) → Pending k s base bad (built vs)
-  halted : {n : ℕ} → bad ≡ n → 0 < n → Pending k s base bad (stopped n)
+  halted : {n : ℕ} → bad ≡ n → 0 < n → n ≤ 28 → Pending k s base bad (stopped n)
 
 -- ---- one more
 
@@ -67,9 +67,10 @@ abbrev pub ShapedAs : ℕ → Built → Type 0
 ShapedAs k (built vs) = k ≡ 10 → Shaped tuple vs
 ShapedAs k (stopped n) = Unit {0}
 
-pub record Finishable (k : ℕ) (s : List ℕ) (base bad : ℕ) : Type 0 where
+pub record Finishable (k : ℕ) (s : List ℕ) (base bad r : ℕ) : Type 0 where
   pub so-far : Built
   pub pending : Pending k s base bad so-far
+  pub place : r < 65536
 
 -- An answer at the record r, as the code has it: its value at base, or its number.
 pub data Answers (t : List ℕ) (base r : ℕ) (o : Outcome) : Answer → Type 0 where

@@ -31,6 +31,10 @@ use Rattle.parts.specs.Word.{unpacked}
 abbrev pub level : ℕ
 level = 2048
 
+-- What each name stands for, as sixteen words.
+abbrev pub envOf : List ℕ → Env
+envOf words = record { words = words }
+
 -- An accepted table, with an index of its records.
 pub record Legal (table index : List ℕ) : Type 0 where
   pub count : ℕ

@@ -1,8 +1,9 @@
 // What the binders need that evaluates nothing: does their value suit them, what a number of tests comes to, and the value that a binding gives a name.
-use crate::Held;
 use crate::Outcome;
-use crate::Placed;
 use crate::Truth;
+use crate::words::VALUE;
+use crate::words::YES;
+use crate::words::refusal;
 use bindings::Cursor;
 use bindings::Opened;
 use bindings::reach;
@@ -19,7 +20,9 @@ use values::Value;
 ghost use mathlib.Core.Path.{_≡_};
 ghost use Rattle.values.specs.Place.{Holds, HoldsItems};
 ghost use Prim.Native.Nat.{_<_};
-ghost use Rattle.evaluator.specs.Binding.{Suits, AllIntegers, noCursor, openedAs, judgedAs, agrees, counting, marking, unchosenAs, builtAs, Fetchable, Fetches};
+ghost use Rattle.evaluator.specs.Binding.{Suits, AllIntegers, OpeningIs, agrees, counting, marking, cursorOf, Enterable, Enters, Fetchable, Fetches};
+ghost use Rattle.evaluator.specs.Contract.{envOf};
+ghost use Rattle.evaluator.specs.Word.{judgedWord, unchosenWord, builtWord};
 
 // From the base of a binder: the window of its bindings, what is built, and where an operand is evaluated under a binding.
 pub const WINDOW: usize = 512;
@@ -28,16 +31,38 @@ pub const BUILT: usize = 1024;
 
 pub const INSIDE: usize = 1536;
 
-// No bindings yet.
-pub fn nowhere() -> Cursor
-    ensures { λ c. ⌜ c ≡ noCursor ⌝ }
+// A cursor goes down as its four numbers, which only a window that is filled again changes.
+pub const CELLS: usize = 4;
+
+// The environment under binding j of the binder r, which is brought into the window.
+pub fn enter(
+    table: &[u8],
+    index: &Index,
+    r: usize,
+    s: &mut [u8],
+    base: usize,
+    env: &[u32; Env::NAMES],
+    whole: bool,
+    cursor: &mut [usize; CELLS],
+    j: usize,
+    inner: &mut [u32; Env::NAMES],
+)
+    requires { ⌜ Enterable (now table) (now index) r whole (now s) base (envOf (now env)) (cursorOf (now cursor)) j ⌝ }
+    ensures { λ _. ⌜ Enters (now (table .entry)) r whole (now (s .entry)) (now (s .exit)) base (envOf (now (env .entry))) (cursorOf (now (cursor .entry))) j (cursorOf (now (cursor .exit))) (envOf (now (inner .exit))) ⌝ }
 {
-    Cursor {
-        count: 0,
-        names: 0,
-        width: 0,
-        from: 0,
-    }
+    let p = operand(table, index, r, 0);
+    let c = Cursor {
+        count: cursor[0],
+        names: cursor[1],
+        width: cursor[2],
+        from: cursor[3],
+    };
+    let near = reach(table, index, p, s, base, whole, base + WINDOW, c, j);
+    *cursor = [near.count, near.names, near.width, near.from];
+    let words = *env;
+    let e = under(s, base + WINDOW, near, j, Env { words });
+    let words = e.words;
+    *inner = words;
 }
 
 // Whether all items from a place up to another are integers.
@@ -74,41 +99,26 @@ pub fn suits(s: &[u8], at: usize, k: usize) -> bool
 }
 
 // The bindings of the record r, or their refusal.
-pub fn opening(o: Opened, r: usize) -> Placed
-    ensures { λ x. ⌜ x ≡ openedAs o r ⌝ }
+pub fn opening(o: Opened, r: usize, cursor: &mut [usize; CELLS]) -> usize
+    ensures { λ w. ⌜ OpeningIs o r w (now (cursor .exit)) ⌝ }
 {
     match o {
-        Opened::Bound(cursor) => Placed {
-            outcome: Outcome::Value,
-            cursor,
-        },
-        Opened::Refused(n) => Placed {
-            outcome: Outcome::Refused(n, r, 0),
-            cursor: nowhere(),
-        },
+        Opened::Bound(c) => {
+            *cursor = [c.count, c.names, c.width, c.from];
+            VALUE
+        }
+        Opened::Refused(n) => refusal(n, r, 0),
     }
 }
 
 // A condition of the record r, tested; it must be boolean.
-pub fn judge(t: Truth, r: usize, cursor: Cursor) -> Held
-    ensures { λ h. ⌜ h ≡ judgedAs t r cursor ⌝ }
+pub fn judge(t: Truth, r: usize) -> usize
+    ensures { λ h. ⌜ h ≡ judgedWord t r ⌝ }
 {
     match t {
-        Truth::Other => Held {
-            outcome: Outcome::Refused(Applied::WRONG_KIND, r, 0),
-            cursor,
-            yes: false,
-        },
-        Truth::True => Held {
-            outcome: Outcome::Value,
-            cursor,
-            yes: true,
-        },
-        Truth::False => Held {
-            outcome: Outcome::Value,
-            cursor,
-            yes: false,
-        },
+        Truth::Other => refusal(Applied::WRONG_KIND, r, 0),
+        Truth::True => YES,
+        Truth::False => VALUE,
     }
 }
 
@@ -137,26 +147,22 @@ pub fn mark(yes: bool, count: usize, due: usize, j: usize, at: usize) -> usize
 }
 
 // 31, or 32 or 33 with the number of bindings.
-pub fn unchosen(a: Answer, r: usize, n: usize) -> Outcome
-    ensures { λ o. ⌜ o ≡ unchosenAs a r n ⌝ }
+pub fn unchosen(a: Answer, r: usize, n: usize) -> usize
+    ensures { λ o. ⌜ o ≡ unchosenWord a r n ⌝ }
 {
     match a {
-        Answer::Taken(_) => Outcome::Value,
-        Answer::Many => Outcome::Refused(Outcome::MANY, r, 0),
-        Answer::Short => Outcome::Refused(Outcome::SHORT, r, n),
-        Answer::Beyond => Outcome::Refused(Outcome::BEYOND, r, n),
+        Answer::Taken(_) => VALUE,
+        Answer::Many => refusal(Outcome::MANY, r, 0),
+        Answer::Short => refusal(Outcome::SHORT, r, n),
+        Answer::Beyond => refusal(Outcome::BEYOND, r, n),
     }
 }
 
 // What the building came to at the record r: a number, or 0.
-pub fn built(bad: usize, r: usize) -> Outcome
-    ensures { λ o. ⌜ o ≡ builtAs bad r ⌝ }
+pub fn built(bad: usize, r: usize) -> usize
+    ensures { λ o. ⌜ o ≡ builtWord bad r ⌝ }
 {
-    if bad == 0 {
-        Outcome::Value
-    } else {
-        Outcome::Refused(bad, r, 0)
-    }
+    if bad == 0 { VALUE } else { refusal(bad, r, 0) }
 }
 
 // 17: the value that binding j gives the name of the pattern, brought down to base.
@@ -166,18 +172,18 @@ pub fn fetch(
     r: usize,
     s: &mut [u8],
     base: usize,
-    env: Env,
-    cursor: Cursor,
+    env: &[u32; Env::NAMES],
+    cursor: &mut [usize; CELLS],
     j: usize,
 )
-    requires { ⌜ Fetchable (now table) (now index) r (now s) base env cursor j ⌝ }
-    ensures { λ _. ⌜ Fetches (now (table .entry)) r (now (s .entry)) (now (s .exit)) base cursor j ⌝ }
+    requires { ⌜ Fetchable (now table) (now index) r (now s) base (envOf (now env)) (cursorOf (now cursor)) j ⌝ }
+    ensures { λ _. ⌜ Fetches (now (table .entry)) r (now (s .entry)) (now (s .exit)) base (cursorOf (now (cursor .entry))) j ⌝ }
 {
+    let mut inner = [0; Env::NAMES];
+    enter(table, index, r, s, base, env, false, cursor, j, &mut inner);
     let p = operand(table, index, r, 0);
-    let near = reach(table, index, p, s, base, false, base + WINDOW, cursor, j);
-    let inner = under(s, base + WINDOW, near, j, env);
     let x = field(table, index, p, 0);
-    let word = inner.words[x];
+    let word = inner[x];
     let part = unpack(word);
     parts::put_part(s, part, base + INSIDE);
     values::copy_value(s, base + INSIDE, base);

@@ -1,5 +1,6 @@
 // What an enumeration builds, operand by operand. A refusal of the building is remembered, and stays.
-use crate::Outcome;
+use crate::words::VALUE;
+use crate::words::refusal;
 use calling::Applied;
 use collections::building::Added;
 use collections::building::Entered;
@@ -12,6 +13,7 @@ use values::Value;
 ghost use mathlib.Core.Path.{_≡_};
 ghost use Rattle.collections.specs.Building.{addedNumber, enteredNumber};
 ghost use Rattle.evaluator.specs.Building.{AddHeld, AddsNext, EnterHeld, EntersNext, startedAs, Finishable, Finishes};
+ghost use Rattle.evaluator.specs.Word.{outcomeOf};
 
 // The kind of what is built: a set, or a sequence. A tuple is built as a sequence.
 pub fn started(k: usize) -> usize
@@ -72,16 +74,16 @@ fn entered(a: Entered) -> usize
 }
 
 // What was built, or its refusal.
-pub fn finish(s: &mut [u8], base: usize, k: usize, bad: usize, r: usize) -> Outcome
-    requires { ⌜ Finishable k (now s) base bad ⌝ }
-    ensures { λ o. ⌜ Finishes k (now (s .entry)) (now (s .exit)) base bad r o ⌝ }
+pub fn finish(s: &mut [u8], base: usize, k: usize, bad: usize, r: usize) -> usize
+    requires { ⌜ Finishable k (now s) base bad r ⌝ }
+    ensures { λ o. ⌜ Finishes k (now (s .entry)) (now (s .exit)) base bad r (outcomeOf o) ⌝ }
 {
     if bad != 0 {
-        return Outcome::Refused(bad, r, 0);
+        return refusal(bad, r, 0);
     }
     if k == kinds::TUPLE {
         retag(s, base, Value::TUPLE);
-        return Outcome::Value;
+        return VALUE;
     }
-    Outcome::Value
+    VALUE
 }

@@ -1,6 +1,7 @@
 // What is evaluated without evaluating anything else: literals, names, tests, and the operators of two operands.
-use crate::Outcome;
 use crate::Truth;
+use crate::words::VALUE;
+use crate::words::refusal;
 use calling::Applied;
 use lists::RUN;
 use parts::Part;
@@ -17,8 +18,9 @@ ghost use Rattle.calling.specs.Applied.{Two, OnTwo};
 ghost use Rattle.tables.specs.Table.{kindAt};
 ghost use Rattle.tables.specs.Accepted.{records};
 ghost use Rattle.lists.specs.Lent.{lent};
-ghost use Rattle.evaluator.specs.Contract.{Ask, Evaluates, ended};
+ghost use Rattle.evaluator.specs.Contract.{Ask, Evaluates, envOf};
 ghost use Rattle.evaluator.specs.Leaves.{Tells, OfTwo, ofTwo};
+ghost use Rattle.evaluator.specs.Word.{ending};
 
 // 1: a boolean literal.
 pub fn truth(
@@ -27,15 +29,15 @@ pub fn truth(
     r: usize,
     s: &mut [u8],
     base: usize,
-    env: Env,
+    env: &[u32; Env::NAMES],
     run: &mut [u8; RUN],
-) -> Outcome
-    requires { ⌜ Ask (now table) (now index) r (now s) base env (lent (now run)) × (kindAt (records (now table)) r ≡ 1) ⌝ }
-    ensures { λ o. ⌜ Evaluates (now (table .entry)) r (now (s .entry)) (now (s .exit)) base env (lent (now (run .entry))) (ended o (lent (now (run .exit)))) ⌝ }
+) -> usize
+    requires { ⌜ Ask (now table) (now index) r (now s) base (envOf (now env)) (lent (now run)) × (kindAt (records (now table)) r ≡ 1) ⌝ }
+    ensures { λ o. ⌜ Evaluates (now (table .entry)) r (now (s .entry)) (now (s .exit)) base (envOf (now (env .entry))) (lent (now (run .entry))) (ending o (lent (now (run .exit)))) ⌝ }
 {
     let b = field(table, index, r, 0);
     values::put_boolean(s, base, b == 1);
-    Outcome::Value
+    VALUE
 }
 
 // 2: an integer literal.
@@ -45,15 +47,15 @@ pub fn whole(
     r: usize,
     s: &mut [u8],
     base: usize,
-    env: Env,
+    env: &[u32; Env::NAMES],
     run: &mut [u8; RUN],
-) -> Outcome
-    requires { ⌜ Ask (now table) (now index) r (now s) base env (lent (now run)) × (kindAt (records (now table)) r ≡ 2) ⌝ }
-    ensures { λ o. ⌜ Evaluates (now (table .entry)) r (now (s .entry)) (now (s .exit)) base env (lent (now (run .entry))) (ended o (lent (now (run .exit)))) ⌝ }
+) -> usize
+    requires { ⌜ Ask (now table) (now index) r (now s) base (envOf (now env)) (lent (now run)) × (kindAt (records (now table)) r ≡ 2) ⌝ }
+    ensures { λ o. ⌜ Evaluates (now (table .entry)) r (now (s .entry)) (now (s .exit)) base (envOf (now (env .entry))) (lent (now (run .entry))) (ending o (lent (now (run .exit)))) ⌝ }
 {
     let z = integer(table, index, r);
     values::put_integer(s, base, z);
-    Outcome::Value
+    VALUE
 }
 
 // 3: a name. Its value is built where the name is read.
@@ -63,20 +65,28 @@ pub fn name(
     r: usize,
     s: &mut [u8],
     base: usize,
-    env: Env,
+    env: &[u32; Env::NAMES],
     run: &mut [u8; RUN],
-) -> Outcome
-    requires { ⌜ Ask (now table) (now index) r (now s) base env (lent (now run)) × (kindAt (records (now table)) r ≡ 3) ⌝ }
-    ensures { λ o. ⌜ Evaluates (now (table .entry)) r (now (s .entry)) (now (s .exit)) base env (lent (now (run .entry))) (ended o (lent (now (run .exit)))) ⌝ }
+) -> usize
+    requires { ⌜ Ask (now table) (now index) r (now s) base (envOf (now env)) (lent (now run)) × (kindAt (records (now table)) r ≡ 3) ⌝ }
+    ensures { λ o. ⌜ Evaluates (now (table .entry)) r (now (s .entry)) (now (s .exit)) base (envOf (now (env .entry))) (lent (now (run .entry))) (ending o (lent (now (run .exit)))) ⌝ }
 {
     let x = field(table, index, r, 0);
-    let word = env.words[x];
+    let word = env[x];
     let part = unpack(word);
     if part.how == Part::NOTHING {
-        return Outcome::Refused(Applied::WRONG_KIND, r, 0);
+        return refusal(Applied::WRONG_KIND, r, 0);
+    }
+    let at = part.at;
+    if part.how == Part::WHOLE {
+        if values::kind_of(s, at) == Value::INTEGER {
+            let z = values::integer_at(s, at);
+            values::put_integer(s, base, z);
+            return VALUE;
+        }
     }
     parts::put_part(s, part, base);
-    Outcome::Value
+    VALUE
 }
 
 // The boolean at a place, if it is one.

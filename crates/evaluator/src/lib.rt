@@ -4,21 +4,22 @@ mod building;
 mod leaves;
 mod looseness;
 mod run;
+mod words;
 
 use binding::BUILT;
+use binding::CELLS;
 use binding::INSIDE;
 use binding::WINDOW;
 use binding::agree;
 use binding::built;
+use binding::enter;
 use binding::fetch;
 use binding::judge;
 use binding::mark;
-use binding::nowhere;
 use binding::opening;
 use binding::suits;
 use binding::tally;
 use binding::unchosen;
-use bindings::Cursor;
 use building::add;
 use building::enter_next;
 use building::finish;
@@ -46,6 +47,10 @@ use tables::reading::kind;
 use tables::reading::operand;
 use tables::reading::operand_count;
 use values::Value;
+use words::VALUE;
+use words::YES;
+use words::outcome;
+use words::refusal;
 ghost use mathlib.Core.Path.{_≡_};
 ghost use mathlib.Core.Bool.{true, false};
 ghost use Prim.Native.Nat.{_≤_, _<_};
@@ -53,11 +58,12 @@ ghost use Rattle.tables.specs.Table.{kindAt};
 ghost use Rattle.tables.specs.Accepted.{records};
 ghost use Rattle.tables.specs.Reading.{HasOperand};
 ghost use Rattle.lists.specs.Lent.{lent};
-ghost use Rattle.evaluator.specs.Contract.{Ask, Evaluates, ended, operatorAt, operandAt};
-ghost use Rattle.evaluator.specs.Leaves.{applied, Strict};
+ghost use Rattle.evaluator.specs.Contract.{Ask, Evaluates, ended, operatorAt, operandAt, envOf};
+ghost use Rattle.evaluator.specs.Leaves.{Strict};
 ghost use Rattle.evaluator.specs.Building.{Enumerated};
 ghost use Rattle.evaluator.specs.Sheet.{Runnable, Runs};
-ghost use Rattle.evaluator.specs.Binding.{Binder, Surveyed, Unique, Comprehension, Upward, quantified, Begins, Stands, Insides, Tests, Surveys, Extends, Extended, addsIn, stepIn};
+ghost use Rattle.evaluator.specs.Binding.{Binder, Surveyed, Unique, Comprehension, Upward, quantified, Begins, Stands, Insides, Tests, Surveys, Extends, Extended, addsIn, stepIn, cursorOf, placed, held, counted};
+ghost use Rattle.evaluator.specs.Word.{ending, appliedWord};
 
 // A value, which stands at the base; or a refusal's number, place and count.
 pub enum Outcome {
@@ -87,23 +93,9 @@ pub enum Truth {
     Other,
 }
 
-// What an evaluation in a binder came to, and where its bindings stand.
-pub struct Placed {
-    pub outcome: Outcome,
-    pub cursor: Cursor,
-}
-
-// What a condition came to under a binding.
-pub struct Held {
-    pub outcome: Outcome,
-    pub cursor: Cursor,
-    pub yes: bool,
-}
-
-// How many bindings satisfy, and which of all is the wanted one of them.
-pub struct Counted {
-    pub outcome: Outcome,
-    pub cursor: Cursor,
+// How many bindings satisfy, and which of all is the wanted one of them; or how their tests ended.
+pub struct Tally {
+    pub word: usize,
     pub count: usize,
     pub at: usize,
 }
@@ -117,12 +109,12 @@ const AFTER: usize = Applied::THIRD;
 const LEVEL: usize = 2048;
 
 // An operator's answer at the record r.
-fn answer(a: Applied, r: usize) -> Outcome
-    ensures { λ o. ⌜ o ≡ applied a r ⌝ }
+fn answer(a: Applied, r: usize) -> usize
+    ensures { λ o. ⌜ o ≡ appliedWord a r ⌝ }
 {
     match a {
-        Applied::Done => Outcome::Value,
-        Applied::Refused(n) => Outcome::Refused(n, r, 0),
+        Applied::Done => VALUE,
+        Applied::Refused(n) => refusal(n, r, 0),
     }
 }
 
@@ -133,17 +125,17 @@ fn un(
     r: usize,
     s: &mut [u8],
     base: usize,
-    env: Env,
+    env: &[u32; Env::NAMES],
     run: &mut [u8; RUN],
-) -> Outcome
-    requires { ⌜ Ask (now table) (now index) r (now s) base env (lent (now run)) × (kindAt (records (now table)) r ≡ 4) ⌝ }
-    ensures { λ o. ⌜ Evaluates (now (table .entry)) r (now (s .entry)) (now (s .exit)) base env (lent (now (run .entry))) (ended o (lent (now (run .exit)))) ⌝ }
+) -> usize
+    requires { ⌜ Ask (now table) (now index) r (now s) base (envOf (now env)) (lent (now run)) × (kindAt (records (now table)) r ≡ 4) ⌝ }
+    ensures { λ o. ⌜ Evaluates (now (table .entry)) r (now (s .entry)) (now (s .exit)) base (envOf (now (env .entry))) (lent (now (run .entry))) (ending o (lent (now (run .exit)))) ⌝ }
 {
     let a = operand(table, index, r, 0);
     let o = eval(table, index, a, s, base, env, run);
-    let Outcome::Value = o else {
+    if o % 2 == 1 {
         return o;
-    };
+    }
     let op = field(table, index, r, 0);
     let applied = operations::unary(s, base, op);
     answer(applied, r)
@@ -156,24 +148,24 @@ fn bin(
     r: usize,
     s: &mut [u8],
     base: usize,
-    env: Env,
+    env: &[u32; Env::NAMES],
     run: &mut [u8; RUN],
     k: usize,
     op: usize,
-) -> Outcome
-    requires { ⌜ Ask (now table) (now index) r (now s) base env (lent (now run)) × (kindAt (records (now table)) r ≡ k) × Strict (now table) r k op ⌝ }
-    ensures { λ o. ⌜ Evaluates (now (table .entry)) r (now (s .entry)) (now (s .exit)) base env (lent (now (run .entry))) (ended o (lent (now (run .exit)))) ⌝ }
+) -> usize
+    requires { ⌜ Ask (now table) (now index) r (now s) base (envOf (now env)) (lent (now run)) × (kindAt (records (now table)) r ≡ k) × Strict (now table) r k op ⌝ }
+    ensures { λ o. ⌜ Evaluates (now (table .entry)) r (now (s .entry)) (now (s .exit)) base (envOf (now (env .entry))) (lent (now (run .entry))) (ending o (lent (now (run .exit)))) ⌝ }
 {
     let a = operand(table, index, r, 0);
     let o = eval(table, index, a, s, base, env, run);
-    let Outcome::Value = o else {
+    if o % 2 == 1 {
         return o;
-    };
+    }
     let b = operand(table, index, r, 1);
     let q = eval(table, index, b, s, base + NEXT, env, run);
-    let Outcome::Value = q else {
+    if q % 2 == 1 {
         return q;
-    };
+    }
     let applied = two(s, base, k, op);
     answer(applied, r)
 }
@@ -185,28 +177,28 @@ fn logic(
     r: usize,
     s: &mut [u8],
     base: usize,
-    env: Env,
+    env: &[u32; Env::NAMES],
     run: &mut [u8; RUN],
     op: usize,
-) -> Outcome
-    requires { ⌜ Ask (now table) (now index) r (now s) base env (lent (now run)) × (kindAt (records (now table)) r ≡ 5) × (op ≡ operatorAt (now table) r) × (op ≤ 3) ⌝ }
-    ensures { λ o. ⌜ Evaluates (now (table .entry)) r (now (s .entry)) (now (s .exit)) base env (lent (now (run .entry))) (ended o (lent (now (run .exit)))) ⌝ }
+) -> usize
+    requires { ⌜ Ask (now table) (now index) r (now s) base (envOf (now env)) (lent (now run)) × (kindAt (records (now table)) r ≡ 5) × (op ≡ operatorAt (now table) r) × (op ≤ 3) ⌝ }
+    ensures { λ o. ⌜ Evaluates (now (table .entry)) r (now (s .entry)) (now (s .exit)) base (envOf (now (env .entry))) (lent (now (run .entry))) (ending o (lent (now (run .exit)))) ⌝ }
 {
-    let a = operand(table, index, r, 0);
-    let o = eval(table, index, a, s, base, env, run);
-    let Outcome::Value = o else {
+    let first = operand(table, index, r, 0);
+    let o = eval(table, index, first, s, base, env, run);
+    if o % 2 == 1 {
         return o;
-    };
+    }
     let t = scalars::left(s, base, op);
     match t {
         Tested::Settled => o,
-        Tested::Refused(n) => Outcome::Refused(n, r, 0),
+        Tested::Refused(n) => refusal(n, r, 0),
         Tested::Open => {
-            let b = operand(table, index, r, 1);
-            let q = eval(table, index, b, s, base, env, run);
-            let Outcome::Value = q else {
+            let second = operand(table, index, r, 1);
+            let q = eval(table, index, second, s, base, env, run);
+            if q % 2 == 1 {
                 return q;
-            };
+            }
             let applied = scalars::right(s, base);
             answer(applied, r)
         }
@@ -220,20 +212,20 @@ fn cond(
     r: usize,
     s: &mut [u8],
     base: usize,
-    env: Env,
+    env: &[u32; Env::NAMES],
     run: &mut [u8; RUN],
-) -> Outcome
-    requires { ⌜ Ask (now table) (now index) r (now s) base env (lent (now run)) × (kindAt (records (now table)) r ≡ 6) ⌝ }
-    ensures { λ o. ⌜ Evaluates (now (table .entry)) r (now (s .entry)) (now (s .exit)) base env (lent (now (run .entry))) (ended o (lent (now (run .exit)))) ⌝ }
+) -> usize
+    requires { ⌜ Ask (now table) (now index) r (now s) base (envOf (now env)) (lent (now run)) × (kindAt (records (now table)) r ≡ 6) ⌝ }
+    ensures { λ o. ⌜ Evaluates (now (table .entry)) r (now (s .entry)) (now (s .exit)) base (envOf (now (env .entry))) (lent (now (run .entry))) (ending o (lent (now (run .exit)))) ⌝ }
 {
     let a = operand(table, index, r, 0);
     let o = eval(table, index, a, s, base, env, run);
-    let Outcome::Value = o else {
+    if o % 2 == 1 {
         return o;
-    };
+    }
     let t = test(s, base);
     match t {
-        Truth::Other => Outcome::Refused(Applied::WRONG_KIND, r, 0),
+        Truth::Other => refusal(Applied::WRONG_KIND, r, 0),
         Truth::True => {
             let b = operand(table, index, r, 1);
             eval(table, index, b, s, base, env, run)
@@ -252,12 +244,12 @@ fn many(
     r: usize,
     s: &mut [u8],
     base: usize,
-    env: Env,
+    env: &[u32; Env::NAMES],
     run: &mut [u8; RUN],
     k: usize,
-) -> Outcome
-    requires { ⌜ Ask (now table) (now index) r (now s) base env (lent (now run)) × (kindAt (records (now table)) r ≡ k) × Enumerated k ⌝ }
-    ensures { λ o. ⌜ Evaluates (now (table .entry)) r (now (s .entry)) (now (s .exit)) base env (lent (now (run .entry))) (ended o (lent (now (run .exit)))) ⌝ }
+) -> usize
+    requires { ⌜ Ask (now table) (now index) r (now s) base (envOf (now env)) (lent (now run)) × (kindAt (records (now table)) r ≡ k) × Enumerated k ⌝ }
+    ensures { λ o. ⌜ Evaluates (now (table .entry)) r (now (s .entry)) (now (s .exit)) base (envOf (now (env .entry))) (lent (now (run .entry))) (ending o (lent (now (run .exit)))) ⌝ }
 {
     let n = operand_count(table, index, r);
     put_empty(s, base, started(k));
@@ -266,9 +258,9 @@ fn many(
     while i < n {
         let a = operand(table, index, r, i);
         let o = eval(table, index, a, s, base + NEXT, env, run);
-        let Outcome::Value = o else {
+        if o % 2 == 1 {
             return o;
-        };
+        }
         bad = add(s, base, k, bad);
         i += 1;
     }
@@ -282,11 +274,11 @@ fn maps(
     r: usize,
     s: &mut [u8],
     base: usize,
-    env: Env,
+    env: &[u32; Env::NAMES],
     run: &mut [u8; RUN],
-) -> Outcome
-    requires { ⌜ Ask (now table) (now index) r (now s) base env (lent (now run)) × (kindAt (records (now table)) r ≡ 9) ⌝ }
-    ensures { λ o. ⌜ Evaluates (now (table .entry)) r (now (s .entry)) (now (s .exit)) base env (lent (now (run .entry))) (ended o (lent (now (run .exit)))) ⌝ }
+) -> usize
+    requires { ⌜ Ask (now table) (now index) r (now s) base (envOf (now env)) (lent (now run)) × (kindAt (records (now table)) r ≡ 9) ⌝ }
+    ensures { λ o. ⌜ Evaluates (now (table .entry)) r (now (s .entry)) (now (s .exit)) base (envOf (now (env .entry))) (lent (now (run .entry))) (ending o (lent (now (run .exit)))) ⌝ }
 {
     let n = operand_count(table, index, r);
     put_empty(s, base, Value::MAP);
@@ -295,14 +287,14 @@ fn maps(
     while i < n {
         let a = operand(table, index, r, i);
         let o = eval(table, index, a, s, base + NEXT, env, run);
-        let Outcome::Value = o else {
+        if o % 2 == 1 {
             return o;
-        };
+        }
         let b = operand(table, index, r, i + 1);
         let q = eval(table, index, b, s, base + AFTER, env, run);
-        let Outcome::Value = q else {
+        if q % 2 == 1 {
             return q;
-        };
+        }
         bad = enter_next(s, base, bad);
         i += 2;
     }
@@ -318,30 +310,25 @@ fn begin(
     r: usize,
     s: &mut [u8],
     base: usize,
-    env: Env,
+    env: &[u32; Env::NAMES],
     run: &mut [u8; RUN],
     k: usize,
-) -> Placed
-    requires { ⌜ Ask (now table) (now index) r (now s) base env (lent (now run)) × (kindAt (records (now table)) r ≡ k) × Binder k ⌝ }
-    ensures { λ x. ⌜ Begins (now (table .entry)) r k (now (s .entry)) (now (s .exit)) base env (lent (now (run .entry))) x (lent (now (run .exit))) ⌝ }
+    cursor: &mut [usize; CELLS],
+) -> usize
+    requires { ⌜ Ask (now table) (now index) r (now s) base (envOf (now env)) (lent (now run)) × (kindAt (records (now table)) r ≡ k) × Binder k ⌝ }
+    ensures { λ o. ⌜ Begins (now (table .entry)) r k (now (s .entry)) (now (s .exit)) base (envOf (now (env .entry))) (lent (now (run .entry))) (placed o (now (cursor .exit))) (lent (now (run .exit))) ⌝ }
 {
     let a = operand(table, index, r, 1);
     let o = eval(table, index, a, s, base, env, run);
-    let Outcome::Value = o else {
-        return Placed {
-            outcome: o,
-            cursor: nowhere(),
-        };
-    };
+    if o % 2 == 1 {
+        return o;
+    }
     if !suits(s, base, k) {
-        return Placed {
-            outcome: Outcome::Refused(Applied::WRONG_KIND, r, 0),
-            cursor: nowhere(),
-        };
+        return refusal(Applied::WRONG_KIND, r, 0);
     }
     let p = operand(table, index, r, 0);
     let opened = bindings::open(table, index, p, s, base, k == kinds::LET, base + WINDOW);
-    opening(opened, r)
+    opening(opened, r, cursor)
 }
 
 // Operand i of the binder r, evaluated under binding j at a place above base.
@@ -351,26 +338,21 @@ fn inside(
     r: usize,
     s: &mut [u8],
     base: usize,
-    env: Env,
+    env: &[u32; Env::NAMES],
     run: &mut [u8; RUN],
     whole: bool,
-    cursor: Cursor,
+    cursor: &mut [usize; CELLS],
     j: usize,
     i: usize,
     up: usize,
-) -> Placed
-    requires { ⌜ Stands (now table) (now index) r whole (now s) base env (lent (now run)) cursor j × HasOperand (now table) (now index) r i × Upward up ⌝ }
-    ensures { λ x. ⌜ Insides (now (table .entry)) r (operandAt (now (table .entry)) r i) whole (now (s .entry)) (now (s .exit)) base up env (lent (now (run .entry))) cursor j x (lent (now (run .exit))) ⌝ }
+) -> usize
+    requires { ⌜ Stands (now table) (now index) r whole (now s) base (envOf (now env)) (lent (now run)) (cursorOf (now cursor)) j × HasOperand (now table) (now index) r i × Upward up ⌝ }
+    ensures { λ o. ⌜ Insides (now (table .entry)) r (operandAt (now (table .entry)) r i) whole (now (s .entry)) (now (s .exit)) base up (envOf (now (env .entry))) (lent (now (run .entry))) (cursorOf (now (cursor .entry))) j (placed o (now (cursor .exit))) (lent (now (run .exit))) ⌝ }
 {
-    let p = operand(table, index, r, 0);
-    let near = bindings::reach(table, index, p, s, base, whole, base + WINDOW, cursor, j);
-    let inner = bindings::under(s, base + WINDOW, near, j, env);
+    let mut inner = [0; Env::NAMES];
+    enter(table, index, r, s, base, env, whole, cursor, j, &mut inner);
     let q = operand(table, index, r, i);
-    let outcome = eval(table, index, q, s, base + up, inner, run);
-    Placed {
-        outcome,
-        cursor: near,
-    }
+    eval(table, index, q, s, base + up, &inner, run)
 }
 
 // Does the condition of the binder r hold under binding j?
@@ -380,15 +362,15 @@ fn holds(
     r: usize,
     s: &mut [u8],
     base: usize,
-    env: Env,
+    env: &[u32; Env::NAMES],
     run: &mut [u8; RUN],
-    cursor: Cursor,
+    cursor: &mut [usize; CELLS],
     j: usize,
-) -> Held
-    requires { ⌜ Stands (now table) (now index) r false (now s) base env (lent (now run)) cursor j ⌝ }
-    ensures { λ h. ⌜ Tests (now (table .entry)) r (now (s .entry)) (now (s .exit)) base env (lent (now (run .entry))) cursor j h (lent (now (run .exit))) ⌝ }
+) -> usize
+    requires { ⌜ Stands (now table) (now index) r false (now s) base (envOf (now env)) (lent (now run)) (cursorOf (now cursor)) j ⌝ }
+    ensures { λ h. ⌜ Tests (now (table .entry)) r (now (s .entry)) (now (s .exit)) base (envOf (now (env .entry))) (lent (now (run .entry))) (cursorOf (now (cursor .entry))) j (held h (now (cursor .exit))) (lent (now (run .exit))) ⌝ }
 {
-    let x = inside(
+    let o = inside(
         table,
         index,
         r,
@@ -402,17 +384,11 @@ fn holds(
         2,
         INSIDE,
     );
-    let o = x.outcome;
-    let near = x.cursor;
-    let Outcome::Value = o else {
-        return Held {
-            outcome: o,
-            cursor: near,
-            yes: false,
-        };
-    };
+    if o % 2 == 1 {
+        return o;
+    }
     let t = test(s, base + INSIDE);
-    judge(t, r, near)
+    judge(t, r)
 }
 
 // 14, 15: forall stops at the first false, exists at the first true.
@@ -422,38 +398,35 @@ fn quant(
     r: usize,
     s: &mut [u8],
     base: usize,
-    env: Env,
+    env: &[u32; Env::NAMES],
     run: &mut [u8; RUN],
     k: usize,
     want: bool,
-) -> Outcome
-    requires { ⌜ Ask (now table) (now index) r (now s) base env (lent (now run)) × (kindAt (records (now table)) r ≡ k) × (k ≡ quantified want) ⌝ }
-    ensures { λ o. ⌜ Evaluates (now (table .entry)) r (now (s .entry)) (now (s .exit)) base env (lent (now (run .entry))) (ended o (lent (now (run .exit)))) ⌝ }
+) -> usize
+    requires { ⌜ Ask (now table) (now index) r (now s) base (envOf (now env)) (lent (now run)) × (kindAt (records (now table)) r ≡ k) × (k ≡ quantified want) ⌝ }
+    ensures { λ o. ⌜ Evaluates (now (table .entry)) r (now (s .entry)) (now (s .exit)) base (envOf (now (env .entry))) (lent (now (run .entry))) (ending o (lent (now (run .exit)))) ⌝ }
 {
-    let b = begin(table, index, r, s, base, env, run, k);
-    let o = b.outcome;
-    let Outcome::Value = o else {
+    let mut cursor = [0; CELLS];
+    let o = begin(table, index, r, s, base, env, run, k, &mut cursor);
+    if o % 2 == 1 {
         return o;
-    };
-    let mut cursor = b.cursor;
-    let n = cursor.count;
+    }
+    let n = cursor[0];
     let mut found = !want;
     let mut j = 0;
     'all: while j < n {
-        let h = holds(table, index, r, s, base, env, run, cursor, j);
-        let q = h.outcome;
-        let Outcome::Value = q else {
-            return q;
-        };
-        cursor = h.cursor;
-        if agree(h.yes, want) {
+        let h = holds(table, index, r, s, base, env, run, &mut cursor, j);
+        if h % 2 == 1 {
+            return h;
+        }
+        if agree(h == YES, want) {
             found = want;
             break 'all;
         }
         j += 1;
     }
     values::put_boolean(s, base, found);
-    Outcome::Value
+    VALUE
 }
 
 // 13, 16, 17: all bindings are tested. The satisfying ones are counted, and the wanted one is remembered as it passes.
@@ -463,48 +436,38 @@ fn survey(
     r: usize,
     s: &mut [u8],
     base: usize,
-    env: Env,
+    env: &[u32; Env::NAMES],
     run: &mut [u8; RUN],
     k: usize,
-) -> Counted
-    requires { ⌜ Ask (now table) (now index) r (now s) base env (lent (now run)) × (kindAt (records (now table)) r ≡ k) × Surveyed k ⌝ }
-    ensures { λ v. ⌜ Surveys (now (table .entry)) r k (now (s .entry)) (now (s .exit)) base env (lent (now (run .entry))) v (lent (now (run .exit))) ⌝ }
+    cursor: &mut [usize; CELLS],
+) -> Tally
+    requires { ⌜ Ask (now table) (now index) r (now s) base (envOf (now env)) (lent (now run)) × (kindAt (records (now table)) r ≡ k) × Surveyed k ⌝ }
+    ensures { λ v. ⌜ Surveys (now (table .entry)) r k (now (s .entry)) (now (s .exit)) base (envOf (now (env .entry))) (lent (now (run .entry))) (counted v (now (cursor .exit))) (lent (now (run .exit))) ⌝ }
 {
-    let b = begin(table, index, r, s, base, env, run, k);
-    let o = b.outcome;
-    let mut cursor = b.cursor;
-    let Outcome::Value = o else {
-        return Counted {
-            outcome: o,
-            cursor,
+    let o = begin(table, index, r, s, base, env, run, k, cursor);
+    if o % 2 == 1 {
+        return Tally {
+            word: o,
             count: 0,
             at: 0,
         };
-    };
+    }
     let due = wanted(run, k);
-    let n = cursor.count;
+    let all = cursor[0];
     let mut count = 0;
     let mut at = 0;
     let mut j = 0;
-    while j < n {
+    while j < all {
         let h = holds(table, index, r, s, base, env, run, cursor, j);
-        let q = h.outcome;
-        cursor = h.cursor;
-        let Outcome::Value = q else {
-            return Counted {
-                outcome: q,
-                cursor,
-                count,
-                at,
-            };
-        };
-        at = mark(h.yes, count, due, j, at);
-        count = tally(h.yes, count);
+        if h % 2 == 1 {
+            return Tally { word: h, count, at };
+        }
+        at = mark(h == YES, count, due, j, at);
+        count = tally(h == YES, count);
         j += 1;
     }
-    Counted {
-        outcome: Outcome::Value,
-        cursor,
+    Tally {
+        word: VALUE,
         count,
         at,
     }
@@ -517,28 +480,28 @@ fn one(
     r: usize,
     s: &mut [u8],
     base: usize,
-    env: Env,
+    env: &[u32; Env::NAMES],
     run: &mut [u8; RUN],
     k: usize,
-) -> Outcome
-    requires { ⌜ Ask (now table) (now index) r (now s) base env (lent (now run)) × (kindAt (records (now table)) r ≡ k) × Unique k ⌝ }
-    ensures { λ o. ⌜ Evaluates (now (table .entry)) r (now (s .entry)) (now (s .exit)) base env (lent (now (run .entry))) (ended o (lent (now (run .exit)))) ⌝ }
+) -> usize
+    requires { ⌜ Ask (now table) (now index) r (now s) base (envOf (now env)) (lent (now run)) × (kindAt (records (now table)) r ≡ k) × Unique k ⌝ }
+    ensures { λ o. ⌜ Evaluates (now (table .entry)) r (now (s .entry)) (now (s .exit)) base (envOf (now (env .entry))) (lent (now (run .entry))) (ending o (lent (now (run .exit)))) ⌝ }
 {
-    let v = survey(table, index, r, s, base, env, run, k);
-    let o = v.outcome;
-    let Outcome::Value = o else {
+    let mut cursor = [0; CELLS];
+    let v = survey(table, index, r, s, base, env, run, k, &mut cursor);
+    let o = v.word;
+    if o % 2 == 1 {
         return o;
-    };
+    }
     if k == kinds::EXISTS1 {
         values::put_boolean(s, base, v.count == 1);
-        return Outcome::Value;
+        return VALUE;
     }
     if v.count != 1 {
-        return Outcome::Refused(Outcome::NOT_UNIQUE, r, 0);
+        return refusal(Outcome::NOT_UNIQUE, r, 0);
     }
-    let cursor = v.cursor;
-    fetch(table, index, r, s, base, env, cursor, v.at);
-    Outcome::Value
+    fetch(table, index, r, s, base, env, &mut cursor, v.at);
+    VALUE
 }
 
 // 13: let-be. A choice among the satisfying bindings, and the body under the one chosen.
@@ -548,27 +511,37 @@ fn such(
     r: usize,
     s: &mut [u8],
     base: usize,
-    env: Env,
+    env: &[u32; Env::NAMES],
     run: &mut [u8; RUN],
-) -> Outcome
-    requires { ⌜ Ask (now table) (now index) r (now s) base env (lent (now run)) × (kindAt (records (now table)) r ≡ 13) ⌝ }
-    ensures { λ o. ⌜ Evaluates (now (table .entry)) r (now (s .entry)) (now (s .exit)) base env (lent (now (run .entry))) (ended o (lent (now (run .exit)))) ⌝ }
+) -> usize
+    requires { ⌜ Ask (now table) (now index) r (now s) base (envOf (now env)) (lent (now run)) × (kindAt (records (now table)) r ≡ 13) ⌝ }
+    ensures { λ o. ⌜ Evaluates (now (table .entry)) r (now (s .entry)) (now (s .exit)) base (envOf (now (env .entry))) (lent (now (run .entry))) (ending o (lent (now (run .exit)))) ⌝ }
 {
-    let v = survey(table, index, r, s, base, env, run, kinds::LET_BE);
-    let o = v.outcome;
-    let Outcome::Value = o else {
+    let mut cursor = [0; CELLS];
+    let v = survey(
+        table,
+        index,
+        r,
+        s,
+        base,
+        env,
+        run,
+        kinds::LET_BE,
+        &mut cursor,
+    );
+    let o = v.word;
+    if o % 2 == 1 {
         return o;
-    };
+    }
     let n = v.count;
     if n == 0 {
-        return Outcome::Refused(Outcome::NO_BINDING, r, 0);
+        return refusal(Outcome::NO_BINDING, r, 0);
     }
     let a = choose(run, n);
     let Answer::Taken(_) = a else {
         return unchosen(a, r, n);
     };
-    let cursor = v.cursor;
-    let x = inside(
+    let q = inside(
         table,
         index,
         r,
@@ -577,17 +550,16 @@ fn such(
         env,
         run,
         false,
-        cursor,
+        &mut cursor,
         v.at,
         3,
         INSIDE,
     );
-    let q = x.outcome;
-    let Outcome::Value = q else {
+    if q % 2 == 1 {
         return q;
-    };
+    }
     values::copy_value(s, base + INSIDE, base);
-    Outcome::Value
+    VALUE
 }
 
 // 12: let. A loose pattern chooses among its bindings.
@@ -597,21 +569,20 @@ fn local(
     r: usize,
     s: &mut [u8],
     base: usize,
-    env: Env,
+    env: &[u32; Env::NAMES],
     run: &mut [u8; RUN],
-) -> Outcome
-    requires { ⌜ Ask (now table) (now index) r (now s) base env (lent (now run)) × (kindAt (records (now table)) r ≡ 12) ⌝ }
-    ensures { λ o. ⌜ Evaluates (now (table .entry)) r (now (s .entry)) (now (s .exit)) base env (lent (now (run .entry))) (ended o (lent (now (run .exit)))) ⌝ }
+) -> usize
+    requires { ⌜ Ask (now table) (now index) r (now s) base (envOf (now env)) (lent (now run)) × (kindAt (records (now table)) r ≡ 12) ⌝ }
+    ensures { λ o. ⌜ Evaluates (now (table .entry)) r (now (s .entry)) (now (s .exit)) base (envOf (now (env .entry))) (lent (now (run .entry))) (ending o (lent (now (run .exit)))) ⌝ }
 {
-    let b = begin(table, index, r, s, base, env, run, kinds::LET);
-    let o = b.outcome;
-    let Outcome::Value = o else {
+    let mut cursor = [0; CELLS];
+    let o = begin(table, index, r, s, base, env, run, kinds::LET, &mut cursor);
+    if o % 2 == 1 {
         return o;
-    };
-    let cursor = b.cursor;
-    let n = cursor.count;
+    }
+    let n = cursor[0];
     if n == 0 {
-        return Outcome::Refused(Outcome::NO_MATCH, r, 0);
+        return refusal(Outcome::NO_MATCH, r, 0);
     }
     let p = operand(table, index, r, 0);
     let loose = is_loose(table, index, p);
@@ -619,7 +590,7 @@ fn local(
     let Answer::Taken(i) = a else {
         return unchosen(a, r, n);
     };
-    let x = inside(
+    let q = inside(
         table,
         index,
         r,
@@ -628,17 +599,16 @@ fn local(
         env,
         run,
         true,
-        cursor,
+        &mut cursor,
         i,
         2,
         INSIDE,
     );
-    let q = x.outcome;
-    let Outcome::Value = q else {
+    if q % 2 == 1 {
         return q;
-    };
+    }
     values::copy_value(s, base + INSIDE, base);
-    Outcome::Value
+    VALUE
 }
 
 // 18, 19: an element, evaluated under binding j and added to what is built.
@@ -648,16 +618,16 @@ fn item(
     r: usize,
     s: &mut [u8],
     base: usize,
-    env: Env,
+    env: &[u32; Env::NAMES],
     run: &mut [u8; RUN],
     k: usize,
-    cursor: Cursor,
+    cursor: &mut [usize; CELLS],
     j: usize,
-) -> Placed
-    requires { ⌜ Extends (now table) (now index) r k (now s) base env (lent (now run)) cursor j × (k < 20) ⌝ }
-    ensures { λ x. ⌜ Extended (addsIn (now (table .entry)) r k) (now (table .entry)) r k (now (s .entry)) (now (s .exit)) base env (lent (now (run .entry))) cursor j x (lent (now (run .exit))) ⌝ }
+) -> usize
+    requires { ⌜ Extends (now table) (now index) r k (now s) base (envOf (now env)) (lent (now run)) (cursorOf (now cursor)) j × (k < 20) ⌝ }
+    ensures { λ o. ⌜ Extended (addsIn (now (table .entry)) r k) (now (table .entry)) r k (now (s .entry)) (now (s .exit)) base (envOf (now (env .entry))) (lent (now (run .entry))) (cursorOf (now (cursor .entry))) j (placed o (now (cursor .exit))) (lent (now (run .exit))) ⌝ }
 {
-    let x = inside(
+    let o = inside(
         table,
         index,
         r,
@@ -671,16 +641,11 @@ fn item(
         3,
         INSIDE,
     );
-    let o = x.outcome;
-    let Outcome::Value = o else {
-        return x;
-    };
-    let bad = add(s, base + BUILT, k - 11, 0);
-    let near = x.cursor;
-    Placed {
-        outcome: built(bad, r),
-        cursor: near,
+    if o % 2 == 1 {
+        return o;
     }
+    let bad = add(s, base + BUILT, k - 11, 0);
+    built(bad, r)
 }
 
 // 20: a key and a value, evaluated under binding j and entered into what is built.
@@ -690,15 +655,15 @@ fn pair(
     r: usize,
     s: &mut [u8],
     base: usize,
-    env: Env,
+    env: &[u32; Env::NAMES],
     run: &mut [u8; RUN],
-    cursor: Cursor,
+    cursor: &mut [usize; CELLS],
     j: usize,
-) -> Placed
-    requires { ⌜ Extends (now table) (now index) r 20 (now s) base env (lent (now run)) cursor j ⌝ }
-    ensures { λ x. ⌜ Extended (addsIn (now (table .entry)) r 20) (now (table .entry)) r 20 (now (s .entry)) (now (s .exit)) base env (lent (now (run .entry))) cursor j x (lent (now (run .exit))) ⌝ }
+) -> usize
+    requires { ⌜ Extends (now table) (now index) r 20 (now s) base (envOf (now env)) (lent (now run)) (cursorOf (now cursor)) j ⌝ }
+    ensures { λ o. ⌜ Extended (addsIn (now (table .entry)) r 20) (now (table .entry)) r 20 (now (s .entry)) (now (s .exit)) base (envOf (now (env .entry))) (lent (now (run .entry))) (cursorOf (now (cursor .entry))) j (placed o (now (cursor .exit))) (lent (now (run .exit))) ⌝ }
 {
-    let x = inside(
+    let o = inside(
         table,
         index,
         r,
@@ -712,22 +677,28 @@ fn pair(
         3,
         INSIDE,
     );
-    let o = x.outcome;
-    let Outcome::Value = o else {
-        return x;
-    };
-    let next = x.cursor;
-    let y = inside(table, index, r, s, base, env, run, false, next, j, 4, LEVEL);
-    let q = y.outcome;
-    let Outcome::Value = q else {
-        return y;
-    };
-    let bad = enter_next(s, base + BUILT, 0);
-    let near = y.cursor;
-    Placed {
-        outcome: built(bad, r),
-        cursor: near,
+    if o % 2 == 1 {
+        return o;
     }
+    let q = inside(
+        table,
+        index,
+        r,
+        s,
+        base,
+        env,
+        run,
+        false,
+        cursor,
+        j,
+        4,
+        LEVEL,
+    );
+    if q % 2 == 1 {
+        return q;
+    }
+    let bad = enter_next(s, base + BUILT, 0);
+    built(bad, r)
 }
 
 // One binding of a comprehension: its condition, and where that holds what is added.
@@ -737,34 +708,26 @@ fn step(
     r: usize,
     s: &mut [u8],
     base: usize,
-    env: Env,
+    env: &[u32; Env::NAMES],
     run: &mut [u8; RUN],
     k: usize,
-    cursor: Cursor,
+    cursor: &mut [usize; CELLS],
     j: usize,
-) -> Placed
-    requires { ⌜ Extends (now table) (now index) r k (now s) base env (lent (now run)) cursor j ⌝ }
-    ensures { λ x. ⌜ Extended (stepIn (now (table .entry)) r k) (now (table .entry)) r k (now (s .entry)) (now (s .exit)) base env (lent (now (run .entry))) cursor j x (lent (now (run .exit))) ⌝ }
+) -> usize
+    requires { ⌜ Extends (now table) (now index) r k (now s) base (envOf (now env)) (lent (now run)) (cursorOf (now cursor)) j ⌝ }
+    ensures { λ o. ⌜ Extended (stepIn (now (table .entry)) r k) (now (table .entry)) r k (now (s .entry)) (now (s .exit)) base (envOf (now (env .entry))) (lent (now (run .entry))) (cursorOf (now (cursor .entry))) j (placed o (now (cursor .exit))) (lent (now (run .exit))) ⌝ }
 {
     let h = holds(table, index, r, s, base, env, run, cursor, j);
-    let o = h.outcome;
-    let near = h.cursor;
-    let Outcome::Value = o else {
-        return Placed {
-            outcome: o,
-            cursor: near,
-        };
-    };
-    if !h.yes {
-        return Placed {
-            outcome: Outcome::Value,
-            cursor: near,
-        };
+    if h % 2 == 1 {
+        return h;
+    }
+    if h != YES {
+        return VALUE;
     }
     if k == kinds::MAP_COMPREHENSION {
-        return pair(table, index, r, s, base, env, run, near, j);
+        return pair(table, index, r, s, base, env, run, cursor, j);
     }
-    item(table, index, r, s, base, env, run, k, near, j)
+    item(table, index, r, s, base, env, run, k, cursor, j)
 }
 
 // 18, 19, 20: a set, a sequence, a map, built binding by binding.
@@ -774,33 +737,30 @@ fn comp(
     r: usize,
     s: &mut [u8],
     base: usize,
-    env: Env,
+    env: &[u32; Env::NAMES],
     run: &mut [u8; RUN],
     k: usize,
-) -> Outcome
-    requires { ⌜ Ask (now table) (now index) r (now s) base env (lent (now run)) × (kindAt (records (now table)) r ≡ k) × Comprehension k ⌝ }
-    ensures { λ o. ⌜ Evaluates (now (table .entry)) r (now (s .entry)) (now (s .exit)) base env (lent (now (run .entry))) (ended o (lent (now (run .exit)))) ⌝ }
+) -> usize
+    requires { ⌜ Ask (now table) (now index) r (now s) base (envOf (now env)) (lent (now run)) × (kindAt (records (now table)) r ≡ k) × Comprehension k ⌝ }
+    ensures { λ o. ⌜ Evaluates (now (table .entry)) r (now (s .entry)) (now (s .exit)) base (envOf (now (env .entry))) (lent (now (run .entry))) (ending o (lent (now (run .exit)))) ⌝ }
 {
-    let b = begin(table, index, r, s, base, env, run, k);
-    let o = b.outcome;
-    let Outcome::Value = o else {
+    let mut cursor = [0; CELLS];
+    let o = begin(table, index, r, s, base, env, run, k, &mut cursor);
+    if o % 2 == 1 {
         return o;
-    };
+    }
     put_empty(s, base + BUILT, k - 15);
-    let mut cursor = b.cursor;
-    let n = cursor.count;
+    let n = cursor[0];
     let mut j = 0;
     while j < n {
-        let x = step(table, index, r, s, base, env, run, k, cursor, j);
-        let q = x.outcome;
-        let Outcome::Value = q else {
+        let q = step(table, index, r, s, base, env, run, k, &mut cursor, j);
+        if q % 2 == 1 {
             return q;
-        };
-        cursor = x.cursor;
+        }
         j += 1;
     }
     values::copy_value(s, base + BUILT, base);
-    Outcome::Value
+    VALUE
 }
 
 // The record r evaluated.
@@ -810,11 +770,11 @@ pub fn eval(
     r: usize,
     s: &mut [u8],
     base: usize,
-    env: Env,
+    env: &[u32; Env::NAMES],
     run: &mut [u8; RUN],
-) -> Outcome
-    requires { ⌜ Ask (now table) (now index) r (now s) base env (lent (now run)) ⌝ }
-    ensures { λ o. ⌜ Evaluates (now (table .entry)) r (now (s .entry)) (now (s .exit)) base env (lent (now (run .entry))) (ended o (lent (now (run .exit)))) ⌝ }
+) -> usize
+    requires { ⌜ Ask (now table) (now index) r (now s) base (envOf (now env)) (lent (now run)) ⌝ }
+    ensures { λ o. ⌜ Evaluates (now (table .entry)) r (now (s .entry)) (now (s .exit)) base (envOf (now (env .entry))) (lent (now (run .entry))) (ending o (lent (now (run .exit)))) ⌝ }
 {
     let k = kind(table, index, r);
     match k {
@@ -845,7 +805,7 @@ pub fn eval(
         kinds::SEQUENCE_COMPREHENSION => comp(table, index, r, s, base, env, run, k),
         kinds::MAP_COMPREHENSION => comp(table, index, r, s, base, env, run, k),
         kinds::APPLY => bin(table, index, r, s, base, env, run, k, 0),
-        _ => Outcome::Refused(Applied::WRONG_KIND, r, 0),
+        _ => refusal(Applied::WRONG_KIND, r, 0),
     }
 }
 
@@ -860,6 +820,7 @@ pub fn run_sheet(
     requires { ⌜ Runnable (now table) (now index) count (now s) (lent (now run)) ⌝ }
     ensures { λ o. ⌜ Runs (now (table .entry)) (now (s .exit)) (lent (now (run .entry))) (ended o (lent (now (run .exit)))) ⌝ }
 {
-    let env = Env::empty();
-    eval(table, index, count - 1, s, 0, env, run)
+    let env = [0; Env::NAMES];
+    let o = eval(table, index, count - 1, s, 0, &env, run);
+    outcome(o)
 }

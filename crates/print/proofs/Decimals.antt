@@ -1,5 +1,5 @@
 -- The digits of a number: the last after those of its tenth, and how many there are.
-use mathlib.Core.Path.{_≡_, refl, sym, ap, _∙_}
+use mathlib.Core.Path.{_≡_, refl, ap, _∙_}
 use mathlib.Core.Bool.{Bool, true, false, cond}
 use mathlib.Core.List.{List, [], _∷_, _++_}
 use Prim.Native.Nat.{ℕ, zero, suc, _+_, _*_, _/_, _%_, _≤_, _<_}
@@ -41,9 +41,25 @@ module _ (n : ℕ) where
 -- ---- how many
 
 -- 10 ^ (k + 1)
-abbrev tens : ℕ → ℕ
+abbrev pub tens : ℕ → ℕ
 tens zero = 10
 tens (suc k) = 10 * tens k
+
+-- as many digits as the number has are enough
+digits-within : (k j n : ℕ) → n < tens k → n < j → digitsTo j n ≡ digitsTo (suc k) n
+unfolding digitsTo
+digits-within k zero n h g = absurd (omega arith)
+digits-within zero (suc j) n h g = rw (lt-ltb n 10 h)
+digits-within (suc k) (suc j) n h g = go (λ low. digits-within k j (n / 10) (omega arith) (omega arith)) (ltb n 10) refl
+  where
+    go : (10 ≤ n → digitsTo j (n / 10) ≡ digitsTo (suc k) (n / 10)) → (x : Bool) → ltb n 10 ≡ x
+        → cond x (digit n ∷ []) (digitsTo j (n / 10) ++ digit (n % 10) ∷ []) ≡ cond x (digit n ∷ []) (digitsTo (suc k) (n / 10) ++ digit (n % 10) ∷ [])
+    go same true e = refl
+    go same false e = ap (λ (l : List ℕ). l ++ digit (n % 10) ∷ []) (same (ltb-false n 10 e))
+
+pub decimal-within : (k n : ℕ) → n < tens k → decimal n ≡ digitsTo (suc k) n
+unfolding decimal
+decimal-within k n h = digits-within k (suc n) n h (omega arith)
 
 pub decimal-short : (k n : ℕ) → n < tens k → length (decimal n) ≤ suc k
 decimal-short zero n h = omega (arith, length-small n h)

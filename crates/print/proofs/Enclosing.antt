@@ -1,12 +1,10 @@
 -- What a collection's text begins and ends with, by the number of its kind.
 use mathlib.Core.Path.{_≡_, refl, sym, ap, _∙_}
 use mathlib.Core.Bool.{Bool}
-use mathlib.Core.List.{[], _∷_}
 use Prim.Native.Nat.{ℕ}
-use native.Mathlib.Omega.{arith}
 use Rattle.values.specs.Value.{Kind, set, sequence, map, tuple, number}
 use Rattle.values.proofs.Order.{number-inj}
-use Rattle.print.specs.Ascii.{closing-brace}
+use Rattle.print.specs.Ascii.{ascii}
 use Rattle.print.specs.Contract.{opening, closing}
 
 pub opening-of : (j k : Kind) (b : Bool) {n : ℕ} → n ≡ number j → n ≡ number k → opening j b ≡ opening k b
@@ -23,7 +21,7 @@ opening-else map b f g h e = refl
 opening-else tuple b f g h e = absurd (h e)
 
 -- neither 4 nor 6: a set or a map
-pub closing-else : (k : Kind) {n : ℕ} → (n ≡ 4 → ⊥) → (n ≡ 6 → ⊥) → n ≡ number k → closing-brace ∷ [] ≡ closing k
+pub closing-else : (k : Kind) {n : ℕ} → (n ≡ 4 → ⊥) → (n ≡ 6 → ⊥) → n ≡ number k → ascii "}" ≡ closing k
 closing-else set g h e = refl
 closing-else sequence g h e = absurd (g e)
 closing-else map g h e = refl

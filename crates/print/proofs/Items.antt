@@ -1,8 +1,8 @@
 -- A value and its items, written one after the other.
 use mathlib.Core.Path.{_≡_, refl, sym, ap, ap₂, subst, _∙_}
-use mathlib.Core.Bool.{Bool, true, false}
+use mathlib.Core.Bool.{Bool}
 use mathlib.Core.List.{List, _++_}
-use Prim.Native.Nat.{ℕ, _+_, _*_, _-_, _≤_, _<_}
+use Prim.Native.Nat.{ℕ, _+_, _<_}
 use native.Mathlib.Omega.{arith}
 use borrow.Author.Tests.{ne-eqb}
 use lib.Dec.{eqb}
@@ -11,12 +11,11 @@ use lib.ListN.{length}
 use mir.Syntax.{w32}
 use mir.Val.{toZ, ofZ}
 use mir.Facts.{toZ-ofZ}
-use Rattle.integers.specs.Bytes.{word}
 use Rattle.integers.proofs.Range.{range-fits}
-use Rattle.values.specs.Value.{Kind, set, sequence, map, tuple, number, Value, boolean, integer, collection, Items, none, more, size, sizes}
+use Rattle.values.specs.Value.{Kind, set, sequence, map, tuple, number, boolean, integer, collection, Items, none, more, size, sizes}
 use Rattle.values.specs.Place.{At, ItemsAt, Holds, HoldsItems}
 use Rattle.values.specs.Contract.{Length, KindAt}
-use Rattle.values.proofs.Encoding.{size-low, collection-size, none-sizes, more-sizes}
+use Rattle.values.proofs.Encoding.{size-low, collection-size}
 use Rattle.values.proofs.Records.{word-size, holds, one-value, items-none, Uncons, uncons-of, is-collection, items-to, collection-shaped, collection-sound, integer-range}
 use Rattle.print.specs.declared.Separator.{Separator}
 use Rattle.print.specs.declared.Separator.the-variants.{Nothing}

@@ -1,18 +1,16 @@
 -- Outcomes and lines: what is known of an answer, the texts of the parts put together, and how long they are.
-use mathlib.Core.Path.{_≡_, refl, sym, ap, subst, _∙_}
+use mathlib.Core.Path.{_≡_, sym, ap, _∙_}
 use mathlib.Core.List.{List, [], _∷_, _++_, map as each, append-assoc}
-use Prim.Native.Nat.{ℕ, zero, suc, _+_, _*_, _≤_, _<_}
+use Prim.Native.Nat.{ℕ, suc, _+_, _*_, _≤_, _<_}
 use native.Mathlib.Omega.{arith}
 use lib.ListN.{length, getD, set, length-append, length-set}
-use lib.Seq.{append-snoc}
-use Rattle.choices.specs.Tree.{Final, result, refuses, mostChoices}
-use Rattle.values.specs.Value.{Value, WellFormed}
-use Rattle.values.specs.Place.{At, Holds}
+use Rattle.choices.specs.Tree.{Final, mostChoices}
+use Rattle.values.specs.Value.{Value}
+use Rattle.values.specs.Place.{Holds}
 use Rattle.values.proofs.Records.{holds}
-use Rattle.meaning.specs.Walk.{Bytes}
 use Rattle.print.specs.Ascii.{newline, space, exclamation, equals}
-use Rattle.print.specs.Text.{decimal, continued, listText, word, text, outcomeText, line}
-use Rattle.print.specs.Contract.{Wrote, Room, ValueRoom, ValueWritten, longestLine, Answers, gave, refused, Answered, OutcomeRoom, OutcomeWritten, LineRoom, LineWritten}
+use Rattle.print.specs.Text.{decimal, continued, listText, word, outcomeText, line}
+use Rattle.print.specs.Contract.{Wrote, Room, ValueRoom, ValueWritten, longestLine, Answers, gave, refused, OutcomeRoom, OutcomeWritten, LineRoom, LineWritten}
 use Rattle.print.proofs.Writing.{wrote-length, wrote-then, wrote-byte, wrote-after, wrote-as}
 use Rattle.print.proofs.Decimals.{decimal-byte, decimal-any}
 use Rattle.print.proofs.Spelling.{text-short}

@@ -9,7 +9,7 @@ use Rattle.integers.proofs.Written.{sets-then}
 use Rattle.print.specs.Ascii.{comma, hyphen}
 use Rattle.print.specs.Text.{decimal, continued, listText}
 use Rattle.print.specs.Contract.{Wrote, Room}
-use Rattle.print.proofs.Writing.{wrote-length, wrote-then, wrote-as}
+use Rattle.print.proofs.Writing.{wrote-length}
 
 -- the entries from i on, each after a comma
 abbrev pub tails : List ℕ → ℕ → List ℕ

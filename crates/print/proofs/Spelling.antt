@@ -1,8 +1,8 @@
 -- A collection's text as the code writes it: what it begins with, each item after what stands before it, what it ends with. And how long a text is.
-use mathlib.Core.Path.{_≡_, refl, sym, ap, ap₂, _∙_}
+use mathlib.Core.Path.{_≡_, refl, sym, ap, _∙_}
 use mathlib.Core.Bool.{Bool, true, false}
-use mathlib.Core.List.{List, [], _∷_, _++_, append-assoc, append-nil}
-use Prim.Native.Nat.{ℕ, zero, suc, _+_, _*_, _≤_, _<_}
+use mathlib.Core.List.{List, _∷_, _++_, append-assoc}
+use Prim.Native.Nat.{ℕ, suc, _+_, _*_, _≤_, _<_}
 use native.Mathlib.Omega.{arith}
 use lib.IntN.{ℤ, pos, negsuc}
 use lib.ListN.{length, length-append}
@@ -11,7 +11,7 @@ use Rattle.values.specs.Value.{Kind, set, sequence, map, tuple, Value, boolean,
 use Rattle.print.specs.declared.Separator.{Separator}
 use Rattle.print.specs.declared.Separator.the-variants.{Nothing, Comma, Arrow}
 use Rattle.print.specs.Ascii.{comma}
-use Rattle.print.specs.Text.{decimal, integerText, truth, continued, joined, pairs, entries, arrow, text, texts}
+use Rattle.print.specs.Text.{integerText, truth, continued, joined, pairs, entries, arrow, text, texts}
 use Rattle.print.specs.Contract.{before, following, spelled, opening, closing}
 use Rattle.integers.proofs.Range.{range-fits}
 use Rattle.values.proofs.Entries.{by-entries}

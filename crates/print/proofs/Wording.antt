@@ -8,7 +8,7 @@ use lib.Dec.{leb, eqb}
 use lib.ListN.{length, getD, take, List·getD-map}
 use Rattle.tables.specs.Laws.Tests.{each as for-each}
 use Rattle.print.specs.declared.Word.{Word}
-use Rattle.print.specs.Ascii.{hyphen, underscore, a, b, c, d, e, f, g, h, i, k, l, m, n, o, p, q, r, s, t, u, z}
+use Rattle.print.specs.Ascii.{ascii}
 use Rattle.print.specs.Text.{words, word}
 
 abbrev row : List ℕ → ℕ → Word
@@ -16,18 +16,18 @@ row letters len = record { letters = letters; len = len }
 
 abbrev rows : List Word
 rows =
-    row (k ∷ i ∷ n ∷ d ∷ underscore ∷ underscore ∷ underscore ∷ underscore ∷ underscore ∷ underscore ∷ []) 4
-    ∷ row (r ∷ a ∷ n ∷ g ∷ e ∷ underscore ∷ underscore ∷ underscore ∷ underscore ∷ underscore ∷ []) 5
-    ∷ row (z ∷ e ∷ r ∷ o ∷ underscore ∷ underscore ∷ underscore ∷ underscore ∷ underscore ∷ underscore ∷ []) 4
-    ∷ row (n ∷ o ∷ hyphen ∷ m ∷ a ∷ t ∷ c ∷ h ∷ underscore ∷ underscore ∷ []) 8
-    ∷ row (n ∷ o ∷ hyphen ∷ b ∷ i ∷ n ∷ d ∷ i ∷ n ∷ g ∷ []) 10
-    ∷ row (n ∷ o ∷ t ∷ hyphen ∷ u ∷ n ∷ i ∷ q ∷ u ∷ e ∷ []) 10
-    ∷ row (a ∷ b ∷ s ∷ e ∷ n ∷ t ∷ underscore ∷ underscore ∷ underscore ∷ underscore ∷ []) 6
-    ∷ row (c ∷ l ∷ a ∷ s ∷ h ∷ underscore ∷ underscore ∷ underscore ∷ underscore ∷ underscore ∷ []) 5
-    ∷ row (l ∷ a ∷ r ∷ g ∷ e ∷ underscore ∷ underscore ∷ underscore ∷ underscore ∷ underscore ∷ []) 5
-    ∷ row (s ∷ p ∷ l ∷ i ∷ t ∷ underscore ∷ underscore ∷ underscore ∷ underscore ∷ underscore ∷ []) 5
-    ∷ row (b ∷ i ∷ n ∷ d ∷ i ∷ n ∷ g ∷ s ∷ underscore ∷ underscore ∷ []) 8
-    ∷ row (c ∷ h ∷ o ∷ i ∷ c ∷ e ∷ s ∷ underscore ∷ underscore ∷ underscore ∷ []) 7 ∷ []
+    row (ascii "kind______") 4
+    ∷ row (ascii "range_____") 5
+    ∷ row (ascii "zero______") 4
+    ∷ row (ascii "no-match__") 8
+    ∷ row (ascii "no-binding") 10
+    ∷ row (ascii "not-unique") 10
+    ∷ row (ascii "absent____") 6
+    ∷ row (ascii "clash_____") 5
+    ∷ row (ascii "large_____") 5
+    ∷ row (ascii "split_____") 5
+    ∷ row (ascii "bindings__") 8
+    ∷ row (ascii "choices___") 7 ∷ []
 
 abbrev other : Word
 other = row [] 0

@@ -11,7 +11,7 @@ use Rattle.values.specs.Value.{Kind, set, sequence, map, tuple, number, Value, 
 use Rattle.values.specs.Place.{At, ItemsAt, Holds, HoldsItems}
 use Rattle.print.specs.declared.Separator.{Separator}
 use Rattle.print.specs.declared.Separator.the-variants.{Nothing, Comma, Arrow}
-use Rattle.print.specs.Ascii.{closing-parenthesis, comma, closing-bracket, opening-parenthesis, opening-bracket, underscore, opening-brace, closing-brace, m as letter-m, k as letter-k}
+use Rattle.print.specs.Ascii.{ascii, comma}
 use Rattle.print.specs.Text.{arrow, text, line, outcomeText}
 
 -- ---- writing
@@ -27,7 +27,7 @@ pub record Wrote (s t : List ℕ) (at : ℕ) (bytes : List ℕ) (r : ℕ) : Type
 
 -- ---- limits
 
--- No line is longer: 64 entries of up to three digits and 63 commas, a space, `=`, 1,021 bytes of a value, the line's end. `longest-line` (proofs/Limits).
+-- No line is longer: 64 entries of up to three digits and 63 commas, a space, `=`, 1,021 bytes of a value, the line's end. `longest-line` (proofs/Lines).
 abbrev pub longestLine : ℕ
 longestLine = 1279
 
@@ -73,17 +73,17 @@ ItemsWritten s from to is-map x out out′ at r = (vs : Items) → ItemsAt s fro
 
 -- What a collection's text begins and ends with. An empty map's has the arrow.
 abbrev pub opening : Kind → Bool → List ℕ
-opening set is-empty = opening-brace ∷ []
-opening sequence is-empty = opening-bracket ∷ []
-opening map true = opening-brace ∷ arrow
-opening map false = opening-brace ∷ []
-opening tuple is-empty = letter-m ∷ letter-k ∷ underscore ∷ opening-parenthesis ∷ []
+opening set is-empty = ascii "{"
+opening sequence is-empty = ascii "["
+opening map true = ascii "{|->"
+opening map false = ascii "{"
+opening tuple is-empty = ascii "mk_("
 
 abbrev pub closing : Kind → List ℕ
-closing set = closing-brace ∷ []
-closing sequence = closing-bracket ∷ []
-closing map = closing-brace ∷ []
-closing tuple = closing-parenthesis ∷ []
+closing set = ascii "}"
+closing sequence = ascii "]"
+closing map = ascii "}"
+closing tuple = ascii ")"
 
 abbrev pub Opened : ℕ → Bool → List ℕ → List ℕ → ℕ → ℕ → Type 0
 Opened kind is-empty out out′ at r = (k : Kind) → kind ≡ number k → Wrote out out′ at (opening k is-empty) r

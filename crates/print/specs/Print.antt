@@ -10,7 +10,7 @@ use Rattle.tables.specs.declared.Checked.{Checked}
 use Rattle.tables.specs.declared.Checked.the-variants.{Accepted, Refused}
 use Rattle.tables.specs.Check.{check}
 use Rattle.meaning.specs.Service.{tree, runs}
-use Rattle.print.specs.Ascii.{newline, space, a, b, c, d, e, f, l, n, r, s, t, u}
+use Rattle.print.specs.Ascii.{ascii, newline, space}
 use Rattle.print.specs.Text.{decimal, line}
 
 -- If a list would follow the 10,000th, the print is cut there.
@@ -19,18 +19,18 @@ mostLines = 10000
 
 -- First line: `table` and the record count.
 abbrev pub firstLine : ℕ → List ℕ
-firstLine count = (t ∷ a ∷ b ∷ l ∷ e ∷ space ∷ decimal count) ++ newline ∷ []
+firstLine count = ascii "table " ++ decimal count ++ newline ∷ []
 
 -- `end` and the count; `cut 10000`.
 abbrev pub endLine : ℕ → List ℕ
-endLine count = (e ∷ n ∷ d ∷ space ∷ decimal count) ++ newline ∷ []
+endLine count = ascii "end " ++ decimal count ++ newline ∷ []
 
 abbrev pub cutLine : List ℕ
-cutLine = (c ∷ u ∷ t ∷ space ∷ decimal mostLines) ++ newline ∷ []
+cutLine = ascii "cut " ++ decimal mostLines ++ newline ∷ []
 
 -- `refused`, number, place, parted by single spaces.
 abbrev pub refusedLine : ℕ → ℕ → List ℕ
-refusedLine number place = (r ∷ e ∷ f ∷ u ∷ s ∷ e ∷ d ∷ space ∷ decimal number) ++ (space ∷ decimal place) ++ newline ∷ []
+refusedLine number place = ascii "refused " ++ decimal number ++ (space ∷ decimal place) ++ newline ∷ []
 
 -- A line a list.
 abbrev pub lines : List ℕ → List (List ℕ) → List ℕ

@@ -7,104 +7,92 @@ use lib.IntN.{ℤ, pos, negsuc}
 use lib.ListN.{getD}
 use Rattle.choices.specs.Tree.{Final, result, refuses}
 use Rattle.values.specs.Value.{Kind, set, sequence, map, tuple, Value, boolean, integer, collection, Items, none, more}
-use Rattle.print.specs.Ascii.{newline, space, exclamation, opening-parenthesis, closing-parenthesis, comma, hyphen, equals, greater, opening-bracket, closing-bracket, underscore, opening-brace, bar, closing-brace, digit, a, b, c, d, e, f, g, h, i, k, l, m, n, o, p, q, r, s, t, u, x, z}
+use Rattle.print.specs.Ascii.{ascii, digit, comma, hyphen, equals, exclamation, space, newline}
 
 -- ---- numbers
 
 -- The decimal digits of a number below 10 ^ k, the most significant first, with no zero in front.
 unfoldable pub digitsTo : ℕ → ℕ → List ℕ
-digitsTo zero x = []
-digitsTo (suc y) x = cond (ltb x 10) (digit x ∷ []) (digitsTo y (x / 10) ++ digit (x % 10) ∷ [])
+digitsTo zero n = []
+digitsTo (suc k) n = cond (ltb n 10) (digit n ∷ []) (digitsTo k (n / 10) ++ digit (n % 10) ∷ [])
 
--- A number is below 10 ^ (x + 1).
+-- Every n is below 10 ^ (n + 1).
 unfoldable pub decimal : ℕ → List ℕ
-decimal x = digitsTo (suc x) x
+decimal n = digitsTo (suc n) n
 
 abbrev pub integerText : ℤ → List ℕ
-integerText (pos x) = decimal x
-integerText (negsuc x) = hyphen ∷ decimal (suc x)
+integerText (pos n) = decimal n
+integerText (negsuc n) = hyphen ∷ decimal (suc n)
 
 -- ---- values
 
--- Texts joined by commas; the second after a first.
+-- Texts joined by commas; those after a first.
 abbrev pub continued : List (List ℕ) → List ℕ
 continued [] = []
-continued (x ∷ xs) = (comma ∷ x) ++ continued xs
+continued (t ∷ ts) = (comma ∷ t) ++ continued ts
 
 abbrev pub joined : List (List ℕ) → List ℕ
 joined [] = []
-joined (x ∷ xs) = x ++ continued xs
+joined (t ∷ ts) = t ++ continued ts
 
--- |-> between a key and its value.
 abbrev pub arrow : List ℕ
-arrow = bar ∷ hyphen ∷ greater ∷ []
+arrow = ascii "|->"
 
 -- Key, value, key, value: each key with its value. (A key without a value never meets this.)
 abbrev pub pairs : List (List ℕ) → List (List ℕ)
 pairs [] = []
-pairs (x ∷ []) = x ∷ []
-pairs (x ∷ y ∷ xs) = (x ++ arrow ++ y) ∷ pairs xs
+pairs (k ∷ []) = k ∷ []
+pairs (k ∷ v ∷ ts) = (k ++ arrow ++ v) ∷ pairs ts
 
--- The entries of a map, and |-> alone if there are none.
+-- The entries of a map; the arrow alone if there are none.
 abbrev pub entries : List (List ℕ) → List ℕ
 entries [] = arrow
-entries (x ∷ xs) = joined (pairs (x ∷ xs))
+entries (t ∷ ts) = joined (pairs (t ∷ ts))
 
 abbrev pub truth : Bool → List ℕ
-truth true = t ∷ r ∷ u ∷ e ∷ []
-truth false = f ∷ a ∷ l ∷ s ∷ e ∷ []
+truth true = ascii "true"
+truth false = ascii "false"
 
 -- {1,2}, [1,2], {1|->2} and {|->}, mk_(1,2).
 abbrev pub enclosed : Kind → List (List ℕ) → List ℕ
-enclosed set xs = (opening-brace ∷ joined xs) ++ closing-brace ∷ []
-enclosed sequence xs = (opening-bracket ∷ joined xs) ++ closing-bracket ∷ []
-enclosed map xs = (opening-brace ∷ entries xs) ++ closing-brace ∷ []
-enclosed tuple xs = (m ∷ k ∷ underscore ∷ opening-parenthesis ∷ joined xs) ++ closing-parenthesis ∷ []
+enclosed set ts = ascii "{" ++ joined ts ++ ascii "}"
+enclosed sequence ts = ascii "[" ++ joined ts ++ ascii "]"
+enclosed map ts = ascii "{" ++ entries ts ++ ascii "}"
+enclosed tuple ts = ascii "mk_(" ++ joined ts ++ ascii ")"
 
 unfoldable mutual
   pub text : Value → List ℕ
-  text (boolean x) = truth x
-  text (integer x) = integerText x
-  text (collection x xs) = enclosed x (texts xs)
+  text (boolean b) = truth b
+  text (integer z) = integerText z
+  text (collection k vs) = enclosed k (texts vs)
 
   pub texts : Items → List (List ℕ)
   texts none = []
-  texts (more x xs) = text x ∷ texts xs
+  texts (more v vs) = text v ∷ texts vs
 
 -- ---- refusals
 
--- Words, a constant table: 20 kind, 21 range, 22 zero, 23 no-match, 24 no-binding, 25 not-unique, 26 absent, 27 clash, 28 large, 29 split,
--- 30 bindings, 31 choices.
+-- Words, a constant table, from 20 to 31.
 abbrev pub words : List (List ℕ)
 words =
-    (k ∷ i ∷ n ∷ d ∷ [])
-    ∷ (r ∷ a ∷ n ∷ g ∷ e ∷ [])
-    ∷ (z ∷ e ∷ r ∷ o ∷ [])
-    ∷ (n ∷ o ∷ hyphen ∷ m ∷ a ∷ t ∷ c ∷ h ∷ [])
-    ∷ (n ∷ o ∷ hyphen ∷ b ∷ i ∷ n ∷ d ∷ i ∷ n ∷ g ∷ [])
-    ∷ (n ∷ o ∷ t ∷ hyphen ∷ u ∷ n ∷ i ∷ q ∷ u ∷ e ∷ [])
-    ∷ (a ∷ b ∷ s ∷ e ∷ n ∷ t ∷ [])
-    ∷ (c ∷ l ∷ a ∷ s ∷ h ∷ [])
-    ∷ (l ∷ a ∷ r ∷ g ∷ e ∷ [])
-    ∷ (s ∷ p ∷ l ∷ i ∷ t ∷ [])
-    ∷ (b ∷ i ∷ n ∷ d ∷ i ∷ n ∷ g ∷ s ∷ [])
-    ∷ (c ∷ h ∷ o ∷ i ∷ c ∷ e ∷ s ∷ []) ∷ []
+    ascii "kind" ∷ ascii "range" ∷ ascii "zero" ∷ ascii "no-match" ∷ ascii "no-binding" ∷ ascii "not-unique"
+    ∷ ascii "absent" ∷ ascii "clash" ∷ ascii "large" ∷ ascii "split" ∷ ascii "bindings" ∷ ascii "choices" ∷ []
 
 unfoldable pub word : ℕ → List ℕ
-word x = getD words (x - 20) []
+word n = getD words (n - 20) []
 
 -- ---- lines
 
 -- Entries joined by commas (`-` if none).
 abbrev pub listText : List ℕ → List ℕ
 listText [] = hyphen ∷ []
-listText (x ∷ xs) = joined (each decimal (x ∷ xs))
+listText (c ∷ l) = joined (each decimal (c ∷ l))
 
 -- `=` and the value, or `!`, number, space, word.
 abbrev pub outcomeText : Final Value → List ℕ
-outcomeText (result x) = equals ∷ text x
-outcomeText (refuses x y z) = exclamation ∷ decimal x ++ space ∷ word x
+outcomeText (result v) = equals ∷ text v
+outcomeText (refuses n p k) = exclamation ∷ decimal n ++ space ∷ word n
 
 -- A line a list: the list, a space, what evaluating under it answers.
 abbrev pub line : List ℕ → Final Value → List ℕ
-line xs x = (listText xs ++ space ∷ outcomeText x) ++ newline ∷ []
+line l answer = (listText l ++ space ∷ outcomeText answer) ++ newline ∷ []

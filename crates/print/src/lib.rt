@@ -21,6 +21,9 @@ const NEWLINE: u8 = b'\n';
 
 const SPACE: u8 = b' ';
 
+// A list without entries.
+const NO_ENTRIES: u8 = b'-';
+
 // A word of at most 10 letters, and their number.
 struct Word {
     letters: [u8; 10],
@@ -126,7 +129,7 @@ pub fn put_integer(z: i32, out: &mut [u8], at: usize) -> usize
 // ---- values
 
 // What stands before an item of a collection.
-pub enum Separator {
+enum Separator {
     Nothing,
     Comma,
     Arrow,
@@ -142,11 +145,11 @@ fn put_boolean(b: bool, out: &mut [u8], at: usize) -> usize
     put_bytes(b"false", out, at)
 }
 
-fn put_separator(x: Separator, out: &mut [u8], at: usize) -> usize
-    requires { ⌜ Room (now out) at (before x) ⌝ }
-    ensures { λ r. ⌜ Wrote (now (out .entry)) (now (out .exit)) at (before x) r ⌝ }
+fn put_separator(separator: Separator, out: &mut [u8], at: usize) -> usize
+    requires { ⌜ Room (now out) at (before separator) ⌝ }
+    ensures { λ r. ⌜ Wrote (now (out .entry)) (now (out .exit)) at (before separator) r ⌝ }
 {
-    match x {
+    match separator {
         Separator::Nothing => at,
         Separator::Comma => put_bytes(b",", out, at),
         Separator::Arrow => put_bytes(b"|->", out, at),
@@ -154,13 +157,13 @@ fn put_separator(x: Separator, out: &mut [u8], at: usize) -> usize
 }
 
 // What stands before the next item.
-fn following(is_map: bool, x: Separator) -> Separator
-    ensures { λ r. ⌜ r ≡ following «is_map» x ⌝ }
+fn following(is_map: bool, separator: Separator) -> Separator
+    ensures { λ r. ⌜ r ≡ following «is_map» separator ⌝ }
 {
     if !is_map {
         return Separator::Comma;
     }
-    match x {
+    match separator {
         Separator::Nothing => Separator::Arrow,
         Separator::Comma => Separator::Arrow,
         Separator::Arrow => Separator::Comma,
@@ -233,20 +236,20 @@ fn put_items(
     from: usize,
     to: usize,
     is_map: bool,
-    x: Separator,
+    separator: Separator,
     out: &mut [u8],
     at: usize,
 ) -> usize
     requires { ⌜ ItemsRoom (now s) from to (now out) at ⌝ }
-    ensures { λ r. ⌜ ItemsWritten (now (s .entry)) from to «is_map» x (now (out .entry)) (now (out .exit)) at r ⌝ }
+    ensures { λ r. ⌜ ItemsWritten (now (s .entry)) from to «is_map» separator (now (out .entry)) (now (out .exit)) at r ⌝ }
 {
     if from == to {
         return at;
     }
-    let first = put_separator(x, out, at);
+    let first = put_separator(separator, out, at);
     let next = put_value(s, from, out, first);
     let n = values::length_of(s, from);
-    let then = following(is_map, x);
+    let then = following(is_map, separator);
     put_items(s, from + n, to, is_map, then, out, next)
 }
 
@@ -258,7 +261,7 @@ pub fn put_list(list: &[u8], out: &mut [u8], at: usize) -> usize
     ensures { λ r. ⌜ Wrote (now (out .entry)) (now (out .exit)) at (listText (now (list .entry))) r ⌝ }
 {
     if list.len() == 0 {
-        out[at] = b'-';
+        out[at] = NO_ENTRIES;
         return at + 1;
     }
     let mut end = put_number(list[0] as usize, out, at);

@@ -5,3 +5,4 @@ pub mod Kinds
 pub mod Patterns
 pub mod Refusals
 pub mod Calls
+pub mod Prints

@@ -1,6 +1,6 @@
 -- The record at the start of some bytes is fit for its kind: what the tests of its kind, length and first field say.
 use mathlib.Core.Path.{_≡_, refl, sym, ap, _∙_}
-use mathlib.Core.Bool.{Bool, true, false, _&&_}
+use mathlib.Core.Bool.{Bool, true, false, _&&_, _||_}
 use mathlib.Core.List.{List}
 use Prim.Native.Nat.{ℕ, _+_, _-_, _≤_, _<_}
 use native.Mathlib.Omega.{arith}
@@ -14,10 +14,13 @@ use mathlib.Mathlib.Data.Bool.Basic.{and-elim-left}
 use Rattle.integers.specs.Bytes.{word, bits32, integerAt}
 use Rattle.integers.specs.Whole.{inRange}
 use Rattle.integers.proofs.Range.{fits-range}
-use Rattle.tables.specs.Record.{Record, Head, nothing, boolean, integer, name, unary, binary, unknown, Shape, shape, size, headOf, field, integerOf, fits, isKnown, isFit}
+use Rattle.tables.specs.Record.{Record, Head, nothing, boolean, integer, name, unary, binary, unknown, Shape, shape, isExpression, isPattern, size, headOf, field, integerOf, fits, isKnown, isFit}
 use Rattle.tables.specs.Table.{first}
-use Rattle.tables.specs.Shapes.{knownFirst}
+use Rattle.tables.specs.Shapes.{isTested, knownFirst}
+use Rattle.prelude.proofs.Absurd.{never}
+use Rattle.prelude.proofs.Truth.{by-lower}
 use Rattle.tables.specs.Laws.Accepted.{fit-kind}
+use Rattle.tables.proofs.Heads.{untested-known, tested-long}
 
 -- A place in a record, from its start and from its fields.
 pub plus-zero : (a : ℕ) → a + 0 ≡ a
@@ -88,3 +91,23 @@ module _ (bytes : List ℕ) (len : ℕ) (is : len ≡ word bytes 0) (four : 4 �
       ∙ known-first (headOf (first bytes)) (first bytes)
       (λ i. bytes-range (first bytes .fields) (λ k h. rw (field-at k (omega (arith, integer-long e i))) (small (4 + k))))
       ∙ ap (knownFirst (headOf (first bytes))) (field-at 0 (omega arith))
+
+  module _ (fit : true ≡ fits (shape (word bytes 2)) (len - 4)) (known : word bytes 2 ≤ 40) where
+    pub fit-untested : isTested (word bytes 2) ≡ false → ((i : ℕ) → getD bytes i 0 < 256) → isFit (first bytes) ≡ isExpression (word bytes 2) || isPattern (word bytes 2)
+    fit-untested u small =
+        by-lower 4 len (λ l. fit-first fit l small ∙ sym (untested-known (word bytes 2) (getD bytes 4 0) known u))
+        (λ l. fit-empty fit (omega arith) ∙ sym (untested-known (word bytes 2) 0 known u))
+
+    pub tested-within : isTested (word bytes 2) ≡ true → 4 < len
+    tested-within t =
+        by-lower 4 len (λ l. l)
+        (λ l.
+        let none : len - 4 ≡ 0 = omega arith in
+        never (sym (tested-long (word bytes 2) known t) ∙ sym (fit ∙ ap (fits (shape (word bytes 2))) none)))
+
+-- An integer literal of eight bytes is fit.
+pub integer-fit : (bytes : List ℕ) → word bytes 0 ≡ 8 → word bytes 2 ≡ 2 → 8 ≤ length bytes → ((i : ℕ) → getD bytes i 0 < 256) → isFit (first bytes) ≡ true
+unfolding shape
+integer-fit bytes e k h small =
+    fit-untested bytes 8 (sym e) (omega arith) h (sym (ap (λ (n : ℕ). fits (shape n) 4) k)) (omega arith) (ap isTested k) small
+    ∙ ap (λ (n : ℕ). isExpression n || isPattern n) k

@@ -13,11 +13,11 @@ use Rattle.tables.specs.Shapes.{lengthRows, firstOf}
 use Rattle.tables.specs.Laws.Tests.{each}
 
 -- Two truths are the same.
-abbrev same : Bool → Bool → Bool
+abbrev pub same : Bool → Bool → Bool
 same true b = b
 same false b = not b
 
-same-is : (a b : Bool) → same a b ≡ true → a ≡ b
+pub same-is : (a b : Bool) → same a b ≡ true → a ≡ b
 same-is true b e = sym e
 same-is false b e = sym (not-true b e)
 

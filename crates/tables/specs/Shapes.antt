@@ -34,6 +34,10 @@ binderRole kind (suc zero) = Plain
 binderRole kind (suc (suc zero)) = thirdRole kind
 binderRole kind (suc (suc (suc i))) = Body
 
+-- The kinds whose first field is tested: booleans, names and operators.
+abbrev pub isTested : ℕ → Bool
+isTested k = eqb k 1 || eqb k 34 || eqb k 3 || eqb k 32 || eqb k 4 || eqb k 5
+
 -- A head with the first field n is known. (Every four bytes are an integer in range.)
 abbrev pub knownFirst : Head → ℕ → Bool
 knownFirst nothing n = true

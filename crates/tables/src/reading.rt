@@ -12,6 +12,7 @@ use crate::HEADING;
 use crate::Index;
 use crate::MOST_RECORDS;
 use crate::Role;
+use crate::kinds;
 use crate::shape::LENGTHS;
 use crate::shape::Lengths;
 use crate::shape::first_operand;
@@ -27,6 +28,11 @@ pub struct Cutting {
     pub whole: bool,
 }
 
+// The length of an integer literal, and its length and kind as one number.
+const INTEGER_LENGTH: usize = HEADING + 4;
+
+const INTEGER_HEADING: usize = INTEGER_LENGTH + 65536 * kinds::INTEGER;
+
 // The length of the record at the start of the part; 0 where rule 4 finds a fault.
 pub fn measure(lengths: &Lengths, part: &[u8]) -> usize
     requires { ⌜ now lengths ≡ lengthRows ⌝ }
@@ -36,14 +42,21 @@ pub fn measure(lengths: &Lengths, part: &[u8]) -> usize
     if part.len() < HEADING {
         return 0;
     }
+    // An integer literal goes on by a constant, so that the next record does not wait for this one's length.
     let len = read16(part, 0);
+    let kind = read16(part, 2);
+    if len + 65536 * kind == INTEGER_HEADING {
+        if part.len() < INTEGER_LENGTH {
+            return 0;
+        }
+        return INTEGER_LENGTH;
+    }
     if len < HEADING {
         return 0;
     }
     if part.len() < len {
         return 0;
     }
-    let kind = read16(part, 2);
     let fit = is_fit(lengths, part, kind, len);
     if !fit {
         return 0;

@@ -8,7 +8,7 @@ ghost use Rattle.integers.specs.Bytes.{word};
 ghost use Rattle.tables.specs.Record.{shape, lastKind, isExpression, isPattern, fits, isFit};
 ghost use Rattle.tables.specs.Table.{first};
 ghost use Rattle.tables.specs.Sheet.{isBinder};
-ghost use Rattle.tables.specs.Shapes.{lengthRows, firstOf, rolesOf, firstRole, thirdRole, binderRole, knownFirst};
+ghost use Rattle.tables.specs.Shapes.{lengthRows, firstOf, rolesOf, firstRole, thirdRole, binderRole, isTested, knownFirst};
 use crate::HEADING;
 use crate::NAMES;
 use crate::Role;
@@ -99,6 +99,9 @@ pub const LENGTHS: Lengths = [
 const BYTE_FIRST: u64 = 0x5_0000_003a;
 
 const INTEGER_FIRST: u64 = 0x8_0000_0004;
+
+// Bit k is set for each kind k that there is: 1 to 21, 32 to 40.
+const KNOWN: u64 = 0x1ff_003f_fffe;
 
 // A byte as a number.
 pub fn wide(b: u8) -> usize
@@ -243,12 +246,18 @@ fn is_known(kind: usize, n: usize) -> bool
 
 // There is such a kind.
 fn is_kind(kind: usize) -> bool
+    requires { ⌜ kind ≤ lastKind ⌝ }
     ensures { λ r. ⌜ r ≡ isExpression kind || isPattern kind ⌝ }
 {
-    if is_expression(kind) {
-        return true;
-    }
-    is_pattern(kind)
+    (KNOWN >> kind) % 2 == 1
+}
+
+// The first field is tested: booleans, names and operators.
+fn is_tested(kind: usize) -> bool
+    requires { ⌜ kind ≤ lastKind ⌝ }
+    ensures { λ r. ⌜ r ≡ isTested kind ⌝ }
+{
+    (BYTE_FIRST >> kind) % 2 == 1
 }
 
 // The record of this kind and length at the start of the part is fit for its kind.
@@ -264,8 +273,9 @@ pub fn is_fit(lengths: &Lengths, part: &[u8], kind: usize, len: usize) -> bool
     if !fit {
         return false;
     }
-    if len == HEADING {
-        return is_known(kind, 0);
+    let tested = is_tested(kind);
+    if !tested {
+        return is_kind(kind);
     }
     is_known(kind, wide(part[HEADING]))
 }

@@ -23,7 +23,7 @@ alone-at {x} {v} o =
     let e = alone-length o in
     record { fits = omega arith; fine = o .fine; bytes = take-all (size v) x (omega arith) ∙ o .is }
 
-pub alone-low : {x : List ℕ} → IsValue x → length x ≤ valueLimit
+alone-low : {x : List ℕ} → IsValue x → length x ≤ valueLimit
 alone-low (v, o) = let e = alone-length o in let h = o .fine .short in omega arith
 
 -- ---- told from other bytes

@@ -47,9 +47,6 @@ starts {s} {from} {to} {n} f l h =
 pub first-held : {s : List ℕ} {from to : ℕ} → (from ≡ to → ⊥) → HoldsItems s from to → Holds s from
 first-held f h = holds (uncons-of f (h .1) .first-at)
 
-pub rest-held : {s : List ℕ} {from to n : ℕ} → (from ≡ to → ⊥) → Length s from n → HoldsItems s from to → HoldsItems s (from + n) to
-rest-held f l h = let y = starts f l (h .1) in (y .left, y .rest)
-
 pub rest-inside : {s : List ℕ} {from to n : ℕ} → (from ≡ to → ⊥) → Length s from n → HoldsItems s from to → from + n ≤ to
 rest-inside f l h = starts f l (h .1) .inside
 

@@ -55,107 +55,81 @@ put-items-calls t = (put-separator-reads.Asked, put-separator-reads.Learnt, put-
 abbrev put-value-calls : ℕ → put-value-lts.Claims
 put-value-calls t = (kind-of-reads.Asked, kind-of-reads.Learnt, boolean-at-reads.Asked, boolean-at-reads.Learnt, put-boolean-reads.Asked, put-boolean-reads.Learnt, integer-at-reads.Asked, integer-at-reads.Learnt, put-integer-reads.Asked, put-integer-reads.Learnt, length-of-reads.Asked, length-of-reads.Learnt, put-opening-reads.Asked, put-opening-reads.Learnt, put-items-below t, put-items.Post, put-closing-reads.Asked, put-closing-reads.Learnt)
 
--- src/lib.rt:242:9
 put-items-returns : (t : ℕ) → put-items-lts.Need-returns (put-items-calls t) (put-items-at t) put-items.Post
-put-items-returns t c = items-end (c .before .before .before .args .is-map) (c .before .before .before .args .x) (c .before .before .before .args .out .now) (c .before .before .before .args .at) (c .if1 .taken)
+put-items-returns t c = items-end (c .before .before .before .args .is-map) (c .before .before .before .args .separator) (c .before .before .before .args .out .now) (c .before .before .before .args .at) (c .if1 .taken)
 
--- src/lib.rt:244:9
 put-items-put-separator-requires : (t : ℕ) → put-items-lts.Need-put-separator-requires (put-items-calls t) (put-items-at t) put-items.Post
-put-items-put-separator-requires t c κs = separator-room (c .before .if1 .left) (c .before .before .before .before .args .x) (c .before .before .before .before .pre .1)
+put-items-put-separator-requires t c κs = separator-room (c .before .if1 .left) (c .before .before .before .before .args .separator) (c .before .before .before .before .pre .1)
 
--- src/lib.rt:245:9
 put-items-put-value-requires : (t : ℕ) → put-items-lts.Need-put-value-requires (put-items-calls t) (put-items-at t) put-items.Post
-put-items-put-value-requires t c κs = let u = begun (c .before .before .before .before .before .if1 .left) (c .before .before .before .before .before .before .before .before .pre .1 .held) in (omega arith, first-room (c .before .before .before .before .before .if1 .left) (c .before .before .before .before .before .before .before .before .args .x) (c .before .before .before .put-separator .ensures) (c .before .before .before .before .before .before .before .before .pre .1))
+put-items-put-value-requires t c κs = let u = begun (c .before .before .before .before .before .if1 .left) (c .before .before .before .before .before .before .before .before .pre .1 .held) in (omega arith, first-room (c .before .before .before .before .before .if1 .left) (c .before .before .before .before .before .before .before .before .args .separator) (c .before .before .before .put-separator .ensures) (c .before .before .before .before .before .before .before .before .pre .1))
 
--- src/lib.rt:246:9
 put-items-length-of-requires : (t : ℕ) → put-items-lts.Need-length-of-requires (put-items-calls t) (put-items-at t) put-items.Post
 put-items-length-of-requires t c κs = first-holds (c .before .before .before .before .before .before .before .before .if1 .left) (c .before .before .before .before .before .before .before .before .before .before .before .pre .1 .held)
 
--- src/lib.rt:247:9
 put-items-following-requires : (t : ℕ) → put-items-lts.Need-following-requires (put-items-calls t) (put-items-at t) put-items.Post
 put-items-following-requires t c κs = tt
 
--- src/lib.rt:248:18
 put-items-add-put-items : (t : ℕ) → put-items-lts.Need-add-put-items (put-items-calls t) (put-items-at t) put-items.Post
 put-items-add-put-items t c = let u = begun (c .before .before .before .before .before .before .before .before .before .before .if1 .left) (c .before .before .before .before .before .before .before .before .before .before .before .before .before .pre .1 .held) in omega (arith, c .before .length-of .ensures .is)
 
--- src/lib.rt:248:5
 put-items-put-items-requires : (t : ℕ) → put-items-lts.Need-put-items-requires (put-items-calls t) (put-items-at t) put-items.Post
-put-items-put-items-requires t c κs = let u = begun (c .before .before .before .before .before .before .before .before .before .before .before .if1 .left) (c .before .before .before .before .before .before .before .before .before .before .before .before .before .before .pre .1 .held) in (omega (arith, c .before .before .length-of .ensures .is), rest-room (c .before .before .before .before .before .before .before .before .before .before .before .if1 .left) (c .before .before .before .before .before .before .before .before .before .before .before .before .before .before .args .x) (c .before .before .before .before .before .before .before .before .before .put-separator .ensures) (c .before .before .length-of .ensures) (c .before .before .before .before .before .put-value .ensures) (c .before .before .before .before .before .before .before .before .before .before .before .before .before .before .pre .1))
+put-items-put-items-requires t c κs = let u = begun (c .before .before .before .before .before .before .before .before .before .before .before .if1 .left) (c .before .before .before .before .before .before .before .before .before .before .before .before .before .before .pre .1 .held) in (omega (arith, c .before .before .length-of .ensures .is), rest-room (c .before .before .before .before .before .before .before .before .before .before .before .if1 .left) (c .before .before .before .before .before .before .before .before .before .before .before .before .before .before .args .separator) (c .before .before .before .before .before .before .before .before .before .put-separator .ensures) (c .before .before .length-of .ensures) (c .before .before .before .before .before .put-value .ensures) (c .before .before .before .before .before .before .before .before .before .before .before .before .before .before .pre .1))
 
--- src/lib.rt:229:1
 put-items-same-length : (t : ℕ) → put-items-lts.Need-same-length (put-items-calls t) (put-items-at t) put-items.Post
 put-items-same-length t c = search needs
 
--- src/lib.rt:229:1
 put-items-returns-2 : (t : ℕ) → put-items-lts.Need-returns-2 (put-items-calls t) (put-items-at t) put-items.Post
-put-items-returns-2 t c = items-written (c .before .before .before .before .before .before .before .before .before .before .before .before .before .before .if1 .left) (c .before .before .before .before .before .before .before .before .before .before .before .before .before .before .before .before .before .args .x) (c .before .before .before .before .before .before .before .before .before .before .before .before .put-separator .ensures) (c .before .before .before .before .before .length-of .ensures) (c .before .before .before .before .before .before .before .before .put-value .ensures) (c .before .before .before .before .before .before .before .before .before .before .before .before .before .before .before .before .before .args .is-map) (c .before .before .before .before .following .ensures) (c .before .before .put-items .ensures)
+put-items-returns-2 t c = items-written (c .before .before .before .before .before .before .before .before .before .before .before .before .before .before .if1 .left) (c .before .before .before .before .before .before .before .before .before .before .before .before .before .before .before .before .before .args .separator) (c .before .before .before .before .before .before .before .before .before .before .before .before .put-separator .ensures) (c .before .before .before .before .before .length-of .ensures) (c .before .before .before .before .before .before .before .before .put-value .ensures) (c .before .before .before .before .before .before .before .before .before .before .before .before .before .before .before .before .before .args .is-map) (c .before .before .before .before .following .ensures) (c .before .before .put-items .ensures)
 
--- src/lib.rt:207:9
 put-value-kind-of-requires : (t : ℕ) → put-value-lts.Need-kind-of-requires (put-value-calls t) (put-value-at t) put-value.Post
 put-value-kind-of-requires t c κs = c .before .before .pre .1 .held
 
--- src/lib.rt:209:28
 put-value-boolean-at-requires : (t : ℕ) → put-value-lts.Need-boolean-at-requires (put-value-calls t) (put-value-at t) put-value.Post
 put-value-boolean-at-requires t c κs = record { held = c .before .before .before .before .pre .1 .held; kind = sym (c .before .kind-of .ensures .is) ∙ c .if1 .taken }
 
--- src/lib.rt:209:9
 put-value-put-boolean-requires : (t : ℕ) → put-value-lts.Need-put-boolean-requires (put-value-calls t) (put-value-at t) put-value.Post
 put-value-put-boolean-requires t c κs = boolean-room (c .before .boolean-at .ensures) (c .before .before .before .before .before .before .pre .1)
 
--- src/lib.rt:209:9
 put-value-same-length : (t : ℕ) → put-value-lts.Need-same-length (put-value-calls t) (put-value-at t) put-value.Post
 put-value-same-length t c = search needs
 
--- src/lib.rt:209:9
 put-value-returns : (t : ℕ) → put-value-lts.Need-returns (put-value-calls t) (put-value-at t) put-value.Post
 put-value-returns t c = boolean-written (c .before .before .before .before .boolean-at .ensures) (c .before .before .put-boolean .ensures)
 
--- src/lib.rt:212:28
 put-value-integer-at-requires : (t : ℕ) → put-value-lts.Need-integer-at-requires (put-value-calls t) (put-value-at t) put-value.Post
 put-value-integer-at-requires t c κs = record { held = c .before .before .before .before .before .pre .1 .held; kind = sym (c .before .before .kind-of .ensures .is) ∙ c .if2 .taken }
 
--- src/lib.rt:212:9
 put-value-put-integer-requires : (t : ℕ) → put-value-lts.Need-put-integer-requires (put-value-calls t) (put-value-at t) put-value.Post
 put-value-put-integer-requires t c κs = integer-room (c .before .integer-at .ensures) (c .before .before .before .before .before .before .before .pre .1)
 
--- src/lib.rt:212:9
 put-value-same-length-2 : (t : ℕ) → put-value-lts.Need-same-length-2 (put-value-calls t) (put-value-at t) put-value.Post
 put-value-same-length-2 t c = search needs
 
--- src/lib.rt:212:9
 put-value-returns-2 : (t : ℕ) → put-value-lts.Need-returns-2 (put-value-calls t) (put-value-at t) put-value.Post
 put-value-returns-2 t c = integer-written (c .before .before .before .before .integer-at .ensures) (c .before .before .put-integer .ensures)
 
--- src/lib.rt:214:9
 put-value-length-of-requires : (t : ℕ) → put-value-lts.Need-length-of-requires (put-value-calls t) (put-value-at t) put-value.Post
 put-value-length-of-requires t c κs = c .before .before .before .before .before .pre .1 .held
 
--- src/lib.rt:215:9
 put-value-put-opening-requires : (t : ℕ) → put-value-lts.Need-put-opening-requires (put-value-calls t) (put-value-at t) put-value.Post
 put-value-put-opening-requires t c κs = omega arith
 
--- src/lib.rt:218:9
 put-value-add-put-items : (t : ℕ) → put-value-lts.Need-add-put-items (put-value-calls t) (put-value-at t) put-value.Post
 put-value-add-put-items t c = omega arith
 
--- src/lib.rt:219:9
 put-value-add-put-items-2 : (t : ℕ) → put-value-lts.Need-add-put-items-2 (put-value-calls t) (put-value-at t) put-value.Post
 put-value-add-put-items-2 t c = omega (arith, c .before .before .before .before .length-of .ensures .is)
 
--- src/lib.rt:216:9
 put-value-put-items-requires : (t : ℕ) → put-value-lts.Need-put-items-requires (put-value-calls t) (put-value-at t) put-value.Post
 put-value-put-items-requires t c κs = let x = collected (c .before .before .before .before .before .before .before .before .before .before .before .pre .1 .held) (c .before .before .before .before .before .before .before .before .kind-of .ensures) (c .before .before .before .before .before .before .before .if1 .left) (c .before .before .before .before .before .before .if2 .left) in (omega (arith, c .before .before .before .before .before .length-of .ensures .is, c .before .before .before .before .before .length-of .ensures .low), items-room x (c .before .before .before .before .before .length-of .ensures) (eqb (c .before .before .before .before .before .length-of .result) 4) (c .before .before .before .put-opening .ensures) (c .before .before .before .before .before .before .before .before .before .before .before .pre .1))
 
--- src/lib.rt:225:5
 put-value-put-closing-requires : (t : ℕ) → put-value-lts.Need-put-closing-requires (put-value-calls t) (put-value-at t) put-value.Post
 put-value-put-closing-requires t c κs = let x = collected (c .before .before .before .before .before .before .before .before .before .before .before .before .before .before .before .pre .1 .held) (c .before .before .before .before .before .before .before .before .before .before .before .before .kind-of .ensures) (c .before .before .before .before .before .before .before .before .before .before .before .if1 .left) (c .before .before .before .before .before .before .before .before .before .before .if2 .left) in closing-room x (c .before .before .before .before .before .before .before .before .before .length-of .ensures) (c .before .before .before .put-items .ensures) (eqb (c .before .before .before .before .before .before .before .before .before .length-of .result) 4) (c .before .before .before .before .before .before .before .put-opening .ensures) (c .before .before .before .before .before .before .before .before .before .before .before .before .before .before .before .pre .1)
 
--- src/lib.rt:203:1
 put-value-same-length-3 : (t : ℕ) → put-value-lts.Need-same-length-3 (put-value-calls t) (put-value-at t) put-value.Post
 put-value-same-length-3 t c = search needs
 
--- src/lib.rt:203:1
 put-value-returns-3 : (t : ℕ) → put-value-lts.Need-returns-3 (put-value-calls t) (put-value-at t) put-value.Post
 put-value-returns-3 t c = let x = collected (c .before .before .before .before .before .before .before .before .before .before .before .before .before .before .before .before .before .before .pre .1 .held) (c .before .before .before .before .before .before .before .before .before .before .before .before .before .before .before .kind-of .ensures) (c .before .before .before .before .before .before .before .before .before .before .before .before .before .before .if1 .left) (c .before .before .before .before .before .before .before .before .before .before .before .before .before .if2 .left) in collection-written x (c .before .before .before .before .before .before .before .before .before .before .before .before .length-of .ensures) (c .before .before .before .before .before .before .put-items .ensures) (c .before .before .before .before .before .before .before .before .before .before .put-opening .ensures) (c .before .before .put-closing .ensures)
 

@@ -27,7 +27,6 @@ put-number-below t =
 abbrev put-number-calls : ℕ → put-number-lts.Claims
 put-number-calls t = (put-number-below t, put-number.Post)
 
--- src/lib.rt:106:26
 put-number-cast-out :
     (t : ℕ) →
     put-number-lts.Need-cast-out
@@ -36,7 +35,6 @@ put-number-cast-out :
     put-number.Post
 put-number-cast-out t c = omega arith
 
--- src/lib.rt:106:19
 put-number-add-out :
     (t : ℕ) →
     put-number-lts.Need-add-out
@@ -45,19 +43,15 @@ put-number-add-out :
     put-number.Post
 put-number-add-out t c = omega arith
 
--- src/lib.rt:106:9
 put-number-slice-write-out : (t : ℕ) → put-number-lts.Need-slice-write-out (put-number-calls t) (put-number-at t) put-number.Post
 put-number-slice-write-out t c = omega (arith, length-small (c .before .before .args .n) (c .if1 .taken))
 
--- src/lib.rt:107:16
 put-number-add-result : (t : ℕ) → put-number-lts.Need-add-result (put-number-calls t) (put-number-at t) put-number.Post
 put-number-add-result t c = omega (arith, length-small (c .before .before .args .n) (c .if1 .taken))
 
--- src/lib.rt:107:9
 put-number-same-length : (t : ℕ) → put-number-lts.Need-same-length (put-number-calls t) (put-number-at t) put-number.Post
 put-number-same-length t c = search needs
 
--- src/lib.rt:107:9
 put-number-returns :
     (t : ℕ) →
     put-number-lts.Need-returns
@@ -66,31 +60,24 @@ put-number-returns :
     put-number.Post
 put-number-returns t c = wrote-as (sym (decimal-small (c .before .before .args .n) (c .if1 .taken))) (wrote-one (c .before .before .args .out .now) (c .before .before .args .at) (48 + c .before .before .args .n))
 
--- src/lib.rt:109:9
 put-number-put-number-requires : (t : ℕ) → put-number-lts.Need-put-number-requires (put-number-calls t) (put-number-at t) put-number.Post
 put-number-put-number-requires t c κs = (omega arith, omega (arith, length-large (c .before .before .before .args .n) (c .before .if1 .left)))
 
--- src/lib.rt:110:24
 put-number-cast-out-2 : (t : ℕ) → put-number-lts.Need-cast-out-2 (put-number-calls t) (put-number-at t) put-number.Post
 put-number-cast-out-2 t c = omega arith
 
--- src/lib.rt:110:17
 put-number-add-out-2 : (t : ℕ) → put-number-lts.Need-add-out-2 (put-number-calls t) (put-number-at t) put-number.Post
 put-number-add-out-2 t c = omega arith
 
--- src/lib.rt:110:5
 put-number-slice-write-out-2 : (t : ℕ) → put-number-lts.Need-slice-write-out-2 (put-number-calls t) (put-number-at t) put-number.Post
 put-number-slice-write-out-2 t c = omega (arith, length-large (c .before .before .before .before .before .before .args .n) (c .before .before .before .before .if1 .left), c .before .before .put-number .ensures .ends, wrote-length (c .before .before .put-number .ensures))
 
--- src/lib.rt:111:5
 put-number-add-result-2 : (t : ℕ) → put-number-lts.Need-add-result-2 (put-number-calls t) (put-number-at t) put-number.Post
 put-number-add-result-2 t c = omega (arith, length-large (c .before .before .before .before .before .before .args .n) (c .before .before .before .before .if1 .left), c .before .before .put-number .ensures .ends)
 
--- src/lib.rt:101:1
 put-number-same-length-2 : (t : ℕ) → put-number-lts.Need-same-length-2 (put-number-calls t) (put-number-at t) put-number.Post
 put-number-same-length-2 t c = search needs
 
--- src/lib.rt:101:1
 put-number-returns-2 : (t : ℕ) → put-number-lts.Need-returns-2 (put-number-calls t) (put-number-at t) put-number.Post
 put-number-returns-2 t c = wrote-as (sym (decimal-large (c .before .before .before .before .before .before .args .n) (c .before .before .before .before .if1 .left))) (wrote-byte (48 + c .before .before .before .before .before .before .args .n % 10) (c .before .before .put-number .ensures))
 

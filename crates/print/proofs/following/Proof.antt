@@ -6,34 +6,25 @@ use Rattle.print.specs.Contract.{following}
 use borrow.Author.Needs.{needs}
 use Rattle.print.proofs.following.Statement.{statement}
 use Rattle.print.proofs.following.Tie as tie
-use Rattle.print.proofs.following.Reads as reads
-use Rattle.print.proofs.following.Lts as lts
 
--- src/lib.rt:160:9
 returns : tie.Need-returns
-returns c = sym (ap (λ (b : Bool). following b (c .before .args .x)) (not-true (c .before .args .is-map) (c .if1 .taken)))
+returns c = sym (ap (λ (b : Bool). following b (c .before .args .separator)) (not-true (c .before .args .is-map) (c .if1 .taken)))
 
--- src/lib.rt:163:31
 enum-told : tie.Need-enum-told
 enum-told c = search needs
 
--- src/lib.rt:164:29
 enum-told-2 : tie.Need-enum-told-2
 enum-told-2 c = search needs
 
--- src/lib.rt:165:29
 enum-told-3 : tie.Need-enum-told-3
 enum-told-3 c = search needs
 
--- src/lib.rt:156:1
 returns-2 : tie.Need-returns-2
 returns-2 c = sym (ap₂ following (not-false (c .before .before .before .args .is-map) (c .before .before .if1 .left)) (c .enum-told .given .1))
 
--- src/lib.rt:156:1
 returns-3 : tie.Need-returns-3
 returns-3 c = sym (ap₂ following (not-false (c .before .before .before .args .is-map) (c .before .before .if1 .left)) (c .enum-told2 .given .1))
 
--- src/lib.rt:156:1
 returns-4 : tie.Need-returns-4
 returns-4 c = sym (ap₂ following (not-false (c .before .before .before .args .is-map) (c .before .before .if1 .left)) (c .enum-told3 .given .1))
 

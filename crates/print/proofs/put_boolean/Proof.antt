@@ -7,39 +7,29 @@ use Rattle.print.proofs.Writing.{wrote-as}
 use borrow.Author.Needs.{needs}
 use Rattle.print.proofs.put_boolean.Statement.{statement}
 use Rattle.print.proofs.put_boolean.Tie as tie
-use Rattle.print.proofs.put_boolean.Reads as reads
-use Rattle.print.proofs.put_boolean.Lts as lts
 use Rattle.print.proofs.put_bytes.Reads as put-bytes-reads
 
--- src/lib.rt:139:26
 slice-aggregate-put-bytes : tie.Need-slice-aggregate-put-bytes
 slice-aggregate-put-bytes c = search needs
 
--- src/lib.rt:139:9
 put-bytes-requires : tie.Need-put-bytes-requires
 put-bytes-requires c κs = omega (arith, ap length (ap truth (c .before .before .if1 .taken)))
 
--- src/lib.rt:139:9
 same-length : tie.Need-same-length
 same-length c = search needs
 
--- src/lib.rt:139:9
 returns : tie.Need-returns
 returns c = wrote-as (ap truth (sym (c .before .before .before .before .before .if1 .taken))) (c .before .before .put-bytes .ensures)
 
--- src/lib.rt:141:15
 slice-aggregate-put-bytes-2 : tie.Need-slice-aggregate-put-bytes-2
 slice-aggregate-put-bytes-2 c = search needs
 
--- src/lib.rt:141:5
 put-bytes-requires-2 : tie.Need-put-bytes-requires-2
 put-bytes-requires-2 c κs = omega (arith, ap length (ap truth (c .before .before .if1 .left)))
 
--- src/lib.rt:134:1
 same-length-2 : tie.Need-same-length-2
 same-length-2 c = search needs
 
--- src/lib.rt:134:1
 returns-2 : tie.Need-returns-2
 returns-2 c = wrote-as (ap truth (sym (c .before .before .before .before .before .if1 .left))) (c .before .before .put-bytes2 .ensures)
 

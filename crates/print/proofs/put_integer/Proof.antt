@@ -13,8 +13,6 @@ use Rattle.print.proofs.Signs.{Below, NotBelow, below, not-below}
 use borrow.Author.Needs.{needs}
 use Rattle.print.proofs.put_integer.Statement.{statement}
 use Rattle.print.proofs.put_integer.Tie as tie
-use Rattle.print.proofs.put_integer.Reads as reads
-use Rattle.print.proofs.put_integer.Lts as lts
 use Rattle.print.proofs.put_number.Reads as put-number-reads
 
 low : (c : tie.Then1) → Below (c .before .before .args .z)
@@ -30,51 +28,39 @@ below-text {z} {k} e = let f : k + 1 ≡ suc k = omega arith in ap (λ (n : ℕ)
 room-below : {z : ℤ} {k : ℕ} (out : List ℕ) (at : ℕ) → z ≡ negsuc k → Room out at (integerText z) → Room (set out at hyphen) (at + 1) (decimal (k + 1))
 room-below out at e h = let f = ap length (below-text e) in omega (arith, length-set out at hyphen)
 
--- src/lib.rt:119:9
 slice-write-out : tie.Need-slice-write-out
 slice-write-out c = let n = low c in omega (arith, ap (λ (y : ℤ). length (integerText y)) (n .is))
 
--- src/lib.rt:120:28
 sub-put-number : tie.Need-sub-put-number
 sub-put-number c = let n = low c in rw (n .down) (record { sfits = n .low })
 
--- src/lib.rt:120:27
 cast-put-number : tie.Need-cast-put-number
 cast-put-number c = let n = low c in rw (n .back) (tt, omega arith)
 
--- src/lib.rt:120:27
 add-put-number : tie.Need-add-put-number
 add-put-number c = let n = low c in rw (n .back) (omega arith)
 
--- src/lib.rt:120:55
 add-put-number-2 : tie.Need-add-put-number-2
 add-put-number-2 c = search needs
 
--- src/lib.rt:120:9
 put-number-requires : tie.Need-put-number-requires
 put-number-requires c κs = let n = low (c .before) in rw (n .back) (room-below (c .before .before .before .args .out .now) (c .before .before .before .args .at) (n .is) (c .before .before .before .pre))
 
--- src/lib.rt:120:9
 same-length : tie.Need-same-length
 same-length c = wrote-length (c .before .before .put-number .ensures) ∙ length-set (c .before .before .before .before .before .before .args .out .now) (c .before .before .before .before .before .before .args .at) 45
 
--- src/lib.rt:120:9
 returns : tie.Need-returns
 returns c = let n = low (c .before .before .before .before) in wrote-as (below-text (n .is)) (wrote-after 45 (rw (n .back) at (c .before .before .put-number .ensures)))
 
--- src/lib.rt:122:16
 cast-put-number-2 : tie.Need-cast-put-number-2
 cast-put-number-2 c = let n = high c in rw (n .back) (tt, omega arith)
 
--- src/lib.rt:122:5
 put-number-requires-2 : tie.Need-put-number-requires-2
 put-number-requires-2 c κs = let n = high (c .before) in rw (n .back) (omega (arith, ap (λ (y : ℤ). length (integerText y)) (n .is)))
 
--- src/lib.rt:114:1
 same-length-2 : tie.Need-same-length-2
 same-length-2 c = search needs
 
--- src/lib.rt:114:1
 returns-2 : tie.Need-returns-2
 returns-2 c = let n = high (c .before .before .before .before) in wrote-as (ap integerText (sym (n .is))) (rw (n .back) at (c .before .before .put-number2 .ensures))
 

@@ -1,16 +1,13 @@
 -- `put_list` meets its contract: what is left of the entries comes to the same as all after the first. The measure is what is left.
-use mathlib.Core.Path.{sym, ap, _∙_}
-use Prim.Native.Nat.{_+_, _-_}
+use mathlib.Core.Path.{sym, ap}
+use Prim.Native.Nat.{_-_}
 use native.Mathlib.Omega.{arith}
 use borrow.Author.Needs.{needs}
 use lib.ListN.{length, length-set}
-use Rattle.print.specs.Text.{decimal}
 use Rattle.print.proofs.Writing.{wrote-one, wrote-after, wrote-then, wrote-as, wrote-length}
 use Rattle.print.proofs.Listing.{list-first, list-length, list-none, tails-length, Listing, listing-start, listing-more, listing-end}
 use Rattle.print.proofs.put_list.Statement.{statement}
 use Rattle.print.proofs.put_list.Tie as tie
-use Rattle.print.proofs.put_list.Reads as reads
-use Rattle.print.proofs.put_list.Lts as lts
 use Rattle.print.proofs.put_number.Reads as put-number-reads
 
 abbrev Inv-loop : tie.InvT-loop
@@ -19,75 +16,57 @@ Inv-loop list out₀ at end₀ i₀ out end i = Listing list out₀ end₀ out e
 abbrev μ-loop : tie.MeasureT-loop
 μ-loop list out₀ at end₀ i₀ out end i = length list - i
 
--- src/lib.rt:259:9
 slice-write-out : tie.Need-slice-write-out Inv-loop μ-loop
 slice-write-out c = omega (arith, ap length (list-none (c .before .before .before .args .list .now) (c .if1 .taken)))
 
--- src/lib.rt:260:16
 add-result : tie.Need-add-result Inv-loop μ-loop
 add-result c = omega (arith, ap length (list-none (c .before .before .before .args .list .now) (c .if1 .taken)))
 
--- src/lib.rt:260:9
 same-length : tie.Need-same-length Inv-loop μ-loop
 same-length c = search needs
 
--- src/lib.rt:260:9
 returns : tie.Need-returns Inv-loop μ-loop
 returns c = wrote-as (sym (list-none (c .before .before .before .args .list .now) (c .if1 .taken))) (wrote-one (c .before .before .before .args .out .now) (c .before .before .before .args .at) 45)
 
--- src/lib.rt:262:30
 shared-slice-read-put-number : tie.Need-shared-slice-read-put-number Inv-loop μ-loop
 shared-slice-read-put-number c = omega arith
 
--- src/lib.rt:262:30
 cast-put-number : tie.Need-cast-put-number Inv-loop μ-loop
 cast-put-number c = omega (arith, c .shared-slice-known2 .given 0)
 
--- src/lib.rt:262:9
 put-number-requires : tie.Need-put-number-requires Inv-loop μ-loop
 put-number-requires c κs = omega (arith, list-length (c .before .before .before .before .before .args .list .now) (omega arith))
 
--- src/lib.rt:264:5
 loop-holds : tie.Need-loop-holds Inv-loop μ-loop
 loop-holds c = listing-start (c .before .before .before .before .before .before .before .before .args .list .now) (omega arith) (c .before .before .put-number .ensures) (c .before .before .before .before .before .before .before .before .pre)
 
--- src/lib.rt:265:9
 slice-write-out-2 : tie.Need-slice-write-out-2 Inv-loop μ-loop
 slice-write-out-2 c = omega (arith, tails-length (c .before .before .before .before .before .before .before .before .before .before .args .list .now) (c .loop-test .taken))
 
--- src/lib.rt:266:26
 shared-slice-read-put-number-2 : tie.Need-shared-slice-read-put-number-2 Inv-loop μ-loop
 shared-slice-read-put-number-2 c = omega arith
 
--- src/lib.rt:266:26
 cast-put-number-2 : tie.Need-cast-put-number-2 Inv-loop μ-loop
 cast-put-number-2 c = omega (arith, c .shared-slice-known3 .given (c .before .before .loop .i))
 
--- src/lib.rt:266:49
 add-put-number : tie.Need-add-put-number Inv-loop μ-loop
 add-put-number c = omega (arith, tails-length (c .before .before .before .before .before .before .before .before .before .before .before .before .args .list .now) (c .before .before .loop-test .taken))
 
--- src/lib.rt:266:9
 put-number-requires-2 : tie.Need-put-number-requires-2 Inv-loop μ-loop
 put-number-requires-2 c κs = omega (arith, tails-length (c .before .before .before .before .before .before .before .before .before .before .before .before .args .list .now) (c .before .before .loop-test .taken), length-set (c .before .before .before .loop .out) (c .before .before .before .loop .end) 44)
 
--- src/lib.rt:267:9
 add-i : tie.Need-add-i Inv-loop μ-loop
 add-i c = omega arith
 
--- src/lib.rt:264:5
 loop-less : tie.Need-loop-less Inv-loop μ-loop
 loop-less c = omega arith
 
--- src/lib.rt:264:5
 loop-again : tie.Need-loop-again Inv-loop μ-loop
 loop-again c = listing-more (c .before .before .before .before .before .before .before .before .before .before .before .before .before .before .before .args .list .now) (c .before .before .before .before .before .loop-test .taken) (c .before .before .before .before .before .before .loop .inv) (wrote-after 44 (c .before .before .put-number2 .ensures))
 
--- src/lib.rt:254:1
 same-length-2 : tie.Need-same-length-2 Inv-loop μ-loop
 same-length-2 c = omega (arith, c .before .loop .inv .long, wrote-length (c .before .before .before .before .put-number .ensures))
 
--- src/lib.rt:254:1
 returns-2 : tie.Need-returns-2 Inv-loop μ-loop
 returns-2 c = wrote-as (sym (list-first (c .before .before .before .before .before .before .before .before .before .before .args .list .now) (omega arith))) (wrote-then (c .before .before .before .before .put-number .ensures) (listing-end (c .before .before .before .before .before .before .before .before .before .before .args .list .now) (c .loop-test .left) (c .before .loop .inv)))
 

@@ -1,17 +1,16 @@
 -- `put_refused` meets its contract.
-use mathlib.Core.Path.{_≡_, _∙_}
+use mathlib.Core.Path.{_≡_}
 use mathlib.Core.List.{List, [], _∷_, _++_, append-assoc}
 use Prim.Native.Nat.{ℕ}
 use native.Mathlib.Omega.{arith}
 use lib.ListN.{length-set}
+use Rattle.print.specs.Ascii.{ascii}
 use Rattle.print.specs.Text.{decimal}
 use Rattle.print.proofs.Writing.{wrote-then, wrote-byte, wrote-as, wrote-length}
 use Rattle.print.proofs.Decimals.{decimal-any}
 use borrow.Author.Needs.{needs}
 use Rattle.print.proofs.put_refused.Statement.{statement}
 use Rattle.print.proofs.put_refused.Tie as tie
-use Rattle.print.proofs.put_refused.Reads as reads
-use Rattle.print.proofs.put_refused.Lts as lts
 use Rattle.print.proofs.put_bytes.Reads as put-bytes-reads
 use Rattle.print.proofs.put_count.Reads as put-count-reads
 use Rattle.print.proofs.put_number.Reads as put-number-reads
@@ -20,37 +19,29 @@ use Rattle.print.proofs.put_number.Reads as put-number-reads
 parted : (xs ys : List ℕ) (a b : ℕ) → (xs ++ a ∷ []) ++ (ys ++ b ∷ []) ≡ (xs ++ a ∷ ys) ++ b ∷ []
 parted xs ys a b = simp append-assoc
 
--- src/lib.rt:350:27
 slice-aggregate-put-bytes : tie.Need-slice-aggregate-put-bytes
 slice-aggregate-put-bytes c = search needs
 
--- src/lib.rt:350:9
 put-bytes-requires : tie.Need-put-bytes-requires
 put-bytes-requires c κs = search needs
 
--- src/lib.rt:351:9
 put-number-requires : tie.Need-put-number-requires
 put-number-requires c κs = omega (arith, decimal-any (c .before .before .before .before .before .before .before .args .number) (omega arith), c .before .before .before .put-bytes .ensures .ends, wrote-length (c .before .before .before .put-bytes .ensures))
 
--- src/lib.rt:352:5
 slice-write-out : tie.Need-slice-write-out
 slice-write-out c = omega (arith, decimal-any (c .before .before .before .before .before .before .before .before .before .before .args .number) (omega arith), c .before .before .before .before .before .before .put-bytes .ensures .ends, wrote-length (c .before .before .before .before .before .before .put-bytes .ensures), c .before .before .put-number .ensures .ends, wrote-length (c .before .before .put-number .ensures))
 
--- src/lib.rt:353:27
 add-put-count : tie.Need-add-put-count
 add-put-count c = omega (arith, decimal-any (c .before .before .before .before .before .before .before .before .before .before .before .args .number) (omega arith), c .before .before .before .before .before .before .before .put-bytes .ensures .ends, wrote-length (c .before .before .before .before .before .before .before .put-bytes .ensures), c .before .before .before .put-number .ensures .ends, wrote-length (c .before .before .before .put-number .ensures))
 
--- src/lib.rt:353:5
 put-count-requires : tie.Need-put-count-requires
 put-count-requires c κs = omega (arith, decimal-any (c .before .before .before .before .before .before .before .before .before .before .before .args .number) (omega arith), c .before .before .before .before .before .before .before .put-bytes .ensures .ends, wrote-length (c .before .before .before .before .before .before .before .put-bytes .ensures), c .before .before .before .put-number .ensures .ends, wrote-length (c .before .before .before .put-number .ensures), length-set (c .before .before .before .put-number .last .1 .0) (c .before .before .before .put-number .result) 32)
 
--- src/lib.rt:346:1
 same-length : tie.Need-same-length
 same-length c = omega (arith, c .before .before .before .before .before .before .before .before .before .before .put-bytes .ensures .ends, wrote-length (c .before .before .before .before .before .before .before .before .before .before .put-bytes .ensures), c .before .before .before .before .before .before .put-number .ensures .ends, wrote-length (c .before .before .before .before .before .before .put-number .ensures), length-set (c .before .before .before .before .before .before .put-number .last .1 .0) (c .before .before .before .before .before .before .put-number .result) 32, wrote-length (c .before .before .put-count .ensures))
 
--- src/lib.rt:346:1
 returns : tie.Need-returns
-returns c = wrote-as (parted (114 ∷ 101 ∷ 102 ∷ 117 ∷ 115 ∷ 101 ∷ 100 ∷ 32 ∷ decimal (c .before .before .before .before .before .before .before .before .before .before .before .before .before .before .args .number)) (decimal (c .before .before .before .before .before .before .before .before .before .before .before .before .before .before .args .place)) 32 10) (wrote-then (wrote-byte 32 (wrote-then (c .before .before .before .before .before .before .before .before .before .before .put-bytes .ensures) (c .before .before .before .before .before .before .put-number .ensures))) (c .before .before .put-count .ensures))
+returns c = wrote-as (parted (ascii "refused " ++ decimal (c .before .before .before .before .before .before .before .before .before .before .before .before .before .before .args .number)) (decimal (c .before .before .before .before .before .before .before .before .before .before .before .before .before .before .args .place)) 32 10) (wrote-then (wrote-byte 32 (wrote-then (c .before .before .before .before .before .before .before .before .before .before .put-bytes .ensures) (c .before .before .before .before .before .before .put-number .ensures))) (c .before .before .put-count .ensures))
 
 pub put-refused-spec : {M : Type 1} → statement M
 put-refused-spec =

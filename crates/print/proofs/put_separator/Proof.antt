@@ -7,55 +7,41 @@ use Rattle.print.proofs.Writing.{wrote-none, wrote-as}
 use borrow.Author.Needs.{needs}
 use Rattle.print.proofs.put_separator.Statement.{statement}
 use Rattle.print.proofs.put_separator.Tie as tie
-use Rattle.print.proofs.put_separator.Reads as reads
-use Rattle.print.proofs.put_separator.Lts as lts
 use Rattle.print.proofs.put_bytes.Reads as put-bytes-reads
 
--- src/lib.rt:149:31
 enum-told : tie.Need-enum-told
 enum-told c = search needs
 
--- src/lib.rt:150:39
 enum-told-2 : tie.Need-enum-told-2
 enum-told-2 c = search needs
 
--- src/lib.rt:150:39
 slice-aggregate-put-bytes : tie.Need-slice-aggregate-put-bytes
 slice-aggregate-put-bytes c = search needs
 
--- src/lib.rt:150:29
 put-bytes-requires : tie.Need-put-bytes-requires
 put-bytes-requires c κs = omega (arith, ap length (ap before (c .before .before .enum-told2 .given .1)))
 
--- src/lib.rt:151:39
 enum-told-3 : tie.Need-enum-told-3
 enum-told-3 c = search needs
 
--- src/lib.rt:151:39
 slice-aggregate-put-bytes-2 : tie.Need-slice-aggregate-put-bytes-2
 slice-aggregate-put-bytes-2 c = search needs
 
--- src/lib.rt:151:29
 put-bytes-requires-2 : tie.Need-put-bytes-requires-2
 put-bytes-requires-2 c κs = omega (arith, ap length (ap before (c .before .before .enum-told3 .given .1)))
 
--- src/lib.rt:144:1
 returns : tie.Need-returns
 returns c = wrote-as (ap before (sym (c .enum-told .given .1))) (wrote-none (c .before .before .before .args .out .now) (c .before .before .before .args .at))
 
--- src/lib.rt:144:1
 same-length : tie.Need-same-length
 same-length c = search needs
 
--- src/lib.rt:144:1
 returns-2 : tie.Need-returns-2
 returns-2 c = wrote-as (ap before (sym (c .before .before .before .before .before .enum-told2 .given .1))) (c .before .before .put-bytes .ensures)
 
--- src/lib.rt:144:1
 same-length-2 : tie.Need-same-length-2
 same-length-2 c = search needs
 
--- src/lib.rt:144:1
 returns-3 : tie.Need-returns-3
 returns-3 c = wrote-as (ap before (sym (c .before .before .before .before .before .enum-told3 .given .1))) (c .before .before .put-bytes2 .ensures)
 

@@ -391,6 +391,10 @@ fn prints() -> Vec<Row> {
         ),
         ("walk program, height 32", cases::chain(32)),
         (
+            "walk program, an empty table: starting and ending",
+            Vec::new(),
+        ),
+        (
             "walk program, 10,000 lists: four choices among 10",
             cases::four_choices(10),
         ),

@@ -13,7 +13,7 @@ use sheets::List;
 use std::fs::File;
 use std::io::{Read, Write};
 use std::path::PathBuf;
-use std::process::{Child, Command, Stdio};
+use std::process::{Child, Command, Output, Stdio};
 
 fn program() -> PathBuf {
     built().expect("target/bin/walk: run `rt check walk` in the repository")
@@ -167,13 +167,7 @@ fn printing_to(output: impl Into<Stdio>) -> Child {
     child
 }
 
-/// It ends quietly, and with a status that is not 0.
-fn ends_quietly(child: Child) {
-    let ended = child.wait_with_output().expect("an end");
-    assert!(!ended.status.success());
-    assert_eq!(String::from_utf8_lossy(&ended.stderr), "");
-}
-
+/// Nobody reads on: the program ends quietly, with a status that is not 0.
 #[test]
 fn a_closed_pipe() {
     let mut child = printing_to(Stdio::piped());
@@ -182,25 +176,31 @@ fn a_closed_pipe() {
     output.read_exact(&mut start).expect("a first line");
     assert_eq!(&start, b"table ");
     drop(output);
-    ends_quietly(child);
+    let ended = child.wait_with_output().expect("an end");
+    assert!(!ended.status.success());
+    assert_eq!(String::from_utf8_lossy(&ended.stderr), "");
+}
+
+/// The program has no status of its own: what fails is one line on standard error.
+#[track_caller]
+fn assert_told(ended: Output, line: &str) {
+    assert!(ended.stdout.is_empty());
+    assert_eq!(String::from_utf8_lossy(&ended.stderr), line);
 }
 
 #[test]
 fn output_that_cannot_be_written() {
     if let Ok(full) = File::options().write(true).open("/dev/full") {
-        ends_quietly(printing_to(full));
+        let ended = printing_to(full).wait_with_output().expect("an end");
+        assert_told(ended, "walk: standard output cannot be written\n");
     }
 }
 
-/// A folder cannot be read: that is said on standard error, and nothing is printed.
+/// A folder cannot be read.
 #[test]
 fn input_that_cannot_be_read() {
     let folder = File::open("/").expect("the root folder");
-    let ended = Command::new(program())
-        .stdin(folder)
-        .output()
-        .expect("the program starts");
-    assert!(!ended.status.success());
-    assert!(ended.stdout.is_empty());
-    assert_eq!(String::from_utf8_lossy(&ended.stderr).lines().count(), 1);
+    let mut command = Command::new(program());
+    let ended = command.stdin(folder).output().expect("an end");
+    assert_told(ended, "walk: standard input cannot be read\n");
 }

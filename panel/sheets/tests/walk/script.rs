@@ -207,6 +207,18 @@ fn a_proof_that_fails() {
     assert!(last.starts_with("walk: rt could not prove the program"));
 }
 
+/// What the program says on standard error becomes a status.
+#[test]
+fn a_program_that_fails() {
+    let made = Repository::new("failing");
+    made.walk(&[], "");
+    made.program("target/bin/walk", "echo 'walk: input is gone' >&2\n");
+    assert_eq!(made.walk(&[], ""), refused(1, "walk: input is gone"));
+    made.program("target/bin/walk", "kill -PIPE $$\n");
+    let ended = made.walk(&[], "");
+    assert_eq!((ended.status, ended.errors), (Some(141), vec![]));
+}
+
 #[test]
 fn words() {
     let made = Repository::new("words");

@@ -1,3 +1,4 @@
+-- After i operands, what they come to; those are not left any more.
 use mathlib.Core.Path.{refl, sym, ap, _∙_}
 use Prim.Native.Nat.{_-_, max}
 use native.Mathlib.Omega.{arith}
@@ -9,20 +10,6 @@ use Rattle.tables.specs.Laws.Accepted.{fit-records}
 use Rattle.checking.proofs.Gathering.{Gathers, gathers-start, gathers-more, gathers-end, left-lower}
 use Rattle.checking.proofs.sweep.gather.Statement.{statement}
 use Rattle.checking.proofs.sweep.gather.Tie as tie
-use Rattle.checking.proofs.sweep.gather.Reads as reads
-use Rattle.checking.proofs.sweep.gather.Lts as lts
-use Rattle.checking.proofs.height.higher.Reads as higher-reads
-use Rattle.checking.proofs.scope.own.Reads as own-reads
-use Rattle.checking.proofs.scope.union.Reads as union-reads
-use Rattle.checking.proofs.sweep.hand_on.Reads as hand-on-reads
-use Rattle.checking.proofs.sweep.is_named.Reads as is-named-reads
-use Rattle.checking.proofs.sweep.own_free.Reads as own-free-reads
-use Rattle.checking.proofs.sweep.stop.Reads as stop-reads
-use Rattle.checking.proofs.sweep.wanted.Reads as wanted-reads
-use Rattle.tables.proofs.reading.operand.Reads as operand-reads
-use Rattle.tables.proofs.reading.operand_count.Reads as operand-count-reads
-use Rattle.tables.proofs.reading.role.Reads as role-reads
-use Rattle.tables.proofs.shape.wide.Reads as wide-reads
 
 abbrev Inv-loop : tie.InvT-loop
 Inv-loop table index r names left₀ below frees highs count held₀ free₀ high₀ i₀ left held free high i =
@@ -32,123 +19,93 @@ abbrev μ-loop : tie.MeasureT-loop
 μ-loop table index r names left₀ below frees highs count held₀ free₀ high₀ i₀ left held free high i =
     count - i
 
--- src/sweep.rt:194:9
 operand-count-requires : tie.Need-operand-count-requires Inv-loop μ-loop
 operand-count-requires c κs = c .before .pre .ask .here
 
--- src/sweep.rt:195:9
 own-requires : tie.Need-own-requires Inv-loop μ-loop
 own-requires c κs = c .before .before .pre .ask .here
 
--- src/sweep.rt:196:9
 own-free-requires : tie.Need-own-free-requires Inv-loop μ-loop
 own-free-requires c κs = c .before .before .before .pre .ask .here
 
--- src/sweep.rt:199:5
 loop-holds : tie.Need-loop-holds Inv-loop μ-loop
 loop-holds c = gathers-start (records (c .before .before .before .before .args .table .now)) (c .before .before .before .before .args .r) (c .before .before .before .before .args .left .now) (c .before .before .before .before .args .frees .now) (c .before .own .result) (c .own-free .result) (c .before .before .before .before .pre .ask .here .within) (c .before .before .before .before .pre .ask .left-is) (c .before .own .ensures)
 
--- src/sweep.rt:200:13
 role-requires : tie.Need-role-requires Inv-loop μ-loop
 role-requires c κs = record { here = c .before .before .before .before .before .before .pre .ask .here; has = (omega (arith, c .loop-test .taken, c .before .before .before .before .operand-count .ensures .0)) }
 
--- src/sweep.rt:201:13
 operand-requires : tie.Need-operand-requires Inv-loop μ-loop
 operand-requires c κs = record { here = c .before .before .before .before .before .before .before .pre .ask .here; has = (omega (arith, c .before .loop-test .taken, c .before .before .before .before .before .operand-count .ensures .0)) }
 
--- src/sweep.rt:202:12
 element-copy-out-if1 : tie.Need-element-copy-out-if1 Inv-loop μ-loop
 element-copy-out-if1 c = omega (arith, c .operand .ensures .1)
 
--- src/sweep.rt:202:23
 wanted-requires : tie.Need-wanted-requires Inv-loop μ-loop
 wanted-requires c κs = search needs
 
--- src/sweep.rt:203:13
 stop-requires : tie.Need-stop-requires Inv-loop μ-loop
 stop-requires c κs = search needs
 
--- src/sweep.rt:203:13
 returns : tie.Need-returns Inv-loop μ-loop
 returns c = λ e. never (sym (c .stop .ensures) ∙ e)
 
--- src/sweep.rt:205:13
 is-named-requires : tie.Need-is-named-requires Inv-loop μ-loop
 is-named-requires c κs = record { indexed = c .before .before .before .before .before .before .before .before .before .before .before .pre .ask .here .indexed; within = omega (arith, left-lower (records (c .before .before .before .before .before .before .before .before .before .before .before .args .table .now)) (c .before .before .before .before .before .before .before .before .before .before .before .args .r) (c .before .before .before .before .before .before .before .before .before .before .before .args .frees .now) (c .before .before .before .before .before .before .before .own-free .result) (c .before .before .before .before .before .before .loop .left) (c .before .before .before .before .before .before .loop .held) (c .before .before .before .before .before .before .loop .free) (c .before .before .before .before .before .before .loop .high) (c .before .before .before .before .before .before .loop .i) (c .before .before .before .before .before .before .loop .inv) (c .before .before .before .operand .result) (c .before .before .before .before .role .result) (c .before .before .before .operand .ensures .1) (c .if1 .left ∙ c .before .wanted .ensures), c .before .before .before .before .before .before .before .before .before .before .before .pre .ask .here .within) }
 
--- src/sweep.rt:207:13
 stop-requires-2 : tie.Need-stop-requires-2 Inv-loop μ-loop
 stop-requires-2 c κs = search needs
 
--- src/sweep.rt:207:13
 returns-2 : tie.Need-returns-2 Inv-loop μ-loop
 returns-2 c = λ e. never (sym (c .stop2 .ensures) ∙ e)
 
--- src/sweep.rt:209:9
 element-write-left : tie.Need-element-write-left Inv-loop μ-loop
 element-write-left c = omega (arith, c .before .before .before .before .before .operand .ensures .1)
 
--- src/sweep.rt:210:21
 mul-inner : tie.Need-mul-inner Inv-loop μ-loop
 mul-inner c = omega (arith, c .before .before .before .before .before .operand .ensures .1)
 
--- src/sweep.rt:210:21
 element-copy-out-inner : tie.Need-element-copy-out-inner Inv-loop μ-loop
 element-copy-out-inner c = omega (arith, left-lower (records (c .before .before .before .before .before .before .before .before .before .before .before .before .before .args .table .now)) (c .before .before .before .before .before .before .before .before .before .before .before .before .before .args .r) (c .before .before .before .before .before .before .before .before .before .before .before .before .before .args .frees .now) (c .before .before .before .before .before .before .before .before .before .own-free .result) (c .before .before .before .before .before .before .before .before .loop .left) (c .before .before .before .before .before .before .before .before .loop .held) (c .before .before .before .before .before .before .before .before .loop .free) (c .before .before .before .before .before .before .before .before .loop .high) (c .before .before .before .before .before .before .before .before .loop .i) (c .before .before .before .before .before .before .before .before .loop .inv) (c .before .before .before .before .before .operand .result) (c .before .before .before .before .before .before .role .result) (c .before .before .before .before .before .operand .ensures .1) (c .before .before .if1 .left ∙ c .before .before .before .wanted .ensures), c .before .before .before .before .before .before .before .before .before .before .before .before .before .pre .ask .here .within, c .before .before .before .before .before .before .before .before .before .before .before .before .before .pre .ask .here .indexed .few)
 
--- src/sweep.rt:211:47
 mul-hand-on : tie.Need-mul-hand-on Inv-loop μ-loop
 mul-hand-on c = omega (arith, c .before .before .before .before .before .before .operand .ensures .1)
 
--- src/sweep.rt:211:47
 element-copy-out-hand-on : tie.Need-element-copy-out-hand-on Inv-loop μ-loop
 element-copy-out-hand-on c = omega (arith, left-lower (records (c .before .before .before .before .before .before .before .before .before .before .before .before .before .before .args .table .now)) (c .before .before .before .before .before .before .before .before .before .before .before .before .before .before .args .r) (c .before .before .before .before .before .before .before .before .before .before .before .before .before .before .args .frees .now) (c .before .before .before .before .before .before .before .before .before .before .own-free .result) (c .before .before .before .before .before .before .before .before .before .loop .left) (c .before .before .before .before .before .before .before .before .before .loop .held) (c .before .before .before .before .before .before .before .before .before .loop .free) (c .before .before .before .before .before .before .before .before .before .loop .high) (c .before .before .before .before .before .before .before .before .before .loop .i) (c .before .before .before .before .before .before .before .before .before .loop .inv) (c .before .before .before .before .before .before .operand .result) (c .before .before .before .before .before .before .before .role .result) (c .before .before .before .before .before .before .operand .ensures .1) (c .before .before .before .if1 .left ∙ c .before .before .before .before .wanted .ensures), c .before .before .before .before .before .before .before .before .before .before .before .before .before .before .pre .ask .here .within, c .before .before .before .before .before .before .before .before .before .before .before .before .before .before .pre .ask .here .indexed .few)
 
--- src/sweep.rt:211:13
 hand-on-requires : tie.Need-hand-on-requires Inv-loop μ-loop
 hand-on-requires c κs = search needs
 
--- src/sweep.rt:214:13
 stop-requires-3 : tie.Need-stop-requires-3 Inv-loop μ-loop
 stop-requires-3 c κs = search needs
 
--- src/sweep.rt:214:13
 returns-3 : tie.Need-returns-3 Inv-loop μ-loop
 returns-3 c = λ e. never (sym (c .stop3 .ensures) ∙ e)
 
--- src/sweep.rt:216:9
 union-requires : tie.Need-union-requires Inv-loop μ-loop
 union-requires c κs = search needs
 
--- src/sweep.rt:217:9
 union-requires-2 : tie.Need-union-requires-2 Inv-loop μ-loop
 union-requires-2 c κs = search needs
 
--- src/sweep.rt:218:34
 element-copy-out-wide : tie.Need-element-copy-out-wide Inv-loop μ-loop
 element-copy-out-wide c = omega (arith, left-lower (records (c .before .before .before .before .before .before .before .before .before .before .before .before .before .before .before .before .before .before .before .args .table .now)) (c .before .before .before .before .before .before .before .before .before .before .before .before .before .before .before .before .before .before .before .args .r) (c .before .before .before .before .before .before .before .before .before .before .before .before .before .before .before .before .before .before .before .args .frees .now) (c .before .before .before .before .before .before .before .before .before .before .before .before .before .before .before .own-free .result) (c .before .before .before .before .before .before .before .before .before .before .before .before .before .before .loop .left) (c .before .before .before .before .before .before .before .before .before .before .before .before .before .before .loop .held) (c .before .before .before .before .before .before .before .before .before .before .before .before .before .before .loop .free) (c .before .before .before .before .before .before .before .before .before .before .before .before .before .before .loop .high) (c .before .before .before .before .before .before .before .before .before .before .before .before .before .before .loop .i) (c .before .before .before .before .before .before .before .before .before .before .before .before .before .before .loop .inv) (c .before .before .before .before .before .before .before .before .before .before .before .operand .result) (c .before .before .before .before .before .before .before .before .before .before .before .before .role .result) (c .before .before .before .before .before .before .before .before .before .before .before .operand .ensures .1) (c .before .before .before .before .before .before .before .before .if1 .left ∙ c .before .before .before .before .before .before .before .before .before .wanted .ensures), c .before .before .before .before .before .before .before .before .before .before .before .before .before .before .before .before .before .before .before .pre .ask .here .within, c .before .before .before .before .before .before .before .before .before .before .before .before .before .before .before .before .before .before .before .pre .ask .here .indexed .few)
 
--- src/sweep.rt:218:29
 wide-requires : tie.Need-wide-requires Inv-loop μ-loop
 wide-requires c κs = search needs
 
--- src/sweep.rt:218:9
 higher-requires : tie.Need-higher-requires Inv-loop μ-loop
 higher-requires c κs = search needs
 
--- src/sweep.rt:219:9
 add-i : tie.Need-add-i Inv-loop μ-loop
 add-i c = omega (arith, c .before .before .before .before .before .before .before .before .before .before .before .before .before .before .before .before .loop-test .taken, c .before .before .before .before .before .before .before .before .before .before .before .before .before .before .before .before .before .before .before .before .operand-count .ensures .1)
 
--- src/sweep.rt:199:5
 loop-less : tie.Need-loop-less Inv-loop μ-loop
 loop-less c = omega (arith, c .before .before .before .before .before .before .before .before .before .before .before .before .before .before .before .before .loop-test .taken)
 
--- src/sweep.rt:199:5
 loop-again : tie.Need-loop-again Inv-loop μ-loop
 loop-again c = gathers-more (records (c .before .before .before .before .before .before .before .before .before .before .before .before .before .before .before .before .before .before .before .before .before .before .args .table .now)) (c .before .before .before .before .before .before .before .before .before .before .before .before .before .before .before .before .before .before .before .before .before .before .args .r) (c .before .before .before .before .before .before .before .before .before .before .before .before .before .before .before .before .before .before .before .before .before .before .args .names) (c .before .before .before .before .before .before .before .before .before .before .before .before .before .before .before .before .before .loop .left) (c .before .before .before .before .before .before .before .before .before .before .before .before .before .before .before .before .before .before .before .before .before .before .args .below .now) (c .before .before .before .before .before .before .before .before .before .before .before .before .before .before .before .before .before .before .before .before .before .before .args .frees .now) (c .before .before .before .before .before .before .before .before .before .before .before .before .before .before .before .before .before .before .before .before .before .before .args .highs .now) (c .before .before .before .before .before .before .before .before .before .before .before .before .before .before .before .before .before .before .own-free .result) (c .before .before .before .before .before .before .before .before .before .before .before .before .before .before .before .before .before .loop .held) (c .before .before .before .before .before .before .before .before .before .before .before .before .before .before .before .before .before .loop .free) (c .before .before .before .before .before .before .before .before .before .before .before .before .before .before .before .before .before .loop .high) (c .before .before .before .before .before .before .before .before .before .before .before .before .before .before .before .before .before .loop .i) (c .before .before .before .before .before .before .before .before .before .before .before .before .before .before .before .before .before .loop .inv) (c .before .before .before .before .before .before .before .before .before .before .before .before .before .before .before .before .before .before .before .before .before .before .pre .ask .kept) (c .before .before .before .before .before .before .before .before .before .before .before .before .before .before .before .before .before .before .before .before .before .before .pre .names-are) (fit-records (c .before .before .before .before .before .before .before .before .before .before .before .before .before .before .before .before .before .before .before .before .before .before .args .table .now)) (c .before .before .before .before .before .before .before .before .before .before .before .before .before .before .before .before .before .before .before .before .before .before .pre .ask .here .within) (omega (arith, c .before .before .before .before .before .before .before .before .before .before .before .before .before .before .before .before .loop-test .taken, c .before .before .before .before .before .before .before .before .before .before .before .before .before .before .before .before .before .before .before .before .operand-count .ensures .0)) (c .before .before .before .before .before .before .before .before .before .before .before .before .before .before .operand .result) (c .before .before .before .before .before .before .before .before .before .before .before .before .before .before .operand .ensures .0) (c .before .before .before .before .before .before .before .before .before .before .before .before .before .before .operand .ensures .1) (c .before .before .before .before .before .before .before .before .before .before .before .before .before .before .before .role .result) (c .before .before .before .before .before .before .before .before .before .before .before .before .before .before .before .role .ensures) (c .before .before .before .before .before .before .before .before .before .before .before .if1 .left ∙ c .before .before .before .before .before .before .before .before .before .before .before .before .wanted .ensures) _ (c .before .before .before .before .before .before .hand-on .result) (c .before .before .before .before .union .result) (c .before .before .before .union2 .result) (c .higher .result) (sym (c .before .before .before .before .before .before .before .before .before .before .is-named .ensures) ∙ not-false _ (c .before .before .before .before .before .before .before .before .before .if2 .left)) refl (c .before .before .before .before .before .before .hand-on .ensures) (not-false _ (c .before .before .before .before .before .if3 .left)) (c .before .before .before .before .union .ensures) (c .before .before .before .union2 .ensures) (c .higher .ensures ∙ ap (max (c .before .before .before .before .before .before .before .before .before .before .before .before .before .before .before .before .before .loop .high)) (c .before .wide .ensures .0))
 
--- src/sweep.rt:181:1
 returns-4 : tie.Need-returns-4 Inv-loop μ-loop
 returns-4 c = λ e. gathers-end (records (c .before .before .before .before .before .before .args .table .now)) (c .before .before .before .before .before .before .args .r) (c .before .before .before .before .before .before .args .names) (c .before .loop .left) (c .before .before .before .before .before .before .args .frees .now) (c .before .loop .held) (c .before .loop .free) (c .before .loop .high) (c .before .loop .i) _ (c .before .before .own-free .result) (c .before .before .before .before .before .before .pre .ask .here .within) (c .before .before .before .before .before .before .pre .names-are) (c .before .before .own-free .ensures) (c .before .loop .inv) (omega (arith, c .loop-test .left, c .before .before .before .before .operand-count .ensures .0)) refl refl refl
 

@@ -1,65 +1,48 @@
+-- By role.
 use mathlib.Core.Path.{sym, _∙_}
 use borrow.Author.Needs.{needs}
 use Rattle.checking.proofs.sweep.hand_on.Statement.{statement}
 use Rattle.checking.proofs.sweep.hand_on.Tie as tie
-use Rattle.checking.proofs.sweep.hand_on.Reads as reads
-use Rattle.checking.proofs.sweep.hand_on.Lts as lts
-use Rattle.checking.proofs.scope.has.Reads as has-reads
-use Rattle.checking.proofs.sweep.covered.Reads as covered-reads
 
--- src/sweep.rt:129:24
 enum-told : tie.Need-enum-told
 enum-told c = search needs
 
--- src/sweep.rt:131:16
 enum-told-2 : tie.Need-enum-told-2
 enum-told-2 c = search needs
 
--- src/sweep.rt:131:16
 has-requires : tie.Need-has-requires
 has-requires c κs = search needs
 
--- src/sweep.rt:132:17
 returns : tie.Need-returns
 returns c = rw (c .before .before .enum-told2 .given .1, sym (c .before .has .ensures) ∙ c .if1 .taken)
 
--- src/sweep.rt:134:13
 covered-requires : tie.Need-covered-requires
 covered-requires c κs = search needs
 
--- src/sweep.rt:136:23
 enum-told-3 : tie.Need-enum-told-3
 enum-told-3 c = search needs
 
--- src/sweep.rt:136:23
 covered-requires-2 : tie.Need-covered-requires-2
 covered-requires-2 c κs = search needs
 
--- src/sweep.rt:137:26
 enum-told-4 : tie.Need-enum-told-4
 enum-told-4 c = search needs
 
--- src/sweep.rt:138:23
 enum-told-5 : tie.Need-enum-told-5
 enum-told-5 c = search needs
 
--- src/sweep.rt:125:1
 returns-2 : tie.Need-returns-2
 returns-2 c = rw (c .enum-told .given .1)
 
--- src/sweep.rt:125:1
 returns-3 : tie.Need-returns-3
 returns-3 c = rw (c .before .before .before .enum-told2 .given .1, sym (c .before .before .has .ensures) ∙ c .before .if1 .left) (c .covered .ensures)
 
--- src/sweep.rt:125:1
 returns-4 : tie.Need-returns-4
 returns-4 c = rw (c .before .enum-told3 .given .1) (c .covered2 .ensures)
 
--- src/sweep.rt:125:1
 returns-5 : tie.Need-returns-5
 returns-5 c = rw (c .enum-told4 .given .1)
 
--- src/sweep.rt:125:1
 returns-6 : tie.Need-returns-6
 returns-6 c = rw (c .enum-told5 .given .1)
 

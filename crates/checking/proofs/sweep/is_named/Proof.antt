@@ -1,51 +1,38 @@
+-- By role.
 use borrow.Author.Needs.{needs}
 use Rattle.checking.proofs.sweep.is_named.Statement.{statement}
 use Rattle.checking.proofs.sweep.is_named.Tie as tie
-use Rattle.checking.proofs.sweep.is_named.Reads as reads
-use Rattle.checking.proofs.sweep.is_named.Lts as lts
-use Rattle.tables.proofs.reading.kind.Reads as kind-reads
 
--- src/sweep.rt:103:24
 enum-told : tie.Need-enum-told
 enum-told c = search needs
 
--- src/sweep.rt:104:28
 enum-told-2 : tie.Need-enum-told-2
 enum-told-2 c = search needs
 
--- src/sweep.rt:105:23
 enum-told-3 : tie.Need-enum-told-3
 enum-told-3 c = search needs
 
--- src/sweep.rt:106:26
 enum-told-4 : tie.Need-enum-told-4
 enum-told-4 c = search needs
 
--- src/sweep.rt:107:23
 enum-told-5 : tie.Need-enum-told-5
 enum-told-5 c = search needs
 
--- src/sweep.rt:107:23
 kind-requires : tie.Need-kind-requires
 kind-requires c κs = search needs
 
--- src/sweep.rt:98:1
 returns : tie.Need-returns
 returns c = search needs
 
--- src/sweep.rt:98:1
 returns-2 : tie.Need-returns-2
 returns-2 c = search needs
 
--- src/sweep.rt:98:1
 returns-3 : tie.Need-returns-3
 returns-3 c = search needs
 
--- src/sweep.rt:98:1
 returns-4 : tie.Need-returns-4
 returns-4 c = search needs
 
--- src/sweep.rt:98:1
 returns-5 : tie.Need-returns-5
 returns-5 c = rw (c .before .enum-told5 .given .1, c .kind .ensures .0)
 

@@ -1,3 +1,4 @@
+-- What is passed is at most what it comes to.
 use mathlib.Core.Path.{refl}
 use Prim.Native.Nat.{ℕ, _-_, _≤_, _<_}
 use lib.ListN.{getD}
@@ -5,8 +6,6 @@ use native.Mathlib.Omega.{arith}
 use Rattle.checking.proofs.Gathering.{or-more}
 use Rattle.checking.proofs.sweep.left_below.Statement.{statement}
 use Rattle.checking.proofs.sweep.left_below.Tie as tie
-use Rattle.checking.proofs.sweep.left_below.Reads as reads
-use Rattle.checking.proofs.sweep.left_below.Lts as lts
 
 abbrev Inv-loop : tie.InvT-loop
 Inv-loop left n x₀ i₀ x i = (i ≤ n) × ((q : ℕ) → q < i → getD left q 0 ≤ x)
@@ -14,27 +13,21 @@ Inv-loop left n x₀ i₀ x i = (i ≤ n) × ((q : ℕ) → q < i → getD left 
 abbrev μ-loop : tie.MeasureT-loop
 μ-loop left n x₀ i₀ x i = n - i
 
--- src/sweep.rt:326:5
 loop-holds : tie.Need-loop-holds Inv-loop μ-loop
 loop-holds c = (omega arith, λ q h. absurd (omega arith))
 
--- src/sweep.rt:327:17
 element-copy-out-x : tie.Need-element-copy-out-x Inv-loop μ-loop
 element-copy-out-x c = omega (arith, c .before .before .pre)
 
--- src/sweep.rt:328:9
 add-i : tie.Need-add-i Inv-loop μ-loop
 add-i c = omega (arith, c .before .before .before .pre)
 
--- src/sweep.rt:326:5
 loop-less : tie.Need-loop-less Inv-loop μ-loop
 loop-less c = omega arith
 
--- src/sweep.rt:326:5
 loop-again : tie.Need-loop-again Inv-loop μ-loop
 loop-again c = (omega arith, or-more (c .before .before .before .args .left .now) (c .before .before .loop .x) _ (c .before .before .loop .i) (c .before .before .loop .inv .1) refl)
 
--- src/sweep.rt:320:1
 returns : tie.Need-returns Inv-loop μ-loop
 returns c = λ e q h. omega (arith, c .before .loop .inv .1 q (omega arith))
 

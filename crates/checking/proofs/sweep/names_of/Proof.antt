@@ -1,3 +1,4 @@
+-- A binder has a first operand, which is lower where rule 6 is kept.
 use mathlib.Core.Path.{sym, ap, _∙_}
 use native.Mathlib.Omega.{arith}
 use borrow.Author.Tests.{not-true, not-false}
@@ -11,41 +12,28 @@ use Rattle.checking.proofs.Gathering.{binder-some}
 use borrow.Author.Needs.{needs}
 use Rattle.checking.proofs.sweep.names_of.Statement.{statement}
 use Rattle.checking.proofs.sweep.names_of.Tie as tie
-use Rattle.checking.proofs.sweep.names_of.Reads as reads
-use Rattle.checking.proofs.sweep.names_of.Lts as lts
-use Rattle.tables.proofs.reading.kind.Reads as kind-reads
-use Rattle.tables.proofs.reading.operand.Reads as operand-reads
-use Rattle.tables.proofs.shape.is_binder.Reads as is-binder-reads
 
--- src/sweep.rt:149:27
 kind-requires : tie.Need-kind-requires
 kind-requires c κs = search needs
 
--- src/sweep.rt:149:9
 is-binder-requires : tie.Need-is-binder-requires
 is-binder-requires c κs = search needs
 
--- src/sweep.rt:151:9
 returns : tie.Need-returns
 returns c = record { are = λ clear e. never (sym (sym (ap isBinder (c .before .before .kind .ensures .0)) ∙ sym (c .before .is-binder .ensures) ∙ not-true _ (c .if1 .taken)) ∙ e) }
 
--- src/sweep.rt:153:9
 operand-requires : tie.Need-operand-requires
 operand-requires c κs = record { here = c .before .before .before .before .pre .here; has = (binder-some (recordAt (records (c .before .before .before .before .args .table .now)) (c .before .before .before .before .args .r)) (fit-records (c .before .before .before .before .args .table .now) (c .before .before .before .before .args .r) (c .before .before .before .before .pre .here .within)) (sym (ap isBinder (c .before .before .kind .ensures .0)) ∙ sym (c .before .is-binder .ensures) ∙ not-false _ (c .if1 .left))) }
 
--- src/sweep.rt:155:9
 returns-2 : tie.Need-returns-2
 returns-2 c = record { are = λ clear e. absurd (omega (arith, operand-lower (records (c .before .before .before .before .before .before .args .table .now)) clear (c .before .before .before .before .before .before .args .r) 0 (c .before .before .before .before .before .before .pre .here .within) (binder-some (recordAt (records (c .before .before .before .before .before .before .args .table .now)) (c .before .before .before .before .before .before .args .r)) (fit-records (c .before .before .before .before .before .before .args .table .now) (c .before .before .before .before .before .before .args .r) (c .before .before .before .before .before .before .pre .here .within)) (sym (ap isBinder (c .before .before .before .before .kind .ensures .0)) ∙ sym (c .before .before .before .is-binder .ensures) ∙ not-false _ (c .before .before .if1 .left))), c .before .operand .ensures .0, c .if2 .taken)) }
 
--- src/sweep.rt:157:5
 mul-result : tie.Need-mul-result
 mul-result c = search needs
 
--- src/sweep.rt:157:5
 element-copy-out-result : tie.Need-element-copy-out-result
 element-copy-out-result c = search needs
 
--- src/sweep.rt:145:1
 returns-3 : tie.Need-returns-3
 returns-3 c = record { are = λ clear e. c .before .before .before .before .before .before .before .pre .held clear (c .before .before .operand .result) (c .before .if2 .left) ∙ ap (bitsBelow (records (c .before .before .before .before .before .before .before .args .table .now))) (c .before .before .operand .ensures .0) }
 

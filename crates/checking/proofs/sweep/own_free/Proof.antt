@@ -1,3 +1,4 @@
+-- By kind.
 use mathlib.Core.Path.{sym, _∙_}
 use mathlib.Core.Bool.{true, false}
 use native.Mathlib.Omega.{arith}
@@ -9,50 +10,34 @@ use Rattle.checking.proofs.Gathering.{free-name, free-let-be, free-let,
 use borrow.Author.Needs.{needs}
 use Rattle.checking.proofs.sweep.own_free.Statement.{statement}
 use Rattle.checking.proofs.sweep.own_free.Tie as tie
-use Rattle.checking.proofs.sweep.own_free.Reads as reads
-use Rattle.checking.proofs.sweep.own_free.Lts as lts
-use Rattle.checking.proofs.scope.bit.Reads as bit-reads
-use Rattle.checking.proofs.scope.has.Reads as has-reads
-use Rattle.tables.proofs.reading.field.Reads as field-reads
-use Rattle.tables.proofs.reading.kind.Reads as kind-reads
 
--- src/sweep.rt:165:9
 kind-requires : tie.Need-kind-requires
 kind-requires c κs = search needs
 
--- src/sweep.rt:167:20
 field-requires : tie.Need-field-requires
 field-requires c κs = record { here = c .before .before .before .pre; has = (name-read (recordAt (records (c .before .before .before .args .table .now)) (c .before .before .before .args .r)) (fit-records (c .before .before .before .args .table .now) (c .before .before .before .args .r) (c .before .before .before .pre .within)) (sym (c .before .kind .ensures .0) ∙ c .if1 .taken)) .has }
 
--- src/sweep.rt:167:20
 add-bit : tie.Need-add-bit
 add-bit c = search needs
 
--- src/sweep.rt:167:9
 bit-requires : tie.Need-bit-requires
 bit-requires c κs = omega (arith, (name-read (recordAt (records (c .before .before .before .before .args .table .now)) (c .before .before .before .before .args .r)) (fit-records (c .before .before .before .before .args .table .now) (c .before .before .before .before .args .r) (c .before .before .before .before .pre .within)) (sym (c .before .before .kind .ensures .0) ∙ c .before .if1 .taken)) .low, c .field .ensures .0)
 
--- src/sweep.rt:167:9
 returns : tie.Need-returns
 returns c = c .bit .ensures ∙ free-name (recordAt (records (c .before .before .before .before .before .args .table .now)) (c .before .before .before .before .before .args .r)) (c .before .before .before .before .before .args .names) (c .before .field .result) (sym (c .before .before .before .kind .ensures .0) ∙ c .before .before .if1 .taken) (c .before .field .ensures .0)
 
--- src/sweep.rt:170:9
 returns-2 : tie.Need-returns-2
 returns-2 c = free-let-be (recordAt (records (c .before .before .before .before .args .table .now)) (c .before .before .before .before .args .r)) (c .before .before .before .before .args .names) (sym (c .before .before .kind .ensures .0) ∙ c .if2 .taken)
 
--- src/sweep.rt:173:9
 returns-3 : tie.Need-returns-3
 returns-3 c = free-other (recordAt (records (c .before .before .before .before .before .args .table .now)) (c .before .before .before .before .before .args .r)) (c .before .before .before .before .before .args .names) (λ e. c .before .before .if1 .left (c .before .before .before .kind .ensures .0 ∙ e)) (λ e. c .before .if2 .left (c .before .before .before .kind .ensures .0 ∙ e)) (λ e. c .if3 .taken (c .before .before .before .kind .ensures .0 ∙ e))
 
--- src/sweep.rt:175:8
 has-requires : tie.Need-has-requires
 has-requires c κs = search needs
 
--- src/sweep.rt:176:9
 returns-4 : tie.Need-returns-4
 returns-4 c = free-let (recordAt (records (c .before .before .before .before .before .before .before .args .table .now)) (c .before .before .before .before .before .before .before .args .r)) (c .before .before .before .before .before .before .before .args .names) true (sym (c .before .before .before .before .before .kind .ensures .0) ∙ c .before .before .if3 .left) (sym (c .if4 .taken) ∙ c .before .has .ensures)
 
--- src/sweep.rt:161:1
 returns-5 : tie.Need-returns-5
 returns-5 c = free-let (recordAt (records (c .before .before .before .before .before .before .before .args .table .now)) (c .before .before .before .before .before .before .before .args .r)) (c .before .before .before .before .before .before .before .args .names) false (sym (c .before .before .before .before .before .kind .ensures .0) ∙ c .before .before .if3 .left) (sym (c .if4 .left) ∙ c .before .has .ensures)
 

@@ -1,11 +1,9 @@
+-- As defined.
 use mathlib.Core.Path.{refl}
 use Rattle.checking.specs.Sweeps.{without}
 use Rattle.checking.proofs.sweep.without.Statement.{statement}
 use Rattle.checking.proofs.sweep.without.Tie as tie
-use Rattle.checking.proofs.sweep.without.Reads as reads
-use Rattle.checking.proofs.sweep.without.Lts as lts
 
--- src/sweep.rt:69:1
 returns : tie.Need-returns
 unfolding without
 returns c = refl

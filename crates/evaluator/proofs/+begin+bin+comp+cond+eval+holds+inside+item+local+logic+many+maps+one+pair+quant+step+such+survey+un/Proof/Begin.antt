@@ -1,25 +1,25 @@
 -- The member `begin` of the cycle.
+use Prim.Native.Nat.{ℕ}
+use native.Mathlib.Omega.{arith}
+use mathlib.Core.Path.{refl, sym, subst}
+use borrow.Author.Needs.{needs}
+use Rattle.evaluator.proofs.+begin+bin+comp+cond+eval+holds+inside+item+local+logic+many+maps+one+pair+quant+step+such+survey+un.Proof.Common.{begin-at, eval-below}
 use borrow.Author.Tests.{not-true, not-false}
-use mathlib.Core.Path.{subst, refl, sym}
 use Rattle.evaluator.specs.Binding.{Binder}
-use Rattle.evaluator.proofs.Coming.{no-value}
-use Rattle.evaluator.proofs.Tables.{room-here}
+use Rattle.evaluator.proofs.Tables.{room-here, small-place}
 use Rattle.evaluator.proofs.Standing.{binder-has, binder-readable}
 use Rattle.evaluator.proofs.Members.{first-asked}
 use Rattle.evaluator.proofs.Beginning.{begin-off, begin-held, begin-unfit, begin-lent}
 use Rattle.evaluator.proofs.Placing.{begin-opened}
-use Prim.Native.Nat.{ℕ}
-use native.Mathlib.Omega.{arith}
-use borrow.Author.Needs.{needs}
+use Rattle.evaluator.proofs.Wording.{valued, unvalued, decoded}
 use Rattle.evaluator.proofs.begin.Reads as begin
 use Rattle.evaluator.proofs.eval.Reads as eval
-use Rattle.evaluator.proofs.binding.nowhere.Reads as nowhere-reads
 use Rattle.bindings.proofs.open.Reads as open-reads
 use Rattle.evaluator.proofs.binding.opening.Reads as opening-reads
 use Rattle.tables.proofs.reading.operand.Reads as operand-reads
+use Rattle.evaluator.proofs.words.refusal.Reads as refusal-reads
 use Rattle.evaluator.proofs.binding.suits.Reads as suits-reads
 use Rattle.evaluator.proofs.+begin+bin+comp+cond+eval+holds+inside+item+local+logic+many+maps+one+pair+quant+step+such+survey+un.Lts-begin as begin-lts
-use Rattle.evaluator.proofs.+begin+bin+comp+cond+eval+holds+inside+item+local+logic+many+maps+one+pair+quant+step+such+survey+un.Proof.Common.{begin-at, eval-below}
 
 abbrev begin-calls : ℕ → begin-lts.Claims
 begin-calls t = (
@@ -27,94 +27,80 @@ begin-calls t = (
   operand-reads.Learnt,
   eval-below t,
   eval.Post,
-  nowhere-reads.Asked,
-  nowhere-reads.Learnt,
   suits-reads.Asked,
   suits-reads.Learnt,
+  refusal-reads.Asked,
+  refusal-reads.Learnt,
   open-reads.Asked,
   open-reads.Learnt,
   opening-reads.Asked,
   opening-reads.Learnt,
 )
 
--- src/lib.rt:310:9
+-- src/lib.rt:321:9
 begin-operand-requires : (t : ℕ) → begin-lts.Need-operand-requires (begin-calls t) (begin-at t) begin.Post
 begin-operand-requires t c κs = binder-has (c .before .before .pre .1 .0) (subst Binder (sym (c .before .before .pre .1 .1)) (c .before .before .pre .1 .2)) 1 (omega arith)
 
--- src/lib.rt:311:9
+-- src/lib.rt:322:9
 begin-eval-requires : (t : ℕ) → begin-lts.Need-eval-requires (begin-calls t) (begin-at t) begin.Post
 begin-eval-requires t c κs = let h = first-asked (c .before .before .before .before .before .pre .1 .0) (binder-has (c .before .before .before .before .before .pre .1 .0) (subst Binder (sym (c .before .before .before .before .before .pre .1 .1)) (c .before .before .before .before .before .pre .1 .2)) 1 (omega arith)) (c .before .before .operand .ensures .0) in (omega (arith, h .0, c .before .before .before .before .before .pre .0), h .1)
 
-begin-enum-told : (t : ℕ) → begin-lts.Need-enum-told (begin-calls t) (begin-at t) begin.Post
-begin-enum-told t c = search needs
-
--- src/lib.rt:315:21
-begin-enum-told-2 : (t : ℕ) → begin-lts.Need-enum-told-2 (begin-calls t) (begin-at t) begin.Post
-begin-enum-told-2 t c = search needs
-
--- src/lib.rt:315:21
-begin-nowhere-requires : (t : ℕ) → begin-lts.Need-nowhere-requires (begin-calls t) (begin-at t) begin.Post
-begin-nowhere-requires t c κs = search needs
-
--- src/lib.rt:313:9
+-- src/lib.rt:324:9
 begin-same-length : (t : ℕ) → begin-lts.Need-same-length (begin-calls t) (begin-at t) begin.Post
-begin-same-length t c = c .before .before .before .before .before .eval .ensures .kept .long
-
--- src/lib.rt:313:9
-begin-returns : (t : ℕ) → begin-lts.Need-returns (begin-calls t) (begin-at t) begin.Post
-begin-returns t c = begin-off (c .before .before .before .before .before .before .before .before .before .before .before .pre .1 .0) (c .before .before .before .before .before .before .before .before .before .before .before .args .k) (c .before .before .before .before .before .before .before .before .operand .ensures .0) (c .before .before .before .before .before .eval .ensures) (no-value _ (c .before .before .match .keys2)) refl
-
--- src/lib.rt:318:9
-begin-suits-requires : (t : ℕ) → begin-lts.Need-suits-requires (begin-calls t) (begin-at t) begin.Post
-begin-suits-requires t c κs = begin-held (c .before .before .before .before .before .before .before .before .before .before .before .pre .1 .0) (c .before .before .before .before .before .before .before .before .before .before .before .args .k) (c .before .before .before .before .before .before .before .before .operand .ensures .0) (c .before .before .before .before .before .eval .ensures) (c .before .enum-told .given .1)
-
--- src/lib.rt:321:21
-begin-nowhere-requires-2 : (t : ℕ) → begin-lts.Need-nowhere-requires-2 (begin-calls t) (begin-at t) begin.Post
-begin-nowhere-requires-2 t c κs = search needs
-
--- src/lib.rt:319:9
-begin-same-length-2 : (t : ℕ) → begin-lts.Need-same-length-2 (begin-calls t) (begin-at t) begin.Post
-begin-same-length-2 t c = c .before .before .before .before .before .before .before .before .eval .ensures .kept .long
-
--- src/lib.rt:319:9
-begin-returns-2 : (t : ℕ) → begin-lts.Need-returns-2 (begin-calls t) (begin-at t) begin.Post
-begin-returns-2 t c = begin-unfit (c .before .before .before .before .before .before .before .before .before .before .before .before .before .before .pre .1 .0) (c .before .before .before .before .before .before .before .before .before .before .before .before .before .before .args .k) (c .before .before .before .before .before .before .before .before .before .before .before .operand .ensures .0) (c .before .before .before .before .before .before .before .before .eval .ensures) (c .before .before .before .before .enum-told .given .1) (c .before .before .suits .ensures) (not-true _ (c .before .if1 .taken)) refl
+begin-same-length t c = c .before .before .before .eval .ensures .kept .long
 
 -- src/lib.rt:324:9
+begin-returns : (t : ℕ) → begin-lts.Need-returns (begin-calls t) (begin-at t) begin.Post
+begin-returns t c = begin-off (c .before .before .before .before .before .before .before .before .before .pre .1 .0) (c .before .before .before .before .before .before .before .before .before .args .k) (c .before .before .before .before .before .before .operand .ensures .0) (c .before .before .before .eval .ensures) (unvalued (c .before .before .before .eval .result) (c .if1 .taken)) refl
+
+-- src/lib.rt:326:9
+begin-suits-requires : (t : ℕ) → begin-lts.Need-suits-requires (begin-calls t) (begin-at t) begin.Post
+begin-suits-requires t c κs = begin-held (c .before .before .before .before .before .before .before .before .before .before .pre .1 .0) (c .before .before .before .before .before .before .before .before .before .before .args .k) (c .before .before .before .before .before .before .before .operand .ensures .0) (c .before .before .before .before .eval .ensures) (valued (c .before .before .before .before .eval .result) (c .before .if1 .left))
+
+-- src/lib.rt:327:9
+begin-refusal-requires : (t : ℕ) → begin-lts.Need-refusal-requires (begin-calls t) (begin-at t) begin.Post
+begin-refusal-requires t c κs = search needs
+
+-- src/lib.rt:327:9
+begin-same-length-2 : (t : ℕ) → begin-lts.Need-same-length-2 (begin-calls t) (begin-at t) begin.Post
+begin-same-length-2 t c = c .before .before .before .before .before .before .before .eval .ensures .kept .long
+
+-- src/lib.rt:327:9
+begin-returns-2 : (t : ℕ) → begin-lts.Need-returns-2 (begin-calls t) (begin-at t) begin.Post
+begin-returns-2 t c = begin-unfit (c .before .before .before .before .before .before .before .before .before .before .before .before .before .pre .1 .0) (c .before .before .before .before .before .before .before .before .before .before .before .before .before .args .k) (c .before .before .before .before .before .before .before .before .before .before .operand .ensures .0) (c .before .before .before .before .before .before .before .eval .ensures) (valued (c .before .before .before .before .before .before .before .eval .result) (c .before .before .before .before .if1 .left)) (c .before .before .suits .ensures) (not-true _ (c .before .if2 .taken)) (decoded (omega arith) (small-place (c .before .before .before .before .before .before .before .before .before .before .before .before .before .pre .1 .0)) (omega arith) (c .refusal .ensures))
+
+-- src/lib.rt:329:9
 begin-operand-requires-2 : (t : ℕ) → begin-lts.Need-operand-requires-2 (begin-calls t) (begin-at t) begin.Post
-begin-operand-requires-2 t c κs = binder-has (c .before .before .before .before .before .before .before .before .before .before .before .before .before .pre .1 .0) (subst Binder (sym (c .before .before .before .before .before .before .before .before .before .before .before .before .before .pre .1 .1)) (c .before .before .before .before .before .before .before .before .before .before .before .before .before .pre .1 .2)) 0 (omega arith)
+begin-operand-requires-2 t c κs = binder-has (c .before .before .before .before .before .before .before .before .before .before .before .before .pre .1 .0) (subst Binder (sym (c .before .before .before .before .before .before .before .before .before .before .before .before .pre .1 .1)) (c .before .before .before .before .before .before .before .before .before .before .before .before .pre .1 .2)) 0 (omega arith)
 
--- src/lib.rt:325:68
+-- src/lib.rt:330:76
 begin-add-open : (t : ℕ) → begin-lts.Need-add-open (begin-calls t) (begin-at t) begin.Post
-begin-add-open t c = omega (arith, room-here (c .before .before .before .before .before .before .before .before .before .before .before .before .before .before .before .pre .1 .0), c .before .before .before .before .before .before .before .before .before .before .before .before .before .before .before .pre .1 .0 .low)
+begin-add-open t c = omega (arith, room-here (c .before .before .before .before .before .before .before .before .before .before .before .before .before .before .pre .1 .0), c .before .before .before .before .before .before .before .before .before .before .before .before .before .before .pre .1 .0 .low)
 
--- src/lib.rt:325:9
+-- src/lib.rt:330:9
 begin-open-requires : (t : ℕ) → begin-lts.Need-open-requires (begin-calls t) (begin-at t) begin.Post
-begin-open-requires t c κs = (binder-readable (c .before .before .before .before .before .before .before .before .before .before .before .before .before .before .before .pre .1 .0) (subst Binder (sym (c .before .before .before .before .before .before .before .before .before .before .before .before .before .before .before .pre .1 .1)) (c .before .before .before .before .before .before .before .before .before .before .before .before .before .before .before .pre .1 .2)) (c .before .operand2 .ensures .0), begin-lent (c .before .before .before .before .before .before .before .before .before .before .before .before .before .before .before .pre .1 .0) (c .before .before .before .before .before .before .before .before .before .before .before .before .before .before .before .args .k) (c .before .before .before .before .before .before .before .before .before .before .before .before .operand .ensures .0) (c .before .before .before .before .before .before .before .before .before .eval .ensures) (c .before .before .before .before .before .enum-told .given .1) (c .before .before .before .suits .ensures) (not-false _ (c .before .before .if1 .left)))
+begin-open-requires t c κs = (binder-readable (c .before .before .before .before .before .before .before .before .before .before .before .before .before .before .pre .1 .0) (subst Binder (sym (c .before .before .before .before .before .before .before .before .before .before .before .before .before .before .pre .1 .1)) (c .before .before .before .before .before .before .before .before .before .before .before .before .before .before .pre .1 .2)) (c .before .operand2 .ensures .0), begin-lent (c .before .before .before .before .before .before .before .before .before .before .before .before .before .before .pre .1 .0) (c .before .before .before .before .before .before .before .before .before .before .before .before .before .before .args .k) (c .before .before .before .before .before .before .before .before .before .before .before .operand .ensures .0) (c .before .before .before .before .before .before .before .before .eval .ensures) (valued (c .before .before .before .before .before .before .before .before .eval .result) (c .before .before .before .before .before .if1 .left)) (c .before .before .before .suits .ensures) (not-false _ (c .before .before .if2 .left)))
 
--- src/lib.rt:326:5
+-- src/lib.rt:331:5
 begin-opening-requires : (t : ℕ) → begin-lts.Need-opening-requires (begin-calls t) (begin-at t) begin.Post
 begin-opening-requires t c κs = search needs
 
--- src/lib.rt:297:1
+-- src/lib.rt:307:1
 begin-same-length-3 : (t : ℕ) → begin-lts.Need-same-length-3 (begin-calls t) (begin-at t) begin.Post
-begin-same-length-3 t c = (begin-opened (c .before .before .before .before .before .before .before .before .before .before .before .before .before .before .before .before .before .before .before .pre .1 .0) (c .before .before .before .before .before .before .before .before .before .before .before .before .before .before .before .before .before .before .before .args .k) (c .before .before .before .before .before .before .before .before .before .before .before .before .before .before .before .before .operand .ensures .0) (c .before .before .before .before .before .before .before .before .before .before .before .before .before .eval .ensures) (c .before .before .before .before .before .before .before .before .before .enum-told .given .1) (c .before .before .before .before .before .before .before .suits .ensures) (not-false _ (c .before .before .before .before .before .before .if1 .left)) (c .before .before .before .before .before .operand2 .ensures .0) (c .before .before .before .«open» .ensures) (c .opening .ensures)) .kept .long
+begin-same-length-3 t c = (begin-opened (c .before .before .before .before .before .before .before .before .before .before .before .before .before .before .before .before .before .before .before .pre .1 .0) (c .before .before .before .before .before .before .before .before .before .before .before .before .before .before .before .before .before .before .before .args .k) (c .before .before .before .before .before .before .before .before .before .before .before .before .before .before .before .before .operand .ensures .0) (c .before .before .before .before .before .before .before .before .before .before .before .before .before .eval .ensures) (valued (c .before .before .before .before .before .before .before .before .before .before .before .before .before .eval .result) (c .before .before .before .before .before .before .before .before .before .before .if1 .left)) (c .before .before .before .before .before .before .before .before .suits .ensures) (not-false _ (c .before .before .before .before .before .before .before .if2 .left)) (c .before .before .before .before .before .before .operand2 .ensures .0) (c .before .before .before .before .«open» .ensures) (c .opening .ensures)) .kept .long
 
--- src/lib.rt:297:1
+-- src/lib.rt:307:1
 begin-returns-3 : (t : ℕ) → begin-lts.Need-returns-3 (begin-calls t) (begin-at t) begin.Post
-begin-returns-3 t c = begin-opened (c .before .before .before .before .before .before .before .before .before .before .before .before .before .before .before .before .before .before .before .pre .1 .0) (c .before .before .before .before .before .before .before .before .before .before .before .before .before .before .before .before .before .before .before .args .k) (c .before .before .before .before .before .before .before .before .before .before .before .before .before .before .before .before .operand .ensures .0) (c .before .before .before .before .before .before .before .before .before .before .before .before .before .eval .ensures) (c .before .before .before .before .before .before .before .before .before .enum-told .given .1) (c .before .before .before .before .before .before .before .suits .ensures) (not-false _ (c .before .before .before .before .before .before .if1 .left)) (c .before .before .before .before .before .operand2 .ensures .0) (c .before .before .before .«open» .ensures) (c .opening .ensures)
+begin-returns-3 t c = begin-opened (c .before .before .before .before .before .before .before .before .before .before .before .before .before .before .before .before .before .before .before .pre .1 .0) (c .before .before .before .before .before .before .before .before .before .before .before .before .before .before .before .before .before .before .before .args .k) (c .before .before .before .before .before .before .before .before .before .before .before .before .before .before .before .before .operand .ensures .0) (c .before .before .before .before .before .before .before .before .before .before .before .before .before .eval .ensures) (valued (c .before .before .before .before .before .before .before .before .before .before .before .before .before .eval .result) (c .before .before .before .before .before .before .before .before .before .before .if1 .left)) (c .before .before .before .before .before .before .before .before .suits .ensures) (not-false _ (c .before .before .before .before .before .before .before .if2 .left)) (c .before .before .before .before .before .before .operand2 .ensures .0) (c .before .before .before .before .«open» .ensures) (c .opening .ensures)
 
 pub begin-member : {M : Type 1} (t : ℕ) → begin-lts.Closed (begin-calls t) (begin-at t) begin.Post M
 begin-member t = begin-lts.spec (begin-calls t) (begin-at t) begin.Post
     (begin-operand-requires t)
     (begin-eval-requires t)
-    (begin-enum-told t)
-    (begin-enum-told-2 t)
-    (begin-nowhere-requires t)
     (begin-same-length t)
     (begin-returns t)
     (begin-suits-requires t)
-    (begin-nowhere-requires-2 t)
+    (begin-refusal-requires t)
     (begin-same-length-2 t)
     (begin-returns-2 t)
     (begin-operand-requires-2 t)

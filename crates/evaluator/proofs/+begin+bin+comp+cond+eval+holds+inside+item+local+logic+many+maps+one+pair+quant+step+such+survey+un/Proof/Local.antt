@@ -1,13 +1,14 @@
 -- The member `local` of the cycle.
-use Rattle.evaluator.proofs.Coming.{no-value}
-use Rattle.evaluator.proofs.Tables.{room-here}
-use Rattle.evaluator.proofs.Standing.{binder-has}
-use Rattle.evaluator.proofs.Deciding.{not-taken, unchosen-is, local-binder, local-readable, picks-as}
-use Rattle.evaluator.proofs.Letting.{local-off, local-none, local-some, local-unchosen, local-stands, local-body-off, local-copyable, local-done}
 use Prim.Native.Nat.{ℕ}
 use native.Mathlib.Omega.{arith}
-use mathlib.Core.Path.{refl, _∙_}
+use mathlib.Core.Path.{refl}
 use borrow.Author.Needs.{needs}
+use Rattle.evaluator.proofs.+begin+bin+comp+cond+eval+holds+inside+item+local+logic+many+maps+one+pair+quant+step+such+survey+un.Proof.Common.{local-at, begin-below, inside-below}
+use Rattle.evaluator.proofs.Tables.{room-here}
+use Rattle.evaluator.proofs.Standing.{binder-has}
+use Rattle.evaluator.proofs.Deciding.{not-taken, local-binder, local-readable, picks-as}
+use Rattle.evaluator.proofs.Letting.{local-off, local-none, local-some, local-unchosen, local-stands, local-body-off, local-copyable, local-done}
+use Rattle.evaluator.proofs.Wording.{valued, unvalued}
 use Rattle.evaluator.proofs.begin.Reads as begin
 use Rattle.values.proofs.copy_value.Reads as copy-value-reads
 use Rattle.evaluator.proofs.run.decide.Reads as decide-reads
@@ -15,14 +16,16 @@ use Rattle.evaluator.proofs.inside.Reads as inside
 use Rattle.evaluator.proofs.looseness.is_loose.Reads as is-loose-reads
 use Rattle.evaluator.proofs.local.Reads as local
 use Rattle.tables.proofs.reading.operand.Reads as operand-reads
+use Rattle.evaluator.proofs.words.refusal.Reads as refusal-reads
 use Rattle.evaluator.proofs.binding.unchosen.Reads as unchosen-reads
 use Rattle.evaluator.proofs.+begin+bin+comp+cond+eval+holds+inside+item+local+logic+many+maps+one+pair+quant+step+such+survey+un.Lts-local as local-lts
-use Rattle.evaluator.proofs.+begin+bin+comp+cond+eval+holds+inside+item+local+logic+many+maps+one+pair+quant+step+such+survey+un.Proof.Common.{local-at, begin-below, inside-below}
 
 abbrev local-calls : ℕ → local-lts.Claims
 local-calls t = (
   begin-below t,
   begin.Post,
+  refusal-reads.Asked,
+  refusal-reads.Learnt,
   operand-reads.Asked,
   operand-reads.Learnt,
   is-loose-reads.Asked,
@@ -37,103 +40,97 @@ local-calls t = (
   copy-value-reads.Learnt,
 )
 
--- src/lib.rt:562:9
-local-begin-requires : (t : ℕ) → local-lts.Need-begin-requires (local-calls t) (local-at t) local.Post
-local-begin-requires t c κs = (omega (arith, c .before .before .before .before .pre .0), (c .before .before .before .before .pre .1 .0, c .before .before .before .before .pre .1 .1, (omega arith, omega arith)))
-
-local-enum-told : (t : ℕ) → local-lts.Need-enum-told (local-calls t) (local-at t) local.Post
-local-enum-told t c = search needs
-
--- src/lib.rt:565:9
-local-enum-told-2 : (t : ℕ) → local-lts.Need-enum-told-2 (local-calls t) (local-at t) local.Post
-local-enum-told-2 t c = search needs
-
--- src/lib.rt:565:9
-local-same-length : (t : ℕ) → local-lts.Need-same-length (local-calls t) (local-at t) local.Post
-local-same-length t c = c .before .before .before .before .begin .ensures .kept .long
-
--- src/lib.rt:565:9
-local-returns : (t : ℕ) → local-lts.Need-returns (local-calls t) (local-at t) local.Post
-local-returns t c = local-off (c .before .before .before .before .before .before .before .before .before .pre .1 .0) (c .before .before .before .before .before .before .before .before .before .pre .1 .1) (c .before .before .before .before .begin .ensures) (no-value _ (c .before .match .keys2))
-
--- src/lib.rt:570:9
-local-same-length-2 : (t : ℕ) → local-lts.Need-same-length-2 (local-calls t) (local-at t) local.Post
-local-same-length-2 t c = c .before .before .before .before .before .before .begin .ensures .kept .long
-
--- src/lib.rt:570:9
-local-returns-2 : (t : ℕ) → local-lts.Need-returns-2 (local-calls t) (local-at t) local.Post
-local-returns-2 t c = local-none (c .before .before .before .before .before .before .before .before .before .before .before .pre .1 .0) (c .before .before .before .before .before .before .before .before .before .before .before .pre .1 .1) (c .before .before .before .before .before .before .begin .ensures) (c .before .before .enum-told .given .1) (c .if1 .taken)
-
--- src/lib.rt:572:9
-local-operand-requires : (t : ℕ) → local-lts.Need-operand-requires (local-calls t) (local-at t) local.Post
-local-operand-requires t c κs = binder-has (c .before .before .before .before .before .before .before .before .before .before .before .pre .1 .0) (local-binder (c .before .before .before .before .before .before .before .before .before .before .before .pre .1 .0) (c .before .before .before .before .before .before .before .before .before .before .before .pre .1 .1)) 0 (omega arith)
-
 -- src/lib.rt:573:9
+local-begin-requires : (t : ℕ) → local-lts.Need-begin-requires (local-calls t) (local-at t) local.Post
+local-begin-requires t c κs = (omega (arith, c .before .before .before .before .before .pre .0), (c .before .before .before .before .before .pre .1 .0, c .before .before .before .before .before .pre .1 .1, (omega arith, omega arith)))
+
+-- src/lib.rt:575:9
+local-same-length : (t : ℕ) → local-lts.Need-same-length (local-calls t) (local-at t) local.Post
+local-same-length t c = c .before .before .before .begin .ensures .kept .long
+
+-- src/lib.rt:575:9
+local-returns : (t : ℕ) → local-lts.Need-returns (local-calls t) (local-at t) local.Post
+local-returns t c = local-off (c .before .before .before .before .before .before .before .before .before .pre .1 .0) (c .before .before .before .before .before .before .before .before .before .pre .1 .1) (c .before .before .before .begin .ensures) (unvalued (c .before .before .before .begin .result) (c .if1 .taken))
+
+-- src/lib.rt:577:13
+local-array-read-n : (t : ℕ) → local-lts.Need-array-read-n (local-calls t) (local-at t) local.Post
+local-array-read-n t c = search needs
+
+-- src/lib.rt:579:9
+local-refusal-requires : (t : ℕ) → local-lts.Need-refusal-requires (local-calls t) (local-at t) local.Post
+local-refusal-requires t c κs = search needs
+
+-- src/lib.rt:579:9
+local-same-length-2 : (t : ℕ) → local-lts.Need-same-length-2 (local-calls t) (local-at t) local.Post
+local-same-length-2 t c = c .before .before .before .before .before .begin .ensures .kept .long
+
+-- src/lib.rt:579:9
+local-returns-2 : (t : ℕ) → local-lts.Need-returns-2 (local-calls t) (local-at t) local.Post
+local-returns-2 t c = local-none (c .before .before .before .before .before .before .before .before .before .before .before .pre .1 .0) (c .before .before .before .before .before .before .before .before .before .before .before .pre .1 .1) (c .before .before .before .before .before .begin .ensures) (valued (c .before .before .before .before .before .begin .result) (c .before .before .if1 .left)) (c .before .if2 .taken) (c .refusal .ensures)
+
+-- src/lib.rt:581:9
+local-operand-requires : (t : ℕ) → local-lts.Need-operand-requires (local-calls t) (local-at t) local.Post
+local-operand-requires t c κs = binder-has (c .before .before .before .before .before .before .before .before .before .before .pre .1 .0) (local-binder (c .before .before .before .before .before .before .before .before .before .before .pre .1 .0) (c .before .before .before .before .before .before .before .before .before .before .pre .1 .1)) 0 (omega arith)
+
+-- src/lib.rt:582:9
 local-is-loose-requires : (t : ℕ) → local-lts.Need-is-loose-requires (local-calls t) (local-at t) local.Post
-local-is-loose-requires t c κs = local-readable (c .before .before .before .before .before .before .before .before .before .before .before .before .pre .1 .0) (c .before .before .before .before .before .before .before .before .before .before .before .before .pre .1 .1) (c .operand .ensures .0)
+local-is-loose-requires t c κs = local-readable (c .before .before .before .before .before .before .before .before .before .before .before .pre .1 .0) (c .before .before .before .before .before .before .before .before .before .before .before .pre .1 .1) (c .operand .ensures .0)
 
--- src/lib.rt:574:9
+-- src/lib.rt:583:9
 local-decide-requires : (t : ℕ) → local-lts.Need-decide-requires (local-calls t) (local-at t) local.Post
-local-decide-requires t c κs = local-some (c .before .before .before .before .before .before .before .before .before .before .before .before .before .before .pre .1 .0) (c .before .before .before .before .before .before .before .before .before .before .before .before .before .before .pre .1 .1) (c .before .before .before .before .before .before .before .before .before .begin .ensures) (c .before .before .before .before .before .enum-told .given .1) (c .before .before .before .if1 .left)
+local-decide-requires t c κs = local-some (c .before .before .before .before .before .before .before .before .before .before .before .before .before .pre .1 .0) (c .before .before .before .before .before .before .before .before .before .before .before .before .before .pre .1 .1) (c .before .before .before .before .before .before .before .begin .ensures) (valued (c .before .before .before .before .before .before .before .begin .result) (c .before .before .before .before .if1 .left)) (c .before .before .before .if2 .left)
 
--- src/lib.rt:575:23
+-- src/lib.rt:584:23
 local-enum-known-a : (t : ℕ) → local-lts.Need-enum-known-a (local-calls t) (local-at t) local.Post
 local-enum-known-a t c = search needs
 
--- src/lib.rt:576:9
+-- src/lib.rt:585:9
 local-unchosen-requires : (t : ℕ) → local-lts.Need-unchosen-requires (local-calls t) (local-at t) local.Post
 local-unchosen-requires t c κs = search needs
 
--- src/lib.rt:576:9
+-- src/lib.rt:585:9
 local-same-length-3 : (t : ℕ) → local-lts.Need-same-length-3 (local-calls t) (local-at t) local.Post
-local-same-length-3 t c = c .before .before .before .before .before .before .before .before .before .before .before .before .begin .ensures .kept .long
+local-same-length-3 t c = c .before .before .before .before .before .before .before .before .before .before .begin .ensures .kept .long
 
--- src/lib.rt:576:9
+-- src/lib.rt:585:9
 local-returns-3 : (t : ℕ) → local-lts.Need-returns-3 (local-calls t) (local-at t) local.Post
-local-returns-3 t c = local-unchosen (c .before .before .before .before .before .before .before .before .before .before .before .before .before .before .before .before .before .pre .1 .0) (c .before .before .before .before .before .before .before .before .before .before .before .before .before .before .before .before .before .pre .1 .1) (c .before .before .before .before .before .before .before .before .before .before .before .before .begin .ensures) (c .before .before .before .before .before .before .before .before .enum-told .given .1) (c .before .before .before .before .before .before .if1 .left) (picks-as (c .before .before .before .before .before .before .before .before .before .before .before .before .before .before .before .before .before .pre .1 .0) (c .before .before .before .before .before .before .before .before .before .before .before .before .before .before .before .before .before .pre .1 .1) (c .before .before .before .before .before .operand .ensures .0) (c .before .before .before .before .is-loose .ensures) (c .before .before .decide .ensures)) (not-taken (c .before .before .decide .result) (c .before .match2 .keys2)) (c .unchosen .ensures ∙ unchosen-is (c .before .before .decide .result) (c .before .before .before .before .before .before .before .before .before .before .before .before .before .before .before .before .before .args .r) (c .before .before .before .before .before .before .before .before .before .before .before .before .begin .result .cursor .count) (not-taken (c .before .before .decide .result) (c .before .match2 .keys2)))
+local-returns-3 t c = local-unchosen (c .before .before .before .before .before .before .before .before .before .before .before .before .before .before .before .before .pre .1 .0) (c .before .before .before .before .before .before .before .before .before .before .before .before .before .before .before .before .pre .1 .1) (c .before .before .before .before .before .before .before .before .before .before .begin .ensures) (valued (c .before .before .before .before .before .before .before .before .before .before .begin .result) (c .before .before .before .before .before .before .before .if1 .left)) (c .before .before .before .before .before .before .if2 .left) (picks-as (c .before .before .before .before .before .before .before .before .before .before .before .before .before .before .before .before .pre .1 .0) (c .before .before .before .before .before .before .before .before .before .before .before .before .before .before .before .before .pre .1 .1) (c .before .before .before .before .before .operand .ensures .0) (c .before .before .before .before .is-loose .ensures) (c .before .before .decide .ensures)) (not-taken (c .before .before .decide .result) (c .before .match .keys2)) (c .unchosen .ensures)
 
--- src/lib.rt:578:9
+-- src/lib.rt:587:9
 local-inside-requires : (t : ℕ) → local-lts.Need-inside-requires (local-calls t) (local-at t) local.Post
-local-inside-requires t c κs = (omega (arith, c .before .before .before .before .before .before .before .before .before .before .before .before .before .before .before .before .before .before .before .before .pre .0), (local-stands (c .before .before .before .before .before .before .before .before .before .before .before .before .before .before .before .before .before .before .before .before .pre .1 .0) (c .before .before .before .before .before .before .before .before .before .before .before .before .before .before .before .before .before .before .before .before .pre .1 .1) (c .before .before .before .before .before .before .before .before .before .before .before .before .before .before .before .begin .ensures) (c .before .before .before .before .before .before .before .before .before .before .before .enum-told .given .1) (c .before .before .before .before .before .before .before .before .before .if1 .left) (picks-as (c .before .before .before .before .before .before .before .before .before .before .before .before .before .before .before .before .before .before .before .before .pre .1 .0) (c .before .before .before .before .before .before .before .before .before .before .before .before .before .before .before .before .before .before .before .before .pre .1 .1) (c .before .before .before .before .before .before .before .before .operand .ensures .0) (c .before .before .before .before .before .before .before .is-loose .ensures) (c .before .before .before .before .before .decide .ensures)) (c .before .before .before .a .given .1), binder-has (c .before .before .before .before .before .before .before .before .before .before .before .before .before .before .before .before .before .before .before .before .pre .1 .0) (local-binder (c .before .before .before .before .before .before .before .before .before .before .before .before .before .before .before .before .before .before .before .before .pre .1 .0) (c .before .before .before .before .before .before .before .before .before .before .before .before .before .before .before .before .before .before .before .before .pre .1 .1)) 2 (omega arith), (omega arith, omega arith)))
+local-inside-requires t c κs = (omega (arith, c .before .before .before .before .before .before .before .before .before .before .before .before .before .before .before .before .before .before .before .before .pre .0), (local-stands (c .before .before .before .before .before .before .before .before .before .before .before .before .before .before .before .before .before .before .before .before .pre .1 .0) (c .before .before .before .before .before .before .before .before .before .before .before .before .before .before .before .before .before .before .before .before .pre .1 .1) (c .before .before .before .before .before .before .before .before .before .before .before .before .before .before .begin .ensures) (valued (c .before .before .before .before .before .before .before .before .before .before .before .before .before .before .begin .result) (c .before .before .before .before .before .before .before .before .before .before .before .if1 .left)) (c .before .before .before .before .before .before .before .before .before .before .if2 .left) (picks-as (c .before .before .before .before .before .before .before .before .before .before .before .before .before .before .before .before .before .before .before .before .pre .1 .0) (c .before .before .before .before .before .before .before .before .before .before .before .before .before .before .before .before .before .before .before .before .pre .1 .1) (c .before .before .before .before .before .before .before .before .before .operand .ensures .0) (c .before .before .before .before .before .before .before .before .is-loose .ensures) (c .before .before .before .before .before .before .decide .ensures)) (c .before .before .before .before .a .given .1), binder-has (c .before .before .before .before .before .before .before .before .before .before .before .before .before .before .before .before .before .before .before .before .pre .1 .0) (local-binder (c .before .before .before .before .before .before .before .before .before .before .before .before .before .before .before .before .before .before .before .before .pre .1 .0) (c .before .before .before .before .before .before .before .before .before .before .before .before .before .before .before .before .before .before .before .before .pre .1 .1)) 2 (omega arith), (omega arith, omega arith)))
 
-local-enum-told-3 : (t : ℕ) → local-lts.Need-enum-told-3 (local-calls t) (local-at t) local.Post
-local-enum-told-3 t c = search needs
-
--- src/lib.rt:581:9
-local-enum-told-4 : (t : ℕ) → local-lts.Need-enum-told-4 (local-calls t) (local-at t) local.Post
-local-enum-told-4 t c = search needs
-
--- src/lib.rt:581:9
+-- src/lib.rt:602:9
 local-same-length-4 : (t : ℕ) → local-lts.Need-same-length-4 (local-calls t) (local-at t) local.Post
-local-same-length-4 t c = (local-body-off (c .before .before .before .before .before .before .before .before .before .before .before .before .before .before .before .before .before .before .before .before .before .before .before .before .before .pre .1 .0) (c .before .before .before .before .before .before .before .before .before .before .before .before .before .before .before .before .before .before .before .before .before .before .before .before .before .pre .1 .1) (c .before .before .before .before .before .before .before .before .before .before .before .before .before .before .before .before .before .before .before .before .begin .ensures) (c .before .before .before .before .before .before .before .before .before .before .before .before .before .before .before .before .enum-told .given .1) (c .before .before .before .before .before .before .before .before .before .before .before .before .before .before .if1 .left) (picks-as (c .before .before .before .before .before .before .before .before .before .before .before .before .before .before .before .before .before .before .before .before .before .before .before .before .before .pre .1 .0) (c .before .before .before .before .before .before .before .before .before .before .before .before .before .before .before .before .before .before .before .before .before .before .before .before .before .pre .1 .1) (c .before .before .before .before .before .before .before .before .before .before .before .before .before .operand .ensures .0) (c .before .before .before .before .before .before .before .before .before .before .before .before .is-loose .ensures) (c .before .before .before .before .before .before .before .before .before .before .decide .ensures)) (c .before .before .before .before .before .before .before .before .a .given .1) refl (c .before .before .before .before .inside .ensures) (no-value _ (c .before .match3 .keys2))) .kept .long
+local-same-length-4 t c = (local-body-off (c .before .before .before .before .before .before .before .before .before .before .before .before .before .before .before .before .before .before .before .before .before .before .before .before .pre .1 .0) (c .before .before .before .before .before .before .before .before .before .before .before .before .before .before .before .before .before .before .before .before .before .before .before .before .pre .1 .1) (c .before .before .before .before .before .before .before .before .before .before .before .before .before .before .before .before .before .before .begin .ensures) (valued (c .before .before .before .before .before .before .before .before .before .before .before .before .before .before .before .before .before .before .begin .result) (c .before .before .before .before .before .before .before .before .before .before .before .before .before .before .before .if1 .left)) (c .before .before .before .before .before .before .before .before .before .before .before .before .before .before .if2 .left) (picks-as (c .before .before .before .before .before .before .before .before .before .before .before .before .before .before .before .before .before .before .before .before .before .before .before .before .pre .1 .0) (c .before .before .before .before .before .before .before .before .before .before .before .before .before .before .before .before .before .before .before .before .before .before .before .before .pre .1 .1) (c .before .before .before .before .before .before .before .before .before .before .before .before .before .operand .ensures .0) (c .before .before .before .before .before .before .before .before .before .before .before .before .is-loose .ensures) (c .before .before .before .before .before .before .before .before .before .before .decide .ensures)) (c .before .before .before .before .before .before .before .before .a .given .1) refl (c .before .before .before .inside .ensures) (unvalued (c .before .before .before .inside .result) (c .if3 .taken))) .kept .long
 
--- src/lib.rt:581:9
+-- src/lib.rt:602:9
 local-returns-4 : (t : ℕ) → local-lts.Need-returns-4 (local-calls t) (local-at t) local.Post
-local-returns-4 t c = local-body-off (c .before .before .before .before .before .before .before .before .before .before .before .before .before .before .before .before .before .before .before .before .before .before .before .before .before .pre .1 .0) (c .before .before .before .before .before .before .before .before .before .before .before .before .before .before .before .before .before .before .before .before .before .before .before .before .before .pre .1 .1) (c .before .before .before .before .before .before .before .before .before .before .before .before .before .before .before .before .before .before .before .before .begin .ensures) (c .before .before .before .before .before .before .before .before .before .before .before .before .before .before .before .before .enum-told .given .1) (c .before .before .before .before .before .before .before .before .before .before .before .before .before .before .if1 .left) (picks-as (c .before .before .before .before .before .before .before .before .before .before .before .before .before .before .before .before .before .before .before .before .before .before .before .before .before .pre .1 .0) (c .before .before .before .before .before .before .before .before .before .before .before .before .before .before .before .before .before .before .before .before .before .before .before .before .before .pre .1 .1) (c .before .before .before .before .before .before .before .before .before .before .before .before .before .operand .ensures .0) (c .before .before .before .before .before .before .before .before .before .before .before .before .is-loose .ensures) (c .before .before .before .before .before .before .before .before .before .before .decide .ensures)) (c .before .before .before .before .before .before .before .before .a .given .1) refl (c .before .before .before .before .inside .ensures) (no-value _ (c .before .match3 .keys2))
+local-returns-4 t c = local-body-off (c .before .before .before .before .before .before .before .before .before .before .before .before .before .before .before .before .before .before .before .before .before .before .before .before .pre .1 .0) (c .before .before .before .before .before .before .before .before .before .before .before .before .before .before .before .before .before .before .before .before .before .before .before .before .pre .1 .1) (c .before .before .before .before .before .before .before .before .before .before .before .before .before .before .before .before .before .before .begin .ensures) (valued (c .before .before .before .before .before .before .before .before .before .before .before .before .before .before .before .before .before .before .begin .result) (c .before .before .before .before .before .before .before .before .before .before .before .before .before .before .before .if1 .left)) (c .before .before .before .before .before .before .before .before .before .before .before .before .before .before .if2 .left) (picks-as (c .before .before .before .before .before .before .before .before .before .before .before .before .before .before .before .before .before .before .before .before .before .before .before .before .pre .1 .0) (c .before .before .before .before .before .before .before .before .before .before .before .before .before .before .before .before .before .before .before .before .before .before .before .before .pre .1 .1) (c .before .before .before .before .before .before .before .before .before .before .before .before .before .operand .ensures .0) (c .before .before .before .before .before .before .before .before .before .before .before .before .is-loose .ensures) (c .before .before .before .before .before .before .before .before .before .before .decide .ensures)) (c .before .before .before .before .before .before .before .before .a .given .1) refl (c .before .before .before .inside .ensures) (unvalued (c .before .before .before .inside .result) (c .if3 .taken))
 
--- src/lib.rt:583:27
+-- src/lib.rt:604:27
 local-add-copy-value : (t : ℕ) → local-lts.Need-add-copy-value (local-calls t) (local-at t) local.Post
-local-add-copy-value t c = omega (arith, room-here (c .before .before .before .before .before .before .before .before .before .before .before .before .before .before .before .before .before .before .before .before .before .before .before .before .before .before .pre .1 .0), c .before .before .before .before .before .before .before .before .before .before .before .before .before .before .before .before .before .before .before .before .before .before .before .before .before .before .pre .1 .0 .low)
+local-add-copy-value t c = omega (arith, room-here (c .before .before .before .before .before .before .before .before .before .before .before .before .before .before .before .before .before .before .before .before .before .before .before .before .before .pre .1 .0), c .before .before .before .before .before .before .before .before .before .before .before .before .before .before .before .before .before .before .before .before .before .before .before .before .before .pre .1 .0 .low)
 
--- src/lib.rt:583:5
+-- src/lib.rt:604:5
 local-copy-value-requires : (t : ℕ) → local-lts.Need-copy-value-requires (local-calls t) (local-at t) local.Post
-local-copy-value-requires t c κs = local-copyable (c .before .before .before .before .before .before .before .before .before .before .before .before .before .before .before .before .before .before .before .before .before .before .before .before .before .before .pre .1 .0) (c .before .before .before .before .before .before .before .before .before .before .before .before .before .before .before .before .before .before .before .before .before .before .before .before .before .before .pre .1 .1) (c .before .before .before .before .before .before .before .before .before .before .before .before .before .before .before .before .before .before .before .before .before .begin .ensures) (c .before .before .before .before .before .before .before .before .before .before .before .before .before .before .before .before .before .enum-told .given .1) (c .before .before .before .before .before .before .before .before .before .before .before .before .before .before .before .if1 .left) (picks-as (c .before .before .before .before .before .before .before .before .before .before .before .before .before .before .before .before .before .before .before .before .before .before .before .before .before .before .pre .1 .0) (c .before .before .before .before .before .before .before .before .before .before .before .before .before .before .before .before .before .before .before .before .before .before .before .before .before .before .pre .1 .1) (c .before .before .before .before .before .before .before .before .before .before .before .before .before .before .operand .ensures .0) (c .before .before .before .before .before .before .before .before .before .before .before .before .before .is-loose .ensures) (c .before .before .before .before .before .before .before .before .before .before .before .decide .ensures)) (c .before .before .before .before .before .before .before .before .before .a .given .1) refl (c .before .before .before .before .before .inside .ensures) (c .before .enum-told3 .given .1)
+local-copy-value-requires t c κs = local-copyable (c .before .before .before .before .before .before .before .before .before .before .before .before .before .before .before .before .before .before .before .before .before .before .before .before .before .pre .1 .0) (c .before .before .before .before .before .before .before .before .before .before .before .before .before .before .before .before .before .before .before .before .before .before .before .before .before .pre .1 .1) (c .before .before .before .before .before .before .before .before .before .before .before .before .before .before .before .before .before .before .before .begin .ensures) (valued (c .before .before .before .before .before .before .before .before .before .before .before .before .before .before .before .before .before .before .before .begin .result) (c .before .before .before .before .before .before .before .before .before .before .before .before .before .before .before .before .if1 .left)) (c .before .before .before .before .before .before .before .before .before .before .before .before .before .before .before .if2 .left) (picks-as (c .before .before .before .before .before .before .before .before .before .before .before .before .before .before .before .before .before .before .before .before .before .before .before .before .before .pre .1 .0) (c .before .before .before .before .before .before .before .before .before .before .before .before .before .before .before .before .before .before .before .before .before .before .before .before .before .pre .1 .1) (c .before .before .before .before .before .before .before .before .before .before .before .before .before .before .operand .ensures .0) (c .before .before .before .before .before .before .before .before .before .before .before .before .before .is-loose .ensures) (c .before .before .before .before .before .before .before .before .before .before .before .decide .ensures)) (c .before .before .before .before .before .before .before .before .before .a .given .1) refl (c .before .before .before .before .inside .ensures) (valued (c .before .before .before .before .inside .result) (c .before .if3 .left))
 
--- src/lib.rt:550:1
+-- src/lib.rt:560:1
 local-same-length-5 : (t : ℕ) → local-lts.Need-same-length-5 (local-calls t) (local-at t) local.Post
-local-same-length-5 t c = (local-done (c .before .before .before .before .before .before .before .before .before .before .before .before .before .before .before .before .before .before .before .before .before .before .before .before .before .before .before .before .before .pre .1 .0) (c .before .before .before .before .before .before .before .before .before .before .before .before .before .before .before .before .before .before .before .before .before .before .before .before .before .before .before .before .before .pre .1 .1) (c .before .before .before .before .before .before .before .before .before .before .before .before .before .before .before .before .before .before .before .before .before .before .before .before .begin .ensures) (c .before .before .before .before .before .before .before .before .before .before .before .before .before .before .before .before .before .before .before .before .enum-told .given .1) (c .before .before .before .before .before .before .before .before .before .before .before .before .before .before .before .before .before .before .if1 .left) (picks-as (c .before .before .before .before .before .before .before .before .before .before .before .before .before .before .before .before .before .before .before .before .before .before .before .before .before .before .before .before .before .pre .1 .0) (c .before .before .before .before .before .before .before .before .before .before .before .before .before .before .before .before .before .before .before .before .before .before .before .before .before .before .before .before .before .pre .1 .1) (c .before .before .before .before .before .before .before .before .before .before .before .before .before .before .before .before .before .operand .ensures .0) (c .before .before .before .before .before .before .before .before .before .before .before .before .before .before .before .before .is-loose .ensures) (c .before .before .before .before .before .before .before .before .before .before .before .before .before .before .decide .ensures)) (c .before .before .before .before .before .before .before .before .before .before .before .before .a .given .1) refl (c .before .before .before .before .before .before .before .before .inside .ensures) (c .before .before .before .before .enum-told3 .given .1) (c .before .before .copy-value .ensures)) .kept .long
+local-same-length-5 t c = (local-done (c .before .before .before .before .before .before .before .before .before .before .before .before .before .before .before .before .before .before .before .before .before .before .before .before .before .before .before .before .pre .1 .0) (c .before .before .before .before .before .before .before .before .before .before .before .before .before .before .before .before .before .before .before .before .before .before .before .before .before .before .before .before .pre .1 .1) (c .before .before .before .before .before .before .before .before .before .before .before .before .before .before .before .before .before .before .before .before .before .before .begin .ensures) (valued (c .before .before .before .before .before .before .before .before .before .before .before .before .before .before .before .before .before .before .before .before .before .before .begin .result) (c .before .before .before .before .before .before .before .before .before .before .before .before .before .before .before .before .before .before .before .if1 .left)) (c .before .before .before .before .before .before .before .before .before .before .before .before .before .before .before .before .before .before .if2 .left) (picks-as (c .before .before .before .before .before .before .before .before .before .before .before .before .before .before .before .before .before .before .before .before .before .before .before .before .before .before .before .before .pre .1 .0) (c .before .before .before .before .before .before .before .before .before .before .before .before .before .before .before .before .before .before .before .before .before .before .before .before .before .before .before .before .pre .1 .1) (c .before .before .before .before .before .before .before .before .before .before .before .before .before .before .before .before .before .operand .ensures .0) (c .before .before .before .before .before .before .before .before .before .before .before .before .before .before .before .before .is-loose .ensures) (c .before .before .before .before .before .before .before .before .before .before .before .before .before .before .decide .ensures)) (c .before .before .before .before .before .before .before .before .before .before .before .before .a .given .1) refl (c .before .before .before .before .before .before .before .inside .ensures) (valued (c .before .before .before .before .before .before .before .inside .result) (c .before .before .before .before .if3 .left)) (c .before .before .copy-value .ensures)) .kept .long
 
--- src/lib.rt:550:1
+-- src/lib.rt:560:1
 local-returns-5 : (t : ℕ) → local-lts.Need-returns-5 (local-calls t) (local-at t) local.Post
-local-returns-5 t c = local-done (c .before .before .before .before .before .before .before .before .before .before .before .before .before .before .before .before .before .before .before .before .before .before .before .before .before .before .before .before .before .pre .1 .0) (c .before .before .before .before .before .before .before .before .before .before .before .before .before .before .before .before .before .before .before .before .before .before .before .before .before .before .before .before .before .pre .1 .1) (c .before .before .before .before .before .before .before .before .before .before .before .before .before .before .before .before .before .before .before .before .before .before .before .before .begin .ensures) (c .before .before .before .before .before .before .before .before .before .before .before .before .before .before .before .before .before .before .before .before .enum-told .given .1) (c .before .before .before .before .before .before .before .before .before .before .before .before .before .before .before .before .before .before .if1 .left) (picks-as (c .before .before .before .before .before .before .before .before .before .before .before .before .before .before .before .before .before .before .before .before .before .before .before .before .before .before .before .before .before .pre .1 .0) (c .before .before .before .before .before .before .before .before .before .before .before .before .before .before .before .before .before .before .before .before .before .before .before .before .before .before .before .before .before .pre .1 .1) (c .before .before .before .before .before .before .before .before .before .before .before .before .before .before .before .before .before .operand .ensures .0) (c .before .before .before .before .before .before .before .before .before .before .before .before .before .before .before .before .is-loose .ensures) (c .before .before .before .before .before .before .before .before .before .before .before .before .before .before .decide .ensures)) (c .before .before .before .before .before .before .before .before .before .before .before .before .a .given .1) refl (c .before .before .before .before .before .before .before .before .inside .ensures) (c .before .before .before .before .enum-told3 .given .1) (c .before .before .copy-value .ensures)
+local-returns-5 t c = local-done (c .before .before .before .before .before .before .before .before .before .before .before .before .before .before .before .before .before .before .before .before .before .before .before .before .before .before .before .before .pre .1 .0) (c .before .before .before .before .before .before .before .before .before .before .before .before .before .before .before .before .before .before .before .before .before .before .before .before .before .before .before .before .pre .1 .1) (c .before .before .before .before .before .before .before .before .before .before .before .before .before .before .before .before .before .before .before .before .before .before .begin .ensures) (valued (c .before .before .before .before .before .before .before .before .before .before .before .before .before .before .before .before .before .before .before .before .before .before .begin .result) (c .before .before .before .before .before .before .before .before .before .before .before .before .before .before .before .before .before .before .before .if1 .left)) (c .before .before .before .before .before .before .before .before .before .before .before .before .before .before .before .before .before .before .if2 .left) (picks-as (c .before .before .before .before .before .before .before .before .before .before .before .before .before .before .before .before .before .before .before .before .before .before .before .before .before .before .before .before .pre .1 .0) (c .before .before .before .before .before .before .before .before .before .before .before .before .before .before .before .before .before .before .before .before .before .before .before .before .before .before .before .before .pre .1 .1) (c .before .before .before .before .before .before .before .before .before .before .before .before .before .before .before .before .before .operand .ensures .0) (c .before .before .before .before .before .before .before .before .before .before .before .before .before .before .before .before .is-loose .ensures) (c .before .before .before .before .before .before .before .before .before .before .before .before .before .before .decide .ensures)) (c .before .before .before .before .before .before .before .before .before .before .before .before .a .given .1) refl (c .before .before .before .before .before .before .before .inside .ensures) (valued (c .before .before .before .before .before .before .before .inside .result) (c .before .before .before .before .if3 .left)) (c .before .before .copy-value .ensures)
 
 pub local-member : {M : Type 1} (t : ℕ) → local-lts.Closed (local-calls t) (local-at t) local.Post M
 local-member t = local-lts.spec (local-calls t) (local-at t) local.Post
     (local-begin-requires t)
-    (local-enum-told t)
-    (local-enum-told-2 t)
     (local-same-length t)
     (local-returns t)
+    (local-array-read-n t)
+    (local-refusal-requires t)
     (local-same-length-2 t)
     (local-returns-2 t)
     (local-operand-requires t)
@@ -144,8 +141,6 @@ local-member t = local-lts.spec (local-calls t) (local-at t) local.Post
     (local-same-length-3 t)
     (local-returns-3 t)
     (local-inside-requires t)
-    (local-enum-told-3 t)
-    (local-enum-told-4 t)
     (local-same-length-4 t)
     (local-returns-4 t)
     (local-add-copy-value t)

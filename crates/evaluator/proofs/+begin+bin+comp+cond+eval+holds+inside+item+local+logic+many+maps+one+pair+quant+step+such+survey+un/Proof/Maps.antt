@@ -1,13 +1,15 @@
 -- The member `maps` of the cycle.
-use Prim.Native.Nat.{_-_, ℕ}
-use mathlib.Core.Logic.{inr}
-use Rattle.lists.specs.Lent.{lent}
-use Rattle.evaluator.proofs.Coming.{no-value}
-use Rattle.evaluator.proofs.Tables.{here, room-here}
-use Rattle.evaluator.proofs.Enumerating.{Building, not-nine, building-start, building-has, building-ask, key-off, second-has, value-ask, value-off, pair-held, pair-next, building-finish, building-end, from-entry, empties-kept}
+use Prim.Native.Nat.{ℕ, _-_}
 use native.Mathlib.Omega.{arith}
 use mathlib.Core.Path.{refl, _∙_}
 use borrow.Author.Needs.{needs}
+use Rattle.evaluator.proofs.+begin+bin+comp+cond+eval+holds+inside+item+local+logic+many+maps+one+pair+quant+step+such+survey+un.Proof.Common.{maps-at, eval-below}
+use mathlib.Core.Logic.{inr}
+use Rattle.lists.specs.Lent.{lent}
+use Rattle.evaluator.proofs.Tables.{here, room-here}
+use Rattle.evaluator.proofs.Enumerating.{Building, not-nine, building-start, building-has, building-ask, key-off, second-has, value-ask, value-off, pair-held, pair-next, building-finish, building-end, from-entry, empties-kept}
+use Rattle.evaluator.proofs.Wording.{valued, unvalued}
+use Rattle.evaluator.specs.Contract.{envOf}
 use Rattle.evaluator.proofs.building.enter_next.Reads as enter-next-reads
 use Rattle.evaluator.proofs.eval.Reads as eval
 use Rattle.evaluator.proofs.building.finish.Reads as finish-reads
@@ -16,7 +18,6 @@ use Rattle.tables.proofs.reading.operand_count.Reads as operand-count-reads
 use Rattle.tables.proofs.reading.operand.Reads as operand-reads
 use Rattle.collections.proofs.building.put_empty.Reads as put-empty-reads
 use Rattle.evaluator.proofs.+begin+bin+comp+cond+eval+holds+inside+item+local+logic+many+maps+one+pair+quant+step+such+survey+un.Lts-maps as maps-lts
-use Rattle.evaluator.proofs.+begin+bin+comp+cond+eval+holds+inside+item+local+logic+many+maps+one+pair+quant+step+such+survey+un.Proof.Common.{maps-at, eval-below}
 
 abbrev maps-calls : ℕ → maps-lts.Claims
 maps-calls t = (
@@ -35,106 +36,92 @@ maps-calls t = (
 )
 
 abbrev maps-Inv-loop : maps-lts.InvT-loop
-maps-Inv-loop table index r s₀ base env run₀ n bad₀ i₀ s run bad i = Building table index r s₀ base env 9 n (lent run₀) s (lent run) bad i
+maps-Inv-loop table index r s₀ base env run₀ n bad₀ i₀ s run bad i = Building table index r s₀ base (envOf env) 9 n (lent run₀) s (lent run) bad i
 
 abbrev maps-μ-loop : maps-lts.MeasureT-loop
 maps-μ-loop table index r s₀ base env run₀ n bad₀ i₀ s run bad i = n - i
 
--- src/lib.rt:176:9
+-- src/lib.rt:283:9
 maps-operand-count-requires : (t : ℕ) → maps-lts.Need-operand-count-requires (maps-calls t) (maps-at t) maps.Post maps-Inv-loop maps-μ-loop
 maps-operand-count-requires t c κs = here (c .before .before .pre .1 .0)
 
--- src/lib.rt:177:5
+-- src/lib.rt:284:5
 maps-put-empty-requires : (t : ℕ) → maps-lts.Need-put-empty-requires (maps-calls t) (maps-at t) maps.Post maps-Inv-loop maps-μ-loop
 maps-put-empty-requires t c κs = (omega (arith, room-here (c .before .before .before .before .pre .1 .0)), omega arith)
 
--- src/lib.rt:180:5
+-- src/lib.rt:287:5
 maps-loop-holds : (t : ℕ) → maps-lts.Need-loop-holds (maps-calls t) (maps-at t) maps.Post maps-Inv-loop maps-μ-loop
 maps-loop-holds t c = building-start (c .before .before .before .before .before .before .before .pre .1 .0) (c .before .before .before .before .before .before .before .pre .1 .1) (inr refl) (c .before .before .before .before .operand-count .ensures .0) (λ e. refl) (λ e. absurd (not-nine e refl)) (c .before .before .put-empty .ensures)
 
--- src/lib.rt:181:13
+-- src/lib.rt:288:13
 maps-operand-requires : (t : ℕ) → maps-lts.Need-operand-requires (maps-calls t) (maps-at t) maps.Post maps-Inv-loop maps-μ-loop
 maps-operand-requires t c κs = building-has (c .before .loop .inv) (c .loop-test .taken)
 
--- src/lib.rt:182:42
+-- src/lib.rt:289:42
 maps-add-eval : (t : ℕ) → maps-lts.Need-add-eval (maps-calls t) (maps-at t) maps.Post maps-Inv-loop maps-μ-loop
 maps-add-eval t c = search needs
 
--- src/lib.rt:182:13
+-- src/lib.rt:289:13
 maps-eval-requires : (t : ℕ) → maps-lts.Need-eval-requires (maps-calls t) (maps-at t) maps.Post maps-Inv-loop maps-μ-loop
 maps-eval-requires t c κs = let h = building-ask (c .before .before .before .before .loop .inv) (c .before .before .before .loop-test .taken) (c .before .before .operand .ensures .0) in (omega (arith, h .0, c .before .before .before .before .before .before .before .before .before .before .before .before .pre .0), h .1)
 
-maps-enum-told : (t : ℕ) → maps-lts.Need-enum-told (maps-calls t) (maps-at t) maps.Post maps-Inv-loop maps-μ-loop
-maps-enum-told t c = search needs
-
--- src/lib.rt:184:13
-maps-enum-told-2 : (t : ℕ) → maps-lts.Need-enum-told-2 (maps-calls t) (maps-at t) maps.Post maps-Inv-loop maps-μ-loop
-maps-enum-told-2 t c = search needs
-
--- src/lib.rt:184:13
+-- src/lib.rt:291:13
 maps-same-length : (t : ℕ) → maps-lts.Need-same-length (maps-calls t) (maps-at t) maps.Post maps-Inv-loop maps-μ-loop
-maps-same-length t c = c .before .before .before .before .eval .ensures .kept .long ∙ c .before .before .before .before .before .before .before .before .before .loop .inv .kept .long ∙ empties-kept (c .before .before .before .before .before .before .before .before .before .before .before .before .put-empty .ensures) .long
+maps-same-length t c = c .before .before .before .eval .ensures .kept .long ∙ c .before .before .before .before .before .before .before .before .loop .inv .kept .long ∙ empties-kept (c .before .before .before .before .before .before .before .before .before .before .before .put-empty .ensures) .long
 
--- src/lib.rt:184:13
+-- src/lib.rt:291:13
 maps-returns : (t : ℕ) → maps-lts.Need-returns (maps-calls t) (maps-at t) maps.Post maps-Inv-loop maps-μ-loop
-maps-returns t c = from-entry (empties-kept (c .before .before .before .before .before .before .before .before .before .before .before .before .put-empty .ensures)) (key-off (c .before .before .before .before .before .before .before .before .before .loop .inv) refl (c .before .before .before .before .before .before .before .before .loop-test .taken) (c .before .before .before .before .before .before .before .operand .ensures .0) (c .before .before .before .before .eval .ensures) (no-value _ (c .before .match .keys2)))
+maps-returns t c = from-entry (empties-kept (c .before .before .before .before .before .before .before .before .before .before .before .put-empty .ensures)) (key-off (c .before .before .before .before .before .before .before .before .loop .inv) refl (c .before .before .before .before .before .before .before .loop-test .taken) (c .before .before .before .before .before .before .operand .ensures .0) (c .before .before .before .eval .ensures) (unvalued (c .before .before .before .eval .result) (c .if1 .taken)))
 
--- src/lib.rt:186:42
+-- src/lib.rt:293:42
 maps-add-operand : (t : ℕ) → maps-lts.Need-add-operand (maps-calls t) (maps-at t) maps.Post maps-Inv-loop maps-μ-loop
 maps-add-operand t c = search needs
 
--- src/lib.rt:186:13
+-- src/lib.rt:293:13
 maps-operand-requires-2 : (t : ℕ) → maps-lts.Need-operand-requires-2 (maps-calls t) (maps-at t) maps.Post maps-Inv-loop maps-μ-loop
-maps-operand-requires-2 t c κs = second-has (c .before .before .before .before .before .before .before .before .before .loop .inv) refl (c .before .before .before .before .before .before .before .before .loop-test .taken) (c .before .before .before .before .before .before .before .operand .ensures .0) (c .before .before .before .before .eval .ensures)
+maps-operand-requires-2 t c κs = second-has (c .before .before .before .before .before .before .before .before .loop .inv) refl (c .before .before .before .before .before .before .before .loop-test .taken) (c .before .before .before .before .before .before .operand .ensures .0) (c .before .before .before .eval .ensures)
 
--- src/lib.rt:187:42
+-- src/lib.rt:294:42
 maps-add-eval-2 : (t : ℕ) → maps-lts.Need-add-eval-2 (maps-calls t) (maps-at t) maps.Post maps-Inv-loop maps-μ-loop
 maps-add-eval-2 t c = search needs
 
--- src/lib.rt:187:13
+-- src/lib.rt:294:13
 maps-eval-requires-2 : (t : ℕ) → maps-lts.Need-eval-requires-2 (maps-calls t) (maps-at t) maps.Post maps-Inv-loop maps-μ-loop
-maps-eval-requires-2 t c κs = let h = value-ask (c .before .before .before .before .before .before .before .before .before .before .before .before .loop .inv) refl (c .before .before .before .before .before .before .before .before .before .before .before .loop-test .taken) (c .before .before .before .before .before .before .before .before .before .before .operand .ensures .0) (c .before .before .before .before .before .before .before .eval .ensures) (c .before .before .before .enum-told .given .1) (c .before .before .operand2 .ensures .0) in (omega (arith, h .0, c .before .before .before .before .before .before .before .before .before .before .before .before .before .before .before .before .before .before .before .before .pre .0), h .1)
+maps-eval-requires-2 t c κs = let h = value-ask (c .before .before .before .before .before .before .before .before .before .before .before .loop .inv) refl (c .before .before .before .before .before .before .before .before .before .before .loop-test .taken) (c .before .before .before .before .before .before .before .before .before .operand .ensures .0) (c .before .before .before .before .before .before .eval .ensures) (valued (c .before .before .before .before .before .before .eval .result) (c .before .before .before .if1 .left)) (c .before .before .operand2 .ensures .0) in (omega (arith, h .0, c .before .before .before .before .before .before .before .before .before .before .before .before .before .before .before .before .before .before .before .pre .0), h .1)
 
-maps-enum-told-3 : (t : ℕ) → maps-lts.Need-enum-told-3 (maps-calls t) (maps-at t) maps.Post maps-Inv-loop maps-μ-loop
-maps-enum-told-3 t c = search needs
-
--- src/lib.rt:189:13
-maps-enum-told-4 : (t : ℕ) → maps-lts.Need-enum-told-4 (maps-calls t) (maps-at t) maps.Post maps-Inv-loop maps-μ-loop
-maps-enum-told-4 t c = search needs
-
--- src/lib.rt:189:13
+-- src/lib.rt:296:13
 maps-same-length-2 : (t : ℕ) → maps-lts.Need-same-length-2 (maps-calls t) (maps-at t) maps.Post maps-Inv-loop maps-μ-loop
-maps-same-length-2 t c = c .before .before .before .before .eval2 .ensures .kept .long ∙ c .before .before .before .before .before .before .before .before .before .before .before .before .eval .ensures .kept .long ∙ c .before .before .before .before .before .before .before .before .before .before .before .before .before .before .before .before .before .loop .inv .kept .long ∙ empties-kept (c .before .before .before .before .before .before .before .before .before .before .before .before .before .before .before .before .before .before .before .before .put-empty .ensures) .long
+maps-same-length-2 t c = c .before .before .before .eval2 .ensures .kept .long ∙ c .before .before .before .before .before .before .before .before .before .before .eval .ensures .kept .long ∙ c .before .before .before .before .before .before .before .before .before .before .before .before .before .before .before .loop .inv .kept .long ∙ empties-kept (c .before .before .before .before .before .before .before .before .before .before .before .before .before .before .before .before .before .before .put-empty .ensures) .long
 
--- src/lib.rt:189:13
+-- src/lib.rt:296:13
 maps-returns-2 : (t : ℕ) → maps-lts.Need-returns-2 (maps-calls t) (maps-at t) maps.Post maps-Inv-loop maps-μ-loop
-maps-returns-2 t c = from-entry (empties-kept (c .before .before .before .before .before .before .before .before .before .before .before .before .before .before .before .before .before .before .before .before .put-empty .ensures)) (value-off (c .before .before .before .before .before .before .before .before .before .before .before .before .before .before .before .before .before .loop .inv) refl (c .before .before .before .before .before .before .before .before .before .before .before .before .before .before .before .before .loop-test .taken) (c .before .before .before .before .before .before .before .before .before .before .before .before .before .before .before .operand .ensures .0) (c .before .before .before .before .before .before .before .before .before .before .before .before .eval .ensures) (c .before .before .before .before .before .before .before .before .enum-told .given .1) (c .before .before .before .before .before .before .before .operand2 .ensures .0) (c .before .before .before .before .eval2 .ensures) (no-value _ (c .before .match2 .keys2)))
+maps-returns-2 t c = from-entry (empties-kept (c .before .before .before .before .before .before .before .before .before .before .before .before .before .before .before .before .before .before .put-empty .ensures)) (value-off (c .before .before .before .before .before .before .before .before .before .before .before .before .before .before .before .loop .inv) refl (c .before .before .before .before .before .before .before .before .before .before .before .before .before .before .loop-test .taken) (c .before .before .before .before .before .before .before .before .before .before .before .before .before .operand .ensures .0) (c .before .before .before .before .before .before .before .before .before .before .eval .ensures) (valued (c .before .before .before .before .before .before .before .before .before .before .eval .result) (c .before .before .before .before .before .before .before .if1 .left)) (c .before .before .before .before .before .before .operand2 .ensures .0) (c .before .before .before .eval2 .ensures) (unvalued (c .before .before .before .eval2 .result) (c .if2 .taken)))
 
--- src/lib.rt:191:9
+-- src/lib.rt:298:9
 maps-enter-next-requires : (t : ℕ) → maps-lts.Need-enter-next-requires (maps-calls t) (maps-at t) maps.Post maps-Inv-loop maps-μ-loop
-maps-enter-next-requires t c κs = pair-held (c .before .before .before .before .before .before .before .before .before .before .before .before .before .before .before .before .before .before .loop .inv) refl (c .before .before .before .before .before .before .before .before .before .before .before .before .before .before .before .before .before .loop-test .taken) (c .before .before .before .before .before .before .before .before .before .before .before .before .before .before .before .before .operand .ensures .0) (c .before .before .before .before .before .before .before .before .before .before .before .before .before .eval .ensures) (c .before .before .before .before .before .before .before .before .before .enum-told .given .1) (c .before .before .before .before .before .before .before .before .operand2 .ensures .0) (c .before .before .before .before .before .eval2 .ensures) (c .before .enum-told3 .given .1)
+maps-enter-next-requires t c κs = pair-held (c .before .before .before .before .before .before .before .before .before .before .before .before .before .before .before .before .loop .inv) refl (c .before .before .before .before .before .before .before .before .before .before .before .before .before .before .before .loop-test .taken) (c .before .before .before .before .before .before .before .before .before .before .before .before .before .before .operand .ensures .0) (c .before .before .before .before .before .before .before .before .before .before .before .eval .ensures) (valued (c .before .before .before .before .before .before .before .before .before .before .before .eval .result) (c .before .before .before .before .before .before .before .before .if1 .left)) (c .before .before .before .before .before .before .before .operand2 .ensures .0) (c .before .before .before .before .eval2 .ensures) (valued (c .before .before .before .before .eval2 .result) (c .before .if2 .left))
 
--- src/lib.rt:192:9
+-- src/lib.rt:299:9
 maps-add-i : (t : ℕ) → maps-lts.Need-add-i (maps-calls t) (maps-at t) maps.Post maps-Inv-loop maps-μ-loop
-maps-add-i t c = omega (arith, c .before .before .before .before .before .before .before .before .before .before .before .before .before .before .before .before .before .before .before .before .loop-test .taken, c .before .before .before .before .before .before .before .before .before .before .before .before .before .before .before .before .before .before .before .before .before .before .before .before .before .before .operand-count .ensures .1)
+maps-add-i t c = omega (arith, c .before .before .before .before .before .before .before .before .before .before .before .before .before .before .before .before .before .before .loop-test .taken, c .before .before .before .before .before .before .before .before .before .before .before .before .before .before .before .before .before .before .before .before .before .before .before .before .operand-count .ensures .1)
 
--- src/lib.rt:180:5
+-- src/lib.rt:287:5
 maps-loop-less : (t : ℕ) → maps-lts.Need-loop-less (maps-calls t) (maps-at t) maps.Post maps-Inv-loop maps-μ-loop
-maps-loop-less t c = omega (arith, c .before .before .before .before .before .before .before .before .before .before .before .before .before .before .before .before .before .before .before .before .loop-test .taken)
+maps-loop-less t c = omega (arith, c .before .before .before .before .before .before .before .before .before .before .before .before .before .before .before .before .before .before .loop-test .taken)
 
--- src/lib.rt:180:5
+-- src/lib.rt:287:5
 maps-loop-again : (t : ℕ) → maps-lts.Need-loop-again (maps-calls t) (maps-at t) maps.Post maps-Inv-loop maps-μ-loop
-maps-loop-again t c = pair-next (c .before .before .before .before .before .before .before .before .before .before .before .before .before .before .before .before .before .before .before .before .before .loop .inv) refl (c .before .before .before .before .before .before .before .before .before .before .before .before .before .before .before .before .before .before .before .before .loop-test .taken) (c .before .before .before .before .before .before .before .before .before .before .before .before .before .before .before .before .before .before .before .operand .ensures .0) (c .before .before .before .before .before .before .before .before .before .before .before .before .before .before .before .before .eval .ensures) (c .before .before .before .before .before .before .before .before .before .before .before .before .enum-told .given .1) (c .before .before .before .before .before .before .before .before .before .before .before .operand2 .ensures .0) (c .before .before .before .before .before .before .before .before .eval2 .ensures) (c .before .before .before .before .enum-told3 .given .1) refl (c .before .before .enter-next .ensures)
+maps-loop-again t c = pair-next (c .before .before .before .before .before .before .before .before .before .before .before .before .before .before .before .before .before .before .before .loop .inv) refl (c .before .before .before .before .before .before .before .before .before .before .before .before .before .before .before .before .before .before .loop-test .taken) (c .before .before .before .before .before .before .before .before .before .before .before .before .before .before .before .before .before .operand .ensures .0) (c .before .before .before .before .before .before .before .before .before .before .before .before .before .before .eval .ensures) (valued (c .before .before .before .before .before .before .before .before .before .before .before .before .before .before .eval .result) (c .before .before .before .before .before .before .before .before .before .before .before .if1 .left)) (c .before .before .before .before .before .before .before .before .before .before .operand2 .ensures .0) (c .before .before .before .before .before .before .before .eval2 .ensures) (valued (c .before .before .before .before .before .before .before .eval2 .result) (c .before .before .before .before .if2 .left)) refl (c .before .before .enter-next .ensures)
 
--- src/lib.rt:194:5
+-- src/lib.rt:301:5
 maps-finish-requires : (t : ℕ) → maps-lts.Need-finish-requires (maps-calls t) (maps-at t) maps.Post maps-Inv-loop maps-μ-loop
 maps-finish-requires t c κs = building-finish (c .before .before .loop .inv)
 
--- src/lib.rt:172:1
+-- src/lib.rt:271:1
 maps-same-length-3 : (t : ℕ) → maps-lts.Need-same-length-3 (maps-calls t) (maps-at t) maps.Post maps-Inv-loop maps-μ-loop
 maps-same-length-3 t c = c .before .before .finish .ensures .kept .long ∙ c .before .before .before .before .before .loop .inv .kept .long ∙ empties-kept (c .before .before .before .before .before .before .before .before .put-empty .ensures) .long
 
--- src/lib.rt:172:1
+-- src/lib.rt:271:1
 maps-returns-3 : (t : ℕ) → maps-lts.Need-returns-3 (maps-calls t) (maps-at t) maps.Post maps-Inv-loop maps-μ-loop
 maps-returns-3 t c = from-entry (empties-kept (c .before .before .before .before .before .before .before .before .put-empty .ensures)) (building-end (c .before .before .before .before .before .loop .inv) (c .before .before .before .before .loop-test .left) (c .before .before .finish .ensures))
 
@@ -148,16 +135,12 @@ maps-member t = maps-lts.spec (maps-calls t) (maps-at t) maps.Post
     (maps-operand-requires t)
     (maps-add-eval t)
     (maps-eval-requires t)
-    (maps-enum-told t)
-    (maps-enum-told-2 t)
     (maps-same-length t)
     (maps-returns t)
     (maps-add-operand t)
     (maps-operand-requires-2 t)
     (maps-add-eval-2 t)
     (maps-eval-requires-2 t)
-    (maps-enum-told-3 t)
-    (maps-enum-told-4 t)
     (maps-same-length-2 t)
     (maps-returns-2 t)
     (maps-enter-next-requires t)

@@ -2,7 +2,8 @@
 use Prim.Native.Nat.{ℕ, _-_, _<_}
 use native.Mathlib.Omega.{arith}
 use borrow.Author.Needs.{needs}
-use Rattle.values.proofs.Shapes.{first-held, rest-held, rest-inside, ascending-none, ascending-one, ascending-on, ascending-off, same-not, higher-not}
+use Rattle.values.proofs.Ordering.{rest-items}
+use Rattle.values.proofs.Shapes.{first-held, rest-inside, ascending-none, ascending-one, ascending-on, ascending-off, same-not, higher-not}
 use borrow.Fn.Kinds.{In}
 use borrow.Fn.PlainCycle.{Measures, is, falls, and}
 use Rattle.values.proofs.validity.ascending.Reads as ascending
@@ -39,13 +40,13 @@ ascending-returns-2 : (t : ℕ) → ascending-lts.Need-returns-2 (ascending-call
 ascending-returns-2 t c = ascending-one (c .before .before .if1 .left) (c .before .length-of .ensures) (c .if2 .taken)
 
 ascending-compare-requires : (t : ℕ) → ascending-lts.Need-compare-requires (ascending-calls t) (ascending-at t) ascending.Post
-ascending-compare-requires t c κs = (first-held (c .before .before .if1 .left) (c .before .before .before .before .pre .1), first-held (c .if2 .left) (rest-held (c .before .before .if1 .left) (c .before .length-of .ensures) (c .before .before .before .before .pre .1)))
+ascending-compare-requires t c κs = (first-held (c .before .before .if1 .left) (c .before .before .before .before .pre .1), first-held (c .if2 .left) (rest-items (c .before .before .if1 .left) (c .before .length-of .ensures) (c .before .before .before .before .pre .1)))
 
 ascending-enum-told : (t : ℕ) → ascending-lts.Need-enum-told (ascending-calls t) (ascending-at t) ascending.Post
 ascending-enum-told t c = search needs
 
 ascending-ascending-requires : (t : ℕ) → ascending-lts.Need-ascending-requires (ascending-calls t) (ascending-at t) ascending.Post
-ascending-ascending-requires t c κs = let i = rest-inside (c .before .before .before .before .before .if1 .left) (c .before .before .before .before .length-of .ensures) (c .before .before .before .before .before .before .before .pre .1) in let l = c .before .before .before .before .length-of .ensures .low in (omega arith, rest-held (c .before .before .before .before .before .if1 .left) (c .before .before .before .before .length-of .ensures) (c .before .before .before .before .before .before .before .pre .1))
+ascending-ascending-requires t c κs = let i = rest-inside (c .before .before .before .before .before .if1 .left) (c .before .before .before .before .length-of .ensures) (c .before .before .before .before .before .before .before .pre .1) in let l = c .before .before .before .before .length-of .ensures .low in (omega arith, rest-items (c .before .before .before .before .before .if1 .left) (c .before .before .before .before .length-of .ensures) (c .before .before .before .before .before .before .before .pre .1))
 
 ascending-enum-told-2 : (t : ℕ) → ascending-lts.Need-enum-told-2 (ascending-calls t) (ascending-at t) ascending.Post
 ascending-enum-told-2 t c = search needs

@@ -2,7 +2,8 @@
 use Prim.Native.Nat.{ℕ, _-_, _<_}
 use native.Mathlib.Omega.{arith}
 use borrow.Author.Needs.{needs}
-use Rattle.values.proofs.Shapes.{first-held, rest-held, rest-inside, count-none, count-more, items-few}
+use Rattle.values.proofs.Ordering.{rest-items}
+use Rattle.values.proofs.Shapes.{first-held, rest-inside, count-none, count-more, items-few}
 use borrow.Fn.Kinds.{In}
 use borrow.Fn.PlainCycle.{Measures, is, falls, and}
 use Rattle.values.proofs.validity.count.Reads as count
@@ -34,10 +35,10 @@ count-add-next : (t : ℕ) → count-lts.Need-add-next (count-calls t) (count-at
 count-add-next t c = let h = c .before .before .before .pre .1 .1 .fits in let i = rest-inside (c .before .if1 .left) (c .length-of .ensures) (c .before .before .before .pre .1) in omega arith
 
 count-count-requires : (t : ℕ) → count-lts.Need-count-requires (count-calls t) (count-at t) count.Post
-count-count-requires t c κs = let i = rest-inside (c .before .if1 .left) (c .length-of .ensures) (c .before .before .before .pre .1) in let l = c .length-of .ensures .low in (omega arith, rest-held (c .before .if1 .left) (c .length-of .ensures) (c .before .before .before .pre .1))
+count-count-requires t c κs = let i = rest-inside (c .before .if1 .left) (c .length-of .ensures) (c .before .before .before .pre .1) in let l = c .length-of .ensures .low in (omega arith, rest-items (c .before .if1 .left) (c .length-of .ensures) (c .before .before .before .pre .1))
 
 count-add-result : (t : ℕ) → count-lts.Need-add-result (count-calls t) (count-at t) count.Post
-count-add-result t c = let h = items-few (rest-held (c .before .before .if1 .left) (c .before .length-of .ensures) (c .before .before .before .before .pre .1)) (c .count .ensures) in omega arith
+count-add-result t c = let h = items-few (rest-items (c .before .before .if1 .left) (c .before .length-of .ensures) (c .before .before .before .before .pre .1)) (c .count .ensures) in omega arith
 
 count-returns-2 : (t : ℕ) → count-lts.Need-returns-2 (count-calls t) (count-at t) count.Post
 count-returns-2 t c = count-more (c .before .before .if1 .left) (c .before .length-of .ensures) (c .count .ensures)

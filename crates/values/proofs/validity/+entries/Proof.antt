@@ -2,7 +2,8 @@
 use Prim.Native.Nat.{ℕ, _-_, _<_}
 use native.Mathlib.Omega.{arith}
 use borrow.Author.Needs.{needs}
-use Rattle.values.proofs.Shapes.{first-held, rest-held, rest-inside, entries-none, entries-half, entries-one, entries-on, entries-off, same-not, higher-not}
+use Rattle.values.proofs.Ordering.{rest-items}
+use Rattle.values.proofs.Shapes.{first-held, rest-inside, entries-none, entries-half, entries-one, entries-on, entries-off, same-not, higher-not}
 use borrow.Fn.Kinds.{In}
 use borrow.Fn.PlainCycle.{Measures, is, falls, and}
 use Rattle.values.proofs.validity.entries.Reads as entries
@@ -38,22 +39,22 @@ entries-returns-2 : (t : ℕ) → entries-lts.Need-returns-2 (entries-calls t) (
 entries-returns-2 t c = entries-half (c .before .before .if1 .left) (c .before .length-of .ensures) (c .if2 .taken)
 
 entries-length-of-requires-2 : (t : ℕ) → entries-lts.Need-length-of-requires-2 (entries-calls t) (entries-at t) entries.Post
-entries-length-of-requires-2 t c κs = first-held (c .if2 .left) (rest-held (c .before .before .if1 .left) (c .before .length-of .ensures) (c .before .before .before .before .pre .1))
+entries-length-of-requires-2 t c κs = first-held (c .if2 .left) (rest-items (c .before .before .if1 .left) (c .before .length-of .ensures) (c .before .before .before .before .pre .1))
 
 entries-add-next : (t : ℕ) → entries-lts.Need-add-next (entries-calls t) (entries-at t) entries.Post
-entries-add-next t c = let h = c .before .before .before .before .before .pre .1 .1 .fits in let i = rest-inside (c .before .if2 .left) (c .length-of2 .ensures) (rest-held (c .before .before .before .if1 .left) (c .before .before .length-of .ensures) (c .before .before .before .before .before .pre .1)) in omega arith
+entries-add-next t c = let h = c .before .before .before .before .before .pre .1 .1 .fits in let i = rest-inside (c .before .if2 .left) (c .length-of2 .ensures) (rest-items (c .before .before .before .if1 .left) (c .before .before .length-of .ensures) (c .before .before .before .before .before .pre .1)) in omega arith
 
 entries-returns-3 : (t : ℕ) → entries-lts.Need-returns-3 (entries-calls t) (entries-at t) entries.Post
 entries-returns-3 t c = entries-one (c .before .before .before .before .if1 .left) (c .before .before .before .length-of .ensures) (c .before .before .if2 .left) (c .before .length-of2 .ensures) (c .if3 .taken)
 
 entries-compare-requires : (t : ℕ) → entries-lts.Need-compare-requires (entries-calls t) (entries-at t) entries.Post
-entries-compare-requires t c κs = (first-held (c .before .before .before .before .if1 .left) (c .before .before .before .before .before .before .pre .1), first-held (c .if3 .left) (rest-held (c .before .before .if2 .left) (c .before .length-of2 .ensures) (rest-held (c .before .before .before .before .if1 .left) (c .before .before .before .length-of .ensures) (c .before .before .before .before .before .before .pre .1))))
+entries-compare-requires t c κs = (first-held (c .before .before .before .before .if1 .left) (c .before .before .before .before .before .before .pre .1), first-held (c .if3 .left) (rest-items (c .before .before .if2 .left) (c .before .length-of2 .ensures) (rest-items (c .before .before .before .before .if1 .left) (c .before .before .before .length-of .ensures) (c .before .before .before .before .before .before .pre .1))))
 
 entries-enum-told : (t : ℕ) → entries-lts.Need-enum-told (entries-calls t) (entries-at t) entries.Post
 entries-enum-told t c = search needs
 
 entries-entries-requires : (t : ℕ) → entries-lts.Need-entries-requires (entries-calls t) (entries-at t) entries.Post
-entries-entries-requires t c κs = let h = rest-held (c .before .before .before .before .before .before .before .if1 .left) (c .before .before .before .before .before .before .length-of .ensures) (c .before .before .before .before .before .before .before .before .before .pre .1) in let i = rest-inside (c .before .before .before .before .before .if2 .left) (c .before .before .before .before .length-of2 .ensures) h in let l = c .before .before .before .before .before .before .length-of .ensures .low in (omega arith, rest-held (c .before .before .before .before .before .if2 .left) (c .before .before .before .before .length-of2 .ensures) h)
+entries-entries-requires t c κs = let h = rest-items (c .before .before .before .before .before .before .before .if1 .left) (c .before .before .before .before .before .before .length-of .ensures) (c .before .before .before .before .before .before .before .before .before .pre .1) in let i = rest-inside (c .before .before .before .before .before .if2 .left) (c .before .before .before .before .length-of2 .ensures) h in let l = c .before .before .before .before .before .before .length-of .ensures .low in (omega arith, rest-items (c .before .before .before .before .before .if2 .left) (c .before .before .before .before .length-of2 .ensures) h)
 
 entries-enum-told-2 : (t : ℕ) → entries-lts.Need-enum-told-2 (entries-calls t) (entries-at t) entries.Post
 entries-enum-told-2 t c = search needs

@@ -1,0 +1,84 @@
+-- A literal comes to nothing; for others, what was gathered is entered.
+use mathlib.Core.Path.{refl, ap, _∙_}
+use native.Mathlib.Omega.{arith}
+use borrow.Author.Tests.{not-false}
+use Rattle.prelude.proofs.Absurd.{never}
+use Rattle.tables.specs.Accepted.{records}
+use Rattle.checking.specs.Sweeps.{sortOf}
+use Rattle.checking.proofs.Gathering.{entered, entered-literal}
+use borrow.Author.Needs.{needs}
+use Rattle.checking.proofs.sweep.enter.Statement.{statement}
+use Rattle.checking.proofs.sweep.enter.Tie as tie
+
+kind-requires : tie.Need-kind-requires
+kind-requires c κs = search needs
+
+element-write-left : tie.Need-element-write-left
+element-write-left c = search needs
+
+element-write-highs : tie.Need-element-write-highs
+element-write-highs c = search needs
+
+returns : tie.Need-returns
+returns c = λ e. entered-literal (records (c .before .before .before .args .table .now)) (c .before .before .before .args .below .now) (c .before .before .before .args .frees .now) (c .before .before .before .args .highs .now) (c .before .before .before .args .r) (c .before .before .before .args .left .now) (c .before .before .before .pre .here .indexed .few) (c .before .before .before .pre .here .within) (omega (arith, c .before .kind .ensures .0, c .if1 .taken)) (c .before .before .before .pre .left-is) (c .before .before .before .pre .kept)
+
+names-of-requires : tie.Need-names-of-requires
+names-of-requires c κs = search needs
+
+gather-requires : tie.Need-gather-requires
+gather-requires c κs = search needs
+
+returns-2 : tie.Need-returns-2
+returns-2 c = λ e. never e
+
+sort-of-requires : tie.Need-sort-of-requires
+sort-of-requires c κs = search needs
+
+element-write-left-2 : tie.Need-element-write-left-2
+element-write-left-2 c = search needs
+
+mul-below : tie.Need-mul-below
+mul-below c = search needs
+
+element-write-below : tie.Need-element-write-below
+element-write-below c = search needs
+
+mul-frees : tie.Need-mul-frees
+mul-frees c = search needs
+
+element-write-frees : tie.Need-element-write-frees
+element-write-frees c = search needs
+
+add-highs : tie.Need-add-highs
+add-highs c = omega (arith, (c .before .before .gather .ensures (not-false _ (c .before .if2 .left))) .few, c .before .before .before .before .before .before .before .before .before .before .before .before .pre .here .within, c .before .before .before .before .before .before .before .before .before .before .before .before .pre .here .indexed .few)
+
+cast-highs : tie.Need-cast-highs
+cast-highs c = omega (arith, (c .before .before .gather .ensures (not-false _ (c .before .if2 .left))) .few, c .before .before .before .before .before .before .before .before .before .before .before .before .pre .here .within, c .before .before .before .before .before .before .before .before .before .before .before .before .pre .here .indexed .few)
+
+element-write-highs-2 : tie.Need-element-write-highs-2
+element-write-highs-2 c = search needs
+
+returns-3 : tie.Need-returns-3
+returns-3 c = λ e. entered (records (c .before .before .before .before .before .before .before .before .before .before .before .before .args .table .now)) (c .before .before .before .before .before .before .before .before .before .before .before .before .args .below .now) (c .before .before .before .before .before .before .before .before .before .before .before .before .args .frees .now) (c .before .before .before .before .before .before .before .before .before .before .before .before .args .highs .now) (c .before .before .before .before .before .before .before .before .before .before .before .before .args .r) _ (c .before .before .gather .result) (c .before .before .before .before .before .before .before .before .before .before .before .before .pre .here .indexed .few) (c .before .before .before .before .before .before .before .before .before .before .before .before .pre .here .within) (c .before .before .before .before .before .before .before .before .before .before .before .before .pre .kept) (c .before .before .gather .ensures (not-false _ (c .before .if2 .left))) _ _ _ _ (c .sort-of .result) (c .sort-of .ensures ∙ ap sortOf (c .before .before .before .before .before .before .before .before .before .before .kind .ensures .0)) refl refl refl refl
+
+pub enter-spec : {M : Type 1} → statement M
+enter-spec =
+    tie.close
+    (tie.spec
+    kind-requires
+    element-write-left
+    element-write-highs
+    returns
+    names-of-requires
+    gather-requires
+    returns-2
+    sort-of-requires
+    element-write-left-2
+    mul-below
+    element-write-below
+    mul-frees
+    element-write-frees
+    add-highs
+    cast-highs
+    element-write-highs-2
+    returns-3)

@@ -1,0 +1,2 @@
+-- Laws of the print.
+pub mod Whole

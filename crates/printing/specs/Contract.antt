@@ -1,0 +1,81 @@
+-- What writing the print piece by piece asks and promises.
+use mathlib.Core.Path.{_≡_}
+use mathlib.Core.Bool.{Bool, true, false, _&&_, cond}
+use mathlib.Core.List.{List, [], _++_}
+use Prim.Native.Nat.{ℕ, _+_, _-_, _≤_, _<_}
+use lib.Dec.{ltb}
+use lib.ListN.{length, take}
+use Rattle.meaning.specs.Service.{tree}
+use Rattle.lists.specs.Lent.{lent}
+use Rattle.evaluator.specs.declared.Outcome.{Outcome}
+use Rattle.evaluator.specs.declared.Outcome.the-variants.{Value as HasValue, Refused}
+use Rattle.walks.specs.Steps.{Indexes}
+use Rattle.print.specs.Print.{mostLines, firstLine, endLine, cutLine}
+use Rattle.print.specs.Contract.{longestLine, shortLine}
+use Rattle.printing.specs.declared.Progress.{Progress}
+use Rattle.printing.specs.Due.{Behind}
+use Rattle.printing.specs.Rest.{fromList, fromLine, toCome}
+
+-- The number of an outcome: 0 with a value.
+abbrev pub outcomeNumber : Outcome → ℕ
+outcomeNumber HasValue = 0
+outcomeNumber (Refused n p k) = n
+
+-- A line of a list comes next: there is a list more, and the limit is not reached.
+abbrev pub due : Progress → Bool
+due p = p .more && ltb (p .lists) mostLines
+
+-- The first line is in the buffer, and no list is behind.
+pub record Begun (count : ℕ) (out : List ℕ) (p : Progress) : Type 0 where
+  pub none-yet : p .lists ≡ 0
+  pub more : p .more ≡ true
+  pub going : p .over ≡ false
+  pub text : take (p .at) out ≡ firstLine count
+  pub short : p .at ≤ shortLine
+
+-- Where the print of an accepted table stands: so many lists are behind, and their choices are advanced.
+pub record Stands (table index : List ℕ) (count : ℕ) (s run : List ℕ) (p : Progress) : Type 0 where
+  pub indexes : Indexes table index count s
+  pub behind : Behind (tree table) (p .lists) (p .more) (lent run)
+  pub few : p .lists ≤ mostLines
+
+-- The print goes on; the buffer has the piece so far, and room for a line.
+pub record Ready (table index : List ℕ) (count : ℕ) (s run out : List ℕ) (p : Progress) : Type 0 where
+  pub stands : Stands table index count s run p
+  pub going : p .over ≡ false
+  pub room : p .at + longestLine ≤ length out
+
+-- The piece grew from p to q by what came next: the piece and what is still to come are together what they were.
+pub record Grew (table index : List ℕ) (count : ℕ) (s run out out₀ : List ℕ) (p q : Progress) : Type 0 where
+  pub stands : Stands table index count s run q
+  pub inside : q .at ≤ length out
+  pub text : take (q .at) out ++ toCome table q ≡ take (p .at) out₀ ++ fromList table (p .lists)
+
+-- A line of a list was written, of at most the longest line's length.
+pub record Lined (table index : List ℕ) (count : ℕ) (s run out out₀ : List ℕ) (p q : Progress) : Type 0 where
+  pub grew : Grew table index count s run out out₀ p q
+  pub next : q .lists ≡ p .lists + 1
+  pub going : q .over ≡ false
+  pub short : q .at ≤ p .at + longestLine
+
+-- The last line, by what is known where no list's line comes next.
+abbrev pub closing : Progress → List ℕ
+closing p = cond (p .more) cutLine (endLine (p .lists))
+
+-- It was written, or there was no room.
+pub record Closed (out out₀ : List ℕ) (p q : Progress) : Type 0 where
+  pub same-lists : q .lists ≡ p .lists
+  pub same-more : q .more ≡ p .more
+  pub inside : q .at ≤ length out
+  pub full : q .over ≡ false → length out < p .at + shortLine
+  pub text : take (q .at) out ++ cond (q .over) [] (closing p) ≡ take (p .at) out₀ ++ closing p
+
+-- As many lines as fit were written: the last line among them, or at least one list's.
+pub record Filled (table index : List ℕ) (count : ℕ) (s run out out₀ : List ℕ) (p q : Progress) : Type 0 where
+  pub grew : Grew table index count s run out out₀ p q
+  pub further : q .over ≡ false → p .lists < q .lists
+
+-- A piece is to be written that begins with the n-th line of the print.
+pub record Printing (table index : List ℕ) (count : ℕ) (s run out : List ℕ) (n : ℕ) (p : Progress) : Type 0 where
+  pub ready : Ready table index count s run out p
+  pub text : fromLine table n ≡ take (p .at) out ++ fromList table (p .lists)

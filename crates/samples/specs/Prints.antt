@@ -1,0 +1,63 @@
+-- Whole prints, computed: document 01's worked print, and tables of `sheets` whose prints show each form of a line and of a value.
+use mathlib.Core.Path.{_≡_, refl, ap}
+use mathlib.Core.List.{List, [], _∷_}
+use Prim.Native.Nat.{ℕ}
+use native.Mathlib.Omega.{arith}
+use Rattle.print.specs.Ascii.{ascii, hyphen}
+use Rattle.print.specs.Text.{digitsTo, decimal, text, word}
+use Rattle.print.specs.Print.{printOf}
+use Rattle.print.proofs.Decimals.{decimal-within}
+use Rattle.samples.specs.Notation.{row, rows, truth, whole, minus, name, operation, P, below0, computing}
+use Rattle.samples.specs.Samples.{worked}
+
+-- To unfold this is to unfold everything that a print computes with.
+unfoldable printing : ℕ
+unfolding computing digitsTo decimal text word
+printing = 0
+
+-- Document 01, "The walk print".
+pub worked-print : printOf worked ≡ ascii "table 11\n0 =2\n1 =4\nend 2\n"
+unfolding printing
+worked-print = refl
+
+-- sheets/values.sheet: mk_({|->},{1|->{},true|->[false]},[],{mk_(-1,{2})})
+pub values-print :
+    printOf
+    (rows
+    (row 9 [] ∷ whole 1 ∷ row 7 [] ∷ truth 1 ∷ truth 0 ∷ row 8 (4 ∷ []) ∷ row 9 (1 ∷ 2 ∷ 3 ∷ 5 ∷ []) ∷ row 8 [] ∷ minus 1 ∷ whole 2 ∷ row 7 (9 ∷ []) ∷ row 10 (8 ∷ 10 ∷ []) ∷ row 7 (11 ∷ []) ∷ row 10 (0 ∷ 6 ∷ 7 ∷ 12 ∷ []) ∷ []))
+    ≡ ascii "table 14\n- =mk_({|->},{true|->[false],1|->{}},[],{mk_(-1,{2})})\nend 1\n"
+unfolding printing
+values-print = refl
+
+-- The least integer: ten digits after the sign.
+pub least-text : text (below0 2147483648) ≡ ascii "-2147483648"
+unfolding text digitsTo
+least-text = ap (λ (l : List ℕ). hyphen ∷ l) (decimal-within 9 2147483648 (omega arith))
+
+-- sheets/refusals-by-list.sheet: let a in set {0,...,4} be st true in abs [5,true,-2147483648](a)
+pub refusals-print :
+    printOf
+    (rows
+    (P 0 ∷ whole 0 ∷ whole 4 ∷ row 11 (1 ∷ 2 ∷ []) ∷ truth 1 ∷ whole 5 ∷ truth 1 ∷ minus 2147483648 ∷ row 8 (5 ∷ 6 ∷ 7 ∷ []) ∷ name 0 ∷ row 21 (8 ∷ 9 ∷ []) ∷ row 4 (3 ∷ 10 ∷ []) ∷ row 13 (0 ∷ 3 ∷ 4 ∷ 11 ∷ []) ∷ []))
+    ≡ ascii "table 13\n0 !26 absent\n1 =5\n2 !20 kind\n3 !21 range\n4 !26 absent\nend 5\n"
+unfolding printing
+refusals-print = refl
+
+-- sheets/separate-choices.sheet: [let b in set {a,a+10} be st true in b | a in set {1,2} & true]
+pub separate-print :
+    printOf
+    (rows
+    (P 0 ∷ whole 1 ∷ whole 2 ∷ row 7 (1 ∷ 2 ∷ []) ∷ truth 1 ∷ P 1 ∷ name 0 ∷ name 0 ∷ whole 10 ∷ operation 7 7 8 ∷ row 7 (6 ∷ 9 ∷ []) ∷ truth 1 ∷ name 1 ∷ row 13 (5 ∷ 10 ∷ 11 ∷ 12 ∷ []) ∷ row 19 (0 ∷ 3 ∷ 4 ∷ 13 ∷ []) ∷ []))
+    ≡ ascii "table 15\n0,0 =[1,2]\n0,1 =[1,12]\n1,0 =[11,2]\n1,1 =[11,12]\nend 4\n"
+unfolding printing
+separate-print = refl
+
+-- sheets/unbound-name.sheet: a + 1, with a bound nowhere
+pub refused-print : printOf (rows (name 0 ∷ whole 1 ∷ operation 7 0 1 ∷ [])) ≡ ascii "refused 7 0\n"
+unfolding printing
+refused-print = refl
+
+-- The empty table.
+pub empty-print : printOf [] ≡ ascii "refused 3 0\n"
+unfolding printing
+empty-print = refl

@@ -1,0 +1,2 @@
+-- What the program's own contracts say.
+pub mod Input
