@@ -24,6 +24,41 @@ pub fn deepest() -> Vec<(String, Vec<u8>)> {
     sheets
 }
 
+/// Sheets with as many patterns with parts as the records allow, in one pattern: they are matched one after the other, each within the one before.
+pub fn widest() -> Vec<(String, Vec<u8>)> {
+    vec![
+        ("unions of empty sets".into(), halved(kind::P_UNION)),
+        (
+            "concatenations of empty sequences".into(),
+            halved(kind::P_CONCATENATION),
+        ),
+    ]
+}
+
+/// A let with a pattern of halves, their halves and so on, that meets an empty set or sequence.
+fn halved(form: u16) -> Vec<u8> {
+    let (empty, value) = match form {
+        kind::P_UNION => (kind::P_SET, kind::SET),
+        _ => (kind::P_SEQUENCE, kind::SEQUENCE),
+    };
+    let mut b = Builder::new();
+    // With a value, a body and the let, n empty ones and the n - 1 patterns that join them are all records.
+    let mut level: Vec<usize> = (0..(MOST_RECORDS - 2) / 2)
+        .map(|_| b.node(empty, &[]))
+        .collect();
+    while level.len() > 1 {
+        let joined = level.chunks(2).map(|pair| match pair {
+            [_, _] => b.node(form, pair),
+            _ => pair[0],
+        });
+        level = joined.collect();
+    }
+    let value = b.node(value, &[]);
+    let body = b.integer(5);
+    b.node(kind::LET, &[level[0], value, body]);
+    b.table()
+}
+
 type Start = fn(&mut Builder) -> usize;
 type Wrap = fn(&mut Builder, usize) -> usize;
 

@@ -15,7 +15,7 @@ mod writer;
 
 pub use builder::Builder;
 pub use damage::damaged;
-pub use depths::deepest;
+pub use depths::{deepest, widest};
 pub use limits::at_limits;
 pub use random::Random;
 
