@@ -1,5 +1,6 @@
 -- The theorems on what records mean, and the proofs of what the files above state.
 pub mod Equation
+pub mod Enumerating
 pub mod Proper
 pub mod PatternLaws
 pub mod Clauses

@@ -171,13 +171,13 @@ follow-fits {A} r (choose q n ways) (suc k) (c ∷ l) h p m w = go (ltb c n) ref
     go true e f = f (ltb-true c n e)
     go false e f = (omega (arith, p .0), w .0)
 
-fits-final : {A : Type 0} (answerPlace : ℕ) (r : Run A) → answerPlace < 600 → FitsRun r → Fits uncounted (final answerPlace r)
-fits-final answerPlace (gave a k []) h f = fits-result a
-fits-final answerPlace (gave a k (c ∷ l)) h f = fits-refusal uncounted 34 answerPlace 0 (omega arith) (omega arith) h (omega arith)
-fits-final answerPlace (stopped n p []) h f = fits-refusal uncounted n p 0 (omega (arith, f .0)) (omega (arith, f .1)) (f .2) (omega arith)
-fits-final answerPlace (stopped n p (c ∷ l)) h f = fits-refusal uncounted 34 p 0 (omega arith) (omega arith) (f .2) (omega arith)
-fits-final answerPlace (short p n) h f = fits-refusal uncounted 32 p n (omega arith) (omega arith) (f .0) (f .1)
-fits-final answerPlace (beyond p n l) h f = fits-refusal uncounted 33 p n (omega arith) (omega arith) (f .0) (f .1)
+fits-final : {A : Type 0} (place : ℕ) (r : Run A) → place < 600 → FitsRun r → Fits uncounted (final place r)
+fits-final place (gave a k []) h f = fits-result a
+fits-final place (gave a k (c ∷ l)) h f = fits-refusal uncounted 34 place 0 (omega arith) (omega arith) h (omega arith)
+fits-final place (stopped n p []) h f = fits-refusal uncounted n p 0 (omega (arith, f .0)) (omega (arith, f .1)) (f .2) (omega arith)
+fits-final place (stopped n p (c ∷ l)) h f = fits-refusal uncounted 34 p 0 (omega arith) (omega arith) (f .2) (omega arith)
+fits-final place (short p n) h f = fits-refusal uncounted 32 p n (omega arith) (omega arith) (f .0) (f .1)
+fits-final place (beyond p n l) h f = fits-refusal uncounted 33 p n (omega arith) (omega arith) (f .0) (f .1)
 
 -- The run of a list of an accepted table, and what it answers.
 module _ (table : List ℕ) (n : ℕ) (ok : check table ≡ Accepted n) (l : List ℕ) where
@@ -266,13 +266,13 @@ module _ {A : Type 0} where
   late-accepted (Accepted n) f s h = h n refl
   late-accepted (Refused n p) f s h = late-number n (s .0)
 
-  late-final : (answerPlace : ℕ) (r : Run A) → FitsRun r → Late (final answerPlace r)
-  late-final answerPlace (gave a k []) f = refl
-  late-final answerPlace (gave a k (c ∷ l)) f = refl
-  late-final answerPlace (stopped n p []) f = late-number n (omega (arith, f .0))
-  late-final answerPlace (stopped n p (c ∷ l)) f = refl
-  late-final answerPlace (short p n) f = refl
-  late-final answerPlace (beyond p n l) f = refl
+  late-final : (place : ℕ) (r : Run A) → FitsRun r → Late (final place r)
+  late-final place (gave a k []) f = refl
+  late-final place (gave a k (c ∷ l)) f = refl
+  late-final place (stopped n p []) f = late-number n (omega (arith, f .0))
+  late-final place (stopped n p (c ∷ l)) f = refl
+  late-final place (short p n) f = refl
+  late-final place (beyond p n l) f = refl
 
   late-stepped : (f : Final A) (next : Final (List ℕ)) → Late f → Late next → Late (steppedFrom f next)
   late-stepped (result a) next f h = h

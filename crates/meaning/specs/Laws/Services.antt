@@ -1,4 +1,4 @@
--- The services case by case, in the order of document 01's tests.
+-- The services case by case, in the order of document 01's tests: what they answer, and what they leave in the lent bytes.
 use mathlib.Core.Path.{_≡_, refl, ap, _∙_}
 use mathlib.Core.Bool.{Bool, true, false, _||_, cond}
 use mathlib.Core.Logic.{⊎-elim}
@@ -14,15 +14,16 @@ use Rattle.choices.specs.Tree.{Final, result, refuses, mostChoices}
 use Rattle.choices.specs.Lists.{Complete}
 use Rattle.choices.specs.Paths.{firstList, nextList}
 use Rattle.choices.proofs.Walk.{Incomplete, incomplete, Settles, complete-whole}
-use Rattle.values.specs.Value.{valueLimit as largest}
+use Rattle.values.specs.Value.{Value, encode, valueLimit as largest}
 use Rattle.tables.specs.declared.Checked.{Checked}
 use Rattle.tables.specs.declared.Checked.the-variants.{Accepted, Refused}
 use Rattle.tables.specs.Check.{check}
 use Rattle.meaning.specs.State.{unbound}
 use Rattle.meaning.specs.Read.{sheet}
-use Rattle.meaning.specs.Walk.{Walk, listed}
-use Rattle.meaning.specs.Service.{scratchBytes, last, tree, unless, accepted, runs, evaluates, onward, steppedFrom, firsts, steps}
-use Rattle.meaning.specs.Lent.{isEarly}
+use Rattle.meaning.specs.Answer.{pack}
+use Rattle.meaning.specs.Walk.{Walk, listed, overwritten}
+use Rattle.meaning.specs.Service.{scratchBytes, last, tree, unless, accepted, checks, runs, evaluates, onward, steppedFrom, firsts, steps}
+use Rattle.meaning.specs.Lent.{zeroed, filled, isEarly, afterCheck, afterEvaluate, afterWalk}
 use Rattle.meaning.specs.Laws.Sure.{sure-meaning}
 
 -- ---- tests
@@ -68,6 +69,9 @@ module _ (table : List ℕ) (scratch : ℕ) where
     refuse-1 : {A : Type 0} (f : Final A) → unless (ltb scratch scratchBytes) 1 f ≡ refuses 1 0 0
     refuse-1 f = unless-true 1 f (ltb scratch scratchBytes) (lt-ltb scratch scratchBytes short)
 
+    pub checks-1 : checks scratch table ≡ refuses 1 0 0
+    checks-1 = refuse-1 _
+
     pub evaluates-1 : (buffer : ℕ) (l : List ℕ) → evaluates scratch buffer table l ≡ refuses 1 0 0
     evaluates-1 buffer l = refuse-1 _
 
@@ -93,6 +97,9 @@ module _ (table : List ℕ) (scratch : ℕ) where
       refuse-table : {A : Type 0} (f : ℕ → Final A) → accepted (check table) f ≡ refuses n p 0
       refuse-table f = ap (λ (c : Checked). accepted c f) no
 
+      pub checks-refused : checks scratch table ≡ refuses n p 0
+      checks-refused = past-1 _ ∙ refuse-table (λ k. result k)
+
       pub evaluates-refused : (buffer : ℕ) (l : List ℕ) → largest ≤ buffer → evaluates scratch buffer table l ≡ refuses n p 0
       evaluates-refused buffer l room = past-2 buffer _ room ∙ refuse-table _
 
@@ -106,6 +113,9 @@ module _ (table : List ℕ) (scratch : ℕ) where
     module _ (n : ℕ) (ok : check table ≡ Accepted n) where
       on : {A : Type 0} (f : ℕ → Final A) → unless (ltb scratch scratchBytes) 1 (accepted (check table) f) ≡ f n
       on f = past-1 (accepted (check table) f) ∙ ap (λ (c : Checked). accepted c f) ok
+
+      pub checks-accepted : checks scratch table ≡ result n
+      checks-accepted = on (λ k. result k)
 
       -- Evaluating. 10: a list longer than 64.
       module _ (buffer : ℕ) (l : List ℕ) (room : largest ≤ buffer) where
@@ -152,3 +162,26 @@ module _ (table : List ℕ) (scratch : ℕ) where
               steps-run within
               ∙ ap (λ x. steppedFrom (runs table x) (onward (nextList (tree table) x))) e
               ∙ complete-stepped table l (onward (nextList (tree table) l)) c
+
+-- ---- what is left
+
+-- A refusal other than 1 and 2 clears the scratch and the result buffer, and leaves the walk; success sets the result buffer or the walk.
+module _ (scratch : List ℕ) where
+  module _ (n p k : ℕ) (late : 3 ≤ n) where
+    pub check-left : afterCheck (refuses n p k) scratch ≡ record { answer = pack n p k; scratch = zeroed scratchBytes scratch }
+    check-left = ap (λ (b : Bool). record { answer = pack n p k; scratch = cond b scratch (zeroed scratchBytes scratch) }) (late-number n late)
+
+    pub evaluate-left : (buffer : List ℕ) → afterEvaluate (refuses n p k) scratch buffer ≡ record { answer = pack n p k; scratch = zeroed scratchBytes scratch; buffer = zeroed largest buffer }
+    evaluate-left buffer = ap (λ (b : Bool). record { answer = pack n p k; scratch = cond b scratch (zeroed scratchBytes scratch); buffer = cond b buffer (zeroed largest buffer) }) (late-number n late)
+
+    pub walk-left : (w : Walk) → afterWalk (refuses n p k) scratch w ≡ record { answer = pack n p k; scratch = zeroed scratchBytes scratch; walk = w }
+    walk-left w = ap (λ (b : Bool). record { answer = pack n p k; scratch = cond b scratch (zeroed scratchBytes scratch); walk = w }) (late-number n late)
+
+  pub check-done : (n : ℕ) → afterCheck (result n) scratch ≡ record { answer = pack 0 0 n; scratch = zeroed scratchBytes scratch }
+  check-done n = refl
+
+  pub evaluate-done : (v : Value) (buffer : List ℕ) → afterEvaluate (result v) scratch buffer ≡ record { answer = pack 0 0 0; scratch = zeroed scratchBytes scratch; buffer = filled largest (encode v) buffer }
+  evaluate-done v buffer = refl
+
+  pub walk-done : (l : List ℕ) (w : Walk) → afterWalk (result l) scratch w ≡ record { answer = pack 0 0 0; scratch = zeroed scratchBytes scratch; walk = overwritten l w }
+  walk-done l w = refl
