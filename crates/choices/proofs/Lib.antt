@@ -6,6 +6,7 @@ pub mod Paths
 pub mod Steps
 pub mod Cut
 pub mod Walk
+pub mod Parts
 pub mod Outcomes
 pub mod States
 pub mod Ran

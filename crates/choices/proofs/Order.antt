@@ -32,7 +32,7 @@ pub before-asym : (a b : List ℕ) → before a b → before b a → ⊥
 before-asym a b h k = before-irrefl a (before-trans a b a h k)
 
 -- Of two lists one stands before the other, or they are the same.
-before-total : (a b : List ℕ) → before a b ⊎ ((a ≡ b) ⊎ before b a)
+pub before-total : (a b : List ℕ) → before a b ⊎ ((a ≡ b) ⊎ before b a)
 before-total [] [] = inr (inl refl)
 before-total [] (y ∷ b) = inl tt
 before-total (x ∷ a) [] = inr (inr tt)
@@ -47,6 +47,27 @@ before-total (x ∷ a) (y ∷ b) = go (decLt x y) (decLt y x) (before-total a b)
         (λ w. inl (inr (e, w)))
         (⊎-elim (λ q. inr (inl (ap₂ (λ (z : ℕ) (m : List ℕ). z ∷ m) e q))) (λ w. inr (inr (inr (sym e, w)))))
         rest
+
+-- m begins with the entries l.
+abbrev pub Begins : List ℕ → List ℕ → Type 0
+Begins l m = (rest : List ℕ) × (m ≡ l ++ rest)
+
+-- What stands between two lists that begin alike begins so too.
+pub between-begins : (l a b c : List ℕ) → Begins l a → Begins l c → before a b → before b c → Begins l b
+between-begins l a b c h k p q = go l b (h .0) (k .0) (subst (λ (x : List ℕ). before x b) (h .1) p) (subst (λ (x : List ℕ). before b x) (k .1) q)
+  where
+    go : (l b u v : List ℕ) → before (l ++ u) b → before b (l ++ v) → Begins l b
+    go [] b u v p q = (b, refl)
+    go (x ∷ l) [] u v p q = absurd p
+    go (x ∷ l) (y ∷ b) u v (inl p) (inl q) = absurd (omega arith)
+    go (x ∷ l) (y ∷ b) u v (inl p) (inr q) = absurd (omega (arith, q .0))
+    go (x ∷ l) (y ∷ b) u v (inr p) (inl q) = absurd (omega (arith, p .0))
+    go (x ∷ l) (y ∷ b) u v (inr p) (inr q) = let w = go l b u v (p .1) (q .1) in (w .0, ap₂ (λ (z : ℕ) (m : List ℕ). z ∷ m) (sym (p .0)) (w .1))
+
+-- A later entry after the same beginning stands later.
+pub before-at : (l : List ℕ) (x y : ℕ) (u v : List ℕ) → x < y → before (l ++ x ∷ u) (l ++ y ∷ v)
+before-at [] x y u v h = inl h
+before-at (c ∷ l) x y u v h = inr (refl, before-at l x y u v h)
 
 -- ---- ascending
 

@@ -14,7 +14,7 @@ use Rattle.prelude.proofs.Membership.{in-left, in-right, in-joined}
 use Rattle.prelude.specs.Membership.{In}
 use Rattle.choices.specs.Tree.{Tree, give, stop, choose, Full, Outcome, Gives}
 use Rattle.choices.specs.Lists.{AscendingLists}
-use Rattle.choices.specs.Paths.{counts, prefixed, fan, paths, extend, consOr, raise}
+use Rattle.choices.specs.Paths.{counts, prefixed, fan, paths, extend, firstPath, consOr, raise}
 use Rattle.choices.proofs.Leaves.{Leaf, Prefix, outcomeAt}
 use Rattle.choices.proofs.Order.{asc-append}
 
@@ -98,6 +98,9 @@ extend-leaf (stop r p) [] f q = tt
 extend-leaf (stop r p) (c ∷ l) f q = absurd q
 extend-leaf (choose p n ways) [] f q = (f .0, extend-leaf (ways 0) [] (f .1 0 (f .0)) (prefix-nil (ways 0)))
 extend-leaf (choose p n ways) (c ∷ l) f q = (q .0, extend-leaf (ways c) l (f .1 c (q .0)) (q .1))
+
+pub first-leaf : {A : Type 0} (t : Tree A) → Full t → Leaf t (firstPath t)
+first-leaf t f = extend-leaf t [] f (prefix-nil t)
 
 pub outcome-extend : {A : Type 0} (t : Tree A) (l : List ℕ) → outcomeAt t (extend t l) ≡ outcomeAt t l
 outcome-extend (give a) l = refl

@@ -2,7 +2,7 @@
 -- All of it holds for every tree whose choices have a way each, also where some run meets one choice too many.
 use mathlib.Core.Path.{_≡_, refl, sym, ap, _∙_, subst}
 use mathlib.Core.Bool.{Bool, true, false, cond}
-use mathlib.Core.Logic.{_⊎_, inl, inr, _↔_}
+use mathlib.Core.Logic.{_⊎_, inl, inr, ⊎-elim, _↔_}
 use mathlib.Core.Option.{Option, none, some}
 use mathlib.Core.List.{List, [], _∷_}
 use Prim.Native.Nat.{ℕ, zero, suc, _≤_, _<_}
@@ -17,7 +17,7 @@ use Rattle.prelude.proofs.Membership.{at-in, in-at, in-take}
 use Rattle.choices.specs.Tree.{Tree, give, stop, choose, mostChoices, Full, Numbered, Run, gave, stopped, short, beyond, follow, run, Outcome, value, refusal, Final, result, refuses, final}
 use Rattle.choices.specs.Lists.{Ended, Complete, outcomeOf, before, CountBefore, First, Next}
 use Rattle.choices.specs.Paths.{cutAfter, allLists, firstList, nextList}
-use Rattle.choices.proofs.Order.{before-irrefl, before-asym, asc-take, take-before, before-take, asc-at, asc-same}
+use Rattle.choices.proofs.Order.{before-irrefl, before-asym, before-total, asc-take, take-before, before-take, asc-at, asc-same}
 use Rattle.choices.proofs.Paths.{paths-ascend}
 use Rattle.choices.proofs.Steps.{first-path, next-some, next-none}
 use Rattle.choices.proofs.Cut.{full-cut, complete-path}
@@ -29,6 +29,13 @@ count-unique t l j k a b =
     sym (a .number)
     ∙ ap length (asc-same (a .lists) (b .lists) (a .ascending) (b .ascending) (λ m. (λ h. b .exactly m .1 (a .exactly m .0 h), λ h. a .exactly m .1 (b .exactly m .0 h))))
     ∙ b .number
+
+pub first-unique : {A : Type 0} (t : Tree A) (l m : List ℕ) → First t l → First t m → l ≡ m
+first-unique t l m a b = ⊎-elim (λ h. absurd (b .least l (a .complete) h)) (⊎-elim (λ e. e) (λ h. absurd (a .least m (b .complete) h))) (before-total l m)
+
+pub next-unique : {A : Type 0} (t : Tree A) (l m n : List ℕ) → Next t l m → Next t l n → m ≡ n
+next-unique t l m n a b =
+    ⊎-elim (λ h. absurd (b .between m (a .complete) (a .after) h)) (⊎-elim (λ e. e) (λ h. absurd (a .between n (b .complete) (b .after) h))) (before-total m n)
 
 -- ---- complete lists by their index among the paths
 
@@ -128,6 +135,14 @@ module _ {A : Type 0} (t : Tree A) where
           go : ((m : List ℕ) → Complete t m → before l m → ⊥) → (o : Option (List ℕ)) → nextList t l ≡ o → o ≡ none
           go last none e = refl
           go last (some m) e = let n = next-list m e in absurd (last m (n .complete) (n .after))
+
+      -- A next complete list is found.
+      pub next-found : (m : List ℕ) → Next t l m → nextList t l ≡ some m
+      next-found m n = go (nextList t l) refl
+        where
+          go : (o : Option (List ℕ)) → nextList t l ≡ o → o ≡ some m
+          go none e = absurd (next-last .0 e m (n .complete) (n .after))
+          go (some x) e = ap some (next-unique t l x m (next-list x e) n)
 
 -- ---- lists that are complete, and others
 
