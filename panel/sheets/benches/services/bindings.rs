@@ -8,7 +8,7 @@ mod pattern;
 mod written;
 
 use generator::builder::kind;
-use generator::Builder;
+use generator::{Builder, Random};
 
 /// Patterns of a let, each with the value that it is matched with.
 const LETS: [(&str, &str); 22] = [
@@ -87,6 +87,38 @@ pub fn tables() -> Vec<(String, Vec<u8>)> {
         .chain(exists)
         .chain(chains)
         .collect()
+}
+
+/// Random unions of two to eight parts over seven members, in any shape: wildcards, distinct names, and sets of one and two of them.
+pub fn unions() -> Vec<(String, Vec<u8>)> {
+    let union = |seed| {
+        let mut random = Random::new(seed);
+        let mut names = ('a'..='p').collect();
+        let parts = 2 + random.below(7);
+        let pattern = union(&mut random, &mut names, parts);
+        row(kind::LET, &pattern, "{1,...,7}")
+    };
+    (0..200).map(union).collect()
+}
+
+fn union(random: &mut Random, names: &mut Vec<char>, parts: usize) -> String {
+    if parts > 1 {
+        let left = 1 + random.below(parts - 1);
+        let halves = [left, parts - left].map(|parts| match union(random, names, parts) {
+            half if parts > 1 => format!("({half})"),
+            half => half,
+        });
+        return halves.join(" union ");
+    }
+    let mut leaf = |random: &mut Random| match random.once_in(2) {
+        true => names.remove(0).to_string(),
+        false => "-".to_string(),
+    };
+    match random.below(3) {
+        0 => leaf(random),
+        1 => format!("{{{}}}", leaf(random)),
+        _ => format!("{{{},{}}}", leaf(random), leaf(random)),
+    }
 }
 
 fn row(kind: u16, pattern: &str, value: &str) -> (String, Vec<u8>) {

@@ -19,6 +19,8 @@ const FEWEST: usize = 11;
 const MOST: usize = 301;
 /// The least time of one measurement, so that the clock does not matter.
 const LEAST: Duration = Duration::from_micros(100);
+/// How many of the random unions are shown.
+const SLOWEST: usize = 10;
 
 /// The buffers that are lent.
 struct Lent {
@@ -304,6 +306,26 @@ fn slowest_refused() -> Vec<u8> {
     tables.into_iter().max_by_key(slowness).expect("a table")
 }
 
+/// Of the random unions those that are slowest against the second evaluator, by the least of a few runs.
+fn slowest_unions() -> Vec<Row> {
+    let mut lent = Lent::new();
+    let mut least = |work: Work| {
+        let mut work = work;
+        let times = (0..5).map(|_| time(&mut work, &mut lent, 1));
+        times.min().expect("a time").as_secs_f64()
+    };
+    let mut rows: Vec<(f64, Row)> = bindings::unions()
+        .into_iter()
+        .map(|(label, table)| {
+            let ours = least(&mut |lent| Ours::evaluate(lent, &table));
+            let second = least(&mut |lent| Second::evaluate(lent, &table));
+            (ours / second, Row::new(&label, Call::Evaluate, table))
+        })
+        .collect();
+    rows.sort_by(|one, other| other.0.total_cmp(&one.0));
+    rows.into_iter().map(|(_, row)| row).take(SLOWEST).collect()
+}
+
 fn rows() -> Vec<Row> {
     let mut rows = vec![
         Row::new(
@@ -326,6 +348,7 @@ fn rows() -> Vec<Row> {
             .into_iter()
             .map(|(label, table)| Row::new(&label, Call::Evaluate, table)),
     );
+    rows.extend(slowest_unions());
     rows
 }
 
