@@ -74,8 +74,8 @@ module _ {s : List ℕ} {at : ℕ} {z : ℤ} (a : At s at (integer z)) where
   index-of e = rw exact (index z (range-fits z (integer-range (a .fine))) (ap (λ (i : ℤ). ltZ i (pos 1)) (sym exact) ∙ e))
 
 module _ {s : List ℕ} {base : ℕ} {z : ℤ} (a : At s (base + second) (integer z)) where
-  pub item-off : ltZ (toZ w32 (ofZ w32 z)) (pos 1) ≡ true → OnArgument sequence s s base (Refused notThere)
-  item-off e = record {
+  pub found-off : ltZ (toZ w32 (ofZ w32 z)) (pos 1) ≡ true → OnArgument sequence s s base (Refused notThere)
+  found-off e = record {
     kept = kept-same s base;
     right = λ vs w v-at w-at.
         let d = ap (applyItems sequence vs) (one-value w-at a) in
@@ -86,8 +86,8 @@ module _ {s : List ℕ} {base : ℕ} {z : ℤ} (a : At s (base + second) (intege
     pub item-sought : Applicable sequence s base → Sought s base f
     item-sought h = record { to = _; value = _; finds = x sequence (h .held .items) (h .held .here) }
 
-    pub item-done : {t : List ℕ} {r : Applied} → Brings s t base f r → OnArgument sequence s t base r
-    item-done {t} {r} b = record {
+    pub found-done : {t : List ℕ} {r : Applied} → Brings s t base f r → OnArgument sequence s t base r
+    found-done {t} {r} b = record {
       kept = b .kept;
       right = λ vs w v-at w-at.
           let d = ap (applyItems sequence vs) (one-value w-at a) in

@@ -15,7 +15,7 @@ use Rattle.tables.specs.Record.{Record, named, operand}
 use Rattle.tables.specs.Table.{recordAt, kindAt}
 use Rattle.tables.specs.Sheet.{fold, some, isIn, parent}
 use Rattle.tables.specs.Check.{allNamed}
-use Rattle.tables.specs.Laws.Below.{Lower, fold-at, parent-higher}
+use Rattle.tables.specs.Laws.Below.{OperandsLower as Lower, fold-at, parent-higher}
 use Rattle.tables.specs.Laws.Tests.{in-append}
 use Rattle.tables.specs.Accepted.{records}
 use Rattle.tables.specs.Laws.Accepted.{Clear6, lower, operand-lower, operand-first, operand-parent}

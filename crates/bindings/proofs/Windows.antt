@@ -38,7 +38,7 @@ use Rattle.patterns.specs.Pattern.{Pattern, name, itemsOf, listOf, matches, wid
 use Rattle.patterns.specs.Binder.{bindings, Formed as Outcome, bound, refused, formed, few}
 use Rattle.patterns.specs.Laws.Forming.{formed-bound}
 use Rattle.patterns.specs.Laws.Ordered.{in-sorted}
-use Rattle.patterns.specs.Laws.Named.{named, Told, told}
+use Rattle.patterns.specs.Laws.Named.{holdsNamed as named, Told, told}
 use Rattle.patterns.specs.Laws.Matched.{matched, only-sized, list-items}
 use Rattle.patterns.specs.Laws.Plain.{plain-formed}
 use Rattle.patterns.specs.Read.{Readable, patternAt}

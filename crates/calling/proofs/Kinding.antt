@@ -12,7 +12,7 @@ use Rattle.values.specs.Place.{At, Holds}
 use Rattle.values.specs.Contract.{KindAt}
 use Rattle.values.proofs.Records.{one-value, is-boolean}
 use Rattle.operators.specs.Answer.{Answer, refused, wrongKind, asBoolean, asInteger, asKind, needs, needsBoth}
-use Rattle.operator_laws.proofs.OfKind.{boolean-not, integer-not, kind-is, kind-not, kind-view}
+use Rattle.operator_laws.proofs.OfKind.{boolean-not, integer-not, of-kind-is, kind-not, kind-view}
 use Rattle.calling.specs.declared.Applied.{Applied}
 use Rattle.calling.specs.declared.Applied.the-variants.{Refused}
 use Rattle.calling.specs.Scratch.{second, Kept}
@@ -41,7 +41,7 @@ module _ {s : List ℕ} {at k : ℕ} (read : KindAt s at k) where
 
   pub the-kind : (l : Kind) → k ≡ number l → Holds s at → (vs : Items) × At s at (collection l vs)
   the-kind l e h =
-      let i = kind-is l (h .value) (sym (read .right (h .value) (h .here)) ∙ e) in
+      let i = of-kind-is l (h .value) (sym (read .right (h .value) (h .here)) ∙ e) in
       (i .0, subst (λ (v : Value). At s at v) (i .1) (h .here))
 
 -- 20 where an operand is of another kind
@@ -101,8 +101,8 @@ has-two {s} {base} k l o c e =
     let a = o .left .here in
     let b = o .right .here in
     let p = and-eq-true-iff (eqb (kindOf v) (number k)) (eqb (kindOf w) (number l)) .0 (sym (c v w a b) ∙ e) in
-    let i = kind-is k v (eqb-true (kindOf v) (number k) (p .0)) in
-    let j = kind-is l w (eqb-true (kindOf w) (number l) (p .1)) in
+    let i = of-kind-is k v (eqb-true (kindOf v) (number k) (p .0)) in
+    let j = of-kind-is l w (eqb-true (kindOf w) (number l) (p .1)) in
     record {
       left = record { items = i .0; here = subst (λ (x : Value). At s base x) (i .1) a };
       right = record { items = j .0; here = subst (λ (x : Value). At s (base + second) x) (j .1) b };

@@ -40,8 +40,8 @@ at-each {P} {low} (p ▹ ps) k h g =
 
 -- ---- what is left of a run of numbers after some of them
 
-pub past : {k n : ℕ} → n ≤ k → (k ≡ n → ⊥) → suc n ≤ k
-past h f = omega (arith, f)
+pub past-next : {k n : ℕ} → n ≤ k → (k ≡ n → ⊥) → suc n ≤ k
+past-next h f = omega (arith, f)
 
 pub meet : {k n : ℕ} → k ≤ n → n ≤ k → k ≡ n
 meet h g = omega arith

@@ -13,7 +13,7 @@ use Rattle.tables.specs.Record.{Record, Head, name, shape, size, headOf, named,
 use Rattle.tables.specs.Table.{recordAt}
 use Rattle.tables.specs.Sheet.{isLoose}
 use Rattle.prelude.proofs.Truth.{by-lower}
-use Rattle.tables.specs.Laws.Below.{Lower, fold-at}
+use Rattle.tables.specs.Laws.Below.{OperandsLower as Lower, fold-at}
 use Rattle.tables.specs.Laws.Accepted.{fit-least, fit-known}
 use Rattle.checking.specs.Scopes.{orBits, orBitsAll, own, bitsBelow, Below}
 

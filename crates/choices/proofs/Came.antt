@@ -12,7 +12,7 @@ use Rattle.choices.specs.Lists.{Complete}
 use Rattle.choices.specs.Paths.{firstList, nextList}
 use Rattle.choices.specs.Runs.{runOn, settle, endedBy, Came}
 use Rattle.choices.proofs.Ran.{stateOf, ranAs, atEnd}
-use Rattle.choices.proofs.Runs.{bind-ran, bind-refused, chosen, state-as, run-final, run-complete}
+use Rattle.choices.proofs.Runs.{bind-ran, bind-refused, chosen-runs, state-as, run-final, run-complete}
 use Rattle.choices.proofs.States.{unless-none, unless-some, Holds, end-holds}
 use Rattle.choices.proofs.Stepping.{first-run, step-more}
 
@@ -27,16 +27,16 @@ came-stop r p s = record { right = refl; sound = s }
 -- A choice that was made.
 module _ {A : Type 0} (p : ℕ) (ways : ℕ → Tree A) {c : Choices} {n : ℕ} {k : Picked} (h : Chosen c n k) where
   pub came-taken : {i : ℕ} {f : Final A} {d : Choices} → k .answer ≡ Taken i → Came (ways i) (k .state) f d → Came (choose p n ways) c f d
-  came-taken {i} e w = record { right = chosen p ways c n k h (Taken i) e ∙ w .right; sound = w .sound }
+  came-taken {i} e w = record { right = chosen-runs p ways c n k h (Taken i) e ∙ w .right; sound = w .sound }
 
   pub came-many : k .answer ≡ Many → Came (choose p n ways) c (refuses 31 p 0) (k .state)
-  came-many e = record { right = chosen p ways c n k h Many e; sound = h .sound }
+  came-many e = record { right = chosen-runs p ways c n k h Many e; sound = h .sound }
 
   pub came-short : k .answer ≡ Short → Came (choose p n ways) c (refuses 32 p n) (k .state)
-  came-short e = record { right = chosen p ways c n k h Short e; sound = h .sound }
+  came-short e = record { right = chosen-runs p ways c n k h Short e; sound = h .sound }
 
   pub came-beyond : k .answer ≡ Beyond → Came (choose p n ways) c (refuses 33 p n) (k .state)
-  came-beyond e = record { right = chosen p ways c n k h Beyond e; sound = h .sound }
+  came-beyond e = record { right = chosen-runs p ways c n k h Beyond e; sound = h .sound }
 
 -- One run after another, and one that ends at a refusal.
 module _ {A B : Type 0} (t : Tree A) (g : A → Tree B) where

@@ -11,8 +11,8 @@ use borrow.Author.Tests.{lt-ltb, ltb-true}
 use Rattle.prelude.proofs.Absurd.{impossible}
 use Rattle.prelude.specs.Membership.{In}
 use Rattle.choices.specs.Tree.{Tree, give, stop, choose, mostChoices, Full, stopped, beyond, follow, run, Outcome, Gives}
-use Rattle.choices.specs.Lists.{Ended, Complete, outcomeOf}
-use Rattle.choices.proofs.Leaves.{NoMany, Leaf, outcomeAt, AtMost}
+use Rattle.choices.specs.Lists.{Ended, Complete, runOutcome}
+use Rattle.choices.proofs.Leaves.{NoMany, LeadsToLeaf, outcomeAt, AtMost}
 use Rattle.choices.specs.Paths.{cutAfter, allLists}
 use Rattle.choices.proofs.Paths.{leaf-in, in-leaf}
 
@@ -70,7 +70,7 @@ cons≢nil : {c : ℕ} {l : List ℕ} → _≡_ {A = List ℕ} (c ∷ l) [] → 
 cons≢nil e = impossible cc
 
 -- A path's run ends at its leaf, with no entry left.
-leaf-ended : {A : Type 0} (t : Tree A) (k : ℕ) (l : List ℕ) → AtMost k t → Leaf t l → Ended (follow t k l) × (outcomeOf (follow t k l) ≡ outcomeAt t l)
+leaf-ended : {A : Type 0} (t : Tree A) (k : ℕ) (l : List ℕ) → AtMost k t → LeadsToLeaf t l → Ended (follow t k l) × (runOutcome (follow t k l) ≡ outcomeAt t l)
 leaf-ended (give a) k [] w h = (refl, refl)
 leaf-ended (give a) k (c ∷ l) w h = absurd h
 leaf-ended (stop r p) k [] w h = (refl, refl)
@@ -79,7 +79,7 @@ leaf-ended (choose p n ways) zero l w h = absurd w
 leaf-ended (choose p n ways) (suc k) [] w h = absurd h
 leaf-ended (choose p n ways) (suc k) (c ∷ l) w h = rw (lt-ltb c n (h .0)) (leaf-ended (ways c) k l (w c (h .0)) (h .1))
 
-ended-leaf : {A : Type 0} (t : Tree A) (k : ℕ) (l : List ℕ) → AtMost k t → Ended (follow t k l) → Leaf t l
+ended-leaf : {A : Type 0} (t : Tree A) (k : ℕ) (l : List ℕ) → AtMost k t → Ended (follow t k l) → LeadsToLeaf t l
 ended-leaf (give a) k [] w h = tt
 ended-leaf (give a) k (c ∷ l) w h = absurd (cons≢nil h)
 ended-leaf (stop r p) k [] w h = tt
@@ -88,12 +88,12 @@ ended-leaf (choose p n ways) zero l w h = absurd w
 ended-leaf (choose p n ways) (suc k) [] w h = absurd h
 ended-leaf (choose p n ways) (suc k) (c ∷ l) w h = go (ltb c n) refl (λ lt e. ended-leaf (ways c) k l (w c lt) e) h
   where
-    go : (b : Bool) → ltb c n ≡ b → (c < n → Ended (follow (ways c) k l) → Leaf (ways c) l) → Ended (cond b (follow (ways c) k l) (beyond p n (c ∷ l))) → (c < n) × Leaf (ways c) l
+    go : (b : Bool) → ltb c n ≡ b → (c < n → Ended (follow (ways c) k l) → LeadsToLeaf (ways c) l) → Ended (cond b (follow (ways c) k l) (beyond p n (c ∷ l))) → (c < n) × LeadsToLeaf (ways c) l
     go true e rec d = (ltb-true c n e, rec (ltb-true c n e) d)
     go false e rec d = absurd d
 
 -- A path has no more entries than choices are allowed.
-leaf-length : {A : Type 0} (k : ℕ) (t : Tree A) (l : List ℕ) → AtMost k t → Leaf t l → length l ≤ k
+leaf-length : {A : Type 0} (k : ℕ) (t : Tree A) (l : List ℕ) → AtMost k t → LeadsToLeaf t l → length l ≤ k
 leaf-length k (give a) [] w h = omega arith
 leaf-length k (give a) (c ∷ l) w h = absurd h
 leaf-length k (stop r p) [] w h = omega arith
@@ -105,18 +105,18 @@ leaf-length (suc k) (choose p n ways) (c ∷ l) w h = omega (arith, leaf-length 
 -- ---- complete lists
 
 module _ {A : Type 0} (t : Tree A) (l : List ℕ) where
-  pub complete-leaf : Complete t l → Leaf (cutAfter mostChoices t) l
+  pub complete-leaf : Complete t l → LeadsToLeaf (cutAfter mostChoices t) l
   complete-leaf h = ended-leaf (cutAfter mostChoices t) mostChoices l (within-cut mostChoices t) (subst Ended (sym (follow-cut mostChoices t l)) h)
 
-  pub leaf-complete : Leaf (cutAfter mostChoices t) l → Complete t l
+  pub leaf-complete : LeadsToLeaf (cutAfter mostChoices t) l → Complete t l
   leaf-complete h = subst Ended (follow-cut mostChoices t l) (leaf-ended (cutAfter mostChoices t) mostChoices l (within-cut mostChoices t) h .0)
 
   -- A list is complete exactly when it is the path of a leaf of the cut tree.
   pub complete-path : Complete t l ↔ In l (allLists t)
   complete-path = (λ h. leaf-in (cutAfter mostChoices t) l (complete-leaf h), λ h. leaf-complete (in-leaf (cutAfter mostChoices t) l h))
 
-  pub complete-outcome : Complete t l → outcomeOf (run t l) ≡ outcomeAt (cutAfter mostChoices t) l
-  complete-outcome h = ap outcomeOf (sym (follow-cut mostChoices t l)) ∙ leaf-ended (cutAfter mostChoices t) mostChoices l (within-cut mostChoices t) (complete-leaf h) .1
+  pub complete-outcome : Complete t l → runOutcome (run t l) ≡ outcomeAt (cutAfter mostChoices t) l
+  complete-outcome h = ap runOutcome (sym (follow-cut mostChoices t l)) ∙ leaf-ended (cutAfter mostChoices t) mostChoices l (within-cut mostChoices t) (complete-leaf h) .1
 
   -- A complete list has at most 64 entries.
   pub complete-length : Complete t l → length l ≤ mostChoices

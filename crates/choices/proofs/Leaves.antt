@@ -8,13 +8,13 @@ use Rattle.choices.specs.Tree.{Tree, give, stop, choose, mostChoices, st
 -- ---- lists that lead into a tree
 
 -- l leads to a leaf.
-abbrev pub Leaf : {A : Type 0} → Tree A → List ℕ → Type 0
-Leaf (give a) [] = Unit {0}
-Leaf (give a) (c ∷ l) = ⊥
-Leaf (stop r p) [] = Unit {0}
-Leaf (stop r p) (c ∷ l) = ⊥
-Leaf (choose p n ways) [] = ⊥
-Leaf (choose p n ways) (c ∷ l) = (c < n) × Leaf (ways c) l
+abbrev pub LeadsToLeaf : {A : Type 0} → Tree A → List ℕ → Type 0
+LeadsToLeaf (give a) [] = Unit {0}
+LeadsToLeaf (give a) (c ∷ l) = ⊥
+LeadsToLeaf (stop r p) [] = Unit {0}
+LeadsToLeaf (stop r p) (c ∷ l) = ⊥
+LeadsToLeaf (choose p n ways) [] = ⊥
+LeadsToLeaf (choose p n ways) (c ∷ l) = (c < n) × LeadsToLeaf (ways c) l
 
 -- l leads into the tree, and not past a leaf.
 abbrev pub Prefix : {A : Type 0} → Tree A → List ℕ → Type 0

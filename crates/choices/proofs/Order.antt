@@ -49,14 +49,14 @@ before-total (x ∷ a) (y ∷ b) = go (decLt x y) (decLt y x) (before-total a b)
         rest
 
 -- m begins with the entries l.
-abbrev pub Begins : List ℕ → List ℕ → Type 0
-Begins l m = (rest : List ℕ) × (m ≡ l ++ rest)
+abbrev pub BeginsWith : List ℕ → List ℕ → Type 0
+BeginsWith l m = (rest : List ℕ) × (m ≡ l ++ rest)
 
 -- What stands between two lists that begin alike begins so too.
-pub between-begins : (l a b c : List ℕ) → Begins l a → Begins l c → before a b → before b c → Begins l b
+pub between-begins : (l a b c : List ℕ) → BeginsWith l a → BeginsWith l c → before a b → before b c → BeginsWith l b
 between-begins l a b c h k p q = go l b (h .0) (k .0) (subst (λ (x : List ℕ). before x b) (h .1) p) (subst (λ (x : List ℕ). before b x) (k .1) q)
   where
-    go : (l b u v : List ℕ) → before (l ++ u) b → before b (l ++ v) → Begins l b
+    go : (l b u v : List ℕ) → before (l ++ u) b → before b (l ++ v) → BeginsWith l b
     go [] b u v p q = (b, refl)
     go (x ∷ l) [] u v p q = absurd p
     go (x ∷ l) (y ∷ b) u v (inl p) (inl q) = absurd (omega arith)

@@ -7,7 +7,7 @@ use Prim.Native.Nat.{ℕ, zero, suc}
 use lib.Dec.{ltb}
 use borrow.Author.Tests.{ltb-true}
 use Rattle.choices.specs.Tree.{Tree, give, stop, choose, mostChoices, Run, gave, stopped, short, beyond, follow, run, Outcome, value, refusal, Gives}
-use Rattle.choices.specs.Lists.{Complete, outcomeOf}
+use Rattle.choices.specs.Lists.{Complete, runOutcome}
 use Rattle.choices.proofs.Leaves.{NoMany}
 use Rattle.choices.specs.Paths.{cutAfter}
 use Rattle.choices.proofs.Paths.{gives-leaf}
@@ -15,7 +15,7 @@ use Rattle.choices.proofs.Cut.{complete-leaf, leaf-complete, complete-o
 
 -- Some complete list's run has the outcome o.
 abbrev pub Reached : {A : Type 0} → Tree A → Outcome A → Type 0
-Reached t o = (l : List ℕ) × Complete t l × (o ≡ outcomeOf (run t l))
+Reached t o = (l : List ℕ) × Complete t l × (o ≡ runOutcome (run t l))
 
 -- The complete lists reach what the cut tree gives.
 gives-cut-reached : {A : Type 0} (t : Tree A) (o : Outcome A) → Gives (cutAfter mostChoices t) o ↔ Reached t o

@@ -15,7 +15,7 @@ use Rattle.prelude.specs.Membership.{In}
 use Rattle.choices.specs.Tree.{Tree, give, stop, choose, Full, Outcome, Gives}
 use Rattle.choices.specs.Lists.{AscendingLists}
 use Rattle.choices.specs.Paths.{counts, prefixed, fan, paths, extend, firstPath, consOr, raise}
-use Rattle.choices.proofs.Leaves.{Leaf, Prefix, outcomeAt}
+use Rattle.choices.proofs.Leaves.{LeadsToLeaf, Prefix, outcomeAt}
 use Rattle.choices.proofs.Order.{asc-append}
 
 -- ---- paths and leaves
@@ -46,7 +46,7 @@ fan-in c (suc m) h l e =
     (λ b. let w = fan-in (suc c) m h l b in (w .0, w .1, w .2, omega (arith, w .3), omega (arith, w .4), w .5))
     (in-joined l (prefixed c (h c)) (fan (suc c) m h) e)
 
-pub leaf-in : {A : Type 0} (t : Tree A) (l : List ℕ) → Leaf t l → In l (paths t)
+pub leaf-in : {A : Type 0} (t : Tree A) (l : List ℕ) → LeadsToLeaf t l → In l (paths t)
 leaf-in (give a) [] h = inl refl
 leaf-in (give a) (c ∷ l) h = absurd h
 leaf-in (stop r p) [] h = inl refl
@@ -54,7 +54,7 @@ leaf-in (stop r p) (c ∷ l) h = absurd h
 leaf-in (choose p n ways) [] h = absurd h
 leaf-in (choose p n ways) (c ∷ l) h = in-fan 0 n (λ i. paths (ways i)) c l (omega arith) (omega (arith, h .0)) (leaf-in (ways c) l (h .1))
 
-pub in-leaf : {A : Type 0} (t : Tree A) (l : List ℕ) → In l (paths t) → Leaf t l
+pub in-leaf : {A : Type 0} (t : Tree A) (l : List ℕ) → In l (paths t) → LeadsToLeaf t l
 in-leaf (give a) l (inl e) = rw e tt
 in-leaf (give a) l (inr h) = absurd h
 in-leaf (stop r p) l (inl e) = rw e tt
@@ -91,7 +91,7 @@ prefix-nil (stop r p) = tt
 prefix-nil (choose p n ways) = tt
 
 -- Entries that lead into the tree, and then zeros, lead to a leaf.
-pub extend-leaf : {A : Type 0} (t : Tree A) (l : List ℕ) → Full t → Prefix t l → Leaf t (extend t l)
+pub extend-leaf : {A : Type 0} (t : Tree A) (l : List ℕ) → Full t → Prefix t l → LeadsToLeaf t (extend t l)
 extend-leaf (give a) [] f q = tt
 extend-leaf (give a) (c ∷ l) f q = absurd q
 extend-leaf (stop r p) [] f q = tt
@@ -99,7 +99,7 @@ extend-leaf (stop r p) (c ∷ l) f q = absurd q
 extend-leaf (choose p n ways) [] f q = (f .0, extend-leaf (ways 0) [] (f .1 0 (f .0)) (prefix-nil (ways 0)))
 extend-leaf (choose p n ways) (c ∷ l) f q = (q .0, extend-leaf (ways c) l (f .1 c (q .0)) (q .1))
 
-pub first-leaf : {A : Type 0} (t : Tree A) → Full t → Leaf t (firstPath t)
+pub first-leaf : {A : Type 0} (t : Tree A) → Full t → LeadsToLeaf t (firstPath t)
 first-leaf t f = extend-leaf t [] f (prefix-nil t)
 
 pub outcome-extend : {A : Type 0} (t : Tree A) (l : List ℕ) → outcomeAt t (extend t l) ≡ outcomeAt t l
@@ -113,7 +113,7 @@ pub raise-case : (n c : ℕ) (m : List ℕ) (b : Bool) → ltb (suc c) n ≡ b �
 raise-case n c m true e h = (ltb-true (suc c) n e, cc)
 raise-case n c m false e h = impossible cc
 
-pub raise-prefix : {A : Type 0} (t : Tree A) (l m : List ℕ) → Leaf t l → raise l (counts t l) ≡ some m → Prefix t m
+pub raise-prefix : {A : Type 0} (t : Tree A) (l m : List ℕ) → LeadsToLeaf t l → raise l (counts t l) ≡ some m → Prefix t m
 raise-prefix (give a) [] m h e = impossible cc
 raise-prefix (give a) (c ∷ l) m h e = absurd h
 raise-prefix (stop r p) [] m h e = impossible cc
@@ -128,15 +128,15 @@ raise-prefix (choose p n ways) (c ∷ l) m h e = go (raise l (counts (ways c) l)
 -- ---- outcomes
 
 -- What a tree gives is what stands at the end of its paths.
-pub gives-leaf : {A : Type 0} (t : Tree A) (o : Outcome A) → Gives t o ↔ ((l : List ℕ) × Leaf t l × (o ≡ outcomeAt t l))
+pub gives-leaf : {A : Type 0} (t : Tree A) (o : Outcome A) → Gives t o ↔ ((l : List ℕ) × LeadsToLeaf t l × (o ≡ outcomeAt t l))
 gives-leaf {A} t o = (out t, λ w. back t (w .0) (w .1) (w .2))
   where
-    out : (t : Tree A) → Gives t o → (l : List ℕ) × Leaf t l × (o ≡ outcomeAt t l)
+    out : (t : Tree A) → Gives t o → (l : List ℕ) × LeadsToLeaf t l × (o ≡ outcomeAt t l)
     out (give a) h = ([], tt, h)
     out (stop r p) h = ([], tt, h)
     out (choose p n ways) h = let w = out (ways (h .0)) (h .2) in (h .0 ∷ w .0, (h .1, w .1), w .2)
 
-    back : (t : Tree A) (l : List ℕ) → Leaf t l → o ≡ outcomeAt t l → Gives t o
+    back : (t : Tree A) (l : List ℕ) → LeadsToLeaf t l → o ≡ outcomeAt t l → Gives t o
     back (give a) l h e = e
     back (stop r p) l h e = e
     back (choose p n ways) [] h e = absurd h

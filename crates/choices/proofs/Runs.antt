@@ -13,9 +13,9 @@ use Rattle.choices.specs.State.{Choices, Picked, View, view, fresh, answ
 use Rattle.choices.specs.declared.Answer.{Answer}
 use Rattle.choices.specs.declared.Answer.the-variants.{Taken, Many, Short, Beyond}
 use Rattle.choices.specs.Tree.{Tree, give, stop, choose, bind, mostChoices, Full, Numbered, Run, gave, stopped, short, beyond, follow, run, Outcome, value, refusal, refuses, unlessLeft, final}
-use Rattle.choices.specs.Lists.{Ended, Complete, outcomeOf}
+use Rattle.choices.specs.Lists.{Ended, Complete, runOutcome}
 use Rattle.choices.specs.Paths.{counts, extend, cutAfter}
-use Rattle.choices.proofs.Leaves.{Leaf, Prefix, outcomeAt, AtMost}
+use Rattle.choices.proofs.Leaves.{LeadsToLeaf, Prefix, outcomeAt, AtMost}
 use Rattle.choices.specs.Runs.{Ran, ran, refused, onAnswer, runOn, settle}
 use Rattle.choices.proofs.Ran.{stateOf, further, ranAs, trail, atEnd}
 use Rattle.choices.proofs.Paths.{prefix-nil, extend-leaf, outcome-extend}
@@ -52,8 +52,8 @@ pub bind-refused : {A B : Type 0} (t : Tree A) (f : A → Tree B) (v w : View) (
 bind-refused {A} {B} t f v w r p n e = runOn-bind t f v ∙ ap (λ (r : Ran A). further {B = B} r (λ b u. runOn (f b) u)) e
 
 -- A choice that the code made, by its answer: on with the way taken, or 31, 32 or 33.
-pub chosen : {A : Type 0} (p : ℕ) (ways : ℕ → Tree A) (c : Choices) (n : ℕ) (r : Picked) → Chosen c n r → (a : Answer) → r .answer ≡ a → runOn (choose p n ways) (view c) ≡ onAnswer a p n (view (r .state)) (λ i. runOn (ways i) (view (r .state)))
-chosen {A} p ways c n r k a e =
+pub chosen-runs : {A : Type 0} (p : ℕ) (ways : ℕ → Tree A) (c : Choices) (n : ℕ) (r : Picked) → Chosen c n r → (a : Answer) → r .answer ≡ a → runOn (choose p n ways) (view c) ≡ onAnswer a p n (view (r .state)) (λ i. runOn (ways i) (view (r .state)))
+chosen-runs {A} p ways c n r k a e =
     ap (λ (b : Answer). onAnswer b p n (view c) (λ i. runOn (ways i) (afterwards (view c) n (Taken i)))) (sym (k .answered) ∙ e)
     ∙ same a
     ∙ ap (λ (v : View). onAnswer a p n v (λ i. runOn (ways i) v)) (sym (k .viewed ∙ ap (afterwards (view c) n) e))
@@ -160,7 +160,7 @@ ended-step : {A : Type 0} (p n : ℕ) (ways : ℕ → Tree A) (c : ℕ) (l past 
 unfolding ended-view
 ended-step p n ways c l past met g = λ i. record { past = append-snoc past c l i; met = append-snoc met n (counts (ways c) l) i; left = []; grow = g }
 
-trail-leaf : {A : Type 0} (t : Tree A) (k : ℕ) (past met l : List ℕ) → Leaf (cutAfter k t) l → trail t k past met l ≡ ended-view (cutAfter k t) past met l false
+trail-leaf : {A : Type 0} (t : Tree A) (k : ℕ) (past met l : List ℕ) → LeadsToLeaf (cutAfter k t) l → trail t k past met l ≡ ended-view (cutAfter k t) past met l false
 unfolding ended-view
 trail-leaf (give a) k past met [] h = simp append-nil
 trail-leaf (give a) k past met (c ∷ l) h = absurd h
@@ -209,7 +209,7 @@ run-within (choose p n ways) (suc k) past met (c ∷ l) f w q e =
     (run-within (ways c) k (past ++ c ∷ []) (met ++ n ∷ []) l (f .1 c (q .0)) (w c (q .0)) (q .1) (simp length-append (omega arith))
     ∙ ap (finish (outcomeAt (ways c) l)) (ended-step p n ways c (extend (ways c) l) past met true))
 
-finish-ended : {A : Type 0} (r : Run A) (v : View) → Ended r → finish (outcomeOf r) v ≡ ranAs r v
+finish-ended : {A : Type 0} (r : Run A) (v : View) → Ended r → finish (runOutcome r) v ≡ ranAs r v
 finish-ended (gave a k l) v h = refl
 finish-ended (stopped r p l) v h = refl
 finish-ended (short p n) v h = absurd h

@@ -24,14 +24,14 @@ left-nil e used len h = drop-of-length-le (take len e) {i = used} (simp length-t
 
 module _ (c : Choices) (s : Invariant c) where
   -- A test of the numbers tells whether entries are left.
-  pub left-none : c .len ≤ c .used → view c .left ≡ []
-  left-none h = left-nil (c .entries) (c .used) (c .len) h
+  pub nothing-left : c .len ≤ c .used → view c .left ≡ []
+  nothing-left h = left-nil (c .entries) (c .used) (c .len) h
 
   left-some : c .used < c .len → view c .left ≡ getD (c .entries) (c .used) 0 ∷ drop (suc (c .used)) (take (c .len) (c .entries))
   left-some h = left-cons (c .entries) (c .used) (c .len) h (omega arith)
 
   pub unless-none : {A : Type 0} (p : ℕ) (f : Final A) → c .len ≤ c .used → unlessLeft (view c .left) p f ≡ f
-  unless-none p f h = rw (left-none h)
+  unless-none p f h = rw (nothing-left h)
 
   pub unless-some : {A : Type 0} (p : ℕ) (f : Final A) → c .used < c .len → unlessLeft (view c .left) p f ≡ refuses 34 p 0
   unless-some p f h = rw (left-some h)

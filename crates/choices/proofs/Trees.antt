@@ -29,18 +29,18 @@ bind-assoc (choose p n ways) f g = λ i. choose p n (λ c. bind-assoc (ways c) f
 -- ---- following
 
 -- A run goes on where it gave a value.
-abbrev pub onward : {A B : Type 0} → Run A → (A → ℕ → List ℕ → Run B) → Run B
-onward (gave a k l) f = f a k l
-onward (stopped r p l) f = stopped r p l
-onward (short p n) f = short p n
-onward (beyond p n l) f = beyond p n l
+abbrev pub thenRun : {A B : Type 0} → Run A → (A → ℕ → List ℕ → Run B) → Run B
+thenRun (gave a k l) f = f a k l
+thenRun (stopped r p l) f = stopped r p l
+thenRun (short p n) f = short p n
+thenRun (beyond p n l) f = beyond p n l
 
-onward-cond : {A B : Type 0} (b : Bool) (r s : Run A) (f : A → ℕ → List ℕ → Run B) → onward (cond b r s) f ≡ cond b (onward r f) (onward s f)
+onward-cond : {A B : Type 0} (b : Bool) (r s : Run A) (f : A → ℕ → List ℕ → Run B) → thenRun (cond b r s) f ≡ cond b (thenRun r f) (thenRun s f)
 onward-cond true r s f = refl
 onward-cond false r s f = refl
 
 -- Following one after the other: the second from the choices and entries that the first left.
-pub follow-bind : {A B : Type 0} (t : Tree A) (f : A → Tree B) (k : ℕ) (l : List ℕ) → follow (bind t f) k l ≡ onward (follow t k l) (λ a k′ l′. follow (f a) k′ l′)
+pub follow-bind : {A B : Type 0} (t : Tree A) (f : A → Tree B) (k : ℕ) (l : List ℕ) → follow (bind t f) k l ≡ thenRun (follow t k l) (λ a k′ l′. follow (f a) k′ l′)
 follow-bind (give a) f k l = refl
 follow-bind (stop r p) f k l = refl
 follow-bind (choose p n ways) f zero l = refl

@@ -15,7 +15,7 @@ use borrow.Author.Tests.{ltb-true}
 use Rattle.prelude.proofs.Absurd.{impossible}
 use Rattle.prelude.proofs.Membership.{at-in, in-at, in-take}
 use Rattle.choices.specs.Tree.{Tree, give, stop, choose, mostChoices, Full, Numbered, Run, gave, stopped, short, beyond, follow, run, Outcome, value, refusal, Final, result, refuses, final}
-use Rattle.choices.specs.Lists.{Ended, Complete, outcomeOf, before, CountBefore, First, Next}
+use Rattle.choices.specs.Lists.{Ended, Complete, runOutcome, before, CountBefore, First, Next}
 use Rattle.choices.specs.Paths.{cutAfter, allLists, firstList, nextList}
 use Rattle.choices.proofs.Order.{before-irrefl, before-asym, before-total, asc-take, take-before, before-take, asc-at, asc-same}
 use Rattle.choices.proofs.Paths.{paths-ascend}
@@ -167,7 +167,7 @@ abbrev pub finalOf : {A : Type 0} → Outcome A → Final A
 finalOf (value a) = result a
 finalOf (refusal r p) = refuses r p 0
 
-ended-final : {A : Type 0} (last : ℕ) (r : Run A) → Ended r → final last r ≡ finalOf (outcomeOf r)
+ended-final : {A : Type 0} (last : ℕ) (r : Run A) → Ended r → final last r ≡ finalOf (runOutcome r)
 ended-final last (gave a k []) h = refl
 ended-final last (gave a k (c ∷ l)) h = impossible cc
 ended-final last (stopped r p []) h = refl
@@ -176,7 +176,7 @@ ended-final last (short p n) h = absurd h
 ended-final last (beyond p n l) h = absurd h
 
 -- A complete list answers its outcome.
-pub complete-final : {A : Type 0} (t : Tree A) (l : List ℕ) (last : ℕ) → Complete t l → final last (run t l) ≡ finalOf (outcomeOf (run t l))
+pub complete-final : {A : Type 0} (t : Tree A) (l : List ℕ) (last : ℕ) → Complete t l → final last (run t l) ≡ finalOf (runOutcome (run t l))
 complete-final t l last h = ended-final last (run t l) h
 
 -- A run that is stopped is stopped by one of 20 to 31.

@@ -19,11 +19,11 @@ abbrev pub Complete : {A : Type 0} → Tree A → List ℕ → Type 0
 Complete t l = Ended (run t l)
 
 -- The outcome of a run: its value or refusal.
-abbrev pub outcomeOf : {A : Type 0} → Run A → Outcome A
-outcomeOf (gave a k l) = value a
-outcomeOf (stopped r p l) = refusal r p
-outcomeOf (short p n) = refusal 32 p
-outcomeOf (beyond p n l) = refusal 33 p
+abbrev pub runOutcome : {A : Type 0} → Run A → Outcome A
+runOutcome (gave a k l) = value a
+runOutcome (stopped r p l) = refusal r p
+runOutcome (short p n) = refusal 32 p
+runOutcome (beyond p n l) = refusal 33 p
 
 -- Dictionary order: by the first entry that differs, a prefix first.
 abbrev pub before : List ℕ → List ℕ → Type 0

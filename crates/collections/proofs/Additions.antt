@@ -94,8 +94,8 @@ module _ {s : List ℕ} {at p x : ℕ} (slot : Slot s at p x) {n m : ℕ} (en : 
       go (inl b) = let low = slot .low in inl (omega arith)
       go (inr b) = inr (omega arith)
 
-  pub add-done : n + m ≤ valueLimit → {t u : List ℕ} {kind : ℕ} → Fills s t p (at + n) x → PutHead t u at (n + m) kind → AddsAt s u at p x kind Put
-  add-done h {t} {u} f q =
+  pub addition-done : n + m ≤ valueLimit → {t u : List ℕ} {kind : ℕ} → Fills s t p (at + n) x → PutHead t u at (n + m) kind → AddsAt s u at p x kind Put
+  addition-done h {t} {u} f q =
       let r = slot .room in
       let low = slot .low in
       let high = slot .high in

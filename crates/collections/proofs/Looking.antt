@@ -73,8 +73,8 @@ module _ (s : List ℕ) (at x : ℕ) (entries : Bool) where
 
 -- ---- where seeking starts
 
-pub onward : {s : List ℕ} {at x p : ℕ} {entries : Bool} → Looking s at x entries p true → SeeksOn s at x entries p
-onward w = record { from = w .from; left = λ k vs h. let l = w .whole k vs h in (l .rest, l .here, l .so) }
+pub looks-on : {s : List ℕ} {at x p : ℕ} {entries : Bool} → Looking s at x entries p true → SeeksOn s at x entries p
+looks-on w = record { from = w .from; left = λ k vs h. let l = w .whole k vs h in (l .rest, l .here, l .so) }
 
 pub looked : {s : List ℕ} {at x p : ℕ} {entries : Bool} → SeeksOn s at x entries p → Looking s at x entries p true
 looked o = record { from = o .from; whole = λ k vs h. let (rest, here, so) = o .left k vs h in record { rest = rest; here = here; so = so } }

@@ -14,7 +14,7 @@ use Rattle.choices.specs.Tree.{Tree, give, stop, choose, bind, mostChoices, Fin
 use Rattle.choices.specs.Runs.{Came}
 use Rattle.choices.proofs.Came.{came-taken, came-many, came-short, came-beyond}
 use Rattle.patterns.specs.Binding.{Binding, nothing}
-use Rattle.meaning.specs.Meaning.{chosen, matched, satisfied}
+use Rattle.meaning.specs.Meaning.{chosenBinding as chosen, matched, satisfied}
 use Rattle.evaluator.specs.Binding.{first, dueIn, answerNumber, answerCount, IsTaken}
 
 -- ---- what is chosen

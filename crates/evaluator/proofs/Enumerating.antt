@@ -30,7 +30,7 @@ use Rattle.tables.specs.Reading.{HasOperand}
 use Rattle.calling.specs.Scratch.{Kept}
 use Rattle.calling.proofs.Framing.{kept-outside, kept-then, kept-less, kept-same}
 use Rattle.meaning.specs.State.{State}
-use Rattle.meaning.specs.Meaning.{Evaluates, at, allOf, enumerated}
+use Rattle.meaning.specs.Meaning.{Evaluation as Evaluates, at, allOf, enumerated}
 use Rattle.evaluator.specs.declared.Outcome.{Outcome}
 use Rattle.evaluator.specs.declared.Outcome.the-variants.{Value as HasValue}
 use Rattle.parts.specs.declared.words.Env.{Env}

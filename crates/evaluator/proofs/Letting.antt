@@ -21,7 +21,7 @@ use Rattle.patterns.specs.Pattern.{loose}
 use Rattle.calling.specs.Scratch.{Kept}
 use Rattle.calling.proofs.Framing.{kept-then, copyable-down, copied-kept}
 use Rattle.meaning.specs.State.{State, under}
-use Rattle.meaning.specs.Meaning.{chosen}
+use Rattle.meaning.specs.Meaning.{chosenBinding as chosen}
 use Rattle.evaluator.specs.declared.Outcome.{Outcome}
 use Rattle.evaluator.specs.declared.Outcome.the-variants.{Value as HasValue, Refused}
 use Rattle.bindings.specs.declared.Cursor.{Cursor}

@@ -31,7 +31,7 @@ use Rattle.patterns.specs.Pattern.{Pattern, loose, listOf}
 use Rattle.patterns.specs.Binder.{Formed, bound, refused as unformed, formed}
 use Rattle.meaning.specs.Node.{Node, Quantifier, forall, exists, exists1, truth, whole, named, unaryOf, binaryOf, connective, if, enumeration, range, let-in, let-be, quantified, iota, set-comprehension, sequence-comprehension, map-comprehension, application, no-expression}
 use Rattle.meaning.specs.State.{State, under, valueIn}
-use Rattle.meaning.specs.Meaning.{Evaluates, enumerated, at, builtAt, orElse, allOf, rightOf, isTrue, formedAt, membersAt, bindingsOf, holds, satisfying, matched, untilFalse, untilTrue, quantify, unique, collected, addOne, addPair, integersAt, integerBindings, means, patternName}
+use Rattle.meaning.specs.Meaning.{Evaluation as Evaluates, enumerated, at, builtAt, orElse, allOf, rightOf, isTrue, formedAt, membersAt, bindingsOf, holds, satisfying, matched, untilFalse, untilTrue, quantify, unique, collected, addOne, addPair, integersAt, integerBindings, means, patternName}
 use Rattle.meaning.specs.Laws.Equation.{covered, Each, meaning-is, plainOperands}
 use Rattle.meaning.specs.Read.{nodes, none, nodeOf, binaryNode, sheet}
 use Rattle.meaning.specs.Laws.Proper.{Proper, inside, downward}

@@ -14,7 +14,7 @@ use Rattle.choices.specs.Runs.{Came}
 use Rattle.choices.proofs.Trees.{bind-give, bind-assoc, bind-cong}
 use Rattle.patterns.specs.Binding.{Binding, nothing}
 use Rattle.meaning.specs.State.{State}
-use Rattle.meaning.specs.Meaning.{Evaluates, holds, satisfying}
+use Rattle.meaning.specs.Meaning.{Evaluation as Evaluates, holds, satisfying}
 use Rattle.evaluator.specs.Binding.{Marks, counting, marking}
 use Rattle.evaluator.proofs.Leading.{Leads, leads-as, leads-then, leads-off}
 

@@ -11,7 +11,7 @@ use Rattle.choices.proofs.Trees.{bind-assoc, bind-cong}
 use Rattle.patterns.specs.Binding.{Binding}
 use Rattle.meaning.specs.Node.{Quantifier, forall, exists}
 use Rattle.meaning.specs.State.{State}
-use Rattle.meaning.specs.Meaning.{Evaluates, holds, untilFalse, untilTrue, quantify}
+use Rattle.meaning.specs.Meaning.{Evaluation as Evaluates, holds, untilFalse, untilTrue, quantify}
 use Rattle.evaluator.proofs.Leading.{Leads, leads-as, leads-then, leads-off}
 
 -- What stops at the first such truth.

@@ -46,7 +46,7 @@ use Rattle.tables.specs.Accepted.{records}
 use Rattle.calling.specs.declared.Applied.{Applied}
 use Rattle.calling.specs.Applied.{OnTwo}
 use Rattle.calling.proofs.Framing.{kept-same, kept-outside, put-kept}
-use Rattle.meaning.specs.State.{State, held}
+use Rattle.meaning.specs.State.{State, heldValue as held}
 use Rattle.meaning.specs.Meaning.{orElse}
 use Rattle.evaluator.specs.declared.Outcome.the-variants.{Value as HasValue, Refused}
 use Rattle.parts.specs.declared.words.Env.{Env}

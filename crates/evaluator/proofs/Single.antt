@@ -28,7 +28,7 @@ use Rattle.patterns.specs.Ways.{gather}
 use Rattle.patterns.specs.Laws.Members.{in-gather}
 use Rattle.prelude.proofs.Membership.{at-in}
 use Rattle.patterns.specs.Laws.Ordered.{in-sorted}
-use Rattle.patterns.specs.Laws.Named.{named as names-of, Told, told}
+use Rattle.patterns.specs.Laws.Named.{holdsNamed as names-of, Told, told}
 use Rattle.patterns.specs.Pattern.{Pattern, name, matches}
 use Rattle.patterns.specs.Binder.{bindings}
 use Rattle.patterns.specs.Laws.Forming.{formed-bound}
@@ -40,7 +40,7 @@ use Rattle.parts.proofs.Laws.{part-longer}
 use Rattle.patterns.specs.Laws.Nodes.{is-name, pattern-at}
 use Rattle.calling.specs.Scratch.{Kept}
 use Rattle.calling.proofs.Framing.{kept-outside, kept-then, kept-less, put-kept, copyable-down, copied-kept}
-use Rattle.meaning.specs.State.{valueIn, held}
+use Rattle.meaning.specs.State.{valueIn, heldValue as held}
 use Rattle.meaning.specs.Meaning.{orElse, unique, patternName}
 use Rattle.evaluator.specs.declared.Outcome.the-variants.{Value as HasValue}
 use Rattle.bindings.specs.declared.Cursor.{Cursor}

@@ -29,6 +29,7 @@ use Rattle.patterns.specs.Laws.Matched.{list-items}
 use Rattle.parts.specs.Part.{CellIs}
 use Rattle.calling.specs.Scratch.{Kept}
 use Rattle.meaning.specs.State.{State, over, under}
+use Rattle.meaning.specs.Laws.Reads.{under-length}
 use Rattle.bindings.specs.declared.Cursor.{Cursor}
 use Rattle.parts.specs.declared.words.Env.{Env}
 use Rattle.parts.specs.Word.{unpacked}
@@ -71,12 +72,6 @@ under-cell (c ∷ cs) [] zero l = refl
 under-cell (c ∷ cs) [] (suc x) l = refl
 under-cell (c ∷ cs) (d ∷ ds) zero l = refl
 under-cell (c ∷ cs) (d ∷ ds) (suc x) l = under-cell cs ds x (omega arith)
-
-under-length : (ρ b : State) → length (under ρ b) ≡ length ρ
-unfolding under
-under-length [] b = refl
-under-length (c ∷ cs) [] = refl
-under-length (c ∷ cs) (d ∷ ds) = ap suc (under-length cs ds)
 
 word-cell : (s : List ℕ) (old new : ℕ) (c d : Cell) → CellIs s (unpacked old) c → WordFor s old new d → CellIs s (unpacked new) (over c d)
 word-cell s old new c free h w = subst (λ (n : ℕ). CellIs s (unpacked n) c) (sym w) h

@@ -10,7 +10,7 @@ use Rattle.tables.specs.Table.{recordAt, kindAt}
 use Rattle.tables.specs.Accepted.{records}
 use Rattle.patterns.specs.Binding.{names}
 use Rattle.patterns.specs.Pattern.{Pattern}
-use Rattle.patterns.specs.Laws.Named.{named}
+use Rattle.patterns.specs.Laws.Named.{holdsNamed as named}
 use Rattle.patterns.specs.Read.{patternAt}
 
 -- Each name of the pattern has a word.

@@ -21,7 +21,7 @@ use Rattle.collections.proofs.Built.{at-apart, long-past}
 use Rattle.operators.specs.Gather.{insertAll}
 use Rattle.operator_laws.proofs.Gather.{sizes-grow-all}
 use Rattle.gathering.specs.Inserting.{Growing, Grown, InsertsAll, themselves}
-use Rattle.gathering.proofs.Walks.{Left, First, items-first, items-on, items-end}
+use Rattle.gathering.proofs.Walks.{Left, First, walked-first, items-on, walked-end}
 
 -- ---- what goes in next
 
@@ -102,7 +102,7 @@ module _ {g : Items → Items} {s t : List ℕ} {from to at p : ℕ} (w : Gather
   pub gather-next : {u : List ℕ} → p < to → Outside s u at (at + valueLimit) → HoldsItems s from to → Growing s from to at → Next s u to at p
   gather-next lt o h r =
       let k = w .state (r .held .items) (h .0) (r .held .here) (h .1) in
-      next-item o (r .apart) (w .past) (items-first lt (k .left))
+      next-item o (r .apart) (w .past) (walked-first lt (k .left))
 
   pub gather-room : p < to → HoldsItems s from to → Growing s from to at → Room set t at p
   gather-room lt h r =
@@ -122,7 +122,7 @@ module _ {g : Items → Items} {s t : List ℕ} {from to at p : ℕ} (w : Gather
           past = let b = w .past in omega arith;
           state = λ vs ws a h.
               let k = w .state vs ws a h in
-              let y = items-first lt (k .left) in
+              let y = walked-first lt (k .left) in
               let x = q .right (k .us) (y .first) (k .made) (at-apart (w .frame) (apart-at s p apart (w .past) (y .inside)) (y .first-at)) in
               record { us = f (k .us) (y .first); made = x .made e; left = items-on y n d (y .so ∙ law (k .us) (y .first) (y .rest)) };
         }
@@ -133,7 +133,7 @@ module _ {g : Items → Items} {s t : List ℕ} {from to at p : ℕ} (w : Gather
           frame = outside-both (w .frame) (q .frame);
           right = λ vs ws a h.
               let k = w .state vs ws a h in
-              let y = items-first lt (k .left) in
+              let y = walked-first lt (k .left) in
               let x = q .right (k .us) (y .first) (k .made) (at-apart (w .frame) (apart-at s p apart (w .past) (y .inside)) (y .first-at)) in
               let whole = y .so ∙ law (k .us) (y .first) (y .rest) in
               let b : valueLimit < size (collection set (f (k .us) (y .first))) = long-past (x .answers) e in
@@ -150,7 +150,7 @@ module _ {g : Items → Items} {s t : List ℕ} {from to at p : ℕ} (w : Gather
         frame = w .frame;
         right = λ vs ws a h.
             let k = w .state vs ws a h in
-            let whole : insertAll vs (g ws) ≡ k .us = items-end le (k .left) ∙ ap (insertAll (k .us)) e in
+            let whole : insertAll vs (g ws) ≡ k .us = walked-end le (k .left) ∙ ap (insertAll (k .us)) e in
             let m = subst (λ (us : Items). At t at (collection set us)) (sym whole) (k .made) in
             record { answers = added-put (size (collection set (insertAll vs (g ws)))) (m .fine .short); made = λ z. m };
       }

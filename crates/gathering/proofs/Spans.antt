@@ -22,7 +22,7 @@ use Rattle.values.proofs.Frame.{outside-none, outside-then, items-below}
 use Rattle.values.proofs.Written.{headed-collection}
 use Rattle.operators.specs.Answer.{is, refused, tooLarge}
 use Rattle.operators.specs.Gather.{upFrom}
-use Rattle.operators.specs.Sets.{counting}
+use Rattle.operators.specs.Sets.{consecutive}
 use Rattle.operator_laws.proofs.Ranges.{ascending-up, sizes-up}
 use Rattle.calling.specs.declared.Applied.the-variants.{Done}
 use Rattle.calling.specs.Applied.{Gives}
@@ -78,8 +78,8 @@ integers-more {s} {t} {u} {at} {z} {x} i p d q h =
       here = subst (λ (k : ℕ). ItemsAt u at k (upFrom z (i + 1))) e (subst (λ (vs : Items). ItemsAt u at (at + 8 * i + size (integer x)) vs) v l);
     }
 
-pub integers-all : {s t : List ℕ} {at i n : ℕ} {z : ℤ} → SFits w32 z → i ≤ n → n ≤ i → PutIntegers s t at (machine z) i → PutIntegers s t at z n
-integers-all {s} {t} {at} {i} {n} {z} f h g p =
+pub spans-integers : {s t : List ℕ} {at i n : ℕ} {z : ℤ} → SFits w32 z → i ≤ n → n ≤ i → PutIntegers s t at (machine z) i → PutIntegers s t at z n
+spans-integers {s} {t} {at} {i} {n} {z} f h g p =
     let e : i ≡ n = omega arith in
     subst (λ (x : ℤ). PutIntegers s t at x n) (toZ-ofZ f) (subst (λ (k : ℕ). PutIntegers s t at (machine z) k) e p)
 
@@ -99,13 +99,13 @@ module _ {z : ℤ} (f : SFits w32 z) {i n : ℕ} (low : i < 2147483648) (s : Sou
 
 -- ---- the set of them
 
-pub counting-off : (z : ℤ) (n : ℕ) → valueLimit < 4 + 8 * n → counting z n ≡ refused tooLarge
+pub counting-off : (z : ℤ) (n : ℕ) → valueLimit < 4 + 8 * n → consecutive z n ≡ refused tooLarge
 counting-off z n h = ap (λ (b : Bool). cond b (is (collection set (upFrom z n))) (refused tooLarge)) (lt-leb (4 + 8 * n) valueLimit h)
 
-counting-on : (z : ℤ) (n : ℕ) → 4 + 8 * n ≤ valueLimit → counting z n ≡ is (collection set (upFrom z n))
+counting-on : (z : ℤ) (n : ℕ) → 4 + 8 * n ≤ valueLimit → consecutive z n ≡ is (collection set (upFrom z n))
 counting-on z n h = ap (λ (b : Bool). cond b (is (collection set (upFrom z n))) (refused tooLarge)) (le-leb (4 + 8 * n) valueLimit h)
 
-pub counting-gives : {s t u : List ℕ} {base : ℕ} {z : ℤ} (n : ℕ) → SFits w32 z → 4 + 8 * n ≤ valueLimit → PutIntegers s t (base + 4) (machine z) n → PutHead t u base (4 + 8 * n) 3 → Gives (counting z n) s u base Done
+pub counting-gives : {s t u : List ℕ} {base : ℕ} {z : ℤ} (n : ℕ) → SFits w32 z → 4 + 8 * n ≤ valueLimit → PutIntegers s t (base + 4) (machine z) n → PutHead t u base (4 + 8 * n) 3 → Gives (consecutive z n) s u base Done
 counting-gives {s} {t} {u} {base} {z} n f h p q =
     let here = subst (λ (x : ℤ). ItemsAt t (base + 4) (base + 4 + 8 * n) (upFrom x n)) (toZ-ofZ f) (p .here) in
     record {

@@ -33,8 +33,8 @@ pub record First (s : List ℕ) (to : ℕ) (P : Items → Type 0) (p : ℕ) : Ty
   pub inside : p + word s p ≤ to
   pub fits : to ≤ length s
 
-pub items-first : {s : List ℕ} {to : ℕ} {P : Items → Type 0} {p : ℕ} → p < to → Left s to P p → First s to P p
-items-first {P = P} lt l =
+pub walked-first : {s : List ℕ} {to : ℕ} {P : Items → Type 0} {p : ℕ} → p < to → Left s to P p → First s to P p
+walked-first {P = P} lt l =
     let y = uncons lt (l .here) in
     record {
       first = y .first;
@@ -51,5 +51,5 @@ items-first {P = P} lt l =
 pub items-on : {s : List ℕ} {to : ℕ} {P Q : Items → Type 0} {p : ℕ} (y : First s to P p) (n : ℕ) → n ≡ word s p → Q (y .rest) → Left s to Q (p + n)
 items-on {s} {to} {P} {Q} {p} y n e q = record { rest = y .rest; here = subst (λ (m : ℕ). ItemsAt s (p + m) to (y .rest)) (sym e) (y .rest-at); so = q }
 
-pub items-end : {s : List ℕ} {to : ℕ} {P : Items → Type 0} {p : ℕ} → to ≤ p → Left s to P p → P none
-items-end {P = P} le l = subst P (items-none le (l .here)) (l .so)
+pub walked-end : {s : List ℕ} {to : ℕ} {P : Items → Type 0} {p : ℕ} → to ≤ p → Left s to P p → P none
+walked-end {P = P} le l = subst P (items-none le (l .here)) (l .so)

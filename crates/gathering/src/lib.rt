@@ -7,7 +7,7 @@ ghost use Rattle.values.specs.Value.{set, sequence, collection, none};
 ghost use Rattle.values.specs.Place.{HoldsItems};
 ghost use Rattle.operators.specs.Answer.{is};
 ghost use Rattle.operators.specs.Gather.{insertAll};
-ghost use Rattle.operators.specs.Sets.{counting};
+ghost use Rattle.operators.specs.Sets.{consecutive};
 ghost use Rattle.calling.specs.Applied.{Gives};
 ghost use Rattle.calling.specs.Operands.{Has, OnItems};
 ghost use Rattle.gathering.specs.Consecutive.{IntegersRoom, PutIntegers, CountingRoom};
@@ -33,7 +33,7 @@ fn put_integers(s: &mut [u8], at: usize, from: i32, n: usize)
 // The set of n integers, from one up: over 512 bytes, 28.
 pub fn counting(s: &mut [u8], base: usize, from: i32, n: usize) -> Applied
     requires { ⌜ CountingRoom (now s) base from n ⌝ }
-    ensures { λ r. ⌜ Gives (counting from n) (now (s .entry)) (now (s .exit)) base r ⌝ }
+    ensures { λ r. ⌜ Gives (consecutive from n) (now (s .entry)) (now (s .exit)) base r ⌝ }
 {
     let size = Value::HEAD + INTEGER_BYTES * n;
     if size > Value::LIMIT {

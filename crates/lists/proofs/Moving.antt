@@ -12,7 +12,7 @@ use Rattle.choices.specs.Tree.{mostChoices}
 use Rattle.choices.proofs.Raising.{Seeking, seeking-all, turn-at, raised-moved, ended-moved}
 use Rattle.lists.specs.Lent.{runBytes, lent}
 use Rattle.lists.proofs.Starting.{sound-long}
-use Rattle.lists.specs.Runs.{Whole, restarted}
+use Rattle.lists.specs.Runs.{UsedWhole, restarted}
 
 -- The run's entries, and the numbers of ways as they were.
 pub record Looking (run₀ run : List ℕ) (i : ℕ) : Type 0 where
@@ -20,7 +20,7 @@ pub record Looking (run₀ run : List ℕ) (i : ℕ) : Type 0 where
   pub seeking : Seeking (lent run₀ .entries) (lent run₀ .counts) (lent run₀ .used) (lent run .entries) i
   pub ways : drop 67 run ≡ drop 67 run₀
 
-pub looking-all : (run : List ℕ) → Whole run → (i : ℕ) → i ≡ getD run 1 0 → Looking run run i
+pub looking-all : (run : List ℕ) → UsedWhole run → (i : ℕ) → i ≡ getD run 1 0 → Looking run run i
 looking-all run w i e =
     record {
       sized = sound-long run (w .sound);
@@ -67,7 +67,7 @@ module _ (run : List ℕ) (len : ℕ) (long : runBytes ≤ length run) where
 
 -- ---- in a turn
 
-module _ (run₀ run : List ℕ) (w : Whole run₀) (i : ℕ) (g : Looking run₀ run i) (j : ℕ) (e : i ≡ suc j) where
+module _ (run₀ run : List ℕ) (w : UsedWhole run₀) (i : ℕ) (g : Looking run₀ run i) (j : ℕ) (e : i ≡ suc j) where
   pub turn-low : j < mostChoices
   turn-low = omega (arith, g .seeking .within, w .sound .used-within, w .sound .len-within)
 
@@ -112,7 +112,7 @@ module _ (run₀ run : List ℕ) (w : Whole run₀) (i : ℕ) (g : Looking run�
 
 -- ---- none goes up
 
-module _ (run₀ run : List ℕ) (w : Whole run₀) (i : ℕ) (g : Looking run₀ run i) (low : i ≤ 0) where
+module _ (run₀ run : List ℕ) (w : UsedWhole run₀) (i : ℕ) (g : Looking run₀ run i) (low : i ≤ 0) where
   all-zero : (k : ℕ) → getD (lent run .entries) k 0 ≡ 0
   all-zero k = g .seeking .zeroed k (omega arith)
 

@@ -13,7 +13,7 @@ use lib.Seq.{take-suc, take-suc-set, take-all, take-take, getD-take, getD-drop, 
 use Rattle.choices.specs.State.{Choices, view, fresh, Invariant, Made}
 use Rattle.choices.specs.Tree.{mostChoices}
 use Rattle.lists.specs.Lent.{runBytes, lent}
-use Rattle.lists.specs.Runs.{Kept}
+use Rattle.lists.specs.Runs.{SameList}
 
 zero-at : (n k : ℕ) → getD {A = ℕ} (replicate n 0) k 0 ≡ 0
 zero-at zero k = refl
@@ -146,7 +146,7 @@ read-more run e i h k r =
           ∙ sym (take-suc (drop 3 run) i 0 long));
     }
 
-pub read-all : (run e : List ℕ) (i n : ℕ) → mostChoices ≤ i → n ≡ getD run 0 0 → Read run e i → Kept run (record { entries = e; len = n })
+pub read-all : (run e : List ℕ) (i n : ℕ) → mostChoices ≤ i → n ≡ getD run 0 0 → Read run e i → SameList run (record { entries = e; len = n })
 read-all run e i n h k r =
     let all : i ≡ mostChoices = omega (arith, r .within) in
     record { entries = sym (take-all mostChoices e (omega (arith, r .sized))) ∙ ap (λ m. take m e) (sym all) ∙ r .same ∙ ap (λ m. take m (drop 3 run)) all; len = k }

@@ -8,7 +8,7 @@ use Rattle.choices.specs.State.{Invariant}
 use Rattle.lists.specs.Lent.{lent}
 
 -- A run that used its whole list.
-pub record Whole (run : List ℕ) : Type 0 where
+pub record UsedWhole (run : List ℕ) : Type 0 where
   pub sound : Invariant (lent run)
   pub used : lent run .used ≡ lent run .len
 
@@ -17,6 +17,6 @@ abbrev pub restarted : List ℕ → ℕ → List ℕ
 restarted run len = set (set (set run 0 len) 1 0) 2 1
 
 -- The walk has the run's entries and length.
-pub record Kept (run : List ℕ) (w : Walk) : Type 0 where
+pub record SameList (run : List ℕ) (w : Walk) : Type 0 where
   pub entries : w .entries ≡ lent run .entries
   pub len : w .len ≡ lent run .len

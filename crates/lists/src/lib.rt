@@ -6,7 +6,7 @@ ghost use Rattle.choices.specs.Tree.{mostChoices};
 ghost use Rattle.choices.specs.State.{Made, Invariant, Moved};
 ghost use Rattle.choices.specs.Listing.{Runnable, listHeld};
 ghost use Rattle.lists.specs.Lent.{runBytes, lent};
-ghost use Rattle.lists.specs.Runs.{Whole, Kept, restarted};
+ghost use Rattle.lists.specs.Runs.{UsedWhole, SameList, restarted};
 use choices::list::Walk;
 use tables::shape::wide;
 
@@ -62,7 +62,7 @@ fn restart(run: &mut [u8; RUN], len: usize)
 
 // After a run that used the whole list: the last entry that can go up goes up, and what follows it is cut. False where none can.
 pub fn advance(run: &mut [u8; RUN]) -> bool
-    requires { ⌜ Whole (now run) ⌝ }
+    requires { ⌜ UsedWhole (now run) ⌝ }
     ensures { λ more. ⌜ Moved (lent (now (run .entry))) (record { more = more; state = lent (now (run .exit)) }) ⌝ }
 {
     let mut i = wide(run[USED]);
@@ -85,7 +85,7 @@ pub fn advance(run: &mut [u8; RUN]) -> bool
 // The list of a run, as a walk.
 pub fn list_of(run: &[u8; RUN]) -> Walk
     requires { ⌜ Invariant (lent (now run)) ⌝ }
-    ensures { λ w. ⌜ Kept (now (run .entry)) w ⌝ }
+    ensures { λ w. ⌜ SameList (now (run .entry)) w ⌝ }
 {
     let mut entries = [0u8; Walk::LIMIT];
     let mut i = 0;

@@ -17,7 +17,7 @@ use Rattle.collections.specs.Finding.{AtKey}
 use Rattle.collections.proofs.Shown.{found-at, found-nothing}
 use Rattle.operators.specs.Answer.{Answer, refused, clash, sized}
 use Rattle.operators.specs.Gather.{everyEntry, enterAll}
-use Rattle.operators.specs.Maps.{agrees, compatible}
+use Rattle.operators.specs.Maps.{agreesWith, compatible}
 use Rattle.calling.specs.Scratch.{second}
 use Rattle.calling.specs.declared.Applied.{Applied}
 use Rattle.calling.specs.declared.Applied.the-variants.{Refused}
@@ -34,10 +34,10 @@ module _ {s : List ℕ} {at x y p : ℕ} {f : Found} (k : AtKey s at x f) (e : f
   found-holds h = holds (found-at (k (h .held .items) (h .key .value) (h .held .here) (h .key .here)) e .here)
 
   pub found-agrees : {r : Bool} → Equal s y p r → Agrees s at x y r
-  found-agrees q vs l v a b c = let z = found-at (k vs l a b) e in q v (z .value) c (z .here) ∙ sym (ap (λ (o : Option Value). agrees o v) (z .is))
+  found-agrees q vs l v a b c = let z = found-at (k vs l a b) e in q v (z .value) c (z .here) ∙ sym (ap (λ (o : Option Value). agreesWith o v) (z .is))
 
 pub nothing-agrees : {s : List ℕ} {at x y : ℕ} {f : Found} → AtKey s at x f → f ≡ Nothing → Agrees s at x y true
-nothing-agrees k e vs l v a b c = sym (ap (λ (o : Option Value). agrees o v) (found-nothing (k vs l a b) e))
+nothing-agrees k e vs l v a b c = sym (ap (λ (o : Option Value). agreesWith o v) (found-nothing (k vs l a b) e))
 
 -- ---- all entries
 

@@ -13,7 +13,7 @@ use Rattle.operators.specs.Operators.{unary}
 use Rattle.calling.specs.declared.Applied.the-variants.{Refused}
 use Rattle.calling.specs.Applied.{OnOne}
 use Rattle.calling.proofs.Kinding.{off-one}
-use Rattle.calling.proofs.Numbered.{past, meet}
+use Rattle.calling.proofs.Numbered.{past-next, meet}
 use Rattle.map_operators.proofs.Halving.{domAnswer, rngAnswer}
 
 pub not-fourteen : {n : ℕ} → n ≤ 15 → 14 ≤ n → (n ≡ 14 → ⊥) → n ≡ 15
@@ -28,4 +28,4 @@ not-map {n = n} low high r f =
 
 -- the last number, where it is none of the others
 pub is-range-restriction : {n : ℕ} → n ≤ 28 → 25 ≤ n → (n ≡ 25 → ⊥) → (n ≡ 26 → ⊥) → (n ≡ 27 → ⊥) → n ≡ 28
-is-range-restriction high low a b c = meet high (past (past (past low a) b) c)
+is-range-restriction high low a b c = meet high (past-next (past-next (past-next low a) b) c)

@@ -24,7 +24,7 @@ use Rattle.values.proofs.Entries.{enter-present, paired-enter, ascending-enter}
 use Rattle.collections.specs.Building.{entryAnswer, EntryRoom, Maps, Enters}
 use Rattle.operators.specs.Answer.{closed, sized, tooLarge}
 use Rattle.operators.specs.Gather.{enterAll}
-use Rattle.operator_laws.proofs.Enumerations.{fits, fits-not}
+use Rattle.operator_laws.proofs.Enumerations.{fitting-built, fits-not}
 use Rattle.calling.specs.Scratch.{second}
 use Rattle.calling.specs.declared.Applied.the-variants.{Done, Refused}
 use Rattle.calling.proofs.Answering.{is-done, is-off}
@@ -194,4 +194,4 @@ module _ {s t : List ℕ} {base end p : ℕ} (w : Overriding s t base end p) whe
       let l = w .made-at .fine .short in
       let z = collection-size map (w .made) in
       both-by {f = enteredAll} (kept-then (kept-outside (omega arith) (w .frame)) (copied-kept c)) (w .maps .left .here) (w .maps .right .here)
-      (is-done (ap (sized map) e ∙ ap (closed map) (fits (w .made) (omega arith))) (c .here (collection map (w .made)) (w .made-at)))
+      (is-done (ap (sized map) e ∙ ap (closed map) (fitting-built (w .made) (omega arith))) (c .here (collection map (w .made)) (w .made-at)))

@@ -9,7 +9,7 @@ use Rattle.values.specs.Place.{At, Holds}
 use Rattle.collections.specs.Finding.{HoldsKind}
 use Rattle.collections.specs.Building.{Apart}
 use Rattle.operators.specs.Gather.{keepEntries}
-use Rattle.operators.specs.Maps.{agrees, compatible}
+use Rattle.operators.specs.Maps.{agreesWith, compatible}
 use Rattle.calling.specs.Scratch.{second, Kept}
 
 -- ---- an entry beside a map or a set
@@ -22,7 +22,7 @@ pub record Beside (kind : Kind) (s : List ℕ) (at x y : ℕ) : Type 0 where
 
 -- r says whether the value is what the map has at the key, if it has anything there.
 abbrev pub Agrees : List ℕ → ℕ → ℕ → ℕ → Bool → Type 0
-Agrees s at x y r = (vs : Items) (k v : Value) → At s at (collection map vs) → At s x k → At s y v → r ≡ agrees (lookup k vs) v
+Agrees s at x y r = (vs : Items) (k v : Value) → At s at (collection map vs) → At s x k → At s y v → r ≡ agreesWith (lookup k vs) v
 
 -- Is the key (true) or the value (false) of an entry in the set?
 abbrev pub passes : Bool → Items → Value → Value → Bool

@@ -23,7 +23,7 @@ use Rattle.tables.specs.Record.{named, field, booleanOf, integerOf, headOf, siz
 use Rattle.tables.specs.Table.{recordAt, kindAt}
 use Rattle.tables.specs.Accepted.{records}
 use Rattle.tables.specs.Laws.Accepted.{lower, fit-least}
-use Rattle.tables.specs.Laws.Below.{Lower}
+use Rattle.tables.specs.Laws.Below.{OperandsLower as Lower}
 use Rattle.tables.specs.Reading.{HasField}
 use Rattle.parts.specs.declared.Part.{Part}
 use Rattle.parts.specs.Part.{PartIs, PartHeld}

@@ -15,7 +15,7 @@ use Rattle.tables.specs.Record.{Record, named, operand, nameOf, shape, headOf, 
 use Rattle.tables.specs.Table.{recordAt, kindAt}
 use Rattle.tables.specs.Accepted.{records}
 use Rattle.tables.specs.Laws.Accepted.{lower, pattern-role, operand-lower, operand-sort, named-count, fit-least, fit-most, fit-known}
-use Rattle.tables.specs.Laws.Below.{Lower}
+use Rattle.tables.specs.Laws.Below.{OperandsLower as Lower}
 use Rattle.tables.specs.Reading.{HasField, HasOperand}
 use Rattle.parts.specs.declared.Part.{Part}
 use Rattle.patterns.specs.Ways.{Halves, orders}

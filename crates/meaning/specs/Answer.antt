@@ -7,18 +7,18 @@ use Rattle.choices.specs.Tree.{Final, result, refuses}
 -- ---- number, place and count
 
 -- Success is number 0 with place 0. A refusal has all three.
-abbrev pub answerNumber : {A : Type 0} → Final A → ℕ
-answerNumber (result a) = 0
-answerNumber (refuses n p k) = n
+abbrev pub finalNumber : {A : Type 0} → Final A → ℕ
+finalNumber (result a) = 0
+finalNumber (refuses n p k) = n
 
-abbrev pub answerPlace : {A : Type 0} → Final A → ℕ
-answerPlace (result a) = 0
-answerPlace (refuses n p k) = p
+abbrev pub finalPlace : {A : Type 0} → Final A → ℕ
+finalPlace (result a) = 0
+finalPlace (refuses n p k) = p
 
 -- The count after success depends on the service: the number of records after an accepted check, and otherwise 0.
-abbrev pub answerCount : {A : Type 0} → (A → ℕ) → Final A → ℕ
-answerCount counted (result a) = counted a
-answerCount counted (refuses n p k) = k
+abbrev pub finalCount : {A : Type 0} → (A → ℕ) → Final A → ℕ
+finalCount counted (result a) = counted a
+finalCount counted (refuses n p k) = k
 
 abbrev pub recordCount : ℕ → ℕ
 recordCount n = n
@@ -36,20 +36,20 @@ abbrev pub pack : ℕ → ℕ → ℕ → ℕ
 pack n p k = n + weight * (p + weight * k)
 
 abbrev pub packed : {A : Type 0} → (A → ℕ) → Final A → ℕ
-packed counted answer = pack (answerNumber answer) (answerPlace answer) (answerCount counted answer)
+packed counted answer = pack (finalNumber answer) (finalPlace answer) (finalCount counted answer)
 
-abbrev pub numberOf : ℕ → ℕ
-numberOf answer = answer % weight
+abbrev pub numberPart : ℕ → ℕ
+numberPart answer = answer % weight
 
-abbrev pub placeOf : ℕ → ℕ
-placeOf answer = answer / weight % weight
+abbrev pub placePart : ℕ → ℕ
+placePart answer = answer / weight % weight
 
-abbrev pub countOf : ℕ → ℕ
-countOf answer = answer / weight / weight
+abbrev pub countPart : ℕ → ℕ
+countPart answer = answer / weight / weight
 
 -- Each is read back from the packed one, and number 0 is success. (Of every service's answers: `Laws/ReadBack`.)
 pub record ReadBack {A : Type 0} (counted : A → ℕ) (answer : Final A) : Type 0 where
-  pub number-back : numberOf (packed counted answer) ≡ answerNumber answer
-  pub place-back : placeOf (packed counted answer) ≡ answerPlace answer
-  pub count-back : countOf (packed counted answer) ≡ answerCount counted answer
-  pub success-back : numberOf (packed counted answer) ≡ 0 → (a : A) × (answer ≡ result a)
+  pub number-back : numberPart (packed counted answer) ≡ finalNumber answer
+  pub place-back : placePart (packed counted answer) ≡ finalPlace answer
+  pub count-back : countPart (packed counted answer) ≡ finalCount counted answer
+  pub success-back : numberPart (packed counted answer) ≡ 0 → (a : A) × (answer ≡ result a)

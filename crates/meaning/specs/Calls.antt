@@ -8,7 +8,7 @@ use Prim.Native.Nat.{ℕ, suc, _+_, _<_}
 use lib.Dec.{eqb}
 use lib.ListN.{take, drop}
 use Rattle.choices.specs.Tree.{mostChoices}
-use Rattle.meaning.specs.Answer.{numberOf}
+use Rattle.meaning.specs.Answer.{numberPart}
 use Rattle.meaning.specs.Walk.{Walk}
 use Rattle.meaning.specs.Lent.{AfterWalk, firstCall, stepCall}
 
@@ -50,10 +50,10 @@ afterCall table c w = returned (c .part) w (called table c w .walk)
 
 -- Granted means number 0.
 abbrev pub Granted : List ℕ → Call → Walk → Type 0
-Granted table c w = numberOf (called table c w .answer) ≡ 0
+Granted table c w = numberPart (called table c w .answer) ≡ 0
 
 abbrev pub isGranted : List ℕ → Call → Walk → Bool
-isGranted table c w = eqb (numberOf (called table c w .answer)) 0
+isGranted table c w = eqb (numberPart (called table c w .answer)) 0
 
 -- ---- a list of calls
 

@@ -19,10 +19,10 @@ use Rattle.meaning.specs.State.{State, unbound, under}
 use Rattle.meaning.specs.Meaning.{meaning}
 use Rattle.meaning.specs.Loose.{looseMeaning}
 use Rattle.meaning.specs.Read.{sheet}
-use Rattle.meaning.specs.Answer.{pack, numberOf}
+use Rattle.meaning.specs.Answer.{pack, numberPart}
 use Rattle.meaning.specs.Walk.{Bytes, Walk, Shows}
 use Rattle.meaning.specs.Service.{scratchBytes, last, tree}
-use Rattle.meaning.specs.Lent.{AfterEvaluate, evaluateCall, filled, zeroed}
+use Rattle.meaning.specs.Lent.{AfterEvaluate, evaluateCall, filledUp, zeroed}
 use Rattle.meaning.specs.Calls.{first, step, Call, called, Granted, Calls, stepsOf, lentWalk, afterCall, finalWalk}
 
 -- ---- what the walk shows
@@ -69,12 +69,12 @@ pub record NoNext (table : List ℕ) (c : Call) (w : Walk) (l : List ℕ) : Type
 
 -- No run meets a 65th choice: under no list of up to 64 bytes does evaluating end in 31.
 abbrev pub NeverMany : List ℕ → List ℕ → List ℕ → Type 0
-NeverMany table scratch buffer = (l : List ℕ) → Bytes l → length l ≤ mostChoices → numberOf (evaluateCall table l scratch buffer .answer) ≡ 31 → ⊥
+NeverMany table scratch buffer = (l : List ℕ) → Bytes l → length l ≤ mostChoices → numberPart (evaluateCall table l scratch buffer .answer) ≡ 31 → ⊥
 
 -- Evaluating answers the outcome: success, with the value's encoding and then zeros in the result buffer; or the refusal's number and place, with
 -- zeros there.
 abbrev pub EvaluatesTo : List ℕ → AfterEvaluate → Outcome Value → Type 0
-EvaluatesTo buffer e (value v) = WellFormed v × (e .answer ≡ pack 0 0 0) × (e .buffer ≡ filled largest (encode v) buffer)
+EvaluatesTo buffer e (value v) = WellFormed v × (e .answer ≡ pack 0 0 0) × (e .buffer ≡ filledUp largest (encode v) buffer)
 EvaluatesTo buffer e (refusal n p) = (20 ≤ n) × (n ≤ 30) × (e .answer ≡ pack n p 0) × (e .buffer ≡ zeroed largest buffer)
 
 -- Some complete list of bytes evaluates to the outcome.

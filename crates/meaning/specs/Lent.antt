@@ -8,7 +8,7 @@ use lib.Dec.{eqb}
 use lib.ListN.{length, drop, replicate}
 use Rattle.choices.specs.Tree.{Final, result, refuses}
 use Rattle.values.specs.Value.{Value, encode, valueLimit as largest}
-use Rattle.meaning.specs.Answer.{packed, uncounted, answerNumber, recordCount}
+use Rattle.meaning.specs.Answer.{packed, uncounted, finalNumber, recordCount}
 use Rattle.meaning.specs.Walk.{Walk, overwritten}
 use Rattle.meaning.specs.Service.{scratchBytes, checks, evaluates, firsts, steps}
 
@@ -19,18 +19,18 @@ unfoldable pub zeroed : ℕ → List ℕ → List ℕ
 zeroed n lent = replicate n 0 ++ drop n lent
 
 -- The first n bytes as those given and then zeros, and the others as they are.
-unfoldable pub filled : ℕ → List ℕ → List ℕ → List ℕ
-filled n bytes lent = (bytes ++ replicate (n - length bytes) 0) ++ drop n lent
+unfoldable pub filledUp : ℕ → List ℕ → List ℕ → List ℕ
+filledUp n bytes lent = (bytes ++ replicate (n - length bytes) 0) ++ drop n lent
 
 -- 1 and 2.
 abbrev pub isEarly : ℕ → Bool
 isEarly n = eqb n 1 || eqb n 2
 
 abbrev pub scratchAfter : {A : Type 0} → Final A → List ℕ → List ℕ
-scratchAfter answer scratch = cond (isEarly (answerNumber answer)) scratch (zeroed scratchBytes scratch)
+scratchAfter answer scratch = cond (isEarly (finalNumber answer)) scratch (zeroed scratchBytes scratch)
 
 abbrev pub resultAfter : Final Value → List ℕ → List ℕ
-resultAfter (result v) buffer = filled largest (encode v) buffer
+resultAfter (result v) buffer = filledUp largest (encode v) buffer
 resultAfter (refuses n p k) buffer = cond (isEarly n) buffer (zeroed largest buffer)
 
 -- A refusal of either call leaves the walk.

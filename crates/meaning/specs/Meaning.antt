@@ -39,20 +39,20 @@ orElse n r (some a) = give a
 -- ---- operands
 
 -- What evaluates a record in a state.
-abbrev pub Evaluates : Type 0
-Evaluates = ℕ → State → Tree Value
+abbrev pub Evaluation : Type 0
+Evaluation = ℕ → State → Tree Value
 
 -- Operands go in written order.
-unfoldable pub allOf : Evaluates → List ℕ → State → Tree Items
+unfoldable pub allOf : Evaluation → List ℕ → State → Tree Items
 allOf rec [] ρ = give none
 allOf rec (a ∷ rest) ρ = bind (rec a ρ) (λ v. bind (allOf rec rest ρ) (λ vs. give (more v vs)))
 
 -- Both, and then an operator of both.
-abbrev pub bothOf : Evaluates → ℕ → ℕ → State → (Value → Value → Tree Value) → Tree Value
+abbrev pub bothOf : Evaluation → ℕ → ℕ → State → (Value → Value → Tree Value) → Tree Value
 bothOf rec a b ρ f = bind (rec a ρ) (λ v. bind (rec b ρ) (λ w. f v w))
 
 -- and, or, =>: the right is evaluated only if the left does not settle it.
-abbrev pub rightOf : Evaluates → ℕ → ℕ → State → Left → Tree Value
+abbrev pub rightOf : Evaluation → ℕ → ℕ → State → Left → Tree Value
 rightOf rec r b ρ (settles a) = at r a
 rightOf rec r b ρ leaves = bind (rec b ρ) (λ w. at r (right w))
 
@@ -72,32 +72,32 @@ abbrev pub membersAt : ℕ → Value → Tree Items
 membersAt r v = orElse 20 r (asSet v)
 
 -- The bindings of P over the members of the set operand.
-abbrev pub bindingsOf : Evaluates → ℕ → Pattern → ℕ → State → Tree (List Binding)
+abbrev pub bindingsOf : Evaluation → ℕ → Pattern → ℕ → State → Tree (List Binding)
 bindingsOf rec r p s ρ = bind (rec s ρ) (λ v. bind (membersAt r v) (λ vs. formedAt r (formed p (listOf vs))))
 
 -- Does the condition hold under a binding?
-abbrev pub holds : Evaluates → ℕ → ℕ → State → Binding → Tree Bool
+abbrev pub holds : Evaluation → ℕ → ℕ → State → Binding → Tree Bool
 holds rec r c ρ b = bind (rec c (under ρ b)) (λ v. isTrue r v)
 
 -- All bindings are tested, in order: those under which the condition holds.
-unfoldable pub satisfying : Evaluates → ℕ → ℕ → State → List Binding → Tree (List Binding)
+unfoldable pub satisfying : Evaluation → ℕ → ℕ → State → List Binding → Tree (List Binding)
 satisfying rec r c ρ [] = give []
 satisfying rec r c ρ (b ∷ bs) = bind (holds rec r c ρ b) (λ t. bind (satisfying rec r c ρ bs) (λ sat. give (cond t (b ∷ sat) sat)))
 
 -- A choice among bindings.
-abbrev pub chosen : ℕ → List Binding → Tree Binding
-chosen r bs = choose r (length bs) (λ i. give (getD bs i nothing))
+abbrev pub chosenBinding : ℕ → List Binding → Tree Binding
+chosenBinding r bs = choose r (length bs) (λ i. give (getD bs i nothing))
 
 -- let: no match is 23; a loose let chooses, another has one binding.
 abbrev pub matched : ℕ → Bool → List Binding → Tree Binding
 matched r isLoose [] = stop 23 r
-matched r true (b ∷ bs) = chosen r (b ∷ bs)
+matched r true (b ∷ bs) = chosenBinding r (b ∷ bs)
 matched r false (b ∷ bs) = give b
 
 -- let-be: a choice among the satisfying bindings; 24 where there is none.
 abbrev pub satisfied : ℕ → List Binding → Tree Binding
 satisfied r [] = stop 24 r
-satisfied r (b ∷ bs) = chosen r (b ∷ bs)
+satisfied r (b ∷ bs) = chosenBinding r (b ∷ bs)
 
 -- forall stops at the first false, exists at the first true.
 unfoldable pub untilFalse : (Binding → Tree Bool) → List Binding → Tree Bool
@@ -109,7 +109,7 @@ untilTrue test [] = give false
 untilTrue test (b ∷ bs) = bind (test b) (λ t. cond t (give true) (untilTrue test bs))
 
 -- exists1 tests all bindings.
-abbrev pub quantify : Quantifier → Evaluates → ℕ → ℕ → State → List Binding → Tree Bool
+abbrev pub quantify : Quantifier → Evaluation → ℕ → ℕ → State → List Binding → Tree Bool
 quantify forall rec r c ρ bs = untilFalse (holds rec r c ρ) bs
 quantify exists rec r c ρ bs = untilTrue (holds rec r c ρ) bs
 quantify exists1 rec r c ρ bs = bind (satisfying rec r c ρ bs) (λ sat. give (eqb (length sat) 1))
@@ -126,10 +126,10 @@ collected test add vs [] = give vs
 collected test add vs (b ∷ bs) = bind (test b) (λ t. cond t (bind (add vs b) (λ ws. collected test add ws bs)) (collected test add vs bs))
 
 -- An element, or a key and a value, evaluated under a binding and added.
-abbrev pub addOne : Evaluates → ℕ → (Items → Value → Built) → ℕ → State → Items → Binding → Tree Items
+abbrev pub addOne : Evaluation → ℕ → (Items → Value → Built) → ℕ → State → Items → Binding → Tree Items
 addOne rec r add e ρ vs b = bind (rec e (under ρ b)) (λ v. builtAt r (add vs v))
 
-abbrev pub addPair : Evaluates → ℕ → ℕ → ℕ → State → Items → Binding → Tree Items
+abbrev pub addPair : Evaluation → ℕ → ℕ → ℕ → State → Items → Binding → Tree Items
 addPair rec r k e ρ vs b = bind (rec k (under ρ b)) (λ key. bind (rec e (under ρ b)) (λ v. builtAt r (addEntry vs key v)))
 
 -- Kind 19 needs a set of integers, tested before its bindings are formed.
@@ -137,17 +137,17 @@ unfoldable pub integersAt : ℕ → Items → Tree Items
 integersAt r none = give none
 integersAt r (more v vs) = bind (orElse 20 r (asInteger v)) (λ z. bind (integersAt r vs) (λ ws. give (more v ws)))
 
-abbrev pub integerBindings : Evaluates → ℕ → Pattern → ℕ → State → Tree (List Binding)
+abbrev pub integerBindings : Evaluation → ℕ → Pattern → ℕ → State → Tree (List Binding)
 integerBindings rec r p s ρ = bind (rec s ρ) (λ v. bind (membersAt r v) (λ vs. bind (integersAt r vs) (λ ws. formedAt r (formed p (listOf ws)))))
 
-abbrev pub comprehension : Evaluates → ℕ → Kind → ℕ → State → (Items → Binding → Tree Items) → List Binding → Tree Value
+abbrev pub comprehension : Evaluation → ℕ → Kind → ℕ → State → (Items → Binding → Tree Items) → List Binding → Tree Value
 comprehension rec r k c ρ add bs = bind (collected (holds rec r c ρ) add none bs) (λ vs. give (collection k vs))
 
 -- ---- every kind
 
 -- What a record r says in a state, over what its operands mean and its patterns are. In an accepted table every name that is read is
 -- bound and no pattern is evaluated, so what stands for these two is of no account.
-unfoldable pub means : (ℕ → Pattern) → Evaluates → ℕ → Node → State → Tree Value
+unfoldable pub means : (ℕ → Pattern) → Evaluation → ℕ → Node → State → Tree Value
 means pattern rec r (truth b) ρ = give (boolean b)
 means pattern rec r (whole z) ρ = give (integer z)
 means pattern rec r (named x) ρ = orElse 20 r (valueIn ρ x)

@@ -53,7 +53,7 @@ nodeOf r = getD nodes (r .kind) none r
 
 -- ---- the sheet
 
-abbrev pub sheetOf : List Record → Sheet
+abbrev sheetOf : List Record → Sheet
 sheetOf rs = record { node = λ r. nodeOf (recordAt rs r); pattern = λ r. patternAt rs r; size = length rs }
 
 -- The sheet of a table.

@@ -16,7 +16,7 @@ use Rattle.tables.specs.Check.{check}
 use Rattle.meaning.specs.State.{unbound}
 use Rattle.meaning.specs.Meaning.{Sheet, meaning}
 use Rattle.meaning.specs.Read.{sheet}
-use Rattle.meaning.specs.Walk.{Walk, listed}
+use Rattle.meaning.specs.Walk.{Walk, walkList}
 
 -- The scratch that every service is lent.
 abbrev pub scratchBytes : ℕ
@@ -78,4 +78,4 @@ abbrev pub steps : ℕ → List ℕ → Walk → Final (List ℕ)
 steps scratch table w =
     unless (ltb scratch scratchBytes) 1
     (accepted (check table)
-    (λ n. unless (ltb (length (w .entries)) mostChoices || ltb mostChoices (w .len)) 10 (steppedFrom (runs table (listed w)) (onward (nextList (tree table) (listed w))))))
+    (λ n. unless (ltb (length (w .entries)) mostChoices || ltb mostChoices (w .len)) 10 (steppedFrom (runs table (walkList w)) (onward (nextList (tree table) (walkList w))))))

@@ -25,10 +25,10 @@ under (c ∷ cs) [] = c ∷ cs
 under (c ∷ cs) (b ∷ bs) = over c b ∷ under cs bs
 
 -- The value of a name, where it is bound.
-abbrev pub held : Cell → Option Value
-held free = absent
-held (is v) = some v
-held clash = absent
+abbrev pub heldValue : Cell → Option Value
+heldValue free = absent
+heldValue (is v) = some v
+heldValue clash = absent
 
 abbrev pub valueIn : State → ℕ → Option Value
-valueIn ρ x = held (cellOf ρ x)
+valueIn ρ x = heldValue (cellOf ρ x)

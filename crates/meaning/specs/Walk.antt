@@ -17,8 +17,8 @@ pub record Walk : Type 0 where
   pub len : ℕ
 
 -- The list that a step reads: the entries below the length.
-abbrev pub listed : Walk → List ℕ
-listed w = take (w .len) (w .entries)
+abbrev pub walkList : Walk → List ℕ
+walkList w = take (w .len) (w .entries)
 
 -- A granted call writes 64 entries, the list and zeros after its end, and the length. It leaves what lies beyond 64.
 unfoldable pub overwritten : List ℕ → Walk → Walk

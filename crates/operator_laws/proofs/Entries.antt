@@ -83,15 +83,15 @@ module _ (p : Value → Value → Bool) where
       (λ k v vs q r. by-test (p k v) (λ e. let f = ap sizes (keep-true k v vs e) in omega arith) (λ e. let f = ap sizes (keep-false k v vs e) in omega arith))
 
 -- What a key is mapped to, where that passes the test.
-abbrev pub passing : (Value → Value → Bool) → Value → Option Value → Option Value
-passing p k absent = absent
-passing p k (some v) = cond (p k v) (some v) absent
+abbrev pub entries-passing : (Value → Value → Bool) → Value → Option Value → Option Value
+entries-passing p k absent = absent
+entries-passing p k (some v) = cond (p k v) (some v) absent
 
 -- Of the entries that pass, what stands at a key is what stood there, if it passes.
-pub lookup-keep : (p : Value → Value → Bool) (x : Value) (vs : Items) → Paired vs → Ascending (keys vs) → lookup x (keepEntries p vs) ≡ passing p x (lookup x vs)
+pub lookup-keep : (p : Value → Value → Bool) (x : Value) (vs : Items) → Paired vs → Ascending (keys vs) → lookup x (keepEntries p vs) ≡ entries-passing p x (lookup x vs)
 unfolding everyOther Ascending keepEntries lookup
 lookup-keep p x =
-    by-entries (λ (vs : Items). Ascending (keys vs) → lookup x (keepEntries p vs) ≡ passing p x (lookup x vs)) (λ a. refl)
+    by-entries (λ (vs : Items). Ascending (keys vs) → lookup x (keepEntries p vs) ≡ entries-passing p x (lookup x vs)) (λ a. refl)
     (λ k v vs q r a.
     by-test (same x k)
     (λ s.
@@ -100,17 +100,17 @@ lookup-keep p x =
     by-test (p k v)
     (λ e.
     ap (lookup x) (keep-true p k v vs e) ∙ cond-true (same x k) (some v) (lookup x (keepEntries p vs)) s
-    ∙ sym (ap (passing p x) (cond-true (same x k) (some v) (lookup x vs) s) ∙ cond-true (p x v) (some v) absent (ap (λ (y : Value). p y v) i ∙ e)))
+    ∙ sym (ap (entries-passing p x) (cond-true (same x k) (some v) (lookup x vs) s) ∙ cond-true (p x v) (some v) absent (ap (λ (y : Value). p y v) i ∙ e)))
     (λ e.
-    ap (lookup x) (keep-false p k v vs e) ∙ r (a .1) ∙ ap (passing p x) gone
-    ∙ sym (ap (passing p x) (cond-true (same x k) (some v) (lookup x vs) s) ∙ cond-false (p x v) (some v) absent (ap (λ (y : Value). p y v) i ∙ e))))
+    ap (lookup x) (keep-false p k v vs e) ∙ r (a .1) ∙ ap (entries-passing p x) gone
+    ∙ sym (ap (entries-passing p x) (cond-true (same x k) (some v) (lookup x vs) s) ∙ cond-false (p x v) (some v) absent (ap (λ (y : Value). p y v) i ∙ e))))
     (λ s.
     by-test (p k v)
     (λ e.
     ap (lookup x) (keep-true p k v vs e) ∙ cond-false (same x k) (some v) (lookup x (keepEntries p vs)) s ∙ r (a .1)
-    ∙ sym (ap (passing p x) (cond-false (same x k) (some v) (lookup x vs) s)))
+    ∙ sym (ap (entries-passing p x) (cond-false (same x k) (some v) (lookup x vs) s)))
     (λ e.
-    ap (lookup x) (keep-false p k v vs e) ∙ r (a .1) ∙ sym (ap (passing p x) (cond-false (same x k) (some v) (lookup x vs) s)))))
+    ap (lookup x) (keep-false p k v vs e) ∙ r (a .1) ∙ sym (ap (entries-passing p x) (cond-false (same x k) (some v) (lookup x vs) s)))))
 
 -- ---- entries put into a map
 

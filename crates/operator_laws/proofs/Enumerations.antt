@@ -18,15 +18,15 @@ use Rattle.values.proofs.Joined.{join-none, join-join}
 use Rattle.values.proofs.Entries.{by-entries, paired-enter, ascending-enter, sound-enter, lookup-enter}
 use Rattle.operators.specs.Answer.{is, Built, built, stopped, fitting, closed, sized, FineAnswer}
 use Rattle.operators.specs.Gather.{insertAll, everyEntry}
-use Rattle.operators.specs.Enumerations.{addMember, addItem, entered, addEntry, buildOn, addMembers, addItems, addEntries, setOf, sequenceOf, mapOf, tupleOf}
+use Rattle.operators.specs.Enumerations.{addMember, addItem, entryAdded, addEntry, buildOn, addMembers, addItems, addEntries, setOf, sequenceOf, mapOf, tupleOf}
 use Rattle.operator_laws.proofs.Gather.{same-refl, sizes-grow-all, ascending-insertAll, sound-insertAll}
 use Rattle.operator_laws.proofs.Entries.{firstSome}
 use Rattle.operator_laws.proofs.Results.{Good, wellFormed, sized-fine}
 
 -- ---- what fits
 
-pub fits : (vs : Items) → 4 + sizes vs ≤ valueLimit → fitting vs ≡ built vs
-fits vs h = rw (le-leb (4 + sizes vs) valueLimit h)
+pub fitting-built : (vs : Items) → 4 + sizes vs ≤ valueLimit → fitting vs ≡ built vs
+fitting-built vs h = rw (le-leb (4 + sizes vs) valueLimit h)
 
 pub fits-not : (vs : Items) → valueLimit < 4 + sizes vs → fitting vs ≡ stopped 28
 fits-not vs h = rw (lt-leb (4 + sizes vs) valueLimit h)
@@ -35,7 +35,7 @@ fits-not vs h = rw (lt-leb (4 + sizes vs) valueLimit h)
 pub by-fitting : {P : Type 0} (vs : Items) → (4 + sizes vs ≤ valueLimit → fitting vs ≡ built vs → P) → (valueLimit < 4 + sizes vs → fitting vs ≡ stopped 28 → P) → P
 by-fitting vs f g =
     by-test (leb (4 + sizes vs) valueLimit)
-    (λ e. let h : 4 + sizes vs ≤ valueLimit = leb-true (4 + sizes vs) valueLimit e in f h (fits vs h))
+    (λ e. let h : 4 + sizes vs ≤ valueLimit = leb-true (4 + sizes vs) valueLimit e in f h (fitting-built vs h))
     (λ e. let h : valueLimit < 4 + sizes vs = leb-false (4 + sizes vs) valueLimit e in g h (fits-not vs h))
 
 -- What was built is one thing alone.
@@ -50,7 +50,7 @@ never-built e = impossible cc
 -- Members added one by one are the members added, if they fit.
 addMembers-is : (vs ws : Items) → 4 + sizes vs ≤ valueLimit → addMembers vs ws ≡ fitting (insertAll vs ws)
 unfolding addMembers insertAll
-addMembers-is vs none h = sym (fits vs h)
+addMembers-is vs none h = sym (fitting-built vs h)
 addMembers-is vs (more w ws) h =
     by-fitting (insert w vs) (λ g e. ap (λ (b : Built). buildOn b (λ us. addMembers us ws)) e ∙ addMembers-is (insert w vs) ws g)
     (λ g e. ap (λ (b : Built). buildOn b (λ us. addMembers us ws)) e ∙ sym (fits-not (insertAll (insert w vs) ws) (omega (arith, sizes-grow-all (insert w vs) ws))))
@@ -58,7 +58,7 @@ addMembers-is vs (more w ws) h =
 -- Items added one by one are the items joined, if they fit.
 addItems-is : (vs ws : Items) → 4 + sizes vs ≤ valueLimit → addItems vs ws ≡ fitting (join vs ws)
 unfolding addItems join size
-addItems-is vs none h = sym (fits vs h) ∙ ap fitting (sym (join-none vs))
+addItems-is vs none h = sym (fitting-built vs h) ∙ ap fitting (sym (join-none vs))
 addItems-is vs (more w ws) h =
     by-fitting (snoc vs w)
     (λ g e. ap (λ (b : Built). buildOn b (λ us. addItems us ws)) e ∙ addItems-is (snoc vs w) ws g ∙ ap fitting (join-join vs (more w none) ws))
@@ -112,11 +112,11 @@ module _ {P : Type 0} (vs : Items) (k v : Value) where
   by-entry f g h = go (lookup k vs) refl
     where
       go : (o : Option Value) → lookup k vs ≡ o → P
-      go absent e = f e (ap (λ (o : Option Value). entered o vs k v) e)
+      go absent e = f e (ap (λ (o : Option Value). entryAdded o vs k v) e)
       go (some w) e =
           by-test (same v w)
-          (λ s. g (e ∙ ap some (sym (same-true v w s))) (ap (λ (o : Option Value). entered o vs k v) e ∙ cond-true (same v w) (built vs) (stopped 27) s))
-          (λ s. h w e s (ap (λ (o : Option Value). entered o vs k v) e ∙ cond-false (same v w) (built vs) (stopped 27) s))
+          (λ s. g (e ∙ ap some (sym (same-true v w s))) (ap (λ (o : Option Value). entryAdded o vs k v) e ∙ cond-true (same v w) (built vs) (stopped 27) s))
+          (λ s. h w e s (ap (λ (o : Option Value). entryAdded o vs k v) e ∙ cond-false (same v w) (built vs) (stopped 27) s))
 
 -- What is built of entries: at every key what stood there, or else what is written first, and every entry written.
 pub record Entered (vs ws us : Items) : Type 0 where
@@ -264,9 +264,9 @@ pub no-members : Good set none
 unfolding Ascending Sound size
 no-members = record { shaped = tt; sound = tt; short = omega arith }
 
-pub no-items : Good sequence none
+pub built-none : Good sequence none
 unfolding Sound size
-no-items = record { shaped = tt; sound = tt; short = omega arith }
+built-none = record { shaped = tt; sound = tt; short = omega arith }
 
 pub no-entries : Good map none
 unfolding Ascending everyOther PairedFrom Sound size

@@ -14,11 +14,11 @@ use Rattle.values.proofs.Members.{member-here}
 use Rattle.values.proofs.Entries.{by-entries, before-nothing, paired-enter, ascending-enter, lookup-enter, enter-present, sizes-enter}
 use Rattle.operators.specs.Answer.{Built, built, fitting}
 use Rattle.operators.specs.Gather.{insertAll, everyEntry, keepEntries, enterAll}
-use Rattle.operators.specs.Maps.{agrees, compatible}
+use Rattle.operators.specs.Maps.{agreesWith, compatible}
 use Rattle.operators.specs.Enumerations.{addEntry, buildOn, addEntries}
 use Rattle.operator_laws.proofs.Gather.{same-refl, member-none, member-case, member-there, member-insertAll}
-use Rattle.operator_laws.proofs.Entries.{everyEntry-at, passing, lookup-keep, lookup-enterAll, firstSome}
-use Rattle.operator_laws.proofs.Enumerations.{fits, fits-not, by-fitting, by-entry}
+use Rattle.operator_laws.proofs.Entries.{everyEntry-at, entries-passing, lookup-keep, lookup-enterAll, firstSome}
+use Rattle.operator_laws.proofs.Enumerations.{fitting-built, fits-not, by-fitting, by-entry}
 
 -- ---- dom, rng
 
@@ -68,8 +68,8 @@ maps-range k x vs p e = member-insertAll x none (mapped vs) ∙ mapped-in k x vs
 -- THEOREM: two maps are compatible if any common key is mapped to the same value by both
 compatible-at : (vs ws : Items) → Paired ws → compatible vs ws ≡ true → (k v w : Value) → lookup k vs ≡ some v → lookup k ws ≡ some w → v ≡ w
 compatible-at vs ws q e k v w f g =
-    let h = everyEntry-at (λ k v. agrees (lookup k vs) v) ws q e k w g in
-    sym (same-true w v (sym (ap (λ (o : Option Value). agrees o w) f) ∙ h))
+    let h = everyEntry-at (λ k v. agreesWith (lookup k vs) v) ws q e k w g in
+    sym (same-true w v (sym (ap (λ (o : Option Value). agreesWith o w) f) ∙ h))
 
 everyEntry-all : (p : Value → Value → Bool) (vs : Items) → Paired vs → Ascending (keys vs) → ((k v : Value) → lookup k vs ≡ some v → p k v ≡ true) → everyEntry p vs ≡ true
 unfolding everyOther Ascending everyEntry lookup
@@ -83,9 +83,9 @@ everyEntry-all p =
     (λ s. cond-false (same l k) (some v) (lookup l vs) s ∙ e)))))
 
 compatible-all : (vs ws : Items) → Paired ws → Ascending (keys ws) → ((k v w : Value) → lookup k vs ≡ some v → lookup k ws ≡ some w → v ≡ w) → compatible vs ws ≡ true
-compatible-all vs ws q a f = everyEntry-all (λ k v. agrees (lookup k vs) v) ws q a (λ k w e. go k w (lookup k vs) refl e)
+compatible-all vs ws q a f = everyEntry-all (λ k v. agreesWith (lookup k vs) v) ws q a (λ k w e. go k w (lookup k vs) refl e)
   where
-    go : (k w : Value) (o : Option Value) → lookup k vs ≡ o → lookup k ws ≡ some w → agrees o w ≡ true
+    go : (k w : Value) (o : Option Value) → lookup k vs ≡ o → lookup k ws ≡ some w → agreesWith o w ≡ true
     go k w absent d e = refl
     go k w (some v) d e = true-same (sym (f k v w d e))
 
@@ -121,9 +121,9 @@ by-first : {P : Type 0} (vs ws : Items) (k v : Value) → compatible vs (more k 
     → P
 unfolding everyEntry
 by-first vs ws k v c f g =
-    let h = and-eq-true-iff (agrees (lookup k vs) v) (compatible vs ws) .0 c in
+    let h = and-eq-true-iff (agreesWith (lookup k vs) v) (compatible vs ws) .0 c in
     by-entry vs k v (λ e d. f e d (h .1)) (λ e d. g e d (h .1))
-    (λ w e s d. never (sym s ∙ sym (ap (λ (o : Option Value). agrees o v) e) ∙ h .0))
+    (λ w e s d. never (sym s ∙ sym (ap (λ (o : Option Value). agreesWith o v) e) ∙ h .0))
 
 -- Compatible maps merged are no shorter than the first.
 merge-grows : (vs ws : Items) → Paired vs → Ascending (keys vs) → Paired ws → Ascending (keys ws) → compatible vs ws ≡ true → sizes vs ≤ sizes (enterAll vs ws)
@@ -149,7 +149,7 @@ unfolding everyOther Ascending enterAll addEntries
 addEntries-is vs ws p a q b l c =
     by-entries
     (λ (ws : Items). (vs : Items) → Paired vs → Ascending (keys vs) → Ascending (keys ws) → 4 + sizes vs ≤ valueLimit → compatible vs ws ≡ true → addEntries vs ws ≡ fitting (enterAll vs ws))
-    (λ vs p a b l c. sym (fits vs l))
+    (λ vs p a b l c. sym (fitting-built vs l))
     (λ k v ws q r vs p a b l c.
     by-first vs ws k v c
     (λ e d m.
@@ -172,11 +172,11 @@ addEntries-is vs ws p a q b l c =
 lookup-domain : (x : Value) (vs ws : Items) → Paired ws → Ascending (keys ws) → lookup x (keepEntries (λ k v. isMember k vs) ws) ≡ cond (isMember x vs) (lookup x ws) absent
 lookup-domain x vs ws p a = lookup-keep (λ k v. isMember k vs) x ws p a ∙ go (lookup x ws) (isMember x vs) refl
   where
-    go : (o : Option Value) (b : Bool) → isMember x vs ≡ b → passing (λ k v. isMember k vs) x o ≡ cond b o absent
+    go : (o : Option Value) (b : Bool) → isMember x vs ≡ b → entries-passing (λ k v. isMember k vs) x o ≡ cond b o absent
     go absent true e = refl
     go absent false e = refl
     go (some v) b e = ap (λ (c : Bool). cond c (some v) absent) e
 
 -- THEOREM: m :> s consists of the elements in m whose value is in s
-lookup-range : (x : Value) (vs ws : Items) → Paired vs → Ascending (keys vs) → lookup x (keepEntries (λ k v. isMember v ws) vs) ≡ passing (λ k v. isMember v ws) x (lookup x vs)
+lookup-range : (x : Value) (vs ws : Items) → Paired vs → Ascending (keys vs) → lookup x (keepEntries (λ k v. isMember v ws) vs) ≡ entries-passing (λ k v. isMember v ws) x (lookup x vs)
 lookup-range x vs ws p a = lookup-keep (λ k v. isMember v ws) x vs p a

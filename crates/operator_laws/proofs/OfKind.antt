@@ -21,10 +21,10 @@ integer-not (boolean b) f = refl
 integer-not (integer z) f = absurd (f refl)
 integer-not (collection k vs) f = refl
 
-pub kind-is : (k : Kind) (v : Value) → kindOf v ≡ number k → (vs : Items) × (v ≡ collection k vs)
-kind-is k (boolean b) e = absurd (omega (arith, number-low k))
-kind-is k (integer z) e = absurd (omega (arith, number-low k))
-kind-is k (collection l vs) e = (vs, ap (λ (j : Kind). collection j vs) (number-inj l k e))
+pub of-kind-is : (k : Kind) (v : Value) → kindOf v ≡ number k → (vs : Items) × (v ≡ collection k vs)
+of-kind-is k (boolean b) e = absurd (omega (arith, number-low k))
+of-kind-is k (integer z) e = absurd (omega (arith, number-low k))
+of-kind-is k (collection l vs) e = (vs, ap (λ (j : Kind). collection j vs) (number-inj l k e))
 
 pub kind-not : (k : Kind) (v : Value) → (kindOf v ≡ number k → ⊥) → asKind k v ≡ absent
 kind-not k (boolean b) f = refl

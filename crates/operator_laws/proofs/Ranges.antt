@@ -18,7 +18,7 @@ use Rattle.integers.specs.Order.{orderℕ, orderℤ}
 use Rattle.values.specs.Items.{isMember}
 use Rattle.values.proofs.Members.{member-here}
 use Rattle.operators.specs.Gather.{upFrom}
-use Rattle.operators.specs.Sets.{counted, howMany}
+use Rattle.operators.specs.Sets.{asCount, howMany}
 use Rattle.operator_laws.proofs.Gather.{member-none, member-case, member-there}
 
 -- ---- at most and below, as facts that `omega` reads
@@ -50,7 +50,7 @@ between lo z hi p q l h =
     and-intro (le-trans leastInteger lo z (and-eq-true-iff (leZ leastInteger lo) (leZ lo greatestInteger) .0 p .0) l) (le-trans z hi greatestInteger h (and-eq-true-iff (leZ leastInteger hi) (leZ hi greatestInteger) .0 q .1))
 
 -- One of the two parts is 0.
-sides : {P : Type 0} (z : ℤ) → (down z ≡ 0 → counted z ≡ up z → P) → (up z ≡ 0 → counted z ≡ 0 → P) → P
+sides : {P : Type 0} (z : ℤ) → (down z ≡ 0 → asCount z ≡ up z → P) → (up z ≡ 0 → asCount z ≡ 0 → P) → P
 sides (pos n) f g = f refl refl
 sides (negsuc n) f g = g refl refl
 

@@ -23,8 +23,8 @@ use Rattle.operators.specs.Answer.{Answer, is, refused, wrongKind, clash, asBoo
 use Rattle.operators.specs.Booleans.{truth, negation, biimplication, Connective, and, or, implies, Left, settles, leaves, settledBy, left, right}
 use Rattle.operators.specs.Arithmetic.{answered, onInteger, onIntegers, compared}
 use Rattle.operators.specs.Gather.{everyItem, keepItems, insertAll, itemsIn, isKind, flatten, backwards, upFrom, keepEntries, enterAll}
-use Rattle.operators.specs.Sets.{uniteAll, intersectionOf, howMany, counting, rangeOf}
-use Rattle.operators.specs.Sequences.{headOf, tailOf, itemAt}
+use Rattle.operators.specs.Sets.{uniteAll, intersectionOf, howMany, consecutive, rangeOf}
+use Rattle.operators.specs.Sequences.{firstItem, tailOf, itemAt}
 use Rattle.operators.specs.Maps.{compatible, applyItems, applyTo}
 use Rattle.operators.specs.Operators.{noUnary, unaries, unary, noBinary, binaries, binary}
 use Rattle.operator_laws.proofs.Gather.{ascending-keep, sound-keep, sizes-keep, ascending-insertAll, sound-insertAll, sizes-insertAll, sound-flatten, sizes-backwards, sound-backwards}
@@ -167,7 +167,7 @@ intersectionOf-fine none e g = omega arith
 intersectionOf-fine (more v vs) e g =
     keep-fine _ (itemsIn v) (first-good v (and-eq-true-iff (isKind set v) (everyItem (isKind set) vs) .0 e .0) (item-fine v vs g))
 
-counting-fine : (z : ℤ) (n : ℕ) → (8 * n + 4 ≤ valueLimit → SoundItems (upFrom z n)) → FineAnswer (counting z n)
+counting-fine : (z : ℤ) (n : ℕ) → (8 * n + 4 ≤ valueLimit → SoundItems (upFrom z n)) → FineAnswer (consecutive z n)
 counting-fine z n f =
     by-test (leb (4 + 8 * n) valueLimit)
     (λ e.
@@ -177,7 +177,7 @@ counting-fine z n f =
 
 -- ---- sequences
 
-headOf-fine : (vs : Items) → Good sequence vs → FineAnswer (headOf vs)
+headOf-fine : (vs : Items) → Good sequence vs → FineAnswer (firstItem vs)
 headOf-fine none g = omega arith
 headOf-fine (more v vs) g = item-fine v vs g
 
@@ -193,7 +193,7 @@ one-in : InRange (pos 1)
 one-in = refl
 
 -- The indexes of a sequence are in range.
-indexes-fine : (vs : Items) → Good sequence vs → FineAnswer (counting (pos 1) (count vs))
+indexes-fine : (vs : Items) → Good sequence vs → FineAnswer (consecutive (pos 1) (count vs))
 indexes-fine vs g =
     counting-fine (pos 1) (count vs)
     (λ h. sound-up (pos 1) greatestInteger one-in refl (pos 1) (count vs) (omega arith) (omega arith))
@@ -255,7 +255,7 @@ apply-fine (collection k vs) w p q = applyItems-fine k vs w (good p) q
 
 -- THEOREM: a set range
 pub range-fine : (v w : Value) → WellFormed v → WellFormed w → FineAnswer (rangeOf v w)
-range-fine v w p q = wholes-fine (λ a b. counting a (howMany a b)) (λ a b r t. counting-fine a (howMany a b) (λ h. sound-range a b r t)) v w p q
+range-fine v w p q = wholes-fine (λ a b. consecutive a (howMany a b)) (λ a b r t. counting-fine a (howMany a b) (λ h. sound-range a b r t)) v w p q
 
 -- THEOREM: what the left of and, or and => settles, and what the right gives
 abbrev pub FineLeft : Left → Type 0

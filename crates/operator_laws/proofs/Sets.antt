@@ -15,7 +15,7 @@ use Rattle.values.proofs.Order.{same-true}
 use Rattle.values.proofs.Members.{member-here, member-insert, before-apart, insert-present, sizes-insert, count-insert, ascending-insert, same-members}
 use Rattle.operators.specs.Answer.{is, refused, tooLarge, built, stopped, closed, sized}
 use Rattle.operators.specs.Gather.{everyItem, anyItem, keepItems, insertAll, itemsIn, flatten, upFrom}
-use Rattle.operators.specs.Sets.{unite, intersect, without, isSubset, isEmpty, uniteAll, intersectAll, counting}
+use Rattle.operators.specs.Sets.{unite, intersect, subtract, isSubset, isEmpty, uniteAll, intersectAll, consecutive}
 use Rattle.operator_laws.proofs.Gather.{member-none, member-there, every-at, every-all, Some, any-some, some-any, member-keep, member-insertAll, ascending-insertAll, member-flatten}
 use Rattle.operator_laws.proofs.Ranges.{sizes-up}
 
@@ -30,7 +30,7 @@ member-intersect : (x : Value) (vs ws : Items) → isMember x (intersect vs ws) 
 member-intersect x vs ws = member-keep (λ v. isMember v ws) x vs
 
 -- THEOREM: s1 \ s2 contains the elements from s1 that are not in s2
-member-without : (x : Value) (vs ws : Items) → isMember x (without vs ws) ≡ isMember x vs && not (isMember x ws)
+member-without : (x : Value) (vs ws : Items) → isMember x (subtract vs ws) ≡ isMember x vs && not (isMember x ws)
 member-without x vs ws = member-keep (λ v. not (isMember v ws)) x vs
 
 -- A set has its members in one way only: whatever is strictly ascending and has the members of the union is the union.
@@ -56,28 +56,28 @@ pub record Extra (vs ws : Items) : Type 0 where
   pub isIn : isMember member ws ≡ true
   pub notIn : isMember member vs ≡ false
 
-extra : (vs ws : Items) → not (isEmpty (without ws vs)) ≡ true → Extra vs ws
-extra vs ws e = go (without ws vs) refl e
+extra : (vs ws : Items) → not (isEmpty (subtract ws vs)) ≡ true → Extra vs ws
+extra vs ws e = go (subtract ws vs) refl e
   where
-    go : (us : Items) → without ws vs ≡ us → not (isEmpty us) ≡ true → Extra vs ws
+    go : (us : Items) → subtract ws vs ≡ us → not (isEmpty us) ≡ true → Extra vs ws
     go none d e = never e
     go (more u us) d e =
-        let m : isMember u (without ws vs) ≡ true = ap (isMember u) d ∙ member-here u us in
+        let m : isMember u (subtract ws vs) ≡ true = ap (isMember u) d ∙ member-here u us in
         let h = and-eq-true-iff (isMember u ws) (not (isMember u vs)) .0 (sym (member-without u ws vs) ∙ m) in
         record { member = u; isIn = h .0; notIn = not-true (isMember u vs) (h .1) }
 
-not-empty : (vs ws : Items) → Extra vs ws → not (isEmpty (without ws vs)) ≡ true
-not-empty vs ws h = go (without ws vs) (member-without (h .member) ws vs ∙ and-intro (h .isIn) (ap not (h .notIn)))
+not-empty : (vs ws : Items) → Extra vs ws → not (isEmpty (subtract ws vs)) ≡ true
+not-empty vs ws h = go (subtract ws vs) (member-without (h .member) ws vs ∙ and-intro (h .isIn) (ap not (h .notIn)))
   where
     go : (us : Items) → isMember (h .member) us ≡ true → not (isEmpty us) ≡ true
     go none m = never (sym (member-none (h .member)) ∙ m)
     go (more u us) m = refl
 
 -- THEOREM: s1 psubset s2 where s1 is a subset and s2 has an element that is not in s1
-psubset-parts : (vs ws : Items) → isSubset vs ws && not (isEmpty (without ws vs)) ≡ true → (isSubset vs ws ≡ true) × Extra vs ws
-psubset-parts vs ws e = let h = and-eq-true-iff (isSubset vs ws) (not (isEmpty (without ws vs))) .0 e in (h .0, extra vs ws (h .1))
+psubset-parts : (vs ws : Items) → isSubset vs ws && not (isEmpty (subtract ws vs)) ≡ true → (isSubset vs ws ≡ true) × Extra vs ws
+psubset-parts vs ws e = let h = and-eq-true-iff (isSubset vs ws) (not (isEmpty (subtract ws vs))) .0 e in (h .0, extra vs ws (h .1))
 
-psubset-both : (vs ws : Items) → isSubset vs ws ≡ true → Extra vs ws → isSubset vs ws && not (isEmpty (without ws vs)) ≡ true
+psubset-both : (vs ws : Items) → isSubset vs ws ≡ true → Extra vs ws → isSubset vs ws && not (isEmpty (subtract ws vs)) ≡ true
 psubset-both vs ws e h = and-intro e (not-empty vs ws h)
 
 -- ---- dunion, dinter
@@ -108,20 +108,20 @@ keep-same p q (more v vs) f =
     ∙ ap (λ (us : Items). cond (q v) (more v us) us) (keep-same p q vs (λ x m. f x (member-there x v vs m)))
 
 -- THEOREM: card (s1 \ s2) + card (s1 inter s2) = card s1
-card-parts : (vs ws : Items) → count (without vs ws) + count (intersect vs ws) ≡ count vs
+card-parts : (vs ws : Items) → count (subtract vs ws) + count (intersect vs ws) ≡ count vs
 unfolding keepItems count
 card-parts none ws = refl
 card-parts (more v vs) ws = let h = card-parts vs ws in by-test (isMember v ws) (λ e. rw e (omega arith)) (λ e. rw e (omega arith))
 
 -- A member put into a set does not change what another set has beside it, where that other set lacks the member.
-without-insert : (w : Value) (vs ws : Items) → isMember w ws ≡ false → without ws (insert w vs) ≡ without ws vs
+without-insert : (w : Value) (vs ws : Items) → isMember w ws ≡ false → subtract ws (insert w vs) ≡ subtract ws vs
 without-insert w vs ws n =
     keep-same (λ x. not (isMember x (insert w vs))) (λ x. not (isMember x vs)) ws
     (λ x m. ap not (member-insert x w vs ∙ by-test (same x w) (λ s. never (sym n ∙ sym (ap (λ (y : Value). isMember y ws) (same-true x w s)) ∙ m)) (λ s. cond-false (same x w) true (isMember x vs) s)))
 
 -- THEOREM: s1 union s2 has the members of s1 and those of s2 \ s1, in number and in size
 unite-counts : (vs ws : Items) → Ascending vs → Ascending ws
-    → (count (unite vs ws) ≡ count vs + count (without ws vs)) × (sizes (unite vs ws) ≡ sizes vs + sizes (without ws vs))
+    → (count (unite vs ws) ≡ count vs + count (subtract ws vs)) × (sizes (unite vs ws) ≡ sizes vs + sizes (subtract ws vs))
 unfolding Ascending insertAll keepItems count size
 unite-counts vs none a b = (omega arith, omega arith)
 unite-counts vs (more w ws) a b =
@@ -142,7 +142,7 @@ unite-counts vs (more w ws) a b =
 -- ---- the set range
 
 -- THEOREM: integers that are counted, judged by their number before any is formed, are judged as the finished set is
-counting-is : (z : ℤ) (n : ℕ) → counting z n ≡ sized set (upFrom z n)
+counting-is : (z : ℤ) (n : ℕ) → consecutive z n ≡ sized set (upFrom z n)
 counting-is z n = ap (λ (k : ℕ). cond (leb (4 + k) valueLimit) (is (collection set (upFrom z n))) (refused tooLarge)) (sym (sizes-up z n)) ∙ go (leb (4 + sizes (upFrom z n)) valueLimit)
   where
     go : (b : Bool) → cond b (is (collection set (upFrom z n))) (refused tooLarge) ≡ closed set (cond b (built (upFrom z n)) (stopped tooLarge))

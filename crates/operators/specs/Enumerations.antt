@@ -15,12 +15,12 @@ abbrev pub addItem : Items → Value → Built
 addItem vs v = fitting (snoc vs v)
 
 -- A key that is there already, with this value: nothing to add. With another: 27.
-abbrev pub entered : Option Value → Items → Value → Value → Built
-entered absent vs k v = fitting (enter k v vs)
-entered (some w) vs k v = cond (same v w) (built vs) (stopped clash)
+abbrev pub entryAdded : Option Value → Items → Value → Value → Built
+entryAdded absent vs k v = fitting (enter k v vs)
+entryAdded (some w) vs k v = cond (same v w) (built vs) (stopped clash)
 
 abbrev pub addEntry : Items → Value → Value → Built
-addEntry vs k v = entered (lookup k vs) vs k v
+addEntry vs k v = entryAdded (lookup k vs) vs k v
 
 -- ---- all parts
 

@@ -16,13 +16,13 @@ abbrev pub range : Value → Answer
 range v = needs (asMap v) (λ vs. is (collection set (insertAll none (mapped vs))))
 
 -- A value beside what a key is mapped to: the same, if it is mapped at all.
-abbrev pub agrees : Option Value → Value → Bool
-agrees absent v = true
-agrees (some w) v = same v w
+abbrev pub agreesWith : Option Value → Value → Bool
+agreesWith absent v = true
+agreesWith (some w) v = same v w
 
 -- Two maps are compatible if any common key is mapped to the same value by both (page 19).
 abbrev pub compatible : Items → Items → Bool
-compatible vs ws = everyEntry (λ k v. agrees (lookup k vs) v) ws
+compatible vs ws = everyEntry (λ k v. agreesWith (lookup k vs) v) ws
 
 -- m1 munion m2 (page 20): the two must be compatible, which is tested first; over 512 bytes, 28
 abbrev pub mapUnion : Value → Value → Answer

@@ -7,15 +7,15 @@ use Rattle.values.specs.Value.{set, sequence, Value, integer, collection, Items
 use Rattle.values.specs.Items.{join, nth}
 use Rattle.operators.specs.Answer.{Answer, is, refused, wrongKind, notThere, asSequence, needs, needsBoth, sized}
 use Rattle.operators.specs.Gather.{everyItem, insertAll, isKind, flatten, backwards}
-use Rattle.operators.specs.Sets.{counting}
+use Rattle.operators.specs.Sets.{consecutive}
 
 -- hd l: l must be non-empty
-abbrev pub headOf : Items → Answer
-headOf none = refused notThere
-headOf (more v vs) = is v
+abbrev pub firstItem : Items → Answer
+firstItem none = refused notThere
+firstItem (more v vs) = is v
 
 abbrev pub head : Value → Answer
-head v = needs (asSequence v) (λ vs. headOf vs)
+head v = needs (asSequence v) (λ vs. firstItem vs)
 
 -- tl l: l must be non-empty
 abbrev pub tailOf : Items → Answer
@@ -35,7 +35,7 @@ elements v = needs (asSequence v) (λ vs. is (collection set (insertAll none vs)
 
 -- inds l: the set {1, ..., len l}; over 512 bytes, 28
 abbrev pub indexes : Value → Answer
-indexes v = needs (asSequence v) (λ vs. counting (pos 1) (count vs))
+indexes v = needs (asSequence v) (λ vs. consecutive (pos 1) (count vs))
 
 -- reverse l
 abbrev pub reverse : Value → Answer

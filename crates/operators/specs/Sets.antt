@@ -19,8 +19,8 @@ unite vs ws = insertAll vs ws
 abbrev pub intersect : Items → Items → Items
 intersect vs ws = keepItems (λ v. isMember v ws) vs
 
-abbrev pub without : Items → Items → Items
-without vs ws = keepItems (λ v. not (isMember v ws)) vs
+abbrev pub subtract : Items → Items → Items
+subtract vs ws = keepItems (λ v. not (isMember v ws)) vs
 
 -- Every member of the first is in the second.
 abbrev pub isSubset : Items → Items → Bool
@@ -56,7 +56,7 @@ intersection v w = needsBoth (asSet v) (asSet w) (λ vs ws. is (collection set (
 
 -- s1 \ s2 (page 15)
 abbrev pub difference : Value → Value → Answer
-difference v w = needsBoth (asSet v) (asSet w) (λ vs ws. is (collection set (without vs ws)))
+difference v w = needsBoth (asSet v) (asSet w) (λ vs ws. is (collection set (subtract vs ws)))
 
 -- s1 subset s2 (page 15)
 abbrev pub subset : Value → Value → Answer
@@ -64,7 +64,7 @@ subset v w = needsBoth (asSet v) (asSet w) (λ vs ws. truth (isSubset vs ws))
 
 -- s1 psubset s2 (page 15): it is a subset and s2 \ s1 is non-empty
 abbrev pub properSubset : Value → Value → Answer
-properSubset v w = needsBoth (asSet v) (asSet w) (λ vs ws. truth (isSubset vs ws && not (isEmpty (without ws vs))))
+properSubset v w = needsBoth (asSet v) (asSet w) (λ vs ws. truth (isSubset vs ws && not (isEmpty (subtract ws vs))))
 
 -- card s (page 15)
 abbrev pub cardinality : Value → Answer
@@ -85,17 +85,17 @@ distributedIntersection v = needs (asSet v) (λ vs. cond (everyItem (isKind set)
 -- ---- {e1, ..., e2} (page 62): the set of integers from e1 to e2 inclusive, empty if e2 is smaller
 
 -- A whole number as a count: none where it is negative.
-abbrev pub counted : ℤ → ℕ
-counted (pos n) = n
-counted (negsuc n) = 0
+abbrev pub asCount : ℤ → ℕ
+asCount (pos n) = n
+asCount (negsuc n) = 0
 
 -- How many integers there are from one to another.
 abbrev pub howMany : ℤ → ℤ → ℕ
-howMany from to = counted (to -ℤ from +ℤ pos 1)
+howMany from to = asCount (to -ℤ from +ℤ pos 1)
 
 -- n integers, which take 8 bytes each, from one up; over 512 bytes, 28. (So n is judged before the members are formed.)
-abbrev pub counting : ℤ → ℕ → Answer
-counting from n = cond (leb (4 + 8 * n) valueLimit) (is (collection set (upFrom from n))) (refused tooLarge)
+abbrev pub consecutive : ℤ → ℕ → Answer
+consecutive from n = cond (leb (4 + 8 * n) valueLimit) (is (collection set (upFrom from n))) (refused tooLarge)
 
 abbrev pub rangeOf : Value → Value → Answer
-rangeOf v w = needsBoth (asInteger v) (asInteger w) (λ from to. counting from (howMany from to))
+rangeOf v w = needsBoth (asInteger v) (asInteger w) (λ from to. consecutive from (howMany from to))

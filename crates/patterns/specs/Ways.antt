@@ -37,11 +37,11 @@ cuts [] = halves [] [] ∷ []
 cuts (x ∷ xs) = halves [] (x ∷ xs) ∷ map (toLeft x) (cuts xs)
 
 -- The units with one more, at every place.
-unfoldable pub placed : {A : Type 0} → A → List A → List (List A)
-placed x [] = (x ∷ []) ∷ []
-placed x (y ∷ ys) = (x ∷ y ∷ ys) ∷ map (λ zs. y ∷ zs) (placed x ys)
+unfoldable pub atEveryPlace : {A : Type 0} → A → List A → List (List A)
+atEveryPlace x [] = (x ∷ []) ∷ []
+atEveryPlace x (y ∷ ys) = (x ∷ y ∷ ys) ∷ map (λ zs. y ∷ zs) (atEveryPlace x ys)
 
 -- Every order of the units.
 unfoldable pub orders : {A : Type 0} → List A → List (List A)
 orders [] = [] ∷ []
-orders (x ∷ xs) = gather (orders xs) (placed x)
+orders (x ∷ xs) = gather (orders xs) (atEveryPlace x)

@@ -19,38 +19,38 @@ use Rattle.values.proofs.Encoding.{size-low, collection-size}
 use Rattle.values.proofs.Records.{word-size, holds, one-value, items-none, Uncons, uncons-of, is-collection, items-to, collection-shaped, collection-sound, integer-range}
 use Rattle.print.specs.declared.Separator.{Separator}
 use Rattle.print.specs.declared.Separator.the-variants.{Nothing}
-use Rattle.print.specs.Text.{truth, integerText, text}
-use Rattle.print.specs.Contract.{Room, Wrote, ValueRoom, ValueWritten, before, following, spelled, ItemsRoom, ItemsWritten, opening, closing, Opened, Closed}
+use Rattle.print.specs.Text.{truthText, integerText, text}
+use Rattle.print.specs.Contract.{Room, Wrote, ValueRoom, ValueWritten, separatorText, following, spelled, ItemsRoom, ItemsWritten, opening, closingBracket, Opened, Closed}
 use Rattle.print.proofs.Writing.{wrote-none, wrote-then, wrote-as, wrote-length}
 use Rattle.print.proofs.Spelling.{isNone, isMap, text-is, before-short, opening-short, truth-short, integer-short, text-short, spelled-short}
 
 -- ---- items
 
-pub items-end : {s : List ℕ} {from to : ℕ} (is-map : Bool) (x : Separator) (out : List ℕ) (at : ℕ) → from ≡ to → ItemsWritten s from to is-map x out out at at
+pub spelled-end : {s : List ℕ} {from to : ℕ} (is-map : Bool) (x : Separator) (out : List ℕ) (at : ℕ) → from ≡ to → ItemsWritten s from to is-map x out out at at
 unfolding spelled
-items-end is-map x out at e vs h = wrote-as (ap (spelled is-map x) (sym (items-none (omega arith) h))) (wrote-none out at)
+spelled-end is-map x out at e vs h = wrote-as (ap (spelled is-map x) (sym (items-none (omega arith) h))) (wrote-none out at)
 
 module _ {s : List ℕ} {from to : ℕ} (f : from ≡ to → ⊥) where
   -- the first of the items, whatever they are
-  pub begun : (h : HoldsItems s from to) → Uncons s from to (h .0)
-  begun (vs, h) = uncons-of f h
+  pub spelled-begun : (h : HoldsItems s from to) → Uncons s from to (h .0)
+  spelled-begun (vs, h) = uncons-of f h
 
   pub first-holds : HoldsItems s from to → Holds s from
-  first-holds h = holds (begun h .first-at)
+  first-holds h = holds (spelled-begun h .first-at)
 
-  pub separator-room : {out : List ℕ} {at : ℕ} (x : Separator) → ItemsRoom s from to out at → Room out at (before x)
-  separator-room x r = let u = begun (r .held) in omega (arith, before-short x)
+  pub separator-room : {out : List ℕ} {at : ℕ} (x : Separator) → ItemsRoom s from to out at → Room out at (separatorText x)
+  separator-room x r = let u = spelled-begun (r .held) in omega (arith, before-short x)
 
-  module _ {out out₁ : List ℕ} {at p : ℕ} (x : Separator) (w : Wrote out out₁ at (before x) p) where
+  module _ {out out₁ : List ℕ} {at p : ℕ} (x : Separator) (w : Wrote out out₁ at (separatorText x) p) where
     pub first-room : ItemsRoom s from to out at → ValueRoom s from out₁ p
     first-room r =
-        let u = begun (r .held) in
+        let u = spelled-begun (r .held) in
         record { held = holds (u .first-at); room = omega (arith, before-short x, wrote-length w) }
 
     module _ {out₂ : List ℕ} {q n : ℕ} (l : Length s from n) (g : ValueWritten s from out₁ out₂ p q) where
       pub rest-room : ItemsRoom s from to out at → ItemsRoom s (from + n) to out₂ q
       rest-room r =
-          let u = begun (r .held) in
+          let u = spelled-begun (r .held) in
           let v = g (u .first) (u .first-at) in
           let b = text-short (u .first) (u .first-at .fine .sound) in
           let e = word-size (u .first-at) in
@@ -69,17 +69,17 @@ module _ {s : List ℕ} {from to : ℕ} (f : from ≡ to → ⊥) where
           let j : ItemsAt s (from + n) to (u .rest) = subst (λ (k : ℕ). ItemsAt s (from + k) to (u .rest)) (sym (l .is)) (u .rest-at) in
           let z = wrote-then (wrote-then w (g (u .first) (u .first-at))) (h (u .rest) j) in
           wrote-as
-          (ap (λ (z : Separator). (before x ++ text (u .first)) ++ spelled is-map z (u .rest)) e ∙ ap (spelled is-map x) (sym (u .is)))
+          (ap (λ (z : Separator). (separatorText x ++ text (u .first)) ++ spelled is-map z (u .rest)) e ∙ ap (spelled is-map x) (sym (u .is)))
           z
 
 -- ---- booleans and integers
 
 module _ {s : List ℕ} {from : ℕ} where
-  pub boolean-room : {out : List ℕ} {at : ℕ} {b : Bool} → At s from (boolean b) → ValueRoom s from out at → Room out at (truth b)
+  pub boolean-text-room : {out : List ℕ} {at : ℕ} {b : Bool} → At s from (boolean b) → ValueRoom s from out at → Room out at (truthText b)
   unfolding size
-  boolean-room {out} {at} {b} h r = let e = word-size h in omega (arith, truth-short b)
+  boolean-text-room {out} {at} {b} h r = let e = word-size h in omega (arith, truth-short b)
 
-  pub boolean-written : {out out′ : List ℕ} {at r : ℕ} {b : Bool} → At s from (boolean b) → Wrote out out′ at (truth b) r → ValueWritten s from out out′ at r
+  pub boolean-written : {out out′ : List ℕ} {at r : ℕ} {b : Bool} → At s from (boolean b) → Wrote out out′ at (truthText b) r → ValueWritten s from out out′ at r
   unfolding text
   boolean-written h w v g = wrote-as (ap text (one-value h g)) w
 
@@ -87,9 +87,9 @@ module _ {s : List ℕ} {from : ℕ} where
   same-integer : {z : ℤ} → At s from (integer z) → toZ w32 (ofZ w32 z) ≡ z
   same-integer {z} h = toZ-ofZ (range-fits z (integer-range (h .fine)))
 
-  pub integer-room : {out : List ℕ} {at : ℕ} {z : ℤ} → At s from (integer z) → ValueRoom s from out at → Room out at (integerText (toZ w32 (ofZ w32 z)))
+  pub integer-text-room : {out : List ℕ} {at : ℕ} {z : ℤ} → At s from (integer z) → ValueRoom s from out at → Room out at (integerText (toZ w32 (ofZ w32 z)))
   unfolding size
-  integer-room {out} {at} {z} h r =
+  integer-text-room {out} {at} {z} h r =
       let e = word-size h in
       let d = ap length (ap integerText (same-integer h)) in
       omega (arith, integer-short z (integer-range (h .fine)))
@@ -107,8 +107,8 @@ pub record Collected (s : List ℕ) (from k : ℕ) : Type 0 where
   pub here : At s from (collection kind items)
   pub is : k ≡ number kind
 
-pub collected : {s : List ℕ} {from k : ℕ} → Holds s from → KindAt s from k → (k ≡ 1 → ⊥) → (k ≡ 2 → ⊥) → Collected s from k
-collected {s} {from} h e f g =
+pub collected-at : {s : List ℕ} {from k : ℕ} → Holds s from → KindAt s from k → (k ≡ 1 → ⊥) → (k ≡ 2 → ⊥) → Collected s from k
+collected-at {s} {from} h e f g =
     let v = e .right (h .value) (h .here) in
     let (k, vs, x) = is-collection (h .value) (λ p. f (v ∙ p)) (λ p. g (v ∙ p)) in
     let a : At s from (collection k vs) = subst (At s from) x (h .here) in
@@ -158,5 +158,5 @@ module _ {s : List ℕ} {from k n : ℕ} (c : Collected s from k) (l : Length s 
         let d : eqb k 5 ≡ isMap (c .kind) = ap (λ (j : ℕ). eqb j 5) (c .is) ∙ is-map-of (c .kind) in
         let t = text-is (c .kind) (c .items) (collection-shaped (c .here .fine)) in
         wrote-as
-        (ap₂ (λ (a b : Bool). (opening (c .kind) a ++ spelled b Nothing (c .items)) ++ closing (c .kind)) e d ∙ sym t ∙ ap text (one-value (c .here) g))
+        (ap₂ (λ (a b : Bool). (opening (c .kind) a ++ spelled b Nothing (c .items)) ++ closingBracket (c .kind)) e d ∙ sym t ∙ ap text (one-value (c .here) g))
         (wrote-then (wrote-then xs ys) zs)

@@ -9,7 +9,7 @@ use Rattle.values.specs.Value.{Value}
 use Rattle.values.specs.Place.{Holds}
 use Rattle.values.proofs.Records.{holds}
 use Rattle.print.specs.Ascii.{newline, space, exclamation, equals}
-use Rattle.print.specs.Text.{decimal, continued, listText, word, outcomeText, line}
+use Rattle.print.specs.Text.{decimal, continued, listText, refusalWord, outcomeText, line}
 use Rattle.print.specs.Contract.{Wrote, Room, ValueRoom, ValueWritten, longestLine, Answers, gave, refused, OutcomeRoom, OutcomeWritten, LineRoom, LineWritten}
 use Rattle.print.proofs.Writing.{wrote-length, wrote-then, wrote-byte, wrote-after, wrote-as}
 use Rattle.print.proofs.Decimals.{decimal-byte, decimal-any}
@@ -35,7 +35,7 @@ module _ {s : List ℕ} {n : ℕ} where
   outcome-short (refused low high p k e) =
       let d = decimal-any n (omega arith) in
       let w = word-short n high in
-      omega (arith, ap length (ap outcomeText e), length-append (decimal n) (space ∷ word n))
+      omega (arith, ap length (ap outcomeText e), length-append (decimal n) (space ∷ refusalWord n))
 
 continued-short : (l : List ℕ) → ((i : ℕ) → getD l i 0 < 256) → length (continued (each decimal l)) ≤ 4 * length l
 continued-short [] h = omega arith
@@ -70,15 +70,15 @@ module _ {s out : List ℕ} {n at : ℕ} (r : OutcomeRoom s n out at) where
   pub outcome-refused : (n ≡ 0 → ⊥) → (20 ≤ n) × (n ≤ 31)
   outcome-refused f = refused-range f (r .answered .answers)
 
-pub value-written : {s out out′ : List ℕ} {n at r : ℕ} → n ≡ 0 → ValueWritten s 0 (set out at equals) out′ (at + 1) r → OutcomeWritten s n out out′ at r
-value-written {s} {out} {out′} {n} {at} {r} e w answer (gave d v f h) = wrote-as (ap outcomeText (sym f)) (wrote-after equals (w v h))
-value-written e w answer (refused low high p k f) = absurd (omega arith)
+pub value-shown : {s out out′ : List ℕ} {n at r : ℕ} → n ≡ 0 → ValueWritten s 0 (set out at equals) out′ (at + 1) r → OutcomeWritten s n out out′ at r
+value-shown {s} {out} {out′} {n} {at} {r} e w answer (gave d v f h) = wrote-as (ap outcomeText (sym f)) (wrote-after equals (w v h))
+value-shown e w answer (refused low high p k f) = absurd (omega arith)
 
-pub refusal-written : {s out t u : List ℕ} {n at p q : ℕ} → (n ≡ 0 → ⊥) → Wrote (set out at exclamation) t (at + 1) (decimal n) p → Wrote (set t p space) u (p + 1) (word n) q → OutcomeWritten s n out u at q
+pub refusal-written : {s out t u : List ℕ} {n at p q : ℕ} → (n ≡ 0 → ⊥) → Wrote (set out at exclamation) t (at + 1) (decimal n) p → Wrote (set t p space) u (p + 1) (refusalWord n) q → OutcomeWritten s n out u at q
 refusal-written f x y answer (gave d w e h) = absurd (f d)
 refusal-written {s} {out} {t} {u} {n} {at} {p} {q} f x y answer (refused low high p′ k e) =
     wrote-as
-    (append-assoc (exclamation ∷ decimal n) (space ∷ []) (word n) ∙ ap outcomeText (sym e))
+    (append-assoc (exclamation ∷ decimal n) (space ∷ []) (refusalWord n) ∙ ap outcomeText (sym e))
     (wrote-then (wrote-byte space (wrote-after exclamation x)) y)
 
 -- ---- a line

@@ -23,8 +23,8 @@ module _ (list : List ℕ) where
       go [] h = absurd (omega arith)
       go (c ∷ l) h = refl
 
-  pub list-length : 0 < length list → length (listText list) ≡ length (decimal (getD list 0 0)) + length (tails list 1)
-  list-length h = ap length (list-first h) ∙ length-append (decimal (getD list 0 0)) (tails list 1)
+  pub listing-length : 0 < length list → length (listText list) ≡ length (decimal (getD list 0 0)) + length (tails list 1)
+  listing-length h = ap length (list-first h) ∙ length-append (decimal (getD list 0 0)) (tails list 1)
 
   pub list-none : length list ≡ 0 → listText list ≡ hyphen ∷ []
   list-none e = go list e
@@ -56,7 +56,7 @@ module _ (list : List ℕ) where
   -- the first entry is written, and there was room for the whole list
   pub listing-start : {out₀ out : List ℕ} {at end : ℕ} → 0 < length list → Wrote out₀ out at (decimal (getD list 0 0)) end → Room out₀ at (listText list) → Listing out end out end 1
   listing-start h w r =
-      let e = list-length h in
+      let e = listing-length h in
       let m = wrote-length w in
       record { within = h; long = refl; room = omega arith; ends = refl; rest = refl }
 

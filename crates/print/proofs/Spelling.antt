@@ -11,8 +11,8 @@ use Rattle.values.specs.Value.{Kind, set, sequence, map, tuple, Value, boolean,
 use Rattle.print.specs.declared.Separator.{Separator}
 use Rattle.print.specs.declared.Separator.the-variants.{Nothing, Comma, Arrow}
 use Rattle.print.specs.Ascii.{comma}
-use Rattle.print.specs.Text.{integerText, truth, continued, joined, pairs, entries, arrow, text, texts}
-use Rattle.print.specs.Contract.{before, following, spelled, opening, closing}
+use Rattle.print.specs.Text.{integerText, truthText, continued, commaJoined, pairTexts, entriesText, arrow, text, texts}
+use Rattle.print.specs.Contract.{separatorText, following, spelled, opening, closingBracket}
 use Rattle.integers.proofs.Range.{range-fits}
 use Rattle.values.proofs.Entries.{by-entries}
 use Rattle.print.proofs.Decimals.{decimal-integer}
@@ -24,7 +24,7 @@ unfolding spelled text
 spelled-continued none = refl
 spelled-continued (more v vs) = ap (λ (l : List ℕ). (comma ∷ text v) ++ l) (spelled-continued vs)
 
-pub spelled-joined : (vs : Items) → spelled false Nothing vs ≡ joined (texts vs)
+pub spelled-joined : (vs : Items) → spelled false Nothing vs ≡ commaJoined (texts vs)
 unfolding spelled text
 spelled-joined none = refl
 spelled-joined (more v vs) = ap (λ (l : List ℕ). text v ++ l) (spelled-continued vs)
@@ -35,13 +35,13 @@ spelled-joined (more v vs) = ap (λ (l : List ℕ). text v ++ l) (spelled-contin
 entry : (x y z : List ℕ) → x ++ ((arrow ++ y) ++ z) ≡ ((x ++ arrow) ++ y) ++ z
 entry x y z = simp append-assoc
 
-pairs-continued : (vs : Items) → Paired vs → spelled true Comma vs ≡ continued (pairs (texts vs))
+pairs-continued : (vs : Items) → Paired vs → spelled true Comma vs ≡ continued (pairTexts (texts vs))
 unfolding spelled text
 pairs-continued =
-    by-entries (λ vs. spelled true Comma vs ≡ continued (pairs (texts vs))) refl
+    by-entries (λ vs. spelled true Comma vs ≡ continued (pairTexts (texts vs))) refl
     λ k v vs p e. entry (comma ∷ text k) (text v) (spelled true Comma vs) ∙ ap (λ (l : List ℕ). ((comma ∷ text k) ++ arrow ++ text v) ++ l) e
 
-pub spelled-entries : (v : Value) (vs : Items) → Paired (more v vs) → spelled true Nothing (more v vs) ≡ entries (texts (more v vs))
+pub spelled-entries : (v : Value) (vs : Items) → Paired (more v vs) → spelled true Nothing (more v vs) ≡ entriesText (texts (more v vs))
 unfolding spelled text PairedFrom
 spelled-entries k none h = absurd h
 spelled-entries k (more v vs) h =
@@ -59,17 +59,17 @@ isMap sequence = false
 isMap map = true
 isMap tuple = false
 
-pub text-is : (k : Kind) (vs : Items) → Shaped k vs → text (collection k vs) ≡ (opening k (isNone vs) ++ spelled (isMap k) Nothing vs) ++ closing k
+pub text-is : (k : Kind) (vs : Items) → Shaped k vs → text (collection k vs) ≡ (opening k (isNone vs) ++ spelled (isMap k) Nothing vs) ++ closingBracket k
 unfolding spelled text
-text-is set vs h = ap (λ (l : List ℕ). (opening set false ++ l) ++ closing set) (sym (spelled-joined vs))
-text-is sequence vs h = ap (λ (l : List ℕ). (opening sequence false ++ l) ++ closing sequence) (sym (spelled-joined vs))
+text-is set vs h = ap (λ (l : List ℕ). (opening set false ++ l) ++ closingBracket set) (sym (spelled-joined vs))
+text-is sequence vs h = ap (λ (l : List ℕ). (opening sequence false ++ l) ++ closingBracket sequence) (sym (spelled-joined vs))
 text-is map none h = refl
-text-is map (more v vs) h = ap (λ (l : List ℕ). (opening map false ++ l) ++ closing map) (sym (spelled-entries v vs (h .0)))
-text-is tuple vs h = ap (λ (l : List ℕ). (opening tuple false ++ l) ++ closing tuple) (sym (spelled-joined vs))
+text-is map (more v vs) h = ap (λ (l : List ℕ). (opening map false ++ l) ++ closingBracket map) (sym (spelled-entries v vs (h .0)))
+text-is tuple vs h = ap (λ (l : List ℕ). (opening tuple false ++ l) ++ closingBracket tuple) (sym (spelled-joined vs))
 
 -- ---- how long
 
-pub before-short : (x : Separator) → length (before x) ≤ 3
+pub before-short : (x : Separator) → length (separatorText x) ≤ 3
 before-short Nothing = omega arith
 before-short Comma = omega arith
 before-short Arrow = omega arith
@@ -81,13 +81,13 @@ opening-short map true = omega arith
 opening-short map false = omega arith
 opening-short tuple b = omega arith
 
-closing-one : (k : Kind) → length (closing k) ≡ 1
+closing-one : (k : Kind) → length (closingBracket k) ≡ 1
 closing-one set = refl
 closing-one sequence = refl
 closing-one map = refl
 closing-one tuple = refl
 
-pub truth-short : (b : Bool) → length (truth b) ≤ 5
+pub truth-short : (b : Bool) → length (truthText b) ≤ 5
 truth-short true = omega arith
 truth-short false = omega arith
 
@@ -113,7 +113,7 @@ mutual
       let xs = opening k (isNone vs) in
       let ys = spelled (isMap k) Nothing vs in
       let f = spelled-short (isMap k) Nothing vs (h .1) in
-      omega (arith, length-append (xs ++ ys) (closing k), length-append xs ys, opening-short k (isNone vs), closing-one k)
+      omega (arith, length-append (xs ++ ys) (closingBracket k), length-append xs ys, opening-short k (isNone vs), closing-one k)
 
   pub spelled-short : (is-map : Bool) (x : Separator) (vs : Items) → SoundItems vs → length (spelled is-map x vs) ≤ 2 * sizes vs
   spelled-short is-map x none h = omega arith
@@ -121,4 +121,4 @@ mutual
       let ys = spelled is-map (following is-map x) vs in
       let e = text-short v (h .0) in
       let f = spelled-short is-map (following is-map x) vs (h .1) in
-      omega (arith, length-append (before x ++ text v) ys, length-append (before x) (text v), before-short x)
+      omega (arith, length-append (separatorText x ++ text v) ys, length-append (separatorText x) (text v), before-short x)

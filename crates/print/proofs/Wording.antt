@@ -9,7 +9,7 @@ use lib.ListN.{length, getD, take, List·getD-map}
 use Rattle.tables.specs.Laws.Tests.{each as for-each}
 use Rattle.print.specs.declared.Word.{Word}
 use Rattle.print.specs.Ascii.{ascii}
-use Rattle.print.specs.Text.{words, word}
+use Rattle.print.specs.Text.{words, refusalWord}
 
 abbrev row : List ℕ → ℕ → Word
 row letters len = record { letters = letters; len = len }
@@ -42,8 +42,8 @@ spell w = take (w .len) (w .letters)
 all-words : each spell rows ≡ words
 all-words = refl
 
-pub word-of : (x : ℕ) → spell (rowOf (x - 20)) ≡ word x
-unfolding word
+pub word-of : (x : ℕ) → spell (rowOf (x - 20)) ≡ refusalWord x
+unfolding refusalWord
 word-of x = sym (List·getD-map spell rows (x - 20) other) ∙ ap (λ (ws : List (List ℕ)). getD ws (x - 20) []) all-words
 
 module _ (x : ℕ) (high : x ≤ 31) where
@@ -54,6 +54,6 @@ module _ (x : ℕ) (high : x ≤ 31) where
   pub row-short : rowOf (x - 20) .len ≤ 10
   row-short = leb-true _ _ (for-each (λ j. leb (rowOf j .len) 10) 12 refl (x - 20) (omega arith))
 
-  pub word-short : length (word x) ≤ 10
-  unfolding word
+  pub word-short : length (refusalWord x) ≤ 10
+  unfolding refusalWord
   word-short = leb-true _ _ (for-each (λ j. leb (length (getD words j [])) 10) 12 refl (x - 20) (omega arith))

@@ -51,8 +51,8 @@ module _ (bytes out₀ : List ℕ) (at : ℕ) where
   pub copying-start : Copying bytes out₀ at out₀ 0
   copying-start = record { within = omega arith; long = refl; rest = ap (λ (j : ℕ). sets out₀ j bytes) (add-zero at) }
 
-  pub copying-more : {out : List ℕ} {i : ℕ} → i < length bytes → Copying bytes out₀ at out i → Copying bytes out₀ at (set out (at + i) (getD bytes i 0)) (i + 1)
-  copying-more {out} {i} h c =
+  pub text-copied-more : {out : List ℕ} {i : ℕ} → i < length bytes → Copying bytes out₀ at out i → Copying bytes out₀ at (set out (at + i) (getD bytes i 0)) (i + 1)
+  text-copied-more {out} {i} h c =
       let b = getD bytes i 0 in
       let e : at + (i + 1) ≡ suc (at + i) = omega arith in
       let f : i + 1 ≡ suc i = omega arith in

@@ -46,10 +46,10 @@ abbrev pub ValueWritten : List ℕ → ℕ → List ℕ → List ℕ → ℕ →
 ValueWritten s from out out′ at r = (v : Value) → At s from v → Wrote out out′ at (text v) r
 
 -- What stands before an item, and what before the one after it. In a map an arrow follows a key.
-abbrev pub before : Separator → List ℕ
-before Nothing = []
-before Comma = comma ∷ []
-before Arrow = arrow
+abbrev pub separatorText : Separator → List ℕ
+separatorText Nothing = []
+separatorText Comma = comma ∷ []
+separatorText Arrow = arrow
 
 abbrev pub following : Bool → Separator → Separator
 following true Nothing = Arrow
@@ -60,7 +60,7 @@ following false x = Comma
 -- Items as the code spells them: each after what stands before it.
 unfoldable pub spelled : Bool → Separator → Items → List ℕ
 spelled is-map x none = []
-spelled is-map x (more v vs) = (before x ++ text v) ++ spelled is-map (following is-map x) vs
+spelled is-map x (more v vs) = (separatorText x ++ text v) ++ spelled is-map (following is-map x) vs
 
 pub record ItemsRoom (s : List ℕ) (from to : ℕ) (out : List ℕ) (at : ℕ) : Type 0 where
   pub held : HoldsItems s from to
@@ -79,17 +79,17 @@ opening map true = ascii "{|->"
 opening map false = ascii "{"
 opening tuple is-empty = ascii "mk_("
 
-abbrev pub closing : Kind → List ℕ
-closing set = ascii "}"
-closing sequence = ascii "]"
-closing map = ascii "}"
-closing tuple = ascii ")"
+abbrev pub closingBracket : Kind → List ℕ
+closingBracket set = ascii "}"
+closingBracket sequence = ascii "]"
+closingBracket map = ascii "}"
+closingBracket tuple = ascii ")"
 
 abbrev pub Opened : ℕ → Bool → List ℕ → List ℕ → ℕ → ℕ → Type 0
 Opened kind is-empty out out′ at r = (k : Kind) → kind ≡ number k → Wrote out out′ at (opening k is-empty) r
 
 abbrev pub Closed : ℕ → List ℕ → List ℕ → ℕ → ℕ → Type 0
-Closed kind out out′ at r = (k : Kind) → kind ≡ number k → Wrote out out′ at (closing k) r
+Closed kind out out′ at r = (k : Kind) → kind ≡ number k → Wrote out out′ at (closingBracket k) r
 
 -- ---- outcomes and lines
 

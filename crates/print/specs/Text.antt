@@ -31,38 +31,38 @@ abbrev pub continued : List (List ℕ) → List ℕ
 continued [] = []
 continued (t ∷ ts) = (comma ∷ t) ++ continued ts
 
-abbrev pub joined : List (List ℕ) → List ℕ
-joined [] = []
-joined (t ∷ ts) = t ++ continued ts
+abbrev pub commaJoined : List (List ℕ) → List ℕ
+commaJoined [] = []
+commaJoined (t ∷ ts) = t ++ continued ts
 
 abbrev pub arrow : List ℕ
 arrow = ascii "|->"
 
 -- Key, value, key, value: each key with its value. (A key without a value never meets this.)
-abbrev pub pairs : List (List ℕ) → List (List ℕ)
-pairs [] = []
-pairs (k ∷ []) = k ∷ []
-pairs (k ∷ v ∷ ts) = (k ++ arrow ++ v) ∷ pairs ts
+abbrev pub pairTexts : List (List ℕ) → List (List ℕ)
+pairTexts [] = []
+pairTexts (k ∷ []) = k ∷ []
+pairTexts (k ∷ v ∷ ts) = (k ++ arrow ++ v) ∷ pairTexts ts
 
 -- The entries of a map; the arrow alone if there are none.
-abbrev pub entries : List (List ℕ) → List ℕ
-entries [] = arrow
-entries (t ∷ ts) = joined (pairs (t ∷ ts))
+abbrev pub entriesText : List (List ℕ) → List ℕ
+entriesText [] = arrow
+entriesText (t ∷ ts) = commaJoined (pairTexts (t ∷ ts))
 
-abbrev pub truth : Bool → List ℕ
-truth true = ascii "true"
-truth false = ascii "false"
+abbrev pub truthText : Bool → List ℕ
+truthText true = ascii "true"
+truthText false = ascii "false"
 
 -- {1,2}, [1,2], {1|->2} and {|->}, mk_(1,2).
 abbrev pub enclosed : Kind → List (List ℕ) → List ℕ
-enclosed set ts = ascii "{" ++ joined ts ++ ascii "}"
-enclosed sequence ts = ascii "[" ++ joined ts ++ ascii "]"
-enclosed map ts = ascii "{" ++ entries ts ++ ascii "}"
-enclosed tuple ts = ascii "mk_(" ++ joined ts ++ ascii ")"
+enclosed set ts = ascii "{" ++ commaJoined ts ++ ascii "}"
+enclosed sequence ts = ascii "[" ++ commaJoined ts ++ ascii "]"
+enclosed map ts = ascii "{" ++ entriesText ts ++ ascii "}"
+enclosed tuple ts = ascii "mk_(" ++ commaJoined ts ++ ascii ")"
 
 unfoldable mutual
   pub text : Value → List ℕ
-  text (boolean b) = truth b
+  text (boolean b) = truthText b
   text (integer z) = integerText z
   text (collection k vs) = enclosed k (texts vs)
 
@@ -78,20 +78,20 @@ words =
     ascii "kind" ∷ ascii "range" ∷ ascii "zero" ∷ ascii "no-match" ∷ ascii "no-binding" ∷ ascii "not-unique"
     ∷ ascii "absent" ∷ ascii "clash" ∷ ascii "large" ∷ ascii "split" ∷ ascii "bindings" ∷ ascii "choices" ∷ []
 
-unfoldable pub word : ℕ → List ℕ
-word n = getD words (n - 20) []
+unfoldable pub refusalWord : ℕ → List ℕ
+refusalWord n = getD words (n - 20) []
 
 -- ---- lines
 
 -- Entries joined by commas (`-` if none).
 abbrev pub listText : List ℕ → List ℕ
 listText [] = hyphen ∷ []
-listText (c ∷ l) = joined (each decimal (c ∷ l))
+listText (c ∷ l) = commaJoined (each decimal (c ∷ l))
 
 -- `=` and the value, or `!`, number, space, word.
 abbrev pub outcomeText : Final Value → List ℕ
 outcomeText (result v) = equals ∷ text v
-outcomeText (refuses n p k) = exclamation ∷ decimal n ++ space ∷ word n
+outcomeText (refuses n p k) = exclamation ∷ decimal n ++ space ∷ refusalWord n
 
 -- A line a list: the list, a space, what evaluating under it answers.
 abbrev pub line : List ℕ → Final Value → List ℕ

@@ -3,9 +3,9 @@ ghost use mathlib.Core.Path.{_≡_};
 ghost use mathlib.Core.List.{_∷_, [], _++_};
 ghost use Prim.Native.Nat.{_+_, _≤_, _<_};
 ghost use lib.ListN.{length};
-ghost use Rattle.print.specs.Text.{decimal, integerText, truth, word, listText};
+ghost use Rattle.print.specs.Text.{decimal, integerText, truthText, refusalWord, listText};
 ghost use Rattle.print.specs.Print.{firstLine, endLine, cutLine, refusedLine};
-ghost use Rattle.print.specs.Contract.{Room, Wrote, shortLine, ValueRoom, ValueWritten, before, following, ItemsRoom, ItemsWritten, Opened, Closed, OutcomeRoom, OutcomeWritten, LineRoom, LineWritten};
+ghost use Rattle.print.specs.Contract.{Room, Wrote, shortLine, ValueRoom, ValueWritten, separatorText, following, ItemsRoom, ItemsWritten, Opened, Closed, OutcomeRoom, OutcomeWritten, LineRoom, LineWritten};
 use values::Value;
 
 // The longest line of a list: room for it is room for every line.
@@ -136,8 +136,8 @@ enum Separator {
 }
 
 fn put_boolean(b: bool, out: &mut [u8], at: usize) -> usize
-    requires { ⌜ Room (now out) at (truth b) ⌝ }
-    ensures { λ r. ⌜ Wrote (now (out .entry)) (now (out .exit)) at (truth b) r ⌝ }
+    requires { ⌜ Room (now out) at (truthText b) ⌝ }
+    ensures { λ r. ⌜ Wrote (now (out .entry)) (now (out .exit)) at (truthText b) r ⌝ }
 {
     if b {
         return put_bytes(b"true", out, at);
@@ -146,8 +146,8 @@ fn put_boolean(b: bool, out: &mut [u8], at: usize) -> usize
 }
 
 fn put_separator(separator: Separator, out: &mut [u8], at: usize) -> usize
-    requires { ⌜ Room (now out) at (before separator) ⌝ }
-    ensures { λ r. ⌜ Wrote (now (out .entry)) (now (out .exit)) at (before separator) r ⌝ }
+    requires { ⌜ Room (now out) at (separatorText separator) ⌝ }
+    ensures { λ r. ⌜ Wrote (now (out .entry)) (now (out .exit)) at (separatorText separator) r ⌝ }
 {
     match separator {
         Separator::Nothing => at,
@@ -276,8 +276,8 @@ pub fn put_list(list: &[u8], out: &mut [u8], at: usize) -> usize
 
 // Writes the word of a refusal.
 pub fn put_word(n: usize, out: &mut [u8], at: usize) -> usize
-    requires { ⌜ (20 ≤ n) × (n ≤ 31) × Room (now out) at (word n) ⌝ }
-    ensures { λ r. ⌜ Wrote (now (out .entry)) (now (out .exit)) at (word n) r ⌝ }
+    requires { ⌜ (20 ≤ n) × (n ≤ 31) × Room (now out) at (refusalWord n) ⌝ }
+    ensures { λ r. ⌜ Wrote (now (out .entry)) (now (out .exit)) at (refusalWord n) r ⌝ }
 {
     let word = WORDS[n - FIRST_WORD];
     let letters = word.letters;

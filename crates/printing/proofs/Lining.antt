@@ -14,7 +14,7 @@ use Rattle.choices.specs.Lists.{Ended, Complete}
 use Rattle.choices.proofs.Walk.{stopped-number}
 use Rattle.choices.proofs.States.{Holds}
 use Rattle.lists.specs.Lent.{lent}
-use Rattle.lists.specs.Runs.{Whole, Kept}
+use Rattle.lists.specs.Runs.{UsedWhole as Whole, SameList as Kept}
 use Rattle.values.specs.Place.{At}
 use Rattle.meaning.specs.Read.{sheet}
 use Rattle.meaning.specs.Service.{tree, last, runs}

@@ -8,7 +8,7 @@ use Rattle.choices.specs.Tree.{result, refuses}
 use Rattle.values.specs.Value.{encode}
 use Rattle.meaning.specs.Walk.{Walk, overwritten}
 use Rattle.meaning.specs.Service.{scratchBytes, evaluates, firsts, steps}
-use Rattle.meaning.specs.Lent.{zeroed, filled, resultAfter, walkAfter}
+use Rattle.meaning.specs.Lent.{zeroed, filledUp, resultAfter, walkAfter}
 use Rattle.samples.specs.Notation.{computing}
 use Rattle.samples.specs.Samples.{worked}
 
@@ -48,9 +48,9 @@ unfolding computing
 entries-63 = refl
 
 -- Lists that are not complete: used up, an entry not below the number of bindings, entries left over.
-pub step-short : steps scratchBytes worked (holding [] 64 0) ≡ refuses 32 10 2
+pub step-lent-short : steps scratchBytes worked (holding [] 64 0) ≡ refuses 32 10 2
 unfolding computing
-step-short = refl
+step-lent-short = refl
 
 pub step-beyond : steps scratchBytes worked (holding (2 ∷ []) 63 1) ≡ refuses 33 10 2
 unfolding computing
@@ -65,7 +65,7 @@ abbrev buffer : List ℕ
 buffer = replicate 514 9
 
 pub value-written : resultAfter (evaluates scratchBytes 514 worked (0 ∷ [])) buffer ≡ 8 ∷ 0 ∷ 2 ∷ 0 ∷ 2 ∷ 0 ∷ 0 ∷ 0 ∷ replicate 504 0 ++ 9 ∷ 9 ∷ []
-unfolding computing encode filled
+unfolding computing encode filledUp
 value-written = refl
 
 pub zeros-written : resultAfter (evaluates scratchBytes 514 worked []) buffer ≡ replicate 512 0 ++ 9 ∷ 9 ∷ []

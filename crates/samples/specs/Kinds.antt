@@ -4,17 +4,17 @@ use mathlib.Core.Bool.{true, false}
 use mathlib.Core.List.{[], _∷_}
 use Rattle.choices.specs.Tree.{result}
 use Rattle.values.specs.Value.{boolean, collection, set, sequence, map, tuple}
-use Rattle.samples.specs.Notation.{row, rows, truth, whole, minus, name, operation, P, tested, n, of, walk, alone, computing}
+use Rattle.samples.specs.Notation.{row, rows, flag, whole, wholeBelow0, name, operation, P, tested, n, of, walk, alone, computing}
 
 -- if 1 < 2 then 3 else 1 div 0 = 3
-pub if-then : walk (rows (whole 1 ∷ whole 2 ∷ operation 13 0 1 ∷ whole 3 ∷ whole 1 ∷ whole 0 ∷ operation 10 4 5 ∷ row 6 (2 ∷ 3 ∷ 6 ∷ []) ∷ [])) ≡ alone (result (n 3))
+pub if-takes-then : walk (rows (whole 1 ∷ whole 2 ∷ operation 13 0 1 ∷ whole 3 ∷ whole 1 ∷ whole 0 ∷ operation 10 4 5 ∷ row 6 (2 ∷ 3 ∷ 6 ∷ []) ∷ [])) ≡ alone (result (n 3))
 unfolding computing
-if-then = refl
+if-takes-then = refl
 
 -- if 2 < 1 then 1 div 0 else 4 = 4
-pub if-else : walk (rows (whole 2 ∷ whole 1 ∷ operation 13 0 1 ∷ whole 1 ∷ whole 0 ∷ operation 10 3 4 ∷ whole 4 ∷ row 6 (2 ∷ 5 ∷ 6 ∷ []) ∷ [])) ≡ alone (result (n 4))
+pub if-takes-else : walk (rows (whole 2 ∷ whole 1 ∷ operation 13 0 1 ∷ whole 1 ∷ whole 0 ∷ operation 10 3 4 ∷ whole 4 ∷ row 6 (2 ∷ 5 ∷ 6 ∷ []) ∷ [])) ≡ alone (result (n 4))
 unfolding computing
-if-else = refl
+if-takes-else = refl
 
 -- {2, 1, 2} = {1, 2}
 pub set-written : walk (rows (whole 2 ∷ whole 1 ∷ whole 2 ∷ row 7 (0 ∷ 1 ∷ 2 ∷ []) ∷ [])) ≡ alone (result (collection set (of (n 1 ∷ n 2 ∷ []))))
@@ -32,7 +32,7 @@ unfolding computing
 map-written = refl
 
 -- mk_(2, true, 1)
-pub tuple-written : walk (rows (whole 2 ∷ truth 1 ∷ whole 1 ∷ row 10 (0 ∷ 1 ∷ 2 ∷ []) ∷ [])) ≡ alone (result (collection tuple (of (n 2 ∷ boolean true ∷ n 1 ∷ []))))
+pub tuple-written : walk (rows (whole 2 ∷ flag 1 ∷ whole 1 ∷ row 10 (0 ∷ 1 ∷ 2 ∷ []) ∷ [])) ≡ alone (result (collection tuple (of (n 2 ∷ boolean true ∷ n 1 ∷ []))))
 unfolding computing
 tuple-written = refl
 
@@ -87,7 +87,7 @@ unfolding computing
 iota-one = refl
 
 -- {a × a | a in set {-1, 1, 2} & a <> 2} = {1}
-pub set-comprehended : walk (rows (P 0 ∷ minus 1 ∷ whole 1 ∷ whole 2 ∷ row 7 (1 ∷ 2 ∷ 3 ∷ []) ∷ name 0 ∷ whole 2 ∷ operation 6 5 6 ∷ name 0 ∷ name 0 ∷ operation 9 8 9 ∷ row 18 (0 ∷ 4 ∷ 7 ∷ 10 ∷ []) ∷ [])) ≡ alone (result (collection set (of (n 1 ∷ []))))
+pub set-comprehended : walk (rows (P 0 ∷ wholeBelow0 1 ∷ whole 1 ∷ whole 2 ∷ row 7 (1 ∷ 2 ∷ 3 ∷ []) ∷ name 0 ∷ whole 2 ∷ operation 6 5 6 ∷ name 0 ∷ name 0 ∷ operation 9 8 9 ∷ row 18 (0 ∷ 4 ∷ 7 ∷ 10 ∷ []) ∷ [])) ≡ alone (result (collection set (of (n 1 ∷ []))))
 unfolding computing
 set-comprehended = refl
 
@@ -112,11 +112,11 @@ unfolding computing
 map-applied = refl
 
 -- let a in set {1, 2} be st true in a: 1, then 2
-pub let-be-all : walk (rows (P 0 ∷ whole 1 ∷ whole 2 ∷ row 7 (1 ∷ 2 ∷ []) ∷ truth 1 ∷ name 0 ∷ row 13 (0 ∷ 3 ∷ 4 ∷ 5 ∷ []) ∷ [])) ≡ (0 ∷ [], result (n 1)) ∷ (1 ∷ [], result (n 2)) ∷ []
+pub let-be-all : walk (rows (P 0 ∷ whole 1 ∷ whole 2 ∷ row 7 (1 ∷ 2 ∷ []) ∷ flag 1 ∷ name 0 ∷ row 13 (0 ∷ 3 ∷ 4 ∷ 5 ∷ []) ∷ [])) ≡ (0 ∷ [], result (n 1)) ∷ (1 ∷ [], result (n 2)) ∷ []
 unfolding computing
 let-be-all = refl
 
 -- [let b in set {1, 2} be st true in b | a in set {1, 2} & true]: each evaluation of the let-be chooses apart
-pub choices-apart : walk (rows (P 0 ∷ whole 1 ∷ whole 2 ∷ row 7 (1 ∷ 2 ∷ []) ∷ truth 1 ∷ P 1 ∷ whole 1 ∷ whole 2 ∷ row 7 (6 ∷ 7 ∷ []) ∷ truth 1 ∷ name 1 ∷ row 13 (5 ∷ 8 ∷ 9 ∷ 10 ∷ []) ∷ row 19 (0 ∷ 3 ∷ 4 ∷ 11 ∷ []) ∷ [])) ≡ (0 ∷ 0 ∷ [], result (collection sequence (of (n 1 ∷ n 1 ∷ [])))) ∷ (0 ∷ 1 ∷ [], result (collection sequence (of (n 1 ∷ n 2 ∷ [])))) ∷ (1 ∷ 0 ∷ [], result (collection sequence (of (n 2 ∷ n 1 ∷ [])))) ∷ (1 ∷ 1 ∷ [], result (collection sequence (of (n 2 ∷ n 2 ∷ [])))) ∷ []
+pub choices-apart : walk (rows (P 0 ∷ whole 1 ∷ whole 2 ∷ row 7 (1 ∷ 2 ∷ []) ∷ flag 1 ∷ P 1 ∷ whole 1 ∷ whole 2 ∷ row 7 (6 ∷ 7 ∷ []) ∷ flag 1 ∷ name 1 ∷ row 13 (5 ∷ 8 ∷ 9 ∷ 10 ∷ []) ∷ row 19 (0 ∷ 3 ∷ 4 ∷ 11 ∷ []) ∷ [])) ≡ (0 ∷ 0 ∷ [], result (collection sequence (of (n 1 ∷ n 1 ∷ [])))) ∷ (0 ∷ 1 ∷ [], result (collection sequence (of (n 1 ∷ n 2 ∷ [])))) ∷ (1 ∷ 0 ∷ [], result (collection sequence (of (n 2 ∷ n 1 ∷ [])))) ∷ (1 ∷ 1 ∷ [], result (collection sequence (of (n 2 ∷ n 2 ∷ [])))) ∷ []
 unfolding computing
 choices-apart = refl

@@ -13,7 +13,7 @@ use Rattle.values.specs.Items.{join, isMember, nth, insert, lookup, enter}
 use Rattle.operators.specs.Gather.{everyItem, anyItem, keepItems, insertAll, flatten, backwards, upFrom, everyEntry, keepEntries, enterAll}
 use Rattle.operators.specs.Enumerations.{addMembers, addItems, addEntries}
 use Rattle.operators.specs.Operators.{unary, binary}
-use Rattle.patterns.specs.Ways.{gather, exists, splits, cuts, placed, orders}
+use Rattle.patterns.specs.Ways.{gather, exists, splits, cuts, atEveryPlace, orders}
 use Rattle.patterns.specs.Binding.{merge, consistent, withEach, together, orderBindings, place, sorted}
 use Rattle.patterns.specs.Pattern.{parts, listOf, itemsOf, matches, wide, loose}
 use Rattle.tables.specs.Record as Record
@@ -37,14 +37,14 @@ rows [] = []
 rows (r ∷ rs) = r ++ rows rs
 
 -- A boolean literal, and integer literals from 0 up and below 0.
-abbrev pub truth : ℕ → List ℕ
-truth b = row 1 (b ∷ [])
+abbrev pub flag : ℕ → List ℕ
+flag b = row 1 (b ∷ [])
 
 abbrev pub whole : ℕ → List ℕ
 whole k = row 2 (integerBytes (pos k))
 
-abbrev pub minus : ℕ → List ℕ
-minus k = row 2 (integerBytes (negℤ (pos k)))
+abbrev pub wholeBelow0 : ℕ → List ℕ
+wholeBelow0 k = row 2 (integerBytes (negℤ (pos k)))
 
 -- A name, a binary operator with its operands, and a pattern that is a name.
 abbrev pub name : ℕ → List ℕ
@@ -73,8 +73,8 @@ abbrev pub members : ℕ → ℕ → Items
 members k zero = none
 members k (suc m) = more (n k) (members (suc k) m)
 
-abbrev pub numbers : ℕ → ℕ → Value
-numbers k m = collection set (members k m)
+abbrev pub integersFrom : ℕ → ℕ → Value
+integersFrom k m = collection set (members k m)
 
 abbrev pub of : List Value → Items
 of [] = none
@@ -83,22 +83,18 @@ of (v ∷ vs) = more v (of vs)
 -- ---- what a walk shows
 
 -- What evaluating a table under a list answers.
-abbrev pub run : List ℕ → List ℕ → Final Value
-run table l = evaluates scratchBytes valueLimit table l
+abbrev pub answerUnder : List ℕ → List ℕ → Final Value
+answerUnder table l = evaluates scratchBytes valueLimit table l
 
 -- Every complete list of a table, in dictionary order, and what evaluating under it answers.
 abbrev pub walk : List ℕ → List (List ℕ × Final Value)
-walk table = map (λ l. (l, run table l)) (allLists (tree table))
+walk table = map (λ l. (l, answerUnder table l)) (allLists (tree table))
 
 -- No choice is met: the empty list alone.
 abbrev pub alone : Final Value → List (List ℕ × Final Value)
 alone f = ([], f) ∷ []
 
-abbrev pub zeros : ℕ → List ℕ
-zeros zero = []
-zeros (suc k) = 0 ∷ zeros k
-
 -- To unfold this is to unfold everything that the walk over a table computes with.
 unfoldable pub computing : ℕ
-unfolding Check.check Check.judgedCut Check.judged Check.fault6 Check.fault7 Check.fault8 Check.fault9 Check.chooses Sheet.isBound Sheet.inCondition Sheet.climbBy Sheet.height Sheet.loose Sheet.holdsName Sheet.foldBy Table.cut Table.cutBy Table.next Record.isFit Record.operands Record.shape under allOf satisfying untilFalse untilTrue collected integersAt means meaningTo meaning nodeOf patternsOf patternAt addMembers addItems addEntries everyItem anyItem keepItems insertAll flatten backwards upFrom everyEntry keepEntries enterAll unary binary count everyOther size orderℕ orderℤ within join isMember nth insert lookup enter ranged gather exists splits cuts placed orders merge consistent withEach together orderBindings place sorted parts listOf itemsOf matches wide loose
+unfolding Check.check Check.judgedCut Check.judged Check.fault6 Check.fault7 Check.fault8 Check.fault9 Check.chooses Sheet.isBound Sheet.inCondition Sheet.climbBy Sheet.height Sheet.loose Sheet.holdsName Sheet.foldBy Table.cut Table.cutBy Table.next Record.isFit Record.operands Record.shape under allOf satisfying untilFalse untilTrue collected integersAt means meaningTo meaning nodeOf patternsOf patternAt addMembers addItems addEntries everyItem anyItem keepItems insertAll flatten backwards upFrom everyEntry keepEntries enterAll unary binary count everyOther size orderℕ orderℤ within join isMember nth insert lookup enter ranged gather exists splits cuts atEveryPlace orders merge consistent withEach together orderBindings place sorted parts listOf itemsOf matches wide loose
 computing = 0

@@ -6,7 +6,7 @@ use lib.IntN.{pos}
 use Rattle.choices.specs.Tree.{result, refuses}
 use Rattle.integers.specs.Bytes.{integerBytes}
 use Rattle.values.specs.Value.{boolean, collection, set, sequence, tuple, none}
-use Rattle.samples.specs.Notation.{row, rows, truth, whole, name, operation, P, n, below0, of, walk, alone, computing}
+use Rattle.samples.specs.Notation.{row, rows, flag, whole, name, operation, P, n, below0, of, walk, alone, computing}
 
 -- let - = 1 in 2 = 2
 pub any-matches : walk (rows (row 33 [] ∷ whole 1 ∷ whole 2 ∷ row 12 (0 ∷ 1 ∷ 2 ∷ []) ∷ [])) ≡ alone (result (n 2))
@@ -14,12 +14,12 @@ unfolding computing
 any-matches = refl
 
 -- let mk_(true, a) in set {mk_(false, 1), mk_(true, 2)} be st true in a = 2
-pub boolean-matches : walk (rows (row 34 (1 ∷ []) ∷ P 0 ∷ row 36 (0 ∷ 1 ∷ []) ∷ truth 0 ∷ whole 1 ∷ row 10 (3 ∷ 4 ∷ []) ∷ truth 1 ∷ whole 2 ∷ row 10 (6 ∷ 7 ∷ []) ∷ row 7 (5 ∷ 8 ∷ []) ∷ truth 1 ∷ name 0 ∷ row 13 (2 ∷ 9 ∷ 10 ∷ 11 ∷ []) ∷ [])) ≡ (0 ∷ [], result (n 2)) ∷ []
+pub boolean-matches : walk (rows (row 34 (1 ∷ []) ∷ P 0 ∷ row 36 (0 ∷ 1 ∷ []) ∷ flag 0 ∷ whole 1 ∷ row 10 (3 ∷ 4 ∷ []) ∷ flag 1 ∷ whole 2 ∷ row 10 (6 ∷ 7 ∷ []) ∷ row 7 (5 ∷ 8 ∷ []) ∷ flag 1 ∷ name 0 ∷ row 13 (2 ∷ 9 ∷ 10 ∷ 11 ∷ []) ∷ [])) ≡ (0 ∷ [], result (n 2)) ∷ []
 unfolding computing
 boolean-matches = refl
 
 -- let mk_(a, 2) in set {mk_(false, 1), mk_(true, 2)} be st true in a = true
-pub integer-matches : walk (rows (P 0 ∷ row 35 (integerBytes (pos 2)) ∷ row 36 (0 ∷ 1 ∷ []) ∷ truth 0 ∷ whole 1 ∷ row 10 (3 ∷ 4 ∷ []) ∷ truth 1 ∷ whole 2 ∷ row 10 (6 ∷ 7 ∷ []) ∷ row 7 (5 ∷ 8 ∷ []) ∷ truth 1 ∷ name 0 ∷ row 13 (2 ∷ 9 ∷ 10 ∷ 11 ∷ []) ∷ [])) ≡ (0 ∷ [], result (boolean true)) ∷ []
+pub integer-matches : walk (rows (P 0 ∷ row 35 (integerBytes (pos 2)) ∷ row 36 (0 ∷ 1 ∷ []) ∷ flag 0 ∷ whole 1 ∷ row 10 (3 ∷ 4 ∷ []) ∷ flag 1 ∷ whole 2 ∷ row 10 (6 ∷ 7 ∷ []) ∷ row 7 (5 ∷ 8 ∷ []) ∷ flag 1 ∷ name 0 ∷ row 13 (2 ∷ 9 ∷ 10 ∷ 11 ∷ []) ∷ [])) ≡ (0 ∷ [], result (boolean true)) ∷ []
 unfolding computing
 integer-matches = refl
 
@@ -49,14 +49,14 @@ unfolding computing
 concatenation-matches = refl
 
 -- let mk_(a, a) in set {mk_(1, 2), mk_(3, 3)} be st true in a = 3
-pub name-repeated : walk (rows (P 0 ∷ P 0 ∷ row 36 (0 ∷ 1 ∷ []) ∷ whole 1 ∷ whole 2 ∷ row 10 (3 ∷ 4 ∷ []) ∷ whole 3 ∷ whole 3 ∷ row 10 (6 ∷ 7 ∷ []) ∷ row 7 (5 ∷ 8 ∷ []) ∷ truth 1 ∷ name 0 ∷ row 13 (2 ∷ 9 ∷ 10 ∷ 11 ∷ []) ∷ [])) ≡ (0 ∷ [], result (n 3)) ∷ []
+pub name-repeated : walk (rows (P 0 ∷ P 0 ∷ row 36 (0 ∷ 1 ∷ []) ∷ whole 1 ∷ whole 2 ∷ row 10 (3 ∷ 4 ∷ []) ∷ whole 3 ∷ whole 3 ∷ row 10 (6 ∷ 7 ∷ []) ∷ row 7 (5 ∷ 8 ∷ []) ∷ flag 1 ∷ name 0 ∷ row 13 (2 ∷ 9 ∷ 10 ∷ 11 ∷ []) ∷ [])) ≡ (0 ∷ [], result (n 3)) ∷ []
 unfolding computing
 name-repeated = refl
 
 -- let [a] = {1} in a: 23, a value of another kind does not match
-pub other-kind : walk (rows (P 0 ∷ row 39 (0 ∷ []) ∷ whole 1 ∷ row 7 (2 ∷ []) ∷ name 0 ∷ row 12 (1 ∷ 3 ∷ 4 ∷ []) ∷ [])) ≡ alone (refuses 23 5 0)
+pub other-kind-unmatched : walk (rows (P 0 ∷ row 39 (0 ∷ []) ∷ whole 1 ∷ row 7 (2 ∷ []) ∷ name 0 ∷ row 12 (1 ∷ 3 ∷ 4 ∷ []) ∷ [])) ≡ alone (refuses 23 5 0)
 unfolding computing
-other-kind = refl
+other-kind-unmatched = refl
 
 -- let {a} = {1, 2} in a: 23, the counts differ
 pub other-count : walk (rows (P 0 ∷ row 37 (0 ∷ []) ∷ whole 1 ∷ whole 2 ∷ row 7 (2 ∷ 3 ∷ []) ∷ name 0 ∷ row 12 (1 ∷ 4 ∷ 5 ∷ []) ∷ [])) ≡ alone (refuses 23 6 0)

@@ -4,15 +4,15 @@ use mathlib.Core.List.{List, [], _∷_}
 use Prim.Native.Nat.{ℕ}
 use native.Mathlib.Omega.{arith}
 use Rattle.print.specs.Ascii.{ascii, hyphen}
-use Rattle.print.specs.Text.{digitsTo, decimal, text, word}
+use Rattle.print.specs.Text.{digitsTo, decimal, text, refusalWord}
 use Rattle.print.specs.Print.{printOf}
 use Rattle.print.proofs.Decimals.{decimal-within}
-use Rattle.samples.specs.Notation.{row, rows, truth, whole, minus, name, operation, P, below0, computing}
+use Rattle.samples.specs.Notation.{row, rows, flag, whole, wholeBelow0, name, operation, P, below0, computing}
 use Rattle.samples.specs.Samples.{worked}
 
 -- To unfold this is to unfold everything that a print computes with.
 unfoldable printing : ℕ
-unfolding computing digitsTo decimal text word
+unfolding computing digitsTo decimal text refusalWord
 printing = 0
 
 -- Document 01, "The walk print".
@@ -24,7 +24,7 @@ worked-print = refl
 pub values-print :
     printOf
     (rows
-    (row 9 [] ∷ whole 1 ∷ row 7 [] ∷ truth 1 ∷ truth 0 ∷ row 8 (4 ∷ []) ∷ row 9 (1 ∷ 2 ∷ 3 ∷ 5 ∷ []) ∷ row 8 [] ∷ minus 1 ∷ whole 2 ∷ row 7 (9 ∷ []) ∷ row 10 (8 ∷ 10 ∷ []) ∷ row 7 (11 ∷ []) ∷ row 10 (0 ∷ 6 ∷ 7 ∷ 12 ∷ []) ∷ []))
+    (row 9 [] ∷ whole 1 ∷ row 7 [] ∷ flag 1 ∷ flag 0 ∷ row 8 (4 ∷ []) ∷ row 9 (1 ∷ 2 ∷ 3 ∷ 5 ∷ []) ∷ row 8 [] ∷ wholeBelow0 1 ∷ whole 2 ∷ row 7 (9 ∷ []) ∷ row 10 (8 ∷ 10 ∷ []) ∷ row 7 (11 ∷ []) ∷ row 10 (0 ∷ 6 ∷ 7 ∷ 12 ∷ []) ∷ []))
     ≡ ascii "table 14\n- =mk_({|->},{true|->[false],1|->{}},[],{mk_(-1,{2})})\nend 1\n"
 unfolding printing
 values-print = refl
@@ -38,7 +38,7 @@ least-text = ap (λ (l : List ℕ). hyphen ∷ l) (decimal-within 9 2147483648 (
 pub refusals-print :
     printOf
     (rows
-    (P 0 ∷ whole 0 ∷ whole 4 ∷ row 11 (1 ∷ 2 ∷ []) ∷ truth 1 ∷ whole 5 ∷ truth 1 ∷ minus 2147483648 ∷ row 8 (5 ∷ 6 ∷ 7 ∷ []) ∷ name 0 ∷ row 21 (8 ∷ 9 ∷ []) ∷ row 4 (3 ∷ 10 ∷ []) ∷ row 13 (0 ∷ 3 ∷ 4 ∷ 11 ∷ []) ∷ []))
+    (P 0 ∷ whole 0 ∷ whole 4 ∷ row 11 (1 ∷ 2 ∷ []) ∷ flag 1 ∷ whole 5 ∷ flag 1 ∷ wholeBelow0 2147483648 ∷ row 8 (5 ∷ 6 ∷ 7 ∷ []) ∷ name 0 ∷ row 21 (8 ∷ 9 ∷ []) ∷ row 4 (3 ∷ 10 ∷ []) ∷ row 13 (0 ∷ 3 ∷ 4 ∷ 11 ∷ []) ∷ []))
     ≡ ascii "table 13\n0 !26 absent\n1 =5\n2 !20 kind\n3 !21 range\n4 !26 absent\nend 5\n"
 unfolding printing
 refusals-print = refl
@@ -47,7 +47,7 @@ refusals-print = refl
 pub separate-print :
     printOf
     (rows
-    (P 0 ∷ whole 1 ∷ whole 2 ∷ row 7 (1 ∷ 2 ∷ []) ∷ truth 1 ∷ P 1 ∷ name 0 ∷ name 0 ∷ whole 10 ∷ operation 7 7 8 ∷ row 7 (6 ∷ 9 ∷ []) ∷ truth 1 ∷ name 1 ∷ row 13 (5 ∷ 10 ∷ 11 ∷ 12 ∷ []) ∷ row 19 (0 ∷ 3 ∷ 4 ∷ 13 ∷ []) ∷ []))
+    (P 0 ∷ whole 1 ∷ whole 2 ∷ row 7 (1 ∷ 2 ∷ []) ∷ flag 1 ∷ P 1 ∷ name 0 ∷ name 0 ∷ whole 10 ∷ operation 7 7 8 ∷ row 7 (6 ∷ 9 ∷ []) ∷ flag 1 ∷ name 1 ∷ row 13 (5 ∷ 10 ∷ 11 ∷ 12 ∷ []) ∷ row 19 (0 ∷ 3 ∷ 4 ∷ 13 ∷ []) ∷ []))
     ≡ ascii "table 15\n0,0 =[1,2]\n0,1 =[1,12]\n1,0 =[11,2]\n1,1 =[11,12]\nend 4\n"
 unfolding printing
 separate-print = refl

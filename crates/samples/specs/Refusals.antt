@@ -4,11 +4,12 @@ use mathlib.Core.List.{List, [], _∷_}
 use Prim.Native.Nat.{ℕ}
 use lib.IntN.{pos}
 use Rattle.choices.specs.Tree.{refuses}
+use Rattle.values.specs.Contract.{zeros}
 use Rattle.integers.specs.Bytes.{integerBytes}
-use Rattle.samples.specs.Notation.{row, rows, truth, whole, name, operation, P, tested, run, walk, alone, zeros, computing}
+use Rattle.samples.specs.Notation.{row, rows, flag, whole, name, operation, P, tested, answerUnder, walk, alone, computing}
 
 -- 1 + true: 20 at the operator
-pub kind-of-operand : walk (rows (whole 1 ∷ truth 1 ∷ operation 7 0 1 ∷ [])) ≡ alone (refuses 20 2 0)
+pub kind-of-operand : walk (rows (whole 1 ∷ flag 1 ∷ operation 7 0 1 ∷ [])) ≡ alone (refuses 20 2 0)
 unfolding computing
 kind-of-operand = refl
 
@@ -23,12 +24,12 @@ unfolding computing
 kind-of-condition = refl
 
 -- exists a in set 1 & true: 20 at the binder
-pub kind-of-set : walk (rows (P 0 ∷ whole 1 ∷ truth 1 ∷ row 15 (0 ∷ 1 ∷ 2 ∷ []) ∷ [])) ≡ alone (refuses 20 3 0)
+pub kind-of-set : walk (rows (P 0 ∷ whole 1 ∷ flag 1 ∷ row 15 (0 ∷ 1 ∷ 2 ∷ []) ∷ [])) ≡ alone (refuses 20 3 0)
 unfolding computing
 kind-of-set = refl
 
 -- [a | a in set {true} & true]: 20, kind 19 needs integers
-pub kind-of-members : walk (rows (P 0 ∷ truth 1 ∷ row 7 (1 ∷ []) ∷ truth 1 ∷ name 0 ∷ row 19 (0 ∷ 2 ∷ 3 ∷ 4 ∷ []) ∷ [])) ≡ alone (refuses 20 5 0)
+pub kind-of-members : walk (rows (P 0 ∷ flag 1 ∷ row 7 (1 ∷ []) ∷ flag 1 ∷ name 0 ∷ row 19 (0 ∷ 2 ∷ 3 ∷ 4 ∷ []) ∷ [])) ≡ alone (refuses 20 5 0)
 unfolding computing
 kind-of-members = refl
 
@@ -73,21 +74,26 @@ unfolding computing
 index-absent = refl
 
 -- {1 |-> a | a in set {1, 2} & true}: 27
-pub two-values-comprehended : walk (rows (P 0 ∷ whole 1 ∷ whole 2 ∷ row 7 (1 ∷ 2 ∷ []) ∷ truth 1 ∷ whole 1 ∷ name 0 ∷ row 20 (0 ∷ 3 ∷ 4 ∷ 5 ∷ 6 ∷ []) ∷ [])) ≡ alone (refuses 27 7 0)
+pub two-values-comprehended : walk (rows (P 0 ∷ whole 1 ∷ whole 2 ∷ row 7 (1 ∷ 2 ∷ []) ∷ flag 1 ∷ whole 1 ∷ name 0 ∷ row 20 (0 ∷ 3 ∷ 4 ∷ 5 ∷ 6 ∷ []) ∷ [])) ≡ alone (refuses 27 7 0)
 unfolding computing
 two-values-comprehended = refl
 
 -- mk_({1,...,63}, 1): 28
-pub too-large : walk (rows (whole 1 ∷ whole 63 ∷ row 11 (0 ∷ 1 ∷ []) ∷ whole 1 ∷ row 10 (2 ∷ 3 ∷ []) ∷ [])) ≡ alone (refuses 28 4 0)
+pub tuple-too-large : walk (rows (whole 1 ∷ whole 63 ∷ row 11 (0 ∷ 1 ∷ []) ∷ whole 1 ∷ row 10 (2 ∷ 3 ∷ []) ∷ [])) ≡ alone (refuses 28 4 0)
 unfolding computing
-too-large = refl
+tuple-too-large = refl
 
 -- let a ^ (b ^ -) = [c | c in set {1,...,22} & true] in 0: 276 bindings, 30
-pub too-many-bindings : walk (rows (P 0 ∷ P 1 ∷ row 33 [] ∷ row 40 (1 ∷ 2 ∷ []) ∷ row 40 (0 ∷ 3 ∷ []) ∷ P 2 ∷ whole 1 ∷ whole 22 ∷ row 11 (6 ∷ 7 ∷ []) ∷ truth 1 ∷ name 2 ∷ row 19 (5 ∷ 8 ∷ 9 ∷ 10 ∷ []) ∷ whole 0 ∷ row 12 (4 ∷ 11 ∷ 12 ∷ []) ∷ [])) ≡ alone (refuses 30 13 0)
+pub too-many-bindings : walk (rows (P 0 ∷ P 1 ∷ row 33 [] ∷ row 40 (1 ∷ 2 ∷ []) ∷ row 40 (0 ∷ 3 ∷ []) ∷ P 2 ∷ whole 1 ∷ whole 22 ∷ row 11 (6 ∷ 7 ∷ []) ∷ flag 1 ∷ name 2 ∷ row 19 (5 ∷ 8 ∷ 9 ∷ 10 ∷ []) ∷ whole 0 ∷ row 12 (4 ∷ 11 ∷ 12 ∷ []) ∷ [])) ≡ alone (refuses 30 13 0)
 unfolding computing
 too-many-bindings = refl
 
 -- ---- which comes first
+
+-- [{1,...,40}, {1,...,40}, 1 div 0]: 22, all operands are evaluated before the first is added
+pub operands-before-parts : walk (rows (whole 1 ∷ whole 40 ∷ row 11 (0 ∷ 1 ∷ []) ∷ whole 1 ∷ whole 40 ∷ row 11 (3 ∷ 4 ∷ []) ∷ whole 1 ∷ whole 0 ∷ operation 10 6 7 ∷ row 8 (2 ∷ 5 ∷ 8 ∷ []) ∷ [])) ≡ alone (refuses 22 8 0)
+unfolding computing
+operands-before-parts = refl
 
 -- exists1 a in set {0, 1, 2} & 1 div (2 - a) >= 0: 22, all bindings are tested
 pub exists1-tests-all : walk (rows (P 0 ∷ whole 0 ∷ whole 1 ∷ whole 2 ∷ row 7 (1 ∷ 2 ∷ 3 ∷ []) ∷ whole 1 ∷ whole 2 ∷ name 0 ∷ operation 8 6 7 ∷ operation 10 5 8 ∷ whole 0 ∷ operation 16 9 10 ∷ row 16 (0 ∷ 4 ∷ 11 ∷ []) ∷ [])) ≡ alone (refuses 22 9 0)
@@ -123,36 +129,36 @@ first-part-refused = refl
 
 -- let a in set {1, 2} be st true in 1 div 0
 abbrev chosen : List ℕ
-chosen = rows (P 0 ∷ whole 1 ∷ whole 2 ∷ row 7 (1 ∷ 2 ∷ []) ∷ truth 1 ∷ whole 1 ∷ whole 0 ∷ operation 10 5 6 ∷ row 13 (0 ∷ 3 ∷ 4 ∷ 7 ∷ []) ∷ [])
+chosen = rows (P 0 ∷ whole 1 ∷ whole 2 ∷ row 7 (1 ∷ 2 ∷ []) ∷ flag 1 ∷ whole 1 ∷ whole 0 ∷ operation 10 5 6 ∷ row 13 (0 ∷ 3 ∷ 4 ∷ 7 ∷ []) ∷ [])
 
 -- the list used up: 32, with the number of bindings
-pub used-up : run chosen [] ≡ refuses 32 8 2
+pub used-up : answerUnder chosen [] ≡ refuses 32 8 2
 unfolding computing
 used-up = refl
 
 -- an entry not below that number: 33
-pub entry-beyond : run chosen (2 ∷ []) ≡ refuses 33 8 2
+pub entry-beyond : answerUnder chosen (2 ∷ []) ≡ refuses 33 8 2
 unfolding computing
 entry-beyond = refl
 
 -- an entry left over: 34 in place of 22, at its place; and in place of a value, at the last record
-pub left-over : run chosen (1 ∷ 0 ∷ []) ≡ refuses 34 7 0
+pub left-over : answerUnder chosen (1 ∷ 0 ∷ []) ≡ refuses 34 7 0
 unfolding computing
 left-over = refl
 
-pub left-over-value : run (rows (whole 5 ∷ truth 1 ∷ row 10 (0 ∷ 1 ∷ []) ∷ [])) (0 ∷ []) ≡ refuses 34 2 0
+pub left-over-value : answerUnder (rows (whole 5 ∷ flag 1 ∷ row 10 (0 ∷ 1 ∷ []) ∷ [])) (0 ∷ []) ≡ refuses 34 2 0
 unfolding computing
 left-over-value = refl
 
 -- mk_([let b in set {1} be st true in b | a in set {1,...,63} & true], the same let, the same let): 65 choices of one binding each
 abbrev many : List ℕ
-many = rows (P 0 ∷ whole 1 ∷ whole 63 ∷ row 11 (1 ∷ 2 ∷ []) ∷ truth 1 ∷ P 1 ∷ whole 1 ∷ row 7 (6 ∷ []) ∷ truth 1 ∷ name 1 ∷ row 13 (5 ∷ 7 ∷ 8 ∷ 9 ∷ []) ∷ row 19 (0 ∷ 3 ∷ 4 ∷ 10 ∷ []) ∷ P 1 ∷ whole 1 ∷ row 7 (13 ∷ []) ∷ truth 1 ∷ name 1 ∷ row 13 (12 ∷ 14 ∷ 15 ∷ 16 ∷ []) ∷ P 1 ∷ whole 1 ∷ row 7 (19 ∷ []) ∷ truth 1 ∷ name 1 ∷ row 13 (18 ∷ 20 ∷ 21 ∷ 22 ∷ []) ∷ row 10 (11 ∷ 17 ∷ 23 ∷ []) ∷ [])
+many = rows (P 0 ∷ whole 1 ∷ whole 63 ∷ row 11 (1 ∷ 2 ∷ []) ∷ flag 1 ∷ P 1 ∷ whole 1 ∷ row 7 (6 ∷ []) ∷ flag 1 ∷ name 1 ∷ row 13 (5 ∷ 7 ∷ 8 ∷ 9 ∷ []) ∷ row 19 (0 ∷ 3 ∷ 4 ∷ 10 ∷ []) ∷ P 1 ∷ whole 1 ∷ row 7 (13 ∷ []) ∷ flag 1 ∷ name 1 ∷ row 13 (12 ∷ 14 ∷ 15 ∷ 16 ∷ []) ∷ P 1 ∷ whole 1 ∷ row 7 (19 ∷ []) ∷ flag 1 ∷ name 1 ∷ row 13 (18 ∷ 20 ∷ 21 ∷ 22 ∷ []) ∷ row 10 (11 ∷ 17 ∷ 23 ∷ []) ∷ [])
 
 -- 31 at the 65th, before 32; the list of 64 is complete
 pub choice-65 : walk many ≡ (zeros 64, refuses 31 23 0) ∷ []
 unfolding computing
 choice-65 = refl
 
-pub choice-64 : run many (zeros 63) ≡ refuses 32 17 1
+pub choice-64 : answerUnder many (zeros 63) ≡ refuses 32 17 1
 unfolding computing
 choice-64 = refl

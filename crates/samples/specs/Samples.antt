@@ -8,33 +8,33 @@ use lib.ListN.{length}
 use Rattle.choices.specs.Tree.{result, refuses}
 use Rattle.values.specs.Value.{boolean, collection, set, map, none, more, size}
 use Rattle.meaning.specs.Service.{scratchBytes, checks}
-use Rattle.samples.specs.Notation.{row, rows, truth, whole, minus, name, operation, P, n, below0, numbers, walk, computing}
+use Rattle.samples.specs.Notation.{row, rows, flag, whole, wholeBelow0, name, operation, P, n, below0, integersFrom, walk, computing}
 
 -- ---- −7 div 2 is −3; −7 rem 2 is −1; −7 mod 2 is 1; 7 mod −2 is −1
 
 abbrev div-negative : List ℕ
-div-negative = rows (minus 7 ∷ whole 2 ∷ operation 10 0 1 ∷ [])
+div-negative = rows (wholeBelow0 7 ∷ whole 2 ∷ operation 10 0 1 ∷ [])
 
 pub div-negative-shows : walk div-negative ≡ ([], result (below0 3)) ∷ []
 unfolding computing
 div-negative-shows = refl
 
 abbrev rem-negative : List ℕ
-rem-negative = rows (minus 7 ∷ whole 2 ∷ operation 11 0 1 ∷ [])
+rem-negative = rows (wholeBelow0 7 ∷ whole 2 ∷ operation 11 0 1 ∷ [])
 
 pub rem-negative-shows : walk rem-negative ≡ ([], result (below0 1)) ∷ []
 unfolding computing
 rem-negative-shows = refl
 
 abbrev mod-negative : List ℕ
-mod-negative = rows (minus 7 ∷ whole 2 ∷ operation 12 0 1 ∷ [])
+mod-negative = rows (wholeBelow0 7 ∷ whole 2 ∷ operation 12 0 1 ∷ [])
 
 pub mod-negative-shows : walk mod-negative ≡ ([], result (n 1)) ∷ []
 unfolding computing
 mod-negative-shows = refl
 
 abbrev mod-by-negative : List ℕ
-mod-by-negative = rows (whole 7 ∷ minus 2 ∷ operation 12 0 1 ∷ [])
+mod-by-negative = rows (whole 7 ∷ wholeBelow0 2 ∷ operation 12 0 1 ∷ [])
 
 pub mod-by-negative-shows : walk mod-by-negative ≡ ([], result (below0 1)) ∷ []
 unfolding computing
@@ -43,14 +43,14 @@ mod-by-negative-shows = refl
 -- ---- −2,147,483,648 div −1: 21; rem: 0
 
 abbrev least-div : List ℕ
-least-div = rows (minus 2147483648 ∷ minus 1 ∷ operation 10 0 1 ∷ [])
+least-div = rows (wholeBelow0 2147483648 ∷ wholeBelow0 1 ∷ operation 10 0 1 ∷ [])
 
 pub least-div-shows : walk least-div ≡ ([], refuses 21 2 0) ∷ []
 unfolding computing
 least-div-shows = refl
 
 abbrev least-rem : List ℕ
-least-rem = rows (minus 2147483648 ∷ minus 1 ∷ operation 11 0 1 ∷ [])
+least-rem = rows (wholeBelow0 2147483648 ∷ wholeBelow0 1 ∷ operation 11 0 1 ∷ [])
 
 pub least-rem-shows : walk least-rem ≡ ([], result (n 0)) ∷ []
 unfolding computing
@@ -61,11 +61,11 @@ least-rem-shows = refl
 abbrev range-63 : List ℕ
 range-63 = rows (whole 1 ∷ whole 63 ∷ row 11 (0 ∷ 1 ∷ []) ∷ [])
 
-pub range-63-shows : walk range-63 ≡ ([], result (numbers 1 63)) ∷ []
+pub range-63-shows : walk range-63 ≡ ([], result (integersFrom 1 63)) ∷ []
 unfolding computing
 range-63-shows = refl
 
-pub range-63-size : size (numbers 1 63) ≡ 508
+pub range-63-size : size (integersFrom 1 63) ≡ 508
 unfolding computing
 range-63-size = refl
 
@@ -86,14 +86,14 @@ range-empty-shows = refl
 -- ---- false and 1 div 0 = 1 is false; 1 div 0 = 1 and false: 22
 
 abbrev and-settled : List ℕ
-and-settled = rows (truth 0 ∷ whole 1 ∷ whole 0 ∷ operation 10 1 2 ∷ whole 1 ∷ operation 5 3 4 ∷ operation 1 0 5 ∷ [])
+and-settled = rows (flag 0 ∷ whole 1 ∷ whole 0 ∷ operation 10 1 2 ∷ whole 1 ∷ operation 5 3 4 ∷ operation 1 0 5 ∷ [])
 
 pub and-settled-shows : walk and-settled ≡ ([], result (boolean false)) ∷ []
 unfolding computing
 and-settled-shows = refl
 
 abbrev and-by-zero : List ℕ
-and-by-zero = rows (whole 1 ∷ whole 0 ∷ operation 10 0 1 ∷ whole 1 ∷ operation 5 2 3 ∷ truth 0 ∷ operation 1 4 5 ∷ [])
+and-by-zero = rows (whole 1 ∷ whole 0 ∷ operation 10 0 1 ∷ whole 1 ∷ operation 5 2 3 ∷ flag 0 ∷ operation 1 4 5 ∷ [])
 
 pub and-by-zero-shows : walk and-by-zero ≡ ([], refuses 22 2 0) ∷ []
 unfolding computing
@@ -127,7 +127,7 @@ splitting-shows = refl
 -- ---- let-be over {} : 24. Condition 1 div a = 1 over {0,1}: 22.
 
 abbrev let-be-none : List ℕ
-let-be-none = rows (P 0 ∷ row 7 [] ∷ truth 1 ∷ name 0 ∷ row 13 (0 ∷ 1 ∷ 2 ∷ 3 ∷ []) ∷ [])
+let-be-none = rows (P 0 ∷ row 7 [] ∷ flag 1 ∷ name 0 ∷ row 13 (0 ∷ 1 ∷ 2 ∷ 3 ∷ []) ∷ [])
 
 pub let-be-none-shows : walk let-be-none ≡ ([], refuses 24 4 0) ∷ []
 unfolding computing

@@ -14,7 +14,7 @@ use Rattle.values.specs.Contract.{Put}
 use Rattle.values.proofs.Encoding.{collection-size, count-sizes}
 use Rattle.collections.specs.Finding.{Counted}
 use Rattle.operators.specs.Answer.{Answer, is}
-use Rattle.operators.specs.Sets.{counting}
+use Rattle.operators.specs.Sets.{consecutive}
 use Rattle.operator_laws.proofs.Ranges.{sound-up}
 use Rattle.calling.specs.declared.Applied.{Applied}
 use Rattle.calling.specs.declared.Applied.the-variants.{Done}
@@ -54,7 +54,7 @@ module _ {s : List ℕ} {base n : ℕ} (h : Has sequence s base) (c : Counted s 
 
 -- what inds answers on the items of its operand
 abbrev pub indexed : Items → Answer
-indexed vs = counting (pos 1) (count vs)
+indexed vs = consecutive (pos 1) (count vs)
 
 module _ {s : List ℕ} {base n : ℕ} (h : Has sequence s base) (c : Counted s base n) where
   pub index-room : CountingRoom s base (pos 1) n
@@ -63,7 +63,7 @@ module _ {s : List ℕ} {base n : ℕ} (h : Has sequence s base) (c : Counted s 
       let r = h .room in
       record { room = omega arith; few = omega arith; fine = sound-up (pos 1) greatestInteger refl refl (pos 1) n (omega arith) (omega arith) }
 
-  pub index-done : {t : List ℕ} {r : Applied} → Gives (counting (pos 1) n) s t base r → OnItems sequence indexed s t base r
+  pub index-done : {t : List ℕ} {r : Applied} → Gives (consecutive (pos 1) n) s t base r → OnItems sequence indexed s t base r
   index-done {t} {r} g =
       let a = h .held .here in
-      items-by {f = indexed} (g .kept) a (subst (λ (k : ℕ). Applies t base r (counting (pos 1) k)) (c sequence (h .held .items) a) (g .right))
+      items-by {f = indexed} (g .kept) a (subst (λ (k : ℕ). Applies t base r (consecutive (pos 1) k)) (c sequence (h .held .items) a) (g .right))

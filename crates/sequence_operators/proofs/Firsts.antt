@@ -11,7 +11,7 @@ use Rattle.values.specs.Place.{ItemsAt}
 use Rattle.values.specs.Contract.{Movable, Moved, Copied, PutHead}
 use Rattle.values.proofs.Records.{Uncons, uncons, holds, items-to, items-none, no-items}
 use Rattle.operators.specs.Answer.{Answer, is, refused}
-use Rattle.operators.specs.Sequences.{headOf, tailOf}
+use Rattle.operators.specs.Sequences.{firstItem, tailOf}
 use Rattle.calling.specs.declared.Applied.the-variants.{Done, Refused}
 use Rattle.calling.proofs.Answering.{is-done}
 use Rattle.calling.proofs.Framing.{copied-kept}
@@ -27,8 +27,8 @@ module _ {s : List ℕ} {base n : ℕ} (h : Has sequence s base) (e : n ≡ word
   pub first-item : Uncons s (base + 4) (base + n) (h .held .items)
   first-item = let b = holds (h .held .here) in uncons (omega (arith, some)) (items-to e (h .held .here))
 
-  pub head-done : {t : List ℕ} {r : ℕ} → Copied s t (base + 4) base r → OnItems sequence headOf s t base Done
-  head-done c = let y = first-item in items-by {f = headOf} (copied-kept c) (h .held .here) (is-done (ap headOf (y .is)) (c .here (y .first) (y .first-at)))
+  pub head-done : {t : List ℕ} {r : ℕ} → Copied s t (base + 4) base r → OnItems sequence firstItem s t base Done
+  head-done c = let y = first-item in items-by {f = firstItem} (copied-kept c) (h .held .here) (is-done (ap firstItem (y .is)) (c .here (y .first) (y .first-at)))
 
   pub tail-movable : {m : ℕ} → m ≡ word s (base + 4) → Movable s (base + 4 + m) (base + 4) (n - 4 - m)
   tail-movable d = let b = holds (h .held .here) in let y = first-item in record { there = omega arith; room = omega arith; apart = inr (omega arith) }

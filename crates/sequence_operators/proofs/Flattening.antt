@@ -16,8 +16,8 @@ use Rattle.values.proofs.Records.{Uncons, uncons, items-to}
 use Rattle.values.proofs.Joined.{join-none, join-join}
 use Rattle.operators.specs.Answer.{Answer, is, refused, wrongKind, closed, sized}
 use Rattle.operators.specs.Gather.{everyItem, isKind, flatten}
-use Rattle.operator_laws.proofs.OfKind.{kind-is, kind-test}
-use Rattle.operator_laws.proofs.Enumerations.{fits}
+use Rattle.operator_laws.proofs.OfKind.{of-kind-is, kind-test}
+use Rattle.operator_laws.proofs.Enumerations.{fitting-built}
 use Rattle.calling.specs.declared.Applied.the-variants.{Done, Refused}
 use Rattle.calling.proofs.Answering.{is-off}
 use Rattle.calling.proofs.Framing.{kept-outside}
@@ -69,7 +69,7 @@ module _ {s t : List ℕ} {base end p q : ℕ} (w : Flattening s t base end p q)
     pub flat-step : {u : List ℕ} → Moved t u (p + 4) q (n - 4) → Flattening s u base end (p + n) (q + (n - 4))
     flat-step m =
         let y = flat-run in
-        let i = kind-is sequence (y .first) (sym (r .right (y .first) (y .first-at)) ∙ f) in
+        let i = of-kind-is sequence (y .first) (sym (r .right (y .first) (y .first-at)) ∙ f) in
         let us = i .0 in
         let x : ItemsAt t (p + 4) (p + n) us = items-to e (subst (λ (v : Value). At t p v) (i .1) (y .first-at)) in
         let d : p + n ≡ p + 4 + (n - 4) = omega arith in
@@ -89,5 +89,5 @@ flat-end {base = base} {q = q} w le h =
     (λ vs ws a l f. (
       tt,
       cond-true (everyItem (isKind sequence) vs) (sized sequence (flatten vs)) (refused wrongKind) (f .kinds)
-          ∙ ap (sized sequence) (f .items ∙ join-none ws) ∙ ap (closed sequence) (fits ws l),
+          ∙ ap (sized sequence) (f .items ∙ join-none ws) ∙ ap (closed sequence) (fitting-built ws l),
     ))

@@ -15,7 +15,7 @@ use Rattle.values.proofs.Encoding.{join-sizes}
 use Rattle.values.proofs.Frame.{items-moved, items-below, outside-then}
 use Rattle.values.proofs.Written.{headed-collection}
 use Rattle.operators.specs.Answer.{Answer, closed as answered, sized}
-use Rattle.operator_laws.proofs.Enumerations.{fits, fits-not}
+use Rattle.operator_laws.proofs.Enumerations.{fitting-built, fits-not}
 use Rattle.calling.specs.Scratch.{second}
 use Rattle.calling.specs.declared.Applied.the-variants.{Done, Refused}
 use Rattle.calling.proofs.Answering.{is-done}
@@ -61,4 +61,4 @@ module _ {s : List ℕ} {base n m : ℕ} (e : n ≡ word s base) (d : m ≡ word
         both-by {f = concatenated}
         (kept-outside {from = base} {to = base + (n + m - 4)} (omega arith) (outside-then base (base + (n + m - 4)) (omega arith) (omega arith) (omega arith) (omega arith) (moved .outside) (head .outside)))
         (h .left .here) (h .right .here)
-        (is-done (ap (answered sequence) (fits (join vs ws) (omega arith))) (headed-collection (n + m - 4) (head .bytes) (omega arith) f tt both))
+        (is-done (ap (answered sequence) (fitting-built (join vs ws) (omega arith))) (headed-collection (n + m - 4) (head .bytes) (omega arith) f tt both))

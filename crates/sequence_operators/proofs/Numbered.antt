@@ -10,7 +10,7 @@ use Rattle.operators.specs.Operators.{unary}
 use Rattle.calling.specs.declared.Applied.the-variants.{Refused}
 use Rattle.calling.specs.Applied.{OnOne}
 use Rattle.calling.proofs.Kinding.{off-one}
-use Rattle.calling.proofs.Numbered.{past, meet}
+use Rattle.calling.proofs.Numbered.{past-next, meet}
 
 -- It asks for a sequence.
 pub record Asks (n : ℕ) : Type 0 where
@@ -36,4 +36,4 @@ not-sequence {n = n} low high r f =
 
 -- the last number, where it is none of the others
 pub is-reverse : {n : ℕ} → n ≤ 13 → 7 ≤ n → (n ≡ 7 → ⊥) → (n ≡ 8 → ⊥) → (n ≡ 9 → ⊥) → (n ≡ 10 → ⊥) → (n ≡ 11 → ⊥) → (n ≡ 12 → ⊥) → n ≡ 13
-is-reverse high low a b c d e f = meet high (past (past (past (past (past (past low a) b) c) d) e) f)
+is-reverse high low a b c d e f = meet high (past-next (past-next (past-next (past-next (past-next (past-next low a) b) c) d) e) f)

@@ -8,8 +8,8 @@ ghost use Rattle.values.specs.Value.{sequence, integer, collection, count};
 ghost use Rattle.values.specs.Items.{join};
 ghost use Rattle.operators.specs.Answer.{is, refused, wrongKind, sized};
 ghost use Rattle.operators.specs.Gather.{everyItem, isKind, flatten, backwards};
-ghost use Rattle.operators.specs.Sets.{counting};
-ghost use Rattle.operators.specs.Sequences.{headOf, tailOf};
+ghost use Rattle.operators.specs.Sets.{consecutive};
+ghost use Rattle.operators.specs.Sequences.{firstItem, tailOf};
 ghost use Rattle.operators.specs.Operators.{unary, binary};
 ghost use Rattle.calling.specs.Applied.{One, Two, OnOne, OnTwo};
 ghost use Rattle.calling.specs.Operands.{Has, HasTwo, OnItems, OnBoth};
@@ -29,7 +29,7 @@ fn len(s: &mut [u8], base: usize) -> Applied
 // 8 hd
 fn head(s: &mut [u8], base: usize) -> Applied
     requires { ⌜ Has sequence (now s) base ⌝ }
-    ensures { λ r. ⌜ OnItems sequence headOf (now (s .entry)) (now (s .exit)) base r ⌝ }
+    ensures { λ r. ⌜ OnItems sequence firstItem (now (s .entry)) (now (s .exit)) base r ⌝ }
 {
     let n = values::length_of(s, base);
     if n == Value::HEAD {
@@ -62,7 +62,7 @@ fn tail(s: &mut [u8], base: usize) -> Applied
 // 11 inds: the integers from 1 up to the number of items.
 fn indexes(s: &mut [u8], base: usize) -> Applied
     requires { ⌜ Has sequence (now s) base ⌝ }
-    ensures { λ r. ⌜ OnItems sequence (λ vs. counting (pos 1) (count vs)) (now (s .entry)) (now (s .exit)) base r ⌝ }
+    ensures { λ r. ⌜ OnItems sequence (λ vs. consecutive (pos 1) (count vs)) (now (s .entry)) (now (s .exit)) base r ⌝ }
 {
     let n = collections::finding::count_of(s, base);
     gathering::counting(s, base, 1, n)

@@ -21,10 +21,10 @@ use Rattle.values.specs.Contract.{Shows}
 use Rattle.tables.specs.Check.{check}
 use Rattle.tables.specs.declared.Checked.{Checked}
 use Rattle.tables.specs.declared.Checked.the-variants.{Accepted, Refused as Faulty}
-use Rattle.meaning.specs.Answer.{pack, packed, uncounted, answerNumber}
-use Rattle.meaning.specs.Walk.{Walk, listed, overwritten}
+use Rattle.meaning.specs.Answer.{pack, packed, uncounted, finalNumber as answerNumber}
+use Rattle.meaning.specs.Walk.{Walk, walkList as listed, overwritten}
 use Rattle.meaning.specs.Service.{scratchBytes, tree, runs, evaluates, firsts, steps, onward, steppedFrom}
-use Rattle.meaning.specs.Lent.{zeroed, filled, isEarly, AfterWalk, afterWalk, afterEvaluate, walkAfter, resultAfter, evaluateCall, firstCall, stepCall}
+use Rattle.meaning.specs.Lent.{zeroed, filledUp as filled, isEarly, AfterWalk, afterWalk, afterEvaluate, walkAfter, resultAfter, evaluateCall, firstCall, stepCall}
 use Rattle.meaning.specs.Laws.ReadBack.{Fits, fits-evaluate, Late, evaluate-late, first-late, step-late}
 use Rattle.meaning.specs.Laws.Services.{evaluates-1, evaluates-2, evaluates-refused, evaluates-10, evaluates-run, firsts-1, firsts-refused, firsts-10, firsts-granted, steps-1, steps-refused, steps-10, steps-long, steps-run}
 use Rattle.walks.specs.declared.Stepped.{Stepped}

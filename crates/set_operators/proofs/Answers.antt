@@ -24,9 +24,9 @@ use Rattle.collections.proofs.Built.{put-within, long-past}
 use Rattle.operators.specs.Answer.{is, refused, wrongKind, asSet, closed, sized}
 use Rattle.operators.specs.Booleans.{truth}
 use Rattle.operators.specs.Gather.{everyItem, keepItems, insertAll}
-use Rattle.operators.specs.Sets.{isSubset, isEmpty, without}
+use Rattle.operators.specs.Sets.{isSubset, isEmpty, subtract}
 use Rattle.operators.specs.Operators.{binary}
-use Rattle.operator_laws.proofs.Enumerations.{fits as fitting-is, fits-not}
+use Rattle.operator_laws.proofs.Enumerations.{fitting-built as fitting-is, fits-not}
 use Rattle.operator_laws.proofs.Sets.{subset-all, subset-equal}
 use Rattle.calling.specs.Scratch.{second, third}
 use Rattle.calling.specs.declared.Applied.{Applied}
@@ -167,12 +167,12 @@ module _ {op : ℕ} (low : 20 ≤ op) (high : op ≤ 21) where
 -- ---- 22 subset, 23 psubset
 
 -- none is outside where every one is inside
-empty-without : (vs ws : Items) → isEmpty (without ws vs) ≡ isSubset ws vs
+empty-without : (vs ws : Items) → isEmpty (subtract ws vs) ≡ isSubset ws vs
 unfolding keepItems everyItem
 empty-without vs none = refl
 empty-without vs (more w ws) = go (isMember w vs) (empty-without vs ws)
   where
-    go : (b : Bool) → isEmpty (without ws vs) ≡ isSubset ws vs → isEmpty (cond (not b) (more w (without ws vs)) (without ws vs)) ≡ b && isSubset ws vs
+    go : (b : Bool) → isEmpty (subtract ws vs) ≡ isSubset ws vs → isEmpty (cond (not b) (more w (subtract ws vs)) (subtract ws vs)) ≡ b && isSubset ws vs
     go true e = e
     go false e = refl
 
@@ -195,14 +195,14 @@ module _ (vs ws : Items) (a : Ascending vs) (b : Ascending ws) where
       (λ g. never (sym e ∙ subset-same vs ws (members-same (same-true (collection set vs) (collection set ws) g)))) (λ g. g)
 
   -- a proper subset is one that differs
-  proper : isSubset vs ws && not (isEmpty (without ws vs)) ≡ not (Bool·beq (isSubset vs ws) (same (collection set vs) (collection set ws)))
+  proper : isSubset vs ws && not (isEmpty (subtract ws vs)) ≡ not (Bool·beq (isSubset vs ws) (same (collection set vs) (collection set ws)))
   proper =
       by-test (isSubset vs ws)
       (λ e.
-      ap (λ (x : Bool). x && not (isEmpty (without ws vs))) e ∙ ap not (empty-without vs ws ∙ same-is e) ∙ whole (same (collection set vs) (collection set ws))
+      ap (λ (x : Bool). x && not (isEmpty (subtract ws vs))) e ∙ ap not (empty-without vs ws ∙ same-is e) ∙ whole (same (collection set vs) (collection set ws))
       ∙ ap (λ (x : Bool). not (Bool·beq x (same (collection set vs) (collection set ws)))) (sym e))
       (λ e.
-      ap (λ (x : Bool). x && not (isEmpty (without ws vs))) e ∙ ap (λ (z : Bool). not (Bool·beq false z)) (sym (same-not e))
+      ap (λ (x : Bool). x && not (isEmpty (subtract ws vs))) e ∙ ap (λ (z : Bool). not (Bool·beq false z)) (sym (same-not e))
       ∙ ap (λ (x : Bool). not (Bool·beq x (same (collection set vs) (collection set ws)))) (sym e))
     where
       whole : (z : Bool) → not z ≡ not (Bool·beq true z)

@@ -20,7 +20,7 @@ use Rattle.collections.proofs.Additions.{added-put}
 use Rattle.operators.specs.Gather.{keepItems}
 use Rattle.operator_laws.proofs.Gather.{ascending-keep}
 use Rattle.set_operators.specs.Members.{HoldsSets, inAll, InAll, asWanted, wantedOf, Appendable, AppendsIf, Choice, Chosen}
-use Rattle.gathering.proofs.Walks.{Left, items-first, items-on, items-end}
+use Rattle.gathering.proofs.Walks.{Left, walked-first, items-on, walked-end}
 use Rattle.gathering.proofs.Growth.{Next, next-item}
 
 -- ---- one item
@@ -114,7 +114,7 @@ module _ {s t : List ℕ} {x a b at : ℕ} {wanted : Bool} {p : ℕ} (w : Choosi
   one = w .state (w .choice .held .items) (w .choice .others .items) (w .choice .held .here) (w .choice .others .here)
 
   pub choose-next : {u : List ℕ} → p < x + word s x → Outside s u at (at + valueLimit) → Next s u (x + word s x) at p
-  choose-next lt o = next-item {from = p} o (inl (w .choice .below)) (omega arith) (items-first lt (one .left))
+  choose-next lt o = next-item {from = p} o (inl (w .choice .below)) (omega arith) (walked-first lt (one .left))
 
   pub choose-test : p < x + word s x → Holds t p × HoldsSets t a b
   choose-test lt = (choose-next lt (w .frame) .item, sets-still (w .frame) (w .choice .under) (w .choice .others))
@@ -123,7 +123,7 @@ module _ {s t : List ℕ} {x a b at : ℕ} {wanted : Bool} {p : ℕ} (w : Choosi
   unfolding size
   choose-room lt =
       let n = choose-next lt (w .frame) in
-      let y = items-first lt (one .left) in
+      let y = walked-first lt (one .left) in
       let c₁ = collection-size sequence (one .us) in
       let m = word-size (one .made) in
       let l = word-size (y .first-at) in
@@ -144,7 +144,7 @@ module _ {s t : List ℕ} {x a b at : ℕ} {wanted : Bool} {p : ℕ} (w : Choosi
         frame = outside-both (w .frame) (q .frame);
         state = λ vs ws h g.
             let k = w .state vs ws h g in
-            let y = items-first lt (k .left) in
+            let y = walked-first lt (k .left) in
             let below = w .choice .below in
             let inside = y .inside in
             let m = word-size (y .first-at) in
@@ -162,7 +162,7 @@ module _ {s t : List ℕ} {x a b at : ℕ} {wanted : Bool} {p : ℕ} (w : Choosi
   unfolding keepItems
   choose-end le vs ws h g =
       let k = w .state vs ws h g in
-      let e = items-end le (k .left) .0 ∙ join-none (k .us) in
+      let e = walked-end le (k .left) .0 ∙ join-none (k .us) in
       subst (λ (us : Items). At t at (collection sequence us)) (sym e) (k .made)
 
 -- ---- from the empty sequence to the set

@@ -18,7 +18,7 @@ use Rattle.integers.proofs.Parts.{up, down, parts-add, parts-minus}
 use Rattle.values.specs.Value.{valueLimit, SoundItems}
 use Rattle.values.proofs.Records.{integer-range}
 use Rattle.operators.specs.Gather.{upFrom}
-use Rattle.operators.specs.Sets.{counted, howMany, counting, rangeOf}
+use Rattle.operators.specs.Sets.{asCount, howMany, consecutive, rangeOf}
 use Rattle.operator_laws.proofs.Ranges.{sound-range}
 use Rattle.calling.specs.declared.Applied.{Applied}
 use Rattle.calling.specs.declared.Pair.{Pair}
@@ -44,7 +44,7 @@ size-up : (z : ℤ) (a b : ℕ) → up z + a ≡ b + down z → mag z ≤ a + b
 size-up (pos n) a b e = omega arith
 size-up (negsuc n) a b e = omega arith
 
-counted-up : (z : ℤ) (a b : ℕ) → up z + a ≡ b + down z → counted z ≤ b
+counted-up : (z : ℤ) (a b : ℕ) → up z + a ≡ b + down z → asCount z ≤ b
 counted-up (pos n) a b e = omega arith
 counted-up (negsuc n) a b e = omega arith
 
@@ -90,14 +90,14 @@ module _ {from to : ℤ} (f : SFits w32 from) (t : SFits w32 to) where
   many = omega (arith, counted-up (to -ℤ from +ℤ pos 1) (down to + up from) (up to + down from + 1) total-up, parts-low from f, parts-low to t)
 
 -- what the code finds of a number below 0, and of one that is not
-pub counted-below : (z : ℤ) → ltZ z (pos 0) ≡ true → 0 ≡ counted z
+pub counted-below : (z : ℤ) → ltZ z (pos 0) ≡ true → 0 ≡ asCount z
 counted-below (pos n) e = absurd (omega (arith, ltb-true n 0 e))
 counted-below (negsuc n) e = refl
 
 pub record Counted (z : ℤ) : Type 0 where
   pub signed : T (nonNeg z)
   pub fits : Fits w64 (natAbs z)
-  pub exact : natAbs z ≡ counted z
+  pub exact : natAbs z ≡ asCount z
 
 pub counted-other : (z : ℤ) → SFits w64 z → ltZ z (pos 0) ≡ false → Counted z
 counted-other (pos n) f e = record { signed = tt; fits = omega arith; exact = refl }
@@ -112,5 +112,5 @@ module _ {s : List ℕ} {base : ℕ} {p : Pair} (read : PairAt s base p) {a b : 
       let m = many (range-fits (machine a) f) (range-fits (machine b) g) in
       record { room = room; few = omega arith; fine = subst (λ (k : ℕ). SoundItems (upFrom (machine a) k)) (sym h) (sound-range (machine a) (machine b) f g) }
 
-  pub range-gives : {t : List ℕ} {r : Applied} → Gives (counting (machine a) n) s t base r → OnTwo rangeOf s t base r
-  range-gives = pair-gives read {f = rangeOf} e (ap (λ (k : ℕ). counting (machine a) k) (sym h))
+  pub range-gives : {t : List ℕ} {r : Applied} → Gives (consecutive (machine a) n) s t base r → OnTwo rangeOf s t base r
+  range-gives = pair-gives read {f = rangeOf} e (ap (λ (k : ℕ). consecutive (machine a) k) (sym h))

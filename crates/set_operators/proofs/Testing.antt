@@ -16,7 +16,7 @@ use Rattle.collections.specs.Finding.{Contains}
 use Rattle.operators.specs.Gather.{everyItem, itemsIn, isKind}
 use Rattle.operator_laws.proofs.OfKind.{kind-test}
 use Rattle.set_operators.specs.Members.{HoldsSets}
-use Rattle.gathering.proofs.Walks.{Walk, items-start, items-first, items-on, items-end}
+use Rattle.gathering.proofs.Walks.{Walk, items-start, walked-first, items-on, walked-end}
 
 -- ---- a test of all items
 
@@ -35,17 +35,17 @@ module _ {I : Type 0} {s : List ℕ} {from to : ℕ} (q : I → Value → Bool) 
   module _ {p : ℕ} (w : Testing s from to q p) where
     pub test-fails : p < to → (i : I) → ((v : Value) → At s p v → q i v ≡ false) → (vs : Items) → ItemsAt s from to vs → false ≡ everyItem (q i) vs
     test-fails lt i f vs h =
-        let y = items-first lt (w vs h) in
+        let y = walked-first lt (w vs h) in
         sym (y .so i ∙ every-more (q i) (y .first) (y .rest) (f (y .first) (y .first-at)))
 
     pub test-on : p < to → ((i : I) (v : Value) → At s p v → q i v ≡ true) → (n : ℕ) → n ≡ word s p → Testing s from to q (p + n)
     test-on lt f n e vs h =
-        let y = items-first lt (w vs h) in
+        let y = walked-first lt (w vs h) in
         items-on y n e (λ i. y .so i ∙ every-more (q i) (y .first) (y .rest) (f i (y .first) (y .first-at)))
 
     pub test-end : to ≤ p → (i : I) → (vs : Items) → ItemsAt s from to vs → true ≡ everyItem (q i) vs
     unfolding everyItem
-    test-end le i vs h = sym (items-end le (w vs h) i)
+    test-end le i vs h = sym (walked-end le (w vs h) i)
 
 -- ---- sets
 
@@ -70,7 +70,7 @@ sets-parts v vs e = and-eq-true-iff (isKind set v) (everyItem (isKind set) vs) .
 
 pub sets-on : {s : List ℕ} {from to p : ℕ} → SetsLeft s from to p → p < to → (n : ℕ) → n ≡ word s p → SetsLeft s from to (p + n)
 sets-on w lt n e vs h =
-    let y = items-first lt (w vs h) in
+    let y = walked-first lt (w vs h) in
     items-on y n e (λ f. sets-parts (y .first) (y .rest) (y .so f) .1)
 
 -- ---- the tests
@@ -119,6 +119,6 @@ pub record FirstSet (s : List ℕ) (to p : ℕ) : Type 0 where
 
 pub first-set : {s : List ℕ} {from to p : ℕ} → SetsLeft s from to p → p < to → HoldsSets s from to → FirstSet s to p
 first-set {s} {p = p} w lt h =
-    let y = items-first lt (w (h .items) (h .here)) in
+    let y = walked-first lt (w (h .items) (h .here)) in
     let (us, e) = set-is (y .first) (sets-parts (y .first) (y .rest) (y .so (h .sets)) .0) in
     record { members = us; set-at = subst (At s p) e (y .first-at); low = y .low; high = y .high; inside = y .inside; fits = y .fits }

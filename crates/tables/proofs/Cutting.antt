@@ -10,7 +10,7 @@ use lib.ListN.{length, getD, take, drop, set, length-drop, length-set}
 use lib.Seq.{take-all, getD-set-same, getD-set-other, getD-drop, drop-drop, drop-length}
 use Rattle.integers.specs.Bytes.{word}
 use Rattle.tables.specs.Record.{Record, shape, size, isFit}
-use Rattle.tables.specs.Table.{first, Next, fault, one, next, Cut, cutBy, cut, noRecord, onNext}
+use Rattle.tables.specs.Table.{firstRecord, Next, fault, one, next, Cut, cutBy, cut, noRecord, onNext}
 use Rattle.tables.specs.Check.{mostRecords}
 use Rattle.prelude.proofs.Truth.{by-lower}
 use Rattle.tables.specs.Laws.Tests.{each}
@@ -38,21 +38,21 @@ module _ (bytes : List ℕ) (some : 0 < length bytes) where
   unfolding next
   next-past h l m = rw (ne-eqb (length bytes) 0 (omega arith), le-ltb (length bytes) 4 h, le-ltb (word bytes 0) 4 l, lt-ltb (length bytes) (word bytes 0) m)
 
-  pub next-unfit : 4 ≤ length bytes → 4 ≤ word bytes 0 → word bytes 0 ≤ length bytes → isFit (first bytes) ≡ false → next bytes ≡ fault
+  pub next-unfit : 4 ≤ length bytes → 4 ≤ word bytes 0 → word bytes 0 ≤ length bytes → isFit (firstRecord bytes) ≡ false → next bytes ≡ fault
   unfolding next
   next-unfit h l m e =
       rw (ne-eqb (length bytes) 0 (omega arith), le-ltb (length bytes) 4 h, le-ltb (word bytes 0) 4 l, le-ltb (length bytes) (word bytes 0) m, e)
 
-  next-one : 4 ≤ length bytes → 4 ≤ word bytes 0 → word bytes 0 ≤ length bytes → isFit (first bytes) ≡ true → next bytes ≡ one (first bytes) (drop (word bytes 0) bytes)
+  next-one : 4 ≤ length bytes → 4 ≤ word bytes 0 → word bytes 0 ≤ length bytes → isFit (firstRecord bytes) ≡ true → next bytes ≡ one (firstRecord bytes) (drop (word bytes 0) bytes)
   unfolding next
   next-one h l m e =
       rw (ne-eqb (length bytes) 0 (omega arith), le-ltb (length bytes) 4 h, le-ltb (word bytes 0) 4 l, le-ltb (length bytes) (word bytes 0) m, e)
 
-  pub good : (n : ℕ) → n ≡ word bytes 0 → 4 ≤ length bytes → 4 ≤ n → n ≤ length bytes → isFit (first bytes) ≡ true → Measured bytes n
+  pub good : (n : ℕ) → n ≡ word bytes 0 → 4 ≤ length bytes → 4 ≤ n → n ≤ length bytes → isFit (firstRecord bytes) ≡ true → Measured bytes n
   good n is h l m e =
       record {
         bad = λ z. absurd (omega arith);
-        good = λ z. next-one h (omega arith) (omega arith) e ∙ ap (λ (k : ℕ). one (first bytes) (drop k bytes)) (sym is);
+        good = λ z. next-one h (omega arith) (omega arith) e ∙ ap (λ (k : ℕ). one (firstRecord bytes) (drop k bytes)) (sym is);
         long = λ z. is;
       }
 
@@ -66,7 +66,7 @@ measured s at n m = rw part-rest at m
 -- A record lies within what is left.
 pub measured-within : (s : List ℕ) (at n : ℕ) → Measured (drop at s) n → 0 < n → n ≤ length s - at
 measured-within s at n m h =
-    omega (arith, next-is (drop at s) (first (drop at s)) (drop n (drop at s)) (m .good h) .whole, m .long h, length-drop at s)
+    omega (arith, next-is (drop at s) (firstRecord (drop at s)) (drop n (drop at s)) (m .good h) .whole, m .long h, length-drop at s)
 
 -- ---- where a record stands
 
@@ -75,9 +75,9 @@ pub fields-few : (k : ℕ) → k ≤ 40 → size (shape k .head) + length (shape
 unfolding shape
 fields-few k h = leb-true _ _ (each (λ k. leb (size (shape k .head) + length (shape k .roles)) 8) 41 refl k (omega arith))
 
-stands : (table : List ℕ) (at : ℕ) (rest : List ℕ) → IsNext (drop at table) (first (drop at table)) rest → Stands table at (first (drop at table))
+stands : (table : List ℕ) (at : ℕ) (rest : List ℕ) → IsNext (drop at table) (firstRecord (drop at table)) rest → Stands table at (firstRecord (drop at table))
 stands table at rest n =
-    let x : Record = first (drop at table) in
+    let x : Record = firstRecord (drop at table) in
     let long : length (x .fields) ≡ word (drop at table) 0 - 4 = fields-long (drop at table) (word (drop at table) 0) refl (n .long) (n .whole) in
     let few : length (x .fields) ≤ 8 = omega (arith, fit-most x (n .fit), fields-few (x .kind) (fit-kind x (n .fit))) in
     record {
@@ -101,9 +101,9 @@ pub record Turn (table index : List ℕ) (at count : ℕ) : Type 0 where
   pub places : Places table index count
   pub long : length index ≡ mostRecords
 
-pub turn-start : (table index : List ℕ) → length index ≡ mostRecords → Turn table index 0 0
+pub cutting-start : (table index : List ℕ) → length index ≡ mostRecords → Turn table index 0 0
 unfolding cut
-turn-start table index long =
+cutting-start table index long =
     record {
       within = omega arith;
       steps = omega arith;
@@ -158,8 +158,8 @@ cut-nothing (suc b) = refl
 
 module _ (table index : List ℕ) (at count : ℕ) (t : Turn table index at count) where
   -- Nothing is left.
-  pub turn-end : length table ≤ at → CutOut table index (record { count = count; whole = true })
-  turn-end h =
+  pub cutting-end : length table ≤ at → CutOut table index (record { count = count; whole = true })
+  cutting-end h =
       let all : at ≡ length table = omega (arith, t .within) in
       let none : drop at table ≡ [] = rw all (drop-length table) in
       let out : cutBy (length table - count) (drop at table) ≡ record { records = []; whole = true } = rw none (cut-nothing (length table - count)) in
@@ -194,9 +194,9 @@ module _ (table index : List ℕ) (at count : ℕ) (t : Turn table index at coun
         }
 
     -- A record of n bytes is next, and its place is noted where there is room.
-    pub turn-more : (n : ℕ) (index′ : List ℕ) → next (drop at table) ≡ one (first (drop at table)) (drop n (drop at table)) → n ≡ word (drop at table) 0 → Noted index index′ count at → Turn table index′ (at + n) (count + 1)
-    turn-more n index′ e is noted =
-        let x : Record = first (drop at table) in
+    pub cutting-more : (n : ℕ) (index′ : List ℕ) → next (drop at table) ≡ one (firstRecord (drop at table)) (drop n (drop at table)) → n ≡ word (drop at table) 0 → Noted index index′ count at → Turn table index′ (at + n) (count + 1)
+    cutting-more n index′ e is noted =
+        let x : Record = firstRecord (drop at table) in
         let i : IsNext (drop at table) x (drop n (drop at table)) = next-is (drop at table) x (drop n (drop at table)) e in
         let out : cutBy (length table - count) (drop at table) ≡ onNext (one x (drop n (drop at table))) (λ rest. cutBy (length table - (count + 1)) rest) =
         unrolled ∙ ap (λ (n : Next). onNext n (λ rest. cutBy (length table - (count + 1)) rest)) e in

@@ -15,7 +15,7 @@ use Rattle.integers.specs.Bytes.{word, bits32, integerAt}
 use Rattle.integers.specs.Whole.{inRange}
 use Rattle.integers.proofs.Range.{fits-range}
 use Rattle.tables.specs.Record.{Record, Head, nothing, boolean, integer, name, unary, binary, unknown, Shape, shape, isExpression, isPattern, size, headOf, field, integerOf, fits, isKnown, isFit}
-use Rattle.tables.specs.Table.{first}
+use Rattle.tables.specs.Table.{firstRecord}
 use Rattle.tables.specs.Shapes.{isTested, knownFirst}
 use Rattle.prelude.proofs.Absurd.{never}
 use Rattle.prelude.proofs.Truth.{by-lower}
@@ -44,56 +44,56 @@ known-first unary r e = refl
 known-first binary r e = refl
 known-first unknown r e = refl
 
-pub fit-beyond : (bytes : List ℕ) → 40 < word bytes 2 → false ≡ isFit (first bytes)
-fit-beyond bytes h = go (isFit (first bytes)) refl
+pub fit-beyond : (bytes : List ℕ) → 40 < word bytes 2 → false ≡ isFit (firstRecord bytes)
+fit-beyond bytes h = go (isFit (firstRecord bytes)) refl
   where
-    go : (b : Bool) → isFit (first bytes) ≡ b → false ≡ b
-    go true e = absurd (omega (arith, fit-kind (first bytes) e))
+    go : (b : Bool) → isFit (firstRecord bytes) ≡ b → false ≡ b
+    go true e = absurd (omega (arith, fit-kind (firstRecord bytes) e))
     go false e = refl
 
 module _ (bytes : List ℕ) (len : ℕ) (is : len ≡ word bytes 0) (four : 4 ≤ len) (whole : len ≤ length bytes) where
-  pub fields-long : length (first bytes .fields) ≡ len - 4
+  pub fields-long : length (firstRecord bytes .fields) ≡ len - 4
   fields-long = length-take-le (word bytes 0 - 4) (drop 4 bytes) (omega (arith, length-drop 4 bytes)) ∙ ap (λ (n : ℕ). n - 4) (sym is)
 
-  pub field-at : (i : ℕ) → i < len - 4 → getD (first bytes .fields) i 0 ≡ getD bytes (4 + i) 0
+  pub field-at : (i : ℕ) → i < len - 4 → getD (firstRecord bytes .fields) i 0 ≡ getD bytes (4 + i) 0
   field-at i h = getD-take (word bytes 0 - 4) (drop 4 bytes) i 0 (omega arith) ∙ getD-drop 4 bytes i 0
 
-  pub fit-unfit : false ≡ fits (shape (word bytes 2)) (len - 4) → false ≡ isFit (first bytes)
+  pub fit-unfit : false ≡ fits (shape (word bytes 2)) (len - 4) → false ≡ isFit (firstRecord bytes)
   unfolding isFit
   fit-unfit e =
-      sym (ap (λ (n : ℕ). fits (shape (word bytes 2)) n && isKnown (headOf (first bytes)) (first bytes)) fields-long
-      ∙ ap (λ (b : Bool). b && isKnown (headOf (first bytes)) (first bytes)) (sym e))
+      sym (ap (λ (n : ℕ). fits (shape (word bytes 2)) n && isKnown (headOf (firstRecord bytes)) (firstRecord bytes)) fields-long
+      ∙ ap (λ (b : Bool). b && isKnown (headOf (firstRecord bytes)) (firstRecord bytes)) (sym e))
 
-  known-fit : true ≡ fits (shape (word bytes 2)) (len - 4) → isFit (first bytes) ≡ isKnown (headOf (first bytes)) (first bytes)
+  known-fit : true ≡ fits (shape (word bytes 2)) (len - 4) → isFit (firstRecord bytes) ≡ isKnown (headOf (firstRecord bytes)) (firstRecord bytes)
   unfolding isFit
   known-fit e =
-      ap (λ (n : ℕ). fits (shape (word bytes 2)) n && isKnown (headOf (first bytes)) (first bytes)) fields-long
-      ∙ ap (λ (b : Bool). b && isKnown (headOf (first bytes)) (first bytes)) (sym e)
+      ap (λ (n : ℕ). fits (shape (word bytes 2)) n && isKnown (headOf (firstRecord bytes)) (firstRecord bytes)) fields-long
+      ∙ ap (λ (b : Bool). b && isKnown (headOf (firstRecord bytes)) (firstRecord bytes)) (sym e)
 
   -- The head of a record that fits lies within it.
-  head-within : true ≡ fits (shape (word bytes 2)) (len - 4) → size (headOf (first bytes)) ≤ len - 4
+  head-within : true ≡ fits (shape (word bytes 2)) (len - 4) → size (headOf (firstRecord bytes)) ≤ len - 4
   head-within e =
       let s : Shape = shape (word bytes 2) in
       omega (arith, leb-true (size (s .head) + s .least) (len - 4) (and-elim-left _ (leb (len - 4) (size (s .head) + length (s .roles))) (and-elim-left _ _ (sym e))))
 
-  integer-long : true ≡ fits (shape (word bytes 2)) (len - 4) → headOf (first bytes) ≡ integer → 4 ≤ len - 4
+  integer-long : true ≡ fits (shape (word bytes 2)) (len - 4) → headOf (firstRecord bytes) ≡ integer → 4 ≤ len - 4
   integer-long e i = omega (arith, head-within e, ap size i)
 
-  pub fit-empty : true ≡ fits (shape (word bytes 2)) (len - 4) → len ≡ 4 → isFit (first bytes) ≡ knownFirst (shape (word bytes 2) .head) 0
+  fit-empty : true ≡ fits (shape (word bytes 2)) (len - 4) → len ≡ 4 → isFit (firstRecord bytes) ≡ knownFirst (shape (word bytes 2) .head) 0
   fit-empty e l =
       known-fit e
-      ∙ known-first (headOf (first bytes)) (first bytes) (λ i. absurd (omega (arith, integer-long e i)))
-      ∙ ap (λ (n : ℕ). knownFirst (headOf (first bytes)) (getD (take (n - 4) (drop 4 bytes)) 0 0)) (sym is ∙ l)
+      ∙ known-first (headOf (firstRecord bytes)) (firstRecord bytes) (λ i. absurd (omega (arith, integer-long e i)))
+      ∙ ap (λ (n : ℕ). knownFirst (headOf (firstRecord bytes)) (getD (take (n - 4) (drop 4 bytes)) 0 0)) (sym is ∙ l)
 
-  pub fit-first : true ≡ fits (shape (word bytes 2)) (len - 4) → 4 < len → ((i : ℕ) → getD bytes i 0 < 256) → isFit (first bytes) ≡ knownFirst (shape (word bytes 2) .head) (getD bytes 4 0)
+  pub fit-first : true ≡ fits (shape (word bytes 2)) (len - 4) → 4 < len → ((i : ℕ) → getD bytes i 0 < 256) → isFit (firstRecord bytes) ≡ knownFirst (shape (word bytes 2) .head) (getD bytes 4 0)
   fit-first e l small =
       known-fit e
-      ∙ known-first (headOf (first bytes)) (first bytes)
-      (λ i. bytes-range (first bytes .fields) (λ k h. rw (field-at k (omega (arith, integer-long e i))) (small (4 + k))))
-      ∙ ap (knownFirst (headOf (first bytes))) (field-at 0 (omega arith))
+      ∙ known-first (headOf (firstRecord bytes)) (firstRecord bytes)
+      (λ i. bytes-range (firstRecord bytes .fields) (λ k h. rw (field-at k (omega (arith, integer-long e i))) (small (4 + k))))
+      ∙ ap (knownFirst (headOf (firstRecord bytes))) (field-at 0 (omega arith))
 
   module _ (fit : true ≡ fits (shape (word bytes 2)) (len - 4)) (known : word bytes 2 ≤ 40) where
-    pub fit-untested : isTested (word bytes 2) ≡ false → ((i : ℕ) → getD bytes i 0 < 256) → isFit (first bytes) ≡ isExpression (word bytes 2) || isPattern (word bytes 2)
+    pub fit-untested : isTested (word bytes 2) ≡ false → ((i : ℕ) → getD bytes i 0 < 256) → isFit (firstRecord bytes) ≡ isExpression (word bytes 2) || isPattern (word bytes 2)
     fit-untested u small =
         by-lower 4 len (λ l. fit-first fit l small ∙ sym (untested-known (word bytes 2) (getD bytes 4 0) known u))
         (λ l. fit-empty fit (omega arith) ∙ sym (untested-known (word bytes 2) 0 known u))
@@ -106,7 +106,7 @@ module _ (bytes : List ℕ) (len : ℕ) (is : len ≡ word bytes 0) (four : 4 �
         never (sym (tested-long (word bytes 2) known t) ∙ sym (fit ∙ ap (fits (shape (word bytes 2))) none)))
 
 -- An integer literal of eight bytes is fit.
-pub integer-fit : (bytes : List ℕ) → word bytes 0 ≡ 8 → word bytes 2 ≡ 2 → 8 ≤ length bytes → ((i : ℕ) → getD bytes i 0 < 256) → isFit (first bytes) ≡ true
+pub integer-fit : (bytes : List ℕ) → word bytes 0 ≡ 8 → word bytes 2 ≡ 2 → 8 ≤ length bytes → ((i : ℕ) → getD bytes i 0 < 256) → isFit (firstRecord bytes) ≡ true
 unfolding shape
 integer-fit bytes e k h small =
     fit-untested bytes 8 (sym e) (omega arith) h (sym (ap (λ (n : ℕ). fits (shape n) 4) k)) (omega arith) (ap isTested k) small

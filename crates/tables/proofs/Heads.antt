@@ -10,7 +10,7 @@ use Rattle.prelude.proofs.Truth.{implied, by-lower}
 use Rattle.tables.specs.Record.{Head, nothing, boolean, integer, name, unary, binary, unknown, shape, isExpression, isPattern, fits}
 use Rattle.tables.specs.Shapes.{isTested, knownFirst}
 use Rattle.tables.specs.Laws.Tests.{each}
-use Rattle.tables.proofs.Lengths.{same, same-is}
+use Rattle.tables.proofs.Lengths.{sameBool, same-is}
 
 -- Below 16 is up to 15.
 pub below-sixteen : (n : ℕ) → ltb n 16 ≡ leb n 15
@@ -54,8 +54,8 @@ tested-long k h e = not-true (fits (shape k) 0) (implied (isTested k) _ (each (�
 -- ---- by bits
 
 pub tested-is : (k : ℕ) → k ≤ 40 → eqb (21474836538 / 2 ^ k % 2) 1 ≡ isTested k
-tested-is k h = same-is _ (isTested k) (each (λ k. same (eqb (21474836538 / 2 ^ k % 2) 1) (isTested k)) 41 refl k (omega arith))
+tested-is k h = same-is _ (isTested k) (each (λ k. sameBool (eqb (21474836538 / 2 ^ k % 2) 1) (isTested k)) 41 refl k (omega arith))
 
-pub kind-is : (k : ℕ) → k ≤ 40 → eqb (2194732482558 / 2 ^ k % 2) 1 ≡ isExpression k || isPattern k
+pub head-kind : (k : ℕ) → k ≤ 40 → eqb (2194732482558 / 2 ^ k % 2) 1 ≡ isExpression k || isPattern k
 unfolding shape
-kind-is k h = same-is _ (isExpression k || isPattern k) (each (λ k. same (eqb (2194732482558 / 2 ^ k % 2) 1) (isExpression k || isPattern k)) 41 refl k (omega arith))
+head-kind k h = same-is _ (isExpression k || isPattern k) (each (λ k. sameBool (eqb (2194732482558 / 2 ^ k % 2) 1) (isExpression k || isPattern k)) 41 refl k (omega arith))

@@ -13,11 +13,11 @@ use Rattle.tables.specs.Shapes.{lengthRows, firstOf}
 use Rattle.tables.specs.Laws.Tests.{each}
 
 -- Two truths are the same.
-abbrev pub same : Bool → Bool → Bool
-same true b = b
-same false b = not b
+abbrev pub sameBool : Bool → Bool → Bool
+sameBool true b = b
+sameBool false b = not b
 
-pub same-is : (a b : Bool) → same a b ≡ true → a ≡ b
+pub same-is : (a b : Bool) → sameBool a b ≡ true → a ≡ b
 same-is true b e = sym e
 same-is false b e = sym (not-true b e)
 
@@ -25,7 +25,7 @@ same-is false b e = sym (not-true b e)
 
 -- Of d bytes after the heading.
 abbrev right : ℕ → ℕ → Bool
-right d k = same (eqb (getD lengthRows k 0 / 2 ^ d % 2) 1) (fits (shape k) d)
+right d k = sameBool (eqb (getD lengthRows k 0 / 2 ^ d % 2) 1) (fits (shape k) d)
 
 right-all : (d k : ℕ) → d < 9 → k ≤ 40 → right d k ≡ true
 unfolding shape

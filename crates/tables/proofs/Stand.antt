@@ -23,11 +23,11 @@ pub part-at : (s : List ℕ) (at i : ℕ) → getD (take (length s - at) (drop a
 part-at s at i = rw (part-rest s at) (getD-drop at s i 0)
 
 -- The same at a place that was read.
-pub byte-at : (s : List ℕ) (at place i : ℕ) → at ≡ place → getD (take (length s - at) (drop at s)) i 0 ≡ getD s (place + i) 0
-byte-at s at place i e = part-at s at i ∙ ap (λ (a : ℕ). getD s (a + i) 0) e
+pub field-byte : (s : List ℕ) (at place i : ℕ) → at ≡ place → getD (take (length s - at) (drop at s)) i 0 ≡ getD s (place + i) 0
+field-byte s at place i e = part-at s at i ∙ ap (λ (a : ℕ). getD s (a + i) 0) e
 
-pub part-long : (s : List ℕ) (at : ℕ) → length (take (length s - at) (drop at s)) ≡ length s - at
-part-long s at = rw (part-rest s at) (length-drop at s)
+pub rest-long : (s : List ℕ) (at : ℕ) → length (take (length s - at) (drop at s)) ≡ length s - at
+rest-long s at = rw (part-rest s at) (length-drop at s)
 
 module _ (table index : List ℕ) (r : ℕ) (h : Here table index r) where
   pub fit : isFit (recordAt (records table) r) ≡ true
@@ -39,8 +39,8 @@ module _ (table index : List ℕ) (r : ℕ) (h : Here table index r) where
   pub in-index : r < mostRecords
   in-index = omega (arith, h .indexed .few, h .within)
 
-  pub four : getD index r 0 + 4 ≤ length table
-  four = omega (arith, stands .fits)
+  pub four-there : getD index r 0 + 4 ≤ length table
+  four-there = omega (arith, stands .fits)
 
   pub kind-few : kindAt (records table) r ≤ 40
   kind-few = fit-kind (recordAt (records table) r) fit
@@ -49,8 +49,8 @@ module _ (table index : List ℕ) (r : ℕ) (h : Here table index r) where
   pub count-is : getD table (getD index r 0) 0 ≡ firstOf (kindAt (records table) r) + length (named (recordAt (records table) r))
   count-is = omega (arith, stands .long, named-count (recordAt (records table) r) fit, fit-least (recordAt (records table) r) fit)
 
-  pub count-few : length (named (recordAt (records table) r)) ≤ 8
-  count-few = omega (arith, named-count (recordAt (records table) r) fit, fit-most (recordAt (records table) r) fit, fields-few (kindAt (records table) r) kind-few)
+  pub stand-count-few : length (named (recordAt (records table) r)) ≤ 8
+  stand-count-few = omega (arith, named-count (recordAt (records table) r) fit, fit-most (recordAt (records table) r) fit, fields-few (kindAt (records table) r) kind-few)
 
   pub roles-more : length (named (recordAt (records table) r)) ≤ length (rolesOf (kindAt (records table) r))
   roles-more = omega (arith, named-count (recordAt (records table) r) fit, fit-most (recordAt (records table) r) fit)
@@ -83,9 +83,9 @@ module _ (table index : List ℕ) (r : ℕ) (h : Here table index r) where
       let same : bits32 (take (length table - at) (drop at table)) 4 ≡ bits32 (recordAt (records table) r .fields) 0 =
       omega (
         arith,
-        byte-at table at (getD index r 0) 4 e ∙ field-is 0 (omega arith),
-        byte-at table at (getD index r 0) 5 e ∙ field-is 1 (omega arith),
-        byte-at table at (getD index r 0) 6 e ∙ field-is 2 (omega arith),
-        byte-at table at (getD index r 0) 7 e ∙ field-is 3 (omega arith),
+        field-byte table at (getD index r 0) 4 e ∙ field-is 0 (omega arith),
+        field-byte table at (getD index r 0) 5 e ∙ field-is 1 (omega arith),
+        field-byte table at (getD index r 0) 6 e ∙ field-is 2 (omega arith),
+        field-byte table at (getD index r 0) 7 e ∙ field-is 3 (omega arith),
       ) in
       ap (toZ w32) same

@@ -5,7 +5,7 @@ use Prim.Native.Nat.{ℕ, _+_, _≤_, _<_}
 use lib.ListN.{length, getD, drop}
 use Rattle.integers.specs.Bytes.{word}
 use Rattle.tables.specs.Record.{Record, named}
-use Rattle.tables.specs.Table.{fault, one, next, first, recordAt, cut}
+use Rattle.tables.specs.Table.{fault, one, next, firstRecord, recordAt, cut}
 use Rattle.tables.specs.Check.{mostRecords}
 use Rattle.tables.specs.Accepted.{records}
 use Rattle.tables.specs.declared.reading.Cutting.{Cutting}
@@ -43,7 +43,7 @@ pub record HasOperand (table index : List ℕ) (r i : ℕ) : Type 0 where
 -- The length of the record at the start of some bytes; 0 where rule 4 finds a fault.
 pub record Measured (bytes : List ℕ) (n : ℕ) : Type 0 where
   pub bad : n ≡ 0 → next bytes ≡ fault
-  pub good : 0 < n → next bytes ≡ one (first bytes) (drop n bytes)
+  pub good : 0 < n → next bytes ≡ one (firstRecord bytes) (drop n bytes)
   pub long : 0 < n → n ≡ word bytes 0
 
 -- What cutting a table finds: the number of records up to the first fault of rule 4, whether there is none, and an index of them.

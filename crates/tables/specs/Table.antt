@@ -8,8 +8,8 @@ use Rattle.integers.specs.Bytes.{word}
 use Rattle.tables.specs.Record.{Record, isFit}
 
 -- The record at the start of some bytes: length of the whole record, kind, then one-byte fields.
-abbrev pub first : List ℕ → Record
-first bytes = record { kind = word bytes 2; fields = take (word bytes 0 - 4) (drop 4 bytes) }
+abbrev pub firstRecord : List ℕ → Record
+firstRecord bytes = record { kind = word bytes 2; fields = take (word bytes 0 - 4) (drop 4 bytes) }
 
 -- What stands at the start of the bytes that are left: nothing more, a fault of rule 4, or a record with what follows it.
 pub data Next : Type 0 where
@@ -21,7 +21,7 @@ unfoldable pub next : List ℕ → Next
 next bytes =
     cond (eqb (length bytes) 0) end
     (cond (ltb (length bytes) 4 || ltb (word bytes 0) 4 || ltb (length bytes) (word bytes 0)) fault
-    (cond (isFit (first bytes)) (one (first bytes) (drop (word bytes 0) bytes)) fault))
+    (cond (isFit (firstRecord bytes)) (one (firstRecord bytes) (drop (word bytes 0) bytes)) fault))
 
 -- The records up to the first fault of rule 4, and whether there is none.
 pub record Cut : Type 0 where

@@ -6,7 +6,7 @@ ghost use lib.Dec.{leb};
 ghost use lib.ListN.{length, getD};
 ghost use Rattle.integers.specs.Bytes.{word};
 ghost use Rattle.tables.specs.Record.{shape, lastKind, isExpression, isPattern, fits, isFit};
-ghost use Rattle.tables.specs.Table.{first};
+ghost use Rattle.tables.specs.Table.{firstRecord};
 ghost use Rattle.tables.specs.Sheet.{isBinder};
 ghost use Rattle.tables.specs.Shapes.{lengthRows, firstOf, rolesOf, firstRole, thirdRole, binderRole, isTested, knownFirst};
 use crate::HEADING;
@@ -264,7 +264,7 @@ fn is_tested(kind: usize) -> bool
 pub fn is_fit(lengths: &Lengths, part: &[u8], kind: usize, len: usize) -> bool
     requires { ⌜ now lengths ≡ lengthRows ⌝ }
     requires { ⌜ (kind ≡ word (now part) 2) × (len ≡ word (now part) 0) × (4 ≤ len) × (len ≤ length (now part)) ⌝ }
-    ensures { λ r. ⌜ r ≡ isFit (first (now (part .entry))) ⌝ }
+    ensures { λ r. ⌜ r ≡ isFit (firstRecord (now (part .entry))) ⌝ }
 {
     if kinds::LAST < kind {
         return false;

@@ -38,11 +38,11 @@ inside-of (v, o) =
     let w = word-size a in
     record { held = holds a; ends = omega arith }
 
-pub value-off : {x : List ℕ} {r : Bool} → Tells (Inside x 0 (length x)) r → r ≡ false → Tells (IsValue x) false
-value-off t e = tells-false (λ o. told-false t e (inside-of o))
+pub alone-off : {x : List ℕ} {r : Bool} → Tells (Inside x 0 (length x)) r → r ≡ false → Tells (IsValue x) false
+alone-off t e = tells-false (λ o. told-false t e (inside-of o))
 
-pub value-told : {x : List ℕ} {n : ℕ} → Inside x 0 (length x) → IsWord x 0 n → Tells (IsValue x) (eqb n (length x))
-value-told {x} {n} i w = tells-of there back (tells-equal n (length x))
+pub alone-told : {x : List ℕ} {n : ℕ} → Inside x 0 (length x) → IsWord x 0 n → Tells (IsValue x) (eqb n (length x))
+alone-told {x} {n} i w = tells-of there back (tells-equal n (length x))
   where
     there : n ≡ length x → IsValue x
     there e =

@@ -19,7 +19,7 @@ use Rattle.values.specs.Contract.{heading}
 use Rattle.values.proofs.Written.{collection-at}
 use Rattle.values.proofs.Order.{number-low}
 use Rattle.values.proofs.Records.{holds, word-size, word-kind, boolean-at, is-boolean, is-integer, is-collection, items-to, holds-items, no-items, more-of, uncons-of, one-list, well-formed-boolean, well-formed-integer, collection-shaped}
-use Rattle.values.specs.Validity.{Tells, Span, Inside, Boolean, TellsItems, ShapedAs}
+use Rattle.values.specs.Validity.{Tells, Span, Inside, Boolean, TellsItems, ItemsShapedAs}
 use Rattle.values.proofs.Telling.{tells-true, tells-false, tells-of, told-false, tells-equal, tells-less}
 
 -- ---- the bytes of records
@@ -157,14 +157,14 @@ module _ {s : List ℕ} (bytes : (i : ℕ) → Fits w8 (getD s i 0)) {at to n : 
       let two : word s (at + 2) ≡ 2 = sym (k .is) ∙ e in
       tells-of (λ d. record { held = found-integer s bytes at (omega arith) (omega arith) two; ends = omega arith }) (λ x. g ∙ integer-size (x .held) two) (tells-equal n 8)
 
-  pub collection-told : {k : ℕ} {r : Bool} → IsWord s (at + 2) k → (k ≡ 1 → ⊥) → (k ≡ 2 → ⊥) → HoldsItems s (at + 4) (at + n) → TellsItems (ShapedAs k) s (at + 4) (at + n) r → Tells (Inside s at to) r
+  pub collection-told : {k : ℕ} {r : Bool} → IsWord s (at + 2) k → (k ≡ 1 → ⊥) → (k ≡ 2 → ⊥) → HoldsItems s (at + 4) (at + n) → TellsItems (ItemsShapedAs k) s (at + 4) (at + n) r → Tells (Inside s at to) r
   collection-told {k} k-is not1 not2 (vs, items) t =
       let f = h .inside in
       let g = h .len in
       let o = h .span .short in
       tells-of (λ x. record { held = found-collection s bytes at n (x .0) vs g (sym (k-is .is) ∙ x .1) (omega arith) (x .2) items; ends = omega arith }) back (t vs items)
     where
-      back : Inside s at to → ShapedAs k vs
+      back : Inside s at to → ItemsShapedAs k vs
       back x =
           let y = x .held .here in
           let kind = word-kind y in

@@ -82,9 +82,9 @@ module _ {s : List ℕ} {a b : ℕ} where
     pub second-items : {n : ℕ} → Length s b n → HoldsItems s (b + 4) (b + n)
     second-items n = (c .others, items-to (n .is) (c .second))
 
-    pub by-items : {m n : ℕ} (r : Order) → Length s a m → Length s b n → OrderedItems s (a + 4) (a + m) (b + 4) (b + n) r → Ordered s a b r
+    pub ordered-by-items : {m n : ℕ} (r : Order) → Length s a m → Length s b n → OrderedItems s (a + 4) (a + m) (b + 4) (b + n) r → Ordered s a b r
     unfolding within
-    by-items r m n o = by-contents r (c .first) (c .second) (c .alike) (o (c .items) (c .others) (items-to (m .is) (c .first)) (items-to (n .is) (c .second)))
+    ordered-by-items r m n o = by-contents r (c .first) (c .second) (c .alike) (o (c .items) (c .others) (items-to (m .is) (c .first)) (items-to (n .is) (c .second)))
 
 -- ---- two lists of items
 
@@ -111,14 +111,14 @@ module _ {s : List ℕ} {a a′ b b′ : ℕ} where
         ap₂ orderItems (x .is) (y .is)
         ∙ ap (λ (p : Order). after p (orderItems (x .rest) (y .rest))) (sym (c (x .first) (y .first) (x .first-at) (y .first-at)))
 
-    pub first-lower : o ≡ Lower → OrderedItems s a a′ b b′ Lower
-    first-lower d vs ws h k = sym (heads vs ws h k ∙ ap (λ (p : Order). after p (orderItems (uncons-of ea h .rest) (uncons-of eb k .rest))) d)
+    pub items-first-lower : o ≡ Lower → OrderedItems s a a′ b b′ Lower
+    items-first-lower d vs ws h k = sym (heads vs ws h k ∙ ap (λ (p : Order). after p (orderItems (uncons-of ea h .rest) (uncons-of eb k .rest))) d)
 
-    pub first-higher : o ≡ Higher → OrderedItems s a a′ b b′ Higher
-    first-higher d vs ws h k = sym (heads vs ws h k ∙ ap (λ (p : Order). after p (orderItems (uncons-of ea h .rest) (uncons-of eb k .rest))) d)
+    pub items-first-higher : o ≡ Higher → OrderedItems s a a′ b b′ Higher
+    items-first-higher d vs ws h k = sym (heads vs ws h k ∙ ap (λ (p : Order). after p (orderItems (uncons-of ea h .rest) (uncons-of eb k .rest))) d)
 
-    pub first-same : {m n : ℕ} (r : Order) → o ≡ Same → Length s a m → Length s b n → OrderedItems s (a + m) a′ (b + n) b′ r → OrderedItems s a a′ b b′ r
-    first-same r d m n q vs ws h k =
+    pub items-first-same : {m n : ℕ} (r : Order) → o ≡ Same → Length s a m → Length s b n → OrderedItems s (a + m) a′ (b + n) b′ r → OrderedItems s a a′ b b′ r
+    items-first-same r d m n q vs ws h k =
         let x = uncons-of ea h in
         let y = uncons-of eb k in
         let q′ : OrderedItems s (a + word s a) a′ (b + word s b) b′ r = rw (m .is, n .is) at q in

@@ -15,7 +15,7 @@ use Rattle.values.proofs.Order.{number-inj, lower-same, lower-higher}
 use Rattle.values.proofs.Encoding.{count-sizes}
 use Rattle.values.proofs.Records.{items-none, uncons-of, holds}
 use Rattle.values.proofs.Members.{before-first}
-use Rattle.values.specs.Validity.{Tells, TellsItems, CountsItems, Entries, ShapedAs}
+use Rattle.values.specs.Validity.{Tells, TellsItems, CountsItems, Entries, ItemsShapedAs}
 use Rattle.values.proofs.Telling.{tells-true, tells-false, tells-of, tells-most}
 
 -- ---- the first item, and what is left
@@ -159,11 +159,11 @@ items-few (vs, h) t =
 -- ---- as a kind asks
 
 -- the items of a set, a sequence, a map
-pub shaped-as : {s : List ℕ} {from to kind : ℕ} {r : Bool} (k : Kind) → kind ≡ number k → TellsItems (Shaped k) s from to r → TellsItems (ShapedAs kind) s from to r
+pub shaped-as : {s : List ℕ} {from to kind : ℕ} {r : Bool} (k : Kind) → kind ≡ number k → TellsItems (Shaped k) s from to r → TellsItems (ItemsShapedAs kind) s from to r
 shaped-as k e t vs h = tells-of (λ x. (k, e, x)) (λ x. subst (λ (l : Kind). Shaped l vs) (number-inj (x .0) k (sym (x .1) ∙ e)) (x .2)) (t vs h)
 
 -- no kind of collection has the number
-pub shaped-off : {s : List ℕ} {from to kind : ℕ} → (kind ≡ 3 → ⊥) → (kind ≡ 4 → ⊥) → (kind ≡ 5 → ⊥) → (kind ≡ 6 → ⊥) → TellsItems (ShapedAs kind) s from to false
+pub shaped-off : {s : List ℕ} {from to kind : ℕ} → (kind ≡ 3 → ⊥) → (kind ≡ 4 → ⊥) → (kind ≡ 5 → ⊥) → (kind ≡ 6 → ⊥) → TellsItems (ItemsShapedAs kind) s from to false
 shaped-off {kind = kind} f g h i vs a = tells-false (λ x. no (x .0) (x .1))
   where
     no : (k : Kind) → kind ≡ number k → ⊥
@@ -173,8 +173,8 @@ shaped-off {kind = kind} f g h i vs a = tells-false (λ x. no (x .0) (x .1))
     no tuple e = i e
 
 -- two to four in a tuple
-pub tuple-few : {s : List ℕ} {from to n : ℕ} → CountsItems s from to n → n < 2 → TellsItems (Shaped tuple) s from to false
-tuple-few t l vs h = let e = t vs h in tells-false (λ x. omega arith)
+pub tuple-count-few : {s : List ℕ} {from to n : ℕ} → CountsItems s from to n → n < 2 → TellsItems (Shaped tuple) s from to false
+tuple-count-few t l vs h = let e = t vs h in tells-false (λ x. omega arith)
 
 pub tuple-most : {s : List ℕ} {from to n : ℕ} → CountsItems s from to n → 2 ≤ n → TellsItems (Shaped tuple) s from to (leb n 4)
 tuple-most {n = n} t l vs h = let e = t vs h in tells-of (λ x. (omega arith, omega arith)) (λ x. omega arith) (tells-most n 4)

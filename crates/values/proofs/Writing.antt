@@ -14,12 +14,12 @@ use Rattle.values.specs.Value.{Value, boolean, integer, size, byteOf, he
 use Rattle.values.specs.Contract.{PutHead, Put, heading}
 use Rattle.values.proofs.Records.{well-formed-boolean, well-formed-integer}
 use Rattle.values.proofs.Encoding.{encode-length}
-use Rattle.values.proofs.Written.{stored, stores, written}
+use Rattle.values.proofs.Written.{stored-outside, stores, written}
 
 pub put-heading : (s t u : List ℕ) (at n k : ℕ) → t ≡ sets s at (pair n) → u ≡ sets t (at + 2) (pair k) → PutHead s u at n k
 put-heading s t u at n k p q =
     let e : u ≡ sets s at (heading n k) = q ∙ ap (λ (l : List ℕ). sets l (at + 2) (pair k)) p ∙ stores s at (pair n) (pair k) refl in
-    record { bytes = e; outside = stored s (heading n k) e refl }
+    record { bytes = e; outside = stored-outside s (heading n k) e refl }
 
 put : (s u : List ℕ) (at : ℕ) (v : Value) (n : ℕ) → size v ≡ n → u ≡ sets s at (encode v) → WellFormed v → at + n ≤ length s → Put s u at v n (at + n)
 put s u at v n d e f h =
@@ -28,7 +28,7 @@ put s u at v n d e f h =
       sized = d;
       bytes = e;
       here = written s e f (omega arith);
-      outside = stored s (encode v) e (encode-length v ∙ d);
+      outside = stored-outside s (encode v) e (encode-length v ∙ d);
     }
 
 -- what follows a heading

@@ -28,8 +28,8 @@ above-store s at to [] h = refl
 above-store s at to (b ∷ bs) h = above-store (set s at b) (suc at) to bs (omega arith) ∙ drop-set-lt to s at b (omega arith)
 
 -- a store changes nothing outside it
-pub stored : (s : List ℕ) {t : List ℕ} {at : ℕ} (bs : List ℕ) {n : ℕ} → t ≡ sets s at bs → length bs ≡ n → Outside s t at (at + n)
-stored s {t} {at} bs {n} q e =
+pub stored-outside : (s : List ℕ) {t : List ℕ} {at : ℕ} (bs : List ℕ) {n : ℕ} → t ≡ sets s at bs → length bs ≡ n → Outside s t at (at + n)
+stored-outside s {t} {at} bs {n} q e =
     record {
       long = ap length q ∙ length-sets s at bs;
       below = ap (take at) q ∙ below-store s at at bs (omega arith);
@@ -77,4 +77,4 @@ headed-collection {s} {t} {at} {to} {k} {vs} n q e short shaped h =
     let f = h .ends in
     let g = h .fits in
     let b : take 4 (drop at t) ≡ heading n (number k) = ap (λ (x : List ℕ). take 4 (drop at x)) q ∙ ap (take 4) (drop-store s at (heading n (number k)) (omega arith)) in
-    collection-at n b e short shaped (items-above (stored s (heading n (number k)) q refl) (omega arith) h)
+    collection-at n b e short shaped (items-above (stored-outside s (heading n (number k)) q refl) (omega arith) h)

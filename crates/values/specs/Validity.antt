@@ -42,8 +42,8 @@ abbrev pub Entries : Items → Type 0
 Entries vs = Paired vs × Ascending (keys vs)
 
 -- The items are shaped as the kind of this number asks.
-abbrev pub ShapedAs : ℕ → Items → Type 0
-ShapedAs kind vs = (k : Kind) × (kind ≡ number k) × Shaped k vs
+abbrev pub ItemsShapedAs : ℕ → Items → Type 0
+ItemsShapedAs kind vs = (k : Kind) × (kind ≡ number k) × Shaped k vs
 
 -- The bytes are the record of the well-formed value v, and nothing else; they are some value's.
 pub record Encodes (bytes : List ℕ) (v : Value) : Type 0 where

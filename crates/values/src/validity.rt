@@ -5,7 +5,7 @@ ghost use Prim.Native.Nat.{_+_, _≤_};
 ghost use lib.ListN.{length};
 ghost use Rattle.values.specs.Value.{Ascending, Paired, keys, valueLimit};
 ghost use Rattle.values.specs.Place.{HoldsItems};
-ghost use Rattle.values.specs.Validity.{Tells, IsValue, Inside, Boolean, TellsItems, CountsItems, Entries, ShapedAs, Span};
+ghost use Rattle.values.specs.Validity.{Tells, IsValue, Inside, Boolean, TellsItems, CountsItems, Entries, ItemsShapedAs, Span};
 
 // ---- the shape of items that are known to stand between two places
 
@@ -68,7 +68,7 @@ fn count(s: &[u8], from: usize, to: usize) -> usize
 // Whether they are shaped as a kind of collection asks.
 fn shaped(s: &[u8], from: usize, to: usize, kind: usize) -> bool
     requires { ⌜ HoldsItems (now s) from to ⌝ }
-    ensures { λ r. ⌜ TellsItems (ShapedAs kind) (now (s .entry)) from to r ⌝ }
+    ensures { λ r. ⌜ TellsItems (ItemsShapedAs kind) (now (s .entry)) from to r ⌝ }
 {
     if kind == Value::SET {
         return ascending(s, from, to);

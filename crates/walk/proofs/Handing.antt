@@ -97,5 +97,5 @@ made-empty w h run m = subst (λ (l : List ℕ). Made l true (lent run)) (ap (λ
 
 -- ---- reading
 
-pub within : (i : Input) (n : ℕ) (buffer : List ℕ) → i ≡ Bytes n → Within i buffer → Counts n buffer
-within i n buffer e h = subst (λ (x : Input). Within x buffer) e h
+pub within-counts : (i : Input) (n : ℕ) (buffer : List ℕ) → i ≡ Bytes n → Within i buffer → Counts n buffer
+within-counts i n buffer e h = subst (λ (x : Input). Within x buffer) e h

@@ -20,7 +20,7 @@ use Rattle.choices.proofs.Came.{came-complete, came-first, came-holds, came-nex
 use Rattle.choices.proofs.Stepping.{step-none}
 use Rattle.values.specs.Value.{Value}
 use Rattle.lists.specs.Lent.{lent}
-use Rattle.lists.specs.Runs.{Whole as Used}
+use Rattle.lists.specs.Runs.{UsedWhole as Used}
 use Rattle.tables.specs.Check.{check, mostBytes, mostRecords}
 use Rattle.tables.specs.Accepted.{records}
 use Rattle.tables.specs.Laws.Accepted.{accepted-short, accepted-fine, cut-accepted}

@@ -1,5 +1,5 @@
 -- `applying::item` meets its contract.
-use Rattle.application.proofs.Finding.{item-wrong, item-off, index-of, item-sought, item-done}
+use Rattle.application.proofs.Finding.{item-wrong, found-off, index-of, item-sought, found-done}
 use borrow.Author.Needs.{needs}
 use Rattle.application.proofs.item.Statement.{statement}
 use Rattle.application.proofs.item.Tie as tie
@@ -26,7 +26,7 @@ same-length-2 : tie.Need-same-length-2
 same-length-2 c = search needs
 
 returns-2 : tie.Need-returns-2
-returns-2 c = item-off (c .before .integer-at .ensures) (c .if2 .taken)
+returns-2 c = found-off (c .before .integer-at .ensures) (c .if2 .taken)
 
 cast-item-at : tie.Need-cast-item-at
 cast-item-at c = let i = index-of (c .before .before .integer-at .ensures) (c .before .if2 .left) in (i .natural, i .fits)
@@ -44,7 +44,7 @@ same-length-3 : tie.Need-same-length-3
 same-length-3 c = search needs
 
 returns-3 : tie.Need-returns-3
-returns-3 c = item-done (c .before .before .before .before .before .before .before .integer-at .ensures) (c .before .before .before .before .before .before .if2 .left) (c .before .before .before .before .item-at .ensures) (c .before .before .bring .ensures)
+returns-3 c = found-done (c .before .before .before .before .before .before .before .integer-at .ensures) (c .before .before .before .before .before .before .if2 .left) (c .before .before .before .before .item-at .ensures) (c .before .before .bring .ensures)
 
 pub item-spec : {M : Type 1} → statement M
 item-spec =

@@ -4,7 +4,7 @@ use native.Mathlib.Omega.{arith}
 use mir.Syntax.{w32}
 use mir.Val.{toZ}
 use Rattle.gathering.specs.Consecutive.{PutIntegers}
-use Rattle.gathering.proofs.Spans.{integers-none, integers-more, integers-all, added-fits, added-is, added-range}
+use Rattle.gathering.proofs.Spans.{integers-none, integers-more, spans-integers, added-fits, added-is, added-range}
 use Rattle.gathering.proofs.put_integers.Statement.{statement}
 use Rattle.gathering.proofs.put_integers.Tie as tie
 
@@ -45,7 +45,7 @@ same-length : tie.Need-same-length Inv-loop μ-loop
 same-length c = c .before .loop .inv .1 .outside .long
 
 returns : tie.Need-returns Inv-loop μ-loop
-returns c = integers-all (c .before .before .before .fits .from) (c .before .loop .inv .0) (c .loop-test .left) (c .before .loop .inv .1)
+returns c = spans-integers (c .before .before .before .fits .from) (c .before .loop .inv .0) (c .loop-test .left) (c .before .loop .inv .1)
 
 pub put-integers-spec : {M : Type 1} → statement M
 put-integers-spec =

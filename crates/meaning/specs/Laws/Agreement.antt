@@ -83,7 +83,7 @@ in-at b [] h = absurd h
 in-at b (c ∷ bs) (inl e) = (0, omega arith, sym e)
 in-at b (c ∷ bs) (inr h) = let w = in-at b bs h in (suc (w .0), omega (arith, w .1), w .2)
 
-same-chosen : {A : Type 0} (r : ℕ) (bs : List Binding) (f : Binding → Tree A) (F : Binding → Outcomes A) → ((b : Binding) → Same (f b) (F b)) → Same (bind (tree.chosen r bs) f) (underEach bs F)
+same-chosen : {A : Type 0} (r : ℕ) (bs : List Binding) (f : Binding → Tree A) (F : Binding → Outcomes A) → ((b : Binding) → Same (f b) (F b)) → Same (bind (tree.chosenBinding r bs) f) (underEach bs F)
 same-chosen r bs f F h o = (
   λ g. (getD bs (g .0) nothing, at-in bs (g .0) nothing (g .1), h (getD bs (g .0) nothing) o .0 (g .2)),
   λ w. let i = in-at (w .0) bs (w .1) in (i .0, i .1, subst (λ b. Gives (f b) o) (sym (i .2)) (h (w .0) o .1 (w .2))),
@@ -116,7 +116,7 @@ same-unique r p (b ∷ c ∷ bs) = same-stop 25 r
 
 -- ---- records, over records that agree
 
-module _ (rec : tree.Evaluates) (Rec : loose.Meanings) (agrees : (a : ℕ) (ρ : State) → Same (rec a ρ) (Rec a ρ)) where
+module _ (rec : tree.Evaluation) (Rec : loose.Meanings) (agrees : (a : ℕ) (ρ : State) → Same (rec a ρ) (Rec a ρ)) where
   same-all : (os : List ℕ) (ρ : State) → Same (tree.allOf rec os ρ) (loose.allOf Rec os ρ)
   unfolding tree.allOf loose.allOf
   same-all [] ρ = same-give none

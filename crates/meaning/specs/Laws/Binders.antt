@@ -35,7 +35,7 @@ use Rattle.tables.specs.Accepted.{records, Fine}
 use Rattle.tables.specs.Laws.Accepted.{accepted-fine, operand-lower, operand-sort, fit-known, fit-least, named-count}
 use Rattle.patterns.specs.Read.{patterns, patternAt}
 use Rattle.meaning.specs.Node.{Node, Quantifier, forall, exists, exists1, quantified}
-use Rattle.meaning.specs.State.{State, under, held, valueIn}
+use Rattle.meaning.specs.State.{State, under, heldValue, valueIn}
 use Rattle.meaning.specs.Read.{nodes, nodeOf, none as noNode, sheet}
 use Rattle.meaning.specs.Loose.{Outcomes, _then_, gives, bindingsOf, integerBindings, builtAt, holds, satisfying, quantify, unique, addOne, addPair, comprehension, looseOf, looseMeaning}
 use Rattle.meaning.specs.Kinds.{Binders, Comprehensions, Added, Integers, May, operandOf, nameIn, Condition, Element, Over, MembersAre, EntriesAre, kindIn, Maplet}
@@ -43,7 +43,7 @@ use Rattle.meaning.specs.Laws.Agreement.{loose-meaning-is}
 use Rattle.meaning.specs.Laws.Proper.{downward}
 use Rattle.meaning.specs.Laws.PatternLaws.{pattern-is}
 use Rattle.choices.proofs.Trees.{value≢refusal}
-use Rattle.meaning.specs.Laws.Tested.{then-value, else-value, built-value, bindings-value, integer-bindings-value, holds-value, satisfying-one, collected-value, until-false-true, until-false-false, until-true-true, until-true-false, unique-true, unique-false, first-map, one-map, several-map, added-map}
+use Rattle.meaning.specs.Laws.Tested.{then-value, else-value, built-value, bindings-value, integer-bindings-value, tested-value, satisfying-one, collected-value, until-false-true, until-false-false, until-true-true, until-true-false, unique-true, unique-false, first-map, one-map, several-map, added-map}
 use Rattle.meaning.specs.Laws.Collected.{Paired-in, set-holds, sequence-holds, map-holds, added-sound, added-whole}
 
 -- ---- from a record to its node
@@ -96,10 +96,10 @@ module _ (table : List ℕ) (n : ℕ) (ok : check table ≡ Accepted n) (r : ℕ
   )
 
   to : (t : Bool) (β : Binding) → holds rec r (operandOf table r 2) ρ β (value t) → Condition table r ρ t β
-  to t β = holds-value rec r ρ (operandOf table r 2) β t .0
+  to t β = tested-value rec r ρ (operandOf table r 2) β t .0
 
   from : (t : Bool) (β : Binding) → Condition table r ρ t β → holds rec r (operandOf table r 2) ρ β (value t)
-  from t β = holds-value rec r ρ (operandOf table r 2) β t .1
+  from t β = tested-value rec r ρ (operandOf table r 2) β t .1
 
   quantified-is : (q : Quantifier) → sheet table .node r ≡ quantified q (operandOf table r 0) (operandOf table r 1) (operandOf table r 2) → (t : Bool) (Q : List Binding → Type 0)
       → ((bs : List Binding) → Rising bs → quantify q rec r (operandOf table r 2) ρ bs (value t) ↔ Q bs) → May table r ρ (boolean t) ↔ Over table r ρ (λ ms bs. Q bs)
@@ -243,7 +243,7 @@ module _ (table : List ℕ) (n : ℕ) (ok : check table ≡ Accepted n) (r : ℕ
   -- ---- exactly one
 
   pub cell-only : (x : ℕ) (v : Value) → x < names → valueIn (only x v) x ≡ some v
-  cell-only x v h = ap held (getD-set-same nothing x (valued v) free h)
+  cell-only x v h = ap heldValue (getD-set-same nothing x (valued v) free h)
 
   only-same : (x : ℕ) (v w : Value) → x < names → only x v ≡ only x w → v ≡ w
   only-same x v w h e = let d : some v ≡ some w = sym (cell-only x v h) ∙ ap (λ (b : Binding). valueIn b x) e ∙ cell-only x w h in cc

@@ -18,7 +18,7 @@ use Rattle.tables.specs.Check.{check}
 use Rattle.prelude.proofs.Truth.{by-lower}
 use Rattle.meaning.specs.State.{unbound}
 use Rattle.meaning.specs.Read.{sheet}
-use Rattle.meaning.specs.Answer.{pack, packed, uncounted, numberOf}
+use Rattle.meaning.specs.Answer.{pack, packed, uncounted, numberPart}
 use Rattle.meaning.specs.Walk.{Walk, overwritten, Shows}
 use Rattle.meaning.specs.Service.{scratchBytes, last, tree, onward, firsts, steps}
 use Rattle.meaning.specs.Lent.{AfterWalk, walkAfter, afterWalk}
@@ -73,11 +73,11 @@ module _ (table : List ℕ) (c : Call) (w : Walk) where
   refused h = go due refl
     where
       go : (f : Final (List ℕ)) → due ≡ f → afterCall table c w ≡ w
-      go (result l) e = absurd (h (ap numberOf (answer-is (result l) e)))
+      go (result l) e = absurd (h (ap numberPart (answer-is (result l) e)))
       go (refuses n p k) e = after-is (refuses n p k) e ∙ returned-lent (c .part) w
 
-  granted-is : (n : ℕ) → called table c w .answer ≡ pack n 0 0 → isGranted table c w ≡ eqb (numberOf (pack n 0 0)) 0
-  granted-is n e = ap (λ a. eqb (numberOf a) 0) e
+  granted-is : (n : ℕ) → called table c w .answer ≡ pack n 0 0 → isGranted table c w ≡ eqb (numberPart (pack n 0 0)) 0
+  granted-is n e = ap (λ a. eqb (numberPart a) 0) e
 
   -- Either there is enough, or 1 or 10 is due.
   by-buffers : {X : Type 0} → (length (c .scratch) < scratchBytes → X) → (scratchBytes ≤ length (c .scratch) → length (lentWalk (c .part) w .entries) < mostChoices → X) → (Enough c w → X) → X
@@ -160,7 +160,7 @@ module _ (table : List ℕ) (n : ℕ) (ok : check table ≡ Accepted n) where
     abbrev Onward : Service → Type 0
     Onward s = Goes v (afterCall table c w) (tally s (isGranted table c w) k)
 
-    stays-so : (s : Service) (m : ℕ) → Left table c w m → eqb (numberOf (pack m 0 0)) 0 ≡ false → Onward s
+    stays-so : (s : Service) (m : ℕ) → Left table c w m → eqb (numberPart (pack m 0 0)) 0 ≡ false → Onward s
     stays-so s m h e =
         subst (λ j. Goes v (afterCall table c w) j) (sym (tally-left s (isGranted table c w) k (granted-is table c w m (h .answer) ∙ e)))
         (goes-left v w (afterCall table c w) k (h .stays) g)
@@ -203,8 +203,8 @@ module _ (table : List ℕ) (n : ℕ) (ok : check table ≡ Accepted n) where
   tally-none s false e = ap (λ x. tally x false 0) e
 
   -- A granted first list.
-  not-granted : (c : Call) (w : Walk) (m : ℕ) → Granted table c w → Left table c w m → 0 < numberOf (pack m 0 0) → ⊥
-  not-granted c w m g h p = let z : numberOf (pack m 0 0) ≡ 0 = sym (ap numberOf (h .answer)) ∙ g in omega arith
+  not-granted : (c : Call) (w : Walk) (m : ℕ) → Granted table c w → Left table c w m → 0 < numberPart (pack m 0 0) → ⊥
+  not-granted c w m g h p = let z : numberPart (pack m 0 0) ≡ 0 = sym (ap numberPart (h .answer)) ∙ g in omega arith
 
   goes-begun : (v : Walk) (c : Call) → c .service ≡ first → Granted table c v → Goes v (afterCall table c v) 0
   goes-begun v c e g =

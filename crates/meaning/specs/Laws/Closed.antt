@@ -28,10 +28,10 @@ use Rattle.patterns.specs.Laws.Matched.{bindings-exactly}
 use Rattle.patterns.specs.Laws.Forming.{formed-bound}
 use Rattle.meaning.specs.Node.{Node, Quantifier, forall, exists, exists1, truth, whole, named, unaryOf, binaryOf, connective, if, enumeration, range, let-in, let-be, quantified, iota, set-comprehension, sequence-comprehension, map-comprehension, application, no-expression}
 use Rattle.meaning.specs.State.{State, under, valueIn}
-use Rattle.meaning.specs.Meaning.{Evaluates, at, builtAt, orElse, allOf, bothOf, rightOf, isTrue, enumerated, formedAt, membersAt, bindingsOf, holds, satisfying, chosen, matched, satisfied, untilFalse, untilTrue, quantify, unique, collected, addOne, addPair, integersAt, integerBindings, comprehension, means, patternName}
+use Rattle.meaning.specs.Meaning.{Evaluation, at, builtAt, orElse, allOf, bothOf, rightOf, isTrue, enumerated, formedAt, membersAt, bindingsOf, holds, satisfying, chosenBinding, matched, satisfied, untilFalse, untilTrue, quantify, unique, collected, addOne, addPair, integersAt, integerBindings, comprehension, means, patternName}
 use Rattle.meaning.specs.Laws.Equation.{covered, Each, plainOperands}
 use Rattle.meaning.specs.Laws.Proper.{binderOf}
-use Rattle.meaning.specs.Laws.Numbers.{Ranged, Answered, BuiltSo, LeftSo, unary-number, binary-number, range-number, right-number, left-number, apply-number, entry-number, member-number, item-number, set-number, sequence-number, map-number, tuple-number}
+use Rattle.meaning.specs.Laws.Numbers.{Ranged, Answered, BuiltSo, LeftSo, unary-operator-is, binary-operator-is, range-number, right-number, left-number, apply-number, entry-number, member-number, item-number, set-number, sequence-number, map-number, tuple-number}
 use Rattle.meaning.specs.Laws.Only.{Only, only-give, only-stop, only-bind, Any, only-any}
 
 -- ---- the bindings of a binder
@@ -58,12 +58,12 @@ formable r p vs = go (formed p vs) refl
     go (bound bs) e = let f = formed-bound p vs bs e in only-give (Formable p) bs (record { few = f .few-enough; come = come bs (f .all) })
     go (unformed n) e = only-stop (Formable p) n r
 
-formable-bindings : (rec : Evaluates) (r : ℕ) (p : Pattern) (s : ℕ) (ρ : State) → Only (Formable p) (bindingsOf rec r p s ρ)
+formable-bindings : (rec : Evaluation) (r : ℕ) (p : Pattern) (s : ℕ) (ρ : State) → Only (Formable p) (bindingsOf rec r p s ρ)
 formable-bindings rec r p s ρ =
     only-bind Any (Formable p) (rec s ρ) _ (only-any (rec s ρ))
     (λ v i. only-bind Any (Formable p) (membersAt r v) _ (only-any (membersAt r v)) (λ vs j. formable r p (listOf vs)))
 
-formable-integers : (rec : Evaluates) (r : ℕ) (p : Pattern) (s : ℕ) (ρ : State) → Only (Formable p) (integerBindings rec r p s ρ)
+formable-integers : (rec : Evaluation) (r : ℕ) (p : Pattern) (s : ℕ) (ρ : State) → Only (Formable p) (integerBindings rec r p s ρ)
 formable-integers rec r p s ρ =
     only-bind Any (Formable p) (rec s ρ) _ (only-any (rec s ρ))
     (λ v i. only-bind Any (Formable p) (membersAt r v) _ (only-any (membersAt r v))
@@ -74,7 +74,7 @@ pub record Some (bs sat : List Binding) : Type 0 where
   pub not-more : length sat ≤ length bs
   pub among : (β : Binding) → In β sat → In β bs
 
-some-satisfy : (rec : Evaluates) (r c : ℕ) (ρ : State) (bs : List Binding) → Only (Some bs) (satisfying rec r c ρ bs)
+some-satisfy : (rec : Evaluation) (r c : ℕ) (ρ : State) (bs : List Binding) → Only (Some bs) (satisfying rec r c ρ bs)
 unfolding satisfying
 some-satisfy rec r c ρ [] = only-give (Some []) [] (record { not-more = omega arith; among = λ β i. i })
 some-satisfy rec r c ρ (b ∷ bs) =
@@ -132,7 +132,7 @@ Chooses pattern no-expression = ⊥
 pub record Closed (Q : (A : Type 0) → Tree A → Type 0) (May : Type 0) (r : ℕ) : Type 1 where
   pub of-give : (A : Type 0) (a : A) → Q A (give a)
   pub of-stop : (A : Type 0) (n : ℕ) → Ranged n → Q A (stop n r)
-  pub of-choice : May → (bs : List Binding) → 0 < length bs → Few bs → Q Binding (chosen r bs)
+  pub of-choice : May → (bs : List Binding) → 0 < length bs → Few bs → Q Binding (chosenBinding r bs)
   pub of-bind : (A B : Type 0) (t : Tree A) (f : A → Tree B) → Q A t → ((a : A) → Gives t (value a) → Q B (f a)) → Q B (bind t f)
 
 kind-number : Ranged 20
@@ -171,9 +171,9 @@ module _ (Q : (A : Type 0) → Tree A → Type 0) (May : Type 0) (r : ℕ) (clos
       go (bound bs) h = closed .of-give (List Binding) bs
       go (unformed n) h = closed .of-stop (List Binding) n h
 
-  choice-closed : May → (bs : List Binding) (f : Binding → Tree Value) → 0 < length bs → Few bs → ((b : Binding) → In b bs → Q Value (f b)) → Q Value (bind (chosen r bs) f)
+  choice-closed : May → (bs : List Binding) (f : Binding → Tree Value) → 0 < length bs → Few bs → ((b : Binding) → In b bs → Q Value (f b)) → Q Value (bind (chosenBinding r bs) f)
   choice-closed may bs f n e h =
-      closed .of-bind Binding Value (chosen r bs) f (closed .of-choice may bs n e)
+      closed .of-bind Binding Value (chosenBinding r bs) f (closed .of-choice may bs n e)
       (λ β g. h β (let d : getD bs (g .0) nothing ≡ β = value-is (g .2) in subst (λ x. In x bs) d (at-in bs (g .0) nothing (g .1))))
 
   matched-closed : (l : Bool) → (l ≡ true → May) → (bs : List Binding) (f : Binding → Tree Value) → Few bs → ((b : Binding) → In b bs → Q Value (f b)) → Q Value (bind (matched r l bs) f)
@@ -219,7 +219,7 @@ module _ (Q : (A : Type 0) → Tree A → Type 0) (May : Type 0) (r : ℕ) (clos
 
   -- ---- over records of which it holds
 
-  module _ (rec : Evaluates) (ρ : State) where
+  module _ (rec : Evaluation) (ρ : State) where
     -- It holds of a record in this state; under a binding; under each of some bindings.
     abbrev Here : ℕ → Type 0
     Here a = Q Value (rec a ρ)
@@ -302,8 +302,8 @@ module _ (Q : (A : Type 0) → Tree A → Type 0) (May : Type 0) (r : ℕ) (clos
     closed-node pattern (truth b) may l m = closed .of-give Value (boolean b)
     closed-node pattern (whole z) may l m = closed .of-give Value (integer z)
     closed-node pattern (named x) may l m = else-closed 20 (valueIn ρ x) kind-number
-    closed-node pattern (unaryOf op a) may l m = then (rec a ρ) _ (l .0) (λ v. answer-closed (unary op v) (unary-number op v))
-    closed-node pattern (binaryOf op a b) may l m = both-closed a b (l .0) (l .1 .0) _ (λ v w. answer-closed (binary op v w) (binary-number op v w))
+    closed-node pattern (unaryOf op a) may l m = then (rec a ρ) _ (l .0) (λ v. answer-closed (unary op v) (unary-operator-is op v))
+    closed-node pattern (binaryOf op a b) may l m = both-closed a b (l .0) (l .1 .0) _ (λ v w. answer-closed (binary op v w) (binary-operator-is op v w))
     closed-node pattern (connective c a b) may l m = then (rec a ρ) _ (l .0) (λ v. right-closed b (l .1 .0) (left c v) (left-number c v))
     closed-node pattern (if t a b) may l m =
         then (rec t ρ) _ (l .0) (λ v. then (isTrue r v) _ (else-closed 20 (asBoolean v) kind-number) (λ y. by-test y (rec a ρ) (rec b ρ) (l .1 .0) (l .1 .1 .0)))

@@ -2,10 +2,7 @@
 -- building is remembered and given once all operands are evaluated.
 use mathlib.Core.Path.{_≡_, refl, ap, _∙_}
 use mathlib.Core.List.{List, [], _∷_}
-use Prim.Native.Nat.{ℕ, suc, _+_, _<_}
-use native.Mathlib.Omega.{arith}
-use lib.ListN.{length, getD, drop}
-use lib.Seq.{drop-cons}
+use Prim.Native.Nat.{ℕ}
 use Rattle.choices.specs.Tree.{Tree, give, bind}
 use Rattle.choices.proofs.Trees.{bind-assoc, bind-cong}
 use Rattle.values.specs.Value.{Kind, set, sequence, map, tuple, Value, Items, none, more}
@@ -14,49 +11,31 @@ use Rattle.operators.specs.Enumerations.{addMember, addItem, addEntry, buildOn,
 use Rattle.patterns.specs.Pattern.{Pattern}
 use Rattle.meaning.specs.Node.{enumeration}
 use Rattle.meaning.specs.State.{State}
-use Rattle.meaning.specs.Meaning.{Evaluates, at, allOf, means}
+use Rattle.meaning.specs.Meaning.{Evaluation, at, allOf, means}
 
 -- ---- adding as they come
 
 -- The record r, with the operands os still to come and b built: each is evaluated and added. What is stopped stays so to the end.
-abbrev pub oneByOne : Kind → (Items → Value → Built) → Evaluates → ℕ → List ℕ → State → Built → Tree Value
+abbrev pub oneByOne : Kind → (Items → Value → Built) → Evaluation → ℕ → List ℕ → State → Built → Tree Value
 oneByOne k add rec r [] ρ b = at r (closed k b)
 oneByOne k add rec r (o ∷ os) ρ b = bind (rec o ρ) (λ v. oneByOne k add rec r os ρ (buildOn b (λ us. add us v)))
 
 -- The same of key, value, key, value: both are evaluated, then entered. (A map enumeration has no key without a value.)
-abbrev pub pairByPair : Evaluates → ℕ → List ℕ → State → Built → Tree Value
+abbrev pub pairByPair : Evaluation → ℕ → List ℕ → State → Built → Tree Value
 pairByPair rec r [] ρ b = at r (closed map b)
 pairByPair rec r (o ∷ []) ρ b = bind (rec o ρ) (λ key. at r (closed map b))
 pairByPair rec r (o ∷ q ∷ os) ρ b = bind (rec o ρ) (λ key. bind (rec q ρ) (λ v. pairByPair rec r os ρ (buildOn b (λ us. addEntry us key v))))
 
-abbrev pub asTheyCome : Kind → Evaluates → ℕ → List ℕ → State → Built → Tree Value
+abbrev pub asTheyCome : Kind → Evaluation → ℕ → List ℕ → State → Built → Tree Value
 asTheyCome set rec r os ρ b = oneByOne set addMember rec r os ρ b
 asTheyCome sequence rec r os ρ b = oneByOne sequence addItem rec r os ρ b
 asTheyCome map rec r os ρ b = pairByPair rec r os ρ b
 asTheyCome tuple rec r os ρ b = oneByOne tuple addItem rec r os ρ b
 
--- ---- the operand i is the next
-
-module _ (rec : Evaluates) (r : ℕ) (os : List ℕ) (ρ : State) (i : ℕ) (b : Built) where
-  pub next-one : (k : Kind) (add : Items → Value → Built) → i < length os
-      → oneByOne k add rec r (drop i os) ρ b ≡ bind (rec (getD os i 0) ρ) (λ v. oneByOne k add rec r (drop (i + 1) os) ρ (buildOn b (λ us. add us v)))
-  next-one k add h =
-      let z : suc i ≡ i + 1 = omega arith in
-      ap (λ (ns : List ℕ). oneByOne k add rec r ns ρ b) (drop-cons os i 0 h ∙ ap (λ (m : ℕ). getD os i 0 ∷ drop m os) z)
-
-  pub next-pair : i + 1 < length os
-      → pairByPair rec r (drop i os) ρ b ≡ bind (rec (getD os i 0) ρ) (λ key. bind (rec (getD os (i + 1) 0) ρ) (λ v. pairByPair rec r (drop (i + 2) os) ρ (buildOn b (λ us. addEntry us key v))))
-  next-pair h =
-      let z : suc i ≡ i + 1 = omega arith in
-      let y : suc (i + 1) ≡ i + 2 = omega arith in
-      ap (λ (ns : List ℕ). pairByPair rec r ns ρ b)
-      (drop-cons os i 0 (omega arith) ∙ ap (λ (m : ℕ). getD os i 0 ∷ drop m os) z
-      ∙ ap (λ (ns : List ℕ). getD os i 0 ∷ ns) (drop-cons os (i + 1) 0 h ∙ ap (λ (m : ℕ). getD os (i + 1) 0 ∷ drop m os) y))
-
 -- ---- it is the same
 
 -- The values of the operands, one more and then what is done with all.
-module _ (rec : Evaluates) (ρ : State) where
+module _ (rec : Evaluation) (ρ : State) where
   all-more : (o : ℕ) (os : List ℕ) (f : Items → Tree Value) → bind (allOf rec (o ∷ os) ρ) f ≡ bind (rec o ρ) (λ v. bind (allOf rec os ρ) (λ vs. f (more v vs)))
   unfolding allOf
   all-more o os f =
@@ -73,7 +52,7 @@ module _ (k : Kind) (add : Items → Value → Built) (all : Items → Items →
   onward-one (built us) v vs = all-one us v vs
   onward-one (stopped n) v vs = refl
 
-  one-by-one : (rec : Evaluates) (r : ℕ) (os : List ℕ) (ρ : State) (b : Built) → bind (allOf rec os ρ) (λ vs. at r (closed k (buildOn b (λ us. all us vs)))) ≡ oneByOne k add rec r os ρ b
+  one-by-one : (rec : Evaluation) (r : ℕ) (os : List ℕ) (ρ : State) (b : Built) → bind (allOf rec os ρ) (λ vs. at r (closed k (buildOn b (λ us. all us vs)))) ≡ oneByOne k add rec r os ρ b
   unfolding allOf
   one-by-one rec r [] ρ b = ap (λ (x : Built). at r (closed k x)) (onward-none b)
   one-by-one rec r (o ∷ os) ρ b =
@@ -98,7 +77,7 @@ unfolding addEntries
 onward-no-entry (built us) = refl
 onward-no-entry (stopped n) = refl
 
-pair-by-pair : (rec : Evaluates) (r : ℕ) (os : List ℕ) (ρ : State) (b : Built) → bind (allOf rec os ρ) (λ vs. at r (closed map (buildOn b (λ us. addEntries us vs)))) ≡ pairByPair rec r os ρ b
+pair-by-pair : (rec : Evaluation) (r : ℕ) (os : List ℕ) (ρ : State) (b : Built) → bind (allOf rec os ρ) (λ vs. at r (closed map (buildOn b (λ us. addEntries us vs)))) ≡ pairByPair rec r os ρ b
 unfolding allOf
 pair-by-pair rec r [] ρ b = ap (λ (x : Built). at r (closed map x)) (onward-no-entry b)
 pair-by-pair rec r (o ∷ []) ρ b =
@@ -115,7 +94,7 @@ pair-by-pair rec r (o ∷ q ∷ os) ρ b =
     ∙ pair-by-pair rec r os ρ (buildOn b (λ us. addEntry us key v))))
 
 -- THEOREM: an enumeration of each kind is its operands added as they come.
-pub enumeration-is : (pattern : ℕ → Pattern) (rec : Evaluates) (r : ℕ) (k : Kind) (os : List ℕ) (ρ : State) → means pattern rec r (enumeration k os) ρ ≡ asTheyCome k rec r os ρ (built none)
+pub enumeration-is : (pattern : ℕ → Pattern) (rec : Evaluation) (r : ℕ) (k : Kind) (os : List ℕ) (ρ : State) → means pattern rec r (enumeration k os) ρ ≡ asTheyCome k rec r os ρ (built none)
 unfolding means addMembers addItems
 enumeration-is pattern rec r set os ρ = one-by-one set addMember addMembers (λ us. refl) (λ us v vs. refl) rec r os ρ (built none)
 enumeration-is pattern rec r sequence os ρ = one-by-one sequence addItem addItems (λ us. refl) (λ us v vs. refl) rec r os ρ (built none)

@@ -15,7 +15,7 @@ use Rattle.patterns.specs.Pattern.{Pattern, loose}
 use Rattle.patterns.specs.Binder.{formed}
 use Rattle.meaning.specs.Node.{Node, Quantifier, forall, exists, exists1, truth, whole, named, unaryOf, binaryOf, connective, if, enumeration, range, let-in, let-be, quantified, iota, set-comprehension, sequence-comprehension, map-comprehension, application, no-expression}
 use Rattle.meaning.specs.State.{State, under}
-use Rattle.meaning.specs.Meaning.{Evaluates, allOf, bothOf, rightOf, isTrue, formedAt, bindingsOf, holds, satisfying, matched, satisfied, untilFalse, untilTrue, quantify, collected, addOne, addPair, integerBindings, comprehension, means, Sheet, meaningTo, meaning}
+use Rattle.meaning.specs.Meaning.{Evaluation, allOf, bothOf, rightOf, isTrue, formedAt, bindingsOf, holds, satisfying, matched, satisfied, untilFalse, untilTrue, quantify, collected, addOne, addPair, integerBindings, comprehension, means, Sheet, meaningTo, meaning}
 
 -- ---- what a record evaluates
 
@@ -70,12 +70,12 @@ abbrev pub AllBelow : ℕ → List ℕ → Type 0
 AllBelow r os = Each (λ a. a < r) os
 
 -- Every record evaluates only lower ones.
-pub record Lower (r : ℕ) (n : Node) : Type 0 where
+pub record NodesLower (r : ℕ) (n : Node) : Type 0 where
   pub plain-ones : AllBelow r (plainOperands n)
   pub covered-ones : AllBelow r (covered n)
 
 abbrev pub Downward : Sheet → Type 0
-Downward s = (r : ℕ) → Lower r (s .node r)
+Downward s = (r : ℕ) → NodesLower r (s .node r)
 
 -- ---- two evaluations that agree below r
 
@@ -105,7 +105,7 @@ collected-cong f g add put h k vs (b ∷ bs) =
     (bind-both (add vs b) (put vs b) _ _ (k vs b) (λ ws. collected-cong f g add put h k ws bs))
     (collected-cong f g add put h k vs bs))
 
-module _ (r : ℕ) (f g : Evaluates) (agree : (a : ℕ) (σ : State) → a < r → f a σ ≡ g a σ) where
+module _ (r : ℕ) (f g : Evaluation) (agree : (a : ℕ) (σ : State) → a < r → f a σ ≡ g a σ) where
   all-cong : (os : List ℕ) → AllBelow r os → (ρ : State) → allOf f os ρ ≡ allOf g os ρ
   unfolding allOf
   all-cong [] h ρ = refl
@@ -153,7 +153,7 @@ module _ (r : ℕ) (f g : Evaluates) (agree : (a : ℕ) (σ : State) → a < r �
       bind-both (collected (holds f q c ρ) add none bs) (collected (holds g q c ρ) put none bs) _ _
       (collected-cong (holds f q c ρ) (holds g q c ρ) add put (holds-cong q c h ρ) e none bs) (λ vs. refl)
 
-  node-cong : (pattern : ℕ → Pattern) (q : ℕ) (n : Node) → Lower r n → (ρ : State) → means pattern f q n ρ ≡ means pattern g q n ρ
+  node-cong : (pattern : ℕ → Pattern) (q : ℕ) (n : Node) → NodesLower r n → (ρ : State) → means pattern f q n ρ ≡ means pattern g q n ρ
   unfolding means
   node-cong pattern q (truth b) h ρ = refl
   node-cong pattern q (whole z) h ρ = refl

@@ -10,7 +10,7 @@ use lib.ListN.{length, getD}
 use Rattle.prelude.proofs.Absurd.{impossible}
 use Rattle.prelude.specs.Membership.{In}
 use Rattle.choices.specs.Tree.{Tree, give, stop, choose, bind, gave, stopped, beyond, follow}
-use Rattle.choices.proofs.Trees.{bind-cong, bind-assoc, onward, follow-bind}
+use Rattle.choices.proofs.Trees.{bind-cong, bind-assoc, thenRun, follow-bind}
 use Rattle.values.specs.Value.{set, Value, boolean, collection, Items}
 use Rattle.patterns.specs.Binding.{Binding, nothing}
 use Rattle.patterns.specs.Pattern.{Pattern, listOf}
@@ -20,17 +20,17 @@ use Rattle.patterns.specs.Laws.Matched.{bindings-exactly}
 use Rattle.patterns.specs.Laws.Forming.{formed-bound}
 use Rattle.meaning.specs.Node.{Node, let-be}
 use Rattle.meaning.specs.State.{State, under}
-use Rattle.meaning.specs.Meaning.{Evaluates, isTrue, formedAt, membersAt, satisfying, satisfied, means, Sheet, meaning}
-use Rattle.meaning.specs.Laws.Equation.{Lower, Downward, meaning-is}
+use Rattle.meaning.specs.Meaning.{Evaluation, isTrue, formedAt, membersAt, satisfying, satisfied, means, Sheet, meaning}
+use Rattle.meaning.specs.Laws.Equation.{NodesLower, Downward, meaning-is}
 use Rattle.meaning.specs.Laws.Sure.{Placed, placed-meaning, follow-placed}
 
 -- ---- what follows the set operand
 
 -- The let-be r, once its bindings are formed; and once its set operand gave a value.
-abbrev pub afterBindings : Evaluates → ℕ → ℕ → ℕ → State → List Binding → Tree Value
+abbrev pub afterBindings : Evaluation → ℕ → ℕ → ℕ → State → List Binding → Tree Value
 afterBindings rec r c b ρ bs = bind (satisfying rec r c ρ bs) (λ sat. bind (satisfied r sat) (λ β. rec b (under ρ β)))
 
-abbrev pub afterSet : Evaluates → ℕ → Pattern → ℕ → ℕ → State → Value → Tree Value
+abbrev pub afterSet : Evaluation → ℕ → Pattern → ℕ → ℕ → State → Value → Tree Value
 afterSet rec r p c b ρ v = bind (membersAt r v) (λ vs. bind (formedAt r (formed p (listOf vs))) (λ bs. afterBindings rec r c b ρ bs))
 
 -- The let-be is its set operand, and then what follows that.
@@ -45,20 +45,20 @@ let-be-is s d r p t c b e ρ =
 -- ---- the bindings that make the condition true
 
 -- The condition c is true, or is true or false, under a binding.
-abbrev pub IsTrue : Evaluates → ℕ → State → Binding → Type 0
+abbrev pub IsTrue : Evaluation → ℕ → State → Binding → Type 0
 IsTrue rec c ρ β = rec c (under ρ β) ≡ give (boolean true)
 
-abbrev pub Decided : Evaluates → ℕ → State → Binding → Type 0
+abbrev pub Decided : Evaluation → ℕ → State → Binding → Type 0
 Decided rec c ρ β = (x : Bool) × (rec c (under ρ β) ≡ give (boolean x))
 
 -- The bindings in sat are those of bs that make the condition true.
-record Filtered (rec : Evaluates) (r c : ℕ) (ρ : State) (bs : List Binding) : Type 0 where
+record Filtered (rec : Evaluation) (r c : ℕ) (ρ : State) (bs : List Binding) : Type 0 where
   sat : List Binding
   is : satisfying rec r c ρ bs ≡ give sat
   sound : (β : Binding) → In β sat → In β bs × IsTrue rec c ρ β
   whole : (β : Binding) → In β bs → IsTrue rec c ρ β → In β sat
 
-filter : (rec : Evaluates) (r c : ℕ) (ρ : State) (bs : List Binding) → ((β : Binding) → In β bs → Decided rec c ρ β) → Filtered rec r c ρ bs
+filter : (rec : Evaluation) (r c : ℕ) (ρ : State) (bs : List Binding) → ((β : Binding) → In β bs → Decided rec c ρ β) → Filtered rec r c ρ bs
 unfolding satisfying
 filter rec r c ρ [] h = record { sat = []; is = refl; sound = λ β i. absurd i; whole = λ β i t. i }
 filter rec r c ρ (b ∷ bs) h = go (filter rec r c ρ bs (λ β i. h β (inr i))) (h b (inl refl))
@@ -89,7 +89,7 @@ waysOf (give v) = 0
 waysOf (stop n r) = 0
 waysOf (choose r n ways) = 1
 
-module _ (rec : Evaluates) (r c b : ℕ) (ρ : State) where
+module _ (rec : Evaluation) (r c b : ℕ) (ρ : State) where
   none-then-24 : (sat : List Binding) → ((β : Binding) → In β sat → ⊥) → bind (satisfied r sat) (λ β. rec b (under ρ β)) ≡ stop 24 r
   none-then-24 [] h = refl
   none-then-24 (x ∷ sat) h = absurd (h x (inl refl))
@@ -99,12 +99,12 @@ module _ (rec : Evaluates) (r c b : ℕ) (ρ : State) where
   24-then-none (x ∷ sat) e β i = let z : _≡_ {A = ℕ} 1 0 = ap waysOf e in absurd (omega arith)
 
 -- No binding matches a member of the set and makes the condition true.
-abbrev pub NoneTrue : Evaluates → Pattern → ℕ → State → Items → Type 0
+abbrev pub NoneTrue : Evaluation → Pattern → ℕ → State → Items → Type 0
 NoneTrue rec p c ρ vs = (m : Value) (β : Binding) → In m (listOf vs) → Matches p m β → IsTrue rec c ρ β → ⊥
 
 -- ---- what follows, by the bindings that make the condition true
 
-module _ (rec : Evaluates) (r : ℕ) (p : Pattern) (c b : ℕ) (ρ : State) (vs : Items) (bs : List Binding) (formed-is : formed p (listOf vs) ≡ bound bs) (decided : (β : Binding) → In β bs → Decided rec c ρ β) where
+module _ (rec : Evaluation) (r : ℕ) (p : Pattern) (c b : ℕ) (ρ : State) (vs : Items) (bs : List Binding) (formed-is : formed p (listOf vs) ≡ bound bs) (decided : (β : Binding) → In β bs → Decided rec c ρ β) where
   filtered : Filtered rec r c ρ bs
   filtered = filter rec r c ρ bs decided
 
@@ -145,7 +145,7 @@ choice-not-24 r q n ways (suc k) (c ∷ l) left h p e = go (ltb c n) e
     go true e = let i = follow-placed q (ways c) k l 24 r left (p c) e in absurd (omega arith)
     go false e = impossible cc
 
-satisfied-not-24 : (rec : Evaluates) (r q b : ℕ) (ρ : State) (sat : List Binding) (k : ℕ) (l left : List ℕ) → q < r → ((σ : State) → Placed q (rec b σ)) → follow (bind (satisfied r sat) (λ β. rec b (under ρ β))) k l ≡ stopped 24 r left → (β : Binding) → In β sat → ⊥
+satisfied-not-24 : (rec : Evaluation) (r q b : ℕ) (ρ : State) (sat : List Binding) (k : ℕ) (l left : List ℕ) → q < r → ((σ : State) → Placed q (rec b σ)) → follow (bind (satisfied r sat) (λ β. rec b (under ρ β))) k l ≡ stopped 24 r left → (β : Binding) → In β sat → ⊥
 satisfied-not-24 rec r q b ρ [] k l left h p e β i = i
 satisfied-not-24 rec r q b ρ (x ∷ sat) k l left h p e β i =
     choice-not-24 r q (length (x ∷ sat)) (λ j. rec b (under ρ (getD (x ∷ sat) j nothing))) k l left h (λ j. p (under ρ (getD (x ∷ sat) j nothing))) e
@@ -168,7 +168,7 @@ let-be-run s d r p t c b e ρ k l vs j m g bs f h = (
     run-is =
         ap (λ u. follow u k l) (let-be-is s d r p t c b e ρ)
         ∙ follow-bind (meaning s t ρ) (λ v. afterSet (meaning s) r (s .pattern p) c b ρ v) k l
-        ∙ ap (λ u. onward u (λ v k′ l′. follow (afterSet (meaning s) r (s .pattern p) c b ρ v) k′ l′)) g
+        ∙ ap (λ u. thenRun u (λ v k′ l′. follow (afterSet (meaning s) r (s .pattern p) c b ρ v) k′ l′)) g
 
     below : b < r
-    below = subst (λ n. Lower r n) e (d r) .covered-ones .1 .0
+    below = subst (λ n. NodesLower r n) e (d r) .covered-ones .1 .0

@@ -16,10 +16,10 @@ use Rattle.operators.specs.Answer.{Answer, is, refused, Built, built, stopped, 
 use Rattle.operators.specs.Booleans.{Connective, Left, settles, leaves, and, or, implies, ofLeft, left, right}
 use Rattle.operators.specs.Arithmetic.{answered}
 use Rattle.operators.specs.Gather.{everyItem, isKind, flatten, upFrom, enterAll}
-use Rattle.operators.specs.Sets.{rangeOf, counting, howMany, unite, uniteAll, intersectionOf}
-use Rattle.operators.specs.Sequences.{headOf, tailOf, itemAt}
+use Rattle.operators.specs.Sets.{rangeOf, consecutive, howMany, unite, uniteAll, intersectionOf}
+use Rattle.operators.specs.Sequences.{firstItem, tailOf, itemAt}
 use Rattle.operators.specs.Maps.{applyTo, compatible}
-use Rattle.operators.specs.Enumerations.{addMember, addItem, addEntry, entered, buildOn, addMembers, addItems, addEntries, addEntriesAt, setOf, sequenceOf, mapOf, tupleOf}
+use Rattle.operators.specs.Enumerations.{addMember, addItem, addEntry, entryAdded, buildOn, addMembers, addItems, addEntries, addEntriesAt, setOf, sequenceOf, mapOf, tupleOf}
 use Rattle.operators.specs.Operators.{unary, binary, unaries, binaries, noUnary, noBinary}
 use Rattle.meaning.specs.Laws.Proper.{_&_}
 
@@ -70,7 +70,7 @@ if-number (Is z) = tt
 if-number OutOfRange = (omega arith, omega arith)
 if-number ByZero = (omega arith, omega arith)
 
-if-counting : (z : ℤ) (n : ℕ) → Answered (counting z n)
+if-counting : (z : ℤ) (n : ℕ) → Answered (consecutive z n)
 if-counting z n = if-picked (leb (4 + 8 * n) valueLimit) (is (collection set (upFrom z n))) (refused 28) tt (omega arith, omega arith)
 
 -- ---- operators by number
@@ -104,7 +104,7 @@ if-intersected : (vs : Items) → Answered (intersectionOf vs)
 if-intersected none = absent-number
 if-intersected (more v vs) = tt
 
-if-head : (vs : Items) → Answered (headOf vs)
+if-head : (vs : Items) → Answered (firstItem vs)
 if-head none = absent-number
 if-head (more v vs) = tt
 
@@ -112,9 +112,9 @@ if-tail : (vs : Items) → Answered (tailOf vs)
 if-tail none = absent-number
 if-tail (more v vs) = tt
 
-pub unary-number : (n : ℕ) (v : Value) → Answered (unary n v)
+pub unary-operator-is : (n : ℕ) (v : Value) → Answered (unary n v)
 unfolding unary
-unary-number n v = all-at unaries n v (
+unary-operator-is n v = all-at unaries n v (
     (λ v. kind-number) &
     (λ v. if-needed (asBoolean v) _ (λ b. tt)) &
     (λ v. if-needed (asInteger v) _ (λ a. if-number (negationOf a))) &
@@ -134,9 +134,9 @@ unary-number n v = all-at unaries n v (
     tt
     )
 
-pub binary-number : (n : ℕ) (v w : Value) → Answered (binary n v w)
+pub binary-operator-is : (n : ℕ) (v w : Value) → Answered (binary n v w)
 unfolding binary
-binary-number n v w = all-at₂ binaries n v w (
+binary-operator-is n v w = all-at₂ binaries n v w (
     (λ v w. kind-number) & (λ v w. kind-number) & (λ v w. kind-number) & (λ v w. kind-number) &
     (λ v w. if-both (asBoolean v) (asBoolean w) _ (λ a b. tt)) &
     (λ v w. tt) &
@@ -198,7 +198,7 @@ apply-number (collection sequence vs) w = if-needed (asInteger w) _ (λ i. if-fo
 apply-number (collection map vs) w = if-found (lookup w vs)
 apply-number (collection tuple vs) w = kind-number
 
-if-entered : (x : Option Value) (vs : Items) (k v : Value) → BuiltSo (entered x vs k v)
+if-entered : (x : Option Value) (vs : Items) (k v : Value) → BuiltSo (entryAdded x vs k v)
 if-entered absent vs k v = if-fitting (enter k v vs)
 if-entered (some w) vs k v = pick-built (same v w) vs 27 (omega arith, omega arith)
 

@@ -11,7 +11,7 @@ use borrow.Author.Tests.{ltb-true, ne-eqb}
 use Rattle.prelude.proofs.Absurd.{impossible}
 use Rattle.prelude.proofs.Truth.{or-false-both}
 use Rattle.choices.specs.Tree.{Tree, give, stop, choose, Numbered, stopped, beyond, follow, run, mostChoices, refuses, final, Outcome, value, refusal, Gives}
-use Rattle.choices.specs.Lists.{Complete, outcomeOf}
+use Rattle.choices.specs.Lists.{Complete, runOutcome}
 use Rattle.choices.proofs.Leaves.{NoMany as NoManyAtAll}
 use Rattle.choices.proofs.Cut.{complete-length}
 use Rattle.choices.proofs.Trees.{numbered-gives}
@@ -24,10 +24,10 @@ use Rattle.tables.specs.Check.{check}
 use Rattle.meaning.specs.State.{unbound}
 use Rattle.meaning.specs.Loose.{looseMeaning}
 use Rattle.meaning.specs.Read.{sheet}
-use Rattle.meaning.specs.Answer.{pack, packed, uncounted, numberOf}
+use Rattle.meaning.specs.Answer.{pack, packed, uncounted, numberPart}
 use Rattle.meaning.specs.Walk.{Bytes}
 use Rattle.meaning.specs.Service.{scratchBytes, last, tree, evaluates}
-use Rattle.meaning.specs.Lent.{filled, zeroed, afterEvaluate, evaluateCall}
+use Rattle.meaning.specs.Lent.{filledUp, zeroed, afterEvaluate, evaluateCall}
 use Rattle.meaning.specs.Demand.{EvaluatesTo, Reached, NeverMany}
 use Rattle.meaning.specs.Agreement.{agreement}
 use Rattle.meaning.specs.Laws.Sure.{Narrow, sure-meaning, Bytes as NarrowBytes, complete-bytes}
@@ -61,8 +61,8 @@ many-taken (choose q n ways) (suc k) (c ∷ l) p left m w h e = go (ltb c n) ref
 -- ---- what evaluating answers
 
 -- The value is read back from the result buffer.
-buffer-value : (v w : Value) (buffer : List ℕ) → WellFormed v → WellFormed w → filled largest (encode v) buffer ≡ filled largest (encode w) buffer → v ≡ w
-unfolding filled
+buffer-value : (v w : Value) (buffer : List ℕ) → WellFormed v → WellFormed w → filledUp largest (encode v) buffer ≡ filledUp largest (encode w) buffer → v ≡ w
+unfolding filledUp
 buffer-value v w buffer f g e =
     sym (back v f) ∙ ap (valueOf largest) e ∙ back w g
   where
@@ -114,9 +114,9 @@ module _ (table : List ℕ) (n : ℕ) (ok : check table ≡ Accepted n) where
         let x = many-taken (tree table) mostChoices l p left (sure .numbered) (sure .narrow) within e in
         let a : evaluates (length scratch) (length buffer) table l ≡ refuses 31 p 0 =
         evaluates-run table (length scratch) enough n ok (length buffer) l room within ∙ ap (final (last (sheet table))) (e ∙ ap (stopped 31 p) (x .all)) in
-        no l (x .bytes) within (ap (λ f. numberOf (packed uncounted f)) a ∙ (let z : numberOf (pack 31 p 0) ≡ 31 = omega arith in z))
+        no l (x .bytes) within (ap (λ f. numberPart (packed uncounted f)) a ∙ (let z : numberPart (pack 31 p 0) ≡ 31 = omega arith in z))
 
-    evaluating : (l : List ℕ) → Complete (tree table) l → evaluateCall table l scratch buffer ≡ afterEvaluate (finalOf (outcomeOf (run (tree table) l))) scratch buffer
+    evaluating : (l : List ℕ) → Complete (tree table) l → evaluateCall table l scratch buffer ≡ afterEvaluate (finalOf (runOutcome (run (tree table) l))) scratch buffer
     evaluating l c =
         ap (λ f. afterEvaluate f scratch buffer)
         (evaluates-run table (length scratch) enough n ok (length buffer) l room (complete-length (tree table) l c) ∙ complete-final (tree table) l (last (sheet table)) c)
@@ -125,7 +125,7 @@ module _ (table : List ℕ) (n : ℕ) (ok : check table ≡ Accepted n) where
     pub outcomes : (o : Outcome Value) → Reached table scratch buffer o ↔ looseMeaning (sheet table) (last (sheet table)) unbound o
     outcomes o = (
       λ w.
-          let x = outcomeOf (run (tree table) (w .list)) in
+          let x = runOutcome (run (tree table) (w .list)) in
           let g : Gives (tree table) x = gives-reached (tree table) x no-many .1 (w .list, w .complete, refl) in
           let a = subst (λ e. EvaluatesTo buffer e o) (evaluating (w .list) (w .complete)) (w .answers) in
           agreement (sheet table) (last (sheet table)) unbound o .0 (subst (Gives (tree table)) (sym (answers-one scratch buffer x o (proper x g .0) a)) g),

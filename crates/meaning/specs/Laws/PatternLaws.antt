@@ -8,7 +8,7 @@ use native.Mathlib.Omega.{arith}
 use lib.Dec.{eqb}
 use lib.ListN.{length, getD, length-map}
 use Rattle.patterns.specs.Pattern.{Pattern, any, loose as isLooseAt, looseEach}
-use Rattle.patterns.specs.Laws.Named.{named as holdsAt, namedEach}
+use Rattle.patterns.specs.Laws.Named.{holdsNamed as holdsAt, namedEach}
 use Rattle.tables.specs.declared.Checked.the-variants.{Accepted}
 use Rattle.tables.specs.Record.{Record, shape, isPattern, isFit, nameOf, named as operandsOf, operand}
 use Rattle.tables.specs.Table.{recordAt, kindAt}

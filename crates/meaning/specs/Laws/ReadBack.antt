@@ -25,8 +25,8 @@ use Rattle.tables.specs.Laws.Accepted.{accepted-fine}
 use Rattle.tables.specs.Laws.Cutting.{next-is}
 use Rattle.meaning.specs.State.{unbound}
 use Rattle.meaning.specs.Read.{sheet}
-use Rattle.meaning.specs.Answer.{uncounted, ReadBack, answerNumber, answerPlace, answerCount, recordCount}
-use Rattle.meaning.specs.Walk.{Walk, listed}
+use Rattle.meaning.specs.Answer.{uncounted, ReadBack, finalNumber, finalPlace, finalCount, recordCount}
+use Rattle.meaning.specs.Walk.{Walk, walkList}
 use Rattle.meaning.specs.Service.{scratchBytes, last, tree, unless, accepted, checks, runs, evaluates, onward, steppedFrom, firsts, steps}
 use Rattle.meaning.specs.Lent.{isEarly}
 use Rattle.meaning.specs.Laws.Proper.{downward}
@@ -117,11 +117,11 @@ Refused-so (refuses n p k) = 0 < n
 -- Numbers go up to 35, places to 599, counts to 255. A refusal's number is not 0.
 pub record Fits {A : Type 0} (counted : A → ℕ) (answer : Final A) : Type 0 where
   pub numbered : Refused-so answer
-  pub number-fits : answerNumber answer ≤ 35
-  pub place-fits : answerPlace answer < 600
-  pub count-fits : answerCount counted answer ≤ 255
+  pub number-fits : finalNumber answer ≤ 35
+  pub place-fits : finalPlace answer < 600
+  pub count-fits : finalCount counted answer ≤ 255
 
-success : {A : Type 0} (answer : Final A) → Refused-so answer → answerNumber answer ≡ 0 → (a : A) × (answer ≡ result a)
+success : {A : Type 0} (answer : Final A) → Refused-so answer → finalNumber answer ≡ 0 → (a : A) × (answer ≡ result a)
 success (result a) h e = (a, refl)
 success (refuses n p k) h e = absurd (omega arith)
 
@@ -233,7 +233,7 @@ module _ (scratch : ℕ) (table : List ℕ) where
       (fits-accepted uncounted (check table) _ (small-check table)
       (λ n ok.
       fits-unless uncounted (ltb (length (w .entries)) mostChoices || ltb mostChoices (w .len)) 10 _ (omega arith) (omega arith)
-      (fits-stepped (runs table (listed w)) _ (fits-runs table n ok (listed w)) (fits-onward (nextList (tree table) (listed w))))))
+      (fits-stepped (runs table (walkList w)) _ (fits-runs table n ok (walkList w)) (fits-onward (nextList (tree table) (walkList w))))))
 
   -- THEOREM: number, place and count of each service's answer are read back from the packed one.
   pub check-read-back : ReadBack recordCount (checks scratch table)
@@ -252,7 +252,7 @@ module _ (scratch : ℕ) (table : List ℕ) where
 
 -- The answer is neither 1 nor 2, so the scratch is cleared and the result buffer set.
 abbrev pub Late : {A : Type 0} → Final A → Type 0
-Late answer = isEarly (answerNumber answer) ≡ false
+Late answer = isEarly (finalNumber answer) ≡ false
 
 module _ {A : Type 0} where
   late-unless : (b : Bool) (n : ℕ) (f : Final A) → 3 ≤ n → Late f → Late (unless b n f)
@@ -260,7 +260,7 @@ module _ {A : Type 0} where
   late-unless false n f h x = x
 
   late-past : (b : Bool) (n : ℕ) (f : Final A) → b ≡ false → Late f → Late (unless b n f)
-  late-past b n f e h = ap (λ x. isEarly (answerNumber (unless x n f))) e ∙ h
+  late-past b n f e h = ap (λ x. isEarly (finalNumber (unless x n f))) e ∙ h
 
   late-accepted : (checked : Checked) (f : ℕ → Final A) → SmallCheck checked → ((n : ℕ) → checked ≡ Accepted n → Late (f n)) → Late (accepted checked f)
   late-accepted (Accepted n) f s h = h n refl
@@ -310,4 +310,4 @@ module _ (scratch : ℕ) (table : List ℕ) (enough : scratchBytes ≤ scratch) 
       (late-accepted (check table) _ (small-check table)
       (λ n ok.
       late-unless (ltb (length (w .entries)) mostChoices || ltb mostChoices (w .len)) 10 _ (omega arith)
-      (late-stepped (runs table (listed w)) _ (late-final _ (run (tree table) (listed w)) (run-fits table n ok (listed w))) (late-onward (nextList (tree table) (listed w))))))
+      (late-stepped (runs table (walkList w)) _ (late-final _ (run (tree table) (walkList w)) (run-fits table n ok (walkList w))) (late-onward (nextList (tree table) (walkList w))))))

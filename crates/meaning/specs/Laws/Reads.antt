@@ -18,7 +18,7 @@ use Rattle.choices.proofs.Trees.{gives-bind-out}
 use Rattle.values.specs.Value.{Value}
 use Rattle.patterns.specs.Binding.{is as valued, Binding, names, cellOf}
 use Rattle.patterns.specs.Laws.Matched.{match-sized}
-use Rattle.patterns.specs.Laws.Named.{named as holdsAt, Told, told}
+use Rattle.patterns.specs.Laws.Named.{holdsNamed as holdsAt, Told, told}
 use Rattle.tables.specs.declared.Role.{Role}
 use Rattle.tables.specs.declared.Role.the-variants.{Plain, Condition, Body, Pattern as Part, Name}
 use Rattle.tables.specs.declared.Checked.the-variants.{Accepted}
@@ -30,7 +30,7 @@ use Rattle.tables.specs.Laws.Tests.{each}
 use Rattle.tables.specs.Laws.Kinds.{expression-least, expression-most}
 use Rattle.tables.specs.Accepted.{records, Fine}
 use Rattle.tables.specs.Laws.Accepted.{accepted-fine, operand-lower, operand-sort, bound-operand, bound-last, name-bound, last-sort, fit-known, fit-kind}
-use Rattle.meaning.specs.State.{State, unbound, over, under, held, valueIn}
+use Rattle.meaning.specs.State.{State, unbound, over, under, heldValue, valueIn}
 use Rattle.meaning.specs.Meaning.{orElse, means, meaningTo, meaning}
 use Rattle.patterns.specs.Read.{patternAt}
 use Rattle.meaning.specs.Read.{nodes, nodeOf, none, sheet}
@@ -41,7 +41,7 @@ use Rattle.meaning.specs.Laws.Closed.{Closed, Comes, closed-node}
 
 -- ---- states under bindings
 
-under-length : (ρ b : State) → length (under ρ b) ≡ length ρ
+pub under-length : (ρ b : State) → length (under ρ b) ≡ length ρ
 unfolding under
 under-length [] b = refl
 under-length (c ∷ ρ) [] = refl
@@ -209,7 +209,7 @@ module _ (table : List ℕ) (n : ℕ) (ok : check table ≡ Accepted n) where
       let known : isKnown (headOf (recordAt rs r)) (recordAt rs r) ≡ true = fit-known (recordAt rs r) (fine .fit r h) in
       let small : leb (nameOf (recordAt rs r)) 15 ≡ true = subst (λ m. isKnown (shape m .head) (recordAt rs r) ≡ true) e known in
       let (v, d) = c .has (nameOf (recordAt rs r)) (omega (arith, leb-true (nameOf (recordAt rs r)) 15 small)) (name-bound rs fine r h e) in
-      (v, ap held d)
+      (v, ap heldValue d)
 
   else-given : (r : ℕ) (x : Option Value) (v : Value) → x ≡ some v → Refusing Value (orElse 20 r x)
   else-given r x v e = subst (λ y. Refusing Value (orElse 20 r y)) (sym e) (give-refusing v)

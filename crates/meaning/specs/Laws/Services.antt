@@ -21,9 +21,9 @@ use Rattle.tables.specs.Check.{check}
 use Rattle.meaning.specs.State.{unbound}
 use Rattle.meaning.specs.Read.{sheet}
 use Rattle.meaning.specs.Answer.{pack}
-use Rattle.meaning.specs.Walk.{Walk, listed, overwritten}
+use Rattle.meaning.specs.Walk.{Walk, walkList, overwritten}
 use Rattle.meaning.specs.Service.{scratchBytes, last, tree, unless, accepted, checks, runs, evaluates, onward, steppedFrom, firsts, steps}
-use Rattle.meaning.specs.Lent.{zeroed, filled, isEarly, afterCheck, afterEvaluate, afterWalk}
+use Rattle.meaning.specs.Lent.{zeroed, filledUp, isEarly, afterCheck, afterEvaluate, afterWalk}
 use Rattle.meaning.specs.Laws.Sure.{sure-meaning}
 
 -- ---- tests
@@ -150,14 +150,14 @@ module _ (table : List ℕ) (scratch : ℕ) where
           pub firsts-granted : firsts scratch table w ≡ result (firstList (tree table))
           firsts-granted = on _ ∙ unless-false 10 _ (ltb (length (w .entries)) mostChoices) (le-ltb (length (w .entries)) mostChoices all)
 
-          pub steps-run : w .len ≤ mostChoices → steps scratch table w ≡ steppedFrom (runs table (listed w)) (onward (nextList (tree table) (listed w)))
+          pub steps-run : w .len ≤ mostChoices → steps scratch table w ≡ steppedFrom (runs table (walkList w)) (onward (nextList (tree table) (walkList w)))
           steps-run within =
               on _
               ∙ unless-false 10 _ (ltb (length (w .entries)) mostChoices || ltb mostChoices (w .len))
               (or-false-both (ltb (length (w .entries)) mostChoices) (ltb mostChoices (w .len)) (le-ltb (length (w .entries)) mostChoices all) (le-ltb mostChoices (w .len) within))
 
           -- From a complete list.
-          pub steps-complete : (l : List ℕ) → listed w ≡ l → w .len ≤ mostChoices → Complete (tree table) l → steps scratch table w ≡ onward (nextList (tree table) l)
+          pub steps-complete : (l : List ℕ) → walkList w ≡ l → w .len ≤ mostChoices → Complete (tree table) l → steps scratch table w ≡ onward (nextList (tree table) l)
           steps-complete l e within c =
               steps-run within
               ∙ ap (λ x. steppedFrom (runs table x) (onward (nextList (tree table) x))) e
@@ -180,7 +180,7 @@ module _ (scratch : List ℕ) where
   pub check-done : (n : ℕ) → afterCheck (result n) scratch ≡ record { answer = pack 0 0 n; scratch = zeroed scratchBytes scratch }
   check-done n = refl
 
-  pub evaluate-done : (v : Value) (buffer : List ℕ) → afterEvaluate (result v) scratch buffer ≡ record { answer = pack 0 0 0; scratch = zeroed scratchBytes scratch; buffer = filled largest (encode v) buffer }
+  pub evaluate-done : (v : Value) (buffer : List ℕ) → afterEvaluate (result v) scratch buffer ≡ record { answer = pack 0 0 0; scratch = zeroed scratchBytes scratch; buffer = filledUp largest (encode v) buffer }
   evaluate-done v buffer = refl
 
   pub walk-done : (l : List ℕ) (w : Walk) → afterWalk (result l) scratch w ≡ record { answer = pack 0 0 0; scratch = zeroed scratchBytes scratch; walk = overwritten l w }

@@ -103,8 +103,8 @@ module _ (rec : Meanings) (r : ℕ) (ρ : State) where
   )
 
   -- The condition is so under a binding.
-  pub holds-value : (c : ℕ) (b : Binding) (t : Bool) → holds rec r c ρ b (value t) ↔ rec c (under ρ b) (value (boolean t))
-  holds-value c b t = (
+  pub tested-value : (c : ℕ) (b : Binding) (t : Bool) → holds rec r c ρ b (value t) ↔ rec c (under ρ b) (value (boolean t))
+  tested-value c b t = (
     λ h.
         let (v, g, k) = then-value (rec c (under ρ b)) (λ v. isTrue r v) t .0 h in
         subst (λ w. rec c (under ρ b) (value w)) (boolean-value v t .0 (else-value 20 r (asBoolean v) t .0 k)) g,

@@ -8,7 +8,7 @@ use lib.ListN.{length, take, drop, replicate, length-append, length-take, length
 use lib.Seq.{take-at, drop-at, take-take, take-append-seam, drop-append-le, take-add}
 use Rattle.choices.specs.Tree.{mostChoices}
 use Rattle.choices.specs.Lists.{padded}
-use Rattle.meaning.specs.Walk.{Walk, listed, overwritten, Shows}
+use Rattle.meaning.specs.Walk.{Walk, walkList, overwritten, Shows}
 use Rattle.meaning.specs.Calls.{Part, returned, lentWalk}
 
 pub padded-length : (l : List ℕ) → length l ≤ mostChoices → length (padded l) ≡ mostChoices
@@ -23,7 +23,7 @@ module _ (w : Walk) (l : List ℕ) (s : Shows w l) where
       omega (arith, ap length (s .its-entries), length-take mostChoices (w .entries), length-append l (replicate (mostChoices - length l) 0))
 
   -- The entries below the length are the list.
-  pub listed-shown : listed w ≡ l
+  pub listed-shown : walkList w ≡ l
   listed-shown =
       ap (λ n. take n (w .entries)) (s .its-length)
       ∙ sym (take-take (length l) mostChoices (w .entries) shown-short)
@@ -77,7 +77,7 @@ unfolding overwritten
 returned-written p w l h = ap (λ (x : List ℕ). record { entries = x; len = length l }) (from-first (p .from) (p .count) l (w .entries) (lent-first p w h) h)
 
 -- A step that is lent such a part reads the walk's list.
-pub listed-lent : (p : Part) (w : Walk) → mostChoices ≤ length (lentWalk p w .entries) → w .len ≤ mostChoices → listed (lentWalk p w) ≡ listed w
+pub listed-lent : (p : Part) (w : Walk) → mostChoices ≤ length (lentWalk p w .entries) → w .len ≤ mostChoices → walkList (lentWalk p w) ≡ walkList w
 listed-lent p w h k =
     let n : mostChoices ≤ p .count = omega (arith, length-take (p .count) (drop (p .from) (w .entries))) in
     ap (λ a. take (w .len) (take (p .count) (drop a (w .entries)))) (lent-first p w h)

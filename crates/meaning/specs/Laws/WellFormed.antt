@@ -23,7 +23,7 @@ use Rattle.operators.specs.Maps.{applyTo}
 use Rattle.operators.specs.Enumerations.{addMember, addItem, addEntry}
 use Rattle.operators.specs.Operators.{unary, binary}
 use Rattle.operator_laws.proofs.Results.{Good, good, wellFormed, unary-fine, binary-fine, apply-fine, range-fine, FineLeft, left-fine, right-fine}
-use Rattle.operator_laws.proofs.Enumerations.{FineBuilt, addMember-fine, addItem-fine, addEntry-fine, no-members, no-items, no-entries, setOf-fine, sequenceOf-fine, mapOf-fine, tupleOf-fine}
+use Rattle.operator_laws.proofs.Enumerations.{FineBuilt, addMember-fine, addItem-fine, addEntry-fine, no-members, built-none, no-entries, setOf-fine, sequenceOf-fine, mapOf-fine, tupleOf-fine}
 use Rattle.patterns.specs.Binding.{Cell, free, is as valued, clash, Binding, names, nothing, cellOf}
 use Rattle.patterns.specs.Pattern.{Pattern, loose, listOf}
 use Rattle.patterns.specs.Binder.{Formed, bound, refused as unformed, formed, bindings}
@@ -34,8 +34,8 @@ use Rattle.tables.specs.declared.Checked.{Checked}
 use Rattle.tables.specs.declared.Checked.the-variants.{Accepted, Refused}
 use Rattle.tables.specs.Check.{check}
 use Rattle.meaning.specs.Node.{Node, truth, whole, named, unaryOf, binaryOf, connective, if, enumeration, range, let-in, let-be, quantified, iota, set-comprehension, sequence-comprehension, map-comprehension, application, no-expression}
-use Rattle.meaning.specs.State.{State, unbound, over, under, held, valueIn}
-use Rattle.meaning.specs.Meaning.{Evaluates, at, builtAt, orElse, allOf, bothOf, rightOf, isTrue, enumerated, formedAt, membersAt, bindingsOf, holds, satisfying, chosen, matched, satisfied, quantify, unique, collected, addOne, addPair, integersAt, integerBindings, comprehension, means, Sheet, meaningTo, meaning, patternName}
+use Rattle.meaning.specs.State.{State, unbound, over, under, heldValue, valueIn}
+use Rattle.meaning.specs.Meaning.{Evaluation, at, builtAt, orElse, allOf, bothOf, rightOf, isTrue, enumerated, formedAt, membersAt, bindingsOf, holds, satisfying, chosenBinding, matched, satisfied, quantify, unique, collected, addOne, addPair, integersAt, integerBindings, comprehension, means, Sheet, meaningTo, meaning, patternName}
 use Rattle.meaning.specs.Read.{sheet}
 use Rattle.meaning.specs.Service.{scratchBytes, last, tree, unless, accepted, evaluates}
 use Rattle.meaning.specs.Laws.Only.{Only, only-give, only-stop, only-bind, Any, only-any, only-cond, only-else}
@@ -73,7 +73,7 @@ fine-cell [] x h = tt
 fine-cell (c ∷ cs) zero h = h .0
 fine-cell (c ∷ cs) (suc x) h = fine-cell cs x (h .1)
 
-fine-held : (c : Cell) (v : Value) → FineCell c → held c ≡ some v → WellFormed v
+fine-held : (c : Cell) (v : Value) → FineCell c → heldValue c ≡ some v → WellFormed v
 fine-held free v h e = impossible cc
 fine-held (valued w) v h e = let d : w ≡ v = cc in subst WellFormed d h
 fine-held clash v h e = impossible cc
@@ -129,7 +129,7 @@ set-well (collection tuple ws) vs h e = impossible cc
 only-members : (r : ℕ) (v : Value) → WellFormed v → Only (λ vs. WellFormed (collection set vs)) (membersAt r v)
 only-members r v h = only-else (λ vs. WellFormed (collection set vs)) 20 r (asSet v) (λ vs e. set-well v vs h e)
 
-only-chosen : {A : Type 0} (P : A → Type 0) (r : ℕ) (bs : List Binding) (f : Binding → Tree A) → AllFine bs → ((b : Binding) → FineState b → Only P (f b)) → Only P (bind (chosen r bs) f)
+only-chosen : {A : Type 0} (P : A → Type 0) (r : ℕ) (bs : List Binding) (f : Binding → Tree A) → AllFine bs → ((b : Binding) → FineState b → Only P (f b)) → Only P (bind (chosenBinding r bs) f)
 only-chosen P r bs f h k a g = k (getD bs (g .0) nothing) (h _ (at-in bs (g .0) nothing (g .1))) a (g .2)
 
 only-matched : (r : ℕ) (l : Bool) (bs : List Binding) (f : Binding → Tree Value) → AllFine bs → ((b : Binding) → FineState b → Only WellFormed (f b)) → Only WellFormed (bind (matched r l bs) f)
@@ -172,7 +172,7 @@ enumerated-fine tuple n h vs (s, c) = let l = h .0 in let m = h .1 in tupleOf-fi
 
 -- ---- records, over records that give well-formed values
 
-module _ (rec : Evaluates) (well : (a : ℕ) (ρ : State) → FineState ρ → Only WellFormed (rec a ρ)) where
+module _ (rec : Evaluation) (well : (a : ℕ) (ρ : State) → FineState ρ → Only WellFormed (rec a ρ)) where
   only-all : (os : List ℕ) (ρ : State) → FineState ρ → Only (Items-of (length os)) (allOf rec os ρ)
   unfolding allOf Sound count
   only-all [] ρ h = only-give (Items-of 0) none (tt, refl)
@@ -281,7 +281,7 @@ module _ (rec : Evaluates) (well : (a : ℕ) (ρ : State) → FineState ρ → O
       (λ bs i. only-comprehension r set no-members c ρ _ (only-one r set addMember addMember-fine e ρ h) bs i)
   only-node pattern r (sequence-comprehension p s c e) l ρ h =
       only-bind AllFine WellFormed (integerBindings rec r (pattern p) s ρ) _ (only-integer-bindings r (pattern p) s ρ h)
-      (λ bs i. only-comprehension r sequence no-items c ρ _ (only-one r sequence addItem addItem-fine e ρ h) bs i)
+      (λ bs i. only-comprehension r sequence built-none c ρ _ (only-one r sequence addItem addItem-fine e ρ h) bs i)
   only-node pattern r (map-comprehension p s c k e) l ρ h =
       only-bind AllFine WellFormed (bindingsOf rec r (pattern p) s ρ) _ (only-bindings r (pattern p) s ρ h)
       (λ bs i. only-comprehension r map no-entries c ρ _ (only-pair r k e ρ h) bs i)

@@ -35,16 +35,16 @@ only-other x y v f h = getD-set-other nothing x y (is v) free (λ e. f (sym e)) 
 -- ---- the names of a pattern
 
 unfoldable mutual
-  pub named : Pattern → ℕ → Bool
-  named (name x) y = eqb x y
-  named any y = false
-  named (literal w) y = false
-  named (each k ps) y = namedEach ps y
-  named (halved k p q) y = named p y || named q y
+  pub holdsNamed : Pattern → ℕ → Bool
+  holdsNamed (name x) y = eqb x y
+  holdsNamed any y = false
+  holdsNamed (literal w) y = false
+  holdsNamed (each k ps) y = namedEach ps y
+  holdsNamed (halved k p q) y = holdsNamed p y || holdsNamed q y
 
   pub namedEach : Patterns → ℕ → Bool
   namedEach nil y = false
-  namedEach (cons p ps) y = named p y || namedEach ps y
+  namedEach (cons p ps) y = holdsNamed p y || namedEach ps y
 
 -- A name of the pattern has a value, any other has none.
 abbrev pub Told : Bool → Cell → Type 0
@@ -63,22 +63,22 @@ told-name x y v h (yes e) = rw (eq-eqb x y e) (v, ap (cellOf (only x v)) (sym e)
 told-name x y v h (no f) = rw (ne-eqb x y f) (only-other x y v f h)
 
 mutual
-  unfolding Matches named
+  unfolding Matches holdsNamed
 
   -- THEOREM: the names with a value are those of the pattern; none clashes
-  pub told : (p : Pattern) (v : Value) (b : Binding) → Matches p v b → (y : ℕ) → y < names → Told (named p y) (cellOf b y)
+  pub told : (p : Pattern) (v : Value) (b : Binding) → Matches p v b → (y : ℕ) → y < names → Told (holdsNamed p y) (cellOf b y)
   told (name x) v b e y h = rw e (told-name x y v h (ℕ-discrete x y))
   told any v b e y h = ap (λ (c : Binding). cellOf c y) e ∙ nothing-cell y h
   told (literal w) v b (f, e) y h = ap (λ (c : Binding). cellOf c y) e ∙ nothing-cell y h
   told (each k ps) v b (vs, ws, e, n, a, m) y h = toldEach ps ws b m y h
   told (halved k p q) v b (vs, ls, rs, c, d, e, s, m, n, j) y h =
-      told-both (named p y) (named q y) (cellOf c y) (cellOf d y) (cellOf b y) (told p (collection k (itemsOf ls)) c m y h) (told q (collection k (itemsOf rs)) d n y h) (j .agreed y h)
+      told-both (holdsNamed p y) (holdsNamed q y) (cellOf c y) (cellOf d y) (cellOf b y) (told p (collection k (itemsOf ls)) c m y h) (told q (collection k (itemsOf rs)) d n y h) (j .agreed y h)
 
   toldEach : (ps : Patterns) (vs : List Value) (b : Binding) → MatchesEach ps vs b → (y : ℕ) → y < names → Told (namedEach ps y) (cellOf b y)
   toldEach nil vs b e y h = ap (λ (c : Binding). cellOf c y) e ∙ nothing-cell y h
   toldEach (cons p ps) [] b m y h = absurd m
   toldEach (cons p ps) (v ∷ vs) b (c, d, m, n, j) y h =
-      told-both (named p y) (namedEach ps y) (cellOf c y) (cellOf d y) (cellOf b y) (told p v c m y h) (toldEach ps vs d n y h) (j .agreed y h)
+      told-both (holdsNamed p y) (namedEach ps y) (cellOf c y) (cellOf d y) (cellOf b y) (told p v c m y h) (toldEach ps vs d n y h) (j .agreed y h)
 
 -- ---- parts of a list
 

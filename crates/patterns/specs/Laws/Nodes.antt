@@ -8,7 +8,7 @@ use Rattle.values.specs.Value.{boolean, integer}
 use Rattle.patterns.specs.Pattern.{Pattern, name, any, literal, parts}
 use Rattle.tables.specs.Record.{Record, named, booleanOf, integerOf, nameOf}
 use Rattle.tables.specs.Table.{recordAt}
-use Rattle.tables.specs.Laws.Below.{Lower, fold-at}
+use Rattle.tables.specs.Laws.Below.{OperandsLower, fold-at}
 use Rattle.patterns.specs.Read.{patternsOf, patternOf, patternAt}
 
 -- ---- the two forms
@@ -40,6 +40,6 @@ module _ (r : Record) (ps : List Pattern) where
   is-integer-literal e = rw e
 
 -- The pattern of a record, by the patterns of its operands.
-pub pattern-at : (rs : List Record) → Lower rs → (p : ℕ) → p < length rs → patternAt rs p ≡ patternOf (recordAt rs p) (map (patternAt rs) (named (recordAt rs p)))
+pub pattern-at : (rs : List Record) → OperandsLower rs → (p : ℕ) → p < length rs → patternAt rs p ≡ patternOf (recordAt rs p) (map (patternAt rs) (named (recordAt rs p)))
 unfolding patternAt
 pattern-at rs low p h = fold-at (λ q ps. patternOf (recordAt rs q) ps) any rs low p h

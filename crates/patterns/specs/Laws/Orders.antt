@@ -9,7 +9,7 @@ use lib.ListN.{length, getD, length-append, length-map, List·getD-append}
 use lib.Seq.{getD-append-add}
 use Rattle.prelude.proofs.Lists.{map-at}
 use Rattle.prelude.specs.Membership.{In}
-use Rattle.patterns.specs.Ways.{gather, placed, orders}
+use Rattle.patterns.specs.Ways.{gather, atEveryPlace, orders}
 use Rattle.patterns.specs.Laws.Members.{in-gather}
 use Rattle.patterns.specs.Laws.Units.{in-placed}
 
@@ -41,10 +41,10 @@ gather-at n (a ∷ ls) f (suc q) r w z h l m =
     ap (λ (k : ℕ). getD (f a ++ gather ls f) k z) e ∙ getD-append-add (f a) (gather ls f) (q * n + r) z ∙ gather-at n ls f q r w z (λ b i. h b (inr i)) (omega arith) m
 
 module _ {A : Type 0} where
-  placed-length : (x : A) (ys : List A) → length (placed x ys) ≡ suc (length ys)
-  unfolding placed
+  placed-length : (x : A) (ys : List A) → length (atEveryPlace x ys) ≡ suc (length ys)
+  unfolding atEveryPlace
   placed-length x [] = refl
-  placed-length x (y ∷ ys) = ap suc (length-map (placed x ys) (λ zs. y ∷ zs) ∙ placed-length x ys)
+  placed-length x (y ∷ ys) = ap suc (length-map (atEveryPlace x ys) (λ zs. y ∷ zs) ∙ placed-length x ys)
 
   -- every order has all units
   pub order-length : (xs ys : List A) → In ys (orders xs) → length ys ≡ length xs
@@ -52,7 +52,7 @@ module _ {A : Type 0} where
   order-length [] ys (inl e) = ap length e
   order-length [] ys (inr i) = absurd i
   order-length (x ∷ xs) ys i =
-      let (zs, j, k) = in-gather ys (orders xs) (placed x) i in
+      let (zs, j, k) = in-gather ys (orders xs) (atEveryPlace x) i in
       let (l, r, p, q) = in-placed x zs ys .0 k in
       let a = ap length p ∙ length-append l r in
       let b = ap length q ∙ length-append l (x ∷ r) in
@@ -62,41 +62,41 @@ module _ {A : Type 0} where
   unfolding orders factorial
   orders-length [] = refl
   orders-length (x ∷ xs) =
-      gather-length (suc (length xs)) (orders xs) (placed x) (λ ys i. placed-length x ys ∙ ap suc (order-length xs ys i))
+      gather-length (suc (length xs)) (orders xs) (atEveryPlace x) (λ ys i. placed-length x ys ∙ ap suc (order-length xs ys i))
       ∙ ap (λ (k : ℕ). k * suc (length xs)) (orders-length xs)
 
   -- the unit x put at r: before it the units as they were, after it moved by one
-  placed-here : (x : A) (ys : List A) (r : ℕ) (z : A) → r ≤ length ys → getD (getD (placed x ys) r []) r z ≡ x
-  unfolding placed
+  placed-here : (x : A) (ys : List A) (r : ℕ) (z : A) → r ≤ length ys → getD (getD (atEveryPlace x ys) r []) r z ≡ x
+  unfolding atEveryPlace
   placed-here x [] zero z h = refl
   placed-here x [] (suc r) z h = absurd (omega arith)
   placed-here x (y ∷ ys) zero z h = refl
   placed-here x (y ∷ ys) (suc r) z h =
-      ap (λ (l : List A). getD l (suc r) z) (map-at (λ zs. y ∷ zs) (placed x ys) r [] [] (omega (arith, placed-length x ys))) ∙ placed-here x ys r z (omega arith)
+      ap (λ (l : List A). getD l (suc r) z) (map-at (λ zs. y ∷ zs) (atEveryPlace x ys) r [] [] (omega (arith, placed-length x ys))) ∙ placed-here x ys r z (omega arith)
 
-  placed-before : (x : A) (ys : List A) (r i : ℕ) (z : A) → r ≤ length ys → i < r → getD (getD (placed x ys) r []) i z ≡ getD ys i z
-  unfolding placed
+  placed-before : (x : A) (ys : List A) (r i : ℕ) (z : A) → r ≤ length ys → i < r → getD (getD (atEveryPlace x ys) r []) i z ≡ getD ys i z
+  unfolding atEveryPlace
   placed-before x [] r i z h l = absurd (omega arith)
   placed-before x (y ∷ ys) zero i z h l = absurd (omega arith)
-  placed-before x (y ∷ ys) (suc r) zero z h l = ap (λ (l : List A). getD l 0 z) (map-at (λ zs. y ∷ zs) (placed x ys) r [] [] (omega (arith, placed-length x ys)))
+  placed-before x (y ∷ ys) (suc r) zero z h l = ap (λ (l : List A). getD l 0 z) (map-at (λ zs. y ∷ zs) (atEveryPlace x ys) r [] [] (omega (arith, placed-length x ys)))
   placed-before x (y ∷ ys) (suc r) (suc i) z h l =
-      ap (λ (l : List A). getD l (suc i) z) (map-at (λ zs. y ∷ zs) (placed x ys) r [] [] (omega (arith, placed-length x ys))) ∙ placed-before x ys r i z (omega arith) (omega arith)
+      ap (λ (l : List A). getD l (suc i) z) (map-at (λ zs. y ∷ zs) (atEveryPlace x ys) r [] [] (omega (arith, placed-length x ys))) ∙ placed-before x ys r i z (omega arith) (omega arith)
 
-  placed-after : (x : A) (ys : List A) (r i : ℕ) (z : A) → r ≤ length ys → r ≤ i → getD (getD (placed x ys) r []) (suc i) z ≡ getD ys i z
-  unfolding placed
+  placed-after : (x : A) (ys : List A) (r i : ℕ) (z : A) → r ≤ length ys → r ≤ i → getD (getD (atEveryPlace x ys) r []) (suc i) z ≡ getD ys i z
+  unfolding atEveryPlace
   placed-after x [] zero i z h l = refl
   placed-after x [] (suc r) i z h l = absurd (omega arith)
   placed-after x (y ∷ ys) zero i z h l = refl
   placed-after x (y ∷ ys) (suc r) zero z h l = absurd (omega arith)
   placed-after x (y ∷ ys) (suc r) (suc i) z h l =
-      ap (λ (l : List A). getD l (suc (suc i)) z) (map-at (λ zs. y ∷ zs) (placed x ys) r [] [] (omega (arith, placed-length x ys))) ∙ placed-after x ys r i z (omega arith) (omega arith)
+      ap (λ (l : List A). getD l (suc (suc i)) z) (map-at (λ zs. y ∷ zs) (atEveryPlace x ys) r [] [] (omega (arith, placed-length x ys))) ∙ placed-after x ys r i z (omega arith) (omega arith)
 
   -- The order at q * n + r of n units is the order at q of the units but the first, with the first put at r.
   module _ (x : A) (xs : List A) (q r : ℕ) (z : A) (lq : q < factorial (length xs)) (lr : r < suc (length xs)) where
-    at-orders : getD (orders (x ∷ xs)) (q * suc (length xs) + r) [] ≡ getD (placed x (getD (orders xs) q [])) r []
+    at-orders : getD (orders (x ∷ xs)) (q * suc (length xs) + r) [] ≡ getD (atEveryPlace x (getD (orders xs) q [])) r []
     unfolding orders
     at-orders =
-        gather-at (suc (length xs)) (orders xs) (placed x) q r [] [] (λ ys i. placed-length x ys ∙ ap suc (order-length xs ys i)) (omega (arith, orders-length xs)) lr
+        gather-at (suc (length xs)) (orders xs) (atEveryPlace x) q r [] [] (λ ys i. placed-length x ys ∙ ap suc (order-length xs ys i)) (omega (arith, orders-length xs)) lr
 
     long : length (getD (orders xs) q []) ≡ length xs
     long = order-length xs (getD (orders xs) q []) (here (orders xs) q (omega (arith, orders-length xs)))

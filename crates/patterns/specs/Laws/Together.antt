@@ -54,19 +54,19 @@ unfolding together
 together-append [] ys cs = refl
 together-append (x ∷ xs) ys cs = ap (λ (l : List Binding). withEach x cs ++ l) (together-append xs ys cs) ∙ sym (append-assoc (withEach x cs) (together xs cs) (together ys cs))
 
-not-right : (a b : Binding) → consistent b ≡ false → consistent (merge a b) ≡ false
-not-right a b e = go (consistent (merge a b)) refl
+-- A merge is not consistent where one that it would make consistent is not.
+not-merged : (a b c : Binding) → (consistent (merge a b) ≡ true → consistent c ≡ true) → consistent c ≡ false → consistent (merge a b) ≡ false
+not-merged a b c h e = go (consistent (merge a b)) refl
   where
     go : (t : Bool) → consistent (merge a b) ≡ t → t ≡ false
-    go true f = sym (consistent-right a b f) ∙ e
+    go true f = sym (h f) ∙ e
     go false f = refl
 
+not-right : (a b : Binding) → consistent b ≡ false → consistent (merge a b) ≡ false
+not-right a b e = not-merged a b b (consistent-right a b) e
+
 not-left : (a b : Binding) → consistent a ≡ false → consistent (merge a b) ≡ false
-not-left a b e = go (consistent (merge a b)) refl
-  where
-    go : (t : Bool) → consistent (merge a b) ≡ t → t ≡ false
-    go true f = sym (consistent-left a b f) ∙ e
-    go false f = refl
+not-left a b e = not-merged a b a (consistent-left a b) e
 
 -- THEOREM: going on with c, then with each, is going on with both, where they are consistent
 pub with-with : (b c : Binding) (ds : List Binding) → withEach b (withEach c ds) ≡ cond (consistent (merge b c)) (withEach (merge b c) ds) []

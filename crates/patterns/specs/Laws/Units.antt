@@ -4,7 +4,7 @@ use mathlib.Core.Logic.{_⊎_, inl, inr, _↔_}
 use mathlib.Core.List.{List, [], _∷_, _++_, map}
 use Rattle.prelude.specs.Membership.{In}
 use Rattle.prelude.proofs.Membership.{in-one, in-left, in-right, in-joined, map-in, in-map}
-use Rattle.patterns.specs.Ways.{Halves, halves, toLeft, toRight, splits, cuts, placed, orders}
+use Rattle.patterns.specs.Ways.{Halves, halves, toLeft, toRight, splits, cuts, atEveryPlace, orders}
 use Rattle.patterns.specs.Units.{Shared, Inserted, Permuted}
 use Rattle.patterns.specs.Laws.Members.{in-gather, gather-in}
 
@@ -60,39 +60,39 @@ module _ {A : Type 0} where
 
   -- ---- orders
 
-  placed-inserted : (x : A) (ys zs : List A) → In zs (placed x ys) → Inserted x ys zs
-  unfolding placed
+  placed-inserted : (x : A) (ys zs : List A) → In zs (atEveryPlace x ys) → Inserted x ys zs
+  unfolding atEveryPlace
   placed-inserted x [] zs i = ([], [], refl, in-one zs i)
   placed-inserted x (y ∷ ys) zs (inl e) = ([], y ∷ ys, refl, e)
   placed-inserted x (y ∷ ys) zs (inr i) =
-      let (ws, k, e) = in-map zs (λ (l : List A). y ∷ l) (placed x ys) i in
+      let (ws, k, e) = in-map zs (λ (l : List A). y ∷ l) (atEveryPlace x ys) i in
       let (l, r, p, q) = placed-inserted x ys ws k in
       (y ∷ l, r, ap (λ (m : List A). y ∷ m) p, e ∙ ap (λ (m : List A). y ∷ m) q)
 
-  inserted-placed : (x : A) (l r : List A) → In (l ++ x ∷ r) (placed x (l ++ r))
-  unfolding placed
+  inserted-placed : (x : A) (l r : List A) → In (l ++ x ∷ r) (atEveryPlace x (l ++ r))
+  unfolding atEveryPlace
   inserted-placed x [] [] = inl refl
   inserted-placed x [] (y ∷ r) = inl refl
-  inserted-placed x (y ∷ l) r = inr (map-in (l ++ x ∷ r) (λ (m : List A). y ∷ m) (placed x (l ++ r)) (inserted-placed x l r))
+  inserted-placed x (y ∷ l) r = inr (map-in (l ++ x ∷ r) (λ (m : List A). y ∷ m) (atEveryPlace x (l ++ r)) (inserted-placed x l r))
 
   -- one more unit, at every place
-  pub in-placed : (x : A) (ys zs : List A) → In zs (placed x ys) ↔ Inserted x ys zs
+  pub in-placed : (x : A) (ys zs : List A) → In zs (atEveryPlace x ys) ↔ Inserted x ys zs
   in-placed x ys zs = (placed-inserted x ys zs, λ h. back h)
     where
-      back : Inserted x ys zs → In zs (placed x ys)
-      back (l, r, p, q) = subst (λ (m : List A). In m (placed x ys)) (sym q) (subst (λ (m : List A). In (l ++ x ∷ r) (placed x m)) (sym p) (inserted-placed x l r))
+      back : Inserted x ys zs → In zs (atEveryPlace x ys)
+      back (l, r, p, q) = subst (λ (m : List A). In m (atEveryPlace x ys)) (sym q) (subst (λ (m : List A). In (l ++ x ∷ r) (atEveryPlace x m)) (sym p) (inserted-placed x l r))
 
   order-permuted : (xs zs : List A) → In zs (orders xs) → Permuted xs zs
   unfolding orders
   order-permuted [] zs i = in-one zs i
   order-permuted (x ∷ xs) zs i =
-      let (ys, j, k) = in-gather zs (orders xs) (placed x) i in
+      let (ys, j, k) = in-gather zs (orders xs) (atEveryPlace x) i in
       (ys, order-permuted xs ys j, placed-inserted x ys zs k)
 
   permuted-order : (xs zs : List A) → Permuted xs zs → In zs (orders xs)
   unfolding orders
   permuted-order [] zs e = inl e
-  permuted-order (x ∷ xs) zs (ys, p, h) = gather-in ys zs (orders xs) (placed x) (permuted-order xs ys p) (in-placed x ys zs .1 h)
+  permuted-order (x ∷ xs) zs (ys, p, h) = gather-in ys zs (orders xs) (atEveryPlace x) (permuted-order xs ys p) (in-placed x ys zs .1 h)
 
   -- THEOREM: a list is among the orders exactly when it has the units in some order
   pub in-orders : (xs zs : List A) → In zs (orders xs) ↔ Permuted xs zs

@@ -6,7 +6,7 @@ use native.Mathlib.Omega.{arith}
 use borrow.Author.Needs.{needs}
 use lib.Dec.{eqb}
 use Rattle.integers.specs.Bytes.{word}
-use Rattle.print.proofs.Items.{items-end, begun, first-holds, separator-room, first-room, rest-room, items-written, boolean-room, boolean-written, integer-room, integer-written, collected, items-room, closing-room, collection-written}
+use Rattle.print.proofs.Items.{spelled-end, spelled-begun, first-holds, separator-room, first-room, rest-room, items-written, boolean-text-room, boolean-written, integer-text-room, integer-written, collected-at, items-room, closing-room, collection-written}
 use borrow.Fn.Kinds.{In}
 use borrow.Fn.PlainCycle.{Measures, is, falls, and}
 use Rattle.print.proofs.put_items.Reads as put-items
@@ -56,13 +56,13 @@ abbrev put-value-calls : ℕ → put-value-lts.Claims
 put-value-calls t = (kind-of-reads.Asked, kind-of-reads.Learnt, boolean-at-reads.Asked, boolean-at-reads.Learnt, put-boolean-reads.Asked, put-boolean-reads.Learnt, integer-at-reads.Asked, integer-at-reads.Learnt, put-integer-reads.Asked, put-integer-reads.Learnt, length-of-reads.Asked, length-of-reads.Learnt, put-opening-reads.Asked, put-opening-reads.Learnt, put-items-below t, put-items.Post, put-closing-reads.Asked, put-closing-reads.Learnt)
 
 put-items-returns : (t : ℕ) → put-items-lts.Need-returns (put-items-calls t) (put-items-at t) put-items.Post
-put-items-returns t c = items-end (c .before .before .before .args .is-map) (c .before .before .before .args .separator) (c .before .before .before .args .out .now) (c .before .before .before .args .at) (c .if1 .taken)
+put-items-returns t c = spelled-end (c .before .before .before .args .is-map) (c .before .before .before .args .separator) (c .before .before .before .args .out .now) (c .before .before .before .args .at) (c .if1 .taken)
 
 put-items-put-separator-requires : (t : ℕ) → put-items-lts.Need-put-separator-requires (put-items-calls t) (put-items-at t) put-items.Post
 put-items-put-separator-requires t c κs = separator-room (c .before .if1 .left) (c .before .before .before .before .args .separator) (c .before .before .before .before .pre .1)
 
 put-items-put-value-requires : (t : ℕ) → put-items-lts.Need-put-value-requires (put-items-calls t) (put-items-at t) put-items.Post
-put-items-put-value-requires t c κs = let u = begun (c .before .before .before .before .before .if1 .left) (c .before .before .before .before .before .before .before .before .pre .1 .held) in (omega arith, first-room (c .before .before .before .before .before .if1 .left) (c .before .before .before .before .before .before .before .before .args .separator) (c .before .before .before .put-separator .ensures) (c .before .before .before .before .before .before .before .before .pre .1))
+put-items-put-value-requires t c κs = let u = spelled-begun (c .before .before .before .before .before .if1 .left) (c .before .before .before .before .before .before .before .before .pre .1 .held) in (omega arith, first-room (c .before .before .before .before .before .if1 .left) (c .before .before .before .before .before .before .before .before .args .separator) (c .before .before .before .put-separator .ensures) (c .before .before .before .before .before .before .before .before .pre .1))
 
 put-items-length-of-requires : (t : ℕ) → put-items-lts.Need-length-of-requires (put-items-calls t) (put-items-at t) put-items.Post
 put-items-length-of-requires t c κs = first-holds (c .before .before .before .before .before .before .before .before .if1 .left) (c .before .before .before .before .before .before .before .before .before .before .before .pre .1 .held)
@@ -71,10 +71,10 @@ put-items-following-requires : (t : ℕ) → put-items-lts.Need-following-requir
 put-items-following-requires t c κs = tt
 
 put-items-add-put-items : (t : ℕ) → put-items-lts.Need-add-put-items (put-items-calls t) (put-items-at t) put-items.Post
-put-items-add-put-items t c = let u = begun (c .before .before .before .before .before .before .before .before .before .before .if1 .left) (c .before .before .before .before .before .before .before .before .before .before .before .before .before .pre .1 .held) in omega (arith, c .before .length-of .ensures .is)
+put-items-add-put-items t c = let u = spelled-begun (c .before .before .before .before .before .before .before .before .before .before .if1 .left) (c .before .before .before .before .before .before .before .before .before .before .before .before .before .pre .1 .held) in omega (arith, c .before .length-of .ensures .is)
 
 put-items-put-items-requires : (t : ℕ) → put-items-lts.Need-put-items-requires (put-items-calls t) (put-items-at t) put-items.Post
-put-items-put-items-requires t c κs = let u = begun (c .before .before .before .before .before .before .before .before .before .before .before .if1 .left) (c .before .before .before .before .before .before .before .before .before .before .before .before .before .before .pre .1 .held) in (omega (arith, c .before .before .length-of .ensures .is), rest-room (c .before .before .before .before .before .before .before .before .before .before .before .if1 .left) (c .before .before .before .before .before .before .before .before .before .before .before .before .before .before .args .separator) (c .before .before .before .before .before .before .before .before .before .put-separator .ensures) (c .before .before .length-of .ensures) (c .before .before .before .before .before .put-value .ensures) (c .before .before .before .before .before .before .before .before .before .before .before .before .before .before .pre .1))
+put-items-put-items-requires t c κs = let u = spelled-begun (c .before .before .before .before .before .before .before .before .before .before .before .if1 .left) (c .before .before .before .before .before .before .before .before .before .before .before .before .before .before .pre .1 .held) in (omega (arith, c .before .before .length-of .ensures .is), rest-room (c .before .before .before .before .before .before .before .before .before .before .before .if1 .left) (c .before .before .before .before .before .before .before .before .before .before .before .before .before .before .args .separator) (c .before .before .before .before .before .before .before .before .before .put-separator .ensures) (c .before .before .length-of .ensures) (c .before .before .before .before .before .put-value .ensures) (c .before .before .before .before .before .before .before .before .before .before .before .before .before .before .pre .1))
 
 put-items-same-length : (t : ℕ) → put-items-lts.Need-same-length (put-items-calls t) (put-items-at t) put-items.Post
 put-items-same-length t c = search needs
@@ -89,7 +89,7 @@ put-value-boolean-at-requires : (t : ℕ) → put-value-lts.Need-boolean-at-requ
 put-value-boolean-at-requires t c κs = record { held = c .before .before .before .before .pre .1 .held; kind = sym (c .before .kind-of .ensures .is) ∙ c .if1 .taken }
 
 put-value-put-boolean-requires : (t : ℕ) → put-value-lts.Need-put-boolean-requires (put-value-calls t) (put-value-at t) put-value.Post
-put-value-put-boolean-requires t c κs = boolean-room (c .before .boolean-at .ensures) (c .before .before .before .before .before .before .pre .1)
+put-value-put-boolean-requires t c κs = boolean-text-room (c .before .boolean-at .ensures) (c .before .before .before .before .before .before .pre .1)
 
 put-value-same-length : (t : ℕ) → put-value-lts.Need-same-length (put-value-calls t) (put-value-at t) put-value.Post
 put-value-same-length t c = search needs
@@ -101,7 +101,7 @@ put-value-integer-at-requires : (t : ℕ) → put-value-lts.Need-integer-at-requ
 put-value-integer-at-requires t c κs = record { held = c .before .before .before .before .before .pre .1 .held; kind = sym (c .before .before .kind-of .ensures .is) ∙ c .if2 .taken }
 
 put-value-put-integer-requires : (t : ℕ) → put-value-lts.Need-put-integer-requires (put-value-calls t) (put-value-at t) put-value.Post
-put-value-put-integer-requires t c κs = integer-room (c .before .integer-at .ensures) (c .before .before .before .before .before .before .before .pre .1)
+put-value-put-integer-requires t c κs = integer-text-room (c .before .integer-at .ensures) (c .before .before .before .before .before .before .before .pre .1)
 
 put-value-same-length-2 : (t : ℕ) → put-value-lts.Need-same-length-2 (put-value-calls t) (put-value-at t) put-value.Post
 put-value-same-length-2 t c = search needs
@@ -122,16 +122,16 @@ put-value-add-put-items-2 : (t : ℕ) → put-value-lts.Need-add-put-items-2 (pu
 put-value-add-put-items-2 t c = omega (arith, c .before .before .before .before .length-of .ensures .is)
 
 put-value-put-items-requires : (t : ℕ) → put-value-lts.Need-put-items-requires (put-value-calls t) (put-value-at t) put-value.Post
-put-value-put-items-requires t c κs = let x = collected (c .before .before .before .before .before .before .before .before .before .before .before .pre .1 .held) (c .before .before .before .before .before .before .before .before .kind-of .ensures) (c .before .before .before .before .before .before .before .if1 .left) (c .before .before .before .before .before .before .if2 .left) in (omega (arith, c .before .before .before .before .before .length-of .ensures .is, c .before .before .before .before .before .length-of .ensures .low), items-room x (c .before .before .before .before .before .length-of .ensures) (eqb (c .before .before .before .before .before .length-of .result) 4) (c .before .before .before .put-opening .ensures) (c .before .before .before .before .before .before .before .before .before .before .before .pre .1))
+put-value-put-items-requires t c κs = let x = collected-at (c .before .before .before .before .before .before .before .before .before .before .before .pre .1 .held) (c .before .before .before .before .before .before .before .before .kind-of .ensures) (c .before .before .before .before .before .before .before .if1 .left) (c .before .before .before .before .before .before .if2 .left) in (omega (arith, c .before .before .before .before .before .length-of .ensures .is, c .before .before .before .before .before .length-of .ensures .low), items-room x (c .before .before .before .before .before .length-of .ensures) (eqb (c .before .before .before .before .before .length-of .result) 4) (c .before .before .before .put-opening .ensures) (c .before .before .before .before .before .before .before .before .before .before .before .pre .1))
 
 put-value-put-closing-requires : (t : ℕ) → put-value-lts.Need-put-closing-requires (put-value-calls t) (put-value-at t) put-value.Post
-put-value-put-closing-requires t c κs = let x = collected (c .before .before .before .before .before .before .before .before .before .before .before .before .before .before .before .pre .1 .held) (c .before .before .before .before .before .before .before .before .before .before .before .before .kind-of .ensures) (c .before .before .before .before .before .before .before .before .before .before .before .if1 .left) (c .before .before .before .before .before .before .before .before .before .before .if2 .left) in closing-room x (c .before .before .before .before .before .before .before .before .before .length-of .ensures) (c .before .before .before .put-items .ensures) (eqb (c .before .before .before .before .before .before .before .before .before .length-of .result) 4) (c .before .before .before .before .before .before .before .put-opening .ensures) (c .before .before .before .before .before .before .before .before .before .before .before .before .before .before .before .pre .1)
+put-value-put-closing-requires t c κs = let x = collected-at (c .before .before .before .before .before .before .before .before .before .before .before .before .before .before .before .pre .1 .held) (c .before .before .before .before .before .before .before .before .before .before .before .before .kind-of .ensures) (c .before .before .before .before .before .before .before .before .before .before .before .if1 .left) (c .before .before .before .before .before .before .before .before .before .before .if2 .left) in closing-room x (c .before .before .before .before .before .before .before .before .before .length-of .ensures) (c .before .before .before .put-items .ensures) (eqb (c .before .before .before .before .before .before .before .before .before .length-of .result) 4) (c .before .before .before .before .before .before .before .put-opening .ensures) (c .before .before .before .before .before .before .before .before .before .before .before .before .before .before .before .pre .1)
 
 put-value-same-length-3 : (t : ℕ) → put-value-lts.Need-same-length-3 (put-value-calls t) (put-value-at t) put-value.Post
 put-value-same-length-3 t c = search needs
 
 put-value-returns-3 : (t : ℕ) → put-value-lts.Need-returns-3 (put-value-calls t) (put-value-at t) put-value.Post
-put-value-returns-3 t c = let x = collected (c .before .before .before .before .before .before .before .before .before .before .before .before .before .before .before .before .before .before .pre .1 .held) (c .before .before .before .before .before .before .before .before .before .before .before .before .before .before .before .kind-of .ensures) (c .before .before .before .before .before .before .before .before .before .before .before .before .before .before .if1 .left) (c .before .before .before .before .before .before .before .before .before .before .before .before .before .if2 .left) in collection-written x (c .before .before .before .before .before .before .before .before .before .before .before .before .length-of .ensures) (c .before .before .before .before .before .before .put-items .ensures) (c .before .before .before .before .before .before .before .before .before .before .put-opening .ensures) (c .before .before .put-closing .ensures)
+put-value-returns-3 t c = let x = collected-at (c .before .before .before .before .before .before .before .before .before .before .before .before .before .before .before .before .before .before .pre .1 .held) (c .before .before .before .before .before .before .before .before .before .before .before .before .before .before .before .kind-of .ensures) (c .before .before .before .before .before .before .before .before .before .before .before .before .before .before .if1 .left) (c .before .before .before .before .before .before .before .before .before .before .before .before .before .if2 .left) in collection-written x (c .before .before .before .before .before .before .before .before .before .before .before .before .length-of .ensures) (c .before .before .before .before .before .before .put-items .ensures) (c .before .before .before .before .before .before .before .before .before .before .put-opening .ensures) (c .before .before .put-closing .ensures)
 
 pub +put-items+put-value-spec : {M : Type 1} → statement M
 +put-items+put-value-spec = close μ-put-items μ-put-value (λ t. put-items-lts.spec (put-items-calls t)

@@ -2,7 +2,7 @@
 use Prim.Native.Nat.{_-_}
 use native.Mathlib.Omega.{arith}
 use lib.ListN.{length}
-use Rattle.print.proofs.Writing.{Copying, copying-start, copying-more, copying-end}
+use Rattle.print.proofs.Writing.{Copying, copying-start, text-copied-more, copying-end}
 use Rattle.print.proofs.put_bytes.Statement.{statement}
 use Rattle.print.proofs.put_bytes.Tie as tie
 
@@ -31,7 +31,7 @@ loop-less : tie.Need-loop-less Inv-loop μ-loop
 loop-less c = omega arith
 
 loop-again : tie.Need-loop-again Inv-loop μ-loop
-loop-again c = copying-more _ _ _ (c .before .loop-test .taken) (c .before .before .loop .inv)
+loop-again c = text-copied-more _ _ _ (c .before .loop-test .taken) (c .before .before .loop .inv)
 
 add-result : tie.Need-add-result Inv-loop μ-loop
 add-result c = omega arith

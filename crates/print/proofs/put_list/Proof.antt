@@ -5,7 +5,7 @@ use native.Mathlib.Omega.{arith}
 use borrow.Author.Needs.{needs}
 use lib.ListN.{length, length-set}
 use Rattle.print.proofs.Writing.{wrote-one, wrote-after, wrote-then, wrote-as, wrote-length}
-use Rattle.print.proofs.Listing.{list-first, list-length, list-none, tails-length, Listing, listing-start, listing-more, listing-end}
+use Rattle.print.proofs.Listing.{list-first, listing-length, list-none, tails-length, Listing, listing-start, listing-more, listing-end}
 use Rattle.print.proofs.put_list.Statement.{statement}
 use Rattle.print.proofs.put_list.Tie as tie
 use Rattle.print.proofs.put_number.Reads as put-number-reads
@@ -35,7 +35,7 @@ cast-put-number : tie.Need-cast-put-number Inv-loop μ-loop
 cast-put-number c = omega (arith, c .shared-slice-known2 .given 0)
 
 put-number-requires : tie.Need-put-number-requires Inv-loop μ-loop
-put-number-requires c κs = omega (arith, list-length (c .before .before .before .before .before .args .list .now) (omega arith))
+put-number-requires c κs = omega (arith, listing-length (c .before .before .before .before .before .args .list .now) (omega arith))
 
 loop-holds : tie.Need-loop-holds Inv-loop μ-loop
 loop-holds c = listing-start (c .before .before .before .before .before .before .before .before .args .list .now) (omega arith) (c .before .before .put-number .ensures) (c .before .before .before .before .before .before .before .before .pre)

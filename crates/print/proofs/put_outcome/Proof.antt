@@ -5,7 +5,7 @@ use lib.ListN.{length-set}
 use Rattle.print.proofs.Writing.{wrote-length}
 use Rattle.print.proofs.Decimals.{decimal-any}
 use Rattle.print.proofs.Wording.{word-short}
-use Rattle.print.proofs.Lines.{outcome-value, outcome-refused, value-written, refusal-written}
+use Rattle.print.proofs.Lines.{outcome-value, outcome-refused, value-shown, refusal-written}
 use borrow.Author.Needs.{needs}
 use Rattle.print.proofs.put_outcome.Statement.{statement}
 use Rattle.print.proofs.put_outcome.Tie as tie
@@ -26,7 +26,7 @@ same-length : tie.Need-same-length
 same-length c = c .before .before .put-value .kept .1 .1 .0 ∙ length-set (c .before .before .before .before .before .before .before .args .out .now) (c .before .before .before .before .before .before .before .args .at) 61
 
 returns : tie.Need-returns
-returns c = value-written (c .before .before .before .before .if1 .taken) (c .before .before .put-value .ensures)
+returns c = value-shown (c .before .before .before .before .if1 .taken) (c .before .before .put-value .ensures)
 
 slice-write-out-2 : tie.Need-slice-write-out-2
 slice-write-out-2 c = search needs

@@ -5,7 +5,7 @@ use Rattle.integers.specs.Whole as Whole
 use Rattle.operators.specs.Arithmetic.{answered}
 use Rattle.operators.specs.Operators.{binary}
 use Rattle.scalars.proofs.Numbers.{by-binary}
-use Rattle.calling.proofs.Numbered.{past, meet}
+use Rattle.calling.proofs.Numbered.{past-next, meet}
 use borrow.Author.Needs.{needs}
 use Rattle.scalars.proofs.compute.Statement.{statement}
 use Rattle.scalars.proofs.compute.Tie as tie
@@ -50,7 +50,7 @@ returns-5 c = by-binary 11 (c .before .before .args .operator) (λ a b. answered
 
 returns-6 : tie.Need-returns-6
 unfolding binary
-returns-6 c = by-binary 12 (c .before .before .args .operator) (λ a b. answered (Whole.modulusOf a b)) (meet (c .before .before .pre .1) (past (past (past (past (past (c .before .before .pre .0) (c .before .match .rest .0 .0 .0 .0 .1)) (c .before .match .rest .0 .0 .0 .1)) (c .before .match .rest .0 .0 .1)) (c .before .match .rest .0 .1)) (c .before .match .rest .1))) refl (c .before .before .fits .a) (c .before .before .fits .b) (ap answered (c .modulo .ensures))
+returns-6 c = by-binary 12 (c .before .before .args .operator) (λ a b. answered (Whole.modulusOf a b)) (meet (c .before .before .pre .1) (past-next (past-next (past-next (past-next (past-next (c .before .before .pre .0) (c .before .match .rest .0 .0 .0 .0 .1)) (c .before .match .rest .0 .0 .0 .1)) (c .before .match .rest .0 .0 .1)) (c .before .match .rest .0 .1)) (c .before .match .rest .1))) refl (c .before .before .fits .a) (c .before .before .fits .b) (ap answered (c .modulo .ensures))
 
 pub compute-spec : {M : Type 1} → statement M
 compute-spec =

@@ -1,7 +1,7 @@
 -- `range` meets its contract: the integers from one to the other are counted and written.
 use mathlib.Core.Path.{refl}
 use native.Mathlib.Omega.{arith}
-use Rattle.operators.specs.Sets.{howMany, counting}
+use Rattle.operators.specs.Sets.{howMany, consecutive}
 use Rattle.calling.proofs.Pairs.{pair-off}
 use Rattle.set_operators.proofs.Ranges.{range-count, range-gives}
 use borrow.Author.Needs.{needs}
@@ -33,7 +33,7 @@ same-length-2 : tie.Need-same-length-2
 same-length-2 c = search needs
 
 returns-2 : tie.Need-returns-2
-returns-2 c = pair-off (c .before .before .two-integers .ensures) (λ a b. counting a (howMany a b)) (λ v w. refl) (c .enum-told .given .1)
+returns-2 c = pair-off (c .before .before .two-integers .ensures) (λ a b. consecutive a (howMany a b)) (λ v w. refl) (c .enum-told .given .1)
 
 pub range-spec : {M : Type 1} → statement M
 range-spec =

@@ -23,7 +23,7 @@ use Rattle.tables.specs.Accepted.{records, Fine, AcceptedIsFine}
 use Rattle.tables.specs.Reading.{Indexed, CutOut}
 use Rattle.tables.specs.declared.reading.Cutting.{Cutting}
 use Rattle.tables.specs.Laws.Tests.{any-none, low, each}
-use Rattle.tables.specs.Laws.Below.{Lower, fold-at, climb-up, climb-top, parent-higher, parent-is, role-is}
+use Rattle.tables.specs.Laws.Below.{OperandsLower, fold-at, climb-up, climb-top, parent-higher, parent-is, role-is}
 use Rattle.tables.specs.Laws.Kinds.{beyond, pattern-most}
 use Rattle.tables.specs.Laws.Cutting.{cut-fit, cut-some}
 use Rattle.tables.specs.Laws.Operands.{isPart, is-part, all-parts, operands-few, operands-count, operands-at, isFirst, first-sort, binder-roles, greatest-all}
@@ -174,7 +174,7 @@ module _ (rs : List Record) (clear6 : Clear6 rs) where
     pub operand-role : roleIn rs r (operand (recordAt rs r) i) ≡ roleAt (recordAt rs r) i
     operand-role = role-is rs r i in-table is-operand operand-first
 
-  pub lower : Lower rs
+  pub lower : OperandsLower rs
   lower r i h k = operand-lower r i h k
 
   -- ---- what is around an operand

@@ -37,8 +37,8 @@ role-at (role ∷ roles) (b ∷ bytes) (suc i) h e =
 
 -- ---- tables in which operands are lower than their record
 
-abbrev pub Lower : List Record → Type 0
-Lower rs = (r i : ℕ) → r < length rs → i < length (named (recordAt rs r)) → operand (recordAt rs r) i < r
+abbrev pub OperandsLower : List Record → Type 0
+OperandsLower rs = (r i : ℕ) → r < length rs → i < length (named (recordAt rs r)) → operand (recordAt rs r) i < r
 
 -- Two functions that agree on the entries of a list.
 map-same : {A : Type 0} (f g : ℕ → A) (ms : List ℕ) → ((i : ℕ) → i < length ms → f (getD ms i 0) ≡ g (getD ms i 0)) → map f ms ≡ map g ms
@@ -48,7 +48,7 @@ map-same f g (m ∷ ms) e =
     let there : map f ms ≡ map g ms = map-same f g ms (λ i h. e (suc i) (omega arith)) in
     cc
 
-module _ {A : Type 0} (node : ℕ → List A → A) (none : A) (rs : List Record) (lower : Lower rs) where
+module _ {A : Type 0} (node : ℕ → List A → A) (none : A) (rs : List Record) (lower : OperandsLower rs) where
   -- Every bound above the record's number gives the same.
   fold-enough : (b d r : ℕ) → r < b → r < d → r < length rs → foldBy node none rs b r ≡ foldBy node none rs d r
   unfolding foldBy
@@ -68,7 +68,7 @@ module _ {A : Type 0} (node : ℕ → List A → A) (none : A) (rs : List Record
       (λ i m. fold-enough r (suc (operand (recordAt rs r) i)) (operand (recordAt rs r) i) (lower r i l m) (omega arith) (omega (arith, lower r i l m))))
 
 -- A record is lower than the one that names it.
-pub parent-higher : (rs : List Record) → Lower rs → (r : ℕ) → parent rs r < length rs → r < parent rs r
+pub parent-higher : (rs : List Record) → OperandsLower rs → (r : ℕ) → parent rs r < length rs → r < parent rs r
 parent-higher rs lower r h =
     let p : Place (named (recordAt rs (parent rs r))) r = in-place r _ (low (λ q. isIn r (named (recordAt rs q))) (length rs) .hit h) in
     omega (arith, lower (parent rs r) (p .index) h (p .within), p .is)
@@ -77,7 +77,7 @@ pick-same : {A : Type 0} (b : Bool) (x y z : A) → (b ≡ true → x ≡ y) →
 pick-same true x y z e = e refl
 pick-same false x y z e = refl
 
-module _ {A : Type 0} (step : ℕ → Role → A → A) (none : A) (rs : List Record) (lower : Lower rs) where
+module _ {A : Type 0} (step : ℕ → Role → A → A) (none : A) (rs : List Record) (lower : OperandsLower rs) where
   -- Nothing lies above what stands past the table.
   past : (r : ℕ) → length rs ≤ r → ltb (parent rs r) (length rs) ≡ false
   past r h = by-lower (parent rs r) (length rs) (λ k. absurd (omega (arith, parent-higher rs lower r k))) (λ k. le-ltb _ _ k)

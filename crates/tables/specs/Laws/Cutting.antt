@@ -10,7 +10,7 @@ use lib.ListN.{length, drop}
 use Rattle.prelude.proofs.Absurd.{never, impossible}
 use Rattle.integers.specs.Bytes.{word}
 use Rattle.tables.specs.Record.{Record, isFit}
-use Rattle.tables.specs.Table.{Next, end, fault, one, next, first, cutBy, recordAt, onNext}
+use Rattle.tables.specs.Table.{Next, end, fault, one, next, firstRecord, cutBy, recordAt, onNext}
 
 -- What is known where a record stands next.
 pub record IsNext (bytes : List ℕ) (r : Record) (rest : List ℕ) : Type 0 where
@@ -18,17 +18,17 @@ pub record IsNext (bytes : List ℕ) (r : Record) (rest : List ℕ) : Type 0 whe
   pub long : 4 ≤ word bytes 0
   pub whole : word bytes 0 ≤ length bytes
   pub fit : isFit r ≡ true
-  pub is : first bytes ≡ r
+  pub is : firstRecord bytes ≡ r
   pub then : drop (word bytes 0) bytes ≡ rest
 
-is-next : (bytes : List ℕ) (b c d e : Bool) (r : Record) (rest : List ℕ) → ltb (length bytes) 4 ≡ b → ltb (word bytes 0) 4 ≡ c → ltb (length bytes) (word bytes 0) ≡ d → isFit (first bytes) ≡ e → (z : Bool) → cond z end (cond (b || c || d) fault (cond e (one (first bytes) (drop (word bytes 0) bytes)) fault)) ≡ one r rest → IsNext bytes r rest
+is-next : (bytes : List ℕ) (b c d e : Bool) (r : Record) (rest : List ℕ) → ltb (length bytes) 4 ≡ b → ltb (word bytes 0) 4 ≡ c → ltb (length bytes) (word bytes 0) ≡ d → isFit (firstRecord bytes) ≡ e → (z : Bool) → cond z end (cond (b || c || d) fault (cond e (one (firstRecord bytes) (drop (word bytes 0) bytes)) fault)) ≡ one r rest → IsNext bytes r rest
 is-next bytes b c d e r rest hb hc hd he true k = impossible cc
 is-next bytes true c d e r rest hb hc hd he false k = impossible cc
 is-next bytes false true d e r rest hb hc hd he false k = impossible cc
 is-next bytes false false true e r rest hb hc hd he false k = impossible cc
 is-next bytes false false false false r rest hb hc hd he false k = impossible cc
 is-next bytes false false false true r rest hb hc hd he false k =
-    let same : first bytes ≡ r = cc in
+    let same : firstRecord bytes ≡ r = cc in
     record {
       four = ltb-false _ _ hb;
       long = ltb-false _ _ hc;
@@ -58,9 +58,9 @@ cut-fit (suc bound) bytes r h = go (next bytes) refl r h (λ rest q k. cut-fit b
 pub cut-some : (bound : ℕ) (bytes : List ℕ) → 0 < length bytes → cutBy (suc bound) bytes .whole ≡ true → 0 < length (cutBy (suc bound) bytes .records)
 unfolding cutBy next
 cut-some bound bytes h e =
-    go (eqb (length bytes) 0) (ltb (length bytes) 4 || ltb (word bytes 0) 4 || ltb (length bytes) (word bytes 0)) (isFit (first bytes)) refl e
+    go (eqb (length bytes) 0) (ltb (length bytes) 4 || ltb (word bytes 0) 4 || ltb (length bytes) (word bytes 0)) (isFit (firstRecord bytes)) refl e
   where
-    go : (z t u : Bool) → eqb (length bytes) 0 ≡ z → onNext (cond z end (cond t fault (cond u (one (first bytes) (drop (word bytes 0) bytes)) fault))) (λ rest. cutBy bound rest) .whole ≡ true → 0 < length (onNext (cond z end (cond t fault (cond u (one (first bytes) (drop (word bytes 0) bytes)) fault))) (λ rest. cutBy bound rest) .records)
+    go : (z t u : Bool) → eqb (length bytes) 0 ≡ z → onNext (cond z end (cond t fault (cond u (one (firstRecord bytes) (drop (word bytes 0) bytes)) fault))) (λ rest. cutBy bound rest) .whole ≡ true → 0 < length (onNext (cond z end (cond t fault (cond u (one (firstRecord bytes) (drop (word bytes 0) bytes)) fault))) (λ rest. cutBy bound rest) .records)
     go true t u f k = absurd (omega (arith, eqb-true (length bytes) 0 f))
     go false true u f k = never k
     go false false true f k = omega arith

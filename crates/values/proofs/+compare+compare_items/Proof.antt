@@ -4,7 +4,7 @@ use Prim.Native.Nat.{ℕ, _+_, _-_, _<_}
 use native.Mathlib.Omega.{arith}
 use borrow.Author.Needs.{needs}
 use Rattle.integers.specs.Bytes.{word}
-use Rattle.values.proofs.Ordering.{both, by-kinds, collections, first-items, second-items, by-items, both-none, first-none, second-none, begun, rest-items, first-lower, first-higher, first-same}
+use Rattle.values.proofs.Ordering.{both, by-kinds, collections, first-items, second-items, ordered-by-items, both-none, first-none, second-none, begun, rest-items, items-first-lower, items-first-higher, items-first-same}
 use borrow.Fn.Kinds.{In}
 use borrow.Fn.PlainCycle.{Measures, is, falls, and}
 use Rattle.values.proofs.compare.Reads as compare
@@ -104,7 +104,7 @@ compare-returns-4 : (t : ℕ) → compare-lts.Need-returns-4 (compare-calls t) (
 compare-returns-4 t c =
     let p = c .before .before .before .before .before .before .before .before .before .pre in
     let x = collections (p .1 .0) (p .1 .1) (c .before .before .before .before .before .before .before .kind-of .ensures) (c .before .before .before .before .before .before .kind-of2 .ensures) (c .before .before .before .before .before .if1 .left) (c .before .before .before .before .if2 .left) (c .before .before .before .if3 .left) in
-    by-items x _ (c .before .before .length-of .ensures) (c .before .length-of2 .ensures) (c .compare-items .ensures)
+    ordered-by-items x _ (c .before .before .length-of .ensures) (c .before .length-of2 .ensures) (c .compare-items .ensures)
 
 compare-items-returns : (t : ℕ) → compare-items-lts.Need-returns (compare-items-calls t) (compare-items-at t) compare-items.Post
 compare-items-returns t c = both-none (c .before .if1 .taken) (c .if2 .taken)
@@ -155,13 +155,13 @@ compare-items-compare-items-requires t c κs =
     (omega arith, (rest-items (c .before .before .before .before .before .before .if1 .left) (c .before .length-of .ensures) (p .1 .0), rest-items (c .before .before .before .before .before .if3 .left) (c .length-of2 .ensures) (p .1 .1)))
 
 compare-items-returns-4 : (t : ℕ) → compare-items-lts.Need-returns-4 (compare-items-calls t) (compare-items-at t) compare-items.Post
-compare-items-returns-4 t c = first-lower (c .before .before .before .before .if1 .left) (c .before .before .before .if3 .left) (c .before .before .compare .ensures) (c .enum-told .given .1)
+compare-items-returns-4 t c = items-first-lower (c .before .before .before .before .if1 .left) (c .before .before .before .if3 .left) (c .before .before .compare .ensures) (c .enum-told .given .1)
 
 compare-items-returns-5 : (t : ℕ) → compare-items-lts.Need-returns-5 (compare-items-calls t) (compare-items-at t) compare-items.Post
-compare-items-returns-5 t c = first-higher (c .before .before .before .before .if1 .left) (c .before .before .before .if3 .left) (c .before .before .compare .ensures) (c .enum-told2 .given .1)
+compare-items-returns-5 t c = items-first-higher (c .before .before .before .before .if1 .left) (c .before .before .before .if3 .left) (c .before .before .compare .ensures) (c .enum-told2 .given .1)
 
 compare-items-returns-6 : (t : ℕ) → compare-items-lts.Need-returns-6 (compare-items-calls t) (compare-items-at t) compare-items.Post
-compare-items-returns-6 t c = first-same (c .before .before .before .before .before .before .before .if1 .left) (c .before .before .before .before .before .before .if3 .left) (c .before .before .before .before .before .compare .ensures) _ (c .before .before .before .enum-told3 .given .1) (c .before .before .length-of .ensures) (c .before .length-of2 .ensures) (c .compare-items .ensures)
+compare-items-returns-6 t c = items-first-same (c .before .before .before .before .before .before .before .if1 .left) (c .before .before .before .before .before .before .if3 .left) (c .before .before .before .before .before .compare .ensures) _ (c .before .before .before .enum-told3 .given .1) (c .before .before .length-of .ensures) (c .before .length-of2 .ensures) (c .compare-items .ensures)
 
 pub +compare+compare-items-spec : {M : Type 1} → statement M
 +compare+compare-items-spec = close μ-compare μ-compare-items (λ t. compare-lts.spec (compare-calls t)

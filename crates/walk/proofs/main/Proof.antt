@@ -1,5 +1,5 @@
 -- What was read is printed.
-use Rattle.walk.proofs.Handing.{within}
+use Rattle.walk.proofs.Handing.{within-counts}
 use borrow.Author.Needs.{needs}
 use Rattle.walk.proofs.main.Statement.{statement}
 use Rattle.walk.proofs.main.Tie as tie
@@ -23,10 +23,10 @@ enum-known-n : tie.Need-enum-known-n
 enum-known-n c = search needs
 
 array-share-prefix-buffer : tie.Need-array-share-prefix-buffer
-array-share-prefix-buffer c = within (c .before .before .before .before .read-input .result) (c .before .n .given .0 .0) (c .before .before .before .before .read-input .last .0) (c .before .n .given .1) (c .before .before .before .before .read-input .ensures) .0
+array-share-prefix-buffer c = within-counts (c .before .before .before .before .read-input .result) (c .before .n .given .0 .0) (c .before .before .before .before .read-input .last .0) (c .before .n .given .1) (c .before .before .before .before .read-input .ensures) .0
 
 slice-aggregate-print-table : tie.Need-slice-aggregate-print-table
-slice-aggregate-print-table c = within (c .before .before .before .before .before .read-input .result) (c .before .before .n .given .0 .0) (c .before .before .before .before .before .read-input .last .0) (c .before .before .n .given .1) (c .before .before .before .before .before .read-input .ensures) .1
+slice-aggregate-print-table c = within-counts (c .before .before .before .before .before .read-input .result) (c .before .before .n .given .0 .0) (c .before .before .before .before .before .read-input .last .0) (c .before .before .n .given .1) (c .before .before .before .before .before .read-input .ensures) .1
 
 print-table-requires : tie.Need-print-table-requires
 print-table-requires c κs = search needs

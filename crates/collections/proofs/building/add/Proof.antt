@@ -1,5 +1,5 @@
 -- `collections::building::add` meets its contract.
-use Rattle.collections.proofs.Additions.{add-full, add-gap, add-done}
+use Rattle.collections.proofs.Additions.{add-full, add-gap, addition-done}
 use borrow.Author.Needs.{needs}
 use Rattle.collections.proofs.building.add.Statement.{statement}
 use Rattle.collections.proofs.building.add.Tie as tie
@@ -47,7 +47,7 @@ returns-2 c =
     let after-length-of2 = branch .before in
     let after-length-of = after-length-of2 .before .before in
     let start = after-length-of .before .before .before in
-    add-done (start .pre .0) (after-length-of .length-of .ensures .is) (after-length-of2 .length-of2 .ensures .is) (branch .if1 .left) (after-put-before .put-before .ensures) (after-put-head .put-head .ensures)
+    addition-done (start .pre .0) (after-length-of .length-of .ensures .is) (after-length-of2 .length-of2 .ensures .is) (branch .if1 .left) (after-put-before .put-before .ensures) (after-put-head .put-head .ensures)
 
 pub add-spec : {M : Type 1} → statement M
 add-spec =

@@ -8,7 +8,7 @@ use borrow.Author.Needs.{needs}
 use Rattle.integers.specs.Bytes.{word}
 use Rattle.values.proofs.Records.{holds}
 use Rattle.collections.proofs.Walks.{walk-run}
-use Rattle.collections.proofs.Looking.{Looking, look-start, look-higher, integer-inside, onward}
+use Rattle.collections.proofs.Looking.{Looking, look-start, look-higher, integer-inside, looks-on}
 use Rattle.collections.proofs.finding.pass_lower.Statement.{statement}
 use Rattle.collections.proofs.finding.pass_lower.Tie as tie
 use Rattle.collections.proofs.finding.pass_lower.Reads as reads
@@ -50,7 +50,7 @@ kind-of-requires c κs = holds (walk-run (c .before .loop .inv .1) (omega (arith
 
 -- src/finding.rt:32:13
 returns : tie.Need-returns Inv-loop μ-loop
-returns c = onward (c .before .before .before .loop .inv .1)
+returns c = looks-on (c .before .before .before .loop .inv .1)
 
 -- src/finding.rt:34:13
 integer-at-requires-2 : tie.Need-integer-at-requires-2 Inv-loop μ-loop
@@ -65,7 +65,7 @@ enum-told c = search needs
 
 -- src/finding.rt:37:13
 returns-2 : tie.Need-returns-2 Inv-loop μ-loop
-returns-2 c = onward (c .before .before .before .before .before .before .loop .inv .1)
+returns-2 c = looks-on (c .before .before .before .before .before .before .loop .inv .1)
 
 -- src/finding.rt:39:9
 add-p-2 : tie.Need-add-p-2 Inv-loop μ-loop
@@ -81,7 +81,7 @@ loop-again c = (c .before .before .before .before .before .before .before .loop 
 
 -- src/finding.rt:23:1
 returns-3 : tie.Need-returns-3 Inv-loop μ-loop
-returns-3 c = onward (c .before .loop .inv .1)
+returns-3 c = looks-on (c .before .loop .inv .1)
 
 pub pass-lower-spec : {M : Type 1} → statement M
 pass-lower-spec =

@@ -1,6 +1,6 @@
 -- `collections::finding::start` meets its contract.
 use borrow.Author.Needs.{needs}
-use Rattle.collections.proofs.Looking.{look-start, onward, among}
+use Rattle.collections.proofs.Looking.{look-start, looks-on, among}
 use Rattle.collections.proofs.finding.start.Statement.{statement}
 use Rattle.collections.proofs.finding.start.Tie as tie
 
@@ -8,7 +8,7 @@ add-result : tie.Need-add-result
 add-result c = search needs
 
 returns : tie.Need-returns
-returns c = onward (look-start _ _ _ _)
+returns c = looks-on (look-start _ _ _ _)
 
 kind-of-requires : tie.Need-kind-of-requires
 kind-of-requires c κs = search needs
@@ -17,7 +17,7 @@ add-result-2 : tie.Need-add-result-2
 add-result-2 c = search needs
 
 returns-2 : tie.Need-returns-2
-returns-2 c = onward (look-start _ _ _ _)
+returns-2 c = looks-on (look-start _ _ _ _)
 
 pass-lower-requires : tie.Need-pass-lower-requires
 pass-lower-requires c κs = search needs

@@ -6,7 +6,7 @@ use borrow.Author.Needs.{needs}
 use mathlib.Core.Logic.{⊎-elim}
 use lib.ListN.{length, length-drop}
 use Rattle.tables.specs.Shapes.{lengthRows}
-use Rattle.tables.proofs.Cutting.{part-rest, measured, measured-within, noted, not-noted, Turn, turn-start, turn-end, turn-bad, turn-more}
+use Rattle.tables.proofs.Cutting.{part-rest, measured, measured-within, noted, not-noted, Turn, cutting-start, cutting-end, turn-bad, cutting-more}
 use Rattle.tables.proofs.reading.cut.Statement.{statement}
 use Rattle.tables.proofs.reading.cut.Tie as tie
 
@@ -17,7 +17,7 @@ abbrev μ-loop : tie.MeasureT-loop
 μ-loop table index₀ lengths at₀ count₀ index at count = length table - at
 
 loop-holds : tie.Need-loop-holds Inv-loop μ-loop
-loop-holds c = (turn-start _ _ (c .before .pre .1), refl)
+loop-holds c = (cutting-start _ _ (c .before .pre .1), refl)
 
 sub-measure : tie.Need-sub-measure Inv-loop μ-loop
 sub-measure c = omega (arith, c .before .before .loop .inv .0 .within)
@@ -54,13 +54,13 @@ loop-less c = omega (arith, c .before .before .before .before .before .before .l
 
 loop-again : tie.Need-loop-again Inv-loop μ-loop
 loop-again c = (
-  (turn-more (c .before .before .before .before .before .before .before .before .args .table .now) (c .before .before .before .before .before .before .loop .index) (c .before .before .before .before .before .before .loop .at) (c .before .before .before .before .before .before .loop .count) (c .before .before .before .before .before .before .loop .inv .0) (c .before .before .before .before .before .loop-test .taken) (c .before .before .measure .result) (c .if2 .index) ((measured (c .before .before .before .before .before .before .before .before .args .table .now) (c .before .before .before .before .before .before .loop .at) (c .before .before .measure .result) (c .before .before .measure .ensures)) .good (omega (arith, c .before .if1 .left))) ((measured (c .before .before .before .before .before .before .before .before .args .table .now) (c .before .before .before .before .before .before .loop .at) (c .before .before .measure .result) (c .before .before .measure .ensures)) .long (omega (arith, c .before .if1 .left)))
+  (cutting-more (c .before .before .before .before .before .before .before .before .args .table .now) (c .before .before .before .before .before .before .loop .index) (c .before .before .before .before .before .before .loop .at) (c .before .before .before .before .before .before .loop .count) (c .before .before .before .before .before .before .loop .inv .0) (c .before .before .before .before .before .loop-test .taken) (c .before .before .measure .result) (c .if2 .index) ((measured (c .before .before .before .before .before .before .before .before .args .table .now) (c .before .before .before .before .before .before .loop .at) (c .before .before .measure .result) (c .before .before .measure .ensures)) .good (omega (arith, c .before .if1 .left))) ((measured (c .before .before .before .before .before .before .before .before .args .table .now) (c .before .before .before .before .before .before .loop .at) (c .before .before .measure .result) (c .before .before .measure .ensures)) .long (omega (arith, c .before .if1 .left)))
       (⊎-elim (λ w. noted (c .before .before .before .before .before .before .loop .index) (c .if2 .index) (c .before .before .before .before .before .before .loop .count) (c .before .before .before .before .before .before .loop .at) (c .before .before .before .before .before .before .loop .inv .0 .long) (w .1)) (λ w. not-noted (c .before .before .before .before .before .before .loop .index) (c .if2 .index) (c .before .before .before .before .before .before .loop .count) (c .before .before .before .before .before .before .loop .at) (c .before .before .before .before .before .before .loop .inv .0 .long) (w .1) (w .0 .left)) (c .if2 .came))),
   c .before .before .before .before .before .before .loop .inv .1,
 )
 
 returns-2 : tie.Need-returns-2 Inv-loop μ-loop
-returns-2 c = turn-end (c .before .before .before .args .table .now) (c .before .loop .index) (c .before .loop .at) (c .before .loop .count) (c .before .loop .inv .0) (c .loop-test .left)
+returns-2 c = cutting-end (c .before .before .before .args .table .now) (c .before .loop .index) (c .before .loop .at) (c .before .loop .count) (c .before .loop .inv .0) (c .loop-test .left)
 
 pub cut-spec : {M : Type 1} → statement M
 cut-spec =

@@ -1,5 +1,5 @@
 -- Fields stand from the fifth byte on.
-use Rattle.tables.proofs.Stand.{byte-at, part-long, in-index, four, field-within, field-is}
+use Rattle.tables.proofs.Stand.{field-byte, rest-long, in-index, four-there, field-within, field-is}
 use lib.ListN.{getD}
 use Prim.Native.Nat.{_+_}
 use native.Mathlib.Omega.{arith}
@@ -12,10 +12,10 @@ place-requires : tie.Need-place-requires
 place-requires c κs = in-index (c .before .args .table .now) (c .before .args .index .now) (c .before .args .r) (c .before .pre .here)
 
 sub-byte-of : tie.Need-sub-byte-of
-sub-byte-of c = omega (arith, four (c .before .before .args .table .now) (c .before .before .args .index .now) (c .before .before .args .r) (c .before .before .pre .here), c .place .ensures)
+sub-byte-of c = omega (arith, four-there (c .before .before .args .table .now) (c .before .before .args .index .now) (c .before .before .args .r) (c .before .before .pre .here), c .place .ensures)
 
 part-byte-of-start : tie.Need-part-byte-of-start
-part-byte-of-start c = omega (arith, four (c .before .before .args .table .now) (c .before .before .args .index .now) (c .before .before .args .r) (c .before .before .pre .here), c .place .ensures)
+part-byte-of-start c = omega (arith, four-there (c .before .before .args .table .now) (c .before .before .args .index .now) (c .before .before .args .r) (c .before .before .pre .here), c .place .ensures)
 
 part-byte-of-end : tie.Need-part-byte-of-end
 part-byte-of-end c = search needs
@@ -24,10 +24,10 @@ add-byte-of : tie.Need-add-byte-of
 add-byte-of c = omega (arith, field-within (c .before .before .before .args .table .now) (c .before .before .before .args .index .now) (c .before .before .before .args .r) (c .before .before .before .pre .here) (c .before .before .before .args .i) (c .before .before .before .pre .has))
 
 byte-of-requires : tie.Need-byte-of-requires
-byte-of-requires c κs = omega (arith, field-within (c .before .before .before .args .table .now) (c .before .before .before .args .index .now) (c .before .before .before .args .r) (c .before .before .before .pre .here) (c .before .before .before .args .i) (c .before .before .before .pre .has), c .before .place .ensures, part-long (c .before .before .before .args .table .now) (c .before .place .result))
+byte-of-requires c κs = omega (arith, field-within (c .before .before .before .args .table .now) (c .before .before .before .args .index .now) (c .before .before .before .args .r) (c .before .before .before .pre .here) (c .before .before .before .args .i) (c .before .before .before .pre .has), c .before .place .ensures, rest-long (c .before .before .before .args .table .now) (c .before .place .result))
 
 returns : tie.Need-returns
-returns c = (c .byte-of .ensures .0 ∙ byte-at (c .before .before .before .before .args .table .now) (c .before .before .place .result) (getD (c .before .before .before .before .args .index .now) (c .before .before .before .before .args .r) 0) (4 + c .before .before .before .before .args .i) (c .before .before .place .ensures) ∙ field-is (c .before .before .before .before .args .table .now) (c .before .before .before .before .args .index .now) (c .before .before .before .before .args .r) (c .before .before .before .before .pre .here) (c .before .before .before .before .args .i) (c .before .before .before .before .pre .has), c .byte-of .ensures .1)
+returns c = (c .byte-of .ensures .0 ∙ field-byte (c .before .before .before .before .args .table .now) (c .before .before .place .result) (getD (c .before .before .before .before .args .index .now) (c .before .before .before .before .args .r) 0) (4 + c .before .before .before .before .args .i) (c .before .before .place .ensures) ∙ field-is (c .before .before .before .before .args .table .now) (c .before .before .before .before .args .index .now) (c .before .before .before .before .args .r) (c .before .before .before .before .pre .here) (c .before .before .before .before .args .i) (c .before .before .before .before .pre .has), c .byte-of .ensures .1)
 
 pub field-spec : {M : Type 1} → statement M
 field-spec =

@@ -1,5 +1,5 @@
 -- The integer is the four fields.
-use Rattle.tables.proofs.Stand.{part-long, in-index, four, field-within, integer-is}
+use Rattle.tables.proofs.Stand.{rest-long, in-index, four-there, field-within, integer-is}
 use mir.Facts.{toZ-ofZ}
 use native.Mathlib.Omega.{arith}
 use mathlib.Core.Path.{_∙_}
@@ -11,16 +11,16 @@ place-requires : tie.Need-place-requires
 place-requires c κs = in-index (c .before .args .table .now) (c .before .args .index .now) (c .before .args .r) (c .before .pre .here)
 
 sub-read32 : tie.Need-sub-read32
-sub-read32 c = omega (arith, four (c .before .before .args .table .now) (c .before .before .args .index .now) (c .before .before .args .r) (c .before .before .pre .here), c .place .ensures)
+sub-read32 c = omega (arith, four-there (c .before .before .args .table .now) (c .before .before .args .index .now) (c .before .before .args .r) (c .before .before .pre .here), c .place .ensures)
 
 part-read32-start : tie.Need-part-read32-start
-part-read32-start c = omega (arith, four (c .before .before .args .table .now) (c .before .before .args .index .now) (c .before .before .args .r) (c .before .before .pre .here), c .place .ensures)
+part-read32-start c = omega (arith, four-there (c .before .before .args .table .now) (c .before .before .args .index .now) (c .before .before .args .r) (c .before .before .pre .here), c .place .ensures)
 
 part-read32-end : tie.Need-part-read32-end
 part-read32-end c = search needs
 
 read32-requires : tie.Need-read32-requires
-read32-requires c κs = omega (arith, field-within (c .before .before .before .args .table .now) (c .before .before .before .args .index .now) (c .before .before .before .args .r) (c .before .before .before .pre .here) 3 (c .before .before .before .pre .has), c .before .place .ensures, part-long (c .before .before .before .args .table .now) (c .before .place .result))
+read32-requires c κs = omega (arith, field-within (c .before .before .before .args .table .now) (c .before .before .before .args .index .now) (c .before .before .before .args .r) (c .before .before .before .pre .here) 3 (c .before .before .before .pre .has), c .before .place .ensures, rest-long (c .before .before .before .args .table .now) (c .before .place .result))
 
 returns : tie.Need-returns
 returns c = toZ-ofZ (record { sfits = c .read32 .ok }) ∙ c .read32 .ensures ∙ integer-is (c .before .before .before .before .args .table .now) (c .before .before .before .before .args .index .now) (c .before .before .before .before .args .r) (c .before .before .before .before .pre .here) (c .before .before .place .result) (c .before .before .place .ensures) (c .before .before .before .before .pre .has)

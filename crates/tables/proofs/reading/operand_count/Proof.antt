@@ -1,7 +1,7 @@
 -- The length less what stands before the operands.
 use Rattle.tables.specs.Shapes.{firstOf}
 use Rattle.tables.proofs.Fit.{plus-zero}
-use Rattle.tables.proofs.Stand.{byte-at, part-long, in-index, four, count-is, count-few}
+use Rattle.tables.proofs.Stand.{field-byte, rest-long, in-index, four-there, count-is, stand-count-few}
 use lib.ListN.{length, getD}
 use Rattle.tables.specs.Record.{named}
 use Rattle.tables.specs.Table.{recordAt}
@@ -17,16 +17,16 @@ place-requires : tie.Need-place-requires
 place-requires c κs = in-index (c .before .args .table .now) (c .before .args .index .now) (c .before .args .r) (c .before .pre)
 
 sub-byte-of : tie.Need-sub-byte-of
-sub-byte-of c = omega (arith, four (c .before .before .args .table .now) (c .before .before .args .index .now) (c .before .before .args .r) (c .before .before .pre), c .place .ensures)
+sub-byte-of c = omega (arith, four-there (c .before .before .args .table .now) (c .before .before .args .index .now) (c .before .before .args .r) (c .before .before .pre), c .place .ensures)
 
 part-byte-of-start : tie.Need-part-byte-of-start
-part-byte-of-start c = omega (arith, four (c .before .before .args .table .now) (c .before .before .args .index .now) (c .before .before .args .r) (c .before .before .pre), c .place .ensures)
+part-byte-of-start c = omega (arith, four-there (c .before .before .args .table .now) (c .before .before .args .index .now) (c .before .before .args .r) (c .before .before .pre), c .place .ensures)
 
 part-byte-of-end : tie.Need-part-byte-of-end
 part-byte-of-end c = search needs
 
 byte-of-requires : tie.Need-byte-of-requires
-byte-of-requires c κs = omega (arith, four (c .before .before .before .args .table .now) (c .before .before .before .args .index .now) (c .before .before .before .args .r) (c .before .before .before .pre), c .before .place .ensures, part-long (c .before .before .before .args .table .now) (c .before .place .result))
+byte-of-requires c κs = omega (arith, four-there (c .before .before .before .args .table .now) (c .before .before .before .args .index .now) (c .before .before .before .args .r) (c .before .before .before .pre), c .before .place .ensures, rest-long (c .before .before .before .args .table .now) (c .before .place .result))
 
 kind-requires : tie.Need-kind-requires
 kind-requires c κs = c .before .before .before .before .pre
@@ -35,10 +35,10 @@ first-operand-requires : tie.Need-first-operand-requires
 first-operand-requires c κs = c .kind .ensures .1
 
 sub-result : tie.Need-sub-result
-sub-result c = omega (arith, (c .before .before .byte-of .ensures .0 ∙ byte-at (c .before .before .before .before .before .before .args .table .now) (c .before .before .before .before .place .result) (getD (c .before .before .before .before .before .before .args .index .now) (c .before .before .before .before .before .before .args .r) 0) 0 (c .before .before .before .before .place .ensures) ∙ ap (λ (k : ℕ). getD (c .before .before .before .before .before .before .args .table .now) k 0) (plus-zero (getD (c .before .before .before .before .before .before .args .index .now) (c .before .before .before .before .before .before .args .r) 0)) ∙ count-is (c .before .before .before .before .before .before .args .table .now) (c .before .before .before .before .before .before .args .index .now) (c .before .before .before .before .before .before .args .r) (c .before .before .before .before .before .before .pre)), (c .first-operand .ensures .0 ∙ ap firstOf (c .before .kind .ensures .0)))
+sub-result c = omega (arith, (c .before .before .byte-of .ensures .0 ∙ field-byte (c .before .before .before .before .before .before .args .table .now) (c .before .before .before .before .place .result) (getD (c .before .before .before .before .before .before .args .index .now) (c .before .before .before .before .before .before .args .r) 0) 0 (c .before .before .before .before .place .ensures) ∙ ap (λ (k : ℕ). getD (c .before .before .before .before .before .before .args .table .now) k 0) (plus-zero (getD (c .before .before .before .before .before .before .args .index .now) (c .before .before .before .before .before .before .args .r) 0)) ∙ count-is (c .before .before .before .before .before .before .args .table .now) (c .before .before .before .before .before .before .args .index .now) (c .before .before .before .before .before .before .args .r) (c .before .before .before .before .before .before .pre)), (c .first-operand .ensures .0 ∙ ap firstOf (c .before .kind .ensures .0)))
 
 returns : tie.Need-returns
-returns c = let is : c .before .before .byte-of .result - c .first-operand .result ≡ length (named (recordAt (records (c .before .before .before .before .before .before .args .table .now)) (c .before .before .before .before .before .before .args .r))) = omega (arith, (c .before .before .byte-of .ensures .0 ∙ byte-at (c .before .before .before .before .before .before .args .table .now) (c .before .before .before .before .place .result) (getD (c .before .before .before .before .before .before .args .index .now) (c .before .before .before .before .before .before .args .r) 0) 0 (c .before .before .before .before .place .ensures) ∙ ap (λ (k : ℕ). getD (c .before .before .before .before .before .before .args .table .now) k 0) (plus-zero (getD (c .before .before .before .before .before .before .args .index .now) (c .before .before .before .before .before .before .args .r) 0)) ∙ count-is (c .before .before .before .before .before .before .args .table .now) (c .before .before .before .before .before .before .args .index .now) (c .before .before .before .before .before .before .args .r) (c .before .before .before .before .before .before .pre)), (c .first-operand .ensures .0 ∙ ap firstOf (c .before .kind .ensures .0))) in (is, omega (arith, is, count-few (c .before .before .before .before .before .before .args .table .now) (c .before .before .before .before .before .before .args .index .now) (c .before .before .before .before .before .before .args .r) (c .before .before .before .before .before .before .pre)))
+returns c = let is : c .before .before .byte-of .result - c .first-operand .result ≡ length (named (recordAt (records (c .before .before .before .before .before .before .args .table .now)) (c .before .before .before .before .before .before .args .r))) = omega (arith, (c .before .before .byte-of .ensures .0 ∙ field-byte (c .before .before .before .before .before .before .args .table .now) (c .before .before .before .before .place .result) (getD (c .before .before .before .before .before .before .args .index .now) (c .before .before .before .before .before .before .args .r) 0) 0 (c .before .before .before .before .place .ensures) ∙ ap (λ (k : ℕ). getD (c .before .before .before .before .before .before .args .table .now) k 0) (plus-zero (getD (c .before .before .before .before .before .before .args .index .now) (c .before .before .before .before .before .before .args .r) 0)) ∙ count-is (c .before .before .before .before .before .before .args .table .now) (c .before .before .before .before .before .before .args .index .now) (c .before .before .before .before .before .before .args .r) (c .before .before .before .before .before .before .pre)), (c .first-operand .ensures .0 ∙ ap firstOf (c .before .kind .ensures .0))) in (is, omega (arith, is, stand-count-few (c .before .before .before .before .before .before .args .table .now) (c .before .before .before .before .before .before .args .index .now) (c .before .before .before .before .before .before .args .r) (c .before .before .before .before .before .before .pre)))
 
 pub operand-count-spec : {M : Type 1} → statement M
 operand-count-spec =

@@ -1,7 +1,7 @@
 -- `shaped` meets its contract.
 use Rattle.values.specs.Value.{set, sequence, map, tuple}
 use Rattle.values.proofs.Telling.{tells-true}
-use Rattle.values.proofs.Shapes.{shaped-as, shaped-off, tuple-few, tuple-most}
+use Rattle.values.proofs.Shapes.{shaped-as, shaped-off, tuple-count-few, tuple-most}
 use borrow.Author.Needs.{needs}
 use Rattle.values.proofs.validity.shaped.Statement.{statement}
 use Rattle.values.proofs.validity.shaped.Tie as tie
@@ -25,7 +25,7 @@ count-requires : tie.Need-count-requires
 count-requires c κs = search needs
 
 returns-4 : tie.Need-returns-4
-returns-4 c = shaped-as tuple (c .before .before .if4 .taken) (tuple-few (c .before .count .ensures) (c .if5 .taken))
+returns-4 c = shaped-as tuple (c .before .before .if4 .taken) (tuple-count-few (c .before .count .ensures) (c .if5 .taken))
 
 returns-5 : tie.Need-returns-5
 returns-5 c = shaped-as tuple (c .before .before .if4 .taken) (tuple-most (c .before .count .ensures) (c .if5 .left))
