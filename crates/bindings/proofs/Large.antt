@@ -1,14 +1,14 @@
 -- The loop over the members for a set too large to split.
 use mathlib.Core.Path.{_≡_, refl, sym, ap, subst, _∙_}
-use mathlib.Core.Bool.{Bool, true, false, _||_}
+use mathlib.Core.Bool.{Bool, true, false, _||_, cond}
 use mathlib.Core.Logic.{inl}
 use mathlib.Core.List.{List, [], _∷_}
 use Prim.Native.Nat.{ℕ, _+_, _≤_, _<_}
 use lib.ListN.{length}
 use Rattle.integers.specs.Bytes.{word}
-use Rattle.values.specs.Value.{Value}
+use Rattle.values.specs.Value.{Value, size}
 use Rattle.values.specs.Place.{ItemsAt, Holds, HoldsItems}
-use Rattle.values.proofs.Records.{holds, items-of, word-size}
+use Rattle.values.proofs.Records.{holds, items-of, word-size, one-item}
 use Rattle.tables.specs.Accepted.{records}
 use Rattle.parts.specs.Part.{PartIs, PartHeld}
 use Rattle.patterns.specs.Ways.{exists}
@@ -93,6 +93,14 @@ module _ (s : List ℕ) (at : ℕ) where
 
   pub members-at : (vs : List Value) (n : ℕ) → n ≡ word s at → Values s at false vs → ItemsAt s (at + 4) (at + n) (itemsOf vs)
   members-at vs n q i = subst (λ (k : ℕ). ItemsAt s (at + 4) (at + k) (itemsOf vs)) (sym (q ∙ word-size i)) (items-of i)
+
+  -- The value at a place, or the members of the set there, stand one after the other.
+  pub values-at : (t : Bool) (vs : List Value) (n from : ℕ) → n ≡ word s at → from ≡ cond t at (at + 4) → Values s at t vs → ItemsAt s from (at + n) (itemsOf vs)
+  unfolding itemsOf
+  values-at true vs n from q e (v, i, f) =
+      let z : n ≡ size v = q ∙ word-size i in
+      rw f (subst (λ (k : ℕ). ItemsAt s k (at + n) (itemsOf (v ∷ []))) (sym e) (subst (λ (k : ℕ). ItemsAt s at (at + k) (itemsOf (v ∷ []))) (sym z) (one-item i)))
+  values-at false vs n from q e i = subst (λ (k : ℕ). ItemsAt s k (at + n) (itemsOf vs)) (sym e) (members-at vs n q i)
 
   pub members-held : (t : Bool) → t ≡ false → Bindable s at t → (n : ℕ) → n ≡ word s at → HoldsItems s (at + 4) (at + n)
   members-held true e h n q = true-false e

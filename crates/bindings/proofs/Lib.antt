@@ -5,3 +5,4 @@ mod Room
 mod Telling
 mod Writing
 mod Windows
+mod Wildcard

@@ -17,7 +17,7 @@ use Rattle.prelude.specs.Membership.{In}
 use Rattle.integers.specs.Bytes.{bits32, word}
 use Rattle.values.specs.Value.{Value, boolean, collection, set, size}
 use Rattle.values.specs.Place.{At, ItemsAt, Holds, HoldsItems, Outside}
-use Rattle.values.proofs.Records.{holds, word-size, one-item}
+use Rattle.values.proofs.Records.{holds, word-size}
 use Rattle.values.proofs.Frame.{kept}
 use Rattle.tables.specs.Record.{Record, named as operandsOf, nameOf, shape, isKnown, size as sizeOf}
 use Rattle.tables.specs.Table.{recordAt, kindAt}
@@ -54,7 +54,7 @@ use Rattle.bindings.specs.Window.{window, CellAt, past, CellsAt, placeOf
 use Rattle.bindings.specs.Laws.Window.{cells-end}
 use Rattle.bindings.specs.Filling.{rowWords, bit, maskOf, filled, WordAt, WordsAt, RowHeld, NamesAre, FillHeld, Filled, OneName, MembersHeld, MemberAt, MembersPut}
 use Rattle.bindings.specs.Opening.{PlainHeld, PlainOpened, CursorHeld, CursorOver, LentFrom, FormedFrom}
-use Rattle.bindings.proofs.Large.{members-at}
+use Rattle.bindings.proofs.Large.{values-at}
 use Rattle.bindings.proofs.Writing.{mask-cons, filled-cons, mask-half, odd-some, odd-none, row-length, row-at, outside-wider}
 
 -- ---- the words of a row stand for its cells
@@ -300,7 +300,7 @@ reach-there table p s at whole to c k h l m = record {
 -- ---- a plain name
 
 module _ (u t : List ℕ) where
-  frees : (at : ℕ) (n : ℕ) → CellsAt u t at at 0 (replicate n free)
+  pub frees : (at : ℕ) (n : ℕ) → CellsAt u t at at 0 (replicate n free)
   frees at zero = (refl, omega arith)
   frees at (suc n) = (refl, frees at n)
 
@@ -334,20 +334,16 @@ module _ (s : List ℕ) (at : ℕ) (whole : Bool) (to x : ℕ) (h : PlainHeld s 
   word-same = let (v, i) = plain-here in word-size (kept {base = to} (sym (take-take to to s (omega arith))) (omega (arith, h .room)) (omega (arith, i .fits, taken)) i) ∙ sym (word-size i)
 
   module _ (n : ℕ) (q : n ≡ word s at) (from : ℕ) (d : from ≡ cond whole at (at + 4)) where
-    items-there : (w : Bool) → from ≡ cond w at (at + 4) → (vs : List Value) → Values (take to s) at w vs → ItemsAt (take to s) from (at + n) (itemsOf vs)
-    unfolding itemsOf
-    items-there true e vs (v, i, f) =
-        let z : n ≡ size v = q ∙ word-same ∙ word-size i in
-        rw f (subst (λ (k : ℕ). ItemsAt (take to s) k (at + n) (itemsOf (v ∷ []))) (sym e) (subst (λ (k : ℕ). ItemsAt (take to s) at (at + k) (itemsOf (v ∷ []))) (sym z) (one-item i)))
-    items-there false e vs i = subst (λ (k : ℕ). ItemsAt (take to s) k (at + n) (itemsOf vs)) (sym e) (members-at (take to s) at vs n (q ∙ word-same) i)
+    items-there : (vs : List Value) → Values (take to s) at whole vs → ItemsAt (take to s) from (at + n) (itemsOf vs)
+    items-there vs i = values-at (take to s) at whole vs n from (q ∙ word-same) d i
 
     pub plain-asked : MembersHeld s to from (at + n)
-    plain-asked = record { items = (itemsOf (h .bindable .0), items-there whole d (h .bindable .0) (h .bindable .1)); room = h .room; short = h .short }
+    plain-asked = record { items = (itemsOf (h .bindable .0), items-there (h .bindable .0) (h .bindable .1)); room = h .room; short = h .short }
 
     pub plain-told : (t : List ℕ) (mask count : ℕ) → OneName x mask → MembersPut s t to from (at + n) count → PlainOpened s t at whole to x (record { count = count; names = mask; width = 1; from = 0 })
     plain-told t mask count o m = record {
       outside = m .outside;
-      right = λ vs i. window vs (m .right vs (items-there whole d vs i));
+      right = λ vs i. window vs (m .right vs (items-there vs i));
       starts = refl;
     }
       where

@@ -1,7 +1,7 @@
--- A window opened for a plain name, and the cursor over rows: what the functions ask and promise each other.
+-- A window opened for a plain name or for `-`, and the cursor over rows: what the functions ask and promise each other.
 use mathlib.Core.Path.{_≡_}
 use mathlib.Core.Bool.{Bool}
-use mathlib.Core.List.{List, map}
+use mathlib.Core.List.{List, [], _∷_, map}
 use Prim.Native.Nat.{ℕ, _+_, _≤_, _<_}
 use lib.ListN.{length, getD, take}
 use Rattle.values.specs.Value.{Value}
@@ -25,6 +25,14 @@ pub record PlainOpened (s t : List ℕ) (at : ℕ) (whole : Bool) (to x : ℕ) (
   pub outside : Outside s t to (to + window)
   pub right : (vs : List Value) → Values (take to s) at whole vs → Windowed t to r (map (only x) vs)
   pub starts : r .from ≡ 0
+
+-- One binding without names over any values, none over none.
+abbrev pub anyCount : List Value → ℕ
+anyCount [] = 0
+anyCount (v ∷ vs) = 1
+
+abbrev pub AnyOpened : List ℕ → ℕ → Bool → Cursor → Type 0
+AnyOpened s at whole r = (vs : List Value) → Values s at whole vs → r ≡ record { count = anyCount vs; names = 0; width = 0; from = 0 }
 
 pub record CursorHeld (rows order : List ℕ) (n k : ℕ) : Type 0 where
   pub wide : length rows ≡ 4080

@@ -12,8 +12,8 @@ ghost use Prim.Native.Nat.{_+_, _<_, _≤_};
 ghost use lib.ListN.{length};
 ghost use Rattle.integers.specs.Bytes.{bits32};
 ghost use Rattle.patterns.specs.Read.{Readable};
-ghost use Rattle.bindings.specs.Window.{Lent, OpenedAs, Reachable, Reached, Underneath, UnderBinding};
-ghost use Rattle.bindings.specs.Opening.{PlainHeld, PlainOpened, CursorHeld, CursorOver, LentFrom, FormedFrom};
+ghost use Rattle.bindings.specs.Window.{Bindable, Lent, OpenedAs, Reachable, Reached, Underneath, UnderBinding};
+ghost use Rattle.bindings.specs.Opening.{PlainHeld, PlainOpened, AnyOpened, CursorHeld, CursorOver, LentFrom, FormedFrom};
 
 // How many bindings there are; the names that they give values, as a mask, and how many these are; and the first binding in the window.
 pub struct Cursor {
@@ -61,6 +61,29 @@ fn open_plain(s: &mut [u8], at: usize, whole: bool, to: usize, x: usize) -> Curs
     }
 }
 
+// `-`, over the value at a place or the members of the set there: one binding without names, or none where there is no member. Nothing is formed.
+fn open_any(s: &[u8], at: usize, whole: bool) -> Cursor
+    requires { ⌜ Bindable (now s) at whole × (length (now s) ≤ 65536) ⌝ }
+    ensures { λ r. ⌜ AnyOpened (now (s .entry)) at whole r ⌝ }
+{
+    let n = values::length_of(s, at);
+    let from = forms::first_at(at, whole);
+    if from < at + n {
+        return Cursor {
+            count: 1,
+            names: 0,
+            width: 0,
+            from: 0,
+        };
+    }
+    Cursor {
+        count: 0,
+        names: 0,
+        width: 0,
+        from: 0,
+    }
+}
+
 // The cursor over n rows, at binding k.
 fn cursor_over(rows: &[u32; 4080], order: &[u8; 255], n: usize, k: usize) -> Cursor
     requires { ⌜ CursorHeld (now rows) (now order) n k ⌝ }
@@ -103,6 +126,10 @@ pub fn open(
     if kind == kinds::NAME_PATTERN {
         let x = tables::reading::field(table, index, p, 0);
         let c = open_plain(s, at, whole, to, x);
+        return Opened::Bound(c);
+    }
+    if kind == kinds::ANY_PATTERN {
+        let c = open_any(s, at, whole);
         return Opened::Bound(c);
     }
     form_from(table, index, p, s, at, whole, to, 0)

@@ -11,7 +11,7 @@ use Rattle.tables.specs.declared.Checked.the-variants.{Accepted, Refused}
 use Rattle.tables.specs.Record.{Record}
 use Rattle.tables.specs.Sheet.{lowest}
 use Rattle.tables.specs.Check.{mostBytes, mostRecords, fault6, fault7, fault8, fault9, judged, judgedCut, check}
-use Rattle.prelude.proofs.Absurd.{never}
+use Rattle.prelude.proofs.Absurd.{impossible, never}
 use Rattle.prelude.proofs.Truth.{by-lower}
 use Rattle.tables.specs.Laws.Tests.{low}
 use Rattle.tables.specs.Accepted.{records}
@@ -19,6 +19,7 @@ use Rattle.tables.specs.Laws.Accepted.{Clear6, some-cut}
 use Rattle.tables.specs.Reading.{Indexed, CutOut}
 use Rattle.tables.specs.declared.reading.Cutting.{Cutting}
 use Rattle.checking.specs.declared.sweep.Swept.{Swept}
+use Rattle.checking.specs.Answer.{Checks}
 use Rattle.checking.specs.Sweeps.{Settled}
 
 -- ---- rules 6 to 9
@@ -82,6 +83,10 @@ module _ (rs : List Record) (n : ℕ) (all : n ≡ length rs) (s : Swept) (kept 
       (none-low (fault8 rs) (kept .clear8)) (s .low) low-is
 
 -- ---- rules 3 to 5
+
+-- A table that is refused needs no index.
+pub refused-checks : (table index : List ℕ) (n r : ℕ) → Refused n r ≡ check table → Checks table index (Refused n r)
+refused-checks table index n r e = record { answer = e; indexed = λ m q. impossible (cc (q)) }
 
 module _ (table : List ℕ) where
   pub refused-empty : length table ≡ 0 → Refused 3 0 ≡ check table

@@ -3,3 +3,4 @@ pub mod Naming
 pub mod Scopes
 pub mod Heights
 pub mod Sweeps
+pub mod Answer

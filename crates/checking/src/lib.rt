@@ -1,9 +1,11 @@
 // The check of a table: document 01's rules 3 to 9. One pass settles most tables; each rule has its own passes where that one finds a fault.
 ghost use mathlib.Core.Path.{_≡_};
 ghost use Prim.Native.Nat.{_<_};
-ghost use Rattle.tables.specs.Check.{check as checkOf, judged};
+ghost use lib.ListN.{length};
+ghost use Rattle.tables.specs.Check.{mostRecords, judged};
 ghost use Rattle.tables.specs.Accepted.{records};
 ghost use Rattle.checking.specs.Naming.{Whole};
+ghost use Rattle.checking.specs.Answer.{Checks};
 use height::lowest9;
 use naming::lowest6;
 use scope::lowest78;
@@ -62,9 +64,11 @@ fn judge(table: &[u8], index: &Index, count: usize) -> Checked
     Checked::Accepted(count)
 }
 
-// The check of a table, whatever its bytes: the number of records, or the first rule broken and the lowest record at fault.
-pub fn check(table: &[u8]) -> Checked
-    ensures { λ a. ⌜ a ≡ checkOf (now (table .entry)) ⌝ }
+// The check of a table, whatever its bytes: the number of records, or the first rule broken and the lowest record at fault. It fills the index,
+// which finds all records of a table that is accepted.
+pub fn check(table: &[u8], index: &mut Index) -> Checked
+    requires { ⌜ length (now index) ≡ mostRecords ⌝ }
+    ensures { λ a. ⌜ Checks (now (table .entry)) (now (index .exit)) a ⌝ }
 {
     if table.len() == 0 {
         return Checked::Refused(3, 0);
@@ -72,8 +76,7 @@ pub fn check(table: &[u8]) -> Checked
     if MOST_BYTES < table.len() {
         return Checked::Refused(3, 0);
     }
-    let mut index = [0u16; MOST_RECORDS];
-    let c = cut(table, &mut index);
+    let c = cut(table, index);
     let count = c.count;
     let whole = c.whole;
     if !whole {
@@ -82,5 +85,5 @@ pub fn check(table: &[u8]) -> Checked
     if MOST_RECORDS < count {
         return Checked::Refused(5, MOST_RECORDS);
     }
-    judge(table, &index, count)
+    judge(table, index, count)
 }

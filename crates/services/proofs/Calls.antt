@@ -30,7 +30,8 @@ use Rattle.meaning.specs.Laws.Services.{evaluates-1, evaluates-2, evaluates-ref
 use Rattle.walks.specs.declared.Stepped.{Stepped}
 use Rattle.evaluator.specs.declared.Outcome.{Outcome}
 use Rattle.evaluator.specs.declared.Outcome.the-variants.{Value as HasValue, Refused}
-use Rattle.walks.specs.Steps.{Ready, Small, packedOf, Ran, Answers, lentOf, Steppable, Steps, outcomeAs}
+use Rattle.tables.specs.Reading.{Indexed}
+use Rattle.walks.specs.Steps.{Ready, Indexes, Small, packedOf, Ran, Answers, lentOf, Steppable, Steps, outcomeAs}
 use Rattle.walks.proofs.Settling.{small-final}
 use Rattle.services.specs.Left.{Accepts, Loaded, walkOf, stored, Left, Evaluated, Valued, Handed}
 
@@ -60,6 +61,9 @@ zeroed-same s t e = ap (λ (x : List ℕ). replicate scratchBytes 0 ++ x) e
 module _ (table s : List ℕ) (n : ℕ) (ok : check table ≡ Accepted n) (enough : scratchBytes ≤ length s) where
   pub ready : Ready table (take scratchBytes s)
   ready = record { count = n; ok = ok; room = length-take-le scratchBytes s enough }
+
+  pub indexes : (index : List ℕ) → Indexed table index → Indexes table index n (take scratchBytes s)
+  indexes index i = record { ok = ok; room = length-take-le scratchBytes s enough; indexed = i }
 
 -- ---- evaluate
 

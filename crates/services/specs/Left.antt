@@ -35,8 +35,7 @@ abbrev pub stored : Held → List ℕ → Walk
 stored w entries = record { entries = w .entries ++ drop mostChoices entries; len = w .len }
 
 -- An accepted table and enough scratch.
-pub record Accepts (table scratch : List ℕ) : Type 0 where
-  pub count : ℕ
+pub record Accepts (table : List ℕ) (count : ℕ) (scratch : List ℕ) : Type 0 where
   pub ok : check table ≡ Accepted count
   pub enough : scratchBytes ≤ length scratch
 

@@ -9,11 +9,14 @@ ghost use Rattle.meaning.specs.Answer.{packed, recordCount};
 ghost use Rattle.meaning.specs.Service.{scratchBytes, accepted, evaluates, firsts, steps};
 ghost use Rattle.meaning.specs.Lent.{zeroed, checkCall, evaluateCall, firstCall, stepCall};
 ghost use Rattle.meaning.specs.Laws.ReadBack.{SmallCheck};
+ghost use Rattle.tables.specs.Reading.{Indexed};
 ghost use Rattle.services.specs.Left.{Accepts, Loaded, walkOf, stored, Evaluated, Valued, Handed, Left};
 use checking::check;
 use choices::list::Walk;
 use evaluator::Outcome;
 use tables::Checked;
+use tables::Index;
+use tables::MOST_RECORDS;
 use values::Value;
 use walks::first_walk;
 use walks::pack;
@@ -98,7 +101,8 @@ pub extern "C" fn dengwizo_check(table: &[u8], scratch: &mut [u8]) -> u64
         return pack(SHORT_SCRATCH, 0, 0);
     }
     clear(scratch);
-    answer(check(table))
+    let mut index = [0u16; MOST_RECORDS];
+    answer(check(table, &mut index))
 }
 
 // ---- evaluate
@@ -108,12 +112,13 @@ fn evaluated(table: &[u8], list: &[u8], scratch: &mut [u8]) -> Outcome
     requires { ⌜ scratchBytes ≤ length (now scratch) ⌝ }
     ensures { λ o. ⌜ ((buffer : ℕ) → largest ≤ buffer → Evaluated (evaluates (length (now (scratch .entry))) buffer (now (table .entry)) (now (list .entry))) (now (scratch .entry)) (now (scratch .exit)) o) ⌝ }
 {
-    match check(table) {
+    let mut index = [0u16; MOST_RECORDS];
+    match check(table, &mut index) {
         Checked::Refused(n, r) => Outcome::Refused(n, r, 0),
-        Checked::Accepted(_) => if Walk::LIMIT < list.len() {
+        Checked::Accepted(count) => if Walk::LIMIT < list.len() {
             Outcome::Refused(LONG_LIST, 0, 0)
         } else {
-            run_list(list, table, &mut scratch[..SCRATCH])
+            run_list(list, table, &index, count, &mut scratch[..SCRATCH])
         },
     }
 }
@@ -156,21 +161,28 @@ pub extern "C" fn dengwizo_evaluate(
 // ---- first list and step
 
 // The first list of an accepted table, into a lent walk.
-fn first_accepted(table: &[u8], entries: &mut [u8], len: &mut usize, scratch: &mut [u8]) -> u64
-    requires { ⌜ Accepts (now table) (now scratch) ⌝ }
+fn first_accepted(
+    table: &[u8],
+    index: &Index,
+    count: usize,
+    entries: &mut [u8],
+    len: &mut usize,
+    scratch: &mut [u8],
+) -> u64
+    requires { ⌜ Accepts (now table) count (now scratch) × Indexed (now table) (now index) ⌝ }
     ensures { λ a. ⌜ Left (firsts (length (now (scratch .entry))) (now (table .entry)) (walkOf (now (entries .entry)) (now (len .entry)))) (walkOf (now (entries .entry)) (now (len .entry))) (now (scratch .entry)) (record { answer = a; scratch = now (scratch .exit); walk = walkOf (now (entries .exit)) (now (len .exit)) }) ⌝ }
 {
     if entries.len() < Walk::LIMIT {
         return pack(LONG_LIST, 0, 0);
     }
-    let walk = first_walk(table, &mut scratch[..SCRATCH]);
+    let walk = first_walk(table, index, count, &mut scratch[..SCRATCH]);
     store(walk, entries, len);
     pack(0, 0, 0)
 }
 
 // The step of a lent walk, of an accepted table.
 fn step_accepted(table: &[u8], entries: &mut [u8], len: &mut usize, scratch: &mut [u8]) -> u64
-    requires { ⌜ Accepts (now table) (now scratch) ⌝ }
+    requires { ⌜ ((n : ℕ) × Accepts (now table) n (now scratch)) ⌝ }
     ensures { λ a. ⌜ Left (steps (length (now (scratch .entry))) (now (table .entry)) (walkOf (now (entries .entry)) (now (len .entry)))) (walkOf (now (entries .entry)) (now (len .entry))) (now (scratch .entry)) (record { answer = a; scratch = now (scratch .exit); walk = walkOf (now (entries .exit)) (now (len .exit)) }) ⌝ }
 {
     let n = *len;
@@ -192,9 +204,10 @@ fn first_checked(table: &[u8], entries: &mut [u8], len: &mut usize, scratch: &mu
     requires { ⌜ scratchBytes ≤ length (now scratch) ⌝ }
     ensures { λ a. ⌜ Left (firsts (length (now (scratch .entry))) (now (table .entry)) (walkOf (now (entries .entry)) (now (len .entry)))) (walkOf (now (entries .entry)) (now (len .entry))) (now (scratch .entry)) (record { answer = a; scratch = now (scratch .exit); walk = walkOf (now (entries .exit)) (now (len .exit)) }) ⌝ }
 {
-    match check(table) {
+    let mut index = [0u16; MOST_RECORDS];
+    match check(table, &mut index) {
         Checked::Refused(n, r) => pack(n, r, 0),
-        Checked::Accepted(_) => first_accepted(table, entries, len, scratch),
+        Checked::Accepted(count) => first_accepted(table, &index, count, entries, len, scratch),
     }
 }
 
@@ -221,7 +234,8 @@ fn step_checked(table: &[u8], entries: &mut [u8], len: &mut usize, scratch: &mut
     requires { ⌜ scratchBytes ≤ length (now scratch) ⌝ }
     ensures { λ a. ⌜ Left (steps (length (now (scratch .entry))) (now (table .entry)) (walkOf (now (entries .entry)) (now (len .entry)))) (walkOf (now (entries .entry)) (now (len .entry))) (now (scratch .entry)) (record { answer = a; scratch = now (scratch .exit); walk = walkOf (now (entries .exit)) (now (len .exit)) }) ⌝ }
 {
-    match check(table) {
+    let mut index = [0u16; MOST_RECORDS];
+    match check(table, &mut index) {
         Checked::Refused(n, r) => pack(n, r, 0),
         Checked::Accepted(_) => step_accepted(table, entries, len, scratch),
     }

@@ -1,6 +1,7 @@
 // The walk program: reads a table from standard input and writes its print to standard output.
 ghost use mathlib.Core.Path.{_≡_};
 ghost use Rattle.tables.specs.Check.{check as checkOf};
+ghost use Rattle.tables.specs.Reading.{Indexed};
 ghost use Rattle.tables.specs.declared.Checked.the-variants.{Accepted, Refused};
 ghost use Rattle.printing.specs.Pieces.{Piece};
 ghost use Rattle.printing.specs.Contract.{Printing};
@@ -18,7 +19,6 @@ use tables::Checked;
 use tables::Index;
 use tables::MOST_BYTES;
 use tables::MOST_RECORDS;
-use tables::reading::cut;
 
 // One byte more than a table may have tells that there are too many.
 const MOST_READ: usize = MOST_BYTES + 1;
@@ -104,23 +104,22 @@ fn print_pieces(
 }
 
 // Prints an accepted table.
-fn print_accepted(table: &[u8], count: usize) -> bool
-    requires { ⌜ checkOf (now table) ≡ Accepted count ⌝ }
+fn print_accepted(table: &[u8], index: &Index, count: usize) -> bool
+    requires { ⌜ (checkOf (now table) ≡ Accepted count) × Indexed (now table) (now index) ⌝ }
 {
-    let mut index = [0u16; MOST_RECORDS];
-    cut(table, &mut index);
     let mut s = io::large_buffer();
     let mut out = io::large_buffer();
     let mut run = start_walk(Walk::empty(), true);
     let begun = begin(count, &mut out);
-    print_pieces(table, &index, count, &mut s, &mut run, &mut out, begun)
+    print_pieces(table, index, count, &mut s, &mut run, &mut out, begun)
 }
 
 // Prints a table, and answers whether all of the print went out.
 fn print_table(table: &[u8]) -> bool {
-    match check(table) {
+    let mut index = [0u16; MOST_RECORDS];
+    match check(table, &mut index) {
         Checked::Refused(n, place) => print_refused(table, n, place),
-        Checked::Accepted(count) => print_accepted(table, count),
+        Checked::Accepted(count) => print_accepted(table, &index, count),
     }
 }
 

@@ -34,7 +34,7 @@ use Rattle.meaning.specs.Service.{tree, last, runs, onward, steppedFrom}
 use Rattle.walks.specs.declared.Stepped.{Stepped}
 use Rattle.evaluator.specs.declared.Outcome.{Outcome}
 use Rattle.evaluator.specs.Sheet.{Runnable as Asked}
-use Rattle.walks.specs.Steps.{Ready, packedOf, isWhole, Ran, lentOf, Answers, AtEnd, Steps, outcomeAs}
+use Rattle.walks.specs.Steps.{Ready, Indexes, packedOf, isWhole, Ran, lentOf, Answers, AtEnd, Steps, outcomeAs}
 use Rattle.walks.proofs.Settling.{sure-tree, Arrived}
 
 -- ---- the index
@@ -55,6 +55,14 @@ module _ (table s : List ℕ) (y : Ready table s) where
 
     pub asked : (n : ℕ) → n ≡ c .count → (d : Choices) → Invariant d → Asked table index n s d
     asked n e d k = record { accepted = is-counted ∙ ap Accepted (sym e); indexed = is-indexed; room = y .room; sound = k }
+
+-- The number of records of a table that is accepted and indexed.
+module _ (table index : List ℕ) (count : ℕ) (s : List ℕ) (y : Indexes table index count s) where
+  pub count-all : count ≡ length (records table)
+  count-all = accepted-fine table count (y .ok) .1
+
+  pub count-some : 0 < count
+  count-some = omega (arith, count-all, accepted-fine table count (y .ok) .0 .some-record)
 
 -- ---- the first list
 

@@ -93,28 +93,22 @@ fn settle(o: Outcome, run: &[u8; RUN], last: usize) -> Outcome
 }
 
 // The run of a list: a value, 20 to 31, or 32, 33 or 34. The value stands at the start of the scratch.
-pub fn run_list(list: &[u8], table: &[u8], s: &mut [u8]) -> Outcome
-    requires { ⌜ Ready (now table) (now s) × (length (now list) ≤ mostChoices) ⌝ }
+pub fn run_list(list: &[u8], table: &[u8], index: &Index, count: usize, s: &mut [u8]) -> Outcome
+    requires { ⌜ Indexes (now table) (now index) count (now s) × (length (now list) ≤ mostChoices) ⌝ }
     ensures { λ o. ⌜ Ran (now (table .entry)) (now (list .entry)) (now (s .exit)) o ⌝ }
 {
-    let mut index = [0u16; MOST_RECORDS];
-    let c = cut(table, &mut index);
-    let count = c.count;
     let mut run = start(list, false);
-    let o = run_sheet(table, &index, count, s, &mut run);
+    let o = run_sheet(table, index, count, s, &mut run);
     settle(o, &run, count - 1)
 }
 
 // The first list of a table: one run that grows from nothing.
-pub fn first_walk(table: &[u8], s: &mut [u8]) -> Walk
-    requires { ⌜ Ready (now table) (now s) ⌝ }
+pub fn first_walk(table: &[u8], index: &Index, count: usize, s: &mut [u8]) -> Walk
+    requires { ⌜ Indexes (now table) (now index) count (now s) ⌝ }
     ensures { λ w. ⌜ Lists w (firstList (tree (now (table .entry)))) × (length (w .entries) ≡ mostChoices) ⌝ }
 {
-    let mut index = [0u16; MOST_RECORDS];
-    let c = cut(table, &mut index);
-    let count = c.count;
     let mut run = start_walk(Walk::empty(), true);
-    run_sheet(table, &index, count, s, &mut run);
+    run_sheet(table, index, count, s, &mut run);
     list_of(&run)
 }
 

@@ -29,15 +29,15 @@ check-requires : tie.Need-check-requires
 check-requires c κs = search needs
 
 answer-requires : tie.Need-answer-requires
-answer-requires c κs = subst SmallCheck (sym (c .check .ensures)) (small-check (c .before .before .before .before .before .before .before .before .args .table .now))
+answer-requires c κs = subst SmallCheck (sym (c .check .ensures .answer)) (small-check (c .before .before .before .before .before .before .before .before .before .args .table .now))
 
 same-length : tie.Need-same-length
 same-length c = search needs
 
 returns-2 : tie.Need-returns-2
 returns-2 c =
-    enough-call (c .before .before .before .before .before .before .before .before .before .args .table .now) (c .before .before .before .before .before .before .before .before .before .args .scratch .now) (c .answer .result) _ (c .before .before .before .before .before .before .if1 .left)
-    (c .answer .ensures ∙ ap (λ (x : Checked). packed recordCount (accepted x (λ n. result n))) (c .before .check .ensures)) (c .before .before .before .before .clear .ensures)
+    enough-call (c .before .before .before .before .before .before .before .before .before .before .args .table .now) (c .before .before .before .before .before .before .before .before .before .before .args .scratch .now) (c .answer .result) _ (c .before .before .before .before .before .before .before .if1 .left)
+    (c .answer .ensures ∙ ap (λ (x : Checked). packed recordCount (accepted x (λ n. result n))) (c .before .check .ensures .answer)) (c .before .before .before .before .before .clear .ensures)
 
 pub dengwizo-check-spec : {M : Type 1} → statement M
 dengwizo-check-spec =

@@ -17,13 +17,13 @@ pack-requires : tie.Need-pack-requires
 pack-requires c κs = search needs
 
 returns : tie.Need-returns
-returns c = step-few (c .before .before .before .before .before .before .args .table .now) (c .before .before .before .before .before .before .args .scratch .now) (walkOf (c .before .before .before .before .before .before .args .entries .now) (c .before .before .before .before .before .before .args .len .now)) (c .before .before .before .before .before .before .pre .enough) (c .before .before .before .before .before .before .pre .count) (c .before .before .before .before .before .before .pre .ok) (c .pack .result) (c .pack .ensures) (c .before .if1 .taken)
+returns c = step-few (c .before .before .before .before .before .before .args .table .now) (c .before .before .before .before .before .before .args .scratch .now) (walkOf (c .before .before .before .before .before .before .args .entries .now) (c .before .before .before .before .before .before .args .len .now)) (c .before .before .before .before .before .before .pre .1 .enough) (c .before .before .before .before .before .before .pre .0) (c .before .before .before .before .before .before .pre .1 .ok) (c .pack .result) (c .pack .ensures) (c .before .if1 .taken)
 
 pack-requires-2 : tie.Need-pack-requires-2
 pack-requires-2 c κs = search needs
 
 returns-2 : tie.Need-returns-2
-returns-2 c = step-over (c .before .before .before .before .before .before .before .args .table .now) (c .before .before .before .before .before .before .before .args .scratch .now) (walkOf (c .before .before .before .before .before .before .before .args .entries .now) (c .before .before .before .before .before .before .before .args .len .now)) (c .before .before .before .before .before .before .before .pre .enough) (c .before .before .before .before .before .before .before .pre .count) (c .before .before .before .before .before .before .before .pre .ok) (c .pack2 .result) (c .pack2 .ensures) (c .before .if2 .taken)
+returns-2 c = step-over (c .before .before .before .before .before .before .before .args .table .now) (c .before .before .before .before .before .before .before .args .scratch .now) (walkOf (c .before .before .before .before .before .before .before .args .entries .now) (c .before .before .before .before .before .before .before .args .len .now)) (c .before .before .before .before .before .before .before .pre .1 .enough) (c .before .before .before .before .before .before .before .pre .0) (c .before .before .before .before .before .before .before .pre .1 .ok) (c .pack2 .result) (c .pack2 .ensures) (c .before .if2 .taken)
 
 load-requires : tie.Need-load-requires
 load-requires c κs = search needs
@@ -32,10 +32,10 @@ slice-relend-prefix-stepped-by : tie.Need-slice-relend-prefix-stepped-by
 slice-relend-prefix-stepped-by c = search needs
 
 slice-aggregate-stepped-by : tie.Need-slice-aggregate-stepped-by
-slice-aggregate-stepped-by c = part-long (c .before .before .before .before .before .before .before .before .before .args .scratch .now) (c .before .before .before .before .before .before .before .before .before .pre .enough)
+slice-aggregate-stepped-by c = part-long (c .before .before .before .before .before .before .before .before .before .args .scratch .now) (c .before .before .before .before .before .before .before .before .before .pre .1 .enough)
 
 stepped-by-requires : tie.Need-stepped-by-requires
-stepped-by-requires c κs = record { ready = ready (c .before .before .before .before .before .before .before .before .before .args .table .now) (c .before .before .before .before .before .before .before .before .before .args .scratch .now) (c .before .before .before .before .before .before .before .before .before .pre .count) (c .before .before .before .before .before .before .before .before .before .pre .ok) (c .before .before .before .before .before .before .before .before .before .pre .enough); runnable = runnable-loaded (c .before .before .before .before .before .before .before .before .before .args .entries .now) (c .before .before .before .before .before .before .before .before .before .args .len .now) (c .before .load .result) (c .before .before .before .before .if1 .left) (c .before .before .before .if2 .left) (c .before .load .ensures) }
+stepped-by-requires c κs = record { ready = ready (c .before .before .before .before .before .before .before .before .before .args .table .now) (c .before .before .before .before .before .before .before .before .before .args .scratch .now) (c .before .before .before .before .before .before .before .before .before .pre .0) (c .before .before .before .before .before .before .before .before .before .pre .1 .ok) (c .before .before .before .before .before .before .before .before .before .pre .1 .enough); runnable = runnable-loaded (c .before .before .before .before .before .before .before .before .before .args .entries .now) (c .before .before .before .before .before .before .before .before .before .args .len .now) (c .before .load .result) (c .before .before .before .before .if1 .left) (c .before .before .before .if2 .left) (c .before .load .ensures) }
 
 store-requires : tie.Need-store-requires
 store-requires c κs = (c .before .before .before .before .before .stepped-by .ensures .sized, c .before .before .before .before .before .before .before .before .before .before .if1 .left)
@@ -47,7 +47,7 @@ same-length-2 : tie.Need-same-length-2
 same-length-2 c = search needs
 
 returns-3 : tie.Need-returns-3
-returns-3 c = step-left (c .before .before .before .before .before .before .before .before .before .before .before .before .before .before .before .before .before .before .args .table .now) (c .before .before .before .before .before .before .before .before .before .before .before .before .before .before .before .before .before .before .args .scratch .now) (walkOf (c .before .before .before .before .before .before .before .before .before .before .before .before .before .before .before .before .before .before .args .entries .now) (c .before .before .before .before .before .before .before .before .before .before .before .before .before .before .before .before .before .before .args .len .now)) (c .before .before .before .before .before .before .before .before .before .before .before .before .before .before .before .before .before .before .pre .enough) (c .before .before .before .before .before .before .before .before .before .before .before .before .before .before .before .before .before .before .pre .count) (c .before .before .before .before .before .before .before .before .before .before .before .before .before .before .before .before .before .before .pre .ok) (c .before .before .before .before .before .before .before .before .before .before .before .before .before .if1 .left) (c .before .before .before .before .before .before .before .before .stepped-by .last .1 .1 .0) (c .before .before .before .before .before .before .before .before .stepped-by .kept .1 .1 .0 ∙ sym (part-long (c .before .before .before .before .before .before .before .before .before .before .before .before .before .before .before .before .before .before .args .scratch .now) (c .before .before .before .before .before .before .before .before .before .before .before .before .before .before .before .before .before .before .pre .enough))) (c .before .before .before .before .before .before .before .before .before .before .before .before .if2 .left) (c .before .before .before .before .before .before .before .before .before .before .load .result) (c .before .before .before .before .before .before .before .before .before .before .load .ensures) (c .before .before .before .before .before .before .before .before .stepped-by .result) (c .before .before .before .before .before .before .before .before .stepped-by .ensures) _ (c .before .before .store .ensures)
+returns-3 c = step-left (c .before .before .before .before .before .before .before .before .before .before .before .before .before .before .before .before .before .before .args .table .now) (c .before .before .before .before .before .before .before .before .before .before .before .before .before .before .before .before .before .before .args .scratch .now) (walkOf (c .before .before .before .before .before .before .before .before .before .before .before .before .before .before .before .before .before .before .args .entries .now) (c .before .before .before .before .before .before .before .before .before .before .before .before .before .before .before .before .before .before .args .len .now)) (c .before .before .before .before .before .before .before .before .before .before .before .before .before .before .before .before .before .before .pre .1 .enough) (c .before .before .before .before .before .before .before .before .before .before .before .before .before .before .before .before .before .before .pre .0) (c .before .before .before .before .before .before .before .before .before .before .before .before .before .before .before .before .before .before .pre .1 .ok) (c .before .before .before .before .before .before .before .before .before .before .before .before .before .if1 .left) (c .before .before .before .before .before .before .before .before .stepped-by .last .1 .1 .0) (c .before .before .before .before .before .before .before .before .stepped-by .kept .1 .1 .0 ∙ sym (part-long (c .before .before .before .before .before .before .before .before .before .before .before .before .before .before .before .before .before .before .args .scratch .now) (c .before .before .before .before .before .before .before .before .before .before .before .before .before .before .before .before .before .before .pre .1 .enough))) (c .before .before .before .before .before .before .before .before .before .before .before .before .if2 .left) (c .before .before .before .before .before .before .before .before .before .before .load .result) (c .before .before .before .before .before .before .before .before .before .before .load .ensures) (c .before .before .before .before .before .before .before .before .stepped-by .result) (c .before .before .before .before .before .before .before .before .stepped-by .ensures) _ (c .before .before .store .ensures)
 
 pub step-accepted-spec : {M : Type 1} → statement M
 step-accepted-spec =

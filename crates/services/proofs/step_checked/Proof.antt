@@ -21,16 +21,16 @@ enum-known-n : tie.Need-enum-known-n
 enum-known-n c = search needs
 
 pack-requires : tie.Need-pack-requires
-pack-requires c κs = let low = refused-low _ _ _ (sym (c .before .before .before .check .ensures) ∙ c .before .n .given .1) (small-check (c .before .before .before .before .before .before .before .args .table .now)) in (omega (arith, low .1), omega (arith, low .2), omega arith)
+pack-requires c κs = let low = refused-low _ _ _ (sym (c .before .before .before .check .ensures .answer) ∙ c .before .n .given .1) (small-check (c .before .before .before .before .before .before .before .before .args .table .now)) in (omega (arith, low .1), omega (arith, low .2), omega arith)
 
 enum-told : tie.Need-enum-told
 enum-told c = search needs
 
 step-accepted-requires : tie.Need-step-accepted-requires
-step-accepted-requires c κs = record { count = _; ok = sym (c .before .before .before .before .before .check .ensures) ∙ c .before .before .before .enum-told .given .1; enough = c .before .before .before .before .before .before .before .before .before .pre }
+step-accepted-requires c κs = (_, record { ok = sym (c .before .before .before .before .before .check .ensures .answer) ∙ c .before .before .before .enum-told .given .1; enough = c .before .before .before .before .before .before .before .before .before .before .pre })
 
 returns : tie.Need-returns
-returns c = step-faulty (c .before .before .before .before .before .before .before .before .args .table .now) (c .before .before .before .before .before .before .before .before .args .scratch .now) (walkOf (c .before .before .before .before .before .before .before .before .args .entries .now) (c .before .before .before .before .before .before .before .before .args .len .now)) (c .before .before .before .before .before .before .before .before .pre) _ _ (sym (c .before .before .before .before .check .ensures) ∙ c .before .before .n .given .1) (c .pack .result) (c .pack .ensures)
+returns c = step-faulty (c .before .before .before .before .before .before .before .before .before .args .table .now) (c .before .before .before .before .before .before .before .before .before .args .scratch .now) (walkOf (c .before .before .before .before .before .before .before .before .before .args .entries .now) (c .before .before .before .before .before .before .before .before .before .args .len .now)) (c .before .before .before .before .before .before .before .before .before .pre) _ _ (sym (c .before .before .before .before .check .ensures .answer) ∙ c .before .before .n .given .1) (c .pack .result) (c .pack .ensures)
 
 same-length : tie.Need-same-length
 same-length c = search needs

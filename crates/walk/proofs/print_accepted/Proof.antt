@@ -1,16 +1,10 @@
 -- The first list is due, and the first line is in the buffer.
 use mathlib.Core.Path.{sym}
-use Prim.Native.Nat.{ℕ}
 use native.Mathlib.Omega.{arith}
-use lib.ListN.{length-replicate}
-use Rattle.tables.specs.Laws.Accepted.{accepted-short, cut-accepted}
 use Rattle.walk.proofs.Handing.{made-empty, printing-start}
 use borrow.Author.Needs.{needs}
 use Rattle.walk.proofs.print_accepted.Statement.{statement}
 use Rattle.walk.proofs.print_accepted.Tie as tie
-
-cut-requires : tie.Need-cut-requires
-cut-requires c κs = (accepted-short (c .before .before .args .table .now) (c .before .before .args .count) (c .before .before .pre), length-replicate {A = ℕ} 200 0)
 
 large-buffer-requires : tie.Need-large-buffer-requires
 large-buffer-requires c κs = search needs
@@ -37,7 +31,7 @@ slice-aggregate-print-pieces-2 : tie.Need-slice-aggregate-print-pieces-2
 slice-aggregate-print-pieces-2 c = search needs
 
 print-pieces-requires : tie.Need-print-pieces-requires
-print-pieces-requires c κs = printing-start (c .before .before .before .before .before .before .before .before .before .before .before .before .before .before .args .table .now) (c .before .before .before .before .before .before .before .before .before .before .before .cut .last .1 .0) (c .before .before .before .before .before .before .before .before .before .before .before .before .before .before .args .count) (c .before .before .before .before .before .before .before .before .before .before .before .before .before .before .pre) (cut-accepted (c .before .before .before .before .before .before .before .before .before .before .before .before .before .before .args .table .now) (c .before .before .before .before .before .before .before .before .before .before .before .cut .last .1 .0) (c .before .before .before .before .before .before .before .before .before .before .before .cut .result) (c .before .before .before .before .before .before .before .before .before .before .before .before .before .before .args .count) (c .before .before .before .before .before .before .before .before .before .before .before .cut .ensures) (c .before .before .before .before .before .before .before .before .before .before .before .before .before .before .pre)) (c .before .before .before .before .before .before .before .before .before .before .large-buffer .result) (c .before .before .before .before .before .before .before .start-walk .result) (c .before .before .before .before .before .begin .last .1 .0) (sym (c .before .before .before .before .before .before .before .before .before .before .large-buffer .ensures)) (made-empty (c .before .before .before .before .before .before .before .before .empty .result) (c .before .before .before .before .before .before .before .before .empty .ensures) (c .before .before .before .before .before .before .before .start-walk .result) (c .before .before .before .before .before .before .before .start-walk .ensures)) (omega (arith, c .before .before .before .before .before .begin .kept .1 .0, c .before .before .before .before .before .before .before .before .before .large-buffer2 .ensures)) (c .before .before .before .before .before .begin .result) (c .before .before .before .before .before .begin .ensures)
+print-pieces-requires c κs = printing-start (c .before .before .before .before .before .before .before .before .before .before .before .args .table .now) (c .before .before .before .before .before .before .before .before .before .before .before .args .index .now) (c .before .before .before .before .before .before .before .before .before .before .before .args .count) (c .before .before .before .before .before .before .before .before .before .before .before .pre .0) (c .before .before .before .before .before .before .before .before .before .before .before .pre .1) (c .before .before .before .before .before .before .before .before .before .large-buffer .result) (c .before .before .before .before .before .before .start-walk .result) (c .before .before .before .before .begin .last .1 .0) (sym (c .before .before .before .before .before .before .before .before .before .large-buffer .ensures)) (made-empty (c .before .before .before .before .before .before .before .empty .result) (c .before .before .before .before .before .before .before .empty .ensures) (c .before .before .before .before .before .before .start-walk .result) (c .before .before .before .before .before .before .start-walk .ensures)) (omega (arith, c .before .before .before .before .begin .kept .1 .0, c .before .before .before .before .before .before .before .before .large-buffer2 .ensures)) (c .before .before .before .before .begin .result) (c .before .before .before .before .begin .ensures)
 
 returns : tie.Need-returns
 returns c = search needs
@@ -46,7 +40,6 @@ pub print-accepted-spec : {M : Type 1} → statement M
 print-accepted-spec =
     tie.close
     (tie.spec
-    cut-requires
     large-buffer-requires
     large-buffer-requires-2
     empty-requires

@@ -11,13 +11,13 @@ enum-known-n : tie.Need-enum-known-n
 enum-known-n c = search needs
 
 print-refused-requires : tie.Need-print-refused-requires
-print-refused-requires c κs = sym (c .before .before .before .check .ensures) ∙ c .before .n .given .1
+print-refused-requires c κs = sym (c .before .before .before .check .ensures .answer) ∙ c .before .n .given .1
 
 enum-known-count : tie.Need-enum-known-count
 enum-known-count c = search needs
 
 print-accepted-requires : tie.Need-print-accepted-requires
-print-accepted-requires c κs = sym (c .before .before .before .check .ensures) ∙ c .before .count .given .1
+print-accepted-requires c κs = (sym (c .before .before .before .before .check .ensures .answer) ∙ c .before .before .count .given .1, c .before .before .before .before .check .ensures .indexed _ (c .before .before .count .given .1))
 
 returns : tie.Need-returns
 returns c = search needs

@@ -1,18 +1,21 @@
 -- One run that grows.
-use mathlib.Core.Path.{refl, subst}
+use mathlib.Core.Path.{subst}
 use mathlib.Core.Bool.{true}
 use mathlib.Core.List.{List}
 use Prim.Native.Nat.{ℕ}
 use Rattle.choices.specs.State.{Made}
 use Rattle.lists.specs.Lent.{lent}
 use Rattle.walks.proofs.Settling.{comes-sound, arrived}
-use Rattle.walks.proofs.Stepping.{cut-asked, asked, runnable-empty, empty-list, first-lists}
+use Rattle.walks.proofs.Stepping.{runnable-empty, empty-list, first-lists}
 use borrow.Author.Needs.{needs}
 use Rattle.walks.proofs.first_walk.Statement.{statement}
 use Rattle.walks.proofs.first_walk.Tie as tie
-
-cut-requires : tie.Need-cut-requires
-cut-requires c κs = cut-asked (c .before .before .before .args .table .now) (c .before .before .before .args .s .now) (c .before .before .before .pre)
+use Rattle.walks.proofs.first_walk.Reads as reads
+use Rattle.walks.proofs.first_walk.Lts as lts
+use Rattle.choices.proofs.list.Walk.empty.Reads as empty-reads
+use Rattle.evaluator.proofs.run_sheet.Reads as run-sheet-reads
+use Rattle.lists.proofs.list_of.Reads as list-of-reads
+use Rattle.lists.proofs.start_walk.Reads as start-walk-reads
 
 empty-requires : tie.Need-empty-requires
 empty-requires c κs = search needs
@@ -21,7 +24,7 @@ start-walk-requires : tie.Need-start-walk-requires
 start-walk-requires c κs = runnable-empty (c .empty .result) (c .empty .ensures)
 
 run-sheet-requires : tie.Need-run-sheet-requires
-run-sheet-requires c κs = asked (c .before .before .before .before .before .before .before .before .before .args .table .now) (c .before .before .before .before .before .before .before .before .before .args .s .now) (c .before .before .before .before .before .before .before .before .before .pre) _ _ (c .before .before .before .before .before .cut .ensures) _ refl _ (c .before .before .before .start-walk .ensures .sound)
+run-sheet-requires c κs = search needs
 
 list-of-requires : tie.Need-list-of-requires
 list-of-requires c κs = comes-sound (c .before .before .before .run-sheet .ensures)
@@ -30,13 +33,12 @@ same-length : tie.Need-same-length
 same-length c = search needs
 
 returns : tie.Need-returns
-returns c = first-lists (c .before .before .before .before .before .before .before .before .before .before .before .before .before .before .args .table .now) (lent (c .before .before .before .before .before .before .before .before .start-walk .result)) (c .before .before .before .before .run-sheet .result) (lent (c .before .before .before .before .run-sheet .last .1 .1 .1 .1 .0)) (c .before .before .before .before .run-sheet .last .1 .1 .1 .0) (arrived (c .before .before .before .before .before .before .before .before .before .before .before .before .before .before .args .table .now) (lent (c .before .before .before .before .before .before .before .before .start-walk .result)) (c .before .before .before .before .run-sheet .result) (lent (c .before .before .before .before .run-sheet .last .1 .1 .1 .1 .0)) (c .before .before .before .before .run-sheet .last .1 .1 .1 .0) (c .before .before .before .before .run-sheet .ensures)) (c .list-of .result) (c .list-of .ensures .entries) (c .list-of .ensures .len) (subst (λ (l : List ℕ). Made l true (lent (c .before .before .before .before .before .before .before .before .start-walk .result))) (empty-list (c .before .before .before .before .before .before .before .before .before .empty .result) (c .before .before .before .before .before .before .before .before .before .empty .ensures)) (c .before .before .before .before .before .before .before .before .start-walk .ensures))
+returns c = first-lists (c .before .before .before .before .before .before .before .before .before .before .before .args .table .now) (lent (c .before .before .before .before .before .before .before .start-walk .result)) (c .before .before .before .before .run-sheet .result) (lent (c .before .before .before .before .run-sheet .last .1 .1 .1 .1 .0)) (c .before .before .before .before .run-sheet .last .1 .1 .1 .0) (arrived (c .before .before .before .before .before .before .before .before .before .before .before .args .table .now) (lent (c .before .before .before .before .before .before .before .start-walk .result)) (c .before .before .before .before .run-sheet .result) (lent (c .before .before .before .before .run-sheet .last .1 .1 .1 .1 .0)) (c .before .before .before .before .run-sheet .last .1 .1 .1 .0) (c .before .before .before .before .run-sheet .ensures)) (c .list-of .result) (c .list-of .ensures .entries) (c .list-of .ensures .len) (subst (λ (l : List ℕ). Made l true (lent (c .before .before .before .before .before .before .before .start-walk .result))) (empty-list (c .before .before .before .before .before .before .before .before .empty .result) (c .before .before .before .before .before .before .before .before .empty .ensures)) (c .before .before .before .before .before .before .before .start-walk .ensures))
 
 pub first-walk-spec : {M : Type 1} → statement M
 first-walk-spec =
     tie.close
     (tie.spec
-    cut-requires
     empty-requires
     start-walk-requires
     run-sheet-requires
