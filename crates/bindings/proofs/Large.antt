@@ -87,6 +87,10 @@ module _ (s : List ℕ) (at : ℕ) where
   one-part true e h = record { value = h .1 .0; here = inl (refl, h .1 .1) }
   one-part false e h = true-false (sym e)
 
+  pub one-held : (t : Bool) → t ≡ true → Bindable s at t → Holds s at
+  one-held true e h = holds (h .1 .1)
+  one-held false e h = true-false (sym e)
+
   pub set-held : (t : Bool) → t ≡ false → Bindable s at t → Holds s at
   set-held true e h = true-false e
   set-held false e h = holds (h .1)

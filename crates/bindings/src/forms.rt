@@ -25,7 +25,7 @@ pub fn first_at(at: usize, whole: bool) -> usize
 // Some member from a place up to another has a set too large to split.
 fn any_large(table: &[u8], index: &Index, p: usize, s: &[u8], from: usize, to: usize) -> bool
     requires { ⌜ Readable (now table) (now index) p ⌝ }
-    requires { ⌜ HoldsItems (now s) from to ⌝ }
+    requires { ⌜ HoldsItems (now s) from to × (length (now s) ≤ 65536) ⌝ }
     ensures { λ r. ⌜ TellsWideIn (now (table .entry)) p (now (s .entry)) from to r ⌝ }
 {
     let mut at = from;
@@ -37,9 +37,9 @@ fn any_large(table: &[u8], index: &Index, p: usize, s: &[u8], from: usize, to: u
             p,
             s,
             Part {
-                how: Part::WHOLE,
-                at,
+                at: at as u32,
                 extent: 0,
+                how: Part::WHOLE,
             },
         );
         if large {
@@ -53,7 +53,7 @@ fn any_large(table: &[u8], index: &Index, p: usize, s: &[u8], from: usize, to: u
 // A union pattern is met by a set of over seven members somewhere: number 29.
 pub fn is_wide(table: &[u8], index: &Index, p: usize, s: &[u8], at: usize, whole: bool) -> bool
     requires { ⌜ Readable (now table) (now index) p ⌝ }
-    requires { ⌜ Bindable (now s) at whole ⌝ }
+    requires { ⌜ Bindable (now s) at whole × (length (now s) ≤ 65536) ⌝ }
     ensures { λ r. ⌜ TellsWide (now (table .entry)) p (now (s .entry)) at whole r ⌝ }
 {
     if whole {
@@ -63,9 +63,9 @@ pub fn is_wide(table: &[u8], index: &Index, p: usize, s: &[u8], at: usize, whole
             p,
             s,
             Part {
-                how: Part::WHOLE,
-                at,
+                at: at as u32,
                 extent: 0,
+                how: Part::WHOLE,
             },
         );
     }

@@ -77,7 +77,7 @@ pub fn name(
     if part.how == Part::NOTHING {
         return refusal(Applied::WRONG_KIND, r, 0);
     }
-    let at = part.at;
+    let at = part.at as usize;
     if part.how == Part::WHOLE {
         if values::kind_of(s, at) == Value::INTEGER {
             let z = values::integer_at(s, at);

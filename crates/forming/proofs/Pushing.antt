@@ -163,6 +163,7 @@ module _ (table index : List ℕ) (p : ℕ) (s : List ℕ) (word : ℕ) (d : ℕ
     narrow = h .narrow;
     below = h .below;
     within = l;
+    short = h .short;
   })
 
   pub few : countOf table p ≤ 4

@@ -16,11 +16,11 @@ use Rattle.values.specs.Place.{At}
 use Rattle.parts.specs.declared.Part.{Part}
 use Rattle.parts.specs.declared.Halves.{Halves}
 use Rattle.parts.specs.Part.{PartIs}
-use Rattle.parts.specs.Contract.{ItemHeld, ItemOfPart, SplitHeld, SplitOf, CutHeld, CutOf}
+use Rattle.parts.specs.Contract.{ItemHeld, ItemOfPart, HalvesAre, SplitHeld, SplitOf, CutHeld, CutOf}
 use Rattle.parts.proofs.Laws.{part-one}
 use Rattle.parts.specs.Laws.Chosen.{splits-length, cuts-length}
-use Rattle.patterns.specs.Ways.{halves, splits, cuts, orders}
-use Rattle.patterns.specs.Pattern.{itemsOf, contents, leftOf, rightOf}
+use Rattle.patterns.specs.Ways.{Halves as Split, halves, splits, cuts, orders}
+use Rattle.patterns.specs.Pattern.{itemsOf, contents}
 use Rattle.patterns.specs.Nodes.{collectionOf, meetings, bothHalves}
 use Rattle.patterns.specs.Laws.Orders.{factorial, orders-length}
 use Rattle.matching.specs.Node.{Ordinal, PieceHeld, PieceOf}
@@ -53,6 +53,20 @@ module _ (c n : ℕ) (s : List ℕ) (p : Part) (d i : ℕ) (h : PieceHeld c n s 
 
   -- ---- two halves
 
+  -- the two halves are what the two parts meet
+  abbrev pub Met : Halves → Type 0
+  Met r = (i ≡ 0 → PieceOf c n s p d i (r .left)) × ((i ≡ 0 → ⊥) → PieceOf c n s p d i (r .right))
+
+  halves-meet : (k : Kind) (g : Split Value) → n ≡ 2 → getD (meetings c n (h .value)) d [] ≡ bothHalves k g → (r : Halves) → HalvesAre s k g r → Met r
+  halves-meet k g two way r o = (
+    λ f v z q. subst (PartIs s (r .left)) (sym (part-at 0 f v z q)) (o .left),
+    λ f v z q. subst (PartIs s (r .right)) (sym (part-at 1 (omega (arith, two, h .within, f)) v z q)) (o .right),
+  )
+    where
+      part-at : (j : ℕ) → i ≡ j → (v z : Value) → PartIs s p v → getD (getD (meetings c n v) d []) i z ≡ getD (bothHalves k g) j z
+      part-at j f v z q =
+          ap (λ (w : Value). getD (getD (meetings c n w) d []) i z) (same-value v q) ∙ ap (λ (l : List Value). getD l i z) way ∙ ap (λ (m : ℕ). getD (bothHalves k g) m z) f
+
   module _ (e : c ≡ 38) where
     has-set : contents set (h .value) ≡ some vs
     has-set = subst (λ (x : ℕ). contents (collectionOf x) (h .value) ≡ some vs) e (has-value .has)
@@ -74,19 +88,8 @@ module _ (c n : ℕ) (s : List ℕ) (p : Part) (d i : ℕ) (h : PieceHeld c n s 
     split-way : getD (meetings c n (h .value)) d [] ≡ bothHalves set (getD (splits vs) d (halves [] []))
     split-way = ap (λ (l : List (List Value)). getD l d []) splits-are ∙ map-at (bothHalves set) (splits vs) d (halves [] []) [] below-splits
 
-    module _ (r : Halves) (o : SplitOf s p d r) where
-      pub split-left : i ≡ 0 → PieceOf c n s p d i (r .left)
-      split-left f v z q =
-          let g : getD (getD (meetings c n v) d []) i z ≡ leftOf set (getD (splits vs) d (halves [] [])) =
-          ap (λ (w : Value). getD (getD (meetings c n w) d []) i z) (same-value v q) ∙ ap (λ (l : List Value). getD l i z) split-way ∙ ap (λ (k : ℕ). getD (bothHalves set (getD (splits vs) d (halves [] []))) k z) f in
-          subst (PartIs s (r .left)) (sym g) (o .right vs (here set (rw e)) .left)
-
-      pub split-right : (i ≡ 0 → ⊥) → PieceOf c n s p d i (r .right)
-      split-right f v z q =
-          let i1 : i ≡ 1 = omega (arith, h .two (rw e), h .within, f) in
-          let g : getD (getD (meetings c n v) d []) i z ≡ rightOf set (getD (splits vs) d (halves [] [])) =
-          ap (λ (w : Value). getD (getD (meetings c n w) d []) i z) (same-value v q) ∙ ap (λ (l : List Value). getD l i z) split-way ∙ ap (λ (k : ℕ). getD (bothHalves set (getD (splits vs) d (halves [] []))) k z) i1 in
-          subst (PartIs s (r .right)) (sym g) (o .right vs (here set (rw e)) .right)
+    pub split-meets : (r : Halves) → SplitOf s p d r → Met r
+    split-meets r o = halves-meet set (getD (splits vs) d (halves [] [])) (h .two (rw e)) split-way r (o .right vs (here set (rw e)))
 
   module _ (e : c ≡ 40) where
     has-sequence : contents sequence (h .value) ≡ some vs
@@ -99,24 +102,13 @@ module _ (c n : ℕ) (s : List ℕ) (p : Part) (d i : ℕ) (h : PieceHeld c n s 
     below-cuts = omega (arith, h .below, ap length cuts-are, length-map (cuts vs) (bothHalves sequence))
 
     pub cut-held : CutHeld s p d
-    cut-held = record { items = vs; here = here sequence (rw e); below = omega (arith, below-cuts, cuts-length vs) }
+    cut-held = record { items = vs; here = here sequence (rw e); below = omega (arith, below-cuts, cuts-length vs); short = h .short }
 
     cut-way : getD (meetings c n (h .value)) d [] ≡ bothHalves sequence (getD (cuts vs) d (halves [] []))
     cut-way = ap (λ (l : List (List Value)). getD l d []) cuts-are ∙ map-at (bothHalves sequence) (cuts vs) d (halves [] []) [] below-cuts
 
-    module _ (r : Halves) (o : CutOf s p d r) where
-      pub cut-left : i ≡ 0 → PieceOf c n s p d i (r .left)
-      cut-left f v z q =
-          let g : getD (getD (meetings c n v) d []) i z ≡ leftOf sequence (getD (cuts vs) d (halves [] [])) =
-          ap (λ (w : Value). getD (getD (meetings c n w) d []) i z) (same-value v q) ∙ ap (λ (l : List Value). getD l i z) cut-way ∙ ap (λ (k : ℕ). getD (bothHalves sequence (getD (cuts vs) d (halves [] []))) k z) f in
-          subst (PartIs s (r .left)) (sym g) (o .right vs (here sequence (rw e)) .left)
-
-      pub cut-right : (i ≡ 0 → ⊥) → PieceOf c n s p d i (r .right)
-      cut-right f v z q =
-          let i1 : i ≡ 1 = omega (arith, h .two (rw e), h .within, f) in
-          let g : getD (getD (meetings c n v) d []) i z ≡ rightOf sequence (getD (cuts vs) d (halves [] [])) =
-          ap (λ (w : Value). getD (getD (meetings c n w) d []) i z) (same-value v q) ∙ ap (λ (l : List Value). getD l i z) cut-way ∙ ap (λ (k : ℕ). getD (bothHalves sequence (getD (cuts vs) d (halves [] []))) k z) i1 in
-          subst (PartIs s (r .right)) (sym g) (o .right vs (here sequence (rw e)) .right)
+    pub cut-meets : (r : Halves) → CutOf s p d r → Met r
+    cut-meets r o = halves-meet sequence (getD (cuts vs) d (halves [] [])) (h .two (rw e)) cut-way r (o .right vs (here sequence (rw e)))
 
   -- ---- one item each
 
@@ -128,7 +120,7 @@ module _ (c n : ℕ) (s : List ℕ) (p : Part) (d i : ℕ) (h : PieceHeld c n s 
       inl (o .whole, subst (At s (r .at)) (sym w) (o .right (collectionOf c) vs z (here (collectionOf c) refl)))
 
   item-held : (k : ℕ) → k < length vs → ItemHeld s p k
-  item-held k l = record { kind = collectionOf c; items = vs; here = here (collectionOf c) refl; below = l }
+  item-held k l = record { kind = collectionOf c; items = vs; here = here (collectionOf c) refl; below = l; short = h .short }
 
   module _ (e : c ≡ 37) where
     has-members : contents set (h .value) ≡ some vs

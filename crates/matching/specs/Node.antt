@@ -37,7 +37,7 @@ MeetsAs c n v (Ways m) = (isLarge c v ≡ false) × (length (meetings c n v) ≡
 abbrev pub Meets : ℕ → ℕ → List ℕ → Part → Meeting → Type 0
 Meets c n s p r = (v : Value) → PartIs s p v → MeetsAs c n v r
 
--- A way in which n parts meet a value, and the number of one of these parts.
+-- A way in which n parts meet a value, and the number of one of these parts, in a slice whose places fit.
 pub record PieceHeld (c n : ℕ) (s : List ℕ) (p : Part) (d i : ℕ) : Type 0 where
   pub low : 36 ≤ c
   pub high : c ≤ 40
@@ -48,6 +48,7 @@ pub record PieceHeld (c n : ℕ) (s : List ℕ) (p : Part) (d i : ℕ) : Type 0 
   pub narrow : isLarge c value ≡ false
   pub below : d < length (meetings c n value)
   pub within : i < n
+  pub short : length s ≤ 65536
 
 -- r denotes what part i meets in the way d
 abbrev pub PieceOf : ℕ → ℕ → List ℕ → Part → ℕ → ℕ → Part → Type 0
@@ -75,12 +76,3 @@ waysOf table p v = meetings (kindAt (records table) p) (length (named (recordAt 
 
 abbrev pub metBy : List ℕ → ℕ → Value → ℕ → List Value
 metBy table p v d = getD (waysOf table p v) d []
-
--- A way d in which the parts of a record meet a value, of which those from i on are left.
-pub record WayHeld (table : List ℕ) (p i : ℕ) (s : List ℕ) (part : Part) (d : ℕ) : Type 0 where
-  pub composed : 36 ≤ kindAt (records table) p
-  pub value : Value
-  pub here : PartIs s part value
-  pub narrow : isLarge (kindAt (records table) p) value ≡ false
-  pub below : d < length (meetings (kindAt (records table) p) (length (named (recordAt (records table) p))) value)
-  pub within : i ≤ length (named (recordAt (records table) p))

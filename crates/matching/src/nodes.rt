@@ -127,7 +127,7 @@ pub fn is_literal(table: &[u8], index: &Index, p: usize, s: &[u8], part: Part) -
 {
     let kind = tables::reading::kind(table, index, p);
     let k = parts::kind_of_part(s, part);
-    let at = part.at;
+    let at = part.at as usize;
     if kind == kinds::BOOLEAN_PATTERN {
         if k != Value::BOOLEAN {
             return false;

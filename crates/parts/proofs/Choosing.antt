@@ -1,94 +1,30 @@
 -- The functions on masks, said of numbers and lists alone.
-use mathlib.Core.Path.{_≡_, refl, sym, ap, _∙_}
-use mathlib.Core.Bool.{false}
+use mathlib.Core.Path.{_≡_, refl, sym, ap, subst, _∙_}
 use mathlib.Core.List.{List, [], _∷_}
-use Prim.Native.Nat.{ℕ, suc, _+_, _*_, _-_, _/_, _%_, _^_, _≤_, _<_}
-use native.Mathlib.Nat.{pow-suc, pow-le-pow-right}
-use native.Mathlib.Numerals.{add-one}
+use Prim.Native.Nat.{ℕ, zero, suc, _+_, _*_, _-_, _/_, _%_, _^_, _≤_, _<_}
+use native.Mathlib.Nat.{pow-suc, mul-assoc, suc-mul}
 use native.Mathlib.Omega.{arith}
-use lib.ListN.{length}
+use lib.ListN.{length, drop, getD}
 use borrow.Author.Tests.{lt-ltb, le-ltb}
-use Rattle.values.specs.Value.{Value, boolean}
-use Rattle.patterns.specs.Ways.{Halves, toLeft, toRight}
+use Rattle.values.specs.Value.{Value}
+use Rattle.patterns.specs.Ways.{toLeft, toRight}
+use Rattle.parts.specs.declared.masks.Dealing.{Dealing}
 use Rattle.parts.specs.Chosen.{keep, splitAt}
-use Rattle.parts.specs.Laws.Chosen.{keep-zero, keep-none, keep-odd, keep-even}
-use Rattle.parts.specs.Mask.{Counts, Ways, Spreadable, Spread}
+use Rattle.parts.specs.Laws.Chosen.{power-pos, keep-zero, keep-none, keep-odd, keep-even}
+use Rattle.parts.specs.Mask.{Full, Dealt, Deals, Spread}
 
 -- ---- all ones
 
-pub ones-more : (m i : ℕ) → m + 1 ≡ 2 ^ i → 2 * m + 1 + 1 ≡ 2 ^ (i + 1)
-ones-more m i e = let p : 2 ^ (i + 1) ≡ 2 ^ i * 2 = ap (λ (k : ℕ). 2 ^ k) (add-one i) ∙ pow-suc 2 i in omega arith
-
-pub ones-small : (m i k : ℕ) → m + 1 ≡ 2 ^ i → i ≤ k → k ≤ 7 → m < 128
-ones-small m i k e h g = let l : i ≤ 7 = omega arith in let p : 2 ^ i ≤ 2 ^ 7 = pow-le-pow-right (omega arith) l in omega arith
-
--- ---- the number of splits
-
-pub ways-zero : (m : ℕ) → m ≡ 0 → Ways m 1
-ways-zero m e = record { small = omega arith; counts = λ vs h. ap (λ (l : List Value). 2 ^ length l) (sym (ap (λ (k : ℕ). keep k vs) e ∙ keep-zero vs)) }
-
-pub ways-odd : (m w : ℕ) → m % 2 ≡ 1 → Ways (m / 2) w → Ways m (2 * w)
-ways-odd m w e p = record { small = let q = p .small in omega arith; counts = go }
-  where
-    go : (vs : List Value) → m < 2 ^ length vs → 2 * w ≡ 2 ^ length (keep m vs)
-    go [] h = absurd (omega arith)
-    go (v ∷ vs) h =
-        let f = pow-suc 2 (length vs) in
-        let g : w ≡ 2 ^ length (keep (m / 2) vs) = p .counts vs (omega arith) in
-        let q = pow-suc 2 (length (keep (m / 2) vs)) in
-        let l : 2 * w ≡ 2 ^ suc (length (keep (m / 2) vs)) = omega arith in
-        l ∙ ap (λ (k : List Value). 2 ^ length k) (sym (keep-odd m (m / 2) v vs e refl))
-
-pub ways-even : (m w : ℕ) → m % 2 ≡ 0 → Ways (m / 2) w → Ways m w
-ways-even m w e p = record { small = let q = p .small in omega arith; counts = go }
-  where
-    go : (vs : List Value) → m < 2 ^ length vs → w ≡ 2 ^ length (keep m vs)
-    go [] h = p .counts [] (omega arith) ∙ ap (λ (k : List Value). 2 ^ length k) (keep-none (m / 2) ∙ sym (keep-none m))
-    go (v ∷ vs) h =
-        let f = pow-suc 2 (length vs) in
-        p .counts vs (omega arith) ∙ ap (λ (k : List Value). 2 ^ length k) (sym (keep-even m (m / 2) v vs e refl))
-
--- any one value
-some : Value
-some = boolean false
-
-counts-even : (m n : ℕ) → m % 2 ≡ 0 → Counts m n → Counts (m / 2) n
-counts-even m n e c vs h =
-    let f = pow-suc 2 (length vs) in
-    c (some ∷ vs) (omega arith) ∙ ap (λ (k : List Value). 2 ^ length k) (keep-even m (m / 2) some vs e refl)
-
--- the number of splits is twice that of the others
-twice : (m n : ℕ) (v : Value) (vs : List Value) → m % 2 ≡ 1 → Counts m n → m < 2 ^ length (v ∷ vs) → n ≡ 2 ^ length (keep (m / 2) vs) * 2
-twice m n v vs e c h =
-    c (v ∷ vs) h ∙ ap (λ (k : List Value). 2 ^ length k) (keep-odd m (m / 2) v vs e refl) ∙ pow-suc 2 (length (keep (m / 2) vs))
-
-counts-odd : (m n : ℕ) → m % 2 ≡ 1 → Counts m n → Counts (m / 2) (n / 2)
-counts-odd m n e c vs h =
-    let f = pow-suc 2 (length vs) in
-    let t = twice m n some vs e c (omega arith) in
-    omega arith
-
-module _ {m d n : ℕ} (p : Spreadable m d n) where
-  pub spreadable-even : m % 2 ≡ 0 → Spreadable (m / 2) d n
-  spreadable-even e = record { low = let l = p .low in omega arith; below = p .below; counted = counts-even m n e (p .counted) }
-
-  pub spreadable-left : m % 2 ≡ 1 → d < n / 2 → Spreadable (m / 2) d (n / 2)
-  spreadable-left e h = record { low = let l = p .low in omega arith; below = h; counted = counts-odd m n e (p .counted) }
-
-  -- n is even, for a list as long as m asks
-  even-count : m % 2 ≡ 1 → n / 2 + n / 2 ≡ n
-  even-count e =
-      let l = p .low in
-      let t = twice m n some (some ∷ some ∷ some ∷ some ∷ some ∷ some ∷ []) e (p .counted) l in
-      omega arith
-
-  pub spreadable-right : m % 2 ≡ 1 → n / 2 ≤ d → Spreadable (m / 2) (d - n / 2) (n / 2)
-  spreadable-right e f =
-      let l = p .low in
-      let b = p .below in
-      let t = even-count e in
-      let z : 0 < n / 2 = omega arith in
-      record { low = omega arith; below = omega arith; counted = counts-odd m n e (p .counted) }
+pub full-at : (k : ℕ) → k ≤ 7 → Full k (getD (0 ∷ 1 ∷ 3 ∷ 7 ∷ 15 ∷ 31 ∷ 63 ∷ 127 ∷ []) k 0)
+full-at zero h = record { power = refl; small = omega arith }
+full-at (suc zero) h = record { power = refl; small = omega arith }
+full-at (suc (suc zero)) h = record { power = refl; small = omega arith }
+full-at (suc (suc (suc zero))) h = record { power = refl; small = omega arith }
+full-at (suc (suc (suc (suc zero)))) h = record { power = refl; small = omega arith }
+full-at (suc (suc (suc (suc (suc zero))))) h = record { power = refl; small = omega arith }
+full-at (suc (suc (suc (suc (suc (suc zero)))))) h = record { power = refl; small = omega arith }
+full-at (suc (suc (suc (suc (suc (suc (suc zero))))))) h = record { power = refl; small = omega arith }
+full-at (suc (suc (suc (suc (suc (suc (suc (suc k)))))))) h = absurd (omega arith)
 
 -- ---- the halves of a split
 
@@ -111,86 +47,115 @@ lefts vs d = splitAt vs d .left
 abbrev rights : List Value → ℕ → List Value
 rights vs d = splitAt vs d .right
 
-pub spread-zero : (m d : ℕ) → m ≡ 0 → Spread m d 0
-spread-zero m d e = record {
-  low = omega arith;
-  left = λ vs h. keep-zero vs ∙ sym (ap (λ (l : List Value). lefts l d) (none vs) ∙ split-none d .0);
-  right = λ vs h. ap (λ (k : ℕ). keep k vs) zero-left ∙ keep-zero vs ∙ sym (ap (λ (l : List Value). rights l d) (none vs) ∙ split-none d .1);
+-- ---- members dealt out
+
+pub dealt-none : (d h : ℕ) (vs : List Value) → h ≡ 0 → Dealt d h 0 d vs
+dealt-none d h vs e =
+    let n : keep h vs ≡ [] = ap (λ (k : ℕ). keep k vs) e ∙ keep-zero vs in
+    let p : 2 ^ length (keep h vs) ≡ 1 = ap (λ (l : List Value). 2 ^ length l) n in
+    let i : d ≡ d * 1 + 0 = omega arith in
+    record {
+      number = 0;
+      below = omega arith;
+      is = i ∙ ap (λ (x : ℕ). d * x + 0) (sym p);
+      left = keep-zero vs ∙ sym (ap (λ (l : List Value). lefts l 0) n ∙ split-none 0 .0);
+      right = ap (λ (k : ℕ). keep (k - 0) vs) e ∙ keep-zero vs ∙ sym (ap (λ (l : List Value). rights l 0) n ∙ split-none 0 .1);
+    }
+
+-- nothing more is chosen
+dealt-same : (d m l e : ℕ) (ws vs : List Value) → keep (m / 2) ws ≡ keep m vs → keep (2 * l) vs ≡ keep l ws → keep (m - 2 * l) vs ≡ keep (m / 2 - l) ws → Dealt d (m / 2) l e ws → Dealt d m (2 * l) e vs
+dealt-same d m l e ws vs q a b x = record {
+  number = x .number;
+  below = subst (λ (k : List Value). x .number < 2 ^ length k) q (x .below);
+  is = x .is ∙ ap (λ (k : List Value). e * 2 ^ length k + x .number) q;
+  left = a ∙ x .left ∙ ap (λ (k : List Value). lefts k (x .number)) q;
+  right = b ∙ x .right ∙ ap (λ (k : List Value). rights k (x .number)) q;
 }
+
+pub deals-even : (m : ℕ) (x : Dealing) → x .left ≤ m / 2 → m % 2 ≡ 0 → Deals m x (record { left = 2 * x .left; rest = x .rest })
+deals-even m x low e = record { low = omega arith; more = go }
   where
-    none : (vs : List Value) → keep m vs ≡ []
-    none vs = ap (λ (k : ℕ). keep k vs) e ∙ keep-zero vs
+    go : (d : ℕ) (vs : List Value) → m < 2 ^ length vs → Dealt d (m / 2) (x .left) (x .rest) (drop 1 vs) → Dealt d m (2 * x .left) (x .rest) vs
+    go d [] h z = dealt-same d m (x .left) (x .rest) [] [] (keep-none (m / 2) ∙ sym (keep-none m)) (keep-none (2 * x .left) ∙ sym (keep-none (x .left))) (keep-none (m - 2 * x .left) ∙ sym (keep-none (m / 2 - x .left))) z
+    go d (v ∷ vs) h z =
+        dealt-same d m (x .left) (x .rest) vs (v ∷ vs) (sym (keep-even m (m / 2) v vs e refl)) (keep-even (2 * x .left) (x .left) v vs (omega arith) (omega arith))
+        (keep-even (m - 2 * x .left) (m / 2 - x .left) v vs (omega arith) (omega arith)) z
 
-    zero-left : m - 0 ≡ 0
-    zero-left = omega arith
+-- one unit more
+module _ (m : ℕ) (odd : m % 2 ≡ 1) (d l e : ℕ) (low : l ≤ m / 2) (v : Value) (vs : List Value) (z : Dealt d (m / 2) l e vs) where
+  kept : keep m (v ∷ vs) ≡ v ∷ keep (m / 2) vs
+  kept = keep-odd m (m / 2) v vs odd refl
 
-module _ (m d r : ℕ) where
-  pub spread-even : m % 2 ≡ 0 → Spread (m / 2) d r → Spread m d (2 * r)
-  spread-even e p = record { low = let l = p .low in omega arith; left = left; right = right }
+  power : 2 ^ length (keep m (v ∷ vs)) ≡ 2 * 2 ^ length (keep (m / 2) vs)
+  power =
+      let p = pow-suc 2 (length (keep (m / 2) vs)) in
+      let q : 2 ^ suc (length (keep (m / 2) vs)) ≡ 2 * 2 ^ length (keep (m / 2) vs) = omega arith in
+      ap (λ (k : List Value). 2 ^ length k) kept ∙ q
+
+  -- what is left of the number, in twos
+  twos : (q : ℕ) → q * 2 * 2 ^ length (keep (m / 2) vs) ≡ q * 2 ^ length (keep m (v ∷ vs))
+  twos q = mul-assoc q 2 (2 ^ length (keep (m / 2) vs)) ∙ ap (λ (x : ℕ). q * x) (sym power)
+
+  to-left : e % 2 ≡ 0 → Dealt d m (2 * l + 1) (e / 2) (v ∷ vs)
+  to-left b =
+      let y = z .below in
+      let h : e ≡ e / 2 * 2 = omega arith in
+      let w = ap (λ (k : List Value). splitAt k (z .number)) kept ∙ split-left v (keep (m / 2) vs) (z .number) y in
+      record {
+        number = z .number;
+        below = omega (arith, power);
+        is = z .is ∙ ap (λ (x : ℕ). x + z .number) (ap (λ (x : ℕ). x * 2 ^ length (keep (m / 2) vs)) h ∙ twos (e / 2));
+        left = keep-odd (2 * l + 1) l v vs (omega arith) (omega arith) ∙ ap (λ (k : List Value). v ∷ k) (z .left) ∙ sym (ap (λ g. g .left) w);
+        right = keep-even (m - (2 * l + 1)) (m / 2 - l) v vs (omega arith) (omega arith) ∙ z .right ∙ sym (ap (λ g. g .right) w);
+      }
+
+  to-right : e % 2 ≡ 1 → Dealt d m (2 * l) (e / 2) (v ∷ vs)
+  to-right b =
+      let y = z .below in
+      let p = 2 ^ length (keep (m / 2) vs) in
+      let h : e ≡ suc (e / 2 * 2) = omega arith in
+      let n : p + z .number - p ≡ z .number = omega arith in
+      let w = ap (λ (k : List Value). splitAt k (p + z .number)) kept ∙ split-right v (keep (m / 2) vs) (p + z .number) (omega arith) ∙ ap (λ (k : ℕ). toRight v (splitAt (keep (m / 2) vs) k)) n in
+      let i : e * p ≡ e / 2 * 2 ^ length (keep m (v ∷ vs)) + p = ap (λ (x : ℕ). x * p) h ∙ suc-mul (e / 2 * 2) p ∙ ap (λ (x : ℕ). x + p) (twos (e / 2)) in
+      let j : e / 2 * 2 ^ length (keep m (v ∷ vs)) + p + z .number ≡ e / 2 * 2 ^ length (keep m (v ∷ vs)) + (p + z .number) = omega arith in
+      record {
+        number = p + z .number;
+        below = omega (arith, power);
+        is = z .is ∙ ap (λ (x : ℕ). x + z .number) i ∙ j;
+        left = keep-even (2 * l) l v vs (omega arith) (omega arith) ∙ z .left ∙ sym (ap (λ g. g .left) w);
+        right = keep-odd (m - 2 * l) (m / 2 - l) v vs (omega arith) (omega arith) ∙ ap (λ (k : List Value). v ∷ k) (z .right) ∙ sym (ap (λ g. g .right) w);
+      }
+
+module _ (m : ℕ) (x : Dealing) (low : x .left ≤ m / 2) (odd : m % 2 ≡ 1) where
+  pub deals-left : x .rest % 2 ≡ 0 → Deals m x (record { left = 2 * x .left + 1; rest = x .rest / 2 })
+  deals-left b = record { low = omega arith; more = go }
     where
-      left : (vs : List Value) → m < 2 ^ length vs → keep (2 * r) vs ≡ lefts (keep m vs) d
-      left [] h = keep-none (2 * r) ∙ sym (ap (λ (l : List Value). lefts l d) (keep-none m) ∙ split-none d .0)
-      left (v ∷ vs) h =
-          let f = pow-suc 2 (length vs) in
-          keep-even (2 * r) r v vs (omega arith) (omega arith) ∙ p .left vs (omega arith) ∙ sym (ap (λ (l : List Value). lefts l d) (keep-even m (m / 2) v vs e refl))
+      go : (d : ℕ) (vs : List Value) → m < 2 ^ length vs → Dealt d (m / 2) (x .left) (x .rest) (drop 1 vs) → Dealt d m (2 * x .left + 1) (x .rest / 2) vs
+      go d [] h z = absurd (omega arith)
+      go d (v ∷ vs) h z = to-left m odd d (x .left) (x .rest) low v vs z b
 
-      right : (vs : List Value) → m < 2 ^ length vs → keep (m - 2 * r) vs ≡ rights (keep m vs) d
-      right [] h = keep-none (m - 2 * r) ∙ sym (ap (λ (l : List Value). rights l d) (keep-none m) ∙ split-none d .1)
-      right (v ∷ vs) h =
-          let f = pow-suc 2 (length vs) in
-          let l = p .low in
-          keep-even (m - 2 * r) (m / 2 - r) v vs (omega arith) (omega arith) ∙ p .right vs (omega arith) ∙ sym (ap (λ (l : List Value). rights l d) (keep-even m (m / 2) v vs e refl))
+  pub deals-right : x .rest % 2 ≡ 1 → Deals m x (record { left = 2 * x .left; rest = x .rest / 2 })
+  deals-right b = record { low = omega arith; more = go }
+    where
+      go : (d : ℕ) (vs : List Value) → m < 2 ^ length vs → Dealt d (m / 2) (x .left) (x .rest) (drop 1 vs) → Dealt d m (2 * x .left) (x .rest / 2) vs
+      go d [] h z = absurd (omega arith)
+      go d (v ∷ vs) h z = to-right m odd d (x .left) (x .rest) low v vs z b
 
-  module _ (n : ℕ) (e : m % 2 ≡ 1) (c : Counts m n) where
-    pub spread-left : d < n / 2 → Spread (m / 2) d r → Spread m d (2 * r + 1)
-    spread-left b p = record { low = let l = p .low in omega arith; left = left; right = right }
-      where
-        whole : (v : Value) (vs : List Value) → m < 2 ^ length (v ∷ vs) → splitAt (keep m (v ∷ vs)) d ≡ toLeft v (splitAt (keep (m / 2) vs) d)
-        whole v vs h =
-            let t = twice m n v vs e c h in
-            ap (λ (l : List Value). splitAt l d) (keep-odd m (m / 2) v vs e refl) ∙ split-left v (keep (m / 2) vs) d (omega arith)
+-- ---- all of them
 
-        left : (vs : List Value) → m < 2 ^ length vs → keep (2 * r + 1) vs ≡ lefts (keep m vs) d
-        left [] h = absurd (omega arith)
-        left (v ∷ vs) h =
-            let f = pow-suc 2 (length vs) in
-            keep-odd (2 * r + 1) r v vs (omega arith) (omega arith)
-            ∙ ap (λ (l : List Value). v ∷ l) (p .left vs (omega arith))
-            ∙ sym (ap (λ (g : Halves Value). g .left) (whole v vs h))
+-- a mask's higher bits fit what follows the first unit
+pub half-fits : (m : ℕ) (vs : List Value) → m < 2 ^ length vs → m / 2 < 2 ^ length (drop 1 vs)
+half-fits m [] h = omega arith
+half-fits m (v ∷ vs) h = let p = pow-suc 2 (length vs) in omega arith
 
-        right : (vs : List Value) → m < 2 ^ length vs → keep (m - (2 * r + 1)) vs ≡ rights (keep m vs) d
-        right [] h = absurd (omega arith)
-        right (v ∷ vs) h =
-            let f = pow-suc 2 (length vs) in
-            let l = p .low in
-            keep-even (m - (2 * r + 1)) (m / 2 - r) v vs (omega arith) (omega arith)
-            ∙ p .right vs (omega arith)
-            ∙ sym (ap (λ (g : Halves Value). g .right) (whole v vs h))
+-- what is left of the number of a split is 0
+none-over : (e p n d : ℕ) → d ≡ e * p + n → d < p → n ≡ d
+none-over zero p n d i h = omega arith
+none-over (suc e) p n d i h = let q = suc-mul e p in absurd (omega arith)
 
-    pub spread-right : n / 2 ≤ d → Spread (m / 2) (d - n / 2) r → Spread m d (2 * r)
-    spread-right b p = record { low = let l = p .low in omega arith; left = left; right = right }
-      where
-        whole : (v : Value) (vs : List Value) → m < 2 ^ length (v ∷ vs) → splitAt (keep m (v ∷ vs)) d ≡ toRight v (splitAt (keep (m / 2) vs) (d - n / 2))
-        whole v vs h =
-            let t = twice m n v vs e c h in
-            let q : 2 ^ length (keep (m / 2) vs) ≡ n / 2 = omega arith in
-            ap (λ (l : List Value). splitAt l d) (keep-odd m (m / 2) v vs e refl)
-            ∙ split-right v (keep (m / 2) vs) d (omega arith)
-            ∙ ap (λ (k : ℕ). toRight v (splitAt (keep (m / 2) vs) (d - k))) q
-
-        left : (vs : List Value) → m < 2 ^ length vs → keep (2 * r) vs ≡ lefts (keep m vs) d
-        left [] h = absurd (omega arith)
-        left (v ∷ vs) h =
-            let f = pow-suc 2 (length vs) in
-            keep-even (2 * r) r v vs (omega arith) (omega arith)
-            ∙ p .left vs (omega arith)
-            ∙ sym (ap (λ (g : Halves Value). g .left) (whole v vs h))
-
-        right : (vs : List Value) → m < 2 ^ length vs → keep (m - 2 * r) vs ≡ rights (keep m vs) d
-        right [] h = absurd (omega arith)
-        right (v ∷ vs) h =
-            let f = pow-suc 2 (length vs) in
-            let l = p .low in
-            keep-odd (m - 2 * r) (m / 2 - r) v vs (omega arith) (omega arith)
-            ∙ ap (λ (l : List Value). v ∷ l) (p .right vs (omega arith))
-            ∙ sym (ap (λ (g : Halves Value). g .right) (whole v vs h))
+pub dealt-all : (m d l : ℕ) → l ≤ m → ((vs : List Value) → m < 2 ^ length vs → (e : ℕ) × Dealt d m l e vs) → Spread m d l
+dealt-all m d l low f = record {
+  low = low;
+  left = λ vs h b. let (e, z) = f vs h in z .left ∙ ap (λ (k : ℕ). lefts (keep m vs) k) (none-over e (2 ^ length (keep m vs)) (z .number) d (z .is) b);
+  right = λ vs h b. let (e, z) = f vs h in z .right ∙ ap (λ (k : ℕ). rights (keep m vs) k) (none-over e (2 ^ length (keep m vs)) (z .number) d (z .is) b);
+}

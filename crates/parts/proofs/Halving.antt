@@ -17,7 +17,7 @@ use Rattle.parts.specs.declared.Part.{Part}
 use Rattle.parts.specs.declared.runs.Run.{Run}
 use Rattle.parts.specs.Chosen.{everyOne, keep, chosen, splitAt}
 use Rattle.parts.specs.Laws.Chosen.{chosen-all, keep-full, nth-split, nth-cut}
-use Rattle.parts.specs.Mask.{Full, Ways, Spreadable, Spread}
+use Rattle.parts.specs.Mask.{Full, Spread}
 use Rattle.parts.specs.Part.{Selects, PartIs}
 use Rattle.parts.proofs.Laws.{selects-of, part-one, part-well-formed, one-collection, end-record}
 use Rattle.parts.specs.Run.{RunIs, RunOf, SkipHeld, Skipped}
@@ -65,14 +65,6 @@ module _ {s : List ℕ} {p : Part} where
   pub split-countable : {d : ℕ} → SplitHeld s p d → Countable s p
   split-countable h = record { items = h .items; here = h .here; few = h .few }
 
-  pub split-spreadable : {d m n : ℕ} → SplitHeld s p d → MaskOf s p m → Ways m n → Spreadable m d n
-  split-spreadable {d} {m} {n} h c w =
-      let x = c .right (h .items) (h .here) in
-      let e : h .items ≡ keep m (x .all) = one-collection (x .is) in
-      let q : n ≡ 2 ^ length (h .items) = w .counts (x .all) (x .below) ∙ ap (λ (l : List Value). 2 ^ length l) (sym e) in
-      let b = h .below in
-      record { low = c .low; below = omega arith; counted = w .counts }
-
   pub split-is : {d m r : ℕ} → SplitHeld s p d → MaskOf s p m → Spread m d r
       → SplitOf s p d (record { left = record { how = 2; at = p .at; extent = r }; right = record { how = 2; at = p .at; extent = m - r } })
   split-is {d} {m} {r} h c g =
@@ -89,6 +81,7 @@ module _ {s : List ℕ} {p : Part} where
           let n : getD (splits vs) d (halves [] []) ≡ splitAt (keep m (y .all)) d = nth-split vs d (halves [] []) l ∙ ap (λ (k : List Value). splitAt k d) e in
           let b = y .below in
           let w = g .low in
+          let u : d < 2 ^ length (keep m (y .all)) = subst (λ (k : List Value). d < 2 ^ length k) e l in
           record {
             left = inr (inl (
               refl,
@@ -97,7 +90,7 @@ module _ {s : List ℕ} {p : Part} where
                 here = y .here;
                 few = y .few;
                 below = omega arith;
-                is = ap (leftOf set) n ∙ ap (λ (k : List Value). collection set (itemsOf k)) (sym (g .left (y .all) b));
+                is = ap (leftOf set) n ∙ ap (λ (k : List Value). collection set (itemsOf k)) (sym (g .left (y .all) b u));
               },
             ));
             right = inr (inl (
@@ -107,7 +100,7 @@ module _ {s : List ℕ} {p : Part} where
                 here = y .here;
                 few = y .few;
                 below = omega arith;
-                is = ap (rightOf set) n ∙ ap (λ (k : List Value). collection set (itemsOf k)) (sym (g .right (y .all) b));
+                is = ap (rightOf set) n ∙ ap (λ (k : List Value). collection set (itemsOf k)) (sym (g .right (y .all) b u));
               },
             ));
           }
@@ -132,17 +125,30 @@ module _ {s : List ℕ} {p : Part} {k : ℕ} where
   pub cut-skip : {r : Run} → CutHeld s p k → RunOf s p r → SkipHeld s r k
   cut-skip h c = record { items = h .items; here = c .right sequence (h .items) (h .here); enough = h .below }
 
+  -- its places are in order, and near
+  pub cut-places : {r q : Run} → CutHeld s p k → RunOf s p r → Skipped s r k q → (r .from ≤ q .from) × (q .from ≤ r .to) × (r .to ≤ r .from + 508) × (r .to ≤ 65536)
+  cut-places h c d =
+      let x = d .right (h .items) (c .right sequence (h .items) (h .here)) .here in
+      let f = d .from in
+      let t = d .to in
+      let n = c .short in
+      let e = x .ends in
+      let g = x .fits in
+      let s = h .short in
+      (omega arith, omega arith, omega arith, omega arith)
+
   pub cut-is : {r q : Run} → CutHeld s p k → RunOf s p r → Skipped s r k q
-      → CutOf s p k (record { left = record { how = 3; at = r .from; extent = q .from }; right = record { how = 3; at = q .from; extent = r .to } })
+      → CutOf s p k (record { left = record { how = 3; at = r .from; extent = q .from - r .from }; right = record { how = 3; at = q .from; extent = r .to - q .from } })
   cut-is {r} {q} h c d =
       let e = c .ends in
       let m = c .every (sequence-how (h .here)) in
       let t = d .to in
       let x = d .right (h .items) (c .right sequence (h .items) (h .here)) .here .ends in
+      let o = d .from in
       record { right = right; inside = record { left = omega arith; right = omega arith } }
     where
       right : (vs : List Value) → PartIs s p (collection sequence (itemsOf vs))
-          → HalvesAre s sequence (getD (cuts vs) k (halves [] [])) (record { left = record { how = 3; at = r .from; extent = q .from }; right = record { how = 3; at = q .from; extent = r .to } })
+          → HalvesAre s sequence (getD (cuts vs) k (halves [] [])) (record { left = record { how = 3; at = r .from; extent = q .from - r .from }; right = record { how = 3; at = q .from; extent = r .to - q .from } })
       right vs x =
           let o : vs ≡ h .items = one-collection (part-one x (h .here)) in
           let l : k ≤ length vs = subst (λ (i : List Value). k ≤ length i) (sym o) (h .below) in
@@ -157,7 +163,8 @@ module _ {s : List ℕ} {p : Part} {k : ℕ} where
           let a = y .ends in
           let b = z .ends in
           let t = d .to in
-          let g : r .from + sizes (itemsOf (take k vs)) ≡ q .from = omega arith in
+          let g : r .from + sizes (itemsOf (take k vs)) ≡ r .from + (q .from - r .from) = omega arith in
+          let l : r .to ≡ q .from + (r .to - q .from) = omega arith in
           let f = part-well-formed x .short in
           let i = collection-size sequence (itemsOf vs) in
           record {
@@ -174,7 +181,7 @@ module _ {s : List ℕ} {p : Part} {k : ℕ} where
               refl,
               record {
                 items = drop k vs;
-                here = subst (λ (e : ℕ). ItemsAt s (q .from) e (itemsOf (drop k vs))) t z;
+                here = subst (λ (e : ℕ). ItemsAt s (q .from) e (itemsOf (drop k vs))) (t ∙ l) z;
                 short = omega arith;
                 is = ap (rightOf sequence) n;
               },

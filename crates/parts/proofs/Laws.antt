@@ -36,7 +36,7 @@ module _ {s : List ℕ} {p : Part} {v : Value} where
   selects-of e (inr (inl h)) = h .1
   selects-of e (inr (inr h)) = absurd (omega (arith, h .0))
 
-  pub spans-of : p .how ≡ 3 → PartIs s p v → Spans s (p .at) (p .extent) v
+  pub spans-of : p .how ≡ 3 → PartIs s p v → Spans s (p .at) (p .at + p .extent) v
   spans-of e (inl h) = absurd (omega (arith, h .0))
   spans-of e (inr (inl h)) = absurd (omega (arith, h .0))
   spans-of e (inr (inr h)) = h .1
@@ -46,16 +46,13 @@ module _ {s : List ℕ} {p : Part} {v : Value} where
 pub itemsOf-injective : (vs ws : List Value) → itemsOf vs ≡ itemsOf ws → vs ≡ ws
 itemsOf-injective vs ws e = sym (list-items vs) ∙ ap listOf e ∙ list-items ws
 
-items-equal : (k : Kind) (vs ws : List Value) → collection k (itemsOf vs) ≡ collection k (itemsOf ws) → vs ≡ ws
-items-equal k vs ws e = itemsOf-injective vs ws (cc)
-
 -- the items of a collection that is given twice
 pub one-collection : {k l : Kind} {vs ws : List Value} → collection k (itemsOf vs) ≡ collection l (itemsOf ws) → vs ≡ ws
 one-collection {vs = vs} {ws = ws} e = itemsOf-injective vs ws (cc)
 
 selects-one : {s : List ℕ} {at mask : ℕ} {v w : Value} → Selects s at mask v → Selects s at mask w → v ≡ w
 selects-one {mask = mask} h g =
-    h .is ∙ ap (λ (l : List Value). collection set (itemsOf (keep mask l))) (items-equal set (h .all) (g .all) (one-value (h .here) (g .here))) ∙ sym (g .is)
+    h .is ∙ ap (λ (l : List Value). collection set (itemsOf (keep mask l))) (one-collection (one-value (h .here) (g .here))) ∙ sym (g .is)
 
 spans-one : {s : List ℕ} {from to : ℕ} {v w : Value} → Spans s from to v → Spans s from to w → v ≡ w
 spans-one h g = h .is ∙ ap (collection sequence) (one-list (h .here) (g .here)) ∙ sym (g .is)
@@ -89,7 +86,7 @@ part-well-formed (inr (inr h)) =
 
 -- ---- where a part ends
 
-pub end-span : (s : List ℕ) (p : Part) → p .how ≡ 3 → endOf s p ≡ p .extent
+pub end-span : (s : List ℕ) (p : Part) → p .how ≡ 3 → endOf s p ≡ p .at + p .extent
 end-span s p e = rw (eq-eqb (p .how) 3 e)
 
 pub end-record : (s : List ℕ) (p : Part) → (p .how ≡ 3 → ⊥) → endOf s p ≡ p .at + word s (p .at)

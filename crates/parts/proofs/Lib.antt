@@ -7,4 +7,5 @@ mod Halving
 mod Putting
 pub mod Packing
 pub mod Masking
+mod Ordering
 pub mod Laws

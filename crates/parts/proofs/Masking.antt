@@ -33,15 +33,19 @@ use Rattle.parts.proofs.Packing.{cell-value, cell-free, order-left, ord
 
 -- ---- chosen items in order
 
-items-more : (v w : Value) (vs ws : List Value) → orderItems (itemsOf (v ∷ vs)) (itemsOf (w ∷ ws)) ≡ after (order v w) (orderItems (itemsOf vs) (itemsOf ws))
+pub items-more : (v w : Value) (vs ws : List Value) → orderItems (itemsOf (v ∷ vs)) (itemsOf (w ∷ ws)) ≡ after (order v w) (orderItems (itemsOf vs) (itemsOf ws))
 unfolding within itemsOf
 items-more v w vs ws = refl
 
-none-lower : (w : Value) (ws : List Value) → orderItems (itemsOf []) (itemsOf (w ∷ ws)) ≡ Lower
+pub none-lower : (w : Value) (ws : List Value) → orderItems (itemsOf []) (itemsOf (w ∷ ws)) ≡ Lower
 unfolding within itemsOf
 none-lower w ws = refl
 
-some-higher : (v : Value) (vs : List Value) → orderItems (itemsOf (v ∷ vs)) (itemsOf []) ≡ Higher
+pub none-none : orderItems (itemsOf []) (itemsOf []) ≡ Same
+unfolding within itemsOf
+none-none = refl
+
+pub some-higher : (v : Value) (vs : List Value) → orderItems (itemsOf (v ∷ vs)) (itemsOf []) ≡ Higher
 unfolding within itemsOf
 some-higher v vs = refl
 
@@ -62,7 +66,7 @@ pub record Some (m : ℕ) (vs : List Value) : Type 0 where
   pub is : keep m vs ≡ first ∷ others
   pub there : In first vs
 
-keep-some : (m : ℕ) (vs : List Value) → (m ≡ 0 → ⊥) → m < 2 ^ length vs → Some m vs
+pub keep-some : (m : ℕ) (vs : List Value) → (m ≡ 0 → ⊥) → m < 2 ^ length vs → Some m vs
 keep-some m [] f l = absurd (f (omega arith))
 keep-some m (v ∷ vs) f l = go (ℕ-discrete (m % 2) 1) (λ k. keep-some (m / 2) vs k (omega (arith, pow-suc 2 (length vs))))
   where

@@ -49,15 +49,13 @@ module _ (s : List ℕ) (p : Part) where
   pub record Low : Type 0 where
     pub how : p .how ≤ 3
     pub at : p .at ≤ 65536
-    pub mask : p .how ≡ 2 → p .extent < 128
-    pub ordered : p .how ≡ 3 → p .at ≤ p .extent
-    pub span : p .how ≡ 3 → p .extent ≤ p .at + 508
+    pub extent : (p .how ≡ 1 → ⊥) → p .extent ≤ 508
 
   module _ (short : length s ≤ 65536) where
     part-low : (v : Value) → PartIs s p v → Low
-    part-low v (inl h) = record { how = omega (arith, h .0); at = omega (arith, h .1 .fits); mask = λ e. absurd (omega (arith, h .0)); ordered = λ e. absurd (omega (arith, h .0)); span = λ e. absurd (omega (arith, h .0)) }
-    part-low v (inr (inl h)) = record { how = omega (arith, h .0); at = omega (arith, h .1 .here .fits); mask = λ e. mask-low _ _ (h .1 .few) (h .1 .below); ordered = λ e. absurd (omega (arith, h .0)); span = λ e. absurd (omega (arith, h .0)) }
-    part-low v (inr (inr h)) = record { how = omega (arith, h .0); at = omega (arith, h .1 .here .fits, h .1 .here .ends); mask = λ e. absurd (omega (arith, h .0)); ordered = λ e. omega (arith, h .1 .here .ends); span = λ e. omega (arith, h .1 .here .ends, h .1 .short) }
+    part-low v (inl h) = record { how = omega (arith, h .0); at = omega (arith, h .1 .fits); extent = λ f. absurd (f (h .0)) }
+    part-low v (inr (inl h)) = record { how = omega (arith, h .0); at = omega (arith, h .1 .here .fits); extent = λ f. omega (arith, mask-low _ _ (h .1 .few) (h .1 .below)) }
+    part-low v (inr (inr h)) = record { how = omega (arith, h .0); at = omega (arith, h .1 .here .fits, h .1 .here .ends); extent = λ f. omega (arith, h .1 .here .ends, h .1 .short) }
 
     pub cell-low : (p .how ≡ 0 → ⊥) → CellHeld s p → Low
     cell-low f h = let x = cell-value f (h .1) in part-low (x .0) (x .2)
@@ -73,46 +71,23 @@ module _ (s : List ℕ) (p : Part) where
         go c (v, f, inr (inl k)) = absurd (omega (arith, k .0))
         go c (v, f, inr (inr k)) = absurd (omega (arith, k .0))
 
-    pub pack-mask : p .how ≡ 2 → CellHeld s p → Packed s p (2 + 4 * (p .at + 131072 * p .extent))
-    pack-mask e z = record { is = λ c h. go c (cell-value {s = s} {p = p} {c = c} (λ z. omega arith) h); small = let l = cell-low (λ z. omega arith) z in omega (arith, l .at, l .mask e); blank = λ e. absurd (omega arith) }
-      where
-        go : (c : Cell) → (v : Value) × (c ≡ is v) × PartIs s p v → CellIs s (unpacked (2 + 4 * (p .at + 131072 * p .extent))) c
-        go c (v, f, inl k) = absurd (omega (arith, k .0))
-        go c (v, f, inr (inl k)) =
-            let l = part-low v (inr (inl k)) in
-            let n = 2 + 4 * (p .at + 131072 * p .extent) in
-            let a : n % 4 ≡ 2 = omega arith in
-            let b : p .at + 131072 * p .extent ≡ n / 4 = omega arith in
-            let d : p .at ≡ (p .at + 131072 * p .extent) % 131072 = omega (arith, l .at) in
-            let i : p .extent ≡ (p .at + 131072 * p .extent) / 131072 = omega (arith, l .at) in
-            let m : eqb (n % 4) 3 ≡ false = ne-eqb (n % 4) 3 (λ z. absurd (omega arith)) in
-            let x : p .extent ≡ cond (eqb (n % 4) 3) (n / 4 % 131072 + n / 4 / 131072) (n / 4 / 131072) = i ∙ ap (λ (y : ℕ). y / 131072) b ∙ ap (λ (t : Bool). cond t (n / 4 % 131072 + n / 4 / 131072) (n / 4 / 131072)) (sym m) in
-            inr (v, f, inr (inl (a, subst (λ (y : ℕ). Selects s (unpacked n .at) y v) x (subst (λ (y : ℕ). Selects s y (p .extent) v) (d ∙ ap (λ (y : ℕ). y % 131072) b) (k .1)))))
-        go c (v, f, inr (inr k)) = absurd (omega (arith, k .0))
-
-    pub pack-span : (long : ℕ) → long ≡ p .extent - p .at → (p .how ≡ 0 → ⊥) → (p .how ≡ 1 → ⊥) → (p .how ≡ 2 → ⊥) → CellHeld s p → Packed s p (3 + 4 * (p .at + 131072 * long))
-    pack-span long se f0 f1 f2 z =
+    -- members and spans have their extent in the word
+    pub pack-wide : (p .how ≡ 0 → ⊥) → (p .how ≡ 1 → ⊥) → CellHeld s p → Packed s p (p .how + 4 * (p .at + 131072 * p .extent))
+    pack-wide f0 f1 z =
         let l = cell-low f0 z in
-        let three : p .how ≡ 3 = omega (arith, l .how, f0, f1, f2) in
-        record { is = λ c h. go c (cell-value {s = s} {p = p} {c = c} f0 h); small = omega (arith, l .at, l .span three); blank = λ e. absurd (omega arith) }
+        record { is = λ c h. go c (cell-value {s = s} {p = p} {c = c} f0 h); small = omega (arith, l .how, l .at, l .extent f1); blank = λ e. absurd (omega (arith, l .how, f0, e)) }
       where
-        go : (c : Cell) → (v : Value) × (c ≡ is v) × PartIs s p v → CellIs s (unpacked (3 + 4 * (p .at + 131072 * long))) c
-        go c (v, f, inl k) = absurd (f1 (k .0))
-        go c (v, f, inr (inl k)) = absurd (f2 (k .0))
-        go c (v, f, inr (inr k)) =
-            let l = part-low v (inr (inr k)) in
-            let o = l .ordered (k .0) in
-            let n = 3 + 4 * (p .at + 131072 * long) in
-            let a : n % 4 ≡ 3 = omega arith in
-            let b : p .at + 131072 * long ≡ n / 4 = omega arith in
-            let d : p .at ≡ (p .at + 131072 * long) % 131072 = omega (arith, l .at) in
-            let i : long ≡ (p .at + 131072 * long) / 131072 = omega (arith, l .at) in
-            let d′ : p .at ≡ n / 4 % 131072 = d ∙ ap (λ (y : ℕ). y % 131072) b in
-            let i′ : long ≡ n / 4 / 131072 = i ∙ ap (λ (y : ℕ). y / 131072) b in
-            let m : eqb (n % 4) 3 ≡ true = eq-eqb (n % 4) 3 a in
-            let e : p .extent ≡ p .at + long = omega (arith, o) in
-            let x : p .extent ≡ cond (eqb (n % 4) 3) (n / 4 % 131072 + n / 4 / 131072) (n / 4 / 131072) = e ∙ ap₂ _+_ d′ i′ ∙ ap (λ (t : Bool). cond t (n / 4 % 131072 + n / 4 / 131072) (n / 4 / 131072)) (sym m) in
-            inr (v, f, inr (inr (a, subst (λ (y : ℕ). Spans s (unpacked n .at) y v) x (subst (λ (y : ℕ). Spans s y (p .extent) v) d′ (k .1)))))
+        same : Low → unpacked (p .how + 4 * (p .at + 131072 * p .extent)) ≡ p
+        same l =
+            let n = p .how + 4 * (p .at + 131072 * p .extent) in
+            let q : p .at + 131072 * p .extent ≡ n / 4 = omega (arith, l .how) in
+            let h : n % 4 ≡ p .how = omega (arith, l .how) in
+            let a : n / 4 % 131072 ≡ p .at = ap (λ (y : ℕ). y % 131072) (sym q) ∙ omega (arith, l .at) in
+            let x : n / 4 / 131072 ≡ p .extent = ap (λ (y : ℕ). y / 131072) (sym q) ∙ omega (arith, l .at) in
+            rw (h, a, x)
+
+        go : (c : Cell) → (v : Value) × (c ≡ is v) × PartIs s p v → CellIs s (unpacked (p .how + 4 * (p .at + 131072 * p .extent))) c
+        go c (v, f, k) = inr (v, f, subst (λ (y : Part). PartIs s y v) (sym (same (part-low v k))) k)
 
 -- ---- the order of cells
 
@@ -140,11 +115,3 @@ module _ (s : List ℕ) (p q : Part) where
       let x = cell-value e h in
       let y = cell-value f g in
       c (x .0) (y .0) (x .2) (y .2) ∙ sym (ap₂ orderCells (x .1) (y .1))
-
--- ---- unpacking
-
-pub unpack-span : (n : ℕ) → n % 4 ≡ 3 → record { how = n % 4; at = n / 4 % 131072; extent = n / 4 % 131072 + n / 4 / 131072 } ≡ unpacked n
-unpack-span n e = rw (eq-eqb (n % 4) 3 e)
-
-pub unpack-other : (n : ℕ) → (n % 4 ≡ 3 → ⊥) → record { how = n % 4; at = n / 4 % 131072; extent = n / 4 / 131072 } ≡ unpacked n
-unpack-other n e = rw (ne-eqb (n % 4) 3 e)

@@ -5,6 +5,7 @@ use mathlib.Core.Logic.{inl, inr}
 use mathlib.Core.List.{List, _∷_}
 use Prim.Native.Nat.{ℕ, suc, _+_, _-_, _^_, _≤_, _<_}
 use native.Mathlib.Nat.{pow-le-pow-right}
+use native.Mathlib.Decide.{ℕ-discrete}
 use native.Mathlib.Omega.{arith}
 use lib.ListN.{length, getD, drop}
 use lib.Seq.{drop-cons}
@@ -65,12 +66,12 @@ module _ {s : List ℕ} {p : Part} where
 
   -- ---- `run_of`
 
-  pub run-spans : {v : Value} → p .how ≡ 3 → PartIs s p v → RunOf s p (record { from = p .at; to = p .extent; mask = everyOne })
+  pub run-spans : {v : Value} → p .how ≡ 3 → PartIs s p v → RunOf s p (record { from = p .at; to = p .at + p .extent; mask = everyOne })
   run-spans e g = record {
     short = let x = spans-of e g in let i = x .here .ends in let n = x .short in omega arith;
     ends = omega (arith, end-span s p e);
     every = λ f. refl;
-    right = λ k vs h. let x = spans-of e h in every-run vs (subst (λ (l : List Value). ItemsAt s (p .at) (p .extent) (itemsOf l)) (sym (one-collection (x .is))) (x .here));
+    right = λ k vs h. let x = spans-of e h in every-run vs (subst (λ (l : List Value). ItemsAt s (p .at) (p .at + p .extent) (itemsOf l)) (sym (one-collection (x .is))) (x .here));
   }
 
   pub run-whole : {n : ℕ} → (p .how ≡ 2 → ⊥) → (p .how ≡ 3 → ⊥) → Length s (p .at) n → RunOf s p (record { from = p .at + 4; to = p .at + n; mask = everyOne })
@@ -131,17 +132,29 @@ module _ {s : List ℕ} {p q : Part} {k l : ℕ} (cp : KindOfPart s p k) (cq : K
       let z : orderℕ (kindOf v) (kindOf w) ≡ Higher = gt-higher (kindOf v) (kindOf w) (omega arith) in
       sym (ap (λ (o : Order). after o (within v w)) z)
 
--- a part of a kind below 3 is a whole record
-pub plain-how : {s : List ℕ} {p : Part} {k : ℕ} {v : Value} → KindOfPart s p k → k < 3 → PartIs s p v → p .how ≡ 1
-plain-how c l (inl h) = h .0
-plain-how {v = v} c l (inr (inl h)) = absurd (let e = c v (inr (inl h)) in let d = ap kindOf (h .1 .is) in omega arith)
-plain-how {v = v} c l (inr (inr h)) = absurd (let e = c v (inr (inr h)) in let d = ap kindOf (h .1 .is) in omega arith)
+-- two whole records
+pub whole-held : {s : List ℕ} {p : Part} → p .how ≡ 1 → PartHeld s p → Holds s (p .at)
+whole-held e h = holds (whole-of e (h .here))
 
-pub plain-held : {s : List ℕ} {p : Part} {k : ℕ} → KindOfPart s p k → k < 3 → PartHeld s p → Holds s (p .at)
-plain-held c l h = holds (whole-of (plain-how c l (h .here)) (h .here))
+pub whole-order : {s : List ℕ} {p q : Part} {o : Order} → p .how ≡ 1 → q .how ≡ 1 → Ordered s (p .at) (q .at) o → OrderedParts s p q o
+whole-order e f c v w x y = c v w (whole-of e x) (whole-of f y)
 
-pub plain-order : {s : List ℕ} {p q : Part} {k l : ℕ} {o : Order} → KindOfPart s p k → KindOfPart s q l → k < 3 → l < 3 → Ordered s (p .at) (q .at) o → OrderedParts s p q o
-plain-order cp cq h g c v w x y = c v w (whole-of (plain-how cp h x) x) (whole-of (plain-how cq g y) y)
+-- a part that is no whole record is a collection
+apart-kind : {s : List ℕ} {p : Part} {k : ℕ} → KindOfPart s p k → (p .how ≡ 1 → ⊥) → PartHeld s p → 3 ≤ k
+apart-kind {s} {p} {k} c f h = go (h .value) (h .here) (c (h .value) (h .here))
+  where
+    go : (v : Value) → PartIs s p v → k ≡ kindOf v → 3 ≤ k
+    go v (inl x) e = absurd (f (x .0))
+    go v (inr (inl x)) e = let d = ap kindOf (x .1 .is) in omega arith
+    go v (inr (inr x)) e = let d = ap kindOf (x .1 .is) in omega arith
+
+-- two parts of one kind that are not both whole records are collections
+pub kinds-high : {s : List ℕ} {p q : Part} {k l : ℕ} → KindOfPart s p k → KindOfPart s q l → PartHeld s p → PartHeld s q → (p .how ≡ 1 → q .how ≡ 1 → ⊥) → k ≡ l → 3 ≤ k
+kinds-high {p = p} {q = q} {k = k} cp cq hp hq f e = go (ℕ-discrete (p .how) 1)
+  where
+    go : Dec (p .how ≡ 1) → 3 ≤ k
+    go (yes z) = let n = apart-kind cq (f z) hq in omega arith
+    go (no z) = apart-kind cp z hp
 
 -- two collections of one kind are ordered as their items
 pub collections-order : (k l : Kind) (vs ws : List Value) → number k ≡ number l → order (collection k (itemsOf vs)) (collection l (itemsOf ws)) ≡ orderItems (itemsOf vs) (itemsOf ws)
@@ -168,6 +181,14 @@ module _ {s : List ℕ} {p : Part} {k : ℕ} where
 
   pub item-skip : {r : Run} → ItemHeld s p k → RunOf s p r → SkipHeld s r k
   item-skip h c = record { items = h .items; here = c .right (h .kind) (h .items) (h .here); enough = let b = h .below in omega arith }
+
+  pub item-place : {r q : Run} → ItemHeld s p k → RunOf s p r → Skipped s r k q → q .from ≤ 65536
+  item-place h c d =
+      let x = d .right (h .items) (c .right (h .kind) (h .items) (h .here)) .here in
+      let e = x .ends in
+      let g = x .fits in
+      let s = h .short in
+      omega arith
 
   pub item-is : {r q : Run} → ItemHeld s p k → RunOf s p r → Skipped s r k q → ItemOfPart s p k (record { how = 1; at = q .from; extent = 0 })
   item-is {r} {q} h c d = record { whole = refl; right = right; ends = ends }

@@ -23,7 +23,7 @@ use Rattle.parts.specs.Run.{Ready, RunIs, RunHeld, MoreHeld, Startable, 
 
 -- ---- lists of values whose records stand between two places
 
-abbrev Stand : List ℕ → ℕ → ℕ → List Value → Type 0
+abbrev pub Stand : List ℕ → ℕ → ℕ → List Value → Type 0
 Stand s from to vs = ItemsAt s from to (itemsOf vs)
 
 pub one-stand : {s : List ℕ} {from to : ℕ} (vs ws : List Value) → Stand s from to vs → Stand s from to ws → vs ≡ ws
@@ -44,7 +44,7 @@ pub record Lead (s : List ℕ) (from to : ℕ) (vs : List Value) : Type 0 where
   pub low : 4 ≤ word s from
   pub inside : from + word s from ≤ to
 
-lead-cons : {s : List ℕ} {from to : ℕ} (v : Value) (vs : List Value) → Stand s from to (v ∷ vs) → Lead s from to (v ∷ vs)
+pub lead-cons : {s : List ℕ} {from to : ℕ} (v : Value) (vs : List Value) → Stand s from to (v ∷ vs) → Lead s from to (v ∷ vs)
 unfolding itemsOf
 lead-cons {s} {from} {to} v vs h =
     let p = first-of h in

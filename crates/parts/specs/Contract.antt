@@ -32,12 +32,13 @@ CountOfPart s p r = (k : Kind) (vs : List Value) → PartIs s p (collection k (i
 abbrev pub OrderedParts : List ℕ → Part → Part → Order → Type 0
 OrderedParts s p q o = (v w : Value) → PartIs s p v → PartIs s q w → o ≡ order v w
 
--- A part denotes a collection of more than k items.
+-- A part denotes a collection of more than k items, in a slice whose places fit.
 pub record ItemHeld (s : List ℕ) (p : Part) (k : ℕ) : Type 0 where
   pub kind : Kind
   pub items : List Value
   pub here : PartIs s p (collection kind (itemsOf items))
   pub below : k < length items
+  pub short : length s ≤ 65536
 
 -- r denotes the k-th of them, a whole record
 pub record ItemOfPart (s : List ℕ) (p : Part) (k : ℕ) (r : Part) : Type 0 where
@@ -80,11 +81,12 @@ pub record SplitOf (s : List ℕ) (p : Part) (d : ℕ) (r : Halves) : Type 0 whe
   pub right : (vs : List Value) → PartIs s p (collection set (itemsOf vs)) → HalvesAre s set (getD (splits vs) d (halves [] [])) r
   pub inside : Inside s p r
 
--- A part denotes a sequence, and k is the number of one of its cuts.
+-- A part denotes a sequence, in a slice whose places fit, and k is the number of one of its cuts.
 pub record CutHeld (s : List ℕ) (p : Part) (k : ℕ) : Type 0 where
   pub items : List Value
   pub here : PartIs s p (collection sequence (itemsOf items))
   pub below : k ≤ length items
+  pub short : length s ≤ 65536
 
 -- r is the k-th cut
 pub record CutOf (s : List ℕ) (p : Part) (k : ℕ) (r : Halves) : Type 0 where

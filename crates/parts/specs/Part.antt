@@ -31,7 +31,7 @@ pub record Spans (s : List ℕ) (from to : ℕ) (v : Value) : Type 0 where
 
 -- A part denotes v.
 abbrev pub PartIs : List ℕ → Part → Value → Type 0
-PartIs s p v = ((p .how ≡ 1) × At s (p .at) v) ⊎ (((p .how ≡ 2) × Selects s (p .at) (p .extent) v) ⊎ ((p .how ≡ 3) × Spans s (p .at) (p .extent) v))
+PartIs s p v = ((p .how ≡ 1) × At s (p .at) v) ⊎ (((p .how ≡ 2) × Selects s (p .at) (p .extent) v) ⊎ ((p .how ≡ 3) × Spans s (p .at) (p .at + p .extent) v))
 
 -- It denotes some value.
 pub record PartHeld (s : List ℕ) (p : Part) : Type 0 where
@@ -40,7 +40,7 @@ pub record PartHeld (s : List ℕ) (p : Part) : Type 0 where
 
 -- Where the bytes of a part end.
 abbrev pub endOf : List ℕ → Part → ℕ
-endOf s p = cond (eqb (p .how) 3) (p .extent) (p .at + word s (p .at))
+endOf s p = p .at + cond (eqb (p .how) 3) (p .extent) (word s (p .at))
 
 -- A part stands for what is said of a name: nothing, or a value.
 abbrev pub CellIs : List ℕ → Part → Cell → Type 0

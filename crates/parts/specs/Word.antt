@@ -1,17 +1,15 @@
 -- A word: a part packed into 32 bits. 0 is no part.
 use mathlib.Core.Path.{_≡_}
-use mathlib.Core.Bool.{Bool, cond}
 use mathlib.Core.List.{List}
 use Prim.Native.Nat.{ℕ, _+_, _*_, _/_, _%_, _<_}
-use lib.Dec.{eqb}
 use Rattle.integers.specs.declared.Order.{Order}
 use Rattle.patterns.specs.Binding.{Cell, orderCells}
 use Rattle.parts.specs.declared.Part.{Part}
 use Rattle.parts.specs.Part.{CellIs}
 
--- The part that a word stands for: how in the lowest two bits, then 17 bits of the place, then the mask, or how far a span goes.
+-- The part that a word stands for: how in the lowest two bits, then 17 bits of the place, then the mask, or the size of a span.
 abbrev pub unpacked : ℕ → Part
-unpacked n = record { how = n % 4; at = n / 4 % 131072; extent = cond (eqb (n % 4) 3) (n / 4 % 131072 + n / 4 / 131072) (n / 4 / 131072) }
+unpacked n = record { at = n / 4 % 131072; extent = n / 4 / 131072; how = n % 4 }
 
 -- Something is said of a name by a part.
 abbrev pub CellHeld : List ℕ → Part → Type 0

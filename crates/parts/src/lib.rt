@@ -1,29 +1,31 @@
 // Parts of a value where they lie, by value and without copying: a whole record, some members of a set, a span of a sequence.
 pub mod masks;
+mod members;
 pub mod runs;
 pub mod words;
 
 use integers::Order;
 use values::Value;
+ghost use mathlib.Core.Path.{_≡_};
 ghost use Rattle.parts.specs.Part.{PartHeld};
 ghost use Rattle.parts.specs.Contract.{KindOfPart, CollectionHeld, Countable, OrderedParts, CountOfPart, ItemHeld, ItemOfPart, SplitHeld, CutHeld, SplitOf, CutOf, Puttable, PutPart, MaskOf};
 
 // Nothing; the whole record at a place; of the set of at most seven members whose record stands at a place, those that the bits of `extent`
-// choose, the first member by the lowest bit; the sequence of the items from a place up to `extent`.
+// choose, the first member by the lowest bit; the sequence of the items whose records take `extent` bytes from a place on. Eight bytes in all.
 pub struct Part {
-    pub how: usize,
-    pub at: usize,
-    pub extent: usize,
+    pub at: u32,
+    pub extent: u16,
+    pub how: u8,
 }
 
 impl Part {
-    pub const NOTHING: usize = 0;
+    pub const NOTHING: u8 = 0;
 
-    pub const WHOLE: usize = 1;
+    pub const WHOLE: u8 = 1;
 
-    pub const MEMBERS: usize = 2;
+    pub const MEMBERS: u8 = 2;
 
-    pub const SPAN: usize = 3;
+    pub const SPAN: u8 = 3;
 }
 
 // The two halves of a part.
@@ -43,7 +45,7 @@ pub fn kind_of_part(s: &[u8], p: Part) -> usize
     if p.how == Part::SPAN {
         return Value::SEQUENCE;
     }
-    let at = p.at;
+    let at = p.at as usize;
     values::kind_of(s, at)
 }
 
@@ -56,9 +58,44 @@ pub fn count_of_part(s: &[u8], p: Part) -> usize
     runs::count(s, r)
 }
 
+// The order of the sets that two parts choose members of: those of one set by their bits.
+fn order_members(s: &[u8], p: Part, q: Part) -> Order
+    requires { ⌜ PartHeld (now s) p × PartHeld (now s) q × (p .how ≡ 2) × (q .how ≡ 2) ⌝ }
+    ensures { λ r. ⌜ OrderedParts (now (s .entry)) p q r ⌝ }
+{
+    let a = p.at as usize;
+    let b = q.at as usize;
+    let x = p.extent as usize;
+    let y = q.extent as usize;
+    if a == b {
+        return masks::order(x, y);
+    }
+    members::order(s, a + Value::HEAD, x, b + Value::HEAD, y)
+}
+
 // The order of the values that two parts denote, where they lie. It serves the order of bindings and the test of repeated names alike.
 pub fn order_parts(s: &[u8], p: Part, q: Part) -> Order
     requires { ⌜ PartHeld (now s) p × PartHeld (now s) q ⌝ }
+    ensures { λ r. ⌜ OrderedParts (now (s .entry)) p q r ⌝ }
+{
+    if p.how != q.how {
+        return order_kinds(s, p, q);
+    }
+    if p.how == Part::MEMBERS {
+        return order_members(s, p, q);
+    }
+    if p.how == Part::WHOLE {
+        let a = p.at as usize;
+        let b = q.at as usize;
+        return values::compare(s, a, b);
+    }
+    order_kinds(s, p, q)
+}
+
+// The same of two parts that are not both whole records: by kind, and then item by item.
+fn order_kinds(s: &[u8], p: Part, q: Part) -> Order
+    requires { ⌜ PartHeld (now s) p × PartHeld (now s) q ⌝ }
+    requires { ⌜ (p .how ≡ 1 → q .how ≡ 1 → ⊥) ⌝ }
     ensures { λ r. ⌜ OrderedParts (now (s .entry)) p q r ⌝ }
 {
     let kp = kind_of_part(s, p);
@@ -68,11 +105,6 @@ pub fn order_parts(s: &[u8], p: Part, q: Part) -> Order
     }
     if kq < kp {
         return Order::Higher;
-    }
-    if kp < Value::SET {
-        let a = p.at;
-        let b = q.at;
-        return values::compare(s, a, b);
     }
     let a = runs::run_of(s, p);
     let b = runs::run_of(s, q);
@@ -88,9 +120,9 @@ pub fn item_of_part(s: &[u8], p: Part, k: usize) -> Part
     let r = runs::skip(s, all, k);
     let at = r.from;
     Part {
-        how: Part::WHOLE,
-        at,
+        at: at as u32,
         extent: 0,
+        how: Part::WHOLE,
     }
 }
 
@@ -101,18 +133,18 @@ pub fn split_part(s: &[u8], p: Part, d: usize) -> Halves
 {
     let at = p.at;
     let mask = mask_of(s, p);
-    let n = masks::ways(mask);
-    let left = masks::spread(mask, d, n);
+    let left = masks::spread(mask, d);
+    let right = mask - left;
     Halves {
         left: Part {
-            how: Part::MEMBERS,
             at,
-            extent: left,
+            extent: left as u16,
+            how: Part::MEMBERS,
         },
         right: Part {
-            how: Part::MEMBERS,
             at,
-            extent: mask - left,
+            extent: right as u16,
+            how: Part::MEMBERS,
         },
     }
 }
@@ -123,7 +155,7 @@ fn mask_of(s: &[u8], p: Part) -> usize
     ensures { λ r. ⌜ MaskOf (now (s .entry)) p r ⌝ }
 {
     if p.how == Part::MEMBERS {
-        return p.extent;
+        return p.extent as usize;
     }
     let n = count_of_part(s, p);
     masks::full(n)
@@ -141,14 +173,14 @@ pub fn cut_part(s: &[u8], p: Part, k: usize) -> Halves
     let to = all.to;
     Halves {
         left: Part {
+            at: from as u32,
+            extent: (middle - from) as u16,
             how: Part::SPAN,
-            at: from,
-            extent: middle,
         },
         right: Part {
+            at: middle as u32,
+            extent: (to - middle) as u16,
             how: Part::SPAN,
-            at: middle,
-            extent: to,
         },
     }
 }
@@ -159,7 +191,7 @@ pub fn put_part(s: &mut [u8], p: Part, base: usize) -> usize
     ensures { λ r. ⌜ PutPart (now (s .entry)) (now (s .exit)) p base r ⌝ }
 {
     if p.how == Part::WHOLE {
-        let at = p.at;
+        let at = p.at as usize;
         return values::copy_value(s, at, base);
     }
     let kind = kind_of_part(s, p);

@@ -1,59 +1,71 @@
 // Bits that choose members of a set of at most seven.
 use integers::Order;
 ghost use mathlib.Core.Path.{_≡_};
-ghost use Prim.Native.Nat.{_≤_, _<_};
+ghost use Prim.Native.Nat.{_/_, _≤_, _<_};
 ghost use mathlib.Core.Bool.{cond};
 ghost use Rattle.integers.specs.declared.Order.the-variants.{Lower, Higher};
-ghost use Rattle.parts.specs.Mask.{Full, Ways, Spreadable, Spread, OrderedMasks};
+ghost use Rattle.parts.specs.Mask.{Full, Deals, Spread, OrderedMasks};
+
+// The masks of all members, of none to seven.
+const FULL: [usize; 8] = [0, 1, 3, 7, 15, 31, 63, 127];
 
 // The mask of all of k members.
 pub fn full(k: usize) -> usize
     requires { ⌜ k ≤ 7 ⌝ }
     ensures { λ r. ⌜ Full k r ⌝ }
 {
-    let mut m = 0;
-    let mut i = 0;
-    while i < k {
-        m = 2 * m + 1;
-        i += 1;
-    }
-    m
+    let masks = FULL;
+    masks[k]
 }
 
-// The number of splits of the members that a mask chooses.
-pub fn ways(m: usize) -> usize
-    requires { ⌜ m < 128 ⌝ }
-    ensures { λ r. ⌜ Ways m r ⌝ }
+// Members dealt out, the last ones first: the mask of those on the left, and what is left of the number of the split.
+pub struct Dealing {
+    pub left: usize,
+    pub rest: usize,
+}
+
+// One bit more of a mask, of which those above it are dealt out: the number's lowest bit says where its member goes.
+fn deal(m: usize, dealt: Dealing) -> Dealing
+    requires { ⌜ (m < 128) × (dealt .left ≤ m / 2) ⌝ }
+    ensures { λ r. ⌜ Deals m dealt r ⌝ }
 {
-    if m == 0 {
-        return 1;
+    let left = 2 * dealt.left;
+    let rest = dealt.rest;
+    if m % 2 == 0 {
+        return Dealing { left, rest };
     }
-    let w = ways(m / 2);
-    if m % 2 == 1 {
-        return 2 * w;
+    if rest % 2 == 0 {
+        return Dealing {
+            left: left + 1,
+            rest: rest / 2,
+        };
     }
-    w
+    Dealing {
+        left,
+        rest: rest / 2,
+    }
 }
 
-// Of the members that a mask chooses, those on the left of the d-th of n splits.
-pub fn spread(m: usize, d: usize, n: usize) -> usize
-    requires { ⌜ Spreadable m d n ⌝ }
+// Of the members that a mask chooses, those on the left of the d-th split.
+pub fn spread(m: usize, d: usize) -> usize
+    requires { ⌜ m < 128 ⌝ }
     ensures { λ r. ⌜ Spread m d r ⌝ }
 {
-    if m == 0 {
-        return 0;
-    }
-    if m % 2 == 0 {
-        let r = spread(m / 2, d, n);
-        return 2 * r;
-    }
-    let half = n / 2;
-    if d < half {
-        let r = spread(m / 2, d, half);
-        return 2 * r + 1;
-    }
-    let r = spread(m / 2, d - half, half);
-    2 * r
+    let m1 = m / 2;
+    let m2 = m1 / 2;
+    let m3 = m2 / 2;
+    let m4 = m3 / 2;
+    let m5 = m4 / 2;
+    let m6 = m5 / 2;
+    let none = Dealing { left: 0, rest: d };
+    let last = deal(m6, none);
+    let from5 = deal(m5, last);
+    let from4 = deal(m4, from5);
+    let from3 = deal(m3, from4);
+    let from2 = deal(m2, from3);
+    let from1 = deal(m1, from2);
+    let all = deal(m, from1);
+    all.left
 }
 
 // The order of the sets that two masks choose of one set: the lowest bit that differs decides, unless one of them ends before it.

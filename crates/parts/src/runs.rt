@@ -62,12 +62,12 @@ pub fn run_of(s: &[u8], p: Part) -> Run
     requires { ⌜ CollectionHeld (now s) p ⌝ }
     ensures { λ r. ⌜ RunOf (now (s .entry)) p r ⌝ }
 {
-    let at = p.at;
-    let extent = p.extent;
+    let at = p.at as usize;
+    let extent = p.extent as usize;
     if p.how == Part::SPAN {
         return Run {
             from: at,
-            to: extent,
+            to: at + extent,
             mask: Run::ALL,
         };
     }

@@ -25,13 +25,13 @@ use Rattle.patterns.specs.Nodes.{isHalved, meetings, isLarge}
 use Rattle.patterns.specs.Laws.Nodes.{pattern-at}
 use Rattle.matching.specs.declared.nodes.Meeting.{Meeting}
 use Rattle.matching.specs.declared.nodes.Meeting.the-variants.{Unfit, Large, Ways}
-use Rattle.matching.specs.Node.{MeetsAs, Meets, PieceHeld, PieceOf, innerOf, waysOf, metBy, WayHeld}
+use Rattle.matching.specs.Node.{MeetsAs, Meets, PieceHeld, PieceOf, innerOf, waysOf, metBy}
 use Rattle.prelude.proofs.Lists.{map-at}
 use Rattle.matching.proofs.Records.{kind-low, kind-high, count-few, count-two, meeting-length}
 use Rattle.splitting.specs.Union.{hasUnion, someUnion, shallow}
 use Rattle.splitting.specs.Laws.Union.{no-union-narrow, shallow-narrow}
 use Rattle.splitting.proofs.Composed.{leaf-no-union, wide-composed, union-composed, shallow-union, shallow-other}
-use Rattle.splitting.specs.Told.{TellsUnion, TellsShallow, TellsWide, TellsWays, TellsWay, WaysHeld, wideWays}
+use Rattle.splitting.specs.Told.{TellsUnion, TellsShallow, TellsWide, TellsWays, TellsWay, WaysHeld, WayHeld, wideWays}
 
 -- one more item is looked at
 drop-next : {A : Type 0} (l : List A) (i : ℕ) (z : A) → i < length l → drop i l ≡ getD l i z ∷ drop (i + 1) l
@@ -152,8 +152,8 @@ module _ (table index : List ℕ) (p : ℕ) (r : Readable table index p) where
           ways-are : (v : Value) → PartIs s part v → MeetsAs (kindAt (records table) p) (length (named (recordAt (records table) p))) v (Ways w)
           ways-are v q = subst (MeetsAs (kindAt (records table) p) (length (named (recordAt (records table) p))) v) e (h v q)
 
-          pub ways-held : PartHeld s part → WaysHeld table p s part w
-          ways-held q = let a = ways-are (q .value) (q .here) in record { composed = c; value = q .value; here = q .here; narrow = a .0; count = a .1 }
+          pub ways-held : PartHeld s part → length s ≤ 65536 → WaysHeld table p s part w
+          ways-held q l = let a = ways-are (q .value) (q .here) in record { composed = c; value = q .value; here = q .here; narrow = a .0; count = a .1; short = l }
 
           pub wide-ways : (b : Bool) → TellsWays table p s part b → TellsWide table p s part b
           wide-ways b t v q = t v q ∙ sym (wide-by v ∙ rw (ways-are v q .0))
@@ -183,8 +183,8 @@ module _ (table index : List ℕ) (p : ℕ) (r : Readable table index p) where
             ap (wideWays table p) (sym (drop-of-length-le (waysOf table p v) {i = d} n)) ∙ left v q
 
         module _ (l : d < w) where
-          pub way-held : WayHeld table p 0 s part d
-          way-held = record { composed = h .composed; value = h .value; here = h .here; narrow = h .narrow; below = omega (arith, h .count); within = omega arith }
+          pub way-held : WayHeld table p s part d
+          way-held = record { composed = h .composed; value = h .value; here = h .here; narrow = h .narrow; below = omega (arith, h .count); short = h .short }
 
           module _ (b : Bool) (t : TellsWay table p s part d b) where
             ways-step : (v : Value) → PartIs s part v
@@ -204,7 +204,7 @@ module _ (table index : List ℕ) (p : ℕ) (r : Readable table index p) where
 
     -- ---- in_way
 
-    module _ (d : ℕ) (h : WayHeld table p 0 s part d) where
+    module _ (d : ℕ) (h : WayHeld table p s part d) where
       pub parts-start : PartsLeft table p s part d 0
       parts-start v q = refl
 
@@ -225,6 +225,7 @@ module _ (table index : List ℕ) (p : ℕ) (r : Readable table index p) where
             narrow = h .narrow;
             below = h .below;
             within = l;
+            short = h .short;
           })
 
           module _ (a : Part) (o : PieceOf kind n s part d i a) where

@@ -2,7 +2,7 @@
 use mathlib.Core.Path.{_≡_}
 use mathlib.Core.Bool.{Bool, false}
 use mathlib.Core.List.{List}
-use Prim.Native.Nat.{ℕ, _≤_}
+use Prim.Native.Nat.{ℕ, _≤_, _<_}
 use lib.ListN.{length}
 use Rattle.values.specs.Value.{Value}
 use Rattle.tables.specs.Table.{kindAt}
@@ -38,10 +38,20 @@ TellsWays table p s part r = (v : Value) → PartIs s part v → r ≡ wideWays 
 abbrev pub TellsWay : List ℕ → ℕ → List ℕ → Part → ℕ → Bool → Type 0
 TellsWay table p s part d r = (v : Value) → PartIs s part v → r ≡ wideEach (patternsOf (innerOf table p)) (metBy table p v d)
 
--- There are w ways in which the parts of p meet what the part denotes.
+-- There are w ways in which the parts of p meet what the part denotes, in a slice whose places fit.
 pub record WaysHeld (table : List ℕ) (p : ℕ) (s : List ℕ) (part : Part) (w : ℕ) : Type 0 where
   pub composed : 36 ≤ kindAt (records table) p
   pub value : Value
   pub here : PartIs s part value
   pub narrow : isLarge (kindAt (records table) p) value ≡ false
   pub count : length (waysOf table p value) ≡ w
+  pub short : length s ≤ 65536
+
+-- d is the number of one of them.
+pub record WayHeld (table : List ℕ) (p : ℕ) (s : List ℕ) (part : Part) (d : ℕ) : Type 0 where
+  pub composed : 36 ≤ kindAt (records table) p
+  pub value : Value
+  pub here : PartIs s part value
+  pub narrow : isLarge (kindAt (records table) p) value ≡ false
+  pub below : d < length (waysOf table p value)
+  pub short : length s ≤ 65536

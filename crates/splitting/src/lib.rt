@@ -7,10 +7,11 @@ use tables::kinds;
 use tables::reading::kind;
 use tables::reading::operand;
 use tables::reading::operand_count;
-ghost use Rattle.matching.specs.Node.{WayHeld};
+ghost use Prim.Native.Nat.{_≤_};
+ghost use lib.ListN.{length};
 ghost use Rattle.patterns.specs.Read.{Readable};
 ghost use Rattle.parts.specs.Part.{PartHeld};
-ghost use Rattle.splitting.specs.Told.{TellsUnion, TellsShallow, TellsWide, TellsWays, TellsWay, WaysHeld};
+ghost use Rattle.splitting.specs.Told.{TellsUnion, TellsShallow, TellsWide, TellsWays, TellsWay, WaysHeld, WayHeld};
 
 // A pattern holds a union pattern.
 fn has_union(table: &[u8], index: &Index, p: usize) -> bool
@@ -58,7 +59,7 @@ fn is_shallow(table: &[u8], index: &Index, p: usize) -> bool
 
 // A pattern with a part of a value: number 29.
 pub fn too_large(table: &[u8], index: &Index, p: usize, s: &[u8], part: Part) -> bool
-    requires { ⌜ Readable (now table) (now index) p × PartHeld (now s) part ⌝ }
+    requires { ⌜ Readable (now table) (now index) p × PartHeld (now s) part × (length (now s) ≤ 65536) ⌝ }
     ensures { λ r. ⌜ TellsWide (now (table .entry)) p (now (s .entry)) part r ⌝ }
 {
     let k = kind(table, index, p);
@@ -96,7 +97,7 @@ fn in_ways(table: &[u8], index: &Index, p: usize, s: &[u8], part: Part, w: usize
 
 // The parts of a pattern, each with what it meets in the way d.
 fn in_way(table: &[u8], index: &Index, p: usize, s: &[u8], part: Part, d: usize) -> bool
-    requires { ⌜ Readable (now table) (now index) p × WayHeld (now table) p 0 (now s) part d ⌝ }
+    requires { ⌜ Readable (now table) (now index) p × WayHeld (now table) p (now s) part d ⌝ }
     ensures { λ r. ⌜ TellsWay (now (table .entry)) p (now (s .entry)) part d r ⌝ }
 {
     let k = kind(table, index, p);

@@ -1,50 +1,66 @@
--- `order_parts`: by kind, then whole records or the items of two runs.
-use Prim.Native.Nat.{_<_}
-use mathlib.Core.Path.{_≡_}
+-- `order_parts`: two parts of one sort without their kinds, others by kind first.
 use native.Mathlib.Omega.{arith}
-use Rattle.parts.proofs.Laws.{collection-held}
-use Rattle.parts.proofs.Parting.{kinds-lower, kinds-higher, plain-held, plain-order, run-held, runs-order}
+use Rattle.parts.proofs.Parting.{whole-held, whole-order}
+use borrow.Author.Needs.{needs}
 use Rattle.parts.proofs.order_parts.Statement.{statement}
 use Rattle.parts.proofs.order_parts.Tie as tie
+use Rattle.parts.proofs.order_parts.Reads as reads
+use Rattle.parts.proofs.order_parts.Lts as lts
+use Rattle.parts.proofs.order_kinds.Reads as order-kinds-reads
+use Rattle.parts.proofs.order_members.Reads as order-members-reads
+use Rattle.values.proofs.compare.Reads as compare-reads
 
-kind-of-part-requires : tie.Need-kind-of-part-requires
-kind-of-part-requires c κs = c .before .pre .0
+-- src/lib.rt:82:9
+order-kinds-requires : tie.Need-order-kinds-requires
+order-kinds-requires c κs = search needs
 
-kind-of-part-requires-2 : tie.Need-kind-of-part-requires-2
-kind-of-part-requires-2 c κs = c .before .before .pre .1
-
+-- src/lib.rt:82:9
 returns : tie.Need-returns
-returns c = kinds-lower (c .before .before .kind-of-part .ensures) (c .before .kind-of-part2 .ensures) (c .if1 .taken)
+returns c = search needs
 
+-- src/lib.rt:85:9
+order-members-requires : tie.Need-order-members-requires
+order-members-requires c κs = search needs
+
+-- src/lib.rt:85:9
 returns-2 : tie.Need-returns-2
-returns-2 c = kinds-higher (c .before .before .before .kind-of-part .ensures) (c .before .before .kind-of-part2 .ensures) (c .if2 .taken)
+returns-2 c = search needs
 
+-- src/lib.rt:88:17
+cast-a : tie.Need-cast-a
+cast-a c = search needs
+
+-- src/lib.rt:89:17
+cast-b : tie.Need-cast-b
+cast-b c = search needs
+
+-- src/lib.rt:90:9
 compare-requires : tie.Need-compare-requires
-compare-requires c κs =
-    let l : c .before .before .before .kind-of-part2 .result < 3 = omega arith in
-    (plain-held (c .before .before .before .before .kind-of-part .ensures) (c .if3 .taken) (c .before .before .before .before .before .before .pre .0), plain-held (c .before .before .before .kind-of-part2 .ensures) l (c .before .before .before .before .before .before .pre .1))
+compare-requires c κs = (whole-held (c .before .before .if3 .taken) (c .before .before .before .before .before .before .before .before .before .before .pre .0), whole-held (omega (arith, c .before .before .before .before .before .before .if1 .left, c .before .before .if3 .taken)) (c .before .before .before .before .before .before .before .before .before .before .pre .1))
 
+-- src/lib.rt:90:9
 returns-3 : tie.Need-returns-3
-returns-3 c =
-    let l : c .before .before .before .before .kind-of-part2 .result < 3 = omega arith in
-    plain-order (c .before .before .before .before .before .kind-of-part .ensures) (c .before .before .before .before .kind-of-part2 .ensures) (c .before .if3 .taken) l (c .compare .ensures)
+returns-3 c = whole-order (c .before .before .before .if3 .taken) (omega (arith, c .before .before .before .before .before .before .before .if1 .left, c .before .before .before .if3 .taken)) (c .compare .ensures)
 
-run-of-requires : tie.Need-run-of-requires
-run-of-requires c κs = collection-held (c .before .before .before .before .kind-of-part .ensures) (c .if3 .left) (c .before .before .before .before .before .before .pre .0)
+-- src/lib.rt:92:5
+order-kinds-requires-2 : tie.Need-order-kinds-requires-2
+order-kinds-requires-2 c κs = search needs
 
-run-of-requires-2 : tie.Need-run-of-requires-2
-run-of-requires-2 c κs = collection-held (c .before .before .before .before .kind-of-part2 .ensures) (omega arith) (c .before .before .before .before .before .before .before .pre .1)
-
-order-requires : tie.Need-order-requires
-order-requires c κs = (
-  run-held (collection-held (c .before .before .before .before .before .before .kind-of-part .ensures) (c .before .before .if3 .left) (c .before .before .before .before .before .before .before .before .pre .0)) (c .before .run-of .ensures),
-  run-held (collection-held (c .before .before .before .before .before .kind-of-part2 .ensures) (omega arith) (c .before .before .before .before .before .before .before .before .pre .1)) (c .run-of2 .ensures),
-)
-
+-- src/lib.rt:77:1
 returns-4 : tie.Need-returns-4
-returns-4 c =
-    let e : c .before .before .before .before .before .before .before .kind-of-part .result ≡ c .before .before .before .before .before .before .kind-of-part2 .result = omega arith in
-    runs-order (c .before .before .before .before .before .before .before .kind-of-part .ensures) (c .before .before .before .before .before .before .kind-of-part2 .ensures) (c .before .before .before .if3 .left) e (c .before .before .run-of .ensures) (c .before .run-of2 .ensures) (c .order .ensures)
+returns-4 c = search needs
 
 pub order-parts-spec : {M : Type 1} → statement M
-order-parts-spec = tie.close (tie.spec kind-of-part-requires kind-of-part-requires-2 returns returns-2 compare-requires returns-3 run-of-requires run-of-requires-2 order-requires returns-4)
+order-parts-spec =
+    tie.close
+    (tie.spec
+    order-kinds-requires
+    returns
+    order-members-requires
+    returns-2
+    cast-a
+    cast-b
+    compare-requires
+    returns-3
+    order-kinds-requires-2
+    returns-4)

@@ -90,7 +90,7 @@ in-way-operand-requires t c κs = has-operand _ _ _ (c .before .before .before .
 
 -- src/lib.rt:106:13
 in-way-too-large-requires : (t : ℕ) → in-way-lts.Need-too-large-requires (in-way-calls t) (in-way-at t) in-way.Post in-way-Inv-loop in-way-μ-loop
-in-way-too-large-requires t c κs = let o = operand-readable _ _ _ (c .before .before .before .before .before .before .before .before .pre .1 .0) _ (omega (arith, c .before .before .before .before .operand-count .ensures .0)) (c .before .before .before .before .before .before .before .before .pre .1 .1 .composed) _ (c .operand .ensures .0) in (omega (arith, o .1), (o .0, piece-held _ _ _ (c .before .before .before .before .before .before .before .before .pre .1 .0) _ _ _ (c .before .before .before .before .before .before .before .before .pre .1 .1) _ (c .before .before .before .loop .inv) (omega (arith, c .before .before .before .before .operand-count .ensures .0)) _ _ (c .before .before .before .before .before .kind .ensures .0) (c .before .before .before .before .operand-count .ensures .0) _ (c .before .piece .ensures)))
+in-way-too-large-requires t c κs = let o = operand-readable _ _ _ (c .before .before .before .before .before .before .before .before .pre .1 .0) _ (omega (arith, c .before .before .before .before .operand-count .ensures .0)) (c .before .before .before .before .before .before .before .before .pre .1 .1 .composed) _ (c .operand .ensures .0) in (omega (arith, o .1), (o .0, piece-held _ _ _ (c .before .before .before .before .before .before .before .before .pre .1 .0) _ _ _ (c .before .before .before .before .before .before .before .before .pre .1 .1) _ (c .before .before .before .loop .inv) (omega (arith, c .before .before .before .before .operand-count .ensures .0)) _ _ (c .before .before .before .before .before .kind .ensures .0) (c .before .before .before .before .operand-count .ensures .0) _ (c .before .piece .ensures), c .before .before .before .before .before .before .before .before .pre .1 .1 .short))
 
 -- src/lib.rt:108:13
 in-way-returns : (t : ℕ) → in-way-lts.Need-returns (in-way-calls t) (in-way-at t) in-way.Post in-way-Inv-loop in-way-μ-loop
@@ -184,7 +184,7 @@ too-large-enum-known-m t c = search needs
 
 -- src/lib.rt:71:29
 too-large-in-ways-requires : (t : ℕ) → too-large-lts.Need-in-ways-requires (too-large-calls t) (too-large-at t) too-large.Post
-too-large-in-ways-requires t c κs = (omega arith, (c .before .before .before .before .before .before .before .before .before .pre .1 .0, ways-held _ _ _ (c .before .before .before .before .before .before .before .before .before .pre .1 .0) _ _ (omega (arith, c .before .before .before .before .before .before .kind .ensures .0)) (c .before .before .before .meet .result) (recast-meets _ _ _ _ (c .before .before .before .meet .result) (c .before .before .before .before .before .before .kind .ensures .0) (c .before .before .before .before .operand-count .ensures .0) (c .before .before .before .meet .ensures)) _ (c .before .m .given .1) (c .before .before .before .before .before .before .before .before .before .pre .1 .1)))
+too-large-in-ways-requires t c κs = (omega arith, (c .before .before .before .before .before .before .before .before .before .pre .1 .0, ways-held _ _ _ (c .before .before .before .before .before .before .before .before .before .pre .1 .0) _ _ (omega (arith, c .before .before .before .before .before .before .kind .ensures .0)) (c .before .before .before .meet .result) (recast-meets _ _ _ _ (c .before .before .before .meet .result) (c .before .before .before .before .before .before .kind .ensures .0) (c .before .before .before .before .operand-count .ensures .0) (c .before .before .before .meet .ensures)) _ (c .before .m .given .1) (c .before .before .before .before .before .before .before .before .before .pre .1 .1) (c .before .before .before .before .before .before .before .before .before .pre .1 .2)))
 
 -- src/lib.rt:58:1
 too-large-returns-2 : (t : ℕ) → too-large-lts.Need-returns-2 (too-large-calls t) (too-large-at t) too-large.Post

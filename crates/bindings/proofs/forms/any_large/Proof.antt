@@ -22,11 +22,15 @@ loop-holds c = passing-start _ _ _ _ _
 
 -- src/lib.rt:172:13
 length-of-requires : tie.Need-length-of-requires Inv-loop μ-loop
-length-of-requires c κs = passing-holds _ _ _ _ _ _ (c .before .loop .inv) (c .before .before .before .before .pre .1) (omega arith)
+length-of-requires c κs = passing-holds _ _ _ _ _ _ (c .before .loop .inv) (c .before .before .before .before .pre .1 .0) (omega arith)
+
+-- src/forms.rt:40:21
+cast-t11 : tie.Need-cast-t11 Inv-loop μ-loop
+cast-t11 c = let h = passing-holds _ _ _ _ _ _ (c .before .before .loop .inv) (c .before .before .before .before .before .pre .1 .0) (omega arith) in omega (arith, h .whole, c .before .before .before .before .before .pre .1 .1)
 
 -- src/lib.rt:173:13
 too-large-requires : tie.Need-too-large-requires Inv-loop μ-loop
-too-large-requires c κs = let h = passing-holds _ _ _ _ _ _ (c .before .before .loop .inv) (c .before .before .before .before .before .pre .1) (omega arith) in (c .before .before .before .before .before .pre .0, record { value = h .value; here = inl (refl, h .here) })
+too-large-requires c κs = let h = passing-holds _ _ _ _ _ _ (c .before .before .loop .inv) (c .before .before .before .before .before .pre .1 .0) (omega arith) in (c .before .before .before .before .before .pre .0, record { value = h .value; here = inl (refl, h .here) }, c .before .before .before .before .before .pre .1 .1)
 
 -- src/lib.rt:185:13
 returns : tie.Need-returns Inv-loop μ-loop
@@ -35,7 +39,7 @@ returns c = one-large _ _ _ _ _ _ (c .before .before .before .before .loop .inv)
 -- src/lib.rt:187:9
 add-at : tie.Need-add-at Inv-loop μ-loop
 add-at c =
-    let w = passing-inside _ _ _ _ _ _ (c .before .before .before .before .loop .inv) (c .before .before .before .before .before .before .before .pre .1) (omega arith) in
+    let w = passing-inside _ _ _ _ _ _ (c .before .before .before .before .loop .inv) (c .before .before .before .before .before .before .before .pre .1 .0) (omega arith) in
     omega (arith, (c .before .before .length-of .ensures .is), w .0, w .1)
 
 -- src/lib.rt:171:5
@@ -58,6 +62,7 @@ any-large-spec =
     μ-loop
     loop-holds
     length-of-requires
+    cast-t11
     too-large-requires
     returns
     add-at

@@ -14,7 +14,7 @@ use Rattle.values.proofs.length_of.Reads as length-of-reads
 
 -- src/lib.rt:78:9
 is-wide-requires : tie.Need-is-wide-requires
-is-wide-requires c κs = (c .before .before .pre .0, c .before .before .pre .1 .0)
+is-wide-requires c κs = (c .before .before .pre .0, (c .before .before .pre .1 .0, c .before .before .pre .1 .1))
 
 -- src/lib.rt:80:9
 returns : tie.Need-returns

@@ -32,17 +32,21 @@ refusal-requires c κs = search needs
 returns : tie.Need-returns
 returns c = refused-at 20 (omega arith) (c .before .before .before .before .before .before .before .before .pre .0) (c .refusal .ensures) (part-free (c .before .before .before .before .before .before .before .before .pre .0) (c .before .before .before .before .before .before .before .before .pre .1) (c .before .before .before .before .before .field .ensures .0) (c .before .before .before .unpack .ensures) (c .before .if1 .taken))
 
+-- src/leaves.rt:80:14
+cast-at : tie.Need-cast-at
+cast-at c = search needs
+
 -- src/leaves.rt:82:12
 kind-of-requires : tie.Need-kind-of-requires
-kind-of-requires c κs = part-whole (c .before .before .before .before .before .before .before .before .before .before .pre .0) (c .before .before .before .before .before .before .before .before .before .before .pre .1) (c .before .before .before .before .before .before .before .field .ensures .0) (c .before .before .before .before .before .unpack .ensures) (c .before .if2 .taken)
+kind-of-requires c κs = part-whole (c .before .before .before .before .before .before .before .before .before .before .before .pre .0) (c .before .before .before .before .before .before .before .before .before .before .before .pre .1) (c .before .before .before .before .before .before .before .before .field .ensures .0) (c .before .before .before .before .before .before .unpack .ensures) (c .before .if2 .taken)
 
 -- src/leaves.rt:83:17
 integer-at-requires : tie.Need-integer-at-requires
-integer-at-requires c κs = record { held = part-whole (c .before .before .before .before .before .before .before .before .before .before .before .before .before .pre .0) (c .before .before .before .before .before .before .before .before .before .before .before .before .before .pre .1) (c .before .before .before .before .before .before .before .before .before .before .field .ensures .0) (c .before .before .before .before .before .before .before .before .unpack .ensures) (c .before .before .before .before .if2 .taken); kind = sym (c .before .before .kind-of .ensures .is) ∙ c .before .if3 .taken }
+integer-at-requires c κs = record { held = part-whole (c .before .before .before .before .before .before .before .before .before .before .before .before .before .before .pre .0) (c .before .before .before .before .before .before .before .before .before .before .before .before .before .before .pre .1) (c .before .before .before .before .before .before .before .before .before .before .before .field .ensures .0) (c .before .before .before .before .before .before .before .before .before .unpack .ensures) (c .before .before .before .before .if2 .taken); kind = sym (c .before .before .kind-of .ensures .is) ∙ c .before .if3 .taken }
 
 -- src/leaves.rt:84:13
 put-integer-requires : tie.Need-put-integer-requires
-put-integer-requires c κs = (omega (arith, room-here (c .before .before .before .before .before .before .before .before .before .before .before .before .before .before .before .pre .0)), whole-range (toZ-ofZ (record { sfits = c .before .integer-at .ok })) (c .before .integer-at .ensures))
+put-integer-requires c κs = (omega (arith, room-here (c .before .before .before .before .before .before .before .before .before .before .before .before .before .before .before .before .pre .0)), whole-range (toZ-ofZ (record { sfits = c .before .integer-at .ok })) (c .before .integer-at .ensures))
 
 -- src/leaves.rt:85:13
 same-length : tie.Need-same-length
@@ -50,11 +54,11 @@ same-length c = search needs
 
 -- src/leaves.rt:85:13
 returns-2 : tie.Need-returns-2
-returns-2 c = part-number (c .before .before .before .before .before .before .before .before .before .before .before .before .before .before .before .before .before .before .pre .0) (c .before .before .before .before .before .before .before .before .before .before .before .before .before .before .before .before .before .before .pre .1) (c .before .before .before .before .before .before .before .before .before .before .before .before .before .before .before .field .ensures .0) (c .before .before .before .before .before .before .before .before .before .before .before .before .before .unpack .ensures) (c .before .before .before .before .before .before .before .before .before .if2 .taken) (toZ-ofZ (record { sfits = c .before .before .before .before .integer-at .ok })) (c .before .before .before .before .integer-at .ensures) (c .before .before .put-integer .ensures)
+returns-2 c = part-number (c .before .before .before .before .before .before .before .before .before .before .before .before .before .before .before .before .before .before .before .pre .0) (c .before .before .before .before .before .before .before .before .before .before .before .before .before .before .before .before .before .before .before .pre .1) (c .before .before .before .before .before .before .before .before .before .before .before .before .before .before .before .before .field .ensures .0) (c .before .before .before .before .before .before .before .before .before .before .before .before .before .before .unpack .ensures) (c .before .before .before .before .before .before .before .before .before .if2 .taken) (toZ-ofZ (record { sfits = c .before .before .before .before .integer-at .ok })) (c .before .before .before .before .integer-at .ensures) (c .before .before .put-integer .ensures)
 
 -- src/leaves.rt:88:5
 put-part-requires : tie.Need-put-part-requires
-put-part-requires c κs = part-held (c .before .before .before .before .before .before .before .before .before .before .pre .0) (c .before .before .before .before .before .before .before .before .before .before .pre .1) (c .before .before .before .before .before .before .before .field .ensures .0) (c .before .before .before .before .before .unpack .ensures) (c .before .before .before .if1 .left)
+put-part-requires c κs = part-held (c .before .before .before .before .before .before .before .before .before .before .before .pre .0) (c .before .before .before .before .before .before .before .before .before .before .before .pre .1) (c .before .before .before .before .before .before .before .before .field .ensures .0) (c .before .before .before .before .before .before .unpack .ensures) (c .before .before .before .before .if1 .left)
 
 -- src/leaves.rt:62:1
 same-length-2 : tie.Need-same-length-2
@@ -62,7 +66,7 @@ same-length-2 c = search needs
 
 -- src/leaves.rt:62:1
 returns-3 : tie.Need-returns-3
-returns-3 c = part-done (c .before .before .before .before .before .before .before .before .before .before .before .before .before .pre .0) (c .before .before .before .before .before .before .before .before .before .before .before .before .before .pre .1) (c .before .before .before .before .before .before .before .before .before .before .field .ensures .0) (c .before .before .before .before .before .before .before .before .unpack .ensures) (c .before .before .before .before .before .before .if1 .left) (c .before .before .put-part .ensures)
+returns-3 c = part-done (c .before .before .before .before .before .before .before .before .before .before .before .before .before .before .pre .0) (c .before .before .before .before .before .before .before .before .before .before .before .before .before .before .pre .1) (c .before .before .before .before .before .before .before .before .before .before .before .field .ensures .0) (c .before .before .before .before .before .before .before .before .before .unpack .ensures) (c .before .before .before .before .before .before .before .if1 .left) (c .before .before .put-part .ensures)
 
 pub name-spec : {M : Type 1} → statement M
 name-spec =
@@ -74,6 +78,7 @@ name-spec =
     unpack-requires
     refusal-requires
     returns
+    cast-at
     kind-of-requires
     integer-at-requires
     put-integer-requires

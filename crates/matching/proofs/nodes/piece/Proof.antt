@@ -1,4 +1,4 @@
-use Rattle.matching.proofs.Piecing.{split-held, split-left, split-right, cut-held, cut-left, cut-right, order-low, member-held, member-is, one-held, one-is}
+use Rattle.matching.proofs.Piecing.{split-held, split-meets, cut-held, cut-meets, order-low, member-held, member-is, one-held, one-is}
 use Rattle.matching.proofs.nodes.piece.Statement.{statement}
 use Rattle.matching.proofs.nodes.piece.Tie as tie
 use Rattle.matching.proofs.nodes.piece.Reads as reads
@@ -14,11 +14,11 @@ split-part-requires c κs = split-held _ _ _ _ _ _ (c .before .before .pre) (c .
 
 -- src/nodes.rt:102:13
 returns : tie.Need-returns
-returns c = split-left _ _ _ _ _ _ (c .before .before .before .before .before .pre) (c .before .before .before .if1 .taken) _ (c .before .before .split-part .ensures) (c .before .if2 .taken)
+returns c = split-meets _ _ _ _ _ _ (c .before .before .before .before .before .pre) (c .before .before .before .if1 .taken) _ (c .before .before .split-part .ensures) .0 (c .before .if2 .taken)
 
 -- src/nodes.rt:104:9
 returns-2 : tie.Need-returns-2
-returns-2 c = split-right _ _ _ _ _ _ (c .before .before .before .before .before .pre) (c .before .before .before .if1 .taken) _ (c .before .before .split-part .ensures) (c .before .if2 .left)
+returns-2 c = split-meets _ _ _ _ _ _ (c .before .before .before .before .before .pre) (c .before .before .before .if1 .taken) _ (c .before .before .split-part .ensures) .1 (c .before .if2 .left)
 
 -- src/nodes.rt:107:13
 cut-part-requires : tie.Need-cut-part-requires
@@ -26,11 +26,11 @@ cut-part-requires c κs = cut-held _ _ _ _ _ _ (c .before .before .before .pre) 
 
 -- src/nodes.rt:109:13
 returns-3 : tie.Need-returns-3
-returns-3 c = cut-left _ _ _ _ _ _ (c .before .before .before .before .before .before .pre) (c .before .before .before .if3 .taken) _ (c .before .before .cut-part .ensures) (c .before .if4 .taken)
+returns-3 c = cut-meets _ _ _ _ _ _ (c .before .before .before .before .before .before .pre) (c .before .before .before .if3 .taken) _ (c .before .before .cut-part .ensures) .0 (c .before .if4 .taken)
 
 -- src/nodes.rt:111:9
 returns-4 : tie.Need-returns-4
-returns-4 c = cut-right _ _ _ _ _ _ (c .before .before .before .before .before .before .pre) (c .before .before .before .if3 .taken) _ (c .before .before .cut-part .ensures) (c .before .if4 .left)
+returns-4 c = cut-meets _ _ _ _ _ _ (c .before .before .before .before .before .before .pre) (c .before .before .before .if3 .taken) _ (c .before .before .cut-part .ensures) .1 (c .before .if4 .left)
 
 -- src/nodes.rt:114:13
 member-requires : tie.Need-member-requires

@@ -5,7 +5,7 @@ use Rattle.parts.proofs.words.order_words.Statement.{statement}
 use Rattle.parts.proofs.words.order_words.Tie as tie
 use Rattle.parts.proofs.words.order_words.Reads as reads
 use Rattle.parts.proofs.words.order_words.Lts as lts
-use Rattle.parts.proofs.words.order_apart.Reads as order-apart-reads
+use Rattle.parts.proofs.order_parts.Reads as order-parts-reads
 use Rattle.parts.proofs.words.unpack.Reads as unpack-reads
 
 -- src/words.rt:81:9
@@ -29,12 +29,12 @@ unpack-requires-2 : tie.Need-unpack-requires-2
 unpack-requires-2 c κs = search needs
 
 -- src/words.rt:91:5
-order-apart-requires : tie.Need-order-apart-requires
-order-apart-requires c κs = words-held _ _ _ (c .before .before .before .before .before .before .pre .0) (c .before .before .before .before .before .before .pre .1) (c .before .before .before .if2 .left) (c .before .before .if3 .left) _ _ (c .before .unpack .ensures) (c .unpack2 .ensures)
+order-parts-requires : tie.Need-order-parts-requires
+order-parts-requires c κs = words-held _ _ _ (c .before .before .before .before .before .before .pre .0) (c .before .before .before .before .before .before .pre .1) (c .before .before .before .if2 .left) (c .before .before .if3 .left) _ _ (c .before .unpack .ensures) (c .unpack2 .ensures)
 
 -- src/words.rt:76:1
 returns-4 : tie.Need-returns-4
-returns-4 c = words-order _ _ _ (c .before .before .before .before .before .before .before .pre .0) (c .before .before .before .before .before .before .before .pre .1) (c .before .before .before .before .if2 .left) (c .before .before .before .if3 .left) _ _ (c .before .before .unpack .ensures) (c .before .unpack2 .ensures) _ (c .order-apart .ensures)
+returns-4 c = words-order _ _ _ (c .before .before .before .before .before .before .before .pre .0) (c .before .before .before .before .before .before .before .pre .1) (c .before .before .before .before .if2 .left) (c .before .before .before .if3 .left) _ _ (c .before .before .unpack .ensures) (c .before .unpack2 .ensures) _ (c .order-parts .ensures)
 
 pub order-words-spec : {M : Type 1} → statement M
 order-words-spec =
@@ -45,5 +45,5 @@ order-words-spec =
     returns-3
     unpack-requires
     unpack-requires-2
-    order-apart-requires
+    order-parts-requires
     returns-4)
