@@ -48,7 +48,7 @@ contents-same k (collection l vs) e =
     record { items = listOf vs; has = rw (eq-eqb (number k) (number l) (sym e)); is = rw (sym q, items-list vs) }
 
 -- a well-formed collection has at most 127 items
-pub few-items : (k : Kind) (vs : List Value) → WellFormed (collection k (itemsOf vs)) → length vs ≤ 127
+few-items : (k : Kind) (vs : List Value) → WellFormed (collection k (itemsOf vs)) → length vs ≤ 127
 few-items k vs h =
     let s = collection-size k (itemsOf vs) in
     let c = count-sizes (itemsOf vs) in

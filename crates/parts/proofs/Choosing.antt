@@ -10,7 +10,7 @@ use Rattle.values.specs.Value.{Value}
 use Rattle.patterns.specs.Ways.{toLeft, toRight}
 use Rattle.parts.specs.declared.masks.Dealing.{Dealing}
 use Rattle.parts.specs.Chosen.{keep, splitAt}
-use Rattle.parts.specs.Laws.Chosen.{power-pos, keep-zero, keep-none, keep-odd, keep-even}
+use Rattle.parts.specs.Laws.Chosen.{keep-zero, keep-none, keep-odd, keep-even}
 use Rattle.parts.specs.Mask.{Full, Dealt, Deals, Spread}
 
 -- ---- all ones

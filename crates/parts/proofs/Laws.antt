@@ -5,7 +5,7 @@ use mathlib.Core.Logic.{inl, inr}
 use mathlib.Core.List.{List, [], _∷_}
 use Prim.Native.Nat.{ℕ, _+_, _/_, _≤_}
 use native.Mathlib.Omega.{arith}
-use lib.ListN.{length, getD, take, length-take}
+use lib.ListN.{length, take, length-take}
 use lib.Seq.{take-take}
 use borrow.Author.Tests.{eq-eqb, ne-eqb}
 use Rattle.integers.specs.Bytes.{word}
@@ -21,7 +21,7 @@ use Rattle.patterns.specs.Laws.Named.{PartOf, part-fine}
 use Rattle.parts.specs.declared.Part.{Part}
 use Rattle.parts.specs.Chosen.{odd, keep}
 use Rattle.parts.specs.Part.{Selects, Spans, PartIs, PartHeld, endOf}
-use Rattle.parts.specs.Contract.{KindOfPart, CollectionHeld, ItemOfPart}
+use Rattle.parts.specs.Contract.{KindOfPart, CollectionHeld}
 
 -- ---- by its how
 
@@ -43,7 +43,7 @@ module _ {s : List ℕ} {p : Part} {v : Value} where
 
 -- ---- one value
 
-pub itemsOf-injective : (vs ws : List Value) → itemsOf vs ≡ itemsOf ws → vs ≡ ws
+itemsOf-injective : (vs ws : List Value) → itemsOf vs ≡ itemsOf ws → vs ≡ ws
 itemsOf-injective vs ws e = sym (list-items vs) ∙ ap listOf e ∙ list-items ws
 
 -- the items of a collection that is given twice
@@ -161,7 +161,3 @@ collection-held {s} {p} c l h =
 
 pub whole-part : {s : List ℕ} {at : ℕ} {v : Value} → At s at v → PartIs s (record { how = 1; at = at; extent = 0 }) v
 whole-part h = inl (refl, h)
-
--- the part that `item_of_part` gives denotes the item
-pub item-part : {s : List ℕ} {p : Part} {k : ℕ} {r : Part} (c : ItemOfPart s p k r) (kind : Kind) (vs : List Value) (d : Value) → PartIs s p (collection kind (itemsOf vs)) → PartIs s r (getD vs k d)
-item-part c kind vs d h = inl (c .whole, c .right kind vs d h)

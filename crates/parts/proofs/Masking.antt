@@ -1,9 +1,9 @@
 -- Masks of one set compared by their bits, and words compared.
 use mathlib.Core.Path.{_≡_, refl, sym, ap, ap₂, subst, _∙_}
-use mathlib.Core.Bool.{Bool, true, false, cond}
+use mathlib.Core.Bool.{Bool, cond}
 use mathlib.Core.Logic.{inl, inr}
 use mathlib.Core.List.{List, [], _∷_}
-use Prim.Native.Nat.{ℕ, zero, suc, _+_, _*_, _/_, _%_, _^_, _≤_, _<_}
+use Prim.Native.Nat.{ℕ, _/_, _%_, _^_, _<_}
 use native.Mathlib.Nat.{pow-suc}
 use native.Mathlib.Decide.{ℕ-discrete}
 use native.Mathlib.Omega.{arith}
@@ -13,11 +13,11 @@ use borrow.Author.Tests.{eq-eqb, ne-eqb}
 use Rattle.prelude.specs.Membership.{In}
 use Rattle.integers.specs.declared.Order.{Order}
 use Rattle.integers.specs.declared.Order.the-variants.{Lower, Same, Higher}
-use Rattle.values.specs.Value.{Value, set, collection, Items, none, more, order, after, within, orderItems, Before, Ascending}
+use Rattle.values.specs.Value.{Value, set, collection, order, after, within, orderItems, Before, Ascending}
 use Rattle.values.proofs.Order.{order-refl, items-refl, lower-flip}
 use Rattle.values.proofs.Records.{collection-shaped, one-value}
 use Rattle.patterns.specs.Pattern.{itemsOf}
-use Rattle.patterns.specs.Binding.{Cell, free, is, orderCells}
+use Rattle.patterns.specs.Binding.{Cell, is, orderCells}
 use Rattle.patterns.specs.Laws.Plain.{cell-refl}
 use Rattle.parts.specs.declared.Part.{Part}
 use Rattle.parts.specs.Chosen.{keep}

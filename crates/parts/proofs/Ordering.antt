@@ -1,7 +1,7 @@
 -- The order of what two masks choose of members that stand from two places on, said of lists, places and numbers alone.
 use mathlib.Core.Path.{_≡_, refl, sym, ap, ap₂, subst, _∙_}
 use mathlib.Core.List.{List, [], _∷_}
-use Prim.Native.Nat.{ℕ, _+_, _*_, _/_, _%_, _^_, _≤_, _<_}
+use Prim.Native.Nat.{ℕ, _+_, _*_, _/_, _%_, _^_, _<_}
 use native.Mathlib.Nat.{pow-suc}
 use native.Mathlib.Omega.{arith}
 use lib.ListN.{length}
@@ -23,7 +23,7 @@ use Rattle.parts.specs.Contract.{OrderedParts}
 use Rattle.parts.proofs.Laws.{selects-of}
 use Rattle.parts.proofs.Parting.{collections-order}
 use Rattle.parts.proofs.Running.{Stand, Lead, lead-cons}
-use Rattle.parts.proofs.Masking.{items-more, none-none, none-lower, some-higher, Some, keep-some}
+use Rattle.parts.proofs.Masking.{items-more, none-none, none-lower, some-higher, keep-some}
 
 -- ---- what a mask chooses
 

@@ -1,19 +1,16 @@
 -- Parts as numbers, and the order of cells.
 use mathlib.Core.Path.{_≡_, refl, sym, ap, ap₂, subst, _∙_}
-use mathlib.Core.Bool.{Bool, true, false, cond}
 use mathlib.Core.Logic.{inl, inr}
 use mathlib.Core.List.{List}
 use Prim.Native.Nat.{ℕ, zero, suc, _+_, _-_, _*_, _/_, _%_, _^_, _≤_, _<_}
 use native.Mathlib.Omega.{arith}
-use lib.Dec.{eqb}
 use lib.ListN.{length}
-use borrow.Author.Tests.{eq-eqb, ne-eqb}
 use Rattle.integers.specs.declared.Order.{Order}
-use Rattle.integers.specs.declared.Order.the-variants.{Lower, Same, Higher}
-use Rattle.values.specs.Value.{Value, set, collection, size, sizes}
-use Rattle.values.specs.Place.{At, ItemsAt}
+use Rattle.integers.specs.declared.Order.the-variants.{Lower, Higher}
+use Rattle.values.specs.Value.{Value}
+use Rattle.values.specs.Place.{At}
 use Rattle.parts.specs.declared.Part.{Part}
-use Rattle.parts.specs.Part.{PartIs, PartHeld, CellIs, Selects, Spans}
+use Rattle.parts.specs.Part.{PartIs, CellIs}
 use Rattle.parts.specs.Contract.{OrderedParts}
 use Rattle.patterns.specs.Binding.{Cell, free, is, orderCells}
 use Rattle.parts.specs.Word.{unpacked, CellHeld, Packed}
@@ -95,20 +92,11 @@ abbrev pub CellsOrdered : List ℕ → Part → Part → Order → Type 0
 CellsOrdered s p q r = (a b : Cell) → CellIs s p a → CellIs s q b → r ≡ orderCells a b
 
 module _ (s : List ℕ) (p q : Part) where
-  pub order-free : p .how ≡ 0 → q .how ≡ 0 → CellsOrdered s p q Same
-  order-free e f a b h g = sym (ap₂ orderCells (cell-free e h) (cell-free f g))
-
   pub order-left : p .how ≡ 0 → (q .how ≡ 0 → ⊥) → CellsOrdered s p q Lower
   order-left e f a b h g = sym (ap₂ orderCells (cell-free e h) (cell-value f g .1))
 
   pub order-right : (p .how ≡ 0 → ⊥) → q .how ≡ 0 → CellsOrdered s p q Higher
   order-right e f a b h g = sym (ap₂ orderCells (cell-value e h .1) (cell-free f g))
-
-  pub parts-held : (p .how ≡ 0 → ⊥) → (q .how ≡ 0 → ⊥) → CellHeld s p → CellHeld s q → PartHeld s p × PartHeld s q
-  parts-held e f h g =
-      let x = cell-value e (h .1) in
-      let y = cell-value f (g .1) in
-      (record { value = x .0; here = x .2 }, record { value = y .0; here = y .2 })
 
   pub order-both : (p .how ≡ 0 → ⊥) → (q .how ≡ 0 → ⊥) → (o : Order) → OrderedParts s p q o → CellsOrdered s p q o
   order-both e f o c a b h g =

@@ -34,14 +34,6 @@ every-run : {s : List ℕ} {from to : ℕ} (vs : List Value) → ItemsAt s from 
 every-run vs h = record { all = vs; here = h; small = omega arith; stands = ready-odd everyOne vs refl; is = sym (chosen-all vs) }
 
 module _ {s : List ℕ} {p : Part} where
-  pub how-low : PartHeld s p → (1 ≤ p .how) × (p .how ≤ 3)
-  how-low h = go (h .here)
-    where
-      go : {v : Value} → PartIs s p v → (1 ≤ p .how) × (p .how ≤ 3)
-      go (inl x) = (omega (arith, x .0), omega (arith, x .0))
-      go (inr (inl x)) = (omega (arith, x .0), omega (arith, x .0))
-      go (inr (inr x)) = (omega (arith, x .0), omega (arith, x .0))
-
   -- a part that is no span has a record at its place
   pub record-of : {v : Value} → (p .how ≡ 3 → ⊥) → PartIs s p v → Holds s (p .at)
   record-of f (inl h) = holds (h .1)

@@ -45,7 +45,7 @@ run-short {r = r} vs h =
     let g = h .here .short in
     omega (arith, chosen-sizes (r .mask) (h .all))
 
-pub run-kept : {s t : List ℕ} {from to : ℕ} {r : Run} {vs : List Value} → Outside s t from to → r .to ≤ from → RunIs s r vs → RunIs t r vs
+run-kept : {s t : List ℕ} {from to : ℕ} {r : Run} {vs : List Value} → Outside s t from to → r .to ≤ from → RunIs s r vs → RunIs t r vs
 run-kept o l h = record { all = h .all; here = items-below o l (h .here); small = h .small; stands = h .stands; is = h .is }
 
 sizes-cons : (v : Value) (vs : List Value) → size v + sizes (itemsOf vs) ≡ sizes (itemsOf (v ∷ vs))

@@ -283,7 +283,7 @@ module _ {s : List ℕ} {r₀ r : Run} {i : ℕ} (p : Passed s r₀ r i) where
   passed-held = record { items = drop i (p .items); here = p .here }
 
   -- while items are left the run is not at its end
-  pub passed-less : i < length (p .items) → r .from < r .to
+  passed-less : i < length (p .items) → r .from < r .to
   passed-less h = more-less (subst (RunIs s r) (drop-cons (p .items) i (boolean false) h) (p .here))
 
   pub passed-more : {q : Run} → r .from < r .to → RestOf s r q → Passed s r₀ q (i + 1)

@@ -1,7 +1,7 @@
 -- A word: a part packed into 32 bits. 0 is no part.
 use mathlib.Core.Path.{_≡_}
 use mathlib.Core.List.{List}
-use Prim.Native.Nat.{ℕ, _+_, _*_, _/_, _%_, _<_}
+use Prim.Native.Nat.{ℕ, _/_, _%_, _<_}
 use Rattle.integers.specs.declared.Order.{Order}
 use Rattle.patterns.specs.Binding.{Cell, orderCells}
 use Rattle.parts.specs.declared.Part.{Part}

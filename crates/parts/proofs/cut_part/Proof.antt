@@ -1,7 +1,6 @@
 -- `cut_part`: two spans that meet where the run stands after k items.
 use native.Mathlib.Omega.{arith}
 use Rattle.parts.proofs.Halving.{cut-held, cut-skip, cut-places, cut-is}
-use borrow.Author.Needs.{needs}
 use Rattle.parts.proofs.cut_part.Statement.{statement}
 use Rattle.parts.proofs.cut_part.Tie as tie
 use Rattle.parts.proofs.cut_part.Reads as reads

@@ -1,7 +1,6 @@
 -- `item_of_part`: where its run stands after k items.
 use native.Mathlib.Omega.{arith}
 use Rattle.parts.proofs.Parting.{item-collection, item-skip, item-place, item-is}
-use borrow.Author.Needs.{needs}
 use Rattle.parts.proofs.item_of_part.Statement.{statement}
 use Rattle.parts.proofs.item_of_part.Tie as tie
 use Rattle.parts.proofs.item_of_part.Reads as reads

@@ -10,7 +10,7 @@ use lib.ListN.{length, getD, take, drop, length-append, length-map, List·getD-a
 use lib.Seq.{getD-append-add}
 use borrow.Author.Tests.{eq-eqb, ne-eqb, ltb-true, ltb-false}
 use Rattle.patterns.specs.Ways.{Halves, halves, toLeft, toRight, splits, cuts}
-use Rattle.parts.specs.Chosen.{odd, keep, everyOne, chosen, splitAt}
+use Rattle.parts.specs.Chosen.{keep, everyOne, chosen, splitAt}
 
 pub power-pos : (n : ℕ) → 0 < 2 ^ n
 power-pos zero = omega arith
@@ -35,15 +35,6 @@ module _ {A : Type 0} where
   pub keep-even : (d e : ℕ) (x : A) (xs : List A) → d % 2 ≡ 0 → d / 2 ≡ e → keep d (x ∷ xs) ≡ keep e xs
   unfolding keep
   keep-even d e x xs h g = rw (ne-eqb (d % 2) 1 (λ q. omega arith)) (ap (λ (k : ℕ). keep k xs) g)
-
-  pub keep-few : (m : ℕ) (xs : List A) → length (keep m xs) ≤ length xs
-  unfolding keep
-  keep-few m [] = omega arith
-  keep-few m (x ∷ xs) = go (odd m) (keep-few (m / 2) xs)
-    where
-      go : (b : Bool) → length (keep (m / 2) xs) ≤ length xs → length (cond b (x ∷ keep (m / 2) xs) (keep (m / 2) xs)) ≤ suc (length xs)
-      go true h = omega arith
-      go false h = omega arith
 
   -- all ones keep all
   pub keep-full : (xs : List A) (m : ℕ) → m + 1 ≡ 2 ^ length xs → keep m xs ≡ xs
