@@ -51,7 +51,7 @@ use Rattle.bindings.specs.declared.Opened.{Opened}
 use Rattle.bindings.specs.declared.Opened.the-variants as answer
 use Rattle.bindings.specs.Forming.{Values, Bindable, TellsRows, RowsFormed}
 use Rattle.bindings.specs.Window.{window, CellAt, past, CellsAt, placeOf, InWindow, Windowed, Lent, TellsFrom, OpenedAs, Reachable, Reached, Underneath, WordFor, UnderBinding}
-use Rattle.bindings.specs.Laws.Window.{cells-end}
+use Rattle.bindings.specs.Laws.Window.{cells-end, all-free}
 use Rattle.bindings.specs.Filling.{rowWords, bit, maskOf, filled, WordAt, WordsAt, RowHeld, NamesAre, FillHeld, Filled, OneName, MembersHeld, MemberAt, MembersPut}
 use Rattle.bindings.specs.Opening.{PlainHeld, PlainOpened, CursorHeld, CursorOver, LentFrom, FormedFrom}
 use Rattle.bindings.proofs.Large.{values-at}
@@ -395,17 +395,12 @@ module _ (s : List ℕ) (to : ℕ) (c : Cursor) (k : ℕ) (env : Env) (h : Under
     pub under-end : left ≤ 0 → UnderBinding s to c k env (record { words = words })
     under-end l = record { sized = g .sized; cells = λ bs w y i. at-name bs w y i (suc y - x) refl }
       where
-        all-free : (at e : ℕ) (cs : List Cell) → CellsAt s (take to s) at e 0 cs → (y : ℕ) → getD cs y free ≡ free
-        all-free at e [] q y = refl
-        all-free at e (d ∷ cs) q zero = q .0
-        all-free at e (d ∷ cs) q (suc y) = all-free at e cs (q .1) y
-
         at-name : (bs : List Binding) → Windowed s to c bs → (y : ℕ) → y < names → (d : ℕ) → suc y - x ≡ d → WordFor (take to s) (getD (env .words) y 0) (getD words y 0) (cellOf (getD bs k nothing) y)
         at-name bs w y i zero e = g .done bs w y (omega arith)
         at-name bs w y i (suc d) e =
             let b = getD bs k nothing in
             let z : left ≡ 0 = omega arith in
-            let v = all-free at (placeOf to c k + 4 * c .width) (drop x b) (subst (λ (m : ℕ). CellsAt s (take to s) at (placeOf to c k + 4 * c .width) m (drop x b)) z (g .rest bs w)) (y - x) in
+            let v = all-free s (take to s) at (placeOf to c k + 4 * c .width) (drop x b) (subst (λ (m : ℕ). CellsAt s (take to s) at (placeOf to c k + 4 * c .width) m (drop x b)) z (g .rest bs w)) (y - x) in
             let u : x + (y - x) ≡ y = omega arith in
             let f : cellOf b y ≡ free = ap (cellOf b) (sym u) ∙ sym (getD-drop x b (y - x) free) ∙ v in
             rw f (g .old y (omega arith))

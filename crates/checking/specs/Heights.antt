@@ -8,7 +8,7 @@ use Rattle.tables.specs.Record.{Record}
 use Rattle.tables.specs.Sheet.{fold, height}
 use Rattle.tables.specs.Check.{fault9}
 use Rattle.tables.specs.Accepted.{records}
-use Rattle.checking.specs.Scopes.{Kept}
+use Rattle.checking.specs.Scopes.{KeepsRule6}
 use Rattle.checking.specs.declared.height.Height.{Height}
 
 abbrev pub leastOf : ℕ → List ℕ → ℕ
@@ -20,7 +20,7 @@ unfoldable pub lowTall : List Record → ℕ → ℕ
 lowTall rs r = fold (λ q ls. min (leastOf (length rs) ls) (cond (fault9 rs q) q (length rs))) (length rs) rs r
 
 pub record AskTall (table index : List ℕ) (count r : ℕ) : Type 0 where
-  pub kept : Kept table index count
+  pub kept : KeepsRule6 table index count
   pub within : r < count
 
 pub record IsTall (table : List ℕ) (r : ℕ) (t : Height) : Type 0 where

@@ -36,12 +36,12 @@ pub record MarkedNext (table : List ℕ) (r : ℕ) (marks : List ℕ) (low : ℕ
   pub marked : Marked marks (allNamed (take (suc r) (records table)))
 
 -- A table with an index, and the number of its records.
-pub record Whole (table index : List ℕ) (count : ℕ) : Type 0 where
+pub record WholeTable (table index : List ℕ) (count : ℕ) : Type 0 where
   pub indexed : Indexed table index
   pub all : count ≡ length (records table)
 
 pub record AskAll (table index : List ℕ) (count : ℕ) (marks : List ℕ) : Type 0 where
-  pub whole : Whole table index count
+  pub whole : WholeTable table index count
   pub marked : Marked marks []
 
 pub record MarkedAll (table : List ℕ) (marks : List ℕ) (low : ℕ) : Type 0 where
@@ -49,5 +49,5 @@ pub record MarkedAll (table : List ℕ) (marks : List ℕ) (low : ℕ) : Type 0 
   pub marked : Marked marks (allNamed (records table))
 
 pub record AskStray (table index : List ℕ) (count : ℕ) (marks : List ℕ) : Type 0 where
-  pub whole : Whole table index count
+  pub whole : WholeTable table index count
   pub marked : Marked marks (allNamed (records table))

@@ -15,7 +15,7 @@ use Rattle.tables.specs.Check.{mostRecords}
 use Rattle.tables.specs.Accepted.{records}
 use Rattle.tables.specs.Laws.Accepted.{Clear6}
 use Rattle.tables.specs.Reading.{Here, HasOperand}
-use Rattle.checking.specs.Naming.{Whole}
+use Rattle.checking.specs.Naming.{WholeTable}
 
 -- Bit n of a number is set; the bits of either of two.
 unfoldable pub hasBit : ℕ → ℕ → Bool
@@ -68,8 +68,8 @@ pub record AskBelow (table index : List ℕ) (r : ℕ) (bits : List ℕ) : Type 
   pub below : Below (records table) bits r
 
 -- A whole table that keeps rule 6.
-pub record Kept (table index : List ℕ) (count : ℕ) : Type 0 where
-  pub whole : Whole table index count
+pub record KeepsRule6 (table index : List ℕ) (count : ℕ) : Type 0 where
+  pub whole : WholeTable table index count
   pub clear : Clear6 (records table)
 
 pub record AskGiven (table index : List ℕ) (q i : ℕ) (bits : List ℕ) : Type 0 where
@@ -84,12 +84,12 @@ pub record AskPush (table index : List ℕ) (q : ℕ) (inner outer : List ℕ) :
   pub around : Around (records table) outer (q + 1)
 
 pub record AskAround (table index : List ℕ) (count : ℕ) (inner outer : List ℕ) : Type 0 where
-  pub kept : Kept table index count
+  pub kept : KeepsRule6 table index count
   pub below : Below (records table) inner (length (records table))
   pub around : Around (records table) outer (length (records table))
 
 pub record AskScoped (table index : List ℕ) (count : ℕ) (inner outer : List ℕ) : Type 0 where
-  pub kept : Kept table index count
+  pub kept : KeepsRule6 table index count
   pub below : Below (records table) inner (length (records table))
   pub around : Around (records table) outer 0
 

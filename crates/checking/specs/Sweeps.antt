@@ -15,7 +15,7 @@ use Rattle.tables.specs.Check.{mostRecords, mostHeight, allNamed, hasBad, choos
 use Rattle.tables.specs.Accepted.{records}
 use Rattle.tables.specs.Laws.Accepted.{Clear6}
 use Rattle.tables.specs.Reading.{Here}
-use Rattle.checking.specs.Naming.{Whole}
+use Rattle.checking.specs.Naming.{WholeTable}
 use Rattle.checking.specs.Scopes.{hasBit, bitsBelow}
 use Rattle.checking.specs.declared.sweep.Sum.{Sum}
 use Rattle.checking.specs.declared.sweep.Handed.{Handed}
@@ -146,7 +146,7 @@ pub record Entered (rs : List Record) (r : ℕ) (left below frees highs : List �
   pub kept : Known rs below frees highs (r + 1)
 
 pub record AskSweep (table index : List ℕ) (count : ℕ) (left below frees highs : List ℕ) : Type 0 where
-  pub whole : Whole table index count
+  pub whole : WholeTable table index count
   pub left-is : Left (records table) left 0 []
   pub kept : Known (records table) below frees highs 0
 

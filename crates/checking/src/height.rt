@@ -4,7 +4,7 @@ ghost use Prim.Native.Nat.{_+_, _<_, max};
 ghost use Rattle.tables.specs.Sheet.{lowest as lowestOf};
 ghost use Rattle.tables.specs.Check.{fault9};
 ghost use Rattle.tables.specs.Accepted.{records};
-ghost use Rattle.checking.specs.Scopes.{Kept};
+ghost use Rattle.checking.specs.Scopes.{KeepsRule6};
 ghost use Rattle.checking.specs.Heights.{AskTall, IsTall};
 use crate::lowest::lower;
 use tables::Index;
@@ -55,7 +55,7 @@ fn tall(table: &[u8], index: &Index, count: usize, r: usize) -> Height
 
 // The lowest record that breaks rule 9; the number of records where none does.
 pub fn lowest9(table: &[u8], index: &Index, count: usize) -> usize
-    requires { ⌜ Kept (now table) (now index) count × (0 < count) ⌝ }
+    requires { ⌜ KeepsRule6 (now table) (now index) count × (0 < count) ⌝ }
     ensures { λ p. ⌜ p ≡ lowestOf (fault9 (records (now (table .entry)))) count ⌝ }
 {
     let t = tall(table, index, count, count - 1);

@@ -4,7 +4,7 @@ ghost use Prim.Native.Nat.{_<_};
 ghost use lib.ListN.{length};
 ghost use Rattle.tables.specs.Check.{mostRecords, judged};
 ghost use Rattle.tables.specs.Accepted.{records};
-ghost use Rattle.checking.specs.Naming.{Whole};
+ghost use Rattle.checking.specs.Naming.{WholeTable};
 ghost use Rattle.checking.specs.Answer.{Checks};
 use height::lowest9;
 use naming::lowest6;
@@ -24,7 +24,7 @@ pub mod sweep;
 
 // Rules 6 to 9 on the records that an index finds, one after the other.
 fn judge_each(table: &[u8], index: &Index, count: usize) -> Checked
-    requires { ⌜ Whole (now table) (now index) count × (0 < count) ⌝ }
+    requires { ⌜ WholeTable (now table) (now index) count × (0 < count) ⌝ }
     ensures { λ a. ⌜ a ≡ judged (records (now (table .entry))) ⌝ }
 {
     let low6 = lowest6(table, index, count);
@@ -49,7 +49,7 @@ fn judge_each(table: &[u8], index: &Index, count: usize) -> Checked
 
 // The same: one pass settles a table that keeps rules 6 to 8.
 fn judge(table: &[u8], index: &Index, count: usize) -> Checked
-    requires { ⌜ Whole (now table) (now index) count × (0 < count) ⌝ }
+    requires { ⌜ WholeTable (now table) (now index) count × (0 < count) ⌝ }
     ensures { λ a. ⌜ a ≡ judged (records (now (table .entry))) ⌝ }
 {
     let s = sweep(table, index, count);
@@ -85,5 +85,7 @@ pub fn check(table: &[u8], index: &mut Index) -> Checked
     if MOST_RECORDS < count {
         return Checked::Refused(5, MOST_RECORDS);
     }
-    judge(table, index, count)
+    // Nothing else can point to a copy on the stack, so the passes keep its place at hand.
+    let own = *index;
+    judge(table, &own, count)
 }

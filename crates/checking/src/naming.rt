@@ -7,7 +7,7 @@ ghost use lib.ListN.{getD, take};
 ghost use Rattle.tables.specs.Check.{mostRecords, allNamed, isOfSort, isBad, isStray, fault6};
 ghost use Rattle.tables.specs.Sheet.{lowest as lowestOf};
 ghost use Rattle.tables.specs.Accepted.{records};
-ghost use Rattle.checking.specs.Naming.{Marked, AskBad, AskMarks, MarkedOne, AskNext, MarkedNext, Whole, AskAll, MarkedAll, AskStray};
+ghost use Rattle.checking.specs.Naming.{Marked, AskBad, AskMarks, MarkedOne, AskNext, MarkedNext, WholeTable, AskAll, MarkedAll, AskStray};
 use crate::lowest::either;
 use crate::lowest::lower;
 use crate::lowest::next_low;
@@ -160,7 +160,7 @@ fn lowest_stray(table: &[u8], index: &Index, count: usize, marks: &[u8; MOST_REC
 
 // The lowest record that breaks rule 6; the number of records where none does.
 pub fn lowest6(table: &[u8], index: &Index, count: usize) -> usize
-    requires { ⌜ Whole (now table) (now index) count ⌝ }
+    requires { ⌜ WholeTable (now table) (now index) count ⌝ }
     ensures { λ p. ⌜ p ≡ lowestOf (fault6 (records (now (table .entry)))) count ⌝ }
 {
     let mut marks = [0u8; MOST_RECORDS];

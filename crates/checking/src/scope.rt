@@ -8,7 +8,7 @@ ghost use Rattle.tables.specs.Sheet.{lowest as lowestOf, patternOf};
 ghost use Rattle.tables.specs.Check.{mostRecords, fault7 as fault7Of, fault8 as fault8Of};
 ghost use Rattle.tables.specs.Accepted.{records};
 ghost use Rattle.tables.specs.Reading.{Here};
-ghost use Rattle.checking.specs.Scopes.{hasBit, orBits, own as ownOf, bitsBelow, given as givenBy, Below, Around, AskBelow, Kept, AskGiven, AskPush, AskAround, AskName, AskChoice, AskScoped};
+ghost use Rattle.checking.specs.Scopes.{hasBit, orBits, own as ownOf, bitsBelow, given as givenBy, Below, Around, AskBelow, KeepsRule6, AskGiven, AskPush, AskAround, AskName, AskChoice, AskScoped};
 use crate::lowest::next_low;
 use tables::Index;
 use tables::MOST_RECORDS;
@@ -79,7 +79,7 @@ fn held_at(table: &[u8], index: &Index, r: usize, below: &[u32; MOST_RECORDS]) -
 
 // Fills in the bits below each record, from the first on.
 fn fill_below(table: &[u8], index: &Index, count: usize, below: &mut [u32; MOST_RECORDS])
-    requires { ⌜ Kept (now table) (now index) count × (length (now below) ≡ mostRecords) ⌝ }
+    requires { ⌜ KeepsRule6 (now table) (now index) count × (length (now below) ≡ mostRecords) ⌝ }
     ensures { λ _. ⌜ Below (records (now (table .entry))) (now (below .exit)) (length (records (now (table .entry)))) ⌝ }
 {
     let mut r = 0;
@@ -244,7 +244,7 @@ pub struct Lows {
 }
 
 pub fn lowest78(table: &[u8], index: &Index, count: usize) -> Lows
-    requires { ⌜ Kept (now table) (now index) count ⌝ }
+    requires { ⌜ KeepsRule6 (now table) (now index) count ⌝ }
     ensures { λ s. ⌜ (s .low7 ≡ lowestOf (fault7Of (records (now (table .entry)))) count) × (s .low8 ≡ lowestOf (fault8Of (records (now (table .entry)))) count) ⌝ }
 {
     let mut below = [0u32; MOST_RECORDS];

@@ -8,7 +8,7 @@ ghost use Rattle.tables.specs.Sheet.{lowest as lowestOf};
 ghost use Rattle.tables.specs.Check.{mostRecords};
 ghost use Rattle.tables.specs.Accepted.{records};
 ghost use Rattle.tables.specs.Reading.{Here};
-ghost use Rattle.checking.specs.Naming.{Whole};
+ghost use Rattle.checking.specs.Naming.{WholeTable};
 ghost use Rattle.checking.specs.Sweeps.{without as withoutOf, apart, sortOf, asked, isNamed, coveredBy, handedOn, freeOwn, Names, AskNames, AskSum, AskGather, Sums, Entered, AskSweep, Passed, isTall, Closed, Settled};
 use crate::height::higher;
 use crate::scope::bit;
@@ -384,7 +384,7 @@ fn is_closed(left: &Left, frees: &[u32; MOST_RECORDS], last: usize) -> bool
 
 // One pass over all records. Where it is fine, rules 6 to 8 are kept.
 pub fn sweep(table: &[u8], index: &Index, count: usize) -> Swept
-    requires { ⌜ Whole (now table) (now index) count × (0 < count) ⌝ }
+    requires { ⌜ WholeTable (now table) (now index) count × (0 < count) ⌝ }
     ensures { λ s. ⌜ (s .fine ≡ true → Settled (records (now (table .entry))) s) ⌝ }
 {
     let mut left = [0u8; 256];

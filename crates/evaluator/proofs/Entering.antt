@@ -1,10 +1,11 @@
 -- An operand evaluated under a binding, and a condition tested there.
-use mathlib.Core.Path.{_≡_, sym, ap, subst, _∙_}
+use mathlib.Core.Path.{_≡_, refl, sym, ap, subst, _∙_}
 use mathlib.Core.Bool.{Bool, true, false}
 use mathlib.Core.List.{List}
-use Prim.Native.Nat.{ℕ, _+_, _≤_, _<_}
+use Prim.Native.Nat.{ℕ, _+_, _-_, _*_, _≤_, _<_}
+use native.Mathlib.Nat.{zero-mul}
 use native.Mathlib.Omega.{arith}
-use lib.ListN.{length, getD}
+use lib.ListN.{length, getD, take}
 use Rattle.values.specs.Place.{At, Holds}
 use Rattle.values.proofs.Records.{holds as held-at}
 use Rattle.values.proofs.Frame.{at-above}
@@ -26,8 +27,9 @@ use Rattle.evaluator.specs.declared.Truth.{Truth}
 use Rattle.evaluator.specs.declared.Truth.the-variants.{True, False, Other}
 use Rattle.bindings.specs.declared.Cursor.{Cursor}
 use Rattle.parts.specs.declared.words.Env.{Env}
-use Rattle.evaluator.specs.Binding.{Placed, Held, Standing, Stands, Enters, Upward, Insides, holdsIn, Tests}
-use Rattle.bindings.specs.Window.{Values, Reachable, Reached, Underneath, UnderBinding}
+use Rattle.evaluator.specs.Binding.{Placed, Held, Standing, Stands, Nameless, Enters, Upward, Insides, holdsIn, Tests}
+use Rattle.bindings.specs.Window.{Values, CellsAt, placeOf, InWindow, Reachable, Reached, Underneath, UnderBinding}
+use Rattle.bindings.specs.Laws.Window.{all-free}
 use Rattle.evaluator.specs.Contract.{Ask, Around, Evaluated, ended, Comes, Gives, Evaluates, meant, operandAt}
 use Rattle.evaluator.specs.Leaves.{readAs, Tells}
 use Rattle.evaluator.proofs.Framing.{around-kept, around-up, at-kept}
@@ -112,6 +114,25 @@ entering {table} e {whole} {s} {t} {base} {cursor = cursor} {j} {near} h u = rec
 
 pub entered : {table : List ℕ} {r p : ℕ} → p ≡ operandAt table r 0 → {whole : Bool} {s t : List ℕ} {base : ℕ} {env : Env} {cursor : Cursor} {j : ℕ} {near : Cursor} {inner : Env} → Enters table r whole s t base env cursor j near inner → Reached table p s t base whole (base + 512) cursor j near
 entered {table} e {whole} {s} {t} {base} {cursor = cursor} {j} {near} h = subst (λ (m : ℕ). Reached table m s t base whole (base + 512) cursor j near) (sym e) (h .reached)
+
+-- Under a binding without names, which stands in the window, nothing is to be entered.
+pub nameless-enters : {table index : List ℕ} {r : ℕ} {whole : Bool} {s : List ℕ} {base : ℕ} {env : Env} {c : Choices} {cursor : Cursor} {j : ℕ} → Stands table index r whole s base env c cursor j → Nameless cursor → Enters table r whole s s base env cursor j cursor env
+nameless-enters {s = s} {base = base} {env = env} {cursor = cursor} {j = j} a n = record {
+  reached = record { outside = record { long = refl; below = refl; above = refl }; count = refl; window-is = λ vs bs i f w. w; within = within };
+  under = record {
+    sized = a .asked .around .words-sized;
+    cells = λ bs w x l.
+        let q = subst (λ (m : ℕ). CellsAt s (take (base + 512) s) (placeOf (base + 512) cursor j) (placeOf (base + 512) cursor j + 4 * cursor .width) m (getD bs j nothing)) (n .names) (w .each j within) in
+        rw (all-free s (take (base + 512) s) (placeOf (base + 512) cursor j) (placeOf (base + 512) cursor j + 4 * cursor .width) (getD bs j nothing) q x) refl;
+  };
+}
+  where
+    within : InWindow cursor j
+    within = record {
+      low = omega (arith, n .from);
+      below = omega (arith, a .below, a .standing .window .count);
+      fits = let z : cursor .width * (j - cursor .from) ≡ 0 = ap (λ (m : ℕ). m * (j - cursor .from)) (n .width) ∙ zero-mul (j - cursor .from) in omega (arith, z, n .width);
+    }
 
 -- ---- a condition
 

@@ -141,6 +141,12 @@ pub record Stands (table index : List ℕ) (r : ℕ) (whole : Bool) (s : List �
   pub standing : Standing table r whole s base cursor bindings
   pub below : j < length bindings
 
+-- No name has a value under a binding, and there is a window's start for it.
+pub record Nameless (cursor : Cursor) : Type 0 where
+  pub names : cursor .names ≡ 0
+  pub width : cursor .width ≡ 0
+  pub from : cursor .from ≡ 0
+
 -- What is asked and promised of entering it: it is brought into the window, and the environment is the one under it.
 pub record Enterable (table index : List ℕ) (r : ℕ) (whole : Bool) (s : List ℕ) (base : ℕ) (env : Env) (cursor : Cursor) (j : ℕ) : Type 0 where
   pub choices : Choices

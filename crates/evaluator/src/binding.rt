@@ -18,9 +18,10 @@ use tables::reading::field;
 use tables::reading::operand;
 use values::Value;
 ghost use mathlib.Core.Path.{_≡_};
+ghost use mathlib.Core.Bool.{true};
 ghost use Rattle.values.specs.Place.{Holds, HoldsItems};
 ghost use Prim.Native.Nat.{_<_};
-ghost use Rattle.evaluator.specs.Binding.{Suits, AllIntegers, OpeningIs, agrees, counting, marking, cursorOf, Enterable, Enters, Fetchable, Fetches};
+ghost use Rattle.evaluator.specs.Binding.{Suits, AllIntegers, OpeningIs, agrees, counting, marking, cursorOf, Nameless, Enterable, Enters, Fetchable, Fetches};
 ghost use Rattle.evaluator.specs.Contract.{envOf};
 ghost use Rattle.evaluator.specs.Word.{judgedWord, unchosenWord, builtWord};
 
@@ -63,6 +64,19 @@ pub fn enter(
     let e = under(s, base + WINDOW, near, j, Env { words });
     let words = e.words;
     *inner = words;
+}
+
+// Whether the binding gives no name a value and stands in the window: the environment under it is the one around it.
+pub fn is_nameless(cursor: &[usize; CELLS]) -> bool
+    ensures { λ b. ⌜ (b ≡ true → Nameless (cursorOf (now (cursor .entry)))) ⌝ }
+{
+    if cursor[1] != 0 {
+        return false;
+    }
+    if cursor[2] != 0 {
+        return false;
+    }
+    cursor[3] == 0
 }
 
 // Whether all items from a place up to another are integers.

@@ -14,6 +14,7 @@ use binding::agree;
 use binding::built;
 use binding::enter;
 use binding::fetch;
+use binding::is_nameless;
 use binding::judge;
 use binding::mark;
 use binding::opening;
@@ -349,9 +350,12 @@ fn inside(
     requires { ⌜ Stands (now table) (now index) r whole (now s) base (envOf (now env)) (lent (now run)) (cursorOf (now cursor)) j × HasOperand (now table) (now index) r i × Upward up ⌝ }
     ensures { λ o. ⌜ Insides (now (table .entry)) r (operandAt (now (table .entry)) r i) whole (now (s .entry)) (now (s .exit)) base up (envOf (now (env .entry))) (lent (now (run .entry))) (cursorOf (now (cursor .entry))) j (placed o (now (cursor .exit))) (lent (now (run .exit))) ⌝ }
 {
+    let q = operand(table, index, r, i);
+    if is_nameless(cursor) {
+        return eval(table, index, q, s, base + up, env, run);
+    }
     let mut inner = [0; Env::NAMES];
     enter(table, index, r, s, base, env, whole, cursor, j, &mut inner);
-    let q = operand(table, index, r, i);
     eval(table, index, q, s, base + up, &inner, run)
 }
 

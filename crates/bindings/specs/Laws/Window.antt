@@ -1,14 +1,14 @@
 -- What stands in a window stays where nothing below its end changes.
-use mathlib.Core.Path.{_≡_, sym, ap, subst, _∙_}
+use mathlib.Core.Path.{_≡_, refl, sym, ap, subst, _∙_}
 use mathlib.Core.Bool.{Bool, true, false}
 use mathlib.Core.List.{List, [], _∷_}
-use Prim.Native.Nat.{ℕ, _+_, _-_, _*_, _/_, _≤_, _<_}
+use Prim.Native.Nat.{ℕ, zero, suc, _+_, _-_, _*_, _/_, _≤_, _<_}
 use native.Mathlib.Omega.{arith}
 use lib.ListN.{length, getD, take}
 use lib.Seq.{getD-take, take-take}
 use Rattle.integers.specs.Bytes.{bits32}
 use Rattle.values.specs.Value.{Value}
-use Rattle.patterns.specs.Binding.{Cell, is, Binding, nothing}
+use Rattle.patterns.specs.Binding.{Cell, free, is, Binding, nothing}
 use Rattle.parts.specs.Chosen.{odd}
 use Rattle.parts.specs.Part.{PartIs}
 use Rattle.parts.specs.Word.{unpacked}
@@ -27,6 +27,12 @@ past-after false at = omega arith
 pub cells-end : (s t : List ℕ) (at e m : ℕ) (cs : List Cell) → CellsAt s t at e m cs → at ≤ e
 cells-end s t at e m [] h = h .1
 cells-end s t at e m (c ∷ cs) h = omega (arith, past-after (odd m) at, cells-end s t (past (odd m) at) e (m / 2) cs (h .1))
+
+-- A mask without names: no name has a value.
+pub all-free : (s t : List ℕ) (at e : ℕ) (cs : List Cell) → CellsAt s t at e 0 cs → (y : ℕ) → getD cs y free ≡ free
+all-free s t at e [] q y = refl
+all-free s t at e (d ∷ cs) q zero = q .0
+all-free s t at e (d ∷ cs) q (suc y) = all-free s t at e cs (q .1) y
 
 module _ (s s′ t : List ℕ) (e : ℕ) (same : take e s′ ≡ take e s) where
   cell-kept : (b : Bool) (at : ℕ) (c : Cell) → past b at ≤ e → CellAt s t at b c → CellAt s′ t at b c
