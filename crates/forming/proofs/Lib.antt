@@ -1,4 +1,6 @@
 -- What the proofs of the functions need; nobody else cites it.
+mod Framing
+mod Ranking
 mod Rowing
 mod Pushing
 mod Solving
@@ -7,3 +9,7 @@ mod Reducing
 mod Sizing
 mod Skipping
 mod Leaving
+mod Accounting
+mod Stacking
+mod Returning
+mod Downward

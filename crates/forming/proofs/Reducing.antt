@@ -3,7 +3,7 @@ use mathlib.Core.Path.{_≡_, refl, sym, ap, ap₂, subst, _∙_}
 use mathlib.Core.Bool.{Bool, true, false}
 use mathlib.Core.Logic.{inl, inr}
 use mathlib.Core.List.{List, [], _∷_, _++_}
-use Prim.Native.Nat.{ℕ, zero, suc, _+_, _-_, _≤_, _<_}
+use Prim.Native.Nat.{ℕ, zero, suc, _-_, _≤_, _<_}
 use native.Mathlib.Omega.{arith}
 use lib.ListN.{length, getD}
 use Rattle.prelude.specs.Membership.{In}
@@ -27,12 +27,9 @@ use Rattle.patterns.specs.Laws.Nodes.{is-any}
 use Rattle.patterns.specs.Read.{Readable, patternOf, patternAt}
 use Rattle.matching.specs.Node.{innerOf}
 use Rattle.matching.proofs.Records.{by-record, count-two}
-use Rattle.forming.specs.Pending.{inner, Dividable, Divided as DividedAs}
+use Rattle.forming.specs.Pending.{inner}
 use Rattle.forming.specs.Onward.{Task, task, matchesAll, onward}
 use Rattle.forming.specs.Laws.Onward.{together-alike}
-use Rattle.forming.specs.Laws.Adding.{adding-alike}
-use Rattle.forming.specs.Rows.{Entered}
-use Rattle.forming.specs.declared.Step.{Step}
 use Rattle.forming.specs.Reduced.{AcceptsAll, Beside, TakesMore, Splits, TellsAll, TellsMore, Reduced, TellsSpare}
 use Rattle.prelude.proofs.Lists.{map-at}
 
@@ -381,42 +378,3 @@ with-alike b xs ys h c = (go xs ys (λ x i. h x .0 i), go ys xs (λ x i. h x .1 
 pub onward-alike : (p q : Pattern) (v : Value) (ts : List Task) (b : Binding) → Alike (matches p v) (matches q v) → Alike (onward (task p v ∷ ts) b) (onward (task q v ∷ ts) b)
 unfolding matchesAll
 onward-alike p q v ts b h = with-alike b (together (matches p v) (matchesAll ts)) (together (matches q v) (matchesAll ts)) (together-alike (matches p v) (matches q v) (matchesAll ts) h)
-
-module _ (table index : List ℕ) (p q : ℕ) (x : Reduced table index p q) (s : List ℕ) (word : ℕ) (a : List ℕ) (next top : ℕ) (m : List ℕ) (rows order : List ℕ) (n : ℕ) where
-  pub reduced-asked : Dividable table index p s word a next top m rows order n → Dividable table index q s word a next top m rows order n
-  reduced-asked h = record {
-    readable = x .readable;
-    composed = x .composed;
-    short = h .short;
-    value = h .value;
-    here = h .here;
-    narrow = x .narrow (h .value) (h .narrow);
-    tasks = h .tasks;
-    are = h .are;
-    long = h .long;
-    low = h .low;
-    room = omega (arith, h .room, x .fewer);
-    binding = h .binding;
-    stands = h .stands;
-    bindings = h .bindings;
-    rows-are = h .rows-are;
-  }
-
-  abbrev P : Pattern
-  P = patternAt (records table) p
-
-  abbrev Q : Pattern
-  Q = patternAt (records table) q
-
-  pub reduced-told : (b rows′ order′ : List ℕ) (r : Step) → DividedAs table index q s word a b next top m rows order n rows′ order′ r → DividedAs table index p s word a b next top m rows order n rows′ order′ r
-  reduced-told b rows′ order′ r d = record {
-    kept = d .kept;
-    long = d .long;
-    right = λ v ts c bs here narrow are st ro.
-        subst (λ (l : List Binding). Entered s rows′ order′ l (r .formed))
-        (sym (adding-alike (onward (task P v ∷ ts) c) (onward (task Q v ∷ ts) c) bs (ro .given) (ro .ordered) (onward-alike P Q v ts c (x .alike v))))
-        (d .right v ts c bs here (x .narrow v narrow) are st ro);
-    some = λ e v ts c here narrow are st.
-        let (f, i) = d .some e v ts c here (x .narrow v narrow) are st in
-        (f, onward-alike P Q v ts c (x .alike v) f .1 i);
-  }

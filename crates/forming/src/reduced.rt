@@ -85,8 +85,8 @@ fn is_spare(table: &[u8], index: &Index, p: usize, k: usize, side: usize) -> boo
     takes_more(table, index, q, k, side)
 }
 
-// The record of a pattern with the same bindings, without wildcards that are spare.
-pub fn reduced(table: &[u8], index: &Index, p: usize) -> usize
+// The half that is left of a pattern with two, where the other is spare; else the pattern itself.
+fn less_spare(table: &[u8], index: &Index, p: usize) -> usize
     requires { ⌜ Readable (now table) (now index) p × (36 ≤ kindAt (records (now table)) p) ⌝ }
     ensures { λ r. ⌜ Reduced (now (table .entry)) (now (index .entry)) p r ⌝ }
 {
@@ -97,13 +97,25 @@ pub fn reduced(table: &[u8], index: &Index, p: usize) -> usize
     }
     let left = is_spare(table, index, p, k, 0);
     if left {
-        let q = operand(table, index, p, 1);
-        return reduced(table, index, q);
+        return operand(table, index, p, 1);
     }
     let right = is_spare(table, index, p, k, 1);
     if right {
-        let q = operand(table, index, p, 0);
-        return reduced(table, index, q);
+        return operand(table, index, p, 0);
     }
     p
+}
+
+// The record of a pattern with the same bindings, without wildcards that are spare.
+pub fn reduced(table: &[u8], index: &Index, p: usize) -> usize
+    requires { ⌜ Readable (now table) (now index) p × (36 ≤ kindAt (records (now table)) p) ⌝ }
+    ensures { λ r. ⌜ Reduced (now (table .entry)) (now (index .entry)) p r ⌝ }
+{
+    let mut last = p;
+    let mut q = less_spare(table, index, p);
+    while q < last {
+        last = q;
+        q = less_spare(table, index, last);
+    }
+    q
 }

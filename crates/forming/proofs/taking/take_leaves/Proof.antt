@@ -92,7 +92,7 @@ match-leaf-requires c κs = leaf-asked _ _ _ _ _ _ (c .before .before .before .b
 
 -- src/taking.rt:48:17
 returns-2 : tie.Need-returns-2 Inv-loop μ-loop
-returns-2 c = take-none _ _ _ _ _ _ (c .before .before .before .before .before .before .before .before .before .before .before .before .pre) _ _ _ (c .before .before .before .before .before .before .before .before .before .loop .inv) (omega arith) _ _ (λ v b q h. c .before .match-leaf .ensures v b q h) (not-true _ (c .if3 .taken))
+returns-2 c = take-none _ _ _ _ _ _ (c .before .before .before .before .before .before .before .before .before .before .before .before .pre) _ _ _ (c .before .before .before .before .before .before .before .before .before .loop .inv) (omega arith) _ _ (λ v b q h. c .before .match-leaf .ensures .0 v b q h) (c .before .match-leaf .ensures .1) (not-true _ (c .if3 .taken))
 
 -- src/taking.rt:30:5
 loop-less-2 : tie.Need-loop-less-2 Inv-loop μ-loop
@@ -100,7 +100,7 @@ loop-less-2 c = omega (arith, next-lower _ _ _ _ _ _ (c .before .before .before 
 
 -- src/taking.rt:30:5
 loop-again-2 : tie.Need-loop-again-2 Inv-loop μ-loop
-loop-again-2 c = take-leaf _ _ _ _ _ _ (c .before .before .before .before .before .before .before .before .before .before .before .before .pre) _ _ _ (c .before .before .before .before .before .before .before .before .before .loop .inv) (omega arith) _ _ (λ v b q h. c .before .match-leaf .ensures v b q h) (not-false _ (c .if3 .left))
+loop-again-2 c = take-leaf _ _ _ _ _ _ (c .before .before .before .before .before .before .before .before .before .before .before .before .pre) _ _ _ (c .before .before .before .before .before .before .before .before .before .loop .inv) (omega arith) _ _ (λ v b q h. c .before .match-leaf .ensures .0 v b q h) (c .before .match-leaf .ensures .1) (not-false _ (c .if3 .left))
 
 -- src/taking.rt:17:1
 returns-3 : tie.Need-returns-3 Inv-loop μ-loop

@@ -1,0 +1,137 @@
+use mathlib.Core.Path.{refl}
+use borrow.Author.Needs.{needs}
+use Rattle.forming.proofs.frames.unpack.Statement.{statement}
+use Rattle.forming.proofs.frames.unpack.Tie as tie
+use Rattle.forming.proofs.frames.unpack.Reads as reads
+use Rattle.forming.proofs.frames.unpack.Lts as lts
+use Rattle.forming.proofs.frames.wide.Reads as wide-reads
+
+-- src/frames.rt:50:16
+array-read-t10 : tie.Need-array-read-t10
+array-read-t10 c = search needs
+
+-- src/frames.rt:51:15
+array-read-t13 : tie.Need-array-read-t13
+array-read-t13 c = search needs
+
+-- src/frames.rt:54:16
+array-read-t10-2 : tie.Need-array-read-t10-2
+array-read-t10-2 c = search needs
+
+-- src/frames.rt:55:15
+array-read-t13-2 : tie.Need-array-read-t13-2
+array-read-t13-2 c = search needs
+
+-- src/frames.rt:58:16
+array-read-t10-3 : tie.Need-array-read-t10-3
+array-read-t10-3 c = search needs
+
+-- src/frames.rt:62:20
+array-read-wide : tie.Need-array-read-wide
+array-read-wide c = search needs
+
+-- src/frames.rt:62:9
+wide-requires : tie.Need-wide-requires
+wide-requires c κs = search needs
+
+-- src/frames.rt:63:21
+array-read-wide-2 : tie.Need-array-read-wide-2
+array-read-wide-2 c = search needs
+
+-- src/frames.rt:63:9
+wide-requires-2 : tie.Need-wide-requires-2
+wide-requires-2 c κs = search needs
+
+-- src/frames.rt:65:12
+array-read-t13-3 : tie.Need-array-read-t13-3
+array-read-t13-3 c = search needs
+
+-- src/frames.rt:65:12
+cast-t27 : tie.Need-cast-t27
+cast-t27 c = search needs
+
+-- src/frames.rt:66:13
+array-read-t10-4 : tie.Need-array-read-t10-4
+array-read-t10-4 c = search needs
+
+-- src/frames.rt:66:13
+cast-t30 : tie.Need-cast-t30
+cast-t30 c = search needs
+
+-- src/frames.rt:67:15
+array-read-t33 : tie.Need-array-read-t33
+array-read-t33 c = search needs
+
+-- src/frames.rt:67:15
+cast-t34 : tie.Need-cast-t34
+cast-t34 c = search needs
+
+-- src/frames.rt:68:14
+array-read-t37 : tie.Need-array-read-t37
+array-read-t37 c = search needs
+
+-- src/frames.rt:68:14
+cast-t38 : tie.Need-cast-t38
+cast-t38 c = search needs
+
+-- src/frames.rt:69:14
+array-read-t41 : tie.Need-array-read-t41
+array-read-t41 c = search needs
+
+-- src/frames.rt:69:14
+cast-t42 : tie.Need-cast-t42
+cast-t42 c = search needs
+
+-- src/frames.rt:70:15
+array-read-t45 : tie.Need-array-read-t45
+array-read-t45 c = search needs
+
+-- src/frames.rt:70:15
+cast-t46 : tie.Need-cast-t46
+cast-t46 c = search needs
+
+-- src/frames.rt:71:21
+mul-t47 : tie.Need-mul-t47
+mul-t47 c = search needs
+
+-- src/frames.rt:71:15
+add-t48 : tie.Need-add-t48
+add-t48 c = search needs
+
+-- src/frames.rt:72:15
+array-read-t51 : tie.Need-array-read-t51
+array-read-t51 c = search needs
+
+-- src/frames.rt:46:1
+returns : tie.Need-returns
+returns c = rw (c .before .wide .ensures .0, c .wide2 .ensures .0) refl
+
+pub unpack-spec : {M : Type 1} → statement M
+unpack-spec =
+    tie.close
+    (tie.spec
+    array-read-t10
+    array-read-t13
+    array-read-t10-2
+    array-read-t13-2
+    array-read-t10-3
+    array-read-wide
+    wide-requires
+    array-read-wide-2
+    wide-requires-2
+    array-read-t13-3
+    cast-t27
+    array-read-t10-4
+    cast-t30
+    array-read-t33
+    cast-t34
+    array-read-t37
+    cast-t38
+    array-read-t41
+    cast-t42
+    array-read-t45
+    cast-t46
+    mul-t47
+    add-t48
+    array-read-t51
+    returns)
