@@ -1,4 +1,4 @@
--- What the proofs of the functions need; nobody else cites it.
+-- What the proofs of the functions need. Coding is cited by bindings.
 mod Rowing
 mod Pushing
 mod Solving
@@ -6,4 +6,9 @@ mod Settling
 mod Reducing
 mod Sizing
 mod Skipping
+mod Joining
+mod Grouping
+mod Surveying
+pub mod Coding
+mod Regrouping
 mod Leaving

@@ -27,7 +27,8 @@ use Rattle.patterns.specs.Laws.Nodes.{is-any}
 use Rattle.patterns.specs.Read.{Readable, patternOf, patternAt}
 use Rattle.matching.specs.Node.{innerOf}
 use Rattle.matching.proofs.Records.{by-record, count-two}
-use Rattle.forming.specs.Pending.{inner, Dividable, Divided as DividedAs}
+use Rattle.forming.specs.Pending.{Dividable, Divided as DividedAs}
+use Rattle.forming.specs.Inner.{inner}
 use Rattle.forming.specs.Onward.{Task, task, matchesAll, onward}
 use Rattle.forming.specs.Laws.Onward.{together-alike}
 use Rattle.forming.specs.Laws.Adding.{adding-alike}
@@ -39,20 +40,20 @@ use Rattle.prelude.proofs.Lists.{map-at}
 -- ---- halves of halves
 
 module _ {A : Type 0} where
-  shared-swap : (xs ls rs : List A) → Shared xs ls rs → Shared xs rs ls
+  pub shared-swap : (xs ls rs : List A) → Shared xs ls rs → Shared xs rs ls
   shared-swap [] ls rs h = (h .1, h .0)
   shared-swap (x ∷ xs) ls rs (inl (ms, e, h)) = inr (ms, e, shared-swap xs ms rs h)
   shared-swap (x ∷ xs) ls rs (inr (ms, e, h)) = inl (ms, e, shared-swap xs ls ms h)
 
-  shared-none : (xs : List A) → Shared xs [] xs
+  pub shared-none : (xs : List A) → Shared xs [] xs
   shared-none [] = (refl, refl)
   shared-none (x ∷ xs) = inr (xs, refl, shared-none xs)
 
   -- three shares, the first two of them put together
-  abbrev Regrouped : List A → List A → List A → List A → Type 0
+  abbrev pub Regrouped : List A → List A → List A → List A → Type 0
   Regrouped xs es ls qs = (ms : List A) × Shared xs ms qs × Shared ms es ls
 
-  shared-regroup : (xs es rs ls qs : List A) → Shared xs es rs → Shared rs ls qs → Regrouped xs es ls qs
+  pub shared-regroup : (xs es rs ls qs : List A) → Shared xs es rs → Shared rs ls qs → Regrouped xs es ls qs
   shared-regroup [] es rs ls qs h g = let f = subst (λ (z : List A). Shared z ls qs) (h .1) g in ([], (refl, f .1), (h .0, f .0))
   shared-regroup (x ∷ xs) es rs ls qs (inl (ns, e, h)) g = let (ms, a, b) = shared-regroup xs ns rs ls qs h g in (x ∷ ms, inl (ms, refl, a), inl (ns, e, b))
   shared-regroup (x ∷ xs) es rs ls qs (inr (ns, e, h)) g = go (subst (λ (z : List A). Shared z ls qs) e g) (λ us ws f. shared-regroup xs es ns us ws h f)
@@ -108,17 +109,17 @@ more-side i j p h vs es rs b d m = h vs es rs b (turned i j d) m
     turned (suc i) zero d = shared-swap vs es rs d
     turned (suc i) (suc j) d = d
 
-none-left : (b : Binding) → Fine b → Joined nothing b b
+pub none-left : (b : Binding) → Fine b → Joined nothing b b
 none-left b h =
     let e = nothing-merge b (h .sized) in
     subst (Joined nothing b) e (merge-joined nothing b nothing-sized (h .sized) (ap consistent e ∙ h .agrees))
 
-none-right : (b : Binding) → Fine b → Joined b nothing b
+pub none-right : (b : Binding) → Fine b → Joined b nothing b
 none-right b h =
     let e = merge-nothing b (h .sized) in
     subst (Joined b nothing) e (merge-joined b nothing (h .sized) nothing-sized (ap consistent e ∙ h .agrees))
 
-fine-of : (p : Pattern) (v : Value) (b : Binding) → Matches p v b → Fine b
+pub fine-of : (p : Pattern) (v : Value) (b : Binding) → Matches p v b → Fine b
 fine-of p v b m = record { sized = match-sized p v b m; agrees = match-consistent p v b (matching p v b m) }
 
 module _ (k : Kind) (l r : Pattern) where
@@ -185,12 +186,12 @@ halved-matched : (k : Kind) (x y : Pattern) (v : Value) (b : Binding) → Matche
 unfolding Matches
 halved-matched k x y v b (vs, ls, rs, c, d, e, s, m, n, j) = (vs, ls, rs, e, s)
 
-alike-of : (p q : Pattern) (v : Value) → ((b : Binding) → Matches p v b → Matches q v b) → ((b : Binding) → Matches q v b → Matches p v b) → Alike (matches p v) (matches q v)
+pub alike-of : (p q : Pattern) (v : Value) → ((b : Binding) → Matches p v b → Matches q v b) → ((b : Binding) → Matches q v b → Matches p v b) → Alike (matches p v) (matches q v)
 alike-of p q v f g b = (λ i. matching q v b (f b (matched p v b i)), λ i. matching p v b (g b (matched q v b i)))
 
 -- ---- number 29
 
-not-wide : (p q : Pattern) (v : Value) → (Wide q v → Wide p v) → wide p v ≡ false → wide q v ≡ false
+pub not-wide : (p q : Pattern) (v : Value) → (Wide q v → Wide p v) → wide p v ≡ false → wide q v ≡ false
 not-wide p q v f e = go (wide q v) refl
   where
     go : (t : Bool) → wide q v ≡ t → t ≡ false
@@ -381,42 +382,3 @@ with-alike b xs ys h c = (go xs ys (λ x i. h x .0 i), go ys xs (λ x i. h x .1 
 pub onward-alike : (p q : Pattern) (v : Value) (ts : List Task) (b : Binding) → Alike (matches p v) (matches q v) → Alike (onward (task p v ∷ ts) b) (onward (task q v ∷ ts) b)
 unfolding matchesAll
 onward-alike p q v ts b h = with-alike b (together (matches p v) (matchesAll ts)) (together (matches q v) (matchesAll ts)) (together-alike (matches p v) (matches q v) (matchesAll ts) h)
-
-module _ (table index : List ℕ) (p q : ℕ) (x : Reduced table index p q) (s : List ℕ) (word : ℕ) (a : List ℕ) (next top : ℕ) (m : List ℕ) (rows order : List ℕ) (n : ℕ) where
-  pub reduced-asked : Dividable table index p s word a next top m rows order n → Dividable table index q s word a next top m rows order n
-  reduced-asked h = record {
-    readable = x .readable;
-    composed = x .composed;
-    short = h .short;
-    value = h .value;
-    here = h .here;
-    narrow = x .narrow (h .value) (h .narrow);
-    tasks = h .tasks;
-    are = h .are;
-    long = h .long;
-    low = h .low;
-    room = omega (arith, h .room, x .fewer);
-    binding = h .binding;
-    stands = h .stands;
-    bindings = h .bindings;
-    rows-are = h .rows-are;
-  }
-
-  abbrev P : Pattern
-  P = patternAt (records table) p
-
-  abbrev Q : Pattern
-  Q = patternAt (records table) q
-
-  pub reduced-told : (b rows′ order′ : List ℕ) (r : Step) → DividedAs table index q s word a b next top m rows order n rows′ order′ r → DividedAs table index p s word a b next top m rows order n rows′ order′ r
-  reduced-told b rows′ order′ r d = record {
-    kept = d .kept;
-    long = d .long;
-    right = λ v ts c bs here narrow are st ro.
-        subst (λ (l : List Binding). Entered s rows′ order′ l (r .formed))
-        (sym (adding-alike (onward (task P v ∷ ts) c) (onward (task Q v ∷ ts) c) bs (ro .given) (ro .ordered) (onward-alike P Q v ts c (x .alike v))))
-        (d .right v ts c bs here (x .narrow v narrow) are st ro);
-    some = λ e v ts c here narrow are st.
-        let (f, i) = d .some e v ts c here (x .narrow v narrow) are st in
-        (f, onward-alike P Q v ts c (x .alike v) f .1 i);
-  }

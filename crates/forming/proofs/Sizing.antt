@@ -52,7 +52,7 @@ sum-is l r x e o f = record {
 
 -- ---- what a pattern takes
 
-shared-length : {A : Type 0} (xs ls rs : List A) → Shared xs ls rs → length xs ≡ length ls + length rs
+pub shared-length : {A : Type 0} (xs ls rs : List A) → Shared xs ls rs → length xs ≡ length ls + length rs
 shared-length [] ls rs h = rw (h .0, h .1) refl
 shared-length (x ∷ xs) ls rs (inl (ms, e, h)) = let l = shared-length xs ms rs h in rw e (omega (arith, l))
 shared-length (x ∷ xs) ls rs (inr (ms, e, h)) = let l = shared-length xs ls ms h in rw e (omega (arith, l))

@@ -1,5 +1,6 @@
 // The bindings of a pattern formed once: all ways are gone through with an agenda of what is still to be matched, and each match found is
 // entered in order, once, into rows.
+mod groups;
 mod reduced;
 mod rows;
 mod settled;
@@ -11,9 +12,7 @@ use matching::nodes::Meeting;
 use parts::words;
 use parts::words::Env;
 use tables::Index;
-use tables::kinds;
 use tables::reading::kind;
-use tables::reading::operand;
 use tables::reading::operand_count;
 ghost use Rattle.forming.specs.Pending.{Pushable, Pushed, Solvable, Solved, Dividable, Divided};
 
@@ -29,12 +28,13 @@ pub struct Step {
     pub any: bool,
 }
 
-// Puts the parts of a pattern, each with what it meets in the way d, before the rest of the agenda. An entry is the record of a pattern, the
-// part that it meets, and the entry that follows.
+// Puts the parts of a pattern, each with what it meets in the way d, before the rest of the agenda. An entry is the code of a pattern, the part
+// that it meets, and the entry that follows.
 fn push(
     table: &[u8],
     index: &Index,
-    p: usize,
+    c: usize,
+    rest: usize,
     s: &[u8],
     word: u32,
     d: usize,
@@ -42,9 +42,10 @@ fn push(
     next: usize,
     top: usize,
 ) -> usize
-    requires { ⌜ Pushable (now table) (now index) p (now s) word d (now agenda) next top ⌝ }
-    ensures { λ r. ⌜ Pushed (now (table .entry)) (now (index .entry)) p (now (s .entry)) word d (now (agenda .entry)) next top (now (agenda .exit)) r ⌝ }
+    requires { ⌜ Pushable (now table) (now index) c rest (now s) word d (now agenda) next top ⌝ }
+    ensures { λ r. ⌜ Pushed (now (table .entry)) (now (index .entry)) c (now (s .entry)) word d (now (agenda .entry)) next top (now (agenda .exit)) r ⌝ }
 {
+    let p = c % 256;
     let k = kind(table, index, p);
     let n = operand_count(table, index, p);
     let part = words::unpack(word);
@@ -54,10 +55,10 @@ fn push(
     while 0 < i {
         i -= 1;
         let a = nodes::piece(k, n, s, part, d, i);
-        let q = operand(table, index, p, i);
-        let c = words::pack(s, a);
+        let q = groups::part_code(table, index, c, rest, i);
+        let b = words::pack(s, a);
         agenda[3 * to] = q as u32;
-        agenda[3 * to + 1] = c;
+        agenda[3 * to + 1] = b;
         agenda[3 * to + 2] = head as u32;
         head = to;
         to += 1;
@@ -96,7 +97,7 @@ pub fn solve(
     }
     let p = agenda[3 * at] as usize;
     let word = agenda[3 * at + 1];
-    let q = reduced::reduced(table, index, p);
+    let q = groups::regrouped(table, index, p);
     divide(
         table,
         index,
@@ -117,7 +118,7 @@ pub fn solve(
 fn divide(
     table: &[u8],
     index: &Index,
-    p: usize,
+    c: usize,
     s: &[u8],
     word: u32,
     agenda: &mut [u32; 603],
@@ -128,28 +129,31 @@ fn divide(
     order: &mut [u8; 255],
     n: usize,
 ) -> Step
-    requires { ⌜ Dividable (now table) (now index) p (now s) word (now agenda) next top (now found) (now rows) (now order) n ⌝ }
-    ensures { λ r. ⌜ Divided (now (table .entry)) (now (index .entry)) p (now (s .entry)) word (now (agenda .entry)) (now (agenda .exit)) next top (now (found .entry)) (now (rows .entry)) (now (order .entry)) n (now (rows .exit)) (now (order .exit)) r ⌝ }
+    requires { ⌜ Dividable (now table) (now index) c (now s) word (now agenda) next top (now found) (now rows) (now order) n ⌝ }
+    ensures { λ r. ⌜ Divided (now (table .entry)) (now (index .entry)) c (now (s .entry)) word (now (agenda .entry)) (now (agenda .exit)) next top (now (found .entry)) (now (rows .entry)) (now (order .entry)) n (now (rows .exit)) (now (order .exit)) r ⌝ }
 {
+    let p = c % 256;
     let k = kind(table, index, p);
-    let c = operand_count(table, index, p);
+    let more = operand_count(table, index, p);
     let part = words::unpack(word);
-    let m = nodes::meet(k, c, s, part);
+    let m = nodes::meet(k, more, s, part);
     let once = settled::is_settled(table, index, p, found);
-    let sizes = sizes::sizes_of(table, index, p, k);
+    let opened = groups::open_code(table, index, c, k);
+    let sizes = opened.sizes;
+    let rest = opened.rest;
     let mut n = n;
     let mut any = false;
     if let Meeting::Ways(w) = m {
         let mut d = sizes::way_from(k, w, 0, sizes);
         while d < w {
-            let head = push(table, index, p, s, word, d, agenda, next, top);
+            let head = push(table, index, c, rest, s, word, d, agenda, next, top);
             let r = solve(
                 table,
                 index,
                 s,
                 agenda,
                 head,
-                top + c,
+                top + more,
                 found,
                 rows,
                 order,

@@ -31,7 +31,7 @@ pub struct Sizes {
 }
 
 // Two sizes together.
-fn sum(l: Size, r: Size) -> Size
+pub fn sum(l: Size, r: Size) -> Size
     ensures { λ z. ⌜ Sum l r z ⌝ }
 {
     let a = l.least as usize;
@@ -48,7 +48,7 @@ fn sum(l: Size, r: Size) -> Size
 }
 
 // What a pattern takes that meets a half, where k is the kind of the whole.
-fn size_of(table: &[u8], index: &Index, p: usize, k: usize) -> Size
+pub fn size_of(table: &[u8], index: &Index, p: usize, k: usize) -> Size
     requires { ⌜ Readable (now table) (now index) p × Splits k ⌝ }
     ensures { λ z. ⌜ TellsSize (now (table .entry)) p k z ⌝ }
 {
