@@ -1,42 +1,40 @@
 -- From the rows of one value to those of a binder.
-use mathlib.Core.Path.{_≡_, refl, sym, ap, ap₂, subst, _∙_}
-use mathlib.Core.Bool.{Bool, true, false, _||_, cond}
-use mathlib.Core.Logic.{inl, inr}
+use mathlib.Core.Path.{_≡_, refl, sym, ap, subst, _∙_}
+use mathlib.Core.Bool.{Bool, true, false, _||_}
+use mathlib.Core.Logic.{inl}
 use mathlib.Core.List.{List, [], _∷_, _++_}
-use Prim.Native.Nat.{ℕ, zero, suc, _+_, _*_, _/_, _%_, _≤_, _<_}
+use Prim.Native.Nat.{ℕ, _+_, _*_, _≤_, _<_}
 use native.Mathlib.Omega.{arith}
-use lib.Dec.{leb}
 use lib.ListN.{length, getD, set, length-set}
 use lib.Seq.{getD-set-same, getD-set-other}
 use borrow.Author.Tests.{le-leb, lt-leb}
 use Rattle.prelude.proofs.Truth.{or-false-left, or-false-right}
 use Rattle.integers.specs.Bytes.{word}
 use Rattle.values.specs.Value.{Value}
-use Rattle.values.specs.Place.{At, ItemsAt, Holds, HoldsItems}
+use Rattle.values.specs.Place.{At, ItemsAt, Holds}
 use Rattle.values.proofs.Records.{holds}
 use Rattle.tables.specs.Accepted.{records}
 use Rattle.parts.specs.Part.{PartIs}
 use Rattle.patterns.specs.Ways.{gather, exists}
-use Rattle.patterns.specs.Binding.{Binding, nothing, consistent, sorted}
+use Rattle.patterns.specs.Binding.{Binding, nothing, sorted}
 use Rattle.patterns.specs.Pattern.{Pattern, itemsOf, matches, wide}
-use Rattle.patterns.specs.Binder.{bindings, Formed as Outcome, bound, refused, few, formed, mostBindings}
-use Rattle.prelude.proofs.Absurd.{true-false}
+use Rattle.patterns.specs.Binder.{bindings, few, formed, mostBindings}
 use Rattle.patterns.specs.Read.{Readable, patternAt}
 use Rattle.matching.specs.Leaf.{Stands}
 use Rattle.bindings.proofs.Members.{first-of, none-left}
-use Rattle.bindings.proofs.Large.{members-at, set-held}
+use Rattle.bindings.proofs.Large.{members-at}
 use Rattle.forming.specs.declared.Formed.{Formed}
-use Rattle.forming.specs.declared.Step.{Step}
 use Rattle.forming.specs.declared.Formed.the-variants.{Number, Refused}
-use Rattle.forming.specs.Onward.{Task, task, onward}
+use Rattle.forming.specs.Onward.{task}
 use Rattle.forming.specs.Laws.Onward.{onward-one}
 use Rattle.forming.specs.Adding.{adding}
 use Rattle.forming.specs.Laws.Adding.{adding-none, adding-more, adding-longer, adding-sorted}
 use Rattle.parts.specs.Word.{unpacked}
 use Rattle.forming.specs.Rows.{RowsAre, Entered}
 use Rattle.forming.specs.Groups.{codePattern}
-use Rattle.forming.specs.Pending.{Pending, AgendaIs, spaces, Solvable, Solved}
+use Rattle.forming.specs.Pending.{AgendaIs}
 use Rattle.forming.proofs.Coding.{record-pattern}
+use Rattle.forming.specs.Stack.{Solvable, Solved}
 use Rattle.bindings.specs.Forming.{Values, Bindable, TellsWide, OneHeld, OneFormed, AllHeld, AllFormed, TellsRows, RowsFormed}
 use Rattle.bindings.proofs.Room.{inner-few}
 
@@ -77,26 +75,28 @@ module _ (table index : List ℕ) (p : ℕ) (s : List ℕ) (at : ℕ) (a rows or
   )
 
   module _ (f : List ℕ) (nothing-yet : (s : List ℕ) → Stands s f nothing) where
-    pub one-asked : Solvable table index s (seeded a p at) 1 2 f rows order n
-    one-asked = record {
+    asked-with : (v : Value) (bs : List Binding) → At s at v → wide (patternAt (records table) p) v ≡ false → RowsAre s rows order n bs → Solvable table index s (seeded a p at) 1 2 f rows order n
+    asked-with v bs i w g = record {
       short = h .short;
-      tasks = task (patternAt (records table) p) (h .value) ∷ [];
-      are = seed-agenda (h .value) (h .here) (h .narrow);
+      tasks = task (patternAt (records table) p) v ∷ [];
+      are = seed-agenda v i w;
       long = seed-long ∙ h .long;
       low = omega arith;
       room = omega (arith, inner-few table index p (h .readable));
       binding = nothing;
       stands = nothing-yet s;
-      bindings = h .bindings;
-      rows-are = h .rows-are;
+      bindings = bs;
+      rows-are = g;
     }
 
-    pub one-formed : (b rows′ order′ : List ℕ) (r : Step) → Solved table index s (seeded a p at) b 1 2 f rows order n rows′ order′ r → OneFormed table p s at a b rows order n rows′ order′ (r .formed)
+    pub one-asked : Solvable table index s (seeded a p at) 1 2 f rows order n
+    one-asked = asked-with (h .value) (h .bindings) (h .here) (h .narrow) (h .rows-are)
+
+    pub one-formed : (b rows′ order′ : List ℕ) (r : Formed) → Solved table index s (seeded a p at) 1 2 f rows order n b rows′ order′ r → OneFormed table p s at a b rows order n rows′ order′ r
+    unfolding asked-with
     one-formed b rows′ order′ r d = record {
       long = d .long ∙ seed-long;
-      right = λ v bs i w g.
-          subst (λ (l : List Binding). Entered s rows′ order′ (adding l bs) (r .formed)) (onward-one (patternAt (records table) p) v)
-          (d .right (task (patternAt (records table) p) v ∷ []) nothing bs (seed-agenda v i w) (nothing-yet s) g);
+      right = λ v bs i w g. subst (λ (l : List Binding). Entered s rows′ order′ (adding l bs) r) (onward-one (patternAt (records table) p) v) (d .right (asked-with v bs i w g));
     }
 
 -- ---- all members

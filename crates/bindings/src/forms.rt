@@ -91,9 +91,8 @@ fn form_one(
     agenda[3] = p as u32;
     agenda[4] = (1 + 4 * at) as u32;
     agenda[5] = 0;
-    let found = [0u32; Env::NAMES];
-    let r = forming::solve(table, index, s, agenda, 1, 2, &found, rows, order, n);
-    r.formed
+    let mut found = [0u32; Env::NAMES];
+    forming::solve(table, index, s, agenda, 1, 2, &mut found, rows, order, n)
 }
 
 // The matches of all members from a place up to another.

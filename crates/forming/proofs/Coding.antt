@@ -1,38 +1,38 @@
 -- Codes of patterns: records, and groups of the leaves of a union from some place on.
 use mathlib.Core.Path.{_≡_, refl, sym, ap, ap₂, subst, _∙_}
 use mathlib.Core.Bool.{Bool, true, false, cond}
-use mathlib.Core.Logic.{_⊎_, inl, inr, ⊎-elim}
+use mathlib.Core.Logic.{inl, inr}
 use mathlib.Core.List.{List, [], _∷_, _++_}
 use Prim.Native.Nat.{ℕ, zero, suc, _+_, _-_, _*_, _/_, _%_, _≤_, _<_}
 use native.Mathlib.Omega.{arith}
-use lib.Dec.{ltb, leb}
+use lib.Dec.{leb}
 use lib.ListN.{length, getD, take, drop, length-drop, length-append}
 use lib.Seq.{drop-cons}
-use borrow.Author.Tests.{lt-ltb, le-ltb, ltb-true, leb-true, leb-false}
+use borrow.Author.Tests.{lt-ltb, le-ltb, leb-true, leb-false}
 use Rattle.prelude.specs.Membership.{In}
 use Rattle.prelude.proofs.Absurd.{true-false}
 use Rattle.prelude.proofs.Membership.{in-one}
 use Rattle.prelude.proofs.Lists.{map-at}
-use Rattle.values.specs.Value.{set, Value}
+use Rattle.values.specs.Value.{set, Value, collection}
+use Rattle.patterns.specs.Relation.{Matches}
 use Rattle.tables.specs.Record.{Record, named as operandsOf, operand}
 use Rattle.tables.specs.Table.{recordAt, kindAt}
 use Rattle.tables.specs.Accepted.{records}
 use Rattle.patterns.specs.Members.{Alike}
-use Rattle.patterns.specs.Pattern.{Pattern, any, halved, matches, wide}
+use Rattle.patterns.specs.Pattern.{Pattern, any, halved, itemsOf, matches, wide}
 use Rattle.patterns.specs.Nodes.{collectionOf}
 use Rattle.patterns.specs.Read.{Readable, patternOf, patternAt}
-use Rattle.patterns.specs.Laws.Named.{named}
 use Rattle.matching.specs.Node.{innerOf}
-use Rattle.matching.proofs.Records.{by-record, inner-length, count-two, operand-readable}
+use Rattle.matching.proofs.Records.{by-record, inner-length, operand-readable}
 use Rattle.forming.specs.declared.sizes.Size.{Size}
 use Rattle.forming.specs.declared.sizes.Sizes.{Sizes}
 use Rattle.forming.specs.declared.groups.Leaves.{Leaves}
 use Rattle.forming.specs.declared.groups.Opened.{Opened}
 use Rattle.forming.specs.Inner.{inner}
 use Rattle.forming.specs.Reduced.{Splits, Reduced}
-use Rattle.forming.specs.Sizes.{Takes, TellsSize, HalvesTake, TellsSizes}
+use Rattle.forming.specs.Sizes.{Sized, Sum, Takes, TellsSize, TellsSizes}
 use Rattle.forming.specs.Settled.{Settled, TellsSettled}
-use Rattle.forming.specs.Groups.{leaves, ofClass, inOrder, unionOf, groupParts, codePattern, firstAndRest, codeInner, mostLeaves, GroupHeld, CodeHeld, LeavesAre, Joins, Once, SurveyHeld, Regroupable, Regrouped, CodeHalves, Openable, RestIs, OpenedAs, PartHeld, PartCode, TellsParts}
+use Rattle.forming.specs.Groups.{TakeTogether, leaves, ofClass, inOrder, unionOf, groupParts, codePattern, firstAndRest, codeInner, mostLeaves, GroupHeld, CodeHeld, LeavesAre, Joins, Once, SurveyHeld, Regroupable, Regrouped, CodeHalves, Openable, OpenedAs, PartHeld, PartCode, TellsParts, Ends}
 use Rattle.forming.proofs.Reducing.{is-two, two-halves}
 use Rattle.forming.proofs.Grouping.{group-alike, group-narrow, group-fewer, ordered-few, leaves-room, group-takes, group-named}
 
@@ -62,6 +62,11 @@ last-of (p ∷ []) zero l h = refl
 last-of (p ∷ q ∷ ps) zero l h = absurd (omega arith)
 last-of (p ∷ ps) (suc i) l h = last-of ps i (omega arith) (omega arith)
 
+at-drop : (ps : List Pattern) (j n : ℕ) → getD (drop j ps) n any ≡ getD ps (j + n) any
+at-drop ps zero n = let e : n ≡ 0 + n = omega arith in ap (λ (k : ℕ). getD ps k any) e
+at-drop [] (suc j) n = let e : suc j + n ≡ suc (j + n) = omega arith in ap (λ (k : ℕ). getD [] k any) (sym e)
+at-drop (x ∷ ps) (suc j) n = let e : suc (j + n) ≡ suc j + n = omega arith in at-drop ps j n ∙ ap (λ (k : ℕ). getD (x ∷ ps) k any) e
+
 -- ---- records as codes
 
 module _ (table index : List ℕ) (c : ℕ) where
@@ -90,7 +95,7 @@ module _ (table index : List ℕ) (c : ℕ) where
   code-readable (inl r) = subst (Readable table index) (sym (own (omega (arith, record-low r)))) r
   code-readable (inr g) = g .readable
 
-  pub code-small : CodeHeld table index c → c < 16777216
+  pub code-small : CodeHeld table index c → c < 4294967296
   code-small (inl r) = omega (arith, record-low r)
   code-small (inr g) = g .small
 
@@ -191,47 +196,70 @@ module _ (table index : List ℕ) (p : ℕ) (r : Readable table index p) (k : ki
   abbrev L : List Pattern
   L = inOrder (leaves P)
 
-  module _ (i q : ℕ) (l : i + 1 < length L) (rq : Readable table index q) (eq : patternAt (records table) q ≡ getD L i any) (c : ℕ) (ec : c ≡ p + 256 * q + 65536 * (i + 1)) where
+  -- t is twice the place counted from 1, with 1 more where no third leaf follows
+  pub record Place (i t : ℕ) : Type 0 where
+    pub half : t / 2 ≡ i + 1
+    pub last : t % 2 ≡ 1 → length L ≡ i + 2
+    pub more : t % 2 ≡ 0 → i + 2 < length L
+
+  module _ (i q u : ℕ) (l : i + 1 < length L) (rq : Readable table index q) (eq : patternAt (records table) q ≡ getD L i any) (ru : Readable table index u) (eu : patternAt (records table) u ≡ getD L (i + 1) any) (t : ℕ) (et : Place i t)
+      (c : ℕ) (ec : c ≡ p + 256 * q + 65536 * u + 16777216 * t) where
     low : p < 200
     low = omega (arith, r .here .within, r .fine .few)
 
     low-leaf : q < 200
     low-leaf = omega (arith, rq .here .within, rq .fine .few)
 
-    low-place : i < 201
+    low-next : u < 200
+    low-next = omega (arith, ru .here .within, ru .fine .few)
+
+    low-place : i < 101
     low-place = omega (arith, ordered-few (leaves P), few, l)
 
+    low-t : t < 256
+    low-t = omega (arith, low-place, et .half)
+
     is-p : c % 256 ≡ p
-    is-p = omega (arith, low, low-leaf, low-place, ec)
+    is-p = omega (arith, low, ec)
 
     is-q : c / 256 % 256 ≡ q
-    is-q = omega (arith, low, low-leaf, low-place, ec)
+    is-q = omega (arith, low, low-leaf, ec)
 
-    is-i : c / 65536 - 1 ≡ i
-    is-i = omega (arith, low, low-leaf, low-place, ec)
+    is-u : c / 65536 % 256 ≡ u
+    is-u = omega (arith, low, low-leaf, low-next, ec)
+
+    is-t : c / 16777216 ≡ t
+    is-t = omega (arith, low, low-leaf, low-next, ec)
+
+    is-i : c / 33554432 - 1 ≡ i
+    is-i = omega (arith, low, low-leaf, low-next, ec, et .half)
 
     pub parts-are : groupParts table c ≡ drop i L
     parts-are = ap₂ (λ (x y : ℕ). drop x (inOrder (leaves (patternAt (records table) y)))) is-i is-p
 
-    head-at : (ps : List Pattern) (j : ℕ) → getD (drop j ps) 0 any ≡ getD ps j any
-    head-at ps zero = refl
-    head-at [] (suc j) = refl
-    head-at (x ∷ ps) (suc j) = head-at ps j
+    parts-long : length (groupParts table c) ≡ length L - i
+    parts-long = ap length parts-are ∙ length-drop i L
 
     pub make-group : GroupHeld table index c
-    make-group = record {
-      large = omega (arith, ec);
-      small = omega (arith, low, low-leaf, low-place, ec);
-      readable = subst (Readable table index) (sym is-p) r;
-      union = ap (kindAt (records table)) is-p ∙ k;
-      leaf = subst (Readable table index) (sym is-q) rq;
-      first = ap (patternAt (records table)) is-q ∙ eq ∙ sym (head-at L i) ∙ ap (λ (ps : List Pattern). getD ps 0 any) (sym parts-are);
-      several = subst (λ (ps : List Pattern). 2 ≤ length ps) (sym parts-are) (omega (arith, length-drop i L, l));
-      few = subst (λ (x : ℕ). length (leaves (patternAt (records table) x)) ≤ mostLeaves) (sym is-p) few;
-    }
+    make-group =
+        let z : i + 0 ≡ i = omega arith in
+        record {
+          large = omega (arith, ec, et .half);
+          small = omega (arith, low, low-leaf, low-next, low-t, ec);
+          readable = subst (Readable table index) (sym is-p) r;
+          union = ap (kindAt (records table)) is-p ∙ k;
+          leaf = subst (Readable table index) (sym is-q) rq;
+          first = ap (patternAt (records table)) is-q ∙ eq ∙ ap (λ (j : ℕ). getD L j any) (sym z) ∙ sym (at-drop L i 0) ∙ ap (λ (ps : List Pattern). getD ps 0 any) (sym parts-are);
+          next = subst (Readable table index) (sym is-u) ru;
+          second = ap (patternAt (records table)) is-u ∙ eu ∙ sym (at-drop L i 1) ∙ ap (λ (ps : List Pattern). getD ps 1 any) (sym parts-are);
+          several = omega (arith, parts-long, l);
+          last = λ e. omega (arith, parts-long, et .last (sym (ap (λ (n : ℕ). n % 2) is-t) ∙ e));
+          more = λ e. omega (arith, parts-long, et .more (sym (ap (λ (n : ℕ). n % 2) is-t) ∙ e));
+          few = subst (λ (x : ℕ). length (leaves (patternAt (records table) x)) ≤ mostLeaves) (sym is-p) few;
+        }
 
     pub group-is : codePattern table c ≡ unionOf (drop i L)
-    group-is = group-pattern table index c (omega (arith, ec)) ∙ ap unionOf parts-are
+    group-is = group-pattern table index c (omega (arith, ec, et .half)) ∙ ap unionOf parts-are
 
 -- ---- patterns that are only a test
 
@@ -256,7 +284,7 @@ module _ (table index : List ℕ) (c : ℕ) (h : CodeHeld table index c) where
           subst (λ (x : Pattern). Settled x m) (ap (patternAt (records table)) (own table index c l) ∙ sym (plain-pattern table index c l)) (o .says e)
       go (inr g) =
           subst (λ (x : Pattern). Settled x m) (sym (group-pattern table index c (omega (arith, g .large))))
-          (named-some (patternAt (records table) (c % 256)) (groupParts table c) (omega (arith, g .several)) (c / 65536 - 1) (λ x i. i) m (o .says e))
+          (named-some (patternAt (records table) (c % 256)) (groupParts table c) (omega (arith, g .several)) (c / 33554432 - 1) (λ x i. i) m (o .says e))
 
   pub inner-settled : 36 ≤ kindAt (records table) (c % 256) → (m : List ℕ) (t : Bool) → TellsSettled table (c % 256) m t → t ≡ true → (j : ℕ) → j < length (codeInner table c) → Settled (getD (codeInner table c) j any) m
   inner-settled k m t o e j b = go h
@@ -271,7 +299,7 @@ module _ (table index : List ℕ) (c : ℕ) (h : CodeHeld table index c) where
       go (inr g) =
           let l : 256 ≤ c = omega (arith, g .large) in
           subst (λ (ps : List Pattern). Settled (getD ps j any) m) (sym (group-inner table index c l))
-          (settled-pair (patternAt (records table) (c % 256)) (c / 65536 - 1) (groupParts table c) refl (g .several) m (o .says e) j (subst (λ (ps : List Pattern). j < length ps) (group-inner table index c l) b))
+          (settled-pair (patternAt (records table) (c % 256)) (c / 33554432 - 1) (groupParts table c) refl (g .several) m (o .says e) j (subst (λ (ps : List Pattern). j < length ps) (group-inner table index c l) b))
 
 -- ---- in_order
 
@@ -334,20 +362,26 @@ module _ (table index : List ℕ) (c : ℕ) (h : Regroupable table index c) wher
       pub survey-asked : SurveyHeld table index c
       survey-asked = record { readable = record-of; few = omega (arith, leaves-room (patternAt (records table) c), h .room, ap inner (record-pattern table index c record-of)) }
 
-      module _ (x : Leaves) (a : LeavesAre table index (inOrder (leaves (patternAt (records table) c))) 0 x) (n : 2 ≤ x .count) where
+      module _ (x : Leaves) (a : LeavesAre table index (inOrder (leaves (patternAt (records table) c))) 0 x) (n : 2 ≤ x .count) (y : Leaves) (b : LeavesAre table index (inOrder (leaves (patternAt (records table) c))) 1 y) where
         several : 2 ≤ length (inOrder (leaves (patternAt (records table) c)))
         several = omega (arith, n, a .count)
 
-        leaf-there : Readable table index (x .leaf) × (patternAt (records table) (x .leaf) ≡ getD (inOrder (leaves (patternAt (records table) c))) 0 any)
-        leaf-there = a .leaf (a .found ∙ lt-ltb 0 (length (inOrder (leaves (patternAt (records table) c)))) (omega (arith, several)))
+        first-there : Readable table index (x .leaf) × (patternAt (records table) (x .leaf) ≡ getD (inOrder (leaves (patternAt (records table) c))) 0 any)
+        first-there = a .leaf (a .found ∙ lt-ltb 0 (length (inOrder (leaves (patternAt (records table) c)))) (omega (arith, several)))
 
-        pub code-asked : (c < 256) × (x .leaf < 256) × (0 < 255)
-        code-asked = (l, omega (arith, leaf-there .0 .here .within, leaf-there .0 .fine .few), omega arith)
+        second-there : Readable table index (y .leaf) × (patternAt (records table) (y .leaf) ≡ getD (inOrder (leaves (patternAt (records table) c))) 1 any)
+        second-there = b .leaf (b .found ∙ lt-ltb 1 (length (inOrder (leaves (patternAt (records table) c)))) (omega (arith, several)))
 
-        pub regroup-union : (r : ℕ) → r ≡ c + 256 * x .leaf + 65536 * (0 + 1) → Regrouped table index c r
-        regroup-union r e =
-            let g = make-group table index c record-of k (survey-asked .few) 0 (x .leaf) (omega (arith, several)) (leaf-there .0) (leaf-there .1) r e in
-            let whole = group-is table index c record-of k (survey-asked .few) 0 (x .leaf) (omega (arith, several)) (leaf-there .0) (leaf-there .1) r e in
+        pub first-low : x .leaf < 256
+        first-low = omega (arith, first-there .0 .here .within, first-there .0 .fine .few)
+
+        pub second-low : y .leaf < 256
+        second-low = omega (arith, second-there .0 .here .within, second-there .0 .fine .few)
+
+        regroup-union : (t : ℕ) → Place table index c record-of k (survey-asked .few) 0 t → (r : ℕ) → r ≡ c + 256 * x .leaf + 65536 * y .leaf + 16777216 * t → Regrouped table index c r
+        regroup-union t et r e =
+            let g = make-group table index c record-of k (survey-asked .few) 0 (x .leaf) (y .leaf) (omega (arith, several)) (first-there .0) (first-there .1) (second-there .0) (second-there .1) t et r e in
+            let whole = group-is table index c record-of k (survey-asked .few) 0 (x .leaf) (y .leaf) (omega (arith, several)) (first-there .0) (first-there .1) (second-there .0) (second-there .1) t et r e in
             let two = is-two table index c record-of 38 k (inl refl) in
             let (al, na) = same two in
             record {
@@ -366,6 +400,14 @@ module _ (table index : List ℕ) (c : ℕ) (h : Regroupable table index c) wher
                   λ v. subst (λ (y : Pattern). wide y v ≡ false → wide (unionOf (inOrder (leaves y))) v ≡ false) (sym e) (group-narrow a b n v),
                 )
 
+        pub regroup-ends : (f : ℕ) → Ends (x .count) 2 f → (r : ℕ) → r ≡ c + 256 * x .leaf + 65536 * y .leaf + 16777216 * (2 + f) → Regrouped table index c r
+        regroup-ends f h =
+            regroup-union (2 + f) (record {
+              half = omega (arith, h .low);
+              last = λ e. omega (arith, h .yes (omega (arith, h .low, e)), a .count);
+              more = λ e. let n = h .no (omega (arith, h .low, e)) in omega (arith, n, several, a .count);
+            })
+
 -- ---- open
 
 module _ (table index : List ℕ) (c k : ℕ) (h : Openable table index c k) where
@@ -373,9 +415,10 @@ module _ (table index : List ℕ) (c k : ℕ) (h : Openable table index c k) whe
     pub open-record : Readable table index c × (kindAt (records table) c ≡ k)
     open-record = (code-record table index c (h .held) l, subst (λ (x : ℕ). kindAt (records table) x ≡ k) (own table index c l) (h .of-kind))
 
-    pub opened-record : (o : Opened) (z : Sizes) → o .sizes ≡ z → TellsSizes table c k z → OpenedAs table index c k o
-    opened-record o z e t = record {
+    pub opened-record : (o : Opened) → o .rest < 4294967296 → (z : Sizes) → o .sizes ≡ z → TellsSizes table c k z → OpenedAs table index c k o
+    opened-record o rl z e t = record {
       rest-is = λ m. absurd (omega arith);
+      rest-low = rl;
       sizes-are = λ b.
           let f = t (ap (λ (x : Sizes). x .bound) (sym e) ∙ b) in
           let two = two-halves table index c (open-record .0) k (open-record .1) (f .splits) in
@@ -390,13 +433,16 @@ module _ (table index : List ℕ) (c k : ℕ) (h : Openable table index c k) whe
         at j b = sym (map-at (patternAt (records table)) (operandsOf (recordAt (records table) c)) j 0 any b) ∙ ap (λ (ps : List Pattern). getD ps j any) (sym (plain-inner table index c l))
 
   module _ (l : 256 ≤ c) where
+    abbrev T : ℕ
+    T = c / 16777216
+
     abbrev I : ℕ
-    I = c / 65536
+    I = c / 33554432 - 1
 
     abbrev ordered : List Pattern
     ordered = inOrder (leaves (patternAt (records table) (c % 256)))
 
-    pub held : GroupHeld table index c
+    held : GroupHeld table index c
     held = code-group table index c (h .held) l
 
     pub survey-rest : SurveyHeld table index (c % 256)
@@ -405,47 +451,85 @@ module _ (table index : List ℕ) (c k : ℕ) (h : Openable table index c k) whe
     pub leaf-sized : Readable table index (c / 256 % 256) × Splits 38
     leaf-sized = (held .leaf, inl refl)
 
-    place : I < length ordered
-    place = omega (arith, held .several, length-drop (c / 65536 - 1) ordered, held .large)
+    pub next-sized : Readable table index (c / 65536 % 256) × Splits 38
+    next-sized = (held .next, inl refl)
 
-    module _ (x : Leaves) (a : LeavesAre table index ordered I x) where
-      next-leaf : Readable table index (x .leaf) × (patternAt (records table) (x .leaf) ≡ getD ordered I any)
-      next-leaf = a .leaf (a .found ∙ lt-ltb I (length ordered) place)
+    long : length (groupParts table c) ≡ length ordered - I
+    long = length-drop I ordered
 
-      pub leaf-low : x .leaf < 256
-      leaf-low = omega (arith, next-leaf .0 .here .within, next-leaf .0 .fine .few)
+    half-t : T / 2 ≡ I + 1
+    half-t = omega (arith, held .large)
 
-      rest-parts : getD (codeInner table c) 1 any ≡ unionOf (drop I ordered)
-      rest-parts =
-          let e : suc (c / 65536 - 1) ≡ c / 65536 = omega (arith, held .large) in
-          ap (λ (ps : List Pattern). getD ps 1 any) (group-inner table index c l) ∙ rest-of ordered (c / 65536 - 1) (omega (arith, place)) ∙ ap (λ (j : ℕ). unionOf (drop j ordered)) e
+    rest-parts : getD (codeInner table c) 1 any ≡ unionOf (drop (I + 1) ordered)
+    rest-parts =
+        let e : suc I ≡ I + 1 = omega arith in
+        ap (λ (ps : List Pattern). getD ps 1 any) (group-inner table index c l) ∙ rest-of ordered I (omega (arith, long, held .several)) ∙ ap (λ (j : ℕ). unionOf (drop j ordered)) e
 
-      pub place-low : I < 255
-      place-low = omega (arith, place, ordered-few (leaves (patternAt (records table) (c % 256))), held .few)
+    next-at : patternAt (records table) (c / 65536 % 256) ≡ getD ordered (I + 1) any
+    next-at = held .second ∙ at-drop ordered I 1
 
-      sizes-known : (left : Size) → TellsSize table (c / 256 % 256) 38 left → (o : Opened) → o .sizes ≡ record { bound = true; left = left; right = x .size } → CodeHalves table c k (o .sizes)
-      sizes-known left t o e =
-          subst (CodeHalves table c k) (sym e)
-          (subst (λ (n : ℕ). CodeHalves table c n (record { bound = true; left = left; right = x .size })) (sym (held .union) ∙ h .of-kind) (record {
-            splits = inl refl;
-            left = subst (λ (y : Pattern). Takes set y left) (held .first ∙ sym (head-of (groupParts table c) (omega (arith, held .several))) ∙ ap (λ (ps : List Pattern). getD ps 0 any) (sym (group-inner table index c l))) t;
-            right = subst (λ (y : Pattern). Takes set y (x .size)) (sym rest-parts) (group-takes (drop I ordered) (x .size) (omega (arith, length-drop I ordered, place)) (a .takes));
-          }))
+    sizes-known : (z : Sizes) → TellsSize table (c / 256 % 256) 38 (z .left) → Takes set (unionOf (drop (I + 1) ordered)) (z .right) → CodeHalves table c k z
+    sizes-known z tl tr =
+        subst (λ (n : ℕ). CodeHalves table c n z) (sym (held .union) ∙ h .of-kind) (record {
+          splits = inl refl;
+          left = subst (λ (y : Pattern). Takes set y (z .left)) (held .first ∙ sym (head-of (groupParts table c) (omega (arith, held .several))) ∙ ap (λ (ps : List Pattern). getD ps 0 any) (sym (group-inner table index c l))) tl;
+          right = subst (λ (y : Pattern). Takes set y (z .right)) (sym rest-parts) tr;
+        })
 
-      module _ (left : Size) (t : TellsSize table (c / 256 % 256) 38 left) where
-        pub opened-last : x .count ≡ I + 1 → OpenedAs table index c k (record { rest = x .leaf; sizes = record { bound = true; left = left; right = x .size } })
-        opened-last e = record {
-          rest-is = λ m. (inl (next-leaf .0), record-pattern table index (x .leaf) (next-leaf .0) ∙ next-leaf .1 ∙ sym (last-of ordered I place (omega (arith, e, a .count))) ∙ sym rest-parts);
-          sizes-are = λ b. sizes-known left t (record { rest = x .leaf; sizes = record { bound = true; left = left; right = x .size } }) refl;
-        }
+    module _ (left right : Size) (tl : TellsSize table (c / 256 % 256) 38 left) (tr : TellsSize table (c / 65536 % 256) 38 right) where
+      pub opened-last : T % 2 ≡ 1 → (z : Sizes) → (z .left ≡ left) × (z .right ≡ right) → OpenedAs table index c k (record { rest = c / 65536 % 256; sizes = z })
+      opened-last e z (el, er) =
+          let is : unionOf (drop (I + 1) ordered) ≡ patternAt (records table) (c / 65536 % 256) = last-of ordered (I + 1) (omega (arith, long, held .several)) (omega (arith, long, held .last e)) ∙ sym next-at in
+          record {
+            rest-is = λ m. (inl (held .next), record-pattern table index (c / 65536 % 256) (held .next) ∙ sym is ∙ sym rest-parts);
+            rest-low = omega arith;
+            sizes-are = λ b.
+                sizes-known z (subst (TellsSize table (c / 256 % 256) 38) (sym el) tl) (subst (λ (y : Pattern). Takes set y (z .right)) (sym is) (subst (TellsSize table (c / 65536 % 256) 38) (sym er) tr));
+          }
 
-        pub opened-more : (x .count ≡ I + 1 → ⊥) → (r : ℕ) → r ≡ (c % 256) + 256 * x .leaf + 65536 * (I + 1) → OpenedAs table index c k (record { rest = r; sizes = record { bound = true; left = left; right = x .size } })
-        opened-more f r e =
-            let b : I + 1 < length ordered = omega (arith, place, f, a .count) in
+      module _ (e : T % 2 ≡ 0) (x : Leaves) (a : LeavesAre table index ordered (T / 2 + 1) x) where
+        a′ : LeavesAre table index ordered (I + 2) x
+        a′ = let q : T / 2 + 1 ≡ I + 2 = omega (arith, half-t) in subst (λ (n : ℕ). LeavesAre table index ordered n x) q a
+
+        third : I + 2 < length ordered
+        third = omega (arith, long, held .more e)
+
+        leaf-there : Readable table index (x .leaf) × (patternAt (records table) (x .leaf) ≡ getD ordered (I + 2) any)
+        leaf-there = a′ .leaf (a′ .found ∙ lt-ltb (I + 2) (length ordered) third)
+
+        pub leaf-low : x .leaf < 256
+        leaf-low = omega (arith, leaf-there .0 .here .within, leaf-there .0 .fine .few)
+
+        pub place-low : T < 252
+        place-low = omega (arith, half-t, third, ordered-few (leaves (patternAt (records table) (c % 256))), held .few)
+
+        next-take : (z : Size) → Sum right (x .size) z → Takes set (unionOf (drop (I + 1) ordered)) z
+        next-take z s =
+            let f : suc (I + 1) ≡ I + 2 = omega arith in
+            let g : drop (I + 1) ordered ≡ getD ordered (I + 1) any ∷ drop (I + 2) ordered = drop-cons ordered (I + 1) any (omega (arith, third)) ∙ ap (λ (j : ℕ). getD ordered (I + 1) any ∷ drop j ordered) f in
+            group-takes (drop (I + 1) ordered) z (omega (arith, ap length g))
+            (subst (λ (ps : List Pattern). TakeTogether ps z) (sym g) (λ m (vs, b, n, y, w, q). subst (Sized z) (sym q) (s .right (length vs) n (tr vs b (subst (λ (p : Pattern). Matches p (collection set (itemsOf vs)) b) (sym next-at) y)) (a′ .takes n w))))
+
+        opened-by : (t : ℕ) → Place table index (c % 256) (held .readable) (held .union) (held .few) (I + 1) t → (w : Size) → Sum right (x .size) w → (z : Sizes) → (z .left ≡ left) × (z .right ≡ w)
+            → (r : ℕ) → r ≡ c % 256 + 256 * (c / 65536 % 256) + 65536 * x .leaf + 16777216 * t → OpenedAs table index c k (record { rest = r; sizes = z })
+        opened-by t et w s z (el, er) r er′ =
+            let f : I + 1 + 1 ≡ I + 2 = omega arith in
+            let b : I + 1 + 1 < length ordered = omega (arith, third) in
+            let eu : patternAt (records table) (x .leaf) ≡ getD ordered (I + 1 + 1) any = leaf-there .1 ∙ ap (λ (j : ℕ). getD ordered j any) (sym f) in
             record {
               rest-is = λ m. (
-                inr (make-group table index (c % 256) (held .readable) (held .union) (held .few) I (x .leaf) b (next-leaf .0) (next-leaf .1) r e),
-                group-is table index (c % 256) (held .readable) (held .union) (held .few) I (x .leaf) b (next-leaf .0) (next-leaf .1) r e ∙ sym rest-parts,
+                inr (make-group table index (c % 256) (held .readable) (held .union) (held .few) (I + 1) (c / 65536 % 256) (x .leaf) b (held .next) next-at (leaf-there .0) eu t et r er′),
+                group-is table index (c % 256) (held .readable) (held .union) (held .few) (I + 1) (c / 65536 % 256) (x .leaf) b (held .next) next-at (leaf-there .0) eu t et r er′ ∙ sym rest-parts,
               );
-              sizes-are = λ m. sizes-known left t (record { rest = r; sizes = record { bound = true; left = left; right = x .size } }) refl;
+              rest-low = make-group table index (c % 256) (held .readable) (held .union) (held .few) (I + 1) (c / 65536 % 256) (x .leaf) b (held .next) next-at (leaf-there .0) eu t et r er′ .small;
+              sizes-are = λ m. sizes-known z (subst (TellsSize table (c / 256 % 256) 38) (sym el) tl) (subst (Takes set (unionOf (drop (I + 1) ordered))) (sym er) (next-take w s));
             }
+
+        pub opened-ends : (f : ℕ) → Ends (x .count) (T / 2 + 2) f → (w : Size) → Sum right (x .size) w → (z : Sizes) → (z .left ≡ left) × (z .right ≡ w)
+            → (r : ℕ) → r ≡ c % 256 + 256 * (c / 65536 % 256) + 65536 * x .leaf + 16777216 * (T + 2 + f) → OpenedAs table index c k (record { rest = r; sizes = z })
+        opened-ends f h =
+            opened-by (T + 2 + f) (record {
+              half = omega (arith, half-t, e, h .low);
+              last = λ g. omega (arith, h .yes (omega (arith, h .low, e, g)), half-t, a .count);
+              more = λ g. let n = h .no (omega (arith, h .low, e, g)) in omega (arith, n, half-t, third, a .count);
+            })

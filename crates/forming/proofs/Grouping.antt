@@ -6,23 +6,23 @@ use mathlib.Core.List.{List, [], _∷_, _++_}
 use Prim.Native.Nat.{ℕ, zero, suc, _+_, _*_, _≤_, _<_}
 use native.Mathlib.Omega.{arith}
 use lib.Dec.{eqb}
-use lib.ListN.{length, getD, take, drop, length-append}
-use borrow.Author.Tests.{eqb-true, eqb-false, eq-eqb}
+use lib.ListN.{length, take, drop}
+use borrow.Author.Tests.{eqb-true}
 use Rattle.prelude.specs.Membership.{In}
-use Rattle.prelude.proofs.Membership.{in-left, in-right, in-joined, in-take, in-one}
+use Rattle.prelude.proofs.Membership.{in-joined, in-take, in-one}
 use Rattle.prelude.proofs.Absurd.{true-false}
 use mathlib.Mathlib.Data.Bool.Basic.{or-inl, or-inr}
 use Rattle.prelude.proofs.Truth.{or-cases}
-use Rattle.values.specs.Value.{Kind, set, sequence, map as mapping, tuple, Value, collection}
+use Rattle.values.specs.Value.{set, sequence, map as mapping, tuple, Value, collection}
 use Rattle.patterns.specs.Units.{Shared}
 use Rattle.patterns.specs.Members.{Alike}
 use Rattle.patterns.specs.Binding.{Binding, nothing, merge, consistent}
 use Rattle.patterns.specs.Pattern.{Pattern, name, any, literal, each, halved, itemsOf, mostSplit, matches, wide}
 use Rattle.patterns.specs.Relation.{Joined, Matches}
 use Rattle.patterns.specs.Wide.{Wide}
-use Rattle.patterns.specs.Laws.Matched.{match-sized, joined-merge, merge-joined, nothing-sized, merge-sized}
-use Rattle.patterns.specs.Laws.Merging.{merge-assoc, merge-nothing, nothing-merge, consistent-left, consistent-right}
-use Rattle.patterns.specs.Laws.Together.{Fine, nothing-fine, append-assoc}
+use Rattle.patterns.specs.Laws.Matched.{joined-merge, merge-joined, nothing-sized, merge-sized}
+use Rattle.patterns.specs.Laws.Merging.{merge-assoc, merge-nothing, nothing-merge, consistent-left}
+use Rattle.patterns.specs.Laws.Together.{Fine, nothing-fine}
 use Rattle.forming.specs.Groups.{leaves, holdsName, isAny, classBy, classOf, ofClass, inOrder, unionOf, Lengths, TakeTogether}
 use Rattle.forming.specs.Inner.{inner}
 use Rattle.forming.specs.Sizes.{Takes}
@@ -582,7 +582,7 @@ named-union p [] y e = (p, inl refl, e)
 named-union p (q ∷ ps) y e =
     ⊎-elim (λ h. (p, inl refl, h)) (λ h. let (x, i, g) = named-union q ps y h in (x, inr i, g)) (or-cases (named p y) (named (unionOf (q ∷ ps)) y) e)
 
-in-drop : (n : ℕ) (xs : List Pattern) (x : Pattern) → In x (drop n xs) → In x xs
+pub in-drop : {A : Type 0} (n : ℕ) (xs : List A) (x : A) → In x (drop n xs) → In x xs
 in-drop zero xs x i = i
 in-drop (suc n) [] x i = i
 in-drop (suc n) (y ∷ xs) x i = inr (in-drop n xs x i)

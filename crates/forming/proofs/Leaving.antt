@@ -1,9 +1,8 @@
 -- Leaves taken off an agenda before the pattern with parts that stands before them: tasks go in any order.
 use mathlib.Core.Path.{_≡_, refl, sym, ap, subst, _∙_}
 use mathlib.Core.Bool.{Bool, true, false}
-use mathlib.Core.Logic.{inl}
 use mathlib.Core.List.{List, [], _∷_, _++_}
-use Prim.Native.Nat.{ℕ, _+_, _-_, _*_, _%_, _≤_, _<_}
+use Prim.Native.Nat.{ℕ, _+_, _*_, _%_, _≤_, _<_}
 use native.Mathlib.Omega.{arith}
 use lib.ListN.{length, getD}
 use Rattle.prelude.specs.Membership.{In}
@@ -14,31 +13,22 @@ use Rattle.tables.specs.Accepted.{records}
 use Rattle.parts.specs.Part.{PartIs, PartHeld}
 use Rattle.parts.specs.Word.{unpacked}
 use Rattle.patterns.specs.Members.{Alike}
-use Rattle.patterns.specs.Binding.{Cell, free, is, clash, Binding, names, cellOf, merge, withEach, together}
-use Rattle.patterns.specs.Pattern.{Pattern, matches, wide}
-use Rattle.patterns.specs.Relation.{Agree, Joined}
+use Rattle.patterns.specs.Binding.{Binding, names, merge, withEach, together}
+use Rattle.patterns.specs.Pattern.{Pattern, matches}
 use Rattle.patterns.specs.Laws.Matched.{in-together, together-in, joined-merge, merge-joined, matched, match-sized}
 use Rattle.patterns.specs.Laws.Together.{together-assoc}
 use Rattle.patterns.specs.Read.{Readable, patternAt}
-use Rattle.forming.specs.Groups.{codePattern, CodeHeld, Regroupable, TellsParts}
+use Rattle.forming.specs.Groups.{CodeHeld, TellsParts}
 use Rattle.forming.proofs.Coding.{code-small, record-pattern}
-use Rattle.matching.specs.Leaf.{Stands, Standing, Went}
+use Rattle.matching.specs.Leaf.{Stands, Standing, Went, Grown}
 use Rattle.matching.specs.Node.{LeafHeld}
-use Rattle.matching.proofs.Naming.{stands-fine}
-use Rattle.forming.specs.declared.Formed.{Formed}
-use Rattle.forming.specs.declared.Formed.the-variants.{Number}
-use Rattle.forming.specs.declared.Step.{Step}
-use Rattle.forming.specs.declared.taking.Left.{Left}
+use Rattle.matching.proofs.Naming.{grown-same, grown-then}
 use Rattle.forming.specs.Onward.{Task, task, matchesAll, onward}
-use Rattle.forming.specs.Laws.Onward.{onward-end, onward-went, onward-none, together-alike}
-use Rattle.forming.specs.Adding.{adding}
-use Rattle.forming.specs.Laws.Adding.{adding-one, adding-none, adding-alike}
-use Rattle.forming.specs.Rows.{RowsAre, EntryHeld, Entered, Entry}
-use Rattle.forming.specs.Pending.{entries, Pending, AgendaIs, spaces, WaitsAre, LeftOf, TakeHeld, Taken, Solvable, Solved, Dividable, Divided}
-use Rattle.forming.specs.Inner.{inner}
+use Rattle.forming.specs.Laws.Onward.{onward-went, onward-none, together-alike}
+use Rattle.forming.specs.Pending.{entries, Pending, AgendaIs, spaces, WaitsAre, LeftOf, TakeHeld, Taken}
 use Rattle.forming.proofs.Joining.{joined-swap}
 use Rattle.forming.proofs.Reducing.{with-alike}
-use Rattle.forming.proofs.Solving.{some-task, no-task, agenda-low}
+use Rattle.forming.proofs.Solving.{some-task, agenda-low}
 
 -- ---- in any order
 
@@ -102,12 +92,12 @@ few-wait table index s a top wait [] h = omega arith
 few-wait table index s a top wait (t ∷ []) h = omega arith
 few-wait table index s a top wait (t ∷ u ∷ ws) h = absurd h
 
-none-waits : (table index s a : List ℕ) (top wait : ℕ) (ws : List Task) → WaitsAre table index s a top wait ws → wait ≤ 0 → ws ≡ []
+pub none-waits : (table index s a : List ℕ) (top wait : ℕ) (ws : List Task) → WaitsAre table index s a top wait ws → wait ≤ 0 → ws ≡ []
 none-waits table index s a top wait [] h l = refl
 none-waits table index s a top wait (t ∷ []) h l = absurd (omega (arith, h .0 .some))
 none-waits table index s a top wait (t ∷ u ∷ ws) h l = absurd h
 
-one-waits : (table index s a : List ℕ) (top wait : ℕ) (ws : List Task) → WaitsAre table index s a top wait ws → 0 < wait → (t : Task) × (ws ≡ t ∷ []) × Pending table index s a top wait t × (36 ≤ kindAt (records table) (getD a (3 * wait) 0 % 256))
+pub one-waits : (table index s a : List ℕ) (top wait : ℕ) (ws : List Task) → WaitsAre table index s a top wait ws → 0 < wait → (t : Task) × (ws ≡ t ∷ []) × Pending table index s a top wait t × (36 ≤ kindAt (records table) (getD a (3 * wait) 0 % 256))
 one-waits table index s a top wait [] h l = absurd (omega (arith, h))
 one-waits table index s a top wait (t ∷ []) h l = (t, refl, h .0, h .1)
 one-waits table index s a top wait (t ∷ u ∷ ws) h l = absurd h
@@ -121,6 +111,7 @@ spaces-less (w ∷ ws) us t = omega (arith, spaces-less ws us t)
 pub record TakeSoFar (table index s a : List ℕ) (head₀ : ℕ) (f : List ℕ) (head wait : ℕ) (g : List ℕ) : Type 0 where
   pub falls : head ≤ head₀
   pub before : 0 < wait → head < head₀
+  pub stays : Grown f g
   pub right : (top : ℕ) (ts : List Task) (b : Binding) → AgendaIs table index s a top head₀ ts → Stands s f b → LeftOf table index s a top wait head g ts b
 
 module _ (table index s a : List ℕ) (head₀ : ℕ) (f : List ℕ) (h : TakeHeld table index s a head₀ f) where
@@ -128,6 +119,7 @@ module _ (table index s a : List ℕ) (head₀ : ℕ) (f : List ℕ) (h : TakeHe
   take-start = record {
     falls = omega arith;
     before = λ l. absurd (omega arith);
+    stays = grown-same f;
     right = λ top ts b k z. record { waits = []; tasks = ts; binding = b; waits-are = refl; are = k; stands = z; alike = λ c. (λ i. i, λ i. i); room = omega arith };
   }
 
@@ -151,7 +143,7 @@ module _ (table index s a : List ℕ) (head₀ : ℕ) (f : List ℕ) (h : TakeHe
       pub entry-held : CodeHeld table index Q
       entry-held = let (t, us, e, p, k) = some-task table index s a (h .top) head (now .tasks) (now .are) l in p .held
 
-      pub entry-low : Q < 16777216
+      pub entry-low : Q < 4294967296
       entry-low = code-small table index Q entry-held
 
       pub next-lower : N < head
@@ -167,6 +159,7 @@ module _ (table index s a : List ℕ) (head₀ : ℕ) (f : List ℕ) (h : TakeHe
       take-wait c o = record {
         falls = omega (arith, next-lower, w .falls);
         before = λ m. omega (arith, next-lower, w .falls);
+        stays = w .stays;
         right = λ top ts b k z.
             let r = w .right top ts b k z in
             let (t, us, e, p, m) = some-task table index s a top head (r .tasks) (r .are) l in
@@ -183,12 +176,13 @@ module _ (table index s a : List ℕ) (head₀ : ℕ) (f : List ℕ) (h : TakeHe
             };
       }
 
-      module _ (re : Readable table index Q) (g′ : List ℕ) (fits : Bool) (o : (v : Value) (b : Binding) → PartIs s (unpacked W) v → Stands s g b → Went s b (patternAt (records table) Q) v g′ fits) where
+      module _ (re : Readable table index Q) (g′ : List ℕ) (fits : Bool) (o : (v : Value) (b : Binding) → PartIs s (unpacked W) v → Stands s g b → Went s b (patternAt (records table) Q) v g′ fits) (gr : Grown g g′) where
         -- a leaf that agrees
         pub take-leaf : fits ≡ true → TakeSoFar table index s a head₀ f N wait g′
         take-leaf fit = record {
           falls = omega (arith, next-lower, w .falls);
           before = λ m. omega (arith, next-lower, w .before m);
+          stays = grown-then (w .stays) gr;
           right = λ top ts b k z.
               let r = w .right top ts b k z in
               let (t, us, e, p, m) = some-task table index s a top head (r .tasks) (r .are) l in
@@ -213,6 +207,7 @@ module _ (table index s a : List ℕ) (head₀ : ℕ) (f : List ℕ) (h : TakeHe
         pub take-none : fits ≡ false → Taken table index s a head₀ f g′ (record { wait = wait; head = head; fits = false })
         take-none fit = record {
           falls = w .before;
+          stays = grown-then (w .stays) gr;
           ends = λ e. true-false (sym e);
           none = λ x top ts b k z.
               let r = w .right top ts b k z in
@@ -226,127 +221,7 @@ module _ (table index s a : List ℕ) (head₀ : ℕ) (f : List ℕ) (h : TakeHe
 
     -- the second pattern with parts, or the end
     pub take-full : 0 < wait → Taken table index s a head₀ f g (record { wait = wait; head = head; fits = true })
-    take-full m = record { falls = w .before; ends = λ e z. absurd (omega arith); none = λ e. true-false e; some = λ e. w .right }
+    take-full m = record { falls = w .before; stays = w .stays; ends = λ e z. absurd (omega arith); none = λ e. true-false e; some = λ e. w .right }
 
     pub take-end : head ≤ 0 → Taken table index s a head₀ f g (record { wait = wait; head = head; fits = true })
-    take-end m = record { falls = w .before; ends = λ e z. omega arith; none = λ e. true-false e; some = λ e. w .right }
-
--- ---- solve
-
-module _ (table index s a : List ℕ) (head top : ℕ) (f : List ℕ) (rows order : List ℕ) (n : ℕ) (h : Solvable table index s a head top f rows order n) where
-  pub take-asked : TakeHeld table index s a head f
-  take-asked = record { top = top; tasks = h .tasks; are = h .are; low = h .low; room = omega (arith, h .room); binding = h .binding; stands = h .stands }
-
-  module _ (g : List ℕ) (r : Left) (k : Taken table index s a head f g r) where
-    alike-entered : (ts : List Task) (st : Binding) (xs bs : List Binding) (rows′ order′ : List ℕ) (o : Formed) → Alike (onward ts st) xs → RowsAre s rows order n bs → Entered s rows′ order′ (adding xs bs) o → Entered s rows′ order′ (adding (onward ts st) bs) o
-    alike-entered ts st xs bs rows′ order′ o e v z = subst (λ (x : List Binding). Entered s rows′ order′ x o) (sym (adding-alike (onward ts st) xs bs (v .given) (v .ordered) e)) z
-
-    pub solve-none : r .fits ≡ false → Solved table index s a a head top f rows order n rows order (record { formed = Number n; any = false })
-    solve-none e = record {
-      kept = λ j l. refl;
-      long = refl;
-      right = λ ts st bs x y z. alike-entered ts st [] bs rows order (Number n) (k .none e top ts st x y) z (subst (RowsAre s rows order n) (sym (adding-none bs)) z);
-      some = λ t. true-false (sym t);
-    }
-
-    module _ (fit : r .fits ≡ true) where
-      left : (ts : List Task) (st : Binding) → AgendaIs table index s a top head ts → Stands s f st → LeftOf table index s a top (r .wait) (r .head) g ts st
-      left ts st x y = k .some fit top ts st x y
-
-      here : LeftOf table index s a top (r .wait) (r .head) g (h .tasks) (h .binding)
-      here = left (h .tasks) (h .binding) (h .are) (h .stands)
-
-      -- nothing is left
-      module _ (e : r .wait ≡ 0) where
-        all-done : (ts : List Task) (st : Binding) (x : AgendaIs table index s a top head ts) (y : Stands s f st) → Alike (onward ts st) (left ts st x y .binding ∷ [])
-        all-done ts st x y =
-            let q = left ts st x y in
-            let none : q .waits ++ q .tasks ≡ [] =
-            ap (λ (ws : List Task). ws ++ q .tasks) (none-waits table index s a top (r .wait) (q .waits) (q .waits-are) (omega arith)) ∙ no-task table index s a top (r .head) (q .tasks) (q .are) (omega (arith, k .ends fit e)) in
-            subst (Alike (onward ts st)) (ap (λ (vs : List Task). onward vs (q .binding)) none ∙ onward-end (q .binding) (stands-fine s g (q .binding) (q .stands))) (q .alike)
-
-        pub enter-asked : EntryHeld s g rows order n
-        enter-asked = record { binding = here .binding; stands = here .stands; bindings = h .bindings; are = h .rows-are }
-
-        pub solve-end : (rows′ order′ : List ℕ) (o : Formed) → Entry s g rows order n rows′ order′ o → Solved table index s a a head top f rows order n rows′ order′ (record { formed = o; any = true })
-        solve-end rows′ order′ o d = record {
-          kept = λ j l. refl;
-          long = refl;
-          right = λ ts st bs x y z.
-              let q = left ts st x y in
-              alike-entered ts st (q .binding ∷ []) bs rows′ order′ o (all-done ts st x y) z (subst (λ (l : List Binding). Entered s rows′ order′ l o) (sym (adding-one (q .binding) bs)) (d (q .binding) bs (q .stands) z));
-          some = λ t ts st x y. (left ts st x y .binding, all-done ts st x y (left ts st x y .binding) .1 (inl refl));
-        }
-
-      -- a pattern with parts is left
-      module _ (m : 0 < r .wait) where
-        abbrev P : ℕ
-        P = getD a (3 * r .wait) 0
-
-        abbrev X : ℕ
-        X = getD a (3 * r .wait + 1) 0
-
-        waiting : (ts : List Task) (st : Binding) (x : AgendaIs table index s a top head ts) (y : Stands s f st)
-            → (t : Task) × (left ts st x y .waits ≡ t ∷ []) × Pending table index s a top (r .wait) t × (36 ≤ kindAt (records table) (P % 256))
-        waiting ts st x y = one-waits table index s a top (r .wait) (left ts st x y .waits) (left ts st x y .waits-are) m
-
-        wait-held : CodeHeld table index P
-        wait-held = waiting (h .tasks) (h .binding) (h .are) (h .stands) .2 .held
-
-        wait-composed : 36 ≤ kindAt (records table) (P % 256)
-        wait-composed = waiting (h .tasks) (h .binding) (h .are) (h .stands) .3
-
-        pub wait-low : r .wait < entries
-        wait-low = omega (arith, waiting (h .tasks) (h .binding) (h .are) (h .stands) .2 .below, h .room)
-
-        pub wait-small : P < 16777216
-        wait-small = code-small table index P wait-held
-
-        pub divide-asked : Dividable table index P s X a (r .head) top g rows order n
-        unfolding left here
-        divide-asked =
-            let (t, e, p, c) = waiting (h .tasks) (h .binding) (h .are) (h .stands) in
-            let ro : spaces (t ∷ here .tasks) ≤ spaces (h .tasks) = subst (λ (ws : List Task). spaces (ws ++ here .tasks) ≤ spaces (h .tasks)) e (here .room) in
-            record {
-              held = p .held;
-              composed = c;
-              short = h .short;
-              value = t .value;
-              here = p .here;
-              narrow = subst (λ (q : Pattern). wide q (t .value) ≡ false) (p .pattern) (p .narrow);
-              tasks = here .tasks;
-              are = here .are;
-              long = h .long;
-              low = h .low;
-              room = subst (λ (x : Pattern). top + (inner x + spaces (here .tasks)) ≤ entries) (p .pattern) (omega (arith, ro, h .room));
-              binding = here .binding;
-              stands = here .stands;
-              bindings = h .bindings;
-              rows-are = h .rows-are;
-            }
-
-        pub regroup-asked : Regroupable table index P
-        regroup-asked = record { held = wait-held; composed = wait-composed; room = omega (arith, divide-asked .room) }
-
-        on-with : (ts : List Task) (st : Binding) (x : AgendaIs table index s a top head ts) (y : Stands s f st)
-            → (v : Value) × PartIs s (unpacked X) v × (wide (codePattern table P) v ≡ false) × Alike (onward ts st) (onward (task (codePattern table P) v ∷ left ts st x y .tasks) (left ts st x y .binding))
-        on-with ts st x y =
-            let q = left ts st x y in
-            let (t, e, p, c) = waiting ts st x y in
-            let same : q .waits ++ q .tasks ≡ task (codePattern table P) (t .value) ∷ q .tasks = ap (λ (ws : List Task). ws ++ q .tasks) e ∙ ap (λ (z : Pattern). task z (t .value) ∷ q .tasks) (p .pattern) in
-            (t .value, p .here, subst (λ (z : Pattern). wide z (t .value) ≡ false) (p .pattern) (p .narrow), subst (λ (vs : List Task). Alike (onward ts st) (onward vs (q .binding))) same (q .alike))
-
-        pub divide-told : (c rows′ order′ : List ℕ) (o : Step) → Divided table index P s X a c (r .head) top g rows order n rows′ order′ o → Solved table index s a c head top f rows order n rows′ order′ o
-        divide-told c rows′ order′ o d = record {
-          kept = d .kept;
-          long = d .long;
-          right = λ ts st bs x y z.
-              let q = left ts st x y in
-              let (v, i, w, e) = on-with ts st x y in
-              alike-entered ts st (onward (task (codePattern table P) v ∷ q .tasks) (q .binding)) bs rows′ order′ (o .formed) e z (d .right v (q .tasks) (q .binding) bs i w (q .are) (q .stands) z);
-          some = λ t ts st x y.
-              let q = left ts st x y in
-              let (v, i, w, e) = on-with ts st x y in
-              let (b, j) = d .some t v (q .tasks) (q .binding) i w (q .are) (q .stands) in
-              (b, e b .1 j);
-        }
+    take-end m = record { falls = w .before; stays = w .stays; ends = λ e z. omega arith; none = λ e. true-false e; some = λ e. w .right }

@@ -1,43 +1,40 @@
 -- The parts of a pattern put before the rest of an agenda.
-use mathlib.Core.Path.{_≡_, refl, sym, ap, ap₂, subst, _∙_}
+use mathlib.Core.Path.{_≡_, refl, sym, ap, subst, _∙_}
 use mathlib.Core.Bool.{Bool, true, false, _||_}
 use mathlib.Core.Logic.{inl, inr}
-use mathlib.Core.List.{List, [], _∷_, _++_, map}
-use Prim.Native.Nat.{ℕ, zero, suc, _+_, _-_, _*_, _%_, _≤_, _<_}
+use mathlib.Core.List.{List, [], _∷_, _++_}
+use Prim.Native.Nat.{ℕ, zero, suc, _+_, _*_, _%_, _≤_, _<_}
 use native.Mathlib.Numerals.{add-one}
 use native.Mathlib.Omega.{arith}
-use lib.ListN.{length, getD, set, drop, length-map, drop-of-length-le, length-set}
+use lib.ListN.{length, getD, set, drop, drop-of-length-le, length-set}
 use lib.Seq.{drop-cons, getD-set-same, getD-set-other}
-use Rattle.prelude.proofs.Lists.{map-at}
 use Rattle.prelude.proofs.Absurd.{impossible}
 use Rattle.prelude.proofs.Truth.{or-false-left, or-false-right}
 use Rattle.values.specs.Value.{Value, boolean}
-use Rattle.tables.specs.Record.{named, operand}
+use Rattle.tables.specs.Record.{named}
 use Rattle.tables.specs.Table.{recordAt, kindAt}
 use Rattle.tables.specs.Accepted.{records}
-use Rattle.tables.specs.Laws.Accepted.{lower}
-use Rattle.tables.specs.Reading.{HasOperand}
 use Rattle.parts.specs.declared.Part.{Part}
 use Rattle.parts.specs.Part.{PartIs, CellIs}
 use Rattle.parts.proofs.Laws.{part-one}
 use Rattle.patterns.specs.Ways.{exists}
-use Rattle.patterns.specs.Binding.{Cell, free, is}
+use Rattle.patterns.specs.Binding.{is}
 use Rattle.patterns.specs.Pattern.{Pattern, any, wide, wideEach}
 use Rattle.patterns.specs.Read.{patternsOf}
-use Rattle.patterns.specs.Nodes.{isHalved, meetings, isLarge}
-use Rattle.patterns.specs.Laws.Nodes.{pattern-at}
+use Rattle.patterns.specs.Nodes.{meetings, isLarge}
 use Rattle.matching.specs.Node.{PieceHeld, PieceOf, waysOf, metBy}
 use Rattle.matching.proofs.Records.{kind-high, count-few, count-two, meeting-length}
-use Rattle.splitting.proofs.Composed.{wideParts, wide-composed}
+use Rattle.splitting.proofs.Composed.{wide-composed}
 use Rattle.parts.specs.Word.{unpacked, CellHeld, Packed}
+use Rattle.forming.specs.Frames.{KeptBelow}
 use Rattle.forming.specs.Onward.{Task, task, zipped}
 use Rattle.forming.specs.Groups.{codePattern, codeInner, CodeHeld, PartHeld, PartCode}
 use Rattle.forming.proofs.Coding.{by-code, inner-count, code-readable}
-use Rattle.forming.specs.Pending.{entries, Pending, AgendaIs, Kept, Pushable, Pushed}
+use Rattle.forming.specs.Pending.{Pending, AgendaIs, Pushable, Pushed}
 
 -- ---- the agenda is kept where nothing below its top changed
 
-pub agenda-kept : (table index s a b : List ℕ) (top high head : ℕ) (ts : List Task) → top ≤ high → Kept a b (3 * top) → AgendaIs table index s a top head ts → AgendaIs table index s b high head ts
+pub agenda-kept : (table index s a b : List ℕ) (top high head : ℕ) (ts : List Task) → top ≤ high → KeptBelow a b (3 * top) → AgendaIs table index s a top head ts → AgendaIs table index s b high head ts
 agenda-kept table index s a b top high head [] l k h = h
 agenda-kept table index s a b top high head (t ∷ ts) l k (p, h) =
     let e0 = k (3 * head) (omega (arith, p .below)) in
@@ -55,7 +52,7 @@ agenda-kept table index s a b top high head (t ∷ ts) l k (p, h) =
       subst (λ (n : ℕ). AgendaIs table index s b high n ts) (sym e2) (agenda-kept table index s a b top high (getD a (3 * head + 2) 0) ts l k h),
     )
 
-pub kept-then : (a b c : List ℕ) (m n : ℕ) → m ≤ n → Kept a b m → Kept b c n → Kept a c m
+pub kept-then : (a b c : List ℕ) (m n : ℕ) → m ≤ n → KeptBelow a b m → KeptBelow b c n → KeptBelow a c m
 kept-then a b c m n l h g j k = g j (omega arith) ∙ h j k
 
 -- ---- an entry stored
@@ -64,7 +61,7 @@ pub record EntryPut (a b : List ℕ) (k x y z : ℕ) : Type 0 where
   pub first : getD b k 0 ≡ x
   pub second : getD b (k + 1) 0 ≡ y
   pub third : getD b (k + 2) 0 ≡ z
-  pub kept : Kept a b k
+  pub kept : KeptBelow a b k
   pub long : length b ≡ length a
 
 entry-put : (a : List ℕ) (k x y z : ℕ) → k + 2 < length a → EntryPut a (set (set (set a k x) (k + 1) y) (k + 2) z) k x y z
@@ -134,7 +131,7 @@ pub record PushSoFar (table index : List ℕ) (p : ℕ) (s : List ℕ) (word : �
   pub ends : to + i ≡ top + countOf table (p % 256)
   pub low : head < to
   pub first : i ≡ countOf table (p % 256) → head ≡ next
-  pub kept : Kept a b (3 * top)
+  pub kept : KeptBelow a b (3 * top)
   pub long : length b ≡ length a
   pub right : (v : Value) (ts : List Task) → PartIs s (unpacked word) v → wide (codePattern table p) v ≡ false → AgendaIs table index s a top next ts
       → AgendaIs table index s b to head (zipped (drop i (codeInner table p)) (drop i (metBy table (p % 256) v d)) ++ ts)

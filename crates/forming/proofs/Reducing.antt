@@ -3,7 +3,7 @@ use mathlib.Core.Path.{_≡_, refl, sym, ap, ap₂, subst, _∙_}
 use mathlib.Core.Bool.{Bool, true, false}
 use mathlib.Core.Logic.{inl, inr}
 use mathlib.Core.List.{List, [], _∷_, _++_}
-use Prim.Native.Nat.{ℕ, zero, suc, _+_, _-_, _≤_, _<_}
+use Prim.Native.Nat.{ℕ, zero, suc, _-_, _≤_, _<_}
 use native.Mathlib.Omega.{arith}
 use lib.ListN.{length, getD}
 use Rattle.prelude.specs.Membership.{In}
@@ -27,13 +27,9 @@ use Rattle.patterns.specs.Laws.Nodes.{is-any}
 use Rattle.patterns.specs.Read.{Readable, patternOf, patternAt}
 use Rattle.matching.specs.Node.{innerOf}
 use Rattle.matching.proofs.Records.{by-record, count-two}
-use Rattle.forming.specs.Pending.{Dividable, Divided as DividedAs}
 use Rattle.forming.specs.Inner.{inner}
 use Rattle.forming.specs.Onward.{Task, task, matchesAll, onward}
 use Rattle.forming.specs.Laws.Onward.{together-alike}
-use Rattle.forming.specs.Laws.Adding.{adding-alike}
-use Rattle.forming.specs.Rows.{Entered}
-use Rattle.forming.specs.declared.Step.{Step}
 use Rattle.forming.specs.Reduced.{AcceptsAll, Beside, TakesMore, Splits, TellsAll, TellsMore, Reduced, TellsSpare}
 use Rattle.prelude.proofs.Lists.{map-at}
 

@@ -1,14 +1,14 @@
 -- Rows of bindings: ordered, written, and entered in order.
 use mathlib.Core.Path.{_≡_, refl, sym, ap, ap₂, subst, _∙_}
-use mathlib.Core.Bool.{Bool, true, false}
-use mathlib.Core.Logic.{_⊎_, inl, inr, ⊎-elim}
+use mathlib.Core.Bool.{true, false}
+use mathlib.Core.Logic.{_⊎_, inl, inr}
 use mathlib.Core.List.{List, [], _∷_, _++_}
-use Prim.Native.Nat.{ℕ, zero, suc, _+_, _-_, _*_, _/_, _%_, _≤_, _<_}
+use Prim.Native.Nat.{ℕ, zero, suc, _+_, _-_, _*_, _%_, _≤_, _<_}
 use native.Mathlib.Numerals.{add-one}
 use native.Mathlib.Decide.{ℕ-discrete}
 use native.Mathlib.Omega.{arith}
 use lib.ListN.{length, getD, set, take, drop, drop-of-length-le, length-set}
-use lib.Seq.{drop-cons, getD-set-same, getD-set-other, lt-length-set}
+use lib.Seq.{drop-cons, getD-set-same, getD-set-other}
 use Rattle.prelude.proofs.Absurd.{impossible}
 use Rattle.prelude.specs.Membership.{In}
 use Rattle.integers.specs.declared.Order.{Order}
@@ -16,13 +16,13 @@ use Rattle.integers.specs.declared.Order.the-variants.{Lower, Same, Higher}
 use Rattle.values.specs.Value.{after}
 use Rattle.parts.specs.Part.{CellIs}
 use Rattle.prelude.proofs.Membership.{at-in}
-use Rattle.patterns.specs.Binding.{Cell, free, Binding, names, nothing, cellOf, orderCells, orderBindings, place, sorted}
-use Rattle.patterns.specs.Laws.Ordered.{Rising, before-in, bindings-same, bindings-lower, bindings-flip, higher-lower, sorted-rising}
+use Rattle.patterns.specs.Binding.{free, Binding, names, nothing, cellOf, orderCells, orderBindings, place}
+use Rattle.patterns.specs.Laws.Ordered.{Rising, before-in, bindings-same, bindings-lower, higher-lower, sorted-rising}
 use Rattle.matching.specs.Leaf.{Stands, Standing}
 use Rattle.parts.specs.Word.{unpacked, WordHeld, OrderedWords}
 use Rattle.forming.specs.declared.rows.Seek.{Seek}
-use Rattle.forming.specs.Rows.{RowIs, RowHeld, RowsAre, RowsHeld, SoughtIn, Sought, RowPut, Shifted, Entered}
-use Rattle.forming.specs.Laws.Adding.{Parted, place-there, place-parted, placed-sorted}
+use Rattle.forming.specs.Rows.{RowIs, RowHeld, RowsAre, RowsHeld, SoughtIn, Sought, RowPut, Shifted}
+use Rattle.forming.specs.Laws.Adding.{flip-higher, place-there, place-parted, placed-sorted}
 
 -- ---- a stored cell
 
@@ -82,9 +82,6 @@ rising-at [] i j h l m = absurd (omega arith)
 rising-at (b ∷ bs) i zero h l m = absurd (omega arith)
 rising-at (b ∷ bs) zero (suc j) h l m = before-in b bs (getD bs j nothing) (h .0) (at-in bs j nothing (omega arith))
 rising-at (b ∷ bs) (suc i) (suc j) h l m = rising-at bs i j (h .1) (omega arith) (omega arith)
-
-flip-higher : (a b : Binding) → orderBindings a b ≡ Lower → orderBindings b a ≡ Higher
-flip-higher a b e = bindings-flip a b ∙ rw e
 
 -- The place is not below low and not above high.
 pub record Between (s : List ℕ) (f : List ℕ) (rows order : List ℕ) (n low high : ℕ) : Type 0 where

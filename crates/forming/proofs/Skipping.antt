@@ -1,6 +1,6 @@
 -- Ways that are passed over: their halves have other sizes than the patterns take, and so no match.
 use mathlib.Core.Path.{_≡_, refl, sym, ap, _∙_}
-use mathlib.Core.Bool.{Bool, true}
+use mathlib.Core.Bool.{true}
 use mathlib.Core.Logic.{inl, inr}
 use mathlib.Core.Option.{Option, none as absent, some}
 use mathlib.Core.List.{List, [], _∷_, _++_, map}
@@ -10,11 +10,9 @@ use lib.ListN.{length, getD, drop, length-map}
 use lib.Seq.{drop-cons}
 use Rattle.prelude.specs.Membership.{In}
 use Rattle.values.specs.Value.{Kind, Value, collection}
-use Rattle.tables.specs.Record.{named as operandsOf, operand}
+use Rattle.tables.specs.Record.{named as operandsOf}
 use Rattle.tables.specs.Table.{recordAt, kindAt}
 use Rattle.tables.specs.Accepted.{records}
-use Rattle.parts.specs.Part.{PartIs}
-use Rattle.parts.specs.Word.{unpacked}
 use Rattle.patterns.specs.Ways.{halves, gather}
 use Rattle.patterns.specs.Binding.{Binding, withEach, together}
 use Rattle.patterns.specs.Pattern.{Pattern, any, contents, divisions, split, leftOf, rightOf, matches, matchEach}
@@ -22,23 +20,16 @@ use Rattle.patterns.specs.Laws.Matched.{in-together, matched}
 use Rattle.patterns.specs.Laws.Together.{with-none}
 use Rattle.patterns.specs.Nodes.{collectionOf, bothHalves, meetings}
 use Rattle.patterns.specs.Laws.Nodes.{two-of}
-use Rattle.patterns.specs.Read.{Readable, patternsOf, patternAt}
-use Rattle.matching.specs.declared.nodes.Meeting.{Meeting}
-use Rattle.matching.specs.declared.nodes.Meeting.the-variants.{Ways}
-use Rattle.matching.specs.Node.{Meets, innerOf, waysOf, metBy}
-use Rattle.matching.proofs.Records.{inner-length}
+use Rattle.patterns.specs.Read.{patternsOf}
+use Rattle.matching.specs.Node.{waysOf, metBy}
 use Rattle.forming.specs.declared.sizes.Sizes.{Sizes}
 use Rattle.forming.specs.Onward.{Task, matchesAll, oneWay}
-use Rattle.forming.specs.Adding.{adding}
-use Rattle.forming.specs.Pending.{Dividable}
 use Rattle.forming.specs.Reduced.{Splits}
 use Rattle.forming.specs.Sizes.{halfAt, Barren, FromHeld, From}
 use Rattle.prelude.proofs.Lists.{map-at}
-use Rattle.forming.proofs.Pushing.{countOf}
 use Rattle.forming.specs.Groups.{codeInner, CodeHeld, CodeHalves}
 use Rattle.forming.proofs.Coding.{code-readable, inner-count}
 use Rattle.forming.proofs.Reducing.{two-halves, splits-low}
-use Rattle.forming.proofs.Solving.{DivideSoFar, ways-are}
 
 -- ---- lists
 
@@ -111,36 +102,20 @@ module _ (table index : List ℕ) (p : ℕ) (h : CodeHeld table index p) (c : �
       (t .left (halfAt c vs j .left) a (matched (half 0) (leftOf K (halfAt c vs j)) a m))
       (t .right (halfAt c vs j .right) b (matched (half 1) (rightOf K (halfAt c vs j)) b o))))
 
--- ---- in the loop over all ways
+-- ---- ways that are passed over
 
-module _ (table index : List ℕ) (p : ℕ) (s : List ℕ) (word : ℕ) (a : List ℕ) (next top : ℕ) (f : List ℕ) (rows order : List ℕ) (n : ℕ) (h : Dividable table index p s word a next top f rows order n)
-    (m : Meeting) (met : Meets (kindAt (records table) (p % 256)) (countOf table (p % 256)) s (unpacked word) m) (w : ℕ) (me : m ≡ Ways w) (c : ℕ) (ec : c ≡ kindAt (records table) (p % 256)) (z : Sizes) (t : z .bound ≡ true → CodeHalves table p c z) where
-  count-is : (v : Value) → PartIs s (unpacked word) v → length (waysOf table (p % 256) v) ≡ w
-  count-is v q = ways-are table index p s word a next top f rows order n h m met w me v q .1
-
-  pub from-asked : FromHeld c w z
-  from-asked b =
+module _ (table index : List ℕ) (p : ℕ) (r : CodeHeld table index p) (c : ℕ) (ec : c ≡ kindAt (records table) (p % 256)) (z : Sizes) (t : z .bound ≡ true → CodeHalves table p c z) (v : Value) (w : ℕ) (n : length (waysOf table (p % 256) v) ≡ w) where
+  pub from-asked : 0 < w → FromHeld c w z
+  from-asked l b =
       let k = t b in
-      let (vs, q, d) = some-ways table index p (h .held) c ec (k .splits) (h .value) w (count-is (h .value) (h .here)) (ways-are table index p s word a next top f rows order n h m met w me (h .value) (h .here) .2) in
+      let (vs, q, d) = some-ways table index p r c ec (k .splits) v w n l in
       record { splits = k .splits; values = vs; ways = d }
 
-  pub divide-skip : (b rows′ order′ : List ℕ) (n′ : ℕ) (any′ : Bool) (d : ℕ) → DivideSoFar table index p s word a next top f rows order n w b rows′ order′ n′ any′ d → (e : ℕ) → From c w d z e
-      → DivideSoFar table index p s word a next top f rows order n w b rows′ order′ n′ any′ e
-  divide-skip b rows′ order′ n′ any′ d i e k = record {
-    within = k .within (i .within);
-    kept = i .kept;
-    long = i .long;
-    right = λ v ts st bs g.
-        let (cs, r, q) = i .right v ts st bs g in
-        (cs, r, ap (λ (l : List Binding). adding l cs) (passed v ts st (count-is v (g .here))) ∙ q);
-    some = i .some;
-  }
-    where
-      passed : (v : Value) (ts : List Task) (st : Binding) → length (waysOf table (p % 256) v) ≡ w → gather (drop e (waysOf table (p % 256) v)) (oneWay (codeInner table p) ts st) ≡ gather (drop d (waysOf table (p % 256) v)) (oneWay (codeInner table p) ts st)
-      passed v ts st l =
-          let x : d + (e - d) ≡ e = omega (arith, k .low) in
-          let y : e ≤ w = k .within (i .within) in
-          ap (λ (j : ℕ). gather (drop j (waysOf table (p % 256) v)) (oneWay (codeInner table p) ts st)) (sym x)
-          ∙ gather-skip (waysOf table (p % 256) v) [] (oneWay (codeInner table p) ts st) (e - d) d (omega (arith, l, x, y)) (λ j u o.
-          let (bound, n) = k .barren j u (omega (arith, x)) in
-          barren-way table index p (h .held) c ec (t bound .splits) z (t bound) w j (omega (arith, x, y)) n v l ts st)
+  pub passed-over : (ts : List Task) (st : Binding) (d e : ℕ) → d ≤ w → From c w d z e → gather (drop e (waysOf table (p % 256) v)) (oneWay (codeInner table p) ts st) ≡ gather (drop d (waysOf table (p % 256) v)) (oneWay (codeInner table p) ts st)
+  passed-over ts st d e l k =
+      let x : d + (e - d) ≡ e = omega (arith, k .low) in
+      let y : e ≤ w = k .within l in
+      ap (λ (j : ℕ). gather (drop j (waysOf table (p % 256) v)) (oneWay (codeInner table p) ts st)) (sym x)
+      ∙ gather-skip (waysOf table (p % 256) v) [] (oneWay (codeInner table p) ts st) (e - d) d (omega (arith, n, x, y)) (λ j u o.
+      let (bound, none) = k .barren j u (omega (arith, x)) in
+      barren-way table index p r c ec (t bound .splits) z (t bound) w j (omega (arith, x, y)) none v n ts st)

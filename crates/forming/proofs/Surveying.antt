@@ -7,26 +7,22 @@ use Prim.Native.Nat.{ℕ, zero, suc, _+_, _-_, _≤_, _<_}
 use native.Mathlib.Decide.{ℕ-discrete}
 use native.Mathlib.Omega.{arith}
 use lib.Dec.{eqb, ltb}
-use lib.ListN.{length, getD, take, drop, length-append, List·getD-append}
+use lib.ListN.{length, getD, take, drop, length-append, drop-of-length-le, List·getD-append}
 use borrow.Author.Tests.{ltb-true, ltb-false, lt-ltb, le-ltb, eq-eqb, ne-eqb}
 use Rattle.prelude.proofs.Absurd.{true-false}
 use Rattle.prelude.proofs.Lists.{map-at}
 use mathlib.Mathlib.Data.Bool.Basic.{or-inl, or-inr}
-use Rattle.values.specs.Value.{set, Value, collection}
 use Rattle.tables.specs.Record.{Record, named as operandsOf, operand}
 use Rattle.tables.specs.Table.{recordAt, kindAt}
 use Rattle.tables.specs.Accepted.{records}
-use Rattle.patterns.specs.Binding.{Binding}
-use Rattle.patterns.specs.Pattern.{Pattern, any, itemsOf}
-use Rattle.patterns.specs.Relation.{Matches}
+use Rattle.patterns.specs.Pattern.{Pattern, any}
 use Rattle.patterns.specs.Nodes.{isHalved}
-use Rattle.patterns.specs.Laws.Nodes.{is-name, is-any}
+use Rattle.patterns.specs.Laws.Nodes.{is-any}
 use Rattle.patterns.specs.Read.{Readable, patternsOf, patternOf, patternAt}
 use Rattle.matching.specs.Node.{innerOf}
 use Rattle.matching.proofs.Records.{by-record, inner-length, kind-low, kind-high, count-two}
 use Rattle.forming.specs.declared.sizes.Size.{Size}
 use Rattle.forming.specs.declared.groups.Leaves.{Leaves}
-use Rattle.forming.specs.Reduced.{Splits}
 use Rattle.forming.specs.Sizes.{Sized, TellsSize, Sum}
 use Rattle.forming.specs.Groups.{leaves, holdsName, holdsEach, isAny, classBy, classOf, ofClass, Lengths, TakeTogether, TellsName, NoLeaf, LeavesAre, Joins, Once}
 use Rattle.forming.proofs.Reducing.{is-two}
@@ -160,19 +156,13 @@ module _ (table index : List ℕ) (p : ℕ) (r : Readable table index p) where
 
 -- ---- lists of leaves
 
-no-more : (ps : List Pattern) (i : ℕ) → length ps ≤ i → drop i ps ≡ []
-no-more [] zero l = refl
-no-more [] (suc i) l = refl
-no-more (p ∷ ps) zero l = absurd (omega arith)
-no-more (p ∷ ps) (suc i) l = no-more ps i (omega arith)
-
 module _ (table index : List ℕ) where
   pub none-are : (ps : List Pattern) (i n : ℕ) → n ≡ length ps → length ps ≤ i → (r : Leaves) → NoLeaf n r → LeavesAre table index ps i r
   none-are ps i n e l r h = record {
     count = h .count-is ∙ e;
     found = h .found ∙ sym (le-ltb i (length ps) l);
     leaf = λ f. true-false (sym f ∙ h .found);
-    takes = subst (λ (qs : List Pattern). TakeTogether qs (r .size)) (sym (no-more ps i l)) (λ m z. record { least = omega (arith, h .least); exact = λ f. omega (arith, z, h .least) });
+    takes = subst (λ (qs : List Pattern). TakeTogether qs (r .size)) (sym (drop-of-length-le ps {i = i} l)) (λ m z. record { least = omega (arith, h .least); exact = λ f. omega (arith, z, h .least) });
   }
 
   pub one-is : (p : ℕ) → Readable table index p → (z : Size) → TellsSize table p 38 z → LeavesAre table index (patternAt (records table) p ∷ []) 0 (record { found = true; leaf = p; count = 1; size = z })
@@ -191,7 +181,7 @@ lengths-apart (p ∷ ps) qs m (vs, b, n, x, y, e) =
     (length vs + a, c, (vs, b, a, x, u, refl), w, omega (arith, e, f))
 
 drop-joined : (ps qs : List Pattern) (i : ℕ) → drop i (ps ++ qs) ≡ drop i ps ++ drop (i - length ps) qs
-drop-joined [] qs i = let e : i - 0 ≡ i = omega arith in ap (λ (l : List Pattern). l ++ drop i qs) (sym (no-more [] i (omega arith))) ∙ ap (λ (j : ℕ). drop i [] ++ drop j qs) (sym e)
+drop-joined [] qs i = let e : i - 0 ≡ i = omega arith in ap (λ (l : List Pattern). l ++ drop i qs) (sym (drop-of-length-le [] {i = i} (omega arith))) ∙ ap (λ (j : ℕ). drop i [] ++ drop j qs) (sym e)
 drop-joined (p ∷ ps) qs zero = let e : 0 - suc (length ps) ≡ 0 = omega arith in ap (λ (j : ℕ). (p ∷ ps) ++ drop j qs) (sym e)
 drop-joined (p ∷ ps) qs (suc i) = let e : suc i - suc (length ps) ≡ i - length ps = omega arith in drop-joined ps qs i ∙ ap (λ (j : ℕ). drop i ps ++ drop j qs) (sym e)
 
@@ -257,7 +247,7 @@ module _ (all : Leaves) (i : ℕ) where
           count = a .count ∙ ap length none;
           found = f ∙ sym (le-ltb i 0 (omega arith));
           leaf = λ g. true-false (sym g ∙ f);
-          takes = subst (λ (qs : List Pattern). TakeTogether qs (all .size)) (none ∙ sym (no-more [] i (omega arith))) (a .takes);
+          takes = subst (λ (qs : List Pattern). TakeTogether qs (all .size)) (none ∙ sym (drop-of-length-le [] {i = i} (omega arith))) (a .takes);
         });
   }
 

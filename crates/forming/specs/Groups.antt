@@ -81,10 +81,11 @@ unionOf (p ∷ q ∷ ps) = halved set p (unionOf (q ∷ ps))
 
 -- ---- codes
 
--- A pattern that is still to be matched is a code: the number p of its record; or p + 256 * q + 65536 * (i + 1) for the group of the union
--- record p from place i of the order on, where q is the record of the leaf there.
+-- A pattern that is still to be matched is a code: the number p of its record; or p + 256 * q + 65536 * r + 16777216 * t for the group of the
+-- union record p from place i of the order on, where q and r are the records of the leaves there and after, and t is 2 * (i + 1), with 1 more where
+-- no other leaf follows.
 abbrev pub groupParts : List ℕ → ℕ → List Pattern
-groupParts table c = drop (c / 65536 - 1) (inOrder (leaves (patternAt (records table) (c % 256))))
+groupParts table c = drop (c / 33554432 - 1) (inOrder (leaves (patternAt (records table) (c % 256))))
 
 abbrev pub codePattern : List ℕ → ℕ → Pattern
 codePattern table c = cond (ltb c 256) (patternAt (records table) c) (unionOf (groupParts table c))
@@ -99,16 +100,20 @@ abbrev pub codeInner : List ℕ → ℕ → List Pattern
 codeInner table c = cond (ltb c 256) (innerOf table c) (firstAndRest (groupParts table c))
 
 abbrev pub mostLeaves : ℕ
-mostLeaves = 201
+mostLeaves = 101
 
 pub record GroupHeld (table index : List ℕ) (c : ℕ) : Type 0 where
-  pub large : 65536 ≤ c
-  pub small : c < 16777216
+  pub large : 33554432 ≤ c
+  pub small : c < 4294967296
   pub readable : Readable table index (c % 256)
   pub union : kindAt (records table) (c % 256) ≡ 38
   pub leaf : Readable table index (c / 256 % 256)
   pub first : patternAt (records table) (c / 256 % 256) ≡ getD (groupParts table c) 0 any
+  pub next : Readable table index (c / 65536 % 256)
+  pub second : patternAt (records table) (c / 65536 % 256) ≡ getD (groupParts table c) 1 any
   pub several : 2 ≤ length (groupParts table c)
+  pub last : c / 16777216 % 2 ≡ 1 → length (groupParts table c) ≡ 2
+  pub more : c / 16777216 % 2 ≡ 0 → 2 < length (groupParts table c)
   pub few : length (leaves (patternAt (records table) (c % 256))) ≤ mostLeaves
 
 abbrev pub CodeHeld : List ℕ → List ℕ → ℕ → Type 0
@@ -148,9 +153,15 @@ pub record Joins (l r z : Leaves) : Type 0 where
 pub record Once (all : Leaves) (i : ℕ) (r : Leaves) : Type 0 where
   pub right : (table index : List ℕ) (ps : List Pattern) → LeavesAre table index ps 0 all → LeavesAre table index (take 1 ps) i r
 
-pub record AloneHeld (table index : List ℕ) (p : ℕ) : Type 0 where
+pub record AloneHeld (table index : List ℕ) (p k : ℕ) : Type 0 where
   pub readable : Readable table index p
+  pub of-kind : k ≡ kindAt (records table) p
   pub alone : kindAt (records table) p ≡ 38 → ⊥
+
+pub record Ends (count at r : ℕ) : Type 0 where
+  pub low : r ≤ 1
+  pub yes : r ≡ 1 → count ≡ at
+  pub no : r ≡ 0 → count ≡ at → ⊥
 
 pub record SurveyHeld (table index : List ℕ) (p : ℕ) : Type 0 where
   pub readable : Readable table index p
@@ -161,7 +172,7 @@ pub record SurveyHeld (table index : List ℕ) (p : ℕ) : Type 0 where
 pub record Regroupable (table index : List ℕ) (c : ℕ) : Type 0 where
   pub held : CodeHeld table index c
   pub composed : 36 ≤ kindAt (records table) (c % 256)
-  pub room : inner (codePattern table c) ≤ mostLeaves
+  pub room : inner (codePattern table c) ≤ 201
 
 pub record Regrouped (table index : List ℕ) (c r : ℕ) : Type 0 where
   pub held : CodeHeld table index r
@@ -186,6 +197,7 @@ RestIs table index c rest = 256 ≤ c → CodeHeld table index rest × (codePatt
 
 pub record OpenedAs (table index : List ℕ) (c k : ℕ) (o : Opened) : Type 0 where
   pub rest-is : RestIs table index c (o .rest)
+  pub rest-low : o .rest < 4294967296
   pub sizes-are : o .sizes .bound ≡ true → CodeHalves table c k (o .sizes)
 
 pub record PartHeld (table index : List ℕ) (c rest i : ℕ) : Type 0 where

@@ -1,6 +1,5 @@
 -- The matches of an agenda, going on from what is found: pattern after pattern.
 use mathlib.Core.List.{List, [], _∷_}
-use Prim.Native.Nat.{_-_}
 use Rattle.values.specs.Value.{Value}
 use Rattle.patterns.specs.Binding.{Binding, nothing, withEach, together}
 use Rattle.patterns.specs.Pattern.{Pattern, matches, matchEach}

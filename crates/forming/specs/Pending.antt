@@ -4,7 +4,6 @@ use mathlib.Core.Bool.{true, false}
 use mathlib.Core.List.{List, [], _∷_, _++_}
 use Prim.Native.Nat.{ℕ, _+_, _*_, _%_, _≤_, _<_}
 use lib.ListN.{length, getD}
-use Rattle.prelude.specs.Membership.{In}
 use Rattle.values.specs.Value.{Value}
 use Rattle.tables.specs.Record.{named}
 use Rattle.tables.specs.Table.{recordAt, kindAt}
@@ -14,16 +13,14 @@ use Rattle.patterns.specs.Binding.{Binding}
 use Rattle.patterns.specs.Members.{Alike}
 use Rattle.patterns.specs.Pattern.{wide}
 use Rattle.patterns.specs.Nodes.{meetings, isLarge}
-use Rattle.matching.specs.Leaf.{Stands}
+use Rattle.matching.specs.Leaf.{Stands, Grown}
 use Rattle.matching.specs.Node.{metBy}
-use Rattle.forming.specs.declared.Step.{Step}
-use Rattle.forming.specs.declared.taking.Left.{Left}
-use Rattle.forming.specs.Onward.{Task, task, onward, zipped}
-use Rattle.forming.specs.Adding.{adding}
 use Rattle.forming.specs.Inner.{inner}
 use Rattle.forming.specs.Groups.{codePattern, codeInner, CodeHeld, RestIs}
+use Rattle.forming.specs.declared.taking.Left.{Left}
+use Rattle.forming.specs.Onward.{Task, onward, zipped}
 use Rattle.parts.specs.Word.{unpacked}
-use Rattle.forming.specs.Rows.{RowsAre, Entered}
+use Rattle.forming.specs.Frames.{KeptBelow}
 
 -- An entry of three numbers: the code of the pattern, the part that it meets, and the entry that follows, a lower one.
 pub record Pending (table index s a : List ℕ) (top head : ℕ) (t : Task) : Type 0 where
@@ -52,10 +49,6 @@ entries = 201
 abbrev pub agendaWords : ℕ
 agendaWords = 603
 
--- Nothing below a place changed.
-abbrev pub Kept : List ℕ → List ℕ → ℕ → Type 0
-Kept a b n = (j : ℕ) → j < n → getD b j 0 ≡ getD a j 0
-
 -- ---- the parts of a pattern put before the rest
 
 pub record Pushable (table index : List ℕ) (c rest : ℕ) (s : List ℕ) (word : ℕ) (d : ℕ) (a : List ℕ) (next top : ℕ) : Type 0 where
@@ -74,7 +67,7 @@ pub record Pushable (table index : List ℕ) (c rest : ℕ) (s : List ℕ) (word
 pub record Pushed (table index : List ℕ) (c : ℕ) (s : List ℕ) (word : ℕ) (d : ℕ) (a : List ℕ) (next top : ℕ) (b : List ℕ) (r : ℕ) : Type 0 where
   pub low : r < top + length (named (recordAt (records table) (c % 256)))
   pub none : length (named (recordAt (records table) (c % 256))) ≡ 0 → r ≡ next
-  pub kept : Kept a b (3 * top)
+  pub kept : KeptBelow a b (3 * top)
   pub long : length b ≡ length a
   pub right : (v : Value) (ts : List Task) → PartIs s (unpacked word) v → wide (codePattern table c) v ≡ false → AgendaIs table index s a top next ts
       → AgendaIs table index s b (top + length (named (recordAt (records table) (c % 256)))) r (zipped (codeInner table c) (metBy table (c % 256) v d) ++ ts)
@@ -109,54 +102,7 @@ pub record TakeHeld (table index s a : List ℕ) (head : ℕ) (found : List ℕ)
 
 pub record Taken (table index s a : List ℕ) (head : ℕ) (found after : List ℕ) (r : Left) : Type 0 where
   pub falls : 0 < r .wait → r .head < head
+  pub stays : Grown found after
   pub ends : r .fits ≡ true → r .wait ≡ 0 → r .head ≡ 0
   pub none : r .fits ≡ false → (top : ℕ) (ts : List Task) (b : Binding) → AgendaIs table index s a top head ts → Stands s found b → Alike (onward ts b) []
   pub some : r .fits ≡ true → (top : ℕ) (ts : List Task) (b : Binding) → AgendaIs table index s a top head ts → Stands s found b → LeftOf table index s a top (r .wait) (r .head) after ts b
-
--- ---- all matches of an agenda
-
-pub record Solvable (table index s a : List ℕ) (head top : ℕ) (m : List ℕ) (rows order : List ℕ) (n : ℕ) : Type 0 where
-  pub short : length s ≤ 65536
-  pub tasks : List Task
-  pub are : AgendaIs table index s a top head tasks
-  pub long : length a ≡ agendaWords
-  pub low : 0 < top
-  pub room : top + spaces tasks ≤ entries
-  pub binding : Binding
-  pub stands : Stands s m binding
-  pub bindings : List Binding
-  pub rows-are : RowsAre s rows order n bindings
-
-pub record Solved (table index s a b : List ℕ) (head top : ℕ) (m : List ℕ) (rows order : List ℕ) (n : ℕ) (rows′ order′ : List ℕ) (r : Step) : Type 0 where
-  pub kept : Kept a b (3 * top)
-  pub long : length b ≡ length a
-  pub right : (ts : List Task) (b′ : Binding) (bs : List Binding) → AgendaIs table index s a top head ts → Stands s m b′ → RowsAre s rows order n bs
-      → Entered s rows′ order′ (adding (onward ts b′) bs) (r .formed)
-  pub some : r .any ≡ true → (ts : List Task) (b′ : Binding) → AgendaIs table index s a top head ts → Stands s m b′ → (x : Binding) × In x (onward ts b′)
-
--- ---- one pattern with parts, before the rest
-
-pub record Dividable (table index : List ℕ) (c : ℕ) (s : List ℕ) (word : ℕ) (a : List ℕ) (next top : ℕ) (m : List ℕ) (rows order : List ℕ) (n : ℕ) : Type 0 where
-  pub held : CodeHeld table index c
-  pub composed : 36 ≤ kindAt (records table) (c % 256)
-  pub short : length s ≤ 65536
-  pub value : Value
-  pub here : PartIs s (unpacked word) value
-  pub narrow : wide (codePattern table c) value ≡ false
-  pub tasks : List Task
-  pub are : AgendaIs table index s a top next tasks
-  pub long : length a ≡ agendaWords
-  pub low : 0 < top
-  pub room : top + (inner (codePattern table c) + spaces tasks) ≤ entries
-  pub binding : Binding
-  pub stands : Stands s m binding
-  pub bindings : List Binding
-  pub rows-are : RowsAre s rows order n bindings
-
-pub record Divided (table index : List ℕ) (c : ℕ) (s : List ℕ) (word : ℕ) (a b : List ℕ) (next top : ℕ) (m : List ℕ) (rows order : List ℕ) (n : ℕ) (rows′ order′ : List ℕ) (r : Step) : Type 0 where
-  pub kept : Kept a b (3 * top)
-  pub long : length b ≡ length a
-  pub right : (v : Value) (ts : List Task) (b′ : Binding) (bs : List Binding) → PartIs s (unpacked word) v → wide (codePattern table c) v ≡ false → AgendaIs table index s a top next ts → Stands s m b′
-      → RowsAre s rows order n bs → Entered s rows′ order′ (adding (onward (task (codePattern table c) v ∷ ts) b′) bs) (r .formed)
-  pub some : r .any ≡ true → (v : Value) (ts : List Task) (b′ : Binding) → PartIs s (unpacked word) v → wide (codePattern table c) v ≡ false → AgendaIs table index s a top next ts → Stands s m b′
-      → (x : Binding) × In x (onward (task (codePattern table c) v ∷ ts) b′)

@@ -4,10 +4,9 @@ use mathlib.Core.Bool.{true, false}
 use mathlib.Core.List.{List, _∷_, _++_}
 use Prim.Native.Nat.{ℕ, suc, _+_, _*_, _%_, _≤_, _<_}
 use lib.ListN.{length, getD, take, drop}
-use Rattle.parts.specs.declared.Part.{Part}
 use Rattle.parts.specs.Part.{CellIs}
 use Rattle.parts.specs.Word.{unpacked}
-use Rattle.patterns.specs.Binding.{Cell, Binding, names, nothing, cellOf, place, sorted}
+use Rattle.patterns.specs.Binding.{Binding, names, nothing, cellOf, place, sorted}
 use Rattle.matching.specs.Leaf.{Stands}
 use Rattle.forming.specs.declared.rows.Seek.{Seek}
 use Rattle.forming.specs.declared.Formed.{Formed}

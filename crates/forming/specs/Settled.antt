@@ -2,8 +2,7 @@
 use mathlib.Core.Path.{_≡_}
 use mathlib.Core.Bool.{Bool, true}
 use mathlib.Core.List.{List}
-use mathlib.Core.Logic.{_⊎_}
-use Prim.Native.Nat.{ℕ, _+_, _≤_, _<_}
+use Prim.Native.Nat.{ℕ, _≤_, _<_}
 use lib.ListN.{length, getD}
 use Rattle.tables.specs.Record.{named as operandsOf, operand}
 use Rattle.tables.specs.Table.{recordAt, kindAt}
@@ -23,7 +22,3 @@ pub record TellsSettled (table : List ℕ) (p : ℕ) (m : List ℕ) (r : Bool) :
 
 pub record HasWord (m : List ℕ) (x : ℕ) (r : Bool) : Type 0 where
   pub says : r ≡ true → getD m x 0 ≡ 0 → ⊥
-
--- r is the way after d, or w where one way is enough and was found.
-pub record NextWay (d w : ℕ) (once found : Bool) (r : ℕ) : Type 0 where
-  pub on : (r ≡ d + 1) ⊎ ((r ≡ w) × (once ≡ true) × (found ≡ true))

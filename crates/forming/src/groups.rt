@@ -15,7 +15,7 @@ ghost use Prim.Native.Nat.{_+_, _-_, _*_, _%_, _≤_, _<_};
 ghost use Rattle.tables.specs.Table.{kindAt};
 ghost use Rattle.tables.specs.Accepted.{records};
 ghost use Rattle.patterns.specs.Read.{Readable, patternAt};
-ghost use Rattle.forming.specs.Groups.{leaves, classOf, ofClass, inOrder, TellsName, NoLeaf, Joins, LeavesAre, Once, SurveyHeld, AloneHeld, CodeHeld, Regroupable, Regrouped, Openable, OpenedAs, PartHeld, PartCode, TellsParts};
+ghost use Rattle.forming.specs.Groups.{leaves, classOf, ofClass, inOrder, TellsName, NoLeaf, Joins, LeavesAre, Once, SurveyHeld, AloneHeld, CodeHeld, Regroupable, Regrouped, Openable, OpenedAs, PartHeld, PartCode, TellsParts, Ends};
 
 // The leaf at a place of a list of leaves, if it has so many; how many it has; and what those from the place on take together.
 pub struct Leaves {
@@ -56,14 +56,19 @@ fn holds_name(table: &[u8], index: &Index, p: usize) -> bool
     false
 }
 
-// 0 for a pattern that holds a name, 2 for any, 1 for the others.
-fn class_of(table: &[u8], index: &Index, p: usize) -> usize
-    requires { ⌜ Readable (now table) (now index) p ⌝ }
+// 0 for a pattern of kind k that holds a name, 2 for any, 1 for the others.
+fn class_of(table: &[u8], index: &Index, p: usize, k: usize) -> usize
+    requires { ⌜ Readable (now table) (now index) p × (k ≡ kindAt (records (now table)) p) ⌝ }
     ensures { λ r. ⌜ r ≡ classOf (patternAt (records (now (table .entry))) p) ⌝ }
 {
-    let k = kind(table, index, p);
     if k == kinds::ANY_PATTERN {
         return 2;
+    }
+    if k == kinds::NAME_PATTERN {
+        return 0;
+    }
+    if k < kinds::TUPLE_PATTERN {
+        return 1;
     }
     let holds = holds_name(table, index, p);
     if holds {
@@ -135,15 +140,15 @@ fn survey(table: &[u8], index: &Index, p: usize, class: usize, i: usize) -> Leav
         let right = survey(table, index, r, class, on);
         return join(left, right);
     }
-    leaf_alone(table, index, p, class, i)
+    leaf_alone(table, index, p, k, class, i)
 }
 
-// A leaf alone.
-fn leaf_alone(table: &[u8], index: &Index, p: usize, class: usize, i: usize) -> Leaves
-    requires { ⌜ AloneHeld (now table) (now index) p ⌝ }
+// A leaf alone, of kind k.
+fn leaf_alone(table: &[u8], index: &Index, p: usize, k: usize, class: usize, i: usize) -> Leaves
+    requires { ⌜ AloneHeld (now table) (now index) p k ⌝ }
     ensures { λ r. ⌜ LeavesAre (now (table .entry)) (now (index .entry)) (ofClass class (leaves (patternAt (records (now (table .entry))) p))) i r ⌝ }
 {
-    let own = class_of(table, index, p);
+    let own = class_of(table, index, p, k);
     if own != class {
         return nowhere(0);
     }
@@ -196,15 +201,40 @@ fn in_order(table: &[u8], index: &Index, p: usize, i: usize) -> Leaves
     join(named, rest)
 }
 
-// The group of a union pattern from place i on, where q is the leaf there.
-fn code(p: usize, q: usize, i: usize) -> usize
-    requires { ⌜ (p < 256) × (q < 256) × (i < 255) ⌝ }
-    ensures { λ r. ⌜ r ≡ p + 256 * q + 65536 * (i + 1) ⌝ }
+// The code of a group of the union pattern p: q and r are its first leaves, and t is twice its place, counted from 1, with 1 more where it has no
+// third.
+fn code(p: usize, q: usize, r: usize, t: usize) -> usize
+    requires { ⌜ (p < 256) × (q < 256) × (r < 256) × (t < 256) ⌝ }
+    ensures { λ c. ⌜ c ≡ p + 256 * q + 65536 * r + 16777216 * t ⌝ }
 {
-    p + 256 * q + 65536 * (i + 1)
+    p + 256 * q + 65536 * r + 16777216 * t
 }
 
-// A pattern with the same bindings, to be gone through: a union as a group, others without wildcards that are spare.
+// 1 where a list of so many ends at a place, else 0.
+fn is_end(count: usize, at: usize) -> usize
+    ensures { λ r. ⌜ Ends count at r ⌝ }
+{
+    if count == at {
+        return 1;
+    }
+    0
+}
+
+// A half of a union is a union again.
+fn is_nested(table: &[u8], index: &Index, p: usize) -> bool
+    requires { ⌜ Readable (now table) (now index) p × (kindAt (records (now table)) p ≡ 38) ⌝ }
+{
+    let l = operand(table, index, p, 0);
+    let left = kind(table, index, l);
+    if left == kinds::UNION_PATTERN {
+        return true;
+    }
+    let r = operand(table, index, p, 1);
+    let right = kind(table, index, r);
+    right == kinds::UNION_PATTERN
+}
+
+// A pattern with the same bindings, to be gone through: a union of unions as a group, others without wildcards that are spare.
 pub fn regrouped(table: &[u8], index: &Index, c: usize) -> usize
     requires { ⌜ Regroupable (now table) (now index) c ⌝ }
     ensures { λ r. ⌜ Regrouped (now (table .entry)) (now (index .entry)) c r ⌝ }
@@ -216,11 +246,17 @@ pub fn regrouped(table: &[u8], index: &Index, c: usize) -> usize
     if k != kinds::UNION_PATTERN {
         return reduced::reduced(table, index, c);
     }
-    let all = in_order(table, index, c, 0);
-    if all.count < 2 {
+    let nested = is_nested(table, index, c);
+    if !nested {
         return c;
     }
-    code(c, all.leaf, 0)
+    let first = in_order(table, index, c, 0);
+    if first.count < 2 {
+        return reduced::reduced(table, index, c);
+    }
+    let second = in_order(table, index, c, 1);
+    let end = is_end(first.count, 2);
+    code(c, first.leaf, second.leaf, 2 + end)
 }
 
 // What the halves take, and the right half of a group.
@@ -232,25 +268,22 @@ pub fn open_code(table: &[u8], index: &Index, c: usize, k: usize) -> Opened
         let sizes = sizes::sizes_of(table, index, c, k);
         return Opened { rest: 0, sizes };
     }
-    let p = c % 256;
     let q = c / 256 % 256;
-    let i = c / 65536;
     let left = sizes::size_of(table, index, q, kinds::UNION_PATTERN);
-    let rest = in_order(table, index, p, i);
-    let right = rest.size;
-    let sizes = Sizes {
-        bound: true,
-        left,
-        right,
-    };
-    if rest.count == i + 1 {
-        return Opened {
-            rest: rest.leaf,
-            sizes,
-        };
+    let r = c / 65536 % 256;
+    let right = sizes::size_of(table, index, r, kinds::UNION_PATTERN);
+    let t = c / 16777216;
+    if t % 2 == 1 {
+        let sizes = sizes::pair(left, right);
+        return Opened { rest: r, sizes };
     }
-    let next = code(p, rest.leaf, i);
-    Opened { rest: next, sizes }
+    let p = c % 256;
+    let others = in_order(table, index, p, t / 2 + 1);
+    let all = sizes::sum(right, others.size);
+    let sizes = sizes::pair(left, all);
+    let end = is_end(others.count, t / 2 + 2);
+    let rest = code(p, r, others.leaf, t + 2 + end);
+    Opened { rest, sizes }
 }
 
 // Part i of a pattern with parts.

@@ -1,12 +1,15 @@
-// The bindings of a pattern formed once: all ways are gone through with an agenda of what is still to be matched, and each match found is
-// entered in order, once, into rows.
+// The bindings of a pattern formed once: all ways are gone through with an agenda of what is still to be matched and a stack of the patterns
+// whose ways are not all gone through. Each match found is entered in order, once, into rows.
+mod frames;
 mod groups;
+mod masks;
 mod reduced;
 mod rows;
 mod settled;
 mod sizes;
 mod taking;
 
+use crate::frames::Frame;
 use matching::nodes;
 use matching::nodes::Meeting;
 use parts::words;
@@ -14,7 +17,10 @@ use parts::words::Env;
 use tables::Index;
 use tables::reading::kind;
 use tables::reading::operand_count;
-ghost use Rattle.forming.specs.Pending.{Pushable, Pushed, Solvable, Solved, Dividable, Divided};
+ghost use Prim.Native.Nat.{_≤_};
+ghost use Rattle.forming.specs.Rows.{EntryHeld};
+ghost use Rattle.forming.specs.Pending.{Pushable, Pushed};
+ghost use Rattle.forming.specs.Stack.{OpenHeld, Opened, MatchEntered, DownHeld, WentDown, BackHeld, WentBack, FinishHeld, Finished, Solvable, Solved};
 
 // How many bindings there are, or refusal 29 or 30.
 pub enum Formed {
@@ -22,10 +28,12 @@ pub enum Formed {
     Refused(usize),
 }
 
-// The bindings so far, or a refusal; and whether a match was found.
+// How many bindings there are so far, or too many; how many frames are on the stack; and how many of these, from the first on, have a match.
 pub struct Step {
-    pub formed: Formed,
-    pub any: bool,
+    pub n: usize,
+    pub full: bool,
+    pub depth: usize,
+    pub hit: usize,
 }
 
 // Puts the parts of a pattern, each with what it meets in the way d, before the rest of the agenda. An entry is the code of a pattern, the part
@@ -66,6 +74,250 @@ fn push(
     head
 }
 
+// Opens a frame for the entry at, where some way may have a match; how many frames there are.
+fn open_frame(
+    table: &[u8],
+    index: &Index,
+    s: &[u8],
+    agenda: &[u32; 603],
+    at: usize,
+    next: usize,
+    top: usize,
+    found: &[u32; Env::NAMES],
+    frames: &mut [u8; 2100],
+    depth: usize,
+) -> usize
+    requires { ⌜ OpenHeld (now table) (now index) (now s) (now agenda) at next top (now found) (now frames) depth ⌝ }
+    ensures { λ r. ⌜ Opened (now (table .entry)) (now (index .entry)) (now (s .entry)) (now (agenda .entry)) at next top (now (found .entry)) (now (frames .entry)) depth (now (frames .exit)) r ⌝ }
+{
+    let whole = agenda[3 * at] as usize;
+    let word = agenda[3 * at + 1];
+    let p = groups::regrouped(table, index, whole);
+    let own = p % 256;
+    let k = kind(table, index, own);
+    let c = operand_count(table, index, own);
+    let part = words::unpack(word);
+    let m = nodes::meet(k, c, s, part);
+    if let Meeting::Ways(ways) = m {
+        let opened = groups::open_code(table, index, p, k);
+        let rest = opened.rest;
+        let sizes = opened.sizes;
+        let way = sizes::way_from(k, ways, 0, sizes);
+        let once = settled::is_settled(table, index, own, found);
+        let mask = masks::mask_of(found);
+        let f = Frame {
+            p,
+            rest,
+            at,
+            next,
+            top,
+            way,
+            ways,
+            mask,
+            once,
+            sizes,
+        };
+        return frames::advance(frames, depth, f);
+    }
+    depth
+}
+
+// Goes on with an agenda: leaves are taken off; a match is entered, or a frame opened for the pattern with parts that waits.
+fn down(
+    table: &[u8],
+    index: &Index,
+    s: &[u8],
+    agenda: &[u32; 603],
+    head: usize,
+    top: usize,
+    found: &mut [u32; Env::NAMES],
+    frames: &mut [u8; 2100],
+    depth: usize,
+    hit: usize,
+    rows: &mut [u32; 4080],
+    order: &mut [u8; 255],
+    n: usize,
+) -> Step
+    requires { ⌜ DownHeld (now table) (now index) (now s) (now agenda) head top (now found) (now frames) depth hit (now rows) (now order) n ⌝ }
+    ensures { λ r. ⌜ WentDown (now (table .entry)) (now (index .entry)) (now (s .entry)) (now (agenda .entry)) head top (now (found .entry)) (now (frames .entry)) depth hit (now (rows .entry)) (now (order .entry)) n (now (found .exit)) (now (frames .exit)) (now (rows .exit)) (now (order .exit)) r ⌝ }
+{
+    let left = taking::take_leaves(table, index, s, agenda, head, found);
+    if !left.fits {
+        return Step {
+            n,
+            full: false,
+            depth,
+            hit,
+        };
+    }
+    let at = left.wait;
+    if at == 0 {
+        return entered(s, found, depth, rows, order, n);
+    }
+    let opened = open_frame(
+        table,
+        index,
+        s,
+        agenda,
+        at,
+        left.head,
+        top,
+        found,
+        frames,
+        depth,
+    );
+    Step {
+        n,
+        full: false,
+        depth: opened,
+        hit,
+    }
+}
+
+// Enters a match: each pattern on the stack has one now.
+fn entered(
+    s: &[u8],
+    found: &[u32; Env::NAMES],
+    depth: usize,
+    rows: &mut [u32; 4080],
+    order: &mut [u8; 255],
+    n: usize,
+) -> Step
+    requires { ⌜ EntryHeld (now s) (now found) (now rows) (now order) n ⌝ }
+    ensures { λ r. ⌜ MatchEntered (now (s .entry)) (now (found .entry)) depth (now (rows .entry)) (now (order .entry)) n (now (rows .exit)) (now (order .exit)) r ⌝ }
+{
+    let formed = rows::enter(s, found, rows, order, n);
+    match formed {
+        Formed::Refused(_) => Step {
+            n,
+            full: true,
+            depth: 0,
+            hit: 0,
+        },
+        Formed::Number(k) => Step {
+            n: k,
+            full: false,
+            depth,
+            hit: depth,
+        },
+    }
+}
+
+// The lesser of two.
+fn lesser(a: usize, b: usize) -> usize
+    ensures { λ r. ⌜ (r ≤ a) × (r ≤ b) ⌝ }
+{
+    if a < b {
+        return a;
+    }
+    b
+}
+
+// Goes back to the last frame: its next way; or it is left, being only a test and having a match.
+fn back(
+    table: &[u8],
+    index: &Index,
+    s: &[u8],
+    agenda: &mut [u32; 603],
+    found: &mut [u32; Env::NAMES],
+    frames: &mut [u8; 2100],
+    depth: usize,
+    hit: usize,
+    rows: &mut [u32; 4080],
+    order: &mut [u8; 255],
+    n: usize,
+) -> Step
+    requires { ⌜ BackHeld (now table) (now index) (now s) (now agenda) (now found) (now frames) depth hit (now rows) (now order) n ⌝ }
+    ensures { λ r. ⌜ WentBack (now (table .entry)) (now (index .entry)) (now (s .entry)) (now (agenda .entry)) (now (found .entry)) (now (frames .entry)) depth hit (now (rows .entry)) (now (order .entry)) n (now (agenda .exit)) (now (found .exit)) (now (frames .exit)) (now (rows .exit)) (now (order .exit)) r ⌝ }
+{
+    let i = depth - 1;
+    let f = frames::load(frames, i);
+    if f.once {
+        if i < hit {
+            return Step {
+                n,
+                full: false,
+                depth: i,
+                hit: i,
+            };
+        }
+    }
+    let p = f.p;
+    let at = f.at;
+    let own = p % 256;
+    let k = kind(table, index, own);
+    let c = operand_count(table, index, own);
+    let word = agenda[3 * at + 1];
+    let mut g = f;
+    g.way = sizes::way_from(k, f.ways, f.way + 1, f.sizes);
+    let left = frames::advance(frames, i, g);
+    masks::clear(found, f.mask);
+    let head = push(
+        table,
+        index,
+        p,
+        f.rest,
+        s,
+        word,
+        f.way,
+        agenda,
+        f.next,
+        f.top,
+    );
+    down(
+        table,
+        index,
+        s,
+        agenda,
+        head,
+        f.top + c,
+        found,
+        frames,
+        left,
+        lesser(hit, left),
+        rows,
+        order,
+        n,
+    )
+}
+
+// Goes back until no frame is left.
+fn finish(
+    table: &[u8],
+    index: &Index,
+    s: &[u8],
+    agenda: &mut [u32; 603],
+    found: &mut [u32; Env::NAMES],
+    frames: &mut [u8; 2100],
+    first: Step,
+    rows: &mut [u32; 4080],
+    order: &mut [u8; 255],
+) -> Formed
+    requires { ⌜ FinishHeld (now table) (now index) (now s) (now agenda) (now found) (now frames) first (now rows) (now order) ⌝ }
+    ensures { λ r. ⌜ Finished (now (table .entry)) (now (index .entry)) (now (s .entry)) (now (agenda .entry)) (now (found .entry)) (now (frames .entry)) first (now (rows .entry)) (now (order .entry)) (now (agenda .exit)) (now (rows .exit)) (now (order .exit)) r ⌝ }
+{
+    let mut r = first;
+    while 0 < r.depth {
+        r = back(
+            table,
+            index,
+            s,
+            agenda,
+            found,
+            frames,
+            r.depth,
+            r.hit,
+            rows,
+            order,
+            r.n,
+        );
+    }
+    if r.full {
+        return Formed::Refused(30);
+    }
+    Formed::Number(r.n)
+}
+
 // All matches of an agenda that go on from what is found: each is entered.
 pub fn solve(
     table: &[u8],
@@ -74,110 +326,39 @@ pub fn solve(
     agenda: &mut [u32; 603],
     head: usize,
     top: usize,
-    found: &[u32; Env::NAMES],
+    found: &mut [u32; Env::NAMES],
     rows: &mut [u32; 4080],
     order: &mut [u8; 255],
     n: usize,
-) -> Step
+) -> Formed
     requires { ⌜ Solvable (now table) (now index) (now s) (now agenda) head top (now found) (now rows) (now order) n ⌝ }
-    ensures { λ r. ⌜ Solved (now (table .entry)) (now (index .entry)) (now (s .entry)) (now (agenda .entry)) (now (agenda .exit)) head top (now (found .entry)) (now (rows .entry)) (now (order .entry)) n (now (rows .exit)) (now (order .exit)) r ⌝ }
+    ensures { λ r. ⌜ Solved (now (table .entry)) (now (index .entry)) (now (s .entry)) (now (agenda .entry)) head top (now (found .entry)) (now (rows .entry)) (now (order .entry)) n (now (agenda .exit)) (now (rows .exit)) (now (order .exit)) r ⌝ }
 {
-    let mut words = *found;
-    let left = taking::take_leaves(table, index, s, agenda, head, &mut words);
-    if !left.fits {
-        return Step {
-            formed: Formed::Number(n),
-            any: false,
-        };
-    }
-    let at = left.wait;
-    if at == 0 {
-        let formed = rows::enter(s, &words, rows, order, n);
-        return Step { formed, any: true };
-    }
-    let p = agenda[3 * at] as usize;
-    let word = agenda[3 * at + 1];
-    let q = groups::regrouped(table, index, p);
-    divide(
+    let mut frames = [0u8; 2100];
+    let first = down(
         table,
         index,
-        q,
         s,
-        word,
         agenda,
-        left.head,
+        head,
         top,
-        &words,
+        found,
+        &mut frames,
+        0,
+        0,
         rows,
         order,
         n,
+    );
+    finish(
+        table,
+        index,
+        s,
+        agenda,
+        found,
+        &mut frames,
+        first,
+        rows,
+        order,
     )
-}
-
-// A pattern with parts, before the rest of an agenda: all its ways; of a pattern that is only a test, up to the first with a match.
-fn divide(
-    table: &[u8],
-    index: &Index,
-    c: usize,
-    s: &[u8],
-    word: u32,
-    agenda: &mut [u32; 603],
-    next: usize,
-    top: usize,
-    found: &[u32; Env::NAMES],
-    rows: &mut [u32; 4080],
-    order: &mut [u8; 255],
-    n: usize,
-) -> Step
-    requires { ⌜ Dividable (now table) (now index) c (now s) word (now agenda) next top (now found) (now rows) (now order) n ⌝ }
-    ensures { λ r. ⌜ Divided (now (table .entry)) (now (index .entry)) c (now (s .entry)) word (now (agenda .entry)) (now (agenda .exit)) next top (now (found .entry)) (now (rows .entry)) (now (order .entry)) n (now (rows .exit)) (now (order .exit)) r ⌝ }
-{
-    let p = c % 256;
-    let k = kind(table, index, p);
-    let more = operand_count(table, index, p);
-    let part = words::unpack(word);
-    let m = nodes::meet(k, more, s, part);
-    let once = settled::is_settled(table, index, p, found);
-    let opened = groups::open_code(table, index, c, k);
-    let sizes = opened.sizes;
-    let rest = opened.rest;
-    let mut n = n;
-    let mut any = false;
-    if let Meeting::Ways(w) = m {
-        let mut d = sizes::way_from(k, w, 0, sizes);
-        while d < w {
-            let head = push(table, index, c, rest, s, word, d, agenda, next, top);
-            let r = solve(
-                table,
-                index,
-                s,
-                agenda,
-                head,
-                top + more,
-                found,
-                rows,
-                order,
-                n,
-            );
-            let formed = r.formed;
-            match formed {
-                Formed::Refused(j) => {
-                    return Step {
-                        formed: Formed::Refused(j),
-                        any: false,
-                    };
-                }
-                Formed::Number(j) => {
-                    n = j;
-                }
-            }
-            any = settled::either(any, r.any);
-            let after = settled::next_way(d, w, once, r.any);
-            d = sizes::way_from(k, w, after, sizes);
-        }
-    }
-    Step {
-        formed: Formed::Number(n),
-        any,
-    }
 }

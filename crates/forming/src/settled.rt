@@ -8,9 +8,8 @@ use tables::reading::operand;
 use tables::reading::operand_count;
 ghost use mathlib.Core.Path.{_≡_};
 ghost use mathlib.Core.Bool.{_||_};
-ghost use Prim.Native.Nat.{_<_};
 ghost use Rattle.patterns.specs.Read.{Readable};
-ghost use Rattle.forming.specs.Settled.{TellsSettled, HasWord, NextWay};
+ghost use Rattle.forming.specs.Settled.{TellsSettled, HasWord};
 
 // Every name of a pattern has a value.
 pub fn is_settled(table: &[u8], index: &Index, p: usize, found: &[u32; Env::NAMES]) -> bool
@@ -56,17 +55,4 @@ pub fn either(a: bool, b: bool) -> bool
         return true;
     }
     b
-}
-
-// The way after d, of w; past the last where one is enough and was found.
-pub fn next_way(d: usize, w: usize, once: bool, found: bool) -> usize
-    requires { ⌜ d < w ⌝ }
-    ensures { λ r. ⌜ NextWay d w once found r ⌝ }
-{
-    if once {
-        if found {
-            return w;
-        }
-    }
-    d + 1
 }

@@ -102,6 +102,13 @@ pub fn sizes_of(table: &[u8], index: &Index, p: usize, k: usize) -> Sizes
     let left = size_of(table, index, l, k);
     let r = operand(table, index, p, 1);
     let right = size_of(table, index, r, k);
+    pair(left, right)
+}
+
+// What two halves take.
+pub fn pair(left: Size, right: Size) -> Sizes
+    ensures { λ z. ⌜ (z .left ≡ left) × (z .right ≡ right) ⌝ }
+{
     let free = is_any(left);
     let bound = if free { !is_any(right) } else { true };
     Sizes { bound, left, right }

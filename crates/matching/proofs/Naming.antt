@@ -28,7 +28,7 @@ use Rattle.prelude.proofs.Absurd.{true-false}
 use Rattle.patterns.specs.Laws.Together.{Fine, with-only}
 use Rattle.patterns.specs.Laws.Nodes.{is-name, is-any}
 use Rattle.patterns.specs.Read.{Readable, patternAt}
-use Rattle.matching.specs.Leaf.{Stands, Standing, Went, Named, LeafTold}
+use Rattle.matching.specs.Leaf.{Stands, Standing, Went, Grown, Named, LeafTold}
 use Rattle.matching.specs.Node.{LiteralHeld, LiteralIs, innerOf}
 use Rattle.matching.proofs.Records.{by-record, is-literal}
 
@@ -119,6 +119,17 @@ module _ (s : List ℕ) (x : ℕ) (lt : x < names) (v : Value) (b : Binding) (si
     );
     bad = λ e. true-false e;
   }
+
+-- ---- words that are there stay
+
+pub grown-same : (m : List ℕ) → Grown m m
+grown-same m = record { sized = refl; stays = λ x f. refl }
+
+pub grown-then : {a b c : List ℕ} → Grown a b → Grown b c → Grown a c
+grown-then h g = record { sized = g .sized ∙ h .sized; stays = λ x f. g .stays x (λ z. f (sym (h .stays x f) ∙ z)) ∙ h .stays x f }
+
+pub grown-set : (m : List ℕ) (x word : ℕ) → getD m x 0 ≡ 0 → Grown m (set m x word)
+grown-set m x word e = record { sized = length-set m x word; stays = λ n f. getD-set-other m x n word 0 (λ q. f (ap (λ (k : ℕ). getD m k 0) q ∙ e)) }
 
 pub part-word : (s : List ℕ) (word : ℕ) → PartHeld s (unpacked word) → WordHeld s word
 part-word s word h = record {

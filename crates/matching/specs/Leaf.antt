@@ -29,6 +29,11 @@ pub record Went (s : List ℕ) (b : Binding) (p : Pattern) (v : Value) (after : 
   pub good : agrees ≡ true → (q : Binding) × Alike (withEach b (matches p v)) (q ∷ []) × Stands s after q
   pub bad : agrees ≡ false → withEach b (matches p v) ≡ []
 
+-- Words that are there stay.
+pub record Grown (before after : List ℕ) : Type 0 where
+  pub sized : length after ≡ length before
+  pub stays : (x : ℕ) → (getD before x 0 ≡ 0 → ⊥) → getD after x 0 ≡ getD before x 0
+
 abbrev pub Named : List ℕ → ℕ → ℕ → List ℕ → List ℕ → Bool → Type 0
 Named s x word found after agrees = (v : Value) (b : Binding) → PartIs s (unpacked word) v → Stands s found b → Went s b (name x) v after agrees
 

@@ -9,12 +9,12 @@ ghost use Prim.Native.Nat.{_<_};
 ghost use Rattle.parts.specs.Part.{PartHeld};
 ghost use Rattle.parts.specs.Word.{unpacked};
 ghost use Rattle.matching.specs.Node.{LeafHeld};
-ghost use Rattle.matching.specs.Leaf.{Standing, Named, LeafTold};
+ghost use Rattle.matching.specs.Leaf.{Standing, Grown, Named, LeafTold};
 
 // Binds a name to a part, where it has no other value.
 fn bind_name(s: &[u8], x: usize, word: u32, found: &mut [u32; Env::NAMES]) -> bool
     requires { ⌜ (x < 16) × PartHeld (now s) (unpacked word) × Standing (now s) (now found) ⌝ }
-    ensures { λ r. ⌜ Named (now (s .entry)) x word (now (found .entry)) (now (found .exit)) r ⌝ }
+    ensures { λ r. ⌜ Named (now (s .entry)) x word (now (found .entry)) (now (found .exit)) r × Grown (now (found .entry)) (now (found .exit)) ⌝ }
 {
     let old = found[x];
     if old == 0 {
@@ -39,7 +39,7 @@ pub fn match_leaf(
 ) -> bool
     requires { ⌜ LeafHeld (now table) (now index) p ⌝ }
     requires { ⌜ PartHeld (now s) (unpacked word) × Standing (now s) (now found) ⌝ }
-    ensures { λ r. ⌜ LeafTold (now (table .entry)) p (now (s .entry)) word (now (found .entry)) (now (found .exit)) r ⌝ }
+    ensures { λ r. ⌜ LeafTold (now (table .entry)) p (now (s .entry)) word (now (found .entry)) (now (found .exit)) r × Grown (now (found .entry)) (now (found .exit)) ⌝ }
 {
     let kind = tables::reading::kind(table, index, p);
     if kind == kinds::NAME_PATTERN {

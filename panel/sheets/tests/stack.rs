@@ -1,5 +1,4 @@
-//! How much stack the services need: the deepest sheets run in a thread that has 64 KB of it, those with the most patterns in 128 KB (docs/evaluator.md says which take how
-//! much).
+//! How much stack the services need: the deepest sheets and those with the most patterns run in a thread that has 64 KB of it (docs/evaluator.md says which take how much).
 
 use generator::{accepted, at_limits, deepest, widest};
 use sheets::lent::{self, SCRATCH_SIZE};
@@ -7,7 +6,6 @@ use sheets::{Answer, List, Value};
 use std::thread;
 
 const STACK: usize = 65_536;
-const STACK_OF_WIDEST: usize = 131_072;
 /// The most lists of a sheet that are walked.
 const MOST_LISTS: usize = 40;
 
@@ -64,8 +62,8 @@ fn deep_sheets_run_in_64_kilobytes_of_stack() {
 }
 
 #[test]
-fn sheets_of_the_most_patterns_run_in_128_kilobytes_of_stack() {
+fn sheets_of_the_most_patterns_run_in_64_kilobytes_of_stack() {
     let tables = widest();
     assert_accepted(&tables);
-    run_in(STACK_OF_WIDEST, tables);
+    run_in(STACK, tables);
 }

@@ -1,7 +1,6 @@
 use Rattle.forming.proofs.Coding.{code-readable, code-small}
 use borrow.Author.Needs.{needs}
 use native.Mathlib.Omega.{arith}
-use Rattle.matching.proofs.Records.{has-operand}
 use Rattle.forming.proofs.Pushing.{PushSoFar, push-start, part-asked, piece-asked, piece-held, push-more, push-end}
 use Rattle.forming.proofs.push.Statement.{statement}
 use Rattle.forming.proofs.push.Tie as tie

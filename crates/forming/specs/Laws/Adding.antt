@@ -2,7 +2,7 @@
 use mathlib.Core.Path.{_≡_, refl, sym, ap, subst, _∙_}
 use mathlib.Core.Logic.{_⊎_, inl, inr, ⊎-elim}
 use mathlib.Core.List.{List, [], _∷_, _++_}
-use Prim.Native.Nat.{ℕ, zero, suc, _+_, _≤_, _<_}
+use Prim.Native.Nat.{ℕ, zero, suc, _≤_, _<_}
 use native.Mathlib.Omega.{arith}
 use lib.ListN.{length, getD, take, drop}
 use Rattle.prelude.specs.Membership.{In}
@@ -92,7 +92,7 @@ pub placed-sorted : (b : Binding) (bs cs : List Binding) → bs ≡ sorted cs �
 unfolding sorted
 placed-sorted b bs cs e = ap (place b) e
 
-flip-higher : (a b : Binding) → orderBindings a b ≡ Lower → orderBindings b a ≡ Higher
+pub flip-higher : (a b : Binding) → orderBindings a b ≡ Lower → orderBindings b a ≡ Higher
 flip-higher a b e = bindings-flip a b ∙ rw e
 
 pub place-there : (b : Binding) (bs : List Binding) → Rising bs → In b bs → place b bs ≡ bs

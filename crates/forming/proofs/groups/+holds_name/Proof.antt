@@ -1,4 +1,3 @@
-use borrow.Author.Tests.{not-false, not-true}
 use Prim.Native.Nat.{_-_}
 use mathlib.Core.Path.{sym, _∙_}
 use Rattle.matching.proofs.Records.{has-operand, operand-readable}

@@ -28,7 +28,7 @@ survey-at t = and 2 survey-kinds.ps (is 2 survey-kinds.ps μ-survey t) survey.Pr
 abbrev survey-below : ℕ → In 2 survey-kinds.ps
 survey-below t = and 2 survey-kinds.ps (falls 2 survey-kinds.ps _<_ μ-survey t) survey.Pre
 
--- src/groups.rt:129:9
+-- src/groups.rt:134:9
 survey-kind-requires : (t : ℕ) → survey-lts.Need-kind-requires (
   kind-reads.Asked,
   kind-reads.Learnt,
@@ -45,7 +45,7 @@ survey-kind-requires : (t : ℕ) → survey-lts.Need-kind-requires (
 ) (survey-at t) survey.Post
 survey-kind-requires t c κs = c .before .pre .1 .readable .here
 
--- src/groups.rt:131:13
+-- src/groups.rt:136:13
 survey-operand-requires : (t : ℕ) → survey-lts.Need-operand-requires (
   kind-reads.Asked,
   kind-reads.Learnt,
@@ -62,7 +62,7 @@ survey-operand-requires : (t : ℕ) → survey-lts.Need-operand-requires (
 ) (survey-at t) survey.Post
 survey-operand-requires t c κs = has-operand _ _ _ (c .before .before .before .pre .1 .readable) 0 (omega (arith, (two-halves _ _ _ (c .before .before .before .pre .1 .readable) 38 (sym (c .before .kind .ensures .0) ∙ c .if1 .taken) (inl refl))))
 
--- src/groups.rt:132:13
+-- src/groups.rt:137:13
 survey-survey-requires : (t : ℕ) → survey-lts.Need-survey-requires (
   kind-reads.Asked,
   kind-reads.Learnt,
@@ -77,9 +77,9 @@ survey-survey-requires : (t : ℕ) → survey-lts.Need-survey-requires (
   leaf-alone-reads.Asked,
   leaf-alone-reads.Learnt,
 ) (survey-at t) survey.Post
-survey-survey-requires t c κs = let o = operand-readable _ _ _ (c .before .before .before .before .pre .1 .readable) 0 (omega (arith, (two-halves _ _ _ (c .before .before .before .before .pre .1 .readable) 38 (sym (c .before .before .kind .ensures .0) ∙ c .before .if1 .taken) (inl refl)))) (omega (arith, c .before .before .kind .ensures .0)) _ (c .operand .ensures .0) in (omega (arith, o .1, c .before .before .before .before .pre .0), record { readable = o .0; few = left-few _ _ _ (c .before .before .before .before .pre .1 .readable) (sym (c .before .before .kind .ensures .0) ∙ c .before .if1 .taken) 0 0 _ _ (c .operand .ensures .0) refl 201 (c .before .before .before .before .pre .1 .few) })
+survey-survey-requires t c κs = let o = operand-readable _ _ _ (c .before .before .before .before .pre .1 .readable) 0 (omega (arith, (two-halves _ _ _ (c .before .before .before .before .pre .1 .readable) 38 (sym (c .before .before .kind .ensures .0) ∙ c .before .if1 .taken) (inl refl)))) (omega (arith, c .before .before .kind .ensures .0)) _ (c .operand .ensures .0) in (omega (arith, o .1, c .before .before .before .before .pre .0), record { readable = o .0; few = left-few _ _ _ (c .before .before .before .before .pre .1 .readable) (sym (c .before .before .kind .ensures .0) ∙ c .before .if1 .taken) 0 0 _ _ (c .operand .ensures .0) refl 101 (c .before .before .before .before .pre .1 .few) })
 
--- src/groups.rt:133:13
+-- src/groups.rt:138:13
 survey-operand-requires-2 : (t : ℕ) → survey-lts.Need-operand-requires-2 (
   kind-reads.Asked,
   kind-reads.Learnt,
@@ -96,7 +96,7 @@ survey-operand-requires-2 : (t : ℕ) → survey-lts.Need-operand-requires-2 (
 ) (survey-at t) survey.Post
 survey-operand-requires-2 t c κs = has-operand _ _ _ (c .before .before .before .before .before .pre .1 .readable) 1 (omega (arith, (two-halves _ _ _ (c .before .before .before .before .before .pre .1 .readable) 38 (sym (c .before .before .before .kind .ensures .0) ∙ c .before .before .if1 .taken) (inl refl))))
 
--- src/groups.rt:134:13
+-- src/groups.rt:139:13
 survey-after-requires : (t : ℕ) → survey-lts.Need-after-requires (
   kind-reads.Asked,
   kind-reads.Learnt,
@@ -113,7 +113,7 @@ survey-after-requires : (t : ℕ) → survey-lts.Need-after-requires (
 ) (survey-at t) survey.Post
 survey-after-requires t c κs = search needs
 
--- src/groups.rt:135:13
+-- src/groups.rt:140:13
 survey-survey-requires-2 : (t : ℕ) → survey-lts.Need-survey-requires-2 (
   kind-reads.Asked,
   kind-reads.Learnt,
@@ -128,9 +128,9 @@ survey-survey-requires-2 : (t : ℕ) → survey-lts.Need-survey-requires-2 (
   leaf-alone-reads.Asked,
   leaf-alone-reads.Learnt,
 ) (survey-at t) survey.Post
-survey-survey-requires-2 t c κs = let o = operand-readable _ _ _ (c .before .before .before .before .before .before .before .pre .1 .readable) 1 (omega (arith, (two-halves _ _ _ (c .before .before .before .before .before .before .before .pre .1 .readable) 38 (sym (c .before .before .before .before .before .kind .ensures .0) ∙ c .before .before .before .before .if1 .taken) (inl refl)))) (omega (arith, c .before .before .before .before .before .kind .ensures .0)) _ (c .before .operand2 .ensures .0) in (omega (arith, o .1, c .before .before .before .before .before .before .before .pre .0), record { readable = o .0; few = right-few _ _ _ (c .before .before .before .before .before .before .before .pre .1 .readable) (sym (c .before .before .before .before .before .kind .ensures .0) ∙ c .before .before .before .before .if1 .taken) 0 0 _ _ (c .before .before .before .operand .ensures .0) (c .before .operand2 .ensures .0) 201 (c .before .before .before .before .before .before .before .pre .1 .few) })
+survey-survey-requires-2 t c κs = let o = operand-readable _ _ _ (c .before .before .before .before .before .before .before .pre .1 .readable) 1 (omega (arith, (two-halves _ _ _ (c .before .before .before .before .before .before .before .pre .1 .readable) 38 (sym (c .before .before .before .before .before .kind .ensures .0) ∙ c .before .before .before .before .if1 .taken) (inl refl)))) (omega (arith, c .before .before .before .before .before .kind .ensures .0)) _ (c .before .operand2 .ensures .0) in (omega (arith, o .1, c .before .before .before .before .before .before .before .pre .0), record { readable = o .0; few = right-few _ _ _ (c .before .before .before .before .before .before .before .pre .1 .readable) (sym (c .before .before .before .before .before .kind .ensures .0) ∙ c .before .before .before .before .if1 .taken) 0 0 _ _ (c .before .before .before .operand .ensures .0) (c .before .operand2 .ensures .0) 101 (c .before .before .before .before .before .before .before .pre .1 .few) })
 
--- src/groups.rt:136:9
+-- src/groups.rt:141:9
 survey-join-requires : (t : ℕ) → survey-lts.Need-join-requires (
   kind-reads.Asked,
   kind-reads.Learnt,
@@ -145,9 +145,9 @@ survey-join-requires : (t : ℕ) → survey-lts.Need-join-requires (
   leaf-alone-reads.Asked,
   leaf-alone-reads.Learnt,
 ) (survey-at t) survey.Post
-survey-join-requires t c κs = (class-low _ _ _ 201 _ _ (left-few _ _ _ (c .before .before .before .before .before .before .before .before .pre .1 .readable) (sym (c .before .before .before .before .before .before .kind .ensures .0) ∙ c .before .before .before .before .before .if1 .taken) 0 0 _ _ (c .before .before .before .before .operand .ensures .0) refl 201 (c .before .before .before .before .before .before .before .before .pre .1 .few)) _ (c .before .before .before .survey .ensures), class-low _ _ _ 201 _ _ (right-few _ _ _ (c .before .before .before .before .before .before .before .before .pre .1 .readable) (sym (c .before .before .before .before .before .before .kind .ensures .0) ∙ c .before .before .before .before .before .if1 .taken) 0 0 _ _ (c .before .before .before .before .operand .ensures .0) (c .before .before .operand2 .ensures .0) 201 (c .before .before .before .before .before .before .before .before .pre .1 .few)) _ (c .survey2 .ensures))
+survey-join-requires t c κs = (omega (arith, class-low _ _ _ 101 _ _ (left-few _ _ _ (c .before .before .before .before .before .before .before .before .pre .1 .readable) (sym (c .before .before .before .before .before .before .kind .ensures .0) ∙ c .before .before .before .before .before .if1 .taken) 0 0 _ _ (c .before .before .before .before .operand .ensures .0) refl 101 (c .before .before .before .before .before .before .before .before .pre .1 .few)) _ (c .before .before .before .survey .ensures)), omega (arith, class-low _ _ _ 101 _ _ (right-few _ _ _ (c .before .before .before .before .before .before .before .before .pre .1 .readable) (sym (c .before .before .before .before .before .before .kind .ensures .0) ∙ c .before .before .before .before .before .if1 .taken) 0 0 _ _ (c .before .before .before .before .operand .ensures .0) (c .before .before .operand2 .ensures .0) 101 (c .before .before .before .before .before .before .before .before .pre .1 .few)) _ (c .survey2 .ensures)))
 
--- src/groups.rt:136:9
+-- src/groups.rt:141:9
 survey-returns : (t : ℕ) → survey-lts.Need-returns (
   kind-reads.Asked,
   kind-reads.Learnt,
@@ -164,7 +164,7 @@ survey-returns : (t : ℕ) → survey-lts.Need-returns (
 ) (survey-at t) survey.Post
 survey-returns t c = survey-both _ _ _ (c .before .before .before .before .before .before .before .before .before .pre .1 .readable) (sym (c .before .before .before .before .before .before .before .kind .ensures .0) ∙ c .before .before .before .before .before .before .if1 .taken) _ _ _ _ (c .before .before .before .before .before .operand .ensures .0) (c .before .before .before .operand2 .ensures .0) _ _ _ (c .before .before .before .before .survey .ensures) _ (c .before .before .after .ensures) (c .before .survey2 .ensures) (c .join .ensures)
 
--- src/groups.rt:138:5
+-- src/groups.rt:143:5
 survey-leaf-alone-requires : (t : ℕ) → survey-lts.Need-leaf-alone-requires (
   kind-reads.Asked,
   kind-reads.Learnt,
@@ -179,9 +179,9 @@ survey-leaf-alone-requires : (t : ℕ) → survey-lts.Need-leaf-alone-requires (
   leaf-alone-reads.Asked,
   leaf-alone-reads.Learnt,
 ) (survey-at t) survey.Post
-survey-leaf-alone-requires t c κs = record { readable = c .before .before .before .pre .1 .readable; alone = λ e. c .if1 .left (c .before .kind .ensures .0 ∙ e) }
+survey-leaf-alone-requires t c κs = record { readable = c .before .before .before .pre .1 .readable; of-kind = c .before .kind .ensures .0; alone = λ e. c .if1 .left (c .before .kind .ensures .0 ∙ e) }
 
--- src/groups.rt:125:1
+-- src/groups.rt:130:1
 survey-returns-2 : (t : ℕ) → survey-lts.Need-returns-2 (
   kind-reads.Asked,
   kind-reads.Learnt,

@@ -1,7 +1,6 @@
 use Rattle.forming.proofs.Rowing.{enter-there, enter-full, enter-new}
 use native.Mathlib.Omega.{arith}
 use mathlib.Core.Path.{refl}
-use borrow.Author.Needs.{needs}
 use Rattle.forming.proofs.rows.enter.Statement.{statement}
 use Rattle.forming.proofs.rows.enter.Tie as tie
 use Rattle.forming.proofs.rows.enter.Reads as reads

@@ -1,6 +1,5 @@
 use native.Mathlib.Omega.{arith}
 use mathlib.Core.Path.{refl}
-use borrow.Author.Tests.{not-true}
 use Rattle.forming.proofs.Sizing.{not-least, yes-sized, not-exact}
 use borrow.Author.Needs.{needs}
 use Rattle.forming.proofs.sizes.takes.Statement.{statement}

@@ -1,6 +1,6 @@
-use Rattle.forming.proofs.Leaving.{TakeSoFar, take-start, head-low, entry-low, entry-held, next-lower, leaf-asked, take-wait, take-leaf, take-none, take-full, take-end}
-use borrow.Author.Tests.{not-true, not-false}
 use native.Mathlib.Omega.{arith}
+use borrow.Author.Tests.{not-true, not-false}
+use Rattle.forming.proofs.Leaving.{TakeSoFar, take-start, head-low, entry-low, entry-held, next-lower, leaf-asked, take-wait, take-leaf, take-none, take-full, take-end}
 use Rattle.forming.proofs.taking.take_leaves.Statement.{statement}
 use Rattle.forming.proofs.taking.take_leaves.Tie as tie
 use Rattle.forming.proofs.taking.take_leaves.Reads as reads
@@ -92,7 +92,7 @@ match-leaf-requires c κs = leaf-asked _ _ _ _ _ _ (c .before .before .before .b
 
 -- src/taking.rt:47:17
 returns-2 : tie.Need-returns-2 Inv-loop μ-loop
-returns-2 c = take-none _ _ _ _ _ _ (c .before .before .before .before .before .before .before .before .before .before .before .before .pre) _ _ _ (c .before .before .before .before .before .before .before .before .before .loop .inv) (omega arith) (c .before .before .before .before .before .has-parts .ensures .leaf (c .before .before .before .before .if1 .left) .0) _ _ (λ v b q h. c .before .match-leaf .ensures v b q h) (not-true _ (c .if3 .taken))
+returns-2 c = take-none _ _ _ _ _ _ (c .before .before .before .before .before .before .before .before .before .before .before .before .pre) _ _ _ (c .before .before .before .before .before .before .before .before .before .loop .inv) (omega arith) (c .before .before .before .before .before .has-parts .ensures .leaf (c .before .before .before .before .if1 .left) .0) _ _ (λ v b q h. c .before .match-leaf .ensures .0 v b q h) (c .before .match-leaf .ensures .1) (not-true _ (c .if3 .taken))
 
 -- src/taking.rt:29:5
 loop-less-2 : tie.Need-loop-less-2 Inv-loop μ-loop
@@ -100,7 +100,7 @@ loop-less-2 c = omega (arith, next-lower _ _ _ _ _ _ (c .before .before .before 
 
 -- src/taking.rt:29:5
 loop-again-2 : tie.Need-loop-again-2 Inv-loop μ-loop
-loop-again-2 c = take-leaf _ _ _ _ _ _ (c .before .before .before .before .before .before .before .before .before .before .before .before .pre) _ _ _ (c .before .before .before .before .before .before .before .before .before .loop .inv) (omega arith) (c .before .before .before .before .before .has-parts .ensures .leaf (c .before .before .before .before .if1 .left) .0) _ _ (λ v b q h. c .before .match-leaf .ensures v b q h) (not-false _ (c .if3 .left))
+loop-again-2 c = take-leaf _ _ _ _ _ _ (c .before .before .before .before .before .before .before .before .before .before .before .before .pre) _ _ _ (c .before .before .before .before .before .before .before .before .before .loop .inv) (omega arith) (c .before .before .before .before .before .has-parts .ensures .leaf (c .before .before .before .before .if1 .left) .0) _ _ (λ v b q h. c .before .match-leaf .ensures .0 v b q h) (c .before .match-leaf .ensures .1) (not-false _ (c .if3 .left))
 
 -- src/taking.rt:16:1
 returns-3 : tie.Need-returns-3 Inv-loop μ-loop

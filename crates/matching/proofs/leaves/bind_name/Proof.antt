@@ -1,4 +1,4 @@
-use Rattle.matching.proofs.Naming.{binds, word-held, part-word, agrees, clashes}
+use Rattle.matching.proofs.Naming.{grown-same, grown-set, binds, word-held, part-word, agrees, clashes}
 use mathlib.Core.Logic.{⊎-elim}
 use mathlib.Core.Path.{refl}
 use native.Mathlib.Omega.{arith}
@@ -27,7 +27,7 @@ element-write-found c = search needs
 
 -- src/leaves.rt:22:9
 returns : tie.Need-returns
-returns c = binds _ _ (c .before .before .before .pre .0) _ _ (c .if1 .taken) _ refl
+returns c = (binds _ _ (c .before .before .before .pre .0) _ _ (c .if1 .taken) _ refl, grown-set _ _ _ (c .if1 .taken))
 
 -- src/leaves.rt:24:9
 order-words-requires : tie.Need-order-words-requires
@@ -39,11 +39,11 @@ enum-told c = search needs
 
 -- src/leaves.rt:26:9
 returns-2 : tie.Need-returns-2
-returns-2 c = agrees _ _ (c .before .before .before .before .before .before .pre .0) _ _ (c .before .before .before .if1 .left) _ (c .before .before .order-words .ensures) (c .enum-told .given .1)
+returns-2 c = (agrees _ _ (c .before .before .before .before .before .before .pre .0) _ _ (c .before .before .before .if1 .left) _ (c .before .before .order-words .ensures) (c .enum-told .given .1), grown-same _)
 
 -- src/leaves.rt:15:1
 returns-3 : tie.Need-returns-3
-returns-3 c = clashes _ _ (c .before .before .before .before .before .pre .0) _ _ (c .before .before .if1 .left) _ (c .before .order-words .ensures) (λ d. ⊎-elim (λ k. let e = rw d at k in omega arith) (λ k. let e = rw d at k in omega arith) (c .match .keys2))
+returns-3 c = (clashes _ _ (c .before .before .before .before .before .pre .0) _ _ (c .before .before .if1 .left) _ (c .before .order-words .ensures) (λ d. ⊎-elim (λ k. let e = rw d at k in omega arith) (λ k. let e = rw d at k in omega arith) (c .match .keys2)), grown-same _)
 
 pub bind-name-spec : {M : Type 1} → statement M
 bind-name-spec =

@@ -1,4 +1,4 @@
-use Rattle.matching.proofs.Naming.{leaf-name, leaf-any, leaf-literal}
+use Rattle.matching.proofs.Naming.{grown-same, leaf-name, leaf-any, leaf-literal}
 use Rattle.matching.proofs.Records.{name-field, name-small, literal-held}
 use Rattle.parts.specs.Part.{PartHeld}
 use mathlib.Core.Path.{sym, subst, _∙_}
@@ -28,11 +28,11 @@ bind-name-requires c κs = (omega (arith, c .before .field .ensures .0, name-sma
 
 -- src/leaves.rt:47:9
 returns : tie.Need-returns
-returns c = leaf-name _ _ _ (c .before .before .before .before .before .before .before .pre .0 .readable) _ _ _ _ _ _ (sym (c .before .before .before .before .kind .ensures .0) ∙ c .before .before .before .if1 .taken) (c .before .before .field .ensures .0) (c .bind-name .ensures)
+returns c = (leaf-name _ _ _ (c .before .before .before .before .before .before .before .pre .0 .readable) _ _ _ _ _ _ (sym (c .before .before .before .before .kind .ensures .0) ∙ c .before .before .before .if1 .taken) (c .before .before .field .ensures .0) (c .bind-name .ensures .0), c .bind-name .ensures .1)
 
 -- src/leaves.rt:50:9
 returns-2 : tie.Need-returns-2
-returns-2 c = leaf-any _ _ _ (c .before .before .before .before .before .pre .0 .readable) _ _ _ (sym (c .before .before .kind .ensures .0) ∙ c .if2 .taken)
+returns-2 c = (leaf-any _ _ _ (c .before .before .before .before .before .pre .0 .readable) _ _ _ (sym (c .before .before .kind .ensures .0) ∙ c .if2 .taken), grown-same _)
 
 -- src/leaves.rt:52:9
 unpack-requires : tie.Need-unpack-requires
@@ -44,7 +44,7 @@ is-literal-requires c κs = ((literal-held _ _ _ (c .before .before .before .bef
 
 -- src/leaves.rt:32:1
 returns-3 : tie.Need-returns-3
-returns-3 c = leaf-literal _ _ _ (c .before .before .before .before .before .before .before .pre .0 .readable) _ _ _ (literal-held _ _ _ (c .before .before .before .before .before .before .before .pre .0 .readable) (λ e. c .before .before .before .if1 .left (c .before .before .before .before .kind .ensures .0 ∙ e)) (λ e. c .before .before .if2 .left (c .before .before .before .before .kind .ensures .0 ∙ e)) (c .before .before .before .before .before .before .before .pre .0 .leaf)) _ (c .before .unpack .ensures) _ (c .is-literal .ensures)
+returns-3 c = (leaf-literal _ _ _ (c .before .before .before .before .before .before .before .pre .0 .readable) _ _ _ (literal-held _ _ _ (c .before .before .before .before .before .before .before .pre .0 .readable) (λ e. c .before .before .before .if1 .left (c .before .before .before .before .kind .ensures .0 ∙ e)) (λ e. c .before .before .if2 .left (c .before .before .before .before .kind .ensures .0 ∙ e)) (c .before .before .before .before .before .before .before .pre .0 .leaf)) _ (c .before .unpack .ensures) _ (c .is-literal .ensures), grown-same _)
 
 pub match-leaf-spec : {M : Type 1} → statement M
 match-leaf-spec =

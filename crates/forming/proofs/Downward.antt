@@ -1,0 +1,122 @@
+-- Going on with an agenda: no match, a match, or a pattern with parts.
+use mathlib.Core.Path.{_≡_, refl, sym, ap, subst, _∙_}
+use mathlib.Core.Bool.{Bool, true, false}
+use mathlib.Core.List.{List, [], _∷_, _++_}
+use Prim.Native.Nat.{ℕ, suc, _+_, _*_, _^_, _≤_, _<_}
+use native.Mathlib.Omega.{arith}
+use lib.ListN.{getD}
+use Rattle.prelude.proofs.Absurd.{true-false}
+use Rattle.patterns.specs.Members.{Alike}
+use Rattle.patterns.specs.Binding.{Binding}
+use Rattle.patterns.specs.Pattern.{Pattern, wide}
+use Rattle.forming.specs.Groups.{codePattern}
+use Rattle.matching.proofs.Naming.{stands-fine}
+use Rattle.forming.specs.declared.Step.{Step}
+use Rattle.forming.specs.declared.taking.Left.{Left}
+use Rattle.forming.specs.Frames.{heft, rank}
+use Rattle.forming.specs.Onward.{Task, task, onward}
+use Rattle.forming.specs.Laws.Onward.{onward-end}
+use Rattle.forming.specs.Pending.{spaces, entries, LeftOf, TakeHeld, Taken}
+use Rattle.forming.specs.Rows.{EntryHeld}
+use Rattle.forming.specs.Stack.{Stacked, Reached, Waiting, MatchEntered, Descending}
+use Rattle.forming.proofs.Leaving.{none-waits, one-waits}
+use Rattle.forming.proofs.Ranking.{not-opened-less, refused-less, less-more}
+use Rattle.forming.proofs.Solving.{no-task}
+use Rattle.forming.proofs.Stacking.{restacked, match-entered, match-full}
+
+pub reached : (table index s a found frames rows order : List ℕ) (n depth hit : ℕ) (target : List Binding) → Stacked table index s a entries found frames depth hit rows order n [] target
+    → Reached table index s a found frames rows order (record { n = n; full = false; depth = depth; hit = hit }) target
+reached table index s a found frames rows order n depth hit target h = record { long = h .long; full = λ e. true-false (sym e); going = λ e. h }
+
+-- where frames are left, the target is not passed
+pub still-going : (table index s a found frames rows order : List ℕ) (r : Step) (target : List Binding) → Reached table index s a found frames rows order r target → 0 < r .depth → Stacked table index s a entries found frames (r .depth) (r .hit) rows order (r .n) [] target
+still-going table index s a found frames rows order r target h l = go (r .full) refl
+  where
+    go : (t : Bool) → r .full ≡ t → Stacked table index s a entries found frames (r .depth) (r .hit) rows order (r .n) [] target
+    go true e = absurd (omega (arith, h .full e .1))
+    go false e = h .going e
+
+module _ (table index s a : List ℕ) (head top : ℕ) (found frames : List ℕ) (depth hit : ℕ) (rows order : List ℕ) (n : ℕ) (target : List Binding) (h : Descending table index s a head top found frames depth hit rows order n target) where
+  few : top ≤ entries
+  few = omega (arith, h .room)
+
+  pub take-asked : TakeHeld table index s a head found
+  take-asked = record { top = top; tasks = h .tasks; are = h .are; low = omega (arith, h .low); room = few; binding = h .binding; stands = h .stands }
+
+  module _ (g : List ℕ) (r : Left) (k : Taken table index s a head found g r) where
+    stacked-with : (high : ℕ) → top ≤ high → (more : List Binding) → Alike (onward (h .tasks) (h .binding)) more → Stacked table index s a high g frames depth hit rows order n more target
+    stacked-with high u more e = restacked table index s a top found frames depth hit rows order n (onward (h .tasks) (h .binding)) target (h .stacked) high u g (k .stays) frames refl (λ j m. refl) more e
+
+    pub no-match : r .fits ≡ false → Reached table index s a g frames rows order (record { n = n; full = false; depth = depth; hit = hit }) target
+    no-match e = reached table index s a g frames rows order n depth hit target (stacked-with entries few [] (k .none e top (h .tasks) (h .binding) (h .are) (h .stands)))
+
+    module _ (fit : r .fits ≡ true) where
+      left : LeftOf table index s a top (r .wait) (r .head) g (h .tasks) (h .binding)
+      left = k .some fit top (h .tasks) (h .binding) (h .are) (h .stands)
+
+      -- nothing is left
+      module _ (e : r .wait ≡ 0) where
+        all-done : Alike (onward (h .tasks) (h .binding)) (left .binding ∷ [])
+        all-done =
+            let none : left .waits ++ left .tasks ≡ [] =
+            ap (λ (ws : List Task). ws ++ left .tasks) (none-waits table index s a top (r .wait) (left .waits) (left .waits-are) (omega arith)) ∙ no-task table index s a top (r .head) (left .tasks) (left .are) (omega (arith, k .ends fit e)) in
+            subst (Alike (onward (h .tasks) (h .binding))) (ap (λ (vs : List Task). onward vs (left .binding)) none ∙ onward-end (left .binding) (stands-fine s g (left .binding) (left .stands))) (left .alike)
+
+        st : Stacked table index s a top g frames depth hit rows order n (left .binding ∷ []) target
+        st = stacked-with top (omega arith) (left .binding ∷ []) all-done
+
+        pub enter-asked : EntryHeld s g rows order n
+        enter-asked = record { binding = left .binding; stands = left .stands; bindings = h .stacked .bindings; are = h .stacked .rows-are }
+
+        pub match-told : (rows′ order′ : List ℕ) (q : Step) → MatchEntered s g depth rows order n rows′ order′ q → Reached table index s a g frames rows′ order′ q target
+        match-told rows′ order′ q m = record {
+          long = h .stacked .long;
+          full = λ x.
+              let (z, y) = m .full x in
+              (match-full table index s a top g frames depth hit rows order n (left .binding ∷ []) target st (left .binding) (λ c. (λ i. i, λ i. i)) (y (left .binding) (st .bindings) (left .stands) (st .rows-are)), z);
+          going = λ x.
+              let (d, t, y) = m .going x in
+              subst (λ (z : ℕ). Stacked table index s a entries g frames z (q .hit) rows′ order′ (q .n) [] target) (sym d)
+              (subst (λ (z : ℕ). Stacked table index s a entries g frames depth z rows′ order′ (q .n) [] target) (sym t)
+              (match-entered table index s a top g frames depth hit rows order n (left .binding ∷ []) target st (left .binding) (λ c. (λ i. i, λ i. i)) few rows′ order′ (q .n) (y (left .binding) (st .bindings) (left .stands) (st .rows-are))));
+        }
+
+      -- a pattern with parts is left
+      module _ (m : 0 < r .wait) where
+        pub open-asked : Waiting table index s a (r .wait) (r .head) top g frames depth hit rows order n target
+        open-asked =
+            let (t, e, p, c) = one-waits table index s a top (r .wait) (left .waits) (left .waits-are) m in
+            let same : left .waits ++ left .tasks ≡ task (codePattern table (getD a (3 * r .wait) 0)) (t .value) ∷ left .tasks =
+            ap (λ (ws : List Task). ws ++ left .tasks) e ∙ ap (λ (z : Pattern). task z (t .value) ∷ left .tasks) (p .pattern) in
+            let room : spaces (task (codePattern table (getD a (3 * r .wait) 0)) (t .value) ∷ left .tasks) ≤ spaces (h .tasks) = subst (λ (ws : List Task). spaces ws ≤ spaces (h .tasks)) same (left .room) in
+            record {
+              held = p .held;
+              composed = c;
+              below = p .below;
+              value = t .value;
+              here = p .here;
+              narrow = subst (λ (z : Pattern). wide z (t .value) ≡ false) (p .pattern) (p .narrow);
+              tasks = left .tasks;
+              are = left .are;
+              room = omega (arith, room, h .room);
+              low = h .low;
+              binding = left .binding;
+              stands = left .stands;
+              stacked = stacked-with top (omega arith) (onward (task (codePattern table (getD a (3 * r .wait) 0)) (t .value) ∷ left .tasks) (left .binding))
+                  (subst (λ (vs : List Task). Alike (onward (h .tasks) (h .binding)) (onward vs (left .binding))) same (left .alike));
+            }
+
+-- ---- what is left to be gone through
+
+pub none-less : (frames : List ℕ) (depth top head : ℕ) → rank frames depth < rank frames depth + 256 ^ heft top head
+none-less frames depth top head = not-opened-less frames depth (heft top head)
+
+pub match-less : (s found : List ℕ) (depth : ℕ) (rows order : List ℕ) (n : ℕ) (rows′ order′ : List ℕ) (q : Step) → MatchEntered s found depth rows order n rows′ order′ q → (frames : List ℕ) (top head : ℕ) → rank frames (q .depth) < rank frames depth + 256 ^ heft top head
+match-less s found depth rows order n rows′ order′ q m frames top head = go (q .full) refl
+  where
+    go : (t : Bool) → q .full ≡ t → rank frames (q .depth) < rank frames depth + 256 ^ heft top head
+    go true e = subst (λ (z : ℕ). rank frames z < rank frames depth + 256 ^ heft top head) (sym (m .full e .0)) (refused-less frames frames depth (heft top head))
+    go false e = subst (λ (z : ℕ). rank frames z < rank frames depth + 256 ^ heft top head) (sym (m .going e .0)) (not-opened-less frames depth (heft top head))
+
+pub open-less : (frames frames′ : List ℕ) (depth r top next head : ℕ) → next < head → rank frames′ r < rank frames depth + 256 ^ suc (heft top next) → rank frames′ r < rank frames depth + 256 ^ heft top head
+open-less frames frames′ depth r top next head l h = less-more (rank frames′ r) (rank frames depth) (suc (heft top next)) (heft top head) (omega arith) h

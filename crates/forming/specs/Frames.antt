@@ -1,0 +1,102 @@
+-- The frames of a stack in an array of bytes, and the names that have a value as bits.
+use mathlib.Core.Path.{_≡_}
+use mathlib.Core.Bool.{Bool, cond}
+use mathlib.Core.Logic.{_⊎_}
+use mathlib.Core.List.{List, [], _∷_}
+use Prim.Native.Nat.{ℕ, zero, suc, _+_, _-_, _*_, _^_, _≤_, _<_}
+use lib.Dec.{eqb}
+use lib.ListN.{length, getD, take, drop}
+use Rattle.matching.specs.Leaf.{Grown}
+use Rattle.forming.specs.declared.frames.Frame.{Frame}
+
+-- Nothing below a place changed.
+abbrev pub KeptBelow : List ℕ → List ℕ → ℕ → Type 0
+KeptBelow a b n = (j : ℕ) → j < n → getD b j 0 ≡ getD a j 0
+
+-- ---- frames
+
+-- A flag as a byte.
+abbrev pub bit : Bool → ℕ
+bit b = cond b 1 0
+
+-- Four bytes as a number.
+abbrev pub wordAt : List ℕ → ℕ → ℕ
+wordAt b i = getD b i 0 + 256 * getD b (i + 1) 0 + 65536 * getD b (i + 2) 0 + 16777216 * getD b (i + 3) 0
+
+-- A frame from its 21 bytes.
+abbrev pub frameOf : List ℕ → Frame
+frameOf b = record {
+  p = wordAt b 0;
+  rest = wordAt b 17;
+  at = getD b 4 0;
+  next = getD b 5 0;
+  top = getD b 6 0;
+  way = getD b 7 0;
+  ways = getD b 8 0;
+  mask = getD b 9 0 + 256 * getD b 10 0;
+  once = eqb (getD b 11 0) 1;
+  sizes = record {
+    bound = eqb (getD b 12 0) 1;
+    left = record { least = getD b 13 0; more = eqb (getD b 14 0) 1 };
+    right = record { least = getD b 15 0; more = eqb (getD b 16 0) 1 };
+  };
+}
+
+-- The bytes of frame i, and the frame.
+abbrev pub slotAt : List ℕ → ℕ → List ℕ
+slotAt a i = take 21 (drop (21 * i) a)
+
+abbrev pub frameAt : List ℕ → ℕ → Frame
+frameAt a i = frameOf (slotAt a i)
+
+pub record FrameFits (f : Frame) : Type 0 where
+  pub code-small : f .p < 4294967296
+  pub rest-small : f .rest < 4294967296
+  pub at-small : f .at < 256
+  pub next-small : f .next < 256
+  pub top-small : f .top < 256
+  pub way-small : f .way < 256
+  pub ways-small : f .ways < 256
+  pub mask-small : f .mask < 65536
+
+pub record SlotPut (a : List ℕ) (i : ℕ) (bytes b : List ℕ) : Type 0 where
+  pub here : slotAt b i ≡ bytes
+  pub kept : KeptBelow a b (21 * i)
+  pub long : length b ≡ length a
+
+pub record Stored (a : List ℕ) (i : ℕ) (f : Frame) (b : List ℕ) : Type 0 where
+  pub here : frameAt b i ≡ f
+  pub kept : KeptBelow a b (21 * i)
+  pub long : length b ≡ length a
+
+-- The last frame, i, was stored with a way that is left, or none is left; r frames are there.
+pub record Advanced (a : List ℕ) (i : ℕ) (f : Frame) (b : List ℕ) (r : ℕ) : Type 0 where
+  pub kept : KeptBelow a b (21 * i)
+  pub long : length b ≡ length a
+  pub how : ((r ≡ suc i) × (f .way < f .ways) × (frameAt b i ≡ f)) ⊎ ((r ≡ i) × (f .ways ≤ f .way))
+
+-- ---- how much is left: the ways of each frame, weighed by the rest of the agenda that they go on with
+
+abbrev pub heft : ℕ → ℕ → ℕ
+heft top next = 201 * (201 - top) + next
+
+abbrev pub burden : Frame → ℕ
+burden f = (f .ways - f .way) * 256 ^ heft (f .top) (f .next)
+
+unfoldable pub rank : List ℕ → ℕ → ℕ
+rank a zero = 0
+rank a (suc i) = rank a i + burden (frameAt a i)
+
+-- ---- names that have a value
+
+abbrev pub hasWord : ℕ → ℕ
+hasWord w = cond (eqb w 0) 0 1
+
+-- A bit for each, the first as the lowest.
+unfoldable pub maskOf : List ℕ → ℕ
+maskOf [] = 0
+maskOf (w ∷ ws) = 2 * maskOf ws + hasWord w
+
+-- The words are again what they were when the mask was made of them.
+abbrev pub Cleared : List ℕ → ℕ → List ℕ → Type 0
+Cleared before mask after = (ws : List ℕ) → mask ≡ maskOf ws → length ws ≡ 16 → Grown ws before → after ≡ ws

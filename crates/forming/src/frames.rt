@@ -1,0 +1,178 @@
+// A stack of frames in an array of bytes. A frame is a pattern with parts whose ways are gone through. While the last of its ways is gone
+// through it is on the stack no more: so those that are have two parts or more, which take two entries of the agenda, and 100 are enough.
+use crate::sizes::Size;
+use crate::sizes::Sizes;
+ghost use mathlib.Core.Path.{_≡_};
+ghost use Prim.Native.Nat.{_+_, _*_, _<_};
+ghost use lib.ListN.{length};
+ghost use Rattle.forming.specs.Frames.{bit, slotAt, frameOf, frameAt, FrameFits, SlotPut, Stored, Advanced};
+
+// The code of the pattern, and of the right half of a group; the entry of the agenda that has the part it meets, the entry that follows, and the first that is free; the way
+// that is next, and how many there are; the names that had a value; whether the pattern is only a test; and what its halves take.
+pub struct Frame {
+    pub p: usize,
+    pub rest: usize,
+    pub at: usize,
+    pub next: usize,
+    pub top: usize,
+    pub way: usize,
+    pub ways: usize,
+    pub mask: usize,
+    pub once: bool,
+    pub sizes: Sizes,
+}
+
+// The bytes of frame i.
+fn slot(frames: &[u8; 2100], i: usize) -> [u8; 21]
+    requires { ⌜ (i < 100) × (length (now frames) ≡ 2100) ⌝ }
+    ensures { λ r. ⌜ r ≡ slotAt (now (frames .entry)) i ⌝ }
+{
+    let mut bytes = [0u8; 21];
+    let mut j = 0;
+    while j < 21 {
+        let b = frames[21 * i + j];
+        bytes[j] = b;
+        j += 1;
+    }
+    bytes
+}
+
+// A byte as a number.
+fn wide(x: u8) -> usize
+    ensures { λ r. ⌜ (r ≡ x) × (r < 256) ⌝ }
+{
+    x as usize
+}
+
+// Four bytes as a number, the lowest first.
+fn word(a: u8, b: u8, c: u8, d: u8) -> usize
+    ensures { λ r. ⌜ r ≡ a + 256 * b + 65536 * c + 16777216 * d ⌝ }
+{
+    let low = wide(a) + 256 * wide(b);
+    let high = wide(c) + 256 * wide(d);
+    low + 65536 * high
+}
+
+// A frame from its bytes.
+fn unpack(b: [u8; 21]) -> Frame
+    ensures { λ r. ⌜ r ≡ frameOf b ⌝ }
+{
+    let left = Size {
+        least: b[13],
+        more: b[14] == 1,
+    };
+    let right = Size {
+        least: b[15],
+        more: b[16] == 1,
+    };
+    let sizes = Sizes {
+        bound: b[12] == 1,
+        left,
+        right,
+    };
+    let p = word(b[0], b[1], b[2], b[3]);
+    let rest = word(b[17], b[18], b[19], b[20]);
+    let low = wide(b[9]);
+    let high = wide(b[10]);
+    Frame {
+        p,
+        rest,
+        at: b[4] as usize,
+        next: b[5] as usize,
+        top: b[6] as usize,
+        way: b[7] as usize,
+        ways: b[8] as usize,
+        mask: low + 256 * high,
+        once: b[11] == 1,
+        sizes,
+    }
+}
+
+// Frame i.
+pub fn load(frames: &[u8; 2100], i: usize) -> Frame
+    requires { ⌜ (i < 100) × (length (now frames) ≡ 2100) ⌝ }
+    ensures { λ r. ⌜ r ≡ frameAt (now (frames .entry)) i ⌝ }
+{
+    let b = slot(frames, i);
+    unpack(b)
+}
+
+// A flag as a byte.
+fn flag(b: bool) -> u8
+    ensures { λ r. ⌜ r ≡ bit b ⌝ }
+{
+    if b {
+        return 1;
+    }
+    0
+}
+
+// The bytes of a frame.
+fn pack(f: Frame) -> [u8; 21]
+    requires { ⌜ FrameFits f ⌝ }
+    ensures { λ r. ⌜ (frameOf r ≡ f) × (length r ≡ 21) ⌝ }
+{
+    let z = f.sizes;
+    let once = flag(f.once);
+    let bound = flag(z.bound);
+    let left = flag(z.left.more);
+    let right = flag(z.right.more);
+    [
+        (f.p % 256) as u8,
+        (f.p / 256 % 256) as u8,
+        (f.p / 65536 % 256) as u8,
+        (f.p / 16777216 % 256) as u8,
+        f.at as u8,
+        f.next as u8,
+        f.top as u8,
+        f.way as u8,
+        f.ways as u8,
+        (f.mask % 256) as u8,
+        (f.mask / 256 % 256) as u8,
+        once,
+        bound,
+        z.left.least,
+        left,
+        z.right.least,
+        right,
+        (f.rest % 256) as u8,
+        (f.rest / 256 % 256) as u8,
+        (f.rest / 65536 % 256) as u8,
+        (f.rest / 16777216 % 256) as u8,
+    ]
+}
+
+// Writes the bytes of frame i.
+fn put_slot(frames: &mut [u8; 2100], i: usize, bytes: [u8; 21])
+    requires { ⌜ (i < 100) × (length (now frames) ≡ 2100) × (length bytes ≡ 21) ⌝ }
+    ensures { λ u. ⌜ SlotPut (now (frames .entry)) i bytes (now (frames .exit)) ⌝ }
+{
+    let mut j = 0;
+    while j < 21 {
+        let b = bytes[j];
+        frames[21 * i + j] = b;
+        j += 1;
+    }
+}
+
+// Writes frame i.
+pub fn store(frames: &mut [u8; 2100], i: usize, f: Frame)
+    requires { ⌜ (i < 100) × (length (now frames) ≡ 2100) × FrameFits f ⌝ }
+    ensures { λ u. ⌜ Stored (now (frames .entry)) i f (now (frames .exit)) ⌝ }
+{
+    let bytes = pack(f);
+    put_slot(frames, i, bytes);
+}
+
+// Writes frame i, the last, where a way is left; how many frames there are.
+pub fn advance(frames: &mut [u8; 2100], i: usize, f: Frame) -> usize
+    requires { ⌜ (i < 100) × (length (now frames) ≡ 2100) × FrameFits f ⌝ }
+    ensures { λ r. ⌜ Advanced (now (frames .entry)) i f (now (frames .exit)) r ⌝ }
+{
+    let way = f.way;
+    if way < f.ways {
+        store(frames, i, f);
+        return i + 1;
+    }
+    i
+}
