@@ -20,7 +20,7 @@ use Rattle.tables.specs.Laws.Tests.{in-append}
 use Rattle.tables.specs.Accepted.{records}
 use Rattle.tables.specs.Laws.Accepted.{Clear6, lower, operand-lower, operand-first, operand-parent}
 use Rattle.patterns.specs.Pattern.{Pattern, any}
-use Rattle.forming.specs.Pending.{inner, innerEach}
+use Rattle.forming.specs.Inner.{inner, innerEach}
 use Rattle.matching.specs.Node.{innerOf}
 use Rattle.matching.proofs.Records.{by-record, inner-length, kind-low, count-two, operand-readable}
 use Rattle.patterns.specs.Read.{Readable, patternsOf, patterns, patternOf, patternAt}

@@ -2,7 +2,7 @@
 use mathlib.Core.Path.{_≡_, refl, sym, ap, subst, _∙_}
 use mathlib.Core.Bool.{Bool, true, false}
 use mathlib.Core.List.{List, [], _∷_, _++_}
-use Prim.Native.Nat.{ℕ, _+_, _*_, _≤_, _<_}
+use Prim.Native.Nat.{ℕ, _+_, _*_, _%_, _≤_, _<_}
 use native.Mathlib.Omega.{arith}
 use lib.ListN.{length, getD}
 use Rattle.prelude.specs.Membership.{In}
@@ -13,34 +13,24 @@ use Rattle.tables.specs.Accepted.{records}
 use Rattle.parts.specs.Part.{PartIs, PartHeld}
 use Rattle.parts.specs.Word.{unpacked}
 use Rattle.patterns.specs.Members.{Alike}
-use Rattle.patterns.specs.Binding.{Cell, free, is, clash, Binding, names, cellOf, merge, withEach, together}
+use Rattle.patterns.specs.Binding.{Binding, names, merge, withEach, together}
 use Rattle.patterns.specs.Pattern.{Pattern, matches}
-use Rattle.patterns.specs.Relation.{Agree, Joined}
 use Rattle.patterns.specs.Laws.Matched.{in-together, together-in, joined-merge, merge-joined, matched, match-sized}
 use Rattle.patterns.specs.Laws.Together.{together-assoc}
 use Rattle.patterns.specs.Read.{Readable, patternAt}
+use Rattle.forming.specs.Groups.{CodeHeld, TellsParts}
+use Rattle.forming.proofs.Coding.{code-small, record-pattern}
 use Rattle.matching.specs.Leaf.{Stands, Standing, Went, Grown}
 use Rattle.matching.specs.Node.{LeafHeld}
 use Rattle.matching.proofs.Naming.{grown-same, grown-then}
 use Rattle.forming.specs.Onward.{Task, task, matchesAll, onward}
 use Rattle.forming.specs.Laws.Onward.{onward-went, onward-none, together-alike}
 use Rattle.forming.specs.Pending.{entries, Pending, AgendaIs, spaces, WaitsAre, LeftOf, TakeHeld, Taken}
+use Rattle.forming.proofs.Joining.{joined-swap}
 use Rattle.forming.proofs.Reducing.{with-alike}
 use Rattle.forming.proofs.Solving.{some-task, agenda-low}
 
 -- ---- in any order
-
-agree-swap : (a b c : Cell) → Agree a b c → Agree b a c
-agree-swap free free c h = h
-agree-swap free (is w) c h = h
-agree-swap free clash c h = absurd h
-agree-swap (is v) free c h = h
-agree-swap (is v) (is w) c h = (sym (h .0), h .1 ∙ ap is (h .0))
-agree-swap (is v) clash c h = absurd h
-agree-swap clash b c h = absurd h
-
-joined-swap : (a b c : Binding) → Joined a b c → Joined b a c
-joined-swap a b c h = record { sized = h .sized; agreed = λ x l. agree-swap (cellOf a x) (cellOf b x) (cellOf c x) (h .agreed x l) }
 
 abbrev AllSized : List Binding → Type 0
 AllSized xs = (b : Binding) → In b xs → length b ≡ names
@@ -107,7 +97,7 @@ none-waits table index s a top wait [] h l = refl
 none-waits table index s a top wait (t ∷ []) h l = absurd (omega (arith, h .0 .some))
 none-waits table index s a top wait (t ∷ u ∷ ws) h l = absurd h
 
-pub one-waits : (table index s a : List ℕ) (top wait : ℕ) (ws : List Task) → WaitsAre table index s a top wait ws → 0 < wait → (t : Task) × (ws ≡ t ∷ []) × Pending table index s a top wait t × (36 ≤ kindAt (records table) (getD a (3 * wait) 0))
+pub one-waits : (table index s a : List ℕ) (top wait : ℕ) (ws : List Task) → WaitsAre table index s a top wait ws → 0 < wait → (t : Task) × (ws ≡ t ∷ []) × Pending table index s a top wait t × (36 ≤ kindAt (records table) (getD a (3 * wait) 0 % 256))
 one-waits table index s a top wait [] h l = absurd (omega (arith, h))
 one-waits table index s a top wait (t ∷ []) h l = (t, refl, h .0, h .1)
 one-waits table index s a top wait (t ∷ u ∷ ws) h l = absurd h
@@ -150,22 +140,22 @@ module _ (table index s a : List ℕ) (head₀ : ℕ) (f : List ℕ) (h : TakeHe
       abbrev N : ℕ
       N = getD a (3 * head + 2) 0
 
-      pub entry-readable : Readable table index Q
-      entry-readable = let (t, us, e, p, k) = some-task table index s a (h .top) head (now .tasks) (now .are) l in p .readable
+      pub entry-held : CodeHeld table index Q
+      entry-held = let (t, us, e, p, k) = some-task table index s a (h .top) head (now .tasks) (now .are) l in p .held
 
-      pub entry-low : Q < 200
-      entry-low = omega (arith, entry-readable .here .within, entry-readable .fine .few)
+      pub entry-low : Q < 4294967296
+      entry-low = code-small table index Q entry-held
 
       pub next-lower : N < head
       next-lower = let (t, us, e, p, k) = some-task table index s a (h .top) head (now .tasks) (now .are) l in p .falls
 
-      pub leaf-asked : kindAt (records table) Q < 36 → LeafHeld table index Q × (PartHeld s (unpacked W) × Standing s g)
-      leaf-asked c =
+      pub leaf-asked : (r : Bool) → TellsParts table index Q r → r ≡ false → LeafHeld table index Q × (PartHeld s (unpacked W) × Standing s g)
+      leaf-asked r c f =
           let (t, us, e, p, k) = some-task table index s a (h .top) head (now .tasks) (now .are) l in
-          (record { readable = entry-readable; leaf = c }, (record { value = t .value; here = p .here }, (now .binding, now .stands)))
+          (record { readable = c .leaf f .0; leaf = c .leaf f .1 }, (record { value = t .value; here = p .here }, (now .binding, now .stands)))
 
       -- a pattern with parts waits
-      pub take-wait : 36 ≤ kindAt (records table) Q → wait ≤ 0 → TakeSoFar table index s a head₀ f N head g
+      pub take-wait : 36 ≤ kindAt (records table) (Q % 256) → wait ≤ 0 → TakeSoFar table index s a head₀ f N head g
       take-wait c o = record {
         falls = omega (arith, next-lower, w .falls);
         before = λ m. omega (arith, next-lower, w .falls);
@@ -186,7 +176,7 @@ module _ (table index s a : List ℕ) (head₀ : ℕ) (f : List ℕ) (h : TakeHe
             };
       }
 
-      module _ (g′ : List ℕ) (fits : Bool) (o : (v : Value) (b : Binding) → PartIs s (unpacked W) v → Stands s g b → Went s b (patternAt (records table) Q) v g′ fits) (gr : Grown g g′) where
+      module _ (re : Readable table index Q) (g′ : List ℕ) (fits : Bool) (o : (v : Value) (b : Binding) → PartIs s (unpacked W) v → Stands s g b → Went s b (patternAt (records table) Q) v g′ fits) (gr : Grown g g′) where
         -- a leaf that agrees
         pub take-leaf : fits ≡ true → TakeSoFar table index s a head₀ f N wait g′
         take-leaf fit = record {
@@ -197,7 +187,7 @@ module _ (table index s a : List ℕ) (head₀ : ℕ) (f : List ℕ) (h : TakeHe
               let r = w .right top ts b k z in
               let (t, us, e, p, m) = some-task table index s a top head (r .tasks) (r .are) l in
               let (q, al, st) = o (t .value) (r .binding) (p .here) (r .stands) .good fit in
-              let al′ : Alike (withEach (r .binding) (matches (t .what) (t .value))) (q ∷ []) = subst (λ (x : Pattern). Alike (withEach (r .binding) (matches x (t .value))) (q ∷ [])) (sym (p .pattern)) al in
+              let al′ : Alike (withEach (r .binding) (matches (t .what) (t .value))) (q ∷ []) = subst (λ (x : Pattern). Alike (withEach (r .binding) (matches x (t .value))) (q ∷ [])) (sym (p .pattern ∙ record-pattern table index Q re)) al in
               let on = went-behind (r .waits) us (t .what) (t .value) (r .binding) q (few-wait table index s a top wait (r .waits) (r .waits-are)) al′ in
               let al″ : Alike (onward ts b) (onward (r .waits ++ t ∷ us) (r .binding)) = subst (λ (vs : List Task). Alike (onward ts b) (onward (r .waits ++ vs) (r .binding))) e (r .alike) in
               let ro : spaces (r .waits ++ t ∷ us) ≤ spaces ts = subst (λ (vs : List Task). spaces (r .waits ++ vs) ≤ spaces ts) e (r .room) in
@@ -222,7 +212,7 @@ module _ (table index s a : List ℕ) (head₀ : ℕ) (f : List ℕ) (h : TakeHe
           none = λ x top ts b k z.
               let r = w .right top ts b k z in
               let (t, us, e, p, m) = some-task table index s a top head (r .tasks) (r .are) l in
-              let no : withEach (r .binding) (matches (t .what) (t .value)) ≡ [] = ap (λ (y : Pattern). withEach (r .binding) (matches y (t .value))) (p .pattern) ∙ o (t .value) (r .binding) (p .here) (r .stands) .bad fit in
+              let no : withEach (r .binding) (matches (t .what) (t .value)) ≡ [] = ap (λ (y : Pattern). withEach (r .binding) (matches y (t .value))) (p .pattern ∙ record-pattern table index Q re) ∙ o (t .value) (r .binding) (p .here) (r .stands) .bad fit in
               let nb = none-behind (r .waits) us (t .what) (t .value) (r .binding) (few-wait table index s a top wait (r .waits) (r .waits-are)) no in
               let al : Alike (onward ts b) (onward (r .waits ++ t ∷ us) (r .binding)) = subst (λ (vs : List Task). Alike (onward ts b) (onward (r .waits ++ vs) (r .binding))) e (r .alike) in
               λ c. (λ i. nb c .0 (al c .0 i), λ i. absurd i);

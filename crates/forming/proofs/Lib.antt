@@ -1,4 +1,4 @@
--- What the proofs of the functions need; nobody else cites it.
+-- What the proofs of the functions need. Coding is cited by bindings.
 mod Framing
 mod Ranking
 mod Rowing
@@ -7,6 +7,10 @@ mod Solving
 mod Settling
 mod Reducing
 mod Sizing
+mod Joining
+mod Grouping
+mod Surveying
+pub mod Coding
 mod Skipping
 mod Leaving
 mod Accounting

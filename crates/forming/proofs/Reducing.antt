@@ -27,7 +27,7 @@ use Rattle.patterns.specs.Laws.Nodes.{is-any}
 use Rattle.patterns.specs.Read.{Readable, patternOf, patternAt}
 use Rattle.matching.specs.Node.{innerOf}
 use Rattle.matching.proofs.Records.{by-record, count-two}
-use Rattle.forming.specs.Pending.{inner}
+use Rattle.forming.specs.Inner.{inner}
 use Rattle.forming.specs.Onward.{Task, task, matchesAll, onward}
 use Rattle.forming.specs.Laws.Onward.{together-alike}
 use Rattle.forming.specs.Reduced.{AcceptsAll, Beside, TakesMore, Splits, TellsAll, TellsMore, Reduced, TellsSpare}
@@ -36,20 +36,20 @@ use Rattle.prelude.proofs.Lists.{map-at}
 -- ---- halves of halves
 
 module _ {A : Type 0} where
-  shared-swap : (xs ls rs : List A) → Shared xs ls rs → Shared xs rs ls
+  pub shared-swap : (xs ls rs : List A) → Shared xs ls rs → Shared xs rs ls
   shared-swap [] ls rs h = (h .1, h .0)
   shared-swap (x ∷ xs) ls rs (inl (ms, e, h)) = inr (ms, e, shared-swap xs ms rs h)
   shared-swap (x ∷ xs) ls rs (inr (ms, e, h)) = inl (ms, e, shared-swap xs ls ms h)
 
-  shared-none : (xs : List A) → Shared xs [] xs
+  pub shared-none : (xs : List A) → Shared xs [] xs
   shared-none [] = (refl, refl)
   shared-none (x ∷ xs) = inr (xs, refl, shared-none xs)
 
   -- three shares, the first two of them put together
-  abbrev Regrouped : List A → List A → List A → List A → Type 0
+  abbrev pub Regrouped : List A → List A → List A → List A → Type 0
   Regrouped xs es ls qs = (ms : List A) × Shared xs ms qs × Shared ms es ls
 
-  shared-regroup : (xs es rs ls qs : List A) → Shared xs es rs → Shared rs ls qs → Regrouped xs es ls qs
+  pub shared-regroup : (xs es rs ls qs : List A) → Shared xs es rs → Shared rs ls qs → Regrouped xs es ls qs
   shared-regroup [] es rs ls qs h g = let f = subst (λ (z : List A). Shared z ls qs) (h .1) g in ([], (refl, f .1), (h .0, f .0))
   shared-regroup (x ∷ xs) es rs ls qs (inl (ns, e, h)) g = let (ms, a, b) = shared-regroup xs ns rs ls qs h g in (x ∷ ms, inl (ms, refl, a), inl (ns, e, b))
   shared-regroup (x ∷ xs) es rs ls qs (inr (ns, e, h)) g = go (subst (λ (z : List A). Shared z ls qs) e g) (λ us ws f. shared-regroup xs es ns us ws h f)
@@ -105,17 +105,17 @@ more-side i j p h vs es rs b d m = h vs es rs b (turned i j d) m
     turned (suc i) zero d = shared-swap vs es rs d
     turned (suc i) (suc j) d = d
 
-none-left : (b : Binding) → Fine b → Joined nothing b b
+pub none-left : (b : Binding) → Fine b → Joined nothing b b
 none-left b h =
     let e = nothing-merge b (h .sized) in
     subst (Joined nothing b) e (merge-joined nothing b nothing-sized (h .sized) (ap consistent e ∙ h .agrees))
 
-none-right : (b : Binding) → Fine b → Joined b nothing b
+pub none-right : (b : Binding) → Fine b → Joined b nothing b
 none-right b h =
     let e = merge-nothing b (h .sized) in
     subst (Joined b nothing) e (merge-joined b nothing (h .sized) nothing-sized (ap consistent e ∙ h .agrees))
 
-fine-of : (p : Pattern) (v : Value) (b : Binding) → Matches p v b → Fine b
+pub fine-of : (p : Pattern) (v : Value) (b : Binding) → Matches p v b → Fine b
 fine-of p v b m = record { sized = match-sized p v b m; agrees = match-consistent p v b (matching p v b m) }
 
 module _ (k : Kind) (l r : Pattern) where
@@ -182,12 +182,12 @@ halved-matched : (k : Kind) (x y : Pattern) (v : Value) (b : Binding) → Matche
 unfolding Matches
 halved-matched k x y v b (vs, ls, rs, c, d, e, s, m, n, j) = (vs, ls, rs, e, s)
 
-alike-of : (p q : Pattern) (v : Value) → ((b : Binding) → Matches p v b → Matches q v b) → ((b : Binding) → Matches q v b → Matches p v b) → Alike (matches p v) (matches q v)
+pub alike-of : (p q : Pattern) (v : Value) → ((b : Binding) → Matches p v b → Matches q v b) → ((b : Binding) → Matches q v b → Matches p v b) → Alike (matches p v) (matches q v)
 alike-of p q v f g b = (λ i. matching q v b (f b (matched p v b i)), λ i. matching p v b (g b (matched q v b i)))
 
 -- ---- number 29
 
-not-wide : (p q : Pattern) (v : Value) → (Wide q v → Wide p v) → wide p v ≡ false → wide q v ≡ false
+pub not-wide : (p q : Pattern) (v : Value) → (Wide q v → Wide p v) → wide p v ≡ false → wide q v ≡ false
 not-wide p q v f e = go (wide q v) refl
   where
     go : (t : Bool) → wide q v ≡ t → t ≡ false

@@ -52,7 +52,7 @@ sum-is l r x e o f = record {
 
 -- ---- what a pattern takes
 
-shared-length : {A : Type 0} (xs ls rs : List A) → Shared xs ls rs → length xs ≡ length ls + length rs
+pub shared-length : {A : Type 0} (xs ls rs : List A) → Shared xs ls rs → length xs ≡ length ls + length rs
 shared-length [] ls rs h = rw (h .0, h .1) refl
 shared-length (x ∷ xs) ls rs (inl (ms, e, h)) = let l = shared-length xs ms rs h in rw e (omega (arith, l))
 shared-length (x ∷ xs) ls rs (inr (ms, e, h)) = let l = shared-length xs ls ms h in rw e (omega (arith, l))
@@ -100,8 +100,9 @@ module _ (table index : List ℕ) (p : ℕ) (h : Readable table index p) (c : �
         subst (λ (q : Pattern). Takes (collectionOf c) q z) (sym (is-two table index p h c e u))
         (takes-halved (collectionOf c) (patternAt (records table) (operand (recordAt (records table) p) 0)) (patternAt (records table) (operand (recordAt (records table) p) 1)) x y z left-takes right-takes s)
 
-    pub sizes-told : (t : Bool) → TellsSizes table p c (record { bound = t; left = x; right = y })
-    sizes-told t b = record { splits = u; left = left-takes; right = right-takes }
+    pub sizes-told : (z : Sizes) → (z .left ≡ x) × (z .right ≡ y) → TellsSizes table p c z
+    sizes-told z (a, b) e =
+        record { splits = u; left = subst (TellsSize table (operand (recordAt (records table) p) 0) c) (sym a) left-takes; right = subst (TellsSize table (operand (recordAt (records table) p) 1) c) (sym b) right-takes }
 
 pub no-sizes : (table : List ℕ) (p c : ℕ) (x y : Size) → TellsSizes table p c (record { bound = false; left = x; right = y })
 no-sizes table p c x y e = true-false (sym e)

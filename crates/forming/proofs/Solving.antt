@@ -3,16 +3,15 @@ use mathlib.Core.Path.{_≡_, refl, sym, ap, subst, _∙_}
 use mathlib.Core.Bool.{Bool, true, false, cond}
 use mathlib.Core.Option.{Option, none as absent, some}
 use mathlib.Core.List.{List, [], _∷_, _++_, map}
-use Prim.Native.Nat.{ℕ, zero, suc, _+_, _-_, _*_, _≤_, _<_}
+use Prim.Native.Nat.{ℕ, zero, suc, _+_, _-_, _*_, _%_, _≤_, _<_}
 use native.Mathlib.Omega.{arith}
 use lib.Dec.{eqb}
 use lib.ListN.{length, getD}
 use borrow.Author.Tests.{eqb-true}
 use Rattle.prelude.specs.Membership.{In}
-use Rattle.prelude.proofs.Lists.{map-at}
 use Rattle.prelude.proofs.Membership.{in-at}
 use Rattle.values.specs.Value.{Kind, set, sequence, map as mapping, tuple, Value}
-use Rattle.tables.specs.Record.{Record, named}
+use Rattle.tables.specs.Record.{Record}
 use Rattle.tables.specs.Table.{recordAt, kindAt}
 use Rattle.tables.specs.Accepted.{records}
 use Rattle.parts.specs.declared.Part.{Part}
@@ -21,17 +20,20 @@ use Rattle.parts.specs.Word.{unpacked}
 use Rattle.patterns.specs.Ways.{gather, orders, atEveryPlace}
 use Rattle.patterns.specs.Binding.{Binding}
 use Rattle.patterns.specs.Pattern.{Pattern, any, contents, arrangements, met, split}
-use Rattle.patterns.specs.Read.{Readable, patternsOf, patternOf, patternAt}
+use Rattle.patterns.specs.Read.{patternsOf, patternOf}
+use Rattle.forming.specs.Groups.{codePattern, codeInner, CodeHeld}
+use Rattle.forming.proofs.Coding.{by-code, inner-count, code-readable, code-settled, inner-settled}
 use Rattle.patterns.specs.Nodes.{collectionOf, isHalved, bothHalves, meetings}
 use Rattle.matching.specs.declared.nodes.Meeting.{Meeting}
 use Rattle.matching.specs.Leaf.{Stands}
-use Rattle.matching.specs.Node.{Meets, innerOf, waysOf, metBy}
-use Rattle.matching.proofs.Records.{by-record, inner-length, kind-high, count-two, recast-meets}
+use Rattle.matching.specs.Node.{Meets, waysOf, metBy}
+use Rattle.matching.proofs.Records.{kind-high, count-two, recast-meets}
 use Rattle.forming.specs.Frames.{heft}
+use Rattle.forming.specs.Inner.{inner, innerEach}
 use Rattle.forming.specs.Onward.{Task, task, onward, zipped, oneWay}
 use Rattle.forming.specs.Laws.Onward.{onward-ways, one-way}
-use Rattle.forming.specs.Pending.{inner, innerEach, entries, Pending, AgendaIs, spaces}
-use Rattle.forming.specs.Settled.{Settled, TellsSettled}
+use Rattle.forming.specs.Pending.{entries, Pending, AgendaIs, spaces}
+use Rattle.forming.specs.Settled.{TellsSettled}
 use Rattle.forming.proofs.Pushing.{countOf, met-long}
 use Rattle.forming.proofs.Settling.{settled-less, several-more}
 
@@ -122,46 +124,45 @@ two-parts c n v two h = go (isHalved c) refl h
     go true e l = omega (arith, two e)
     go false e l = not-below n (λ k. absurd (omega (arith, few-met (collectionOf c) n (contents (collectionOf c) v) k)))
 
-module _ (table index : List ℕ) (p : ℕ) (r : Readable table index p) (o : 36 ≤ kindAt (records table) p) where
+module _ (table index : List ℕ) (p : ℕ) (r : CodeHeld table index p) (o : 36 ≤ kindAt (records table) (p % 256)) where
   abbrev P : Pattern
-  P = patternAt (records table) p
+  P = codePattern table p
 
-  two : isHalved (kindAt (records table) p) ≡ true → length (innerOf table p) ≡ 2
-  two e = inner-length table index p r ∙ count-two table index p r o e
+  two : isHalved (kindAt (records table) (p % 256)) ≡ true → length (codeInner table p) ≡ 2
+  two e = inner-count table index p r o ∙ count-two table index (p % 256) (code-readable table index p r) o e
 
-  pub whole : (v : Value) (ts : List Task) (b : Binding) → onward (task P v ∷ ts) b ≡ gather (waysOf table p v) (oneWay (innerOf table p) ts b)
+  pub whole : (v : Value) (ts : List Task) (b : Binding) → onward (task P v ∷ ts) b ≡ gather (waysOf table (p % 256) v) (oneWay (codeInner table p) ts b)
   whole v ts b =
-      ap (λ (q : Pattern). onward (task q v ∷ ts) b) (by-record table index p r)
-      ∙ onward-ways (recordAt (records table) p) (innerOf table p) o (kind-high table index p r) two v ts b
-      ∙ ap (λ (k : ℕ). gather (meetings (kindAt (records table) p) k v) (oneWay (innerOf table p) ts b)) (inner-length table index p r)
+      ap (λ (q : Pattern). onward (task q v ∷ ts) b) (by-code table index p r o)
+      ∙ onward-ways (recordAt (records table) (p % 256)) (codeInner table p) o (kind-high table index (p % 256) (code-readable table index p r)) two v ts b
+      ∙ ap (λ (k : ℕ). gather (meetings (kindAt (records table) (p % 256)) k v) (oneWay (codeInner table p) ts b)) (inner-count table index p r o)
 
-  placed-inside : inner P ≡ innerEach (patternsOf (innerOf table p))
-  placed-inside = ap inner (by-record table index p r) ∙ inner-composed (recordAt (records table) p) (innerOf table p) o (kind-high table index p r) two
+  placed-inside : inner P ≡ innerEach (patternsOf (codeInner table p))
+  placed-inside = ap inner (by-code table index p r o) ∙ inner-composed (recordAt (records table) (p % 256)) (codeInner table p) o (kind-high table index (p % 256) (code-readable table index p r)) two
 
-  pub several-parts : (v : Value) → 2 ≤ length (waysOf table p v) → 2 ≤ countOf table p
-  several-parts v l = two-parts (kindAt (records table) p) (countOf table p) v (count-two table index p r o) l
+  pub several-parts : (v : Value) → 2 ≤ length (waysOf table (p % 256) v) → 2 ≤ countOf table (p % 256)
+  several-parts v l = two-parts (kindAt (records table) (p % 256)) (countOf table (p % 256)) v (count-two table index (p % 256) (code-readable table index p r) o) l
 
   module _ (top : ℕ) (ts : List Task) (room : top + (inner P + spaces ts) ≤ entries) where
-    pub count-room : top + countOf table p ≤ entries
-    count-room = omega (arith, room, placed-inside, inner-least (innerOf table p), inner-length table index p r)
+    pub count-room : top + countOf table (p % 256) ≤ entries
+    count-room = omega (arith, room, placed-inside, inner-least (codeInner table p), inner-count table index p r o)
 
-    pub parts-room : (vs : List Value) → top + countOf table p + spaces (zipped (innerOf table p) vs ++ ts) ≤ entries
-    parts-room vs = omega (arith, room, placed-inside, spaces-zipped (innerOf table p) vs ts, inner-length table index p r)
+    pub parts-room : (vs : List Value) → top + countOf table (p % 256) + spaces (zipped (codeInner table p) vs ++ ts) ≤ entries
+    parts-room vs = omega (arith, room, placed-inside, spaces-zipped (codeInner table p) vs ts, inner-count table index p r o)
 
   -- what one way gives
-  pub same-way : (v : Value) (ts : List Task) (b : Binding) (d : ℕ) → d < length (waysOf table p v) → oneWay (innerOf table p) ts b (metBy table p v d) ≡ onward (zipped (innerOf table p) (metBy table p v d) ++ ts) b
-  same-way v ts b d l = one-way (innerOf table p) ts b (metBy table p v d) (met-long table index p r o v d l ∙ sym (inner-length table index p r))
+  pub same-way : (v : Value) (ts : List Task) (b : Binding) (d : ℕ) → d < length (waysOf table (p % 256) v) → oneWay (codeInner table p) ts b (metBy table (p % 256) v d) ≡ onward (zipped (codeInner table p) (metBy table (p % 256) v d) ++ ts) b
+  same-way v ts b d l = one-way (codeInner table p) ts b (metBy table (p % 256) v d) (met-long table index p r o v d l ∙ sym (inner-count table index p r o))
 
   -- of a pattern that is only a test one way with a match gives all that the others give
-  pub enough : (s words : List ℕ) (b : Binding) → Stands s words b → TellsSettled table p words true → (v : Value) (ts : List Task) (vs : List Value) → In vs (waysOf table p v) → (x : Binding) → In x (oneWay (innerOf table p) ts b vs)
-      → (c : Binding) → In c (gather (waysOf table p v) (oneWay (innerOf table p) ts b)) → In c (oneWay (innerOf table p) ts b vs)
+  pub enough : (s words : List ℕ) (b : Binding) → Stands s words b → TellsSettled table (p % 256) words true → (v : Value) (ts : List Task) (vs : List Value) → In vs (waysOf table (p % 256) v) → (x : Binding) → In x (oneWay (codeInner table p) ts b vs)
+      → (c : Binding) → In c (gather (waysOf table (p % 256) v) (oneWay (codeInner table p) ts b)) → In c (oneWay (codeInner table p) ts b vs)
   enough s words b st t v ts vs i x j c k =
-      let (d, l, e) = in-at vs (waysOf table p v) [] i in
-      let way : oneWay (innerOf table p) ts b vs ≡ onward (zipped (innerOf table p) vs ++ ts) b =
-      ap (oneWay (innerOf table p) ts b) e ∙ same-way v ts b d l ∙ ap (λ (us : List Value). onward (zipped (innerOf table p) us ++ ts) b) (sym e) in
-      let rest = settled-less s words b st P (t .says refl) v ts c (subst (In c) (sym (whole v ts b)) k) in
+      let (d, l, e) = in-at vs (waysOf table (p % 256) v) [] i in
+      let way : oneWay (codeInner table p) ts b vs ≡ onward (zipped (codeInner table p) vs ++ ts) b =
+      ap (oneWay (codeInner table p) ts b) e ∙ same-way v ts b d l ∙ ap (λ (us : List Value). onward (zipped (codeInner table p) us ++ ts) b) (sym e) in
+      let rest = settled-less s words b st P (code-settled table index p r words true t refl) v ts c (subst (In c) (sym (whole v ts b)) k) in
       subst (In c) (sym way)
-      (several-more s words b st (innerOf table p) vs ts
-      (λ n m. let q : n < countOf table p = omega (arith, inner-length table index p r) in
-      subst (λ (y : Pattern). Settled y words) (sym (map-at (patternAt (records table)) (named (recordAt (records table) p)) n 0 any q)) (t .each refl o n q))
+      (several-more s words b st (codeInner table p) vs ts
+      (λ n m. inner-settled table index p r o words true t refl n m)
       x (subst (In x) way j) c rest)

@@ -19,33 +19,39 @@ KeptBelow a b n = (j : ℕ) → j < n → getD b j 0 ≡ getD a j 0
 abbrev pub bit : Bool → ℕ
 bit b = cond b 1 0
 
--- A frame from its fourteen bytes.
+-- Four bytes as a number.
+abbrev pub wordAt : List ℕ → ℕ → ℕ
+wordAt b i = getD b i 0 + 256 * getD b (i + 1) 0 + 65536 * getD b (i + 2) 0 + 16777216 * getD b (i + 3) 0
+
+-- A frame from its 21 bytes.
 abbrev pub frameOf : List ℕ → Frame
 frameOf b = record {
-  p = getD b 0 0;
-  at = getD b 1 0;
-  next = getD b 2 0;
-  top = getD b 3 0;
-  way = getD b 4 0;
-  ways = getD b 5 0;
-  mask = getD b 6 0 + 256 * getD b 7 0;
-  once = eqb (getD b 8 0) 1;
+  p = wordAt b 0;
+  rest = wordAt b 17;
+  at = getD b 4 0;
+  next = getD b 5 0;
+  top = getD b 6 0;
+  way = getD b 7 0;
+  ways = getD b 8 0;
+  mask = getD b 9 0 + 256 * getD b 10 0;
+  once = eqb (getD b 11 0) 1;
   sizes = record {
-    bound = eqb (getD b 9 0) 1;
-    left = record { least = getD b 10 0; more = eqb (getD b 11 0) 1 };
-    right = record { least = getD b 12 0; more = eqb (getD b 13 0) 1 };
+    bound = eqb (getD b 12 0) 1;
+    left = record { least = getD b 13 0; more = eqb (getD b 14 0) 1 };
+    right = record { least = getD b 15 0; more = eqb (getD b 16 0) 1 };
   };
 }
 
 -- The bytes of frame i, and the frame.
 abbrev pub slotAt : List ℕ → ℕ → List ℕ
-slotAt a i = take 14 (drop (14 * i) a)
+slotAt a i = take 21 (drop (21 * i) a)
 
 abbrev pub frameAt : List ℕ → ℕ → Frame
 frameAt a i = frameOf (slotAt a i)
 
 pub record FrameFits (f : Frame) : Type 0 where
-  pub record-small : f .p < 256
+  pub code-small : f .p < 4294967296
+  pub rest-small : f .rest < 4294967296
   pub at-small : f .at < 256
   pub next-small : f .next < 256
   pub top-small : f .top < 256
@@ -55,17 +61,17 @@ pub record FrameFits (f : Frame) : Type 0 where
 
 pub record SlotPut (a : List ℕ) (i : ℕ) (bytes b : List ℕ) : Type 0 where
   pub here : slotAt b i ≡ bytes
-  pub kept : KeptBelow a b (14 * i)
+  pub kept : KeptBelow a b (21 * i)
   pub long : length b ≡ length a
 
 pub record Stored (a : List ℕ) (i : ℕ) (f : Frame) (b : List ℕ) : Type 0 where
   pub here : frameAt b i ≡ f
-  pub kept : KeptBelow a b (14 * i)
+  pub kept : KeptBelow a b (21 * i)
   pub long : length b ≡ length a
 
 -- The last frame, i, was stored with a way that is left, or none is left; r frames are there.
 pub record Advanced (a : List ℕ) (i : ℕ) (f : Frame) (b : List ℕ) (r : ℕ) : Type 0 where
-  pub kept : KeptBelow a b (14 * i)
+  pub kept : KeptBelow a b (21 * i)
   pub long : length b ≡ length a
   pub how : ((r ≡ suc i) × (f .way < f .ways) × (frameAt b i ≡ f)) ⊎ ((r ≡ i) × (f .ways ≤ f .way))
 

@@ -2,7 +2,7 @@
 use mathlib.Core.Path.{_≡_}
 use mathlib.Core.Bool.{true, false}
 use mathlib.Core.List.{List, [], _∷_, _++_}
-use Prim.Native.Nat.{ℕ, suc, _+_, _*_, _≤_, _<_}
+use Prim.Native.Nat.{ℕ, _+_, _*_, _%_, _≤_, _<_}
 use lib.ListN.{length, getD}
 use Rattle.values.specs.Value.{Value}
 use Rattle.tables.specs.Record.{named}
@@ -11,23 +11,24 @@ use Rattle.tables.specs.Accepted.{records}
 use Rattle.parts.specs.Part.{PartIs}
 use Rattle.patterns.specs.Binding.{Binding}
 use Rattle.patterns.specs.Members.{Alike}
-use Rattle.patterns.specs.Pattern.{Pattern, name, any, literal, each, halved, Patterns, nil, cons, wide}
-use Rattle.patterns.specs.Read.{patternAt, Readable}
+use Rattle.patterns.specs.Pattern.{wide}
 use Rattle.patterns.specs.Nodes.{meetings, isLarge}
 use Rattle.matching.specs.Leaf.{Stands, Grown}
-use Rattle.matching.specs.Node.{innerOf, metBy}
+use Rattle.matching.specs.Node.{metBy}
+use Rattle.forming.specs.Inner.{inner}
+use Rattle.forming.specs.Groups.{codePattern, codeInner, CodeHeld, RestIs}
 use Rattle.forming.specs.declared.taking.Left.{Left}
 use Rattle.forming.specs.Onward.{Task, onward, zipped}
 use Rattle.parts.specs.Word.{unpacked}
 use Rattle.forming.specs.Frames.{KeptBelow}
 
--- An entry of three numbers: the record of the pattern, the part that it meets, and the entry that follows, a lower one.
+-- An entry of three numbers: the code of the pattern, the part that it meets, and the entry that follows, a lower one.
 pub record Pending (table index s a : List ℕ) (top head : ℕ) (t : Task) : Type 0 where
   pub some : 0 < head
   pub below : head < top
   pub falls : getD a (3 * head + 2) 0 < head
-  pub readable : Readable table index (getD a (3 * head) 0)
-  pub pattern : t .what ≡ patternAt (records table) (getD a (3 * head) 0)
+  pub held : CodeHeld table index (getD a (3 * head) 0)
+  pub pattern : t .what ≡ codePattern table (getD a (3 * head) 0)
   pub here : PartIs s (unpacked (getD a (3 * head + 1) 0)) (t .value)
   pub narrow : wide (t .what) (t .value) ≡ false
 
@@ -36,19 +37,7 @@ abbrev pub AgendaIs : List ℕ → List ℕ → List ℕ → List ℕ → ℕ �
 AgendaIs table index s a top head [] = head ≡ 0
 AgendaIs table index s a top head (t ∷ ts) = Pending table index s a top head t × AgendaIs table index s a top (getD a (3 * head + 2) 0) ts
 
--- How many parts there are inside patterns: so many entries they may need.
-unfoldable mutual
-  pub inner : Pattern → ℕ
-  inner (name x) = 0
-  inner any = 0
-  inner (literal w) = 0
-  inner (each k ps) = innerEach ps
-  inner (halved k p q) = suc (suc (inner p + inner q))
-
-  pub innerEach : Patterns → ℕ
-  innerEach nil = 0
-  innerEach (cons p ps) = suc (inner p + innerEach ps)
-
+-- So many entries the tasks may need.
 abbrev pub spaces : List Task → ℕ
 spaces [] = 0
 spaces (t ∷ ts) = inner (t .what) + spaces ts
@@ -62,32 +51,33 @@ agendaWords = 603
 
 -- ---- the parts of a pattern put before the rest
 
-pub record Pushable (table index : List ℕ) (p : ℕ) (s : List ℕ) (word : ℕ) (d : ℕ) (a : List ℕ) (next top : ℕ) : Type 0 where
-  pub readable : Readable table index p
-  pub composed : 36 ≤ kindAt (records table) p
+pub record Pushable (table index : List ℕ) (c rest : ℕ) (s : List ℕ) (word : ℕ) (d : ℕ) (a : List ℕ) (next top : ℕ) : Type 0 where
+  pub held : CodeHeld table index c
+  pub composed : 36 ≤ kindAt (records table) (c % 256)
+  pub rest-is : RestIs table index c rest
   pub short : length s ≤ 65536
   pub value : Value
   pub here : PartIs s (unpacked word) value
-  pub narrow : isLarge (kindAt (records table) p) value ≡ false
-  pub below : d < length (meetings (kindAt (records table) p) (length (named (recordAt (records table) p))) value)
+  pub narrow : isLarge (kindAt (records table) (c % 256)) value ≡ false
+  pub below : d < length (meetings (kindAt (records table) (c % 256)) (length (named (recordAt (records table) (c % 256)))) value)
   pub low : next < top
-  pub room : top + length (named (recordAt (records table) p)) ≤ entries
+  pub room : top + length (named (recordAt (records table) (c % 256))) ≤ entries
   pub long : length a ≡ agendaWords
 
-pub record Pushed (table index : List ℕ) (p : ℕ) (s : List ℕ) (word : ℕ) (d : ℕ) (a : List ℕ) (next top : ℕ) (b : List ℕ) (r : ℕ) : Type 0 where
-  pub low : r < top + length (named (recordAt (records table) p))
-  pub none : length (named (recordAt (records table) p)) ≡ 0 → r ≡ next
+pub record Pushed (table index : List ℕ) (c : ℕ) (s : List ℕ) (word : ℕ) (d : ℕ) (a : List ℕ) (next top : ℕ) (b : List ℕ) (r : ℕ) : Type 0 where
+  pub low : r < top + length (named (recordAt (records table) (c % 256)))
+  pub none : length (named (recordAt (records table) (c % 256))) ≡ 0 → r ≡ next
   pub kept : KeptBelow a b (3 * top)
   pub long : length b ≡ length a
-  pub right : (v : Value) (ts : List Task) → PartIs s (unpacked word) v → wide (patternAt (records table) p) v ≡ false → AgendaIs table index s a top next ts
-      → AgendaIs table index s b (top + length (named (recordAt (records table) p))) r (zipped (innerOf table p) (metBy table p v d) ++ ts)
+  pub right : (v : Value) (ts : List Task) → PartIs s (unpacked word) v → wide (codePattern table c) v ≡ false → AgendaIs table index s a top next ts
+      → AgendaIs table index s b (top + length (named (recordAt (records table) (c % 256)))) r (zipped (codeInner table c) (metBy table (c % 256) v d) ++ ts)
 
 -- ---- leaves taken off an agenda
 
 -- An entry with parts that waits, or none.
 abbrev pub WaitsAre : List ℕ → List ℕ → List ℕ → List ℕ → ℕ → ℕ → List Task → Type 0
 WaitsAre table index s a top wait [] = wait ≡ 0
-WaitsAre table index s a top wait (t ∷ []) = Pending table index s a top wait t × (36 ≤ kindAt (records table) (getD a (3 * wait) 0))
+WaitsAre table index s a top wait (t ∷ []) = Pending table index s a top wait t × (36 ≤ kindAt (records table) (getD a (3 * wait) 0 % 256))
 WaitsAre table index s a top wait (t ∷ u ∷ ts) = ⊥
 
 -- What is left of the tasks ts, going on from b: the one that waits, and those from head on, with what is found now.

@@ -14,7 +14,7 @@ use Rattle.patterns.specs.Pattern.{Pattern, itemsOf, matches, wide}
 use Rattle.patterns.specs.Relation.{Divided, Matches}
 use Rattle.patterns.specs.Nodes.{collectionOf}
 use Rattle.patterns.specs.Read.{Readable, patternAt}
-use Rattle.forming.specs.Pending.{inner}
+use Rattle.forming.specs.Inner.{inner}
 
 -- The pattern matches every collection of the kind, and gives no name a value.
 pub record AcceptsAll (k : Kind) (p : Pattern) : Type 0 where

@@ -3,14 +3,15 @@
 use crate::sizes::Size;
 use crate::sizes::Sizes;
 ghost use mathlib.Core.Path.{_≡_};
-ghost use Prim.Native.Nat.{_<_};
+ghost use Prim.Native.Nat.{_+_, _*_, _<_};
 ghost use lib.ListN.{length};
 ghost use Rattle.forming.specs.Frames.{bit, slotAt, frameOf, frameAt, FrameFits, SlotPut, Stored, Advanced};
 
-// The record of the pattern; the entry of the agenda that has the part it meets, the entry that follows, and the first that is free; the way
+// The code of the pattern, and of the right half of a group; the entry of the agenda that has the part it meets, the entry that follows, and the first that is free; the way
 // that is next, and how many there are; the names that had a value; whether the pattern is only a test; and what its halves take.
 pub struct Frame {
     pub p: usize,
+    pub rest: usize,
     pub at: usize,
     pub next: usize,
     pub top: usize,
@@ -22,14 +23,14 @@ pub struct Frame {
 }
 
 // The bytes of frame i.
-fn slot(frames: &[u8; 1400], i: usize) -> [u8; 14]
-    requires { ⌜ (i < 100) × (length (now frames) ≡ 1400) ⌝ }
+fn slot(frames: &[u8; 2100], i: usize) -> [u8; 21]
+    requires { ⌜ (i < 100) × (length (now frames) ≡ 2100) ⌝ }
     ensures { λ r. ⌜ r ≡ slotAt (now (frames .entry)) i ⌝ }
 {
-    let mut bytes = [0u8; 14];
+    let mut bytes = [0u8; 21];
     let mut j = 0;
-    while j < 14 {
-        let b = frames[14 * i + j];
+    while j < 21 {
+        let b = frames[21 * i + j];
         bytes[j] = b;
         j += 1;
     }
@@ -43,41 +44,53 @@ fn wide(x: u8) -> usize
     x as usize
 }
 
+// Four bytes as a number, the lowest first.
+fn word(a: u8, b: u8, c: u8, d: u8) -> usize
+    ensures { λ r. ⌜ r ≡ a + 256 * b + 65536 * c + 16777216 * d ⌝ }
+{
+    let low = wide(a) + 256 * wide(b);
+    let high = wide(c) + 256 * wide(d);
+    low + 65536 * high
+}
+
 // A frame from its bytes.
-fn unpack(b: [u8; 14]) -> Frame
+fn unpack(b: [u8; 21]) -> Frame
     ensures { λ r. ⌜ r ≡ frameOf b ⌝ }
 {
     let left = Size {
-        least: b[10],
-        more: b[11] == 1,
+        least: b[13],
+        more: b[14] == 1,
     };
     let right = Size {
-        least: b[12],
-        more: b[13] == 1,
+        least: b[15],
+        more: b[16] == 1,
     };
     let sizes = Sizes {
-        bound: b[9] == 1,
+        bound: b[12] == 1,
         left,
         right,
     };
-    let low = wide(b[6]);
-    let high = wide(b[7]);
+    let p = word(b[0], b[1], b[2], b[3]);
+    let rest = word(b[17], b[18], b[19], b[20]);
+    let low = wide(b[9]);
+    let high = wide(b[10]);
     Frame {
-        p: b[0] as usize,
-        at: b[1] as usize,
-        next: b[2] as usize,
-        top: b[3] as usize,
-        way: b[4] as usize,
-        ways: b[5] as usize,
+        p,
+        rest,
+        at: b[4] as usize,
+        next: b[5] as usize,
+        top: b[6] as usize,
+        way: b[7] as usize,
+        ways: b[8] as usize,
         mask: low + 256 * high,
-        once: b[8] == 1,
+        once: b[11] == 1,
         sizes,
     }
 }
 
 // Frame i.
-pub fn load(frames: &[u8; 1400], i: usize) -> Frame
-    requires { ⌜ (i < 100) × (length (now frames) ≡ 1400) ⌝ }
+pub fn load(frames: &[u8; 2100], i: usize) -> Frame
+    requires { ⌜ (i < 100) × (length (now frames) ≡ 2100) ⌝ }
     ensures { λ r. ⌜ r ≡ frameAt (now (frames .entry)) i ⌝ }
 {
     let b = slot(frames, i);
@@ -95,9 +108,9 @@ fn flag(b: bool) -> u8
 }
 
 // The bytes of a frame.
-fn pack(f: Frame) -> [u8; 14]
+fn pack(f: Frame) -> [u8; 21]
     requires { ⌜ FrameFits f ⌝ }
-    ensures { λ r. ⌜ (frameOf r ≡ f) × (length r ≡ 14) ⌝ }
+    ensures { λ r. ⌜ (frameOf r ≡ f) × (length r ≡ 21) ⌝ }
 {
     let z = f.sizes;
     let once = flag(f.once);
@@ -105,7 +118,10 @@ fn pack(f: Frame) -> [u8; 14]
     let left = flag(z.left.more);
     let right = flag(z.right.more);
     [
-        f.p as u8,
+        (f.p % 256) as u8,
+        (f.p / 256 % 256) as u8,
+        (f.p / 65536 % 256) as u8,
+        (f.p / 16777216 % 256) as u8,
         f.at as u8,
         f.next as u8,
         f.top as u8,
@@ -119,25 +135,29 @@ fn pack(f: Frame) -> [u8; 14]
         left,
         z.right.least,
         right,
+        (f.rest % 256) as u8,
+        (f.rest / 256 % 256) as u8,
+        (f.rest / 65536 % 256) as u8,
+        (f.rest / 16777216 % 256) as u8,
     ]
 }
 
 // Writes the bytes of frame i.
-fn put_slot(frames: &mut [u8; 1400], i: usize, bytes: [u8; 14])
-    requires { ⌜ (i < 100) × (length (now frames) ≡ 1400) × (length bytes ≡ 14) ⌝ }
+fn put_slot(frames: &mut [u8; 2100], i: usize, bytes: [u8; 21])
+    requires { ⌜ (i < 100) × (length (now frames) ≡ 2100) × (length bytes ≡ 21) ⌝ }
     ensures { λ u. ⌜ SlotPut (now (frames .entry)) i bytes (now (frames .exit)) ⌝ }
 {
     let mut j = 0;
-    while j < 14 {
+    while j < 21 {
         let b = bytes[j];
-        frames[14 * i + j] = b;
+        frames[21 * i + j] = b;
         j += 1;
     }
 }
 
 // Writes frame i.
-pub fn store(frames: &mut [u8; 1400], i: usize, f: Frame)
-    requires { ⌜ (i < 100) × (length (now frames) ≡ 1400) × FrameFits f ⌝ }
+pub fn store(frames: &mut [u8; 2100], i: usize, f: Frame)
+    requires { ⌜ (i < 100) × (length (now frames) ≡ 2100) × FrameFits f ⌝ }
     ensures { λ u. ⌜ Stored (now (frames .entry)) i f (now (frames .exit)) ⌝ }
 {
     let bytes = pack(f);
@@ -145,8 +165,8 @@ pub fn store(frames: &mut [u8; 1400], i: usize, f: Frame)
 }
 
 // Writes frame i, the last, where a way is left; how many frames there are.
-pub fn advance(frames: &mut [u8; 1400], i: usize, f: Frame) -> usize
-    requires { ⌜ (i < 100) × (length (now frames) ≡ 1400) × FrameFits f ⌝ }
+pub fn advance(frames: &mut [u8; 2100], i: usize, f: Frame) -> usize
+    requires { ⌜ (i < 100) × (length (now frames) ≡ 2100) × FrameFits f ⌝ }
     ensures { λ r. ⌜ Advanced (now (frames .entry)) i f (now (frames .exit)) r ⌝ }
 {
     let way = f.way;

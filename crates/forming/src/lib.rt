@@ -1,6 +1,7 @@
 // The bindings of a pattern formed once: all ways are gone through with an agenda of what is still to be matched and a stack of the patterns
 // whose ways are not all gone through. Each match found is entered in order, once, into rows.
 mod frames;
+mod groups;
 mod masks;
 mod reduced;
 mod rows;
@@ -14,9 +15,7 @@ use matching::nodes::Meeting;
 use parts::words;
 use parts::words::Env;
 use tables::Index;
-use tables::kinds;
 use tables::reading::kind;
-use tables::reading::operand;
 use tables::reading::operand_count;
 ghost use Prim.Native.Nat.{_≤_};
 ghost use Rattle.forming.specs.Rows.{EntryHeld};
@@ -37,12 +36,13 @@ pub struct Step {
     pub hit: usize,
 }
 
-// Puts the parts of a pattern, each with what it meets in the way d, before the rest of the agenda. An entry is the record of a pattern, the
-// part that it meets, and the entry that follows.
+// Puts the parts of a pattern, each with what it meets in the way d, before the rest of the agenda. An entry is the code of a pattern, the part
+// that it meets, and the entry that follows.
 fn push(
     table: &[u8],
     index: &Index,
-    p: usize,
+    c: usize,
+    rest: usize,
     s: &[u8],
     word: u32,
     d: usize,
@@ -50,9 +50,10 @@ fn push(
     next: usize,
     top: usize,
 ) -> usize
-    requires { ⌜ Pushable (now table) (now index) p (now s) word d (now agenda) next top ⌝ }
-    ensures { λ r. ⌜ Pushed (now (table .entry)) (now (index .entry)) p (now (s .entry)) word d (now (agenda .entry)) next top (now (agenda .exit)) r ⌝ }
+    requires { ⌜ Pushable (now table) (now index) c rest (now s) word d (now agenda) next top ⌝ }
+    ensures { λ r. ⌜ Pushed (now (table .entry)) (now (index .entry)) c (now (s .entry)) word d (now (agenda .entry)) next top (now (agenda .exit)) r ⌝ }
 {
+    let p = c % 256;
     let k = kind(table, index, p);
     let n = operand_count(table, index, p);
     let part = words::unpack(word);
@@ -62,10 +63,10 @@ fn push(
     while 0 < i {
         i -= 1;
         let a = nodes::piece(k, n, s, part, d, i);
-        let q = operand(table, index, p, i);
-        let c = words::pack(s, a);
+        let q = groups::part_code(table, index, c, rest, i);
+        let b = words::pack(s, a);
         agenda[3 * to] = q as u32;
-        agenda[3 * to + 1] = c;
+        agenda[3 * to + 1] = b;
         agenda[3 * to + 2] = head as u32;
         head = to;
         to += 1;
@@ -83,7 +84,7 @@ fn open_frame(
     next: usize,
     top: usize,
     found: &[u32; Env::NAMES],
-    frames: &mut [u8; 1400],
+    frames: &mut [u8; 2100],
     depth: usize,
 ) -> usize
     requires { ⌜ OpenHeld (now table) (now index) (now s) (now agenda) at next top (now found) (now frames) depth ⌝ }
@@ -91,18 +92,22 @@ fn open_frame(
 {
     let whole = agenda[3 * at] as usize;
     let word = agenda[3 * at + 1];
-    let p = reduced::reduced(table, index, whole);
-    let k = kind(table, index, p);
-    let c = operand_count(table, index, p);
+    let p = groups::regrouped(table, index, whole);
+    let own = p % 256;
+    let k = kind(table, index, own);
+    let c = operand_count(table, index, own);
     let part = words::unpack(word);
     let m = nodes::meet(k, c, s, part);
     if let Meeting::Ways(ways) = m {
-        let sizes = sizes::sizes_of(table, index, p, k);
+        let opened = groups::open_code(table, index, p, k);
+        let rest = opened.rest;
+        let sizes = opened.sizes;
         let way = sizes::way_from(k, ways, 0, sizes);
-        let once = settled::is_settled(table, index, p, found);
+        let once = settled::is_settled(table, index, own, found);
         let mask = masks::mask_of(found);
         let f = Frame {
             p,
+            rest,
             at,
             next,
             top,
@@ -126,7 +131,7 @@ fn down(
     head: usize,
     top: usize,
     found: &mut [u32; Env::NAMES],
-    frames: &mut [u8; 1400],
+    frames: &mut [u8; 2100],
     depth: usize,
     hit: usize,
     rows: &mut [u32; 4080],
@@ -215,7 +220,7 @@ fn back(
     s: &[u8],
     agenda: &mut [u32; 603],
     found: &mut [u32; Env::NAMES],
-    frames: &mut [u8; 1400],
+    frames: &mut [u8; 2100],
     depth: usize,
     hit: usize,
     rows: &mut [u32; 4080],
@@ -239,14 +244,26 @@ fn back(
     }
     let p = f.p;
     let at = f.at;
-    let k = kind(table, index, p);
-    let c = operand_count(table, index, p);
+    let own = p % 256;
+    let k = kind(table, index, own);
+    let c = operand_count(table, index, own);
     let word = agenda[3 * at + 1];
     let mut g = f;
     g.way = sizes::way_from(k, f.ways, f.way + 1, f.sizes);
     let left = frames::advance(frames, i, g);
     masks::clear(found, f.mask);
-    let head = push(table, index, p, s, word, f.way, agenda, f.next, f.top);
+    let head = push(
+        table,
+        index,
+        p,
+        f.rest,
+        s,
+        word,
+        f.way,
+        agenda,
+        f.next,
+        f.top,
+    );
     down(
         table,
         index,
@@ -271,7 +288,7 @@ fn finish(
     s: &[u8],
     agenda: &mut [u32; 603],
     found: &mut [u32; Env::NAMES],
-    frames: &mut [u8; 1400],
+    frames: &mut [u8; 2100],
     first: Step,
     rows: &mut [u32; 4080],
     order: &mut [u8; 255],
@@ -317,7 +334,7 @@ pub fn solve(
     requires { ⌜ Solvable (now table) (now index) (now s) (now agenda) head top (now found) (now rows) (now order) n ⌝ }
     ensures { λ r. ⌜ Solved (now (table .entry)) (now (index .entry)) (now (s .entry)) (now (agenda .entry)) head top (now (found .entry)) (now (rows .entry)) (now (order .entry)) n (now (agenda .exit)) (now (rows .exit)) (now (order .exit)) r ⌝ }
 {
-    let mut frames = [0u8; 1400];
+    let mut frames = [0u8; 2100];
     let first = down(
         table,
         index,

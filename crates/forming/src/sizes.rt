@@ -31,7 +31,7 @@ pub struct Sizes {
 }
 
 // Two sizes together.
-fn sum(l: Size, r: Size) -> Size
+pub fn sum(l: Size, r: Size) -> Size
     ensures { λ z. ⌜ Sum l r z ⌝ }
 {
     let a = l.least as usize;
@@ -48,7 +48,7 @@ fn sum(l: Size, r: Size) -> Size
 }
 
 // What a pattern takes that meets a half, where k is the kind of the whole.
-fn size_of(table: &[u8], index: &Index, p: usize, k: usize) -> Size
+pub fn size_of(table: &[u8], index: &Index, p: usize, k: usize) -> Size
     requires { ⌜ Readable (now table) (now index) p × Splits k ⌝ }
     ensures { λ z. ⌜ TellsSize (now (table .entry)) p k z ⌝ }
 {
@@ -102,6 +102,13 @@ pub fn sizes_of(table: &[u8], index: &Index, p: usize, k: usize) -> Sizes
     let left = size_of(table, index, l, k);
     let r = operand(table, index, p, 1);
     let right = size_of(table, index, r, k);
+    pair(left, right)
+}
+
+// What two halves take.
+pub fn pair(left: Size, right: Size) -> Sizes
+    ensures { λ z. ⌜ (z .left ≡ left) × (z .right ≡ right) ⌝ }
+{
     let free = is_any(left);
     let bound = if free { !is_any(right) } else { true };
     Sizes { bound, left, right }

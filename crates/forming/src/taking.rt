@@ -1,9 +1,8 @@
 // Leaves taken off an agenda: names, any and literals are matched before a pattern with parts that stands before them.
+use crate::groups;
 use matching::leaves;
 use parts::words::Env;
 use tables::Index;
-use tables::kinds;
-use tables::reading::kind;
 ghost use Rattle.forming.specs.Pending.{TakeHeld, Taken};
 
 // The entry with parts that waits, 0 where there is none; the entry to go on from; and whether all leaves up to there agree.
@@ -30,8 +29,8 @@ pub fn take_leaves(
     while 0 < head {
         let p = agenda[3 * head] as usize;
         let next = agenda[3 * head + 2] as usize;
-        let k = kind(table, index, p);
-        if kinds::TUPLE_PATTERN <= k {
+        let composed = groups::has_parts(table, index, p);
+        if composed {
             if 0 < wait {
                 return Left {
                     wait,

@@ -4,105 +4,106 @@ use Rattle.forming.proofs.Stacking.{depth-few, met-as, no-ways, ways-fe
 use Rattle.forming.proofs.Solving.{part-of}
 use Rattle.forming.proofs.Ranking.{opened-less, not-opened-less}
 use Rattle.matching.proofs.Records.{count-few}
+use Rattle.forming.proofs.Coding.{code-readable, code-small}
 use borrow.Author.Needs.{needs}
 use Rattle.forming.proofs.open_frame.Statement.{statement}
 use Rattle.forming.proofs.open_frame.Tie as tie
 use Rattle.forming.proofs.open_frame.Reads as reads
 use Rattle.forming.proofs.open_frame.Lts as lts
 use Rattle.forming.proofs.frames.advance.Reads as advance-reads
+use Rattle.forming.proofs.groups.open_code.Reads as open-code-reads
+use Rattle.forming.proofs.groups.regrouped.Reads as regrouped-reads
 use Rattle.forming.proofs.masks.mask_of.Reads as mask-of-reads
-use Rattle.forming.proofs.reduced.reduced.Reads as reduced-reads
 use Rattle.forming.proofs.settled.is_settled.Reads as is-settled-reads
-use Rattle.forming.proofs.sizes.sizes_of.Reads as sizes-of-reads
 use Rattle.forming.proofs.sizes.way_from.Reads as way-from-reads
 use Rattle.matching.proofs.nodes.meet.Reads as meet-reads
 use Rattle.parts.proofs.words.unpack.Reads as unpack-reads
 use Rattle.tables.proofs.reading.kind.Reads as kind-reads
 use Rattle.tables.proofs.reading.operand_count.Reads as operand-count-reads
 
--- src/lib.rt:92:24
+-- src/lib.rt:93:24
 mul-whole : tie.Need-mul-whole
 mul-whole c = search needs
 
--- src/lib.rt:92:17
+-- src/lib.rt:93:17
 mul-whole-2 : tie.Need-mul-whole-2
 mul-whole-2 c = search needs
 
--- src/lib.rt:92:17
+-- src/lib.rt:93:17
 element-copy-out-whole : tie.Need-element-copy-out-whole
 element-copy-out-whole c = search needs
 
--- src/lib.rt:92:17
+-- src/lib.rt:93:17
 cast-whole : tie.Need-cast-whole
-cast-whole c = search needs
+cast-whole c = omega (arith, code-small _ _ _ (c .before .before .before .pre .waiting .held))
 
--- src/lib.rt:93:23
+-- src/lib.rt:94:23
 mul-word : tie.Need-mul-word
 mul-word c = search needs
 
--- src/lib.rt:93:23
+-- src/lib.rt:94:23
 add-word : tie.Need-add-word
 add-word c = search needs
 
--- src/lib.rt:93:16
+-- src/lib.rt:94:16
 mul-word-2 : tie.Need-mul-word-2
 mul-word-2 c = search needs
 
--- src/lib.rt:93:16
+-- src/lib.rt:94:16
 element-copy-out-word : tie.Need-element-copy-out-word
 element-copy-out-word c = search needs
 
--- src/lib.rt:94:9
-reduced-requires : tie.Need-reduced-requires
-reduced-requires c κs = search needs
-
 -- src/lib.rt:95:9
-kind-requires : tie.Need-kind-requires
-kind-requires c κs = search needs
-
--- src/lib.rt:96:9
-operand-count-requires : tie.Need-operand-count-requires
-operand-count-requires c κs = search needs
+regrouped-requires : tie.Need-regrouped-requires
+regrouped-requires c κs = search needs
 
 -- src/lib.rt:97:9
+kind-requires : tie.Need-kind-requires
+kind-requires c κs = code-readable _ _ _ (c .regrouped .ensures .held) .here
+
+-- src/lib.rt:98:9
+operand-count-requires : tie.Need-operand-count-requires
+operand-count-requires c κs = code-readable _ _ _ (c .before .regrouped .ensures .held) .here
+
+-- src/lib.rt:99:9
 unpack-requires : tie.Need-unpack-requires
 unpack-requires c κs = search needs
 
--- src/lib.rt:98:9
+-- src/lib.rt:100:9
 meet-requires : tie.Need-meet-requires
-meet-requires c κs = (omega (arith, c .before .before .kind .ensures .0, c .before .before .before .reduced .ensures .composed), omega (arith, c .before .before .kind .ensures .1), omega (arith, c .before .operand-count .ensures .0, count-few _ _ _ (c .before .before .before .reduced .ensures .readable) (c .before .before .before .reduced .ensures .composed)), part-of _ _ _ (c .before .before .before .before .before .before .before .before .pre .waiting .value) (c .unpack .ensures) (c .before .before .before .before .before .before .before .before .pre .waiting .here))
+meet-requires c κs = (omega (arith, c .before .before .kind .ensures .0, c .before .before .before .regrouped .ensures .composed), omega (arith, c .before .before .kind .ensures .1), omega (arith, c .before .operand-count .ensures .0, count-few _ _ _ (code-readable _ _ _ (c .before .before .before .regrouped .ensures .held)) (c .before .before .before .regrouped .ensures .composed)), part-of _ _ _ (c .before .before .before .before .before .before .before .before .pre .waiting .value) (c .unpack .ensures) (c .before .before .before .before .before .before .before .before .pre .waiting .here))
 
--- src/lib.rt:99:26
+-- src/lib.rt:101:26
 enum-known-m : tie.Need-enum-known-m
 enum-known-m c = search needs
 
--- src/lib.rt:100:13
-sizes-of-requires : tie.Need-sizes-of-requires
-sizes-of-requires c κs = search needs
-
--- src/lib.rt:101:13
-way-from-requires : tie.Need-way-from-requires
-way-from-requires c κs = first-asked _ _ _ _ _ _ _ _ _ _ _ _ _ _ _ (c .before .before .before .before .before .before .before .before .before .before .before .before .before .pre .waiting) _ (c .before .before .before .before .before .before .before .before .reduced .ensures) (c .before .before .before .before .meet .result) (met-as _ _ _ _ _ _ _ _ _ _ _ _ _ _ _ (c .before .before .before .before .before .before .before .before .before .before .before .before .before .pre .waiting) _ (c .before .before .before .before .before .before .before .before .reduced .ensures) _ _ _ (c .before .before .before .before .meet .result) (c .before .before .before .before .before .before .before .kind .ensures .0) (c .before .before .before .before .before .before .operand-count .ensures .0) (c .before .before .before .before .before .unpack .ensures) (c .before .before .before .before .meet .ensures)) _ (c .before .before .m .given .1) _ (c .before .before .before .before .before .before .before .kind .ensures .0) _ (c .sizes-of .ensures)
-
 -- src/lib.rt:102:13
+open-code-requires : tie.Need-open-code-requires
+open-code-requires c κs = search needs
+
+-- src/lib.rt:105:13
+way-from-requires : tie.Need-way-from-requires
+way-from-requires c κs = first-asked _ _ _ _ _ _ _ _ _ _ _ _ _ _ _ (c .before .before .before .before .before .before .before .before .before .before .before .before .before .before .pre .waiting) _ (c .before .before .before .before .before .before .before .before .before .regrouped .ensures) (c .before .before .before .before .before .meet .result) (met-as _ _ _ _ _ _ _ _ _ _ _ _ _ _ _ (c .before .before .before .before .before .before .before .before .before .before .before .before .before .before .pre .waiting) _ (c .before .before .before .before .before .before .before .before .before .regrouped .ensures) _ _ _ (c .before .before .before .before .before .meet .result) (c .before .before .before .before .before .before .before .before .kind .ensures .0) (c .before .before .before .before .before .before .before .operand-count .ensures .0) (c .before .before .before .before .before .before .unpack .ensures) (c .before .before .before .before .before .meet .ensures)) _ (c .before .before .before .m .given .1) _ (c .before .before .before .before .before .before .before .before .kind .ensures .0) _ (c .before .open-code .ensures .sizes-are)
+
+-- src/lib.rt:106:13
 is-settled-requires : tie.Need-is-settled-requires
-is-settled-requires c κs = search needs
+is-settled-requires c κs = code-readable _ _ _ (c .before .before .before .before .before .before .before .before .before .before .regrouped .ensures .held)
 
--- src/lib.rt:103:13
+-- src/lib.rt:107:13
 mask-of-requires : tie.Need-mask-of-requires
-mask-of-requires c κs = c .before .before .before .before .before .before .before .before .before .before .before .before .before .before .before .pre .waiting .stacked .sized
+mask-of-requires c κs = c .before .before .before .before .before .before .before .before .before .before .before .before .before .before .before .before .pre .waiting .stacked .sized
 
--- src/lib.rt:115:9
+-- src/lib.rt:120:9
 advance-requires : tie.Need-advance-requires
-advance-requires c κs = (depth-few _ _ _ _ _ _ _ _ _ _ _ _ _ _ _ (c .before .before .before .before .before .before .before .before .before .before .before .before .before .before .before .before .before .pre .waiting), c .before .before .before .before .before .before .before .before .before .before .before .before .before .before .before .before .before .pre .waiting .stacked .frames-long, frame-fits _ _ _ _ _ _ _ _ _ _ _ _ _ _ _ (c .before .before .before .before .before .before .before .before .before .before .before .before .before .before .before .before .before .pre .waiting) _ (c .before .before .before .before .before .before .before .before .before .before .before .before .reduced .ensures) (c .before .before .before .before .before .before .before .before .meet .result) (met-as _ _ _ _ _ _ _ _ _ _ _ _ _ _ _ (c .before .before .before .before .before .before .before .before .before .before .before .before .before .before .before .before .before .pre .waiting) _ (c .before .before .before .before .before .before .before .before .before .before .before .before .reduced .ensures) _ _ _ (c .before .before .before .before .before .before .before .before .meet .result) (c .before .before .before .before .before .before .before .before .before .before .before .kind .ensures .0) (c .before .before .before .before .before .before .before .before .before .before .operand-count .ensures .0) (c .before .before .before .before .before .before .before .before .before .unpack .ensures) (c .before .before .before .before .before .before .before .before .meet .ensures)) _ (c .before .before .before .before .before .before .m .given .1) _ (c .before .before .before .before .before .before .before .before .before .before .before .kind .ensures .0) _ (c .before .before .before .before .sizes-of .ensures) _ (c .before .before .before .way-from .ensures) _ (c .before .before .is-settled .ensures) _ (c .before .mask-of .ensures))
+advance-requires c κs = (depth-few _ _ _ _ _ _ _ _ _ _ _ _ _ _ _ (c .before .before .before .before .before .before .before .before .before .before .before .before .before .before .before .before .before .before .pre .waiting), c .before .before .before .before .before .before .before .before .before .before .before .before .before .before .before .before .before .before .pre .waiting .stacked .frames-long, frame-fits _ _ _ _ _ _ _ _ _ _ _ _ _ _ _ (c .before .before .before .before .before .before .before .before .before .before .before .before .before .before .before .before .before .before .pre .waiting) _ (c .before .before .before .before .before .before .before .before .before .before .before .before .before .regrouped .ensures) (c .before .before .before .before .before .before .before .before .before .meet .result) (met-as _ _ _ _ _ _ _ _ _ _ _ _ _ _ _ (c .before .before .before .before .before .before .before .before .before .before .before .before .before .before .before .before .before .before .pre .waiting) _ (c .before .before .before .before .before .before .before .before .before .before .before .before .before .regrouped .ensures) _ _ _ (c .before .before .before .before .before .before .before .before .before .meet .result) (c .before .before .before .before .before .before .before .before .before .before .before .before .kind .ensures .0) (c .before .before .before .before .before .before .before .before .before .before .before .operand-count .ensures .0) (c .before .before .before .before .before .before .before .before .before .before .unpack .ensures) (c .before .before .before .before .before .before .before .before .before .meet .ensures)) _ (c .before .before .before .before .before .before .before .m .given .1) _ (c .before .before .before .before .before .before .before .before .before .before .before .before .kind .ensures .0) _ (c .before .before .before .before .before .open-code .ensures .sizes-are) _ (c .before .before .before .before .before .open-code .ensures .rest-is) (c .before .before .before .before .before .open-code .ensures .rest-low) _ (c .before .before .before .way-from .ensures) _ (c .before .before .is-settled .ensures) _ (c .before .mask-of .ensures))
 
--- src/lib.rt:115:9
+-- src/lib.rt:120:9
 returns : tie.Need-returns
-returns c = record { right = λ hit rows order n target w. frame-opened _ _ _ _ _ _ _ _ _ _ _ _ _ _ _ w _ (c .before .before .before .before .before .before .before .before .before .before .before .before .before .reduced .ensures) (c .before .before .before .before .before .before .before .before .before .meet .result) (met-as _ _ _ _ _ _ _ _ _ _ _ _ _ _ _ w _ (c .before .before .before .before .before .before .before .before .before .before .before .before .before .reduced .ensures) _ _ _ (c .before .before .before .before .before .before .before .before .before .meet .result) (c .before .before .before .before .before .before .before .before .before .before .before .before .kind .ensures .0) (c .before .before .before .before .before .before .before .before .before .before .before .operand-count .ensures .0) (c .before .before .before .before .before .before .before .before .before .before .unpack .ensures) (c .before .before .before .before .before .before .before .before .before .meet .ensures)) _ (c .before .before .before .before .before .before .before .m .given .1) _ (c .before .before .before .before .before .before .before .before .before .before .before .before .kind .ensures .0) _ (c .before .before .before .before .before .sizes-of .ensures) _ (c .before .before .before .before .way-from .ensures) _ (c .before .before .before .is-settled .ensures) _ (c .before .before .mask-of .ensures) _ _ (c .advance .ensures); less = opened-less _ _ (depth-few _ _ _ _ _ _ _ _ _ _ _ _ _ _ _ (c .before .before .before .before .before .before .before .before .before .before .before .before .before .before .before .before .before .before .pre .waiting)) (c .before .before .before .before .before .before .before .before .before .before .before .before .before .before .before .before .before .before .pre .waiting .stacked .frames-long) _ _ _ (c .advance .ensures) (ways-few _ _ _ _ _ _ _ _ _ _ _ _ _ _ _ (c .before .before .before .before .before .before .before .before .before .before .before .before .before .before .before .before .before .before .pre .waiting) _ (c .before .before .before .before .before .before .before .before .before .before .before .before .before .reduced .ensures) (c .before .before .before .before .before .before .before .before .before .meet .result) (met-as _ _ _ _ _ _ _ _ _ _ _ _ _ _ _ (c .before .before .before .before .before .before .before .before .before .before .before .before .before .before .before .before .before .before .pre .waiting) _ (c .before .before .before .before .before .before .before .before .before .before .before .before .before .reduced .ensures) _ _ _ (c .before .before .before .before .before .before .before .before .before .meet .result) (c .before .before .before .before .before .before .before .before .before .before .before .before .kind .ensures .0) (c .before .before .before .before .before .before .before .before .before .before .before .operand-count .ensures .0) (c .before .before .before .before .before .before .before .before .before .before .unpack .ensures) (c .before .before .before .before .before .before .before .before .before .meet .ensures)) _ (c .before .before .before .before .before .before .before .m .given .1) _ (c .before .before .before .before .before .before .before .before .before .before .before .before .kind .ensures .0) _ (c .before .before .before .before .before .sizes-of .ensures)) }
+returns c = record { right = λ hit rows order n target w. frame-opened _ _ _ _ _ _ _ _ _ _ _ _ _ _ _ w _ (c .before .before .before .before .before .before .before .before .before .before .before .before .before .before .regrouped .ensures) (c .before .before .before .before .before .before .before .before .before .before .meet .result) (met-as _ _ _ _ _ _ _ _ _ _ _ _ _ _ _ w _ (c .before .before .before .before .before .before .before .before .before .before .before .before .before .before .regrouped .ensures) _ _ _ (c .before .before .before .before .before .before .before .before .before .before .meet .result) (c .before .before .before .before .before .before .before .before .before .before .before .before .before .kind .ensures .0) (c .before .before .before .before .before .before .before .before .before .before .before .before .operand-count .ensures .0) (c .before .before .before .before .before .before .before .before .before .before .before .unpack .ensures) (c .before .before .before .before .before .before .before .before .before .before .meet .ensures)) _ (c .before .before .before .before .before .before .before .before .m .given .1) _ (c .before .before .before .before .before .before .before .before .before .before .before .before .before .kind .ensures .0) _ (c .before .before .before .before .before .before .open-code .ensures .sizes-are) _ (c .before .before .before .before .before .before .open-code .ensures .rest-is) (c .before .before .before .before .before .before .open-code .ensures .rest-low) _ (c .before .before .before .before .way-from .ensures) _ (c .before .before .before .is-settled .ensures) _ (c .before .before .mask-of .ensures) _ _ (c .advance .ensures); less = opened-less _ _ (depth-few _ _ _ _ _ _ _ _ _ _ _ _ _ _ _ (c .before .before .before .before .before .before .before .before .before .before .before .before .before .before .before .before .before .before .before .pre .waiting)) (c .before .before .before .before .before .before .before .before .before .before .before .before .before .before .before .before .before .before .before .pre .waiting .stacked .frames-long) _ _ _ (c .advance .ensures) (ways-few _ _ _ _ _ _ _ _ _ _ _ _ _ _ _ (c .before .before .before .before .before .before .before .before .before .before .before .before .before .before .before .before .before .before .before .pre .waiting) _ (c .before .before .before .before .before .before .before .before .before .before .before .before .before .before .regrouped .ensures) (c .before .before .before .before .before .before .before .before .before .before .meet .result) (met-as _ _ _ _ _ _ _ _ _ _ _ _ _ _ _ (c .before .before .before .before .before .before .before .before .before .before .before .before .before .before .before .before .before .before .before .pre .waiting) _ (c .before .before .before .before .before .before .before .before .before .before .before .before .before .before .regrouped .ensures) _ _ _ (c .before .before .before .before .before .before .before .before .before .before .meet .result) (c .before .before .before .before .before .before .before .before .before .before .before .before .before .kind .ensures .0) (c .before .before .before .before .before .before .before .before .before .before .before .before .operand-count .ensures .0) (c .before .before .before .before .before .before .before .before .before .before .before .unpack .ensures) (c .before .before .before .before .before .before .before .before .before .before .meet .ensures)) _ (c .before .before .before .before .before .before .before .before .m .given .1) _ (c .before .before .before .before .before .before .before .before .before .before .before .before .before .kind .ensures .0) _ (c .before .before .before .before .before .before .open-code .ensures .sizes-are)) }
 
--- src/lib.rt:77:1
+-- src/lib.rt:78:1
 returns-2 : tie.Need-returns-2
-returns-2 c = record { right = λ hit rows order n target w. no-ways _ _ _ _ _ _ _ _ _ _ _ _ _ _ _ w _ (c .before .before .before .before .before .reduced .ensures) (c .before .meet .result) (met-as _ _ _ _ _ _ _ _ _ _ _ _ _ _ _ w _ (c .before .before .before .before .before .reduced .ensures) _ _ _ (c .before .meet .result) (c .before .before .before .before .kind .ensures .0) (c .before .before .before .operand-count .ensures .0) (c .before .before .unpack .ensures) (c .before .meet .ensures)) (λ k d. ⊎-elim (λ x. let e = rw d at x in omega arith) (λ x. let e = rw d at x in omega arith) (c .match .keys2)); less = not-opened-less _ _ _ }
+returns-2 c = record { right = λ hit rows order n target w. no-ways _ _ _ _ _ _ _ _ _ _ _ _ _ _ _ w _ (c .before .before .before .before .before .regrouped .ensures) (c .before .meet .result) (met-as _ _ _ _ _ _ _ _ _ _ _ _ _ _ _ w _ (c .before .before .before .before .before .regrouped .ensures) _ _ _ (c .before .meet .result) (c .before .before .before .before .kind .ensures .0) (c .before .before .before .operand-count .ensures .0) (c .before .before .unpack .ensures) (c .before .meet .ensures)) (λ k d. ⊎-elim (λ x. let e = rw d at x in omega arith) (λ x. let e = rw d at x in omega arith) (c .match .keys2)); less = not-opened-less _ _ _ }
 
 pub open-frame-spec : {M : Type 1} → statement M
 open-frame-spec =
@@ -116,13 +117,13 @@ open-frame-spec =
     add-word
     mul-word-2
     element-copy-out-word
-    reduced-requires
+    regrouped-requires
     kind-requires
     operand-count-requires
     unpack-requires
     meet-requires
     enum-known-m
-    sizes-of-requires
+    open-code-requires
     way-from-requires
     is-settled-requires
     mask-of-requires

@@ -1,123 +1,123 @@
-use Rattle.forming.proofs.Pushing.{PushSoFar, push-start, piece-asked, piece-held, push-more, push-end}
-use Rattle.matching.proofs.Records.{has-operand}
-use native.Mathlib.Omega.{arith}
+use Rattle.forming.proofs.Coding.{code-readable, code-small}
 use borrow.Author.Needs.{needs}
+use native.Mathlib.Omega.{arith}
+use Rattle.forming.proofs.Pushing.{PushSoFar, push-start, part-asked, piece-asked, piece-held, push-more, push-end}
 use Rattle.forming.proofs.push.Statement.{statement}
 use Rattle.forming.proofs.push.Tie as tie
 use Rattle.forming.proofs.push.Reads as reads
 use Rattle.forming.proofs.push.Lts as lts
+use Rattle.forming.proofs.groups.part_code.Reads as part-code-reads
 use Rattle.matching.proofs.nodes.piece.Reads as piece-reads
 use Rattle.parts.proofs.words.pack.Reads as pack-reads
 use Rattle.parts.proofs.words.unpack.Reads as unpack-reads
 use Rattle.tables.proofs.reading.kind.Reads as kind-reads
-use Rattle.tables.proofs.reading.operand.Reads as operand-reads
 use Rattle.tables.proofs.reading.operand_count.Reads as operand-count-reads
 
 abbrev Inv-loop : tie.InvT-loop
-Inv-loop table index p s word d agenda₀ next top k n part head₀ i₀ to₀ agenda head i to = PushSoFar table index p s word d agenda₀ next top agenda head i to
+Inv-loop table index c rest s word d agenda₀ next top p k n part head₀ i₀ to₀ agenda head i to = PushSoFar table index c s word d agenda₀ next top agenda head i to
 
 abbrev μ-loop : tie.MeasureT-loop
-μ-loop table index p s word d agenda₀ next top k n part head₀ i₀ to₀ agenda head i to = i
+μ-loop table index c rest s word d agenda₀ next top p k n part head₀ i₀ to₀ agenda head i to = i
 
--- src/lib.rt:37:9
+-- src/lib.rt:49:9
 kind-requires : tie.Need-kind-requires Inv-loop μ-loop
-kind-requires c κs = c .before .before .pre .readable .here
+kind-requires c κs = code-readable _ _ _ (c .before .before .pre .held) .here
 
--- src/lib.rt:38:9
+-- src/lib.rt:50:9
 operand-count-requires : tie.Need-operand-count-requires Inv-loop μ-loop
-operand-count-requires c κs = c .before .before .before .pre .readable .here
+operand-count-requires c κs = code-readable _ _ _ (c .before .before .before .pre .held) .here
 
--- src/lib.rt:39:9
+-- src/lib.rt:51:9
 unpack-requires : tie.Need-unpack-requires Inv-loop μ-loop
 unpack-requires c κs = search needs
 
--- src/lib.rt:43:5
+-- src/lib.rt:55:5
 loop-holds : tie.Need-loop-holds Inv-loop μ-loop
-loop-holds c = push-start _ _ _ _ _ _ _ _ _ (c .before .before .before .before .before .pre) _ (c .before .operand-count .ensures .0)
+loop-holds c = push-start _ _ _ _ _ _ _ _ _ _ (c .before .before .before .before .before .pre) _ (c .before .operand-count .ensures .0)
 
--- src/lib.rt:44:9
+-- src/lib.rt:56:9
 sub-i : tie.Need-sub-i Inv-loop μ-loop
 sub-i c = omega arith
 
--- src/lib.rt:45:13
+-- src/lib.rt:57:13
 piece-requires : tie.Need-piece-requires Inv-loop μ-loop
-piece-requires c κs = piece-asked _ _ _ _ _ _ _ _ _ (c .before .before .before .before .before .before .before .pre) _ _ _ _ (c .before .before .unpack .ensures) (omega (arith, c .before .loop .inv .within)) (c .before .before .before .before .kind .ensures .0) (c .before .before .before .operand-count .ensures .0)
+piece-requires c κs = piece-asked _ _ _ _ _ _ _ _ _ _ (c .before .before .before .before .before .before .before .pre) _ _ _ _ (c .before .before .unpack .ensures) (omega (arith, c .before .loop .inv .within)) (c .before .before .before .before .kind .ensures .0) (c .before .before .before .operand-count .ensures .0)
 
--- src/lib.rt:46:13
-operand-requires : tie.Need-operand-requires Inv-loop μ-loop
-operand-requires c κs = has-operand _ _ _ (c .before .before .before .before .before .before .before .before .pre .readable) _ (omega (arith, c .before .before .loop .inv .within))
+-- src/lib.rt:58:13
+part-code-requires : tie.Need-part-code-requires Inv-loop μ-loop
+part-code-requires c κs = part-asked _ _ _ _ _ _ _ _ _ _ (c .before .before .before .before .before .before .before .before .pre) _ (omega (arith, c .before .before .loop .inv .within))
 
--- src/lib.rt:47:13
+-- src/lib.rt:59:13
 pack-requires : tie.Need-pack-requires Inv-loop μ-loop
-pack-requires c κs = (c .before .before .before .before .before .before .before .before .before .pre .short, piece-held _ _ _ _ _ _ _ _ _ (c .before .before .before .before .before .before .before .before .before .pre) _ _ _ (omega (arith, c .before .before .before .loop .inv .within)) (c .before .before .before .before .before .before .kind .ensures .0) (c .before .before .before .before .before .operand-count .ensures .0) _ (c .before .before .before .before .unpack .ensures) _ (c .before .piece .ensures))
+pack-requires c κs = (c .before .before .before .before .before .before .before .before .before .pre .short, piece-held _ _ _ _ _ _ _ _ _ _ (c .before .before .before .before .before .before .before .before .before .pre) _ _ _ (omega (arith, c .before .before .before .loop .inv .within)) (c .before .before .before .before .before .before .kind .ensures .0) (c .before .before .before .before .before .operand-count .ensures .0) _ (c .before .before .before .before .unpack .ensures) _ (c .before .piece .ensures))
 
--- src/lib.rt:48:26
+-- src/lib.rt:60:26
 cast-agenda : tie.Need-cast-agenda Inv-loop μ-loop
-cast-agenda c = omega (arith, c .before .operand .ensures .1)
+cast-agenda c = omega (arith, code-small _ _ _ (c .before .part-code .ensures .held))
 
--- src/lib.rt:48:16
+-- src/lib.rt:60:16
 mul-agenda : tie.Need-mul-agenda Inv-loop μ-loop
 mul-agenda c = omega (arith, c .before .before .before .before .before .before .before .before .before .before .pre .room, c .before .before .before .before .loop .inv .ends, c .before .before .before .before .loop .inv .within)
 
--- src/lib.rt:48:9
+-- src/lib.rt:60:9
 mul-agenda-2 : tie.Need-mul-agenda-2 Inv-loop μ-loop
 mul-agenda-2 c = omega (arith, c .before .before .before .before .before .before .before .before .before .before .pre .room, c .before .before .before .before .loop .inv .ends, c .before .before .before .before .loop .inv .within)
 
--- src/lib.rt:48:9
+-- src/lib.rt:60:9
 element-write-agenda : tie.Need-element-write-agenda Inv-loop μ-loop
 element-write-agenda c = omega (arith, c .before .before .before .before .before .before .before .before .before .before .pre .room, c .before .before .before .before .loop .inv .ends, c .before .before .before .before .loop .inv .within)
 
--- src/lib.rt:49:16
+-- src/lib.rt:61:16
 mul-agenda-3 : tie.Need-mul-agenda-3 Inv-loop μ-loop
 mul-agenda-3 c = omega (arith, c .before .before .before .before .before .before .before .before .before .before .pre .room, c .before .before .before .before .loop .inv .ends, c .before .before .before .before .loop .inv .within)
 
--- src/lib.rt:49:16
+-- src/lib.rt:61:16
 add-agenda : tie.Need-add-agenda Inv-loop μ-loop
 add-agenda c = omega (arith, c .before .before .before .before .before .before .before .before .before .before .pre .room, c .before .before .before .before .loop .inv .ends, c .before .before .before .before .loop .inv .within)
 
--- src/lib.rt:49:9
+-- src/lib.rt:61:9
 mul-agenda-4 : tie.Need-mul-agenda-4 Inv-loop μ-loop
 mul-agenda-4 c = omega (arith, c .before .before .before .before .before .before .before .before .before .before .pre .room, c .before .before .before .before .loop .inv .ends, c .before .before .before .before .loop .inv .within)
 
--- src/lib.rt:49:9
+-- src/lib.rt:61:9
 element-write-agenda-2 : tie.Need-element-write-agenda-2 Inv-loop μ-loop
 element-write-agenda-2 c = omega (arith, c .before .before .before .before .before .before .before .before .before .before .pre .room, c .before .before .before .before .loop .inv .ends, c .before .before .before .before .loop .inv .within)
 
--- src/lib.rt:50:30
+-- src/lib.rt:62:30
 cast-agenda-2 : tie.Need-cast-agenda-2 Inv-loop μ-loop
 cast-agenda-2 c = omega (arith, c .before .before .before .before .before .before .before .before .before .before .pre .room, c .before .before .before .before .loop .inv .ends, c .before .before .before .before .loop .inv .within, c .before .before .before .before .loop .inv .low)
 
--- src/lib.rt:50:16
+-- src/lib.rt:62:16
 mul-agenda-5 : tie.Need-mul-agenda-5 Inv-loop μ-loop
 mul-agenda-5 c = omega (arith, c .before .before .before .before .before .before .before .before .before .before .pre .room, c .before .before .before .before .loop .inv .ends, c .before .before .before .before .loop .inv .within)
 
--- src/lib.rt:50:16
+-- src/lib.rt:62:16
 add-agenda-2 : tie.Need-add-agenda-2 Inv-loop μ-loop
 add-agenda-2 c = omega (arith, c .before .before .before .before .before .before .before .before .before .before .pre .room, c .before .before .before .before .loop .inv .ends, c .before .before .before .before .loop .inv .within)
 
--- src/lib.rt:50:9
+-- src/lib.rt:62:9
 mul-agenda-6 : tie.Need-mul-agenda-6 Inv-loop μ-loop
 mul-agenda-6 c = omega (arith, c .before .before .before .before .before .before .before .before .before .before .pre .room, c .before .before .before .before .loop .inv .ends, c .before .before .before .before .loop .inv .within)
 
--- src/lib.rt:50:9
+-- src/lib.rt:62:9
 element-write-agenda-3 : tie.Need-element-write-agenda-3 Inv-loop μ-loop
 element-write-agenda-3 c = omega (arith, c .before .before .before .before .before .before .before .before .before .before .pre .room, c .before .before .before .before .loop .inv .ends, c .before .before .before .before .loop .inv .within)
 
--- src/lib.rt:52:9
+-- src/lib.rt:64:9
 add-to : tie.Need-add-to Inv-loop μ-loop
 add-to c = omega (arith, c .before .before .before .before .before .before .before .before .before .before .pre .room, c .before .before .before .before .loop .inv .ends, c .before .before .before .before .loop .inv .within)
 
--- src/lib.rt:43:5
+-- src/lib.rt:55:5
 loop-less : tie.Need-loop-less Inv-loop μ-loop
 loop-less c = omega arith
 
--- src/lib.rt:43:5
+-- src/lib.rt:55:5
 loop-again : tie.Need-loop-again Inv-loop μ-loop
-loop-again c = push-more _ _ _ _ _ _ _ _ _ (c .before .before .before .before .before .before .before .before .before .before .pre) _ _ _ (omega (arith, c .before .before .before .before .loop .inv .within)) (c .before .before .before .before .before .before .before .kind .ensures .0) (c .before .before .before .before .before .before .operand-count .ensures .0) _ (c .before .before .before .before .before .unpack .ensures) _ (c .before .before .piece .ensures) _ (c .before .operand .ensures .0) _ (c .pack .ensures) _ _ _ _ (omega arith) (c .before .before .before .before .loop .inv)
+loop-again c = push-more _ _ _ _ _ _ _ _ _ _ (c .before .before .before .before .before .before .before .before .before .before .pre) _ _ _ (omega (arith, c .before .before .before .before .loop .inv .within)) (c .before .before .before .before .before .before .before .kind .ensures .0) (c .before .before .before .before .before .before .operand-count .ensures .0) _ (c .before .before .before .before .before .unpack .ensures) _ (c .before .before .piece .ensures) _ (c .before .part-code .ensures) _ (c .pack .ensures) _ _ _ _ (omega arith) (c .before .before .before .before .loop .inv)
 
--- src/lib.rt:23:1
+-- src/lib.rt:33:1
 returns : tie.Need-returns Inv-loop μ-loop
-returns c = push-end _ _ _ _ _ _ _ _ _ (c .before .before .before .before .before .before .before .pre) _ _ _ _ (omega arith) (c .before .loop .inv)
+returns c = push-end _ _ _ _ _ _ _ _ _ _ (c .before .before .before .before .before .before .before .pre) _ _ _ _ (omega arith) (c .before .loop .inv)
 
 pub push-spec : {M : Type 1} → statement M
 push-spec =
@@ -131,7 +131,7 @@ push-spec =
     loop-holds
     sub-i
     piece-requires
-    operand-requires
+    part-code-requires
     pack-requires
     cast-agenda
     mul-agenda

@@ -9,7 +9,7 @@ use Rattle.forming.proofs.sizes.sizes_of.Tie as tie
 use Rattle.forming.proofs.sizes.sizes_of.Reads as reads
 use Rattle.forming.proofs.sizes.sizes_of.Lts as lts
 use Rattle.forming.proofs.reduced.splits.Reads as splits-reads
-use Rattle.forming.proofs.sizes.is_any.Reads as is-any-reads
+use Rattle.forming.proofs.sizes.pair.Reads as pair-reads
 use Rattle.forming.proofs.sizes.size_of.Reads as size-of-reads
 use Rattle.tables.proofs.reading.operand.Reads as operand-reads
 
@@ -37,21 +37,13 @@ operand-requires-2 c κs = has-operand _ _ _ (c .before .before .before .before 
 size-of-requires-2 : tie.Need-size-of-requires-2
 size-of-requires-2 c κs = (operand-readable _ _ _ (c .before .before .before .before .before .before .pre .readable) 1 (omega (arith, two-halves _ _ _ (c .before .before .before .before .before .before .pre .readable) (c .before .before .before .before .before .before .args .k) (c .before .before .before .before .before .before .pre .of-kind) (c .before .before .before .before .splits .ensures (not-false _ (c .before .before .before .if1 .left))))) (omega (arith, c .before .before .before .before .before .before .pre .of-kind, splits-low (c .before .before .before .before .before .before .args .k) (c .before .before .before .before .splits .ensures (not-false _ (c .before .before .before .if1 .left))))) _ (c .operand2 .ensures .0) .0, c .before .before .before .before .splits .ensures (not-false _ (c .before .before .before .if1 .left)))
 
--- src/sizes.rt:105:9
-is-any-requires : tie.Need-is-any-requires
-is-any-requires c κs = search needs
-
--- src/sizes.rt:106:28
-is-any-requires-2 : tie.Need-is-any-requires-2
-is-any-requires-2 c κs = search needs
+-- src/sizes.rt:105:5
+pair-requires : tie.Need-pair-requires
+pair-requires c κs = search needs
 
 -- src/sizes.rt:85:1
 returns-2 : tie.Need-returns-2
-returns-2 c = sizes-told _ _ _ (c .before .before .before .before .before .before .before .before .before .before .pre .readable) (c .before .before .before .before .before .before .before .before .before .before .args .k) (c .before .before .before .before .before .before .before .before .splits .ensures (not-false _ (c .before .before .before .before .before .before .before .if1 .left))) (c .before .before .before .before .before .before .before .before .before .before .pre .of-kind) _ (c .before .before .before .before .before .before .operand .ensures .0) _ (c .before .before .before .before .operand2 .ensures .0) _ _ (c .before .before .before .before .before .size-of .ensures) (c .before .before .before .size-of2 .ensures) _
-
--- src/sizes.rt:85:1
-returns-3 : tie.Need-returns-3
-returns-3 c = sizes-told _ _ _ (c .before .before .before .before .before .before .before .before .before .pre .readable) (c .before .before .before .before .before .before .before .before .before .args .k) (c .before .before .before .before .before .before .before .splits .ensures (not-false _ (c .before .before .before .before .before .before .if1 .left))) (c .before .before .before .before .before .before .before .before .before .pre .of-kind) _ (c .before .before .before .before .before .operand .ensures .0) _ (c .before .before .before .operand2 .ensures .0) _ _ (c .before .before .before .before .size-of .ensures) (c .before .before .size-of2 .ensures) _
+returns-2 c = sizes-told _ _ _ (c .before .before .before .before .before .before .before .before .pre .readable) (c .before .before .before .before .before .before .before .before .args .k) (c .before .before .before .before .before .before .splits .ensures (not-false _ (c .before .before .before .before .before .if1 .left))) (c .before .before .before .before .before .before .before .before .pre .of-kind) _ (c .before .before .before .before .operand .ensures .0) _ (c .before .before .operand2 .ensures .0) _ _ (c .before .before .before .size-of .ensures) (c .before .size-of2 .ensures) _ (c .pair .ensures)
 
 pub sizes-of-spec : {M : Type 1} → statement M
 sizes-of-spec =
@@ -63,7 +55,5 @@ sizes-of-spec =
     size-of-requires
     operand-requires-2
     size-of-requires-2
-    is-any-requires
-    is-any-requires-2
-    returns-2
-    returns-3)
+    pair-requires
+    returns-2)

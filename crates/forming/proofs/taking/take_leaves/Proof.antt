@@ -1,12 +1,12 @@
 use native.Mathlib.Omega.{arith}
 use borrow.Author.Tests.{not-true, not-false}
-use Rattle.forming.proofs.Leaving.{TakeSoFar, take-start, head-low, entry-low, entry-readable, next-lower, leaf-asked, take-wait, take-leaf, take-none, take-full, take-end}
+use Rattle.forming.proofs.Leaving.{TakeSoFar, take-start, head-low, entry-low, entry-held, next-lower, leaf-asked, take-wait, take-leaf, take-none, take-full, take-end}
 use Rattle.forming.proofs.taking.take_leaves.Statement.{statement}
 use Rattle.forming.proofs.taking.take_leaves.Tie as tie
 use Rattle.forming.proofs.taking.take_leaves.Reads as reads
 use Rattle.forming.proofs.taking.take_leaves.Lts as lts
+use Rattle.forming.proofs.groups.has_parts.Reads as has-parts-reads
 use Rattle.matching.proofs.leaves.match_leaf.Reads as match-leaf-reads
-use Rattle.tables.proofs.reading.kind.Reads as kind-reads
 
 abbrev Inv-loop : tie.InvT-loop
 Inv-loop table index s agenda head found₀ head₀ wait₀ found head' wait = TakeSoFar table index s agenda head found₀ head' wait found
@@ -14,95 +14,95 @@ Inv-loop table index s agenda head found₀ head₀ wait₀ found head' wait = T
 abbrev μ-loop : tie.MeasureT-loop
 μ-loop table index s agenda head found₀ head₀ wait₀ found head' wait = head'
 
--- src/taking.rt:30:5
+-- src/taking.rt:29:5
 loop-holds : tie.Need-loop-holds Inv-loop μ-loop
 loop-holds c = take-start _ _ _ _ _ _ (c .before .before .pre)
 
--- src/taking.rt:31:24
+-- src/taking.rt:30:24
 mul-p : tie.Need-mul-p Inv-loop μ-loop
 mul-p c = omega (arith, head-low _ _ _ _ _ _ (c .before .before .before .before .pre) _ _ _ (c .before .loop .inv))
 
--- src/taking.rt:31:17
+-- src/taking.rt:30:17
 mul-p-2 : tie.Need-mul-p-2 Inv-loop μ-loop
 mul-p-2 c = omega (arith, head-low _ _ _ _ _ _ (c .before .before .before .before .pre) _ _ _ (c .before .loop .inv))
 
--- src/taking.rt:31:17
+-- src/taking.rt:30:17
 element-copy-out-p : tie.Need-element-copy-out-p Inv-loop μ-loop
 element-copy-out-p c = omega (arith, head-low _ _ _ _ _ _ (c .before .before .before .before .pre) _ _ _ (c .before .loop .inv))
 
--- src/taking.rt:31:17
+-- src/taking.rt:30:17
 cast-p : tie.Need-cast-p Inv-loop μ-loop
 cast-p c = omega (arith, entry-low _ _ _ _ _ _ (c .before .before .before .before .before .pre) _ _ _ (c .before .before .loop .inv) (omega arith))
 
--- src/taking.rt:32:27
+-- src/taking.rt:31:27
 mul-next : tie.Need-mul-next Inv-loop μ-loop
 mul-next c = omega (arith, head-low _ _ _ _ _ _ (c .before .before .before .before .before .pre) _ _ _ (c .before .before .loop .inv))
 
--- src/taking.rt:32:27
+-- src/taking.rt:31:27
 add-next : tie.Need-add-next Inv-loop μ-loop
 add-next c = omega (arith, head-low _ _ _ _ _ _ (c .before .before .before .before .before .pre) _ _ _ (c .before .before .loop .inv))
 
--- src/taking.rt:32:20
+-- src/taking.rt:31:20
 mul-next-2 : tie.Need-mul-next-2 Inv-loop μ-loop
 mul-next-2 c = omega (arith, head-low _ _ _ _ _ _ (c .before .before .before .before .before .pre) _ _ _ (c .before .before .loop .inv))
 
--- src/taking.rt:32:20
+-- src/taking.rt:31:20
 element-copy-out-next : tie.Need-element-copy-out-next Inv-loop μ-loop
 element-copy-out-next c = omega (arith, head-low _ _ _ _ _ _ (c .before .before .before .before .before .pre) _ _ _ (c .before .before .loop .inv))
 
--- src/taking.rt:32:20
+-- src/taking.rt:31:20
 cast-next : tie.Need-cast-next Inv-loop μ-loop
 cast-next c = omega (arith, next-lower _ _ _ _ _ _ (c .before .before .before .before .before .before .pre) _ _ _ (c .before .before .before .loop .inv) (omega arith), head-low _ _ _ _ _ _ (c .before .before .before .before .before .before .pre) _ _ _ (c .before .before .before .loop .inv))
 
--- src/taking.rt:33:13
-kind-requires : tie.Need-kind-requires Inv-loop μ-loop
-kind-requires c κs = entry-readable _ _ _ _ _ _ (c .before .before .before .before .before .before .pre) _ _ _ (c .before .before .before .loop .inv) (omega arith) .here
+-- src/taking.rt:32:13
+has-parts-requires : tie.Need-has-parts-requires Inv-loop μ-loop
+has-parts-requires c κs = entry-held _ _ _ _ _ _ (c .before .before .before .before .before .before .pre) _ _ _ (c .before .before .before .loop .inv) (omega arith)
 
--- src/taking.rt:36:17
+-- src/taking.rt:35:17
 returns : tie.Need-returns Inv-loop μ-loop
 returns c = take-full _ _ _ _ _ _ (c .before .before .before .before .before .before .before .before .before .pre) _ _ _ (c .before .before .before .before .before .before .loop .inv) (omega arith)
 
--- src/taking.rt:30:5
+-- src/taking.rt:29:5
 loop-less : tie.Need-loop-less Inv-loop μ-loop
 loop-less c = omega (arith, next-lower _ _ _ _ _ _ (c .before .before .before .before .before .before .before .before .before .pre) _ _ _ (c .before .before .before .before .before .before .loop .inv) (omega arith))
 
--- src/taking.rt:30:5
+-- src/taking.rt:29:5
 loop-again : tie.Need-loop-again Inv-loop μ-loop
-loop-again c = take-wait _ _ _ _ _ _ (c .before .before .before .before .before .before .before .before .before .pre) _ _ _ (c .before .before .before .before .before .before .loop .inv) (omega arith) (omega (arith, c .before .before .kind .ensures .0)) (omega arith)
+loop-again c = take-wait _ _ _ _ _ _ (c .before .before .before .before .before .before .before .before .before .pre) _ _ _ (c .before .before .before .before .before .before .loop .inv) (omega arith) (c .before .before .has-parts .ensures .parts (c .before .if1 .taken)) (omega arith)
 
--- src/taking.rt:45:31
+-- src/taking.rt:44:31
 mul-word : tie.Need-mul-word Inv-loop μ-loop
 mul-word c = omega (arith, head-low _ _ _ _ _ _ (c .before .before .before .before .before .before .before .before .pre) _ _ _ (c .before .before .before .before .before .loop .inv))
 
--- src/taking.rt:45:31
+-- src/taking.rt:44:31
 add-word : tie.Need-add-word Inv-loop μ-loop
 add-word c = omega (arith, head-low _ _ _ _ _ _ (c .before .before .before .before .before .before .before .before .pre) _ _ _ (c .before .before .before .before .before .loop .inv))
 
--- src/taking.rt:45:24
+-- src/taking.rt:44:24
 mul-word-2 : tie.Need-mul-word-2 Inv-loop μ-loop
 mul-word-2 c = omega (arith, head-low _ _ _ _ _ _ (c .before .before .before .before .before .before .before .before .pre) _ _ _ (c .before .before .before .before .before .loop .inv))
 
--- src/taking.rt:45:24
+-- src/taking.rt:44:24
 element-copy-out-word : tie.Need-element-copy-out-word Inv-loop μ-loop
 element-copy-out-word c = omega (arith, head-low _ _ _ _ _ _ (c .before .before .before .before .before .before .before .before .pre) _ _ _ (c .before .before .before .before .before .loop .inv))
 
--- src/taking.rt:46:17
+-- src/taking.rt:45:17
 match-leaf-requires : tie.Need-match-leaf-requires Inv-loop μ-loop
-match-leaf-requires c κs = leaf-asked _ _ _ _ _ _ (c .before .before .before .before .before .before .before .before .before .before .pre) _ _ _ (c .before .before .before .before .before .before .before .loop .inv) (omega arith) (omega (arith, c .before .before .before .kind .ensures .0))
+match-leaf-requires c κs = leaf-asked _ _ _ _ _ _ (c .before .before .before .before .before .before .before .before .before .before .pre) _ _ _ (c .before .before .before .before .before .before .before .loop .inv) (omega arith) _ (c .before .before .before .has-parts .ensures) (c .before .before .if1 .left)
 
--- src/taking.rt:48:17
+-- src/taking.rt:47:17
 returns-2 : tie.Need-returns-2 Inv-loop μ-loop
-returns-2 c = take-none _ _ _ _ _ _ (c .before .before .before .before .before .before .before .before .before .before .before .before .pre) _ _ _ (c .before .before .before .before .before .before .before .before .before .loop .inv) (omega arith) _ _ (λ v b q h. c .before .match-leaf .ensures .0 v b q h) (c .before .match-leaf .ensures .1) (not-true _ (c .if3 .taken))
+returns-2 c = take-none _ _ _ _ _ _ (c .before .before .before .before .before .before .before .before .before .before .before .before .pre) _ _ _ (c .before .before .before .before .before .before .before .before .before .loop .inv) (omega arith) (c .before .before .before .before .before .has-parts .ensures .leaf (c .before .before .before .before .if1 .left) .0) _ _ (λ v b q h. c .before .match-leaf .ensures .0 v b q h) (c .before .match-leaf .ensures .1) (not-true _ (c .if3 .taken))
 
--- src/taking.rt:30:5
+-- src/taking.rt:29:5
 loop-less-2 : tie.Need-loop-less-2 Inv-loop μ-loop
 loop-less-2 c = omega (arith, next-lower _ _ _ _ _ _ (c .before .before .before .before .before .before .before .before .before .before .before .before .pre) _ _ _ (c .before .before .before .before .before .before .before .before .before .loop .inv) (omega arith))
 
--- src/taking.rt:30:5
+-- src/taking.rt:29:5
 loop-again-2 : tie.Need-loop-again-2 Inv-loop μ-loop
-loop-again-2 c = take-leaf _ _ _ _ _ _ (c .before .before .before .before .before .before .before .before .before .before .before .before .pre) _ _ _ (c .before .before .before .before .before .before .before .before .before .loop .inv) (omega arith) _ _ (λ v b q h. c .before .match-leaf .ensures .0 v b q h) (c .before .match-leaf .ensures .1) (not-false _ (c .if3 .left))
+loop-again-2 c = take-leaf _ _ _ _ _ _ (c .before .before .before .before .before .before .before .before .before .before .before .before .pre) _ _ _ (c .before .before .before .before .before .before .before .before .before .loop .inv) (omega arith) (c .before .before .before .before .before .has-parts .ensures .leaf (c .before .before .before .before .if1 .left) .0) _ _ (λ v b q h. c .before .match-leaf .ensures .0 v b q h) (c .before .match-leaf .ensures .1) (not-false _ (c .if3 .left))
 
--- src/taking.rt:17:1
+-- src/taking.rt:16:1
 returns-3 : tie.Need-returns-3 Inv-loop μ-loop
 returns-3 c = take-end _ _ _ _ _ _ (c .before .before .before .before .pre) _ _ _ (c .before .loop .inv) (omega arith)
 
@@ -122,7 +122,7 @@ take-leaves-spec =
     mul-next-2
     element-copy-out-next
     cast-next
-    kind-requires
+    has-parts-requires
     returns
     loop-less
     loop-again
