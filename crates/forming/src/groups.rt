@@ -1,5 +1,6 @@
 // A tree of union patterns as one group: its leaves, the parts that are no union, share out the members of a set. They go in an order in which
 // every way gives another binding: those that hold a name, those that hold none, and any, once.
+use crate::heights::is_low;
 use crate::reduced;
 use crate::sizes;
 use crate::sizes::Size;
@@ -220,18 +221,24 @@ fn is_end(count: usize, at: usize) -> usize
     0
 }
 
-// A half of a union is a union again.
+// How many levels below a union pattern its parts may lie for it to be a group.
+const GROUPED: usize = 11;
+
+// A half of a union is a union again, and the whole is low.
 fn is_nested(table: &[u8], index: &Index, p: usize) -> bool
     requires { ⌜ Readable (now table) (now index) p × (kindAt (records (now table)) p ≡ 38) ⌝ }
 {
     let l = operand(table, index, p, 0);
     let left = kind(table, index, l);
     if left == kinds::UNION_PATTERN {
-        return true;
+        return is_low(table, index, p, GROUPED);
     }
     let r = operand(table, index, p, 1);
     let right = kind(table, index, r);
-    right == kinds::UNION_PATTERN
+    if right != kinds::UNION_PATTERN {
+        return false;
+    }
+    is_low(table, index, p, GROUPED)
 }
 
 // A pattern with the same bindings, to be gone through: a union of unions as a group, others without wildcards that are spare.

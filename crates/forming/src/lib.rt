@@ -2,6 +2,7 @@
 // whose ways are not all gone through. Each match found is entered in order, once, into rows.
 mod frames;
 mod groups;
+mod heights;
 mod masks;
 mod reduced;
 mod rows;

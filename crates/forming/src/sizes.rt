@@ -1,4 +1,5 @@
 // How many members or items a pattern takes. A way of splitting or cutting that gives a half more or fewer has no match.
+use crate::heights::is_low;
 use crate::reduced::splits;
 use crate::settled::either;
 use tables::Index;
@@ -81,7 +82,10 @@ fn is_any(z: Size) -> bool {
     z.more
 }
 
-// What the halves of a pattern of kind k take.
+// How many levels below a pattern its parts may lie for its sizes to be worked out.
+const SIZED: usize = 20;
+
+// What the halves of a pattern of kind k take, where it is low; else any number.
 pub fn sizes_of(table: &[u8], index: &Index, p: usize, k: usize) -> Sizes
     requires { ⌜ HalvesHeld (now table) (now index) p k ⌝ }
     ensures { λ z. ⌜ TellsSizes (now (table .entry)) p k z ⌝ }
@@ -92,6 +96,14 @@ pub fn sizes_of(table: &[u8], index: &Index, p: usize, k: usize) -> Sizes
     };
     let halved = splits(k);
     if !halved {
+        return Sizes {
+            bound: false,
+            left: none,
+            right: none,
+        };
+    }
+    let low = is_low(table, index, p, SIZED);
+    if !low {
         return Sizes {
             bound: false,
             left: none,
