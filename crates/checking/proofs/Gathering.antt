@@ -2,6 +2,7 @@
 use mathlib.Core.Path.{_≡_, refl, sym, ap, subst, _∙_}
 use mathlib.Core.Bool.{Bool, true, false, not, _&&_, _||_, cond}
 use mathlib.Core.List.{List, [], _∷_, map, append-nil, append-assoc}
+use mathlib.Core.Logic.{_⊎_, ⊎-elim}
 use Prim.Native.Nat.{ℕ, zero, suc, _+_, _^_, _≤_, _<_, max}
 use native.Mathlib.Omega.{arith}
 use native.Mathlib.Numerals.{add-one}
@@ -274,33 +275,38 @@ gathers-end rs r names left frees held free high i s first h are own-is g l eh e
 
 -- ---- records by kind
 
--- A literal has no operands, and holds and frees nothing.
-literal-roles : (k : ℕ) → k < 3 → length (shape k .roles) ≡ 0
-unfolding shape
-literal-roles k h = eqb-true _ 0 (each (λ k. eqb (length (shape k .roles)) 0) 3 refl k h)
+-- A literal and any have no operands, and hold and free nothing.
+abbrev pub Bare : ℕ → Type 0
+Bare k = (k < 3) ⊎ (k ≡ 33)
 
-literal-firm : (k : ℕ) → k < 3 → shape k .loose ≡ false
+bare-roles : (k : ℕ) → Bare k → length (shape k .roles) ≡ 0
 unfolding shape
-literal-firm k h = not-true (shape k .loose) (each (λ k. not (shape k .loose)) 3 refl k h)
+bare-roles k b = ⊎-elim (λ h. eqb-true _ 0 (each (λ k. eqb (length (shape k .roles)) 0) 3 refl k h)) (λ e. subst (λ (j : ℕ). length (shape j .roles) ≡ 0) (sym e) refl) b
 
-literal-free : (k : ℕ) → k < 3 → isBinder k ≡ false
+bare-firm : (k : ℕ) → Bare k → shape k .loose ≡ false
 unfolding shape
-literal-free k h = not-true (isBinder k) (each (λ k. not (isBinder k)) 3 refl k h)
+bare-firm k b = ⊎-elim (λ h. not-true (shape k .loose) (each (λ k. not (shape k .loose)) 3 refl k h)) (λ e. subst (λ (j : ℕ). shape j .loose ≡ false) (sym e) refl) b
 
-literal-expression : (k : ℕ) → k < 3 → isPattern k ≡ false
+bare-free : (k : ℕ) → Bare k → isBinder k ≡ false
 unfolding shape
-literal-expression k h = not-true (isPattern k) (each (λ k. not (isPattern k)) 3 refl k h)
+bare-free k b = ⊎-elim (λ h. not-true (isBinder k) (each (λ k. not (isBinder k)) 3 refl k h)) (λ e. subst (λ (j : ℕ). isBinder j ≡ false) (sym e) refl) b
 
-literal : (rs : List Record) (r : ℕ) (left frees : List ℕ) (s : Sum) → r < length rs → kindAt rs r < 3 → Left rs left r (allNamed (take r rs)) → s .held ≡ 0 → s .free ≡ 0 → s .high ≡ 0 → Sums rs r left frees s
+bare-other : (k n : ℕ) → Bare k → 3 ≤ n → n < 33 → k ≡ n → ⊥
+bare-other k n b l h e = ⊎-elim (λ i. omega arith) (λ i. omega arith) b
+
+bare : (rs : List Record) (r : ℕ) (left frees : List ℕ) (s : Sum) → r < length rs → Bare (kindAt rs r) → Left rs left r (allNamed (take r rs)) → s .held ≡ 0 → s .free ≡ 0 → s .high ≡ 0 → Sums rs r left frees s
 unfolding operands
-literal rs r left frees s h lit l eh ef eg =
+bare rs r left frees s h b l eh ef eg =
     gathers-end rs r 0 left frees 0 0 0 0 s 0 h
-    (record { are = λ clear e. never (sym (literal-free (kindAt rs r) lit) ∙ e) })
-    (free-other (recordAt rs r) 0 (λ e. omega arith) (λ e. omega arith) (λ e. omega arith))
+    (record { are = λ clear e. never (sym (bare-free (kindAt rs r) b) ∙ e) })
+    (free-other (recordAt rs r) 0 (other 3 (omega arith) (omega arith)) (other 13 (omega arith) (omega arith)) (other 12 (omega arith) (omega arith)))
     (gathers-start rs r left frees 0 0 h l
-    (own-none (recordAt rs r) (λ e. omega arith) (literal-firm (kindAt rs r) lit)))
-    (omega (arith, operands-few (shape (kindAt rs r) .roles) (drop (size (headOf (recordAt rs r))) (recordAt rs r .fields)), literal-roles (kindAt rs r) lit))
+    (own-none (recordAt rs r) (other 32 (omega arith) (omega arith)) (bare-firm (kindAt rs r) b)))
+    (omega (arith, operands-few (shape (kindAt rs r) .roles) (drop (size (headOf (recordAt rs r))) (recordAt rs r .fields)), bare-roles (kindAt rs r) b))
     eh ef eg
+  where
+    other : (n : ℕ) → 3 ≤ n → n < 33 → kindAt rs r ≡ n → ⊥
+    other n = bare-other (kindAt rs r) n b
 
 -- A binder has operands.
 pub binder-some : (x : Record) → isFit x ≡ true → isBinder (x .kind) ≡ true → 0 < length (named x)
@@ -360,17 +366,23 @@ set-own [] r = refl
 set-own (x ∷ xs) zero = refl
 set-own (x ∷ xs) (suc r) = ap (λ (ys : List ℕ). x ∷ ys) (set-own xs r)
 
-pub entered-literal : (rs : List Record) (below frees highs : List ℕ) (r : ℕ) (left : List ℕ) → length rs ≤ 200 → r < length rs → kindAt rs r < 3 → Left rs left r (allNamed (take r rs)) → Known rs below frees highs r → Entered rs r (set left r 1) below frees (set highs r 1)
-entered-literal rs below frees highs r left few h lit l kept =
-    entered rs below frees highs r left nothing few h kept (literal rs r left frees nothing h lit l refl refl refl) (set left r 1) below frees (set highs r 1) 1
-    (sort-literal (kindAt rs r) lit) refl
+pub entered-bare : (rs : List Record) (below frees highs : List ℕ) (r : ℕ) (left : List ℕ) → length rs ≤ 200 → r < length rs → Bare (kindAt rs r) → Left rs left r (allNamed (take r rs)) → Known rs below frees highs r → (x : ℕ) → x ≡ sortOf (kindAt rs r) → Entered rs r (set left r x) below frees (set highs r 1)
+entered-bare rs below frees highs r left few h b l kept x e =
+    entered rs below frees highs r left nothing few h kept (bare rs r left frees nothing h b l refl refl refl) (set left r x) below frees (set highs r 1) x
+    e refl
     (set-own below r ∙ ap (set below r) (kept .zero-below r (omega arith))) (set-own frees r ∙ ap (set frees r) (kept .zero-frees r (omega arith))) refl
   where
     nothing : Sum
     nothing = record { fine = true; held = 0; free = 0; high = 0 }
 
-    sort-literal : (k : ℕ) → k < 3 → 1 ≡ sortOf k
-    sort-literal k h = sym (rw (literal-expression k h))
+-- The sorts of a literal and of any.
+pub sort-literal : (k : ℕ) → k < 3 → 1 ≡ sortOf k
+unfolding shape
+sort-literal k h = sym (rw (not-true (isPattern k) (each (λ k. not (isPattern k)) 3 refl k h)))
+
+pub sort-any : (k : ℕ) → k ≡ 33 → 2 ≡ sortOf k
+unfolding shape
+sort-any k e = subst (λ (j : ℕ). 2 ≡ sortOf j) (sym e) refl
 
 -- ---- all records
 

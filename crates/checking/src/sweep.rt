@@ -254,8 +254,8 @@ fn sort_of(kind: usize) -> u8
     EXPRESSION
 }
 
-// Enters record r with what it and its operands come to, and leaves it to be named; false where a rule is broken. A literal has no operands,
-// and holds and leaves nothing.
+// Enters record r with what it and its operands come to, and leaves it to be named; false where a rule is broken. A literal and any have no
+// operands, and hold and leave nothing.
 fn enter(
     table: &[u8],
     index: &Index,
@@ -271,6 +271,11 @@ fn enter(
     let k = kind(table, index, r);
     if k < kinds::NAME {
         left[r] = EXPRESSION;
+        highs[r] = 1;
+        return true;
+    }
+    if k == kinds::ANY_PATTERN {
+        left[r] = PATTERN;
         highs[r] = 1;
         return true;
     }

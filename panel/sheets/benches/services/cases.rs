@@ -17,6 +17,19 @@ pub fn chain(height: usize) -> Vec<u8> {
     })
 }
 
+/// forall a in set {1,...,63} & -(..(-a)) <> a, with an odd number of minuses, 32 records high.
+pub fn deep_condition() -> Vec<u8> {
+    build(|b| {
+        let pattern = b.p_name(0);
+        let set = b.range(1, 63);
+        let name = b.name(0);
+        let minuses = (0..29).fold(name, |operand, _| b.unary(unary::NEGATE, operand));
+        let other = b.name(0);
+        let differ = b.binary(binary::NOT_EQUAL, minuses, other);
+        b.node(kind::FORALL, &[pattern, set, differ])
+    })
+}
+
 /// The deepest sheet that nests what the label says.
 pub fn deepest(label: &str) -> Vec<u8> {
     let sheets = generator::deepest();

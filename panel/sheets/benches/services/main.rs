@@ -366,7 +366,7 @@ fn walks() -> [Row; 2] {
     .map(|(label, table)| Row::new(label, Call::Walk, table))
 }
 
-fn evaluations() -> [Row; 7] {
+fn evaluations() -> [Row; 8] {
     let deterministic = [
         (
             "evaluate, nested comprehensions of 63 × 63",
@@ -379,6 +379,10 @@ fn evaluations() -> [Row; 7] {
         ),
         ("evaluate, height 32: minuses", cases::chain(32)),
         (
+            "evaluate, height 32: minuses under a forall over 63",
+            cases::deep_condition(),
+        ),
+        (
             "evaluate, height 32: foralls in conditions",
             cases::deepest("foralls in conditions"),
         ),
@@ -387,11 +391,11 @@ fn evaluations() -> [Row; 7] {
             cases::deepest("set comprehensions in elements"),
         ),
     ];
-    let [a, b, c, d, e, f] =
+    let [a, b, c, d, e, f, g] =
         deterministic.map(|(label, table)| Row::new(label, Call::Evaluate, table));
     let label = "evaluate, list 975 of a let-be of 40 over one of 25";
     let chosen = Row::new(label, Call::Evaluate, cases::nested_choices()).under(vec![39, 24]);
-    [chosen, a, b, c, d, e, f]
+    [chosen, a, b, c, d, e, f, g]
 }
 
 /// The walk programs; no row where ours is not built.
