@@ -301,7 +301,7 @@ fn slowest_refused() -> Vec<u8> {
     let slowness = |table: &Vec<u8>| {
         let mut check = |lent: &mut Lent| Ours::check(lent, table);
         let mut work: Work = &mut check;
-        (0..9).map(|_| time(&mut work, &mut lent, 1)).min()
+        (0..9).map(|_| time(&mut work, &mut lent, 20)).min()
     };
     tables.into_iter().max_by_key(slowness).expect("a table")
 }
