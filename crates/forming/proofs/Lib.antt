@@ -6,6 +6,7 @@ mod Pushing
 mod Solving
 mod Settling
 mod Reducing
+mod Lowering
 mod Sizing
 mod Joining
 mod Grouping

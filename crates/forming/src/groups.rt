@@ -221,8 +221,8 @@ fn is_end(count: usize, at: usize) -> usize
     0
 }
 
-// How many levels below a union pattern its parts may lie for it to be a group.
-const GROUPED: usize = 11;
+// The greatest height of a union pattern that is a group.
+const GROUPED: usize = 12;
 
 // A half of a union is a union again, and the whole is low.
 fn is_nested(table: &[u8], index: &Index, p: usize) -> bool

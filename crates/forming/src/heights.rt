@@ -4,24 +4,29 @@ use tables::kinds;
 use tables::reading::kind;
 use tables::reading::operand;
 use tables::reading::operand_count;
+ghost use mathlib.Core.Path.{_≡_};
+ghost use lib.Dec.{leb};
+ghost use Rattle.tables.specs.Sheet.{height};
+ghost use Rattle.tables.specs.Accepted.{records};
 ghost use Rattle.patterns.specs.Read.{Readable};
 
-// No part of a pattern lies more than so many levels below it.
-pub fn is_low(table: &[u8], index: &Index, p: usize, levels: usize) -> bool
+// The height of a pattern is at most so much.
+pub fn is_low(table: &[u8], index: &Index, p: usize, most: usize) -> bool
     requires { ⌜ Readable (now table) (now index) p ⌝ }
+    ensures { λ r. ⌜ r ≡ leb (height (records (now (table .entry))) p) most ⌝ }
 {
+    if most == 0 {
+        return false;
+    }
     let k = kind(table, index, p);
     if k < kinds::TUPLE_PATTERN {
         return true;
-    }
-    if levels == 0 {
-        return false;
     }
     let n = operand_count(table, index, p);
     let mut i = 0;
     while i < n {
         let q = operand(table, index, p, i);
-        let low = is_low(table, index, q, levels - 1);
+        let low = is_low(table, index, q, most - 1);
         if !low {
             return false;
         }

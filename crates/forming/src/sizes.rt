@@ -82,8 +82,8 @@ fn is_any(z: Size) -> bool {
     z.more
 }
 
-// How many levels below a pattern its parts may lie for its sizes to be worked out.
-const SIZED: usize = 20;
+// The greatest height of a pattern whose sizes are worked out.
+const SIZED: usize = 21;
 
 // What the halves of a pattern of kind k take, where it is low; else any number.
 pub fn sizes_of(table: &[u8], index: &Index, p: usize, k: usize) -> Sizes

@@ -1,7 +1,8 @@
-use Prim.Native.Nat.{_-_, _≤_}
+use Prim.Native.Nat.{_-_}
 use native.Mathlib.Omega.{arith}
-use borrow.Author.Needs.{needs}
+use borrow.Author.Tests.{not-true, not-false}
 use Rattle.matching.proofs.Records.{has-operand, operand-readable}
+use Rattle.forming.proofs.Lowering.{positive, LowTo, low-start, none-low, leaf-low, some-high, low-more, all-low}
 use Prim.Native.Nat.{ℕ, _<_}
 use borrow.Fn.Kinds.{In}
 use borrow.Fn.PlainCycle.{Measures, is, falls, and}
@@ -24,25 +25,12 @@ abbrev is-low-below : ℕ → In 2 is-low-kinds.ps
 is-low-below t = and 2 is-low-kinds.ps (falls 2 is-low-kinds.ps _<_ μ-is-low t) is-low.Pre
 
 abbrev is-low-Inv-loop : is-low-lts.InvT-loop
-is-low-Inv-loop table index p levels k n i₀ i = i ≤ n
+is-low-Inv-loop table index p most k n i₀ i = LowTo table p (most - 1) i
 
 abbrev is-low-μ-loop : is-low-lts.MeasureT-loop
-is-low-μ-loop table index p levels k n i₀ i = n - i
+is-low-μ-loop table index p most k n i₀ i = n - i
 
--- src/heights.rt:13:9
-is-low-kind-requires : (t : ℕ) → is-low-lts.Need-kind-requires (
-  kind-reads.Asked,
-  kind-reads.Learnt,
-  operand-count-reads.Asked,
-  operand-count-reads.Learnt,
-  operand-reads.Asked,
-  operand-reads.Learnt,
-  is-low-below t,
-  is-low.Post,
-) (is-low-at t) is-low.Post is-low-Inv-loop is-low-μ-loop
-is-low-kind-requires t c κs = c .before .pre .1 .here
-
--- src/heights.rt:15:9
+-- src/heights.rt:19:9
 is-low-returns : (t : ℕ) → is-low-lts.Need-returns (
   kind-reads.Asked,
   kind-reads.Learnt,
@@ -53,9 +41,22 @@ is-low-returns : (t : ℕ) → is-low-lts.Need-returns (
   is-low-below t,
   is-low.Post,
 ) (is-low-at t) is-low.Post is-low-Inv-loop is-low-μ-loop
-is-low-returns t c = search needs
+is-low-returns t c = none-low _ _ _ (c .before .before .pre .1) _ (c .if1 .taken)
 
--- src/heights.rt:18:9
+-- src/heights.rt:21:9
+is-low-kind-requires : (t : ℕ) → is-low-lts.Need-kind-requires (
+  kind-reads.Asked,
+  kind-reads.Learnt,
+  operand-count-reads.Asked,
+  operand-count-reads.Learnt,
+  operand-reads.Asked,
+  operand-reads.Learnt,
+  is-low-below t,
+  is-low.Post,
+) (is-low-at t) is-low.Post is-low-Inv-loop is-low-μ-loop
+is-low-kind-requires t c κs = c .before .before .pre .1 .here
+
+-- src/heights.rt:23:9
 is-low-returns-2 : (t : ℕ) → is-low-lts.Need-returns-2 (
   kind-reads.Asked,
   kind-reads.Learnt,
@@ -66,9 +67,9 @@ is-low-returns-2 : (t : ℕ) → is-low-lts.Need-returns-2 (
   is-low-below t,
   is-low.Post,
 ) (is-low-at t) is-low.Post is-low-Inv-loop is-low-μ-loop
-is-low-returns-2 t c = search needs
+is-low-returns-2 t c = leaf-low _ _ _ (c .before .before .before .before .pre .1) _ (c .before .before .if1 .left) (omega (arith, c .before .kind .ensures .0))
 
--- src/heights.rt:20:9
+-- src/heights.rt:25:9
 is-low-operand-count-requires : (t : ℕ) → is-low-lts.Need-operand-count-requires (
   kind-reads.Asked,
   kind-reads.Learnt,
@@ -81,7 +82,7 @@ is-low-operand-count-requires : (t : ℕ) → is-low-lts.Need-operand-count-requ
 ) (is-low-at t) is-low.Post is-low-Inv-loop is-low-μ-loop
 is-low-operand-count-requires t c κs = c .before .before .before .before .pre .1 .here
 
--- src/heights.rt:22:5
+-- src/heights.rt:27:5
 is-low-loop-holds : (t : ℕ) → is-low-lts.Need-loop-holds (
   kind-reads.Asked,
   kind-reads.Learnt,
@@ -92,9 +93,9 @@ is-low-loop-holds : (t : ℕ) → is-low-lts.Need-loop-holds (
   is-low-below t,
   is-low.Post,
 ) (is-low-at t) is-low.Post is-low-Inv-loop is-low-μ-loop
-is-low-loop-holds t c = omega arith
+is-low-loop-holds t c = low-start _ _ _
 
--- src/heights.rt:23:13
+-- src/heights.rt:28:13
 is-low-operand-requires : (t : ℕ) → is-low-lts.Need-operand-requires (
   kind-reads.Asked,
   kind-reads.Learnt,
@@ -107,7 +108,7 @@ is-low-operand-requires : (t : ℕ) → is-low-lts.Need-operand-requires (
 ) (is-low-at t) is-low.Post is-low-Inv-loop is-low-μ-loop
 is-low-operand-requires t c κs = has-operand _ _ _ (c .before .before .before .before .before .before .before .pre .1) _ (omega (arith, c .before .before .operand-count .ensures .0))
 
--- src/heights.rt:24:43
+-- src/heights.rt:29:43
 is-low-sub-is-low : (t : ℕ) → is-low-lts.Need-sub-is-low (
   kind-reads.Asked,
   kind-reads.Learnt,
@@ -118,9 +119,9 @@ is-low-sub-is-low : (t : ℕ) → is-low-lts.Need-sub-is-low (
   is-low-below t,
   is-low.Post,
 ) (is-low-at t) is-low.Post is-low-Inv-loop is-low-μ-loop
-is-low-sub-is-low t c = omega arith
+is-low-sub-is-low t c = positive _ (c .before .before .before .before .before .before .if1 .left)
 
--- src/heights.rt:24:13
+-- src/heights.rt:29:13
 is-low-is-low-requires : (t : ℕ) → is-low-lts.Need-is-low-requires (
   kind-reads.Asked,
   kind-reads.Learnt,
@@ -131,9 +132,9 @@ is-low-is-low-requires : (t : ℕ) → is-low-lts.Need-is-low-requires (
   is-low-below t,
   is-low.Post,
 ) (is-low-at t) is-low.Post is-low-Inv-loop is-low-μ-loop
-is-low-is-low-requires t c κs = let o = operand-readable _ _ _ (c .before .before .before .before .before .before .before .before .pre .1) _ (omega (arith, c .before .before .before .operand-count .ensures .0)) (omega (arith, c .before .before .before .before .before .before .kind .ensures .0)) _ (c .operand .ensures .0) in (omega (arith, o .1, c .before .before .before .before .before .before .before .before .pre .0), o .0)
+is-low-is-low-requires t c κs = let o = operand-readable _ _ _ (c .before .before .before .before .before .before .before .before .pre .1) _ (omega (arith, c .before .before .before .operand-count .ensures .0)) (omega (arith, c .before .before .before .before .before .kind .ensures .0)) _ (c .operand .ensures .0) in (omega (arith, o .1, c .before .before .before .before .before .before .before .before .pre .0), o .0)
 
--- src/heights.rt:26:13
+-- src/heights.rt:31:13
 is-low-returns-3 : (t : ℕ) → is-low-lts.Need-returns-3 (
   kind-reads.Asked,
   kind-reads.Learnt,
@@ -144,9 +145,9 @@ is-low-returns-3 : (t : ℕ) → is-low-lts.Need-returns-3 (
   is-low-below t,
   is-low.Post,
 ) (is-low-at t) is-low.Post is-low-Inv-loop is-low-μ-loop
-is-low-returns-3 t c = search needs
+is-low-returns-3 t c = some-high _ _ _ (c .before .before .before .before .before .before .before .before .before .before .pre .1) _ _ _ (c .before .before .before .before .before .before .before .before .if1 .left) (omega (arith, c .before .before .before .before .before .operand-count .ensures .0)) (c .before .before .operand .ensures .0) _ (c .before .is-low .ensures) (not-true _ (c .if3 .taken))
 
--- src/heights.rt:28:9
+-- src/heights.rt:33:9
 is-low-add-i : (t : ℕ) → is-low-lts.Need-add-i (
   kind-reads.Asked,
   kind-reads.Learnt,
@@ -159,7 +160,7 @@ is-low-add-i : (t : ℕ) → is-low-lts.Need-add-i (
 ) (is-low-at t) is-low.Post is-low-Inv-loop is-low-μ-loop
 is-low-add-i t c = omega (arith, c .before .before .before .before .before .operand-count .ensures .1)
 
--- src/heights.rt:22:5
+-- src/heights.rt:27:5
 is-low-loop-less : (t : ℕ) → is-low-lts.Need-loop-less (
   kind-reads.Asked,
   kind-reads.Learnt,
@@ -172,7 +173,7 @@ is-low-loop-less : (t : ℕ) → is-low-lts.Need-loop-less (
 ) (is-low-at t) is-low.Post is-low-Inv-loop is-low-μ-loop
 is-low-loop-less t c = omega arith
 
--- src/heights.rt:22:5
+-- src/heights.rt:27:5
 is-low-loop-again : (t : ℕ) → is-low-lts.Need-loop-again (
   kind-reads.Asked,
   kind-reads.Learnt,
@@ -183,9 +184,9 @@ is-low-loop-again : (t : ℕ) → is-low-lts.Need-loop-again (
   is-low-below t,
   is-low.Post,
 ) (is-low-at t) is-low.Post is-low-Inv-loop is-low-μ-loop
-is-low-loop-again t c = omega arith
+is-low-loop-again t c = low-more _ _ _ (c .before .before .before .before .before .before .before .before .before .before .pre .1) _ _ _ (c .before .before .before .before .before .before .before .before .if1 .left) (omega (arith, c .before .before .before .before .before .operand-count .ensures .0)) (c .before .before .operand .ensures .0) (c .before .before .before .before .loop .inv) _ (c .before .is-low .ensures) (not-false _ (c .if3 .left))
 
--- src/heights.rt:10:1
+-- src/heights.rt:14:1
 is-low-returns-4 : (t : ℕ) → is-low-lts.Need-returns-4 (
   kind-reads.Asked,
   kind-reads.Learnt,
@@ -196,7 +197,7 @@ is-low-returns-4 : (t : ℕ) → is-low-lts.Need-returns-4 (
   is-low-below t,
   is-low.Post,
 ) (is-low-at t) is-low.Post is-low-Inv-loop is-low-μ-loop
-is-low-returns-4 t c = search needs
+is-low-returns-4 t c = all-low _ _ _ (c .before .before .before .before .before .before .before .pre .1) _ _ (c .before .before .before .before .before .if1 .left) (c .before .loop .inv) (omega (arith, c .before .before .operand-count .ensures .0))
 
 pub +is-low-spec : {M : Type 1} → statement M
 +is-low-spec = close μ-is-low λ t. is-low-lts.spec (
@@ -213,8 +214,8 @@ pub +is-low-spec : {M : Type 1} → statement M
     is-low.Post
     is-low-Inv-loop
     is-low-μ-loop
-    (is-low-kind-requires t)
     (is-low-returns t)
+    (is-low-kind-requires t)
     (is-low-returns-2 t)
     (is-low-operand-count-requires t)
     (is-low-loop-holds t)

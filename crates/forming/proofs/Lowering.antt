@@ -1,0 +1,79 @@
+-- Heights of patterns, as rule 9 has them: what tells whether one is low.
+use mathlib.Core.Path.{_≡_, refl, sym, ap, subst, _∙_}
+use mathlib.Core.Bool.{Bool, true, false}
+use mathlib.Core.List.{List, [], _∷_, map}
+use Prim.Native.Nat.{ℕ, zero, suc, _+_, _-_, _≤_, _<_}
+use native.Mathlib.Omega.{arith}
+use borrow.Author.Tests.{eqb-true, le-leb, lt-leb, leb-true, leb-false}
+use lib.Dec.{eqb, leb}
+use lib.ListN.{length, getD, drop}
+use Rattle.prelude.proofs.Truth.{by-lower}
+use Rattle.tables.specs.Record.{Record, shape, size, headOf, operands, named, operand}
+use Rattle.tables.specs.Table.{recordAt, kindAt}
+use Rattle.tables.specs.Sheet.{greatest, height}
+use Rattle.tables.specs.Accepted.{records}
+use Rattle.tables.specs.Laws.Tests.{each}
+use Rattle.tables.specs.Laws.Operands.{operands-few}
+use Rattle.tables.specs.Laws.Accepted.{height-at, height-operand}
+use Rattle.patterns.specs.Read.{Readable}
+use Rattle.matching.proofs.Records.{kind-low}
+
+-- The greatest is no greater than what each is at most.
+greatest-most : (f : ℕ → ℕ) (ms : List ℕ) (m : ℕ) → ((i : ℕ) → i < length ms → f (getD ms i 0) ≤ m) → greatest (map f ms) ≤ m
+greatest-most f [] m h = omega arith
+greatest-most f (n ∷ ns) m h = omega (arith, h 0 (omega arith), greatest-most f ns m (λ i l. h (suc i) (omega arith)))
+
+pub positive : (m : ℕ) → (m ≡ 0 → ⊥) → 1 ≤ m
+positive zero f = absurd (f refl)
+positive (suc m) f = omega arith
+
+-- Kinds 32 to 35 have no operands.
+leaf-roles : (k : ℕ) → 32 ≤ k → k < 36 → length (shape k .roles) ≡ 0
+unfolding shape
+leaf-roles k l h =
+    let same : 32 + (k - 32) ≡ k = omega arith in
+    subst (λ (j : ℕ). length (shape j .roles) ≡ 0) same (eqb-true _ 0 (each (λ j. eqb (length (shape (32 + j) .roles)) 0) 4 refl (k - 32) (omega arith)))
+
+leaf-bare : (x : Record) → 32 ≤ x .kind → x .kind < 36 → length (named x) ≡ 0
+unfolding operands
+leaf-bare x l h = omega (arith, operands-few (shape (x .kind) .roles) (drop (size (headOf x)) (x .fields)), leaf-roles (x .kind) l h)
+
+-- The operands below i are at most m high.
+abbrev pub LowTo : List ℕ → ℕ → ℕ → ℕ → Type 0
+LowTo table p m i = (j : ℕ) → j < i → height (records table) (operand (recordAt (records table) p) j) ≤ m
+
+pub low-start : (table : List ℕ) (p m : ℕ) → LowTo table p m 0
+low-start table p m j l = absurd (omega arith)
+
+module _ (table index : List ℕ) (p : ℕ) (r : Readable table index p) where
+  height-is : height (records table) p ≡ suc (greatest (map (height (records table)) (named (recordAt (records table) p))))
+  height-is = height-at (records table) (r .fine .clear6) p (r .here .within)
+
+  pub none-low : (most : ℕ) → most ≡ 0 → false ≡ leb (height (records table) p) most
+  none-low most e = sym (lt-leb (height (records table) p) most (omega (arith, height-is)))
+
+  pub leaf-low : (most : ℕ) → (most ≡ 0 → ⊥) → kindAt (records table) p < 36 → true ≡ leb (height (records table) p) most
+  leaf-low most n l =
+      let bare = leaf-bare (recordAt (records table) p) (kind-low table index p r) l in
+      let none = greatest-most (height (records table)) (named (recordAt (records table) p)) 0 (λ i k. absurd (omega arith)) in
+      sym (le-leb (height (records table) p) most (omega (arith, height-is, none, positive most n)))
+
+  module _ (most i q : ℕ) (some : most ≡ 0 → ⊥) (l : i < length (named (recordAt (records table) p))) (is : q ≡ operand (recordAt (records table) p) i) where
+    pub some-high : (low : Bool) → low ≡ leb (height (records table) q) (most - 1) → low ≡ false → false ≡ leb (height (records table) p) most
+    some-high low e f =
+        let over = leb-false (height (records table) q) (most - 1) (sym e ∙ f) in
+        let same : height (records table) q ≡ height (records table) (operand (recordAt (records table) p) i) = ap (height (records table)) is in
+        sym (lt-leb (height (records table) p) most (omega (arith, over, same, height-operand (records table) (r .fine .clear6) p i (r .here .within) l)))
+
+    pub low-more : LowTo table p (most - 1) i → (low : Bool) → low ≡ leb (height (records table) q) (most - 1) → low ≡ true → LowTo table p (most - 1) (i + 1)
+    low-more so low e f j k = by-lower j i (λ h. so j h)
+        (λ h.
+        let under = leb-true (height (records table) q) (most - 1) (sym e ∙ f) in
+        let at : j ≡ i = omega arith in
+        let same : height (records table) q ≡ height (records table) (operand (recordAt (records table) p) j) = ap (height (records table)) is ∙ ap (λ (x : ℕ). height (records table) (operand (recordAt (records table) p) x)) (sym at) in
+        omega (arith, under, same))
+
+  pub all-low : (most i : ℕ) → (most ≡ 0 → ⊥) → LowTo table p (most - 1) i → length (named (recordAt (records table) p)) ≤ i → true ≡ leb (height (records table) p) most
+  all-low most i n so l =
+      let few = greatest-most (height (records table)) (named (recordAt (records table) p)) (most - 1) (λ j k. so j (omega arith)) in
+      sym (le-leb (height (records table) p) most (omega (arith, height-is, few, positive most n)))
