@@ -192,11 +192,10 @@ pub fn reach(
 }
 
 // What each name stands for under binding k, which is in the window.
-pub fn under(s: &[u8], to: usize, cursor: Cursor, k: usize, env: Env) -> Env
-    requires { ⌜ Underneath (now s) to cursor k env ⌝ }
-    ensures { λ r. ⌜ UnderBinding (now (s .entry)) to cursor k env r ⌝ }
+pub fn under(s: &[u8], to: usize, cursor: Cursor, k: usize, words: &mut [u32; Env::NAMES])
+    requires { ⌜ Underneath (now s) to cursor k (record { words = now words }) ⌝ }
+    ensures { λ _. ⌜ UnderBinding (now (s .entry)) to cursor k (record { words = now (words .entry) }) (record { words = now (words .exit) }) ⌝ }
 {
-    let mut words = env.words;
     let mut at = to + 4 * (cursor.width * (k - cursor.from));
     let mut left = cursor.names;
     let mut x = 0;
@@ -208,5 +207,4 @@ pub fn under(s: &[u8], to: usize, cursor: Cursor, k: usize, env: Env) -> Env
         left /= 2;
         x += 1;
     }
-    Env { words }
 }

@@ -3,6 +3,7 @@ mod Leading
 mod Framing
 mod Coming
 mod Tables
+mod Firsts
 mod Wording
 mod Equations
 mod Plain

@@ -3,7 +3,8 @@ use mathlib.Core.Path.{_≡_, refl, sym, ap, subst, _∙_}
 use mathlib.Core.List.{List, [], _∷_}
 use types.Run.{OneOf}
 use mathlib.Core.Logic.{_⊎_, inl, inr}
-use Prim.Native.Nat.{ℕ, zero, suc, _+_, _≤_, _<_}
+use Prim.Native.Nat.{ℕ, zero, suc, _+_, _-_, _≤_, _<_}
+use lib.Dec.{eqb}
 use native.Mathlib.Omega.{arith}
 use borrow.Author.Tests.{eq-eqb, ne-eqb}
 use mathlib.Core.Bool.{cond}
@@ -20,6 +21,7 @@ use Rattle.tables.specs.Record.{shape, operand}
 use Rattle.tables.specs.Table.{recordAt, kindAt}
 use Rattle.tables.specs.Accepted.{records}
 use Rattle.tables.specs.Reading.{HasOperand, HasField}
+use Rattle.tables.specs.Laws.Accepted.{named-count}
 use Rattle.operations.specs.Numbers.{Unary}
 use Rattle.calling.specs.declared.Applied.{Applied}
 use Rattle.calling.specs.declared.Tested.{Tested}
@@ -35,11 +37,22 @@ use Rattle.evaluator.specs.declared.Truth.{Truth}
 use Rattle.evaluator.specs.declared.Truth.the-variants.{True, False, Other}
 use Rattle.evaluator.specs.Contract.{Evaluated, Ask, Gives, meant, level, operatorAt}
 use Rattle.evaluator.specs.Leaves.{Tells, ofTwo, OfTwo, Strict}
+use Rattle.evaluator.specs.Building.{Enumerated}
+use Rattle.evaluator.specs.Binding.{quantified, Comprehension}
 use Rattle.evaluator.specs.Word.{ending, wordOf, appliedWord}
 use Rattle.evaluator.proofs.Wording.{word-applied, decoded, as-word, refused-at}
-use Rattle.evaluator.proofs.Tables.{small-place, has-operand, has-field, lower-down, unary-number, binary-number}
+use Rattle.evaluator.proofs.Tables.{fine-of, small-place, has-operand, has-field, lower-down, unary-number, binary-number}
 use Rattle.evaluator.proofs.Equations.{mean-unary, mean-binary, mean-two, mean-logic, mean-if, mean-pattern, mean-nothing}
 use Rattle.evaluator.proofs.Plain.{gives-refused, gives-stop, gives-at, gives-one, gives-both, gives-second-off, ask-first, ask-next, one-held, two-held, logic-settled, logic-refused, logic-right-off, logic-right, if-other, if-true, if-false}
+
+pub strict-kind : (table : List ℕ) (r : ℕ) {k op : ℕ} → Strict table r k op → (k ≡ 5) ⊎ ((k ≡ 11) ⊎ (k ≡ 21))
+strict-kind table r (inl x) = inl (x .0)
+strict-kind table r (inr x) = inr x
+
+-- of kind 5, 11 or 21, and no connective
+pub strictly : (table : List ℕ) (r : ℕ) {k op : ℕ} → OneOf (5 ∷ 11 ∷ 21 ∷ []) k → op ≡ operatorAt table r → (k ≡ 5 → 3 < op) → Strict table r k op
+strictly table r (inl x) o n = inl (x, o, n x)
+strictly table r (inr x) o n = inr x
 
 module _ {table index : List ℕ} {r : ℕ} {s : List ℕ} {base : ℕ} {env : Env} {c : Choices} (a : Ask table index r s base env c) where
   -- operand i, of a record that has one
@@ -72,6 +85,15 @@ module _ {table index : List ℕ} {r : ℕ} {s : List ℕ} {base : ℕ} {env : E
             let v = one-held a k h .held in
             gives-one a (gives-at table q k) (unary (operatorAt table r)) h (subst (λ (m : ℕ). OnOne (unary m) t u base x) o f)
             (word-applied (f .right (v .value) (v .here)) (unary-fine n (v .value) (v .here .fine)) (small-place a) g) (λ ρ. mean-unary (a .legal) r ρ d)
+
+  first-field : HasOperand table index r 0 → HasField table index r 0
+  first-field h = record { here = h .here; has = omega (arith, h .has, named-count (recordAt (records table) r) (fine-of (a .legal) .fit r (a .within))) }
+
+  pub two-field : {k : ℕ} → kindAt (records table) r ≡ k → OneOf (5 ∷ 11 ∷ 21 ∷ []) k → HasField table index r 0
+  unfolding shape
+  two-field d (inl x) = has-field a (d ∙ x) 0 (omega arith)
+  two-field d (inr (inl x)) = first-field (has-operand a (d ∙ x) 0 (omega arith))
+  two-field d (inr (inr x)) = first-field (has-operand a (d ∙ x) 0 (omega arith))
 
   -- 5, 11, 21
   module _ {k op : ℕ} (d : kindAt (records table) r ≡ k) (w : Strict table r k op) where
@@ -139,10 +161,6 @@ module _ {table index : List ℕ} {r : ℕ} {s : List ℕ} {base : ℕ} {env : E
     pub logic-next : HasOperand table index r 1
     unfolding shape
     logic-next = has-operand a d 1 (omega arith)
-
-    pub binary-field : HasField table index r 0
-    unfolding shape
-    binary-field = has-field a d 0 (omega arith)
 
     module _ {n : ℕ} (o : n ≡ operatorAt table r) {b : ℕ} (q : b ≡ operand (recordAt (records table) r) 0) {t : List ℕ} {e : Evaluated} (k : Gives (meant table b) (At t base) s t base env c e) where
       -- and, or, =>
@@ -229,20 +247,44 @@ module _ {table index : List ℕ} {r : ℕ} {s : List ℕ} {base : ℕ} {env : E
       go ρ (inl h) = mean-nothing (a .legal) r ρ (sym d ∙ h)
       go ρ (inr h) = mean-pattern (a .legal) r ρ (omega arith)
 
-  -- none of the kinds that are evaluated
-  abbrev Unlike : ℕ → ℕ → Type 0
-  Unlike n k = OneOf (n ∷ []) k → ⊥
+-- ---- the kinds that the dispatch tells apart by their bounds
 
-  next-up : (n k : ℕ) → n ≤ k → (k ≡ n → ⊥) → n + 1 ≤ k
-  next-up n k l h = omega arith
+abbrev Unlike : ℕ → ℕ → Type 0
+Unlike n k = OneOf (n ∷ []) k → ⊥
 
-  pub unmatched : {k : ℕ} → (((((((((((((((((((((Unit {0} × Unlike 1 k) × Unlike 2 k) × Unlike 3 k) × Unlike 4 k) × Unlike 5 k) × Unlike 6 k) × Unlike 7 k) × Unlike 8 k) × Unlike 9 k) × Unlike 10 k) × Unlike 11 k) × Unlike 12 k) × Unlike 13 k) × Unlike 14 k) × Unlike 15 k) × Unlike 16 k) × Unlike 17 k) × Unlike 18 k) × Unlike 19 k) × Unlike 20 k) × Unlike 21 k) → (k ≡ 0) ⊎ (22 ≤ k)
-  unmatched {k} (((((((((((((((((((((u, a1), a2), a3), a4), a5), a6), a7), a8), a9), a10), a11), a12), a13), a14), a15), a16), a17), a18), a19), a20), a21) = go (zero-or k)
-    where
-      zero-or : (k : ℕ) → (k ≡ 0) ⊎ (1 ≤ k)
-      zero-or zero = inl refl
-      zero-or (suc k) = inr (omega arith)
+-- none of those that it names
+abbrev pub Unlisted : ℕ → Type 0
+Unlisted k = (((((((((((Unit {0} × Unlike 1 k) × Unlike 2 k) × Unlike 3 k) × Unlike 4 k) × (OneOf (5 ∷ 11 ∷ 21 ∷ []) k → ⊥)) × Unlike 6 k) × Unlike 10 k) × Unlike 9 k) × Unlike 12 k) × Unlike 13 k) × Unlike 16 k) × Unlike 17 k
 
-      go : (k ≡ 0) ⊎ (1 ≤ k) → (k ≡ 0) ⊎ (22 ≤ k)
-      go (inl z) = inl z
-      go (inr l) = inr (next-up 21 k (next-up 20 k (next-up 19 k (next-up 18 k (next-up 17 k (next-up 16 k (next-up 15 k (next-up 14 k (next-up 13 k (next-up 12 k (next-up 11 k (next-up 10 k (next-up 9 k (next-up 8 k (next-up 7 k (next-up 6 k (next-up 5 k (next-up 4 k (next-up 3 k (next-up 2 k (next-up 1 k l a1) a2) a3) a4) a5) a6) a7) a8) a9) a10) a11) a12) a13) a14) a15) a16) a17) a18) a19) a20) a21)
+next-up : (n k : ℕ) → n ≤ k → (k ≡ n → ⊥) → n + 1 ≤ k
+next-up n k l h = omega arith
+
+least-or : (n k : ℕ) → n ≤ k → (k ≡ n) ⊎ (n + 1 ≤ k)
+least-or n k l = go (k - n) refl
+  where
+    go : (d : ℕ) → k - n ≡ d → (k ≡ n) ⊎ (n + 1 ≤ k)
+    go zero e = inl (omega arith)
+    go (suc d) e = inr (omega arith)
+
+pub from-seven : {k : ℕ} → Unlisted k → 1 ≤ k → k < 9 → Enumerated k
+from-seven {k} ((((((((((((u, a1), a2), a3), a4), a5), a6), a10), a9), a12), a13), a16), a17) l m =
+    go (least-or 7 k (next-up 6 k (next-up 5 k (next-up 4 k (next-up 3 k (next-up 2 k (next-up 1 k l a1) a2) a3) a4) (λ x. a5 (inl x))) a6))
+  where
+    go : (k ≡ 7) ⊎ (8 ≤ k) → Enumerated k
+    go (inl x) = inl x
+    go (inr x) = inr (inl (omega arith))
+
+pub from-fourteen : {k : ℕ} → Unlisted k → 9 ≤ k → k < 16 → k ≡ quantified (eqb k 15)
+from-fourteen {k} ((((((((((((u, a1), a2), a3), a4), a5), a6), a10), a9), a12), a13), a16), a17) l m =
+    go (least-or 14 k (next-up 13 k (next-up 12 k (next-up 11 k (next-up 10 k (next-up 9 k l a9) a10) (λ x. a5 (inr (inl x)))) a12) a13))
+  where
+    go : (k ≡ 14) ⊎ (15 ≤ k) → k ≡ quantified (eqb k 15)
+    go (inl x) = rw (ne-eqb k 15 (λ z. omega arith)) x
+    go (inr x) = let e : k ≡ 15 = omega arith in rw (eq-eqb k 15 e) e
+
+pub from-eighteen : {k : ℕ} → Unlisted k → 16 ≤ k → k < 21 → Comprehension k
+from-eighteen {k} ((((((((((((u, a1), a2), a3), a4), a5), a6), a10), a9), a12), a13), a16), a17) l m = (next-up 17 k (next-up 16 k l a16) a17, omega arith)
+
+pub unmatched : {k : ℕ} → Unlisted k → (k < 1) ⊎ (21 ≤ k) → (k ≡ 0) ⊎ (22 ≤ k)
+unmatched w (inl l) = inl (omega arith)
+unmatched {k} ((((((((((((u, a1), a2), a3), a4), a5), a6), a10), a9), a12), a13), a16), a17) (inr l) = inr (next-up 21 k l (λ x. a5 (inr (inr x))))

@@ -4,7 +4,7 @@ use mathlib.Core.Logic.{_⊎_}
 use mathlib.Core.Bool.{Bool, true, false, cond}
 use mathlib.Core.Option.{Option, none as absent, some}
 use mathlib.Core.List.{List}
-use Prim.Native.Nat.{ℕ, _<_}
+use Prim.Native.Nat.{ℕ, _≤_, _<_}
 use lib.Dec.{eqb}
 use Rattle.values.specs.Value.{Value}
 use Rattle.values.specs.Place.{At}
@@ -47,6 +47,11 @@ ofTwo k op = cond (eqb k 5) (binary op) (cond (eqb k 11) rangeOf applyTo)
 
 abbrev pub OfTwo : ℕ → ℕ → Type 0
 OfTwo k op = ((k ≡ 5) × Binary op) ⊎ ((k ≡ 11) ⊎ (k ≡ 21))
+
+-- Whether the operator is and, or or =>, where the record is of kind 5.
+pub record Connects (k op : ℕ) (b : Bool) : Type 0 where
+  pub yes : b ≡ true → (k ≡ 5) × (op ≤ 3)
+  pub no : b ≡ false → k ≡ 5 → 3 < op
 
 -- By the record's kind, and its operator where it has one.
 abbrev pub Strict : List ℕ → ℕ → ℕ → ℕ → Type 0

@@ -14,8 +14,9 @@ use parts::words::Env;
 use parts::words::unpack;
 use tables::Index;
 use tables::kinds;
+use tables::reading::PLAIN;
 use tables::reading::field;
-use tables::reading::operand;
+use tables::reading::operand_from;
 use values::Value;
 ghost use mathlib.Core.Path.{_≡_};
 ghost use mathlib.Core.Bool.{true};
@@ -35,7 +36,7 @@ pub const INSIDE: usize = 1536;
 // A cursor goes down as its four numbers, which only a window that is filled again changes.
 pub const CELLS: usize = 4;
 
-// The environment under binding j of the binder r, which is brought into the window.
+// The environment under binding j of the binder r, which is brought into the window. It is changed where it stands, word by word.
 pub fn enter(
     table: &[u8],
     index: &Index,
@@ -51,7 +52,11 @@ pub fn enter(
     requires { ⌜ Enterable (now table) (now index) r whole (now s) base (envOf (now env)) (cursorOf (now cursor)) j ⌝ }
     ensures { λ _. ⌜ Enters (now (table .entry)) r whole (now (s .entry)) (now (s .exit)) base (envOf (now (env .entry))) (cursorOf (now (cursor .entry))) j (cursorOf (now (cursor .exit))) (envOf (now (inner .exit))) ⌝ }
 {
-    let p = operand(table, index, r, 0);
+    if is_nameless(cursor) {
+        *inner = *env;
+        return;
+    }
+    let p = operand_from(table, index, r, PLAIN, 0);
     let c = Cursor {
         count: cursor[0],
         names: cursor[1],
@@ -60,10 +65,8 @@ pub fn enter(
     };
     let near = reach(table, index, p, s, base, whole, base + WINDOW, c, j);
     *cursor = [near.count, near.names, near.width, near.from];
-    let words = *env;
-    let e = under(s, base + WINDOW, near, j, Env { words });
-    let words = e.words;
-    *inner = words;
+    *inner = *env;
+    under(s, base + WINDOW, near, j, inner);
 }
 
 // Whether the binding gives no name a value and stands in the window: the environment under it is the one around it.
@@ -195,7 +198,7 @@ pub fn fetch(
 {
     let mut inner = [0; Env::NAMES];
     enter(table, index, r, s, base, env, false, cursor, j, &mut inner);
-    let p = operand(table, index, r, 0);
+    let p = operand_from(table, index, r, PLAIN, 0);
     let x = field(table, index, p, 0);
     let word = inner[x];
     let part = unpack(word);

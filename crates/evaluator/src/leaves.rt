@@ -8,18 +8,23 @@ use parts::Part;
 use parts::words::Env;
 use parts::words::unpack;
 use tables::Index;
+use tables::binary;
 use tables::kinds;
+use tables::reading::AFTER_OPERATOR;
+use tables::reading::PLAIN;
 use tables::reading::field;
 use tables::reading::integer;
 use values::Value;
 ghost use mathlib.Core.Path.{_≡_};
+ghost use mathlib.Core.Logic.{_⊎_};
 ghost use Rattle.values.specs.Place.{Holds};
 ghost use Rattle.calling.specs.Applied.{Two, OnTwo};
 ghost use Rattle.tables.specs.Table.{kindAt};
 ghost use Rattle.tables.specs.Accepted.{records};
+ghost use Rattle.tables.specs.Shapes.{firstOf};
 ghost use Rattle.lists.specs.Lent.{lent};
 ghost use Rattle.evaluator.specs.Contract.{Ask, Evaluates, envOf};
-ghost use Rattle.evaluator.specs.Leaves.{Tells, OfTwo, ofTwo};
+ghost use Rattle.evaluator.specs.Leaves.{Tells, Connects, OfTwo, ofTwo};
 ghost use Rattle.evaluator.specs.Word.{ending};
 
 // 1: a boolean literal.
@@ -103,6 +108,28 @@ pub fn test(s: &[u8], at: usize) -> Truth
         return Truth::True;
     }
     Truth::False
+}
+
+// Whether the operator of a record of kind k is and, or or =>.
+pub fn is_connective(k: usize, op: usize) -> bool
+    ensures { λ b. ⌜ Connects k op b ⌝ }
+{
+    if k != kinds::BINARY {
+        return false;
+    }
+    op <= binary::IMPLIES
+}
+
+// Where the operands of a record of kind 5, 11 or 21 begin.
+pub fn first_of_two(k: usize) -> usize
+    requires { ⌜ (k ≡ 5) ⊎ ((k ≡ 11) ⊎ (k ≡ 21)) ⌝ }
+    ensures { λ n. ⌜ n ≡ firstOf k ⌝ }
+{
+    if k == kinds::BINARY {
+        AFTER_OPERATOR
+    } else {
+        PLAIN
+    }
 }
 
 // 5, 11, 21: a strict binary operator, a set range, an application, on the values at base and 512 bytes above it.

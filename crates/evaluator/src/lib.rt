@@ -14,7 +14,6 @@ use binding::agree;
 use binding::built;
 use binding::enter;
 use binding::fetch;
-use binding::is_nameless;
 use binding::judge;
 use binding::mark;
 use binding::opening;
@@ -29,6 +28,8 @@ use calling::Applied;
 use calling::Tested;
 use choices::Answer;
 use collections::building::put_empty;
+use leaves::first_of_two;
+use leaves::is_connective;
 use leaves::name;
 use leaves::test;
 use leaves::truth;
@@ -41,12 +42,13 @@ use run::choose;
 use run::decide;
 use run::wanted;
 use tables::Index;
-use tables::binary;
 use tables::kinds;
+use tables::reading::AFTER_OPERATOR;
+use tables::reading::PLAIN;
 use tables::reading::field;
 use tables::reading::kind;
-use tables::reading::operand;
-use tables::reading::operand_count;
+use tables::reading::operand_from;
+use tables::reading::operands_from;
 use values::Value;
 use words::VALUE;
 use words::YES;
@@ -132,7 +134,7 @@ fn un(
     requires { ⌜ Ask (now table) (now index) r (now s) base (envOf (now env)) (lent (now run)) × (kindAt (records (now table)) r ≡ 4) ⌝ }
     ensures { λ o. ⌜ Evaluates (now (table .entry)) r (now (s .entry)) (now (s .exit)) base (envOf (now (env .entry))) (lent (now (run .entry))) (ending o (lent (now (run .exit)))) ⌝ }
 {
-    let a = operand(table, index, r, 0);
+    let a = operand_from(table, index, r, AFTER_OPERATOR, 0);
     let o = eval(table, index, a, s, base, env, run);
     if o % 2 == 1 {
         return o;
@@ -157,12 +159,13 @@ fn bin(
     requires { ⌜ Ask (now table) (now index) r (now s) base (envOf (now env)) (lent (now run)) × (kindAt (records (now table)) r ≡ k) × Strict (now table) r k op ⌝ }
     ensures { λ o. ⌜ Evaluates (now (table .entry)) r (now (s .entry)) (now (s .exit)) base (envOf (now (env .entry))) (lent (now (run .entry))) (ending o (lent (now (run .exit)))) ⌝ }
 {
-    let a = operand(table, index, r, 0);
+    let first = first_of_two(k);
+    let a = operand_from(table, index, r, first, 0);
     let o = eval(table, index, a, s, base, env, run);
     if o % 2 == 1 {
         return o;
     }
-    let b = operand(table, index, r, 1);
+    let b = operand_from(table, index, r, first, 1);
     let q = eval(table, index, b, s, base + NEXT, env, run);
     if q % 2 == 1 {
         return q;
@@ -185,7 +188,7 @@ fn logic(
     requires { ⌜ Ask (now table) (now index) r (now s) base (envOf (now env)) (lent (now run)) × (kindAt (records (now table)) r ≡ 5) × (op ≡ operatorAt (now table) r) × (op ≤ 3) ⌝ }
     ensures { λ o. ⌜ Evaluates (now (table .entry)) r (now (s .entry)) (now (s .exit)) base (envOf (now (env .entry))) (lent (now (run .entry))) (ending o (lent (now (run .exit)))) ⌝ }
 {
-    let first = operand(table, index, r, 0);
+    let first = operand_from(table, index, r, AFTER_OPERATOR, 0);
     let o = eval(table, index, first, s, base, env, run);
     if o % 2 == 1 {
         return o;
@@ -195,7 +198,7 @@ fn logic(
         Tested::Settled => o,
         Tested::Refused(n) => refusal(n, r, 0),
         Tested::Open => {
-            let second = operand(table, index, r, 1);
+            let second = operand_from(table, index, r, AFTER_OPERATOR, 1);
             let q = eval(table, index, second, s, base, env, run);
             if q % 2 == 1 {
                 return q;
@@ -219,7 +222,7 @@ fn cond(
     requires { ⌜ Ask (now table) (now index) r (now s) base (envOf (now env)) (lent (now run)) × (kindAt (records (now table)) r ≡ 6) ⌝ }
     ensures { λ o. ⌜ Evaluates (now (table .entry)) r (now (s .entry)) (now (s .exit)) base (envOf (now (env .entry))) (lent (now (run .entry))) (ending o (lent (now (run .exit)))) ⌝ }
 {
-    let a = operand(table, index, r, 0);
+    let a = operand_from(table, index, r, PLAIN, 0);
     let o = eval(table, index, a, s, base, env, run);
     if o % 2 == 1 {
         return o;
@@ -228,11 +231,11 @@ fn cond(
     match t {
         Truth::Other => refusal(Applied::WRONG_KIND, r, 0),
         Truth::True => {
-            let b = operand(table, index, r, 1);
+            let b = operand_from(table, index, r, PLAIN, 1);
             eval(table, index, b, s, base, env, run)
         }
         Truth::False => {
-            let d = operand(table, index, r, 2);
+            let d = operand_from(table, index, r, PLAIN, 2);
             eval(table, index, d, s, base, env, run)
         }
     }
@@ -252,12 +255,12 @@ fn many(
     requires { ⌜ Ask (now table) (now index) r (now s) base (envOf (now env)) (lent (now run)) × (kindAt (records (now table)) r ≡ k) × Enumerated k ⌝ }
     ensures { λ o. ⌜ Evaluates (now (table .entry)) r (now (s .entry)) (now (s .exit)) base (envOf (now (env .entry))) (lent (now (run .entry))) (ending o (lent (now (run .exit)))) ⌝ }
 {
-    let n = operand_count(table, index, r);
+    let n = operands_from(table, index, r, PLAIN);
     put_empty(s, base, started(k));
     let mut bad = 0;
     let mut i = 0;
     while i < n {
-        let a = operand(table, index, r, i);
+        let a = operand_from(table, index, r, PLAIN, i);
         let o = eval(table, index, a, s, base + NEXT, env, run);
         if o % 2 == 1 {
             return o;
@@ -281,17 +284,17 @@ fn maps(
     requires { ⌜ Ask (now table) (now index) r (now s) base (envOf (now env)) (lent (now run)) × (kindAt (records (now table)) r ≡ 9) ⌝ }
     ensures { λ o. ⌜ Evaluates (now (table .entry)) r (now (s .entry)) (now (s .exit)) base (envOf (now (env .entry))) (lent (now (run .entry))) (ending o (lent (now (run .exit)))) ⌝ }
 {
-    let n = operand_count(table, index, r);
+    let n = operands_from(table, index, r, PLAIN);
     put_empty(s, base, Value::MAP);
     let mut bad = 0;
     let mut i = 0;
     while i < n {
-        let a = operand(table, index, r, i);
+        let a = operand_from(table, index, r, PLAIN, i);
         let o = eval(table, index, a, s, base + NEXT, env, run);
         if o % 2 == 1 {
             return o;
         }
-        let b = operand(table, index, r, i + 1);
+        let b = operand_from(table, index, r, PLAIN, i + 1);
         let q = eval(table, index, b, s, base + AFTER, env, run);
         if q % 2 == 1 {
             return q;
@@ -319,7 +322,7 @@ fn begin(
     requires { ⌜ Ask (now table) (now index) r (now s) base (envOf (now env)) (lent (now run)) × (kindAt (records (now table)) r ≡ k) × Binder k ⌝ }
     ensures { λ o. ⌜ Begins (now (table .entry)) r k (now (s .entry)) (now (s .exit)) base (envOf (now (env .entry))) (lent (now (run .entry))) (placed o (now (cursor .exit))) (lent (now (run .exit))) ⌝ }
 {
-    let a = operand(table, index, r, 1);
+    let a = operand_from(table, index, r, PLAIN, 1);
     let o = eval(table, index, a, s, base, env, run);
     if o % 2 == 1 {
         return o;
@@ -327,7 +330,7 @@ fn begin(
     if !suits(s, base, k) {
         return refusal(Applied::WRONG_KIND, r, 0);
     }
-    let p = operand(table, index, r, 0);
+    let p = operand_from(table, index, r, PLAIN, 0);
     let opened = bindings::open(table, index, p, s, base, k == kinds::LET, base + WINDOW);
     opening(opened, r, cursor)
 }
@@ -350,10 +353,7 @@ fn inside(
     requires { ⌜ Stands (now table) (now index) r whole (now s) base (envOf (now env)) (lent (now run)) (cursorOf (now cursor)) j × HasOperand (now table) (now index) r i × Upward up ⌝ }
     ensures { λ o. ⌜ Insides (now (table .entry)) r (operandAt (now (table .entry)) r i) whole (now (s .entry)) (now (s .exit)) base up (envOf (now (env .entry))) (lent (now (run .entry))) (cursorOf (now (cursor .entry))) j (placed o (now (cursor .exit))) (lent (now (run .exit))) ⌝ }
 {
-    let q = operand(table, index, r, i);
-    if is_nameless(cursor) {
-        return eval(table, index, q, s, base + up, env, run);
-    }
+    let q = operand_from(table, index, r, PLAIN, i);
     let mut inner = [0; Env::NAMES];
     enter(table, index, r, s, base, env, whole, cursor, j, &mut inner);
     eval(table, index, q, s, base + up, &inner, run)
@@ -588,7 +588,7 @@ fn local(
     if n == 0 {
         return refusal(Outcome::NO_MATCH, r, 0);
     }
-    let p = operand(table, index, r, 0);
+    let p = operand_from(table, index, r, PLAIN, 0);
     let loose = is_loose(table, index, p);
     let a = decide(run, n, loose);
     let Answer::Taken(i) = a else {
@@ -767,7 +767,7 @@ fn comp(
     VALUE
 }
 
-// The record r evaluated.
+// The record r evaluated. Kinds that are evaluated alike share an arm: what is called at one place only can become part of this function.
 pub fn eval(
     table: &[u8],
     index: &Index,
@@ -786,29 +786,26 @@ pub fn eval(
         kinds::INTEGER => whole(table, index, r, s, base, env, run),
         kinds::NAME => name(table, index, r, s, base, env, run),
         kinds::UNARY => un(table, index, r, s, base, env, run),
-        kinds::BINARY => {
+        kinds::BINARY | kinds::RANGE | kinds::APPLY => {
             let op = field(table, index, r, 0);
-            if op <= binary::IMPLIES {
+            if is_connective(k, op) {
                 return logic(table, index, r, s, base, env, run, op);
             }
             bin(table, index, r, s, base, env, run, k, op)
         }
         kinds::IF => cond(table, index, r, s, base, env, run),
-        kinds::SET => many(table, index, r, s, base, env, run, k),
-        kinds::SEQUENCE => many(table, index, r, s, base, env, run, k),
+        kinds::SET | kinds::SEQUENCE | kinds::TUPLE => many(table, index, r, s, base, env, run, k),
         kinds::MAP => maps(table, index, r, s, base, env, run),
-        kinds::TUPLE => many(table, index, r, s, base, env, run, k),
-        kinds::RANGE => bin(table, index, r, s, base, env, run, k, 0),
         kinds::LET => local(table, index, r, s, base, env, run),
         kinds::LET_BE => such(table, index, r, s, base, env, run),
-        kinds::FORALL => quant(table, index, r, s, base, env, run, k, false),
-        kinds::EXISTS => quant(table, index, r, s, base, env, run, k, true),
+        kinds::FORALL | kinds::EXISTS => {
+            quant(table, index, r, s, base, env, run, k, k == kinds::EXISTS)
+        }
         kinds::EXISTS1 => one(table, index, r, s, base, env, run, k),
         kinds::IOTA => one(table, index, r, s, base, env, run, k),
-        kinds::SET_COMPREHENSION => comp(table, index, r, s, base, env, run, k),
-        kinds::SEQUENCE_COMPREHENSION => comp(table, index, r, s, base, env, run, k),
-        kinds::MAP_COMPREHENSION => comp(table, index, r, s, base, env, run, k),
-        kinds::APPLY => bin(table, index, r, s, base, env, run, k, 0),
+        kinds::SET_COMPREHENSION | kinds::SEQUENCE_COMPREHENSION | kinds::MAP_COMPREHENSION => {
+            comp(table, index, r, s, base, env, run, k)
+        }
         _ => refusal(Applied::WRONG_KIND, r, 0),
     }
 }

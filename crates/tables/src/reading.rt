@@ -5,7 +5,7 @@ ghost use lib.ListN.{length, getD};
 ghost use Rattle.tables.specs.Record.{lastKind, named, operand as operandIn, roleAt, field as fieldIn, integerOf};
 ghost use Rattle.tables.specs.Table.{recordAt, kindAt};
 ghost use Rattle.tables.specs.Check.{mostBytes, mostRecords};
-ghost use Rattle.tables.specs.Shapes.{lengthRows};
+ghost use Rattle.tables.specs.Shapes.{lengthRows, firstOf};
 ghost use Rattle.tables.specs.Accepted.{records};
 ghost use Rattle.tables.specs.Reading.{Measured, CutOut, Here, HasField, HasOperand};
 use crate::HEADING;
@@ -21,6 +21,11 @@ use crate::shape::role_of;
 use crate::shape::wide;
 use integers::bytes::read16;
 use integers::bytes::read32;
+
+// Where operands begin: after the heading, or after an operator.
+pub const PLAIN: usize = HEADING;
+
+pub const AFTER_OPERATOR: usize = HEADING + 1;
 
 // What cutting a table finds: the number of records up to the first fault of rule 4, and whether there is none.
 pub struct Cutting {
@@ -138,14 +143,32 @@ pub fn field(table: &[u8], index: &Index, r: usize, i: usize) -> usize
     byte_of(&table[at..], HEADING + i)
 }
 
+// The number of operands of record r, whose operands begin at byte `first`.
+pub fn operands_from(table: &[u8], index: &Index, r: usize, first: usize) -> usize
+    requires { ⌜ Here (now table) (now index) r × (first ≡ firstOf (kindAt (records (now table)) r)) ⌝ }
+    ensures { λ n. ⌜ (n ≡ length (named (recordAt (records (now (table .entry))) r))) × (n ≤ 8) ⌝ }
+{
+    let at = place(index, r);
+    let len = byte_of(&table[at..], 0);
+    len - first
+}
+
 // The number of operands of record r.
 pub fn operand_count(table: &[u8], index: &Index, r: usize) -> usize
     requires { ⌜ Here (now table) (now index) r ⌝ }
     ensures { λ n. ⌜ (n ≡ length (named (recordAt (records (now (table .entry))) r))) × (n ≤ 8) ⌝ }
 {
+    let first = first_operand(kind(table, index, r));
+    operands_from(table, index, r, first)
+}
+
+// The number in operand i of record r, whose operands begin at byte `first`: whoever knows its kind need not read it again.
+pub fn operand_from(table: &[u8], index: &Index, r: usize, first: usize, i: usize) -> usize
+    requires { ⌜ HasOperand (now table) (now index) r i × (first ≡ firstOf (kindAt (records (now table)) r)) ⌝ }
+    ensures { λ n. ⌜ (n ≡ operandIn (recordAt (records (now (table .entry))) r) i) × (n < 256) ⌝ }
+{
     let at = place(index, r);
-    let len = byte_of(&table[at..], 0);
-    len - first_operand(kind(table, index, r))
+    byte_of(&table[at..], first + i)
 }
 
 // The number in operand i of record r.
@@ -153,9 +176,8 @@ pub fn operand(table: &[u8], index: &Index, r: usize, i: usize) -> usize
     requires { ⌜ HasOperand (now table) (now index) r i ⌝ }
     ensures { λ n. ⌜ (n ≡ operandIn (recordAt (records (now (table .entry))) r) i) × (n < 256) ⌝ }
 {
-    let at = place(index, r);
     let first = first_operand(kind(table, index, r));
-    byte_of(&table[at..], first + i)
+    operand_from(table, index, r, first, i)
 }
 
 // What operand i of record r is for.

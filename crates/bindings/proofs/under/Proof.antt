@@ -17,19 +17,19 @@ abbrev μ-loop : tie.MeasureT-loop
 
 -- src/lib.rt:195:44
 sub-at : tie.Need-sub-at Inv-loop μ-loop
-sub-at c = omega (arith, c .before .before .before .pre .within .low)
+sub-at c = omega (arith, c .before .before .pre .within .low)
 
 -- src/lib.rt:195:28
 mul-at : tie.Need-mul-at Inv-loop μ-loop
-mul-at c = omega (arith, c .before .before .before .before .pre .within .fits)
+mul-at c = omega (arith, c .before .before .before .pre .within .fits)
 
 -- src/lib.rt:195:23
 mul-at-2 : tie.Need-mul-at-2 Inv-loop μ-loop
-mul-at-2 c = omega (arith, c .before .before .before .before .pre .within .fits)
+mul-at-2 c = omega (arith, c .before .before .before .pre .within .fits)
 
 -- src/lib.rt:195:18
 add-at : tie.Need-add-at Inv-loop μ-loop
-add-at c = omega (arith, c .before .before .before .before .pre .within .fits, c .before .before .before .before .pre .room, c .before .before .before .before .pre .short)
+add-at c = omega (arith, c .before .before .before .pre .within .fits, c .before .before .before .pre .room, c .before .before .before .pre .short)
 
 -- src/lib.rt:198:5
 loop-holds : tie.Need-loop-holds Inv-loop μ-loop
@@ -37,23 +37,23 @@ loop-holds c = λ c′ env h a b d. rw (← a, b, d) (under-start _ _ _ _ _ h)
 
 -- src/lib.rt:200:24
 read-word-requires : tie.Need-read-word-requires Inv-loop μ-loop
-read-word-requires c κs = under-room _ _ _ _ _ (c .before .before .before .before .before .before .before .pre) _ _ _ _ (c .before .before .loop .inv (c .before .before .before .before .before .before .before .args .cursor) (c .before .before .before .before .before .before .before .args .env) (c .before .before .before .before .before .before .before .pre) refl refl refl) (omega arith) (c .if1 .taken)
+read-word-requires c κs = under-room _ _ _ _ _ (c .before .before .before .before .before .before .pre) _ _ _ _ (c .before .before .loop .inv (c .before .before .before .before .before .before .args .cursor) (record { words = c .before .before .before .before .before .before .args .words .now }) (c .before .before .before .before .before .before .pre) refl refl refl) (omega arith) (c .if1 .taken)
 
 -- src/lib.rt:200:13
 mul-words : tie.Need-mul-words Inv-loop μ-loop
-mul-words c = omega (arith, under-in _ _ _ _ _ (c .before .before .before .before .before .before .before .before .pre) _ _ _ _ (c .before .before .before .loop .inv (c .before .before .before .before .before .before .before .before .args .cursor) (c .before .before .before .before .before .before .before .before .args .env) (c .before .before .before .before .before .before .before .before .pre) refl refl refl) (omega arith))
+mul-words c = omega (arith, under-in _ _ _ _ _ (c .before .before .before .before .before .before .before .pre) _ _ _ _ (c .before .before .before .loop .inv (c .before .before .before .before .before .before .before .args .cursor) (record { words = c .before .before .before .before .before .before .before .args .words .now }) (c .before .before .before .before .before .before .before .pre) refl refl refl) (omega arith))
 
 -- src/lib.rt:200:13
-array-write-words : tie.Need-array-write-words Inv-loop μ-loop
-array-write-words c = omega (arith, under-in _ _ _ _ _ (c .before .before .before .before .before .before .before .before .pre) _ _ _ _ (c .before .before .before .loop .inv (c .before .before .before .before .before .before .before .before .args .cursor) (c .before .before .before .before .before .before .before .before .args .env) (c .before .before .before .before .before .before .before .before .pre) refl refl refl) (omega arith))
+element-write-words : tie.Need-element-write-words Inv-loop μ-loop
+element-write-words c = omega (arith, under-in _ _ _ _ _ (c .before .before .before .before .before .before .before .pre) _ _ _ _ (c .before .before .before .loop .inv (c .before .before .before .before .before .before .before .args .cursor) (record { words = c .before .before .before .before .before .before .before .args .words .now }) (c .before .before .before .before .before .before .before .pre) refl refl refl) (omega arith))
 
 -- src/lib.rt:201:13
 add-at-2 : tie.Need-add-at-2 Inv-loop μ-loop
-add-at-2 c = omega (arith, under-room _ _ _ _ _ (c .before .before .before .before .before .before .before .before .pre) _ _ _ _ (c .before .before .before .loop .inv (c .before .before .before .before .before .before .before .before .args .cursor) (c .before .before .before .before .before .before .before .before .args .env) (c .before .before .before .before .before .before .before .before .pre) refl refl refl) (omega arith) (c .before .if1 .taken))
+add-at-2 c = omega (arith, under-room _ _ _ _ _ (c .before .before .before .before .before .before .before .pre) _ _ _ _ (c .before .before .before .loop .inv (c .before .before .before .before .before .before .before .args .cursor) (record { words = c .before .before .before .before .before .before .before .args .words .now }) (c .before .before .before .before .before .before .before .pre) refl refl refl) (omega arith) (c .before .if1 .taken))
 
 -- src/lib.rt:204:9
 add-x : tie.Need-add-x Inv-loop μ-loop
-add-x c = omega (arith, under-in _ _ _ _ _ (c .before .before .before .before .before .before .before .pre) _ _ _ _ (c .before .before .loop .inv (c .before .before .before .before .before .before .before .args .cursor) (c .before .before .before .before .before .before .before .args .env) (c .before .before .before .before .before .before .before .pre) refl refl refl) (omega arith))
+add-x c = omega (arith, under-in _ _ _ _ _ (c .before .before .before .before .before .before .pre) _ _ _ _ (c .before .before .loop .inv (c .before .before .before .before .before .before .args .cursor) (record { words = c .before .before .before .before .before .before .args .words .now }) (c .before .before .before .before .before .before .pre) refl refl refl) (omega arith))
 
 -- src/lib.rt:198:5
 loop-less : tie.Need-loop-less Inv-loop μ-loop
@@ -65,7 +65,7 @@ loop-again c = λ c′ env h a b d. ⊎-elim (λ x. rw (x .2, x .3) (under-some 
 
 -- src/lib.rt:190:1
 returns : tie.Need-returns Inv-loop μ-loop
-returns c = under-end _ _ _ _ _ (c .before .before .before .before .before .before .pre) _ _ _ _ (c .before .loop .inv (c .before .before .before .before .before .before .args .cursor) (c .before .before .before .before .before .before .args .env) (c .before .before .before .before .before .before .pre) refl refl refl) (omega arith)
+returns c = under-end _ _ _ _ _ (c .before .before .before .before .before .pre) _ _ _ _ (c .before .loop .inv (c .before .before .before .before .before .args .cursor) (record { words = c .before .before .before .before .before .args .words .now }) (c .before .before .before .before .before .pre) refl refl refl) (omega arith)
 
 pub under-spec : {M : Type 1} → statement M
 under-spec =
@@ -80,7 +80,7 @@ under-spec =
     loop-holds
     read-word-requires
     mul-words
-    array-write-words
+    element-write-words
     add-at-2
     add-x
     loop-less

@@ -3,6 +3,7 @@ use Prim.Native.Nat.{ℕ}
 use native.Mathlib.Omega.{arith}
 use mathlib.Core.Path.{refl, sym, subst}
 use borrow.Author.Needs.{needs}
+use Rattle.evaluator.proofs.Firsts.{plain-first}
 use Rattle.evaluator.proofs.+begin+bin+comp+cond+eval+holds+inside+item+local+logic+many+maps+one+pair+quant+step+such+survey+un.Proof.Common.{begin-at, eval-below}
 use borrow.Author.Tests.{not-true, not-false}
 use Rattle.evaluator.specs.Binding.{Binder}
@@ -16,15 +17,15 @@ use Rattle.evaluator.proofs.begin.Reads as begin
 use Rattle.evaluator.proofs.eval.Reads as eval
 use Rattle.bindings.proofs.open.Reads as open-reads
 use Rattle.evaluator.proofs.binding.opening.Reads as opening-reads
-use Rattle.tables.proofs.reading.operand.Reads as operand-reads
+use Rattle.tables.proofs.reading.operand_from.Reads as operand-from-reads
 use Rattle.evaluator.proofs.words.refusal.Reads as refusal-reads
 use Rattle.evaluator.proofs.binding.suits.Reads as suits-reads
 use Rattle.evaluator.proofs.+begin+bin+comp+cond+eval+holds+inside+item+local+logic+many+maps+one+pair+quant+step+such+survey+un.Lts-begin as begin-lts
 
 abbrev begin-calls : ℕ → begin-lts.Claims
 begin-calls t = (
-  operand-reads.Asked,
-  operand-reads.Learnt,
+  operand-from-reads.Asked,
+  operand-from-reads.Learnt,
   eval-below t,
   eval.Post,
   suits-reads.Asked,
@@ -38,12 +39,12 @@ begin-calls t = (
 )
 
 -- src/lib.rt:321:9
-begin-operand-requires : (t : ℕ) → begin-lts.Need-operand-requires (begin-calls t) (begin-at t) begin.Post
-begin-operand-requires t c κs = binder-has (c .before .before .pre .1 .0) (subst Binder (sym (c .before .before .pre .1 .1)) (c .before .before .pre .1 .2)) 1 (omega arith)
+begin-operand-from-requires : (t : ℕ) → begin-lts.Need-operand-from-requires (begin-calls t) (begin-at t) begin.Post
+begin-operand-from-requires t c κs = (binder-has (c .before .before .pre .1 .0) (subst Binder (sym (c .before .before .pre .1 .1)) (c .before .before .pre .1 .2)) 1 (omega arith), plain-first (c .before .before .pre .1 .1) (omega (arith, c .before .before .pre .1 .2)) (omega (arith, c .before .before .pre .1 .2)))
 
 -- src/lib.rt:322:9
 begin-eval-requires : (t : ℕ) → begin-lts.Need-eval-requires (begin-calls t) (begin-at t) begin.Post
-begin-eval-requires t c κs = let h = first-asked (c .before .before .before .before .before .pre .1 .0) (binder-has (c .before .before .before .before .before .pre .1 .0) (subst Binder (sym (c .before .before .before .before .before .pre .1 .1)) (c .before .before .before .before .before .pre .1 .2)) 1 (omega arith)) (c .before .before .operand .ensures .0) in (omega (arith, h .0, c .before .before .before .before .before .pre .0), h .1)
+begin-eval-requires t c κs = let h = first-asked (c .before .before .before .before .before .pre .1 .0) (binder-has (c .before .before .before .before .before .pre .1 .0) (subst Binder (sym (c .before .before .before .before .before .pre .1 .1)) (c .before .before .before .before .before .pre .1 .2)) 1 (omega arith)) (c .before .before .operand-from .ensures .0) in (omega (arith, h .0, c .before .before .before .before .before .pre .0), h .1)
 
 -- src/lib.rt:324:9
 begin-same-length : (t : ℕ) → begin-lts.Need-same-length (begin-calls t) (begin-at t) begin.Post
@@ -51,11 +52,11 @@ begin-same-length t c = c .before .before .before .eval .ensures .kept .long
 
 -- src/lib.rt:324:9
 begin-returns : (t : ℕ) → begin-lts.Need-returns (begin-calls t) (begin-at t) begin.Post
-begin-returns t c = begin-off (c .before .before .before .before .before .before .before .before .before .pre .1 .0) (c .before .before .before .before .before .before .before .before .before .args .k) (c .before .before .before .before .before .before .operand .ensures .0) (c .before .before .before .eval .ensures) (unvalued (c .before .before .before .eval .result) (c .if1 .taken)) refl
+begin-returns t c = begin-off (c .before .before .before .before .before .before .before .before .before .pre .1 .0) (c .before .before .before .before .before .before .before .before .before .args .k) (c .before .before .before .before .before .before .operand-from .ensures .0) (c .before .before .before .eval .ensures) (unvalued (c .before .before .before .eval .result) (c .if1 .taken)) refl
 
 -- src/lib.rt:326:9
 begin-suits-requires : (t : ℕ) → begin-lts.Need-suits-requires (begin-calls t) (begin-at t) begin.Post
-begin-suits-requires t c κs = begin-held (c .before .before .before .before .before .before .before .before .before .before .pre .1 .0) (c .before .before .before .before .before .before .before .before .before .before .args .k) (c .before .before .before .before .before .before .before .operand .ensures .0) (c .before .before .before .before .eval .ensures) (valued (c .before .before .before .before .eval .result) (c .before .if1 .left))
+begin-suits-requires t c κs = begin-held (c .before .before .before .before .before .before .before .before .before .before .pre .1 .0) (c .before .before .before .before .before .before .before .before .before .before .args .k) (c .before .before .before .before .before .before .before .operand-from .ensures .0) (c .before .before .before .before .eval .ensures) (valued (c .before .before .before .before .eval .result) (c .before .if1 .left))
 
 -- src/lib.rt:327:9
 begin-refusal-requires : (t : ℕ) → begin-lts.Need-refusal-requires (begin-calls t) (begin-at t) begin.Post
@@ -67,11 +68,11 @@ begin-same-length-2 t c = c .before .before .before .before .before .before .bef
 
 -- src/lib.rt:327:9
 begin-returns-2 : (t : ℕ) → begin-lts.Need-returns-2 (begin-calls t) (begin-at t) begin.Post
-begin-returns-2 t c = begin-unfit (c .before .before .before .before .before .before .before .before .before .before .before .before .before .pre .1 .0) (c .before .before .before .before .before .before .before .before .before .before .before .before .before .args .k) (c .before .before .before .before .before .before .before .before .before .before .operand .ensures .0) (c .before .before .before .before .before .before .before .eval .ensures) (valued (c .before .before .before .before .before .before .before .eval .result) (c .before .before .before .before .if1 .left)) (c .before .before .suits .ensures) (not-true _ (c .before .if2 .taken)) (decoded (omega arith) (small-place (c .before .before .before .before .before .before .before .before .before .before .before .before .before .pre .1 .0)) (omega arith) (c .refusal .ensures))
+begin-returns-2 t c = begin-unfit (c .before .before .before .before .before .before .before .before .before .before .before .before .before .pre .1 .0) (c .before .before .before .before .before .before .before .before .before .before .before .before .before .args .k) (c .before .before .before .before .before .before .before .before .before .before .operand-from .ensures .0) (c .before .before .before .before .before .before .before .eval .ensures) (valued (c .before .before .before .before .before .before .before .eval .result) (c .before .before .before .before .if1 .left)) (c .before .before .suits .ensures) (not-true _ (c .before .if2 .taken)) (decoded (omega arith) (small-place (c .before .before .before .before .before .before .before .before .before .before .before .before .before .pre .1 .0)) (omega arith) (c .refusal .ensures))
 
 -- src/lib.rt:329:9
-begin-operand-requires-2 : (t : ℕ) → begin-lts.Need-operand-requires-2 (begin-calls t) (begin-at t) begin.Post
-begin-operand-requires-2 t c κs = binder-has (c .before .before .before .before .before .before .before .before .before .before .before .before .pre .1 .0) (subst Binder (sym (c .before .before .before .before .before .before .before .before .before .before .before .before .pre .1 .1)) (c .before .before .before .before .before .before .before .before .before .before .before .before .pre .1 .2)) 0 (omega arith)
+begin-operand-from-requires-2 : (t : ℕ) → begin-lts.Need-operand-from-requires-2 (begin-calls t) (begin-at t) begin.Post
+begin-operand-from-requires-2 t c κs = (binder-has (c .before .before .before .before .before .before .before .before .before .before .before .before .pre .1 .0) (subst Binder (sym (c .before .before .before .before .before .before .before .before .before .before .before .before .pre .1 .1)) (c .before .before .before .before .before .before .before .before .before .before .before .before .pre .1 .2)) 0 (omega arith), plain-first (c .before .before .before .before .before .before .before .before .before .before .before .before .pre .1 .1) (omega (arith, c .before .before .before .before .before .before .before .before .before .before .before .before .pre .1 .2)) (omega (arith, c .before .before .before .before .before .before .before .before .before .before .before .before .pre .1 .2)))
 
 -- src/lib.rt:330:76
 begin-add-open : (t : ℕ) → begin-lts.Need-add-open (begin-calls t) (begin-at t) begin.Post
@@ -79,7 +80,7 @@ begin-add-open t c = omega (arith, room-here (c .before .before .before .before 
 
 -- src/lib.rt:330:9
 begin-open-requires : (t : ℕ) → begin-lts.Need-open-requires (begin-calls t) (begin-at t) begin.Post
-begin-open-requires t c κs = (binder-readable (c .before .before .before .before .before .before .before .before .before .before .before .before .before .before .pre .1 .0) (subst Binder (sym (c .before .before .before .before .before .before .before .before .before .before .before .before .before .before .pre .1 .1)) (c .before .before .before .before .before .before .before .before .before .before .before .before .before .before .pre .1 .2)) (c .before .operand2 .ensures .0), begin-lent (c .before .before .before .before .before .before .before .before .before .before .before .before .before .before .pre .1 .0) (c .before .before .before .before .before .before .before .before .before .before .before .before .before .before .args .k) (c .before .before .before .before .before .before .before .before .before .before .before .operand .ensures .0) (c .before .before .before .before .before .before .before .before .eval .ensures) (valued (c .before .before .before .before .before .before .before .before .eval .result) (c .before .before .before .before .before .if1 .left)) (c .before .before .before .suits .ensures) (not-false _ (c .before .before .if2 .left)))
+begin-open-requires t c κs = (binder-readable (c .before .before .before .before .before .before .before .before .before .before .before .before .before .before .pre .1 .0) (subst Binder (sym (c .before .before .before .before .before .before .before .before .before .before .before .before .before .before .pre .1 .1)) (c .before .before .before .before .before .before .before .before .before .before .before .before .before .before .pre .1 .2)) (c .before .operand-from2 .ensures .0), begin-lent (c .before .before .before .before .before .before .before .before .before .before .before .before .before .before .pre .1 .0) (c .before .before .before .before .before .before .before .before .before .before .before .before .before .before .args .k) (c .before .before .before .before .before .before .before .before .before .before .before .operand-from .ensures .0) (c .before .before .before .before .before .before .before .before .eval .ensures) (valued (c .before .before .before .before .before .before .before .before .eval .result) (c .before .before .before .before .before .if1 .left)) (c .before .before .before .suits .ensures) (not-false _ (c .before .before .if2 .left)))
 
 -- src/lib.rt:331:5
 begin-opening-requires : (t : ℕ) → begin-lts.Need-opening-requires (begin-calls t) (begin-at t) begin.Post
@@ -87,15 +88,15 @@ begin-opening-requires t c κs = search needs
 
 -- src/lib.rt:307:1
 begin-same-length-3 : (t : ℕ) → begin-lts.Need-same-length-3 (begin-calls t) (begin-at t) begin.Post
-begin-same-length-3 t c = (begin-opened (c .before .before .before .before .before .before .before .before .before .before .before .before .before .before .before .before .before .before .before .pre .1 .0) (c .before .before .before .before .before .before .before .before .before .before .before .before .before .before .before .before .before .before .before .args .k) (c .before .before .before .before .before .before .before .before .before .before .before .before .before .before .before .before .operand .ensures .0) (c .before .before .before .before .before .before .before .before .before .before .before .before .before .eval .ensures) (valued (c .before .before .before .before .before .before .before .before .before .before .before .before .before .eval .result) (c .before .before .before .before .before .before .before .before .before .before .if1 .left)) (c .before .before .before .before .before .before .before .before .suits .ensures) (not-false _ (c .before .before .before .before .before .before .before .if2 .left)) (c .before .before .before .before .before .before .operand2 .ensures .0) (c .before .before .before .before .«open» .ensures) (c .opening .ensures)) .kept .long
+begin-same-length-3 t c = (begin-opened (c .before .before .before .before .before .before .before .before .before .before .before .before .before .before .before .before .before .before .before .pre .1 .0) (c .before .before .before .before .before .before .before .before .before .before .before .before .before .before .before .before .before .before .before .args .k) (c .before .before .before .before .before .before .before .before .before .before .before .before .before .before .before .before .operand-from .ensures .0) (c .before .before .before .before .before .before .before .before .before .before .before .before .before .eval .ensures) (valued (c .before .before .before .before .before .before .before .before .before .before .before .before .before .eval .result) (c .before .before .before .before .before .before .before .before .before .before .if1 .left)) (c .before .before .before .before .before .before .before .before .suits .ensures) (not-false _ (c .before .before .before .before .before .before .before .if2 .left)) (c .before .before .before .before .before .before .operand-from2 .ensures .0) (c .before .before .before .before .«open» .ensures) (c .opening .ensures)) .kept .long
 
 -- src/lib.rt:307:1
 begin-returns-3 : (t : ℕ) → begin-lts.Need-returns-3 (begin-calls t) (begin-at t) begin.Post
-begin-returns-3 t c = begin-opened (c .before .before .before .before .before .before .before .before .before .before .before .before .before .before .before .before .before .before .before .pre .1 .0) (c .before .before .before .before .before .before .before .before .before .before .before .before .before .before .before .before .before .before .before .args .k) (c .before .before .before .before .before .before .before .before .before .before .before .before .before .before .before .before .operand .ensures .0) (c .before .before .before .before .before .before .before .before .before .before .before .before .before .eval .ensures) (valued (c .before .before .before .before .before .before .before .before .before .before .before .before .before .eval .result) (c .before .before .before .before .before .before .before .before .before .before .if1 .left)) (c .before .before .before .before .before .before .before .before .suits .ensures) (not-false _ (c .before .before .before .before .before .before .before .if2 .left)) (c .before .before .before .before .before .before .operand2 .ensures .0) (c .before .before .before .before .«open» .ensures) (c .opening .ensures)
+begin-returns-3 t c = begin-opened (c .before .before .before .before .before .before .before .before .before .before .before .before .before .before .before .before .before .before .before .pre .1 .0) (c .before .before .before .before .before .before .before .before .before .before .before .before .before .before .before .before .before .before .before .args .k) (c .before .before .before .before .before .before .before .before .before .before .before .before .before .before .before .before .operand-from .ensures .0) (c .before .before .before .before .before .before .before .before .before .before .before .before .before .eval .ensures) (valued (c .before .before .before .before .before .before .before .before .before .before .before .before .before .eval .result) (c .before .before .before .before .before .before .before .before .before .before .if1 .left)) (c .before .before .before .before .before .before .before .before .suits .ensures) (not-false _ (c .before .before .before .before .before .before .before .if2 .left)) (c .before .before .before .before .before .before .operand-from2 .ensures .0) (c .before .before .before .before .«open» .ensures) (c .opening .ensures)
 
 pub begin-member : {M : Type 1} (t : ℕ) → begin-lts.Closed (begin-calls t) (begin-at t) begin.Post M
 begin-member t = begin-lts.spec (begin-calls t) (begin-at t) begin.Post
-    (begin-operand-requires t)
+    (begin-operand-from-requires t)
     (begin-eval-requires t)
     (begin-same-length t)
     (begin-returns t)
@@ -103,7 +104,7 @@ begin-member t = begin-lts.spec (begin-calls t) (begin-at t) begin.Post
     (begin-refusal-requires t)
     (begin-same-length-2 t)
     (begin-returns-2 t)
-    (begin-operand-requires-2 t)
+    (begin-operand-from-requires-2 t)
     (begin-add-open t)
     (begin-open-requires t)
     (begin-opening-requires t)

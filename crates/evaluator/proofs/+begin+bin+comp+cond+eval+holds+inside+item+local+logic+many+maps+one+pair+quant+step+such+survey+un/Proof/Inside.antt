@@ -6,69 +6,47 @@ use mathlib.Core.Path.{refl}
 use Rattle.evaluator.proofs.+begin+bin+comp+cond+eval+holds+inside+item+local+logic+many+maps+one+pair+quant+step+such+survey+un.Proof.Common.{inside-at, eval-below}
 use Rattle.evaluator.proofs.Tables.{room-here}
 use Rattle.evaluator.proofs.Plain.{gives-at}
-use Rattle.evaluator.proofs.Entering.{inside-asked, inside-done, nameless-enters}
+use Rattle.evaluator.proofs.Firsts.{binder-first}
+use Rattle.evaluator.proofs.Entering.{inside-asked, inside-done}
 use Rattle.evaluator.proofs.binding.enter.Reads as enter-reads
-use Rattle.evaluator.proofs.binding.is_nameless.Reads as is-nameless-reads
 use Rattle.evaluator.proofs.eval.Reads as eval
 use Rattle.evaluator.proofs.inside.Reads as inside
-use Rattle.tables.proofs.reading.operand.Reads as operand-reads
+use Rattle.tables.proofs.reading.operand_from.Reads as operand-from-reads
 use Rattle.evaluator.proofs.+begin+bin+comp+cond+eval+holds+inside+item+local+logic+many+maps+one+pair+quant+step+such+survey+un.Lts-inside as inside-lts
 
 abbrev inside-calls : ℕ → inside-lts.Claims
 inside-calls t = (
-  operand-reads.Asked,
-  operand-reads.Learnt,
-  is-nameless-reads.Asked,
-  is-nameless-reads.Learnt,
-  eval-below t,
-  eval.Post,
+  operand-from-reads.Asked,
+  operand-from-reads.Learnt,
   enter-reads.Asked,
   enter-reads.Learnt,
+  eval-below t,
+  eval.Post,
 )
 
-inside-operand-requires : (t : ℕ) → inside-lts.Need-operand-requires (inside-calls t) (inside-at t) inside.Post
-inside-operand-requires t c κs = c .before .before .pre .1 .1
-
-inside-is-nameless-requires : (t : ℕ) → inside-lts.Need-is-nameless-requires (inside-calls t) (inside-at t) inside.Post
-inside-is-nameless-requires t c κs = search needs
-
-inside-add-eval : (t : ℕ) → inside-lts.Need-add-eval (inside-calls t) (inside-at t) inside.Post
-inside-add-eval t c = omega (arith, room-here (c .before .before .before .before .before .before .before .pre .1 .0 .asked), c .before .before .before .before .before .before .before .pre .1 .0 .asked .low, c .before .before .before .before .before .before .before .pre .1 .2 .1)
-
-inside-eval-requires : (t : ℕ) → inside-lts.Need-eval-requires (inside-calls t) (inside-at t) inside.Post
-inside-eval-requires t c κs = let h = inside-asked (c .before .before .before .before .before .before .before .before .pre .1 .0) (c .before .before .before .before .before .before .before .before .pre .1 .2) refl ((nameless-enters (c .before .before .before .before .before .before .before .before .pre .1 .0) (c .before .before .before .is-nameless .ensures (c .before .before .if1 .taken))) .reached) ((nameless-enters (c .before .before .before .before .before .before .before .before .pre .1 .0) (c .before .before .before .is-nameless .ensures (c .before .before .if1 .taken))) .under) (c .before .before .before .before .before .before .before .before .pre .1 .1 .has) (c .before .before .before .before .before .operand .ensures .0) in (omega (arith, h .0, c .before .before .before .before .before .before .before .before .pre .0), h .1)
-
-inside-same-length : (t : ℕ) → inside-lts.Need-same-length (inside-calls t) (inside-at t) inside.Post
-inside-same-length t c = (inside-done (c .before .before .before .before .before .before .before .before .before .before .before .pre .1 .0) (c .before .before .before .before .before .before .before .before .before .before .before .pre .1 .2) refl ((nameless-enters (c .before .before .before .before .before .before .before .before .before .before .before .pre .1 .0) (c .before .before .before .before .before .before .is-nameless .ensures (c .before .before .before .before .before .if1 .taken))) .reached) ((nameless-enters (c .before .before .before .before .before .before .before .before .before .before .before .pre .1 .0) (c .before .before .before .before .before .before .is-nameless .ensures (c .before .before .before .before .before .if1 .taken))) .under) (c .before .before .before .before .before .before .before .before .before .before .before .pre .1 .1 .has) refl (gives-at _ (c .before .before .before .before .before .before .before .before .operand .ensures .0) (c .before .before .eval .ensures)) refl refl) .turned (c .before .before .before .before .before .before .before .before .before .before .before .pre .1 .0 .bindings) (c .before .before .before .before .before .before .before .before .before .before .before .pre .1 .0 .standing) .low .long
-
-inside-returns : (t : ℕ) → inside-lts.Need-returns (inside-calls t) (inside-at t) inside.Post
-inside-returns t c = inside-done (c .before .before .before .before .before .before .before .before .before .before .before .pre .1 .0) (c .before .before .before .before .before .before .before .before .before .before .before .pre .1 .2) refl ((nameless-enters (c .before .before .before .before .before .before .before .before .before .before .before .pre .1 .0) (c .before .before .before .before .before .before .is-nameless .ensures (c .before .before .before .before .before .if1 .taken))) .reached) ((nameless-enters (c .before .before .before .before .before .before .before .before .before .before .before .pre .1 .0) (c .before .before .before .before .before .before .is-nameless .ensures (c .before .before .before .before .before .if1 .taken))) .under) (c .before .before .before .before .before .before .before .before .before .before .before .pre .1 .1 .has) refl (gives-at _ (c .before .before .before .before .before .before .before .before .operand .ensures .0) (c .before .before .eval .ensures)) refl refl
+inside-operand-from-requires : (t : ℕ) → inside-lts.Need-operand-from-requires (inside-calls t) (inside-at t) inside.Post
+inside-operand-from-requires t c κs = (c .before .before .pre .1 .1, binder-first (c .before .before .pre .1 .0 .binder))
 
 inside-enter-requires : (t : ℕ) → inside-lts.Need-enter-requires (inside-calls t) (inside-at t) inside.Post
-inside-enter-requires t c κs = record { choices = _; stands = c .before .before .before .before .before .before .before .before .before .pre .1 .0 }
+inside-enter-requires t c κs = record { choices = _; stands = c .before .before .before .before .before .before .pre .1 .0 }
 
-inside-add-eval-2 : (t : ℕ) → inside-lts.Need-add-eval-2 (inside-calls t) (inside-at t) inside.Post
-inside-add-eval-2 t c = omega (arith, room-here (c .before .before .before .before .before .before .before .before .before .before .before .before .before .pre .1 .0 .asked), c .before .before .before .before .before .before .before .before .before .before .before .before .before .pre .1 .0 .asked .low, c .before .before .before .before .before .before .before .before .before .before .before .before .before .pre .1 .2 .1)
+inside-add-eval : (t : ℕ) → inside-lts.Need-add-eval (inside-calls t) (inside-at t) inside.Post
+inside-add-eval t c = omega (arith, room-here (c .before .before .before .before .before .before .before .before .before .before .pre .1 .0 .asked), c .before .before .before .before .before .before .before .before .before .before .pre .1 .0 .asked .low, c .before .before .before .before .before .before .before .before .before .before .pre .1 .2 .1)
 
-inside-eval-requires-2 : (t : ℕ) → inside-lts.Need-eval-requires-2 (inside-calls t) (inside-at t) inside.Post
-inside-eval-requires-2 t c κs = let h = inside-asked (c .before .before .before .before .before .before .before .before .before .before .before .before .before .before .before .pre .1 .0) (c .before .before .before .before .before .before .before .before .before .before .before .before .before .before .before .pre .1 .2) refl (c .before .before .before .before .before .enter .ensures .reached) (c .before .before .before .before .before .enter .ensures .under) (c .before .before .before .before .before .before .before .before .before .before .before .before .before .before .before .pre .1 .1 .has) (c .before .before .before .before .before .before .before .before .before .before .before .before .operand .ensures .0) in (omega (arith, h .0, c .before .before .before .before .before .before .before .before .before .before .before .before .before .before .before .pre .0), h .1)
+inside-eval-requires : (t : ℕ) → inside-lts.Need-eval-requires (inside-calls t) (inside-at t) inside.Post
+inside-eval-requires t c κs = let h = inside-asked (c .before .before .before .before .before .before .before .before .before .before .before .before .pre .1 .0) (c .before .before .before .before .before .before .before .before .before .before .before .before .pre .1 .2) refl (c .before .before .before .before .before .enter .ensures .reached) (c .before .before .before .before .before .enter .ensures .under) (c .before .before .before .before .before .before .before .before .before .before .before .before .pre .1 .1 .has) (c .before .before .before .before .before .before .before .before .before .operand-from .ensures .0) in (omega (arith, h .0, c .before .before .before .before .before .before .before .before .before .before .before .before .pre .0), h .1)
 
-inside-same-length-2 : (t : ℕ) → inside-lts.Need-same-length-2 (inside-calls t) (inside-at t) inside.Post
-inside-same-length-2 t c = (inside-done (c .before .before .before .before .before .before .before .before .before .before .before .before .before .before .before .before .before .before .pre .1 .0) (c .before .before .before .before .before .before .before .before .before .before .before .before .before .before .before .before .before .before .pre .1 .2) refl (c .before .before .before .before .before .before .before .before .enter .ensures .reached) (c .before .before .before .before .before .before .before .before .enter .ensures .under) (c .before .before .before .before .before .before .before .before .before .before .before .before .before .before .before .before .before .before .pre .1 .1 .has) refl (gives-at _ (c .before .before .before .before .before .before .before .before .before .before .before .before .before .before .before .operand .ensures .0) (c .before .before .eval2 .ensures)) refl refl) .turned (c .before .before .before .before .before .before .before .before .before .before .before .before .before .before .before .before .before .before .pre .1 .0 .bindings) (c .before .before .before .before .before .before .before .before .before .before .before .before .before .before .before .before .before .before .pre .1 .0 .standing) .low .long
+inside-same-length : (t : ℕ) → inside-lts.Need-same-length (inside-calls t) (inside-at t) inside.Post
+inside-same-length t c = (inside-done (c .before .before .before .before .before .before .before .before .before .before .before .before .before .before .before .pre .1 .0) (c .before .before .before .before .before .before .before .before .before .before .before .before .before .before .before .pre .1 .2) refl (c .before .before .before .before .before .before .before .before .enter .ensures .reached) (c .before .before .before .before .before .before .before .before .enter .ensures .under) (c .before .before .before .before .before .before .before .before .before .before .before .before .before .before .before .pre .1 .1 .has) refl (gives-at _ (c .before .before .before .before .before .before .before .before .before .before .before .before .operand-from .ensures .0) (c .before .before .eval .ensures)) refl refl) .turned (c .before .before .before .before .before .before .before .before .before .before .before .before .before .before .before .pre .1 .0 .bindings) (c .before .before .before .before .before .before .before .before .before .before .before .before .before .before .before .pre .1 .0 .standing) .low .long
 
-inside-returns-2 : (t : ℕ) → inside-lts.Need-returns-2 (inside-calls t) (inside-at t) inside.Post
-inside-returns-2 t c = inside-done (c .before .before .before .before .before .before .before .before .before .before .before .before .before .before .before .before .before .before .pre .1 .0) (c .before .before .before .before .before .before .before .before .before .before .before .before .before .before .before .before .before .before .pre .1 .2) refl (c .before .before .before .before .before .before .before .before .enter .ensures .reached) (c .before .before .before .before .before .before .before .before .enter .ensures .under) (c .before .before .before .before .before .before .before .before .before .before .before .before .before .before .before .before .before .before .pre .1 .1 .has) refl (gives-at _ (c .before .before .before .before .before .before .before .before .before .before .before .before .before .before .before .operand .ensures .0) (c .before .before .eval2 .ensures)) refl refl
+inside-returns : (t : ℕ) → inside-lts.Need-returns (inside-calls t) (inside-at t) inside.Post
+inside-returns t c = inside-done (c .before .before .before .before .before .before .before .before .before .before .before .before .before .before .before .pre .1 .0) (c .before .before .before .before .before .before .before .before .before .before .before .before .before .before .before .pre .1 .2) refl (c .before .before .before .before .before .before .before .before .enter .ensures .reached) (c .before .before .before .before .before .before .before .before .enter .ensures .under) (c .before .before .before .before .before .before .before .before .before .before .before .before .before .before .before .pre .1 .1 .has) refl (gives-at _ (c .before .before .before .before .before .before .before .before .before .before .before .before .operand-from .ensures .0) (c .before .before .eval .ensures)) refl refl
 
 pub inside-member : {M : Type 1} (t : ℕ) → inside-lts.Closed (inside-calls t) (inside-at t) inside.Post M
 inside-member t = inside-lts.spec (inside-calls t) (inside-at t) inside.Post
-    (inside-operand-requires t)
-    (inside-is-nameless-requires t)
+    (inside-operand-from-requires t)
+    (inside-enter-requires t)
     (inside-add-eval t)
     (inside-eval-requires t)
     (inside-same-length t)
     (inside-returns t)
-    (inside-enter-requires t)
-    (inside-add-eval-2 t)
-    (inside-eval-requires-2 t)
-    (inside-same-length-2 t)
-    (inside-returns-2 t)

@@ -3,6 +3,7 @@ use Prim.Native.Nat.{ℕ}
 use native.Mathlib.Omega.{arith}
 use mathlib.Core.Path.{refl}
 use borrow.Author.Needs.{needs}
+use Rattle.evaluator.proofs.Firsts.{plain-first}
 use Rattle.evaluator.proofs.+begin+bin+comp+cond+eval+holds+inside+item+local+logic+many+maps+one+pair+quant+step+such+survey+un.Proof.Common.{local-at, begin-below, inside-below}
 use Rattle.evaluator.proofs.Tables.{room-here}
 use Rattle.evaluator.proofs.Standing.{binder-has}
@@ -15,7 +16,7 @@ use Rattle.evaluator.proofs.run.decide.Reads as decide-reads
 use Rattle.evaluator.proofs.inside.Reads as inside
 use Rattle.evaluator.proofs.looseness.is_loose.Reads as is-loose-reads
 use Rattle.evaluator.proofs.local.Reads as local
-use Rattle.tables.proofs.reading.operand.Reads as operand-reads
+use Rattle.tables.proofs.reading.operand_from.Reads as operand-from-reads
 use Rattle.evaluator.proofs.words.refusal.Reads as refusal-reads
 use Rattle.evaluator.proofs.binding.unchosen.Reads as unchosen-reads
 use Rattle.evaluator.proofs.+begin+bin+comp+cond+eval+holds+inside+item+local+logic+many+maps+one+pair+quant+step+such+survey+un.Lts-local as local-lts
@@ -26,8 +27,8 @@ local-calls t = (
   begin.Post,
   refusal-reads.Asked,
   refusal-reads.Learnt,
-  operand-reads.Asked,
-  operand-reads.Learnt,
+  operand-from-reads.Asked,
+  operand-from-reads.Learnt,
   is-loose-reads.Asked,
   is-loose-reads.Learnt,
   decide-reads.Asked,
@@ -69,12 +70,12 @@ local-returns-2 : (t : ℕ) → local-lts.Need-returns-2 (local-calls t) (local-
 local-returns-2 t c = local-none (c .before .before .before .before .before .before .before .before .before .before .before .pre .1 .0) (c .before .before .before .before .before .before .before .before .before .before .before .pre .1 .1) (c .before .before .before .before .before .begin .ensures) (valued (c .before .before .before .before .before .begin .result) (c .before .before .if1 .left)) (c .before .if2 .taken) (c .refusal .ensures)
 
 -- src/lib.rt:581:9
-local-operand-requires : (t : ℕ) → local-lts.Need-operand-requires (local-calls t) (local-at t) local.Post
-local-operand-requires t c κs = binder-has (c .before .before .before .before .before .before .before .before .before .before .pre .1 .0) (local-binder (c .before .before .before .before .before .before .before .before .before .before .pre .1 .0) (c .before .before .before .before .before .before .before .before .before .before .pre .1 .1)) 0 (omega arith)
+local-operand-from-requires : (t : ℕ) → local-lts.Need-operand-from-requires (local-calls t) (local-at t) local.Post
+local-operand-from-requires t c κs = (binder-has (c .before .before .before .before .before .before .before .before .before .before .pre .1 .0) (local-binder (c .before .before .before .before .before .before .before .before .before .before .pre .1 .0) (c .before .before .before .before .before .before .before .before .before .before .pre .1 .1)) 0 (omega arith), plain-first (c .before .before .before .before .before .before .before .before .before .before .pre .1 .1) (omega arith) (omega arith))
 
 -- src/lib.rt:582:9
 local-is-loose-requires : (t : ℕ) → local-lts.Need-is-loose-requires (local-calls t) (local-at t) local.Post
-local-is-loose-requires t c κs = local-readable (c .before .before .before .before .before .before .before .before .before .before .before .pre .1 .0) (c .before .before .before .before .before .before .before .before .before .before .before .pre .1 .1) (c .operand .ensures .0)
+local-is-loose-requires t c κs = local-readable (c .before .before .before .before .before .before .before .before .before .before .before .pre .1 .0) (c .before .before .before .before .before .before .before .before .before .before .before .pre .1 .1) (c .operand-from .ensures .0)
 
 -- src/lib.rt:583:9
 local-decide-requires : (t : ℕ) → local-lts.Need-decide-requires (local-calls t) (local-at t) local.Post
@@ -94,19 +95,19 @@ local-same-length-3 t c = c .before .before .before .before .before .before .bef
 
 -- src/lib.rt:585:9
 local-returns-3 : (t : ℕ) → local-lts.Need-returns-3 (local-calls t) (local-at t) local.Post
-local-returns-3 t c = local-unchosen (c .before .before .before .before .before .before .before .before .before .before .before .before .before .before .before .before .pre .1 .0) (c .before .before .before .before .before .before .before .before .before .before .before .before .before .before .before .before .pre .1 .1) (c .before .before .before .before .before .before .before .before .before .before .begin .ensures) (valued (c .before .before .before .before .before .before .before .before .before .before .begin .result) (c .before .before .before .before .before .before .before .if1 .left)) (c .before .before .before .before .before .before .if2 .left) (picks-as (c .before .before .before .before .before .before .before .before .before .before .before .before .before .before .before .before .pre .1 .0) (c .before .before .before .before .before .before .before .before .before .before .before .before .before .before .before .before .pre .1 .1) (c .before .before .before .before .before .operand .ensures .0) (c .before .before .before .before .is-loose .ensures) (c .before .before .decide .ensures)) (not-taken (c .before .before .decide .result) (c .before .match .keys2)) (c .unchosen .ensures)
+local-returns-3 t c = local-unchosen (c .before .before .before .before .before .before .before .before .before .before .before .before .before .before .before .before .pre .1 .0) (c .before .before .before .before .before .before .before .before .before .before .before .before .before .before .before .before .pre .1 .1) (c .before .before .before .before .before .before .before .before .before .before .begin .ensures) (valued (c .before .before .before .before .before .before .before .before .before .before .begin .result) (c .before .before .before .before .before .before .before .if1 .left)) (c .before .before .before .before .before .before .if2 .left) (picks-as (c .before .before .before .before .before .before .before .before .before .before .before .before .before .before .before .before .pre .1 .0) (c .before .before .before .before .before .before .before .before .before .before .before .before .before .before .before .before .pre .1 .1) (c .before .before .before .before .before .operand-from .ensures .0) (c .before .before .before .before .is-loose .ensures) (c .before .before .decide .ensures)) (not-taken (c .before .before .decide .result) (c .before .match .keys2)) (c .unchosen .ensures)
 
 -- src/lib.rt:587:9
 local-inside-requires : (t : ℕ) → local-lts.Need-inside-requires (local-calls t) (local-at t) local.Post
-local-inside-requires t c κs = (omega (arith, c .before .before .before .before .before .before .before .before .before .before .before .before .before .before .before .before .before .before .before .before .pre .0), (local-stands (c .before .before .before .before .before .before .before .before .before .before .before .before .before .before .before .before .before .before .before .before .pre .1 .0) (c .before .before .before .before .before .before .before .before .before .before .before .before .before .before .before .before .before .before .before .before .pre .1 .1) (c .before .before .before .before .before .before .before .before .before .before .before .before .before .before .begin .ensures) (valued (c .before .before .before .before .before .before .before .before .before .before .before .before .before .before .begin .result) (c .before .before .before .before .before .before .before .before .before .before .before .if1 .left)) (c .before .before .before .before .before .before .before .before .before .before .if2 .left) (picks-as (c .before .before .before .before .before .before .before .before .before .before .before .before .before .before .before .before .before .before .before .before .pre .1 .0) (c .before .before .before .before .before .before .before .before .before .before .before .before .before .before .before .before .before .before .before .before .pre .1 .1) (c .before .before .before .before .before .before .before .before .before .operand .ensures .0) (c .before .before .before .before .before .before .before .before .is-loose .ensures) (c .before .before .before .before .before .before .decide .ensures)) (c .before .before .before .before .a .given .1), binder-has (c .before .before .before .before .before .before .before .before .before .before .before .before .before .before .before .before .before .before .before .before .pre .1 .0) (local-binder (c .before .before .before .before .before .before .before .before .before .before .before .before .before .before .before .before .before .before .before .before .pre .1 .0) (c .before .before .before .before .before .before .before .before .before .before .before .before .before .before .before .before .before .before .before .before .pre .1 .1)) 2 (omega arith), (omega arith, omega arith)))
+local-inside-requires t c κs = (omega (arith, c .before .before .before .before .before .before .before .before .before .before .before .before .before .before .before .before .before .before .before .before .pre .0), (local-stands (c .before .before .before .before .before .before .before .before .before .before .before .before .before .before .before .before .before .before .before .before .pre .1 .0) (c .before .before .before .before .before .before .before .before .before .before .before .before .before .before .before .before .before .before .before .before .pre .1 .1) (c .before .before .before .before .before .before .before .before .before .before .before .before .before .before .begin .ensures) (valued (c .before .before .before .before .before .before .before .before .before .before .before .before .before .before .begin .result) (c .before .before .before .before .before .before .before .before .before .before .before .if1 .left)) (c .before .before .before .before .before .before .before .before .before .before .if2 .left) (picks-as (c .before .before .before .before .before .before .before .before .before .before .before .before .before .before .before .before .before .before .before .before .pre .1 .0) (c .before .before .before .before .before .before .before .before .before .before .before .before .before .before .before .before .before .before .before .before .pre .1 .1) (c .before .before .before .before .before .before .before .before .before .operand-from .ensures .0) (c .before .before .before .before .before .before .before .before .is-loose .ensures) (c .before .before .before .before .before .before .decide .ensures)) (c .before .before .before .before .a .given .1), binder-has (c .before .before .before .before .before .before .before .before .before .before .before .before .before .before .before .before .before .before .before .before .pre .1 .0) (local-binder (c .before .before .before .before .before .before .before .before .before .before .before .before .before .before .before .before .before .before .before .before .pre .1 .0) (c .before .before .before .before .before .before .before .before .before .before .before .before .before .before .before .before .before .before .before .before .pre .1 .1)) 2 (omega arith), (omega arith, omega arith)))
 
 -- src/lib.rt:602:9
 local-same-length-4 : (t : ℕ) → local-lts.Need-same-length-4 (local-calls t) (local-at t) local.Post
-local-same-length-4 t c = (local-body-off (c .before .before .before .before .before .before .before .before .before .before .before .before .before .before .before .before .before .before .before .before .before .before .before .before .pre .1 .0) (c .before .before .before .before .before .before .before .before .before .before .before .before .before .before .before .before .before .before .before .before .before .before .before .before .pre .1 .1) (c .before .before .before .before .before .before .before .before .before .before .before .before .before .before .before .before .before .before .begin .ensures) (valued (c .before .before .before .before .before .before .before .before .before .before .before .before .before .before .before .before .before .before .begin .result) (c .before .before .before .before .before .before .before .before .before .before .before .before .before .before .before .if1 .left)) (c .before .before .before .before .before .before .before .before .before .before .before .before .before .before .if2 .left) (picks-as (c .before .before .before .before .before .before .before .before .before .before .before .before .before .before .before .before .before .before .before .before .before .before .before .before .pre .1 .0) (c .before .before .before .before .before .before .before .before .before .before .before .before .before .before .before .before .before .before .before .before .before .before .before .before .pre .1 .1) (c .before .before .before .before .before .before .before .before .before .before .before .before .before .operand .ensures .0) (c .before .before .before .before .before .before .before .before .before .before .before .before .is-loose .ensures) (c .before .before .before .before .before .before .before .before .before .before .decide .ensures)) (c .before .before .before .before .before .before .before .before .a .given .1) refl (c .before .before .before .inside .ensures) (unvalued (c .before .before .before .inside .result) (c .if3 .taken))) .kept .long
+local-same-length-4 t c = (local-body-off (c .before .before .before .before .before .before .before .before .before .before .before .before .before .before .before .before .before .before .before .before .before .before .before .before .pre .1 .0) (c .before .before .before .before .before .before .before .before .before .before .before .before .before .before .before .before .before .before .before .before .before .before .before .before .pre .1 .1) (c .before .before .before .before .before .before .before .before .before .before .before .before .before .before .before .before .before .before .begin .ensures) (valued (c .before .before .before .before .before .before .before .before .before .before .before .before .before .before .before .before .before .before .begin .result) (c .before .before .before .before .before .before .before .before .before .before .before .before .before .before .before .if1 .left)) (c .before .before .before .before .before .before .before .before .before .before .before .before .before .before .if2 .left) (picks-as (c .before .before .before .before .before .before .before .before .before .before .before .before .before .before .before .before .before .before .before .before .before .before .before .before .pre .1 .0) (c .before .before .before .before .before .before .before .before .before .before .before .before .before .before .before .before .before .before .before .before .before .before .before .before .pre .1 .1) (c .before .before .before .before .before .before .before .before .before .before .before .before .before .operand-from .ensures .0) (c .before .before .before .before .before .before .before .before .before .before .before .before .is-loose .ensures) (c .before .before .before .before .before .before .before .before .before .before .decide .ensures)) (c .before .before .before .before .before .before .before .before .a .given .1) refl (c .before .before .before .inside .ensures) (unvalued (c .before .before .before .inside .result) (c .if3 .taken))) .kept .long
 
 -- src/lib.rt:602:9
 local-returns-4 : (t : ℕ) → local-lts.Need-returns-4 (local-calls t) (local-at t) local.Post
-local-returns-4 t c = local-body-off (c .before .before .before .before .before .before .before .before .before .before .before .before .before .before .before .before .before .before .before .before .before .before .before .before .pre .1 .0) (c .before .before .before .before .before .before .before .before .before .before .before .before .before .before .before .before .before .before .before .before .before .before .before .before .pre .1 .1) (c .before .before .before .before .before .before .before .before .before .before .before .before .before .before .before .before .before .before .begin .ensures) (valued (c .before .before .before .before .before .before .before .before .before .before .before .before .before .before .before .before .before .before .begin .result) (c .before .before .before .before .before .before .before .before .before .before .before .before .before .before .before .if1 .left)) (c .before .before .before .before .before .before .before .before .before .before .before .before .before .before .if2 .left) (picks-as (c .before .before .before .before .before .before .before .before .before .before .before .before .before .before .before .before .before .before .before .before .before .before .before .before .pre .1 .0) (c .before .before .before .before .before .before .before .before .before .before .before .before .before .before .before .before .before .before .before .before .before .before .before .before .pre .1 .1) (c .before .before .before .before .before .before .before .before .before .before .before .before .before .operand .ensures .0) (c .before .before .before .before .before .before .before .before .before .before .before .before .is-loose .ensures) (c .before .before .before .before .before .before .before .before .before .before .decide .ensures)) (c .before .before .before .before .before .before .before .before .a .given .1) refl (c .before .before .before .inside .ensures) (unvalued (c .before .before .before .inside .result) (c .if3 .taken))
+local-returns-4 t c = local-body-off (c .before .before .before .before .before .before .before .before .before .before .before .before .before .before .before .before .before .before .before .before .before .before .before .before .pre .1 .0) (c .before .before .before .before .before .before .before .before .before .before .before .before .before .before .before .before .before .before .before .before .before .before .before .before .pre .1 .1) (c .before .before .before .before .before .before .before .before .before .before .before .before .before .before .before .before .before .before .begin .ensures) (valued (c .before .before .before .before .before .before .before .before .before .before .before .before .before .before .before .before .before .before .begin .result) (c .before .before .before .before .before .before .before .before .before .before .before .before .before .before .before .if1 .left)) (c .before .before .before .before .before .before .before .before .before .before .before .before .before .before .if2 .left) (picks-as (c .before .before .before .before .before .before .before .before .before .before .before .before .before .before .before .before .before .before .before .before .before .before .before .before .pre .1 .0) (c .before .before .before .before .before .before .before .before .before .before .before .before .before .before .before .before .before .before .before .before .before .before .before .before .pre .1 .1) (c .before .before .before .before .before .before .before .before .before .before .before .before .before .operand-from .ensures .0) (c .before .before .before .before .before .before .before .before .before .before .before .before .is-loose .ensures) (c .before .before .before .before .before .before .before .before .before .before .decide .ensures)) (c .before .before .before .before .before .before .before .before .a .given .1) refl (c .before .before .before .inside .ensures) (unvalued (c .before .before .before .inside .result) (c .if3 .taken))
 
 -- src/lib.rt:604:27
 local-add-copy-value : (t : ℕ) → local-lts.Need-add-copy-value (local-calls t) (local-at t) local.Post
@@ -114,15 +115,15 @@ local-add-copy-value t c = omega (arith, room-here (c .before .before .before .b
 
 -- src/lib.rt:604:5
 local-copy-value-requires : (t : ℕ) → local-lts.Need-copy-value-requires (local-calls t) (local-at t) local.Post
-local-copy-value-requires t c κs = local-copyable (c .before .before .before .before .before .before .before .before .before .before .before .before .before .before .before .before .before .before .before .before .before .before .before .before .before .pre .1 .0) (c .before .before .before .before .before .before .before .before .before .before .before .before .before .before .before .before .before .before .before .before .before .before .before .before .before .pre .1 .1) (c .before .before .before .before .before .before .before .before .before .before .before .before .before .before .before .before .before .before .before .begin .ensures) (valued (c .before .before .before .before .before .before .before .before .before .before .before .before .before .before .before .before .before .before .before .begin .result) (c .before .before .before .before .before .before .before .before .before .before .before .before .before .before .before .before .if1 .left)) (c .before .before .before .before .before .before .before .before .before .before .before .before .before .before .before .if2 .left) (picks-as (c .before .before .before .before .before .before .before .before .before .before .before .before .before .before .before .before .before .before .before .before .before .before .before .before .before .pre .1 .0) (c .before .before .before .before .before .before .before .before .before .before .before .before .before .before .before .before .before .before .before .before .before .before .before .before .before .pre .1 .1) (c .before .before .before .before .before .before .before .before .before .before .before .before .before .before .operand .ensures .0) (c .before .before .before .before .before .before .before .before .before .before .before .before .before .is-loose .ensures) (c .before .before .before .before .before .before .before .before .before .before .before .decide .ensures)) (c .before .before .before .before .before .before .before .before .before .a .given .1) refl (c .before .before .before .before .inside .ensures) (valued (c .before .before .before .before .inside .result) (c .before .if3 .left))
+local-copy-value-requires t c κs = local-copyable (c .before .before .before .before .before .before .before .before .before .before .before .before .before .before .before .before .before .before .before .before .before .before .before .before .before .pre .1 .0) (c .before .before .before .before .before .before .before .before .before .before .before .before .before .before .before .before .before .before .before .before .before .before .before .before .before .pre .1 .1) (c .before .before .before .before .before .before .before .before .before .before .before .before .before .before .before .before .before .before .before .begin .ensures) (valued (c .before .before .before .before .before .before .before .before .before .before .before .before .before .before .before .before .before .before .before .begin .result) (c .before .before .before .before .before .before .before .before .before .before .before .before .before .before .before .before .if1 .left)) (c .before .before .before .before .before .before .before .before .before .before .before .before .before .before .before .if2 .left) (picks-as (c .before .before .before .before .before .before .before .before .before .before .before .before .before .before .before .before .before .before .before .before .before .before .before .before .before .pre .1 .0) (c .before .before .before .before .before .before .before .before .before .before .before .before .before .before .before .before .before .before .before .before .before .before .before .before .before .pre .1 .1) (c .before .before .before .before .before .before .before .before .before .before .before .before .before .before .operand-from .ensures .0) (c .before .before .before .before .before .before .before .before .before .before .before .before .before .is-loose .ensures) (c .before .before .before .before .before .before .before .before .before .before .before .decide .ensures)) (c .before .before .before .before .before .before .before .before .before .a .given .1) refl (c .before .before .before .before .inside .ensures) (valued (c .before .before .before .before .inside .result) (c .before .if3 .left))
 
 -- src/lib.rt:560:1
 local-same-length-5 : (t : ℕ) → local-lts.Need-same-length-5 (local-calls t) (local-at t) local.Post
-local-same-length-5 t c = (local-done (c .before .before .before .before .before .before .before .before .before .before .before .before .before .before .before .before .before .before .before .before .before .before .before .before .before .before .before .before .pre .1 .0) (c .before .before .before .before .before .before .before .before .before .before .before .before .before .before .before .before .before .before .before .before .before .before .before .before .before .before .before .before .pre .1 .1) (c .before .before .before .before .before .before .before .before .before .before .before .before .before .before .before .before .before .before .before .before .before .before .begin .ensures) (valued (c .before .before .before .before .before .before .before .before .before .before .before .before .before .before .before .before .before .before .before .before .before .before .begin .result) (c .before .before .before .before .before .before .before .before .before .before .before .before .before .before .before .before .before .before .before .if1 .left)) (c .before .before .before .before .before .before .before .before .before .before .before .before .before .before .before .before .before .before .if2 .left) (picks-as (c .before .before .before .before .before .before .before .before .before .before .before .before .before .before .before .before .before .before .before .before .before .before .before .before .before .before .before .before .pre .1 .0) (c .before .before .before .before .before .before .before .before .before .before .before .before .before .before .before .before .before .before .before .before .before .before .before .before .before .before .before .before .pre .1 .1) (c .before .before .before .before .before .before .before .before .before .before .before .before .before .before .before .before .before .operand .ensures .0) (c .before .before .before .before .before .before .before .before .before .before .before .before .before .before .before .before .is-loose .ensures) (c .before .before .before .before .before .before .before .before .before .before .before .before .before .before .decide .ensures)) (c .before .before .before .before .before .before .before .before .before .before .before .before .a .given .1) refl (c .before .before .before .before .before .before .before .inside .ensures) (valued (c .before .before .before .before .before .before .before .inside .result) (c .before .before .before .before .if3 .left)) (c .before .before .copy-value .ensures)) .kept .long
+local-same-length-5 t c = (local-done (c .before .before .before .before .before .before .before .before .before .before .before .before .before .before .before .before .before .before .before .before .before .before .before .before .before .before .before .before .pre .1 .0) (c .before .before .before .before .before .before .before .before .before .before .before .before .before .before .before .before .before .before .before .before .before .before .before .before .before .before .before .before .pre .1 .1) (c .before .before .before .before .before .before .before .before .before .before .before .before .before .before .before .before .before .before .before .before .before .before .begin .ensures) (valued (c .before .before .before .before .before .before .before .before .before .before .before .before .before .before .before .before .before .before .before .before .before .before .begin .result) (c .before .before .before .before .before .before .before .before .before .before .before .before .before .before .before .before .before .before .before .if1 .left)) (c .before .before .before .before .before .before .before .before .before .before .before .before .before .before .before .before .before .before .if2 .left) (picks-as (c .before .before .before .before .before .before .before .before .before .before .before .before .before .before .before .before .before .before .before .before .before .before .before .before .before .before .before .before .pre .1 .0) (c .before .before .before .before .before .before .before .before .before .before .before .before .before .before .before .before .before .before .before .before .before .before .before .before .before .before .before .before .pre .1 .1) (c .before .before .before .before .before .before .before .before .before .before .before .before .before .before .before .before .before .operand-from .ensures .0) (c .before .before .before .before .before .before .before .before .before .before .before .before .before .before .before .before .is-loose .ensures) (c .before .before .before .before .before .before .before .before .before .before .before .before .before .before .decide .ensures)) (c .before .before .before .before .before .before .before .before .before .before .before .before .a .given .1) refl (c .before .before .before .before .before .before .before .inside .ensures) (valued (c .before .before .before .before .before .before .before .inside .result) (c .before .before .before .before .if3 .left)) (c .before .before .copy-value .ensures)) .kept .long
 
 -- src/lib.rt:560:1
 local-returns-5 : (t : ℕ) → local-lts.Need-returns-5 (local-calls t) (local-at t) local.Post
-local-returns-5 t c = local-done (c .before .before .before .before .before .before .before .before .before .before .before .before .before .before .before .before .before .before .before .before .before .before .before .before .before .before .before .before .pre .1 .0) (c .before .before .before .before .before .before .before .before .before .before .before .before .before .before .before .before .before .before .before .before .before .before .before .before .before .before .before .before .pre .1 .1) (c .before .before .before .before .before .before .before .before .before .before .before .before .before .before .before .before .before .before .before .before .before .before .begin .ensures) (valued (c .before .before .before .before .before .before .before .before .before .before .before .before .before .before .before .before .before .before .before .before .before .before .begin .result) (c .before .before .before .before .before .before .before .before .before .before .before .before .before .before .before .before .before .before .before .if1 .left)) (c .before .before .before .before .before .before .before .before .before .before .before .before .before .before .before .before .before .before .if2 .left) (picks-as (c .before .before .before .before .before .before .before .before .before .before .before .before .before .before .before .before .before .before .before .before .before .before .before .before .before .before .before .before .pre .1 .0) (c .before .before .before .before .before .before .before .before .before .before .before .before .before .before .before .before .before .before .before .before .before .before .before .before .before .before .before .before .pre .1 .1) (c .before .before .before .before .before .before .before .before .before .before .before .before .before .before .before .before .before .operand .ensures .0) (c .before .before .before .before .before .before .before .before .before .before .before .before .before .before .before .before .is-loose .ensures) (c .before .before .before .before .before .before .before .before .before .before .before .before .before .before .decide .ensures)) (c .before .before .before .before .before .before .before .before .before .before .before .before .a .given .1) refl (c .before .before .before .before .before .before .before .inside .ensures) (valued (c .before .before .before .before .before .before .before .inside .result) (c .before .before .before .before .if3 .left)) (c .before .before .copy-value .ensures)
+local-returns-5 t c = local-done (c .before .before .before .before .before .before .before .before .before .before .before .before .before .before .before .before .before .before .before .before .before .before .before .before .before .before .before .before .pre .1 .0) (c .before .before .before .before .before .before .before .before .before .before .before .before .before .before .before .before .before .before .before .before .before .before .before .before .before .before .before .before .pre .1 .1) (c .before .before .before .before .before .before .before .before .before .before .before .before .before .before .before .before .before .before .before .before .before .before .begin .ensures) (valued (c .before .before .before .before .before .before .before .before .before .before .before .before .before .before .before .before .before .before .before .before .before .before .begin .result) (c .before .before .before .before .before .before .before .before .before .before .before .before .before .before .before .before .before .before .before .if1 .left)) (c .before .before .before .before .before .before .before .before .before .before .before .before .before .before .before .before .before .before .if2 .left) (picks-as (c .before .before .before .before .before .before .before .before .before .before .before .before .before .before .before .before .before .before .before .before .before .before .before .before .before .before .before .before .pre .1 .0) (c .before .before .before .before .before .before .before .before .before .before .before .before .before .before .before .before .before .before .before .before .before .before .before .before .before .before .before .before .pre .1 .1) (c .before .before .before .before .before .before .before .before .before .before .before .before .before .before .before .before .before .operand-from .ensures .0) (c .before .before .before .before .before .before .before .before .before .before .before .before .before .before .before .before .is-loose .ensures) (c .before .before .before .before .before .before .before .before .before .before .before .before .before .before .decide .ensures)) (c .before .before .before .before .before .before .before .before .before .before .before .before .a .given .1) refl (c .before .before .before .before .before .before .before .inside .ensures) (valued (c .before .before .before .before .before .before .before .inside .result) (c .before .before .before .before .if3 .left)) (c .before .before .copy-value .ensures)
 
 pub local-member : {M : Type 1} (t : ℕ) → local-lts.Closed (local-calls t) (local-at t) local.Post M
 local-member t = local-lts.spec (local-calls t) (local-at t) local.Post
@@ -133,7 +134,7 @@ local-member t = local-lts.spec (local-calls t) (local-at t) local.Post
     (local-refusal-requires t)
     (local-same-length-2 t)
     (local-returns-2 t)
-    (local-operand-requires t)
+    (local-operand-from-requires t)
     (local-is-loose-requires t)
     (local-decide-requires t)
     (local-enum-known-a t)

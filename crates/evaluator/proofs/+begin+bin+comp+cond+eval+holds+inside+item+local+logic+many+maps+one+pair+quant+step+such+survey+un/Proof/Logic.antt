@@ -2,6 +2,7 @@
 use Prim.Native.Nat.{ℕ}
 use native.Mathlib.Omega.{arith}
 use borrow.Author.Needs.{needs}
+use Rattle.evaluator.proofs.Firsts.{after-binary}
 use Rattle.evaluator.proofs.+begin+bin+comp+cond+eval+holds+inside+item+local+logic+many+maps+one+pair+quant+step+such+survey+un.Proof.Common.{logic-at, eval-below}
 use Rattle.evaluator.proofs.Members.{first-asked, next-asked, logic-left, logic-next, logic-off, logic-held, logic-done, logic-bad, logic-off-right, logic-both, logic-right-held}
 use Rattle.evaluator.proofs.Wording.{valued, unvalued}
@@ -9,15 +10,15 @@ use Rattle.evaluator.proofs.answer.Reads as answer-reads
 use Rattle.evaluator.proofs.eval.Reads as eval
 use Rattle.scalars.proofs.left.Reads as left-reads
 use Rattle.evaluator.proofs.logic.Reads as logic
-use Rattle.tables.proofs.reading.operand.Reads as operand-reads
+use Rattle.tables.proofs.reading.operand_from.Reads as operand-from-reads
 use Rattle.evaluator.proofs.words.refusal.Reads as refusal-reads
 use Rattle.scalars.proofs.right.Reads as right-reads
 use Rattle.evaluator.proofs.+begin+bin+comp+cond+eval+holds+inside+item+local+logic+many+maps+one+pair+quant+step+such+survey+un.Lts-logic as logic-lts
 
 abbrev logic-calls : ℕ → logic-lts.Claims
 logic-calls t = (
-  operand-reads.Asked,
-  operand-reads.Learnt,
+  operand-from-reads.Asked,
+  operand-from-reads.Learnt,
   eval-below t,
   eval.Post,
   left-reads.Asked,
@@ -31,12 +32,12 @@ logic-calls t = (
 )
 
 -- src/lib.rt:187:9
-logic-operand-requires : (t : ℕ) → logic-lts.Need-operand-requires (logic-calls t) (logic-at t) logic.Post
-logic-operand-requires t c κs = logic-left (c .before .before .pre .1 .0) (c .before .before .pre .1 .1)
+logic-operand-from-requires : (t : ℕ) → logic-lts.Need-operand-from-requires (logic-calls t) (logic-at t) logic.Post
+logic-operand-from-requires t c κs = (logic-left (c .before .before .pre .1 .0) (c .before .before .pre .1 .1), after-binary (c .before .before .pre .1 .1))
 
 -- src/lib.rt:188:9
 logic-eval-requires : (t : ℕ) → logic-lts.Need-eval-requires (logic-calls t) (logic-at t) logic.Post
-logic-eval-requires t c κs = let h = first-asked (c .before .before .before .before .before .pre .1 .0) (logic-left (c .before .before .before .before .before .pre .1 .0) (c .before .before .before .before .before .pre .1 .1)) (c .before .before .operand .ensures .0) in (omega (arith, h .0, c .before .before .before .before .before .pre .0), h .1)
+logic-eval-requires t c κs = let h = first-asked (c .before .before .before .before .before .pre .1 .0) (logic-left (c .before .before .before .before .before .pre .1 .0) (c .before .before .before .before .before .pre .1 .1)) (c .before .before .operand-from .ensures .0) in (omega (arith, h .0, c .before .before .before .before .before .pre .0), h .1)
 
 -- src/lib.rt:190:9
 logic-same-length : (t : ℕ) → logic-lts.Need-same-length (logic-calls t) (logic-at t) logic.Post
@@ -44,11 +45,11 @@ logic-same-length t c = search needs
 
 -- src/lib.rt:190:9
 logic-returns : (t : ℕ) → logic-lts.Need-returns (logic-calls t) (logic-at t) logic.Post
-logic-returns t c = logic-off (c .before .before .before .before .before .before .before .before .before .pre .1 .0) (c .before .before .before .before .before .before .before .before .before .pre .1 .1) (c .before .before .before .before .before .before .before .before .before .pre .1 .2) (c .before .before .before .before .before .before .operand .ensures .0) (c .before .before .before .eval .ensures) (c .before .before .before .before .before .before .before .before .before .pre .1 .3) (unvalued (c .before .before .before .eval .result) (c .if1 .taken))
+logic-returns t c = logic-off (c .before .before .before .before .before .before .before .before .before .pre .1 .0) (c .before .before .before .before .before .before .before .before .before .pre .1 .1) (c .before .before .before .before .before .before .before .before .before .pre .1 .2) (c .before .before .before .before .before .before .operand-from .ensures .0) (c .before .before .before .eval .ensures) (c .before .before .before .before .before .before .before .before .before .pre .1 .3) (unvalued (c .before .before .before .eval .result) (c .if1 .taken))
 
 -- src/lib.rt:192:9
 logic-left-requires : (t : ℕ) → logic-lts.Need-left-requires (logic-calls t) (logic-at t) logic.Post
-logic-left-requires t c κs = logic-held (c .before .before .before .before .before .before .before .before .before .before .pre .1 .0) (c .before .before .before .before .before .before .before .before .before .before .pre .1 .1) (c .before .before .before .before .before .before .before .before .before .before .pre .1 .2) (c .before .before .before .before .before .before .before .operand .ensures .0) (c .before .before .before .before .eval .ensures) (c .before .before .before .before .before .before .before .before .before .before .pre .1 .3) (valued (c .before .before .before .before .eval .result) (c .before .if1 .left))
+logic-left-requires t c κs = logic-held (c .before .before .before .before .before .before .before .before .before .before .pre .1 .0) (c .before .before .before .before .before .before .before .before .before .before .pre .1 .1) (c .before .before .before .before .before .before .before .before .before .before .pre .1 .2) (c .before .before .before .before .before .before .before .operand-from .ensures .0) (c .before .before .before .before .eval .ensures) (c .before .before .before .before .before .before .before .before .before .before .pre .1 .3) (valued (c .before .before .before .before .eval .result) (c .before .if1 .left))
 
 -- src/lib.rt:194:28
 logic-enum-told : (t : ℕ) → logic-lts.Need-enum-told (logic-calls t) (logic-at t) logic.Post
@@ -67,12 +68,12 @@ logic-enum-told-2 : (t : ℕ) → logic-lts.Need-enum-told-2 (logic-calls t) (lo
 logic-enum-told-2 t c = search needs
 
 -- src/lib.rt:197:17
-logic-operand-requires-2 : (t : ℕ) → logic-lts.Need-operand-requires-2 (logic-calls t) (logic-at t) logic.Post
-logic-operand-requires-2 t c κs = logic-next (c .before .before .before .before .before .before .before .before .before .before .before .before .before .before .before .pre .1 .0) (c .before .before .before .before .before .before .before .before .before .before .before .before .before .before .before .pre .1 .1)
+logic-operand-from-requires-2 : (t : ℕ) → logic-lts.Need-operand-from-requires-2 (logic-calls t) (logic-at t) logic.Post
+logic-operand-from-requires-2 t c κs = (logic-next (c .before .before .before .before .before .before .before .before .before .before .before .before .before .before .before .pre .1 .0) (c .before .before .before .before .before .before .before .before .before .before .before .before .before .before .before .pre .1 .1), after-binary (c .before .before .before .before .before .before .before .before .before .before .before .before .before .before .before .pre .1 .1))
 
 -- src/lib.rt:198:17
 logic-eval-requires-2 : (t : ℕ) → logic-lts.Need-eval-requires-2 (logic-calls t) (logic-at t) logic.Post
-logic-eval-requires-2 t c κs = let h = next-asked (c .before .before .before .before .before .before .before .before .before .before .before .before .before .before .before .before .before .before .pre .1 .0) (c .before .before .before .before .before .before .before .before .before .before .before .before .before .before .before .before .before .before .args .base) (logic-next (c .before .before .before .before .before .before .before .before .before .before .before .before .before .before .before .before .before .before .pre .1 .0) (c .before .before .before .before .before .before .before .before .before .before .before .before .before .before .before .before .before .before .pre .1 .1)) (c .before .before .operand2 .ensures .0) (c .before .before .before .before .before .before .before .before .before .before .before .before .eval .ensures) (c .before .before .before .before .before .before .before .left .ensures .kept) (omega arith) (omega arith) in (omega (arith, h .0, c .before .before .before .before .before .before .before .before .before .before .before .before .before .before .before .before .before .before .pre .0), h .1)
+logic-eval-requires-2 t c κs = let h = next-asked (c .before .before .before .before .before .before .before .before .before .before .before .before .before .before .before .before .before .before .pre .1 .0) (c .before .before .before .before .before .before .before .before .before .before .before .before .before .before .before .before .before .before .args .base) (logic-next (c .before .before .before .before .before .before .before .before .before .before .before .before .before .before .before .before .before .before .pre .1 .0) (c .before .before .before .before .before .before .before .before .before .before .before .before .before .before .before .before .before .before .pre .1 .1)) (c .before .before .operand-from2 .ensures .0) (c .before .before .before .before .before .before .before .before .before .before .before .before .eval .ensures) (c .before .before .before .before .before .before .before .left .ensures .kept) (omega arith) (omega arith) in (omega (arith, h .0, c .before .before .before .before .before .before .before .before .before .before .before .before .before .before .before .before .before .before .pre .0), h .1)
 
 -- src/lib.rt:200:17
 logic-same-length-2 : (t : ℕ) → logic-lts.Need-same-length-2 (logic-calls t) (logic-at t) logic.Post
@@ -80,11 +81,11 @@ logic-same-length-2 t c = search needs
 
 -- src/lib.rt:200:17
 logic-returns-2 : (t : ℕ) → logic-lts.Need-returns-2 (logic-calls t) (logic-at t) logic.Post
-logic-returns-2 t c = logic-off-right (c .before .before .before .before .before .before .before .before .before .before .before .before .before .before .before .before .before .before .before .before .before .before .pre .1 .0) (c .before .before .before .before .before .before .before .before .before .before .before .before .before .before .before .before .before .before .before .before .before .before .pre .1 .1) (c .before .before .before .before .before .before .before .before .before .before .before .before .before .before .before .before .before .before .before .before .before .before .pre .1 .2) (c .before .before .before .before .before .before .before .before .before .before .before .before .before .before .before .before .before .before .before .operand .ensures .0) (c .before .before .before .before .before .before .before .before .before .before .before .before .before .before .before .before .eval .ensures) (c .before .before .before .before .before .before .before .before .before .before .before .before .before .before .before .before .before .before .before .before .before .before .pre .1 .3) (valued (c .before .before .before .before .before .before .before .before .before .before .before .before .before .before .before .before .eval .result) (c .before .before .before .before .before .before .before .before .before .before .before .before .before .if1 .left)) (c .before .before .before .before .before .before .before .before .before .before .before .left .ensures) (c .before .before .before .before .before .before .before .enum-told2 .given .1) (c .before .before .before .before .before .before .operand2 .ensures .0) (c .before .before .before .eval2 .ensures) (unvalued (c .before .before .before .eval2 .result) (c .if2 .taken))
+logic-returns-2 t c = logic-off-right (c .before .before .before .before .before .before .before .before .before .before .before .before .before .before .before .before .before .before .before .before .before .before .pre .1 .0) (c .before .before .before .before .before .before .before .before .before .before .before .before .before .before .before .before .before .before .before .before .before .before .pre .1 .1) (c .before .before .before .before .before .before .before .before .before .before .before .before .before .before .before .before .before .before .before .before .before .before .pre .1 .2) (c .before .before .before .before .before .before .before .before .before .before .before .before .before .before .before .before .before .before .before .operand-from .ensures .0) (c .before .before .before .before .before .before .before .before .before .before .before .before .before .before .before .before .eval .ensures) (c .before .before .before .before .before .before .before .before .before .before .before .before .before .before .before .before .before .before .before .before .before .before .pre .1 .3) (valued (c .before .before .before .before .before .before .before .before .before .before .before .before .before .before .before .before .eval .result) (c .before .before .before .before .before .before .before .before .before .before .before .before .before .if1 .left)) (c .before .before .before .before .before .before .before .before .before .before .before .left .ensures) (c .before .before .before .before .before .before .before .enum-told2 .given .1) (c .before .before .before .before .before .before .operand-from2 .ensures .0) (c .before .before .before .eval2 .ensures) (unvalued (c .before .before .before .eval2 .result) (c .if2 .taken))
 
 -- src/lib.rt:202:17
 logic-right-requires : (t : ℕ) → logic-lts.Need-right-requires (logic-calls t) (logic-at t) logic.Post
-logic-right-requires t c κs = logic-right-held (c .before .before .before .before .before .before .before .before .before .before .before .before .before .before .before .before .before .before .before .before .before .before .before .pre .1 .0) (c .before .before .before .before .before .before .before .before .before .before .before .before .before .before .before .before .before .before .before .before .before .before .before .pre .1 .1) (c .before .before .before .before .before .before .before .before .before .before .before .before .before .before .before .before .before .before .before .before .before .before .before .pre .1 .2) (c .before .before .before .before .before .before .before .before .before .before .before .before .before .before .before .before .before .before .before .before .operand .ensures .0) (c .before .before .before .before .before .before .before .before .before .before .before .before .before .before .before .before .before .eval .ensures) (c .before .before .before .before .before .before .before .before .before .before .before .before .before .before .before .before .before .before .before .before .before .before .before .pre .1 .3) (valued (c .before .before .before .before .before .before .before .before .before .before .before .before .before .before .before .before .before .eval .result) (c .before .before .before .before .before .before .before .before .before .before .before .before .before .before .if1 .left)) (c .before .before .before .before .before .before .before .before .before .before .before .before .left .ensures) (c .before .before .before .before .before .before .before .before .enum-told2 .given .1) (c .before .before .before .before .before .before .before .operand2 .ensures .0) (c .before .before .before .before .eval2 .ensures) (valued (c .before .before .before .before .eval2 .result) (c .before .if2 .left))
+logic-right-requires t c κs = logic-right-held (c .before .before .before .before .before .before .before .before .before .before .before .before .before .before .before .before .before .before .before .before .before .before .before .pre .1 .0) (c .before .before .before .before .before .before .before .before .before .before .before .before .before .before .before .before .before .before .before .before .before .before .before .pre .1 .1) (c .before .before .before .before .before .before .before .before .before .before .before .before .before .before .before .before .before .before .before .before .before .before .before .pre .1 .2) (c .before .before .before .before .before .before .before .before .before .before .before .before .before .before .before .before .before .before .before .before .operand-from .ensures .0) (c .before .before .before .before .before .before .before .before .before .before .before .before .before .before .before .before .before .eval .ensures) (c .before .before .before .before .before .before .before .before .before .before .before .before .before .before .before .before .before .before .before .before .before .before .before .pre .1 .3) (valued (c .before .before .before .before .before .before .before .before .before .before .before .before .before .before .before .before .before .eval .result) (c .before .before .before .before .before .before .before .before .before .before .before .before .before .before .if1 .left)) (c .before .before .before .before .before .before .before .before .before .before .before .before .left .ensures) (c .before .before .before .before .before .before .before .before .enum-told2 .given .1) (c .before .before .before .before .before .before .before .operand-from2 .ensures .0) (c .before .before .before .before .eval2 .ensures) (valued (c .before .before .before .before .eval2 .result) (c .before .if2 .left))
 
 -- src/lib.rt:203:13
 logic-answer-requires : (t : ℕ) → logic-lts.Need-answer-requires (logic-calls t) (logic-at t) logic.Post
@@ -96,7 +97,7 @@ logic-same-length-3 t c = search needs
 
 -- src/lib.rt:174:1
 logic-returns-3 : (t : ℕ) → logic-lts.Need-returns-3 (logic-calls t) (logic-at t) logic.Post
-logic-returns-3 t c = logic-done (c .before .before .before .before .before .before .before .before .before .before .before .before .before .before .before .pre .1 .0) (c .before .before .before .before .before .before .before .before .before .before .before .before .before .before .before .pre .1 .1) (c .before .before .before .before .before .before .before .before .before .before .before .before .before .before .before .pre .1 .2) (c .before .before .before .before .before .before .before .before .before .before .before .before .operand .ensures .0) (c .before .before .before .before .before .before .before .before .before .eval .ensures) (c .before .before .before .before .before .before .before .before .before .before .before .before .before .before .before .pre .1 .3) (valued (c .before .before .before .before .before .before .before .before .before .eval .result) (c .before .before .before .before .before .before .if1 .left)) (c .before .before .before .before .left .ensures) (c .enum-told .given .1)
+logic-returns-3 t c = logic-done (c .before .before .before .before .before .before .before .before .before .before .before .before .before .before .before .pre .1 .0) (c .before .before .before .before .before .before .before .before .before .before .before .before .before .before .before .pre .1 .1) (c .before .before .before .before .before .before .before .before .before .before .before .before .before .before .before .pre .1 .2) (c .before .before .before .before .before .before .before .before .before .before .before .before .operand-from .ensures .0) (c .before .before .before .before .before .before .before .before .before .eval .ensures) (c .before .before .before .before .before .before .before .before .before .before .before .before .before .before .before .pre .1 .3) (valued (c .before .before .before .before .before .before .before .before .before .eval .result) (c .before .before .before .before .before .before .if1 .left)) (c .before .before .before .before .left .ensures) (c .enum-told .given .1)
 
 -- src/lib.rt:174:1
 logic-same-length-4 : (t : ℕ) → logic-lts.Need-same-length-4 (logic-calls t) (logic-at t) logic.Post
@@ -104,7 +105,7 @@ logic-same-length-4 t c = search needs
 
 -- src/lib.rt:174:1
 logic-returns-4 : (t : ℕ) → logic-lts.Need-returns-4 (logic-calls t) (logic-at t) logic.Post
-logic-returns-4 t c = logic-bad (c .before .before .before .before .before .before .before .before .before .before .before .before .before .before .before .before .before .pre .1 .0) (c .before .before .before .before .before .before .before .before .before .before .before .before .before .before .before .before .before .pre .1 .1) (c .before .before .before .before .before .before .before .before .before .before .before .before .before .before .before .before .before .pre .1 .2) (c .before .before .before .before .before .before .before .before .before .before .before .before .before .before .operand .ensures .0) (c .before .before .before .before .before .before .before .before .before .before .before .eval .ensures) (c .before .before .before .before .before .before .before .before .before .before .before .before .before .before .before .before .before .pre .1 .3) (valued (c .before .before .before .before .before .before .before .before .before .before .before .eval .result) (c .before .before .before .before .before .before .before .before .if1 .left)) (c .before .before .before .before .before .before .left .ensures) _ (c .before .before .t .given .1) (c .refusal .ensures)
+logic-returns-4 t c = logic-bad (c .before .before .before .before .before .before .before .before .before .before .before .before .before .before .before .before .before .pre .1 .0) (c .before .before .before .before .before .before .before .before .before .before .before .before .before .before .before .before .before .pre .1 .1) (c .before .before .before .before .before .before .before .before .before .before .before .before .before .before .before .before .before .pre .1 .2) (c .before .before .before .before .before .before .before .before .before .before .before .before .before .before .operand-from .ensures .0) (c .before .before .before .before .before .before .before .before .before .before .before .eval .ensures) (c .before .before .before .before .before .before .before .before .before .before .before .before .before .before .before .before .before .pre .1 .3) (valued (c .before .before .before .before .before .before .before .before .before .before .before .eval .result) (c .before .before .before .before .before .before .before .before .if1 .left)) (c .before .before .before .before .before .before .left .ensures) _ (c .before .before .t .given .1) (c .refusal .ensures)
 
 -- src/lib.rt:174:1
 logic-same-length-5 : (t : ℕ) → logic-lts.Need-same-length-5 (logic-calls t) (logic-at t) logic.Post
@@ -112,11 +113,11 @@ logic-same-length-5 t c = search needs
 
 -- src/lib.rt:174:1
 logic-returns-5 : (t : ℕ) → logic-lts.Need-returns-5 (logic-calls t) (logic-at t) logic.Post
-logic-returns-5 t c = logic-both (c .before .before .before .before .before .before .before .before .before .before .before .before .before .before .before .before .before .before .before .before .before .before .before .before .before .pre .1 .0) (c .before .before .before .before .before .before .before .before .before .before .before .before .before .before .before .before .before .before .before .before .before .before .before .before .before .pre .1 .1) (c .before .before .before .before .before .before .before .before .before .before .before .before .before .before .before .before .before .before .before .before .before .before .before .before .before .pre .1 .2) (c .before .before .before .before .before .before .before .before .before .before .before .before .before .before .before .before .before .before .before .before .before .before .operand .ensures .0) (c .before .before .before .before .before .before .before .before .before .before .before .before .before .before .before .before .before .before .before .eval .ensures) (c .before .before .before .before .before .before .before .before .before .before .before .before .before .before .before .before .before .before .before .before .before .before .before .before .before .pre .1 .3) (valued (c .before .before .before .before .before .before .before .before .before .before .before .before .before .before .before .before .before .before .before .eval .result) (c .before .before .before .before .before .before .before .before .before .before .before .before .before .before .before .before .if1 .left)) (c .before .before .before .before .before .before .before .before .before .before .before .before .before .before .left .ensures) (c .before .before .before .before .before .before .before .before .before .before .enum-told2 .given .1) (c .before .before .before .before .before .before .before .before .before .operand2 .ensures .0) (c .before .before .before .before .before .before .eval2 .ensures) (valued (c .before .before .before .before .before .before .eval2 .result) (c .before .before .before .if2 .left)) (c .before .right .ensures) (c .answer .ensures)
+logic-returns-5 t c = logic-both (c .before .before .before .before .before .before .before .before .before .before .before .before .before .before .before .before .before .before .before .before .before .before .before .before .before .pre .1 .0) (c .before .before .before .before .before .before .before .before .before .before .before .before .before .before .before .before .before .before .before .before .before .before .before .before .before .pre .1 .1) (c .before .before .before .before .before .before .before .before .before .before .before .before .before .before .before .before .before .before .before .before .before .before .before .before .before .pre .1 .2) (c .before .before .before .before .before .before .before .before .before .before .before .before .before .before .before .before .before .before .before .before .before .before .operand-from .ensures .0) (c .before .before .before .before .before .before .before .before .before .before .before .before .before .before .before .before .before .before .before .eval .ensures) (c .before .before .before .before .before .before .before .before .before .before .before .before .before .before .before .before .before .before .before .before .before .before .before .before .before .pre .1 .3) (valued (c .before .before .before .before .before .before .before .before .before .before .before .before .before .before .before .before .before .before .before .eval .result) (c .before .before .before .before .before .before .before .before .before .before .before .before .before .before .before .before .if1 .left)) (c .before .before .before .before .before .before .before .before .before .before .before .before .before .before .left .ensures) (c .before .before .before .before .before .before .before .before .before .before .enum-told2 .given .1) (c .before .before .before .before .before .before .before .before .before .operand-from2 .ensures .0) (c .before .before .before .before .before .before .eval2 .ensures) (valued (c .before .before .before .before .before .before .eval2 .result) (c .before .before .before .if2 .left)) (c .before .right .ensures) (c .answer .ensures)
 
 pub logic-member : {M : Type 1} (t : ℕ) → logic-lts.Closed (logic-calls t) (logic-at t) logic.Post M
 logic-member t = logic-lts.spec (logic-calls t) (logic-at t) logic.Post
-    (logic-operand-requires t)
+    (logic-operand-from-requires t)
     (logic-eval-requires t)
     (logic-same-length t)
     (logic-returns t)
@@ -125,7 +126,7 @@ logic-member t = logic-lts.spec (logic-calls t) (logic-at t) logic.Post
     (logic-enum-known-t t)
     (logic-refusal-requires t)
     (logic-enum-told-2 t)
-    (logic-operand-requires-2 t)
+    (logic-operand-from-requires-2 t)
     (logic-eval-requires-2 t)
     (logic-same-length-2 t)
     (logic-returns-2 t)

@@ -1,5 +1,6 @@
 use native.Mathlib.Omega.{arith}
 use Rattle.evaluator.proofs.Tables.{room-here}
+use Rattle.evaluator.proofs.Firsts.{binder-first}
 use Rattle.evaluator.proofs.Standing.{binder-has}
 use Rattle.evaluator.proofs.Entering.{entered}
 use Rattle.evaluator.proofs.Single.{fetch-field, fetch-name, fetch-puttable, fetch-copyable, fetch-done}
@@ -12,12 +13,12 @@ enter-requires : tie.Need-enter-requires
 enter-requires c κs = record { choices = c .before .before .before .before .before .pre .choices; stands = c .before .before .before .before .before .pre .stands }
 
 -- src/binding.rt:188:9
-operand-requires : tie.Need-operand-requires
-operand-requires c κs = binder-has (c .before .before .before .before .before .before .before .before .pre .stands .asked) (c .before .before .before .before .before .before .before .before .pre .stands .binder) 0 (omega arith)
+operand-from-requires : tie.Need-operand-from-requires
+operand-from-requires c κs = (binder-has (c .before .before .before .before .before .before .before .before .pre .stands .asked) (c .before .before .before .before .before .before .before .before .pre .stands .binder) 0 (omega arith), binder-first (c .before .before .before .before .before .before .before .before .pre .stands .binder))
 
 -- src/binding.rt:189:9
 field-requires : tie.Need-field-requires
-field-requires c κs = fetch-field (c .before .before .before .before .before .before .before .before .before .pre .stands) (c .before .before .before .before .before .before .before .before .before .pre .iota) (c .operand .ensures .0)
+field-requires c κs = fetch-field (c .before .before .before .before .before .before .before .before .before .pre .stands) (c .before .before .before .before .before .before .before .before .before .pre .iota) (c .operand-from .ensures .0)
 
 -- src/binding.rt:190:16
 mul-word : tie.Need-mul-word
@@ -25,7 +26,7 @@ mul-word c = search needs
 
 -- src/binding.rt:190:16
 array-read-word : tie.Need-array-read-word
-array-read-word c = fetch-name (c .before .before .before .before .before .before .before .before .before .before .pre .stands) (c .before .before .before .before .before .before .before .before .before .before .pre .iota) (c .before .operand .ensures .0) (c .field .ensures .0)
+array-read-word c = fetch-name (c .before .before .before .before .before .before .before .before .before .before .pre .stands) (c .before .before .before .before .before .before .before .before .before .before .pre .iota) (c .before .operand-from .ensures .0) (c .field .ensures .0)
 
 -- src/binding.rt:191:9
 unpack-requires : tie.Need-unpack-requires
@@ -37,7 +38,7 @@ add-put-part c = omega (arith, room-here (c .before .before .before .before .bef
 
 -- src/binding.rt:192:5
 put-part-requires : tie.Need-put-part-requires
-put-part-requires c κs = fetch-puttable (c .before .before .before .before .before .before .before .before .before .before .before .before .pre .stands) (c .before .before .before .before .before .before .before .before .before .before .before .before .pre .iota) (c .before .before .before .operand .ensures .0) (c .before .before .field .ensures .0) (entered (c .before .before .before .operand .ensures .0) (c .before .before .before .before .before .before .enter .ensures)) (c .before .before .before .before .before .before .enter .ensures .under) (c .before .unpack .ensures)
+put-part-requires c κs = fetch-puttable (c .before .before .before .before .before .before .before .before .before .before .before .before .pre .stands) (c .before .before .before .before .before .before .before .before .before .before .before .before .pre .iota) (c .before .before .before .operand-from .ensures .0) (c .before .before .field .ensures .0) (entered (c .before .before .before .operand-from .ensures .0) (c .before .before .before .before .before .before .enter .ensures)) (c .before .before .before .before .before .before .enter .ensures .under) (c .before .unpack .ensures)
 
 -- src/binding.rt:193:27
 add-copy-value : tie.Need-add-copy-value
@@ -45,7 +46,7 @@ add-copy-value c = omega (arith, room-here (c .before .before .before .before .b
 
 -- src/binding.rt:193:5
 copy-value-requires : tie.Need-copy-value-requires
-copy-value-requires c κs = fetch-copyable (c .before .before .before .before .before .before .before .before .before .before .before .before .before .before .before .before .pre .stands) (c .before .before .before .before .before .before .before .before .before .before .before .before .before .before .before .before .pre .iota) (c .before .before .before .before .before .before .before .operand .ensures .0) (c .before .before .before .before .before .before .field .ensures .0) (entered (c .before .before .before .before .before .before .before .operand .ensures .0) (c .before .before .before .before .before .before .before .before .before .before .enter .ensures)) (c .before .before .before .before .before .before .before .before .before .before .enter .ensures .under) (c .before .before .before .before .before .unpack .ensures) (c .before .before .before .put-part .ensures)
+copy-value-requires c κs = fetch-copyable (c .before .before .before .before .before .before .before .before .before .before .before .before .before .before .before .before .pre .stands) (c .before .before .before .before .before .before .before .before .before .before .before .before .before .before .before .before .pre .iota) (c .before .before .before .before .before .before .before .operand-from .ensures .0) (c .before .before .before .before .before .before .field .ensures .0) (entered (c .before .before .before .before .before .before .before .operand-from .ensures .0) (c .before .before .before .before .before .before .before .before .before .before .enter .ensures)) (c .before .before .before .before .before .before .before .before .before .before .enter .ensures .under) (c .before .before .before .before .before .unpack .ensures) (c .before .before .before .put-part .ensures)
 
 -- src/binding.rt:173:1
 same-length : tie.Need-same-length
@@ -53,14 +54,14 @@ same-length c = search needs
 
 -- src/binding.rt:173:1
 returns : tie.Need-returns
-returns c = fetch-done (c .before .before .before .before .before .before .before .before .before .before .before .before .before .before .before .before .before .before .before .pre .stands) (c .before .before .before .before .before .before .before .before .before .before .before .before .before .before .before .before .before .before .before .pre .iota) (c .before .before .before .before .before .before .before .before .before .before .operand .ensures .0) (c .before .before .before .before .before .before .before .before .before .field .ensures .0) (entered (c .before .before .before .before .before .before .before .before .before .before .operand .ensures .0) (c .before .before .before .before .before .before .before .before .before .before .before .before .before .enter .ensures)) (c .before .before .before .before .before .before .before .before .before .before .before .before .before .enter .ensures .under) (c .before .before .before .before .before .before .before .before .unpack .ensures) (c .before .before .before .before .before .before .put-part .ensures) (c .before .before .copy-value .ensures)
+returns c = fetch-done (c .before .before .before .before .before .before .before .before .before .before .before .before .before .before .before .before .before .before .before .pre .stands) (c .before .before .before .before .before .before .before .before .before .before .before .before .before .before .before .before .before .before .before .pre .iota) (c .before .before .before .before .before .before .before .before .before .before .operand-from .ensures .0) (c .before .before .before .before .before .before .before .before .before .field .ensures .0) (entered (c .before .before .before .before .before .before .before .before .before .before .operand-from .ensures .0) (c .before .before .before .before .before .before .before .before .before .before .before .before .before .enter .ensures)) (c .before .before .before .before .before .before .before .before .before .before .before .before .before .enter .ensures .under) (c .before .before .before .before .before .before .before .before .unpack .ensures) (c .before .before .before .before .before .before .put-part .ensures) (c .before .before .copy-value .ensures)
 
 pub fetch-spec : {M : Type 1} → statement M
 fetch-spec =
     tie.close
     (tie.spec
     enter-requires
-    operand-requires
+    operand-from-requires
     field-requires
     mul-word
     array-read-word

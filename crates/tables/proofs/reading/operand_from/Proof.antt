@@ -1,0 +1,48 @@
+-- Operands stand after the head.
+use Rattle.tables.proofs.Stand.{field-byte, rest-long, in-index, four-there, operand-within, operand-is}
+use lib.ListN.{getD}
+use Prim.Native.Nat.{ℕ, _+_}
+use native.Mathlib.Omega.{arith}
+use mathlib.Core.Path.{ap, _∙_}
+use borrow.Author.Needs.{needs}
+use Rattle.tables.proofs.reading.operand_from.Statement.{statement}
+use Rattle.tables.proofs.reading.operand_from.Tie as tie
+
+place-requires : tie.Need-place-requires
+place-requires c κs = in-index (c .before .args .table .now) (c .before .args .index .now) (c .before .args .r) (c .before .pre .0 .here)
+
+sub-byte-of : tie.Need-sub-byte-of
+sub-byte-of c = omega (arith, four-there (c .before .before .args .table .now) (c .before .before .args .index .now) (c .before .before .args .r) (c .before .before .pre .0 .here), c .place .ensures)
+
+part-byte-of-start : tie.Need-part-byte-of-start
+part-byte-of-start c = omega (arith, four-there (c .before .before .args .table .now) (c .before .before .args .index .now) (c .before .before .args .r) (c .before .before .pre .0 .here), c .place .ensures)
+
+part-byte-of-end : tie.Need-part-byte-of-end
+part-byte-of-end c = search needs
+
+add-byte-of : tie.Need-add-byte-of
+add-byte-of c = omega (arith, operand-within (c .before .before .before .args .table .now) (c .before .before .before .args .index .now) (c .before .before .before .args .r) (c .before .before .before .pre .0 .here) (c .before .before .before .args .i) (c .before .before .before .pre .0 .has), c .before .before .before .pre .1)
+
+byte-of-requires : tie.Need-byte-of-requires
+byte-of-requires c κs = omega (arith, operand-within (c .before .before .before .args .table .now) (c .before .before .before .args .index .now) (c .before .before .before .args .r) (c .before .before .before .pre .0 .here) (c .before .before .before .args .i) (c .before .before .before .pre .0 .has), c .before .place .ensures, rest-long (c .before .before .before .args .table .now) (c .before .place .result), c .before .before .before .pre .1)
+
+returns : tie.Need-returns
+returns c = (
+  c .byte-of .ensures .0
+      ∙ field-byte (c .before .before .before .before .args .table .now) (c .before .before .place .result) (getD (c .before .before .before .before .args .index .now) (c .before .before .before .before .args .r) 0) (c .before .before .before .before .args .first + c .before .before .before .before .args .i) (c .before .before .place .ensures)
+      ∙ ap (λ (f : ℕ). getD (c .before .before .before .before .args .table .now) (getD (c .before .before .before .before .args .index .now) (c .before .before .before .before .args .r) 0 + (f + c .before .before .before .before .args .i)) 0) (c .before .before .before .before .pre .1)
+      ∙ operand-is (c .before .before .before .before .args .table .now) (c .before .before .before .before .args .index .now) (c .before .before .before .before .args .r) (c .before .before .before .before .pre .0 .here) (c .before .before .before .before .args .i) (c .before .before .before .before .pre .0 .has),
+  c .byte-of .ensures .1,
+)
+
+pub operand-from-spec : {M : Type 1} → statement M
+operand-from-spec =
+    tie.close
+    (tie.spec
+    place-requires
+    sub-byte-of
+    part-byte-of-start
+    part-byte-of-end
+    add-byte-of
+    byte-of-requires
+    returns)
