@@ -3,7 +3,9 @@ use mathlib.Core.Path.{_≡_, refl, sym, ap, subst, _∙_}
 use mathlib.Core.Bool.{Bool, true, false, not}
 use mathlib.Core.Logic.{inl, inr}
 use mathlib.Core.List.{List, [], _∷_}
-use Prim.Native.Nat.{ℕ}
+use Prim.Native.Nat.{ℕ, zero, suc, _/_, _%_}
+use lib.Dec.{eqb}
+use borrow.Author.Tests.{eq-eqb, ne-eqb}
 use native.Mathlib.Omega.{arith}
 use native.Mathlib.Decide.{ℕ-discrete}
 use denote.Enum.Declared.{tagOf}
@@ -54,6 +56,15 @@ agrees-no true true e = impossible cc
 agrees-no true false e = refl
 agrees-no false true e = refl
 agrees-no false false e = impossible cc
+
+-- ---- a quantifier's kind by half of it
+
+pub quantifier-of : {k : ℕ} → k / 2 ≡ 7 → k ≡ quantified (eqb k 15)
+quantifier-of {k} e = go (k % 2) refl
+  where
+    go : (m : ℕ) → k % 2 ≡ m → k ≡ quantified (eqb k 15)
+    go zero h = let x : k ≡ 14 = omega arith in rw (ne-eqb k 15 (λ z. omega arith)) x
+    go (suc m) h = let x : k ≡ 15 = omega arith in rw (eq-eqb k 15 x) x
 
 -- ---- a kind under its other name
 

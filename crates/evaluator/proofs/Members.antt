@@ -4,7 +4,6 @@ use mathlib.Core.List.{List, [], _∷_}
 use types.Run.{OneOf}
 use mathlib.Core.Logic.{_⊎_, inl, inr}
 use Prim.Native.Nat.{ℕ, zero, suc, _+_, _-_, _≤_, _<_}
-use lib.Dec.{eqb}
 use native.Mathlib.Omega.{arith}
 use borrow.Author.Tests.{eq-eqb, ne-eqb}
 use mathlib.Core.Bool.{cond}
@@ -38,7 +37,7 @@ use Rattle.evaluator.specs.declared.Truth.the-variants.{True, False, Oth
 use Rattle.evaluator.specs.Contract.{Evaluated, Ask, Gives, meant, level, operatorAt}
 use Rattle.evaluator.specs.Leaves.{Tells, ofTwo, OfTwo, Strict}
 use Rattle.evaluator.specs.Building.{Enumerated}
-use Rattle.evaluator.specs.Binding.{quantified, Comprehension}
+use Rattle.evaluator.specs.Binding.{Remaining, Comprehension}
 use Rattle.evaluator.specs.Word.{ending, wordOf, appliedWord}
 use Rattle.evaluator.proofs.Wording.{word-applied, decoded, as-word, refused-at}
 use Rattle.evaluator.proofs.Tables.{fine-of, small-place, has-operand, has-field, lower-down, unary-number, binary-number}
@@ -252,9 +251,12 @@ module _ {table index : List ℕ} {r : ℕ} {s : List ℕ} {base : ℕ} {env : E
 abbrev Unlike : ℕ → ℕ → Type 0
 Unlike n k = OneOf (n ∷ []) k → ⊥
 
--- none of those that it names
+-- none of those that `eval` names, and of those that `binds` names
 abbrev pub Unlisted : ℕ → Type 0
-Unlisted k = (((((((((((Unit {0} × Unlike 1 k) × Unlike 2 k) × Unlike 3 k) × Unlike 4 k) × (OneOf (5 ∷ 11 ∷ 21 ∷ []) k → ⊥)) × Unlike 6 k) × Unlike 10 k) × Unlike 9 k) × Unlike 12 k) × Unlike 13 k) × Unlike 16 k) × Unlike 17 k
+Unlisted k = (((((((Unit {0} × Unlike 1 k) × Unlike 2 k) × Unlike 3 k) × Unlike 4 k) × (OneOf (5 ∷ 11 ∷ 21 ∷ []) k → ⊥)) × Unlike 6 k) × Unlike 10 k) × Unlike 9 k
+
+abbrev pub Unbound : ℕ → Type 0
+Unbound k = (((Unit {0} × Unlike 12 k) × Unlike 13 k) × Unlike 16 k) × Unlike 17 k
 
 next-up : (n k : ℕ) → n ≤ k → (k ≡ n → ⊥) → n + 1 ≤ k
 next-up n k l h = omega arith
@@ -267,24 +269,21 @@ least-or n k l = go (k - n) refl
     go (suc d) e = inr (omega arith)
 
 pub from-seven : {k : ℕ} → Unlisted k → 1 ≤ k → k < 9 → Enumerated k
-from-seven {k} ((((((((((((u, a1), a2), a3), a4), a5), a6), a10), a9), a12), a13), a16), a17) l m =
+from-seven {k} ((((((((u, a1), a2), a3), a4), a5), a6), a10), a9) l m =
     go (least-or 7 k (next-up 6 k (next-up 5 k (next-up 4 k (next-up 3 k (next-up 2 k (next-up 1 k l a1) a2) a3) a4) (λ x. a5 (inl x))) a6))
   where
     go : (k ≡ 7) ⊎ (8 ≤ k) → Enumerated k
     go (inl x) = inl x
     go (inr x) = inr (inl (omega arith))
 
-pub from-fourteen : {k : ℕ} → Unlisted k → 9 ≤ k → k < 16 → k ≡ quantified (eqb k 15)
-from-fourteen {k} ((((((((((((u, a1), a2), a3), a4), a5), a6), a10), a9), a12), a13), a16), a17) l m =
-    go (least-or 14 k (next-up 13 k (next-up 12 k (next-up 11 k (next-up 10 k (next-up 9 k l a9) a10) (λ x. a5 (inr (inl x)))) a12) a13))
-  where
-    go : (k ≡ 14) ⊎ (15 ≤ k) → k ≡ quantified (eqb k 15)
-    go (inl x) = rw (ne-eqb k 15 (λ z. omega arith)) x
-    go (inr x) = let e : k ≡ 15 = omega arith in rw (eq-eqb k 15 e) e
+pub left-over : {k : ℕ} → Unlisted k → (k < 1) ⊎ (9 ≤ k) → Remaining k
+left-over w (inl l) = inl (omega arith)
+left-over {k} ((((((((u, a1), a2), a3), a4), a5), a6), a10), a9) (inr l) = inr (next-up 11 k (next-up 10 k (next-up 9 k l a9) a10) (λ x. a5 (inr (inl x))), λ x. a5 (inr (inr x)))
 
-pub from-eighteen : {k : ℕ} → Unlisted k → 16 ≤ k → k < 21 → Comprehension k
-from-eighteen {k} ((((((((((((u, a1), a2), a3), a4), a5), a6), a10), a9), a12), a13), a16), a17) l m = (next-up 17 k (next-up 16 k l a16) a17, omega arith)
+pub from-eighteen : {k : ℕ} → Unbound k → 16 ≤ k → k < 21 → Comprehension k
+from-eighteen {k} ((((u, a12), a13), a16), a17) l m = (next-up 17 k (next-up 16 k l a16) a17, omega arith)
 
-pub unmatched : {k : ℕ} → Unlisted k → (k < 1) ⊎ (21 ≤ k) → (k ≡ 0) ⊎ (22 ≤ k)
-unmatched w (inl l) = inl (omega arith)
-unmatched {k} ((((((((((((u, a1), a2), a3), a4), a5), a6), a10), a9), a12), a13), a16), a17) (inr l) = inr (next-up 21 k l (λ x. a5 (inr (inr x))))
+pub unmatched : {k : ℕ} → Remaining k → (k ≡ 14 → ⊥) × (k ≡ 15 → ⊥) → Unbound k → (k < 16) ⊎ (21 ≤ k) → (k ≡ 0) ⊎ (22 ≤ k)
+unmatched (inl x) q w o = inl x
+unmatched {k} (inr x) q ((((u, a12), a13), a16), a17) (inl l) = absurd (omega (arith, next-up 15 k (next-up 14 k (next-up 13 k (next-up 12 k (x .0) a12) a13) (q .0)) (q .1)))
+unmatched {k} (inr x) q w (inr l) = inr (next-up 21 k l (x .1))

@@ -3,6 +3,7 @@
 -- its key stands at 1,536.
 use mathlib.Core.Path.{_≡_}
 use mathlib.Core.Bool.{Bool, true, false, not, cond}
+use mathlib.Core.Logic.{_⊎_}
 use mathlib.Core.Option.{some}
 use mathlib.Core.List.{List, [], _∷_}
 use Prim.Native.Nat.{ℕ, _+_, _-_, _≤_, _<_}
@@ -76,6 +77,14 @@ Binder k = (12 ≤ k) × (k ≤ 20)
 -- The quantifier that stops at the first such truth.
 abbrev pub quantified : Bool → ℕ
 quantified want = cond want 15 14
+
+pub record Quantifies (k : ℕ) (b : Bool) : Type 0 where
+  pub yes : b ≡ true → k ≡ quantified (eqb k 15)
+  pub no : b ≡ false → (k ≡ 14 → ⊥) × (k ≡ 15 → ⊥)
+
+-- What the kinds without binders leave.
+abbrev pub Remaining : ℕ → Type 0
+Remaining k = (k ≡ 0) ⊎ ((12 ≤ k) × (k ≡ 21 → ⊥))
 
 -- Those that test all bindings, and those that ask for exactly one.
 abbrev pub Surveyed : ℕ → Type 0

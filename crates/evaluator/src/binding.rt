@@ -22,7 +22,7 @@ ghost use mathlib.Core.Path.{_≡_};
 ghost use mathlib.Core.Bool.{true};
 ghost use Rattle.values.specs.Place.{Holds, HoldsItems};
 ghost use Prim.Native.Nat.{_<_};
-ghost use Rattle.evaluator.specs.Binding.{Suits, AllIntegers, OpeningIs, agrees, counting, marking, cursorOf, Nameless, Enterable, Enters, Fetchable, Fetches};
+ghost use Rattle.evaluator.specs.Binding.{Quantifies, Suits, AllIntegers, OpeningIs, agrees, counting, marking, cursorOf, Nameless, Enterable, Enters, Fetchable, Fetches};
 ghost use Rattle.evaluator.specs.Contract.{envOf};
 ghost use Rattle.evaluator.specs.Word.{judgedWord, unchosenWord, builtWord};
 
@@ -80,6 +80,13 @@ pub fn is_nameless(cursor: &[usize; CELLS]) -> bool
         return false;
     }
     cursor[3] == 0
+}
+
+// Whether the kind is forall or exists: 14 and 15 differ in the last bit alone, so one test tells.
+pub fn is_quantifier(k: usize) -> bool
+    ensures { λ b. ⌜ Quantifies k b ⌝ }
+{
+    k / 2 == kinds::FORALL / 2
 }
 
 // Whether all items from a place up to another are integers.

@@ -14,6 +14,7 @@ use binding::agree;
 use binding::built;
 use binding::enter;
 use binding::fetch;
+use binding::is_quantifier;
 use binding::judge;
 use binding::mark;
 use binding::opening;
@@ -65,7 +66,7 @@ ghost use Rattle.evaluator.specs.Contract.{Ask, Evaluates, ended, operat
 ghost use Rattle.evaluator.specs.Leaves.{Strict};
 ghost use Rattle.evaluator.specs.Building.{Enumerated};
 ghost use Rattle.evaluator.specs.Sheet.{Runnable, Runs};
-ghost use Rattle.evaluator.specs.Binding.{Binder, Surveyed, Unique, Comprehension, Upward, quantified, Begins, Stands, Insides, Tests, Surveys, Extends, Extended, addsIn, stepIn, cursorOf, placed, held, counted};
+ghost use Rattle.evaluator.specs.Binding.{Binder, Remaining, Surveyed, Unique, Comprehension, Upward, quantified, Begins, Stands, Insides, Tests, Surveys, Extends, Extended, addsIn, stepIn, cursorOf, placed, held, counted};
 ghost use Rattle.evaluator.specs.Word.{ending, appliedWord};
 
 // A value, which stands at the base; or a refusal's number, place and count.
@@ -767,7 +768,37 @@ fn comp(
     VALUE
 }
 
-// The record r evaluated. Kinds that are evaluated alike share an arm: what is called at one place only can become part of this function.
+// 12 to 20: what binds names. Of the other kinds that are left none is evaluated.
+fn binds(
+    table: &[u8],
+    index: &Index,
+    r: usize,
+    s: &mut [u8],
+    base: usize,
+    env: &[u32; Env::NAMES],
+    run: &mut [u8; RUN],
+    k: usize,
+) -> usize
+    requires { ⌜ Ask (now table) (now index) r (now s) base (envOf (now env)) (lent (now run)) × (kindAt (records (now table)) r ≡ k) × Remaining k ⌝ }
+    ensures { λ o. ⌜ Evaluates (now (table .entry)) r (now (s .entry)) (now (s .exit)) base (envOf (now (env .entry))) (lent (now (run .entry))) (ending o (lent (now (run .exit)))) ⌝ }
+{
+    if is_quantifier(k) {
+        return quant(table, index, r, s, base, env, run, k, k == kinds::EXISTS);
+    }
+    match k {
+        kinds::LET => local(table, index, r, s, base, env, run),
+        kinds::LET_BE => such(table, index, r, s, base, env, run),
+        kinds::EXISTS1 => one(table, index, r, s, base, env, run, k),
+        kinds::IOTA => one(table, index, r, s, base, env, run, k),
+        kinds::SET_COMPREHENSION | kinds::SEQUENCE_COMPREHENSION | kinds::MAP_COMPREHENSION => {
+            comp(table, index, r, s, base, env, run, k)
+        }
+        _ => refusal(Applied::WRONG_KIND, r, 0),
+    }
+}
+
+// The record r evaluated. Kinds that are evaluated alike share an arm: what is called at one place only can become part of this function. The binders,
+// which take more of the stack, are apart.
 pub fn eval(
     table: &[u8],
     index: &Index,
@@ -796,17 +827,7 @@ pub fn eval(
         kinds::IF => cond(table, index, r, s, base, env, run),
         kinds::SET | kinds::SEQUENCE | kinds::TUPLE => many(table, index, r, s, base, env, run, k),
         kinds::MAP => maps(table, index, r, s, base, env, run),
-        kinds::LET => local(table, index, r, s, base, env, run),
-        kinds::LET_BE => such(table, index, r, s, base, env, run),
-        kinds::FORALL | kinds::EXISTS => {
-            quant(table, index, r, s, base, env, run, k, k == kinds::EXISTS)
-        }
-        kinds::EXISTS1 => one(table, index, r, s, base, env, run, k),
-        kinds::IOTA => one(table, index, r, s, base, env, run, k),
-        kinds::SET_COMPREHENSION | kinds::SEQUENCE_COMPREHENSION | kinds::MAP_COMPREHENSION => {
-            comp(table, index, r, s, base, env, run, k)
-        }
-        _ => refusal(Applied::WRONG_KIND, r, 0),
+        _ => binds(table, index, r, s, base, env, run, k),
     }
 }
 

@@ -3,7 +3,7 @@ use Prim.Native.Nat.{ℕ}
 use native.Mathlib.Omega.{arith}
 use mathlib.Core.Path.{refl}
 use borrow.Author.Needs.{needs}
-use Rattle.evaluator.proofs.+begin+bin+comp+cond+eval+holds+inside+item+local+logic+many+maps+one+pair+quant+step+such+survey+un.Proof.Common.{holds-at, inside-below}
+use Rattle.evaluator.proofs.+begin+bin+binds+comp+cond+eval+holds+inside+item+local+logic+many+maps+one+pair+quant+step+such+survey+un.Proof.Common.{holds-at, inside-below}
 use Rattle.evaluator.proofs.Tables.{room-here}
 use Rattle.evaluator.proofs.Standing.{binder-has}
 use Rattle.evaluator.proofs.Entering.{test-off, test-held}
@@ -13,7 +13,7 @@ use Rattle.evaluator.proofs.holds.Reads as holds
 use Rattle.evaluator.proofs.inside.Reads as inside
 use Rattle.evaluator.proofs.binding.judge.Reads as judge-reads
 use Rattle.evaluator.proofs.leaves.test.Reads as test-reads
-use Rattle.evaluator.proofs.+begin+bin+comp+cond+eval+holds+inside+item+local+logic+many+maps+one+pair+quant+step+such+survey+un.Lts-holds as holds-lts
+use Rattle.evaluator.proofs.+begin+bin+binds+comp+cond+eval+holds+inside+item+local+logic+many+maps+one+pair+quant+step+such+survey+un.Lts-holds as holds-lts
 
 abbrev holds-calls : ℕ → holds-lts.Claims
 holds-calls t = (

@@ -3,7 +3,7 @@ use Prim.Native.Nat.{ℕ, _-_}
 use native.Mathlib.Omega.{arith}
 use mathlib.Core.Path.{refl}
 use borrow.Author.Needs.{needs}
-use Rattle.evaluator.proofs.+begin+bin+comp+cond+eval+holds+inside+item+local+logic+many+maps+one+pair+quant+step+such+survey+un.Proof.Common.{comp-at, begin-below, step-below}
+use Rattle.evaluator.proofs.+begin+bin+binds+comp+cond+eval+holds+inside+item+local+logic+many+maps+one+pair+quant+step+such+survey+un.Proof.Common.{comp-at, begin-below, step-below}
 use Rattle.lists.specs.Lent.{lent}
 use Rattle.evaluator.proofs.Comprehending.{Collects, comp-off, comp-room, comp-start, comp-whole, collects-extends, collects-off, collects-more, collects-copyable, collects-end}
 use Rattle.evaluator.proofs.Wording.{valued, unvalued}
@@ -14,7 +14,7 @@ use Rattle.evaluator.proofs.comp.Reads as comp
 use Rattle.values.proofs.copy_value.Reads as copy-value-reads
 use Rattle.collections.proofs.building.put_empty.Reads as put-empty-reads
 use Rattle.evaluator.proofs.step.Reads as step
-use Rattle.evaluator.proofs.+begin+bin+comp+cond+eval+holds+inside+item+local+logic+many+maps+one+pair+quant+step+such+survey+un.Lts-comp as comp-lts
+use Rattle.evaluator.proofs.+begin+bin+binds+comp+cond+eval+holds+inside+item+local+logic+many+maps+one+pair+quant+step+such+survey+un.Lts-comp as comp-lts
 
 abbrev comp-calls : ℕ → comp-lts.Claims
 comp-calls t = (

@@ -2,7 +2,7 @@
 use Prim.Native.Nat.{ℕ}
 use native.Mathlib.Omega.{arith}
 use mathlib.Core.Path.{refl, sym}
-use Rattle.evaluator.proofs.+begin+bin+comp+cond+eval+holds+inside+item+local+logic+many+maps+one+pair+quant+step+such+survey+un.Proof.Common.{step-at, holds-below, item-below, pair-below}
+use Rattle.evaluator.proofs.+begin+bin+binds+comp+cond+eval+holds+inside+item+local+logic+many+maps+one+pair+quant+step+such+survey+un.Proof.Common.{step-at, holds-below, item-below, pair-below}
 use borrow.Author.Tests.{eq-eqb, ne-eqb}
 use Rattle.evaluator.proofs.Extending.{extends-as, extended-as}
 use Rattle.evaluator.proofs.Adding.{step-off, step-false, step-extends, step-true}
@@ -11,7 +11,7 @@ use Rattle.evaluator.proofs.holds.Reads as holds
 use Rattle.evaluator.proofs.item.Reads as item
 use Rattle.evaluator.proofs.pair.Reads as pair
 use Rattle.evaluator.proofs.step.Reads as step
-use Rattle.evaluator.proofs.+begin+bin+comp+cond+eval+holds+inside+item+local+logic+many+maps+one+pair+quant+step+such+survey+un.Lts-step as step-lts
+use Rattle.evaluator.proofs.+begin+bin+binds+comp+cond+eval+holds+inside+item+local+logic+many+maps+one+pair+quant+step+such+survey+un.Lts-step as step-lts
 
 abbrev step-calls : ℕ → step-lts.Claims
 step-calls t = (

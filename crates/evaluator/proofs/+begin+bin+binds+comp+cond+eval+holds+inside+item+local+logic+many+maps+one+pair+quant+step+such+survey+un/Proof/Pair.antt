@@ -3,7 +3,7 @@ use Prim.Native.Nat.{ℕ}
 use native.Mathlib.Omega.{arith}
 use mathlib.Core.Path.{refl, ap}
 use borrow.Author.Needs.{needs}
-use Rattle.evaluator.proofs.+begin+bin+comp+cond+eval+holds+inside+item+local+logic+many+maps+one+pair+quant+step+such+survey+un.Proof.Common.{pair-at, inside-below}
+use Rattle.evaluator.proofs.+begin+bin+binds+comp+cond+eval+holds+inside+item+local+logic+many+maps+one+pair+quant+step+such+survey+un.Proof.Common.{pair-at, inside-below}
 use Rattle.evaluator.proofs.Extending.{extends-has, pair-has}
 use Rattle.evaluator.proofs.Tables.{room-here}
 use Rattle.evaluator.proofs.Adding.{pair-off, pair-stands, pair-value-off, pair-held, pair-done}
@@ -13,7 +13,7 @@ use Rattle.evaluator.proofs.binding.built.Reads as built-reads
 use Rattle.evaluator.proofs.building.enter_next.Reads as enter-next-reads
 use Rattle.evaluator.proofs.inside.Reads as inside
 use Rattle.evaluator.proofs.pair.Reads as pair
-use Rattle.evaluator.proofs.+begin+bin+comp+cond+eval+holds+inside+item+local+logic+many+maps+one+pair+quant+step+such+survey+un.Lts-pair as pair-lts
+use Rattle.evaluator.proofs.+begin+bin+binds+comp+cond+eval+holds+inside+item+local+logic+many+maps+one+pair+quant+step+such+survey+un.Lts-pair as pair-lts
 
 abbrev pair-calls : ℕ → pair-lts.Claims
 pair-calls t = (

@@ -3,7 +3,7 @@ use Prim.Native.Nat.{ℕ}
 use native.Mathlib.Omega.{arith}
 use mathlib.Core.Path.{refl}
 use borrow.Author.Needs.{needs}
-use Rattle.evaluator.proofs.+begin+bin+comp+cond+eval+holds+inside+item+local+logic+many+maps+one+pair+quant+step+such+survey+un.Proof.Common.{such-at, inside-below, survey-below}
+use Rattle.evaluator.proofs.+begin+bin+binds+comp+cond+eval+holds+inside+item+local+logic+many+maps+one+pair+quant+step+such+survey+un.Proof.Common.{such-at, inside-below, survey-below}
 use Rattle.evaluator.proofs.Tables.{room-here}
 use Rattle.evaluator.proofs.Deciding.{not-taken, such-has}
 use Rattle.evaluator.proofs.Letting.{such-off, such-none, such-some, such-unchosen, such-stands, such-body-off, such-copyable, such-done}
@@ -15,7 +15,7 @@ use Rattle.evaluator.proofs.words.refusal.Reads as refusal-reads
 use Rattle.evaluator.proofs.such.Reads as such
 use Rattle.evaluator.proofs.survey.Reads as survey
 use Rattle.evaluator.proofs.binding.unchosen.Reads as unchosen-reads
-use Rattle.evaluator.proofs.+begin+bin+comp+cond+eval+holds+inside+item+local+logic+many+maps+one+pair+quant+step+such+survey+un.Lts-such as such-lts
+use Rattle.evaluator.proofs.+begin+bin+binds+comp+cond+eval+holds+inside+item+local+logic+many+maps+one+pair+quant+step+such+survey+un.Lts-such as such-lts
 
 abbrev such-calls : ℕ → such-lts.Claims
 such-calls t = (

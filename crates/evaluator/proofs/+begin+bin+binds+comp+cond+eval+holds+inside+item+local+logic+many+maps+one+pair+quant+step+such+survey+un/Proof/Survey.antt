@@ -6,7 +6,7 @@ use Rattle.evaluator.specs.Contract.{envOf}
 use Rattle.lists.specs.Lent.{lent}
 use mathlib.Core.Path.{refl, _∙_}
 use borrow.Author.Needs.{needs}
-use Rattle.evaluator.proofs.+begin+bin+comp+cond+eval+holds+inside+item+local+logic+many+maps+one+pair+quant+step+such+survey+un.Proof.Common.{survey-at, begin-below, holds-below}
+use Rattle.evaluator.proofs.+begin+bin+binds+comp+cond+eval+holds+inside+item+local+logic+many+maps+one+pair+quant+step+such+survey+un.Proof.Common.{survey-at, begin-below, holds-below}
 use Rattle.evaluator.proofs.Coming.{comes-sound}
 use Rattle.evaluator.proofs.Quieting.{quiet}
 use Rattle.evaluator.proofs.Surveying.{Counts, counts-end, counts-stands, counts-off, counts-more, survey-off, survey-start, survey-whole}
@@ -17,7 +17,7 @@ use Rattle.evaluator.proofs.binding.mark.Reads as mark-reads
 use Rattle.evaluator.proofs.survey.Reads as survey
 use Rattle.evaluator.proofs.binding.tally.Reads as tally-reads
 use Rattle.evaluator.proofs.run.wanted.Reads as wanted-reads
-use Rattle.evaluator.proofs.+begin+bin+comp+cond+eval+holds+inside+item+local+logic+many+maps+one+pair+quant+step+such+survey+un.Lts-survey as survey-lts
+use Rattle.evaluator.proofs.+begin+bin+binds+comp+cond+eval+holds+inside+item+local+logic+many+maps+one+pair+quant+step+such+survey+un.Lts-survey as survey-lts
 
 abbrev survey-calls : ℕ → survey-lts.Claims
 survey-calls t = (

@@ -6,6 +6,8 @@ use Rattle.evaluator.proofs.begin.Reads as begin
 use Rattle.evaluator.proofs.begin.Kinds as begin-kinds
 use Rattle.evaluator.proofs.bin.Reads as bin
 use Rattle.evaluator.proofs.bin.Kinds as bin-kinds
+use Rattle.evaluator.proofs.binds.Reads as binds
+use Rattle.evaluator.proofs.binds.Kinds as binds-kinds
 use Rattle.evaluator.proofs.comp.Reads as comp
 use Rattle.evaluator.proofs.comp.Kinds as comp-kinds
 use Rattle.evaluator.proofs.cond.Reads as cond
@@ -47,6 +49,9 @@ abbrev pub μ-begin : Measures 6 begin-kinds.ps ℕ
 abbrev pub μ-bin : Measures 5 bin-kinds.ps ℕ
 μ-bin κs a = 8 * a .1 .1 .0 + 3
 
+abbrev pub μ-binds : Measures 5 binds-kinds.ps ℕ
+μ-binds κs a = 8 * a .1 .1 .0 + 4
+
 abbrev pub μ-comp : Measures 5 comp-kinds.ps ℕ
 μ-comp κs a = 8 * a .1 .1 .0 + 3
 
@@ -54,7 +59,7 @@ abbrev pub μ-cond : Measures 5 cond-kinds.ps ℕ
 μ-cond κs a = 8 * a .1 .1 .0 + 3
 
 abbrev pub μ-eval : Measures 5 eval-kinds.ps ℕ
-μ-eval κs a = 8 * a .1 .1 .0 + 4
+μ-eval κs a = 8 * a .1 .1 .0 + 5
 
 abbrev pub μ-holds : Measures 6 holds-kinds.ps ℕ
 μ-holds κs a = 8 * a .1 .1 .0 + 1
@@ -109,6 +114,12 @@ bin-at t = and 5 bin-kinds.ps (is 5 bin-kinds.ps μ-bin t) bin.Pre
 
 abbrev pub bin-below : ℕ → In 5 bin-kinds.ps
 bin-below t = and 5 bin-kinds.ps (falls 5 bin-kinds.ps _<_ μ-bin t) bin.Pre
+
+abbrev pub binds-at : ℕ → In 5 binds-kinds.ps
+binds-at t = and 5 binds-kinds.ps (is 5 binds-kinds.ps μ-binds t) binds.Pre
+
+abbrev pub binds-below : ℕ → In 5 binds-kinds.ps
+binds-below t = and 5 binds-kinds.ps (falls 5 binds-kinds.ps _<_ μ-binds t) binds.Pre
 
 abbrev pub comp-at : ℕ → In 5 comp-kinds.ps
 comp-at t = and 5 comp-kinds.ps (is 5 comp-kinds.ps μ-comp t) comp.Pre

@@ -4,7 +4,7 @@ use native.Mathlib.Omega.{arith}
 use mathlib.Core.Path.{refl, _∙_}
 use borrow.Author.Needs.{needs}
 use Rattle.evaluator.proofs.Firsts.{plain-first}
-use Rattle.evaluator.proofs.+begin+bin+comp+cond+eval+holds+inside+item+local+logic+many+maps+one+pair+quant+step+such+survey+un.Proof.Common.{maps-at, eval-below}
+use Rattle.evaluator.proofs.+begin+bin+binds+comp+cond+eval+holds+inside+item+local+logic+many+maps+one+pair+quant+step+such+survey+un.Proof.Common.{maps-at, eval-below}
 use mathlib.Core.Logic.{inr}
 use Rattle.lists.specs.Lent.{lent}
 use Rattle.evaluator.proofs.Tables.{here, room-here}
@@ -18,7 +18,7 @@ use Rattle.evaluator.proofs.maps.Reads as maps
 use Rattle.tables.proofs.reading.operands_from.Reads as operands-from-reads
 use Rattle.tables.proofs.reading.operand_from.Reads as operand-from-reads
 use Rattle.collections.proofs.building.put_empty.Reads as put-empty-reads
-use Rattle.evaluator.proofs.+begin+bin+comp+cond+eval+holds+inside+item+local+logic+many+maps+one+pair+quant+step+such+survey+un.Lts-maps as maps-lts
+use Rattle.evaluator.proofs.+begin+bin+binds+comp+cond+eval+holds+inside+item+local+logic+many+maps+one+pair+quant+step+such+survey+un.Lts-maps as maps-lts
 
 abbrev maps-calls : ℕ → maps-lts.Claims
 maps-calls t = (

@@ -3,7 +3,7 @@ use Prim.Native.Nat.{ℕ}
 use native.Mathlib.Omega.{arith}
 use borrow.Author.Needs.{needs}
 use Rattle.evaluator.proofs.Firsts.{plain-first}
-use Rattle.evaluator.proofs.+begin+bin+comp+cond+eval+holds+inside+item+local+logic+many+maps+one+pair+quant+step+such+survey+un.Proof.Common.{cond-at, eval-below}
+use Rattle.evaluator.proofs.+begin+bin+binds+comp+cond+eval+holds+inside+item+local+logic+many+maps+one+pair+quant+step+such+survey+un.Proof.Common.{cond-at, eval-below}
 use Rattle.calling.proofs.Framing.{kept-same}
 use Rattle.evaluator.proofs.Plain.{one-held}
 use Rattle.evaluator.proofs.Members.{first-asked, next-asked, if-test, if-then, if-else, if-off, if-bad, if-yes, if-no}
@@ -13,7 +13,7 @@ use Rattle.evaluator.proofs.eval.Reads as eval
 use Rattle.tables.proofs.reading.operand_from.Reads as operand-from-reads
 use Rattle.evaluator.proofs.words.refusal.Reads as refusal-reads
 use Rattle.evaluator.proofs.leaves.test.Reads as test-reads
-use Rattle.evaluator.proofs.+begin+bin+comp+cond+eval+holds+inside+item+local+logic+many+maps+one+pair+quant+step+such+survey+un.Lts-cond as cond-lts
+use Rattle.evaluator.proofs.+begin+bin+binds+comp+cond+eval+holds+inside+item+local+logic+many+maps+one+pair+quant+step+such+survey+un.Lts-cond as cond-lts
 
 abbrev cond-calls : ℕ → cond-lts.Claims
 cond-calls t = (

@@ -4,7 +4,7 @@ use native.Mathlib.Omega.{arith}
 use borrow.Author.Needs.{needs}
 use mathlib.Core.Path.{sym, ap, _∙_}
 use Rattle.tables.specs.Shapes.{firstOf}
-use Rattle.evaluator.proofs.+begin+bin+comp+cond+eval+holds+inside+item+local+logic+many+maps+one+pair+quant+step+such+survey+un.Proof.Common.{bin-at, eval-below}
+use Rattle.evaluator.proofs.+begin+bin+binds+comp+cond+eval+holds+inside+item+local+logic+many+maps+one+pair+quant+step+such+survey+un.Proof.Common.{bin-at, eval-below}
 use Rattle.calling.proofs.Framing.{kept-same}
 use Rattle.evaluator.proofs.Members.{first-asked, next-asked, strict-kind, bin-left, bin-right, bin-off, bin-off-right, bin-held, bin-done}
 use Rattle.evaluator.proofs.Wording.{valued, unvalued}
@@ -14,7 +14,7 @@ use Rattle.evaluator.proofs.eval.Reads as eval
 use Rattle.tables.proofs.reading.operand_from.Reads as operand-from-reads
 use Rattle.evaluator.proofs.leaves.first_of_two.Reads as first-of-two-reads
 use Rattle.evaluator.proofs.leaves.two.Reads as two-reads
-use Rattle.evaluator.proofs.+begin+bin+comp+cond+eval+holds+inside+item+local+logic+many+maps+one+pair+quant+step+such+survey+un.Lts-bin as bin-lts
+use Rattle.evaluator.proofs.+begin+bin+binds+comp+cond+eval+holds+inside+item+local+logic+many+maps+one+pair+quant+step+such+survey+un.Lts-bin as bin-lts
 
 abbrev bin-calls : ℕ → bin-lts.Claims
 bin-calls t = (

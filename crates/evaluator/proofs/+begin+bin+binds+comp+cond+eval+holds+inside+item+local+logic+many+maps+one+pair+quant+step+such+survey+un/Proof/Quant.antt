@@ -4,7 +4,7 @@ use native.Mathlib.Omega.{arith}
 use mathlib.Core.Path.{refl, sym, ap, _∙_}
 use mathlib.Core.Logic.{⊎-elim}
 use borrow.Author.Needs.{needs}
-use Rattle.evaluator.proofs.+begin+bin+comp+cond+eval+holds+inside+item+local+logic+many+maps+one+pair+quant+step+such+survey+un.Proof.Common.{quant-at, begin-below, holds-below}
+use Rattle.evaluator.proofs.+begin+bin+binds+comp+cond+eval+holds+inside+item+local+logic+many+maps+one+pair+quant+step+such+survey+un.Proof.Common.{quant-at, begin-below, holds-below}
 use Rattle.lists.specs.Lent.{lent}
 use Rattle.evaluator.proofs.Tables.{room-here}
 use Rattle.evaluator.proofs.Deciding.{quant-kind, begins-as, agrees-yes, agrees-no}
@@ -17,7 +17,7 @@ use Rattle.evaluator.proofs.begin.Reads as begin
 use Rattle.evaluator.proofs.holds.Reads as holds
 use Rattle.values.proofs.put_boolean.Reads as put-boolean-reads
 use Rattle.evaluator.proofs.quant.Reads as quant
-use Rattle.evaluator.proofs.+begin+bin+comp+cond+eval+holds+inside+item+local+logic+many+maps+one+pair+quant+step+such+survey+un.Lts-quant as quant-lts
+use Rattle.evaluator.proofs.+begin+bin+binds+comp+cond+eval+holds+inside+item+local+logic+many+maps+one+pair+quant+step+such+survey+un.Lts-quant as quant-lts
 
 abbrev quant-calls : ℕ → quant-lts.Claims
 quant-calls t = (

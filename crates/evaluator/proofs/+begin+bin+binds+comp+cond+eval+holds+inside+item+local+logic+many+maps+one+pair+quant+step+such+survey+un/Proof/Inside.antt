@@ -3,7 +3,7 @@ use Prim.Native.Nat.{ℕ}
 use borrow.Author.Needs.{needs}
 use native.Mathlib.Omega.{arith}
 use mathlib.Core.Path.{refl}
-use Rattle.evaluator.proofs.+begin+bin+comp+cond+eval+holds+inside+item+local+logic+many+maps+one+pair+quant+step+such+survey+un.Proof.Common.{inside-at, eval-below}
+use Rattle.evaluator.proofs.+begin+bin+binds+comp+cond+eval+holds+inside+item+local+logic+many+maps+one+pair+quant+step+such+survey+un.Proof.Common.{inside-at, eval-below}
 use Rattle.evaluator.proofs.Tables.{room-here}
 use Rattle.evaluator.proofs.Plain.{gives-at}
 use Rattle.evaluator.proofs.Firsts.{binder-first}
@@ -12,7 +12,7 @@ use Rattle.evaluator.proofs.binding.enter.Reads as enter-reads
 use Rattle.evaluator.proofs.eval.Reads as eval
 use Rattle.evaluator.proofs.inside.Reads as inside
 use Rattle.tables.proofs.reading.operand_from.Reads as operand-from-reads
-use Rattle.evaluator.proofs.+begin+bin+comp+cond+eval+holds+inside+item+local+logic+many+maps+one+pair+quant+step+such+survey+un.Lts-inside as inside-lts
+use Rattle.evaluator.proofs.+begin+bin+binds+comp+cond+eval+holds+inside+item+local+logic+many+maps+one+pair+quant+step+such+survey+un.Lts-inside as inside-lts
 
 abbrev inside-calls : ℕ → inside-lts.Claims
 inside-calls t = (

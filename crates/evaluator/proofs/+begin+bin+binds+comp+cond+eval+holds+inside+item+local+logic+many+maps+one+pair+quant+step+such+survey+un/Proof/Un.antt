@@ -3,7 +3,7 @@ use Prim.Native.Nat.{ℕ}
 use native.Mathlib.Omega.{arith}
 use borrow.Author.Needs.{needs}
 use Rattle.evaluator.proofs.Firsts.{after-unary}
-use Rattle.evaluator.proofs.+begin+bin+comp+cond+eval+holds+inside+item+local+logic+many+maps+one+pair+quant+step+such+survey+un.Proof.Common.{un-at, eval-below}
+use Rattle.evaluator.proofs.+begin+bin+binds+comp+cond+eval+holds+inside+item+local+logic+many+maps+one+pair+quant+step+such+survey+un.Proof.Common.{un-at, eval-below}
 use Rattle.evaluator.proofs.Members.{first-asked, un-has, un-field, un-off, un-held, un-done}
 use Rattle.evaluator.proofs.Wording.{valued, unvalued}
 use Rattle.evaluator.proofs.answer.Reads as answer-reads
@@ -12,7 +12,7 @@ use Rattle.tables.proofs.reading.field.Reads as field-reads
 use Rattle.tables.proofs.reading.operand_from.Reads as operand-from-reads
 use Rattle.evaluator.proofs.un.Reads as un
 use Rattle.operations.proofs.unary.Reads as unary-reads
-use Rattle.evaluator.proofs.+begin+bin+comp+cond+eval+holds+inside+item+local+logic+many+maps+one+pair+quant+step+such+survey+un.Lts-un as un-lts
+use Rattle.evaluator.proofs.+begin+bin+binds+comp+cond+eval+holds+inside+item+local+logic+many+maps+one+pair+quant+step+such+survey+un.Lts-un as un-lts
 
 abbrev un-calls : ℕ → un-lts.Claims
 un-calls t = (

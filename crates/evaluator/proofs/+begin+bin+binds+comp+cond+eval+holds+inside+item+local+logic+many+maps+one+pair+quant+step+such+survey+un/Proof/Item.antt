@@ -3,7 +3,7 @@ use Prim.Native.Nat.{ℕ}
 use native.Mathlib.Omega.{arith}
 use mathlib.Core.Path.{refl, ap}
 use borrow.Author.Needs.{needs}
-use Rattle.evaluator.proofs.+begin+bin+comp+cond+eval+holds+inside+item+local+logic+many+maps+one+pair+quant+step+such+survey+un.Proof.Common.{item-at, inside-below}
+use Rattle.evaluator.proofs.+begin+bin+binds+comp+cond+eval+holds+inside+item+local+logic+many+maps+one+pair+quant+step+such+survey+un.Proof.Common.{item-at, inside-below}
 use Rattle.evaluator.proofs.Extending.{which-one, extends-has}
 use Rattle.evaluator.proofs.Adding.{item-off, item-held, item-done}
 use Rattle.evaluator.proofs.Wording.{valued, unvalued}
@@ -12,7 +12,7 @@ use Rattle.evaluator.proofs.building.add.Reads as add-reads
 use Rattle.evaluator.proofs.binding.built.Reads as built-reads
 use Rattle.evaluator.proofs.inside.Reads as inside
 use Rattle.evaluator.proofs.item.Reads as item
-use Rattle.evaluator.proofs.+begin+bin+comp+cond+eval+holds+inside+item+local+logic+many+maps+one+pair+quant+step+such+survey+un.Lts-item as item-lts
+use Rattle.evaluator.proofs.+begin+bin+binds+comp+cond+eval+holds+inside+item+local+logic+many+maps+one+pair+quant+step+such+survey+un.Lts-item as item-lts
 
 abbrev item-calls : ℕ → item-lts.Claims
 item-calls t = (

@@ -4,7 +4,7 @@ use native.Mathlib.Omega.{arith}
 use mathlib.Core.Path.{refl}
 use borrow.Author.Needs.{needs}
 use Rattle.evaluator.proofs.Firsts.{plain-first}
-use Rattle.evaluator.proofs.+begin+bin+comp+cond+eval+holds+inside+item+local+logic+many+maps+one+pair+quant+step+such+survey+un.Proof.Common.{local-at, begin-below, inside-below}
+use Rattle.evaluator.proofs.+begin+bin+binds+comp+cond+eval+holds+inside+item+local+logic+many+maps+one+pair+quant+step+such+survey+un.Proof.Common.{local-at, begin-below, inside-below}
 use Rattle.evaluator.proofs.Tables.{room-here}
 use Rattle.evaluator.proofs.Standing.{binder-has}
 use Rattle.evaluator.proofs.Deciding.{not-taken, local-binder, local-readable, picks-as}
@@ -19,7 +19,7 @@ use Rattle.evaluator.proofs.local.Reads as local
 use Rattle.tables.proofs.reading.operand_from.Reads as operand-from-reads
 use Rattle.evaluator.proofs.words.refusal.Reads as refusal-reads
 use Rattle.evaluator.proofs.binding.unchosen.Reads as unchosen-reads
-use Rattle.evaluator.proofs.+begin+bin+comp+cond+eval+holds+inside+item+local+logic+many+maps+one+pair+quant+step+such+survey+un.Lts-local as local-lts
+use Rattle.evaluator.proofs.+begin+bin+binds+comp+cond+eval+holds+inside+item+local+logic+many+maps+one+pair+quant+step+such+survey+un.Lts-local as local-lts
 
 abbrev local-calls : ℕ → local-lts.Claims
 local-calls t = (
