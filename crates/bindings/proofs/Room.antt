@@ -21,6 +21,7 @@ use Rattle.tables.specs.Accepted.{records}
 use Rattle.tables.specs.Laws.Accepted.{Clear6, lower, operand-lower, operand-first, operand-parent}
 use Rattle.patterns.specs.Pattern.{Pattern, any}
 use Rattle.forming.specs.Inner.{inner, innerEach}
+use Rattle.forming.specs.Laws.Inner.{innerInside, inner-most}
 use Rattle.matching.specs.Node.{innerOf}
 use Rattle.matching.proofs.Records.{by-record, inner-length, kind-low, count-two, operand-readable}
 use Rattle.patterns.specs.Read.{Readable, patternsOf, patterns, patternOf, patternAt}
@@ -249,10 +250,9 @@ two-inner (p ∷ []) e = absurd (omega arith)
 two-inner (p ∷ q ∷ ps) e = omega arith
 
 inner-of : (r : Record) (ps : List Pattern) → (isHalved (r .kind) ≡ true → length ps ≡ 2) → inner (patternOf r ps) ≤ sum (map (λ p. suc (inner p)) ps)
-unfolding inner
-inner-of r ps two = go (r .kind - 32) refl
+inner-of r ps two = omega (arith, inner-most (patternOf r ps), go (r .kind - 32) refl)
   where
-    go : (k : ℕ) → r .kind - 32 ≡ k → inner (getD patterns k (λ q qs. any) r ps) ≤ sum (map (λ p. suc (inner p)) ps)
+    go : (k : ℕ) → r .kind - 32 ≡ k → innerInside (getD patterns k (λ q qs. any) r ps) ≤ sum (map (λ p. suc (inner p)) ps)
     go zero e = omega arith
     go (suc zero) e = omega arith
     go (suc (suc zero)) e = omega arith

@@ -9,7 +9,7 @@ use Rattle.prelude.proofs.Absurd.{true-false}
 use Rattle.patterns.specs.Members.{Alike}
 use Rattle.patterns.specs.Binding.{Binding}
 use Rattle.patterns.specs.Pattern.{Pattern, wide}
-use Rattle.forming.specs.Groups.{codePattern}
+use Rattle.forming.specs.Codes.{codePattern}
 use Rattle.matching.proofs.Naming.{stands-fine}
 use Rattle.forming.specs.declared.Step.{Step}
 use Rattle.forming.specs.declared.taking.Left.{Left}
@@ -18,18 +18,18 @@ use Rattle.forming.specs.Onward.{Task, task, onward}
 use Rattle.forming.specs.Laws.Onward.{onward-end}
 use Rattle.forming.specs.Pending.{spaces, entries, LeftOf, TakeHeld, Taken}
 use Rattle.forming.specs.Rows.{EntryHeld}
-use Rattle.forming.specs.Stack.{Stacked, Reached, Waiting, MatchEntered, Descending}
+use Rattle.forming.specs.Stack.{Stacked, AfterStep, Waiting, MatchEntered, Descending}
 use Rattle.forming.proofs.Leaving.{none-waits, one-waits}
 use Rattle.forming.proofs.Ranking.{not-opened-less, refused-less, less-more}
 use Rattle.forming.proofs.Solving.{no-task}
 use Rattle.forming.proofs.Stacking.{restacked, match-entered, match-full}
 
 pub reached : (table index s a found frames rows order : List ℕ) (n depth hit : ℕ) (target : List Binding) → Stacked table index s a entries found frames depth hit rows order n [] target
-    → Reached table index s a found frames rows order (record { n = n; full = false; depth = depth; hit = hit }) target
+    → AfterStep table index s a found frames rows order (record { n = n; full = false; depth = depth; hit = hit }) target
 reached table index s a found frames rows order n depth hit target h = record { long = h .long; full = λ e. true-false (sym e); going = λ e. h }
 
 -- where frames are left, the target is not passed
-pub still-going : (table index s a found frames rows order : List ℕ) (r : Step) (target : List Binding) → Reached table index s a found frames rows order r target → 0 < r .depth → Stacked table index s a entries found frames (r .depth) (r .hit) rows order (r .n) [] target
+pub still-going : (table index s a found frames rows order : List ℕ) (r : Step) (target : List Binding) → AfterStep table index s a found frames rows order r target → 0 < r .depth → Stacked table index s a entries found frames (r .depth) (r .hit) rows order (r .n) [] target
 still-going table index s a found frames rows order r target h l = go (r .full) refl
   where
     go : (t : Bool) → r .full ≡ t → Stacked table index s a entries found frames (r .depth) (r .hit) rows order (r .n) [] target
@@ -47,7 +47,7 @@ module _ (table index s a : List ℕ) (head top : ℕ) (found frames : List ℕ)
     stacked-with : (high : ℕ) → top ≤ high → (more : List Binding) → Alike (onward (h .tasks) (h .binding)) more → Stacked table index s a high g frames depth hit rows order n more target
     stacked-with high u more e = restacked table index s a top found frames depth hit rows order n (onward (h .tasks) (h .binding)) target (h .stacked) high u g (k .stays) frames refl (λ j m. refl) more e
 
-    pub no-match : r .fits ≡ false → Reached table index s a g frames rows order (record { n = n; full = false; depth = depth; hit = hit }) target
+    pub no-match : r .fits ≡ false → AfterStep table index s a g frames rows order (record { n = n; full = false; depth = depth; hit = hit }) target
     no-match e = reached table index s a g frames rows order n depth hit target (stacked-with entries few [] (k .none e top (h .tasks) (h .binding) (h .are) (h .stands)))
 
     module _ (fit : r .fits ≡ true) where
@@ -68,7 +68,7 @@ module _ (table index s a : List ℕ) (head top : ℕ) (found frames : List ℕ)
         pub enter-asked : EntryHeld s g rows order n
         enter-asked = record { binding = left .binding; stands = left .stands; bindings = h .stacked .bindings; are = h .stacked .rows-are }
 
-        pub match-told : (rows′ order′ : List ℕ) (q : Step) → MatchEntered s g depth rows order n rows′ order′ q → Reached table index s a g frames rows′ order′ q target
+        pub match-told : (rows′ order′ : List ℕ) (q : Step) → MatchEntered s g depth rows order n rows′ order′ q → AfterStep table index s a g frames rows′ order′ q target
         match-told rows′ order′ q m = record {
           long = h .stacked .long;
           full = λ x.
@@ -85,13 +85,12 @@ module _ (table index s a : List ℕ) (head top : ℕ) (found frames : List ℕ)
       module _ (m : 0 < r .wait) where
         pub open-asked : Waiting table index s a (r .wait) (r .head) top g frames depth hit rows order n target
         open-asked =
-            let (t, e, p, c) = one-waits table index s a top (r .wait) (left .waits) (left .waits-are) m in
+            let (t, e, p, c, w) = one-waits table index s a top (r .wait) (left .waits) (left .waits-are) m in
             let same : left .waits ++ left .tasks ≡ task (codePattern table (getD a (3 * r .wait) 0)) (t .value) ∷ left .tasks =
             ap (λ (ws : List Task). ws ++ left .tasks) e ∙ ap (λ (z : Pattern). task z (t .value) ∷ left .tasks) (p .pattern) in
             let room : spaces (task (codePattern table (getD a (3 * r .wait) 0)) (t .value) ∷ left .tasks) ≤ spaces (h .tasks) = subst (λ (ws : List Task). spaces ws ≤ spaces (h .tasks)) same (left .room) in
             record {
-              held = p .held;
-              composed = c;
+              code = record { held = p .held; composed = c; solid = w };
               below = p .below;
               value = t .value;
               here = p .here;

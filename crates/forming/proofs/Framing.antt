@@ -15,7 +15,7 @@ use lib.Pow.{pow-mono}
 use borrow.Author.Tests.{eq-eqb, ne-eqb}
 use Rattle.matching.specs.Leaf.{Grown}
 use Rattle.forming.specs.declared.frames.Frame.{Frame}
-use Rattle.forming.specs.Frames.{KeptBelow, bit, frameOf, slotAt, frameAt, FrameFits, SlotPut, Stored, Advanced, hasWord, maskOf, Cleared}
+use Rattle.forming.specs.Frames.{KeptBelow, flagByte, frameOf, slotAt, frameAt, onto, FrameFits, SlotPut, Stored, Advanced, hasWord, maskOf, Cleared}
 
 -- ---- bytes
 
@@ -75,7 +75,7 @@ written-end a i bytes b j l e n m h = record {
 
 -- ---- frames
 
-bit-told : (b : Bool) → eqb (bit b) 1 ≡ b
+bit-told : (b : Bool) → eqb (flagByte b) 1 ≡ b
 bit-told true = refl
 bit-told false = refl
 
@@ -91,7 +91,7 @@ word-told m l =
     digits : (m x y z : ℕ) → m / 256 ≡ x → y ≡ x / 256 → z ≡ y / 256 → z < 256 → m % 256 + 256 * (x % 256) + 65536 * (y % 256) + 16777216 * (z % 256) ≡ m
     digits m x y z a b c d = omega arith
 
-pub packed : (f : Frame) → FrameFits f → (o b l r : ℕ) → o ≡ bit (f .once) → b ≡ bit (f .sizes .bound) → l ≡ bit (f .sizes .left .more) → r ≡ bit (f .sizes .right .more)
+pub packed : (f : Frame) → FrameFits f → (o b l r : ℕ) → o ≡ flagByte (f .once) → b ≡ flagByte (f .sizes .bound) → l ≡ flagByte (f .sizes .left .more) → r ≡ flagByte (f .sizes .right .more)
     → frameOf
     (f .p % 256 ∷ f .p / 256 % 256 ∷ f .p / 65536 % 256 ∷ f .p / 16777216 % 256 ∷ f .at ∷ f .next ∷ f .top ∷ f .way ∷ f .ways ∷ f .mask % 256 ∷ f .mask / 256 % 256 ∷ o ∷ b ∷ f .sizes .left .least ∷ l ∷ f .sizes .right .least ∷ r
     ∷ f .rest % 256 ∷ f .rest / 256 % 256 ∷ f .rest / 65536 % 256 ∷ f .rest / 16777216 % 256 ∷ []) ≡ f
@@ -105,6 +105,38 @@ advanced a i f b r e l h = record { kept = h .kept; long = h .long; how = inl (e
 
 pub not-advanced : (a : List ℕ) (i : ℕ) (f : Frame) → f .ways ≤ f .way → Advanced a i f a i
 not-advanced a i f l = record { kept = λ j m. refl; long = refl; how = inr (refl, l) }
+
+-- the byte of its way alone
+way-set : (x : List ℕ) (w : ℕ) → length x ≡ 21 → frameOf (set x 7 w) ≡ onto (frameOf x) w
+way-set ([]) w l = absurd (omega arith)
+way-set (a ∷ []) w l = absurd (omega arith)
+way-set (a ∷ b ∷ []) w l = absurd (omega arith)
+way-set (a ∷ b ∷ c ∷ []) w l = absurd (omega arith)
+way-set (a ∷ b ∷ c ∷ d ∷ []) w l = absurd (omega arith)
+way-set (a ∷ b ∷ c ∷ d ∷ e ∷ []) w l = absurd (omega arith)
+way-set (a ∷ b ∷ c ∷ d ∷ e ∷ f ∷ []) w l = absurd (omega arith)
+way-set (a ∷ b ∷ c ∷ d ∷ e ∷ f ∷ g ∷ []) w l = absurd (omega arith)
+way-set (a ∷ b ∷ c ∷ d ∷ e ∷ f ∷ g ∷ h ∷ rest) w l = refl
+
+slot-set : (a : List ℕ) (i : ℕ) → i < 100 → length a ≡ 2100 → (e : ℕ) → slotAt (set a (21 * i + 7) e) i ≡ set (slotAt a i) 7 e
+slot-set a i l n e =
+    let m = slot-long a i l n in
+    let o = slot-long (set a (21 * i + 7) e) i l (length-set a (21 * i + 7) e ∙ n) in
+    ext-getD 0 (slotAt (set a (21 * i + 7) e) i) (set (slotAt a i) 7 e) (o ∙ sym (length-set (slotAt a i) 7 e ∙ m)) (λ k q. slot-at (set a (21 * i + 7) e) i k (omega (arith, o)) ∙ go m k (omega (arith, o)) (ℕ-discrete k 7))
+  where
+    go : length (slotAt a i) ≡ 21 → (k : ℕ) → k < 21 → Dec (k ≡ 7) → getD (set a (21 * i + 7) e) (21 * i + k) 0 ≡ getD (set (slotAt a i) 7 e) k 0
+    go m k q (yes d) = rw d (getD-set-same a (21 * i + 7) e 0 (omega arith) ∙ sym (getD-set-same (slotAt a i) 7 e 0 (omega arith)))
+    go m k q (no d) = getD-set-other a (21 * i + 7) (21 * i + k) e 0 (λ z. d (omega arith)) ∙ sym (getD-set-other (slotAt a i) 7 k e 0 d ∙ slot-at a i k q)
+
+pub way-put : (a : List ℕ) (i : ℕ) → i < 100 → length a ≡ 2100 → (e : ℕ) → e < frameAt a i .ways → (r : ℕ) → r ≡ i + 1 → Advanced a i (onto (frameAt a i) e) (set a (21 * i + 7) e) r
+way-put a i l n e o r q = record {
+  kept = λ j m. getD-set-other a (21 * i + 7) j e 0 (λ d. absurd (omega arith));
+  long = length-set a (21 * i + 7) e;
+  how = inl (q ∙ add-one i, o, ap frameOf (slot-set a i l n e) ∙ way-set (slotAt a i) e (slot-long a i l n));
+}
+
+pub advanced-from : (a : List ℕ) (i : ℕ) (f : Frame) → f ≡ frameAt a i → (e : ℕ) (b : List ℕ) (r : ℕ) → Advanced a i (onto (frameAt a i) e) b r → Advanced a i (onto f e) b r
+advanced-from a i f q e b r h = subst (λ (g : Frame). Advanced a i (onto g e) b r) (sym q) h
 
 -- frames below are kept
 pub frame-kept : (a b : List ℕ) (i n : ℕ) → i < n → n ≤ 100 → length a ≡ 2100 → length b ≡ length a → KeptBelow a b (21 * n) → frameAt b i ≡ frameAt a i

@@ -1,44 +1,43 @@
--- A tree of union patterns as one group: its leaves share out a set in any order, and any beside any adds nothing.
+-- A tree of union patterns as one group: its leaves share out a set, in any order.
 use mathlib.Core.Path.{_≡_, refl, sym, ap, ap₂, subst, _∙_}
-use mathlib.Core.Bool.{Bool, true, false, cond}
+use mathlib.Core.Bool.{true}
 use mathlib.Core.Logic.{_⊎_, inl, inr, ⊎-elim}
 use mathlib.Core.List.{List, [], _∷_, _++_}
-use Prim.Native.Nat.{ℕ, zero, suc, _+_, _*_, _≤_, _<_}
+use Prim.Native.Nat.{ℕ, zero, suc, _+_, _≤_, _<_}
 use native.Mathlib.Omega.{arith}
-use lib.Dec.{eqb}
-use lib.ListN.{length, take, drop}
-use borrow.Author.Tests.{eqb-true}
+use lib.ListN.{length, drop}
 use Rattle.prelude.specs.Membership.{In}
-use Rattle.prelude.proofs.Membership.{in-joined, in-take, in-one}
+use Rattle.prelude.proofs.Membership.{in-joined, in-one}
 use Rattle.prelude.proofs.Absurd.{true-false}
 use mathlib.Mathlib.Data.Bool.Basic.{or-inl, or-inr}
 use Rattle.prelude.proofs.Truth.{or-cases}
 use Rattle.values.specs.Value.{set, sequence, map as mapping, tuple, Value, collection}
 use Rattle.patterns.specs.Units.{Shared}
-use Rattle.patterns.specs.Members.{Alike}
 use Rattle.patterns.specs.Binding.{Binding, nothing, merge, consistent}
-use Rattle.patterns.specs.Pattern.{Pattern, name, any, literal, each, halved, itemsOf, mostSplit, matches, wide}
+use Rattle.patterns.specs.Pattern.{Pattern, name, any, literal, each, halved, itemsOf, mostSplit}
 use Rattle.patterns.specs.Relation.{Joined, Matches}
 use Rattle.patterns.specs.Wide.{Wide}
 use Rattle.patterns.specs.Laws.Matched.{joined-merge, merge-joined, nothing-sized, merge-sized}
 use Rattle.patterns.specs.Laws.Merging.{merge-assoc, merge-nothing, nothing-merge, consistent-left}
 use Rattle.patterns.specs.Laws.Together.{Fine, nothing-fine}
-use Rattle.forming.specs.Groups.{leaves, holdsName, isAny, classBy, classOf, ofClass, inOrder, unionOf, Lengths, TakeTogether}
+use Rattle.forming.specs.Groups.{leaves, unionOf, Lengths, TakeTogether}
+use Rattle.forming.specs.Wild.{isAny}
 use Rattle.forming.specs.Inner.{inner}
+use Rattle.forming.specs.Laws.Inner.{inner-most}
 use Rattle.forming.specs.Sizes.{Takes}
 use Rattle.forming.specs.declared.sizes.Size.{Size}
-use Rattle.forming.proofs.Reducing.{shared-swap, shared-none, shared-regroup, items-same, none-left, none-right, fine-of, alike-of, not-wide}
+use Rattle.forming.proofs.Reducing.{shared-swap, shared-none, shared-regroup, items-same, none-left, none-right, fine-of}
 use Rattle.patterns.specs.Laws.Named.{holdsNamed as named}
 use Rattle.forming.proofs.Joining.{joined-swap}
 use Rattle.forming.proofs.Sizing.{shared-length}
 
 -- ---- patterns that share out a set
 
-abbrev Shares : List Pattern → List Value → Binding → Type 0
+abbrev pub Shares : List Pattern → List Value → Binding → Type 0
 Shares [] vs b = (vs ≡ []) × (b ≡ nothing)
 Shares (p ∷ ps) vs b = (ls rs : List Value) × (c d : Binding) × Shared vs ls rs × Matches p (collection set (itemsOf ls)) c × Shares ps rs d × Joined c d b
 
-shares-fine : (ps : List Pattern) (vs : List Value) (b : Binding) → Shares ps vs b → Fine b
+pub shares-fine : (ps : List Pattern) (vs : List Value) (b : Binding) → Shares ps vs b → Fine b
 shares-fine [] vs b (e, f) = subst Fine (sym f) nothing-fine
 shares-fine (p ∷ ps) vs b (ls, rs, c, d, s, m, n, j) =
     let x = fine-of p (collection set (itemsOf ls)) c m in
@@ -69,10 +68,10 @@ shared-degroup xs ms qs es ls h g =
 
 -- ---- one list after another
 
-Both : List Pattern → List Pattern → List Value → Binding → Type 0
+unfoldable pub Both : List Pattern → List Pattern → List Value → Binding → Type 0
 Both ps qs vs b = (ls rs : List Value) × (c d : Binding) × Shared vs ls rs × Shares ps ls c × Shares qs rs d × Joined c d b
 
-shares-apart : (ps qs : List Pattern) (vs : List Value) (b : Binding) → Shares (ps ++ qs) vs b → Both ps qs vs b
+pub shares-apart : (ps qs : List Pattern) (vs : List Value) (b : Binding) → Shares (ps ++ qs) vs b → Both ps qs vs b
 unfolding Both
 shares-apart [] qs vs b h = ([], vs, nothing, b, shared-none vs, (refl, refl), h, none-left b (shares-fine qs vs b h))
 shares-apart (p ∷ ps) qs vs b (ls, rs, c, d, s, m, n, j) =
@@ -81,7 +80,7 @@ shares-apart (p ∷ ps) qs vs b (ls, rs, c, d, s, m, n, j) =
     let (z, k, l) = joined-regroup c c′ d′ d b (fine-of p (collection set (itemsOf ls)) c m) (shares-fine ps ls′ c′ x) (shares-fine qs rs′ d′ y) j j′ in
     (ms, rs′, z, d′, u, (ls, ls′, c, c′, w, m, x, k), y, l)
 
-shares-joined : (ps qs : List Pattern) (vs : List Value) (b : Binding) → Both ps qs vs b → Shares (ps ++ qs) vs b
+pub shares-joined : (ps qs : List Pattern) (vs : List Value) (b : Binding) → Both ps qs vs b → Shares (ps ++ qs) vs b
 unfolding Both
 shares-joined [] qs vs b (ls, rs, c, d, s, (e, f), n, j) =
     let same : rs ≡ vs = none-shared vs rs (subst (λ (l : List Value). Shared vs l rs) e s) in
@@ -99,7 +98,7 @@ shares-joined (p ∷ ps) qs vs b (ms, rs, z, d, s, (ls, ls′, c, c′, w, m, x,
     (ls, rs′, c, e, u, m, shares-joined ps qs rs′ e (ls′, rs, c′, d, t, x, y, j), i)
 
 -- the second list may be put in place of another
-shares-on : (ps qs rs : List Pattern) → ((vs : List Value) (b : Binding) → Shares qs vs b → Shares rs vs b) → (vs : List Value) (b : Binding) → Shares (ps ++ qs) vs b → Shares (ps ++ rs) vs b
+pub shares-on : (ps qs rs : List Pattern) → ((vs : List Value) (b : Binding) → Shares qs vs b → Shares rs vs b) → (vs : List Value) (b : Binding) → Shares (ps ++ qs) vs b → Shares (ps ++ rs) vs b
 unfolding Both
 shares-on ps qs rs f vs b h =
     let (ls, ms, c, d, s, x, y, j) = shares-apart ps qs vs b h in
@@ -119,160 +118,41 @@ shares-swap p q ps vs b (ls, rs, c, d, s, m, (ls′, rs′, c′, d′, s′, m�
     let (x, k′, l′) = joined-degroup c′ c d′ z b fc′ fc fd′ l (joined-swap c c′ z k) in
     (ls′, xs, c′, x, u′, m′, (ls, rs′, c, d′, w′, m, n, k′), l′)
 
-shares-first : (p : Pattern) (ps qs : List Pattern) → ((vs : List Value) (b : Binding) → Shares ps vs b → Shares qs vs b) → (vs : List Value) (b : Binding) → Shares (p ∷ ps) vs b → Shares (p ∷ qs) vs b
+pub shares-first : (p : Pattern) (ps qs : List Pattern) → ((vs : List Value) (b : Binding) → Shares ps vs b → Shares qs vs b) → (vs : List Value) (b : Binding) → Shares (p ∷ ps) vs b → Shares (p ∷ qs) vs b
 shares-first p ps qs f vs b (ls, rs, c, d, s, m, n, j) = (ls, rs, c, d, s, m, f rs d n, j)
 
 -- one goes behind others, or before them
-shares-behind : (p : Pattern) (ps qs : List Pattern) (vs : List Value) (b : Binding) → Shares (p ∷ ps ++ qs) vs b → Shares (ps ++ p ∷ qs) vs b
+pub shares-behind : (p : Pattern) (ps qs : List Pattern) (vs : List Value) (b : Binding) → Shares (p ∷ ps ++ qs) vs b → Shares (ps ++ p ∷ qs) vs b
 shares-behind p [] qs vs b h = h
 shares-behind p (q ∷ ps) qs vs b h = shares-first q (p ∷ ps ++ qs) (ps ++ p ∷ qs) (shares-behind p ps qs) vs b (shares-swap p q (ps ++ qs) vs b h)
 
-shares-before : (p : Pattern) (ps qs : List Pattern) (vs : List Value) (b : Binding) → Shares (ps ++ p ∷ qs) vs b → Shares (p ∷ ps ++ qs) vs b
+pub shares-before : (p : Pattern) (ps qs : List Pattern) (vs : List Value) (b : Binding) → Shares (ps ++ p ∷ qs) vs b → Shares (p ∷ ps ++ qs) vs b
 shares-before p [] qs vs b h = h
 shares-before p (q ∷ ps) qs vs b h = shares-swap q p (ps ++ qs) vs b (shares-first q (ps ++ p ∷ qs) (p ∷ ps ++ qs) (shares-before p ps qs) vs b h)
 
--- ---- by class
+-- ---- lists
 
--- what has a name first, then what has none, then any
-abbrev Sorted : List Pattern → List Pattern
-Sorted ps = ofClass 0 ps ++ (ofClass 1 ps ++ ofClass 2 ps)
-
-class-is : (p : Pattern) → (classOf p ≡ 0) ⊎ ((classOf p ≡ 1) ⊎ (classOf p ≡ 2))
-class-is p = go (isAny p) (holdsName p)
-  where
-    go : (a h : Bool) → (classBy a h ≡ 0) ⊎ ((classBy a h ≡ 1) ⊎ (classBy a h ≡ 2))
-    go true h = inr (inr refl)
-    go false true = inl refl
-    go false false = inr (inl refl)
-
-pub of-first : (p : Pattern) (ps : List Pattern) (k c : ℕ) → classOf p ≡ k → ofClass c (p ∷ ps) ≡ cond (eqb k c) (p ∷ ofClass c ps) (ofClass c ps)
-unfolding ofClass
-of-first p ps k c e = ap (λ (n : ℕ). cond (eqb n c) (p ∷ ofClass c ps) (ofClass c ps)) e
-
-three : {A : Type 0} (a b c x y z : List A) → a ≡ x → b ≡ y → c ≡ z → a ++ (b ++ c) ≡ x ++ (y ++ z)
+pub three : {A : Type 0} (a b c x y z : List A) → a ≡ x → b ≡ y → c ≡ z → a ++ (b ++ c) ≡ x ++ (y ++ z)
 three a b c x y z e f g = ap₂ _++_ e (ap₂ _++_ f g)
-
-module _ (p : Pattern) (ps : List Pattern) where
-  abbrev A : List Pattern
-  A = ofClass 0 ps
-
-  abbrev B : List Pattern
-  B = ofClass 1 ps
-
-  abbrev C : List Pattern
-  C = ofClass 2 ps
-
-  sorted-0 : classOf p ≡ 0 → Sorted (p ∷ ps) ≡ p ∷ A ++ (B ++ C)
-  sorted-0 e = three (ofClass 0 (p ∷ ps)) (ofClass 1 (p ∷ ps)) (ofClass 2 (p ∷ ps)) (p ∷ A) B C (of-first p ps 0 0 e) (of-first p ps 0 1 e) (of-first p ps 0 2 e)
-
-  sorted-1 : classOf p ≡ 1 → Sorted (p ∷ ps) ≡ A ++ (p ∷ B ++ C)
-  sorted-1 e = three (ofClass 0 (p ∷ ps)) (ofClass 1 (p ∷ ps)) (ofClass 2 (p ∷ ps)) A (p ∷ B) C (of-first p ps 1 0 e) (of-first p ps 1 1 e) (of-first p ps 1 2 e)
-
-  sorted-2 : classOf p ≡ 2 → Sorted (p ∷ ps) ≡ A ++ (B ++ p ∷ C)
-  sorted-2 e = three (ofClass 0 (p ∷ ps)) (ofClass 1 (p ∷ ps)) (ofClass 2 (p ∷ ps)) A B (p ∷ C) (of-first p ps 2 0 e) (of-first p ps 2 1 e) (of-first p ps 2 2 e)
-
-  sort-one : (vs : List Value) (b : Binding) → Shares (p ∷ A ++ (B ++ C)) vs b → Shares (Sorted (p ∷ ps)) vs b
-  sort-one vs b h =
-      ⊎-elim (λ e. subst (λ (l : List Pattern). Shares l vs b) (sym (sorted-0 e)) h)
-      (⊎-elim (λ e. subst (λ (l : List Pattern). Shares l vs b) (sym (sorted-1 e)) (shares-behind p A (B ++ C) vs b h))
-      (λ e. subst (λ (l : List Pattern). Shares l vs b) (sym (sorted-2 e)) (shares-on A (p ∷ B ++ C) (B ++ p ∷ C) (shares-behind p B C) vs b (shares-behind p A (B ++ C) vs b h))))
-      (class-is p)
-
-  unsort-one : (vs : List Value) (b : Binding) → Shares (Sorted (p ∷ ps)) vs b → Shares (p ∷ A ++ (B ++ C)) vs b
-  unsort-one vs b h =
-      ⊎-elim (λ e. subst (λ (l : List Pattern). Shares l vs b) (sorted-0 e) h)
-      (⊎-elim (λ e. shares-before p A (B ++ C) vs b (subst (λ (l : List Pattern). Shares l vs b) (sorted-1 e) h))
-      (λ e. shares-before p A (B ++ C) vs b (shares-on A (B ++ p ∷ C) (p ∷ B ++ C) (shares-before p B C) vs b (subst (λ (l : List Pattern). Shares l vs b) (sorted-2 e) h))))
-      (class-is p)
-
-shares-sorted : (ps : List Pattern) (vs : List Value) (b : Binding) → Shares ps vs b → Shares (Sorted ps) vs b
-unfolding ofClass
-shares-sorted [] vs b h = h
-shares-sorted (p ∷ ps) vs b h = sort-one p ps vs b (shares-first p ps (Sorted ps) (shares-sorted ps) vs b h)
-
-sorted-shares : (ps : List Pattern) (vs : List Value) (b : Binding) → Shares (Sorted ps) vs b → Shares ps vs b
-unfolding ofClass
-sorted-shares [] vs b h = h
-sorted-shares (p ∷ ps) vs b h = shares-first p (Sorted ps) ps (sorted-shares ps) vs b (unsort-one p ps vs b h)
 
 -- ---- any beside any
 
-AllAny : List Pattern → Type 0
-AllAny [] = Unit {0}
-AllAny (p ∷ ps) = (p ≡ any) × AllAny ps
-
-wild-class : (a h : Bool) → classBy a h ≡ 2 → a ≡ true
-wild-class true h e = refl
-wild-class false true e = absurd (omega (arith, e))
-wild-class false false e = absurd (omega (arith, e))
-
-any-is : (p : Pattern) → isAny p ≡ true → p ≡ any
+pub any-is : (p : Pattern) → isAny p ≡ true → p ≡ any
 any-is (name x) e = true-false (sym e)
 any-is any e = refl
 any-is (literal w) e = true-false (sym e)
 any-is (each k ps) e = true-false (sym e)
 any-is (halved k p q) e = true-false (sym e)
 
-any-first : (p : Pattern) (ps : List Pattern) (t : Bool) → eqb (classOf p) 2 ≡ t → AllAny ps → AllAny (cond t (p ∷ ps) ps)
-unfolding AllAny
-any-first p ps true e h = (any-is p (wild-class (isAny p) (holdsName p) (eqb-true (classOf p) 2 e)), h)
-any-first p ps false e h = h
-
-all-any : (ps : List Pattern) → AllAny (ofClass 2 ps)
-unfolding ofClass AllAny
-all-any [] = tt
-all-any (p ∷ ps) = any-first p (ofClass 2 ps) (eqb (classOf p) 2) refl (all-any ps)
-
-nothing-joined : (b : Binding) → Joined nothing nothing b → b ≡ nothing
+pub nothing-joined : (b : Binding) → Joined nothing nothing b → b ≡ nothing
 nothing-joined b j = joined-merge nothing nothing b nothing-sized nothing-sized j .0 ∙ nothing-merge nothing nothing-sized
 
-any-gives : (ps : List Pattern) → AllAny ps → (vs : List Value) (b : Binding) → Shares ps vs b → b ≡ nothing
-unfolding AllAny Matches
-any-gives [] a vs b h = h .1
-any-gives (p ∷ ps) (e, a) vs b (ls, rs, c, d, s, m, n, j) =
-    let x : c ≡ nothing = subst (λ (q : Pattern). Matches q (collection set (itemsOf ls)) c) e m in
-    let y = any-gives ps a rs d n in
-    nothing-joined b (subst (λ (z : Binding). Joined z nothing b) x (subst (λ (z : Binding). Joined c z b) y j))
-
-all-left : (vs : List Value) → Shared vs vs []
+pub all-left : (vs : List Value) → Shared vs vs []
 all-left vs = shared-swap vs [] vs (shared-none vs)
-
-any-none : (ps : List Pattern) → AllAny ps → Shares ps [] nothing
-unfolding AllAny Matches
-any-none [] a = (refl, refl)
-any-none (p ∷ ps) (e, a) =
-    ([], [], nothing, nothing, all-left [], subst (λ (q : Pattern). Matches q (collection set (itemsOf [])) nothing) (sym e) refl, any-none ps a, none-left nothing nothing-fine)
-
-any-shares : (p : Pattern) (ps : List Pattern) → p ≡ any → AllAny ps → (vs : List Value) (b : Binding) → b ≡ nothing → Shares (p ∷ ps) vs b
-unfolding Matches
-any-shares p ps e a vs b f =
-    subst (Shares (p ∷ ps) vs) (sym f)
-    (vs, [], nothing, nothing, all-left vs, subst (λ (q : Pattern). Matches q (collection set (itemsOf vs)) nothing) (sym e) refl, any-none ps a, none-left nothing nothing-fine)
-
-once-shares : (ps : List Pattern) → AllAny ps → (vs : List Value) (b : Binding) → Shares ps vs b → Shares (take 1 ps) vs b
-unfolding AllAny
-once-shares [] a vs b h = h
-once-shares (p ∷ ps) a vs b h = any-shares p [] (a .0) tt vs b (any-gives (p ∷ ps) a vs b h)
-
-shares-once : (ps : List Pattern) → AllAny ps → (vs : List Value) (b : Binding) → Shares (take 1 ps) vs b → Shares ps vs b
-unfolding AllAny
-shares-once [] a vs b h = h
-shares-once (p ∷ ps) a vs b h = any-shares p ps (a .0) (a .1) vs b (any-gives (p ∷ []) (a .0, tt) vs b h)
-
-ordered-shares : (ps : List Pattern) (vs : List Value) (b : Binding) → Shares ps vs b → Shares (inOrder ps) vs b
-ordered-shares ps vs b h =
-    shares-on (ofClass 0 ps) (ofClass 1 ps ++ ofClass 2 ps) (ofClass 1 ps ++ take 1 (ofClass 2 ps))
-    (shares-on (ofClass 1 ps) (ofClass 2 ps) (take 1 (ofClass 2 ps)) (once-shares (ofClass 2 ps) (all-any ps))) vs b (shares-sorted ps vs b h)
-
-shares-ordered : (ps : List Pattern) (vs : List Value) (b : Binding) → Shares (inOrder ps) vs b → Shares ps vs b
-shares-ordered ps vs b h =
-    sorted-shares ps vs b
-    (shares-on (ofClass 0 ps) (ofClass 1 ps ++ take 1 (ofClass 2 ps)) (ofClass 1 ps ++ ofClass 2 ps)
-    (shares-on (ofClass 1 ps) (take 1 (ofClass 2 ps)) (ofClass 2 ps) (shares-once (ofClass 2 ps) (all-any ps))) vs b h)
 
 -- ---- patterns and their leaves
 
-one-shares : (p : Pattern) (vs : List Value) (b : Binding) → Matches p (collection set (itemsOf vs)) b → Shares (p ∷ []) vs b
+pub one-shares : (p : Pattern) (vs : List Value) (b : Binding) → Matches p (collection set (itemsOf vs)) b → Shares (p ∷ []) vs b
 one-shares p vs b m = (vs, [], b, nothing, all-left vs, m, (refl, refl), none-right b (fine-of p (collection set (itemsOf vs)) b m))
 
 none-right-shared : (vs ls : List Value) → Shared vs ls [] → ls ≡ vs
@@ -280,14 +160,14 @@ none-right-shared [] ls h = h .0
 none-right-shared (v ∷ vs) ls (inl (ms, e, h)) = e ∙ ap (λ (l : List Value). v ∷ l) (none-right-shared vs ms h)
 none-right-shared (v ∷ vs) ls (inr (ms, e, h)) = absurd (let z : 0 ≡ suc (length ms) = ap length e in omega arith)
 
-shares-one : (p : Pattern) (vs : List Value) (b : Binding) → Shares (p ∷ []) vs b → Matches p (collection set (itemsOf vs)) b
+pub shares-one : (p : Pattern) (vs : List Value) (b : Binding) → Shares (p ∷ []) vs b → Matches p (collection set (itemsOf vs)) b
 shares-one p vs b (ls, rs, c, d, s, m, (e, f), j) =
     let same : ls ≡ vs = none-right-shared vs ls (subst (Shared vs ls) e s) in
     let sized = fine-of p (collection set (itemsOf ls)) c m .sized in
     let is : c ≡ b = sym (merge-nothing c sized) ∙ ap (merge c) (sym f) ∙ sym (joined-merge c d b sized (ap length f) j .0) in
     subst (Matches p (collection set (itemsOf vs))) is (subst (λ (l : List Value). Matches p (collection set (itemsOf l)) c) same m)
 
-leaves-share : (p : Pattern) (vs : List Value) (b : Binding) → Matches p (collection set (itemsOf vs)) b → Shares (leaves p) vs b
+pub leaves-share : (p : Pattern) (vs : List Value) (b : Binding) → Matches p (collection set (itemsOf vs)) b → Shares (leaves p) vs b
 unfolding leaves Matches Both
 leaves-share (name x) vs b m = one-shares (name x) vs b m
 leaves-share any vs b m = one-shares any vs b m
@@ -300,7 +180,7 @@ leaves-share (halved sequence p q) vs b m = one-shares (halved sequence p q) vs 
 leaves-share (halved mapping p q) vs b m = one-shares (halved mapping p q) vs b m
 leaves-share (halved tuple p q) vs b m = one-shares (halved tuple p q) vs b m
 
-share-leaves : (p : Pattern) (vs : List Value) (b : Binding) → Shares (leaves p) vs b → Matches p (collection set (itemsOf vs)) b
+pub share-leaves : (p : Pattern) (vs : List Value) (b : Binding) → Shares (leaves p) vs b → Matches p (collection set (itemsOf vs)) b
 unfolding leaves Matches Both
 share-leaves (name x) vs b h = shares-one (name x) vs b h
 share-leaves any vs b h = shares-one any vs b h
@@ -315,58 +195,39 @@ share-leaves (halved tuple p q) vs b h = shares-one (halved tuple p q) vs b h
 
 -- ---- the union of several
 
-union-shares : (p : Pattern) (ps : List Pattern) (vs : List Value) (b : Binding) → Matches (unionOf (p ∷ ps)) (collection set (itemsOf vs)) b → Shares (p ∷ ps) vs b
+pub union-shares : (p : Pattern) (ps : List Pattern) (vs : List Value) (b : Binding) → Matches (unionOf (p ∷ ps)) (collection set (itemsOf vs)) b → Shares (p ∷ ps) vs b
 unfolding unionOf Matches
 union-shares p [] vs b m = one-shares p vs b m
 union-shares p (q ∷ ps) vs b (us, ls, rs, c, d, e, s, m, n, j) =
     (ls, rs, c, d, subst (λ (l : List Value). Shared l ls rs) (sym (items-same set vs us e)) s, m, union-shares q ps rs d n, j)
 
-shares-union : (p : Pattern) (ps : List Pattern) (vs : List Value) (b : Binding) → Shares (p ∷ ps) vs b → Matches (unionOf (p ∷ ps)) (collection set (itemsOf vs)) b
+pub shares-union : (p : Pattern) (ps : List Pattern) (vs : List Value) (b : Binding) → Shares (p ∷ ps) vs b → Matches (unionOf (p ∷ ps)) (collection set (itemsOf vs)) b
 unfolding unionOf Matches
 shares-union p [] vs b h = shares-one p vs b h
 shares-union p (q ∷ ps) vs b (ls, rs, c, d, s, m, n, j) = (vs, ls, rs, c, d, refl, s, m, shares-union q ps rs d n, j)
 
 -- what a union matches is a set
-union-set : (l r : Pattern) (v : Value) (b : Binding) → Matches (halved set l r) v b → (vs : List Value) × (v ≡ collection set (itemsOf vs))
+pub union-set : (l r : Pattern) (v : Value) (b : Binding) → Matches (halved set l r) v b → (vs : List Value) × (v ≡ collection set (itemsOf vs))
 unfolding Matches
 union-set l r v b m = (m .0, m .5)
 
-several-set : (ps : List Pattern) → 2 ≤ length ps → (v : Value) (b : Binding) → Matches (unionOf ps) v b → (vs : List Value) × (v ≡ collection set (itemsOf vs))
+pub several-set : (ps : List Pattern) → 2 ≤ length ps → (v : Value) (b : Binding) → Matches (unionOf ps) v b → (vs : List Value) × (v ≡ collection set (itemsOf vs))
 unfolding unionOf
 several-set [] l v b m = absurd (omega arith)
 several-set (p ∷ []) l v b m = absurd (omega arith)
 several-set (p ∷ q ∷ ps) l v b m = union-set p (unionOf (q ∷ ps)) v b m
 
-shares-several : (ps : List Pattern) → 2 ≤ length ps → (vs : List Value) (b : Binding) → Shares ps vs b → Matches (unionOf ps) (collection set (itemsOf vs)) b
+pub shares-several : (ps : List Pattern) → 2 ≤ length ps → (vs : List Value) (b : Binding) → Shares ps vs b → Matches (unionOf ps) (collection set (itemsOf vs)) b
 shares-several [] l vs b h = absurd (omega arith)
 shares-several (p ∷ ps) l vs b h = shares-union p ps vs b h
 
-several-shares : (ps : List Pattern) → 2 ≤ length ps → (vs : List Value) (b : Binding) → Matches (unionOf ps) (collection set (itemsOf vs)) b → Shares ps vs b
+pub several-shares : (ps : List Pattern) → 2 ≤ length ps → (vs : List Value) (b : Binding) → Matches (unionOf ps) (collection set (itemsOf vs)) b → Shares ps vs b
 several-shares [] l vs b h = absurd (omega arith)
 several-shares (p ∷ ps) l vs b h = union-shares p ps vs b h
 
--- THEOREM: a union has the bindings of its leaves in order
-pub group-alike : (l r : Pattern) → 2 ≤ length (inOrder (leaves (halved set l r))) → (v : Value) → Alike (matches (halved set l r) v) (matches (unionOf (inOrder (leaves (halved set l r)))) v)
-group-alike l r n v = alike-of P (unionOf (inOrder (leaves P))) v (λ b m. there b m) (λ b m. back b m)
-  where
-    P : Pattern
-    P = halved set l r
-
-    there : (b : Binding) → Matches (halved set l r) v b → Matches (unionOf (inOrder (leaves (halved set l r)))) v b
-    there b m =
-        let (vs, e) = union-set l r v b m in
-        subst (λ (w : Value). Matches (unionOf (inOrder (leaves (halved set l r)))) w b) (sym e)
-        (shares-several (inOrder (leaves (halved set l r))) n vs b (ordered-shares (leaves (halved set l r)) vs b (leaves-share (halved set l r) vs b (subst (λ (w : Value). Matches (halved set l r) w b) e m))))
-
-    back : (b : Binding) → Matches (unionOf (inOrder (leaves (halved set l r)))) v b → Matches (halved set l r) v b
-    back b m =
-        let (vs, e) = several-set (inOrder (leaves (halved set l r))) n v b m in
-        subst (λ (w : Value). Matches (halved set l r) w b) (sym e)
-        (share-leaves (halved set l r) vs b (shares-ordered (leaves (halved set l r)) vs b (several-shares (inOrder (leaves (halved set l r))) n vs b (subst (λ (w : Value). Matches (unionOf (inOrder (leaves (halved set l r)))) w b) e m))))
-
 -- ---- no wider
 
-WideIn : List Pattern → List Value → Type 0
+unfoldable pub WideIn : List Pattern → List Value → Type 0
 WideIn ps vs = (mostSplit < length vs) ⊎ ((p : Pattern) × (ls rs : List Value) × In p ps × Shared vs ls rs × Wide p (collection set (itemsOf ls)))
 
 -- in one of two halves
@@ -386,15 +247,15 @@ union-wide p (q ∷ ps) vs (us, e, inr (ls, rs, s, inl w)) = half-in p q ps vs l
 union-wide p (q ∷ ps) vs (us, e, inr (ls, rs, s, inr w)) = half-in p q ps vs ls rs (subst (λ (x : List Value). Shared x ls rs) (sym (items-same set vs us e)) s) (inr (union-wide q ps rs w))
 
 -- a leaf that is met by too many
-WideShare : Pattern → List Value → Type 0
+unfoldable pub WideShare : Pattern → List Value → Type 0
 WideShare p vs = (ms ns : List Value) × Shared vs ms ns × Wide p (collection set (itemsOf ms))
 
-halves-wide : (l r : Pattern) (vs : List Value) → WideShare l vs ⊎ WideShare r vs → Wide (halved set l r) (collection set (itemsOf vs))
+pub halves-wide : (l r : Pattern) (vs : List Value) → WideShare l vs ⊎ WideShare r vs → Wide (halved set l r) (collection set (itemsOf vs))
 unfolding WideShare Wide
 halves-wide l r vs (inl (ms, ns, s, w)) = (vs, refl, inr (ms, ns, s, inl w))
 halves-wide l r vs (inr (ms, ns, s, w)) = (vs, refl, inr (ns, ms, shared-swap vs ms ns s, inr w))
 
-leaf-wide : (p x : Pattern) (vs ls rs : List Value) → In x (leaves p) → Shared vs ls rs → Wide x (collection set (itemsOf ls)) → WideShare p vs
+pub leaf-wide : (p x : Pattern) (vs ls rs : List Value) → In x (leaves p) → Shared vs ls rs → Wide x (collection set (itemsOf ls)) → WideShare p vs
 unfolding leaves WideShare
 leaf-wide (name y) x vs ls rs i s w = (ls, rs, s, subst (λ (q : Pattern). Wide q (collection set (itemsOf ls))) (in-one x i) w)
 leaf-wide any x vs ls rs i s w = (ls, rs, s, subst (λ (q : Pattern). Wide q (collection set (itemsOf ls))) (in-one x i) w)
@@ -406,27 +267,11 @@ leaf-wide (halved sequence p q) x vs ls rs i s w = (ls, rs, s, subst (λ (q : Pa
 leaf-wide (halved mapping p q) x vs ls rs i s w = (ls, rs, s, subst (λ (q : Pattern). Wide q (collection set (itemsOf ls))) (in-one x i) w)
 leaf-wide (halved tuple p q) x vs ls rs i s w = (ls, rs, s, subst (λ (q : Pattern). Wide q (collection set (itemsOf ls))) (in-one x i) w)
 
--- what is in order is among the leaves
-in-class : (c : ℕ) (ps : List Pattern) (x : Pattern) → In x (ofClass c ps) → In x ps
-unfolding ofClass
-in-class c [] x i = i
-in-class c (p ∷ ps) x i = go (eqb (classOf p) c) (in-class c ps x) i
-  where
-    go : (t : Bool) → (In x (ofClass c ps) → In x ps) → In x (cond t (p ∷ ofClass c ps) (ofClass c ps)) → (x ≡ p) ⊎ In x ps
-    go true on (inl e) = inl e
-    go true on (inr j) = inr (on j)
-    go false on j = inr (on j)
-
-pub in-order-in : (ps : List Pattern) (x : Pattern) → In x (inOrder ps) → In x ps
-in-order-in ps x i =
-    ⊎-elim (in-class 0 ps x) (λ j. ⊎-elim (in-class 1 ps x) (λ k. in-class 2 ps x (in-take x (ofClass 2 ps) 1 k)) (in-joined x (ofClass 1 ps) (take 1 (ofClass 2 ps)) j))
-    (in-joined x (ofClass 0 ps) (ofClass 1 ps ++ take 1 (ofClass 2 ps)) i)
-
 halved-set : (l r : Pattern) (v : Value) → Wide (halved set l r) v → (vs : List Value) × (v ≡ collection set (itemsOf vs))
 unfolding Wide
 halved-set l r v w = (w .0, w .1)
 
-wide-set : (ps : List Pattern) → 2 ≤ length ps → (v : Value) → Wide (unionOf ps) v → (vs : List Value) × (v ≡ collection set (itemsOf vs)) × WideIn ps vs
+pub wide-set : (ps : List Pattern) → 2 ≤ length ps → (v : Value) → Wide (unionOf ps) v → (vs : List Value) × (v ≡ collection set (itemsOf vs)) × WideIn ps vs
 unfolding unionOf
 wide-set [] l v w = absurd (omega arith)
 wide-set (p ∷ []) l v w = absurd (omega arith)
@@ -434,123 +279,38 @@ wide-set (p ∷ q ∷ ps) l v w =
     let (vs, e) = halved-set p (unionOf (q ∷ ps)) v w in
     (vs, e, union-wide p (q ∷ ps) vs (subst (Wide (halved set p (unionOf (q ∷ ps)))) e w))
 
-large-wide : (l r : Pattern) (vs : List Value) → mostSplit < length vs → Wide (halved set l r) (collection set (itemsOf vs))
+pub large-wide : (l r : Pattern) (vs : List Value) → mostSplit < length vs → Wide (halved set l r) (collection set (itemsOf vs))
 unfolding Wide
 large-wide l r vs h = (vs, refl, inl h)
-
-wide-in : (l r : Pattern) (vs : List Value) → WideIn (inOrder (leaves (halved set l r))) vs → Wide (halved set l r) (collection set (itemsOf vs))
-unfolding WideIn leaves
-wide-in l r vs (inl h) = large-wide l r vs h
-wide-in l r vs (inr (x, ls, rs, i, s, w)) =
-    halves-wide l r vs (⊎-elim (λ j. inl (leaf-wide l x vs ls rs j s w)) (λ j. inr (leaf-wide r x vs ls rs j s w)) (in-joined x (leaves l) (leaves r) (in-order-in (leaves l ++ leaves r) x i)))
-
--- THEOREM: and it is no wider
-pub group-narrow : (l r : Pattern) → 2 ≤ length (inOrder (leaves (halved set l r))) → (v : Value) → wide (halved set l r) v ≡ false → wide (unionOf (inOrder (leaves (halved set l r)))) v ≡ false
-group-narrow l r n v =
-    not-wide (halved set l r) (unionOf (inOrder (leaves (halved set l r)))) v (λ w.
-    let (vs, e, h) = wide-set (inOrder (leaves (halved set l r))) n v w in
-    subst (Wide (halved set l r)) (sym e) (wide-in l r vs h))
 
 -- ---- no more parts
 
 -- what the patterns weigh together
-weigh : (Pattern → ℕ) → List Pattern → ℕ
+unfoldable pub weigh : (Pattern → ℕ) → List Pattern → ℕ
 weigh w [] = 0
 weigh w (p ∷ ps) = w p + weigh w ps
 
-abbrev space : Pattern → ℕ
+abbrev pub space : Pattern → ℕ
 space p = inner p + 2
 
-weigh-append : (w : Pattern → ℕ) (ps qs : List Pattern) → weigh w (ps ++ qs) ≡ weigh w ps + weigh w qs
+pub weigh-append : (w : Pattern → ℕ) (ps qs : List Pattern) → weigh w (ps ++ qs) ≡ weigh w ps + weigh w qs
 unfolding weigh
 weigh-append w [] qs = omega arith
 weigh-append w (p ∷ ps) qs = omega (arith, weigh-append w ps qs)
 
--- one more, in its class
-weigh-first : (w : Pattern → ℕ) (p : Pattern) (ps : List Pattern) → weigh w (ofClass 0 ps) + weigh w (ofClass 1 ps) + weigh w (ofClass 2 ps) ≡ weigh w ps
-    → weigh w (ofClass 0 (p ∷ ps)) + weigh w (ofClass 1 (p ∷ ps)) + weigh w (ofClass 2 (p ∷ ps)) ≡ weigh w (p ∷ ps)
-unfolding weigh
-weigh-first w p ps h = ⊎-elim (λ e. first e) (⊎-elim (λ e. second e) (λ e. third e)) (class-is p)
-  where
-    first : classOf p ≡ 0 → weigh w (ofClass 0 (p ∷ ps)) + weigh w (ofClass 1 (p ∷ ps)) + weigh w (ofClass 2 (p ∷ ps)) ≡ weigh w (p ∷ ps)
-    first e =
-        let x : weigh w (ofClass 0 (p ∷ ps)) ≡ w p + weigh w (ofClass 0 ps) = ap (weigh w) (of-first p ps 0 0 e) in
-        let y : weigh w (ofClass 1 (p ∷ ps)) ≡ weigh w (ofClass 1 ps) = ap (weigh w) (of-first p ps 0 1 e) in
-        let z : weigh w (ofClass 2 (p ∷ ps)) ≡ weigh w (ofClass 2 ps) = ap (weigh w) (of-first p ps 0 2 e) in
-        omega (arith, x, y, z, h)
-
-    second : classOf p ≡ 1 → weigh w (ofClass 0 (p ∷ ps)) + weigh w (ofClass 1 (p ∷ ps)) + weigh w (ofClass 2 (p ∷ ps)) ≡ weigh w (p ∷ ps)
-    second e =
-        let x : weigh w (ofClass 0 (p ∷ ps)) ≡ weigh w (ofClass 0 ps) = ap (weigh w) (of-first p ps 1 0 e) in
-        let y : weigh w (ofClass 1 (p ∷ ps)) ≡ w p + weigh w (ofClass 1 ps) = ap (weigh w) (of-first p ps 1 1 e) in
-        let z : weigh w (ofClass 2 (p ∷ ps)) ≡ weigh w (ofClass 2 ps) = ap (weigh w) (of-first p ps 1 2 e) in
-        omega (arith, x, y, z, h)
-
-    third : classOf p ≡ 2 → weigh w (ofClass 0 (p ∷ ps)) + weigh w (ofClass 1 (p ∷ ps)) + weigh w (ofClass 2 (p ∷ ps)) ≡ weigh w (p ∷ ps)
-    third e =
-        let x : weigh w (ofClass 0 (p ∷ ps)) ≡ weigh w (ofClass 0 ps) = ap (weigh w) (of-first p ps 2 0 e) in
-        let y : weigh w (ofClass 1 (p ∷ ps)) ≡ weigh w (ofClass 1 ps) = ap (weigh w) (of-first p ps 2 1 e) in
-        let z : weigh w (ofClass 2 (p ∷ ps)) ≡ w p + weigh w (ofClass 2 ps) = ap (weigh w) (of-first p ps 2 2 e) in
-        omega (arith, x, y, z, h)
-
-no-class : (c : ℕ) → ofClass c [] ≡ []
-unfolding ofClass
-no-class c = refl
-
-weigh-sorted : (w : Pattern → ℕ) (ps : List Pattern) → weigh w (ofClass 0 ps) + weigh w (ofClass 1 ps) + weigh w (ofClass 2 ps) ≡ weigh w ps
-unfolding weigh
-weigh-sorted w [] = omega (arith, ap (weigh w) (no-class 0), ap (weigh w) (no-class 1), ap (weigh w) (no-class 2))
-weigh-sorted w (p ∷ ps) = weigh-first w p ps (weigh-sorted w ps)
-
-weigh-once : (w : Pattern → ℕ) (ps : List Pattern) → weigh w (take 1 ps) ≤ weigh w ps
-unfolding weigh
-weigh-once w [] = omega arith
-weigh-once w (p ∷ ps) = omega arith
-
--- in order they weigh no more
-weigh-ordered : (w : Pattern → ℕ) (ps : List Pattern) → weigh w (inOrder ps) ≤ weigh w ps
-weigh-ordered w ps =
-    omega (arith, weigh-append w (ofClass 0 ps) (ofClass 1 ps ++ take 1 (ofClass 2 ps)), weigh-append w (ofClass 1 ps) (take 1 (ofClass 2 ps)), weigh-once w (ofClass 2 ps), weigh-sorted w ps)
-
-inner-union : (p : Pattern) (ps : List Pattern) → inner (unionOf (p ∷ ps)) + 2 ≡ weigh space (p ∷ ps)
-unfolding weigh unionOf inner
+inner-union : (p : Pattern) (ps : List Pattern) → inner (unionOf (p ∷ ps)) + 2 ≤ weigh space (p ∷ ps)
+unfolding weigh unionOf
 inner-union p [] = omega arith
-inner-union p (q ∷ ps) = omega (arith, inner-union q ps)
+inner-union p (q ∷ ps) = omega (arith, inner-union q ps, inner-most (halved set p (unionOf (q ∷ ps))))
 
-inner-leaves : (p : Pattern) → weigh space (leaves p) ≡ inner p + 2
-unfolding weigh leaves inner
-inner-leaves (name x) = omega arith
-inner-leaves any = omega arith
-inner-leaves (literal w) = omega arith
-inner-leaves (each k ps) = omega arith
-inner-leaves (halved set p q) = omega (arith, weigh-append space (leaves p) (leaves q), inner-leaves p, inner-leaves q)
-inner-leaves (halved sequence p q) = omega arith
-inner-leaves (halved mapping p q) = omega arith
-inner-leaves (halved tuple p q) = omega arith
-
-some-fewer : (p : Pattern) (ps : List Pattern) → 1 ≤ length ps → weigh space ps ≤ inner p + 2 → inner (unionOf ps) ≤ inner p
+pub some-fewer : (p : Pattern) (ps : List Pattern) → 1 ≤ length ps → weigh space ps ≤ inner p + 2 → inner (unionOf ps) ≤ inner p
 some-fewer p [] l h = absurd (omega arith)
 some-fewer p (q ∷ ps) l h = omega (arith, inner-union q ps, h)
 
-pub group-fewer : (p : Pattern) → 1 ≤ length (inOrder (leaves p)) → inner (unionOf (inOrder (leaves p))) ≤ inner p
-group-fewer p n = some-fewer p (inOrder (leaves p)) n (omega (arith, weigh-ordered space (leaves p), inner-leaves p))
-
-weigh-length : (ps : List Pattern) → weigh (λ p. 1) ps ≡ length ps
+pub weigh-length : (ps : List Pattern) → weigh (λ p. 1) ps ≡ length ps
 unfolding weigh
 weigh-length [] = refl
 weigh-length (p ∷ ps) = omega (arith, weigh-length ps)
-
-pub ordered-few : (ps : List Pattern) → length (inOrder ps) ≤ length ps
-ordered-few ps = omega (arith, weigh-length ps, weigh-length (inOrder ps), weigh-ordered (λ p. 1) ps)
-
-twice : (ps : List Pattern) → 2 * length ps ≤ weigh space ps
-unfolding weigh
-twice [] = omega arith
-twice (q ∷ ps) = omega (arith, twice ps)
-
--- as many leaves as there is room for
-pub leaves-room : (p : Pattern) → 2 * length (leaves p) ≤ inner p + 2
-leaves-room p = omega (arith, twice (leaves p), inner-leaves p)
 
 -- ---- how many members they take
 
@@ -564,7 +324,7 @@ group-takes (p ∷ ps) z l t vs b m = t (length vs) (shares-lengths (p ∷ ps) v
 
 -- ---- names
 
-named-leaf : (p x : Pattern) (y : ℕ) → In x (leaves p) → named x y ≡ true → named p y ≡ true
+pub named-leaf : (p x : Pattern) (y : ℕ) → In x (leaves p) → named x y ≡ true → named p y ≡ true
 unfolding leaves named
 named-leaf (name z) x y i e = ap (λ (q : Pattern). named q y) (sym (in-one x i)) ∙ e
 named-leaf any x y i e = ap (λ (q : Pattern). named q y) (sym (in-one x i)) ∙ e
@@ -576,7 +336,7 @@ named-leaf (halved sequence p q) x y i e = ap (λ (q : Pattern). named q y) (sym
 named-leaf (halved mapping p q) x y i e = ap (λ (q : Pattern). named q y) (sym (in-one x i)) ∙ e
 named-leaf (halved tuple p q) x y i e = ap (λ (q : Pattern). named q y) (sym (in-one x i)) ∙ e
 
-named-union : (p : Pattern) (ps : List Pattern) (y : ℕ) → named (unionOf (p ∷ ps)) y ≡ true → (x : Pattern) × In x (p ∷ ps) × (named x y ≡ true)
+pub named-union : (p : Pattern) (ps : List Pattern) (y : ℕ) → named (unionOf (p ∷ ps)) y ≡ true → (x : Pattern) × In x (p ∷ ps) × (named x y ≡ true)
 unfolding unionOf named
 named-union p [] y e = (p, inl refl, e)
 named-union p (q ∷ ps) y e =
@@ -586,10 +346,3 @@ pub in-drop : {A : Type 0} (n : ℕ) (xs : List A) (x : A) → In x (drop n xs) 
 in-drop zero xs x i = i
 in-drop (suc n) [] x i = i
 in-drop (suc n) (y ∷ xs) x i = inr (in-drop n xs x i)
-
--- the names of what is left of a group are names of the pattern
-pub group-named : (p : Pattern) (i : ℕ) (qs : List Pattern) → 1 ≤ length qs → ((x : Pattern) → In x qs → In x (drop i (inOrder (leaves p)))) → (y : ℕ) → named (unionOf qs) y ≡ true → named p y ≡ true
-group-named p i [] l f y e = absurd (omega arith)
-group-named p i (q ∷ qs) l f y e =
-    let (x, j, g) = named-union q qs y e in
-    named-leaf p x y (in-order-in (leaves p) x (in-drop i (inOrder (leaves p)) x (f x j))) g

@@ -10,9 +10,22 @@ mod Lowering
 mod Sizing
 mod Joining
 mod Grouping
+mod Permuting
+mod Counting
+mod Stripping
+mod Sorting
+mod Ordering
+mod Spacing
 mod Surveying
+mod Sparing
+mod Keeping
+mod Classing
+mod Placing
+mod Tallying
 pub mod Coding
+mod Fitting
 mod Skipping
+mod Choosing
 mod Leaving
 mod Accounting
 mod Stacking

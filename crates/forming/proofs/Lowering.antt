@@ -1,12 +1,15 @@
 -- Heights of patterns, as rule 9 has them: what tells whether one is low.
 use mathlib.Core.Path.{_≡_, refl, sym, ap, subst, _∙_}
 use mathlib.Core.Bool.{Bool, true, false}
+use mathlib.Core.Logic.{inl}
 use mathlib.Core.List.{List, [], _∷_, map}
-use Prim.Native.Nat.{ℕ, zero, suc, _+_, _-_, _≤_, _<_}
+use Prim.Native.Nat.{ℕ, zero, suc, _+_, _-_, _^_, _≤_, _<_}
+use native.Mathlib.Decide.{ℕ-discrete}
+use native.Mathlib.Nat.{pow-suc}
 use native.Mathlib.Omega.{arith}
 use borrow.Author.Tests.{eqb-true, le-leb, lt-leb, leb-true, leb-false}
 use lib.Dec.{eqb, leb}
-use lib.ListN.{length, getD, drop}
+use lib.ListN.{length, getD, drop, length-append}
 use Rattle.prelude.proofs.Truth.{by-lower}
 use Rattle.tables.specs.Record.{Record, shape, size, headOf, operands, named, operand}
 use Rattle.tables.specs.Table.{recordAt, kindAt}
@@ -15,8 +18,13 @@ use Rattle.tables.specs.Accepted.{records}
 use Rattle.tables.specs.Laws.Tests.{each}
 use Rattle.tables.specs.Laws.Operands.{operands-few}
 use Rattle.tables.specs.Laws.Accepted.{height-at, height-operand}
-use Rattle.patterns.specs.Read.{Readable}
-use Rattle.matching.proofs.Records.{kind-low}
+use Rattle.parts.specs.Laws.Chosen.{power-pos}
+use Rattle.patterns.specs.Pattern.{Pattern}
+use Rattle.patterns.specs.Read.{Readable, patternAt}
+use Rattle.matching.proofs.Records.{kind-low, operand-readable}
+use Rattle.forming.specs.Groups.{leaves}
+use Rattle.forming.proofs.Reducing.{two-halves}
+use Rattle.forming.proofs.Surveying.{leaves-alone, leaves-union}
 
 -- The greatest is no greater than what each is at most.
 greatest-most : (f : ℕ → ℕ) (ms : List ℕ) (m : ℕ) → ((i : ℕ) → i < length ms → f (getD ms i 0) ≤ m) → greatest (map f ms) ≤ m
@@ -77,3 +85,29 @@ module _ (table index : List ℕ) (p : ℕ) (r : Readable table index p) where
   all-low most i n so l =
       let few = greatest-most (height (records table)) (named (recordAt (records table) p)) (most - 1) (λ j k. so j (omega arith)) in
       sym (le-leb (height (records table) p) most (omega (arith, height-is, few, positive most n)))
+
+-- ---- a low pattern has few leaves
+
+pub low-leaves : (table index : List ℕ) (m p : ℕ) → Readable table index p → height (records table) p ≤ m → length (leaves (patternAt (records table) p)) ≤ 2 ^ m
+low-leaves table index zero p r l = absurd (omega (arith, height-is table index p r))
+low-leaves table index (suc m) p r l = go (ℕ-discrete (kindAt (records table) p) 38) (low-leaves table index m)
+  where
+    go : Dec (kindAt (records table) p ≡ 38) → ((q : ℕ) → Readable table index q → height (records table) q ≤ m → length (leaves (patternAt (records table) q)) ≤ 2 ^ m) → length (leaves (patternAt (records table) p)) ≤ 2 ^ suc m
+    go (yes k) rest = omega (arith, ap length (leaves-union table index p r k), length-append (leaves (half 0)) (leaves (half 1)), few 0 (omega arith), few 1 (omega arith), pow-suc 2 m)
+      where
+        half : ℕ → Pattern
+        half i = patternAt (records table) (operand (recordAt (records table) p) i)
+
+        few : (i : ℕ) → i < 2 → length (leaves (patternAt (records table) (operand (recordAt (records table) p) i))) ≤ 2 ^ m
+        few i h =
+            let within : i < length (named (recordAt (records table) p)) = omega (arith, two-halves table index p r 38 k (inl refl), h) in
+            rest (operand (recordAt (records table) p) i) (operand-readable table index p r i within (omega (arith, k)) (operand (recordAt (records table) p) i) refl .0)
+            (omega (arith, l, height-operand (records table) (r .fine .clear6) p i (r .here .within) within))
+    go (no n) rest = omega (arith, ap length (leaves-alone table index p r n), power-pos (suc m))
+
+pub leaves-few : (table index : List ℕ) (p : ℕ) → Readable table index p → height (records table) p ≤ 12 → length (leaves (patternAt (records table) p)) ≤ 4096
+leaves-few table index p r l = low-leaves table index 12 p r l
+
+-- few enough levels for a group
+pub grouped-low : (n : ℕ) → leb n 10 ≡ true → n ≤ 12
+grouped-low n e = omega (arith, leb-true n 10 e)

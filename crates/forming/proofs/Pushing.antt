@@ -11,7 +11,6 @@ use lib.Seq.{drop-cons, getD-set-same, getD-set-other}
 use Rattle.prelude.proofs.Absurd.{impossible}
 use Rattle.prelude.proofs.Truth.{or-false-left, or-false-right}
 use Rattle.values.specs.Value.{Value, boolean}
-use Rattle.tables.specs.Record.{named}
 use Rattle.tables.specs.Table.{recordAt, kindAt}
 use Rattle.tables.specs.Accepted.{records}
 use Rattle.parts.specs.declared.Part.{Part}
@@ -22,14 +21,14 @@ use Rattle.patterns.specs.Binding.{is}
 use Rattle.patterns.specs.Pattern.{Pattern, any, wide, wideEach}
 use Rattle.patterns.specs.Read.{patternsOf}
 use Rattle.patterns.specs.Nodes.{meetings, isLarge}
-use Rattle.matching.specs.Node.{PieceHeld, PieceOf, waysOf, metBy}
-use Rattle.matching.proofs.Records.{kind-high, count-few, count-two, meeting-length}
+use Rattle.matching.specs.Node.{PieceHeld, PieceOf}
+use Rattle.matching.proofs.Records.{kind-high, meeting-length}
 use Rattle.splitting.proofs.Composed.{wide-composed}
 use Rattle.parts.specs.Word.{unpacked, CellHeld, Packed}
 use Rattle.forming.specs.Frames.{KeptBelow}
 use Rattle.forming.specs.Onward.{Task, task, zipped}
-use Rattle.forming.specs.Groups.{codePattern, codeInner, CodeHeld, PartHeld, PartCode}
-use Rattle.forming.proofs.Coding.{by-code, inner-count, code-readable}
+use Rattle.forming.specs.Codes.{codePattern, codeInner, countOf, codeWays, codeMet, CodeHeld, Composed, CodePartHeld, PartCode}
+use Rattle.forming.proofs.Coding.{by-code, parts-few, parts-two, code-readable}
 use Rattle.forming.specs.Pending.{Pending, AgendaIs, Pushable, Pushed}
 
 -- ---- the agenda is kept where nothing below its top changed
@@ -102,42 +101,37 @@ each-at (p ∷ ps) [] i q z e l m = absurd (omega arith)
 each-at (p ∷ ps) (v ∷ vs) zero q z e l m = or-false-left (wide p v) (wideEach (patternsOf ps) vs) e
 each-at (p ∷ ps) (v ∷ vs) (suc i) q z e l m = each-at ps vs i q z (or-false-right (wide p v) (wideEach (patternsOf ps) vs) e) (omega arith) (omega arith)
 
-abbrev pub countOf : List ℕ → ℕ → ℕ
-countOf table p = length (named (recordAt (records table) p))
+module _ (table index : List ℕ) (p : ℕ) (r : Composed table index p) where
+  pub wide-by : (v : Value) → wide (codePattern table p) v ≡ isLarge (kindAt (records table) (p % 256)) v || exists (codeWays table p v) (λ vs. wideEach (patternsOf (codeInner table p)) vs)
+  wide-by v =
+      ap (λ (x : Pattern). wide x v) (by-code table index p r)
+      ∙ wide-composed (recordAt (records table) (p % 256)) (codeInner table p) (r .composed) (kind-high table index (p % 256) (code-readable table index p r)) (parts-two table index p r) v
 
-module _ (table index : List ℕ) (p : ℕ) (r : CodeHeld table index p) where
-  module _ (c : 36 ≤ kindAt (records table) (p % 256)) where
-    pub wide-by : (v : Value) → wide (codePattern table p) v ≡ isLarge (kindAt (records table) (p % 256)) v || exists (waysOf table (p % 256) v) (λ vs. wideEach (patternsOf (codeInner table p)) vs)
-    wide-by v =
-        ap (λ (x : Pattern). wide x v) (by-code table index p r c)
-        ∙ wide-composed (recordAt (records table) (p % 256)) (codeInner table p) c (kind-high table index (p % 256) (code-readable table index p r)) (λ e. inner-count table index p r c ∙ count-two table index (p % 256) (code-readable table index p r) c e) v
-        ∙ ap (λ (n : ℕ). isLarge (kindAt (records table) (p % 256)) v || exists (meetings (kindAt (records table) (p % 256)) n v) (λ vs. wideEach (patternsOf (codeInner table p)) vs)) (inner-count table index p r c)
+  module _ (v : Value) (d : ℕ) (l : d < length (codeWays table p v)) where
+    pub met-long : length (codeMet table p v d) ≡ countOf table p
+    met-long = meeting-length (kindAt (records table) (p % 256)) (countOf table p) v d (parts-two table index p r) l
 
-    module _ (v : Value) (d : ℕ) (l : d < length (waysOf table (p % 256) v)) where
-      pub met-long : length (metBy table (p % 256) v d) ≡ countOf table (p % 256)
-      met-long = meeting-length (kindAt (records table) (p % 256)) (countOf table (p % 256)) v d (count-two table index (p % 256) (code-readable table index p r) c) l
-
-      narrow-part : wide (codePattern table p) v ≡ false → (i : ℕ) → i < countOf table (p % 256) → wide (getD (codeInner table p) i any) (getD (metBy table (p % 256) v d) i (boolean true)) ≡ false
-      narrow-part w i k =
-          each-at (codeInner table p) (metBy table (p % 256) v d) i any (boolean true)
-          (exists-at (waysOf table (p % 256) v) (λ vs. wideEach (patternsOf (codeInner table p)) vs) d [] (or-false-right (isLarge (kindAt (records table) (p % 256)) v) (exists (waysOf table (p % 256) v) (λ vs. wideEach (patternsOf (codeInner table p)) vs)) (sym (wide-by v) ∙ w)) l)
-          (omega (arith, inner-count table index p r c)) (omega (arith, met-long))
+    narrow-part : wide (codePattern table p) v ≡ false → (i : ℕ) → i < countOf table p → wide (getD (codeInner table p) i any) (getD (codeMet table p v d) i (boolean true)) ≡ false
+    narrow-part w i k =
+        each-at (codeInner table p) (codeMet table p v d) i any (boolean true)
+        (exists-at (codeWays table p v) (λ vs. wideEach (patternsOf (codeInner table p)) vs) d [] (or-false-right (isLarge (kindAt (records table) (p % 256)) v) (exists (codeWays table p v) (λ vs. wideEach (patternsOf (codeInner table p)) vs)) (sym (wide-by v) ∙ w)) l)
+        k (omega (arith, met-long))
 
 -- ---- one after the other, the last first
 
 -- The parts from i on stand before the rest.
 pub record PushSoFar (table index : List ℕ) (p : ℕ) (s : List ℕ) (word : ℕ) (d : ℕ) (a : List ℕ) (next top : ℕ) (b : List ℕ) (head i to : ℕ) : Type 0 where
-  pub within : i ≤ countOf table (p % 256)
-  pub ends : to + i ≡ top + countOf table (p % 256)
+  pub within : i ≤ countOf table p
+  pub ends : to + i ≡ top + countOf table p
   pub low : head < to
-  pub first : i ≡ countOf table (p % 256) → head ≡ next
+  pub first : i ≡ countOf table p → head ≡ next
   pub kept : KeptBelow a b (3 * top)
   pub long : length b ≡ length a
   pub right : (v : Value) (ts : List Task) → PartIs s (unpacked word) v → wide (codePattern table p) v ≡ false → AgendaIs table index s a top next ts
-      → AgendaIs table index s b to head (zipped (drop i (codeInner table p)) (drop i (metBy table (p % 256) v d)) ++ ts)
+      → AgendaIs table index s b to head (zipped (drop i (codeInner table p)) (drop i (codeMet table p v d)) ++ ts)
 
 module _ (table index : List ℕ) (p : ℕ) (s : List ℕ) (word : ℕ) (d : ℕ) (a : List ℕ) (next top : ℕ) (rest : ℕ) (h : Pushable table index p rest s word d a next top) where
-  pub push-start : (n : ℕ) → n ≡ countOf table (p % 256) → PushSoFar table index p s word d a next top a next n top
+  pub push-start : (n : ℕ) → n ≡ countOf table p → PushSoFar table index p s word d a next top a next n top
   unfolding zipped
   push-start n e = record {
     within = omega arith;
@@ -147,19 +141,19 @@ module _ (table index : List ℕ) (p : ℕ) (s : List ℕ) (word : ℕ) (d : ℕ
     kept = λ j k. refl;
     long = refl;
     right = λ v ts q w g.
-        let z : drop n (codeInner table p) ≡ [] = drop-of-length-le (codeInner table p) {i = n} (omega (arith, inner-count table index p (h .held) (h .composed))) in
-        subst (λ (ps : List Pattern). AgendaIs table index s a top next (zipped ps (drop n (metBy table (p % 256) v d)) ++ ts)) (sym z) g;
+        let z : drop n (codeInner table p) ≡ [] = drop-of-length-le (codeInner table p) {i = n} (omega arith) in
+        subst (λ (ps : List Pattern). AgendaIs table index s a top next (zipped ps (drop n (codeMet table p v d)) ++ ts)) (sym z) g;
   }
 
-  pub part-asked : (i : ℕ) → i < countOf table (p % 256) → PartHeld table index p rest i
-  part-asked i l = record { held = h .held; composed = h .composed; below = l; rest-is = h .rest-is }
+  pub part-asked : (i : ℕ) → i < countOf table p → CodePartHeld table index p rest i
+  part-asked i l = record { code = h .code; below = l; rest-is = h .rest-is }
 
-  pub piece-asked : (i kind n : ℕ) (part : Part) → part ≡ unpacked word → i < countOf table (p % 256) → kind ≡ kindAt (records table) (p % 256) → n ≡ countOf table (p % 256) → PieceHeld kind n s part d i
+  pub piece-asked : (i kind n : ℕ) (part : Part) → part ≡ unpacked word → i < countOf table p → kind ≡ kindAt (records table) (p % 256) → n ≡ countOf table p → PieceHeld kind n s part d i
   piece-asked i kind n part pe l x y = rw (x, y, pe) (record {
-    low = h .composed;
-    high = kind-high table index (p % 256) (code-readable table index p (h .held));
-    few = count-few table index (p % 256) (code-readable table index p (h .held)) (h .composed);
-    two = count-two table index (p % 256) (code-readable table index p (h .held)) (h .composed);
+    low = h .code .composed;
+    high = kind-high table index (p % 256) (code-readable table index p (h .code));
+    few = parts-few table index p (h .code);
+    two = parts-two table index p (h .code);
     value = h .value;
     here = h .here;
     narrow = h .narrow;
@@ -168,17 +162,17 @@ module _ (table index : List ℕ) (p : ℕ) (s : List ℕ) (word : ℕ) (d : ℕ
     short = h .short;
   })
 
-  pub few : countOf table (p % 256) ≤ 4
-  few = count-few table index (p % 256) (code-readable table index p (h .held)) (h .composed)
+  pub few : countOf table p ≤ 4
+  few = parts-few table index p (h .code)
 
-  module _ (i kind n : ℕ) (l : i < countOf table (p % 256)) (x : kind ≡ kindAt (records table) (p % 256)) (y : n ≡ countOf table (p % 256)) (part : Part) (pe : part ≡ unpacked word) (part′ : Part) (o : PieceOf kind n s part d i part′) where
-    piece-is : (v : Value) → PartIs s (unpacked word) v → PartIs s part′ (getD (metBy table (p % 256) v d) i (boolean true))
+  module _ (i kind n : ℕ) (l : i < countOf table p) (x : kind ≡ kindAt (records table) (p % 256)) (y : n ≡ countOf table p) (part : Part) (pe : part ≡ unpacked word) (part′ : Part) (o : PieceOf kind n s part d i part′) where
+    piece-is : (v : Value) → PartIs s (unpacked word) v → PartIs s part′ (getD (codeMet table p v d) i (boolean true))
     piece-is v q =
-        subst (λ (c : ℕ). PartIs s part′ (getD (getD (meetings c (countOf table (p % 256)) v) d []) i (boolean true))) x
+        subst (λ (c : ℕ). PartIs s part′ (getD (getD (meetings c (countOf table p) v) d []) i (boolean true))) x
         (subst (λ (k : ℕ). PartIs s part′ (getD (getD (meetings kind k v) d []) i (boolean true))) y (o v (boolean true) (subst (λ (k : Part). PartIs s k v) (sym pe) q)))
 
     pub piece-held : CellHeld s part′
-    piece-held = (is (getD (metBy table (p % 256) (h .value) d) i (boolean true)), inr (getD (metBy table (p % 256) (h .value) d) i (boolean true), refl, piece-is (h .value) (h .here)))
+    piece-held = (is (getD (codeMet table p (h .value) d) i (boolean true)), inr (getD (codeMet table p (h .value) d) i (boolean true), refl, piece-is (h .value) (h .here)))
 
     module _ (q : ℕ) (b : PartCode table index p i q) (cell : ℕ) (pk : Packed s part′ cell) (now : List ℕ) (head suci to : ℕ) (si : suci ≡ i + 1)
         (w : PushSoFar table index p s word d a next top now head suci to) where
@@ -201,28 +195,28 @@ module _ (table index : List ℕ) (p : ℕ) (s : List ℕ) (word : ℕ) (d : ℕ
           put = entry-put now (3 * to) q cell head (omega (arith, w .long, w .ends, h .long, h .room))
 
           go : (v : Value) (ts : List Task) → PartIs s (unpacked word) v → wide (codePattern table p) v ≡ false → AgendaIs table index s a top next ts
-              → AgendaIs table index s (set (set (set now (3 * to) q) (3 * to + 1) cell) (3 * to + 2) head) (to + 1) to (zipped (drop i (codeInner table p)) (drop i (metBy table (p % 256) v d)) ++ ts)
+              → AgendaIs table index s (set (set (set now (3 * to) q) (3 * to + 1) cell) (3 * to + 2) head) (to + 1) to (zipped (drop i (codeInner table p)) (drop i (codeMet table p v d)) ++ ts)
           go v ts z u g =
-              let below : d < length (waysOf table (p % 256) v) = subst (λ (e : Value). d < length (waysOf table (p % 256) e)) (sym (part-one z (h .here))) (h .below) in
-              let long = met-long table index p (h .held) (h .composed) v d below in
+              let below : d < length (codeWays table p v) = subst (λ (e : Value). d < length (codeWays table p e)) (sym (part-one z (h .here))) (h .below) in
+              let long = met-long table index p (h .code) v d below in
               let it : getD (codeInner table p) i any ≡ codePattern table q = sym (b .pattern) in
               let pats : drop i (codeInner table p) ≡ getD (codeInner table p) i any ∷ drop suci (codeInner table p) =
-              drop-cons (codeInner table p) i any (omega (arith, inner-count table index p (h .held) (h .composed))) ∙ ap (λ (j : ℕ). getD (codeInner table p) i any ∷ drop j (codeInner table p)) (sym (add-one i) ∙ sym si) in
-              let vals : drop i (metBy table (p % 256) v d) ≡ getD (metBy table (p % 256) v d) i (boolean true) ∷ drop suci (metBy table (p % 256) v d) =
-              drop-cons (metBy table (p % 256) v d) i (boolean true) (omega (arith, long)) ∙ ap (λ (j : ℕ). getD (metBy table (p % 256) v d) i (boolean true) ∷ drop j (metBy table (p % 256) v d)) (sym (add-one i) ∙ sym si) in
-              let rest = agenda-kept table index s now (set (set (set now (3 * to) q) (3 * to + 1) cell) (3 * to + 2) head) to (to + 1) head (zipped (drop suci (codeInner table p)) (drop suci (metBy table (p % 256) v d)) ++ ts) (omega arith) (put .kept) (w .right v ts z u g) in
-              let first : Pending table index s (set (set (set now (3 * to) q) (3 * to + 1) cell) (3 * to + 2) head) (to + 1) to (task (getD (codeInner table p) i any) (getD (metBy table (p % 256) v d) i (boolean true))) = record {
+              drop-cons (codeInner table p) i any l ∙ ap (λ (j : ℕ). getD (codeInner table p) i any ∷ drop j (codeInner table p)) (sym (add-one i) ∙ sym si) in
+              let vals : drop i (codeMet table p v d) ≡ getD (codeMet table p v d) i (boolean true) ∷ drop suci (codeMet table p v d) =
+              drop-cons (codeMet table p v d) i (boolean true) (omega (arith, long)) ∙ ap (λ (j : ℕ). getD (codeMet table p v d) i (boolean true) ∷ drop j (codeMet table p v d)) (sym (add-one i) ∙ sym si) in
+              let rest = agenda-kept table index s now (set (set (set now (3 * to) q) (3 * to + 1) cell) (3 * to + 2) head) to (to + 1) head (zipped (drop suci (codeInner table p)) (drop suci (codeMet table p v d)) ++ ts) (omega arith) (put .kept) (w .right v ts z u g) in
+              let first : Pending table index s (set (set (set now (3 * to) q) (3 * to + 1) cell) (3 * to + 2) head) (to + 1) to (task (getD (codeInner table p) i any) (getD (codeMet table p v d) i (boolean true))) = record {
                 some = omega (arith, w .low);
                 below = omega arith;
                 falls = omega (arith, put .third, w .low);
                 held = subst (CodeHeld table index) (sym (put .first)) (b .held);
                 pattern = it ∙ ap (codePattern table) (sym (put .first));
-                here = subst (λ (e : ℕ). PartIs s (unpacked e) (getD (metBy table (p % 256) v d) i (boolean true))) (sym (put .second)) (packed-part s part′ cell (getD (metBy table (p % 256) v d) i (boolean true)) pk (piece-is v z));
-                narrow = narrow-part table index p (h .held) (h .composed) v d below u i l;
+                here = subst (λ (e : ℕ). PartIs s (unpacked e) (getD (codeMet table p v d) i (boolean true))) (sym (put .second)) (packed-part s part′ cell (getD (codeMet table p v d) i (boolean true)) pk (piece-is v z));
+                narrow = narrow-part table index p (h .code) v d below u i l;
               } in
-              subst (λ (ps : List Pattern). AgendaIs table index s (set (set (set now (3 * to) q) (3 * to + 1) cell) (3 * to + 2) head) (to + 1) to (zipped ps (drop i (metBy table (p % 256) v d)) ++ ts)) (sym pats)
+              subst (λ (ps : List Pattern). AgendaIs table index s (set (set (set now (3 * to) q) (3 * to + 1) cell) (3 * to + 2) head) (to + 1) to (zipped ps (drop i (codeMet table p v d)) ++ ts)) (sym pats)
               (subst (λ (vs : List Value). AgendaIs table index s (set (set (set now (3 * to) q) (3 * to + 1) cell) (3 * to + 2) head) (to + 1) to (zipped (getD (codeInner table p) i any ∷ drop suci (codeInner table p)) vs ++ ts)) (sym vals)
-              (first, subst (λ (e : ℕ). AgendaIs table index s (set (set (set now (3 * to) q) (3 * to + 1) cell) (3 * to + 2) head) (to + 1) e (zipped (drop suci (codeInner table p)) (drop suci (metBy table (p % 256) v d)) ++ ts)) (sym (put .third)) rest))
+              (first, subst (λ (e : ℕ). AgendaIs table index s (set (set (set now (3 * to) q) (3 * to + 1) cell) (3 * to + 2) head) (to + 1) e (zipped (drop suci (codeInner table p)) (drop suci (codeMet table p v d)) ++ ts)) (sym (put .third)) rest))
 
   pub push-end : (now : List ℕ) (head i to : ℕ) → i ≤ 0 → PushSoFar table index p s word d a next top now head i to → Pushed table index p s word d a next top now head
   push-end now head i to l w = record {
@@ -232,6 +226,6 @@ module _ (table index : List ℕ) (p : ℕ) (s : List ℕ) (word : ℕ) (d : ℕ
     long = w .long;
     right = λ v ts q u g.
         let e : i ≡ 0 = omega arith in
-        agenda-kept table index s now now to (top + countOf table (p % 256)) head (zipped (codeInner table p) (metBy table (p % 256) v d) ++ ts) (omega (arith, w .ends)) (λ j k. refl)
-        (subst (λ (j : ℕ). AgendaIs table index s now to head (zipped (drop j (codeInner table p)) (drop j (metBy table (p % 256) v d)) ++ ts)) e (w .right v ts q u g));
+        agenda-kept table index s now now to (top + countOf table p) head (zipped (codeInner table p) (codeMet table p v d) ++ ts) (omega (arith, w .ends)) (λ j k. refl)
+        (subst (λ (j : ℕ). AgendaIs table index s now to head (zipped (drop j (codeInner table p)) (drop j (codeMet table p v d)) ++ ts)) e (w .right v ts q u g));
   }

@@ -7,12 +7,8 @@ use native.Mathlib.Nat.{one-le-pow, pow-suc, pow-le-pow-right, mul-le-mul-right,
 use native.Mathlib.Omega.{arith}
 use lib.ListN.{length}
 use Rattle.forming.specs.declared.frames.Frame.{Frame}
-use Rattle.forming.specs.Frames.{KeptBelow, frameAt, heft, burden, rank, Advanced}
+use Rattle.forming.specs.Frames.{KeptBelow, frameAt, onto, heft, burden, rank, Advanced}
 use Rattle.forming.proofs.Framing.{frame-kept}
-
--- the frame with another way next
-abbrev pub onto : Frame → ℕ → Frame
-onto f e = record { p = f .p; rest = f .rest; at = f .at; next = f .next; top = f .top; way = e; ways = f .ways; mask = f .mask; once = f .once; sizes = f .sizes }
 
 power-some : (k : ℕ) → 0 < 256 ^ k
 power-some k = one-le-pow k 256 (omega arith)

@@ -1,6 +1,6 @@
 -- Wildcards beside wildcards: one half that matches all, beside one that takes in any more, adds nothing.
 use mathlib.Core.Path.{_≡_, refl, sym, ap, ap₂, subst, _∙_}
-use mathlib.Core.Bool.{Bool, true, false}
+use mathlib.Core.Bool.{Bool, true, false, _||_, _&&_}
 use mathlib.Core.Logic.{inl, inr}
 use mathlib.Core.List.{List, [], _∷_, _++_}
 use Prim.Native.Nat.{ℕ, zero, suc, _-_, _≤_, _<_}
@@ -28,6 +28,8 @@ use Rattle.patterns.specs.Read.{Readable, patternOf, patternAt}
 use Rattle.matching.specs.Node.{innerOf}
 use Rattle.matching.proofs.Records.{by-record, count-two}
 use Rattle.forming.specs.Inner.{inner}
+use Rattle.forming.specs.Laws.Inner.{half-less}
+use Rattle.forming.specs.Wild.{isAny, isWild}
 use Rattle.forming.specs.Onward.{Task, task, matchesAll, onward}
 use Rattle.forming.specs.Laws.Onward.{together-alike}
 use Rattle.forming.specs.Reduced.{AcceptsAll, Beside, TakesMore, Splits, TellsAll, TellsMore, Reduced, TellsSpare}
@@ -209,6 +211,12 @@ right-wide sequence r x y v (ls, rs, e, w) =
 right-wide mapping r x y v w = w
 right-wide tuple r x y v w = w
 
+-- ---- what only counts
+
+both-count : (k : Kind) (p q : Pattern) → k ≡ set → (isAny p || isWild p) ≡ true → (isAny q || isWild q) ≡ true → (isAny (halved k p q) || isWild (halved k p q)) ≡ true
+unfolding isWild
+both-count k p q e x y = subst (λ (z : Kind). isWild (halved z p q) ≡ true) (sym e) (ap₂ _&&_ x y)
+
 -- ---- by records
 
 halved-by : (r : Record) (ps : List Pattern) (c : ℕ) → r .kind ≡ c → Splits c → patternOf r ps ≡ halved (collectionOf c) (getD ps 0 any) (getD ps 1 any)
@@ -231,7 +239,7 @@ module _ (table index : List ℕ) (p : ℕ) (h : Readable table index p) where
   pub all-any : kindAt (records table) p ≡ 33 → (c : ℕ) → TellsAll table p c true
   unfolding Matches
   all-any e c t =
-      subst (AcceptsAll (collectionOf c)) (sym (by-record table index p h ∙ is-any (recordAt (records table) p) (innerOf table p) e)) (record { all = λ vs. refl; only = λ v b m. m })
+      subst (AcceptsAll (collectionOf c)) (sym (by-record table index p h ∙ is-any (recordAt (records table) p) (innerOf table p) e)) (record { all = λ vs. refl; only = λ v b m. m; counts = λ d. refl })
 
   pub more-wild : kindAt (records table) p ≡ 33 → (c side : ℕ) → TellsMore table p c side true
   more-wild e c side t =
@@ -257,7 +265,7 @@ module _ (table index : List ℕ) (p : ℕ) (h : Readable table index p) where
         let a′ : AcceptsAll (collectionOf c) (half 0) = subst (λ (q : ℕ). AcceptsAll (collectionOf c) (patternAt (records table) q)) el (a ex) in
         let b′ : AcceptsAll (collectionOf c) (half 1) = subst (λ (q : ℕ). AcceptsAll (collectionOf c) (patternAt (records table) q)) er (b ey) in
         subst (AcceptsAll (collectionOf c)) (sym is-two)
-        (record { all = both-all (collectionOf c) (half 0) (half 1) (none-first c u) a′ b′; only = both-only (collectionOf c) (half 0) (half 1) a′ b′ })
+        (record { all = both-all (collectionOf c) (half 0) (half 1) (none-first c u) a′ b′; only = both-only (collectionOf c) (half 0) (half 1) a′ b′; counts = λ d. both-count (collectionOf c) (half 0) (half 1) d (a′ .counts d) (b′ .counts d) })
 
     more-half : (side : ℕ) → side < 2 → TakesMore (collectionOf c) side (half side) → TakesMore (collectionOf c) side (patternAt (records table) p)
     more-half zero s t = subst (TakesMore (collectionOf c) 0) (sym is-two) (more-left (collectionOf c) (half 0) (half 1) t)
@@ -286,32 +294,46 @@ module _ (table index : List ℕ) (p : ℕ) (h : Readable table index p) where
 
 -- ---- what is left of a pattern
 
-fewer-left : (k : Kind) (l r : Pattern) → inner r ≤ inner (halved k l r)
-unfolding inner
-fewer-left k l r = omega arith
+-- beside what only counts, what does not is left
+solid-left : (k : Kind) (l x y : Pattern) → (k ≡ set → (isAny l || isWild l) ≡ true) → isWild (halved k l (halved k x y)) ≡ false → isWild (halved k x y) ≡ false
+unfolding isWild
+solid-left set l x y c h = sym (ap (λ (t : Bool). t && isWild (halved set x y)) (c refl)) ∙ h
+solid-left sequence l x y c h = refl
+solid-left mapping l x y c h = refl
+solid-left tuple l x y c h = refl
 
-fewer-right : (k : Kind) (l r : Pattern) → inner l ≤ inner (halved k l r)
-unfolding inner
-fewer-right k l r = omega arith
+and-true : (a : Bool) → (a && true) ≡ a
+and-true true = refl
+and-true false = refl
+
+solid-right : (k : Kind) (r x y : Pattern) → (k ≡ set → (isAny r || isWild r) ≡ true) → isWild (halved k (halved k x y) r) ≡ false → isWild (halved k x y) ≡ false
+unfolding isWild
+solid-right set r x y c h = sym (and-true (isWild (halved set x y))) ∙ sym (ap (λ (t : Bool). isWild (halved set x y) && t) (c refl)) ∙ h
+solid-right sequence r x y c h = refl
+solid-right mapping r x y c h = refl
+solid-right tuple r x y c h = refl
 
 -- The second pattern has the bindings of the first.
 record Same (p q : Pattern) : Type 0 where
   alike : (v : Value) → Alike (matches p v) (matches q v)
   narrow : (v : Value) → wide p v ≡ false → wide q v ≡ false
   fewer : inner q ≤ inner p
+  solid : isWild p ≡ false → isWild q ≡ false
 
 same-left : (k : Kind) (l x y : Pattern) → AcceptsAll k l → TakesMore k 0 (halved k x y) → Same (halved k l (halved k x y)) (halved k x y)
 same-left k l x y a t = record {
   alike = λ v. alike-of (halved k l (halved k x y)) (halved k x y) v (left-less k l (halved k x y) a t v) (left-more k l (halved k x y) a (halved-matched k x y) v);
   narrow = λ v. not-wide (halved k l (halved k x y)) (halved k x y) v (left-wide k l x y v);
-  fewer = fewer-left k l (halved k x y);
+  fewer = half-less k l (halved k x y) .1;
+  solid = solid-left k l x y (a .counts);
 }
 
 same-right : (k : Kind) (r x y : Pattern) → AcceptsAll k r → TakesMore k 1 (halved k x y) → Same (halved k (halved k x y) r) (halved k x y)
 same-right k r x y a t = record {
   alike = λ v. alike-of (halved k (halved k x y) r) (halved k x y) v (right-less k (halved k x y) r a t v) (right-more k (halved k x y) r a (halved-matched k x y) v);
   narrow = λ v. not-wide (halved k (halved k x y) r) (halved k x y) v (right-wide k r x y v);
-  fewer = fewer-right k (halved k x y) r;
+  fewer = half-less k (halved k x y) r .0;
+  solid = solid-right k r x y (a .counts);
 }
 
 module _ (table index : List ℕ) (p : ℕ) where
@@ -322,7 +344,7 @@ module _ (table index : List ℕ) (p : ℕ) where
   spare-left side x h e q d = subst (Reduced table index p) (sym d) (h e)
 
   pub reduced-self : Readable table index p → 36 ≤ kindAt (records table) p → Reduced table index p p
-  reduced-self h l = record { readable = h; composed = l; low = omega arith; alike = λ v b. (λ i. i, λ i. i); narrow = λ v e. e; fewer = omega arith }
+  reduced-self h l = record { readable = h; composed = l; low = omega arith; alike = λ v b. (λ i. i, λ i. i); narrow = λ v e. e; fewer = omega arith; solid = λ e. e }
 
   pub reduced-then : (q r : ℕ) → Reduced table index p q → Reduced table index q r → Reduced table index p r
   reduced-then q r a b = record {
@@ -332,6 +354,7 @@ module _ (table index : List ℕ) (p : ℕ) where
     alike = λ v c. (λ i. b .alike v c .0 (a .alike v c .0 i), λ i. a .alike v c .1 (b .alike v c .1 i));
     narrow = λ v e. b .narrow v (a .narrow v e);
     fewer = omega (arith, a .fewer, b .fewer);
+    solid = λ e. b .solid (a .solid e);
   }
 
   module _ (h : Readable table index p) (c : ℕ) (e : kindAt (records table) p ≡ c) (u : Splits c) where
@@ -340,7 +363,7 @@ module _ (table index : List ℕ) (p : ℕ) where
 
     -- one half is left
     left-with : (q : ℕ) → Readable table index q → q < p → kindAt (records table) q ≡ c → Same (patternAt (records table) p) (patternAt (records table) q) → Reduced table index p q
-    left-with q i l k s = record { readable = i; composed = omega (arith, k, splits-low c u); low = omega arith; alike = s .alike; narrow = s .narrow; fewer = s .fewer }
+    left-with q i l k s = record { readable = i; composed = omega (arith, k, splits-low c u); low = omega arith; alike = s .alike; narrow = s .narrow; fewer = s .fewer; solid = s .solid }
 
     pub spare-told : (side : ℕ) → side < 2 → (a : ℕ) → a ≡ part side → (x : Bool) → TellsAll table a c x → x ≡ true → (q : ℕ) → q ≡ part (1 - side) → Readable table index q × (q < p) → kindAt (records table) q ≡ c
         → (y : Bool) → TellsMore table q c side y → TellsSpare table index p side y

@@ -3,7 +3,7 @@ use mathlib.Core.Path.{_≡_, refl, sym, ap, subst, _∙_}
 use mathlib.Core.Bool.{true}
 use mathlib.Core.Logic.{_⊎_, inl, inr, ⊎-elim}
 use mathlib.Core.List.{List, [], _∷_, _++_}
-use Prim.Native.Nat.{ℕ, zero, suc, _+_, _*_, _%_, _^_, _≤_, _<_}
+use Prim.Native.Nat.{ℕ, suc, _+_, _*_, _%_, _^_, _≤_, _<_}
 use native.Mathlib.Numerals.{add-one}
 use native.Mathlib.Omega.{arith}
 use lib.ListN.{length, getD, drop, drop-of-length-le}
@@ -19,24 +19,23 @@ use Rattle.patterns.specs.Laws.Members.{in-gather, gather-in}
 use Rattle.patterns.specs.Laws.Ordered.{Rising, sorted-rising}
 use Rattle.patterns.specs.Laws.Together.{append-nil, append-assoc}
 use Rattle.matching.specs.Leaf.{Stands, Grown}
-use Rattle.matching.specs.Node.{waysOf, metBy}
-use Rattle.forming.specs.Groups.{codeInner, CodeHalves}
+use Rattle.forming.specs.Codes.{codeInner, countOf, codeWays, codeMet, CodeHalves}
 use Rattle.forming.proofs.Coding.{code-small}
 use Rattle.matching.proofs.Naming.{grown-same}
 use Rattle.forming.specs.declared.frames.Frame.{Frame}
 use Rattle.forming.specs.Adding.{adding}
 use Rattle.forming.specs.Laws.Adding.{adding-append, adding-there}
-use Rattle.forming.specs.Frames.{frameAt, FrameFits, Advanced, Cleared, heft, rank}
+use Rattle.forming.specs.Frames.{frameAt, onto, Advanced, Cleared, heft, rank}
 use Rattle.forming.specs.Onward.{Task, onward, zipped, oneWay}
 use Rattle.forming.specs.Pending.{AgendaIs, entries, agendaWords, Pushable, Pushed}
 use Rattle.forming.specs.Rows.{RowsAre}
 use Rattle.forming.specs.Settled.{TellsSettled}
 use Rattle.forming.specs.Sizes.{FromHeld, From}
+use Rattle.forming.specs.Whole.{WordMet, SameValue}
 use Rattle.forming.specs.Stack.{Level, LevelIs, StackIs, dues, Accounted, Stacked, Descending, Solvable}
 use Rattle.forming.proofs.Accounting.{accounted-with}
 use Rattle.forming.proofs.Grouping.{in-drop}
-use Rattle.forming.proofs.Pushing.{countOf}
-use Rattle.forming.proofs.Ranking.{onto, back-less}
+use Rattle.forming.proofs.Ranking.{back-less}
 use Rattle.forming.proofs.Skipping.{from-asked, passed-over}
 use Rattle.forming.proofs.Solving.{agenda-low, falls-on, several-parts, count-room, parts-room, same-way, enough}
 use Rattle.forming.proofs.Stacking.{level-kept, stack-kept}
@@ -101,8 +100,8 @@ module _ (table index s a found frames : List ℕ) (hit : ℕ) (rows order : Lis
   pub top-low : f .top ≤ entries
   top-low = omega (arith, h .is .room)
 
-  pub top-room : f .top + countOf table (f .p % 256) ≤ entries
-  top-room = count-room table index (f .p) (h .is .held) (h .is .composed) (f .top) (L .tasks) (h .is .room)
+  pub top-room : f .top + countOf table (f .p) ≤ entries
+  top-room = count-room table index (f .p) (h .is .code) (f .top) (L .tasks) (h .is .room)
 
   -- ---- it is only a test, and has a match
 
@@ -129,9 +128,9 @@ module _ (table index s a found frames : List ℕ) (hit : ℕ) (rows order : Lis
       there c j =
           let (x, xi) = h .hit-some l in
           let (vs, vi, xv, all) = h .is .done x xi in
-          let (us, ui, k) = in-gather c (drop (f .way) (waysOf table (f .p % 256) (L .value))) way (subst (In c) (h .is .due) j) in
-          h .done-in c (all c (enough table index (f .p) (h .is .held) (h .is .composed) s (L .words) (L .binding) (h .is .stands) (subst (TellsSettled table (f .p % 256) (L .words)) o (h .is .settled)) (L .value) (L .tasks) vs vi x xv c
-          (gather-in us c (waysOf table (f .p % 256) (L .value)) way (in-drop (f .way) (waysOf table (f .p % 256) (L .value)) us ui) k)))
+          let (us, ui, k) = in-gather c (drop (f .way) (codeWays table (f .p) (L .value))) way (subst (In c) (h .is .due) j) in
+          h .done-in c (all c (enough table index (f .p) (h .is .code) s (L .words) (L .binding) (h .is .stands) (subst (TellsSettled table (f .p % 256) (L .words)) o (h .is .settled)) (L .value) (L .tasks) vs vi x xv c
+          (gather-in us c (codeWays table (f .p) (L .value)) way (in-drop (f .way) (codeWays table (f .p) (L .value)) us ui) k)))
 
   -- ---- its next way
 
@@ -140,7 +139,18 @@ module _ (table index s a found frames : List ℕ) (hit : ℕ) (rows order : Lis
     sizes-told b = subst (λ (c : ℕ). CodeHalves table (f .p) c (f .sizes)) (sym ek) (h .is .sizes b)
 
     pub next-asked : FromHeld k (f .ways) (f .sizes)
-    next-asked = from-asked table index (f .p) (h .is .held) k ek (f .sizes) sizes-told (L .value) (f .ways) (h .is .ways) (omega (arith, h .is .within))
+    next-asked = from-asked table index (f .p) (h .is .code) k ek (f .sizes) sizes-told (L .value) (f .ways) (h .is .ways) (omega (arith, h .is .within))
+
+    pub word-met : (word : ℕ) → word ≡ getD a (3 * f .at + 1) 0 → WordMet s k word (f .ways)
+    word-met word e = record {
+      short = h .short;
+      value = L .value;
+      here = rw e (h .is .here);
+      count = countOf table (f .p);
+      met = rw ek (h .is .ways);
+      some = omega (arith, h .is .within);
+      few = h .is .few;
+    }
 
     pub next-low : f .next < f .top
     next-low = agenda-low table index s a (f .top) (f .next) (L .tasks) (omega (arith, h .is .low)) (h .is .are)
@@ -149,36 +159,23 @@ module _ (table index s a found frames : List ℕ) (hit : ℕ) (rows order : Lis
       e-low : e ≤ f .ways
       e-low = fr .within (omega (arith, h .is .within))
 
-      pub next-fits : FrameFits (onto f e)
-      next-fits = record {
-        code-small = code-small table index (f .p) (h .is .held);
-        rest-small = h .is .rest-low;
-        at-small = omega (arith, h .is .low, top-low);
-        next-small = omega (arith, next-low, top-low);
-        top-small = omega (arith, top-low);
-        way-small = omega (arith, e-low, h .is .few);
-        ways-small = h .is .few;
-        mask-small = h .is .mask-low;
-      }
-
-      module _ (word : ℕ) (we : word ≡ getD a (3 * f .at + 1) 0) where
+      module _ (word : ℕ) (we : SameValue s (getD a (3 * f .at + 1) 0) word) where
         pub push-asked : Pushable table index (f .p) (f .rest) s word (f .way) a (f .next) (f .top)
-        push-asked = rw we (record {
-          held = h .is .held;
-          composed = h .is .composed;
+        push-asked = record {
+          code = h .is .code;
           rest-is = h .is .rest-is;
           short = h .short;
           value = L .value;
-          here = h .is .here;
+          here = we (L .value) (h .is .here);
           narrow = h .is .fits;
           below = omega (arith, h .is .within, h .is .ways);
           low = next-low;
           room = top-room;
           long = h .long;
-        })
+        }
 
         module _ (b : List ℕ) (head : ℕ) (pushed : Pushed table index (f .p) s word (f .way) a (f .next) (f .top) b head) (frames′ : List ℕ) (left : ℕ) (ad : Advanced frames i (onto f e) frames′ left)
-            (found′ : List ℕ) (cl : Cleared found (f .mask) found′) (c : ℕ) (ec : c ≡ countOf table (f .p % 256)) (hit′ : ℕ) (hl : hit′ ≤ hit) (hd : hit′ ≤ left) where
+            (found′ : List ℕ) (cl : Cleared found (f .mask) found′) (c : ℕ) (ec : c ≡ countOf table (f .p)) (hit′ : ℕ) (hl : hit′ ≤ hit) (hd : hit′ ≤ left) where
           pub head-falls : heft (f .top + c) head ≤ heft (f .top) (f .next)
           head-falls = falls-on (f .top) (f .next) c head (omega (arith, ec, top-room)) (omega (arith, ec, pushed .low)) (λ z. pushed .none (omega (arith, ec, z)))
 
@@ -189,28 +186,28 @@ module _ (table index s a found frames : List ℕ) (hit : ℕ) (rows order : Lis
           words-again = cl (L .words) (h .is .mask) (h .is .stands .sized) (h .grown)
 
           now : List Task
-          now = zipped (codeInner table (f .p)) (metBy table (f .p % 256) (h .level .value) (f .way)) ++ h .level .tasks
+          now = zipped (codeInner table (f .p)) (codeMet table (f .p) (h .level .value) (f .way)) ++ h .level .tasks
 
           more : List Binding
-          more = onward (zipped (codeInner table (f .p)) (metBy table (f .p % 256) (h .level .value) (f .way)) ++ h .level .tasks) (h .level .binding)
+          more = onward (zipped (codeInner table (f .p)) (codeMet table (f .p) (h .level .value) (f .way)) ++ h .level .tasks) (h .level .binding)
 
           due′ : List Binding
-          due′ = gather (drop e (waysOf table (f .p % 256) (h .level .value))) way
+          due′ = gather (drop e (codeWays table (f .p) (h .level .value))) way
 
-          inside : f .way < length (waysOf table (f .p % 256) (h .level .value))
+          inside : f .way < length (codeWays table (f .p) (h .level .value))
           inside = omega (arith, h .is .within, h .is .ways)
 
-          this-way : way (metBy table (f .p % 256) (h .level .value) (f .way)) ≡ more
+          this-way : way (codeMet table (f .p) (h .level .value) (f .way)) ≡ more
           unfolding more
-          this-way = same-way table index (f .p) (h .is .held) (h .is .composed) (L .value) (L .tasks) (L .binding) (f .way) inside
+          this-way = same-way table index (f .p) (h .is .code) (L .value) (L .tasks) (L .binding) (f .way) inside
 
           due-is : h .level .due ≡ more ++ due′
           unfolding gather due′
           due-is =
               h .is .due
-              ∙ ap (λ (ws : List (List Value)). gather ws way) (drop-cons (waysOf table (f .p % 256) (L .value)) (f .way) [] inside ∙ ap (λ (j : ℕ). metBy table (f .p % 256) (L .value) (f .way) ∷ drop j (waysOf table (f .p % 256) (L .value))) (sym (add-one (f .way))))
-              ∙ ap (λ (xs : List Binding). xs ++ gather (drop (f .way + 1) (waysOf table (f .p % 256) (L .value))) way) this-way
-              ∙ ap (λ (xs : List Binding). more ++ xs) (sym (passed-over table index (f .p) (h .is .held) k ek (f .sizes) sizes-told (L .value) (f .ways) (h .is .ways) (L .tasks) (L .binding) (f .way + 1) e (omega (arith, h .is .within)) fr))
+              ∙ ap (λ (ws : List (List Value)). gather ws way) (drop-cons (codeWays table (f .p) (L .value)) (f .way) [] inside ∙ ap (λ (j : ℕ). codeMet table (f .p) (L .value) (f .way) ∷ drop j (codeWays table (f .p) (L .value))) (sym (add-one (f .way))))
+              ∙ ap (λ (xs : List Binding). xs ++ gather (drop (f .way + 1) (codeWays table (f .p) (L .value))) way) this-way
+              ∙ ap (λ (xs : List Binding). more ++ xs) (sym (passed-over table index (f .p) (h .is .code) k ek (f .sizes) sizes-told (L .value) (f .ways) (h .is .ways) (L .tasks) (L .binding) (f .way + 1) e (omega (arith, h .is .within)) fr))
 
           others-kept : (high : ℕ) → f .top ≤ high → StackIs table index s b frames′ high (h .level .words) (h .others)
           others-kept high u = stack-kept table index s a b frames frames′ (f .top) high (L .words) (L .words) (h .others) (pushed .kept) u (grown-same (L .words)) (h .frames-long) (ad .long) (λ j m. ad .kept j (omega (arith, h .count))) (h .below)
@@ -223,8 +220,7 @@ module _ (table index s a found frames : List ℕ) (hit : ℕ) (rows order : Lis
           level-on l =
               let x = level-kept table index s a b i f L (pushed .kept) (h .is) in
               record {
-                held = x .held;
-                composed = x .composed;
+                code = x .code;
                 rest-is = x .rest-is;
                 rest-low = x .rest-low;
                 low = x .low;
@@ -246,9 +242,9 @@ module _ (table index s a found frames : List ℕ) (hit : ℕ) (rows order : Lis
                 done = λ o j. go o (in-joined o (L .done) more j);
               }
             where
-              go : (o : Binding) → In o (h .level .done) ⊎ In o more → (vs : List Value) × In vs (waysOf table (f .p % 256) (h .level .value)) × In o (way vs) × ((d : Binding) → In d (way vs) → In d (h .level .done ++ more))
+              go : (o : Binding) → In o (h .level .done) ⊎ In o more → (vs : List Value) × In vs (codeWays table (f .p) (h .level .value)) × In o (way vs) × ((d : Binding) → In d (way vs) → In d (h .level .done ++ more))
               go o (inl j) = let (vs, vi, ov, all) = h .is .done o j in (vs, vi, ov, λ d m. in-left d (L .done) more (all d m))
-              go o (inr j) = (metBy table (f .p % 256) (L .value) (f .way), at-in (waysOf table (f .p % 256) (L .value)) (f .way) [] inside, subst (In o) (sym this-way) j, λ d m. in-right d (L .done) more (subst (In d) this-way m))
+              go o (inr j) = (codeMet table (f .p) (L .value) (f .way), at-in (codeWays table (f .p) (L .value)) (f .way) [] inside, subst (In o) (sym this-way) j, λ d m. in-right d (L .done) more (subst (In d) this-way m))
 
           abbrev Now : ℕ → List ℕ → Type 0
           Now d words = Stacked table index s b (f .top + c) words frames′ d hit′ rows order n more target
@@ -281,7 +277,7 @@ module _ (table index s a found frames : List ℕ) (hit : ℕ) (rows order : Lis
           leaves-off : left ≡ i → f .ways ≤ e → Now left (h .level .words)
           unfolding due′ gather
           leaves-off le l =
-              let none : drop e (waysOf table (f .p % 256) (L .value)) ≡ [] = drop-of-length-le (waysOf table (f .p % 256) (L .value)) {i = e} (omega (arith, h .is .ways)) in
+              let none : drop e (codeWays table (f .p) (L .value)) ≡ [] = drop-of-length-le (codeWays table (f .p) (L .value)) {i = e} (omega (arith, h .is .ways)) in
               let all : L .due ≡ more = due-is ∙ ap (λ (ws : List (List Value)). more ++ gather ws way) none ∙ append-nil more in
               record {
                 short = h .short;
@@ -300,15 +296,15 @@ module _ (table index s a found frames : List ℕ) (hit : ℕ) (rows order : Lis
               }
 
           low-enough : (((left ≡ suc i) × (e < f .ways) × (frameAt frames′ i ≡ onto f e)) ⊎ ((left ≡ i) × (f .ways ≤ e))) → 2 * left + 2 ≤ f .top + c
-          low-enough (inl (x, y, z)) = omega (arith, h .is .high, ec, fr .low, several-parts table index (f .p) (h .is .held) (h .is .composed) (L .value) (omega (arith, fr .low, h .is .ways)))
+          low-enough (inl (x, y, z)) = omega (arith, h .is .high, ec, fr .low, several-parts table index (f .p) (h .is .code) (L .value) (omega (arith, fr .low, h .is .ways)))
           low-enough (inr (x, y)) = omega (arith, h .is .high)
 
           pub going-down : Descending table index s b head (f .top + c) found′ frames′ left hit′ rows order n target
           unfolding now more
           going-down = record {
             tasks = now;
-            are = subst (λ (m : ℕ). AgendaIs table index s b (f .top + m) head now) (sym ec) (pushed .right (L .value) (L .tasks) (rw we (h .is .here)) (h .is .narrow) (h .is .are));
-            room = omega (arith, ec, parts-room table index (f .p) (h .is .held) (h .is .composed) (f .top) (L .tasks) (h .is .room) (metBy table (f .p % 256) (L .value) (f .way)));
+            are = subst (λ (m : ℕ). AgendaIs table index s b (f .top + m) head now) (sym ec) (pushed .right (L .value) (L .tasks) (we (L .value) (h .is .here)) (h .is .narrow) (h .is .are));
+            room = omega (arith, ec, parts-room table index (f .p) (h .is .code) (f .top) (L .tasks) (h .is .room) (codeMet table (f .p) (L .value) (f .way)));
             low = low-enough (ad .how);
             binding = L .binding;
             stands = subst (λ (ws : List ℕ). Stands s ws (L .binding)) (sym words-again) (h .is .stands);

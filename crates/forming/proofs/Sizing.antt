@@ -1,25 +1,25 @@
 -- What patterns take, how many the halves of a way have, and ways without a match.
 use mathlib.Core.Path.{_≡_, refl, sym, ap, subst, _∙_}
 use mathlib.Core.Bool.{Bool, true, false, _||_}
-use mathlib.Core.Logic.{inl, inr}
+use mathlib.Core.Logic.{_⊎_, inl, inr}
 use mathlib.Core.List.{List, [], _∷_}
-use Prim.Native.Nat.{ℕ, zero, suc, _+_, _-_, _*_, _/_, _^_, _≤_, _<_}
+use Prim.Native.Nat.{ℕ, zero, suc, _+_, _-_, _*_, _/_, _%_, _^_, _≤_, _<_}
 use native.Mathlib.Nat.{pow-suc}
 use native.Mathlib.Omega.{arith}
 use lib.Dec.{eqb}
+use lib.Count.{ones, ones-cat, ones-ones, ones-step}
 use lib.ListN.{length, take, drop, length-append, length-drop}
 use lib.Seq.{length-take-le}
-use borrow.Author.Tests.{lt-ltb, le-ltb, eq-eqb}
 use Rattle.prelude.proofs.Truth.{or-false-left, or-false-right}
 use Rattle.values.specs.Value.{Kind, set, sequence, map as mapping, tuple, Value}
 use Rattle.tables.specs.Record.{Record, named as operandsOf, operand}
 use Rattle.tables.specs.Table.{recordAt, kindAt}
 use Rattle.tables.specs.Accepted.{records}
+use Rattle.parts.proofs.Choosing.{split-left, split-right}
 use Rattle.parts.specs.Chosen.{splitAt}
 use Rattle.parts.specs.Laws.Chosen.{power-pos, splits-length, cuts-length, nth-split, nth-cut}
 use Rattle.patterns.specs.Units.{Shared}
-use Rattle.patterns.specs.Ways.{Halves, halves, toLeft, toRight, splits}
-use Rattle.patterns.specs.Binding.{together}
+use Rattle.patterns.specs.Ways.{Halves, halves, splits}
 use Rattle.patterns.specs.Pattern.{Pattern, each, halved, divisions}
 use Rattle.patterns.specs.Relation.{Divided, Matches}
 use Rattle.prelude.proofs.Absurd.{true-false}
@@ -30,9 +30,9 @@ use Rattle.matching.specs.Node.{innerOf}
 use Rattle.matching.proofs.Records.{by-record, inner-length}
 use Rattle.forming.specs.declared.sizes.Size.{Size}
 use Rattle.forming.specs.declared.sizes.Sizes.{Sizes}
-use Rattle.forming.specs.declared.sizes.Sides.{Sides}
+use Rattle.forming.specs.declared.sizes.Range.{Range}
 use Rattle.forming.specs.Reduced.{Splits}
-use Rattle.forming.specs.Sizes.{Sized, Takes, TellsSize, Sum, TellsSizes, SplitHeld, CountsAre, NotSized, NotBoth, halfAt, Barren, WayHeld, From}
+use Rattle.forming.specs.Sizes.{Sized, Takes, TellsSize, Sum, TellsSizes, Rights, FirstOf, SplitFrom, CutFrom, Divisible, halfAt, Barren, From}
 use Rattle.forming.proofs.Reducing.{items-same, is-two}
 
 -- ---- two sizes together
@@ -107,140 +107,135 @@ module _ (table index : List ℕ) (p : ℕ) (h : Readable table index p) (c : �
 pub no-sizes : (table : List ℕ) (p c : ℕ) (x y : Size) → TellsSizes table p c (record { bound = false; left = x; right = y })
 no-sizes table p c x y e = true-false (sym e)
 
--- ---- a size that a number is not
+-- ---- how many the right half has
 
-pub not-least : (z : Size) (n : ℕ) → n < z .least → NotSized z n false
-not-least z n l e s = absurd (omega (arith, s .least))
+pub no-rights : (z : Sizes) (n : ℕ) → n < z .left .least + z .right .least → Rights z n (record { least = 1; most = 0 })
+no-rights z n l = record { low = omega arith; right = λ i j e a b. absurd (omega (arith, e, a .least, b .least)) }
 
-pub yes-sized : (z : Size) (n : ℕ) → NotSized z n true
-yes-sized z n e = true-false e
+pub rights-are : (z : Sizes) (n x y : ℕ) → z .left .least + z .right .least ≤ n → ((z .left .more ≡ true) × (x ≡ z .right .least)) ⊎ ((z .left .more ≡ false) × (x ≡ n - z .left .least)) → ((z .right .more ≡ true) × (y ≡ n - z .left .least)) ⊎ ((z .right .more ≡ false) × (y ≡ z .right .least)) → Rights z n (record { least = x; most = y })
+rights-are z n x y l e f = record { low = high f; right = λ i j s a b. (from e i j s a b, to f i j s a b) }
+  where
+    high : ((z .right .more ≡ true) × (y ≡ n - z .left .least)) ⊎ ((z .right .more ≡ false) × (y ≡ z .right .least)) → y ≤ n
+    high (inl (m, q)) = omega (arith, q)
+    high (inr (m, q)) = omega (arith, q)
 
-pub not-exact : (z : Size) (n : ℕ) → z .more ≡ false → (r : Bool) → r ≡ eqb n (z .least) → NotSized z n r
-not-exact z n o r e f s = true-false (sym (eq-eqb n (z .least) (s .exact o)) ∙ sym e ∙ f)
+    from : ((z .left .more ≡ true) × (x ≡ z .right .least)) ⊎ ((z .left .more ≡ false) × (x ≡ n - z .left .least)) → (i j : ℕ) → i + j ≡ n → Sized (z .left) i → Sized (z .right) j → x ≤ j
+    from (inl (m, q)) i j s a b = omega (arith, q, b .least)
+    from (inr (m, q)) i j s a b = omega (arith, q, s, a .exact m)
 
-pub not-left : (z : Sizes) (l r : ℕ) (t : Bool) → NotSized (z .left) l t → t ≡ false → NotBoth z l r false
-not-left z l r t h e f a b = h e a
+    to : ((z .right .more ≡ true) × (y ≡ n - z .left .least)) ⊎ ((z .right .more ≡ false) × (y ≡ z .right .least)) → (i j : ℕ) → i + j ≡ n → Sized (z .left) i → Sized (z .right) j → j ≤ y
+    to (inl (m, q)) i j s a b = omega (arith, q, s, a .least)
+    to (inr (m, q)) i j s a b = omega (arith, q, b .exact m)
 
-pub not-right : (z : Sizes) (l r : ℕ) (t : Bool) → NotSized (z .right) r t → NotBoth z l r t
-not-right z l r t h e a b = h e b
+-- ---- ways that are passed over
 
--- ---- how many are on either side
+pub first-none : (f : ℕ → ℕ) (w d : ℕ) (r : Range) → FirstOf f w d r d
+first-none f w d r = record { low = omega arith; within = λ l. l; passed = λ j l m. absurd (omega arith) }
 
-one-power : (n : ℕ) → 1 ≡ 2 ^ n → n ≡ 0
-one-power zero e = refl
-one-power (suc n) e = absurd (omega (arith, power-pos n, pow-suc 2 n, e))
+pub first-more : (f : ℕ → ℕ) (w d : ℕ) (r : Range) (e : ℕ) → FirstOf f w d r e → e < w → (r .least ≤ f e → f e ≤ r .most → ⊥) → FirstOf f w d r (e + 1)
+first-more f w d r e h l n = record { low = omega (arith, h .low); within = λ k. omega arith; passed = λ j a m. go j a m (e - j) refl }
+  where
+    go : (j : ℕ) → d ≤ j → j < e + 1 → (k : ℕ) → e - j ≡ k → r .least ≤ f j → f j ≤ r .most → ⊥
+    go j a m zero k = let q : e ≡ j = omega arith in subst (λ (i : ℕ). r .least ≤ f i → f i ≤ r .most → ⊥) q n
+    go j a m (suc i) k = h .passed j a (omega arith)
 
-no-values : (vs : List Value) → length vs ≡ 0 → vs ≡ []
-no-values [] e = refl
-no-values (v ∷ vs) e = absurd (omega arith)
+-- one more has at most one bit more
+ones-next : (b n : ℕ) → n ≤ b → ones (suc n) ≤ suc (ones n)
+ones-next zero n l = let e : n ≡ 0 = omega arith in subst (λ (m : ℕ). ones (suc m) ≤ suc (ones m)) (sym e) (omega (arith, ones-step 1, ones-step 0))
+ones-next (suc b) n l = by (n % 2) refl (λ k. ones-next b (n / 2) k)
+  where
+    by : (m : ℕ) → n % 2 ≡ m → (n / 2 ≤ b → ones (suc (n / 2)) ≤ suc (ones (n / 2))) → ones (suc n) ≤ suc (ones n)
+    by zero e h =
+        let f : suc n / 2 ≡ n / 2 = omega arith in
+        omega (arith, ones-step (suc n), ones-step n, ap ones f)
+    by (suc m) e h =
+        let f : suc n / 2 ≡ suc (n / 2) = omega arith in
+        omega (arith, ones-step (suc n), ones-step n, ap ones f, h (omega arith))
 
-pub counts-one : (d w : ℕ) → w ≡ 1 → CountsAre d w (record { left = 0; right = 0 })
+ones-more : (n k : ℕ) → ones (n + k) ≤ ones n + k
+ones-more n zero = let e : n + 0 ≡ n = omega arith in omega (arith, ap ones e)
+ones-more n (suc k) = let e : n + suc k ≡ suc (n + k) = omega arith in omega (arith, ap ones e, ones-next (n + k) (n + k) (omega arith), ones-more n k)
+
+-- splits that have too few on the right
+pub first-on : (w d : ℕ) (r : Range) (e t : ℕ) → SplitFrom w d r e → e ≤ t → t ≤ w → t - e ≤ r .least - ones e → SplitFrom w d r t
+first-on w d r e t h a b k = record { low = omega (arith, h .low); within = λ l. b; passed = λ j m n. go j m n (suc j - e) refl }
+  where
+    go : (j : ℕ) → d ≤ j → j < t → (i : ℕ) → suc j - e ≡ i → r .least ≤ ones j → ones j ≤ r .most → ⊥
+    go j m n zero q = h .passed j m (omega arith)
+    go j m n (suc i) q = λ x y. let f : j ≡ e + i = omega arith in omega (arith, k, ap ones f, ones-more e i)
+
+-- in the cut j the right half has w - 1 - j
+pub cut-none : (w d : ℕ) (r : Range) (e : ℕ) → d < w → r .most < w → (e ≡ w - 1 - r .most) ⊎ ((e ≡ d) × (w - 1 - r .most ≤ d)) → w - 1 - e < r .least → CutFrom w d r w
+cut-none w d r e l m (inl q) h = record { low = omega arith; within = λ k. omega arith; passed = λ j a b x y. omega (arith, q) }
+cut-none w d r e l m (inr (q, g)) h = record { low = omega arith; within = λ k. omega arith; passed = λ j a b x y. omega (arith, q) }
+
+pub cut-first : (w d : ℕ) (r : Range) (e : ℕ) → d < w → r .most < w → ((e ≡ w - 1 - r .most) × (d < w - 1 - r .most)) ⊎ (e ≡ d) → CutFrom w d r e
+cut-first w d r e l m (inl (q, g)) = record { low = omega arith; within = λ k. omega (arith, q); passed = λ j a b x y. omega (arith, q) }
+cut-first w d r e l m (inr q) = record { low = omega arith; within = λ k. omega (arith, q); passed = λ j a b x y. absurd (omega (arith, q)) }
+
+-- ---- how many are on either side of a split
+
+-- the bits that are set are those of the members on the right
+pub split-counts : (vs : List Value) (d : ℕ) → d < 2 ^ length vs → (length (splitAt vs d .right) ≡ ones d) × (length (splitAt vs d .left) + length (splitAt vs d .right) ≡ length vs)
 unfolding splitAt
-counts-one d w e = record {
-  few-left = omega arith;
-  few-right = omega arith;
-  left = λ vs f. let g = no-values vs (one-power (length vs) (sym e ∙ f)) in rw g refl;
-  right = λ vs f. let g = no-values vs (one-power (length vs) (sym e ∙ f)) in rw g refl;
-}
-
-half-power : (w n : ℕ) → w ≡ 2 ^ suc n → w / 2 ≡ 2 ^ n
-half-power w n e = omega (arith, e, pow-suc 2 n)
-
-pub half-held : (d w : ℕ) → SplitHeld d w → (w ≡ 1 → ⊥) → (e : ℕ) → e < w / 2 → SplitHeld e (w / 2)
-half-held d w h f e l = go (h .size) (h .power)
+split-counts [] d l = let e : d ≡ 0 = omega arith in (sym (ap ones e ∙ ones-ones 0), refl)
+split-counts (x ∷ xs) d l = go (λ e k. split-counts xs e k) (suc d - 2 ^ length xs) refl
   where
-    go : (n : ℕ) → w ≡ 2 ^ n → SplitHeld e (w / 2)
-    go zero p = absurd (f p)
-    go (suc n) p = record { below = l; size = n; power = half-power w n p }
-
-pub double-half : (d w : ℕ) → SplitHeld d w → (w ≡ 1 → ⊥) → w ≡ 2 * (w / 2)
-double-half d w h f = go (h .size) (h .power)
-  where
-    go : (n : ℕ) → w ≡ 2 ^ n → w ≡ 2 * (w / 2)
-    go zero p = absurd (f p)
-    go (suc n) p = omega (arith, p, pow-suc 2 n)
-
-module _ (d w : ℕ) (h : SplitHeld d w) (f : w ≡ 1 → ⊥) where
-  first-of : (vs : List Value) → w ≡ 2 ^ length vs → (x : Value) × (xs : List Value) × (vs ≡ x ∷ xs) × (w / 2 ≡ 2 ^ length xs)
-  first-of [] e = absurd (f e)
-  first-of (x ∷ xs) e = (x, xs, refl, half-power w (length xs) e)
-
-  at-left : (x : Value) (xs : List Value) → d < 2 ^ length xs → splitAt (x ∷ xs) d ≡ toLeft x (splitAt xs d)
-  unfolding splitAt
-  at-left x xs l = rw (lt-ltb d (2 ^ length xs) l) refl
-
-  at-right : (x : Value) (xs : List Value) → 2 ^ length xs ≤ d → splitAt (x ∷ xs) d ≡ toRight x (splitAt xs (d - 2 ^ length xs))
-  unfolding splitAt
-  at-right x xs l = rw (le-ltb d (2 ^ length xs) l) refl
-
-  pub counts-left : d < w / 2 → (c : Sides) → CountsAre d (w / 2) c → CountsAre d w (record { left = c .left + 1; right = c .right })
-  counts-left l c k = record {
-    few-left = omega (arith, k .few-left);
-    few-right = omega (arith, k .few-right);
-    left = λ vs e.
-        let (x, xs, g, q) = first-of vs e in
-        let a : splitAt vs d ≡ toLeft x (splitAt xs d) = ap (λ (l : List Value). splitAt l d) g ∙ at-left x xs (omega (arith, q)) in
-        omega (arith, k .left xs q, ap (λ (s : Halves Value). length (s .left)) a);
-    right = λ vs e.
-        let (x, xs, g, q) = first-of vs e in
-        let a : splitAt vs d ≡ toLeft x (splitAt xs d) = ap (λ (l : List Value). splitAt l d) g ∙ at-left x xs (omega (arith, q)) in
-        k .right xs q ∙ sym (ap (λ (s : Halves Value). length (s .right)) a);
-  }
-
-  pub counts-right : w / 2 ≤ d → (c : Sides) → CountsAre (d - w / 2) (w / 2) c → CountsAre d w (record { left = c .left; right = c .right + 1 })
-  counts-right l c k = record {
-    few-left = omega (arith, k .few-left);
-    few-right = omega (arith, k .few-right);
-    left = λ vs e.
-        let (x, xs, g, q) = first-of vs e in
-        let a : splitAt vs d ≡ toRight x (splitAt xs (d - 2 ^ length xs)) = ap (λ (l : List Value). splitAt l d) g ∙ at-right x xs (omega (arith, q)) in
-        k .left xs q ∙ ap (λ (n : ℕ). length (splitAt xs (d - n) .left)) q ∙ sym (ap (λ (s : Halves Value). length (s .left)) a);
-    right = λ vs e.
-        let (x, xs, g, q) = first-of vs e in
-        let a : splitAt vs d ≡ toRight x (splitAt xs (d - 2 ^ length xs)) = ap (λ (l : List Value). splitAt l d) g ∙ at-right x xs (omega (arith, q)) in
-        omega (arith, k .right xs q, ap (λ (n : ℕ). length (splitAt xs (d - n) .right)) q, ap (λ (s : Halves Value). length (s .right)) a);
-  }
+    go : ((e : ℕ) → e < 2 ^ length xs → (length (splitAt xs e .right) ≡ ones e) × (length (splitAt xs e .left) + length (splitAt xs e .right) ≡ length xs)) → (k : ℕ) → suc d - 2 ^ length xs ≡ k → (length (splitAt (x ∷ xs) d .right) ≡ ones d) × (length (splitAt (x ∷ xs) d .left) + length (splitAt (x ∷ xs) d .right) ≡ suc (length xs))
+    go on zero e =
+        let k : d < 2 ^ length xs = omega arith in
+        let a = split-left x xs d k in
+        let (r, s) = on d k in
+        (ap (λ (h : Halves Value). length (h .right)) a ∙ r, ap (λ (h : Halves Value). length (h .left) + length (h .right)) a ∙ omega (arith, s))
+    go on (suc n) q =
+        let k : 2 ^ length xs ≤ d = omega arith in
+        let a = split-right x xs d k in
+        let e = d - 2 ^ length xs in
+        let b : e < 2 ^ length xs = omega (arith, pow-suc 2 (length xs), l) in
+        let c : d ≡ 1 * 2 ^ length xs + e = omega arith in
+        let (r, s) = on e b in
+        let o = ones-cat (length xs) 1 e b in
+        let one = ones-ones 1 in
+        (ap (λ (h : Halves Value). length (h .right)) a ∙ omega (arith, r, o, ap ones c, one), ap (λ (h : Halves Value). length (h .left) + length (h .right)) a ∙ omega (arith, s))
 
 -- ---- ways whose halves have no such sizes
 
-module _ (c w d : ℕ) (h : WayHeld c w d) where
-  pub split-held : c ≡ 38 → SplitHeld d w
-  split-held e = record {
-    below = h .below;
-    size = length (h .divisible .values);
-    power = sym (h .divisible .ways) ∙ ap (λ (k : ℕ). length (divisions (collectionOf k) (h .divisible .values))) e ∙ splits-length (h .divisible .values);
-  }
+module _ (c w : ℕ) (h : Divisible c w) where
+  module _ (z : Sizes) (b : z .bound ≡ true) (d : ℕ) (l : d < w) (r : Range) (e : ℕ) where
+    pub from-splits : c ≡ 38 → Rights z (ones (w - 1)) r → SplitFrom w d r e → From c w d z e
+    from-splits q u k = record { low = k .low; within = k .within; barren = λ j m n. (b, λ vs f x y. no j m n vs f x y) }
+      where
+        no : (j : ℕ) → d ≤ j → j < e → Barren c w z j
+        no j m n vs f x y =
+            let p : w ≡ 2 ^ length vs = sym f ∙ ap (λ (m : ℕ). length (divisions (collectionOf m) vs)) q ∙ splits-length vs in
+            let s : halfAt c vs j ≡ splitAt vs j = ap (λ (m : ℕ). halfAt m vs j) q ∙ nth-split vs j (halves [] []) (omega (arith, k .within (omega arith), p)) in
+            let (o, t) = split-counts vs j (omega (arith, k .within (omega arith), p)) in
+            let a : ones (w - 1) ≡ length vs = ap (λ (m : ℕ). ones (m - 1)) p ∙ ones-ones (length vs) in
+            let i = u .right (length (splitAt vs j .left)) (length (splitAt vs j .right)) (t ∙ sym a) (subst (Sized (z .left)) (ap (λ (x : Halves Value). length (x .left)) s) x) (subst (Sized (z .right)) (ap (λ (x : Halves Value). length (x .right)) s) y) in
+            k .passed j m n (omega (arith, i .0, o)) (omega (arith, i .1, o))
 
-  pub barren-split : c ≡ 38 → (z : Sizes) (r : Sides) → CountsAre d w r → (t : Bool) → NotBoth z (r .left) (r .right) t → t ≡ false → Barren c w z d
-  barren-split e z r k t n f vs l a b =
-      let q : w ≡ 2 ^ length vs = sym l ∙ ap (λ (m : ℕ). length (divisions (collectionOf m) vs)) e ∙ splits-length vs in
-      let s : halfAt c vs d ≡ splitAt vs d = ap (λ (m : ℕ). halfAt m vs d) e ∙ nth-split vs d (halves [] []) (omega (arith, h .below, q)) in
-      n f (subst (Sized (z .left)) (ap (λ (x : Halves Value). length (x .left)) s ∙ sym (k .left vs q)) a) (subst (Sized (z .right)) (ap (λ (x : Halves Value). length (x .right)) s ∙ sym (k .right vs q)) b)
+    is-cut : (c ≡ 38 → ⊥) → c ≡ 40
+    is-cut f = go (h .splits)
+      where
+        go : Splits c → c ≡ 40
+        go (inl e) = absurd (f e)
+        go (inr e) = e
 
-  is-cut : (c ≡ 38 → ⊥) → c ≡ 40
-  is-cut f = go (h .divisible .splits)
-    where
-      go : Splits c → c ≡ 40
-      go (inl e) = absurd (f e)
-      go (inr e) = e
-
-  pub barren-cut : (c ≡ 38 → ⊥) → (z : Sizes) (t : Bool) → NotBoth z d (w - 1 - d) t → t ≡ false → Barren c w z d
-  barren-cut g z t n f vs l a b =
-      let e = is-cut g in
-      let q : w ≡ suc (length vs) = sym l ∙ ap (λ (m : ℕ). length (divisions (collectionOf m) vs)) e ∙ cuts-length vs in
-      let s : halfAt c vs d ≡ halves (take d vs) (drop d vs) = ap (λ (m : ℕ). halfAt m vs d) e ∙ nth-cut vs d (halves [] []) (omega (arith, h .below, q)) in
-      let x : length (take d vs) ≡ d = length-take-le d vs (omega (arith, h .below, q)) in
-      let y : length (drop d vs) ≡ w - 1 - d = length-drop d vs ∙ omega (arith, q) in
-      n f (subst (Sized (z .left)) (ap (λ (x : Halves Value). length (x .left)) s ∙ x) a) (subst (Sized (z .right)) (ap (λ (x : Halves Value). length (x .right)) s ∙ y) b)
+    pub from-cuts : (c ≡ 38 → ⊥) → Rights z (w - 1) r → CutFrom w d r e → From c w d z e
+    from-cuts g u k = record { low = k .low; within = k .within; barren = λ j m n. (b, no j m n) }
+      where
+        no : (j : ℕ) → d ≤ j → j < e → Barren c w z j
+        no j m n vs f x y =
+            let q = is-cut g in
+            let p : w ≡ suc (length vs) = sym f ∙ ap (λ (m : ℕ). length (divisions (collectionOf m) vs)) q ∙ cuts-length vs in
+            let under : e ≤ w = k .within (omega arith) in
+            let s : halfAt c vs j ≡ halves (take j vs) (drop j vs) = ap (λ (m : ℕ). halfAt m vs j) q ∙ nth-cut vs j (halves [] []) (omega (arith, p)) in
+            let o : length (take j vs) ≡ j = length-take-le j vs (omega (arith, p)) in
+            let t : length (drop j vs) ≡ w - 1 - j = length-drop j vs ∙ omega (arith, p) in
+            let i = u .right j (w - 1 - j) (omega arith) (subst (Sized (z .left)) (ap (λ (x : Halves Value). length (x .left)) s ∙ o) x) (subst (Sized (z .right)) (ap (λ (x : Halves Value). length (x .right)) s ∙ t) y) in
+            k .passed j m n (i .0) (i .1)
 
 -- ---- the first way that may have a match
 
 pub from-none : (c w d : ℕ) (z : Sizes) → From c w d z d
 from-none c w d z = record { low = omega arith; within = λ l. l; barren = λ j l m. absurd (omega arith) }
-
-pub from-more : (c w d : ℕ) (z : Sizes) (e : ℕ) → From c w d z e → e < w → z .bound ≡ true → Barren c w z e → From c w d z (e + 1)
-from-more c w d z e h l b n = record { low = omega (arith, h .low); within = λ k. omega arith; barren = λ j a m. go j a m (e - j) refl }
-  where
-    go : (j : ℕ) → d ≤ j → j < e + 1 → (k : ℕ) → e - j ≡ k → (z .bound ≡ true) × Barren c w z j
-    go j a m zero k = let q : e ≡ j = omega arith in (b, subst (Barren c w z) q n)
-    go j a m (suc i) k = h .barren j a (omega arith)

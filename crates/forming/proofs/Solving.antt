@@ -21,20 +21,22 @@ use Rattle.patterns.specs.Ways.{gather, orders, atEveryPlace}
 use Rattle.patterns.specs.Binding.{Binding}
 use Rattle.patterns.specs.Pattern.{Pattern, any, contents, arrangements, met, split}
 use Rattle.patterns.specs.Read.{patternsOf, patternOf}
-use Rattle.forming.specs.Groups.{codePattern, codeInner, CodeHeld}
-use Rattle.forming.proofs.Coding.{by-code, inner-count, code-readable, code-settled, inner-settled}
+use Rattle.forming.specs.Codes.{codePattern, codeInner, countOf, codeWays, codeMet, Composed}
+use Rattle.forming.proofs.Coding.{by-code, parts-two, code-readable, code-settled, inner-settled}
 use Rattle.patterns.specs.Nodes.{collectionOf, isHalved, bothHalves, meetings}
 use Rattle.matching.specs.declared.nodes.Meeting.{Meeting}
 use Rattle.matching.specs.Leaf.{Stands}
-use Rattle.matching.specs.Node.{Meets, waysOf, metBy}
-use Rattle.matching.proofs.Records.{kind-high, count-two, recast-meets}
+use Rattle.matching.specs.Node.{Meets}
+use Rattle.matching.proofs.Records.{kind-high, recast-meets}
 use Rattle.forming.specs.Frames.{heft}
 use Rattle.forming.specs.Inner.{inner, innerEach}
+use Rattle.forming.specs.Laws.Inner.{innerInside, inner-solid}
+use Rattle.forming.specs.Wild.{isWild}
 use Rattle.forming.specs.Onward.{Task, task, onward, zipped, oneWay}
 use Rattle.forming.specs.Laws.Onward.{onward-ways, one-way}
 use Rattle.forming.specs.Pending.{entries, Pending, AgendaIs, spaces}
 use Rattle.forming.specs.Settled.{TellsSettled}
-use Rattle.forming.proofs.Pushing.{countOf, met-long}
+use Rattle.forming.proofs.Pushing.{met-long}
 use Rattle.forming.proofs.Settling.{settled-less, several-more}
 
 -- ---- the agenda
@@ -65,9 +67,9 @@ recast-word word {c} {k} kind n s part m e d p h = subst (λ (q : Part). Meets c
 pub part-of : (s : List ℕ) (word : ℕ) (part : Part) (v : Value) → part ≡ unpacked word → PartIs s (unpacked word) v → PartHeld s part
 part-of s word part v e h = record { value = v; here = subst (λ (k : Part). PartIs s k v) (sym e) h }
 
-inner-composed : (r : Record) (ps : List Pattern) → 36 ≤ r .kind → r .kind ≤ 40 → (isHalved (r .kind) ≡ true → length ps ≡ 2) → inner (patternOf r ps) ≡ innerEach (patternsOf ps)
+inner-composed : (r : Record) (ps : List Pattern) → 36 ≤ r .kind → r .kind ≤ 40 → (isHalved (r .kind) ≡ true → length ps ≡ 2) → isWild (patternOf r ps) ≡ false → inner (patternOf r ps) ≡ innerEach (patternsOf ps)
 unfolding inner patternsOf
-inner-composed r ps low high two = cases (r .kind - 36) (omega arith) (omega arith)
+inner-composed r ps low high two h = inner-solid (patternOf r ps) h ∙ cases (r .kind - 36) (omega arith) (omega arith)
   where
     half : (ps : List Pattern) → length ps ≡ 2 → suc (suc (inner (getD ps 0 any) + inner (getD ps 1 any))) ≡ innerEach (patternsOf ps)
     half [] e = absurd (omega arith)
@@ -75,7 +77,7 @@ inner-composed r ps low high two = cases (r .kind - 36) (omega arith) (omega ari
     half (p ∷ q ∷ []) e = omega arith
     half (p ∷ q ∷ r ∷ ps) e = absurd (omega arith)
 
-    cases : (d : ℕ) → r .kind ≡ 36 + d → d ≤ 4 → inner (patternOf r ps) ≡ innerEach (patternsOf ps)
+    cases : (d : ℕ) → r .kind ≡ 36 + d → d ≤ 4 → innerInside (patternOf r ps) ≡ innerEach (patternsOf ps)
     cases zero f l = rw f
     cases (suc zero) f l = rw f
     cases (suc (suc zero)) f l = rw f (half ps (two (rw f)))
@@ -124,45 +126,46 @@ two-parts c n v two h = go (isHalved c) refl h
     go true e l = omega (arith, two e)
     go false e l = not-below n (λ k. absurd (omega (arith, few-met (collectionOf c) n (contents (collectionOf c) v) k)))
 
-module _ (table index : List ℕ) (p : ℕ) (r : CodeHeld table index p) (o : 36 ≤ kindAt (records table) (p % 256)) where
+module _ (table index : List ℕ) (p : ℕ) (r : Composed table index p) where
   abbrev P : Pattern
   P = codePattern table p
 
-  two : isHalved (kindAt (records table) (p % 256)) ≡ true → length (codeInner table p) ≡ 2
-  two e = inner-count table index p r o ∙ count-two table index (p % 256) (code-readable table index p r) o e
+  two : isHalved (kindAt (records table) (p % 256)) ≡ true → countOf table p ≡ 2
+  two e = parts-two table index p r e
 
-  pub whole : (v : Value) (ts : List Task) (b : Binding) → onward (task P v ∷ ts) b ≡ gather (waysOf table (p % 256) v) (oneWay (codeInner table p) ts b)
+  pub whole : (v : Value) (ts : List Task) (b : Binding) → onward (task P v ∷ ts) b ≡ gather (codeWays table p v) (oneWay (codeInner table p) ts b)
   whole v ts b =
-      ap (λ (q : Pattern). onward (task q v ∷ ts) b) (by-code table index p r o)
-      ∙ onward-ways (recordAt (records table) (p % 256)) (codeInner table p) o (kind-high table index (p % 256) (code-readable table index p r)) two v ts b
-      ∙ ap (λ (k : ℕ). gather (meetings (kindAt (records table) (p % 256)) k v) (oneWay (codeInner table p) ts b)) (inner-count table index p r o)
+      ap (λ (q : Pattern). onward (task q v ∷ ts) b) (by-code table index p r)
+      ∙ onward-ways (recordAt (records table) (p % 256)) (codeInner table p) (r .composed) (kind-high table index (p % 256) (code-readable table index p r)) two v ts b
 
   placed-inside : inner P ≡ innerEach (patternsOf (codeInner table p))
-  placed-inside = ap inner (by-code table index p r o) ∙ inner-composed (recordAt (records table) (p % 256)) (codeInner table p) o (kind-high table index (p % 256) (code-readable table index p r)) two
+  placed-inside =
+      ap inner (by-code table index p r)
+      ∙ inner-composed (recordAt (records table) (p % 256)) (codeInner table p) (r .composed) (kind-high table index (p % 256) (code-readable table index p r)) two (ap isWild (sym (by-code table index p r)) ∙ r .solid)
 
-  pub several-parts : (v : Value) → 2 ≤ length (waysOf table (p % 256) v) → 2 ≤ countOf table (p % 256)
-  several-parts v l = two-parts (kindAt (records table) (p % 256)) (countOf table (p % 256)) v (count-two table index (p % 256) (code-readable table index p r) o) l
+  pub several-parts : (v : Value) → 2 ≤ length (codeWays table p v) → 2 ≤ countOf table p
+  several-parts v l = two-parts (kindAt (records table) (p % 256)) (countOf table p) v two l
 
   module _ (top : ℕ) (ts : List Task) (room : top + (inner P + spaces ts) ≤ entries) where
-    pub count-room : top + countOf table (p % 256) ≤ entries
-    count-room = omega (arith, room, placed-inside, inner-least (codeInner table p), inner-count table index p r o)
+    pub count-room : top + countOf table p ≤ entries
+    count-room = omega (arith, room, placed-inside, inner-least (codeInner table p))
 
-    pub parts-room : (vs : List Value) → top + countOf table (p % 256) + spaces (zipped (codeInner table p) vs ++ ts) ≤ entries
-    parts-room vs = omega (arith, room, placed-inside, spaces-zipped (codeInner table p) vs ts, inner-count table index p r o)
+    pub parts-room : (vs : List Value) → top + countOf table p + spaces (zipped (codeInner table p) vs ++ ts) ≤ entries
+    parts-room vs = omega (arith, room, placed-inside, spaces-zipped (codeInner table p) vs ts)
 
   -- what one way gives
-  pub same-way : (v : Value) (ts : List Task) (b : Binding) (d : ℕ) → d < length (waysOf table (p % 256) v) → oneWay (codeInner table p) ts b (metBy table (p % 256) v d) ≡ onward (zipped (codeInner table p) (metBy table (p % 256) v d) ++ ts) b
-  same-way v ts b d l = one-way (codeInner table p) ts b (metBy table (p % 256) v d) (met-long table index p r o v d l ∙ sym (inner-count table index p r o))
+  pub same-way : (v : Value) (ts : List Task) (b : Binding) (d : ℕ) → d < length (codeWays table p v) → oneWay (codeInner table p) ts b (codeMet table p v d) ≡ onward (zipped (codeInner table p) (codeMet table p v d) ++ ts) b
+  same-way v ts b d l = one-way (codeInner table p) ts b (codeMet table p v d) (met-long table index p r v d l)
 
   -- of a pattern that is only a test one way with a match gives all that the others give
-  pub enough : (s words : List ℕ) (b : Binding) → Stands s words b → TellsSettled table (p % 256) words true → (v : Value) (ts : List Task) (vs : List Value) → In vs (waysOf table (p % 256) v) → (x : Binding) → In x (oneWay (codeInner table p) ts b vs)
-      → (c : Binding) → In c (gather (waysOf table (p % 256) v) (oneWay (codeInner table p) ts b)) → In c (oneWay (codeInner table p) ts b vs)
+  pub enough : (s words : List ℕ) (b : Binding) → Stands s words b → TellsSettled table (p % 256) words true → (v : Value) (ts : List Task) (vs : List Value) → In vs (codeWays table p v) → (x : Binding) → In x (oneWay (codeInner table p) ts b vs)
+      → (c : Binding) → In c (gather (codeWays table p v) (oneWay (codeInner table p) ts b)) → In c (oneWay (codeInner table p) ts b vs)
   enough s words b st t v ts vs i x j c k =
-      let (d, l, e) = in-at vs (waysOf table (p % 256) v) [] i in
+      let (d, l, e) = in-at vs (codeWays table p v) [] i in
       let way : oneWay (codeInner table p) ts b vs ≡ onward (zipped (codeInner table p) vs ++ ts) b =
       ap (oneWay (codeInner table p) ts b) e ∙ same-way v ts b d l ∙ ap (λ (us : List Value). onward (zipped (codeInner table p) us ++ ts) b) (sym e) in
       let rest = settled-less s words b st P (code-settled table index p r words true t refl) v ts c (subst (In c) (sym (whole v ts b)) k) in
       subst (In c) (sym way)
       (several-more s words b st (codeInner table p) vs ts
-      (λ n m. inner-settled table index p r o words true t refl n m)
+      (λ n m. inner-settled table index p r words true t refl n m)
       x (subst (In x) way j) c rest)

@@ -16,8 +16,8 @@ KeptBelow a b n = (j : ℕ) → j < n → getD b j 0 ≡ getD a j 0
 -- ---- frames
 
 -- A flag as a byte.
-abbrev pub bit : Bool → ℕ
-bit b = cond b 1 0
+abbrev pub flagByte : Bool → ℕ
+flagByte b = cond b 1 0
 
 -- Four bytes as a number.
 abbrev pub wordAt : List ℕ → ℕ → ℕ
@@ -48,6 +48,10 @@ slotAt a i = take 21 (drop (21 * i) a)
 
 abbrev pub frameAt : List ℕ → ℕ → Frame
 frameAt a i = frameOf (slotAt a i)
+
+-- It with another way next.
+abbrev pub onto : Frame → ℕ → Frame
+onto f e = record { p = f .p; rest = f .rest; at = f .at; next = f .next; top = f .top; way = e; ways = f .ways; mask = f .mask; once = f .once; sizes = f .sizes }
 
 pub record FrameFits (f : Frame) : Type 0 where
   pub code-small : f .p < 4294967296

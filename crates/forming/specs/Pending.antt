@@ -1,22 +1,21 @@
 -- The agenda as a list linked through an array, and what the functions that go through it ask and promise.
 use mathlib.Core.Path.{_≡_}
-use mathlib.Core.Bool.{true, false}
+use mathlib.Core.Bool.{Bool, true, false}
 use mathlib.Core.List.{List, [], _∷_, _++_}
 use Prim.Native.Nat.{ℕ, _+_, _*_, _%_, _≤_, _<_}
 use lib.ListN.{length, getD}
 use Rattle.values.specs.Value.{Value}
-use Rattle.tables.specs.Record.{named}
-use Rattle.tables.specs.Table.{recordAt, kindAt}
+use Rattle.tables.specs.Table.{kindAt}
 use Rattle.tables.specs.Accepted.{records}
 use Rattle.parts.specs.Part.{PartIs}
 use Rattle.patterns.specs.Binding.{Binding}
 use Rattle.patterns.specs.Members.{Alike}
 use Rattle.patterns.specs.Pattern.{wide}
-use Rattle.patterns.specs.Nodes.{meetings, isLarge}
-use Rattle.matching.specs.Leaf.{Stands, Grown}
-use Rattle.matching.specs.Node.{metBy}
+use Rattle.patterns.specs.Nodes.{isLarge}
+use Rattle.matching.specs.Leaf.{Stands, Went, Grown}
 use Rattle.forming.specs.Inner.{inner}
-use Rattle.forming.specs.Groups.{codePattern, codeInner, CodeHeld, RestIs}
+use Rattle.forming.specs.Wild.{isWild}
+use Rattle.forming.specs.Codes.{codePattern, codeInner, countOf, codeWays, codeMet, CodeHeld, Composed, RestIs}
 use Rattle.forming.specs.declared.taking.Left.{Left}
 use Rattle.forming.specs.Onward.{Task, onward, zipped}
 use Rattle.parts.specs.Word.{unpacked}
@@ -52,32 +51,35 @@ agendaWords = 603
 -- ---- the parts of a pattern put before the rest
 
 pub record Pushable (table index : List ℕ) (c rest : ℕ) (s : List ℕ) (word : ℕ) (d : ℕ) (a : List ℕ) (next top : ℕ) : Type 0 where
-  pub held : CodeHeld table index c
-  pub composed : 36 ≤ kindAt (records table) (c % 256)
+  pub code : Composed table index c
   pub rest-is : RestIs table index c rest
   pub short : length s ≤ 65536
   pub value : Value
   pub here : PartIs s (unpacked word) value
   pub narrow : isLarge (kindAt (records table) (c % 256)) value ≡ false
-  pub below : d < length (meetings (kindAt (records table) (c % 256)) (length (named (recordAt (records table) (c % 256)))) value)
+  pub below : d < length (codeWays table c value)
   pub low : next < top
-  pub room : top + length (named (recordAt (records table) (c % 256))) ≤ entries
+  pub room : top + countOf table c ≤ entries
   pub long : length a ≡ agendaWords
 
 pub record Pushed (table index : List ℕ) (c : ℕ) (s : List ℕ) (word : ℕ) (d : ℕ) (a : List ℕ) (next top : ℕ) (b : List ℕ) (r : ℕ) : Type 0 where
-  pub low : r < top + length (named (recordAt (records table) (c % 256)))
-  pub none : length (named (recordAt (records table) (c % 256))) ≡ 0 → r ≡ next
+  pub low : r < top + countOf table c
+  pub none : countOf table c ≡ 0 → r ≡ next
   pub kept : KeptBelow a b (3 * top)
   pub long : length b ≡ length a
   pub right : (v : Value) (ts : List Task) → PartIs s (unpacked word) v → wide (codePattern table c) v ≡ false → AgendaIs table index s a top next ts
-      → AgendaIs table index s b (top + length (named (recordAt (records table) (c % 256)))) r (zipped (codeInner table c) (metBy table (c % 256) v d) ++ ts)
+      → AgendaIs table index s b (top + countOf table c) r (zipped (codeInner table c) (codeMet table c v d) ++ ts)
 
 -- ---- leaves taken off an agenda
+
+-- A leaf and what is found: whether it agrees.
+abbrev pub CodeTold : List ℕ → ℕ → List ℕ → ℕ → List ℕ → List ℕ → Bool → Type 0
+CodeTold table c s word found after agrees = (v : Value) (b : Binding) → PartIs s (unpacked word) v → Stands s found b → Went s b (codePattern table c) v after agrees
 
 -- An entry with parts that waits, or none.
 abbrev pub WaitsAre : List ℕ → List ℕ → List ℕ → List ℕ → ℕ → ℕ → List Task → Type 0
 WaitsAre table index s a top wait [] = wait ≡ 0
-WaitsAre table index s a top wait (t ∷ []) = Pending table index s a top wait t × (36 ≤ kindAt (records table) (getD a (3 * wait) 0 % 256))
+WaitsAre table index s a top wait (t ∷ []) = Pending table index s a top wait t × (36 ≤ kindAt (records table) (getD a (3 * wait) 0 % 256)) × (isWild (codePattern table (getD a (3 * wait) 0)) ≡ false)
 WaitsAre table index s a top wait (t ∷ u ∷ ts) = ⊥
 
 -- What is left of the tasks ts, going on from b: the one that waits, and those from head on, with what is found now.

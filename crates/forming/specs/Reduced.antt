@@ -1,10 +1,10 @@
 -- Wildcards beside wildcards: what a pattern and the pattern that is left of it without them have in common.
 use mathlib.Core.Path.{_≡_}
-use mathlib.Core.Bool.{Bool, true, false}
+use mathlib.Core.Bool.{Bool, true, false, _||_}
 use mathlib.Core.List.{List}
 use mathlib.Core.Logic.{_⊎_}
 use Prim.Native.Nat.{ℕ, zero, suc, _-_, _≤_, _<_}
-use Rattle.values.specs.Value.{Kind, Value, collection}
+use Rattle.values.specs.Value.{Kind, set, Value, collection}
 use Rattle.tables.specs.Record.{operand}
 use Rattle.tables.specs.Table.{recordAt, kindAt}
 use Rattle.tables.specs.Accepted.{records}
@@ -15,11 +15,13 @@ use Rattle.patterns.specs.Relation.{Divided, Matches}
 use Rattle.patterns.specs.Nodes.{collectionOf}
 use Rattle.patterns.specs.Read.{Readable, patternAt}
 use Rattle.forming.specs.Inner.{inner}
+use Rattle.forming.specs.Wild.{isAny, isWild}
 
 -- The pattern matches every collection of the kind, and gives no name a value.
 pub record AcceptsAll (k : Kind) (p : Pattern) : Type 0 where
   pub all : (vs : List Value) → Matches p (collection k (itemsOf vs)) nothing
   pub only : (v : Value) (b : Binding) → Matches p v b → b ≡ nothing
+  pub counts : k ≡ set → (isAny p || isWild p) ≡ true
 
 -- The first list is the third with the second before it (side 0) or after it; of a set they are two disjoint parts.
 abbrev pub Beside : Kind → ℕ → List Value → List Value → List Value → Type 0
@@ -48,7 +50,7 @@ pub record SpareHeld (table index : List ℕ) (p c side : ℕ) : Type 0 where
   pub of-kind : kindAt (records table) p ≡ c
   pub low : side < 2
 
--- Record r has the same bindings as p, with no more parts.
+-- Record r has the same bindings as p, with no more parts; and where p does not only count, neither does r.
 pub record Reduced (table index : List ℕ) (p r : ℕ) : Type 0 where
   pub readable : Readable table index r
   pub composed : 36 ≤ kindAt (records table) r
@@ -56,6 +58,7 @@ pub record Reduced (table index : List ℕ) (p r : ℕ) : Type 0 where
   pub alike : (v : Value) → Alike (matches (patternAt (records table) p) v) (matches (patternAt (records table) r) v)
   pub narrow : (v : Value) → wide (patternAt (records table) p) v ≡ false → wide (patternAt (records table) r) v ≡ false
   pub fewer : inner (patternAt (records table) r) ≤ inner (patternAt (records table) p)
+  pub solid : isWild (patternAt (records table) p) ≡ false → isWild (patternAt (records table) r) ≡ false
 
 -- The half beside the one at this side is left.
 abbrev pub TellsSpare : List ℕ → List ℕ → ℕ → ℕ → Bool → Type 0

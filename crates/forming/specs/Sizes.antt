@@ -1,8 +1,9 @@
 -- How many members or items a pattern takes, and the ways that give its halves so many.
 use mathlib.Core.Path.{_≡_}
-use mathlib.Core.Bool.{Bool, true, false}
+use mathlib.Core.Bool.{true, false}
 use mathlib.Core.List.{List, []}
-use Prim.Native.Nat.{ℕ, _+_, _^_, _≤_, _<_}
+use Prim.Native.Nat.{ℕ, _+_, _-_, _≤_, _<_}
+use lib.Count.{ones}
 use lib.ListN.{length, getD}
 use Rattle.values.specs.Value.{Kind, Value, collection}
 use Rattle.tables.specs.Record.{operand}
@@ -14,10 +15,9 @@ use Rattle.patterns.specs.Pattern.{Pattern, itemsOf, divisions}
 use Rattle.patterns.specs.Relation.{Matches}
 use Rattle.patterns.specs.Nodes.{collectionOf}
 use Rattle.patterns.specs.Read.{Readable, patternAt}
-use Rattle.parts.specs.Chosen.{splitAt}
 use Rattle.forming.specs.declared.sizes.Size.{Size}
 use Rattle.forming.specs.declared.sizes.Sizes.{Sizes}
-use Rattle.forming.specs.declared.sizes.Sides.{Sides}
+use Rattle.forming.specs.declared.sizes.Range.{Range}
 use Rattle.forming.specs.Reduced.{Splits}
 
 -- A size that n is.
@@ -49,25 +49,24 @@ pub record HalvesTake (table : List ℕ) (p c : ℕ) (z : Sizes) : Type 0 where
 abbrev pub TellsSizes : List ℕ → ℕ → ℕ → Sizes → Type 0
 TellsSizes table p c z = z .bound ≡ true → HalvesTake table p c z
 
--- ---- how many the halves have in a way
+-- ---- how many the right half has in a way
 
-pub record SplitHeld (d w : ℕ) : Type 0 where
-  pub below : d < w
-  pub size : ℕ
-  pub power : w ≡ 2 ^ size
+-- Of n members or items the right half has from the least to the most of the range, where both halves have such sizes.
+pub record Rights (z : Sizes) (n : ℕ) (r : Range) : Type 0 where
+  pub low : r .most ≤ n
+  pub right : (i j : ℕ) → i + j ≡ n → Sized (z .left) i → Sized (z .right) j → (r .least ≤ j) × (j ≤ r .most)
 
-pub record CountsAre (d w : ℕ) (r : Sides) : Type 0 where
-  pub few-left : r .left < w
-  pub few-right : r .right < w
-  pub left : (vs : List Value) → w ≡ 2 ^ length vs → r .left ≡ length (splitAt vs d .left)
-  pub right : (vs : List Value) → w ≡ 2 ^ length vs → r .right ≡ length (splitAt vs d .right)
+-- Of w ways those from d up to e do not give the right half so many, where way j gives it f j.
+pub record FirstOf (f : ℕ → ℕ) (w d : ℕ) (r : Range) (e : ℕ) : Type 0 where
+  pub low : d ≤ e
+  pub within : d ≤ w → e ≤ w
+  pub passed : (j : ℕ) → d ≤ j → j < e → r .least ≤ f j → f j ≤ r .most → ⊥
 
--- Where r says no, n is no such size; the same of two.
-abbrev pub NotSized : Size → ℕ → Bool → Type 0
-NotSized z n r = r ≡ false → Sized z n → ⊥
+abbrev pub SplitFrom : ℕ → ℕ → Range → ℕ → Type 0
+SplitFrom = FirstOf ones
 
-abbrev pub NotBoth : Sizes → ℕ → ℕ → Bool → Type 0
-NotBoth z l r t = t ≡ false → Sized (z .left) l → Sized (z .right) r → ⊥
+abbrev pub CutFrom : ℕ → ℕ → Range → ℕ → Type 0
+CutFrom w = FirstOf (λ j. w - 1 - j) w
 
 -- ---- ways without a match
 
@@ -82,10 +81,6 @@ pub record Divisible (c w : ℕ) : Type 0 where
   pub splits : Splits c
   pub values : List Value
   pub ways : length (divisions (collectionOf c) values) ≡ w
-
-pub record WayHeld (c w d : ℕ) : Type 0 where
-  pub divisible : Divisible c w
-  pub below : d < w
 
 abbrev pub FromHeld : ℕ → ℕ → Sizes → Type 0
 FromHeld c w z = z .bound ≡ true → Divisible c w

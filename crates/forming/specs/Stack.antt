@@ -16,7 +16,6 @@ use Rattle.patterns.specs.Binding.{Binding, place}
 use Rattle.patterns.specs.Pattern.{wide}
 use Rattle.patterns.specs.Nodes.{isLarge}
 use Rattle.matching.specs.Leaf.{Stands, Grown}
-use Rattle.matching.specs.Node.{waysOf}
 use Rattle.forming.specs.declared.Step.{Step}
 use Rattle.forming.specs.declared.Formed.{Formed}
 use Rattle.forming.specs.declared.frames.Frame.{Frame}
@@ -27,7 +26,7 @@ use Rattle.forming.specs.Onward.{Task, task, onward, oneWay}
 use Rattle.forming.specs.Pending.{AgendaIs, spaces, entries, agendaWords}
 use Rattle.forming.specs.Rows.{RowsAre, Entered}
 use Rattle.forming.specs.Settled.{TellsSettled}
-use Rattle.forming.specs.Groups.{codePattern, codeInner, CodeHeld, RestIs, CodeHalves}
+use Rattle.forming.specs.Codes.{codePattern, codeInner, codeWays, Composed, RestIs, CodeHalves}
 
 -- What a frame stands for: a pattern with parts that meets a value, before the rest of the tasks, going on from a binding and its words; the
 -- matches of the ways that were gone into, and those of the ways that are left.
@@ -45,8 +44,7 @@ wayOf table f l vs = oneWay (codeInner table (f .p)) (l .tasks) (l .binding) vs
 
 -- Frame i stands for the level.
 pub record LevelIs (table index s a : List ℕ) (i : ℕ) (f : Frame) (l : Level) : Type 0 where
-  pub held : CodeHeld table index (f .p)
-  pub composed : 36 ≤ kindAt (records table) (f .p % 256)
+  pub code : Composed table index (f .p)
   pub rest-is : RestIs table index (f .p) (f .rest)
   pub rest-low : f .rest < 4294967296
   pub low : f .at < f .top
@@ -59,13 +57,13 @@ pub record LevelIs (table index s a : List ℕ) (i : ℕ) (f : Frame) (l : Level
   pub stands : Stands s (l .words) (l .binding)
   pub mask : f .mask ≡ maskOf (l .words)
   pub mask-low : f .mask < 65536
-  pub ways : length (waysOf table (f .p % 256) (l .value)) ≡ f .ways
+  pub ways : length (codeWays table (f .p) (l .value)) ≡ f .ways
   pub few : f .ways < 256
   pub within : f .way < f .ways
   pub settled : TellsSettled table (f .p % 256) (l .words) (f .once)
   pub sizes : f .sizes .bound ≡ true → CodeHalves table (f .p) (kindAt (records table) (f .p % 256)) (f .sizes)
-  pub due : l .due ≡ gather (drop (f .way) (waysOf table (f .p % 256) (l .value))) (wayOf table f l)
-  pub done : (o : Binding) → In o (l .done) → (vs : List Value) × In vs (waysOf table (f .p % 256) (l .value)) × In o (wayOf table f l vs) × ((c : Binding) → In c (wayOf table f l vs) → In c (l .done))
+  pub due : l .due ≡ gather (drop (f .way) (codeWays table (f .p) (l .value))) (wayOf table f l)
+  pub done : (o : Binding) → In o (l .done) → (vs : List Value) × In vs (codeWays table (f .p) (l .value)) × In o (wayOf table f l vs) × ((c : Binding) → In c (wayOf table f l vs) → In c (l .done))
 
 -- The frames are the levels, the last first, below an entry of the agenda, with words that have grown since.
 abbrev pub StackIs : List ℕ → List ℕ → List ℕ → List ℕ → List ℕ → ℕ → List ℕ → List Level → Type 0
@@ -103,7 +101,7 @@ pub record Stacked (table index s a : List ℕ) (high : ℕ) (found frames : Lis
   pub right : adding (more ++ dues levels) bindings ≡ target
 
 -- After a step: the target has over 255, or is not reached yet.
-pub record Reached (table index s a : List ℕ) (found frames rows order : List ℕ) (r : Step) (target : List Binding) : Type 0 where
+pub record AfterStep (table index s a : List ℕ) (found frames rows order : List ℕ) (r : Step) (target : List Binding) : Type 0 where
   pub long : length a ≡ agendaWords
   pub full : r .full ≡ true → (255 < length target) × (r .depth ≡ 0)
   pub going : r .full ≡ false → Stacked table index s a entries found frames (r .depth) (r .hit) rows order (r .n) [] target
@@ -111,8 +109,7 @@ pub record Reached (table index s a : List ℕ) (found frames rows order : List 
 -- ---- a frame opened for an entry with parts
 
 pub record Waiting (table index s a : List ℕ) (at next top : ℕ) (found frames : List ℕ) (depth hit : ℕ) (rows order : List ℕ) (n : ℕ) (target : List Binding) : Type 0 where
-  pub held : CodeHeld table index (getD a (3 * at) 0)
-  pub composed : 36 ≤ kindAt (records table) (getD a (3 * at) 0 % 256)
+  pub code : Composed table index (getD a (3 * at) 0)
   pub below : at < top
   pub value : Value
   pub here : PartIs s (unpacked (getD a (3 * at + 1) 0)) value
@@ -159,7 +156,7 @@ abbrev pub DownHeld : List ℕ → List ℕ → List ℕ → List ℕ → ℕ �
 DownHeld table index s a head top found frames depth hit rows order n = (target : List Binding) × Descending table index s a head top found frames depth hit rows order n target
 
 pub record WentDown (table index s a : List ℕ) (head top : ℕ) (found frames : List ℕ) (depth hit : ℕ) (rows order : List ℕ) (n : ℕ) (found′ frames′ rows′ order′ : List ℕ) (r : Step) : Type 0 where
-  pub right : (target : List Binding) → Descending table index s a head top found frames depth hit rows order n target → Reached table index s a found′ frames′ rows′ order′ r target
+  pub right : (target : List Binding) → Descending table index s a head top found frames depth hit rows order n target → AfterStep table index s a found′ frames′ rows′ order′ r target
   pub less : rank frames′ (r .depth) < rank frames depth + 256 ^ heft top head
 
 -- ---- back
@@ -170,17 +167,17 @@ pub record BackHeld (table index s a found frames : List ℕ) (depth hit : ℕ) 
   pub stacked : Stacked table index s a entries found frames depth hit rows order n [] target
 
 pub record WentBack (table index s a found frames : List ℕ) (depth hit : ℕ) (rows order : List ℕ) (n : ℕ) (a′ found′ frames′ rows′ order′ : List ℕ) (r : Step) : Type 0 where
-  pub right : (target : List Binding) → Stacked table index s a entries found frames depth hit rows order n [] target → Reached table index s a′ found′ frames′ rows′ order′ r target
+  pub right : (target : List Binding) → Stacked table index s a entries found frames depth hit rows order n [] target → AfterStep table index s a′ found′ frames′ rows′ order′ r target
   pub less : rank frames′ (r .depth) < rank frames depth
 
 -- ---- until no frame is left
 
 abbrev pub FinishHeld : List ℕ → List ℕ → List ℕ → List ℕ → List ℕ → List ℕ → Step → List ℕ → List ℕ → Type 0
-FinishHeld table index s a found frames first rows order = (target : List Binding) × Reached table index s a found frames rows order first target
+FinishHeld table index s a found frames first rows order = (target : List Binding) × AfterStep table index s a found frames rows order first target
 
 pub record Finished (table index s a found frames : List ℕ) (first : Step) (rows order a′ rows′ order′ : List ℕ) (r : Formed) : Type 0 where
   pub long : length a′ ≡ agendaWords
-  pub right : (target : List Binding) → Reached table index s a found frames rows order first target → Entered s rows′ order′ target r
+  pub right : (target : List Binding) → AfterStep table index s a found frames rows order first target → Entered s rows′ order′ target r
 
 -- ---- all matches of an agenda
 

@@ -5,7 +5,7 @@ use crate::sizes::Sizes;
 ghost use mathlib.Core.Path.{_≡_};
 ghost use Prim.Native.Nat.{_+_, _*_, _<_};
 ghost use lib.ListN.{length};
-ghost use Rattle.forming.specs.Frames.{bit, slotAt, frameOf, frameAt, FrameFits, SlotPut, Stored, Advanced};
+ghost use Rattle.forming.specs.Frames.{flagByte, slotAt, frameOf, frameAt, onto, FrameFits, SlotPut, Stored, Advanced};
 
 // The code of the pattern, and of the right half of a group; the entry of the agenda that has the part it meets, the entry that follows, and the first that is free; the way
 // that is next, and how many there are; the names that had a value; whether the pattern is only a test; and what its halves take.
@@ -99,7 +99,7 @@ pub fn load(frames: &[u8; 2100], i: usize) -> Frame
 
 // A flag as a byte.
 fn flag(b: bool) -> u8
-    ensures { λ r. ⌜ r ≡ bit b ⌝ }
+    ensures { λ r. ⌜ r ≡ flagByte b ⌝ }
 {
     if b {
         return 1;
@@ -172,6 +172,18 @@ pub fn advance(frames: &mut [u8; 2100], i: usize, f: Frame) -> usize
     let way = f.way;
     if way < f.ways {
         store(frames, i, f);
+        return i + 1;
+    }
+    i
+}
+
+// Writes the way that is next in frame i, the last, where it is one of so many; how many frames there are.
+pub fn go_on(frames: &mut [u8; 2100], i: usize, way: usize, ways: usize) -> usize
+    requires { ⌜ (i < 100) × (length (now frames) ≡ 2100) × (ways < 256) × (ways ≡ frameAt (now frames) i .ways) ⌝ }
+    ensures { λ r. ⌜ Advanced (now (frames .entry)) i (onto (frameAt (now (frames .entry)) i) way) (now (frames .exit)) r ⌝ }
+{
+    if way < ways {
+        frames[21 * i + 7] = way as u8;
         return i + 1;
     }
     i

@@ -3,23 +3,27 @@
 mod frames;
 mod groups;
 mod heights;
+mod leaves;
 mod masks;
 mod reduced;
 mod rows;
 mod settled;
 mod sizes;
 mod taking;
+mod wild;
 
 use crate::frames::Frame;
 use matching::nodes;
 use matching::nodes::Meeting;
+use parts::Part;
 use parts::words;
 use parts::words::Env;
 use tables::Index;
+use tables::kinds;
 use tables::reading::kind;
-use tables::reading::operand_count;
 ghost use Prim.Native.Nat.{_≤_};
 ghost use Rattle.forming.specs.Rows.{EntryHeld};
+ghost use Rattle.forming.specs.Whole.{WordMet, SameValue};
 ghost use Rattle.forming.specs.Pending.{Pushable, Pushed};
 ghost use Rattle.forming.specs.Stack.{OpenHeld, Opened, MatchEntered, DownHeld, WentDown, BackHeld, WentBack, FinishHeld, Finished, Solvable, Solved};
 
@@ -56,7 +60,7 @@ fn push(
 {
     let p = c % 256;
     let k = kind(table, index, p);
-    let n = operand_count(table, index, p);
+    let n = groups::part_count(table, index, c);
     let part = words::unpack(word);
     let mut head = next;
     let mut i = n;
@@ -73,6 +77,26 @@ fn push(
         to += 1;
     }
     head
+}
+
+// The word of what a pattern of kind k meets in so many ways: of a whole set that is to be split, the word of its members.
+fn split_word(s: &[u8], k: usize, word: u32, ways: usize) -> u32
+    requires { ⌜ WordMet (now s) k word ways ⌝ }
+    ensures { λ r. ⌜ SameValue (now (s .entry)) word r ⌝ }
+{
+    if k != kinds::UNION_PATTERN {
+        return word;
+    }
+    let p = words::unpack(word);
+    if p.how != Part::WHOLE {
+        return word;
+    }
+    let members = Part {
+        at: p.at,
+        extent: (ways - 1) as u16,
+        how: Part::MEMBERS,
+    };
+    words::pack(s, members)
 }
 
 // Opens a frame for the entry at, where some way may have a match; how many frames there are.
@@ -96,7 +120,7 @@ fn open_frame(
     let p = groups::regrouped(table, index, whole);
     let own = p % 256;
     let k = kind(table, index, own);
-    let c = operand_count(table, index, own);
+    let c = groups::part_count(table, index, p);
     let part = words::unpack(word);
     let m = nodes::meet(k, c, s, part);
     if let Meeting::Ways(ways) = m {
@@ -247,11 +271,11 @@ fn back(
     let at = f.at;
     let own = p % 256;
     let k = kind(table, index, own);
-    let c = operand_count(table, index, own);
-    let word = agenda[3 * at + 1];
-    let mut g = f;
-    g.way = sizes::way_from(k, f.ways, f.way + 1, f.sizes);
-    let left = frames::advance(frames, i, g);
+    let c = groups::part_count(table, index, p);
+    let met = agenda[3 * at + 1];
+    let word = split_word(s, k, met, f.ways);
+    let way = sizes::way_from(k, f.ways, f.way + 1, f.sizes);
+    let left = frames::go_on(frames, i, way, f.ways);
     masks::clear(found, f.mask);
     let head = push(
         table,

@@ -1,11 +1,13 @@
 // Bindings as rows of words, only appended to, and their order: a permutation of the rows.
 use crate::Formed;
 use integers::Order;
+use parts::Part;
 use parts::words;
 use parts::words::Env;
 ghost use mathlib.Core.Path.{_≡_};
 ghost use Prim.Native.Nat.{ℕ, _≤_, _<_};
 ghost use lib.ListN.{length};
+ghost use Rattle.parts.specs.Word.{WordHeld, OrderedWords};
 ghost use Rattle.patterns.specs.Binding.{Binding, orderBindings};
 ghost use Rattle.matching.specs.Leaf.{Stands, Standing};
 ghost use Rattle.forming.specs.Rows.{RowIs, RowHeld, RowPut, RowsHeld, Sought, Shifted, EntryHeld, Entry};
@@ -14,6 +16,20 @@ ghost use Rattle.forming.specs.Rows.{RowIs, RowHeld, RowPut, RowsHeld, S
 pub struct Seek {
     pub at: usize,
     pub there: bool,
+}
+
+// The order of what a binding and a row say of a name. Most of them choose members, as the words tell.
+fn order_names(s: &[u8], a: u32, b: u32) -> Order
+    requires { ⌜ WordHeld (now s) a × WordHeld (now s) b ⌝ }
+    ensures { λ r. ⌜ OrderedWords (now (s .entry)) a b r ⌝ }
+{
+    let members = Part::MEMBERS as u32;
+    if a % 4 == members {
+        if b % 4 == members {
+            return words::order_chosen(s, a, b);
+        }
+    }
+    words::order_words(s, a, b)
 }
 
 // The order of a binding and a row.
@@ -28,7 +44,7 @@ fn order_row(s: &[u8], found: &[u32; Env::NAMES], rows: &[u32; 4080], r: usize) 
         if a == b {
             x += 1;
         } else {
-            let o = words::order_words(s, a, b);
+            let o = order_names(s, a, b);
             match o {
                 Order::Lower => return Order::Lower,
                 Order::Higher => return Order::Higher,

@@ -8,10 +8,10 @@ use tables::reading::kind;
 use tables::reading::operand;
 use tables::reading::operand_count;
 ghost use mathlib.Core.Path.{_≡_};
-ghost use mathlib.Core.Bool.{false};
+ghost use Prim.Native.Nat.{_<_};
 ghost use Rattle.patterns.specs.Read.{Readable};
 ghost use Rattle.forming.specs.Reduced.{Splits};
-ghost use Rattle.forming.specs.Sizes.{TellsSize, Sum, HalvesHeld, TellsSizes, NotSized, SplitHeld, CountsAre, NotBoth, WayHeld, Barren, FromHeld, From};
+ghost use Rattle.forming.specs.Sizes.{TellsSize, Sum, HalvesHeld, TellsSizes, Rights, SplitFrom, CutFrom, FromHeld, From};
 
 // At least so many; or exactly so many, where there may not be more.
 pub struct Size {
@@ -126,70 +126,62 @@ pub fn pair(left: Size, right: Size) -> Sizes
     Sizes { bound, left, right }
 }
 
-// A size that n may be.
-fn takes(z: Size, n: usize) -> bool
-    ensures { λ r. ⌜ NotSized z n r ⌝ }
-{
-    let least = z.least as usize;
-    if n < least {
-        return false;
-    }
-    if z.more {
-        return true;
-    }
-    n == least
+// From the least to the most of them; none where the least is more.
+pub struct Range {
+    pub least: usize,
+    pub most: usize,
 }
 
-// How many are on either side.
-pub struct Sides {
-    pub left: usize,
-    pub right: usize,
+// How many of n the right half has where both halves have what they take.
+fn rights(z: Sizes, n: usize) -> Range
+    ensures { λ r. ⌜ Rights z n r ⌝ }
+{
+    let left = z.left.least as usize;
+    let right = z.right.least as usize;
+    if n < left + right {
+        return Range { least: 1, most: 0 };
+    }
+    let least = if z.left.more { right } else { n - left };
+    let most = if z.right.more { n - left } else { right };
+    Range { least, most }
 }
 
-// Of the d-th of w splits of a set.
-fn counts(d: usize, w: usize) -> Sides
-    requires { ⌜ SplitHeld d w ⌝ }
-    ensures { λ r. ⌜ CountsAre d w r ⌝ }
+// The first of w splits from d on that has so many members on the right: as many as bits of its number are set. A number that is higher by n has at
+// most n more of them, so those that cannot have enough are passed over together.
+fn split_from(w: usize, d: usize, r: Range) -> usize
+    ensures { λ e. ⌜ SplitFrom w d r e ⌝ }
 {
-    if w == 1 {
-        return Sides { left: 0, right: 0 };
+    let mut e = d;
+    while e < w {
+        let n = usize::count_ones(e) as usize;
+        if n < r.least {
+            let few = r.least - n;
+            if w - e <= few {
+                return w;
+            }
+            e += few;
+        } else {
+            if n <= r.most {
+                return e;
+            }
+            e += 1;
+        }
     }
-    let half = w / 2;
-    if d < half {
-        let c = counts(d, half);
-        return Sides {
-            left: c.left + 1,
-            right: c.right,
-        };
-    }
-    let c = counts(d - half, half);
-    Sides {
-        left: c.left,
-        right: c.right + 1,
-    }
+    e
 }
 
-// The halves of the d-th of w ways may have what they take.
-fn can(k: usize, w: usize, d: usize, z: Sizes) -> bool
-    requires { ⌜ WayHeld k w d ⌝ }
-    ensures { λ r. ⌜ (r ≡ false → Barren k w z d) ⌝ }
+// The first of w cuts from d on that has so many items on the right: the last has none, each before it one more.
+fn cut_from(w: usize, d: usize, r: Range) -> usize
+    requires { ⌜ (d < w) × (r .most < w) ⌝ }
+    ensures { λ e. ⌜ CutFrom w d r e ⌝ }
 {
-    if k == kinds::UNION_PATTERN {
-        let c = counts(d, w);
-        return both(z, c.left, c.right);
+    let last = w - 1;
+    let first = last - r.most;
+    let e = if d < first { first } else { d };
+    if last - e < r.least {
+        return w;
     }
-    both(z, d, w - 1 - d)
-}
-
-// Both sizes.
-fn both(z: Sizes, l: usize, r: usize) -> bool
-    ensures { λ t. ⌜ NotBoth z l r t ⌝ }
-{
-    let left = takes(z.left, l);
-    if !left {
-        return false;
-    }
-    takes(z.right, r)
+    e
 }
 
 // The first way from d on whose halves may have what they take.
@@ -200,13 +192,14 @@ pub fn way_from(k: usize, w: usize, d: usize, z: Sizes) -> usize
     if !z.bound {
         return d;
     }
-    let mut e = d;
-    while e < w {
-        let may = can(k, w, e, z);
-        if may {
-            return e;
-        }
-        e += 1;
+    if w <= d {
+        return d;
     }
-    e
+    if k == kinds::UNION_PATTERN {
+        let n = usize::count_ones(w - 1) as usize;
+        let r = rights(z, n);
+        return split_from(w, d, r);
+    }
+    let r = rights(z, w - 1);
+    cut_from(w, d, r)
 }

@@ -29,11 +29,11 @@ full-at (suc (suc (suc (suc (suc (suc (suc (suc k)))))))) h = absurd (omega arit
 -- ---- the halves of a split
 
 -- the d-th split of a unit and others
-split-left : (v : Value) (vs : List Value) (d : ℕ) → d < 2 ^ length vs → splitAt (v ∷ vs) d ≡ toLeft v (splitAt vs d)
+pub split-left : (v : Value) (vs : List Value) (d : ℕ) → d < 2 ^ length vs → splitAt (v ∷ vs) d ≡ toLeft v (splitAt vs d)
 unfolding splitAt
 split-left v vs d h = rw (lt-ltb d (2 ^ length vs) h)
 
-split-right : (v : Value) (vs : List Value) (d : ℕ) → 2 ^ length vs ≤ d → splitAt (v ∷ vs) d ≡ toRight v (splitAt vs (d - 2 ^ length vs))
+pub split-right : (v : Value) (vs : List Value) (d : ℕ) → 2 ^ length vs ≤ d → splitAt (v ∷ vs) d ≡ toRight v (splitAt vs (d - 2 ^ length vs))
 unfolding splitAt
 split-right v vs d h = rw (le-ltb d (2 ^ length vs) h)
 

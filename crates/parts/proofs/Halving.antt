@@ -2,9 +2,10 @@
 use mathlib.Core.Path.{_≡_, refl, sym, ap, subst, _∙_}
 use mathlib.Core.Logic.{inl, inr}
 use mathlib.Core.List.{List, [], _∷_, _++_}
-use Prim.Native.Nat.{ℕ, _+_, _-_, _^_, _≤_, _<_}
-use native.Mathlib.Nat.{pow-le-pow-right}
+use Prim.Native.Nat.{ℕ, zero, suc, _+_, _-_, _/_, _%_, _^_, _≤_, _<_}
+use native.Mathlib.Nat.{pow-suc, pow-le-pow-right}
 use native.Mathlib.Omega.{arith}
+use lib.Count.{ones, ones-step, ones-ones}
 use lib.ListN.{length, getD, take, drop, take-append-drop}
 use Rattle.values.specs.Value.{set, sequence, Value, collection, Items, more, kindOf, sizes}
 use Rattle.values.specs.Items.{join}
@@ -16,12 +17,27 @@ use Rattle.patterns.specs.Pattern.{itemsOf, leftOf, rightOf}
 use Rattle.parts.specs.declared.Part.{Part}
 use Rattle.parts.specs.declared.runs.Run.{Run}
 use Rattle.parts.specs.Chosen.{everyOne, keep, chosen, splitAt}
-use Rattle.parts.specs.Laws.Chosen.{chosen-all, keep-full, nth-split, nth-cut}
+use Rattle.parts.specs.Laws.Chosen.{chosen-all, keep-none, keep-odd, keep-even, keep-full, nth-split, nth-cut}
 use Rattle.parts.specs.Mask.{Full, Spread}
 use Rattle.parts.specs.Part.{Selects, PartIs}
 use Rattle.parts.proofs.Laws.{selects-of, part-one, part-well-formed, one-collection, end-record}
 use Rattle.parts.specs.Run.{RunIs, RunOf, SkipHeld, Skipped}
 use Rattle.parts.specs.Contract.{CollectionHeld, CountOfPart, HalvesAre, Countable, MaskOf, SplitHeld, SplitOf, CutHeld, CutOf}
+
+-- ---- `count_of_part`
+
+-- a mask chooses as many as it has bits that are set
+kept-length : (m : ℕ) (vs : List Value) → m < 2 ^ length vs → length (keep m vs) ≡ ones m
+kept-length m [] h = let e : m ≡ 0 = omega arith in ap length (keep-none {A = Value} m) ∙ sym (ap ones e ∙ ones-ones 0)
+kept-length m (v ∷ vs) h = go (kept-length (m / 2) vs (omega (arith, pow-suc 2 (length vs)))) (m % 2) refl (omega arith)
+  where
+    go : length (keep (m / 2) vs) ≡ ones (m / 2) → (b : ℕ) → m % 2 ≡ b → b < 2 → length (keep m (v ∷ vs)) ≡ ones m
+    go l zero e q = ap length (keep-even m (m / 2) v vs e refl) ∙ omega (arith, l, ones-step m)
+    go l (suc zero) e q = ap length (keep-odd m (m / 2) v vs e refl) ∙ omega (arith, l, ones-step m)
+    go l (suc (suc b)) e q = absurd (omega arith)
+
+pub members-counted : {s : List ℕ} {p : Part} → p .how ≡ 2 → CountOfPart s p (ones (p .extent))
+members-counted {s} {p} e k vs h = let x = selects-of {p = p} e h in sym (kept-length (p .extent) (x .all) (x .below)) ∙ ap length (sym (one-collection (x .is)))
 
 -- ---- `mask_of`
 

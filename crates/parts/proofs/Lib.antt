@@ -1,5 +1,5 @@
 -- Laws of parts, of their words and of masks, which matching to the evaluator cite, and what the proofs of the functions need.
-mod Choosing
+pub mod Choosing
 mod Running
 mod Comparing
 mod Parting

@@ -49,11 +49,15 @@ pub fn kind_of_part(s: &[u8], p: Part) -> usize
     values::kind_of(s, at)
 }
 
-// How many items the collection has that a part denotes.
+// How many items the collection has that a part denotes: of members as many as bits are set.
 pub fn count_of_part(s: &[u8], p: Part) -> usize
     requires { ⌜ CollectionHeld (now s) p ⌝ }
     ensures { λ r. ⌜ CountOfPart (now (s .entry)) p r ⌝ }
 {
+    if p.how == Part::MEMBERS {
+        let mask = p.extent as usize;
+        return usize::count_ones(mask) as usize;
+    }
     let r = runs::run_of(s, p);
     runs::count(s, r)
 }

@@ -2,7 +2,7 @@
 use crate::Part;
 use integers::Order;
 ghost use mathlib.Core.Path.{_≡_};
-ghost use Prim.Native.Nat.{ℕ, _≤_};
+ghost use Prim.Native.Nat.{ℕ, _%_, _≤_};
 ghost use lib.ListN.{length, replicate};
 ghost use Rattle.parts.specs.Word.{unpacked, CellHeld, Packed, WordHeld, OrderedWords};
 
@@ -74,4 +74,14 @@ pub fn order_words(s: &[u8], a: u32, b: u32) -> Order
     let p = unpack(a);
     let q = unpack(b);
     crate::order_parts(s, p, q)
+}
+
+// The same of two words that both choose members.
+pub fn order_chosen(s: &[u8], a: u32, b: u32) -> Order
+    requires { ⌜ WordHeld (now s) a × WordHeld (now s) b × (a % 4 ≡ 2) × (b % 4 ≡ 2) ⌝ }
+    ensures { λ r. ⌜ OrderedWords (now (s .entry)) a b r ⌝ }
+{
+    let p = unpack(a);
+    let q = unpack(b);
+    crate::order_members(s, p, q)
 }

@@ -5,7 +5,7 @@ use Rattle.forming.proofs.Downward.{still-going}
 use Rattle.forming.proofs.Returning.{ended}
 use Rattle.patterns.specs.Binding.{Binding}
 use Rattle.forming.specs.Frames.{rank}
-use Rattle.forming.specs.Stack.{Reached}
+use Rattle.forming.specs.Stack.{AfterStep}
 use Rattle.forming.proofs.finish.Statement.{statement}
 use Rattle.forming.proofs.finish.Tie as tie
 use Rattle.forming.proofs.finish.Reads as reads
@@ -13,7 +13,7 @@ use Rattle.forming.proofs.finish.Lts as lts
 use Rattle.forming.proofs.back.Reads as back-reads
 
 abbrev Inv-loop : tie.InvT-loop
-Inv-loop table index s agenda₀ found₀ frames₀ rows₀ order₀ r₀ agenda found frames rows order r = (target : List Binding) → Reached table index s agenda₀ found₀ frames₀ rows₀ order₀ r₀ target → Reached table index s agenda found frames rows order r target
+Inv-loop table index s agenda₀ found₀ frames₀ rows₀ order₀ r₀ agenda found frames rows order r = (target : List Binding) → AfterStep table index s agenda₀ found₀ frames₀ rows₀ order₀ r₀ target → AfterStep table index s agenda found frames rows order r target
 
 abbrev μ-loop : tie.MeasureT-loop
 μ-loop table index s agenda₀ found₀ frames₀ rows₀ order₀ r₀ agenda found frames rows order r = rank frames (r .depth)

@@ -11,7 +11,7 @@ use Rattle.matching.proofs.nodes.piece.Reads as piece-reads
 use Rattle.parts.proofs.words.pack.Reads as pack-reads
 use Rattle.parts.proofs.words.unpack.Reads as unpack-reads
 use Rattle.tables.proofs.reading.kind.Reads as kind-reads
-use Rattle.tables.proofs.reading.operand_count.Reads as operand-count-reads
+use Rattle.forming.proofs.groups.part_count.Reads as part-count-reads
 
 abbrev Inv-loop : tie.InvT-loop
 Inv-loop table index c rest s word d agenda₀ next top p k n part head₀ i₀ to₀ agenda head i to = PushSoFar table index c s word d agenda₀ next top agenda head i to
@@ -21,11 +21,11 @@ abbrev μ-loop : tie.MeasureT-loop
 
 -- src/lib.rt:49:9
 kind-requires : tie.Need-kind-requires Inv-loop μ-loop
-kind-requires c κs = code-readable _ _ _ (c .before .before .pre .held) .here
+kind-requires c κs = code-readable _ _ _ (c .before .before .pre .code) .here
 
 -- src/lib.rt:50:9
-operand-count-requires : tie.Need-operand-count-requires Inv-loop μ-loop
-operand-count-requires c κs = code-readable _ _ _ (c .before .before .before .pre .held) .here
+part-count-requires : tie.Need-part-count-requires Inv-loop μ-loop
+part-count-requires c κs = c .before .before .before .pre .code
 
 -- src/lib.rt:51:9
 unpack-requires : tie.Need-unpack-requires Inv-loop μ-loop
@@ -33,7 +33,7 @@ unpack-requires c κs = search needs
 
 -- src/lib.rt:55:5
 loop-holds : tie.Need-loop-holds Inv-loop μ-loop
-loop-holds c = push-start _ _ _ _ _ _ _ _ _ _ (c .before .before .before .before .before .pre) _ (c .before .operand-count .ensures .0)
+loop-holds c = push-start _ _ _ _ _ _ _ _ _ _ (c .before .before .before .before .before .pre) _ (c .before .part-count .ensures .0)
 
 -- src/lib.rt:56:9
 sub-i : tie.Need-sub-i Inv-loop μ-loop
@@ -41,7 +41,7 @@ sub-i c = omega arith
 
 -- src/lib.rt:57:13
 piece-requires : tie.Need-piece-requires Inv-loop μ-loop
-piece-requires c κs = piece-asked _ _ _ _ _ _ _ _ _ _ (c .before .before .before .before .before .before .before .pre) _ _ _ _ (c .before .before .unpack .ensures) (omega (arith, c .before .loop .inv .within)) (c .before .before .before .before .kind .ensures .0) (c .before .before .before .operand-count .ensures .0)
+piece-requires c κs = piece-asked _ _ _ _ _ _ _ _ _ _ (c .before .before .before .before .before .before .before .pre) _ _ _ _ (c .before .before .unpack .ensures) (omega (arith, c .before .loop .inv .within)) (c .before .before .before .before .kind .ensures .0) (c .before .before .before .part-count .ensures .0)
 
 -- src/lib.rt:58:13
 part-code-requires : tie.Need-part-code-requires Inv-loop μ-loop
@@ -49,7 +49,7 @@ part-code-requires c κs = part-asked _ _ _ _ _ _ _ _ _ _ (c .before .before .be
 
 -- src/lib.rt:59:13
 pack-requires : tie.Need-pack-requires Inv-loop μ-loop
-pack-requires c κs = (c .before .before .before .before .before .before .before .before .before .pre .short, piece-held _ _ _ _ _ _ _ _ _ _ (c .before .before .before .before .before .before .before .before .before .pre) _ _ _ (omega (arith, c .before .before .before .loop .inv .within)) (c .before .before .before .before .before .before .kind .ensures .0) (c .before .before .before .before .before .operand-count .ensures .0) _ (c .before .before .before .before .unpack .ensures) _ (c .before .piece .ensures))
+pack-requires c κs = (c .before .before .before .before .before .before .before .before .before .pre .short, piece-held _ _ _ _ _ _ _ _ _ _ (c .before .before .before .before .before .before .before .before .before .pre) _ _ _ (omega (arith, c .before .before .before .loop .inv .within)) (c .before .before .before .before .before .before .kind .ensures .0) (c .before .before .before .before .before .part-count .ensures .0) _ (c .before .before .before .before .unpack .ensures) _ (c .before .piece .ensures))
 
 -- src/lib.rt:60:26
 cast-agenda : tie.Need-cast-agenda Inv-loop μ-loop
@@ -113,7 +113,7 @@ loop-less c = omega arith
 
 -- src/lib.rt:55:5
 loop-again : tie.Need-loop-again Inv-loop μ-loop
-loop-again c = push-more _ _ _ _ _ _ _ _ _ _ (c .before .before .before .before .before .before .before .before .before .before .pre) _ _ _ (omega (arith, c .before .before .before .before .loop .inv .within)) (c .before .before .before .before .before .before .before .kind .ensures .0) (c .before .before .before .before .before .before .operand-count .ensures .0) _ (c .before .before .before .before .before .unpack .ensures) _ (c .before .before .piece .ensures) _ (c .before .part-code .ensures) _ (c .pack .ensures) _ _ _ _ (omega arith) (c .before .before .before .before .loop .inv)
+loop-again c = push-more _ _ _ _ _ _ _ _ _ _ (c .before .before .before .before .before .before .before .before .before .before .pre) _ _ _ (omega (arith, c .before .before .before .before .loop .inv .within)) (c .before .before .before .before .before .before .before .kind .ensures .0) (c .before .before .before .before .before .before .part-count .ensures .0) _ (c .before .before .before .before .before .unpack .ensures) _ (c .before .before .piece .ensures) _ (c .before .part-code .ensures) _ (c .pack .ensures) _ _ _ _ (omega arith) (c .before .before .before .before .loop .inv)
 
 -- src/lib.rt:33:1
 returns : tie.Need-returns Inv-loop μ-loop
@@ -126,7 +126,7 @@ push-spec =
     Inv-loop
     μ-loop
     kind-requires
-    operand-count-requires
+    part-count-requires
     unpack-requires
     loop-holds
     sub-i

@@ -19,7 +19,7 @@ const FEWEST: usize = 11;
 const MOST: usize = 301;
 /// The least time of one measurement, so that the clock does not matter.
 const LEAST: Duration = Duration::from_micros(100);
-/// How many of the random unions are shown.
+/// How many of the random unions are shown, and of the refused tables measured twice.
 const SLOWEST: usize = 10;
 
 /// The buffers that are lent.
@@ -298,11 +298,14 @@ fn slowest_refused() -> Vec<u8> {
         let table = accepted(seed);
         [&table[..], &[5, 0, 3, 0, 9]].concat()
     }));
-    let slowness = |table: &Vec<u8>| {
+    let mut slowness = |table: &Vec<u8>| {
         let mut check = |lent: &mut Lent| Ours::check(lent, table);
         let mut work: Work = &mut check;
         (0..9).map(|_| time(&mut work, &mut lent, 20)).min()
     };
+    // Once more for the slowest: a table may only seem slow, where the machine stood still.
+    tables.sort_by_cached_key(|table| std::cmp::Reverse(slowness(table)));
+    tables.truncate(SLOWEST);
     tables.into_iter().max_by_key(slowness).expect("a table")
 }
 

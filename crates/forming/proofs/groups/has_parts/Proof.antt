@@ -1,22 +1,41 @@
-use Rattle.forming.proofs.Coding.{parts-group, parts-record, code-record}
 use native.Mathlib.Omega.{arith}
+use Rattle.forming.proofs.Coding.{parts-group, parts-wild, parts-stripped, parts-leaf, parts-count, code-record}
 use Rattle.forming.proofs.groups.has_parts.Statement.{statement}
 use Rattle.forming.proofs.groups.has_parts.Tie as tie
 use Rattle.forming.proofs.groups.has_parts.Reads as reads
 use Rattle.forming.proofs.groups.has_parts.Lts as lts
+use Rattle.forming.proofs.wild.count_only.Reads as count-only-reads
 use Rattle.tables.proofs.reading.kind.Reads as kind-reads
 
--- src/groups.rt:276:9
+-- src/groups.rt:152:9
 returns : tie.Need-returns
 returns c = parts-group _ _ _ (c .before .before .pre) (omega arith)
 
--- src/groups.rt:278:9
-kind-requires : tie.Need-kind-requires
-kind-requires c κs = code-record _ _ _ (c .before .before .pre) (omega arith) .here
-
--- src/groups.rt:271:1
+-- src/groups.rt:155:9
 returns-2 : tie.Need-returns-2
-returns-2 c = parts-record _ _ _ (c .before .before .before .pre) (omega arith) _ (c .kind .ensures .0)
+returns-2 c = parts-wild _ _ _ (omega arith) (omega arith)
+
+-- src/groups.rt:158:9
+returns-3 : tie.Need-returns-3
+returns-3 c = parts-stripped _ _ _ (c .before .before .before .before .pre) (omega arith) (omega arith)
+
+-- src/groups.rt:160:9
+kind-requires : tie.Need-kind-requires
+kind-requires c κs = code-record _ _ _ (c .before .before .before .before .pre) (omega arith) .here
+
+-- src/groups.rt:162:9
+returns-4 : tie.Need-returns-4
+returns-4 c = parts-leaf _ _ _ (c .before .before .before .before .before .before .pre) (omega arith) (omega (arith, c .before .kind .ensures .0))
+
+-- src/groups.rt:164:9
+count-only-requires : tie.Need-count-only-requires
+count-only-requires c κs = code-record _ _ _ (c .before .before .before .before .before .before .pre) (omega arith)
+
+-- src/groups.rt:147:1
+returns-5 : tie.Need-returns-5
+returns-5 c = parts-count _ _ _ (c .before .before .before .before .before .before .before .before .pre) (omega arith) (omega (arith, c .before .before .before .kind .ensures .0)) _ (c .before .count-only .ensures)
 
 pub has-parts-spec : {M : Type 1} → statement M
-has-parts-spec = tie.close (tie.spec returns kind-requires returns-2)
+has-parts-spec =
+    tie.close
+    (tie.spec returns returns-2 returns-3 kind-requires returns-4 count-only-requires returns-5)

@@ -8,7 +8,7 @@ use Rattle.forming.proofs.rows.order_row.Statement.{statement}
 use Rattle.forming.proofs.rows.order_row.Tie as tie
 use Rattle.forming.proofs.rows.order_row.Reads as reads
 use Rattle.forming.proofs.rows.order_row.Lts as lts
-use Rattle.parts.proofs.words.order_words.Reads as order-words-reads
+use Rattle.forming.proofs.rows.order_names.Reads as order-names-reads
 
 abbrev Inv-loop : tie.InvT-loop
 Inv-loop s found rows r x₀ x = EvenRow s found rows r x
@@ -57,8 +57,8 @@ loop-again : tie.Need-loop-again Inv-loop μ-loop
 loop-again c = row-more _ _ _ _ _ (c .before .before .before .before .loop .inv) (omega arith) _ (words-same _ _ _ (c .if1 .taken)) refl
 
 -- src/rows.rt:32:17
-order-words-requires : tie.Need-order-words-requires Inv-loop μ-loop
-order-words-requires c κs = row-words _ _ _ _ _ (c .before .before .before .before .loop .inv) (c .before .before .before .before .before .before .pre .0) (c .before .before .before .before .before .before .pre .1) (omega arith)
+order-names-requires : tie.Need-order-names-requires Inv-loop μ-loop
+order-names-requires c κs = row-words _ _ _ _ _ (c .before .before .before .before .loop .inv) (c .before .before .before .before .before .before .pre .0) (c .before .before .before .before .before .before .pre .1) (omega arith)
 
 -- src/rows.rt:34:33
 enum-told : tie.Need-enum-told Inv-loop μ-loop
@@ -66,7 +66,7 @@ enum-told c = search needs
 
 -- src/rows.rt:34:33
 returns : tie.Need-returns Inv-loop μ-loop
-returns c = row-lower _ _ _ _ _ (c .before .before .before .before .before .before .before .loop .inv) (omega arith) _ (c .before .before .order-words .ensures) (c .enum-told .given .1)
+returns c = row-lower _ _ _ _ _ (c .before .before .before .before .before .before .before .loop .inv) (omega arith) _ (c .before .before .order-names .ensures) (c .enum-told .given .1)
 
 -- src/rows.rt:35:34
 enum-told-2 : tie.Need-enum-told-2 Inv-loop μ-loop
@@ -74,7 +74,7 @@ enum-told-2 c = search needs
 
 -- src/rows.rt:35:34
 returns-2 : tie.Need-returns-2 Inv-loop μ-loop
-returns-2 c = row-higher _ _ _ _ _ (c .before .before .before .before .before .before .before .loop .inv) (omega arith) _ (c .before .before .order-words .ensures) (c .enum-told2 .given .1)
+returns-2 c = row-higher _ _ _ _ _ (c .before .before .before .before .before .before .before .loop .inv) (omega arith) _ (c .before .before .order-names .ensures) (c .enum-told2 .given .1)
 
 -- src/rows.rt:37:21
 enum-told-3 : tie.Need-enum-told-3 Inv-loop μ-loop
@@ -90,7 +90,7 @@ loop-less-2 c = omega arith
 
 -- src/rows.rt:26:5
 loop-again-2 : tie.Need-loop-again-2 Inv-loop μ-loop
-loop-again-2 c = row-more _ _ _ _ _ (c .before .before .before .before .before .before .before .loop .inv) (omega arith) _ (c .before .before .order-words .ensures) (c .enum-told3 .given .1)
+loop-again-2 c = row-more _ _ _ _ _ (c .before .before .before .before .before .before .before .loop .inv) (omega arith) _ (c .before .before .order-names .ensures) (c .enum-told3 .given .1)
 
 -- src/rows.rt:21:1
 returns-3 : tie.Need-returns-3 Inv-loop μ-loop
@@ -112,7 +112,7 @@ order-row-spec =
     add-x
     loop-less
     loop-again
-    order-words-requires
+    order-names-requires
     enum-told
     returns
     enum-told-2

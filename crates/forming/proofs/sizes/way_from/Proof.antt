@@ -1,63 +1,73 @@
 use native.Mathlib.Omega.{arith}
-use Prim.Native.Nat.{_-_}
 use borrow.Author.Tests.{not-false}
-use Rattle.forming.specs.Sizes.{From}
-use Rattle.forming.proofs.Sizing.{from-none, from-more}
+use Prim.Native.Nat.{_-_}
+use lib.Count.{ones-le}
+use borrow.Author.Needs.{needs}
+use Rattle.forming.proofs.Sizing.{from-none, from-splits, from-cuts}
 use Rattle.forming.proofs.sizes.way_from.Statement.{statement}
 use Rattle.forming.proofs.sizes.way_from.Tie as tie
 use Rattle.forming.proofs.sizes.way_from.Reads as reads
 use Rattle.forming.proofs.sizes.way_from.Lts as lts
-use Rattle.forming.proofs.sizes.can.Reads as can-reads
+use Rattle.forming.proofs.sizes.cut_from.Reads as cut-from-reads
+use Rattle.forming.proofs.sizes.rights.Reads as rights-reads
+use Rattle.forming.proofs.sizes.split_from.Reads as split-from-reads
 
-abbrev Inv-loop : tie.InvT-loop
-Inv-loop k w d z e₀ e = From k w d z e
-
-abbrev μ-loop : tie.MeasureT-loop
-μ-loop k w d z e₀ e = w - e
-
--- src/sizes.rt:182:9
-returns : tie.Need-returns Inv-loop μ-loop
+-- src/sizes.rt:186:9
+returns : tie.Need-returns
 returns c = from-none (c .before .before .args .k) (c .before .before .args .w) _ (c .before .before .args .z)
 
--- src/sizes.rt:185:5
-loop-holds : tie.Need-loop-holds Inv-loop μ-loop
-loop-holds c = from-none (c .before .before .args .k) (c .before .before .args .w) _ (c .before .before .args .z)
+-- src/sizes.rt:189:9
+returns-2 : tie.Need-returns-2
+returns-2 c = from-none (c .before .before .before .args .k) (c .before .before .before .args .w) _ (c .before .before .before .args .z)
 
--- src/sizes.rt:186:13
-can-requires : tie.Need-can-requires Inv-loop μ-loop
-can-requires c κs = record { divisible = c .before .before .before .before .pre (not-false _ (c .before .before .if1 .left)); below = omega arith }
+-- src/sizes.rt:192:35
+sub-n : tie.Need-sub-n
+sub-n c = search needs
 
--- src/sizes.rt:188:13
-returns-2 : tie.Need-returns-2 Inv-loop μ-loop
-returns-2 c = c .before .before .before .loop .inv
+-- src/sizes.rt:192:17
+cast-n : tie.Need-cast-n
+cast-n c = omega (arith, ones-le 64 (c .before .before .before .before .args .w - 1) (omega arith))
 
--- src/sizes.rt:190:9
-add-e : tie.Need-add-e Inv-loop μ-loop
-add-e c = omega arith
+-- src/sizes.rt:193:13
+rights-requires : tie.Need-rights-requires
+rights-requires c κs = search needs
 
--- src/sizes.rt:185:5
-loop-less : tie.Need-loop-less Inv-loop μ-loop
-loop-less c = omega arith
+-- src/sizes.rt:194:9
+split-from-requires : tie.Need-split-from-requires
+split-from-requires c κs = search needs
 
--- src/sizes.rt:185:5
-loop-again : tie.Need-loop-again Inv-loop μ-loop
-loop-again c = from-more _ _ _ _ _ (c .before .before .before .loop .inv) (omega arith) (not-false _ (c .before .before .before .before .if1 .left)) (c .before .can .ensures (c .if2 .left))
+-- src/sizes.rt:194:9
+returns-3 : tie.Need-returns-3
+returns-3 c = from-splits (c .before .before .before .before .before .before .args .k) (c .before .before .before .before .before .before .args .w) (c .before .before .before .before .before .before .pre (not-false _ (c .before .before .before .before .if1 .left))) (c .before .before .before .before .before .before .args .z) (not-false _ (c .before .before .before .before .if1 .left)) (c .before .before .before .before .before .before .args .d) (omega arith) _ _ (omega arith) (c .before .rights .ensures) (c .split-from .ensures)
 
--- src/sizes.rt:177:1
-returns-3 : tie.Need-returns-3 Inv-loop μ-loop
-returns-3 c = c .before .loop .inv
+-- src/sizes.rt:196:23
+sub-rights : tie.Need-sub-rights
+sub-rights c = search needs
+
+-- src/sizes.rt:196:9
+rights-requires-2 : tie.Need-rights-requires-2
+rights-requires-2 c κs = search needs
+
+-- src/sizes.rt:197:5
+cut-from-requires : tie.Need-cut-from-requires
+cut-from-requires c κs = (omega arith, omega (arith, c .rights2 .ensures .low))
+
+-- src/sizes.rt:181:1
+returns-4 : tie.Need-returns-4
+returns-4 c = from-cuts (c .before .before .before .before .before .before .args .k) (c .before .before .before .before .before .before .args .w) (c .before .before .before .before .before .before .pre (not-false _ (c .before .before .before .before .if1 .left))) (c .before .before .before .before .before .before .args .z) (not-false _ (c .before .before .before .before .if1 .left)) (c .before .before .before .before .before .before .args .d) (omega arith) _ _ (c .before .before .if3 .left) (c .before .rights2 .ensures) (c .cut-from .ensures)
 
 pub way-from-spec : {M : Type 1} → statement M
 way-from-spec =
     tie.close
     (tie.spec
-    Inv-loop
-    μ-loop
     returns
-    loop-holds
-    can-requires
     returns-2
-    add-e
-    loop-less
-    loop-again
-    returns-3)
+    sub-n
+    cast-n
+    rights-requires
+    split-from-requires
+    returns-3
+    sub-rights
+    rights-requires-2
+    cut-from-requires
+    returns-4)

@@ -6,7 +6,7 @@ use Rattle.forming.proofs.taking.take_leaves.Tie as tie
 use Rattle.forming.proofs.taking.take_leaves.Reads as reads
 use Rattle.forming.proofs.taking.take_leaves.Lts as lts
 use Rattle.forming.proofs.groups.has_parts.Reads as has-parts-reads
-use Rattle.matching.proofs.leaves.match_leaf.Reads as match-leaf-reads
+use Rattle.forming.proofs.taking.take_leaf.Reads as take-leaf-reads
 
 abbrev Inv-loop : tie.InvT-loop
 Inv-loop table index s agenda head found₀ head₀ wait₀ found head' wait = TakeSoFar table index s agenda head found₀ head' wait found
@@ -87,12 +87,12 @@ element-copy-out-word : tie.Need-element-copy-out-word Inv-loop μ-loop
 element-copy-out-word c = omega (arith, head-low _ _ _ _ _ _ (c .before .before .before .before .before .before .before .before .pre) _ _ _ (c .before .before .before .before .before .loop .inv))
 
 -- src/taking.rt:45:17
-match-leaf-requires : tie.Need-match-leaf-requires Inv-loop μ-loop
-match-leaf-requires c κs = leaf-asked _ _ _ _ _ _ (c .before .before .before .before .before .before .before .before .before .before .pre) _ _ _ (c .before .before .before .before .before .before .before .loop .inv) (omega arith) _ (c .before .before .before .has-parts .ensures) (c .before .before .if1 .left)
+take-leaf-requires : tie.Need-take-leaf-requires Inv-loop μ-loop
+take-leaf-requires c κs = leaf-asked _ _ _ _ _ _ (c .before .before .before .before .before .before .before .before .before .before .pre) _ _ _ (c .before .before .before .before .before .before .before .loop .inv) (omega arith) _ (c .before .before .before .has-parts .ensures) (c .before .before .if1 .left)
 
 -- src/taking.rt:47:17
 returns-2 : tie.Need-returns-2 Inv-loop μ-loop
-returns-2 c = take-none _ _ _ _ _ _ (c .before .before .before .before .before .before .before .before .before .before .before .before .pre) _ _ _ (c .before .before .before .before .before .before .before .before .before .loop .inv) (omega arith) (c .before .before .before .before .before .has-parts .ensures .leaf (c .before .before .before .before .if1 .left) .0) _ _ (λ v b q h. c .before .match-leaf .ensures .0 v b q h) (c .before .match-leaf .ensures .1) (not-true _ (c .if3 .taken))
+returns-2 c = take-none _ _ _ _ _ _ (c .before .before .before .before .before .before .before .before .before .before .before .before .pre) _ _ _ (c .before .before .before .before .before .before .before .before .before .loop .inv) (omega arith) _ _ (λ v b q h. c .before .take-leaf .ensures .0 v b q h) (c .before .take-leaf .ensures .1) (not-true _ (c .if3 .taken))
 
 -- src/taking.rt:29:5
 loop-less-2 : tie.Need-loop-less-2 Inv-loop μ-loop
@@ -100,7 +100,7 @@ loop-less-2 c = omega (arith, next-lower _ _ _ _ _ _ (c .before .before .before 
 
 -- src/taking.rt:29:5
 loop-again-2 : tie.Need-loop-again-2 Inv-loop μ-loop
-loop-again-2 c = take-leaf _ _ _ _ _ _ (c .before .before .before .before .before .before .before .before .before .before .before .before .pre) _ _ _ (c .before .before .before .before .before .before .before .before .before .loop .inv) (omega arith) (c .before .before .before .before .before .has-parts .ensures .leaf (c .before .before .before .before .if1 .left) .0) _ _ (λ v b q h. c .before .match-leaf .ensures .0 v b q h) (c .before .match-leaf .ensures .1) (not-false _ (c .if3 .left))
+loop-again-2 c = take-leaf _ _ _ _ _ _ (c .before .before .before .before .before .before .before .before .before .before .before .before .pre) _ _ _ (c .before .before .before .before .before .before .before .before .before .loop .inv) (omega arith) _ _ (λ v b q h. c .before .take-leaf .ensures .0 v b q h) (c .before .take-leaf .ensures .1) (not-false _ (c .if3 .left))
 
 -- src/taking.rt:16:1
 returns-3 : tie.Need-returns-3 Inv-loop μ-loop
@@ -130,7 +130,7 @@ take-leaves-spec =
     add-word
     mul-word-2
     element-copy-out-word
-    match-leaf-requires
+    take-leaf-requires
     returns-2
     loop-less-2
     loop-again-2
