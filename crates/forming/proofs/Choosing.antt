@@ -10,15 +10,15 @@ use lib.Pow.{pow-mono}
 use Rattle.values.specs.Value.{set, Value, collection}
 use Rattle.values.specs.Place.{At}
 use Rattle.parts.specs.declared.Part.{Part}
-use Rattle.parts.specs.Part.{PartIs, CellIs}
+use Rattle.parts.specs.Part.{PartIs}
 use Rattle.parts.specs.Laws.Chosen.{keep-full, splits-length}
 use Rattle.parts.specs.Word.{unpacked, Packed}
 use Rattle.parts.proofs.Laws.{whole-of, part-one}
-use Rattle.patterns.specs.Binding.{is}
 use Rattle.patterns.specs.Pattern.{itemsOf, contents, split}
 use Rattle.patterns.specs.Laws.Matched.{of-contents}
 use Rattle.patterns.specs.Nodes.{bothHalves, meetings}
 use Rattle.forming.specs.Whole.{WordMet, SameValue}
+use Rattle.forming.proofs.Pushing.{packed-part}
 use Rattle.forming.proofs.Skipping.{meetings-two}
 
 module _ (s : List ℕ) (word ways : ℕ) (h : WordMet s 38 word ways) where
@@ -63,12 +63,7 @@ all-members s c word ways h e =
       few = h .few;
     })
 
--- a part that a cell with a value stands for
-value-of : (s : List ℕ) (p : Part) (v : Value) → CellIs s p (is v) → PartIs s p v
-value-of s p v (inl h) = let z : _≡_ {A = ℕ} 0 1 = cc in absurd (omega arith)
-value-of s p v (inr (w, e, h)) = let d : w ≡ v = cc in subst (PartIs s p) d h
-
 pub packed-same : (s : List ℕ) (c word ways : ℕ) (h : WordMet s c word ways) (p : Part) → PartIs s p (h .value) → (r : ℕ) → Packed s p r → SameValue s word r
 packed-same s c word ways h p g r k v i =
     let e : h .value ≡ v = part-one (h .here) i in
-    value-of s (unpacked r) v (k .is (is v) (inr (v, refl, subst (PartIs s p) e g)))
+    packed-part s p r v k (subst (PartIs s p) e g)

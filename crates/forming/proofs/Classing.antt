@@ -4,6 +4,7 @@ use mathlib.Core.Bool.{Bool, true, false, _||_, cond}
 use mathlib.Core.Logic.{inl, inr}
 use mathlib.Core.List.{List, [], _∷_, _++_}
 use Prim.Native.Nat.{ℕ, suc, _+_, _-_, _≤_, _<_}
+use native.Mathlib.Nat.{add-zero}
 use native.Mathlib.Omega.{arith}
 use lib.Dec.{eqb}
 use lib.ListN.{length, getD, length-append, List·getD-append}
@@ -180,12 +181,9 @@ module _ (table index : List ℕ) (p k : ℕ) (h : AloneHeld table index p k) wh
       record {
         some = set-counts table index p (h .readable) e x g ∙ ap (λ (t : Bool). t || isWild P) (sym no) ∙ sym (some-one P) ∙ ap (λ (ps : List Pattern). hasSome (ofClass 2 ps)) (sym one);
         more = ap (λ (t : Bool). t || false) (sym no) ∙ ap someAny (sym one);
-        wild = set-spares table index p (h .readable) e x g n en ∙ none-more (spares P) ∙ ap allSpares (sym one);
+        wild = set-spares table index p (h .readable) e x g n en ∙ sym (add-zero (spares P)) ∙ ap allSpares (sym one);
         few = omega (arith, ap length one, spare-low table index p (h .readable) e x g n en, g .few);
       }
-    where
-      none-more : (n : ℕ) → n ≡ n + 0
-      none-more n = omega arith
 
   pub tail-other : (k ≡ 37 → ⊥) → TailIs table p (record { some = eqb k 33; more = eqb k 33; wild = 0 })
   unfolding someAny allSpares

@@ -79,7 +79,7 @@ entry-put a k x y z l =
 
 -- ---- parts packed
 
-packed-part : (s : List ℕ) (p : Part) (n : ℕ) (v : Value) → Packed s p n → PartIs s p v → PartIs s (unpacked n) v
+pub packed-part : (s : List ℕ) (p : Part) (n : ℕ) (v : Value) → Packed s p n → PartIs s p v → PartIs s (unpacked n) v
 packed-part s p n v k h = go (k .is (is v) (inr (v, refl, h)))
   where
     go : CellIs s (unpacked n) (is v) → PartIs s (unpacked n) v

@@ -26,7 +26,7 @@ use Rattle.matching.specs.Node.{innerOf}
 use Rattle.matching.proofs.Records.{by-record, inner-length, kind-low, kind-high, count-few}
 use Rattle.forming.specs.declared.wild.Wild.{Wild}
 use Rattle.forming.specs.Wild.{isAny, onlyAny, isWild, wildLeast, wildMore}
-use Rattle.forming.specs.Counted.{TellsCount, tallyBy, TellsTally, Both}
+use Rattle.forming.specs.Counted.{TellsCount, tallyBy, TellsTally, TallyOfBoth}
 use Rattle.forming.proofs.Reducing.{is-two, two-halves}
 use Rattle.forming.proofs.Sparing.{any-kind, other-wild, is-set as as-set}
 
@@ -85,17 +85,17 @@ read-tally n false l m e f = true-false (sym f)
 
 -- two together, by whether each may be more
 module _ (a b : ℕ) where
-  both-by : (r : ℕ) → ((y z : Bool) (l : ℕ) (m : Bool) (k : ℕ) (o : Bool) → a ≡ tallyBy y l m → b ≡ tallyBy z k o → y ≡ true → r ≡ tallyBy z (l + k) (m || o)) → Both a b r
+  both-by : (r : ℕ) → ((y z : Bool) (l : ℕ) (m : Bool) (k : ℕ) (o : Bool) → a ≡ tallyBy y l m → b ≡ tallyBy z k o → y ≡ true → r ≡ tallyBy z (l + k) (m || o)) → TallyOfBoth a b r
   both-by r f = record { right = λ w x. f (w .yes) (x .yes) (w .least) (w .more) (x .least) (x .more) }
 
-  pub both-none : b ≡ 0 → Both a b 0
+  pub both-none : b ≡ 0 → TallyOfBoth a b 0
   both-none e = both-by 0 (λ y z l m k o. go y z l m k o)
     where
       go : (y z : Bool) (l : ℕ) (m : Bool) (k : ℕ) (o : Bool) → a ≡ tallyBy y l m → b ≡ tallyBy z k o → y ≡ true → 0 ≡ tallyBy z (l + k) (m || o)
       go y true l m k o f g h = absurd (omega arith)
       go y false l m k o f g h = refl
 
-  pub both-exact : (b ≡ 0 → ⊥) → a % 2 ≡ 1 → Both a b (a + b - 1)
+  pub both-exact : (b ≡ 0 → ⊥) → a % 2 ≡ 1 → TallyOfBoth a b (a + b - 1)
   both-exact n e = both-by (a + b - 1) (λ y z l m k o. go y z l m k o)
     where
       go : (y z : Bool) (l : ℕ) (m : Bool) (k : ℕ) (o : Bool) → a ≡ tallyBy y l m → b ≡ tallyBy z k o → y ≡ true → a + b - 1 ≡ tallyBy z (l + k) (m || o)
@@ -105,7 +105,7 @@ module _ (a b : ℕ) where
       go true false l m k o f g h = absurd (n g)
       go false z l m k o f g h = true-false (sym h)
 
-  pub both-second : b % 2 ≡ 1 → (a % 2 ≡ 1 → ⊥) → Both a b (a + b - 1)
+  pub both-second : b % 2 ≡ 1 → (a % 2 ≡ 1 → ⊥) → TallyOfBoth a b (a + b - 1)
   both-second e u = both-by (a + b - 1) (λ y z l m k o. go y z l m k o)
     where
       go : (y z : Bool) (l : ℕ) (m : Bool) (k : ℕ) (o : Bool) → a ≡ tallyBy y l m → b ≡ tallyBy z k o → y ≡ true → a + b - 1 ≡ tallyBy z (l + k) (m || o)
@@ -115,7 +115,7 @@ module _ (a b : ℕ) where
       go true false l m k o f g h = absurd (omega arith)
       go false z l m k o f g h = true-false (sym h)
 
-  pub both-more : (b ≡ 0 → ⊥) → (a % 2 ≡ 1 → ⊥) → (b % 2 ≡ 1 → ⊥) → Both a b (a + b - 2)
+  pub both-more : (b ≡ 0 → ⊥) → (a % 2 ≡ 1 → ⊥) → (b % 2 ≡ 1 → ⊥) → TallyOfBoth a b (a + b - 2)
   both-more n u v = both-by (a + b - 2) (λ y z l m k o. go y z l m k o)
     where
       go : (y z : Bool) (l : ℕ) (m : Bool) (k : ℕ) (o : Bool) → a ≡ tallyBy y l m → b ≡ tallyBy z k o → y ≡ true → a + b - 2 ≡ tallyBy z (l + k) (m || o)
@@ -266,7 +266,7 @@ module _ (table index : List ℕ) (p : ℕ) (r : Readable table index p) where
     pub tally-left : a ≡ 0 → TellsTally table p 0
     tally-left e = record { told = x .told; tells = tells-left k l el (x .told) (x .tells) (none-tallied (x .told .yes) (x .told .least) (x .told .more) (sym (x .is) ∙ e)); is = sym e ∙ x .is }
 
-    pub tally-both : (a ≡ 0 → ⊥) → (q : ℕ) → q ≡ operand (recordAt (records table) p) 1 → (b : ℕ) → TellsTally table q b → (n : ℕ) → Both a b n → TellsTally table p n
+    pub tally-both : (a ≡ 0 → ⊥) → (q : ℕ) → q ≡ operand (recordAt (records table) p) 1 → (b : ℕ) → TellsTally table q b → (n : ℕ) → TallyOfBoth a b n → TellsTally table p n
     tally-both n q eq b y m t =
         let c = some-tallied (x .told .yes) (x .told .least) (x .told .more) (λ e. n (x .is ∙ e)) in
         record {

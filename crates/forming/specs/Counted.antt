@@ -34,7 +34,7 @@ pub record TellsTally (table : List ℕ) (p n : ℕ) : Type 0 where
   pub is : n ≡ tallyOf told
 
 -- Of two halves, the first of which only counts.
-pub record Both (a b r : ℕ) : Type 0 where
+pub record TallyOfBoth (a b r : ℕ) : Type 0 where
   pub right : (w x : Wild) → a ≡ tallyOf w → b ≡ tallyOf x → w .yes ≡ true → r ≡ tallyBy (x .yes) (w .least + x .least) (w .more || x .more)
 
 -- The value is a set of so many members, or of at least so many.

@@ -9,7 +9,7 @@ ghost use Prim.Native.Nat.{_≤_, _<_};
 ghost use Rattle.tables.specs.Table.{kindAt};
 ghost use Rattle.tables.specs.Accepted.{records};
 ghost use Rattle.patterns.specs.Read.{Readable};
-ghost use Rattle.forming.specs.Counted.{Both, TellsTally, TellsCount};
+ghost use Rattle.forming.specs.Counted.{TallyOfBoth, TellsTally, TellsCount};
 
 // Whether a pattern is any or only counts; then it takes at least so many members, or exactly so many, where there may not be more.
 pub struct Wild {
@@ -40,7 +40,7 @@ fn tally_set(table: &[u8], index: &Index, p: usize) -> usize
 // Of a union, by those of its halves.
 fn both(a: usize, b: usize) -> usize
     requires { ⌜ (0 < a) × (a ≤ 68719476736) × (b ≤ 68719476736) ⌝ }
-    ensures { λ r. ⌜ Both a b r ⌝ }
+    ensures { λ r. ⌜ TallyOfBoth a b r ⌝ }
 {
     if b == 0 {
         return 0;
