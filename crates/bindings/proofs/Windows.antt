@@ -131,7 +131,7 @@ module _ (p : Pattern) (vs : List Value) (s rows order : List ℕ) (n : ℕ) (g 
     names-at : (j : ℕ) → j < n → NamesAre (rowWords rows (getD order 0 0)) (record { mask = c .names; width = c .width })
     names-at j l = o .some (omega arith) .1
 
-    pub fill-asked : (s₀ : List ℕ) (to : ℕ) → to + window ≤ length s₀ → length s₀ ≤ 65536 → FillHeld s₀ to rows order c
+    fill-asked : (s₀ : List ℕ) (to : ℕ) → to + window ≤ length s₀ → length s₀ ≤ 65536 → FillHeld s₀ to rows order c
     fill-asked s₀ to room short = record {
       room = room;
       short = short;
@@ -154,7 +154,7 @@ module _ (p : Pattern) (vs : List Value) (s rows order : List ℕ) (n : ℕ) (g 
         thin (suc d) e = omega (arith, o .some (omega arith) .1 .narrow)
 
     -- THEOREM: a window filled with the rows of the bindings holds them
-    pub windowed-of : (s₀ t : List ℕ) (to : ℕ) → s ≡ take to s₀ → (f : FillHeld s₀ to rows order c) → Filled s₀ t to rows order c → Windowed t to c (bindings p vs)
+    windowed-of : (s₀ t : List ℕ) (to : ℕ) → s ≡ take to s₀ → (f : FillHeld s₀ to rows order c) → Filled s₀ t to rows order c → Windowed t to c (bindings p vs)
     windowed-of s₀ t to e f w = record {
       count = g .count ∙ sym (o .count);
       few = f .few;

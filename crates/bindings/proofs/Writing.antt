@@ -12,8 +12,8 @@ use lib.ListN.{length, getD, take, drop, length-drop, drop-of-length-le}
 use lib.Seq.{sets, length-sets, drop-cons, take-take, drop-drop, getD-take, getD-drop, length-take-le}
 use borrow.Author.Tests.{eq-eqb, ne-eqb, eqb-true}
 use Rattle.prelude.proofs.Absurd.{impossible}
-use Rattle.integers.specs.Bytes.{pair, four, bits32, word}
-use Rattle.integers.proofs.Written.{bits32-four, bits32-drop, take-sets, drop-sets, sets-then}
+use Rattle.integers.specs.Bytes.{four, bits32, word}
+use Rattle.integers.proofs.Written.{bits32-four, bits32-drop, take-sets, drop-sets}
 use Rattle.values.specs.Value.{Value, boolean}
 use Rattle.values.specs.Place.{At, ItemsAt, Holds, HoldsItems, Outside}
 use Rattle.values.proofs.Frame.{kept}
@@ -29,9 +29,6 @@ use Rattle.bindings.specs.Filling.{rowWords, bit, maskOf, filled, WordAt
 use Rattle.bindings.proofs.Members.{first-of, none-left}
 
 -- ---- one word
-
-pub halves : (s t u : List ℕ) (at n : ℕ) → t ≡ sets s at (pair (n % 65536)) → u ≡ sets t (at + 2) (pair (n / 65536)) → u ≡ sets s at (four n)
-halves s t u at n p q = q ∙ ap (λ (l : List ℕ). sets l (at + 2) (pair (n / 65536))) p ∙ sets-then (pair (n % 65536)) (pair (n / 65536)) s at
 
 bits-stored : (s : List ℕ) (at n : ℕ) → at + 4 ≤ length s → bits32 (sets s at (four n)) at ≡ n
 bits-stored s at n l =

@@ -11,12 +11,11 @@ use lib.Seq.{getD-set-same, getD-set-other}
 use mathlib.Mathlib.Data.Bool.Basic.{and-elim-left, and-elim-right}
 use Rattle.prelude.proofs.Absurd.{never}
 use Rattle.prelude.proofs.Truth.{by-test, or-false-both, by-lower}
-use Rattle.tables.specs.Record.{Record, Head, nothing, boolean, integer, name, unary, binary, unknown, shape, headOf, isExpression, isPattern, isKnown, isFit, named, operand, roleAt}
+use Rattle.tables.specs.Record.{Record, isExpression, isPattern, isFit, named, operand, roleAt}
 use Rattle.tables.specs.Table.{recordAt, kindAt}
 use Rattle.tables.specs.Sheet.{isIn}
 use Rattle.tables.specs.Check.{isOfSort, allNamed, namedBefore, isBad, hasBad, fault6}
-use Rattle.tables.specs.Laws.Tests.{each}
-use Rattle.tables.specs.Laws.Accepted.{Clear6, fit-known, fit-kind}
+use Rattle.tables.specs.Laws.Accepted.{Clear6, fit-expression}
 use Rattle.checking.specs.Sweeps.{sortOf, leftAt, Left}
 use Rattle.checking.proofs.Marks.{in-more, in-last, bad-named}
 
@@ -90,35 +89,12 @@ left-start rs =
 
 -- ---- sorts
 
--- A record that is fit and no pattern is an expression.
-abbrev isUnknown : Head → Bool
-isUnknown nothing = false
-isUnknown boolean = false
-isUnknown integer = false
-isUnknown name = false
-isUnknown unary = false
-isUnknown binary = false
-isUnknown unknown = true
-
-known-head : (h : Head) (x : Record) → isKnown h x ≡ true → isUnknown h ≡ false
-known-head nothing x e = refl
-known-head boolean x e = refl
-known-head integer x e = refl
-known-head name x e = refl
-known-head unary x e = refl
-known-head binary x e = refl
-known-head unknown x e = never e
-
 pub sort-expression : (x : Record) → isFit x ≡ true → sortOf (x .kind) ≡ 1 → isExpression (x .kind) ≡ true
-unfolding shape
-sort-expression x fit e =
-    go (isExpression (x .kind)) (isPattern (x .kind)) (isUnknown (headOf x))
-    (each (λ k. isExpression k || isPattern k || isUnknown (shape k .head)) 41 refl (x .kind) (omega (arith, fit-kind x fit))) e (known-head (headOf x) x (fit-known x fit))
+sort-expression x fit e = fit-expression x fit (go (isPattern (x .kind)) e)
   where
-    go : (a b c : Bool) → a || b || c ≡ true → _≡_ {A = ℕ} (cond b 2 1) 1 → c ≡ false → a ≡ true
-    go true b c f g h = refl
-    go false true c f g h = absurd (omega arith)
-    go false false c f g h = never (sym h ∙ f)
+    go : (b : Bool) → _≡_ {A = ℕ} (cond b 2 1) 1 → b ≡ false
+    go true f = absurd (omega arith)
+    go false f = refl
 
 pub sort-pattern : (k : ℕ) → sortOf k ≡ 2 → isPattern k ≡ true
 sort-pattern k e = go (isPattern k) e

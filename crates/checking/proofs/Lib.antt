@@ -2,6 +2,7 @@
 mod Scan
 mod Marks
 mod Below
+mod Shapes
 mod Above
 mod Bits
 mod Faults
@@ -9,4 +10,5 @@ mod Tallness
 mod Leaving
 mod Closing
 mod Gathering
+mod Entering
 mod Verdict

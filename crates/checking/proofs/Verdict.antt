@@ -118,4 +118,4 @@ module _ (table : List ℕ) where
       some-record = omega (arith, out .count, some-cut table (ne-eqb (length table) 0 some) (sym (out .whole) ∙ whole))
 
       pub cut-indexed : c .count ≤ mostRecords → Indexed table index
-      cut-indexed h = record { few = omega (arith, out .count); place = λ r k. out .places r k (omega (arith, out .count)) }
+      cut-indexed h = record { few = omega (arith, out .count); entry = λ r k. out .entries r k (omega (arith, out .count)) }

@@ -2,10 +2,10 @@
 use mathlib.Core.Path.{_≡_}
 use mathlib.Core.Bool.{Bool, true, false, not, _&&_, _||_, cond}
 use mathlib.Core.List.{List, []}
-use Prim.Native.Nat.{ℕ, suc, _+_, _^_, _<_, _≤_}
+use Prim.Native.Nat.{ℕ, suc, _+_, _^_, _<_, _≤_, max}
 use lib.Bits.{bitAnd, bitOr, bitXor}
 use lib.Dec.{eqb, ltb}
-use lib.ListN.{length, getD, take}
+use lib.ListN.{length, getD, set, take}
 use Rattle.tables.specs.declared.Role.{Role}
 use Rattle.tables.specs.declared.Role.the-variants.{Plain, Condition, Body, Pattern, Name}
 use Rattle.tables.specs.Record.{Record, isPattern, named, operand, roleAt, nameOf}
@@ -14,9 +14,9 @@ use Rattle.tables.specs.Sheet.{lowest, isIn, height, holdsName, isCovered, isCo
 use Rattle.tables.specs.Check.{mostRecords, mostHeight, allNamed, hasBad, chooses, fault7, fault8, fault9}
 use Rattle.tables.specs.Accepted.{records}
 use Rattle.tables.specs.Laws.Accepted.{Clear6}
-use Rattle.tables.specs.Reading.{Here}
+use Rattle.tables.specs.Reading.{Indexed, Here}
 use Rattle.checking.specs.Naming.{WholeTable}
-use Rattle.checking.specs.Scopes.{hasBit, bitsBelow}
+use Rattle.checking.specs.Scopes.{hasBit, orBits, bitsBelow}
 use Rattle.checking.specs.declared.sweep.Sum.{Sum}
 use Rattle.checking.specs.declared.sweep.Handed.{Handed}
 use Rattle.checking.specs.declared.sweep.Swept.{Swept}
@@ -80,10 +80,12 @@ handedOn Body names held free = coveredBy names held free
 handedOn Pattern names held free = hands free
 handedOn Name names held free = hands free
 
--- The bits that are free at a record by itself: the name that it reads, or that it chooses.
+-- The bits that are free at a record by itself: that its kind chooses, with a pattern that holds the names; or the name that it reads.
+unfoldable pub choiceOf : ℕ → ℕ → ℕ
+choiceOf kind names = cond (eqb kind 13 || (eqb kind 12 && hasBit names 1)) 1 0
+
 unfoldable pub freeOwn : Record → ℕ → ℕ
-freeOwn x names =
-    cond (eqb (x .kind) 3) (2 ^ (nameOf x + 2)) (cond (eqb (x .kind) 13 || (eqb (x .kind) 12 && hasBit names 1)) 1 0)
+freeOwn x names = cond (eqb (x .kind) 3) (2 ^ (nameOf x + 2)) (choiceOf (x .kind) names)
 
 -- The free bits m of operand i of record q are among its own, o, or bound there; no name is bound anew, and no condition has a choice.
 pub record Passes (rs : List Record) (q i m o : ℕ) : Type 0 where
@@ -97,6 +99,36 @@ pub record Frees (rs : List Record) (frees : List ℕ) (q o : ℕ) : Type 0 wher
   pub read : kindAt rs q ≡ 3 → hasBit o (nameOf (recordAt rs q) + 2) ≡ true
   pub chosen : chooses rs q ≡ true → hasBit o 0 ≡ true
   pub pass : (i : ℕ) → i < length (named (recordAt rs q)) → Passes rs q i (getD frees (operand (recordAt rs q) i) 0) o
+
+-- ---- one more operand
+
+-- The operand n of a record; where it is left to be named, it is in the table.
+pub record AskOperand (table index : List ℕ) (n : ℕ) (left : List ℕ) : Type 0 where
+  pub indexed : Indexed table index
+  pub byte : n < 256
+  pub within : 0 < getD left n 0 → n < length (records table)
+
+-- What a record comes to without its operand n, s, and with it, t.
+pub record Added (rs : List Record) (role : Role) (n names : ℕ) (left left′ below frees highs : List ℕ) (s t : Sum) : Type 0 where
+  pub sort : getD left n 0 ≡ asked role
+  pub kind : isNamed role (kindAt rs n) ≡ true
+  pub left-is : left′ ≡ set left n 0
+  pub fine : handedOn role names (getD below n 0) (getD frees n 0) .fine ≡ true
+  pub held : t .held ≡ orBits (s .held) (getD below n 0)
+  pub free : t .free ≡ orBits (s .free) (handedOn role names (getD below n 0) (getD frees n 0) .free)
+  pub high : t .high ≡ max (s .high) (getD highs n 0)
+
+-- What a record comes to by itself, of the bits that it holds and leaves free.
+abbrev pub aloneOf : ℕ → ℕ → Sum
+aloneOf held free = record { fine = true; held = held; free = free; high = 0 }
+
+-- The role of all operands of a kind that binds nothing.
+abbrev pub oneRole : ℕ → Role
+oneRole kind = cond (isPattern kind) Pattern Plain
+
+-- The bits that pattern p of record r holds, where it is lower.
+abbrev pub namesOf : List ℕ → ℕ → ℕ → ℕ
+namesOf below r p = cond (ltb p r) (getD below p 0) 0
 
 -- ---- the pass
 
@@ -121,14 +153,9 @@ pub record AskSum (table index : List ℕ) (r : ℕ) (left below frees highs : L
 pub record Names (rs : List Record) (r names : ℕ) : Type 0 where
   pub are : Clear6 rs → isBinder (kindAt rs r) ≡ true → names ≡ bitsBelow rs (patternOf rs r)
 
-pub record AskNames (table index : List ℕ) (r : ℕ) (below : List ℕ) : Type 0 where
-  pub here : Here table index r
-  pub long : length below ≡ mostRecords
-  pub held : Clear6 (records table) → (q : ℕ) → q < r → getD below q 0 ≡ bitsBelow (records table) q
-
-pub record AskGather (table index : List ℕ) (r names : ℕ) (left below frees highs : List ℕ) : Type 0 where
+pub record AskKind (table index : List ℕ) (r kind : ℕ) (left below frees highs : List ℕ) : Type 0 where
   pub ask : AskSum table index r left below frees highs
-  pub names-are : Names (records table) r names
+  pub is : kind ≡ kindAt (records table) r
 
 -- What the operands of a record that is not at fault come to.
 pub record Sums (rs : List Record) (r : ℕ) (left frees : List ℕ) (s : Sum) : Type 0 where

@@ -85,7 +85,5 @@ pub fn check(table: &[u8], index: &mut Index) -> Checked
     if MOST_RECORDS < count {
         return Checked::Refused(5, MOST_RECORDS);
     }
-    // Nothing else can point to a copy on the stack, so the passes keep its place at hand.
-    let own = *index;
-    judge(table, &own, count)
+    judge(table, index, count)
 }

@@ -3,13 +3,16 @@ ghost use mathlib.Core.Path.{_≡_};
 ghost use mathlib.Core.Bool.{true, false};
 ghost use Prim.Native.Nat.{ℕ, _<_, _≤_, max};
 ghost use lib.ListN.{getD};
+ghost use Rattle.tables.specs.Record.{lastKind};
+ghost use Rattle.tables.specs.Shapes.{firstOf};
 ghost use Rattle.tables.specs.Table.{recordAt, kindAt};
-ghost use Rattle.tables.specs.Sheet.{lowest as lowestOf};
+ghost use Rattle.tables.specs.Sheet.{lowest as lowestOf, isBinder};
 ghost use Rattle.tables.specs.Check.{mostRecords};
 ghost use Rattle.tables.specs.Accepted.{records};
 ghost use Rattle.tables.specs.Reading.{Here};
 ghost use Rattle.checking.specs.Naming.{WholeTable};
-ghost use Rattle.checking.specs.Sweeps.{without as withoutOf, apart, sortOf, asked, isNamed, coveredBy, handedOn, freeOwn, Names, AskNames, AskSum, AskGather, Sums, Entered, AskSweep, Passed, isTall, Closed, Settled};
+ghost use Rattle.checking.specs.Scopes.{own as ownOf};
+ghost use Rattle.checking.specs.Sweeps.{without as withoutOf, apart, sortOf, asked, isNamed, coveredBy, handedOn, choiceOf, AskOperand, Added, aloneOf, oneRole, namesOf, AskSum, AskKind, Sums, Entered, AskSweep, Passed, isTall, Closed, Settled};
 use crate::height::higher;
 use crate::scope::bit;
 use crate::scope::has;
@@ -19,13 +22,16 @@ use tables::Index;
 use tables::MOST_RECORDS;
 use tables::Role;
 use tables::kinds;
+use tables::reading::AFTER_OPERATOR;
+use tables::reading::PLAIN;
 use tables::reading::field;
 use tables::reading::kind;
-use tables::reading::operand;
-use tables::reading::operand_count;
-use tables::reading::role;
+use tables::reading::operand_from;
+use tables::reading::operands_from;
+use tables::shape::first_operand;
 use tables::shape::is_binder;
 use tables::shape::is_pattern;
+use tables::shape::role_of;
 use tables::shape::wide;
 
 // For each number that a byte holds: whether such a record is left to be named, and of which sort.
@@ -144,91 +150,41 @@ fn hand_on(role: Role, names: u32, held: u32, free: u32) -> Handed
     }
 }
 
-// ---- one record
-
-// The bits that the pattern of record r holds, where it is a binder.
-fn names_of(table: &[u8], index: &Index, r: usize, below: &[u32; MOST_RECORDS]) -> u32
-    requires { ⌜ AskNames (now table) (now index) r (now below) ⌝ }
-    ensures { λ m. ⌜ Names (records (now (table .entry))) r m ⌝ }
-{
-    let binds = is_binder(kind(table, index, r));
-    if !binds {
-        return 0;
-    }
-    let p = operand(table, index, r, 0);
-    if r <= p {
-        return 0;
-    }
-    below[p]
-}
-
-// The bits that are free at record r by itself: the name that it reads, or that it chooses.
-fn own_free(table: &[u8], index: &Index, r: usize, names: u32) -> u32
-    requires { ⌜ Here (now table) (now index) r ⌝ }
-    ensures { λ m. ⌜ m ≡ freeOwn (recordAt (records (now (table .entry))) r) names ⌝ }
-{
-    let k = kind(table, index, r);
-    if k == kinds::NAME {
-        return bit(field(table, index, r, 0) + 2);
-    }
-    if k == kinds::LET_BE {
-        return CHOICE;
-    }
-    if k != kinds::LET {
-        return 0;
-    }
-    if has(names, 1) {
-        return CHOICE;
-    }
-    0
-}
-
-// What record r and its operands come to, which are not left to be named any more; not fine where a rule is broken.
-fn gather(
+// What a record comes to with one more operand, the record n, which is not left to be named any more; not fine where a rule is broken.
+fn add_operand(
     table: &[u8],
     index: &Index,
-    r: usize,
+    s: Sum,
+    role: Role,
+    n: usize,
     names: u32,
     left: &mut Left,
     below: &[u32; MOST_RECORDS],
     frees: &[u32; MOST_RECORDS],
     highs: &[u8; MOST_RECORDS],
 ) -> Sum
-    requires { ⌜ AskGather (now table) (now index) r names (now left) (now below) (now frees) (now highs) ⌝ }
-    ensures { λ s. ⌜ (s .fine ≡ true → Sums (records (now (table .entry))) r (now (left .exit)) (now (frees .entry)) s) ⌝ }
+    requires { ⌜ AskOperand (now table) (now index) n (now left) ⌝ }
+    ensures { λ t. ⌜ (t .fine ≡ true → Added (records (now (table .entry))) role n names (now (left .entry)) (now (left .exit)) (now (below .entry)) (now (frees .entry)) (now (highs .entry)) s t) ⌝ }
 {
-    let count = operand_count(table, index, r);
-    let mut held = own(table, index, r);
-    let mut free = own_free(table, index, r, names);
-    let mut high = 0;
-    let mut i = 0;
-    while i < count {
-        let x = role(table, index, r, i);
-        let n = operand(table, index, r, i);
-        if left[n] != wanted(x) {
-            return stop();
-        }
-        let named = is_named(table, index, x, n);
-        if !named {
-            return stop();
-        }
-        left[n] = 0;
-        let inner = below[n];
-        let handed = hand_on(x, names, inner, frees[n]);
-        let fine = handed.fine;
-        if !fine {
-            return stop();
-        }
-        held = union(held, inner);
-        free = union(free, handed.free);
-        high = higher(high, wide(highs[n]));
-        i += 1;
+    if left[n] != wanted(role) {
+        return stop();
+    }
+    let named = is_named(table, index, role, n);
+    if !named {
+        return stop();
+    }
+    left[n] = 0;
+    let inner = below[n];
+    let handed = hand_on(role, names, inner, frees[n]);
+    let fine = handed.fine;
+    if !fine {
+        return stop();
     }
     Sum {
         fine: true,
-        held,
-        free,
-        high,
+        held: union(s.held, inner),
+        free: union(s.free, handed.free),
+        high: higher(s.high, wide(highs[n])),
     }
 }
 
@@ -241,6 +197,189 @@ fn stop() -> Sum
         free: 0,
         high: 0,
     }
+}
+
+// ---- one record
+
+// What a record comes to before its operands: the bits that it holds and leaves free itself.
+fn alone(held: u32, free: u32) -> Sum
+    ensures { λ s. ⌜ s ≡ aloneOf held free ⌝ }
+{
+    Sum {
+        fine: true,
+        held,
+        free,
+        high: 0,
+    }
+}
+
+// The role of all operands of a kind that binds nothing.
+fn one_role(kind: usize) -> Role
+    ensures { λ x. ⌜ x ≡ oneRole kind ⌝ }
+{
+    if is_pattern(kind) {
+        return Role::Pattern;
+    }
+    Role::Plain
+}
+
+// Where the operands of a kind begin, from the operators on: for an expression, one test tells it.
+fn first_byte(kind: usize) -> usize
+    requires { ⌜ (3 < kind) × (kind ≤ lastKind) ⌝ }
+    ensures { λ n. ⌜ n ≡ firstOf kind ⌝ }
+{
+    if is_pattern(kind) {
+        return first_operand(kind);
+    }
+    if kind < kinds::IF {
+        return AFTER_OPERATOR;
+    }
+    PLAIN
+}
+
+// The bits of record r itself: an expression has none.
+fn own_of(table: &[u8], index: &Index, r: usize, kind: usize) -> u32
+    requires { ⌜ Here (now table) (now index) r × (kind ≡ kindAt (records (now table)) r) ⌝ }
+    ensures { λ m. ⌜ m ≡ ownOf (recordAt (records (now (table .entry))) r) ⌝ }
+{
+    if is_pattern(kind) {
+        return own(table, index, r);
+    }
+    0
+}
+
+// What record r and its operands come to, where it binds nothing; its operands are not left to be named any more. Not fine where a rule is broken.
+fn gather(
+    table: &[u8],
+    index: &Index,
+    r: usize,
+    kind: usize,
+    left: &mut Left,
+    below: &[u32; MOST_RECORDS],
+    frees: &[u32; MOST_RECORDS],
+    highs: &[u8; MOST_RECORDS],
+) -> Sum
+    requires { ⌜ AskKind (now table) (now index) r kind (now left) (now below) (now frees) (now highs) × (3 < kind) × (isBinder kind ≡ false) ⌝ }
+    ensures { λ s. ⌜ (s .fine ≡ true → Sums (records (now (table .entry))) r (now (left .exit)) (now (frees .entry)) s) ⌝ }
+{
+    let mut s = alone(own_of(table, index, r, kind), 0);
+    let role = one_role(kind);
+    let first = first_byte(kind);
+    let count = operands_from(table, index, r, first);
+    let mut i = 0;
+    while i < count {
+        let n = operand_from(table, index, r, first, i);
+        s = add_operand(table, index, s, role, n, 0, left, below, frees, highs);
+        let fine = s.fine;
+        if !fine {
+            return s;
+        }
+        i += 1;
+    }
+    s
+}
+
+// The bits that the pattern p of record r holds; 0 where p is not lower.
+fn names_of(below: &[u32; MOST_RECORDS], r: usize, p: usize) -> u32
+    requires { ⌜ r ≤ mostRecords ⌝ }
+    ensures { λ m. ⌜ m ≡ namesOf (now (below .entry)) r p ⌝ }
+{
+    if r <= p {
+        return 0;
+    }
+    below[p]
+}
+
+// The choice bit, where a record of the kind chooses by itself: a let-be, and a let whose pattern is loose.
+fn choice(kind: usize, names: u32) -> u32
+    ensures { λ m. ⌜ m ≡ choiceOf kind names ⌝ }
+{
+    if kind == kinds::LET_BE {
+        return CHOICE;
+    }
+    if kind != kinds::LET {
+        return 0;
+    }
+    if has(names, 1) {
+        return CHOICE;
+    }
+    0
+}
+
+// The same for a binder, whose operands differ in their roles: its pattern, its set or value, its condition (a let has none), and its bodies.
+fn bind(
+    table: &[u8],
+    index: &Index,
+    r: usize,
+    kind: usize,
+    left: &mut Left,
+    below: &[u32; MOST_RECORDS],
+    frees: &[u32; MOST_RECORDS],
+    highs: &[u8; MOST_RECORDS],
+) -> Sum
+    requires { ⌜ AskKind (now table) (now index) r kind (now left) (now below) (now frees) (now highs) × (isBinder kind ≡ true) ⌝ }
+    ensures { λ s. ⌜ (s .fine ≡ true → Sums (records (now (table .entry))) r (now (left .exit)) (now (frees .entry)) s) ⌝ }
+{
+    let p = operand_from(table, index, r, PLAIN, 0);
+    let names = names_of(below, r, p);
+    let mut s = alone(0, choice(kind, names));
+    let role = role_of(kind, 0);
+    s = add_operand(table, index, s, role, p, names, left, below, frees, highs);
+    let fine = s.fine;
+    if !fine {
+        return s;
+    }
+    let n = operand_from(table, index, r, PLAIN, 1);
+    let role = Role::Plain;
+    s = add_operand(table, index, s, role, n, names, left, below, frees, highs);
+    let fine = s.fine;
+    if !fine {
+        return s;
+    }
+    let n = operand_from(table, index, r, PLAIN, 2);
+    let role = role_of(kind, 2);
+    s = add_operand(table, index, s, role, n, names, left, below, frees, highs);
+    let fine = s.fine;
+    if !fine {
+        return s;
+    }
+    let count = operands_from(table, index, r, PLAIN);
+    let role = Role::Body;
+    let mut i = 3;
+    while i < count {
+        let n = operand_from(table, index, r, PLAIN, i);
+        s = add_operand(table, index, s, role, n, names, left, below, frees, highs);
+        let fine = s.fine;
+        if !fine {
+            return s;
+        }
+        i += 1;
+    }
+    s
+}
+
+// What record r and its operands come to. A name has no operands, and leaves itself free. (Only this calls `bind` and `gather`, so that they are
+// compiled as parts of it.)
+fn sum_of(
+    table: &[u8],
+    index: &Index,
+    r: usize,
+    kind: usize,
+    left: &mut Left,
+    below: &[u32; MOST_RECORDS],
+    frees: &[u32; MOST_RECORDS],
+    highs: &[u8; MOST_RECORDS],
+) -> Sum
+    requires { ⌜ AskKind (now table) (now index) r kind (now left) (now below) (now frees) (now highs) × (2 < kind) ⌝ }
+    ensures { λ s. ⌜ (s .fine ≡ true → Sums (records (now (table .entry))) r (now (left .exit)) (now (frees .entry)) s) ⌝ }
+{
+    if kind == kinds::NAME {
+        return alone(0, bit(field(table, index, r, 0) + 2));
+    }
+    if is_binder(kind) {
+        return bind(table, index, r, kind, left, below, frees, highs);
+    }
+    gather(table, index, r, kind, left, below, frees, highs)
 }
 
 // ---- all records
@@ -279,8 +418,7 @@ fn enter(
         highs[r] = 1;
         return true;
     }
-    let names = names_of(table, index, r, below);
-    let s = gather(table, index, r, names, left, below, frees, highs);
+    let s = sum_of(table, index, r, k, left, below, frees, highs);
     let fine = s.fine;
     if !fine {
         return false;

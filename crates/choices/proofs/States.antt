@@ -24,7 +24,7 @@ left-nil e used len h = drop-of-length-le (take len e) {i = used} (simp length-t
 
 module _ (c : Choices) (s : Invariant c) where
   -- A test of the numbers tells whether entries are left.
-  pub nothing-left : c .len ≤ c .used → view c .left ≡ []
+  nothing-left : c .len ≤ c .used → view c .left ≡ []
   nothing-left h = left-nil (c .entries) (c .used) (c .len) h
 
   left-some : c .used < c .len → view c .left ≡ getD (c .entries) (c .used) 0 ∷ drop (suc (c .used)) (take (c .len) (c .entries))

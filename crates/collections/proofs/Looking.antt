@@ -12,7 +12,7 @@ use Rattle.integers.specs.declared.Order.the-variants.{Higher}
 use Rattle.values.specs.Value.{Value, integer, Items, more, size, within, order}
 use Rattle.values.specs.Items.{inOrder}
 use Rattle.values.specs.Place.{At, Holds}
-use Rattle.values.proofs.Records.{word-size, one-value, is-integer}
+use Rattle.values.proofs.Records.{word-size, one-value, is-integer, items-to, items-none}
 use Rattle.values.specs.Contract.{Length, KindAt, Ordered}
 use Rattle.collections.specs.declared.finding.Sought.{Sought}
 use Rattle.collections.specs.declared.finding.Sought.the-variants.{Here, Before}
@@ -105,3 +105,8 @@ integer-inside h w lt g = omega (arith, walk-run w lt h .inside, integer-long g)
 -- of entries, or not
 pub among : {s : List ℕ} {at x p : ℕ} {entries : Bool} → entries ≡ false → SeeksOn s at x false p → SeeksOn s at x entries p
 among {s} {at} {x} {p} e h = subst (λ (b : Bool). SeeksOn s at x b p) (sym e) h
+
+-- Nothing stands in what is empty.
+pub seek-empty : (s : List ℕ) (at x n : ℕ) (entries : Bool) → n ≡ word s at → n ≡ 4 → Seeks s at x entries (Before (at + 4))
+unfolding seek
+seek-empty s at x n entries e f kind vs v h g = ap (λ (l : Items). seek entries true v l (at + 4)) (sym (items-none (omega arith) (items-to e h)))

@@ -108,7 +108,7 @@ pub fn insert(s: &mut [u8], at: usize, x: usize) -> Added
     requires { ⌜ Room set (now s) at x ⌝ }
     ensures { λ r. ⌜ Inserts (now (s .entry)) (now (s .exit)) at x r ⌝ }
 {
-    match crate::finding::seek(s, at, x, false) {
+    match crate::finding::seek_member(s, at, x) {
         Sought::Here(_) => Added::Done,
         Sought::Before(p) => add(s, at, p, x, Value::SET),
     }

@@ -97,6 +97,17 @@ pub fn seek(s: &[u8], at: usize, x: usize, entries: bool) -> Sought
     Sought::Before(p)
 }
 
+// The same among members alone, where there are often none yet: then nothing is read of them.
+pub fn seek_member(s: &[u8], at: usize, x: usize) -> Sought
+    requires { ⌜ HoldsCollection (now s) at × Holds (now s) x ⌝ }
+    ensures { λ r. ⌜ Seeks (now (s .entry)) at x false r ⌝ }
+{
+    if values::length_of(s, at) == Value::HEAD {
+        return Sought::Before(at + Value::HEAD);
+    }
+    seek(s, at, x, false)
+}
+
 // Whether the value at x is a member of the set at a place.
 pub fn contains(s: &[u8], at: usize, x: usize) -> bool
     requires { ⌜ HoldsKind set (now s) at × Holds (now s) x ⌝ }

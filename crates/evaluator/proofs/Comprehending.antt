@@ -57,7 +57,7 @@ pub record Collects (table index : List ℕ) (r k : ℕ) (s₀ : List ℕ) (base
 binder-of : {k : ℕ} → Comprehension k → Binder k
 binder-of h = (omega (arith, h .0), omega (arith, h .1))
 
-pub collects-start : {table index : List ℕ} {r k : ℕ} {s : List ℕ} {base : ℕ} {env : Env} {c : Choices} {n : ℕ} {cursor : Cursor} {bs : List Binding} → Ask table index r s base env c → kindAt (records table) r ≡ k → Comprehension k
+collects-start : {table index : List ℕ} {r k : ℕ} {s : List ℕ} {base : ℕ} {env : Env} {c : Choices} {n : ℕ} {cursor : Cursor} {bs : List Binding} → Ask table index r s base env c → kindAt (records table) r ≡ k → Comprehension k
     → Standing table r false s base cursor bs → BuiltAt k s base none → n ≡ cursor .count → Collects table index r k s base env c n s c cursor 0
 collects-start {s = s} {base = base} {bs = bs} a d h w b e =
     record {

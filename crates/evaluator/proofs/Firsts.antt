@@ -1,35 +1,24 @@
 -- Where the operands of a record begin: after its operator in kinds 4 and 5, after its heading from kind 6 on.
-use mathlib.Core.Path.{_≡_, refl, sym, ap, _∙_}
-use mathlib.Core.Bool.{not, _||_}
+use mathlib.Core.Path.{_≡_, _∙_}
 use mathlib.Core.Logic.{_⊎_, inl, inr}
 use Prim.Native.Nat.{ℕ, _≤_}
 use native.Mathlib.Omega.{arith}
-use lib.Dec.{eqb, leb}
-use borrow.Author.Tests.{eqb-true, le-leb}
-use Rattle.tables.specs.Record.{shape}
 use Rattle.tables.specs.Shapes.{firstOf}
-use Rattle.tables.specs.Laws.Tests.{each}
-use Rattle.prelude.proofs.Truth.{implied}
+use Rattle.tables.specs.Laws.Kinds.{plain-begins, operator-begins}
 use Rattle.evaluator.specs.Building.{Enumerated}
 use Rattle.evaluator.specs.Binding.{Binder}
 
 pub after-unary : {k : ℕ} → k ≡ 4 → 5 ≡ firstOf k
-unfolding shape
-after-unary e = sym (ap firstOf e)
+after-unary {k} e = operator-begins k (omega arith) (omega arith)
 
 pub after-binary : {k : ℕ} → k ≡ 5 → 5 ≡ firstOf k
-unfolding shape
-after-binary e = sym (ap firstOf e)
-
-pub at-once : (k : ℕ) → 6 ≤ k → k ≤ 21 → 4 ≡ firstOf k
-unfolding shape
-at-once k l m = sym (eqb-true _ _ (implied (leb 6 k) _ (each (λ k. not (leb 6 k) || eqb (firstOf k) 4) 22 refl k (omega arith)) (le-leb 6 k l)))
+after-binary {k} e = operator-begins k (omega arith) (omega arith)
 
 pub plain-first : {k n : ℕ} → k ≡ n → 6 ≤ n → n ≤ 21 → 4 ≡ firstOf k
-plain-first {k} e l m = at-once k (omega arith) (omega arith)
+plain-first {k} e l m = plain-begins k (omega arith) (omega arith)
 
 pub binder-first : {k : ℕ} → Binder k → 4 ≡ firstOf k
-binder-first {k} b = at-once k (omega (arith, b .0)) (omega (arith, b .1))
+binder-first {k} b = plain-begins k (omega (arith, b .0)) (omega (arith, b .1))
 
 pub enumerated-first : {k n : ℕ} → k ≡ n → Enumerated n → 4 ≡ firstOf k
 enumerated-first e (inl x) = plain-first (e ∙ x) (omega arith) (omega arith)

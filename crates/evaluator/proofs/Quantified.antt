@@ -50,7 +50,7 @@ pub record Settled (table : List ℕ) (r : ℕ) (s₀ : List ℕ) (base : ℕ) (
   pub kept : Kept s₀ s base
   pub right : (ρ : State) → Around s₀ base env ρ → Leads (scanIn table r ρ want bindings) c₀ (give (boolean answer)) c
 
-pub scans-start : {table index : List ℕ} {r : ℕ} {s : List ℕ} {base : ℕ} {env : Env} {want : Bool} {c : Choices} {n : ℕ} {cursor : Cursor} {bs : List Binding} → Ask table index r s base env c → Binder (kindAt (records table) r)
+scans-start : {table index : List ℕ} {r : ℕ} {s : List ℕ} {base : ℕ} {env : Env} {want : Bool} {c : Choices} {n : ℕ} {cursor : Cursor} {bs : List Binding} → Ask table index r s base env c → Binder (kindAt (records table) r)
     → Standing table r false s base cursor bs → n ≡ cursor .count → Scans table index r s base env want c n s c cursor (not want) 0
 scans-start {s = s} {base = base} {bs = bs} a b h e =
     record {

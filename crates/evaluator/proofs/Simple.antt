@@ -92,7 +92,7 @@ module _ {table index : List ℕ} {r : ℕ} {s : List ℕ} {base : ℕ} {env : E
     meant-name : (ρ : State) → meant table r ρ ≡ orElse 20 r (held (cellOf ρ x))
     meant-name ρ = mean-name (a .legal) r ρ d ∙ ap (λ (y : ℕ). orElse 20 r (held (cellOf ρ y))) (sym e)
 
-    pub name-free : unpacked (getD (env .words) x 0) .how ≡ 0 → Gives (meant table r) (At s base) s s base env c (refusedAs 20 r c)
+    name-free : unpacked (getD (env .words) x 0) .how ≡ 0 → Gives (meant table r) (At s base) s s base env c (refusedAs 20 r c)
     name-free z =
         record { kept = kept-same s base; right = λ ρ u. comes-as (meant-name ρ ∙ ap (λ (y : Cell). orElse 20 r (held y)) (free-cell ρ (here-cell ρ u))) (comes-refused 20 r (a .sound)) }
       where
@@ -104,13 +104,13 @@ module _ {table index : List ℕ} {r : ℕ} {s : List ℕ} {base : ℕ} {env : E
     bound-cell ρ z (inl h) = absurd (z (h .0))
     bound-cell ρ z (inr h) = h
 
-    pub name-held : (unpacked (getD (env .words) x 0) .how ≡ 0 → ⊥) → Puttable s (unpacked (getD (env .words) x 0)) base
+    name-held : (unpacked (getD (env .words) x 0) .how ≡ 0 → ⊥) → Puttable s (unpacked (getD (env .words) x 0)) base
     name-held z =
         let (v, q, h) = bound-cell (a .state) z (here-cell (a .state) (a .around)) in
         let (i, l) = part-longer {s = s} {p = unpacked (getD (env .words) x 0)} {v = v} base (omega (arith, room-here a)) h in
         record { value = v; here = i; below = l; room = omega (arith, room-here a) }
 
-    pub name-done : (unpacked (getD (env .words) x 0) .how ≡ 0 → ⊥) → {t : List ℕ} {n : ℕ} → PutPart s t (unpacked (getD (env .words) x 0)) base n → Gives (meant table r) (At t base) s t base env c (valueAs c)
+    name-done : (unpacked (getD (env .words) x 0) .how ≡ 0 → ⊥) → {t : List ℕ} {n : ℕ} → PutPart s t (unpacked (getD (env .words) x 0)) base n → Gives (meant table r) (At t base) s t base env c (valueAs c)
     name-done z {t} p =
         record {
           kept = kept-outside (omega arith) (p .outside);

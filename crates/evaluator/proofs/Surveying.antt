@@ -77,7 +77,7 @@ pub record Counts (table index : List ℕ) (r : ℕ) (s₀ : List ℕ) (base : �
   pub marks : Marks bindings sat due count at
   pub right : (ρ : State) → Around s₀ base env ρ → Leads (satisfying (meant table) r (operandAt table r 2) ρ bindings) c₀ (testing (meant table) r (operandAt table r 2) ρ sat (drop j bindings)) c
 
-pub counts-start : {table index : List ℕ} {r : ℕ} {s : List ℕ} {base : ℕ} {env : Env} {c : Choices} (due : ℕ) {n : ℕ} {cursor : Cursor} {bs : List Binding} → Ask table index r s base env c → Binder (kindAt (records table) r) → Quiet table r
+counts-start : {table index : List ℕ} {r : ℕ} {s : List ℕ} {base : ℕ} {env : Env} {c : Choices} (due : ℕ) {n : ℕ} {cursor : Cursor} {bs : List Binding} → Ask table index r s base env c → Binder (kindAt (records table) r) → Quiet table r
     → Standing table r false s base cursor bs → n ≡ cursor .count → Counts table index r s base env c due n s c cursor 0 0 0
 counts-start {table} {r = r} {s} {base} due {bs = bs} a b q h e =
     record {

@@ -36,7 +36,7 @@ module _ {table index : List ℕ} (L : Legal table index) {r k : ℕ} (w : r < l
       let d : size (headOf (recordAt (records table) r)) ≡ size (shape k .head) = ap (λ (m : ℕ). size (shape m .head)) e in
       omega (arith, fit-here)
 
-  pub field-here : (i : ℕ) → i < size (shape k .head) → i < length (recordAt (records table) r .fields)
+  field-here : (i : ℕ) → i < size (shape k .head) → i < length (recordAt (records table) r .fields)
   field-here i l = omega (arith, fit-here)
 
   pub known-here : isKnown (shape k .head) (recordAt (records table) r) ≡ true

@@ -48,6 +48,7 @@ use tables::reading::AFTER_OPERATOR;
 use tables::reading::PLAIN;
 use tables::reading::field;
 use tables::reading::kind;
+use tables::reading::noted_operand;
 use tables::reading::operand_from;
 use tables::reading::operands_from;
 use values::Value;
@@ -135,7 +136,7 @@ fn un(
     requires { ⌜ Ask (now table) (now index) r (now s) base (envOf (now env)) (lent (now run)) × (kindAt (records (now table)) r ≡ 4) ⌝ }
     ensures { λ o. ⌜ Evaluates (now (table .entry)) r (now (s .entry)) (now (s .exit)) base (envOf (now (env .entry))) (lent (now (run .entry))) (ending o (lent (now (run .exit)))) ⌝ }
 {
-    let a = operand_from(table, index, r, AFTER_OPERATOR, 0);
+    let a = noted_operand(table, index, r, AFTER_OPERATOR, 0);
     let o = eval(table, index, a, s, base, env, run);
     if o % 2 == 1 {
         return o;
@@ -323,7 +324,9 @@ fn begin(
     requires { ⌜ Ask (now table) (now index) r (now s) base (envOf (now env)) (lent (now run)) × (kindAt (records (now table)) r ≡ k) × Binder k ⌝ }
     ensures { λ o. ⌜ Begins (now (table .entry)) r k (now (s .entry)) (now (s .exit)) base (envOf (now (env .entry))) (lent (now (run .entry))) (placed o (now (cursor .exit))) (lent (now (run .exit))) ⌝ }
 {
-    let a = operand_from(table, index, r, PLAIN, 1);
+    // A slice that is only handed on is copied by one load, which waits for the two stores that made it; one that is cut anew is not.
+    let table = &table[0..];
+    let a = noted_operand(table, index, r, PLAIN, 1);
     let o = eval(table, index, a, s, base, env, run);
     if o % 2 == 1 {
         return o;

@@ -279,7 +279,7 @@ strip-back (each mapping ps) e = e
 strip-back (each tuple ps) e = e
 strip-back (halved k p q) e = e
 
-pub strip-count : (p : Pattern) → isAny p || isWild p ≡ false → isAny (strip p) || isWild (strip p) ≡ false
+strip-count : (p : Pattern) → isAny p || isWild p ≡ false → isAny (strip p) || isWild (strip p) ≡ false
 strip-count p e = by-test (isAny (strip p) || isWild (strip p)) (λ f. true-false (sym (strip-back p f) ∙ e)) (λ f. f)
 
 first-counts : (xs ys : List Pattern) (i : ℕ) → i < length xs → i + 1 < length (xs ++ ys) → ((x : Pattern) → In x xs → isAny x || isWild x ≡ false) → isWild (unionOf (drop i (xs ++ ys))) ≡ false

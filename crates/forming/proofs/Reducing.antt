@@ -343,9 +343,6 @@ module _ (table index : List ℕ) (p : ℕ) where
   pub spare-left : (side : ℕ) (x : Bool) → TellsSpare table index p side x → x ≡ true → (q : ℕ) → q ≡ operand (recordAt (records table) p) (1 - side) → Reduced table index p q
   spare-left side x h e q d = subst (Reduced table index p) (sym d) (h e)
 
-  pub reduced-self : Readable table index p → 36 ≤ kindAt (records table) p → Reduced table index p p
-  reduced-self h l = record { readable = h; composed = l; low = omega arith; alike = λ v b. (λ i. i, λ i. i); narrow = λ v e. e; fewer = omega arith; solid = λ e. e }
-
   pub reduced-then : (q r : ℕ) → Reduced table index p q → Reduced table index q r → Reduced table index p r
   reduced-then q r a b = record {
     readable = b .readable;

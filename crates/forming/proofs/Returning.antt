@@ -176,7 +176,7 @@ module _ (table index s a found frames : List ℕ) (hit : ℕ) (rows order : Lis
 
         module _ (b : List ℕ) (head : ℕ) (pushed : Pushed table index (f .p) s word (f .way) a (f .next) (f .top) b head) (frames′ : List ℕ) (left : ℕ) (ad : Advanced frames i (onto f e) frames′ left)
             (found′ : List ℕ) (cl : Cleared found (f .mask) found′) (c : ℕ) (ec : c ≡ countOf table (f .p)) (hit′ : ℕ) (hl : hit′ ≤ hit) (hd : hit′ ≤ left) where
-          pub head-falls : heft (f .top + c) head ≤ heft (f .top) (f .next)
+          head-falls : heft (f .top + c) head ≤ heft (f .top) (f .next)
           head-falls = falls-on (f .top) (f .next) c head (omega (arith, ec, top-room)) (omega (arith, ec, pushed .low)) (λ z. pushed .none (omega (arith, ec, z)))
 
           pub next-less : (depth : ℕ) → depth ≡ suc i → f ≡ frameAt frames i → (x : ℕ) → x < rank frames′ left + 256 ^ heft (f .top + c) head → x < rank frames depth

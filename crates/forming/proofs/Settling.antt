@@ -210,7 +210,7 @@ module _ (s : List ℕ) (m : List ℕ) (b : Binding) (h : Stands s m b) where
         one-with (matchesAll ts) c (subst (λ (x : Binding). In x (together (b ∷ []) (matchesAll ts))) (sym e) (together-in a d (b ∷ []) (matchesAll ts) (inl q) k t))
 
     -- and where something goes on, all does
-    pub settled-more : (o : Binding) → In o (onward (task p v ∷ ts) b) → (c : Binding) → In c (onward ts b) → In c (onward (task p v ∷ ts) b)
+    settled-more : (o : Binding) → In o (onward (task p v ∷ ts) b) → (c : Binding) → In c (onward ts b) → In c (onward (task p v ∷ ts) b)
     settled-more o i c l =
         let (a, d, j, k, t, e) = in-together o (withEach b (matches p v)) (matchesAll ts) (subst (In o) (onward-first p v ts b) i) in
         let q = all-same p settled v a j in
@@ -222,7 +222,7 @@ module _ (s : List ℕ) (m : List ℕ) (b : Binding) (h : Stands s m b) where
         (together-in a′ d′ (withEach b (matches p v)) (matchesAll ts) (subst (λ (x : Binding). In x (withEach b (matches p v))) (sym q′) there) k′ t′))
 
   -- the same of several
-  abbrev pub EachSettled : List Pattern → Type 0
+  abbrev EachSettled : List Pattern → Type 0
   EachSettled ps = (j : ℕ) → j < length ps → Settled (getD ps j any) m
 
   pub several-more : (ps : List Pattern) (vs : List Value) (ts : List Task) → EachSettled ps → (o : Binding) → In o (onward (zipped ps vs ++ ts) b) → (c : Binding) → In c (onward ts b) → In c (onward (zipped ps vs ++ ts) b)

@@ -1,7 +1,7 @@
 -- Laws of numbers as bytes: what was written is read back, and what was read is written back.
 use mathlib.Core.Path.{_≡_, refl, sym, ap, ap₂, _∙_}
 use mathlib.Core.List.{List, [], _∷_, _++_, append-assoc}
-use Prim.Native.Nat.{ℕ, suc, _+_, _≤_, _<_}
+use Prim.Native.Nat.{ℕ, suc, _+_, _/_, _%_, _≤_, _<_}
 use native.Mathlib.Numerals.{add-one, add-two}
 use native.Mathlib.Nat.{add-zero}
 use native.Mathlib.Omega.{arith}
@@ -61,6 +61,10 @@ sets-then [] ws s at = ap (λ (j : ℕ). sets s j ws) (add-zero at)
 sets-then (v ∷ vs) ws s at =
     let e : at + suc (length vs) ≡ suc at + length vs = omega arith in
     ap (λ (j : ℕ). sets (sets (set s at v) (suc at) vs) j ws) e ∙ sets-then vs ws (set s at v) (suc at)
+
+-- so the low half of 32 bits and then the high one
+pub halves-stored : (s t u : List ℕ) (at n : ℕ) → t ≡ sets s at (pair (n % 65536)) → u ≡ sets t (at + 2) (pair (n / 65536)) → u ≡ sets s at (four n)
+halves-stored s t u at n p q = q ∙ ap (λ (l : List ℕ). sets l (at + 2) (pair (n / 65536))) p ∙ sets-then (pair (n % 65536)) (pair (n / 65536)) s at
 
 -- what lies below is as it was, and what was stored stands there
 pub take-sets : (vs s : List ℕ) (at n : ℕ) → n ≤ at → take n (sets s at vs) ≡ take n s

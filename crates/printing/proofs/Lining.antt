@@ -79,7 +79,7 @@ module _ (table s run : List ℕ) (o : Outcome) (k : ℕ) (t : Told table s run 
     list-inside = omega (arith, kept .len, ap length (kept .entries), t .sound .entries-sized, t .sound .len-within)
 
     -- The walk's entries below its length are the list.
-    pub list-is : take (w .len) (w .entries) ≡ listAt (tree table) k
+    list-is : take (w .len) (w .entries) ≡ listAt (tree table) k
     list-is =
         ap₂ (λ (n : ℕ) (l : List ℕ). take n l) (kept .len ∙ t .holds .len) (kept .entries ∙ t .holds .entries)
         ∙ take-append-seam (listAt (tree table) k) (replicate (mostChoices - length (listAt (tree table) k)) 0)

@@ -59,13 +59,13 @@ module _ (table : List ℕ) (k : ℕ) where
   none-left h = ap (λ (ls : List (List ℕ)). lines table ls ++ lastLine (length all)) (drop-of-length-le (take mostLines all) {i = k} (simp length-take h))
 
   -- The last line, after the last list, and after the 10,000th.
-  pub from-end : k ≤ mostLines → k ≡ length all → fromList table k ≡ endLine k
+  from-end : k ≤ mostLines → k ≡ length all → fromList table k ≡ endLine k
   from-end few e =
       none-left (omega arith)
       ∙ last-end (length all) (omega arith)
       ∙ ap endLine (sym e)
 
-  pub from-cut : k ≡ mostLines → k < length all → fromList table k ≡ cutLine
+  from-cut : k ≡ mostLines → k < length all → fromList table k ≡ cutLine
   from-cut e below = none-left (omega arith) ∙ last-cut (length all) (omega arith)
 
 -- ---- whether a list's line comes next

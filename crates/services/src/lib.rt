@@ -101,7 +101,7 @@ pub extern "C" fn dengwizo_check(table: &[u8], scratch: &mut [u8]) -> u64
         return pack(SHORT_SCRATCH, 0, 0);
     }
     clear(scratch);
-    let mut index = [0u16; MOST_RECORDS];
+    let mut index = [0u32; MOST_RECORDS];
     answer(check(table, &mut index))
 }
 
@@ -112,7 +112,7 @@ fn evaluated(table: &[u8], list: &[u8], scratch: &mut [u8]) -> Outcome
     requires { ⌜ scratchBytes ≤ length (now scratch) ⌝ }
     ensures { λ o. ⌜ ((buffer : ℕ) → largest ≤ buffer → Evaluated (evaluates (length (now (scratch .entry))) buffer (now (table .entry)) (now (list .entry))) (now (scratch .entry)) (now (scratch .exit)) o) ⌝ }
 {
-    let mut index = [0u16; MOST_RECORDS];
+    let mut index = [0u32; MOST_RECORDS];
     match check(table, &mut index) {
         Checked::Refused(n, r) => Outcome::Refused(n, r, 0),
         Checked::Accepted(count) => if Walk::LIMIT < list.len() {
@@ -204,7 +204,7 @@ fn first_checked(table: &[u8], entries: &mut [u8], len: &mut usize, scratch: &mu
     requires { ⌜ scratchBytes ≤ length (now scratch) ⌝ }
     ensures { λ a. ⌜ Left (firsts (length (now (scratch .entry))) (now (table .entry)) (walkOf (now (entries .entry)) (now (len .entry)))) (walkOf (now (entries .entry)) (now (len .entry))) (now (scratch .entry)) (record { answer = a; scratch = now (scratch .exit); walk = walkOf (now (entries .exit)) (now (len .exit)) }) ⌝ }
 {
-    let mut index = [0u16; MOST_RECORDS];
+    let mut index = [0u32; MOST_RECORDS];
     match check(table, &mut index) {
         Checked::Refused(n, r) => pack(n, r, 0),
         Checked::Accepted(count) => first_accepted(table, &index, count, entries, len, scratch),
@@ -234,7 +234,7 @@ fn step_checked(table: &[u8], entries: &mut [u8], len: &mut usize, scratch: &mut
     requires { ⌜ scratchBytes ≤ length (now scratch) ⌝ }
     ensures { λ a. ⌜ Left (steps (length (now (scratch .entry))) (now (table .entry)) (walkOf (now (entries .entry)) (now (len .entry)))) (walkOf (now (entries .entry)) (now (len .entry))) (now (scratch .entry)) (record { answer = a; scratch = now (scratch .exit); walk = walkOf (now (entries .exit)) (now (len .exit)) }) ⌝ }
 {
-    let mut index = [0u16; MOST_RECORDS];
+    let mut index = [0u32; MOST_RECORDS];
     match check(table, &mut index) {
         Checked::Refused(n, r) => pack(n, r, 0),
         Checked::Accepted(_) => step_accepted(table, entries, len, scratch),

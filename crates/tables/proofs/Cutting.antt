@@ -17,7 +17,7 @@ use Rattle.tables.specs.Laws.Tests.{each}
 use Rattle.tables.specs.Accepted.{records}
 use Rattle.tables.specs.Laws.Accepted.{fit-kind, fit-most}
 use Rattle.tables.specs.Laws.Cutting.{IsNext, next-is}
-use Rattle.tables.specs.Reading.{Stands, Places, Measured, CutOut}
+use Rattle.tables.specs.Reading.{Stands, EntryOf, EntriesOf, Measured, Packs, CutOut}
 use Rattle.tables.proofs.Fit.{plus-zero, plus-four, fields-long, field-at}
 
 -- ---- one record
@@ -68,6 +68,10 @@ pub measured-within : (s : List ℕ) (at n : ℕ) → Measured (drop at s) n →
 measured-within s at n m h =
     omega (arith, next-is (drop at s) (firstRecord (drop at s)) (drop n (drop at s)) (m .good h) .whole, m .long h, length-drop at s)
 
+-- It has a heading.
+pub next-long : (s : List ℕ) (at n : ℕ) → Measured (drop at s) n → 0 < n → 4 ≤ n
+next-long s at n m h = omega (arith, next-is (drop at s) (firstRecord (drop at s)) (drop n (drop at s)) (m .good h) .long, m .long h)
+
 -- ---- where a record stands
 
 -- No record has more than 8 fields.
@@ -89,6 +93,17 @@ stands table at rest n =
           sym (field-at (drop at table) (word (drop at table) 0) refl (n .long) (n .whole) i (omega arith) ∙ getD-drop at table (4 + i) 0 ∙ ap (λ (k : ℕ). getD table k 0) (plus-four at i));
     }
 
+-- Its entry in the index.
+entry-is : (table : List ℕ) (at n e : ℕ) (rest : List ℕ) → IsNext (drop at table) (firstRecord (drop at table)) rest → n ≡ word (drop at table) 0 → Packs (drop at table) at n e → EntryOf table e (firstRecord (drop at table))
+entry-is table at n e rest next is p =
+    let st : Stands table at (firstRecord (drop at table)) = stands table at rest next in
+    let long : length (firstRecord (drop at table) .fields) ≡ word (drop at table) 0 - 4 = fields-long (drop at table) (word (drop at table) 0) refl (next .long) (next .whole) in
+    record {
+      stands = rw (p .place) st;
+      kind = p .kind ∙ getD-drop at table 2 0 ∙ st .kind;
+      second = λ h. p .second (omega (arith, next .long)) ∙ getD-drop at table 5 0 ∙ ap (λ (k : ℕ). getD table k 0) (plus-four at 1) ∙ st .field 1 h;
+    }
+
 -- ---- the loop
 
 -- What is left of the table is cut into the records that are left.
@@ -98,7 +113,7 @@ pub record Turn (table index : List ℕ) (at count : ℕ) : Type 0 where
   pub fits : count ≤ length (records table)
   pub left : cutBy (length table - count) (drop at table) .records ≡ drop count (records table)
   pub same : cutBy (length table - count) (drop at table) .whole ≡ cut table .whole
-  pub places : Places table index count
+  pub entries : EntriesOf table index count
   pub long : length index ≡ mostRecords
 
 pub cutting-start : (table index : List ℕ) → length index ≡ mostRecords → Turn table index 0 0
@@ -110,26 +125,26 @@ cutting-start table index long =
       fits = omega arith;
       left = ap (λ (n : ℕ). cutBy n table .records) (omega arith);
       same = ap (λ (n : ℕ). cutBy n table .whole) (omega arith);
-      places = λ r h k. absurd (omega arith);
+      entries = λ r h k. absurd (omega arith);
       long = long;
     }
 
--- The place of a record is noted where there is room, and the lower ones stay.
-pub record Noted (index index′ : List ℕ) (count at : ℕ) : Type 0 where
-  pub here : count < mostRecords → getD index′ count 0 ≡ at
+-- The entry of a record of n bytes is noted where there is room, and the lower ones stay.
+pub record Noted (table index index′ : List ℕ) (count at n : ℕ) : Type 0 where
+  pub here : count < mostRecords → Packs (drop at table) at n (getD index′ count 0)
   pub others : (r : ℕ) → r < count → getD index′ r 0 ≡ getD index r 0
   pub long : length index′ ≡ mostRecords
 
-pub noted : (index index′ : List ℕ) (count at : ℕ) → length index ≡ mostRecords → index′ ≡ set index count at → Noted index index′ count at
-noted index index′ count at long e =
+pub noted : (table index index′ : List ℕ) (count at n e : ℕ) → length index ≡ mostRecords → Packs (take (length table - at) (drop at table)) at n e → index′ ≡ set index count e → Noted table index index′ count at n
+noted table index index′ count at n e long p f =
     record {
-      here = λ h. rw e (getD-set-same index count at 0 (omega arith));
-      others = λ r h. rw e (getD-set-other index count r at 0 (λ same. omega arith));
-      long = rw e (length-set index count at ∙ long);
+      here = λ h. rw (f, getD-set-same index count e 0 (omega arith), sym (part-rest table at)) p;
+      others = λ r h. rw f (getD-set-other index count r e 0 (λ same. omega arith));
+      long = rw f (length-set index count e ∙ long);
     }
 
-pub not-noted : (index index′ : List ℕ) (count at : ℕ) → length index ≡ mostRecords → index′ ≡ index → mostRecords ≤ count → Noted index index′ count at
-not-noted index index′ count at long e full =
+pub not-noted : (table index index′ : List ℕ) (count at n : ℕ) → length index ≡ mostRecords → index′ ≡ index → mostRecords ≤ count → Noted table index index′ count at n
+not-noted table index index′ count at n long e full =
     record { here = λ h. absurd (omega arith); others = λ r h. rw e; long = rw e long }
 
 -- What stands at a place of a list, from what is left of it there.
@@ -168,7 +183,7 @@ module _ (table index : List ℕ) (at count : ℕ) (t : Turn table index at coun
       record {
         count = last;
         whole = sym (ap (λ (c : Cut). c .whole) out) ∙ t .same;
-        places = λ r k l. t .places r (omega arith) l;
+        entries = λ r k l. t .entries r (omega arith) l;
       }
 
   module _ (more : at < length table) where
@@ -190,11 +205,11 @@ module _ (table index : List ℕ) (at count : ℕ) (t : Turn table index at coun
         record {
           count = last;
           whole = sym (ap (λ (c : Cut). c .whole) out) ∙ t .same;
-          places = λ r k l. t .places r (omega arith) l;
+          entries = λ r k l. t .entries r (omega arith) l;
         }
 
-    -- A record of n bytes is next, and its place is noted where there is room.
-    pub cutting-more : (n : ℕ) (index′ : List ℕ) → next (drop at table) ≡ one (firstRecord (drop at table)) (drop n (drop at table)) → n ≡ word (drop at table) 0 → Noted index index′ count at → Turn table index′ (at + n) (count + 1)
+    -- A record of n bytes is next, and its entry is noted where there is room.
+    pub cutting-more : (n : ℕ) (index′ : List ℕ) → next (drop at table) ≡ one (firstRecord (drop at table)) (drop n (drop at table)) → n ≡ word (drop at table) 0 → Noted table index index′ count at n → Turn table index′ (at + n) (count + 1)
     cutting-more n index′ e is noted =
         let x : Record = firstRecord (drop at table) in
         let i : IsNext (drop at table) x (drop n (drop at table)) = next-is (drop at table) x (drop n (drop at table)) e in
@@ -210,11 +225,11 @@ module _ (table index : List ℕ) (at count : ℕ) (t : Turn table index at coun
           same =
               ap (λ (bytes : List ℕ). cutBy (length table - (count + 1)) bytes .whole) (sym (drop-drop n at table))
               ∙ sym (ap (λ (c : Cut). c .whole) out) ∙ t .same;
-          places =
+          entries =
               λ r k l.
-              by-lower r count (λ h. rw (noted .others r h) (t .places r h l))
+              by-lower r count (λ h. rw (noted .others r h) (t .entries r h l))
               (λ h.
               let same : r ≡ count = omega arith in
-              rw (same, noted .here (omega arith), hd .is) (stands table at (drop n (drop at table)) i));
+              rw (same, hd .is) (entry-is table at n (getD index′ count 0) (drop n (drop at table)) i is (noted .here (omega arith))));
           long = noted .long;
         }

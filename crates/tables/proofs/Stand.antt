@@ -15,7 +15,7 @@ use Rattle.tables.specs.Check.{mostRecords}
 use Rattle.tables.specs.Shapes.{firstOf, rolesOf}
 use Rattle.tables.specs.Accepted.{records}
 use Rattle.tables.specs.Laws.Accepted.{fit-records, fit-kind, fit-least, fit-most, named-count, operand-field}
-use Rattle.tables.specs.Reading.{Stands, Here}
+use Rattle.tables.specs.Reading.{Stands, placeIn, secondIn, EntryOf, Here}
 use Rattle.tables.proofs.Fit.{plus-four}
 use Rattle.tables.proofs.Cutting.{part-rest, fields-few}
 
@@ -33,20 +33,27 @@ module _ (table index : List ℕ) (r : ℕ) (h : Here table index r) where
   pub fit : isFit (recordAt (records table) r) ≡ true
   fit = fit-records table r (h .within)
 
-  pub stands : Stands table (getD index r 0) (recordAt (records table) r)
-  stands = h .indexed .place r (h .within)
+  pub entry-here : EntryOf table (getD index r 0) (recordAt (records table) r)
+  entry-here = h .indexed .entry r (h .within)
+
+  pub stands : Stands table (placeIn (getD index r 0)) (recordAt (records table) r)
+  stands = entry-here .stands
+
+  -- The same of an entry that was read.
+  pub entry-read : (e : ℕ) → e ≡ getD index r 0 → EntryOf table e (recordAt (records table) r)
+  entry-read e is = rw is entry-here
 
   pub in-index : r < mostRecords
   in-index = omega (arith, h .indexed .few, h .within)
 
-  pub four-there : getD index r 0 + 4 ≤ length table
+  pub four-there : placeIn (getD index r 0) + 4 ≤ length table
   four-there = omega (arith, stands .fits)
 
   pub kind-few : kindAt (records table) r ≤ 40
   kind-few = fit-kind (recordAt (records table) r) fit
 
   -- The length, and the number of operands.
-  pub count-is : getD table (getD index r 0) 0 ≡ firstOf (kindAt (records table) r) + length (named (recordAt (records table) r))
+  pub count-is : getD table (placeIn (getD index r 0)) 0 ≡ firstOf (kindAt (records table) r) + length (named (recordAt (records table) r))
   count-is = omega (arith, stands .long, named-count (recordAt (records table) r) fit, fit-least (recordAt (records table) r) fit)
 
   pub stand-count-few : length (named (recordAt (records table) r)) ≤ 8
@@ -59,33 +66,41 @@ module _ (table index : List ℕ) (r : ℕ) (h : Here table index r) where
     in-fields : size (headOf (recordAt (records table) r)) + i < length (recordAt (records table) r .fields)
     in-fields = omega (arith, named-count (recordAt (records table) r) fit)
 
-    pub operand-within : getD index r 0 + (firstOf (kindAt (records table) r) + i) < length table
+    pub operand-within : placeIn (getD index r 0) + (firstOf (kindAt (records table) r) + i) < length table
     operand-within = omega (arith, stands .fits, in-fields)
 
-    pub operand-is : getD table (getD index r 0 + (firstOf (kindAt (records table) r) + i)) 0 ≡ operand (recordAt (records table) r) i
+    pub operand-is : getD table (placeIn (getD index r 0) + (firstOf (kindAt (records table) r) + i)) 0 ≡ operand (recordAt (records table) r) i
     operand-is =
-        ap (λ (k : ℕ). getD table k 0) (regroup (getD index r 0) (size (headOf (recordAt (records table) r))) i)
+        ap (λ (k : ℕ). getD table k 0) (regroup (placeIn (getD index r 0)) (size (headOf (recordAt (records table) r))) i)
         ∙ stands .field (size (headOf (recordAt (records table) r)) + i) in-fields
         ∙ sym (operand-field (recordAt (records table) r) i has)
       where
         regroup : (a s i : ℕ) → a + (4 + s + i) ≡ a + 4 + (s + i)
         regroup a s i = omega arith
 
+    -- An operand at byte 5 is the second field.
+    pub second-operand : (e : ℕ) → e ≡ getD index r 0 → firstOf (kindAt (records table) r) + i ≡ 5 → secondIn e ≡ operand (recordAt (records table) r) i
+    second-operand e is five =
+        let one : size (headOf (recordAt (records table) r)) + i ≡ 1 = omega arith in
+        entry-read e is .second (omega (arith, in-fields))
+        ∙ ap (λ (k : ℕ). getD (recordAt (records table) r .fields) k 0) (sym one)
+        ∙ sym (operand-field (recordAt (records table) r) i has)
+
   module _ (i : ℕ) (has : i < length (recordAt (records table) r .fields)) where
-    pub field-within : getD index r 0 + (4 + i) < length table
+    pub field-within : placeIn (getD index r 0) + (4 + i) < length table
     field-within = omega (arith, stands .fits)
 
-    pub field-is : getD table (getD index r 0 + (4 + i)) 0 ≡ field (recordAt (records table) r) i
-    field-is = ap (λ (k : ℕ). getD table k 0) (plus-four (getD index r 0) i) ∙ stands .field i has
+    pub field-is : getD table (placeIn (getD index r 0) + (4 + i)) 0 ≡ field (recordAt (records table) r) i
+    field-is = ap (λ (k : ℕ). getD table k 0) (plus-four (placeIn (getD index r 0)) i) ∙ stands .field i has
 
-  pub integer-is : (at : ℕ) → at ≡ getD index r 0 → 3 < length (recordAt (records table) r .fields) → integerAt (take (length table - at) (drop at table)) 4 ≡ integerOf (recordAt (records table) r)
+  pub integer-is : (at : ℕ) → at ≡ placeIn (getD index r 0) → 3 < length (recordAt (records table) r .fields) → integerAt (take (length table - at) (drop at table)) 4 ≡ integerOf (recordAt (records table) r)
   integer-is at e has =
       let same : bits32 (take (length table - at) (drop at table)) 4 ≡ bits32 (recordAt (records table) r .fields) 0 =
       omega (
         arith,
-        field-byte table at (getD index r 0) 4 e ∙ field-is 0 (omega arith),
-        field-byte table at (getD index r 0) 5 e ∙ field-is 1 (omega arith),
-        field-byte table at (getD index r 0) 6 e ∙ field-is 2 (omega arith),
-        field-byte table at (getD index r 0) 7 e ∙ field-is 3 (omega arith),
+        field-byte table at (placeIn (getD index r 0)) 4 e ∙ field-is 0 (omega arith),
+        field-byte table at (placeIn (getD index r 0)) 5 e ∙ field-is 1 (omega arith),
+        field-byte table at (placeIn (getD index r 0)) 6 e ∙ field-is 2 (omega arith),
+        field-byte table at (placeIn (getD index r 0)) 7 e ∙ field-is 3 (omega arith),
       ) in
       ap (toZ w32) same

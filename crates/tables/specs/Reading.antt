@@ -1,7 +1,7 @@
 -- Where the records of a table stand in its bytes, and how an index finds them.
 use mathlib.Core.Path.{_≡_}
 use mathlib.Core.List.{List}
-use Prim.Native.Nat.{ℕ, _+_, _≤_, _<_}
+use Prim.Native.Nat.{ℕ, _+_, _/_, _%_, _≤_, _<_}
 use lib.ListN.{length, getD, drop}
 use Rattle.integers.specs.Bytes.{word}
 use Rattle.tables.specs.Record.{Record, named}
@@ -17,14 +17,30 @@ pub record Stands (table : List ℕ) (at : ℕ) (x : Record) : Type 0 where
   pub kind : getD table (at + 2) 0 ≡ x .kind
   pub field : (i : ℕ) → i < length (x .fields) → getD table (at + 4 + i) 0 ≡ getD (x .fields) i 0
 
--- The index has the place of each record of the table, as far as it goes.
-abbrev pub Places : List ℕ → List ℕ → ℕ → Type 0
-Places table index n = (r : ℕ) → r < n → r < mostRecords → Stands table (getD index r 0) (recordAt (records table) r)
+-- An entry of the index holds a record's place, its kind and its second field.
+abbrev pub placeIn : ℕ → ℕ
+placeIn e = e % 65536
+
+abbrev pub kindIn : ℕ → ℕ
+kindIn e = e / 65536 % 256
+
+abbrev pub secondIn : ℕ → ℕ
+secondIn e = e / 65536 / 256 % 256
+
+-- The entry e is that of the record x of the table.
+pub record EntryOf (table : List ℕ) (e : ℕ) (x : Record) : Type 0 where
+  pub stands : Stands table (placeIn e) x
+  pub kind : kindIn e ≡ x .kind
+  pub second : 1 < length (x .fields) → secondIn e ≡ getD (x .fields) 1 0
+
+-- The index has an entry for each record of the table, as far as it goes.
+abbrev pub EntriesOf : List ℕ → List ℕ → ℕ → Type 0
+EntriesOf table index n = (r : ℕ) → r < n → r < mostRecords → EntryOf table (getD index r 0) (recordAt (records table) r)
 
 -- An index of all records of a table of at most 200.
 pub record Indexed (table index : List ℕ) : Type 0 where
   pub few : length (records table) ≤ mostRecords
-  pub place : (r : ℕ) → r < length (records table) → Stands table (getD index r 0) (recordAt (records table) r)
+  pub entry : (r : ℕ) → r < length (records table) → EntryOf table (getD index r 0) (recordAt (records table) r)
 
 -- A record of a table with an index.
 pub record Here (table index : List ℕ) (r : ℕ) : Type 0 where
@@ -46,8 +62,14 @@ pub record Measured (bytes : List ℕ) (n : ℕ) : Type 0 where
   pub good : 0 < n → next bytes ≡ one (firstRecord bytes) (drop n bytes)
   pub long : 0 < n → n ≡ word bytes 0
 
+-- The entry of a record of a length at the start of some bytes.
+pub record Packs (bytes : List ℕ) (at len e : ℕ) : Type 0 where
+  pub place : placeIn e ≡ at
+  pub kind : kindIn e ≡ getD bytes 2 0
+  pub second : 5 < len → secondIn e ≡ getD bytes 5 0
+
 -- What cutting a table finds: the number of records up to the first fault of rule 4, whether there is none, and an index of them.
 pub record CutOut (table index : List ℕ) (c : Cutting) : Type 0 where
   pub count : c .count ≡ length (records table)
   pub whole : c .whole ≡ cut table .whole
-  pub places : Places table index (length (records table))
+  pub entries : EntriesOf table index (length (records table))

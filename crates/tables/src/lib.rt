@@ -18,8 +18,9 @@ pub const HEADING: usize = 4;
 // Names are 0 to 15.
 pub const NAMES: usize = 16;
 
-// Where each record of a table begins.
-pub type Index = [u16; MOST_RECORDS];
+// An entry for each record of a table: where the record begins in the lowest 16 bits, then its kind and its second field in a byte each. The second
+// field is what an operator and a binder evaluate first, so that the way down a sheet takes one load for each record.
+pub type Index = [u32; MOST_RECORDS];
 
 // What an operand is for.
 pub enum Role {

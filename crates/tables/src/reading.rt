@@ -7,7 +7,7 @@ ghost use Rattle.tables.specs.Table.{recordAt, kindAt};
 ghost use Rattle.tables.specs.Check.{mostBytes, mostRecords};
 ghost use Rattle.tables.specs.Shapes.{lengthRows, firstOf};
 ghost use Rattle.tables.specs.Accepted.{records};
-ghost use Rattle.tables.specs.Reading.{Measured, CutOut, Here, HasField, HasOperand};
+ghost use Rattle.tables.specs.Reading.{placeIn, Packs, Measured, CutOut, Here, HasField, HasOperand};
 use crate::HEADING;
 use crate::Index;
 use crate::MOST_RECORDS;
@@ -26,6 +26,14 @@ use integers::bytes::read32;
 pub const PLAIN: usize = HEADING;
 
 pub const AFTER_OPERATOR: usize = HEADING + 1;
+
+// The byte of a record that its entry in the index has.
+const NOTED: usize = HEADING + 1;
+
+// How many numbers the parts of an entry can hold: a place, a kind.
+const PLACES: usize = 65536;
+
+const KINDS: usize = 256;
 
 // What cutting a table finds: the number of records up to the first fault of rule 4, and whether there is none.
 pub struct Cutting {
@@ -69,7 +77,28 @@ pub fn measure(lengths: &Lengths, part: &[u8]) -> usize
     len
 }
 
-// Cuts a table into records, and notes where each of the first 200 begins.
+// The second field of the record of a length at the start of the part; 0 where it has none.
+fn second_field(part: &[u8], len: usize) -> usize
+    requires { ⌜ len ≤ length (now part) ⌝ }
+    ensures { λ n. ⌜ (5 < len → n ≡ getD (now (part .entry)) 5 0) × (n < 256) ⌝ }
+{
+    if len <= NOTED {
+        return 0;
+    }
+    wide(part[NOTED])
+}
+
+// The entry of the record of a length at the start of the part, which begins at a place of the table.
+fn entry(part: &[u8], at: usize, len: usize) -> u32
+    requires { ⌜ (at < 65536) × (4 ≤ len) × (len ≤ length (now part)) ⌝ }
+    ensures { λ e. ⌜ Packs (now (part .entry)) at len e ⌝ }
+{
+    let kind = wide(part[2]);
+    let second = second_field(part, len);
+    (at + PLACES * (kind + KINDS * second)) as u32
+}
+
+// Cuts a table into records, and notes each of the first 200 in the index.
 pub fn cut(table: &[u8], index: &mut Index) -> Cutting
     requires { ⌜ (length (now table) ≤ mostBytes) × (length (now index) ≡ mostRecords) ⌝ }
     ensures { λ c. ⌜ CutOut (now (table .entry)) (now (index .exit)) c ⌝ }
@@ -85,21 +114,14 @@ pub fn cut(table: &[u8], index: &mut Index) -> Cutting
                 whole: false,
             };
         }
+        let e = entry(&table[at..], at, len);
         if count < MOST_RECORDS {
-            index[count] = at as u16;
+            index[count] = e;
         }
         at += len;
         count += 1;
     }
     Cutting { count, whole: true }
-}
-
-// The kind of the record at the start of the part.
-fn kind_of(part: &[u8]) -> usize
-    requires { ⌜ 4 ≤ length (now part) ⌝ }
-    ensures { λ k. ⌜ k ≡ getD (now (part .entry)) 2 0 ⌝ }
-{
-    wide(part[2])
 }
 
 // Byte i of the record at the start of the part.
@@ -110,19 +132,27 @@ fn byte_of(part: &[u8], i: usize) -> usize
     wide(part[i])
 }
 
-// 16 bits as a number.
-fn wide16(n: u16) -> usize
+// 32 bits as a number.
+fn wide32(n: u32) -> usize
     ensures { λ r. ⌜ r ≡ n ⌝ }
 {
     n as usize
 }
 
+// The entry of record r.
+fn entry_at(index: &Index, r: usize) -> usize
+    requires { ⌜ r < mostRecords ⌝ }
+    ensures { λ e. ⌜ e ≡ getD (now (index .entry)) r 0 ⌝ }
+{
+    wide32(index[r])
+}
+
 // Where record r begins.
 fn place(index: &Index, r: usize) -> usize
     requires { ⌜ r < mostRecords ⌝ }
-    ensures { λ at. ⌜ at ≡ getD (now (index .entry)) r 0 ⌝ }
+    ensures { λ at. ⌜ at ≡ placeIn (getD (now (index .entry)) r 0) ⌝ }
 {
-    wide16(index[r])
+    entry_at(index, r) % PLACES
 }
 
 // The kind of record r.
@@ -130,8 +160,7 @@ pub fn kind(table: &[u8], index: &Index, r: usize) -> usize
     requires { ⌜ Here (now table) (now index) r ⌝ }
     ensures { λ k. ⌜ (k ≡ kindAt (records (now (table .entry))) r) × (k ≤ lastKind) ⌝ }
 {
-    let at = place(index, r);
-    kind_of(&table[at..])
+    entry_at(index, r) / PLACES % KINDS
 }
 
 // Field i of record r.
@@ -169,6 +198,14 @@ pub fn operand_from(table: &[u8], index: &Index, r: usize, first: usize, i: usiz
 {
     let at = place(index, r);
     byte_of(&table[at..], first + i)
+}
+
+// The same of the operand at byte 5, which the index has: the table, `first` and `i` only tell which one it is.
+pub fn noted_operand(table: &[u8], index: &Index, r: usize, first: usize, i: usize) -> usize
+    requires { ⌜ HasOperand (now table) (now index) r i × (first ≡ firstOf (kindAt (records (now table)) r)) × (first + i ≡ 5) ⌝ }
+    ensures { λ n. ⌜ (n ≡ operandIn (recordAt (records (now (table .entry))) r) i) × (n < 256) ⌝ }
+{
+    entry_at(index, r) / PLACES / KINDS % KINDS
 }
 
 // The number in operand i of record r.

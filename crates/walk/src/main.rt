@@ -116,7 +116,7 @@ fn print_accepted(table: &[u8], index: &Index, count: usize) -> bool
 
 // Prints a table, and answers whether all of the print went out.
 fn print_table(table: &[u8]) -> bool {
-    let mut index = [0u16; MOST_RECORDS];
+    let mut index = [0u32; MOST_RECORDS];
     match check(table, &mut index) {
         Checked::Refused(n, place) => print_refused(table, n, place),
         Checked::Accepted(count) => print_accepted(table, &index, count),

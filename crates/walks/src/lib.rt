@@ -150,7 +150,7 @@ pub fn next_walk(walk: Walk, table: &[u8], s: &mut [u8]) -> Stepped
     requires { ⌜ Steppable (now table) (now s) walk ⌝ }
     ensures { λ r. ⌜ Steps (now (table .entry)) walk r ⌝ }
 {
-    let mut index = [0u16; MOST_RECORDS];
+    let mut index = [0u32; MOST_RECORDS];
     let c = cut(table, &mut index);
     let count = c.count;
     let mut run = start_walk(walk, false);

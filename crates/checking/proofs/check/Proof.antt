@@ -5,10 +5,6 @@ use mathlib.Core.Path.{_∙_}
 use borrow.Author.Needs.{needs}
 use Rattle.checking.proofs.check.Statement.{statement}
 use Rattle.checking.proofs.check.Tie as tie
-use Rattle.checking.proofs.check.Reads as reads
-use Rattle.checking.proofs.check.Lts as lts
-use Rattle.checking.proofs.judge.Reads as judge-reads
-use Rattle.tables.proofs.reading.cut.Reads as cut-reads
 
 returns : tie.Need-returns
 returns c = refused-checks (c .before .before .args .table .now) _ _ _ (refused-empty (c .before .before .args .table .now) (c .if1 .taken))
@@ -26,10 +22,10 @@ returns-4 : tie.Need-returns-4
 returns-4 c = refused-checks (c .before .before .before .before .before .before .before .args .table .now) _ _ _ (refused5 (c .before .before .before .before .before .before .before .args .table .now) (c .before .before .before .before .before .if1 .left) (c .before .before .before .before .if2 .left) _ (c .before .before .cut .result) (c .before .before .cut .ensures) (not-false _ (c .before .if3 .left)) (c .if4 .taken))
 
 judge-requires : tie.Need-judge-requires
-judge-requires c κs = (record { indexed = cut-indexed (c .before .before .before .before .before .before .before .before .before .args .table .now) (c .before .before .before .before .before .before .before .if1 .left) (c .before .before .before .before .before .before .if2 .left) _ (c .before .before .before .before .cut .result) (c .before .before .before .before .cut .ensures) (not-false _ (c .before .before .before .if3 .left)) (c .before .before .if4 .left); all = c .before .before .before .before .cut .ensures .count }, some-record (c .before .before .before .before .before .before .before .before .before .args .table .now) (c .before .before .before .before .before .before .before .if1 .left) (c .before .before .before .before .before .before .if2 .left) _ (c .before .before .before .before .cut .result) (c .before .before .before .before .cut .ensures) (not-false _ (c .before .before .before .if3 .left)))
+judge-requires c κs = (record { indexed = cut-indexed (c .before .before .before .before .before .before .before .before .args .table .now) (c .before .before .before .before .before .before .if1 .left) (c .before .before .before .before .before .if2 .left) _ (c .before .before .before .cut .result) (c .before .before .before .cut .ensures) (not-false _ (c .before .before .if3 .left)) (c .before .if4 .left); all = c .before .before .before .cut .ensures .count }, some-record (c .before .before .before .before .before .before .before .before .args .table .now) (c .before .before .before .before .before .before .if1 .left) (c .before .before .before .before .before .if2 .left) _ (c .before .before .before .cut .result) (c .before .before .before .cut .ensures) (not-false _ (c .before .before .if3 .left)))
 
 returns-5 : tie.Need-returns-5
-returns-5 c = record { answer = c .judge .ensures ∙ judged-check (c .before .before .before .before .before .before .before .before .before .before .args .table .now) (c .before .before .before .before .before .before .before .before .if1 .left) (c .before .before .before .before .before .before .before .if2 .left) _ (c .before .before .before .before .before .cut .result) (c .before .before .before .before .before .cut .ensures) (not-false _ (c .before .before .before .before .if3 .left)) (c .before .before .before .if4 .left); indexed = λ n e. cut-indexed (c .before .before .before .before .before .before .before .before .before .before .args .table .now) (c .before .before .before .before .before .before .before .before .if1 .left) (c .before .before .before .before .before .before .before .if2 .left) _ (c .before .before .before .before .before .cut .result) (c .before .before .before .before .before .cut .ensures) (not-false _ (c .before .before .before .before .if3 .left)) (c .before .before .before .if4 .left) }
+returns-5 c = record { answer = c .judge .ensures ∙ judged-check (c .before .before .before .before .before .before .before .before .before .args .table .now) (c .before .before .before .before .before .before .before .if1 .left) (c .before .before .before .before .before .before .if2 .left) _ (c .before .before .before .before .cut .result) (c .before .before .before .before .cut .ensures) (not-false _ (c .before .before .before .if3 .left)) (c .before .before .if4 .left); indexed = λ n e. cut-indexed (c .before .before .before .before .before .before .before .before .before .args .table .now) (c .before .before .before .before .before .before .before .if1 .left) (c .before .before .before .before .before .before .if2 .left) _ (c .before .before .before .before .cut .result) (c .before .before .before .before .cut .ensures) (not-false _ (c .before .before .before .if3 .left)) (c .before .before .if4 .left) }
 
 pub check-spec : {M : Type 1} → statement M
 check-spec =

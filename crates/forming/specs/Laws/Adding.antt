@@ -127,10 +127,6 @@ adding-alike xs ys bs cs e h =
     (λ c i. sorted-in c (back xs cs) (back-in c xs cs (⊎-elim (λ j. inl (h c .1 j)) (λ j. inr j) (in-back c ys cs (in-sorted c (back ys cs) i)))))
     ∙ sym (adding-back ys cs) ∙ ap (adding ys) (sym e)
 
--- what is entered is there
-pub adding-in : (xs bs cs : List Binding) → bs ≡ sorted cs → (c : Binding) → In c xs → In c (adding xs bs)
-adding-in xs bs cs e c i = subst (In c) (sym (ap (adding xs) e ∙ adding-back xs cs)) (sorted-in c (back xs cs) (back-in c xs cs (inl i)))
-
 -- entering again what is there changes nothing
 pub adding-there : (xs bs : List Binding) → Rising bs → ((c : Binding) → In c xs → In c bs) → adding xs bs ≡ bs
 unfolding adding

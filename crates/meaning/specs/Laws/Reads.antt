@@ -10,7 +10,7 @@ use native.Mathlib.Omega.{arith}
 use lib.Dec.{eqb, leb}
 use lib.ListN.{length, getD}
 use borrow.Author.Tests.{leb-true, eqb-true}
-use mathlib.Mathlib.Data.Bool.Basic.{or-inr, and-elim-left, and-elim-right}
+use mathlib.Mathlib.Data.Bool.Basic.{or-inr}
 use Rattle.prelude.proofs.Absurd.{never, impossible}
 use Rattle.prelude.proofs.Truth.{implied, by-lower}
 use Rattle.choices.specs.Tree.{Tree, give, refusal, Gives}
@@ -22,14 +22,14 @@ use Rattle.patterns.specs.Laws.Named.{holdsNamed as holdsAt, Told, told}
 use Rattle.tables.specs.declared.Role.{Role}
 use Rattle.tables.specs.declared.Role.the-variants.{Plain, Condition, Body, Pattern as Part, Name}
 use Rattle.tables.specs.declared.Checked.the-variants.{Accepted}
-use Rattle.tables.specs.Record.{Record, Head, nothing, boolean, integer, name, unary, binary, unknown, shape, headOf, isExpression, isPattern, isFit, isKnown, nameOf, named as operandsOf, operand, roleAt}
+use Rattle.tables.specs.Record.{Record, name, shape, headOf, isExpression, isPattern, isKnown, nameOf, named as operandsOf, operand, roleAt}
 use Rattle.tables.specs.Table.{recordAt, kindAt}
 use Rattle.tables.specs.Sheet.{some as someOf, isCovered, isBound, holdsName, patternOf}
 use Rattle.tables.specs.Check.{check}
 use Rattle.tables.specs.Laws.Tests.{each}
 use Rattle.tables.specs.Laws.Kinds.{expression-least, expression-most}
 use Rattle.tables.specs.Accepted.{records, Fine}
-use Rattle.tables.specs.Laws.Accepted.{accepted-fine, operand-lower, operand-sort, bound-operand, bound-last, name-bound, last-sort, fit-known, fit-kind}
+use Rattle.tables.specs.Laws.Accepted.{accepted-fine, operand-lower, operand-sort, bound-operand, bound-last, name-bound, last-sort, fit-known, fit-kind, fit-expression}
 use Rattle.meaning.specs.State.{State, unbound, over, under, heldValue, valueIn}
 use Rattle.meaning.specs.Meaning.{orElse, means, meaningTo, meaning}
 use Rattle.patterns.specs.Read.{patternAt}
@@ -74,35 +74,6 @@ unfolding shape
 first-role k i h e =
     implied (someOf (map isCovered (shape k .roles))) _
     (each (λ j. not (someOf (map isCovered (shape j .roles))) || isFirst (getD (shape j .roles) 0 Plain)) 41 refl k (omega arith)) (some-at (shape k .roles) i e)
-
--- A record that is fit is an expression or a pattern.
-abbrev isUnknown : Head → Bool
-isUnknown nothing = false
-isUnknown boolean = false
-isUnknown integer = false
-isUnknown name = false
-isUnknown unary = false
-isUnknown binary = false
-isUnknown unknown = true
-
-not-unknown : (h : Head) (q : Record) → isKnown h q ≡ true → isUnknown h ≡ false
-not-unknown nothing q e = refl
-not-unknown boolean q e = refl
-not-unknown integer q e = refl
-not-unknown name q e = refl
-not-unknown unary q e = refl
-not-unknown binary q e = refl
-not-unknown unknown q e = never e
-
-or-out : (a b c : Bool) → a || b || c ≡ true → b ≡ false → c ≡ false → a ≡ true
-or-out true b c e f g = refl
-or-out false b c e f g = let z : _≡_ {A = Bool} false true = sym (ap (λ x. x || c) f ∙ g) ∙ e in never z
-
-expression : (q : Record) → isFit q ≡ true → isPattern (q .kind) ≡ false → isExpression (q .kind) ≡ true
-unfolding shape
-expression q f p =
-    or-out (isExpression (q .kind)) (isPattern (q .kind)) (isUnknown (headOf q))
-    (each (λ k. isExpression k || isPattern k || isUnknown (shape k .head)) 41 refl (q .kind) (omega (arith, fit-kind q f))) p (not-unknown (headOf q) q (fit-known q f))
 
 module _ (table : List ℕ) (n : ℕ) (ok : check table ≡ Accepted n) where
   abbrev rs : List Record
@@ -247,7 +218,7 @@ module _ (table : List ℕ) (n : ℕ) (ok : check table ≡ Accepted n) where
   unfolding meaning
   refuses-at m p g =
       reads-to (suc (last (sheet table))) (last (sheet table)) unbound (omega arith) (omega (arith, fine .some-record))
-      (expression (recordAt rs (last (sheet table))) (fine .fit (last (sheet table)) (omega (arith, fine .some-record))) (last-sort rs (fine .clear6) (last (sheet table)) (omega (arith, fine .some-record))))
+      (fit-expression (recordAt rs (last (sheet table))) (fine .fit (last (sheet table)) (omega (arith, fine .some-record))) (last-sort rs (fine .clear6) (last (sheet table)) (omega (arith, fine .some-record))))
       (record {
         sized = refl;
         has = λ x l b. never (sym (bound-last rs (fine .clear6) (last (sheet table)) x (omega (arith, fine .some-record))) ∙ b);

@@ -15,7 +15,7 @@ use Rattle.tables.specs.declared.Role.{Role}
 use Rattle.tables.specs.declared.Role.the-variants.{Pattern}
 use Rattle.tables.specs.declared.Checked.{Checked}
 use Rattle.tables.specs.declared.Checked.the-variants.{Accepted, Refused}
-use Rattle.tables.specs.Record.{Record, Shape, shape, field, size, headOf, isPattern, operands, named, operand, roleAt, nameOf, fits, isKnown, isFit}
+use Rattle.tables.specs.Record.{Record, Head, nothing, boolean, integer, name, unary, binary, unknown, Shape, shape, field, size, headOf, isExpression, isPattern, operands, named, operand, roleAt, nameOf, fits, isKnown, isFit}
 use Rattle.tables.specs.Table.{cut, recordAt, kindAt}
 use Rattle.tables.specs.Sheet.{any, lowest, some, greatest, isIn, isName, holdsName, height, parent, roleIn, isCovered, isCondition, isBinder, patternOf, climb, isBound, inCondition}
 use Rattle.tables.specs.Check.{mostBytes, mostRecords, mostHeight, isOfSort, allNamed, namedBefore, isBad, fault6, fault7, chooses, fault8, fault9, judged, judgedCut, check}
@@ -89,7 +89,7 @@ accepted-short table n e =
 pub cut-accepted : (table index : List ℕ) (c : Cutting) (n : ℕ) → CutOut table index c → check table ≡ Accepted n → Indexed table index
 cut-accepted table index c n out e =
     let few : length (records table) ≤ mostRecords = accepted-fine table n e .0 .few in
-    record { few = few; place = λ r h. out .places r h (omega arith) }
+    record { few = few; entry = λ r h. out .entries r h (omega arith) }
 
 -- ---- one record
 
@@ -138,6 +138,36 @@ pub fit-kind : (r : Record) → isFit r ≡ true → r .kind ≤ 40
 unfolding shape
 fit-kind r fit =
     by-lower 40 (r .kind) (λ h. never (sym (ap (λ (s : Shape). isKnown (s .head) r) (beyond (r .kind) h)) ∙ fit-known r fit)) (λ h. h)
+
+-- A record that is fit and no pattern is an expression.
+abbrev isUnknown : Head → Bool
+isUnknown nothing = false
+isUnknown boolean = false
+isUnknown integer = false
+isUnknown name = false
+isUnknown unary = false
+isUnknown binary = false
+isUnknown unknown = true
+
+known-head : (h : Head) (r : Record) → isKnown h r ≡ true → isUnknown h ≡ false
+known-head nothing r e = refl
+known-head boolean r e = refl
+known-head integer r e = refl
+known-head name r e = refl
+known-head unary r e = refl
+known-head binary r e = refl
+known-head unknown r e = never e
+
+pub fit-expression : (r : Record) → isFit r ≡ true → isPattern (r .kind) ≡ false → isExpression (r .kind) ≡ true
+unfolding shape
+fit-expression r fit p =
+    go (isExpression (r .kind)) (isPattern (r .kind)) (isUnknown (headOf r))
+    (each (λ k. isExpression k || isPattern k || isUnknown (shape k .head)) 41 refl (r .kind) (omega (arith, fit-kind r fit))) p (known-head (headOf r) r (fit-known r fit))
+  where
+    go : (a b c : Bool) → a || b || c ≡ true → b ≡ false → c ≡ false → a ≡ true
+    go true b c f g h = refl
+    go false true c f g h = never (sym g)
+    go false false c f g h = never (sym h ∙ f)
 
 -- ---- of a table that keeps rule 6
 

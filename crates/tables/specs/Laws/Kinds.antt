@@ -4,14 +4,15 @@ use mathlib.Core.Bool.{Bool, true, false, not, Bool·beq, _&&_, _||_}
 use mathlib.Core.List.{[], map}
 use Prim.Native.Nat.{ℕ, _≤_, _<_}
 use native.Mathlib.Omega.{arith}
-use borrow.Author.Tests.{lt-leb, le-leb, leb-true, ne-eqb}
+use borrow.Author.Tests.{lt-leb, le-leb, leb-true, eqb-true, ne-eqb}
 use lib.Dec.{eqb, leb}
 use lib.ListN.{List·getD-eq-default}
 use mathlib.Mathlib.Data.Bool.Basic.{and-elim-left, and-elim-right}
 use Rattle.prelude.proofs.Absurd.{never}
 use Rattle.tables.specs.Record.{Record, Shape, missing, shapes, shape, ofExpressions, ofPatterns, isExpression, isPattern}
 use Rattle.tables.specs.Sheet.{any, some, isLoose, isCovered, isBinder}
-use Rattle.prelude.proofs.Truth.{by-lower}
+use Rattle.tables.specs.Shapes.{firstOf}
+use Rattle.prelude.proofs.Truth.{implied, by-lower}
 use Rattle.tables.specs.Laws.Tests.{each}
 
 -- There is no kind above 40.
@@ -81,3 +82,13 @@ binder-most k e = leb-true k 20 (and-elim-right (leb 12 k) _ (sym (binder-kinds 
 
 pub binder-kind : (k : ℕ) → 12 ≤ k → k ≤ 20 → isBinder k ≡ true
 binder-kind k l m = binder-kinds k ∙ rw (le-leb 12 k l, le-leb k 20 m)
+
+-- ---- where operands begin
+
+pub plain-begins : (k : ℕ) → 6 ≤ k → k < 32 → 4 ≡ firstOf k
+unfolding shape
+plain-begins k l h = eqb-true 4 _ (implied (leb 6 k) _ (each (λ k. not (leb 6 k) || eqb 4 (firstOf k)) 32 refl k h) (le-leb 6 k l))
+
+pub operator-begins : (k : ℕ) → 3 < k → k < 6 → 5 ≡ firstOf k
+unfolding shape
+operator-begins k l h = eqb-true 5 _ (implied (leb 4 k) _ (each (λ k. not (leb 4 k) || eqb 5 (firstOf k)) 6 refl k h) (le-leb 4 k (omega arith)))

@@ -1,4 +1,4 @@
-use Rattle.bindings.proofs.Writing.{halves}
+use Rattle.integers.proofs.Written.{halves-stored}
 use borrow.Author.Needs.{needs}
 use Rattle.bindings.proofs.filling.put_word.Statement.{statement}
 use Rattle.bindings.proofs.filling.put_word.Tie as tie
@@ -24,7 +24,7 @@ same-length c = search needs
 
 -- src/filling.rt:18:1
 returns : tie.Need-returns
-returns c = halves (c .before .before .before .before .before .before .before .before .before .args .s .now) (c .before .before .before .before .before .before .put16 .last .0) (c .before .before .put162 .last .0) (c .before .before .before .before .before .before .before .before .before .args .at) (c .before .before .before .before .before .before .before .before .before .args .word) (c .before .before .before .before .before .before .put16 .ensures) (c .before .before .put162 .ensures)
+returns c = halves-stored (c .before .before .before .before .before .before .before .before .before .args .s .now) (c .before .before .before .before .before .before .put16 .last .0) (c .before .before .put162 .last .0) (c .before .before .before .before .before .before .before .before .before .args .at) (c .before .before .before .before .before .before .before .before .before .args .word) (c .before .before .before .before .before .before .put16 .ensures) (c .before .before .put162 .ensures)
 
 pub put-word-spec : {M : Type 1} → statement M
 put-word-spec = tie.close (tie.spec put16-requires add-put16 put16-requires-2 same-length returns)

@@ -6,96 +6,68 @@ use borrow.Author.Tests.{not-false}
 use Rattle.prelude.proofs.Absurd.{never}
 use Rattle.tables.specs.Accepted.{records}
 use Rattle.checking.specs.Sweeps.{sortOf}
-use Rattle.checking.proofs.Gathering.{entered, entered-bare, sort-literal, sort-any}
+use Rattle.checking.proofs.Shapes.{sort-literal, sort-any}
+use Rattle.checking.proofs.Entering.{entered, entered-bare}
 use borrow.Author.Needs.{needs}
 use Rattle.checking.proofs.sweep.enter.Statement.{statement}
 use Rattle.checking.proofs.sweep.enter.Tie as tie
-use Rattle.checking.proofs.sweep.enter.Reads as reads
-use Rattle.checking.proofs.sweep.enter.Lts as lts
-use Rattle.checking.proofs.sweep.gather.Reads as gather-reads
-use Rattle.checking.proofs.sweep.names_of.Reads as names-of-reads
-use Rattle.checking.proofs.sweep.sort_of.Reads as sort-of-reads
-use Rattle.tables.proofs.reading.kind.Reads as kind-reads
 
--- src/sweep.rt:271:9
 kind-requires : tie.Need-kind-requires
 kind-requires c κs = search needs
 
--- src/sweep.rt:273:9
 element-write-left : tie.Need-element-write-left
 element-write-left c = search needs
 
--- src/sweep.rt:274:9
 element-write-highs : tie.Need-element-write-highs
 element-write-highs c = search needs
 
--- src/sweep.rt:275:9
 returns : tie.Need-returns
 returns c = λ e. entered-bare (records (c .before .before .before .args .table .now)) (c .before .before .before .args .below .now) (c .before .before .before .args .frees .now) (c .before .before .before .args .highs .now) (c .before .before .before .args .r) (c .before .before .before .args .left .now) (c .before .before .before .pre .here .indexed .few) (c .before .before .before .pre .here .within) (inl (omega (arith, c .before .kind .ensures .0, c .if1 .taken))) (c .before .before .before .pre .left-is) (c .before .before .before .pre .kept) 1 (sort-literal _ (omega (arith, c .before .kind .ensures .0, c .if1 .taken)))
 
--- src/sweep.rt:278:9
 element-write-left-2 : tie.Need-element-write-left-2
 element-write-left-2 c = search needs
 
--- src/sweep.rt:279:9
 element-write-highs-2 : tie.Need-element-write-highs-2
 element-write-highs-2 c = search needs
 
--- src/sweep.rt:280:9
 returns-2 : tie.Need-returns-2
 returns-2 c = λ e. entered-bare (records (c .before .before .before .before .args .table .now)) (c .before .before .before .before .args .below .now) (c .before .before .before .before .args .frees .now) (c .before .before .before .before .args .highs .now) (c .before .before .before .before .args .r) (c .before .before .before .before .args .left .now) (c .before .before .before .before .pre .here .indexed .few) (c .before .before .before .before .pre .here .within) (inr (omega (arith, c .before .before .kind .ensures .0, c .if2 .taken))) (c .before .before .before .before .pre .left-is) (c .before .before .before .before .pre .kept) 2 (sort-any _ (omega (arith, c .before .before .kind .ensures .0, c .if2 .taken)))
 
--- src/sweep.rt:282:9
-names-of-requires : tie.Need-names-of-requires
-names-of-requires c κs = search needs
+sum-of-requires : tie.Need-sum-of-requires
+sum-of-requires c κs = (record { ask = c .before .before .before .before .before .before .before .before .pre; is = c .before .before .before .before .before .before .kind .ensures .0 }, omega (arith, c .before .before .before .before .before .if1 .left))
 
--- src/sweep.rt:283:9
-gather-requires : tie.Need-gather-requires
-gather-requires c κs = search needs
-
--- src/sweep.rt:286:9
 returns-3 : tie.Need-returns-3
 returns-3 c = λ e. never e
 
--- src/sweep.rt:288:15
 sort-of-requires : tie.Need-sort-of-requires
 sort-of-requires c κs = search needs
 
--- src/sweep.rt:288:5
 element-write-left-3 : tie.Need-element-write-left-3
 element-write-left-3 c = search needs
 
--- src/sweep.rt:289:5
 mul-below : tie.Need-mul-below
 mul-below c = search needs
 
--- src/sweep.rt:289:5
 element-write-below : tie.Need-element-write-below
 element-write-below c = search needs
 
--- src/sweep.rt:290:5
 mul-frees : tie.Need-mul-frees
 mul-frees c = search needs
 
--- src/sweep.rt:290:5
 element-write-frees : tie.Need-element-write-frees
 element-write-frees c = search needs
 
--- src/sweep.rt:292:17
 add-highs : tie.Need-add-highs
-add-highs c = omega (arith, (c .before .before .gather .ensures (not-false _ (c .before .if3 .left))) .few, c .before .before .before .before .before .before .before .before .before .before .before .before .before .pre .here .within, c .before .before .before .before .before .before .before .before .before .before .before .before .before .pre .here .indexed .few)
+add-highs c = omega (arith, (c .before .before .sum-of .ensures (not-false _ (c .before .if3 .left))) .few, c .before .before .before .before .before .before .before .before .before .before .before .pre .here .within, c .before .before .before .before .before .before .before .before .before .before .before .pre .here .indexed .few)
 
--- src/sweep.rt:292:16
 cast-highs : tie.Need-cast-highs
-cast-highs c = omega (arith, (c .before .before .gather .ensures (not-false _ (c .before .if3 .left))) .few, c .before .before .before .before .before .before .before .before .before .before .before .before .before .pre .here .within, c .before .before .before .before .before .before .before .before .before .before .before .before .before .pre .here .indexed .few)
+cast-highs c = omega (arith, (c .before .before .sum-of .ensures (not-false _ (c .before .if3 .left))) .few, c .before .before .before .before .before .before .before .before .before .before .before .pre .here .within, c .before .before .before .before .before .before .before .before .before .before .before .pre .here .indexed .few)
 
--- src/sweep.rt:292:5
 element-write-highs-3 : tie.Need-element-write-highs-3
 element-write-highs-3 c = search needs
 
--- src/sweep.rt:259:1
 returns-4 : tie.Need-returns-4
-returns-4 c = λ e. entered (records (c .before .before .before .before .before .before .before .before .before .before .before .before .before .args .table .now)) (c .before .before .before .before .before .before .before .before .before .before .before .before .before .args .below .now) (c .before .before .before .before .before .before .before .before .before .before .before .before .before .args .frees .now) (c .before .before .before .before .before .before .before .before .before .before .before .before .before .args .highs .now) (c .before .before .before .before .before .before .before .before .before .before .before .before .before .args .r) _ (c .before .before .gather .result) (c .before .before .before .before .before .before .before .before .before .before .before .before .before .pre .here .indexed .few) (c .before .before .before .before .before .before .before .before .before .before .before .before .before .pre .here .within) (c .before .before .before .before .before .before .before .before .before .before .before .before .before .pre .kept) (c .before .before .gather .ensures (not-false _ (c .before .if3 .left))) _ _ _ _ (c .sort-of .result) (c .sort-of .ensures ∙ ap sortOf (c .before .before .before .before .before .before .before .before .before .before .before .kind .ensures .0)) refl refl refl refl
+returns-4 c = λ e. entered (records (c .before .before .before .before .before .before .before .before .before .before .before .args .table .now)) (c .before .before .before .before .before .before .before .before .before .before .before .args .below .now) (c .before .before .before .before .before .before .before .before .before .before .before .args .frees .now) (c .before .before .before .before .before .before .before .before .before .before .before .args .highs .now) (c .before .before .before .before .before .before .before .before .before .before .before .args .r) _ (c .before .before .sum-of .result) (c .before .before .before .before .before .before .before .before .before .before .before .pre .here .indexed .few) (c .before .before .before .before .before .before .before .before .before .before .before .pre .here .within) (c .before .before .before .before .before .before .before .before .before .before .before .pre .kept) (c .before .before .sum-of .ensures (not-false _ (c .before .if3 .left))) _ _ _ _ (c .sort-of .result) (c .sort-of .ensures ∙ ap sortOf (c .before .before .before .before .before .before .before .before .before .kind .ensures .0)) refl refl refl refl
 
 pub enter-spec : {M : Type 1} → statement M
 enter-spec =
@@ -108,8 +80,7 @@ enter-spec =
     element-write-left-2
     element-write-highs-2
     returns-2
-    names-of-requires
-    gather-requires
+    sum-of-requires
     returns-3
     sort-of-requires
     element-write-left-3

@@ -4,7 +4,7 @@ use native.Mathlib.Omega.{arith}
 use borrow.Author.Tests.{not-false}
 use Rattle.prelude.proofs.Absurd.{never}
 use Rattle.tables.specs.Accepted.{records}
-use Rattle.checking.proofs.Gathering.{Runs, runs-start, runs-more, runs-end}
+use Rattle.checking.proofs.Entering.{Runs, runs-start, runs-more, runs-end}
 use Rattle.checking.proofs.sweep.enter_all.Statement.{statement}
 use Rattle.checking.proofs.sweep.enter_all.Tie as tie
 

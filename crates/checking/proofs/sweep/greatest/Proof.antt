@@ -3,7 +3,7 @@ use Prim.Native.Nat.{ℕ, _-_, _≤_, _<_}
 use lib.ListN.{getD}
 use native.Mathlib.Omega.{arith}
 use borrow.Author.Needs.{needs}
-use Rattle.checking.proofs.Gathering.{max-more}
+use Rattle.checking.proofs.Entering.{max-more}
 use Rattle.checking.proofs.sweep.greatest.Statement.{statement}
 use Rattle.checking.proofs.sweep.greatest.Tie as tie
 

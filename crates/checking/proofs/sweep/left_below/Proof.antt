@@ -3,7 +3,7 @@ use mathlib.Core.Path.{refl}
 use Prim.Native.Nat.{ℕ, _-_, _≤_, _<_}
 use lib.ListN.{getD}
 use native.Mathlib.Omega.{arith}
-use Rattle.checking.proofs.Gathering.{or-more}
+use Rattle.checking.proofs.Entering.{or-more}
 use Rattle.checking.proofs.sweep.left_below.Statement.{statement}
 use Rattle.checking.proofs.sweep.left_below.Tie as tie
 

@@ -5,7 +5,7 @@ use Prim.Native.Nat.{ℕ, _-_, _≤_, _<_}
 use native.Mathlib.Omega.{arith}
 use borrow.Author.Needs.{needs}
 use Rattle.checking.specs.Sweeps.{isTall}
-use Rattle.checking.proofs.Gathering.{lowest-none, lowest-first, short-more}
+use Rattle.checking.proofs.Entering.{lowest-none, lowest-first, short-more}
 use Rattle.checking.proofs.sweep.lowest_tall.Statement.{statement}
 use Rattle.checking.proofs.sweep.lowest_tall.Tie as tie
 

@@ -6,7 +6,7 @@ use borrow.Author.Tests.{not-false}
 use Rattle.prelude.proofs.Absurd.{never}
 use Rattle.tables.specs.Accepted.{records}
 use Rattle.checking.proofs.Leaving.{left-start}
-use Rattle.checking.proofs.Gathering.{none-kept, settled}
+use Rattle.checking.proofs.Entering.{none-kept, settled}
 use Rattle.checking.proofs.sweep.sweep.Statement.{statement}
 use Rattle.checking.proofs.sweep.sweep.Tie as tie
 

@@ -1,7 +1,10 @@
 -- The member `begin` of the cycle.
-use Prim.Native.Nat.{ℕ}
+use mathlib.Core.List.{List}
+use Prim.Native.Nat.{ℕ, _-_}
+use lib.ListN.{length, take, drop}
+use lib.Seq.{take-all}
 use native.Mathlib.Omega.{arith}
-use mathlib.Core.Path.{refl, sym, subst}
+use mathlib.Core.Path.{_≡_, refl, sym, subst}
 use borrow.Author.Needs.{needs}
 use Rattle.evaluator.proofs.Firsts.{plain-first}
 use Rattle.evaluator.proofs.+begin+bin+binds+comp+cond+eval+holds+inside+item+local+logic+many+maps+one+pair+quant+step+such+survey+un.Proof.Common.{begin-at, eval-below}
@@ -17,6 +20,7 @@ use Rattle.evaluator.proofs.begin.Reads as begin
 use Rattle.evaluator.proofs.eval.Reads as eval
 use Rattle.bindings.proofs.open.Reads as open-reads
 use Rattle.evaluator.proofs.binding.opening.Reads as opening-reads
+use Rattle.tables.proofs.reading.noted_operand.Reads as noted-operand-reads
 use Rattle.tables.proofs.reading.operand_from.Reads as operand-from-reads
 use Rattle.evaluator.proofs.words.refusal.Reads as refusal-reads
 use Rattle.evaluator.proofs.binding.suits.Reads as suits-reads
@@ -24,27 +28,42 @@ use Rattle.evaluator.proofs.+begin+bin+binds+comp+cond+eval+holds+insid
 
 abbrev begin-calls : ℕ → begin-lts.Claims
 begin-calls t = (
-  operand-from-reads.Asked,
-  operand-from-reads.Learnt,
+  noted-operand-reads.Asked,
+  noted-operand-reads.Learnt,
   eval-below t,
   eval.Post,
   suits-reads.Asked,
   suits-reads.Learnt,
   refusal-reads.Asked,
   refusal-reads.Learnt,
+  operand-from-reads.Asked,
+  operand-from-reads.Learnt,
   open-reads.Asked,
   open-reads.Learnt,
   opening-reads.Asked,
   opening-reads.Learnt,
 )
 
+-- The whole table, cut anew.
+whole-part : (s : List ℕ) → take (length s - 0) (drop 0 s) ≡ s
+whole-part s = take-all (length s - 0) s (omega arith)
+
+begin-sub-table : (t : ℕ) → begin-lts.Need-sub-table (begin-calls t) (begin-at t) begin.Post
+begin-sub-table t c = search needs
+
+begin-part-table-start : (t : ℕ) → begin-lts.Need-part-table-start (begin-calls t) (begin-at t) begin.Post
+begin-part-table-start t c = search needs
+
+begin-part-table-end : (t : ℕ) → begin-lts.Need-part-table-end (begin-calls t) (begin-at t) begin.Post
+begin-part-table-end t c = search needs
+
 -- src/lib.rt:321:9
-begin-operand-from-requires : (t : ℕ) → begin-lts.Need-operand-from-requires (begin-calls t) (begin-at t) begin.Post
-begin-operand-from-requires t c κs = (binder-has (c .before .before .pre .1 .0) (subst Binder (sym (c .before .before .pre .1 .1)) (c .before .before .pre .1 .2)) 1 (omega arith), plain-first (c .before .before .pre .1 .1) (omega (arith, c .before .before .pre .1 .2)) (omega (arith, c .before .before .pre .1 .2)))
+begin-noted-operand-requires : (t : ℕ) → begin-lts.Need-noted-operand-requires (begin-calls t) (begin-at t) begin.Post
+begin-noted-operand-requires t c κs = rw (whole-part (c .before .before .before .args .table .now)) (binder-has (c .before .before .before .pre .1 .0) (subst Binder (sym (c .before .before .before .pre .1 .1)) (c .before .before .before .pre .1 .2)) 1 (omega arith), plain-first (c .before .before .before .pre .1 .1) (omega (arith, c .before .before .before .pre .1 .2)) (omega (arith, c .before .before .before .pre .1 .2)), omega arith)
 
 -- src/lib.rt:322:9
 begin-eval-requires : (t : ℕ) → begin-lts.Need-eval-requires (begin-calls t) (begin-at t) begin.Post
-begin-eval-requires t c κs = let h = first-asked (c .before .before .before .before .before .pre .1 .0) (binder-has (c .before .before .before .before .before .pre .1 .0) (subst Binder (sym (c .before .before .before .before .before .pre .1 .1)) (c .before .before .before .before .before .pre .1 .2)) 1 (omega arith)) (c .before .before .operand-from .ensures .0) in (omega (arith, h .0, c .before .before .before .before .before .pre .0), h .1)
+begin-eval-requires t c κs = let h = first-asked (c .before .before .before .before .before .before .pre .1 .0) (binder-has (c .before .before .before .before .before .before .pre .1 .0) (subst Binder (sym (c .before .before .before .before .before .before .pre .1 .1)) (c .before .before .before .before .before .before .pre .1 .2)) 1 (omega arith)) (rw (whole-part (c .before .before .before .before .before .before .args .table .now)) at (c .before .before .noted-operand .ensures .0)) in rw (whole-part (c .before .before .before .before .before .before .args .table .now)) (omega (arith, h .0, c .before .before .before .before .before .before .pre .0), h .1)
 
 -- src/lib.rt:324:9
 begin-same-length : (t : ℕ) → begin-lts.Need-same-length (begin-calls t) (begin-at t) begin.Post
@@ -52,11 +71,11 @@ begin-same-length t c = c .before .before .before .eval .ensures .kept .long
 
 -- src/lib.rt:324:9
 begin-returns : (t : ℕ) → begin-lts.Need-returns (begin-calls t) (begin-at t) begin.Post
-begin-returns t c = begin-off (c .before .before .before .before .before .before .before .before .before .pre .1 .0) (c .before .before .before .before .before .before .before .before .before .args .k) (c .before .before .before .before .before .before .operand-from .ensures .0) (c .before .before .before .eval .ensures) (unvalued (c .before .before .before .eval .result) (c .if1 .taken)) refl
+begin-returns t c = begin-off (c .before .before .before .before .before .before .before .before .before .before .pre .1 .0) (c .before .before .before .before .before .before .before .before .before .before .args .k) (rw (whole-part (c .before .before .before .before .before .before .before .before .before .before .args .table .now)) at (c .before .before .before .before .before .before .noted-operand .ensures .0)) (rw (whole-part (c .before .before .before .before .before .before .before .before .before .before .args .table .now)) at (c .before .before .before .eval .ensures)) (unvalued (c .before .before .before .eval .result) (c .if1 .taken)) refl
 
 -- src/lib.rt:326:9
 begin-suits-requires : (t : ℕ) → begin-lts.Need-suits-requires (begin-calls t) (begin-at t) begin.Post
-begin-suits-requires t c κs = begin-held (c .before .before .before .before .before .before .before .before .before .before .pre .1 .0) (c .before .before .before .before .before .before .before .before .before .before .args .k) (c .before .before .before .before .before .before .before .operand-from .ensures .0) (c .before .before .before .before .eval .ensures) (valued (c .before .before .before .before .eval .result) (c .before .if1 .left))
+begin-suits-requires t c κs = begin-held (c .before .before .before .before .before .before .before .before .before .before .before .pre .1 .0) (c .before .before .before .before .before .before .before .before .before .before .before .args .k) (rw (whole-part (c .before .before .before .before .before .before .before .before .before .before .before .args .table .now)) at (c .before .before .before .before .before .before .before .noted-operand .ensures .0)) (rw (whole-part (c .before .before .before .before .before .before .before .before .before .before .before .args .table .now)) at (c .before .before .before .before .eval .ensures)) (valued (c .before .before .before .before .eval .result) (c .before .if1 .left))
 
 -- src/lib.rt:327:9
 begin-refusal-requires : (t : ℕ) → begin-lts.Need-refusal-requires (begin-calls t) (begin-at t) begin.Post
@@ -68,19 +87,19 @@ begin-same-length-2 t c = c .before .before .before .before .before .before .bef
 
 -- src/lib.rt:327:9
 begin-returns-2 : (t : ℕ) → begin-lts.Need-returns-2 (begin-calls t) (begin-at t) begin.Post
-begin-returns-2 t c = begin-unfit (c .before .before .before .before .before .before .before .before .before .before .before .before .before .pre .1 .0) (c .before .before .before .before .before .before .before .before .before .before .before .before .before .args .k) (c .before .before .before .before .before .before .before .before .before .before .operand-from .ensures .0) (c .before .before .before .before .before .before .before .eval .ensures) (valued (c .before .before .before .before .before .before .before .eval .result) (c .before .before .before .before .if1 .left)) (c .before .before .suits .ensures) (not-true _ (c .before .if2 .taken)) (decoded (omega arith) (small-place (c .before .before .before .before .before .before .before .before .before .before .before .before .before .pre .1 .0)) (omega arith) (c .refusal .ensures))
+begin-returns-2 t c = begin-unfit (c .before .before .before .before .before .before .before .before .before .before .before .before .before .before .pre .1 .0) (c .before .before .before .before .before .before .before .before .before .before .before .before .before .before .args .k) (rw (whole-part (c .before .before .before .before .before .before .before .before .before .before .before .before .before .before .args .table .now)) at (c .before .before .before .before .before .before .before .before .before .before .noted-operand .ensures .0)) (rw (whole-part (c .before .before .before .before .before .before .before .before .before .before .before .before .before .before .args .table .now)) at (c .before .before .before .before .before .before .before .eval .ensures)) (valued (c .before .before .before .before .before .before .before .eval .result) (c .before .before .before .before .if1 .left)) (c .before .before .suits .ensures) (not-true _ (c .before .if2 .taken)) (decoded (omega arith) (small-place (c .before .before .before .before .before .before .before .before .before .before .before .before .before .before .pre .1 .0)) (omega arith) (c .refusal .ensures))
 
 -- src/lib.rt:329:9
-begin-operand-from-requires-2 : (t : ℕ) → begin-lts.Need-operand-from-requires-2 (begin-calls t) (begin-at t) begin.Post
-begin-operand-from-requires-2 t c κs = (binder-has (c .before .before .before .before .before .before .before .before .before .before .before .before .pre .1 .0) (subst Binder (sym (c .before .before .before .before .before .before .before .before .before .before .before .before .pre .1 .1)) (c .before .before .before .before .before .before .before .before .before .before .before .before .pre .1 .2)) 0 (omega arith), plain-first (c .before .before .before .before .before .before .before .before .before .before .before .before .pre .1 .1) (omega (arith, c .before .before .before .before .before .before .before .before .before .before .before .before .pre .1 .2)) (omega (arith, c .before .before .before .before .before .before .before .before .before .before .before .before .pre .1 .2)))
+begin-operand-from-requires : (t : ℕ) → begin-lts.Need-operand-from-requires (begin-calls t) (begin-at t) begin.Post
+begin-operand-from-requires t c κs = rw (whole-part (c .before .before .before .before .before .before .before .before .before .before .before .before .before .args .table .now)) (binder-has (c .before .before .before .before .before .before .before .before .before .before .before .before .before .pre .1 .0) (subst Binder (sym (c .before .before .before .before .before .before .before .before .before .before .before .before .before .pre .1 .1)) (c .before .before .before .before .before .before .before .before .before .before .before .before .before .pre .1 .2)) 0 (omega arith), plain-first (c .before .before .before .before .before .before .before .before .before .before .before .before .before .pre .1 .1) (omega (arith, c .before .before .before .before .before .before .before .before .before .before .before .before .before .pre .1 .2)) (omega (arith, c .before .before .before .before .before .before .before .before .before .before .before .before .before .pre .1 .2)))
 
 -- src/lib.rt:330:76
 begin-add-open : (t : ℕ) → begin-lts.Need-add-open (begin-calls t) (begin-at t) begin.Post
-begin-add-open t c = omega (arith, room-here (c .before .before .before .before .before .before .before .before .before .before .before .before .before .before .pre .1 .0), c .before .before .before .before .before .before .before .before .before .before .before .before .before .before .pre .1 .0 .low)
+begin-add-open t c = omega (arith, room-here (c .before .before .before .before .before .before .before .before .before .before .before .before .before .before .before .pre .1 .0), c .before .before .before .before .before .before .before .before .before .before .before .before .before .before .before .pre .1 .0 .low)
 
 -- src/lib.rt:330:9
 begin-open-requires : (t : ℕ) → begin-lts.Need-open-requires (begin-calls t) (begin-at t) begin.Post
-begin-open-requires t c κs = (binder-readable (c .before .before .before .before .before .before .before .before .before .before .before .before .before .before .pre .1 .0) (subst Binder (sym (c .before .before .before .before .before .before .before .before .before .before .before .before .before .before .pre .1 .1)) (c .before .before .before .before .before .before .before .before .before .before .before .before .before .before .pre .1 .2)) (c .before .operand-from2 .ensures .0), begin-lent (c .before .before .before .before .before .before .before .before .before .before .before .before .before .before .pre .1 .0) (c .before .before .before .before .before .before .before .before .before .before .before .before .before .before .args .k) (c .before .before .before .before .before .before .before .before .before .before .before .operand-from .ensures .0) (c .before .before .before .before .before .before .before .before .eval .ensures) (valued (c .before .before .before .before .before .before .before .before .eval .result) (c .before .before .before .before .before .if1 .left)) (c .before .before .before .suits .ensures) (not-false _ (c .before .before .if2 .left)))
+begin-open-requires t c κs = rw (whole-part (c .before .before .before .before .before .before .before .before .before .before .before .before .before .before .before .args .table .now)) (binder-readable (c .before .before .before .before .before .before .before .before .before .before .before .before .before .before .before .pre .1 .0) (subst Binder (sym (c .before .before .before .before .before .before .before .before .before .before .before .before .before .before .before .pre .1 .1)) (c .before .before .before .before .before .before .before .before .before .before .before .before .before .before .before .pre .1 .2)) (rw (whole-part (c .before .before .before .before .before .before .before .before .before .before .before .before .before .before .before .args .table .now)) at (c .before .operand-from .ensures .0)), begin-lent (c .before .before .before .before .before .before .before .before .before .before .before .before .before .before .before .pre .1 .0) (c .before .before .before .before .before .before .before .before .before .before .before .before .before .before .before .args .k) (rw (whole-part (c .before .before .before .before .before .before .before .before .before .before .before .before .before .before .before .args .table .now)) at (c .before .before .before .before .before .before .before .before .before .before .before .noted-operand .ensures .0)) (rw (whole-part (c .before .before .before .before .before .before .before .before .before .before .before .before .before .before .before .args .table .now)) at (c .before .before .before .before .before .before .before .before .eval .ensures)) (valued (c .before .before .before .before .before .before .before .before .eval .result) (c .before .before .before .before .before .if1 .left)) (c .before .before .before .suits .ensures) (not-false _ (c .before .before .if2 .left)))
 
 -- src/lib.rt:331:5
 begin-opening-requires : (t : ℕ) → begin-lts.Need-opening-requires (begin-calls t) (begin-at t) begin.Post
@@ -88,15 +107,18 @@ begin-opening-requires t c κs = search needs
 
 -- src/lib.rt:307:1
 begin-same-length-3 : (t : ℕ) → begin-lts.Need-same-length-3 (begin-calls t) (begin-at t) begin.Post
-begin-same-length-3 t c = (begin-opened (c .before .before .before .before .before .before .before .before .before .before .before .before .before .before .before .before .before .before .before .pre .1 .0) (c .before .before .before .before .before .before .before .before .before .before .before .before .before .before .before .before .before .before .before .args .k) (c .before .before .before .before .before .before .before .before .before .before .before .before .before .before .before .before .operand-from .ensures .0) (c .before .before .before .before .before .before .before .before .before .before .before .before .before .eval .ensures) (valued (c .before .before .before .before .before .before .before .before .before .before .before .before .before .eval .result) (c .before .before .before .before .before .before .before .before .before .before .if1 .left)) (c .before .before .before .before .before .before .before .before .suits .ensures) (not-false _ (c .before .before .before .before .before .before .before .if2 .left)) (c .before .before .before .before .before .before .operand-from2 .ensures .0) (c .before .before .before .before .«open» .ensures) (c .opening .ensures)) .kept .long
+begin-same-length-3 t c = (begin-opened (c .before .before .before .before .before .before .before .before .before .before .before .before .before .before .before .before .before .before .before .before .pre .1 .0) (c .before .before .before .before .before .before .before .before .before .before .before .before .before .before .before .before .before .before .before .before .args .k) (rw (whole-part (c .before .before .before .before .before .before .before .before .before .before .before .before .before .before .before .before .before .before .before .before .args .table .now)) at (c .before .before .before .before .before .before .before .before .before .before .before .before .before .before .before .before .noted-operand .ensures .0)) (rw (whole-part (c .before .before .before .before .before .before .before .before .before .before .before .before .before .before .before .before .before .before .before .before .args .table .now)) at (c .before .before .before .before .before .before .before .before .before .before .before .before .before .eval .ensures)) (valued (c .before .before .before .before .before .before .before .before .before .before .before .before .before .eval .result) (c .before .before .before .before .before .before .before .before .before .before .if1 .left)) (c .before .before .before .before .before .before .before .before .suits .ensures) (not-false _ (c .before .before .before .before .before .before .before .if2 .left)) (rw (whole-part (c .before .before .before .before .before .before .before .before .before .before .before .before .before .before .before .before .before .before .before .before .args .table .now)) at (c .before .before .before .before .before .before .operand-from .ensures .0)) (rw (whole-part (c .before .before .before .before .before .before .before .before .before .before .before .before .before .before .before .before .before .before .before .before .args .table .now)) at (c .before .before .before .before .«open» .ensures)) (c .opening .ensures)) .kept .long
 
 -- src/lib.rt:307:1
 begin-returns-3 : (t : ℕ) → begin-lts.Need-returns-3 (begin-calls t) (begin-at t) begin.Post
-begin-returns-3 t c = begin-opened (c .before .before .before .before .before .before .before .before .before .before .before .before .before .before .before .before .before .before .before .pre .1 .0) (c .before .before .before .before .before .before .before .before .before .before .before .before .before .before .before .before .before .before .before .args .k) (c .before .before .before .before .before .before .before .before .before .before .before .before .before .before .before .before .operand-from .ensures .0) (c .before .before .before .before .before .before .before .before .before .before .before .before .before .eval .ensures) (valued (c .before .before .before .before .before .before .before .before .before .before .before .before .before .eval .result) (c .before .before .before .before .before .before .before .before .before .before .if1 .left)) (c .before .before .before .before .before .before .before .before .suits .ensures) (not-false _ (c .before .before .before .before .before .before .before .if2 .left)) (c .before .before .before .before .before .before .operand-from2 .ensures .0) (c .before .before .before .before .«open» .ensures) (c .opening .ensures)
+begin-returns-3 t c = begin-opened (c .before .before .before .before .before .before .before .before .before .before .before .before .before .before .before .before .before .before .before .before .pre .1 .0) (c .before .before .before .before .before .before .before .before .before .before .before .before .before .before .before .before .before .before .before .before .args .k) (rw (whole-part (c .before .before .before .before .before .before .before .before .before .before .before .before .before .before .before .before .before .before .before .before .args .table .now)) at (c .before .before .before .before .before .before .before .before .before .before .before .before .before .before .before .before .noted-operand .ensures .0)) (rw (whole-part (c .before .before .before .before .before .before .before .before .before .before .before .before .before .before .before .before .before .before .before .before .args .table .now)) at (c .before .before .before .before .before .before .before .before .before .before .before .before .before .eval .ensures)) (valued (c .before .before .before .before .before .before .before .before .before .before .before .before .before .eval .result) (c .before .before .before .before .before .before .before .before .before .before .if1 .left)) (c .before .before .before .before .before .before .before .before .suits .ensures) (not-false _ (c .before .before .before .before .before .before .before .if2 .left)) (rw (whole-part (c .before .before .before .before .before .before .before .before .before .before .before .before .before .before .before .before .before .before .before .before .args .table .now)) at (c .before .before .before .before .before .before .operand-from .ensures .0)) (rw (whole-part (c .before .before .before .before .before .before .before .before .before .before .before .before .before .before .before .before .before .before .before .before .args .table .now)) at (c .before .before .before .before .«open» .ensures)) (c .opening .ensures)
 
 pub begin-member : {M : Type 1} (t : ℕ) → begin-lts.Closed (begin-calls t) (begin-at t) begin.Post M
 begin-member t = begin-lts.spec (begin-calls t) (begin-at t) begin.Post
-    (begin-operand-from-requires t)
+    (begin-sub-table t)
+    (begin-part-table-start t)
+    (begin-part-table-end t)
+    (begin-noted-operand-requires t)
     (begin-eval-requires t)
     (begin-same-length t)
     (begin-returns t)
@@ -104,7 +126,7 @@ begin-member t = begin-lts.spec (begin-calls t) (begin-at t) begin.Post
     (begin-refusal-requires t)
     (begin-same-length-2 t)
     (begin-returns-2 t)
-    (begin-operand-from-requires-2 t)
+    (begin-operand-from-requires t)
     (begin-add-open t)
     (begin-open-requires t)
     (begin-opening-requires t)

@@ -1,17 +1,13 @@
 -- `integers::bytes::put32` meets its contract: the store of the low half and then of the high one is one store of both.
-use mathlib.Core.Path.{_≡_, ap, _∙_}
-use mathlib.Core.List.{List}
-use Prim.Native.Nat.{ℕ, _+_, _/_, _%_}
+use mathlib.Core.Path.{ap, _∙_}
+use Prim.Native.Nat.{ℕ}
 use borrow.Author.Needs.{needs}
 use lib.Seq.{sets}
 use mir.Facts.{toZ-ofZ}
-use Rattle.integers.specs.Bytes.{pair, four, bitsOf}
-use Rattle.integers.proofs.Written.{sets-then}
+use Rattle.integers.specs.Bytes.{four, bitsOf}
+use Rattle.integers.proofs.Written.{halves-stored}
 use Rattle.integers.proofs.bytes.put32.Statement.{statement}
 use Rattle.integers.proofs.bytes.put32.Tie as tie
-
-halves : (s t u : List ℕ) (at n : ℕ) → t ≡ sets s at (pair (n % 65536)) → u ≡ sets t (at + 2) (pair (n / 65536)) → u ≡ sets s at (four n)
-halves s t u at n p q = q ∙ ap (λ (l : List ℕ). sets l (at + 2) (pair (n / 65536))) p ∙ sets-then (pair (n % 65536)) (pair (n / 65536)) s at
 
 bits-of-requires : tie.Need-bits-of-requires
 bits-of-requires c κs = search needs
@@ -36,7 +32,7 @@ returns c =
     let start = c .before .before .before .before .before .before .before .before .before .before in
     let s = start .args .s .now in
     let at = start .args .at in
-    halves s (low .last .0) (high .last .0) at (bits .result) (low .ensures) (high .ensures)
+    halves-stored s (low .last .0) (high .last .0) at (bits .result) (low .ensures) (high .ensures)
     ∙ ap (λ (n : ℕ). sets s at (four n)) (bits .ensures .is ∙ ap bitsOf (toZ-ofZ (start .fits .z)))
 
 pub put32-spec : {M : Type 1} → statement M

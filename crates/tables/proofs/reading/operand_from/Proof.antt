@@ -1,6 +1,7 @@
 -- Operands stand after the head.
 use Rattle.tables.proofs.Stand.{field-byte, rest-long, in-index, four-there, operand-within, operand-is}
 use lib.ListN.{getD}
+use Rattle.tables.specs.Reading.{placeIn}
 use Prim.Native.Nat.{ℕ, _+_}
 use native.Mathlib.Omega.{arith}
 use mathlib.Core.Path.{ap, _∙_}
@@ -29,8 +30,8 @@ byte-of-requires c κs = omega (arith, operand-within (c .before .before .before
 returns : tie.Need-returns
 returns c = (
   c .byte-of .ensures .0
-      ∙ field-byte (c .before .before .before .before .args .table .now) (c .before .before .place .result) (getD (c .before .before .before .before .args .index .now) (c .before .before .before .before .args .r) 0) (c .before .before .before .before .args .first + c .before .before .before .before .args .i) (c .before .before .place .ensures)
-      ∙ ap (λ (f : ℕ). getD (c .before .before .before .before .args .table .now) (getD (c .before .before .before .before .args .index .now) (c .before .before .before .before .args .r) 0 + (f + c .before .before .before .before .args .i)) 0) (c .before .before .before .before .pre .1)
+      ∙ field-byte (c .before .before .before .before .args .table .now) (c .before .before .place .result) (placeIn (getD (c .before .before .before .before .args .index .now) (c .before .before .before .before .args .r) 0)) (c .before .before .before .before .args .first + c .before .before .before .before .args .i) (c .before .before .place .ensures)
+      ∙ ap (λ (f : ℕ). getD (c .before .before .before .before .args .table .now) (placeIn (getD (c .before .before .before .before .args .index .now) (c .before .before .before .before .args .r) 0) + (f + c .before .before .before .before .args .i)) 0) (c .before .before .before .before .pre .1)
       ∙ operand-is (c .before .before .before .before .args .table .now) (c .before .before .before .before .args .index .now) (c .before .before .before .before .args .r) (c .before .before .before .before .pre .0 .here) (c .before .before .before .before .args .i) (c .before .before .before .before .pre .0 .has),
   c .byte-of .ensures .1,
 )
