@@ -22,7 +22,7 @@ use Rattle.tables.specs.Check.{isOfSort, allNamed, namedBefore, isBad, chooses}
 use Rattle.tables.specs.Accepted.{records}
 use Rattle.tables.specs.Reading.{Here}
 use Rattle.tables.specs.Laws.Tests.{any-false}
-use Rattle.tables.specs.Laws.Kinds.{binder-kind, binder-most, plain-begins}
+use Rattle.tables.specs.Laws.Kinds.{binder-kind, binder-from, binder-most, plain-begins}
 use Rattle.tables.specs.Laws.Accepted.{Clear6, lower, operand-lower, height-at, fit-records, fit-kind}
 use Rattle.checking.specs.declared.sweep.Sum.{Sum}
 use Rattle.checking.specs.declared.sweep.Handed.{Handed}
@@ -31,7 +31,7 @@ use Rattle.checking.specs.Sweeps.{without, apart, sortOf, Left, asked, i
 use Rattle.checking.proofs.Bits.{bit-union, bit-pow, held-name, held-loose, held-even}
 use Rattle.checking.proofs.Marks.{all-more}
 use Rattle.checking.proofs.Below.{Turn, turn-start, turn-more, turn-end}
-use Rattle.checking.proofs.Shapes.{binder-least, binder-expression, roles-many, one-role, second-role, body-role, binder-some, expression-own, NoOperand, leaf-none, leaf-own, leaf-free}
+use Rattle.checking.proofs.Shapes.{binder-expression, roles-many, one-role, second-role, body-role, binder-some, expression-own, NoOperand, leaf-none, leaf-own, leaf-free}
 use Rattle.checking.proofs.Leaving.{Due, due, left-take, sort-expression, sort-pattern, not-bad, clear}
 use Rattle.checking.proofs.Closing.{without-bit, apart-bit}
 
@@ -350,8 +350,8 @@ binder-is {table} {index} {r} {kind} ask e =
     let three : 3 ≤ length (named (recordAt (records table) r)) = binder-some (recordAt (records table) r) (fit-here ask) binder in
     record {
       own-is = expression-own (recordAt (records table) r) (binder-expression (kindAt (records table) r) binder);
-      free = λ names. ap (λ (k : ℕ). choiceOf k names) (ask .is) ∙ free-choice (recordAt (records table) r) names _ (λ f. omega (arith, binder-least (kindAt (records table) r) binder)) refl;
-      first = plain-begins (kindAt (records table) r) (omega (arith, binder-least (kindAt (records table) r) binder)) (omega (arith, binder-most (kindAt (records table) r) binder));
+      free = λ names. ap (λ (k : ℕ). choiceOf k names) (ask .is) ∙ free-choice (recordAt (records table) r) names _ (λ f. omega (arith, binder-from (kindAt (records table) r) binder)) refl;
+      first = plain-begins (kindAt (records table) r) (omega (arith, binder-from (kindAt (records table) r) binder)) (omega (arith, binder-most (kindAt (records table) r) binder));
       some-roles = omega (arith, ap (λ (k : ℕ). length (rolesOf k)) (ask .is), roles-many (recordAt (records table) r));
       some-named = three;
       role = λ i. ap (λ (k : ℕ). getD (rolesOf k) i Plain) (ask .is);

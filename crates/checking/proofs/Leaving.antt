@@ -89,12 +89,15 @@ left-start rs =
 
 -- ---- sorts
 
-pub sort-expression : (x : Record) → isFit x ≡ true → sortOf (x .kind) ≡ 1 → isExpression (x .kind) ≡ true
-sort-expression x fit e = fit-expression x fit (go (isPattern (x .kind)) e)
+sort-plain : (k : ℕ) → sortOf k ≡ 1 → isPattern k ≡ false
+sort-plain k e = go (isPattern k) e
   where
     go : (b : Bool) → _≡_ {A = ℕ} (cond b 2 1) 1 → b ≡ false
     go true f = absurd (omega arith)
     go false f = refl
+
+pub sort-expression : (x : Record) → isFit x ≡ true → sortOf (x .kind) ≡ 1 → isExpression (x .kind) ≡ true
+sort-expression x fit e = fit-expression x fit (sort-plain (x .kind) e)
 
 pub sort-pattern : (k : ℕ) → sortOf k ≡ 2 → isPattern k ≡ true
 sort-pattern k e = go (isPattern k) e
@@ -116,12 +119,8 @@ clear rs left last is few good l none one r h =
     (λ k. rw (ne-eqb (suc r) (length rs) (λ e. omega arith)) (ap not (named r k)))
     (λ k.
     let same : r ≡ last = omega arith in
-    rw (same, eq-eqb (suc last) (length rs) is) (plain (isPattern (kindAt rs last)) (due rs (length rs) (allNamed rs) left last 1 l (omega arith) one (omega arith) .sort))))
+    rw (same, eq-eqb (suc last) (length rs) is) (sort-plain (kindAt rs last) (due rs (length rs) (allNamed rs) left last 1 l (omega arith) one (omega arith) .sort))))
   where
-    plain : (b : Bool) → _≡_ {A = ℕ} (cond b 2 1) 1 → b ≡ false
-    plain true e = absurd (omega arith)
-    plain false e = refl
-
     never-zero : (b : Bool) → _≡_ {A = ℕ} (cond b 2 1) 0 → ⊥
     never-zero true e = omega arith
     never-zero false e = omega arith

@@ -4,67 +4,33 @@ use mathlib.Core.Bool.{Bool, true, false, not, _||_, cond}
 use mathlib.Core.Logic.{_⊎_, ⊎-elim}
 use Prim.Native.Nat.{ℕ, _≤_, _<_}
 use native.Mathlib.Omega.{arith}
-use borrow.Author.Tests.{eqb-true, ne-eqb, leb-true, le-leb, not-true}
-use lib.Dec.{eqb, leb}
+use borrow.Author.Tests.{eqb-true, leb-true, le-leb, not-true}
+use lib.Dec.{eqb}
 use lib.ListN.{length, getD, drop}
-use mathlib.Mathlib.Data.Bool.Basic.{and-elim-left, and-elim-right}
+use mathlib.Mathlib.Data.Bool.Basic.{and-elim-right}
 use Rattle.prelude.proofs.Absurd.{never}
 use Rattle.prelude.proofs.Truth.{by-test, by-lower}
-use Rattle.tables.specs.declared.Role.{Role}
-use Rattle.tables.specs.declared.Role.the-variants.{Plain, Condition, Body, Pattern, Name}
+use Rattle.tables.specs.declared.Role.the-variants.{Plain, Body, Pattern}
 use Rattle.tables.specs.Record.{Record, shape, size, headOf, isPattern, isFit, operands, named, roleAt}
 use Rattle.tables.specs.Sheet.{any, isBinder}
-use Rattle.tables.specs.Laws.Tests.{any-none, each}
-use Rattle.tables.specs.Laws.Kinds.{not-loose, pattern-kinds, binder-kinds, binder-most, pattern-least}
+use Rattle.tables.specs.Laws.Tests.{each}
+use Rattle.tables.specs.Laws.Kinds.{not-loose, pattern-kinds, binder-most, pattern-least}
+use Rattle.tables.specs.Shapes.{binderRole}
+use Rattle.tables.specs.Laws.Roles.{roleBy, role-by, binder-later}
 use Rattle.tables.specs.Laws.Operands.{operands-few, isFirst, binder-roles}
-use Rattle.tables.specs.Laws.Accepted.{pattern-role, named-count, fit-least, fit-kind}
+use Rattle.tables.specs.Laws.Accepted.{named-count, fit-least, fit-kind}
 use Rattle.checking.specs.Scopes.{own}
 use Rattle.checking.specs.Sweeps.{sortOf, oneRole}
 use Rattle.checking.proofs.Below.{own-none}
 
-pub binder-least : (k : ℕ) → isBinder k ≡ true → 12 ≤ k
-binder-least k e = leb-true 12 k (and-elim-left _ (leb k 20) (sym (binder-kinds k) ∙ e))
-
 pub binder-expression : (k : ℕ) → isBinder k ≡ true → isPattern k ≡ false
 binder-expression k e = by-test {P = isPattern k ≡ false} (isPattern k) (λ f. absurd (omega (arith, binder-most k e, pattern-least k f))) (λ f. f)
 
--- No kind below 41 is above the expressions' but a pattern's.
+-- A kind of at most 40 that is no pattern's is below 32.
 pub plain-low : (k : ℕ) → k ≤ 40 → isPattern k ≡ false → k < 32
 plain-low k h e = by-lower k 32 (λ l. l) (λ l. never (sym e ∙ pattern-kinds k ∙ rw (le-leb 32 k l, le-leb k 40 h)))
 
 -- ---- what operands are for
-
-abbrev isPlain : Role → Bool
-isPlain Plain = true
-isPlain Condition = false
-isPlain Body = false
-isPlain Pattern = false
-isPlain Name = false
-
-abbrev isBody : Role → Bool
-isBody Plain = false
-isBody Condition = false
-isBody Body = true
-isBody Pattern = false
-isBody Name = false
-
-is-plain : (x : Role) → isPlain x ≡ true → Plain ≡ x
-is-plain Plain e = refl
-is-plain Condition e = never e
-is-plain Body e = never e
-is-plain Pattern e = never e
-is-plain Name e = never e
-
-is-body : (x : Role) → isBody x ≡ true → Body ≡ x
-is-body Plain e = never e
-is-body Condition e = never e
-is-body Body e = refl
-is-body Pattern e = never e
-is-body Name e = never e
-
--- An expression's operands are plain, but for a binder's first and third; its bodies are from the fourth on. One test, computed over all kinds and their operands.
-abbrev isRight : ℕ → ℕ → Role → Bool
-isRight k i x = isPattern k || cond (isBinder k) (cond (eqb i 1) (isPlain x) (not (leb 3 i) || isBody x)) (isPlain x)
 
 -- No record has more operands than its kind has roles.
 pub roles-many : (x : Record) → length (named x) ≤ length (shape (x .kind) .roles)
@@ -72,24 +38,21 @@ unfolding operands
 roles-many x = operands-few (shape (x .kind) .roles) (drop (size (headOf x)) (x .fields))
 
 module _ (x : Record) (fit : isFit x ≡ true) where
-  right : (i : ℕ) → i < length (named x) → isRight (x .kind) i (roleAt x i) ≡ true
-  unfolding shape
-  right i h =
-      each (λ i. isRight (x .kind) i (getD (shape (x .kind) .roles) i Plain)) (length (shape (x .kind) .roles))
-      (any-none (λ k. any (λ i. not (isRight k i (getD (shape k .roles) i Plain))) (length (shape k .roles))) 41 refl (x .kind) (omega (arith, fit-kind x fit))) i
-      (omega (arith, roles-many x))
+  role-told : (i : ℕ) → i < length (named x) → roleBy (x .kind) i ≡ roleAt x i
+  role-told i h = sym (role-by (x .kind) i (fit-kind x fit) (omega (arith, roles-many x)))
 
   pub one-role : isBinder (x .kind) ≡ false → (i : ℕ) → i < length (named x) → oneRole (x .kind) ≡ roleAt x i
-  one-role e i h =
-      by-test {P = oneRole (x .kind) ≡ roleAt x i} (isPattern (x .kind)) (λ f. rw f (sym (pattern-role x i f h)))
-      (λ f. rw f (is-plain (roleAt x i) (rw (f, e) at (right i h))))
+  one-role e i h = sym (ap (cond (isPattern (x .kind)) Pattern) (rw e)) ∙ role-told i h
 
   module _ (binds : isBinder (x .kind) ≡ true) where
+    binder-told : (i : ℕ) → i < length (named x) → binderRole (x .kind) i ≡ roleAt x i
+    binder-told i h = rw (binder-expression (x .kind) binds, binds) at (role-told i h)
+
     pub second-role : 1 < length (named x) → Plain ≡ roleAt x 1
-    second-role h = is-plain (roleAt x 1) (rw (binder-expression (x .kind) binds, binds) at (right 1 h))
+    second-role h = binder-told 1 h
 
     pub body-role : (i : ℕ) → 3 ≤ i → i < length (named x) → Body ≡ roleAt x i
-    body-role i l h = is-body (roleAt x i) (rw (binder-expression (x .kind) binds, binds, ne-eqb i 1 (omega arith), le-leb 3 i l) at (right i h))
+    body-role i l h = sym (binder-later (x .kind) i (λ e. omega arith) (λ e. omega arith) (λ e. omega arith)) ∙ binder-told i h
 
     -- A binder has three operands or more.
     pub binder-some : 3 ≤ length (named x)

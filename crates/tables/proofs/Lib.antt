@@ -1,6 +1,5 @@
 -- What the proofs of the readers need, and the check computed on samples; nobody else cites it.
 mod Lengths
-mod Roles
 mod Heads
 mod Fit
 mod Cutting

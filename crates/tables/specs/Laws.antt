@@ -3,5 +3,6 @@ pub mod Tests
 pub mod Kinds
 pub mod Cutting
 pub mod Operands
+pub mod Roles
 pub mod Below
 pub mod Accepted

@@ -77,6 +77,9 @@ pattern-most k e = leb-true k 40 (and-elim-right (leb 32 k) _ (sym (pattern-kind
 pub pattern-least : (k : ℕ) → isPattern k ≡ true → 32 ≤ k
 pattern-least k e = leb-true 32 k (and-elim-left _ (leb k 40) (sym (pattern-kinds k) ∙ e))
 
+pub binder-from : (k : ℕ) → isBinder k ≡ true → 12 ≤ k
+binder-from k e = leb-true 12 k (and-elim-left _ (leb k 20) (sym (binder-kinds k) ∙ e))
+
 pub binder-most : (k : ℕ) → isBinder k ≡ true → k ≤ 20
 binder-most k e = leb-true k 20 (and-elim-right (leb 12 k) _ (sym (binder-kinds k) ∙ e))
 

@@ -1,7 +1,7 @@
 -- By the operand's number.
 use mathlib.Core.Path.{sym, _∙_}
 use borrow.Author.Needs.{needs}
-use Rattle.tables.proofs.Roles.{binder-later}
+use Rattle.tables.specs.Laws.Roles.{binder-later}
 use Rattle.tables.proofs.shape.binder_role.Statement.{statement}
 use Rattle.tables.proofs.shape.binder_role.Tie as tie
 

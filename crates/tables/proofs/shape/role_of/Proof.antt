@@ -1,7 +1,7 @@
 -- By the kind's sort, and whether it binds.
 use mathlib.Core.Path.{sym, _∙_}
 use borrow.Author.Needs.{needs}
-use Rattle.tables.proofs.Roles.{role-by}
+use Rattle.tables.specs.Laws.Roles.{role-by}
 use Rattle.tables.proofs.shape.role_of.Statement.{statement}
 use Rattle.tables.proofs.shape.role_of.Tie as tie
 
