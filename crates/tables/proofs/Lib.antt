@@ -5,3 +5,4 @@ mod Fit
 mod Cutting
 mod Stand
 mod Sample
+pub mod Rules

@@ -4,6 +4,7 @@ pub mod Table
 pub mod Sheet
 pub mod Check
 pub mod Accepted
+pub mod Rules
 pub mod Shapes
 pub mod Reading
 pub mod Laws
