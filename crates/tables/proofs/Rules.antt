@@ -3,6 +3,8 @@ mod Tells
 mod Cutting
 mod Naming
 mod Around
+mod Scopes
+mod Conditions
 mod Heights
 mod Order
 pub mod Exact

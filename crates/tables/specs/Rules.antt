@@ -1,4 +1,4 @@
--- Document 01, "Table records" and "From the input": where a table breaks each of the rules 3 to 9, and what the check answers. `check-exact` (Laws/Rules/Exact) proves that the
+-- Document 01, "Table records" and "From the input": where a table breaks each of the rules 3 to 9, and what the check answers. `check-exact` (proofs/Rules/Exact) proves that the
 -- check answers so.
 use mathlib.Core.Path.{_≡_}
 use mathlib.Core.Bool.{true}
@@ -129,23 +129,30 @@ Covered Body = Unit {0}
 Covered Pattern = ⊥
 Covered Name = ⊥
 
--- The name n is bound around the record r: r is or lies below an operand that the names of a binder cover, and the binder's pattern, its first operand, holds n.
+-- The name n is bound around the record r: the first operand of a binder, its pattern, holds n, and r is or lies below an operand that the binder's names cover.
 pub record Bound (rs : List Record) (r n : ℕ) : Type 0 where
   pub binder : ℕ
-  pub number : ℕ
-  pub covered : ℕ
-  pub names : Names rs binder number covered
-  pub is-covered : Covered (roleAt (recordAt rs binder) number)
-  pub around : Within rs r covered
   pub its-pattern : ℕ
   pub first : Names rs binder 0 its-pattern
   pub holds : Holds rs its-pattern n
+  pub number : ℕ
+  pub inner : ℕ
+  pub names : Names rs binder number inner
+  pub covered : Covered (roleAt (recordAt rs binder) number)
+  pub around : Within rs r inner
 
--- Rule 7: a name not bound around it, or a pattern name already bound around its binder. (A pattern lies outside what its own binder covers, so around it are the names bound around its
--- binder.) The place is that name's record.
+-- The record b is the binder of the pattern r: an expression whose first operand is a pattern, which is r or has r below it.
+pub record BinderOf (rs : List Record) (r b : ℕ) : Type 0 where
+  pub its-pattern : ℕ
+  pub first : Names rs b 0 its-pattern
+  pub binds : shape (kindAt rs b) .sort ≡ expression
+  pub is-pattern : shape (kindAt rs its-pattern) .sort ≡ pattern
+  pub around : Within rs r its-pattern
+
+-- Rule 7: a name not bound around it, or a pattern name already bound around its binder. The place is that name's record.
 pub data Fault7 (rs : List Record) (r : ℕ) : Type 0 where
   unbound : kindAt rs r ≡ 3 → ¬ Bound rs r (nameOf (recordAt rs r)) → Fault7 rs r
-  bound-already : kindAt rs r ≡ 32 → Bound rs r (nameOf (recordAt rs r)) → Fault7 rs r
+  bound-already : kindAt rs r ≡ 32 → (b : ℕ) → BinderOf rs r b → Bound rs b (nameOf (recordAt rs r)) → Fault7 rs r
 
 -- ---- rule 8
 
@@ -171,8 +178,8 @@ Fault8 rs r = Chooses rs r × InCondition rs r
 
 -- The heights of the records: a record without operands has 1, others one more than the highest operand.
 pub record Heights (rs : List Record) (height : ℕ → ℕ) : Type 0 where
-  pub lone : (r : ℕ) → r < length rs → length (named (recordAt rs r)) ≡ 0 → height r ≡ 1
-  pub other : (r i n : ℕ) → Names rs r i n → ((j m : ℕ) → Names rs r j m → height m ≤ height n) → height r ≡ suc (height n)
+  pub without : (r : ℕ) → r < length rs → length (named (recordAt rs r)) ≡ 0 → height r ≡ 1
+  pub others : (r i n : ℕ) → Names rs r i n → ((j m : ℕ) → Names rs r j m → height m ≤ height n) → height r ≡ suc (height n)
 
 -- Rule 9: height over 32.
 pub record Fault9 (rs : List Record) (r : ℕ) : Type 0 where

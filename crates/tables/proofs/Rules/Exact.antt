@@ -21,7 +21,8 @@ use Rattle.tables.specs.Rules.{Broken3, empty, large, Broken4, RecordsOf
 use Rattle.tables.proofs.Rules.Tells.{Tells, refuted, tells-or, tells-lower, tells-same}
 use Rattle.tables.proofs.Rules.Cutting.{CutIs, all-cut, not-cut, cut-is, records-same, no-records, broken-same}
 use Rattle.tables.proofs.Rules.Naming.{tells6}
-use Rattle.tables.proofs.Rules.Around.{tells7, tells8}
+use Rattle.tables.proofs.Rules.Scopes.{tells7}
+use Rattle.tables.proofs.Rules.Conditions.{tells8}
 use Rattle.tables.proofs.Rules.Heights.{tells9}
 use Rattle.tables.proofs.Rules.Order.{Tests, Says, accepts, tested, refused-first, first-refused, accepted-kept, kept-accepted, first-refuses, refuses-first}
 
@@ -122,7 +123,7 @@ module _ (table : List ℕ) where
       tested table (rule 6 (OfRecords Fault6)) _ k _ (lowest (fault6 rs) k) _ (tests-records are Fault6 (fault6 rs) 6 (tells6 rs))
       (λ e6.
       let clear6 : Clear6 rs = clear (fault6 rs) k e6 in
-      tested table (rule 7 (OfRecords Fault7)) _ k _ (lowest (fault7 rs) k) _ (tests-records are Fault7 (fault7 rs) 7 (tells7 rs clear6))
+      tested table (rule 7 (OfRecords Fault7)) _ k _ (lowest (fault7 rs) k) _ (tests-records are Fault7 (fault7 rs) 7 (tells7 rs clear6 (fit-records table)))
       (λ e7.
       tested table (rule 8 (OfRecords Fault8)) _ k _ (lowest (fault8 rs) k) _ (tests-records are Fault8 (fault8 rs) 8 (tells8 rs clear6 (fit-records table)))
       (λ e8.

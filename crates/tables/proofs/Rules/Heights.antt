@@ -39,8 +39,8 @@ module _ (rs : List Record) (clear6 : Clear6 rs) where
   computed : Heights rs (height rs)
   computed =
       record {
-        lone = λ r h e. height-at rs clear6 r h ∙ ap suc (none r h e (greatest-of (height rs) (named (recordAt rs r))));
-        other = λ r i n o f. height-at rs clear6 r (o .is-record) ∙ ap suc (most r i n o f (greatest-of (height rs) (named (recordAt rs r))));
+        without = λ r h e. height-at rs clear6 r h ∙ ap suc (none r h e (greatest-of (height rs) (named (recordAt rs r))));
+        others = λ r i n o f. height-at rs clear6 r (o .is-record) ∙ ap suc (most r i n o f (greatest-of (height rs) (named (recordAt rs r))));
       }
     where
       none : (r : ℕ) → r < length rs → length (named (recordAt rs r)) ≡ 0 → Greatest (height rs) (named (recordAt rs r)) → greatest (map (height rs) (named (recordAt rs r))) ≡ 0
@@ -58,12 +58,12 @@ module _ (rs : List Record) (clear6 : Clear6 rs) where
   only f is (suc bound) r b h = go (greatest-of (height rs) (named (recordAt rs r))) (λ m k. only f is bound m (omega arith) (omega arith))
     where
       go : Greatest (height rs) (named (recordAt rs r)) → ((m : ℕ) → m < r → f m ≡ height rs m) → f r ≡ height rs r
-      go (no-entry l g) same = omega (arith, is .lone r h l, height-at rs clear6 r h, g)
+      go (no-entry l g) same = omega (arith, is .without r h l, height-at rs clear6 r h, g)
       go (entry i l g) same =
           let n : ℕ = operand (recordAt rs r) i in
           let top : f n ≡ height rs n = same n (names-lower rs clear6 r i n (operand-names r i h l)) in
           omega (arith, height-at rs clear6 r h, g, top,
-          is .other r i n (operand-names r i h l) (λ j m o.
+          is .others r i n (operand-names r i h l) (λ j m o.
           omega (arith, same m (names-lower rs clear6 r j m o), top, g, greatest-all (height rs) (named (recordAt rs r)) j (o .is-operand), ap (height rs) (o .is))))
 
   pub tells9 : (r : ℕ) → r < length rs → Tells (fault9 rs r) (Fault9 rs r)

@@ -24,12 +24,12 @@ use Rattle.tables.proofs.Rules.Tells.{Tells, refuted, tells-as, tells-n
 
 -- ---- sorts
 
-expressions : (s : Sort) → Tells (ofExpressions s) (s ≡ expression)
+pub expressions : (s : Sort) → Tells (ofExpressions s) (s ≡ expression)
 expressions expression = record { yes = λ e. refl; back = λ e. refl }
 expressions pattern = record { yes = λ e. never e; back = λ e. ap ofExpressions e }
 expressions neither = record { yes = λ e. never e; back = λ e. ap ofExpressions e }
 
-patterns : (s : Sort) → Tells (ofPatterns s) (s ≡ pattern)
+pub patterns : (s : Sort) → Tells (ofPatterns s) (s ≡ pattern)
 patterns expression = record { yes = λ e. never e; back = λ e. ap ofPatterns e }
 patterns pattern = record { yes = λ e. refl; back = λ e. refl }
 patterns neither = record { yes = λ e. never e; back = λ e. ap ofPatterns e }
