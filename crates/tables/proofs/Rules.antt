@@ -8,3 +8,4 @@ mod Conditions
 mod Heights
 mod Order
 pub mod Exact
+mod Sample

@@ -1,27 +1,22 @@
 -- What lies below a record and what lies around it, in a table that keeps rule 6.
-use mathlib.Core.Path.{_≡_, refl, sym, ap, _∙_}
-use mathlib.Core.Bool.{Bool, true, false, not, _&&_, _||_}
+use mathlib.Core.Path.{_≡_, refl, sym, _∙_}
+use mathlib.Core.Bool.{Bool, true, false, _||_}
 use mathlib.Core.Logic.{_⊎_, inl, inr, ⊎-elim}
 use mathlib.Core.List.{List, map}
 use Prim.Native.Nat.{ℕ, zero, suc, _+_, _<_, _≤_}
 use native.Mathlib.Omega.{arith}
-use borrow.Author.Tests.{eqb-true, eq-eqb}
-use lib.Dec.{eqb}
-use lib.ListN.{length, getD}
-use mathlib.Mathlib.Data.Bool.Basic.{and-elim-left, and-elim-right, and-intro, or-inl, or-inr}
+use lib.ListN.{length}
+use mathlib.Mathlib.Data.Bool.Basic.{or-inl, or-inr}
 use Rattle.prelude.proofs.Absurd.{never}
 use Rattle.prelude.proofs.Truth.{by-lower, or-cases}
-use Rattle.tables.specs.declared.Role.{Role}
-use Rattle.tables.specs.declared.Role.the-variants.{Plain, Condition, Body, Pattern, Name}
-use Rattle.tables.specs.Record.{Record, shape, size, named, operand, roleAt, nameOf, isFit}
-use Rattle.tables.specs.Table.{recordAt, kindAt}
-use Rattle.tables.specs.Sheet.{some, anyBelow, isName, holdsName, isLoose, loose, isCovered, isCondition, patternOf, isBound, inCondition}
-use Rattle.tables.specs.Check.{fault7, chooses, fault8}
+use Rattle.tables.specs.Record.{Record, named, operand}
+use Rattle.tables.specs.Table.{recordAt}
+use Rattle.tables.specs.Sheet.{some, anyBelow}
 use Rattle.tables.specs.Laws.Below.{fold-at}
-use Rattle.tables.specs.Laws.Accepted.{Clear6, lower, operand-lower, bound-operand, bound-last, condition-operand, condition-last, named-all, named-count, fit-least}
-use Rattle.tables.specs.Rules.{Names, Within, itself, below, Holds, Covered, Bound, Fault7, unbound, bound-already, Chooses, let-be, loose-let, InCondition, Fault8}
-use Rattle.tables.proofs.Rules.Tells.{Tells, refuted, tells-by, tells-as, tells-not, tells-or, tells-and, tells-same, tells-some, tells-true}
-use Rattle.tables.proofs.Rules.Naming.{Named, tells-named}
+use Rattle.tables.specs.Laws.Accepted.{Clear6, lower, operand-lower, named-all}
+use Rattle.tables.specs.Rules.{Names, Within, itself, below}
+use Rattle.tables.proofs.Rules.Tells.{Tells, tells-by, tells-as, tells-or, tells-some, tells-true}
+use Rattle.tables.proofs.Rules.Naming.{tells-named}
 
 -- What lies below a record has its operands below it too.
 pub within-operand : (rs : List Record) (a q i r : ℕ) → Within rs q a → Names rs q i r → Within rs r a

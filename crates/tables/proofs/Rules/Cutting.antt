@@ -1,13 +1,13 @@
 -- Rule 4 and the records of a table, and what cutting finds.
 use mathlib.Core.Path.{_≡_, refl, sym, ap, _∙_}
-use mathlib.Core.Bool.{Bool, true, false, not, _||_, cond}
-use mathlib.Core.Logic.{_⊎_, inl, inr, ⊎-elim}
+use mathlib.Core.Bool.{Bool, true, false, _||_, cond}
+use mathlib.Core.Logic.{_⊎_, inl, inr}
 use mathlib.Core.List.{List, [], _∷_}
 use Prim.Native.Nat.{ℕ, zero, suc, _+_, _*_, _-_, _/_, _%_, _<_, _≤_}
 use native.Mathlib.Omega.{arith}
 use native.Mathlib.Nat.{mod-add-div', mul-mod-left}
 use borrow.Author.Tests.{eqb-true, eqb-false}
-use lib.Dec.{eqb, ltb, leb}
+use lib.Dec.{eqb, ltb}
 use lib.ListN.{length, drop, length-drop}
 use Rattle.integers.specs.Bytes.{word}
 use Rattle.integers.specs.Whole.{inRange}
@@ -16,8 +16,8 @@ use Rattle.prelude.proofs.Truth.{by-test, by-lower}
 use Rattle.tables.specs.Record.{Record, Head, nothing, boolean, integer, name, unary, binary, unknown, Shape, shape, size, headOf, field, nameOf, operator, integerOf, fits, isKnown, isFit}
 use Rattle.tables.specs.Table.{firstRecord, Next, end, fault, one, next, Cut, onNext, cutBy, cut}
 use Rattle.tables.specs.Accepted.{records}
-use Rattle.tables.specs.Rules.{FitLength, Known, Unfit, few-left, length-under, length-past, length-unfit, not-known, afterFirst, Begins, Broken4, RecordsOf}
-use Rattle.tables.proofs.Rules.Tells.{Tells, refuted, tells-as, tells-not, tells-or, tells-and, tells-lower, tells-most, tells-same, tells-true}
+use Rattle.tables.specs.Rules.{FitLength, Known, Unfit, few-left, length-under, length-past, length-unfit, not-known, afterFirst, Broken4, RecordsOf}
+use Rattle.tables.proofs.Rules.Tells.{Tells, refuted, tells-as, tells-or, tells-and, tells-lower, tells-most, tells-same, tells-true}
 
 -- ---- one record
 

@@ -1,23 +1,23 @@
 -- The check refuses a table exactly where a rule of document 01 does.
 use mathlib.Core.Path.{_≡_, refl, sym, ap, _∙_}
-use mathlib.Core.Bool.{Bool, true, false, not, _||_}
+use mathlib.Core.Bool.{Bool, false, not, _||_}
 use mathlib.Core.Logic.{_⊎_, inl, inr, ⊎-elim}
-use mathlib.Core.List.{List, [], _∷_}
+use mathlib.Core.List.{List}
 use Prim.Native.Nat.{ℕ, _<_}
 use native.Mathlib.Omega.{arith}
 use borrow.Author.Tests.{ltb-true, ltb-false, not-true, not-false}
 use lib.Dec.{eqb, ltb}
 use lib.ListN.{length}
 use Rattle.prelude.proofs.Absurd.{never}
-use Rattle.tables.specs.declared.Checked.the-variants.{Accepted, Refused}
+use Rattle.tables.specs.declared.Checked.the-variants.{Accepted}
 use Rattle.tables.specs.Record.{Record}
-use Rattle.tables.specs.Table.{Cut, cut}
+use Rattle.tables.specs.Table.{cut}
 use Rattle.tables.specs.Sheet.{lowest}
 use Rattle.tables.specs.Check.{mostBytes, mostRecords, fault6, fault7, fault8, fault9, judged, judgedCut, check}
 use Rattle.tables.specs.Accepted.{records}
 use Rattle.tables.specs.Laws.Tests.{low}
 use Rattle.tables.specs.Laws.Accepted.{Clear6, fit-records}
-use Rattle.tables.specs.Rules.{Broken3, empty, large, Broken4, RecordsOf, Broken5, Fault6, Fault7, Fault8, Fault9, OfRecords, Rule, rule, rules, Kept, Refuses, Accepts, CheckIsExact}
+use Rattle.tables.specs.Rules.{Broken3, empty, large, Broken4, RecordsOf, Broken5, Fault6, Fault7, Fault8, Fault9, OfRecords, rule, rules, Kept, CheckIsExact}
 use Rattle.tables.proofs.Rules.Tells.{Tells, refuted, tells-or, tells-lower, tells-same}
 use Rattle.tables.proofs.Rules.Cutting.{CutIs, all-cut, not-cut, cut-is, records-same, no-records, broken-same}
 use Rattle.tables.proofs.Rules.Naming.{tells6}
@@ -134,15 +134,17 @@ module _ (table : List ℕ) where
   check-exact =
       record {
         refused =
-            λ n p.
-            (λ e. first-refuses table n p (refused-first table rules (length (records table)) (check table) n p says e),
-            λ r. first-refused table rules (length (records table)) (check table) n p says (refuses-first table n p r));
+            λ n p. (
+              λ e. first-refuses table n p (refused-first table rules (length (records table)) (check table) n p says e),
+              λ r. first-refused table rules (length (records table)) (check table) n p says (refuses-first table n p r),
+            );
         accepted =
-            λ k.
-            (λ e.
-            let (kept, same) = accepted-kept table rules (length (records table)) (check table) k says e in
-            record { kept = kept; records = records table; are = kept-are kept; number = same },
-            λ a.
-            let same : length (records table) ≡ k = ap length (records-same table (records table) (a .records) (kept-are (a .kept)) (a .are)) ∙ sym (a .number) in
-            kept-accepted table rules (length (records table)) (check table) says (a .kept) ∙ ap Accepted same);
+            λ k. (
+              λ e.
+                  let (kept, same) = accepted-kept table rules (length (records table)) (check table) k says e in
+                  record { kept = kept; records = records table; are = kept-are kept; number = same },
+              λ a.
+                  let same : length (records table) ≡ k = ap length (records-same table (records table) (a .records) (kept-are (a .kept)) (a .are)) ∙ sym (a .number) in
+                  kept-accepted table rules (length (records table)) (check table) says (a .kept) ∙ ap Accepted same,
+            );
       }

@@ -1,7 +1,7 @@
 -- Rule 9, of a table that keeps rule 6: the heights of the records are those that the check computes.
-use mathlib.Core.Path.{_≡_, refl, sym, ap, _∙_}
+use mathlib.Core.Path.{_≡_, refl, ap, _∙_}
 use mathlib.Core.List.{List, [], _∷_, map}
-use Prim.Native.Nat.{ℕ, zero, suc, max, _<_, _≤_}
+use Prim.Native.Nat.{ℕ, zero, suc, _<_, _≤_}
 use native.Mathlib.Omega.{arith}
 use lib.ListN.{length, getD}
 use Rattle.prelude.proofs.Truth.{by-lower}
@@ -62,9 +62,14 @@ module _ (rs : List Record) (clear6 : Clear6 rs) where
       go (entry i l g) same =
           let n : ℕ = operand (recordAt rs r) i in
           let top : f n ≡ height rs n = same n (names-lower rs clear6 r i n (operand-names r i h l)) in
-          omega (arith, height-at rs clear6 r h, g, top,
-          is .others r i n (operand-names r i h l) (λ j m o.
-          omega (arith, same m (names-lower rs clear6 r j m o), top, g, greatest-all (height rs) (named (recordAt rs r)) j (o .is-operand), ap (height rs) (o .is))))
+          omega (
+            arith,
+            height-at rs clear6 r h,
+            g,
+            top,
+            is .others r i n (operand-names r i h l) (λ j m o.
+                omega (arith, same m (names-lower rs clear6 r j m o), top, g, greatest-all (height rs) (named (recordAt rs r)) j (o .is-operand), ap (height rs) (o .is))),
+          )
 
   pub tells9 : (r : ℕ) → r < length rs → Tells (fault9 rs r) (Fault9 rs r)
   unfolding fault9

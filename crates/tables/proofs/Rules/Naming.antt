@@ -2,25 +2,25 @@
 use mathlib.Core.Path.{_≡_, refl, sym, ap, _∙_}
 use mathlib.Core.Bool.{Bool, true, false, not, _||_, cond}
 use mathlib.Core.Logic.{_⊎_, inl, inr, ⊎-elim}
-use mathlib.Core.List.{List, [], _∷_, _++_}
+use mathlib.Core.List.{List, [], _∷_}
 use Prim.Native.Nat.{ℕ, zero, suc, _<_, _≤_}
 use native.Mathlib.Omega.{arith}
 use borrow.Author.Tests.{eqb-true, eqb-false}
-use lib.Dec.{eqb, ltb}
-use lib.ListN.{length, getD, take, length-take}
+use lib.Dec.{eqb}
+use lib.ListN.{length, take, length-take}
 use lib.Seq.{getD-take}
 use mathlib.Mathlib.Data.Bool.Basic.{or-inl, or-inr}
 use Rattle.prelude.proofs.Absurd.{never}
-use Rattle.prelude.proofs.Truth.{by-test, by-lower, or-cases}
+use Rattle.prelude.proofs.Truth.{by-lower, or-cases}
 use Rattle.tables.specs.declared.Role.{Role}
 use Rattle.tables.specs.declared.Role.the-variants.{Plain, Condition, Body, Pattern, Name}
 use Rattle.tables.specs.Record.{Record, Sort, expression, pattern, neither, shape, ofExpressions, ofPatterns, isPattern, named, operand, roleAt}
 use Rattle.tables.specs.Table.{noRecord, recordAt, kindAt}
-use Rattle.tables.specs.Sheet.{any, isIn}
-use Rattle.tables.specs.Check.{isOfSort, allNamed, namedBefore, isBad, hasBad, isStray, fault6}
-use Rattle.tables.specs.Laws.Tests.{in-append, in-getD, Place, in-place}
+use Rattle.tables.specs.Sheet.{isIn}
+use Rattle.tables.specs.Check.{isOfSort, allNamed, namedBefore, isBad, isStray, fault6}
+use Rattle.tables.specs.Laws.Tests.{in-append, Place, in-place}
 use Rattle.tables.specs.Rules.{Names, OfSort, Before, Fault6, not-lower, wrong-sort, named-before, never-named, pattern-last}
-use Rattle.tables.proofs.Rules.Tells.{Tells, refuted, tells-as, tells-not, tells-or, tells-lower, tells-same, tells-any, tells-in}
+use Rattle.tables.proofs.Rules.Tells.{Tells, tells-as, tells-not, tells-or, tells-lower, tells-same, tells-any, tells-in}
 
 -- ---- sorts
 

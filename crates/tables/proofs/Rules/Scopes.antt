@@ -11,7 +11,7 @@ use Rattle.prelude.proofs.Absurd.{never}
 use Rattle.prelude.proofs.Truth.{by-test, by-lower}
 use Rattle.tables.specs.declared.Role.{Role}
 use Rattle.tables.specs.declared.Role.the-variants.{Plain, Condition, Body, Pattern, Name}
-use Rattle.tables.specs.Record.{Record, pattern, shape, size, headOf, ofExpressions, isPattern, operands, named, operand, roleAt, nameOf, isFit}
+use Rattle.tables.specs.Record.{Record, pattern, shape, size, headOf, ofExpressions, isPattern, operands, named, roleAt, nameOf, isFit}
 use Rattle.tables.specs.Table.{recordAt, kindAt}
 use Rattle.tables.specs.Shapes.{binderRole}
 use Rattle.tables.specs.Sheet.{isName, holdsName, isCovered, isBinder, patternOf, isBound}
