@@ -1,4 +1,4 @@
--- What the proofs of the readers need, and the check computed on samples; nobody else cites it.
+-- What the proofs of the readers need, and the check computed on samples; nobody else cites these. `Rules` proves that the check is exact.
 mod Lengths
 mod Heads
 mod Fit

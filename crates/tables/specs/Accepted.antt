@@ -1,4 +1,5 @@
--- What holds of every accepted table: it breaks no rule. `accepted-fine` (Laws/Accepted) proves it, and what follows for its records.
+-- What holds of every accepted table, by the tests of the check: what crates that read accepted tables cite. `accepted-fine` (Laws/Accepted) proves it, and what follows for its records.
+-- What the check accepts and refuses, exactly and by relations, is `CheckIsExact` (Rules).
 use mathlib.Core.Path.{_≡_}
 use mathlib.Core.Bool.{true, false}
 use mathlib.Core.List.{List}
@@ -23,6 +24,6 @@ pub record Fine (rs : List Record) : Type 0 where
   pub clear8 : (r : ℕ) → r < length rs → fault8 rs r ≡ false
   pub clear9 : (r : ℕ) → r < length rs → fault9 rs r ≡ false
 
--- What the check accepts breaks no rule, and the answer is the number of its records.
+-- What the check accepts breaks no rule, and the answer is the number of its records. (One way only; both ways: `CheckIsExact`.)
 abbrev pub AcceptedIsFine : Type 0
 AcceptedIsFine = (table : List ℕ) (n : ℕ) → check table ≡ Accepted n → Fine (records table) × (n ≡ length (records table))

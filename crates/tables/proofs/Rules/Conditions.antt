@@ -13,11 +13,11 @@ use Rattle.prelude.proofs.Absurd.{never}
 use Rattle.prelude.proofs.Truth.{or-cases}
 use Rattle.tables.specs.declared.Role.{Role}
 use Rattle.tables.specs.declared.Role.the-variants.{Plain, Condition, Body, Pattern, Name}
-use Rattle.tables.specs.Record.{Record, shape, size, named, roleAt, isFit}
+use Rattle.tables.specs.Record.{Record, shape, roleAt, isFit}
 use Rattle.tables.specs.Table.{recordAt, kindAt}
 use Rattle.tables.specs.Sheet.{isLoose, loose, isCondition, patternOf, inCondition}
 use Rattle.tables.specs.Check.{chooses, fault8}
-use Rattle.tables.specs.Laws.Accepted.{Clear6, condition-operand, condition-last, named-count, fit-least}
+use Rattle.tables.specs.Laws.Accepted.{Clear6, condition-operand, condition-last, let-operand}
 use Rattle.tables.specs.Rules.{Names, Within, Chooses, let-be, loose-let, InCondition, Fault8}
 use Rattle.tables.proofs.Rules.Tells.{Tells, tells-as, tells-and}
 use Rattle.tables.proofs.Rules.Around.{names-lower, tells-below, tells-around}
@@ -28,11 +28,6 @@ condition Condition = record { yes = λ e. refl; back = λ e. refl }
 condition Body = record { yes = λ e. never e; back = λ e. ap isCondition e }
 condition Pattern = record { yes = λ e. never e; back = λ e. ap isCondition e }
 condition Name = record { yes = λ e. never e; back = λ e. ap isCondition e }
-
--- A let has operands.
-pub let-operand : (x : Record) → isFit x ≡ true → x .kind ≡ 12 → 0 < length (named x)
-unfolding shape
-let-operand x fit e = omega (arith, named-count x fit, fit-least x fit, ap (λ (k : ℕ). size (shape k .head)) e, ap (λ (k : ℕ). shape k .least) e)
 
 module _ (rs : List Record) (clear6 : Clear6 rs) where
   tells-loose : (p : ℕ) → p < length rs → Tells (loose rs p) ((q : ℕ) × Within rs q p × (shape (kindAt rs q) .loose ≡ true))

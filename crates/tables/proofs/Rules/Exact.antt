@@ -16,7 +16,7 @@ use Rattle.tables.specs.Sheet.{lowest}
 use Rattle.tables.specs.Check.{mostBytes, mostRecords, fault6, fault7, fault8, fault9, judged, judgedCut, check}
 use Rattle.tables.specs.Accepted.{records}
 use Rattle.tables.specs.Laws.Tests.{low}
-use Rattle.tables.specs.Laws.Accepted.{Clear6, fit-records}
+use Rattle.tables.specs.Laws.Accepted.{clear, Clear6, fit-records}
 use Rattle.tables.specs.Rules.{Broken3, empty, large, Broken4, RecordsOf, Broken5, Fault6, Fault7, Fault8, Fault9, OfRecords, rule, rules, Kept, CheckIsExact}
 use Rattle.tables.proofs.Rules.Tells.{Tells, refuted, tells-or, tells-lower, tells-same}
 use Rattle.tables.proofs.Rules.Cutting.{CutIs, all-cut, not-cut, cut-is, records-same, no-records, broken-same}
@@ -102,9 +102,6 @@ module _ (table : List ℕ) where
 
         inside : (q : ℕ) → OfRecords Fault table q → q < length (records table)
         inside q b = rw (records-same table (b .records) (records table) (b .are) are) at (b .is-record)
-
-  clear : (fault : ℕ → Bool) (n : ℕ) → ltb (lowest fault n) n ≡ false → (r : ℕ) → r < n → fault r ≡ false
-  clear fault n e r h = low fault n .miss r (omega (arith, ltb-false (lowest fault n) n e))
 
   -- ---- the check
 

@@ -38,7 +38,7 @@ passed true k p x n e = impossible cc
 passed false k p x n e = record { not-refused = refl; on = e }
 
 -- No record below n is at fault where the lowest one at fault is not below n.
-clear : (test : ℕ → Bool) (n : ℕ) → ltb (lowest test n) n ≡ false → (r : ℕ) → r < n → test r ≡ false
+pub clear : (test : ℕ → Bool) (n : ℕ) → ltb (lowest test n) n ≡ false → (r : ℕ) → r < n → test r ≡ false
 clear test n e r h = low test n .miss r (omega (arith, ltb-false (lowest test n) n e))
 
 -- ---- cutting
@@ -132,6 +132,12 @@ pub operand-field : (r : Record) (i : ℕ) → i < length (named r) → operand 
 unfolding operands
 operand-field r i h =
     operands-at (shape (r .kind) .roles) (drop (size (headOf r)) (r .fields)) i h ∙ getD-drop (size (headOf r)) (r .fields) i 0
+
+-- A let has operands.
+pub let-operand : (r : Record) → isFit r ≡ true → r .kind ≡ 12 → 0 < length (named r)
+unfolding shape
+let-operand r fit e =
+    omega (arith, named-count r fit, fit-least r fit, ap (λ (k : ℕ). size (shape k .head)) e, ap (λ (k : ℕ). shape k .least) e)
 
 -- A kind that is known is at most 40.
 pub fit-kind : (r : Record) → isFit r ≡ true → r .kind ≤ 40
