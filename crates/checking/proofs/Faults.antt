@@ -2,15 +2,13 @@
 use mathlib.Core.Path.{_≡_, sym, ap, _∙_}
 use mathlib.Core.Bool.{Bool, true, false, not, or-false}
 use mathlib.Core.List.{List}
-use Prim.Native.Nat.{ℕ, _<_}
-use native.Mathlib.Omega.{arith}
+use Prim.Native.Nat.{ℕ}
 use borrow.Author.Tests.{ne-eqb}
-use lib.ListN.{length}
-use Rattle.tables.specs.Record.{Record, shape, size, named, nameOf, isFit}
+use Rattle.tables.specs.Record.{Record, nameOf}
 use Rattle.tables.specs.Table.{recordAt, kindAt}
 use Rattle.tables.specs.Sheet.{loose, patternOf, isBound, inCondition}
 use Rattle.tables.specs.Check.{fault7, chooses, fault8}
-use Rattle.tables.specs.Laws.Accepted.{named-count, fit-least}
+pub use Rattle.tables.specs.Laws.Accepted.{let-operand}
 
 module _ (rs : List Record) (r : ℕ) (b : Bool) where
   pub read7 : kindAt rs r ≡ 3 → b ≡ isBound rs r (nameOf (recordAt rs r)) → not b ≡ fault7 rs r
@@ -41,9 +39,3 @@ module _ (rs : List Record) (r : ℕ) where
   pub plain8 : kindAt rs r ≡ 12 → loose rs (patternOf rs r) ≡ false → false ≡ fault8 rs r
   unfolding fault8 chooses
   plain8 e l = rw (e, l)
-
--- A let has operands.
-pub let-operand : (x : Record) → isFit x ≡ true → x .kind ≡ 12 → 0 < length (named x)
-unfolding shape
-let-operand x fit e =
-    omega (arith, named-count x fit, fit-least x fit, ap (λ (k : ℕ). size (shape k .head)) e, ap (λ (k : ℕ). shape k .least) e)
