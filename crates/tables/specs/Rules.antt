@@ -1,5 +1,5 @@
--- Document 01, "Table records" and "From the input": where a table breaks each of the rules 3 to 9, and what the check answers. `check-exact` (proofs/Rules/Exact) proves that the
--- check answers so.
+-- Document 01, "Table records" and "From the input": where a table breaks each of the rules 3 to 9, and what the check answers. Each rule is a relation in its
+-- words, over the bytes of a table or the list of its records. `check-exact` (proofs/Rules/Exact) proves that the check answers so.
 use mathlib.Core.Path.{_≡_}
 use mathlib.Core.Bool.{true}
 use mathlib.Core.Logic.{_⊎_, _↔_}
@@ -13,24 +13,25 @@ use Rattle.tables.specs.declared.Role.the-variants.{Plain, Condition, Bo
 use Rattle.tables.specs.declared.Checked.the-variants.{Accepted, Refused}
 use Rattle.tables.specs.Record.{Record, expression, pattern, Head, nothing, boolean, integer, name, unary, binary, unknown, Shape, shape, size, headOf, field, nameOf, operator, integerOf, named, operand, roleAt}
 use Rattle.tables.specs.Table.{firstRecord, recordAt, kindAt}
-use Rattle.tables.specs.Check.{mostBytes, mostRecords, mostHeight, check}
+use Rattle.tables.specs.Check.{check}
 
 -- ---- rule 3
 
 -- Rule 3: table empty or over 2,400 bytes. The place is 0.
 pub data Broken3 (table : List ℕ) (p : ℕ) : Type 0 where
   empty : p ≡ 0 → length table ≡ 0 → Broken3 table p
-  large : p ≡ 0 → mostBytes < length table → Broken3 table p
+  large : p ≡ 0 → 2400 < length table → Broken3 table p
 
 -- ---- rule 4
 
--- A length is fit for a kind: its head, and operands, the least number of them or more by steps, at most one for each role.
+-- A number of fields is fit for a kind: those of its head and its operands, the least number of them or more by steps, at most one for each role.
 pub record FitLength (s : Shape) (n : ℕ) : Type 0 where
   pub steps : ℕ
   pub is : n ≡ size (s .head) + s .least + steps * s .step
   pub most : n ≤ size (s .head) + length (s .roles)
 
--- A literal, name or operator is known: booleans are 0 and 1, names 0 to 15, unary operators 1 to 15, binary ones 1 to 28. A kind without a row is unknown.
+-- A literal, name or operator is known: booleans are 0 and 1, names 0 to 15, unary operators 1 to 15, binary ones 1 to 28. (Every four bytes are an integer in
+-- range; a kind without a row has the head `unknown`.)
 abbrev pub Known : Head → Record → Type 0
 Known nothing x = Unit {0}
 Known boolean x = field x 0 ≤ 1
@@ -40,8 +41,8 @@ Known unary x = (1 ≤ operator x) × (operator x ≤ 15)
 Known binary x = (1 ≤ operator x) × (operator x ≤ 28)
 Known unknown x = ⊥
 
--- No record stands at the start of the bytes that are left. Rule 4: fewer than 4 bytes left for a record; a length under 4, past the end or unfit for the kind; unknown kind, operator,
--- name or literal.
+-- No record stands at the start of the bytes that are left: fewer than 4 bytes left for a record; a length under 4, past the end or unfit for the kind; unknown
+-- kind, operator, name or literal.
 pub data Unfit (left : List ℕ) : Type 0 where
   few-left : length left < 4 → Unfit left
   length-under : word left 0 < 4 → Unfit left
@@ -53,12 +54,12 @@ pub data Unfit (left : List ℕ) : Type 0 where
 abbrev pub afterFirst : List ℕ → List ℕ
 afterFirst bytes = drop (word bytes 0) bytes
 
--- Record p begins where these bytes are left: record 0 at the start of the table, each other one after the records before it.
+-- Record p begins where these bytes are left: record 0 with the table, and record p + 1 as record p of what follows the first record.
 abbrev pub Begins : List ℕ → ℕ → List ℕ → Type 0
 Begins table zero left = left ≡ table
 Begins table (suc p) left = ¬ Unfit table × Begins (afterFirst table) p left
 
--- Rule 4 is broken at the record p that cannot be cut out of the bytes that are left for it, or is unfit.
+-- Rule 4: record p begins before the end of the table, and no record stands there.
 pub record Broken4 (table : List ℕ) (p : ℕ) : Type 0 where
   pub left : List ℕ
   pub begins : Begins table p left
@@ -74,10 +75,10 @@ RecordsOf table (x ∷ rs) = ¬ Unfit table × (x ≡ firstRecord table) × Reco
 
 -- Rule 5: over 200 records. The place is 200.
 pub record Broken5 (table : List ℕ) (p : ℕ) : Type 0 where
-  pub place : p ≡ mostRecords
+  pub place : p ≡ 200
   pub records : List Record
   pub are : RecordsOf table records
-  pub many : mostRecords < length records
+  pub many : 200 < length records
 
 -- ---- rule 6
 
@@ -129,7 +130,8 @@ Covered Body = Unit {0}
 Covered Pattern = ⊥
 Covered Name = ⊥
 
--- The name n is bound around the record r: the first operand of a binder, its pattern, holds n, and r is or lies below an operand that the binder's names cover.
+-- The name n is bound around the record r: the first operand of a binder, its pattern, holds n, and r is or lies below an operand that the binder's names
+-- cover.
 pub record Bound (rs : List Record) (r n : ℕ) : Type 0 where
   pub binder : ℕ
   pub its-pattern : ℕ
@@ -156,10 +158,16 @@ pub data Fault7 (rs : List Record) (r : ℕ) : Type 0 where
 
 -- ---- rule 8
 
--- Kind 13, or a loose let: kind 12 whose pattern holds a 37, 38 or 40.
+-- A pattern p is loose: it is, or has below it, a 37, 38 or 40. (Their rows say so.)
+pub record Loose (rs : List Record) (p : ℕ) : Type 0 where
+  pub part : ℕ
+  pub within : Within rs part p
+  pub is-loose : shape (kindAt rs part) .loose ≡ true
+
+-- Kind 13, or a loose let.
 pub data Chooses (rs : List Record) (r : ℕ) : Type 0 where
   let-be : kindAt rs r ≡ 13 → Chooses rs r
-  loose-let : kindAt rs r ≡ 12 → (p q : ℕ) → Names rs r 0 p → Within rs q p → shape (kindAt rs q) .loose ≡ true → Chooses rs r
+  loose-let : kindAt rs r ≡ 12 → (p : ℕ) → Names rs r 0 p → Loose rs p → Chooses rs r
 
 -- The record r is, or lies below, the condition of a binder.
 pub record InCondition (rs : List Record) (r : ℕ) : Type 0 where
@@ -176,7 +184,7 @@ Fault8 rs r = Chooses rs r × InCondition rs r
 
 -- ---- rule 9
 
--- The heights of the records: a record without operands has 1, others one more than the highest operand.
+-- The heights of the records: a record without operands has 1, others one more than the highest operand. (Where operands are lower, there is one such function.)
 pub record Heights (rs : List Record) (height : ℕ → ℕ) : Type 0 where
   pub without : (r : ℕ) → r < length rs → length (named (recordAt rs r)) ≡ 0 → height r ≡ 1
   pub others : (r i n : ℕ) → Names rs r i n → ((j m : ℕ) → Names rs r j m → height m ≤ height n) → height r ≡ suc (height n)
@@ -185,7 +193,7 @@ pub record Heights (rs : List Record) (height : ℕ → ℕ) : Type 0 where
 pub record Fault9 (rs : List Record) (r : ℕ) : Type 0 where
   pub height : ℕ → ℕ
   pub heights : Heights rs height
-  pub over : mostHeight < height r
+  pub over : 32 < height r
 
 -- ---- the rules in order
 

@@ -18,7 +18,7 @@ use Rattle.tables.specs.Table.{recordAt, kindAt}
 use Rattle.tables.specs.Sheet.{isLoose, loose, isCondition, patternOf, inCondition}
 use Rattle.tables.specs.Check.{chooses, fault8}
 use Rattle.tables.specs.Laws.Accepted.{Clear6, condition-operand, condition-last, let-operand}
-use Rattle.tables.specs.Rules.{Names, Within, Chooses, let-be, loose-let, InCondition, Fault8}
+use Rattle.tables.specs.Rules.{Names, Loose, Chooses, let-be, loose-let, InCondition, Fault8}
 use Rattle.tables.proofs.Rules.Tells.{Tells, tells-as, tells-and}
 use Rattle.tables.proofs.Rules.Around.{names-lower, tells-below, tells-around}
 
@@ -30,9 +30,11 @@ condition Pattern = record { yes = λ e. never e; back = λ e. ap isCondition e 
 condition Name = record { yes = λ e. never e; back = λ e. ap isCondition e }
 
 module _ (rs : List Record) (clear6 : Clear6 rs) where
-  tells-loose : (p : ℕ) → p < length rs → Tells (loose rs p) ((q : ℕ) × Within rs q p × (shape (kindAt rs q) .loose ≡ true))
+  tells-loose : (p : ℕ) → p < length rs → Tells (loose rs p) (Loose rs p)
   unfolding loose
-  tells-loose p h = tells-below rs clear6 isLoose p h
+  tells-loose p h =
+      tells-as (tells-below rs clear6 isLoose p h) (λ e. let (q, w, f) = e in record { part = q; within = w; is-loose = f })
+      (λ e. (e .part, e .within, e .is-loose))
 
   pub tells-condition : (r : ℕ) → r < length rs → Tells (inCondition rs r) (InCondition rs r)
   tells-condition r h =
@@ -45,12 +47,19 @@ module _ (rs : List Record) (clear6 : Clear6 rs) where
 
   module _ (fit : (r : ℕ) → r < length rs → isFit (recordAt rs r) ≡ true) where
     let-first : (r : ℕ) → r < length rs → kindAt rs r ≡ 12 → Names rs r 0 (patternOf rs r)
-    unfolding shape
     let-first r h e = record { is-record = h; is-operand = let-operand (recordAt rs r) (fit r h) e; is = refl }
 
     tells-chooses : (r : ℕ) → r < length rs → Tells (chooses rs r) (Chooses rs r)
     unfolding chooses
-    tells-chooses r h = record { yes = λ e. ⊎-elim (λ f. let-be (eqb-true (kindAt rs r) 13 f)) (λ f. to (eqb-true (kindAt rs r) 12 (and-elim-left (eqb (kindAt rs r) 12) _ f)) (and-elim-right (eqb (kindAt rs r) 12) _ f)) (or-cases (eqb (kindAt rs r) 13) _ e); back = from }
+    tells-chooses r h =
+        record {
+          yes =
+              λ e.
+              ⊎-elim (λ f. let-be (eqb-true (kindAt rs r) 13 f))
+              (λ f. to (eqb-true (kindAt rs r) 12 (and-elim-left (eqb (kindAt rs r) 12) _ f)) (and-elim-right (eqb (kindAt rs r) 12) _ f))
+              (or-cases (eqb (kindAt rs r) 13) _ e);
+          back = from;
+        }
       where
         lies : (p : ℕ) → Names rs r 0 p → p < length rs
         lies p o = omega (arith, names-lower rs clear6 r 0 p o)
@@ -58,14 +67,13 @@ module _ (rs : List Record) (clear6 : Clear6 rs) where
         to : kindAt rs r ≡ 12 → loose rs (patternOf rs r) ≡ true → Chooses rs r
         to k f =
             let o : Names rs r 0 (patternOf rs r) = let-first r h k in
-            let (q, w, g) = tells-loose (patternOf rs r) (lies (patternOf rs r) o) .yes f in
-            loose-let k (patternOf rs r) q o w g
+            loose-let k (patternOf rs r) o (tells-loose (patternOf rs r) (lies (patternOf rs r) o) .yes f)
 
         from : Chooses rs r → eqb (kindAt rs r) 13 || (eqb (kindAt rs r) 12 && loose rs (patternOf rs r)) ≡ true
         from (let-be k) = or-inl (eqb (kindAt rs r) 13) _ (eq-eqb (kindAt rs r) 13 k)
-        from (loose-let k p q o w g) =
+        from (loose-let k p o g) =
             or-inr (eqb (kindAt rs r) 13) (eqb (kindAt rs r) 12 && loose rs (patternOf rs r))
-            (and-intro (eq-eqb (kindAt rs r) 12 k) (ap (loose rs) (o .is) ∙ tells-loose p (lies p o) .back (q, w, g)))
+            (and-intro (eq-eqb (kindAt rs r) 12 k) (ap (loose rs) (o .is) ∙ tells-loose p (lies p o) .back g))
 
     pub tells8 : (r : ℕ) → r < length rs → Tells (fault8 rs r) (Fault8 rs r)
     unfolding fault8
