@@ -17,7 +17,7 @@ use Rattle.tables.specs.Check.{mostBytes, mostRecords, fault6, fault7, f
 use Rattle.tables.specs.Accepted.{records}
 use Rattle.tables.specs.Laws.Tests.{low}
 use Rattle.tables.specs.Laws.Accepted.{clear, Clear6, fit-records}
-use Rattle.tables.specs.Rules.{Broken3, empty, large, Broken4, RecordsOf, Broken5, Fault6, Fault7, Fault8, Fault9, OfRecords, rule, rules, Kept, CheckIsExact}
+use Rattle.tables.specs.Rules.{Broken3, empty, large, Broken4, RecordsOf, Broken5, Fault6, Fault7, Fault8, Fault9, OfRecords, rule, rules, CheckIsExact}
 use Rattle.tables.proofs.Rules.Tells.{Tells, refuted, tells-or, tells-lower, tells-same}
 use Rattle.tables.proofs.Rules.Cutting.{CutIs, all-cut, not-cut, cut-is, records-same, no-records, broken-same}
 use Rattle.tables.proofs.Rules.Naming.{tells6}
@@ -55,19 +55,12 @@ module _ (table : List ℕ) where
           }
 
   -- Where rule 4 is not broken, the records that are cut out are those of the table.
-  records-are : not (cut table .whole) ≡ false → RecordsOf table (records table)
-  records-are e = go (cut-is table)
+  records-are : ((p : ℕ) → ¬ Broken4 table p) → RecordsOf table (records table)
+  records-are kept = go (cut-is table)
     where
       go : CutIs table (cut table) → RecordsOf table (records table)
       go (all-cut w are) = are
-      go (not-cut w b) = never (sym w ∙ not-false (cut table .whole) e)
-
-  kept-are : Kept rules table → RecordsOf table (records table)
-  kept-are kept = go (cut-is table)
-    where
-      go : CutIs table (cut table) → RecordsOf table (records table)
-      go (all-cut w are) = are
-      go (not-cut w b) = absurd (kept .1 .0 (length (records table)) b)
+      go (not-cut w b) = absurd (kept (length (records table)) b)
 
   module _ (are : RecordsOf table (records table)) where
     tests5 : Tests table (rule 5 Broken5) (ltb mostRecords (length (records table))) mostRecords
@@ -114,7 +107,7 @@ module _ (table : List ℕ) where
       (λ e3.
       tested table (rule 4 Broken4) _ k _ k _ tests4
       (λ e4.
-      let are : RecordsOf table (records table) = records-are e4 in
+      let are : RecordsOf table (records table) = records-are (tests4 .miss e4) in
       tested table (rule 5 Broken5) _ k _ mostRecords _ (tests5 are)
       (λ e5.
       tested table (rule 6 (OfRecords Fault6)) _ k _ (lowest (fault6 rs) k) _ (tests-records are Fault6 (fault6 rs) 6 (tells6 rs))
@@ -139,9 +132,13 @@ module _ (table : List ℕ) where
             λ k. (
               λ e.
                   let (kept, same) = accepted-kept table rules (length (records table)) (check table) k says e in
-                  record { kept = kept; records = records table; are = kept-are kept; number = same },
+                  record { kept = kept; records = records table; are = records-are (kept .1 .0); number = same },
               λ a.
-                  let same : length (records table) ≡ k = ap length (records-same table (records table) (a .records) (kept-are (a .kept)) (a .are)) ∙ sym (a .number) in
+                  let same : length (records table) ≡ k = ap length (records-same table (records table) (a .records) (records-are (a .kept .1 .0)) (a .are)) ∙ sym (a .number) in
                   kept-accepted table rules (length (records table)) (check table) says (a .kept) ∙ ap Accepted same,
             );
       }
+
+  -- So the records that are cut out of an accepted table are its records.
+  pub accepted-records : (k : ℕ) → check table ≡ Accepted k → RecordsOf table (records table)
+  accepted-records k e = records-are (check-exact .accepted k .0 e .kept .1 .0)
