@@ -92,7 +92,7 @@ next-view bytes = go (eqb (length bytes) 0) (ltb (length bytes) 4 || ltb (word b
 
 -- ---- the records of a table
 
--- Cutting finds the records, or the one that breaks rule 4.
+-- Cutting finds all records of a table, or the one that breaks rule 4.
 pub data CutIs (bytes : List ℕ) (c : Cut) : Type 0 where
   all-cut : c .whole ≡ true → RecordsOf bytes (c .records) → CutIs bytes c
   not-cut : c .whole ≡ false → Broken4 bytes (length (c .records)) → CutIs bytes c
@@ -130,7 +130,7 @@ records-same table (x ∷ rs) (y ∷ qs) e f =
     let rest : rs ≡ qs = records-same (afterFirst table) rs qs (e .2) (f .2) in
     cc
 
--- It has none where rule 4 is broken, and that is broken at one record.
+-- A table that breaks rule 4 has no list of records, and it breaks the rule at one record.
 later : (table : List ℕ) (p : ℕ) → Broken4 table (suc p) → Broken4 (afterFirst table) p
 later table p b = record { left = b .left; begins = b .begins .1; some-left = b .some-left; unfit = b .unfit }
 

@@ -1,4 +1,4 @@
--- The check refuses a table exactly where a rule of document 01 does.
+-- The check refuses a table exactly where a rule of document 01 does. A further rule takes one more `tested`, with what its test tells.
 use mathlib.Core.Path.{_≡_, refl, sym, ap, _∙_}
 use mathlib.Core.Bool.{Bool, false, not, _||_}
 use mathlib.Core.Logic.{_⊎_, inl, inr, ⊎-elim}
@@ -139,6 +139,6 @@ module _ (table : List ℕ) where
             );
       }
 
-  -- So the records that are cut out of an accepted table are its records.
+  -- The records that are cut out of an accepted table are its records.
   pub accepted-records : (k : ℕ) → check table ≡ Accepted k → RecordsOf table (records table)
   accepted-records k e = records-are (check-exact .accepted k .0 e .kept .1 .0)

@@ -52,7 +52,7 @@ module _ (rs : List Record) (clear6 : Clear6 rs) where
       most r i n o f (entry j l g) =
           omega (arith, g, f j (operand (recordAt rs r) j) (operand-names r j (o .is-record) l), greatest-all (height rs) (named (recordAt rs r)) i (o .is-operand), ap (height rs) (o .is))
 
-  -- There are no others.
+  -- Heights are the computed ones.
   only : (f : ℕ → ℕ) → Heights rs f → (bound r : ℕ) → r < bound → r < length rs → f r ≡ height rs r
   only f is zero r b h = absurd (omega arith)
   only f is (suc bound) r b h = go (greatest-of (height rs) (named (recordAt rs r))) (λ m k. only f is bound m (omega arith) (omega arith))

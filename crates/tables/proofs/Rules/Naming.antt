@@ -70,7 +70,7 @@ in-named n (x ∷ rs) e =
 pub tells-named : (rs : List Record) (n : ℕ) → Tells (isIn n (allNamed rs)) (Named rs n)
 tells-named rs n = record { yes = in-named n rs; back = λ e. let (q, i, o) = e in named-in rs q i n o }
 
--- By records below r.
+-- The operands of the records below r are those of the records taken before r.
 taken : (rs : List Record) (r q i n : ℕ) → Names (take r rs) q i n → Names rs q i n × (q < r)
 taken rs r q i n o =
     let l : q < r = omega (arith, o .is-record, length-take r rs) in

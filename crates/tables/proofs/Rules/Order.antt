@@ -28,7 +28,7 @@ module _ (table : List ℕ) where
   First [] n p = ⊥
   First (u ∷ us) n p = ((u .number ≡ n) × Lowest u p) ⊎ (Nowhere u × First us n p)
 
-  -- It is one rule, at one record, where not all are kept.
+  -- At most one rule is the first that is broken, at one record, and then not all rules are kept.
   first-same : (us : List Rule) (n p m q : ℕ) → First us n p → First us m q → (n ≡ m) × (p ≡ q)
   first-same [] n p m q a b = absurd a
   first-same (u ∷ us) n p m q (inl a) (inl b) = (sym (a .0) ∙ b .0, lowest-same u p q (a .1) (b .1))

@@ -39,7 +39,7 @@ not-covered Body k e f = never (sym (ap ofExpressions f) ∙ e)
 not-covered Pattern k e f = refl
 not-covered Name k e f = refl
 
--- In an expression it is the first operand.
+-- An operand of an expression that is a pattern is its first operand.
 only-first : (x : Record) (i k : ℕ) → isFit x ≡ true → isPattern (x .kind) ≡ false → i < length (named x) → isOfSort (roleAt x i) k ≡ true → shape k .sort ≡ pattern → i ≡ 0
 unfolding operands
 only-first x i k fit e h f g =
@@ -75,7 +75,7 @@ module _ (rs : List Record) (clear6 : Clear6 rs) where
       record { part = q; within = w; kind = k; is = m })
       (λ e. (e .part, e .within, tells-and (tells-same (kindAt rs (e .part)) 32) (tells-same (nameOf (recordAt rs (e .part))) n) .back (e .kind, e .is)))
 
-  -- The first operand of a record that has one.
+  -- A record that has an operand has a first one.
   first : (q i n : ℕ) → Names rs q i n → Names rs q 0 (patternOf rs q)
   first q i n o = record { is-record = o .is-record; is-operand = omega (arith, o .is-operand); is = refl }
 
@@ -114,7 +114,7 @@ module _ (rs : List Record) (clear6 : Clear6 rs) where
       part-same r m n w (sym (ap (λ (x : Role). isOfSort x (kindAt rs m)) role) ∙ sort-of p i m o)
       ∙ uncovered p i m n o (ap isCovered role)
 
-  -- And what is around its binder.
+  -- Around the parts of a pattern is what is around its binder.
   binder-same : (r b n : ℕ) → BinderOf rs r b → isBound rs r n ≡ isBound rs b n
   binder-same r b n o =
       part-same r (o .its-pattern) n (o .around) (patterns (shape (kindAt rs (o .its-pattern)) .sort) .back (o .is-pattern))

@@ -22,7 +22,7 @@ module _ {b : Bool} {P : Type 0} (t : Tells b P) where
   pub refuted : b ≡ false → ¬ P
   refuted e p = never (sym e ∙ t .back p)
 
-  -- The same test tells whatever holds exactly when that does.
+  -- A test tells two statements that follow from each other.
   pub tells-as : {Q : Type 0} → (P → Q) → (Q → P) → Tells b Q
   tells-as f g = record { yes = λ e. f (t .yes e); back = λ q. t .back (g q) }
 
@@ -33,7 +33,7 @@ module _ {b : Bool} {P : Type 0} (t : Tells b P) where
         back = λ f. by-test b (λ e. absurd (f (t .yes e))) (λ e. rw e);
       }
 
--- A test that is the same tells the same.
+-- Two equal tests tell the same statement.
 pub tells-by : {a b : Bool} {P : Type 0} → a ≡ b → Tells b P → Tells a P
 tells-by e t = record { yes = λ f. t .yes (sym e ∙ f); back = λ p. e ∙ t .back p }
 
@@ -64,7 +64,7 @@ tells-same a b = record { yes = eqb-true a b; back = eq-eqb a b }
 pub tells-true : (b : Bool) → Tells b (b ≡ true)
 tells-true b = record { yes = λ e. e; back = λ e. e }
 
--- Some number below n.
+-- The test over all numbers below n tells that one of them passes.
 pub tells-any : (test : ℕ → Bool) (P : ℕ → Type 0) (n : ℕ) → ((i : ℕ) → i < n → Tells (test i) (P i)) → Tells (any test n) ((i : ℕ) × (i < n) × P i)
 tells-any test P zero t = record { yes = λ e. never e; back = λ e. let (i, h, p) = e in absurd (omega arith) }
 tells-any test P (suc n) t = go (tells-any test P n (λ i h. t i (omega arith)))
@@ -85,7 +85,7 @@ tells-any test P (suc n) t = go (tells-any test P n (λ i h. t i (omega arith)))
               or-inr (any test n) (test n) (rw same at (t i h .back p)));
         }
 
--- Some number of a list.
+-- The test over all numbers of a list tells that one of them passes.
 pub tells-some : (f : ℕ → Bool) (P : ℕ → Type 0) (ms : List ℕ) → ((i : ℕ) → i < length ms → Tells (f (getD ms i 0)) (P (getD ms i 0))) → Tells (some (map f ms)) ((i : ℕ) × (i < length ms) × P (getD ms i 0))
 tells-some f P [] t = record { yes = λ e. never e; back = λ e. let (i, h, p) = e in absurd (omega arith) }
 tells-some f P (m ∷ ms) t = go (tells-some f P ms (λ i h. t (suc i) (omega arith)))
