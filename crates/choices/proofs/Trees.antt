@@ -7,7 +7,8 @@ use Prim.Native.Nat.{ℕ, zero, suc, _≤_}
 use native.Mathlib.Omega.{arith}
 use lib.Dec.{ltb}
 use Rattle.prelude.proofs.Absurd.{impossible}
-use Rattle.choices.specs.Tree.{Tree, give, stop, choose, bind, Full, Numbered, Run, gave, stopped, short, beyond, follow, Outcome, value, refusal, Gives}
+use Rattle.choices.specs.Tree.{Tree, give, stop, choose, bind, Full, Numbered, Run, gave, stopped, short, beyond, follow, Gives}
+use Rattle.choices.specs.Outcome.{Outcome, value, refusal}
 
 -- ---- equations
 

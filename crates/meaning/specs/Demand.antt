@@ -7,7 +7,8 @@ use mathlib.Core.List.{List}
 use Prim.Native.Nat.{ℕ, _≤_, _<_}
 use lib.ListN.{length, drop}
 use Rattle.prelude.specs.Membership.{In}
-use Rattle.choices.specs.Tree.{follow, gave, stopped, mostChoices, Outcome, value, refusal, Gives}
+use Rattle.choices.specs.Tree.{follow, gave, stopped, mostChoices, Gives}
+use Rattle.choices.specs.Outcome.{Outcome, value, refusal}
 use Rattle.choices.specs.Lists.{Complete, before, CountBefore, First, Next}
 use Rattle.values.specs.Value.{set, Value, boolean, collection, Items, encode, WellFormed, valueLimit as largest}
 use Rattle.patterns.specs.Binding.{Binding}

@@ -11,7 +11,8 @@ use lib.Dec.{eqb, leb}
 use lib.ListN.{length, getD}
 use Rattle.prelude.specs.Membership.{In}
 use Rattle.prelude.proofs.Membership.{at-in}
-use Rattle.choices.specs.Tree.{Tree, give, stop, bind, Outcome, value, Gives}
+use Rattle.choices.specs.Tree.{Tree, give, stop, bind, Gives}
+use Rattle.choices.specs.Outcome.{Outcome, value}
 use Rattle.values.specs.Value.{Kind, set, sequence, map, tuple, Value, boolean, integer, collection, Items, none, more}
 use Rattle.operators.specs.Answer.{Answer, is, refused, Built, built, stopped, asBoolean, asInteger, asSet}
 use Rattle.operators.specs.Booleans.{Left, settles, leaves, left, right}

@@ -4,7 +4,8 @@ use mathlib.Core.Bool.{Bool, true}
 use mathlib.Core.Logic.{_↔_}
 use mathlib.Core.List.{List}
 use Prim.Native.Nat.{ℕ}
-use Rattle.choices.specs.Tree.{Tree, give, value, Gives, follow, stopped}
+use Rattle.choices.specs.Tree.{Tree, give, Gives, follow, stopped}
+use Rattle.choices.specs.Outcome.{value}
 use Rattle.values.specs.Value.{Value, boolean, Items}
 use Rattle.patterns.specs.Binding.{Binding}
 use Rattle.tables.specs.declared.Checked.the-variants.{Accepted}

@@ -10,7 +10,8 @@ use lib.ListN.{length, drop, replicate}
 use borrow.Author.Tests.{ltb-true, ne-eqb}
 use Rattle.prelude.proofs.Absurd.{impossible}
 use Rattle.prelude.proofs.Truth.{or-false-both}
-use Rattle.choices.specs.Tree.{Tree, give, stop, choose, Numbered, stopped, beyond, follow, run, mostChoices, refuses, final, Outcome, value, refusal, Gives}
+use Rattle.choices.specs.Tree.{Tree, give, stop, choose, Numbered, stopped, beyond, follow, run, mostChoices, refuses, final, Gives}
+use Rattle.choices.specs.Outcome.{Outcome, value, refusal}
 use Rattle.choices.specs.Lists.{Complete, runOutcome}
 use Rattle.choices.proofs.Leaves.{NoMany as NoManyAtAll}
 use Rattle.choices.proofs.Cut.{complete-length}

@@ -11,7 +11,7 @@ use lib.ListN.{length}
 use borrow.Author.Tests.{eqb-true, ne-eqb}
 use Rattle.prelude.proofs.Absurd.{impossible}
 use Rattle.prelude.specs.Membership.{In}
-use Rattle.choices.specs.Tree.{value}
+use Rattle.choices.specs.Outcome.{value}
 use Rattle.values.specs.Value.{Kind, set, sequence, map, tuple, Value, boolean, integer, collection, Items, none, more}
 use Rattle.operators.specs.Answer.{is, Built, built, stopped, closed, asBoolean, asSet}
 use Rattle.operators.specs.Enumerations.{buildOn}
