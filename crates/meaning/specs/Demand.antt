@@ -21,7 +21,7 @@ use Rattle.meaning.specs.Meaning.{meaning}
 use Rattle.meaning.specs.Loose.{looseMeaning}
 use Rattle.meaning.specs.Read.{sheet}
 use Rattle.meaning.specs.Answer.{pack, numberPart}
-use Rattle.meaning.specs.Walk.{Bytes, Walk, Shows}
+use Rattle.meaning.specs.Walk.{Bytes, Walk, walkList, Shows}
 use Rattle.meaning.specs.Service.{scratchBytes, last, tree}
 use Rattle.meaning.specs.Lent.{AfterEvaluate, evaluateCall, filledUp, zeroed}
 use Rattle.meaning.specs.Calls.{first, step, Call, called, Granted, Calls, stepsOf, lentWalk, afterCall, finalWalk}
@@ -54,8 +54,8 @@ pub record FirstAnswers (table : List ℕ) (c : Call) (w : Walk) : Type 0 where
   pub shown : Shows (afterCall table c w) list
   pub is-first : First (tree table) list
 
--- With long enough buffers a step of a walk that shows l is granted and shows the next complete list; or it answers 35, where no complete list
--- comes after l.
+-- With long enough buffers a step of a walk whose list is l is granted and shows the next complete list; or it answers 35 and leaves the walk,
+-- where no complete list comes after l.
 pub record Stepped (table : List ℕ) (c : Call) (w : Walk) (l : List ℕ) : Type 0 where
   pub answer : called table c w .answer ≡ pack 0 0 0
   pub list : List ℕ
@@ -65,6 +65,7 @@ pub record Stepped (table : List ℕ) (c : Call) (w : Walk) (l : List ℕ) : Typ
 pub record NoNext (table : List ℕ) (c : Call) (w : Walk) (l : List ℕ) : Type 0 where
   pub answer : called table c w .answer ≡ pack 35 0 0
   pub is-last : (m : List ℕ) → Complete (tree table) m → before l m → ⊥
+  pub stays : afterCall table c w ≡ w
 
 -- ---- outcomes
 
@@ -116,9 +117,12 @@ pub record Demand3 (table : List ℕ) : Type 0 where
   pub untouched : (cs : Calls table) → drop mostChoices (finalWalk cs .entries) ≡ drop mostChoices (cs .start .entries)
   -- A refusal of either call leaves the walk.
   pub refused : (w : Walk) (c : Call) → (Granted table c w → ⊥) → afterCall table c w ≡ w
-  -- What a further call answers: 1 and 10, on any walk; the first list, on any walk; the step, after the calls.
+  -- What a further call answers: 1 and 10, on any walk; the first list, on any walk; the step, on any walk whose length is at most 64 and whose
+  -- entries below it are a complete list, whatever follows them; and so the step after the calls.
   pub refusals : (w : Walk) → Refusals table w
   pub first-granted : (w : Walk) (c : Call) → c .service ≡ first → Enough c w → FirstAnswers table c w
+  pub steps-on : (w : Walk) (c : Call) → c .service ≡ step → Enough c w → w .len ≤ mostChoices → Complete (tree table) (walkList w)
+      → Stepped table c w (walkList w) ⊎ NoNext table c w (walkList w)
   pub step-answers : (cs : Calls table) (c : Call) → c .service ≡ step → Enough c (finalWalk cs) → (l : List ℕ) → Shows (finalWalk cs) l
       → Stepped table c (finalWalk cs) l ⊎ NoNext table c (finalWalk cs) l
   -- Where no run meets a 65th choice, some complete list of bytes evaluates to an outcome exactly when the loose meaning of the last record has it.

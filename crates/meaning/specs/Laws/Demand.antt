@@ -17,7 +17,7 @@ use Rattle.meaning.specs.Laws.Proper.{downward}
 use Rattle.meaning.specs.Demand.{LetBe, ConditionIs, Settled, NoBinding, Demand3}
 use Rattle.meaning.specs.Laws.Conditions.{let-be-condition, leaf-gives}
 use Rattle.meaning.specs.Laws.LetBe.{NoneTrue, let-be-run}
-use Rattle.meaning.specs.Laws.Calls.{refused, calls-held, calls-untouched, refusals, first-answers, calls-step}
+use Rattle.meaning.specs.Laws.Calls.{refused, calls-held, calls-untouched, refusals, first-answers, step-from, calls-step}
 use Rattle.meaning.specs.Laws.Outcomes.{outcomes}
 
 gives-leaf : (t : Tree Value) (v : Value) → t ≡ give v → Gives t (value v)
@@ -48,6 +48,7 @@ demand3 table n ok =
       refused = λ w c. refused table c w;
       refusals = refusals table n ok;
       first-granted = first-answers table n ok;
+      steps-on = step-from table n ok;
       step-answers = calls-step table n ok;
       outcomes = outcomes table n ok;
       no-binding = no-binding table n ok;
