@@ -69,6 +69,10 @@ pub record NoNext (table : List ℕ) (c : Call) (w : Walk) (l : List ℕ) : Type
 
 -- ---- outcomes
 
+-- What evaluating under a complete list may answer: 0, or 20 to 31.
+abbrev pub CompleteNumber : ℕ → Type 0
+CompleteNumber n = (n ≡ 0) ⊎ ((20 ≤ n) × (n ≤ 31))
+
 -- No run meets a 65th choice: under no list of up to 64 bytes does evaluating end in 31.
 abbrev pub NeverMany : List ℕ → List ℕ → List ℕ → Type 0
 NeverMany table scratch buffer = (l : List ℕ) → Bytes l → length l ≤ mostChoices → numberPart (evaluateCall table l scratch buffer .answer) ≡ 31 → ⊥
@@ -125,6 +129,9 @@ pub record Demand3 (table : List ℕ) : Type 0 where
       → Stepped table c w (walkList w) ⊎ NoNext table c w (walkList w)
   pub step-answers : (cs : Calls table) (c : Call) → c .service ≡ step → Enough c (finalWalk cs) → (l : List ℕ) → Shows (finalWalk cs) l
       → Stepped table c (finalWalk cs) l ⊎ NoNext table c (finalWalk cs) l
+  -- A list of at most 64 bytes is complete exactly when evaluating under it, with long enough buffers, answers 0 or 20 to 31.
+  pub complete-answers : (scratch buffer : List ℕ) → scratchBytes ≤ length scratch → largest ≤ length buffer → (l : List ℕ) → Bytes l → length l ≤ mostChoices
+      → Complete (tree table) l ↔ CompleteNumber (numberPart (evaluateCall table l scratch buffer .answer))
   -- Where no run meets a 65th choice, some complete list of bytes evaluates to an outcome exactly when the loose meaning of the last record has it.
   pub outcomes : (scratch buffer : List ℕ) → scratchBytes ≤ length scratch → largest ≤ length buffer → NeverMany table scratch buffer → (o : Outcome Value)
       → Reached table scratch buffer o ↔ looseMeaning (sheet table) (last (sheet table)) unbound o

@@ -17,6 +17,7 @@ pub mod Binders
 pub mod Walks
 pub mod Services
 pub mod Calls
+pub mod Evaluating
 pub mod Outcomes
 pub mod Conditions
 pub mod LetBe

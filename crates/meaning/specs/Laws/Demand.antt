@@ -18,6 +18,7 @@ use Rattle.meaning.specs.Demand.{LetBe, ConditionIs, Settled, NoBinding,
 use Rattle.meaning.specs.Laws.Conditions.{let-be-condition, leaf-gives}
 use Rattle.meaning.specs.Laws.LetBe.{NoneTrue, let-be-run}
 use Rattle.meaning.specs.Laws.Calls.{refused, calls-held, calls-untouched, refusals, first-answers, step-from, calls-step}
+use Rattle.meaning.specs.Laws.Evaluating.{complete-number}
 use Rattle.meaning.specs.Laws.Outcomes.{outcomes}
 
 gives-leaf : (t : Tree Value) (v : Value) → t ≡ give v → Gives t (value v)
@@ -50,6 +51,7 @@ demand3 table n ok =
       first-granted = first-answers table n ok;
       steps-on = step-from table n ok;
       step-answers = calls-step table n ok;
+      complete-answers = λ scratch buffer enough room l bytes within. complete-number table n ok scratch buffer enough room l within;
       outcomes = outcomes table n ok;
       no-binding = no-binding table n ok;
     }
