@@ -21,6 +21,7 @@ pub mod Evaluating
 pub mod Outcomes
 pub mod Conditions
 pub mod LetBe
+pub mod Reaching
 pub mod Demand
 pub mod ReadBack
 pub mod Unreached
