@@ -7,7 +7,7 @@ use mathlib.Core.List.{List}
 use Prim.Native.Nat.{ℕ, _≤_, _<_}
 use lib.ListN.{length, drop}
 use Rattle.prelude.specs.Membership.{In}
-use Rattle.choices.specs.Tree.{follow, gave, stopped, mostChoices, Gives}
+use Rattle.choices.specs.Tree.{follow, gave, mostChoices, Gives}
 use Rattle.choices.specs.Outcome.{Outcome, value, refusal}
 use Rattle.choices.specs.Lists.{Complete, before, CountBefore, First, Next}
 use Rattle.values.specs.Value.{set, Value, boolean, collection, Items, encode, WellFormed, valueLimit as largest}
@@ -24,6 +24,7 @@ use Rattle.meaning.specs.Answer.{pack, numberPart}
 use Rattle.meaning.specs.Walk.{Bytes, Walk, walkList, Shows}
 use Rattle.meaning.specs.Service.{scratchBytes, last, tree}
 use Rattle.meaning.specs.Lent.{AfterEvaluate, evaluateCall, filledUp, zeroed}
+use Rattle.meaning.specs.Reaches.{point, Reaches}
 use Rattle.meaning.specs.Calls.{first, step, Call, called, Granted, Calls, stepsOf, lentWalk, afterCall, finalWalk}
 
 -- ---- what the walk shows
@@ -90,10 +91,10 @@ pub record Reached (table scratch buffer : List ℕ) (o : Outcome Value) : Type 
   pub complete : Complete (tree table) list
   pub answers : EvaluatesTo buffer (evaluateCall table list scratch buffer) o
 
--- ---- a let-be of a table
+-- ---- a let-be of a run
 
--- Record r is a let-be with pattern p, set operand t, condition c and body b, and is reached in a run in the state ρ, with k choices allowed
--- and the entries l left. Its set operand gives the set of vs, and leaves j choices and the entries m.
+-- Record r is a let-be with pattern p, set operand t, condition c and body b. In the state ρ, with k choices allowed and the entries l left, its set
+-- operand gives the set of vs, and leaves j choices and the entries m.
 pub record LetBe (table : List ℕ) (r p t c b : ℕ) (ρ : State) (k : ℕ) (l : List ℕ) (vs : Items) (j : ℕ) (m : List ℕ) : Type 0 where
   pub is-let-be : sheet table .node r ≡ let-be p t c b
   pub given : follow (meaning (sheet table) t ρ) k l ≡ gave (collection set vs) j m
@@ -111,6 +112,24 @@ pub record Settled (table : List ℕ) (p c : ℕ) (ρ : State) (vs : Items) : Ty
 -- No binding matches a member of the set and makes the condition true.
 abbrev pub NoBinding : List ℕ → ℕ → ℕ → State → Items → Type 0
 NoBinding table p c ρ vs = (v : Value) (β : Binding) → In v (listOf vs) → Matches (sheet table .pattern p) v β → ConditionIs table c ρ β true → ⊥
+
+-- The run under the list reaches the let-be r in the state ρ; its set operand gives a set there; its bindings are within the limits, and its
+-- condition is true or false at each; and no binding matches a member of the set and makes the condition true.
+pub record Unsatisfied (table list : List ℕ) (r : ℕ) : Type 0 where
+  pub p : ℕ
+  pub t : ℕ
+  pub c : ℕ
+  pub b : ℕ
+  pub ρ : State
+  pub k : ℕ
+  pub l : List ℕ
+  pub reached : Reaches table list (point r ρ k l)
+  pub vs : Items
+  pub j : ℕ
+  pub m : List ℕ
+  pub letting : LetBe table r p t c b ρ k l vs j m
+  pub settled : Settled table p c ρ vs
+  pub none : NoBinding table p c ρ vs
 
 -- ---- demand 3
 
@@ -135,7 +154,7 @@ pub record Demand3 (table : List ℕ) : Type 0 where
   -- Where no run meets a 65th choice, some complete list of bytes evaluates to an outcome exactly when the loose meaning of the last record has it.
   pub outcomes : (scratch buffer : List ℕ) → scratchBytes ≤ length scratch → largest ≤ length buffer → NeverMany table scratch buffer → (o : Outcome Value)
       → Reached table scratch buffer o ↔ looseMeaning (sheet table) (last (sheet table)) unbound o
-  -- A let-be reached in a run, with bindings within the limits and a condition true or false at each, gives 24 exactly when no binding matches a
-  -- member of its set and makes its condition true.
-  pub no-binding : (r p t c b : ℕ) (ρ : State) (k : ℕ) (l : List ℕ) (vs : Items) (j : ℕ) (m : List ℕ) → LetBe table r p t c b ρ k l vs j m → Settled table p c ρ vs
-      → ((left : List ℕ) × (follow (meaning (sheet table) r ρ) k l ≡ stopped 24 r left)) ↔ NoBinding table p c ρ vs
+  -- With long enough buffers, evaluating under a complete list answers 24 at r exactly when its run reaches the let-be r, with bindings within the
+  -- limits and a condition true or false at each, and no binding matches a member of its set and makes its condition true.
+  pub no-binding : (scratch buffer : List ℕ) → scratchBytes ≤ length scratch → largest ≤ length buffer → (l : List ℕ) → Complete (tree table) l → (r : ℕ)
+      → (evaluateCall table l scratch buffer .answer ≡ pack 24 r 0) ↔ Unsatisfied table l r

@@ -22,6 +22,7 @@ pub mod Outcomes
 pub mod Conditions
 pub mod LetBe
 pub mod Reaching
+pub mod NoBinding
 pub mod Demand
 pub mod ReadBack
 pub mod Unreached

@@ -1,4 +1,4 @@
--- What a run comes to: a refusal of a record that is reached is the run's; and a run that ends in 24 at a record has reached it, and it is a let-be.
+-- What evaluating a record comes to: a refusal of a record that it comes to is its own, and 24 is a let-be's alone.
 use mathlib.Core.Path.{_≡_, refl, sym, ap, _∙_, subst}
 use mathlib.Core.Bool.{Bool, true, false, cond}
 use mathlib.Core.Option.{Option, none as absent, some}
@@ -9,7 +9,7 @@ use native.Mathlib.Omega.{arith}
 use lib.Dec.{ltb, eqb}
 use lib.ListN.{length, getD}
 use Rattle.prelude.proofs.Absurd.{impossible}
-use Rattle.choices.specs.Tree.{Tree, give, stop, bind, gave, stopped, beyond, follow, run, mostChoices}
+use Rattle.choices.specs.Tree.{Tree, give, stop, bind, gave, stopped, beyond, follow}
 use Rattle.choices.proofs.Trees.{run-through, run-stopped, stopped-out}
 use Rattle.values.specs.Value.{Kind, set, sequence, map, Value, boolean, collection, Items, none, more}
 use Rattle.operators.specs.Answer.{Answer, is, refused, Built, built, stopped as unbuilt, asBoolean, asInteger, asSet}
@@ -25,19 +25,11 @@ use Rattle.meaning.specs.Node.{Node, Quantifier, forall, exists, exists1
 use Rattle.meaning.specs.State.{State, under, valueIn}
 use Rattle.meaning.specs.Meaning.{Sheet, meaning, enumerated, patternName}
 use Rattle.meaning.specs.Meaning as tree
-use Rattle.meaning.specs.Reaches.{Point, point, Points, nowhere, evaluates, _also_, after, Evaluates, Reaches, start, onward}
+use Rattle.meaning.specs.Reaches.{Point, point, Points, nowhere, evaluates, _also_, after}
 use Rattle.meaning.specs.Reaches as at
-use Rattle.meaning.specs.Laws.Equation.{AllBelow, NodesLower, Downward, meaning-is}
-use Rattle.meaning.specs.Laws.Numbers.{Other, Answered, BuiltSo, LeftSo, unary-operator-is, binary-operator-is, range-number, right-number, left-number, apply-number, entry-number, member-number, item-number}
+use Rattle.meaning.specs.Laws.Equation.{AllBelow, NodesLower}
+use Rattle.meaning.specs.Laws.Numbers.{Answered, BuiltSo, LeftSo, unary-operator-is, binary-operator-is, range-number, right-number, left-number, apply-number, entry-number, member-number, item-number}
 use Rattle.meaning.specs.Laws.Closed.{FormedSo, formed-number, enumerated-number}
-
--- Record r is a let-be.
-pub record IsLetBe (s : Sheet) (r : ℕ) : Type 0 where
-  pub pattern : ℕ
-  pub set-operand : ℕ
-  pub condition : ℕ
-  pub body : ℕ
-  pub node-is : s .node r ≡ let-be pattern set-operand condition body
 
 -- Evaluating at the point x ends in the refusal n at p.
 abbrev pub Stops : Sheet → Point → ℕ → ℕ → List ℕ → Type 0
@@ -203,7 +195,7 @@ module _ (s : Sheet) (r : ℕ) (Own : ℕ → Type 0) where
   told-binder : {A : Type 0} (p t : ℕ) (ρ : State) (T : List Binding → Points) (f : List Binding → Tree A) → t < r → ((bs : List Binding) → Told (T bs) (f bs)) → Told (at.binder s r p t ρ T) (bind (tree.bindingsOf rec r (s .pattern p) t ρ) f)
   told-binder p t ρ T f h g = told-then (evaluates t ρ) (tree.bindingsOf rec r (s .pattern p) t ρ) T f (told-bindings (s .pattern p) t ρ h) g
 
-  told-under-all : (c : ℕ) (ρ : State) (bs : List Binding) → c < r → Told (at.underAll s r c ρ bs) (tree.satisfying rec r c ρ bs)
+  pub told-under-all : (c : ℕ) (ρ : State) (bs : List Binding) → c < r → Told (at.underAll s r c ρ bs) (tree.satisfying rec r c ρ bs)
   unfolding at.underAll tree.satisfying
   told-under-all c ρ [] h = told-give []
   told-under-all c ρ (β ∷ bs) h =
@@ -259,7 +251,8 @@ module _ (s : Sheet) (r : ℕ) (Own : ℕ → Type 0) where
       told-then (at.underAll s r c ρ bs) (tree.satisfying rec r c ρ bs) (λ sat. after (tree.satisfied r sat) (λ β. evaluates b (under ρ β))) _ (told-under-all c ρ bs h)
       (λ sat. told-after (tree.satisfied r sat) (λ β. evaluates b (under ρ β)) (λ β. rec b (under ρ β)) (told-satisfied own sat) (λ β. told-record b (under ρ β) i))
 
-  told-node : (n : Node) → ((p t c b : ℕ) → n ≡ let-be p t c b → Own r) → NodesLower r n → (ρ : State) → Told (at.evaluated s r n ρ) (tree.means (s .pattern) rec r n ρ)
+  -- THEOREM: so it is with the points of every record and its tree.
+  pub told-node : (n : Node) → ((p t c b : ℕ) → n ≡ let-be p t c b → Own r) → NodesLower r n → (ρ : State) → Told (at.evaluated s r n ρ) (tree.means (s .pattern) rec r n ρ)
   unfolding at.evaluated tree.means
   told-node (truth b) own h ρ = told-give (boolean b)
   told-node (whole z) own h ρ = told-give _
