@@ -113,23 +113,23 @@ pub record Settled (table : List ℕ) (p c : ℕ) (ρ : State) (vs : Items) : Ty
 abbrev pub NoBinding : List ℕ → ℕ → ℕ → State → Items → Type 0
 NoBinding table p c ρ vs = (v : Value) (β : Binding) → In v (listOf vs) → Matches (sheet table .pattern p) v β → ConditionIs table c ρ β true → ⊥
 
--- The run under the list reaches the let-be r in the state ρ; its set operand gives a set there; its bindings are within the limits, and its
--- condition is true or false at each; and no binding matches a member of the set and makes the condition true.
+-- The run under the list reaches the let-be r, and its set operand gives a set there; its bindings are within the limits, and its condition is true
+-- or false at each; and no binding matches a member of the set and makes the condition true.
 pub record Unsatisfied (table list : List ℕ) (r : ℕ) : Type 0 where
-  pub p : ℕ
-  pub t : ℕ
-  pub c : ℕ
-  pub b : ℕ
-  pub ρ : State
-  pub k : ℕ
-  pub l : List ℕ
-  pub reached : Reaches table list (point r ρ k l)
-  pub vs : Items
-  pub j : ℕ
-  pub m : List ℕ
-  pub letting : LetBe table r p t c b ρ k l vs j m
-  pub settled : Settled table p c ρ vs
-  pub none : NoBinding table p c ρ vs
+  pub pattern : ℕ
+  pub set-operand : ℕ
+  pub condition : ℕ
+  pub body : ℕ
+  pub state : State
+  pub allowed : ℕ
+  pub entries : List ℕ
+  pub members : Items
+  pub allowed-after : ℕ
+  pub entries-after : List ℕ
+  pub reached : Reaches table list (point r state allowed entries)
+  pub is-let-be : LetBe table r pattern set-operand condition body state allowed entries members allowed-after entries-after
+  pub settled : Settled table pattern condition state members
+  pub none : NoBinding table pattern condition state members
 
 -- ---- demand 3
 

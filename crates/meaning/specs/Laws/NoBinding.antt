@@ -12,10 +12,10 @@ use Rattle.prelude.specs.Membership.{In}
 use Rattle.choices.specs.Tree.{Tree, give, bind, Gives, Run, gave, stopped, short, beyond, follow, run, mostChoices}
 use Rattle.choices.specs.Outcome.{value}
 use Rattle.choices.specs.Lists.{Ended, Complete, runOutcome}
-use Rattle.choices.proofs.Trees.{run-stopped, stopped-out, gave-out}
+use Rattle.choices.proofs.Trees.{stopped-out, gave-out}
 use Rattle.choices.proofs.Outcomes.{Given, follow-given}
 use Rattle.choices.proofs.Walk.{finalOf, stopped-number}
-use Rattle.values.specs.Value.{Value, boolean, collection, set, Items, valueLimit as largest}
+use Rattle.values.specs.Value.{Value, boolean, Items, valueLimit as largest}
 use Rattle.operators.specs.Answer.{asBoolean, asSet}
 use Rattle.patterns.specs.Binding.{Binding}
 use Rattle.patterns.specs.Pattern.{Pattern, listOf}
@@ -24,12 +24,12 @@ use Rattle.tables.specs.declared.Checked.the-variants.{Accepted}
 use Rattle.tables.specs.Check.{check}
 use Rattle.meaning.specs.Node.{let-be}
 use Rattle.meaning.specs.State.{State, unbound, under}
-use Rattle.meaning.specs.Meaning.{Evaluation, orElse, isTrue, membersAt, formedAt, holds, satisfying, satisfied, meaning}
+use Rattle.meaning.specs.Meaning.{Evaluation, orElse, isTrue, formedAt, holds, satisfying, meaning}
 use Rattle.meaning.specs.Read.{sheet}
 use Rattle.meaning.specs.Answer.{pack, packed, uncounted}
 use Rattle.meaning.specs.Service.{scratchBytes, last, tree}
 use Rattle.meaning.specs.Lent.{AfterEvaluate, evaluateCall}
-use Rattle.meaning.specs.Reaches.{Point, point, Points, evaluated, underAll, Reaches, start, onward}
+use Rattle.meaning.specs.Reaches.{Point, point, evaluated, Reaches, start, onward}
 use Rattle.meaning.specs.Demand.{LetBe, ConditionIs, Settled, NoBinding, Unsatisfied}
 use Rattle.meaning.specs.Laws.Proper.{downward}
 use Rattle.meaning.specs.Laws.Equation.{NodesLower, Downward, meaning-is}
@@ -216,26 +216,27 @@ module _ (table : List ℕ) (n : ℕ) (ok : check table ≡ Accepted n) where
         let f = find (suc (last (sheet table))) (point (last (sheet table)) unbound mostChoices list) (omega arith) start r left e in
         let s = stands r (f .p) (f .t) (f .c) (f .b) (f .is) (f .ρ) (f .k) (f .l) left (f .ends) in
         record {
-          p = f .p;
-          t = f .t;
-          c = f .c;
-          b = f .b;
-          ρ = f .ρ;
-          k = f .k;
-          l = f .l;
+          pattern = f .p;
+          set-operand = f .t;
+          condition = f .c;
+          body = f .b;
+          state = f .ρ;
+          allowed = f .k;
+          entries = f .l;
           reached = f .reached;
-          vs = s .vs;
-          j = s .j;
-          m = s .m;
-          letting = s .letting;
+          members = s .vs;
+          allowed-after = s .j;
+          entries-after = s .m;
+          is-let-be = s .letting;
           settled = s .settled;
           none = let-be-ends r (f .p) (f .t) (f .c) (f .b) (f .ρ) (f .k) (f .l) (s .vs) (s .j) (s .m) (s .letting) (s .settled) .0 (left, f .ends);
         }
 
     unsatisfied-ends : (r : ℕ) → Unsatisfied table list r → (left : List ℕ) × (run (tree table) list ≡ stopped 24 r left)
     unsatisfied-ends r u =
-        let (left, e) = let-be-ends r (u .p) (u .t) (u .c) (u .b) (u .ρ) (u .k) (u .l) (u .vs) (u .j) (u .m) (u .letting) (u .settled) .1 (u .none) in
-        (left, reached-ends (point r (u .ρ) (u .k) (u .l)) (u .reached) 24 r left e)
+        let (left, e) =
+        let-be-ends r (u .pattern) (u .set-operand) (u .condition) (u .body) (u .state) (u .allowed) (u .entries) (u .members) (u .allowed-after) (u .entries-after) (u .is-let-be) (u .settled) .1 (u .none) in
+        (left, reached-ends (point r (u .state) (u .allowed) (u .entries)) (u .reached) 24 r left e)
 
   -- ---- the exported call
 
