@@ -34,7 +34,7 @@ point r ρ k l = record { at = r; state = ρ; allowed = k; entries = l }
 abbrev pub Points : Type 1
 Points = ℕ → List ℕ → Point → Type 0
 
--- None; the record a in the state ρ, now; those of both.
+-- No point; the record a in the state ρ; the points of S and those of T.
 abbrev pub nowhere : Points
 nowhere k l x = ⊥
 
@@ -45,17 +45,17 @@ infixr 20 _also_
 abbrev pub _also_ : Points → Points → Points
 _also_ S T k l x = S k l x ⊎ T k l x
 
--- Where t gives a value, those that f says of it, from the choices and the entries that t leaves.
+-- Where t gives a value, the points that f says of it, from the choices and the entries that t leaves.
 abbrev pub after : {A : Type 0} → Tree A → (A → Points) → Points
 after {A} t f k l x = (a : A) × (j : ℕ) × (m : List ℕ) × (follow t k l ≡ gave a j m) × f a j m x
 
 -- ---- what the record r evaluates, in order
 
 module _ (s : Sheet) (r : ℕ) where
-  abbrev pub rec : Evaluation
+  abbrev rec : Evaluation
   rec a ρ = meaning s a ρ
 
-  -- An operand; and then, where it gives a value, what f says of it.
+  -- An operand; and then, where it gives a value, the points that f says of it.
   abbrev pub operand : ℕ → State → (Value → Points) → Points
   operand a ρ f = evaluates a ρ also after (rec a ρ) f
 
@@ -72,11 +72,11 @@ module _ (s : Sheet) (r : ℕ) where
   rightOf b ρ (settles a) = nowhere
   rightOf b ρ leaves = evaluates b ρ
 
-  -- The set operand of a binder; and then, where its bindings are formed, what f says of them.
+  -- The set operand of a binder; and then, where it gives a set and neither 29 nor 30 comes, the points that f says of the bindings.
   abbrev pub binder : ℕ → ℕ → State → (List Binding → Points) → Points
   binder p t ρ f = evaluates t ρ also after (bindingsOf rec r (s .pattern p) t ρ) f
 
-  -- The condition under a binding; and then, where it is true or false, what f says of that.
+  -- The condition under a binding; and then, where it is true or false, the points that f says of that.
   abbrev pub condition : ℕ → State → Binding → (Bool → Points) → Points
   condition c ρ β f = evaluates c (under ρ β) also after (holds rec r c ρ β) f
 
@@ -98,7 +98,7 @@ module _ (s : Sheet) (r : ℕ) where
   quantify exists c ρ bs = untilTrue c ρ bs
   quantify exists1 c ρ bs = underAll c ρ bs
 
-  -- Comprehensions go binding by binding: the condition; where it is true, what is added to vs, by `added` and `add`; and then the next binding.
+  -- Comprehensions go binding by binding: the condition; where it is true, the points of what is added to vs; and then the next binding.
   unfoldable pub collected : ℕ → State → (Binding → Points) → (Items → Binding → Tree Items) → Items → List Binding → Points
   collected c ρ added add vs [] = nowhere
   collected c ρ added add vs (β ∷ bs) =
@@ -111,7 +111,7 @@ module _ (s : Sheet) (r : ℕ) where
   abbrev pub pair : ℕ → ℕ → State → Binding → Points
   pair k e ρ β = bothOf k e (under ρ β)
 
-  -- Every kind.
+  -- Every kind. A let and a let-be evaluate their body under the binding that is chosen.
   unfoldable pub evaluated : Node → State → Points
   evaluated (truth b) ρ = nowhere
   evaluated (whole z) ρ = nowhere
@@ -135,7 +135,7 @@ module _ (s : Sheet) (r : ℕ) where
   evaluated (application a b) ρ = bothOf a b ρ
   evaluated no-expression ρ = nowhere
 
--- Evaluating at the point x comes to the point y, of a record that it names.
+-- Evaluating at the point x comes to the point y, of a record that the record of x names.
 abbrev pub Evaluates : Sheet → Point → Point → Type 0
 Evaluates s x y = evaluated s (x .at) (s .node (x .at)) (x .state) (x .allowed) (x .entries) y
 
