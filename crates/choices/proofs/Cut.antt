@@ -10,7 +10,8 @@ use lib.Dec.{ltb}
 use borrow.Author.Tests.{lt-ltb, ltb-true}
 use Rattle.prelude.proofs.Absurd.{impossible}
 use Rattle.prelude.specs.Membership.{In}
-use Rattle.choices.specs.Tree.{Tree, give, stop, choose, mostChoices, Full, stopped, beyond, follow, run, Outcome, Gives}
+use Rattle.choices.specs.Tree.{Tree, give, stop, choose, mostChoices, Full, stopped, beyond, follow, run, Gives}
+use Rattle.choices.specs.Outcome.{Outcome}
 use Rattle.choices.specs.Lists.{Ended, Complete, runOutcome}
 use Rattle.choices.proofs.Leaves.{NoMany, LeadsToLeaf, outcomeAt, AtMost}
 use Rattle.choices.specs.Paths.{cutAfter, allLists}

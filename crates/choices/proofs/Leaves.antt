@@ -3,7 +3,8 @@ use mathlib.Core.Path.{_≡_}
 use mathlib.Core.List.{List, [], _∷_}
 use Prim.Native.Nat.{ℕ, zero, suc, _≤_, _<_}
 use lib.ListN.{length}
-use Rattle.choices.specs.Tree.{Tree, give, stop, choose, mostChoices, stopped, run, Outcome, value, refusal}
+use Rattle.choices.specs.Tree.{Tree, give, stop, choose, mostChoices, stopped, run}
+use Rattle.choices.specs.Outcome.{Outcome, value, refusal}
 
 -- ---- lists that lead into a tree
 

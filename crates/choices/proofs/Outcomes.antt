@@ -6,7 +6,8 @@ use mathlib.Core.List.{List, [], _∷_}
 use Prim.Native.Nat.{ℕ, zero, suc}
 use lib.Dec.{ltb}
 use borrow.Author.Tests.{ltb-true}
-use Rattle.choices.specs.Tree.{Tree, give, stop, choose, mostChoices, Run, gave, stopped, short, beyond, follow, run, Outcome, value, refusal, Gives}
+use Rattle.choices.specs.Tree.{Tree, give, stop, choose, mostChoices, Run, gave, stopped, short, beyond, follow, run, Gives}
+use Rattle.choices.specs.Outcome.{Outcome, value, refusal}
 use Rattle.choices.specs.Lists.{Complete, runOutcome}
 use Rattle.choices.proofs.Leaves.{NoMany}
 use Rattle.choices.specs.Paths.{cutAfter}

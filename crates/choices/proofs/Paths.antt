@@ -12,7 +12,8 @@ use borrow.Author.Tests.{ltb-true}
 use Rattle.prelude.proofs.Absurd.{impossible}
 use Rattle.prelude.proofs.Membership.{in-left, in-right, in-joined}
 use Rattle.prelude.specs.Membership.{In}
-use Rattle.choices.specs.Tree.{Tree, give, stop, choose, Full, Outcome, Gives}
+use Rattle.choices.specs.Tree.{Tree, give, stop, choose, Full, Gives}
+use Rattle.choices.specs.Outcome.{Outcome}
 use Rattle.choices.specs.Lists.{AscendingLists}
 use Rattle.choices.specs.Paths.{counts, prefixed, fan, paths, extend, firstPath, consOr, raise}
 use Rattle.choices.proofs.Leaves.{LeadsToLeaf, Prefix, outcomeAt}

@@ -12,7 +12,8 @@ use Rattle.prelude.proofs.Absurd.{impossible}
 use Rattle.choices.specs.State.{Choices, Picked, View, view, fresh, answerLeft, answerOf, afterwards, Chosen}
 use Rattle.choices.specs.declared.Answer.{Answer}
 use Rattle.choices.specs.declared.Answer.the-variants.{Taken, Many, Short, Beyond}
-use Rattle.choices.specs.Tree.{Tree, give, stop, choose, bind, mostChoices, Full, Numbered, Run, gave, stopped, short, beyond, follow, run, Outcome, value, refusal, refuses, unlessLeft, final}
+use Rattle.choices.specs.Tree.{Tree, give, stop, choose, bind, mostChoices, Full, Numbered, Run, gave, stopped, short, beyond, follow, run, refuses, unlessLeft, final}
+use Rattle.choices.specs.Outcome.{Outcome, value, refusal}
 use Rattle.choices.specs.Lists.{Ended, Complete, runOutcome}
 use Rattle.choices.specs.Paths.{counts, extend, cutAfter}
 use Rattle.choices.proofs.Leaves.{LeadsToLeaf, Prefix, outcomeAt, AtMost}

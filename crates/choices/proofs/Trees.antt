@@ -7,7 +7,8 @@ use Prim.Native.Nat.{ℕ, zero, suc, _≤_}
 use native.Mathlib.Omega.{arith}
 use lib.Dec.{ltb}
 use Rattle.prelude.proofs.Absurd.{impossible}
-use Rattle.choices.specs.Tree.{Tree, give, stop, choose, bind, Full, Numbered, Run, gave, stopped, short, beyond, follow, Outcome, value, refusal, Gives}
+use Rattle.choices.specs.Tree.{Tree, give, stop, choose, bind, Full, Numbered, Run, gave, stopped, short, beyond, follow, Gives}
+use Rattle.choices.specs.Outcome.{Outcome, value, refusal}
 
 -- ---- equations
 
@@ -48,6 +49,37 @@ follow-bind (choose p n ways) f (suc k) [] = refl
 follow-bind (choose p n ways) f (suc k) (c ∷ l) =
     ap (λ r. cond (ltb c n) r (beyond p n (c ∷ l))) (follow-bind (ways c) f k l)
     ∙ sym (onward-cond (ltb c n) (follow (ways c) k l) (beyond p n (c ∷ l)) (λ a k′ l′. follow (f a) k′ l′))
+
+-- t, followed from k and l, gives a value from which f comes to the run x.
+abbrev pub RunThrough : {A B : Type 0} → Tree A → (A → Tree B) → ℕ → List ℕ → Run B → Type 0
+RunThrough {A} t f k l x = (a : A) × (j : ℕ) × (m : List ℕ) × (follow t k l ≡ gave a j m) × (follow (f a) j m ≡ x)
+
+pub run-through : {A B : Type 0} (t : Tree A) (f : A → Tree B) (k : ℕ) (l : List ℕ) (x : Run B) → RunThrough t f k l x → follow (bind t f) k l ≡ x
+run-through t f k l x w = follow-bind t f k l ∙ ap (λ y. thenRun y (λ a k′ l′. follow (f a) k′ l′)) (w .3) ∙ w .4
+
+pub run-stopped : {A B : Type 0} (t : Tree A) (f : A → Tree B) (k : ℕ) (l : List ℕ) (r p : ℕ) (m : List ℕ) → follow t k l ≡ stopped r p m → follow (bind t f) k l ≡ stopped r p m
+run-stopped t f k l r p m e = follow-bind t f k l ∙ ap (λ y. thenRun y (λ a k′ l′. follow (f a) k′ l′)) e
+
+-- Where both come to a refusal, it is that of the first, or that of the second after a value.
+pub stopped-out : {A B : Type 0} (t : Tree A) (f : A → Tree B) (k : ℕ) (l : List ℕ) (r p : ℕ) (m : List ℕ) → follow (bind t f) k l ≡ stopped r p m
+    → (follow t k l ≡ stopped r p m) ⊎ RunThrough t f k l (stopped r p m)
+stopped-out {A} {B} t f k l r p m e = go (follow t k l) refl (sym (follow-bind t f k l) ∙ e)
+  where
+    go : (x : Run A) → follow t k l ≡ x → thenRun x (λ a k′ l′. follow (f a) k′ l′) ≡ stopped r p m → (follow t k l ≡ stopped r p m) ⊎ RunThrough t f k l (stopped r p m)
+    go (gave a j n) d g = inr (a, j, n, d, g)
+    go (stopped s q n) d g = let e : s ≡ r = cc in let e′ : q ≡ p = cc in let e″ : n ≡ m = cc in inl (d ∙ (λ i. stopped (e i) (e′ i) (e″ i)))
+    go (short q n) d g = impossible cc
+    go (beyond q n y) d g = impossible cc
+
+-- Where both come to a value, the first gave one.
+pub gave-out : {A B : Type 0} (t : Tree A) (f : A → Tree B) (k : ℕ) (l : List ℕ) (b : B) (i : ℕ) (m : List ℕ) → follow (bind t f) k l ≡ gave b i m → RunThrough t f k l (gave b i m)
+gave-out {A} {B} t f k l b i m e = go (follow t k l) refl (sym (follow-bind t f k l) ∙ e)
+  where
+    go : (x : Run A) → follow t k l ≡ x → thenRun x (λ a k′ l′. follow (f a) k′ l′) ≡ gave b i m → RunThrough t f k l (gave b i m)
+    go (gave a j n) d g = (a, j, n, d, g)
+    go (stopped s q n) d g = impossible cc
+    go (short q n) d g = impossible cc
+    go (beyond q n y) d g = impossible cc
 
 -- ---- outcomes
 

@@ -14,7 +14,8 @@ use lib.Dec.{ltb}
 use borrow.Author.Tests.{ltb-true}
 use Rattle.prelude.proofs.Absurd.{impossible}
 use Rattle.prelude.proofs.Membership.{at-in, in-at, in-take}
-use Rattle.choices.specs.Tree.{Tree, give, stop, choose, mostChoices, Full, Numbered, Run, gave, stopped, short, beyond, follow, run, Outcome, value, refusal, Final, result, refuses, final}
+use Rattle.choices.specs.Tree.{Tree, give, stop, choose, mostChoices, Full, Numbered, Run, gave, stopped, short, beyond, follow, run, Final, result, refuses, final}
+use Rattle.choices.specs.Outcome.{Outcome, value, refusal}
 use Rattle.choices.specs.Lists.{Ended, Complete, runOutcome, before, CountBefore, First, Next}
 use Rattle.choices.specs.Paths.{cutAfter, allLists, firstList, nextList}
 use Rattle.choices.proofs.Order.{before-irrefl, before-asym, before-total, asc-take, take-before, before-take, asc-at, asc-same}

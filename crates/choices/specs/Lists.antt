@@ -5,7 +5,8 @@ use mathlib.Core.List.{List, [], _∷_, _++_}
 use Prim.Native.Nat.{ℕ, _-_, _<_}
 use lib.ListN.{length, replicate}
 use Rattle.prelude.specs.Membership.{In}
-use Rattle.choices.specs.Tree.{Tree, mostChoices, Run, gave, stopped, short, beyond, run, Outcome, value, refusal}
+use Rattle.choices.specs.Tree.{Tree, mostChoices, Run, gave, stopped, short, beyond, run}
+use Rattle.choices.specs.Outcome.{Outcome, value, refusal}
 
 -- The run ended in a value or in 20 to 31, with no entry left.
 abbrev pub Ended : {A : Type 0} → Run A → Type 0

@@ -4,6 +4,7 @@ use mathlib.Core.Bool.{cond}
 use mathlib.Core.List.{List, [], _∷_}
 use Prim.Native.Nat.{ℕ, zero, suc, _≤_, _<_}
 use lib.Dec.{ltb}
+use Rattle.choices.specs.Outcome.{Outcome, value, refusal}
 
 -- The most choices that a run may meet, and so the most entries of a list. Named here once.
 abbrev pub mostChoices : ℕ
@@ -35,11 +36,6 @@ Numbered (stop r p) = (20 ≤ r) × (r ≤ 30)
 Numbered (choose p n ways) = (i : ℕ) → i < n → Numbered (ways i)
 
 -- ---- what a tree can come to
-
--- An outcome is a value, or a refusal with its number and its place.
-pub data Outcome (A : Type 0) : Type 0 where
-  value : A → Outcome A
-  refusal : ℕ → ℕ → Outcome A
 
 -- The outcome stands at some leaf of the tree.
 abbrev pub Gives : {A : Type 0} → Tree A → Outcome A → Type 0

@@ -1,7 +1,8 @@
 -- The two meanings agree: the leaves of a record's tree have exactly the outcomes of its loose meaning, in every sheet and every state.
 use mathlib.Core.Logic.{_↔_}
 use Prim.Native.Nat.{ℕ}
-use Rattle.choices.specs.Tree.{Outcome, Gives}
+use Rattle.choices.specs.Tree.{Gives}
+use Rattle.choices.specs.Outcome.{Outcome}
 use Rattle.values.specs.Value.{Value}
 use Rattle.meaning.specs.State.{State}
 use Rattle.meaning.specs.Sheet.{Sheet}

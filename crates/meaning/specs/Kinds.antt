@@ -8,7 +8,7 @@ use mathlib.Core.Logic.{_⊎_, _↔_}
 use mathlib.Core.List.{List, [], _∷_, _++_}
 use Prim.Native.Nat.{ℕ}
 use Rattle.prelude.specs.Membership.{In}
-use Rattle.choices.specs.Tree.{value}
+use Rattle.choices.specs.Outcome.{value}
 use Rattle.values.specs.Value.{set, sequence, map, Value, boolean, integer, collection, Items, none, more}
 use Rattle.values.specs.Items.{lookup}
 use Rattle.operators.specs.Answer.{is}

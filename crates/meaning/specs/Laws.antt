@@ -17,9 +17,12 @@ pub mod Binders
 pub mod Walks
 pub mod Services
 pub mod Calls
+pub mod Evaluating
 pub mod Outcomes
 pub mod Conditions
 pub mod LetBe
+pub mod Reaching
+pub mod NoBinding
 pub mod Demand
 pub mod ReadBack
 pub mod Unreached

@@ -10,6 +10,7 @@ pub mod Walk
 pub mod Service
 pub mod Lent
 pub mod Calls
+pub mod Reaches
 pub mod Agreement
 pub mod Demand
 pub mod Unreached

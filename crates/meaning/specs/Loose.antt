@@ -1,5 +1,7 @@
 -- Document 01, "The loose meaning": the outcomes of a record in a state. It knows no list of choices and no order among them.
 -- A set of outcomes is a predicate: `S o` says that o is one of them.
+-- Some small functions of `Meaning` are said here again, of outcomes, on purpose: the two definitions share nothing of the trees, and each is read
+-- by itself. Only kinds 12 and 13, the lets, say something else than there.
 use mathlib.Core.Path.{_≡_}
 use mathlib.Core.Bool.{Bool, true, false, cond}
 use mathlib.Core.Option.{Option, none as absent, some}
@@ -9,7 +11,7 @@ use Prim.Native.Nat.{ℕ, zero, suc}
 use lib.Dec.{eqb}
 use lib.ListN.{length}
 use Rattle.prelude.specs.Membership.{In}
-use Rattle.choices.specs.Tree.{Outcome, value, refusal}
+use Rattle.choices.specs.Outcome.{Outcome, value, refusal}
 use Rattle.values.specs.Value.{Kind, set, sequence, map, Value, boolean, integer, collection, Items, none, more}
 use Rattle.operators.specs.Answer.{Answer, is, refused, Built, built, stopped, asBoolean, asInteger, asSet}
 use Rattle.operators.specs.Booleans.{Left, settles, leaves, left, right}

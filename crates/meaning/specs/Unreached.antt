@@ -6,7 +6,8 @@ use mathlib.Core.Option.{some}
 use mathlib.Core.List.{List}
 use Prim.Native.Nat.{ℕ, _≤_}
 use Rattle.prelude.specs.Membership.{In}
-use Rattle.choices.specs.Tree.{refusal, Gives}
+use Rattle.choices.specs.Tree.{Gives}
+use Rattle.choices.specs.Outcome.{refusal}
 use Rattle.values.specs.Value.{Value, Items}
 use Rattle.patterns.specs.Binding.{Binding}
 use Rattle.patterns.specs.Pattern.{name, listOf}

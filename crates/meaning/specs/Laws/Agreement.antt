@@ -10,7 +10,8 @@ use lib.Dec.{eqb}
 use lib.ListN.{length, getD}
 use Rattle.prelude.specs.Membership.{In}
 use Rattle.prelude.proofs.Membership.{at-in}
-use Rattle.choices.specs.Tree.{Tree, give, stop, bind, Outcome, value, refusal, Gives}
+use Rattle.choices.specs.Tree.{Tree, give, stop, bind, Gives}
+use Rattle.choices.specs.Outcome.{Outcome, value, refusal}
 use Rattle.choices.proofs.Trees.{gives-bind-in, gives-bind-out}
 use Rattle.values.specs.Value.{Kind, set, sequence, map, Value, boolean, integer, collection, Items, none, more}
 use Rattle.operators.specs.Answer.{Answer, is, refused, Built, built, stopped, asBoolean, asInteger, asSet}

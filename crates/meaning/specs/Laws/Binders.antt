@@ -11,7 +11,7 @@ use lib.Seq.{getD-set-same}
 use borrow.Author.Tests.{eqb-true, leb-true}
 use Rattle.prelude.specs.Membership.{In}
 use Rattle.prelude.proofs.Membership.{in-one, in-left, in-right, in-joined}
-use Rattle.choices.specs.Tree.{value}
+use Rattle.choices.specs.Outcome.{value}
 use Rattle.values.specs.Value.{Kind, set, sequence, map, Value, boolean, collection, Items, none, more, PairedFrom, Paired}
 use Rattle.values.specs.Items.{lookup}
 use Rattle.operators.specs.Answer.{is, Built, built, stopped, closed}

@@ -19,13 +19,13 @@ use Rattle.prelude.proofs.Truth.{by-lower}
 use Rattle.meaning.specs.State.{unbound}
 use Rattle.meaning.specs.Read.{sheet}
 use Rattle.meaning.specs.Answer.{pack, packed, uncounted, numberPart}
-use Rattle.meaning.specs.Walk.{Walk, overwritten, Shows}
+use Rattle.meaning.specs.Walk.{Walk, walkList, overwritten, Shows}
 use Rattle.meaning.specs.Service.{scratchBytes, last, tree, onward, firsts, steps}
 use Rattle.meaning.specs.Lent.{AfterWalk, walkAfter, afterWalk}
 use Rattle.meaning.specs.Calls.{Service, first, step, Call, returned, serve, called, Granted, isGranted, afterAll, tally, granted, Calls, stepsOf, lentWalk, afterCall, finalWalk}
 use Rattle.meaning.specs.Demand.{Held, Enough, Refusals, FirstAnswers, Stepped, NoNext}
 use Rattle.meaning.specs.Laws.Sure.{sure-meaning}
-use Rattle.meaning.specs.Laws.Walks.{listed-shown, shows-one, shown-short, shows-written, written-beyond, returned-lent, returned-written, listed-lent}
+use Rattle.meaning.specs.Laws.Walks.{listed-shown, shown-within, shows-written, written-beyond, returned-lent, returned-written, listed-lent}
 use Rattle.meaning.specs.Laws.Services.{firsts-1, steps-1, firsts-10, steps-10, firsts-granted, steps-complete}
 
 -- ---- by what is due
@@ -113,12 +113,11 @@ module _ (table : List ℕ) (n : ℕ) (ok : check table ≡ Accepted n) where
         (ap (λ (s : Service). dueOf s table (lentWalk (c .part) w) (c .scratch)) e ∙ firsts-granted table (length (c .scratch)) (h .enough-scratch) n ok (lentWalk (c .part) w) (h .enough-entries))
 
     -- A step of a complete list that is lent enough.
-    module _ (l : List ℕ) (shown : Shows w l) (complete : Complete (tree table) l) (e : c .service ≡ step) (h : Enough c w) where
+    module _ (l : List ℕ) (list-is : walkList w ≡ l) (within : w .len ≤ mostChoices) (complete : Complete (tree table) l) (e : c .service ≡ step) (h : Enough c w) where
       step-due : due table c w ≡ onward (nextList (tree table) l)
       step-due =
-          let within : w .len ≤ mostChoices = omega (arith, shown .its-length, shown-short w l shown) in
           ap (λ (s : Service). dueOf s table (lentWalk (c .part) w) (c .scratch)) e
-          ∙ steps-complete table (length (c .scratch)) (h .enough-scratch) n ok (lentWalk (c .part) w) (h .enough-entries) l (listed-lent (c .part) w (h .enough-entries) within ∙ listed-shown w l shown) within complete
+          ∙ steps-complete table (length (c .scratch)) (h .enough-scratch) n ok (lentWalk (c .part) w) (h .enough-entries) l (listed-lent (c .part) w (h .enough-entries) within ∙ list-is) within complete
 
       step-wrote : (m : List ℕ) → nextList (tree table) l ≡ some m → Wrote table c w m
       step-wrote m f = wrote-by table c w m (h .enough-entries) (step-due ∙ ap onward f)
@@ -170,10 +169,16 @@ module _ (table : List ℕ) (n : ℕ) (ok : check table ≡ Accepted n) where
         written v w (afterCall table c w) l (tally s (isGranted table c w) k) (h .writes) d
         (subst (λ b. CountBefore (tree table) l (tally s b k)) (sym (granted-is table c w 0 (h .answer))) m) (g .beyond)
 
+    listed : walkList w ≡ g .held .list
+    listed = listed-shown w (g .held .list) (g .held .shown)
+
+    within-64 : w .len ≤ mostChoices
+    within-64 = shown-within w (g .held .list) (g .held .shown)
+
     goes-step : (o : Option (List ℕ)) → nextList (tree table) (g .held .list) ≡ o → c .service ≡ step → Enough c w → Onward step
-    goes-step absent f e h = stays-so step 35 (step-left c w (g .held .list) (g .held .shown) (g .held .complete) e h f) refl
+    goes-step absent f e h = stays-so step 35 (step-left c w (g .held .list) listed within-64 (g .held .complete) e h f) refl
     goes-step (some m) f e h =
-        writes-so step m (step-wrote c w (g .held .list) (g .held .shown) (g .held .complete) e h m f)
+        writes-so step m (step-wrote c w (g .held .list) listed within-64 (g .held .complete) e h m f)
         (next-list (tree table) full (g .held .list) (g .held .complete) m f .complete)
         (count-next (tree table) full (g .held .list) (g .held .complete) m k f (g .held .counted))
 
@@ -240,19 +245,27 @@ module _ (table : List ℕ) (n : ℕ) (ok : check table ≡ Accepted n) where
       let o = first-wrote c w e h in
       record { answer = o .answer; list = firstList (tree table); shown = shows-after c w (firstList (tree table)) o (f .complete); is-first = f }
 
-  module _ (w : Walk) (c : Call) (e : c .service ≡ step) (h : Enough c w) (l : List ℕ) (shown : Shows w l) (d : Complete (tree table) l) where
-    -- THEOREM: a step is granted, or it is 35.
-    step-from : Stepped table c w l ⊎ NoNext table c w l
+  module _ (w : Walk) (c : Call) (e : c .service ≡ step) (h : Enough c w) (within : w .len ≤ mostChoices) (d : Complete (tree table) (walkList w)) where
+    abbrev l : List ℕ
+    l = walkList w
+
+    -- THEOREM: a step of a walk whose list is complete is granted, or it is 35.
+    pub step-from : Stepped table c w l ⊎ NoNext table c w l
     step-from = go (nextList (tree table) l) refl
       where
         go : (o : Option (List ℕ)) → nextList (tree table) l ≡ o → Stepped table c w l ⊎ NoNext table c w l
-        go absent f = inr (record { answer = step-left c w l shown d e h f .answer; is-last = next-last (tree table) full l d .0 f })
+        go absent f =
+            let o = step-left c w l refl within d e h f in
+            inr (record { answer = o .answer; is-last = next-last (tree table) full l d .0 f; stays = o .stays })
         go (some m) f =
             let x = next-list (tree table) full l d m f in
-            let o = step-wrote c w l shown d e h m f in
+            let o = step-wrote c w l refl within d e h m f in
             inl (record { answer = o .answer; list = m; shown = shows-after c w m o (x .complete); is-next = x })
 
   pub calls-step : (cs : Calls table) (c : Call) → c .service ≡ step → Enough c (finalWalk cs) → (l : List ℕ) → Shows (finalWalk cs) l → Stepped table c (finalWalk cs) l ⊎ NoNext table c (finalWalk cs) l
   calls-step cs c e h l shown =
+      let w = finalWalk cs in
       let g = calls-held cs in
-      step-from (finalWalk cs) c e h l shown (subst (Complete (tree table)) (shows-one (finalWalk cs) (g .list) l (g .shown) shown) (g .complete))
+      let is : walkList w ≡ l = listed-shown w l shown in
+      subst (λ x. Stepped table c w x ⊎ NoNext table c w x) is
+      (step-from w c e h (shown-within w l shown) (subst (Complete (tree table)) (sym (listed-shown w (g .list) (g .shown))) (g .complete)))

@@ -7,7 +7,7 @@ use mathlib.Core.List.{List, [], _∷_, _++_}
 use Prim.Native.Nat.{ℕ}
 use Rattle.prelude.specs.Membership.{In}
 use Rattle.choices.proofs.Trees.{value≢refusal}
-use Rattle.choices.specs.Tree.{Outcome, value, refusal}
+use Rattle.choices.specs.Outcome.{Outcome, value, refusal}
 use Rattle.values.specs.Value.{Value}
 use Rattle.patterns.specs.Binding.{Binding}
 use Rattle.meaning.specs.State.{State}

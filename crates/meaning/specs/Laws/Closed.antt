@@ -11,7 +11,8 @@ use lib.Dec.{eqb, leb}
 use lib.ListN.{length, getD}
 use Rattle.prelude.specs.Membership.{In}
 use Rattle.prelude.proofs.Membership.{at-in}
-use Rattle.choices.specs.Tree.{Tree, give, stop, bind, Outcome, value, Gives}
+use Rattle.choices.specs.Tree.{Tree, give, stop, bind, Gives}
+use Rattle.choices.specs.Outcome.{Outcome, value}
 use Rattle.values.specs.Value.{Kind, set, sequence, map, tuple, Value, boolean, integer, collection, Items, none, more}
 use Rattle.operators.specs.Answer.{Answer, is, refused, Built, built, stopped, asBoolean, asInteger, asSet}
 use Rattle.operators.specs.Booleans.{Left, settles, leaves, left, right}
@@ -31,7 +32,7 @@ use Rattle.meaning.specs.State.{State, under, valueIn}
 use Rattle.meaning.specs.Meaning.{Evaluation, at, builtAt, orElse, allOf, bothOf, rightOf, isTrue, enumerated, formedAt, membersAt, bindingsOf, holds, satisfying, chosenBinding, matched, satisfied, untilFalse, untilTrue, quantify, unique, collected, addOne, addPair, integersAt, integerBindings, comprehension, means, patternName}
 use Rattle.meaning.specs.Laws.Equation.{covered, Each, plainOperands}
 use Rattle.meaning.specs.Laws.Proper.{binderOf}
-use Rattle.meaning.specs.Laws.Numbers.{Ranged, Answered, BuiltSo, LeftSo, unary-operator-is, binary-operator-is, range-number, right-number, left-number, apply-number, entry-number, member-number, item-number, set-number, sequence-number, map-number, tuple-number}
+use Rattle.meaning.specs.Laws.Numbers.{Ranged, Other, Answered, BuiltSo, LeftSo, unary-operator-is, binary-operator-is, range-number, right-number, left-number, apply-number, entry-number, member-number, item-number, set-number, sequence-number, map-number, tuple-number}
 use Rattle.meaning.specs.Laws.Only.{Only, only-give, only-stop, only-bind, Any, only-any}
 
 -- ---- the bindings of a binder
@@ -86,19 +87,19 @@ some-satisfy rec r c ρ (b ∷ bs) =
     kept true sat h = let l = h .not-more in record { not-more = omega arith; among = λ β i. ⊎-elim (λ e. inl e) (λ j. inr (h .among β j)) i }
     kept false sat h = let l = h .not-more in record { not-more = omega arith; among = λ β i. inr (h .among β i) }
 
-abbrev FormedSo : Formed → Type 0
+abbrev pub FormedSo : Formed → Type 0
 FormedSo (bound bs) = Unit {0}
-FormedSo (unformed n) = Ranged n
+FormedSo (unformed n) = Other n
 
-formed-number : (p : Pattern) (vs : List Value) → FormedSo (formed p vs)
+pub formed-number : (p : Pattern) (vs : List Value) → FormedSo (formed p vs)
 formed-number p vs = go (anyOf vs (wide p)) (leb (length (bindings p vs)) mostBindings)
   where
     go : (b c : Bool) → FormedSo (cond b (unformed 29) (cond c (bound (bindings p vs)) (unformed 30)))
-    go true c = (omega arith, omega arith)
+    go true c = (omega arith, omega arith, λ e. omega arith)
     go false true = tt
-    go false false = (omega arith, omega arith)
+    go false false = (omega arith, omega arith, λ e. omega arith)
 
-enumerated-number : (k : Kind) (vs : Items) → Answered (enumerated k vs)
+pub enumerated-number : (k : Kind) (vs : Items) → Answered (enumerated k vs)
 enumerated-number set vs = set-number vs
 enumerated-number sequence vs = sequence-number vs
 enumerated-number map vs = map-number vs
@@ -154,11 +155,11 @@ module _ (Q : (A : Type 0) → Tree A → Type 0) (May : Type 0) (r : ℕ) (clos
 
   answer-closed : (a : Answer) → Answered a → Q Value (at r a)
   answer-closed (is v) h = closed .of-give Value v
-  answer-closed (refused n) h = closed .of-stop Value n h
+  answer-closed (refused n) h = closed .of-stop Value n (h .0, h .1)
 
   built-closed : (b : Built) → BuiltSo b → Q Items (builtAt r b)
   built-closed (built vs) h = closed .of-give Items vs
-  built-closed (stopped n) h = closed .of-stop Items n h
+  built-closed (stopped n) h = closed .of-stop Items n (h .0, h .1)
 
   else-closed : {A : Type 0} (n : ℕ) (x : Option A) → Ranged n → Q A (orElse n r x)
   else-closed {A} n absent h = closed .of-stop A n h
@@ -169,7 +170,7 @@ module _ (Q : (A : Type 0) → Tree A → Type 0) (May : Type 0) (r : ℕ) (clos
     where
       go : (x : Formed) → FormedSo x → Q (List Binding) (formedAt r x)
       go (bound bs) h = closed .of-give (List Binding) bs
-      go (unformed n) h = closed .of-stop (List Binding) n h
+      go (unformed n) h = closed .of-stop (List Binding) n (h .0, h .1)
 
   choice-closed : May → (bs : List Binding) (f : Binding → Tree Value) → 0 < length bs → Few bs → ((b : Binding) → In b bs → Q Value (f b)) → Q Value (bind (chosenBinding r bs) f)
   choice-closed may bs f n e h =

@@ -9,7 +9,8 @@ use lib.ListN.{length, getD, List·getD-eq-default}
 use borrow.Author.Tests.{eq-eqb}
 use mathlib.Mathlib.Data.Bool.Basic.{or-inr}
 use Rattle.prelude.proofs.Absurd.{never, impossible}
-use Rattle.choices.specs.Tree.{Tree, give, stop, choose, bind, value, Gives}
+use Rattle.choices.specs.Tree.{Tree, give, stop, choose, bind, Gives}
+use Rattle.choices.specs.Outcome.{value}
 use Rattle.operators.specs.Booleans.{and, or, implies}
 use Rattle.patterns.specs.Binding.{Binding}
 use Rattle.patterns.specs.Pattern.{loose as isLooseAt}

@@ -1,4 +1,5 @@
--- Every refusal of an operator has a number from 20 to 30.
+-- Every refusal of an operator has a number from 20 to 30, other than 24.
+use mathlib.Core.Path.{_≡_}
 use mathlib.Core.Bool.{Bool, true, false, cond}
 use mathlib.Core.Option.{Option, none as absent, some}
 use mathlib.Core.List.{List, [], _∷_}
@@ -26,18 +27,22 @@ use Rattle.meaning.specs.Laws.Proper.{_&_}
 abbrev pub Ranged : ℕ → Type 0
 Ranged n = (20 ≤ n) × (n ≤ 30)
 
+-- Such a number other than 24, by which a let-be alone refuses.
+abbrev pub Other : ℕ → Type 0
+Other n = (20 ≤ n) × (n ≤ 30) × (n ≡ 24 → ⊥)
+
 abbrev pub Answered : Answer → Type 0
 Answered (is v) = Unit {0}
-Answered (refused n) = Ranged n
+Answered (refused n) = Other n
 
 abbrev pub BuiltSo : Built → Type 0
 BuiltSo (built vs) = Unit {0}
-BuiltSo (stopped n) = Ranged n
+BuiltSo (stopped n) = Other n
 
 -- ---- the building blocks
 
 if-needed : {A : Type 0} (x : Option A) (f : A → Answer) → ((a : A) → Answered (f a)) → Answered (needs x f)
-if-needed absent f h = (omega arith, omega arith)
+if-needed absent f h = (omega arith, omega arith, λ e. omega arith)
 if-needed (some a) f h = h a
 
 if-both : {A B : Type 0} (x : Option A) (y : Option B) (f : A → B → Answer) → ((a : A) (b : B) → Answered (f a b)) → Answered (needsBoth x y f)
@@ -48,15 +53,15 @@ if-picked true x y h k = h
 if-picked false x y h k = k
 
 if-found : (x : Option Value) → Answered (found x)
-if-found absent = (omega arith, omega arith)
+if-found absent = (omega arith, omega arith, λ e. omega arith)
 if-found (some v) = tt
 
-pick-built : (b : Bool) (vs : Items) (n : ℕ) → Ranged n → BuiltSo (cond b (built vs) (stopped n))
+pick-built : (b : Bool) (vs : Items) (n : ℕ) → Other n → BuiltSo (cond b (built vs) (stopped n))
 pick-built true vs n h = tt
 pick-built false vs n h = h
 
 pub if-fitting : (vs : Items) → BuiltSo (fitting vs)
-if-fitting vs = pick-built (leb (4 + sizes vs) valueLimit) vs 28 (omega arith, omega arith)
+if-fitting vs = pick-built (leb (4 + sizes vs) valueLimit) vs 28 (omega arith, omega arith, λ e. omega arith)
 
 if-closed : (k : Kind) (b : Built) → BuiltSo b → Answered (closed k b)
 if-closed k (built vs) h = tt
@@ -67,11 +72,11 @@ if-sized k vs = if-closed k (fitting vs) (if-fitting vs)
 
 if-number : (n : Number) → Answered (answered n)
 if-number (Is z) = tt
-if-number OutOfRange = (omega arith, omega arith)
-if-number ByZero = (omega arith, omega arith)
+if-number OutOfRange = (omega arith, omega arith, λ e. omega arith)
+if-number ByZero = (omega arith, omega arith, λ e. omega arith)
 
 if-counting : (z : ℤ) (n : ℕ) → Answered (consecutive z n)
-if-counting z n = if-picked (leb (4 + 8 * n) valueLimit) (is (collection set (upFrom z n))) (refused 28) tt (omega arith, omega arith)
+if-counting z n = if-picked (leb (4 + 8 * n) valueLimit) (is (collection set (upFrom z n))) (refused 28) tt (omega arith, omega arith, λ e. omega arith)
 
 -- ---- operators by number
 
@@ -85,20 +90,20 @@ All₂ [] = Unit {0}
 All₂ (f ∷ fs) = ((v w : Value) → Answered (f v w)) × All₂ fs
 
 all-at : (fs : List (Value → Answer)) (n : ℕ) (v : Value) → All fs → Answered (getD fs n noUnary v)
-all-at [] n v h = (omega arith, omega arith)
+all-at [] n v h = (omega arith, omega arith, λ e. omega arith)
 all-at (f ∷ fs) zero v h = h .0 v
 all-at (f ∷ fs) (suc n) v h = all-at fs n v (h .1)
 
 all-at₂ : (fs : List (Value → Value → Answer)) (n : ℕ) (v w : Value) → All₂ fs → Answered (getD fs n noBinary v w)
-all-at₂ [] n v w h = (omega arith, omega arith)
+all-at₂ [] n v w h = (omega arith, omega arith, λ e. omega arith)
 all-at₂ (f ∷ fs) zero v w h = h .0 v w
 all-at₂ (f ∷ fs) (suc n) v w h = all-at₂ fs n v w (h .1)
 
-absent-number : Ranged 26
-absent-number = (omega arith, omega arith)
+absent-number : Other 26
+absent-number = (omega arith, omega arith, λ e. omega arith)
 
-kind-number : Ranged 20
-kind-number = (omega arith, omega arith)
+kind-number : Other 20
+kind-number = (omega arith, omega arith, λ e. omega arith)
 
 if-intersected : (vs : Items) → Answered (intersectionOf vs)
 if-intersected none = absent-number
@@ -159,7 +164,7 @@ binary-operator-is n v w = all-at₂ binaries n v w (
     (λ v w. if-both (asSet v) (asSet w) _ (λ vs ws. tt)) &
     (λ v w. if-both (asSet v) (asSet w) _ (λ vs ws. tt)) &
     (λ v w. if-both (asSequence v) (asSequence w) _ (λ vs ws. if-sized sequence (join vs ws))) &
-    (λ v w. if-both (asMap v) (asMap w) _ (λ vs ws. if-picked (compatible vs ws) (sized map (enterAll vs ws)) (refused 27) (if-sized map (enterAll vs ws)) (omega arith, omega arith))) &
+    (λ v w. if-both (asMap v) (asMap w) _ (λ vs ws. if-picked (compatible vs ws) (sized map (enterAll vs ws)) (refused 27) (if-sized map (enterAll vs ws)) (omega arith, omega arith, λ e. omega arith))) &
     (λ v w. if-both (asMap v) (asMap w) _ (λ vs ws. if-sized map (enterAll vs ws))) &
     (λ v w. if-both (asSet v) (asMap w) _ (λ vs ws. tt)) &
     (λ v w. if-both (asMap v) (asSet w) _ (λ vs ws. tt)) &
@@ -200,7 +205,7 @@ apply-number (collection tuple vs) w = kind-number
 
 if-entered : (x : Option Value) (vs : Items) (k v : Value) → BuiltSo (entryAdded x vs k v)
 if-entered absent vs k v = if-fitting (enter k v vs)
-if-entered (some w) vs k v = pick-built (same v w) vs 27 (omega arith, omega arith)
+if-entered (some w) vs k v = pick-built (same v w) vs 27 (omega arith, omega arith, λ e. omega arith)
 
 pub entry-number : (vs : Items) (k v : Value) → BuiltSo (addEntry vs k v)
 entry-number vs k v = if-entered (lookup k vs) vs k v

@@ -5,7 +5,8 @@ use mathlib.Core.Option.{Option, none as absent, some}
 use mathlib.Core.Logic.{⊎-elim}
 use Prim.Native.Nat.{ℕ}
 use Rattle.prelude.proofs.Absurd.{impossible}
-use Rattle.choices.specs.Tree.{Tree, give, stop, bind, value, Gives}
+use Rattle.choices.specs.Tree.{Tree, give, stop, bind, Gives}
+use Rattle.choices.specs.Outcome.{value}
 use Rattle.choices.proofs.Trees.{gives-bind-out}
 use Rattle.meaning.specs.Meaning.{orElse}
 

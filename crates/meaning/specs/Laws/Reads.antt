@@ -13,7 +13,8 @@ use borrow.Author.Tests.{leb-true, eqb-true}
 use mathlib.Mathlib.Data.Bool.Basic.{or-inr}
 use Rattle.prelude.proofs.Absurd.{never, impossible}
 use Rattle.prelude.proofs.Truth.{implied, by-lower}
-use Rattle.choices.specs.Tree.{Tree, give, refusal, Gives}
+use Rattle.choices.specs.Tree.{Tree, give, Gives}
+use Rattle.choices.specs.Outcome.{refusal}
 use Rattle.choices.proofs.Trees.{gives-bind-out}
 use Rattle.values.specs.Value.{Value}
 use Rattle.patterns.specs.Binding.{is as valued, Binding, names, cellOf}

@@ -7,7 +7,8 @@ use native.Mathlib.Omega.{arith}
 use lib.Dec.{ltb}
 use borrow.Author.Tests.{ltb-true}
 use Rattle.prelude.proofs.Absurd.{impossible}
-use Rattle.choices.specs.Tree.{Tree, give, stop, choose, bind, value, Gives, Full, Numbered, stopped, beyond, follow, mostChoices}
+use Rattle.choices.specs.Tree.{Tree, give, stop, choose, bind, Gives, Full, Numbered, stopped, beyond, follow, mostChoices}
+use Rattle.choices.specs.Outcome.{value}
 use Rattle.choices.specs.Lists.{Ended, Complete}
 use Rattle.choices.proofs.Trees.{full-bind, numbered-bind}
 use Rattle.values.specs.Value.{Value}

@@ -11,7 +11,7 @@ use lib.ListN.{length}
 use borrow.Author.Tests.{eqb-true, ne-eqb}
 use Rattle.prelude.proofs.Absurd.{impossible}
 use Rattle.prelude.specs.Membership.{In}
-use Rattle.choices.specs.Tree.{value}
+use Rattle.choices.specs.Outcome.{value}
 use Rattle.values.specs.Value.{Kind, set, sequence, map, tuple, Value, boolean, integer, collection, Items, none, more}
 use Rattle.operators.specs.Answer.{is, Built, built, stopped, closed, asBoolean, asSet}
 use Rattle.operators.specs.Enumerations.{buildOn}
@@ -46,12 +46,12 @@ formed-value r (unformed n) bs = (λ e. absurd (value≢refusal e), λ e. imposs
 
 -- ---- kinds
 
-boolean-value : (v : Value) (t : Bool) → (asBoolean v ≡ some t) ↔ (v ≡ boolean t)
+pub boolean-value : (v : Value) (t : Bool) → (asBoolean v ≡ some t) ↔ (v ≡ boolean t)
 boolean-value (boolean b) t = (λ e. let d : b ≡ t = cc in ap boolean d, λ e. let d : b ≡ t = cc in ap some d)
 boolean-value (integer z) t = (λ e. impossible cc, λ e. impossible cc)
 boolean-value (collection k vs) t = (λ e. impossible cc, λ e. impossible cc)
 
-set-value : (v : Value) (vs : Items) → (asSet v ≡ some vs) ↔ (v ≡ collection set vs)
+pub set-value : (v : Value) (vs : Items) → (asSet v ≡ some vs) ↔ (v ≡ collection set vs)
 set-value (boolean b) vs = (λ e. impossible cc, λ e. impossible cc)
 set-value (integer z) vs = (λ e. impossible cc, λ e. impossible cc)
 set-value (collection set us) vs = (λ e. let d : us ≡ vs = cc in ap (collection set) d, λ e. let d : us ≡ vs = cc in ap some d)

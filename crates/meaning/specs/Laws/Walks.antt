@@ -22,6 +22,9 @@ module _ (w : Walk) (l : List ℕ) (s : Shows w l) where
   shown-short =
       omega (arith, ap length (s .its-entries), length-take mostChoices (w .entries), length-append l (replicate (mostChoices - length l) 0))
 
+  pub shown-within : w .len ≤ mostChoices
+  shown-within = omega (arith, s .its-length, shown-short)
+
   -- The entries below the length are the list.
   pub listed-shown : walkList w ≡ l
   listed-shown =
@@ -29,10 +32,6 @@ module _ (w : Walk) (l : List ℕ) (s : Shows w l) where
       ∙ sym (take-take (length l) mostChoices (w .entries) shown-short)
       ∙ ap (take (length l)) (s .its-entries)
       ∙ take-append-seam l (replicate (mostChoices - length l) 0)
-
--- It shows one list.
-pub shows-one : (w : Walk) (l m : List ℕ) → Shows w l → Shows w m → l ≡ m
-shows-one w l m s t = sym (listed-shown w l s) ∙ listed-shown w m t
 
 -- ---- writing
 

@@ -12,7 +12,8 @@ use lib.ListN.{length, getD, getD-replicate}
 use Rattle.prelude.proofs.Absurd.{impossible}
 use Rattle.prelude.specs.Membership.{In}
 use Rattle.prelude.proofs.Membership.{at-in}
-use Rattle.choices.specs.Tree.{Tree, bind, value, Gives, Run, gave, stopped, short, beyond, run, Final, result, final, mostChoices}
+use Rattle.choices.specs.Tree.{Tree, bind, Gives, Run, gave, stopped, short, beyond, run, Final, result, final, mostChoices}
+use Rattle.choices.specs.Outcome.{value}
 use Rattle.choices.proofs.Outcomes.{follow-given, Given}
 use Rattle.values.specs.Value.{Kind, set, sequence, map, tuple, Value, boolean, integer, collection, Items, none, more, count, size, sizes, valueLimit as largest, Sound, SoundItems, PairedFrom, WellFormed}
 use Rattle.values.proofs.Records.{well-formed-boolean, well-formed-integer}
