@@ -82,7 +82,7 @@ rest-sizes (negsuc a) right h = record {
 }
 
 -- rem is 0 or has the dividend's sign, and is smaller in size than the divisor
-rem-rest : (left right : ℤ) → (right ≡ pos 0 → ⊥) → Rest left right (remℤ left right)
+pub rem-rest : (left right : ℤ) → (right ≡ pos 0 → ⊥) → Rest left right (remℤ left right)
 rem-rest left right n = subst (Rest left right) (sym (rem-sizes left right)) (rest-sizes left right (nonzero right n))
 
 -- ---- mod, from rem
@@ -161,7 +161,7 @@ turned-rest (negsuc m) (pos (suc k)) h =
 turned-rest (negsuc m) (negsuc k) h = record { sided = tt; smaller = h }
 
 -- mod is 0 or has the divisor's sign, and is smaller in size than the divisor
-mod-rest : (left right : ℤ) → (right ≡ pos 0 → ⊥) → Rest right right (modℤ left right)
+pub mod-rest : (left right : ℤ) → (right ≡ pos 0 → ⊥) → Rest right right (modℤ left right)
 mod-rest left right n =
     subst (Rest right right) (sym (mod-turned left right n)) (turned-rest (remZ left right) right (rest-sizes left right (nonzero right n) .smaller))
 

@@ -7,4 +7,5 @@ pub mod Written
 mod Sample
 mod Signed
 mod Machine
+mod Ends
 mod Rest
