@@ -2,6 +2,7 @@
 pub mod Range
 pub mod Parts
 pub mod Division
+pub mod Quotients
 pub mod Ordered
 pub mod Written
 mod Sample
