@@ -1,5 +1,5 @@
 -- Consecutive integers: which they are, and their records as they are written.
-use mathlib.Core.Path.{_≡_, refl, sym, ap, subst, _∙_}
+use mathlib.Core.Path.{_≡_, sym, ap, subst, _∙_}
 use mathlib.Core.Bool.{Bool, cond}
 use mathlib.Core.List.{List}
 use Prim.Native.Nat.{ℕ, zero, suc, _+_, _*_, _≤_, _<_}
@@ -8,12 +8,12 @@ use borrow.Author.Tests.{lt-leb, le-leb}
 use lib.IntN.{ℤ, pos, _+ℤ_}
 use lib.ListN.{length}
 use mir.Syntax.{w32}
-use mir.Val.{SFits, toZ, ofZ}
+use mir.Val.{SFits, toZ}
 use mir.Facts.{toZ-ofZ, toZ-pos}
 use Rattle.integers.specs.Whole.{InRange}
 use Rattle.integers.proofs.Range.{range-fits}
 use Rattle.integers.proofs.Parts.{parts-add, eq-parts}
-use Rattle.values.specs.Value.{set, number, integer, Items, none, more, size, collection, valueLimit, Sound, SoundItems}
+use Rattle.values.specs.Value.{set, integer, Items, none, more, size, collection, valueLimit, Sound, SoundItems}
 use Rattle.values.specs.Items.{join, snoc}
 use Rattle.values.specs.Place.{ItemsAt}
 use Rattle.values.specs.Contract.{Put, PutHead}
@@ -23,7 +23,7 @@ use Rattle.values.proofs.Written.{headed-collection}
 use Rattle.operators.specs.Answer.{is, refused, tooLarge}
 use Rattle.operators.specs.Gather.{upFrom}
 use Rattle.operators.specs.Sets.{consecutive}
-use Rattle.operator_laws.proofs.Ranges.{ascending-up, sizes-up}
+use Rattle.operator_laws.proofs.Ranges.{ascending-up, sizes-up, counting-is}
 use Rattle.calling.specs.declared.Applied.the-variants.{Done}
 use Rattle.calling.specs.Applied.{Gives}
 use Rattle.calling.proofs.Framing.{kept-outside, kept-then}
@@ -100,10 +100,10 @@ module _ {z : ℤ} (f : SFits w32 z) {i n : ℕ} (low : i < 2147483648) (s : Sou
 -- ---- the set of them
 
 pub counting-off : (z : ℤ) (n : ℕ) → valueLimit < 4 + 8 * n → consecutive z n ≡ refused tooLarge
-counting-off z n h = ap (λ (b : Bool). cond b (is (collection set (upFrom z n))) (refused tooLarge)) (lt-leb (4 + 8 * n) valueLimit h)
+counting-off z n h = counting-is z n ∙ ap (λ (b : Bool). cond b (is (collection set (upFrom z n))) (refused tooLarge)) (lt-leb (4 + 8 * n) valueLimit h)
 
 counting-on : (z : ℤ) (n : ℕ) → 4 + 8 * n ≤ valueLimit → consecutive z n ≡ is (collection set (upFrom z n))
-counting-on z n h = ap (λ (b : Bool). cond b (is (collection set (upFrom z n))) (refused tooLarge)) (le-leb (4 + 8 * n) valueLimit h)
+counting-on z n h = counting-is z n ∙ ap (λ (b : Bool). cond b (is (collection set (upFrom z n))) (refused tooLarge)) (le-leb (4 + 8 * n) valueLimit h)
 
 pub counting-gives : {s t u : List ℕ} {base : ℕ} {z : ℤ} (n : ℕ) → SFits w32 z → 4 + 8 * n ≤ valueLimit → PutIntegers s t (base + 4) (machine z) n → PutHead t u base (4 + 8 * n) 3 → Gives (consecutive z n) s u base Done
 counting-gives {s} {t} {u} {base} {z} n f h p q =

@@ -1,29 +1,40 @@
--- Laws that single out div, rem, floor and mod.
+-- Laws of rem and mod: what they leave of a division, and of which sign.
 use mathlib.Core.Path.{_≡_, refl, sym, ap, _∙_, subst}
 use Prim.Native.Nat.{ℕ, zero, suc, _+_, _*_, _-_, _/_, _%_, _≤_, _<_}
 use native.Mathlib.Omega.{arith}
 use native.Mathlib.Nat.{div-add-mod, zero-mod, mul-comm, mul-suc, mul-zero, mod-lt, mod-le}
 use lib.Arith.{digits-div}
-use lib.IntN.{ℤ, pos, negsuc, negℤ, natAbs, sucℤ, _+ℤ_, _-ℤ_, _*ℤ_, +ℤ-comm, *ℤ-comm, -ℤ-+ℤ-cancel, sucℤ-*ℤ, pos-ne-negsuc}
-use lib.Signed.{remZ, _≤ℤ_, _<ℤ_}
+use lib.IntN.{ℤ, pos, negsuc, negℤ, natAbs, _+ℤ_, _-ℤ_, _*ℤ_, +ℤ-comm, -ℤ-+ℤ-cancel}
+use lib.Dec.{ltb→lt, lt→ltb}
+use lib.Signed.{remZ, ltZ-yes}
 use Rattle.integers.specs.Whole.{divℤ, floorℤ, remℤ, modℤ}
-use Rattle.integers.proofs.Parts.{up, down, sub-ind, parts-neg, parts-minus, parts-add, eq-parts, le-parts, lt-parts}
+use Rattle.integers.specs.Division.{HasSign, Rest}
+use Rattle.integers.proofs.Parts.{up, down, sub-ind, parts-neg, parts-minus, parts-add, eq-parts}
 
--- ---- what the laws speak of
+-- ---- signs
 
--- z is 0 or has the sign of s
-abbrev SameSign : ℤ → ℤ → Type 0
-SameSign s (pos zero) = Unit {0}
-SameSign (pos zero) (pos (suc z)) = ⊥
-SameSign (pos (suc s)) (pos (suc z)) = Unit {0}
-SameSign (negsuc s) (pos (suc z)) = ⊥
-SameSign (pos s) (negsuc z) = ⊥
-SameSign (negsuc s) (negsuc z) = Unit {0}
+pub zero-sided : (s : ℤ) → HasSign s (pos 0)
+zero-sided s = record { positive = λ h. absurd (h .lt); negative = λ h. absurd (h .lt) }
 
--- what is left of a division by `right`: 0 or of the sign of `sign`, and smaller in size than `right`
-pub record Rest (sign right z : ℤ) : Type 0 where
-  pub sided : SameSign sign z
-  pub smaller : natAbs z < natAbs right
+pub pos-sided : (a m : ℕ) → m ≤ a → HasSign (pos a) (pos m)
+pos-sided a m h = record {
+  positive = λ p. ltZ-yes (lt→ltb 0 a (omega (arith, ltb→lt 0 m (p .lt))));
+  negative = λ n. absurd (omega (arith, ltb→lt m 0 (n .lt)));
+}
+
+pub neg-sided : (a m : ℕ) → HasSign (negsuc a) (negℤ (pos m))
+neg-sided a zero = zero-sided (negsuc a)
+neg-sided a (suc m) = record { positive = λ p. absurd (p .lt); negative = λ n. ltZ-yes tt }
+
+-- what has the sign of a number that is not below 0 is not below it, and what has the sign of one below 0 is not above it
+pub sided-up : (a : ℕ) (z : ℤ) → HasSign (pos a) z → down z ≡ 0
+sided-up a (pos n) s = refl
+sided-up a (negsuc n) s = absurd (omega (arith, ltb→lt a 0 (s .negative (ltZ-yes tt) .lt)))
+
+pub sided-down : (a : ℕ) (z : ℤ) → HasSign (negsuc a) z → up z ≡ 0
+sided-down a (pos zero) s = refl
+sided-down a (pos (suc n)) s = absurd (s .positive (ltZ-yes (lt→ltb 0 (suc n) (omega arith))) .lt)
+sided-down a (negsuc n) s = refl
 
 -- ---- left is what was divided off and the rest
 
@@ -41,11 +52,11 @@ minus-is a n m e = eq-parts (pos a -ℤ pos n) (pos m) (omega (arith, parts-minu
 plus-is : (a n m : ℕ) → n + m ≡ suc a → negsuc a -ℤ negℤ (pos n) ≡ negℤ (pos m)
 plus-is a n m e = eq-parts (negsuc a -ℤ negℤ (pos n)) (negℤ (pos m)) (omega (arith, parts-minus (negsuc a) (negℤ (pos n)), parts-neg (pos n), parts-neg (pos m)))
 
-times-neg : (b q : ℕ) → pos b *ℤ negℤ (pos q) ≡ negℤ (pos (b * q))
+pub times-neg : (b q : ℕ) → pos b *ℤ negℤ (pos q) ≡ negℤ (pos (b * q))
 times-neg b zero = rw (mul-zero b)
 times-neg b (suc q) = refl
 
-neg-times-neg : (k q : ℕ) → negsuc k *ℤ negℤ (pos q) ≡ pos (suc k * q)
+pub neg-times-neg : (k q : ℕ) → negsuc k *ℤ negℤ (pos q) ≡ pos (suc k * q)
 neg-times-neg k zero = rw (mul-zero (suc k))
 neg-times-neg k (suc q) = refl
 
@@ -60,19 +71,10 @@ pub natAbs-neg : (n : ℕ) → natAbs (negℤ (pos n)) ≡ n
 natAbs-neg zero = refl
 natAbs-neg (suc n) = refl
 
-nonzero : (right : ℤ) → (right ≡ pos 0 → ⊥) → 0 < natAbs right
+pub nonzero : (right : ℤ) → (right ≡ pos 0 → ⊥) → 0 < natAbs right
 nonzero (pos zero) n = absurd (n refl)
 nonzero (pos (suc k)) n = omega arith
 nonzero (negsuc k) n = omega arith
-
-pos-sided : (a m : ℕ) → m ≤ a → SameSign (pos a) (pos m)
-pos-sided a zero h = tt
-pos-sided zero (suc m) h = absurd (omega arith)
-pos-sided (suc a) (suc m) h = tt
-
-neg-sided : (a m : ℕ) → SameSign (negsuc a) (negℤ (pos m))
-neg-sided a zero = tt
-neg-sided a (suc m) = tt
 
 rest-sizes : (left right : ℤ) → 0 < natAbs right → Rest left right (remZ left right)
 rest-sizes (pos a) right h = record { sided = pos-sided a (a % natAbs right) (mod-le a (natAbs right)); smaller = mod-lt a h }
@@ -82,7 +84,7 @@ rest-sizes (negsuc a) right h = record {
 }
 
 -- rem is 0 or has the dividend's sign, and is smaller in size than the divisor
-rem-rest : (left right : ℤ) → (right ≡ pos 0 → ⊥) → Rest left right (remℤ left right)
+pub rem-rest : (left right : ℤ) → (right ≡ pos 0 → ⊥) → Rest left right (remℤ left right)
 rem-rest left right n = subst (Rest left right) (sym (rem-sizes left right)) (rest-sizes left right (nonzero right n))
 
 -- ---- mod, from rem
@@ -145,69 +147,18 @@ mod-turned (negsuc a) (pos (suc k)) n = turn-up a k (suc a % suc k) refl
 mod-turned (negsuc a) (negsuc k) n = plus-is a (suc k * (suc a / suc k)) (suc a % suc k) (div-add-mod (suc a) (suc k)) ∙ sym (turned-neg (suc a % suc k) k)
 
 -- a rest that is turned where the signs differ has the divisor's sign
-rest-pos : (k m : ℕ) → m < suc k → Rest (pos (suc k)) (pos (suc k)) (pos m)
-rest-pos k zero h = record { sided = tt; smaller = h }
-rest-pos k (suc m) h = record { sided = tt; smaller = h }
-
 turned-rest : (r right : ℤ) → natAbs r < natAbs right → Rest right right (turned r right)
-turned-rest (pos zero) right h = record { sided = tt; smaller = h }
-turned-rest (pos (suc m)) (pos zero) h = absurd (omega arith)
-turned-rest (pos (suc m)) (pos (suc k)) h = record { sided = tt; smaller = h }
+turned-rest (pos zero) right h = record { sided = zero-sided right; smaller = h }
+turned-rest (pos (suc m)) (pos k) h = record { sided = pos-sided k (suc m) (omega arith); smaller = h }
 turned-rest (pos (suc m)) (negsuc k) h =
-    sub-ind (Rest (negsuc k) (negsuc k)) (suc m) (suc k) (λ _. record { sided = tt; smaller = omega arith }) (λ g. absurd (omega arith))
-turned-rest (negsuc m) (pos zero) h = absurd (omega arith)
-turned-rest (negsuc m) (pos (suc k)) h =
-    sub-ind (Rest (pos (suc k)) (pos (suc k))) (suc k) (suc m) (λ g. absurd (omega arith)) (λ _. rest-pos k (suc k - suc m) (omega arith))
-turned-rest (negsuc m) (negsuc k) h = record { sided = tt; smaller = h }
+    sub-ind (Rest (negsuc k) (negsuc k)) (suc m) (suc k)
+    (λ _. record { sided = neg-sided k (suc (suc k - suc (suc m))); smaller = omega arith })
+    (λ g. absurd (omega arith))
+turned-rest (negsuc m) (pos k) h =
+    sub-ind (Rest (pos k) (pos k)) k (suc m) (λ g. absurd (omega arith)) (λ _. record { sided = pos-sided k (k - suc m) (omega arith); smaller = omega arith })
+turned-rest (negsuc m) (negsuc k) h = record { sided = neg-sided k (suc m); smaller = h }
 
 -- mod is 0 or has the divisor's sign, and is smaller in size than the divisor
-mod-rest : (left right : ℤ) → (right ≡ pos 0 → ⊥) → Rest right right (modℤ left right)
+pub mod-rest : (left right : ℤ) → (right ≡ pos 0 → ⊥) → Rest right right (modℤ left right)
 mod-rest left right n =
     subst (Rest right right) (sym (mod-turned left right n)) (turned-rest (remZ left right) right (rest-sizes left right (nonzero right n) .smaller))
-
--- ---- the floor
-
--- q is the floor of left/right by a positive number: right × q does not pass left, and right × (q + 1) does
-pub record PositiveFloor (left right q : ℤ) : Type 0 where
-  pub reached : (right *ℤ q) ≤ℤ left
-  pub passed : left <ℤ (right *ℤ sucℤ q)
-
--- by a negative number it is the mirror image
-pub record NegativeFloor (left right q : ℤ) : Type 0 where
-  pub reached : left ≤ℤ (right *ℤ q)
-  pub passed : (right *ℤ sucℤ q) <ℤ left
-
-next : (right q : ℤ) → right *ℤ sucℤ q ≡ right *ℤ q +ℤ right
-next right q = *ℤ-comm right (sucℤ q) ∙ sucℤ-*ℤ q right ∙ ap (λ (z : ℤ). z +ℤ right) (*ℤ-comm q right)
-
-rest-up : {k : ℕ} (z : ℤ) → Rest (pos (suc k)) (pos (suc k)) z → (down z ≡ 0) × (up z < suc k)
-rest-up (pos n) r = (refl, r .smaller)
-rest-up (negsuc n) r = absurd (r .sided)
-
-rest-down : {k : ℕ} (z : ℤ) → Rest (negsuc k) (negsuc k) z → (up z ≡ 0) × (down z < suc k)
-rest-down (pos zero) r = (refl, r .smaller)
-rest-down (pos (suc n)) r = absurd (r .sided)
-rest-down (negsuc n) r = (refl, r .smaller)
-
-not-zero : (k : ℕ) → pos (suc k) ≡ pos 0 → ⊥
-not-zero k e = let q : _≡_ {A = ℕ} (suc k) 0 = cc in omega arith
-
-floor-positive : (left : ℤ) (k : ℕ) → PositiveFloor left (pos (suc k)) (floorℤ left (pos (suc k)))
-floor-positive left k =
-    let right = pos (suc k) in
-    let off = right *ℤ floorℤ left right in
-    let r = rest-up (modℤ left right) (mod-rest left right (not-zero k)) in
-    record {
-      reached = le-parts off left (omega (arith, parts-minus left off));
-      passed = subst (λ (z : ℤ). left <ℤ z) (sym (next right (floorℤ left right))) (lt-parts left (off +ℤ right) (omega (arith, parts-minus left off, parts-add off right)));
-    }
-
-floor-negative : (left : ℤ) (k : ℕ) → NegativeFloor left (negsuc k) (floorℤ left (negsuc k))
-floor-negative left k =
-    let right = negsuc k in
-    let off = right *ℤ floorℤ left right in
-    let r = rest-down (modℤ left right) (mod-rest left right (λ e. pos-ne-negsuc 0 k (sym e))) in
-    record {
-      reached = le-parts left off (omega (arith, parts-minus left off));
-      passed = subst (λ (z : ℤ). z <ℤ left) (sym (next right (floorℤ left right))) (lt-parts (off +ℤ right) left (omega (arith, parts-minus left off, parts-add off right)));
-    }

@@ -1,17 +1,18 @@
--- What the machine computes at 64 bits of integers of 32: it reads each operand, and the result, from its bits, and loses nothing.
-use mathlib.Core.Path.{_≡_, refl, sym, ap, _∙_, subst}
+-- What the machine computes of integers, at 64 bits and at 32: it reads each operand, and the result, from its bits, and loses nothing.
+use mathlib.Core.Path.{_≡_, refl, sym, ap, ap₂, _∙_, subst}
 use mathlib.Core.Bool.{true, false}
 use Prim.Native.Nat.{ℕ, zero, suc, _+_, _*_, _≤_, _<_}
 use native.Mathlib.Omega.{arith}
-use native.Mathlib.Nat.{mul-le-mul, div-le-self}
+use native.Mathlib.Nat.{mul-le-mul}
 use borrow.Author.Tests.{ltb-true}
 use lib.IntN.{ℤ, pos, negsuc, negℤ, natAbs, subℕ, _+ℤ_, _-ℤ_, _*ℤ_, +ℤ-idl}
-use lib.Signed.{mag, ltZ, quotZ, remZ, mag-rem, natAbs-le}
+use lib.Signed.{mag, ltZ, quotZ, natAbs-le}
 use mir.Syntax.{w32, w64}
 use mir.Val.{SFits, toZ, ofZ}
 use mir.Facts.{toZ-ofZ, sfits-widen}
 use Rattle.prelude.proofs.Absurd.{never}
-use Rattle.integers.specs.Whole.{divℤ}
+use Rattle.integers.specs.Whole.{divℤ, InRange}
+use Rattle.integers.proofs.Range.{range-fits}
 use Rattle.integers.proofs.Parts.{sub-ind}
 use Rattle.integers.proofs.Division.{natAbs-neg}
 
@@ -41,13 +42,7 @@ natAbs-mul (pos a) (negsuc b) = natAbs-neg (a * suc b)
 natAbs-mul (negsuc a) (pos b) = natAbs-neg (suc a * b)
 natAbs-mul (negsuc a) (negsuc b) = refl
 
-natAbs-quot : (x y : ℤ) → natAbs (quotZ x y) ≤ natAbs x
-natAbs-quot (pos a) (pos b) = div-le-self a b
-natAbs-quot (pos a) (negsuc b) = rw natAbs-neg (div-le-self a (suc b))
-natAbs-quot (negsuc a) (pos b) = rw natAbs-neg (div-le-self (suc a) b)
-natAbs-quot (negsuc a) (negsuc b) = div-le-self (suc a) (suc b)
-
--- the results of the five operations on two integers of 32 bits, and of a negation, at 64
+-- the sum, the difference and the product of two integers of 32 bits, at 64
 module _ (x y : ℤ) (fx : SFits w32 x) (fy : SFits w32 y) where
   pub add-fits : SFits w64 (x +ℤ y)
   add-fits = omega (arith, mag-add x y)
@@ -59,18 +54,6 @@ module _ (x y : ℤ) (fx : SFits w32 x) (fy : SFits w32 y) where
   mul-fits =
       let b : natAbs (x *ℤ y) ≤ 2147483648 * 2147483648 = rw natAbs-mul (mul-le-mul (natAbs-le x (fx .sfits)) (natAbs-le y (fy .sfits))) in
       omega (arith, mag-abs (x *ℤ y))
-
-  pub quot-fits : SFits w64 (quotZ x y)
-  quot-fits = omega (arith, mag-abs (quotZ x y), natAbs-quot x y, natAbs-le x (fx .sfits))
-
-  pub rem-fits : SFits w64 (remZ x y)
-  rem-fits = omega (arith, mag-rem x y)
-
-pub rest-fits : (x y : ℤ) → SFits w32 x → SFits w32 (remZ x y)
-rest-fits x y f = omega (arith, mag-rem x y)
-
-neg-fits : (x : ℤ) → SFits w32 x → SFits w64 (negℤ x)
-neg-fits x f = omega (arith, mag-neg x)
 
 -- ---- an integer of 32 bits, widened
 
@@ -95,33 +78,46 @@ module _ (f : ℤ → ℤ → ℤ) (fits : (x y : ℤ) → SFits w32 x → SFits
   pub wide-is : toZ w64 (ofZ w64 (f (widened x) (widened y))) ≡ f x y
   wide-is = toZ-ofZ wide-fits ∙ exact
 
--- a negation, which the machine computes as 0 − x
-module _ {x : ℤ} (f : SFits w32 x) where
-  negated : pos 0 -ℤ widened x ≡ negℤ x
-  negated = ap (λ (z : ℤ). pos 0 -ℤ z) (widen-is f) ∙ +ℤ-idl (negℤ x)
+-- ---- what it computes at 32 bits, where the result is in range
 
-  pub negated-fits : SFits w64 (pos 0 -ℤ widened x)
-  negated-fits = subst (SFits w64) (sym negated) (neg-fits x f)
+-- an integer as the machine reads it
+abbrev pub read : ℤ → ℤ
+read x = toZ w32 (ofZ w32 x)
 
-  pub negated-is : toZ w64 (ofZ w64 (pos 0 -ℤ widened x)) ≡ negℤ x
-  negated-is = toZ-ofZ negated-fits ∙ negated
+-- a number that is the integer z is held by 32 bits, and read back it is z
+module _ {x z : ℤ} (e : x ≡ z) (h : InRange z) where
+  pub is-fits : SFits w32 x
+  is-fits = subst (SFits w32) (sym e) (range-fits z h)
 
--- ---- a divisor is tested at its bits
+  pub is-read : read x ≡ z
+  is-read = toZ-ofZ is-fits ∙ e
 
-pub bits-zero : (z : ℤ) → SFits w32 z → ofZ w32 z ≡ 0 → z ≡ pos 0
-bits-zero (pos n) f e = ap pos e
-bits-zero (negsuc n) f e = absurd (omega arith)
+-- an operation on two integers as the machine reads them; a negation, which it computes as 0 − x
+pub both-read : (f : ℤ → ℤ → ℤ) {x y : ℤ} → SFits w32 x → SFits w32 y → f (read x) (read y) ≡ f x y
+both-read f fx fy = ap₂ f (toZ-ofZ fx) (toZ-ofZ fy)
 
-pub bits-other : {z : ℤ} → (ofZ w32 z ≡ 0 → ⊥) → z ≡ pos 0 → ⊥
-bits-other n e = n (ap (ofZ w32) e)
+pub negated : {x : ℤ} → SFits w32 x → pos 0 -ℤ read x ≡ negℤ x
+negated {x} f = ap (λ (z : ℤ). pos 0 -ℤ z) (toZ-ofZ f) ∙ +ℤ-idl (negℤ x)
 
-other-bits : (z : ℤ) → SFits w32 z → (z ≡ pos 0 → ⊥) → 0 < ofZ w64 z
-other-bits (pos zero) f n = absurd (n refl)
-other-bits (pos (suc k)) f n = omega arith
-other-bits (negsuc k) f n = omega arith
+-- ---- integers are tested at their bits
 
-pub divisor : {z : ℤ} → SFits w32 z → (z ≡ pos 0 → ⊥) → 0 < ofZ w64 (toZ w32 (ofZ w32 z))
-divisor {z} f n = rw (toZ-ofZ f) (other-bits z f n)
+pub bits-is : {x y : ℤ} → SFits w32 x → SFits w32 y → ofZ w32 x ≡ ofZ w32 y → x ≡ y
+bits-is fx fy e = sym (toZ-ofZ fx) ∙ ap (toZ w32) e ∙ toZ-ofZ fy
+
+pub bits-not : {x y : ℤ} → (ofZ w32 x ≡ ofZ w32 y → ⊥) → x ≡ y → ⊥
+bits-not n e = n (ap (ofZ w32) e)
+
+pub zero-fits : SFits w32 (pos 0)
+zero-fits = omega arith
+
+pub minus-one-fits : SFits w32 (negsuc 0)
+minus-one-fits = omega arith
+
+pub other-bits : {n : ℕ} → (n ≡ 0 → ⊥) → 0 < n
+other-bits h = omega arith
+
+pub other-zero : {z : ℤ} → SFits w32 z → (z ≡ pos 0 → ⊥) → 0 < ofZ w32 z
+other-zero f n = other-bits (λ e. n (bits-is f zero-fits e))
 
 -- div is the machine's
 pub div-quot : (left right : ℤ) → quotZ left right ≡ divℤ left right

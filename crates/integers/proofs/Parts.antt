@@ -5,8 +5,8 @@ use mathlib.Core.Bool.{Bool, true, false, cond}
 use Prim.Native.Nat.{ℕ, zero, suc, _+_, _-_, _≤_, _<_}
 use native.Mathlib.Omega.{arith}
 use borrow.Author.Tests.{ltb-true, ltb-false}
-use lib.Dec.{ltb, lt→ltb, le→leb}
-use lib.IntN.{ℤ, pos, negsuc, negℤ, subℕ, _+ℤ_, _-ℤ_}
+use lib.Dec.{ltb, lt→ltb, le→leb, ltb→lt, leb→le}
+use lib.IntN.{ℤ, pos, negsuc, negℤ, natAbs, subℕ, _+ℤ_, _-ℤ_}
 use lib.Signed.{_≤ℤ_, _<ℤ_}
 
 abbrev pub up : ℤ → ℕ
@@ -63,3 +63,21 @@ lt-parts (pos a) (pos b) h = record { lt = lt→ltb a b (omega arith) }
 lt-parts (pos a) (negsuc b) h = absurd (omega arith)
 lt-parts (negsuc a) (pos b) h = record { lt = tt }
 lt-parts (negsuc a) (negsuc b) h = record { lt = lt→ltb b a (omega arith) }
+
+pub parts-le : (x y : ℤ) → x ≤ℤ y → up x + down y ≤ up y + down x
+parts-le (pos a) (pos b) h = omega (arith, leb→le a b (h .le))
+parts-le (pos a) (negsuc b) h = absurd (h .le)
+parts-le (negsuc a) (pos b) h = omega arith
+parts-le (negsuc a) (negsuc b) h = omega (arith, leb→le b a (h .le))
+
+pub parts-lt : (x y : ℤ) → x <ℤ y → up x + down y < up y + down x
+parts-lt (pos a) (pos b) h = omega (arith, ltb→lt a b (h .lt))
+parts-lt (pos a) (negsuc b) h = absurd (h .lt)
+parts-lt (negsuc a) (pos b) h = omega arith
+parts-lt (negsuc a) (negsuc b) h = omega (arith, ltb→lt b a (h .lt))
+
+-- ---- sizes
+
+pub parts-size : (x : ℤ) → natAbs x ≡ up x + down x
+parts-size (pos n) = omega arith
+parts-size (negsuc n) = omega arith

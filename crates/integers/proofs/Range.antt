@@ -1,7 +1,7 @@
--- Laws of the range and of answers. Only `range-fits` and `fits-range` depend on the two limits themselves.
-use mathlib.Core.Path.{_≡_, refl, sym, ap}
+-- Laws of the range and of answers. Only `range-fits`, `fits-range` and the laws of sizes depend on the two limits themselves.
+use mathlib.Core.Path.{_≡_, refl, sym, ap, _∙_}
 use mathlib.Core.Bool.{Bool, true, false, and-false, cond}
-use Prim.Native.Nat.{zero, suc}
+use Prim.Native.Nat.{zero, suc, _≤_}
 use native.Mathlib.Omega.{arith}
 use borrow.Author.Tests.{ltb-true, ltb-false, leb-true, lt-leb, le-leb}
 use lib.IntN.{ℤ, pos, negsuc}
@@ -48,6 +48,15 @@ pub fits-range : (z : ℤ) → SFits w32 z → InRange z
 fits-range (pos n) f = le-leb n (mag greatestInteger) (omega arith)
 fits-range (negsuc n) f = rw (le-leb n (mag leastInteger) (omega arith))
 
+-- the limits are n and −(n + 1), so an integer is in range by its size alone
+pub range-size : (z : ℤ) → InRange z → mag z ≤ mag greatestInteger
+range-size (pos n) e = leb-true n _ e
+range-size (negsuc n) e = leb-true n _ (and-elim-left (leZ leastInteger (negsuc n)) true e)
+
+pub size-range : (z : ℤ) → mag z ≤ mag greatestInteger → InRange z
+size-range (pos n) h = le-leb n (mag greatestInteger) h
+size-range (negsuc n) h = rw (le-leb n (mag leastInteger) h)
+
 -- ---- answers
 
 pub answer-in : (z : ℤ) → InRange z → ranged z ≡ Is z
@@ -57,6 +66,10 @@ answer-in z e = ap (λ (t : Bool). cond t (Is z) OutOfRange) e
 pub answer-out : (z : ℤ) → inRange z ≡ false → ranged z ≡ OutOfRange
 unfolding ranged
 answer-out z e = ap (λ (t : Bool). cond t (Is z) OutOfRange) e
+
+-- an integer in range, as it was computed
+pub answer-is : {x z : ℤ} → x ≡ z → InRange z → Is x ≡ ranged z
+answer-is {z} e h = ap Is e ∙ sym (answer-in z h)
 
 -- ---- division
 

@@ -1,5 +1,5 @@
 -- The rest that `floor_rest` finds, by its tests of the machine's rest and of the divisor.
-use mathlib.Core.Path.{_≡_, refl, sym, ap, _∙_}
+use mathlib.Core.Path.{_≡_, refl, sym, ap, ap₂, _∙_}
 use mathlib.Core.Bool.{true, false}
 use Prim.Native.Nat.{ℕ, zero, suc}
 use native.Mathlib.Omega.{arith}
@@ -7,13 +7,15 @@ use borrow.Author.Tests.{ltb-true, ltb-false}
 use lib.Dec.{ltb}
 use lib.IntN.{ℤ, pos, negsuc, _+ℤ_}
 use lib.Signed.{ltZ, remZ}
-use mir.Syntax.{w32, w64}
-use mir.Val.{SFits, toZ, ofZ}
+use mir.Syntax.{w32}
+use mir.Val.{SFits}
 use mir.Facts.{toZ-ofZ}
 use Rattle.prelude.proofs.Absurd.{never}
 use Rattle.integers.specs.Whole.{modℤ}
 use Rattle.integers.proofs.Division.{turned, mod-turned}
-use Rattle.integers.proofs.Machine.{widened, widen-is, wide-is, rem-fits, rest-fits, add-fits}
+use Rattle.integers.proofs.Range.{fits-range}
+use Rattle.integers.proofs.Machine.{read, is-fits, is-read, both-read}
+use Rattle.integers.proofs.Ends.{remainder-range, modulus-range}
 
 -- ---- `turned`, test by test
 
@@ -51,21 +53,19 @@ no-rest (negsuc n) y e f = never (sym e)
 
 -- the machine's rest
 abbrev pub rest : ℤ → ℤ → ℤ
-rest left right = toZ w64 (ofZ w64 (remZ (widened left) (widened right)))
+rest left right = read (remZ (read left) (read right))
 
-module _ {left right : ℤ} (fl : SFits w32 left) (fr : SFits w32 right) where
-  rest-is : rest left right ≡ remZ left right
-  rest-is = wide-is remZ rem-fits fl fr
+module _ {left right : ℤ} (fl : SFits w32 left) (fr : SFits w32 right) (other : right ≡ pos 0 → ⊥) where
+  turned-is : turned (rest left right) (read right) ≡ modℤ left right
+  turned-is =
+      ap₂ turned (is-read (both-read remZ fl fr) (remainder-range left right (fits-range left fl))) (toZ-ofZ fr) ∙ sym (mod-turned left right other)
 
-  pub more-fits : SFits w64 (rest left right +ℤ widened right)
-  more-fits = rw (rest-is, widen-is fr) (add-fits (remZ left right) right (rest-fits left right fl) fr)
+  pub as-it-is : turned (rest left right) (read right) ≡ rest left right → rest left right ≡ modℤ left right
+  as-it-is e = sym e ∙ turned-is
 
-  module _ (other : right ≡ pos 0 → ⊥) where
-    turned-is : turned (rest left right) (widened right) ≡ modℤ left right
-    turned-is = (λ i. turned (rest-is i) (widen-is fr i)) ∙ sym (mod-turned left right other)
+  module _ (e : turned (rest left right) (read right) ≡ rest left right +ℤ read right) where
+    pub more-fits : SFits w32 (rest left right +ℤ read right)
+    more-fits = is-fits (sym e ∙ turned-is) (modulus-range left right (fits-range right fr) other)
 
-    pub as-it-is : turned (rest left right) (widened right) ≡ rest left right → rest left right ≡ modℤ left right
-    as-it-is e = sym e ∙ turned-is
-
-    pub with-right : turned (rest left right) (widened right) ≡ rest left right +ℤ widened right → toZ w64 (ofZ w64 (rest left right +ℤ widened right)) ≡ modℤ left right
-    with-right e = toZ-ofZ more-fits ∙ sym e ∙ turned-is
+    pub with-right : read (rest left right +ℤ read right) ≡ modℤ left right
+    with-right = is-read (sym e ∙ turned-is) (modulus-range left right (fits-range right fr) other)

@@ -1,25 +1,44 @@
 -- Laws of numbers as bytes: what was written is read back, and what was read is written back.
-use mathlib.Core.Path.{_≡_, refl, sym, ap, ap₂, _∙_}
+use mathlib.Core.Path.{_≡_, refl, sym, ap, ap₂, _∙_, subst}
+use mathlib.Core.Bool.{Bool, true, false, cond}
 use mathlib.Core.List.{List, [], _∷_, _++_, append-assoc}
-use Prim.Native.Nat.{ℕ, suc, _+_, _/_, _%_, _≤_, _<_}
+use Prim.Native.Nat.{ℕ, suc, _+_, _-_, _/_, _%_, _≤_, _<_}
 use native.Mathlib.Numerals.{add-one, add-two}
 use native.Mathlib.Nat.{add-zero}
 use native.Mathlib.Omega.{arith}
-use lib.IntN.{ℤ}
+use lib.Dec.{ltb}
+use lib.IntN.{ℤ, pos, negsuc}
 use lib.ListN.{length, getD, set, take, drop}
 use lib.Seq.{sets, sets-eq, getD-drop, take-set-le, drop-at, drop-cons, drop-drop, take-add, length-take-le}
 use mir.Syntax.{w32}
-use mir.Val.{SFits, toZ}
-use mir.Facts.{toZ-ofZ, ofZ-toZ}
-use Rattle.integers.specs.Bytes.{pair, four, bitsOf, integerBytes, word, bits32, integerAt}
+use mir.Val.{SFits, sel, toZ, ofZ}
+use mir.Facts.{toZ-ofZ, ofZ-toZ, sfits-toZ}
+use Rattle.integers.specs.Whole.{InRange}
+use Rattle.integers.specs.Bytes.{pair, four, bitsOf, integerBytes, word, bits32, ofBits, integerAt}
+use Rattle.integers.proofs.Range.{fits-range}
 
 -- ---- two's complement: the bits of an integer and back
 
-integer-bits : {z : ℤ} → SFits w32 z → toZ w32 (bitsOf z) ≡ z
-integer-bits f = toZ-ofZ f
+-- the machine's bits of an integer, and its integer of bits, are these
+pub bits-machine : (z : ℤ) → bitsOf z ≡ ofZ w32 z
+bits-machine (pos n) = refl
+bits-machine (negsuc n) = refl
 
-bits-integer : (n : ℕ) → n < 4294967296 → bitsOf (toZ w32 n) ≡ n
-bits-integer n h = ofZ-toZ {w = w32} {n = n} (record { fits = h })
+pub machine-bits : (n : ℕ) → ofBits n ≡ toZ w32 n
+machine-bits n = go (ltb n 2147483648)
+  where
+    go : (b : Bool) → cond b (pos n) (negsuc (4294967296 - suc n)) ≡ sel b (pos n) (negsuc (4294967296 - suc n))
+    go true = refl
+    go false = refl
+
+pub integer-bits : {z : ℤ} → SFits w32 z → ofBits (bitsOf z) ≡ z
+integer-bits {z} f = ap ofBits (bits-machine z) ∙ machine-bits (ofZ w32 z) ∙ toZ-ofZ f
+
+pub bits-integer : (n : ℕ) → n < 4294967296 → bitsOf (ofBits n) ≡ n
+bits-integer n h = ap bitsOf (machine-bits n) ∙ bits-machine (toZ w32 n) ∙ ofZ-toZ {w = w32} {n = n} (record { fits = h })
+
+pub bits-range : (n : ℕ) → n < 4294967296 → InRange (ofBits n)
+bits-range n h = fits-range (ofBits n) (subst (SFits w32) (sym (machine-bits n)) (sfits-toZ {w = w32} {n = n} (record { fits = h })))
 
 -- ---- bytes are below 256, and a word of two bytes below 65,536
 
@@ -39,7 +58,7 @@ pub bits32-four : (n : ℕ) (rest : List ℕ) → bits32 (four n ++ rest) 0 ≡ 
 bits32-four n rest = omega arith
 
 integer-four : {z : ℤ} (rest : List ℕ) → SFits w32 z → integerAt (integerBytes z ++ rest) 0 ≡ z
-integer-four {z} rest f = ap (toZ w32) (bits32-four (bitsOf z) rest) ∙ integer-bits f
+integer-four {z} rest f = ap ofBits (bits32-four (bitsOf z) rest) ∙ integer-bits f
 
 -- ---- the same in a part of the list
 

@@ -1,11 +1,11 @@
 -- Numbers of 16 bits and integers as bytes, the lowest byte first, and where they stand in a list of bytes.
 use mathlib.Core.Path.{_≡_}
 use mathlib.Core.List.{List, [], _∷_}
-use Prim.Native.Nat.{ℕ, _+_, _*_, _/_, _%_, _<_}
-use lib.IntN.{ℤ}
+use mathlib.Core.Bool.{cond}
+use Prim.Native.Nat.{ℕ, suc, _+_, _-_, _*_, _/_, _%_, _<_}
+use lib.Dec.{ltb}
+use lib.IntN.{ℤ, pos, negsuc}
 use lib.ListN.{getD}
-use mir.Syntax.{w32}
-use mir.Val.{toZ, ofZ}
 
 -- ---- as bytes
 
@@ -19,7 +19,8 @@ four n = n % 65536 % 256 ∷ n % 65536 / 256 ∷ n / 65536 % 256 ∷ n / 65536 /
 
 -- the bits of an integer in two's complement: n for n, and 2^32 − n for −n
 abbrev pub bitsOf : ℤ → ℕ
-bitsOf z = ofZ w32 z
+bitsOf (pos n) = n
+bitsOf (negsuc n) = 4294967296 - suc n
 
 abbrev pub integerBytes : ℤ → List ℕ
 integerBytes z = four (bitsOf z)
@@ -34,9 +35,13 @@ word s at = getD s at 0 + 256 * getD s (at + 1) 0
 abbrev pub bits32 : List ℕ → ℕ → ℕ
 bits32 s at = word s at + 65536 * word s (at + 2)
 
--- the integer at a place, in two's complement
+-- the integer of 32 bits in two's complement: n is n below 2^31, and from there on −(2^32 − n)
+abbrev pub ofBits : ℕ → ℤ
+ofBits n = cond (ltb n 2147483648) (pos n) (negsuc (4294967296 - suc n))
+
+-- the integer at a place
 abbrev pub integerAt : List ℕ → ℕ → ℤ
-integerAt s at = toZ w32 (bits32 s at)
+integerAt s at = ofBits (bits32 s at)
 
 -- ---- what the readers promise
 

@@ -39,7 +39,7 @@ divided (pos zero) z = ByZero
 divided (pos (suc n)) z = ranged z
 divided (negsuc n) z = ranged z
 
--- ---- the two quotients, where `right` is not 0
+-- ---- the two quotients, where `right` is not 0 (`Division` says each by two inequalities)
 
 -- left div right "cuts toward zero": the quotient of the two sizes, negative where one of the signs is
 abbrev pub divℤ : ℤ → ℤ → ℤ

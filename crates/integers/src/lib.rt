@@ -1,6 +1,6 @@
 // The integers of a sheet at 32 bits, with an exact answer at 0 and at the range's ends.
 ghost use mathlib.Core.Path.{_≡_};
-ghost use lib.IntN.{pos};
+ghost use lib.IntN.{pos, negsuc};
 ghost use lib.Signed.{ltZ};
 ghost use Rattle.integers.specs.Whole.{ranged, modℤ, sumOf, differenceOf, productOf, quotientOf, remainderOf, modulusOf, negationOf, absoluteOf};
 ghost use Rattle.integers.specs.Order.{orderℕ, orderℤ};
@@ -16,9 +16,9 @@ pub enum Number {
 
 impl Number {
     // The range of an integer, named here and nowhere else.
-    pub const LEAST: i64 = -2147483648;
+    pub const LEAST: i32 = -2147483648;
 
-    pub const GREATEST: i64 = 2147483647;
+    pub const GREATEST: i32 = 2147483647;
 }
 
 // The order of two of a kind: the first is lower, the same or higher.
@@ -28,14 +28,14 @@ pub enum Order {
     Higher,
 }
 
-// An exact result as an answer. 64 bits hold the exact result of every operation.
+// The exact sum, difference or product of two integers, which 64 bits hold, as an answer.
 fn settle(z: i64) -> Number
     ensures { λ r. ⌜ r ≡ ranged z ⌝ }
 {
-    if z < Number::LEAST {
+    if z < Number::LEAST as i64 {
         return Number::OutOfRange;
     }
-    if z <= Number::GREATEST {
+    if z <= Number::GREATEST as i64 {
         return Number::Is(z as i32);
     }
     Number::OutOfRange
@@ -62,63 +62,14 @@ pub fn mul(left: i32, right: i32) -> Number
     settle(left as i64 * right as i64)
 }
 
-// left div right, which cuts toward zero
-pub fn div(left: i32, right: i32) -> Number
-    ensures { λ r. ⌜ r ≡ quotientOf left right ⌝ }
-{
-    if right == 0 {
-        return Number::ByZero;
-    }
-    settle(left as i64 / right as i64)
-}
-
-// left rem right, which has the dividend's sign
-pub fn rem(left: i32, right: i32) -> Number
-    ensures { λ r. ⌜ r ≡ remainderOf left right ⌝ }
-{
-    if right == 0 {
-        return Number::ByZero;
-    }
-    settle(left as i64 % right as i64)
-}
-
-// left mod right, from the machine's rest, which has the dividend's sign
-fn floor_rest(left: i32, right: i32) -> i64
-    requires { ⌜ (right ≡ pos 0 → ⊥) ⌝ }
-    ensures { λ r. ⌜ r ≡ modℤ left right ⌝ }
-{
-    let y = right as i64;
-    let rest = left as i64 % y;
-    if rest < 0 {
-        if y < 0 {
-            return rest;
-        }
-        return rest + y;
-    }
-    if 0 < rest {
-        if 0 < y {
-            return rest;
-        }
-        return rest + y;
-    }
-    rest
-}
-
-// left mod right, which has the divisor's sign
-pub fn modulo(left: i32, right: i32) -> Number
-    ensures { λ r. ⌜ r ≡ modulusOf left right ⌝ }
-{
-    if right == 0 {
-        return Number::ByZero;
-    }
-    settle(floor_rest(left, right))
-}
-
-// −z
+// −z, which is out of range for the least integer alone
 pub fn neg(z: i32) -> Number
     ensures { λ r. ⌜ r ≡ negationOf z ⌝ }
 {
-    settle(-(z as i64))
+    if z == Number::LEAST {
+        return Number::OutOfRange;
+    }
+    Number::Is(-z)
 }
 
 // abs z
@@ -126,9 +77,69 @@ pub fn abs(z: i32) -> Number
     ensures { λ r. ⌜ r ≡ absoluteOf z ⌝ }
 {
     if z < 0 {
-        return settle(-(z as i64));
+        return neg(z);
     }
-    settle(z as i64)
+    Number::Is(z)
+}
+
+// left div right, which cuts toward zero. By −1 it is −left, which may be out of range.
+pub fn div(left: i32, right: i32) -> Number
+    ensures { λ r. ⌜ r ≡ quotientOf left right ⌝ }
+{
+    if right == 0 {
+        return Number::ByZero;
+    }
+    if right == -1 {
+        return neg(left);
+    }
+    Number::Is(left / right)
+}
+
+// left rem right, which has the dividend's sign. By −1 nothing is left.
+pub fn rem(left: i32, right: i32) -> Number
+    ensures { λ r. ⌜ r ≡ remainderOf left right ⌝ }
+{
+    if right == 0 {
+        return Number::ByZero;
+    }
+    if right == -1 {
+        return Number::Is(0);
+    }
+    Number::Is(left % right)
+}
+
+// left mod right, from the machine's rest, which has the dividend's sign
+fn floor_rest(left: i32, right: i32) -> i32
+    requires { ⌜ (right ≡ pos 0 → ⊥) × (right ≡ negsuc 0 → ⊥) ⌝ }
+    ensures { λ r. ⌜ r ≡ modℤ left right ⌝ }
+{
+    let rest = left % right;
+    if rest < 0 {
+        if right < 0 {
+            return rest;
+        }
+        return rest + right;
+    }
+    if 0 < rest {
+        if 0 < right {
+            return rest;
+        }
+        return rest + right;
+    }
+    rest
+}
+
+// left mod right, which has the divisor's sign. By −1 nothing is left.
+pub fn modulo(left: i32, right: i32) -> Number
+    ensures { λ r. ⌜ r ≡ modulusOf left right ⌝ }
+{
+    if right == 0 {
+        return Number::ByZero;
+    }
+    if right == -1 {
+        return Number::Is(0);
+    }
+    Number::Is(floor_rest(left, right))
 }
 
 // left < right

@@ -9,3 +9,4 @@ pub mod Booleans
 pub mod Sets
 pub mod Sequences
 pub mod Maps
+pub mod Listed

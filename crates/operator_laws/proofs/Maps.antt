@@ -66,7 +66,7 @@ maps-range k x vs p e = member-insertAll x none (mapped vs) ∙ mapped-in k x vs
 -- ---- munion, ++
 
 -- THEOREM: two maps are compatible if any common key is mapped to the same value by both
-compatible-at : (vs ws : Items) → Paired ws → compatible vs ws ≡ true → (k v w : Value) → lookup k vs ≡ some v → lookup k ws ≡ some w → v ≡ w
+pub compatible-at : (vs ws : Items) → Paired ws → compatible vs ws ≡ true → (k v w : Value) → lookup k vs ≡ some v → lookup k ws ≡ some w → v ≡ w
 compatible-at vs ws q e k v w f g =
     let h = everyEntry-at (λ k v. agreesWith (lookup k vs) v) ws q e k w g in
     sym (same-true w v (sym (ap (λ (o : Option Value). agreesWith o w) f) ∙ h))
@@ -82,7 +82,7 @@ everyEntry-all p =
     (by-test (same l k) (λ s. none-some (ap (λ (y : Value). lookup y vs) (same-true l k s) ∙ before-nothing k vs q (a .0)) e)
     (λ s. cond-false (same l k) (some v) (lookup l vs) s ∙ e)))))
 
-compatible-all : (vs ws : Items) → Paired ws → Ascending (keys ws) → ((k v w : Value) → lookup k vs ≡ some v → lookup k ws ≡ some w → v ≡ w) → compatible vs ws ≡ true
+pub compatible-all : (vs ws : Items) → Paired ws → Ascending (keys ws) → ((k v w : Value) → lookup k vs ≡ some v → lookup k ws ≡ some w → v ≡ w) → compatible vs ws ≡ true
 compatible-all vs ws q a f = everyEntry-all (λ k v. agreesWith (lookup k vs) v) ws q a (λ k w e. go k w (lookup k vs) refl e)
   where
     go : (k w : Value) (o : Option Value) → lookup k vs ≡ o → lookup k ws ≡ some w → agreesWith o w ≡ true

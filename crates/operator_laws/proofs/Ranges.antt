@@ -1,10 +1,10 @@
 -- Laws of integers one after another: which they are, and that they stay in order, in range and of known size.
 use mathlib.Core.Path.{_≡_, refl, sym, ap, subst, _∙_}
-use mathlib.Core.Bool.{true, _&&_, and-eq-true-iff}
+use mathlib.Core.Bool.{Bool, true, false, _&&_, and-eq-true-iff, cond}
 use Prim.Native.Nat.{ℕ, zero, suc, _+_, _*_, _≤_, _<_}
 use native.Mathlib.Omega.{arith}
 use borrow.Author.Tests.{leb-true, le-leb, lt-ltb, eqb-true, eqb-false}
-use lib.Dec.{eqb}
+use lib.Dec.{eqb, leb}
 use lib.IntN.{ℤ, pos, negsuc, _+ℤ_, _-ℤ_}
 use lib.Signed.{ltZ, leZ}
 use mathlib.Mathlib.Data.Bool.Basic.{and-intro}
@@ -13,12 +13,13 @@ use Rattle.prelude.proofs.Truth.{both-ways, by-test}
 use Rattle.integers.specs.Whole.{leastInteger, greatestInteger, InRange}
 use Rattle.integers.proofs.Parts.{up, down, parts-add, parts-minus, eq-parts}
 use Rattle.integers.specs.declared.Order.the-variants.{Lower}
-use Rattle.values.specs.Value.{integer, size, sizes, within, order, Before, Ascending, Sound, SoundItems}
+use Rattle.values.specs.Value.{set, integer, collection, size, sizes, valueLimit, within, order, Before, Ascending, Sound, SoundItems}
 use Rattle.integers.specs.Order.{orderℕ, orderℤ}
 use Rattle.values.specs.Items.{isMember}
 use Rattle.values.proofs.Members.{member-here}
+use Rattle.operators.specs.Answer.{is, refused, tooLarge, built, stopped, closed}
 use Rattle.operators.specs.Gather.{upFrom}
-use Rattle.operators.specs.Sets.{asCount, howMany}
+use Rattle.operators.specs.Sets.{asCount, howMany, consecutive, rangeOf}
 use Rattle.operator_laws.proofs.Gather.{member-none, member-case, member-there}
 
 -- ---- at most and below, as facts that `omega` reads
@@ -137,3 +138,18 @@ pub sizes-up : (z : ℤ) (n : ℕ) → sizes (upFrom z n) ≡ 8 * n
 unfolding upFrom size
 sizes-up z zero = refl
 sizes-up z (suc n) = let e = sizes-up (z +ℤ pos 1) n in omega arith
+
+-- ---- judged by their number
+
+-- THEOREM: each takes 8 bytes, so how many there are tells whether they pass 512, before any is formed
+pub counting-is : (z : ℤ) (n : ℕ) → consecutive z n ≡ cond (leb (4 + 8 * n) valueLimit) (is (collection set (upFrom z n))) (refused tooLarge)
+counting-is z n =
+    ap (λ (k : ℕ). closed set (cond (leb (4 + k) valueLimit) (built (upFrom z n)) (stopped tooLarge))) (sizes-up z n) ∙ go (leb (4 + 8 * n) valueLimit)
+  where
+    go : (b : Bool) → closed set (cond b (built (upFrom z n)) (stopped tooLarge)) ≡ cond b (is (collection set (upFrom z n))) (refused tooLarge)
+    go true = refl
+    go false = refl
+
+-- The set of all integers is refused.
+range-widest : rangeOf (integer leastInteger) (integer greatestInteger) ≡ refused 28
+range-widest = counting-is leastInteger (howMany leastInteger greatestInteger)

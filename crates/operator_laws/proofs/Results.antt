@@ -28,7 +28,7 @@ use Rattle.operators.specs.Sequences.{firstItem, tailOf, itemAt}
 use Rattle.operators.specs.Maps.{compatible, applyItems, applyTo}
 use Rattle.operators.specs.Operators.{noUnary, unaries, unary, noBinary, binaries, binary}
 use Rattle.operator_laws.proofs.Gather.{ascending-keep, sound-keep, sizes-keep, ascending-insertAll, sound-insertAll, sizes-insertAll, sound-flatten, sizes-backwards, sound-backwards}
-use Rattle.operator_laws.proofs.Ranges.{up-le, sound-up, sound-range, ascending-up, sizes-up}
+use Rattle.operator_laws.proofs.Ranges.{up-le, sound-up, sound-range, ascending-up, sizes-up, counting-is}
 use Rattle.operator_laws.proofs.Entries.{sound-everyOther, sizes-everyOther, paired-keep, ascending-keys, sound-keepEntries, sizes-keepEntries, paired-enterAll, ascending-enterAll, sound-enterAll}
 
 -- ---- well-formed collections
@@ -169,11 +169,12 @@ intersectionOf-fine (more v vs) e g =
 
 counting-fine : (z : ℤ) (n : ℕ) → (8 * n + 4 ≤ valueLimit → SoundItems (upFrom z n)) → FineAnswer (consecutive z n)
 counting-fine z n f =
-    by-test (leb (4 + 8 * n) valueLimit)
+    subst FineAnswer (sym (counting-is z n))
+    (by-test (leb (4 + 8 * n) valueLimit)
     (λ e.
     let h = leb-true (4 + 8 * n) valueLimit e in
     rw e (wellFormed (record { shaped = ascending-up z n; sound = f (omega arith); short = omega (arith, sizes-up z n) })))
-    (λ e. rw e (omega arith))
+    (λ e. rw e (omega arith)))
 
 -- ---- sequences
 

@@ -1,23 +1,19 @@
 -- Theorems on the operators on sets: who is a member of each result, in the words of source 000.
 use mathlib.Core.Path.{_≡_, refl, sym, ap, _∙_}
 use mathlib.Core.Bool.{Bool, true, false, not, _&&_, _||_, and-eq-true-iff, cond}
-use Prim.Native.Nat.{ℕ, _+_}
+use Prim.Native.Nat.{_+_}
 use native.Mathlib.Omega.{arith}
 use borrow.Author.Tests.{not-true}
-use lib.Dec.{leb}
-use lib.IntN.{ℤ}
 use mathlib.Mathlib.Data.Bool.Basic.{and-intro}
 use Rattle.prelude.proofs.Absurd.{never}
 use Rattle.prelude.proofs.Truth.{cond-false, both-ways, by-test}
-use Rattle.values.specs.Value.{set, Value, collection, Items, none, more, count, size, sizes, valueLimit, Ascending}
+use Rattle.values.specs.Value.{Value, Items, none, more, count, size, sizes, Ascending}
 use Rattle.values.specs.Items.{same, isMember, insert}
 use Rattle.values.proofs.Order.{same-true}
 use Rattle.values.proofs.Members.{member-here, member-insert, before-apart, insert-present, sizes-insert, count-insert, ascending-insert, same-members}
-use Rattle.operators.specs.Answer.{is, refused, tooLarge, built, stopped, closed, sized}
-use Rattle.operators.specs.Gather.{everyItem, anyItem, keepItems, insertAll, itemsIn, flatten, upFrom}
-use Rattle.operators.specs.Sets.{unite, intersect, subtract, isSubset, isEmpty, uniteAll, intersectAll, consecutive}
+use Rattle.operators.specs.Gather.{everyItem, anyItem, keepItems, insertAll, itemsIn, flatten}
+use Rattle.operators.specs.Sets.{unite, intersect, subtract, isSubset, isEmpty, uniteAll, intersectAll}
 use Rattle.operator_laws.proofs.Gather.{member-none, member-there, every-at, every-all, Some, any-some, some-any, member-keep, member-insertAll, ascending-insertAll, member-flatten}
-use Rattle.operator_laws.proofs.Ranges.{sizes-up}
 
 -- ---- union, inter, difference
 
@@ -138,13 +134,3 @@ unite-counts vs (more w ws) a b =
     let i = count-insert w vs e in
     let j = sizes-insert w vs e in
     rw e (omega (arith, h .0), omega (arith, h .1)))
-
--- ---- the set range
-
--- THEOREM: integers that are counted, judged by their number before any is formed, are judged as the finished set is
-counting-is : (z : ℤ) (n : ℕ) → consecutive z n ≡ sized set (upFrom z n)
-counting-is z n = ap (λ (k : ℕ). cond (leb (4 + k) valueLimit) (is (collection set (upFrom z n))) (refused tooLarge)) (sym (sizes-up z n)) ∙ go (leb (4 + sizes (upFrom z n)) valueLimit)
-  where
-    go : (b : Bool) → cond b (is (collection set (upFrom z n))) (refused tooLarge) ≡ closed set (cond b (built (upFrom z n)) (stopped tooLarge))
-    go true = refl
-    go false = refl

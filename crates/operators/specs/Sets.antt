@@ -1,12 +1,11 @@
 -- The operators on sets: source 000, section 3.2.1, pages 14 and 15; the set range, page 62.
 -- Each is stated on the members first, and then on values, with its kinds and its limit.
 use mathlib.Core.Bool.{Bool, true, false, not, _&&_, cond}
-use Prim.Native.Nat.{ℕ, _+_, _*_}
-use lib.Dec.{leb}
+use Prim.Native.Nat.{ℕ}
 use lib.IntN.{ℤ, pos, negsuc, _+ℤ_, _-ℤ_}
-use Rattle.values.specs.Value.{set, Value, integer, collection, Items, none, more, count, valueLimit}
+use Rattle.values.specs.Value.{set, Value, integer, collection, Items, none, more, count}
 use Rattle.values.specs.Items.{isMember}
-use Rattle.operators.specs.Answer.{Answer, is, refused, wrongKind, notThere, tooLarge, asSet, asInteger, needs, needsBoth, sized}
+use Rattle.operators.specs.Answer.{Answer, is, refused, wrongKind, notThere, asSet, asInteger, needs, needsBoth, sized}
 use Rattle.operators.specs.Booleans.{truth}
 use Rattle.operators.specs.Gather.{everyItem, keepItems, insertAll, itemsIn, isKind, flatten, upFrom}
 
@@ -93,9 +92,9 @@ asCount (negsuc n) = 0
 abbrev pub howMany : ℤ → ℤ → ℕ
 howMany from to = asCount (to -ℤ from +ℤ pos 1)
 
--- n integers, which take 8 bytes each, from one up; over 512 bytes, 28. (So n is judged before the members are formed.)
+-- The set of n integers, from one up; over 512 bytes, 28
 abbrev pub consecutive : ℤ → ℕ → Answer
-consecutive from n = cond (leb (4 + 8 * n) valueLimit) (is (collection set (upFrom from n))) (refused tooLarge)
+consecutive from n = sized set (upFrom from n)
 
 abbrev pub rangeOf : Value → Value → Answer
 rangeOf v w = needsBoth (asInteger v) (asInteger w) (λ from to. consecutive from (howMany from to))

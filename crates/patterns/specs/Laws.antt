@@ -10,6 +10,7 @@ pub mod Named
 pub mod Chopped
 pub mod Orders
 pub mod Merging
+pub mod Given
 pub mod Together
 pub mod Forming
 pub mod Plain

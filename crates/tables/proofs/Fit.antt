@@ -7,13 +7,11 @@ use native.Mathlib.Omega.{arith}
 use lib.Dec.{leb}
 use lib.ListN.{length, getD, take, drop, length-drop}
 use lib.Seq.{length-take-le, getD-take, getD-drop}
-use mir.Syntax.{w32}
-use mir.Facts.{sfits-toZ}
 use borrow.Author.Tests.{leb-true}
 use mathlib.Mathlib.Data.Bool.Basic.{and-elim-left}
 use Rattle.integers.specs.Bytes.{word, bits32, integerAt}
 use Rattle.integers.specs.Whole.{inRange}
-use Rattle.integers.proofs.Range.{fits-range}
+use Rattle.integers.proofs.Written.{bits-range}
 use Rattle.tables.specs.Record.{Record, Head, nothing, boolean, integer, name, unary, binary, unknown, Shape, shape, isExpression, isPattern, size, headOf, field, integerOf, fits, isKnown, isFit}
 use Rattle.tables.specs.Table.{firstRecord}
 use Rattle.tables.specs.Shapes.{isTested, knownFirst}
@@ -32,8 +30,7 @@ plus-four a i = omega arith
 -- Four bytes are an integer in range.
 bytes-range : (fs : List ℕ) → ((i : ℕ) → i < 4 → getD fs i 0 < 256) → inRange (integerAt fs 0) ≡ true
 bytes-range fs small =
-    fits-range (integerAt fs 0)
-    (sfits-toZ {w = w32} {n = bits32 fs 0} (omega (arith, small 0 (omega arith), small 1 (omega arith), small 2 (omega arith), small 3 (omega arith))))
+    bits-range (bits32 fs 0) (omega (arith, small 0 (omega arith), small 1 (omega arith), small 2 (omega arith), small 3 (omega arith)))
 
 known-first : (h : Head) (r : Record) → (h ≡ integer → inRange (integerOf r) ≡ true) → isKnown h r ≡ knownFirst h (field r 0)
 known-first nothing r e = refl

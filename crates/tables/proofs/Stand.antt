@@ -6,9 +6,7 @@ use Prim.Native.Nat.{ℕ, _+_, _-_, _≤_, _<_}
 use native.Mathlib.Omega.{arith}
 use lib.ListN.{length, getD, take, drop, length-drop}
 use lib.Seq.{getD-drop}
-use mir.Syntax.{w32}
-use mir.Val.{toZ}
-use Rattle.integers.specs.Bytes.{bits32, integerAt}
+use Rattle.integers.specs.Bytes.{bits32, ofBits, integerAt}
 use Rattle.tables.specs.Record.{size, headOf, field, named, operand, integerOf, isFit}
 use Rattle.tables.specs.Table.{recordAt, kindAt}
 use Rattle.tables.specs.Check.{mostRecords}
@@ -103,4 +101,4 @@ module _ (table index : List ℕ) (r : ℕ) (h : Here table index r) where
         field-byte table at (placeIn (getD index r 0)) 6 e ∙ field-is 2 (omega arith),
         field-byte table at (placeIn (getD index r 0)) 7 e ∙ field-is 3 (omega arith),
       ) in
-      ap (toZ w32) same
+      ap ofBits same

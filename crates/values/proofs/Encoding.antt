@@ -9,11 +9,9 @@ use lib.Dec.{eqb}
 use lib.ListN.{length, getD, take, drop, length-append}
 use lib.Seq.{take-at, drop-at}
 use borrow.Author.Tests.{eqb-true, eq-eqb}
-use mir.Syntax.{w32}
-use mir.Val.{ofZ, toZ}
-use mir.ValLaws.{toZ-ofZ}
-use Rattle.integers.specs.Bytes.{word, four, integerAt}
+use Rattle.integers.specs.Bytes.{four, bitsOf, word, ofBits, integerAt}
 use Rattle.integers.proofs.Range.{range-fits}
+use Rattle.integers.proofs.Written.{integer-bits}
 use Rattle.values.specs.Value.{Kind, set, sequence, map, tuple, number, Value, boolean, integer, collection, Items, none, more, kindOf, count, size, sizes, byteOf, headed, encode, encodeItems, Sound, SoundItems}
 use Rattle.values.specs.Items.{join, snoc}
 use Rattle.values.proofs.Order.{collectionKind, collection-kind}
@@ -43,7 +41,7 @@ size-low (collection k vs) = omega arith
 pub encode-head : (v : Value) → (l : List ℕ) × (encode v ≡ headed (size v) (kindOf v) l)
 unfolding size encode
 encode-head (boolean b) = (byteOf b ∷ [], refl)
-encode-head (integer z) = (four (ofZ w32 z), refl)
+encode-head (integer z) = (four (bitsOf z), refl)
 encode-head (collection k vs) = (encodeItems vs, refl)
 
 -- ---- the size of the parts
@@ -125,10 +123,10 @@ head-word n k l = omega arith
 kind-word : (n k : ℕ) (l : List ℕ) → word (headed n k l) 2 ≡ k
 kind-word n k l = omega arith
 
-four-back : (n m k : ℕ) (l : List ℕ) → integerAt (headed m k (four n ++ l)) 4 ≡ toZ w32 n
+four-back : (n m k : ℕ) (l : List ℕ) → integerAt (headed m k (four n ++ l)) 4 ≡ ofBits n
 four-back n m k l =
     let e : word (headed m k (four n ++ l)) 4 + 65536 * word (headed m k (four n ++ l)) 6 ≡ n = omega arith in
-    ap (toZ w32) e
+    ap ofBits e
 
 -- a record has a first byte
 not-empty : (v : Value) (l : List ℕ) (f : List ℕ → Items) (vs : Items) → ((b : ℕ) (r : List ℕ) → encode v ++ l ≡ b ∷ r → f (b ∷ r) ≡ vs) → f (encode v ++ l) ≡ vs
@@ -150,7 +148,7 @@ mutual
   value-back (integer i) zero l f h = let z : ⊥ = omega arith in absurd z
   value-back (collection k vs) zero l f h = let z : ⊥ = omega arith in absurd z
   value-back (boolean b) (suc n) l f h = ap boolean (bool-back b)
-  value-back (integer i) (suc n) l f h = ap integer (four-back (ofZ w32 i) 8 2 l ∙ toZ-ofZ w32 i (range-fits i f))
+  value-back (integer i) (suc n) l f h = ap integer (four-back (bitsOf i) 8 2 l ∙ integer-bits (range-fits i f))
   value-back (collection k vs) (suc n) l f h =
       let m : ℕ = 4 + sizes vs in
       let e : word (headed m (number k) (encodeItems vs ++ l)) 0 - 4 ≡ sizes vs = omega arith in

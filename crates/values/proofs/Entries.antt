@@ -18,7 +18,7 @@ pub enter-lower : (k v l : Value) (ws : Items) → order k l ≡ Lower → enter
 unfolding enter
 enter-lower k v l ws e = rw e
 
-enter-same : (k v l w : Value) (vs : Items) → order k l ≡ Same → enter k v (more l (more w vs)) ≡ more l (more v vs)
+pub enter-same : (k v l w : Value) (vs : Items) → order k l ≡ Same → enter k v (more l (more w vs)) ≡ more l (more v vs)
 unfolding enter
 enter-same k v l w vs e = rw e
 

@@ -2,22 +2,20 @@
 use mathlib.Core.Path.{_≡_, refl, sym, ap, ap₂, subst, _∙_}
 use mathlib.Core.Bool.{Bool, true, false}
 use mathlib.Core.List.{List, [], _∷_, _++_}
-use Prim.Native.Nat.{ℕ, zero, suc, _+_, _*_, _-_, _/_, _%_, _≤_, _<_}
+use Prim.Native.Nat.{ℕ, zero, suc, _+_, _/_, _%_, _≤_, _<_}
 use native.Mathlib.Numerals.{add-one, add-two}
 use native.Mathlib.Omega.{arith}
 use lib.Dec.{eqb, ltb}
 use lib.ListN.{length, getD, take, drop}
 use lib.Seq.{drop-cons, take-add, drop-drop}
-use mir.Syntax.{w8, w32}
-use mir.Val.{Fits, ofZ, toZ}
-use mir.ValLaws.{ofZ-toZ, toZ-fits}
-use Rattle.integers.specs.Bytes.{word, four, bits32, IsWord}
-use Rattle.integers.proofs.Range.{fits-range}
-use Rattle.values.specs.Value.{Kind, number, Value, boolean, integer, collection, Items, more, kindOf, size, sizes, byteOf, encode, Shaped, valueLimit}
+use mir.Syntax.{w8}
+use mir.Val.{Fits}
+use Rattle.integers.specs.Bytes.{word, four, bits32, ofBits, IsWord}
+use Rattle.integers.proofs.Written.{bits-integer, bits-range}
+use Rattle.values.specs.Value.{Kind, number, boolean, integer, collection, Items, more, size, byteOf, encode, Shaped, valueLimit}
 use Rattle.values.specs.Place.{At, ItemsAt, Holds, HoldsItems}
 use Rattle.values.specs.Contract.{heading}
 use Rattle.values.proofs.Written.{collection-at}
-use Rattle.values.proofs.Order.{number-low}
 use Rattle.values.proofs.Records.{holds, word-size, word-kind, boolean-at, is-boolean, is-integer, is-collection, items-to, holds-items, no-items, more-of, uncons-of, one-list, well-formed-boolean, well-formed-integer, collection-shaped}
 use Rattle.values.specs.Validity.{Tells, Span, Inside, Boolean, TellsItems, ItemsShapedAs}
 use Rattle.values.proofs.Telling.{tells-true, tells-false, tells-of, told-false, tells-equal, tells-less}
@@ -70,8 +68,8 @@ module _ (s : List ℕ) (bytes : (i : ℕ) → Fits w8 (getD s i 0)) where
             ∙ ap₂ (λ (x y : ℕ). heading x y ++ (byteOf b ∷ [])) n k;
       })
 
-  bits-fit : (at : ℕ) → Fits w32 (bits32 s at)
-  bits-fit at = record { fits = omega (arith, bytes at, bytes (at + 1), bytes (at + 2), bytes (at + 2 + 1)) }
+  bits-low : (at : ℕ) → bits32 s at < 4294967296
+  bits-low at = omega (arith, bytes at, bytes (at + 1), bytes (at + 2), bytes (at + 2 + 1))
 
   halves : (at : ℕ) → heading (word s at) (word s (at + 2)) ≡ four (bits32 s at)
   halves at =
@@ -85,14 +83,14 @@ module _ (s : List ℕ) (bytes : (i : ℕ) → Fits w8 (getD s i 0)) where
   unfolding size encode
   found-integer at h n k =
       let x : ℕ = bits32 s (at + 4) in
-      let f = bits-fit (at + 4) in
-      holds {v = integer (toZ w32 x)} (record {
+      let f = bits-low (at + 4) in
+      holds {v = integer (ofBits x)} (record {
         fits = h;
-        fine = well-formed-integer (fits-range (toZ w32 x) (toZ-fits w32 x f));
+        fine = well-formed-integer (bits-range x f);
         bytes =
             headed-by at 4 (four x) (omega arith) (four-bytes (at + 4) (omega arith) ∙ halves (at + 4))
             ∙ ap₂ (λ (i j : ℕ). heading i j ++ four x) n k
-            ∙ ap (λ (i : ℕ). heading 8 2 ++ four i) (sym (ofZ-toZ w32 x f));
+            ∙ ap (λ (i : ℕ). heading 8 2 ++ four i) (sym (bits-integer x f));
       })
 
   found-collection : (at n : ℕ) (k : Kind) (vs : Items) → n ≡ word s at → word s (at + 2) ≡ number k → n ≤ valueLimit → Shaped k vs → ItemsAt s (at + 4) (at + n) vs → Holds s at

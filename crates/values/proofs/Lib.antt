@@ -4,6 +4,7 @@ pub mod Encoding
 pub mod Joined
 pub mod Members
 pub mod Entries
+pub mod Listed
 pub mod Records
 pub mod Frame
 pub mod Written

@@ -8,12 +8,10 @@ use native.Mathlib.Omega.{arith}
 use lib.IntN.{ℤ}
 use lib.ListN.{length, getD, take, drop, length-drop}
 use lib.Seq.{take-add, drop-drop, take-at, drop-at, getD-take, getD-drop, length-take-le}
-use mir.Syntax.{w32}
-use mir.Val.{ofZ, toZ}
-use mir.ValLaws.{toZ-ofZ}
-use Rattle.integers.specs.Bytes.{word, bits32, integerAt}
+use Rattle.integers.specs.Bytes.{bitsOf, word, bits32, ofBits, integerAt}
 use Rattle.integers.specs.Whole.{InRange}
 use Rattle.integers.proofs.Range.{range-fits}
+use Rattle.integers.proofs.Written.{integer-bits}
 use Rattle.values.specs.Value.{Kind, number, Value, boolean, integer, collection, Items, none, more, kindOf, size, sizes, byteOf, encode, encodeItems, Shaped, Sound, SoundItems, WellFormed, valueLimit}
 use Rattle.values.specs.Items.{join, snoc}
 use Rattle.values.specs.Place.{At, ItemsAt, Holds, HoldsItems}
@@ -92,11 +90,11 @@ pub boolean-at : {s : List ℕ} {at : ℕ} {b : Bool} → At s at (boolean b) �
 unfolding size encode
 boolean-at h = byte-at h 4 (omega arith)
 
-integer-bits : {s : List ℕ} {at : ℕ} {z : ℤ} → At s at (integer z) → bits32 s (at + 4) ≡ ofZ w32 z
+bits-at : {s : List ℕ} {at : ℕ} {z : ℤ} → At s at (integer z) → bits32 s (at + 4) ≡ bitsOf z
 unfolding size encode
-integer-bits {s} {at} {z} h =
+bits-at {s} {at} {z} h =
     let g = byte-at h in
-    let n = ofZ w32 z in
+    let n = bitsOf z in
     let b₀ : getD s (at + 4) 0 ≡ n % 65536 % 256 = g 4 (omega arith) in
     let b₁ : getD s (at + 4 + 1) 0 ≡ n % 65536 / 256 = ap (λ (k : ℕ). getD s k 0) (omega arith) ∙ g 5 (omega arith) in
     let b₂ : getD s (at + 4 + 2) 0 ≡ n / 65536 % 256 = ap (λ (k : ℕ). getD s k 0) (omega arith) ∙ g 6 (omega arith) in
@@ -104,7 +102,7 @@ integer-bits {s} {at} {z} h =
     omega arith
 
 pub integer-at : {s : List ℕ} {at : ℕ} {z : ℤ} → At s at (integer z) → integerAt s (at + 4) ≡ z
-integer-at {s} {at} {z} h = ap (toZ w32) (integer-bits h) ∙ toZ-ofZ w32 z (range-fits z (integer-range (h .fine)))
+integer-at {s} {at} {z} h = ap ofBits (bits-at h) ∙ integer-bits (range-fits z (integer-range (h .fine)))
 
 -- ---- the kind tells the value
 

@@ -44,7 +44,9 @@ unfoldable pub insert : Value → Items → Items
 insert v none = more v none
 insert v (more w ws) = inOrder (order v w) (more v (more w ws)) (more w ws) (more w (insert v ws))
 
--- The value at a key, of the items of a map: key, value, key, value.
+-- ---- the items of a map: key, value, key, value (`Entries` says the same on a list of entries, and a key without its value is never met)
+
+-- The value at a key.
 unfoldable mutual
   pub lookup : Value → Items → Option Value
   lookup k none = absent

@@ -1,33 +1,38 @@
--- `integers::modulo` meets its contract: `floor_rest` finds the exact result, and `settle` answers it.
-use mathlib.Core.Path.{_≡_, sym, ap, ap₂, _∙_}
-use borrow.Author.Needs.{needs}
-use mir.Syntax.{w64}
+-- `integers::modulo` meets its contract: by −1 it is 0, and by another number `floor_rest` finds it, in range.
+use mathlib.Core.Path.{_≡_, refl, sym, ap, ap₂, _∙_}
+use lib.IntN.{negsuc}
 use mir.Facts.{toZ-ofZ}
-use Rattle.integers.specs.Whole.{ranged, modℤ}
-use Rattle.integers.proofs.Range.{divided-zero, divided-other}
-use Rattle.integers.proofs.Machine.{bits-zero, bits-other}
+use mir.Syntax.{w32}
+use Rattle.integers.specs.Whole.{ranged, modℤ, modulusOf}
+use Rattle.integers.proofs.Range.{fits-range, divided-zero, divided-other, answer-is}
+use Rattle.integers.proofs.Machine.{bits-is, bits-not, zero-fits, minus-one-fits}
+use Rattle.integers.proofs.Ends.{zero-in, mod-minus-one, modulus-range}
 use Rattle.integers.proofs.modulo.Statement.{statement}
 use Rattle.integers.proofs.modulo.Tie as tie
 
 returns : tie.Need-returns
 returns c =
     let s = c .before in
-    sym (divided-zero (modℤ (s .args .left) (s .args .right)) (bits-zero (s .args .right) (s .fits .right) (c .if1 .taken)))
-
-floor-rest-requires : tie.Need-floor-rest-requires
-floor-rest-requires c κs = λ e. bits-other (c .if1 .left) (sym (toZ-ofZ (c .before .fits .right)) ∙ e)
-
-settle-requires : tie.Need-settle-requires
-settle-requires c κs = search needs
+    sym (divided-zero (modℤ (s .args .left) (s .args .right)) (bits-is (s .fits .right) zero-fits (c .if1 .taken)))
 
 returns-2 : tie.Need-returns-2
 returns-2 c =
-    let a = c .before .before .before .args in
-    let f = c .before .before .before .fits in
-    let rest : c .before .floor-rest .result ≡ modℤ (a .left) (a .right) = c .before .floor-rest .ensures ∙ ap₂ modℤ (toZ-ofZ (f .left)) (toZ-ofZ (f .right)) in
-    c .settle .ensures
-    ∙ ap ranged (toZ-ofZ {w = w64} (record { sfits = c .before .floor-rest .ok }) ∙ rest)
-    ∙ sym (divided-other (a .right) (modℤ (a .left) (a .right)) (bits-other (c .before .before .if1 .left)))
+    let s = c .before .before in
+    let e : s .args .right ≡ negsuc 0 = bits-is (s .fits .right) minus-one-fits (c .if2 .taken) in
+    answer-is refl zero-in ∙ ap ranged (sym (mod-minus-one (s .args .left))) ∙ sym (ap (modulusOf (s .args .left)) e)
+
+floor-rest-requires : tie.Need-floor-rest-requires
+floor-rest-requires c κs =
+    let same = sym (toZ-ofZ (c .before .before .fits .right)) in
+    (λ e. bits-not (c .before .if1 .left) (same ∙ e), λ e. bits-not (c .if2 .left) (same ∙ e))
+
+returns-3 : tie.Need-returns-3
+returns-3 c =
+    let s = c .before .before .before in
+    let other = bits-not (c .before .before .if1 .left) in
+    let rest : c .floor-rest .result ≡ modℤ (s .args .left) (s .args .right) = c .floor-rest .ensures ∙ ap₂ modℤ (toZ-ofZ (s .fits .left)) (toZ-ofZ (s .fits .right)) in
+    answer-is (toZ-ofZ {w = w32} (record { sfits = c .floor-rest .ok }) ∙ rest) (modulus-range (s .args .left) (s .args .right) (fits-range (s .args .right) (s .fits .right)) other)
+    ∙ sym (divided-other (s .args .right) (modℤ (s .args .left) (s .args .right)) other)
 
 pub modulo-spec : {M : Type 1} → statement M
-modulo-spec = tie.close (tie.spec returns floor-rest-requires settle-requires returns-2)
+modulo-spec = tie.close (tie.spec returns returns-2 floor-rest-requires returns-3)

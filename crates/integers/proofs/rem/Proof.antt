@@ -1,40 +1,39 @@
--- `integers::rem` meets its contract: 64 bits hold the exact result, and `settle` answers it.
-use mathlib.Core.Path.{sym, ap, _∙_}
-use borrow.Author.Needs.{needs}
+-- `integers::rem` meets its contract: by −1 it is 0, and by another number the quotient, which the machine forms, is in range.
+use mathlib.Core.Path.{_≡_, refl, sym, ap, _∙_, subst}
+use lib.IntN.{negsuc}
 use lib.Signed.{quotZ, remZ}
-use Rattle.integers.specs.Whole.{ranged, remℤ}
-use Rattle.integers.proofs.Range.{divided-zero, divided-other}
+use Rattle.integers.specs.Whole.{InRange, ranged, remℤ, remainderOf}
+use Rattle.integers.proofs.Range.{fits-range, divided-zero, divided-other, answer-is}
 use Rattle.integers.proofs.Division.{rem-sizes}
-use Rattle.integers.proofs.Machine.{widen-fits, quot-fits, rem-fits, wide-fits, wide-is, bits-zero, bits-other, divisor}
+use Rattle.integers.proofs.Machine.{is-fits, is-read, both-read, bits-is, bits-not, zero-fits, minus-one-fits, other-bits}
+use Rattle.integers.proofs.Ends.{zero-in, rem-minus-one, quotient-range, remainder-range}
 use Rattle.integers.proofs.rem.Statement.{statement}
 use Rattle.integers.proofs.rem.Tie as tie
 
 returns : tie.Need-returns
 returns c =
     let s = c .before in
-    sym (divided-zero (remℤ (s .args .left) (s .args .right)) (bits-zero (s .args .right) (s .fits .right) (c .if1 .taken)))
-
-cast-settle : tie.Need-cast-settle
-cast-settle c = widen-fits (c .before .fits .left)
-
-cast-settle-2 : tie.Need-cast-settle-2
-cast-settle-2 c = widen-fits (c .before .fits .right)
-
-rem-settle : tie.Need-rem-settle
-rem-settle c =
-    let f = c .before .fits in
-    (divisor (f .right) (bits-other (c .if1 .left)), wide-fits quotZ quot-fits (f .left) (f .right))
-
-settle-requires : tie.Need-settle-requires
-settle-requires c κs = search needs
+    sym (divided-zero (remℤ (s .args .left) (s .args .right)) (bits-is (s .fits .right) zero-fits (c .if1 .taken)))
 
 returns-2 : tie.Need-returns-2
 returns-2 c =
-    let a = c .before .before .args in
-    let f = c .before .before .fits in
-    c .settle .ensures
-    ∙ ap ranged (wide-is remZ rem-fits (f .left) (f .right) ∙ sym (rem-sizes (a .left) (a .right)))
-    ∙ sym (divided-other (a .right) (remℤ (a .left) (a .right)) (bits-other (c .before .if1 .left)))
+    let s = c .before .before in
+    let e : s .args .right ≡ negsuc 0 = bits-is (s .fits .right) minus-one-fits (c .if2 .taken) in
+    answer-is refl zero-in ∙ ap ranged (sym (rem-minus-one (s .args .left))) ∙ sym (ap (remainderOf (s .args .left)) e)
+
+rem-t4 : tie.Need-rem-t4
+rem-t4 c =
+    let s = c .before .before in
+    let inside = quotient-range (s .args .left) (s .args .right) (fits-range (s .args .left) (s .fits .left)) (bits-not (c .if2 .left)) in
+    (other-bits (c .before .if1 .left), is-fits (both-read quotZ (s .fits .left) (s .fits .right)) inside)
+
+returns-3 : tie.Need-returns-3
+returns-3 c =
+    let s = c .before .before in
+    let e = sym (rem-sizes (s .args .left) (s .args .right)) in
+    let inside = remainder-range (s .args .left) (s .args .right) (fits-range (s .args .left) (s .fits .left)) in
+    answer-is (is-read (both-read remZ (s .fits .left) (s .fits .right)) inside ∙ e) (subst InRange e inside)
+    ∙ sym (divided-other (s .args .right) (remℤ (s .args .left) (s .args .right)) (bits-not (c .before .if1 .left)))
 
 pub rem-spec : {M : Type 1} → statement M
-rem-spec = tie.close (tie.spec returns cast-settle cast-settle-2 rem-settle settle-requires returns-2)
+rem-spec = tie.close (tie.spec returns returns-2 rem-t4 returns-3)

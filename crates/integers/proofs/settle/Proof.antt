@@ -1,6 +1,7 @@
 -- `integers::settle` meets its contract, by its two tests.
 use mathlib.Core.Path.{_≡_, sym}
 use mathlib.Core.Bool.{true, false}
+use borrow.Author.Needs.{needs}
 use lib.Signed.{leZ, ltZ}
 use mir.Syntax.{w32}
 use mir.Val.{SFits}
@@ -9,6 +10,9 @@ use Rattle.integers.specs.Whole.{leastInteger, greatestInteger, InRange}
 use Rattle.integers.proofs.Range.{below-range, above-range, within-range, range-fits, answer-in, answer-out}
 use Rattle.integers.proofs.settle.Statement.{statement}
 use Rattle.integers.proofs.settle.Tie as tie
+
+cast-if1 : tie.Need-cast-if1
+cast-if1 c = search needs
 
 returns : tie.Need-returns
 returns c =
@@ -26,8 +30,11 @@ inside c =
 fits : (c : tie.Then2) → SFits w32 (c .before .before .args .z)
 fits c = range-fits (c .before .before .args .z) (inside c)
 
-cast-t3 : tie.Need-cast-t3
-cast-t3 c = rw (toZ-ofZ (c .before .before .fits .z)) (fits c)
+cast-if2 : tie.Need-cast-if2
+cast-if2 c = search needs
+
+cast-t4 : tie.Need-cast-t4
+cast-t4 c = rw (toZ-ofZ (c .before .before .fits .z)) (fits c)
 
 returns-2 : tie.Need-returns-2
 returns-2 c = rw (toZ-ofZ (c .before .before .fits .z), toZ-ofZ (fits c)) (sym (answer-in (c .before .before .args .z) (inside c)))
@@ -39,4 +46,4 @@ returns-3 c =
     sym (answer-out z (above-range z t))
 
 pub settle-spec : {M : Type 1} → statement M
-settle-spec = tie.close (tie.spec returns cast-t3 returns-2 returns-3)
+settle-spec = tie.close (tie.spec cast-if1 returns cast-if2 cast-t4 returns-2 returns-3)

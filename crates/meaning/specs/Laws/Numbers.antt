@@ -3,7 +3,7 @@ use mathlib.Core.Path.{_≡_}
 use mathlib.Core.Bool.{Bool, true, false, cond}
 use mathlib.Core.Option.{Option, none as absent, some}
 use mathlib.Core.List.{List, [], _∷_}
-use Prim.Native.Nat.{ℕ, zero, suc, _+_, _*_, _≤_}
+use Prim.Native.Nat.{ℕ, zero, suc, _+_, _≤_}
 use native.Mathlib.Omega.{arith}
 use lib.Dec.{leb}
 use lib.IntN.{ℤ, pos}
@@ -76,7 +76,7 @@ if-number OutOfRange = (omega arith, omega arith, λ e. omega arith)
 if-number ByZero = (omega arith, omega arith, λ e. omega arith)
 
 if-counting : (z : ℤ) (n : ℕ) → Answered (consecutive z n)
-if-counting z n = if-picked (leb (4 + 8 * n) valueLimit) (is (collection set (upFrom z n))) (refused 28) tt (omega arith, omega arith, λ e. omega arith)
+if-counting z n = if-sized set (upFrom z n)
 
 -- ---- operators by number
 

@@ -1,6 +1,7 @@
 -- `integers::bytes::bits_of` meets its contract, by its test of the sign.
 use native.Mathlib.Omega.{arith}
 use Rattle.integers.proofs.Signed.{Negative, NotNegative, negative, not-negative}
+use Rattle.integers.proofs.Written.{bits-machine}
 use Rattle.integers.proofs.bytes.bits_of.Statement.{statement}
 use Rattle.integers.proofs.bytes.bits_of.Tie as tie
 
@@ -20,13 +21,13 @@ sub-result-2 : tie.Need-sub-result-2
 sub-result-2 c = let n = below c in rw (n .back) (omega arith)
 
 returns : tie.Need-returns
-returns c = let n = below c in rw (n .back) (record { is = omega arith; low = omega arith })
+returns c = let n = below c in let b = bits-machine (c .before .args .z) in rw (n .back) (record { is = omega arith; low = omega arith })
 
 cast-result-2 : tie.Need-cast-result-2
 cast-result-2 c = let n = not-below c in rw (n .back) (tt, omega arith)
 
 returns-2 : tie.Need-returns-2
-returns-2 c = let n = not-below c in rw (n .back) (record { is = omega arith; low = omega arith })
+returns-2 c = let n = not-below c in let b = bits-machine (c .before .args .z) in rw (n .back) (record { is = omega arith; low = omega arith })
 
 pub bits-of-spec : {M : Type 1} → statement M
 bits-of-spec = tie.close (tie.spec sub-result cast-result sub-result-2 returns cast-result-2 returns-2)

@@ -1,10 +1,10 @@
 -- `integers::bytes::read32` meets its contract, by its test of the highest bit.
-use mathlib.Core.Path.{ap₂, _∙_}
+use mathlib.Core.Path.{sym, ap₂, _∙_}
 use Prim.Native.Nat.{ℕ, _+_, _*_}
 use native.Mathlib.Omega.{arith}
 use borrow.Author.Needs.{needs}
-use mir.Syntax.{w32}
-use mir.Val.{toZ}
+use Rattle.integers.specs.Bytes.{ofBits}
+use Rattle.integers.proofs.Written.{machine-bits}
 use Rattle.integers.proofs.Signed.{down-fits, down-is}
 use Rattle.integers.proofs.bytes.read32.Statement.{statement}
 use Rattle.integers.proofs.bytes.read32.Tie as tie
@@ -28,7 +28,9 @@ cast-result : tie.Need-cast-result
 cast-result c = search needs
 
 returns : tie.Need-returns
-returns c = ap₂ (λ (l h : ℕ). toZ w32 (l + 65536 * h)) (c .before .before .read16 .ensures .is) (c .before .read162 .ensures .is)
+returns c =
+    sym (machine-bits (c .before .before .read16 .result + 65536 * c .before .read162 .result))
+    ∙ ap₂ (λ (l h : ℕ). ofBits (l + 65536 * h)) (c .before .before .read16 .ensures .is) (c .before .read162 .ensures .is)
 
 sub-down : tie.Need-sub-down
 sub-down c = omega arith
@@ -42,7 +44,8 @@ sub-result c = down-fits _ (c .if1 .left) (omega arith)
 returns-2 : tie.Need-returns-2
 returns-2 c =
     down-is _ (c .if1 .left) (omega arith)
-    ∙ ap₂ (λ (l h : ℕ). toZ w32 (l + 65536 * h)) (c .before .before .read16 .ensures .is) (c .before .read162 .ensures .is)
+    ∙ sym (machine-bits (c .before .before .read16 .result + 65536 * c .before .read162 .result))
+    ∙ ap₂ (λ (l h : ℕ). ofBits (l + 65536 * h)) (c .before .before .read16 .ensures .is) (c .before .read162 .ensures .is)
 
 pub read32-spec : {M : Type 1} → statement M
 read32-spec =
