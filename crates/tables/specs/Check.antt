@@ -8,21 +8,10 @@ use Rattle.tables.specs.declared.Role.{Role}
 use Rattle.tables.specs.declared.Role.the-variants.{Plain, Condition, Body, Pattern, Name}
 use Rattle.tables.specs.declared.Checked.{Checked}
 use Rattle.tables.specs.declared.Checked.the-variants.{Accepted, Refused}
+pub use Rattle.tables.specs.Limits.{mostBytes, mostRecords, mostHeight}
 use Rattle.tables.specs.Record.{Record, isExpression, isPattern, named, operand, roleAt, nameOf}
 use Rattle.tables.specs.Table.{Cut, cut, recordAt, kindAt}
 use Rattle.tables.specs.Sheet.{any, lowest, isIn, loose, height, patternOf, isBound, inCondition}
-
--- ---- limits
-
--- The greatest number of bytes of a table, and of records in it; the greatest height.
-abbrev pub mostBytes : ℕ
-mostBytes = 2400
-
-abbrev pub mostRecords : ℕ
-mostRecords = 200
-
-abbrev pub mostHeight : ℕ
-mostHeight = 32
 
 -- ---- rule 6
 

@@ -1,4 +1,5 @@
 -- Records, rules 3 to 9 and the check (`Record`, `Table`, `Sheet`, `Check`); the rules as relations (`Rules`); what an accepted table has, and what the readers ask and promise. Cited by whoever reads a table.
+pub mod Limits
 pub mod Record
 pub mod Table
 pub mod Sheet

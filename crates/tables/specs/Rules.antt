@@ -11,6 +11,7 @@ use Rattle.integers.specs.Whole.{InRange}
 use Rattle.tables.specs.declared.Role.{Role}
 use Rattle.tables.specs.declared.Role.the-variants.{Plain, Condition, Body, Pattern, Name}
 use Rattle.tables.specs.declared.Checked.the-variants.{Accepted, Refused}
+use Rattle.tables.specs.Limits.{mostBytes, mostRecords, mostHeight}
 use Rattle.tables.specs.Record.{Record, expression, pattern, Head, nothing, boolean, integer, name, unary, binary, unknown, Shape, shape, size, headOf, field, nameOf, operator, integerOf, named, operand, roleAt}
 use Rattle.tables.specs.Table.{firstRecord, recordAt, kindAt}
 use Rattle.tables.specs.Check.{check}
@@ -20,7 +21,7 @@ use Rattle.tables.specs.Check.{check}
 -- Rule 3: table empty or over 2,400 bytes. The place is 0.
 pub data Broken3 (table : List ℕ) (p : ℕ) : Type 0 where
   empty : p ≡ 0 → length table ≡ 0 → Broken3 table p
-  large : p ≡ 0 → 2400 < length table → Broken3 table p
+  large : p ≡ 0 → mostBytes < length table → Broken3 table p
 
 -- ---- rule 4
 
@@ -75,10 +76,10 @@ RecordsOf table (x ∷ rs) = ¬ Unfit table × (x ≡ firstRecord table) × Reco
 
 -- Rule 5: over 200 records. The place is 200.
 pub record Broken5 (table : List ℕ) (p : ℕ) : Type 0 where
-  pub place : p ≡ 200
+  pub place : p ≡ mostRecords
   pub records : List Record
   pub are : RecordsOf table records
-  pub many : 200 < length records
+  pub many : mostRecords < length records
 
 -- ---- rule 6
 
@@ -193,7 +194,7 @@ pub record Heights (rs : List Record) (height : ℕ → ℕ) : Type 0 where
 pub record Fault9 (rs : List Record) (r : ℕ) : Type 0 where
   pub height : ℕ → ℕ
   pub heights : Heights rs height
-  pub over : 32 < height r
+  pub over : mostHeight < height r
 
 -- ---- the rules in order
 
