@@ -12,7 +12,7 @@ use Rattle.prelude.proofs.Absurd.{impossible}
 use Rattle.prelude.proofs.Truth.{or-false-both}
 use Rattle.choices.specs.Tree.{Tree, give, stop, choose, Numbered, stopped, beyond, follow, run, mostChoices, refuses, final, Gives}
 use Rattle.choices.specs.Outcome.{Outcome, value, refusal}
-use Rattle.choices.specs.Lists.{Complete, runOutcome}
+use Rattle.choices.specs.Lists.{runOutcome}
 use Rattle.choices.proofs.Leaves.{NoMany as NoManyAtAll}
 use Rattle.choices.proofs.Trees.{numbered-gives}
 use Rattle.choices.proofs.Walk.{finalOf}
@@ -27,7 +27,7 @@ use Rattle.meaning.specs.Read.{sheet}
 use Rattle.meaning.specs.Answer.{pack, packed, uncounted, numberPart}
 use Rattle.meaning.specs.Walk.{Bytes}
 use Rattle.meaning.specs.Service.{scratchBytes, last, tree, evaluates}
-use Rattle.meaning.specs.Lent.{filledUp, zeroed, afterEvaluate, evaluateCall}
+use Rattle.meaning.specs.Lent.{filledUp, zeroed, afterEvaluate}
 use Rattle.meaning.specs.Demand.{EvaluatesTo, Reached, NeverMany}
 use Rattle.meaning.specs.Agreement.{agreement}
 use Rattle.meaning.specs.Laws.Sure.{Narrow, sure-meaning, Bytes as NarrowBytes, complete-bytes}
@@ -117,16 +117,13 @@ module _ (table : List ℕ) (n : ℕ) (ok : check table ≡ Accepted n) where
         evaluates-run table (length scratch) enough n ok (length buffer) l room within ∙ ap (final (last (sheet table))) (e ∙ ap (stopped 31 p) (x .all)) in
         no l (x .bytes) within (ap (λ f. numberPart (packed uncounted f)) a ∙ (let z : numberPart (pack 31 p 0) ≡ 31 = omega arith in z))
 
-    answered : (l : List ℕ) → Complete (tree table) l → evaluateCall table l scratch buffer ≡ afterEvaluate (finalOf (runOutcome (run (tree table) l))) scratch buffer
-    answered = evaluating table n ok scratch buffer enough room
-
     -- THEOREM: some complete list of bytes evaluates to an outcome exactly when the loose meaning of the last record has it.
     pub outcomes : (o : Outcome Value) → Reached table scratch buffer o ↔ looseMeaning (sheet table) (last (sheet table)) unbound o
     outcomes o = (
       λ w.
           let x = runOutcome (run (tree table) (w .list)) in
           let g : Gives (tree table) x = gives-reached (tree table) x no-many .1 (w .list, w .complete, refl) in
-          let a = subst (λ e. EvaluatesTo buffer e o) (answered (w .list) (w .complete)) (w .answers) in
+          let a = subst (λ e. EvaluatesTo buffer e o) (evaluating table n ok scratch buffer enough room (w .list) (w .complete)) (w .answers) in
           agreement (sheet table) (last (sheet table)) unbound o .0 (subst (Gives (tree table)) (sym (answers-one scratch buffer x o (proper x g .0) a)) g),
       λ h.
           let g = agreement (sheet table) (last (sheet table)) unbound o .1 h in
@@ -135,6 +132,6 @@ module _ (table : List ℕ) (n : ℕ) (ok : check table ≡ Accepted n) where
             list = l;
             bytes = bytes-of l (complete-bytes (sheet table) (last (sheet table)) unbound l c);
             complete = c;
-            answers = subst (λ x. EvaluatesTo buffer x o) (sym (answered l c ∙ ap (λ y. afterEvaluate (finalOf y) scratch buffer) (sym e))) (answers-so scratch buffer o (proper o g .0) (proper o g .1));
+            answers = subst (λ x. EvaluatesTo buffer x o) (sym (evaluating table n ok scratch buffer enough room l c ∙ ap (λ y. afterEvaluate (finalOf y) scratch buffer) (sym e))) (answers-so scratch buffer o (proper o g .0) (proper o g .1));
           },
     )
