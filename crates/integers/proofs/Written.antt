@@ -46,7 +46,7 @@ module _ (s : List ℕ) (bytes : (i : ℕ) → getD s i 0 < 256) where
   word-low : (at : ℕ) → word s at < 65536
   word-low at = omega (arith, bytes at, bytes (at + 1))
 
-  bits32-low : (at : ℕ) → bits32 s at < 4294967296
+  pub bits32-low : (at : ℕ) → bits32 s at < 4294967296
   bits32-low at = omega (arith, word-low at, word-low (at + 2))
 
 -- ---- read what was written

@@ -11,7 +11,7 @@ use lib.Seq.{drop-cons, take-add, drop-drop}
 use mir.Syntax.{w8}
 use mir.Val.{Fits}
 use Rattle.integers.specs.Bytes.{word, four, bits32, ofBits, IsWord}
-use Rattle.integers.proofs.Written.{bits-integer, bits-range}
+use Rattle.integers.proofs.Written.{bits-integer, bits-range, bits32-low}
 use Rattle.values.specs.Value.{Kind, number, boolean, integer, collection, Items, more, size, byteOf, encode, Shaped, valueLimit}
 use Rattle.values.specs.Place.{At, ItemsAt, Holds, HoldsItems}
 use Rattle.values.specs.Contract.{heading}
@@ -68,9 +68,6 @@ module _ (s : List ℕ) (bytes : (i : ℕ) → Fits w8 (getD s i 0)) where
             ∙ ap₂ (λ (x y : ℕ). heading x y ++ (byteOf b ∷ [])) n k;
       })
 
-  bits-low : (at : ℕ) → bits32 s at < 4294967296
-  bits-low at = omega (arith, bytes at, bytes (at + 1), bytes (at + 2), bytes (at + 2 + 1))
-
   halves : (at : ℕ) → heading (word s at) (word s (at + 2)) ≡ four (bits32 s at)
   halves at =
       let b₀ = bytes at in
@@ -83,7 +80,7 @@ module _ (s : List ℕ) (bytes : (i : ℕ) → Fits w8 (getD s i 0)) where
   unfolding size encode
   found-integer at h n k =
       let x : ℕ = bits32 s (at + 4) in
-      let f = bits-low (at + 4) in
+      let f = bits32-low s (λ i. bytes i .fits) (at + 4) in
       holds {v = integer (ofBits x)} (record {
         fits = h;
         fine = well-formed-integer (bits-range x f);
