@@ -5,3 +5,4 @@ pub mod Paths
 pub mod State
 pub mod Listing
 pub mod Runs
+pub mod Ran
