@@ -11,7 +11,8 @@ use Rattle.choices.specs.Tree.{Tree, give, stop, choose, bind, Full, Num
 use Rattle.choices.specs.Lists.{Complete}
 use Rattle.choices.specs.Paths.{firstList, nextList}
 use Rattle.choices.specs.Runs.{runOn, settle, endedBy, Came}
-use Rattle.choices.proofs.Ran.{stateOf, ranAs, atEnd}
+use Rattle.choices.specs.Ran.{ranAs, atEnd}
+use Rattle.choices.proofs.Ran.{stateOf}
 use Rattle.choices.proofs.Runs.{bind-ran, bind-refused, chosen-runs, state-as, run-final, run-complete}
 use Rattle.choices.proofs.States.{unless-none, unless-some, Holds, end-holds}
 use Rattle.choices.proofs.Stepping.{first-run, step-more}

@@ -18,7 +18,8 @@ use Rattle.choices.specs.Lists.{Ended, Complete, runOutcome}
 use Rattle.choices.specs.Paths.{counts, extend, cutAfter}
 use Rattle.choices.proofs.Leaves.{LeadsToLeaf, Prefix, outcomeAt, AtMost}
 use Rattle.choices.specs.Runs.{Ran, ran, refused, onAnswer, runOn, settle}
-use Rattle.choices.proofs.Ran.{stateOf, further, ranAs, trail, atEnd}
+use Rattle.choices.specs.Ran.{ranAs, atEnd}
+use Rattle.choices.proofs.Ran.{stateOf, further, trail}
 use Rattle.choices.proofs.Paths.{prefix-nil, extend-leaf, outcome-extend}
 use Rattle.choices.proofs.Cut.{within-cut, full-cut, complete-leaf, leaf-complete, complete-outcome}
 use Rattle.choices.proofs.Walk.{stopped-number}

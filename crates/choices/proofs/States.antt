@@ -9,7 +9,7 @@ use lib.Seq.{drop-cons, getD-take, getD-drop, length-take-le, take-take, ext-get
 use Rattle.choices.specs.State.{Choices, View, view, Invariant}
 use Rattle.choices.specs.Lists.{padded}
 use Rattle.choices.specs.Tree.{Tree, mostChoices, Final, refuses, unlessLeft}
-use Rattle.choices.proofs.Ran.{atEnd}
+use Rattle.choices.specs.Ran.{atEnd}
 
 -- ---- the entries left
 

@@ -9,7 +9,8 @@ use Rattle.choices.specs.Tree.{Tree, mostChoices, Full, run}
 use Rattle.choices.specs.Lists.{Complete}
 use Rattle.choices.specs.Paths.{counts, extend, raise, onSome, cutAfter, firstList, nextList}
 use Rattle.choices.specs.Runs.{runOn}
-use Rattle.choices.proofs.Ran.{stateOf, ranAs, atEnd}
+use Rattle.choices.specs.Ran.{ranAs, atEnd}
+use Rattle.choices.proofs.Ran.{stateOf}
 use Rattle.choices.proofs.Paths.{prefix-nil, raise-prefix}
 use Rattle.choices.proofs.Cut.{complete-leaf}
 use Rattle.choices.proofs.Runs.{state-as, run-grow}

@@ -7,3 +7,4 @@ pub mod Paths
 pub mod State
 pub mod Listing
 pub mod Runs
+pub mod Ran

@@ -10,7 +10,7 @@ use Rattle.values.specs.Place.{Holds}
 use Rattle.values.proofs.Records.{holds}
 use Rattle.print.specs.Ascii.{newline, space, exclamation, equals}
 use Rattle.print.specs.Text.{decimal, continued, listText, refusalWord, outcomeText, line}
-use Rattle.print.specs.Contract.{Wrote, Room, ValueRoom, ValueWritten, longestLine, Answers, gave, refused, OutcomeRoom, OutcomeWritten, LineRoom, LineWritten}
+use Rattle.print.specs.Contract.{Wrote, Room, ValueRoom, ValueWritten, longestOutcome, longestLine, Answers, gave, refused, OutcomeRoom, OutcomeWritten, LineRoom, LineWritten}
 use Rattle.print.proofs.Writing.{wrote-length, wrote-then, wrote-byte, wrote-after, wrote-as}
 use Rattle.print.proofs.Decimals.{decimal-byte, decimal-any}
 use Rattle.print.proofs.Spelling.{text-short}
@@ -27,7 +27,7 @@ module _ {s : List ℕ} {n : ℕ} where
   refused-range f (gave d v e h) = absurd (f d)
   refused-range f (refused low high p k e) = (low, high)
 
-  pub outcome-short : {answer : Final Value} → Answers s n answer → length (outcomeText answer) ≤ 1022
+  pub outcome-short : {answer : Final Value} → Answers s n answer → length (outcomeText answer) ≤ longestOutcome
   outcome-short (gave d v e h) =
       let l = text-short v (h .fine .sound) in
       let m = h .fine .short in

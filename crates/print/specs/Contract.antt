@@ -7,7 +7,7 @@ use lib.ListN.{length}
 use lib.Seq.{sets}
 use Rattle.choices.specs.Tree.{Final, result, refuses, mostChoices}
 use Rattle.integers.specs.Bytes.{word as lengthAt}
-use Rattle.values.specs.Value.{Kind, set, sequence, map, tuple, number, Value, Items, none, more}
+use Rattle.values.specs.Value.{valueLimit, Kind, set, sequence, map, tuple, number, Value, Items, none, more}
 use Rattle.values.specs.Place.{At, ItemsAt, Holds, HoldsItems}
 use Rattle.print.specs.declared.Separator.{Separator}
 use Rattle.print.specs.declared.Separator.the-variants.{Nothing, Comma, Arrow}
@@ -27,11 +27,15 @@ pub record Wrote (s t : List ℕ) (at : ℕ) (bytes : List ℕ) (r : ℕ) : Type
 
 -- ---- limits
 
--- No line is longer: 64 entries of up to three digits and 63 commas, a space, `=`, 1,021 bytes of a value, the line's end. `longest-line` (proofs/Lines).
-abbrev pub longestLine : ℕ
-longestLine = 1279
+-- No outcome's text is longer: `=` and the text of a value, which has 3 bytes less than twice its record. `outcome-short` (proofs/Lines).
+abbrev pub longestOutcome : ℕ
+longestOutcome = 2 * valueLimit - 2
 
--- Room for the first line, the last and that of a refused table, whatever the numbers.
+-- No line is longer: 64 entries of up to three digits, each with a comma or a space after it, an outcome's text, the line's end. `longest-line` (proofs/Lines).
+abbrev pub longestLine : ℕ
+longestLine = 4 * mostChoices + longestOutcome + 1
+
+-- Room for the first line, the last line and the line of a refused table, whatever the numbers.
 abbrev pub shortLine : ℕ
 shortLine = 64
 
@@ -104,7 +108,7 @@ pub record Answered (s : List ℕ) (n : ℕ) : Type 0 where
 
 pub record OutcomeRoom (s : List ℕ) (n : ℕ) (out : List ℕ) (at : ℕ) : Type 0 where
   pub answered : Answered s n
-  pub room : at + 1022 ≤ length out
+  pub room : at + longestOutcome ≤ length out
 
 abbrev pub OutcomeWritten : List ℕ → ℕ → List ℕ → List ℕ → ℕ → ℕ → Type 0
 OutcomeWritten s n out out′ at r = (answer : Final Value) → Answers s n answer → Wrote out out′ at (outcomeText answer) r

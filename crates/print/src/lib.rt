@@ -3,15 +3,18 @@ ghost use mathlib.Core.Path.{_≡_};
 ghost use mathlib.Core.List.{_∷_, [], _++_};
 ghost use Prim.Native.Nat.{_+_, _≤_, _<_};
 ghost use lib.ListN.{length};
+ghost use Rattle.print.specs.Ascii.{newline};
 ghost use Rattle.print.specs.Text.{decimal, integerText, truthText, refusalWord, listText};
 ghost use Rattle.print.specs.Print.{firstLine, endLine, cutLine, refusedLine};
 ghost use Rattle.print.specs.Contract.{Room, Wrote, shortLine, ValueRoom, ValueWritten, separatorText, following, ItemsRoom, ItemsWritten, Opened, Closed, OutcomeRoom, OutcomeWritten, LineRoom, LineWritten};
+use choices::list::Walk;
 use values::Value;
 
-// The longest line of a list: room for it is room for every line.
-pub const LONGEST_LINE: usize = 1279;
+// The longest line of a list: 64 entries of up to three digits, each with a comma or a space after it; `=` and a value's text, which has 3 bytes less
+// than twice its record; the line's end. Room for it is room for every line.
+pub const LONGEST_LINE: usize = 4 * Walk::LIMIT + 2 * Value::LIMIT - 1;
 
-// Room for the first line, the last and that of a refused table.
+// Room for the first line, the last line and the line of a refused table.
 pub const SHORT_LINE: usize = 64;
 
 // The most lines of lists. If a list would follow, the print is cut.
@@ -135,6 +138,7 @@ enum Separator {
     Arrow,
 }
 
+// Writes `true` or `false`.
 fn put_boolean(b: bool, out: &mut [u8], at: usize) -> usize
     requires { ⌜ Room (now out) at (truthText b) ⌝ }
     ensures { λ r. ⌜ Wrote (now (out .entry)) (now (out .exit)) at (truthText b) r ⌝ }
@@ -145,6 +149,7 @@ fn put_boolean(b: bool, out: &mut [u8], at: usize) -> usize
     put_bytes(b"false", out, at)
 }
 
+// Writes what stands before an item.
 fn put_separator(separator: Separator, out: &mut [u8], at: usize) -> usize
     requires { ⌜ Room (now out) at (separatorText separator) ⌝ }
     ensures { λ r. ⌜ Wrote (now (out .entry)) (now (out .exit)) at (separatorText separator) r ⌝ }
@@ -170,7 +175,7 @@ fn following(is_map: bool, separator: Separator) -> Separator
     }
 }
 
-// What the text of a collection of a kind begins with.
+// Writes what the text of a collection of a kind begins with.
 fn put_opening(kind: usize, is_empty: bool, out: &mut [u8], at: usize) -> usize
     requires { ⌜ at + 4 ≤ length (now out) ⌝ }
     ensures { λ r. ⌜ Opened kind «is_empty» (now (out .entry)) (now (out .exit)) at r ⌝ }
@@ -190,7 +195,7 @@ fn put_opening(kind: usize, is_empty: bool, out: &mut [u8], at: usize) -> usize
     put_bytes(b"{", out, at)
 }
 
-// What it ends with.
+// Writes what the text of a collection of a kind ends with.
 fn put_closing(kind: usize, out: &mut [u8], at: usize) -> usize
     requires { ⌜ at < length (now out) ⌝ }
     ensures { λ r. ⌜ Closed kind (now (out .entry)) (now (out .exit)) at r ⌝ }
@@ -317,13 +322,14 @@ pub fn put_line(list: &[u8], number: usize, s: &[u8], out: &mut [u8], at: usize)
 // Writes a number and the end of its line.
 fn put_count(n: usize, out: &mut [u8], at: usize) -> usize
     requires { ⌜ at + 21 ≤ length (now out) ⌝ }
-    ensures { λ r. ⌜ Wrote (now (out .entry)) (now (out .exit)) at (decimal n ++ 10 ∷ []) r ⌝ }
+    ensures { λ r. ⌜ Wrote (now (out .entry)) (now (out .exit)) at (decimal n ++ newline ∷ []) r ⌝ }
 {
     let end = put_number(n, out, at);
     out[end] = NEWLINE;
     end + 1
 }
 
+// Writes the first line of the print of an accepted table: `table` and the record count.
 pub fn put_first(count: usize, out: &mut [u8], at: usize) -> usize
     requires { ⌜ at + shortLine ≤ length (now out) ⌝ }
     ensures { λ r. ⌜ Wrote (now (out .entry)) (now (out .exit)) at (firstLine count) r ⌝ }
@@ -332,6 +338,7 @@ pub fn put_first(count: usize, out: &mut [u8], at: usize) -> usize
     put_count(count, out, start)
 }
 
+// Writes the last line where all lists are printed: `end` and their number.
 pub fn put_end(count: usize, out: &mut [u8], at: usize) -> usize
     requires { ⌜ at + shortLine ≤ length (now out) ⌝ }
     ensures { λ r. ⌜ Wrote (now (out .entry)) (now (out .exit)) at (endLine count) r ⌝ }
@@ -340,6 +347,7 @@ pub fn put_end(count: usize, out: &mut [u8], at: usize) -> usize
     put_count(count, out, start)
 }
 
+// Writes the last line where a list would follow the 10,000th.
 pub fn put_cut(out: &mut [u8], at: usize) -> usize
     requires { ⌜ at + shortLine ≤ length (now out) ⌝ }
     ensures { λ r. ⌜ Wrote (now (out .entry)) (now (out .exit)) at cutLine r ⌝ }
@@ -348,6 +356,7 @@ pub fn put_cut(out: &mut [u8], at: usize) -> usize
     put_count(MOST_LINES, out, start)
 }
 
+// Writes the print of a refused table: `refused`, number and place, parted by single spaces.
 pub fn put_refused(number: usize, place: usize, out: &mut [u8], at: usize) -> usize
     requires { ⌜ at + shortLine ≤ length (now out) ⌝ }
     ensures { λ r. ⌜ Wrote (now (out .entry)) (now (out .exit)) at (refusedLine number place) r ⌝ }

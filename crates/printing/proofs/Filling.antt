@@ -2,9 +2,10 @@
 use mathlib.Core.Path.{_≡_, refl, sym, ap, _∙_, subst}
 use mathlib.Core.Bool.{Bool, true, false, cond}
 use mathlib.Core.List.{List, [], _++_}
-use Prim.Native.Nat.{ℕ, _+_, _*_, _≤_, _<_}
+use Prim.Native.Nat.{ℕ, _+_, _*_, _-_, _≤_, _<_}
 use native.Mathlib.Omega.{arith}
-use lib.ListN.{length, take}
+use lib.ListN.{length, take, drop}
+use lib.Seq.{drop-drop}
 use Rattle.meaning.specs.Service.{tree}
 use Rattle.lists.specs.Lent.{lent}
 use Rattle.print.specs.Print.{mostLines}
@@ -31,7 +32,7 @@ module _ (table index : List ℕ) (count : ℕ) where
   pub filling-start : (s run out : List ℕ) (p : Progress) → Ready table index count s run out p → Filling table index count s run out out p p
   filling-start s run out p y =
       record {
-        grew = record { stands = y .stands; inside = omega (arith, y .room); text = ap (λ (l : List ℕ). take (p .at) out ++ l) (going-on table p (y .going)) };
+        grew = record { stands = y .stands; inside = omega (arith, y .room); text = ap (λ (l : List ℕ). take (p .at) out ++ l) (going-on table p (y .going)); longer = omega arith; beyond = refl };
         going = y .going;
         long = refl;
         onward = omega arith;
@@ -52,10 +53,27 @@ module _ (table index : List ℕ) (count : ℕ) where
     whole : take (q .at) out ++ fromList table (q .lists) ≡ take (p .at) out₀ ++ fromList table (p .lists)
     whole = ap (λ (l : List ℕ). take (q .at) out ++ l) (sym (going-on table q (f .going))) ∙ f .grew .text
 
+    -- Behind a longer piece too the buffer is as it was.
+    still-beyond : {r : ℕ} → q .at ≤ r → drop r out ≡ drop r out₀
+    still-beyond {r} k =
+        let e : q .at + (r - q .at) ≡ r = omega arith in
+        ap (λ (n : ℕ). drop n out) (sym e)
+        ∙ sym (drop-drop (r - q .at) (q .at) out)
+        ∙ ap (drop (r - q .at)) (f .grew .beyond)
+        ∙ drop-drop (r - q .at) (q .at) out₀
+        ∙ ap (λ (n : ℕ). drop n out₀) e
+
     pub filling-more : (s′ run′ out′ : List ℕ) (r : Progress) → Lined table index count s′ run′ out′ out q r → length out′ ≡ length out → Filling table index count s′ run′ out′ out₀ p r
     filling-more s′ run′ out′ r h k =
         record {
-          grew = record { stands = h .grew .stands; inside = h .grew .inside; text = h .grew .text ∙ whole };
+          grew =
+              record {
+                stands = h .grew .stands;
+                inside = h .grew .inside;
+                text = h .grew .text ∙ whole;
+                longer = omega (arith, f .grew .longer, h .grew .longer);
+                beyond = h .grew .beyond ∙ still-beyond (h .grew .longer);
+              };
           going = h .going;
           long = k ∙ f .long;
           onward = omega (arith, f .onward, h .next);
@@ -81,6 +99,8 @@ module _ (table index : List ℕ) (count : ℕ) where
                     ∙ h .text
                     ∙ ap (λ (l : List ℕ). take (q .at) out ++ l) (sym last)
                     ∙ whole;
+                longer = omega (arith, f .grew .longer, h .longer);
+                beyond = h .beyond ∙ still-beyond (h .longer);
               };
           further = λ o. omega (arith, h .full o, h .same-lists, f .bound, f .long);
         }

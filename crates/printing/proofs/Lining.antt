@@ -29,7 +29,7 @@ use Rattle.printing.specs.Due.{listAt, Due, Behind}
 use Rattle.printing.specs.Rest.{fromList}
 use Rattle.printing.specs.Contract.{outcomeNumber, due, Ready, Lined}
 use Rattle.printing.proofs.Walking.{complete-at, due-final, due-holds, due-behind}
-use Rattle.printing.proofs.Texts.{is-due, from-next, wrote-inside, wrote-next}
+use Rattle.printing.proofs.Texts.{is-due, from-next, wrote-inside, wrote-beyond, wrote-next}
 
 -- A complete list's refusal is one of 20 to 31.
 refusal-number : {A : Type 0} (t : Tree A) (l : List ℕ) (last n p k : ℕ) → Numbered t → Complete t l → refuses n p k ≡ final last (run t l) → (20 ≤ n) × (n ≤ 31)
@@ -129,6 +129,8 @@ module _ (table index : List ℕ) (count : ℕ) (s run out : List ℕ) (p : Prog
                     };
                 inside = wrote-inside out out′ bytes (p .at) r wrote fits;
                 text = wrote-next out out′ bytes (p .at) r wrote fits (fromList table (p .lists)) (fromList table m) (from-next table (p .lists) ready-few (ready-due .below) ∙ ap (λ (x : ℕ). bytes ++ fromList table x) (sym i));
+                longer = omega (arith, wrote .ends);
+                beyond = wrote-beyond out out′ bytes (p .at) r wrote fits;
               };
           next = omega arith;
           going = refl;

@@ -1,27 +1,22 @@
 -- The pieces of a print, one after the other, are the print.
-use mathlib.Core.Path.{_≡_, sym, ap, _∙_}
-use mathlib.Core.Bool.{Bool, true, false, cond}
+use mathlib.Core.Path.{_≡_, sym, ap₂, _∙_}
 use mathlib.Core.List.{List, [], _∷_, _++_}
-use Prim.Native.Nat.{ℕ, suc, _<_}
+use Prim.Native.Nat.{ℕ, _+_, _<_}
 use native.Mathlib.Omega.{arith}
-use lib.ListN.{length, length-append}
+use lib.ListN.{length, drop, length-append, drop-of-length-le, take-append-drop}
+use lib.Seq.{drop-drop}
 use Rattle.tables.specs.Check.{mostBytes}
 use Rattle.print.specs.Print.{printOf}
 use Rattle.print.specs.Laws.Whole.{print-long}
-use Rattle.printing.specs.Rest.{fromList, fromLine}
-use Rattle.printing.specs.Pieces.{once, Pieces, together}
+use Rattle.printing.specs.Pieces.{Pieces, together}
 
-pieces-from : (table : List ℕ) (n : ℕ) (pieces : List (List ℕ)) → Pieces table n pieces → together pieces ≡ fromLine table n
-pieces-from table n [] h = absurd h
-pieces-from table n (piece ∷ pieces) h =
-    ap (λ (l : List ℕ). piece ++ l) (go (h .0 .over) (λ (r : Pieces table (suc (h .0 .lists)) pieces). pieces-from table (suc (h .0 .lists)) pieces r) (h .2))
-    ∙ sym (h .1)
-  where
-    go : (over : Bool) → (Pieces table (suc (h .0 .lists)) pieces → together pieces ≡ fromList table (h .0 .lists)) → once over (pieces ≡ []) (Pieces table (suc (h .0 .lists)) pieces) → together pieces ≡ cond over [] (fromList table (h .0 .lists))
-    go true rest e = ap together e
-    go false rest r = rest r
+pieces-from : (table : List ℕ) (sent : ℕ) (pieces : List (List ℕ)) → Pieces table sent pieces → together pieces ≡ drop sent (printOf table)
+pieces-from table sent [] h = sym (drop-of-length-le (printOf table) {i = sent} (omega arith))
+pieces-from table sent (piece ∷ pieces) h =
+    ap₂ (λ (x y : List ℕ). x ++ y) (sym (h .0)) (pieces-from table (sent + length piece) pieces (h .1) ∙ sym (drop-drop (length piece) sent (printOf table)))
+    ∙ take-append-drop (length piece) (drop sent (printOf table))
 
--- From the first line on.
+-- THEOREM: pieces that follow each other from the print's start to its end are together the print.
 pub pieces-print : (table : List ℕ) (pieces : List (List ℕ)) → Pieces table 0 pieces → together pieces ≡ printOf table
 pieces-print table pieces h = pieces-from table 0 pieces h
 

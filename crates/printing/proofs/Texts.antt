@@ -6,7 +6,7 @@ use Prim.Native.Nat.{ℕ, suc, _+_, _≤_, _<_, min}
 use native.Mathlib.Omega.{arith}
 use lib.Dec.{ltb}
 use lib.ListN.{length, take, drop, getD, length-take, length-append, drop-of-length-le}
-use lib.Seq.{sets-eq, take-at, length-take-le, drop-cons, getD-take}
+use lib.Seq.{sets-eq, take-at, drop-at, length-take-le, drop-cons, getD-take}
 use borrow.Author.Tests.{ltb-true, ltb-false}
 use Rattle.prelude.proofs.Absurd.{never}
 use Rattle.choices.specs.State.{Choices}
@@ -36,6 +36,15 @@ module _ (out out′ bytes : List ℕ) (at r : ℕ) (w : Wrote out out′ at byt
       ap (λ (n : ℕ). take n out′) (w .ends)
       ∙ ap (take (at + length bytes)) (w .bytes-set ∙ sets-eq bytes out at room)
       ∙ take-at (take at out ++ bytes) (drop (at + length bytes) out) (at + length bytes) l
+
+  -- Behind it all is as it was.
+  pub wrote-beyond : drop r out′ ≡ drop r out
+  wrote-beyond =
+      let l : length (take at out ++ bytes) ≡ at + length bytes = length-append (take at out) bytes ∙ ap (λ (n : ℕ). n + length bytes) (length-take-le at out (omega arith)) in
+      ap (λ (n : ℕ). drop n out′) (w .ends)
+      ∙ ap (drop (at + length bytes)) (w .bytes-set ∙ sets-eq bytes out at room)
+      ∙ drop-at (take at out ++ bytes) (drop (at + length bytes) out) (at + length bytes) l
+      ∙ sym (ap (λ (n : ℕ). drop n out) (w .ends))
 
   -- With what comes after it, it is what was to come.
   pub wrote-next : (before after : List ℕ) → before ≡ bytes ++ after → take r out′ ++ after ≡ take at out ++ before
@@ -102,10 +111,10 @@ first-short n h = simp length-append (omega (arith, decimal-any n h))
 
 -- ---- what the functions answer
 
-pub begun-by : (out out′ : List ℕ) (count r : ℕ) → Wrote out out′ 0 (firstLine count) r → count < 18446744073709551616 → shortLine ≤ length out → Begun count out′ (record { lists = 0; more = true; over = false; at = r })
+pub begun-by : (out out′ : List ℕ) (count r : ℕ) → Wrote out out′ 0 (firstLine count) r → count < 18446744073709551616 → shortLine ≤ length out → Begun count out′ out (record { lists = 0; more = true; over = false; at = r })
 begun-by out out′ count r w small room =
     let short = first-short count small in
-    record { none-yet = refl; more = refl; going = refl; text = wrote-take out out′ (firstLine count) 0 r w (omega arith); short = omega (arith, w .ends) }
+    record { none-yet = refl; more = refl; going = refl; text = wrote-take out out′ (firstLine count) 0 r w (omega arith); beyond = wrote-beyond out out′ (firstLine count) 0 r w (omega arith); short = omega (arith, w .ends) }
 
 pub due-none : (p : Progress) → p .more ≡ false → false ≡ due p
 due-none p e = sym (ap (λ (b : Bool). b && ltb (p .lists) mostLines) e)
@@ -122,6 +131,8 @@ closed-by out out′ bytes p r w e short room =
       inside = wrote-inside out out′ bytes (p .at) r w fits;
       full = λ f. never (sym f);
       text = append-nil (take r out′) ∙ wrote-take out out′ bytes (p .at) r w fits ∙ ap (λ (l : List ℕ). take (p .at) out ++ l) e;
+      longer = omega (arith, w .ends);
+      beyond = wrote-beyond out out′ bytes (p .at) r w fits;
     }
 
 pub closing-cut : (p : Progress) → p .more ≡ true → cutLine ≡ closing p

@@ -11,7 +11,8 @@ use Rattle.choices.specs.Tree.{Tree, Full, Run, gave, stopped, short, beyond, r
 use Rattle.choices.specs.Lists.{Ended, Complete}
 use Rattle.choices.specs.Paths.{allLists, cutAfter}
 use Rattle.choices.specs.Runs.{runOn, endedBy, Came}
-use Rattle.choices.proofs.Ran.{stateOf, ranAs, atEnd}
+use Rattle.choices.specs.Ran.{ranAs, atEnd}
+use Rattle.choices.proofs.Ran.{stateOf}
 use Rattle.choices.proofs.Runs.{state-as}
 use Rattle.choices.proofs.Steps.{first-path, next-some, next-none}
 use Rattle.choices.proofs.Cut.{full-cut, complete-path}

@@ -2,19 +2,19 @@
 use mathlib.Core.Path.{_≡_}
 use mathlib.Core.Bool.{Bool, true, false, _&&_, cond}
 use mathlib.Core.List.{List, [], _++_}
-use Prim.Native.Nat.{ℕ, _+_, _-_, _≤_, _<_}
+use Prim.Native.Nat.{ℕ, _+_, _*_, _≤_, _<_}
 use lib.Dec.{ltb}
-use lib.ListN.{length, take}
+use lib.ListN.{length, take, drop}
 use Rattle.meaning.specs.Service.{tree}
 use Rattle.lists.specs.Lent.{lent}
 use Rattle.evaluator.specs.declared.Outcome.{Outcome}
 use Rattle.evaluator.specs.declared.Outcome.the-variants.{Value as HasValue, Refused}
 use Rattle.walks.specs.Steps.{Indexes}
-use Rattle.print.specs.Print.{mostLines, firstLine, endLine, cutLine}
+use Rattle.print.specs.Print.{mostLines, firstLine, endLine, cutLine, printOf}
 use Rattle.print.specs.Contract.{longestLine, shortLine}
 use Rattle.printing.specs.declared.Progress.{Progress}
 use Rattle.printing.specs.Due.{Behind}
-use Rattle.printing.specs.Rest.{fromList, fromLine, toCome}
+use Rattle.printing.specs.Rest.{fromList, toCome}
 
 -- The number of an outcome: 0 with a value.
 abbrev pub outcomeNumber : Outcome → ℕ
@@ -25,12 +25,13 @@ outcomeNumber (Refused n p k) = n
 abbrev pub due : Progress → Bool
 due p = p .more && ltb (p .lists) mostLines
 
--- The first line is in the buffer, and no list is behind.
-pub record Begun (count : ℕ) (out : List ℕ) (p : Progress) : Type 0 where
+-- The first line is in the buffer, which is as it was behind it, and no list is behind.
+pub record Begun (count : ℕ) (out out₀ : List ℕ) (p : Progress) : Type 0 where
   pub none-yet : p .lists ≡ 0
   pub more : p .more ≡ true
   pub going : p .over ≡ false
   pub text : take (p .at) out ≡ firstLine count
+  pub beyond : drop (p .at) out ≡ drop (p .at) out₀
   pub short : p .at ≤ shortLine
 
 -- Where the print of an accepted table stands: so many lists are behind, and their choices are advanced.
@@ -45,11 +46,14 @@ pub record Ready (table index : List ℕ) (count : ℕ) (s run out : List ℕ) (
   pub going : p .over ≡ false
   pub room : p .at + longestLine ≤ length out
 
--- The piece grew from p to q by what came next: the piece and what is still to come are together what they were.
+-- The piece grew from p to q by what came next: the piece and what is still to come are together what they were. Behind the piece the buffer is as it was.
+-- What the scratch holds is free.
 pub record Grew (table index : List ℕ) (count : ℕ) (s run out out₀ : List ℕ) (p q : Progress) : Type 0 where
   pub stands : Stands table index count s run q
   pub inside : q .at ≤ length out
   pub text : take (q .at) out ++ toCome table q ≡ take (p .at) out₀ ++ fromList table (p .lists)
+  pub longer : p .at ≤ q .at
+  pub beyond : drop (q .at) out ≡ drop (q .at) out₀
 
 -- A line of a list was written, of at most the longest line's length.
 pub record Lined (table index : List ℕ) (count : ℕ) (s run out out₀ : List ℕ) (p q : Progress) : Type 0 where
@@ -62,20 +66,34 @@ pub record Lined (table index : List ℕ) (count : ℕ) (s run out out₀ : List
 abbrev pub closing : Progress → List ℕ
 closing p = cond (p .more) cutLine (endLine (p .lists))
 
--- It was written, or there was no room.
+-- The last line was written, or there was no room for it and nothing was. Behind the piece the buffer is as it was.
 pub record Closed (out out₀ : List ℕ) (p q : Progress) : Type 0 where
   pub same-lists : q .lists ≡ p .lists
   pub same-more : q .more ≡ p .more
   pub inside : q .at ≤ length out
   pub full : q .over ≡ false → length out < p .at + shortLine
   pub text : take (q .at) out ++ cond (q .over) [] (closing p) ≡ take (p .at) out₀ ++ closing p
+  pub longer : p .at ≤ q .at
+  pub beyond : drop (q .at) out ≡ drop (q .at) out₀
 
 -- As many lines as fit were written: the last line among them, or at least one list's.
 pub record Filled (table index : List ℕ) (count : ℕ) (s run out out₀ : List ℕ) (p q : Progress) : Type 0 where
   pub grew : Grew table index count s run out out₀ p q
   pub further : q .over ≡ false → p .lists < q .lists
 
--- A piece is to be written that begins with the n-th line of the print.
-pub record Printing (table index : List ℕ) (count : ℕ) (s run out : List ℕ) (n : ℕ) (p : Progress) : Type 0 where
+-- ---- piece after piece
+
+-- The most bytes of a piece; and of all pieces, of which each but the last has a list's line.
+abbrev pub mostPiece : ℕ
+mostPiece = 65536
+
+abbrev pub mostSent : ℕ
+mostSent = mostPiece * (mostLines + 1)
+
+-- A piece is to be written when `sent` bytes of the print are out: what the print has from there on is what the buffer holds, and then what is to come.
+pub record Printing (table index : List ℕ) (count : ℕ) (s run out : List ℕ) (sent : ℕ) (p : Progress) : Type 0 where
   pub ready : Ready table index count s run out p
-  pub text : fromLine table n ≡ take (p .at) out ++ fromList table (p .lists)
+  pub text : drop sent (printOf table) ≡ take (p .at) out ++ fromList table (p .lists)
+  pub within : sent ≤ length (printOf table)
+  pub small : length out ≤ mostPiece
+  pub counted : sent ≤ mostPiece * p .lists

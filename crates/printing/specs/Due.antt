@@ -8,7 +8,7 @@ use Rattle.choices.specs.State.{Choices, view, Invariant}
 use Rattle.choices.specs.Tree.{Tree, run}
 use Rattle.choices.specs.Paths.{allLists}
 use Rattle.choices.specs.Runs.{runOn}
-use Rattle.choices.proofs.Ran.{ranAs, atEnd}
+use Rattle.choices.specs.Ran.{ranAs, atEnd}
 
 -- The k-th list, from 0.
 abbrev pub listAt : {A : Type 0} → Tree A → ℕ → List ℕ

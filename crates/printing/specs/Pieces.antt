@@ -1,24 +1,18 @@
--- The print of a table in pieces, as it is handed to standard output one after the other.
+-- The print of a table in pieces that follow each other.
 use mathlib.Core.Path.{_≡_}
-use mathlib.Core.Bool.{Bool, true, false}
 use mathlib.Core.List.{List, [], _∷_, _++_}
-use Prim.Native.Nat.{ℕ, suc}
-use Rattle.printing.specs.declared.Progress.{Progress}
-use Rattle.printing.specs.Rest.{fromLine, toCome}
+use Prim.Native.Nat.{ℕ, _+_}
+use lib.ListN.{length, take, drop}
+use Rattle.print.specs.Print.{printOf}
 
--- A piece that begins with the n-th line of the print and leads to q: what was to come is the piece, and then what is to come after it.
-abbrev pub Piece : List ℕ → ℕ → List ℕ → Progress → Type 0
-Piece table n piece q = fromLine table n ≡ piece ++ toCome table q
+-- The piece is the print's bytes from the place `sent` on.
+abbrev pub Piece : List ℕ → ℕ → List ℕ → Type 0
+Piece table sent piece = take (length piece) (drop sent (printOf table)) ≡ piece
 
--- The one where the last line is out, else the other.
-abbrev pub once : Bool → Type 0 → Type 0 → Type 0
-once true A B = A
-once false A B = B
-
--- Pieces from the n-th line on: each begins where the one before it ended, and the last has the last line.
+-- Pieces from the place `sent` on: each begins where the one before it ended, and the last ends where the print does.
 abbrev pub Pieces : List ℕ → ℕ → List (List ℕ) → Type 0
-Pieces table n [] = ⊥
-Pieces table n (piece ∷ pieces) = (q : Progress) × Piece table n piece q × once (q .over) (pieces ≡ []) (Pieces table (suc (q .lists)) pieces)
+Pieces table sent [] = sent ≡ length (printOf table)
+Pieces table sent (piece ∷ pieces) = Piece table sent piece × Pieces table (sent + length piece) pieces
 
 -- Pieces one after the other.
 abbrev pub together : List (List ℕ) → List ℕ

@@ -20,7 +20,8 @@ use print::put_first;
 use print::put_line;
 use tables::Index;
 
-// How many lists' lines are written, whether a list follows them, whether the last line is written; and how long the piece in the buffer is.
+// How far a print has come: how many lists' lines are written, whether a list follows them, whether the last line is written, and how long the piece in
+// the buffer is.
 pub struct Progress {
     pub lists: usize,
     pub more: bool,
@@ -29,7 +30,7 @@ pub struct Progress {
 }
 
 impl Progress {
-    // The same, with nothing in the buffer.
+    // The progress once the piece is handed on: the buffer is empty.
     pub fn emptied(self) -> Progress
         ensures { λ q. ⌜ q ≡ record { lists = self .lists; more = self .more; over = self .over; at = 0 } ⌝ }
     {
@@ -45,7 +46,7 @@ impl Progress {
 // Writes the first line of the print of an accepted table at the start of the buffer.
 pub fn begin(count: usize, out: &mut [u8]) -> Progress
     requires { ⌜ shortLine ≤ length (now out) ⌝ }
-    ensures { λ p. ⌜ Begun count (now (out .exit)) p ⌝ }
+    ensures { λ p. ⌜ Begun count (now (out .exit)) (now (out .entry)) p ⌝ }
 {
     let at = put_first(count, out, 0);
     Progress {

@@ -1,10 +1,10 @@
 -- Each service from what its parts leave: by the cases of what is due.
 use mathlib.Core.Path.{_≡_, refl, sym, ap, _∙_, subst}
-use mathlib.Core.Bool.{Bool, true, false, cond}
-use mathlib.Core.List.{List, [], _∷_, _++_, append-nil}
-use Prim.Native.Nat.{ℕ, _-_, _+_, _≤_, _<_}
+use mathlib.Core.Bool.{true, cond}
+use mathlib.Core.List.{List, [], _++_, append-nil}
+use Prim.Native.Nat.{ℕ, _-_, _≤_, _<_}
 use native.Mathlib.Omega.{arith}
-use lib.ListN.{length, take, drop, drop-of-length-le, replicate, length-append, length-replicate, length-take, take-append-drop}
+use lib.ListN.{length, take, drop, drop-of-length-le, replicate, length-append, length-replicate, take-append-drop}
 use lib.Seq.{take-append-le, drop-at, take-take, length-take-le}
 use Rattle.prelude.proofs.Absurd.{impossible}
 use Rattle.choices.specs.declared.list.Walk.{Walk as Held}
@@ -19,21 +19,20 @@ use Rattle.values.specs.Place.{At, Holds}
 use Rattle.values.proofs.Records.{holds}
 use Rattle.values.specs.Contract.{Shows}
 use Rattle.tables.specs.Check.{check}
-use Rattle.tables.specs.declared.Checked.{Checked}
 use Rattle.tables.specs.declared.Checked.the-variants.{Accepted, Refused as Faulty}
-use Rattle.meaning.specs.Answer.{pack, packed, uncounted, finalNumber as answerNumber}
+use Rattle.meaning.specs.Answer.{pack, packed, uncounted}
 use Rattle.meaning.specs.Walk.{Walk, walkList as listed, overwritten}
 use Rattle.meaning.specs.Service.{scratchBytes, tree, runs, evaluates, firsts, steps, onward, steppedFrom}
 use Rattle.meaning.specs.Lent.{zeroed, filledUp as filled, isEarly, AfterWalk, afterWalk, afterEvaluate, walkAfter, resultAfter, evaluateCall, firstCall, stepCall}
-use Rattle.meaning.specs.Laws.ReadBack.{Fits, fits-evaluate, Late, evaluate-late, first-late, step-late}
-use Rattle.meaning.specs.Laws.Services.{evaluates-1, evaluates-2, evaluates-refused, evaluates-10, evaluates-run, firsts-1, firsts-refused, firsts-10, firsts-granted, steps-1, steps-refused, steps-10, steps-long, steps-run}
+use Rattle.meaning.specs.Laws.ReadBack.{fits-evaluate, Late, first-late, step-late}
+use Rattle.meaning.specs.Laws.Services.{firsts-1, firsts-refused, firsts-10, firsts-granted, steps-1, steps-refused, steps-10, steps-long, steps-run}
 use Rattle.walks.specs.declared.Stepped.{Stepped}
 use Rattle.evaluator.specs.declared.Outcome.{Outcome}
 use Rattle.evaluator.specs.declared.Outcome.the-variants.{Value as HasValue, Refused}
 use Rattle.tables.specs.Reading.{Indexed}
-use Rattle.walks.specs.Steps.{Ready, Indexes, Small, packedOf, Ran, Answers, lentOf, Steppable, Steps, outcomeAs}
+use Rattle.walks.specs.Steps.{Indexes, Small, packedOf, Ran, Answers, Steps, outcomeAs}
 use Rattle.walks.proofs.Settling.{small-final}
-use Rattle.services.specs.Left.{Accepts, Loaded, walkOf, stored, Left, Evaluated, Valued, Handed}
+use Rattle.services.specs.Left.{Loaded, walkOf, stored, Left, Evaluated, Valued, Handed}
 
 -- ---- the scratch that is lent on
 
@@ -59,9 +58,6 @@ unfolding zeroed
 zeroed-same s t e = ap (λ (x : List ℕ). replicate scratchBytes 0 ++ x) e
 
 module _ (table s : List ℕ) (n : ℕ) (ok : check table ≡ Accepted n) (enough : scratchBytes ≤ length s) where
-  pub ready : Ready table (take scratchBytes s)
-  ready = record { count = n; ok = ok; room = length-take-le scratchBytes s enough }
-
   pub indexes : (index : List ℕ) → Indexed table index → Indexes table index n (take scratchBytes s)
   indexes index i = record { ok = ok; room = length-take-le scratchBytes s enough; indexed = i }
 

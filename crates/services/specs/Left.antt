@@ -53,11 +53,12 @@ pub record Evaluated (due : Final Value) (before after : List ℕ) (o : Outcome)
   pub value : (v : Value) → due ≡ result v → At after 0 v
   pub beyond : drop scratchBytes after ≡ drop scratchBytes before
 
--- A value's record stands at the start of the scratch; and the value that is handed out.
+-- Where there is a value, its record stands at the start of the scratch.
 abbrev pub Valued : Outcome → List ℕ → Type 0
 Valued HasValue scratch = Holds scratch 0
 Valued (Refused n p k) scratch = Unit {0}
 
+-- What is handed out: the value, or zeros where there is none.
 abbrev pub Handed : Outcome → List ℕ → Copy → Type 0
 Handed HasValue scratch c = ShowsAt scratch 0 c
 Handed (Refused n p k) scratch c = Shows [] c

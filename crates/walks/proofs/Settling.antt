@@ -13,6 +13,8 @@ use Rattle.choices.specs.Runs.{Came, settle, endedBy}
 use Rattle.choices.proofs.Came.{came-final, settled-value, settled-value-left, settled-refusal, settled-refusal-left, settled-list}
 use Rattle.values.specs.Value.{Value}
 use Rattle.values.specs.Place.{At}
+use Rattle.tables.specs.Check.{check}
+use Rattle.tables.specs.declared.Checked.the-variants.{Accepted}
 use Rattle.meaning.specs.State.{unbound}
 use Rattle.meaning.specs.Read.{sheet}
 use Rattle.meaning.specs.Laws.Sure.{Sure, sure-meaning}
@@ -22,7 +24,7 @@ use Rattle.meaning.specs.Laws.ReadBack.{Fits, fits-runs}
 use Rattle.evaluator.specs.declared.Outcome.{Outcome}
 use Rattle.evaluator.specs.declared.Outcome.the-variants.{Value as HasValue, Refused}
 use Rattle.evaluator.specs.Contract.{Evaluated, Comes, gave, off, ended}
-use Rattle.walks.specs.Steps.{Ready, Small, packedOf, isWhole, leftOver, settled, Ran, outcomeAs}
+use Rattle.walks.specs.Steps.{Small, packedOf, isWhole, leftOver, settled, Ran, outcomeAs}
 
 pub sure-tree : (table : List ℕ) → Sure (tree table)
 sure-tree table = sure-meaning (sheet table) (last (sheet table)) unbound
@@ -133,5 +135,5 @@ pub small-final : (f : Final Value) → Fits uncounted f → Small (outcomeAs f)
 small-final (result v) f = tt
 small-final (refuses n p k) f = (omega (arith, f .number-fits), omega (arith, f .place-fits), omega (arith, f .count-fits))
 
-pub small-ran : (table l t s : List ℕ) (o : Outcome) → Ready table s → Ran table l t o → Small o
-small-ran table l t s o y r = subst Small (sym (r .outcome)) (small-final (runs table l) (fits-runs table (y .count) (y .ok) l))
+pub small-ran : (table l t : List ℕ) (count : ℕ) (o : Outcome) → check table ≡ Accepted count → Ran table l t o → Small o
+small-ran table l t count o ok r = subst Small (sym (r .outcome)) (small-final (runs table l) (fits-runs table count ok l))

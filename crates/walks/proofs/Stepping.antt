@@ -3,9 +3,9 @@ use mathlib.Core.Path.{_≡_, refl, sym, ap, _∙_, subst}
 use mathlib.Core.Bool.{Bool, true, false, cond}
 use mathlib.Core.Option.{Option}
 use mathlib.Core.List.{List, [], _++_, append-nil}
-use Prim.Native.Nat.{ℕ, _<_, _≤_}
+use Prim.Native.Nat.{ℕ, _<_}
 use native.Mathlib.Omega.{arith}
-use lib.ListN.{length, take, drop, drop-of-length-le, replicate, length-replicate}
+use lib.ListN.{length, take, drop, drop-of-length-le, length-replicate}
 use borrow.Author.Tests.{ltb-true}
 use Rattle.choices.specs.State.{Choices, view, Invariant, Made, Moved}
 use Rattle.choices.specs.Lists.{padded, Complete}
@@ -13,7 +13,7 @@ use Rattle.choices.specs.declared.list.Walk.{Walk as Held}
 use Rattle.choices.specs.Tree.{Final, result, refuses, mostChoices}
 use Rattle.choices.specs.Paths.{firstList, nextList}
 use Rattle.choices.specs.Listing.{Lists, Runnable, listHeld}
-use Rattle.choices.proofs.Ran.{atEnd}
+use Rattle.choices.specs.Ran.{atEnd}
 use Rattle.choices.proofs.States.{Holds, end-holds}
 use Rattle.choices.proofs.Walk.{Settles, complete-whole}
 use Rattle.choices.proofs.Came.{came-complete, came-first, came-holds, came-next}
@@ -21,12 +21,8 @@ use Rattle.choices.proofs.Stepping.{step-none}
 use Rattle.values.specs.Value.{Value}
 use Rattle.lists.specs.Lent.{lent}
 use Rattle.lists.specs.Runs.{UsedWhole as Used}
-use Rattle.tables.specs.Check.{check, mostBytes, mostRecords}
 use Rattle.tables.specs.Accepted.{records}
-use Rattle.tables.specs.Laws.Accepted.{accepted-short, accepted-fine, cut-accepted}
-use Rattle.tables.specs.Reading.{Indexed, CutOut}
-use Rattle.tables.specs.declared.Checked.the-variants.{Accepted}
-use Rattle.tables.specs.declared.reading.Cutting.{Cutting}
+use Rattle.tables.specs.Laws.Accepted.{accepted-fine}
 use Rattle.meaning.specs.Read.{sheet}
 use Rattle.meaning.specs.Answer.{pack}
 use Rattle.meaning.specs.Walk.{overwritten}
@@ -34,30 +30,16 @@ use Rattle.meaning.specs.Service.{tree, last, runs, onward, steppedFrom}
 use Rattle.walks.specs.declared.Stepped.{Stepped}
 use Rattle.evaluator.specs.declared.Outcome.{Outcome}
 use Rattle.evaluator.specs.Sheet.{Runnable as Asked}
-use Rattle.walks.specs.Steps.{Ready, Indexes, packedOf, isWhole, Ran, lentOf, Answers, AtEnd, Steps, outcomeAs}
+use Rattle.walks.specs.Steps.{Indexes, packedOf, isWhole, Ran, lentOf, Answers, AtEnd, Steps, outcomeAs}
 use Rattle.walks.proofs.Settling.{sure-tree, Arrived}
 
 -- ---- the index
 
-module _ (table s : List ℕ) (y : Ready table s) where
-  pub cut-asked : (length table ≤ mostBytes) × (length {A = ℕ} (replicate 200 0) ≡ mostRecords)
-  cut-asked = (accepted-short table (y .count) (y .ok), length-replicate {A = ℕ} 200 0)
-
-  pub has-record : 0 < length (records table)
-  has-record = accepted-fine table (y .count) (y .ok) .0 .some-record
-
-  module _ (index : List ℕ) (c : Cutting) (out : CutOut table index c) where
-    pub is-indexed : Indexed table index
-    is-indexed = cut-accepted table index c (y .count) out (y .ok)
-
-    pub is-counted : check table ≡ Accepted (c .count)
-    is-counted = y .ok ∙ ap Accepted (accepted-fine table (y .count) (y .ok) .1 ∙ sym (out .count))
-
-    pub asked : (n : ℕ) → n ≡ c .count → (d : Choices) → Invariant d → Asked table index n s d
-    asked n e d k = record { accepted = is-counted ∙ ap Accepted (sym e); indexed = is-indexed; room = y .room; sound = k }
-
--- The number of records of a table that is accepted and indexed.
+-- A table that is accepted and indexed can be run, and has at least one record.
 module _ (table index : List ℕ) (count : ℕ) (s : List ℕ) (y : Indexes table index count s) where
+  pub asked : (d : Choices) → Invariant d → Asked table index count s d
+  asked d k = record { accepted = y .ok; indexed = y .indexed; room = y .room; sound = k }
+
   pub count-all : count ≡ length (records table)
   count-all = accepted-fine table count (y .ok) .1
 

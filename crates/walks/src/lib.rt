@@ -1,7 +1,6 @@
 // Walks: running a list, the first list of a table, and the step from a list to the next.
 ghost use mathlib.Core.Path.{_≡_};
-ghost use mathlib.Core.List.{List};
-ghost use Prim.Native.Nat.{ℕ, _<_, _≤_};
+ghost use Prim.Native.Nat.{_<_, _≤_};
 ghost use lib.Dec.{ltb};
 ghost use lib.ListN.{length};
 ghost use Rattle.choices.specs.State.{Invariant};
@@ -10,8 +9,8 @@ ghost use Rattle.choices.specs.Listing.{Lists, listHeld};
 ghost use Rattle.choices.specs.Paths.{firstList, nextList};
 ghost use Rattle.lists.specs.Lent.{lent};
 ghost use Rattle.meaning.specs.Answer.{weight, pack};
-ghost use Rattle.meaning.specs.Service.{tree, runs, onward};
-ghost use Rattle.walks.specs.Steps.{Ready, Indexes, settled, isWhole, Small, packedOf, Ran, Answers, AtEnd, Steppable, Steps};
+ghost use Rattle.meaning.specs.Service.{tree, onward};
+ghost use Rattle.walks.specs.Steps.{Indexes, settled, isWhole, Small, packedOf, Ran, Answers, AtEnd, Steppable, Steps};
 use choices::list::Walk;
 use evaluator::Outcome;
 use evaluator::run_sheet;
@@ -23,11 +22,9 @@ use lists::list_of;
 use lists::start;
 use lists::start_walk;
 use tables::Index;
-use tables::MOST_RECORDS;
-use tables::reading::cut;
 use tables::shape::wide;
 
-// What one unit of the place adds to an answer; for the count, this times as much.
+// What one unit of the place adds to an answer. One unit of the count adds the square of it.
 const WEIGHT: usize = 65536;
 
 // 34: entries left over. 35: no next list. From 32 on a refusal is the list's, and the list is not complete.
@@ -45,8 +42,8 @@ pub fn pack(number: usize, place: usize, count: usize) -> u64
     (number + WEIGHT * (place + WEIGHT * count)) as u64
 }
 
-// An outcome as one number.
-pub fn answer(o: Outcome) -> u64
+// An outcome as one number: that of success where there is a value.
+pub fn pack_outcome(o: Outcome) -> u64
     requires { ⌜ Small o ⌝ }
     ensures { λ a. ⌜ a ≡ packedOf o ⌝ }
 {
@@ -66,7 +63,7 @@ fn is_whole(o: Outcome) -> bool
     }
 }
 
-// Whether entries are left.
+// Whether a run left entries of its list.
 fn has_left(run: &[u8; RUN]) -> bool
     requires { ⌜ Invariant (lent (now run)) ⌝ }
     ensures { λ b. ⌜ b ≡ ltb (lent (now (run .entry)) .used) (lent (now (run .entry)) .len) ⌝ }
@@ -74,7 +71,7 @@ fn has_left(run: &[u8; RUN]) -> bool
     wide(run[USED]) < wide(run[LEN])
 }
 
-// 34 in place of a value, at the place `last`, and of 20 to 31, where entries are left.
+// The outcome of a run under a list: where entries are left, 34 stands in place of a value, at the place `last`, and of 20 to 31, at their own place.
 fn settle(o: Outcome, run: &[u8; RUN], last: usize) -> Outcome
     requires { ⌜ Invariant (lent (now run)) ⌝ }
     ensures { λ r. ⌜ r ≡ settled o (lent (now (run .entry))) last ⌝ }
@@ -118,7 +115,8 @@ pub struct Stepped {
     pub walk: Walk,
 }
 
-// On from the end of a complete list's run, which has learnt the numbers of ways: `advance`, and a run that grows.
+// The step from the end of a complete list's run, which has learnt the numbers of ways: the last entry that can go up goes up, and a run grows from there
+// to a complete list.
 fn next_list(
     walk: Walk,
     table: &[u8],
@@ -145,42 +143,39 @@ fn next_list(
     }
 }
 
-// The step by value: 32, 33 or 34 where the list is not complete, 35 where no list comes after it.
-pub fn next_walk(walk: Walk, table: &[u8], s: &mut [u8]) -> Stepped
-    requires { ⌜ Steppable (now table) (now s) walk ⌝ }
+// The step by value: 32, 33 or 34 where the list is not complete, 35 where no list comes after it. The index is the one that the check filled.
+pub fn next_walk(walk: Walk, table: &[u8], s: &mut [u8], index: &Index, count: usize) -> Stepped
+    requires { ⌜ Steppable (now table) (now s) (now index) count walk ⌝ }
     ensures { λ r. ⌜ Steps (now (table .entry)) walk r ⌝ }
 {
-    let mut index = [0u32; MOST_RECORDS];
-    let c = cut(table, &mut index);
-    let count = c.count;
     let mut run = start_walk(walk, false);
-    let o = run_sheet(table, &index, count, s, &mut run);
+    let o = run_sheet(table, index, count, s, &mut run);
     let ran = settle(o, &run, count - 1);
     if !is_whole(ran) {
         return Stepped {
-            answer: answer(ran),
+            answer: pack_outcome(ran),
             walk,
         };
     }
-    next_list(walk, table, &index, count, s, run)
+    next_list(walk, table, index, count, s, run)
 }
 
 // The panel's walk, lent: the step overwrites it, and a refusal leaves it.
-pub fn step(walk: &mut Walk, table: &[u8], s: &mut [u8]) -> u64
-    requires { ⌜ Steppable (now table) (now s) (now walk) ⌝ }
+pub fn step(walk: &mut Walk, table: &[u8], s: &mut [u8], index: &Index, count: usize) -> u64
+    requires { ⌜ Steppable (now table) (now s) (now index) count (now walk) ⌝ }
     ensures { λ a. ⌜ Steps (now (table .entry)) (now (walk .entry)) (record { answer = a; walk = now (walk .exit) }) ⌝ }
 {
-    let next = next_walk(*walk, table, s);
+    let next = next_walk(*walk, table, s, index, count);
     *walk = next.walk;
     next.answer
 }
 
-// The same of a walk by value, which is lent to `step`: for callers whose walk lies in lent entries and a length.
-pub fn stepped_by(walk: Walk, table: &[u8], s: &mut [u8]) -> Stepped
-    requires { ⌜ Steppable (now table) (now s) walk ⌝ }
+// The step of a walk by value, which is lent to `step`: for callers whose walk lies in lent entries and a length.
+pub fn stepped_by(walk: Walk, table: &[u8], s: &mut [u8], index: &Index, count: usize) -> Stepped
+    requires { ⌜ Steppable (now table) (now s) (now index) count walk ⌝ }
     ensures { λ r. ⌜ Steps (now (table .entry)) walk r ⌝ }
 {
     let mut lent = walk;
-    let answer = step(&mut lent, table, s);
+    let answer = step(&mut lent, table, s, index, count);
     Stepped { answer, walk: lent }
 }

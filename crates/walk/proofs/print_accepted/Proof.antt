@@ -1,6 +1,5 @@
 -- The first list is due, and the first line is in the buffer.
-use mathlib.Core.Path.{sym}
-use native.Mathlib.Omega.{arith}
+use mathlib.Core.Path.{sym, _∙_}
 use Rattle.walk.proofs.Handing.{made-empty, printing-start}
 use borrow.Author.Needs.{needs}
 use Rattle.walk.proofs.print_accepted.Statement.{statement}
@@ -31,10 +30,10 @@ slice-aggregate-print-pieces-2 : tie.Need-slice-aggregate-print-pieces-2
 slice-aggregate-print-pieces-2 c = search needs
 
 print-pieces-requires : tie.Need-print-pieces-requires
-print-pieces-requires c κs = printing-start (c .before .before .before .before .before .before .before .before .before .before .before .args .table .now) (c .before .before .before .before .before .before .before .before .before .before .before .args .index .now) (c .before .before .before .before .before .before .before .before .before .before .before .args .count) (c .before .before .before .before .before .before .before .before .before .before .before .pre .0) (c .before .before .before .before .before .before .before .before .before .before .before .pre .1) (c .before .before .before .before .before .before .before .before .before .large-buffer .result) (c .before .before .before .before .before .before .start-walk .result) (c .before .before .before .before .begin .last .1 .0) (sym (c .before .before .before .before .before .before .before .before .before .large-buffer .ensures)) (made-empty (c .before .before .before .before .before .before .before .empty .result) (c .before .before .before .before .before .before .before .empty .ensures) (c .before .before .before .before .before .before .start-walk .result) (c .before .before .before .before .before .before .start-walk .ensures)) (omega (arith, c .before .before .before .before .begin .kept .1 .0, c .before .before .before .before .before .before .before .before .large-buffer2 .ensures)) (c .before .before .before .before .begin .result) (c .before .before .before .before .begin .ensures)
+print-pieces-requires c κs = printing-start (c .before .before .before .before .before .before .before .before .before .before .before .args .table .now) (c .before .before .before .before .before .before .before .before .before .before .before .args .index .now) (c .before .before .before .before .before .before .before .before .before .before .before .args .count) (c .before .before .before .before .before .before .before .before .before .before .before .pre .0) (c .before .before .before .before .before .before .before .before .before .before .before .pre .1) (c .before .before .before .before .before .before .before .before .before .large-buffer .result) (c .before .before .before .before .before .before .start-walk .result) (c .before .before .before .before .begin .last .1 .0) (c .before .before .before .before .before .before .before .before .large-buffer2 .result) (sym (c .before .before .before .before .before .before .before .before .before .large-buffer .ensures)) (made-empty (c .before .before .before .before .before .before .before .empty .result) (c .before .before .before .before .before .before .before .empty .ensures) (c .before .before .before .before .before .before .start-walk .result) (c .before .before .before .before .before .before .start-walk .ensures)) (c .before .before .before .before .begin .kept .1 .0 ∙ sym (c .before .before .before .before .before .before .before .before .large-buffer2 .ensures)) (c .before .before .before .before .begin .result) (c .before .before .before .before .begin .ensures)
 
 returns : tie.Need-returns
-returns c = search needs
+returns c = c .before .before .print-pieces .ensures
 
 pub print-accepted-spec : {M : Type 1} → statement M
 print-accepted-spec =

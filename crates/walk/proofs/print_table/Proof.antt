@@ -20,10 +20,10 @@ print-accepted-requires : tie.Need-print-accepted-requires
 print-accepted-requires c κs = (sym (c .before .before .before .before .check .ensures .answer) ∙ c .before .before .count .given .1, c .before .before .before .before .check .ensures .indexed _ (c .before .before .count .given .1))
 
 returns : tie.Need-returns
-returns c = search needs
+returns c = c .print-refused .ensures
 
 returns-2 : tie.Need-returns-2
-returns-2 c = search needs
+returns-2 c = c .print-accepted .ensures
 
 pub print-table-spec : {M : Type 1} → statement M
 print-table-spec =

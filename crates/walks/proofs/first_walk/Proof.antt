@@ -10,12 +10,6 @@ use Rattle.walks.proofs.Stepping.{runnable-empty, empty-list, first-lis
 use borrow.Author.Needs.{needs}
 use Rattle.walks.proofs.first_walk.Statement.{statement}
 use Rattle.walks.proofs.first_walk.Tie as tie
-use Rattle.walks.proofs.first_walk.Reads as reads
-use Rattle.walks.proofs.first_walk.Lts as lts
-use Rattle.choices.proofs.list.Walk.empty.Reads as empty-reads
-use Rattle.evaluator.proofs.run_sheet.Reads as run-sheet-reads
-use Rattle.lists.proofs.list_of.Reads as list-of-reads
-use Rattle.lists.proofs.start_walk.Reads as start-walk-reads
 
 empty-requires : tie.Need-empty-requires
 empty-requires c κs = search needs

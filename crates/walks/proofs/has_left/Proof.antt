@@ -3,9 +3,6 @@ use mathlib.Core.Path.{ap₂}
 use lib.Dec.{ltb}
 use Rattle.walks.proofs.has_left.Statement.{statement}
 use Rattle.walks.proofs.has_left.Tie as tie
-use Rattle.walks.proofs.has_left.Reads as reads
-use Rattle.walks.proofs.has_left.Lts as lts
-use Rattle.tables.proofs.shape.wide.Reads as wide-reads
 
 element-copy-out-wide : tie.Need-element-copy-out-wide
 element-copy-out-wide c = search needs

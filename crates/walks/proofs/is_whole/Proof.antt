@@ -3,8 +3,6 @@ use mathlib.Core.Path.{refl}
 use Rattle.walks.proofs.Settling.{whole-refused}
 use Rattle.walks.proofs.is_whole.Statement.{statement}
 use Rattle.walks.proofs.is_whole.Tie as tie
-use Rattle.walks.proofs.is_whole.Reads as reads
-use Rattle.walks.proofs.is_whole.Lts as lts
 
 enum-told : tie.Need-enum-told
 enum-told c = search needs

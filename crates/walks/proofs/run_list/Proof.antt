@@ -9,11 +9,6 @@ use Rattle.walks.proofs.Stepping.{count-all, count-some}
 use borrow.Author.Needs.{needs}
 use Rattle.walks.proofs.run_list.Statement.{statement}
 use Rattle.walks.proofs.run_list.Tie as tie
-use Rattle.walks.proofs.run_list.Reads as reads
-use Rattle.walks.proofs.run_list.Lts as lts
-use Rattle.evaluator.proofs.run_sheet.Reads as run-sheet-reads
-use Rattle.lists.proofs.start.Reads as start-reads
-use Rattle.walks.proofs.settle.Reads as settle-reads
 
 start-requires : tie.Need-start-requires
 start-requires c κs = search needs

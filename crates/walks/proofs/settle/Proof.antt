@@ -5,9 +5,6 @@ use Rattle.lists.specs.Lent.{lent}
 use Rattle.walks.proofs.Settling.{settled-all, settled-left-value, settled-left-low, settled-left-list}
 use Rattle.walks.proofs.settle.Statement.{statement}
 use Rattle.walks.proofs.settle.Tie as tie
-use Rattle.walks.proofs.settle.Reads as reads
-use Rattle.walks.proofs.settle.Lts as lts
-use Rattle.walks.proofs.has_left.Reads as has-left-reads
 
 has-left-requires : tie.Need-has-left-requires
 has-left-requires c κs = search needs

@@ -1,0 +1,77 @@
+// The step from a choice list of a table to the next.
+ghost use mathlib.Core.Path.{_≡_};
+ghost use Prim.Native.Nat.{_≤_};
+ghost use lib.ListN.{length};
+ghost use Rattle.tables.specs.Reading.{Indexed};
+ghost use Rattle.meaning.specs.Service.{scratchBytes, steps};
+ghost use Rattle.meaning.specs.Lent.{stepCall};
+ghost use Rattle.services.specs.Left.{Accepts, walkOf, Left};
+use crate::LONG_LIST;
+use crate::SCRATCH;
+use crate::SHORT_SCRATCH;
+use crate::lent::clear;
+use crate::lent::load;
+use crate::lent::store;
+use checking::check;
+use choices::list::Walk;
+use tables::Checked;
+use tables::Index;
+use tables::MOST_RECORDS;
+use walks::pack;
+use walks::stepped_by;
+
+// Steps a lent walk to the next list of an accepted table. The index is the one that the check filled.
+fn step_accepted(
+    table: &[u8],
+    index: &Index,
+    count: usize,
+    entries: &mut [u8],
+    len: &mut usize,
+    scratch: &mut [u8],
+) -> u64
+    requires { ⌜ Accepts (now table) count (now scratch) × Indexed (now table) (now index) ⌝ }
+    ensures { λ a. ⌜ Left (steps (length (now (scratch .entry))) (now (table .entry)) (walkOf (now (entries .entry)) (now (len .entry)))) (walkOf (now (entries .entry)) (now (len .entry))) (now (scratch .entry)) (record { answer = a; scratch = now (scratch .exit); walk = walkOf (now (entries .exit)) (now (len .exit)) }) ⌝ }
+{
+    let n = *len;
+    if entries.len() < Walk::LIMIT {
+        return pack(LONG_LIST, 0, 0);
+    }
+    if Walk::LIMIT < n {
+        return pack(LONG_LIST, 0, 0);
+    }
+    let walk = load(entries, n);
+    let next = stepped_by(walk, table, &mut scratch[..SCRATCH], index, count);
+    let after = next.walk;
+    store(after, entries, len);
+    next.answer
+}
+
+// Tests rules 3 to 9, and steps to the next list of a table that keeps them.
+fn step_checked(table: &[u8], entries: &mut [u8], len: &mut usize, scratch: &mut [u8]) -> u64
+    requires { ⌜ scratchBytes ≤ length (now scratch) ⌝ }
+    ensures { λ a. ⌜ Left (steps (length (now (scratch .entry))) (now (table .entry)) (walkOf (now (entries .entry)) (now (len .entry)))) (walkOf (now (entries .entry)) (now (len .entry))) (now (scratch .entry)) (record { answer = a; scratch = now (scratch .exit); walk = walkOf (now (entries .exit)) (now (len .exit)) }) ⌝ }
+{
+    let mut index = [0u32; MOST_RECORDS];
+    match check(table, &mut index) {
+        Checked::Refused(n, r) => pack(n, r, 0),
+        Checked::Accepted(count) => step_accepted(table, &index, count, entries, len, scratch),
+    }
+}
+
+// Steps to the next choice list of a table.
+#[no_mangle]
+pub extern "C" fn dengwizo_step(
+    table: &[u8],
+    entries: &mut [u8],
+    length: &mut usize,
+    scratch: &mut [u8],
+) -> u64
+    ensures { λ a. ⌜ stepCall (now (table .entry)) (walkOf (now (entries .entry)) (now (length .entry))) (now (scratch .entry)) ≡ record { answer = a; scratch = now (scratch .exit); walk = walkOf (now (entries .exit)) (now (length .exit)) } ⌝ }
+{
+    if scratch.len() < SCRATCH {
+        return pack(SHORT_SCRATCH, 0, 0);
+    }
+    let a = step_checked(table, entries, length, scratch);
+    clear(scratch);
+    a
+}
