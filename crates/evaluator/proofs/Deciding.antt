@@ -25,7 +25,8 @@ use Rattle.patterns.specs.Read.{patternAt}
 use Rattle.meaning.specs.Laws.PatternLaws.{loose-is}
 use Rattle.parts.specs.declared.words.Env.{Env}
 use Rattle.evaluator.specs.declared.Outcome.the-variants.{Value as HasValue}
-use Rattle.evaluator.specs.Binding.{Placed, Counted, Binder, quantified, patternFor, Begins, agrees, IsTaken, Picks, Unique, Surveys}
+use Rattle.lists.specs.Choosing.{Picks}
+use Rattle.evaluator.specs.Binding.{Placed, Counted, Binder, quantified, patternFor, Begins, agrees, IsTaken, Unique, Surveys}
 use Rattle.evaluator.specs.Contract.{Ask, ended, Evaluates, operandAt}
 use Rattle.evaluator.proofs.Single.{exists1-off, iota-off}
 use Rattle.evaluator.proofs.Tables.{has-operand}

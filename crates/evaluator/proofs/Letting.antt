@@ -26,7 +26,8 @@ use Rattle.evaluator.specs.declared.Outcome.{Outcome}
 use Rattle.evaluator.specs.declared.Outcome.the-variants.{Value as HasValue, Refused}
 use Rattle.bindings.specs.declared.Cursor.{Cursor}
 use Rattle.parts.specs.declared.words.Env.{Env}
-use Rattle.evaluator.specs.Binding.{Placed, Counted, Binder, patternFor, listed, Standing, Begins, Stands, Insides, dueIn, Marked, Surveys, Picks, loosely, plainly, answerNumber, answerCount, IsTaken}
+use Rattle.lists.specs.Choosing.{dueIn, Picks, loosely, plainly}
+use Rattle.evaluator.specs.Binding.{Placed, Counted, Binder, patternFor, listed, Standing, Begins, Stands, Insides, Marked, Surveys, answerNumber, answerCount, IsTaken}
 use Rattle.evaluator.specs.Word.{ending, wordOf, unchosenWord}
 use Rattle.evaluator.proofs.Wording.{refused-at, word-unchosen}
 use Rattle.evaluator.proofs.Tables.{small-place}

@@ -27,7 +27,6 @@ mod Letting
 mod Adding
 mod Comprehending
 mod Single
-mod Lending
 mod Suiting
 mod Extending
 mod Placing

@@ -11,7 +11,7 @@ use lib.Dec.{eqb}
 use lib.ListN.{length, getD, take}
 use Rattle.values.specs.Value.{Kind, Value, kindOf, collection, Items}
 use Rattle.values.specs.Place.{At, ItemsAt}
-use Rattle.choices.specs.State.{Choices, view, Chosen}
+use Rattle.choices.specs.State.{Choices}
 use Rattle.choices.specs.Tree.{Tree, give, stop, bind}
 use Rattle.choices.specs.declared.Answer.{Answer}
 use Rattle.choices.specs.declared.Answer.the-variants.{Taken, Many, Short, Beyond}
@@ -26,6 +26,7 @@ use Rattle.patterns.specs.Read.{patternAt}
 use Rattle.calling.specs.Scratch.{Kept}
 use Rattle.meaning.specs.State.{State, under, valueIn}
 use Rattle.meaning.specs.Meaning.{formedAt, membersAt, integersAt, bindingsOf, integerBindings, holds, satisfying, addOne, addPair, patternName}
+use Rattle.lists.specs.Choosing.{dueFor}
 use Rattle.bindings.specs.declared.Cursor.{Cursor}
 use Rattle.bindings.specs.declared.Opened.{Opened}
 use Rattle.bindings.specs.declared.Opened.the-variants.{Bound, Refused as Unbound}
@@ -125,12 +126,12 @@ pub data Suits (k : ℕ) (s : List ℕ) (at : ℕ) (b : Bool) : Type 0 where
   fit : b ≡ true → (vs : List Value) → Values s at (wholly k) vs → ((r : ℕ) (v : Value) → At s at v → valuesFor k r v ≡ give vs) → Suits k s at b
   unfit : b ≡ false → ((r : ℕ) (v : Value) → At s at v → valuesFor k r v ≡ stop 20 r) → Suits k s at b
 
--- r says whether the items from a place up to another are integers.
-abbrev pub isInteger : Value → Bool
-isInteger v = eqb (kindOf v) 2
+-- r says whether the items from a place up to another are of a kind.
+abbrev pub isKind : ℕ → Value → Bool
+isKind kind v = eqb (kindOf v) kind
 
-abbrev pub AllIntegers : List ℕ → ℕ → ℕ → Bool → Type 0
-AllIntegers s from to r = (vs : Items) → ItemsAt s from to vs → r ≡ everyItem isInteger vs
+abbrev pub AllOfKind : ℕ → List ℕ → ℕ → ℕ → Bool → Type 0
+AllOfKind kind s from to r = (vs : Items) → ItemsAt s from to vs → r ≡ everyItem (isKind kind) vs
 
 -- The cursor over the bindings, or their refusal.
 pub data OpeningIs (o : Opened) (r w : ℕ) (l : List ℕ) : Type 0 where
@@ -206,18 +207,6 @@ pub record Marks (bs sat : List Binding) (due n k : ℕ) : Type 0 where
   pub within : due < n → k < length bs
   pub is : due < n → getD bs k nothing ≡ getD sat due nothing
 
--- The entry that is next in the list; 0 where none is left.
-abbrev pub first : List ℕ → ℕ
-first [] = 0
-first (c ∷ l) = c
-
-abbrev pub dueIn : Choices → ℕ
-dueIn c = first (view c .left)
-
--- A let-be asks for the binding that it will choose, the others for the first.
-abbrev pub dueFor : ℕ → Choices → ℕ
-dueFor k c = cond (eqb k 13) (dueIn c) 0
-
 -- The bindings that make the condition of r true.
 abbrev pub surveyed : List ℕ → ℕ → State → Tree (List Binding)
 surveyed table r ρ = bind (bindingsOf (meant table) r (patternFor table r) (operandAt table r 1) ρ) (λ bs. satisfying (meant table) r (operandAt table r 2) ρ bs)
@@ -268,11 +257,6 @@ IsTaken (Taken i) = Unit {0}
 IsTaken Many = ⊥
 IsTaken Short = ⊥
 IsTaken Beyond = ⊥
-
--- A loose let chooses among its n bindings, another takes its only one.
-pub data Picks (isLoose : Bool) (c : Choices) (n : ℕ) (a : Answer) (d : Choices) : Type 0 where
-  loosely : isLoose ≡ true → Chosen c n (record { answer = a; state = d }) → Picks isLoose c n a d
-  plainly : isLoose ≡ false → a ≡ Taken 0 → d ≡ c → Picks isLoose c n a d
 
 -- ---- comprehensions: 18, 19 and 20
 

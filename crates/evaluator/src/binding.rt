@@ -22,7 +22,8 @@ ghost use mathlib.Core.Path.{_≡_};
 ghost use mathlib.Core.Bool.{true};
 ghost use Rattle.values.specs.Place.{Holds, HoldsItems};
 ghost use Prim.Native.Nat.{_<_};
-ghost use Rattle.evaluator.specs.Binding.{Quantifies, Suits, AllIntegers, OpeningIs, agrees, counting, marking, cursorOf, Nameless, Enterable, Enters, Fetchable, Fetches};
+ghost use Rattle.patterns.specs.Binder.{mostBindings};
+ghost use Rattle.evaluator.specs.Binding.{Quantifies, Suits, AllOfKind, OpeningIs, agrees, counting, marking, cursorOf, Nameless, Enterable, Enters, Fetchable, Fetches};
 ghost use Rattle.evaluator.specs.Contract.{envOf};
 ghost use Rattle.evaluator.specs.Word.{judgedWord, unchosenWord, builtWord};
 
@@ -89,14 +90,14 @@ pub fn is_quantifier(k: usize) -> bool
     k / 2 == kinds::FORALL / 2
 }
 
-// Whether all items from a place up to another are integers.
-fn all_integers(s: &[u8], from: usize, to: usize) -> bool
+// Whether all items from a place up to another are of a kind.
+fn all_of_kind(s: &[u8], from: usize, to: usize, kind: usize) -> bool
     requires { ⌜ HoldsItems (now s) from to ⌝ }
-    ensures { λ r. ⌜ AllIntegers (now (s .entry)) from to r ⌝ }
+    ensures { λ r. ⌜ AllOfKind kind (now (s .entry)) from to r ⌝ }
 {
     let mut p = from;
     while p < to {
-        if values::kind_of(s, p) != Value::INTEGER {
+        if values::kind_of(s, p) != kind {
             return false;
         }
         p += values::length_of(s, p);
@@ -119,7 +120,7 @@ pub fn suits(s: &[u8], at: usize, k: usize) -> bool
         return true;
     }
     let n = values::length_of(s, at);
-    all_integers(s, at + 4, at + n)
+    all_of_kind(s, at + 4, at + n, Value::INTEGER)
 }
 
 // The bindings of the record r, or their refusal.
@@ -154,7 +155,7 @@ pub fn agree(a: bool, b: bool) -> bool
 
 // How many satisfy after one more test.
 pub fn tally(yes: bool, count: usize) -> usize
-    requires { ⌜ count < 255 ⌝ }
+    requires { ⌜ count < mostBindings ⌝ }
     ensures { λ n. ⌜ n ≡ counting yes count ⌝ }
 {
     if yes { count + 1 } else { count }

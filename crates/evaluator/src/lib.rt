@@ -3,7 +3,6 @@ mod binding;
 mod building;
 mod leaves;
 mod looseness;
-mod run;
 mod words;
 
 use binding::BUILT;
@@ -36,12 +35,12 @@ use leaves::test;
 use leaves::truth;
 use leaves::two;
 use leaves::whole;
-use lists::RUN;
-use looseness::is_loose;
+use lists::Run;
+use lists::choosing::choose;
+use lists::choosing::decide;
+use lists::choosing::wanted;
+use looseness::is_loose_pattern;
 use parts::words::Env;
-use run::choose;
-use run::decide;
-use run::wanted;
 use tables::Index;
 use tables::kinds;
 use tables::reading::AFTER_OPERATOR;
@@ -131,7 +130,7 @@ fn un(
     s: &mut [u8],
     base: usize,
     env: &[u32; Env::NAMES],
-    run: &mut [u8; RUN],
+    run: &mut Run,
 ) -> usize
     requires { ⌜ Ask (now table) (now index) r (now s) base (envOf (now env)) (lent (now run)) × (kindAt (records (now table)) r ≡ 4) ⌝ }
     ensures { λ o. ⌜ Evaluates (now (table .entry)) r (now (s .entry)) (now (s .exit)) base (envOf (now (env .entry))) (lent (now (run .entry))) (ending o (lent (now (run .exit)))) ⌝ }
@@ -154,7 +153,7 @@ fn bin(
     s: &mut [u8],
     base: usize,
     env: &[u32; Env::NAMES],
-    run: &mut [u8; RUN],
+    run: &mut Run,
     k: usize,
     op: usize,
 ) -> usize
@@ -184,7 +183,7 @@ fn logic(
     s: &mut [u8],
     base: usize,
     env: &[u32; Env::NAMES],
-    run: &mut [u8; RUN],
+    run: &mut Run,
     op: usize,
 ) -> usize
     requires { ⌜ Ask (now table) (now index) r (now s) base (envOf (now env)) (lent (now run)) × (kindAt (records (now table)) r ≡ 5) × (op ≡ operatorAt (now table) r) × (op ≤ 3) ⌝ }
@@ -219,7 +218,7 @@ fn cond(
     s: &mut [u8],
     base: usize,
     env: &[u32; Env::NAMES],
-    run: &mut [u8; RUN],
+    run: &mut Run,
 ) -> usize
     requires { ⌜ Ask (now table) (now index) r (now s) base (envOf (now env)) (lent (now run)) × (kindAt (records (now table)) r ≡ 6) ⌝ }
     ensures { λ o. ⌜ Evaluates (now (table .entry)) r (now (s .entry)) (now (s .exit)) base (envOf (now (env .entry))) (lent (now (run .entry))) (ending o (lent (now (run .exit)))) ⌝ }
@@ -251,7 +250,7 @@ fn many(
     s: &mut [u8],
     base: usize,
     env: &[u32; Env::NAMES],
-    run: &mut [u8; RUN],
+    run: &mut Run,
     k: usize,
 ) -> usize
     requires { ⌜ Ask (now table) (now index) r (now s) base (envOf (now env)) (lent (now run)) × (kindAt (records (now table)) r ≡ k) × Enumerated k ⌝ }
@@ -281,7 +280,7 @@ fn maps(
     s: &mut [u8],
     base: usize,
     env: &[u32; Env::NAMES],
-    run: &mut [u8; RUN],
+    run: &mut Run,
 ) -> usize
     requires { ⌜ Ask (now table) (now index) r (now s) base (envOf (now env)) (lent (now run)) × (kindAt (records (now table)) r ≡ 9) ⌝ }
     ensures { λ o. ⌜ Evaluates (now (table .entry)) r (now (s .entry)) (now (s .exit)) base (envOf (now (env .entry))) (lent (now (run .entry))) (ending o (lent (now (run .exit)))) ⌝ }
@@ -317,7 +316,7 @@ fn begin(
     s: &mut [u8],
     base: usize,
     env: &[u32; Env::NAMES],
-    run: &mut [u8; RUN],
+    run: &mut Run,
     k: usize,
     cursor: &mut [usize; CELLS],
 ) -> usize
@@ -347,7 +346,7 @@ fn inside(
     s: &mut [u8],
     base: usize,
     env: &[u32; Env::NAMES],
-    run: &mut [u8; RUN],
+    run: &mut Run,
     whole: bool,
     cursor: &mut [usize; CELLS],
     j: usize,
@@ -371,7 +370,7 @@ fn holds(
     s: &mut [u8],
     base: usize,
     env: &[u32; Env::NAMES],
-    run: &mut [u8; RUN],
+    run: &mut Run,
     cursor: &mut [usize; CELLS],
     j: usize,
 ) -> usize
@@ -407,7 +406,7 @@ fn quant(
     s: &mut [u8],
     base: usize,
     env: &[u32; Env::NAMES],
-    run: &mut [u8; RUN],
+    run: &mut Run,
     k: usize,
     want: bool,
 ) -> usize
@@ -445,7 +444,7 @@ fn survey(
     s: &mut [u8],
     base: usize,
     env: &[u32; Env::NAMES],
-    run: &mut [u8; RUN],
+    run: &mut Run,
     k: usize,
     cursor: &mut [usize; CELLS],
 ) -> Tally
@@ -489,7 +488,7 @@ fn one(
     s: &mut [u8],
     base: usize,
     env: &[u32; Env::NAMES],
-    run: &mut [u8; RUN],
+    run: &mut Run,
     k: usize,
 ) -> usize
     requires { ⌜ Ask (now table) (now index) r (now s) base (envOf (now env)) (lent (now run)) × (kindAt (records (now table)) r ≡ k) × Unique k ⌝ }
@@ -520,7 +519,7 @@ fn such(
     s: &mut [u8],
     base: usize,
     env: &[u32; Env::NAMES],
-    run: &mut [u8; RUN],
+    run: &mut Run,
 ) -> usize
     requires { ⌜ Ask (now table) (now index) r (now s) base (envOf (now env)) (lent (now run)) × (kindAt (records (now table)) r ≡ 13) ⌝ }
     ensures { λ o. ⌜ Evaluates (now (table .entry)) r (now (s .entry)) (now (s .exit)) base (envOf (now (env .entry))) (lent (now (run .entry))) (ending o (lent (now (run .exit)))) ⌝ }
@@ -578,7 +577,7 @@ fn local(
     s: &mut [u8],
     base: usize,
     env: &[u32; Env::NAMES],
-    run: &mut [u8; RUN],
+    run: &mut Run,
 ) -> usize
     requires { ⌜ Ask (now table) (now index) r (now s) base (envOf (now env)) (lent (now run)) × (kindAt (records (now table)) r ≡ 12) ⌝ }
     ensures { λ o. ⌜ Evaluates (now (table .entry)) r (now (s .entry)) (now (s .exit)) base (envOf (now (env .entry))) (lent (now (run .entry))) (ending o (lent (now (run .exit)))) ⌝ }
@@ -593,7 +592,7 @@ fn local(
         return refusal(Outcome::NO_MATCH, r, 0);
     }
     let p = operand_from(table, index, r, PLAIN, 0);
-    let loose = is_loose(table, index, p);
+    let loose = is_loose_pattern(table, index, p);
     let a = decide(run, n, loose);
     let Answer::Taken(i) = a else {
         return unchosen(a, r, n);
@@ -627,7 +626,7 @@ fn item(
     s: &mut [u8],
     base: usize,
     env: &[u32; Env::NAMES],
-    run: &mut [u8; RUN],
+    run: &mut Run,
     k: usize,
     cursor: &mut [usize; CELLS],
     j: usize,
@@ -664,7 +663,7 @@ fn pair(
     s: &mut [u8],
     base: usize,
     env: &[u32; Env::NAMES],
-    run: &mut [u8; RUN],
+    run: &mut Run,
     cursor: &mut [usize; CELLS],
     j: usize,
 ) -> usize
@@ -717,7 +716,7 @@ fn step(
     s: &mut [u8],
     base: usize,
     env: &[u32; Env::NAMES],
-    run: &mut [u8; RUN],
+    run: &mut Run,
     k: usize,
     cursor: &mut [usize; CELLS],
     j: usize,
@@ -746,7 +745,7 @@ fn comp(
     s: &mut [u8],
     base: usize,
     env: &[u32; Env::NAMES],
-    run: &mut [u8; RUN],
+    run: &mut Run,
     k: usize,
 ) -> usize
     requires { ⌜ Ask (now table) (now index) r (now s) base (envOf (now env)) (lent (now run)) × (kindAt (records (now table)) r ≡ k) × Comprehension k ⌝ }
@@ -779,7 +778,7 @@ fn binds(
     s: &mut [u8],
     base: usize,
     env: &[u32; Env::NAMES],
-    run: &mut [u8; RUN],
+    run: &mut Run,
     k: usize,
 ) -> usize
     requires { ⌜ Ask (now table) (now index) r (now s) base (envOf (now env)) (lent (now run)) × (kindAt (records (now table)) r ≡ k) × Remaining k ⌝ }
@@ -809,7 +808,7 @@ pub fn eval(
     s: &mut [u8],
     base: usize,
     env: &[u32; Env::NAMES],
-    run: &mut [u8; RUN],
+    run: &mut Run,
 ) -> usize
     requires { ⌜ Ask (now table) (now index) r (now s) base (envOf (now env)) (lent (now run)) ⌝ }
     ensures { λ o. ⌜ Evaluates (now (table .entry)) r (now (s .entry)) (now (s .exit)) base (envOf (now (env .entry))) (lent (now (run .entry))) (ending o (lent (now (run .exit)))) ⌝ }
@@ -835,13 +834,7 @@ pub fn eval(
 }
 
 // The run of an accepted, indexed table under the lent choices, over the scratch of a service. Its value is left at the start of scratch.
-pub fn run_sheet(
-    table: &[u8],
-    index: &Index,
-    count: usize,
-    s: &mut [u8],
-    run: &mut [u8; RUN],
-) -> Outcome
+pub fn run_sheet(table: &[u8], index: &Index, count: usize, s: &mut [u8], run: &mut Run) -> Outcome
     requires { ⌜ Runnable (now table) (now index) count (now s) (lent (now run)) ⌝ }
     ensures { λ o. ⌜ Runs (now (table .entry)) (now (s .exit)) (lent (now (run .entry))) (ended o (lent (now (run .exit)))) ⌝ }
 {

@@ -8,7 +8,7 @@ use Rattle.evaluator.proofs.Tables.{room-here}
 use Rattle.evaluator.proofs.Deciding.{not-taken, such-has}
 use Rattle.evaluator.proofs.Letting.{such-off, such-none, such-some, such-unchosen, such-stands, such-body-off, such-copyable, such-done}
 use Rattle.evaluator.proofs.Wording.{valued, unvalued}
-use Rattle.evaluator.proofs.run.choose.Reads as choose-reads
+use Rattle.lists.proofs.choosing.choose.Reads as choose-reads
 use Rattle.values.proofs.copy_value.Reads as copy-value-reads
 use Rattle.evaluator.proofs.inside.Reads as inside
 use Rattle.evaluator.proofs.words.refusal.Reads as refusal-reads

@@ -16,7 +16,7 @@ use Rattle.evaluator.proofs.holds.Reads as holds
 use Rattle.evaluator.proofs.binding.mark.Reads as mark-reads
 use Rattle.evaluator.proofs.survey.Reads as survey
 use Rattle.evaluator.proofs.binding.tally.Reads as tally-reads
-use Rattle.evaluator.proofs.run.wanted.Reads as wanted-reads
+use Rattle.lists.proofs.choosing.wanted.Reads as wanted-reads
 use Rattle.evaluator.proofs.+begin+bin+binds+comp+cond+eval+holds+inside+item+local+logic+many+maps+one+pair+quant+step+such+survey+un.Lts-survey as survey-lts
 
 abbrev survey-calls : ℕ → survey-lts.Claims

@@ -1,19 +1,19 @@
-use Rattle.evaluator.proofs.Suiting.{Walks, walk-start, walk-next, walk-fails, walk-on, walk-end, other-kind, whole-kind}
+use Rattle.evaluator.proofs.Suiting.{Walks, walk-start, walk-next, walk-fails, walk-on, walk-end, other-kind, same-kind}
 use Rattle.values.proofs.Records.{holds}
 use native.Mathlib.Omega.{arith}
 use Prim.Native.Nat.{_-_}
-use Rattle.evaluator.proofs.binding.all_integers.Statement.{statement}
-use Rattle.evaluator.proofs.binding.all_integers.Tie as tie
+use Rattle.evaluator.proofs.binding.all_of_kind.Statement.{statement}
+use Rattle.evaluator.proofs.binding.all_of_kind.Tie as tie
 
 abbrev Inv-loop : tie.InvT-loop
-Inv-loop s from to p₀ p = Walks s from to p
+Inv-loop s from to kind p₀ p = Walks kind s from to p
 
 abbrev μ-loop : tie.MeasureT-loop
-μ-loop s from to p₀ p = to - p
+μ-loop s from to kind p₀ p = to - p
 
 -- src/binding.rt:44:5
 loop-holds : tie.Need-loop-holds Inv-loop μ-loop
-loop-holds c = walk-start _ _ _
+loop-holds c = walk-start _ _ _ _
 
 -- src/binding.rt:45:12
 kind-of-requires : tie.Need-kind-of-requires Inv-loop μ-loop
@@ -37,14 +37,14 @@ loop-less c = let y = walk-next (c .before .before .before .before .loop .inv (c
 
 -- src/binding.rt:44:5
 loop-again : tie.Need-loop-again Inv-loop μ-loop
-loop-again c = λ vs h. walk-on ((c .before .before .before .before .loop .inv) vs h) (omega arith) (whole-kind (c .before .before .kind-of .ensures) (omega arith)) _ (c .length-of .ensures .is)
+loop-again c = λ vs h. walk-on ((c .before .before .before .before .loop .inv) vs h) (omega arith) (same-kind (c .before .before .kind-of .ensures) (omega arith)) _ (c .length-of .ensures .is)
 
 -- src/binding.rt:39:1
 returns-2 : tie.Need-returns-2 Inv-loop μ-loop
 returns-2 c = λ vs h. walk-end ((c .before .loop .inv) vs h) (omega arith)
 
-pub all-integers-spec : {M : Type 1} → statement M
-all-integers-spec =
+pub all-of-kind-spec : {M : Type 1} → statement M
+all-of-kind-spec =
     tie.close
     (tie.spec
     Inv-loop

@@ -1,27 +1,22 @@
-// The choices of a run as lent bytes: how many entries, how many used, whether it grows, 64 entries, 64 numbers of ways.
+// The choices that a run takes from its list.
+use crate::ENTRIES;
+use crate::GROW;
+use crate::LEN;
+use crate::Run;
+use crate::USED;
+use crate::WAYS;
 use choices::Answer;
 use choices::list::Walk;
-use lists::ENTRIES;
-use lists::GROW;
-use lists::LEN;
-use lists::RUN;
-use lists::USED;
-use lists::WAYS;
 use tables::kinds;
+use tables::shape::wide;
 ghost use mathlib.Core.Path.{_≡_};
 ghost use Prim.Native.Nat.{_<_};
 ghost use Rattle.choices.specs.State.{Invariant, Chosen};
 ghost use Rattle.lists.specs.Lent.{lent};
-ghost use Rattle.evaluator.specs.Binding.{dueFor, Picks};
-
-fn number(b: u8) -> usize
-    ensures { λ r. ⌜ r ≡ b ⌝ }
-{
-    b as usize
-}
+ghost use Rattle.lists.specs.Choosing.{dueFor, Picks};
 
 // Which of the satisfying bindings is wanted: by a let-be the one that it will choose, by other binders the first.
-pub fn wanted(run: &[u8; RUN], k: usize) -> usize
+pub fn wanted(run: &Run, k: usize) -> usize
     requires { ⌜ Invariant (lent (now run)) ⌝ }
     ensures { λ d. ⌜ d ≡ dueFor k (lent (now (run .entry))) ⌝ }
 {
@@ -31,13 +26,13 @@ pub fn wanted(run: &[u8; RUN], k: usize) -> usize
     let used = run[USED] as usize;
     let len = run[LEN] as usize;
     if used < len {
-        return number(run[ENTRIES + used]);
+        return wide(run[ENTRIES + used]);
     }
     0
 }
 
 // A choice among n ways takes the next entry.
-pub fn choose(run: &mut [u8; RUN], n: usize) -> Answer
+pub fn choose(run: &mut Run, n: usize) -> Answer
     requires { ⌜ Invariant (lent (now run)) × (0 < n) × (n < 256) ⌝ }
     ensures { λ a. ⌜ Chosen (lent (now (run .entry))) n (record { answer = a; state = lent (now (run .exit)) }) ⌝ }
 {
@@ -47,7 +42,7 @@ pub fn choose(run: &mut [u8; RUN], n: usize) -> Answer
     }
     let len = run[LEN] as usize;
     if used < len {
-        let entry = number(run[ENTRIES + used]);
+        let entry = wide(run[ENTRIES + used]);
         if n <= entry {
             return Answer::Beyond;
         }
@@ -55,7 +50,7 @@ pub fn choose(run: &mut [u8; RUN], n: usize) -> Answer
         run[USED] = (used + 1) as u8;
         return Answer::Taken(entry);
     }
-    let grow = number(run[GROW]);
+    let grow = wide(run[GROW]);
     if grow == 1 {
         run[WAYS + used] = n as u8;
         run[LEN] = (used + 1) as u8;
@@ -66,7 +61,7 @@ pub fn choose(run: &mut [u8; RUN], n: usize) -> Answer
 }
 
 // A loose let chooses among its n bindings, another takes its only one.
-pub fn decide(run: &mut [u8; RUN], n: usize, loose: bool) -> Answer
+pub fn decide(run: &mut Run, n: usize, loose: bool) -> Answer
     requires { ⌜ Invariant (lent (now run)) × (0 < n) × (n < 256) ⌝ }
     ensures { λ a. ⌜ Picks loose (lent (now (run .entry))) n a (lent (now (run .exit))) ⌝ }
 {

@@ -4,7 +4,7 @@ use mathlib.Core.List.{List}
 use Prim.Native.Nat.{ℕ, _+_, _≤_, _<_}
 use native.Mathlib.Omega.{arith}
 use lib.Dec.{eqb}
-use lib.ListN.{length, getD, take, drop, set, length-take, length-drop, length-set}
+use lib.ListN.{length, getD, take, drop, set, length-set}
 use lib.Seq.{getD-take, getD-drop, getD-set-same, getD-set-other, take-set-le, take-set-lt, drop-set-add, drop-set-lt}
 use borrow.Author.Tests.{eq-eqb, ne-eqb}
 use Rattle.choices.specs.declared.Answer.the-variants.{Taken, Many, Short, Beyond}
@@ -12,15 +12,16 @@ use Rattle.choices.specs.Tree.{mostChoices}
 use Rattle.choices.specs.State.{Invariant, Chosen, taking}
 use Rattle.choices.proofs.States.{left-cons, left-nil}
 use Rattle.choices.proofs.Choosing.{many-law, beyond-law, short-law, taken-law, grown-law}
-use Rattle.lists.specs.Lent.{lent}
-use Rattle.evaluator.specs.Binding.{first, dueFor}
+use Rattle.lists.specs.Lent.{waysFrom, runBytes, lent}
+use Rattle.lists.specs.Choosing.{first, dueFor}
+use Rattle.lists.proofs.Starting.{sound-long}
 
 module _ (l : List ℕ) (s : Invariant (lent l)) where
   abbrev used : ℕ
   used = getD l 1 0
 
-  long : 131 ≤ length l
-  long = omega (arith, s .counts-sized, length-take mostChoices (drop 67 l), length-drop 67 l)
+  long : runBytes ≤ length l
+  long = sound-long l s
 
   entry-is : used < mostChoices → getD (take mostChoices (drop 3 l)) used 0 ≡ getD l (3 + used) 0
   entry-is h = getD-take mostChoices (drop 3 l) used 0 h ∙ getD-drop 3 l used 0
@@ -43,31 +44,31 @@ module _ (l : List ℕ) (s : Invariant (lent l)) where
 
     module _ (h : used < mostChoices) where
       abbrev written : List ℕ
-      written = set l (67 + used) n
+      written = set l (waysFrom + used) n
 
-      long-written : 131 ≤ length written
-      long-written = omega (arith, length-set l (67 + used) n, long)
+      long-written : runBytes ≤ length written
+      long-written = omega (arith, length-set l (waysFrom + used) n, long)
 
       -- The entries are kept, and the number of ways is written.
       entries-kept : take mostChoices (drop 3 written) ≡ take mostChoices (drop 3 l)
       entries-kept =
-          let z : 67 + used ≡ 3 + (64 + used) = omega arith in
-          ap (λ (i : ℕ). take mostChoices (drop 3 (set l i n))) z ∙ ap (take mostChoices) (drop-set-add 3 l (64 + used) n) ∙ take-set-le mostChoices (drop 3 l) (64 + used) n (omega arith)
+          let z : waysFrom + used ≡ 3 + (mostChoices + used) = omega arith in
+          ap (λ (i : ℕ). take mostChoices (drop 3 (set l i n))) z ∙ ap (take mostChoices) (drop-set-add 3 l (mostChoices + used) n) ∙ take-set-le mostChoices (drop 3 l) (mostChoices + used) n (omega arith)
 
-      counts-set : take mostChoices (drop 67 written) ≡ set (take mostChoices (drop 67 l)) used n
-      counts-set = ap (take mostChoices) (drop-set-add 67 l used n) ∙ take-set-lt mostChoices (drop 67 l) used n h
+      counts-set : take mostChoices (drop waysFrom written) ≡ set (take mostChoices (drop waysFrom l)) used n
+      counts-set = ap (take mostChoices) (drop-set-add waysFrom l used n) ∙ take-set-lt mostChoices (drop waysFrom l) used n h
 
       low-kept : (m i x : ℕ) → 3 ≤ m → i < 3 → (xs : List ℕ) → take mostChoices (drop m (set xs i x)) ≡ take mostChoices (drop m xs)
       low-kept m i x a b xs = ap (take mostChoices) (drop-set-lt m xs i x (omega arith))
 
       number-kept : (i : ℕ) → i < 3 → getD written i 0 ≡ getD l i 0
-      number-kept i b = getD-set-other l (67 + used) i n 0 (λ e. omega arith)
+      number-kept i b = getD-set-other l (waysFrom + used) i n 0 (λ e. omega arith)
 
       lent-taken : lent (set written 1 (used + 1)) ≡ taking (lent l) n (getD l 0 0)
       lent-taken i =
           record {
             entries = (low-kept 3 1 (used + 1) (omega arith) (omega arith) written ∙ entries-kept) i;
-            counts = (low-kept 67 1 (used + 1) (omega arith) (omega arith) written ∙ counts-set) i;
+            counts = (low-kept waysFrom 1 (used + 1) (omega arith) (omega arith) written ∙ counts-set) i;
             len = (getD-set-other written 1 0 (used + 1) 0 (λ e. omega arith) ∙ number-kept 0 (omega arith)) i;
             used = getD-set-same written 1 (used + 1) 0 (omega (arith, long-written)) i;
             grow = ap (λ (x : ℕ). eqb x 1) (getD-set-other written 1 2 (used + 1) 0 (λ e. omega arith) ∙ number-kept 2 (omega arith)) i;
@@ -85,7 +86,7 @@ module _ (l : List ℕ) (s : Invariant (lent l)) where
       lent-grown i =
           record {
             entries = (low-kept 3 1 (used + 1) (omega arith) (omega arith) longer ∙ low-kept 3 0 (used + 1) (omega arith) (omega arith) written ∙ entries-kept) i;
-            counts = (low-kept 67 1 (used + 1) (omega arith) (omega arith) longer ∙ low-kept 67 0 (used + 1) (omega arith) (omega arith) written ∙ counts-set) i;
+            counts = (low-kept waysFrom 1 (used + 1) (omega arith) (omega arith) longer ∙ low-kept waysFrom 0 (used + 1) (omega arith) (omega arith) written ∙ counts-set) i;
             len = (getD-set-other longer 1 0 (used + 1) 0 (λ e. omega arith) ∙ getD-set-same written 0 (used + 1) 0 (omega (arith, long-written))) i;
             used = getD-set-same longer 1 (used + 1) 0 (omega (arith, length-set written 0 (used + 1), long-written)) i;
             grow = ap (λ (x : ℕ). eqb x 1) (getD-set-other longer 1 2 (used + 1) 0 (λ e. omega arith) ∙ getD-set-other written 0 2 (used + 1) 0 (λ e. omega arith) ∙ number-kept 2 (omega arith)) i;
