@@ -6,7 +6,7 @@ mod Tables
 mod Firsts
 mod Wording
 mod Equations
-mod Plain
+mod Giving
 mod Members
 mod Enumerating
 mod Simple

@@ -34,7 +34,7 @@ use Rattle.parts.specs.declared.words.Env.{Env}
 use Rattle.evaluator.specs.declared.Outcome.{Outcome}
 use Rattle.evaluator.specs.declared.Tally.{Tally}
 use Rattle.bindings.specs.Window.{Values, Windowed, Reached, UnderBinding}
-use Rattle.evaluator.specs.Building.{builtKind}
+use Rattle.evaluator.specs.Building.{builtKind, enumerationFor}
 use Rattle.evaluator.specs.Word.{outcomeOf, wordOf}
 use Rattle.evaluator.specs.Contract.{Ask, Evaluated, ended, Gives, meant, operandAt}
 
@@ -157,12 +157,12 @@ pub record Nameless (cursor : Cursor) : Type 0 where
   pub width : cursor .width ≡ 0
   pub from : cursor .from ≡ 0
 
--- What is asked and promised of entering it: it is brought into the window, and the environment is the one under it.
-pub record Enterable (table index : List ℕ) (r : ℕ) (whole : Bool) (s : List ℕ) (base : ℕ) (env : Env) (cursor : Cursor) (j : ℕ) : Type 0 where
+-- What is asked and promised of binding the names of binding j: it is brought into the window, and the environment is the one under it.
+pub record Bindable (table index : List ℕ) (r : ℕ) (whole : Bool) (s : List ℕ) (base : ℕ) (env : Env) (cursor : Cursor) (j : ℕ) : Type 0 where
   pub choices : Choices
   pub stands : Stands table index r whole s base env choices cursor j
 
-pub record Enters (table : List ℕ) (r : ℕ) (whole : Bool) (s t : List ℕ) (base : ℕ) (env : Env) (cursor : Cursor) (j : ℕ) (near : Cursor) (inner : Env) : Type 0 where
+pub record BindsNames (table : List ℕ) (r : ℕ) (whole : Bool) (s t : List ℕ) (base : ℕ) (env : Env) (cursor : Cursor) (j : ℕ) (near : Cursor) (inner : Env) : Type 0 where
   pub reached : Reached table (operandAt table r 0) s t base whole (base + 512) cursor j near
   pub under : UnderBinding t (base + 512) near j env inner
 
@@ -263,9 +263,9 @@ IsTaken Beyond = ⊥
 abbrev pub Comprehension : ℕ → Type 0
 Comprehension k = (18 ≤ k) × (k ≤ 20)
 
--- It is built as an enumeration of kind 7, 8 or 9 is.
+-- The kind of value that a comprehension builds.
 abbrev pub kindFor : ℕ → Kind
-kindFor k = builtKind (k - 11)
+kindFor k = builtKind (enumerationFor k)
 
 -- What is added under a binding to the items so far.
 abbrev pub addsIn : List ℕ → ℕ → ℕ → State → Items → Binding → Tree Items

@@ -1,5 +1,5 @@
 -- How an evaluation ended, in one word: even for a value; else 1, and above it 16 bits each of a refusal's number, place and count.
-use mathlib.Core.Bool.{cond}
+use mathlib.Core.Bool.{Bool, cond}
 use Prim.Native.Nat.{ℕ, _+_, _*_, _/_, _%_}
 use lib.Dec.{eqb}
 use Rattle.choices.specs.State.{Choices}
@@ -13,9 +13,12 @@ use Rattle.evaluator.specs.declared.Truth.{Truth}
 use Rattle.evaluator.specs.declared.Truth.the-variants.{True, False, Other}
 use Rattle.evaluator.specs.Contract.{Evaluated, ended}
 
--- What a word says.
+-- Whether a word says that the evaluation was refused, and what it says.
+abbrev pub isRefusal : ℕ → Bool
+isRefusal w = eqb (w % 2) 1
+
 abbrev pub outcomeOf : ℕ → Outcome
-outcomeOf w = cond (eqb (w % 2) 1) (Refused (w / 2 % 65536) (w / 2 / 65536 % 65536) (w / 2 / 65536 / 65536)) HasValue
+outcomeOf w = cond (isRefusal w) (Refused (w / 2 % 65536) (w / 2 / 65536 % 65536) (w / 2 / 65536 / 65536)) HasValue
 
 abbrev pub ending : ℕ → Choices → Evaluated
 ending w d = ended (outcomeOf w) d

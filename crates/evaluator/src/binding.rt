@@ -23,7 +23,7 @@ ghost use mathlib.Core.Bool.{true};
 ghost use Rattle.values.specs.Place.{Holds, HoldsItems};
 ghost use Prim.Native.Nat.{_<_};
 ghost use Rattle.patterns.specs.Binder.{mostBindings};
-ghost use Rattle.evaluator.specs.Binding.{Quantifies, Suits, AllOfKind, OpeningIs, agrees, counting, marking, cursorOf, Nameless, Enterable, Enters, Fetchable, Fetches};
+ghost use Rattle.evaluator.specs.Binding.{Quantifies, Suits, AllOfKind, OpeningIs, agrees, counting, marking, cursorOf, Nameless, Bindable, BindsNames, Fetchable, Fetches};
 ghost use Rattle.evaluator.specs.Contract.{envOf};
 ghost use Rattle.evaluator.specs.Word.{judgedWord, unchosenWord, builtWord};
 
@@ -34,11 +34,20 @@ pub const BUILT: usize = 1024;
 
 pub const INSIDE: usize = 1536;
 
-// A cursor goes down as its four numbers, which only a window that is filled again changes.
+// A cursor goes down as its four numbers, which only a window that is filled again changes: how many bindings there are, how many names each gives a
+// value, how many bytes each takes, and from which on they stand in the window.
+pub const COUNT: usize = 0;
+
+const NAMES: usize = 1;
+
+const WIDTH: usize = 2;
+
+const FROM: usize = 3;
+
 pub const CELLS: usize = 4;
 
 // The environment under binding j of the binder r, which is brought into the window. It is changed where it stands, word by word.
-pub fn enter(
+pub fn bind_names(
     table: &[u8],
     index: &Index,
     r: usize,
@@ -50,8 +59,8 @@ pub fn enter(
     j: usize,
     inner: &mut [u32; Env::NAMES],
 )
-    requires { ⌜ Enterable (now table) (now index) r whole (now s) base (envOf (now env)) (cursorOf (now cursor)) j ⌝ }
-    ensures { λ _. ⌜ Enters (now (table .entry)) r whole (now (s .entry)) (now (s .exit)) base (envOf (now (env .entry))) (cursorOf (now (cursor .entry))) j (cursorOf (now (cursor .exit))) (envOf (now (inner .exit))) ⌝ }
+    requires { ⌜ Bindable (now table) (now index) r whole (now s) base (envOf (now env)) (cursorOf (now cursor)) j ⌝ }
+    ensures { λ _. ⌜ BindsNames (now (table .entry)) r whole (now (s .entry)) (now (s .exit)) base (envOf (now (env .entry))) (cursorOf (now (cursor .entry))) j (cursorOf (now (cursor .exit))) (envOf (now (inner .exit))) ⌝ }
 {
     if is_nameless(cursor) {
         *inner = *env;
@@ -59,10 +68,10 @@ pub fn enter(
     }
     let p = operand_from(table, index, r, PLAIN, 0);
     let c = Cursor {
-        count: cursor[0],
-        names: cursor[1],
-        width: cursor[2],
-        from: cursor[3],
+        count: cursor[COUNT],
+        names: cursor[NAMES],
+        width: cursor[WIDTH],
+        from: cursor[FROM],
     };
     let near = reach(table, index, p, s, base, whole, base + WINDOW, c, j);
     *cursor = [near.count, near.names, near.width, near.from];
@@ -74,13 +83,13 @@ pub fn enter(
 pub fn is_nameless(cursor: &[usize; CELLS]) -> bool
     ensures { λ b. ⌜ (b ≡ true → Nameless (cursorOf (now (cursor .entry)))) ⌝ }
 {
-    if cursor[1] != 0 {
+    if cursor[NAMES] != 0 {
         return false;
     }
-    if cursor[2] != 0 {
+    if cursor[WIDTH] != 0 {
         return false;
     }
-    cursor[3] == 0
+    cursor[FROM] == 0
 }
 
 // Whether the kind is forall or exists: 14 and 15 differ in the last bit alone, so one test tells.
@@ -205,7 +214,7 @@ pub fn fetch(
     ensures { λ _. ⌜ Fetches (now (table .entry)) r (now (s .entry)) (now (s .exit)) base (cursorOf (now (cursor .entry))) j ⌝ }
 {
     let mut inner = [0; Env::NAMES];
-    enter(table, index, r, s, base, env, false, cursor, j, &mut inner);
+    bind_names(table, index, r, s, base, env, false, cursor, j, &mut inner);
     let p = operand_from(table, index, r, PLAIN, 0);
     let x = field(table, index, p, 0);
     let word = inner[x];

@@ -11,19 +11,35 @@ use collections::building::retag;
 use tables::kinds;
 use values::Value;
 ghost use mathlib.Core.Path.{_≡_};
+ghost use Rattle.values.specs.Value.{number};
 ghost use Rattle.collections.specs.Building.{addedNumber, enteredNumber};
-ghost use Rattle.evaluator.specs.Building.{AddHeld, AddsNext, EnterHeld, EntersNext, startedAs, Finishable, Finishes};
+ghost use Rattle.evaluator.specs.Building.{AddHeld, AddsNext, EnterHeld, EntersNext, builtKind, enumerationFor, Finishable, Finishes};
 ghost use Rattle.evaluator.specs.Word.{outcomeOf};
 
-// The kind of what is built: a set, or a sequence. A tuple is built as a sequence.
-pub fn started(k: usize) -> usize
-    ensures { λ r. ⌜ r ≡ startedAs k ⌝ }
+// The kind of value that an enumeration of kind k builds. A tuple is built as a sequence.
+pub fn built_kind(k: usize) -> usize
+    ensures { λ r. ⌜ r ≡ number (builtKind k) ⌝ }
 {
     if k == kinds::SET {
-        Value::SET
-    } else {
-        Value::SEQUENCE
+        return Value::SET;
     }
+    if k == kinds::MAP {
+        return Value::MAP;
+    }
+    Value::SEQUENCE
+}
+
+// The kind of enumeration that builds what a comprehension of kind k builds.
+pub fn enumeration_of(k: usize) -> usize
+    ensures { λ r. ⌜ r ≡ enumerationFor k ⌝ }
+{
+    if k == kinds::SET_COMPREHENSION {
+        return kinds::SET;
+    }
+    if k == kinds::SEQUENCE_COMPREHENSION {
+        return kinds::SEQUENCE;
+    }
+    kinds::MAP
 }
 
 // What is built so far takes one more, which stands 512 bytes above it; 28 where it is too large.
