@@ -71,7 +71,7 @@ module _ {n r k : ℕ} (small : n < 65536) (low : r < 65536) (few : k < 65536) w
 
 -- ---- what functions make of a word
 
--- The same, with what a word says.
+-- What is given with an outcome is given with the word that says it.
 pub as-word : {A : Type 0} {m : State → Tree A} {P : A → Type 0} {s t : List ℕ} {base : ℕ} {env : Env} {c d : Choices} (w : ℕ) {o : Outcome} → outcomeOf w ≡ o → Gives m P s t base env c (ended o d) → Gives m P s t base env c (ending w d)
 as-word {m = m} {P} {s} {t} {base} {env} {c} {d} w e g = subst (λ (x : Outcome). Gives m P s t base env c (ended x d)) (sym e) g
 

@@ -83,11 +83,11 @@ pub record Quantifies (k : ℕ) (b : Bool) : Type 0 where
   pub yes : b ≡ true → k ≡ quantified (eqb k 15)
   pub no : b ≡ false → (k ≡ 14 → ⊥) × (k ≡ 15 → ⊥)
 
--- What the kinds without binders leave.
+-- The kinds that are left where those without a binder are taken out.
 abbrev pub Remaining : ℕ → Type 0
 Remaining k = (k ≡ 0) ⊎ ((12 ≤ k) × (k ≡ 21 → ⊥))
 
--- Those that test all bindings, and those that ask for exactly one.
+-- The kinds that test all bindings, and the kinds that ask for exactly one.
 abbrev pub Surveyed : ℕ → Type 0
 Surveyed k = (13 ≤ k) × (k ≤ 17)
 
@@ -151,14 +151,14 @@ pub record Stands (table index : List ℕ) (r : ℕ) (whole : Bool) (s : List �
   pub standing : Standing table r whole s base cursor bindings
   pub below : j < length bindings
 
--- No name has a value under a binding, and there is a window's start for it.
+-- The bindings give no name a value, and the window begins with the first.
 pub record Nameless (cursor : Cursor) : Type 0 where
   pub names : cursor .names ≡ 0
   pub width : cursor .width ≡ 0
   pub from : cursor .from ≡ 0
 
 -- What is asked and promised of binding the names of binding j: it is brought into the window, and the environment is the one under it.
-pub record Bindable (table index : List ℕ) (r : ℕ) (whole : Bool) (s : List ℕ) (base : ℕ) (env : Env) (cursor : Cursor) (j : ℕ) : Type 0 where
+pub record AsksNames (table index : List ℕ) (r : ℕ) (whole : Bool) (s : List ℕ) (base : ℕ) (env : Env) (cursor : Cursor) (j : ℕ) : Type 0 where
   pub choices : Choices
   pub stands : Stands table index r whole s base env choices cursor j
 
@@ -185,7 +185,7 @@ pub record Insides (table : List ℕ) (r q : ℕ) (whole : Bool) (s t : List ℕ
 abbrev pub Upward : ℕ → Type 0
 Upward up = (1024 ≤ up) × (up ≤ 2048)
 
--- Its condition, tested under binding j.
+-- The condition of the record r, tested under binding j.
 abbrev pub holdsIn : List ℕ → ℕ → State → Binding → Tree Bool
 holdsIn table r ρ b = holds (meant table) r (operandAt table r 2) ρ b
 
@@ -239,7 +239,7 @@ pub record Fetches (table : List ℕ) (r : ℕ) (s t : List ℕ) (base : ℕ) (c
 
 -- ---- a choice: 12 and 13
 
--- 31, or 32 or 33 with the number of bindings.
+-- The number of a choice that was not made, and the number of bindings that it reports.
 abbrev pub answerNumber : Answer → ℕ
 answerNumber (Taken i) = 0
 answerNumber Many = 31

@@ -118,7 +118,7 @@ pub fn survey(
     }
 }
 
-// 16, 17: is there exactly one; the one that there is.
+// 16, 17: exists1 says whether exactly one binding satisfies; iota gives the value of its name under that one.
 pub fn single(
     table: &[u8],
     index: &Index,
@@ -198,7 +198,7 @@ pub fn let_be(
     VALUE
 }
 
-// 12: let. A loose pattern chooses among its bindings.
+// 12: let. The body under the binding of its pattern; where the pattern is loose, a choice among its bindings.
 pub fn let_in(
     table: &[u8],
     index: &Index,

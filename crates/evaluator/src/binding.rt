@@ -23,7 +23,7 @@ ghost use mathlib.Core.Bool.{true};
 ghost use Rattle.values.specs.Place.{Holds, HoldsItems};
 ghost use Prim.Native.Nat.{_<_};
 ghost use Rattle.patterns.specs.Binder.{mostBindings};
-ghost use Rattle.evaluator.specs.Binding.{Quantifies, Suits, AllOfKind, OpeningIs, agrees, counting, marking, cursorOf, Nameless, Bindable, BindsNames, Fetchable, Fetches};
+ghost use Rattle.evaluator.specs.Binding.{Quantifies, Suits, AllOfKind, OpeningIs, agrees, counting, marking, cursorOf, Nameless, AsksNames, BindsNames, Fetchable, Fetches};
 ghost use Rattle.evaluator.specs.Contract.{envOf};
 ghost use Rattle.evaluator.specs.Word.{judgedWord, unchosenWord, builtWord};
 
@@ -34,8 +34,8 @@ pub const BUILT: usize = 1024;
 
 pub const INSIDE: usize = 1536;
 
-// A cursor goes down as its four numbers, which only a window that is filled again changes: how many bindings there are, how many names each gives a
-// value, how many bytes each takes, and from which on they stand in the window.
+// A cursor goes down as its four numbers, which only a window that is filled again changes: how many bindings there are; the names
+// that they give values, as a mask, and how many these are; and the first binding in the window.
 pub const COUNT: usize = 0;
 
 const NAMES: usize = 1;
@@ -59,7 +59,7 @@ pub fn bind_names(
     j: usize,
     inner: &mut [u32; Env::NAMES],
 )
-    requires { ⌜ Bindable (now table) (now index) r whole (now s) base (envOf (now env)) (cursorOf (now cursor)) j ⌝ }
+    requires { ⌜ AsksNames (now table) (now index) r whole (now s) base (envOf (now env)) (cursorOf (now cursor)) j ⌝ }
     ensures { λ _. ⌜ BindsNames (now (table .entry)) r whole (now (s .entry)) (now (s .exit)) base (envOf (now (env .entry))) (cursorOf (now (cursor .entry))) j (cursorOf (now (cursor .exit))) (envOf (now (inner .exit))) ⌝ }
 {
     if is_nameless(cursor) {
@@ -129,7 +129,7 @@ pub fn suits(s: &[u8], at: usize, k: usize) -> bool
         return true;
     }
     let n = values::length_of(s, at);
-    all_of_kind(s, at + 4, at + n, Value::INTEGER)
+    all_of_kind(s, at + Value::HEAD, at + n, Value::INTEGER)
 }
 
 // The bindings of the record r, or their refusal.
@@ -145,7 +145,7 @@ pub fn opening(o: Opened, r: usize, cursor: &mut [usize; CELLS]) -> usize
     }
 }
 
-// A condition of the record r, tested; it must be boolean.
+// The word of a condition of the record r: whether it is true, or a refusal where it is no boolean.
 pub fn judge(t: Truth, r: usize) -> usize
     ensures { λ h. ⌜ h ≡ judgedWord t r ⌝ }
 {
@@ -156,6 +156,7 @@ pub fn judge(t: Truth, r: usize) -> usize
     }
 }
 
+// Whether two truths agree.
 pub fn agree(a: bool, b: bool) -> bool
     ensures { λ r. ⌜ r ≡ agrees a b ⌝ }
 {
@@ -180,7 +181,7 @@ pub fn mark(yes: bool, count: usize, due: usize, j: usize, at: usize) -> usize
     if count == due { j } else { at }
 }
 
-// 31, or 32 or 33 with the number of bindings.
+// The word of a choice that was not made: 31, or 32 or 33 with the number of bindings.
 pub fn unchosen(a: Answer, r: usize, n: usize) -> usize
     ensures { λ o. ⌜ o ≡ unchosenWord a r n ⌝ }
 {
@@ -192,7 +193,7 @@ pub fn unchosen(a: Answer, r: usize, n: usize) -> usize
     }
 }
 
-// What the building came to at the record r: a number, or 0.
+// The word of what a building came to at the record r: a value, or the number of its refusal.
 pub fn built(bad: usize, r: usize) -> usize
     ensures { λ o. ⌜ o ≡ builtWord bad r ⌝ }
 {

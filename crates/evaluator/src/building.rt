@@ -58,6 +58,7 @@ pub fn add(s: &mut [u8], base: usize, k: usize, bad: usize) -> usize
     added(b)
 }
 
+// The number of a refusal to add; 0 where there is none.
 fn added(a: Added) -> usize
     ensures { λ r. ⌜ r ≡ addedNumber a ⌝ }
 {
@@ -79,6 +80,7 @@ pub fn enter_next(s: &mut [u8], base: usize, bad: usize) -> usize
     entered(a)
 }
 
+// The number of a refusal to enter; 0 where there is none.
 fn entered(a: Entered) -> usize
     ensures { λ r. ⌜ r ≡ enteredNumber a ⌝ }
 {
@@ -89,7 +91,7 @@ fn entered(a: Entered) -> usize
     }
 }
 
-// What was built, or its refusal.
+// The word of what was built, or of its refusal at the record r.
 pub fn finish(s: &mut [u8], base: usize, k: usize, bad: usize, r: usize) -> usize
     requires { ⌜ Finishable k (now s) base bad r ⌝ }
     ensures { λ o. ⌜ Finishes k (now (s .entry)) (now (s .exit)) base bad r (outcomeOf o) ⌝ }

@@ -56,7 +56,7 @@ ghost use Rattle.evaluator.specs.Sheet.{Runnable, Runs};
 ghost use Rattle.evaluator.specs.Binding.{Binder, Remaining, Upward, Begins, Stands, Insides, Tests, cursorOf, placed, held};
 ghost use Rattle.evaluator.specs.Word.{ending};
 
-// A value, which stands at the base; or a refusal's number, place and count.
+// How an evaluation ended: a value, which stands at the base; or a refusal's number, place and count.
 pub enum Outcome {
     Value,
     Refused(usize, usize, usize),
@@ -185,7 +185,7 @@ fn holds(
 
 // ---- by the kind of a record
 
-// 12 to 20: what binds names. Of the other kinds that are left none is evaluated.
+// 12 to 20: what binds names. A record of another kind that is left is no expression, and is refused with 20.
 fn binder(
     table: &[u8],
     index: &Index,

@@ -5,14 +5,14 @@ use calling::Applied;
 ghost use mathlib.Core.Path.{_≡_};
 ghost use Rattle.evaluator.specs.Word.{wordOf, isRefusal, outcomeOf, appliedWord};
 
-// A value; of a condition that it is true, where a value alone says that it is false.
+// There is a value; of a condition, it is false. The second word says that a condition is true.
 pub const VALUE: usize = 0;
 
 pub const YES: usize = 2;
 
 const BITS: usize = 65536;
 
-// A refusal.
+// The word of a refusal.
 pub fn refusal(number: usize, place: usize, count: usize) -> usize
     ensures { λ w. ⌜ w ≡ wordOf number place count ⌝ }
 {

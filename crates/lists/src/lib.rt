@@ -12,7 +12,7 @@ ghost use Rattle.lists.specs.Runs.{UsedWhole, SameList, restarted};
 use choices::list::Walk;
 use tables::shape::wide;
 
-// Where the list's length stands, how many entries are used, and whether a list that is used up grows.
+// Where the length of the list stands, the number of entries that are used, and 1 where a list that is used up grows.
 pub const LEN: usize = 0;
 
 pub const USED: usize = 1;
