@@ -28,7 +28,7 @@ use Rattle.evaluator.specs.declared.Outcome.the-variants.{Value as HasVa
 use Rattle.lists.specs.Choosing.{Picks}
 use Rattle.evaluator.specs.Binding.{Placed, Counted, Binder, quantified, patternFor, Begins, agrees, IsTaken, Unique, Surveys}
 use Rattle.evaluator.specs.Contract.{Ask, ended, Evaluates, operandAt}
-use Rattle.evaluator.proofs.Single.{exists1-off, iota-off}
+use Rattle.evaluator.proofs.Unique.{exists1-off, iota-off}
 use Rattle.evaluator.proofs.Tables.{has-operand}
 use Rattle.evaluator.proofs.Standing.{binder-readable}
 

@@ -26,7 +26,7 @@ mod Surveying
 mod Letting
 mod Adding
 mod Comprehending
-mod Single
+mod Unique
 mod Suiting
 mod Extending
 mod Placing

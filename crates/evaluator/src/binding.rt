@@ -194,7 +194,7 @@ pub fn unchosen(a: Answer, r: usize, n: usize) -> usize
 }
 
 // The word of what a building came to at the record r: a value, or the number of its refusal.
-pub fn built(bad: usize, r: usize) -> usize
+pub fn built_word(bad: usize, r: usize) -> usize
     ensures { λ o. ⌜ o ≡ builtWord bad r ⌝ }
 {
     if bad == 0 { VALUE } else { refusal(bad, r, 0) }

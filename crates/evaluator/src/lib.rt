@@ -1,33 +1,39 @@
 // The evaluator: the recursion on record numbers, over lent scratch. A record's value is left at its base; what lies below the base stays.
-mod binders;
 mod binding;
 mod building;
-mod collected;
+mod built;
 mod leaves;
 mod looseness;
 mod plain;
 mod words;
 
-use binders::let_be;
-use binders::let_in;
-use binders::quantify;
-use binders::single;
 use binding::CELLS;
+use binding::COUNT;
 use binding::INSIDE;
 use binding::WINDOW;
+use binding::agree;
 use binding::bind_names;
+use binding::fetch;
 use binding::is_quantifier;
 use binding::judge;
+use binding::mark;
 use binding::opening;
 use binding::suits;
+use binding::tally;
+use binding::unchosen;
+use built::collect;
 use calling::Applied;
-use collected::collect;
+use choices::Answer;
 use leaves::is_connective;
 use leaves::name;
 use leaves::test;
 use leaves::truth;
 use leaves::whole;
 use lists::Run;
+use lists::choosing::choose;
+use lists::choosing::decide;
+use lists::choosing::wanted;
+use looseness::is_loose_pattern;
 use parts::words::Env;
 use plain::binary;
 use plain::branch;
@@ -42,6 +48,8 @@ use tables::reading::field;
 use tables::reading::kind;
 use tables::reading::noted_operand;
 use tables::reading::operand_from;
+use words::VALUE;
+use words::YES;
 use words::is_refusal;
 use words::outcome;
 use words::refusal;
@@ -53,7 +61,7 @@ ghost use Rattle.tables.specs.Reading.{HasOperand};
 ghost use Rattle.lists.specs.Lent.{lent};
 ghost use Rattle.evaluator.specs.Contract.{Ask, Evaluates, ended, operandAt, envOf};
 ghost use Rattle.evaluator.specs.Sheet.{Runnable, Runs};
-ghost use Rattle.evaluator.specs.Binding.{Binder, Remaining, Upward, Begins, Stands, Insides, Tests, cursorOf, placed, held};
+ghost use Rattle.evaluator.specs.Binding.{Binder, Remaining, Surveyed, Unique, Upward, quantified, Begins, Stands, Insides, Tests, Surveys, cursorOf, placed, held, counted};
 ghost use Rattle.evaluator.specs.Word.{ending};
 
 // How an evaluation ended: a value, which stands at the base; or a refusal's number, place and count.
@@ -181,6 +189,219 @@ fn holds(
     }
     let t = test(s, base + INSIDE);
     judge(t, r)
+}
+
+// ---- the binders that build nothing
+
+// 14, 15: forall stops at the first false, exists at the first true.
+fn quantify(
+    table: &[u8],
+    index: &Index,
+    r: usize,
+    s: &mut [u8],
+    base: usize,
+    env: &[u32; Env::NAMES],
+    run: &mut Run,
+    k: usize,
+    want: bool,
+) -> usize
+    requires { ⌜ Ask (now table) (now index) r (now s) base (envOf (now env)) (lent (now run)) × (kindAt (records (now table)) r ≡ k) × (k ≡ quantified want) ⌝ }
+    ensures { λ o. ⌜ Evaluates (now (table .entry)) r (now (s .entry)) (now (s .exit)) base (envOf (now (env .entry))) (lent (now (run .entry))) (ending o (lent (now (run .exit)))) ⌝ }
+{
+    let mut cursor = [0; CELLS];
+    let o = begin(table, index, r, s, base, env, run, k, &mut cursor);
+    if is_refusal(o) {
+        return o;
+    }
+    let n = cursor[COUNT];
+    let mut found = !want;
+    let mut j = 0;
+    'all: while j < n {
+        let h = holds(table, index, r, s, base, env, run, &mut cursor, j);
+        if is_refusal(h) {
+            return h;
+        }
+        if agree(h == YES, want) {
+            found = want;
+            break 'all;
+        }
+        j += 1;
+    }
+    values::put_boolean(s, base, found);
+    VALUE
+}
+
+// 13, 16, 17: all bindings are tested. The satisfying ones are counted, and the wanted one is remembered as it passes.
+fn survey(
+    table: &[u8],
+    index: &Index,
+    r: usize,
+    s: &mut [u8],
+    base: usize,
+    env: &[u32; Env::NAMES],
+    run: &mut Run,
+    k: usize,
+    cursor: &mut [usize; CELLS],
+) -> Tally
+    requires { ⌜ Ask (now table) (now index) r (now s) base (envOf (now env)) (lent (now run)) × (kindAt (records (now table)) r ≡ k) × Surveyed k ⌝ }
+    ensures { λ v. ⌜ Surveys (now (table .entry)) r k (now (s .entry)) (now (s .exit)) base (envOf (now (env .entry))) (lent (now (run .entry))) (counted v (now (cursor .exit))) (lent (now (run .exit))) ⌝ }
+{
+    let o = begin(table, index, r, s, base, env, run, k, cursor);
+    if is_refusal(o) {
+        return Tally {
+            word: o,
+            count: 0,
+            at: 0,
+        };
+    }
+    let due = wanted(run, k);
+    let all = cursor[COUNT];
+    let mut count = 0;
+    let mut at = 0;
+    let mut j = 0;
+    while j < all {
+        let h = holds(table, index, r, s, base, env, run, cursor, j);
+        if is_refusal(h) {
+            return Tally { word: h, count, at };
+        }
+        at = mark(h == YES, count, due, j, at);
+        count = tally(h == YES, count);
+        j += 1;
+    }
+    Tally {
+        word: VALUE,
+        count,
+        at,
+    }
+}
+
+// 16, 17: exists1 says whether exactly one binding satisfies; iota gives the value of its name under that one.
+fn single(
+    table: &[u8],
+    index: &Index,
+    r: usize,
+    s: &mut [u8],
+    base: usize,
+    env: &[u32; Env::NAMES],
+    run: &mut Run,
+    k: usize,
+) -> usize
+    requires { ⌜ Ask (now table) (now index) r (now s) base (envOf (now env)) (lent (now run)) × (kindAt (records (now table)) r ≡ k) × Unique k ⌝ }
+    ensures { λ o. ⌜ Evaluates (now (table .entry)) r (now (s .entry)) (now (s .exit)) base (envOf (now (env .entry))) (lent (now (run .entry))) (ending o (lent (now (run .exit)))) ⌝ }
+{
+    let mut cursor = [0; CELLS];
+    let v = survey(table, index, r, s, base, env, run, k, &mut cursor);
+    let o = v.word;
+    if is_refusal(o) {
+        return o;
+    }
+    if k == kinds::EXISTS1 {
+        values::put_boolean(s, base, v.count == 1);
+        return VALUE;
+    }
+    if v.count != 1 {
+        return refusal(Outcome::NOT_UNIQUE, r, 0);
+    }
+    fetch(table, index, r, s, base, env, &mut cursor, v.at);
+    VALUE
+}
+
+// 13: let-be. A choice among the satisfying bindings, and the body under the one chosen.
+fn let_be(
+    table: &[u8],
+    index: &Index,
+    r: usize,
+    s: &mut [u8],
+    base: usize,
+    env: &[u32; Env::NAMES],
+    run: &mut Run,
+) -> usize
+    requires { ⌜ Ask (now table) (now index) r (now s) base (envOf (now env)) (lent (now run)) × (kindAt (records (now table)) r ≡ 13) ⌝ }
+    ensures { λ o. ⌜ Evaluates (now (table .entry)) r (now (s .entry)) (now (s .exit)) base (envOf (now (env .entry))) (lent (now (run .entry))) (ending o (lent (now (run .exit)))) ⌝ }
+{
+    let mut cursor = [0; CELLS];
+    let k = kinds::LET_BE;
+    let v = survey(table, index, r, s, base, env, run, k, &mut cursor);
+    let o = v.word;
+    if is_refusal(o) {
+        return o;
+    }
+    let n = v.count;
+    if n == 0 {
+        return refusal(Outcome::NO_BINDING, r, 0);
+    }
+    let a = choose(run, n);
+    let Answer::Taken(_) = a else {
+        return unchosen(a, r, n);
+    };
+    let q = inside(
+        table,
+        index,
+        r,
+        s,
+        base,
+        env,
+        run,
+        false,
+        &mut cursor,
+        v.at,
+        3,
+        INSIDE,
+    );
+    if is_refusal(q) {
+        return q;
+    }
+    values::copy_value(s, base + INSIDE, base);
+    VALUE
+}
+
+// 12: let. The body under the binding of its pattern; where the pattern is loose, a choice among its bindings.
+fn let_in(
+    table: &[u8],
+    index: &Index,
+    r: usize,
+    s: &mut [u8],
+    base: usize,
+    env: &[u32; Env::NAMES],
+    run: &mut Run,
+) -> usize
+    requires { ⌜ Ask (now table) (now index) r (now s) base (envOf (now env)) (lent (now run)) × (kindAt (records (now table)) r ≡ 12) ⌝ }
+    ensures { λ o. ⌜ Evaluates (now (table .entry)) r (now (s .entry)) (now (s .exit)) base (envOf (now (env .entry))) (lent (now (run .entry))) (ending o (lent (now (run .exit)))) ⌝ }
+{
+    let mut cursor = [0; CELLS];
+    let o = begin(table, index, r, s, base, env, run, kinds::LET, &mut cursor);
+    if is_refusal(o) {
+        return o;
+    }
+    let n = cursor[COUNT];
+    if n == 0 {
+        return refusal(Outcome::NO_MATCH, r, 0);
+    }
+    let p = operand_from(table, index, r, PLAIN, 0);
+    let loose = is_loose_pattern(table, index, p);
+    let a = decide(run, n, loose);
+    let Answer::Taken(i) = a else {
+        return unchosen(a, r, n);
+    };
+    let q = inside(
+        table,
+        index,
+        r,
+        s,
+        base,
+        env,
+        run,
+        true,
+        &mut cursor,
+        i,
+        2,
+        INSIDE,
+    );
+    if is_refusal(q) {
+        return q;
+    }
+    values::copy_value(s, base + INSIDE, base);
+    VALUE
 }
 
 // ---- by the kind of a record

@@ -3,7 +3,7 @@ use Rattle.evaluator.proofs.Tables.{room-here}
 use Rattle.evaluator.proofs.Firsts.{binder-first}
 use Rattle.evaluator.proofs.Standing.{binder-has}
 use Rattle.evaluator.proofs.Entering.{entered}
-use Rattle.evaluator.proofs.Single.{fetch-field, fetch-name, fetch-puttable, fetch-copyable, fetch-done}
+use Rattle.evaluator.proofs.Unique.{fetch-field, fetch-name, fetch-puttable, fetch-copyable, fetch-done}
 use borrow.Author.Needs.{needs}
 use Rattle.evaluator.proofs.binding.fetch.Statement.{statement}
 use Rattle.evaluator.proofs.binding.fetch.Tie as tie

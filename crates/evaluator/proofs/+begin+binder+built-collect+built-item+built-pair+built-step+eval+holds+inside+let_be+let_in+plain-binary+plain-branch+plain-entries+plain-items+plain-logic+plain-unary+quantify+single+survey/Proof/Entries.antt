@@ -4,7 +4,7 @@ use native.Mathlib.Omega.{arith}
 use mathlib.Core.Path.{refl, _∙_}
 use borrow.Author.Needs.{needs}
 use Rattle.evaluator.proofs.Firsts.{plain-first}
-use Rattle.evaluator.proofs.+begin+binder+binders-let_be+binders-let_in+binders-quantify+binders-single+binders-survey+collected-collect+collected-item+collected-pair+collected-step+eval+holds+inside+plain-binary+plain-branch+plain-entries+plain-items+plain-logic+plain-unary.Proof.Common.{entries-at, eval-below}
+use Rattle.evaluator.proofs.+begin+binder+built-collect+built-item+built-pair+built-step+eval+holds+inside+let_be+let_in+plain-binary+plain-branch+plain-entries+plain-items+plain-logic+plain-unary+quantify+single+survey.Proof.Common.{entries-at, eval-below}
 use mathlib.Core.Logic.{inr}
 use Rattle.lists.specs.Lent.{lent}
 use Rattle.evaluator.proofs.Tables.{here, room-here}
@@ -19,7 +19,7 @@ use Rattle.tables.proofs.reading.operands_from.Reads as operands-from-reads
 use Rattle.tables.proofs.reading.operand_from.Reads as operand-from-reads
 use Rattle.collections.proofs.building.put_empty.Reads as put-empty-reads
 use Rattle.evaluator.proofs.words.is_refusal.Reads as is-refusal-reads
-use Rattle.evaluator.proofs.+begin+binder+binders-let_be+binders-let_in+binders-quantify+binders-single+binders-survey+collected-collect+collected-item+collected-pair+collected-step+eval+holds+inside+plain-binary+plain-branch+plain-entries+plain-items+plain-logic+plain-unary.Lts-plain-entries as entries-lts
+use Rattle.evaluator.proofs.+begin+binder+built-collect+built-item+built-pair+built-step+eval+holds+inside+let_be+let_in+plain-binary+plain-branch+plain-entries+plain-items+plain-logic+plain-unary+quantify+single+survey.Lts-plain-entries as entries-lts
 
 abbrev entries-calls : ℕ → entries-lts.Claims
 entries-calls t = (

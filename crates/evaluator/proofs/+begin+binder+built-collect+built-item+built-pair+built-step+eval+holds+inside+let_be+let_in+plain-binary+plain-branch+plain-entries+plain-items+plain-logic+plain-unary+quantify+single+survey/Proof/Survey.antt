@@ -6,7 +6,7 @@ use Rattle.evaluator.specs.Contract.{envOf}
 use Rattle.lists.specs.Lent.{lent}
 use mathlib.Core.Path.{refl, _∙_}
 use borrow.Author.Needs.{needs}
-use Rattle.evaluator.proofs.+begin+binder+binders-let_be+binders-let_in+binders-quantify+binders-single+binders-survey+collected-collect+collected-item+collected-pair+collected-step+eval+holds+inside+plain-binary+plain-branch+plain-entries+plain-items+plain-logic+plain-unary.Proof.Common.{survey-at, begin-below, holds-below}
+use Rattle.evaluator.proofs.+begin+binder+built-collect+built-item+built-pair+built-step+eval+holds+inside+let_be+let_in+plain-binary+plain-branch+plain-entries+plain-items+plain-logic+plain-unary+quantify+single+survey.Proof.Common.{survey-at, begin-below, holds-below}
 use Rattle.evaluator.proofs.Coming.{comes-sound}
 use Rattle.evaluator.proofs.Quieting.{quiet}
 use Rattle.evaluator.proofs.Surveying.{Counts, counts-end, counts-stands, counts-off, counts-more, survey-off, survey-start, survey-whole}
@@ -14,11 +14,11 @@ use Rattle.evaluator.proofs.Wording.{valued, unvalued}
 use Rattle.evaluator.proofs.begin.Reads as begin
 use Rattle.evaluator.proofs.holds.Reads as holds
 use Rattle.evaluator.proofs.binding.mark.Reads as mark-reads
-use Rattle.evaluator.proofs.binders.survey.Reads as survey
+use Rattle.evaluator.proofs.survey.Reads as survey
 use Rattle.evaluator.proofs.binding.tally.Reads as tally-reads
 use Rattle.lists.proofs.choosing.wanted.Reads as wanted-reads
 use Rattle.evaluator.proofs.words.is_refusal.Reads as is-refusal-reads
-use Rattle.evaluator.proofs.+begin+binder+binders-let_be+binders-let_in+binders-quantify+binders-single+binders-survey+collected-collect+collected-item+collected-pair+collected-step+eval+holds+inside+plain-binary+plain-branch+plain-entries+plain-items+plain-logic+plain-unary.Lts-binders-survey as survey-lts
+use Rattle.evaluator.proofs.+begin+binder+built-collect+built-item+built-pair+built-step+eval+holds+inside+let_be+let_in+plain-binary+plain-branch+plain-entries+plain-items+plain-logic+plain-unary+quantify+single+survey.Lts-survey as survey-lts
 
 abbrev survey-calls : ℕ → survey-lts.Claims
 survey-calls t = (

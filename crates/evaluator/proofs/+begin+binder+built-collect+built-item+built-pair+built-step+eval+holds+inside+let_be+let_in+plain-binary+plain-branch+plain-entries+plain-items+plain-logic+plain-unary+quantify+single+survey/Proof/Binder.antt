@@ -4,17 +4,17 @@ use native.Mathlib.Omega.{arith}
 use mathlib.Core.Path.{sym, _∙_}
 use mathlib.Core.Logic.{inl, inr, ⊎-elim}
 use borrow.Author.Needs.{needs}
-use Rattle.evaluator.proofs.+begin+binder+binders-let_be+binders-let_in+binders-quantify+binders-single+binders-survey+collected-collect+collected-item+collected-pair+collected-step+eval+holds+inside+plain-binary+plain-branch+plain-entries+plain-items+plain-logic+plain-unary.Proof.Common.{binder-at, collect-below, let-in-below, single-below, quantify-below, let-be-below}
+use Rattle.evaluator.proofs.+begin+binder+built-collect+built-item+built-pair+built-step+eval+holds+inside+let_be+let_in+plain-binary+plain-branch+plain-entries+plain-items+plain-logic+plain-unary+quantify+single+survey.Proof.Common.{binder-at, collect-below, let-in-below, single-below, quantify-below, let-be-below}
 use Rattle.evaluator.proofs.Members.{eval-last, from-eighteen, unmatched}
 use Rattle.evaluator.proofs.binding.is_quantifier.Reads as is-quantifier-reads
 use Rattle.evaluator.proofs.binder.Reads as binder
-use Rattle.evaluator.proofs.collected.collect.Reads as collect
-use Rattle.evaluator.proofs.binders.let_in.Reads as let-in
-use Rattle.evaluator.proofs.binders.single.Reads as single
-use Rattle.evaluator.proofs.binders.quantify.Reads as quantify
+use Rattle.evaluator.proofs.built.collect.Reads as collect
+use Rattle.evaluator.proofs.let_in.Reads as let-in
+use Rattle.evaluator.proofs.single.Reads as single
+use Rattle.evaluator.proofs.quantify.Reads as quantify
 use Rattle.evaluator.proofs.words.refusal.Reads as refusal-reads
-use Rattle.evaluator.proofs.binders.let_be.Reads as let-be
-use Rattle.evaluator.proofs.+begin+binder+binders-let_be+binders-let_in+binders-quantify+binders-single+binders-survey+collected-collect+collected-item+collected-pair+collected-step+eval+holds+inside+plain-binary+plain-branch+plain-entries+plain-items+plain-logic+plain-unary.Lts-binder as binder-lts
+use Rattle.evaluator.proofs.let_be.Reads as let-be
+use Rattle.evaluator.proofs.+begin+binder+built-collect+built-item+built-pair+built-step+eval+holds+inside+let_be+let_in+plain-binary+plain-branch+plain-entries+plain-items+plain-logic+plain-unary+quantify+single+survey.Lts-binder as binder-lts
 
 abbrev binder-calls : ℕ → binder-lts.Claims
 binder-calls t = (

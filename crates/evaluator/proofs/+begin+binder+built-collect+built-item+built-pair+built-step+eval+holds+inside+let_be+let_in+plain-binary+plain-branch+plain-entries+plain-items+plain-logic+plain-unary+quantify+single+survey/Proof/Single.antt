@@ -3,18 +3,18 @@ use Prim.Native.Nat.{ℕ}
 use native.Mathlib.Omega.{arith}
 use mathlib.Core.Path.{_∙_}
 use borrow.Author.Needs.{needs}
-use Rattle.evaluator.proofs.+begin+binder+binders-let_be+binders-let_in+binders-quantify+binders-single+binders-survey+collected-collect+collected-item+collected-pair+collected-step+eval+holds+inside+plain-binary+plain-branch+plain-entries+plain-items+plain-logic+plain-unary.Proof.Common.{single-at, survey-below}
+use Rattle.evaluator.proofs.+begin+binder+built-collect+built-item+built-pair+built-step+eval+holds+inside+let_be+let_in+plain-binary+plain-branch+plain-entries+plain-items+plain-logic+plain-unary+quantify+single+survey.Proof.Common.{single-at, survey-below}
 use Rattle.evaluator.proofs.Tables.{room-here}
 use Rattle.evaluator.proofs.Deciding.{surveys-as, seventeen, single-off}
-use Rattle.evaluator.proofs.Single.{exists1-done, iota-not, iota-stands, iota-done}
+use Rattle.evaluator.proofs.Unique.{exists1-done, iota-not, iota-stands, iota-done}
 use Rattle.evaluator.proofs.Wording.{valued, unvalued}
 use Rattle.evaluator.proofs.binding.fetch.Reads as fetch-reads
-use Rattle.evaluator.proofs.binders.single.Reads as single
+use Rattle.evaluator.proofs.single.Reads as single
 use Rattle.values.proofs.put_boolean.Reads as put-boolean-reads
 use Rattle.evaluator.proofs.words.refusal.Reads as refusal-reads
-use Rattle.evaluator.proofs.binders.survey.Reads as survey
+use Rattle.evaluator.proofs.survey.Reads as survey
 use Rattle.evaluator.proofs.words.is_refusal.Reads as is-refusal-reads
-use Rattle.evaluator.proofs.+begin+binder+binders-let_be+binders-let_in+binders-quantify+binders-single+binders-survey+collected-collect+collected-item+collected-pair+collected-step+eval+holds+inside+plain-binary+plain-branch+plain-entries+plain-items+plain-logic+plain-unary.Lts-binders-single as single-lts
+use Rattle.evaluator.proofs.+begin+binder+built-collect+built-item+built-pair+built-step+eval+holds+inside+let_be+let_in+plain-binary+plain-branch+plain-entries+plain-items+plain-logic+plain-unary+quantify+single+survey.Lts-single as single-lts
 
 abbrev single-calls : ℕ → single-lts.Claims
 single-calls t = (

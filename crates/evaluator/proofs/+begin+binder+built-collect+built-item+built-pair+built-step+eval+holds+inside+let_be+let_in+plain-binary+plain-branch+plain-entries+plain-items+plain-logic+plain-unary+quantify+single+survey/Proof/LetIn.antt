@@ -4,7 +4,7 @@ use native.Mathlib.Omega.{arith}
 use mathlib.Core.Path.{refl}
 use borrow.Author.Needs.{needs}
 use Rattle.evaluator.proofs.Firsts.{plain-first}
-use Rattle.evaluator.proofs.+begin+binder+binders-let_be+binders-let_in+binders-quantify+binders-single+binders-survey+collected-collect+collected-item+collected-pair+collected-step+eval+holds+inside+plain-binary+plain-branch+plain-entries+plain-items+plain-logic+plain-unary.Proof.Common.{let-in-at, begin-below, inside-below}
+use Rattle.evaluator.proofs.+begin+binder+built-collect+built-item+built-pair+built-step+eval+holds+inside+let_be+let_in+plain-binary+plain-branch+plain-entries+plain-items+plain-logic+plain-unary+quantify+single+survey.Proof.Common.{let-in-at, begin-below, inside-below}
 use Rattle.evaluator.proofs.Tables.{room-here}
 use Rattle.evaluator.proofs.Standing.{binder-has}
 use Rattle.evaluator.proofs.Deciding.{not-taken, let-in-binder, let-in-readable, picks-as}
@@ -15,12 +15,12 @@ use Rattle.values.proofs.copy_value.Reads as copy-value-reads
 use Rattle.lists.proofs.choosing.decide.Reads as decide-reads
 use Rattle.evaluator.proofs.inside.Reads as inside
 use Rattle.evaluator.proofs.looseness.is_loose_pattern.Reads as is-loose-pattern-reads
-use Rattle.evaluator.proofs.binders.let_in.Reads as let-in
+use Rattle.evaluator.proofs.let_in.Reads as let-in
 use Rattle.tables.proofs.reading.operand_from.Reads as operand-from-reads
 use Rattle.evaluator.proofs.words.refusal.Reads as refusal-reads
 use Rattle.evaluator.proofs.binding.unchosen.Reads as unchosen-reads
 use Rattle.evaluator.proofs.words.is_refusal.Reads as is-refusal-reads
-use Rattle.evaluator.proofs.+begin+binder+binders-let_be+binders-let_in+binders-quantify+binders-single+binders-survey+collected-collect+collected-item+collected-pair+collected-step+eval+holds+inside+plain-binary+plain-branch+plain-entries+plain-items+plain-logic+plain-unary.Lts-binders-let_in as let-in-lts
+use Rattle.evaluator.proofs.+begin+binder+built-collect+built-item+built-pair+built-step+eval+holds+inside+let_be+let_in+plain-binary+plain-branch+plain-entries+plain-items+plain-logic+plain-unary+quantify+single+survey.Lts-let_in as let-in-lts
 
 abbrev let-in-calls : ℕ → let-in-lts.Claims
 let-in-calls t = (

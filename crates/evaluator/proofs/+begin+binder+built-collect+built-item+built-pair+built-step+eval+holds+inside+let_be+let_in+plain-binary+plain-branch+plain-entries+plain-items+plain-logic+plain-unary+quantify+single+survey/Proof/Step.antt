@@ -3,17 +3,17 @@ use Prim.Native.Nat.{ℕ}
 use native.Mathlib.Omega.{arith}
 use borrow.Author.Needs.{needs}
 use mathlib.Core.Path.{refl, sym}
-use Rattle.evaluator.proofs.+begin+binder+binders-let_be+binders-let_in+binders-quantify+binders-single+binders-survey+collected-collect+collected-item+collected-pair+collected-step+eval+holds+inside+plain-binary+plain-branch+plain-entries+plain-items+plain-logic+plain-unary.Proof.Common.{step-at, holds-below, item-below, pair-below}
+use Rattle.evaluator.proofs.+begin+binder+built-collect+built-item+built-pair+built-step+eval+holds+inside+let_be+let_in+plain-binary+plain-branch+plain-entries+plain-items+plain-logic+plain-unary+quantify+single+survey.Proof.Common.{step-at, holds-below, item-below, pair-below}
 use borrow.Author.Tests.{eq-eqb, ne-eqb}
 use Rattle.evaluator.proofs.Extending.{extends-as, extended-as}
 use Rattle.evaluator.proofs.Adding.{step-off, step-false, step-extends, step-true}
 use Rattle.evaluator.proofs.Wording.{valued, unvalued}
 use Rattle.evaluator.proofs.holds.Reads as holds
-use Rattle.evaluator.proofs.collected.item.Reads as item
-use Rattle.evaluator.proofs.collected.pair.Reads as pair
-use Rattle.evaluator.proofs.collected.step.Reads as step
+use Rattle.evaluator.proofs.built.item.Reads as item
+use Rattle.evaluator.proofs.built.pair.Reads as pair
+use Rattle.evaluator.proofs.built.step.Reads as step
 use Rattle.evaluator.proofs.words.is_refusal.Reads as is-refusal-reads
-use Rattle.evaluator.proofs.+begin+binder+binders-let_be+binders-let_in+binders-quantify+binders-single+binders-survey+collected-collect+collected-item+collected-pair+collected-step+eval+holds+inside+plain-binary+plain-branch+plain-entries+plain-items+plain-logic+plain-unary.Lts-collected-step as step-lts
+use Rattle.evaluator.proofs.+begin+binder+built-collect+built-item+built-pair+built-step+eval+holds+inside+let_be+let_in+plain-binary+plain-branch+plain-entries+plain-items+plain-logic+plain-unary+quantify+single+survey.Lts-built-step as step-lts
 
 abbrev step-calls : ℕ → step-lts.Claims
 step-calls t = (

@@ -7,7 +7,7 @@ use native.Mathlib.Omega.{arith}
 use mathlib.Core.Path.{_≡_, refl, sym, subst}
 use borrow.Author.Needs.{needs}
 use Rattle.evaluator.proofs.Firsts.{plain-first}
-use Rattle.evaluator.proofs.+begin+binder+binders-let_be+binders-let_in+binders-quantify+binders-single+binders-survey+collected-collect+collected-item+collected-pair+collected-step+eval+holds+inside+plain-binary+plain-branch+plain-entries+plain-items+plain-logic+plain-unary.Proof.Common.{begin-at, eval-below}
+use Rattle.evaluator.proofs.+begin+binder+built-collect+built-item+built-pair+built-step+eval+holds+inside+let_be+let_in+plain-binary+plain-branch+plain-entries+plain-items+plain-logic+plain-unary+quantify+single+survey.Proof.Common.{begin-at, eval-below}
 use borrow.Author.Tests.{not-true, not-false}
 use Rattle.evaluator.specs.Binding.{Binder}
 use Rattle.evaluator.proofs.Tables.{room-here, small-place}
@@ -25,7 +25,7 @@ use Rattle.tables.proofs.reading.operand_from.Reads as operand-from-reads
 use Rattle.evaluator.proofs.words.refusal.Reads as refusal-reads
 use Rattle.evaluator.proofs.binding.suits.Reads as suits-reads
 use Rattle.evaluator.proofs.words.is_refusal.Reads as is-refusal-reads
-use Rattle.evaluator.proofs.+begin+binder+binders-let_be+binders-let_in+binders-quantify+binders-single+binders-survey+collected-collect+collected-item+collected-pair+collected-step+eval+holds+inside+plain-binary+plain-branch+plain-entries+plain-items+plain-logic+plain-unary.Lts-begin as begin-lts
+use Rattle.evaluator.proofs.+begin+binder+built-collect+built-item+built-pair+built-step+eval+holds+inside+let_be+let_in+plain-binary+plain-branch+plain-entries+plain-items+plain-logic+plain-unary+quantify+single+survey.Lts-begin as begin-lts
 
 abbrev begin-calls : ℕ → begin-lts.Claims
 begin-calls t = (

@@ -3,7 +3,7 @@ use Prim.Native.Nat.{ℕ}
 use native.Mathlib.Omega.{arith}
 use mathlib.Core.Path.{refl}
 use borrow.Author.Needs.{needs}
-use Rattle.evaluator.proofs.+begin+binder+binders-let_be+binders-let_in+binders-quantify+binders-single+binders-survey+collected-collect+collected-item+collected-pair+collected-step+eval+holds+inside+plain-binary+plain-branch+plain-entries+plain-items+plain-logic+plain-unary.Proof.Common.{let-be-at, inside-below, survey-below}
+use Rattle.evaluator.proofs.+begin+binder+built-collect+built-item+built-pair+built-step+eval+holds+inside+let_be+let_in+plain-binary+plain-branch+plain-entries+plain-items+plain-logic+plain-unary+quantify+single+survey.Proof.Common.{let-be-at, inside-below, survey-below}
 use Rattle.evaluator.proofs.Tables.{room-here}
 use Rattle.evaluator.proofs.Deciding.{not-taken, let-be-has}
 use Rattle.evaluator.proofs.Letting.{let-be-off, let-be-none, let-be-some, let-be-unchosen, let-be-stands, let-be-body-off, let-be-copyable, let-be-done}
@@ -12,11 +12,11 @@ use Rattle.lists.proofs.choosing.choose.Reads as choose-reads
 use Rattle.values.proofs.copy_value.Reads as copy-value-reads
 use Rattle.evaluator.proofs.inside.Reads as inside
 use Rattle.evaluator.proofs.words.refusal.Reads as refusal-reads
-use Rattle.evaluator.proofs.binders.let_be.Reads as let-be
-use Rattle.evaluator.proofs.binders.survey.Reads as survey
+use Rattle.evaluator.proofs.let_be.Reads as let-be
+use Rattle.evaluator.proofs.survey.Reads as survey
 use Rattle.evaluator.proofs.binding.unchosen.Reads as unchosen-reads
 use Rattle.evaluator.proofs.words.is_refusal.Reads as is-refusal-reads
-use Rattle.evaluator.proofs.+begin+binder+binders-let_be+binders-let_in+binders-quantify+binders-single+binders-survey+collected-collect+collected-item+collected-pair+collected-step+eval+holds+inside+plain-binary+plain-branch+plain-entries+plain-items+plain-logic+plain-unary.Lts-binders-let_be as let-be-lts
+use Rattle.evaluator.proofs.+begin+binder+built-collect+built-item+built-pair+built-step+eval+holds+inside+let_be+let_in+plain-binary+plain-branch+plain-entries+plain-items+plain-logic+plain-unary+quantify+single+survey.Lts-let_be as let-be-lts
 
 abbrev let-be-calls : ℕ → let-be-lts.Claims
 let-be-calls t = (

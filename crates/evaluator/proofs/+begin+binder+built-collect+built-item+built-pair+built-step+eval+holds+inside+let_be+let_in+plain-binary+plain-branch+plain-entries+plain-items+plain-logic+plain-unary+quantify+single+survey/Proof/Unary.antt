@@ -3,7 +3,7 @@ use Prim.Native.Nat.{ℕ}
 use native.Mathlib.Omega.{arith}
 use borrow.Author.Needs.{needs}
 use Rattle.evaluator.proofs.Firsts.{after-unary}
-use Rattle.evaluator.proofs.+begin+binder+binders-let_be+binders-let_in+binders-quantify+binders-single+binders-survey+collected-collect+collected-item+collected-pair+collected-step+eval+holds+inside+plain-binary+plain-branch+plain-entries+plain-items+plain-logic+plain-unary.Proof.Common.{unary-at, eval-below}
+use Rattle.evaluator.proofs.+begin+binder+built-collect+built-item+built-pair+built-step+eval+holds+inside+let_be+let_in+plain-binary+plain-branch+plain-entries+plain-items+plain-logic+plain-unary+quantify+single+survey.Proof.Common.{unary-at, eval-below}
 use Rattle.evaluator.proofs.Members.{first-asked, unary-has, unary-field, unary-off, unary-held, unary-done}
 use Rattle.evaluator.proofs.Wording.{valued, unvalued}
 use Rattle.evaluator.proofs.words.applied_word.Reads as applied-word-reads
@@ -13,7 +13,7 @@ use Rattle.tables.proofs.reading.noted_operand.Reads as noted-operand-reads
 use Rattle.evaluator.proofs.plain.unary.Reads as unary
 use Rattle.operations.proofs.unary.Reads as unary-reads
 use Rattle.evaluator.proofs.words.is_refusal.Reads as is-refusal-reads
-use Rattle.evaluator.proofs.+begin+binder+binders-let_be+binders-let_in+binders-quantify+binders-single+binders-survey+collected-collect+collected-item+collected-pair+collected-step+eval+holds+inside+plain-binary+plain-branch+plain-entries+plain-items+plain-logic+plain-unary.Lts-plain-unary as unary-lts
+use Rattle.evaluator.proofs.+begin+binder+built-collect+built-item+built-pair+built-step+eval+holds+inside+let_be+let_in+plain-binary+plain-branch+plain-entries+plain-items+plain-logic+plain-unary+quantify+single+survey.Lts-plain-unary as unary-lts
 
 abbrev unary-calls : ℕ → unary-lts.Claims
 unary-calls t = (

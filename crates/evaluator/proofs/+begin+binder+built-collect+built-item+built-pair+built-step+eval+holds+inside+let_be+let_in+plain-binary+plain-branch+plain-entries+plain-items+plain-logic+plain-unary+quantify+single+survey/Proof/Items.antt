@@ -4,7 +4,7 @@ use native.Mathlib.Omega.{arith}
 use mathlib.Core.Path.{refl, _∙_}
 use borrow.Author.Needs.{needs}
 use Rattle.evaluator.proofs.Firsts.{enumerated-first}
-use Rattle.evaluator.proofs.+begin+binder+binders-let_be+binders-let_in+binders-quantify+binders-single+binders-survey+collected-collect+collected-item+collected-pair+collected-step+eval+holds+inside+plain-binary+plain-branch+plain-entries+plain-items+plain-logic+plain-unary.Proof.Common.{items-at, eval-below}
+use Rattle.evaluator.proofs.+begin+binder+built-collect+built-item+built-pair+built-step+eval+holds+inside+let_be+let_in+plain-binary+plain-branch+plain-entries+plain-items+plain-logic+plain-unary+quantify+single+survey.Proof.Common.{items-at, eval-below}
 use mathlib.Core.Logic.{inl}
 use Rattle.lists.specs.Lent.{lent}
 use Rattle.evaluator.proofs.Tables.{here, room-here}
@@ -22,7 +22,7 @@ use Rattle.tables.proofs.reading.operand_from.Reads as operand-from-reads
 use Rattle.collections.proofs.building.put_empty.Reads as put-empty-reads
 use Rattle.evaluator.proofs.building.built_kind.Reads as built-kind-reads
 use Rattle.evaluator.proofs.words.is_refusal.Reads as is-refusal-reads
-use Rattle.evaluator.proofs.+begin+binder+binders-let_be+binders-let_in+binders-quantify+binders-single+binders-survey+collected-collect+collected-item+collected-pair+collected-step+eval+holds+inside+plain-binary+plain-branch+plain-entries+plain-items+plain-logic+plain-unary.Lts-plain-items as items-lts
+use Rattle.evaluator.proofs.+begin+binder+built-collect+built-item+built-pair+built-step+eval+holds+inside+let_be+let_in+plain-binary+plain-branch+plain-entries+plain-items+plain-logic+plain-unary+quantify+single+survey.Lts-plain-items as items-lts
 
 abbrev items-calls : ℕ → items-lts.Claims
 items-calls t = (

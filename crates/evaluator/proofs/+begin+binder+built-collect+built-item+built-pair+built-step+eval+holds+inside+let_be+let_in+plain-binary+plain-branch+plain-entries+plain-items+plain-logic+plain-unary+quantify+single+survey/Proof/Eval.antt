@@ -3,7 +3,7 @@ use Prim.Native.Nat.{ℕ}
 use native.Mathlib.Omega.{arith}
 use mathlib.Core.Path.{sym, _∙_}
 use borrow.Author.Needs.{needs}
-use Rattle.evaluator.proofs.+begin+binder+binders-let_be+binders-let_in+binders-quantify+binders-single+binders-survey+collected-collect+collected-item+collected-pair+collected-step+eval+holds+inside+plain-binary+plain-branch+plain-entries+plain-items+plain-logic+plain-unary.Proof.Common.{eval-at, binary-below, binder-below, branch-below, logic-below, items-below, entries-below, unary-below}
+use Rattle.evaluator.proofs.+begin+binder+built-collect+built-item+built-pair+built-step+eval+holds+inside+let_be+let_in+plain-binary+plain-branch+plain-entries+plain-items+plain-logic+plain-unary+quantify+single+survey.Proof.Common.{eval-at, binary-below, binder-below, branch-below, logic-below, items-below, entries-below, unary-below}
 use mathlib.Core.Logic.{inl, inr, ⊎-elim}
 use Rattle.evaluator.proofs.Tables.{here}
 use Rattle.evaluator.proofs.Members.{two-field, strictly, from-seven, left-over}
@@ -21,7 +21,7 @@ use Rattle.evaluator.proofs.leaves.name.Reads as name-reads
 use Rattle.evaluator.proofs.leaves.truth.Reads as truth-reads
 use Rattle.evaluator.proofs.plain.unary.Reads as unary
 use Rattle.evaluator.proofs.leaves.whole.Reads as whole-reads
-use Rattle.evaluator.proofs.+begin+binder+binders-let_be+binders-let_in+binders-quantify+binders-single+binders-survey+collected-collect+collected-item+collected-pair+collected-step+eval+holds+inside+plain-binary+plain-branch+plain-entries+plain-items+plain-logic+plain-unary.Lts-eval as eval-lts
+use Rattle.evaluator.proofs.+begin+binder+built-collect+built-item+built-pair+built-step+eval+holds+inside+let_be+let_in+plain-binary+plain-branch+plain-entries+plain-items+plain-logic+plain-unary+quantify+single+survey.Lts-eval as eval-lts
 
 abbrev eval-calls : ℕ → eval-lts.Claims
 eval-calls t = (

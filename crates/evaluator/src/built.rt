@@ -1,10 +1,10 @@
-// The comprehensions: what they build is collected binding by binding.
+// The comprehensions: what they build, binding by binding.
 use crate::begin;
 use crate::binding::BUILT;
 use crate::binding::CELLS;
 use crate::binding::COUNT;
 use crate::binding::INSIDE;
-use crate::binding::built;
+use crate::binding::built_word;
 use crate::building::add;
 use crate::building::built_kind;
 use crate::building::enter_next;
@@ -65,7 +65,7 @@ pub fn item(
         return o;
     }
     let bad = add(s, base + BUILT, enumeration_of(k), 0);
-    built(bad, r)
+    built_word(bad, r)
 }
 
 // 20: a key and a value, evaluated under binding j and entered into what is built.
@@ -118,7 +118,7 @@ pub fn pair(
         return q;
     }
     let bad = enter_next(s, base + BUILT, 0);
-    built(bad, r)
+    built_word(bad, r)
 }
 
 // One binding of a comprehension: its condition, and where that holds what is added.

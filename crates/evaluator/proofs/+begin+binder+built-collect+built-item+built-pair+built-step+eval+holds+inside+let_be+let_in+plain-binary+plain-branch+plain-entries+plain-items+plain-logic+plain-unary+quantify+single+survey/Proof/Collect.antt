@@ -3,21 +3,21 @@ use Prim.Native.Nat.{ℕ, _-_}
 use native.Mathlib.Omega.{arith}
 use mathlib.Core.Path.{refl}
 use borrow.Author.Needs.{needs}
-use Rattle.evaluator.proofs.+begin+binder+binders-let_be+binders-let_in+binders-quantify+binders-single+binders-survey+collected-collect+collected-item+collected-pair+collected-step+eval+holds+inside+plain-binary+plain-branch+plain-entries+plain-items+plain-logic+plain-unary.Proof.Common.{collect-at, begin-below, step-below}
+use Rattle.evaluator.proofs.+begin+binder+built-collect+built-item+built-pair+built-step+eval+holds+inside+let_be+let_in+plain-binary+plain-branch+plain-entries+plain-items+plain-logic+plain-unary+quantify+single+survey.Proof.Common.{collect-at, begin-below, step-below}
 use Rattle.lists.specs.Lent.{lent}
 use Rattle.evaluator.proofs.Comprehending.{Collects, collect-off, collect-room, collect-start, collect-whole, kind-as, collects-extends, collects-off, collects-more, collects-copyable, collects-end}
 use Rattle.evaluator.proofs.Wording.{valued, unvalued}
 use Rattle.evaluator.specs.Contract.{envOf}
 use Rattle.evaluator.specs.Binding.{cursorOf}
 use Rattle.evaluator.proofs.begin.Reads as begin
-use Rattle.evaluator.proofs.collected.collect.Reads as collect
+use Rattle.evaluator.proofs.built.collect.Reads as collect
 use Rattle.values.proofs.copy_value.Reads as copy-value-reads
 use Rattle.collections.proofs.building.put_empty.Reads as put-empty-reads
-use Rattle.evaluator.proofs.collected.step.Reads as step
+use Rattle.evaluator.proofs.built.step.Reads as step
 use Rattle.evaluator.proofs.building.enumeration_of.Reads as enumeration-of-reads
 use Rattle.evaluator.proofs.building.built_kind.Reads as built-kind-reads
 use Rattle.evaluator.proofs.words.is_refusal.Reads as is-refusal-reads
-use Rattle.evaluator.proofs.+begin+binder+binders-let_be+binders-let_in+binders-quantify+binders-single+binders-survey+collected-collect+collected-item+collected-pair+collected-step+eval+holds+inside+plain-binary+plain-branch+plain-entries+plain-items+plain-logic+plain-unary.Lts-collected-collect as collect-lts
+use Rattle.evaluator.proofs.+begin+binder+built-collect+built-item+built-pair+built-step+eval+holds+inside+let_be+let_in+plain-binary+plain-branch+plain-entries+plain-items+plain-logic+plain-unary+quantify+single+survey.Lts-built-collect as collect-lts
 
 abbrev collect-calls : ℕ → collect-lts.Claims
 collect-calls t = (

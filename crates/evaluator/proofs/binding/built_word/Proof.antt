@@ -1,8 +1,8 @@
 use mathlib.Core.Path.{refl}
 use borrow.Author.Tests.{eq-eqb, ne-eqb}
 use borrow.Author.Needs.{needs}
-use Rattle.evaluator.proofs.binding.built.Statement.{statement}
-use Rattle.evaluator.proofs.binding.built.Tie as tie
+use Rattle.evaluator.proofs.binding.built_word.Statement.{statement}
+use Rattle.evaluator.proofs.binding.built_word.Tie as tie
 
 -- src/binding.rt:167:9
 refusal-requires : tie.Need-refusal-requires
@@ -16,5 +16,5 @@ returns c = rw (eq-eqb (c .before .args .bad) 0 (c .if1 .taken)) refl
 returns-2 : tie.Need-returns-2
 returns-2 c = rw (ne-eqb (c .before .before .args .bad) 0 (c .before .if1 .left)) (c .refusal .ensures)
 
-pub built-spec : {M : Type 1} → statement M
-built-spec = tie.close (tie.spec refusal-requires returns returns-2)
+pub built-word-spec : {M : Type 1} → statement M
+built-word-spec = tie.close (tie.spec refusal-requires returns returns-2)

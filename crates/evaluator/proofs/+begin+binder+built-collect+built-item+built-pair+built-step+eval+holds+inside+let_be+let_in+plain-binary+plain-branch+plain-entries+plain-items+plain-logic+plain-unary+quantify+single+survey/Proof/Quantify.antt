@@ -4,7 +4,7 @@ use native.Mathlib.Omega.{arith}
 use mathlib.Core.Path.{refl, sym, ap, _∙_}
 use mathlib.Core.Logic.{⊎-elim}
 use borrow.Author.Needs.{needs}
-use Rattle.evaluator.proofs.+begin+binder+binders-let_be+binders-let_in+binders-quantify+binders-single+binders-survey+collected-collect+collected-item+collected-pair+collected-step+eval+holds+inside+plain-binary+plain-branch+plain-entries+plain-items+plain-logic+plain-unary.Proof.Common.{quantify-at, begin-below, holds-below}
+use Rattle.evaluator.proofs.+begin+binder+built-collect+built-item+built-pair+built-step+eval+holds+inside+let_be+let_in+plain-binary+plain-branch+plain-entries+plain-items+plain-logic+plain-unary+quantify+single+survey.Proof.Common.{quantify-at, begin-below, holds-below}
 use Rattle.lists.specs.Lent.{lent}
 use Rattle.evaluator.proofs.Tables.{room-here}
 use Rattle.evaluator.proofs.Deciding.{quantify-kind, begins-as, agrees-yes, agrees-no}
@@ -16,9 +16,9 @@ use Rattle.evaluator.proofs.binding.agree.Reads as agree-reads
 use Rattle.evaluator.proofs.begin.Reads as begin
 use Rattle.evaluator.proofs.holds.Reads as holds
 use Rattle.values.proofs.put_boolean.Reads as put-boolean-reads
-use Rattle.evaluator.proofs.binders.quantify.Reads as quantify
+use Rattle.evaluator.proofs.quantify.Reads as quantify
 use Rattle.evaluator.proofs.words.is_refusal.Reads as is-refusal-reads
-use Rattle.evaluator.proofs.+begin+binder+binders-let_be+binders-let_in+binders-quantify+binders-single+binders-survey+collected-collect+collected-item+collected-pair+collected-step+eval+holds+inside+plain-binary+plain-branch+plain-entries+plain-items+plain-logic+plain-unary.Lts-binders-quantify as quantify-lts
+use Rattle.evaluator.proofs.+begin+binder+built-collect+built-item+built-pair+built-step+eval+holds+inside+let_be+let_in+plain-binary+plain-branch+plain-entries+plain-items+plain-logic+plain-unary+quantify+single+survey.Lts-quantify as quantify-lts
 
 abbrev quantify-calls : ℕ → quantify-lts.Claims
 quantify-calls t = (
