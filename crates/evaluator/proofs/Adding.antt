@@ -28,7 +28,7 @@ use Rattle.evaluator.specs.declared.Outcome.the-variants.{Value as HasVa
 use Rattle.bindings.specs.declared.Cursor.{Cursor}
 use Rattle.parts.specs.declared.words.Env.{Env}
 use Rattle.evaluator.specs.Binding.{Placed, Held, Standing, Stands, Insides, holdsIn, Tests, kindFor, addsIn, stepIn, BuiltAt, Extends, Extended}
-use Rattle.evaluator.specs.Building.{Enumerated, builtKind, addTo, Pending, going, halted, AddHeld, AddsNext, EnterHeld, EntersNext}
+use Rattle.evaluator.specs.Building.{Enumerated, builtKind, enumerationFor, addTo, Pending, going, halted, AddHeld, AddsNext, EnterHeld, EntersNext}
 use Rattle.evaluator.specs.Contract.{Ask, Around, ended, Comes, meant, operandAt}
 use Rattle.evaluator.specs.Word.{outcomeOf, ending, wordOf, builtWord}
 use Rattle.evaluator.proofs.Wording.{decoded}
@@ -56,9 +56,9 @@ pending-comes {k} {t} {at} {bad} r low {c} h (halted {n = m} e l u) =
 
 -- ---- an element: 18, 19
 
-adds-one : (table : List ℕ) (r k : ℕ) (ρ : State) (vs : Items) (b : Binding) → (k ≡ 18) ⊎ (k ≡ 19) → addsIn table r k ρ vs b ≡ bind (meant table (operandAt table r 3) (under ρ b)) (λ v. builtAt r (addTo (k - 11) vs v))
-adds-one table r k ρ vs b (inl e) = ap (λ (m : ℕ). addsIn table r m ρ vs b) e ∙ ap (λ (m : ℕ). bind (meant table (operandAt table r 3) (under ρ b)) (λ v. builtAt r (addTo (m - 11) vs v))) (sym e)
-adds-one table r k ρ vs b (inr e) = ap (λ (m : ℕ). addsIn table r m ρ vs b) e ∙ ap (λ (m : ℕ). bind (meant table (operandAt table r 3) (under ρ b)) (λ v. builtAt r (addTo (m - 11) vs v))) (sym e)
+adds-one : (table : List ℕ) (r k : ℕ) (ρ : State) (vs : Items) (b : Binding) → (k ≡ 18) ⊎ (k ≡ 19) → addsIn table r k ρ vs b ≡ bind (meant table (operandAt table r 3) (under ρ b)) (λ v. builtAt r (addTo (enumerationFor k) vs v))
+adds-one table r k ρ vs b (inl e) = ap (λ (m : ℕ). addsIn table r m ρ vs b) e ∙ ap (λ (m : ℕ). bind (meant table (operandAt table r 3) (under ρ b)) (λ v. builtAt r (addTo (enumerationFor m) vs v))) (sym e)
+adds-one table r k ρ vs b (inr e) = ap (λ (m : ℕ). addsIn table r m ρ vs b) e ∙ ap (λ (m : ℕ). bind (meant table (operandAt table r 3) (under ρ b)) (λ v. builtAt r (addTo (enumerationFor m) vs v))) (sym e)
 
 module _ {table index : List ℕ} {r k : ℕ} {s : List ℕ} {base : ℕ} {env : Env} {c : Choices} {cursor : Cursor} {j : ℕ} (a : Extends table index r k s base env c cursor j) (one : (k ≡ 18) ⊎ (k ≡ 19)) {q : ℕ} (is-q : q ≡ operandAt table r 3)
     {t : List ℕ} {x : Placed} {d : Choices} (o : Insides table r q false s t base 1536 env c cursor j x d) where
@@ -72,18 +72,18 @@ module _ {table index : List ℕ} {r k : ℕ} {s : List ℕ} {base : ℕ} {env :
   item-off n bs vs h g =
       let w = o .turned bs h in
       record {
-        given = record { kept = w .given .kept; right = λ ρ u. comes-as (adds-one table r k ρ vs (getD bs j nothing) one) (comes-stop (λ v. builtAt r (addTo (k - 11) vs v)) (element h ρ u) n) };
+        given = record { kept = w .given .kept; right = λ ρ u. comes-as (adds-one table r k ρ vs (getD bs j nothing) one) (comes-stop (λ v. builtAt r (addTo (enumerationFor k) vs v)) (element h ρ u) n) };
         low = w .low;
         standing = w .standing;
       }
 
   module _ (v : x .outcome ≡ HasValue) where
-    enumerated : (k ≡ 18) ⊎ (k ≡ 19) → Enumerated (k - 11)
-    enumerated (inl e) = inl (omega arith)
-    enumerated (inr e) = inr (inl (omega arith))
+    enumerated : (k ≡ 18) ⊎ (k ≡ 19) → Enumerated (enumerationFor k)
+    enumerated (inl e) = inl (ap enumerationFor e)
+    enumerated (inr e) = inr (inl (ap enumerationFor e))
 
-    pub item-held : 3 < length (named (recordAt (records table) r)) → AddHeld (k - 11) t (base + 1024) 0
-    item-held l =
+    item-ready : 3 < length (named (recordAt (records table) r)) → AddHeld (enumerationFor k) t (base + 1024) 0
+    item-ready l =
         let (w, i) = comes-held (element (a .stands .standing) (a .stands .asked .state) (a .stands .asked .around)) v in
         record {
           which = enumerated one;
@@ -93,20 +93,26 @@ module _ {table index : List ℕ} {r k : ℕ} {s : List ℕ} {base : ℕ} {env :
           room = omega (arith, room-two (a .stands .asked) l, o .turned (a .stands .bindings) (a .stands .standing) .low .long);
         }
 
-    pub item-done : {u : List ℕ} {bad : ℕ} → AddsNext (k - 11) t u (base + 1024) 0 bad → {y : Placed} → y .outcome ≡ outcomeOf (builtWord bad r) → y .cursor ≡ x .cursor → Extended (addsIn table r k) table r k s u base env c cursor j y d
-    item-done {u} {bad} f {y} e e′ bs vs h g =
+    pub item-held : {m : ℕ} → m ≡ enumerationFor k → 3 < length (named (recordAt (records table) r)) → AddHeld m t (base + 1024) 0
+    item-held e l = subst (λ (n : ℕ). AddHeld n t (base + 1024) 0) (sym e) (item-ready l)
+
+    item-added : {u : List ℕ} {bad : ℕ} → AddsNext (enumerationFor k) t u (base + 1024) 0 bad → {y : Placed} → y .outcome ≡ outcomeOf (builtWord bad r) → y .cursor ≡ x .cursor → Extended (addsIn table r k) table r k s u base env c cursor j y d
+    item-added {u} {bad} f {y} e e′ bs vs h g =
         let w = o .turned bs h in
         record {
           given = record {
             kept = kept-then (w .given .kept) (kept-less (omega arith) (f .kept));
             right = λ ρ b. subst (λ (p : Outcome). Comes (addsIn table r k ρ vs (getD bs j nothing)) (BuiltAt k u base) c (ended p d)) (sym e)
                 (comes-as (adds-one table r k ρ vs (getD bs j nothing) one)
-                (comes-on (λ v. builtAt r (addTo (k - 11) vs v)) (element h ρ b) v (λ z i. pending-comes r (small-place (a .stands .asked)) (comes-sound (element h ρ b))
+                (comes-on (λ v. builtAt r (addTo (enumerationFor k) vs v)) (element h ρ b) v (λ z i. pending-comes r (small-place (a .stands .asked)) (comes-sound (element h ρ b))
                 (f .right (built vs) z (going refl (built-still g)) (subst (λ (n : ℕ). At t n z) (let m : base + 1536 ≡ base + 1024 + 512 = omega arith in m) i)))));
           };
           low = kept-then (w .low) (kept-less (omega arith) (f .kept));
           standing = subst (λ (p : Cursor). Standing table r false u base p bs) (sym e′) (standing-kept {n = base + 1024} (f .kept) (omega arith) (w .standing));
         }
+
+    pub item-done : {m : ℕ} → m ≡ enumerationFor k → {u : List ℕ} {bad : ℕ} → AddsNext m t u (base + 1024) 0 bad → {y : Placed} → y .outcome ≡ outcomeOf (builtWord bad r) → y .cursor ≡ x .cursor → Extended (addsIn table r k) table r k s u base env c cursor j y d
+    item-done e {u} {bad} f {y} p q = item-added (subst (λ (n : ℕ). AddsNext n t u (base + 1024) 0 bad) e f) {y = y} p q
 
 -- ---- a key and a value: 20
 

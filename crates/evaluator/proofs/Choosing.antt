@@ -15,7 +15,8 @@ use Rattle.choices.specs.Runs.{Came}
 use Rattle.choices.proofs.Came.{came-taken, came-many, came-short, came-beyond}
 use Rattle.patterns.specs.Binding.{Binding, nothing}
 use Rattle.meaning.specs.Meaning.{chosenBinding as chosen, matched, satisfied}
-use Rattle.evaluator.specs.Binding.{first, dueIn, answerNumber, answerCount, IsTaken}
+use Rattle.lists.specs.Choosing.{first, dueIn}
+use Rattle.evaluator.specs.Binding.{answerNumber, answerCount, IsTaken}
 
 -- ---- what is chosen
 

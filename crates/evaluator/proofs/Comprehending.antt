@@ -7,7 +7,7 @@ use native.Mathlib.Omega.{arith}
 use lib.ListN.{length, getD, drop}
 use lib.Seq.{drop-cons, drop-length}
 use borrow.Author.Tests.{ne-eqb}
-use Rattle.values.specs.Value.{Kind, number, Ascending, PairedFrom, everyOther, Shaped, Value, collection, Items, none}
+use Rattle.values.specs.Value.{Kind, number, Value, collection, Items, none}
 use Rattle.values.specs.Place.{At}
 use Rattle.values.specs.Contract.{Copyable, Copied}
 use Rattle.values.proofs.Records.{holds as held-at, one-value}
@@ -24,12 +24,15 @@ use Rattle.evaluator.specs.declared.Outcome.the-variants.{Value as HasVa
 use Rattle.bindings.specs.declared.Cursor.{Cursor}
 use Rattle.parts.specs.declared.words.Env.{Env}
 use Rattle.evaluator.specs.Binding.{Placed, Binder, wholly, listed, Standing, Begins, Turned, holdsIn, Comprehension, kindFor, addsIn, stepIn, BuiltAt, Extends, Extended}
+use Rattle.evaluator.specs.Building.{builtKind, enumerationFor}
 use Rattle.evaluator.specs.Contract.{Ask, Around, Evaluated, ended, Comes, gave, off, Gives, Evaluates, meant, valueAs}
 use Rattle.evaluator.proofs.Framing.{around-kept}
 use Rattle.evaluator.proofs.Coming.{value-refused, comes-sound, comes-held, comes-value}
 use Rattle.evaluator.proofs.Leading.{Leads, leads-start, leads-as}
 use Rattle.evaluator.proofs.Collecting.{building, building-end, building-off, building-on}
 use Rattle.evaluator.proofs.Standing.{standing-kept, standing-one}
+use Rattle.evaluator.proofs.Simple.{built-small}
+use Rattle.evaluator.proofs.Enumerating.{shaped-none}
 use Rattle.evaluator.proofs.Tables.{room-here}
 use Rattle.evaluator.proofs.Meant.{buildIn, mean-comprehension}
 use Rattle.evaluator.proofs.Opening.{leads-comes, ask-again, opened-off, opened-asked, opened-standing, opened-on}
@@ -156,16 +159,9 @@ module _ {table index : List ℕ} {r k : ℕ} {s₀ : List ℕ} {base : ℕ} {en
 
 -- ---- from the start
 
--- The number of the kind that is built.
-pub kind-number : (k : ℕ) → Comprehension k → (k - 15 ≡ number (kindFor k)) × Shaped (kindFor k) none
-unfolding Ascending PairedFrom everyOther
-kind-number k h = go (k - 18) (let z : k ≡ 18 + (k - 18) = omega (arith, h .0) in z)
-  where
-    go : (d : ℕ) → k ≡ 18 + d → (k - 15 ≡ number (kindFor k)) × Shaped (kindFor k) none
-    go zero z = subst (λ (m : ℕ). (m - 15 ≡ number (kindFor m)) × Shaped (kindFor m) none) (sym z) (refl, tt)
-    go (suc zero) z = subst (λ (m : ℕ). (m - 15 ≡ number (kindFor m)) × Shaped (kindFor m) none) (sym z) (refl, tt)
-    go (suc (suc zero)) z = subst (λ (m : ℕ). (m - 15 ≡ number (kindFor m)) × Shaped (kindFor m) none) (sym z) (refl, (tt, tt))
-    go (suc (suc (suc d))) z = absurd (omega (arith, h .1))
+-- The number of the kind that is built, by the enumeration that builds it.
+pub kind-as : (k : ℕ) {e m : ℕ} → e ≡ enumerationFor k → m ≡ number (builtKind e) → m ≡ number (kindFor k)
+kind-as k d q = q ∙ ap (λ (x : ℕ). number (builtKind x)) d
 
 module _ {table index : List ℕ} {r : ℕ} (k : ℕ) {s : List ℕ} {base : ℕ} {env : Env} {c : Choices} (a : Ask table index r s base env c) (d : kindAt (records table) r ≡ k) (h : Comprehension k)
     {t : List ℕ} {x : Placed} {c₁ : Choices} (g : Begins table r k s t base env c x c₁) where
@@ -175,28 +171,27 @@ module _ {table index : List ℕ} {r : ℕ} (k : ℕ) {s : List ℕ} {base : ℕ
   not-whole : wholly k ≡ false
   not-whole = ne-eqb k 12 (λ e. omega (arith, h .0))
 
-  pub comp-off : (x .outcome ≡ HasValue → ⊥) → Evaluates table r s t base env c (ended (x .outcome) c₁)
-  comp-off n = opened-off k a g (λ ρ. buildIn table r ρ k) equation n
+  pub collect-off : (x .outcome ≡ HasValue → ⊥) → Evaluates table r s t base env c (ended (x .outcome) c₁)
+  collect-off n = opened-off k a g (λ ρ. buildIn table r ρ k) equation n
 
-  pub comp-room : (base + 1024 + 4 ≤ length t) × (k - 15 < 65536)
-  comp-room = (omega (arith, room-here a, g .kept .long), omega (arith, h .1))
+  pub collect-room : {m : ℕ} → m ≡ number (kindFor k) → (base + 1024 + 4 ≤ length t) × (m < 65536)
+  collect-room e = (omega (arith, room-here a, g .kept .long), built-small (enumerationFor k) e)
 
-  module _ (v : x .outcome ≡ HasValue) {u : List ℕ} (o : Empties t u (base + 1024) (k - 15)) where
+  module _ (v : x .outcome ≡ HasValue) {m : ℕ} (is-m : m ≡ number (kindFor k)) {u : List ℕ} (o : Empties t u (base + 1024) m) where
     kept-empty : Kept t u (base + 1024)
     kept-empty = kept-outside (omega arith) (o .frame)
 
     standing-at : (bs : List Binding) × Standing table r false t base (x .cursor) bs
     standing-at = let (bs, w) = opened-standing k a g v in (bs, subst (λ (y : Bool). Standing table r y t base (x .cursor) bs) not-whole w)
 
-    pub comp-start : {n : ℕ} → n ≡ x .cursor .count → Collects table index r k u base env c₁ n u c₁ (x .cursor) 0
-    comp-start e =
+    pub collect-start : {n : ℕ} → n ≡ x .cursor .count → Collects table index r k u base env c₁ n u c₁ (x .cursor) 0
+    collect-start e =
         let (bs, w) = standing-at in
-        let z = kind-number k h in
-        collects-start (ask-again (opened-asked k a g v) (kept-less (omega arith) kept-empty) (opened-asked k a g v .sound)) d h (standing-kept kept-empty (omega arith) w) (o .right (kindFor k) (z .0) (z .1)) e
+        collects-start (ask-again (opened-asked k a g v) (kept-less (omega arith) kept-empty) (opened-asked k a g v .sound)) d h (standing-kept kept-empty (omega arith) w) (o .right (kindFor k) is-m (shaped-none (enumerationFor k))) e
 
     -- Whatever the loop comes to.
-    pub comp-whole : {bs : List Binding} → ((k : Cursor) (bs′ : List Binding) → Standing table r false u base k bs′ → bs′ ≡ bs) → {w : List ℕ} {P : Value → Type 0} {e : Evaluated} → Gives (λ ρ. buildIn table r ρ k bs) P u w base env c₁ e → Gives (meant table r) P s w base env c e
-    comp-whole {bs} only n =
+    pub collect-whole : {bs : List Binding} → ((k : Cursor) (bs′ : List Binding) → Standing table r false u base k bs′ → bs′ ≡ bs) → {w : List ℕ} {P : Value → Type 0} {e : Evaluated} → Gives (λ ρ. buildIn table r ρ k bs) P u w base env c₁ e → Gives (meant table r) P s w base env c e
+    collect-whole {bs} only n =
         let (bs′, w) = standing-at in
         opened-on k a g v (λ ρ. buildIn table r ρ k) equation
         (subst (λ (y : Bool). Standing table r y t base (x .cursor) bs) (sym not-whole) (subst (Standing table r false t base (x .cursor)) (only (x .cursor) bs′ (standing-kept kept-empty (omega arith) w)) w))

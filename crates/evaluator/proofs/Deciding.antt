@@ -25,9 +25,10 @@ use Rattle.patterns.specs.Read.{patternAt}
 use Rattle.meaning.specs.Laws.PatternLaws.{loose-is}
 use Rattle.parts.specs.declared.words.Env.{Env}
 use Rattle.evaluator.specs.declared.Outcome.the-variants.{Value as HasValue}
-use Rattle.evaluator.specs.Binding.{Placed, Counted, Binder, quantified, patternFor, Begins, agrees, IsTaken, Picks, Unique, Surveys}
+use Rattle.lists.specs.Choosing.{Picks}
+use Rattle.evaluator.specs.Binding.{Placed, Counted, Binder, quantified, patternFor, Begins, agrees, IsTaken, Unique, Surveys}
 use Rattle.evaluator.specs.Contract.{Ask, ended, Evaluates, operandAt}
-use Rattle.evaluator.proofs.Single.{exists1-off, iota-off}
+use Rattle.evaluator.proofs.Unique.{exists1-off, iota-off}
 use Rattle.evaluator.proofs.Tables.{has-operand}
 use Rattle.evaluator.proofs.Standing.{binder-readable}
 
@@ -74,20 +75,20 @@ begins-as {table} {r} {k} {m} {s} {t} {base} {env} {c} {d} {x} e g = subst (λ (
 -- ---- let and let-be
 
 module _ {table index : List ℕ} {r : ℕ} {s : List ℕ} {base : ℕ} {env : Env} {c : Choices} (a : Ask table index r s base env c) where
-  pub such-has : kindAt (records table) r ≡ 13 → HasOperand table index r 3
+  pub let-be-has : kindAt (records table) r ≡ 13 → HasOperand table index r 3
   unfolding shape
-  such-has e = has-operand a e 3 (omega arith)
+  let-be-has e = has-operand a e 3 (omega arith)
 
-  pub local-binder : kindAt (records table) r ≡ 12 → Binder (kindAt (records table) r)
-  local-binder e = subst Binder (sym e) (omega arith, omega arith)
+  pub let-in-binder : kindAt (records table) r ≡ 12 → Binder (kindAt (records table) r)
+  let-in-binder e = subst Binder (sym e) (omega arith, omega arith)
 
   module _ (is-12 : kindAt (records table) r ≡ 12) {p : ℕ} (is-p : p ≡ operandAt table r 0) where
-    pub local-readable : Fine (records table) × Here table index p
-    local-readable = let h = binder-readable a (local-binder is-12) is-p in (h .fine, h .here)
+    pub let-in-readable : Fine (records table) × Here table index p
+    let-in-readable = let h = binder-readable a (let-in-binder is-12) is-p in (h .fine, h .here)
 
     pub picks-as : {b : Bool} {c d : Choices} {n : ℕ} {x : Answer} → b ≡ looseIn (records table) p → Picks b c n x d → Picks (loose (patternFor table r)) c n x d
     picks-as {b} {c} {d} {n} {x} e k =
-        let h = binder-readable a (local-binder is-12) is-p in
+        let h = binder-readable a (let-in-binder is-12) is-p in
         subst (λ (y : Bool). Picks y c n x d) (e ∙ loose-is table (a .legal .count) (a .legal .ok) p (h .here .within) (h .pattern) ∙ ap (λ (m : ℕ). loose (patternAt (records table) m)) is-p) k
 
 -- ---- exists1 and iota
@@ -98,8 +99,8 @@ surveys-as {table} {r} {k} {m} {s} {t} {base} {env} {c} {d} {v} e g = subst (λ 
 pub seventeen : {k : ℕ} → Unique k → (k ≡ 16 → ⊥) → k ≡ 17
 seventeen u n = omega (arith, u .0, u .1)
 
-pub one-off : {table index : List ℕ} {r k : ℕ} {s : List ℕ} {base : ℕ} {env : Env} {c : Choices} (a : Ask table index r s base env c) → kindAt (records table) r ≡ k → Unique k → {t : List ℕ} {v : Counted} {c₁ : Choices} → Surveys table r k s t base env c v c₁ → (v .outcome ≡ HasValue → ⊥) → Evaluates table r s t base env c (ended (v .outcome) c₁)
-one-off {table} {r = r} {k = k} {s} {base} {env} {c} a d u {t} {v} {c₁} g h = go (ℕ-discrete k 16)
+pub single-off : {table index : List ℕ} {r k : ℕ} {s : List ℕ} {base : ℕ} {env : Env} {c : Choices} (a : Ask table index r s base env c) → kindAt (records table) r ≡ k → Unique k → {t : List ℕ} {v : Counted} {c₁ : Choices} → Surveys table r k s t base env c v c₁ → (v .outcome ≡ HasValue → ⊥) → Evaluates table r s t base env c (ended (v .outcome) c₁)
+single-off {table} {r = r} {k = k} {s} {base} {env} {c} a d u {t} {v} {c₁} g h = go (ℕ-discrete k 16)
   where
     go : Dec (k ≡ 16) → Evaluates table r s t base env c (ended (v .outcome) c₁)
     go (yes e) = exists1-off a (d ∙ e) (surveys-as e g) h
@@ -107,6 +108,6 @@ one-off {table} {r = r} {k = k} {s} {base} {env} {c} a d u {t} {v} {c₁} g h = 
 
 -- 14, 15
 
-pub quant-kind : {k : ℕ} (want : Bool) → k ≡ quantified want → Binder k
-quant-kind true e = (omega arith, omega arith)
-quant-kind false e = (omega arith, omega arith)
+pub quantify-kind : {k : ℕ} (want : Bool) → k ≡ quantified want → Binder k
+quantify-kind true e = (omega arith, omega arith)
+quantify-kind false e = (omega arith, omega arith)

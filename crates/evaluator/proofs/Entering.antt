@@ -27,7 +27,7 @@ use Rattle.evaluator.specs.declared.Truth.{Truth}
 use Rattle.evaluator.specs.declared.Truth.the-variants.{True, False, Other}
 use Rattle.bindings.specs.declared.Cursor.{Cursor}
 use Rattle.parts.specs.declared.words.Env.{Env}
-use Rattle.evaluator.specs.Binding.{Placed, Held, Standing, Stands, Nameless, Enters, Upward, Insides, holdsIn, Tests}
+use Rattle.evaluator.specs.Binding.{Placed, Held, Standing, Stands, Nameless, BindsNames, Upward, Insides, holdsIn, Tests}
 use Rattle.bindings.specs.Window.{Values, CellsAt, placeOf, InWindow, Reachable, Reached, Underneath, UnderBinding}
 use Rattle.bindings.specs.Laws.Window.{all-free}
 use Rattle.evaluator.specs.Contract.{Ask, Around, Evaluated, ended, Comes, Gives, Evaluates, meant, operandAt}
@@ -109,14 +109,14 @@ module _ {table index : List ℕ} {r : ℕ} {whole : Bool} {s : List ℕ} {base 
 
 -- ---- entering a binding, as one call
 
-pub entering : {table : List ℕ} {r p : ℕ} → p ≡ operandAt table r 0 → {whole : Bool} {s t : List ℕ} {base : ℕ} {env : Env} {cursor : Cursor} {j : ℕ} {near : Cursor} {inner : Env} → Reached table p s t base whole (base + 512) cursor j near → UnderBinding t (base + 512) near j env inner → Enters table r whole s t base env cursor j near inner
+pub entering : {table : List ℕ} {r p : ℕ} → p ≡ operandAt table r 0 → {whole : Bool} {s t : List ℕ} {base : ℕ} {env : Env} {cursor : Cursor} {j : ℕ} {near : Cursor} {inner : Env} → Reached table p s t base whole (base + 512) cursor j near → UnderBinding t (base + 512) near j env inner → BindsNames table r whole s t base env cursor j near inner
 entering {table} e {whole} {s} {t} {base} {cursor = cursor} {j} {near} h u = record { reached = subst (λ (m : ℕ). Reached table m s t base whole (base + 512) cursor j near) e h; under = u }
 
-pub entered : {table : List ℕ} {r p : ℕ} → p ≡ operandAt table r 0 → {whole : Bool} {s t : List ℕ} {base : ℕ} {env : Env} {cursor : Cursor} {j : ℕ} {near : Cursor} {inner : Env} → Enters table r whole s t base env cursor j near inner → Reached table p s t base whole (base + 512) cursor j near
+pub entered : {table : List ℕ} {r p : ℕ} → p ≡ operandAt table r 0 → {whole : Bool} {s t : List ℕ} {base : ℕ} {env : Env} {cursor : Cursor} {j : ℕ} {near : Cursor} {inner : Env} → BindsNames table r whole s t base env cursor j near inner → Reached table p s t base whole (base + 512) cursor j near
 entered {table} e {whole} {s} {t} {base} {cursor = cursor} {j} {near} h = subst (λ (m : ℕ). Reached table m s t base whole (base + 512) cursor j near) (sym e) (h .reached)
 
 -- Under a binding without names, which stands in the window, nothing is to be entered.
-pub nameless-enters : {table index : List ℕ} {r : ℕ} {whole : Bool} {s : List ℕ} {base : ℕ} {env : Env} {c : Choices} {cursor : Cursor} {j : ℕ} → Stands table index r whole s base env c cursor j → Nameless cursor → Enters table r whole s s base env cursor j cursor env
+pub nameless-enters : {table index : List ℕ} {r : ℕ} {whole : Bool} {s : List ℕ} {base : ℕ} {env : Env} {c : Choices} {cursor : Cursor} {j : ℕ} → Stands table index r whole s base env c cursor j → Nameless cursor → BindsNames table r whole s s base env cursor j cursor env
 nameless-enters {s = s} {base = base} {env = env} {cursor = cursor} {j = j} a n = record {
   reached = record { outside = record { long = refl; below = refl; above = refl }; count = refl; window-is = λ vs bs i f w. w; within = within };
   under = record {

@@ -11,7 +11,7 @@ use lib.ListN.{length, getD, drop}
 use lib.Seq.{drop-cons, drop-length}
 use borrow.Author.Tests.{eq-eqb, ne-eqb, eqb-true}
 use Rattle.prelude.proofs.Absurd.{impossible}
-use Rattle.values.specs.Value.{Kind, set, sequence, map, tuple, count, sizes, PairedFrom, everyOther, Ascending, Value, collection, Items, none, more, valueLimit}
+use Rattle.values.specs.Value.{Kind, number, Shaped, set, sequence, map, tuple, count, sizes, PairedFrom, everyOther, Ascending, Value, collection, Items, none, more, valueLimit}
 use Rattle.values.specs.Items.{snoc}
 use Rattle.values.specs.Place.{At}
 use Rattle.values.proofs.Records.{holds}
@@ -35,7 +35,7 @@ use Rattle.evaluator.specs.declared.Outcome.{Outcome}
 use Rattle.evaluator.specs.declared.Outcome.the-variants.{Value as HasValue}
 use Rattle.parts.specs.declared.words.Env.{Env}
 use Rattle.evaluator.specs.Contract.{Evaluated, ended, Ask, Around, Gives, Comes, gave, off, meant, level}
-use Rattle.evaluator.specs.Building.{Enumerated, builtKind, finalKind, startedAs, addTo, Pending, going, halted, AddHeld, AddsNext, EnterHeld, EntersNext, ShapedAs, Finishable, Answers, valued, unvalued, Finishes}
+use Rattle.evaluator.specs.Building.{Enumerated, builtKind, finalKind, addTo, Pending, going, halted, AddHeld, AddsNext, EnterHeld, EntersNext, ShapedAs, Finishable, Answers, valued, unvalued, Finishes}
 use Rattle.evaluator.proofs.Leading.{Leads, leads-start, leads-as}
 use Rattle.evaluator.proofs.Framing.{around-kept, around-up, at-kept}
 use Rattle.evaluator.proofs.Coming.{comes-held, leads-comes, leads-stop, leads-on}
@@ -195,12 +195,15 @@ pub record Building (table index : List ℕ) (r : ℕ) (s₀ : List ℕ) (base :
   pub kept : Kept s₀ s base
   pub right : (ρ : State) → Around s₀ base env ρ → Going table r k base c₀ ρ s c bad i
 
-empty-shaped : (k : ℕ) → Listed k → (t : List ℕ) (base : ℕ) {s : List ℕ} {m : ℕ} → (k ≡ 9 → m ≡ 5) → (Enumerated k → m ≡ startedAs k) → Empties s t base m → At t base (collection (builtKind k) none)
+-- No items are in the shape of what is built.
+pub shaped-none : (k : ℕ) → Shaped (builtKind k) none
 unfolding Ascending PairedFrom everyOther
-empty-shaped k (inr e) t base d d′ h = rw (eq-eqb k 9 e, ne-eqb k 7 (λ q. omega arith)) (h .right map (d e) (tt, tt))
-empty-shaped k (inl (inl e)) t base d d′ h = rw (eq-eqb k 7 e) (h .right set (d′ (inl e) ∙ rw (eq-eqb k 7 e) refl) tt)
-empty-shaped k (inl (inr (inl e))) t base d d′ h = rw (ne-eqb k 7 (λ q. omega arith), ne-eqb k 9 (λ q. omega arith)) (h .right sequence (d′ (inr (inl e)) ∙ rw (ne-eqb k 7 (λ q. omega arith)) refl) tt)
-empty-shaped k (inl (inr (inr e))) t base d d′ h = rw (ne-eqb k 7 (λ q. omega arith), ne-eqb k 9 (λ q. omega arith)) (h .right sequence (d′ (inr (inr e)) ∙ rw (ne-eqb k 7 (λ q. omega arith)) refl) tt)
+shaped-none k = go (eqb k 7) (eqb k 9)
+  where
+    go : (a b : Bool) → Shaped (cond a set (cond b map sequence)) none
+    go true b = tt
+    go false true = (tt, tt)
+    go false false = tt
 
 pub empties-kept : {s t : List ℕ} {base m : ℕ} → Empties s t base m → Kept s t base
 empties-kept h = kept-outside (omega arith) (h .frame)
@@ -212,8 +215,8 @@ asked-kept k a = record { legal = a .legal; within = a .within; room = omega (ar
 pub from-entry : {m : State → Tree Value} {P : Value → Type 0} {s t u : List ℕ} {base : ℕ} {env : Env} {c : Choices} {e : Evaluated} → Kept s t base → Gives m P t u base env c e → Gives m P s u base env c e
 from-entry k g = record { kept = kept-then k (g .kept); right = λ ρ a. g .right ρ (around-kept k a) }
 
-pub building-start : {table index : List ℕ} {r : ℕ} {s t : List ℕ} {base : ℕ} {env : Env} {c : Choices} {k n m : ℕ} → Ask table index r s base env c → kindAt (records table) r ≡ k → Listed k → n ≡ length (named (recordAt (records table) r)) → (k ≡ 9 → m ≡ 5) → (Enumerated k → m ≡ startedAs k) → Empties s t base m → Building table index r t base env k n c t c 0 0
-building-start {t = t} {base = base} {c = c} {k = k} a d w q z z′ h =
+pub building-start : {table index : List ℕ} {r : ℕ} {s t : List ℕ} {base : ℕ} {env : Env} {c : Choices} {k n m : ℕ} → Ask table index r s base env c → kindAt (records table) r ≡ k → Listed k → n ≡ length (named (recordAt (records table) r)) → m ≡ number (builtKind k) → Empties s t base m → Building table index r t base env k n c t c 0 0
+building-start {t = t} {base = base} {c = c} {k = k} a d w q z h =
     record {
       asked = asked-kept (empties-kept h) a;
       kind-is = d;
@@ -222,7 +225,7 @@ building-start {t = t} {base = base} {c = c} {k = k} a d w q z z′ h =
       within = omega arith;
       even = λ e. refl;
       kept = kept-same t base;
-      right = λ ρ u. record { so-far = built none; pending = going refl (empty-shaped k w t base z z′ h); tallied = tallied-none k; leads = leads-start (a .sound) (rest-all a d w ρ) };
+      right = λ ρ u. record { so-far = built none; pending = going refl (h .right (builtKind k) z (shaped-none k)); tallied = tallied-none k; leads = leads-start (a .sound) (rest-all a d w ρ) };
     }
 
 module _ {table index : List ℕ} {r : ℕ} {s₀ : List ℕ} {base : ℕ} {env : Env} {k n : ℕ} {c₀ : Choices} {s : List ℕ} {c : Choices} {bad i : ℕ} (b : Building table index r s₀ base env k n c₀ s c bad i) where

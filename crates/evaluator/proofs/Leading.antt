@@ -2,7 +2,7 @@
 use mathlib.Core.Path.{_≡_, ap, _∙_}
 use Prim.Native.Nat.{ℕ}
 use Rattle.choices.specs.State.{Choices, view, Invariant}
-use Rattle.choices.specs.Tree.{Tree, give, stop, choose, bind, Final, result, refuses}
+use Rattle.choices.specs.Tree.{Tree, bind, Final, result, refuses}
 use Rattle.choices.specs.Runs.{runOn, Came}
 use Rattle.choices.proofs.Runs.{bind-ran}
 use Rattle.choices.proofs.Came.{came-off}
@@ -30,15 +30,3 @@ module _ {A : Type 0} {whole : Tree A} {c : Choices} where
 
     pub leads-off : {n p k : ℕ} → Came t d (refuses n p k) e → Came whole c (refuses n p k) e
     leads-off w = leads-came l (came-off t g w)
-
--- ---- a tree without a choice
-
-abbrev pub Leaf : {A : Type 0} → Tree A → Type 0
-Leaf (give a) = Unit {0}
-Leaf (stop n p) = Unit {0}
-Leaf (choose p n ways) = ⊥
-
-pub leaf-bind : {A B : Type 0} (t : Tree A) (g : A → Tree B) → Leaf t → ((a : A) → Leaf (g a)) → Leaf (bind t g)
-leaf-bind (give a) g h k = k a
-leaf-bind (stop n p) g h k = tt
-leaf-bind (choose p n ways) g h k = absurd h

@@ -26,7 +26,8 @@ use Rattle.evaluator.specs.declared.Outcome.{Outcome}
 use Rattle.evaluator.specs.declared.Outcome.the-variants.{Value as HasValue, Refused}
 use Rattle.bindings.specs.declared.Cursor.{Cursor}
 use Rattle.parts.specs.declared.words.Env.{Env}
-use Rattle.evaluator.specs.Binding.{Placed, Counted, Binder, patternFor, listed, Standing, Begins, Stands, Insides, dueIn, Marked, Surveys, Picks, loosely, plainly, answerNumber, answerCount, IsTaken}
+use Rattle.lists.specs.Choosing.{dueIn, Picks, loosely, plainly}
+use Rattle.evaluator.specs.Binding.{Placed, Counted, Binder, patternFor, listed, Standing, Begins, Stands, Insides, Marked, Surveys, answerNumber, answerCount, IsTaken}
 use Rattle.evaluator.specs.Word.{ending, wordOf, unchosenWord}
 use Rattle.evaluator.proofs.Wording.{refused-at, word-unchosen}
 use Rattle.evaluator.proofs.Tables.{small-place}
@@ -79,8 +80,8 @@ module _ (r : ℕ) (bs : List Binding) (body : Binding → Tree Value) {P : Valu
 
 module _ {table index : List ℕ} {r : ℕ} {s : List ℕ} {base : ℕ} {env : Env} {c : Choices} (a : Ask table index r s base env c) (is-13 : kindAt (records table) r ≡ 13)
     {t : List ℕ} {v : Counted} {c₁ : Choices} (g : Surveys table r 13 s t base env c v c₁) where
-  pub such-off : (v .outcome ≡ HasValue → ⊥) → Evaluates table r s t base env c (ended (v .outcome) c₁)
-  such-off h = record { kept = g .kept; right = λ ρ u. comes-as (mean-let-be (a .legal) r ρ is-13) (comes-stop (suchIn table r ρ) (g .right ρ u) h) }
+  pub let-be-off : (v .outcome ≡ HasValue → ⊥) → Evaluates table r s t base env c (ended (v .outcome) c₁)
+  let-be-off h = record { kept = g .kept; right = λ ρ u. comes-as (mean-let-be (a .legal) r ρ is-13) (comes-stop (suchIn table r ρ) (g .right ρ u) h) }
 
   module _ (h : v .outcome ≡ HasValue) where
     abbrev Found : List Binding → Type 0
@@ -100,31 +101,31 @@ module _ {table index : List ℕ} {r : ℕ} {s : List ℕ} {base : ℕ} {env : E
     the-found : (sat : List Binding) × Found sat
     the-found = comes-held (g .right (a .state) (a .around)) h
 
-    pub such-none : v .count ≡ 0 → {w : ℕ} → w ≡ wordOf 24 r 0 → Evaluates table r s t base env c (ending w c₁)
-    such-none z d =
+    pub let-be-none : v .count ≡ 0 → {w : ℕ} → w ≡ wordOf 24 r 0 → Evaluates table r s t base env c (ending w c₁)
+    let-be-none z d =
         refused-at 24 (omega arith) a d
         (onward (record { long = refl; below = refl })
         (λ ρ u sat w. comes-as (ap (λ (m : Tree Binding). bind m (bodyIn table r ρ 3)) (satisfied-none r sat (omega (arith, w .marks .count)))) (comes-refused 24 r sound-now)))
 
     module _ (z : v .count ≡ 0 → ⊥) where
-      pub such-some : Invariant c₁ × (0 < v .count) × (v .count < 256)
-      such-some = let (sat, w) = the-found in (sound-now, positive (v .count) z, omega (arith, w .few, w .standing .window .count, w .standing .window .few))
+      pub let-be-some : Invariant c₁ × (0 < v .count) × (v .count < 256)
+      let-be-some = let (sat, w) = the-found in (sound-now, positive (v .count) z, omega (arith, w .few, w .standing .window .count, w .standing .window .few))
 
       module _ {x : Answer} {c₂ : Choices} (k : Chosen c₁ (v .count) (record { answer = x; state = c₂ })) where
         chosen-is : (ρ : State) (sat : List Binding) → Found sat → suchIn table r ρ sat ≡ bind (chosen r sat) (bodyIn table r ρ 3)
-        chosen-is ρ sat w = ap (λ (m : Tree Binding). bind m (bodyIn table r ρ 3)) (satisfied-some r sat (omega (arith, w .marks .count, such-some .1)))
+        chosen-is ρ sat w = ap (λ (m : Tree Binding). bind m (bodyIn table r ρ 3)) (satisfied-some r sat (omega (arith, w .marks .count, let-be-some .1)))
 
-        pub such-unchosen : (IsTaken x → ⊥) → {o : ℕ} → o ≡ unchosenWord x r (v .count) → Evaluates table r s t base env c (ending o c₂)
-        such-unchosen n d =
-            let y = word-unchosen x r (v .count) n (small-place a) (omega (arith, such-some .2)) d in
+        pub let-be-unchosen : (IsTaken x → ⊥) → {o : ℕ} → o ≡ unchosenWord x r (v .count) → Evaluates table r s t base env c (ending o c₂)
+        let-be-unchosen n d =
+            let y = word-unchosen x r (v .count) n (small-place a) (omega (arith, let-be-some .2)) d in
             onward (record { long = refl; below = refl }) (λ ρ u sat w. comes-as (chosen-is ρ sat w) (comes-untaken r sat (bodyIn table r ρ 3) (w .marks .count) k n y))
 
         module _ {i : ℕ} (e : x ≡ Taken i) where
           due-below : dueIn c₁ < v .count
-          due-below = subst (λ (m : ℕ). m < v .count) (chosen-due c₁ (v .count) i (record { answer = x; state = c₂ }) k e) (chosen-below c₁ (v .count) i (record { answer = x; state = c₂ }) (such-some .1) k e)
+          due-below = subst (λ (m : ℕ). m < v .count) (chosen-due c₁ (v .count) i (record { answer = x; state = c₂ }) k e) (chosen-below c₁ (v .count) i (record { answer = x; state = c₂ }) (let-be-some .1) k e)
 
-          pub such-stands : Stands table index r false t base env c₂ (v .cursor) (v .at)
-          such-stands =
+          pub let-be-stands : Stands table index r false t base env c₂ (v .cursor) (v .at)
+          let-be-stands =
               let (sat, w) = the-found in
               record { asked = ask-again a (g .kept) (k .sound); binder = subst Binder (sym is-13) (omega arith, omega arith); bindings = w .bindings; standing = w .standing; below = w .marks .within due-below }
 
@@ -140,15 +141,15 @@ module _ {table index : List ℕ} {r : ℕ} {s : List ℕ} {base : ℕ} {env : E
                 (subst (λ (β : Binding). Comes (bodyIn table r ρ 3 β) P c₂ e′) (same-binding sat m)
                 (subst (λ (n : ℕ). Comes (meant table n (under ρ (getD (m .bindings) (v .at) nothing))) P c₂ e′) is-q (f (m .bindings) (m .standing) .right ρ b)))))
 
-            pub such-body-off : (y .outcome ≡ HasValue → ⊥) → Evaluates table r s u base env c (ended (y .outcome) c₃)
-            such-body-off n = let (sat, m) = the-found in from-body (w .turned (m .bindings) (m .standing) .given .kept) (λ bs z. body-off w z n)
+            pub let-be-body-off : (y .outcome ≡ HasValue → ⊥) → Evaluates table r s u base env c (ended (y .outcome) c₃)
+            let-be-body-off n = let (sat, m) = the-found in from-body (w .turned (m .bindings) (m .standing) .given .kept) (λ bs z. body-off w z n)
 
             module _ (p : y .outcome ≡ HasValue) where
-              pub such-copyable : Copyable u (base + 1536) base
-              such-copyable = let (sat, m) = the-found in body-copyable w (m .standing) p (a .state) (around-kept (g .kept) (a .around))
+              pub let-be-copyable : Copyable u (base + 1536) base
+              let-be-copyable = let (sat, m) = the-found in body-copyable w (m .standing) p (a .state) (around-kept (g .kept) (a .around))
 
-              pub such-done : {u′ : List ℕ} {n : ℕ} → Copied u u′ (base + 1536) base n → Evaluates table r s u′ base env c (valueAs c₃)
-              such-done o = let (sat, m) = the-found in from-body (kept-then (w .turned (m .bindings) (m .standing) .given .kept) (copied-kept o)) (λ bs z. body-done w z p o)
+              pub let-be-done : {u′ : List ℕ} {n : ℕ} → Copied u u′ (base + 1536) base n → Evaluates table r s u′ base env c (valueAs c₃)
+              let-be-done o = let (sat, m) = the-found in from-body (kept-then (w .turned (m .bindings) (m .standing) .given .kept) (copied-kept o)) (λ bs z. body-done w z p o)
 
 -- ---- let
 
@@ -157,8 +158,8 @@ module _ {table index : List ℕ} {r : ℕ} {s : List ℕ} {base : ℕ} {env : E
   equation : (ρ : State) → meant table r ρ ≡ bind (listed table r 12 ρ) (letIn table r ρ)
   equation ρ = mean-let (a .legal) r ρ is-12
 
-  pub local-off : (x .outcome ≡ HasValue → ⊥) → Evaluates table r s t base env c (ended (x .outcome) c₁)
-  local-off h = opened-off 12 a g (letIn table r) equation h
+  pub let-in-off : (x .outcome ≡ HasValue → ⊥) → Evaluates table r s t base env c (ended (x .outcome) c₁)
+  let-in-off h = opened-off 12 a g (letIn table r) equation h
 
   module _ (h : x .outcome ≡ HasValue) where
     sound-start : Invariant c₁
@@ -167,8 +168,8 @@ module _ {table index : List ℕ} {r : ℕ} {s : List ℕ} {base : ℕ} {env : E
     from-list : {bs : List Binding} → Standing table r true t base (x .cursor) bs → {u : List ℕ} {P : Value → Type 0} {e : Evaluated} → Gives (λ ρ. letIn table r ρ bs) P t u base env c₁ e → Gives (meant table r) P s u base env c e
     from-list w n = opened-on 12 a g h (letIn table r) equation w n
 
-    pub local-none : x .cursor .count ≡ 0 → {o : ℕ} → o ≡ wordOf 23 r 0 → Evaluates table r s t base env c (ending o c₁)
-    local-none z d =
+    pub let-in-none : x .cursor .count ≡ 0 → {o : ℕ} → o ≡ wordOf 23 r 0 → Evaluates table r s t base env c (ending o c₁)
+    let-in-none z d =
         let (bs, w) = opened-standing 12 a g h in
         refused-at 23 (omega arith) a d
         (from-list w
@@ -178,42 +179,42 @@ module _ {table index : List ℕ} {r : ℕ} {s : List ℕ} {base : ℕ} {env : E
         }))
 
     module _ (z : x .cursor .count ≡ 0 → ⊥) where
-      pub local-some : Invariant c₁ × (0 < x .cursor .count) × (x .cursor .count < 256)
-      local-some = let (bs, w) = opened-standing 12 a g h in (sound-start, positive (x .cursor .count) z, omega (arith, w .window .few))
+      pub let-in-some : Invariant c₁ × (0 < x .cursor .count) × (x .cursor .count < 256)
+      let-in-some = let (bs, w) = opened-standing 12 a g h in (sound-start, positive (x .cursor .count) z, omega (arith, w .window .few))
 
       module _ {y : Answer} {c₂ : Choices} (k : Picks (loose (patternFor table r)) c₁ (x .cursor .count) y c₂) where
-        pub local-unchosen : (IsTaken y → ⊥) → {o : ℕ} → o ≡ unchosenWord y r (x .cursor .count) → Evaluates table r s t base env c (ending o c₂)
-        local-unchosen n {o} d =
+        pub let-in-unchosen : (IsTaken y → ⊥) → {o : ℕ} → o ≡ unchosenWord y r (x .cursor .count) → Evaluates table r s t base env c (ending o c₂)
+        let-in-unchosen n {o} d =
             let (bs, w) = opened-standing 12 a g h in
             from-list w (record { kept = record { long = refl; below = refl }; right = λ ρ u. go ρ bs (w .window .count) k })
           where
             go : (ρ : State) (bs : List Binding) → length bs ≡ x .cursor .count → Picks (loose (patternFor table r)) c₁ (x .cursor .count) y c₂ → Comes (letIn table r ρ bs) (At t base) c₁ (ending o c₂)
             go ρ bs e (loosely l m) =
-                comes-as (ap (λ (m : Tree Binding). bind m (bodyIn table r ρ 2)) (matched-loose r (loose (patternFor table r)) bs l (omega (arith, e, local-some .1)))) (comes-untaken r bs (bodyIn table r ρ 2) (sym e) m n (word-unchosen y r (x .cursor .count) n (small-place a) (omega (arith, local-some .2)) d))
+                comes-as (ap (λ (m : Tree Binding). bind m (bodyIn table r ρ 2)) (matched-loose r (loose (patternFor table r)) bs l (omega (arith, e, let-in-some .1)))) (comes-untaken r bs (bodyIn table r ρ 2) (sym e) m n (word-unchosen y r (x .cursor .count) n (small-place a) (omega (arith, let-in-some .2)) d))
             go ρ bs e (plainly l m m′) = absurd (n (subst IsTaken (sym m) tt))
 
         module _ {i : ℕ} (e : y ≡ Taken i) where
           taken-below : Picks (loose (patternFor table r)) c₁ (x .cursor .count) y c₂ → i < x .cursor .count
-          taken-below (loosely l m) = chosen-below c₁ (x .cursor .count) i (record { answer = y; state = c₂ }) (local-some .1) m e
-          taken-below (plainly l m m′) = let d = sym e ∙ m in let d′ : i ≡ 0 = cc in omega (arith, local-some .1)
+          taken-below (loosely l m) = chosen-below c₁ (x .cursor .count) i (record { answer = y; state = c₂ }) (let-in-some .1) m e
+          taken-below (plainly l m m′) = let d = sym e ∙ m in let d′ : i ≡ 0 = cc in omega (arith, let-in-some .1)
 
           sound-picked : Picks (loose (patternFor table r)) c₁ (x .cursor .count) y c₂ → Invariant c₂
           sound-picked (loosely l m) = m .sound
           sound-picked (plainly l m m′) = subst Invariant (sym m′) sound-start
 
-          pub local-stands : Stands table index r true t base env c₂ (x .cursor) i
-          local-stands =
+          pub let-in-stands : Stands table index r true t base env c₂ (x .cursor) i
+          let-in-stands =
               let (bs, w) = opened-standing 12 a g h in
               record { asked = ask-again a (g .kept) (sound-picked k); binder = subst Binder (sym is-12) (omega arith, omega arith); bindings = bs; standing = w; below = omega (arith, taken-below k, w .window .count) }
 
           module _ {q : ℕ} (is-q : q ≡ operandAt table r 2) {u : List ℕ} {p : Placed} {c₃ : Choices} (w : Insides table r q true t u base 1536 env c₂ (x .cursor) i p c₃) where
             under-picked : {P : Value → Type 0} {e′ : Evaluated} (ρ : State) (bs : List Binding) → length bs ≡ x .cursor .count → Picks (loose (patternFor table r)) c₁ (x .cursor .count) y c₂ → Comes (meant table q (under ρ (getD bs i nothing))) P c₂ e′ → Comes (letIn table r ρ bs) P c₁ e′
             under-picked {P} {e′} ρ bs d (loosely l m) b =
-                comes-as (ap (λ (m : Tree Binding). bind m (bodyIn table r ρ 2)) (matched-loose r (loose (patternFor table r)) bs l (omega (arith, d, local-some .1))))
+                comes-as (ap (λ (m : Tree Binding). bind m (bodyIn table r ρ 2)) (matched-loose r (loose (patternFor table r)) bs l (omega (arith, d, let-in-some .1))))
                 (comes-taken r bs (bodyIn table r ρ 2) (sym d) m e (subst (λ (n : ℕ). Comes (meant table n (under ρ (getD bs i nothing))) P c₂ e′) is-q b))
             under-picked {P} {e′} ρ bs d (plainly l m m′) b =
                 let z = sym e ∙ m in let z′ : i ≡ 0 = cc in
-                comes-as (ap (λ (m : Tree Binding). bind m (bodyIn table r ρ 2)) (matched-plain r (loose (patternFor table r)) bs l (omega (arith, d, local-some .1))))
+                comes-as (ap (λ (m : Tree Binding). bind m (bodyIn table r ρ 2)) (matched-plain r (loose (patternFor table r)) bs l (omega (arith, d, let-in-some .1))))
                 (subst (λ (k : Choices). Comes (bodyIn table r ρ 2 (getD bs 0 nothing)) P k e′) m′
                 (subst (λ (n : ℕ). Comes (bodyIn table r ρ 2 (getD bs n nothing)) P c₂ e′) z′
                 (subst (λ (n : ℕ). Comes (meant table n (under ρ (getD bs i nothing))) P c₂ e′) is-q b)))
@@ -223,12 +224,12 @@ module _ {table index : List ℕ} {r : ℕ} {s : List ℕ} {base : ℕ} {env : E
                 let (bs, m) = opened-standing 12 a g h in
                 from-list m (record { kept = f bs m .kept; right = λ ρ b. under-picked ρ bs (m .window .count) k (f bs m .right ρ b) })
 
-            pub local-body-off : (p .outcome ≡ HasValue → ⊥) → Evaluates table r s u base env c (ended (p .outcome) c₃)
-            local-body-off n = from-let (λ bs m. body-off w m n)
+            pub let-in-body-off : (p .outcome ≡ HasValue → ⊥) → Evaluates table r s u base env c (ended (p .outcome) c₃)
+            let-in-body-off n = from-let (λ bs m. body-off w m n)
 
             module _ (v : p .outcome ≡ HasValue) where
-              pub local-copyable : Copyable u (base + 1536) base
-              local-copyable = let (bs, m) = opened-standing 12 a g h in body-copyable w m v (a .state) (around-kept (g .kept) (a .around))
+              pub let-in-copyable : Copyable u (base + 1536) base
+              let-in-copyable = let (bs, m) = opened-standing 12 a g h in body-copyable w m v (a .state) (around-kept (g .kept) (a .around))
 
-              pub local-done : {u′ : List ℕ} {n : ℕ} → Copied u u′ (base + 1536) base n → Evaluates table r s u′ base env c (valueAs c₃)
-              local-done o = from-let (λ bs m. body-done w m v o)
+              pub let-in-done : {u′ : List ℕ} {n : ℕ} → Copied u u′ (base + 1536) base n → Evaluates table r s u′ base env c (valueAs c₃)
+              let-in-done o = from-let (λ bs m. body-done w m v o)

@@ -6,7 +6,7 @@ mod Tables
 mod Firsts
 mod Wording
 mod Equations
-mod Plain
+mod Giving
 mod Members
 mod Enumerating
 mod Simple
@@ -26,8 +26,7 @@ mod Surveying
 mod Letting
 mod Adding
 mod Comprehending
-mod Single
-mod Lending
+mod Unique
 mod Suiting
 mod Extending
 mod Placing

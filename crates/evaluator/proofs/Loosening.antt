@@ -6,7 +6,6 @@ use Prim.Native.Nat.{ℕ, suc, _+_, _≤_, _<_}
 use native.Mathlib.Omega.{arith}
 use lib.ListN.{length, getD, drop}
 use lib.Seq.{drop-cons, drop-length}
-use Rattle.tables.specs.Laws.Kinds.{not-loose}
 use Rattle.tables.specs.Record.{shape, Record, named, operand}
 use Rattle.tables.specs.Table.{recordAt, kindAt}
 use Rattle.tables.specs.Sheet.{some, isLoose, loose}
@@ -15,12 +14,9 @@ use Rattle.tables.specs.Accepted.{records, Fine}
 use Rattle.tables.specs.Laws.Accepted.{lower, operand-lower}
 use Rattle.tables.specs.Reading.{Here, HasOperand}
 
+-- Whether a kind is loose, by its row.
 abbrev pub isLooseKind : ℕ → Bool
 isLooseKind k = shape k .loose
-
-pub loose-kind : {k : ℕ} → (k ≡ 37 → isLooseKind k ≡ true) × (k ≡ 38 → isLooseKind k ≡ true) × (k ≡ 40 → isLooseKind k ≡ true)
-unfolding shape
-loose-kind = (λ e. ap isLooseKind e, λ e. ap isLooseKind e, λ e. ap isLooseKind e)
 
 module _ {table index : List ℕ} {p : ℕ} (fine : Fine (records table)) (h : Here table index p) where
   abbrev rs : List Record
@@ -39,9 +35,8 @@ module _ {table index : List ℕ} {p : ℕ} (fine : Fine (records table)) (h : H
     pub within : i ≤ n
     pub same : loose rs p ≡ some (map (loose rs) (drop i (named (recordAt rs p))))
 
-  pub left-start : {k n : ℕ} → k ≡ kindAt rs p → (k ≡ 37 → ⊥) → (k ≡ 38 → ⊥) → (k ≡ 40 → ⊥) → n ≡ length (named (recordAt rs p)) → Left n 0
-  left-start {k} e a b d q =
-      let plain : isLooseKind k ≡ false = not-loose k a b d in
+  pub left-start : {k n : ℕ} → k ≡ kindAt rs p → isLooseKind k ≡ false → n ≡ length (named (recordAt rs p)) → Left n 0
+  left-start {k} e plain q =
       record {
         count = q;
         within = omega arith;

@@ -42,7 +42,7 @@ use Rattle.evaluator.specs.Word.{ending, wordOf, appliedWord}
 use Rattle.evaluator.proofs.Wording.{word-applied, decoded, as-word, refused-at}
 use Rattle.evaluator.proofs.Tables.{fine-of, small-place, has-operand, has-field, lower-down, unary-number, binary-number}
 use Rattle.evaluator.proofs.Equations.{mean-unary, mean-binary, mean-two, mean-logic, mean-if, mean-pattern, mean-nothing}
-use Rattle.evaluator.proofs.Plain.{gives-refused, gives-stop, gives-at, gives-one, gives-both, gives-second-off, ask-first, ask-next, one-held, two-held, logic-settled, logic-refused, logic-right-off, logic-right, if-other, if-true, if-false}
+use Rattle.evaluator.proofs.Giving.{gives-refused, gives-stop, gives-at, gives-one, gives-both, gives-second-off, ask-first, ask-next, single-held, two-held, logic-settled, logic-refused, logic-right-off, logic-right, if-other, if-true, if-false}
 
 pub strict-kind : (table : List ℕ) (r : ℕ) {k op : ℕ} → Strict table r k op → (k ≡ 5) ⊎ ((k ≡ 11) ⊎ (k ≡ 21))
 strict-kind table r (inl x) = inl (x .0)
@@ -63,25 +63,25 @@ module _ {table index : List ℕ} {r : ℕ} {s : List ℕ} {base : ℕ} {env : E
 
   -- 4
   module _ (d : kindAt (records table) r ≡ 4) where
-    pub un-has : HasOperand table index r 0
+    pub unary-has : HasOperand table index r 0
     unfolding shape
-    un-has = has-operand a d 0 (omega arith)
+    unary-has = has-operand a d 0 (omega arith)
 
-    pub un-field : HasField table index r 0
+    pub unary-field : HasField table index r 0
     unfolding shape
-    un-field = has-field a d 0 (omega arith)
+    unary-field = has-field a d 0 (omega arith)
 
     module _ {b : ℕ} (q : b ≡ operand (recordAt (records table) r) 0) {t : List ℕ} {e : Evaluated} (k : Gives (meant table b) (At t base) s t base env c e) where
-      pub un-off : (e .outcome ≡ HasValue → ⊥) → Gives (meant table r) (At t base) s t base env c e
-      un-off h = gives-stop (gives-at table q k) (λ ρ v. at r (unary (operatorAt table r) v)) h (λ ρ. mean-unary (a .legal) r ρ d)
+      pub unary-off : (e .outcome ≡ HasValue → ⊥) → Gives (meant table r) (At t base) s t base env c e
+      unary-off h = gives-stop (gives-at table q k) (λ ρ v. at r (unary (operatorAt table r) v)) h (λ ρ. mean-unary (a .legal) r ρ d)
 
       module _ (h : e .outcome ≡ HasValue) {n : ℕ} (o : n ≡ operatorAt table r) where
-        pub un-held : One t base × Unary n
-        un-held = (one-held a k h, subst Unary (sym o) (unary-number a d))
+        pub unary-held : One t base × Unary n
+        unary-held = (single-held a k h, subst Unary (sym o) (unary-number a d))
 
-        pub un-done : {u : List ℕ} {x : Applied} {w : ℕ} → OnOne (unary n) t u base x → w ≡ appliedWord x r → Gives (meant table r) (At u base) s u base env c (ending w (e .choices))
-        un-done {u} {x} f g =
-            let v = one-held a k h .held in
+        pub unary-done : {u : List ℕ} {x : Applied} {w : ℕ} → OnOne (unary n) t u base x → w ≡ appliedWord x r → Gives (meant table r) (At u base) s u base env c (ending w (e .choices))
+        unary-done {u} {x} f g =
+            let v = single-held a k h .held in
             gives-one a (gives-at table q k) (unary (operatorAt table r)) h (subst (λ (m : ℕ). OnOne (unary m) t u base x) o f)
             (word-applied (f .right (v .value) (v .here)) (unary-fine n (v .value) (v .here .fine)) (small-place a) g) (λ ρ. mean-unary (a .legal) r ρ d)
 
@@ -105,11 +105,11 @@ module _ {table index : List ℕ} {r : ℕ} {s : List ℕ} {base : ℕ} {env : E
         go (inr (inl x)) = has-operand a (d ∙ x) i l
         go (inr (inr x)) = has-operand a (d ∙ x) i l
 
-    pub bin-left : HasOperand table index r 0
-    bin-left = two-has 0 (omega arith)
+    pub binary-left : HasOperand table index r 0
+    binary-left = two-has 0 (omega arith)
 
-    pub bin-right : HasOperand table index r 1
-    bin-right = two-has 1 (omega arith)
+    pub binary-right : HasOperand table index r 1
+    binary-right = two-has 1 (omega arith)
 
     two-means : (ρ : State) → meant table r ρ ≡ bind (meant table (operand (recordAt (records table) r) 0) ρ) (λ v. bind (meant table (operand (recordAt (records table) r) 1) ρ) (λ y. at r (ofTwo k op v y)))
     two-means ρ = go w
@@ -135,18 +135,18 @@ module _ {table index : List ℕ} {r : ℕ} {s : List ℕ} {base : ℕ} {env : E
         go (inr x) = inr x
 
     module _ {b : ℕ} (q : b ≡ operand (recordAt (records table) r) 0) {t : List ℕ} {e : Evaluated} (g : Gives (meant table b) (At t base) s t base env c e) where
-      pub bin-off : (e .outcome ≡ HasValue → ⊥) → Gives (meant table r) (At t base) s t base env c e
-      bin-off h = gives-stop (gives-at table q g) (λ ρ v. bind (meant table (operand (recordAt (records table) r) 1) ρ) (λ y. at r (ofTwo k op v y))) h two-means
+      pub binary-off : (e .outcome ≡ HasValue → ⊥) → Gives (meant table r) (At t base) s t base env c e
+      binary-off h = gives-stop (gives-at table q g) (λ ρ v. bind (meant table (operand (recordAt (records table) r) 1) ρ) (λ y. at r (ofTwo k op v y))) h two-means
 
       module _ (h : e .outcome ≡ HasValue) {b′ : ℕ} (q′ : b′ ≡ operand (recordAt (records table) r) 1) {u : List ℕ} {f : Evaluated} (g′ : Gives (meant table b′) (At u (base + 512)) t u (base + 512) env (e .choices) f) where
-        pub bin-off-right : (f .outcome ≡ HasValue → ⊥) → Gives (meant table r) (At u base) s u base env c f
-        bin-off-right h′ = gives-second-off a (gives-at table q g) (gives-at table q′ g′) (λ ρ v y. at r (ofTwo k op v y)) h h′ two-means
+        pub binary-off-right : (f .outcome ≡ HasValue → ⊥) → Gives (meant table r) (At u base) s u base env c f
+        binary-off-right h′ = gives-second-off a (gives-at table q g) (gives-at table q′ g′) (λ ρ v y. at r (ofTwo k op v y)) h h′ two-means
 
-        pub bin-held : f .outcome ≡ HasValue → Two u base × OfTwo k op
-        bin-held h′ = (two-held a g g′ h h′, two-of)
+        pub binary-held : f .outcome ≡ HasValue → Two u base × OfTwo k op
+        binary-held h′ = (two-held a g g′ h h′, two-of)
 
-        pub bin-done : {x : List ℕ} {y : Applied} {z : ℕ} → f .outcome ≡ HasValue → OnTwo (ofTwo k op) u x base y → z ≡ appliedWord y r → Gives (meant table r) (At x base) s x base env c (ending z (f .choices))
-        bin-done h′ o z =
+        pub binary-done : {x : List ℕ} {y : Applied} {z : ℕ} → f .outcome ≡ HasValue → OnTwo (ofTwo k op) u x base y → z ≡ appliedWord y r → Gives (meant table r) (At x base) s x base env c (ending z (f .choices))
+        binary-done h′ o z =
             let two = two-held a g g′ h h′ in
             gives-both a (gives-at table q g) (gives-at table q′ g′) (ofTwo k op) h h′ o
             (word-applied (o .right (two .left .value) (two .right .value) (two .left .here) (two .right .here)) (two-fine (two .left .value) (two .right .value) (two .left .here .fine) (two .right .here .fine)) (small-place a) z) two-means
@@ -174,14 +174,14 @@ module _ {table index : List ℕ} {r : ℕ} {s : List ℕ} {base : ℕ} {env : E
         logic-off h = gives-stop k (λ ρ v. rightOf (meant table) r (operand (recordAt (records table) r) 1) ρ (left (connective n) v)) h equation
 
         pub logic-held : e .outcome ≡ HasValue → One t base × (1 ≤ n) × (n ≤ 3)
-        logic-held h = (one-held a k h, omega (arith, binary-number a d .0), l)
+        logic-held h = (single-held a k h, omega (arith, binary-number a d .0), l)
 
         module _ (h : e .outcome ≡ HasValue) {u : List ℕ} {x : Tested} (g : TestsLeft (connective n) t u base x) where
           pub logic-done : x ≡ Settled → Gives (meant table r) (At u base) s u base env c e
           logic-done z = logic-settled a k n h g (meant table) (operand (recordAt (records table) r) 1) equation z
 
           left-small : (j : ℕ) → x ≡ Off j → j < 65536
-          left-small j z = let v = one-held a k h .held in go (left-fine (connective n) (v .value)) (g .right (v .value) (v .here))
+          left-small j z = let v = single-held a k h .held in go (left-fine (connective n) (v .value)) (g .right (v .value) (v .here))
             where
               go : {l : Left} → FineLeft l → Says u base x l → j < 65536
               go f (settled y i) = let y′ = sym y ∙ z in impossible cc
@@ -196,7 +196,7 @@ module _ {table index : List ℕ} {r : ℕ} {s : List ℕ} {base : ℕ} {env : E
             logic-off-right h′ = logic-right-off a k n h g (meant table) (operand (recordAt (records table) r) 1) equation z (gives-at table q′ k′) h′
 
             pub logic-right-held : f .outcome ≡ HasValue → One w base
-            logic-right-held h′ = one-held (next-asked base logic-next q′ k (g .kept) (omega arith) (omega arith) .1) k′ h′
+            logic-right-held h′ = single-held (next-asked base logic-next q′ k (g .kept) (omega arith) (omega arith) .1) k′ h′
 
             pub logic-both : {x′ : Applied} {z′ : ℕ} → f .outcome ≡ HasValue → OnOne right w w base x′ → z′ ≡ appliedWord x′ r → Gives (meant table r) (At w base) s w base env c (ending z′ (f .choices))
             logic-both h′ o′ y =

@@ -24,7 +24,7 @@ pub leads-comes : {A : Type 0} {P : A → Type 0} {whole left : Tree A} {c d : C
 leads-comes l (gave o p w) = gave o p (record { right = l .same ∙ w .right; sound = w .sound })
 leads-comes l (off o w) = off o (record { right = l .same ∙ w .right; sound = w .sound })
 
--- The same record asked of again, after a change above its base.
+-- A record can be asked of again after a change above its base.
 pub ask-again : {table index : List ℕ} {r : ℕ} {s t : List ℕ} {base : ℕ} {env : Env} {c d : Choices} → Ask table index r s base env c → Kept s t base → Invariant d → Ask table index r t base env d
 ask-again a k l =
     record { legal = a .legal; within = a .within; room = omega (arith, a .room, k .long); low = omega (arith, a .low, k .long); state = a .state; around = around-kept k (a .around); sound = l }

@@ -160,23 +160,23 @@ module _ {table index : List ℕ} {r : ℕ} {s : List ℕ} {base : ℕ} {env : E
       go true = refl
       go false = refl
 
-  pub quant-off : (x .outcome ≡ HasValue → ⊥) → Evaluates table r s t base env c (ended (x .outcome) c₁)
-  quant-off h = opened-off (quantified want) a g (λ ρ. scanIn table r ρ want) (λ ρ. mean-quantifier (a .legal) r ρ want d) h
+  pub quantify-off : (x .outcome ≡ HasValue → ⊥) → Evaluates table r s t base env c (ended (x .outcome) c₁)
+  quantify-off h = opened-off (quantified want) a g (λ ρ. scanIn table r ρ want) (λ ρ. mean-quantifier (a .legal) r ρ want d) h
 
   module _ (h : x .outcome ≡ HasValue) where
-    pub quant-start : {n : ℕ} → n ≡ x .cursor .count → Scans table index r t base env want c₁ n t c₁ (x .cursor) (not want) 0
-    quant-start e =
+    pub quantify-start : {n : ℕ} → n ≡ x .cursor .count → Scans table index r t base env want c₁ n t c₁ (x .cursor) (not want) 0
+    quantify-start e =
         let (bs, w) = opened-standing (quantified want) a g h in
         scans-start (opened-asked (quantified want) a g h) quant-binder (subst (λ (y : Bool). Standing table r y t base (x .cursor) bs) not-whole w) e
 
     -- What the loop's record comes to, the whole comes to.
-    pub quant-whole : {bs : List Binding} → ((k : Cursor) (bs′ : List Binding) → Standing table r false t base k bs′ → bs′ ≡ bs) → {u : List ℕ} {P : Value → Type 0} {e : Evaluated} → Gives (λ ρ. scanIn table r ρ want bs) P t u base env c₁ e → Gives (meant table r) P s u base env c e
-    quant-whole {bs} only n =
+    pub quantify-whole : {bs : List Binding} → ((k : Cursor) (bs′ : List Binding) → Standing table r false t base k bs′ → bs′ ≡ bs) → {u : List ℕ} {P : Value → Type 0} {e : Evaluated} → Gives (λ ρ. scanIn table r ρ want bs) P t u base env c₁ e → Gives (meant table r) P s u base env c e
+    quantify-whole {bs} only n =
         let (bs′, w) = opened-standing (quantified want) a g h in
         opened-on (quantified want) a g h (λ ρ. scanIn table r ρ want) (λ ρ. mean-quantifier (a .legal) r ρ want d)
         (subst (Standing table r (wholly (quantified want)) t base (x .cursor)) (only (x .cursor) bs′ (subst (λ (y : Bool). Standing table r y t base (x .cursor) bs′) not-whole w)) w) n
 
-    pub quant-done : {u v : List ℕ} {c₂ : Choices} {answer : Bool} {m : ℕ} → Settled table r t base env want c₁ u c₂ answer → Put u v base (boolean answer) 5 m → Evaluates table r s v base env c (valueAs c₂)
-    quant-done {c₂ = c₂} z p =
-        quant-whole (z .only)
+    pub quantify-done : {u v : List ℕ} {c₂ : Choices} {answer : Bool} {m : ℕ} → Settled table r t base env want c₁ u c₂ answer → Put u v base (boolean answer) 5 m → Evaluates table r s v base env c (valueAs c₂)
+    quantify-done {c₂ = c₂} z p =
+        quantify-whole (z .only)
         (record { kept = kept-then (z .kept) (put-kept p); right = λ ρ w. let l = z .right ρ w in leads-comes l (comes-value (l .sound) (p .here)) })

@@ -50,6 +50,6 @@ module _ {table index : List ℕ} {count : ℕ} {s : List ℕ} {c : Choices} (a 
       let z : r ≡ length (records table) - 1 = omega (arith, counted) in
       subst (λ (n : ℕ). Comes (meant table n unbound) (At t 0) c e) z (g .right unbound (nothing-around s w))
 
--- The same of the outcome that the word says.
+-- What a run comes to with an outcome, it comes to with an equal one.
 pub run-told : (table : List ℕ) {t : List ℕ} {c d : Choices} {o p : Outcome} → o ≡ p → Runs table t c (ended p d) → Runs table t c (ended o d)
 run-told table {t} {c} {d} e h = subst (λ (x : Outcome). Runs table t c (ended x d)) (sym e) h

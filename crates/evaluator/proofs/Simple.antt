@@ -10,7 +10,7 @@ use lib.IntN.{ℤ}
 use lib.Dec.{eqb, leb}
 use lib.ListN.{getD, take}
 use borrow.Author.Tests.{eq-eqb, ne-eqb}
-use Rattle.values.specs.Value.{Kind, set, sequence, map, tuple, Value, boolean, integer, collection, Items, size, sizes, valueLimit, Sound}
+use Rattle.values.specs.Value.{Kind, number, set, sequence, map, tuple, Value, boolean, integer, collection, Items, size, sizes, valueLimit, Sound}
 use Rattle.values.specs.Items.{same, snoc, insert, lookup, enter}
 use Rattle.values.specs.Place.{At, Holds}
 use Rattle.integers.specs.Whole.{InRange}
@@ -53,7 +53,7 @@ use Rattle.parts.specs.declared.words.Env.{Env}
 use Rattle.parts.specs.Word.{unpacked}
 use Rattle.evaluator.specs.Contract.{Ask, Around, Gives, meant, valueAs, refusedAs}
 use Rattle.evaluator.specs.Leaves.{ofTwo, OfTwo}
-use Rattle.evaluator.specs.Building.{Enumerated, builtKind, finalKind, startedAs, addTo, Pending, going, halted, AddHeld, AddsNext, EnterHeld, EntersNext, ShapedAs, Finishable, Answers, valued, unvalued, Finishes}
+use Rattle.evaluator.specs.Building.{Enumerated, builtKind, finalKind, addTo, Pending, going, halted, AddHeld, AddsNext, EnterHeld, EntersNext, ShapedAs, Finishable, Answers, valued, unvalued, Finishes}
 use Rattle.evaluator.specs.Word.{outcomeOf, wordOf}
 use Rattle.evaluator.proofs.Wording.{decoded}
 use Rattle.evaluator.proofs.Coming.{comes-as, comes-value, comes-refused}
@@ -206,12 +206,14 @@ sequence-added {k} w e = rw (ne-eqb k 7 e, ne-eqb k 9 (no-map w)) (refl, λ vs v
     no-map (inr (inl x)) y = omega arith
     no-map (inr (inr x)) y = omega arith
 
-pub started-small : (k : ℕ) {m : ℕ} → m ≡ startedAs k → m < 65536
-started-small k {m} e = go (eqb k 7) e
+-- The number of the kind that is built.
+pub built-small : (k : ℕ) {m : ℕ} → m ≡ number (builtKind k) → m < 65536
+built-small k {m} e = go (eqb k 7) (eqb k 9) e
   where
-    go : (b : Bool) → m ≡ cond b 3 4 → m < 65536
-    go true q = omega arith
-    go false q = omega arith
+    go : (a b : Bool) → m ≡ number (cond a set (cond b map sequence)) → m < 65536
+    go true b q = omega arith
+    go false true q = omega arith
+    go false false q = omega arith
 
 -- ---- entries
 

@@ -22,53 +22,53 @@ use Rattle.parts.proofs.Laws.{as-list}
 use Rattle.calling.proofs.Kinding.{no-kind, the-kind}
 use Rattle.meaning.specs.Meaning.{orElse, integersAt}
 use Rattle.bindings.specs.Window.{Values}
-use Rattle.evaluator.specs.Binding.{wholly, valuesFor, isInteger, AllIntegers, Suits, fit, unfit}
+use Rattle.evaluator.specs.Binding.{wholly, valuesFor, isKind, AllOfKind, Suits, fit, unfit}
 use Rattle.evaluator.proofs.Collecting.{Integers, NotIntegers, integers-all, integers-not}
 
 -- ---- the walk over the items
 
--- Those from p on are left, and they are integers exactly where all are.
-pub record Left (s : List ℕ) (from to p : ℕ) (vs : Items) : Type 0 where
+-- Those from p on are left, and they are of the kind exactly where all are.
+pub record Left (kind : ℕ) (s : List ℕ) (from to p : ℕ) (vs : Items) : Type 0 where
   pub rest : Items
   pub here : ItemsAt s p to rest
-  pub same : everyItem isInteger vs ≡ everyItem isInteger rest
+  pub same : everyItem (isKind kind) vs ≡ everyItem (isKind kind) rest
 
-abbrev pub Walks : List ℕ → ℕ → ℕ → ℕ → Type 0
-Walks s from to p = (vs : Items) → ItemsAt s from to vs → Left s from to p vs
+abbrev pub Walks : ℕ → List ℕ → ℕ → ℕ → ℕ → Type 0
+Walks kind s from to p = (vs : Items) → ItemsAt s from to vs → Left kind s from to p vs
 
-pub walk-start : (s : List ℕ) (from to : ℕ) → Walks s from to from
-walk-start s from to vs h = record { rest = vs; here = h; same = refl }
+pub walk-start : (kind : ℕ) (s : List ℕ) (from to : ℕ) → Walks kind s from to from
+walk-start kind s from to vs h = record { rest = vs; here = h; same = refl }
 
-module _ {s : List ℕ} {from to p : ℕ} {vs : Items} (w : Left s from to p vs) where
+module _ {kind : ℕ} {s : List ℕ} {from to p : ℕ} {vs : Items} (w : Left kind s from to p vs) where
   -- The next item, with what code needs to know of its length.
   pub walk-next : p < to → Uncons s p to (w .rest)
   walk-next l = uncons l (w .here)
 
-  every-more : (v : Value) (us : Items) (b : Bool) → isInteger v ≡ b → everyItem isInteger (more v us) ≡ b && everyItem isInteger us
+  every-more : (v : Value) (us : Items) (b : Bool) → isKind kind v ≡ b → everyItem (isKind kind) (more v us) ≡ b && everyItem (isKind kind) us
   unfolding everyItem
-  every-more v us b e = ap (λ (x : Bool). x && everyItem isInteger us) e
+  every-more v us b e = ap (λ (x : Bool). x && everyItem (isKind kind) us) e
 
-  is-next : (l : p < to) (b : Bool) → ((v : Value) → At s p v → isInteger v ≡ b) → everyItem isInteger vs ≡ b && everyItem isInteger (walk-next l .rest)
-  is-next l b f = let y = walk-next l in w .same ∙ ap (everyItem isInteger) (y .is) ∙ every-more (y .first) (y .rest) b (f (y .first) (y .first-at))
+  is-next : (l : p < to) (b : Bool) → ((v : Value) → At s p v → isKind kind v ≡ b) → everyItem (isKind kind) vs ≡ b && everyItem (isKind kind) (walk-next l .rest)
+  is-next l b f = let y = walk-next l in w .same ∙ ap (everyItem (isKind kind)) (y .is) ∙ every-more (y .first) (y .rest) b (f (y .first) (y .first-at))
 
-  pub walk-fails : p < to → ((v : Value) → At s p v → isInteger v ≡ false) → false ≡ everyItem isInteger vs
+  pub walk-fails : p < to → ((v : Value) → At s p v → isKind kind v ≡ false) → false ≡ everyItem (isKind kind) vs
   walk-fails l f = sym (is-next l false f)
 
-  pub walk-on : (l : p < to) → ((v : Value) → At s p v → isInteger v ≡ true) → (n : ℕ) → n ≡ word s p → Left s from to (p + n) vs
+  pub walk-on : (l : p < to) → ((v : Value) → At s p v → isKind kind v ≡ true) → (n : ℕ) → n ≡ word s p → Left kind s from to (p + n) vs
   walk-on l f n e = let y = walk-next l in record { rest = y .rest; here = subst (λ (m : ℕ). ItemsAt s (p + m) to (y .rest)) (sym e) (y .rest-at); same = is-next l true f }
 
-  pub walk-end : to ≤ p → true ≡ everyItem isInteger vs
+  pub walk-end : to ≤ p → true ≡ everyItem (isKind kind) vs
   unfolding everyItem
-  walk-end l = sym (w .same ∙ ap (everyItem isInteger) (items-none l (w .here)))
+  walk-end l = sym (w .same ∙ ap (everyItem (isKind kind)) (items-none l (w .here)))
 
 -- ---- one item
 
-module _ {s : List ℕ} {at n : ℕ} (read : KindAt s at n) where
-  pub other-kind : (n ≡ 2 → ⊥) → (v : Value) → At s at v → isInteger v ≡ false
-  other-kind f v a = ne-eqb (kindOf v) 2 (λ e. f (read .right v a ∙ e))
+module _ {kind : ℕ} {s : List ℕ} {at n : ℕ} (read : KindAt s at n) where
+  pub other-kind : (n ≡ kind → ⊥) → (v : Value) → At s at v → isKind kind v ≡ false
+  other-kind f v a = ne-eqb (kindOf v) kind (λ e. f (read .right v a ∙ e))
 
-  pub whole-kind : n ≡ 2 → (v : Value) → At s at v → isInteger v ≡ true
-  whole-kind e v a = eq-eqb (kindOf v) 2 (sym (read .right v a) ∙ e)
+  pub same-kind : n ≡ kind → (v : Value) → At s at v → isKind kind v ≡ true
+  same-kind e v a = eq-eqb (kindOf v) kind (sym (read .right v a) ∙ e)
 
 -- ---- all items
 
@@ -76,20 +76,20 @@ both-true : (a b : Bool) → a && b ≡ true → (a ≡ true) × (b ≡ true)
 both-true true b e = (refl, e)
 both-true false b e = impossible cc
 
-every-integer : (vs : Items) → everyItem isInteger vs ≡ true → Integers vs
+every-integer : (vs : Items) → everyItem (isKind 2) vs ≡ true → Integers vs
 unfolding everyItem
 every-integer none e = tt
 every-integer (more v vs) e =
-    let (a, b) = both-true (isInteger v) (everyItem isInteger vs) e in
+    let (a, b) = both-true (isKind 2 v) (everyItem (isKind 2) vs) e in
     let (z, i) = is-integer v (eqb-true (kindOf v) 2 a) in
     ((z, ap asInteger i), every-integer vs b)
 
-some-other : (vs : Items) → everyItem isInteger vs ≡ false → NotIntegers vs
+some-other : (vs : Items) → everyItem (isKind 2) vs ≡ false → NotIntegers vs
 unfolding everyItem
 some-other none e = impossible cc
-some-other (more v vs) e = go (isInteger v) refl e (some-other vs)
+some-other (more v vs) e = go (isKind 2 v) refl e (some-other vs)
   where
-    go : (b : Bool) → isInteger v ≡ b → b && everyItem isInteger vs ≡ false → (everyItem isInteger vs ≡ false → NotIntegers vs) → NotIntegers (more v vs)
+    go : (b : Bool) → isKind 2 v ≡ b → b && everyItem (isKind 2) vs ≡ false → (everyItem (isKind 2) vs ≡ false → NotIntegers vs) → NotIntegers (more v vs)
     go true d h rec = inr (rec h)
     go false d h rec = inl (integer-not v (eqb-false (kindOf v) 2 d))
 
@@ -127,7 +127,7 @@ module _ (k : ℕ) {s : List ℕ} {at : ℕ} (h : Holds s at) where
       pub suits-items : {m : ℕ} → m ≡ word s at → HoldsItems s (at + 4) (at + m)
       suits-items e = (members .0, items-to e (members .1))
 
-      pub suits-integers : k ≡ 19 → {m : ℕ} → m ≡ word s at → (b : Bool) → AllIntegers s (at + 4) (at + m) b → Suits k s at b
+      pub suits-integers : k ≡ 19 → {m : ℕ} → m ≡ word s at → (b : Bool) → AllOfKind 2 s (at + 4) (at + m) b → Suits k s at b
       suits-integers d e true g =
           fit refl (listOf (members .0)) are-members (λ r v a. as-set r v a ∙ rw (eq-eqb k 19 d) (ap (λ (t : Tree Items). bind t (λ ws. give (listOf ws))) (integers-all r (members .0) (every-integer (members .0) (sym (g (members .0) (items-to e (members .1))))))))
       suits-integers d e false g =

@@ -26,12 +26,14 @@ use Rattle.evaluator.specs.declared.Outcome.{Outcome}
 use Rattle.evaluator.specs.declared.Outcome.the-variants.{Value as HasValue}
 use Rattle.bindings.specs.declared.Cursor.{Cursor}
 use Rattle.parts.specs.declared.words.Env.{Env}
-use Rattle.evaluator.specs.Binding.{Placed, Held, Counted, Binder, patternFor, listed, Standing, Begins, Stands, Turned, holdsIn, Tests, Marks, first, dueFor, surveyed, counting, marking, Marked, Surveys}
+use Rattle.lists.specs.Choosing.{first, dueFor}
+use Rattle.evaluator.specs.Binding.{Placed, Held, Counted, Binder, patternFor, listed, Standing, Begins, Stands, Turned, holdsIn, Tests, Marks, surveyed, counting, marking, Marked, Surveys}
+use Rattle.meaning.specs.Laws.Conditions.{OneLeaf}
 use Rattle.evaluator.specs.Contract.{Ask, Around, ended, Comes, gave, off, Gives, meant, operandAt}
 use Rattle.evaluator.proofs.Framing.{around-kept}
 use Rattle.evaluator.proofs.Coming.{value-refused, comes-on, comes-stop, comes-sound, comes-held}
-use Rattle.evaluator.proofs.Leading.{Leads, leads-start, leads-as, leads-came, Leaf, leaf-bind}
-use Rattle.evaluator.proofs.Quieting.{quiet}
+use Rattle.evaluator.proofs.Leading.{Leads, leads-start, leads-as, leads-came}
+use Rattle.evaluator.proofs.Quieting.{leaf-bind, quiet}
 use Rattle.evaluator.proofs.Satisfying.{testing, passing, testing-start, testing-end, testing-off, testing-on, marks-start, marks-more}
 use Rattle.evaluator.proofs.Standing.{standing-one}
 use Rattle.evaluator.proofs.Opening.{ask-again, opened-asked}
@@ -40,16 +42,16 @@ use Rattle.evaluator.proofs.Opening.{ask-again, opened-asked}
 
 -- The condition of the record r holds no choice.
 abbrev pub Quiet : List ℕ → ℕ → Type 0
-Quiet table r = (σ : State) → Leaf (meant table (operandAt table r 2) σ)
+Quiet table r = (σ : State) → OneLeaf (meant table (operandAt table r 2) σ)
 
-else-leaf : {A : Type 0} (n r : ℕ) (o : Option A) → Leaf (orElse n r o)
+else-leaf : {A : Type 0} (n r : ℕ) (o : Option A) → OneLeaf (orElse n r o)
 else-leaf n r absent = tt
 else-leaf n r (some a) = tt
 
-test-leaf : (table : List ℕ) (r : ℕ) → Quiet table r → (ρ : State) (b : Binding) → Leaf (holdsIn table r ρ b)
+test-leaf : (table : List ℕ) (r : ℕ) → Quiet table r → (ρ : State) (b : Binding) → OneLeaf (holdsIn table r ρ b)
 test-leaf table r q ρ b = leaf-bind (meant table (operandAt table r 2) (under ρ b)) (isTrue r) (q (under ρ b)) (λ v. else-leaf 20 r (asBoolean v))
 
-leaf-view : {A : Type 0} (t : Tree A) {c d : Choices} {a : A} → Leaf t → Came t c (result a) d → view d ≡ view c
+leaf-view : {A : Type 0} (t : Tree A) {c d : Choices} {a : A} → OneLeaf t → Came t c (result a) d → view d ≡ view c
 leaf-view (give b) h w = cc (w .right)
 leaf-view (stop n p) h w = impossible (cc (w .right))
 leaf-view (choose p n ways) h w = absurd h

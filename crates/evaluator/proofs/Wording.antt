@@ -1,5 +1,6 @@
 -- What a word says: whether a value was given, and the refusals that are read back from it.
 use mathlib.Core.Path.{_≡_, refl, sym, ap, subst, _∙_}
+use mathlib.Core.Bool.{Bool, true, false, cond}
 use mathlib.Core.List.{List}
 use Prim.Native.Nat.{ℕ, _+_, _*_, _/_, _%_, _<_}
 use native.Mathlib.Omega.{arith}
@@ -18,25 +19,29 @@ use Rattle.evaluator.specs.declared.Outcome.{Outcome}
 use Rattle.evaluator.specs.declared.Outcome.the-variants.{Value as HasValue, Refused}
 use Rattle.evaluator.specs.Contract.{Ask, ended, refusedAs, Gives}
 use Rattle.evaluator.specs.Leaves.{applied}
-use Rattle.evaluator.specs.Word.{outcomeOf, ending, wordOf, appliedWord, unchosenWord}
+use Rattle.evaluator.specs.Word.{isRefusal, outcomeOf, ending, wordOf, appliedWord, unchosenWord}
 use Rattle.evaluator.specs.Binding.{answerNumber, answerCount, IsTaken}
 use Rattle.evaluator.proofs.Tables.{small-place}
 
-pub valued : (w : ℕ) → (w % 2 ≡ 1 → ⊥) → outcomeOf w ≡ HasValue
-valued w h = rw (ne-eqb (w % 2) 1 h) refl
+-- What a word says, by the answer whether it is a refusal.
+abbrev said : ℕ → Bool → Outcome
+said w b = cond b (Refused (w / 2 % 65536) (w / 2 / 65536 % 65536) (w / 2 / 65536 / 65536)) HasValue
 
-is-off : (w : ℕ) → w % 2 ≡ 1 → outcomeOf w ≡ Refused (w / 2 % 65536) (w / 2 / 65536 % 65536) (w / 2 / 65536 / 65536)
-is-off w h = rw (eq-eqb (w % 2) 1 h) refl
+pub valued : (w : ℕ) {b : Bool} → b ≡ isRefusal w → b ≡ false → outcomeOf w ≡ HasValue
+valued w e h = ap (said w) (sym e ∙ h)
 
-pub unvalued : (w : ℕ) → w % 2 ≡ 1 → outcomeOf w ≡ HasValue → ⊥
-unvalued w h e = let d = sym (is-off w h) ∙ e in impossible cc
+is-off : (w : ℕ) → isRefusal w ≡ true → outcomeOf w ≡ said w true
+is-off w h = ap (said w) h
+
+pub unvalued : (w : ℕ) {b : Bool} → b ≡ isRefusal w → b ≡ true → outcomeOf w ≡ HasValue → ⊥
+unvalued w e h d = let z = sym (is-off w (sym e ∙ h)) ∙ d in impossible cc
 
 -- 0 and 2 say that there is a value.
 pub zero-valued : {w : ℕ} → w ≡ 0 → outcomeOf w ≡ HasValue
-zero-valued {w} e = valued w (λ h. omega arith)
+zero-valued {w} e = valued w refl (ne-eqb (w % 2) 1 (λ h. omega arith))
 
 pub two-valued : {w : ℕ} → w ≡ 2 → outcomeOf w ≡ HasValue
-two-valued {w} e = valued w (λ h. omega arith)
+two-valued {w} e = valued w refl (ne-eqb (w % 2) 1 (λ h. omega arith))
 
 -- A refusal is read back.
 module _ {n r k : ℕ} (small : n < 65536) (low : r < 65536) (few : k < 65536) where
@@ -62,11 +67,11 @@ module _ {n r k : ℕ} (small : n < 65536) (low : r < 65536) (few : k < 65536) w
   third = omega arith
 
   pub decoded : {w : ℕ} → w ≡ wordOf n r k → outcomeOf w ≡ Refused n r k
-  decoded e = ap outcomeOf (e ∙ word-is) ∙ is-off (1 + 2 * (n + 65536 * (r + 65536 * k))) odd ∙ rw (half, rest, first, second, third) refl
+  decoded e = ap outcomeOf (e ∙ word-is) ∙ is-off (1 + 2 * (n + 65536 * (r + 65536 * k))) (eq-eqb ((1 + 2 * (n + 65536 * (r + 65536 * k))) % 2) 1 odd) ∙ rw (half, rest, first, second, third) refl
 
 -- ---- what functions make of a word
 
--- The same, with what a word says.
+-- What is given with an outcome is given with the word that says it.
 pub as-word : {A : Type 0} {m : State → Tree A} {P : A → Type 0} {s t : List ℕ} {base : ℕ} {env : Env} {c d : Choices} (w : ℕ) {o : Outcome} → outcomeOf w ≡ o → Gives m P s t base env c (ended o d) → Gives m P s t base env c (ending w d)
 as-word {m = m} {P} {s} {t} {base} {env} {c} {d} w e g = subst (λ (x : Outcome). Gives m P s t base env c (ended x d)) (sym e) g
 

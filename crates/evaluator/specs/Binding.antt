@@ -11,7 +11,7 @@ use lib.Dec.{eqb}
 use lib.ListN.{length, getD, take}
 use Rattle.values.specs.Value.{Kind, Value, kindOf, collection, Items}
 use Rattle.values.specs.Place.{At, ItemsAt}
-use Rattle.choices.specs.State.{Choices, view, Chosen}
+use Rattle.choices.specs.State.{Choices}
 use Rattle.choices.specs.Tree.{Tree, give, stop, bind}
 use Rattle.choices.specs.declared.Answer.{Answer}
 use Rattle.choices.specs.declared.Answer.the-variants.{Taken, Many, Short, Beyond}
@@ -26,6 +26,7 @@ use Rattle.patterns.specs.Read.{patternAt}
 use Rattle.calling.specs.Scratch.{Kept}
 use Rattle.meaning.specs.State.{State, under, valueIn}
 use Rattle.meaning.specs.Meaning.{formedAt, membersAt, integersAt, bindingsOf, integerBindings, holds, satisfying, addOne, addPair, patternName}
+use Rattle.lists.specs.Choosing.{dueFor}
 use Rattle.bindings.specs.declared.Cursor.{Cursor}
 use Rattle.bindings.specs.declared.Opened.{Opened}
 use Rattle.bindings.specs.declared.Opened.the-variants.{Bound, Refused as Unbound}
@@ -33,7 +34,7 @@ use Rattle.parts.specs.declared.words.Env.{Env}
 use Rattle.evaluator.specs.declared.Outcome.{Outcome}
 use Rattle.evaluator.specs.declared.Tally.{Tally}
 use Rattle.bindings.specs.Window.{Values, Windowed, Reached, UnderBinding}
-use Rattle.evaluator.specs.Building.{builtKind}
+use Rattle.evaluator.specs.Building.{builtKind, enumerationFor}
 use Rattle.evaluator.specs.Word.{outcomeOf, wordOf}
 use Rattle.evaluator.specs.Contract.{Ask, Evaluated, ended, Gives, meant, operandAt}
 
@@ -82,11 +83,11 @@ pub record Quantifies (k : ℕ) (b : Bool) : Type 0 where
   pub yes : b ≡ true → k ≡ quantified (eqb k 15)
   pub no : b ≡ false → (k ≡ 14 → ⊥) × (k ≡ 15 → ⊥)
 
--- What the kinds without binders leave.
+-- The kinds that are left where those without a binder are taken out.
 abbrev pub Remaining : ℕ → Type 0
 Remaining k = (k ≡ 0) ⊎ ((12 ≤ k) × (k ≡ 21 → ⊥))
 
--- Those that test all bindings, and those that ask for exactly one.
+-- The kinds that test all bindings, and the kinds that ask for exactly one.
 abbrev pub Surveyed : ℕ → Type 0
 Surveyed k = (13 ≤ k) × (k ≤ 17)
 
@@ -125,12 +126,12 @@ pub data Suits (k : ℕ) (s : List ℕ) (at : ℕ) (b : Bool) : Type 0 where
   fit : b ≡ true → (vs : List Value) → Values s at (wholly k) vs → ((r : ℕ) (v : Value) → At s at v → valuesFor k r v ≡ give vs) → Suits k s at b
   unfit : b ≡ false → ((r : ℕ) (v : Value) → At s at v → valuesFor k r v ≡ stop 20 r) → Suits k s at b
 
--- r says whether the items from a place up to another are integers.
-abbrev pub isInteger : Value → Bool
-isInteger v = eqb (kindOf v) 2
+-- r says whether the items from a place up to another are of a kind.
+abbrev pub isKind : ℕ → Value → Bool
+isKind kind v = eqb (kindOf v) kind
 
-abbrev pub AllIntegers : List ℕ → ℕ → ℕ → Bool → Type 0
-AllIntegers s from to r = (vs : Items) → ItemsAt s from to vs → r ≡ everyItem isInteger vs
+abbrev pub AllOfKind : ℕ → List ℕ → ℕ → ℕ → Bool → Type 0
+AllOfKind kind s from to r = (vs : Items) → ItemsAt s from to vs → r ≡ everyItem (isKind kind) vs
 
 -- The cursor over the bindings, or their refusal.
 pub data OpeningIs (o : Opened) (r w : ℕ) (l : List ℕ) : Type 0 where
@@ -150,18 +151,18 @@ pub record Stands (table index : List ℕ) (r : ℕ) (whole : Bool) (s : List �
   pub standing : Standing table r whole s base cursor bindings
   pub below : j < length bindings
 
--- No name has a value under a binding, and there is a window's start for it.
+-- The bindings give no name a value, and the window begins with the first.
 pub record Nameless (cursor : Cursor) : Type 0 where
   pub names : cursor .names ≡ 0
   pub width : cursor .width ≡ 0
   pub from : cursor .from ≡ 0
 
--- What is asked and promised of entering it: it is brought into the window, and the environment is the one under it.
-pub record Enterable (table index : List ℕ) (r : ℕ) (whole : Bool) (s : List ℕ) (base : ℕ) (env : Env) (cursor : Cursor) (j : ℕ) : Type 0 where
+-- What is asked and promised of binding the names of binding j: it is brought into the window, and the environment is the one under it.
+pub record AsksNames (table index : List ℕ) (r : ℕ) (whole : Bool) (s : List ℕ) (base : ℕ) (env : Env) (cursor : Cursor) (j : ℕ) : Type 0 where
   pub choices : Choices
   pub stands : Stands table index r whole s base env choices cursor j
 
-pub record Enters (table : List ℕ) (r : ℕ) (whole : Bool) (s t : List ℕ) (base : ℕ) (env : Env) (cursor : Cursor) (j : ℕ) (near : Cursor) (inner : Env) : Type 0 where
+pub record BindsNames (table : List ℕ) (r : ℕ) (whole : Bool) (s t : List ℕ) (base : ℕ) (env : Env) (cursor : Cursor) (j : ℕ) (near : Cursor) (inner : Env) : Type 0 where
   pub reached : Reached table (operandAt table r 0) s t base whole (base + 512) cursor j near
   pub under : UnderBinding t (base + 512) near j env inner
 
@@ -184,7 +185,7 @@ pub record Insides (table : List ℕ) (r q : ℕ) (whole : Bool) (s t : List ℕ
 abbrev pub Upward : ℕ → Type 0
 Upward up = (1024 ≤ up) × (up ≤ 2048)
 
--- Its condition, tested under binding j.
+-- The condition of the record r, tested under binding j.
 abbrev pub holdsIn : List ℕ → ℕ → State → Binding → Tree Bool
 holdsIn table r ρ b = holds (meant table) r (operandAt table r 2) ρ b
 
@@ -205,18 +206,6 @@ pub record Marks (bs sat : List Binding) (due n k : ℕ) : Type 0 where
   pub count : n ≡ length sat
   pub within : due < n → k < length bs
   pub is : due < n → getD bs k nothing ≡ getD sat due nothing
-
--- The entry that is next in the list; 0 where none is left.
-abbrev pub first : List ℕ → ℕ
-first [] = 0
-first (c ∷ l) = c
-
-abbrev pub dueIn : Choices → ℕ
-dueIn c = first (view c .left)
-
--- A let-be asks for the binding that it will choose, the others for the first.
-abbrev pub dueFor : ℕ → Choices → ℕ
-dueFor k c = cond (eqb k 13) (dueIn c) 0
 
 -- The bindings that make the condition of r true.
 abbrev pub surveyed : List ℕ → ℕ → State → Tree (List Binding)
@@ -250,7 +239,7 @@ pub record Fetches (table : List ℕ) (r : ℕ) (s t : List ℕ) (base : ℕ) (c
 
 -- ---- a choice: 12 and 13
 
--- 31, or 32 or 33 with the number of bindings.
+-- The number of a choice that was not made, and the number of bindings that it reports.
 abbrev pub answerNumber : Answer → ℕ
 answerNumber (Taken i) = 0
 answerNumber Many = 31
@@ -269,19 +258,14 @@ IsTaken Many = ⊥
 IsTaken Short = ⊥
 IsTaken Beyond = ⊥
 
--- A loose let chooses among its n bindings, another takes its only one.
-pub data Picks (isLoose : Bool) (c : Choices) (n : ℕ) (a : Answer) (d : Choices) : Type 0 where
-  loosely : isLoose ≡ true → Chosen c n (record { answer = a; state = d }) → Picks isLoose c n a d
-  plainly : isLoose ≡ false → a ≡ Taken 0 → d ≡ c → Picks isLoose c n a d
-
 -- ---- comprehensions: 18, 19 and 20
 
 abbrev pub Comprehension : ℕ → Type 0
 Comprehension k = (18 ≤ k) × (k ≤ 20)
 
--- It is built as an enumeration of kind 7, 8 or 9 is.
+-- The kind of value that a comprehension builds.
 abbrev pub kindFor : ℕ → Kind
-kindFor k = builtKind (k - 11)
+kindFor k = builtKind (enumerationFor k)
 
 -- What is added under a binding to the items so far.
 abbrev pub addsIn : List ℕ → ℕ → ℕ → State → Items → Binding → Tree Items

@@ -25,8 +25,9 @@ builtKind k = cond (eqb k 7) set (cond (eqb k 9) map sequence)
 abbrev pub finalKind : ℕ → Kind
 finalKind k = cond (eqb k 10) tuple (builtKind k)
 
-abbrev pub startedAs : ℕ → ℕ
-startedAs k = cond (eqb k 7) 3 4
+-- The enumeration that builds what a comprehension of kind 18, 19 or 20 builds: 7, 8 or 9.
+abbrev pub enumerationFor : ℕ → ℕ
+enumerationFor k = cond (eqb k 18) 7 (cond (eqb k 19) 8 9)
 
 abbrev pub addTo : ℕ → Items → Value → Built
 addTo k vs v = cond (eqb k 7) (addMember vs v) (addItem vs v)

@@ -27,7 +27,7 @@ use Rattle.evaluator.specs.declared.Outcome.the-variants.{Value as HasVa
 use Rattle.parts.specs.declared.words.Env.{Env}
 use Rattle.parts.specs.Word.{unpacked}
 
--- The bytes of a level.
+-- How many bytes a record takes from its base on, before those of its operands.
 abbrev pub level : ℕ
 level = 2048
 

@@ -53,6 +53,6 @@ pub record Connects (k op : ℕ) (b : Bool) : Type 0 where
   pub yes : b ≡ true → (k ≡ 5) × (op ≤ 3)
   pub no : b ≡ false → k ≡ 5 → 3 < op
 
--- By the record's kind, and its operator where it has one.
+-- What takes both operands, told by the record's kind and its operator.
 abbrev pub Strict : List ℕ → ℕ → ℕ → ℕ → Type 0
 Strict table r k op = ((k ≡ 5) × (op ≡ operatorAt table r) × (3 < op)) ⊎ ((k ≡ 11) ⊎ (k ≡ 21))

@@ -22,7 +22,8 @@ ghost use mathlib.Core.Path.{_≡_};
 ghost use mathlib.Core.Bool.{true};
 ghost use Rattle.values.specs.Place.{Holds, HoldsItems};
 ghost use Prim.Native.Nat.{_<_};
-ghost use Rattle.evaluator.specs.Binding.{Quantifies, Suits, AllIntegers, OpeningIs, agrees, counting, marking, cursorOf, Nameless, Enterable, Enters, Fetchable, Fetches};
+ghost use Rattle.patterns.specs.Binder.{mostBindings};
+ghost use Rattle.evaluator.specs.Binding.{Quantifies, Suits, AllOfKind, OpeningIs, agrees, counting, marking, cursorOf, Nameless, AsksNames, BindsNames, Fetchable, Fetches};
 ghost use Rattle.evaluator.specs.Contract.{envOf};
 ghost use Rattle.evaluator.specs.Word.{judgedWord, unchosenWord, builtWord};
 
@@ -33,11 +34,20 @@ pub const BUILT: usize = 1024;
 
 pub const INSIDE: usize = 1536;
 
-// A cursor goes down as its four numbers, which only a window that is filled again changes.
+// A cursor goes down as its four numbers, which only a window that is filled again changes: how many bindings there are; the names
+// that they give values, as a mask, and how many these are; and the first binding in the window.
+pub const COUNT: usize = 0;
+
+const NAMES: usize = 1;
+
+const WIDTH: usize = 2;
+
+const FROM: usize = 3;
+
 pub const CELLS: usize = 4;
 
 // The environment under binding j of the binder r, which is brought into the window. It is changed where it stands, word by word.
-pub fn enter(
+pub fn bind_names(
     table: &[u8],
     index: &Index,
     r: usize,
@@ -49,8 +59,8 @@ pub fn enter(
     j: usize,
     inner: &mut [u32; Env::NAMES],
 )
-    requires { ⌜ Enterable (now table) (now index) r whole (now s) base (envOf (now env)) (cursorOf (now cursor)) j ⌝ }
-    ensures { λ _. ⌜ Enters (now (table .entry)) r whole (now (s .entry)) (now (s .exit)) base (envOf (now (env .entry))) (cursorOf (now (cursor .entry))) j (cursorOf (now (cursor .exit))) (envOf (now (inner .exit))) ⌝ }
+    requires { ⌜ AsksNames (now table) (now index) r whole (now s) base (envOf (now env)) (cursorOf (now cursor)) j ⌝ }
+    ensures { λ _. ⌜ BindsNames (now (table .entry)) r whole (now (s .entry)) (now (s .exit)) base (envOf (now (env .entry))) (cursorOf (now (cursor .entry))) j (cursorOf (now (cursor .exit))) (envOf (now (inner .exit))) ⌝ }
 {
     if is_nameless(cursor) {
         *inner = *env;
@@ -58,10 +68,10 @@ pub fn enter(
     }
     let p = operand_from(table, index, r, PLAIN, 0);
     let c = Cursor {
-        count: cursor[0],
-        names: cursor[1],
-        width: cursor[2],
-        from: cursor[3],
+        count: cursor[COUNT],
+        names: cursor[NAMES],
+        width: cursor[WIDTH],
+        from: cursor[FROM],
     };
     let near = reach(table, index, p, s, base, whole, base + WINDOW, c, j);
     *cursor = [near.count, near.names, near.width, near.from];
@@ -73,13 +83,13 @@ pub fn enter(
 pub fn is_nameless(cursor: &[usize; CELLS]) -> bool
     ensures { λ b. ⌜ (b ≡ true → Nameless (cursorOf (now (cursor .entry)))) ⌝ }
 {
-    if cursor[1] != 0 {
+    if cursor[NAMES] != 0 {
         return false;
     }
-    if cursor[2] != 0 {
+    if cursor[WIDTH] != 0 {
         return false;
     }
-    cursor[3] == 0
+    cursor[FROM] == 0
 }
 
 // Whether the kind is forall or exists: 14 and 15 differ in the last bit alone, so one test tells.
@@ -89,14 +99,14 @@ pub fn is_quantifier(k: usize) -> bool
     k / 2 == kinds::FORALL / 2
 }
 
-// Whether all items from a place up to another are integers.
-fn all_integers(s: &[u8], from: usize, to: usize) -> bool
+// Whether all items from a place up to another are of a kind.
+fn all_of_kind(s: &[u8], from: usize, to: usize, kind: usize) -> bool
     requires { ⌜ HoldsItems (now s) from to ⌝ }
-    ensures { λ r. ⌜ AllIntegers (now (s .entry)) from to r ⌝ }
+    ensures { λ r. ⌜ AllOfKind kind (now (s .entry)) from to r ⌝ }
 {
     let mut p = from;
     while p < to {
-        if values::kind_of(s, p) != Value::INTEGER {
+        if values::kind_of(s, p) != kind {
             return false;
         }
         p += values::length_of(s, p);
@@ -119,7 +129,7 @@ pub fn suits(s: &[u8], at: usize, k: usize) -> bool
         return true;
     }
     let n = values::length_of(s, at);
-    all_integers(s, at + 4, at + n)
+    all_of_kind(s, at + Value::HEAD, at + n, Value::INTEGER)
 }
 
 // The bindings of the record r, or their refusal.
@@ -135,7 +145,7 @@ pub fn opening(o: Opened, r: usize, cursor: &mut [usize; CELLS]) -> usize
     }
 }
 
-// A condition of the record r, tested; it must be boolean.
+// The word of a condition of the record r: whether it is true, or a refusal where it is no boolean.
 pub fn judge(t: Truth, r: usize) -> usize
     ensures { λ h. ⌜ h ≡ judgedWord t r ⌝ }
 {
@@ -146,6 +156,7 @@ pub fn judge(t: Truth, r: usize) -> usize
     }
 }
 
+// Whether two truths agree.
 pub fn agree(a: bool, b: bool) -> bool
     ensures { λ r. ⌜ r ≡ agrees a b ⌝ }
 {
@@ -154,7 +165,7 @@ pub fn agree(a: bool, b: bool) -> bool
 
 // How many satisfy after one more test.
 pub fn tally(yes: bool, count: usize) -> usize
-    requires { ⌜ count < 255 ⌝ }
+    requires { ⌜ count < mostBindings ⌝ }
     ensures { λ n. ⌜ n ≡ counting yes count ⌝ }
 {
     if yes { count + 1 } else { count }
@@ -170,7 +181,7 @@ pub fn mark(yes: bool, count: usize, due: usize, j: usize, at: usize) -> usize
     if count == due { j } else { at }
 }
 
-// 31, or 32 or 33 with the number of bindings.
+// The word of a choice that was not made: 31, or 32 or 33 with the number of bindings.
 pub fn unchosen(a: Answer, r: usize, n: usize) -> usize
     ensures { λ o. ⌜ o ≡ unchosenWord a r n ⌝ }
 {
@@ -182,8 +193,8 @@ pub fn unchosen(a: Answer, r: usize, n: usize) -> usize
     }
 }
 
-// What the building came to at the record r: a number, or 0.
-pub fn built(bad: usize, r: usize) -> usize
+// The word of what a building came to at the record r: a value, or the number of its refusal.
+pub fn built_word(bad: usize, r: usize) -> usize
     ensures { λ o. ⌜ o ≡ builtWord bad r ⌝ }
 {
     if bad == 0 { VALUE } else { refusal(bad, r, 0) }
@@ -204,7 +215,7 @@ pub fn fetch(
     ensures { λ _. ⌜ Fetches (now (table .entry)) r (now (s .entry)) (now (s .exit)) base (cursorOf (now (cursor .entry))) j ⌝ }
 {
     let mut inner = [0; Env::NAMES];
-    enter(table, index, r, s, base, env, false, cursor, j, &mut inner);
+    bind_names(table, index, r, s, base, env, false, cursor, j, &mut inner);
     let p = operand_from(table, index, r, PLAIN, 0);
     let x = field(table, index, p, 0);
     let word = inner[x];

@@ -11,19 +11,35 @@ use collections::building::retag;
 use tables::kinds;
 use values::Value;
 ghost use mathlib.Core.Path.{_≡_};
+ghost use Rattle.values.specs.Value.{number};
 ghost use Rattle.collections.specs.Building.{addedNumber, enteredNumber};
-ghost use Rattle.evaluator.specs.Building.{AddHeld, AddsNext, EnterHeld, EntersNext, startedAs, Finishable, Finishes};
+ghost use Rattle.evaluator.specs.Building.{AddHeld, AddsNext, EnterHeld, EntersNext, builtKind, enumerationFor, Finishable, Finishes};
 ghost use Rattle.evaluator.specs.Word.{outcomeOf};
 
-// The kind of what is built: a set, or a sequence. A tuple is built as a sequence.
-pub fn started(k: usize) -> usize
-    ensures { λ r. ⌜ r ≡ startedAs k ⌝ }
+// The kind of value that an enumeration of kind k builds. A tuple is built as a sequence.
+pub fn built_kind(k: usize) -> usize
+    ensures { λ r. ⌜ r ≡ number (builtKind k) ⌝ }
 {
     if k == kinds::SET {
-        Value::SET
-    } else {
-        Value::SEQUENCE
+        return Value::SET;
     }
+    if k == kinds::MAP {
+        return Value::MAP;
+    }
+    Value::SEQUENCE
+}
+
+// The kind of enumeration that builds what a comprehension of kind k builds.
+pub fn enumeration_of(k: usize) -> usize
+    ensures { λ r. ⌜ r ≡ enumerationFor k ⌝ }
+{
+    if k == kinds::SET_COMPREHENSION {
+        return kinds::SET;
+    }
+    if k == kinds::SEQUENCE_COMPREHENSION {
+        return kinds::SEQUENCE;
+    }
+    kinds::MAP
 }
 
 // What is built so far takes one more, which stands 512 bytes above it; 28 where it is too large.
@@ -42,6 +58,7 @@ pub fn add(s: &mut [u8], base: usize, k: usize, bad: usize) -> usize
     added(b)
 }
 
+// The number of a refusal to add; 0 where there is none.
 fn added(a: Added) -> usize
     ensures { λ r. ⌜ r ≡ addedNumber a ⌝ }
 {
@@ -63,6 +80,7 @@ pub fn enter_next(s: &mut [u8], base: usize, bad: usize) -> usize
     entered(a)
 }
 
+// The number of a refusal to enter; 0 where there is none.
 fn entered(a: Entered) -> usize
     ensures { λ r. ⌜ r ≡ enteredNumber a ⌝ }
 {
@@ -73,7 +91,7 @@ fn entered(a: Entered) -> usize
     }
 }
 
-// What was built, or its refusal.
+// The word of what was built, or of its refusal at the record r.
 pub fn finish(s: &mut [u8], base: usize, k: usize, bad: usize, r: usize) -> usize
     requires { ⌜ Finishable k (now s) base bad r ⌝ }
     ensures { λ o. ⌜ Finishes k (now (s .entry)) (now (s .exit)) base bad r (outcomeOf o) ⌝ }

@@ -3,7 +3,7 @@ use crate::Truth;
 use crate::words::VALUE;
 use crate::words::refusal;
 use calling::Applied;
-use lists::RUN;
+use lists::Run;
 use parts::Part;
 use parts::words::Env;
 use parts::words::unpack;
@@ -35,7 +35,7 @@ pub fn truth(
     s: &mut [u8],
     base: usize,
     env: &[u32; Env::NAMES],
-    run: &mut [u8; RUN],
+    run: &mut Run,
 ) -> usize
     requires { ⌜ Ask (now table) (now index) r (now s) base (envOf (now env)) (lent (now run)) × (kindAt (records (now table)) r ≡ 1) ⌝ }
     ensures { λ o. ⌜ Evaluates (now (table .entry)) r (now (s .entry)) (now (s .exit)) base (envOf (now (env .entry))) (lent (now (run .entry))) (ending o (lent (now (run .exit)))) ⌝ }
@@ -53,7 +53,7 @@ pub fn whole(
     s: &mut [u8],
     base: usize,
     env: &[u32; Env::NAMES],
-    run: &mut [u8; RUN],
+    run: &mut Run,
 ) -> usize
     requires { ⌜ Ask (now table) (now index) r (now s) base (envOf (now env)) (lent (now run)) × (kindAt (records (now table)) r ≡ 2) ⌝ }
     ensures { λ o. ⌜ Evaluates (now (table .entry)) r (now (s .entry)) (now (s .exit)) base (envOf (now (env .entry))) (lent (now (run .entry))) (ending o (lent (now (run .exit)))) ⌝ }
@@ -71,7 +71,7 @@ pub fn name(
     s: &mut [u8],
     base: usize,
     env: &[u32; Env::NAMES],
-    run: &mut [u8; RUN],
+    run: &mut Run,
 ) -> usize
     requires { ⌜ Ask (now table) (now index) r (now s) base (envOf (now env)) (lent (now run)) × (kindAt (records (now table)) r ≡ 3) ⌝ }
     ensures { λ o. ⌜ Evaluates (now (table .entry)) r (now (s .entry)) (now (s .exit)) base (envOf (now (env .entry))) (lent (now (run .entry))) (ending o (lent (now (run .exit)))) ⌝ }

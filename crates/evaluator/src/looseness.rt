@@ -1,34 +1,28 @@
-// A let is loose where its pattern holds a 37, 38 or 40: by recursion on the record number, which falls at each operand.
+// Whether a let chooses among its bindings: by recursion on the record number of its pattern, which falls at each operand.
 use tables::Index;
-use tables::kinds;
 use tables::reading::kind;
 use tables::reading::operand;
 use tables::reading::operand_count;
+use tables::shape::is_loose;
 ghost use mathlib.Core.Path.{_≡_};
 ghost use Rattle.tables.specs.Sheet.{loose};
 ghost use Rattle.tables.specs.Accepted.{records, Fine};
 ghost use Rattle.tables.specs.Reading.{Here};
 
-// Does the record p, or one below it, pair members or split?
-pub fn is_loose(table: &[u8], index: &Index, p: usize) -> bool
+// Whether the pattern p, or one below it, is of a loose kind.
+pub fn is_loose_pattern(table: &[u8], index: &Index, p: usize) -> bool
     requires { ⌜ Fine (records (now table)) × Here (now table) (now index) p ⌝ }
     ensures { λ b. ⌜ b ≡ loose (records (now (table .entry))) p ⌝ }
 {
     let k = kind(table, index, p);
-    if k == kinds::SET_PATTERN {
-        return true;
-    }
-    if k == kinds::UNION_PATTERN {
-        return true;
-    }
-    if k == kinds::CONCATENATION_PATTERN {
+    if is_loose(k) {
         return true;
     }
     let n = operand_count(table, index, p);
     let mut i = 0;
     while i < n {
         let a = operand(table, index, p, i);
-        let found = is_loose(table, index, a);
+        let found = is_loose_pattern(table, index, a);
         if found {
             return true;
         }

@@ -1,3 +1,4 @@
 -- What the proofs of the functions need; nobody else cites it.
 mod Starting
 mod Moving
+mod Lending

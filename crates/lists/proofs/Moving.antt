@@ -10,7 +10,7 @@ use lib.Seq.{take-set-lt, getD-take, getD-drop, drop-set-add, drop-set-lt, getD-
 use Rattle.choices.specs.State.{Choices, Made, Moved}
 use Rattle.choices.specs.Tree.{mostChoices}
 use Rattle.choices.proofs.Raising.{Seeking, seeking-all, turn-at, raised-moved, ended-moved}
-use Rattle.lists.specs.Lent.{runBytes, lent}
+use Rattle.lists.specs.Lent.{waysFrom, runBytes, lent}
 use Rattle.lists.proofs.Starting.{sound-long}
 use Rattle.lists.specs.Runs.{UsedWhole, restarted}
 
@@ -18,7 +18,7 @@ use Rattle.lists.specs.Runs.{UsedWhole, restarted}
 pub record Looking (run₀ run : List ℕ) (i : ℕ) : Type 0 where
   pub sized : runBytes ≤ length run
   pub seeking : Seeking (lent run₀ .entries) (lent run₀ .counts) (lent run₀ .used) (lent run .entries) i
-  pub ways : drop 67 run ≡ drop 67 run₀
+  pub ways : drop waysFrom run ≡ drop waysFrom run₀
 
 pub looking-all : (run : List ℕ) → UsedWhole run → (i : ℕ) → i ≡ getD run 1 0 → Looking run run i
 looking-all run w i e =
@@ -32,14 +32,14 @@ looking-all run w i e =
 stored : (run : List ℕ) (j a : ℕ) → j < mostChoices → lent (set run (3 + j) a) .entries ≡ set (lent run .entries) j a
 stored run j a h = ap (take mostChoices) (drop-set-add 3 run j a) ∙ take-set-lt mostChoices (drop 3 run) j a h
 
-ways-stored : (run : List ℕ) (j a : ℕ) → j < mostChoices → drop 67 (set run (3 + j) a) ≡ drop 67 run
-ways-stored run j a h = drop-set-lt 67 run (3 + j) a (omega arith)
+ways-stored : (run : List ℕ) (j a : ℕ) → j < mostChoices → drop waysFrom (set run (3 + j) a) ≡ drop waysFrom run
+ways-stored run j a h = drop-set-lt waysFrom run (3 + j) a (omega arith)
 
 entry-at : (run : List ℕ) (j : ℕ) → j < mostChoices → getD (lent run .entries) j 0 ≡ getD run (3 + j) 0
 entry-at run j h = getD-take mostChoices (drop 3 run) j 0 h ∙ getD-drop 3 run j 0
 
-ways-at : (run : List ℕ) (j : ℕ) → j < mostChoices → getD (lent run .counts) j 0 ≡ getD run (67 + j) 0
-ways-at run j h = getD-take mostChoices (drop 67 run) j 0 h ∙ getD-drop 67 run j 0
+ways-at : (run : List ℕ) (j : ℕ) → j < mostChoices → getD (lent run .counts) j 0 ≡ getD run (waysFrom + j) 0
+ways-at run j h = getD-take mostChoices (drop waysFrom run) j 0 h ∙ getD-drop waysFrom run j 0
 
 -- ---- the restart
 
@@ -50,12 +50,12 @@ module _ (run : List ℕ) (len : ℕ) (long : runBytes ≤ length run) where
   again-drop : (n : ℕ) → 3 ≤ n → drop n again ≡ drop n run
   again-drop n h = drop-set-lt n (set (set run 0 len) 1 0) 2 1 (omega arith) ∙ drop-set-lt n (set run 0 len) 1 0 (omega arith) ∙ drop-set-lt n run 0 len (omega arith)
 
-  again-is : lent again ≡ record { entries = lent run .entries; counts = take mostChoices (drop 67 run); len = len; used = 0; grow = true }
+  again-is : lent again ≡ record { entries = lent run .entries; counts = take mostChoices (drop waysFrom run); len = len; used = 0; grow = true }
   again-is =
       λ i.
       record {
         entries = take mostChoices (again-drop 3 (omega arith) i);
-        counts = take mostChoices (again-drop 67 (omega arith) i);
+        counts = take mostChoices (again-drop waysFrom (omega arith) i);
         len =
             (getD-set-other (set (set run 0 len) 1 0) 2 0 1 0 (omega arith)
             ∙ getD-set-other (set run 0 len) 1 0 0 0 (omega arith)
@@ -71,11 +71,11 @@ module _ (run₀ run : List ℕ) (w : UsedWhole run₀) (i : ℕ) (g : Looking r
   pub turn-low : j < mostChoices
   turn-low = omega (arith, g .seeking .within, w .sound .used-within, w .sound .len-within)
 
-  same-ways : getD (lent run₀ .counts) j 0 ≡ getD run (67 + j) 0
-  same-ways = ways-at run₀ j turn-low ∙ sym (getD-drop 67 run₀ j 0) ∙ ap (λ (x : List ℕ). getD x j 0) (sym (g .ways)) ∙ getD-drop 67 run j 0
+  same-ways : getD (lent run₀ .counts) j 0 ≡ getD run (waysFrom + j) 0
+  same-ways = ways-at run₀ j turn-low ∙ sym (getD-drop waysFrom run₀ j 0) ∙ ap (λ (x : List ℕ). getD x j 0) (sym (g .ways)) ∙ getD-drop waysFrom run j 0
 
   -- the entry there, and its number of ways
-  module _ (entry ways : ℕ) (entry-is : entry ≡ getD run (3 + j) 0) (ways-is : ways ≡ getD run (67 + j) 0) where
+  module _ (entry ways : ℕ) (entry-is : entry ≡ getD run (3 + j) 0) (ways-is : ways ≡ getD run (waysFrom + j) 0) where
     pub looking-on : ways ≤ entry + 1 → Looking run₀ (set run (3 + j) 0) j
     looking-on h =
         record {

@@ -12,7 +12,7 @@ use lib.ListN.{length, take, drop, getD, set, length-set, length-take, length-dr
 use lib.Seq.{take-suc, take-suc-set, take-all, take-take, getD-take, getD-drop, drop-set-add, drop-set-lt, getD-set-same, getD-set-other}
 use Rattle.choices.specs.State.{Choices, view, fresh, Invariant, Made}
 use Rattle.choices.specs.Tree.{mostChoices}
-use Rattle.lists.specs.Lent.{runBytes, lent}
+use Rattle.lists.specs.Lent.{waysFrom, runBytes, lent}
 use Rattle.lists.specs.Runs.{SameList}
 
 zero-at : (n k : ℕ) → getD {A = ℕ} (replicate n 0) k 0 ≡ 0
@@ -119,7 +119,7 @@ module _ (l run : List ℕ) (i : ℕ) (h : length l ≤ mostChoices) (k : length
 
 -- A state in order has all its bytes.
 pub sound-long : (run : List ℕ) → Invariant (lent run) → runBytes ≤ length run
-sound-long run s = omega (arith, s .counts-sized, length-take mostChoices (drop 67 run), length-drop 67 run)
+sound-long run s = omega (arith, s .counts-sized, length-take mostChoices (drop waysFrom run), length-drop waysFrom run)
 
 -- ---- a walk from the bytes
 

@@ -1,4 +1,6 @@
-// The choices of a run as lent bytes: made from a list, moved on to the next list, and read as a walk.
+// The choices of a run as lent bytes: made from a list, taken one by one, moved on to the next list, and read as a walk.
+pub mod choosing;
+
 ghost use mathlib.Core.Path.{_≡_};
 ghost use Prim.Native.Nat.{ℕ, _+_, _≤_, _<_};
 ghost use lib.ListN.{length, set};
@@ -10,22 +12,25 @@ ghost use Rattle.lists.specs.Runs.{UsedWhole, SameList, restarted};
 use choices::list::Walk;
 use tables::shape::wide;
 
-// The bytes of a run's choices.
-pub const RUN: usize = 131;
-
-// Where the list's length stands, how many entries are used, whether a list that is used up grows, the entries, and the numbers of ways.
+// Where the length of the list stands, the number of entries that are used, and 1 where a list that is used up grows.
 pub const LEN: usize = 0;
 
 pub const USED: usize = 1;
 
-pub const GROW: usize = 2;
+const GROW: usize = 2;
 
-pub const ENTRIES: usize = 3;
+// Where the entries stand, and behind them the number of ways at each.
+const ENTRIES: usize = 3;
 
-pub const WAYS: usize = 67;
+const WAYS: usize = ENTRIES + Walk::LIMIT;
+
+// The bytes of a run's choices.
+pub const RUN: usize = WAYS + Walk::LIMIT;
+
+pub type Run = [u8; RUN];
 
 // The start of a run under a list.
-pub fn start(list: &[u8], grow: bool) -> [u8; RUN]
+pub fn start(list: &[u8], grow: bool) -> Run
     requires { ⌜ length (now list) ≤ mostChoices ⌝ }
     ensures { λ r. ⌜ Made (now (list .entry)) grow (lent r) ⌝ }
 {
@@ -40,8 +45,8 @@ pub fn start(list: &[u8], grow: bool) -> [u8; RUN]
     run
 }
 
-// The same under the list of a walk.
-pub fn start_walk(walk: Walk, grow: bool) -> [u8; RUN]
+// The start of a run under the list of a walk.
+pub fn start_walk(walk: Walk, grow: bool) -> Run
     requires { ⌜ Runnable walk ⌝ }
     ensures { λ r. ⌜ Made (listHeld walk) grow (lent r) ⌝ }
 {
@@ -51,7 +56,7 @@ pub fn start_walk(walk: Walk, grow: bool) -> [u8; RUN]
 }
 
 // The start of a run that grows, under the first `len` entries that are there.
-fn restart(run: &mut [u8; RUN], len: usize)
+fn restart(run: &mut Run, len: usize)
     requires { ⌜ (len < 256) × (runBytes ≤ length (now run)) ⌝ }
     ensures { λ _. ⌜ now (run .exit) ≡ restarted (now (run .entry)) len ⌝ }
 {
@@ -61,7 +66,7 @@ fn restart(run: &mut [u8; RUN], len: usize)
 }
 
 // After a run that used the whole list: the last entry that can go up goes up, and what follows it is cut. False where none can.
-pub fn advance(run: &mut [u8; RUN]) -> bool
+pub fn advance(run: &mut Run) -> bool
     requires { ⌜ UsedWhole (now run) ⌝ }
     ensures { λ more. ⌜ Moved (lent (now (run .entry))) (record { more = more; state = lent (now (run .exit)) }) ⌝ }
 {
@@ -83,7 +88,7 @@ pub fn advance(run: &mut [u8; RUN]) -> bool
 }
 
 // The list of a run, as a walk.
-pub fn list_of(run: &[u8; RUN]) -> Walk
+pub fn list_of(run: &Run) -> Walk
     requires { ⌜ Invariant (lent (now run)) ⌝ }
     ensures { λ w. ⌜ SameList (now (run .entry)) w ⌝ }
 {

@@ -3,14 +3,14 @@ use Rattle.evaluator.proofs.Tables.{room-here}
 use Rattle.evaluator.proofs.Firsts.{binder-first}
 use Rattle.evaluator.proofs.Standing.{binder-has}
 use Rattle.evaluator.proofs.Entering.{entered}
-use Rattle.evaluator.proofs.Single.{fetch-field, fetch-name, fetch-puttable, fetch-copyable, fetch-done}
+use Rattle.evaluator.proofs.Unique.{fetch-field, fetch-name, fetch-puttable, fetch-copyable, fetch-done}
 use borrow.Author.Needs.{needs}
 use Rattle.evaluator.proofs.binding.fetch.Statement.{statement}
 use Rattle.evaluator.proofs.binding.fetch.Tie as tie
 
 -- src/binding.rt:187:5
-enter-requires : tie.Need-enter-requires
-enter-requires c κs = record { choices = c .before .before .before .before .before .pre .choices; stands = c .before .before .before .before .before .pre .stands }
+bind-names-requires : tie.Need-bind-names-requires
+bind-names-requires c κs = record { choices = c .before .before .before .before .before .pre .choices; stands = c .before .before .before .before .before .pre .stands }
 
 -- src/binding.rt:188:9
 operand-from-requires : tie.Need-operand-from-requires
@@ -38,7 +38,7 @@ add-put-part c = omega (arith, room-here (c .before .before .before .before .bef
 
 -- src/binding.rt:192:5
 put-part-requires : tie.Need-put-part-requires
-put-part-requires c κs = fetch-puttable (c .before .before .before .before .before .before .before .before .before .before .before .before .pre .stands) (c .before .before .before .before .before .before .before .before .before .before .before .before .pre .iota) (c .before .before .before .operand-from .ensures .0) (c .before .before .field .ensures .0) (entered (c .before .before .before .operand-from .ensures .0) (c .before .before .before .before .before .before .enter .ensures)) (c .before .before .before .before .before .before .enter .ensures .under) (c .before .unpack .ensures)
+put-part-requires c κs = fetch-puttable (c .before .before .before .before .before .before .before .before .before .before .before .before .pre .stands) (c .before .before .before .before .before .before .before .before .before .before .before .before .pre .iota) (c .before .before .before .operand-from .ensures .0) (c .before .before .field .ensures .0) (entered (c .before .before .before .operand-from .ensures .0) (c .before .before .before .before .before .before .bind-names .ensures)) (c .before .before .before .before .before .before .bind-names .ensures .under) (c .before .unpack .ensures)
 
 -- src/binding.rt:193:27
 add-copy-value : tie.Need-add-copy-value
@@ -46,7 +46,7 @@ add-copy-value c = omega (arith, room-here (c .before .before .before .before .b
 
 -- src/binding.rt:193:5
 copy-value-requires : tie.Need-copy-value-requires
-copy-value-requires c κs = fetch-copyable (c .before .before .before .before .before .before .before .before .before .before .before .before .before .before .before .before .pre .stands) (c .before .before .before .before .before .before .before .before .before .before .before .before .before .before .before .before .pre .iota) (c .before .before .before .before .before .before .before .operand-from .ensures .0) (c .before .before .before .before .before .before .field .ensures .0) (entered (c .before .before .before .before .before .before .before .operand-from .ensures .0) (c .before .before .before .before .before .before .before .before .before .before .enter .ensures)) (c .before .before .before .before .before .before .before .before .before .before .enter .ensures .under) (c .before .before .before .before .before .unpack .ensures) (c .before .before .before .put-part .ensures)
+copy-value-requires c κs = fetch-copyable (c .before .before .before .before .before .before .before .before .before .before .before .before .before .before .before .before .pre .stands) (c .before .before .before .before .before .before .before .before .before .before .before .before .before .before .before .before .pre .iota) (c .before .before .before .before .before .before .before .operand-from .ensures .0) (c .before .before .before .before .before .before .field .ensures .0) (entered (c .before .before .before .before .before .before .before .operand-from .ensures .0) (c .before .before .before .before .before .before .before .before .before .before .bind-names .ensures)) (c .before .before .before .before .before .before .before .before .before .before .bind-names .ensures .under) (c .before .before .before .before .before .unpack .ensures) (c .before .before .before .put-part .ensures)
 
 -- src/binding.rt:173:1
 same-length : tie.Need-same-length
@@ -54,13 +54,13 @@ same-length c = search needs
 
 -- src/binding.rt:173:1
 returns : tie.Need-returns
-returns c = fetch-done (c .before .before .before .before .before .before .before .before .before .before .before .before .before .before .before .before .before .before .before .pre .stands) (c .before .before .before .before .before .before .before .before .before .before .before .before .before .before .before .before .before .before .before .pre .iota) (c .before .before .before .before .before .before .before .before .before .before .operand-from .ensures .0) (c .before .before .before .before .before .before .before .before .before .field .ensures .0) (entered (c .before .before .before .before .before .before .before .before .before .before .operand-from .ensures .0) (c .before .before .before .before .before .before .before .before .before .before .before .before .before .enter .ensures)) (c .before .before .before .before .before .before .before .before .before .before .before .before .before .enter .ensures .under) (c .before .before .before .before .before .before .before .before .unpack .ensures) (c .before .before .before .before .before .before .put-part .ensures) (c .before .before .copy-value .ensures)
+returns c = fetch-done (c .before .before .before .before .before .before .before .before .before .before .before .before .before .before .before .before .before .before .before .pre .stands) (c .before .before .before .before .before .before .before .before .before .before .before .before .before .before .before .before .before .before .before .pre .iota) (c .before .before .before .before .before .before .before .before .before .before .operand-from .ensures .0) (c .before .before .before .before .before .before .before .before .before .field .ensures .0) (entered (c .before .before .before .before .before .before .before .before .before .before .operand-from .ensures .0) (c .before .before .before .before .before .before .before .before .before .before .before .before .before .bind-names .ensures)) (c .before .before .before .before .before .before .before .before .before .before .before .before .before .bind-names .ensures .under) (c .before .before .before .before .before .before .before .before .unpack .ensures) (c .before .before .before .before .before .before .put-part .ensures) (c .before .before .copy-value .ensures)
 
 pub fetch-spec : {M : Type 1} → statement M
 fetch-spec =
     tie.close
     (tie.spec
-    enter-requires
+    bind-names-requires
     operand-from-requires
     field-requires
     mul-word

@@ -24,20 +24,20 @@ length-of-requires : tie.Need-length-of-requires
 length-of-requires c κs = search needs
 
 -- src/binding.rt:70:21
-add-all-integers : tie.Need-add-all-integers
-add-all-integers c = search needs
+add-all-of-kind : tie.Need-add-all-of-kind
+add-all-of-kind c = search needs
 
 -- src/binding.rt:70:29
-add-all-integers-2 : tie.Need-add-all-integers-2
-add-all-integers-2 c = search needs
+add-all-of-kind-2 : tie.Need-add-all-of-kind-2
+add-all-of-kind-2 c = search needs
 
 -- src/binding.rt:70:5
-all-integers-requires : tie.Need-all-integers-requires
-all-integers-requires c κs = suits-items (c .before .before .before .before .before .before .args .k) (c .before .before .before .before .before .before .pre) (c .before .before .before .before .if1 .left) (c .before .before .before .kind-of .ensures) (c .before .before .if2 .left) (c .length-of .ensures .is)
+all-of-kind-requires : tie.Need-all-of-kind-requires
+all-of-kind-requires c κs = suits-items (c .before .before .before .before .before .before .args .k) (c .before .before .before .before .before .before .pre) (c .before .before .before .before .if1 .left) (c .before .before .before .kind-of .ensures) (c .before .before .if2 .left) (c .length-of .ensures .is)
 
 -- src/binding.rt:56:1
 returns-4 : tie.Need-returns-4
-returns-4 c = suits-integers (c .before .before .before .before .before .before .before .args .k) (c .before .before .before .before .before .before .before .pre) (c .before .before .before .before .before .if1 .left) (c .before .before .before .before .kind-of .ensures) (c .before .before .before .if2 .left) (c .before .before .if3 .left) (c .before .length-of .ensures .is) (c .all-integers .result) (c .all-integers .ensures)
+returns-4 c = suits-integers (c .before .before .before .before .before .before .before .args .k) (c .before .before .before .before .before .before .before .pre) (c .before .before .before .before .before .if1 .left) (c .before .before .before .before .kind-of .ensures) (c .before .before .before .if2 .left) (c .before .before .if3 .left) (c .before .length-of .ensures .is) (c .all-of-kind .result) (c .all-of-kind .ensures)
 
 pub suits-spec : {M : Type 1} → statement M
 suits-spec =
@@ -48,7 +48,7 @@ suits-spec =
     returns-2
     returns-3
     length-of-requires
-    add-all-integers
-    add-all-integers-2
-    all-integers-requires
+    add-all-of-kind
+    add-all-of-kind-2
+    all-of-kind-requires
     returns-4)

@@ -1,16 +1,18 @@
-use mathlib.Core.Path.{refl}
-use Prim.Native.Nat.{_%_}
-use borrow.Author.Tests.{eq-eqb, ne-eqb}
+use mathlib.Core.Path.{_≡_, refl, sym, _∙_}
+use mathlib.Core.Bool.{true, false}
+use borrow.Author.Needs.{needs}
+use Rattle.evaluator.specs.Word.{isRefusal}
 use Rattle.evaluator.proofs.words.outcome.Statement.{statement}
 use Rattle.evaluator.proofs.words.outcome.Tie as tie
 
--- src/words.rt:27:9
-returns : tie.Need-returns
-returns c = rw (eq-eqb (c .before .args .word % 2) 1 (c .if1 .taken)) refl
+is-refusal-requires : tie.Need-is-refusal-requires
+is-refusal-requires c κs = search needs
 
--- src/words.rt:22:1
+returns : tie.Need-returns
+returns c = let e : isRefusal (c .before .before .args .word) ≡ true = sym (c .before .is-refusal .ensures) ∙ c .if1 .taken in rw e refl
+
 returns-2 : tie.Need-returns-2
-returns-2 c = rw (ne-eqb (c .before .args .word % 2) 1 (c .if1 .left)) refl
+returns-2 c = let e : isRefusal (c .before .before .args .word) ≡ false = sym (c .before .is-refusal .ensures) ∙ c .if1 .left in rw e refl
 
 pub outcome-spec : {M : Type 1} → statement M
-outcome-spec = tie.close (tie.spec returns returns-2)
+outcome-spec = tie.close (tie.spec is-refusal-requires returns returns-2)

@@ -1,0 +1,16 @@
+use mathlib.Core.Path.{refl}
+use borrow.Author.Tests.{eq-eqb, ne-eqb}
+use Rattle.evaluator.proofs.building.enumeration_of.Statement.{statement}
+use Rattle.evaluator.proofs.building.enumeration_of.Tie as tie
+
+returns : tie.Need-returns
+returns c = rw (eq-eqb (c .before .args .k) 18 (c .if1 .taken)) refl
+
+returns-2 : tie.Need-returns-2
+returns-2 c = rw (ne-eqb (c .before .before .args .k) 18 (c .before .if1 .left), eq-eqb (c .before .before .args .k) 19 (c .if2 .taken)) refl
+
+returns-3 : tie.Need-returns-3
+returns-3 c = rw (ne-eqb (c .before .before .args .k) 18 (c .before .if1 .left), ne-eqb (c .before .before .args .k) 19 (c .if2 .left)) refl
+
+pub enumeration-of-spec : {M : Type 1} → statement M
+enumeration-of-spec = tie.close (tie.spec returns returns-2 returns-3)
