@@ -17,6 +17,7 @@ use Rattle.patterns.specs.Binding.{Binding, names, merge, withEach, together}
 use Rattle.patterns.specs.Pattern.{Pattern, matches}
 use Rattle.patterns.specs.Laws.Matched.{in-together, together-in, joined-merge, merge-joined, matched, match-sized}
 use Rattle.patterns.specs.Laws.Together.{together-assoc}
+use Rattle.forming.specs.Frames.{entries}
 use Rattle.forming.specs.Codes.{codePattern, CodeHeld, LeafCode, TellsParts}
 use Rattle.forming.specs.Wild.{isWild}
 use Rattle.forming.proofs.Coding.{code-small}
@@ -24,7 +25,7 @@ use Rattle.matching.specs.Leaf.{Stands, Standing, Grown}
 use Rattle.matching.proofs.Naming.{grown-same, grown-then}
 use Rattle.forming.specs.Onward.{Task, task, matchesAll, onward}
 use Rattle.forming.specs.Laws.Onward.{onward-went, onward-none, together-alike}
-use Rattle.forming.specs.Pending.{entries, Pending, AgendaIs, spaces, CodeTold, WaitsAre, LeftOf, TakeHeld, Taken}
+use Rattle.forming.specs.Pending.{Pending, AgendaIs, spaces, CodeTold, WaitsAre, LeftOf, TakeHeld, Taken}
 use Rattle.forming.proofs.Joining.{joined-swap}
 use Rattle.forming.proofs.Reducing.{with-alike}
 use Rattle.forming.proofs.Solving.{some-task, agenda-low}

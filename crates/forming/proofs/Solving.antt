@@ -28,13 +28,13 @@ use Rattle.matching.specs.declared.nodes.Meeting.{Meeting}
 use Rattle.matching.specs.Leaf.{Stands}
 use Rattle.matching.specs.Node.{Meets}
 use Rattle.matching.proofs.Records.{kind-high, recast-meets}
-use Rattle.forming.specs.Frames.{heft}
+use Rattle.forming.specs.Frames.{entries, heft}
 use Rattle.forming.specs.Inner.{inner, innerEach}
 use Rattle.forming.specs.Laws.Inner.{innerInside, inner-solid}
 use Rattle.forming.specs.Wild.{isWild}
 use Rattle.forming.specs.Onward.{Task, task, onward, zipped, oneWay}
 use Rattle.forming.specs.Laws.Onward.{onward-ways, one-way}
-use Rattle.forming.specs.Pending.{entries, Pending, AgendaIs, spaces}
+use Rattle.forming.specs.Pending.{Pending, AgendaIs, spaces}
 use Rattle.forming.specs.Settled.{TellsSettled}
 use Rattle.forming.proofs.Pushing.{met-long}
 use Rattle.forming.proofs.Settling.{settled-less, several-more}

@@ -1,5 +1,6 @@
 // The leaves of a tree of union patterns, the parts that are no union, in an order in which few ways repeat a binding: those that hold a name,
 // those that hold none, and the wildcards of all of them together, which only count.
+use crate::codes;
 use crate::settled::either;
 use crate::sizes;
 use crate::sizes::Size;
@@ -21,7 +22,7 @@ ghost use Rattle.forming.specs.Groups.{leaves, TellsName};
 ghost use Rattle.forming.specs.Sizes.{Takes};
 ghost use Rattle.forming.specs.Wild.{isWild};
 ghost use Rattle.forming.specs.Ordered.{strip, classOf, ofClass, ordered};
-ghost use Rattle.forming.specs.Leaves.{leafPattern, LeafCodeHeld, stripIf, PlainIs, TailIs, TailsMeet, NoLeaf, LeavesAre, Joins, AloneHeld, SetHeld, SurveyHeld, LastIs, InOrderHeld, KeptHeld, KeptIs};
+ghost use Rattle.forming.specs.Leaves.{recordCodes, exactWildcards, leastWildcards, leafPattern, LeafCodeHeld, stripIf, PlainIs, TailIs, TailsMeet, NoLeaf, LeavesAre, Joins, AloneHeld, SetHeld, SurveyHeld, LastIs, InOrderHeld, KeptHeld, KeptIs};
 
 // How many parts a set pattern has, how many of them are any, and whether all are names, any or literals.
 pub struct Plain {
@@ -316,7 +317,7 @@ fn stripped_set(table: &[u8], index: &Index, p: usize) -> Leaves
     };
     Leaves {
         found: true,
-        leaf: p + 256,
+        leaf: p + codes::STRIPPED,
         count: 1,
         size,
     }
@@ -338,13 +339,13 @@ fn whole_leaf(table: &[u8], index: &Index, p: usize) -> Leaves
 
 // What a leaf takes that is no wildcards.
 pub fn leaf_size(table: &[u8], index: &Index, c: usize) -> Size
-    requires { ⌜ LeafCodeHeld (now table) (now index) c × (c < 512) ⌝ }
+    requires { ⌜ LeafCodeHeld (now table) (now index) c × (c < exactWildcards) ⌝ }
     ensures { λ z. ⌜ Takes set (leafPattern (now (table .entry)) c) z ⌝ }
 {
-    if c < 256 {
+    if c < codes::STRIPPED {
         return sizes::size_of(table, index, c, kinds::UNION_PATTERN);
     }
-    let parts = plain_parts(table, index, c % 256);
+    let parts = plain_parts(table, index, c % codes::RECORDS);
     Size {
         least: (parts.count - parts.wild) as u8,
         more: false,
@@ -369,18 +370,18 @@ pub fn kept_part(table: &[u8], index: &Index, p: usize, j: usize, i: usize) -> u
 
 // The code of so many wildcards, or of at least so many.
 fn wild_code(n: usize, more: bool) -> usize
-    requires { ⌜ n < 256 ⌝ }
-    ensures { λ r. ⌜ r ≡ cond more 768 512 + n ⌝ }
+    requires { ⌜ n < recordCodes ⌝ }
+    ensures { λ r. ⌜ r ≡ cond more leastWildcards exactWildcards + n ⌝ }
 {
     if more {
-        return 768 + n;
+        return codes::LEAST_WILDCARDS + n;
     }
-    512 + n
+    codes::EXACT_WILDCARDS + n
 }
 
 // The wildcards together, as the last leaf, if there are some.
 fn last_leaf(t: Wildcards, i: usize) -> Leaves
-    requires { ⌜ t .wild < 256 ⌝ }
+    requires { ⌜ t .wild < recordCodes ⌝ }
     ensures { λ r. ⌜ LastIs t i r ⌝ }
 {
     if !t.some {

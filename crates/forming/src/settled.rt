@@ -41,7 +41,7 @@ pub fn is_settled(table: &[u8], index: &Index, p: usize, found: &[u32; Env::NAME
 fn has_word(found: &[u32; Env::NAMES], x: usize) -> bool
     ensures { λ r. ⌜ HasWord (now (found .entry)) x r ⌝ }
 {
-    if 16 <= x {
+    if Env::NAMES <= x {
         return false;
     }
     found[x] != 0

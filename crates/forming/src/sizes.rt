@@ -20,8 +20,10 @@ pub struct Size {
 }
 
 impl Size {
-    // The largest number that is told; a larger one is at least that.
+    // The largest number that is told, as a byte holds it; a larger one is at least that.
     pub const MOST: usize = 255;
+
+    pub const TOLD: u8 = Size::MOST as u8;
 }
 
 // What the halves of a pattern take, if they do not take any number.
@@ -39,7 +41,7 @@ pub fn sum(l: Size, r: Size) -> Size
     let b = r.least as usize;
     if Size::MOST < a + b {
         return Size {
-            least: 255,
+            least: Size::TOLD,
             more: true,
         };
     }
