@@ -78,7 +78,7 @@ pub fn is_wide(table: &[u8], index: &Index, p: usize, s: &[u8], at: usize, whole
     any_large(table, index, p, s, at + 4, at + n)
 }
 
-// The matches of the value at a place, entered among n rows.
+// The matches of the value at a place, inserted among n rows.
 fn form_one(
     table: &[u8],
     index: &Index,

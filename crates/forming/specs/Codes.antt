@@ -7,6 +7,7 @@ use Prim.Native.Nat.{ℕ, _-_, _*_, _/_, _%_, _≤_, _<_}
 use lib.Dec.{ltb}
 use lib.ListN.{length, getD, drop}
 use Rattle.values.specs.Value.{Value}
+use Rattle.tables.specs.Record.{isComposed}
 use Rattle.tables.specs.Table.{kindAt}
 use Rattle.tables.specs.Accepted.{records}
 use Rattle.patterns.specs.Members.{Alike}
@@ -44,7 +45,7 @@ firstAndRest (p ∷ ps) = p ∷ unionOf ps ∷ []
 abbrev pub codeInner : List ℕ → ℕ → List Pattern
 codeInner table c = cond (ltb c recordCodes) (innerOf table c) (cond (ltb c exactWildcards) (keptParts (innerOf table (c % recordCodes))) (firstAndRest (groupParts table c)))
 
--- How many they are; what they meet, in every way, and in the way d.
+-- How many parts a code has; what they meet, in every way, and in the way d.
 abbrev pub countOf : List ℕ → ℕ → ℕ
 countOf table c = length (codeInner table c)
 
@@ -68,10 +69,10 @@ pub record GroupHeld (table index : List ℕ) (c : ℕ) : Type 0 where
 abbrev pub CodeHeld : List ℕ → List ℕ → ℕ → Type 0
 CodeHeld table index c = LeafCodeHeld table index c ⊎ GroupHeld table index c
 
--- Its pattern has parts that are gone through.
+-- The pattern of the code has parts that are gone through.
 pub record Composed (table index : List ℕ) (c : ℕ) : Type 0 where
   pub held : CodeHeld table index c
-  pub composed : 36 ≤ kindAt (records table) (c % recordCodes)
+  pub composed : isComposed (kindAt (records table) (c % recordCodes)) ≡ true
   pub solid : isWild (codePattern table c) ≡ false
 
 -- ---- a pattern that is gone through in place of another
@@ -114,12 +115,12 @@ pub record PartCode (table index : List ℕ) (c i r : ℕ) : Type 0 where
 -- A leaf of the agenda: a record without parts, or that only counts; or wildcards together.
 pub record RecordLeaf (table index : List ℕ) (c : ℕ) : Type 0 where
   pub readable : Readable table index c
-  pub counts : 36 ≤ kindAt (records table) c → isWild (patternAt (records table) c) ≡ true
+  pub counts : isComposed (kindAt (records table) c) ≡ true → isWild (patternAt (records table) c) ≡ true
 
 abbrev pub LeafCode : List ℕ → List ℕ → ℕ → Type 0
 LeafCode table index c = RecordLeaf table index c ⊎ WildHeld c
 
--- Whether it is a pattern with parts that are gone through.
+-- r says whether the code has parts that are gone through
 pub record TellsParts (table index : List ℕ) (c : ℕ) (r : Bool) : Type 0 where
-  pub parts : r ≡ true → (36 ≤ kindAt (records table) (c % recordCodes)) × (isWild (codePattern table c) ≡ false)
+  pub parts : r ≡ true → (isComposed (kindAt (records table) (c % recordCodes)) ≡ true) × (isWild (codePattern table c) ≡ false)
   pub leaf : r ≡ false → LeafCode table index c

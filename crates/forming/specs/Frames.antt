@@ -67,7 +67,7 @@ slotAt a i = take frameBytes (drop (frameBytes * i) a)
 abbrev pub frameAt : List ℕ → ℕ → Frame
 frameAt a i = frameOf (slotAt a i)
 
--- It with another way next.
+-- A frame with another way next.
 abbrev pub onto : Frame → ℕ → Frame
 onto f e = record { p = f .p; rest = f .rest; at = f .at; next = f .next; top = f .top; way = e; ways = f .ways; mask = f .mask; once = f .once; sizes = f .sizes }
 

@@ -108,7 +108,7 @@ stripIf t ps = cond t (stripEach ps) ps
 abbrev pub tailLeaf : Bool → ℕ → Bool → List Pattern
 tailLeaf some n more = cond some (wildcards n more ∷ []) []
 
--- Of a list of patterns: the code of the one at i, how many they are, and what those from i on take.
+-- r has the code of the pattern at i of a list, how many they are, and what those from i on take.
 pub record LeavesAre (table index : List ℕ) (ps : List Pattern) (i : ℕ) (r : Leaves) : Type 0 where
   pub count : r .count ≡ length ps
   pub found : r .found ≡ ltb i (length ps)

@@ -5,6 +5,7 @@ use mathlib.Core.List.{List, [], _∷_, _++_}
 use Prim.Native.Nat.{ℕ, _+_, _*_, _%_, _≤_, _<_}
 use lib.ListN.{length, getD}
 use Rattle.values.specs.Value.{Value}
+use Rattle.tables.specs.Record.{isComposed}
 use Rattle.tables.specs.Table.{kindAt}
 use Rattle.tables.specs.Accepted.{records}
 use Rattle.parts.specs.Part.{PartIs}
@@ -37,7 +38,7 @@ abbrev pub AgendaIs : List ℕ → List ℕ → List ℕ → List ℕ → ℕ �
 AgendaIs table index s a top head [] = head ≡ 0
 AgendaIs table index s a top head (t ∷ ts) = Pending table index s a top head t × AgendaIs table index s a top (getD a (3 * head + 2) 0) ts
 
--- So many entries the tasks may need.
+-- The entries that the tasks may need.
 abbrev pub spaces : List Task → ℕ
 spaces [] = 0
 spaces (t ∷ ts) = inner (t .what) + spaces ts
@@ -73,7 +74,7 @@ CodeTold table c s word found after agrees = (v : Value) (b : Binding) → PartI
 -- An entry with parts that waits, or none.
 abbrev pub WaitsAre : List ℕ → List ℕ → List ℕ → List ℕ → ℕ → ℕ → List Task → Type 0
 WaitsAre table index s a top wait [] = wait ≡ 0
-WaitsAre table index s a top wait (t ∷ []) = Pending table index s a top wait t × (36 ≤ kindAt (records table) (getD a (3 * wait) 0 % recordCodes)) × (isWild (codePattern table (getD a (3 * wait) 0)) ≡ false)
+WaitsAre table index s a top wait (t ∷ []) = Pending table index s a top wait t × (isComposed (kindAt (records table) (getD a (3 * wait) 0 % recordCodes)) ≡ true) × (isWild (codePattern table (getD a (3 * wait) 0)) ≡ false)
 WaitsAre table index s a top wait (t ∷ u ∷ ts) = ⊥
 
 -- What is left of the tasks ts, going on from b: the one that waits, and those from head on, with what is found now.

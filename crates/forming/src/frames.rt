@@ -66,7 +66,7 @@ fn word(a: u8, b: u8, c: u8, d: u8) -> usize
 }
 
 // A frame from its bytes.
-fn unpack(b: Bytes) -> Frame
+fn frame_of(b: Bytes) -> Frame
     ensures { λ r. ⌜ r ≡ frameOf b ⌝ }
 {
     let left = Size {
@@ -106,7 +106,7 @@ pub fn load(frames: &Frames, i: usize) -> Frame
     ensures { λ r. ⌜ r ≡ frameAt (now (frames .entry)) i ⌝ }
 {
     let b = slot(frames, i);
-    unpack(b)
+    frame_of(b)
 }
 
 // A flag as a byte.
@@ -120,7 +120,7 @@ fn flag(b: bool) -> u8
 }
 
 // The bytes of a frame.
-fn pack(f: Frame) -> Bytes
+fn bytes_of(f: Frame) -> Bytes
     requires { ⌜ FrameFits f ⌝ }
     ensures { λ r. ⌜ (frameOf r ≡ f) × (length r ≡ frameBytes) ⌝ }
 {
@@ -172,7 +172,7 @@ pub fn store(frames: &mut Frames, i: usize, f: Frame)
     requires { ⌜ (i < mostFrames) × (length (now frames) ≡ framesBytes) × FrameFits f ⌝ }
     ensures { λ u. ⌜ Stored (now (frames .entry)) i f (now (frames .exit)) ⌝ }
 {
-    let bytes = pack(f);
+    let bytes = bytes_of(f);
     put_slot(frames, i, bytes);
 }
 

@@ -13,6 +13,7 @@ use tables::kinds;
 use tables::reading::kind;
 use tables::reading::operand;
 use tables::reading::operand_count;
+use tables::shape::is_composed;
 ghost use mathlib.Core.Path.{_≡_};
 ghost use mathlib.Core.Bool.{true};
 ghost use Prim.Native.Nat.{_+_, _*_, _≤_, _<_};
@@ -160,7 +161,7 @@ pub fn has_parts(table: &[u8], index: &Index, c: usize) -> bool
         return true;
     }
     let k = kind(table, index, c);
-    if k < kinds::TUPLE_PATTERN {
+    if !is_composed(k) {
         return false;
     }
     let count = count_only(table, index, c);

@@ -9,12 +9,14 @@ use tables::kinds;
 use tables::reading::kind;
 use tables::reading::operand;
 use tables::reading::operand_count;
+use tables::shape::is_composed;
 ghost use mathlib.Core.Path.{_≡_};
-ghost use mathlib.Core.Bool.{false, _&&_, cond};
+ghost use mathlib.Core.Bool.{false, not, _&&_, cond};
 ghost use mathlib.Core.List.{[], _∷_};
 ghost use Prim.Native.Nat.{suc, _+_, _-_, _≤_, _<_};
-ghost use lib.Dec.{eqb, ltb};
+ghost use lib.Dec.{eqb};
 ghost use Rattle.values.specs.Value.{set};
+ghost use Rattle.tables.specs.Record.{lastKind, isComposed};
 ghost use Rattle.tables.specs.Table.{kindAt};
 ghost use Rattle.tables.specs.Accepted.{records};
 ghost use Rattle.patterns.specs.Read.{Readable, patternAt};
@@ -31,7 +33,8 @@ pub struct Plain {
     pub flat: bool,
 }
 
-// Of the leaves of a union pattern: some only count or are any; some are any; and how many wildcards there are in sets of plain parts.
+// What the leaves of a union pattern have of wildcards: whether some only count or are any; whether some are any; and how many there are in sets of plain
+// parts.
 pub struct Wildcards {
     pub some: bool,
     pub more: bool,
@@ -55,7 +58,7 @@ fn holds_name(table: &[u8], index: &Index, p: usize) -> bool
     if k == kinds::NAME_PATTERN {
         return true;
     }
-    if k < kinds::TUPLE_PATTERN {
+    if !is_composed(k) {
         return false;
     }
     let n = operand_count(table, index, p);
@@ -82,14 +85,15 @@ fn wild_with(k: usize, n: usize) -> usize
     n
 }
 
-// Plain all of them, and one of kind k.
+// Patterns without parts all of them, and one of kind k.
 fn flat_with(k: usize, flat: bool) -> bool
-    ensures { λ r. ⌜ r ≡ (ltb k 36 && flat) ⌝ }
+    requires { ⌜ k ≤ lastKind ⌝ }
+    ensures { λ r. ⌜ r ≡ (not (isComposed k) && flat) ⌝ }
 {
-    if k < kinds::TUPLE_PATTERN {
-        return flat;
+    if is_composed(k) {
+        return false;
     }
-    false
+    flat
 }
 
 // The parts of a set pattern.
@@ -148,7 +152,7 @@ fn class_of(table: &[u8], index: &Index, p: usize, k: usize) -> usize
     if k == kinds::NAME_PATTERN {
         return 0;
     }
-    if k < kinds::TUPLE_PATTERN {
+    if !is_composed(k) {
         return 1;
     }
     let counts = only_counts(table, index, p, k);

@@ -1,5 +1,5 @@
 // The bindings of a pattern formed once: all ways are gone through with an agenda of what is still to be matched and a stack of the patterns
-// whose ways are not all gone through. Each match found is entered in order, once, into rows.
+// whose ways are not all gone through. Each match found is inserted in order, once, among rows.
 mod codes;
 mod frames;
 mod groups;
@@ -85,7 +85,7 @@ fn push(
         i -= 1;
         let a = nodes::piece(k, n, s, part, d, i);
         let q = groups::part_code(table, index, c, rest, i);
-        let b = words::pack(s, a);
+        let b = words::word_of(s, a);
         agenda[3 * to] = q as u32;
         agenda[3 * to + 1] = b;
         agenda[3 * to + 2] = head as u32;
@@ -112,7 +112,7 @@ fn split_word(s: &[u8], k: usize, word: u32, ways: usize) -> u32
         extent: (ways - 1) as u16,
         how: Part::MEMBERS,
     };
-    words::pack(s, members)
+    words::word_of(s, members)
 }
 
 // Opens a frame for the entry at, where some way may have a match; how many frames there are.
@@ -163,7 +163,7 @@ fn open_frame(
     depth
 }
 
-// Goes on with an agenda: leaves are taken off; a match is entered, or a frame opened for the pattern with parts that waits.
+// Goes on with an agenda: leaves are taken off; a match is inserted, or a frame opened for the pattern with parts that waits.
 fn down(
     table: &[u8],
     index: &Index,
@@ -193,7 +193,7 @@ fn down(
     }
     let at = left.wait;
     if at == 0 {
-        return entered(s, found, depth, rows, order, n);
+        return insert_match(s, found, depth, rows, order, n);
     }
     let opened = open_frame(
         table,
@@ -215,8 +215,8 @@ fn down(
     }
 }
 
-// Enters a match: each pattern on the stack has one now.
-fn entered(
+// Inserts a match among the rows: each pattern on the stack has one now.
+fn insert_match(
     s: &[u8],
     found: &[u32; Env::NAMES],
     depth: usize,
@@ -227,7 +227,7 @@ fn entered(
     requires { ⌜ EntryHeld (now s) (now found) (now rows) (now order) n ⌝ }
     ensures { λ r. ⌜ MatchEntered (now (s .entry)) (now (found .entry)) depth (now (rows .entry)) (now (order .entry)) n (now (rows .exit)) (now (order .exit)) r ⌝ }
 {
-    let formed = rows::enter(s, found, rows, order, n);
+    let formed = rows::insert_row(s, found, rows, order, n);
     match formed {
         Formed::Refused(_) => Step {
             n,
@@ -289,22 +289,11 @@ fn back(
     let k = kind(table, index, own);
     let c = groups::part_count(table, index, p);
     let met = agenda[3 * at + 1];
-    let word = split_word(s, k, met, f.ways);
+    let w = split_word(s, k, met, f.ways);
     let way = sizes::way_from(k, f.ways, f.way + 1, f.sizes);
     let left = frames::go_on(frames, i, way, f.ways);
     masks::clear(found, f.mask);
-    let head = push(
-        table,
-        index,
-        p,
-        f.rest,
-        s,
-        word,
-        f.way,
-        agenda,
-        f.next,
-        f.top,
-    );
+    let head = push(table, index, p, f.rest, s, w, f.way, agenda, f.next, f.top);
     down(
         table,
         index,
@@ -359,7 +348,7 @@ fn finish(
     Formed::Number(r.n)
 }
 
-// All matches of an agenda that go on from what is found: each is entered.
+// All matches of an agenda that go on from what is found: each is inserted.
 pub fn solve(
     table: &[u8],
     index: &Index,

@@ -119,8 +119,8 @@ fn shift_in(order: &mut RowOrder, at: usize, n: usize)
     order[at] = n as u8;
 }
 
-// Enters a binding in order, unless it is there.
-pub fn enter(
+// Inserts a binding in order, unless it is there.
+pub fn insert_row(
     s: &[u8],
     found: &[u32; Env::NAMES],
     rows: &mut Rows,

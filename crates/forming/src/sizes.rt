@@ -10,7 +10,7 @@ use tables::reading::operand_count;
 ghost use mathlib.Core.Path.{_≡_};
 ghost use Prim.Native.Nat.{_<_};
 ghost use Rattle.patterns.specs.Read.{Readable};
-ghost use Rattle.forming.specs.Reduced.{Splits};
+ghost use Rattle.forming.specs.Reduced.{Splits, enumerationOf};
 ghost use Rattle.forming.specs.Sizes.{TellsSize, Sum, HalvesHeld, TellsSizes, Rights, SplitFrom, CutFrom, FromHeld, From};
 
 // At least so many; or exactly so many, where there may not be more.
@@ -50,13 +50,23 @@ pub fn sum(l: Size, r: Size) -> Size
     Size { least, more }
 }
 
+// The kind of patterns that have a part for each item of what patterns of kind k split or cut.
+fn enumeration_of(k: usize) -> usize
+    ensures { λ r. ⌜ r ≡ enumerationOf k ⌝ }
+{
+    if k == kinds::UNION_PATTERN {
+        return kinds::SET_PATTERN;
+    }
+    kinds::SEQUENCE_PATTERN
+}
+
 // What a pattern takes that meets a half, where k is the kind of the whole.
 pub fn size_of(table: &[u8], index: &Index, p: usize, k: usize) -> Size
     requires { ⌜ Readable (now table) (now index) p × Splits k ⌝ }
     ensures { λ z. ⌜ TellsSize (now (table .entry)) p k z ⌝ }
 {
     let own = kind(table, index, p);
-    if own == k - 1 {
+    if own == enumeration_of(k) {
         let n = operand_count(table, index, p);
         return Size {
             least: n as u8,

@@ -7,8 +7,8 @@ use matching::leaves;
 use parts::words;
 use parts::words::Env;
 use tables::Index;
-use tables::kinds;
 use tables::reading::kind;
+use tables::shape::is_composed;
 use values::Value;
 ghost use Rattle.parts.specs.Part.{PartHeld};
 ghost use Rattle.parts.specs.Word.{unpacked};
@@ -58,7 +58,7 @@ fn take_leaf(
         return is_set_of(s, word, c % codes::RECORDS, codes::LEAST_WILDCARDS <= c);
     }
     let k = kind(table, index, c);
-    if k < kinds::TUPLE_PATTERN {
+    if !is_composed(k) {
         return leaves::match_leaf(table, index, c, s, word, found);
     }
     let count = count_only(table, index, c);

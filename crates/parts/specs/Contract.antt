@@ -53,7 +53,7 @@ pub record HalvesAre (s : List ℕ) (k : Kind) (h : Split Value) (r : Halves) : 
   pub left : PartIs s (r .left) (leftOf k h)
   pub right : PartIs s (r .right) (rightOf k h)
 
--- They end where the whole ends, or before.
+-- The halves of a part end where the part ends, or before.
 pub record Inside (s : List ℕ) (p : Part) (r : Halves) : Type 0 where
   pub left : endOf s (r .left) ≤ endOf s p
   pub right : endOf s (r .right) ≤ endOf s p

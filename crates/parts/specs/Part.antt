@@ -33,7 +33,7 @@ pub record Spans (s : List ℕ) (from to : ℕ) (v : Value) : Type 0 where
 abbrev pub PartIs : List ℕ → Part → Value → Type 0
 PartIs s p v = ((p .how ≡ 1) × At s (p .at) v) ⊎ (((p .how ≡ 2) × Selects s (p .at) (p .extent) v) ⊎ ((p .how ≡ 3) × Spans s (p .at) (p .at + p .extent) v))
 
--- It denotes some value.
+-- A part that denotes some value.
 pub record PartHeld (s : List ℕ) (p : Part) : Type 0 where
   pub value : Value
   pub here : PartIs s p value

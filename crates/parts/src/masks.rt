@@ -46,7 +46,7 @@ fn deal(m: usize, dealt: Dealing) -> Dealing
     }
 }
 
-// Of the members that a mask chooses, those on the left of the d-th split.
+// The mask of those members that the d-th split of what a mask chooses has on the left.
 pub fn spread(m: usize, d: usize) -> usize
     requires { ⌜ m < 128 ⌝ }
     ensures { λ r. ⌜ Spread m d r ⌝ }

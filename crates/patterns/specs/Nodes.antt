@@ -15,7 +15,7 @@ collectionOf c = cond (eqb c 36) tuple (cond (eqb c 37 || eqb c 38) set sequence
 abbrev pub isHalved : ℕ → Bool
 isHalved c = eqb c 38 || eqb c 40
 
--- Both, one after the other.
+-- The two halves as values, the left one first.
 abbrev pub bothHalves : Kind → Halves Value → List Value
 bothHalves k h = leftOf k h ∷ rightOf k h ∷ []
 

@@ -239,7 +239,7 @@ fn third_role(kind: usize) -> Role
 
 // ---- literals, names and operators
 
-// They are known, where n is the first field.
+// The literal, name or operator of a record of the kind is known, where n is its first field.
 fn is_known(kind: usize, n: usize) -> bool
     requires { ⌜ kind ≤ lastKind ⌝ }
     ensures { λ r. ⌜ r ≡ knownFirst (shape kind .head) n ⌝ }

@@ -164,14 +164,14 @@ module _ {A : Type 0} (k : ℕ) where
       go (suc (suc (suc (suc (suc (suc (suc (suc zero)))))))) e = concatenation e
       go (suc (suc (suc (suc (suc (suc (suc (suc (suc d))))))))) e = absurd (omega (arith, pattern-most k p))
 
-  -- Of a pattern with parts by the kinds that have parts,
+  -- What follows from each kind with parts follows of every pattern with parts,
   pub by-composed : isComposed k ≡ true → (k ≡ 36 → A) → (k ≡ 37 → A) → (k ≡ 38 → A) → (k ≡ 39 → A) → (k ≡ 40 → A) → A
   unfolding shape
   by-composed c =
       by-pattern (composed-pattern k c) (λ e. never (sym (ap isComposed e) ∙ c)) (λ e. never (sym (ap isComposed e) ∙ c)) (λ e. never (sym (ap isComposed e) ∙ c))
       (λ e. never (sym (ap isComposed e) ∙ c))
 
-  -- and of a pattern without parts by the kinds that have none.
+  -- and what follows from each kind without parts follows of every pattern without.
   pub by-leaf : isPattern k ≡ true → isComposed k ≡ false → (k ≡ 32 → A) → (k ≡ 33 → A) → (k ≡ 34 → A) → (k ≡ 35 → A) → A
   unfolding shape
   by-leaf p c name any boolean integer =

@@ -5,7 +5,7 @@ use native.Mathlib.Omega.{arith}
 use Rattle.prelude.proofs.Truth.{by-lower}
 use Rattle.tables.specs.Record.{Record, operand}
 
--- It holds of the operands before i.
+-- What P says of a record holds of each operand before i.
 abbrev pub EachTo : (ℕ → Type 0) → Record → ℕ → Type 0
 EachTo P x i = (j : ℕ) → j < i → P (operand x j)
 
