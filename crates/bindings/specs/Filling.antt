@@ -9,6 +9,7 @@ use Rattle.integers.specs.Bytes.{bits32}
 use Rattle.values.specs.Value.{Value, boolean}
 use Rattle.values.specs.Place.{At, ItemsAt, HoldsItems, Outside}
 use Rattle.patterns.specs.Pattern.{itemsOf}
+use Rattle.patterns.specs.Binding.{names}
 use Rattle.patterns.specs.Binder.{mostBindings}
 use Rattle.parts.specs.Chosen.{odd}
 use Rattle.forming.specs.Rows.{rowsWords}
@@ -18,7 +19,7 @@ use Rattle.bindings.specs.Window.{window, placeOf, past, InWindow}
 
 -- The words of row r.
 abbrev pub rowWords : List ℕ → ℕ → List ℕ
-rowWords rows r = take 16 (drop (16 * r) rows)
+rowWords rows r = take names (drop (names * r) rows)
 
 -- The names that have a word, as a mask, and how many they are.
 abbrev pub bit : ℕ → ℕ
@@ -51,7 +52,7 @@ pub record NamesAre (ws : List ℕ) (r : Names) : Type 0 where
   pub mask : r .mask ≡ maskOf ws
   pub width : r .width ≡ filled ws
   pub small : r .mask < 65536
-  pub narrow : r .width ≤ 16
+  pub narrow : r .width ≤ names
 
 pub record RowPuttable (s : List ℕ) (out : ℕ) (rows : List ℕ) (r mask : ℕ) : Type 0 where
   pub held : RowHeld rows r
@@ -69,7 +70,7 @@ pub record FillHeld (s : List ℕ) (to : ℕ) (rows order : List ℕ) (c : Curso
   pub short : length s ≤ 65536
   pub few : c .count ≤ mostBindings
   pub first : c .from ≤ c .count
-  pub narrow : c .width ≤ 16
+  pub narrow : c .width ≤ names
   pub wide : length rows ≡ rowsWords
   pub long : length order ≡ mostBindings
   pub row : (j : ℕ) → j < c .count → getD order j 0 < mostBindings

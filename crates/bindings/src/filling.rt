@@ -9,6 +9,7 @@ ghost use Prim.Native.Nat.{_+_, _≤_, _<_};
 ghost use lib.ListN.{length};
 ghost use lib.Seq.{sets};
 ghost use Rattle.integers.specs.Bytes.{four};
+ghost use Rattle.patterns.specs.Binding.{names};
 ghost use Rattle.bindings.specs.Filling.{rowWords, RowHeld, NamesAre, RowPuttable, RowPut, FillHeld, Filled, OneName, MembersHeld, MembersPut};
 
 // The names that a row has words for, as a mask, and how many they are.
@@ -87,7 +88,7 @@ pub fn fill(s: &mut [u8], to: usize, rows: &Rows, order: &RowOrder, c: Cursor)
 
 // The mask of the name x alone.
 pub fn one_name(x: usize) -> usize
-    requires { ⌜ x < 16 ⌝ }
+    requires { ⌜ x < names ⌝ }
     ensures { λ r. ⌜ OneName x r ⌝ }
 {
     let mut mask = 1;

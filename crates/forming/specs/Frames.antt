@@ -7,6 +7,7 @@ use Prim.Native.Nat.{ℕ, zero, suc, _+_, _-_, _*_, _/_, _^_, _≤_, _<_}
 use lib.Dec.{eqb}
 use lib.ListN.{length, getD, take, drop}
 use Rattle.tables.specs.Check.{mostRecords}
+use Rattle.patterns.specs.Binding.{names}
 use Rattle.matching.specs.Leaf.{Grown}
 use Rattle.forming.specs.declared.frames.Frame.{Frame}
 
@@ -121,4 +122,4 @@ maskOf (w ∷ ws) = 2 * maskOf ws + hasWord w
 
 -- The words are again what they were when the mask was made of them.
 abbrev pub Cleared : List ℕ → ℕ → List ℕ → Type 0
-Cleared before mask after = (ws : List ℕ) → mask ≡ maskOf ws → length ws ≡ 16 → Grown ws before → after ≡ ws
+Cleared before mask after = (ws : List ℕ) → mask ≡ maskOf ws → length ws ≡ names → Grown ws before → after ≡ ws

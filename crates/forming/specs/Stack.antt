@@ -12,7 +12,7 @@ use Rattle.tables.specs.Accepted.{records}
 use Rattle.parts.specs.Part.{PartIs}
 use Rattle.parts.specs.Word.{unpacked}
 use Rattle.patterns.specs.Ways.{gather}
-use Rattle.patterns.specs.Binding.{Binding, place}
+use Rattle.patterns.specs.Binding.{Binding, names, place}
 use Rattle.patterns.specs.Binder.{mostBindings}
 use Rattle.patterns.specs.Pattern.{wide}
 use Rattle.patterns.specs.Nodes.{isLarge}
@@ -91,7 +91,7 @@ Accounted all pending entered hit (l ∷ ls) =
 pub record Stacked (table index s a : List ℕ) (high : ℕ) (found frames : List ℕ) (depth hit : ℕ) (rows order : List ℕ) (n : ℕ) (more target : List Binding) : Type 0 where
   pub short : length s ≤ 65536
   pub long : length a ≡ agendaWords
-  pub sized : length found ≡ 16
+  pub sized : length found ≡ names
   pub frames-long : length frames ≡ framesBytes
   pub levels : List Level
   pub deep : length levels ≡ depth

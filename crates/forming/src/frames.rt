@@ -8,19 +8,21 @@ ghost use Prim.Native.Nat.{_+_, _*_, _<_};
 ghost use lib.ListN.{length};
 ghost use Rattle.forming.specs.Frames.{frameBytes, mostFrames, framesBytes, flagByte, slotAt, frameOf, frameAt, onto, FrameFits, SlotPut, Stored, Advanced};
 
-// A frame takes two of the records of a table at least.
+// A frame takes two of the records of a table at least, so that no more are on the stack.
 const MOST_FRAMES: usize = MOST_RECORDS / 2;
 
+// The bytes of a frame: four for each of two codes, two for the names, and one for each of the other eleven fields.
 const FRAME_BYTES: usize = 21;
 
+pub type Bytes = [u8; FRAME_BYTES];
+
+// The bytes of all frames.
 pub const FRAMES_BYTES: usize = MOST_FRAMES * FRAME_BYTES;
 
 pub type Frames = [u8; FRAMES_BYTES];
 
-pub type Bytes = [u8; FRAME_BYTES];
-
-// The code of the pattern, and of the right half of a group; the entry of the agenda that has the part it meets, the entry that follows, and the first that is free; the way
-// that is next, and how many there are; the names that had a value; whether the pattern is only a test; and what its halves take.
+// The code of the pattern, and of the right half of a group; the entry of the agenda that has the part it meets, the entry that follows, and the first that
+// is free; the way that is next, and how many there are; the names that had a value; whether the pattern is only a test; and what its halves take.
 pub struct Frame {
     pub p: usize,
     pub rest: usize,

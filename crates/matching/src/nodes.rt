@@ -76,7 +76,7 @@ pub fn meet(kind: usize, n: usize, s: &[u8], part: Part) -> Meeting
     }
     let count = parts::count_of_part(s, part);
     if kind == kinds::UNION_PATTERN {
-        if 7 < count {
+        if parts::masks::MOST_MEMBERS < count {
             return Meeting::Large;
         }
         let m = parts::masks::full(count);
