@@ -4,14 +4,14 @@ use mathlib.Core.Path.{_≡_, refl, sym, ap, ap₂, subst, _∙_}
 use mathlib.Core.Bool.{Bool, true, false, _||_}
 use mathlib.Core.Logic.{_⊎_, inl, inr, ⊎-elim}
 use mathlib.Core.List.{List, [], _∷_, map}
-use Prim.Native.Nat.{ℕ, zero, suc, _+_, _-_, _≤_, _<_}
+use Prim.Native.Nat.{ℕ, zero, suc, _+_, _≤_, _<_}
 use native.Mathlib.Decide.{ℕ-discrete}
 use native.Mathlib.Omega.{arith}
-use lib.Dec.{eqb, leb}
+use lib.Dec.{eqb}
 use lib.ListN.{length, getD, take}
-use borrow.Author.Tests.{eq-eqb, ne-eqb, eqb-true, leb-true, leb-false}
-use Rattle.prelude.proofs.Truth.{or-false-right, or-cases}
-use Rattle.tables.specs.Record.{Record, named, operand}
+use borrow.Author.Tests.{eq-eqb, ne-eqb, eqb-true}
+use Rattle.prelude.proofs.Truth.{by-test, or-false-right, or-cases}
+use Rattle.tables.specs.Record.{Record, isPattern, isComposed, named, operand}
 use Rattle.tables.specs.Table.{recordAt, kindAt}
 use Rattle.tables.specs.Sheet.{fold, some, isIn, parent}
 use Rattle.tables.specs.Check.{allNamed}
@@ -23,10 +23,10 @@ use Rattle.patterns.specs.Pattern.{Pattern, any}
 use Rattle.forming.specs.Inner.{inner, innerEach}
 use Rattle.forming.specs.Laws.Inner.{innerInside, inner-most}
 use Rattle.matching.specs.Node.{innerOf}
-use Rattle.matching.proofs.Records.{by-record, inner-length, kind-low, count-two, operand-readable}
-use Rattle.patterns.specs.Read.{Readable, patternsOf, patterns, patternOf, patternAt}
+use Rattle.matching.proofs.Records.{by-record, inner-length, count-two, operand-readable}
+use Rattle.patterns.specs.Read.{Readable, patternsOf, patternOf, patternAt}
 use Rattle.patterns.specs.Nodes.{isHalved}
-use Rattle.patterns.specs.Laws.Nodes.{pattern-at}
+use Rattle.patterns.specs.Laws.Nodes.{on-leaf, on-composed}
 use Rattle.prelude.proofs.Absurd.{true-false}
 
 -- ---- truths
@@ -249,20 +249,13 @@ two-inner [] e = absurd (omega arith)
 two-inner (p ∷ []) e = absurd (omega arith)
 two-inner (p ∷ q ∷ ps) e = omega arith
 
-inner-of : (r : Record) (ps : List Pattern) → (isHalved (r .kind) ≡ true → length ps ≡ 2) → inner (patternOf r ps) ≤ sum (map (λ p. suc (inner p)) ps)
-inner-of r ps two = omega (arith, inner-most (patternOf r ps), go (r .kind - 32) refl)
-  where
-    go : (k : ℕ) → r .kind - 32 ≡ k → innerInside (getD patterns k (λ q qs. any) r ps) ≤ sum (map (λ p. suc (inner p)) ps)
-    go zero e = omega arith
-    go (suc zero) e = omega arith
-    go (suc (suc zero)) e = omega arith
-    go (suc (suc (suc zero))) e = omega arith
-    go (suc (suc (suc (suc zero)))) e = omega (arith, each-inner ps)
-    go (suc (suc (suc (suc (suc zero))))) e = omega (arith, each-inner ps)
-    go (suc (suc (suc (suc (suc (suc zero)))))) e = let f : r .kind ≡ 38 = omega arith in two-inner ps (two (rw f))
-    go (suc (suc (suc (suc (suc (suc (suc zero))))))) e = omega (arith, each-inner ps)
-    go (suc (suc (suc (suc (suc (suc (suc (suc zero)))))))) e = let f : r .kind ≡ 40 = omega arith in two-inner ps (two (rw f))
-    go (suc (suc (suc (suc (suc (suc (suc (suc (suc k))))))))) e = omega arith
+inner-of : (r : Record) (ps : List Pattern) → isComposed (r .kind) ≡ true → (isHalved (r .kind) ≡ true → length ps ≡ 2) → inner (patternOf r ps) ≤ sum (map (λ p. suc (inner p)) ps)
+inner-of r ps c two =
+    omega (arith, inner-most (patternOf r ps), on-composed r ps (λ q. innerInside q ≤ sum (map (λ p. suc (inner p)) ps)) c (λ h. omega (arith, each-inner ps)) (λ h. two-inner ps (two h)))
+
+inner-leaf : (r : Record) (ps : List Pattern) → isPattern (r .kind) ≡ true → isComposed (r .kind) ≡ false → inner (patternOf r ps) ≡ 0
+unfolding inner
+inner-leaf r ps p c = on-leaf r ps (λ q. inner q ≡ 0) p c (λ e. refl) (λ e. refl) (λ w a b. refl)
 
 module _ (table index : List ℕ) where
   -- over operands: no more parts than records below
@@ -279,33 +272,19 @@ module _ (table index : List ℕ) where
   inner-under : (clear : Clear6 RS) (b p : ℕ) (r : Readable table index p) → p < b → suc (inner (patternAt RS p)) ≤ count (under RS clear p) (length RS)
   unfolding inner
   inner-under clear zero p r k = absurd (omega arith)
-  inner-under clear (suc b) p r k = go (leb 36 (kindAt RS p)) refl (λ i l c. let o = operand-readable table index p r i l c (operand (recordAt RS p) i) refl in inner-under clear b (operand (recordAt RS p) i) (o .0) (omega (arith, o .1)))
+  inner-under clear (suc b) p r k =
+      by-test (isComposed (kindAt RS p))
+      (λ c.
+      let d = ap inner (by-record table index p r) in
+      let m = inner-of (recordAt RS p) (innerOf table p) c (λ q. inner-length table index p r ∙ count-two table index p r c q) in
+      let l = sum-less RS clear (named (recordAt RS p)) (λ i l. let o = operand-readable table index p r i l (operand (recordAt RS p) i) refl in inner-under clear b (operand (recordAt RS p) i) (o .0) (omega (arith, o .1))) in
+      omega (arith, d, m, l, below))
+      (λ c.
+      let d = ap inner (by-record table index p r) ∙ inner-leaf (recordAt RS p) (innerOf table p) (r .pattern) c in
+      omega (arith, d, below))
     where
       below : count (under RS clear p) (length RS) ≡ suc (sum (map (λ q. count (under RS clear q) (length RS)) (named (recordAt RS p))))
       below = count-under RS clear p (r .here .within)
-
-      leafy : (c : ℕ) → c < 36 → 32 ≤ c → inner (getD patterns (c - 32) (λ q qs. any) (recordAt RS p) (innerOf table p)) ≡ 0
-      leafy c h l = cases (c - 32) refl
-        where
-          cases : (d : ℕ) → c - 32 ≡ d → inner (getD patterns d (λ q qs. any) (recordAt RS p) (innerOf table p)) ≡ 0
-          cases zero e = refl
-          cases (suc zero) e = refl
-          cases (suc (suc zero)) e = refl
-          cases (suc (suc (suc zero))) e = refl
-          cases (suc (suc (suc (suc d)))) e = absurd (omega arith)
-
-      go : (t : Bool) → leb 36 (kindAt RS p) ≡ t → ((i : ℕ) → i < length (named (recordAt RS p)) → 36 ≤ kindAt RS p → suc (inner (patternAt RS (operand (recordAt RS p) i))) ≤ count (under RS clear (operand (recordAt RS p) i)) (length RS))
-          → suc (inner (patternAt RS p)) ≤ count (under RS clear p) (length RS)
-      go true e on =
-          let c : 36 ≤ kindAt RS p = leb-true 36 (kindAt RS p) e in
-          let d = ap inner (by-record table index p r) in
-          let m = inner-of (recordAt RS p) (innerOf table p) (λ q. inner-length table index p r ∙ count-two table index p r c q) in
-          let l = sum-less RS clear (named (recordAt RS p)) (λ i l. on i l c) in
-          omega (arith, d, m, l, below)
-      go false e on =
-          let c : kindAt RS p < 36 = omega (arith, leb-false 36 (kindAt RS p) e) in
-          let d = ap inner (by-record table index p r) ∙ leafy (kindAt RS p) c (kind-low table index p r) in
-          omega (arith, d, below)
 
 -- THEOREM: a pattern of an accepted table has fewer parts inside than the table has records
 pub inner-few : (table index : List ℕ) (p : ℕ) → Readable table index p → inner (patternAt (records table) p) < 200

@@ -9,14 +9,17 @@ use Rattle.integers.specs.Bytes.{bits32}
 use Rattle.values.specs.Value.{Value, boolean}
 use Rattle.values.specs.Place.{At, ItemsAt, HoldsItems, Outside}
 use Rattle.patterns.specs.Pattern.{itemsOf}
+use Rattle.patterns.specs.Binding.{names}
+use Rattle.patterns.specs.Binder.{mostBindings}
 use Rattle.parts.specs.Chosen.{odd}
+use Rattle.forming.specs.Rows.{rowsWords}
 use Rattle.bindings.specs.declared.Cursor.{Cursor}
 use Rattle.bindings.specs.declared.filling.Names.{Names}
 use Rattle.bindings.specs.Window.{window, placeOf, past, InWindow}
 
 -- The words of row r.
 abbrev pub rowWords : List ℕ → ℕ → List ℕ
-rowWords rows r = take 16 (drop (16 * r) rows)
+rowWords rows r = take names (drop (names * r) rows)
 
 -- The names that have a word, as a mask, and how many they are.
 abbrev pub bit : ℕ → ℕ
@@ -42,14 +45,14 @@ WordsAt s at e m (w ∷ ws) = WordAt s at (odd m) w × WordsAt s (past (odd m) a
 -- ---- one row
 
 pub record RowHeld (rows : List ℕ) (r : ℕ) : Type 0 where
-  pub low : r < 255
-  pub wide : length rows ≡ 4080
+  pub low : r < mostBindings
+  pub wide : length rows ≡ rowsWords
 
 pub record NamesAre (ws : List ℕ) (r : Names) : Type 0 where
   pub mask : r .mask ≡ maskOf ws
   pub width : r .width ≡ filled ws
   pub small : r .mask < 65536
-  pub narrow : r .width ≤ 16
+  pub narrow : r .width ≤ names
 
 pub record RowPuttable (s : List ℕ) (out : ℕ) (rows : List ℕ) (r mask : ℕ) : Type 0 where
   pub held : RowHeld rows r
@@ -65,12 +68,12 @@ pub record RowPut (s t : List ℕ) (out : ℕ) (rows : List ℕ) (r mask : ℕ) 
 pub record FillHeld (s : List ℕ) (to : ℕ) (rows order : List ℕ) (c : Cursor) : Type 0 where
   pub room : to + window ≤ length s
   pub short : length s ≤ 65536
-  pub few : c .count ≤ 255
+  pub few : c .count ≤ mostBindings
   pub first : c .from ≤ c .count
-  pub narrow : c .width ≤ 16
-  pub wide : length rows ≡ 4080
-  pub long : length order ≡ 255
-  pub row : (j : ℕ) → j < c .count → getD order j 0 < 255
+  pub narrow : c .width ≤ names
+  pub wide : length rows ≡ rowsWords
+  pub long : length order ≡ mostBindings
+  pub row : (j : ℕ) → j < c .count → getD order j 0 < mostBindings
   pub mask : (j : ℕ) → j < c .count → c .names ≡ maskOf (rowWords rows (getD order j 0))
   pub width : (j : ℕ) → j < c .count → c .width ≡ filled (rowWords rows (getD order j 0))
 

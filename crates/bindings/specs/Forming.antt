@@ -10,12 +10,13 @@ use Rattle.tables.specs.Accepted.{records}
 use Rattle.patterns.specs.Ways.{gather, exists}
 use Rattle.patterns.specs.Binding.{Binding}
 use Rattle.patterns.specs.Pattern.{itemsOf, matches, wide}
-use Rattle.patterns.specs.Binder.{Formed as Outcome, bound, refused, formed}
+use Rattle.patterns.specs.Binder.{mostBindings, Formed as Outcome, bound, refused, formed}
 use Rattle.patterns.specs.Read.{Readable, patternAt}
 use Rattle.forming.specs.declared.Formed.{Formed}
 use Rattle.forming.specs.declared.Formed.the-variants.{Number, Refused}
 use Rattle.forming.specs.Adding.{adding}
-use Rattle.forming.specs.Rows.{RowsAre, Entered}
+use Rattle.forming.specs.Frames.{agendaWords}
+use Rattle.forming.specs.Rows.{rowsWords, RowsAre, Entered}
 
 -- The values of a binder: the one at a place, or the members of the set there.
 abbrev pub Values : List ℕ → ℕ → Bool → List Value → Type 0
@@ -42,7 +43,7 @@ pub record OneHeld (table index : List ℕ) (p : ℕ) (s : List ℕ) (at : ℕ) 
   pub value : Value
   pub here : At s at value
   pub narrow : wide (patternAt (records table) p) value ≡ false
-  pub long : length a ≡ 603
+  pub long : length a ≡ agendaWords
   pub bindings : List Binding
   pub rows-are : RowsAre s rows order n bindings
 
@@ -57,9 +58,9 @@ pub record AllHeld (table index : List ℕ) (p : ℕ) (s : List ℕ) (from to : 
   pub values : List Value
   pub here : ItemsAt s from to (itemsOf values)
   pub narrow : exists values (wide (patternAt (records table) p)) ≡ false
-  pub long : length a ≡ 603
-  pub rows-long : length rows ≡ 4080
-  pub order-long : length order ≡ 255
+  pub long : length a ≡ agendaWords
+  pub rows-long : length rows ≡ rowsWords
+  pub order-long : length order ≡ mostBindings
 
 abbrev pub AllFormed : List ℕ → ℕ → List ℕ → ℕ → ℕ → List ℕ → List ℕ → Formed → Type 0
 AllFormed table p s from to rows order r =

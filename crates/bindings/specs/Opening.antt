@@ -8,8 +8,9 @@ use Rattle.values.specs.Value.{Value}
 use Rattle.values.specs.Place.{Outside}
 use Rattle.tables.specs.Accepted.{records}
 use Rattle.patterns.specs.Binding.{Binding, names, only}
-use Rattle.patterns.specs.Binder.{bound, formed}
+use Rattle.patterns.specs.Binder.{mostBindings, bound, formed}
 use Rattle.patterns.specs.Read.{patternAt}
+use Rattle.forming.specs.Rows.{rowsWords}
 use Rattle.bindings.specs.declared.Cursor.{Cursor}
 use Rattle.bindings.specs.declared.Opened.{Opened}
 use Rattle.bindings.specs.Window.{window, Values, Bindable, Windowed, TellsFrom}
@@ -35,10 +36,10 @@ abbrev pub AnyOpened : List ℕ → ℕ → Bool → Cursor → Type 0
 AnyOpened s at whole r = (vs : List Value) → Values s at whole vs → r ≡ record { count = anyCount vs; names = 0; width = 0; from = 0 }
 
 pub record CursorHeld (rows order : List ℕ) (n k : ℕ) : Type 0 where
-  pub wide : length rows ≡ 4080
-  pub long : length order ≡ 255
-  pub few : n ≤ 255
-  pub row : 0 < n → getD order 0 0 < 255
+  pub wide : length rows ≡ rowsWords
+  pub long : length order ≡ mostBindings
+  pub few : n ≤ mostBindings
+  pub row : 0 < n → getD order 0 0 < mostBindings
 
 pub record CursorOver (rows order : List ℕ) (n k : ℕ) (r : Cursor) : Type 0 where
   pub count : r .count ≡ n

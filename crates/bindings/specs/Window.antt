@@ -9,7 +9,7 @@ use Rattle.values.specs.Value.{Value}
 use Rattle.values.specs.Place.{Outside}
 use Rattle.tables.specs.Accepted.{records}
 use Rattle.patterns.specs.Binding.{Cell, free, is, clash, Binding, names, nothing, cellOf}
-use Rattle.patterns.specs.Binder.{Formed, bound, refused, formed}
+use Rattle.patterns.specs.Binder.{mostBindings, Formed, bound, refused, formed}
 use Rattle.patterns.specs.Read.{patternAt}
 use Rattle.parts.specs.Chosen.{odd}
 use Rattle.parts.specs.Part.{PartIs}
@@ -58,9 +58,9 @@ pub record InWindow (c : Cursor) (k : ℕ) : Type 0 where
 -- below the window.
 pub record Windowed (s : List ℕ) (to : ℕ) (c : Cursor) (bs : List Binding) : Type 0 where
   pub count : length bs ≡ c .count
-  pub few : c .count ≤ 255
+  pub few : c .count ≤ mostBindings
   pub narrow : c .width ≤ names
-  pub first : c .from ≤ 255
+  pub first : c .from ≤ mostBindings
   pub each : (k : ℕ) → InWindow c k → CellsAt s (take to s) (placeOf to c k) (placeOf to c k + 4 * c .width) (c .names) (getD bs k nothing)
   pub sized : (k : ℕ) → k < length bs → length (getD bs k nothing) ≡ names
 

@@ -1,11 +1,15 @@
 // A window of bindings in scratch: rows of words written one after the other, as many as fit.
 use crate::Cursor;
+use forming::RowOrder;
+use forming::Rows;
 use integers::bytes::put16;
+use parts::words::Env;
 ghost use mathlib.Core.Path.{_≡_};
 ghost use Prim.Native.Nat.{_+_, _≤_, _<_};
 ghost use lib.ListN.{length};
 ghost use lib.Seq.{sets};
 ghost use Rattle.integers.specs.Bytes.{four};
+ghost use Rattle.patterns.specs.Binding.{names};
 ghost use Rattle.bindings.specs.Filling.{rowWords, RowHeld, NamesAre, RowPuttable, RowPut, FillHeld, Filled, OneName, MembersHeld, MembersPut};
 
 // The names that a row has words for, as a mask, and how many they are.
@@ -25,17 +29,17 @@ fn put_word(s: &mut [u8], at: usize, word: u32)
 }
 
 // The names of row r.
-pub fn names_of(rows: &[u32; 4080], r: usize) -> Names
+pub fn names_of(rows: &Rows, r: usize) -> Names
     requires { ⌜ RowHeld (now rows) r ⌝ }
     ensures { λ n. ⌜ NamesAre (rowWords (now (rows .entry)) r) n ⌝ }
 {
-    let mut x = 16;
+    let mut x = Env::NAMES;
     let mut mask = 0;
     let mut width = 0;
     while 0 < x {
         x -= 1;
         mask *= 2;
-        if rows[16 * r + x] != 0 {
+        if rows[Env::NAMES * r + x] != 0 {
             mask += 1;
             width += 1;
         }
@@ -44,7 +48,7 @@ pub fn names_of(rows: &[u32; 4080], r: usize) -> Names
 }
 
 // Writes the words of row r, which has words for the names of a mask.
-fn put_row(s: &mut [u8], out: usize, rows: &[u32; 4080], r: usize, mask: usize)
+fn put_row(s: &mut [u8], out: usize, rows: &Rows, r: usize, mask: usize)
     requires { ⌜ RowPuttable (now s) out (now rows) r mask ⌝ }
     ensures { λ u. ⌜ RowPut (now (s .entry)) (now (s .exit)) out (now (rows .entry)) r mask ⌝ }
 {
@@ -53,7 +57,7 @@ fn put_row(s: &mut [u8], out: usize, rows: &[u32; 4080], r: usize, mask: usize)
     let mut x = 0;
     while 0 < left {
         if left % 2 == 1 {
-            let w = rows[16 * r + x];
+            let w = rows[Env::NAMES * r + x];
             put_word(s, at, w);
             at += 4;
         }
@@ -63,7 +67,7 @@ fn put_row(s: &mut [u8], out: usize, rows: &[u32; 4080], r: usize, mask: usize)
 }
 
 // Writes the rows from a cursor's first binding on, as many as fit.
-pub fn fill(s: &mut [u8], to: usize, rows: &[u32; 4080], order: &[u8; 255], c: Cursor)
+pub fn fill(s: &mut [u8], to: usize, rows: &Rows, order: &RowOrder, c: Cursor)
     requires { ⌜ FillHeld (now s) to (now rows) (now order) c ⌝ }
     ensures { λ u. ⌜ Filled (now (s .entry)) (now (s .exit)) to (now (rows .entry)) (now (order .entry)) c ⌝ }
 {
@@ -84,7 +88,7 @@ pub fn fill(s: &mut [u8], to: usize, rows: &[u32; 4080], order: &[u8; 255], c: C
 
 // The mask of the name x alone.
 pub fn one_name(x: usize) -> usize
-    requires { ⌜ x < 16 ⌝ }
+    requires { ⌜ x < names ⌝ }
     ensures { λ r. ⌜ OneName x r ⌝ }
 {
     let mut mask = 1;

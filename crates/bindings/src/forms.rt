@@ -1,5 +1,8 @@
 // The bindings of a binder as rows, formed in one pass over the one value or over all members.
+use forming::Agenda;
 use forming::Formed;
+use forming::RowOrder;
+use forming::Rows;
 use parts::Part;
 use parts::words::Env;
 use tables::Index;
@@ -9,6 +12,8 @@ ghost use lib.ListN.{length};
 ghost use mathlib.Core.Bool.{cond};
 ghost use Rattle.values.specs.Place.{HoldsItems};
 ghost use Rattle.patterns.specs.Read.{Readable};
+ghost use Rattle.patterns.specs.Binder.{mostBindings};
+ghost use Rattle.forming.specs.Rows.{rowsWords};
 ghost use Rattle.bindings.specs.Forming.{Bindable, TellsWide, TellsWideIn, OneHeld, OneFormed, AllHeld, AllFormed, RowsFormed};
 
 // Where the values of a binder begin: at a place, or with the first member of the set there.
@@ -73,16 +78,16 @@ pub fn is_wide(table: &[u8], index: &Index, p: usize, s: &[u8], at: usize, whole
     any_large(table, index, p, s, at + 4, at + n)
 }
 
-// The matches of the value at a place, entered among n rows.
+// The matches of the value at a place, inserted among n rows.
 fn form_one(
     table: &[u8],
     index: &Index,
     p: usize,
     s: &[u8],
     at: usize,
-    agenda: &mut [u32; 603],
-    rows: &mut [u32; 4080],
-    order: &mut [u8; 255],
+    agenda: &mut Agenda,
+    rows: &mut Rows,
+    order: &mut RowOrder,
     n: usize,
 ) -> Formed
     requires { ⌜ OneHeld (now table) (now index) p (now s) at (now agenda) (now rows) (now order) n ⌝ }
@@ -103,9 +108,9 @@ fn form_all(
     s: &[u8],
     from: usize,
     to: usize,
-    agenda: &mut [u32; 603],
-    rows: &mut [u32; 4080],
-    order: &mut [u8; 255],
+    agenda: &mut Agenda,
+    rows: &mut Rows,
+    order: &mut RowOrder,
 ) -> Formed
     requires { ⌜ AllHeld (now table) (now index) p (now s) from to (now agenda) (now rows) (now order) ⌝ }
     ensures { λ r. ⌜ AllFormed (now (table .entry)) p (now (s .entry)) from to (now (rows .exit)) (now (order .exit)) r ⌝ }
@@ -134,18 +139,18 @@ pub fn form_rows(
     s: &[u8],
     at: usize,
     whole: bool,
-    rows: &mut [u32; 4080],
-    order: &mut [u8; 255],
+    rows: &mut Rows,
+    order: &mut RowOrder,
 ) -> Formed
     requires { ⌜ Readable (now table) (now index) p ⌝ }
-    requires { ⌜ Bindable (now s) at whole × (length (now s) ≤ 65536) × (length (now rows) ≡ 4080) × (length (now order) ≡ 255) ⌝ }
+    requires { ⌜ Bindable (now s) at whole × (length (now s) ≤ 65536) × (length (now rows) ≡ rowsWords) × (length (now order) ≡ mostBindings) ⌝ }
     ensures { λ r. ⌜ RowsFormed (now (table .entry)) p (now (s .entry)) at whole (now (rows .exit)) (now (order .exit)) r ⌝ }
 {
     let wide = is_wide(table, index, p, s, at, whole);
     if wide {
         return Formed::Refused(29);
     }
-    let mut agenda = [0u32; 603];
+    let mut agenda = [0u32; forming::AGENDA_WORDS];
     if whole {
         return form_one(table, index, p, s, at, &mut agenda, rows, order, 0);
     }

@@ -3,10 +3,13 @@ mod filling;
 mod forms;
 
 use forming::Formed;
+use forming::RowOrder;
+use forming::Rows;
 use integers::bytes::read16;
 use parts::words::Env;
 use tables::Index;
 use tables::kinds;
+use values::Value;
 ghost use mathlib.Core.Path.{_≡_};
 ghost use Prim.Native.Nat.{_+_, _<_, _≤_};
 ghost use lib.ListN.{length};
@@ -85,7 +88,7 @@ fn open_any(s: &[u8], at: usize, whole: bool) -> Cursor
 }
 
 // The cursor over n rows, at binding k.
-fn cursor_over(rows: &[u32; 4080], order: &[u8; 255], n: usize, k: usize) -> Cursor
+fn cursor_over(rows: &Rows, order: &RowOrder, n: usize, k: usize) -> Cursor
     requires { ⌜ CursorHeld (now rows) (now order) n k ⌝ }
     ensures { λ r. ⌜ CursorOver (now (rows .entry)) (now (order .entry)) n k r ⌝ }
 {
@@ -150,8 +153,8 @@ fn form_from(
     requires { ⌜ LentFrom (now table) p (now s) at whole to k ⌝ }
     ensures { λ r. ⌜ FormedFrom (now (table .entry)) p (now (s .entry)) (now (s .exit)) at whole to k r ⌝ }
 {
-    let mut rows = [0u32; 4080];
-    let mut order = [0u8; 255];
+    let mut rows = [0u32; forming::ROWS_WORDS];
+    let mut order = [0u8; Value::BINDINGS];
     let r = forms::form_rows(table, index, p, &s[0..to], at, whole, &mut rows, &mut order);
     match r {
         Formed::Refused(j) => Opened::Refused(j),

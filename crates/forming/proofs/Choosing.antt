@@ -12,7 +12,7 @@ use Rattle.values.specs.Place.{At}
 use Rattle.parts.specs.declared.Part.{Part}
 use Rattle.parts.specs.Part.{PartIs}
 use Rattle.parts.specs.Laws.Chosen.{keep-full, splits-length}
-use Rattle.parts.specs.Word.{unpacked, Packed}
+use Rattle.parts.specs.Word.{unpacked, WordOf}
 use Rattle.parts.proofs.Laws.{whole-of, part-one}
 use Rattle.patterns.specs.Pattern.{itemsOf, contents, split}
 use Rattle.patterns.specs.Laws.Matched.{of-contents}
@@ -63,7 +63,7 @@ all-members s c word ways h e =
       few = h .few;
     })
 
-pub packed-same : (s : List ℕ) (c word ways : ℕ) (h : WordMet s c word ways) (p : Part) → PartIs s p (h .value) → (r : ℕ) → Packed s p r → SameValue s word r
+pub packed-same : (s : List ℕ) (c word ways : ℕ) (h : WordMet s c word ways) (p : Part) → PartIs s p (h .value) → (r : ℕ) → WordOf s p r → SameValue s word r
 packed-same s c word ways h p g r k v i =
     let e : h .value ≡ v = part-one (h .here) i in
     packed-part s p r v k (subst (PartIs s p) e g)

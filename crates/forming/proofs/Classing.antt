@@ -19,7 +19,7 @@ use Rattle.patterns.specs.Pattern.{Pattern, any}
 use Rattle.patterns.specs.Read.{Readable, patternAt}
 use Rattle.patterns.specs.Laws.Together.{append-nil, append-assoc}
 use Rattle.matching.specs.Node.{innerOf}
-use Rattle.matching.proofs.Records.{by-record, kind-low, kind-high}
+use Rattle.matching.proofs.Records.{by-record}
 use Rattle.forming.specs.declared.leaves.Plain.{Plain}
 use Rattle.forming.specs.declared.leaves.Wildcards.{Wildcards}
 use Rattle.forming.specs.Groups.{leaves, hasName, TellsName}
@@ -145,7 +145,7 @@ module _ (table index : List ℕ) (p k : ℕ) (h : AloneHeld table index p k) wh
 
   pub counts-none : (k ≡ 37 → ⊥) → false ≡ isWild (patternAt (records table) p)
   counts-none f =
-      sym (ap isWild (by-record table index p (h .readable)) ∙ other-wild (recordAt (records table) p) (innerOf table p) (kind-low table index p (h .readable)) (kind-high table index p (h .readable)) (not-kind 37 f) (h .alone))
+      sym (ap isWild (by-record table index p (h .readable)) ∙ other-wild (recordAt (records table) p) (innerOf table p) (h .readable .pattern) (not-kind 37 f) (h .alone))
 
   pub leaf-any : isAny (patternAt (records table) p) ≡ eqb k 33
   leaf-any = any-of table index p (h .readable) ∙ ap (λ (x : ℕ). eqb x 33) (sym (h .of-kind))
@@ -189,7 +189,7 @@ module _ (table index : List ℕ) (p k : ℕ) (h : AloneHeld table index p k) wh
   unfolding someAny allSpares
   tail-other f =
       let one = leaves-alone table index p (h .readable) (h .alone) in
-      let no : spares P ≡ 0 = ap spares (by-record table index p (h .readable)) ∙ other-spares (recordAt (records table) p) (innerOf table p) (kind-low table index p (h .readable)) (kind-high table index p (h .readable)) (not-kind 37 f) in
+      let no : spares P ≡ 0 = ap spares (by-record table index p (h .readable)) ∙ other-spares (recordAt (records table) p) (innerOf table p) (h .readable .pattern) (not-kind 37 f) in
       record {
         some = or-none (eqb k 33) ∙ ap₂ _||_ (sym leaf-any) (counts-none f) ∙ sym (some-one P) ∙ ap (λ (ps : List Pattern). hasSome (ofClass 2 ps)) (sym one);
         more = or-none (eqb k 33) ∙ ap (λ (t : Bool). t || false) (sym leaf-any) ∙ ap someAny (sym one);

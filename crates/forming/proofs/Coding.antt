@@ -14,7 +14,8 @@ use Rattle.prelude.proofs.Absurd.{true-false}
 use Rattle.prelude.proofs.Membership.{in-one}
 use Rattle.prelude.proofs.Lists.{map-at}
 use Rattle.values.specs.Value.{set, Value}
-use Rattle.tables.specs.Record.{Record, named as operandsOf, operand}
+use Rattle.tables.specs.Laws.Kinds.{set-composed, union-composed, any-bare}
+use Rattle.tables.specs.Record.{Record, isComposed, named as operandsOf, operand}
 use Rattle.tables.specs.Table.{recordAt, kindAt}
 use Rattle.tables.specs.Sheet.{height}
 use Rattle.tables.specs.Accepted.{records}
@@ -245,25 +246,25 @@ module _ (table index : List ℕ) (c : ℕ) where
       ∙ rest-counts (leaves (patternAt (records table) (c % 256))) (c / 131072 - 1) (omega (arith, g .several, length-drop (c / 131072 - 1) L))
 
   pub parts-group : CodeHeld table index c → 1024 ≤ c → TellsParts table index c true
-  parts-group h l = let g = group-of h l in record { parts = λ e. (omega (arith, g .union), group-solid g); leaf = λ e. true-false e }
+  parts-group h l = let g = group-of h l in record { parts = λ e. (union-composed (g .union), group-solid g); leaf = λ e. true-false e }
 
   pub parts-stripped : CodeHeld table index c → 256 ≤ c → c < 512 → TellsParts table index c true
   parts-stripped h l m =
       let s = code-stripped h l m in
-      record { parts = λ e. (omega (arith, s .of-kind), ap isWild (stripped-pattern s) ∙ strip-wild (patternAt (records table) (c % 256)) ∙ s .parts); leaf = λ e. true-false e }
+      record { parts = λ e. (set-composed (s .of-kind), ap isWild (stripped-pattern s) ∙ strip-wild (patternAt (records table) (c % 256)) ∙ s .parts); leaf = λ e. true-false e }
 
   pub parts-wild : 512 ≤ c → c < 1024 → TellsParts table index c false
   parts-wild l m = record { parts = λ t. true-false (sym t); leaf = λ t. inr (record { large = l; small = m }) }
 
-  pub parts-leaf : CodeHeld table index c → c < 256 → kindAt (records table) c < 36 → TellsParts table index c false
-  parts-leaf h l k = record { parts = λ t. true-false (sym t); leaf = λ t. inl (record { readable = code-record h l; counts = λ m. absurd (omega arith) }) }
+  pub parts-leaf : CodeHeld table index c → c < 256 → isComposed (kindAt (records table) c) ≡ false → TellsParts table index c false
+  parts-leaf h l k = record { parts = λ t. true-false (sym t); leaf = λ t. inl (record { readable = code-record h l; counts = λ m. true-false (sym m ∙ k) }) }
 
-  pub parts-count : CodeHeld table index c → c < 256 → 36 ≤ kindAt (records table) c → (w : Wild) → TellsCount table c w → TellsParts table index c (not (w .yes))
+  pub parts-count : CodeHeld table index c → c < 256 → isComposed (kindAt (records table) c) ≡ true → (w : Wild) → TellsCount table c w → TellsParts table index c (not (w .yes))
   parts-count h l k w a =
       let r = code-record h l in
       record {
-        parts = λ t. (subst (λ (x : ℕ). 36 ≤ kindAt (records table) x) (sym (own l)) k, ap isWild (record-pattern r) ∙ not-counting table index c r w a (not-true (w .yes) t));
-        leaf = λ t. inl (record { readable = r; counts = λ m. counting table index c r w a (λ e. absurd (omega (arith, e))) (not-false (w .yes) t) });
+        parts = λ t. (subst (λ (x : ℕ). isComposed (kindAt (records table) x) ≡ true) (sym (own l)) k, ap isWild (record-pattern r) ∙ not-counting table index c r w a (not-true (w .yes) t));
+        leaf = λ t. inl (record { readable = r; counts = λ m. counting table index c r w a (λ e. true-false (sym k ∙ any-bare e)) (not-false (w .yes) t) });
       }
 
 -- ---- a part
@@ -275,8 +276,7 @@ module _ (table index : List ℕ) (c rest i : ℕ) (h : CodePartHeld table index
   pub part-record : c < 256 → (q : ℕ) → q ≡ operand (recordAt (records table) c) i → PartCode table index c i q
   part-record l q e =
       let r = code-record table index c (h .code .held) l in
-      let k : 36 ≤ kindAt (records table) c = subst (λ (x : ℕ). 36 ≤ kindAt (records table) x) (own table index c l) (h .code .composed) in
-      let o = operand-readable table index c r i (part-has l) k q e .0 in
+      let o = operand-readable table index c r i (part-has l) q e .0 in
       record {
         held = inl (inl o);
         pattern = record-pattern table index q o ∙ ap (patternAt (records table)) e ∙ sym (map-at (patternAt (records table)) (operandsOf (recordAt (records table) c)) i 0 any (part-has l)) ∙ ap (λ (ps : List Pattern). getD ps i any) (sym (plain-inner table index c l));
@@ -420,8 +420,8 @@ module _ (table index : List ℕ) (c : ℕ) (h : Composed table index c) where
     pub record-of : Readable table index c
     record-of = code-record table index c (h .held) l
 
-    pub record-composed : 36 ≤ kindAt (records table) c
-    record-composed = subst (λ (x : ℕ). 36 ≤ kindAt (records table) x) (own table index c l) (h .composed)
+    pub record-composed : isComposed (kindAt (records table) c) ≡ true
+    record-composed = subst (λ (x : ℕ). isComposed (kindAt (records table) x) ≡ true) (own table index c l) (h .composed)
 
     is-record : codePattern table c ≡ patternAt (records table) c
     is-record = record-pattern table index c record-of
@@ -442,7 +442,7 @@ module _ (table index : List ℕ) (c : ℕ) (h : Composed table index c) where
         regroup-as r (patternAt (records table) r) f
         (record {
           held = inl (inl (d .readable));
-          composed = subst (λ (x : ℕ). 36 ≤ kindAt (records table) x) (sym (own table index r (omega (arith, record-low table index r (d .readable))))) (d .composed);
+          composed = subst (λ (x : ℕ). isComposed (kindAt (records table) x) ≡ true) (sym (own table index r (omega (arith, record-low table index r (d .readable))))) (d .composed);
           solid = ap isWild f ∙ d .solid (ap isWild (sym is-record) ∙ h .solid);
         })
         (d .alike) (d .narrow) (d .fewer)
@@ -481,7 +481,7 @@ module _ (table index : List ℕ) (c : ℕ) (h : Composed table index c) where
           regroup-union r e =
               let g = make-group table index c record-of k (survey-asked .few) sparse 0 (x .leaf) (omega (arith, several)) (there .0) (there .1) r e in
               regroup-as r (unionOf (ordered (leaves (patternAt (records table) c)))) (group-is table index c record-of k (survey-asked .few) sparse 0 (x .leaf) (omega (arith, several)) (there .0) (there .1) r e)
-              (record { held = inr g; composed = omega (arith, g .union); solid = group-solid table index r g })
+              (record { held = inr g; composed = union-composed (g .union); solid = group-solid table index r g })
               (by-halves (λ (y : Pattern). (v : Value) → Alike (matches y v) (matches (unionOf (ordered (leaves y))) v)) (λ a b n. ordered-alike a b n))
               (by-halves (λ (y : Pattern). (v : Value) → wide y v ≡ false → wide (unionOf (ordered (leaves y))) v ≡ false) (λ a b n. ordered-narrow a b n))
               (ordered-fewer (patternAt (records table) c) (omega (arith, several)))

@@ -13,10 +13,10 @@ use Rattle.forming.specs.Codes.{codePattern}
 use Rattle.matching.proofs.Naming.{stands-fine}
 use Rattle.forming.specs.declared.Step.{Step}
 use Rattle.forming.specs.declared.taking.Left.{Left}
-use Rattle.forming.specs.Frames.{heft, rank}
+use Rattle.forming.specs.Frames.{entries, heft, rank}
 use Rattle.forming.specs.Onward.{Task, task, onward}
 use Rattle.forming.specs.Laws.Onward.{onward-end}
-use Rattle.forming.specs.Pending.{spaces, entries, LeftOf, TakeHeld, Taken}
+use Rattle.forming.specs.Pending.{spaces, LeftOf, TakeHeld, Taken}
 use Rattle.forming.specs.Rows.{EntryHeld}
 use Rattle.forming.specs.Stack.{Stacked, AfterStep, Waiting, MatchEntered, Descending}
 use Rattle.forming.proofs.Leaving.{none-waits, one-waits}

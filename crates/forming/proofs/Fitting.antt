@@ -12,6 +12,7 @@ use Rattle.prelude.specs.Membership.{In}
 use Rattle.prelude.proofs.Absurd.{true-false}
 use Rattle.prelude.proofs.Membership.{in-one}
 use Rattle.values.specs.Value.{set, kindOf, Value, collection}
+use Rattle.tables.specs.Record.{isComposed}
 use Rattle.tables.specs.Table.{kindAt}
 use Rattle.tables.specs.Accepted.{records}
 use Rattle.parts.specs.declared.Part.{Part}
@@ -99,7 +100,7 @@ module _ (table index : List ℕ) (c : ℕ) (h : RecordLeaf table index c) (s : 
   pub told-leaf : (g : List ℕ) (r : Bool) → LeafTold table c s word m g r → CodeTold table c s word m g r
   told-leaf g r o v b q z = subst (λ (x : Pattern). Went s b x v g r) (sym (record-pattern table index c (h .readable))) (o v b q z)
 
-  pub told-count : 36 ≤ kindAt (records table) c → (w : Wild) → TellsCount table c w → (r : Bool) → TellsSet s word (w .least) (w .more) r → CodeTold table c s word m m r
+  pub told-count : isComposed (kindAt (records table) c) ≡ true → (w : Wild) → TellsCount table c w → (r : Bool) → TellsSet s word (w .least) (w .more) r → CodeTold table c s word m m r
   told-count k w a r o v b q z =
       let wild = h .counts k in
       let y : w .yes ≡ true = a .yes ∙ or-inr (isAny (patternAt (records table) c)) (isWild (patternAt (records table) c)) wild in

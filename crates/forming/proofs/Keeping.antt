@@ -1,24 +1,25 @@
 -- Sets without their wildcards, read off their records.
 use mathlib.Core.Path.{_≡_, refl, sym, ap, ap₂, subst, _∙_}
-use mathlib.Core.Bool.{Bool, true, false, _&&_, cond}
+use mathlib.Core.Bool.{Bool, true, false, not, _&&_, cond}
 use mathlib.Core.List.{List, [], _∷_}
 use Prim.Native.Nat.{ℕ, zero, suc, _+_, _-_, _≤_, _<_}
 use native.Mathlib.Omega.{arith}
 use native.Mathlib.Numerals.{add-one}
-use lib.Dec.{eqb, ltb}
+use lib.Dec.{eqb}
 use lib.ListN.{length, getD, drop, length-drop, drop-of-length-le}
 use lib.Seq.{drop-cons}
 use borrow.Author.Tests.{eq-eqb, ne-eqb}
 use Rattle.prelude.proofs.Lists.{map-at}
 use Rattle.values.specs.Value.{set}
-use Rattle.tables.specs.Record.{named as operandsOf, operand}
+use Rattle.tables.specs.Laws.Kinds.{set-composed}
+use Rattle.tables.specs.Record.{isComposed, named as operandsOf, operand}
 use Rattle.tables.specs.Table.{recordAt, kindAt}
 use Rattle.tables.specs.Accepted.{records}
 use Rattle.patterns.specs.Pattern.{Pattern, any, each, cons, parts}
 use Rattle.patterns.specs.Read.{Readable, patternsOf, patternAt}
 use Rattle.patterns.specs.Laws.Nodes.{parts-length}
 use Rattle.matching.specs.Node.{innerOf}
-use Rattle.matching.proofs.Records.{by-record, inner-length, kind-low, kind-high, count-few, operand-readable}
+use Rattle.matching.proofs.Records.{by-record, inner-length, count-few, operand-readable}
 use Rattle.forming.specs.declared.leaves.Plain.{Plain}
 use Rattle.forming.specs.Wild.{isAny, isWild}
 use Rattle.forming.specs.Ordered.{isPlain, isFlat, withoutAny, anys, spares}
@@ -37,10 +38,10 @@ pub record PartsFrom (table : List ℕ) (p i wild : ℕ) (flat : Bool) : Type 0 
 
 module _ (table index : List ℕ) (p : ℕ) (r : Readable table index p) where
   pub any-of : isAny (patternAt (records table) p) ≡ eqb (kindAt (records table) p) 33
-  any-of = ap isAny (by-record table index p r) ∙ any-kind (recordAt (records table) p) (innerOf table p) (kind-low table index p r) (kind-high table index p r)
+  any-of = ap isAny (by-record table index p r) ∙ any-kind (recordAt (records table) p) (innerOf table p) (r .pattern)
 
-  pub plain-of : isPlain (patternAt (records table) p) ≡ ltb (kindAt (records table) p) 36
-  plain-of = ap isPlain (by-record table index p r) ∙ plain-kind (recordAt (records table) p) (innerOf table p) (kind-low table index p r) (kind-high table index p r)
+  pub plain-of : isPlain (patternAt (records table) p) ≡ not (isComposed (kindAt (records table) p))
+  plain-of = ap isPlain (by-record table index p r) ∙ plain-kind (recordAt (records table) p) (innerOf table p) (r .pattern)
 
   pub parts-start : (n : ℕ) → n ≡ length (operandsOf (recordAt (records table) p)) → PartsFrom table p n 0 true
   unfolding patternsOf anys isFlat
@@ -51,16 +52,16 @@ module _ (table index : List ℕ) (p : ℕ) (r : Readable table index p) where
 
   module _ (k : kindAt (records table) p ≡ 37) where
     pub set-few : length (innerOf table p) ≤ 4
-    set-few = omega (arith, inner-length table index p r, count-few table index p r (omega (arith, k)))
+    set-few = omega (arith, inner-length table index p r, count-few table index p r (set-composed k))
 
     pub part-there : (i : ℕ) → i < length (innerOf table p) → i < length (operandsOf (recordAt (records table) p))
     part-there i l = omega (arith, inner-length table index p r)
 
     pub part-readable : (i : ℕ) → i < length (innerOf table p) → (q : ℕ) → q ≡ operand (recordAt (records table) p) i → Readable table index q
-    part-readable i l q e = operand-readable table index p r i (part-there i l) (omega (arith, k)) q e .0
+    part-readable i l q e = operand-readable table index p r i (part-there i l) q e .0
 
     pub parts-more : (i suci : ℕ) → suci ≡ i + 1 → (wild : ℕ) (flat : Bool) → PartsFrom table p suci wild flat → (q : ℕ) → q ≡ operand (recordAt (records table) p) i → (kind : ℕ) → kind ≡ kindAt (records table) q
-        → (w : ℕ) → w ≡ cond (eqb kind 33) (suc wild) wild → (f : Bool) → f ≡ (ltb kind 36 && flat) → PartsFrom table p i w f
+        → (w : ℕ) → w ≡ cond (eqb kind 33) (suc wild) wild → (f : Bool) → f ≡ (not (isComposed kind) && flat) → PartsFrom table p i w f
     unfolding patternsOf anys isFlat
     parts-more i suci si wild flat h q eq kind ek w ew f ef =
         let l : i < length (innerOf table p) = omega (arith, h .within) in
@@ -68,7 +69,7 @@ module _ (table index : List ℕ) (p : ℕ) (r : Readable table index p) where
         let at : drop i (innerOf table p) ≡ patternAt (records table) q ∷ drop suci (innerOf table p) =
         drop-cons (innerOf table p) i any l ∙ ap₂ (λ (x : Pattern) (j : ℕ). x ∷ drop j (innerOf table p)) (map-at (patternAt (records table)) (operandsOf (recordAt (records table) p)) i 0 any (part-there i l) ∙ ap (patternAt (records table)) (sym eq)) (sym (add-one i) ∙ sym si) in
         let a : isAny (patternAt (records table) q) ≡ eqb kind 33 = any-of-q q rq ∙ ap (λ (x : ℕ). eqb x 33) (sym ek) in
-        let b : isPlain (patternAt (records table) q) ≡ ltb kind 36 = plain-of-q q rq ∙ ap (λ (x : ℕ). ltb x 36) (sym ek) in
+        let b : isPlain (patternAt (records table) q) ≡ not (isComposed kind) = plain-of-q q rq ∙ ap (λ (x : ℕ). not (isComposed x)) (sym ek) in
         record {
           within = omega arith;
           wild-is = ew ∙ ap₂ (λ (t : Bool) (n : ℕ). cond t (suc n) n) (sym a) (h .wild-is) ∙ sym (ap (λ (ps : List Pattern). anys (patternsOf ps)) at);
@@ -77,10 +78,10 @@ module _ (table index : List ℕ) (p : ℕ) (r : Readable table index p) where
         }
       where
         any-of-q : (q : ℕ) → Readable table index q → isAny (patternAt (records table) q) ≡ eqb (kindAt (records table) q) 33
-        any-of-q q rq = ap isAny (by-record table index q rq) ∙ any-kind (recordAt (records table) q) (innerOf table q) (kind-low table index q rq) (kind-high table index q rq)
+        any-of-q q rq = ap isAny (by-record table index q rq) ∙ any-kind (recordAt (records table) q) (innerOf table q) (rq .pattern)
 
-        plain-of-q : (q : ℕ) → Readable table index q → isPlain (patternAt (records table) q) ≡ ltb (kindAt (records table) q) 36
-        plain-of-q q rq = ap isPlain (by-record table index q rq) ∙ plain-kind (recordAt (records table) q) (innerOf table q) (kind-low table index q rq) (kind-high table index q rq)
+        plain-of-q : (q : ℕ) → Readable table index q → isPlain (patternAt (records table) q) ≡ not (isComposed (kindAt (records table) q))
+        plain-of-q q rq = ap isPlain (by-record table index q rq) ∙ plain-kind (recordAt (records table) q) (innerOf table q) (rq .pattern)
 
         fewer : (t : Bool) → w ≡ cond t (suc wild) wild → w + i ≤ length (innerOf table p)
         fewer true e = omega (arith, e, h .few, si)
@@ -169,7 +170,7 @@ module _ (table index : List ℕ) (p j i : ℕ) (h : KeptHeld table index p j i)
 
   module _ (q : ℕ) (e : q ≡ operand (recordAt (records table) p) j) where
     pub kept-readable : Readable table index q
-    kept-readable = operand-readable table index p (h .readable) j kept-within (omega (arith, h .of-kind)) q e .0
+    kept-readable = operand-readable table index p (h .readable) j kept-within q e .0
 
     at : getD (innerOf table p) j any ≡ patternAt (records table) q
     at = map-at (patternAt (records table)) (operandsOf (recordAt (records table) p)) j 0 any kept-within ∙ ap (patternAt (records table)) (sym e)

@@ -8,6 +8,7 @@ use lib.ListN.{length, getD}
 use Rattle.prelude.specs.Membership.{In}
 use Rattle.prelude.proofs.Absurd.{true-false}
 use Rattle.values.specs.Value.{Value}
+use Rattle.tables.specs.Record.{isComposed}
 use Rattle.tables.specs.Table.{kindAt}
 use Rattle.tables.specs.Accepted.{records}
 use Rattle.parts.specs.Part.{PartHeld}
@@ -17,6 +18,7 @@ use Rattle.patterns.specs.Binding.{Binding, names, merge, withEach, together}
 use Rattle.patterns.specs.Pattern.{Pattern, matches}
 use Rattle.patterns.specs.Laws.Matched.{in-together, together-in, joined-merge, merge-joined, matched, match-sized}
 use Rattle.patterns.specs.Laws.Together.{together-assoc}
+use Rattle.forming.specs.Frames.{entries}
 use Rattle.forming.specs.Codes.{codePattern, CodeHeld, LeafCode, TellsParts}
 use Rattle.forming.specs.Wild.{isWild}
 use Rattle.forming.proofs.Coding.{code-small}
@@ -24,7 +26,7 @@ use Rattle.matching.specs.Leaf.{Stands, Standing, Grown}
 use Rattle.matching.proofs.Naming.{grown-same, grown-then}
 use Rattle.forming.specs.Onward.{Task, task, matchesAll, onward}
 use Rattle.forming.specs.Laws.Onward.{onward-went, onward-none, together-alike}
-use Rattle.forming.specs.Pending.{entries, Pending, AgendaIs, spaces, CodeTold, WaitsAre, LeftOf, TakeHeld, Taken}
+use Rattle.forming.specs.Pending.{Pending, AgendaIs, spaces, CodeTold, WaitsAre, LeftOf, TakeHeld, Taken}
 use Rattle.forming.proofs.Joining.{joined-swap}
 use Rattle.forming.proofs.Reducing.{with-alike}
 use Rattle.forming.proofs.Solving.{some-task, agenda-low}
@@ -96,7 +98,7 @@ none-waits table index s a top wait [] h l = refl
 none-waits table index s a top wait (t ∷ []) h l = absurd (omega (arith, h .0 .some))
 none-waits table index s a top wait (t ∷ u ∷ ws) h l = absurd h
 
-pub one-waits : (table index s a : List ℕ) (top wait : ℕ) (ws : List Task) → WaitsAre table index s a top wait ws → 0 < wait → (t : Task) × (ws ≡ t ∷ []) × Pending table index s a top wait t × (36 ≤ kindAt (records table) (getD a (3 * wait) 0 % 256)) × (isWild (codePattern table (getD a (3 * wait) 0)) ≡ false)
+pub one-waits : (table index s a : List ℕ) (top wait : ℕ) (ws : List Task) → WaitsAre table index s a top wait ws → 0 < wait → (t : Task) × (ws ≡ t ∷ []) × Pending table index s a top wait t × (isComposed (kindAt (records table) (getD a (3 * wait) 0 % 256)) ≡ true) × (isWild (codePattern table (getD a (3 * wait) 0)) ≡ false)
 one-waits table index s a top wait [] h l = absurd (omega (arith, h))
 one-waits table index s a top wait (t ∷ []) h l = (t, refl, h .0, h .1, h .2)
 one-waits table index s a top wait (t ∷ u ∷ ws) h l = absurd h
@@ -154,7 +156,7 @@ module _ (table index s a : List ℕ) (head₀ : ℕ) (f : List ℕ) (h : TakeHe
           (c .leaf f, (record { value = t .value; here = p .here }, (now .binding, now .stands)))
 
       -- a pattern with parts waits
-      pub take-wait : (36 ≤ kindAt (records table) (Q % 256)) × (isWild (codePattern table Q) ≡ false) → wait ≤ 0 → TakeSoFar table index s a head₀ f N head g
+      pub take-wait : (isComposed (kindAt (records table) (Q % 256)) ≡ true) × (isWild (codePattern table Q) ≡ false) → wait ≤ 0 → TakeSoFar table index s a head₀ f N head g
       take-wait c o = record {
         falls = omega (arith, next-lower, w .falls);
         before = λ m. omega (arith, next-lower, w .falls);

@@ -1,5 +1,5 @@
 -- Heights of patterns, as rule 9 has them: what tells whether one is low.
-use mathlib.Core.Path.{_≡_, refl, sym, ap, subst, _∙_}
+use mathlib.Core.Path.{_≡_, refl, sym, ap, _∙_}
 use mathlib.Core.Bool.{Bool, true, false}
 use mathlib.Core.Logic.{inl}
 use mathlib.Core.List.{List, [], _∷_, map}
@@ -7,21 +7,21 @@ use Prim.Native.Nat.{ℕ, zero, suc, _+_, _-_, _^_, _≤_, _<_}
 use native.Mathlib.Decide.{ℕ-discrete}
 use native.Mathlib.Nat.{pow-suc}
 use native.Mathlib.Omega.{arith}
-use borrow.Author.Tests.{eqb-true, le-leb, lt-leb, leb-true, leb-false}
-use lib.Dec.{eqb, leb}
+use borrow.Author.Tests.{le-leb, lt-leb, leb-true, leb-false}
+use lib.Dec.{leb}
 use lib.ListN.{length, getD, drop, length-append}
-use Rattle.prelude.proofs.Truth.{by-lower}
-use Rattle.tables.specs.Record.{Record, shape, size, headOf, operands, named, operand}
+use Rattle.tables.specs.Record.{Record, isPattern, isComposed, shape, size, headOf, operands, named, operand}
 use Rattle.tables.specs.Table.{recordAt, kindAt}
 use Rattle.tables.specs.Sheet.{greatest, height}
 use Rattle.tables.specs.Accepted.{records}
-use Rattle.tables.specs.Laws.Tests.{each}
+use Rattle.tables.specs.Laws.Kinds.{no-roles}
+use Rattle.tables.specs.Laws.Through.{EachTo, each-start, each-next}
 use Rattle.tables.specs.Laws.Operands.{operands-few}
 use Rattle.tables.specs.Laws.Accepted.{height-at, height-operand}
 use Rattle.parts.specs.Laws.Chosen.{power-pos}
 use Rattle.patterns.specs.Pattern.{Pattern}
 use Rattle.patterns.specs.Read.{Readable, patternAt}
-use Rattle.matching.proofs.Records.{kind-low, operand-readable}
+use Rattle.matching.proofs.Records.{operand-readable}
 use Rattle.forming.specs.Groups.{leaves}
 use Rattle.forming.proofs.Reducing.{two-halves}
 use Rattle.forming.proofs.Surveying.{leaves-alone, leaves-union}
@@ -35,23 +35,17 @@ pub positive : (m : ℕ) → (m ≡ 0 → ⊥) → 1 ≤ m
 positive zero f = absurd (f refl)
 positive (suc m) f = omega arith
 
--- Kinds 32 to 35 have no operands.
-leaf-roles : (k : ℕ) → 32 ≤ k → k < 36 → length (shape k .roles) ≡ 0
-unfolding shape
-leaf-roles k l h =
-    let same : 32 + (k - 32) ≡ k = omega arith in
-    subst (λ (j : ℕ). length (shape j .roles) ≡ 0) same (eqb-true _ 0 (each (λ j. eqb (length (shape (32 + j) .roles)) 0) 4 refl (k - 32) (omega arith)))
-
-leaf-bare : (x : Record) → 32 ≤ x .kind → x .kind < 36 → length (named x) ≡ 0
+-- A pattern without parts has no operands.
+leaf-bare : (x : Record) → isPattern (x .kind) ≡ true → isComposed (x .kind) ≡ false → length (named x) ≡ 0
 unfolding operands
-leaf-bare x l h = omega (arith, operands-few (shape (x .kind) .roles) (drop (size (headOf x)) (x .fields)), leaf-roles (x .kind) l h)
+leaf-bare x p c = omega (arith, operands-few (shape (x .kind) .roles) (drop (size (headOf x)) (x .fields)), no-roles (x .kind) p c)
 
 -- The operands below i are at most m high.
 abbrev pub LowTo : List ℕ → ℕ → ℕ → ℕ → Type 0
-LowTo table p m i = (j : ℕ) → j < i → height (records table) (operand (recordAt (records table) p) j) ≤ m
+LowTo table p m i = EachTo (λ q. height (records table) q ≤ m) (recordAt (records table) p) i
 
 pub low-start : (table : List ℕ) (p m : ℕ) → LowTo table p m 0
-low-start table p m j l = absurd (omega arith)
+low-start table p m = each-start (λ q. height (records table) q ≤ m) (recordAt (records table) p)
 
 module _ (table index : List ℕ) (p : ℕ) (r : Readable table index p) where
   height-is : height (records table) p ≡ suc (greatest (map (height (records table)) (named (recordAt (records table) p))))
@@ -60,9 +54,9 @@ module _ (table index : List ℕ) (p : ℕ) (r : Readable table index p) where
   pub none-low : (most : ℕ) → most ≡ 0 → false ≡ leb (height (records table) p) most
   none-low most e = sym (lt-leb (height (records table) p) most (omega (arith, height-is)))
 
-  pub leaf-low : (most : ℕ) → (most ≡ 0 → ⊥) → kindAt (records table) p < 36 → true ≡ leb (height (records table) p) most
+  pub leaf-low : (most : ℕ) → (most ≡ 0 → ⊥) → isComposed (kindAt (records table) p) ≡ false → true ≡ leb (height (records table) p) most
   leaf-low most n l =
-      let bare = leaf-bare (recordAt (records table) p) (kind-low table index p r) l in
+      let bare = leaf-bare (recordAt (records table) p) (r .pattern) l in
       let none = greatest-most (height (records table)) (named (recordAt (records table) p)) 0 (λ i k. absurd (omega arith)) in
       sym (le-leb (height (records table) p) most (omega (arith, height-is, none, positive most n)))
 
@@ -74,12 +68,7 @@ module _ (table index : List ℕ) (p : ℕ) (r : Readable table index p) where
         sym (lt-leb (height (records table) p) most (omega (arith, over, same, height-operand (records table) (r .fine .clear6) p i (r .here .within) l)))
 
     pub low-more : LowTo table p (most - 1) i → (low : Bool) → low ≡ leb (height (records table) q) (most - 1) → low ≡ true → LowTo table p (most - 1) (i + 1)
-    low-more so low e f j k = by-lower j i (λ h. so j h)
-        (λ h.
-        let under = leb-true (height (records table) q) (most - 1) (sym e ∙ f) in
-        let at : j ≡ i = omega arith in
-        let same : height (records table) q ≡ height (records table) (operand (recordAt (records table) p) j) = ap (height (records table)) is ∙ ap (λ (x : ℕ). height (records table) (operand (recordAt (records table) p) x)) (sym at) in
-        omega (arith, under, same))
+    low-more so low e f = each-next (λ q. height (records table) q ≤ most - 1) (recordAt (records table) p) i q so is (leb-true (height (records table) q) (most - 1) (sym e ∙ f))
 
   pub all-low : (most i : ℕ) → (most ≡ 0 → ⊥) → LowTo table p (most - 1) i → length (named (recordAt (records table) p)) ≤ i → true ≡ leb (height (records table) p) most
   all-low most i n so l =
@@ -101,7 +90,7 @@ low-leaves table index (suc m) p r l = go (ℕ-discrete (kindAt (records table) 
         few : (i : ℕ) → i < 2 → length (leaves (patternAt (records table) (operand (recordAt (records table) p) i))) ≤ 2 ^ m
         few i h =
             let within : i < length (named (recordAt (records table) p)) = omega (arith, two-halves table index p r 38 k (inl refl), h) in
-            rest (operand (recordAt (records table) p) i) (operand-readable table index p r i within (omega (arith, k)) (operand (recordAt (records table) p) i) refl .0)
+            rest (operand (recordAt (records table) p) i) (operand-readable table index p r i within (operand (recordAt (records table) p) i) refl .0)
             (omega (arith, l, height-operand (records table) (r .fine .clear6) p i (r .here .within) within))
     go (no n) rest = omega (arith, ap length (leaves-alone table index p r n), power-pos (suc m))
 

@@ -17,7 +17,7 @@ use Rattle.patterns.specs.Pattern.{Pattern, any, each, parts}
 use Rattle.patterns.specs.Read.{Readable, patternsOf, patternAt}
 use Rattle.patterns.specs.Laws.Nodes.{parts-length}
 use Rattle.matching.specs.Node.{innerOf}
-use Rattle.matching.proofs.Records.{by-record, kind-low, kind-high}
+use Rattle.matching.proofs.Records.{by-record}
 use Rattle.forming.specs.declared.sizes.Size.{Size}
 use Rattle.forming.specs.declared.leaves.Plain.{Plain}
 use Rattle.forming.specs.declared.leaves.Wildcards.{Wildcards}
@@ -222,7 +222,7 @@ module _ (table index : List ℕ) (p k : ℕ) (h : AloneHeld table index p k) wh
   other-same : (k ≡ 37 → ⊥) → strip leaf ≡ leaf
   other-same f =
       ap strip (by-record table index p (h .readable))
-      ∙ other-strip (recordAt (records table) p) (innerOf table p) (kind-low table index p (h .readable)) (kind-high table index p (h .readable)) (not-kind table index p k h 37 f)
+      ∙ other-strip (recordAt (records table) p) (innerOf table p) (h .readable .pattern) (not-kind table index p k h 37 f)
       ∙ sym (by-record table index p (h .readable))
 
   pub alone-whole : (t : Bool) → t ≡ false → (r : Leaves) → LeavesAre table index (patternAt (records table) p ∷ []) 0 r → LeavesAre table index (cond t (strip (patternAt (records table) p)) (patternAt (records table) p) ∷ []) 0 r

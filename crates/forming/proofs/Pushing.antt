@@ -22,9 +22,9 @@ use Rattle.patterns.specs.Pattern.{Pattern, any, wide, wideEach}
 use Rattle.patterns.specs.Read.{patternsOf}
 use Rattle.patterns.specs.Nodes.{meetings, isLarge}
 use Rattle.matching.specs.Node.{PieceHeld, PieceOf}
-use Rattle.matching.proofs.Records.{kind-high, meeting-length}
+use Rattle.matching.proofs.Records.{meeting-length}
 use Rattle.splitting.proofs.Composed.{wide-composed}
-use Rattle.parts.specs.Word.{unpacked, CellHeld, Packed}
+use Rattle.parts.specs.Word.{unpacked, CellHeld, WordOf}
 use Rattle.forming.specs.Frames.{KeptBelow}
 use Rattle.forming.specs.Onward.{Task, task, zipped}
 use Rattle.forming.specs.Codes.{codePattern, codeInner, countOf, codeWays, codeMet, CodeHeld, Composed, CodePartHeld, PartCode}
@@ -79,7 +79,7 @@ entry-put a k x y z l =
 
 -- ---- parts packed
 
-pub packed-part : (s : List ℕ) (p : Part) (n : ℕ) (v : Value) → Packed s p n → PartIs s p v → PartIs s (unpacked n) v
+pub packed-part : (s : List ℕ) (p : Part) (n : ℕ) (v : Value) → WordOf s p n → PartIs s p v → PartIs s (unpacked n) v
 packed-part s p n v k h = go (k .is (is v) (inr (v, refl, h)))
   where
     go : CellIs s (unpacked n) (is v) → PartIs s (unpacked n) v
@@ -105,7 +105,7 @@ module _ (table index : List ℕ) (p : ℕ) (r : Composed table index p) where
   pub wide-by : (v : Value) → wide (codePattern table p) v ≡ isLarge (kindAt (records table) (p % 256)) v || exists (codeWays table p v) (λ vs. wideEach (patternsOf (codeInner table p)) vs)
   wide-by v =
       ap (λ (x : Pattern). wide x v) (by-code table index p r)
-      ∙ wide-composed (recordAt (records table) (p % 256)) (codeInner table p) (r .composed) (kind-high table index (p % 256) (code-readable table index p r)) (parts-two table index p r) v
+      ∙ wide-composed (recordAt (records table) (p % 256)) (codeInner table p) (r .composed) (parts-two table index p r) v
 
   module _ (v : Value) (d : ℕ) (l : d < length (codeWays table p v)) where
     pub met-long : length (codeMet table p v d) ≡ countOf table p
@@ -150,8 +150,7 @@ module _ (table index : List ℕ) (p : ℕ) (s : List ℕ) (word : ℕ) (d : ℕ
 
   pub piece-asked : (i kind n : ℕ) (part : Part) → part ≡ unpacked word → i < countOf table p → kind ≡ kindAt (records table) (p % 256) → n ≡ countOf table p → PieceHeld kind n s part d i
   piece-asked i kind n part pe l x y = rw (x, y, pe) (record {
-    low = h .code .composed;
-    high = kind-high table index (p % 256) (code-readable table index p (h .code));
+    composed = h .code .composed;
     few = parts-few table index p (h .code);
     two = parts-two table index p (h .code);
     value = h .value;
@@ -174,7 +173,7 @@ module _ (table index : List ℕ) (p : ℕ) (s : List ℕ) (word : ℕ) (d : ℕ
     pub piece-held : CellHeld s part′
     piece-held = (is (getD (codeMet table p (h .value) d) i (boolean true)), inr (getD (codeMet table p (h .value) d) i (boolean true), refl, piece-is (h .value) (h .here)))
 
-    module _ (q : ℕ) (b : PartCode table index p i q) (cell : ℕ) (pk : Packed s part′ cell) (now : List ℕ) (head suci to : ℕ) (si : suci ≡ i + 1)
+    module _ (q : ℕ) (b : PartCode table index p i q) (cell : ℕ) (pk : WordOf s part′ cell) (now : List ℕ) (head suci to : ℕ) (si : suci ≡ i + 1)
         (w : PushSoFar table index p s word d a next top now head suci to) where
       pub push-more : PushSoFar table index p s word d a next top (set (set (set now (3 * to) q) (3 * to + 1) cell) (3 * to + 2) head) to i (to + 1)
       unfolding zipped

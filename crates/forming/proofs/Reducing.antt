@@ -8,7 +8,8 @@ use native.Mathlib.Omega.{arith}
 use lib.ListN.{length, getD}
 use Rattle.prelude.specs.Membership.{In}
 use Rattle.values.specs.Value.{Kind, set, sequence, map as mapping, tuple, Value, collection}
-use Rattle.tables.specs.Record.{Record, named as operandsOf, operand}
+use Rattle.tables.specs.Laws.Kinds.{union-composed, concatenation-composed}
+use Rattle.tables.specs.Record.{Record, isComposed, named as operandsOf, operand}
 use Rattle.tables.specs.Table.{recordAt, kindAt}
 use Rattle.tables.specs.Accepted.{records}
 use Rattle.patterns.specs.Units.{Shared}
@@ -227,9 +228,9 @@ pub is-halved : (c : ℕ) → Splits c → isHalved c ≡ true
 is-halved c (inl f) = rw f refl
 is-halved c (inr f) = rw f refl
 
-pub splits-low : (c : ℕ) → Splits c → 36 ≤ c
-splits-low c (inl f) = omega (arith, f)
-splits-low c (inr f) = omega (arith, f)
+splits-composed : (c : ℕ) → Splits c → isComposed c ≡ true
+splits-composed c (inl f) = union-composed f
+splits-composed c (inr f) = concatenation-composed f
 
 none-first : (c : ℕ) → Splits c → (vs : List Value) → Divided (collectionOf c) vs [] vs
 none-first c (inl f) vs = rw f (shared-none vs)
@@ -247,7 +248,7 @@ module _ (table index : List ℕ) (p : ℕ) (h : Readable table index p) where
 
   module _ (c : ℕ) (e : kindAt (records table) p ≡ c) (u : Splits c) where
     pub two-halves : length (operandsOf (recordAt (records table) p)) ≡ 2
-    two-halves = count-two table index p h (omega (arith, splits-low c u)) (ap isHalved e ∙ is-halved c u)
+    two-halves = count-two table index p h (ap isComposed e ∙ splits-composed c u) (ap isHalved e ∙ is-halved c u)
 
     abbrev half : ℕ → Pattern
     half i = patternAt (records table) (operand (recordAt (records table) p) i)
@@ -360,7 +361,7 @@ module _ (table index : List ℕ) (p : ℕ) where
 
     -- one half is left
     left-with : (q : ℕ) → Readable table index q → q < p → kindAt (records table) q ≡ c → Same (patternAt (records table) p) (patternAt (records table) q) → Reduced table index p q
-    left-with q i l k s = record { readable = i; composed = omega (arith, k, splits-low c u); low = omega arith; alike = s .alike; narrow = s .narrow; fewer = s .fewer; solid = s .solid }
+    left-with q i l k s = record { readable = i; composed = ap isComposed k ∙ splits-composed c u; low = omega arith; alike = s .alike; narrow = s .narrow; fewer = s .fewer; solid = s .solid }
 
     pub spare-told : (side : ℕ) → side < 2 → (a : ℕ) → a ≡ part side → (x : Bool) → TellsAll table a c x → x ≡ true → (q : ℕ) → q ≡ part (1 - side) → Readable table index q × (q < p) → kindAt (records table) q ≡ c
         → (y : Bool) → TellsMore table q c side y → TellsSpare table index p side y

@@ -25,9 +25,9 @@ use Rattle.matching.proofs.Naming.{grown-same}
 use Rattle.forming.specs.declared.frames.Frame.{Frame}
 use Rattle.forming.specs.Adding.{adding}
 use Rattle.forming.specs.Laws.Adding.{adding-append, adding-there}
-use Rattle.forming.specs.Frames.{frameAt, onto, Advanced, Cleared, heft, rank}
+use Rattle.forming.specs.Frames.{entries, agendaWords, frameAt, onto, Advanced, Cleared, heft, rank}
 use Rattle.forming.specs.Onward.{Task, onward, zipped, oneWay}
-use Rattle.forming.specs.Pending.{AgendaIs, entries, agendaWords, Pushable, Pushed}
+use Rattle.forming.specs.Pending.{AgendaIs, Pushable, Pushed}
 use Rattle.forming.specs.Rows.{RowsAre}
 use Rattle.forming.specs.Settled.{TellsSettled}
 use Rattle.forming.specs.Sizes.{FromHeld, From}

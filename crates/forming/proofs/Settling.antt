@@ -1,21 +1,21 @@
 -- Patterns that are only a test: they give nothing new, and where they match in one way the others give the same.
 use mathlib.Core.Path.{_≡_, refl, sym, ap, ap₂, subst, _∙_}
-use mathlib.Core.Bool.{Bool, true, false, _||_, cond}
+use mathlib.Core.Bool.{Bool, true, false, cond}
 use mathlib.Core.Logic.{inl, inr, ⊎-elim}
-use mathlib.Core.List.{List, [], _∷_, _++_, map}
-use Prim.Native.Nat.{ℕ, zero, suc, _+_, _-_, _≤_, _<_}
-use native.Mathlib.Decide.{ℕ-discrete}
+use mathlib.Core.List.{List, [], _∷_, _++_}
+use Prim.Native.Nat.{ℕ, suc, _+_, _≤_, _<_}
 use native.Mathlib.Omega.{arith}
 use lib.Dec.{eqb}
 use lib.ListN.{length, getD}
 use lib.Seq.{ext-getD}
 use borrow.Author.Tests.{eqb-true}
-use Rattle.prelude.proofs.Truth.{or-cases}
 use Rattle.prelude.specs.Membership.{In}
 use Rattle.prelude.proofs.Membership.{in-one}
 use Rattle.values.specs.Value.{Value}
 use Rattle.values.specs.Items.{same}
-use Rattle.tables.specs.Record.{Record, named as operandsOf, operand, nameOf}
+use Rattle.tables.specs.Record.{Record, isPattern, isComposed, named as operandsOf, operand, nameOf}
+use Rattle.tables.specs.Laws.Kinds.{name-bare}
+use Rattle.tables.specs.Laws.Through.{EachTo, each-start, each-next}
 use Rattle.tables.specs.Table.{recordAt, kindAt}
 use Rattle.tables.specs.Accepted.{records}
 use Rattle.patterns.specs.Binding.{Cell, free, is, clash, Binding, names, cellOf, agree, merge, consistent, withEach, together}
@@ -25,11 +25,12 @@ use Rattle.patterns.specs.Laws.Matched.{in-together, together-in, matched, matc
 use Rattle.prelude.proofs.Absurd.{true-false}
 use Rattle.patterns.specs.Laws.Together.{one-together}
 use Rattle.patterns.specs.Nodes.{isHalved}
-use Rattle.patterns.specs.Laws.Nodes.{is-name, is-any, is-boolean-literal, is-integer-literal}
+use Rattle.patterns.specs.Laws.Nodes.{is-name, on-leaf, on-composed}
+use Rattle.patterns.specs.Laws.Some.{some-halves}
 use Rattle.patterns.specs.Read.{Readable, patternsOf, patternOf, patternAt}
 use Rattle.matching.specs.Leaf.{Stands}
 use Rattle.matching.specs.Node.{innerOf}
-use Rattle.matching.proofs.Records.{by-record, inner-length, kind-low, kind-high, count-two}
+use Rattle.matching.proofs.Records.{by-record, inner-length, count-two, no-part}
 use Rattle.matching.proofs.Naming.{merge-cell, consistent-at}
 use Rattle.patterns.specs.Laws.Merging.{agree-free}
 use Rattle.forming.specs.Settled.{Settled, TellsSettled, HasWord}
@@ -38,50 +39,14 @@ use Rattle.forming.specs.Laws.Onward.{onward-first}
 
 -- ---- the names of a pattern by its record
 
--- each of the patterns is settled
-abbrev AllSettled : List Pattern → List ℕ → Type 0
-AllSettled ps words = (j : ℕ) → j < length ps → Settled (getD ps j any) words
-
-each-settled : (ps : List Pattern) (words : List ℕ) → AllSettled ps words → (y : ℕ) → y < names → namedEach (patternsOf ps) y ≡ true → getD words y 0 ≡ 0 → ⊥
-unfolding named patternsOf
-each-settled [] words h y l e z = true-false (sym e)
-each-settled (p ∷ ps) words h y l e z =
-    ⊎-elim (λ a. h 0 (omega arith) y l a z) (λ a. each-settled ps words (λ j k. h (suc j) (omega arith)) y l a z) (or-cases (named p y) (namedEach (patternsOf ps) y) e)
-
-named-halved : (ps : List Pattern) → length ps ≡ 2 → (y : ℕ) → (named (getD ps 0 any) y || named (getD ps 1 any) y) ≡ true → namedEach (patternsOf ps) y ≡ true
-unfolding named patternsOf
-named-halved [] e y h = absurd (omega arith)
-named-halved (p ∷ []) e y h = absurd (omega arith)
-named-halved (p ∷ q ∷ []) e y h = go (named p y) (named q y) h
-  where
-    go : (a b : Bool) → (a || b) ≡ true → (a || (b || false)) ≡ true
-    go true b e = refl
-    go false true e = refl
-    go false false e = e
-named-halved (p ∷ q ∷ r ∷ ps) e y h = absurd (omega arith)
-
-composed-names : (r : Record) (ps : List Pattern) → 36 ≤ r .kind → r .kind ≤ 40 → (isHalved (r .kind) ≡ true → length ps ≡ 2) → (y : ℕ) → named (patternOf r ps) y ≡ true → namedEach (patternsOf ps) y ≡ true
+composed-names : (r : Record) (ps : List Pattern) → isComposed (r .kind) ≡ true → (isHalved (r .kind) ≡ true → length ps ≡ 2) → (y : ℕ) → named (patternOf r ps) y ≡ namedEach (patternsOf ps) y
 unfolding named
-composed-names r ps low high two y = cases (r .kind - 36) (omega arith) (omega arith)
-  where
-    cases : (d : ℕ) → r .kind ≡ 36 + d → d ≤ 4 → named (patternOf r ps) y ≡ true → namedEach (patternsOf ps) y ≡ true
-    cases zero f l = rw f (λ h. h)
-    cases (suc zero) f l = rw f (λ h. h)
-    cases (suc (suc zero)) f l = rw f (λ h. named-halved ps (two (rw f)) y h)
-    cases (suc (suc (suc zero))) f l = rw f (λ h. h)
-    cases (suc (suc (suc (suc zero)))) f l = rw f (λ h. named-halved ps (two (rw f)) y h)
-    cases (suc (suc (suc (suc (suc d))))) f l = absurd (omega arith)
+composed-names r ps c two y =
+    on-composed r ps (λ q. named q y ≡ namedEach (patternsOf ps) y) c (λ h. refl) (λ h. some-halves (λ q. named q y) (λ qs. namedEach qs y) refl (λ q qs. refl) ps (two h))
 
-no-names : (r : Record) (ps : List Pattern) → (r .kind ≡ 32 → ⊥) → 32 ≤ r .kind → r .kind < 36 → (y : ℕ) → named (patternOf r ps) y ≡ false
+no-names : (r : Record) (ps : List Pattern) → (r .kind ≡ 32 → ⊥) → isPattern (r .kind) ≡ true → isComposed (r .kind) ≡ false → (y : ℕ) → named (patternOf r ps) y ≡ false
 unfolding named
-no-names r ps n low high y = cases (r .kind - 32) (omega arith) (omega arith)
-  where
-    cases : (d : ℕ) → r .kind ≡ 32 + d → d ≤ 3 → named (patternOf r ps) y ≡ false
-    cases zero f l = absurd (n f)
-    cases (suc zero) f l = ap (λ (q : Pattern). named q y) (is-any r ps f)
-    cases (suc (suc zero)) f l = ap (λ (q : Pattern). named q y) (is-boolean-literal r ps f)
-    cases (suc (suc (suc zero))) f l = ap (λ (q : Pattern). named q y) (is-integer-literal r ps f)
-    cases (suc (suc (suc (suc d)))) f l = absurd (omega arith)
+no-names r ps n p c y = on-leaf r ps (λ q. named q y ≡ false) p c (λ e. absurd (n e)) (λ e. refl) (λ w a b. refl)
 
 only-name : (x : ℕ) (words : List ℕ) → (getD words x 0 ≡ 0 → ⊥) → (y : ℕ) → eqb x y ≡ true → getD words y 0 ≡ 0 → ⊥
 only-name x words h y e z = h (ap (λ (n : ℕ). getD words n 0) (eqb-true x y e) ∙ z)
@@ -89,8 +54,8 @@ only-name x words h y e z = h (ap (λ (n : ℕ). getD words n 0) (eqb-true x y e
 -- ---- is_settled
 
 -- the operands before i are settled
-pub record SettledTo (table : List ℕ) (p : ℕ) (m : List ℕ) (i : ℕ) : Type 0 where
-  pub before : (j : ℕ) → j < i → Settled (patternAt (records table) (operand (recordAt (records table) p) j)) m
+abbrev pub SettledTo : List ℕ → ℕ → List ℕ → ℕ → Type 0
+SettledTo table p m i = EachTo (λ q. Settled (patternAt (records table) q) m) (recordAt (records table) p) i
 
 module _ (table index : List ℕ) (p : ℕ) (r : Readable table index p) (m : List ℕ) where
   pub settled-name : kindAt (records table) p ≡ 32 → (x : ℕ) → x ≡ nameOf (recordAt (records table) p) → (t : Bool) → HasWord m x t → TellsSettled table p m t
@@ -99,46 +64,40 @@ module _ (table index : List ℕ) (p : ℕ) (r : Readable table index p) (m : Li
     says = λ k.
         subst (λ (w : Pattern). Settled w m) (sym (by-record table index p r ∙ is-name (recordAt (records table) p) (innerOf table p) e))
         (λ y l n z. only-name (nameOf (recordAt (records table) p)) m (subst (λ (a : ℕ). getD m a 0 ≡ 0 → ⊥) q (h .says k)) y n z);
-    each = λ k c. absurd (omega (arith, e));
+    each = λ k c. true-false (sym c ∙ name-bare e);
   }
 
-  pub settled-leaf : (kindAt (records table) p ≡ 32 → ⊥) → kindAt (records table) p < 36 → TellsSettled table p m true
+  pub settled-leaf : (kindAt (records table) p ≡ 32 → ⊥) → isComposed (kindAt (records table) p) ≡ false → TellsSettled table p m true
   settled-leaf n l = record {
     says = λ k y b e z.
-        true-false (sym e ∙ ap (λ (w : Pattern). named w y) (by-record table index p r) ∙ no-names (recordAt (records table) p) (innerOf table p) n (kind-low table index p r) l y);
-    each = λ k c. absurd (omega arith);
+        true-false (sym e ∙ ap (λ (w : Pattern). named w y) (by-record table index p r) ∙ no-names (recordAt (records table) p) (innerOf table p) n (r .pattern) l y);
+    each = λ k c. true-false (sym c ∙ l);
   }
 
-  module _ (c : 36 ≤ kindAt (records table) p) where
-    composed : (words : List ℕ) → AllSettled (innerOf table p) words → Settled (patternAt (records table) p) words
-    composed words h y l e z =
-        each-settled (innerOf table p) words h y l
-        (composed-names (recordAt (records table) p) (innerOf table p) c (kind-high table index p r) (λ q. inner-length table index p r ∙ count-two table index p r c q) y
-        (sym (ap (λ (w : Pattern). named w y) (by-record table index p r)) ∙ e)) z
-
-    at-map : (ns : List ℕ) (j : ℕ) → j < length ns → getD (map (patternAt (records table)) ns) j any ≡ patternAt (records table) (getD ns j 0)
-    at-map [] j h = absurd (omega arith)
-    at-map (n ∷ ns) zero h = refl
-    at-map (n ∷ ns) (suc j) h = at-map ns j (omega arith)
+  module _ (c : isComposed (kindAt (records table) p) ≡ true) where
+    composed : (y : ℕ) → named (patternAt (records table) p) y ≡ namedEach (patternsOf (innerOf table p)) y
+    composed y =
+        ap (λ (w : Pattern). named w y) (by-record table index p r)
+        ∙ composed-names (recordAt (records table) p) (innerOf table p) c (λ q. inner-length table index p r ∙ count-two table index p r c q) y
 
     pub settled-all : (i : ℕ) → SettledTo table p m i → length (operandsOf (recordAt (records table) p)) ≤ i → TellsSettled table p m true
+    unfolding named
     settled-all i h l = record {
-      says = λ k.
-          composed m (λ j b.
-          let q : j < length (operandsOf (recordAt (records table) p)) = omega (arith, inner-length table index p r) in
-          subst (λ (w : Pattern). Settled w m) (sym (at-map (operandsOf (recordAt (records table) p)) j q)) (h .before j (omega arith)));
-      each = λ k c j b. h .before j (omega arith);
+      -- where y has no word, no part names it
+      says = λ k y b e z.
+          true-false (sym e ∙ no-part (λ q. named q y) (λ qs. namedEach qs y) refl (λ q qs. refl) table index p r (composed y) i (λ j o. not-so (named (patternAt (records table) (operand (recordAt (records table) p) j)) y) (λ f. h j o y b f z)) l);
+      each = λ k c j b. h j (omega arith);
     }
+      where
+        not-so : (t : Bool) → (t ≡ true → ⊥) → t ≡ false
+        not-so true f = absurd (f refl)
+        not-so false f = refl
 
-  pub settled-next : (i : ℕ) → SettledTo table p m i → (q : ℕ) → q ≡ operand (recordAt (records table) p) i → (t : Bool) → TellsSettled table q m t → t ≡ true → SettledTo table p m (i + 1)
-  settled-next i h q e t o k = record { before = λ j l. go j l (ℕ-discrete j i) }
-    where
-      go : (j : ℕ) → j < i + 1 → Dec (j ≡ i) → Settled (patternAt (records table) (operand (recordAt (records table) p) j)) m
-      go j l (yes d) = subst (λ (x : ℕ). Settled (patternAt (records table) x) m) (e ∙ ap (operand (recordAt (records table) p)) (sym d)) (o .says k)
-      go j l (no d) = h .before j (omega (arith, d))
+pub settled-next : (table : List ℕ) (p : ℕ) (m : List ℕ) (i q : ℕ) → SettledTo table p m i → q ≡ operand (recordAt (records table) p) i → (t : Bool) → TellsSettled table q m t → t ≡ true → SettledTo table p m (i + 1)
+settled-next table p m i q h e t o k = each-next (λ q. Settled (patternAt (records table) q) m) (recordAt (records table) p) i q h e (o .says k)
 
 pub settled-start : (table : List ℕ) (p : ℕ) (m : List ℕ) → SettledTo table p m 0
-settled-start table p m = record { before = λ j l. absurd (omega arith) }
+settled-start table p m = each-start (λ q. Settled (patternAt (records table) q) m) (recordAt (records table) p)
 
 pub settled-no : (table : List ℕ) (p : ℕ) (m : List ℕ) → TellsSettled table p m false
 settled-no table p m = record { says = λ e. true-false (sym e); each = λ e. true-false (sym e) }
@@ -221,7 +180,7 @@ module _ (s : List ℕ) (m : List ℕ) (b : Binding) (h : Stands s m b) where
         (subst (λ (x : Binding). In x (together (withEach b (matches p v)) (matchesAll ts))) (sym e′)
         (together-in a′ d′ (withEach b (matches p v)) (matchesAll ts) (subst (λ (x : Binding). In x (withEach b (matches p v))) (sym q′) there) k′ t′))
 
-  -- the same of several
+  -- each of several patterns is settled
   abbrev EachSettled : List Pattern → Type 0
   EachSettled ps = (j : ℕ) → j < length ps → Settled (getD ps j any) m
 

@@ -31,7 +31,7 @@ use Rattle.matching.proofs.Records.{by-record, inner-length}
 use Rattle.forming.specs.declared.sizes.Size.{Size}
 use Rattle.forming.specs.declared.sizes.Sizes.{Sizes}
 use Rattle.forming.specs.declared.sizes.Range.{Range}
-use Rattle.forming.specs.Reduced.{Splits}
+use Rattle.forming.specs.Reduced.{enumerationOf, Splits}
 use Rattle.forming.specs.Sizes.{Sized, Takes, TellsSize, Sum, TellsSizes, Rights, FirstOf, SplitFrom, CutFrom, Divisible, halfAt, Barren, From}
 use Rattle.forming.proofs.Reducing.{items-same, is-two}
 
@@ -75,15 +75,15 @@ takes-halved k l r x y z a b s vs c (us, ls, rs, e, f, d, g, m, n, j) =
     let q : length ls + length rs ≡ length vs = sym (divided-length k us ls rs g) ∙ ap length (sym (items-same k vs us d)) in
     subst (Sized z) q (s .right (length ls) (length rs) (a ls e m) (b rs f n))
 
-each-by : (r : Record) (ps : List Pattern) (c : ℕ) → r .kind ≡ c - 1 → Splits c → patternOf r ps ≡ each (collectionOf c) (patternsOf ps)
-each-by r ps c e (inl f) = let d : r .kind ≡ 37 = omega (arith, e, f) in rw (d, f) refl
-each-by r ps c e (inr f) = let d : r .kind ≡ 39 = omega (arith, e, f) in rw (d, f) refl
+each-by : (r : Record) (ps : List Pattern) (c : ℕ) → r .kind ≡ enumerationOf c → Splits c → patternOf r ps ≡ each (collectionOf c) (patternsOf ps)
+each-by r ps c e (inl f) = let d : r .kind ≡ 37 = e ∙ ap enumerationOf f in rw (d, f) refl
+each-by r ps c e (inr f) = let d : r .kind ≡ 39 = e ∙ ap enumerationOf f in rw (d, f) refl
 
 pub size-any : (table : List ℕ) (p c : ℕ) → TellsSize table p c (record { least = 0; more = true })
 size-any table p c vs b m = record { least = omega arith; exact = λ e. true-false e }
 
 module _ (table index : List ℕ) (p : ℕ) (h : Readable table index p) (c : ℕ) (u : Splits c) where
-  pub size-each : kindAt (records table) p ≡ c - 1 → (n : ℕ) → n ≡ length (operandsOf (recordAt (records table) p)) → TellsSize table p c (record { least = n; more = false })
+  pub size-each : kindAt (records table) p ≡ enumerationOf c → (n : ℕ) → n ≡ length (operandsOf (recordAt (records table) p)) → TellsSize table p c (record { least = n; more = false })
   size-each e n l =
       subst (λ (q : Pattern). Takes (collectionOf c) q (record { least = n; more = false })) (sym (by-record table index p h ∙ each-by (recordAt (records table) p) (innerOf table p) c e u))
       (takes-each (collectionOf c) (innerOf table p) n (l ∙ sym (inner-length table index p h)))

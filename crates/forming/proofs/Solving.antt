@@ -11,7 +11,7 @@ use borrow.Author.Tests.{eqb-true}
 use Rattle.prelude.specs.Membership.{In}
 use Rattle.prelude.proofs.Membership.{in-at}
 use Rattle.values.specs.Value.{Kind, set, sequence, map as mapping, tuple, Value}
-use Rattle.tables.specs.Record.{Record}
+use Rattle.tables.specs.Record.{Record, isComposed}
 use Rattle.tables.specs.Table.{recordAt, kindAt}
 use Rattle.tables.specs.Accepted.{records}
 use Rattle.parts.specs.declared.Part.{Part}
@@ -23,18 +23,19 @@ use Rattle.patterns.specs.Pattern.{Pattern, any, contents, arrangements, met, s
 use Rattle.patterns.specs.Read.{patternsOf, patternOf}
 use Rattle.forming.specs.Codes.{codePattern, codeInner, countOf, codeWays, codeMet, Composed}
 use Rattle.forming.proofs.Coding.{by-code, parts-two, code-readable, code-settled, inner-settled}
+use Rattle.patterns.specs.Laws.Nodes.{on-composed}
 use Rattle.patterns.specs.Nodes.{collectionOf, isHalved, bothHalves, meetings}
 use Rattle.matching.specs.declared.nodes.Meeting.{Meeting}
 use Rattle.matching.specs.Leaf.{Stands}
 use Rattle.matching.specs.Node.{Meets}
-use Rattle.matching.proofs.Records.{kind-high, recast-meets}
-use Rattle.forming.specs.Frames.{heft}
+use Rattle.matching.proofs.Records.{recast-meets}
+use Rattle.forming.specs.Frames.{entries, heft}
 use Rattle.forming.specs.Inner.{inner, innerEach}
 use Rattle.forming.specs.Laws.Inner.{innerInside, inner-solid}
 use Rattle.forming.specs.Wild.{isWild}
 use Rattle.forming.specs.Onward.{Task, task, onward, zipped, oneWay}
 use Rattle.forming.specs.Laws.Onward.{onward-ways, one-way}
-use Rattle.forming.specs.Pending.{entries, Pending, AgendaIs, spaces}
+use Rattle.forming.specs.Pending.{Pending, AgendaIs, spaces}
 use Rattle.forming.specs.Settled.{TellsSettled}
 use Rattle.forming.proofs.Pushing.{met-long}
 use Rattle.forming.proofs.Settling.{settled-less, several-more}
@@ -67,23 +68,16 @@ recast-word word {c} {k} kind n s part m e d p h = subst (λ (q : Part). Meets c
 pub part-of : (s : List ℕ) (word : ℕ) (part : Part) (v : Value) → part ≡ unpacked word → PartIs s (unpacked word) v → PartHeld s part
 part-of s word part v e h = record { value = v; here = subst (λ (k : Part). PartIs s k v) (sym e) h }
 
-inner-composed : (r : Record) (ps : List Pattern) → 36 ≤ r .kind → r .kind ≤ 40 → (isHalved (r .kind) ≡ true → length ps ≡ 2) → isWild (patternOf r ps) ≡ false → inner (patternOf r ps) ≡ innerEach (patternsOf ps)
+inner-composed : (r : Record) (ps : List Pattern) → isComposed (r .kind) ≡ true → (isHalved (r .kind) ≡ true → length ps ≡ 2) → isWild (patternOf r ps) ≡ false → inner (patternOf r ps) ≡ innerEach (patternsOf ps)
 unfolding inner patternsOf
-inner-composed r ps low high two h = inner-solid (patternOf r ps) h ∙ cases (r .kind - 36) (omega arith) (omega arith)
+inner-composed r ps c two h =
+    inner-solid (patternOf r ps) h ∙ on-composed r ps (λ q. innerInside q ≡ innerEach (patternsOf ps)) c (λ g. refl) (λ g. half ps (two g))
   where
     half : (ps : List Pattern) → length ps ≡ 2 → suc (suc (inner (getD ps 0 any) + inner (getD ps 1 any))) ≡ innerEach (patternsOf ps)
     half [] e = absurd (omega arith)
     half (p ∷ []) e = absurd (omega arith)
     half (p ∷ q ∷ []) e = omega arith
     half (p ∷ q ∷ r ∷ ps) e = absurd (omega arith)
-
-    cases : (d : ℕ) → r .kind ≡ 36 + d → d ≤ 4 → innerInside (patternOf r ps) ≡ innerEach (patternsOf ps)
-    cases zero f l = rw f
-    cases (suc zero) f l = rw f
-    cases (suc (suc zero)) f l = rw f (half ps (two (rw f)))
-    cases (suc (suc (suc zero))) f l = rw f
-    cases (suc (suc (suc (suc zero)))) f l = rw f (half ps (two (rw f)))
-    cases (suc (suc (suc (suc (suc d))))) f l = absurd (omega arith)
 
 inner-least : (ps : List Pattern) → length ps ≤ innerEach (patternsOf ps)
 unfolding inner patternsOf
@@ -136,12 +130,12 @@ module _ (table index : List ℕ) (p : ℕ) (r : Composed table index p) where
   pub whole : (v : Value) (ts : List Task) (b : Binding) → onward (task P v ∷ ts) b ≡ gather (codeWays table p v) (oneWay (codeInner table p) ts b)
   whole v ts b =
       ap (λ (q : Pattern). onward (task q v ∷ ts) b) (by-code table index p r)
-      ∙ onward-ways (recordAt (records table) (p % 256)) (codeInner table p) (r .composed) (kind-high table index (p % 256) (code-readable table index p r)) two v ts b
+      ∙ onward-ways (recordAt (records table) (p % 256)) (codeInner table p) (r .composed) two v ts b
 
   placed-inside : inner P ≡ innerEach (patternsOf (codeInner table p))
   placed-inside =
       ap inner (by-code table index p r)
-      ∙ inner-composed (recordAt (records table) (p % 256)) (codeInner table p) (r .composed) (kind-high table index (p % 256) (code-readable table index p r)) two (ap isWild (sym (by-code table index p r)) ∙ r .solid)
+      ∙ inner-composed (recordAt (records table) (p % 256)) (codeInner table p) (r .composed) two (ap isWild (sym (by-code table index p r)) ∙ r .solid)
 
   pub several-parts : (v : Value) → 2 ≤ length (codeWays table p v) → 2 ≤ countOf table p
   several-parts v l = two-parts (kindAt (records table) (p % 256)) (countOf table p) v two l

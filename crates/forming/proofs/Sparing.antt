@@ -1,15 +1,18 @@
 -- Sets without their wildcards, and what only counts, read off patterns and their records.
 use mathlib.Core.Path.{_≡_, refl, sym, ap, subst, _∙_}
-use mathlib.Core.Bool.{Bool, true, false, _&&_, cond}
+use mathlib.Core.Bool.{Bool, true, false, not, _&&_, cond}
 use mathlib.Core.List.{List}
-use Prim.Native.Nat.{ℕ, zero, suc, _+_, _-_, _≤_, _<_}
+use Prim.Native.Nat.{ℕ, suc, _+_, _≤_}
 use native.Mathlib.Omega.{arith}
 use native.Mathlib.Numerals.{add-one}
-use lib.Dec.{eqb, ltb}
-use borrow.Author.Tests.{lt-ltb, le-ltb, eq-eqb, ne-eqb, eqb-true, eqb-false}
+use lib.Dec.{eqb}
+use borrow.Author.Tests.{eq-eqb, ne-eqb, eqb-true, eqb-false}
 use Rattle.values.specs.Value.{set, sequence, map as mapping, tuple}
-use Rattle.tables.specs.Record.{Record}
+use Rattle.prelude.proofs.Truth.{by-test}
+use Rattle.tables.specs.Record.{Record, isPattern, isComposed}
+use Rattle.tables.specs.Laws.Kinds.{by-pattern}
 use Rattle.patterns.specs.Pattern.{Pattern, name, any, literal, each, halved, Patterns, nil, cons, parts}
+use Rattle.patterns.specs.Laws.Nodes.{on-leaf, on-composed}
 use Rattle.patterns.specs.Read.{patternsOf, patternOf}
 use Rattle.forming.specs.Sizes.{Takes}
 use Rattle.forming.specs.Wild.{isAny, onlyAny, isWild}
@@ -24,11 +27,11 @@ with-any k n e = add-one n ∙ sym (ap (λ (t : Bool). cond t (suc n) n) (eq-eqb
 pub with-other : (k n : ℕ) → (k ≡ 33 → ⊥) → n ≡ cond (eqb k 33) (suc n) n
 with-other k n f = sym (ap (λ (t : Bool). cond t (suc n) n) (ne-eqb k 33 f))
 
-pub with-plain : (k : ℕ) (f : Bool) → k < 36 → f ≡ (ltb k 36 && f)
-with-plain k f l = sym (ap (λ (t : Bool). t && f) (lt-ltb k 36 l))
+pub with-plain : (k : ℕ) (f : Bool) → isComposed k ≡ false → f ≡ (not (isComposed k) && f)
+with-plain k f e = sym (ap (λ (t : Bool). not t && f) e)
 
-pub with-composed : (k : ℕ) (f : Bool) → 36 ≤ k → false ≡ (ltb k 36 && f)
-with-composed k f l = sym (ap (λ (t : Bool). t && f) (le-ltb k 36 l))
+pub with-composed : (k : ℕ) (f : Bool) → isComposed k ≡ true → false ≡ (not (isComposed k) && f)
+with-composed k f e = sym (ap (λ (t : Bool). not t && f) e)
 
 -- ---- codes of wildcards
 
@@ -114,83 +117,30 @@ strip-wild (halved k p q) = refl
 
 -- ---- by kind
 
-module _ (r : Record) (ps : List Pattern) (low : 32 ≤ r .kind) (high : r .kind ≤ 40) where
+module _ (r : Record) (ps : List Pattern) (p : isPattern (r .kind) ≡ true) where
   pub any-kind : isAny (patternOf r ps) ≡ eqb (r .kind) 33
-  any-kind = cases (r .kind - 32) (omega arith) (omega arith)
-    where
-      cases : (d : ℕ) → r .kind ≡ 32 + d → d ≤ 8 → isAny (patternOf r ps) ≡ eqb (r .kind) 33
-      cases zero f l = rw f refl
-      cases (suc zero) f l = rw f refl
-      cases (suc (suc zero)) f l = rw f refl
-      cases (suc (suc (suc zero))) f l = rw f refl
-      cases (suc (suc (suc (suc zero)))) f l = rw f refl
-      cases (suc (suc (suc (suc (suc zero))))) f l = rw f refl
-      cases (suc (suc (suc (suc (suc (suc zero)))))) f l = rw f refl
-      cases (suc (suc (suc (suc (suc (suc (suc zero))))))) f l = rw f refl
-      cases (suc (suc (suc (suc (suc (suc (suc (suc zero)))))))) f l = rw f refl
-      cases (suc (suc (suc (suc (suc (suc (suc (suc (suc d))))))))) f l = absurd (omega arith)
+  any-kind =
+      by-pattern (r .kind) p (λ f. rw f refl) (λ f. rw f refl) (λ f. rw f refl) (λ f. rw f refl) (λ f. rw f refl) (λ f. rw f refl) (λ f. rw f refl) (λ f. rw f refl) (λ f. rw f refl)
 
-  pub plain-kind : isPlain (patternOf r ps) ≡ ltb (r .kind) 36
-  plain-kind = cases (r .kind - 32) (omega arith) (omega arith)
-    where
-      cases : (d : ℕ) → r .kind ≡ 32 + d → d ≤ 8 → isPlain (patternOf r ps) ≡ ltb (r .kind) 36
-      cases zero f l = rw f refl
-      cases (suc zero) f l = rw f refl
-      cases (suc (suc zero)) f l = rw f refl
-      cases (suc (suc (suc zero))) f l = rw f refl
-      cases (suc (suc (suc (suc zero)))) f l = rw f refl
-      cases (suc (suc (suc (suc (suc zero))))) f l = rw f refl
-      cases (suc (suc (suc (suc (suc (suc zero)))))) f l = rw f refl
-      cases (suc (suc (suc (suc (suc (suc (suc zero))))))) f l = rw f refl
-      cases (suc (suc (suc (suc (suc (suc (suc (suc zero)))))))) f l = rw f refl
-      cases (suc (suc (suc (suc (suc (suc (suc (suc (suc d))))))))) f l = absurd (omega arith)
+  pub plain-kind : isPlain (patternOf r ps) ≡ not (isComposed (r .kind))
+  plain-kind =
+      by-test (isComposed (r .kind))
+      (λ c. on-composed r ps (λ q. isPlain q ≡ not (isComposed (r .kind))) c (λ h. rw c) (λ h. rw c))
+      (λ c. on-leaf r ps (λ q. isPlain q ≡ not (isComposed (r .kind))) p c (λ e. rw c) (λ e. rw c) (λ w a b. rw c))
 
   -- what is no set is not stripped, and what is no union either counts nothing
   pub other-strip : (r .kind ≡ 37 → ⊥) → strip (patternOf r ps) ≡ patternOf r ps
-  other-strip n = cases (r .kind - 32) (omega arith) (omega arith)
-    where
-      cases : (d : ℕ) → r .kind ≡ 32 + d → d ≤ 8 → strip (patternOf r ps) ≡ patternOf r ps
-      cases zero f l = rw f refl
-      cases (suc zero) f l = rw f refl
-      cases (suc (suc zero)) f l = rw f refl
-      cases (suc (suc (suc zero))) f l = rw f refl
-      cases (suc (suc (suc (suc zero)))) f l = rw f refl
-      cases (suc (suc (suc (suc (suc zero))))) f l = absurd (n f)
-      cases (suc (suc (suc (suc (suc (suc zero)))))) f l = rw f refl
-      cases (suc (suc (suc (suc (suc (suc (suc zero))))))) f l = rw f refl
-      cases (suc (suc (suc (suc (suc (suc (suc (suc zero)))))))) f l = rw f refl
-      cases (suc (suc (suc (suc (suc (suc (suc (suc (suc d))))))))) f l = absurd (omega arith)
+  other-strip n =
+      by-pattern (r .kind) p (λ f. rw f refl) (λ f. rw f refl) (λ f. rw f refl) (λ f. rw f refl) (λ f. rw f refl) (λ f. absurd (n f)) (λ f. rw f refl) (λ f. rw f refl) (λ f. rw f refl)
 
   pub other-spares : (r .kind ≡ 37 → ⊥) → spares (patternOf r ps) ≡ 0
-  other-spares n = cases (r .kind - 32) (omega arith) (omega arith)
-    where
-      cases : (d : ℕ) → r .kind ≡ 32 + d → d ≤ 8 → spares (patternOf r ps) ≡ 0
-      cases zero f l = rw f refl
-      cases (suc zero) f l = rw f refl
-      cases (suc (suc zero)) f l = rw f refl
-      cases (suc (suc (suc zero))) f l = rw f refl
-      cases (suc (suc (suc (suc zero)))) f l = rw f refl
-      cases (suc (suc (suc (suc (suc zero))))) f l = absurd (n f)
-      cases (suc (suc (suc (suc (suc (suc zero)))))) f l = rw f refl
-      cases (suc (suc (suc (suc (suc (suc (suc zero))))))) f l = rw f refl
-      cases (suc (suc (suc (suc (suc (suc (suc (suc zero)))))))) f l = rw f refl
-      cases (suc (suc (suc (suc (suc (suc (suc (suc (suc d))))))))) f l = absurd (omega arith)
+  other-spares n =
+      by-pattern (r .kind) p (λ f. rw f refl) (λ f. rw f refl) (λ f. rw f refl) (λ f. rw f refl) (λ f. rw f refl) (λ f. absurd (n f)) (λ f. rw f refl) (λ f. rw f refl) (λ f. rw f refl)
 
   pub other-wild : (r .kind ≡ 37 → ⊥) → (r .kind ≡ 38 → ⊥) → isWild (patternOf r ps) ≡ false
   unfolding isWild
-  other-wild n m = cases (r .kind - 32) (omega arith) (omega arith)
-    where
-      cases : (d : ℕ) → r .kind ≡ 32 + d → d ≤ 8 → isWild (patternOf r ps) ≡ false
-      cases zero f l = rw f refl
-      cases (suc zero) f l = rw f refl
-      cases (suc (suc zero)) f l = rw f refl
-      cases (suc (suc (suc zero))) f l = rw f refl
-      cases (suc (suc (suc (suc zero)))) f l = rw f refl
-      cases (suc (suc (suc (suc (suc zero))))) f l = absurd (n f)
-      cases (suc (suc (suc (suc (suc (suc zero)))))) f l = absurd (m f)
-      cases (suc (suc (suc (suc (suc (suc (suc zero))))))) f l = rw f refl
-      cases (suc (suc (suc (suc (suc (suc (suc (suc zero)))))))) f l = rw f refl
-      cases (suc (suc (suc (suc (suc (suc (suc (suc (suc d))))))))) f l = absurd (omega arith)
+  other-wild n m =
+      by-pattern (r .kind) p (λ f. rw f refl) (λ f. rw f refl) (λ f. rw f refl) (λ f. rw f refl) (λ f. rw f refl) (λ f. absurd (n f)) (λ f. absurd (m f)) (λ f. rw f refl) (λ f. rw f refl)
 
 pub is-set : (r : Record) (ps : List Pattern) → r .kind ≡ 37 → patternOf r ps ≡ each set (patternsOf ps)
 is-set r ps e = rw e refl

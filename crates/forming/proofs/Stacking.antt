@@ -31,9 +31,8 @@ use Rattle.forming.specs.declared.frames.Frame.{Frame}
 use Rattle.forming.specs.declared.sizes.Sizes.{Sizes}
 use Rattle.forming.specs.Adding.{adding}
 use Rattle.forming.specs.Laws.Adding.{adding-append, adding-one, adding-longer, adding-alike, placed-sorted}
-use Rattle.forming.specs.Frames.{KeptBelow, frameAt, FrameFits, Advanced, maskOf}
+use Rattle.forming.specs.Frames.{entries, KeptBelow, frameAt, FrameFits, Advanced, maskOf}
 use Rattle.forming.specs.Onward.{Task, task, onward, oneWay}
-use Rattle.forming.specs.Pending.{entries}
 use Rattle.forming.specs.Codes.{codePattern, codeInner, countOf, codeWays, Regrouped, RestIs, CodeHalves}
 use Rattle.forming.proofs.Coding.{code-small}
 use Rattle.forming.specs.Rows.{RowsAre}

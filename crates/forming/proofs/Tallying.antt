@@ -16,6 +16,7 @@ use Rattle.prelude.proofs.Lists.{map-at}
 use Rattle.values.specs.Value.{set}
 use Rattle.tables.specs.Record.{named as operandsOf, operand}
 use Rattle.tables.specs.Table.{recordAt, kindAt}
+use Rattle.tables.specs.Laws.Kinds.{set-composed}
 use Rattle.tables.specs.Sheet.{height}
 use Rattle.tables.specs.Accepted.{records}
 use Rattle.tables.specs.Laws.Accepted.{height-operand, height-most}
@@ -23,7 +24,7 @@ use Rattle.patterns.specs.Pattern.{Pattern, any, each, halved}
 use Rattle.patterns.specs.Laws.Nodes.{is-any, parts-length}
 use Rattle.patterns.specs.Read.{Readable, patternsOf, patternAt}
 use Rattle.matching.specs.Node.{innerOf}
-use Rattle.matching.proofs.Records.{by-record, inner-length, kind-low, kind-high, count-few}
+use Rattle.matching.proofs.Records.{by-record, inner-length, count-few}
 use Rattle.forming.specs.declared.wild.Wild.{Wild}
 use Rattle.forming.specs.Wild.{isAny, onlyAny, isWild, wildLeast, wildMore}
 use Rattle.forming.specs.Counted.{TellsCount, tallyBy, TellsTally, TallyOfBoth}
@@ -153,13 +154,13 @@ module _ (table index : List ℕ) (p : ℕ) (r : Readable table index p) where
       }
 
   pub is-any-not : (kindAt (records table) p ≡ 33 → ⊥) → isAny (patternAt (records table) p) ≡ false
-  is-any-not n = ap isAny (by-record table index p r) ∙ any-kind (recordAt (records table) p) (innerOf table p) (kind-low table index p r) (kind-high table index p r) ∙ ne-eqb (kindAt (records table) p) 33 n
+  is-any-not n = ap isAny (by-record table index p r) ∙ any-kind (recordAt (records table) p) (innerOf table p) (r .pattern) ∙ ne-eqb (kindAt (records table) p) 33 n
 
   pub is-any-so : kindAt (records table) p ≡ 33 → isAny (patternAt (records table) p) ≡ true
   is-any-so e = ap isAny (by-record table index p r ∙ is-any (recordAt (records table) p) (innerOf table p) e)
 
   pub not-wild : (kindAt (records table) p ≡ 37 → ⊥) → (kindAt (records table) p ≡ 38 → ⊥) → isWild (patternAt (records table) p) ≡ false
-  not-wild a b = ap isWild (by-record table index p r) ∙ other-wild (recordAt (records table) p) (innerOf table p) (kind-low table index p r) (kind-high table index p r) a b
+  not-wild a b = ap isWild (by-record table index p r) ∙ other-wild (recordAt (records table) p) (innerOf table p) (r .pattern) a b
 
   tells-none : (kindAt (records table) p ≡ 33 → ⊥) → (kindAt (records table) p ≡ 37 → ⊥) → (kindAt (records table) p ≡ 38 → ⊥) → TellsCount table p none
   tells-none n a b = record {
@@ -192,7 +193,7 @@ module _ (table index : List ℕ) (p : ℕ) (r : Readable table index p) where
           ap isAny (at j q) ∙ h j (omega arith)));
       least = λ t. e ∙ sym (ap wildLeast is-set ∙ parts-length (innerOf table p) ∙ inner-length table index p r);
       more = λ t. sym (ap wildMore is-set);
-      few = omega (arith, e, count-few table index p r (omega (arith, k)), power-some H);
+      few = omega (arith, e, count-few table index p r (set-composed k), power-some H);
     }
 
     tells-part : (i q : ℕ) → i < length (operandsOf (recordAt (records table) p)) → q ≡ operand (recordAt (records table) p) i → isAny (patternAt (records table) q) ≡ false

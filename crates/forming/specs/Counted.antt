@@ -14,14 +14,14 @@ use Rattle.patterns.specs.Read.{patternAt}
 use Rattle.forming.specs.declared.wild.Wild.{Wild}
 use Rattle.forming.specs.Wild.{isAny, isWild, wildLeast, wildMore, countFits}
 
--- It is any or only counts: then so many members it takes. Their number fits.
+-- r says whether pattern record p is any or only counts, and then how many members it takes. Their number fits.
 pub record TellsCount (table : List ℕ) (p : ℕ) (r : Wild) : Type 0 where
   pub yes : r .yes ≡ (isAny (patternAt (records table) p) || isWild (patternAt (records table) p))
   pub least : r .yes ≡ true → r .least ≡ wildLeast (patternAt (records table) p)
   pub more : r .yes ≡ true → r .more ≡ wildMore (patternAt (records table) p)
   pub few : r .least ≤ 4 * 2 ^ height (records table) p
 
--- It as one number.
+-- What a pattern takes as one number.
 abbrev pub tallyBy : Bool → ℕ → Bool → ℕ
 tallyBy counts least more = cond counts (1 + 2 * least + cond more 1 0) 0
 
@@ -33,7 +33,7 @@ pub record TellsTally (table : List ℕ) (p n : ℕ) : Type 0 where
   pub tells : TellsCount table p told
   pub is : n ≡ tallyOf told
 
--- Of two halves, the first of which only counts.
+-- r is what a union takes, as one number, where a and b are what its halves take and the first only counts.
 pub record TallyOfBoth (a b r : ℕ) : Type 0 where
   pub right : (w x : Wild) → a ≡ tallyOf w → b ≡ tallyOf x → w .yes ≡ true → r ≡ tallyBy (x .yes) (w .least + x .least) (w .more || x .more)
 

@@ -3,15 +3,24 @@ use mathlib.Core.Path.{_≡_}
 use mathlib.Core.Bool.{Bool, cond}
 use mathlib.Core.Logic.{_⊎_}
 use mathlib.Core.List.{List, [], _∷_}
-use Prim.Native.Nat.{ℕ, zero, suc, _+_, _-_, _*_, _^_, _≤_, _<_}
+use Prim.Native.Nat.{ℕ, zero, suc, _+_, _-_, _*_, _/_, _^_, _≤_, _<_}
 use lib.Dec.{eqb}
 use lib.ListN.{length, getD, take, drop}
+use Rattle.tables.specs.Check.{mostRecords}
+use Rattle.patterns.specs.Binding.{names}
 use Rattle.matching.specs.Leaf.{Grown}
 use Rattle.forming.specs.declared.frames.Frame.{Frame}
 
 -- Nothing below a place changed.
 abbrev pub KeptBelow : List ℕ → List ℕ → ℕ → Type 0
 KeptBelow a b n = (j : ℕ) → j < n → getD b j 0 ≡ getD a j 0
+
+-- The entries of an agenda, of three words each: entry 0 is none, one is for the whole pattern, and one for each of its parts.
+abbrev pub entries : ℕ
+entries = mostRecords + 1
+
+abbrev pub agendaWords : ℕ
+agendaWords = 3 * entries
 
 -- ---- frames
 
@@ -23,7 +32,17 @@ flagByte b = cond b 1 0
 abbrev pub wordAt : List ℕ → ℕ → ℕ
 wordAt b i = getD b i 0 + 256 * getD b (i + 1) 0 + 65536 * getD b (i + 2) 0 + 16777216 * getD b (i + 3) 0
 
--- A frame from its 21 bytes.
+-- A frame takes so many bytes, and two of the records of a table at least: so many frames, and bytes of them, are enough.
+abbrev pub frameBytes : ℕ
+frameBytes = 21
+
+abbrev pub mostFrames : ℕ
+mostFrames = mostRecords / 2
+
+abbrev pub framesBytes : ℕ
+framesBytes = mostFrames * frameBytes
+
+-- A frame from its bytes.
 abbrev pub frameOf : List ℕ → Frame
 frameOf b = record {
   p = wordAt b 0;
@@ -44,12 +63,12 @@ frameOf b = record {
 
 -- The bytes of frame i, and the frame.
 abbrev pub slotAt : List ℕ → ℕ → List ℕ
-slotAt a i = take 21 (drop (21 * i) a)
+slotAt a i = take frameBytes (drop (frameBytes * i) a)
 
 abbrev pub frameAt : List ℕ → ℕ → Frame
 frameAt a i = frameOf (slotAt a i)
 
--- It with another way next.
+-- A frame with another way next.
 abbrev pub onto : Frame → ℕ → Frame
 onto f e = record { p = f .p; rest = f .rest; at = f .at; next = f .next; top = f .top; way = e; ways = f .ways; mask = f .mask; once = f .once; sizes = f .sizes }
 
@@ -65,24 +84,24 @@ pub record FrameFits (f : Frame) : Type 0 where
 
 pub record SlotPut (a : List ℕ) (i : ℕ) (bytes b : List ℕ) : Type 0 where
   pub here : slotAt b i ≡ bytes
-  pub kept : KeptBelow a b (21 * i)
+  pub kept : KeptBelow a b (frameBytes * i)
   pub long : length b ≡ length a
 
 pub record Stored (a : List ℕ) (i : ℕ) (f : Frame) (b : List ℕ) : Type 0 where
   pub here : frameAt b i ≡ f
-  pub kept : KeptBelow a b (21 * i)
+  pub kept : KeptBelow a b (frameBytes * i)
   pub long : length b ≡ length a
 
 -- The last frame, i, was stored with a way that is left, or none is left; r frames are there.
 pub record Advanced (a : List ℕ) (i : ℕ) (f : Frame) (b : List ℕ) (r : ℕ) : Type 0 where
-  pub kept : KeptBelow a b (21 * i)
+  pub kept : KeptBelow a b (frameBytes * i)
   pub long : length b ≡ length a
   pub how : ((r ≡ suc i) × (f .way < f .ways) × (frameAt b i ≡ f)) ⊎ ((r ≡ i) × (f .ways ≤ f .way))
 
 -- ---- how much is left: the ways of each frame, weighed by the rest of the agenda that they go on with
 
 abbrev pub heft : ℕ → ℕ → ℕ
-heft top next = 201 * (201 - top) + next
+heft top next = entries * (entries - top) + next
 
 abbrev pub burden : Frame → ℕ
 burden f = (f .ways - f .way) * 256 ^ heft (f .top) (f .next)
@@ -103,4 +122,4 @@ maskOf (w ∷ ws) = 2 * maskOf ws + hasWord w
 
 -- The words are again what they were when the mask was made of them.
 abbrev pub Cleared : List ℕ → ℕ → List ℕ → Type 0
-Cleared before mask after = (ws : List ℕ) → mask ≡ maskOf ws → length ws ≡ 16 → Grown ws before → after ≡ ws
+Cleared before mask after = (ws : List ℕ) → mask ≡ maskOf ws → length ws ≡ names → Grown ws before → after ≡ ws

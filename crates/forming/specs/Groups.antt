@@ -24,7 +24,7 @@ leaves (halved sequence p q) = halved sequence p q ∷ []
 leaves (halved mapping p q) = halved mapping p q ∷ []
 leaves (halved tuple p q) = halved tuple p q ∷ []
 
--- One after the other, each the left half of a union with the rest.
+-- A list of patterns as one union pattern: each is the left half of a union with the rest.
 unfoldable pub unionOf : List Pattern → Pattern
 unionOf [] = any
 unionOf (p ∷ []) = p
@@ -46,7 +46,7 @@ unfoldable mutual
 abbrev pub TellsName : List ℕ → ℕ → Bool → Type 0
 TellsName table p r = r ≡ hasName (patternAt (records table) p)
 
--- So many members the patterns may take together.
+-- m members are what a list of patterns may take together.
 abbrev pub Lengths : List Pattern → ℕ → Type 0
 Lengths [] m = m ≡ 0
 Lengths (p ∷ ps) m = (vs : List Value) × (b : Binding) × (n : ℕ) × Matches p (collection set (itemsOf vs)) b × Lengths ps n × (m ≡ length vs + n)

@@ -20,10 +20,22 @@ use Rattle.forming.specs.Ordered.{isFlat, anys, strip, stripEach, ofClas
 
 -- ---- the codes of leaves
 
--- Below 256 the number of a record; from there on that of a set without its wildcards; from 512 on so many wildcards together, from 768 on at
--- least so many.
+-- Codes below this are the numbers of records, those from it on the numbers of sets whose wildcards are left out.
+abbrev pub recordCodes : ℕ
+recordCodes = 256
+
+-- From here on so many wildcards together, from there on at least so many; and from there on no leaf.
+abbrev pub exactWildcards : ℕ
+exactWildcards = 512
+
+abbrev pub leastWildcards : ℕ
+leastWildcards = 768
+
+abbrev pub groupCodes : ℕ
+groupCodes = 1024
+
 abbrev pub leafPattern : List ℕ → ℕ → Pattern
-leafPattern table c = cond (ltb c 256) (patternAt (records table) c) (cond (ltb c 512) (strip (patternAt (records table) (c % 256))) (wildcards (c % 256) (leb 768 c)))
+leafPattern table c = cond (ltb c recordCodes) (patternAt (records table) c) (cond (ltb c exactWildcards) (strip (patternAt (records table) (c % recordCodes))) (wildcards (c % recordCodes) (leb leastWildcards c)))
 
 -- The parts that are not any.
 unfoldable pub keptParts : List Pattern → List Pattern
@@ -31,16 +43,16 @@ keptParts [] = []
 keptParts (p ∷ ps) = cond (isAny p) (keptParts ps) (p ∷ keptParts ps)
 
 pub record StrippedHeld (table index : List ℕ) (c : ℕ) : Type 0 where
-  pub large : 256 ≤ c
-  pub small : c < 512
-  pub readable : Readable table index (c % 256)
-  pub of-kind : kindAt (records table) (c % 256) ≡ 37
-  pub flat : isFlat (patternsOf (innerOf table (c % 256))) ≡ true
-  pub parts : isWild (patternAt (records table) (c % 256)) ≡ false
+  pub large : recordCodes ≤ c
+  pub small : c < exactWildcards
+  pub readable : Readable table index (c % recordCodes)
+  pub of-kind : kindAt (records table) (c % recordCodes) ≡ 37
+  pub flat : isFlat (patternsOf (innerOf table (c % recordCodes))) ≡ true
+  pub parts : isWild (patternAt (records table) (c % recordCodes)) ≡ false
 
 pub record WildHeld (c : ℕ) : Type 0 where
-  pub large : 512 ≤ c
-  pub small : c < 1024
+  pub large : exactWildcards ≤ c
+  pub small : c < groupCodes
 
 abbrev pub LeafCodeHeld : List ℕ → List ℕ → ℕ → Type 0
 LeafCodeHeld table index c = Readable table index c ⊎ (StrippedHeld table index c ⊎ WildHeld c)
@@ -96,7 +108,7 @@ stripIf t ps = cond t (stripEach ps) ps
 abbrev pub tailLeaf : Bool → ℕ → Bool → List Pattern
 tailLeaf some n more = cond some (wildcards n more ∷ []) []
 
--- Of a list of patterns: the code of the one at i, how many they are, and what those from i on take.
+-- r has the code of the pattern at i of a list, how many they are, and what those from i on take.
 pub record LeavesAre (table index : List ℕ) (ps : List Pattern) (i : ℕ) (r : Leaves) : Type 0 where
   pub count : r .count ≡ length ps
   pub found : r .found ≡ ltb i (length ps)
@@ -120,7 +132,7 @@ pub record LastIs (t : Wildcards) (i : ℕ) (r : Leaves) : Type 0 where
 pub record InOrderHeld (table index : List ℕ) (p : ℕ) (t : Wildcards) : Type 0 where
   pub survey : SurveyHeld table index p
   pub tail : TailIs table p t
-  pub small : t .wild < 256
+  pub small : t .wild < recordCodes
 
 -- ---- parts that are kept
 

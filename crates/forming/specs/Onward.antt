@@ -18,7 +18,7 @@ unfoldable pub matchesAll : List Task → List Binding
 matchesAll [] = nothing ∷ []
 matchesAll (t ∷ ts) = together (matches (t .what) (t .value)) (matchesAll ts)
 
--- Those that agree with what is found, together with it.
+-- The matches of all tasks that agree with what is found, together with it.
 abbrev pub onward : List Task → Binding → List Binding
 onward ts b = withEach b (matchesAll ts)
 

@@ -5,6 +5,7 @@ use mathlib.Core.List.{List, [], _∷_, _++_}
 use Prim.Native.Nat.{ℕ, _+_, _*_, _%_, _≤_, _<_}
 use lib.ListN.{length, getD}
 use Rattle.values.specs.Value.{Value}
+use Rattle.tables.specs.Record.{isComposed}
 use Rattle.tables.specs.Table.{kindAt}
 use Rattle.tables.specs.Accepted.{records}
 use Rattle.parts.specs.Part.{PartIs}
@@ -15,11 +16,12 @@ use Rattle.patterns.specs.Nodes.{isLarge}
 use Rattle.matching.specs.Leaf.{Stands, Went, Grown}
 use Rattle.forming.specs.Inner.{inner}
 use Rattle.forming.specs.Wild.{isWild}
+use Rattle.forming.specs.Leaves.{recordCodes}
 use Rattle.forming.specs.Codes.{codePattern, codeInner, countOf, codeWays, codeMet, CodeHeld, Composed, RestIs}
 use Rattle.forming.specs.declared.taking.Left.{Left}
 use Rattle.forming.specs.Onward.{Task, onward, zipped}
 use Rattle.parts.specs.Word.{unpacked}
-use Rattle.forming.specs.Frames.{KeptBelow}
+use Rattle.forming.specs.Frames.{KeptBelow, entries, agendaWords}
 
 -- An entry of three numbers: the code of the pattern, the part that it meets, and the entry that follows, a lower one.
 pub record Pending (table index s a : List ℕ) (top head : ℕ) (t : Task) : Type 0 where
@@ -36,17 +38,10 @@ abbrev pub AgendaIs : List ℕ → List ℕ → List ℕ → List ℕ → ℕ �
 AgendaIs table index s a top head [] = head ≡ 0
 AgendaIs table index s a top head (t ∷ ts) = Pending table index s a top head t × AgendaIs table index s a top (getD a (3 * head + 2) 0) ts
 
--- So many entries the tasks may need.
+-- The entries that the tasks may need.
 abbrev pub spaces : List Task → ℕ
 spaces [] = 0
 spaces (t ∷ ts) = inner (t .what) + spaces ts
-
--- The entries of an agenda, and its words: entry 0 is none, one is for the pattern, and one for each of its at most 199 parts.
-abbrev pub entries : ℕ
-entries = 201
-
-abbrev pub agendaWords : ℕ
-agendaWords = 603
 
 -- ---- the parts of a pattern put before the rest
 
@@ -56,7 +51,7 @@ pub record Pushable (table index : List ℕ) (c rest : ℕ) (s : List ℕ) (word
   pub short : length s ≤ 65536
   pub value : Value
   pub here : PartIs s (unpacked word) value
-  pub narrow : isLarge (kindAt (records table) (c % 256)) value ≡ false
+  pub narrow : isLarge (kindAt (records table) (c % recordCodes)) value ≡ false
   pub below : d < length (codeWays table c value)
   pub low : next < top
   pub room : top + countOf table c ≤ entries
@@ -79,7 +74,7 @@ CodeTold table c s word found after agrees = (v : Value) (b : Binding) → PartI
 -- An entry with parts that waits, or none.
 abbrev pub WaitsAre : List ℕ → List ℕ → List ℕ → List ℕ → ℕ → ℕ → List Task → Type 0
 WaitsAre table index s a top wait [] = wait ≡ 0
-WaitsAre table index s a top wait (t ∷ []) = Pending table index s a top wait t × (36 ≤ kindAt (records table) (getD a (3 * wait) 0 % 256)) × (isWild (codePattern table (getD a (3 * wait) 0)) ≡ false)
+WaitsAre table index s a top wait (t ∷ []) = Pending table index s a top wait t × (isComposed (kindAt (records table) (getD a (3 * wait) 0 % recordCodes)) ≡ true) × (isWild (codePattern table (getD a (3 * wait) 0)) ≡ false)
 WaitsAre table index s a top wait (t ∷ u ∷ ts) = ⊥
 
 -- What is left of the tasks ts, going on from b: the one that waits, and those from head on, with what is found now.

@@ -1,11 +1,12 @@
 -- Wildcards beside wildcards: what a pattern and the pattern that is left of it without them have in common.
 use mathlib.Core.Path.{_≡_}
-use mathlib.Core.Bool.{Bool, true, false, _||_}
+use mathlib.Core.Bool.{Bool, true, false, _||_, cond}
 use mathlib.Core.List.{List}
 use mathlib.Core.Logic.{_⊎_}
 use Prim.Native.Nat.{ℕ, zero, suc, _-_, _≤_, _<_}
+use lib.Dec.{eqb}
 use Rattle.values.specs.Value.{Kind, set, Value, collection}
-use Rattle.tables.specs.Record.{operand}
+use Rattle.tables.specs.Record.{isComposed, operand}
 use Rattle.tables.specs.Table.{recordAt, kindAt}
 use Rattle.tables.specs.Accepted.{records}
 use Rattle.patterns.specs.Members.{Alike}
@@ -36,6 +37,10 @@ TakesMore k side p = (vs es rs : List Value) (b : Binding) → Beside k side vs 
 abbrev pub Splits : ℕ → Type 0
 Splits c = (c ≡ 38) ⊎ (c ≡ 40)
 
+-- The kind of patterns with a part for each member or item of what kind c splits or cuts.
+abbrev pub enumerationOf : ℕ → ℕ
+enumerationOf c = cond (eqb c 38) 37 39
+
 -- ---- what the functions tell of pattern record p
 
 abbrev pub TellsAll : List ℕ → ℕ → ℕ → Bool → Type 0
@@ -53,7 +58,7 @@ pub record SpareHeld (table index : List ℕ) (p c side : ℕ) : Type 0 where
 -- Record r has the same bindings as p, with no more parts; and where p does not only count, neither does r.
 pub record Reduced (table index : List ℕ) (p r : ℕ) : Type 0 where
   pub readable : Readable table index r
-  pub composed : 36 ≤ kindAt (records table) r
+  pub composed : isComposed (kindAt (records table) r) ≡ true
   pub low : r ≤ p
   pub alike : (v : Value) → Alike (matches (patternAt (records table) p) v) (matches (patternAt (records table) r) v)
   pub narrow : (v : Value) → wide (patternAt (records table) p) v ≡ false → wide (patternAt (records table) r) v ≡ false

@@ -7,28 +7,33 @@ use lib.ListN.{length, getD, take, drop}
 use Rattle.parts.specs.Part.{CellIs}
 use Rattle.parts.specs.Word.{unpacked}
 use Rattle.patterns.specs.Binding.{Binding, names, nothing, cellOf, place, sorted}
+use Rattle.patterns.specs.Binder.{mostBindings}
 use Rattle.matching.specs.Leaf.{Stands}
 use Rattle.forming.specs.declared.rows.Seek.{Seek}
 use Rattle.forming.specs.declared.Formed.{Formed}
 use Rattle.forming.specs.declared.Formed.the-variants.{Number, Refused}
 
+-- The words of all rows: one for each name of each binding.
+abbrev pub rowsWords : ℕ
+rowsWords = mostBindings * names
+
 -- Row r stands for the binding b.
 pub record RowIs (s rows : List ℕ) (r : ℕ) (b : Binding) : Type 0 where
   pub sized : length b ≡ names
-  pub cells : (x : ℕ) → x < names → CellIs s (unpacked (getD rows (16 * r + x) 0)) (cellOf b x)
-  pub blank : (x : ℕ) → x < names → getD rows (16 * r + x) 0 % 4 ≡ 0 → getD rows (16 * r + x) 0 ≡ 0
+  pub cells : (x : ℕ) → x < names → CellIs s (unpacked (getD rows (names * r + x) 0)) (cellOf b x)
+  pub blank : (x : ℕ) → x < names → getD rows (names * r + x) 0 % 4 ≡ 0 → getD rows (names * r + x) 0 ≡ 0
 
 pub record RowHeld (s rows : List ℕ) (r : ℕ) : Type 0 where
-  pub low : r < 255
+  pub low : r < mostBindings
   pub binding : Binding
   pub is : RowIs s rows r binding
 
 -- The first n rows, in the order given, are the bindings bs, distinct and ascending.
 pub record RowsAre (s rows order : List ℕ) (n : ℕ) (bs : List Binding) : Type 0 where
-  pub wide : length rows ≡ 4080
-  pub long : length order ≡ 255
+  pub wide : length rows ≡ rowsWords
+  pub long : length order ≡ mostBindings
   pub count : length bs ≡ n
-  pub few : n ≤ 255
+  pub few : n ≤ mostBindings
   pub given : List Binding
   pub ordered : bs ≡ sorted given
   pub row : (j : ℕ) → j < n → getD order j 0 < n
@@ -49,7 +54,7 @@ Sought s m rows order n r = (b : Binding) (bs : List Binding) → Stands s m b �
 -- Row r was written, and nothing before it changed.
 pub record RowPut (s : List ℕ) (m : List ℕ) (rows after : List ℕ) (r : ℕ) : Type 0 where
   pub right : (b : Binding) → Stands s m b → RowIs s after r b
-  pub before : (j : ℕ) → j < 16 * r → getD after j 0 ≡ getD rows j 0
+  pub before : (j : ℕ) → j < names * r → getD after j 0 ≡ getD rows j 0
   pub long : length after ≡ length rows
 
 -- n was put in at a place.
@@ -68,7 +73,7 @@ pub record EntryHeld (s : List ℕ) (m : List ℕ) (rows order : List ℕ) (n : 
 -- The bindings were entered, or they are too many.
 abbrev pub Entered : List ℕ → List ℕ → List ℕ → List Binding → Formed → Type 0
 Entered s rows order bs (Number n) = RowsAre s rows order n bs
-Entered s rows order bs (Refused k) = (k ≡ 30) × (255 < length bs)
+Entered s rows order bs (Refused k) = (k ≡ 30) × (mostBindings < length bs)
 
 abbrev pub Entry : List ℕ → List ℕ → List ℕ → List ℕ → ℕ → List ℕ → List ℕ → Formed → Type 0
 Entry s m rows order n rows′ order′ r = (b : Binding) (bs : List Binding) → Stands s m b → RowsAre s rows order n bs → Entered s rows′ order′ (place b bs) r

@@ -51,12 +51,12 @@ TellsSizes table p c z = z .bound ≡ true → HalvesTake table p c z
 
 -- ---- how many the right half has in a way
 
--- Of n members or items the right half has from the least to the most of the range, where both halves have such sizes.
+-- The right half has from the least to the most of the range of n members or items, where both halves have such sizes.
 pub record Rights (z : Sizes) (n : ℕ) (r : Range) : Type 0 where
   pub low : r .most ≤ n
   pub right : (i j : ℕ) → i + j ≡ n → Sized (z .left) i → Sized (z .right) j → (r .least ≤ j) × (j ≤ r .most)
 
--- Of w ways those from d up to e do not give the right half so many, where way j gives it f j.
+-- The ways from d up to e of w ways do not give the right half so many, where way j gives it f j.
 pub record FirstOf (f : ℕ → ℕ) (w d : ℕ) (r : Range) (e : ℕ) : Type 0 where
   pub low : d ≤ e
   pub within : d ≤ w → e ≤ w

@@ -12,7 +12,8 @@ use Rattle.tables.specs.Accepted.{records}
 use Rattle.parts.specs.Part.{PartIs}
 use Rattle.parts.specs.Word.{unpacked}
 use Rattle.patterns.specs.Ways.{gather}
-use Rattle.patterns.specs.Binding.{Binding, place}
+use Rattle.patterns.specs.Binding.{Binding, names, place}
+use Rattle.patterns.specs.Binder.{mostBindings}
 use Rattle.patterns.specs.Pattern.{wide}
 use Rattle.patterns.specs.Nodes.{isLarge}
 use Rattle.matching.specs.Leaf.{Stands, Grown}
@@ -21,11 +22,12 @@ use Rattle.forming.specs.declared.Formed.{Formed}
 use Rattle.forming.specs.declared.frames.Frame.{Frame}
 use Rattle.forming.specs.Adding.{adding}
 use Rattle.forming.specs.Inner.{inner}
-use Rattle.forming.specs.Frames.{frameAt, heft, rank, maskOf}
+use Rattle.forming.specs.Frames.{entries, agendaWords, framesBytes, frameAt, heft, rank, maskOf}
 use Rattle.forming.specs.Onward.{Task, task, onward, oneWay}
-use Rattle.forming.specs.Pending.{AgendaIs, spaces, entries, agendaWords}
+use Rattle.forming.specs.Pending.{AgendaIs, spaces}
 use Rattle.forming.specs.Rows.{RowsAre, Entered}
 use Rattle.forming.specs.Settled.{TellsSettled}
+use Rattle.forming.specs.Leaves.{recordCodes}
 use Rattle.forming.specs.Codes.{codePattern, codeInner, codeWays, Composed, RestIs, CodeHalves}
 
 -- What a frame stands for: a pattern with parts that meets a value, before the rest of the tasks, going on from a binding and its words; the
@@ -50,7 +52,7 @@ pub record LevelIs (table index s a : List ℕ) (i : ℕ) (f : Frame) (l : Level
   pub low : f .at < f .top
   pub here : PartIs s (unpacked (getD a (3 * f .at + 1) 0)) (l .value)
   pub narrow : wide (codePattern table (f .p)) (l .value) ≡ false
-  pub fits : isLarge (kindAt (records table) (f .p % 256)) (l .value) ≡ false
+  pub fits : isLarge (kindAt (records table) (f .p % recordCodes)) (l .value) ≡ false
   pub are : AgendaIs table index s a (f .top) (f .next) (l .tasks)
   pub room : f .top + (inner (codePattern table (f .p)) + spaces (l .tasks)) ≤ entries
   pub high : 2 * i + 2 ≤ f .top
@@ -60,8 +62,8 @@ pub record LevelIs (table index s a : List ℕ) (i : ℕ) (f : Frame) (l : Level
   pub ways : length (codeWays table (f .p) (l .value)) ≡ f .ways
   pub few : f .ways < 256
   pub within : f .way < f .ways
-  pub settled : TellsSettled table (f .p % 256) (l .words) (f .once)
-  pub sizes : f .sizes .bound ≡ true → CodeHalves table (f .p) (kindAt (records table) (f .p % 256)) (f .sizes)
+  pub settled : TellsSettled table (f .p % recordCodes) (l .words) (f .once)
+  pub sizes : f .sizes .bound ≡ true → CodeHalves table (f .p) (kindAt (records table) (f .p % recordCodes)) (f .sizes)
   pub due : l .due ≡ gather (drop (f .way) (codeWays table (f .p) (l .value))) (wayOf table f l)
   pub done : (o : Binding) → In o (l .done) → (vs : List Value) × In vs (codeWays table (f .p) (l .value)) × In o (wayOf table f l vs) × ((c : Binding) → In c (wayOf table f l vs) → In c (l .done))
 
@@ -89,8 +91,8 @@ Accounted all pending entered hit (l ∷ ls) =
 pub record Stacked (table index s a : List ℕ) (high : ℕ) (found frames : List ℕ) (depth hit : ℕ) (rows order : List ℕ) (n : ℕ) (more target : List Binding) : Type 0 where
   pub short : length s ≤ 65536
   pub long : length a ≡ agendaWords
-  pub sized : length found ≡ 16
-  pub frames-long : length frames ≡ 2100
+  pub sized : length found ≡ names
+  pub frames-long : length frames ≡ framesBytes
   pub levels : List Level
   pub deep : length levels ≡ depth
   pub hits : hit ≤ depth
@@ -100,10 +102,10 @@ pub record Stacked (table index s a : List ℕ) (high : ℕ) (found frames : Lis
   pub accounted : Accounted more more bindings hit levels
   pub right : adding (more ++ dues levels) bindings ≡ target
 
--- After a step: the target has over 255, or is not reached yet.
+-- After a step: the target has more bindings than there may be, or is not reached yet.
 pub record AfterStep (table index s a : List ℕ) (found frames rows order : List ℕ) (r : Step) (target : List Binding) : Type 0 where
   pub long : length a ≡ agendaWords
-  pub full : r .full ≡ true → (255 < length target) × (r .depth ≡ 0)
+  pub full : r .full ≡ true → (mostBindings < length target) × (r .depth ≡ 0)
   pub going : r .full ≡ false → Stacked table index s a entries found frames (r .depth) (r .hit) rows order (r .n) [] target
 
 -- ---- a frame opened for an entry with parts
@@ -138,7 +140,7 @@ pub record Opened (table index s a : List ℕ) (at next top : ℕ) (found frames
 -- ---- a match
 
 pub record MatchEntered (s found : List ℕ) (depth : ℕ) (rows order : List ℕ) (n : ℕ) (rows′ order′ : List ℕ) (r : Step) : Type 0 where
-  pub full : r .full ≡ true → (r .depth ≡ 0) × ((b : Binding) (bs : List Binding) → Stands s found b → RowsAre s rows order n bs → 255 < length (place b bs))
+  pub full : r .full ≡ true → (r .depth ≡ 0) × ((b : Binding) (bs : List Binding) → Stands s found b → RowsAre s rows order n bs → mostBindings < length (place b bs))
   pub going : r .full ≡ false → (r .depth ≡ depth) × (r .hit ≡ depth) × ((b : Binding) (bs : List Binding) → Stands s found b → RowsAre s rows order n bs → RowsAre s rows′ order′ (r .n) (place b bs))
 
 -- ---- down

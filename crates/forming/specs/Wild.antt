@@ -29,7 +29,7 @@ isWild (halved sequence p q) = false
 isWild (halved mapping p q) = false
 isWild (halved tuple p q) = false
 
--- It takes at least so many members.
+-- A pattern that only counts takes at least so many members.
 unfoldable pub wildLeast : Pattern → ℕ
 wildLeast (name x) = 0
 wildLeast any = 0
@@ -37,7 +37,7 @@ wildLeast (literal w) = 0
 wildLeast (each k ps) = parts ps
 wildLeast (halved k p q) = wildLeast p + wildLeast q
 
--- It takes any more: somewhere in it there is any as a half.
+-- A pattern that only counts takes any more members: somewhere in it there is any as a half.
 unfoldable pub wildMore : Pattern → Bool
 wildMore (name x) = false
 wildMore any = true

@@ -1,14 +1,28 @@
 // A stack of frames in an array of bytes. A frame is a pattern with parts whose ways are gone through. While the last of its ways is gone
-// through it is on the stack no more: so those that are have two parts or more, which take two entries of the agenda, and 100 are enough.
+// through it is on the stack no more: so those that are have two parts or more, which take two entries of the agenda.
 use crate::sizes::Size;
 use crate::sizes::Sizes;
+use tables::MOST_RECORDS;
 ghost use mathlib.Core.Path.{_≡_};
 ghost use Prim.Native.Nat.{_+_, _*_, _<_};
 ghost use lib.ListN.{length};
-ghost use Rattle.forming.specs.Frames.{flagByte, slotAt, frameOf, frameAt, onto, FrameFits, SlotPut, Stored, Advanced};
+ghost use Rattle.forming.specs.Frames.{frameBytes, mostFrames, framesBytes, flagByte, slotAt, frameOf, frameAt, onto, FrameFits, SlotPut, Stored, Advanced};
 
-// The code of the pattern, and of the right half of a group; the entry of the agenda that has the part it meets, the entry that follows, and the first that is free; the way
-// that is next, and how many there are; the names that had a value; whether the pattern is only a test; and what its halves take.
+// A frame takes two of the records of a table at least, so that no more are on the stack.
+const MOST_FRAMES: usize = MOST_RECORDS / 2;
+
+// The bytes of a frame: four for each of two codes, two for the names, and one for each of the other eleven fields.
+const FRAME_BYTES: usize = 21;
+
+pub type Bytes = [u8; FRAME_BYTES];
+
+// The bytes of all frames.
+pub const FRAMES_BYTES: usize = MOST_FRAMES * FRAME_BYTES;
+
+pub type Frames = [u8; FRAMES_BYTES];
+
+// The code of the pattern, and of the right half of a group; the entry of the agenda that has the part it meets, the entry that follows, and the first that
+// is free; the way that is next, and how many there are; the names that had a value; whether the pattern is only a test; and what its halves take.
 pub struct Frame {
     pub p: usize,
     pub rest: usize,
@@ -23,14 +37,14 @@ pub struct Frame {
 }
 
 // The bytes of frame i.
-fn slot(frames: &[u8; 2100], i: usize) -> [u8; 21]
-    requires { ⌜ (i < 100) × (length (now frames) ≡ 2100) ⌝ }
+fn slot(frames: &Frames, i: usize) -> Bytes
+    requires { ⌜ (i < mostFrames) × (length (now frames) ≡ framesBytes) ⌝ }
     ensures { λ r. ⌜ r ≡ slotAt (now (frames .entry)) i ⌝ }
 {
-    let mut bytes = [0u8; 21];
+    let mut bytes = [0u8; FRAME_BYTES];
     let mut j = 0;
-    while j < 21 {
-        let b = frames[21 * i + j];
+    while j < FRAME_BYTES {
+        let b = frames[FRAME_BYTES * i + j];
         bytes[j] = b;
         j += 1;
     }
@@ -54,7 +68,7 @@ fn word(a: u8, b: u8, c: u8, d: u8) -> usize
 }
 
 // A frame from its bytes.
-fn unpack(b: [u8; 21]) -> Frame
+fn frame_of(b: Bytes) -> Frame
     ensures { λ r. ⌜ r ≡ frameOf b ⌝ }
 {
     let left = Size {
@@ -89,12 +103,12 @@ fn unpack(b: [u8; 21]) -> Frame
 }
 
 // Frame i.
-pub fn load(frames: &[u8; 2100], i: usize) -> Frame
-    requires { ⌜ (i < 100) × (length (now frames) ≡ 2100) ⌝ }
+pub fn load(frames: &Frames, i: usize) -> Frame
+    requires { ⌜ (i < mostFrames) × (length (now frames) ≡ framesBytes) ⌝ }
     ensures { λ r. ⌜ r ≡ frameAt (now (frames .entry)) i ⌝ }
 {
     let b = slot(frames, i);
-    unpack(b)
+    frame_of(b)
 }
 
 // A flag as a byte.
@@ -108,9 +122,9 @@ fn flag(b: bool) -> u8
 }
 
 // The bytes of a frame.
-fn pack(f: Frame) -> [u8; 21]
+fn bytes_of(f: Frame) -> Bytes
     requires { ⌜ FrameFits f ⌝ }
-    ensures { λ r. ⌜ (frameOf r ≡ f) × (length r ≡ 21) ⌝ }
+    ensures { λ r. ⌜ (frameOf r ≡ f) × (length r ≡ frameBytes) ⌝ }
 {
     let z = f.sizes;
     let once = flag(f.once);
@@ -143,30 +157,30 @@ fn pack(f: Frame) -> [u8; 21]
 }
 
 // Writes the bytes of frame i.
-fn put_slot(frames: &mut [u8; 2100], i: usize, bytes: [u8; 21])
-    requires { ⌜ (i < 100) × (length (now frames) ≡ 2100) × (length bytes ≡ 21) ⌝ }
+fn put_slot(frames: &mut Frames, i: usize, bytes: Bytes)
+    requires { ⌜ (i < mostFrames) × (length (now frames) ≡ framesBytes) × (length bytes ≡ frameBytes) ⌝ }
     ensures { λ u. ⌜ SlotPut (now (frames .entry)) i bytes (now (frames .exit)) ⌝ }
 {
     let mut j = 0;
-    while j < 21 {
+    while j < FRAME_BYTES {
         let b = bytes[j];
-        frames[21 * i + j] = b;
+        frames[FRAME_BYTES * i + j] = b;
         j += 1;
     }
 }
 
 // Writes frame i.
-pub fn store(frames: &mut [u8; 2100], i: usize, f: Frame)
-    requires { ⌜ (i < 100) × (length (now frames) ≡ 2100) × FrameFits f ⌝ }
+pub fn store(frames: &mut Frames, i: usize, f: Frame)
+    requires { ⌜ (i < mostFrames) × (length (now frames) ≡ framesBytes) × FrameFits f ⌝ }
     ensures { λ u. ⌜ Stored (now (frames .entry)) i f (now (frames .exit)) ⌝ }
 {
-    let bytes = pack(f);
+    let bytes = bytes_of(f);
     put_slot(frames, i, bytes);
 }
 
 // Writes frame i, the last, where a way is left; how many frames there are.
-pub fn advance(frames: &mut [u8; 2100], i: usize, f: Frame) -> usize
-    requires { ⌜ (i < 100) × (length (now frames) ≡ 2100) × FrameFits f ⌝ }
+pub fn advance(frames: &mut Frames, i: usize, f: Frame) -> usize
+    requires { ⌜ (i < mostFrames) × (length (now frames) ≡ framesBytes) × FrameFits f ⌝ }
     ensures { λ r. ⌜ Advanced (now (frames .entry)) i f (now (frames .exit)) r ⌝ }
 {
     let way = f.way;
@@ -178,12 +192,12 @@ pub fn advance(frames: &mut [u8; 2100], i: usize, f: Frame) -> usize
 }
 
 // Writes the way that is next in frame i, the last, where it is one of so many; how many frames there are.
-pub fn go_on(frames: &mut [u8; 2100], i: usize, way: usize, ways: usize) -> usize
-    requires { ⌜ (i < 100) × (length (now frames) ≡ 2100) × (ways < 256) × (ways ≡ frameAt (now frames) i .ways) ⌝ }
+pub fn go_on(frames: &mut Frames, i: usize, way: usize, ways: usize) -> usize
+    requires { ⌜ (i < mostFrames) × (length (now frames) ≡ framesBytes) × (ways < 256) × (ways ≡ frameAt (now frames) i .ways) ⌝ }
     ensures { λ r. ⌜ Advanced (now (frames .entry)) i (onto (frameAt (now (frames .entry)) i) way) (now (frames .exit)) r ⌝ }
 {
     if way < ways {
-        frames[21 * i + 7] = way as u8;
+        frames[FRAME_BYTES * i + 7] = way as u8;
         return i + 1;
     }
     i

@@ -1,5 +1,6 @@
 // A tree of union patterns as one group: its leaves, the parts that are no union, share out the members of a set, in an
 // order in which few ways repeat a binding.
+use crate::codes;
 use crate::heights::is_low;
 use crate::leaves;
 use crate::reduced;
@@ -12,6 +13,7 @@ use tables::kinds;
 use tables::reading::kind;
 use tables::reading::operand;
 use tables::reading::operand_count;
+use tables::shape::is_composed;
 ghost use mathlib.Core.Path.{_≡_};
 ghost use mathlib.Core.Bool.{true};
 ghost use Prim.Native.Nat.{_+_, _*_, _≤_, _<_};
@@ -19,7 +21,8 @@ ghost use Rattle.tables.specs.Table.{kindAt};
 ghost use Rattle.tables.specs.Sheet.{height};
 ghost use Rattle.tables.specs.Accepted.{records};
 ghost use Rattle.patterns.specs.Read.{Readable};
-ghost use Rattle.forming.specs.Codes.{countOf, CodeHeld, Composed, Regrouped, Openable, CodeOpened, CodePartHeld, PartCode, TellsParts};
+ghost use Rattle.forming.specs.Leaves.{recordCodes, exactWildcards};
+ghost use Rattle.forming.specs.Codes.{placeCodes, countOf, CodeHeld, Composed, Regrouped, Openable, CodeOpened, CodePartHeld, PartCode, TellsParts};
 
 // The right half of a group, and what the halves take.
 pub struct Opened {
@@ -29,10 +32,10 @@ pub struct Opened {
 
 // The code of the group of the union pattern p from place i on, where its leaf is q.
 fn code(p: usize, q: usize, i: usize) -> usize
-    requires { ⌜ (p < 256) × (q < 512) × (i < 8192) ⌝ }
-    ensures { λ c. ⌜ c ≡ p + 256 * q + 131072 * (i + 1) ⌝ }
+    requires { ⌜ (p < recordCodes) × (q < exactWildcards) × (i < 8192) ⌝ }
+    ensures { λ c. ⌜ c ≡ p + recordCodes * q + placeCodes * (i + 1) ⌝ }
 {
-    p + 256 * q + 131072 * (i + 1)
+    p + codes::RECORDS * q + codes::PLACES * (i + 1)
 }
 
 // The greatest height of a union pattern that is a group.
@@ -67,7 +70,7 @@ pub fn regrouped(table: &[u8], index: &Index, c: usize) -> usize
     requires { ⌜ Composed (now table) (now index) c ⌝ }
     ensures { λ r. ⌜ Regrouped (now (table .entry)) (now (index .entry)) c r ⌝ }
 {
-    if 256 <= c {
+    if codes::STRIPPED <= c {
         return c;
     }
     let k = kind(table, index, c);
@@ -79,7 +82,7 @@ pub fn regrouped(table: &[u8], index: &Index, c: usize) -> usize
         return c;
     }
     let wild = leaves::tail(table, index, c);
-    if 256 <= wild.wild {
+    if codes::RECORDS <= wild.wild {
         return c;
     }
     let first = leaves::in_order(table, index, c, wild, 0);
@@ -91,15 +94,15 @@ pub fn open_code(table: &[u8], index: &Index, c: usize, k: usize) -> Opened
     requires { ⌜ Openable (now table) (now index) c k ⌝ }
     ensures { λ r. ⌜ CodeOpened (now (table .entry)) (now (index .entry)) c k r ⌝ }
 {
-    let p = c % 256;
-    if c < 512 {
+    let p = c % codes::RECORDS;
+    if c < codes::EXACT_WILDCARDS {
         let sizes = sizes::sizes_of(table, index, p, k);
         return Opened { rest: 0, sizes };
     }
-    let i = c / 131072;
+    let i = c / codes::PLACES;
     let wild = leaves::tail(table, index, p);
     let others = leaves::in_order(table, index, p, wild, i);
-    let left = leaves::leaf_size(table, index, c / 256 % 512);
+    let left = leaves::leaf_size(table, index, c / codes::RECORDS % codes::EXACT_WILDCARDS);
     let sizes = sizes::pair(left, others.size);
     if others.count == i + 1 {
         return Opened {
@@ -116,14 +119,14 @@ pub fn part_code(table: &[u8], index: &Index, c: usize, rest: usize, i: usize) -
     requires { ⌜ CodePartHeld (now table) (now index) c rest i ⌝ }
     ensures { λ r. ⌜ PartCode (now (table .entry)) (now (index .entry)) c i r ⌝ }
 {
-    if c < 256 {
+    if c < codes::STRIPPED {
         return operand(table, index, c, i);
     }
-    if c < 512 {
-        return leaves::kept_part(table, index, c % 256, 0, i);
+    if c < codes::EXACT_WILDCARDS {
+        return leaves::kept_part(table, index, c % codes::RECORDS, 0, i);
     }
     if i == 0 {
-        return c / 256 % 512;
+        return c / codes::RECORDS % codes::EXACT_WILDCARDS;
     }
     rest
 }
@@ -133,11 +136,11 @@ pub fn part_count(table: &[u8], index: &Index, c: usize) -> usize
     requires { ⌜ Composed (now table) (now index) c ⌝ }
     ensures { λ r. ⌜ (r ≡ countOf (now (table .entry)) c) × (r ≤ 4) ⌝ }
 {
-    if c < 256 {
+    if c < codes::STRIPPED {
         return operand_count(table, index, c);
     }
-    if c < 512 {
-        let parts = leaves::plain_parts(table, index, c % 256);
+    if c < codes::EXACT_WILDCARDS {
+        let parts = leaves::plain_parts(table, index, c % codes::RECORDS);
         return parts.count - parts.wild;
     }
     2
@@ -148,17 +151,17 @@ pub fn has_parts(table: &[u8], index: &Index, c: usize) -> bool
     requires { ⌜ CodeHeld (now table) (now index) c ⌝ }
     ensures { λ r. ⌜ TellsParts (now (table .entry)) (now (index .entry)) c r ⌝ }
 {
-    if 1024 <= c {
+    if codes::GROUPS <= c {
         return true;
     }
-    if 512 <= c {
+    if codes::EXACT_WILDCARDS <= c {
         return false;
     }
-    if 256 <= c {
+    if codes::STRIPPED <= c {
         return true;
     }
     let k = kind(table, index, c);
-    if k < kinds::TUPLE_PATTERN {
+    if !is_composed(k) {
         return false;
     }
     let count = count_only(table, index, c);

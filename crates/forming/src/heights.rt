@@ -1,9 +1,9 @@
 // How high a pattern is. Functions that go down a pattern take stack for each of its levels, so the larger ones are kept to patterns that are low.
 use tables::Index;
-use tables::kinds;
 use tables::reading::kind;
 use tables::reading::operand;
 use tables::reading::operand_count;
+use tables::shape::is_composed;
 ghost use mathlib.Core.Path.{_≡_};
 ghost use lib.Dec.{leb};
 ghost use Rattle.tables.specs.Sheet.{height};
@@ -19,7 +19,7 @@ pub fn is_low(table: &[u8], index: &Index, p: usize, most: usize) -> bool
         return false;
     }
     let k = kind(table, index, p);
-    if k < kinds::TUPLE_PATTERN {
+    if !is_composed(k) {
         return true;
     }
     let n = operand_count(table, index, p);

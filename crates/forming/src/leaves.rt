@@ -1,5 +1,6 @@
 // The leaves of a tree of union patterns, the parts that are no union, in an order in which few ways repeat a binding: those that hold a name,
 // those that hold none, and the wildcards of all of them together, which only count.
+use crate::codes;
 use crate::settled::either;
 use crate::sizes;
 use crate::sizes::Size;
@@ -8,12 +9,14 @@ use tables::kinds;
 use tables::reading::kind;
 use tables::reading::operand;
 use tables::reading::operand_count;
+use tables::shape::is_composed;
 ghost use mathlib.Core.Path.{_≡_};
-ghost use mathlib.Core.Bool.{false, _&&_, cond};
+ghost use mathlib.Core.Bool.{false, not, _&&_, cond};
 ghost use mathlib.Core.List.{[], _∷_};
 ghost use Prim.Native.Nat.{suc, _+_, _-_, _≤_, _<_};
-ghost use lib.Dec.{eqb, ltb};
+ghost use lib.Dec.{eqb};
 ghost use Rattle.values.specs.Value.{set};
+ghost use Rattle.tables.specs.Record.{lastKind, isComposed};
 ghost use Rattle.tables.specs.Table.{kindAt};
 ghost use Rattle.tables.specs.Accepted.{records};
 ghost use Rattle.patterns.specs.Read.{Readable, patternAt};
@@ -21,7 +24,7 @@ ghost use Rattle.forming.specs.Groups.{leaves, TellsName};
 ghost use Rattle.forming.specs.Sizes.{Takes};
 ghost use Rattle.forming.specs.Wild.{isWild};
 ghost use Rattle.forming.specs.Ordered.{strip, classOf, ofClass, ordered};
-ghost use Rattle.forming.specs.Leaves.{leafPattern, LeafCodeHeld, stripIf, PlainIs, TailIs, TailsMeet, NoLeaf, LeavesAre, Joins, AloneHeld, SetHeld, SurveyHeld, LastIs, InOrderHeld, KeptHeld, KeptIs};
+ghost use Rattle.forming.specs.Leaves.{recordCodes, exactWildcards, leastWildcards, leafPattern, LeafCodeHeld, stripIf, PlainIs, TailIs, TailsMeet, NoLeaf, LeavesAre, Joins, AloneHeld, SetHeld, SurveyHeld, LastIs, InOrderHeld, KeptHeld, KeptIs};
 
 // How many parts a set pattern has, how many of them are any, and whether all are names, any or literals.
 pub struct Plain {
@@ -30,7 +33,8 @@ pub struct Plain {
     pub flat: bool,
 }
 
-// Of the leaves of a union pattern: some only count or are any; some are any; and how many wildcards there are in sets of plain parts.
+// What the leaves of a union pattern have of wildcards: whether some only count or are any; whether some are any; and how many there are in sets of plain
+// parts.
 pub struct Wildcards {
     pub some: bool,
     pub more: bool,
@@ -54,7 +58,7 @@ fn holds_name(table: &[u8], index: &Index, p: usize) -> bool
     if k == kinds::NAME_PATTERN {
         return true;
     }
-    if k < kinds::TUPLE_PATTERN {
+    if !is_composed(k) {
         return false;
     }
     let n = operand_count(table, index, p);
@@ -81,14 +85,15 @@ fn wild_with(k: usize, n: usize) -> usize
     n
 }
 
-// Plain all of them, and one of kind k.
+// Patterns without parts all of them, and one of kind k.
 fn flat_with(k: usize, flat: bool) -> bool
-    ensures { λ r. ⌜ r ≡ (ltb k 36 && flat) ⌝ }
+    requires { ⌜ k ≤ lastKind ⌝ }
+    ensures { λ r. ⌜ r ≡ (not (isComposed k) && flat) ⌝ }
 {
-    if k < kinds::TUPLE_PATTERN {
-        return flat;
+    if is_composed(k) {
+        return false;
     }
-    false
+    flat
 }
 
 // The parts of a set pattern.
@@ -147,7 +152,7 @@ fn class_of(table: &[u8], index: &Index, p: usize, k: usize) -> usize
     if k == kinds::NAME_PATTERN {
         return 0;
     }
-    if k < kinds::TUPLE_PATTERN {
+    if !is_composed(k) {
         return 1;
     }
     let counts = only_counts(table, index, p, k);
@@ -316,7 +321,7 @@ fn stripped_set(table: &[u8], index: &Index, p: usize) -> Leaves
     };
     Leaves {
         found: true,
-        leaf: p + 256,
+        leaf: p + codes::STRIPPED,
         count: 1,
         size,
     }
@@ -338,13 +343,13 @@ fn whole_leaf(table: &[u8], index: &Index, p: usize) -> Leaves
 
 // What a leaf takes that is no wildcards.
 pub fn leaf_size(table: &[u8], index: &Index, c: usize) -> Size
-    requires { ⌜ LeafCodeHeld (now table) (now index) c × (c < 512) ⌝ }
+    requires { ⌜ LeafCodeHeld (now table) (now index) c × (c < exactWildcards) ⌝ }
     ensures { λ z. ⌜ Takes set (leafPattern (now (table .entry)) c) z ⌝ }
 {
-    if c < 256 {
+    if c < codes::STRIPPED {
         return sizes::size_of(table, index, c, kinds::UNION_PATTERN);
     }
-    let parts = plain_parts(table, index, c % 256);
+    let parts = plain_parts(table, index, c % codes::RECORDS);
     Size {
         least: (parts.count - parts.wild) as u8,
         more: false,
@@ -369,18 +374,18 @@ pub fn kept_part(table: &[u8], index: &Index, p: usize, j: usize, i: usize) -> u
 
 // The code of so many wildcards, or of at least so many.
 fn wild_code(n: usize, more: bool) -> usize
-    requires { ⌜ n < 256 ⌝ }
-    ensures { λ r. ⌜ r ≡ cond more 768 512 + n ⌝ }
+    requires { ⌜ n < recordCodes ⌝ }
+    ensures { λ r. ⌜ r ≡ cond more leastWildcards exactWildcards + n ⌝ }
 {
     if more {
-        return 768 + n;
+        return codes::LEAST_WILDCARDS + n;
     }
-    512 + n
+    codes::EXACT_WILDCARDS + n
 }
 
 // The wildcards together, as the last leaf, if there are some.
 fn last_leaf(t: Wildcards, i: usize) -> Leaves
-    requires { ⌜ t .wild < 256 ⌝ }
+    requires { ⌜ t .wild < recordCodes ⌝ }
     ensures { λ r. ⌜ LastIs t i r ⌝ }
 {
     if !t.some {

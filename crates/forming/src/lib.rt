@@ -1,5 +1,6 @@
 // The bindings of a pattern formed once: all ways are gone through with an agenda of what is still to be matched and a stack of the patterns
-// whose ways are not all gone through. Each match found is entered in order, once, into rows.
+// whose ways are not all gone through. Each match found is inserted in order, once, among rows.
+mod codes;
 mod frames;
 mod groups;
 mod heights;
@@ -13,19 +14,35 @@ mod taking;
 mod wild;
 
 use crate::frames::Frame;
+use crate::frames::Frames;
 use matching::nodes;
 use matching::nodes::Meeting;
 use parts::Part;
 use parts::words;
 use parts::words::Env;
 use tables::Index;
+use tables::MOST_RECORDS;
 use tables::kinds;
 use tables::reading::kind;
+use values::Value;
 ghost use Prim.Native.Nat.{_≤_};
 ghost use Rattle.forming.specs.Rows.{EntryHeld};
 ghost use Rattle.forming.specs.Whole.{WordMet, SameValue};
 ghost use Rattle.forming.specs.Pending.{Pushable, Pushed};
 ghost use Rattle.forming.specs.Stack.{OpenHeld, Opened, MatchEntered, DownHeld, WentDown, BackHeld, WentBack, FinishHeld, Finished, Solvable, Solved};
+
+// An agenda is what is still to be matched. An entry is the code of a pattern, the part that it meets, and the entry that follows. Entry 0 is none, one is
+// for the whole pattern, and one for each of its parts, which are other records of the table.
+pub const AGENDA_WORDS: usize = 3 * (MOST_RECORDS + 1);
+
+pub type Agenda = [u32; AGENDA_WORDS];
+
+// Bindings are rows of words, a word for each name; and their order is the numbers of the rows, the lowest binding first.
+pub const ROWS_WORDS: usize = Value::BINDINGS * Env::NAMES;
+
+pub type Rows = [u32; ROWS_WORDS];
+
+pub type RowOrder = [u8; Value::BINDINGS];
 
 // How many bindings there are, or refusal 29 or 30.
 pub enum Formed {
@@ -41,8 +58,7 @@ pub struct Step {
     pub hit: usize,
 }
 
-// Puts the parts of a pattern, each with what it meets in the way d, before the rest of the agenda. An entry is the code of a pattern, the part
-// that it meets, and the entry that follows.
+// Puts the parts of a pattern, each with what it meets in the way d, before the rest of the agenda.
 fn push(
     table: &[u8],
     index: &Index,
@@ -51,14 +67,14 @@ fn push(
     s: &[u8],
     word: u32,
     d: usize,
-    agenda: &mut [u32; 603],
+    agenda: &mut Agenda,
     next: usize,
     top: usize,
 ) -> usize
     requires { ⌜ Pushable (now table) (now index) c rest (now s) word d (now agenda) next top ⌝ }
     ensures { λ r. ⌜ Pushed (now (table .entry)) (now (index .entry)) c (now (s .entry)) word d (now (agenda .entry)) next top (now (agenda .exit)) r ⌝ }
 {
-    let p = c % 256;
+    let p = c % codes::RECORDS;
     let k = kind(table, index, p);
     let n = groups::part_count(table, index, c);
     let part = words::unpack(word);
@@ -69,7 +85,7 @@ fn push(
         i -= 1;
         let a = nodes::piece(k, n, s, part, d, i);
         let q = groups::part_code(table, index, c, rest, i);
-        let b = words::pack(s, a);
+        let b = words::word_of(s, a);
         agenda[3 * to] = q as u32;
         agenda[3 * to + 1] = b;
         agenda[3 * to + 2] = head as u32;
@@ -96,7 +112,7 @@ fn split_word(s: &[u8], k: usize, word: u32, ways: usize) -> u32
         extent: (ways - 1) as u16,
         how: Part::MEMBERS,
     };
-    words::pack(s, members)
+    words::word_of(s, members)
 }
 
 // Opens a frame for the entry at, where some way may have a match; how many frames there are.
@@ -104,12 +120,12 @@ fn open_frame(
     table: &[u8],
     index: &Index,
     s: &[u8],
-    agenda: &[u32; 603],
+    agenda: &Agenda,
     at: usize,
     next: usize,
     top: usize,
     found: &[u32; Env::NAMES],
-    frames: &mut [u8; 2100],
+    frames: &mut Frames,
     depth: usize,
 ) -> usize
     requires { ⌜ OpenHeld (now table) (now index) (now s) (now agenda) at next top (now found) (now frames) depth ⌝ }
@@ -118,7 +134,7 @@ fn open_frame(
     let whole = agenda[3 * at] as usize;
     let word = agenda[3 * at + 1];
     let p = groups::regrouped(table, index, whole);
-    let own = p % 256;
+    let own = p % codes::RECORDS;
     let k = kind(table, index, own);
     let c = groups::part_count(table, index, p);
     let part = words::unpack(word);
@@ -147,20 +163,20 @@ fn open_frame(
     depth
 }
 
-// Goes on with an agenda: leaves are taken off; a match is entered, or a frame opened for the pattern with parts that waits.
+// Goes on with an agenda: leaves are taken off; a match is inserted, or a frame opened for the pattern with parts that waits.
 fn down(
     table: &[u8],
     index: &Index,
     s: &[u8],
-    agenda: &[u32; 603],
+    agenda: &Agenda,
     head: usize,
     top: usize,
     found: &mut [u32; Env::NAMES],
-    frames: &mut [u8; 2100],
+    frames: &mut Frames,
     depth: usize,
     hit: usize,
-    rows: &mut [u32; 4080],
-    order: &mut [u8; 255],
+    rows: &mut Rows,
+    order: &mut RowOrder,
     n: usize,
 ) -> Step
     requires { ⌜ DownHeld (now table) (now index) (now s) (now agenda) head top (now found) (now frames) depth hit (now rows) (now order) n ⌝ }
@@ -177,7 +193,7 @@ fn down(
     }
     let at = left.wait;
     if at == 0 {
-        return entered(s, found, depth, rows, order, n);
+        return insert_match(s, found, depth, rows, order, n);
     }
     let opened = open_frame(
         table,
@@ -199,19 +215,19 @@ fn down(
     }
 }
 
-// Enters a match: each pattern on the stack has one now.
-fn entered(
+// Inserts a match among the rows: each pattern on the stack has one now.
+fn insert_match(
     s: &[u8],
     found: &[u32; Env::NAMES],
     depth: usize,
-    rows: &mut [u32; 4080],
-    order: &mut [u8; 255],
+    rows: &mut Rows,
+    order: &mut RowOrder,
     n: usize,
 ) -> Step
     requires { ⌜ EntryHeld (now s) (now found) (now rows) (now order) n ⌝ }
     ensures { λ r. ⌜ MatchEntered (now (s .entry)) (now (found .entry)) depth (now (rows .entry)) (now (order .entry)) n (now (rows .exit)) (now (order .exit)) r ⌝ }
 {
-    let formed = rows::enter(s, found, rows, order, n);
+    let formed = rows::insert_row(s, found, rows, order, n);
     match formed {
         Formed::Refused(_) => Step {
             n,
@@ -243,13 +259,13 @@ fn back(
     table: &[u8],
     index: &Index,
     s: &[u8],
-    agenda: &mut [u32; 603],
+    agenda: &mut Agenda,
     found: &mut [u32; Env::NAMES],
-    frames: &mut [u8; 2100],
+    frames: &mut Frames,
     depth: usize,
     hit: usize,
-    rows: &mut [u32; 4080],
-    order: &mut [u8; 255],
+    rows: &mut Rows,
+    order: &mut RowOrder,
     n: usize,
 ) -> Step
     requires { ⌜ BackHeld (now table) (now index) (now s) (now agenda) (now found) (now frames) depth hit (now rows) (now order) n ⌝ }
@@ -269,26 +285,15 @@ fn back(
     }
     let p = f.p;
     let at = f.at;
-    let own = p % 256;
+    let own = p % codes::RECORDS;
     let k = kind(table, index, own);
     let c = groups::part_count(table, index, p);
     let met = agenda[3 * at + 1];
-    let word = split_word(s, k, met, f.ways);
+    let w = split_word(s, k, met, f.ways);
     let way = sizes::way_from(k, f.ways, f.way + 1, f.sizes);
     let left = frames::go_on(frames, i, way, f.ways);
     masks::clear(found, f.mask);
-    let head = push(
-        table,
-        index,
-        p,
-        f.rest,
-        s,
-        word,
-        f.way,
-        agenda,
-        f.next,
-        f.top,
-    );
+    let head = push(table, index, p, f.rest, s, w, f.way, agenda, f.next, f.top);
     down(
         table,
         index,
@@ -311,12 +316,12 @@ fn finish(
     table: &[u8],
     index: &Index,
     s: &[u8],
-    agenda: &mut [u32; 603],
+    agenda: &mut Agenda,
     found: &mut [u32; Env::NAMES],
-    frames: &mut [u8; 2100],
+    frames: &mut Frames,
     first: Step,
-    rows: &mut [u32; 4080],
-    order: &mut [u8; 255],
+    rows: &mut Rows,
+    order: &mut RowOrder,
 ) -> Formed
     requires { ⌜ FinishHeld (now table) (now index) (now s) (now agenda) (now found) (now frames) first (now rows) (now order) ⌝ }
     ensures { λ r. ⌜ Finished (now (table .entry)) (now (index .entry)) (now (s .entry)) (now (agenda .entry)) (now (found .entry)) (now (frames .entry)) first (now (rows .entry)) (now (order .entry)) (now (agenda .exit)) (now (rows .exit)) (now (order .exit)) r ⌝ }
@@ -343,23 +348,23 @@ fn finish(
     Formed::Number(r.n)
 }
 
-// All matches of an agenda that go on from what is found: each is entered.
+// All matches of an agenda that go on from what is found: each is inserted.
 pub fn solve(
     table: &[u8],
     index: &Index,
     s: &[u8],
-    agenda: &mut [u32; 603],
+    agenda: &mut Agenda,
     head: usize,
     top: usize,
     found: &mut [u32; Env::NAMES],
-    rows: &mut [u32; 4080],
-    order: &mut [u8; 255],
+    rows: &mut Rows,
+    order: &mut RowOrder,
     n: usize,
 ) -> Formed
     requires { ⌜ Solvable (now table) (now index) (now s) (now agenda) head top (now found) (now rows) (now order) n ⌝ }
     ensures { λ r. ⌜ Solved (now (table .entry)) (now (index .entry)) (now (s .entry)) (now (agenda .entry)) head top (now (found .entry)) (now (rows .entry)) (now (order .entry)) n (now (agenda .exit)) (now (rows .exit)) (now (order .exit)) r ⌝ }
 {
-    let mut frames = [0u8; 2100];
+    let mut frames = [0u8; frames::FRAMES_BYTES];
     let first = down(
         table,
         index,

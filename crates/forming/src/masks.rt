@@ -3,11 +3,12 @@ use parts::words::Env;
 ghost use mathlib.Core.Path.{_≡_};
 ghost use Prim.Native.Nat.{_<_};
 ghost use lib.ListN.{length};
+ghost use Rattle.patterns.specs.Binding.{names};
 ghost use Rattle.forming.specs.Frames.{maskOf, Cleared};
 
 // The names that have a value, name 0 as the lowest bit.
 pub fn mask_of(found: &[u32; Env::NAMES]) -> usize
-    requires { ⌜ length (now found) ≡ 16 ⌝ }
+    requires { ⌜ length (now found) ≡ names ⌝ }
     ensures { λ r. ⌜ (r ≡ maskOf (now (found .entry))) × (r < 65536) ⌝ }
 {
     let mut mask = 0;
@@ -24,7 +25,7 @@ pub fn mask_of(found: &[u32; Env::NAMES]) -> usize
 
 // Clears the names that are not in the mask.
 pub fn clear(found: &mut [u32; Env::NAMES], mask: usize)
-    requires { ⌜ length (now found) ≡ 16 ⌝ }
+    requires { ⌜ length (now found) ≡ names ⌝ }
     ensures { λ u. ⌜ Cleared (now (found .entry)) mask (now (found .exit)) ⌝ }
 {
     let mut left = mask;

@@ -7,6 +7,7 @@ use tables::reading::operand;
 ghost use mathlib.Core.Path.{_≡_};
 ghost use mathlib.Core.Bool.{true};
 ghost use Prim.Native.Nat.{_≤_, _<_};
+ghost use Rattle.tables.specs.Record.{isComposed};
 ghost use Rattle.tables.specs.Table.{kindAt};
 ghost use Rattle.tables.specs.Accepted.{records};
 ghost use Rattle.patterns.specs.Read.{Readable};
@@ -87,7 +88,7 @@ fn is_spare(table: &[u8], index: &Index, p: usize, k: usize, side: usize) -> boo
 
 // The half that is left of a pattern with two, where the other is spare; else the pattern itself.
 fn less_spare(table: &[u8], index: &Index, p: usize) -> usize
-    requires { ⌜ Readable (now table) (now index) p × (36 ≤ kindAt (records (now table)) p) ⌝ }
+    requires { ⌜ Readable (now table) (now index) p × (isComposed (kindAt (records (now table)) p) ≡ true) ⌝ }
     ensures { λ r. ⌜ Reduced (now (table .entry)) (now (index .entry)) p r ⌝ }
 {
     let k = kind(table, index, p);
@@ -108,7 +109,7 @@ fn less_spare(table: &[u8], index: &Index, p: usize) -> usize
 
 // The record of a pattern with the same bindings, without wildcards that are spare.
 pub fn reduced(table: &[u8], index: &Index, p: usize) -> usize
-    requires { ⌜ Readable (now table) (now index) p × (36 ≤ kindAt (records (now table)) p) ⌝ }
+    requires { ⌜ Readable (now table) (now index) p × (isComposed (kindAt (records (now table)) p) ≡ true) ⌝ }
     ensures { λ r. ⌜ Reduced (now (table .entry)) (now (index .entry)) p r ⌝ }
 {
     let mut last = p;

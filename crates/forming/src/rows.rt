@@ -1,5 +1,7 @@
 // Bindings as rows of words, only appended to, and their order: a permutation of the rows.
 use crate::Formed;
+use crate::RowOrder;
+use crate::Rows;
 use integers::Order;
 use parts::Part;
 use parts::words;
@@ -9,8 +11,9 @@ ghost use Prim.Native.Nat.{ℕ, _≤_, _<_};
 ghost use lib.ListN.{length};
 ghost use Rattle.parts.specs.Word.{WordHeld, OrderedWords};
 ghost use Rattle.patterns.specs.Binding.{Binding, orderBindings};
+ghost use Rattle.patterns.specs.Binder.{mostBindings};
 ghost use Rattle.matching.specs.Leaf.{Stands, Standing};
-ghost use Rattle.forming.specs.Rows.{RowIs, RowHeld, RowPut, RowsHeld, Sought, Shifted, EntryHeld, Entry};
+ghost use Rattle.forming.specs.Rows.{rowsWords, RowIs, RowHeld, RowPut, RowsHeld, Sought, Shifted, EntryHeld, Entry};
 
 // Where a binding has its place among the rows, and whether it is there.
 pub struct Seek {
@@ -33,14 +36,14 @@ fn order_names(s: &[u8], a: u32, b: u32) -> Order
 }
 
 // The order of a binding and a row.
-fn order_row(s: &[u8], found: &[u32; Env::NAMES], rows: &[u32; 4080], r: usize) -> Order
+fn order_row(s: &[u8], found: &[u32; Env::NAMES], rows: &Rows, r: usize) -> Order
     requires { ⌜ Standing (now s) (now found) × RowHeld (now s) (now rows) r ⌝ }
     ensures { λ o. ⌜ ((b c : Binding) → Stands (now (s .entry)) (now (found .entry)) b → RowIs (now (s .entry)) (now (rows .entry)) r c → o ≡ orderBindings b c) ⌝ }
 {
     let mut x = 0;
     while x < Env::NAMES {
         let a = found[x];
-        let b = rows[16 * r + x];
+        let b = rows[Env::NAMES * r + x];
         if a == b {
             x += 1;
         } else {
@@ -58,13 +61,7 @@ fn order_row(s: &[u8], found: &[u32; Env::NAMES], rows: &[u32; 4080], r: usize) 
 }
 
 // Where a binding has its place among n rows.
-fn find_place(
-    s: &[u8],
-    found: &[u32; Env::NAMES],
-    rows: &[u32; 4080],
-    order: &[u8; 255],
-    n: usize,
-) -> Seek
+fn find_place(s: &[u8], found: &[u32; Env::NAMES], rows: &Rows, order: &RowOrder, n: usize) -> Seek
     requires { ⌜ Standing (now s) (now found) × RowsHeld (now s) (now rows) (now order) n ⌝ }
     ensures { λ r. ⌜ Sought (now (s .entry)) (now (found .entry)) (now (rows .entry)) (now (order .entry)) n r ⌝ }
 {
@@ -96,21 +93,21 @@ fn find_place(
 }
 
 // Writes a binding as row r.
-fn put_row(s: &[u8], found: &[u32; Env::NAMES], rows: &mut [u32; 4080], r: usize)
-    requires { ⌜ Standing (now s) (now found) × (r < 255) × (length (now rows) ≡ 4080) ⌝ }
+fn put_row(s: &[u8], found: &[u32; Env::NAMES], rows: &mut Rows, r: usize)
+    requires { ⌜ Standing (now s) (now found) × (r < mostBindings) × (length (now rows) ≡ rowsWords) ⌝ }
     ensures { λ u. ⌜ RowPut (now (s .entry)) (now (found .entry)) (now (rows .entry)) (now (rows .exit)) r ⌝ }
 {
     let mut x = 0;
     while x < Env::NAMES {
         let c = found[x];
-        rows[16 * r + x] = c;
+        rows[Env::NAMES * r + x] = c;
         x += 1;
     }
 }
 
 // Puts n in at a place among n numbers, those from there on one further.
-fn shift_in(order: &mut [u8; 255], at: usize, n: usize)
-    requires { ⌜ (at ≤ n) × (n < 255) × (length (now order) ≡ 255) ⌝ }
+fn shift_in(order: &mut RowOrder, at: usize, n: usize)
+    requires { ⌜ (at ≤ n) × (n < mostBindings) × (length (now order) ≡ mostBindings) ⌝ }
     ensures { λ u. ⌜ Shifted (now (order .entry)) (now (order .exit)) at n ⌝ }
 {
     let mut i = n;
@@ -122,12 +119,12 @@ fn shift_in(order: &mut [u8; 255], at: usize, n: usize)
     order[at] = n as u8;
 }
 
-// Enters a binding in order, unless it is there.
-pub fn enter(
+// Inserts a binding in order, unless it is there.
+pub fn insert_row(
     s: &[u8],
     found: &[u32; Env::NAMES],
-    rows: &mut [u32; 4080],
-    order: &mut [u8; 255],
+    rows: &mut Rows,
+    order: &mut RowOrder,
     n: usize,
 ) -> Formed
     requires { ⌜ EntryHeld (now s) (now found) (now rows) (now order) n ⌝ }

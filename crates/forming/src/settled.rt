@@ -6,6 +6,7 @@ use tables::reading::field;
 use tables::reading::kind;
 use tables::reading::operand;
 use tables::reading::operand_count;
+use tables::shape::is_composed;
 ghost use mathlib.Core.Path.{_≡_};
 ghost use mathlib.Core.Bool.{_||_};
 ghost use Rattle.patterns.specs.Read.{Readable};
@@ -21,7 +22,7 @@ pub fn is_settled(table: &[u8], index: &Index, p: usize, found: &[u32; Env::NAME
         let x = field(table, index, p, 0);
         return has_word(found, x);
     }
-    if k < kinds::TUPLE_PATTERN {
+    if !is_composed(k) {
         return true;
     }
     let n = operand_count(table, index, p);
@@ -41,13 +42,13 @@ pub fn is_settled(table: &[u8], index: &Index, p: usize, found: &[u32; Env::NAME
 fn has_word(found: &[u32; Env::NAMES], x: usize) -> bool
     ensures { λ r. ⌜ HasWord (now (found .entry)) x r ⌝ }
 {
-    if 16 <= x {
+    if Env::NAMES <= x {
         return false;
     }
     found[x] != 0
 }
 
-// One of the two.
+// At least one of two tests holds.
 pub fn either(a: bool, b: bool) -> bool
     ensures { λ r. ⌜ r ≡ (a || b) ⌝ }
 {

@@ -10,7 +10,7 @@ use tables::reading::operand_count;
 ghost use mathlib.Core.Path.{_≡_};
 ghost use Prim.Native.Nat.{_<_};
 ghost use Rattle.patterns.specs.Read.{Readable};
-ghost use Rattle.forming.specs.Reduced.{Splits};
+ghost use Rattle.forming.specs.Reduced.{Splits, enumerationOf};
 ghost use Rattle.forming.specs.Sizes.{TellsSize, Sum, HalvesHeld, TellsSizes, Rights, SplitFrom, CutFrom, FromHeld, From};
 
 // At least so many; or exactly so many, where there may not be more.
@@ -20,8 +20,10 @@ pub struct Size {
 }
 
 impl Size {
-    // The largest number that is told; a larger one is at least that.
+    // The largest number that is told, as a byte holds it; a larger one is at least that.
     pub const MOST: usize = 255;
+
+    pub const TOLD: u8 = Size::MOST as u8;
 }
 
 // What the halves of a pattern take, if they do not take any number.
@@ -39,7 +41,7 @@ pub fn sum(l: Size, r: Size) -> Size
     let b = r.least as usize;
     if Size::MOST < a + b {
         return Size {
-            least: 255,
+            least: Size::TOLD,
             more: true,
         };
     }
@@ -48,13 +50,23 @@ pub fn sum(l: Size, r: Size) -> Size
     Size { least, more }
 }
 
+// The kind of patterns that have a part for each item of what patterns of kind k split or cut.
+fn enumeration_of(k: usize) -> usize
+    ensures { λ r. ⌜ r ≡ enumerationOf k ⌝ }
+{
+    if k == kinds::UNION_PATTERN {
+        return kinds::SET_PATTERN;
+    }
+    kinds::SEQUENCE_PATTERN
+}
+
 // What a pattern takes that meets a half, where k is the kind of the whole.
 pub fn size_of(table: &[u8], index: &Index, p: usize, k: usize) -> Size
     requires { ⌜ Readable (now table) (now index) p × Splits k ⌝ }
     ensures { λ z. ⌜ TellsSize (now (table .entry)) p k z ⌝ }
 {
     let own = kind(table, index, p);
-    if own == k - 1 {
+    if own == enumeration_of(k) {
         let n = operand_count(table, index, p);
         return Size {
             least: n as u8,

@@ -1,12 +1,14 @@
 // Leaves taken off an agenda: names, any, literals and patterns that only count are matched before a pattern with parts that stands before them.
+use crate::Agenda;
+use crate::codes;
 use crate::groups;
 use crate::wild::count_only;
 use matching::leaves;
 use parts::words;
 use parts::words::Env;
 use tables::Index;
-use tables::kinds;
 use tables::reading::kind;
+use tables::shape::is_composed;
 use values::Value;
 ghost use Rattle.parts.specs.Part.{PartHeld};
 ghost use Rattle.parts.specs.Word.{unpacked};
@@ -52,11 +54,11 @@ fn take_leaf(
     requires { ⌜ PartHeld (now s) (unpacked word) × Standing (now s) (now found) ⌝ }
     ensures { λ r. ⌜ CodeTold (now (table .entry)) c (now (s .entry)) word (now (found .entry)) (now (found .exit)) r × Grown (now (found .entry)) (now (found .exit)) ⌝ }
 {
-    if 512 <= c {
-        return is_set_of(s, word, c % 256, 768 <= c);
+    if codes::EXACT_WILDCARDS <= c {
+        return is_set_of(s, word, c % codes::RECORDS, codes::LEAST_WILDCARDS <= c);
     }
     let k = kind(table, index, c);
-    if k < kinds::TUPLE_PATTERN {
+    if !is_composed(k) {
         return leaves::match_leaf(table, index, c, s, word, found);
     }
     let count = count_only(table, index, c);
@@ -68,7 +70,7 @@ pub fn take_leaves(
     table: &[u8],
     index: &Index,
     s: &[u8],
-    agenda: &[u32; 603],
+    agenda: &Agenda,
     head: usize,
     found: &mut [u32; Env::NAMES],
 ) -> Left

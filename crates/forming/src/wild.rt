@@ -37,7 +37,7 @@ fn tally_set(table: &[u8], index: &Index, p: usize) -> usize
     1 + 2 * n
 }
 
-// Of a union, by those of its halves.
+// What a union takes, as one number, by what its halves take.
 fn both(a: usize, b: usize) -> usize
     requires { ⌜ (0 < a) × (a ≤ 68719476736) × (b ≤ 68719476736) ⌝ }
     ensures { λ r. ⌜ TallyOfBoth a b r ⌝ }
@@ -54,7 +54,7 @@ fn both(a: usize, b: usize) -> usize
     a + b - 2
 }
 
-// Of any, a set or a union.
+// What a pattern takes, as one number: it counts where it is any, a set or a union.
 fn tally(table: &[u8], index: &Index, p: usize) -> usize
     requires { ⌜ Readable (now table) (now index) p ⌝ }
     ensures { λ r. ⌜ TellsTally (now (table .entry)) p r ⌝ }

@@ -12,6 +12,8 @@ use borrow.Author.Tests.{eq-eqb, ne-eqb, lt-ltb, le-ltb}
 use Rattle.values.specs.Value.{Kind, set, sequence, map as mapping, tuple, number, kindOf, Value, boolean, integer, collection, WellFormed}
 use Rattle.values.proofs.Order.{number-low, number-inj}
 use Rattle.values.proofs.Encoding.{collection-size, count-sizes}
+use Rattle.tables.specs.Record.{isComposed}
+use Rattle.tables.specs.Laws.Kinds.{by-composed}
 use Rattle.parts.specs.declared.Part.{Part}
 use Rattle.parts.specs.Part.{PartIs, PartHeld}
 use Rattle.parts.specs.Contract.{KindOfPart, CollectionHeld, CountOfPart}
@@ -61,17 +63,9 @@ few-items k vs h =
 pub pick-true : {A : Type 0} {t : Bool} (xs : List A) → t ≡ true → cond t xs [] ≡ xs
 pick-true xs e = rw e
 
-only-39 : (c d : ℕ) → c ≡ 36 + d → d ≤ 4 → (c ≡ 36 → ⊥) → (c ≡ 37 → ⊥) → (c ≡ 38 → ⊥) → (c ≡ 40 → ⊥) → c ≡ 39
-only-39 c zero e l w x y z = absurd (w e)
-only-39 c (suc zero) e l w x y z = absurd (x e)
-only-39 c (suc (suc zero)) e l w x y z = absurd (y e)
-only-39 c (suc (suc (suc zero))) e l w x y z = e
-only-39 c (suc (suc (suc (suc zero)))) e l w x y z = absurd (z e)
-only-39 c (suc (suc (suc (suc (suc d))))) e l w x y z = absurd (omega arith)
-
 module _ (c n : ℕ) (v : Value) where
-  pub none-meets : 36 ≤ c → c ≤ 40 → contents (collectionOf c) v ≡ absent → MeetsAs c n v Unfit
-  none-meets low high e = go (isHalved c) refl
+  pub none-meets : isComposed c ≡ true → contents (collectionOf c) v ≡ absent → MeetsAs c n v Unfit
+  none-meets composed e = go (isHalved c) refl
     where
       large : (k : Kind) → contents k v ≡ absent → isTooLarge k (contents k v) ≡ false
       large set f = rw f
@@ -93,21 +87,19 @@ module _ (c n : ℕ) (v : Value) where
     pub meets-orders : c ≡ 37 → contents set v ≡ some vs → (meetings c n v ≡ cond (eqb n (length vs)) (orders vs) []) × (isLarge c v ≡ false)
     meets-orders e f = (rw (e, f), rw e)
 
-    pub meets-items : (c ≡ 37 → ⊥) → (c ≡ 38 → ⊥) → (c ≡ 40 → ⊥) → 36 ≤ c → c ≤ 40 → contents (collectionOf c) v ≡ some vs → (meetings c n v ≡ cond (eqb n (length vs)) (vs ∷ []) []) × (isLarge c v ≡ false)
-    meets-items x y z low high f = go (ℕ-discrete c 36)
-      where
-        go : Dec (c ≡ 36) → (meetings c n v ≡ cond (eqb n (length vs)) (vs ∷ []) []) × (isLarge c v ≡ false)
-        go (yes e) = let g : contents tuple v ≡ some vs = subst (λ (k : ℕ). contents (collectionOf k) v ≡ some vs) e f in (rw (e, g), rw e)
-        go (no d) =
-            let e : c ≡ 39 = only-39 c (c - 36) (omega arith) (omega arith) d x y z in
-            let g : contents sequence v ≡ some vs = subst (λ (k : ℕ). contents (collectionOf k) v ≡ some vs) e f in
-            (rw (e, g), rw e)
+    pub meets-items : (c ≡ 37 → ⊥) → (c ≡ 38 → ⊥) → (c ≡ 40 → ⊥) → isComposed c ≡ true → contents (collectionOf c) v ≡ some vs → (meetings c n v ≡ cond (eqb n (length vs)) (vs ∷ []) []) × (isLarge c v ≡ false)
+    meets-items x y z composed f =
+        by-composed c composed
+        (λ e. let g : contents tuple v ≡ some vs = subst (λ (k : ℕ). contents (collectionOf k) v ≡ some vs) e f in (rw (e, g), rw e))
+        (λ e. absurd (x e)) (λ e. absurd (y e))
+        (λ e. let g : contents sequence v ≡ some vs = subst (λ (k : ℕ). contents (collectionOf k) v ≡ some vs) e f in (rw (e, g), rw e))
+        (λ e. absurd (z e))
 
 -- ---- what `meet` answers
 
-module _ (c n : ℕ) (s : List ℕ) (p : Part) (low : 36 ≤ c) (high : c ≤ 40) (k : ℕ) (kind : KindOfPart s p k) where
+module _ (c n : ℕ) (s : List ℕ) (p : Part) (composed : isComposed c ≡ true) (k : ℕ) (kind : KindOfPart s p k) where
   pub kind-unfit : (k ≡ number (collectionOf c) → ⊥) → Meets c n s p Unfit
-  kind-unfit f v h = none-meets c n v low high (contents-other (collectionOf c) v (λ e. f (kind v h ∙ e)))
+  kind-unfit f v h = none-meets c n v composed (contents-other (collectionOf c) v (λ e. f (kind v h ∙ e)))
 
   module _ (same : k ≡ number (collectionOf c)) where
     pub has-items : (v : Value) → PartIs s p v → Has (collectionOf c) v
@@ -163,7 +155,7 @@ module _ (c n : ℕ) (s : List ℕ) (p : Part) (low : 36 ≤ c) (high : c ≤ 40
                 (a .1, a .0 ∙ rw (ne-eqb n (length (w .items)) (λ q. d (counts v h ∙ sym q))))
             go (no e) =
                 let w = has-items v h in
-                let a = meets-items c n v (w .items) e not38 not40 low high (w .has) in
+                let a = meets-items c n v (w .items) e not38 not40 composed (w .has) in
                 (a .1, a .0 ∙ rw (ne-eqb n (length (w .items)) (λ q. d (counts v h ∙ sym q))))
 
         pub by-orders : c ≡ 37 → count ≡ n → (m : ℕ) → (m ≡ factorial n) × (0 < m) × (m < 256) → Meets c n s p (Ways m)
@@ -180,6 +172,6 @@ module _ (c n : ℕ) (s : List ℕ) (p : Part) (low : 36 ≤ c) (high : c ≤ 40
         by-items e d v h =
             let w = has-items v h in
             let q : n ≡ length (w .items) = sym d ∙ counts v h in
-            let a = meets-items c n v (w .items) e not38 not40 low high (w .has) in
+            let a = meets-items c n v (w .items) e not38 not40 composed (w .has) in
             let len : length (meetings c n v) ≡ 1 = ap length (a .0 ∙ pick-true (w .items ∷ []) (eq-eqb n (length (w .items)) q)) in
             (a .1, len, omega arith, omega arith)

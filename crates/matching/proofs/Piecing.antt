@@ -38,7 +38,7 @@ module _ (c n : ℕ) (s : List ℕ) (p : Part) (d i : ℕ) (h : PieceHeld c n s 
       go : Dec (kindOf (h .value) ≡ number (collectionOf c)) → Has (collectionOf c) (h .value)
       go (yes e) = contents-same (collectionOf c) (h .value) e
       go (no f) =
-          let a = none-meets c n (h .value) (h .low) (h .high) (contents-other (collectionOf c) (h .value) f) in
+          let a = none-meets c n (h .value) (h .composed) (contents-other (collectionOf c) (h .value) f) in
           absurd (omega (arith, h .below, ap length (a .1)))
 
   abbrev vs : List Value
@@ -147,7 +147,7 @@ module _ (c n : ℕ) (s : List ℕ) (p : Part) (d i : ℕ) (h : PieceHeld c n s 
 
   module _ (x : c ≡ 37 → ⊥) (y : c ≡ 38 → ⊥) (w : c ≡ 40 → ⊥) where
     items-are : meetings c n (h .value) ≡ cond (eqb n (length vs)) (vs ∷ []) []
-    items-are = meets-items c n (h .value) vs x y w (h .low) (h .high) (has-value .has) .0
+    items-are = meets-items c n (h .value) vs x y w (h .composed) (has-value .has) .0
 
     fit : (eqb n (length vs) ≡ true) × (d < 1)
     fit = picked-some (eqb n (length vs)) (vs ∷ []) d (omega (arith, h .below, ap length items-are))

@@ -1,6 +1,6 @@
 -- The records of patterns: what their kind says of their parts, and how many values a meeting has.
 use mathlib.Core.Path.{_≡_, refl, sym, ap, subst, _∙_}
-use mathlib.Core.Bool.{Bool, true, false, cond}
+use mathlib.Core.Bool.{Bool, true, false, _||_, cond}
 use mathlib.Core.Option.{Option, none as absent, some}
 use mathlib.Core.List.{List, [], _∷_, map}
 use Prim.Native.Nat.{ℕ, zero, suc, _+_, _-_, _≤_, _<_}
@@ -10,20 +10,23 @@ use lib.ListN.{length, getD, length-map}
 use borrow.Author.Tests.{leb-true, eqb-true, eqb-false}
 use mathlib.Mathlib.Data.Bool.Basic.{and-elim-left, and-elim-right}
 use Rattle.values.specs.Value.{Kind, set, sequence, map as mapping, tuple, Value}
-use Rattle.tables.specs.Laws.Kinds.{pattern-least, pattern-most}
-use Rattle.tables.specs.Record.{Record, named, operand, nameOf, shape, headOf, size, isKnown}
+use Rattle.tables.specs.Laws.Kinds.{by-composed, by-leaf}
+use Rattle.tables.specs.Record.{Record, isComposed, named, operand, nameOf, shape, headOf, size, isKnown}
 use Rattle.tables.specs.Table.{recordAt, kindAt}
 use Rattle.tables.specs.Accepted.{records}
 use Rattle.tables.specs.Laws.Accepted.{lower, pattern-role, operand-lower, operand-sort, named-count, fit-least, fit-most, fit-known}
+use Rattle.tables.specs.Laws.Through.{EachTo}
 use Rattle.tables.specs.Laws.Below.{OperandsLower as Lower}
 use Rattle.tables.specs.Reading.{HasField, HasOperand}
 use Rattle.parts.specs.declared.Part.{Part}
 use Rattle.patterns.specs.Ways.{Halves, orders}
+use Rattle.prelude.proofs.Lists.{map-at}
 use Rattle.prelude.proofs.Membership.{at-in}
-use Rattle.patterns.specs.Pattern.{Pattern, literal, arrangements, contents, met, split}
+use Rattle.patterns.specs.Pattern.{Pattern, any, literal, Patterns, nil, cons, arrangements, contents, met, split}
 use Rattle.prelude.proofs.Absurd.{true-false}
 use Rattle.patterns.specs.Laws.Orders.{order-length}
-use Rattle.patterns.specs.Read.{Readable, patternOf, patternAt}
+use Rattle.patterns.specs.Read.{Readable, patternsOf, patternOf, patternAt}
+use Rattle.patterns.specs.Laws.Some.{some-at, some-none}
 use Rattle.patterns.specs.Nodes.{collectionOf, isHalved, meetings, bothHalves}
 use Rattle.patterns.specs.Laws.Nodes.{is-boolean-literal, is-integer-literal, pattern-at}
 use Rattle.matching.specs.declared.nodes.Meeting.{Meeting}
@@ -36,17 +39,15 @@ pub record Shapely (c : ℕ) : Type 0 where
   pub most : length (shape c .roles) ≤ 4
   pub two : isHalved c ≡ true → (2 ≤ shape c .least) × (length (shape c .roles) ≤ 2)
 
-shapely-by : (d : ℕ) → d ≤ 4 → Shapely (36 + d)
+shapely : (c : ℕ) → isComposed c ≡ true → Shapely c
 unfolding shape
-shapely-by zero h = record { no-head = refl; most = omega arith; two = λ e. true-false (sym e) }
-shapely-by (suc zero) h = record { no-head = refl; most = omega arith; two = λ e. true-false (sym e) }
-shapely-by (suc (suc zero)) h = record { no-head = refl; most = omega arith; two = λ e. (omega arith, omega arith) }
-shapely-by (suc (suc (suc zero))) h = record { no-head = refl; most = omega arith; two = λ e. true-false (sym e) }
-shapely-by (suc (suc (suc (suc zero)))) h = record { no-head = refl; most = omega arith; two = λ e. (omega arith, omega arith) }
-shapely-by (suc (suc (suc (suc (suc d))))) h = absurd (omega arith)
-
-shapely : (c : ℕ) → 36 ≤ c → c ≤ 40 → Shapely c
-shapely c l h = let e : 36 + (c - 36) ≡ c = omega arith in subst Shapely e (shapely-by (c - 36) (omega arith))
+shapely c h =
+    by-composed c h
+    (λ e. subst Shapely (sym e) (record { no-head = refl; most = omega arith; two = λ e. true-false (sym e) }))
+    (λ e. subst Shapely (sym e) (record { no-head = refl; most = omega arith; two = λ e. true-false (sym e) }))
+    (λ e. subst Shapely (sym e) (record { no-head = refl; most = omega arith; two = λ e. (omega arith, omega arith) }))
+    (λ e. subst Shapely (sym e) (record { no-head = refl; most = omega arith; two = λ e. true-false (sym e) }))
+    (λ e. subst Shapely (sym e) (record { no-head = refl; most = omega arith; two = λ e. (omega arith, omega arith) }))
 
 named-head : (c : ℕ) (r : Record) → c ≡ 32 → (size (shape c .head) ≡ 1) × (isKnown (shape c .head) r ≡ leb (nameOf r) 15)
 unfolding shape
@@ -58,12 +59,6 @@ module _ (table index : List ℕ) (p : ℕ) (r : Readable table index p) where
 
   low : Lower (records table)
   low = lower (records table) (r .fine .clear6)
-
-  pub kind-low : 32 ≤ kindAt (records table) p
-  kind-low = pattern-least (kindAt (records table) p) (r .pattern)
-
-  pub kind-high : kindAt (records table) p ≤ 40
-  kind-high = pattern-most (kindAt (records table) p) (r .pattern)
 
   -- ---- a name
 
@@ -84,8 +79,10 @@ module _ (table index : List ℕ) (p : ℕ) (r : Readable table index p) where
   pub inner-length : length (innerOf table p) ≡ length (named (recordAt (records table) p))
   inner-length = length-map (named (recordAt (records table) p)) (patternAt (records table))
 
-  pub literal-held : (kindAt (records table) p ≡ 32 → ⊥) → (kindAt (records table) p ≡ 33 → ⊥) → kindAt (records table) p < 36 → LiteralHeld table index p
-  literal-held a b k = record { readable = r; low = omega (arith, kind-low, a, b); high = omega arith }
+  pub literal-held : (kindAt (records table) p ≡ 32 → ⊥) → (kindAt (records table) p ≡ 33 → ⊥) → isComposed (kindAt (records table) p) ≡ false → LiteralHeld table index p
+  literal-held a b k =
+      by-leaf (kindAt (records table) p) (r .pattern) k (λ e. absurd (a e)) (λ e. absurd (b e)) (λ e. record { readable = r; low = omega arith; high = omega arith })
+      (λ e. record { readable = r; low = omega arith; high = omega arith })
 
   pub is-literal : LiteralHeld table index p → (w : Value) × (patternAt (records table) p ≡ literal w)
   is-literal h = go (eqb (kindAt (records table) p) 34) refl
@@ -96,9 +93,9 @@ module _ (table index : List ℕ) (p : ℕ) (r : Readable table index p) where
 
   -- ---- parts
 
-  module _ (c : 36 ≤ kindAt (records table) p) where
+  module _ (c : isComposed (kindAt (records table) p) ≡ true) where
     shaped : Shapely (kindAt (records table) p)
-    shaped = shapely (kindAt (records table) p) c kind-high
+    shaped = shapely (kindAt (records table) p) c
 
     pub count-few : length (named (recordAt (records table) p)) ≤ 4
     count-few = omega (arith, named-count (recordAt (records table) p) (r .fine .fit p within), fit-most (recordAt (records table) p) (r .fine .fit p within), shaped .no-head, shaped .most)
@@ -112,12 +109,32 @@ module _ (table index : List ℕ) (p : ℕ) (r : Readable table index p) where
     pub has-operand : HasOperand table index p i
     has-operand = record { here = r .here; has = l }
 
-    pub operand-readable : (36 ≤ kindAt (records table) p) → (q : ℕ) → q ≡ operand (recordAt (records table) p) i → Readable table index q × (q < p)
-    operand-readable c q e =
+    pub operand-readable : (q : ℕ) → q ≡ operand (recordAt (records table) p) i → Readable table index q × (q < p)
+    operand-readable q e =
         let lo : operand (recordAt (records table) p) i < p = operand-lower (records table) (r .fine .clear6) p i within l in
         let so = operand-sort (records table) (r .fine .clear6) p i within l in
         let ro = pattern-role (recordAt (records table) p) i (r .pattern) l in
         (record { fine = r .fine; here = record { indexed = r .here .indexed; within = omega arith }; pattern = rw e (rw ro at so) }, omega arith)
+
+-- ---- some part is so: a test of patterns, and whether some of several patterns passes it
+
+module _ (test : Pattern → Bool) (some : Patterns → Bool) (none : some nil ≡ false) (more : (p : Pattern) (ps : Patterns) → some (cons p ps) ≡ test p || some ps)
+    (table index : List ℕ) (p : ℕ) (r : Readable table index p) (by-parts : test (patternAt (records table) p) ≡ some (patternsOf (innerOf table p))) where
+  part-at : (j : ℕ) → j < length (named (recordAt (records table) p)) → getD (innerOf table p) j any ≡ patternAt (records table) (operand (recordAt (records table) p) j)
+  part-at j l = map-at (patternAt (records table)) (named (recordAt (records table) p)) j 0 any l
+
+  -- one of them is,
+  pub some-part : (i q : ℕ) → i < length (named (recordAt (records table) p)) → q ≡ operand (recordAt (records table) p) i → test (patternAt (records table) q) ≡ true → test (patternAt (records table) p) ≡ true
+  some-part i q l e t =
+      by-parts ∙ some-at test some none more (innerOf table p) i (omega (arith, inner-length table index p r))
+      (ap test (part-at i l ∙ ap (patternAt (records table)) (sym e)) ∙ t)
+
+  -- or none up to the last.
+  pub no-part : (i : ℕ) → EachTo (λ q. test (patternAt (records table) q) ≡ false) (recordAt (records table) p) i → length (named (recordAt (records table) p)) ≤ i → test (patternAt (records table) p) ≡ false
+  no-part i h l =
+      by-parts ∙ some-none test some none more (innerOf table p) (λ j k.
+      let m : j < length (named (recordAt (records table) p)) = omega (arith, inner-length table index p r) in
+      ap test (part-at j m) ∙ h j (omega arith))
 
 pub recast-meets : {c k : ℕ} (kind n : ℕ) (s : List ℕ) (part : Part) (m : Meeting) → kind ≡ c → n ≡ k → Meets kind n s part m → Meets c k s part m
 recast-meets {c} {k} kind n s part m e f h = subst (λ (x : ℕ). Meets x k s part m) e (subst (λ (y : ℕ). Meets kind y s part m) f h)

@@ -6,7 +6,7 @@ use Prim.Native.Nat.{ℕ, _≤_, _<_}
 use lib.ListN.{length, getD}
 use Rattle.values.specs.Value.{Value}
 use Rattle.values.specs.Items.{same}
-use Rattle.tables.specs.Record.{named}
+use Rattle.tables.specs.Record.{named, isComposed}
 use Rattle.tables.specs.Table.{recordAt, kindAt}
 use Rattle.tables.specs.Accepted.{records}
 use Rattle.parts.specs.declared.Part.{Part}
@@ -18,10 +18,10 @@ use Rattle.patterns.specs.Read.{Readable, patternAt}
 use Rattle.matching.specs.declared.nodes.Meeting.{Meeting}
 use Rattle.matching.specs.declared.nodes.Meeting.the-variants.{Unfit, Large, Ways}
 
--- One without parts.
+-- A pattern without parts.
 pub record LeafHeld (table index : List ℕ) (p : ℕ) : Type 0 where
   pub readable : Readable table index p
-  pub leaf : kindAt (records table) p < 36
+  pub leaf : isComposed (kindAt (records table) p) ≡ false
 
 -- r is the number of the member that stands at i in the d-th order of n
 pub record Ordinal (n d i r : ℕ) : Type 0 where
@@ -39,8 +39,7 @@ Meets c n s p r = (v : Value) → PartIs s p v → MeetsAs c n v r
 
 -- A way in which n parts meet a value, and the number of one of these parts, in a slice whose places fit.
 pub record PieceHeld (c n : ℕ) (s : List ℕ) (p : Part) (d i : ℕ) : Type 0 where
-  pub low : 36 ≤ c
-  pub high : c ≤ 40
+  pub composed : isComposed c ≡ true
   pub few : n ≤ 4
   pub two : isHalved c ≡ true → n ≡ 2
   pub value : Value

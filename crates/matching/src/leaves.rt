@@ -6,6 +6,7 @@ use parts::words::Env;
 use tables::Index;
 use tables::kinds;
 ghost use Prim.Native.Nat.{_<_};
+ghost use Rattle.patterns.specs.Binding.{names};
 ghost use Rattle.parts.specs.Part.{PartHeld};
 ghost use Rattle.parts.specs.Word.{unpacked};
 ghost use Rattle.matching.specs.Node.{LeafHeld};
@@ -13,7 +14,7 @@ ghost use Rattle.matching.specs.Leaf.{Standing, Grown, Named, LeafTold};
 
 // Binds a name to a part, where it has no other value.
 fn bind_name(s: &[u8], x: usize, word: u32, found: &mut [u32; Env::NAMES]) -> bool
-    requires { ⌜ (x < 16) × PartHeld (now s) (unpacked word) × Standing (now s) (now found) ⌝ }
+    requires { ⌜ (x < names) × PartHeld (now s) (unpacked word) × Standing (now s) (now found) ⌝ }
     ensures { λ r. ⌜ Named (now (s .entry)) x word (now (found .entry)) (now (found .exit)) r × Grown (now (found .entry)) (now (found .exit)) ⌝ }
 {
     let old = found[x];

@@ -4,9 +4,11 @@ use tables::Index;
 use tables::kinds;
 use values::Value;
 ghost use mathlib.Core.Path.{_≡_};
+ghost use mathlib.Core.Bool.{true};
 ghost use Prim.Native.Nat.{_≤_, _<_};
 ghost use Rattle.parts.specs.Part.{PartHeld};
 ghost use Rattle.values.specs.Value.{number};
+ghost use Rattle.tables.specs.Record.{isComposed};
 ghost use Rattle.patterns.specs.Nodes.{collectionOf};
 ghost use Rattle.patterns.specs.Laws.Orders.{factorial};
 ghost use Rattle.matching.specs.Node.{Ordinal, Meets, PieceHeld, PieceOf, LiteralHeld, LiteralIs};
@@ -54,18 +56,17 @@ fn member(n: usize, d: usize, i: usize) -> usize
 fn collection_of(kind: usize) -> usize
     ensures { λ r. ⌜ r ≡ number (collectionOf kind) ⌝ }
 {
-    if kind == kinds::TUPLE_PATTERN {
-        return 6;
+    match kind {
+        kinds::TUPLE_PATTERN => Value::TUPLE,
+        kinds::SET_PATTERN => Value::SET,
+        kinds::UNION_PATTERN => Value::SET,
+        _ => Value::SEQUENCE,
     }
-    if kind < kinds::SEQUENCE_PATTERN {
-        return 3;
-    }
-    4
 }
 
 // The ways in which n parts of a pattern of the kind meet a part of a value.
 pub fn meet(kind: usize, n: usize, s: &[u8], part: Part) -> Meeting
-    requires { ⌜ (36 ≤ kind) × (kind ≤ 40) × (n ≤ 4) × PartHeld (now s) part ⌝ }
+    requires { ⌜ (isComposed kind ≡ true) × (n ≤ 4) × PartHeld (now s) part ⌝ }
     ensures { λ r. ⌜ Meets kind n (now (s .entry)) part r ⌝ }
 {
     let k = parts::kind_of_part(s, part);
@@ -75,7 +76,7 @@ pub fn meet(kind: usize, n: usize, s: &[u8], part: Part) -> Meeting
     }
     let count = parts::count_of_part(s, part);
     if kind == kinds::UNION_PATTERN {
-        if 7 < count {
+        if parts::masks::MOST_MEMBERS < count {
             return Meeting::Large;
         }
         let m = parts::masks::full(count);

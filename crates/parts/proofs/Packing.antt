@@ -13,7 +13,7 @@ use Rattle.parts.specs.declared.Part.{Part}
 use Rattle.parts.specs.Part.{PartIs, CellIs}
 use Rattle.parts.specs.Contract.{OrderedParts}
 use Rattle.patterns.specs.Binding.{Cell, free, is, orderCells}
-use Rattle.parts.specs.Word.{unpacked, CellHeld, Packed}
+use Rattle.parts.specs.Word.{unpacked, CellHeld, WordOf}
 
 pub cell-free : {s : List ℕ} {p : Part} {c : Cell} → p .how ≡ 0 → CellIs s p c → c ≡ free
 cell-free e (inl h) = h .1
@@ -39,7 +39,7 @@ mask-low (suc (suc (suc (suc (suc (suc (suc zero))))))) m h l = omega arith
 mask-low (suc (suc (suc (suc (suc (suc (suc (suc n)))))))) m h l = absurd (omega arith)
 
 module _ (s : List ℕ) (p : Part) where
-  pub pack-none : p .how ≡ 0 → Packed s p 0
+  pub pack-none : p .how ≡ 0 → WordOf s p 0
   pack-none e = record { is = λ c h. inl (refl, cell-free e h); small = omega arith; blank = λ e. refl }
 
   -- What the bounds of a part are, by how.
@@ -57,7 +57,7 @@ module _ (s : List ℕ) (p : Part) where
     pub cell-low : (p .how ≡ 0 → ⊥) → CellHeld s p → Low
     cell-low f h = let x = cell-value f (h .1) in part-low (x .0) (x .2)
 
-    pub pack-whole : p .how ≡ 1 → CellHeld s p → Packed s p (1 + 4 * p .at)
+    pub pack-whole : p .how ≡ 1 → CellHeld s p → WordOf s p (1 + 4 * p .at)
     pack-whole e z = record { is = λ c h. go c (cell-value {s = s} {p = p} {c = c} (λ z. omega arith) h); small = omega (arith, cell-low (λ z. omega arith) z .at); blank = λ e. absurd (omega arith) }
       where
         go : (c : Cell) → (v : Value) × (c ≡ is v) × PartIs s p v → CellIs s (unpacked (1 + 4 * p .at)) c
@@ -69,7 +69,7 @@ module _ (s : List ℕ) (p : Part) where
         go c (v, f, inr (inr k)) = absurd (omega (arith, k .0))
 
     -- members and spans have their extent in the word
-    pub pack-wide : (p .how ≡ 0 → ⊥) → (p .how ≡ 1 → ⊥) → CellHeld s p → Packed s p (p .how + 4 * (p .at + 131072 * p .extent))
+    pub pack-wide : (p .how ≡ 0 → ⊥) → (p .how ≡ 1 → ⊥) → CellHeld s p → WordOf s p (p .how + 4 * (p .at + 131072 * p .extent))
     pack-wide f0 f1 z =
         let l = cell-low f0 z in
         record { is = λ c h. go c (cell-value {s = s} {p = p} {c = c} f0 h); small = omega (arith, l .how, l .at, l .extent f1); blank = λ e. absurd (omega (arith, l .how, f0, e)) }

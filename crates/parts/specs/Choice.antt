@@ -17,7 +17,7 @@ pub record ChoiceIs (s : List ℕ) (at mask : ℕ) (vs : List Value) : Type 0 wh
   pub below : mask < 2 ^ length all
   pub is : vs ≡ keep mask all
 
--- It chooses some.
+-- A mask that chooses some list of the items from a place on.
 pub record ChoiceHeld (s : List ℕ) (at mask : ℕ) : Type 0 where
   pub items : List Value
   pub here : ChoiceIs s at mask items

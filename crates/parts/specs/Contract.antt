@@ -7,7 +7,7 @@ use Rattle.integers.specs.declared.Order.{Order}
 use Rattle.values.specs.Value.{Kind, set, sequence, Value, collection, kindOf, size, order, valueLimit}
 use Rattle.values.specs.Place.{At, Outside}
 use Rattle.patterns.specs.Ways.{Halves as Split, halves, splits, cuts}
-use Rattle.patterns.specs.Pattern.{itemsOf, leftOf, rightOf}
+use Rattle.patterns.specs.Pattern.{itemsOf, leftOf, rightOf, mostSplit}
 use Rattle.parts.specs.declared.Part.{Part}
 use Rattle.parts.specs.declared.Halves.{Halves}
 use Rattle.parts.specs.Part.{Selects, PartIs, endOf}
@@ -53,7 +53,7 @@ pub record HalvesAre (s : List ℕ) (k : Kind) (h : Split Value) (r : Halves) : 
   pub left : PartIs s (r .left) (leftOf k h)
   pub right : PartIs s (r .right) (rightOf k h)
 
--- They end where the whole ends, or before.
+-- The halves of a part end where the part ends, or before.
 pub record Inside (s : List ℕ) (p : Part) (r : Halves) : Type 0 where
   pub left : endOf s (r .left) ≤ endOf s p
   pub right : endOf s (r .right) ≤ endOf s p
@@ -62,7 +62,7 @@ pub record Inside (s : List ℕ) (p : Part) (r : Halves) : Type 0 where
 pub record Countable (s : List ℕ) (p : Part) : Type 0 where
   pub items : List Value
   pub here : PartIs s p (collection set (itemsOf items))
-  pub few : length items ≤ 7
+  pub few : length items ≤ mostSplit
 
 -- m chooses its members from those of the set whose record stands there
 pub record MaskOf (s : List ℕ) (p : Part) (m : ℕ) : Type 0 where
@@ -73,7 +73,7 @@ pub record MaskOf (s : List ℕ) (p : Part) (m : ℕ) : Type 0 where
 pub record SplitHeld (s : List ℕ) (p : Part) (d : ℕ) : Type 0 where
   pub items : List Value
   pub here : PartIs s p (collection set (itemsOf items))
-  pub few : length items ≤ 7
+  pub few : length items ≤ mostSplit
   pub below : d < 2 ^ length items
 
 -- r is the d-th split

@@ -10,15 +10,15 @@ use Rattle.integers.specs.Bytes.{word}
 use Rattle.values.specs.Value.{set, sequence, Value, collection, sizes, valueLimit}
 use Rattle.values.specs.Place.{At, ItemsAt}
 use Rattle.patterns.specs.Binding.{Cell, free, is}
-use Rattle.patterns.specs.Pattern.{itemsOf}
+use Rattle.patterns.specs.Pattern.{itemsOf, mostSplit}
 use Rattle.parts.specs.declared.Part.{Part}
 use Rattle.parts.specs.Chosen.{keep}
 
--- v is the set of the members that the bits of a mask choose, of a set of at most seven whose record stands at a place.
+-- v is the set of the members that the bits of a mask choose, of a set small enough to be split whose record stands at a place.
 pub record Selects (s : List ℕ) (at mask : ℕ) (v : Value) : Type 0 where
   pub all : List Value
   pub here : At s at (collection set (itemsOf all))
-  pub few : length all ≤ 7
+  pub few : length all ≤ mostSplit
   pub below : mask < 2 ^ length all
   pub is : v ≡ collection set (itemsOf (keep mask all))
 
@@ -33,7 +33,7 @@ pub record Spans (s : List ℕ) (from to : ℕ) (v : Value) : Type 0 where
 abbrev pub PartIs : List ℕ → Part → Value → Type 0
 PartIs s p v = ((p .how ≡ 1) × At s (p .at) v) ⊎ (((p .how ≡ 2) × Selects s (p .at) (p .extent) v) ⊎ ((p .how ≡ 3) × Spans s (p .at) (p .at + p .extent) v))
 
--- It denotes some value.
+-- A part that denotes some value.
 pub record PartHeld (s : List ℕ) (p : Part) : Type 0 where
   pub value : Value
   pub here : PartIs s p value

@@ -26,12 +26,12 @@ pub record RunIs (s : List ℕ) (r : Run) (vs : List Value) : Type 0 where
   pub stands : Ready (r .mask) all
   pub is : vs ≡ chosen (r .mask) all
 
--- It has some items.
+-- A run that has some list of items.
 pub record RunHeld (s : List ℕ) (r : Run) : Type 0 where
   pub items : List Value
   pub here : RunIs s r items
 
--- It has at least one.
+-- A run that has at least one item.
 pub record MoreHeld (s : List ℕ) (r : Run) : Type 0 where
   pub first : Value
   pub others : List Value

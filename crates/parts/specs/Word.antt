@@ -16,7 +16,7 @@ abbrev pub CellHeld : List ℕ → Part → Type 0
 CellHeld s p = (c : Cell) × CellIs s p c
 
 -- n stands for what a part stands for, and fits 28 bits.
-pub record Packed (s : List ℕ) (p : Part) (n : ℕ) : Type 0 where
+pub record WordOf (s : List ℕ) (p : Part) (n : ℕ) : Type 0 where
   pub is : (c : Cell) → CellIs s p c → CellIs s (unpacked n) c
   pub small : n < 268435456
   pub blank : n % 4 ≡ 0 → n ≡ 0

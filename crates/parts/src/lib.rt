@@ -96,7 +96,7 @@ pub fn order_parts(s: &[u8], p: Part, q: Part) -> Order
     order_kinds(s, p, q)
 }
 
-// The same of two parts that are not both whole records: by kind, and then item by item.
+// The order of the values that two parts denote which are not both whole records: by kind, and then item by item.
 fn order_kinds(s: &[u8], p: Part, q: Part) -> Order
     requires { ⌜ PartHeld (now s) p × PartHeld (now s) q ⌝ }
     requires { ⌜ (p .how ≡ 1 → q .how ≡ 1 → ⊥) ⌝ }

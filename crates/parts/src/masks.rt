@@ -1,17 +1,21 @@
-// Bits that choose members of a set of at most seven.
+// Bits that choose members of a set that can be split.
 use integers::Order;
 ghost use mathlib.Core.Path.{_≡_};
 ghost use Prim.Native.Nat.{_/_, _≤_, _<_};
 ghost use mathlib.Core.Bool.{cond};
 ghost use Rattle.integers.specs.declared.Order.the-variants.{Lower, Higher};
+ghost use Rattle.patterns.specs.Pattern.{mostSplit};
 ghost use Rattle.parts.specs.Mask.{Full, Deals, Spread, OrderedMasks};
 
-// The masks of all members, of none to seven.
-const FULL: [usize; 8] = [0, 1, 3, 7, 15, 31, 63, 127];
+// A set of more members is too large to split.
+pub const MOST_MEMBERS: usize = 7;
+
+// The masks of all members, of none to the most.
+const FULL: [usize; MOST_MEMBERS + 1] = [0, 1, 3, 7, 15, 31, 63, 127];
 
 // The mask of all of k members.
 pub fn full(k: usize) -> usize
-    requires { ⌜ k ≤ 7 ⌝ }
+    requires { ⌜ k ≤ mostSplit ⌝ }
     ensures { λ r. ⌜ Full k r ⌝ }
 {
     let masks = FULL;
@@ -46,7 +50,7 @@ fn deal(m: usize, dealt: Dealing) -> Dealing
     }
 }
 
-// Of the members that a mask chooses, those on the left of the d-th split.
+// The mask of those members that the d-th split of what a mask chooses has on the left.
 pub fn spread(m: usize, d: usize) -> usize
     requires { ⌜ m < 128 ⌝ }
     ensures { λ r. ⌜ Spread m d r ⌝ }

@@ -3,8 +3,8 @@ use crate::Part;
 use integers::Order;
 ghost use mathlib.Core.Path.{_≡_};
 ghost use Prim.Native.Nat.{ℕ, _%_, _≤_};
-ghost use lib.ListN.{length, replicate};
-ghost use Rattle.parts.specs.Word.{unpacked, CellHeld, Packed, WordHeld, OrderedWords};
+ghost use lib.ListN.{length};
+ghost use Rattle.parts.specs.Word.{unpacked, CellHeld, WordOf, WordHeld, OrderedWords};
 
 // What each name stands for, as words; 0 where it has no value.
 pub struct Env {
@@ -14,24 +14,15 @@ pub struct Env {
 impl Env {
     // The names are 0 to 15.
     pub const NAMES: usize = 16;
-
-    // No name has a value.
-    pub fn empty() -> Env
-        ensures { λ r. ⌜ r .words ≡ replicate 16 0 ⌝ }
-    {
-        Env {
-            words: [0; Env::NAMES],
-        }
-    }
 }
 
 // A place takes 17 bits of a word.
 const PLACES: u32 = 131072;
 
 // A part as a word, 0 where it is none.
-pub fn pack(s: &[u8], p: Part) -> u32
+pub fn word_of(s: &[u8], p: Part) -> u32
     requires { ⌜ (length (now s) ≤ 65536) × CellHeld (now s) p ⌝ }
-    ensures { λ r. ⌜ Packed (now (s .entry)) p r ⌝ }
+    ensures { λ r. ⌜ WordOf (now (s .entry)) p r ⌝ }
 {
     if p.how == Part::NOTHING {
         return 0;
@@ -76,7 +67,7 @@ pub fn order_words(s: &[u8], a: u32, b: u32) -> Order
     crate::order_parts(s, p, q)
 }
 
-// The same of two words that both choose members.
+// The order of what two words say of a name that both choose members of sets.
 pub fn order_chosen(s: &[u8], a: u32, b: u32) -> Order
     requires { ⌜ WordHeld (now s) a × WordHeld (now s) b × (a % 4 ≡ 2) × (b % 4 ≡ 2) ⌝ }
     ensures { λ r. ⌜ OrderedWords (now (s .entry)) a b r ⌝ }

@@ -2,6 +2,7 @@
 pub mod Members
 pub mod Units
 pub mod Nodes
+pub mod Some
 pub mod Ordered
 pub mod Matched
 pub mod Widened

@@ -2,20 +2,20 @@
 use mathlib.Core.Bool.{Bool, false, _||_, cond}
 use mathlib.Core.List.{List, [], _∷_, map}
 use Prim.Native.Nat.{ℕ}
-use lib.Dec.{eqb, ltb}
+use lib.Dec.{eqb}
 use Rattle.values.specs.Value.{Kind, set, sequence, tuple, Value}
 use Rattle.patterns.specs.Ways.{Halves}
 use Rattle.patterns.specs.Pattern.{contents, met, split, leftOf, rightOf, isTooLarge}
 
 -- The kind of the value that has such parts: 36 a tuple, 37 and 38 a set, 39 and 40 a sequence.
 abbrev pub collectionOf : ℕ → Kind
-collectionOf c = cond (eqb c 36) tuple (cond (ltb c 39) set sequence)
+collectionOf c = cond (eqb c 36) tuple (cond (eqb c 37 || eqb c 38) set sequence)
 
 -- 38 and 40 have two parts, for two halves.
 abbrev pub isHalved : ℕ → Bool
 isHalved c = eqb c 38 || eqb c 40
 
--- Both, one after the other.
+-- The two halves as values, the left one first.
 abbrev pub bothHalves : Kind → Halves Value → List Value
 bothHalves k h = leftOf k h ∷ rightOf k h ∷ []
 

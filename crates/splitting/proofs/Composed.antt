@@ -2,17 +2,20 @@
 use mathlib.Core.Path.{_≡_, refl, sym, ap, ap₂, _∙_}
 use mathlib.Core.Bool.{Bool, true, false, not, _&&_, _||_}
 use mathlib.Core.List.{List, [], _∷_, map}
-use Prim.Native.Nat.{ℕ, zero, suc, _+_, _-_, _≤_, _<_}
+use Prim.Native.Nat.{ℕ}
 use native.Mathlib.Omega.{arith}
 use lib.Dec.{eqb}
 use lib.ListN.{length, getD}
-use Rattle.values.specs.Value.{Kind, set, sequence, tuple, Value}
-use Rattle.tables.specs.Record.{Record}
+use Rattle.values.specs.Value.{Kind, Value}
+use Rattle.prelude.proofs.Absurd.{never}
+use Rattle.tables.specs.Record.{Record, isPattern, isComposed}
+use Rattle.tables.specs.Laws.Kinds.{by-pattern, by-composed}
 use Rattle.patterns.specs.Ways.{exists}
-use Rattle.patterns.specs.Pattern.{Pattern, any, each, halved, contents, met, split, leftOf, rightOf, wide, wideEach, isTooLarge}
+use Rattle.patterns.specs.Pattern.{Pattern, any, each, halved, contents, met, split, leftOf, rightOf, wide, wideEach, isTooLarge, isSet}
 use Rattle.patterns.specs.Read.{patternsOf, patternOf}
-use Rattle.patterns.specs.Nodes.{isHalved, meetings, isLarge, bothHalves}
-use Rattle.patterns.specs.Laws.Nodes.{parts-length, is-name, is-any, is-boolean-literal, is-integer-literal}
+use Rattle.patterns.specs.Nodes.{collectionOf, isHalved, meetings, isLarge, bothHalves}
+use Rattle.patterns.specs.Laws.Nodes.{parts-length, on-leaf, on-composed}
+use Rattle.patterns.specs.Laws.Some.{some-halves}
 use Rattle.splitting.specs.Union.{hasUnion, someUnion, shallow}
 
 pub or-last : (b : Bool) → b ≡ b || false
@@ -50,67 +53,43 @@ wide-halved k (p ∷ q ∷ []) v e =
 wide-halved k (p ∷ q ∷ r ∷ ps) v e = absurd (omega arith)
 
 union-halved : (ps : List Pattern) → length ps ≡ 2 → hasUnion (getD ps 0 any) || hasUnion (getD ps 1 any) ≡ someUnion (patternsOf ps)
-unfolding hasUnion patternsOf
-union-halved [] e = absurd (omega arith)
-union-halved (p ∷ []) e = absurd (omega arith)
-union-halved (p ∷ q ∷ []) e = ap (λ (b : Bool). hasUnion p || b) (or-last (hasUnion q))
-union-halved (p ∷ q ∷ r ∷ ps) e = absurd (omega arith)
+unfolding hasUnion
+union-halved ps e = some-halves hasUnion someUnion refl (λ p qs. refl) ps e
+
+-- Of a pattern with parts only the union pattern has two halves of a set.
+union-kind : (k : ℕ) → isComposed k ≡ true → isHalved k ≡ true → isSet (collectionOf k) ≡ eqb k 38
+union-kind k c h =
+    by-composed k c (λ e. never (sym (ap isHalved e) ∙ h)) (λ e. never (sym (ap isHalved e) ∙ h)) (λ e. rw e) (λ e. never (sym (ap isHalved e) ∙ h)) (λ e. rw e)
+
+item-kind : (k : ℕ) → isComposed k ≡ true → isHalved k ≡ false → eqb k 38 ≡ false
+item-kind k c h = by-composed k c (λ e. rw e) (λ e. rw e) (λ e. never (sym h ∙ ap isHalved e)) (λ e. rw e) (λ e. rw e)
 
 module _ (r : Record) (ps : List Pattern) where
   -- A name, any and a literal are never wide, and hold no union pattern.
-  pub leaf-no-union : 32 ≤ r .kind → r .kind < 36 → hasUnion (patternOf r ps) ≡ false
+  pub leaf-no-union : isPattern (r .kind) ≡ true → isComposed (r .kind) ≡ false → hasUnion (patternOf r ps) ≡ false
   unfolding hasUnion
-  leaf-no-union low high = cases (r .kind - 32) (omega arith) (omega arith)
-    where
-      cases : (d : ℕ) → r .kind ≡ 32 + d → d ≤ 3 → hasUnion (patternOf r ps) ≡ false
-      cases zero f l = ap hasUnion (is-name r ps f)
-      cases (suc zero) f l = ap hasUnion (is-any r ps f)
-      cases (suc (suc zero)) f l = ap hasUnion (is-boolean-literal r ps f)
-      cases (suc (suc (suc zero))) f l = ap hasUnion (is-integer-literal r ps f)
-      cases (suc (suc (suc (suc d)))) f l = absurd (omega arith)
+  leaf-no-union p c = on-leaf r ps (λ q. hasUnion q ≡ false) p c (λ e. refl) (λ e. refl) (λ w a b. refl)
 
-  module _ (low : 36 ≤ r .kind) (high : r .kind ≤ 40) (two : isHalved (r .kind) ≡ true → length ps ≡ 2) where
+  module _ (c : isComposed (r .kind) ≡ true) (two : isHalved (r .kind) ≡ true → length ps ≡ 2) where
     -- THEOREM: what number 29 says of a pattern with parts, by its record
     pub wide-composed : (v : Value) → wide (patternOf r ps) v ≡ wideParts (r .kind) ps v
-    wide-composed v = cases (r .kind - 36) (omega arith) (omega arith)
-      where
-        cases : (d : ℕ) → r .kind ≡ 36 + d → d ≤ 4 → wide (patternOf r ps) v ≡ wideParts (r .kind) ps v
-        cases zero f l = rw f (wide-each tuple ps v)
-        cases (suc zero) f l = rw f (wide-each set ps v)
-        cases (suc (suc zero)) f l = rw f (wide-halved set ps v (two (rw f)))
-        cases (suc (suc (suc zero))) f l = rw f (wide-each sequence ps v)
-        cases (suc (suc (suc (suc zero)))) f l = rw f (wide-halved sequence ps v (two (rw f)))
-        cases (suc (suc (suc (suc (suc d))))) f l = absurd (omega arith)
+    wide-composed v =
+        on-composed r ps (λ q. wide q v ≡ wideParts (r .kind) ps v) c
+        (λ h. rw h (wide-each (collectionOf (r .kind)) ps v)) (λ h. rw h (wide-halved (collectionOf (r .kind)) ps v (two h)))
 
     pub union-composed : hasUnion (patternOf r ps) ≡ eqb (r .kind) 38 || someUnion (patternsOf ps)
     unfolding hasUnion
-    union-composed = cases (r .kind - 36) (omega arith) (omega arith)
-      where
-        cases : (d : ℕ) → r .kind ≡ 36 + d → d ≤ 4 → hasUnion (patternOf r ps) ≡ eqb (r .kind) 38 || someUnion (patternsOf ps)
-        cases zero f l = rw f
-        cases (suc zero) f l = rw f
-        cases (suc (suc zero)) f l = rw f
-        cases (suc (suc (suc zero))) f l = rw f
-        cases (suc (suc (suc (suc zero)))) f l = rw f (union-halved ps (two (rw f)))
-        cases (suc (suc (suc (suc (suc d))))) f l = absurd (omega arith)
+    union-composed =
+        on-composed r ps (λ q. hasUnion q ≡ eqb (r .kind) 38 || someUnion (patternsOf ps)) c
+        (λ h. sym (ap (λ (b : Bool). b || someUnion (patternsOf ps)) (item-kind (r .kind) c h)))
+        (λ h. ap₂ _||_ (union-kind (r .kind) c h) (union-halved ps (two h)))
 
   -- A union pattern is shallow where both halves are; another pattern where it holds none.
   pub shallow-union : r .kind ≡ 38 → shallow (patternOf r ps) ≡ shallow (getD ps 0 any) && shallow (getD ps 1 any)
   unfolding shallow
   shallow-union f = rw f
 
-  pub shallow-other : 32 ≤ r .kind → r .kind ≤ 40 → (r .kind ≡ 38 → ⊥) → shallow (patternOf r ps) ≡ not (hasUnion (patternOf r ps))
+  pub shallow-other : isPattern (r .kind) ≡ true → (r .kind ≡ 38 → ⊥) → shallow (patternOf r ps) ≡ not (hasUnion (patternOf r ps))
   unfolding shallow hasUnion
-  shallow-other low high other = cases (r .kind - 32) (omega arith) (omega arith)
-    where
-      cases : (d : ℕ) → r .kind ≡ 32 + d → d ≤ 8 → shallow (patternOf r ps) ≡ not (hasUnion (patternOf r ps))
-      cases zero f l = rw f
-      cases (suc zero) f l = rw f
-      cases (suc (suc zero)) f l = rw f
-      cases (suc (suc (suc zero))) f l = rw f
-      cases (suc (suc (suc (suc zero)))) f l = rw f
-      cases (suc (suc (suc (suc (suc zero))))) f l = rw f
-      cases (suc (suc (suc (suc (suc (suc zero)))))) f l = absurd (other f)
-      cases (suc (suc (suc (suc (suc (suc (suc zero))))))) f l = rw f
-      cases (suc (suc (suc (suc (suc (suc (suc (suc zero)))))))) f l = rw f
-      cases (suc (suc (suc (suc (suc (suc (suc (suc (suc d))))))))) f l = absurd (omega arith)
+  shallow-other p other =
+      by-pattern (r .kind) p (λ f. rw f) (λ f. rw f) (λ f. rw f) (λ f. rw f) (λ f. rw f) (λ f. rw f) (λ f. absurd (other f)) (λ f. rw f) (λ f. rw f)

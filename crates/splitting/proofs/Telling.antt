@@ -11,9 +11,11 @@ use lib.Seq.{drop-cons}
 use borrow.Author.Tests.{eq-eqb, ne-eqb, eqb-true, eqb-false, not-true}
 use Rattle.prelude.proofs.Truth.{or-false-right}
 use Rattle.values.specs.Value.{Value, boolean}
-use Rattle.tables.specs.Record.{named, operand}
+use Rattle.tables.specs.Record.{isComposed, named, operand}
 use Rattle.tables.specs.Table.{recordAt, kindAt}
 use Rattle.tables.specs.Accepted.{records}
+use Rattle.tables.specs.Laws.Kinds.{union-composed as union-kind}
+use Rattle.tables.specs.Laws.Through.{EachTo, each-start, each-next}
 use Rattle.tables.specs.Laws.Accepted.{lower}
 use Rattle.parts.specs.declared.Part.{Part}
 use Rattle.parts.specs.Part.{PartIs, PartHeld}
@@ -27,7 +29,7 @@ use Rattle.matching.specs.declared.nodes.Meeting.{Meeting}
 use Rattle.matching.specs.declared.nodes.Meeting.the-variants.{Unfit, Large, Ways}
 use Rattle.matching.specs.Node.{MeetsAs, Meets, PieceHeld, PieceOf, innerOf, waysOf, metBy}
 use Rattle.prelude.proofs.Lists.{map-at}
-use Rattle.matching.proofs.Records.{kind-low, kind-high, count-few, count-two, meeting-length}
+use Rattle.matching.proofs.Records.{count-few, count-two, some-part, no-part, meeting-length}
 use Rattle.splitting.specs.Union.{hasUnion, someUnion, shallow}
 use Rattle.splitting.specs.Laws.Union.{no-union-narrow, shallow-narrow}
 use Rattle.splitting.proofs.Composed.{leaf-no-union, wide-composed, union-composed, shallow-union, shallow-other}
@@ -37,10 +39,11 @@ use Rattle.splitting.specs.Told.{TellsUnion, TellsShallow, TellsWide, Te
 drop-next : {A : Type 0} (l : List A) (i : ℕ) (z : A) → i < length l → drop i l ≡ getD l i z ∷ drop (i + 1) l
 drop-next l i z h = drop-cons l i z h ∙ ap (λ (j : ℕ). getD l i z ∷ drop j l) (sym (add-one i))
 
--- The same is asked of the items from i on as of all of them.
-abbrev pub UnionLeft : List ℕ → ℕ → ℕ → Type 0
-UnionLeft table p i = someUnion (patternsOf (drop i (innerOf table p))) ≡ someUnion (patternsOf (innerOf table p))
+-- No part before i holds a union pattern.
+abbrev pub NoUnionTo : List ℕ → ℕ → ℕ → Type 0
+NoUnionTo table p i = EachTo (λ q. hasUnion (patternAt (records table) q) ≡ false) (recordAt (records table) p) i
 
+-- What is asked of the items from i on, and of the ways from d on, is asked of all of them.
 abbrev pub PartsLeft : List ℕ → ℕ → List ℕ → Part → ℕ → ℕ → Type 0
 PartsLeft table p s part d i =
     (v : Value) → PartIs s part v → wideEach (patternsOf (drop i (innerOf table p))) (drop i (metBy table p v d)) ≡ wideEach (patternsOf (innerOf table p)) (metBy table p v d)
@@ -48,6 +51,12 @@ PartsLeft table p s part d i =
 abbrev pub WaysLeft : List ℕ → ℕ → List ℕ → Part → ℕ → Type 0
 WaysLeft table p s part d =
     (v : Value) → PartIs s part v → wideWays table p (drop d (waysOf table p v)) ≡ wideWays table p (waysOf table p v)
+
+pub union-start : (table : List ℕ) (p : ℕ) → NoUnionTo table p 0
+union-start table p = each-start (λ q. hasUnion (patternAt (records table) q) ≡ false) (recordAt (records table) p)
+
+pub union-next : (table : List ℕ) (p i q : ℕ) → NoUnionTo table p i → q ≡ operand (recordAt (records table) p) i → (h : Bool) → TellsUnion table q h → h ≡ false → NoUnionTo table p (i + 1)
+union-next table p i q n e h t y = each-next (λ q. hasUnion (patternAt (records table) q) ≡ false) (recordAt (records table) p) i q n e (sym t ∙ y)
 
 module _ (table index : List ℕ) (p : ℕ) (r : Readable table index p) where
   by-record : patternAt (records table) p ≡ patternOf (recordAt (records table) p) (innerOf table p)
@@ -65,49 +74,42 @@ module _ (table index : List ℕ) (p : ℕ) (r : Readable table index p) where
   inner-end : (i : ℕ) → length (named (recordAt (records table) p)) ≤ i → drop i (innerOf table p) ≡ []
   inner-end i l = drop-of-length-le (innerOf table p) {i = i} (omega (arith, inner-length))
 
-  two : 36 ≤ kindAt (records table) p → isHalved (kindAt (records table) p) ≡ true → length (innerOf table p) ≡ 2
+  two : isComposed (kindAt (records table) p) ≡ true → isHalved (kindAt (records table) p) ≡ true → length (innerOf table p) ≡ 2
   two c e = inner-length ∙ count-two table index p r c e
 
   -- ---- has_union
 
-  pub union-leaf : kindAt (records table) p < 36 → TellsUnion table p false
-  union-leaf l = sym (ap hasUnion by-record ∙ leaf-no-union (recordAt (records table) p) (innerOf table p) (kind-low table index p r) l)
+  pub union-leaf : isComposed (kindAt (records table) p) ≡ false → TellsUnion table p false
+  union-leaf l = sym (ap hasUnion by-record ∙ leaf-no-union (recordAt (records table) p) (innerOf table p) (r .pattern) l)
 
-  module _ (c : 36 ≤ kindAt (records table) p) where
+  module _ (c : isComposed (kindAt (records table) p) ≡ true) where
     union-by : hasUnion (patternAt (records table) p) ≡ eqb (kindAt (records table) p) 38 || someUnion (patternsOf (innerOf table p))
-    union-by = ap hasUnion by-record ∙ union-composed (recordAt (records table) p) (innerOf table p) c (kind-high table index p r) (two c)
+    union-by = ap hasUnion by-record ∙ union-composed (recordAt (records table) p) (innerOf table p) c (two c)
 
     pub union-here : kindAt (records table) p ≡ 38 → TellsUnion table p true
     union-here e = sym (union-by ∙ ap (λ (b : Bool). b || someUnion (patternsOf (innerOf table p))) (eq-eqb (kindAt (records table) p) 38 e))
 
-    module _ (other : kindAt (records table) p ≡ 38 → ⊥) (i : ℕ) (left : UnionLeft table p i) where
-      union-rest : hasUnion (patternAt (records table) p) ≡ someUnion (patternsOf (drop i (innerOf table p)))
-      union-rest = union-by ∙ ap (λ (b : Bool). b || someUnion (patternsOf (innerOf table p))) (ne-eqb (kindAt (records table) p) 38 other) ∙ sym left
+    module _ (other : kindAt (records table) p ≡ 38 → ⊥) where
+      union-parts : hasUnion (patternAt (records table) p) ≡ someUnion (patternsOf (innerOf table p))
+      union-parts = union-by ∙ ap (λ (b : Bool). b || someUnion (patternsOf (innerOf table p))) (ne-eqb (kindAt (records table) p) 38 other)
 
-      pub union-none : length (named (recordAt (records table) p)) ≤ i → TellsUnion table p false
-      unfolding hasUnion patternsOf
-      union-none l = sym (union-rest ∙ ap (λ (ps : List Pattern). someUnion (patternsOf ps)) (inner-end i l))
+      pub union-none : (i : ℕ) → NoUnionTo table p i → length (named (recordAt (records table) p)) ≤ i → TellsUnion table p false
+      unfolding hasUnion
+      union-none i h l = sym (no-part hasUnion someUnion refl (λ q qs. refl) table index p r union-parts i h l)
 
-      module _ (l : i < length (named (recordAt (records table) p))) (q : ℕ) (e : q ≡ operand (recordAt (records table) p) i) (h : Bool) (t : TellsUnion table q h) where
-        union-step : someUnion (patternsOf (drop i (innerOf table p))) ≡ h || someUnion (patternsOf (drop (i + 1) (innerOf table p)))
-        unfolding hasUnion patternsOf
-        union-step = ap (λ (ps : List Pattern). someUnion (patternsOf ps)) (inner-next i q l e) ∙ ap (λ (b : Bool). b || someUnion (patternsOf (drop (i + 1) (innerOf table p)))) (sym t)
-
-        pub union-found : h ≡ true → TellsUnion table p true
-        union-found y = sym (union-rest ∙ union-step ∙ ap (λ (b : Bool). b || someUnion (patternsOf (drop (i + 1) (innerOf table p)))) y)
-
-        pub union-next : h ≡ false → UnionLeft table p (i + 1)
-        union-next y = sym (ap (λ (b : Bool). b || someUnion (patternsOf (drop (i + 1) (innerOf table p)))) y) ∙ sym union-step ∙ left
+      pub union-found : (i q : ℕ) → i < length (named (recordAt (records table) p)) → q ≡ operand (recordAt (records table) p) i → (h : Bool) → TellsUnion table q h → h ≡ true → TellsUnion table p true
+      unfolding hasUnion
+      union-found i q l e h t y = sym (some-part hasUnion someUnion refl (λ q qs. refl) table index p r union-parts i q l e (sym t ∙ y))
 
   -- ---- is_shallow
 
   pub shallow-no-union : (kindAt (records table) p ≡ 38 → ⊥) → (h : Bool) → TellsUnion table p h → TellsShallow table p (not h)
   shallow-no-union other h t =
-      sym (ap shallow by-record ∙ shallow-other (recordAt (records table) p) (innerOf table p) (kind-low table index p r) (kind-high table index p r) other ∙ ap (λ (x : Pattern). not (hasUnion x)) (sym by-record) ∙ ap not (sym t))
+      sym (ap shallow by-record ∙ shallow-other (recordAt (records table) p) (innerOf table p) (r .pattern) other ∙ ap (λ (x : Pattern). not (hasUnion x)) (sym by-record) ∙ ap not (sym t))
 
   module _ (e : kindAt (records table) p ≡ 38) where
     pub union-two : length (named (recordAt (records table) p)) ≡ 2
-    union-two = count-two table index p r (omega arith) (rw e)
+    union-two = count-two table index p r (union-kind e) (rw e)
 
     module _ (a : ℕ) (ea : a ≡ operand (recordAt (records table) p) 0) (x : Bool) (tx : TellsShallow table a x) where
       shallow-by : shallow (patternAt (records table) p) ≡ x && shallow (getD (innerOf table p) 1 any)
@@ -125,15 +127,15 @@ module _ (table index : List ℕ) (p : ℕ) (r : Readable table index p) where
   -- ---- too_large
 
   module _ (s : List ℕ) (part : Part) where
-    pub wide-leaf : kindAt (records table) p < 36 → TellsWide table p s part false
+    pub wide-leaf : isComposed (kindAt (records table) p) ≡ false → TellsWide table p s part false
     wide-leaf l v q = sym (no-union-narrow (patternAt (records table) p) v (sym (union-leaf l)))
 
-    module _ (c : 36 ≤ kindAt (records table) p) where
+    module _ (c : isComposed (kindAt (records table) p) ≡ true) where
       wide-by : (v : Value) → wide (patternAt (records table) p) v
           ≡ isLarge (kindAt (records table) p) v || wideWays table p (waysOf table p v)
       wide-by v =
           ap (λ (x : Pattern). wide x v) by-record
-          ∙ wide-composed (recordAt (records table) p) (innerOf table p) c (kind-high table index p r) (two c) v
+          ∙ wide-composed (recordAt (records table) p) (innerOf table p) c (two c) v
           ∙ ap (λ (n : ℕ). isLarge (kindAt (records table) p) v || exists (meetings (kindAt (records table) p) n v) (λ vs. wideEach (patternsOf (innerOf table p)) vs)) inner-length
 
       module _ (m : Meeting) (h : Meets (kindAt (records table) p) (length (named (recordAt (records table) p))) s part m) where
@@ -216,8 +218,7 @@ module _ (table index : List ℕ) (p : ℕ) (r : Readable table index p) where
         module _ (l : i < length (named (recordAt (records table) p))) (kind n : ℕ) (x : kind ≡ kindAt (records table) p) (y : n ≡ length (named (recordAt (records table) p))) where
           pub piece-asked : PieceHeld kind n s part d i
           piece-asked = rw (x, y) (record {
-            low = h .composed;
-            high = kind-high table index p r;
+            composed = h .composed;
             few = count-few table index p r (h .composed);
             two = count-two table index p r (h .composed);
             value = h .value;

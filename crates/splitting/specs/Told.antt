@@ -1,10 +1,11 @@
 -- What the functions ask and promise.
 use mathlib.Core.Path.{_≡_}
-use mathlib.Core.Bool.{Bool, false}
+use mathlib.Core.Bool.{Bool, true, false}
 use mathlib.Core.List.{List}
 use Prim.Native.Nat.{ℕ, _≤_, _<_}
 use lib.ListN.{length}
 use Rattle.values.specs.Value.{Value}
+use Rattle.tables.specs.Record.{isComposed}
 use Rattle.tables.specs.Table.{kindAt}
 use Rattle.tables.specs.Accepted.{records}
 use Rattle.parts.specs.declared.Part.{Part}
@@ -31,7 +32,7 @@ TellsWide table p s part r = (v : Value) → PartIs s part v → r ≡ wide (pat
 abbrev pub wideWays : List ℕ → ℕ → List (List Value) → Bool
 wideWays table p ws = exists ws (λ vs. wideEach (patternsOf (innerOf table p)) vs)
 
--- The same as of p, of its parts: in some way, and in the way d.
+-- r says whether a part of p is wide with what it meets: in some way, and in the way d
 abbrev pub TellsWays : List ℕ → ℕ → List ℕ → Part → Bool → Type 0
 TellsWays table p s part r = (v : Value) → PartIs s part v → r ≡ wideWays table p (waysOf table p v)
 
@@ -40,7 +41,7 @@ TellsWay table p s part d r = (v : Value) → PartIs s part v → r ≡ wideEach
 
 -- There are w ways in which the parts of p meet what the part denotes, in a slice whose places fit.
 pub record WaysHeld (table : List ℕ) (p : ℕ) (s : List ℕ) (part : Part) (w : ℕ) : Type 0 where
-  pub composed : 36 ≤ kindAt (records table) p
+  pub composed : isComposed (kindAt (records table) p) ≡ true
   pub value : Value
   pub here : PartIs s part value
   pub narrow : isLarge (kindAt (records table) p) value ≡ false
@@ -49,7 +50,7 @@ pub record WaysHeld (table : List ℕ) (p : ℕ) (s : List ℕ) (part : Part) (w
 
 -- d is the number of one of them.
 pub record WayHeld (table : List ℕ) (p : ℕ) (s : List ℕ) (part : Part) (d : ℕ) : Type 0 where
-  pub composed : 36 ≤ kindAt (records table) p
+  pub composed : isComposed (kindAt (records table) p) ≡ true
   pub value : Value
   pub here : PartIs s part value
   pub narrow : isLarge (kindAt (records table) p) value ≡ false

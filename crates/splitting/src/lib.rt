@@ -7,6 +7,7 @@ use tables::kinds;
 use tables::reading::kind;
 use tables::reading::operand;
 use tables::reading::operand_count;
+use tables::shape::is_composed;
 ghost use Prim.Native.Nat.{_≤_};
 ghost use lib.ListN.{length};
 ghost use Rattle.patterns.specs.Read.{Readable};
@@ -19,7 +20,7 @@ fn has_union(table: &[u8], index: &Index, p: usize) -> bool
     ensures { λ r. ⌜ TellsUnion (now (table .entry)) p r ⌝ }
 {
     let k = kind(table, index, p);
-    if k < kinds::TUPLE_PATTERN {
+    if !is_composed(k) {
         return false;
     }
     if k == kinds::UNION_PATTERN {
@@ -63,7 +64,7 @@ pub fn too_large(table: &[u8], index: &Index, p: usize, s: &[u8], part: Part) ->
     ensures { λ r. ⌜ TellsWide (now (table .entry)) p (now (s .entry)) part r ⌝ }
 {
     let k = kind(table, index, p);
-    if k < kinds::TUPLE_PATTERN {
+    if !is_composed(k) {
         return false;
     }
     let n = operand_count(table, index, p);

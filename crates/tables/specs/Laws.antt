@@ -3,6 +3,7 @@ pub mod Tests
 pub mod Kinds
 pub mod Cutting
 pub mod Operands
+pub mod Through
 pub mod Roles
 pub mod Below
 pub mod Accepted

@@ -131,6 +131,15 @@ isExpression kind = ofExpressions (shape kind .sort)
 abbrev pub isPattern : ℕ → Bool
 isPattern kind = ofPatterns (shape kind .sort)
 
+-- Some operand has a role.
+abbrev pub hasRoles : List Role → Bool
+hasRoles [] = false
+hasRoles (role ∷ roles) = true
+
+-- A pattern that has parts: its kind's row has operands (36 to 40).
+abbrev pub isComposed : ℕ → Bool
+isComposed kind = isPattern kind && hasRoles (shape kind .roles)
+
 -- ---- fields
 
 -- Field i, from 0.

@@ -19,7 +19,7 @@ pub const HEADING: usize = 4;
 pub const NAMES: usize = 16;
 
 // An entry for each record of a table: where the record begins in the lowest 16 bits, then its kind and its second field in a byte each. The second
-// field is what a unary operator and a binder evaluate first, so that the way down through them takes one load for each.
+// field is what a unary operator and a binder evaluate first.
 pub type Index = [u32; MOST_RECORDS];
 
 // What an operand is for.

@@ -200,7 +200,7 @@ pub fn operand_from(table: &[u8], index: &Index, r: usize, first: usize, i: usiz
     byte_of(&table[at..], first + i)
 }
 
-// The same of the operand at byte 5, which the index has: the table, `first` and `i` only tell which one it is.
+// The operand at byte 5 of record r, which the index has: the table, `first` and `i` only tell which one it is.
 pub fn noted_operand(table: &[u8], index: &Index, r: usize, first: usize, i: usize) -> usize
     requires { ⌜ HasOperand (now table) (now index) r i × (first ≡ firstOf (kindAt (records (now table)) r)) × (first + i ≡ 5) ⌝ }
     ensures { λ n. ⌜ (n ≡ operandIn (recordAt (records (now (table .entry))) r) i) × (n < 256) ⌝ }

@@ -5,7 +5,7 @@ ghost use mathlib.Core.Bool.{_&&_, _||_};
 ghost use lib.Dec.{leb};
 ghost use lib.ListN.{length, getD};
 ghost use Rattle.integers.specs.Bytes.{word};
-ghost use Rattle.tables.specs.Record.{shape, lastKind, isExpression, isPattern, fits, isFit};
+ghost use Rattle.tables.specs.Record.{shape, lastKind, isExpression, isPattern, isComposed, fits, isFit};
 ghost use Rattle.tables.specs.Table.{firstRecord};
 ghost use Rattle.tables.specs.Sheet.{isBinder};
 ghost use Rattle.tables.specs.Shapes.{lengthRows, firstOf, rolesOf, firstRole, thirdRole, binderRole, isTested, knownFirst};
@@ -100,6 +100,9 @@ const BYTE_FIRST: u64 = 0x5_0000_003a;
 
 const INTEGER_FIRST: u64 = 0x8_0000_0004;
 
+// Bit k is set for each kind k of patterns that have parts: 36 to 40.
+const COMPOSED: u64 = 0x1f0_0000_0000;
+
 // Bit k is set for each kind k that there is: 1 to 21, 32 to 40.
 const KNOWN: u64 = 0x1ff_003f_fffe;
 
@@ -132,6 +135,14 @@ pub fn is_pattern(kind: usize) -> bool
     ensures { λ r. ⌜ r ≡ isPattern kind ⌝ }
 {
     is_between(kinds::FIRST_PATTERN, kind, kinds::LAST)
+}
+
+// A pattern of the kind has parts.
+pub fn is_composed(kind: usize) -> bool
+    requires { ⌜ kind ≤ lastKind ⌝ }
+    ensures { λ r. ⌜ r ≡ isComposed kind ⌝ }
+{
+    (COMPOSED >> kind) % 2 == 1
 }
 
 // A kind that binds the names of its first operand.
@@ -193,7 +204,7 @@ pub fn role_of(kind: usize, i: usize) -> Role
     Role::Plain
 }
 
-// The same of a binder: its pattern, its set or value, and what its names cover.
+// What operand i of a binder is for: its pattern, its set or value, or what its names cover.
 fn binder_role(kind: usize, i: usize) -> Role
     ensures { λ r. ⌜ r ≡ binderRole kind i ⌝ }
 {
@@ -228,7 +239,7 @@ fn third_role(kind: usize) -> Role
 
 // ---- literals, names and operators
 
-// They are known, where n is the first field.
+// The literal, name or operator of a record of the kind is known, where n is its first field.
 fn is_known(kind: usize, n: usize) -> bool
     requires { ⌜ kind ≤ lastKind ⌝ }
     ensures { λ r. ⌜ r ≡ knownFirst (shape kind .head) n ⌝ }

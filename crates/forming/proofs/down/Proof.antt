@@ -5,7 +5,7 @@ use Rattle.forming.proofs.down.Statement.{statement}
 use Rattle.forming.proofs.down.Tie as tie
 use Rattle.forming.proofs.down.Reads as reads
 use Rattle.forming.proofs.down.Lts as lts
-use Rattle.forming.proofs.entered.Reads as entered-reads
+use Rattle.forming.proofs.insert_match.Reads as insert-match-reads
 use Rattle.forming.proofs.open_frame.Reads as open-frame-reads
 use Rattle.forming.proofs.taking.take_leaves.Reads as take-leaves-reads
 
@@ -18,12 +18,12 @@ returns : tie.Need-returns
 returns c = record { right = λ t d. no-match _ _ _ _ _ _ _ _ _ _ _ _ _ t d _ _ (c .before .before .take-leaves .ensures) (not-true _ (c .if1 .taken)); less = none-less _ _ _ _ }
 
 -- src/lib.rt:150:9
-entered-requires : tie.Need-entered-requires
-entered-requires c κs = enter-asked _ _ _ _ _ _ _ _ _ _ _ _ _ _ (c .before .before .before .before .before .before .before .before .before .before .pre .1) _ _ (c .before .before .before .before .before .before .take-leaves .ensures) (not-false _ (c .before .before .before .before .if1 .left)) (c .before .before .before .if2 .taken)
+insert-match-requires : tie.Need-insert-match-requires
+insert-match-requires c κs = enter-asked _ _ _ _ _ _ _ _ _ _ _ _ _ _ (c .before .before .before .before .before .before .before .before .before .before .pre .1) _ _ (c .before .before .before .before .before .before .take-leaves .ensures) (not-false _ (c .before .before .before .before .if1 .left)) (c .before .before .before .if2 .taken)
 
 -- src/lib.rt:150:9
 returns-2 : tie.Need-returns-2
-returns-2 c = record { right = λ t d. match-told _ _ _ _ _ _ _ _ _ _ _ _ _ t d _ _ (c .before .before .before .before .before .before .before .take-leaves .ensures) (not-false _ (c .before .before .before .before .before .if1 .left)) (c .before .before .before .before .if2 .taken) _ _ _ (c .entered .ensures); less = match-less _ _ _ _ _ _ _ _ _ (c .entered .ensures) _ _ _ }
+returns-2 c = record { right = λ t d. match-told _ _ _ _ _ _ _ _ _ _ _ _ _ t d _ _ (c .before .before .before .before .before .before .before .take-leaves .ensures) (not-false _ (c .before .before .before .before .before .if1 .left)) (c .before .before .before .before .if2 .taken) _ _ _ (c .insert-match .ensures); less = match-less _ _ _ _ _ _ _ _ _ (c .insert-match .ensures) _ _ _ }
 
 -- src/lib.rt:152:9
 open-frame-requires : tie.Need-open-frame-requires
@@ -39,7 +39,7 @@ down-spec =
     (tie.spec
     take-leaves-requires
     returns
-    entered-requires
+    insert-match-requires
     returns-2
     open-frame-requires
     returns-3)

@@ -1,4 +1,4 @@
-use mathlib.Core.Path.{sym}
+use mathlib.Core.Path.{sym, ap, _∙_}
 use mathlib.Core.Logic.{⊎-elim}
 use native.Mathlib.Omega.{arith}
 use Rattle.forming.proofs.Stacking.{depth-few, met-as, no-ways, ways-few, first-asked, frame-fits, frame-opened}
@@ -6,6 +6,7 @@ use Rattle.forming.proofs.Solving.{part-of}
 use Rattle.forming.proofs.Ranking.{opened-less, not-opened-less}
 use Rattle.forming.proofs.Coding.{code-readable, code-small}
 use borrow.Author.Needs.{needs}
+use Rattle.tables.specs.Record.{isComposed}
 use Rattle.forming.proofs.open_frame.Statement.{statement}
 use Rattle.forming.proofs.open_frame.Tie as tie
 use Rattle.forming.proofs.open_frame.Reads as reads
@@ -71,7 +72,7 @@ unpack-requires c κs = search needs
 
 -- src/lib.rt:100:9
 meet-requires : tie.Need-meet-requires
-meet-requires c κs = (omega (arith, c .before .before .kind .ensures .0, c .before .before .before .regrouped .ensures .code .composed), omega (arith, c .before .before .kind .ensures .1), c .before .part-count .ensures .1, part-of _ _ _ (c .before .before .before .before .before .before .before .before .pre .waiting .value) (c .unpack .ensures) (c .before .before .before .before .before .before .before .before .pre .waiting .here))
+meet-requires c κs = (ap isComposed (c .before .before .kind .ensures .0) ∙ c .before .before .before .regrouped .ensures .code .composed, c .before .part-count .ensures .1, part-of _ _ _ (c .before .before .before .before .before .before .before .before .pre .waiting .value) (c .unpack .ensures) (c .before .before .before .before .before .before .before .before .pre .waiting .here))
 
 -- src/lib.rt:101:26
 enum-known-m : tie.Need-enum-known-m

@@ -8,7 +8,7 @@ use Rattle.forming.proofs.push.Reads as reads
 use Rattle.forming.proofs.push.Lts as lts
 use Rattle.forming.proofs.groups.part_code.Reads as part-code-reads
 use Rattle.matching.proofs.nodes.piece.Reads as piece-reads
-use Rattle.parts.proofs.words.pack.Reads as pack-reads
+use Rattle.parts.proofs.words.word_of.Reads as word-of-reads
 use Rattle.parts.proofs.words.unpack.Reads as unpack-reads
 use Rattle.tables.proofs.reading.kind.Reads as kind-reads
 use Rattle.forming.proofs.groups.part_count.Reads as part-count-reads
@@ -48,8 +48,8 @@ part-code-requires : tie.Need-part-code-requires Inv-loop μ-loop
 part-code-requires c κs = part-asked _ _ _ _ _ _ _ _ _ _ (c .before .before .before .before .before .before .before .before .pre) _ (omega (arith, c .before .before .loop .inv .within))
 
 -- src/lib.rt:59:13
-pack-requires : tie.Need-pack-requires Inv-loop μ-loop
-pack-requires c κs = (c .before .before .before .before .before .before .before .before .before .pre .short, piece-held _ _ _ _ _ _ _ _ _ _ (c .before .before .before .before .before .before .before .before .before .pre) _ _ _ (omega (arith, c .before .before .before .loop .inv .within)) (c .before .before .before .before .before .before .kind .ensures .0) (c .before .before .before .before .before .part-count .ensures .0) _ (c .before .before .before .before .unpack .ensures) _ (c .before .piece .ensures))
+word-of-requires : tie.Need-word-of-requires Inv-loop μ-loop
+word-of-requires c κs = (c .before .before .before .before .before .before .before .before .before .pre .short, piece-held _ _ _ _ _ _ _ _ _ _ (c .before .before .before .before .before .before .before .before .before .pre) _ _ _ (omega (arith, c .before .before .before .loop .inv .within)) (c .before .before .before .before .before .before .kind .ensures .0) (c .before .before .before .before .before .part-count .ensures .0) _ (c .before .before .before .before .unpack .ensures) _ (c .before .piece .ensures))
 
 -- src/lib.rt:60:26
 cast-agenda : tie.Need-cast-agenda Inv-loop μ-loop
@@ -113,7 +113,7 @@ loop-less c = omega arith
 
 -- src/lib.rt:55:5
 loop-again : tie.Need-loop-again Inv-loop μ-loop
-loop-again c = push-more _ _ _ _ _ _ _ _ _ _ (c .before .before .before .before .before .before .before .before .before .before .pre) _ _ _ (omega (arith, c .before .before .before .before .loop .inv .within)) (c .before .before .before .before .before .before .before .kind .ensures .0) (c .before .before .before .before .before .before .part-count .ensures .0) _ (c .before .before .before .before .before .unpack .ensures) _ (c .before .before .piece .ensures) _ (c .before .part-code .ensures) _ (c .pack .ensures) _ _ _ _ (omega arith) (c .before .before .before .before .loop .inv)
+loop-again c = push-more _ _ _ _ _ _ _ _ _ _ (c .before .before .before .before .before .before .before .before .before .before .pre) _ _ _ (omega (arith, c .before .before .before .before .loop .inv .within)) (c .before .before .before .before .before .before .before .kind .ensures .0) (c .before .before .before .before .before .before .part-count .ensures .0) _ (c .before .before .before .before .before .unpack .ensures) _ (c .before .before .piece .ensures) _ (c .before .part-code .ensures) _ (c .word-of .ensures) _ _ _ _ (omega arith) (c .before .before .before .before .loop .inv)
 
 -- src/lib.rt:33:1
 returns : tie.Need-returns Inv-loop μ-loop
@@ -132,7 +132,7 @@ push-spec =
     sub-i
     piece-requires
     part-code-requires
-    pack-requires
+    word-of-requires
     cast-agenda
     mul-agenda
     mul-agenda-2

@@ -8,7 +8,7 @@ use Rattle.forming.proofs.split_word.Statement.{statement}
 use Rattle.forming.proofs.split_word.Tie as tie
 use Rattle.forming.proofs.split_word.Reads as reads
 use Rattle.forming.proofs.split_word.Lts as lts
-use Rattle.parts.proofs.words.pack.Reads as pack-reads
+use Rattle.parts.proofs.words.word_of.Reads as word-of-reads
 use Rattle.parts.proofs.words.unpack.Reads as unpack-reads
 
 -- src/lib.rt:87:9
@@ -32,13 +32,13 @@ cast-t9 : tie.Need-cast-t9
 cast-t9 c = search needs
 
 -- src/lib.rt:98:5
-pack-requires : tie.Need-pack-requires
-pack-requires c κs = (c .before .before .before .before .before .pre .short, (is (c .before .before .before .before .before .pre .value), inr (c .before .before .before .before .before .pre .value, refl, all-members _ _ _ _ (c .before .before .before .before .before .pre) (omega arith) _ (c .before .before .unpack .ensures) (omega arith) _ refl)))
+word-of-requires : tie.Need-word-of-requires
+word-of-requires c κs = (c .before .before .before .before .before .pre .short, (is (c .before .before .before .before .before .pre .value), inr (c .before .before .before .before .before .pre .value, refl, all-members _ _ _ _ (c .before .before .before .before .before .pre) (omega arith) _ (c .before .before .unpack .ensures) (omega arith) _ refl)))
 
 -- src/lib.rt:82:1
 returns-3 : tie.Need-returns-3
-returns-3 c = packed-same _ _ _ _ (c .before .before .before .before .before .before .pre) _ (all-members _ _ _ _ (c .before .before .before .before .before .before .pre) (omega arith) _ (c .before .before .before .unpack .ensures) (omega arith) _ refl) _ (c .pack .ensures)
+returns-3 c = packed-same _ _ _ _ (c .before .before .before .before .before .before .pre) _ (all-members _ _ _ _ (c .before .before .before .before .before .before .pre) (omega arith) _ (c .before .before .before .unpack .ensures) (omega arith) _ refl) _ (c .word-of .ensures)
 
 pub split-word-spec : {M : Type 1} → statement M
 split-word-spec =
-    tie.close (tie.spec returns unpack-requires returns-2 sub-t8 cast-t9 pack-requires returns-3)
+    tie.close (tie.spec returns unpack-requires returns-2 sub-t8 cast-t9 word-of-requires returns-3)

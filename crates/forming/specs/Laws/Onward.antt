@@ -2,13 +2,13 @@
 use mathlib.Core.Path.{_≡_, sym, ap, subst, _∙_}
 use mathlib.Core.Bool.{true}
 use mathlib.Core.List.{List, [], _∷_, _++_, map}
-use Prim.Native.Nat.{ℕ, zero, suc, _+_, _-_, _≤_}
+use Prim.Native.Nat.{ℕ}
 use native.Mathlib.Omega.{arith}
 use lib.ListN.{length, getD}
 use Rattle.prelude.specs.Membership.{In}
 use Rattle.prelude.proofs.Membership.{in-one}
-use Rattle.values.specs.Value.{Kind, set, sequence, tuple, Value}
-use Rattle.tables.specs.Record.{Record}
+use Rattle.values.specs.Value.{Kind, Value}
+use Rattle.tables.specs.Record.{Record, isComposed}
 use Rattle.patterns.specs.Ways.{gather}
 use Rattle.patterns.specs.Members.{Alike}
 use Rattle.patterns.specs.Binding.{Binding, nothing, withEach, together}
@@ -16,8 +16,8 @@ use Rattle.patterns.specs.Pattern.{Pattern, any, each, halved, contents, met, s
 use Rattle.patterns.specs.Laws.Matched.{in-together, together-in}
 use Rattle.patterns.specs.Laws.Together.{gather-cong, gather-map, with-gather, together-with, together-gather, together-assoc, Fine, all-fine, nothing-fine, matches-fine, with-nothing, nothing-together, with-only, together-nothing, one-together}
 use Rattle.patterns.specs.Read.{patternsOf, patternOf}
-use Rattle.patterns.specs.Nodes.{isHalved, meetings, bothHalves}
-use Rattle.patterns.specs.Laws.Nodes.{parts-length, two-of}
+use Rattle.patterns.specs.Nodes.{collectionOf, isHalved, meetings, bothHalves}
+use Rattle.patterns.specs.Laws.Nodes.{parts-length, two-of, on-composed}
 use Rattle.forming.specs.Onward.{Task, task, matchesAll, onward, zipped, oneWay}
 
 nothing-all : (ts : List Task) → together (nothing ∷ []) (matchesAll ts) ≡ matchesAll ts
@@ -93,17 +93,11 @@ halved-ways k p q v ts b =
     ∙ sym (gather-map (bothHalves k) (split k (contents k v)) (oneWay (p ∷ q ∷ []) ts b))
 
 -- THEOREM: a pattern with parts goes on in all its ways, one after the other
-pub onward-ways : (r : Record) (ps : List Pattern) → 36 ≤ r .kind → r .kind ≤ 40 → (isHalved (r .kind) ≡ true → length ps ≡ 2) → (v : Value) (ts : List Task) (b : Binding)
+pub onward-ways : (r : Record) (ps : List Pattern) → isComposed (r .kind) ≡ true → (isHalved (r .kind) ≡ true → length ps ≡ 2) → (v : Value) (ts : List Task) (b : Binding)
     → onward (task (patternOf r ps) v ∷ ts) b ≡ gather (meetings (r .kind) (length ps) v) (oneWay ps ts b)
-onward-ways r ps low high two v ts b = cases (r .kind - 36) (omega arith) (omega arith)
+onward-ways r ps c two v ts b =
+    on-composed r ps (λ q. onward (task q v ∷ ts) b ≡ gather (meetings (r .kind) (length ps) v) (oneWay ps ts b)) c
+    (λ h. rw h (each-ways (collectionOf (r .kind)) ps v ts b)) (λ h. rw h (half (collectionOf (r .kind)) (two h)))
   where
     half : (k : Kind) → length ps ≡ 2 → onward (task (halved k (getD ps 0 any) (getD ps 1 any)) v ∷ ts) b ≡ gather (map (bothHalves k) (split k (contents k v))) (oneWay ps ts b)
     half k e = halved-ways k (getD ps 0 any) (getD ps 1 any) v ts b ∙ ap (λ (qs : List Pattern). gather (map (bothHalves k) (split k (contents k v))) (oneWay qs ts b)) (two-of ps e)
-
-    cases : (d : ℕ) → r .kind ≡ 36 + d → d ≤ 4 → onward (task (patternOf r ps) v ∷ ts) b ≡ gather (meetings (r .kind) (length ps) v) (oneWay ps ts b)
-    cases zero f l = rw f (each-ways tuple ps v ts b)
-    cases (suc zero) f l = rw f (each-ways set ps v ts b)
-    cases (suc (suc zero)) f l = rw f (half set (two (rw f)))
-    cases (suc (suc (suc zero))) f l = rw f (each-ways sequence ps v ts b)
-    cases (suc (suc (suc (suc zero)))) f l = rw f (half sequence (two (rw f)))
-    cases (suc (suc (suc (suc (suc d))))) f l = absurd (omega arith)

@@ -7,7 +7,7 @@ use Rattle.prelude.specs.Membership.{In}
 use Rattle.patterns.specs.Ways.{gather}
 
 module _ {A B : Type 0} where
-  -- It is among what f gives for one of them.
+  -- What is gathered is among what f gives for one of the list.
   pub in-gather : (z : B) (xs : List A) (f : A → List B) → In z (gather xs f) → (x : A) × In x xs × In z (f x)
   unfolding gather
   in-gather z [] f h = absurd h

@@ -23,7 +23,7 @@ use Rattle.patterns.specs.Binder.{mostBindings, bound, refused, few, bin
 use Rattle.patterns.specs.Laws.Matched.{contents-of, of-contents}
 use Rattle.patterns.specs.Wide.{Wide, WideAmong, WideInTurn}
 
--- It is so for one of them.
+-- Where a test holds of some member of a list, it holds of one that can be named.
 exists-out : {A : Type 0} (xs : List A) (f : A → Bool) → exists xs f ≡ true → (x : A) × In x xs × (f x ≡ true)
 unfolding exists
 exists-out [] f e = impossible cc
@@ -58,7 +58,7 @@ record Placed (vs : List Value) (v : Value) (i : ℕ) : Type 0 where
   long : i < length order
   there : getD order i (boolean false) ≡ v
 
--- One more unit, at the place i.
+-- A list with one more value has it at the place i.
 inserted-at : (x : Value) (vs : List Value) (i : ℕ) → i ≤ length vs → (zs : List Value) × Inserted x vs zs × (i < length zs) × (getD zs i (boolean false) ≡ x)
 inserted-at x vs zero l = (x ∷ vs, ([], vs, refl, refl), omega arith, refl)
 inserted-at x [] (suc i) l = absurd (omega arith)

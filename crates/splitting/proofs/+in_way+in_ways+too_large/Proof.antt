@@ -1,8 +1,10 @@
 use Prim.Native.Nat.{_*_, _+_, _-_, _≤_, ℕ, _<_}
 use native.Mathlib.Omega.{arith}
-use Rattle.tables.specs.Table.{kindAt}
-use Rattle.tables.specs.Accepted.{records}
 use borrow.Author.Needs.{needs}
+use borrow.Author.Tests.{not-true, not-false}
+use mathlib.Core.Path.{sym, ap, _∙_}
+use Rattle.tables.specs.Record.{isComposed}
+use Rattle.tables.specs.Laws.Kinds.{composed-told}
 use Rattle.matching.proofs.Records.{count-few, has-operand, operand-readable, recast-meets}
 use Rattle.splitting.proofs.Telling.{PartsLeft, WaysLeft, wide-leaf, wide-unfit, wide-large, ways-held, wide-ways, ways-shallow, ways-start, ways-none, way-held, ways-found, ways-next, parts-start, parts-none, piece-asked, piece-held, parts-found, parts-next}
 use borrow.Fn.Kinds.{In}
@@ -20,6 +22,7 @@ use Rattle.matching.proofs.nodes.meet.Reads as meet-reads
 use Rattle.matching.proofs.nodes.piece.Reads as piece-reads
 use Rattle.splitting.proofs.is_shallow.Reads as is-shallow-reads
 use Rattle.tables.proofs.reading.kind.Reads as kind-reads
+use Rattle.tables.proofs.shape.is_composed.Reads as is-composed-reads
 use Rattle.tables.proofs.reading.operand.Reads as operand-reads
 use Rattle.tables.proofs.reading.operand_count.Reads as operand-count-reads
 use Rattle.splitting.proofs.+in_way+in_ways+too_large.{statement}
@@ -66,7 +69,7 @@ abbrev in-ways-calls : ℕ → in-ways-lts.Claims
 in-ways-calls t = (is-shallow-reads.Asked, is-shallow-reads.Learnt, in-way-below t, in-way.Post)
 
 abbrev too-large-calls : ℕ → too-large-lts.Claims
-too-large-calls t = (kind-reads.Asked, kind-reads.Learnt, operand-count-reads.Asked, operand-count-reads.Learnt, meet-reads.Asked, meet-reads.Learnt, in-ways-below t, in-ways.Post)
+too-large-calls t = (kind-reads.Asked, kind-reads.Learnt, is-composed-reads.Asked, is-composed-reads.Learnt, operand-count-reads.Asked, operand-count-reads.Learnt, meet-reads.Asked, meet-reads.Learnt, in-ways-below t, in-ways.Post)
 
 -- src/lib.rt:100:9
 in-way-kind-requires : (t : ℕ) → in-way-lts.Need-kind-requires (in-way-calls t) (in-way-at t) in-way.Post in-way-Inv-loop in-way-μ-loop
@@ -90,7 +93,7 @@ in-way-operand-requires t c κs = has-operand _ _ _ (c .before .before .before .
 
 -- src/lib.rt:106:13
 in-way-too-large-requires : (t : ℕ) → in-way-lts.Need-too-large-requires (in-way-calls t) (in-way-at t) in-way.Post in-way-Inv-loop in-way-μ-loop
-in-way-too-large-requires t c κs = let o = operand-readable _ _ _ (c .before .before .before .before .before .before .before .before .pre .1 .0) _ (omega (arith, c .before .before .before .before .operand-count .ensures .0)) (c .before .before .before .before .before .before .before .before .pre .1 .1 .composed) _ (c .operand .ensures .0) in (omega (arith, o .1), (o .0, piece-held _ _ _ (c .before .before .before .before .before .before .before .before .pre .1 .0) _ _ _ (c .before .before .before .before .before .before .before .before .pre .1 .1) _ (c .before .before .before .loop .inv) (omega (arith, c .before .before .before .before .operand-count .ensures .0)) _ _ (c .before .before .before .before .before .kind .ensures .0) (c .before .before .before .before .operand-count .ensures .0) _ (c .before .piece .ensures), c .before .before .before .before .before .before .before .before .pre .1 .1 .short))
+in-way-too-large-requires t c κs = let o = operand-readable _ _ _ (c .before .before .before .before .before .before .before .before .pre .1 .0) _ (omega (arith, c .before .before .before .before .operand-count .ensures .0)) _ (c .operand .ensures .0) in (omega (arith, o .1), (o .0, piece-held _ _ _ (c .before .before .before .before .before .before .before .before .pre .1 .0) _ _ _ (c .before .before .before .before .before .before .before .before .pre .1 .1) _ (c .before .before .before .loop .inv) (omega (arith, c .before .before .before .before .operand-count .ensures .0)) _ _ (c .before .before .before .before .before .kind .ensures .0) (c .before .before .before .before .operand-count .ensures .0) _ (c .before .piece .ensures), c .before .before .before .before .before .before .before .before .pre .1 .1 .short))
 
 -- src/lib.rt:108:13
 in-way-returns : (t : ℕ) → in-way-lts.Need-returns (in-way-calls t) (in-way-at t) in-way.Post in-way-Inv-loop in-way-μ-loop
@@ -159,16 +162,19 @@ too-large-kind-requires : (t : ℕ) → too-large-lts.Need-kind-requires (too-la
 too-large-kind-requires t c κs = c .before .before .pre .1 .0 .here
 
 -- src/lib.rt:64:9
+too-large-is-composed-requires : (t : ℕ) → too-large-lts.Need-is-composed-requires (too-large-calls t) (too-large-at t) too-large.Post
+too-large-is-composed-requires t c κs = c .kind .ensures .1
+
 too-large-returns : (t : ℕ) → too-large-lts.Need-returns (too-large-calls t) (too-large-at t) too-large.Post
-too-large-returns t c = wide-leaf _ _ _ (c .before .before .before .before .pre .1 .0) _ _ (omega (arith, c .before .kind .ensures .0))
+too-large-returns t c = wide-leaf _ _ _ (c .before .before .before .before .before .pre .1 .0) _ _ (composed-told (c .before .before .kind .ensures .0) (c .before .is-composed .ensures) (not-true _ (c .if1 .taken)))
 
 -- src/lib.rt:66:9
 too-large-operand-count-requires : (t : ℕ) → too-large-lts.Need-operand-count-requires (too-large-calls t) (too-large-at t) too-large.Post
-too-large-operand-count-requires t c κs = c .before .before .before .before .pre .1 .0 .here
+too-large-operand-count-requires t c κs = c .before .before .before .before .before .pre .1 .0 .here
 
 -- src/lib.rt:67:9
 too-large-meet-requires : (t : ℕ) → too-large-lts.Need-meet-requires (too-large-calls t) (too-large-at t) too-large.Post
-too-large-meet-requires t c κs = let low : 36 ≤ kindAt (records (c .before .before .before .before .before .args .table .now)) (c .before .before .before .before .before .args .p) = omega (arith, c .before .before .kind .ensures .0) in (omega arith, c .before .before .kind .ensures .1, omega (arith, c .operand-count .ensures .0, count-few _ _ _ (c .before .before .before .before .before .pre .1 .0) low), c .before .before .before .before .before .pre .1 .1)
+too-large-meet-requires t c κs = let composed = (composed-told (c .before .before .before .kind .ensures .0) (c .before .before .is-composed .ensures) (not-false _ (c .before .if1 .left))) in (ap isComposed (c .before .before .before .kind .ensures .0) ∙ composed, omega (arith, c .operand-count .ensures .0, count-few _ _ _ (c .before .before .before .before .before .before .pre .1 .0) composed), c .before .before .before .before .before .before .pre .1 .1)
 
 -- src/lib.rt:69:27
 too-large-enum-told : (t : ℕ) → too-large-lts.Need-enum-told (too-large-calls t) (too-large-at t) too-large.Post
@@ -184,19 +190,19 @@ too-large-enum-known-m t c = search needs
 
 -- src/lib.rt:71:29
 too-large-in-ways-requires : (t : ℕ) → too-large-lts.Need-in-ways-requires (too-large-calls t) (too-large-at t) too-large.Post
-too-large-in-ways-requires t c κs = (omega arith, (c .before .before .before .before .before .before .before .before .before .pre .1 .0, ways-held _ _ _ (c .before .before .before .before .before .before .before .before .before .pre .1 .0) _ _ (omega (arith, c .before .before .before .before .before .before .kind .ensures .0)) (c .before .before .before .meet .result) (recast-meets _ _ _ _ (c .before .before .before .meet .result) (c .before .before .before .before .before .before .kind .ensures .0) (c .before .before .before .before .operand-count .ensures .0) (c .before .before .before .meet .ensures)) _ (c .before .m .given .1) (c .before .before .before .before .before .before .before .before .before .pre .1 .1) (c .before .before .before .before .before .before .before .before .before .pre .1 .2)))
+too-large-in-ways-requires t c κs = (omega arith, (c .before .before .before .before .before .before .before .before .before .before .pre .1 .0, ways-held _ _ _ (c .before .before .before .before .before .before .before .before .before .before .pre .1 .0) _ _ (composed-told (c .before .before .before .before .before .before .before .kind .ensures .0) (c .before .before .before .before .before .before .is-composed .ensures) (not-false _ (c .before .before .before .before .before .if1 .left))) (c .before .before .before .meet .result) (recast-meets _ _ _ _ (c .before .before .before .meet .result) (c .before .before .before .before .before .before .before .kind .ensures .0) (c .before .before .before .before .operand-count .ensures .0) (c .before .before .before .meet .ensures)) _ (c .before .m .given .1) (c .before .before .before .before .before .before .before .before .before .before .pre .1 .1) (c .before .before .before .before .before .before .before .before .before .before .pre .1 .2)))
 
 -- src/lib.rt:58:1
 too-large-returns-2 : (t : ℕ) → too-large-lts.Need-returns-2 (too-large-calls t) (too-large-at t) too-large.Post
-too-large-returns-2 t c = wide-unfit _ _ _ (c .before .before .before .before .before .before .before .before .pre .1 .0) _ _ (omega (arith, c .before .before .before .before .before .kind .ensures .0)) (c .before .before .meet .result) (recast-meets _ _ _ _ (c .before .before .meet .result) (c .before .before .before .before .before .kind .ensures .0) (c .before .before .before .operand-count .ensures .0) (c .before .before .meet .ensures)) (c .enum-told .given .1)
+too-large-returns-2 t c = wide-unfit _ _ _ (c .before .before .before .before .before .before .before .before .before .pre .1 .0) _ _ (composed-told (c .before .before .before .before .before .before .kind .ensures .0) (c .before .before .before .before .before .is-composed .ensures) (not-false _ (c .before .before .before .before .if1 .left))) (c .before .before .meet .result) (recast-meets _ _ _ _ (c .before .before .meet .result) (c .before .before .before .before .before .before .kind .ensures .0) (c .before .before .before .operand-count .ensures .0) (c .before .before .meet .ensures)) (c .enum-told .given .1)
 
 -- src/lib.rt:58:1
 too-large-returns-3 : (t : ℕ) → too-large-lts.Need-returns-3 (too-large-calls t) (too-large-at t) too-large.Post
-too-large-returns-3 t c = wide-large _ _ _ (c .before .before .before .before .before .before .before .before .pre .1 .0) _ _ (omega (arith, c .before .before .before .before .before .kind .ensures .0)) (c .before .before .meet .result) (recast-meets _ _ _ _ (c .before .before .meet .result) (c .before .before .before .before .before .kind .ensures .0) (c .before .before .before .operand-count .ensures .0) (c .before .before .meet .ensures)) (c .enum-told2 .given .1)
+too-large-returns-3 t c = wide-large _ _ _ (c .before .before .before .before .before .before .before .before .before .pre .1 .0) _ _ (composed-told (c .before .before .before .before .before .before .kind .ensures .0) (c .before .before .before .before .before .is-composed .ensures) (not-false _ (c .before .before .before .before .if1 .left))) (c .before .before .meet .result) (recast-meets _ _ _ _ (c .before .before .meet .result) (c .before .before .before .before .before .before .kind .ensures .0) (c .before .before .before .operand-count .ensures .0) (c .before .before .meet .ensures)) (c .enum-told2 .given .1)
 
 -- src/lib.rt:58:1
 too-large-returns-4 : (t : ℕ) → too-large-lts.Need-returns-4 (too-large-calls t) (too-large-at t) too-large.Post
-too-large-returns-4 t c = wide-ways _ _ _ (c .before .before .before .before .before .before .before .before .before .before .pre .1 .0) _ _ (omega (arith, c .before .before .before .before .before .before .before .kind .ensures .0)) (c .before .before .before .before .meet .result) (recast-meets _ _ _ _ (c .before .before .before .before .meet .result) (c .before .before .before .before .before .before .before .kind .ensures .0) (c .before .before .before .before .before .operand-count .ensures .0) (c .before .before .before .before .meet .ensures)) _ (c .before .before .m .given .1) _ (c .in-ways .ensures)
+too-large-returns-4 t c = wide-ways _ _ _ (c .before .before .before .before .before .before .before .before .before .before .before .pre .1 .0) _ _ (composed-told (c .before .before .before .before .before .before .before .before .kind .ensures .0) (c .before .before .before .before .before .before .before .is-composed .ensures) (not-false _ (c .before .before .before .before .before .before .if1 .left))) (c .before .before .before .before .meet .result) (recast-meets _ _ _ _ (c .before .before .before .before .meet .result) (c .before .before .before .before .before .before .before .before .kind .ensures .0) (c .before .before .before .before .before .operand-count .ensures .0) (c .before .before .before .before .meet .ensures)) _ (c .before .before .m .given .1) _ (c .in-ways .ensures)
 
 pub +in-way+in-ways+too-large-spec : {M : Type 1} → statement M
 +in-way+in-ways+too-large-spec = close μ-in-way μ-in-ways μ-too-large (λ t. in-way-lts.spec (in-way-calls t)
@@ -233,6 +239,7 @@ pub +in-way+in-ways+too-large-spec : {M : Type 1} → statement M
     (too-large-at t)
     too-large.Post
     (too-large-kind-requires t)
+    (too-large-is-composed-requires t)
     (too-large-returns t)
     (too-large-operand-count-requires t)
     (too-large-meet-requires t)

@@ -46,7 +46,7 @@ is-shallow-operand-requires t c κs = has-operand _ _ _ (c .before .before .befo
 
 -- src/lib.rt:49:9
 is-shallow-is-shallow-requires : (t : ℕ) → is-shallow-lts.Need-is-shallow-requires (is-shallow-calls t) (is-shallow-at t) is-shallow.Post
-is-shallow-is-shallow-requires t c κs = let o = operand-readable _ _ _ (c .before .before .before .before .pre .1) 0 (omega (arith, union-two _ _ _ (c .before .before .before .before .pre .1) (omega (arith, c .before .before .kind .ensures .0)))) (omega (arith, c .before .before .kind .ensures .0)) _ (c .operand .ensures .0) in (omega (arith, o .1), o .0)
+is-shallow-is-shallow-requires t c κs = let o = operand-readable _ _ _ (c .before .before .before .before .pre .1) 0 (omega (arith, union-two _ _ _ (c .before .before .before .before .pre .1) (omega (arith, c .before .before .kind .ensures .0)))) _ (c .operand .ensures .0) in (omega (arith, o .1), o .0)
 
 -- src/lib.rt:51:9
 is-shallow-returns-2 : (t : ℕ) → is-shallow-lts.Need-returns-2 (is-shallow-calls t) (is-shallow-at t) is-shallow.Post
@@ -58,7 +58,7 @@ is-shallow-operand-requires-2 t c κs = has-operand _ _ _ (c .before .before .be
 
 -- src/lib.rt:54:5
 is-shallow-is-shallow-requires-2 : (t : ℕ) → is-shallow-lts.Need-is-shallow-requires-2 (is-shallow-calls t) (is-shallow-at t) is-shallow.Post
-is-shallow-is-shallow-requires-2 t c κs = let o = operand-readable _ _ _ (c .before .before .before .before .before .before .before .pre .1) 1 (omega (arith, union-two _ _ _ (c .before .before .before .before .before .before .before .pre .1) (omega (arith, c .before .before .before .before .before .kind .ensures .0)))) (omega (arith, c .before .before .before .before .before .kind .ensures .0)) _ (c .operand2 .ensures .0) in (omega (arith, o .1), o .0)
+is-shallow-is-shallow-requires-2 t c κs = let o = operand-readable _ _ _ (c .before .before .before .before .before .before .before .pre .1) 1 (omega (arith, union-two _ _ _ (c .before .before .before .before .before .before .before .pre .1) (omega (arith, c .before .before .before .before .before .kind .ensures .0)))) _ (c .operand2 .ensures .0) in (omega (arith, o .1), o .0)
 
 -- src/lib.rt:39:1
 is-shallow-returns-3 : (t : ℕ) → is-shallow-lts.Need-returns-3 (is-shallow-calls t) (is-shallow-at t) is-shallow.Post

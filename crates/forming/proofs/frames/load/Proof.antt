@@ -5,19 +5,19 @@ use Rattle.forming.proofs.frames.load.Tie as tie
 use Rattle.forming.proofs.frames.load.Reads as reads
 use Rattle.forming.proofs.frames.load.Lts as lts
 use Rattle.forming.proofs.frames.slot.Reads as slot-reads
-use Rattle.forming.proofs.frames.unpack.Reads as unpack-reads
+use Rattle.forming.proofs.frames.frame_of.Reads as frame-of-reads
 
 -- src/frames.rt:82:9
 slot-requires : tie.Need-slot-requires
 slot-requires c κs = c .pre
 
 -- src/frames.rt:83:5
-unpack-requires : tie.Need-unpack-requires
-unpack-requires c κs = tt
+frame-of-requires : tie.Need-frame-of-requires
+frame-of-requires c κs = tt
 
 -- src/frames.rt:78:1
 returns : tie.Need-returns
-returns c = c .unpack .ensures ∙ ap frameOf (c .before .slot .ensures)
+returns c = c .frame-of .ensures ∙ ap frameOf (c .before .slot .ensures)
 
 pub load-spec : {M : Type 1} → statement M
-load-spec = tie.close (tie.spec slot-requires unpack-requires returns)
+load-spec = tie.close (tie.spec slot-requires frame-of-requires returns)

@@ -1,4 +1,7 @@
 use native.Mathlib.Omega.{arith}
+use borrow.Author.Tests.{not-true, not-false}
+use Rattle.tables.specs.Laws.Kinds.{composed-told}
+use Rattle.tables.proofs.shape.is_composed.Reads as is-composed-reads
 use Rattle.forming.proofs.Coding.{parts-group, parts-wild, parts-stripped, parts-leaf, parts-count, code-record}
 use Rattle.forming.proofs.groups.has_parts.Statement.{statement}
 use Rattle.forming.proofs.groups.has_parts.Tie as tie
@@ -24,18 +27,21 @@ kind-requires : tie.Need-kind-requires
 kind-requires c κs = code-record _ _ _ (c .before .before .before .before .pre) (omega arith) .here
 
 -- src/groups.rt:162:9
+is-composed-requires : tie.Need-is-composed-requires
+is-composed-requires c κs = c .kind .ensures .1
+
 returns-4 : tie.Need-returns-4
-returns-4 c = parts-leaf _ _ _ (c .before .before .before .before .before .before .pre) (omega arith) (omega (arith, c .before .kind .ensures .0))
+returns-4 c = parts-leaf _ _ _ (c .before .before .before .before .before .before .before .pre) (omega arith) (composed-told (c .before .before .kind .ensures .0) (c .before .is-composed .ensures) (not-true _ (c .if4 .taken)))
 
 -- src/groups.rt:164:9
 count-only-requires : tie.Need-count-only-requires
-count-only-requires c κs = code-record _ _ _ (c .before .before .before .before .before .before .pre) (omega arith)
+count-only-requires c κs = code-record _ _ _ (c .before .before .before .before .before .before .before .pre) (omega arith)
 
 -- src/groups.rt:147:1
 returns-5 : tie.Need-returns-5
-returns-5 c = parts-count _ _ _ (c .before .before .before .before .before .before .before .before .pre) (omega arith) (omega (arith, c .before .before .before .kind .ensures .0)) _ (c .before .count-only .ensures)
+returns-5 c = parts-count _ _ _ (c .before .before .before .before .before .before .before .before .before .pre) (omega arith) (composed-told (c .before .before .before .before .kind .ensures .0) (c .before .before .before .is-composed .ensures) (not-false _ (c .before .before .if4 .left))) _ (c .before .count-only .ensures)
 
 pub has-parts-spec : {M : Type 1} → statement M
 has-parts-spec =
     tie.close
-    (tie.spec returns returns-2 returns-3 kind-requires returns-4 count-only-requires returns-5)
+    (tie.spec returns returns-2 returns-3 kind-requires is-composed-requires returns-4 count-only-requires returns-5)

@@ -21,7 +21,7 @@ operand-requires c κs = has-operand _ _ _ (c .before .pre .0) 0 (omega (arith, 
 
 -- src/groups.rt:55:9
 kind-requires : tie.Need-kind-requires
-kind-requires c κs = operand-readable _ _ _ (c .before .before .pre .0) 0 (omega (arith, (two-halves _ _ _ (c .before .before .pre .0) 38 (c .before .before .pre .1) (inl refl)))) (omega (arith, c .before .before .pre .1)) _ (c .operand .ensures .0) .0 .here
+kind-requires c κs = operand-readable _ _ _ (c .before .before .pre .0) 0 (omega (arith, (two-halves _ _ _ (c .before .before .pre .0) 38 (c .before .before .pre .1) (inl refl)))) _ (c .operand .ensures .0) .0 .here
 
 -- src/groups.rt:56:9
 operand-requires-2 : tie.Need-operand-requires-2
@@ -29,7 +29,7 @@ operand-requires-2 c κs = has-operand _ _ _ (c .before .before .before .pre .0)
 
 -- src/groups.rt:57:9
 kind-requires-2 : tie.Need-kind-requires-2
-kind-requires-2 c κs = operand-readable _ _ _ (c .before .before .before .before .pre .0) 1 (omega (arith, (two-halves _ _ _ (c .before .before .before .before .pre .0) 38 (c .before .before .before .before .pre .1) (inl refl)))) (omega (arith, c .before .before .before .before .pre .1)) _ (c .operand2 .ensures .0) .0 .here
+kind-requires-2 c κs = operand-readable _ _ _ (c .before .before .before .before .pre .0) 1 (omega (arith, (two-halves _ _ _ (c .before .before .before .before .pre .0) 38 (c .before .before .before .before .pre .1) (inl refl)))) _ (c .operand2 .ensures .0) .0 .here
 
 -- src/groups.rt:58:23
 is-set-requires : tie.Need-is-set-requires

@@ -1,5 +1,7 @@
 use Prim.Native.Nat.{_-_}
 use native.Mathlib.Omega.{arith}
+use Rattle.tables.specs.Laws.Kinds.{composed-told}
+use Rattle.tables.proofs.shape.is_composed.Reads as is-composed-reads
 use borrow.Author.Tests.{not-true, not-false}
 use Rattle.matching.proofs.Records.{has-operand, operand-readable}
 use Rattle.forming.proofs.Lowering.{positive, LowTo, low-start, none-low, leaf-low, some-high, low-more, all-low}
@@ -34,6 +36,8 @@ is-low-μ-loop table index p most k n i₀ i = n - i
 is-low-returns : (t : ℕ) → is-low-lts.Need-returns (
   kind-reads.Asked,
   kind-reads.Learnt,
+  is-composed-reads.Asked,
+  is-composed-reads.Learnt,
   operand-count-reads.Asked,
   operand-count-reads.Learnt,
   operand-reads.Asked,
@@ -47,6 +51,8 @@ is-low-returns t c = none-low _ _ _ (c .before .before .pre .1) _ (c .if1 .taken
 is-low-kind-requires : (t : ℕ) → is-low-lts.Need-kind-requires (
   kind-reads.Asked,
   kind-reads.Learnt,
+  is-composed-reads.Asked,
+  is-composed-reads.Learnt,
   operand-count-reads.Asked,
   operand-count-reads.Learnt,
   operand-reads.Asked,
@@ -57,9 +63,11 @@ is-low-kind-requires : (t : ℕ) → is-low-lts.Need-kind-requires (
 is-low-kind-requires t c κs = c .before .before .pre .1 .here
 
 -- src/heights.rt:23:9
-is-low-returns-2 : (t : ℕ) → is-low-lts.Need-returns-2 (
+is-low-is-composed-requires : (t : ℕ) → is-low-lts.Need-is-composed-requires (
   kind-reads.Asked,
   kind-reads.Learnt,
+  is-composed-reads.Asked,
+  is-composed-reads.Learnt,
   operand-count-reads.Asked,
   operand-count-reads.Learnt,
   operand-reads.Asked,
@@ -67,12 +75,28 @@ is-low-returns-2 : (t : ℕ) → is-low-lts.Need-returns-2 (
   is-low-below t,
   is-low.Post,
 ) (is-low-at t) is-low.Post is-low-Inv-loop is-low-μ-loop
-is-low-returns-2 t c = leaf-low _ _ _ (c .before .before .before .before .pre .1) _ (c .before .before .if1 .left) (omega (arith, c .before .kind .ensures .0))
+is-low-is-composed-requires t c κs = c .kind .ensures .1
+
+is-low-returns-2 : (t : ℕ) → is-low-lts.Need-returns-2 (
+  kind-reads.Asked,
+  kind-reads.Learnt,
+  is-composed-reads.Asked,
+  is-composed-reads.Learnt,
+  operand-count-reads.Asked,
+  operand-count-reads.Learnt,
+  operand-reads.Asked,
+  operand-reads.Learnt,
+  is-low-below t,
+  is-low.Post,
+) (is-low-at t) is-low.Post is-low-Inv-loop is-low-μ-loop
+is-low-returns-2 t c = leaf-low _ _ _ (c .before .before .before .before .before .pre .1) _ (c .before .before .before .if1 .left) (composed-told (c .before .before .kind .ensures .0) (c .before .is-composed .ensures) (not-true _ (c .if2 .taken)))
 
 -- src/heights.rt:25:9
 is-low-operand-count-requires : (t : ℕ) → is-low-lts.Need-operand-count-requires (
   kind-reads.Asked,
   kind-reads.Learnt,
+  is-composed-reads.Asked,
+  is-composed-reads.Learnt,
   operand-count-reads.Asked,
   operand-count-reads.Learnt,
   operand-reads.Asked,
@@ -80,12 +104,14 @@ is-low-operand-count-requires : (t : ℕ) → is-low-lts.Need-operand-count-requ
   is-low-below t,
   is-low.Post,
 ) (is-low-at t) is-low.Post is-low-Inv-loop is-low-μ-loop
-is-low-operand-count-requires t c κs = c .before .before .before .before .pre .1 .here
+is-low-operand-count-requires t c κs = c .before .before .before .before .before .pre .1 .here
 
 -- src/heights.rt:27:5
 is-low-loop-holds : (t : ℕ) → is-low-lts.Need-loop-holds (
   kind-reads.Asked,
   kind-reads.Learnt,
+  is-composed-reads.Asked,
+  is-composed-reads.Learnt,
   operand-count-reads.Asked,
   operand-count-reads.Learnt,
   operand-reads.Asked,
@@ -99,6 +125,8 @@ is-low-loop-holds t c = low-start _ _ _
 is-low-operand-requires : (t : ℕ) → is-low-lts.Need-operand-requires (
   kind-reads.Asked,
   kind-reads.Learnt,
+  is-composed-reads.Asked,
+  is-composed-reads.Learnt,
   operand-count-reads.Asked,
   operand-count-reads.Learnt,
   operand-reads.Asked,
@@ -106,12 +134,14 @@ is-low-operand-requires : (t : ℕ) → is-low-lts.Need-operand-requires (
   is-low-below t,
   is-low.Post,
 ) (is-low-at t) is-low.Post is-low-Inv-loop is-low-μ-loop
-is-low-operand-requires t c κs = has-operand _ _ _ (c .before .before .before .before .before .before .before .pre .1) _ (omega (arith, c .before .before .operand-count .ensures .0))
+is-low-operand-requires t c κs = has-operand _ _ _ (c .before .before .before .before .before .before .before .before .pre .1) _ (omega (arith, c .before .before .operand-count .ensures .0))
 
 -- src/heights.rt:29:43
 is-low-sub-is-low : (t : ℕ) → is-low-lts.Need-sub-is-low (
   kind-reads.Asked,
   kind-reads.Learnt,
+  is-composed-reads.Asked,
+  is-composed-reads.Learnt,
   operand-count-reads.Asked,
   operand-count-reads.Learnt,
   operand-reads.Asked,
@@ -119,12 +149,14 @@ is-low-sub-is-low : (t : ℕ) → is-low-lts.Need-sub-is-low (
   is-low-below t,
   is-low.Post,
 ) (is-low-at t) is-low.Post is-low-Inv-loop is-low-μ-loop
-is-low-sub-is-low t c = positive _ (c .before .before .before .before .before .before .if1 .left)
+is-low-sub-is-low t c = positive _ (c .before .before .before .before .before .before .before .if1 .left)
 
 -- src/heights.rt:29:13
 is-low-is-low-requires : (t : ℕ) → is-low-lts.Need-is-low-requires (
   kind-reads.Asked,
   kind-reads.Learnt,
+  is-composed-reads.Asked,
+  is-composed-reads.Learnt,
   operand-count-reads.Asked,
   operand-count-reads.Learnt,
   operand-reads.Asked,
@@ -132,12 +164,14 @@ is-low-is-low-requires : (t : ℕ) → is-low-lts.Need-is-low-requires (
   is-low-below t,
   is-low.Post,
 ) (is-low-at t) is-low.Post is-low-Inv-loop is-low-μ-loop
-is-low-is-low-requires t c κs = let o = operand-readable _ _ _ (c .before .before .before .before .before .before .before .before .pre .1) _ (omega (arith, c .before .before .before .operand-count .ensures .0)) (omega (arith, c .before .before .before .before .before .kind .ensures .0)) _ (c .operand .ensures .0) in (omega (arith, o .1, c .before .before .before .before .before .before .before .before .pre .0), o .0)
+is-low-is-low-requires t c κs = let o = operand-readable _ _ _ (c .before .before .before .before .before .before .before .before .before .pre .1) _ (omega (arith, c .before .before .before .operand-count .ensures .0)) _ (c .operand .ensures .0) in (omega (arith, o .1, c .before .before .before .before .before .before .before .before .before .pre .0), o .0)
 
 -- src/heights.rt:31:13
 is-low-returns-3 : (t : ℕ) → is-low-lts.Need-returns-3 (
   kind-reads.Asked,
   kind-reads.Learnt,
+  is-composed-reads.Asked,
+  is-composed-reads.Learnt,
   operand-count-reads.Asked,
   operand-count-reads.Learnt,
   operand-reads.Asked,
@@ -145,12 +179,14 @@ is-low-returns-3 : (t : ℕ) → is-low-lts.Need-returns-3 (
   is-low-below t,
   is-low.Post,
 ) (is-low-at t) is-low.Post is-low-Inv-loop is-low-μ-loop
-is-low-returns-3 t c = some-high _ _ _ (c .before .before .before .before .before .before .before .before .before .before .pre .1) _ _ _ (c .before .before .before .before .before .before .before .before .if1 .left) (omega (arith, c .before .before .before .before .before .operand-count .ensures .0)) (c .before .before .operand .ensures .0) _ (c .before .is-low .ensures) (not-true _ (c .if3 .taken))
+is-low-returns-3 t c = some-high _ _ _ (c .before .before .before .before .before .before .before .before .before .before .before .pre .1) _ _ _ (c .before .before .before .before .before .before .before .before .before .if1 .left) (omega (arith, c .before .before .before .before .before .operand-count .ensures .0)) (c .before .before .operand .ensures .0) _ (c .before .is-low .ensures) (not-true _ (c .if3 .taken))
 
 -- src/heights.rt:33:9
 is-low-add-i : (t : ℕ) → is-low-lts.Need-add-i (
   kind-reads.Asked,
   kind-reads.Learnt,
+  is-composed-reads.Asked,
+  is-composed-reads.Learnt,
   operand-count-reads.Asked,
   operand-count-reads.Learnt,
   operand-reads.Asked,
@@ -164,6 +200,8 @@ is-low-add-i t c = omega (arith, c .before .before .before .before .before .oper
 is-low-loop-less : (t : ℕ) → is-low-lts.Need-loop-less (
   kind-reads.Asked,
   kind-reads.Learnt,
+  is-composed-reads.Asked,
+  is-composed-reads.Learnt,
   operand-count-reads.Asked,
   operand-count-reads.Learnt,
   operand-reads.Asked,
@@ -177,6 +215,8 @@ is-low-loop-less t c = omega arith
 is-low-loop-again : (t : ℕ) → is-low-lts.Need-loop-again (
   kind-reads.Asked,
   kind-reads.Learnt,
+  is-composed-reads.Asked,
+  is-composed-reads.Learnt,
   operand-count-reads.Asked,
   operand-count-reads.Learnt,
   operand-reads.Asked,
@@ -184,12 +224,14 @@ is-low-loop-again : (t : ℕ) → is-low-lts.Need-loop-again (
   is-low-below t,
   is-low.Post,
 ) (is-low-at t) is-low.Post is-low-Inv-loop is-low-μ-loop
-is-low-loop-again t c = low-more _ _ _ (c .before .before .before .before .before .before .before .before .before .before .pre .1) _ _ _ (c .before .before .before .before .before .before .before .before .if1 .left) (omega (arith, c .before .before .before .before .before .operand-count .ensures .0)) (c .before .before .operand .ensures .0) (c .before .before .before .before .loop .inv) _ (c .before .is-low .ensures) (not-false _ (c .if3 .left))
+is-low-loop-again t c = low-more _ _ _ (c .before .before .before .before .before .before .before .before .before .before .before .pre .1) _ _ _ (c .before .before .before .before .before .before .before .before .before .if1 .left) (omega (arith, c .before .before .before .before .before .operand-count .ensures .0)) (c .before .before .operand .ensures .0) (c .before .before .before .before .loop .inv) _ (c .before .is-low .ensures) (not-false _ (c .if3 .left))
 
 -- src/heights.rt:14:1
 is-low-returns-4 : (t : ℕ) → is-low-lts.Need-returns-4 (
   kind-reads.Asked,
   kind-reads.Learnt,
+  is-composed-reads.Asked,
+  is-composed-reads.Learnt,
   operand-count-reads.Asked,
   operand-count-reads.Learnt,
   operand-reads.Asked,
@@ -197,12 +239,14 @@ is-low-returns-4 : (t : ℕ) → is-low-lts.Need-returns-4 (
   is-low-below t,
   is-low.Post,
 ) (is-low-at t) is-low.Post is-low-Inv-loop is-low-μ-loop
-is-low-returns-4 t c = all-low _ _ _ (c .before .before .before .before .before .before .before .pre .1) _ _ (c .before .before .before .before .before .if1 .left) (c .before .loop .inv) (omega (arith, c .before .before .operand-count .ensures .0))
+is-low-returns-4 t c = all-low _ _ _ (c .before .before .before .before .before .before .before .before .pre .1) _ _ (c .before .before .before .before .before .before .if1 .left) (c .before .loop .inv) (omega (arith, c .before .before .operand-count .ensures .0))
 
 pub +is-low-spec : {M : Type 1} → statement M
 +is-low-spec = close μ-is-low λ t. is-low-lts.spec (
   kind-reads.Asked,
   kind-reads.Learnt,
+  is-composed-reads.Asked,
+  is-composed-reads.Learnt,
   operand-count-reads.Asked,
   operand-count-reads.Learnt,
   operand-reads.Asked,
@@ -216,6 +260,7 @@ pub +is-low-spec : {M : Type 1} → statement M
     is-low-μ-loop
     (is-low-returns t)
     (is-low-kind-requires t)
+    (is-low-is-composed-requires t)
     (is-low-returns-2 t)
     (is-low-operand-count-requires t)
     (is-low-loop-holds t)

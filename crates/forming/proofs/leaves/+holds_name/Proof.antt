@@ -3,6 +3,9 @@ use mathlib.Core.Path.{sym, _∙_}
 use Rattle.matching.proofs.Records.{has-operand, operand-readable}
 use Rattle.forming.proofs.Surveying.{NoneTo, none-start, tells-name, tells-leaf, tells-some, none-next, tells-none}
 use native.Mathlib.Omega.{arith}
+use borrow.Author.Tests.{not-true, not-false}
+use Rattle.tables.specs.Laws.Kinds.{composed-told}
+use Rattle.tables.proofs.shape.is_composed.Reads as is-composed-reads
 use Prim.Native.Nat.{ℕ, _<_}
 use borrow.Fn.Kinds.{In}
 use borrow.Fn.PlainCycle.{Measures, is, falls, and}
@@ -36,6 +39,8 @@ holds-name-μ-loop table index p k n i₀ i = n - i
 holds-name-kind-requires : (t : ℕ) → holds-name-lts.Need-kind-requires (
   kind-reads.Asked,
   kind-reads.Learnt,
+  is-composed-reads.Asked,
+  is-composed-reads.Learnt,
   operand-count-reads.Asked,
   operand-count-reads.Learnt,
   operand-reads.Asked,
@@ -49,6 +54,8 @@ holds-name-kind-requires t c κs = c .before .pre .1 .here
 holds-name-returns : (t : ℕ) → holds-name-lts.Need-returns (
   kind-reads.Asked,
   kind-reads.Learnt,
+  is-composed-reads.Asked,
+  is-composed-reads.Learnt,
   operand-count-reads.Asked,
   operand-count-reads.Learnt,
   operand-reads.Asked,
@@ -59,9 +66,11 @@ holds-name-returns : (t : ℕ) → holds-name-lts.Need-returns (
 holds-name-returns t c = tells-name _ _ _ (c .before .before .before .pre .1) (sym (c .before .kind .ensures .0) ∙ c .if1 .taken)
 
 -- src/leaves.rt:44:9
-holds-name-returns-2 : (t : ℕ) → holds-name-lts.Need-returns-2 (
+holds-name-is-composed-requires : (t : ℕ) → holds-name-lts.Need-is-composed-requires (
   kind-reads.Asked,
   kind-reads.Learnt,
+  is-composed-reads.Asked,
+  is-composed-reads.Learnt,
   operand-count-reads.Asked,
   operand-count-reads.Learnt,
   operand-reads.Asked,
@@ -69,12 +78,28 @@ holds-name-returns-2 : (t : ℕ) → holds-name-lts.Need-returns-2 (
   holds-name-below t,
   holds-name.Post,
 ) (holds-name-at t) holds-name.Post holds-name-Inv-loop holds-name-μ-loop
-holds-name-returns-2 t c = tells-leaf _ _ _ (c .before .before .before .before .pre .1) (λ e. c .before .if1 .left (c .before .before .kind .ensures .0 ∙ e)) (omega (arith, c .before .before .kind .ensures .0))
+holds-name-is-composed-requires t c κs = c .before .kind .ensures .1
+
+holds-name-returns-2 : (t : ℕ) → holds-name-lts.Need-returns-2 (
+  kind-reads.Asked,
+  kind-reads.Learnt,
+  is-composed-reads.Asked,
+  is-composed-reads.Learnt,
+  operand-count-reads.Asked,
+  operand-count-reads.Learnt,
+  operand-reads.Asked,
+  operand-reads.Learnt,
+  holds-name-below t,
+  holds-name.Post,
+) (holds-name-at t) holds-name.Post holds-name-Inv-loop holds-name-μ-loop
+holds-name-returns-2 t c = tells-leaf _ _ _ (c .before .before .before .before .before .pre .1) (λ e. c .before .before .if1 .left (c .before .before .before .kind .ensures .0 ∙ e)) (composed-told (c .before .before .before .kind .ensures .0) (c .before .is-composed .ensures) (not-true _ (c .if2 .taken)))
 
 -- src/leaves.rt:46:9
 holds-name-operand-count-requires : (t : ℕ) → holds-name-lts.Need-operand-count-requires (
   kind-reads.Asked,
   kind-reads.Learnt,
+  is-composed-reads.Asked,
+  is-composed-reads.Learnt,
   operand-count-reads.Asked,
   operand-count-reads.Learnt,
   operand-reads.Asked,
@@ -82,12 +107,14 @@ holds-name-operand-count-requires : (t : ℕ) → holds-name-lts.Need-operand-co
   holds-name-below t,
   holds-name.Post,
 ) (holds-name-at t) holds-name.Post holds-name-Inv-loop holds-name-μ-loop
-holds-name-operand-count-requires t c κs = c .before .before .before .before .pre .1 .here
+holds-name-operand-count-requires t c κs = c .before .before .before .before .before .pre .1 .here
 
 -- src/leaves.rt:48:5
 holds-name-loop-holds : (t : ℕ) → holds-name-lts.Need-loop-holds (
   kind-reads.Asked,
   kind-reads.Learnt,
+  is-composed-reads.Asked,
+  is-composed-reads.Learnt,
   operand-count-reads.Asked,
   operand-count-reads.Learnt,
   operand-reads.Asked,
@@ -101,6 +128,8 @@ holds-name-loop-holds t c = none-start _ _
 holds-name-operand-requires : (t : ℕ) → holds-name-lts.Need-operand-requires (
   kind-reads.Asked,
   kind-reads.Learnt,
+  is-composed-reads.Asked,
+  is-composed-reads.Learnt,
   operand-count-reads.Asked,
   operand-count-reads.Learnt,
   operand-reads.Asked,
@@ -108,12 +137,14 @@ holds-name-operand-requires : (t : ℕ) → holds-name-lts.Need-operand-requires
   holds-name-below t,
   holds-name.Post,
 ) (holds-name-at t) holds-name.Post holds-name-Inv-loop holds-name-μ-loop
-holds-name-operand-requires t c κs = has-operand _ _ _ (c .before .before .before .before .before .before .before .pre .1) _ (omega (arith, c .before .before .operand-count .ensures .0))
+holds-name-operand-requires t c κs = has-operand _ _ _ (c .before .before .before .before .before .before .before .before .pre .1) _ (omega (arith, c .before .before .operand-count .ensures .0))
 
 -- src/leaves.rt:50:13
 holds-name-holds-name-requires : (t : ℕ) → holds-name-lts.Need-holds-name-requires (
   kind-reads.Asked,
   kind-reads.Learnt,
+  is-composed-reads.Asked,
+  is-composed-reads.Learnt,
   operand-count-reads.Asked,
   operand-count-reads.Learnt,
   operand-reads.Asked,
@@ -121,12 +152,14 @@ holds-name-holds-name-requires : (t : ℕ) → holds-name-lts.Need-holds-name-re
   holds-name-below t,
   holds-name.Post,
 ) (holds-name-at t) holds-name.Post holds-name-Inv-loop holds-name-μ-loop
-holds-name-holds-name-requires t c κs = let o = operand-readable _ _ _ (c .before .before .before .before .before .before .before .before .pre .1) _ (omega (arith, c .before .before .before .operand-count .ensures .0)) (omega (arith, c .before .before .before .before .before .before .kind .ensures .0)) _ (c .operand .ensures .0) in (omega (arith, o .1, c .before .before .before .before .before .before .before .before .pre .0), o .0)
+holds-name-holds-name-requires t c κs = let o = operand-readable _ _ _ (c .before .before .before .before .before .before .before .before .before .pre .1) _ (omega (arith, c .before .before .before .operand-count .ensures .0)) _ (c .operand .ensures .0) in (omega (arith, o .1, c .before .before .before .before .before .before .before .before .before .pre .0), o .0)
 
 -- src/leaves.rt:52:13
 holds-name-returns-3 : (t : ℕ) → holds-name-lts.Need-returns-3 (
   kind-reads.Asked,
   kind-reads.Learnt,
+  is-composed-reads.Asked,
+  is-composed-reads.Learnt,
   operand-count-reads.Asked,
   operand-count-reads.Learnt,
   operand-reads.Asked,
@@ -134,12 +167,14 @@ holds-name-returns-3 : (t : ℕ) → holds-name-lts.Need-returns-3 (
   holds-name-below t,
   holds-name.Post,
 ) (holds-name-at t) holds-name.Post holds-name-Inv-loop holds-name-μ-loop
-holds-name-returns-3 t c = tells-some _ _ _ (c .before .before .before .before .before .before .before .before .before .before .pre .1) (omega (arith, c .before .before .before .before .before .before .before .before .kind .ensures .0)) _ _ (omega (arith, c .before .before .before .before .before .operand-count .ensures .0)) (c .before .before .operand .ensures .0) _ (c .before .holds-name .ensures) (c .if3 .taken)
+holds-name-returns-3 t c = tells-some _ _ _ (c .before .before .before .before .before .before .before .before .before .before .before .pre .1) (composed-told (c .before .before .before .before .before .before .before .before .before .kind .ensures .0) (c .before .before .before .before .before .before .before .is-composed .ensures) (not-false _ (c .before .before .before .before .before .before .if2 .left))) _ _ (omega (arith, c .before .before .before .before .before .operand-count .ensures .0)) (c .before .before .operand .ensures .0) _ (c .before .holds-name .ensures) (c .if3 .taken)
 
 -- src/leaves.rt:54:9
 holds-name-add-i : (t : ℕ) → holds-name-lts.Need-add-i (
   kind-reads.Asked,
   kind-reads.Learnt,
+  is-composed-reads.Asked,
+  is-composed-reads.Learnt,
   operand-count-reads.Asked,
   operand-count-reads.Learnt,
   operand-reads.Asked,
@@ -153,6 +188,8 @@ holds-name-add-i t c = omega (arith, c .before .before .before .before .before .
 holds-name-loop-less : (t : ℕ) → holds-name-lts.Need-loop-less (
   kind-reads.Asked,
   kind-reads.Learnt,
+  is-composed-reads.Asked,
+  is-composed-reads.Learnt,
   operand-count-reads.Asked,
   operand-count-reads.Learnt,
   operand-reads.Asked,
@@ -166,6 +203,8 @@ holds-name-loop-less t c = omega arith
 holds-name-loop-again : (t : ℕ) → holds-name-lts.Need-loop-again (
   kind-reads.Asked,
   kind-reads.Learnt,
+  is-composed-reads.Asked,
+  is-composed-reads.Learnt,
   operand-count-reads.Asked,
   operand-count-reads.Learnt,
   operand-reads.Asked,
@@ -173,12 +212,14 @@ holds-name-loop-again : (t : ℕ) → holds-name-lts.Need-loop-again (
   holds-name-below t,
   holds-name.Post,
 ) (holds-name-at t) holds-name.Post holds-name-Inv-loop holds-name-μ-loop
-holds-name-loop-again t c = none-next _ _ _ (c .before .before .before .before .before .before .before .before .before .before .pre .1) _ (c .before .before .before .before .loop .inv) _ (c .before .before .operand .ensures .0) _ (c .before .holds-name .ensures) (c .if3 .left)
+holds-name-loop-again t c = none-next _ _ _ _ (c .before .before .before .before .loop .inv) (c .before .before .operand .ensures .0) _ (c .before .holds-name .ensures) (c .if3 .left)
 
 -- src/leaves.rt:35:1
 holds-name-returns-4 : (t : ℕ) → holds-name-lts.Need-returns-4 (
   kind-reads.Asked,
   kind-reads.Learnt,
+  is-composed-reads.Asked,
+  is-composed-reads.Learnt,
   operand-count-reads.Asked,
   operand-count-reads.Learnt,
   operand-reads.Asked,
@@ -186,12 +227,14 @@ holds-name-returns-4 : (t : ℕ) → holds-name-lts.Need-returns-4 (
   holds-name-below t,
   holds-name.Post,
 ) (holds-name-at t) holds-name.Post holds-name-Inv-loop holds-name-μ-loop
-holds-name-returns-4 t c = tells-none _ _ _ (c .before .before .before .before .before .before .before .pre .1) (omega (arith, c .before .before .before .before .before .kind .ensures .0)) _ (c .before .loop .inv) (omega (arith, c .before .before .operand-count .ensures .0))
+holds-name-returns-4 t c = tells-none _ _ _ (c .before .before .before .before .before .before .before .before .pre .1) (composed-told (c .before .before .before .before .before .before .kind .ensures .0) (c .before .before .before .before .is-composed .ensures) (not-false _ (c .before .before .before .if2 .left))) _ (c .before .loop .inv) (omega (arith, c .before .before .operand-count .ensures .0))
 
 pub +holds-name-spec : {M : Type 1} → statement M
 +holds-name-spec = close μ-holds-name λ t. holds-name-lts.spec (
   kind-reads.Asked,
   kind-reads.Learnt,
+  is-composed-reads.Asked,
+  is-composed-reads.Learnt,
   operand-count-reads.Asked,
   operand-count-reads.Learnt,
   operand-reads.Asked,
@@ -205,6 +248,7 @@ pub +holds-name-spec : {M : Type 1} → statement M
     holds-name-μ-loop
     (holds-name-kind-requires t)
     (holds-name-returns t)
+    (holds-name-is-composed-requires t)
     (holds-name-returns-2 t)
     (holds-name-operand-count-requires t)
     (holds-name-loop-holds t)

@@ -94,7 +94,7 @@ of-class-of-class-requires : (t : ℕ) → of-class-lts.Need-of-class-requires (
   leaf-alone-reads.Asked,
   leaf-alone-reads.Learnt,
 ) (of-class-at t) of-class.Post
-of-class-of-class-requires t c κs = let o = operand-readable _ _ _ (c .before .before .before .before .pre .1 .0 .readable) 0 (omega (arith, (two-halves _ _ _ (c .before .before .before .before .pre .1 .0 .readable) 38 (sym (c .before .before .kind .ensures .0) ∙ c .before .if1 .taken) (inl refl)))) (omega (arith, c .before .before .kind .ensures .0)) _ (c .operand .ensures .0) in (omega (arith, o .1, c .before .before .before .before .pre .0), (record { readable = o .0; few = left-few _ _ _ (c .before .before .before .before .pre .1 .0 .readable) (sym (c .before .before .kind .ensures .0) ∙ c .before .if1 .taken) _ _ (c .operand .ensures .0) refl 4096 (c .before .before .before .before .pre .1 .0 .few) }, c .before .before .before .before .pre .1 .1))
+of-class-of-class-requires t c κs = let o = operand-readable _ _ _ (c .before .before .before .before .pre .1 .0 .readable) 0 (omega (arith, (two-halves _ _ _ (c .before .before .before .before .pre .1 .0 .readable) 38 (sym (c .before .before .kind .ensures .0) ∙ c .before .if1 .taken) (inl refl)))) _ (c .operand .ensures .0) in (omega (arith, o .1, c .before .before .before .before .pre .0), (record { readable = o .0; few = left-few _ _ _ (c .before .before .before .before .pre .1 .0 .readable) (sym (c .before .before .kind .ensures .0) ∙ c .before .if1 .taken) _ _ (c .operand .ensures .0) refl 4096 (c .before .before .before .before .pre .1 .0 .few) }, c .before .before .before .before .pre .1 .1))
 
 -- src/leaves.rt:272:13
 of-class-operand-requires-2 : (t : ℕ) → of-class-lts.Need-operand-requires-2 (
@@ -157,7 +157,7 @@ of-class-of-class-requires-2 : (t : ℕ) → of-class-lts.Need-of-class-requires
   leaf-alone-reads.Asked,
   leaf-alone-reads.Learnt,
 ) (of-class-at t) of-class.Post
-of-class-of-class-requires-2 t c κs = let o = operand-readable _ _ _ (c .before .before .before .before .before .before .before .pre .1 .0 .readable) 1 (omega (arith, (two-halves _ _ _ (c .before .before .before .before .before .before .before .pre .1 .0 .readable) 38 (sym (c .before .before .before .before .before .kind .ensures .0) ∙ c .before .before .before .before .if1 .taken) (inl refl)))) (omega (arith, c .before .before .before .before .before .kind .ensures .0)) _ (c .before .operand2 .ensures .0) in (omega (arith, o .1, c .before .before .before .before .before .before .before .pre .0), (record { readable = o .0; few = right-few _ _ _ (c .before .before .before .before .before .before .before .pre .1 .0 .readable) (sym (c .before .before .before .before .before .kind .ensures .0) ∙ c .before .before .before .before .if1 .taken) _ _ (c .before .before .before .operand .ensures .0) (c .before .operand2 .ensures .0) 4096 (c .before .before .before .before .before .before .before .pre .1 .0 .few) }, c .before .before .before .before .before .before .before .pre .1 .1))
+of-class-of-class-requires-2 t c κs = let o = operand-readable _ _ _ (c .before .before .before .before .before .before .before .pre .1 .0 .readable) 1 (omega (arith, (two-halves _ _ _ (c .before .before .before .before .before .before .before .pre .1 .0 .readable) 38 (sym (c .before .before .before .before .before .kind .ensures .0) ∙ c .before .before .before .before .if1 .taken) (inl refl)))) _ (c .before .operand2 .ensures .0) in (omega (arith, o .1, c .before .before .before .before .before .before .before .pre .0), (record { readable = o .0; few = right-few _ _ _ (c .before .before .before .before .before .before .before .pre .1 .0 .readable) (sym (c .before .before .before .before .before .kind .ensures .0) ∙ c .before .before .before .before .if1 .taken) _ _ (c .before .before .before .operand .ensures .0) (c .before .operand2 .ensures .0) 4096 (c .before .before .before .before .before .before .before .pre .1 .0 .few) }, c .before .before .before .before .before .before .before .pre .1 .1))
 
 -- src/leaves.rt:275:9
 of-class-join-requires : (t : ℕ) → of-class-lts.Need-join-requires (

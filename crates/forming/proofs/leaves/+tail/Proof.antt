@@ -69,7 +69,7 @@ tail-tail-requires : (t : ℕ) → tail-lts.Need-tail-requires (
   leaf-tail-reads.Asked,
   leaf-tail-reads.Learnt,
 ) (tail-at t) tail.Post
-tail-tail-requires t c κs = let o = operand-readable _ _ _ (c .before .before .before .before .pre .1 .readable) 0 (omega (arith, (two-halves _ _ _ (c .before .before .before .before .pre .1 .readable) 38 (sym (c .before .before .kind .ensures .0) ∙ c .before .if1 .taken) (inl refl)))) (omega (arith, c .before .before .kind .ensures .0)) _ (c .operand .ensures .0) in (omega (arith, o .1, c .before .before .before .before .pre .0), record { readable = o .0; few = left-few _ _ _ (c .before .before .before .before .pre .1 .readable) (sym (c .before .before .kind .ensures .0) ∙ c .before .if1 .taken) _ _ (c .operand .ensures .0) refl 4096 (c .before .before .before .before .pre .1 .few) })
+tail-tail-requires t c κs = let o = operand-readable _ _ _ (c .before .before .before .before .pre .1 .readable) 0 (omega (arith, (two-halves _ _ _ (c .before .before .before .before .pre .1 .readable) 38 (sym (c .before .before .kind .ensures .0) ∙ c .before .if1 .taken) (inl refl)))) _ (c .operand .ensures .0) in (omega (arith, o .1, c .before .before .before .before .pre .0), record { readable = o .0; few = left-few _ _ _ (c .before .before .before .before .pre .1 .readable) (sym (c .before .before .kind .ensures .0) ∙ c .before .if1 .taken) _ _ (c .operand .ensures .0) refl 4096 (c .before .before .before .before .pre .1 .few) })
 
 -- src/leaves.rt:185:13
 tail-operand-requires-2 : (t : ℕ) → tail-lts.Need-operand-requires-2 (
@@ -99,7 +99,7 @@ tail-tail-requires-2 : (t : ℕ) → tail-lts.Need-tail-requires-2 (
   leaf-tail-reads.Asked,
   leaf-tail-reads.Learnt,
 ) (tail-at t) tail.Post
-tail-tail-requires-2 t c κs = let o = operand-readable _ _ _ (c .before .before .before .before .before .before .pre .1 .readable) 1 (omega (arith, (two-halves _ _ _ (c .before .before .before .before .before .before .pre .1 .readable) 38 (sym (c .before .before .before .before .kind .ensures .0) ∙ c .before .before .before .if1 .taken) (inl refl)))) (omega (arith, c .before .before .before .before .kind .ensures .0)) _ (c .operand2 .ensures .0) in (omega (arith, o .1, c .before .before .before .before .before .before .pre .0), record { readable = o .0; few = right-few _ _ _ (c .before .before .before .before .before .before .pre .1 .readable) (sym (c .before .before .before .before .kind .ensures .0) ∙ c .before .before .before .if1 .taken) _ _ (c .before .before .operand .ensures .0) (c .operand2 .ensures .0) 4096 (c .before .before .before .before .before .before .pre .1 .few) })
+tail-tail-requires-2 t c κs = let o = operand-readable _ _ _ (c .before .before .before .before .before .before .pre .1 .readable) 1 (omega (arith, (two-halves _ _ _ (c .before .before .before .before .before .before .pre .1 .readable) 38 (sym (c .before .before .before .before .kind .ensures .0) ∙ c .before .before .before .if1 .taken) (inl refl)))) _ (c .operand2 .ensures .0) in (omega (arith, o .1, c .before .before .before .before .before .before .pre .0), record { readable = o .0; few = right-few _ _ _ (c .before .before .before .before .before .before .pre .1 .readable) (sym (c .before .before .before .before .kind .ensures .0) ∙ c .before .before .before .if1 .taken) _ _ (c .before .before .operand .ensures .0) (c .operand2 .ensures .0) 4096 (c .before .before .before .before .before .before .pre .1 .few) })
 
 -- src/leaves.rt:187:9
 tail-tails-requires : (t : ℕ) → tail-lts.Need-tails-requires (

@@ -3,6 +3,10 @@ use mathlib.Core.Path.{refl, sym, _∙_}
 use Rattle.forming.proofs.Surveying.{tells-name, tells-leaf}
 use Rattle.forming.proofs.Classing.{counts-none, class-any, class-wild, class-named, class-unnamed}
 use borrow.Author.Needs.{needs}
+use borrow.Author.Tests.{not-true}
+use Rattle.prelude.proofs.Absurd.{true-false}
+use Rattle.tables.specs.Laws.Kinds.{pattern-most, composed-told, set-composed}
+use Rattle.tables.proofs.shape.is_composed.Reads as is-composed-reads
 use Rattle.forming.proofs.leaves.class_of.Statement.{statement}
 use Rattle.forming.proofs.leaves.class_of.Tie as tie
 use Rattle.forming.proofs.leaves.class_of.Reads as reads
@@ -19,8 +23,11 @@ returns-2 : tie.Need-returns-2
 returns-2 c = class-named _ _ _ _ (c .before .before .before .pre) (c .before .if1 .left) (counts-none _ _ _ _ (c .before .before .before .pre) (λ e. absurd (omega (arith, e)))) _ (tells-name _ _ _ (c .before .before .before .pre .readable) (sym (c .before .before .before .pre .of-kind) ∙ c .if2 .taken)) refl
 
 -- src/leaves.rt:149:9
+is-composed-requires : tie.Need-is-composed-requires
+is-composed-requires c κs = omega (arith, c .before .before .before .pre .of-kind, pattern-most _ (c .before .before .before .pre .readable .pattern))
+
 returns-3 : tie.Need-returns-3
-returns-3 c = class-unnamed _ _ _ _ (c .before .before .before .before .pre) (c .before .before .if1 .left) (counts-none _ _ _ _ (c .before .before .before .before .pre) (λ e. absurd (omega (arith, e)))) _ (tells-leaf _ _ _ (c .before .before .before .before .pre .readable) (λ e. c .before .if2 .left (c .before .before .before .before .pre .of-kind ∙ e)) (omega (arith, c .before .before .before .before .pre .of-kind))) refl
+returns-3 c = class-unnamed _ _ _ _ (c .before .before .before .before .before .pre) (c .before .before .before .if1 .left) (counts-none _ _ _ _ (c .before .before .before .before .before .pre) (λ e. true-false (sym (set-composed e) ∙ sym (c .before .is-composed .ensures) ∙ not-true _ (c .if3 .taken)))) _ (tells-leaf _ _ _ (c .before .before .before .before .before .pre .readable) (λ e. c .before .before .if2 .left (c .before .before .before .before .before .pre .of-kind ∙ e)) (composed-told (c .before .before .before .before .before .pre .of-kind) (c .before .is-composed .ensures) (not-true _ (c .if3 .taken)))) refl
 
 -- src/leaves.rt:151:9
 only-counts-requires : tie.Need-only-counts-requires
@@ -28,7 +35,7 @@ only-counts-requires c κs = search needs
 
 -- src/leaves.rt:153:9
 returns-4 : tie.Need-returns-4
-returns-4 c = class-wild _ _ _ _ (c .before .before .before .before .before .before .pre) _ (c .before .only-counts .ensures) (c .if4 .taken)
+returns-4 c = class-wild _ _ _ _ (c .before .before .before .before .before .before .before .pre) _ (c .before .only-counts .ensures) (c .if4 .taken)
 
 -- src/leaves.rt:155:9
 holds-name-requires : tie.Need-holds-name-requires
@@ -36,11 +43,11 @@ holds-name-requires c κs = search needs
 
 -- src/leaves.rt:157:9
 returns-5 : tie.Need-returns-5
-returns-5 c = class-named _ _ _ _ (c .before .before .before .before .before .before .before .before .pre) (c .before .before .before .before .before .before .if1 .left) (sym (c .before .before .if4 .left) ∙ c .before .before .before .only-counts .ensures) _ (c .before .holds-name .ensures) (c .if5 .taken)
+returns-5 c = class-named _ _ _ _ (c .before .before .before .before .before .before .before .before .before .pre) (c .before .before .before .before .before .before .before .if1 .left) (sym (c .before .before .if4 .left) ∙ c .before .before .before .only-counts .ensures) _ (c .before .holds-name .ensures) (c .if5 .taken)
 
 -- src/leaves.rt:138:1
 returns-6 : tie.Need-returns-6
-returns-6 c = class-unnamed _ _ _ _ (c .before .before .before .before .before .before .before .before .pre) (c .before .before .before .before .before .before .if1 .left) (sym (c .before .before .if4 .left) ∙ c .before .before .before .only-counts .ensures) _ (c .before .holds-name .ensures) (c .if5 .left)
+returns-6 c = class-unnamed _ _ _ _ (c .before .before .before .before .before .before .before .before .before .pre) (c .before .before .before .before .before .before .before .if1 .left) (sym (c .before .before .if4 .left) ∙ c .before .before .before .only-counts .ensures) _ (c .before .holds-name .ensures) (c .if5 .left)
 
 pub class-of-spec : {M : Type 1} → statement M
 class-of-spec =
@@ -48,6 +55,7 @@ class-of-spec =
     (tie.spec
     returns
     returns-2
+    is-composed-requires
     returns-3
     only-counts-requires
     returns-4

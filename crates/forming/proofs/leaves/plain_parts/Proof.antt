@@ -43,7 +43,7 @@ wild-with-requires c κs = omega (arith, c .before .before .before .loop .inv .f
 
 -- src/leaves.rt:106:9
 flat-with-requires : tie.Need-flat-with-requires Inv-loop μ-loop
-flat-with-requires c κs = tt
+flat-with-requires c κs = c .before .kind .ensures .1
 
 -- src/leaves.rt:101:5
 loop-less : tie.Need-loop-less Inv-loop μ-loop

@@ -1,7 +1,7 @@
 use native.Mathlib.Omega.{arith}
 use borrow.Author.Tests.{not-false}
 use Rattle.matching.proofs.Records.{has-operand, operand-readable}
-use Rattle.forming.proofs.Reducing.{splits-low, two-halves, all-any, no-all, all-halves}
+use Rattle.forming.proofs.Reducing.{two-halves, all-any, no-all, all-halves}
 use Prim.Native.Nat.{ℕ, _<_}
 use borrow.Fn.Kinds.{In}
 use borrow.Fn.PlainCycle.{Measures, is, falls, and}
@@ -45,7 +45,7 @@ accepts-all-operand-requires t c κs = has-operand _ _ _ (c .before .before .bef
 
 -- src/reduced.rt:38:9
 accepts-all-accepts-all-requires : (t : ℕ) → accepts-all-lts.Need-accepts-all-requires (accepts-all-calls t) (accepts-all-at t) accepts-all.Post
-accepts-all-accepts-all-requires t c κs = let o = operand-readable _ _ _ (c .before .before .before .before .before .pre .1 .0) 0 (omega (arith, two-halves _ _ _ (c .before .before .before .before .before .pre .1 .0) (c .before .before .before .before .before .args .k) (omega (arith, c .before .before .before .kind .ensures .0)) (c .before .before .before .before .before .pre .1 .1))) (omega (arith, c .before .before .before .kind .ensures .0, splits-low (c .before .before .before .before .before .args .k) (c .before .before .before .before .before .pre .1 .1))) _ (c .operand .ensures .0) in (omega (arith, o .1), (o .0, c .before .before .before .before .before .pre .1 .1))
+accepts-all-accepts-all-requires t c κs = let o = operand-readable _ _ _ (c .before .before .before .before .before .pre .1 .0) 0 (omega (arith, two-halves _ _ _ (c .before .before .before .before .before .pre .1 .0) (c .before .before .before .before .before .args .k) (omega (arith, c .before .before .before .kind .ensures .0)) (c .before .before .before .before .before .pre .1 .1))) _ (c .operand .ensures .0) in (omega (arith, o .1), (o .0, c .before .before .before .before .before .pre .1 .1))
 
 -- src/reduced.rt:40:9
 accepts-all-returns-3 : (t : ℕ) → accepts-all-lts.Need-returns-3 (accepts-all-calls t) (accepts-all-at t) accepts-all.Post
@@ -57,7 +57,7 @@ accepts-all-operand-requires-2 t c κs = has-operand _ _ _ (c .before .before .b
 
 -- src/reduced.rt:43:5
 accepts-all-accepts-all-requires-2 : (t : ℕ) → accepts-all-lts.Need-accepts-all-requires-2 (accepts-all-calls t) (accepts-all-at t) accepts-all.Post
-accepts-all-accepts-all-requires-2 t c κs = let o = operand-readable _ _ _ (c .before .before .before .before .before .before .before .before .pre .1 .0) 1 (omega (arith, two-halves _ _ _ (c .before .before .before .before .before .before .before .before .pre .1 .0) (c .before .before .before .before .before .before .before .before .args .k) (omega (arith, c .before .before .before .before .before .before .kind .ensures .0)) (c .before .before .before .before .before .before .before .before .pre .1 .1))) (omega (arith, c .before .before .before .before .before .before .kind .ensures .0, splits-low (c .before .before .before .before .before .before .before .before .args .k) (c .before .before .before .before .before .before .before .before .pre .1 .1))) _ (c .operand2 .ensures .0) in (omega (arith, o .1), (o .0, c .before .before .before .before .before .before .before .before .pre .1 .1))
+accepts-all-accepts-all-requires-2 t c κs = let o = operand-readable _ _ _ (c .before .before .before .before .before .before .before .before .pre .1 .0) 1 (omega (arith, two-halves _ _ _ (c .before .before .before .before .before .before .before .before .pre .1 .0) (c .before .before .before .before .before .before .before .before .args .k) (omega (arith, c .before .before .before .before .before .before .kind .ensures .0)) (c .before .before .before .before .before .before .before .before .pre .1 .1))) _ (c .operand2 .ensures .0) in (omega (arith, o .1), (o .0, c .before .before .before .before .before .before .before .before .pre .1 .1))
 
 -- src/reduced.rt:26:1
 accepts-all-returns-4 : (t : ℕ) → accepts-all-lts.Need-returns-4 (accepts-all-calls t) (accepts-all-at t) accepts-all.Post

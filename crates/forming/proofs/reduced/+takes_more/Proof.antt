@@ -1,7 +1,7 @@
 use native.Mathlib.Omega.{arith}
 use Prim.Native.Nat.{_-_}
 use Rattle.matching.proofs.Records.{has-operand, operand-readable}
-use Rattle.forming.proofs.Reducing.{splits-low, two-halves, more-wild, no-more, more-first, more-other}
+use Rattle.forming.proofs.Reducing.{two-halves, more-wild, no-more, more-first, more-other}
 use Prim.Native.Nat.{ℕ, _<_}
 use borrow.Fn.Kinds.{In}
 use borrow.Fn.PlainCycle.{Measures, is, falls, and}
@@ -45,7 +45,7 @@ takes-more-operand-requires t c κs = has-operand _ _ _ (c .before .before .befo
 
 -- src/reduced.rt:59:9
 takes-more-takes-more-requires : (t : ℕ) → takes-more-lts.Need-takes-more-requires (takes-more-calls t) (takes-more-at t) takes-more.Post
-takes-more-takes-more-requires t c κs = let o = operand-readable _ _ _ (c .before .before .before .before .before .pre .1 .0) (c .before .before .before .before .before .args .side) (omega (arith, two-halves _ _ _ (c .before .before .before .before .before .pre .1 .0) (c .before .before .before .before .before .args .k) (omega (arith, c .before .before .before .kind .ensures .0)) (c .before .before .before .before .before .pre .1 .1), c .before .before .before .before .before .pre .1 .2)) (omega (arith, c .before .before .before .kind .ensures .0, splits-low (c .before .before .before .before .before .args .k) (c .before .before .before .before .before .pre .1 .1))) _ (c .operand .ensures .0) in (omega (arith, o .1), (o .0, c .before .before .before .before .before .pre .1 .1, c .before .before .before .before .before .pre .1 .2))
+takes-more-takes-more-requires t c κs = let o = operand-readable _ _ _ (c .before .before .before .before .before .pre .1 .0) (c .before .before .before .before .before .args .side) (omega (arith, two-halves _ _ _ (c .before .before .before .before .before .pre .1 .0) (c .before .before .before .before .before .args .k) (omega (arith, c .before .before .before .kind .ensures .0)) (c .before .before .before .before .before .pre .1 .1), c .before .before .before .before .before .pre .1 .2)) _ (c .operand .ensures .0) in (omega (arith, o .1), (o .0, c .before .before .before .before .before .pre .1 .1, c .before .before .before .before .before .pre .1 .2))
 
 -- src/reduced.rt:61:9
 takes-more-returns-3 : (t : ℕ) → takes-more-lts.Need-returns-3 (takes-more-calls t) (takes-more-at t) takes-more.Post
@@ -65,7 +65,7 @@ takes-more-operand-requires-2 t c κs = has-operand _ _ _ (c .before .before .be
 
 -- src/reduced.rt:67:5
 takes-more-takes-more-requires-2 : (t : ℕ) → takes-more-lts.Need-takes-more-requires-2 (takes-more-calls t) (takes-more-at t) takes-more.Post
-takes-more-takes-more-requires-2 t c κs = let o = operand-readable _ _ _ (c .before .before .before .before .before .before .before .before .before .pre .1 .0) (1 - c .before .before .before .before .before .before .before .before .before .args .side) (omega (arith, two-halves _ _ _ (c .before .before .before .before .before .before .before .before .before .pre .1 .0) (c .before .before .before .before .before .before .before .before .before .args .k) (omega (arith, c .before .before .before .before .before .before .before .kind .ensures .0)) (c .before .before .before .before .before .before .before .before .before .pre .1 .1), c .before .before .before .before .before .before .before .before .before .pre .1 .2)) (omega (arith, c .before .before .before .before .before .before .before .kind .ensures .0, splits-low (c .before .before .before .before .before .before .before .before .before .args .k) (c .before .before .before .before .before .before .before .before .before .pre .1 .1))) _ (c .operand2 .ensures .0) in (omega (arith, o .1), (o .0, c .before .before .before .before .before .before .before .before .before .pre .1 .1, c .before .before .before .before .before .before .before .before .before .pre .1 .2))
+takes-more-takes-more-requires-2 t c κs = let o = operand-readable _ _ _ (c .before .before .before .before .before .before .before .before .before .pre .1 .0) (1 - c .before .before .before .before .before .before .before .before .before .args .side) (omega (arith, two-halves _ _ _ (c .before .before .before .before .before .before .before .before .before .pre .1 .0) (c .before .before .before .before .before .before .before .before .before .args .k) (omega (arith, c .before .before .before .before .before .before .before .kind .ensures .0)) (c .before .before .before .before .before .before .before .before .before .pre .1 .1), c .before .before .before .before .before .before .before .before .before .pre .1 .2)) _ (c .operand2 .ensures .0) in (omega (arith, o .1), (o .0, c .before .before .before .before .before .before .before .before .before .pre .1 .1, c .before .before .before .before .before .before .before .before .before .pre .1 .2))
 
 -- src/reduced.rt:47:1
 takes-more-returns-5 : (t : ℕ) → takes-more-lts.Need-returns-5 (takes-more-calls t) (takes-more-at t) takes-more.Post

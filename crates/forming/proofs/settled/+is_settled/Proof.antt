@@ -1,8 +1,10 @@
 use mathlib.Core.Path.{sym, _∙_}
 use Prim.Native.Nat.{_-_, ℕ, _<_}
 use native.Mathlib.Omega.{arith}
+use Rattle.tables.specs.Laws.Kinds.{composed-told}
+use Rattle.tables.proofs.shape.is_composed.Reads as is-composed-reads
 use borrow.Author.Needs.{needs}
-use borrow.Author.Tests.{not-false}
+use borrow.Author.Tests.{not-true, not-false}
 use Rattle.matching.proofs.Records.{name-field, has-operand, operand-readable}
 use Rattle.forming.proofs.Settling.{SettledTo, settled-name, settled-leaf, settled-start, settled-next, settled-all, settled-no}
 use borrow.Fn.Kinds.{In}
@@ -30,7 +32,7 @@ is-settled-below t =
     and 3 is-settled-kinds.ps (falls 3 is-settled-kinds.ps _<_ μ-is-settled t) is-settled.Pre
 
 abbrev is-settled-calls : ℕ → is-settled-lts.Claims
-is-settled-calls t = (kind-reads.Asked, kind-reads.Learnt, field-reads.Asked, field-reads.Learnt, has-word-reads.Asked, has-word-reads.Learnt, operand-count-reads.Asked, operand-count-reads.Learnt, operand-reads.Asked, operand-reads.Learnt, is-settled-below t, is-settled.Post)
+is-settled-calls t = (kind-reads.Asked, kind-reads.Learnt, field-reads.Asked, field-reads.Learnt, has-word-reads.Asked, has-word-reads.Learnt, is-composed-reads.Asked, is-composed-reads.Learnt, operand-count-reads.Asked, operand-count-reads.Learnt, operand-reads.Asked, operand-reads.Learnt, is-settled-below t, is-settled.Post)
 
 abbrev is-settled-Inv-loop : is-settled-lts.InvT-loop
 is-settled-Inv-loop table index p found k n i₀ i = SettledTo table p found i
@@ -55,24 +57,27 @@ is-settled-returns : (t : ℕ) → is-settled-lts.Need-returns (is-settled-calls
 is-settled-returns t c = settled-name _ _ _ (c .before .before .before .before .before .pre .1) _ (sym (c .before .before .before .kind .ensures .0) ∙ c .before .before .if1 .taken) _ (c .before .field .ensures .0) _ (c .has-word .ensures)
 
 -- src/settled.rt:21:9
+is-settled-is-composed-requires : (t : ℕ) → is-settled-lts.Need-is-composed-requires (is-settled-calls t) (is-settled-at t) is-settled.Post is-settled-Inv-loop is-settled-μ-loop
+is-settled-is-composed-requires t c κs = c .before .kind .ensures .1
+
 is-settled-returns-2 : (t : ℕ) → is-settled-lts.Need-returns-2 (is-settled-calls t) (is-settled-at t) is-settled.Post is-settled-Inv-loop is-settled-μ-loop
-is-settled-returns-2 t c = settled-leaf _ _ _ (c .before .before .before .before .pre .1) _ (λ e. c .before .if1 .left (c .before .before .kind .ensures .0 ∙ e)) (omega (arith, c .before .before .kind .ensures .0))
+is-settled-returns-2 t c = settled-leaf _ _ _ (c .before .before .before .before .before .pre .1) _ (λ e. c .before .before .if1 .left (c .before .before .before .kind .ensures .0 ∙ e)) (composed-told (c .before .before .before .kind .ensures .0) (c .before .is-composed .ensures) (not-true _ (c .if2 .taken)))
 
 -- src/settled.rt:23:9
 is-settled-operand-count-requires : (t : ℕ) → is-settled-lts.Need-operand-count-requires (is-settled-calls t) (is-settled-at t) is-settled.Post is-settled-Inv-loop is-settled-μ-loop
-is-settled-operand-count-requires t c κs = c .before .before .before .before .pre .1 .here
+is-settled-operand-count-requires t c κs = c .before .before .before .before .before .pre .1 .here
 
 -- src/settled.rt:25:5
 is-settled-loop-holds : (t : ℕ) → is-settled-lts.Need-loop-holds (is-settled-calls t) (is-settled-at t) is-settled.Post is-settled-Inv-loop is-settled-μ-loop
-is-settled-loop-holds t c = settled-start _ _ _
+is-settled-loop-holds t c = λ j l. absurd (omega arith)
 
 -- src/settled.rt:26:13
 is-settled-operand-requires : (t : ℕ) → is-settled-lts.Need-operand-requires (is-settled-calls t) (is-settled-at t) is-settled.Post is-settled-Inv-loop is-settled-μ-loop
-is-settled-operand-requires t c κs = has-operand _ _ _ (c .before .before .before .before .before .before .before .pre .1) _ (omega (arith, c .before .before .operand-count .ensures .0))
+is-settled-operand-requires t c κs = has-operand _ _ _ (c .before .before .before .before .before .before .before .before .pre .1) _ (omega (arith, c .before .before .operand-count .ensures .0))
 
 -- src/settled.rt:27:13
 is-settled-is-settled-requires : (t : ℕ) → is-settled-lts.Need-is-settled-requires (is-settled-calls t) (is-settled-at t) is-settled.Post is-settled-Inv-loop is-settled-μ-loop
-is-settled-is-settled-requires t c κs = let o = operand-readable _ _ _ (c .before .before .before .before .before .before .before .before .pre .1) _ (omega (arith, c .before .before .before .operand-count .ensures .0)) (omega (arith, c .before .before .before .before .before .before .kind .ensures .0)) _ (c .operand .ensures .0) in (omega (arith, o .1, c .before .before .before .before .before .before .before .before .pre .0), o .0)
+is-settled-is-settled-requires t c κs = let o = operand-readable _ _ _ (c .before .before .before .before .before .before .before .before .before .pre .1) _ (omega (arith, c .before .before .before .operand-count .ensures .0)) _ (c .operand .ensures .0) in (omega (arith, o .1, c .before .before .before .before .before .before .before .before .before .pre .0), o .0)
 
 -- src/settled.rt:29:13
 is-settled-returns-3 : (t : ℕ) → is-settled-lts.Need-returns-3 (is-settled-calls t) (is-settled-at t) is-settled.Post is-settled-Inv-loop is-settled-μ-loop
@@ -88,11 +93,11 @@ is-settled-loop-less t c = omega arith
 
 -- src/settled.rt:25:5
 is-settled-loop-again : (t : ℕ) → is-settled-lts.Need-loop-again (is-settled-calls t) (is-settled-at t) is-settled.Post is-settled-Inv-loop is-settled-μ-loop
-is-settled-loop-again t c = settled-next _ _ _ (c .before .before .before .before .before .before .before .before .before .before .pre .1) _ _ (c .before .before .before .before .loop .inv) _ (c .before .before .operand .ensures .0) _ (c .before .is-settled .ensures) (not-false _ (c .if3 .left))
+is-settled-loop-again t c = settled-next _ _ _ _ _ (c .before .before .before .before .loop .inv) (c .before .before .operand .ensures .0) _ (c .before .is-settled .ensures) (not-false _ (c .if3 .left))
 
 -- src/settled.rt:11:1
 is-settled-returns-4 : (t : ℕ) → is-settled-lts.Need-returns-4 (is-settled-calls t) (is-settled-at t) is-settled.Post is-settled-Inv-loop is-settled-μ-loop
-is-settled-returns-4 t c = settled-all _ _ _ (c .before .before .before .before .before .before .before .pre .1) _ (omega (arith, c .before .before .before .before .before .kind .ensures .0)) _ (c .before .loop .inv) (omega (arith, c .before .before .operand-count .ensures .0))
+is-settled-returns-4 t c = settled-all _ _ _ (c .before .before .before .before .before .before .before .before .pre .1) _ (composed-told (c .before .before .before .before .before .before .kind .ensures .0) (c .before .before .before .before .is-composed .ensures) (not-false _ (c .before .before .before .if2 .left))) _ (c .before .loop .inv) (omega (arith, c .before .before .operand-count .ensures .0))
 
 pub +is-settled-spec : {M : Type 1} → statement M
 +is-settled-spec = close μ-is-settled λ t. is-settled-lts.spec (is-settled-calls t)
@@ -104,6 +109,7 @@ pub +is-settled-spec : {M : Type 1} → statement M
     (is-settled-field-requires t)
     (is-settled-has-word-requires t)
     (is-settled-returns t)
+    (is-settled-is-composed-requires t)
     (is-settled-returns-2 t)
     (is-settled-operand-count-requires t)
     (is-settled-loop-holds t)

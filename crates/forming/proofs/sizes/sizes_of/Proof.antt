@@ -1,7 +1,7 @@
 use native.Mathlib.Omega.{arith}
 use borrow.Author.Tests.{not-false}
 use Rattle.matching.proofs.Records.{has-operand, operand-readable}
-use Rattle.forming.proofs.Reducing.{splits-low, two-halves}
+use Rattle.forming.proofs.Reducing.{two-halves}
 use Rattle.forming.proofs.Sizing.{no-sizes, sizes-told}
 use borrow.Author.Needs.{needs}
 use Rattle.forming.proofs.sizes.sizes_of.Statement.{statement}
@@ -36,7 +36,7 @@ operand-requires c κs = has-operand _ _ _ (c .before .before .before .before .b
 
 -- src/sizes.rt:114:9
 size-of-requires : tie.Need-size-of-requires
-size-of-requires c κs = (operand-readable _ _ _ (c .before .before .before .before .before .before .pre .readable) 0 (omega (arith, two-halves _ _ _ (c .before .before .before .before .before .before .pre .readable) (c .before .before .before .before .before .before .args .k) (c .before .before .before .before .before .before .pre .of-kind) (c .before .before .before .before .splits .ensures (not-false _ (c .before .before .before .if1 .left))))) (omega (arith, c .before .before .before .before .before .before .pre .of-kind, splits-low (c .before .before .before .before .before .before .args .k) (c .before .before .before .before .splits .ensures (not-false _ (c .before .before .before .if1 .left))))) _ (c .operand .ensures .0) .0, c .before .before .before .before .splits .ensures (not-false _ (c .before .before .before .if1 .left)))
+size-of-requires c κs = (operand-readable _ _ _ (c .before .before .before .before .before .before .pre .readable) 0 (omega (arith, two-halves _ _ _ (c .before .before .before .before .before .before .pre .readable) (c .before .before .before .before .before .before .args .k) (c .before .before .before .before .before .before .pre .of-kind) (c .before .before .before .before .splits .ensures (not-false _ (c .before .before .before .if1 .left))))) _ (c .operand .ensures .0) .0, c .before .before .before .before .splits .ensures (not-false _ (c .before .before .before .if1 .left)))
 
 -- src/sizes.rt:115:9
 operand-requires-2 : tie.Need-operand-requires-2
@@ -44,7 +44,7 @@ operand-requires-2 c κs = has-operand _ _ _ (c .before .before .before .before 
 
 -- src/sizes.rt:116:9
 size-of-requires-2 : tie.Need-size-of-requires-2
-size-of-requires-2 c κs = (operand-readable _ _ _ (c .before .before .before .before .before .before .before .before .pre .readable) 1 (omega (arith, two-halves _ _ _ (c .before .before .before .before .before .before .before .before .pre .readable) (c .before .before .before .before .before .before .before .before .args .k) (c .before .before .before .before .before .before .before .before .pre .of-kind) (c .before .before .before .before .before .before .splits .ensures (not-false _ (c .before .before .before .before .before .if1 .left))))) (omega (arith, c .before .before .before .before .before .before .before .before .pre .of-kind, splits-low (c .before .before .before .before .before .before .before .before .args .k) (c .before .before .before .before .before .before .splits .ensures (not-false _ (c .before .before .before .before .before .if1 .left))))) _ (c .operand2 .ensures .0) .0, c .before .before .before .before .before .before .splits .ensures (not-false _ (c .before .before .before .before .before .if1 .left)))
+size-of-requires-2 c κs = (operand-readable _ _ _ (c .before .before .before .before .before .before .before .before .pre .readable) 1 (omega (arith, two-halves _ _ _ (c .before .before .before .before .before .before .before .before .pre .readable) (c .before .before .before .before .before .before .before .before .args .k) (c .before .before .before .before .before .before .before .before .pre .of-kind) (c .before .before .before .before .before .before .splits .ensures (not-false _ (c .before .before .before .before .before .if1 .left))))) _ (c .operand2 .ensures .0) .0, c .before .before .before .before .before .before .splits .ensures (not-false _ (c .before .before .before .before .before .if1 .left)))
 
 -- src/sizes.rt:117:5
 pair-requires : tie.Need-pair-requires

@@ -56,7 +56,7 @@ tally-operand-requires t c κs = has-operand _ _ _ (c .before .before .before .b
 
 -- src/wild.rt:73:9
 tally-tally-requires : (t : ℕ) → tally-lts.Need-tally-requires (tally-calls t) (tally-at t) tally.Post
-tally-tally-requires t c κs = let o = operand-readable _ _ _ (c .before .before .before .before .before .before .pre .1) 0 (omega (arith, two-halves _ _ _ (c .before .before .before .before .before .before .pre .1) 38 (sym (c .before .before .before .before .kind .ensures .0) ∙ c .before .if3 .left) (inl refl))) (omega (arith, c .before .before .before .before .kind .ensures .0)) _ (c .operand .ensures .0) in (omega (arith, o .1, c .before .before .before .before .before .before .pre .0), o .0)
+tally-tally-requires t c κs = let o = operand-readable _ _ _ (c .before .before .before .before .before .before .pre .1) 0 (omega (arith, two-halves _ _ _ (c .before .before .before .before .before .before .pre .1) 38 (sym (c .before .before .before .before .kind .ensures .0) ∙ c .before .if3 .left) (inl refl))) _ (c .operand .ensures .0) in (omega (arith, o .1, c .before .before .before .before .before .before .pre .0), o .0)
 
 -- src/wild.rt:75:9
 tally-returns-4 : (t : ℕ) → tally-lts.Need-returns-4 (tally-calls t) (tally-at t) tally.Post
@@ -68,11 +68,11 @@ tally-operand-requires-2 t c κs = has-operand _ _ _ (c .before .before .before 
 
 -- src/wild.rt:78:9
 tally-tally-requires-2 : (t : ℕ) → tally-lts.Need-tally-requires-2 (tally-calls t) (tally-at t) tally.Post
-tally-tally-requires-2 t c κs = let o = operand-readable _ _ _ (c .before .before .before .before .before .before .before .before .before .pre .1) 1 (omega (arith, two-halves _ _ _ (c .before .before .before .before .before .before .before .before .before .pre .1) 38 (sym (c .before .before .before .before .before .before .before .kind .ensures .0) ∙ c .before .before .before .before .if3 .left) (inl refl))) (omega (arith, c .before .before .before .before .before .before .before .kind .ensures .0)) _ (c .operand2 .ensures .0) in (omega (arith, o .1, c .before .before .before .before .before .before .before .before .before .pre .0), o .0)
+tally-tally-requires-2 t c κs = let o = operand-readable _ _ _ (c .before .before .before .before .before .before .before .before .before .pre .1) 1 (omega (arith, two-halves _ _ _ (c .before .before .before .before .before .before .before .before .before .pre .1) 38 (sym (c .before .before .before .before .before .before .before .kind .ensures .0) ∙ c .before .before .before .before .if3 .left) (inl refl))) _ (c .operand2 .ensures .0) in (omega (arith, o .1, c .before .before .before .before .before .before .before .before .before .pre .0), o .0)
 
 -- src/wild.rt:79:5
 tally-both-requires : (t : ℕ) → tally-lts.Need-both-requires (tally-calls t) (tally-at t) tally.Post
-tally-both-requires t c κs = (positive _ (c .before .before .if4 .left), tally-fits _ _ _ (operand-readable _ _ _ (c .before .before .before .before .before .before .before .before .before .before .pre .1) 0 (omega (arith, two-halves _ _ _ (c .before .before .before .before .before .before .before .before .before .before .pre .1) 38 (sym (c .before .before .before .before .before .before .before .before .kind .ensures .0) ∙ c .before .before .before .before .before .if3 .left) (inl refl))) (omega (arith, c .before .before .before .before .before .before .before .before .kind .ensures .0)) _ (c .before .before .before .before .operand .ensures .0) .0) _ (c .before .before .before .tally .ensures), tally-fits _ _ _ (operand-readable _ _ _ (c .before .before .before .before .before .before .before .before .before .before .pre .1) 1 (omega (arith, two-halves _ _ _ (c .before .before .before .before .before .before .before .before .before .before .pre .1) 38 (sym (c .before .before .before .before .before .before .before .before .kind .ensures .0) ∙ c .before .before .before .before .before .if3 .left) (inl refl))) (omega (arith, c .before .before .before .before .before .before .before .before .kind .ensures .0)) _ (c .before .operand2 .ensures .0) .0) _ (c .tally2 .ensures))
+tally-both-requires t c κs = (positive _ (c .before .before .if4 .left), tally-fits _ _ _ (operand-readable _ _ _ (c .before .before .before .before .before .before .before .before .before .before .pre .1) 0 (omega (arith, two-halves _ _ _ (c .before .before .before .before .before .before .before .before .before .before .pre .1) 38 (sym (c .before .before .before .before .before .before .before .before .kind .ensures .0) ∙ c .before .before .before .before .before .if3 .left) (inl refl))) _ (c .before .before .before .before .operand .ensures .0) .0) _ (c .before .before .before .tally .ensures), tally-fits _ _ _ (operand-readable _ _ _ (c .before .before .before .before .before .before .before .before .before .before .pre .1) 1 (omega (arith, two-halves _ _ _ (c .before .before .before .before .before .before .before .before .before .before .pre .1) 38 (sym (c .before .before .before .before .before .before .before .before .kind .ensures .0) ∙ c .before .before .before .before .before .if3 .left) (inl refl))) _ (c .before .operand2 .ensures .0) .0) _ (c .tally2 .ensures))
 
 -- src/wild.rt:58:1
 tally-returns-5 : (t : ℕ) → tally-lts.Need-returns-5 (tally-calls t) (tally-at t) tally.Post

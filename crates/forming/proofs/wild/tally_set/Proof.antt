@@ -31,11 +31,11 @@ operand-requires c κs = has-operand _ _ _ (c .before .before .before .before .p
 
 -- src/wild.rt:31:13
 kind-requires : tie.Need-kind-requires Inv-loop μ-loop
-kind-requires c κs = operand-readable _ _ _ (c .before .before .before .before .before .pre .0) _ (omega (arith, c .before .before .before .operand-count .ensures .0)) (omega (arith, c .before .before .before .before .before .pre .1)) _ (c .operand .ensures .0) .0 .here
+kind-requires c κs = operand-readable _ _ _ (c .before .before .before .before .before .pre .0) _ (omega (arith, c .before .before .before .operand-count .ensures .0)) _ (c .operand .ensures .0) .0 .here
 
 -- src/wild.rt:33:13
 returns : tie.Need-returns Inv-loop μ-loop
-returns c = tally-part _ _ _ (c .before .before .before .before .before .before .before .pre .0) (c .before .before .before .before .before .before .before .pre .1) _ _ (omega (arith, c .before .before .before .before .before .operand-count .ensures .0)) (c .before .before .operand .ensures .0) (is-any-not _ _ _ (operand-readable _ _ _ (c .before .before .before .before .before .before .before .pre .0) _ (omega (arith, c .before .before .before .before .before .operand-count .ensures .0)) (omega (arith, c .before .before .before .before .before .before .before .pre .1)) _ (c .before .before .operand .ensures .0) .0) (λ e. c .if1 .taken (c .before .kind .ensures .0 ∙ e)))
+returns c = tally-part _ _ _ (c .before .before .before .before .before .before .before .pre .0) (c .before .before .before .before .before .before .before .pre .1) _ _ (omega (arith, c .before .before .before .before .before .operand-count .ensures .0)) (c .before .before .operand .ensures .0) (is-any-not _ _ _ (operand-readable _ _ _ (c .before .before .before .before .before .before .before .pre .0) _ (omega (arith, c .before .before .before .before .before .operand-count .ensures .0)) _ (c .before .before .operand .ensures .0) .0) (λ e. c .if1 .taken (c .before .kind .ensures .0 ∙ e)))
 
 -- src/wild.rt:35:9
 add-i : tie.Need-add-i Inv-loop μ-loop
@@ -47,7 +47,7 @@ loop-less c = omega arith
 
 -- src/wild.rt:29:5
 loop-again : tie.Need-loop-again Inv-loop μ-loop
-loop-again c = any-next _ _ _ (c .before .before .before .before .before .before .before .pre .0) _ (c .before .before .before .before .loop .inv) _ (c .before .before .operand .ensures .0) (is-any-so _ _ _ (operand-readable _ _ _ (c .before .before .before .before .before .before .before .pre .0) _ (omega (arith, c .before .before .before .before .before .operand-count .ensures .0)) (omega (arith, c .before .before .before .before .before .before .before .pre .1)) _ (c .before .before .operand .ensures .0) .0) (sym (c .before .kind .ensures .0) ∙ c .if1 .left))
+loop-again c = any-next _ _ _ (c .before .before .before .before .before .before .before .pre .0) _ (c .before .before .before .before .loop .inv) _ (c .before .before .operand .ensures .0) (is-any-so _ _ _ (operand-readable _ _ _ (c .before .before .before .before .before .before .before .pre .0) _ (omega (arith, c .before .before .before .before .before .operand-count .ensures .0)) _ (c .before .before .operand .ensures .0) .0) (sym (c .before .kind .ensures .0) ∙ c .if1 .left))
 
 -- src/wild.rt:37:9
 mul-result : tie.Need-mul-result Inv-loop μ-loop

@@ -2,10 +2,10 @@ use mathlib.Core.Path.{refl}
 use Rattle.forming.proofs.Framing.{packed}
 use native.Mathlib.Omega.{arith}
 use borrow.Author.Needs.{needs}
-use Rattle.forming.proofs.frames.pack.Statement.{statement}
-use Rattle.forming.proofs.frames.pack.Tie as tie
-use Rattle.forming.proofs.frames.pack.Reads as reads
-use Rattle.forming.proofs.frames.pack.Lts as lts
+use Rattle.forming.proofs.frames.bytes_of.Statement.{statement}
+use Rattle.forming.proofs.frames.bytes_of.Tie as tie
+use Rattle.forming.proofs.frames.bytes_of.Reads as reads
+use Rattle.forming.proofs.frames.bytes_of.Lts as lts
 use Rattle.forming.proofs.frames.flag.Reads as flag-reads
 
 -- src/frames.rt:116:9
@@ -88,8 +88,8 @@ cast-t38 c = search needs
 returns : tie.Need-returns
 returns c = (packed _ (c .before .before .before .before .before .before .before .before .before .before .before .before .before .before .before .before .before .before .before .before .pre) _ _ _ _ (c .before .before .before .before .before .before .before .before .before .before .before .before .before .before .before .before .before .before .flag .ensures) (c .before .before .before .before .before .before .before .before .before .before .before .before .before .before .before .before .before .flag2 .ensures) (c .before .before .before .before .before .before .before .before .before .before .before .before .before .before .before .before .flag3 .ensures) (c .before .before .before .before .before .before .before .before .before .before .before .before .before .before .before .flag4 .ensures), refl)
 
-pub pack-spec : {M : Type 1} → statement M
-pack-spec =
+pub bytes-of-spec : {M : Type 1} → statement M
+bytes-of-spec =
     tie.close
     (tie.spec
     flag-requires

@@ -1,9 +1,9 @@
 use mathlib.Core.Path.{refl}
 use borrow.Author.Needs.{needs}
-use Rattle.forming.proofs.frames.unpack.Statement.{statement}
-use Rattle.forming.proofs.frames.unpack.Tie as tie
-use Rattle.forming.proofs.frames.unpack.Reads as reads
-use Rattle.forming.proofs.frames.unpack.Lts as lts
+use Rattle.forming.proofs.frames.frame_of.Statement.{statement}
+use Rattle.forming.proofs.frames.frame_of.Tie as tie
+use Rattle.forming.proofs.frames.frame_of.Reads as reads
+use Rattle.forming.proofs.frames.frame_of.Lts as lts
 use Rattle.forming.proofs.frames.wide.Reads as wide-reads
 use Rattle.forming.proofs.frames.word.Reads as word-reads
 
@@ -139,8 +139,8 @@ array-read-t65 c = search needs
 returns : tie.Need-returns
 returns c = rw (c .before .before .before .word .ensures, c .before .before .word2 .ensures, c .before .wide .ensures .0, c .wide2 .ensures .0) refl
 
-pub unpack-spec : {M : Type 1} → statement M
-unpack-spec =
+pub frame-of-spec : {M : Type 1} → statement M
+frame-of-spec =
     tie.close
     (tie.spec
     array-read-t12

@@ -1,10 +1,10 @@
 use Rattle.forming.proofs.Rowing.{enter-there, enter-full, enter-new}
 use native.Mathlib.Omega.{arith}
 use mathlib.Core.Path.{refl}
-use Rattle.forming.proofs.rows.enter.Statement.{statement}
-use Rattle.forming.proofs.rows.enter.Tie as tie
-use Rattle.forming.proofs.rows.enter.Reads as reads
-use Rattle.forming.proofs.rows.enter.Lts as lts
+use Rattle.forming.proofs.rows.insert_row.Statement.{statement}
+use Rattle.forming.proofs.rows.insert_row.Tie as tie
+use Rattle.forming.proofs.rows.insert_row.Reads as reads
+use Rattle.forming.proofs.rows.insert_row.Lts as lts
 use Rattle.forming.proofs.rows.find_place.Reads as find-place-reads
 use Rattle.forming.proofs.rows.put_row.Reads as put-row-reads
 use Rattle.forming.proofs.rows.shift_in.Reads as shift-in-reads
@@ -37,8 +37,8 @@ add-t14 c = omega arith
 returns-3 : tie.Need-returns-3
 returns-3 c = enter-new _ _ _ _ _ _ (c .before .before .before .before .before .before .find-place .ensures) (c .before .before .before .before .before .if1 .left) (omega arith) _ _ (c .before .before .put-row .ensures) (c .shift-in .ensures)
 
-pub enter-spec : {M : Type 1} → statement M
-enter-spec =
+pub insert-row-spec : {M : Type 1} → statement M
+insert-row-spec =
     tie.close
     (tie.spec
     find-place-requires

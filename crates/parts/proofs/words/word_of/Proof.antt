@@ -1,10 +1,10 @@
 use native.Mathlib.Omega.{arith}
 use Rattle.parts.proofs.Packing.{cell-low, pack-none, pack-whole, pack-wide}
 use borrow.Author.Needs.{needs}
-use Rattle.parts.proofs.words.pack.Statement.{statement}
-use Rattle.parts.proofs.words.pack.Tie as tie
-use Rattle.parts.proofs.words.pack.Reads as reads
-use Rattle.parts.proofs.words.pack.Lts as lts
+use Rattle.parts.proofs.words.word_of.Statement.{statement}
+use Rattle.parts.proofs.words.word_of.Tie as tie
+use Rattle.parts.proofs.words.word_of.Reads as reads
+use Rattle.parts.proofs.words.word_of.Lts as lts
 
 -- src/words.rt:40:9
 returns : tie.Need-returns
@@ -50,8 +50,8 @@ add-result-3 c = let l = cell-low _ _ (c .before .before .before .before .before
 returns-3 : tie.Need-returns-3
 returns-3 c = pack-wide _ _ (c .before .before .before .before .before .before .pre .0) (c .before .before .before .before .if1 .left) (c .before .before .if2 .left) (c .before .before .before .before .before .before .pre .1)
 
-pub pack-spec : {M : Type 1} → statement M
-pack-spec =
+pub word-of-spec : {M : Type 1} → statement M
+word-of-spec =
     tie.close
     (tie.spec
     returns

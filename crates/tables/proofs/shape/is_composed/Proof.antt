@@ -1,0 +1,14 @@
+-- As computed over all kinds.
+use Rattle.tables.proofs.Heads.{composed-is}
+use borrow.Author.Needs.{needs}
+use Rattle.tables.proofs.shape.is_composed.Statement.{statement}
+use Rattle.tables.proofs.shape.is_composed.Tie as tie
+
+shr-result : tie.Need-shr-result
+shr-result c = search needs
+
+returns : tie.Need-returns
+returns c = composed-is (c .args .kind) (c .pre)
+
+pub is-composed-spec : {M : Type 1} → statement M
+is-composed-spec = tie.close (tie.spec shr-result returns)
