@@ -18,9 +18,8 @@ use Rattle.tables.specs.Accepted.{records}
 use Rattle.tables.specs.Laws.Accepted.{Clear6, some-cut}
 use Rattle.tables.specs.Reading.{Indexed, CutOut}
 use Rattle.tables.specs.declared.reading.Cutting.{Cutting}
-use Rattle.checking.specs.declared.sweep.Swept.{Swept}
 use Rattle.checking.specs.Answer.{Checks}
-use Rattle.checking.specs.Sweeps.{Settled}
+use Rattle.checking.specs.Sweeps.{Keeps}
 
 -- ---- rules 6 to 9
 
@@ -52,6 +51,20 @@ module _ (rs : List Record) (n : ℕ) (all : n ≡ length rs) where
         unfolding judged
         refused8 h = rw (above (fault6 rs) l6 e6 c6, above (fault7 rs) l7 e7 c7, below (fault8 rs) l8 e8 h) (ap (Refused 8) (low-all (fault8 rs) l8 e8))
 
+        -- Where one of these rules is broken and the first two are not, the third is.
+        pub refused-last : (Keeps rs → ⊥) → Refused 8 l8 ≡ judged rs
+        refused-last broken =
+            refused8
+            (by-lower l8 n (λ h. h)
+            (λ h.
+            absurd
+            (broken
+            (record {
+              clear6 = clear-all l6 e6 c6;
+              clear7 = λ r k. low (fault7 rs) (length rs) .miss r (omega (arith, low-all (fault7 rs) l7 e7));
+              clear8 = λ r k. low (fault8 rs) (length rs) .miss r (omega (arith, low-all (fault8 rs) l8 e8));
+            }))))
+
         module _ (c8 : n ≤ l8) (l9 : ℕ) (e9 : l9 ≡ lowest (fault9 rs) n) where
           pub refused9 : l9 < n → Refused 9 l9 ≡ judged rs
           unfolding judged
@@ -65,22 +78,19 @@ module _ (rs : List Record) (n : ℕ) (all : n ≡ length rs) where
               rw (above (fault6 rs) l6 e6 c6, above (fault7 rs) l7 e7 c7, above (fault8 rs) l8 e8 c8, above (fault9 rs) l9 e9 h) (ap Accepted all)
 
 -- Where rules 6 to 8 are kept, rule 9 decides.
-module _ (rs : List Record) (n : ℕ) (all : n ≡ length rs) (s : Swept) (kept : Settled rs s) where
+module _ (rs : List Record) (n : ℕ) (all : n ≡ length rs) (keeps : Keeps rs) (l : ℕ) (is : l ≡ lowest (fault9 rs) n) where
   none-low : (test : ℕ → Bool) → ((r : ℕ) → r < length rs → test r ≡ false) → n ≤ lowest test n
   none-low test none = by-lower (lowest test n) n (λ h. never (sym (none (lowest test n) (omega arith)) ∙ low test n .hit h)) (λ h. h)
 
-  low-is : s .low ≡ lowest (fault9 rs) n
-  low-is = kept .low ∙ ap (lowest (fault9 rs)) (sym all)
+  pub kept-refused : l < n → Refused 9 l ≡ judged rs
+  kept-refused =
+      refused9 rs n all (lowest (fault6 rs) n) refl (none-low (fault6 rs) (keeps .clear6)) (lowest (fault7 rs) n) refl (none-low (fault7 rs) (keeps .clear7)) (lowest (fault8 rs) n) refl
+      (none-low (fault8 rs) (keeps .clear8)) l is
 
-  pub settled9 : s .low < n → Refused 9 (s .low) ≡ judged rs
-  settled9 =
-      refused9 rs n all (lowest (fault6 rs) n) refl (none-low (fault6 rs) (kept .clear6)) (lowest (fault7 rs) n) refl (none-low (fault7 rs) (kept .clear7)) (lowest (fault8 rs) n) refl
-      (none-low (fault8 rs) (kept .clear8)) (s .low) low-is
-
-  pub settled-none : n ≤ s .low → Accepted n ≡ judged rs
-  settled-none =
-      none-broken rs n all (lowest (fault6 rs) n) refl (none-low (fault6 rs) (kept .clear6)) (lowest (fault7 rs) n) refl (none-low (fault7 rs) (kept .clear7)) (lowest (fault8 rs) n) refl
-      (none-low (fault8 rs) (kept .clear8)) (s .low) low-is
+  pub kept-accepted : n ≤ l → Accepted n ≡ judged rs
+  kept-accepted =
+      none-broken rs n all (lowest (fault6 rs) n) refl (none-low (fault6 rs) (keeps .clear6)) (lowest (fault7 rs) n) refl (none-low (fault7 rs) (keeps .clear7)) (lowest (fault8 rs) n) refl
+      (none-low (fault8 rs) (keeps .clear8)) l is
 
 -- ---- rules 3 to 5
 
