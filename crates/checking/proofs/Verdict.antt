@@ -1,14 +1,16 @@
 -- The rules in their order.
 use mathlib.Core.Path.{_≡_, refl, sym, ap, _∙_}
 use mathlib.Core.Bool.{Bool, true, false}
-use mathlib.Core.List.{List}
+use mathlib.Core.List.{List, [], _∷_}
 use Prim.Native.Nat.{ℕ, _≤_, _<_}
 use native.Mathlib.Omega.{arith}
 use borrow.Author.Tests.{lt-ltb, le-ltb, eq-eqb, ne-eqb}
 use lib.Dec.{ltb}
 use lib.ListN.{length}
+use Rattle.tables.specs.declared.Checked.{Checked}
 use Rattle.tables.specs.declared.Checked.the-variants.{Accepted, Refused}
 use Rattle.tables.specs.Record.{Record}
+use Rattle.tables.specs.Table.{cutBy, cut}
 use Rattle.tables.specs.Sheet.{lowest}
 use Rattle.tables.specs.Check.{mostBytes, mostRecords, fault6, fault7, fault8, fault9, judged, judgedCut, check}
 use Rattle.prelude.proofs.Absurd.{impossible, never}
@@ -94,9 +96,28 @@ module _ (rs : List Record) (n : ℕ) (all : n ≡ length rs) (keeps : Keeps rs)
 
 -- ---- rules 3 to 5
 
--- A table that is refused needs no index.
-pub refused-checks : (table index : List ℕ) (n r : ℕ) → Refused n r ≡ check table → Checks table index (Refused n r)
-refused-checks table index n r e = record { answer = e; indexed = λ m q. impossible (cc (q)) }
+-- A table that is too long is not read.
+pub unread-checks : (table index : List ℕ) (n r : ℕ) → mostBytes < length table → Refused n r ≡ check table → Checks table index index (Refused n r)
+unread-checks table index n r h e =
+    record { answer = e; indexed = λ m q. impossible cc; entries = λ l. absurd (omega arith); rest = λ l. absurd (omega arith); unread = λ l. refl }
+
+-- An empty table has no records.
+none-cut : (table : List ℕ) → length table ≡ 0 → length (records table) ≡ 0
+unfolding cut cutBy
+none-cut [] e = refl
+none-cut (b ∷ bytes) e = absurd (omega arith)
+
+pub empty-checks : (table index : List ℕ) (n r : ℕ) → length table ≡ 0 → Refused n r ≡ check table → Checks table index index (Refused n r)
+empty-checks table index n r h e =
+    record { answer = e; indexed = λ m q. impossible cc; entries = λ l q k m. absurd (omega (arith, none-cut table h)); rest = λ l q k. refl; unread = λ l. refl }
+
+-- The records of any other are cut.
+module _ (table before index : List ℕ) (c : Cutting) (short : length table ≤ mostBytes) (out : CutOut table before index c) where
+  pub cut-checks : (a : Checked) → a ≡ check table → ((n : ℕ) → a ≡ Accepted n → Indexed table index) → Checks table before index a
+  cut-checks a e indexed = record { answer = e; indexed = indexed; entries = λ l. out .entries; rest = λ l. out .rest; unread = λ l. absurd (omega arith) }
+
+  pub refused-checks : (n r : ℕ) → Refused n r ≡ check table → Checks table before index (Refused n r)
+  refused-checks n r e = cut-checks (Refused n r) e (λ m q. impossible cc)
 
 module _ (table : List ℕ) where
   pub refused-empty : length table ≡ 0 → Refused 3 0 ≡ check table
@@ -107,7 +128,7 @@ module _ (table : List ℕ) where
   unfolding check
   refused-long e h = rw (ne-eqb (length table) 0 e, lt-ltb mostBytes (length table) h)
 
-  module _ (some : length table ≡ 0 → ⊥) (short : length table ≤ mostBytes) (index : List ℕ) (c : Cutting) (out : CutOut table index c) where
+  module _ (some : length table ≡ 0 → ⊥) (short : length table ≤ mostBytes) {before : List ℕ} (index : List ℕ) (c : Cutting) (out : CutOut table before index c) where
     pub refused4 : c .whole ≡ false → Refused 4 (c .count) ≡ check table
     unfolding check judgedCut
     refused4 e =

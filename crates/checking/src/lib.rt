@@ -57,10 +57,10 @@ fn judge(table: &[u8], index: &Index, count: usize) -> Checked
 }
 
 // The check of a table, whatever its bytes: the number of records, or the first rule broken and the lowest record at fault. It fills the index,
-// which finds all records of a table that is accepted.
+// which finds all records of a table that is accepted; of one that is refused, those that were cut.
 pub fn check(table: &[u8], index: &mut Index) -> Checked
     requires { ⌜ length (now index) ≡ mostRecords ⌝ }
-    ensures { λ a. ⌜ Checks (now (table .entry)) (now (index .exit)) a ⌝ }
+    ensures { λ a. ⌜ Checks (now (table .entry)) (now (index .entry)) (now (index .exit)) a ⌝ }
 {
     if table.len() == 0 {
         return Checked::Refused(3, 0);

@@ -46,7 +46,7 @@ module _ (table s : List ℕ) (y : Ready table s) where
   pub has-record : 0 < length (records table)
   has-record = accepted-fine table (y .count) (y .ok) .0 .some-record
 
-  module _ (index : List ℕ) (c : Cutting) (out : CutOut table index c) where
+  module _ {before : List ℕ} (index : List ℕ) (c : Cutting) (out : CutOut table before index c) where
     pub is-indexed : Indexed table index
     is-indexed = cut-accepted table index c (y .count) out (y .ok)
 
