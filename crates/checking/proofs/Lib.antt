@@ -12,5 +12,5 @@ mod Leaving
 mod Closing
 mod Allowing
 mod Gathering
-mod Entering
+mod Adding
 mod Verdict

@@ -132,7 +132,7 @@ pub record Added (rs : List Record) (role : Role) (n names : ℕ) (left left′ 
   pub held : t .held ≡ orBits (s .held) (getD below n 0)
   pub free : t .free ≡ orBits (s .free) (handedOn role names (getD below n 0) (getD frees n 0) .free)
 
--- It is fine exactly where the operand suits.
+-- What a record comes to with its operand n is fine exactly where the operand suits.
 pub record Adds (rs : List Record) (role : Role) (n names : ℕ) (left left′ below frees : List ℕ) (s t : Sum) : Type 0 where
   pub told : t .fine ≡ suits rs role n names left below frees
   pub added : t .fine ≡ true → Added rs role n names left left′ below frees s t
@@ -174,7 +174,7 @@ pub record AskKind (table index : List ℕ) (r kind : ℕ) (left below frees : L
   pub ask : AskSum table index r left below frees
   pub is : kind ≡ kindAt (records table) r
 
--- What the operands of a record that is not at fault come to.
+-- What a record that is not at fault and its operands come to.
 pub record Sums (rs : List Record) (r : ℕ) (left frees : List ℕ) (s : Sum) : Type 0 where
   pub good : hasBad rs r ≡ false
   pub left-is : Left rs left r (allNamed (take (suc r) rs))
@@ -182,13 +182,13 @@ pub record Sums (rs : List Record) (r : ℕ) (left frees : List ℕ) (s : Sum) :
   pub free : Clear6 rs → Frees rs frees r (s .free)
   pub allowed : Keeps rs → Allowed rs r (s .free)
 
--- It is fine where rules 6 to 8 are kept.
+-- What a record and its operands come to is fine where rules 6 to 8 are kept.
 pub record Gathered (rs : List Record) (r : ℕ) (left frees : List ℕ) (s : Sum) : Type 0 where
   pub told : Keeps rs → s .fine ≡ true
   pub sums : s .fine ≡ true → Sums rs r left frees s
 
--- What is known once it is added.
-pub record Entered (rs : List Record) (r : ℕ) (left below frees : List ℕ) : Type 0 where
+-- What is known once record r is added.
+pub record RecordAdded (rs : List Record) (r : ℕ) (left below frees : List ℕ) : Type 0 where
   pub good : hasBad rs r ≡ false
   pub left-is : Left rs left (r + 1) (allNamed (take (suc r) rs))
   pub kept : Known rs below frees (r + 1)

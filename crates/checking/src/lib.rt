@@ -1,4 +1,5 @@
-// The check of a table: document 01's rules 3 to 9. One pass settles most tables; each rule has its own passes where that one finds a fault.
+// The check of a table: document 01's rules 3 to 9. One pass tells whether rules 6 to 8 are kept, and passes rule by rule find the one that is broken;
+// a recursion on the record number decides rule 9.
 ghost use mathlib.Core.Path.{_≡_};
 ghost use Prim.Native.Nat.{_<_};
 ghost use lib.ListN.{length};

@@ -26,7 +26,7 @@ pub fn lower(a: usize, b: usize) -> usize
     if a < b { a } else { b }
 }
 
-// One of two truths.
+// One of two tests is true.
 pub fn either(a: bool, b: bool) -> bool
     ensures { λ r. ⌜ r ≡ (a || b) ⌝ }
 {

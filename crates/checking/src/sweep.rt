@@ -11,7 +11,7 @@ ghost use Rattle.tables.specs.Accepted.{records};
 ghost use Rattle.tables.specs.Reading.{Here};
 ghost use Rattle.checking.specs.Naming.{WholeTable};
 ghost use Rattle.checking.specs.Scopes.{own as ownOf};
-ghost use Rattle.checking.specs.Sweeps.{without as withoutOf, apart, sortOf, asked, isNamed, coveredBy, handedOn, choiceOf, AskOperand, Adds, aloneOf, oneRole, namesOf, AskSum, AskKind, Gathered, Entered, AskSweep, Passed, NoneLeft, Closed, Keeps};
+ghost use Rattle.checking.specs.Sweeps.{without as withoutOf, apart, sortOf, asked, isNamed, coveredBy, handedOn, choiceOf, AskOperand, Adds, aloneOf, oneRole, namesOf, AskSum, AskKind, Gathered, RecordAdded, AskSweep, Passed, NoneLeft, Closed, Keeps};
 use crate::scope::bit;
 use crate::scope::has;
 use crate::scope::own;
@@ -88,7 +88,7 @@ fn wanted(role: Role) -> u8
     }
 }
 
-// Record n is a name where the role asks for one.
+// Record n is a name pattern where the role asks for one.
 fn is_named(table: &[u8], index: &Index, role: Role, n: usize) -> bool
     requires { ⌜ Here (now table) (now index) n ⌝ }
     ensures { λ b. ⌜ b ≡ isNamed role (kindAt (records (now (table .entry))) n) ⌝ }
@@ -102,7 +102,7 @@ fn is_named(table: &[u8], index: &Index, role: Role, n: usize) -> bool
     }
 }
 
-// What is handed on of an operand that a binder's names cover: none of them is bound there anew.
+// What is handed on of an operand that a binder's names cover: all but those names. Not fine where one of them is bound there anew.
 fn covered(names: u32, held: u32, free: u32) -> Handed
     ensures { λ h. ⌜ h ≡ coveredBy names held free ⌝ }
 {
@@ -118,7 +118,7 @@ fn covered(names: u32, held: u32, free: u32) -> Handed
     }
 }
 
-// What is handed on of an operand of a role: all where no names cover it; a condition may have no choice.
+// What is handed on of an operand of a role: all where no names cover it. Not fine where a condition has a choice.
 fn hand_on(role: Role, names: u32, held: u32, free: u32) -> Handed
     ensures { λ h. ⌜ h ≡ handedOn role names held free ⌝ }
 {
@@ -343,8 +343,7 @@ fn bind(
     s
 }
 
-// What record r and its operands come to. A name has no operands, and leaves itself free. (Only this calls `bind` and `gather`, so that they are
-// compiled as parts of it.)
+// What record r and its operands come to. A name has no operands, and leaves itself free. Not fine where a rule is broken.
 fn sum_of(
     table: &[u8],
     index: &Index,
@@ -389,7 +388,7 @@ fn add_record(
     frees: &mut [u32; MOST_RECORDS],
 ) -> bool
     requires { ⌜ AskSum (now table) (now index) r (now left) (now below) (now frees) ⌝ }
-    ensures { λ b. ⌜ (b ≡ true → Entered (records (now (table .entry))) r (now (left .exit)) (now (below .exit)) (now (frees .exit))) × (Keeps (records (now (table .entry))) → b ≡ true) ⌝ }
+    ensures { λ b. ⌜ (b ≡ true → RecordAdded (records (now (table .entry))) r (now (left .exit)) (now (below .exit)) (now (frees .exit))) × (Keeps (records (now (table .entry))) → b ≡ true) ⌝ }
 {
     let k = kind(table, index, r);
     if k < kinds::NAME {

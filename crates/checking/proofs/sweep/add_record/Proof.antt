@@ -7,7 +7,7 @@ use Rattle.prelude.proofs.Absurd.{never}
 use Rattle.tables.specs.Accepted.{records}
 use Rattle.checking.specs.Sweeps.{sortOf}
 use Rattle.checking.proofs.Shapes.{sort-literal, sort-any}
-use Rattle.checking.proofs.Entering.{entered, entered-bare}
+use Rattle.checking.proofs.Adding.{record-added, bare-added}
 use borrow.Author.Needs.{needs}
 use Rattle.checking.proofs.sweep.add_record.Statement.{statement}
 use Rattle.checking.proofs.sweep.add_record.Tie as tie
@@ -19,13 +19,13 @@ element-write-left : tie.Need-element-write-left
 element-write-left c = search needs
 
 returns : tie.Need-returns
-returns c = (λ e. entered-bare (records (c .before .before .before .args .table .now)) (c .before .before .before .args .below .now) (c .before .before .before .args .frees .now) (c .before .before .before .args .r) (c .before .before .before .args .left .now) (c .before .before .before .pre .here .indexed .few) (c .before .before .before .pre .here .within) (inl (omega (arith, c .before .kind .ensures .0, c .if1 .taken))) (c .before .before .before .pre .left-is) (c .before .before .before .pre .kept) 1 (sort-literal _ (omega (arith, c .before .kind .ensures .0, c .if1 .taken))), λ keeps. refl)
+returns c = (λ e. bare-added (records (c .before .before .before .args .table .now)) (c .before .before .before .args .below .now) (c .before .before .before .args .frees .now) (c .before .before .before .args .r) (c .before .before .before .args .left .now) (c .before .before .before .pre .here .indexed .few) (c .before .before .before .pre .here .within) (inl (omega (arith, c .before .kind .ensures .0, c .if1 .taken))) (c .before .before .before .pre .left-is) (c .before .before .before .pre .kept) 1 (sort-literal _ (omega (arith, c .before .kind .ensures .0, c .if1 .taken))), λ keeps. refl)
 
 element-write-left-2 : tie.Need-element-write-left-2
 element-write-left-2 c = search needs
 
 returns-2 : tie.Need-returns-2
-returns-2 c = (λ e. entered-bare (records (c .before .before .before .before .args .table .now)) (c .before .before .before .before .args .below .now) (c .before .before .before .before .args .frees .now) (c .before .before .before .before .args .r) (c .before .before .before .before .args .left .now) (c .before .before .before .before .pre .here .indexed .few) (c .before .before .before .before .pre .here .within) (inr (omega (arith, c .before .before .kind .ensures .0, c .if2 .taken))) (c .before .before .before .before .pre .left-is) (c .before .before .before .before .pre .kept) 2 (sort-any _ (omega (arith, c .before .before .kind .ensures .0, c .if2 .taken))), λ keeps. refl)
+returns-2 c = (λ e. bare-added (records (c .before .before .before .before .args .table .now)) (c .before .before .before .before .args .below .now) (c .before .before .before .before .args .frees .now) (c .before .before .before .before .args .r) (c .before .before .before .before .args .left .now) (c .before .before .before .before .pre .here .indexed .few) (c .before .before .before .before .pre .here .within) (inr (omega (arith, c .before .before .kind .ensures .0, c .if2 .taken))) (c .before .before .before .before .pre .left-is) (c .before .before .before .before .pre .kept) 2 (sort-any _ (omega (arith, c .before .before .kind .ensures .0, c .if2 .taken))), λ keeps. refl)
 
 sum-of-requires : tie.Need-sum-of-requires
 sum-of-requires c κs = (record { ask = c .before .before .before .before .before .before .before .pre; is = c .before .before .before .before .before .kind .ensures .0 }, omega (arith, c .before .before .before .before .if1 .left))
@@ -52,7 +52,7 @@ element-write-frees : tie.Need-element-write-frees
 element-write-frees c = search needs
 
 returns-4 : tie.Need-returns-4
-returns-4 c = (λ e. entered (records (c .before .before .before .before .before .before .before .before .before .before .args .table .now)) (c .before .before .before .before .before .before .before .before .before .before .args .below .now) (c .before .before .before .before .before .before .before .before .before .before .args .frees .now) (c .before .before .before .before .before .before .before .before .before .before .args .r) _ (c .before .before .sum-of .result) (c .before .before .before .before .before .before .before .before .before .before .pre .here .indexed .few) (c .before .before .before .before .before .before .before .before .before .before .pre .here .within) (c .before .before .before .before .before .before .before .before .before .before .pre .kept) (c .before .before .sum-of .ensures .sums (not-false _ (c .before .if3 .left))) _ _ _ (c .sort-of .result) (c .sort-of .ensures ∙ ap sortOf (c .before .before .before .before .before .before .before .before .kind .ensures .0)) refl refl refl, λ keeps. refl)
+returns-4 c = (λ e. record-added (records (c .before .before .before .before .before .before .before .before .before .before .args .table .now)) (c .before .before .before .before .before .before .before .before .before .before .args .below .now) (c .before .before .before .before .before .before .before .before .before .before .args .frees .now) (c .before .before .before .before .before .before .before .before .before .before .args .r) _ (c .before .before .sum-of .result) (c .before .before .before .before .before .before .before .before .before .before .pre .here .indexed .few) (c .before .before .before .before .before .before .before .before .before .before .pre .here .within) (c .before .before .before .before .before .before .before .before .before .before .pre .kept) (c .before .before .sum-of .ensures .sums (not-false _ (c .before .if3 .left))) _ _ _ (c .sort-of .result) (c .sort-of .ensures ∙ ap sortOf (c .before .before .before .before .before .before .before .before .kind .ensures .0)) refl refl refl, λ keeps. refl)
 
 pub add-record-spec : {M : Type 1} → statement M
 add-record-spec =

@@ -5,7 +5,7 @@ use native.Mathlib.Omega.{arith}
 use borrow.Author.Tests.{not-true, not-false}
 use Rattle.prelude.proofs.Absurd.{never}
 use Rattle.tables.specs.Accepted.{records}
-use Rattle.checking.proofs.Entering.{Runs, runs-start, runs-more, runs-end}
+use Rattle.checking.proofs.Adding.{Runs, runs-start, runs-more, runs-end}
 use Rattle.checking.proofs.sweep.add_records.Statement.{statement}
 use Rattle.checking.proofs.sweep.add_records.Tie as tie
 

@@ -4,7 +4,7 @@ use Prim.Native.Nat.{ℕ, _-_, _≤_, _<_}
 use lib.ListN.{getD}
 use Rattle.checking.specs.Sweeps.{NoneLeft}
 use native.Mathlib.Omega.{arith}
-use Rattle.checking.proofs.Entering.{or-more, or-none}
+use Rattle.checking.proofs.Adding.{or-more, or-none}
 use Rattle.checking.proofs.sweep.left_below.Statement.{statement}
 use Rattle.checking.proofs.sweep.left_below.Tie as tie
 

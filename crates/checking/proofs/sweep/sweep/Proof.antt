@@ -8,7 +8,7 @@ use borrow.Author.Tests.{not-true, not-false}
 use Rattle.prelude.proofs.Absurd.{never}
 use Rattle.tables.specs.Accepted.{records}
 use Rattle.checking.proofs.Leaving.{left-start}
-use Rattle.checking.proofs.Entering.{none-kept, closed-keeps, keeps-closed}
+use Rattle.checking.proofs.Adding.{none-kept, closed-keeps, keeps-closed}
 use Rattle.checking.proofs.sweep.sweep.Statement.{statement}
 use Rattle.checking.proofs.sweep.sweep.Tie as tie
 

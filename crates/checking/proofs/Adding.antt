@@ -1,4 +1,4 @@
--- Record by record, what is known of those that are entered; and what follows for the whole table.
+-- Record by record, what is known of those that are added; and what follows for the whole table.
 use mathlib.Core.Path.{_≡_, refl, sym, ap, subst, _∙_}
 use mathlib.Core.Bool.{false}
 use mathlib.Core.List.{List, [], _∷_}
@@ -18,7 +18,7 @@ use Rattle.tables.specs.Check.{allNamed, hasBad}
 use Rattle.tables.specs.Laws.Accepted.{Clear6, operand-lower, bound-last, named-all, last-sort}
 use Rattle.checking.specs.declared.sweep.Sum.{Sum}
 use Rattle.checking.specs.Scopes.{hasBit, bitsBelow}
-use Rattle.checking.specs.Sweeps.{sortOf, Left, aloneOf, Passes, Frees, Allowed, Keeps, Known, Sums, Entered, Passed, Closed}
+use Rattle.checking.specs.Sweeps.{sortOf, Left, aloneOf, Passes, Frees, Allowed, Keeps, Known, Sums, RecordAdded, Passed, Closed}
 use Rattle.checking.proofs.Above.{zeros}
 use Rattle.checking.proofs.Leaving.{left-more, clear}
 use Rattle.checking.proofs.Reaching.{last-unnamed}
@@ -49,8 +49,8 @@ frees-set rs frees frees′ r v q o clear h k e f =
     }
 
 module _ (rs : List Record) (below frees : List ℕ) (r : ℕ) (left : List ℕ) (s : Sum) (few : length rs ≤ 200) (in-table : r < length rs) (kept : Known rs below frees r) (sums : Sums rs r left frees s) where
-  pub entered : (left′ below′ frees′ : List ℕ) (x : ℕ) → x ≡ sortOf (kindAt rs r) → left′ ≡ set left r x → below′ ≡ set below r (s .held) → frees′ ≡ set frees r (s .free) → Entered rs r left′ below′ frees′
-  entered left′ below′ frees′ x ex el eb ef =
+  pub record-added : (left′ below′ frees′ : List ℕ) (x : ℕ) → x ≡ sortOf (kindAt rs r) → left′ ≡ set left r x → below′ ≡ set below r (s .held) → frees′ ≡ set frees r (s .free) → RecordAdded rs r left′ below′ frees′
+  record-added left′ below′ frees′ x ex el eb ef =
       record {
         good = sums .good;
         left-is = left-more rs r (allNamed (take (suc r) rs)) left left′ x (sums .left-is) (omega arith) ex el;
@@ -79,9 +79,9 @@ set-own (x ∷ xs) (suc r) = ap (λ (ys : List ℕ). x ∷ ys) (set-own xs r)
 abbrev Bare : ℕ → Type 0
 Bare k = (k < 3) ⊎ (k ≡ 33)
 
-pub entered-bare : (rs : List Record) (below frees : List ℕ) (r : ℕ) (left : List ℕ) → length rs ≤ 200 → r < length rs → Bare (kindAt rs r) → Left rs left r (allNamed (take r rs)) → Known rs below frees r → (x : ℕ) → x ≡ sortOf (kindAt rs r) → Entered rs r (set left r x) below frees
-entered-bare rs below frees r left few h b l kept x e =
-    entered rs below frees r left (aloneOf 0 0) few h kept
+pub bare-added : (rs : List Record) (below frees : List ℕ) (r : ℕ) (left : List ℕ) → length rs ≤ 200 → r < length rs → Bare (kindAt rs r) → Left rs left r (allNamed (take r rs)) → Known rs below frees r → (x : ℕ) → x ≡ sortOf (kindAt rs r) → RecordAdded rs r (set left r x) below frees
+bare-added rs below frees r left few h b l kept x e =
+    record-added rs below frees r left (aloneOf 0 0) few h kept
     (leaf-sums rs r left frees (aloneOf 0 0) 0 h
     (⊎-elim (λ k. inl (omega arith)) inr b) l
     (free-choice (recordAt rs r) 0 0 (other 3 (omega arith) (omega arith))
@@ -116,7 +116,7 @@ none-kept rs =
 pub runs-start : (rs : List Record) (left below frees : List ℕ) → Left rs left 0 [] → Known rs below frees 0 → Runs rs left below frees 0
 runs-start rs left below frees l k = record { within = omega arith; good = λ q h. absurd (omega arith); left-is = l; kept = k }
 
-pub runs-more : (rs : List Record) (left below frees left′ below′ frees′ : List ℕ) (r : ℕ) → r < length rs → Runs rs left below frees r → Entered rs r left′ below′ frees′ → Runs rs left′ below′ frees′ (r + 1)
+pub runs-more : (rs : List Record) (left below frees left′ below′ frees′ : List ℕ) (r : ℕ) → r < length rs → Runs rs left below frees r → RecordAdded rs r left′ below′ frees′ → Runs rs left′ below′ frees′ (r + 1)
 runs-more rs left below frees left′ below′ frees′ r h o e =
     record {
       within = omega arith;
