@@ -6,12 +6,13 @@ use mathlib.Core.Logic.{inl, inr, ⊎-elim}
 use Prim.Native.Nat.{ℕ, zero, suc, _+_, _≤_, _<_, max}
 use native.Mathlib.Omega.{arith}
 use native.Mathlib.Numerals.{add-one}
-use borrow.Author.Tests.{eqb-true, le-ltb, ltb-false}
+use borrow.Author.Tests.{eqb-true, lt-ltb, le-ltb, ltb-false}
 use lib.Dec.{eqb, ltb}
 use lib.ListN.{length, getD, drop, set, length-set, replicate, length-replicate}
 use lib.Seq.{drop-cons, drop-length, getD-set-same, getD-set-other}
 use Rattle.prelude.proofs.Truth.{by-lower, implied}
 use Rattle.tables.specs.Record.{Record, shape, isFit, named, operand}
+use Rattle.tables.specs.Shapes.{firstOf}
 use Rattle.tables.specs.Table.{recordAt, kindAt}
 use Rattle.tables.specs.Sheet.{lowest, greatest, height}
 use Rattle.tables.specs.Check.{mostHeight, fault9}
@@ -46,6 +47,28 @@ greatest-most f (x ∷ xs) m h =
 greatest-none : (f : ℕ → ℕ) (ms : List ℕ) → length ms ≡ 0 → greatest (map f ms) ≡ 0
 greatest-none f [] e = refl
 greatest-none f (x ∷ xs) e = absurd (omega arith)
+
+-- ---- kinds
+
+-- A unary operator has one operand, behind the operator.
+pub record OneOperand (x : Record) : Type 0 where
+  pub begins : firstOf (x .kind) ≡ 5
+  pub one : length (named x) ≤ 1
+
+pub one-operand : (x : Record) → x .kind ≡ 4 → OneOperand x
+unfolding shape
+one-operand x e = record { begins = ap firstOf e; one = omega (arith, roles-many x, ap (λ (k : ℕ). length (shape k .roles)) e) }
+
+-- Where a height is not known, the record is no literal and no name.
+pub not-leaf : (k h x : ℕ) → h ≡ cond (isLeaf k) 1 x → h ≡ 0 → 3 < k
+not-leaf k h x e f =
+    by-lower 3 k (λ l. l)
+    (λ l.
+    let one : cond (isLeaf k) 1 x ≡ 1 = rw (lt-ltb k 4 (omega arith)) in
+    absurd (omega arith))
+
+pub literal-leaf : (k : ℕ) → k < 4 → isLeaf k ≡ true
+literal-leaf k h = rw (lt-ltb k 4 h)
 
 -- ---- heights
 
@@ -92,7 +115,7 @@ module _ (rs : List Record) (clear : Clear6 rs) where
   height-last : (last : ℕ) → suc last ≡ length rs → (r : ℕ) → r < length rs → height rs r ≤ height rs last
   height-last last e = from-last rs clear (λ r. height rs r ≤ height rs last) last e (omega arith) (λ q i h k l. omega (arith, height-operand rs clear q i h k))
 
-  leaf-height : (r : ℕ) → r < length rs → isFit (recordAt rs r) ≡ true → isLeaf (kindAt rs r) ≡ true → height rs r ≡ 1
+  pub leaf-height : (r : ℕ) → r < length rs → isFit (recordAt rs r) ≡ true → isLeaf (kindAt rs r) ≡ true → height rs r ≡ 1
   leaf-height r h fit e = omega (arith, height-at rs clear r h, greatest-none (height rs) (named (recordAt rs r)) (leaf-operands (recordAt rs r) fit e))
 
   pub known : (heights : List ℕ) (n h : ℕ) → n < length rs → isFit (recordAt rs n) ≡ true → Noted rs heights → h ≡ cond (isLeaf (kindAt rs n)) 1 (getD heights n 0) → (h ≡ 0 → ⊥) → Known rs heights n h

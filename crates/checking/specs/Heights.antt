@@ -7,7 +7,7 @@ use Prim.Native.Nat.{ℕ, _<_}
 use lib.Dec.{ltb, leb}
 use lib.ListN.{length, getD}
 use Rattle.tables.specs.Record.{Record, named, operand}
-use Rattle.tables.specs.Table.{recordAt}
+use Rattle.tables.specs.Table.{recordAt, kindAt}
 use Rattle.tables.specs.Sheet.{height}
 use Rattle.tables.specs.Check.{mostRecords, mostHeight}
 use Rattle.tables.specs.Accepted.{records}
@@ -32,8 +32,10 @@ pub record Noted (rs : List Record) (heights : List ℕ) : Type 0 where
   pub is : (q : ℕ) → q < length rs → 0 < getD heights q 0 → getD heights q 0 ≡ height rs q
   pub below : (q i : ℕ) → q < length rs → i < length (named (recordAt rs q)) → 0 < getD heights q 0 → Settled rs heights (operand (recordAt rs q) i)
 
+-- A record that is no literal and no name, of a table that keeps rule 6.
 pub record AskHeight (table index : List ℕ) (r : ℕ) (heights : List ℕ) : Type 0 where
   pub here : Here table index r
+  pub inner : 3 < kindAt (records table) r
   pub clear : Clear6 (records table)
   pub noted : Noted (records table) heights
 

@@ -4,21 +4,24 @@ ghost use mathlib.Core.Bool.{cond};
 ghost use Prim.Native.Nat.{_+_, _<_, _≤_, max};
 ghost use lib.Dec.{ltb};
 ghost use lib.ListN.{getD};
-ghost use Rattle.tables.specs.Table.{kindAt};
+ghost use Rattle.tables.specs.Record.{operand as operandIn};
+ghost use Rattle.tables.specs.Shapes.{firstOf};
+ghost use Rattle.tables.specs.Table.{recordAt, kindAt};
 ghost use Rattle.tables.specs.Sheet.{lowest as lowestOf};
 ghost use Rattle.tables.specs.Check.{mostRecords, mostHeight, fault9};
 ghost use Rattle.tables.specs.Accepted.{records};
-ghost use Rattle.tables.specs.Reading.{Here};
+ghost use Rattle.tables.specs.Reading.{Here, HasOperand};
 ghost use Rattle.checking.specs.Scopes.{KeepsRule6};
 ghost use Rattle.checking.specs.Heights.{isLeaf, isTall, AskHeight, HeightNoted};
+use crate::sweep::first_byte;
 use tables::Index;
 use tables::MOST_HEIGHT;
 use tables::MOST_RECORDS;
 use tables::kinds;
 use tables::reading::kind;
+use tables::reading::noted_operand;
 use tables::reading::operand_from;
 use tables::reading::operands_from;
-use tables::shape::first_operand;
 use tables::shape::is_between;
 use tables::shape::wide;
 
@@ -57,17 +60,29 @@ fn known_height(table: &[u8], index: &Index, n: usize, heights: &[u8; MOST_RECOR
     wide(heights[n])
 }
 
-// The height of record r. It is noted, as are the heights of all records below it that are no leaves, so that none is gone through twice.
+// The number in operand i of record r of a kind, whose operands begin at byte `first`: the index has the one of a unary operator.
+fn operand_of(table: &[u8], index: &Index, r: usize, kind: usize, first: usize, i: usize) -> usize
+    requires { ⌜ HasOperand (now table) (now index) r i × (kind ≡ kindAt (records (now table)) r) × (first ≡ firstOf (kindAt (records (now table)) r)) ⌝ }
+    ensures { λ n. ⌜ (n ≡ operandIn (recordAt (records (now (table .entry))) r) i) × (n < 256) ⌝ }
+{
+    if kind == kinds::UNARY {
+        return noted_operand(table, index, r, first, i);
+    }
+    operand_from(table, index, r, first, i)
+}
+
+// The height of record r, which is no literal and no name. It is noted, as are the heights of all records below it that are no leaves, so that none is gone through twice.
 fn note_height(table: &[u8], index: &Index, r: usize, heights: &mut [u8; MOST_RECORDS]) -> usize
     requires { ⌜ AskHeight (now table) (now index) r (now heights) ⌝ }
     ensures { λ h. ⌜ HeightNoted (records (now (table .entry))) r (now (heights .entry)) (now (heights .exit)) h ⌝ }
 {
-    let first = first_operand(kind(table, index, r));
+    let k = kind(table, index, r);
+    let first = first_byte(k);
     let count = operands_from(table, index, r, first);
     let mut high = 0;
     let mut i = 0;
     while i < count {
-        let n = operand_from(table, index, r, first, i);
+        let n = operand_of(table, index, r, k, first, i);
         let mut height = known_height(table, index, n, heights);
         if height == 0 {
             height = note_height(table, index, n, heights);
@@ -94,13 +109,17 @@ fn lowest_tall(heights: &[u8; MOST_RECORDS], count: usize) -> usize
     count
 }
 
-// The lowest record that breaks rule 9; the number of records where none does. No record is higher than the last.
+// The lowest record that breaks rule 9; the number of records where none does. No record is higher than the last, and a literal or a name has height 1.
 pub fn lowest9(table: &[u8], index: &Index, count: usize) -> usize
     requires { ⌜ KeepsRule6 (now table) (now index) count × (0 < count) ⌝ }
     ensures { λ p. ⌜ p ≡ lowestOf (fault9 (records (now (table .entry)))) count ⌝ }
 {
+    let last = count - 1;
+    if kind(table, index, last) < kinds::UNARY {
+        return count;
+    }
     let mut heights = [0u8; MOST_RECORDS];
-    let high = note_height(table, index, count - 1, &mut heights);
+    let high = note_height(table, index, last, &mut heights);
     if is_tall(high) {
         return lowest_tall(&heights, count);
     }
