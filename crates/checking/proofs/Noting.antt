@@ -59,16 +59,25 @@ pub one-operand : (x : Record) → x .kind ≡ 4 → OneOperand x
 unfolding shape
 one-operand x e = record { begins = ap firstOf e; one = omega (arith, roles-many x, ap (λ (k : ℕ). length (shape k .roles)) e) }
 
--- Where a height is not known, the record is no literal and no name.
-pub not-leaf : (k h x : ℕ) → h ≡ cond (isLeaf k) 1 x → h ≡ 0 → 3 < k
-not-leaf k h x e f =
-    by-lower 3 k (λ l. l)
-    (λ l.
-    let one : cond (isLeaf k) 1 x ≡ 1 = rw (lt-ltb k 4 (omega arith)) in
-    absurd (omega arith))
+-- Where a height is not known, the record is no leaf.
+pub not-leaf : (k h x : ℕ) → h ≡ cond (isLeaf k) 1 x → h ≡ 0 → isLeaf k ≡ false
+not-leaf k h x e f = go (isLeaf k) e
+  where
+    go : (b : Bool) → h ≡ cond b 1 x → b ≡ false
+    go true g = absurd (omega arith)
+    go false g = refl
 
-pub literal-leaf : (k : ℕ) → k < 4 → isLeaf k ≡ true
-literal-leaf k h = rw (lt-ltb k 4 h)
+-- Where the operands of a kind begin that is no leaf's.
+inner-first : (k : ℕ) → isLeaf k ≡ false → k ≤ 40 → firstOf k ≡ cond (ltb k 6) 5 4
+unfolding shape
+inner-first k e h =
+    eqb-true (firstOf k) (cond (ltb k 6) 5 4) (rw e at (each (λ k. isLeaf k || eqb (firstOf k) (cond (ltb k 6) 5 4)) 41 refl k (omega arith)))
+
+pub first-operator : (k : ℕ) → isLeaf k ≡ false → k ≤ 40 → k < 6 → 5 ≡ firstOf k
+first-operator k e h l = sym (inner-first k e h ∙ rw (lt-ltb k 6 l))
+
+pub first-other : (k : ℕ) → isLeaf k ≡ false → k ≤ 40 → 6 ≤ k → 4 ≡ firstOf k
+first-other k e h l = sym (inner-first k e h ∙ rw (le-ltb k 6 l))
 
 -- ---- heights
 

@@ -1,6 +1,6 @@
 -- Rule 9: heights noted record by record.
 use mathlib.Core.Path.{_≡_}
-use mathlib.Core.Bool.{Bool, _&&_, _||_}
+use mathlib.Core.Bool.{Bool, false, _&&_, _||_}
 use mathlib.Core.List.{List}
 use mathlib.Core.Logic.{_⊎_}
 use Prim.Native.Nat.{ℕ, _<_}
@@ -32,10 +32,10 @@ pub record Noted (rs : List Record) (heights : List ℕ) : Type 0 where
   pub is : (q : ℕ) → q < length rs → 0 < getD heights q 0 → getD heights q 0 ≡ height rs q
   pub below : (q i : ℕ) → q < length rs → i < length (named (recordAt rs q)) → 0 < getD heights q 0 → Settled rs heights (operand (recordAt rs q) i)
 
--- A record that is no literal and no name, of a table that keeps rule 6.
+-- A record that is no leaf, of a table that keeps rule 6.
 pub record AskHeight (table index : List ℕ) (r : ℕ) (heights : List ℕ) : Type 0 where
   pub here : Here table index r
-  pub inner : 3 < kindAt (records table) r
+  pub inner : isLeaf (kindAt (records table) r) ≡ false
   pub clear : Clear6 (records table)
   pub noted : Noted (records table) heights
 

@@ -1,10 +1,10 @@
 // Rule 9: heights, by recursion on the record number, which falls at each operand.
 ghost use mathlib.Core.Path.{_≡_};
-ghost use mathlib.Core.Bool.{cond};
+ghost use mathlib.Core.Bool.{false, cond};
 ghost use Prim.Native.Nat.{_+_, _<_, _≤_, max};
 ghost use lib.Dec.{ltb};
 ghost use lib.ListN.{getD};
-ghost use Rattle.tables.specs.Record.{operand as operandIn};
+ghost use Rattle.tables.specs.Record.{lastKind, operand as operandIn};
 ghost use Rattle.tables.specs.Shapes.{firstOf};
 ghost use Rattle.tables.specs.Table.{recordAt, kindAt};
 ghost use Rattle.tables.specs.Sheet.{lowest as lowestOf};
@@ -13,11 +13,12 @@ ghost use Rattle.tables.specs.Accepted.{records};
 ghost use Rattle.tables.specs.Reading.{Here, HasOperand};
 ghost use Rattle.checking.specs.Scopes.{KeepsRule6};
 ghost use Rattle.checking.specs.Heights.{isLeaf, isTall, AskHeight, HeightNoted};
-use crate::sweep::first_byte;
 use tables::Index;
 use tables::MOST_HEIGHT;
 use tables::MOST_RECORDS;
 use tables::kinds;
+use tables::reading::AFTER_OPERATOR;
+use tables::reading::PLAIN;
 use tables::reading::kind;
 use tables::reading::noted_operand;
 use tables::reading::operand_from;
@@ -49,6 +50,17 @@ fn is_leaf(kind: usize) -> bool
     is_between(kinds::NAME_PATTERN, kind, kinds::INTEGER_PATTERN)
 }
 
+// Where the operands of a kind begin whose records have some: behind the operator of a unary or binary one.
+fn first_of(kind: usize) -> usize
+    requires { ⌜ (isLeaf kind ≡ false) × (kind ≤ lastKind) ⌝ }
+    ensures { λ n. ⌜ n ≡ firstOf kind ⌝ }
+{
+    if kind < kinds::IF {
+        return AFTER_OPERATOR;
+    }
+    PLAIN
+}
+
 // The height of record n where it is known without going through its operands: 1 of a leaf, else what is noted; 0 where nothing is.
 fn known_height(table: &[u8], index: &Index, n: usize, heights: &[u8; MOST_RECORDS]) -> usize
     requires { ⌜ Here (now table) (now index) n ⌝ }
@@ -71,13 +83,13 @@ fn operand_of(table: &[u8], index: &Index, r: usize, kind: usize, first: usize, 
     operand_from(table, index, r, first, i)
 }
 
-// The height of record r, which is no literal and no name. It is noted, as are the heights of all records below it that are no leaves, so that none is gone through twice.
+// The height of record r, which is no leaf. It is noted, as are the heights of all records below it that are no leaves, so that none is gone through twice.
 fn note_height(table: &[u8], index: &Index, r: usize, heights: &mut [u8; MOST_RECORDS]) -> usize
     requires { ⌜ AskHeight (now table) (now index) r (now heights) ⌝ }
     ensures { λ h. ⌜ HeightNoted (records (now (table .entry))) r (now (heights .entry)) (now (heights .exit)) h ⌝ }
 {
     let k = kind(table, index, r);
-    let first = first_byte(k);
+    let first = first_of(k);
     let count = operands_from(table, index, r, first);
     let mut high = 0;
     let mut i = 0;
@@ -109,13 +121,13 @@ fn lowest_tall(heights: &[u8; MOST_RECORDS], count: usize) -> usize
     count
 }
 
-// The lowest record that breaks rule 9; the number of records where none does. No record is higher than the last, and a literal or a name has height 1.
+// The lowest record that breaks rule 9; the number of records where none does. No record is higher than the last, and a leaf has height 1.
 pub fn lowest9(table: &[u8], index: &Index, count: usize) -> usize
     requires { ⌜ KeepsRule6 (now table) (now index) count × (0 < count) ⌝ }
     ensures { λ p. ⌜ p ≡ lowestOf (fault9 (records (now (table .entry)))) count ⌝ }
 {
     let last = count - 1;
-    if kind(table, index, last) < kinds::UNARY {
+    if is_leaf(kind(table, index, last)) {
         return count;
     }
     let mut heights = [0u8; MOST_RECORDS];

@@ -210,7 +210,7 @@ fn one_role(kind: usize) -> Role
 }
 
 // Where the operands of a kind begin, from the operators on: for an expression, one test tells it.
-pub fn first_byte(kind: usize) -> usize
+fn first_byte(kind: usize) -> usize
     requires { ⌜ (3 < kind) × (kind ≤ lastKind) ⌝ }
     ensures { λ n. ⌜ n ≡ firstOf kind ⌝ }
 {

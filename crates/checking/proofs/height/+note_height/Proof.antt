@@ -10,6 +10,7 @@ use Rattle.tables.specs.Shapes.{firstOf}
 use Rattle.tables.specs.Table.{kindAt}
 use Rattle.tables.specs.Accepted.{records}
 use Rattle.tables.specs.Laws.Accepted.{fit-records, operand-lower}
+use Rattle.checking.specs.Heights.{isLeaf}
 use Rattle.checking.proofs.Noting.{not-leaf, known, Going, going-start, Next, next-known, next-noted, going-more, end-few, going-end}
 use Rattle.checking.proofs.height.note_height.Reads as note-height
 use Rattle.checking.proofs.height.note_height.Kinds as note-height-kinds
@@ -19,7 +20,7 @@ use Rattle.checking.proofs.height.known_height.Reads as known-height-re
 use Rattle.tables.proofs.reading.kind.Reads as kind-reads
 use Rattle.checking.proofs.height.operand_of.Reads as operand-of-reads
 use Rattle.tables.proofs.reading.operands_from.Reads as operands-from-reads
-use Rattle.checking.proofs.sweep.first_byte.Reads as first-byte-reads
+use Rattle.checking.proofs.height.first_of.Reads as first-of-reads
 use Rattle.checking.proofs.height.+note_height.{statement}
 use Rattle.checking.proofs.height.+note_height.Tie.{close}
 
@@ -34,7 +35,7 @@ lower-than t = and 3 note-height-kinds.ps (falls 3 note-height-kinds.ps _<_ μ-n
 
 abbrev calls : ℕ → note-height-lts.Claims
 calls t =
-    (kind-reads.Asked, kind-reads.Learnt, first-byte-reads.Asked, first-byte-reads.Learnt, operands-from-reads.Asked, operands-from-reads.Learnt, operand-of-reads.Asked, operand-of-reads.Learnt, known-height-reads.Asked, known-height-reads.Learnt, lower-than t, note-height.Post, higher-reads.Asked, higher-reads.Learnt)
+    (kind-reads.Asked, kind-reads.Learnt, first-of-reads.Asked, first-of-reads.Learnt, operands-from-reads.Asked, operands-from-reads.Learnt, operand-of-reads.Asked, operand-of-reads.Learnt, known-height-reads.Asked, known-height-reads.Learnt, lower-than t, note-height.Post, higher-reads.Asked, higher-reads.Learnt)
 
 abbrev Inv-loop : note-height-lts.InvT-loop
 Inv-loop table index r heights₀ k first count high₀ i₀ heights high i = Going (records table) r heights₀ heights high i
@@ -45,17 +46,17 @@ abbrev μ-loop : note-height-lts.MeasureT-loop
 kind-requires : (t : ℕ) → note-height-lts.Need-kind-requires (calls t) (at-most t) note-height.Post Inv-loop μ-loop
 kind-requires t c κs = c .before .pre .1 .here
 
-first-byte-requires : (t : ℕ) → note-height-lts.Need-first-byte-requires (calls t) (at-most t) note-height.Post Inv-loop μ-loop
-first-byte-requires t c κs = (omega (arith, c .before .before .pre .1 .inner, c .kind .ensures .0), c .kind .ensures .1)
+first-of-requires : (t : ℕ) → note-height-lts.Need-first-of-requires (calls t) (at-most t) note-height.Post Inv-loop μ-loop
+first-of-requires t c κs = (ap isLeaf (c .kind .ensures .0) ∙ c .before .before .pre .1 .inner, c .kind .ensures .1)
 
 operands-from-requires : (t : ℕ) → note-height-lts.Need-operands-from-requires (calls t) (at-most t) note-height.Post Inv-loop μ-loop
-operands-from-requires t c κs = (c .before .before .before .pre .1 .here, c .first-byte .ensures ∙ ap firstOf (c .before .kind .ensures .0))
+operands-from-requires t c κs = (c .before .before .before .pre .1 .here, c .first-of .ensures ∙ ap firstOf (c .before .kind .ensures .0))
 
 loop-holds : (t : ℕ) → note-height-lts.Need-loop-holds (calls t) (at-most t) note-height.Post Inv-loop μ-loop
 loop-holds t c = going-start (records (c .before .before .before .before .args .table .now)) (c .before .before .before .before .pre .1 .clear) (c .before .before .before .before .args .r) (c .before .before .before .before .args .heights .now) (c .before .before .before .before .pre .1 .noted)
 
 operand-of-requires : (t : ℕ) → note-height-lts.Need-operand-of-requires (calls t) (at-most t) note-height.Post Inv-loop μ-loop
-operand-of-requires t c κs = (record { here = c .before .before .before .before .before .before .pre .1 .here; has = omega (arith, c .loop-test .taken, c .before .before .operands-from .ensures .0) }, c .before .before .before .before .kind .ensures .0, c .before .before .before .first-byte .ensures ∙ ap firstOf (c .before .before .before .before .kind .ensures .0))
+operand-of-requires t c κs = (record { here = c .before .before .before .before .before .before .pre .1 .here; has = omega (arith, c .loop-test .taken, c .before .before .operands-from .ensures .0) }, c .before .before .before .before .kind .ensures .0, c .before .before .before .first-of .ensures ∙ ap firstOf (c .before .before .before .before .kind .ensures .0))
 
 -- Operand n is lower, so that it is in the table.
 is-lower : (t : ℕ) (c : note-height-lts.After-operand-of (calls t) (at-most t) note-height.Post Inv-loop μ-loop) → c .operand-of .result < c .before .before .before .before .before .before .before .args .r
@@ -113,7 +114,7 @@ pub +note-height-spec : {M : Type 1} → statement M
     close μ-note-height λ t.
     note-height-lts.spec (calls t) (at-most t) note-height.Post Inv-loop μ-loop
     (kind-requires t)
-    (first-byte-requires t)
+    (first-of-requires t)
     (operands-from-requires t)
     (loop-holds t)
     (operand-of-requires t)
