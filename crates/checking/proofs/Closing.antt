@@ -2,11 +2,12 @@
 use mathlib.Core.Path.{_≡_, refl, sym, ap, _∙_}
 use mathlib.Core.Bool.{Bool, true, false, not, _&&_, _||_}
 use mathlib.Core.List.{List, [], _∷_, map}
-use Prim.Native.Nat.{ℕ, zero, suc, _+_, _*_, _/_, _%_, _^_, _≤_, _<_}
+use Prim.Native.Nat.{ℕ, zero, suc, _+_, _*_, _/_, _%_, _^_, _<_}
 use native.Mathlib.Omega.{arith}
-use borrow.Author.Tests.{eqb-true, eq-eqb, ne-eqb, ltb-true}
+use borrow.Author.Tests.{eqb-true, eqb-false, eq-eqb, ne-eqb, ltb-true, lt-ltb}
 use lib.Bits.{bitAnd, bitOr, bitXor, and-shr, and-mod, or-shr, or-mod, xor-shr, xor-mod}
-use lib.Pow.{pow-pos, pow-add, shr-lt}
+use lib.Arith.{bin-ind}
+use lib.Pow.{pow-pos, pow-add, shr-lt, shr-shr}
 use lib.Dec.{eqb}
 use lib.ListN.{length, getD}
 use mathlib.Mathlib.Data.Bool.Basic.{or-inl, or-inr}
@@ -14,30 +15,38 @@ use Rattle.prelude.proofs.Absurd.{never}
 use Rattle.prelude.proofs.Truth.{by-test, or-false-both, by-lower}
 use Rattle.tables.specs.Record.{Record, named, operand, roleAt, nameOf}
 use Rattle.tables.specs.Table.{recordAt, kindAt}
-use Rattle.tables.specs.Sheet.{some, isIn, isName, holdsName, isCovered, parent, patternOf, isBound, inCondition}
+use Rattle.tables.specs.Sheet.{some, isName, holdsName, isCovered, patternOf, isBound, inCondition}
 use Rattle.tables.specs.Check.{chooses, fault7, fault8}
-use Rattle.tables.specs.Laws.Tests.{low, Place, in-place}
-use Rattle.tables.specs.Laws.Below.{parent-higher}
-use Rattle.tables.specs.Laws.Accepted.{condition-last, Clear6, lower, bound-operand, condition-operand, bound-last, holds-at}
+use Rattle.tables.specs.Laws.Accepted.{condition-last, Clear6, bound-operand, condition-operand, bound-last, holds-at}
 use Rattle.checking.specs.Scopes.{hasBit}
 use Rattle.checking.specs.Sweeps.{without, apart, Passes, Frees}
-use Rattle.checking.proofs.Tallness.{named-parent}
+use Rattle.checking.proofs.Reaching.{from-last}
 
 -- ---- bits
 
-digit-without : (u v : ℕ) → u ≡ 1 → v < 2 → eqb (bitXor (bitOr u v) v) 1 || eqb v 1 ≡ true
-digit-without zero v e h = absurd (omega arith)
-digit-without (suc zero) zero e h = refl
-digit-without (suc zero) (suc zero) e h = refl
-digit-without (suc zero) (suc (suc v)) e h = absurd (omega arith)
-digit-without (suc (suc u)) v e h = absurd (omega arith)
+digit-without : (u v : ℕ) → u < 2 → v < 2 → eqb (bitXor (bitOr u v) v) 1 ≡ eqb u 1 && not (eqb v 1)
+digit-without zero zero h k = refl
+digit-without zero (suc zero) h k = refl
+digit-without zero (suc (suc v)) h k = absurd (omega arith)
+digit-without (suc zero) zero h k = refl
+digit-without (suc zero) (suc zero) h k = refl
+digit-without (suc zero) (suc (suc v)) h k = absurd (omega arith)
+digit-without (suc (suc u)) v h k = absurd (omega arith)
+
+pub without-is : (a b n : ℕ) → hasBit (without a b) n ≡ hasBit a n && not (hasBit b n)
+unfolding hasBit without
+without-is a b n =
+    ap (λ (m : ℕ). eqb (m % 2) 1) (xor-shr (bitOr a b) b n ∙ ap (λ (m : ℕ). bitXor m (b / 2 ^ n)) (or-shr a b n))
+    ∙ ap (λ (m : ℕ). eqb m 1) (xor-mod (bitOr (a / 2 ^ n) (b / 2 ^ n)) (b / 2 ^ n) 1 ∙ ap (λ (m : ℕ). bitXor m (b / 2 ^ n % 2)) (or-mod (a / 2 ^ n) (b / 2 ^ n) 1))
+    ∙ digit-without (a / 2 ^ n % 2) (b / 2 ^ n % 2) (omega arith) (omega arith)
 
 pub without-bit : (a b n : ℕ) → hasBit a n ≡ true → hasBit (without a b) n || hasBit b n ≡ true
-unfolding hasBit without
-without-bit a b n e =
-    ap (λ (m : ℕ). eqb (m % 2) 1 || eqb (b / 2 ^ n % 2) 1) (xor-shr (bitOr a b) b n ∙ ap (λ (m : ℕ). bitXor m (b / 2 ^ n)) (or-shr a b n))
-    ∙ ap (λ (m : ℕ). eqb m 1 || eqb (b / 2 ^ n % 2) 1) (xor-mod (bitOr (a / 2 ^ n) (b / 2 ^ n)) (b / 2 ^ n) 1 ∙ ap (λ (m : ℕ). bitXor m (b / 2 ^ n % 2)) (or-mod (a / 2 ^ n) (b / 2 ^ n) 1))
-    ∙ digit-without (a / 2 ^ n % 2) (b / 2 ^ n % 2) (eqb-true _ 1 e) (omega arith)
+without-bit a b n e = ap (λ (t : Bool). t || hasBit b n) (without-is a b n) ∙ go (hasBit a n) (hasBit b n) e
+  where
+    go : (s t : Bool) → s ≡ true → (s && not t) || t ≡ true
+    go true true f = refl
+    go true false f = refl
+    go false t f = never f
 
 -- A number below 4 has no bits from 2 on.
 none-above : (m n : ℕ) → m < 4 → m / 2 ^ (n + 2) < 1
@@ -51,20 +60,49 @@ pub low-bits : (m n : ℕ) → m < 4 → hasBit m (n + 2) ≡ false
 unfolding hasBit
 low-bits m n h = ne-eqb (m / 2 ^ (n + 2) % 2) 1 (λ e. omega (arith, none-above m n h))
 
-digit-and : (u v : ℕ) → u ≡ 1 → v < 2 → bitAnd u v ≡ 0 → v ≡ 0
-digit-and zero v e h f = absurd (omega arith)
-digit-and (suc zero) zero e h f = refl
-digit-and (suc zero) (suc zero) e h f = f
-digit-and (suc zero) (suc (suc v)) e h f = absurd (omega arith)
-digit-and (suc (suc u)) v e h f = absurd (omega arith)
+digit-and : (u v : ℕ) → u < 2 → v < 2 → eqb (bitAnd u v) 1 ≡ eqb u 1 && eqb v 1
+digit-and zero zero h k = refl
+digit-and zero (suc zero) h k = refl
+digit-and zero (suc (suc v)) h k = absurd (omega arith)
+digit-and (suc zero) zero h k = refl
+digit-and (suc zero) (suc zero) h k = refl
+digit-and (suc zero) (suc (suc v)) h k = absurd (omega arith)
+digit-and (suc (suc u)) v h k = absurd (omega arith)
+
+and-bit : (a b n : ℕ) → hasBit (bitAnd a b) n ≡ hasBit a n && hasBit b n
+unfolding hasBit
+and-bit a b n =
+    ap (λ (m : ℕ). eqb (m % 2) 1) (and-shr a b n) ∙ ap (λ (m : ℕ). eqb m 1) (and-mod (a / 2 ^ n) (b / 2 ^ n) 1)
+    ∙ digit-and (a / 2 ^ n % 2) (b / 2 ^ n % 2) (omega arith) (omega arith)
 
 pub apart-bit : (a b n : ℕ) → apart a b ≡ true → hasBit a (n + 2) ≡ true → hasBit b (n + 2) ≡ false
-unfolding hasBit apart
-apart-bit a b n h e =
-    let none : bitAnd a b / 2 ^ (n + 2) < 1 = none-above (bitAnd a b) n (ltb-true _ 4 h) in
-    let digits : bitAnd a b / 2 ^ (n + 2) % 2 ≡ bitAnd (a / 2 ^ (n + 2) % 2) (b / 2 ^ (n + 2) % 2) = ap (λ (m : ℕ). m % 2) (and-shr a b (n + 2)) ∙ and-mod (a / 2 ^ (n + 2)) (b / 2 ^ (n + 2)) 1 in
-    let off : b / 2 ^ (n + 2) % 2 ≡ 0 = digit-and (a / 2 ^ (n + 2) % 2) (b / 2 ^ (n + 2) % 2) (eqb-true _ 1 e) (omega arith) (omega arith) in
-    ne-eqb (b / 2 ^ (n + 2) % 2) 1 (λ f. omega arith)
+unfolding apart
+apart-bit a b n h e = rw e at (sym (and-bit a b (n + 2)) ∙ low-bits (bitAnd a b) n (ltb-true (bitAnd a b) 4 h))
+
+-- A number without bits is 0, and one without bits from 2 on is below 4.
+no-bits : (m : ℕ) → ((n : ℕ) → hasBit m n ≡ false) → m ≡ 0
+unfolding hasBit
+no-bits =
+    bin-ind (λ m. ((n : ℕ) → eqb (m / 2 ^ n % 2) 1 ≡ false) → m ≡ 0) (λ e. refl)
+    (λ m ih e.
+    let half : m / 2 ≡ 0 = ih (λ n. ap (λ (k : ℕ). eqb (k % 2) 1) (shr-shr m 1 n) ∙ e (1 + n)) in
+    let one : m / 2 ^ 0 ≡ m = omega arith in
+    let even : m % 2 ≡ 1 → ⊥ = eqb-false (m % 2) 1 (ap (λ (k : ℕ). eqb (k % 2) 1) (sym one) ∙ e 0) in
+    by-lower (m % 2) 1 (λ h. omega arith) (λ h. absurd (even (omega arith))))
+
+pub few-bits : (m : ℕ) → ((n : ℕ) → hasBit m (n + 2) ≡ false) → m < 4
+unfolding hasBit
+few-bits m e =
+    let high : m / 2 ^ 2 ≡ 0 = no-bits (m / 2 ^ 2) (λ n. let sum : 2 + n ≡ n + 2 = omega arith in ap (λ (k : ℕ). eqb (k % 2) 1) (shr-shr m 2 n ∙ ap (λ (j : ℕ). m / 2 ^ j) sum) ∙ e n) in
+    omega arith
+
+pub apart-all : (a b : ℕ) → ((n : ℕ) → hasBit a (n + 2) ≡ true → hasBit b (n + 2) ≡ false) → apart a b ≡ true
+unfolding apart
+apart-all a b f = lt-ltb (bitAnd a b) 4 (few-bits (bitAnd a b) (λ n. and-bit a b (n + 2) ∙ go (hasBit a (n + 2)) (hasBit b (n + 2)) (f n)))
+  where
+    go : (s t : Bool) → (s ≡ true → t ≡ false) → s && t ≡ false
+    go true t e = e refl
+    go false t e = refl
 
 -- ---- around each record
 
@@ -112,22 +150,13 @@ module _ (rs : List Record) (clear : Clear6 rs) (frees : List ℕ) (all : (q : �
           outside = λ e. condition-last rs clear last is-last;
         }
 
-    each-around : (bound r : ℕ) → length rs ≤ r + bound → r < length rs → Around rs frees r
-    each-around zero r b h = absurd (omega arith)
-    each-around (suc bound) r b h =
-        by-lower r last
-        (λ l.
-        let q : ℕ = parent rs r in
-        let k : q < length rs = named-parent rs clear r (omega arith) in
-        let up : r < q = parent-higher rs (lower rs clear) r k in
-        let at : Place (named (recordAt rs q)) r = in-place r (named (recordAt rs q)) (low (λ q. isIn r (named (recordAt rs q))) (length rs) .hit k) in
-        rw (at .is) at (down q (at .index) k (at .within) (each-around bound q (omega arith) k)))
-        (λ l. let same : r ≡ last = omega arith in rw same top)
+    each-around : (r : ℕ) → r < length rs → Around rs frees r
+    each-around = from-last rs clear (Around rs frees) last is-last top down
 
     pub closed7 : (r : ℕ) → r < length rs → fault7 rs r ≡ false
     unfolding fault7
     closed7 r h =
-        let a : Around rs frees r = each-around (length rs) r (omega arith) h in
+        let a : Around rs frees r = each-around r h in
         or-false-both _ _
         (by-test {P = eqb (kindAt rs r) 3 && not (isBound rs r (nameOf (recordAt rs r))) ≡ false} (eqb (kindAt rs r) 3)
         (λ e. rw (e, a .bound (nameOf (recordAt rs r)) (all r h .read (eqb-true _ 3 e)))) (λ e. rw e))
@@ -142,5 +171,5 @@ module _ (rs : List Record) (clear : Clear6 rs) (frees : List ℕ) (all : (q : �
     pub closed8 : (r : ℕ) → r < length rs → fault8 rs r ≡ false
     unfolding fault8
     closed8 r h =
-        let a : Around rs frees r = each-around (length rs) r (omega arith) h in
+        let a : Around rs frees r = each-around r h in
         by-test {P = chooses rs r && inCondition rs r ≡ false} (chooses rs r) (λ e. rw (e, a .outside (all r h .chosen e))) (λ e. rw e)

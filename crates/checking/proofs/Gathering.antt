@@ -1,39 +1,41 @@
 -- What a record and its operands come to, operand by operand.
 use mathlib.Core.Path.{_≡_, refl, sym, ap, subst, _∙_}
-use mathlib.Core.Bool.{Bool, true, false, _&&_, _||_, cond}
+use mathlib.Core.Bool.{Bool, true, false, not, _&&_, _||_, cond}
 use mathlib.Core.List.{List, [], _∷_, map, append-nil, append-assoc}
-use Prim.Native.Nat.{ℕ, zero, suc, _+_, _^_, _≤_, _<_, max}
+use mathlib.Core.Logic.{⊎-elim}
+use Prim.Native.Nat.{ℕ, zero, suc, _+_, _^_, _≤_, _<_}
 use native.Mathlib.Omega.{arith}
 use native.Mathlib.Numerals.{add-one}
-use borrow.Author.Tests.{eqb-true, eq-eqb, ne-eqb, lt-ltb}
+use borrow.Author.Tests.{eqb-true, eq-eqb, ne-eqb, lt-ltb, not-true}
 use lib.Dec.{eqb}
-use lib.ListN.{length, getD, drop, take}
-use lib.Seq.{drop-cons, drop-length, take-suc, take-all}
+use lib.ListN.{length, getD, take}
+use lib.Seq.{take-suc, take-all}
 use mathlib.Mathlib.Data.Bool.Basic.{or-inl, or-inr, and-elim-left, and-elim-right}
 use Rattle.prelude.proofs.Absurd.{never}
-use Rattle.prelude.proofs.Truth.{by-lower}
+use Rattle.prelude.proofs.Truth.{by-lower, or-cases}
 use Rattle.tables.specs.declared.Role.{Role}
 use Rattle.tables.specs.declared.Role.the-variants.{Plain, Condition, Body, Pattern, Name}
 use Rattle.tables.specs.Record.{Record, lastKind, shape, isFit, named, operand, roleAt, nameOf}
 use Rattle.tables.specs.Shapes.{firstOf, rolesOf}
 use Rattle.tables.specs.Table.{recordAt, kindAt}
-use Rattle.tables.specs.Sheet.{some, greatest, height, loose, holdsName, isCovered, isCondition, isBinder, patternOf}
+use Rattle.tables.specs.Sheet.{some, isIn, loose, holdsName, isCovered, isCondition, isBinder, patternOf}
 use Rattle.tables.specs.Check.{isOfSort, allNamed, namedBefore, isBad, chooses}
 use Rattle.tables.specs.Accepted.{records}
 use Rattle.tables.specs.Reading.{Here}
 use Rattle.tables.specs.Laws.Tests.{any-false}
 use Rattle.tables.specs.Laws.Kinds.{binder-kind, binder-from, binder-most, plain-begins}
-use Rattle.tables.specs.Laws.Accepted.{Clear6, lower, operand-lower, height-at, fit-records, fit-kind}
+use Rattle.tables.specs.Laws.Accepted.{Clear6, lower, operand-lower, operand-sort, operand-first, fit-records, fit-kind}
 use Rattle.checking.specs.declared.sweep.Sum.{Sum}
 use Rattle.checking.specs.declared.sweep.Handed.{Handed}
 use Rattle.checking.specs.Scopes.{hasBit, orBits, own, bitsBelow}
-use Rattle.checking.specs.Sweeps.{without, apart, sortOf, Left, asked, isNamed, hands, stops, coveredBy, handedOn, choiceOf, freeOwn, AskOperand, Added, aloneOf, oneRole, namesOf, AskKind, Passes, Known, Names, Sums}
-use Rattle.checking.proofs.Bits.{bit-union, bit-pow, held-name, held-loose, held-even}
+use Rattle.checking.specs.Sweeps.{without, apart, sortOf, Left, asked, isNamed, hands, stops, coveredBy, handedOn, choiceOf, freeOwn, AskOperand, suits, Added, Adds, aloneOf, oneRole, namesOf, AskKind, Passes, Allowed, Keeps, Known, Names, Gathered}
+use Rattle.checking.proofs.Bits.{bit-union, bit-zero, bit-pow, held-name, held-loose, held-even}
 use Rattle.checking.proofs.Marks.{all-more}
 use Rattle.checking.proofs.Below.{Turn, turn-start, turn-more, turn-end}
-use Rattle.checking.proofs.Shapes.{binder-expression, roles-many, one-role, second-role, body-role, binder-some, expression-own, NoOperand, leaf-none, leaf-own, leaf-free}
+use Rattle.checking.proofs.Shapes.{binder-expression, roles-many, one-role, second-role, body-role, binder-some, expression-own, NoOperand, leaf-none, leaf-own, leaf-free, sort-asked, named-asked}
 use Rattle.checking.proofs.Leaving.{Due, due, left-take, sort-expression, sort-pattern, not-bad, clear}
-use Rattle.checking.proofs.Closing.{without-bit, apart-bit}
+use Rattle.checking.proofs.Closing.{without-is, without-bit, low-bits, apart-bit, apart-all}
+use Rattle.checking.proofs.Allowing.{allowed-both, read-bound, choice-outside, operand-fresh, condition-plain, allowed-up}
 
 -- ---- what is free at a record by itself
 
@@ -83,6 +85,57 @@ own-chosen rs r names clear are e = go (eqb (kindAt rs r) 13) refl e
         own-loose (recordAt rs r) names is
         (ap (λ (m : ℕ). hasBit m 1) (are .are clear (let-binds (kindAt rs r) is)) ∙ held-loose rs (patternOf rs r) ∙ and-elim-right (eqb (kindAt rs r) 12) _ g)
 
+-- Where rules 6 to 8 are kept, the bits that are free at a record by itself are allowed there.
+choice-low : (kind names : ℕ) → choiceOf kind names < 4
+unfolding choiceOf
+choice-low kind names = go (eqb kind 13 || (eqb kind 12 && hasBit names 1))
+  where
+    go : (b : Bool) → cond b 1 0 < 4
+    go true = omega arith
+    go false = omega arith
+
+choice-is : (kind names : ℕ) → hasBit (choiceOf kind names) 0 ≡ true → eqb kind 13 || (eqb kind 12 && hasBit names 1) ≡ true
+unfolding choiceOf
+choice-is kind names e = go (eqb kind 13 || (eqb kind 12 && hasBit names 1)) e
+  where
+    go : (b : Bool) → hasBit (cond b 1 0) 0 ≡ true → b ≡ true
+    go true f = refl
+    go false f = never (sym (bit-zero 0) ∙ f)
+
+module _ (rs : List Record) (keeps : Keeps rs) (r names : ℕ) (in-table : r < length rs) (are : Names rs r names) where
+  chosen-is : hasBit (choiceOf (kindAt rs r) names) 0 ≡ true → chooses rs r ≡ true
+  unfolding chooses
+  chosen-is e =
+      ⊎-elim (λ f. or-inl (eqb (kindAt rs r) 13) _ f)
+      (λ f.
+      let is : eqb (kindAt rs r) 12 ≡ true = and-elim-left _ (hasBit names 1) f in
+      or-inr (eqb (kindAt rs r) 13) _
+      (rw (is, sym (held-loose rs (patternOf rs r)), sym (are .are (keeps .clear6) (let-binds (kindAt rs r) (eqb-true (kindAt rs r) 12 is)))) (and-elim-right (eqb (kindAt rs r) 12) _ f)))
+      (or-cases (eqb (kindAt rs r) 13) (eqb (kindAt rs r) 12 && hasBit names 1) (choice-is (kindAt rs r) names e))
+
+  own-allowed : Allowed rs r (freeOwn (recordAt rs r) names)
+  unfolding freeOwn
+  own-allowed = go (eqb (kindAt rs r) 3) refl
+    where
+      go : (b : Bool) → eqb (kindAt rs r) 3 ≡ b → Allowed rs r (cond b (2 ^ (nameOf (recordAt rs r) + 2)) (choiceOf (kindAt rs r) names))
+      go true f =
+          record {
+            bound =
+                λ n e.
+                let same : nameOf (recordAt rs r) + 2 ≡ n + 2 = eqb-true _ (n + 2) (sym (bit-pow (nameOf (recordAt rs r) + 2) (n + 2)) ∙ e) in
+                let is : nameOf (recordAt rs r) ≡ n = omega arith in
+                rw is at (read-bound rs keeps r in-table (eqb-true (kindAt rs r) 3 f));
+            outside =
+                λ e.
+                let same : nameOf (recordAt rs r) + 2 ≡ 0 = eqb-true _ 0 (sym (bit-pow (nameOf (recordAt rs r) + 2) 0) ∙ e) in
+                absurd (omega arith);
+          }
+      go false f =
+          record {
+            bound = λ n e. never (sym (low-bits (choiceOf (kindAt rs r) names) n (choice-low (kindAt rs r) names)) ∙ e);
+            outside = λ e. choice-outside rs keeps r in-table (chosen-is e);
+          }
+
 -- ---- one operand
 
 pub asked-some : (x : Role) → 0 < asked x
@@ -104,6 +157,8 @@ record Hand (role : Role) (names held m o : ℕ) : Type 0 where
   pass : (n : ℕ) → hasBit m n ≡ true → hasBit o n || (isCovered role && hasBit names n) ≡ true
   outside : hasBit m 0 ≡ true → isCondition role ≡ false
   fresh : (n : ℕ) → hasBit held (n + 2) ≡ true → isCovered role && hasBit names (n + 2) ≡ false
+  from : (n : ℕ) → hasBit o n ≡ true → hasBit m n ≡ true
+  taken : (n : ℕ) → hasBit o n ≡ true → isCovered role && hasBit names n ≡ false
 
 same-free : {h : Handed} {m : ℕ} → h ≡ hands m → h .free ≡ m
 same-free e = cc
@@ -114,19 +169,34 @@ hand-all role names held m h a b e =
       pass = λ n f. or-inl (hasBit (h .free) n) _ (rw (same-free e) f);
       outside = λ f. b;
       fresh = λ n f. rw a;
+      from = λ n f. sym (ap (λ (k : ℕ). hasBit k n) (same-free e)) ∙ f;
+      taken = λ n f. rw a;
     }
 
 hand-covered : (role : Role) (names held m : ℕ) (h : Handed) → isCovered role ≡ true → (hasBit m 0 ≡ true → isCondition role ≡ false) → h ≡ coveredBy names held m → h .fine ≡ true → Hand role names held m (h .free)
 hand-covered role names held m h a b e f = go (apart held names) refl e
   where
+    off : h ≡ hands (without m names) → (n : ℕ) → hasBit (h .free) n ≡ true → hasBit m n && not (hasBit names n) ≡ true
+    off k n l = sym (without-is m names n) ∙ sym (ap (λ (q : ℕ). hasBit q n) (same-free k)) ∙ l
+
     go : (t : Bool) → apart held names ≡ t → h ≡ cond t (hands (without m names)) stops → Hand role names held m (h .free)
     go true g k =
         record {
           pass = λ n l. rw (same-free k, a) (without-bit m names n l);
           outside = b;
           fresh = λ n l. rw a (apart-bit held names n g l);
+          from = λ n l. and-elim-left (hasBit m n) (not (hasBit names n)) (off k n l);
+          taken = λ n l. rw a (not-true (hasBit names n) (and-elim-right (hasBit m n) (not (hasBit names n)) (off k n l)));
         }
     go false g k = never (sym (ap (λ (x : Handed). x .fine) k) ∙ f)
+
+-- It is fine where no name is bound anew and a condition has no choice.
+hand-fine : (role : Role) (names held m : ℕ) → (isCovered role ≡ true → apart held names ≡ true) → (isCondition role ≡ true → hasBit m 0 ≡ false) → handedOn role names held m .fine ≡ true
+hand-fine Plain names held m a b = refl
+hand-fine Condition names held m a b = rw (b refl, a refl)
+hand-fine Body names held m a b = rw (a refl)
+hand-fine Pattern names held m a b = refl
+hand-fine Name names held m a b = refl
 
 hand-of : (role : Role) (names held m : ℕ) (h : Handed) → h ≡ handedOn role names held m → h .fine ≡ true → Hand role names held m (h .free)
 hand-of Plain names held m h e f = hand-all Plain names held m h refl refl e
@@ -196,21 +266,21 @@ pub record Gathers (rs : List Record) (r : ℕ) (frees : List ℕ) (first : ℕ)
   pub good : (j : ℕ) → j < i → isBad rs r j ≡ false
   pub left-is : Left rs left r (namedBefore rs r i)
   pub held-is : Clear6 rs → Turn rs r (s .held) i
-  pub high-is : Clear6 rs → max (s .high) (greatest (map (height rs) (drop i (named (recordAt rs r))))) ≡ greatest (map (height rs) (named (recordAt rs r)))
-  pub few : s .high ≤ r
+  pub fine : s .fine ≡ true
+  pub allowed : Keeps rs → Allowed rs r (s .free)
   pub up : (n : ℕ) → hasBit first n ≡ true → hasBit (s .free) n ≡ true
   pub pass : Clear6 rs → (j : ℕ) → j < i → Passes rs r j (getD frees (operand (recordAt rs r) j) 0) (s .free)
 
-pub gathers-start : (rs : List Record) (r : ℕ) (left frees : List ℕ) (held free : ℕ) (s : Sum) → r < length rs → Left rs left r (allNamed (take r rs)) → held ≡ own (recordAt rs r) → s ≡ aloneOf held free → Gathers rs r frees free left s 0
-gathers-start rs r left frees held free s h l e f =
+pub gathers-start : (rs : List Record) (r : ℕ) (left frees : List ℕ) (held free : ℕ) (s : Sum) → r < length rs → Left rs left r (allNamed (take r rs)) → held ≡ own (recordAt rs r) → (names : ℕ) → Names rs r names → free ≡ freeOwn (recordAt rs r) names → s ≡ aloneOf held free → Gathers rs r frees free left s 0
+gathers-start rs r left frees held free s h l e names are own-is f =
     rw f
     (record {
       within = omega arith;
       good = λ j k. absurd (omega arith);
       left-is = rw (append-nil (allNamed (take r rs))) l;
       held-is = λ clear. turn-start rs r held (lower rs clear) h e;
-      high-is = λ clear. omega arith;
-      few = omega arith;
+      fine = refl;
+      allowed = λ keeps. rw own-is (own-allowed rs keeps r names h are);
       up = λ n f. f;
       pass = λ clear j k. absurd (omega arith);
     })
@@ -224,14 +294,15 @@ ask-operand {table} {index} {r} {frees} {first} {left} {s} {i} n here g byte =
       within = λ h. omega (arith, due (records table) r (namedBefore (records table) r i) left n (getD left n 0) (g .left-is) byte refl h .below, here .within);
     }
 
-module _ {rs : List Record} {r names : ℕ} {below frees highs : List ℕ} (kept : Known rs below frees highs r) (are : Names rs r names) (fit : (q : ℕ) → q < length rs → isFit (recordAt rs q) ≡ true) (in-table : r < length rs) where
-  gathers-more : {first : ℕ} {left left′ : List ℕ} {s t : Sum} {i n : ℕ} {x : Role} → Gathers rs r frees first left s i → i < length (named (recordAt rs r)) → n ≡ operand (recordAt rs r) i → n < 256 → x ≡ roleAt (recordAt rs r) i → Added rs x n names left left′ below frees highs s t → Gathers rs r frees first left′ t (i + 1)
-  gathers-more {first} {left} {left′} {s} {t} {i} {n} {x} g has is byte role a =
+module _ {rs : List Record} {r names : ℕ} {below frees : List ℕ} (kept : Known rs below frees r) (are : Names rs r names) (fit : (q : ℕ) → q < length rs → isFit (recordAt rs q) ≡ true) (in-table : r < length rs) where
+  gathers-more : {first : ℕ} {left left′ : List ℕ} {s t : Sum} {i n : ℕ} {x : Role} → Gathers rs r frees first left s i → i < length (named (recordAt rs r)) → n ≡ operand (recordAt rs r) i → n < 256 → x ≡ roleAt (recordAt rs r) i → t .fine ≡ true → Added rs x n names left left′ below frees s t → Gathers rs r frees first left′ t (i + 1)
+  gathers-more {first} {left} {left′} {s} {t} {i} {n} {x} g has is byte role fine a =
       let due-is : Due rs r (namedBefore rs r i) n (asked x) = due rs r (namedBefore rs r i) left n (asked x) (g .left-is) byte (a .sort) (asked-some x) in
       let lw : n < r = due-is .below in
       let handed : Handed = handedOn x names (getD below n 0) (getD frees n 0) in
       let mine : isOfSort x (kindAt rs n) ≡ true = sort-right x (recordAt rs n) (fit n (omega arith)) (due-is .sort) (a .kind) in
-      let hand : Hand x names (getD below n 0) (getD frees n 0) (handed .free) = hand-of x names (getD below n 0) (getD frees n 0) handed refl (a .fine) in
+      let hand : Hand (roleAt (recordAt rs r) i) names (getD below n 0) (getD frees n 0) (handed .free) =
+      subst (λ (y : Role). Hand y names (getD below n 0) (getD frees n 0) (handed .free)) role (hand-of x names (getD below n 0) (getD frees n 0) handed refl (a .fine)) in
       record {
         within = omega arith;
         good =
@@ -241,8 +312,13 @@ module _ {rs : List Record} {r names : ℕ} {below frees highs : List ℕ} (kept
             rw (add-one i, take-suc (named (recordAt rs r)) i 0 has, sym (append-assoc (allNamed (take r rs)) (take i (named (recordAt rs r))) (operand (recordAt rs r) i ∷ [])), sym is)
             (left-take rs r (namedBefore rs r i) left left′ n (g .left-is) byte lw (a .left-is));
         held-is = λ clear. turn-more rs r (s .held) i (t .held) (getD below n 0) (g .held-is clear) has (kept .held clear n lw ∙ ap (bitsBelow rs) is) (a .held);
-        high-is = λ clear. rw (add-one i) (omega (arith, old clear, kept .high clear n lw, a .high));
-        few = omega (arith, g .few, kept .few n lw, a .high);
+        fine = fine;
+        allowed =
+            λ keeps.
+            allowed-both (g .allowed keeps)
+            (allowed-up rs keeps r i in-table has (getD frees n 0) (handed .free) (subst (λ (k : ℕ). Allowed rs k (getD frees n 0)) is (kept .allowed keeps n lw)) (hand .from)
+            (λ k f. sym (covered-is rs r names (keeps .clear6) are i (k + 2) (holdsName rs (patternOf rs r) k) (held-name rs (patternOf rs r) k)) ∙ hand .taken (k + 2) f))
+            (a .free);
         up = λ b l. rw (a .free) (union-left (s .free) (handed .free) b (g .up b l));
         pass =
             λ clear j l.
@@ -250,41 +326,59 @@ module _ {rs : List Record} {r names : ℕ} {below frees highs : List ℕ} (kept
             (λ m o. passes-more rs r m (getD frees (operand (recordAt rs r) m) 0) (s .free) (t .free) (λ b p. rw (a .free) (union-left (s .free) (handed .free) b p)) (g .pass clear m o))
             (subst (λ (k : ℕ). Passes rs r i (getD frees k 0) (t .free)) is
             (passes-more rs r i (getD frees n 0) (handed .free) (t .free) (λ b p. rw (a .free) (union-right (s .free) (handed .free) b p))
-            (passes rs r names clear are i n (getD frees n 0) (getD below n 0) (handed .free) is (kept .held clear n lw) (subst (λ (y : Role). Hand y names (getD below n 0) (getD frees n 0) (handed .free)) role hand))));
+            (passes rs r names clear are i n (getD frees n 0) (getD below n 0) (handed .free) is (kept .held clear n lw) hand)));
       }
     where
       split-at : {P : ℕ → Type 0} (j : ℕ) → j < i + 1 → ((m : ℕ) → m < i → P m) → P i → P j
       split-at {P} j l a b = by-lower j i (λ m. a j m) (λ m. let same : i ≡ j = omega arith in subst P same b)
 
-      old : Clear6 rs → max (s .high) (max (height rs n) (greatest (map (height rs) (drop (suc i) (named (recordAt rs r)))))) ≡ greatest (map (height rs) (named (recordAt rs r)))
-      old clear =
-          sym (ap (λ (ns : List ℕ). max (s .high) (greatest (map (height rs) ns))) (drop-cons (named (recordAt rs r)) i 0 has ∙ ap (λ (m : ℕ). m ∷ drop (suc i) (named (recordAt rs r))) (sym is)))
-          ∙ g .high-is clear
+  -- Where rules 6 to 8 are kept, every operand suits.
+  operand-suits : Keeps rs → {first : ℕ} {left : List ℕ} {s : Sum} {i n : ℕ} {x : Role} → Gathers rs r frees first left s i → i < length (named (recordAt rs r)) → n ≡ operand (recordAt rs r) i → n < 256 → x ≡ roleAt (recordAt rs r) i → suits rs x n names left below frees ≡ true
+  operand-suits keeps {first} {left} {s} {i} {n} {x} g has is byte role =
+      let clear : Clear6 rs = keeps .clear6 in
+      let lw : n < r = omega (arith, operand-lower rs clear r i in-table has) in
+      let right : isOfSort x (kindAt rs n) ≡ true = rw (is, role) (operand-sort rs clear r i in-table has) in
+      let new : isIn n (namedBefore rs r i) ≡ false = rw is (operand-first rs clear r i in-table has) in
+      let sort : getD left n 0 ≡ asked x = g .left-is .is n byte ∙ rw (lt-ltb n r lw, new) (sort-asked x (recordAt rs n) (fit n (omega arith)) right) in
+      let fine : handedOn x names (getD below n 0) (getD frees n 0) .fine ≡ true =
+      rw role
+      (hand-fine (roleAt (recordAt rs r) i) names (getD below n 0) (getD frees n 0) (λ c. apart-all (getD below n 0) names (λ k f. new-name keeps i n k has is c (held-is clear n k lw f)))
+      (condition-plain rs keeps r i in-table has (getD frees n 0) (subst (λ (k : ℕ). Allowed rs k (getD frees n 0)) is (kept .allowed keeps n lw)))) in
+      rw (eq-eqb (getD left n 0) (asked x) sort, named-asked x (kindAt rs n) right) fine
+    where
+      held-is : Clear6 rs → (n k : ℕ) → n < r → hasBit (getD below n 0) (k + 2) ≡ true → holdsName rs n k ≡ true
+      held-is clear n k lw f = sym (ap (λ (m : ℕ). hasBit m (k + 2)) (kept .held clear n lw) ∙ held-name rs n k) ∙ f
 
-pub gathers-end : {rs : List Record} {r names : ℕ} {left frees : List ℕ} {s : Sum} {i first : ℕ} → r < length rs → Names rs r names → first ≡ freeOwn (recordAt rs r) names → Gathers rs r frees first left s i → length (named (recordAt rs r)) ≤ i → Sums rs r left frees s
+      new-name : (keeps : Keeps rs) (i n k : ℕ) → i < length (named (recordAt rs r)) → n ≡ operand (recordAt rs r) i → isCovered (roleAt (recordAt rs r) i) ≡ true → holdsName rs n k ≡ true → hasBit names (k + 2) ≡ false
+      new-name keeps i n k has is c f =
+          rw c at
+          (covered-is rs r names (keeps .clear6) are i (k + 2) (holdsName rs (patternOf rs r) k) (held-name rs (patternOf rs r) k)
+          ∙ operand-fresh rs keeps r i in-table has k (rw is at f))
+
+pub gathers-end : {rs : List Record} {r names : ℕ} {left frees : List ℕ} {s : Sum} {i first : ℕ} → r < length rs → Names rs r names → first ≡ freeOwn (recordAt rs r) names → Gathers rs r frees first left s i → length (named (recordAt rs r)) ≤ i → Gathered rs r left frees s
 gathers-end {rs} {r} {names} {left} {frees} {s} {i} {first} h are own-is g l =
     record {
-      good = any-false (isBad rs r) (length (named (recordAt rs r))) (λ j k. g .good j (omega arith));
-      left-is = rw (all-more rs r h, sym (take-all i (named (recordAt rs r)) l)) (g .left-is);
-      held = λ clear. turn-end rs r (s .held) i (g .held-is clear) l;
-      high =
-          λ clear.
-          let most : max (s .high) 0 ≡ greatest (map (height rs) (named (recordAt rs r))) = sym (ap (λ (ns : List ℕ). max (s .high) (greatest (map (height rs) ns))) none) ∙ g .high-is clear in
-          omega (arith, height-at rs clear r h);
-      few = g .few;
-      free =
-          λ clear.
+      told = λ keeps. g .fine;
+      sums =
+          λ e.
           record {
-            read = λ e. g .up (nameOf (recordAt rs r) + 2) (rw own-is (own-read (recordAt rs r) names e));
-            chosen = λ e. g .up 0 (rw own-is (own-chosen rs r names clear are e));
-            pass = λ j k. g .pass clear j (omega arith);
+            good = any-false (isBad rs r) (length (named (recordAt rs r))) (λ j k. g .good j (omega arith));
+            left-is = rw (all-more rs r h, sym (take-all i (named (recordAt rs r)) l)) (g .left-is);
+            held = λ clear. turn-end rs r (s .held) i (g .held-is clear) l;
+            free =
+                λ clear.
+                record {
+                  read = λ e. g .up (nameOf (recordAt rs r) + 2) (rw own-is (own-read (recordAt rs r) names e));
+                  chosen = λ e. g .up 0 (rw own-is (own-chosen rs r names clear are e));
+                  pass = λ j k. g .pass clear j (omega arith);
+                };
+            allowed = g .allowed;
           };
     }
-  where
-    none : drop i (named (recordAt rs r)) ≡ []
-    none =
-        let all : i ≡ length (named (recordAt rs r)) = omega (arith, g .within) in
-        rw all (drop-length (named (recordAt rs r)))
+
+-- A record stops where one of its operands does not suit.
+pub stopped : {rs : List Record} {r : ℕ} {left frees : List ℕ} {s : Sum} → s .fine ≡ false → (Keeps rs → s .fine ≡ true) → Gathered rs r left frees s
+stopped e told = record { told = told; sums = λ f. never (sym e ∙ f) }
 
 -- ---- the names that a record binds
 
@@ -292,8 +386,8 @@ no-names : (rs : List Record) (r : ℕ) → isBinder (kindAt rs r) ≡ false →
 no-names rs r e = record { are = λ clear f. never (sym e ∙ f) }
 
 -- Those of its pattern, which is lower where rule 6 is kept.
-pub pattern-names : {rs : List Record} {below frees highs : List ℕ} {r p m : ℕ} → Known rs below frees highs r → r < length rs → 0 < length (named (recordAt rs r)) → p ≡ operand (recordAt rs r) 0 → m ≡ namesOf below r p → Names rs r m
-pattern-names {rs} {below} {frees} {highs} {r} {p} {m} kept h has is e =
+pub pattern-names : {rs : List Record} {below frees : List ℕ} {r p m : ℕ} → Known rs below frees r → r < length rs → 0 < length (named (recordAt rs r)) → p ≡ operand (recordAt rs r) 0 → m ≡ namesOf below r p → Names rs r m
+pattern-names {rs} {below} {frees} {r} {p} {m} kept h has is e =
     record {
       are =
           λ clear f.
@@ -304,7 +398,7 @@ pattern-names {rs} {below} {frees} {highs} {r} {p} {m} kept h has is e =
 
 -- ---- records by kind
 
-module _ {table index : List ℕ} {r kind : ℕ} {left below frees highs : List ℕ} (ask : AskKind table index r kind left below frees highs) where
+module _ {table index : List ℕ} {r kind : ℕ} {left below frees : List ℕ} (ask : AskKind table index r kind left below frees) where
   pub fit-here : isFit (recordAt (records table) r) ≡ true
   fit-here = fit-records table r (ask .ask .here .within)
 
@@ -312,8 +406,12 @@ module _ {table index : List ℕ} {r kind : ℕ} {left below frees highs : List 
   kind-most = omega (arith, ask .is, fit-kind (recordAt (records table) r) fit-here)
 
   -- One more operand of the record.
-  pub operand-more : {names first : ℕ} {now next : List ℕ} {s t : Sum} {i n : ℕ} {x : Role} → Names (records table) r names → Gathers (records table) r frees first now s i → i < length (named (recordAt (records table) r)) → n ≡ operand (recordAt (records table) r) i → n < 256 → x ≡ roleAt (recordAt (records table) r) i → Added (records table) x n names now next below frees highs s t → Gathers (records table) r frees first next t (i + 1)
-  operand-more are = gathers-more (ask .ask .kept) are (fit-records table) (ask .ask .here .within)
+  pub operand-more : {names first : ℕ} {now next : List ℕ} {s t : Sum} {i n : ℕ} {x : Role} → Names (records table) r names → Gathers (records table) r frees first now s i → i < length (named (recordAt (records table) r)) → n ≡ operand (recordAt (records table) r) i → n < 256 → x ≡ roleAt (recordAt (records table) r) i → Adds (records table) x n names now next below frees s t → t .fine ≡ true → Gathers (records table) r frees first next t (i + 1)
+  operand-more are g has is byte role a fine = gathers-more (ask .ask .kept) are (fit-records table) (ask .ask .here .within) g has is byte role fine (a .added fine)
+
+  -- An operand that is not fine breaks a rule.
+  pub operand-stops : {names first : ℕ} {now next last : List ℕ} {s t : Sum} {i n : ℕ} {x : Role} → Names (records table) r names → Gathers (records table) r frees first now s i → i < length (named (recordAt (records table) r)) → n ≡ operand (recordAt (records table) r) i → n < 256 → x ≡ roleAt (recordAt (records table) r) i → Adds (records table) x n names now next below frees s t → t .fine ≡ false → Gathered (records table) r last frees t
+  operand-stops are g has is byte role a off = stopped off (λ keeps. a .told ∙ operand-suits (ask .ask .kept) are (fit-records table) (ask .ask .here .within) keeps g has is byte role)
 
 -- A record that binds nothing and reads no name.
 pub record BindsNothing (rs : List Record) (r kind : ℕ) : Type 0 where
@@ -321,7 +419,7 @@ pub record BindsNothing (rs : List Record) (r kind : ℕ) : Type 0 where
   pub free : 0 ≡ freeOwn (recordAt rs r) 0
   pub role : (i : ℕ) → i < length (named (recordAt rs r)) → oneRole kind ≡ roleAt (recordAt rs r) i
 
-pub binds-nothing : {table index : List ℕ} {r kind : ℕ} {left below frees highs : List ℕ} → AskKind table index r kind left below frees highs → 3 < kind → isBinder kind ≡ false → BindsNothing (records table) r kind
+pub binds-nothing : {table index : List ℕ} {r kind : ℕ} {left below frees : List ℕ} → AskKind table index r kind left below frees → 3 < kind → isBinder kind ≡ false → BindsNothing (records table) r kind
 binds-nothing {table} {index} {r} {kind} ask h e =
     let none : isBinder (kindAt (records table) r) ≡ false = ap isBinder (sym (ask .is)) ∙ e in
     let outside : (n : ℕ) → 12 ≤ n → n ≤ 20 → kindAt (records table) r ≡ n → ⊥ = λ n l m f. never (sym none ∙ binder-kind (kindAt (records table) r) (omega arith) (omega arith)) in
@@ -344,7 +442,7 @@ pub record Binds (rs : List Record) (r kind : ℕ) : Type 0 where
   pub second : Plain ≡ roleAt (recordAt rs r) 1
   pub body : (i : ℕ) → 3 ≤ i → i < length (named (recordAt rs r)) → Body ≡ roleAt (recordAt rs r) i
 
-pub binder-is : {table index : List ℕ} {r kind : ℕ} {left below frees highs : List ℕ} → AskKind table index r kind left below frees highs → isBinder kind ≡ true → Binds (records table) r kind
+pub binder-is : {table index : List ℕ} {r kind : ℕ} {left below frees : List ℕ} → AskKind table index r kind left below frees → isBinder kind ≡ true → Binds (records table) r kind
 binder-is {table} {index} {r} {kind} ask e =
     let binder : isBinder (kindAt (records table) r) ≡ true = ap isBinder (sym (ask .is)) ∙ e in
     let three : 3 ≤ length (named (recordAt (records table) r)) = binder-some (recordAt (records table) r) (fit-here ask) binder in
@@ -360,8 +458,8 @@ binder-is {table} {index} {r} {kind} ask e =
     }
 
 -- A record without operands.
-pub leaf-sums : (rs : List Record) (r : ℕ) (left frees : List ℕ) (s : Sum) (free : ℕ) → r < length rs → NoOperand (kindAt rs r) → Left rs left r (allNamed (take r rs)) → free ≡ freeOwn (recordAt rs r) 0 → s ≡ aloneOf 0 free → Sums rs r left frees s
+pub leaf-sums : (rs : List Record) (r : ℕ) (left frees : List ℕ) (s : Sum) (free : ℕ) → r < length rs → NoOperand (kindAt rs r) → Left rs left r (allNamed (take r rs)) → free ≡ freeOwn (recordAt rs r) 0 → s ≡ aloneOf 0 free → Gathered rs r left frees s
 leaf-sums rs r left frees s free h b l f e =
     gathers-end h (no-names rs r (leaf-free (kindAt rs r) b)) f
-    (gathers-start rs r left frees 0 free s h l (leaf-own (recordAt rs r) b) e)
+    (gathers-start rs r left frees 0 free s h l (leaf-own (recordAt rs r) b) 0 (no-names rs r (leaf-free (kindAt rs r) b)) f e)
     (omega (arith, leaf-none (recordAt rs r) b))

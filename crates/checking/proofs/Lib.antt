@@ -6,9 +6,11 @@ mod Shapes
 mod Above
 mod Bits
 mod Faults
-mod Tallness
+mod Reaching
+mod Noting
 mod Leaving
 mod Closing
+mod Allowing
 mod Gathering
-mod Entering
+mod Adding
 mod Verdict

@@ -83,7 +83,7 @@ operands-more rs r i n marks marks′ bad bad′ fault o h is e f m =
           rw (add-one i, take-suc (named (recordAt rs r)) i 0 h, sym (append-assoc (allNamed (take r rs)) (take i (named (recordAt rs r))) (operand (recordAt rs r) i ∷ [])), sym is) m;
     }
 
--- The same of the marks alone.
+-- After i operands of record r, the marks alone.
 pub record Names (rs : List Record) (r : ℕ) (marks : List ℕ) (i : ℕ) : Type 0 where
   pub within : i ≤ length (named (recordAt rs r))
   pub marked : Marked marks (namedBefore rs r i)

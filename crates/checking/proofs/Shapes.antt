@@ -9,9 +9,10 @@ use lib.Dec.{eqb}
 use lib.ListN.{length, getD, drop}
 use mathlib.Mathlib.Data.Bool.Basic.{and-elim-right}
 use Rattle.prelude.proofs.Absurd.{never}
-use Rattle.prelude.proofs.Truth.{by-test, by-lower}
-use Rattle.tables.specs.declared.Role.the-variants.{Plain, Body, Pattern}
-use Rattle.tables.specs.Record.{Record, shape, size, headOf, isPattern, isFit, operands, named, roleAt}
+use Rattle.prelude.proofs.Truth.{by-test, by-lower, implied}
+use Rattle.tables.specs.declared.Role.{Role}
+use Rattle.tables.specs.declared.Role.the-variants.{Plain, Condition, Body, Pattern, Name}
+use Rattle.tables.specs.Record.{Record, shape, size, headOf, isExpression, isPattern, isFit, operands, named, roleAt}
 use Rattle.tables.specs.Sheet.{any, isBinder}
 use Rattle.tables.specs.Laws.Tests.{each}
 use Rattle.tables.specs.Laws.Kinds.{not-loose, pattern-kinds, binder-most, pattern-least}
@@ -20,7 +21,8 @@ use Rattle.tables.specs.Laws.Roles.{roleBy, role-by, binder-later}
 use Rattle.tables.specs.Laws.Operands.{operands-few, isFirst, binder-roles}
 use Rattle.tables.specs.Laws.Accepted.{named-count, fit-least, fit-kind}
 use Rattle.checking.specs.Scopes.{own}
-use Rattle.checking.specs.Sweeps.{sortOf, oneRole}
+use Rattle.tables.specs.Check.{isOfSort}
+use Rattle.checking.specs.Sweeps.{sortOf, asked, isNamed, oneRole}
 use Rattle.checking.proofs.Below.{own-none}
 
 pub binder-expression : (k : ℕ) → isBinder k ≡ true → isPattern k ≡ false
@@ -98,3 +100,30 @@ sort-literal k h = sym (rw (not-true (isPattern k) (each (λ k. not (isPattern k
 pub sort-any : (k : ℕ) → k ≡ 33 → 2 ≡ sortOf k
 unfolding shape
 sort-any k e = subst (λ (j : ℕ). 2 ≡ sortOf j) (sym e) refl
+
+-- A record of the sort that a role asks for.
+expression-plain : (k : ℕ) → k ≤ 40 → isExpression k ≡ true → isPattern k ≡ false
+unfolding shape
+expression-plain k h e =
+    not-true (isPattern k) (implied (isExpression k) (not (isPattern k)) (each (λ k. not (isExpression k) || not (isPattern k)) 41 refl k (omega arith)) e)
+
+expression-sort : (x : Record) → isFit x ≡ true → isExpression (x .kind) ≡ true → sortOf (x .kind) ≡ 1
+expression-sort x fit e = rw (expression-plain (x .kind) (fit-kind x fit) e)
+
+name-sort : (k : ℕ) → k ≡ 32 → sortOf k ≡ 2
+unfolding shape
+name-sort k e = subst (λ (j : ℕ). sortOf j ≡ 2) (sym e) refl
+
+pub sort-asked : (role : Role) (x : Record) → isFit x ≡ true → isOfSort role (x .kind) ≡ true → sortOf (x .kind) ≡ asked role
+sort-asked Plain x fit e = expression-sort x fit e
+sort-asked Condition x fit e = expression-sort x fit e
+sort-asked Body x fit e = expression-sort x fit e
+sort-asked Pattern x fit e = rw e
+sort-asked Name x fit e = name-sort (x .kind) (eqb-true (x .kind) 32 e)
+
+pub named-asked : (role : Role) (k : ℕ) → isOfSort role k ≡ true → isNamed role k ≡ true
+named-asked Plain k e = refl
+named-asked Condition k e = refl
+named-asked Body k e = refl
+named-asked Pattern k e = refl
+named-asked Name k e = e

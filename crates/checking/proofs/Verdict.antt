@@ -1,14 +1,16 @@
 -- The rules in their order.
 use mathlib.Core.Path.{_≡_, refl, sym, ap, _∙_}
 use mathlib.Core.Bool.{Bool, true, false}
-use mathlib.Core.List.{List}
+use mathlib.Core.List.{List, [], _∷_}
 use Prim.Native.Nat.{ℕ, _≤_, _<_}
 use native.Mathlib.Omega.{arith}
 use borrow.Author.Tests.{lt-ltb, le-ltb, eq-eqb, ne-eqb}
 use lib.Dec.{ltb}
 use lib.ListN.{length}
+use Rattle.tables.specs.declared.Checked.{Checked}
 use Rattle.tables.specs.declared.Checked.the-variants.{Accepted, Refused}
 use Rattle.tables.specs.Record.{Record}
+use Rattle.tables.specs.Table.{cutBy, cut}
 use Rattle.tables.specs.Sheet.{lowest}
 use Rattle.tables.specs.Check.{mostBytes, mostRecords, fault6, fault7, fault8, fault9, judged, judgedCut, check}
 use Rattle.prelude.proofs.Absurd.{impossible, never}
@@ -18,9 +20,8 @@ use Rattle.tables.specs.Accepted.{records}
 use Rattle.tables.specs.Laws.Accepted.{Clear6, some-cut}
 use Rattle.tables.specs.Reading.{Indexed, CutOut}
 use Rattle.tables.specs.declared.reading.Cutting.{Cutting}
-use Rattle.checking.specs.declared.sweep.Swept.{Swept}
 use Rattle.checking.specs.Answer.{Checks}
-use Rattle.checking.specs.Sweeps.{Settled}
+use Rattle.checking.specs.Sweeps.{Keeps}
 
 -- ---- rules 6 to 9
 
@@ -52,6 +53,20 @@ module _ (rs : List Record) (n : ℕ) (all : n ≡ length rs) where
         unfolding judged
         refused8 h = rw (above (fault6 rs) l6 e6 c6, above (fault7 rs) l7 e7 c7, below (fault8 rs) l8 e8 h) (ap (Refused 8) (low-all (fault8 rs) l8 e8))
 
+        -- Where one of these rules is broken and the first two are not, the third is.
+        pub refused-last : (Keeps rs → ⊥) → Refused 8 l8 ≡ judged rs
+        refused-last broken =
+            refused8
+            (by-lower l8 n (λ h. h)
+            (λ h.
+            absurd
+            (broken
+            (record {
+              clear6 = clear-all l6 e6 c6;
+              clear7 = λ r k. low (fault7 rs) (length rs) .miss r (omega (arith, low-all (fault7 rs) l7 e7));
+              clear8 = λ r k. low (fault8 rs) (length rs) .miss r (omega (arith, low-all (fault8 rs) l8 e8));
+            }))))
+
         module _ (c8 : n ≤ l8) (l9 : ℕ) (e9 : l9 ≡ lowest (fault9 rs) n) where
           pub refused9 : l9 < n → Refused 9 l9 ≡ judged rs
           unfolding judged
@@ -65,28 +80,44 @@ module _ (rs : List Record) (n : ℕ) (all : n ≡ length rs) where
               rw (above (fault6 rs) l6 e6 c6, above (fault7 rs) l7 e7 c7, above (fault8 rs) l8 e8 c8, above (fault9 rs) l9 e9 h) (ap Accepted all)
 
 -- Where rules 6 to 8 are kept, rule 9 decides.
-module _ (rs : List Record) (n : ℕ) (all : n ≡ length rs) (s : Swept) (kept : Settled rs s) where
+module _ (rs : List Record) (n : ℕ) (all : n ≡ length rs) (keeps : Keeps rs) (l : ℕ) (is : l ≡ lowest (fault9 rs) n) where
   none-low : (test : ℕ → Bool) → ((r : ℕ) → r < length rs → test r ≡ false) → n ≤ lowest test n
   none-low test none = by-lower (lowest test n) n (λ h. never (sym (none (lowest test n) (omega arith)) ∙ low test n .hit h)) (λ h. h)
 
-  low-is : s .low ≡ lowest (fault9 rs) n
-  low-is = kept .low ∙ ap (lowest (fault9 rs)) (sym all)
+  pub kept-refused : l < n → Refused 9 l ≡ judged rs
+  kept-refused =
+      refused9 rs n all (lowest (fault6 rs) n) refl (none-low (fault6 rs) (keeps .clear6)) (lowest (fault7 rs) n) refl (none-low (fault7 rs) (keeps .clear7)) (lowest (fault8 rs) n) refl
+      (none-low (fault8 rs) (keeps .clear8)) l is
 
-  pub settled9 : s .low < n → Refused 9 (s .low) ≡ judged rs
-  settled9 =
-      refused9 rs n all (lowest (fault6 rs) n) refl (none-low (fault6 rs) (kept .clear6)) (lowest (fault7 rs) n) refl (none-low (fault7 rs) (kept .clear7)) (lowest (fault8 rs) n) refl
-      (none-low (fault8 rs) (kept .clear8)) (s .low) low-is
-
-  pub settled-none : n ≤ s .low → Accepted n ≡ judged rs
-  settled-none =
-      none-broken rs n all (lowest (fault6 rs) n) refl (none-low (fault6 rs) (kept .clear6)) (lowest (fault7 rs) n) refl (none-low (fault7 rs) (kept .clear7)) (lowest (fault8 rs) n) refl
-      (none-low (fault8 rs) (kept .clear8)) (s .low) low-is
+  pub kept-accepted : n ≤ l → Accepted n ≡ judged rs
+  kept-accepted =
+      none-broken rs n all (lowest (fault6 rs) n) refl (none-low (fault6 rs) (keeps .clear6)) (lowest (fault7 rs) n) refl (none-low (fault7 rs) (keeps .clear7)) (lowest (fault8 rs) n) refl
+      (none-low (fault8 rs) (keeps .clear8)) l is
 
 -- ---- rules 3 to 5
 
--- A table that is refused needs no index.
-pub refused-checks : (table index : List ℕ) (n r : ℕ) → Refused n r ≡ check table → Checks table index (Refused n r)
-refused-checks table index n r e = record { answer = e; indexed = λ m q. impossible (cc (q)) }
+-- A table that is too long is not read.
+pub unread-checks : (table index : List ℕ) (n r : ℕ) → mostBytes < length table → Refused n r ≡ check table → Checks table index index (Refused n r)
+unread-checks table index n r h e =
+    record { answer = e; indexed = λ m q. impossible cc; entries = λ l. absurd (omega arith); rest = λ l. absurd (omega arith); unread = λ l. refl }
+
+-- An empty table has no records.
+none-cut : (table : List ℕ) → length table ≡ 0 → length (records table) ≡ 0
+unfolding cut cutBy
+none-cut [] e = refl
+none-cut (b ∷ bytes) e = absurd (omega arith)
+
+pub empty-checks : (table index : List ℕ) (n r : ℕ) → length table ≡ 0 → Refused n r ≡ check table → Checks table index index (Refused n r)
+empty-checks table index n r h e =
+    record { answer = e; indexed = λ m q. impossible cc; entries = λ l q k m. absurd (omega (arith, none-cut table h)); rest = λ l q k. refl; unread = λ l. refl }
+
+-- The records of any other are cut.
+module _ (table before index : List ℕ) (c : Cutting) (short : length table ≤ mostBytes) (out : CutOut table before index c) where
+  pub cut-checks : (a : Checked) → a ≡ check table → ((n : ℕ) → a ≡ Accepted n → Indexed table index) → Checks table before index a
+  cut-checks a e indexed = record { answer = e; indexed = indexed; entries = λ l. out .entries; rest = λ l. out .rest; unread = λ l. absurd (omega arith) }
+
+  pub refused-checks : (n r : ℕ) → Refused n r ≡ check table → Checks table before index (Refused n r)
+  refused-checks n r e = cut-checks (Refused n r) e (λ m q. impossible cc)
 
 module _ (table : List ℕ) where
   pub refused-empty : length table ≡ 0 → Refused 3 0 ≡ check table
@@ -97,7 +128,7 @@ module _ (table : List ℕ) where
   unfolding check
   refused-long e h = rw (ne-eqb (length table) 0 e, lt-ltb mostBytes (length table) h)
 
-  module _ (some : length table ≡ 0 → ⊥) (short : length table ≤ mostBytes) (index : List ℕ) (c : Cutting) (out : CutOut table index c) where
+  module _ (some : length table ≡ 0 → ⊥) (short : length table ≤ mostBytes) {before : List ℕ} (index : List ℕ) (c : Cutting) (out : CutOut table before index c) where
     pub refused4 : c .whole ≡ false → Refused 4 (c .count) ≡ check table
     unfolding check judgedCut
     refused4 e =

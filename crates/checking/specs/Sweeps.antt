@@ -1,8 +1,8 @@
--- What one pass over the records keeps: which are left to be named, what each holds and leaves free, and its height.
+-- What one pass over the records keeps: which are left to be named, and what each holds and leaves free.
 use mathlib.Core.Path.{_≡_}
 use mathlib.Core.Bool.{Bool, true, false, not, _&&_, _||_, cond}
 use mathlib.Core.List.{List, []}
-use Prim.Native.Nat.{ℕ, suc, _+_, _^_, _<_, _≤_, max}
+use Prim.Native.Nat.{ℕ, suc, _+_, _^_, _<_, _≤_}
 use lib.Bits.{bitAnd, bitOr, bitXor}
 use lib.Dec.{eqb, ltb}
 use lib.ListN.{length, getD, set, take}
@@ -10,8 +10,8 @@ use Rattle.tables.specs.declared.Role.{Role}
 use Rattle.tables.specs.declared.Role.the-variants.{Plain, Condition, Body, Pattern, Name}
 use Rattle.tables.specs.Record.{Record, isPattern, named, operand, roleAt, nameOf}
 use Rattle.tables.specs.Table.{recordAt, kindAt}
-use Rattle.tables.specs.Sheet.{lowest, isIn, height, holdsName, isCovered, isCondition, isBinder, patternOf}
-use Rattle.tables.specs.Check.{mostRecords, mostHeight, allNamed, hasBad, chooses, fault7, fault8, fault9}
+use Rattle.tables.specs.Sheet.{isIn, holdsName, isCovered, isCondition, isBinder, patternOf, isBound, inCondition}
+use Rattle.tables.specs.Check.{mostRecords, allNamed, hasBad, chooses, fault7, fault8}
 use Rattle.tables.specs.Accepted.{records}
 use Rattle.tables.specs.Laws.Accepted.{Clear6}
 use Rattle.tables.specs.Reading.{Indexed, Here}
@@ -19,7 +19,12 @@ use Rattle.checking.specs.Naming.{WholeTable}
 use Rattle.checking.specs.Scopes.{hasBit, orBits, bitsBelow}
 use Rattle.checking.specs.declared.sweep.Sum.{Sum}
 use Rattle.checking.specs.declared.sweep.Handed.{Handed}
-use Rattle.checking.specs.declared.sweep.Swept.{Swept}
+
+-- Rules 6 to 8 are kept.
+pub record Keeps (rs : List Record) : Type 0 where
+  pub clear6 : Clear6 rs
+  pub clear7 : (r : ℕ) → r < length rs → fault7 rs r ≡ false
+  pub clear8 : (r : ℕ) → r < length rs → fault8 rs r ≡ false
 
 -- ---- bits
 
@@ -100,6 +105,11 @@ pub record Frees (rs : List Record) (frees : List ℕ) (q o : ℕ) : Type 0 wher
   pub chosen : chooses rs q ≡ true → hasBit o 0 ≡ true
   pub pass : (i : ℕ) → i < length (named (recordAt rs q)) → Passes rs q i (getD frees (operand (recordAt rs q) i) 0) o
 
+-- The free bits m are allowed at record r: each name is bound around it, and a choice lies outside conditions.
+pub record Allowed (rs : List Record) (r m : ℕ) : Type 0 where
+  pub bound : (n : ℕ) → hasBit m (n + 2) ≡ true → isBound rs r n ≡ true
+  pub outside : hasBit m 0 ≡ true → inCondition rs r ≡ false
+
 -- ---- one more operand
 
 -- The operand n of a record; where it is left to be named, it is in the table.
@@ -108,19 +118,28 @@ pub record AskOperand (table index : List ℕ) (n : ℕ) (left : List ℕ) : Typ
   pub byte : n < 256
   pub within : 0 < getD left n 0 → n < length (records table)
 
+-- Operand n is left, of the sort that its role asks for, binds no name anew and, as a condition, has no choice.
+abbrev pub suits : List Record → Role → ℕ → ℕ → List ℕ → List ℕ → List ℕ → Bool
+suits rs role n names left below frees =
+    eqb (getD left n 0) (asked role) && (isNamed role (kindAt rs n) && handedOn role names (getD below n 0) (getD frees n 0) .fine)
+
 -- What a record comes to without its operand n, s, and with it, t.
-pub record Added (rs : List Record) (role : Role) (n names : ℕ) (left left′ below frees highs : List ℕ) (s t : Sum) : Type 0 where
+pub record Added (rs : List Record) (role : Role) (n names : ℕ) (left left′ below frees : List ℕ) (s t : Sum) : Type 0 where
   pub sort : getD left n 0 ≡ asked role
   pub kind : isNamed role (kindAt rs n) ≡ true
   pub left-is : left′ ≡ set left n 0
   pub fine : handedOn role names (getD below n 0) (getD frees n 0) .fine ≡ true
   pub held : t .held ≡ orBits (s .held) (getD below n 0)
   pub free : t .free ≡ orBits (s .free) (handedOn role names (getD below n 0) (getD frees n 0) .free)
-  pub high : t .high ≡ max (s .high) (getD highs n 0)
+
+-- What a record comes to with its operand n is fine exactly where the operand suits.
+pub record Adds (rs : List Record) (role : Role) (n names : ℕ) (left left′ below frees : List ℕ) (s t : Sum) : Type 0 where
+  pub told : t .fine ≡ suits rs role n names left below frees
+  pub added : t .fine ≡ true → Added rs role n names left left′ below frees s t
 
 -- What a record comes to by itself, of the bits that it holds and leaves free.
 abbrev pub aloneOf : ℕ → ℕ → Sum
-aloneOf held free = record { fine = true; held = held; free = free; high = 0 }
+aloneOf held free = record { fine = true; held = held; free = free }
 
 -- The role of all operands of a kind that binds nothing.
 abbrev pub oneRole : ℕ → Role
@@ -133,70 +152,65 @@ namesOf below r p = cond (ltb p r) (getD below p 0) 0
 -- ---- the pass
 
 -- What is known of the records below r; most of it where all keep rule 6, which the pass finds out by the way.
-pub record Known (rs : List Record) (below frees highs : List ℕ) (r : ℕ) : Type 0 where
+pub record Known (rs : List Record) (below frees : List ℕ) (r : ℕ) : Type 0 where
   pub long-below : length below ≡ mostRecords
   pub long-frees : length frees ≡ mostRecords
-  pub long-highs : length highs ≡ mostRecords
   pub held : Clear6 rs → (q : ℕ) → q < r → getD below q 0 ≡ bitsBelow rs q
-  pub high : Clear6 rs → (q : ℕ) → q < r → getD highs q 0 ≡ height rs q
-  pub few : (q : ℕ) → q < r → getD highs q 0 ≤ q + 1
   pub zero-below : (q : ℕ) → r ≤ q → getD below q 0 ≡ 0
   pub zero-frees : (q : ℕ) → r ≤ q → getD frees q 0 ≡ 0
   pub free : Clear6 rs → (q : ℕ) → q < r → Frees rs frees q (getD frees q 0)
+  pub allowed : Keeps rs → (q : ℕ) → q < r → Allowed rs q (getD frees q 0)
 
-pub record AskSum (table index : List ℕ) (r : ℕ) (left below frees highs : List ℕ) : Type 0 where
+pub record AskSum (table index : List ℕ) (r : ℕ) (left below frees : List ℕ) : Type 0 where
   pub here : Here table index r
   pub left-is : Left (records table) left r (allNamed (take r (records table)))
-  pub kept : Known (records table) below frees highs r
+  pub kept : Known (records table) below frees r
 
 -- The names that a binder's pattern holds.
 pub record Names (rs : List Record) (r names : ℕ) : Type 0 where
   pub are : Clear6 rs → isBinder (kindAt rs r) ≡ true → names ≡ bitsBelow rs (patternOf rs r)
 
-pub record AskKind (table index : List ℕ) (r kind : ℕ) (left below frees highs : List ℕ) : Type 0 where
-  pub ask : AskSum table index r left below frees highs
+pub record AskKind (table index : List ℕ) (r kind : ℕ) (left below frees : List ℕ) : Type 0 where
+  pub ask : AskSum table index r left below frees
   pub is : kind ≡ kindAt (records table) r
 
--- What the operands of a record that is not at fault come to.
+-- What a record that is not at fault and its operands come to.
 pub record Sums (rs : List Record) (r : ℕ) (left frees : List ℕ) (s : Sum) : Type 0 where
   pub good : hasBad rs r ≡ false
   pub left-is : Left rs left r (allNamed (take (suc r) rs))
   pub held : Clear6 rs → s .held ≡ bitsBelow rs r
-  pub high : Clear6 rs → s .high + 1 ≡ height rs r
-  pub few : s .high ≤ r
   pub free : Clear6 rs → Frees rs frees r (s .free)
+  pub allowed : Keeps rs → Allowed rs r (s .free)
 
--- What is known once it is entered.
-pub record Entered (rs : List Record) (r : ℕ) (left below frees highs : List ℕ) : Type 0 where
+-- What a record and its operands come to is fine where rules 6 to 8 are kept.
+pub record Gathered (rs : List Record) (r : ℕ) (left frees : List ℕ) (s : Sum) : Type 0 where
+  pub told : Keeps rs → s .fine ≡ true
+  pub sums : s .fine ≡ true → Sums rs r left frees s
+
+-- What is known once record r is added.
+pub record RecordAdded (rs : List Record) (r : ℕ) (left below frees : List ℕ) : Type 0 where
   pub good : hasBad rs r ≡ false
   pub left-is : Left rs left (r + 1) (allNamed (take (suc r) rs))
-  pub kept : Known rs below frees highs (r + 1)
+  pub kept : Known rs below frees (r + 1)
 
-pub record AskSweep (table index : List ℕ) (count : ℕ) (left below frees highs : List ℕ) : Type 0 where
+pub record AskSweep (table index : List ℕ) (count : ℕ) (left below frees : List ℕ) : Type 0 where
   pub whole : WholeTable table index count
   pub left-is : Left (records table) left 0 []
-  pub kept : Known (records table) below frees highs 0
+  pub kept : Known (records table) below frees 0
 
 -- What is known after all records.
-pub record Passed (rs : List Record) (left frees highs : List ℕ) : Type 0 where
+pub record Passed (rs : List Record) (left frees : List ℕ) : Type 0 where
   pub good : (q : ℕ) → q < length rs → hasBad rs q ≡ false
   pub left-is : Left rs left (length rs) (allNamed rs)
   pub free : Clear6 rs → (q : ℕ) → q < length rs → Frees rs frees q (getD frees q 0)
-  pub high : Clear6 rs → (q : ℕ) → q < length rs → getD highs q 0 ≡ height rs q
+  pub allowed : Keeps rs → (q : ℕ) → q < length rs → Allowed rs q (getD frees q 0)
 
--- Rule 9, of the heights.
-abbrev pub isTall : List ℕ → ℕ → Bool
-isTall highs q = ltb mostHeight (getD highs q 0)
+-- No record below n is left.
+abbrev pub NoneLeft : List ℕ → ℕ → Type 0
+NoneLeft left n = (q : ℕ) → q < n → getD left q 0 ≡ 0
 
 -- The last record is an expression, with no name free, and the only one left.
 pub record Closed (left frees : List ℕ) (last : ℕ) : Type 0 where
   pub one : getD left last 0 ≡ 1
-  pub none : (q : ℕ) → q < last → getD left q 0 ≡ 0
+  pub none : NoneLeft left last
   pub shut : getD frees last 0 < 4
-
--- What the pass answers: where it is fine, rules 6 to 8 are kept, and the lowest record that breaks rule 9 is known.
-pub record Settled (rs : List Record) (s : Swept) : Type 0 where
-  pub clear6 : Clear6 rs
-  pub clear7 : (r : ℕ) → r < length rs → fault7 rs r ≡ false
-  pub clear8 : (r : ℕ) → r < length rs → fault8 rs r ≡ false
-  pub low : s .low ≡ lowest (fault9 rs) (length rs)

@@ -1,10 +1,12 @@
-// The check of a table: document 01's rules 3 to 9. One pass settles most tables; each rule has its own passes where that one finds a fault.
+// The check of a table: document 01's rules 3 to 9. One pass tells whether rules 6 to 8 are kept, and passes rule by rule find the one that is broken;
+// a recursion on the record number decides rule 9.
 ghost use mathlib.Core.Path.{_≡_};
 ghost use Prim.Native.Nat.{_<_};
 ghost use lib.ListN.{length};
 ghost use Rattle.tables.specs.Check.{mostRecords, judged};
 ghost use Rattle.tables.specs.Accepted.{records};
 ghost use Rattle.checking.specs.Naming.{WholeTable};
+ghost use Rattle.checking.specs.Sweeps.{Keeps};
 ghost use Rattle.checking.specs.Answer.{Checks};
 use height::lowest9;
 use naming::lowest6;
@@ -22,9 +24,9 @@ pub mod naming;
 pub mod scope;
 pub mod sweep;
 
-// Rules 6 to 9 on the records that an index finds, one after the other.
-fn judge_each(table: &[u8], index: &Index, count: usize) -> Checked
-    requires { ⌜ WholeTable (now table) (now index) count × (0 < count) ⌝ }
+// The first of rules 6 to 8 that is broken, and the lowest record at fault, where one of them is.
+fn refuse(table: &[u8], index: &Index, count: usize) -> Checked
+    requires { ⌜ WholeTable (now table) (now index) count × (0 < count) × (Keeps (records (now table)) → ⊥) ⌝ }
     ensures { λ a. ⌜ a ≡ judged (records (now (table .entry))) ⌝ }
 {
     let low6 = lowest6(table, index, count);
@@ -36,28 +38,19 @@ fn judge_each(table: &[u8], index: &Index, count: usize) -> Checked
     if low7 < count {
         return Checked::Refused(7, low7);
     }
-    let low8 = lows.low8;
-    if low8 < count {
-        return Checked::Refused(8, low8);
-    }
-    let low9 = lowest9(table, index, count);
-    if low9 < count {
-        return Checked::Refused(9, low9);
-    }
-    Checked::Accepted(count)
+    Checked::Refused(8, lows.low8)
 }
 
-// The same: one pass settles a table that keeps rules 6 to 8.
+// Rules 6 to 9 on the records that an index finds.
 fn judge(table: &[u8], index: &Index, count: usize) -> Checked
     requires { ⌜ WholeTable (now table) (now index) count × (0 < count) ⌝ }
     ensures { λ a. ⌜ a ≡ judged (records (now (table .entry))) ⌝ }
 {
-    let s = sweep(table, index, count);
-    let fine = s.fine;
+    let fine = sweep(table, index, count);
     if !fine {
-        return judge_each(table, index, count);
+        return refuse(table, index, count);
     }
-    let low = s.low;
+    let low = lowest9(table, index, count);
     if low < count {
         return Checked::Refused(9, low);
     }
@@ -65,10 +58,10 @@ fn judge(table: &[u8], index: &Index, count: usize) -> Checked
 }
 
 // The check of a table, whatever its bytes: the number of records, or the first rule broken and the lowest record at fault. It fills the index,
-// which finds all records of a table that is accepted.
+// which finds all records of a table that is accepted; of one that is refused, those that were cut.
 pub fn check(table: &[u8], index: &mut Index) -> Checked
     requires { ⌜ length (now index) ≡ mostRecords ⌝ }
-    ensures { λ a. ⌜ Checks (now (table .entry)) (now (index .exit)) a ⌝ }
+    ensures { λ a. ⌜ Checks (now (table .entry)) (now (index .entry)) (now (index .exit)) a ⌝ }
 {
     if table.len() == 0 {
         return Checked::Refused(3, 0);

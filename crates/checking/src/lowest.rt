@@ -1,8 +1,8 @@
 // The lowest record at fault, found record by record.
 ghost use mathlib.Core.Path.{_≡_};
-ghost use mathlib.Core.Bool.{_&&_, _||_, cond};
+ghost use mathlib.Core.Bool.{_||_, cond};
 ghost use Prim.Native.Nat.{suc, _+_, _<_, _≤_, min};
-ghost use lib.Dec.{leb, ltb};
+ghost use lib.Dec.{ltb};
 ghost use Rattle.tables.specs.Check.{mostRecords};
 
 // The lowest fault below r + 1, where `low` is the lowest below r (r where there is none).
@@ -26,7 +26,7 @@ pub fn lower(a: usize, b: usize) -> usize
     if a < b { a } else { b }
 }
 
-// One of two truths.
+// One of two tests is true.
 pub fn either(a: bool, b: bool) -> bool
     ensures { λ r. ⌜ r ≡ (a || b) ⌝ }
 {

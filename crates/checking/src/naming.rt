@@ -143,7 +143,7 @@ fn is_stray(table: &[u8], index: &Index, count: usize, r: usize, marks: &[u8; MO
     !marked
 }
 
-// The lowest such record.
+// The lowest record that is never named, or is the last and a pattern; the number of records where there is none.
 fn lowest_stray(table: &[u8], index: &Index, count: usize, marks: &[u8; MOST_RECORDS]) -> usize
     requires { ⌜ AskStray (now table) (now index) count (now marks) ⌝ }
     ensures { λ p. ⌜ p ≡ lowestOf (isStray (records (now (table .entry)))) count ⌝ }

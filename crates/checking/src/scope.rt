@@ -26,12 +26,14 @@ const CONDITION: u32 = 1;
 
 const LOOSE: u32 = 2;
 
+// The bits of either.
 pub fn union(a: u32, b: u32) -> u32
     ensures { λ r. ⌜ r ≡ orBits a b ⌝ }
 {
     a | b
 }
 
+// The number with bit n alone.
 pub fn bit(n: usize) -> u32
     requires { ⌜ n < 32 ⌝ }
     ensures { λ r. ⌜ r ≡ 2 ^ n ⌝ }
@@ -39,6 +41,7 @@ pub fn bit(n: usize) -> u32
     1 << n
 }
 
+// Bit n is set.
 pub fn has(m: u32, n: usize) -> bool
     requires { ⌜ n < 32 ⌝ }
     ensures { λ b. ⌜ b ≡ hasBit m n ⌝ }
@@ -216,7 +219,7 @@ fn lowest7(
     low
 }
 
-// The same of rule 8.
+// The lowest record that breaks rule 8; the number of records where none does.
 fn lowest8(
     table: &[u8],
     index: &Index,
@@ -237,12 +240,13 @@ fn lowest8(
     low
 }
 
-// The lowest records that break rules 7 and 8.
+// The lowest record that breaks rule 7, and the lowest that breaks rule 8; the number of records where none does.
 pub struct Lows {
     pub low7: usize,
     pub low8: usize,
 }
 
+// The lowest records that break rules 7 and 8.
 pub fn lowest78(table: &[u8], index: &Index, count: usize) -> Lows
     requires { ⌜ KeepsRule6 (now table) (now index) count ⌝ }
     ensures { λ s. ⌜ (s .low7 ≡ lowestOf (fault7Of (records (now (table .entry)))) count) × (s .low8 ≡ lowestOf (fault8Of (records (now (table .entry)))) count) ⌝ }

@@ -1,19 +1,17 @@
-// One pass over the records that settles every table which keeps rules 6 to 8; where it finds a fault, the passes rule by rule tell which.
+// One pass over the records that tells whether rules 6 to 8 are kept; where one is broken, the passes rule by rule tell which.
 ghost use mathlib.Core.Path.{_≡_};
 ghost use mathlib.Core.Bool.{true, false};
-ghost use Prim.Native.Nat.{ℕ, _<_, _≤_, max};
-ghost use lib.ListN.{getD};
+ghost use Prim.Native.Nat.{_<_, _≤_};
 ghost use Rattle.tables.specs.Record.{lastKind};
 ghost use Rattle.tables.specs.Shapes.{firstOf};
 ghost use Rattle.tables.specs.Table.{recordAt, kindAt};
-ghost use Rattle.tables.specs.Sheet.{lowest as lowestOf, isBinder};
+ghost use Rattle.tables.specs.Sheet.{isBinder};
 ghost use Rattle.tables.specs.Check.{mostRecords};
 ghost use Rattle.tables.specs.Accepted.{records};
 ghost use Rattle.tables.specs.Reading.{Here};
 ghost use Rattle.checking.specs.Naming.{WholeTable};
 ghost use Rattle.checking.specs.Scopes.{own as ownOf};
-ghost use Rattle.checking.specs.Sweeps.{without as withoutOf, apart, sortOf, asked, isNamed, coveredBy, handedOn, choiceOf, AskOperand, Added, aloneOf, oneRole, namesOf, AskSum, AskKind, Sums, Entered, AskSweep, Passed, isTall, Closed, Settled};
-use crate::height::higher;
+ghost use Rattle.checking.specs.Sweeps.{without as withoutOf, apart, sortOf, asked, isNamed, coveredBy, handedOn, choiceOf, AskOperand, Adds, aloneOf, oneRole, namesOf, AskSum, AskKind, Gathered, RecordAdded, AskSweep, Passed, NoneLeft, Closed, Keeps};
 use crate::scope::bit;
 use crate::scope::has;
 use crate::scope::own;
@@ -32,7 +30,6 @@ use tables::shape::first_operand;
 use tables::shape::is_binder;
 use tables::shape::is_pattern;
 use tables::shape::role_of;
-use tables::shape::wide;
 
 // For each number that a byte holds: whether such a record is left to be named, and of which sort.
 pub type Left = [u8; 256];
@@ -41,20 +38,17 @@ const EXPRESSION: u8 = 1;
 
 const PATTERN: u8 = 2;
 
-const HIGHEST: u8 = 32;
-
 // The first bit of a name; a choice is bit 0.
 const CHOICE: u32 = 1;
 
 const FIRST_NAME: u32 = 4;
 
-// What a record and its operands come to: the bits held at and below it, as in `scope`; the names that are free there (bits from 2 on) and
-// whether there is a choice (bit 0); the greatest height of an operand.
+// What a record and its operands come to: whether no rule is found broken; the bits held at and below it, as in `scope`; the names that are free
+// there (bits from 2 on) and whether there is a choice (bit 0).
 pub struct Sum {
     pub fine: bool,
     pub held: u32,
     pub free: u32,
-    pub high: usize,
 }
 
 // What a record hands on of an operand's free bits.
@@ -63,14 +57,9 @@ pub struct Handed {
     pub free: u32,
 }
 
-// What the pass answers: whether rules 6 to 8 are kept, and the lowest record that breaks rule 9.
-pub struct Swept {
-    pub fine: bool,
-    pub low: usize,
-}
-
 // ---- bits
 
+// The bits of a that b does not have.
 fn without(a: u32, b: u32) -> u32
     ensures { λ r. ⌜ r ≡ withoutOf a b ⌝ }
 {
@@ -99,7 +88,7 @@ fn wanted(role: Role) -> u8
     }
 }
 
-// Record n is a name where the role asks for one.
+// Record n is a name pattern where the role asks for one.
 fn is_named(table: &[u8], index: &Index, role: Role, n: usize) -> bool
     requires { ⌜ Here (now table) (now index) n ⌝ }
     ensures { λ b. ⌜ b ≡ isNamed role (kindAt (records (now (table .entry))) n) ⌝ }
@@ -113,7 +102,7 @@ fn is_named(table: &[u8], index: &Index, role: Role, n: usize) -> bool
     }
 }
 
-// What is handed on of an operand that a binder's names cover: none of them is bound there anew.
+// What is handed on of an operand that a binder's names cover: all but those names. Not fine where one of them is bound there anew.
 fn covered(names: u32, held: u32, free: u32) -> Handed
     ensures { λ h. ⌜ h ≡ coveredBy names held free ⌝ }
 {
@@ -129,7 +118,7 @@ fn covered(names: u32, held: u32, free: u32) -> Handed
     }
 }
 
-// The same for each role: a condition has no choice.
+// What is handed on of an operand of a role: all where no names cover it. Not fine where a condition has a choice.
 fn hand_on(role: Role, names: u32, held: u32, free: u32) -> Handed
     ensures { λ h. ⌜ h ≡ handedOn role names held free ⌝ }
 {
@@ -161,10 +150,9 @@ fn add_operand(
     left: &mut Left,
     below: &[u32; MOST_RECORDS],
     frees: &[u32; MOST_RECORDS],
-    highs: &[u8; MOST_RECORDS],
 ) -> Sum
     requires { ⌜ AskOperand (now table) (now index) n (now left) ⌝ }
-    ensures { λ t. ⌜ (t .fine ≡ true → Added (records (now (table .entry))) role n names (now (left .entry)) (now (left .exit)) (now (below .entry)) (now (frees .entry)) (now (highs .entry)) s t) ⌝ }
+    ensures { λ t. ⌜ Adds (records (now (table .entry))) role n names (now (left .entry)) (now (left .exit)) (now (below .entry)) (now (frees .entry)) s t ⌝ }
 {
     if left[n] != wanted(role) {
         return stop();
@@ -184,10 +172,10 @@ fn add_operand(
         fine: true,
         held: union(s.held, inner),
         free: union(s.free, handed.free),
-        high: higher(s.high, wide(highs[n])),
     }
 }
 
+// What a record comes to where a rule is broken.
 fn stop() -> Sum
     ensures { λ s. ⌜ s .fine ≡ false ⌝ }
 {
@@ -195,7 +183,6 @@ fn stop() -> Sum
         fine: false,
         held: 0,
         free: 0,
-        high: 0,
     }
 }
 
@@ -209,7 +196,6 @@ fn alone(held: u32, free: u32) -> Sum
         fine: true,
         held,
         free,
-        high: 0,
     }
 }
 
@@ -257,10 +243,9 @@ fn gather(
     left: &mut Left,
     below: &[u32; MOST_RECORDS],
     frees: &[u32; MOST_RECORDS],
-    highs: &[u8; MOST_RECORDS],
 ) -> Sum
-    requires { ⌜ AskKind (now table) (now index) r kind (now left) (now below) (now frees) (now highs) × (3 < kind) × (isBinder kind ≡ false) ⌝ }
-    ensures { λ s. ⌜ (s .fine ≡ true → Sums (records (now (table .entry))) r (now (left .exit)) (now (frees .entry)) s) ⌝ }
+    requires { ⌜ AskKind (now table) (now index) r kind (now left) (now below) (now frees) × (3 < kind) × (isBinder kind ≡ false) ⌝ }
+    ensures { λ s. ⌜ Gathered (records (now (table .entry))) r (now (left .exit)) (now (frees .entry)) s ⌝ }
 {
     let mut s = alone(own_of(table, index, r, kind), 0);
     let role = one_role(kind);
@@ -269,7 +254,7 @@ fn gather(
     let mut i = 0;
     while i < count {
         let n = operand_from(table, index, r, first, i);
-        s = add_operand(table, index, s, role, n, 0, left, below, frees, highs);
+        s = add_operand(table, index, s, role, n, 0, left, below, frees);
         let fine = s.fine;
         if !fine {
             return s;
@@ -306,7 +291,8 @@ fn choice(kind: usize, names: u32) -> u32
     0
 }
 
-// The same for a binder, whose operands differ in their roles: its pattern, its set or value, its condition (a let has none), and its bodies.
+// What record r and its operands come to, where it is a binder, whose operands differ in their roles: its pattern, its set or value, its condition
+// (a let has none), and its bodies. Not fine where a rule is broken.
 fn bind(
     table: &[u8],
     index: &Index,
@@ -315,30 +301,29 @@ fn bind(
     left: &mut Left,
     below: &[u32; MOST_RECORDS],
     frees: &[u32; MOST_RECORDS],
-    highs: &[u8; MOST_RECORDS],
 ) -> Sum
-    requires { ⌜ AskKind (now table) (now index) r kind (now left) (now below) (now frees) (now highs) × (isBinder kind ≡ true) ⌝ }
-    ensures { λ s. ⌜ (s .fine ≡ true → Sums (records (now (table .entry))) r (now (left .exit)) (now (frees .entry)) s) ⌝ }
+    requires { ⌜ AskKind (now table) (now index) r kind (now left) (now below) (now frees) × (isBinder kind ≡ true) ⌝ }
+    ensures { λ s. ⌜ Gathered (records (now (table .entry))) r (now (left .exit)) (now (frees .entry)) s ⌝ }
 {
     let p = operand_from(table, index, r, PLAIN, 0);
     let names = names_of(below, r, p);
     let mut s = alone(0, choice(kind, names));
     let role = role_of(kind, 0);
-    s = add_operand(table, index, s, role, p, names, left, below, frees, highs);
+    s = add_operand(table, index, s, role, p, names, left, below, frees);
     let fine = s.fine;
     if !fine {
         return s;
     }
     let n = operand_from(table, index, r, PLAIN, 1);
     let role = Role::Plain;
-    s = add_operand(table, index, s, role, n, names, left, below, frees, highs);
+    s = add_operand(table, index, s, role, n, names, left, below, frees);
     let fine = s.fine;
     if !fine {
         return s;
     }
     let n = operand_from(table, index, r, PLAIN, 2);
     let role = role_of(kind, 2);
-    s = add_operand(table, index, s, role, n, names, left, below, frees, highs);
+    s = add_operand(table, index, s, role, n, names, left, below, frees);
     let fine = s.fine;
     if !fine {
         return s;
@@ -348,7 +333,7 @@ fn bind(
     let mut i = 3;
     while i < count {
         let n = operand_from(table, index, r, PLAIN, i);
-        s = add_operand(table, index, s, role, n, names, left, below, frees, highs);
+        s = add_operand(table, index, s, role, n, names, left, below, frees);
         let fine = s.fine;
         if !fine {
             return s;
@@ -358,8 +343,7 @@ fn bind(
     s
 }
 
-// What record r and its operands come to. A name has no operands, and leaves itself free. (Only this calls `bind` and `gather`, so that they are
-// compiled as parts of it.)
+// What record r and its operands come to. A name has no operands, and leaves itself free. Not fine where a rule is broken.
 fn sum_of(
     table: &[u8],
     index: &Index,
@@ -368,22 +352,22 @@ fn sum_of(
     left: &mut Left,
     below: &[u32; MOST_RECORDS],
     frees: &[u32; MOST_RECORDS],
-    highs: &[u8; MOST_RECORDS],
 ) -> Sum
-    requires { ⌜ AskKind (now table) (now index) r kind (now left) (now below) (now frees) (now highs) × (2 < kind) ⌝ }
-    ensures { λ s. ⌜ (s .fine ≡ true → Sums (records (now (table .entry))) r (now (left .exit)) (now (frees .entry)) s) ⌝ }
+    requires { ⌜ AskKind (now table) (now index) r kind (now left) (now below) (now frees) × (2 < kind) ⌝ }
+    ensures { λ s. ⌜ Gathered (records (now (table .entry))) r (now (left .exit)) (now (frees .entry)) s ⌝ }
 {
     if kind == kinds::NAME {
         return alone(0, bit(field(table, index, r, 0) + 2));
     }
     if is_binder(kind) {
-        return bind(table, index, r, kind, left, below, frees, highs);
+        return bind(table, index, r, kind, left, below, frees);
     }
-    gather(table, index, r, kind, left, below, frees, highs)
+    gather(table, index, r, kind, left, below, frees)
 }
 
 // ---- all records
 
+// The sort of the records of a kind.
 fn sort_of(kind: usize) -> u8
     ensures { λ x. ⌜ x ≡ sortOf kind ⌝ }
 {
@@ -393,32 +377,29 @@ fn sort_of(kind: usize) -> u8
     EXPRESSION
 }
 
-// Enters record r with what it and its operands come to, and leaves it to be named; false where a rule is broken. A literal and any have no
+// Adds record r with what it and its operands come to, and leaves it to be named; false where a rule is broken. A literal and any have no
 // operands, and hold and leave nothing.
-fn enter(
+fn add_record(
     table: &[u8],
     index: &Index,
     r: usize,
     left: &mut Left,
     below: &mut [u32; MOST_RECORDS],
     frees: &mut [u32; MOST_RECORDS],
-    highs: &mut [u8; MOST_RECORDS],
 ) -> bool
-    requires { ⌜ AskSum (now table) (now index) r (now left) (now below) (now frees) (now highs) ⌝ }
-    ensures { λ b. ⌜ (b ≡ true → Entered (records (now (table .entry))) r (now (left .exit)) (now (below .exit)) (now (frees .exit)) (now (highs .exit))) ⌝ }
+    requires { ⌜ AskSum (now table) (now index) r (now left) (now below) (now frees) ⌝ }
+    ensures { λ b. ⌜ (b ≡ true → RecordAdded (records (now (table .entry))) r (now (left .exit)) (now (below .exit)) (now (frees .exit))) × (Keeps (records (now (table .entry))) → b ≡ true) ⌝ }
 {
     let k = kind(table, index, r);
     if k < kinds::NAME {
         left[r] = EXPRESSION;
-        highs[r] = 1;
         return true;
     }
     if k == kinds::ANY_PATTERN {
         left[r] = PATTERN;
-        highs[r] = 1;
         return true;
     }
-    let s = sum_of(table, index, r, k, left, below, frees, highs);
+    let s = sum_of(table, index, r, k, left, below, frees);
     let fine = s.fine;
     if !fine {
         return false;
@@ -426,27 +407,24 @@ fn enter(
     left[r] = sort_of(k);
     below[r] = s.held;
     frees[r] = s.free;
-    let high = s.high;
-    highs[r] = (high + 1) as u8;
     true
 }
 
-// Enters all records, from the first on.
-fn enter_all(
+// Adds all records, from the first on; false where a rule is broken.
+fn add_records(
     table: &[u8],
     index: &Index,
     count: usize,
     left: &mut Left,
     below: &mut [u32; MOST_RECORDS],
     frees: &mut [u32; MOST_RECORDS],
-    highs: &mut [u8; MOST_RECORDS],
 ) -> bool
-    requires { ⌜ AskSweep (now table) (now index) count (now left) (now below) (now frees) (now highs) ⌝ }
-    ensures { λ b. ⌜ (b ≡ true → Passed (records (now (table .entry))) (now (left .exit)) (now (frees .exit)) (now (highs .exit))) ⌝ }
+    requires { ⌜ AskSweep (now table) (now index) count (now left) (now below) (now frees) ⌝ }
+    ensures { λ b. ⌜ (b ≡ true → Passed (records (now (table .entry))) (now (left .exit)) (now (frees .exit))) × (Keeps (records (now (table .entry))) → b ≡ true) ⌝ }
 {
     let mut r = 0;
     while r < count {
-        let fine = enter(table, index, r, left, below, frees, highs);
+        let fine = add_record(table, index, r, left, below, frees);
         if !fine {
             return false;
         }
@@ -455,52 +433,12 @@ fn enter_all(
     true
 }
 
-// ---- rule 9
-
-fn higher_byte(a: u8, b: u8) -> u8
-    ensures { λ x. ⌜ x ≡ max a b ⌝ }
-{
-    if a < b { b } else { a }
-}
-
-// No height is greater.
-fn greatest(highs: &[u8; MOST_RECORDS], count: usize) -> u8
-    requires { ⌜ count ≤ mostRecords ⌝ }
-    ensures { λ x. ⌜ ((q : ℕ) → q < count → getD (now (highs .entry)) q 0 ≤ x) ⌝ }
-{
-    let mut x = 0;
-    let mut i = 0;
-    while i < count {
-        x = higher_byte(x, highs[i]);
-        i += 1;
-    }
-    x
-}
-
-// The lowest height over 32; the number of records where there is none.
-fn lowest_tall(highs: &[u8; MOST_RECORDS], count: usize) -> usize
-    requires { ⌜ count ≤ mostRecords ⌝ }
-    ensures { λ p. ⌜ p ≡ lowestOf (isTall (now (highs .entry))) count ⌝ }
-{
-    if greatest(highs, count) <= HIGHEST {
-        return count;
-    }
-    let mut r = 0;
-    while r < count {
-        if HIGHEST < highs[r] {
-            return r;
-        }
-        r += 1;
-    }
-    count
-}
-
 // ---- the pass
 
-// No record below n is left where this is 0.
+// A number that is 0 exactly where no record below n is left.
 fn left_below(left: &Left, n: usize) -> u8
     requires { ⌜ n ≤ 256 ⌝ }
-    ensures { λ x. ⌜ (x ≡ 0 → (q : ℕ) → q < n → getD (now (left .entry)) q 0 ≡ 0) ⌝ }
+    ensures { λ x. ⌜ (x ≡ 0 → NoneLeft (now (left .entry)) n) × (NoneLeft (now (left .entry)) n → x ≡ 0) ⌝ }
 {
     let mut x = 0;
     let mut i = 0;
@@ -514,7 +452,7 @@ fn left_below(left: &Left, n: usize) -> u8
 // The last record is an expression, with no name free, and the only one left.
 fn is_closed(left: &Left, frees: &[u32; MOST_RECORDS], last: usize) -> bool
     requires { ⌜ last < mostRecords ⌝ }
-    ensures { λ b. ⌜ (b ≡ true → Closed (now (left .entry)) (now (frees .entry)) last) ⌝ }
+    ensures { λ b. ⌜ (b ≡ true → Closed (now (left .entry)) (now (frees .entry)) last) × (Closed (now (left .entry)) (now (frees .entry)) last → b ≡ true) ⌝ }
 {
     if left[last] != EXPRESSION {
         return false;
@@ -525,39 +463,17 @@ fn is_closed(left: &Left, frees: &[u32; MOST_RECORDS], last: usize) -> bool
     left_below(left, last) == 0
 }
 
-// One pass over all records. Where it is fine, rules 6 to 8 are kept.
-pub fn sweep(table: &[u8], index: &Index, count: usize) -> Swept
+// One pass over all records: whether rules 6 to 8 are kept.
+pub fn sweep(table: &[u8], index: &Index, count: usize) -> bool
     requires { ⌜ WholeTable (now table) (now index) count × (0 < count) ⌝ }
-    ensures { λ s. ⌜ (s .fine ≡ true → Settled (records (now (table .entry))) s) ⌝ }
+    ensures { λ b. ⌜ (b ≡ true → Keeps (records (now (table .entry)))) × (Keeps (records (now (table .entry))) → b ≡ true) ⌝ }
 {
     let mut left = [0u8; 256];
     let mut below = [0u32; MOST_RECORDS];
     let mut frees = [0u32; MOST_RECORDS];
-    let mut highs = [0u8; MOST_RECORDS];
-    let fine = enter_all(
-        table,
-        index,
-        count,
-        &mut left,
-        &mut below,
-        &mut frees,
-        &mut highs,
-    );
+    let fine = add_records(table, index, count, &mut left, &mut below, &mut frees);
     if !fine {
-        return Swept {
-            fine: false,
-            low: 0,
-        };
+        return false;
     }
-    let closed = is_closed(&left, &frees, count - 1);
-    if !closed {
-        return Swept {
-            fine: false,
-            low: 0,
-        };
-    }
-    Swept {
-        fine: true,
-        low: lowest_tall(&highs, count),
-    }
+    is_closed(&left, &frees, count - 1)
 }

@@ -107,16 +107,17 @@ entry-is table at n e rest next is p =
 -- ---- the loop
 
 -- What is left of the table is cut into the records that are left.
-pub record Turn (table index : List ℕ) (at count : ℕ) : Type 0 where
+pub record Turn (table before index : List ℕ) (at count : ℕ) : Type 0 where
   pub within : at ≤ length table
   pub steps : 4 * count ≤ at
   pub fits : count ≤ length (records table)
   pub left : cutBy (length table - count) (drop at table) .records ≡ drop count (records table)
   pub same : cutBy (length table - count) (drop at table) .whole ≡ cut table .whole
   pub entries : EntriesOf table index count
+  pub rest : (r : ℕ) → count ≤ r → getD index r 0 ≡ getD before r 0
   pub long : length index ≡ mostRecords
 
-pub cutting-start : (table index : List ℕ) → length index ≡ mostRecords → Turn table index 0 0
+pub cutting-start : (table index : List ℕ) → length index ≡ mostRecords → Turn table index index 0 0
 unfolding cut
 cutting-start table index long =
     record {
@@ -126,20 +127,21 @@ cutting-start table index long =
       left = ap (λ (n : ℕ). cutBy n table .records) (omega arith);
       same = ap (λ (n : ℕ). cutBy n table .whole) (omega arith);
       entries = λ r h k. absurd (omega arith);
+      rest = λ r h. refl;
       long = long;
     }
 
--- The entry of a record of n bytes is noted where there is room, and the lower ones stay.
+-- The entry of a record of n bytes is noted where there is room, and the others stay.
 pub record Noted (table index index′ : List ℕ) (count at n : ℕ) : Type 0 where
   pub here : count < mostRecords → Packs (drop at table) at n (getD index′ count 0)
-  pub others : (r : ℕ) → r < count → getD index′ r 0 ≡ getD index r 0
+  pub others : (r : ℕ) → (r ≡ count → ⊥) → getD index′ r 0 ≡ getD index r 0
   pub long : length index′ ≡ mostRecords
 
 pub noted : (table index index′ : List ℕ) (count at n e : ℕ) → length index ≡ mostRecords → Packs (take (length table - at) (drop at table)) at n e → index′ ≡ set index count e → Noted table index index′ count at n
 noted table index index′ count at n e long p f =
     record {
       here = λ h. rw (f, getD-set-same index count e 0 (omega arith), sym (part-rest table at)) p;
-      others = λ r h. rw f (getD-set-other index count r e 0 (λ same. omega arith));
+      others = λ r h. rw f (getD-set-other index count r e 0 h);
       long = rw f (length-set index count e ∙ long);
     }
 
@@ -171,9 +173,9 @@ unfolding cutBy next
 cut-nothing zero = refl
 cut-nothing (suc b) = refl
 
-module _ (table index : List ℕ) (at count : ℕ) (t : Turn table index at count) where
+module _ {before : List ℕ} (table index : List ℕ) (at count : ℕ) (t : Turn table before index at count) where
   -- Nothing is left.
-  pub cutting-end : length table ≤ at → CutOut table index (record { count = count; whole = true })
+  pub cutting-end : length table ≤ at → CutOut table before index (record { count = count; whole = true })
   cutting-end h =
       let all : at ≡ length table = omega (arith, t .within) in
       let none : drop at table ≡ [] = rw all (drop-length table) in
@@ -184,6 +186,7 @@ module _ (table index : List ℕ) (at count : ℕ) (t : Turn table index at coun
         count = last;
         whole = sym (ap (λ (c : Cut). c .whole) out) ∙ t .same;
         entries = λ r k l. t .entries r (omega arith) l;
+        rest = λ r k. t .rest r (omega arith);
       }
 
   module _ (more : at < length table) where
@@ -196,7 +199,7 @@ module _ (table index : List ℕ) (at count : ℕ) (t : Turn table index at coun
     unrolled = ap (λ (b : ℕ). cutBy b (drop at table)) room
 
     -- A fault is next.
-    pub turn-bad : next (drop at table) ≡ fault → CutOut table index (record { count = count; whole = false })
+    pub turn-bad : next (drop at table) ≡ fault → CutOut table before index (record { count = count; whole = false })
     turn-bad e =
         let out : cutBy (length table - count) (drop at table) ≡ record { records = []; whole = false } =
         unrolled ∙ ap (λ (n : Next). onNext n (λ rest. cutBy (length table - (count + 1)) rest)) e in
@@ -206,10 +209,11 @@ module _ (table index : List ℕ) (at count : ℕ) (t : Turn table index at coun
           count = last;
           whole = sym (ap (λ (c : Cut). c .whole) out) ∙ t .same;
           entries = λ r k l. t .entries r (omega arith) l;
+          rest = λ r k. t .rest r (omega arith);
         }
 
     -- A record of n bytes is next, and its entry is noted where there is room.
-    pub cutting-more : (n : ℕ) (index′ : List ℕ) → next (drop at table) ≡ one (firstRecord (drop at table)) (drop n (drop at table)) → n ≡ word (drop at table) 0 → Noted table index index′ count at n → Turn table index′ (at + n) (count + 1)
+    pub cutting-more : (n : ℕ) (index′ : List ℕ) → next (drop at table) ≡ one (firstRecord (drop at table)) (drop n (drop at table)) → n ≡ word (drop at table) 0 → Noted table index index′ count at n → Turn table before index′ (at + n) (count + 1)
     cutting-more n index′ e is noted =
         let x : Record = firstRecord (drop at table) in
         let i : IsNext (drop at table) x (drop n (drop at table)) = next-is (drop at table) x (drop n (drop at table)) e in
@@ -227,9 +231,10 @@ module _ (table index : List ℕ) (at count : ℕ) (t : Turn table index at coun
               ∙ sym (ap (λ (c : Cut). c .whole) out) ∙ t .same;
           entries =
               λ r k l.
-              by-lower r count (λ h. rw (noted .others r h) (t .entries r h l))
+              by-lower r count (λ h. rw (noted .others r (λ same. omega arith)) (t .entries r h l))
               (λ h.
               let same : r ≡ count = omega arith in
               rw (same, hd .is) (entry-is table at n (getD index′ count 0) (drop n (drop at table)) i is (noted .here (omega arith))));
+          rest = λ r k. noted .others r (λ same. omega arith) ∙ t .rest r (omega arith);
           long = noted .long;
         }

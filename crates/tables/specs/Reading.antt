@@ -27,7 +27,8 @@ kindIn e = e / 65536 % 256
 abbrev pub secondIn : ℕ → ℕ
 secondIn e = e / 65536 / 256 % 256
 
--- The entry e is that of the record x of the table.
+-- The entry e is that of the record x of the table: where it stands, its kind, and its second field; what stands for a second field that it does not
+-- have is free.
 pub record EntryOf (table : List ℕ) (e : ℕ) (x : Record) : Type 0 where
   pub stands : Stands table (placeIn e) x
   pub kind : kindIn e ≡ x .kind
@@ -68,8 +69,10 @@ pub record Packs (bytes : List ℕ) (at len e : ℕ) : Type 0 where
   pub kind : kindIn e ≡ getD bytes 2 0
   pub second : 5 < len → secondIn e ≡ getD bytes 5 0
 
--- What cutting a table finds: the number of records up to the first fault of rule 4, whether there is none, and an index of them.
-pub record CutOut (table index : List ℕ) (c : Cutting) : Type 0 where
+-- What cutting a table finds: the number of records up to the first fault of rule 4, whether there is none, and an index of them. Behind their
+-- entries the index is as it was before.
+pub record CutOut (table before index : List ℕ) (c : Cutting) : Type 0 where
   pub count : c .count ≡ length (records table)
   pub whole : c .whole ≡ cut table .whole
   pub entries : EntriesOf table index (length (records table))
+  pub rest : (r : ℕ) → length (records table) ≤ r → getD index r 0 ≡ getD before r 0

@@ -41,8 +41,8 @@ pub struct Cutting {
     pub whole: bool,
 }
 
-// The length of an integer literal, and its length and kind as one number.
-const INTEGER_LENGTH: usize = HEADING + 4;
+// The length of an integer literal, which is the one that its row in the table of lengths has, and its length and kind as one number.
+const INTEGER_LENGTH: usize = HEADING + u16::trailing_zeros(LENGTHS[kinds::INTEGER]) as usize;
 
 const INTEGER_HEADING: usize = INTEGER_LENGTH + 65536 * kinds::INTEGER;
 
@@ -57,7 +57,7 @@ pub fn measure(lengths: &Lengths, part: &[u8]) -> usize
     }
     let len = read16(part, 0);
     let kind = read16(part, 2);
-    // The length of an integer literal is a constant here, so that cutting goes on without waiting for the one that was read.
+    // Most records are integer literals, whose only length is known.
     if len + 65536 * kind == INTEGER_HEADING {
         if part.len() < INTEGER_LENGTH {
             return 0;
@@ -98,10 +98,10 @@ fn entry(part: &[u8], at: usize, len: usize) -> u32
     (at + PLACES * (kind + KINDS * second)) as u32
 }
 
-// Cuts a table into records, and notes each of the first 200 in the index.
+// Cuts a table into records, and notes each of the first 200 in the index. What stands behind their entries stays.
 pub fn cut(table: &[u8], index: &mut Index) -> Cutting
     requires { ⌜ (length (now table) ≤ mostBytes) × (length (now index) ≡ mostRecords) ⌝ }
-    ensures { λ c. ⌜ CutOut (now (table .entry)) (now (index .exit)) c ⌝ }
+    ensures { λ c. ⌜ CutOut (now (table .entry)) (now (index .entry)) (now (index .exit)) c ⌝ }
 {
     let lengths = LENGTHS;
     let mut at = 0;

@@ -86,7 +86,7 @@ accepted-short table n e =
     ltb-false mostBytes (length table) (or-false-right (eqb (length table) 0) _ (p3 .not-refused))
 
 -- An index of an accepted table finds all its records.
-pub cut-accepted : (table index : List ℕ) (c : Cutting) (n : ℕ) → CutOut table index c → check table ≡ Accepted n → Indexed table index
+pub cut-accepted : {before : List ℕ} (table index : List ℕ) (c : Cutting) (n : ℕ) → CutOut table before index c → check table ≡ Accepted n → Indexed table index
 cut-accepted table index c n out e =
     let few : length (records table) ≤ mostRecords = accepted-fine table n e .0 .few in
     record { few = few; entry = λ r h. out .entries r h (omega arith) }

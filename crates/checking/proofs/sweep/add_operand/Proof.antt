@@ -1,13 +1,14 @@
 -- A record that is left is in the table.
 use mathlib.Core.Path.{refl, sym, ap, _∙_}
-use Prim.Native.Nat.{_<_, max}
+use Prim.Native.Nat.{_<_}
 use native.Mathlib.Omega.{arith}
-use borrow.Author.Tests.{not-false}
-use lib.ListN.{length}
+use borrow.Author.Tests.{eq-eqb, ne-eqb, not-true, not-false}
+use lib.ListN.{length, getD}
 use Rattle.prelude.proofs.Absurd.{never}
 use Rattle.tables.specs.Accepted.{records}
 use Rattle.checking.specs.declared.sweep.Handed.{Handed}
 use Rattle.checking.specs.Scopes.{orBits}
+use Rattle.checking.specs.Sweeps.{asked}
 use Rattle.checking.proofs.Gathering.{asked-some}
 use borrow.Author.Needs.{needs}
 use Rattle.checking.proofs.sweep.add_operand.Statement.{statement}
@@ -23,7 +24,7 @@ stop-requires : tie.Need-stop-requires
 stop-requires c κs = search needs
 
 returns : tie.Need-returns
-returns c = λ e. never (sym (c .stop .ensures) ∙ e)
+returns c = record { told = c .stop .ensures ∙ sym (rw (ne-eqb (getD (c .before .before .before .before .before .args .left .now) (c .before .before .before .before .before .args .n) 0) (asked (c .before .before .before .before .before .args .role)) (λ e. c .before .if1 .taken (e ∙ sym (c .before .before .wanted .ensures))))); added = λ e. never (sym (c .stop .ensures) ∙ e) }
 
 in-table : (c : tie.Else1) → c .before .before .before .before .args .n < length (records (c .before .before .before .before .args .table .now))
 in-table c = c .before .before .before .before .pre .within (omega (arith, c .if1 .left, c .before .wanted .ensures, asked-some (c .before .before .before .before .args .role)))
@@ -35,7 +36,7 @@ stop-requires-2 : tie.Need-stop-requires-2
 stop-requires-2 c κs = search needs
 
 returns-2 : tie.Need-returns-2
-returns-2 c = λ e. never (sym (c .stop2 .ensures) ∙ e)
+returns-2 c = record { told = c .stop2 .ensures ∙ sym (rw (eq-eqb (getD (c .before .before .before .before .before .before .before .args .left .now) (c .before .before .before .before .before .before .before .args .n) 0) (asked (c .before .before .before .before .before .before .before .args .role)) (c .before .before .before .if1 .left ∙ c .before .before .before .before .wanted .ensures), sym (c .before .before .is-named .ensures) ∙ not-true _ (c .before .if2 .taken))); added = λ e. never (sym (c .stop2 .ensures) ∙ e) }
 
 element-write-left : tie.Need-element-write-left
 element-write-left c = search needs
@@ -59,7 +60,7 @@ stop-requires-3 : tie.Need-stop-requires-3
 stop-requires-3 c κs = search needs
 
 returns-3 : tie.Need-returns-3
-returns-3 c = λ e. never (sym (c .stop3 .ensures) ∙ e)
+returns-3 c = record { told = c .stop3 .ensures ∙ sym (rw (eq-eqb (getD (c .before .before .before .before .before .before .before .before .before .before .before .args .left .now) (c .before .before .before .before .before .before .before .before .before .before .before .args .n) 0) (asked (c .before .before .before .before .before .before .before .before .before .before .before .args .role)) (c .before .before .before .before .before .before .before .if1 .left ∙ c .before .before .before .before .before .before .before .before .wanted .ensures), sym (c .before .before .before .before .before .before .is-named .ensures) ∙ not-false _ (c .before .before .before .before .before .if2 .left)) (sym (ap (λ (h : Handed). h .fine) (c .before .before .hand-on .ensures)) ∙ not-true _ (c .before .if3 .taken))); added = λ e. never (sym (c .stop3 .ensures) ∙ e) }
 
 union-requires : tie.Need-union-requires
 union-requires c κs = search needs
@@ -67,17 +68,8 @@ union-requires c κs = search needs
 union-requires-2 : tie.Need-union-requires-2
 union-requires-2 c κs = search needs
 
-element-copy-out-wide : tie.Need-element-copy-out-wide
-element-copy-out-wide c = omega (arith, in-table (c .before .before .before .before .before .before .before .before), c .before .before .before .before .before .before .before .before .before .before .before .before .pre .indexed .few)
-
-wide-requires : tie.Need-wide-requires
-wide-requires c κs = search needs
-
-higher-requires : tie.Need-higher-requires
-higher-requires c κs = search needs
-
 returns-4 : tie.Need-returns-4
-returns-4 c = λ e. record { sort = c .before .before .before .before .before .before .before .before .before .before .before .if1 .left ∙ c .before .before .before .before .before .before .before .before .before .before .before .before .wanted .ensures; kind = sym (c .before .before .before .before .before .before .before .before .before .before .is-named .ensures) ∙ not-false _ (c .before .before .before .before .before .before .before .before .before .if2 .left); left-is = refl; fine = sym (ap (λ (h : Handed). h .fine) (c .before .before .before .before .before .before .hand-on .ensures)) ∙ not-false _ (c .before .before .before .before .before .if3 .left); held = c .before .before .before .before .union .ensures; free = c .before .before .before .union2 .ensures ∙ ap (λ (h : Handed). orBits (c .before .before .before .before .before .before .before .before .before .before .before .before .before .before .before .args .s .free) (h .free)) (c .before .before .before .before .before .before .hand-on .ensures); high = c .higher .ensures ∙ ap (max (c .before .before .before .before .before .before .before .before .before .before .before .before .before .before .before .args .s .high)) (c .before .wide .ensures .0) }
+returns-4 c = record { told = sym (rw (eq-eqb (getD (c .before .before .before .before .before .before .before .before .before .before .before .before .args .left .now) (c .before .before .before .before .before .before .before .before .before .before .before .before .args .n) 0) (asked (c .before .before .before .before .before .before .before .before .before .before .before .before .args .role)) (c .before .before .before .before .before .before .before .before .if1 .left ∙ c .before .before .before .before .before .before .before .before .before .wanted .ensures), sym (c .before .before .before .before .before .before .before .is-named .ensures) ∙ not-false _ (c .before .before .before .before .before .before .if2 .left)) (sym (ap (λ (h : Handed). h .fine) (c .before .before .before .hand-on .ensures)) ∙ not-false _ (c .before .before .if3 .left))); added = λ e. record { sort = c .before .before .before .before .before .before .before .before .if1 .left ∙ c .before .before .before .before .before .before .before .before .before .wanted .ensures; kind = sym (c .before .before .before .before .before .before .before .is-named .ensures) ∙ not-false _ (c .before .before .before .before .before .before .if2 .left); left-is = refl; fine = sym (ap (λ (h : Handed). h .fine) (c .before .before .before .hand-on .ensures)) ∙ not-false _ (c .before .before .if3 .left); held = c .before .union .ensures; free = c .union2 .ensures ∙ ap (λ (h : Handed). orBits (c .before .before .before .before .before .before .before .before .before .before .before .before .args .s .free) (h .free)) (c .before .before .before .hand-on .ensures) } }
 
 pub add-operand-spec : {M : Type 1} → statement M
 add-operand-spec =
@@ -100,7 +92,4 @@ add-operand-spec =
     returns-3
     union-requires
     union-requires-2
-    element-copy-out-wide
-    wide-requires
-    higher-requires
     returns-4)

@@ -23,7 +23,7 @@ alone-requires : tie.Need-alone-requires
 alone-requires c κs = search needs
 
 returns : tie.Need-returns
-returns c = λ e. leaf-sums (records (c .before .before .before .before .before .args .table .now)) (c .before .before .before .before .before .args .r) (c .before .before .before .before .before .args .left .now) (c .before .before .before .before .before .args .frees .now) (c .alone .result) (c .before .bit .result) (c .before .before .before .before .before .pre .0 .ask .here .within) (inl (omega (arith, c .before .before .before .before .before .pre .0 .is, c .before .before .before .if1 .taken))) (c .before .before .before .before .before .pre .0 .ask .left-is) (c .before .bit .ensures ∙ free-name (recordAt (records (c .before .before .before .before .before .args .table .now)) (c .before .before .before .before .before .args .r)) 0 (c .before .before .field .result) (sym (c .before .before .before .before .before .pre .0 .is) ∙ c .before .before .before .if1 .taken) (c .before .before .field .ensures .0)) (c .alone .ensures)
+returns c = leaf-sums (records (c .before .before .before .before .before .args .table .now)) (c .before .before .before .before .before .args .r) (c .before .before .before .before .before .args .left .now) (c .before .before .before .before .before .args .frees .now) (c .alone .result) (c .before .bit .result) (c .before .before .before .before .before .pre .0 .ask .here .within) (inl (omega (arith, c .before .before .before .before .before .pre .0 .is, c .before .before .before .if1 .taken))) (c .before .before .before .before .before .pre .0 .ask .left-is) (c .before .bit .ensures ∙ free-name (recordAt (records (c .before .before .before .before .before .args .table .now)) (c .before .before .before .before .before .args .r)) 0 (c .before .before .field .result) (sym (c .before .before .before .before .before .pre .0 .is) ∙ c .before .before .before .if1 .taken) (c .before .before .field .ensures .0)) (c .alone .ensures)
 
 is-binder-requires : tie.Need-is-binder-requires
 is-binder-requires c κs = search needs

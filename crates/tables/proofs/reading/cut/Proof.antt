@@ -11,7 +11,7 @@ use Rattle.tables.proofs.reading.cut.Statement.{statement}
 use Rattle.tables.proofs.reading.cut.Tie as tie
 
 abbrev Inv-loop : tie.InvT-loop
-Inv-loop table index₀ lengths at₀ count₀ index at count = Turn table index at count × (lengths ≡ lengthRows)
+Inv-loop table index₀ lengths at₀ count₀ index at count = Turn table index₀ index at count × (lengths ≡ lengthRows)
 
 abbrev μ-loop : tie.MeasureT-loop
 μ-loop table index₀ lengths at₀ count₀ index at count = length table - at
