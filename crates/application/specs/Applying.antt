@@ -19,18 +19,18 @@ pub record Sought (s : List ℕ) (base : ℕ) (f : Found) : Type 0 where
   pub value : Option Value
   pub finds : Finds s (base + 4) to f value
 
--- It is the answer: 26 where it is not there.
+-- r is what was found, or 26 where nothing was.
 pub record Brings (s t : List ℕ) (base : ℕ) (f : Found) (r : Applied) : Type 0 where
   pub kept : Kept s t base
   pub right : (to : ℕ) (o : Option Value) → Finds s (base + 4) to f o → Applies t base r (found o)
 
--- A collection of a kind stands at base, and what it is applied to above it.
+-- A collection of a kind stands at base and its argument above it, and there is room to work in.
 pub record Applicable (k : Kind) (s : List ℕ) (base : ℕ) : Type 0 where
   pub held : HoldsKind k s base
   pub argument : Holds s (base + second)
   pub room : base + workspace ≤ length s
 
--- r is what the items answer, applied to the value.
+-- r is the collection at base, applied to the value above it.
 pub record OnArgument (k : Kind) (s t : List ℕ) (base : ℕ) (r : Applied) : Type 0 where
   pub kept : Kept s t base
   pub right : (vs : Items) (w : Value) → At s base (collection k vs) → At s (base + second) w → Applies t base r (applyItems k vs w)

@@ -7,7 +7,7 @@ ghost use Rattle.operators.specs.Maps.{applyTo};
 ghost use Rattle.calling.specs.Applied.{Two, OnTwo};
 ghost use Rattle.application.specs.Applying.{Sought, Brings, Applicable, OnArgument};
 
-// What was found is brought down to base.
+// Brings what was found down to base; 26 where nothing was.
 fn bring(s: &mut [u8], base: usize, found: Found) -> Applied
     requires { ⌜ Sought (now s) base found ⌝ }
     ensures { λ r. ⌜ Brings (now (s .entry)) (now (s .exit)) base found r ⌝ }

@@ -11,12 +11,14 @@ use Rattle.calling.specs.declared.Applied.{Applied}
 use Rattle.calling.specs.declared.Applied.the-variants.{Done, Refused}
 use Rattle.calling.specs.Scratch.{second, workspace, Kept}
 
--- ---- what is asked: some value stands at base, or one there and one above it; and there is room
+-- ---- what is asked
 
+-- Some value stands at base, and there is room to work in.
 pub record One (s : List ℕ) (base : ℕ) : Type 0 where
   pub held : Holds s base
   pub room : base + workspace ≤ length s
 
+-- Some value stands at base, another one above it, and there is room to work in.
 pub record Two (s : List ℕ) (base : ℕ) : Type 0 where
   pub left : Holds s base
   pub right : Holds s (base + second)
@@ -29,11 +31,12 @@ pub data Applies (t : List ℕ) (base : ℕ) (r : Applied) : Answer → Type 0 w
   done : {v : Value} → r ≡ Done → At t base v → Applies t base r (is v)
   off : {n : ℕ} → r ≡ Refused n → Applies t base r (refused n)
 
--- r is what f answers on the value at base, and on the two values.
+-- r is what f answers on the value at base.
 pub record OnOne (f : Value → Answer) (s t : List ℕ) (base : ℕ) (r : Applied) : Type 0 where
   pub kept : Kept s t base
   pub right : (v : Value) → At s base v → Applies t base r (f v)
 
+-- r is what f answers on the value at base and the one above it.
 pub record OnTwo (f : Value → Value → Answer) (s t : List ℕ) (base : ℕ) (r : Applied) : Type 0 where
   pub kept : Kept s t base
   pub right : (v w : Value) → At s base v → At s (base + second) w → Applies t base r (f v w)

@@ -18,21 +18,23 @@ use Rattle.calling.specs.Applied.{Applies}
 
 -- ---- collections
 
--- A collection of a kind stands at base; or two do, at base and above it.
+-- A collection of a kind stands at base, and there is room to work in.
 pub record Has (k : Kind) (s : List ℕ) (base : ℕ) : Type 0 where
   pub held : HoldsKind k s base
   pub room : base + workspace ≤ length s
 
+-- Collections of two kinds stand at base and above it, and there is room to work in.
 pub record HasTwo (k l : Kind) (s : List ℕ) (base : ℕ) : Type 0 where
   pub left : HoldsKind k s base
   pub right : HoldsKind l s (base + second)
   pub room : base + workspace ≤ length s
 
--- r is what f answers on the items of the collection, and of the two.
+-- r is what f answers on the items of the collection at base.
 pub record OnItems (k : Kind) (f : Items → Answer) (s t : List ℕ) (base : ℕ) (r : Applied) : Type 0 where
   pub kept : Kept s t base
   pub right : (vs : Items) → At s base (collection k vs) → Applies t base r (f vs)
 
+-- r is what f answers on the items of the collection at base and of the one above it.
 pub record OnBoth (k l : Kind) (f : Items → Items → Answer) (s t : List ℕ) (base : ℕ) (r : Applied) : Type 0 where
   pub kept : Kept s t base
   pub right : (vs ws : Items) → At s base (collection k vs) → At s (base + second) (collection l ws) → Applies t base r (f vs ws)
@@ -43,7 +45,7 @@ pub record OnBoth (k l : Kind) (f : Items → Items → Answer) (s t : List ℕ)
 abbrev pub KindsAre : List ℕ → ℕ → ℕ → ℕ → Bool → Type 0
 KindsAre s base a b r = (v w : Value) → At s base v → At s (base + second) w → r ≡ eqb (kindOf v) a && eqb (kindOf w) b
 
--- The two integers; or two operands of which integers are asked in vain.
+-- The operands are these two integers; or not both are integers, and whatever needs two is refused by 20.
 pub data PairAt (s : List ℕ) (base : ℕ) : Pair → Type 0 where
   integers : {a b : ℤ} → At s base (integer a) → At s (base + second) (integer b) → PairAt s base (Integers a b)
   others : ((v w : Value) → At s base v → At s (base + second) w → (f : ℤ → ℤ → Answer) → needsBoth (asInteger v) (asInteger w) f ≡ refused wrongKind) → PairAt s base Others

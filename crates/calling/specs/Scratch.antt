@@ -9,7 +9,7 @@ use Rattle.values.specs.Value.{valueLimit}
 abbrev pub second : ℕ
 second = valueLimit
 
--- How far above it what an operator builds stands, where the operands are still needed: two limits.
+-- How far above the base an operator builds where it still needs both operands: two values' limits.
 abbrev pub third : ℕ
 third = 1024
 

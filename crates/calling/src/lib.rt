@@ -19,7 +19,7 @@ impl Applied {
     // How far above the first operand the second stands.
     pub const SECOND: usize = Value::LIMIT;
 
-    // How far above it an operator builds where it still needs its operands.
+    // How far above the first operand an operator builds where it still needs both.
     pub const THIRD: usize = 2 * Applied::SECOND;
 
     // How many bytes an operator may use, from its first operand on.

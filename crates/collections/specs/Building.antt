@@ -36,7 +36,7 @@ added n = cond (leb n valueLimit) Put TooLong
 abbrev pub opened : ℕ → Entered
 opened n = cond (leb n valueLimit) Done Full
 
--- By what stands at the key: nothing, or the same value or another.
+-- What entering a value answers, by what stands at its key: nothing, the same value or another.
 abbrev pub entryAnswer : Option Value → Value → ℕ → Entered
 entryAnswer absent v n = opened n
 entryAnswer (some w) v n = cond (same w v) Done Clash
@@ -73,11 +73,11 @@ pub record Adds (k : Kind) (add : Items → Value → Items) (s t : List ℕ) (a
   pub refused : r ≡ TooLong → t ≡ s
   pub right : (vs : Items) (v : Value) → At s at (collection k vs) → At s x v → Builds k s t at vs (add vs v) r
 
--- At the end of a sequence.
+-- The item at x was added at the end of the sequence at a place.
 abbrev pub Appends : List ℕ → List ℕ → ℕ → ℕ → Added → Type 0
 Appends = Adds sequence snoc
 
--- In order into a set.
+-- The item at x was added, in order, to the set at a place.
 abbrev pub Inserts : List ℕ → List ℕ → ℕ → ℕ → Added → Type 0
 Inserts = Adds set (λ (vs : Items) (v : Value). insert v vs)
 

@@ -20,7 +20,7 @@ pub record HoldsKind (k : Kind) (s : List ℕ) (at : ℕ) : Type 0 where
   pub items : Items
   pub here : At s at (collection k items)
 
--- A collection of some kind does.
+-- A collection of some kind stands at a place.
 pub record HoldsCollection (s : List ℕ) (at : ℕ) : Type 0 where
   pub kind : Kind
   pub items : Items
@@ -35,7 +35,7 @@ seek entries key v none p = Before p
 seek entries true v (more w ws) p = inOrder (order v w) (Before p) (Here p) (seek entries (not entries) v ws (p + size w))
 seek entries false v (more w ws) p = seek entries true v ws (p + size w)
 
--- r is where the value at x stands or belongs, among members or, of entries, among keys
+-- r is where the value at x stands or belongs among the members of a set or, of entries, among the keys of a map.
 abbrev pub Seeks : List ℕ → ℕ → ℕ → Bool → Sought → Type 0
 Seeks s at x entries r = (kind : Kind) (vs : Items) (v : Value) → At s at (collection kind vs) → At s x v → r ≡ seek entries true v vs (at + 4)
 
@@ -53,18 +53,18 @@ pub data Finds (s : List ℕ) (from to : ℕ) : Found → Option Value → Type 
 abbrev pub FindsIn : List ℕ → ℕ → Value → Found → Option Value → Type 0
 FindsIn s at w r o = Finds s (at + 4) (at + size w) r o
 
--- r says whether the value at x is a member of the set
+-- r says whether the value at x is a member of the set at a place.
 abbrev pub Contains : List ℕ → ℕ → ℕ → Bool → Type 0
 Contains s at x r = (vs : Items) (v : Value) → At s at (collection set vs) → At s x v → r ≡ isMember v vs
 
--- r is the place of what stands, in the map, at the key that stands at k
+-- r is the place of what the map at a place has at the key that stands at k.
 abbrev pub AtKey : List ℕ → ℕ → ℕ → Found → Type 0
 AtKey s at k r = (vs : Items) (v : Value) → At s at (collection map vs) → At s k v → FindsIn s at (collection map vs) r (lookup v vs)
 
--- r is the place of the k-th item
+-- r is the place of the k-th item of the collection at a place.
 abbrev pub Item : List ℕ → ℕ → ℕ → Found → Type 0
 Item s at k r = (kind : Kind) (vs : Items) → At s at (collection kind vs) → FindsIn s at (collection kind vs) r (nth vs k)
 
--- r is the number of items
+-- r is the number of items of the collection at a place.
 abbrev pub Counted : List ℕ → ℕ → ℕ → Type 0
 Counted s at r = (kind : Kind) (vs : Items) → At s at (collection kind vs) → r ≡ count vs

@@ -21,7 +21,7 @@ pub record Gap (s : List ℕ) (p end x : ℕ) : Type 0 where
   pub room : end + word s x ≤ length s
   pub apart : (x + word s x ≤ p) ⊎ (end + word s x ≤ x)
 
--- It went in there.
+-- The item at x went in before what stood between two places.
 pub record Fills (s t : List ℕ) (p end x : ℕ) : Type 0 where
   pub frame : Outside s t p (end + word s x)
   pub right : (vs : Items) (v : Value) → ItemsAt s p end vs → At s x v → size v + sizes vs ≤ valueLimit → ItemsAt t p (end + size v) (more v vs)
@@ -35,7 +35,7 @@ pub record Slot (s : List ℕ) (at p x : ℕ) : Type 0 where
   pub item : Holds s x
   pub apart : Apart s at x
 
--- It went in there, and the collection is of this kind.
+-- The item at x went into the collection at a place, before what stood at p, and the collection is of this kind.
 pub record AddsAt (s t : List ℕ) (at p x kind : ℕ) (r : Added) : Type 0 where
   pub frame : Outside s t at (at + valueLimit)
   pub refused : r ≡ TooLong → t ≡ s

@@ -22,7 +22,7 @@ pub enum Entered {
     Full,
 }
 
-// Moves n bytes up, over themselves too: the last first.
+// Moves n bytes up, the last first, so that they may go over themselves.
 fn shift_up(s: &mut [u8], at: usize, n: usize, by: usize)
     requires { ⌜ at + n + by ≤ length (now s) ⌝ }
     ensures { λ _. ⌜ Moved (now (s .entry)) (now (s .exit)) at (at + by) n ⌝ }
@@ -77,7 +77,7 @@ fn add_entry(s: &mut [u8], at: usize, p: usize, k: usize, v: usize) -> Entered
     Entered::Done
 }
 
-// An empty collection of a kind.
+// Writes an empty collection of a kind at a place.
 pub fn put_empty(s: &mut [u8], at: usize, kind: usize)
     requires { ⌜ (at + 4 ≤ length (now s)) × (kind < 65536) ⌝ }
     ensures { λ _. ⌜ Empties (now (s .entry)) (now (s .exit)) at kind ⌝ }

@@ -22,7 +22,7 @@ pub enum Sought {
 // The bytes of an integer's record.
 const INTEGER: usize = 8;
 
-// The length of the record at a place. That of an integer is known by its kind, so that the next place need not wait for it.
+// The length of the record at a place; that of an integer is known by its kind.
 fn past(s: &[u8], p: usize) -> usize
     requires { ⌜ Holds (now s) p ⌝ }
     ensures { λ n. ⌜ Length (now (s .entry)) p n ⌝ }
@@ -33,7 +33,7 @@ fn past(s: &[u8], p: usize) -> usize
     values::length_of(s, p)
 }
 
-// Past the integers of the collection at a place that come first in it and are lower than the integer at x. Their records are of one length.
+// The place past the integers that begin the collection at a place and are lower than the integer at x.
 fn pass_lower(s: &[u8], at: usize, x: usize) -> usize
     requires { ⌜ HoldsCollection (now s) at × OfKind (now s) x 2 ⌝ }
     ensures { λ p. ⌜ SeeksOn (now (s .entry)) at x false p ⌝ }
@@ -55,7 +55,7 @@ fn pass_lower(s: &[u8], at: usize, x: usize) -> usize
     p
 }
 
-// Where seeking starts: past integers that are lower, among members.
+// Where seeking the value at x starts: among members past the integers that are lower, among keys at the first.
 fn start(s: &[u8], at: usize, x: usize, entries: bool) -> usize
     requires { ⌜ HoldsCollection (now s) at × Holds (now s) x ⌝ }
     ensures { λ p. ⌜ SeeksOn (now (s .entry)) at x entries p ⌝ }
@@ -97,7 +97,7 @@ pub fn seek(s: &[u8], at: usize, x: usize, entries: bool) -> Sought
     Sought::Before(p)
 }
 
-// The same among members alone, where there are often none yet: then nothing is read of them.
+// The place of the value at x among the members of the set at a place, in which there are often none yet.
 pub fn seek_member(s: &[u8], at: usize, x: usize) -> Sought
     requires { ⌜ HoldsCollection (now s) at × Holds (now s) x ⌝ }
     ensures { λ r. ⌜ Seeks (now (s .entry)) at x false r ⌝ }

@@ -28,6 +28,6 @@ pub record InsertsAll (gathered : Items → Items) (s t : List ℕ) (from to at 
   pub frame : Outside s t at (at + valueLimit)
   pub right : (vs ws : Items) → At s at (collection set vs) → ItemsAt s from to ws → Grown t at (insertAll vs (gathered ws)) r
 
--- The items themselves.
+-- The items as they are, where nothing else is gathered of them.
 abbrev pub themselves : Items → Items
 themselves ws = ws

@@ -18,7 +18,7 @@ const INTEGER_BYTES: usize = 8;
 
 // ---- consecutive integers
 
-// Writes n integers, from one up, one after the other.
+// Writes n integers, from a given one up, one after the other.
 fn put_integers(s: &mut [u8], at: usize, from: i32, n: usize)
     requires { ⌜ IntegersRoom (now s) at from n ⌝ }
     ensures { λ _. ⌜ PutIntegers (now (s .entry)) (now (s .exit)) at from n ⌝ }
@@ -30,7 +30,7 @@ fn put_integers(s: &mut [u8], at: usize, from: i32, n: usize)
     }
 }
 
-// The set of n integers, from one up: over 512 bytes, 28.
+// The set of n integers, from a given one up, or 28 where it is over 512 bytes.
 pub fn counting(s: &mut [u8], base: usize, from: i32, n: usize) -> Applied
     requires { ⌜ CountingRoom (now s) base from n ⌝ }
     ensures { λ r. ⌜ Gives (consecutive from n) (now (s .entry)) (now (s .exit)) base r ⌝ }

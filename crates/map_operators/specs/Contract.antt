@@ -20,20 +20,21 @@ pub record Beside (kind : Kind) (s : List ℕ) (at x y : ℕ) : Type 0 where
   pub key : Holds s x
   pub value : Holds s y
 
--- r says whether the value is what the map has at the key, if it has anything there.
+-- r says whether the map at a place has the value at y at the key at x, or nothing.
 abbrev pub Agrees : List ℕ → ℕ → ℕ → ℕ → Bool → Type 0
 Agrees s at x y r = (vs : Items) (k v : Value) → At s at (collection map vs) → At s x k → At s y v → r ≡ agreesWith (lookup k vs) v
 
--- Is the key (true) or the value (false) of an entry in the set?
+-- Whether the key (by true) or the value (by false) of an entry is in the set.
 abbrev pub passes : Bool → Items → Value → Value → Bool
 passes by vs k v = isMember (cond by k v) vs
 
+-- r says whether the key or the value of the entry at x and y is in the set at a place.
 abbrev pub Passes : Bool → List ℕ → ℕ → ℕ → ℕ → Bool → Type 0
 Passes by s at x y r = (vs : Items) (k v : Value) → At s at (collection set vs) → At s x k → At s y v → r ≡ passes by vs k v
 
 -- ---- whole maps
 
--- r says whether the two maps are compatible.
+-- r says whether the maps at base and above it are compatible.
 abbrev pub Compatible : List ℕ → ℕ → Bool → Type 0
 Compatible s base r = (vs ws : Items) → At s base (collection map vs) → At s (base + second) (collection map ws) → r ≡ compatible vs ws
 
@@ -43,7 +44,7 @@ pub record Restrictable (s : List ℕ) (at of : ℕ) : Type 0 where
   pub members : HoldsKind set s of
   pub apart : Apart s at of
 
--- Those of its entries stand there now that pass.
+-- The map at a place has now those of its entries whose key, or whose value, is in the set.
 pub record Restricts (by : Bool) (s t : List ℕ) (at of : ℕ) : Type 0 where
   pub kept : Kept s t at
   pub right : (vs ws : Items) → At s at (collection map vs) → At s of (collection set ws) → At t at (collection map (keepEntries (passes by ws) vs))

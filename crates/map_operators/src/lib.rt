@@ -73,7 +73,7 @@ pub fn unary_map(s: &mut [u8], base: usize, operator: usize) -> Applied
 
 // ---- two maps
 
-// What the map at a place has at a key is this value, if it has anything there.
+// Whether the map at a place has this value at a key, or nothing.
 fn agrees(s: &[u8], at: usize, k: usize, v: usize) -> bool
     requires { ⌜ Beside map (now s) at k v ⌝ }
     ensures { λ r. ⌜ Agrees (now (s .entry)) at k v r ⌝ }
@@ -165,7 +165,7 @@ fn passes(s: &[u8], at: usize, k: usize, v: usize, keys: bool) -> bool
     collections::finding::contains(s, at, v)
 }
 
-// Of the map at a place only the entries stay whose key, or whose value, is in the set at another. They move together.
+// Leaves in the map at a place only the entries whose key, or whose value, is in the set at another; they move together.
 fn restrict(s: &mut [u8], at: usize, of: usize, keys: bool)
     requires { ⌜ Restrictable (now s) at of ⌝ }
     ensures { λ _. ⌜ Restricts keys (now (s .entry)) (now (s .exit)) at of ⌝ }

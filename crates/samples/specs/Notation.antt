@@ -62,7 +62,7 @@ tested kind op k = rows (P 0 ∷ whole 1 ∷ whole 2 ∷ row 7 (1 ∷ 2 ∷ []) 
 
 -- ---- values
 
--- An integer from 0 up, one below 0, and the set of so many integers from one up.
+-- An integer from 0 up, one below 0, and the set of so many integers from a given one up.
 abbrev pub n : ℕ → Value
 n k = integer (pos k)
 

@@ -131,17 +131,17 @@ first-part-refused = refl
 abbrev chosen : List ℕ
 chosen = rows (P 0 ∷ whole 1 ∷ whole 2 ∷ row 7 (1 ∷ 2 ∷ []) ∷ flag 1 ∷ whole 1 ∷ whole 0 ∷ operation 10 5 6 ∷ row 13 (0 ∷ 3 ∷ 4 ∷ 7 ∷ []) ∷ [])
 
--- the list used up: 32, with the number of bindings
+-- The list is used up: 32, with the number of bindings.
 pub used-up : answerUnder chosen [] ≡ refuses 32 8 2
 unfolding computing
 used-up = refl
 
--- an entry not below that number: 33
+-- An entry is not below the number of bindings: 33.
 pub entry-beyond : answerUnder chosen (2 ∷ []) ≡ refuses 33 8 2
 unfolding computing
 entry-beyond = refl
 
--- an entry left over: 34 in place of 22, at its place; and in place of a value, at the last record
+-- An entry is left over: 34 in place of 22, at its place; and in place of a value, at the last record.
 pub left-over : answerUnder chosen (1 ∷ 0 ∷ []) ≡ refuses 34 7 0
 unfolding computing
 left-over = refl
@@ -154,7 +154,7 @@ left-over-value = refl
 abbrev many : List ℕ
 many = rows (P 0 ∷ whole 1 ∷ whole 63 ∷ row 11 (1 ∷ 2 ∷ []) ∷ flag 1 ∷ P 1 ∷ whole 1 ∷ row 7 (6 ∷ []) ∷ flag 1 ∷ name 1 ∷ row 13 (5 ∷ 7 ∷ 8 ∷ 9 ∷ []) ∷ row 19 (0 ∷ 3 ∷ 4 ∷ 10 ∷ []) ∷ P 1 ∷ whole 1 ∷ row 7 (13 ∷ []) ∷ flag 1 ∷ name 1 ∷ row 13 (12 ∷ 14 ∷ 15 ∷ 16 ∷ []) ∷ P 1 ∷ whole 1 ∷ row 7 (19 ∷ []) ∷ flag 1 ∷ name 1 ∷ row 13 (18 ∷ 20 ∷ 21 ∷ 22 ∷ []) ∷ row 10 (11 ∷ 17 ∷ 23 ∷ []) ∷ [])
 
--- 31 at the 65th, before 32; the list of 64 is complete
+-- The 65th choice is 31, before 32; the list of 64 is complete.
 pub choice-65 : walk many ≡ (zeros 64, refuses 31 23 0) ∷ []
 unfolding computing
 choice-65 = refl

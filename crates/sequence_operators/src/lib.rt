@@ -130,7 +130,7 @@ pub fn unary_sequence(s: &mut [u8], base: usize, operator: usize) -> Applied
 
 // ---- two sequences
 
-// The items of the second move up to those of the first.
+// The items of the second sequence move up to those of the first, which has them then; 28 where that is over 512 bytes.
 fn join(s: &mut [u8], base: usize) -> Applied
     requires { ⌜ HasTwo sequence sequence (now s) base ⌝ }
     ensures { λ r. ⌜ OnBoth sequence sequence (λ vs ws. sized sequence (join vs ws)) (now (s .entry)) (now (s .exit)) base r ⌝ }

@@ -15,25 +15,25 @@ use Rattle.operators.specs.Sets.{isSubset}
 
 -- ---- tests of all items from a place up to another
 
--- Sets stand there.
+-- Sets stand from a place up to another.
 pub record HoldsSets (s : List ℕ) (from to : ℕ) : Type 0 where
   pub items : Items
   pub here : ItemsAt s from to items
   pub sets : everyItem (isKind set) items ≡ true
 
--- r says whether all are of the kind of this number
+-- r says whether all items from a place up to another are of the kind of this number.
 abbrev pub AllOfKind : List ℕ → ℕ → ℕ → ℕ → Bool → Type 0
 AllOfKind s from to n r = (k : Kind) (vs : Items) → n ≡ number k → ItemsAt s from to vs → r ≡ everyItem (isKind k) vs
 
--- v is a member of each of these sets
+-- v is a member of each of these sets.
 abbrev pub inAll : Value → Items → Bool
 inAll v ws = everyItem (λ w. isMember v (itemsIn w)) ws
 
--- r says whether the value at x is
+-- r says whether the value at x is a member of each of the sets from a place up to another.
 abbrev pub InAll : List ℕ → ℕ → ℕ → ℕ → Bool → Type 0
 InAll s x from to r = (v : Value) (ws : Items) → At s x v → ItemsAt s from to ws → r ≡ inAll v ws
 
--- r says whether all are members of the set at a place
+-- r says whether all items from a place up to another are members of the set at a place.
 abbrev pub AllIn : List ℕ → ℕ → ℕ → ℕ → Bool → Type 0
 AllIn s from to at r = (vs ws : Items) → ItemsAt s from to vs → At s at (collection set ws) → r ≡ isSubset vs ws
 
@@ -44,7 +44,7 @@ pub record Appendable (s : List ℕ) (at x : ℕ) : Type 0 where
   pub room : Room sequence s at x
   pub fits : word s at + word s x ≤ valueLimit
 
--- It is there, if wanted.
+-- The item at x is at the end of the sequence at a place, if wanted.
 pub record AppendsIf (s t : List ℕ) (at x : ℕ) (wanted : Bool) : Type 0 where
   pub frame : Outside s t at (at + valueLimit)
   pub right : (us : Items) (v : Value) → At s at (collection sequence us) → At s x v → At t at (collection sequence (cond wanted (snoc us v) us))
@@ -66,7 +66,7 @@ pub record Choice (s : List ℕ) (x a b at : ℕ) : Type 0 where
   pub under : b ≤ at
   pub room : at + valueLimit ≤ length s
 
--- The wantedOf ones stand at that place as a set.
+-- At a place stands the set of the members of the set at x that are wanted.
 pub record Chosen (s t : List ℕ) (x a b at : ℕ) (wanted : Bool) : Type 0 where
   pub frame : Outside s t at (at + valueLimit)
   pub right : (vs ws : Items) → At s x (collection set vs) → ItemsAt s a b ws → At t at (collection set (wantedOf wanted vs ws))

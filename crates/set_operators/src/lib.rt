@@ -39,6 +39,7 @@ fn two_sets(s: &[u8], base: usize) -> bool
 
 // ---- one operand: 4 card, 5 dunion, 6 dinter
 
+// 4 card
 fn cardinality(s: &mut [u8], base: usize) -> Applied
     requires { ⌜ One (now s) base ⌝ }
     ensures { λ r. ⌜ OnOne (unary 4) (now (s .entry)) (now (s .exit)) base r ⌝ }
@@ -51,6 +52,7 @@ fn cardinality(s: &mut [u8], base: usize) -> Applied
     Applied::Done
 }
 
+// 5 dunion
 fn distributed_union(s: &mut [u8], base: usize) -> Applied
     requires { ⌜ One (now s) base ⌝ }
     ensures { λ r. ⌜ OnOne (unary 5) (now (s .entry)) (now (s .exit)) base r ⌝ }
@@ -72,6 +74,7 @@ fn distributed_union(s: &mut [u8], base: usize) -> Applied
     }
 }
 
+// 6 dinter
 fn distributed_intersection(s: &mut [u8], base: usize) -> Applied
     requires { ⌜ One (now s) base ⌝ }
     ensures { λ r. ⌜ OnOne (unary 6) (now (s .entry)) (now (s .exit)) base r ⌝ }
@@ -115,6 +118,7 @@ pub fn unary_set(s: &mut [u8], base: usize, operator: usize) -> Applied
 
 // ---- two operands: 17 in set, 18 not in set, 19 union, 20 inter, 21 difference, 22 subset, 23 psubset
 
+// 17 in set and 18 not in set: whether the left is a member of the right.
 fn membership(s: &mut [u8], base: usize, operator: usize) -> Applied
     requires { ⌜ Two (now s) base × (17 ≤ operator) × (operator ≤ 18) ⌝ }
     ensures { λ r. ⌜ OnTwo (binary operator) (now (s .entry)) (now (s .exit)) base r ⌝ }
@@ -126,6 +130,7 @@ fn membership(s: &mut [u8], base: usize, operator: usize) -> Applied
     calling::put_truth(s, base, found == (operator == tables::binary::IN_SET))
 }
 
+// 19 union: the members of the right go into the left.
 fn union(s: &mut [u8], base: usize) -> Applied
     requires { ⌜ Two (now s) base ⌝ }
     ensures { λ r. ⌜ OnTwo (binary 19) (now (s .entry)) (now (s .exit)) base r ⌝ }
@@ -145,7 +150,7 @@ fn union(s: &mut [u8], base: usize) -> Applied
     }
 }
 
-// The members of the left that are in the right, or those that are not.
+// 20 inter and 21 difference: the members of the left that are in the right, or those that are not.
 fn selection(s: &mut [u8], base: usize, operator: usize) -> Applied
     requires { ⌜ Two (now s) base × (20 ≤ operator) × (operator ≤ 21) ⌝ }
     ensures { λ r. ⌜ OnTwo (binary operator) (now (s .entry)) (now (s .exit)) base r ⌝ }
@@ -177,7 +182,7 @@ fn all_in(s: &[u8], from: usize, to: usize, at: usize) -> bool
     true
 }
 
-// Equal sets are subsets of each other: of a subset and a set that differ, it is a proper one.
+// 22 subset and 23 psubset. Equal sets are subsets of each other, so a proper subset is one that is not equal.
 fn inclusion(s: &mut [u8], base: usize, operator: usize) -> Applied
     requires { ⌜ Two (now s) base × (22 ≤ operator) × (operator ≤ 23) ⌝ }
     ensures { λ r. ⌜ OnTwo (binary operator) (now (s .entry)) (now (s .exit)) base r ⌝ }

@@ -65,7 +65,7 @@ fn append_if(s: &mut [u8], at: usize, x: usize, wanted: bool)
     }
 }
 
-// The set, at a place, of the members of the set at x that are in each of the sets from a up to b; or of those that are not.
+// Builds at a place the set of the members of the set at x that are in each of the sets from a up to b; or of those that are not.
 pub fn choose(s: &mut [u8], x: usize, a: usize, b: usize, at: usize, wanted: bool)
     requires { ⌜ Choice (now s) x a b at ⌝ }
     ensures { λ _. ⌜ Chosen (now (s .entry)) (now (s .exit)) x a b at wanted ⌝ }

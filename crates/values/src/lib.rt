@@ -101,7 +101,7 @@ pub fn integer_at(s: &[u8], at: usize) -> i32
 
 // ---- comparing
 
-// False before true.
+// The order of the booleans at two places: false before true.
 fn compare_booleans(s: &[u8], a: usize, b: usize) -> Order
     requires { ⌜ Both (now s) a b 1 ⌝ }
     ensures { λ r. ⌜ Ordered (now (s .entry)) a b r ⌝ }
@@ -111,7 +111,7 @@ fn compare_booleans(s: &[u8], a: usize, b: usize) -> Order
     integers::compare_numbers(x as usize, y as usize)
 }
 
-// Integers by size.
+// The order of the integers at two places, by size.
 fn compare_integers(s: &[u8], a: usize, b: usize) -> Order
     requires { ⌜ Both (now s) a b 2 ⌝ }
     ensures { λ r. ⌜ Ordered (now (s .entry)) a b r ⌝ }

@@ -1,4 +1,4 @@
-// Whether untrusted bytes are the record of a well-formed value.
+// Telling the record of a well-formed value from other bytes: for a lent value that is not trusted.
 use crate::Value;
 use integers::Order;
 ghost use Prim.Native.Nat.{_+_, _≤_};
@@ -9,7 +9,7 @@ ghost use Rattle.values.specs.Validity.{Tells, IsValue, Inside, Boolean,
 
 // ---- the shape of items that are known to stand between two places
 
-// Whether they ascend strictly.
+// Whether the items between two places ascend strictly.
 fn ascending(s: &[u8], from: usize, to: usize) -> bool
     requires { ⌜ HoldsItems (now s) from to ⌝ }
     ensures { λ r. ⌜ TellsItems Ascending (now (s .entry)) from to r ⌝ }
@@ -29,7 +29,7 @@ fn ascending(s: &[u8], from: usize, to: usize) -> bool
     }
 }
 
-// Whether they are key, value, key, value, with keys that ascend strictly.
+// Whether the items between two places are key, value, key, value, with keys that ascend strictly.
 fn entries(s: &[u8], from: usize, to: usize) -> bool
     requires { ⌜ HoldsItems (now s) from to ⌝ }
     ensures { λ r. ⌜ TellsItems Entries (now (s .entry)) from to r ⌝ }
@@ -53,7 +53,7 @@ fn entries(s: &[u8], from: usize, to: usize) -> bool
     }
 }
 
-// How many there are.
+// How many items stand between two places.
 fn count(s: &[u8], from: usize, to: usize) -> usize
     requires { ⌜ HoldsItems (now s) from to ⌝ }
     ensures { λ r. ⌜ CountsItems (now (s .entry)) from to r ⌝ }
@@ -65,7 +65,7 @@ fn count(s: &[u8], from: usize, to: usize) -> usize
     1 + count(s, next, to)
 }
 
-// Whether they are shaped as a kind of collection asks.
+// Whether the items between two places are shaped as a kind of collection asks.
 fn shaped(s: &[u8], from: usize, to: usize, kind: usize) -> bool
     requires { ⌜ HoldsItems (now s) from to ⌝ }
     ensures { λ r. ⌜ TellsItems (ItemsShapedAs kind) (now (s .entry)) from to r ⌝ }

@@ -12,15 +12,32 @@ fn page(file: &str) -> String {
     fs::read_to_string(repository().join(file)).expect("the page")
 }
 
-/// The rows of the tables of refusals: number, and the other cells.
-fn rows() -> Vec<(u16, Vec<String>)> {
-    let page = page("docs/REFUSALS.md").replace("\\|", "&");
-    let row = |line: &str| {
-        let cells = line.strip_prefix("| ")?.strip_suffix(" |")?.split(" | ");
-        let cells: Vec<String> = cells.map(str::to_string).collect();
-        Some((cells[0].parse().ok()?, cells[1..].to_vec()))
+/// A refusal as the page has it: its number, its word where it has one, what it says, and its example.
+struct Item {
+    number: u16,
+    word: Option<String>,
+    said: String,
+    example: String,
+}
+
+/// The items of the lists of refusals: `- **NUMBER** WORD: SAID`, and below it `- Example: EXAMPLE` in one line.
+fn items() -> Vec<Item> {
+    let item = |text: &str| {
+        let (number, rest) = text.split_once("**")?;
+        let (word, rest) = rest.split_once(": ")?;
+        let (said, rest) = rest.split_once('\n')?;
+        let (_, rest) = rest.split_once("- Example: ")?;
+        Some(Item {
+            number: number.parse().ok()?,
+            word: word
+                .strip_prefix(" `")
+                .map(|w| w.trim_end_matches('`').into()),
+            said: said.into(),
+            example: rest.lines().next()?.into(),
+        })
     };
-    page.lines().filter_map(row).collect()
+    let page = page("docs/REFUSALS.md");
+    page.split("\n- **").filter_map(item).collect()
 }
 
 /// Every sample's print, by its name.
@@ -30,33 +47,30 @@ fn prints() -> BTreeMap<String, String> {
 }
 
 #[test]
-fn every_number_has_its_row_and_its_sentence() {
-    let rows: BTreeMap<u16, Vec<String>> = rows().into_iter().collect();
-    let numbers: Vec<u16> = number::ALL.iter().map(|(number, _, _)| *number).collect();
-    assert_eq!(rows.keys().copied().collect::<Vec<_>>(), numbers);
-    for (number, _, sentence) in number::ALL {
-        let cells = &rows[number];
-        let said = &cells[cells.len() - 3];
-        assert_eq!(said, sentence, "{number}");
-    }
+fn every_number_has_its_item_and_its_sentence() {
+    let mut items = items();
+    items.sort_by_key(|item| item.number);
+    let told = items.iter().map(|item| (item.number, &item.said[..]));
+    let due = number::ALL.iter().map(|(number, _, said)| (*number, *said));
+    assert_eq!(told.collect::<Vec<_>>(), due.collect::<Vec<_>>());
 }
 
-/// The first sheet that a row links gives its number and, where it has one, its word; a print that is quoted is its.
+/// The first sheet that an item links gives its number and, where it has one, its word; a print that is quoted is its.
 #[test]
 fn every_example_gives_its_number() {
     let prints = prints();
     let mut linked = 0;
-    for (number, cells) in rows().into_iter().filter(|(n, _)| (3..32).contains(n)) {
-        let example = &cells[cells.len() - 2];
+    for item in items().iter().filter(|item| (3..32).contains(&item.number)) {
+        let (number, example) = (item.number, &item.example);
         let Some(name) = example.strip_prefix('[').and_then(|e| e.split(']').next()) else {
             continue;
         };
         linked += 1;
         assert!(example.contains(&format!("(../sheets/{name}.sheet)")));
         let print = &prints[name];
-        let due = match cells.len() {
-            4 => format!(" !{number} {}\n", cells[0]),
-            _ => format!("refused {number} "),
+        let due = match &item.word {
+            Some(word) => format!(" !{number} {word}\n"),
+            None => format!("refused {number} "),
         };
         assert!(print.contains(&due), "{name}: {print}");
         if let Some((_, quoted)) = example.rsplit_once("; `") {
@@ -67,7 +81,7 @@ fn every_example_gives_its_number() {
     assert!(linked >= 17, "{linked}");
 }
 
-/// The rows of 4, and of 32 to 35.
+/// The items of 4, and of 32 to 35.
 #[test]
 fn what_calls_answer() {
     let refusal = Sheet::check(&[5, 0, 1, 0, 2]).unwrap_err();

@@ -1,5 +1,5 @@
-//! The services against the second evaluator, on the same inputs in one run, as a table: for both the median time of a
-//! call or walk with its quartiles, and how many times the second evaluator's median ours is.
+//! The services against the second evaluator, on the same inputs in one run, as a table: the median time of a call or
+//! walk, of ours with its quartiles, and how many times the second evaluator's median ours is.
 //!
 //! A word after `--` picks the rows whose label holds it: `cargo bench -p sheets -- step`.
 
@@ -208,6 +208,7 @@ impl Row {
             self.run::<Second>(lent)
         }]);
         let ratio = ours.median.as_secs_f64() / second.median.as_secs_f64();
+        let second = micros(second.median);
         println!("| {} | {ours} | {second} | {ratio:.3} |", self.label);
     }
 }
@@ -217,7 +218,6 @@ struct Times {
     lower: Duration,
     median: Duration,
     upper: Duration,
-    count: usize,
 }
 
 impl Times {
@@ -228,7 +228,6 @@ impl Times {
             lower: at(1),
             median: at(2),
             upper: at(3),
-            count: times.len(),
         }
     }
 }
@@ -236,7 +235,7 @@ impl Times {
 impl std::fmt::Display for Times {
     fn fmt(&self, f: &mut std::fmt::Formatter) -> std::fmt::Result {
         let [lower, median, upper] = [self.lower, self.median, self.upper].map(micros);
-        write!(f, "{median} µs ({lower} to {upper}, {} times)", self.count)
+        write!(f, "{median} ({lower} to {upper})")
     }
 }
 
@@ -458,7 +457,7 @@ fn main() {
         return programs::print().expect("a print");
     }
     let is_picked = |label: &str| words.is_empty() || words.iter().any(|w| label.contains(&w[..]));
-    println!("| | ours | second evaluator | ratio |");
+    println!("| µs | ours | second evaluator | ratio |");
     println!("|---|---|---|---|");
     let [floor] = measured([&mut |lent| {
         lent.scratch.fill(0);
