@@ -6,23 +6,18 @@ use Rattle.bindings.proofs.cursor_over.Reads as reads
 use Rattle.bindings.proofs.cursor_over.Lts as lts
 use Rattle.bindings.proofs.filling.names_of.Reads as names-of-reads
 
--- src/lib.rt:68:9
 returns : tie.Need-returns
 returns c = search needs
 
--- src/lib.rt:75:13
 element-copy-out-r : tie.Need-element-copy-out-r
 element-copy-out-r c = search needs
 
--- src/lib.rt:75:13
 cast-r : tie.Need-cast-r
 cast-r c = omega (arith, c .before .before .pre .row (omega arith))
 
--- src/lib.rt:76:9
 names-of-requires : tie.Need-names-of-requires
 names-of-requires c κs = record { low = c .before .before .pre .row (omega arith); wide = c .before .before .pre .wide }
 
--- src/lib.rt:63:1
 returns-2 : tie.Need-returns-2
 returns-2 c = search needs
 

@@ -11,51 +11,39 @@ use Rattle.bindings.proofs.cursor_over.Reads as cursor-over-reads
 use Rattle.bindings.proofs.filling.fill.Reads as fill-reads
 use Rattle.bindings.proofs.forms.form_rows.Reads as form-rows-reads
 
--- src/lib.rt:125:47
 sub-form-rows : tie.Need-sub-form-rows
 sub-form-rows c = search needs
 
--- src/lib.rt:125:47
 part-form-rows-start : tie.Need-part-form-rows-start
 part-form-rows-start c = search needs
 
--- src/lib.rt:125:47
 part-form-rows-end : tie.Need-part-form-rows-end
 part-form-rows-end c = search needs
 
--- src/lib.rt:125:9
 form-rows-requires : tie.Need-form-rows-requires
 form-rows-requires c κs = let a = rows-asked _ (c .before .before .before .before .before .before .args .at) (c .before .before .before .before .before .before .args .whole) (c .before .before .before .before .before .before .args .to) (c .before .before .before .before .before .before .args .to - 0) (omega arith) (c .before .before .before .before .before .before .pre .1 .values, c .before .before .before .before .before .before .pre .1 .are) (c .before .before .before .before .before .before .pre .1 .short) in (c .before .before .before .before .before .before .pre .0, (a .0, a .1, refl, refl))
 
--- src/lib.rt:127:25
 enum-known-r : tie.Need-enum-known-r
 enum-known-r c = search needs
 
--- src/lib.rt:128:24
 enum-known-r-2 : tie.Need-enum-known-r-2
 enum-known-r-2 c = search needs
 
--- src/lib.rt:129:17
 cursor-over-requires : tie.Need-cursor-over-requires
 cursor-over-requires c κs = cursor-asked _ _ _ (c .before .before .before .before .before .before .before .before .before .before .before .before .args .at) (c .before .before .before .before .before .before .before .before .before .before .before .before .args .whole) (c .before .before .before .before .before .before .before .before .before .before .before .before .args .to) (c .before .before .before .before .before .before .before .before .before .before .before .before .pre .1 .room) (c .before .before .before .before .before .before .before .before .before .before .before .before .pre .1 .short) _ _ _ (rows-over _ _ _ (c .before .before .before .before .before .before .before .before .before .before .before .before .args .at) (c .before .before .before .before .before .before .before .before .before .before .before .before .args .whole) (c .before .before .before .before .before .before .before .before .before .before .before .before .args .to) (c .before .before .before .before .before .before .before .before .before .before .before .before .args .to - 0) (omega arith) _ _ _ (c .before .before .before .before .before .form-rows .ensures)) _ (c .before .before .before .r2 .given .1) (c .before .before .before .before .before .before .before .before .before .before .before .before .pre .1 .values, c .before .before .before .before .before .before .before .before .before .before .before .before .pre .1 .are) (c .before .before .before .before .before .before .before .before .before .before .before .before .args .k)
 
--- src/lib.rt:130:13
 fill-requires : tie.Need-fill-requires
 fill-requires c κs = filling-asked _ _ _ (c .before .before .before .before .before .before .before .before .before .before .before .before .before .before .before .before .args .at) (c .before .before .before .before .before .before .before .before .before .before .before .before .before .before .before .before .args .whole) (c .before .before .before .before .before .before .before .before .before .before .before .before .before .before .before .before .args .to) (c .before .before .before .before .before .before .before .before .before .before .before .before .before .before .before .before .pre .1 .room) (c .before .before .before .before .before .before .before .before .before .before .before .before .before .before .before .before .pre .1 .short) _ _ _ (rows-over _ _ _ (c .before .before .before .before .before .before .before .before .before .before .before .before .before .before .before .before .args .at) (c .before .before .before .before .before .before .before .before .before .before .before .before .before .before .before .before .args .whole) (c .before .before .before .before .before .before .before .before .before .before .before .before .before .before .before .before .args .to) (c .before .before .before .before .before .before .before .before .before .before .before .before .before .before .before .before .args .to - 0) (omega arith) _ _ _ (c .before .before .before .before .before .before .before .before .before .form-rows .ensures)) _ (c .before .before .before .before .before .before .before .r2 .given .1) (c .before .before .before .before .before .before .before .before .before .before .before .before .before .before .before .before .pre .1 .values, c .before .before .before .before .before .before .before .before .before .before .before .before .before .before .before .before .pre .1 .are) _ _ (c .before .before .before .cursor-over .ensures) (from-low _ _ _ (c .before .before .before .before .before .before .before .before .before .before .before .before .before .before .before .before .args .at) (c .before .before .before .before .before .before .before .before .before .before .before .before .before .before .before .before .args .whole) (c .before .before .before .before .before .before .before .before .before .before .before .before .before .before .before .before .args .to) (c .before .before .before .before .before .before .before .before .before .before .before .before .before .before .before .before .pre .1 .room) (c .before .before .before .before .before .before .before .before .before .before .before .before .before .before .before .before .pre .1 .short) _ _ _ (rows-over _ _ _ (c .before .before .before .before .before .before .before .before .before .before .before .before .before .before .before .before .args .at) (c .before .before .before .before .before .before .before .before .before .before .before .before .before .before .before .before .args .whole) (c .before .before .before .before .before .before .before .before .before .before .before .before .before .before .before .before .args .to) (c .before .before .before .before .before .before .before .before .before .before .before .before .before .before .before .before .args .to - 0) (omega arith) _ _ _ (c .before .before .before .before .before .before .before .before .before .form-rows .ensures)) _ (c .before .before .before .before .before .before .before .r2 .given .1) _ (c .before .before .before .before .before .before .before .before .before .before .before .before .before .before .before .before .pre .1))
 
--- src/lib.rt:110:1
 same-length : tie.Need-same-length
 same-length c = search needs
 
--- src/lib.rt:110:1
 returns : tie.Need-returns
 returns c = from-refused _ _ _ (c .before .before .before .before .before .before .before .before .before .before .args .at) (c .before .before .before .before .before .before .before .before .before .before .args .whole) (c .before .before .before .before .before .before .before .before .before .before .args .to) (c .before .before .before .before .before .before .before .before .before .before .pre .1 .room) (c .before .before .before .before .before .before .before .before .before .before .pre .1 .short) _ _ _ (rows-over _ _ _ (c .before .before .before .before .before .before .before .before .before .before .args .at) (c .before .before .before .before .before .before .before .before .before .before .args .whole) (c .before .before .before .before .before .before .before .before .before .before .args .to) (c .before .before .before .before .before .before .before .before .before .before .args .to - 0) (omega arith) _ _ _ (c .before .before .before .form-rows .ensures)) _ _ (c .before .r .given .1)
 
--- src/lib.rt:110:1
 same-length-2 : tie.Need-same-length-2
 same-length-2 c = search needs
 
--- src/lib.rt:110:1
 returns-2 : tie.Need-returns-2
 returns-2 c = from-told _ _ _ (c .before .before .before .before .before .before .before .before .before .before .before .before .before .before .before .before .before .before .before .args .at) (c .before .before .before .before .before .before .before .before .before .before .before .before .before .before .before .before .before .before .before .args .whole) (c .before .before .before .before .before .before .before .before .before .before .before .before .before .before .before .before .before .before .before .args .to) (c .before .before .before .before .before .before .before .before .before .before .before .before .before .before .before .before .before .before .before .pre .1 .room) (c .before .before .before .before .before .before .before .before .before .before .before .before .before .before .before .before .before .before .before .pre .1 .short) _ _ _ (rows-over _ _ _ (c .before .before .before .before .before .before .before .before .before .before .before .before .before .before .before .before .before .before .before .args .at) (c .before .before .before .before .before .before .before .before .before .before .before .before .before .before .before .before .before .before .before .args .whole) (c .before .before .before .before .before .before .before .before .before .before .before .before .before .before .before .before .before .before .before .args .to) (c .before .before .before .before .before .before .before .before .before .before .before .before .before .before .before .before .before .before .before .args .to - 0) (omega arith) _ _ _ (c .before .before .before .before .before .before .before .before .before .before .before .before .form-rows .ensures)) _ (c .before .before .before .before .before .before .before .before .before .before .r2 .given .1) (c .before .before .before .before .before .before .before .before .before .before .before .before .before .before .before .before .before .before .before .pre .1 .values, c .before .before .before .before .before .before .before .before .before .before .before .before .before .before .before .before .before .before .before .pre .1 .are) _ _ (c .before .before .before .before .before .before .cursor-over .ensures) (from-low _ _ _ (c .before .before .before .before .before .before .before .before .before .before .before .before .before .before .before .before .before .before .before .args .at) (c .before .before .before .before .before .before .before .before .before .before .before .before .before .before .before .before .before .before .before .args .whole) (c .before .before .before .before .before .before .before .before .before .before .before .before .before .before .before .before .before .before .before .args .to) (c .before .before .before .before .before .before .before .before .before .before .before .before .before .before .before .before .before .before .before .pre .1 .room) (c .before .before .before .before .before .before .before .before .before .before .before .before .before .before .before .before .before .before .before .pre .1 .short) _ _ _ (rows-over _ _ _ (c .before .before .before .before .before .before .before .before .before .before .before .before .before .before .before .before .before .before .before .args .at) (c .before .before .before .before .before .before .before .before .before .before .before .before .before .before .before .before .before .before .before .args .whole) (c .before .before .before .before .before .before .before .before .before .before .before .before .before .before .before .before .before .before .before .args .to) (c .before .before .before .before .before .before .before .before .before .before .before .before .before .before .before .before .before .before .before .args .to - 0) (omega arith) _ _ _ (c .before .before .before .before .before .before .before .before .before .before .before .before .form-rows .ensures)) _ (c .before .before .before .before .before .before .before .before .before .before .r2 .given .1) _ (c .before .before .before .before .before .before .before .before .before .before .before .before .before .before .before .before .before .before .before .pre .1)) _ (c .before .before .fill .ensures)
 

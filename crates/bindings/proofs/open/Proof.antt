@@ -12,47 +12,36 @@ use Rattle.bindings.proofs.open_plain.Reads as open-plain-reads
 use Rattle.tables.proofs.reading.field.Reads as field-reads
 use Rattle.tables.proofs.reading.kind.Reads as kind-reads
 
--- src/lib.rt:125:9
 kind-requires : tie.Need-kind-requires
 kind-requires c κs = search needs
 
--- src/lib.rt:127:13
 field-requires : tie.Need-field-requires
 field-requires c κs = plain-field _ _ _ (c .before .before .before .before .pre .0) (sym (c .before .kind .ensures .0) ∙ c .if1 .taken)
 
--- src/lib.rt:128:13
 open-plain-requires : tie.Need-open-plain-requires
 open-plain-requires c κs = plain-lent _ _ _ (c .before .before .before .before .before .before .pre .0) (sym (c .before .before .before .kind .ensures .0) ∙ c .before .before .if1 .taken) _ (c .before .before .before .before .before .before .args .at) (c .before .before .before .before .before .before .args .whole) (c .before .before .before .before .before .before .args .to) (c .before .before .before .before .before .before .pre .1) _ (c .before .field .ensures .0)
 
--- src/lib.rt:129:9
 same-length : tie.Need-same-length
 same-length c = search needs
 
--- src/lib.rt:129:9
 returns : tie.Need-returns
 returns c = plain-opened _ _ _ (c .before .before .before .before .before .before .before .before .before .pre .0) (sym (c .before .before .before .before .before .before .kind .ensures .0) ∙ c .before .before .before .before .before .if1 .taken) _ (c .before .before .before .before .before .before .before .before .before .args .at) (c .before .before .before .before .before .before .before .before .before .args .whole) (c .before .before .before .before .before .before .before .before .before .args .to) (c .before .before .before .before .before .before .before .before .before .pre .1) _ (c .before .before .before .before .field .ensures .0) _ _ (c .before .before .open-plain .ensures)
 
--- src/lib.rt:132:13
 open-any-requires : tie.Need-open-any-requires
 open-any-requires c κs = any-asked _ (c .before .before .before .before .before .before .args .at) (c .before .before .before .before .before .before .args .whole) (c .before .before .before .before .before .before .args .to) (c .before .before .before .before .before .before .pre .1)
 
--- src/lib.rt:133:9
 same-length-2 : tie.Need-same-length-2
 same-length-2 c = search needs
 
--- src/lib.rt:133:9
 returns-2 : tie.Need-returns-2
 returns-2 c = any-opened _ _ _ (c .before .before .before .before .before .before .before .pre .0) (sym (c .before .before .before .before .kind .ensures .0) ∙ c .before .before .if2 .taken) _ (c .before .before .before .before .before .before .before .args .at) (c .before .before .before .before .before .before .before .args .whole) (c .before .before .before .before .before .before .before .args .to) (c .before .before .before .before .before .before .before .pre .1) _ (c .open-any .ensures)
 
--- src/lib.rt:135:5
 form-from-requires : tie.Need-form-from-requires
 form-from-requires c κs = (c .before .before .before .before .before .before .pre .0, first-lent _ _ _ (c .before .before .before .before .before .before .args .at) (c .before .before .before .before .before .before .args .whole) (c .before .before .before .before .before .before .args .to) (c .before .before .before .before .before .before .pre .1))
 
--- src/lib.rt:112:1
 same-length-3 : tie.Need-same-length-3
 same-length-3 c = search needs
 
--- src/lib.rt:112:1
 returns-3 : tie.Need-returns-3
 returns-3 c = opened-first _ _ _ _ (c .before .before .before .before .before .before .before .before .before .args .at) (c .before .before .before .before .before .before .before .before .before .args .whole) (c .before .before .before .before .before .before .before .before .before .args .to) _ (c .before .before .form-from .ensures)
 

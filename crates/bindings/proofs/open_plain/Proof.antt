@@ -10,31 +10,24 @@ use Rattle.bindings.proofs.filling.put_members.Reads as put-members-rea
 use Rattle.bindings.proofs.forms.first_at.Reads as first-at-reads
 use Rattle.values.proofs.length_of.Reads as length-of-reads
 
--- src/lib.rt:50:9
 length-of-requires : tie.Need-length-of-requires
 length-of-requires c κs = plain-holds _ (c .before .before .args .at) (c .before .before .args .whole) (c .before .before .args .to) (c .before .before .args .x) (c .before .before .pre)
 
--- src/lib.rt:51:9
 one-name-requires : tie.Need-one-name-requires
 one-name-requires c κs = search needs
 
--- src/lib.rt:52:9
 first-at-requires : tie.Need-first-at-requires
 first-at-requires c κs = let h = plain-holds _ (c .before .before .before .before .args .at) (c .before .before .before .before .args .whole) (c .before .before .before .before .args .to) (c .before .before .before .before .args .x) (c .before .before .before .before .pre) in omega (arith, h .low, h .whole, c .before .before .before .before .pre .short)
 
--- src/lib.rt:53:51
 add-put-members : tie.Need-add-put-members
 add-put-members c = let h = plain-holds _ (c .before .before .before .before .before .before .args .at) (c .before .before .before .before .before .before .args .whole) (c .before .before .before .before .before .before .args .to) (c .before .before .before .before .before .before .args .x) (c .before .before .before .before .before .before .pre) in omega (arith, h .whole, c .before .before .before .before .before .before .pre .short, c .before .before .before .length-of .ensures .is)
 
--- src/lib.rt:53:9
 put-members-requires : tie.Need-put-members-requires
 put-members-requires c κs = plain-asked _ (c .before .before .before .before .before .before .args .at) (c .before .before .before .before .before .before .args .whole) (c .before .before .before .before .before .before .args .to) (c .before .before .before .before .before .before .args .x) (c .before .before .before .before .before .before .pre) _ (c .before .before .before .length-of .ensures .is) _ (c .before .first-at .ensures)
 
--- src/lib.rt:46:1
 same-length : tie.Need-same-length
 same-length c = search needs
 
--- src/lib.rt:46:1
 returns : tie.Need-returns
 returns c = plain-told _ (c .before .before .before .before .before .before .before .before .before .args .at) (c .before .before .before .before .before .before .before .before .before .args .whole) (c .before .before .before .before .before .before .before .before .before .args .to) (c .before .before .before .before .before .before .before .before .before .args .x) (c .before .before .before .before .before .before .before .before .before .pre) _ (c .before .before .before .before .before .before .length-of .ensures .is) _ (c .before .before .before .before .first-at .ensures) _ _ _ (c .before .before .before .before .before .one-name .ensures) (c .before .before .put-members .ensures)
 

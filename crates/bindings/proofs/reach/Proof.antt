@@ -7,47 +7,36 @@ use Rattle.bindings.proofs.reach.Reads as reads
 use Rattle.bindings.proofs.reach.Lts as lts
 use Rattle.bindings.proofs.form_from.Reads as form-from-reads
 
--- src/lib.rt:156:17
 mul-if2 : tie.Need-mul-if2
 mul-if2 c = omega (arith, width-most _ _ _ (c .before .before .before .before .before .before .args .at) (c .before .before .before .before .before .before .args .whole) (c .before .before .before .before .before .before .args .to) _ _ (c .before .before .before .before .before .before .pre .1))
 
--- src/lib.rt:156:17
 add-if2 : tie.Need-add-if2
 add-if2 c = omega (arith, width-most _ _ _ (c .before .before .before .before .before .before .before .args .at) (c .before .before .before .before .before .before .before .args .whole) (c .before .before .before .before .before .before .before .args .to) _ _ (c .before .before .before .before .before .before .before .pre .1), c .before .before .before .before .before .before .before .pre .1 .window-is .narrow)
 
--- src/lib.rt:156:12
 mul-if2-2 : tie.Need-mul-if2-2
 mul-if2-2 c = omega (arith, width-most _ _ _ (c .before .before .before .before .before .before .before .args .at) (c .before .before .before .before .before .before .before .args .whole) (c .before .before .before .before .before .before .before .args .to) _ _ (c .before .before .before .before .before .before .before .pre .1), c .before .before .before .before .before .before .before .pre .1 .window-is .narrow)
 
--- src/lib.rt:157:13
 returns : tie.Need-returns
 returns c = reach-there _ _ _ (c .before .before .before .before .before .before .before .before .args .at) (c .before .before .before .before .before .before .before .before .args .whole) (c .before .before .before .before .before .before .before .before .args .to) _ _ (c .before .before .before .before .before .before .before .before .pre .1) (omega arith) (omega arith)
 
--- src/lib.rt:160:9
 form-from-requires : tie.Need-form-from-requires
 form-from-requires c κs = (c .before .before .before .before .before .pre .0, reach-lent _ _ _ (c .before .before .before .before .before .args .at) (c .before .before .before .before .before .args .whole) (c .before .before .before .before .before .args .to) _ _ (c .before .before .before .before .before .pre .1))
 
--- src/lib.rt:162:25
 enum-known-r : tie.Need-enum-known-r
 enum-known-r c = search needs
 
--- src/lib.rt:163:23
 enum-known-r-2 : tie.Need-enum-known-r-2
 enum-known-r-2 c = search needs
 
--- src/lib.rt:140:1
 same-length : tie.Need-same-length
 same-length c = search needs
 
--- src/lib.rt:140:1
 returns-2 : tie.Need-returns-2
 returns-2 c = absurd (reach-never _ _ _ (c .before .before .before .before .before .before .before .before .before .before .before .args .at) (c .before .before .before .before .before .before .before .before .before .before .before .args .whole) (c .before .before .before .before .before .before .before .before .before .before .before .args .to) _ _ (c .before .before .before .before .before .before .before .before .before .before .before .pre .1) _ _ (c .before .before .before .before .before .form-from .ensures) _ (c .before .r .given .1))
 
--- src/lib.rt:140:1
 same-length-2 : tie.Need-same-length-2
 same-length-2 c = search needs
 
--- src/lib.rt:140:1
 returns-3 : tie.Need-returns-3
 returns-3 c = reach-told _ _ _ (c .before .before .before .before .before .before .before .before .before .before .before .args .at) (c .before .before .before .before .before .before .before .before .before .before .before .args .whole) (c .before .before .before .before .before .before .before .before .before .before .before .args .to) _ _ (c .before .before .before .before .before .before .before .before .before .before .before .pre .1) _ _ (c .before .before .before .before .before .form-from .ensures) _ (c .before .r2 .given .1)
 

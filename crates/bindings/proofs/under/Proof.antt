@@ -15,55 +15,42 @@ Inv-loop s to k words₀ at₀ left₀ x₀ words at left x = UnderInv s to k wo
 abbrev μ-loop : tie.MeasureT-loop
 μ-loop s to k words₀ at₀ left₀ x₀ words at left x = left
 
--- src/lib.rt:195:44
 sub-at : tie.Need-sub-at Inv-loop μ-loop
 sub-at c = omega (arith, c .before .before .pre .within .low)
 
--- src/lib.rt:195:28
 mul-at : tie.Need-mul-at Inv-loop μ-loop
 mul-at c = omega (arith, c .before .before .before .pre .within .fits)
 
--- src/lib.rt:195:23
 mul-at-2 : tie.Need-mul-at-2 Inv-loop μ-loop
 mul-at-2 c = omega (arith, c .before .before .before .pre .within .fits)
 
--- src/lib.rt:195:18
 add-at : tie.Need-add-at Inv-loop μ-loop
 add-at c = omega (arith, c .before .before .before .pre .within .fits, c .before .before .before .pre .room, c .before .before .before .pre .short)
 
--- src/lib.rt:198:5
 loop-holds : tie.Need-loop-holds Inv-loop μ-loop
 loop-holds c = λ c′ env h a b d. rw (← a, b, d) (under-start _ _ _ _ _ h)
 
--- src/lib.rt:200:24
 read-word-requires : tie.Need-read-word-requires Inv-loop μ-loop
 read-word-requires c κs = under-room _ _ _ _ _ (c .before .before .before .before .before .before .pre) _ _ _ _ (c .before .before .loop .inv (c .before .before .before .before .before .before .args .cursor) (record { words = c .before .before .before .before .before .before .args .words .now }) (c .before .before .before .before .before .before .pre) refl refl refl) (omega arith) (c .if1 .taken)
 
--- src/lib.rt:200:13
 mul-words : tie.Need-mul-words Inv-loop μ-loop
 mul-words c = omega (arith, under-in _ _ _ _ _ (c .before .before .before .before .before .before .before .pre) _ _ _ _ (c .before .before .before .loop .inv (c .before .before .before .before .before .before .before .args .cursor) (record { words = c .before .before .before .before .before .before .before .args .words .now }) (c .before .before .before .before .before .before .before .pre) refl refl refl) (omega arith))
 
--- src/lib.rt:200:13
 element-write-words : tie.Need-element-write-words Inv-loop μ-loop
 element-write-words c = omega (arith, under-in _ _ _ _ _ (c .before .before .before .before .before .before .before .pre) _ _ _ _ (c .before .before .before .loop .inv (c .before .before .before .before .before .before .before .args .cursor) (record { words = c .before .before .before .before .before .before .before .args .words .now }) (c .before .before .before .before .before .before .before .pre) refl refl refl) (omega arith))
 
--- src/lib.rt:201:13
 add-at-2 : tie.Need-add-at-2 Inv-loop μ-loop
 add-at-2 c = omega (arith, under-room _ _ _ _ _ (c .before .before .before .before .before .before .before .pre) _ _ _ _ (c .before .before .before .loop .inv (c .before .before .before .before .before .before .before .args .cursor) (record { words = c .before .before .before .before .before .before .before .args .words .now }) (c .before .before .before .before .before .before .before .pre) refl refl refl) (omega arith) (c .before .if1 .taken))
 
--- src/lib.rt:204:9
 add-x : tie.Need-add-x Inv-loop μ-loop
 add-x c = omega (arith, under-in _ _ _ _ _ (c .before .before .before .before .before .before .pre) _ _ _ _ (c .before .before .loop .inv (c .before .before .before .before .before .before .args .cursor) (record { words = c .before .before .before .before .before .before .args .words .now }) (c .before .before .before .before .before .before .pre) refl refl refl) (omega arith))
 
--- src/lib.rt:198:5
 loop-less : tie.Need-loop-less Inv-loop μ-loop
 loop-less c = omega arith
 
--- src/lib.rt:198:5
 loop-again : tie.Need-loop-again Inv-loop μ-loop
 loop-again c = λ c′ env h a b d. ⊎-elim (λ x. rw (x .2, x .3) (under-some _ _ _ _ _ h _ _ _ _ (c .before .before .loop .inv c′ env h a b d) (omega arith) (x .0 .taken) _ (x .1 .ensures))) (λ x. rw (x .1, x .2) (under-none _ _ _ _ _ h _ _ _ _ (c .before .before .loop .inv c′ env h a b d) (omega arith) (x .0 .left))) (c .if1 .came)
 
--- src/lib.rt:190:1
 returns : tie.Need-returns Inv-loop μ-loop
 returns c = under-end _ _ _ _ _ (c .before .before .before .before .before .pre) _ _ _ _ (c .before .loop .inv (c .before .before .before .before .before .args .cursor) (record { words = c .before .before .before .before .before .args .words .now }) (c .before .before .before .before .before .pre) refl refl refl) (omega arith)
 

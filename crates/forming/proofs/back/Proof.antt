@@ -23,79 +23,60 @@ use Rattle.forming.proofs.sizes.way_from.Reads as way-from-reads
 use Rattle.tables.proofs.reading.kind.Reads as kind-reads
 use Rattle.forming.proofs.groups.part_count.Reads as part-count-reads
 
--- src/lib.rt:233:13
 sub-i : tie.Need-sub-i
 sub-i c = omega (arith, c .before .before .pre .some)
 
--- src/lib.rt:234:9
 load-requires : tie.Need-load-requires
 load-requires c κs = (last-few _ _ _ _ _ _ _ _ _ _ _ _ _ (last-of _ _ _ _ _ _ _ _ _ _ _ _ (c .before .before .before .pre .stacked) (c .before .before .before .args .depth - 1) (omega (arith, c .before .before .before .pre .some)) _ refl), c .before .before .before .pre .stacked .frames-long)
 
--- src/lib.rt:237:13
 returns : tie.Need-returns
 returns c = record { right = λ t h. reached _ _ _ _ _ _ _ _ _ _ _ _ (last-left _ _ _ _ _ _ _ _ _ _ _ _ _ (last-of _ _ _ _ _ _ _ _ _ _ _ _ h (c .before .before .before .before .before .before .args .depth - 1) (omega (arith, c .before .before .before .before .before .before .pre .some)) _ (c .before .before .load .ensures)) (c .before .if1 .taken) (omega arith)); less = left-less _ _ _ (omega (arith, c .before .before .before .before .before .before .pre .some)) _ (c .before .before .load .ensures) ((last-of _ _ _ _ _ _ _ _ _ _ _ _ (c .before .before .before .before .before .before .pre .stacked) (c .before .before .before .before .before .before .args .depth - 1) (omega (arith, c .before .before .before .before .before .before .pre .some)) _ (c .before .before .load .ensures)) .is .within) }
 
--- src/lib.rt:248:9
 kind-requires : tie.Need-kind-requires
 kind-requires c κs = code-readable _ _ _ ((last-of _ _ _ _ _ _ _ _ _ _ _ _ (c .before .before .before .before .before .pre .stacked) (c .before .before .before .before .before .args .depth - 1) (omega (arith, c .before .before .before .before .before .pre .some)) _ (c .before .load .ensures)) .is .code) .here
 
--- src/lib.rt:249:9
 part-count-requires : tie.Need-part-count-requires
 part-count-requires c κs = (last-of _ _ _ _ _ _ _ _ _ _ _ _ (c .before .before .before .before .before .before .pre .stacked) (c .before .before .before .before .before .before .args .depth - 1) (omega (arith, c .before .before .before .before .before .before .pre .some)) _ (c .before .before .load .ensures)) .is .code
 
--- src/lib.rt:250:23
 mul-met : tie.Need-mul-met
 mul-met c = omega (arith, (last-of _ _ _ _ _ _ _ _ _ _ _ _ (c .before .before .before .before .before .before .before .pre .stacked) (c .before .before .before .before .before .before .before .args .depth - 1) (omega (arith, c .before .before .before .before .before .before .before .pre .some)) _ (c .before .before .before .load .ensures)) .is .low, top-low _ _ _ _ _ _ _ _ _ _ _ _ _ (last-of _ _ _ _ _ _ _ _ _ _ _ _ (c .before .before .before .before .before .before .before .pre .stacked) (c .before .before .before .before .before .before .before .args .depth - 1) (omega (arith, c .before .before .before .before .before .before .before .pre .some)) _ (c .before .before .before .load .ensures)), (last-of _ _ _ _ _ _ _ _ _ _ _ _ (c .before .before .before .before .before .before .before .pre .stacked) (c .before .before .before .before .before .before .before .args .depth - 1) (omega (arith, c .before .before .before .before .before .before .before .pre .some)) _ (c .before .before .before .load .ensures)) .long)
 
--- src/lib.rt:250:23
 add-met : tie.Need-add-met
 add-met c = omega (arith, (last-of _ _ _ _ _ _ _ _ _ _ _ _ (c .before .before .before .before .before .before .before .pre .stacked) (c .before .before .before .before .before .before .before .args .depth - 1) (omega (arith, c .before .before .before .before .before .before .before .pre .some)) _ (c .before .before .before .load .ensures)) .is .low, top-low _ _ _ _ _ _ _ _ _ _ _ _ _ (last-of _ _ _ _ _ _ _ _ _ _ _ _ (c .before .before .before .before .before .before .before .pre .stacked) (c .before .before .before .before .before .before .before .args .depth - 1) (omega (arith, c .before .before .before .before .before .before .before .pre .some)) _ (c .before .before .before .load .ensures)), (last-of _ _ _ _ _ _ _ _ _ _ _ _ (c .before .before .before .before .before .before .before .pre .stacked) (c .before .before .before .before .before .before .before .args .depth - 1) (omega (arith, c .before .before .before .before .before .before .before .pre .some)) _ (c .before .before .before .load .ensures)) .long)
 
--- src/lib.rt:250:16
 mul-met-2 : tie.Need-mul-met-2
 mul-met-2 c = omega (arith, (last-of _ _ _ _ _ _ _ _ _ _ _ _ (c .before .before .before .before .before .before .before .pre .stacked) (c .before .before .before .before .before .before .before .args .depth - 1) (omega (arith, c .before .before .before .before .before .before .before .pre .some)) _ (c .before .before .before .load .ensures)) .is .low, top-low _ _ _ _ _ _ _ _ _ _ _ _ _ (last-of _ _ _ _ _ _ _ _ _ _ _ _ (c .before .before .before .before .before .before .before .pre .stacked) (c .before .before .before .before .before .before .before .args .depth - 1) (omega (arith, c .before .before .before .before .before .before .before .pre .some)) _ (c .before .before .before .load .ensures)), (last-of _ _ _ _ _ _ _ _ _ _ _ _ (c .before .before .before .before .before .before .before .pre .stacked) (c .before .before .before .before .before .before .before .args .depth - 1) (omega (arith, c .before .before .before .before .before .before .before .pre .some)) _ (c .before .before .before .load .ensures)) .long)
 
--- src/lib.rt:250:16
 element-copy-out-met : tie.Need-element-copy-out-met
 element-copy-out-met c = omega (arith, (last-of _ _ _ _ _ _ _ _ _ _ _ _ (c .before .before .before .before .before .before .before .pre .stacked) (c .before .before .before .before .before .before .before .args .depth - 1) (omega (arith, c .before .before .before .before .before .before .before .pre .some)) _ (c .before .before .before .load .ensures)) .is .low, top-low _ _ _ _ _ _ _ _ _ _ _ _ _ (last-of _ _ _ _ _ _ _ _ _ _ _ _ (c .before .before .before .before .before .before .before .pre .stacked) (c .before .before .before .before .before .before .before .args .depth - 1) (omega (arith, c .before .before .before .before .before .before .before .pre .some)) _ (c .before .before .before .load .ensures)), (last-of _ _ _ _ _ _ _ _ _ _ _ _ (c .before .before .before .before .before .before .before .pre .stacked) (c .before .before .before .before .before .before .before .args .depth - 1) (omega (arith, c .before .before .before .before .before .before .before .pre .some)) _ (c .before .before .before .load .ensures)) .long)
 
--- src/lib.rt:252:16
 split-word-requires : tie.Need-split-word-requires
 split-word-requires c κs = word-met _ _ _ _ _ _ _ _ _ _ _ _ _ (last-of _ _ _ _ _ _ _ _ _ _ _ _ (c .before .before .before .before .before .before .before .before .pre .stacked) (c .before .before .before .before .before .before .before .before .args .depth - 1) (omega (arith, c .before .before .before .before .before .before .before .before .pre .some)) _ (c .before .before .before .before .load .ensures)) _ (c .before .before .kind .ensures .0) _ refl
 
--- src/lib.rt:252:40
 add-way-from : tie.Need-add-way-from
 add-way-from c = omega (arith, (last-of _ _ _ _ _ _ _ _ _ _ _ _ (c .before .before .before .before .before .before .before .before .before .before .pre .stacked) (c .before .before .before .before .before .before .before .before .before .before .args .depth - 1) (omega (arith, c .before .before .before .before .before .before .before .before .before .before .pre .some)) _ (c .before .before .before .before .before .before .load .ensures)) .is .within, (last-of _ _ _ _ _ _ _ _ _ _ _ _ (c .before .before .before .before .before .before .before .before .before .before .pre .stacked) (c .before .before .before .before .before .before .before .before .before .before .args .depth - 1) (omega (arith, c .before .before .before .before .before .before .before .before .before .before .pre .some)) _ (c .before .before .before .before .before .before .load .ensures)) .is .few)
 
--- src/lib.rt:252:5
 way-from-requires : tie.Need-way-from-requires
 way-from-requires c κs = next-asked _ _ _ _ _ _ _ _ _ _ _ _ _ (last-of _ _ _ _ _ _ _ _ _ _ _ _ (c .before .before .before .before .before .before .before .before .before .before .pre .stacked) (c .before .before .before .before .before .before .before .before .before .before .args .depth - 1) (omega (arith, c .before .before .before .before .before .before .before .before .before .before .pre .some)) _ (c .before .before .before .before .before .before .load .ensures)) _ (c .before .before .before .before .kind .ensures .0)
 
--- src/lib.rt:253:9
 go-on-requires : tie.Need-go-on-requires
 go-on-requires c κs = let l = (last-of _ _ _ _ _ _ _ _ _ _ _ _ (c .before .before .before .before .before .before .before .before .before .before .before .before .pre .stacked) (c .before .before .before .before .before .before .before .before .before .before .before .before .args .depth - 1) (omega (arith, c .before .before .before .before .before .before .before .before .before .before .before .before .pre .some)) _ (c .before .before .before .before .before .before .before .before .load .ensures)) in (last-few _ _ _ _ _ _ _ _ _ _ _ _ _ l, l .frames-long, l .is .few, ap (λ (f : Frame). f .ways) (c .before .before .before .before .before .before .before .before .load .ensures))
 
--- src/lib.rt:254:5
 clear-requires : tie.Need-clear-requires
 clear-requires c κs = (last-of _ _ _ _ _ _ _ _ _ _ _ _ (c .before .before .before .before .before .before .before .before .before .before .before .before .before .before .pre .stacked) (c .before .before .before .before .before .before .before .before .before .before .before .before .before .before .args .depth - 1) (omega (arith, c .before .before .before .before .before .before .before .before .before .before .before .before .before .before .pre .some)) _ (c .before .before .before .before .before .before .before .before .before .before .load .ensures)) .sized
 
--- src/lib.rt:255:9
 push-requires : tie.Need-push-requires
 push-requires c κs = push-asked _ _ _ _ _ _ _ _ _ _ _ _ _ (last-of _ _ _ _ _ _ _ _ _ _ _ _ (c .before .before .before .before .before .before .before .before .before .before .before .before .before .before .before .before .pre .stacked) (c .before .before .before .before .before .before .before .before .before .before .before .before .before .before .before .before .args .depth - 1) (omega (arith, c .before .before .before .before .before .before .before .before .before .before .before .before .before .before .before .before .pre .some)) _ (c .before .before .before .before .before .before .before .before .before .before .before .before .load .ensures)) _ (c .before .before .before .before .before .before .before .before .before .before .kind .ensures .0) _ (c .before .before .before .before .before .way-from .ensures) _ (c .before .before .before .before .before .before .before .split-word .ensures)
 
--- src/lib.rt:264:9
 add-down : tie.Need-add-down
 add-down c = omega (arith, top-room _ _ _ _ _ _ _ _ _ _ _ _ _ (last-of _ _ _ _ _ _ _ _ _ _ _ _ (c .before .before .before .before .before .before .before .before .before .before .before .before .before .before .before .before .before .before .before .pre .stacked) (c .before .before .before .before .before .before .before .before .before .before .before .before .before .before .before .before .before .before .before .args .depth - 1) (omega (arith, c .before .before .before .before .before .before .before .before .before .before .before .before .before .before .before .before .before .before .before .pre .some)) _ (c .before .before .before .before .before .before .before .before .before .before .before .before .before .before .before .load .ensures)), c .before .before .before .before .before .before .before .before .before .before .before .before .part-count .ensures .0)
 
--- src/lib.rt:268:9
 lesser-requires : tie.Need-lesser-requires
 lesser-requires c κs = search needs
 
--- src/lib.rt:258:5
 down-requires : tie.Need-down-requires
 down-requires c κs = (_, going-down _ _ _ _ _ _ _ _ _ _ _ _ _ (last-of _ _ _ _ _ _ _ _ _ _ _ _ (c .before .before .before .before .before .before .before .before .before .before .before .before .before .before .before .before .before .before .before .before .before .before .before .before .pre .stacked) (c .before .before .before .before .before .before .before .before .before .before .before .before .before .before .before .before .before .before .before .before .before .before .before .before .args .depth - 1) (omega (arith, c .before .before .before .before .before .before .before .before .before .before .before .before .before .before .before .before .before .before .before .before .before .before .before .before .pre .some)) _ (c .before .before .before .before .before .before .before .before .before .before .before .before .before .before .before .before .before .before .before .before .load .ensures)) _ (c .before .before .before .before .before .before .before .before .before .before .before .before .before .before .before .before .before .before .kind .ensures .0) _ (c .before .before .before .before .before .before .before .before .before .before .before .before .before .way-from .ensures) _ (c .before .before .before .before .before .before .before .before .before .before .before .before .before .before .before .split-word .ensures) _ _ (c .before .before .before .before .before .before .before .push .ensures) _ _ (advanced-from _ _ _ (c .before .before .before .before .before .before .before .before .before .before .before .before .before .before .before .before .before .before .before .before .load .ensures) _ _ _ (c .before .before .before .before .before .before .before .before .before .before .before .go-on .ensures)) _ (c .before .before .before .before .before .before .before .before .before .clear .ensures) _ (c .before .before .before .before .before .before .before .before .before .before .before .before .before .before .before .before .before .part-count .ensures .0) _ (c .before .before .lesser .ensures .0) (c .before .before .lesser .ensures .1))
 
--- src/lib.rt:217:1
 returns-2 : tie.Need-returns-2
 returns-2 c = record { right = λ t h. c .down .ensures .right t (going-down _ _ _ _ _ _ _ _ _ _ _ _ _ (last-of _ _ _ _ _ _ _ _ _ _ _ _ h (c .before .before .before .before .before .before .before .before .before .before .before .before .before .before .before .before .before .before .before .before .before .before .before .before .before .args .depth - 1) (omega (arith, c .before .before .before .before .before .before .before .before .before .before .before .before .before .before .before .before .before .before .before .before .before .before .before .before .before .pre .some)) _ (c .before .before .before .before .before .before .before .before .before .before .before .before .before .before .before .before .before .before .before .before .before .load .ensures)) _ (c .before .before .before .before .before .before .before .before .before .before .before .before .before .before .before .before .before .before .before .kind .ensures .0) _ (c .before .before .before .before .before .before .before .before .before .before .before .before .before .before .way-from .ensures) _ (c .before .before .before .before .before .before .before .before .before .before .before .before .before .before .before .before .split-word .ensures) _ _ (c .before .before .before .before .before .before .before .before .push .ensures) _ _ (advanced-from _ _ _ (c .before .before .before .before .before .before .before .before .before .before .before .before .before .before .before .before .before .before .before .before .before .load .ensures) _ _ _ (c .before .before .before .before .before .before .before .before .before .before .before .before .go-on .ensures)) _ (c .before .before .before .before .before .before .before .before .before .before .clear .ensures) _ (c .before .before .before .before .before .before .before .before .before .before .before .before .before .before .before .before .before .before .part-count .ensures .0) _ (c .before .before .before .lesser .ensures .0) (c .before .before .before .lesser .ensures .1)); less = next-less _ _ _ _ _ _ _ _ _ _ _ _ _ (last-of _ _ _ _ _ _ _ _ _ _ _ _ (c .before .before .before .before .before .before .before .before .before .before .before .before .before .before .before .before .before .before .before .before .before .before .before .before .before .pre .stacked) (c .before .before .before .before .before .before .before .before .before .before .before .before .before .before .before .before .before .before .before .before .before .before .before .before .before .args .depth - 1) (omega (arith, c .before .before .before .before .before .before .before .before .before .before .before .before .before .before .before .before .before .before .before .before .before .before .before .before .before .pre .some)) _ (c .before .before .before .before .before .before .before .before .before .before .before .before .before .before .before .before .before .before .before .before .before .load .ensures)) _ (c .before .before .before .before .before .before .before .before .before .before .before .before .before .before .before .before .before .before .before .kind .ensures .0) _ (c .before .before .before .before .before .before .before .before .before .before .before .before .before .before .way-from .ensures) _ (c .before .before .before .before .before .before .before .before .before .before .before .before .before .before .before .before .split-word .ensures) _ _ (c .before .before .before .before .before .before .before .before .push .ensures) _ _ (advanced-from _ _ _ (c .before .before .before .before .before .before .before .before .before .before .before .before .before .before .before .before .before .before .before .before .before .load .ensures) _ _ _ (c .before .before .before .before .before .before .before .before .before .before .before .before .go-on .ensures)) _ (c .before .before .before .before .before .before .before .before .before .before .clear .ensures) _ (c .before .before .before .before .before .before .before .before .before .before .before .before .before .before .before .before .before .before .part-count .ensures .0) _ (c .before .before .before .lesser .ensures .0) (c .before .before .before .lesser .ensures .1) _ (omega (arith, c .before .before .before .before .before .before .before .before .before .before .before .before .before .before .before .before .before .before .before .before .before .before .before .before .before .pre .some)) (c .before .before .before .before .before .before .before .before .before .before .before .before .before .before .before .before .before .before .before .before .before .load .ensures) _ (c .down .ensures .less) }
 

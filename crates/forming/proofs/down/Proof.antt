@@ -9,27 +9,21 @@ use Rattle.forming.proofs.insert_match.Reads as insert-match-reads
 use Rattle.forming.proofs.open_frame.Reads as open-frame-reads
 use Rattle.forming.proofs.taking.take_leaves.Reads as take-leaves-reads
 
--- src/lib.rt:139:9
 take-leaves-requires : tie.Need-take-leaves-requires
 take-leaves-requires c κs = take-asked _ _ _ _ _ _ _ _ _ _ _ _ _ _ (c .before .before .before .pre .1)
 
--- src/lib.rt:141:9
 returns : tie.Need-returns
 returns c = record { right = λ t d. no-match _ _ _ _ _ _ _ _ _ _ _ _ _ t d _ _ (c .before .before .take-leaves .ensures) (not-true _ (c .if1 .taken)); less = none-less _ _ _ _ }
 
--- src/lib.rt:150:9
 insert-match-requires : tie.Need-insert-match-requires
 insert-match-requires c κs = enter-asked _ _ _ _ _ _ _ _ _ _ _ _ _ _ (c .before .before .before .before .before .before .before .before .before .before .pre .1) _ _ (c .before .before .before .before .before .before .take-leaves .ensures) (not-false _ (c .before .before .before .before .if1 .left)) (c .before .before .before .if2 .taken)
 
--- src/lib.rt:150:9
 returns-2 : tie.Need-returns-2
 returns-2 c = record { right = λ t d. match-told _ _ _ _ _ _ _ _ _ _ _ _ _ t d _ _ (c .before .before .before .before .before .before .before .take-leaves .ensures) (not-false _ (c .before .before .before .before .before .if1 .left)) (c .before .before .before .before .if2 .taken) _ _ _ (c .insert-match .ensures); less = match-less _ _ _ _ _ _ _ _ _ (c .insert-match .ensures) _ _ _ }
 
--- src/lib.rt:152:9
 open-frame-requires : tie.Need-open-frame-requires
 open-frame-requires c κs = record { hit = _; rows = _; order = _; n = _; target = _; waiting = open-asked _ _ _ _ _ _ _ _ _ _ _ _ _ _ (c .before .before .before .before .before .before .before .before .before .pre .1) _ _ (c .before .before .before .before .before .take-leaves .ensures) (not-false _ (c .before .before .before .if1 .left)) (omega arith) }
 
--- src/lib.rt:121:1
 returns-3 : tie.Need-returns-3
 returns-3 c = record { right = λ t d. reached _ _ _ _ _ _ _ _ _ _ _ _ (c .open-frame .ensures .right _ _ _ _ t (open-asked _ _ _ _ _ _ _ _ _ _ _ _ _ t d _ _ (c .before .before .before .before .before .before .take-leaves .ensures) (not-false _ (c .before .before .before .before .if1 .left)) (omega arith))); less = open-less _ _ _ _ _ _ _ (c .before .before .before .before .before .before .take-leaves .ensures .falls (omega arith)) (c .open-frame .ensures .less) }
 

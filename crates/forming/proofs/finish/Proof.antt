@@ -18,27 +18,21 @@ Inv-loop table index s agenda₀ found₀ frames₀ rows₀ order₀ r₀ agenda
 abbrev μ-loop : tie.MeasureT-loop
 μ-loop table index s agenda₀ found₀ frames₀ rows₀ order₀ r₀ agenda found frames rows order r = rank frames (r .depth)
 
--- src/lib.rt:276:5
 loop-holds : tie.Need-loop-holds Inv-loop μ-loop
 loop-holds c = λ t h. h
 
--- src/lib.rt:277:9
 back-requires : tie.Need-back-requires Inv-loop μ-loop
 back-requires c κs = record { some = omega arith; target = _; stacked = still-going _ _ _ _ _ _ _ _ _ _ (c .before .before .before .before .before .before .before .loop .inv _ (c .before .before .before .before .before .before .before .before .before .before .pre .1)) (omega arith) }
 
--- src/lib.rt:276:5
 loop-less : tie.Need-loop-less Inv-loop μ-loop
 loop-less c = c .back .ensures .less
 
--- src/lib.rt:276:5
 loop-again : tie.Need-loop-again Inv-loop μ-loop
 loop-again c = λ t h. c .back .ensures .right _ (still-going _ _ _ _ _ _ _ _ _ _ (c .before .before .before .before .before .before .before .before .loop .inv t h) (omega arith))
 
--- src/lib.rt:282:9
 returns : tie.Need-returns Inv-loop μ-loop
 returns c = record { long = c .before .before .before .loop .inv _ (c .before .before .before .before .before .before .pre .1) .long; right = λ t h. (refl, c .before .before .before .loop .inv t h .full (c .if2 .taken) .0) }
 
--- src/lib.rt:261:1
 returns-2 : tie.Need-returns-2 Inv-loop μ-loop
 returns-2 c = record { long = c .before .before .before .loop .inv _ (c .before .before .before .before .before .before .pre .1) .long; right = λ t h. ended _ _ _ _ _ _ _ _ _ _ _ _ (c .before .before .before .loop .inv t h .going (c .if2 .left)) (omega arith) }
 

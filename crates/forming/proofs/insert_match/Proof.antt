@@ -8,23 +8,18 @@ use Rattle.forming.proofs.insert_match.Reads as reads
 use Rattle.forming.proofs.insert_match.Lts as lts
 use Rattle.forming.proofs.rows.insert_row.Reads as insert-row-reads
 
--- src/lib.rt:175:9
 insert-row-requires : tie.Need-insert-row-requires
 insert-row-requires c κs = search needs
 
--- src/lib.rt:177:31
 enum-told : tie.Need-enum-told
 enum-told c = search needs
 
--- src/lib.rt:183:24
 enum-known-formed : tie.Need-enum-known-formed
 enum-known-formed c = search needs
 
--- src/lib.rt:164:1
 returns : tie.Need-returns
 returns c = record { full = λ x. (refl, λ b bs h g. subst (Entered _ _ _ _) (c .enum-told .given .1) (c .before .before .insert-row .ensures b bs h g) .1); going = λ x. true-false x }
 
--- src/lib.rt:164:1
 returns-2 : tie.Need-returns-2
 returns-2 c = record { full = λ x. true-false (sym x); going = λ x. (refl, refl, λ b bs h g. subst (Entered _ _ _ _) (c .before .formed .given .1) (c .before .before .before .insert-row .ensures b bs h g)) }
 

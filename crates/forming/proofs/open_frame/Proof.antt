@@ -22,87 +22,66 @@ use Rattle.parts.proofs.words.unpack.Reads as unpack-reads
 use Rattle.tables.proofs.reading.kind.Reads as kind-reads
 use Rattle.forming.proofs.groups.part_count.Reads as part-count-reads
 
--- src/lib.rt:93:24
 mul-whole : tie.Need-mul-whole
 mul-whole c = search needs
 
--- src/lib.rt:93:17
 mul-whole-2 : tie.Need-mul-whole-2
 mul-whole-2 c = search needs
 
--- src/lib.rt:93:17
 element-copy-out-whole : tie.Need-element-copy-out-whole
 element-copy-out-whole c = search needs
 
--- src/lib.rt:93:17
 cast-whole : tie.Need-cast-whole
 cast-whole c = omega (arith, code-small _ _ _ (c .before .before .before .pre .waiting .code .held))
 
--- src/lib.rt:94:23
 mul-word : tie.Need-mul-word
 mul-word c = search needs
 
--- src/lib.rt:94:23
 add-word : tie.Need-add-word
 add-word c = search needs
 
--- src/lib.rt:94:16
 mul-word-2 : tie.Need-mul-word-2
 mul-word-2 c = search needs
 
--- src/lib.rt:94:16
 element-copy-out-word : tie.Need-element-copy-out-word
 element-copy-out-word c = search needs
 
--- src/lib.rt:95:9
 regrouped-requires : tie.Need-regrouped-requires
 regrouped-requires c κs = c .before .before .before .before .pre .waiting .code
 
--- src/lib.rt:97:9
 kind-requires : tie.Need-kind-requires
 kind-requires c κs = code-readable _ _ _ (c .regrouped .ensures .code) .here
 
--- src/lib.rt:98:9
 part-count-requires : tie.Need-part-count-requires
 part-count-requires c κs = c .before .regrouped .ensures .code
 
--- src/lib.rt:99:9
 unpack-requires : tie.Need-unpack-requires
 unpack-requires c κs = search needs
 
--- src/lib.rt:100:9
 meet-requires : tie.Need-meet-requires
 meet-requires c κs = (ap isComposed (c .before .before .kind .ensures .0) ∙ c .before .before .before .regrouped .ensures .code .composed, c .before .part-count .ensures .1, part-of _ _ _ (c .before .before .before .before .before .before .before .before .pre .waiting .value) (c .unpack .ensures) (c .before .before .before .before .before .before .before .before .pre .waiting .here))
 
--- src/lib.rt:101:26
 enum-known-m : tie.Need-enum-known-m
 enum-known-m c = search needs
 
--- src/lib.rt:102:13
 open-code-requires : tie.Need-open-code-requires
 open-code-requires c κs = record { code = c .before .before .before .before .before .before .before .regrouped .ensures .code; of-kind = sym (c .before .before .before .before .before .before .kind .ensures .0) }
 
--- src/lib.rt:105:13
 way-from-requires : tie.Need-way-from-requires
 way-from-requires c κs = first-asked _ _ _ _ _ _ _ _ _ _ _ _ _ _ _ (c .before .before .before .before .before .before .before .before .before .before .before .before .before .before .pre .waiting) _ (c .before .before .before .before .before .before .before .before .before .regrouped .ensures) (c .before .before .before .before .before .meet .result) (met-as _ _ _ _ _ _ _ _ _ _ _ _ _ _ _ (c .before .before .before .before .before .before .before .before .before .before .before .before .before .before .pre .waiting) _ (c .before .before .before .before .before .before .before .before .before .regrouped .ensures) _ _ _ (c .before .before .before .before .before .meet .result) (c .before .before .before .before .before .before .before .before .kind .ensures .0) (c .before .before .before .before .before .before .before .part-count .ensures .0) (c .before .before .before .before .before .before .unpack .ensures) (c .before .before .before .before .before .meet .ensures)) _ (c .before .before .before .m .given .1) _ (c .before .before .before .before .before .before .before .before .kind .ensures .0) _ (c .before .open-code .ensures .sizes-are)
 
--- src/lib.rt:106:13
 is-settled-requires : tie.Need-is-settled-requires
 is-settled-requires c κs = code-readable _ _ _ (c .before .before .before .before .before .before .before .before .before .before .regrouped .ensures .code)
 
--- src/lib.rt:107:13
 mask-of-requires : tie.Need-mask-of-requires
 mask-of-requires c κs = c .before .before .before .before .before .before .before .before .before .before .before .before .before .before .before .before .pre .waiting .stacked .sized
 
--- src/lib.rt:120:9
 advance-requires : tie.Need-advance-requires
 advance-requires c κs = (depth-few _ _ _ _ _ _ _ _ _ _ _ _ _ _ _ (c .before .before .before .before .before .before .before .before .before .before .before .before .before .before .before .before .before .before .pre .waiting), c .before .before .before .before .before .before .before .before .before .before .before .before .before .before .before .before .before .before .pre .waiting .stacked .frames-long, frame-fits _ _ _ _ _ _ _ _ _ _ _ _ _ _ _ (c .before .before .before .before .before .before .before .before .before .before .before .before .before .before .before .before .before .before .pre .waiting) _ (c .before .before .before .before .before .before .before .before .before .before .before .before .before .regrouped .ensures) (c .before .before .before .before .before .before .before .before .before .meet .result) (met-as _ _ _ _ _ _ _ _ _ _ _ _ _ _ _ (c .before .before .before .before .before .before .before .before .before .before .before .before .before .before .before .before .before .before .pre .waiting) _ (c .before .before .before .before .before .before .before .before .before .before .before .before .before .regrouped .ensures) _ _ _ (c .before .before .before .before .before .before .before .before .before .meet .result) (c .before .before .before .before .before .before .before .before .before .before .before .before .kind .ensures .0) (c .before .before .before .before .before .before .before .before .before .before .before .part-count .ensures .0) (c .before .before .before .before .before .before .before .before .before .before .unpack .ensures) (c .before .before .before .before .before .before .before .before .before .meet .ensures)) _ (c .before .before .before .before .before .before .before .m .given .1) _ (c .before .before .before .before .before .before .before .before .before .before .before .before .kind .ensures .0) _ (c .before .before .before .before .before .open-code .ensures .sizes-are) _ (c .before .before .before .before .before .open-code .ensures .rest-is) (c .before .before .before .before .before .open-code .ensures .rest-low) _ (c .before .before .before .way-from .ensures) _ (c .before .before .is-settled .ensures) _ (c .before .mask-of .ensures))
 
--- src/lib.rt:120:9
 returns : tie.Need-returns
 returns c = record { right = λ hit rows order n target w. frame-opened _ _ _ _ _ _ _ _ _ _ _ _ _ _ _ w _ (c .before .before .before .before .before .before .before .before .before .before .before .before .before .before .regrouped .ensures) (c .before .before .before .before .before .before .before .before .before .before .meet .result) (met-as _ _ _ _ _ _ _ _ _ _ _ _ _ _ _ w _ (c .before .before .before .before .before .before .before .before .before .before .before .before .before .before .regrouped .ensures) _ _ _ (c .before .before .before .before .before .before .before .before .before .before .meet .result) (c .before .before .before .before .before .before .before .before .before .before .before .before .before .kind .ensures .0) (c .before .before .before .before .before .before .before .before .before .before .before .before .part-count .ensures .0) (c .before .before .before .before .before .before .before .before .before .before .before .unpack .ensures) (c .before .before .before .before .before .before .before .before .before .before .meet .ensures)) _ (c .before .before .before .before .before .before .before .before .m .given .1) _ (c .before .before .before .before .before .before .before .before .before .before .before .before .before .kind .ensures .0) _ (c .before .before .before .before .before .before .open-code .ensures .sizes-are) _ (c .before .before .before .before .before .before .open-code .ensures .rest-is) (c .before .before .before .before .before .before .open-code .ensures .rest-low) _ (c .before .before .before .before .way-from .ensures) _ (c .before .before .before .is-settled .ensures) _ (c .before .before .mask-of .ensures) _ _ (c .advance .ensures); less = opened-less _ _ (depth-few _ _ _ _ _ _ _ _ _ _ _ _ _ _ _ (c .before .before .before .before .before .before .before .before .before .before .before .before .before .before .before .before .before .before .before .pre .waiting)) (c .before .before .before .before .before .before .before .before .before .before .before .before .before .before .before .before .before .before .before .pre .waiting .stacked .frames-long) _ _ _ (c .advance .ensures) (ways-few _ _ _ _ _ _ _ _ _ _ _ _ _ _ _ (c .before .before .before .before .before .before .before .before .before .before .before .before .before .before .before .before .before .before .before .pre .waiting) _ (c .before .before .before .before .before .before .before .before .before .before .before .before .before .before .regrouped .ensures) (c .before .before .before .before .before .before .before .before .before .before .meet .result) (met-as _ _ _ _ _ _ _ _ _ _ _ _ _ _ _ (c .before .before .before .before .before .before .before .before .before .before .before .before .before .before .before .before .before .before .before .pre .waiting) _ (c .before .before .before .before .before .before .before .before .before .before .before .before .before .before .regrouped .ensures) _ _ _ (c .before .before .before .before .before .before .before .before .before .before .meet .result) (c .before .before .before .before .before .before .before .before .before .before .before .before .before .kind .ensures .0) (c .before .before .before .before .before .before .before .before .before .before .before .before .part-count .ensures .0) (c .before .before .before .before .before .before .before .before .before .before .before .unpack .ensures) (c .before .before .before .before .before .before .before .before .before .before .meet .ensures)) _ (c .before .before .before .before .before .before .before .before .m .given .1) _ (c .before .before .before .before .before .before .before .before .before .before .before .before .before .kind .ensures .0) _ (c .before .before .before .before .before .before .open-code .ensures .sizes-are)) }
 
--- src/lib.rt:78:1
 returns-2 : tie.Need-returns-2
 returns-2 c = record { right = λ hit rows order n target w. no-ways _ _ _ _ _ _ _ _ _ _ _ _ _ _ _ w _ (c .before .before .before .before .before .regrouped .ensures) (c .before .meet .result) (met-as _ _ _ _ _ _ _ _ _ _ _ _ _ _ _ w _ (c .before .before .before .before .before .regrouped .ensures) _ _ _ (c .before .meet .result) (c .before .before .before .before .kind .ensures .0) (c .before .before .before .part-count .ensures .0) (c .before .before .unpack .ensures) (c .before .meet .ensures)) (λ k d. ⊎-elim (λ x. let e = rw d at x in omega arith) (λ x. let e = rw d at x in omega arith) (c .match .keys2)); less = not-opened-less _ _ _ }
 

@@ -19,103 +19,78 @@ Inv-loop table index c rest s word d agenda₀ next top p k n part head₀ i₀ 
 abbrev μ-loop : tie.MeasureT-loop
 μ-loop table index c rest s word d agenda₀ next top p k n part head₀ i₀ to₀ agenda head i to = i
 
--- src/lib.rt:49:9
 kind-requires : tie.Need-kind-requires Inv-loop μ-loop
 kind-requires c κs = code-readable _ _ _ (c .before .before .pre .code) .here
 
--- src/lib.rt:50:9
 part-count-requires : tie.Need-part-count-requires Inv-loop μ-loop
 part-count-requires c κs = c .before .before .before .pre .code
 
--- src/lib.rt:51:9
 unpack-requires : tie.Need-unpack-requires Inv-loop μ-loop
 unpack-requires c κs = search needs
 
--- src/lib.rt:55:5
 loop-holds : tie.Need-loop-holds Inv-loop μ-loop
 loop-holds c = push-start _ _ _ _ _ _ _ _ _ _ (c .before .before .before .before .before .pre) _ (c .before .part-count .ensures .0)
 
--- src/lib.rt:56:9
 sub-i : tie.Need-sub-i Inv-loop μ-loop
 sub-i c = omega arith
 
--- src/lib.rt:57:13
 piece-requires : tie.Need-piece-requires Inv-loop μ-loop
 piece-requires c κs = piece-asked _ _ _ _ _ _ _ _ _ _ (c .before .before .before .before .before .before .before .pre) _ _ _ _ (c .before .before .unpack .ensures) (omega (arith, c .before .loop .inv .within)) (c .before .before .before .before .kind .ensures .0) (c .before .before .before .part-count .ensures .0)
 
--- src/lib.rt:58:13
 part-code-requires : tie.Need-part-code-requires Inv-loop μ-loop
 part-code-requires c κs = part-asked _ _ _ _ _ _ _ _ _ _ (c .before .before .before .before .before .before .before .before .pre) _ (omega (arith, c .before .before .loop .inv .within))
 
--- src/lib.rt:59:13
 word-of-requires : tie.Need-word-of-requires Inv-loop μ-loop
 word-of-requires c κs = (c .before .before .before .before .before .before .before .before .before .pre .short, piece-held _ _ _ _ _ _ _ _ _ _ (c .before .before .before .before .before .before .before .before .before .pre) _ _ _ (omega (arith, c .before .before .before .loop .inv .within)) (c .before .before .before .before .before .before .kind .ensures .0) (c .before .before .before .before .before .part-count .ensures .0) _ (c .before .before .before .before .unpack .ensures) _ (c .before .piece .ensures))
 
--- src/lib.rt:60:26
 cast-agenda : tie.Need-cast-agenda Inv-loop μ-loop
 cast-agenda c = omega (arith, code-small _ _ _ (c .before .part-code .ensures .held))
 
--- src/lib.rt:60:16
 mul-agenda : tie.Need-mul-agenda Inv-loop μ-loop
 mul-agenda c = omega (arith, c .before .before .before .before .before .before .before .before .before .before .pre .room, c .before .before .before .before .loop .inv .ends, c .before .before .before .before .loop .inv .within)
 
--- src/lib.rt:60:9
 mul-agenda-2 : tie.Need-mul-agenda-2 Inv-loop μ-loop
 mul-agenda-2 c = omega (arith, c .before .before .before .before .before .before .before .before .before .before .pre .room, c .before .before .before .before .loop .inv .ends, c .before .before .before .before .loop .inv .within)
 
--- src/lib.rt:60:9
 element-write-agenda : tie.Need-element-write-agenda Inv-loop μ-loop
 element-write-agenda c = omega (arith, c .before .before .before .before .before .before .before .before .before .before .pre .room, c .before .before .before .before .loop .inv .ends, c .before .before .before .before .loop .inv .within)
 
--- src/lib.rt:61:16
 mul-agenda-3 : tie.Need-mul-agenda-3 Inv-loop μ-loop
 mul-agenda-3 c = omega (arith, c .before .before .before .before .before .before .before .before .before .before .pre .room, c .before .before .before .before .loop .inv .ends, c .before .before .before .before .loop .inv .within)
 
--- src/lib.rt:61:16
 add-agenda : tie.Need-add-agenda Inv-loop μ-loop
 add-agenda c = omega (arith, c .before .before .before .before .before .before .before .before .before .before .pre .room, c .before .before .before .before .loop .inv .ends, c .before .before .before .before .loop .inv .within)
 
--- src/lib.rt:61:9
 mul-agenda-4 : tie.Need-mul-agenda-4 Inv-loop μ-loop
 mul-agenda-4 c = omega (arith, c .before .before .before .before .before .before .before .before .before .before .pre .room, c .before .before .before .before .loop .inv .ends, c .before .before .before .before .loop .inv .within)
 
--- src/lib.rt:61:9
 element-write-agenda-2 : tie.Need-element-write-agenda-2 Inv-loop μ-loop
 element-write-agenda-2 c = omega (arith, c .before .before .before .before .before .before .before .before .before .before .pre .room, c .before .before .before .before .loop .inv .ends, c .before .before .before .before .loop .inv .within)
 
--- src/lib.rt:62:30
 cast-agenda-2 : tie.Need-cast-agenda-2 Inv-loop μ-loop
 cast-agenda-2 c = omega (arith, c .before .before .before .before .before .before .before .before .before .before .pre .room, c .before .before .before .before .loop .inv .ends, c .before .before .before .before .loop .inv .within, c .before .before .before .before .loop .inv .low)
 
--- src/lib.rt:62:16
 mul-agenda-5 : tie.Need-mul-agenda-5 Inv-loop μ-loop
 mul-agenda-5 c = omega (arith, c .before .before .before .before .before .before .before .before .before .before .pre .room, c .before .before .before .before .loop .inv .ends, c .before .before .before .before .loop .inv .within)
 
--- src/lib.rt:62:16
 add-agenda-2 : tie.Need-add-agenda-2 Inv-loop μ-loop
 add-agenda-2 c = omega (arith, c .before .before .before .before .before .before .before .before .before .before .pre .room, c .before .before .before .before .loop .inv .ends, c .before .before .before .before .loop .inv .within)
 
--- src/lib.rt:62:9
 mul-agenda-6 : tie.Need-mul-agenda-6 Inv-loop μ-loop
 mul-agenda-6 c = omega (arith, c .before .before .before .before .before .before .before .before .before .before .pre .room, c .before .before .before .before .loop .inv .ends, c .before .before .before .before .loop .inv .within)
 
--- src/lib.rt:62:9
 element-write-agenda-3 : tie.Need-element-write-agenda-3 Inv-loop μ-loop
 element-write-agenda-3 c = omega (arith, c .before .before .before .before .before .before .before .before .before .before .pre .room, c .before .before .before .before .loop .inv .ends, c .before .before .before .before .loop .inv .within)
 
--- src/lib.rt:64:9
 add-to : tie.Need-add-to Inv-loop μ-loop
 add-to c = omega (arith, c .before .before .before .before .before .before .before .before .before .before .pre .room, c .before .before .before .before .loop .inv .ends, c .before .before .before .before .loop .inv .within)
 
--- src/lib.rt:55:5
 loop-less : tie.Need-loop-less Inv-loop μ-loop
 loop-less c = omega arith
 
--- src/lib.rt:55:5
 loop-again : tie.Need-loop-again Inv-loop μ-loop
 loop-again c = push-more _ _ _ _ _ _ _ _ _ _ (c .before .before .before .before .before .before .before .before .before .before .pre) _ _ _ (omega (arith, c .before .before .before .before .loop .inv .within)) (c .before .before .before .before .before .before .before .kind .ensures .0) (c .before .before .before .before .before .before .part-count .ensures .0) _ (c .before .before .before .before .before .unpack .ensures) _ (c .before .before .piece .ensures) _ (c .before .part-code .ensures) _ (c .word-of .ensures) _ _ _ _ (omega arith) (c .before .before .before .before .loop .inv)
 
--- src/lib.rt:33:1
 returns : tie.Need-returns Inv-loop μ-loop
 returns c = push-end _ _ _ _ _ _ _ _ _ _ (c .before .before .before .before .before .before .before .pre) _ _ _ _ (omega arith) (c .before .loop .inv)
 

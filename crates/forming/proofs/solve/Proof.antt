@@ -7,15 +7,12 @@ use Rattle.forming.proofs.solve.Lts as lts
 use Rattle.forming.proofs.down.Reads as down-reads
 use Rattle.forming.proofs.finish.Reads as finish-reads
 
--- src/lib.rt:304:9
 down-requires : tie.Need-down-requires
 down-requires c κs = (_, starting _ _ _ _ _ _ _ _ _ _ (c .before .before .before .before .before .before .before .pre) _ refl)
 
--- src/lib.rt:307:5
 finish-requires : tie.Need-finish-requires
 finish-requires c κs = (_, c .before .before .before .before .before .down .ensures .right _ (starting _ _ _ _ _ _ _ _ _ _ (c .before .before .before .before .before .before .before .before .before .before .before .before .before .pre) _ refl))
 
--- src/lib.rt:288:1
 returns : tie.Need-returns
 returns c = record { long = c .finish .ensures .long ∙ sym (c .before .before .before .before .before .before .before .before .before .before .before .before .before .before .pre .long); right = λ k. c .finish .ensures .right _ (c .before .before .before .before .before .before .down .ensures .right _ (starting _ _ _ _ _ _ _ _ _ _ k _ refl)) }
 

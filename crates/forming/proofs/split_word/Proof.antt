@@ -11,31 +11,24 @@ use Rattle.forming.proofs.split_word.Lts as lts
 use Rattle.parts.proofs.words.word_of.Reads as word-of-reads
 use Rattle.parts.proofs.words.unpack.Reads as unpack-reads
 
--- src/lib.rt:87:9
 returns : tie.Need-returns
 returns c = search needs
 
--- src/lib.rt:89:9
 unpack-requires : tie.Need-unpack-requires
 unpack-requires c κs = search needs
 
--- src/lib.rt:91:9
 returns-2 : tie.Need-returns-2
 returns-2 c = search needs
 
--- src/lib.rt:95:18
 sub-t8 : tie.Need-sub-t8
 sub-t8 c = search needs
 
--- src/lib.rt:95:17
 cast-t9 : tie.Need-cast-t9
 cast-t9 c = search needs
 
--- src/lib.rt:98:5
 word-of-requires : tie.Need-word-of-requires
 word-of-requires c κs = (c .before .before .before .before .before .pre .short, (is (c .before .before .before .before .before .pre .value), inr (c .before .before .before .before .before .pre .value, refl, all-members _ _ _ _ (c .before .before .before .before .before .pre) (omega arith) _ (c .before .before .unpack .ensures) (omega arith) _ refl)))
 
--- src/lib.rt:82:1
 returns-3 : tie.Need-returns-3
 returns-3 c = packed-same _ _ _ _ (c .before .before .before .before .before .before .pre) _ (all-members _ _ _ _ (c .before .before .before .before .before .before .pre) (omega arith) _ (c .before .before .before .unpack .ensures) (omega arith) _ refl) _ (c .word-of .ensures)
 

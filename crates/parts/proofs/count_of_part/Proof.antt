@@ -11,27 +11,21 @@ use Rattle.parts.proofs.count_of_part.Lts as lts
 use Rattle.parts.proofs.runs.count.Reads as count-reads
 use Rattle.parts.proofs.runs.run_of.Reads as run-of-reads
 
--- src/lib.rt:58:20
 cast-mask : tie.Need-cast-mask
 cast-mask c = search needs
 
--- src/lib.rt:59:16
 cast-result : tie.Need-cast-result
 cast-result c = omega (arith, ones-le 64 (c .before .before .before .before .args .p .extent) (omega arith))
 
--- src/lib.rt:59:9
 returns : tie.Need-returns
 returns c = members-counted (c .before .if1 .taken)
 
--- src/lib.rt:61:9
 run-of-requires : tie.Need-run-of-requires
 run-of-requires c κs = search needs
 
--- src/lib.rt:62:5
 count-requires : tie.Need-count-requires
 count-requires c κs = run-held (c .before .before .before .before .pre) (c .run-of .ensures)
 
--- src/lib.rt:53:1
 returns-2 : tie.Need-returns-2
 returns-2 c = part-counted (c .before .run-of .ensures) (c .count .ensures)
 

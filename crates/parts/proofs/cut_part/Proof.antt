@@ -8,39 +8,30 @@ use Rattle.parts.proofs.cut_part.Lts as lts
 use Rattle.parts.proofs.runs.run_of.Reads as run-of-reads
 use Rattle.parts.proofs.runs.skip.Reads as skip-reads
 
--- src/lib.rt:168:9
 run-of-requires : tie.Need-run-of-requires
 run-of-requires c κs = cut-held (c .before .pre)
 
--- src/lib.rt:169:9
 skip-requires : tie.Need-skip-requires
 skip-requires c κs = cut-skip (c .before .before .pre) (c .run-of .ensures)
 
--- src/lib.rt:175:17
 cast-t9 : tie.Need-cast-t9
 cast-t9 c = let x = cut-places (c .before .before .before .pre) (c .before .run-of .ensures) (c .skip .ensures) in omega (arith, x)
 
--- src/lib.rt:176:22
 sub-t10 : tie.Need-sub-t10
 sub-t10 c = cut-places (c .before .before .before .pre) (c .before .run-of .ensures) (c .skip .ensures) .0
 
--- src/lib.rt:176:21
 cast-t11 : tie.Need-cast-t11
 cast-t11 c = let x = cut-places (c .before .before .before .pre) (c .before .run-of .ensures) (c .skip .ensures) in omega (arith, x)
 
--- src/lib.rt:180:17
 cast-t13 : tie.Need-cast-t13
 cast-t13 c = let x = cut-places (c .before .before .before .pre) (c .before .run-of .ensures) (c .skip .ensures) in omega (arith, x)
 
--- src/lib.rt:181:22
 sub-t14 : tie.Need-sub-t14
 sub-t14 c = cut-places (c .before .before .before .pre) (c .before .run-of .ensures) (c .skip .ensures) .1
 
--- src/lib.rt:181:21
 cast-t15 : tie.Need-cast-t15
 cast-t15 c = let x = cut-places (c .before .before .before .pre) (c .before .run-of .ensures) (c .skip .ensures) in omega (arith, x)
 
--- src/lib.rt:164:1
 returns : tie.Need-returns
 returns c = cut-is (c .before .before .before .pre) (c .before .run-of .ensures) (c .skip .ensures)
 

@@ -8,19 +8,15 @@ use Rattle.parts.proofs.item_of_part.Lts as lts
 use Rattle.parts.proofs.runs.run_of.Reads as run-of-reads
 use Rattle.parts.proofs.runs.skip.Reads as skip-reads
 
--- src/lib.rt:118:9
 run-of-requires : tie.Need-run-of-requires
 run-of-requires c κs = item-collection (c .before .pre)
 
--- src/lib.rt:119:9
 skip-requires : tie.Need-skip-requires
 skip-requires c κs = item-skip (c .before .before .pre) (c .run-of .ensures)
 
--- src/lib.rt:122:13
 cast-t7 : tie.Need-cast-t7
 cast-t7 c = let x = item-place (c .before .before .before .pre) (c .before .run-of .ensures) (c .skip .ensures) in omega arith
 
--- src/lib.rt:114:1
 returns : tie.Need-returns
 returns c = item-is (c .before .before .before .pre) (c .before .run-of .ensures) (c .skip .ensures)
 

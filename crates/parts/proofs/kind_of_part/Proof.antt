@@ -7,23 +7,18 @@ use Rattle.parts.proofs.kind_of_part.Reads as reads
 use Rattle.parts.proofs.kind_of_part.Lts as lts
 use Rattle.values.proofs.kind_of.Reads as kind-of-reads
 
--- src/lib.rt:43:9
 returns : tie.Need-returns
 returns c = kind-selects (c .if1 .taken)
 
--- src/lib.rt:46:9
 returns-2 : tie.Need-returns-2
 returns-2 c = kind-spans (c .if2 .taken)
 
--- src/lib.rt:48:14
 cast-at : tie.Need-cast-at
 cast-at c = search needs
 
--- src/lib.rt:49:5
 kind-of-requires : tie.Need-kind-of-requires
 kind-of-requires c κs = record-of (c .before .if2 .left) (c .before .before .before .before .before .before .pre .here)
 
--- src/lib.rt:38:1
 returns-3 : tie.Need-returns-3
 returns-3 c = kind-whole (c .before .before .before .before .if1 .left) (c .before .before .if2 .left) (c .kind-of .ensures)
 

@@ -10,26 +10,21 @@ use Rattle.parts.proofs.mask_of.Lts as lts
 use Rattle.parts.proofs.count_of_part.Reads as count-of-part-reads
 use Rattle.parts.proofs.masks.full.Reads as full-reads
 
--- src/lib.rt:157:16
 cast-result : tie.Need-cast-result
 cast-result c = search needs
 
--- src/lib.rt:157:9
 returns : tie.Need-returns
 returns c = mask-selects (c .before .if1 .taken) (c .before .before .before .before .pre)
 
--- src/lib.rt:159:9
 count-of-part-requires : tie.Need-count-of-part-requires
 count-of-part-requires c κs = countable-held (c .before .before .before .pre)
 
--- src/lib.rt:160:5
 full-requires : tie.Need-full-requires
 full-requires c κs =
     let e = c .count-of-part .ensures set (c .before .before .before .before .pre .items) (c .before .before .before .before .pre .here) in
     let f = c .before .before .before .before .pre .few in
     omega arith
 
--- src/lib.rt:152:1
 returns-2 : tie.Need-returns-2
 returns-2 c = mask-full (c .before .before .if1 .left) (c .before .before .before .before .before .pre) (c .before .count-of-part .ensures) (c .full .ensures)
 

@@ -9,35 +9,27 @@ use Rattle.parts.proofs.kind_of_part.Reads as kind-of-part-reads
 use Rattle.parts.proofs.runs.order.Reads as order-reads
 use Rattle.parts.proofs.runs.run_of.Reads as run-of-reads
 
--- src/lib.rt:100:9
 kind-of-part-requires : tie.Need-kind-of-part-requires
 kind-of-part-requires c κs = c .before .pre .0 .0
 
--- src/lib.rt:101:9
 kind-of-part-requires-2 : tie.Need-kind-of-part-requires-2
 kind-of-part-requires-2 c κs = c .before .before .pre .0 .1
 
--- src/lib.rt:103:9
 returns : tie.Need-returns
 returns c = kinds-lower (c .before .before .kind-of-part .ensures) (c .before .kind-of-part2 .ensures) (c .if1 .taken)
 
--- src/lib.rt:106:9
 returns-2 : tie.Need-returns-2
 returns-2 c = kinds-higher (c .before .before .before .kind-of-part .ensures) (c .before .before .kind-of-part2 .ensures) (c .if2 .taken)
 
--- src/lib.rt:108:9
 run-of-requires : tie.Need-run-of-requires
 run-of-requires c κs = collection-held (c .before .before .before .kind-of-part .ensures) (kinds-high (c .before .before .before .kind-of-part .ensures) (c .before .before .kind-of-part2 .ensures) (c .before .before .before .before .before .pre .0 .0) (c .before .before .before .before .before .pre .0 .1) (c .before .before .before .before .before .pre .1) (omega arith)) (c .before .before .before .before .before .pre .0 .0)
 
--- src/lib.rt:109:9
 run-of-requires-2 : tie.Need-run-of-requires-2
 run-of-requires-2 c κs = let k = kinds-high (c .before .before .before .before .kind-of-part .ensures) (c .before .before .before .kind-of-part2 .ensures) (c .before .before .before .before .before .before .pre .0 .0) (c .before .before .before .before .before .before .pre .0 .1) (c .before .before .before .before .before .before .pre .1) (omega arith) in collection-held (c .before .before .before .kind-of-part2 .ensures) (omega arith) (c .before .before .before .before .before .before .pre .0 .1)
 
--- src/lib.rt:110:5
 order-requires : tie.Need-order-requires
 order-requires c κs = let k = kinds-high (c .before .before .before .before .before .kind-of-part .ensures) (c .before .before .before .before .kind-of-part2 .ensures) (c .before .before .before .before .before .before .before .pre .0 .0) (c .before .before .before .before .before .before .before .pre .0 .1) (c .before .before .before .before .before .before .before .pre .1) (omega arith) in (run-held (collection-held (c .before .before .before .before .before .kind-of-part .ensures) k (c .before .before .before .before .before .before .before .pre .0 .0)) (c .before .run-of .ensures), run-held (collection-held (c .before .before .before .before .kind-of-part2 .ensures) (omega arith) (c .before .before .before .before .before .before .before .pre .0 .1)) (c .run-of2 .ensures))
 
--- src/lib.rt:95:1
 returns-3 : tie.Need-returns-3
 returns-3 c = runs-order (c .before .before .before .before .before .before .kind-of-part .ensures) (c .before .before .before .before .before .kind-of-part2 .ensures) (kinds-high (c .before .before .before .before .before .before .kind-of-part .ensures) (c .before .before .before .before .before .kind-of-part2 .ensures) (c .before .before .before .before .before .before .before .before .pre .0 .0) (c .before .before .before .before .before .before .before .before .pre .0 .1) (c .before .before .before .before .before .before .before .before .pre .1) (omega arith)) (omega arith) (c .before .before .run-of .ensures) (c .before .run-of2 .ensures) (c .order .ensures)
 

@@ -9,43 +9,33 @@ use Rattle.parts.proofs.order_members.Lts as lts
 use Rattle.parts.proofs.masks.order.Reads as masks-order-reads
 use Rattle.parts.proofs.members.order.Reads as members-order-reads
 
--- src/lib.rt:66:13
 cast-a : tie.Need-cast-a
 cast-a c = search needs
 
--- src/lib.rt:67:13
 cast-b : tie.Need-cast-b
 cast-b c = search needs
 
--- src/lib.rt:68:13
 cast-x : tie.Need-cast-x
 cast-x c = search needs
 
--- src/lib.rt:69:13
 cast-y : tie.Need-cast-y
 cast-y c = search needs
 
--- src/lib.rt:71:9
 order-requires : tie.Need-order-requires
 order-requires c κs = search needs
 
--- src/lib.rt:71:9
 returns : tie.Need-returns
 returns c = masks-order _ _ _ (c .before .before .before .before .before .before .before .pre .2) (c .before .before .before .before .before .before .before .pre .3) (c .before .if1 .taken) _ (c .order .ensures)
 
--- src/lib.rt:73:23
 add-order : tie.Need-add-order
 add-order c = search needs
 
--- src/lib.rt:73:43
 add-order-2 : tie.Need-add-order-2
 add-order-2 c = search needs
 
--- src/lib.rt:73:5
 order-requires-2 : tie.Need-order-requires-2
 order-requires-2 c κs = (members-held (c .before .before .before .before .before .before .pre .2) (c .before .before .before .before .before .before .pre .0), members-held (c .before .before .before .before .before .before .pre .3) (c .before .before .before .before .before .before .pre .1))
 
--- src/lib.rt:62:1
 returns-2 : tie.Need-returns-2
 returns-2 c = members-order (c .before .before .before .before .before .before .before .pre .2) (c .before .before .before .before .before .before .before .pre .3) _ (c .order2 .ensures)
 

@@ -10,43 +10,33 @@ use Rattle.parts.proofs.order_kinds.Reads as order-kinds-reads
 use Rattle.parts.proofs.order_members.Reads as order-members-reads
 use Rattle.values.proofs.compare.Reads as compare-reads
 
--- src/lib.rt:82:9
 order-kinds-requires : tie.Need-order-kinds-requires
 order-kinds-requires c κs = search needs
 
--- src/lib.rt:82:9
 returns : tie.Need-returns
 returns c = search needs
 
--- src/lib.rt:85:9
 order-members-requires : tie.Need-order-members-requires
 order-members-requires c κs = search needs
 
--- src/lib.rt:85:9
 returns-2 : tie.Need-returns-2
 returns-2 c = search needs
 
--- src/lib.rt:88:17
 cast-a : tie.Need-cast-a
 cast-a c = search needs
 
--- src/lib.rt:89:17
 cast-b : tie.Need-cast-b
 cast-b c = search needs
 
--- src/lib.rt:90:9
 compare-requires : tie.Need-compare-requires
 compare-requires c κs = (whole-held (c .before .before .if3 .taken) (c .before .before .before .before .before .before .before .before .before .before .pre .0), whole-held (omega (arith, c .before .before .before .before .before .before .if1 .left, c .before .before .if3 .taken)) (c .before .before .before .before .before .before .before .before .before .before .pre .1))
 
--- src/lib.rt:90:9
 returns-3 : tie.Need-returns-3
 returns-3 c = whole-order (c .before .before .before .if3 .taken) (omega (arith, c .before .before .before .before .before .before .before .if1 .left, c .before .before .before .if3 .taken)) (c .compare .ensures)
 
--- src/lib.rt:92:5
 order-kinds-requires-2 : tie.Need-order-kinds-requires-2
 order-kinds-requires-2 c κs = search needs
 
--- src/lib.rt:77:1
 returns-4 : tie.Need-returns-4
 returns-4 c = search needs
 

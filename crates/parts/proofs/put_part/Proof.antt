@@ -11,53 +11,41 @@ use Rattle.parts.proofs.runs.run_of.Reads as run-of-reads
 use Rattle.values.proofs.copy_value.Reads as copy-value-reads
 use Rattle.values.proofs.put_head.Reads as put-head-reads
 
--- src/lib.rt:193:18
 cast-at : tie.Need-cast-at
 cast-at c = search needs
 
--- src/lib.rt:194:9
 copy-value-requires : tie.Need-copy-value-requires
 copy-value-requires c κs = whole-copyable (c .before .before .before .before .before .pre) (c .before .before .if1 .taken)
 
--- src/lib.rt:194:9
 same-length : tie.Need-same-length
 same-length c = search needs
 
--- src/lib.rt:194:9
 returns : tie.Need-returns
 returns c = whole-put (c .before .before .before .before .before .before .before .before .pre) (c .before .before .before .before .before .if1 .taken) (c .before .before .copy-value .ensures)
 
--- src/lib.rt:196:9
 kind-of-part-requires : tie.Need-kind-of-part-requires
 kind-of-part-requires c κs = puttable-held (c .before .before .before .before .pre)
 
--- src/lib.rt:197:9
 run-of-requires : tie.Need-run-of-requires
 run-of-requires c κs = puttable-collection (c .before .before .before .before .before .before .pre) (c .before .before .before .if1 .left)
 
--- src/lib.rt:198:31
 add-put : tie.Need-add-put
 add-put c = search needs
 
--- src/lib.rt:198:9
 put-requires : tie.Need-put-requires
 put-requires c κs = puttable-run (c .before .before .before .before .before .before .before .before .pre) (c .before .before .before .before .before .if1 .left) (c .before .run-of .ensures)
 
--- src/lib.rt:199:31
 sub-put-head : tie.Need-sub-put-head
 sub-put-head c = heading-fits (c .before .before .before .before .before .before .before .before .before .before .before .before .pre) (c .before .before .before .before .before .before .before .before .before .if1 .left) (c .before .before .before .before .before .before .before .kind-of-part .ensures) (c .before .before .before .before .before .run-of .ensures) (c .before .before .before .put .ensures) .0
 
--- src/lib.rt:199:5
 put-head-requires : tie.Need-put-head-requires
 put-head-requires c κs =
     let x = heading-fits (c .before .before .before .before .before .before .before .before .before .before .before .before .pre) (c .before .before .before .before .before .before .before .before .before .if1 .left) (c .before .before .before .before .before .before .before .kind-of-part .ensures) (c .before .before .before .before .before .run-of .ensures) (c .before .before .before .put .ensures) in
     (x .1, x .2, x .3)
 
--- src/lib.rt:188:1
 same-length-2 : tie.Need-same-length-2
 same-length-2 c = search needs
 
--- src/lib.rt:188:1
 returns-2 : tie.Need-returns-2
 returns-2 c = headed-put (c .before .before .before .before .before .before .before .before .before .before .before .before .before .before .before .pre) (c .before .before .before .before .before .before .before .before .before .before .before .before .if1 .left) (c .before .before .before .before .before .before .before .before .before .before .kind-of-part .ensures) (c .before .before .before .before .before .before .before .before .run-of .ensures) (c .before .before .before .before .before .before .put .ensures) (c .before .before .put-head .ensures)
 

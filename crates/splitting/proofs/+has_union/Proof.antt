@@ -36,54 +36,42 @@ has-union-μ-loop table index p k n i₀ i = n - i
 abbrev has-union-calls : ℕ → has-union-lts.Claims
 has-union-calls t = (kind-reads.Asked, kind-reads.Learnt, is-composed-reads.Asked, is-composed-reads.Learnt, operand-count-reads.Asked, operand-count-reads.Learnt, operand-reads.Asked, operand-reads.Learnt, has-union-below t, has-union.Post)
 
--- src/lib.rt:18:9
 has-union-kind-requires : (t : ℕ) → has-union-lts.Need-kind-requires (has-union-calls t) (has-union-at t) has-union.Post has-union-Inv-loop has-union-μ-loop
 has-union-kind-requires t c κs = c .before .pre .1 .here
 
--- src/lib.rt:20:9
 has-union-is-composed-requires : (t : ℕ) → has-union-lts.Need-is-composed-requires (has-union-calls t) (has-union-at t) has-union.Post has-union-Inv-loop has-union-μ-loop
 has-union-is-composed-requires t c κs = c .kind .ensures .1
 
 has-union-returns : (t : ℕ) → has-union-lts.Need-returns (has-union-calls t) (has-union-at t) has-union.Post has-union-Inv-loop has-union-μ-loop
 has-union-returns t c = union-leaf _ _ _ (c .before .before .before .before .pre .1) (composed-told (c .before .before .kind .ensures .0) (c .before .is-composed .ensures) (not-true _ (c .if1 .taken)))
 
--- src/lib.rt:23:9
 has-union-returns-2 : (t : ℕ) → has-union-lts.Need-returns-2 (has-union-calls t) (has-union-at t) has-union.Post has-union-Inv-loop has-union-μ-loop
 has-union-returns-2 t c = union-here _ _ _ (c .before .before .before .before .before .pre .1) (composed-told (c .before .before .before .kind .ensures .0) (c .before .before .is-composed .ensures) (not-false _ (c .before .if1 .left))) (sym (c .before .before .before .kind .ensures .0) ∙ c .if2 .taken)
 
--- src/lib.rt:25:9
 has-union-operand-count-requires : (t : ℕ) → has-union-lts.Need-operand-count-requires (has-union-calls t) (has-union-at t) has-union.Post has-union-Inv-loop has-union-μ-loop
 has-union-operand-count-requires t c κs = c .before .before .before .before .before .pre .1 .here
 
--- src/lib.rt:27:5
 has-union-loop-holds : (t : ℕ) → has-union-lts.Need-loop-holds (has-union-calls t) (has-union-at t) has-union.Post has-union-Inv-loop has-union-μ-loop
 has-union-loop-holds t c = union-start _ _
 
--- src/lib.rt:28:13
 has-union-operand-requires : (t : ℕ) → has-union-lts.Need-operand-requires (has-union-calls t) (has-union-at t) has-union.Post has-union-Inv-loop has-union-μ-loop
 has-union-operand-requires t c κs = has-operand _ _ _ (c .before .before .before .before .before .before .before .before .pre .1) _ (omega (arith, c .before .before .operand-count .ensures .0))
 
--- src/lib.rt:29:13
 has-union-has-union-requires : (t : ℕ) → has-union-lts.Need-has-union-requires (has-union-calls t) (has-union-at t) has-union.Post has-union-Inv-loop has-union-μ-loop
 has-union-has-union-requires t c κs = let o = operand-readable _ _ _ (c .before .before .before .before .before .before .before .before .before .pre .1) _ (omega (arith, c .before .before .before .operand-count .ensures .0)) _ (c .operand .ensures .0) in (omega (arith, o .1), o .0)
 
--- src/lib.rt:31:13
 has-union-returns-3 : (t : ℕ) → has-union-lts.Need-returns-3 (has-union-calls t) (has-union-at t) has-union.Post has-union-Inv-loop has-union-μ-loop
 has-union-returns-3 t c = union-found _ _ _ (c .before .before .before .before .before .before .before .before .before .before .before .pre .1) (composed-told (c .before .before .before .before .before .before .before .before .before .kind .ensures .0) (c .before .before .before .before .before .before .before .before .is-composed .ensures) (not-false _ (c .before .before .before .before .before .before .before .if1 .left))) (λ e. c .before .before .before .before .before .before .if2 .left (c .before .before .before .before .before .before .before .before .before .kind .ensures .0 ∙ e)) _ _ (omega (arith, c .before .before .before .before .before .operand-count .ensures .0)) (c .before .before .operand .ensures .0) _ (c .before .has-union .ensures) (c .if3 .taken)
 
--- src/lib.rt:33:9
 has-union-add-i : (t : ℕ) → has-union-lts.Need-add-i (has-union-calls t) (has-union-at t) has-union.Post has-union-Inv-loop has-union-μ-loop
 has-union-add-i t c = omega (arith, c .before .before .before .before .before .operand-count .ensures .1)
 
--- src/lib.rt:27:5
 has-union-loop-less : (t : ℕ) → has-union-lts.Need-loop-less (has-union-calls t) (has-union-at t) has-union.Post has-union-Inv-loop has-union-μ-loop
 has-union-loop-less t c = omega arith
 
--- src/lib.rt:27:5
 has-union-loop-again : (t : ℕ) → has-union-lts.Need-loop-again (has-union-calls t) (has-union-at t) has-union.Post has-union-Inv-loop has-union-μ-loop
 has-union-loop-again t c = union-next _ _ _ _ (c .before .before .before .before .loop .inv) (c .before .before .operand .ensures .0) _ (c .before .has-union .ensures) (c .if3 .left)
 
--- src/lib.rt:14:1
 has-union-returns-4 : (t : ℕ) → has-union-lts.Need-returns-4 (has-union-calls t) (has-union-at t) has-union.Post has-union-Inv-loop has-union-μ-loop
 has-union-returns-4 t c = union-none _ _ _ (c .before .before .before .before .before .before .before .before .pre .1) (composed-told (c .before .before .before .before .before .before .kind .ensures .0) (c .before .before .before .before .before .is-composed .ensures) (not-false _ (c .before .before .before .before .if1 .left))) (λ e. c .before .before .before .if2 .left (c .before .before .before .before .before .before .kind .ensures .0 ∙ e)) (c .before .loop .i) (c .before .loop .inv) (omega (arith, c .before .before .operand-count .ensures .0))
 

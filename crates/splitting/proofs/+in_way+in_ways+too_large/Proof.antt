@@ -71,47 +71,36 @@ in-ways-calls t = (is-shallow-reads.Asked, is-shallow-reads.Learnt, in-way-below
 abbrev too-large-calls : ℕ → too-large-lts.Claims
 too-large-calls t = (kind-reads.Asked, kind-reads.Learnt, is-composed-reads.Asked, is-composed-reads.Learnt, operand-count-reads.Asked, operand-count-reads.Learnt, meet-reads.Asked, meet-reads.Learnt, in-ways-below t, in-ways.Post)
 
--- src/lib.rt:100:9
 in-way-kind-requires : (t : ℕ) → in-way-lts.Need-kind-requires (in-way-calls t) (in-way-at t) in-way.Post in-way-Inv-loop in-way-μ-loop
 in-way-kind-requires t c κs = c .before .before .pre .1 .0 .here
 
--- src/lib.rt:101:9
 in-way-operand-count-requires : (t : ℕ) → in-way-lts.Need-operand-count-requires (in-way-calls t) (in-way-at t) in-way.Post in-way-Inv-loop in-way-μ-loop
 in-way-operand-count-requires t c κs = c .before .before .before .pre .1 .0 .here
 
--- src/lib.rt:103:5
 in-way-loop-holds : (t : ℕ) → in-way-lts.Need-loop-holds (in-way-calls t) (in-way-at t) in-way.Post in-way-Inv-loop in-way-μ-loop
 in-way-loop-holds t c = parts-start _ _ _ (c .before .before .before .before .pre .1 .0) _ _ _ (c .before .before .before .before .pre .1 .1)
 
--- src/lib.rt:104:13
 in-way-piece-requires : (t : ℕ) → in-way-lts.Need-piece-requires (in-way-calls t) (in-way-at t) in-way.Post in-way-Inv-loop in-way-μ-loop
 in-way-piece-requires t c κs = piece-asked _ _ _ (c .before .before .before .before .before .before .pre .1 .0) _ _ _ (c .before .before .before .before .before .before .pre .1 .1) _ (c .before .loop .inv) (omega (arith, c .before .before .operand-count .ensures .0)) _ _ (c .before .before .before .kind .ensures .0) (c .before .before .operand-count .ensures .0)
 
--- src/lib.rt:105:13
 in-way-operand-requires : (t : ℕ) → in-way-lts.Need-operand-requires (in-way-calls t) (in-way-at t) in-way.Post in-way-Inv-loop in-way-μ-loop
 in-way-operand-requires t c κs = has-operand _ _ _ (c .before .before .before .before .before .before .before .pre .1 .0) _ (omega (arith, c .before .before .before .operand-count .ensures .0))
 
--- src/lib.rt:106:13
 in-way-too-large-requires : (t : ℕ) → in-way-lts.Need-too-large-requires (in-way-calls t) (in-way-at t) in-way.Post in-way-Inv-loop in-way-μ-loop
 in-way-too-large-requires t c κs = let o = operand-readable _ _ _ (c .before .before .before .before .before .before .before .before .pre .1 .0) _ (omega (arith, c .before .before .before .before .operand-count .ensures .0)) _ (c .operand .ensures .0) in (omega (arith, o .1), (o .0, piece-held _ _ _ (c .before .before .before .before .before .before .before .before .pre .1 .0) _ _ _ (c .before .before .before .before .before .before .before .before .pre .1 .1) _ (c .before .before .before .loop .inv) (omega (arith, c .before .before .before .before .operand-count .ensures .0)) _ _ (c .before .before .before .before .before .kind .ensures .0) (c .before .before .before .before .operand-count .ensures .0) _ (c .before .piece .ensures), c .before .before .before .before .before .before .before .before .pre .1 .1 .short))
 
--- src/lib.rt:108:13
 in-way-returns : (t : ℕ) → in-way-lts.Need-returns (in-way-calls t) (in-way-at t) in-way.Post in-way-Inv-loop in-way-μ-loop
 in-way-returns t c = parts-found _ _ _ (c .before .before .before .before .before .before .before .before .before .before .pre .1 .0) _ _ _ (c .before .before .before .before .before .before .before .before .before .before .pre .1 .1) _ (c .before .before .before .before .before .loop .inv) (omega (arith, c .before .before .before .before .before .before .operand-count .ensures .0)) _ _ (c .before .before .before .before .before .before .before .kind .ensures .0) (c .before .before .before .before .before .before .operand-count .ensures .0) _ (c .before .before .before .piece .ensures) _ (c .before .before .operand .ensures .0) _ (c .before .too-large .ensures) (c .if1 .taken)
 
--- src/lib.rt:110:9
 in-way-add-i : (t : ℕ) → in-way-lts.Need-add-i (in-way-calls t) (in-way-at t) in-way.Post in-way-Inv-loop in-way-μ-loop
 in-way-add-i t c = omega (arith, c .before .before .before .before .before .before .operand-count .ensures .1)
 
--- src/lib.rt:103:5
 in-way-loop-less : (t : ℕ) → in-way-lts.Need-loop-less (in-way-calls t) (in-way-at t) in-way.Post in-way-Inv-loop in-way-μ-loop
 in-way-loop-less t c = omega arith
 
--- src/lib.rt:103:5
 in-way-loop-again : (t : ℕ) → in-way-lts.Need-loop-again (in-way-calls t) (in-way-at t) in-way.Post in-way-Inv-loop in-way-μ-loop
 in-way-loop-again t c = parts-next _ _ _ (c .before .before .before .before .before .before .before .before .before .before .pre .1 .0) _ _ _ (c .before .before .before .before .before .before .before .before .before .before .pre .1 .1) _ (c .before .before .before .before .before .loop .inv) (omega (arith, c .before .before .before .before .before .before .operand-count .ensures .0)) _ _ (c .before .before .before .before .before .before .before .kind .ensures .0) (c .before .before .before .before .before .before .operand-count .ensures .0) _ (c .before .before .before .piece .ensures) _ (c .before .before .operand .ensures .0) _ (c .before .too-large .ensures) (c .if1 .left)
 
--- src/lib.rt:96:1
 in-way-returns-2 : (t : ℕ) → in-way-lts.Need-returns-2 (in-way-calls t) (in-way-at t) in-way.Post in-way-Inv-loop in-way-μ-loop
 in-way-returns-2 t c = parts-none _ _ _ (c .before .before .before .before .before .before .pre .1 .0) _ _ _ (c .before .before .before .before .before .before .pre .1 .1) (c .before .loop .i) (c .before .loop .inv) (omega (arith, c .before .before .operand-count .ensures .0))
 
@@ -121,86 +110,66 @@ in-ways-Inv-loop table index p s part w easy d₀ d = WaysLeft table p s part d
 abbrev in-ways-μ-loop : in-ways-lts.MeasureT-loop
 in-ways-μ-loop table index p s part w easy d₀ d = w - d
 
--- src/lib.rt:80:9
 in-ways-is-shallow-requires : (t : ℕ) → in-ways-lts.Need-is-shallow-requires (in-ways-calls t) (in-ways-at t) in-ways.Post in-ways-Inv-loop in-ways-μ-loop
 in-ways-is-shallow-requires t c κs = c .before .before .pre .1 .0
 
--- src/lib.rt:82:9
 in-ways-returns : (t : ℕ) → in-ways-lts.Need-returns (in-ways-calls t) (in-ways-at t) in-ways.Post in-ways-Inv-loop in-ways-μ-loop
 in-ways-returns t c = ways-shallow _ _ _ (c .before .before .before .before .pre .1 .0) _ _ _ (c .before .before .before .before .pre .1 .1) _ (c .before .is-shallow .ensures) (c .if1 .taken)
 
--- src/lib.rt:85:5
 in-ways-loop-holds : (t : ℕ) → in-ways-lts.Need-loop-holds (in-ways-calls t) (in-ways-at t) in-ways.Post in-ways-Inv-loop in-ways-μ-loop
 in-ways-loop-holds t c = ways-start _ _ _ (c .before .before .before .before .pre .1 .0) _ _ _ (c .before .before .before .before .pre .1 .1)
 
--- src/lib.rt:86:13
 in-ways-in-way-requires : (t : ℕ) → in-ways-lts.Need-in-way-requires (in-ways-calls t) (in-ways-at t) in-ways.Post in-ways-Inv-loop in-ways-μ-loop
 in-ways-in-way-requires t c κs = (omega arith, (c .before .before .before .before .before .before .pre .1 .0, way-held _ _ _ (c .before .before .before .before .before .before .pre .1 .0) _ _ _ (c .before .before .before .before .before .before .pre .1 .1) _ (c .before .loop .inv) (omega arith)))
 
--- src/lib.rt:88:13
 in-ways-returns-2 : (t : ℕ) → in-ways-lts.Need-returns-2 (in-ways-calls t) (in-ways-at t) in-ways.Post in-ways-Inv-loop in-ways-μ-loop
 in-ways-returns-2 t c = ways-found _ _ _ (c .before .before .before .before .before .before .before .before .pre .1 .0) _ _ _ (c .before .before .before .before .before .before .before .before .pre .1 .1) _ (c .before .before .before .loop .inv) (omega arith) _ (c .before .in-way .ensures) (c .if2 .taken)
 
--- src/lib.rt:90:9
 in-ways-add-d : (t : ℕ) → in-ways-lts.Need-add-d (in-ways-calls t) (in-ways-at t) in-ways.Post in-ways-Inv-loop in-ways-μ-loop
 in-ways-add-d t c = omega arith
 
--- src/lib.rt:85:5
 in-ways-loop-less : (t : ℕ) → in-ways-lts.Need-loop-less (in-ways-calls t) (in-ways-at t) in-ways.Post in-ways-Inv-loop in-ways-μ-loop
 in-ways-loop-less t c = omega arith
 
--- src/lib.rt:85:5
 in-ways-loop-again : (t : ℕ) → in-ways-lts.Need-loop-again (in-ways-calls t) (in-ways-at t) in-ways.Post in-ways-Inv-loop in-ways-μ-loop
 in-ways-loop-again t c = ways-next _ _ _ (c .before .before .before .before .before .before .before .before .pre .1 .0) _ _ _ (c .before .before .before .before .before .before .before .before .pre .1 .1) _ (c .before .before .before .loop .inv) (omega arith) _ (c .before .in-way .ensures) (c .if2 .left)
 
--- src/lib.rt:76:1
 in-ways-returns-3 : (t : ℕ) → in-ways-lts.Need-returns-3 (in-ways-calls t) (in-ways-at t) in-ways.Post in-ways-Inv-loop in-ways-μ-loop
 in-ways-returns-3 t c = ways-none _ _ _ (c .before .before .before .before .before .before .pre .1 .0) _ _ _ (c .before .before .before .before .before .before .pre .1 .1) (c .before .loop .d) (c .before .loop .inv) (omega arith)
 
--- src/lib.rt:62:9
 too-large-kind-requires : (t : ℕ) → too-large-lts.Need-kind-requires (too-large-calls t) (too-large-at t) too-large.Post
 too-large-kind-requires t c κs = c .before .before .pre .1 .0 .here
 
--- src/lib.rt:64:9
 too-large-is-composed-requires : (t : ℕ) → too-large-lts.Need-is-composed-requires (too-large-calls t) (too-large-at t) too-large.Post
 too-large-is-composed-requires t c κs = c .kind .ensures .1
 
 too-large-returns : (t : ℕ) → too-large-lts.Need-returns (too-large-calls t) (too-large-at t) too-large.Post
 too-large-returns t c = wide-leaf _ _ _ (c .before .before .before .before .before .pre .1 .0) _ _ (composed-told (c .before .before .kind .ensures .0) (c .before .is-composed .ensures) (not-true _ (c .if1 .taken)))
 
--- src/lib.rt:66:9
 too-large-operand-count-requires : (t : ℕ) → too-large-lts.Need-operand-count-requires (too-large-calls t) (too-large-at t) too-large.Post
 too-large-operand-count-requires t c κs = c .before .before .before .before .before .pre .1 .0 .here
 
--- src/lib.rt:67:9
 too-large-meet-requires : (t : ℕ) → too-large-lts.Need-meet-requires (too-large-calls t) (too-large-at t) too-large.Post
 too-large-meet-requires t c κs = let composed = (composed-told (c .before .before .before .kind .ensures .0) (c .before .before .is-composed .ensures) (not-false _ (c .before .if1 .left))) in (ap isComposed (c .before .before .before .kind .ensures .0) ∙ composed, omega (arith, c .operand-count .ensures .0, count-few _ _ _ (c .before .before .before .before .before .before .pre .1 .0) composed), c .before .before .before .before .before .before .pre .1 .1)
 
--- src/lib.rt:69:27
 too-large-enum-told : (t : ℕ) → too-large-lts.Need-enum-told (too-large-calls t) (too-large-at t) too-large.Post
 too-large-enum-told t c = search needs
 
--- src/lib.rt:70:27
 too-large-enum-told-2 : (t : ℕ) → too-large-lts.Need-enum-told-2 (too-large-calls t) (too-large-at t) too-large.Post
 too-large-enum-told-2 t c = search needs
 
--- src/lib.rt:71:23
 too-large-enum-known-m : (t : ℕ) → too-large-lts.Need-enum-known-m (too-large-calls t) (too-large-at t) too-large.Post
 too-large-enum-known-m t c = search needs
 
--- src/lib.rt:71:29
 too-large-in-ways-requires : (t : ℕ) → too-large-lts.Need-in-ways-requires (too-large-calls t) (too-large-at t) too-large.Post
 too-large-in-ways-requires t c κs = (omega arith, (c .before .before .before .before .before .before .before .before .before .before .pre .1 .0, ways-held _ _ _ (c .before .before .before .before .before .before .before .before .before .before .pre .1 .0) _ _ (composed-told (c .before .before .before .before .before .before .before .kind .ensures .0) (c .before .before .before .before .before .before .is-composed .ensures) (not-false _ (c .before .before .before .before .before .if1 .left))) (c .before .before .before .meet .result) (recast-meets _ _ _ _ (c .before .before .before .meet .result) (c .before .before .before .before .before .before .before .kind .ensures .0) (c .before .before .before .before .operand-count .ensures .0) (c .before .before .before .meet .ensures)) _ (c .before .m .given .1) (c .before .before .before .before .before .before .before .before .before .before .pre .1 .1) (c .before .before .before .before .before .before .before .before .before .before .pre .1 .2)))
 
--- src/lib.rt:58:1
 too-large-returns-2 : (t : ℕ) → too-large-lts.Need-returns-2 (too-large-calls t) (too-large-at t) too-large.Post
 too-large-returns-2 t c = wide-unfit _ _ _ (c .before .before .before .before .before .before .before .before .before .pre .1 .0) _ _ (composed-told (c .before .before .before .before .before .before .kind .ensures .0) (c .before .before .before .before .before .is-composed .ensures) (not-false _ (c .before .before .before .before .if1 .left))) (c .before .before .meet .result) (recast-meets _ _ _ _ (c .before .before .meet .result) (c .before .before .before .before .before .before .kind .ensures .0) (c .before .before .before .operand-count .ensures .0) (c .before .before .meet .ensures)) (c .enum-told .given .1)
 
--- src/lib.rt:58:1
 too-large-returns-3 : (t : ℕ) → too-large-lts.Need-returns-3 (too-large-calls t) (too-large-at t) too-large.Post
 too-large-returns-3 t c = wide-large _ _ _ (c .before .before .before .before .before .before .before .before .before .pre .1 .0) _ _ (composed-told (c .before .before .before .before .before .before .kind .ensures .0) (c .before .before .before .before .before .is-composed .ensures) (not-false _ (c .before .before .before .before .if1 .left))) (c .before .before .meet .result) (recast-meets _ _ _ _ (c .before .before .meet .result) (c .before .before .before .before .before .before .kind .ensures .0) (c .before .before .before .operand-count .ensures .0) (c .before .before .meet .ensures)) (c .enum-told2 .given .1)
 
--- src/lib.rt:58:1
 too-large-returns-4 : (t : ℕ) → too-large-lts.Need-returns-4 (too-large-calls t) (too-large-at t) too-large.Post
 too-large-returns-4 t c = wide-ways _ _ _ (c .before .before .before .before .before .before .before .before .before .before .before .pre .1 .0) _ _ (composed-told (c .before .before .before .before .before .before .before .before .kind .ensures .0) (c .before .before .before .before .before .before .before .is-composed .ensures) (not-false _ (c .before .before .before .before .before .before .if1 .left))) (c .before .before .before .before .meet .result) (recast-meets _ _ _ _ (c .before .before .before .before .meet .result) (c .before .before .before .before .before .before .before .before .kind .ensures .0) (c .before .before .before .before .before .operand-count .ensures .0) (c .before .before .before .before .meet .ensures)) _ (c .before .before .m .given .1) _ (c .in-ways .ensures)
 

@@ -28,39 +28,30 @@ is-shallow-below t =
 abbrev is-shallow-calls : ℕ → is-shallow-lts.Claims
 is-shallow-calls t = (kind-reads.Asked, kind-reads.Learnt, has-union-reads.Asked, has-union-reads.Learnt, operand-reads.Asked, operand-reads.Learnt, is-shallow-below t, is-shallow.Post)
 
--- src/lib.rt:43:9
 is-shallow-kind-requires : (t : ℕ) → is-shallow-lts.Need-kind-requires (is-shallow-calls t) (is-shallow-at t) is-shallow.Post
 is-shallow-kind-requires t c κs = c .before .pre .1 .here
 
--- src/lib.rt:45:13
 is-shallow-has-union-requires : (t : ℕ) → is-shallow-lts.Need-has-union-requires (is-shallow-calls t) (is-shallow-at t) is-shallow.Post
 is-shallow-has-union-requires t c κs = c .before .before .before .pre .1
 
--- src/lib.rt:46:9
 is-shallow-returns : (t : ℕ) → is-shallow-lts.Need-returns (is-shallow-calls t) (is-shallow-at t) is-shallow.Post
 is-shallow-returns t c = shallow-no-union _ _ _ (c .before .before .before .before .pre .1) (λ e. absurd (omega (arith, c .before .before .kind .ensures .0, e))) _ (c .has-union .ensures)
 
--- src/lib.rt:48:9
 is-shallow-operand-requires : (t : ℕ) → is-shallow-lts.Need-operand-requires (is-shallow-calls t) (is-shallow-at t) is-shallow.Post
 is-shallow-operand-requires t c κs = has-operand _ _ _ (c .before .before .before .pre .1) 0 (omega (arith, union-two _ _ _ (c .before .before .before .pre .1) (omega (arith, c .before .kind .ensures .0))))
 
--- src/lib.rt:49:9
 is-shallow-is-shallow-requires : (t : ℕ) → is-shallow-lts.Need-is-shallow-requires (is-shallow-calls t) (is-shallow-at t) is-shallow.Post
 is-shallow-is-shallow-requires t c κs = let o = operand-readable _ _ _ (c .before .before .before .before .pre .1) 0 (omega (arith, union-two _ _ _ (c .before .before .before .before .pre .1) (omega (arith, c .before .before .kind .ensures .0)))) _ (c .operand .ensures .0) in (omega (arith, o .1), o .0)
 
--- src/lib.rt:51:9
 is-shallow-returns-2 : (t : ℕ) → is-shallow-lts.Need-returns-2 (is-shallow-calls t) (is-shallow-at t) is-shallow.Post
 is-shallow-returns-2 t c = shallow-not _ _ _ (c .before .before .before .before .before .before .pre .1) (omega (arith, c .before .before .before .before .kind .ensures .0)) _ (c .before .before .operand .ensures .0) _ (c .before .is-shallow .ensures) (not-true _ (c .if2 .taken))
 
--- src/lib.rt:53:9
 is-shallow-operand-requires-2 : (t : ℕ) → is-shallow-lts.Need-operand-requires-2 (is-shallow-calls t) (is-shallow-at t) is-shallow.Post
 is-shallow-operand-requires-2 t c κs = has-operand _ _ _ (c .before .before .before .before .before .before .pre .1) 1 (omega (arith, union-two _ _ _ (c .before .before .before .before .before .before .pre .1) (omega (arith, c .before .before .before .before .kind .ensures .0))))
 
--- src/lib.rt:54:5
 is-shallow-is-shallow-requires-2 : (t : ℕ) → is-shallow-lts.Need-is-shallow-requires-2 (is-shallow-calls t) (is-shallow-at t) is-shallow.Post
 is-shallow-is-shallow-requires-2 t c κs = let o = operand-readable _ _ _ (c .before .before .before .before .before .before .before .pre .1) 1 (omega (arith, union-two _ _ _ (c .before .before .before .before .before .before .before .pre .1) (omega (arith, c .before .before .before .before .before .kind .ensures .0)))) _ (c .operand2 .ensures .0) in (omega (arith, o .1), o .0)
 
--- src/lib.rt:39:1
 is-shallow-returns-3 : (t : ℕ) → is-shallow-lts.Need-returns-3 (is-shallow-calls t) (is-shallow-at t) is-shallow.Post
 is-shallow-returns-3 t c = shallow-both _ _ _ (c .before .before .before .before .before .before .before .before .pre .1) (omega (arith, c .before .before .before .before .before .before .kind .ensures .0)) _ (c .before .before .before .before .operand .ensures .0) _ (c .before .before .before .is-shallow .ensures) (not-false _ (c .before .before .if2 .left)) _ (c .before .operand2 .ensures .0) _ (c .is-shallow2 .ensures)
 

@@ -13,63 +13,48 @@ Inv-loop s₀ to rows order c step end j₀ out₀ s j out = FillSoFar s₀ s to
 abbrev μ-loop : tie.MeasureT-loop
 μ-loop s₀ to rows order c step end j₀ out₀ s j out = c .count - j
 
--- src/filling.rt:69:16
 mul-step : tie.Need-mul-step Inv-loop μ-loop
 mul-step c = omega (arith, c .before .before .pre .narrow)
 
--- src/filling.rt:70:15
 add-end : tie.Need-add-end Inv-loop μ-loop
 add-end c = omega (arith, c .before .before .pre .room, c .before .before .pre .short)
 
--- src/filling.rt:73:5
 loop-holds : tie.Need-loop-holds Inv-loop μ-loop
 loop-holds c = fill-start _ _ _ _ _ (c .before .before .pre)
 
--- src/filling.rt:74:18
 add-if2 : tie.Need-add-if2 Inv-loop μ-loop
 add-if2 c = omega (arith, c .before .before .loop .inv .inside, c .before .before .before .before .before .pre .room, c .before .before .before .before .before .pre .short, c .before .before .before .before .before .pre .narrow)
 
--- src/filling.rt:75:13
 same-length : tie.Need-same-length Inv-loop μ-loop
 same-length c = c .before .before .before .loop .inv .outside .long
 
--- src/filling.rt:75:13
 returns : tie.Need-returns Inv-loop μ-loop
 returns c = fill-full _ _ _ _ _ (c .before .before .before .before .before .before .pre) _ _ _ (c .before .before .before .loop .inv) (omega arith)
 
--- src/filling.rt:77:17
 element-copy-out-r : tie.Need-element-copy-out-r Inv-loop μ-loop
 element-copy-out-r c = omega (arith, c .before .before .before .before .before .before .pre .few)
 
--- src/filling.rt:77:17
 cast-r : tie.Need-cast-r Inv-loop μ-loop
 cast-r c = omega (arith, c .before .before .before .before .before .before .before .pre .row (c .before .before .before .before .loop .j) (omega arith))
 
--- src/filling.rt:78:9
 put-row-requires : tie.Need-put-row-requires Inv-loop μ-loop
 put-row-requires c κs = put-asked _ _ _ _ _ (c .before .before .before .before .before .before .before .before .pre) _ _ _ (c .before .before .before .before .before .loop .inv) (omega arith) (omega arith)
 
--- src/filling.rt:79:9
 add-out : tie.Need-add-out Inv-loop μ-loop
 add-out c = omega (arith, c .before .before .before .before .before .before .before .before .loop .inv .inside, c .before .before .before .before .before .before .before .before .before .before .before .pre .room, c .before .before .before .before .before .before .before .before .before .before .before .pre .short, c .before .before .before .before .before .before .before .before .before .before .before .pre .narrow)
 
--- src/filling.rt:80:9
 add-j : tie.Need-add-j Inv-loop μ-loop
 add-j c = omega (arith, c .before .before .before .before .before .before .before .before .before .before .before .pre .few)
 
--- src/filling.rt:73:5
 loop-less : tie.Need-loop-less Inv-loop μ-loop
 loop-less c = omega arith
 
--- src/filling.rt:73:5
 loop-again : tie.Need-loop-again Inv-loop μ-loop
 loop-again c = fill-more _ _ _ _ _ (c .before .before .before .before .before .before .before .before .before .before .before .pre) _ _ _ (c .before .before .before .before .before .before .before .before .loop .inv) (omega arith) (omega arith) _ (c .before .before .put-row .ensures)
 
--- src/filling.rt:65:1
 same-length-2 : tie.Need-same-length-2 Inv-loop μ-loop
 same-length-2 c = c .before .before .loop .inv .outside .long
 
--- src/filling.rt:65:1
 returns-2 : tie.Need-returns-2 Inv-loop μ-loop
 returns-2 c = fill-end _ _ _ _ _ (c .before .before .before .before .before .pre) _ _ _ (c .before .before .loop .inv) (omega arith)
 

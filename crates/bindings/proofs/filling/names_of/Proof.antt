@@ -14,59 +14,45 @@ Inv-loop rows r x₀ mask₀ width₀ x mask width = NamesSoFar (rowWords rows r
 abbrev μ-loop : tie.MeasureT-loop
 μ-loop rows r x₀ mask₀ width₀ x mask width = x
 
--- src/filling.rt:34:5
 loop-holds : tie.Need-loop-holds Inv-loop μ-loop
 loop-holds c = names-start (rowWords (c .args .rows .now) (c .args .r)) (row-length _ _ (c .pre))
 
--- src/filling.rt:35:9
 sub-x : tie.Need-sub-x Inv-loop μ-loop
 sub-x c = search needs
 
--- src/filling.rt:36:9
 mul-mask : tie.Need-mul-mask Inv-loop μ-loop
 mul-mask c = omega (arith, names-low _ (row-length _ _ (c .before .before .pre)) _ _ _ (c .before .loop .inv))
 
--- src/filling.rt:37:17
 mul-if1 : tie.Need-mul-if1 Inv-loop μ-loop
 mul-if1 c = omega (arith, c .before .before .pre .low)
 
--- src/filling.rt:37:17
 add-if1 : tie.Need-add-if1 Inv-loop μ-loop
 add-if1 c = omega (arith, c .before .before .pre .low, c .before .loop .inv .within)
 
--- src/filling.rt:37:12
 mul-if1-2 : tie.Need-mul-if1-2 Inv-loop μ-loop
 mul-if1-2 c = omega (arith, c .before .before .pre .low, c .before .loop .inv .within)
 
--- src/filling.rt:37:12
 element-copy-out-if1 : tie.Need-element-copy-out-if1 Inv-loop μ-loop
 element-copy-out-if1 c = omega (arith, c .before .before .pre .low, c .before .loop .inv .within)
 
--- src/filling.rt:38:13
 add-mask : tie.Need-add-mask Inv-loop μ-loop
 add-mask c = omega (arith, names-low _ (row-length _ _ (c .before .before .before .before .pre)) _ _ _ (c .before .before .before .loop .inv))
 
--- src/filling.rt:39:13
 add-width : tie.Need-add-width Inv-loop μ-loop
 add-width c = omega (arith, c .before .before .before .loop .inv .narrow)
 
--- src/filling.rt:34:5
 loop-less : tie.Need-loop-less Inv-loop μ-loop
 loop-less c = omega arith
 
--- src/filling.rt:34:5
 loop-again : tie.Need-loop-again Inv-loop μ-loop
 loop-again c = names-some (rowWords (c .before .before .before .before .args .rows .now) (c .before .before .before .before .args .r)) (row-length _ _ (c .before .before .before .before .pre)) _ _ _ (c .before .before .before .loop .inv) _ (omega arith) (λ z. c .if1 .taken (sym (row-at _ _ (c .before .before .before .before .pre) _ (omega (arith, c .before .before .before .loop .inv .within))) ∙ z))
 
--- src/filling.rt:34:5
 loop-less-2 : tie.Need-loop-less-2 Inv-loop μ-loop
 loop-less-2 c = omega arith
 
--- src/filling.rt:34:5
 loop-again-2 : tie.Need-loop-again-2 Inv-loop μ-loop
 loop-again-2 c = names-none (rowWords (c .before .before .before .before .args .rows .now) (c .before .before .before .before .args .r)) (row-length _ _ (c .before .before .before .before .pre)) _ _ _ (c .before .before .before .loop .inv) _ (omega arith) (row-at _ _ (c .before .before .before .before .pre) _ (omega (arith, c .before .before .before .loop .inv .within)) ∙ c .if1 .left)
 
--- src/filling.rt:27:1
 returns : tie.Need-returns Inv-loop μ-loop
 returns c = names-end _ (row-length _ _ (c .before .before .pre)) _ _ _ (c .before .loop .inv) (omega arith)
 

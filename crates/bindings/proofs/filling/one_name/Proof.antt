@@ -12,27 +12,21 @@ Inv-loop x mask₀ i₀ mask i = PowerSoFar x i mask
 abbrev μ-loop : tie.MeasureT-loop
 μ-loop x mask₀ i₀ mask i = x - i
 
--- src/filling.rt:93:5
 loop-holds : tie.Need-loop-holds Inv-loop μ-loop
 loop-holds c = power-start _ (c .pre)
 
--- src/filling.rt:94:9
 mul-mask : tie.Need-mul-mask Inv-loop μ-loop
 mul-mask c = omega (arith, power-low _ (c .before .before .pre) _ _ (c .before .loop .inv))
 
--- src/filling.rt:95:9
 add-i : tie.Need-add-i Inv-loop μ-loop
 add-i c = omega arith
 
--- src/filling.rt:93:5
 loop-less : tie.Need-loop-less Inv-loop μ-loop
 loop-less c = omega arith
 
--- src/filling.rt:93:5
 loop-again : tie.Need-loop-again Inv-loop μ-loop
 loop-again c = power-more _ (c .before .before .pre) _ _ (c .before .loop .inv) (omega arith)
 
--- src/filling.rt:87:1
 returns : tie.Need-returns Inv-loop μ-loop
 returns c = power-end _ (c .before .before .pre) _ _ (c .before .loop .inv) (omega arith)
 

@@ -15,59 +15,45 @@ Inv-loop s₀ to from end at₀ n₀ s at n = MembersSoFar s₀ s to from end at
 abbrev μ-loop : tie.MeasureT-loop
 μ-loop s₀ to from end at₀ n₀ s at n = end - at
 
--- src/filling.rt:106:5
 loop-holds : tie.Need-loop-holds Inv-loop μ-loop
 loop-holds c = members-start _ _ _ _ (c .before .pre)
 
--- src/filling.rt:107:13
 length-of-requires : tie.Need-length-of-requires Inv-loop μ-loop
 length-of-requires c κs = member-holds _ _ _ _ (c .before .before .before .before .pre) _ _ _ (c .before .before .loop .inv) (omega arith)
 
--- src/filling.rt:108:26
 mul-put-word : tie.Need-mul-put-word Inv-loop μ-loop
 mul-put-word c = omega (arith, end-low _ _ _ _ (c .before .before .before .before .before .before .pre) _ _ _ (c .before .before .before .before .loop .inv), c .before .before .before .before .loop .inv .low, c .before .before .before .before .before .before .pre .room, c .before .before .before .before .before .before .pre .short)
 
--- src/filling.rt:108:21
 add-put-word : tie.Need-add-put-word Inv-loop μ-loop
 add-put-word c = omega (arith, end-low _ _ _ _ (c .before .before .before .before .before .before .pre) _ _ _ (c .before .before .before .before .loop .inv), c .before .before .before .before .loop .inv .low, c .before .before .before .before .before .before .pre .room, c .before .before .before .before .before .before .pre .short)
 
--- src/filling.rt:108:38
 mul-put-word-2 : tie.Need-mul-put-word-2 Inv-loop μ-loop
 mul-put-word-2 c = omega (arith, end-inside _ _ _ _ (c .before .before .before .before .before .before .pre) _ _ _ (c .before .before .before .before .loop .inv), c .before .before .before .before .before .before .pre .room, c .before .before .before .before .before .before .pre .short)
 
--- src/filling.rt:108:34
 add-put-word-2 : tie.Need-add-put-word-2 Inv-loop μ-loop
 add-put-word-2 c = omega (arith, end-inside _ _ _ _ (c .before .before .before .before .before .before .pre) _ _ _ (c .before .before .before .before .loop .inv), c .before .before .before .before .before .before .pre .room, c .before .before .before .before .before .before .pre .short)
 
--- src/filling.rt:108:33
 cast-put-word : tie.Need-cast-put-word Inv-loop μ-loop
 cast-put-word c = omega (arith, end-inside _ _ _ _ (c .before .before .before .before .before .before .pre) _ _ _ (c .before .before .before .before .loop .inv), c .before .before .before .before .before .before .pre .room, c .before .before .before .before .before .before .pre .short)
 
--- src/filling.rt:108:9
 put-word-requires : tie.Need-put-word-requires Inv-loop μ-loop
 put-word-requires c κs = omega (arith, end-low _ _ _ _ (c .before .before .before .before .before .before .pre) _ _ _ (c .before .before .before .before .loop .inv), c .before .before .before .before .loop .inv .low, c .before .before .before .before .before .before .pre .room, c .before .before .before .before .loop .inv .outside .long, member-inside _ _ _ _ (c .before .before .before .before .before .before .pre) _ _ _ (c .before .before .before .before .loop .inv) (omega arith) .0, member-inside _ _ _ _ (c .before .before .before .before .before .before .pre) _ _ _ (c .before .before .before .before .loop .inv) (omega arith) .1)
 
--- src/filling.rt:109:9
 add-at : tie.Need-add-at Inv-loop μ-loop
 add-at c = omega (arith, end-inside _ _ _ _ (c .before .before .before .before .before .before .before .before .before .pre) _ _ _ (c .before .before .before .before .before .before .before .loop .inv), c .before .before .before .before .before .before .before .before .before .pre .room, c .before .before .before .before .before .before .before .before .before .pre .short, c .before .before .before .before .length-of .ensures .is, member-inside _ _ _ _ (c .before .before .before .before .before .before .before .before .before .pre) _ _ _ (c .before .before .before .before .before .before .before .loop .inv) (omega arith) .0)
 
--- src/filling.rt:110:9
 add-n : tie.Need-add-n Inv-loop μ-loop
 add-n c = omega (arith, end-low _ _ _ _ (c .before .before .before .before .before .before .before .before .before .pre) _ _ _ (c .before .before .before .before .before .before .before .loop .inv), c .before .before .before .before .before .before .before .loop .inv .low)
 
--- src/filling.rt:106:5
 loop-less : tie.Need-loop-less Inv-loop μ-loop
 loop-less c = omega (arith, c .before .before .before .before .length-of .ensures .low)
 
--- src/filling.rt:106:5
 loop-again : tie.Need-loop-again Inv-loop μ-loop
 loop-again c = members-more _ _ _ _ (c .before .before .before .before .before .before .before .before .before .pre) _ _ _ (c .before .before .before .before .before .before .before .loop .inv) (omega arith) _ _ (c .before .before .before .before .length-of .ensures .is) (c .before .before .put-word .ensures)
 
--- src/filling.rt:100:1
 same-length : tie.Need-same-length Inv-loop μ-loop
 same-length c = c .before .loop .inv .outside .long
 
--- src/filling.rt:100:1
 returns : tie.Need-returns Inv-loop μ-loop
 returns c = members-end _ _ _ _ (c .before .before .before .pre) _ _ _ (c .before .loop .inv) (omega arith)
 

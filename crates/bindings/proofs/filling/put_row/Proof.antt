@@ -15,51 +15,39 @@ Inv-loop s₀ out rows r mask left₀ at₀ x₀ s left at x = RowSoFar s₀ s o
 abbrev μ-loop : tie.MeasureT-loop
 μ-loop s₀ out rows r mask left₀ at₀ x₀ s left at x = left
 
--- src/filling.rt:54:5
 loop-holds : tie.Need-loop-holds Inv-loop μ-loop
 loop-holds c = row-start _ _ _ _ (row-length _ _ (c .before .pre .held)) (c .before .pre .is-mask)
 
--- src/filling.rt:56:26
 mul-w : tie.Need-mul-w Inv-loop μ-loop
 mul-w c = omega (arith, c .before .before .before .before .pre .held .low)
 
--- src/filling.rt:56:26
 add-w : tie.Need-add-w Inv-loop μ-loop
 add-w c = omega (arith, c .before .before .before .before .pre .held .low, row-in _ _ _ _ (row-length _ _ (c .before .before .before .before .pre .held)) (c .before .before .before .before .pre .is-mask) _ _ _ _ (c .before .before .loop .inv) (omega arith))
 
--- src/filling.rt:56:21
 mul-w-2 : tie.Need-mul-w-2 Inv-loop μ-loop
 mul-w-2 c = omega (arith, c .before .before .before .before .pre .held .low, row-in _ _ _ _ (row-length _ _ (c .before .before .before .before .pre .held)) (c .before .before .before .before .pre .is-mask) _ _ _ _ (c .before .before .loop .inv) (omega arith))
 
--- src/filling.rt:56:21
 element-copy-out-w : tie.Need-element-copy-out-w Inv-loop μ-loop
 element-copy-out-w c = omega (arith, c .before .before .before .before .pre .held .low, row-in _ _ _ _ (row-length _ _ (c .before .before .before .before .pre .held)) (c .before .before .before .before .pre .is-mask) _ _ _ _ (c .before .before .loop .inv) (omega arith))
 
--- src/filling.rt:57:13
 put-word-requires : tie.Need-put-word-requires Inv-loop μ-loop
 put-word-requires c κs = omega (arith, row-room _ _ _ _ (row-length _ _ (c .before .before .before .before .before .before .pre .held)) (c .before .before .before .before .before .before .pre .is-mask) _ _ _ _ (c .before .before .before .before .loop .inv) (omega arith) (c .before .before .if1 .taken), c .before .before .before .before .before .before .pre .room, c .before .before .before .before .loop .inv .outside .long)
 
--- src/filling.rt:58:13
 add-at : tie.Need-add-at Inv-loop μ-loop
 add-at c = omega (arith, row-room _ _ _ _ (row-length _ _ (c .before .before .before .before .before .before .before .before .before .pre .held)) (c .before .before .before .before .before .before .before .before .before .pre .is-mask) _ _ _ _ (c .before .before .before .before .before .before .before .loop .inv) (omega arith) (c .before .before .before .before .before .if1 .taken), c .before .before .before .before .before .before .before .before .before .pre .room)
 
--- src/filling.rt:61:9
 add-x : tie.Need-add-x Inv-loop μ-loop
 add-x c = omega (arith, c .before .before .loop .inv .within)
 
--- src/filling.rt:54:5
 loop-less : tie.Need-loop-less Inv-loop μ-loop
 loop-less c = omega arith
 
--- src/filling.rt:54:5
 loop-again : tie.Need-loop-again Inv-loop μ-loop
 loop-again c = ⊎-elim (λ x. rw (x .6, x .7) (row-some _ _ _ _ (row-length _ _ (c .before .before .before .before .pre .held)) (c .before .before .before .before .pre .is-mask) _ _ _ _ (c .before .before .loop .inv) (omega arith) (x .0 .taken) _ _ (sym (row-at _ _ (c .before .before .before .before .pre .held) _ (row-in _ _ _ _ (row-length _ _ (c .before .before .before .before .pre .held)) (c .before .before .before .before .pre .is-mask) _ _ _ _ (c .before .before .loop .inv) (omega arith)))) (omega (arith, row-room _ _ _ _ (row-length _ _ (c .before .before .before .before .pre .held)) (c .before .before .before .before .pre .is-mask) _ _ _ _ (c .before .before .loop .inv) (omega arith) (x .0 .taken), c .before .before .before .before .pre .room, c .before .before .loop .inv .outside .long)) (x .3 .ensures))) (λ x. rw (x .1, x .2) (row-none _ _ _ _ (row-length _ _ (c .before .before .before .before .pre .held)) (c .before .before .before .before .pre .is-mask) _ _ _ _ (c .before .before .loop .inv) (omega arith) (x .0 .left))) (c .if1 .came)
 
--- src/filling.rt:47:1
 same-length : tie.Need-same-length Inv-loop μ-loop
 same-length c = c .before .loop .inv .outside .long
 
--- src/filling.rt:47:1
 returns : tie.Need-returns Inv-loop μ-loop
 returns c = let w = row-end _ _ _ _ (row-length _ _ (c .before .before .before .pre .held)) (c .before .before .before .pre .is-mask) _ _ _ _ (c .before .loop .inv) (omega arith) _ refl in record { words = w .0; outside = w .1 }
 

@@ -6,23 +6,18 @@ use Rattle.bindings.proofs.filling.put_word.Reads as reads
 use Rattle.bindings.proofs.filling.put_word.Lts as lts
 use Rattle.integers.proofs.bytes.put16.Reads as put16-reads
 
--- src/filling.rt:23:5
 put16-requires : tie.Need-put16-requires
 put16-requires c κs = search needs
 
--- src/filling.rt:24:14
 add-put16 : tie.Need-add-put16
 add-put16 c = search needs
 
--- src/filling.rt:24:5
 put16-requires-2 : tie.Need-put16-requires-2
 put16-requires-2 c κs = search needs
 
--- src/filling.rt:18:1
 same-length : tie.Need-same-length
 same-length c = search needs
 
--- src/filling.rt:18:1
 returns : tie.Need-returns
 returns c = halves-stored (c .before .before .before .before .before .before .before .before .before .args .s .now) (c .before .before .before .before .before .before .put16 .last .0) (c .before .before .put162 .last .0) (c .before .before .before .before .before .before .before .before .before .args .at) (c .before .before .before .before .before .before .before .before .before .args .word) (c .before .before .before .before .before .before .put16 .ensures) (c .before .before .put162 .ensures)
 

@@ -16,41 +16,32 @@ Inv-loop table index p s from to at₀ at = Passing table p s at₀ to at
 abbrev μ-loop : tie.MeasureT-loop
 μ-loop table index p s from to at₀ at = to - at
 
--- src/lib.rt:171:5
 loop-holds : tie.Need-loop-holds Inv-loop μ-loop
 loop-holds c = passing-start _ _ _ _ _
 
--- src/lib.rt:172:13
 length-of-requires : tie.Need-length-of-requires Inv-loop μ-loop
 length-of-requires c κs = passing-holds _ _ _ _ _ _ (c .before .loop .inv) (c .before .before .before .before .pre .1 .0) (omega arith)
 
--- src/forms.rt:40:21
 cast-t11 : tie.Need-cast-t11 Inv-loop μ-loop
 cast-t11 c = let h = passing-holds _ _ _ _ _ _ (c .before .before .loop .inv) (c .before .before .before .before .before .pre .1 .0) (omega arith) in omega (arith, h .whole, c .before .before .before .before .before .pre .1 .1)
 
--- src/lib.rt:173:13
 too-large-requires : tie.Need-too-large-requires Inv-loop μ-loop
 too-large-requires c κs = let h = passing-holds _ _ _ _ _ _ (c .before .before .loop .inv) (c .before .before .before .before .before .pre .1 .0) (omega arith) in (c .before .before .before .before .before .pre .0, record { value = h .value; here = inl (refl, h .here) }, c .before .before .before .before .before .pre .1 .1)
 
--- src/lib.rt:185:13
 returns : tie.Need-returns Inv-loop μ-loop
 returns c = one-large _ _ _ _ _ _ (c .before .before .before .before .loop .inv) (omega arith) _ (c .before .too-large .ensures) (c .if1 .taken)
 
--- src/lib.rt:187:9
 add-at : tie.Need-add-at Inv-loop μ-loop
 add-at c =
     let w = passing-inside _ _ _ _ _ _ (c .before .before .before .before .loop .inv) (c .before .before .before .before .before .before .before .pre .1 .0) (omega arith) in
     omega (arith, (c .before .before .length-of .ensures .is), w .0, w .1)
 
--- src/lib.rt:171:5
 loop-less : tie.Need-loop-less Inv-loop μ-loop
 loop-less c = omega (arith, (c .before .before .length-of .ensures .low))
 
--- src/lib.rt:171:5
 loop-again : tie.Need-loop-again Inv-loop μ-loop
 loop-again c = passing-more _ _ _ _ _ _ (c .before .before .before .before .loop .inv) (omega arith) _ (c .before .too-large .ensures) (c .if1 .left) _ (c .before .before .length-of .ensures .is)
 
--- src/lib.rt:165:1
 returns-2 : tie.Need-returns-2 Inv-loop μ-loop
 returns-2 c = none-large _ _ _ _ _ _ (c .before .loop .inv) (omega arith)
 

@@ -5,15 +5,12 @@ use Rattle.bindings.proofs.forms.first_at.Tie as tie
 use Rattle.bindings.proofs.forms.first_at.Reads as reads
 use Rattle.bindings.proofs.forms.first_at.Lts as lts
 
--- src/forms.rt:19:9
 returns : tie.Need-returns
 returns c = search needs
 
--- src/forms.rt:21:5
 add-result : tie.Need-add-result
 add-result c = search needs
 
--- src/forms.rt:14:1
 returns-2 : tie.Need-returns-2
 returns-2 c = rw (c .if1 .left) refl
 

@@ -15,43 +15,33 @@ Inv-loop table index p s from to agenda₀ rows₀ order₀ at₀ n₀ agenda ro
 abbrev μ-loop : tie.MeasureT-loop
 μ-loop table index p s from to agenda₀ rows₀ order₀ at₀ n₀ agenda rows order at n = to - at
 
--- src/lib.rt:49:5
 loop-holds : tie.Need-loop-holds Inv-loop μ-loop
 loop-holds c = all-start _ _ _ _ _ _ _ _ _ (c .before .before .pre)
 
--- src/lib.rt:50:13
 length-of-requires : tie.Need-length-of-requires Inv-loop μ-loop
 length-of-requires c κs = all-holds _ _ _ _ _ _ _ _ _ (c .before .before .before .before .pre) _ _ _ _ _ (c .before .loop .inv) (omega arith)
 
--- src/lib.rt:51:13
 form-one-requires : tie.Need-form-one-requires Inv-loop μ-loop
 form-one-requires c κs = one-held _ _ _ _ _ _ _ _ _ (c .before .before .before .before .before .before .before .before .pre) _ _ _ _ _ (c .before .before .before .before .before .loop .inv) (omega arith)
 
--- src/lib.rt:53:29
 enum-known-r : tie.Need-enum-known-r Inv-loop μ-loop
 enum-known-r c = search needs
 
--- src/lib.rt:53:35
 returns : tie.Need-returns Inv-loop μ-loop
 returns c = all-full _ _ _ _ _ _ _ _ _ (c .before .before .before .before .before .before .before .before .before .before .before .before .pre) _ _ _ _ _ (c .before .before .before .before .before .before .before .before .before .loop .inv) (omega arith) _ _ _ _ (c .before .before .before .form-one .ensures) _ (c .before .r .given .1)
 
--- src/lib.rt:54:28
 enum-known-r-2 : tie.Need-enum-known-r-2 Inv-loop μ-loop
 enum-known-r-2 c = search needs
 
--- src/lib.rt:58:9
 add-at : tie.Need-add-at Inv-loop μ-loop
 add-at c = let w = all-inside _ _ _ _ _ _ _ _ _ (c .before .before .before .before .before .before .before .before .before .before .before .before .pre) _ _ _ _ _ (c .before .before .before .before .before .before .before .before .before .loop .inv) (omega arith) in omega (arith, c .before .before .before .before .before .before .before .length-of .ensures .is, w .0, w .1)
 
--- src/lib.rt:49:5
 loop-less : tie.Need-loop-less Inv-loop μ-loop
 loop-less c = omega (arith, c .before .before .before .before .before .before .before .length-of .ensures .low)
 
--- src/lib.rt:49:5
 loop-again : tie.Need-loop-again Inv-loop μ-loop
 loop-again c = all-more _ _ _ _ _ _ _ _ _ (c .before .before .before .before .before .before .before .before .before .before .before .before .pre) _ _ _ _ _ (c .before .before .before .before .before .before .before .before .before .loop .inv) (omega arith) _ _ _ _ (c .before .before .before .form-one .ensures) _ (c .before .r2 .given .1) _ (c .before .before .before .before .before .before .before .length-of .ensures .is)
 
--- src/lib.rt:33:1
 returns-2 : tie.Need-returns-2 Inv-loop μ-loop
 returns-2 c = all-end _ _ _ _ _ _ _ _ _ (c .before .before .before .before .pre) _ _ _ _ _ (c .before .loop .inv) (omega arith)
 

@@ -9,39 +9,30 @@ use Rattle.bindings.proofs.forms.form_one.Reads as reads
 use Rattle.bindings.proofs.forms.form_one.Lts as lts
 use Rattle.forming.proofs.solve.Reads as solve-reads
 
--- src/forms.rt:90:17
 cast-agenda : tie.Need-cast-agenda
 cast-agenda c = omega (arith, c .before .before .pre .readable .here .within, c .before .before .pre .readable .fine .few)
 
--- src/forms.rt:90:5
 element-write-agenda : tie.Need-element-write-agenda
 element-write-agenda c = search needs
 
--- src/forms.rt:91:22
 mul-agenda : tie.Need-mul-agenda
 mul-agenda c = omega (arith, at-low _ _ _ _ _ _ _ _ _ (c .before .before .pre))
 
--- src/forms.rt:91:18
 add-agenda : tie.Need-add-agenda
 add-agenda c = omega (arith, at-low _ _ _ _ _ _ _ _ _ (c .before .before .pre))
 
--- src/forms.rt:91:17
 cast-agenda-2 : tie.Need-cast-agenda-2
 cast-agenda-2 c = omega (arith, at-low _ _ _ _ _ _ _ _ _ (c .before .before .pre))
 
--- src/forms.rt:91:5
 element-write-agenda-2 : tie.Need-element-write-agenda-2
 element-write-agenda-2 c = search needs
 
--- src/forms.rt:92:5
 element-write-agenda-3 : tie.Need-element-write-agenda-3
 element-write-agenda-3 c = search needs
 
--- src/forms.rt:94:9
 solve-requires : tie.Need-solve-requires
 solve-requires c κs = one-asked _ _ _ _ _ _ _ _ _ (c .before .before .before .before .before .before .pre) _ nothing-stands
 
--- src/forms.rt:76:1
 returns : tie.Need-returns
 returns c = one-formed _ _ _ _ _ _ _ _ _ (c .before .before .before .before .before .before .before .pre) _ nothing-stands _ _ _ _ (c .solve .ensures)
 

@@ -8,35 +8,27 @@ use Rattle.bindings.proofs.forms.any_large.Reads as any-large-reads
 use Rattle.splitting.proofs.too_large.Reads as too-large-reads
 use Rattle.values.proofs.length_of.Reads as length-of-reads
 
--- src/forms.rt:66:21
 cast-t9 : tie.Need-cast-t9
 cast-t9 c = let h = one-held _ _ _ (c .if1 .taken) (c .before .before .before .pre .1 .0) in omega (arith, h .whole, c .before .before .before .pre .1 .1)
 
--- src/lib.rt:199:9
 too-large-requires : tie.Need-too-large-requires
 too-large-requires c κs = (c .before .before .before .pre .0, one-part _ _ _ (c .if1 .taken) (c .before .before .before .pre .1 .0), c .before .before .before .pre .1 .1)
 
--- src/lib.rt:199:9
 returns : tie.Need-returns
 returns c = tells-one _ _ _ _ _ _ (c .before .if1 .taken) (c .too-large .ensures)
 
--- src/lib.rt:211:9
 length-of-requires : tie.Need-length-of-requires
 length-of-requires c κs = set-held _ _ _ (c .if1 .left) (c .before .before .before .pre .1 .0)
 
--- src/lib.rt:212:35
 add-any-large : tie.Need-add-any-large
 add-any-large c = let h = set-held _ _ _ (c .before .if1 .left) (c .before .before .before .before .pre .1 .0) in omega (arith, h .low, h .whole)
 
--- src/lib.rt:212:43
 add-any-large-2 : tie.Need-add-any-large-2
 add-any-large-2 c = let h = set-held _ _ _ (c .before .if1 .left) (c .before .before .before .before .pre .1 .0) in omega (arith, h .whole, c .length-of .ensures .is)
 
--- src/lib.rt:212:5
 any-large-requires : tie.Need-any-large-requires
 any-large-requires c κs = (c .before .before .before .before .pre .0, (members-held _ _ _ (c .before .if1 .left) (c .before .before .before .before .pre .1 .0) _ (c .length-of .ensures .is), c .before .before .before .before .pre .1 .1))
 
--- src/lib.rt:193:1
 returns-2 : tie.Need-returns-2
 returns-2 c = tells-all _ _ _ _ _ _ (c .before .before .if1 .left) _ (c .before .length-of .ensures .is) (c .any-large .ensures)
 

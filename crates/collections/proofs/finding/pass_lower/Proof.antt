@@ -24,62 +24,48 @@ Inv-loop s at x end z p₀ p = (end ≡ at + word s at) × Looking s at x false 
 abbrev μ-loop : tie.MeasureT-loop
 μ-loop s at x end z p₀ p = end - p
 
--- src/finding.rt:27:20
 length-of-requires : tie.Need-length-of-requires Inv-loop μ-loop
 length-of-requires c κs = holds (c .before .pre .0 .here)
 
--- src/finding.rt:27:15
 add-end : tie.Need-add-end Inv-loop μ-loop
 add-end c = let h = holds (c .before .before .pre .0 .here) in omega arith
 
--- src/finding.rt:28:9
 integer-at-requires : tie.Need-integer-at-requires Inv-loop μ-loop
 integer-at-requires c κs = c .before .before .pre .1
 
--- src/finding.rt:29:17
 add-p : tie.Need-add-p Inv-loop μ-loop
 add-p c = let h = holds (c .before .before .before .pre .0 .here) in omega arith
 
--- src/finding.rt:30:5
 loop-holds : tie.Need-loop-holds Inv-loop μ-loop
 loop-holds c = (ap (λ (n : ℕ). c .before .before .before .args .at + n) (c .before .length-of .ensures .is), look-start _ _ _ _)
 
--- src/finding.rt:31:12
 kind-of-requires : tie.Need-kind-of-requires Inv-loop μ-loop
 kind-of-requires c κs = holds (walk-run (c .before .loop .inv .1) (omega (arith, c .loop-test .taken, c .before .loop .inv .0)) (c .before .before .before .before .before .pre .0) .first-at)
 
--- src/finding.rt:32:13
 returns : tie.Need-returns Inv-loop μ-loop
 returns c = looks-on (c .before .before .before .loop .inv .1)
 
--- src/finding.rt:34:13
 integer-at-requires-2 : tie.Need-integer-at-requires-2 Inv-loop μ-loop
 integer-at-requires-2 c κs = record { held = holds (walk-run (c .before .before .before .loop .inv .1) (omega (arith, c .before .before .loop-test .taken, c .before .before .before .loop .inv .0)) (c .before .before .before .before .before .before .before .pre .0) .first-at); kind = sym (c .before .kind-of .ensures .is) ∙ c .if1 .left }
 
--- src/finding.rt:35:13
 compare-requires : tie.Need-compare-requires Inv-loop μ-loop
 compare-requires c κs = search needs
 
 enum-told : tie.Need-enum-told Inv-loop μ-loop
 enum-told c = search needs
 
--- src/finding.rt:37:13
 returns-2 : tie.Need-returns-2 Inv-loop μ-loop
 returns-2 c = looks-on (c .before .before .before .before .before .before .loop .inv .1)
 
--- src/finding.rt:39:9
 add-p-2 : tie.Need-add-p-2 Inv-loop μ-loop
 add-p-2 c = let h = holds (c .before .before .before .before .before .before .before .before .before .before .before .pre .0 .here) in omega (arith, integer-inside (c .before .before .before .before .before .before .before .before .before .before .before .pre .0) (c .before .before .before .before .before .before .before .loop .inv .1) (omega (arith, c .before .before .before .before .before .before .loop-test .taken, c .before .before .before .before .before .before .before .loop .inv .0)) (c .before .before .before .integer-at2 .ensures), h .whole)
 
--- src/finding.rt:30:5
 loop-less : tie.Need-loop-less Inv-loop μ-loop
 loop-less c = omega (arith, c .before .before .before .before .before .before .loop-test .taken)
 
--- src/finding.rt:30:5
 loop-again : tie.Need-loop-again Inv-loop μ-loop
 loop-again c = (c .before .before .before .before .before .before .before .loop .inv .0, look-higher (c .before .before .before .before .before .before .before .loop .inv .1) (omega (arith, c .before .before .before .before .before .before .loop-test .taken, c .before .before .before .before .before .before .before .loop .inv .0)) (c .before .before .before .before .before .before .before .before .integer-at .ensures) (c .before .before .before .integer-at2 .ensures) (toZ-ofZ (record { sfits = c .before .before .before .before .before .before .before .before .integer-at .ok })) (toZ-ofZ (record { sfits = c .before .before .before .integer-at2 .ok })) (c .before .before .compare .ensures) (c .enum-told .given .1))
 
--- src/finding.rt:23:1
 returns-3 : tie.Need-returns-3 Inv-loop μ-loop
 returns-3 c = looks-on (c .before .loop .inv .1)
 

@@ -4,15 +4,12 @@ use borrow.Author.Needs.{needs}
 use Rattle.evaluator.proofs.binding.built_word.Statement.{statement}
 use Rattle.evaluator.proofs.binding.built_word.Tie as tie
 
--- src/binding.rt:167:9
 refusal-requires : tie.Need-refusal-requires
 refusal-requires c κs = search needs
 
--- src/binding.rt:161:1
 returns : tie.Need-returns
 returns c = rw (eq-eqb (c .before .args .bad) 0 (c .if1 .taken)) refl
 
--- src/binding.rt:161:1
 returns-2 : tie.Need-returns-2
 returns-2 c = rw (ne-eqb (c .before .before .args .bad) 0 (c .before .if1 .left)) (c .refusal .ensures)
 

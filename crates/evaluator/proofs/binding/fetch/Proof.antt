@@ -8,51 +8,39 @@ use borrow.Author.Needs.{needs}
 use Rattle.evaluator.proofs.binding.fetch.Statement.{statement}
 use Rattle.evaluator.proofs.binding.fetch.Tie as tie
 
--- src/binding.rt:187:5
 bind-names-requires : tie.Need-bind-names-requires
 bind-names-requires c κs = record { choices = c .before .before .before .before .before .pre .choices; stands = c .before .before .before .before .before .pre .stands }
 
--- src/binding.rt:188:9
 operand-from-requires : tie.Need-operand-from-requires
 operand-from-requires c κs = (binder-has (c .before .before .before .before .before .before .before .before .pre .stands .asked) (c .before .before .before .before .before .before .before .before .pre .stands .binder) 0 (omega arith), binder-first (c .before .before .before .before .before .before .before .before .pre .stands .binder))
 
--- src/binding.rt:189:9
 field-requires : tie.Need-field-requires
 field-requires c κs = fetch-field (c .before .before .before .before .before .before .before .before .before .pre .stands) (c .before .before .before .before .before .before .before .before .before .pre .iota) (c .operand-from .ensures .0)
 
--- src/binding.rt:190:16
 mul-word : tie.Need-mul-word
 mul-word c = search needs
 
--- src/binding.rt:190:16
 array-read-word : tie.Need-array-read-word
 array-read-word c = fetch-name (c .before .before .before .before .before .before .before .before .before .before .pre .stands) (c .before .before .before .before .before .before .before .before .before .before .pre .iota) (c .before .operand-from .ensures .0) (c .field .ensures .0)
 
--- src/binding.rt:191:9
 unpack-requires : tie.Need-unpack-requires
 unpack-requires c κs = search needs
 
--- src/binding.rt:192:30
 add-put-part : tie.Need-add-put-part
 add-put-part c = omega (arith, room-here (c .before .before .before .before .before .before .before .before .before .before .before .before .pre .stands .asked), c .before .before .before .before .before .before .before .before .before .before .before .before .pre .stands .asked .low)
 
--- src/binding.rt:192:5
 put-part-requires : tie.Need-put-part-requires
 put-part-requires c κs = fetch-puttable (c .before .before .before .before .before .before .before .before .before .before .before .before .pre .stands) (c .before .before .before .before .before .before .before .before .before .before .before .before .pre .iota) (c .before .before .before .operand-from .ensures .0) (c .before .before .field .ensures .0) (entered (c .before .before .before .operand-from .ensures .0) (c .before .before .before .before .before .before .bind-names .ensures)) (c .before .before .before .before .before .before .bind-names .ensures .under) (c .before .unpack .ensures)
 
--- src/binding.rt:193:27
 add-copy-value : tie.Need-add-copy-value
 add-copy-value c = omega (arith, room-here (c .before .before .before .before .before .before .before .before .before .before .before .before .before .before .before .before .pre .stands .asked), c .before .before .before .before .before .before .before .before .before .before .before .before .before .before .before .before .pre .stands .asked .low)
 
--- src/binding.rt:193:5
 copy-value-requires : tie.Need-copy-value-requires
 copy-value-requires c κs = fetch-copyable (c .before .before .before .before .before .before .before .before .before .before .before .before .before .before .before .before .pre .stands) (c .before .before .before .before .before .before .before .before .before .before .before .before .before .before .before .before .pre .iota) (c .before .before .before .before .before .before .before .operand-from .ensures .0) (c .before .before .before .before .before .before .field .ensures .0) (entered (c .before .before .before .before .before .before .before .operand-from .ensures .0) (c .before .before .before .before .before .before .before .before .before .before .bind-names .ensures)) (c .before .before .before .before .before .before .before .before .before .before .bind-names .ensures .under) (c .before .before .before .before .before .unpack .ensures) (c .before .before .before .put-part .ensures)
 
--- src/binding.rt:173:1
 same-length : tie.Need-same-length
 same-length c = search needs
 
--- src/binding.rt:173:1
 returns : tie.Need-returns
 returns c = fetch-done (c .before .before .before .before .before .before .before .before .before .before .before .before .before .before .before .before .before .before .before .pre .stands) (c .before .before .before .before .before .before .before .before .before .before .before .before .before .before .before .before .before .before .before .pre .iota) (c .before .before .before .before .before .before .before .before .before .before .operand-from .ensures .0) (c .before .before .before .before .before .before .before .before .before .field .ensures .0) (entered (c .before .before .before .before .before .before .before .before .before .before .operand-from .ensures .0) (c .before .before .before .before .before .before .before .before .before .before .before .before .before .bind-names .ensures)) (c .before .before .before .before .before .before .before .before .before .before .before .before .before .bind-names .ensures .under) (c .before .before .before .before .before .before .before .before .unpack .ensures) (c .before .before .before .before .before .before .put-part .ensures) (c .before .before .copy-value .ensures)
 

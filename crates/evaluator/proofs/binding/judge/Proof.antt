@@ -5,31 +5,24 @@ use borrow.Author.Needs.{needs}
 use Rattle.evaluator.proofs.binding.judge.Statement.{statement}
 use Rattle.evaluator.proofs.binding.judge.Tie as tie
 
--- src/binding.rt:118:25
 enum-told : tie.Need-enum-told
 enum-told c = search needs
 
--- src/binding.rt:118:25
 refusal-requires : tie.Need-refusal-requires
 refusal-requires c κs = search needs
 
--- src/binding.rt:119:24
 enum-told-2 : tie.Need-enum-told-2
 enum-told-2 c = search needs
 
--- src/binding.rt:120:25
 enum-told-3 : tie.Need-enum-told-3
 enum-told-3 c = search needs
 
--- src/binding.rt:114:1
 returns : tie.Need-returns
 returns c = c .refusal .ensures ∙ ap (λ (x : Truth). judgedWord x (c .before .before .before .args .r)) (sym (c .before .enum-told .given .1))
 
--- src/binding.rt:114:1
 returns-2 : tie.Need-returns-2
 returns-2 c = search needs
 
--- src/binding.rt:114:1
 returns-3 : tie.Need-returns-3
 returns-3 c = search needs
 

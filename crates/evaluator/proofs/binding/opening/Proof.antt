@@ -4,23 +4,18 @@ use borrow.Author.Needs.{needs}
 use Rattle.evaluator.proofs.binding.opening.Statement.{statement}
 use Rattle.evaluator.proofs.binding.opening.Tie as tie
 
--- src/binding.rt:105:23
 enum-known-o : tie.Need-enum-known-o
 enum-known-o c = search needs
 
--- src/binding.rt:109:25
 enum-known-o-2 : tie.Need-enum-known-o-2
 enum-known-o-2 c = search needs
 
--- src/binding.rt:109:31
 refusal-requires : tie.Need-refusal-requires
 refusal-requires c κs = search needs
 
--- src/binding.rt:101:1
 returns : tie.Need-returns
 returns c = opens (c .before .before .o .given .1) refl refl
 
--- src/binding.rt:101:1
 returns-2 : tie.Need-returns-2
 returns-2 c = fails (c .before .before .o2 .given .1) (c .refusal .ensures)
 

@@ -3,15 +3,12 @@ use mathlib.Core.Path.{refl}
 use Rattle.evaluator.proofs.binding.tally.Statement.{statement}
 use Rattle.evaluator.proofs.binding.tally.Tie as tie
 
--- src/binding.rt:121:14
 add-result : tie.Need-add-result
 add-result c = search needs
 
--- src/binding.rt:117:1
 returns : tie.Need-returns
 returns c = rw (c .if1 .taken) refl
 
--- src/binding.rt:117:1
 returns-2 : tie.Need-returns-2
 returns-2 c = search needs
 

@@ -3,31 +3,24 @@ use borrow.Author.Needs.{needs}
 use Rattle.evaluator.proofs.building.enter_next.Statement.{statement}
 use Rattle.evaluator.proofs.building.enter_next.Tie as tie
 
--- src/building.rt:51:9
 returns : tie.Need-returns
 returns c = enter-still (c .if1 .taken)
 
--- src/building.rt:53:28
 add-enter : tie.Need-add-enter
 add-enter c = search needs
 
--- src/building.rt:53:40
 add-enter-2 : tie.Need-add-enter-2
 add-enter-2 c = search needs
 
--- src/building.rt:53:9
 enter-requires : tie.Need-enter-requires
 enter-requires c κs = enter-room (c .before .before .before .pre) (c .before .if1 .left)
 
--- src/building.rt:54:5
 entered-requires : tie.Need-entered-requires
 entered-requires c κs = search needs
 
--- src/building.rt:46:1
 same-length : tie.Need-same-length
 same-length c = search needs
 
--- src/building.rt:46:1
 returns-2 : tie.Need-returns-2
 returns-2 c = enter-done (c .before .before .before .before .before .if1 .left) (c .before .before .before .enter .ensures) (c .entered .ensures)
 

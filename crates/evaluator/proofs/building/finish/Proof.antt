@@ -4,27 +4,21 @@ use borrow.Author.Needs.{needs}
 use Rattle.evaluator.proofs.building.finish.Statement.{statement}
 use Rattle.evaluator.proofs.building.finish.Tie as tie
 
--- src/building.rt:82:9
 refusal-requires : tie.Need-refusal-requires
 refusal-requires c κs = search needs
 
--- src/building.rt:82:9
 returns : tie.Need-returns
 returns c = finish-off (c .before .before .before .pre) (c .before .if1 .taken) (c .refusal .ensures)
 
--- src/building.rt:85:9
 retag-requires : tie.Need-retag-requires
 retag-requires c κs = (finish-held (c .before .before .before .before .pre) (c .before .before .if1 .left), omega arith)
 
--- src/building.rt:86:9
 same-length : tie.Need-same-length
 same-length c = search needs
 
--- src/building.rt:86:9
 returns-2 : tie.Need-returns-2
 returns-2 c = finish-tuple (c .before .before .before .before .before .if1 .left) (c .before .before .before .before .if2 .taken) (c .before .before .retag .ensures)
 
--- src/building.rt:77:1
 returns-3 : tie.Need-returns-3
 returns-3 c = finish-value (c .before .if1 .left) (c .if2 .left)
 

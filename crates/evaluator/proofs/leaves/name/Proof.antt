@@ -8,63 +8,48 @@ use borrow.Author.Needs.{needs}
 use Rattle.evaluator.proofs.leaves.name.Statement.{statement}
 use Rattle.evaluator.proofs.leaves.name.Tie as tie
 
--- src/leaves.rt:74:9
 field-requires : tie.Need-field-requires
 field-requires c κs = field-name (c .before .before .pre .0) (c .before .before .pre .1)
 
--- src/leaves.rt:75:16
 mul-word : tie.Need-mul-word
 mul-word c = search needs
 
--- src/leaves.rt:75:16
 element-copy-out-word : tie.Need-element-copy-out-word
 element-copy-out-word c = name-below (c .before .before .before .pre .0) (c .before .before .before .pre .1) (c .field .ensures .0)
 
--- src/leaves.rt:76:9
 unpack-requires : tie.Need-unpack-requires
 unpack-requires c κs = search needs
 
--- src/leaves.rt:78:9
 refusal-requires : tie.Need-refusal-requires
 refusal-requires c κs = search needs
 
--- src/leaves.rt:78:9
 returns : tie.Need-returns
 returns c = refused-at 20 (omega arith) (c .before .before .before .before .before .before .before .before .pre .0) (c .refusal .ensures) (part-free (c .before .before .before .before .before .before .before .before .pre .0) (c .before .before .before .before .before .before .before .before .pre .1) (c .before .before .before .before .before .field .ensures .0) (c .before .before .before .unpack .ensures) (c .before .if1 .taken))
 
--- src/leaves.rt:80:14
 cast-at : tie.Need-cast-at
 cast-at c = search needs
 
--- src/leaves.rt:82:12
 kind-of-requires : tie.Need-kind-of-requires
 kind-of-requires c κs = part-whole (c .before .before .before .before .before .before .before .before .before .before .before .pre .0) (c .before .before .before .before .before .before .before .before .before .before .before .pre .1) (c .before .before .before .before .before .before .before .before .field .ensures .0) (c .before .before .before .before .before .before .unpack .ensures) (c .before .if2 .taken)
 
--- src/leaves.rt:83:17
 integer-at-requires : tie.Need-integer-at-requires
 integer-at-requires c κs = record { held = part-whole (c .before .before .before .before .before .before .before .before .before .before .before .before .before .before .pre .0) (c .before .before .before .before .before .before .before .before .before .before .before .before .before .before .pre .1) (c .before .before .before .before .before .before .before .before .before .before .before .field .ensures .0) (c .before .before .before .before .before .before .before .before .before .unpack .ensures) (c .before .before .before .before .if2 .taken); kind = sym (c .before .before .kind-of .ensures .is) ∙ c .before .if3 .taken }
 
--- src/leaves.rt:84:13
 put-integer-requires : tie.Need-put-integer-requires
 put-integer-requires c κs = (omega (arith, room-here (c .before .before .before .before .before .before .before .before .before .before .before .before .before .before .before .before .pre .0)), whole-range (toZ-ofZ (record { sfits = c .before .integer-at .ok })) (c .before .integer-at .ensures))
 
--- src/leaves.rt:85:13
 same-length : tie.Need-same-length
 same-length c = search needs
 
--- src/leaves.rt:85:13
 returns-2 : tie.Need-returns-2
 returns-2 c = part-number (c .before .before .before .before .before .before .before .before .before .before .before .before .before .before .before .before .before .before .before .pre .0) (c .before .before .before .before .before .before .before .before .before .before .before .before .before .before .before .before .before .before .before .pre .1) (c .before .before .before .before .before .before .before .before .before .before .before .before .before .before .before .before .field .ensures .0) (c .before .before .before .before .before .before .before .before .before .before .before .before .before .before .unpack .ensures) (c .before .before .before .before .before .before .before .before .before .if2 .taken) (toZ-ofZ (record { sfits = c .before .before .before .before .integer-at .ok })) (c .before .before .before .before .integer-at .ensures) (c .before .before .put-integer .ensures)
 
--- src/leaves.rt:88:5
 put-part-requires : tie.Need-put-part-requires
 put-part-requires c κs = part-held (c .before .before .before .before .before .before .before .before .before .before .before .pre .0) (c .before .before .before .before .before .before .before .before .before .before .before .pre .1) (c .before .before .before .before .before .before .before .before .field .ensures .0) (c .before .before .before .before .before .before .unpack .ensures) (c .before .before .before .before .if1 .left)
 
--- src/leaves.rt:62:1
 same-length-2 : tie.Need-same-length-2
 same-length-2 c = search needs
 
--- src/leaves.rt:62:1
 returns-3 : tie.Need-returns-3
 returns-3 c = part-done (c .before .before .before .before .before .before .before .before .before .before .before .before .before .before .pre .0) (c .before .before .before .before .before .before .before .before .before .before .before .before .before .before .pre .1) (c .before .before .before .before .before .before .before .before .before .before .before .field .ensures .0) (c .before .before .before .before .before .before .before .before .before .unpack .ensures) (c .before .before .before .before .before .before .before .if1 .left) (c .before .before .put-part .ensures)
 

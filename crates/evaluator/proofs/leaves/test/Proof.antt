@@ -5,23 +5,18 @@ use borrow.Author.Needs.{needs}
 use Rattle.evaluator.proofs.leaves.test.Statement.{statement}
 use Rattle.evaluator.proofs.leaves.test.Tie as tie
 
--- src/leaves.rt:83:9
 kind-of-requires : tie.Need-kind-of-requires
 kind-of-requires c κs = search needs
 
--- src/leaves.rt:85:9
 returns : tie.Need-returns
 returns c = λ v a. no-boolean (c .before .kind-of .ensures) (c .if1 .taken) v a
 
--- src/leaves.rt:87:9
 boolean-at-requires : tie.Need-boolean-at-requires
 boolean-at-requires c κs = search needs
 
--- src/leaves.rt:89:9
 returns-2 : tie.Need-returns-2
 returns-2 c = told-boolean true (c .before .boolean-at .ensures) (c .if2 .taken)
 
--- src/leaves.rt:79:1
 returns-3 : tie.Need-returns-3
 returns-3 c = told-boolean false (c .before .boolean-at .ensures) (c .if2 .left)
 

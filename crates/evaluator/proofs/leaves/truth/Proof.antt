@@ -5,19 +5,15 @@ use borrow.Author.Needs.{needs}
 use Rattle.evaluator.proofs.leaves.truth.Statement.{statement}
 use Rattle.evaluator.proofs.leaves.truth.Tie as tie
 
--- src/leaves.rt:48:9
 field-requires : tie.Need-field-requires
 field-requires c κs = field-one (c .before .before .pre .0) (c .before .before .pre .1)
 
--- src/leaves.rt:49:5
 put-boolean-requires : tie.Need-put-boolean-requires
 put-boolean-requires c κs = omega (arith, room-here (c .before .before .before .before .pre .0))
 
--- src/leaves.rt:44:1
 same-length : tie.Need-same-length
 same-length c = search needs
 
--- src/leaves.rt:44:1
 returns : tie.Need-returns
 returns c = truth-done (c .before .before .before .before .before .before .before .pre .0) (c .before .before .before .before .before .before .before .pre .1) (c .before .before .before .before .field .ensures .0) (c .before .before .put-boolean .ensures)
 

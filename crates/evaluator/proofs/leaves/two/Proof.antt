@@ -3,39 +3,30 @@ use borrow.Author.Needs.{needs}
 use Rattle.evaluator.proofs.leaves.two.Statement.{statement}
 use Rattle.evaluator.proofs.leaves.two.Tie as tie
 
--- src/leaves.rt:100:9
 binary-requires : tie.Need-binary-requires
 binary-requires c κs = (c .before .before .before .pre .0, two-operator (c .before .before .before .pre .1) (c .before .if1 .taken))
 
--- src/leaves.rt:100:9
 same-length : tie.Need-same-length
 same-length c = search needs
 
--- src/leaves.rt:100:9
 returns : tie.Need-returns
 returns c = two-binary (c .before .before .before .before .before .before .args .k) (c .before .before .before .before .before .before .args .op) (c .before .before .before .before .if1 .taken) (c .before .before .binary .ensures)
 
--- src/leaves.rt:103:9
 range-requires : tie.Need-range-requires
 range-requires c κs = search needs
 
--- src/leaves.rt:103:9
 same-length-2 : tie.Need-same-length-2
 same-length-2 c = search needs
 
--- src/leaves.rt:103:9
 returns-2 : tie.Need-returns-2
 returns-2 c = two-range (c .before .before .before .before .before .before .before .args .k) (c .before .before .before .before .before .before .before .args .op) (c .before .before .before .before .before .if1 .left) (c .before .before .before .before .if2 .taken) (c .before .before .range .ensures)
 
--- src/leaves.rt:105:5
 apply-requires : tie.Need-apply-requires
 apply-requires c κs = search needs
 
--- src/leaves.rt:95:1
 same-length-3 : tie.Need-same-length-3
 same-length-3 c = search needs
 
--- src/leaves.rt:95:1
 returns-3 : tie.Need-returns-3
 returns-3 c = two-apply (c .before .before .before .before .before .before .before .args .k) (c .before .before .before .before .before .before .before .args .op) (c .before .before .before .before .before .if1 .left) (c .before .before .before .before .if2 .left) (c .before .before .apply .ensures)
 

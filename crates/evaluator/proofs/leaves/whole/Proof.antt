@@ -8,19 +8,15 @@ use borrow.Author.Needs.{needs}
 use Rattle.evaluator.proofs.leaves.whole.Statement.{statement}
 use Rattle.evaluator.proofs.leaves.whole.Tie as tie
 
--- src/leaves.rt:58:9
 integer-requires : tie.Need-integer-requires
 integer-requires c κs = field-four (c .before .before .pre .0) (c .before .before .pre .1)
 
--- src/leaves.rt:59:5
 put-integer-requires : tie.Need-put-integer-requires
 put-integer-requires c κs = (omega (arith, room-here (c .before .before .before .before .pre .0)), subst InRange (sym (toZ-ofZ (record { sfits = c .before .integer .ok }) ∙ c .before .integer .ensures)) (integer-number (c .before .before .before .before .pre .0) (c .before .before .before .before .pre .1)))
 
--- src/leaves.rt:54:1
 same-length : tie.Need-same-length
 same-length c = search needs
 
--- src/leaves.rt:54:1
 returns : tie.Need-returns
 returns c = whole-done (c .before .before .before .before .before .before .before .pre .0) (c .before .before .before .before .before .before .before .pre .1) (toZ-ofZ (record { sfits = c .before .before .before .before .integer .ok }) ∙ c .before .before .before .before .integer .ensures) (c .before .before .put-integer .ensures)
 

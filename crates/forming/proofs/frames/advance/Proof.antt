@@ -7,19 +7,15 @@ use Rattle.forming.proofs.frames.advance.Reads as reads
 use Rattle.forming.proofs.frames.advance.Lts as lts
 use Rattle.forming.proofs.frames.store.Reads as store-reads
 
--- src/frames.rt:153:9
 store-requires : tie.Need-store-requires
 store-requires c κs = c .before .before .before .pre
 
--- src/frames.rt:154:16
 add-result : tie.Need-add-result
 add-result c = omega (arith, c .before .before .before .before .pre .0)
 
--- src/frames.rt:154:9
 returns : tie.Need-returns
 returns c = advanced _ _ _ _ _ refl (omega arith) (c .store .ensures)
 
--- src/frames.rt:147:1
 returns-2 : tie.Need-returns-2
 returns-2 c = not-advanced _ _ _ (omega arith)
 

@@ -7,135 +7,102 @@ use Rattle.forming.proofs.frames.frame_of.Lts as lts
 use Rattle.forming.proofs.frames.wide.Reads as wide-reads
 use Rattle.forming.proofs.frames.word.Reads as word-reads
 
--- src/frames.rt:61:16
 array-read-t12 : tie.Need-array-read-t12
 array-read-t12 c = search needs
 
--- src/frames.rt:62:15
 array-read-t15 : tie.Need-array-read-t15
 array-read-t15 c = search needs
 
--- src/frames.rt:65:16
 array-read-t12-2 : tie.Need-array-read-t12-2
 array-read-t12-2 c = search needs
 
--- src/frames.rt:66:15
 array-read-t15-2 : tie.Need-array-read-t15-2
 array-read-t15-2 c = search needs
 
--- src/frames.rt:69:16
 array-read-t12-3 : tie.Need-array-read-t12-3
 array-read-t12-3 c = search needs
 
--- src/frames.rt:73:18
 array-read-word : tie.Need-array-read-word
 array-read-word c = search needs
 
--- src/frames.rt:73:24
 array-read-word-2 : tie.Need-array-read-word-2
 array-read-word-2 c = search needs
 
--- src/frames.rt:73:30
 array-read-word-3 : tie.Need-array-read-word-3
 array-read-word-3 c = search needs
 
--- src/frames.rt:73:36
 array-read-word-4 : tie.Need-array-read-word-4
 array-read-word-4 c = search needs
 
--- src/frames.rt:73:9
 word-requires : tie.Need-word-requires
 word-requires c κs = search needs
 
--- src/frames.rt:74:21
 array-read-word-5 : tie.Need-array-read-word-5
 array-read-word-5 c = search needs
 
--- src/frames.rt:74:28
 array-read-word-6 : tie.Need-array-read-word-6
 array-read-word-6 c = search needs
 
--- src/frames.rt:74:35
 array-read-word-7 : tie.Need-array-read-word-7
 array-read-word-7 c = search needs
 
--- src/frames.rt:74:42
 array-read-word-8 : tie.Need-array-read-word-8
 array-read-word-8 c = search needs
 
--- src/frames.rt:74:9
 word-requires-2 : tie.Need-word-requires-2
 word-requires-2 c κs = search needs
 
--- src/frames.rt:75:20
 array-read-wide : tie.Need-array-read-wide
 array-read-wide c = search needs
 
--- src/frames.rt:75:9
 wide-requires : tie.Need-wide-requires
 wide-requires c κs = search needs
 
--- src/frames.rt:76:21
 array-read-wide-2 : tie.Need-array-read-wide-2
 array-read-wide-2 c = search needs
 
--- src/frames.rt:76:9
 wide-requires-2 : tie.Need-wide-requires-2
 wide-requires-2 c κs = search needs
 
--- src/frames.rt:80:13
 array-read-t15-3 : tie.Need-array-read-t15-3
 array-read-t15-3 c = search needs
 
--- src/frames.rt:80:13
 cast-t47 : tie.Need-cast-t47
 cast-t47 c = search needs
 
--- src/frames.rt:81:15
 array-read-t12-4 : tie.Need-array-read-t12-4
 array-read-t12-4 c = search needs
 
--- src/frames.rt:81:15
 cast-t50 : tie.Need-cast-t50
 cast-t50 c = search needs
 
--- src/frames.rt:82:14
 array-read-t29 : tie.Need-array-read-t29
 array-read-t29 c = search needs
 
--- src/frames.rt:82:14
 cast-t53 : tie.Need-cast-t53
 cast-t53 c = search needs
 
--- src/frames.rt:83:14
 array-read-t32 : tie.Need-array-read-t32
 array-read-t32 c = search needs
 
--- src/frames.rt:83:14
 cast-t56 : tie.Need-cast-t56
 cast-t56 c = search needs
 
--- src/frames.rt:84:15
 array-read-t59 : tie.Need-array-read-t59
 array-read-t59 c = search needs
 
--- src/frames.rt:84:15
 cast-t60 : tie.Need-cast-t60
 cast-t60 c = search needs
 
--- src/frames.rt:85:21
 mul-t61 : tie.Need-mul-t61
 mul-t61 c = search needs
 
--- src/frames.rt:85:15
 add-t62 : tie.Need-add-t62
 add-t62 c = search needs
 
--- src/frames.rt:86:15
 array-read-t65 : tie.Need-array-read-t65
 array-read-t65 c = search needs
 
--- src/frames.rt:57:1
 returns : tie.Need-returns
 returns c = rw (c .before .before .before .word .ensures, c .before .before .word2 .ensures, c .before .wide .ensures .0, c .wide2 .ensures .0) refl
 

@@ -8,31 +8,24 @@ use Rattle.forming.proofs.frames.go_on.Tie as tie
 use Rattle.forming.proofs.frames.go_on.Reads as reads
 use Rattle.forming.proofs.frames.go_on.Lts as lts
 
--- src/frames.rt:186:30
 cast-frames : tie.Need-cast-frames
 cast-frames c = search needs
 
--- src/frames.rt:186:16
 mul-frames : tie.Need-mul-frames
 mul-frames c = search needs
 
--- src/frames.rt:186:16
 add-frames : tie.Need-add-frames
 add-frames c = search needs
 
--- src/frames.rt:186:9
 element-write-frames : tie.Need-element-write-frames
 element-write-frames c = search needs
 
--- src/frames.rt:187:16
 add-result : tie.Need-add-result
 add-result c = search needs
 
--- src/frames.rt:187:9
 returns : tie.Need-returns
 returns c = way-put _ _ (c .before .pre .0) (c .before .pre .1) _ (omega (arith, c .before .pre .3)) _ refl
 
--- src/frames.rt:181:1
 returns-2 : tie.Need-returns-2
 returns-2 c = not-advanced _ _ (onto (frameAt (c .before .args .frames .now) (c .before .args .i)) (c .before .args .way)) (omega (arith, c .before .pre .3))
 

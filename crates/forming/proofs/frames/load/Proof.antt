@@ -7,15 +7,12 @@ use Rattle.forming.proofs.frames.load.Lts as lts
 use Rattle.forming.proofs.frames.slot.Reads as slot-reads
 use Rattle.forming.proofs.frames.frame_of.Reads as frame-of-reads
 
--- src/frames.rt:82:9
 slot-requires : tie.Need-slot-requires
 slot-requires c κs = c .pre
 
--- src/frames.rt:83:5
 frame-of-requires : tie.Need-frame-of-requires
 frame-of-requires c κs = tt
 
--- src/frames.rt:78:1
 returns : tie.Need-returns
 returns c = c .frame-of .ensures ∙ ap frameOf (c .before .slot .ensures)
 

@@ -13,39 +13,30 @@ Inv-loop frames₀ i bytes j₀ frames j = SlotWritten frames₀ i bytes frames 
 abbrev μ-loop : tie.MeasureT-loop
 μ-loop frames₀ i bytes j₀ frames j = 21 - j
 
--- src/frames.rt:121:5
 loop-holds : tie.Need-loop-holds Inv-loop μ-loop
 loop-holds c = written-start _ _ _
 
--- src/frames.rt:122:17
 array-read-b : tie.Need-array-read-b Inv-loop μ-loop
 array-read-b c = omega (arith, c .before .before .pre .2)
 
--- src/frames.rt:123:16
 mul-frames : tie.Need-mul-frames Inv-loop μ-loop
 mul-frames c = omega (arith, c .before .before .pre .0)
 
--- src/frames.rt:123:16
 add-frames : tie.Need-add-frames Inv-loop μ-loop
 add-frames c = omega (arith, c .before .before .pre .0)
 
--- src/frames.rt:123:9
 element-write-frames : tie.Need-element-write-frames Inv-loop μ-loop
 element-write-frames c = omega (arith, c .before .before .pre .0, c .before .before .pre .1, c .before .loop .inv .long)
 
--- src/frames.rt:124:9
 add-j : tie.Need-add-j Inv-loop μ-loop
 add-j c = omega arith
 
--- src/frames.rt:121:5
 loop-less : tie.Need-loop-less Inv-loop μ-loop
 loop-less c = omega arith
 
--- src/frames.rt:121:5
 loop-again : tie.Need-loop-again Inv-loop μ-loop
 loop-again c = written-more _ _ _ _ _ _ (c .before .before .pre .0) (c .before .before .pre .1) (omega arith) refl (c .before .loop .inv)
 
--- src/frames.rt:116:1
 returns : tie.Need-returns Inv-loop μ-loop
 returns c = written-end _ _ _ _ _ (c .before .before .pre .0) (c .before .before .pre .1) (c .before .before .pre .2) (omega arith) (c .before .loop .inv)
 

@@ -13,39 +13,30 @@ Inv-loop frames i bytes₀ j₀ bytes j = SlotRead frames i bytes j
 abbrev μ-loop : tie.MeasureT-loop
 μ-loop frames i bytes₀ j₀ bytes j = 21 - j
 
--- src/frames.rt:30:5
 loop-holds : tie.Need-loop-holds Inv-loop μ-loop
 loop-holds c = read-start _ _ _ refl
 
--- src/frames.rt:31:24
 mul-b : tie.Need-mul-b Inv-loop μ-loop
 mul-b c = omega (arith, c .before .before .pre .0)
 
--- src/frames.rt:31:24
 add-b : tie.Need-add-b Inv-loop μ-loop
 add-b c = omega (arith, c .before .before .pre .0)
 
--- src/frames.rt:31:17
 element-copy-out-b : tie.Need-element-copy-out-b Inv-loop μ-loop
 element-copy-out-b c = omega (arith, c .before .before .pre .0, c .before .before .pre .1)
 
--- src/frames.rt:32:9
 array-write-bytes : tie.Need-array-write-bytes Inv-loop μ-loop
 array-write-bytes c = omega (arith, c .before .before .loop .inv .long)
 
--- src/frames.rt:33:9
 add-j : tie.Need-add-j Inv-loop μ-loop
 add-j c = omega arith
 
--- src/frames.rt:30:5
 loop-less : tie.Need-loop-less Inv-loop μ-loop
 loop-less c = omega arith
 
--- src/frames.rt:30:5
 loop-again : tie.Need-loop-again Inv-loop μ-loop
 loop-again c = read-more _ _ _ _ _ (omega arith) refl (c .before .before .loop .inv)
 
--- src/frames.rt:24:1
 returns : tie.Need-returns Inv-loop μ-loop
 returns c = read-end _ _ _ _ (c .before .before .pre .0) (c .before .before .pre .1) (omega arith) (c .before .loop .inv)
 

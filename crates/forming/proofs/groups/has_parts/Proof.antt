@@ -10,34 +10,27 @@ use Rattle.forming.proofs.groups.has_parts.Lts as lts
 use Rattle.forming.proofs.wild.count_only.Reads as count-only-reads
 use Rattle.tables.proofs.reading.kind.Reads as kind-reads
 
--- src/groups.rt:152:9
 returns : tie.Need-returns
 returns c = parts-group _ _ _ (c .before .before .pre) (omega arith)
 
--- src/groups.rt:155:9
 returns-2 : tie.Need-returns-2
 returns-2 c = parts-wild _ _ _ (omega arith) (omega arith)
 
--- src/groups.rt:158:9
 returns-3 : tie.Need-returns-3
 returns-3 c = parts-stripped _ _ _ (c .before .before .before .before .pre) (omega arith) (omega arith)
 
--- src/groups.rt:160:9
 kind-requires : tie.Need-kind-requires
 kind-requires c κs = code-record _ _ _ (c .before .before .before .before .pre) (omega arith) .here
 
--- src/groups.rt:162:9
 is-composed-requires : tie.Need-is-composed-requires
 is-composed-requires c κs = c .kind .ensures .1
 
 returns-4 : tie.Need-returns-4
 returns-4 c = parts-leaf _ _ _ (c .before .before .before .before .before .before .before .pre) (omega arith) (composed-told (c .before .before .kind .ensures .0) (c .before .is-composed .ensures) (not-true _ (c .if4 .taken)))
 
--- src/groups.rt:164:9
 count-only-requires : tie.Need-count-only-requires
 count-only-requires c κs = code-record _ _ _ (c .before .before .before .before .before .before .before .pre) (omega arith)
 
--- src/groups.rt:147:1
 returns-5 : tie.Need-returns-5
 returns-5 c = parts-count _ _ _ (c .before .before .before .before .before .before .before .before .before .pre) (omega arith) (composed-told (c .before .before .before .before .kind .ensures .0) (c .before .before .before .is-composed .ensures) (not-false _ (c .before .before .if4 .left))) _ (c .before .count-only .ensures)
 

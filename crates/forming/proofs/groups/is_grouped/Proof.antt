@@ -15,43 +15,33 @@ use Rattle.forming.proofs.settled.either.Reads as either-reads
 use Rattle.tables.proofs.reading.kind.Reads as kind-reads
 use Rattle.tables.proofs.reading.operand.Reads as operand-reads
 
--- src/groups.rt:54:9
 operand-requires : tie.Need-operand-requires
 operand-requires c κs = has-operand _ _ _ (c .before .pre .0) 0 (omega (arith, (two-halves _ _ _ (c .before .pre .0) 38 (c .before .pre .1) (inl refl))))
 
--- src/groups.rt:55:9
 kind-requires : tie.Need-kind-requires
 kind-requires c κs = operand-readable _ _ _ (c .before .before .pre .0) 0 (omega (arith, (two-halves _ _ _ (c .before .before .pre .0) 38 (c .before .before .pre .1) (inl refl)))) _ (c .operand .ensures .0) .0 .here
 
--- src/groups.rt:56:9
 operand-requires-2 : tie.Need-operand-requires-2
 operand-requires-2 c κs = has-operand _ _ _ (c .before .before .before .pre .0) 1 (omega (arith, (two-halves _ _ _ (c .before .before .before .pre .0) 38 (c .before .before .before .pre .1) (inl refl))))
 
--- src/groups.rt:57:9
 kind-requires-2 : tie.Need-kind-requires-2
 kind-requires-2 c κs = operand-readable _ _ _ (c .before .before .before .before .pre .0) 1 (omega (arith, (two-halves _ _ _ (c .before .before .before .before .pre .0) 38 (c .before .before .before .before .pre .1) (inl refl)))) _ (c .operand2 .ensures .0) .0 .here
 
--- src/groups.rt:58:23
 is-set-requires : tie.Need-is-set-requires
 is-set-requires c κs = tt
 
--- src/groups.rt:58:37
 is-set-requires-2 : tie.Need-is-set-requires-2
 is-set-requires-2 c κs = tt
 
--- src/groups.rt:58:9
 either-requires : tie.Need-either-requires
 either-requires c κs = tt
 
--- src/groups.rt:60:9
 returns : tie.Need-returns
 returns c = λ e. true-false (sym e)
 
--- src/groups.rt:62:5
 is-low-requires : tie.Need-is-low-requires
 is-low-requires c κs = c .before .before .before .before .before .before .before .before .before .pre .0
 
--- src/groups.rt:50:1
 returns-2 : tie.Need-returns-2
 returns-2 c = λ e. grouped-low _ (sym (c .is-low .ensures) ∙ e)
 

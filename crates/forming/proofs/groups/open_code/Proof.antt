@@ -13,43 +13,33 @@ use Rattle.forming.proofs.leaves.tail.Reads as tail-reads
 use Rattle.forming.proofs.sizes.pair.Reads as pair-reads
 use Rattle.forming.proofs.sizes.sizes_of.Reads as sizes-of-reads
 
--- src/groups.rt:96:13
 sizes-of-requires : tie.Need-sizes-of-requires
 sizes-of-requires c κs = record { readable = open-asked _ _ _ _ (c .before .before .pre); of-kind = c .before .before .pre .of-kind }
 
--- src/groups.rt:97:9
 returns : tie.Need-returns
 returns c = opened-record _ _ _ _ (c .before .before .before .pre) (omega arith) _ (omega arith) _ refl (c .sizes-of .ensures)
 
--- src/groups.rt:100:9
 tail-requires : tie.Need-tail-requires
 tail-requires c κs = survey-rest _ _ _ _ (c .before .before .pre) (omega arith)
 
--- src/groups.rt:101:9
 in-order-requires : tie.Need-in-order-requires
 in-order-requires c κs = rest-asked _ _ _ _ (c .before .before .before .pre) (omega arith) _ (c .tail .ensures)
 
--- src/groups.rt:102:9
 leaf-size-requires : tie.Need-leaf-size-requires
 leaf-size-requires c κs = leaf-asked _ _ _ _ (c .before .before .before .before .pre) (omega arith)
 
--- src/groups.rt:103:9
 pair-requires : tie.Need-pair-requires
 pair-requires c κs = search needs
 
--- src/groups.rt:104:24
 add-if2 : tie.Need-add-if2
 add-if2 c = search needs
 
--- src/groups.rt:105:9
 returns-2 : tie.Need-returns-2
 returns-2 c = opened-last _ _ _ _ (c .before .before .before .before .before .before .before .before .pre) (omega arith) _ (c .before .before .before .before .in-order .ensures) _ (c .before .before .before .leaf-size .ensures) _ (c .before .before .pair .ensures) (c .if2 .taken)
 
--- src/groups.rt:110:9
 code-requires : tie.Need-code-requires
 code-requires c κs = (omega arith, rest-low _ _ _ _ (c .before .before .before .before .before .before .before .before .pre) (omega arith) _ (c .before .before .before .before .in-order .ensures) (c .if2 .left), rest-place _ _ _ _ (c .before .before .before .before .before .before .before .before .pre) (omega arith) _ (c .before .before .before .before .in-order .ensures) (c .if2 .left))
 
--- src/groups.rt:90:1
 returns-3 : tie.Need-returns-3
 returns-3 c = opened-more _ _ _ _ (c .before .before .before .before .before .before .before .before .before .pre) (omega arith) _ (c .before .before .before .before .before .in-order .ensures) _ (c .before .before .before .before .leaf-size .ensures) _ (c .before .before .before .pair .ensures) (c .before .if2 .left) _ (c .code .ensures)
 

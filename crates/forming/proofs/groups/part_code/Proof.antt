@@ -8,27 +8,21 @@ use Rattle.forming.proofs.groups.part_code.Lts as lts
 use Rattle.forming.proofs.leaves.kept_part.Reads as kept-part-reads
 use Rattle.tables.proofs.reading.operand.Reads as operand-reads
 
--- src/groups.rt:120:9
 operand-requires : tie.Need-operand-requires
 operand-requires c κs = has-operand _ _ _ (code-record _ _ _ (c .before .before .pre .code .held) (omega arith)) _ (part-has _ _ _ _ _ (c .before .before .pre) (omega arith))
 
--- src/groups.rt:120:9
 returns : tie.Need-returns
 returns c = part-record _ _ _ _ _ (c .before .before .before .pre) (omega arith) _ (c .operand .ensures .0)
 
--- src/groups.rt:123:9
 kept-part-requires : tie.Need-kept-part-requires
 kept-part-requires c κs = kept-asked _ _ _ _ _ (c .before .before .before .pre) (omega arith) (omega arith)
 
--- src/groups.rt:123:9
 returns-2 : tie.Need-returns-2
 returns-2 c = part-kept _ _ _ _ _ (c .before .before .before .before .pre) (omega arith) (omega arith) _ (c .kept-part .ensures)
 
--- src/groups.rt:126:9
 returns-3 : tie.Need-returns-3
 returns-3 c = part-first _ _ _ _ _ (c .before .before .before .before .pre) (omega arith) (c .if3 .taken)
 
--- src/groups.rt:115:1
 returns-4 : tie.Need-returns-4
 returns-4 c = part-second _ _ _ _ _ (c .before .before .before .before .pre) (omega arith) (c .if3 .left)
 

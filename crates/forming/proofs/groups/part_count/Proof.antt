@@ -8,27 +8,21 @@ use Rattle.forming.proofs.groups.part_count.Lts as lts
 use Rattle.forming.proofs.leaves.plain_parts.Reads as plain-parts-reads
 use Rattle.tables.proofs.reading.operand_count.Reads as operand-count-reads
 
--- src/groups.rt:137:9
 operand-count-requires : tie.Need-operand-count-requires
 operand-count-requires c κs = code-record _ _ _ (c .before .before .pre .held) (omega arith) .here
 
--- src/groups.rt:137:9
 returns : tie.Need-returns
 returns c = let e = count-record _ _ _ (c .before .before .before .pre) (omega arith) _ (c .operand-count .ensures .0) in (e, omega (arith, e, parts-few _ _ _ (c .before .before .before .pre)))
 
--- src/groups.rt:140:13
 plain-parts-requires : tie.Need-plain-parts-requires
 plain-parts-requires c κs = let s = code-stripped _ _ _ (c .before .before .before .pre .held) (omega arith) (omega arith) in (s .readable, s .of-kind)
 
--- src/groups.rt:141:16
 sub-result : tie.Need-sub-result
 sub-result c = count-set _ _ _ (c .before .before .before .before .before .pre) (omega arith) (omega arith) _ (c .before .plain-parts .ensures) .0
 
--- src/groups.rt:141:9
 returns-2 : tie.Need-returns-2
 returns-2 c = let e = count-set _ _ _ (c .before .before .before .before .before .pre) (omega arith) (omega arith) _ (c .before .plain-parts .ensures) .1 _ refl in (e, omega (arith, e, parts-few _ _ _ (c .before .before .before .before .before .pre)))
 
--- src/groups.rt:132:1
 returns-3 : tie.Need-returns-3
 returns-3 c = (count-group _ _ _ (c .before .before .before .pre) (omega arith), omega arith)
 

@@ -13,47 +13,36 @@ use Rattle.forming.proofs.leaves.tail.Reads as tail-reads
 use Rattle.forming.proofs.reduced.reduced.Reads as reduced-reads
 use Rattle.tables.proofs.reading.kind.Reads as kind-reads
 
--- src/groups.rt:71:9
 returns : tie.Need-returns
 returns c = regroup-self _ _ _ (c .before .before .pre)
 
--- src/groups.rt:73:9
 kind-requires : tie.Need-kind-requires
 kind-requires c κs = record-of _ _ _ (c .before .before .pre) (omega arith) .here
 
--- src/groups.rt:75:9
 reduced-requires : tie.Need-reduced-requires
 reduced-requires c κs = (record-of _ _ _ (c .before .before .before .before .pre) (omega arith), record-composed _ _ _ (c .before .before .before .before .pre) (omega arith))
 
--- src/groups.rt:75:9
 returns-2 : tie.Need-returns-2
 returns-2 c = regroup-reduced _ _ _ (c .before .before .before .before .before .pre) (omega arith) _ (c .reduced .ensures)
 
--- src/groups.rt:77:9
 is-grouped-requires : tie.Need-is-grouped-requires
 is-grouped-requires c κs = (record-of _ _ _ (c .before .before .before .before .pre) (omega arith), (sym (c .before .kind .ensures .0) ∙ c .if2 .left))
 
--- src/groups.rt:79:9
 returns-3 : tie.Need-returns-3
 returns-3 c = regroup-self _ _ _ (c .before .before .before .before .before .before .pre)
 
--- src/groups.rt:81:9
 tail-requires : tie.Need-tail-requires
 tail-requires c κs = survey-asked _ _ _ (c .before .before .before .before .before .before .pre) (omega arith) (sym (c .before .before .before .kind .ensures .0) ∙ c .before .before .if2 .left) (c .before .is-grouped .ensures (not-false _ (c .if3 .left)))
 
--- src/groups.rt:83:9
 returns-4 : tie.Need-returns-4
 returns-4 c = regroup-self _ _ _ (c .before .before .before .before .before .before .before .before .before .pre)
 
--- src/groups.rt:85:9
 in-order-requires : tie.Need-in-order-requires
 in-order-requires c κs = order-asked _ _ _ (c .before .before .before .before .before .before .before .before .before .pre) (omega arith) (sym (c .before .before .before .before .before .before .kind .ensures .0) ∙ c .before .before .before .before .before .if2 .left) (c .before .before .before .before .is-grouped .ensures (not-false _ (c .before .before .before .if3 .left))) _ (c .before .before .tail .ensures) (omega arith)
 
--- src/groups.rt:86:5
 code-requires : tie.Need-code-requires
 code-requires c κs = (omega arith, code-asked _ _ _ (c .before .before .before .before .before .before .before .before .before .before .pre) (omega arith) (sym (c .before .before .before .before .before .before .before .kind .ensures .0) ∙ c .before .before .before .before .before .before .if2 .left) (c .before .before .before .before .before .is-grouped .ensures (not-false _ (c .before .before .before .before .if3 .left))) _ (c .before .before .before .tail .ensures) (omega arith) _ (c .in-order .ensures), omega arith)
 
--- src/groups.rt:66:1
 returns-5 : tie.Need-returns-5
 returns-5 c = regroup-union _ _ _ (c .before .before .before .before .before .before .before .before .before .before .before .pre) (omega arith) (sym (c .before .before .before .before .before .before .before .before .kind .ensures .0) ∙ c .before .before .before .before .before .before .before .if2 .left) (c .before .before .before .before .before .before .is-grouped .ensures (not-false _ (c .before .before .before .before .before .if3 .left))) _ (c .before .before .before .before .tail .ensures) (omega arith) _ (c .before .in-order .ensures) _ (c .code .ensures)
 

@@ -32,7 +32,6 @@ is-low-Inv-loop table index p most k n i₀ i = LowTo table p (most - 1) i
 abbrev is-low-μ-loop : is-low-lts.MeasureT-loop
 is-low-μ-loop table index p most k n i₀ i = n - i
 
--- src/heights.rt:19:9
 is-low-returns : (t : ℕ) → is-low-lts.Need-returns (
   kind-reads.Asked,
   kind-reads.Learnt,
@@ -47,7 +46,6 @@ is-low-returns : (t : ℕ) → is-low-lts.Need-returns (
 ) (is-low-at t) is-low.Post is-low-Inv-loop is-low-μ-loop
 is-low-returns t c = none-low _ _ _ (c .before .before .pre .1) _ (c .if1 .taken)
 
--- src/heights.rt:21:9
 is-low-kind-requires : (t : ℕ) → is-low-lts.Need-kind-requires (
   kind-reads.Asked,
   kind-reads.Learnt,
@@ -62,7 +60,6 @@ is-low-kind-requires : (t : ℕ) → is-low-lts.Need-kind-requires (
 ) (is-low-at t) is-low.Post is-low-Inv-loop is-low-μ-loop
 is-low-kind-requires t c κs = c .before .before .pre .1 .here
 
--- src/heights.rt:23:9
 is-low-is-composed-requires : (t : ℕ) → is-low-lts.Need-is-composed-requires (
   kind-reads.Asked,
   kind-reads.Learnt,
@@ -91,7 +88,6 @@ is-low-returns-2 : (t : ℕ) → is-low-lts.Need-returns-2 (
 ) (is-low-at t) is-low.Post is-low-Inv-loop is-low-μ-loop
 is-low-returns-2 t c = leaf-low _ _ _ (c .before .before .before .before .before .pre .1) _ (c .before .before .before .if1 .left) (composed-told (c .before .before .kind .ensures .0) (c .before .is-composed .ensures) (not-true _ (c .if2 .taken)))
 
--- src/heights.rt:25:9
 is-low-operand-count-requires : (t : ℕ) → is-low-lts.Need-operand-count-requires (
   kind-reads.Asked,
   kind-reads.Learnt,
@@ -106,7 +102,6 @@ is-low-operand-count-requires : (t : ℕ) → is-low-lts.Need-operand-count-requ
 ) (is-low-at t) is-low.Post is-low-Inv-loop is-low-μ-loop
 is-low-operand-count-requires t c κs = c .before .before .before .before .before .pre .1 .here
 
--- src/heights.rt:27:5
 is-low-loop-holds : (t : ℕ) → is-low-lts.Need-loop-holds (
   kind-reads.Asked,
   kind-reads.Learnt,
@@ -121,7 +116,6 @@ is-low-loop-holds : (t : ℕ) → is-low-lts.Need-loop-holds (
 ) (is-low-at t) is-low.Post is-low-Inv-loop is-low-μ-loop
 is-low-loop-holds t c = low-start _ _ _
 
--- src/heights.rt:28:13
 is-low-operand-requires : (t : ℕ) → is-low-lts.Need-operand-requires (
   kind-reads.Asked,
   kind-reads.Learnt,
@@ -136,7 +130,6 @@ is-low-operand-requires : (t : ℕ) → is-low-lts.Need-operand-requires (
 ) (is-low-at t) is-low.Post is-low-Inv-loop is-low-μ-loop
 is-low-operand-requires t c κs = has-operand _ _ _ (c .before .before .before .before .before .before .before .before .pre .1) _ (omega (arith, c .before .before .operand-count .ensures .0))
 
--- src/heights.rt:29:43
 is-low-sub-is-low : (t : ℕ) → is-low-lts.Need-sub-is-low (
   kind-reads.Asked,
   kind-reads.Learnt,
@@ -151,7 +144,6 @@ is-low-sub-is-low : (t : ℕ) → is-low-lts.Need-sub-is-low (
 ) (is-low-at t) is-low.Post is-low-Inv-loop is-low-μ-loop
 is-low-sub-is-low t c = positive _ (c .before .before .before .before .before .before .before .if1 .left)
 
--- src/heights.rt:29:13
 is-low-is-low-requires : (t : ℕ) → is-low-lts.Need-is-low-requires (
   kind-reads.Asked,
   kind-reads.Learnt,
@@ -166,7 +158,6 @@ is-low-is-low-requires : (t : ℕ) → is-low-lts.Need-is-low-requires (
 ) (is-low-at t) is-low.Post is-low-Inv-loop is-low-μ-loop
 is-low-is-low-requires t c κs = let o = operand-readable _ _ _ (c .before .before .before .before .before .before .before .before .before .pre .1) _ (omega (arith, c .before .before .before .operand-count .ensures .0)) _ (c .operand .ensures .0) in (omega (arith, o .1, c .before .before .before .before .before .before .before .before .before .pre .0), o .0)
 
--- src/heights.rt:31:13
 is-low-returns-3 : (t : ℕ) → is-low-lts.Need-returns-3 (
   kind-reads.Asked,
   kind-reads.Learnt,
@@ -181,7 +172,6 @@ is-low-returns-3 : (t : ℕ) → is-low-lts.Need-returns-3 (
 ) (is-low-at t) is-low.Post is-low-Inv-loop is-low-μ-loop
 is-low-returns-3 t c = some-high _ _ _ (c .before .before .before .before .before .before .before .before .before .before .before .pre .1) _ _ _ (c .before .before .before .before .before .before .before .before .before .if1 .left) (omega (arith, c .before .before .before .before .before .operand-count .ensures .0)) (c .before .before .operand .ensures .0) _ (c .before .is-low .ensures) (not-true _ (c .if3 .taken))
 
--- src/heights.rt:33:9
 is-low-add-i : (t : ℕ) → is-low-lts.Need-add-i (
   kind-reads.Asked,
   kind-reads.Learnt,
@@ -196,7 +186,6 @@ is-low-add-i : (t : ℕ) → is-low-lts.Need-add-i (
 ) (is-low-at t) is-low.Post is-low-Inv-loop is-low-μ-loop
 is-low-add-i t c = omega (arith, c .before .before .before .before .before .operand-count .ensures .1)
 
--- src/heights.rt:27:5
 is-low-loop-less : (t : ℕ) → is-low-lts.Need-loop-less (
   kind-reads.Asked,
   kind-reads.Learnt,
@@ -211,7 +200,6 @@ is-low-loop-less : (t : ℕ) → is-low-lts.Need-loop-less (
 ) (is-low-at t) is-low.Post is-low-Inv-loop is-low-μ-loop
 is-low-loop-less t c = omega arith
 
--- src/heights.rt:27:5
 is-low-loop-again : (t : ℕ) → is-low-lts.Need-loop-again (
   kind-reads.Asked,
   kind-reads.Learnt,
@@ -226,7 +214,6 @@ is-low-loop-again : (t : ℕ) → is-low-lts.Need-loop-again (
 ) (is-low-at t) is-low.Post is-low-Inv-loop is-low-μ-loop
 is-low-loop-again t c = low-more _ _ _ (c .before .before .before .before .before .before .before .before .before .before .before .pre .1) _ _ _ (c .before .before .before .before .before .before .before .before .before .if1 .left) (omega (arith, c .before .before .before .before .before .operand-count .ensures .0)) (c .before .before .operand .ensures .0) (c .before .before .before .before .loop .inv) _ (c .before .is-low .ensures) (not-false _ (c .if3 .left))
 
--- src/heights.rt:14:1
 is-low-returns-4 : (t : ℕ) → is-low-lts.Need-returns-4 (
   kind-reads.Asked,
   kind-reads.Learnt,

@@ -35,7 +35,6 @@ holds-name-Inv-loop table index p k n i₀ i = NoneTo table p i
 abbrev holds-name-μ-loop : holds-name-lts.MeasureT-loop
 holds-name-μ-loop table index p k n i₀ i = n - i
 
--- src/leaves.rt:39:9
 holds-name-kind-requires : (t : ℕ) → holds-name-lts.Need-kind-requires (
   kind-reads.Asked,
   kind-reads.Learnt,
@@ -50,7 +49,6 @@ holds-name-kind-requires : (t : ℕ) → holds-name-lts.Need-kind-requires (
 ) (holds-name-at t) holds-name.Post holds-name-Inv-loop holds-name-μ-loop
 holds-name-kind-requires t c κs = c .before .pre .1 .here
 
--- src/leaves.rt:41:9
 holds-name-returns : (t : ℕ) → holds-name-lts.Need-returns (
   kind-reads.Asked,
   kind-reads.Learnt,
@@ -65,7 +63,6 @@ holds-name-returns : (t : ℕ) → holds-name-lts.Need-returns (
 ) (holds-name-at t) holds-name.Post holds-name-Inv-loop holds-name-μ-loop
 holds-name-returns t c = tells-name _ _ _ (c .before .before .before .pre .1) (sym (c .before .kind .ensures .0) ∙ c .if1 .taken)
 
--- src/leaves.rt:44:9
 holds-name-is-composed-requires : (t : ℕ) → holds-name-lts.Need-is-composed-requires (
   kind-reads.Asked,
   kind-reads.Learnt,
@@ -94,7 +91,6 @@ holds-name-returns-2 : (t : ℕ) → holds-name-lts.Need-returns-2 (
 ) (holds-name-at t) holds-name.Post holds-name-Inv-loop holds-name-μ-loop
 holds-name-returns-2 t c = tells-leaf _ _ _ (c .before .before .before .before .before .pre .1) (λ e. c .before .before .if1 .left (c .before .before .before .kind .ensures .0 ∙ e)) (composed-told (c .before .before .before .kind .ensures .0) (c .before .is-composed .ensures) (not-true _ (c .if2 .taken)))
 
--- src/leaves.rt:46:9
 holds-name-operand-count-requires : (t : ℕ) → holds-name-lts.Need-operand-count-requires (
   kind-reads.Asked,
   kind-reads.Learnt,
@@ -109,7 +105,6 @@ holds-name-operand-count-requires : (t : ℕ) → holds-name-lts.Need-operand-co
 ) (holds-name-at t) holds-name.Post holds-name-Inv-loop holds-name-μ-loop
 holds-name-operand-count-requires t c κs = c .before .before .before .before .before .pre .1 .here
 
--- src/leaves.rt:48:5
 holds-name-loop-holds : (t : ℕ) → holds-name-lts.Need-loop-holds (
   kind-reads.Asked,
   kind-reads.Learnt,
@@ -124,7 +119,6 @@ holds-name-loop-holds : (t : ℕ) → holds-name-lts.Need-loop-holds (
 ) (holds-name-at t) holds-name.Post holds-name-Inv-loop holds-name-μ-loop
 holds-name-loop-holds t c = none-start _ _
 
--- src/leaves.rt:49:13
 holds-name-operand-requires : (t : ℕ) → holds-name-lts.Need-operand-requires (
   kind-reads.Asked,
   kind-reads.Learnt,
@@ -139,7 +133,6 @@ holds-name-operand-requires : (t : ℕ) → holds-name-lts.Need-operand-requires
 ) (holds-name-at t) holds-name.Post holds-name-Inv-loop holds-name-μ-loop
 holds-name-operand-requires t c κs = has-operand _ _ _ (c .before .before .before .before .before .before .before .before .pre .1) _ (omega (arith, c .before .before .operand-count .ensures .0))
 
--- src/leaves.rt:50:13
 holds-name-holds-name-requires : (t : ℕ) → holds-name-lts.Need-holds-name-requires (
   kind-reads.Asked,
   kind-reads.Learnt,
@@ -154,7 +147,6 @@ holds-name-holds-name-requires : (t : ℕ) → holds-name-lts.Need-holds-name-re
 ) (holds-name-at t) holds-name.Post holds-name-Inv-loop holds-name-μ-loop
 holds-name-holds-name-requires t c κs = let o = operand-readable _ _ _ (c .before .before .before .before .before .before .before .before .before .pre .1) _ (omega (arith, c .before .before .before .operand-count .ensures .0)) _ (c .operand .ensures .0) in (omega (arith, o .1, c .before .before .before .before .before .before .before .before .before .pre .0), o .0)
 
--- src/leaves.rt:52:13
 holds-name-returns-3 : (t : ℕ) → holds-name-lts.Need-returns-3 (
   kind-reads.Asked,
   kind-reads.Learnt,
@@ -169,7 +161,6 @@ holds-name-returns-3 : (t : ℕ) → holds-name-lts.Need-returns-3 (
 ) (holds-name-at t) holds-name.Post holds-name-Inv-loop holds-name-μ-loop
 holds-name-returns-3 t c = tells-some _ _ _ (c .before .before .before .before .before .before .before .before .before .before .before .pre .1) (composed-told (c .before .before .before .before .before .before .before .before .before .kind .ensures .0) (c .before .before .before .before .before .before .before .is-composed .ensures) (not-false _ (c .before .before .before .before .before .before .if2 .left))) _ _ (omega (arith, c .before .before .before .before .before .operand-count .ensures .0)) (c .before .before .operand .ensures .0) _ (c .before .holds-name .ensures) (c .if3 .taken)
 
--- src/leaves.rt:54:9
 holds-name-add-i : (t : ℕ) → holds-name-lts.Need-add-i (
   kind-reads.Asked,
   kind-reads.Learnt,
@@ -184,7 +175,6 @@ holds-name-add-i : (t : ℕ) → holds-name-lts.Need-add-i (
 ) (holds-name-at t) holds-name.Post holds-name-Inv-loop holds-name-μ-loop
 holds-name-add-i t c = omega (arith, c .before .before .before .before .before .operand-count .ensures .1)
 
--- src/leaves.rt:48:5
 holds-name-loop-less : (t : ℕ) → holds-name-lts.Need-loop-less (
   kind-reads.Asked,
   kind-reads.Learnt,
@@ -199,7 +189,6 @@ holds-name-loop-less : (t : ℕ) → holds-name-lts.Need-loop-less (
 ) (holds-name-at t) holds-name.Post holds-name-Inv-loop holds-name-μ-loop
 holds-name-loop-less t c = omega arith
 
--- src/leaves.rt:48:5
 holds-name-loop-again : (t : ℕ) → holds-name-lts.Need-loop-again (
   kind-reads.Asked,
   kind-reads.Learnt,
@@ -214,7 +203,6 @@ holds-name-loop-again : (t : ℕ) → holds-name-lts.Need-loop-again (
 ) (holds-name-at t) holds-name.Post holds-name-Inv-loop holds-name-μ-loop
 holds-name-loop-again t c = none-next _ _ _ _ (c .before .before .before .before .loop .inv) (c .before .before .operand .ensures .0) _ (c .before .holds-name .ensures) (c .if3 .left)
 
--- src/leaves.rt:35:1
 holds-name-returns-4 : (t : ℕ) → holds-name-lts.Need-returns-4 (
   kind-reads.Asked,
   kind-reads.Learnt,

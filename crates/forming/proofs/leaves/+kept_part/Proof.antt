@@ -23,7 +23,6 @@ abbrev kept-part-below : ℕ → In 2 kept-part-kinds.ps
 kept-part-below t =
     and 2 kept-part-kinds.ps (falls 2 kept-part-kinds.ps _<_ μ-kept-part t) kept-part.Pre
 
--- src/leaves.rt:359:9
 kept-part-operand-requires : (t : ℕ) → kept-part-lts.Need-operand-requires (
   operand-reads.Asked,
   operand-reads.Learnt,
@@ -34,7 +33,6 @@ kept-part-operand-requires : (t : ℕ) → kept-part-lts.Need-operand-requires (
 ) (kept-part-at t) kept-part.Post
 kept-part-operand-requires t c κs = has-operand _ _ _ (c .before .pre .1 .readable) _ (kept-within _ _ _ _ _ (c .before .pre .1))
 
--- src/leaves.rt:360:9
 kept-part-kind-requires : (t : ℕ) → kept-part-lts.Need-kind-requires (
   operand-reads.Asked,
   operand-reads.Learnt,
@@ -45,7 +43,6 @@ kept-part-kind-requires : (t : ℕ) → kept-part-lts.Need-kind-requires (
 ) (kept-part-at t) kept-part.Post
 kept-part-kind-requires t c κs = kept-readable _ _ _ _ _ (c .before .before .pre .1) _ (c .operand .ensures .0) .here
 
--- src/leaves.rt:362:43
 kept-part-add-kept-part : (t : ℕ) → kept-part-lts.Need-add-kept-part (
   operand-reads.Asked,
   operand-reads.Learnt,
@@ -56,7 +53,6 @@ kept-part-add-kept-part : (t : ℕ) → kept-part-lts.Need-add-kept-part (
 ) (kept-part-at t) kept-part.Post
 kept-part-add-kept-part t c = omega (arith, kept-low _ _ _ _ _ (c .before .before .before .before .pre .1))
 
--- src/leaves.rt:362:9
 kept-part-kept-part-requires : (t : ℕ) → kept-part-lts.Need-kept-part-requires (
   operand-reads.Asked,
   operand-reads.Learnt,
@@ -67,7 +63,6 @@ kept-part-kept-part-requires : (t : ℕ) → kept-part-lts.Need-kept-part-requir
 ) (kept-part-at t) kept-part.Post
 kept-part-kept-part-requires t c κs = (omega (arith, c .before .before .before .before .pre .0, kept-low _ _ _ _ _ (c .before .before .before .before .pre .1)), pass-asked _ _ _ _ _ (c .before .before .before .before .pre .1) _ (c .before .before .operand .ensures .0) _ (c .before .kind .ensures .0) (c .if1 .taken))
 
--- src/leaves.rt:362:9
 kept-part-returns : (t : ℕ) → kept-part-lts.Need-returns (
   operand-reads.Asked,
   operand-reads.Learnt,
@@ -78,7 +73,6 @@ kept-part-returns : (t : ℕ) → kept-part-lts.Need-returns (
 ) (kept-part-at t) kept-part.Post
 kept-part-returns t c = pass-told _ _ _ _ _ (c .before .before .before .before .before .pre .1) _ (c .before .before .before .operand .ensures .0) _ (c .before .before .kind .ensures .0) (c .before .if1 .taken) _ (c .kept-part .ensures)
 
--- src/leaves.rt:365:9
 kept-part-returns-2 : (t : ℕ) → kept-part-lts.Need-returns-2 (
   operand-reads.Asked,
   operand-reads.Learnt,
@@ -89,7 +83,6 @@ kept-part-returns-2 : (t : ℕ) → kept-part-lts.Need-returns-2 (
 ) (kept-part-at t) kept-part.Post
 kept-part-returns-2 t c = this-told _ _ _ _ _ (c .before .before .before .before .before .pre .1) _ (c .before .before .before .operand .ensures .0) _ (c .before .before .kind .ensures .0) (c .before .if1 .left) (c .if2 .taken)
 
--- src/leaves.rt:367:32
 kept-part-add-kept-part-2 : (t : ℕ) → kept-part-lts.Need-add-kept-part-2 (
   operand-reads.Asked,
   operand-reads.Learnt,
@@ -100,7 +93,6 @@ kept-part-add-kept-part-2 : (t : ℕ) → kept-part-lts.Need-add-kept-part-2 (
 ) (kept-part-at t) kept-part.Post
 kept-part-add-kept-part-2 t c = omega (arith, kept-low _ _ _ _ _ (c .before .before .before .before .before .pre .1))
 
--- src/leaves.rt:367:39
 kept-part-sub-kept-part : (t : ℕ) → kept-part-lts.Need-sub-kept-part (
   operand-reads.Asked,
   operand-reads.Learnt,
@@ -111,7 +103,6 @@ kept-part-sub-kept-part : (t : ℕ) → kept-part-lts.Need-sub-kept-part (
 ) (kept-part-at t) kept-part.Post
 kept-part-sub-kept-part t c = omega arith
 
--- src/leaves.rt:367:5
 kept-part-kept-part-requires-2 : (t : ℕ) → kept-part-lts.Need-kept-part-requires-2 (
   operand-reads.Asked,
   operand-reads.Learnt,
@@ -122,7 +113,6 @@ kept-part-kept-part-requires-2 : (t : ℕ) → kept-part-lts.Need-kept-part-requ
 ) (kept-part-at t) kept-part.Post
 kept-part-kept-part-requires-2 t c κs = (omega (arith, c .before .before .before .before .before .pre .0, kept-low _ _ _ _ _ (c .before .before .before .before .before .pre .1)), next-asked _ _ _ _ _ (c .before .before .before .before .before .pre .1) _ (c .before .before .before .operand .ensures .0) _ (c .before .before .kind .ensures .0) (c .before .if1 .left) _ (omega arith))
 
--- src/leaves.rt:355:1
 kept-part-returns-3 : (t : ℕ) → kept-part-lts.Need-returns-3 (
   operand-reads.Asked,
   operand-reads.Learnt,

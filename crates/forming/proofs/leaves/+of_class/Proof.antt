@@ -33,7 +33,6 @@ abbrev of-class-below : ℕ → In 2 of-class-kinds.ps
 of-class-below t =
     and 2 of-class-kinds.ps (falls 2 of-class-kinds.ps _<_ μ-of-class t) of-class.Pre
 
--- src/leaves.rt:268:9
 of-class-kind-requires : (t : ℕ) → of-class-lts.Need-kind-requires (
   kind-reads.Asked,
   kind-reads.Learnt,
@@ -54,7 +53,6 @@ of-class-kind-requires : (t : ℕ) → of-class-lts.Need-kind-requires (
 ) (of-class-at t) of-class.Post
 of-class-kind-requires t c κs = c .before .pre .1 .0 .readable .here
 
--- src/leaves.rt:270:13
 of-class-operand-requires : (t : ℕ) → of-class-lts.Need-operand-requires (
   kind-reads.Asked,
   kind-reads.Learnt,
@@ -75,7 +73,6 @@ of-class-operand-requires : (t : ℕ) → of-class-lts.Need-operand-requires (
 ) (of-class-at t) of-class.Post
 of-class-operand-requires t c κs = has-operand _ _ _ (c .before .before .before .pre .1 .0 .readable) 0 (omega (arith, (two-halves _ _ _ (c .before .before .before .pre .1 .0 .readable) 38 (sym (c .before .kind .ensures .0) ∙ c .if1 .taken) (inl refl))))
 
--- src/leaves.rt:271:13
 of-class-of-class-requires : (t : ℕ) → of-class-lts.Need-of-class-requires (
   kind-reads.Asked,
   kind-reads.Learnt,
@@ -96,7 +93,6 @@ of-class-of-class-requires : (t : ℕ) → of-class-lts.Need-of-class-requires (
 ) (of-class-at t) of-class.Post
 of-class-of-class-requires t c κs = let o = operand-readable _ _ _ (c .before .before .before .before .pre .1 .0 .readable) 0 (omega (arith, (two-halves _ _ _ (c .before .before .before .before .pre .1 .0 .readable) 38 (sym (c .before .before .kind .ensures .0) ∙ c .before .if1 .taken) (inl refl)))) _ (c .operand .ensures .0) in (omega (arith, o .1, c .before .before .before .before .pre .0), (record { readable = o .0; few = left-few _ _ _ (c .before .before .before .before .pre .1 .0 .readable) (sym (c .before .before .kind .ensures .0) ∙ c .before .if1 .taken) _ _ (c .operand .ensures .0) refl 4096 (c .before .before .before .before .pre .1 .0 .few) }, c .before .before .before .before .pre .1 .1))
 
--- src/leaves.rt:272:13
 of-class-operand-requires-2 : (t : ℕ) → of-class-lts.Need-operand-requires-2 (
   kind-reads.Asked,
   kind-reads.Learnt,
@@ -117,7 +113,6 @@ of-class-operand-requires-2 : (t : ℕ) → of-class-lts.Need-operand-requires-2
 ) (of-class-at t) of-class.Post
 of-class-operand-requires-2 t c κs = has-operand _ _ _ (c .before .before .before .before .before .pre .1 .0 .readable) 1 (omega (arith, (two-halves _ _ _ (c .before .before .before .before .before .pre .1 .0 .readable) 38 (sym (c .before .before .before .kind .ensures .0) ∙ c .before .before .if1 .taken) (inl refl))))
 
--- src/leaves.rt:273:13
 of-class-after-requires : (t : ℕ) → of-class-lts.Need-after-requires (
   kind-reads.Asked,
   kind-reads.Learnt,
@@ -138,7 +133,6 @@ of-class-after-requires : (t : ℕ) → of-class-lts.Need-after-requires (
 ) (of-class-at t) of-class.Post
 of-class-after-requires t c κs = search needs
 
--- src/leaves.rt:274:13
 of-class-of-class-requires-2 : (t : ℕ) → of-class-lts.Need-of-class-requires-2 (
   kind-reads.Asked,
   kind-reads.Learnt,
@@ -159,7 +153,6 @@ of-class-of-class-requires-2 : (t : ℕ) → of-class-lts.Need-of-class-requires
 ) (of-class-at t) of-class.Post
 of-class-of-class-requires-2 t c κs = let o = operand-readable _ _ _ (c .before .before .before .before .before .before .before .pre .1 .0 .readable) 1 (omega (arith, (two-halves _ _ _ (c .before .before .before .before .before .before .before .pre .1 .0 .readable) 38 (sym (c .before .before .before .before .before .kind .ensures .0) ∙ c .before .before .before .before .if1 .taken) (inl refl)))) _ (c .before .operand2 .ensures .0) in (omega (arith, o .1, c .before .before .before .before .before .before .before .pre .0), (record { readable = o .0; few = right-few _ _ _ (c .before .before .before .before .before .before .before .pre .1 .0 .readable) (sym (c .before .before .before .before .before .kind .ensures .0) ∙ c .before .before .before .before .if1 .taken) _ _ (c .before .before .before .operand .ensures .0) (c .before .operand2 .ensures .0) 4096 (c .before .before .before .before .before .before .before .pre .1 .0 .few) }, c .before .before .before .before .before .before .before .pre .1 .1))
 
--- src/leaves.rt:275:9
 of-class-join-requires : (t : ℕ) → of-class-lts.Need-join-requires (
   kind-reads.Asked,
   kind-reads.Learnt,
@@ -180,7 +173,6 @@ of-class-join-requires : (t : ℕ) → of-class-lts.Need-join-requires (
 ) (of-class-at t) of-class.Post
 of-class-join-requires t c κs = (omega (arith, class-low _ _ _ 4096 _ _ _ (left-few _ _ _ (c .before .before .before .before .before .before .before .before .pre .1 .0 .readable) (sym (c .before .before .before .before .before .before .kind .ensures .0) ∙ c .before .before .before .before .before .if1 .taken) _ _ (c .before .before .before .before .operand .ensures .0) (c .before .before .operand2 .ensures .0) 4096 (c .before .before .before .before .before .before .before .before .pre .1 .0 .few)) _ (c .before .before .before .of-class .ensures)), omega (arith, class-low _ _ _ 4096 _ _ _ (right-few _ _ _ (c .before .before .before .before .before .before .before .before .pre .1 .0 .readable) (sym (c .before .before .before .before .before .before .kind .ensures .0) ∙ c .before .before .before .before .before .if1 .taken) _ _ (c .before .before .before .before .operand .ensures .0) (c .before .before .operand2 .ensures .0) 4096 (c .before .before .before .before .before .before .before .before .pre .1 .0 .few)) _ (c .of-class2 .ensures)))
 
--- src/leaves.rt:275:9
 of-class-returns : (t : ℕ) → of-class-lts.Need-returns (
   kind-reads.Asked,
   kind-reads.Learnt,
@@ -201,7 +193,6 @@ of-class-returns : (t : ℕ) → of-class-lts.Need-returns (
 ) (of-class-at t) of-class.Post
 of-class-returns t c = survey-both _ _ _ (c .before .before .before .before .before .before .before .before .before .pre .1 .0 .readable) (sym (c .before .before .before .before .before .before .before .kind .ensures .0) ∙ c .before .before .before .before .before .before .if1 .taken) _ _ (c .before .before .before .before .before .operand .ensures .0) (c .before .before .before .operand2 .ensures .0) _ _ _ _ _ _ (c .before .before .before .before .of-class .ensures) _ (c .before .before .after .ensures) (c .before .of-class2 .ensures) (c .join .ensures)
 
--- src/leaves.rt:277:9
 of-class-class-of-requires : (t : ℕ) → of-class-lts.Need-class-of-requires (
   kind-reads.Asked,
   kind-reads.Learnt,
@@ -222,7 +213,6 @@ of-class-class-of-requires : (t : ℕ) → of-class-lts.Need-class-of-requires (
 ) (of-class-at t) of-class.Post
 of-class-class-of-requires t c κs = (record { readable = c .before .before .before .pre .1 .0 .readable; of-kind = c .before .kind .ensures .0; alone = λ e. c .if1 .left (c .before .kind .ensures .0 ∙ e) })
 
--- src/leaves.rt:279:9
 of-class-nowhere-requires : (t : ℕ) → of-class-lts.Need-nowhere-requires (
   kind-reads.Asked,
   kind-reads.Learnt,
@@ -243,7 +233,6 @@ of-class-nowhere-requires : (t : ℕ) → of-class-lts.Need-nowhere-requires (
 ) (of-class-at t) of-class.Post
 of-class-nowhere-requires t c κs = search needs
 
--- src/leaves.rt:279:9
 of-class-returns-2 : (t : ℕ) → of-class-lts.Need-returns-2 (
   kind-reads.Asked,
   kind-reads.Learnt,
@@ -264,7 +253,6 @@ of-class-returns-2 : (t : ℕ) → of-class-lts.Need-returns-2 (
 ) (of-class-at t) of-class.Post
 of-class-returns-2 t c = alone-other _ _ _ _ (record { readable = c .before .before .before .before .before .before .pre .1 .0 .readable; of-kind = c .before .before .before .before .kind .ensures .0; alone = λ e. c .before .before .before .if1 .left (c .before .before .before .before .kind .ensures .0 ∙ e) }) _ _ _ _ (c .before .before .class-of .ensures) (c .before .if2 .taken) _ (c .nowhere .ensures)
 
--- src/leaves.rt:282:9
 of-class-nowhere-requires-2 : (t : ℕ) → of-class-lts.Need-nowhere-requires-2 (
   kind-reads.Asked,
   kind-reads.Learnt,
@@ -285,7 +273,6 @@ of-class-nowhere-requires-2 : (t : ℕ) → of-class-lts.Need-nowhere-requires-2
 ) (of-class-at t) of-class.Post
 of-class-nowhere-requires-2 t c κs = search needs
 
--- src/leaves.rt:282:9
 of-class-returns-3 : (t : ℕ) → of-class-lts.Need-returns-3 (
   kind-reads.Asked,
   kind-reads.Learnt,
@@ -306,7 +293,6 @@ of-class-returns-3 : (t : ℕ) → of-class-lts.Need-returns-3 (
 ) (of-class-at t) of-class.Post
 of-class-returns-3 t c = alone-past _ _ _ _ (record { readable = c .before .before .before .before .before .before .before .pre .1 .0 .readable; of-kind = c .before .before .before .before .before .kind .ensures .0; alone = λ e. c .before .before .before .before .if1 .left (c .before .before .before .before .before .kind .ensures .0 ∙ e) }) _ _ _ _ (c .before .before .before .class-of .ensures) (omega arith) (omega arith) _ (c .nowhere2 .ensures)
 
--- src/leaves.rt:284:5
 of-class-leaf-alone-requires : (t : ℕ) → of-class-lts.Need-leaf-alone-requires (
   kind-reads.Asked,
   kind-reads.Learnt,
@@ -327,7 +313,6 @@ of-class-leaf-alone-requires : (t : ℕ) → of-class-lts.Need-leaf-alone-requir
 ) (of-class-at t) of-class.Post
 of-class-leaf-alone-requires t c κs = ((record { readable = c .before .before .before .before .before .before .pre .1 .0 .readable; of-kind = c .before .before .before .before .kind .ensures .0; alone = λ e. c .before .before .before .if1 .left (c .before .before .before .before .kind .ensures .0 ∙ e) }), alone-parts _ _ _ _ (record { readable = c .before .before .before .before .before .before .pre .1 .0 .readable; of-kind = c .before .before .before .before .kind .ensures .0; alone = λ e. c .before .before .before .if1 .left (c .before .before .before .before .kind .ensures .0 ∙ e) }) _ true 0 _ (c .before .before .class-of .ensures) (omega arith) (c .before .before .before .before .before .before .pre .1 .1))
 
--- src/leaves.rt:264:1
 of-class-returns-4 : (t : ℕ) → of-class-lts.Need-returns-4 (
   kind-reads.Asked,
   kind-reads.Learnt,

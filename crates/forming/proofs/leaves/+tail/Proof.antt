@@ -26,7 +26,6 @@ tail-at t = and 2 tail-kinds.ps (is 2 tail-kinds.ps μ-tail t) tail.Pre
 abbrev tail-below : ℕ → In 2 tail-kinds.ps
 tail-below t = and 2 tail-kinds.ps (falls 2 tail-kinds.ps _<_ μ-tail t) tail.Pre
 
--- src/leaves.rt:181:9
 tail-kind-requires : (t : ℕ) → tail-lts.Need-kind-requires (
   kind-reads.Asked,
   kind-reads.Learnt,
@@ -41,7 +40,6 @@ tail-kind-requires : (t : ℕ) → tail-lts.Need-kind-requires (
 ) (tail-at t) tail.Post
 tail-kind-requires t c κs = c .before .pre .1 .readable .here
 
--- src/leaves.rt:183:13
 tail-operand-requires : (t : ℕ) → tail-lts.Need-operand-requires (
   kind-reads.Asked,
   kind-reads.Learnt,
@@ -56,7 +54,6 @@ tail-operand-requires : (t : ℕ) → tail-lts.Need-operand-requires (
 ) (tail-at t) tail.Post
 tail-operand-requires t c κs = has-operand _ _ _ (c .before .before .before .pre .1 .readable) 0 (omega (arith, (two-halves _ _ _ (c .before .before .before .pre .1 .readable) 38 (sym (c .before .kind .ensures .0) ∙ c .if1 .taken) (inl refl))))
 
--- src/leaves.rt:184:13
 tail-tail-requires : (t : ℕ) → tail-lts.Need-tail-requires (
   kind-reads.Asked,
   kind-reads.Learnt,
@@ -71,7 +68,6 @@ tail-tail-requires : (t : ℕ) → tail-lts.Need-tail-requires (
 ) (tail-at t) tail.Post
 tail-tail-requires t c κs = let o = operand-readable _ _ _ (c .before .before .before .before .pre .1 .readable) 0 (omega (arith, (two-halves _ _ _ (c .before .before .before .before .pre .1 .readable) 38 (sym (c .before .before .kind .ensures .0) ∙ c .before .if1 .taken) (inl refl)))) _ (c .operand .ensures .0) in (omega (arith, o .1, c .before .before .before .before .pre .0), record { readable = o .0; few = left-few _ _ _ (c .before .before .before .before .pre .1 .readable) (sym (c .before .before .kind .ensures .0) ∙ c .before .if1 .taken) _ _ (c .operand .ensures .0) refl 4096 (c .before .before .before .before .pre .1 .few) })
 
--- src/leaves.rt:185:13
 tail-operand-requires-2 : (t : ℕ) → tail-lts.Need-operand-requires-2 (
   kind-reads.Asked,
   kind-reads.Learnt,
@@ -86,7 +82,6 @@ tail-operand-requires-2 : (t : ℕ) → tail-lts.Need-operand-requires-2 (
 ) (tail-at t) tail.Post
 tail-operand-requires-2 t c κs = has-operand _ _ _ (c .before .before .before .before .before .pre .1 .readable) 1 (omega (arith, (two-halves _ _ _ (c .before .before .before .before .before .pre .1 .readable) 38 (sym (c .before .before .before .kind .ensures .0) ∙ c .before .before .if1 .taken) (inl refl))))
 
--- src/leaves.rt:186:13
 tail-tail-requires-2 : (t : ℕ) → tail-lts.Need-tail-requires-2 (
   kind-reads.Asked,
   kind-reads.Learnt,
@@ -101,7 +96,6 @@ tail-tail-requires-2 : (t : ℕ) → tail-lts.Need-tail-requires-2 (
 ) (tail-at t) tail.Post
 tail-tail-requires-2 t c κs = let o = operand-readable _ _ _ (c .before .before .before .before .before .before .pre .1 .readable) 1 (omega (arith, (two-halves _ _ _ (c .before .before .before .before .before .before .pre .1 .readable) 38 (sym (c .before .before .before .before .kind .ensures .0) ∙ c .before .before .before .if1 .taken) (inl refl)))) _ (c .operand2 .ensures .0) in (omega (arith, o .1, c .before .before .before .before .before .before .pre .0), record { readable = o .0; few = right-few _ _ _ (c .before .before .before .before .before .before .pre .1 .readable) (sym (c .before .before .before .before .kind .ensures .0) ∙ c .before .before .before .if1 .taken) _ _ (c .before .before .operand .ensures .0) (c .operand2 .ensures .0) 4096 (c .before .before .before .before .before .before .pre .1 .few) })
 
--- src/leaves.rt:187:9
 tail-tails-requires : (t : ℕ) → tail-lts.Need-tails-requires (
   kind-reads.Asked,
   kind-reads.Learnt,
@@ -116,7 +110,6 @@ tail-tails-requires : (t : ℕ) → tail-lts.Need-tails-requires (
 ) (tail-at t) tail.Post
 tail-tails-requires t c κs = (omega (arith, c .before .before .tail .ensures .few, left-few _ _ _ (c .before .before .before .before .before .before .before .pre .1 .readable) (sym (c .before .before .before .before .before .kind .ensures .0) ∙ c .before .before .before .before .if1 .taken) _ _ (c .before .before .before .operand .ensures .0) (c .before .operand2 .ensures .0) 4096 (c .before .before .before .before .before .before .before .pre .1 .few)), omega (arith, c .tail2 .ensures .few, right-few _ _ _ (c .before .before .before .before .before .before .before .pre .1 .readable) (sym (c .before .before .before .before .before .kind .ensures .0) ∙ c .before .before .before .before .if1 .taken) _ _ (c .before .before .before .operand .ensures .0) (c .before .operand2 .ensures .0) 4096 (c .before .before .before .before .before .before .before .pre .1 .few)))
 
--- src/leaves.rt:187:9
 tail-returns : (t : ℕ) → tail-lts.Need-returns (
   kind-reads.Asked,
   kind-reads.Learnt,
@@ -131,7 +124,6 @@ tail-returns : (t : ℕ) → tail-lts.Need-returns (
 ) (tail-at t) tail.Post
 tail-returns t c = tail-both _ _ _ (c .before .before .before .before .before .before .before .before .pre .1 .readable) (sym (c .before .before .before .before .before .before .kind .ensures .0) ∙ c .before .before .before .before .before .if1 .taken) _ _ (c .before .before .before .before .operand .ensures .0) (c .before .before .operand2 .ensures .0) _ _ _ (c .before .before .before .tail .ensures) (c .before .tail2 .ensures) (c .tails .ensures)
 
--- src/leaves.rt:189:5
 tail-leaf-tail-requires : (t : ℕ) → tail-lts.Need-leaf-tail-requires (
   kind-reads.Asked,
   kind-reads.Learnt,
@@ -146,7 +138,6 @@ tail-leaf-tail-requires : (t : ℕ) → tail-lts.Need-leaf-tail-requires (
 ) (tail-at t) tail.Post
 tail-leaf-tail-requires t c κs = record { readable = c .before .before .before .pre .1 .readable; of-kind = c .before .kind .ensures .0; alone = λ e. c .if1 .left (c .before .kind .ensures .0 ∙ e) }
 
--- src/leaves.rt:177:1
 tail-returns-2 : (t : ℕ) → tail-lts.Need-returns-2 (
   kind-reads.Asked,
   kind-reads.Learnt,

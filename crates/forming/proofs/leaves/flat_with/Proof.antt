@@ -7,14 +7,12 @@ use Rattle.forming.proofs.leaves.flat_with.Reads as reads
 use Rattle.forming.proofs.leaves.flat_with.Lts as lts
 use Rattle.tables.proofs.shape.is_composed.Reads as is-composed-reads
 
--- src/leaves.rt:87:9
 is-composed-requires : tie.Need-is-composed-requires
 is-composed-requires c κs = search needs
 
 returns : tie.Need-returns
 returns c = with-composed (c .before .before .args .k) _ (sym (c .before .is-composed .ensures) ∙ c .if1 .taken)
 
--- src/leaves.rt:83:1
 returns-2 : tie.Need-returns-2
 returns-2 c = with-plain (c .before .before .args .k) _ (sym (c .before .is-composed .ensures) ∙ c .if1 .left)
 

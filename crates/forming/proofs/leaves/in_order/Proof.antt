@@ -9,35 +9,27 @@ use Rattle.forming.proofs.leaves.join.Reads as join-reads
 use Rattle.forming.proofs.leaves.last_leaf.Reads as last-leaf-reads
 use Rattle.forming.proofs.leaves.of_class.Reads as of-class-reads
 
--- src/leaves.rt:376:9
 of-class-requires : tie.Need-of-class-requires
 of-class-requires c κs = search needs
 
--- src/leaves.rt:377:9
 after-requires : tie.Need-after-requires
 after-requires c κs = search needs
 
--- src/leaves.rt:378:9
 of-class-requires-2 : tie.Need-of-class-requires-2
 of-class-requires-2 c κs = search needs
 
--- src/leaves.rt:379:9
 after-requires-2 : tie.Need-after-requires-2
 after-requires-2 c κs = search needs
 
--- src/leaves.rt:380:9
 last-leaf-requires : tie.Need-last-leaf-requires
 last-leaf-requires c κs = search needs
 
--- src/leaves.rt:381:9
 join-requires : tie.Need-join-requires
 join-requires c κs = unnamed-asked _ _ _ _ (c .before .before .before .before .before .before .pre) _ _ (c .before .before .before .before .of-class .ensures) _ (c .before .before .before .after .ensures) _ (c .before .before .of-class2 .ensures) _ (c .before .after2 .ensures) _ (c .last-leaf .ensures)
 
--- src/leaves.rt:382:5
 join-requires-2 : tie.Need-join-requires-2
 join-requires-2 c κs = ordered-asked _ _ _ _ (c .before .before .before .before .before .before .before .pre) _ _ (c .before .before .before .before .before .of-class .ensures) _ (c .before .before .before .before .after .ensures) _ (c .before .before .before .of-class2 .ensures) _ (c .before .before .after2 .ensures) _ (c .before .last-leaf .ensures) _ (c .join .ensures)
 
--- src/leaves.rt:372:1
 returns : tie.Need-returns
 returns c = ordered-told _ _ _ _ (c .before .before .before .before .before .before .before .before .pre) _ _ (c .before .before .before .before .before .before .of-class .ensures) _ (c .before .before .before .before .before .after .ensures) _ (c .before .before .before .before .of-class2 .ensures) _ (c .before .before .before .after2 .ensures) _ (c .before .before .last-leaf .ensures) _ (c .before .join .ensures) _ (c .join2 .ensures)
 

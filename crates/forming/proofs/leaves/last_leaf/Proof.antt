@@ -10,31 +10,24 @@ use Rattle.forming.proofs.leaves.last_leaf.Lts as lts
 use Rattle.forming.proofs.leaves.nowhere.Reads as nowhere-reads
 use Rattle.forming.proofs.leaves.wild_code.Reads as wild-code-reads
 
--- src/leaves.rt:353:9
 nowhere-requires : tie.Need-nowhere-requires
 nowhere-requires c κs = search needs
 
--- src/leaves.rt:353:9
 returns : tie.Need-returns
 returns c = last-none _ _ (not-true _ (c .before .if1 .taken)) _ (c .nowhere .ensures)
 
--- src/leaves.rt:356:9
 nowhere-requires-2 : tie.Need-nowhere-requires-2
 nowhere-requires-2 c κs = search needs
 
--- src/leaves.rt:356:9
 returns-2 : tie.Need-returns-2
 returns-2 c = last-past _ _ (not-false _ (c .before .before .if1 .left)) (omega arith) _ (c .nowhere2 .ensures)
 
--- src/leaves.rt:358:9
 wild-code-requires : tie.Need-wild-code-requires
 wild-code-requires c κs = search needs
 
--- src/leaves.rt:360:16
 cast-t6 : tie.Need-cast-t6
 cast-t6 c = search needs
 
--- src/leaves.rt:348:1
 returns-3 : tie.Need-returns-3
 returns-3 c = last-here _ _ (not-false _ (c .before .before .before .if1 .left)) (omega arith) (c .before .before .before .before .before .pre) _ (c .before .wild-code .ensures) _ refl
 

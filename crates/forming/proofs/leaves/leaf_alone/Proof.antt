@@ -8,27 +8,21 @@ use Rattle.forming.proofs.leaves.leaf_alone.Lts as lts
 use Rattle.forming.proofs.leaves.stripped_set.Reads as stripped-set-reads
 use Rattle.forming.proofs.leaves.whole_leaf.Reads as whole-leaf-reads
 
--- src/leaves.rt:293:9
 whole-leaf-requires : tie.Need-whole-leaf-requires
 whole-leaf-requires c κs = search needs
 
--- src/leaves.rt:293:9
 returns : tie.Need-returns
 returns c = alone-whole _ _ _ _ (c .before .before .before .pre .0) (c .before .before .before .args .strips) (not-true _ (c .before .if1 .taken)) _ (c .whole-leaf .ensures)
 
--- src/leaves.rt:296:9
 whole-leaf-requires-2 : tie.Need-whole-leaf-requires-2
 whole-leaf-requires-2 c κs = search needs
 
--- src/leaves.rt:296:9
 returns-2 : tie.Need-returns-2
 returns-2 c = alone-same _ _ _ _ (c .before .before .before .before .pre .0) (c .before .if2 .taken) (c .before .before .before .before .args .strips) (not-false _ (c .before .before .if1 .left)) _ (c .whole-leaf2 .ensures)
 
--- src/leaves.rt:298:5
 stripped-set-requires : tie.Need-stripped-set-requires
 stripped-set-requires c κs = search needs
 
--- src/leaves.rt:288:1
 returns-3 : tie.Need-returns-3
 returns-3 c = alone-stripped _ _ _ _ (c .before .before .before .before .pre .0) (c .before .before .before .before .args .strips) (not-false _ (c .before .before .if1 .left)) _ (c .stripped-set .ensures)
 

@@ -10,27 +10,21 @@ use Rattle.forming.proofs.leaves.leaf_size.Lts as lts
 use Rattle.forming.proofs.leaves.plain_parts.Reads as plain-parts-reads
 use Rattle.forming.proofs.sizes.size_of.Reads as size-of-reads
 
--- src/leaves.rt:345:9
 size-of-requires : tie.Need-size-of-requires
 size-of-requires c κs = (leaf-readable _ _ _ (c .before .before .pre .0) (omega arith), inl refl)
 
--- src/leaves.rt:345:9
 returns : tie.Need-returns
 returns c = record-takes _ _ _ (c .before .before .before .pre .0) (omega arith) _ (c .size-of .ensures)
 
--- src/leaves.rt:347:9
 plain-parts-requires : tie.Need-plain-parts-requires
 plain-parts-requires c κs = ((leaf-set _ _ _ (c .before .before .pre .0) (omega arith) (c .before .before .pre .1)) .readable, (leaf-set _ _ _ (c .before .before .pre .0) (omega arith) (c .before .before .pre .1)) .of-kind)
 
--- src/leaves.rt:349:17
 sub-t6 : tie.Need-sub-t6
 sub-t6 c = wild-low _ _ _ ((leaf-set _ _ _ (c .before .before .before .before .pre .0) (omega arith) (c .before .before .before .before .pre .1)) .readable) ((leaf-set _ _ _ (c .before .before .before .before .pre .0) (omega arith) (c .before .before .before .before .pre .1)) .of-kind) _ (c .before .plain-parts .ensures)
 
--- src/leaves.rt:349:16
 cast-t7 : tie.Need-cast-t7
 cast-t7 c = omega (arith, c .before .plain-parts .ensures .few)
 
--- src/leaves.rt:340:1
 returns-2 : tie.Need-returns-2
 returns-2 c = set-takes _ _ _ (c .before .before .before .before .pre .0) (omega arith) (c .before .before .before .before .pre .1) _ (c .before .plain-parts .ensures) _ refl
 

@@ -8,19 +8,15 @@ use Rattle.forming.proofs.leaves.leaf_tail.Lts as lts
 use Rattle.forming.proofs.leaves.plain_parts.Reads as plain-parts-reads
 use Rattle.forming.proofs.leaves.spare.Reads as spare-reads
 
--- src/leaves.rt:198:13
 plain-parts-requires : tie.Need-plain-parts-requires
 plain-parts-requires c κs = (c .before .before .pre .readable, sym (c .before .before .pre .of-kind) ∙ c .if1 .taken)
 
--- src/leaves.rt:199:13
 spare-requires : tie.Need-spare-requires
 spare-requires c κs = search needs
 
--- src/leaves.rt:200:9
 returns : tie.Need-returns
 returns c = tail-set _ _ _ _ (c .before .before .before .before .before .pre) (sym (c .before .before .before .before .before .pre .of-kind) ∙ c .before .before .before .if1 .taken) _ (c .before .before .plain-parts .ensures) _ (c .before .spare .ensures)
 
--- src/leaves.rt:193:1
 returns-2 : tie.Need-returns-2
 returns-2 c = tail-other _ _ _ _ (c .before .before .pre) (c .if1 .left)
 

@@ -8,15 +8,12 @@ use Rattle.forming.proofs.leaves.only_counts.Reads as reads
 use Rattle.forming.proofs.leaves.only_counts.Lts as lts
 use Rattle.forming.proofs.leaves.plain_parts.Reads as plain-parts-reads
 
--- src/leaves.rt:131:9
 returns : tie.Need-returns
 returns c = counts-none _ _ _ _ (c .before .before .pre) (c .if1 .taken)
 
--- src/leaves.rt:133:9
 plain-parts-requires : tie.Need-plain-parts-requires
 plain-parts-requires c κs = search needs
 
--- src/leaves.rt:126:1
 returns-2 : tie.Need-returns-2
 returns-2 c = set-counts _ _ _ (c .before .before .before .before .pre .readable) (sym (c .before .before .before .before .pre .of-kind) ∙ c .before .before .if1 .left) _ (c .before .plain-parts .ensures)
 

@@ -17,43 +17,33 @@ Inv-loop table index p n wild₀ flat₀ i₀ wild flat i = PartsFrom table p i 
 abbrev μ-loop : tie.MeasureT-loop
 μ-loop table index p n wild₀ flat₀ i₀ wild flat i = i
 
--- src/leaves.rt:97:9
 operand-count-requires : tie.Need-operand-count-requires Inv-loop μ-loop
 operand-count-requires c κs = c .before .pre .0 .here
 
--- src/leaves.rt:101:5
 loop-holds : tie.Need-loop-holds Inv-loop μ-loop
 loop-holds c = parts-start _ _ _ (c .before .before .pre .0) _ (c .operand-count .ensures .0)
 
--- src/leaves.rt:102:9
 sub-i : tie.Need-sub-i Inv-loop μ-loop
 sub-i c = omega arith
 
--- src/leaves.rt:103:13
 operand-requires : tie.Need-operand-requires Inv-loop μ-loop
 operand-requires c κs = has-operand _ _ _ (c .before .before .before .before .pre .0) _ (part-there _ _ _ (c .before .before .before .before .pre .0) (c .before .before .before .before .pre .1) _ (omega (arith, c .before .loop .inv .within)))
 
--- src/leaves.rt:104:13
 kind-requires : tie.Need-kind-requires Inv-loop μ-loop
 kind-requires c κs = part-readable _ _ _ (c .before .before .before .before .before .pre .0) (c .before .before .before .before .before .pre .1) _ (omega (arith, c .before .before .loop .inv .within)) _ (c .operand .ensures .0) .here
 
--- src/leaves.rt:105:9
 wild-with-requires : tie.Need-wild-with-requires Inv-loop μ-loop
 wild-with-requires c κs = omega (arith, c .before .before .before .loop .inv .few, set-few _ _ _ (c .before .before .before .before .before .before .pre .0) (c .before .before .before .before .before .before .pre .1))
 
--- src/leaves.rt:106:9
 flat-with-requires : tie.Need-flat-with-requires Inv-loop μ-loop
 flat-with-requires c κs = c .before .kind .ensures .1
 
--- src/leaves.rt:101:5
 loop-less : tie.Need-loop-less Inv-loop μ-loop
 loop-less c = omega arith
 
--- src/leaves.rt:101:5
 loop-again : tie.Need-loop-again Inv-loop μ-loop
 loop-again c = parts-more _ _ _ (c .before .before .before .before .before .before .before .before .pre .0) (c .before .before .before .before .before .before .before .before .pre .1) _ _ (omega arith) _ _ (c .before .before .before .before .before .loop .inv) _ (c .before .before .before .operand .ensures .0) _ (c .before .before .kind .ensures .0) _ (c .before .wild-with .ensures) _ (c .flat-with .ensures)
 
--- src/leaves.rt:93:1
 returns : tie.Need-returns Inv-loop μ-loop
 returns c = parts-end _ _ _ (c .before .before .before .before .pre .0) (c .before .before .before .before .pre .1) _ (c .before .before .operand-count .ensures .0) _ _ _ (omega arith) (c .before .loop .inv)
 

@@ -11,35 +11,27 @@ use Rattle.forming.proofs.leaves.plain_parts.Reads as plain-parts-reads
 use Rattle.forming.proofs.leaves.spare.Reads as spare-reads
 use Rattle.forming.proofs.leaves.whole_leaf.Reads as whole-leaf-reads
 
--- src/leaves.rt:305:9
 plain-parts-requires : tie.Need-plain-parts-requires
 plain-parts-requires c κs = search needs
 
--- src/leaves.rt:306:9
 spare-requires : tie.Need-spare-requires
 spare-requires c κs = search needs
 
--- src/leaves.rt:308:9
 whole-leaf-requires : tie.Need-whole-leaf-requires
 whole-leaf-requires c κs = search needs
 
--- src/leaves.rt:308:9
 returns : tie.Need-returns
 returns c = strip-none _ _ _ (c .before .before .before .before .before .pre) _ (c .before .before .before .plain-parts .ensures) _ (c .before .before .spare .ensures) (c .before .if1 .taken) _ (c .whole-leaf .ensures)
 
--- src/leaves.rt:311:17
 sub-t8 : tie.Need-sub-t8
 sub-t8 c = omega (arith, spare-low _ _ _ (c .before .before .before .before .before .pre .readable) (c .before .before .before .before .before .pre .of-kind) _ (c .before .before .before .plain-parts .ensures) _ (c .before .before .spare .ensures))
 
--- src/leaves.rt:311:16
 cast-t9 : tie.Need-cast-t9
 cast-t9 c = omega (arith, c .before .before .before .plain-parts .ensures .few)
 
--- src/leaves.rt:316:15
 add-t8 : tie.Need-add-t8
 add-t8 c = search needs
 
--- src/leaves.rt:301:1
 returns-2 : tie.Need-returns-2
 returns-2 c = strip-some _ _ _ (c .before .before .before .before .before .pre) _ (c .before .before .before .plain-parts .ensures) _ (c .before .before .spare .ensures) (c .before .if1 .left) _ refl _ refl
 

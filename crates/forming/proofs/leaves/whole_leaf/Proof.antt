@@ -7,11 +7,9 @@ use Rattle.forming.proofs.leaves.whole_leaf.Reads as reads
 use Rattle.forming.proofs.leaves.whole_leaf.Lts as lts
 use Rattle.forming.proofs.sizes.size_of.Reads as size-of-reads
 
--- src/leaves.rt:327:9
 size-of-requires : tie.Need-size-of-requires
 size-of-requires c κs = (c .before .pre, inl refl)
 
--- src/leaves.rt:323:1
 returns : tie.Need-returns
 returns c = whole-told _ _ _ (c .before .before .pre) _ (c .size-of .ensures)
 

@@ -5,19 +5,15 @@ use Rattle.forming.proofs.leaves.wild_code.Tie as tie
 use Rattle.forming.proofs.leaves.wild_code.Reads as reads
 use Rattle.forming.proofs.leaves.wild_code.Lts as lts
 
--- src/leaves.rt:342:16
 add-result : tie.Need-add-result
 add-result c = search needs
 
--- src/leaves.rt:342:9
 returns : tie.Need-returns
 returns c = code-more _ _ (c .if1 .taken)
 
--- src/leaves.rt:344:5
 add-result-2 : tie.Need-add-result-2
 add-result-2 c = search needs
 
--- src/leaves.rt:337:1
 returns-2 : tie.Need-returns-2
 returns-2 c = code-exact _ _ (c .if1 .left)
 

@@ -5,15 +5,12 @@ use Rattle.forming.proofs.leaves.wild_with.Tie as tie
 use Rattle.forming.proofs.leaves.wild_with.Reads as reads
 use Rattle.forming.proofs.leaves.wild_with.Lts as lts
 
--- src/leaves.rt:77:16
 add-result : tie.Need-add-result
 add-result c = search needs
 
--- src/leaves.rt:77:9
 returns : tie.Need-returns
 returns c = with-any _ _ (c .if1 .taken)
 
--- src/leaves.rt:72:1
 returns-2 : tie.Need-returns-2
 returns-2 c = with-other _ _ (c .if1 .left)
 

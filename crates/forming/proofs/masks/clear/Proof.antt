@@ -13,31 +13,24 @@ Inv-loop found₀ mask left₀ x₀ found left x = ClearedTo found₀ mask found
 abbrev μ-loop : tie.MeasureT-loop
 μ-loop found₀ mask left₀ x₀ found left x = 16 - x
 
--- src/masks.rt:29:5
 loop-holds : tie.Need-loop-holds Inv-loop μ-loop
 loop-holds c = clear-start _ _
 
--- src/masks.rt:31:13
 mul-found : tie.Need-mul-found Inv-loop μ-loop
 mul-found c = omega arith
 
--- src/masks.rt:31:13
 element-write-found : tie.Need-element-write-found Inv-loop μ-loop
 element-write-found c = omega (arith, c .before .before .loop .inv .long, c .before .before .before .pre)
 
--- src/masks.rt:34:9
 add-x : tie.Need-add-x Inv-loop μ-loop
 add-x c = omega arith
 
--- src/masks.rt:29:5
 loop-less : tie.Need-loop-less Inv-loop μ-loop
 loop-less c = omega arith
 
--- src/masks.rt:29:5
 loop-again : tie.Need-loop-again Inv-loop μ-loop
 loop-again c = ⊎-elim (λ x. rw (x .1) (clear-none _ _ _ _ _ (omega arith) (c .before .before .loop .inv) (x .0 .taken) (c .before .before .before .pre))) (λ x. rw (x .1) (clear-some _ _ _ _ _ (omega arith) (c .before .before .loop .inv) (x .0 .left))) (c .if1 .came)
 
--- src/masks.rt:24:1
 returns : tie.Need-returns Inv-loop μ-loop
 returns c = clear-end _ _ _ _ _ (omega arith) (c .before .loop .inv)
 

@@ -11,47 +11,36 @@ Inv-loop found mask₀ x₀ mask x = MaskFrom found mask x
 abbrev μ-loop : tie.MeasureT-loop
 μ-loop found mask₀ x₀ mask x = x
 
--- src/masks.rt:13:5
 loop-holds : tie.Need-loop-holds Inv-loop μ-loop
 loop-holds c = mask-start _ (c .pre)
 
--- src/masks.rt:14:9
 sub-x : tie.Need-sub-x Inv-loop μ-loop
 sub-x c = omega arith
 
--- src/masks.rt:15:9
 mul-mask : tie.Need-mul-mask Inv-loop μ-loop
 mul-mask c = omega (arith, c .before .loop .inv .low)
 
--- src/masks.rt:16:12
 mul-if1 : tie.Need-mul-if1 Inv-loop μ-loop
 mul-if1 c = omega (arith, c .before .loop .inv .within)
 
--- src/masks.rt:16:12
 element-copy-out-if1 : tie.Need-element-copy-out-if1 Inv-loop μ-loop
 element-copy-out-if1 c = omega (arith, c .before .loop .inv .within, c .before .before .pre)
 
--- src/masks.rt:17:13
 add-mask : tie.Need-add-mask Inv-loop μ-loop
 add-mask c = omega (arith, c .before .before .before .loop .inv .low)
 
--- src/masks.rt:13:5
 loop-less : tie.Need-loop-less Inv-loop μ-loop
 loop-less c = omega arith
 
--- src/masks.rt:13:5
 loop-again : tie.Need-loop-again Inv-loop μ-loop
 loop-again c = mask-one _ (c .before .before .before .before .pre) _ _ _ _ (omega arith) (c .if1 .taken) (omega arith) (c .before .before .before .loop .inv)
 
--- src/masks.rt:13:5
 loop-less-2 : tie.Need-loop-less-2 Inv-loop μ-loop
 loop-less-2 c = omega arith
 
--- src/masks.rt:13:5
 loop-again-2 : tie.Need-loop-again-2 Inv-loop μ-loop
 loop-again-2 c = mask-none _ (c .before .before .before .before .pre) _ _ _ _ (omega arith) (omega arith) (omega arith) (c .before .before .before .loop .inv)
 
--- src/masks.rt:8:1
 returns : tie.Need-returns Inv-loop μ-loop
 returns c = mask-end _ (c .before .before .pre) _ _ (omega arith) (c .before .loop .inv)
 

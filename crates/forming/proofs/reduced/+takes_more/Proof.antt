@@ -27,47 +27,36 @@ takes-more-below t =
 abbrev takes-more-calls : ℕ → takes-more-lts.Claims
 takes-more-calls t = (kind-reads.Asked, kind-reads.Learnt, operand-reads.Asked, operand-reads.Learnt, takes-more-below t, takes-more.Post)
 
--- src/reduced.rt:51:9
 takes-more-kind-requires : (t : ℕ) → takes-more-lts.Need-kind-requires (takes-more-calls t) (takes-more-at t) takes-more.Post
 takes-more-kind-requires t c κs = c .before .pre .1 .0 .here
 
--- src/reduced.rt:53:9
 takes-more-returns : (t : ℕ) → takes-more-lts.Need-returns (takes-more-calls t) (takes-more-at t) takes-more.Post
 takes-more-returns t c = more-wild _ _ _ (c .before .before .before .pre .1 .0) (omega (arith, c .before .kind .ensures .0)) (c .before .before .before .args .k) (c .before .before .before .args .side)
 
--- src/reduced.rt:56:9
 takes-more-returns-2 : (t : ℕ) → takes-more-lts.Need-returns-2 (takes-more-calls t) (takes-more-at t) takes-more.Post
 takes-more-returns-2 t c = no-more _ _ _ (c .before .before .before .before .pre .1 .0) (c .before .before .before .before .args .k) (c .before .before .before .before .args .side)
 
--- src/reduced.rt:58:9
 takes-more-operand-requires : (t : ℕ) → takes-more-lts.Need-operand-requires (takes-more-calls t) (takes-more-at t) takes-more.Post
 takes-more-operand-requires t c κs = has-operand _ _ _ (c .before .before .before .before .pre .1 .0) (c .before .before .before .before .args .side) (omega (arith, two-halves _ _ _ (c .before .before .before .before .pre .1 .0) (c .before .before .before .before .args .k) (omega (arith, c .before .before .kind .ensures .0)) (c .before .before .before .before .pre .1 .1), c .before .before .before .before .pre .1 .2))
 
--- src/reduced.rt:59:9
 takes-more-takes-more-requires : (t : ℕ) → takes-more-lts.Need-takes-more-requires (takes-more-calls t) (takes-more-at t) takes-more.Post
 takes-more-takes-more-requires t c κs = let o = operand-readable _ _ _ (c .before .before .before .before .before .pre .1 .0) (c .before .before .before .before .before .args .side) (omega (arith, two-halves _ _ _ (c .before .before .before .before .before .pre .1 .0) (c .before .before .before .before .before .args .k) (omega (arith, c .before .before .before .kind .ensures .0)) (c .before .before .before .before .before .pre .1 .1), c .before .before .before .before .before .pre .1 .2)) _ (c .operand .ensures .0) in (omega (arith, o .1), (o .0, c .before .before .before .before .before .pre .1 .1, c .before .before .before .before .before .pre .1 .2))
 
--- src/reduced.rt:61:9
 takes-more-returns-3 : (t : ℕ) → takes-more-lts.Need-returns-3 (takes-more-calls t) (takes-more-at t) takes-more.Post
 takes-more-returns-3 t c = more-first _ _ _ (c .before .before .before .before .before .before .before .pre .1 .0) (c .before .before .before .before .before .before .before .args .k) (omega (arith, c .before .before .before .before .before .kind .ensures .0)) (c .before .before .before .before .before .before .before .pre .1 .1) (c .before .before .before .before .before .before .before .args .side) (c .before .before .before .before .before .before .before .pre .1 .2) _ _ (c .before .takes-more .ensures) (c .before .before .operand .ensures .0) (c .if3 .taken)
 
--- src/reduced.rt:64:9
 takes-more-returns-4 : (t : ℕ) → takes-more-lts.Need-returns-4 (takes-more-calls t) (takes-more-at t) takes-more.Post
 takes-more-returns-4 t c = no-more _ _ _ (c .before .before .before .before .before .before .before .before .pre .1 .0) (c .before .before .before .before .before .before .before .before .args .k) (c .before .before .before .before .before .before .before .before .args .side)
 
--- src/reduced.rt:66:38
 takes-more-sub-operand : (t : ℕ) → takes-more-lts.Need-sub-operand (takes-more-calls t) (takes-more-at t) takes-more.Post
 takes-more-sub-operand t c = omega (arith, c .before .before .before .before .before .before .before .before .pre .1 .2)
 
--- src/reduced.rt:66:9
 takes-more-operand-requires-2 : (t : ℕ) → takes-more-lts.Need-operand-requires-2 (takes-more-calls t) (takes-more-at t) takes-more.Post
 takes-more-operand-requires-2 t c κs = has-operand _ _ _ (c .before .before .before .before .before .before .before .before .pre .1 .0) (1 - c .before .before .before .before .before .before .before .before .args .side) (omega (arith, two-halves _ _ _ (c .before .before .before .before .before .before .before .before .pre .1 .0) (c .before .before .before .before .before .before .before .before .args .k) (omega (arith, c .before .before .before .before .before .before .kind .ensures .0)) (c .before .before .before .before .before .before .before .before .pre .1 .1), c .before .before .before .before .before .before .before .before .pre .1 .2))
 
--- src/reduced.rt:67:5
 takes-more-takes-more-requires-2 : (t : ℕ) → takes-more-lts.Need-takes-more-requires-2 (takes-more-calls t) (takes-more-at t) takes-more.Post
 takes-more-takes-more-requires-2 t c κs = let o = operand-readable _ _ _ (c .before .before .before .before .before .before .before .before .before .pre .1 .0) (1 - c .before .before .before .before .before .before .before .before .before .args .side) (omega (arith, two-halves _ _ _ (c .before .before .before .before .before .before .before .before .before .pre .1 .0) (c .before .before .before .before .before .before .before .before .before .args .k) (omega (arith, c .before .before .before .before .before .before .before .kind .ensures .0)) (c .before .before .before .before .before .before .before .before .before .pre .1 .1), c .before .before .before .before .before .before .before .before .before .pre .1 .2)) _ (c .operand2 .ensures .0) in (omega (arith, o .1), (o .0, c .before .before .before .before .before .before .before .before .before .pre .1 .1, c .before .before .before .before .before .before .before .before .before .pre .1 .2))
 
--- src/reduced.rt:47:1
 takes-more-returns-5 : (t : ℕ) → takes-more-lts.Need-returns-5 (takes-more-calls t) (takes-more-at t) takes-more.Post
 takes-more-returns-5 t c = more-other _ _ _ (c .before .before .before .before .before .before .before .before .before .before .pre .1 .0) (c .before .before .before .before .before .before .before .before .before .before .args .k) (omega (arith, c .before .before .before .before .before .before .before .before .kind .ensures .0)) (c .before .before .before .before .before .before .before .before .before .before .pre .1 .1) (c .before .before .before .before .before .before .before .before .before .before .args .side) (c .before .before .before .before .before .before .before .before .before .before .pre .1 .2) _ _ (c .takes-more2 .ensures) (omega arith) (c .before .operand2 .ensures .0)
 

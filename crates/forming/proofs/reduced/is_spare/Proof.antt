@@ -12,39 +12,30 @@ use Rattle.forming.proofs.reduced.takes_more.Reads as takes-more-reads
 use Rattle.tables.proofs.reading.kind.Reads as kind-reads
 use Rattle.tables.proofs.reading.operand.Reads as operand-reads
 
--- src/reduced.rt:75:9
 operand-requires : tie.Need-operand-requires
 operand-requires c κs = has-operand _ _ _ (c .before .pre .readable) (c .before .args .side) (omega (arith, two-halves _ _ _ (c .before .pre .readable) (c .before .args .k) (c .before .pre .of-kind) (c .before .pre .splits), c .before .pre .low))
 
--- src/reduced.rt:76:9
 accepts-all-requires : tie.Need-accepts-all-requires
 accepts-all-requires c κs = (operand-readable _ _ _ (c .before .before .pre .readable) (c .before .before .args .side) (omega (arith, two-halves _ _ _ (c .before .before .pre .readable) (c .before .before .args .k) (c .before .before .pre .of-kind) (c .before .before .pre .splits), c .before .before .pre .low)) _ (c .operand .ensures .0) .0, c .before .before .pre .splits)
 
--- src/reduced.rt:78:9
 returns : tie.Need-returns
 returns c = no-spare _ _ _ _
 
--- src/reduced.rt:80:38
 sub-operand : tie.Need-sub-operand
 sub-operand c = omega (arith, c .before .before .before .before .pre .low)
 
--- src/reduced.rt:80:9
 operand-requires-2 : tie.Need-operand-requires-2
 operand-requires-2 c κs = has-operand _ _ _ (c .before .before .before .before .pre .readable) (1 - c .before .before .before .before .args .side) (omega (arith, two-halves _ _ _ (c .before .before .before .before .pre .readable) (c .before .before .before .before .args .k) (c .before .before .before .before .pre .of-kind) (c .before .before .before .before .pre .splits), c .before .before .before .before .pre .low))
 
--- src/reduced.rt:81:9
 kind-requires : tie.Need-kind-requires
 kind-requires c κs = operand-readable _ _ _ (c .before .before .before .before .before .pre .readable) (1 - c .before .before .before .before .before .args .side) (omega (arith, two-halves _ _ _ (c .before .before .before .before .before .pre .readable) (c .before .before .before .before .before .args .k) (c .before .before .before .before .before .pre .of-kind) (c .before .before .before .before .before .pre .splits), c .before .before .before .before .before .pre .low)) _ (c .operand2 .ensures .0) .0 .here
 
--- src/reduced.rt:83:9
 returns-2 : tie.Need-returns-2
 returns-2 c = no-spare _ _ _ _
 
--- src/reduced.rt:85:5
 takes-more-requires : tie.Need-takes-more-requires
 takes-more-requires c κs = (operand-readable _ _ _ (c .before .before .before .before .before .before .before .pre .readable) (1 - c .before .before .before .before .before .before .before .args .side) (omega (arith, two-halves _ _ _ (c .before .before .before .before .before .before .before .pre .readable) (c .before .before .before .before .before .before .before .args .k) (c .before .before .before .before .before .before .before .pre .of-kind) (c .before .before .before .before .before .before .before .pre .splits), c .before .before .before .before .before .before .before .pre .low)) _ (c .before .before .operand2 .ensures .0) .0, c .before .before .before .before .before .before .before .pre .splits, c .before .before .before .before .before .before .before .pre .low)
 
--- src/reduced.rt:71:1
 returns-3 : tie.Need-returns-3
 returns-3 c = spare-told _ _ _ (c .before .before .before .before .before .before .before .before .pre .readable) (c .before .before .before .before .before .before .before .before .args .k) (c .before .before .before .before .before .before .before .before .pre .of-kind) (c .before .before .before .before .before .before .before .before .pre .splits) (c .before .before .before .before .before .before .before .before .args .side) (c .before .before .before .before .before .before .before .before .pre .low) _ (c .before .before .before .before .before .before .operand .ensures .0) _ (c .before .before .before .before .before .accepts-all .ensures) (not-false _ (c .before .before .before .before .if1 .left)) _ (c .before .before .before .operand2 .ensures .0) (operand-readable _ _ _ (c .before .before .before .before .before .before .before .before .pre .readable) (1 - c .before .before .before .before .before .before .before .before .args .side) (omega (arith, two-halves _ _ _ (c .before .before .before .before .before .before .before .before .pre .readable) (c .before .before .before .before .before .before .before .before .args .k) (c .before .before .before .before .before .before .before .before .pre .of-kind) (c .before .before .before .before .before .before .before .before .pre .splits), c .before .before .before .before .before .before .before .before .pre .low)) _ (c .before .before .before .operand2 .ensures .0)) (omega (arith, c .before .before .kind .ensures .0)) _ (c .takes-more .ensures)
 

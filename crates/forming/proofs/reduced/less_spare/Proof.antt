@@ -13,43 +13,33 @@ use Rattle.forming.proofs.reduced.splits.Reads as splits-reads
 use Rattle.tables.proofs.reading.kind.Reads as kind-reads
 use Rattle.tables.proofs.reading.operand.Reads as operand-reads
 
--- src/reduced.rt:93:9
 kind-requires : tie.Need-kind-requires
 kind-requires c κs = search needs
 
--- src/reduced.rt:94:9
 splits-requires : tie.Need-splits-requires
 splits-requires c κs = search needs
 
--- src/reduced.rt:96:9
 returns : tie.Need-returns
 returns c = search needs
 
--- src/reduced.rt:98:9
 is-spare-requires : tie.Need-is-spare-requires
 is-spare-requires c κs = record { readable = c .before .before .before .before .pre .0; splits = c .before .splits .ensures (not-false _ (c .if1 .left)); of-kind = sym (c .before .before .kind .ensures .0); low = omega arith }
 
--- src/reduced.rt:100:9
 operand-requires : tie.Need-operand-requires
 operand-requires c κs = has-operand _ _ _ (c .before .before .before .before .before .before .pre .0) 1 (omega (arith, two-halves _ _ _ (c .before .before .before .before .before .before .pre .0) _ (sym (c .before .before .before .before .kind .ensures .0)) (c .before .before .before .splits .ensures (not-false _ (c .before .before .if1 .left)))))
 
--- src/reduced.rt:100:9
 returns-2 : tie.Need-returns-2
 returns-2 c = spare-left _ _ _ 0 _ (c .before .before .is-spare .ensures) (c .before .if2 .taken) _ (c .operand .ensures .0)
 
--- src/reduced.rt:102:9
 is-spare-requires-2 : tie.Need-is-spare-requires-2
 is-spare-requires-2 c κs = record { readable = c .before .before .before .before .before .before .pre .0; splits = c .before .before .before .splits .ensures (not-false _ (c .before .before .if1 .left)); of-kind = sym (c .before .before .before .before .kind .ensures .0); low = omega arith }
 
--- src/reduced.rt:104:9
 operand-requires-2 : tie.Need-operand-requires-2
 operand-requires-2 c κs = has-operand _ _ _ (c .before .before .before .before .before .before .before .before .pre .0) 0 (omega (arith, two-halves _ _ _ (c .before .before .before .before .before .before .before .before .pre .0) _ (sym (c .before .before .before .before .before .before .kind .ensures .0)) (c .before .before .before .before .before .splits .ensures (not-false _ (c .before .before .before .before .if1 .left)))))
 
--- src/reduced.rt:104:9
 returns-3 : tie.Need-returns-3
 returns-3 c = spare-left _ _ _ 1 _ (c .before .before .is-spare2 .ensures) (c .before .if3 .taken) _ (c .operand2 .ensures .0)
 
--- src/reduced.rt:89:1
 returns-4 : tie.Need-returns-4
 returns-4 c = search needs
 

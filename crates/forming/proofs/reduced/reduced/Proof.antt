@@ -13,27 +13,21 @@ Inv-loop table index p last₀ q₀ last q = Reduced table index p q
 abbrev μ-loop : tie.MeasureT-loop
 μ-loop table index p last₀ q₀ last q = last
 
--- src/reduced.rt:115:9
 less-spare-requires : tie.Need-less-spare-requires Inv-loop μ-loop
 less-spare-requires c κs = c .before .pre
 
--- src/reduced.rt:116:5
 loop-holds : tie.Need-loop-holds Inv-loop μ-loop
 loop-holds c = c .less-spare .ensures
 
--- src/reduced.rt:118:9
 less-spare-requires-2 : tie.Need-less-spare-requires-2 Inv-loop μ-loop
 less-spare-requires-2 c κs = (c .before .loop .inv .readable, c .before .loop .inv .composed)
 
--- src/reduced.rt:116:5
 loop-less : tie.Need-loop-less Inv-loop μ-loop
 loop-less c = omega arith
 
--- src/reduced.rt:116:5
 loop-again : tie.Need-loop-again Inv-loop μ-loop
 loop-again c = reduced-then _ _ _ _ _ (c .before .before .loop .inv) (c .less-spare2 .ensures)
 
--- src/reduced.rt:110:1
 returns : tie.Need-returns Inv-loop μ-loop
 returns c = c .before .loop .inv
 

@@ -6,11 +6,9 @@ use Rattle.forming.proofs.reduced.splits.Tie as tie
 use Rattle.forming.proofs.reduced.splits.Reads as reads
 use Rattle.forming.proofs.reduced.splits.Lts as lts
 
--- src/reduced.rt:20:9
 returns : tie.Need-returns
 returns c = λ e. inl (omega arith)
 
--- src/reduced.rt:16:1
 returns-2 : tie.Need-returns-2
 returns-2 c = λ e. inr (eqb-true _ _ e)
 

@@ -15,67 +15,51 @@ Inv-loop s found rows order n low₀ high₀ low high = Between s found rows ord
 abbrev μ-loop : tie.MeasureT-loop
 μ-loop s found rows order n low₀ high₀ low high = high - low
 
--- src/rows.rt:52:5
 loop-holds : tie.Need-loop-holds Inv-loop μ-loop
 loop-holds c = between-start _ _ _ _ _
 
--- src/rows.rt:53:29
 sub-middle : tie.Need-sub-middle Inv-loop μ-loop
 sub-middle c = omega arith
 
--- src/rows.rt:53:22
 add-middle : tie.Need-add-middle Inv-loop μ-loop
 add-middle c = omega (arith, c .before .loop .inv .within, c .before .before .before .pre .1 .1 .few)
 
--- src/rows.rt:54:17
 element-copy-out-r : tie.Need-element-copy-out-r Inv-loop μ-loop
 element-copy-out-r c = omega (arith, c .before .loop .inv .within, c .before .before .before .pre .1 .1 .few)
 
--- src/rows.rt:54:17
 cast-r : tie.Need-cast-r Inv-loop μ-loop
 cast-r c = omega (arith, c .before .before .before .before .pre .1 .1 .row (c .before .before .loop .low + (c .before .before .loop .high - c .before .before .loop .low) / 2) (omega (arith, c .before .before .loop .inv .within)), c .before .before .before .before .pre .1 .1 .few)
 
--- src/rows.rt:55:13
 order-row-requires : tie.Need-order-row-requires Inv-loop μ-loop
 order-row-requires c κs = (c .before .before .before .before .pre .0, row-held _ _ _ _ (c .before .before .before .before .pre .1) _ _ (omega (arith, c .before .before .loop .inv .within)) refl)
 
--- src/rows.rt:58:17
 enum-told : tie.Need-enum-told Inv-loop μ-loop
 enum-told c = search needs
 
--- src/rows.rt:52:5
 loop-less : tie.Need-loop-less Inv-loop μ-loop
 loop-less c = omega arith
 
--- src/rows.rt:52:5
 loop-again : tie.Need-loop-again Inv-loop μ-loop
 loop-again c = between-lower _ _ _ _ _ _ _ (c .before .before .before .before .before .loop .inv) _ _ (omega arith) (omega arith) refl _ (c .before .before .order-row .ensures) (c .enum-told .given .1)
 
--- src/rows.rt:61:23
 enum-told-2 : tie.Need-enum-told-2 Inv-loop μ-loop
 enum-told-2 c = search needs
 
--- src/rows.rt:61:23
 add-low : tie.Need-add-low Inv-loop μ-loop
 add-low c = omega (arith, c .before .before .before .before .before .loop .inv .within, c .before .before .before .before .before .before .before .pre .1 .1 .few)
 
--- src/rows.rt:52:5
 loop-less-2 : tie.Need-loop-less-2 Inv-loop μ-loop
 loop-less-2 c = omega arith
 
--- src/rows.rt:52:5
 loop-again-2 : tie.Need-loop-again-2 Inv-loop μ-loop
 loop-again-2 c = between-higher _ _ _ _ _ _ _ (c .before .before .before .before .before .loop .inv) _ _ (omega arith) (omega arith) refl _ (c .before .before .order-row .ensures) (c .enum-told2 .given .1)
 
--- src/rows.rt:64:17
 enum-told-3 : tie.Need-enum-told-3 Inv-loop μ-loop
 enum-told-3 c = search needs
 
--- src/rows.rt:64:17
 returns : tie.Need-returns Inv-loop μ-loop
 returns c = between-found _ _ _ _ _ _ _ (c .before .before .before .before .before .loop .inv) _ _ (omega arith) (omega arith) refl _ (c .before .before .order-row .ensures) (c .enum-told3 .given .1)
 
--- src/rows.rt:46:1
 returns-2 : tie.Need-returns-2 Inv-loop μ-loop
 returns-2 c = between-end _ _ _ _ _ _ _ (c .before .loop .inv) (omega arith)
 

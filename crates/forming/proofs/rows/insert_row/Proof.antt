@@ -9,31 +9,24 @@ use Rattle.forming.proofs.rows.find_place.Reads as find-place-reads
 use Rattle.forming.proofs.rows.put_row.Reads as put-row-reads
 use Rattle.forming.proofs.rows.shift_in.Reads as shift-in-reads
 
--- src/rows.rt:115:9
 find-place-requires : tie.Need-find-place-requires
 find-place-requires c κs = ((c .before .before .before .pre .binding, c .before .before .before .pre .stands), (c .before .before .before .pre .bindings, c .before .before .before .pre .are))
 
--- src/rows.rt:117:9
 returns : tie.Need-returns
 returns c = enter-there _ _ _ _ _ _ (c .before .find-place .ensures) (c .if1 .taken)
 
--- src/rows.rt:120:9
 returns-2 : tie.Need-returns-2
 returns-2 c = λ b bs h g. (refl, enter-full _ _ _ _ _ _ (c .before .before .find-place .ensures) (c .before .if1 .left) (omega arith) b bs h g)
 
--- src/rows.rt:123:5
 put-row-requires : tie.Need-put-row-requires
 put-row-requires c κs = ((c .before .before .before .before .before .before .before .pre .binding, c .before .before .before .before .before .before .before .pre .stands), omega arith, c .before .before .before .before .before .before .before .pre .are .wide)
 
--- src/rows.rt:124:5
 shift-in-requires : tie.Need-shift-in-requires
 shift-in-requires c κs = (c .before .before .before .before .before .find-place .ensures (c .before .before .before .before .before .before .before .before .before .pre .binding) (c .before .before .before .before .before .before .before .before .before .pre .bindings) (c .before .before .before .before .before .before .before .before .before .pre .stands) (c .before .before .before .before .before .before .before .before .before .pre .are) .within, omega arith, c .before .before .before .before .before .before .before .before .before .pre .are .long)
 
--- src/rows.rt:125:20
 add-t14 : tie.Need-add-t14
 add-t14 c = omega arith
 
--- src/rows.rt:105:1
 returns-3 : tie.Need-returns-3
 returns-3 c = enter-new _ _ _ _ _ _ (c .before .before .before .before .before .before .find-place .ensures) (c .before .before .before .before .before .if1 .left) (omega arith) _ _ (c .before .before .put-row .ensures) (c .shift-in .ensures)
 

@@ -16,83 +16,63 @@ Inv-loop s found rows r x₀ x = EvenRow s found rows r x
 abbrev μ-loop : tie.MeasureT-loop
 μ-loop s found rows r x₀ x = 16 - x
 
--- src/rows.rt:26:5
 loop-holds : tie.Need-loop-holds Inv-loop μ-loop
 loop-holds c = row-start _ _ _ _
 
--- src/rows.rt:27:17
 mul-a : tie.Need-mul-a Inv-loop μ-loop
 mul-a c = search needs
 
--- src/rows.rt:27:17
 element-copy-out-a : tie.Need-element-copy-out-a Inv-loop μ-loop
 element-copy-out-a c = search needs
 
--- src/rows.rt:28:22
 mul-b : tie.Need-mul-b Inv-loop μ-loop
 mul-b c = omega (arith, c .before .before .before .before .pre .1 .low)
 
--- src/rows.rt:28:22
 add-b : tie.Need-add-b Inv-loop μ-loop
 add-b c = omega (arith, c .before .before .before .before .pre .1 .low)
 
--- src/rows.rt:28:17
 mul-b-2 : tie.Need-mul-b-2 Inv-loop μ-loop
 mul-b-2 c = omega (arith, c .before .before .before .before .pre .1 .low)
 
--- src/rows.rt:28:17
 element-copy-out-b : tie.Need-element-copy-out-b Inv-loop μ-loop
 element-copy-out-b c = omega (arith, c .before .before .before .before .pre .1 .low)
 
--- src/rows.rt:30:13
 add-x : tie.Need-add-x Inv-loop μ-loop
 add-x c = search needs
 
--- src/rows.rt:26:5
 loop-less : tie.Need-loop-less Inv-loop μ-loop
 loop-less c = omega arith
 
--- src/rows.rt:26:5
 loop-again : tie.Need-loop-again Inv-loop μ-loop
 loop-again c = row-more _ _ _ _ _ (c .before .before .before .before .loop .inv) (omega arith) _ (words-same _ _ _ (c .if1 .taken)) refl
 
--- src/rows.rt:32:17
 order-names-requires : tie.Need-order-names-requires Inv-loop μ-loop
 order-names-requires c κs = row-words _ _ _ _ _ (c .before .before .before .before .loop .inv) (c .before .before .before .before .before .before .pre .0) (c .before .before .before .before .before .before .pre .1) (omega arith)
 
--- src/rows.rt:34:33
 enum-told : tie.Need-enum-told Inv-loop μ-loop
 enum-told c = search needs
 
--- src/rows.rt:34:33
 returns : tie.Need-returns Inv-loop μ-loop
 returns c = row-lower _ _ _ _ _ (c .before .before .before .before .before .before .before .loop .inv) (omega arith) _ (c .before .before .order-names .ensures) (c .enum-told .given .1)
 
--- src/rows.rt:35:34
 enum-told-2 : tie.Need-enum-told-2 Inv-loop μ-loop
 enum-told-2 c = search needs
 
--- src/rows.rt:35:34
 returns-2 : tie.Need-returns-2 Inv-loop μ-loop
 returns-2 c = row-higher _ _ _ _ _ (c .before .before .before .before .before .before .before .loop .inv) (omega arith) _ (c .before .before .order-names .ensures) (c .enum-told2 .given .1)
 
--- src/rows.rt:37:21
 enum-told-3 : tie.Need-enum-told-3 Inv-loop μ-loop
 enum-told-3 c = search needs
 
--- src/rows.rt:37:21
 add-x-2 : tie.Need-add-x-2 Inv-loop μ-loop
 add-x-2 c = search needs
 
--- src/rows.rt:26:5
 loop-less-2 : tie.Need-loop-less-2 Inv-loop μ-loop
 loop-less-2 c = omega arith
 
--- src/rows.rt:26:5
 loop-again-2 : tie.Need-loop-again-2 Inv-loop μ-loop
 loop-again-2 c = row-more _ _ _ _ _ (c .before .before .before .before .before .before .before .loop .inv) (omega arith) _ (c .before .before .order-names .ensures) (c .enum-told3 .given .1)
 
--- src/rows.rt:21:1
 returns-3 : tie.Need-returns-3 Inv-loop μ-loop
 returns-3 c = row-end _ _ _ _ _ (c .before .loop .inv) (omega arith)
 

@@ -13,47 +13,36 @@ Inv-loop s found rows₀ r x₀ rows x = RowSoFar found rows₀ rows r x
 abbrev μ-loop : tie.MeasureT-loop
 μ-loop s found rows₀ r x₀ rows x = 16 - x
 
--- src/rows.rt:83:5
 loop-holds : tie.Need-loop-holds Inv-loop μ-loop
 loop-holds c = so-far-start _ _ _
 
--- src/rows.rt:84:17
 mul-c : tie.Need-mul-c Inv-loop μ-loop
 mul-c c = search needs
 
--- src/rows.rt:84:17
 element-copy-out-c : tie.Need-element-copy-out-c Inv-loop μ-loop
 element-copy-out-c c = search needs
 
--- src/rows.rt:85:14
 mul-rows : tie.Need-mul-rows Inv-loop μ-loop
 mul-rows c = omega (arith, c .before .before .before .pre .1)
 
--- src/rows.rt:85:14
 add-rows : tie.Need-add-rows Inv-loop μ-loop
 add-rows c = omega (arith, c .before .before .before .pre .1)
 
--- src/rows.rt:85:9
 mul-rows-2 : tie.Need-mul-rows-2 Inv-loop μ-loop
 mul-rows-2 c = omega (arith, c .before .before .before .pre .1)
 
--- src/rows.rt:85:9
 element-write-rows : tie.Need-element-write-rows Inv-loop μ-loop
 element-write-rows c = omega (arith, c .before .before .before .pre .1)
 
--- src/rows.rt:86:9
 add-x : tie.Need-add-x Inv-loop μ-loop
 add-x c = search needs
 
--- src/rows.rt:83:5
 loop-less : tie.Need-loop-less Inv-loop μ-loop
 loop-less c = omega arith
 
--- src/rows.rt:83:5
 loop-again : tie.Need-loop-again Inv-loop μ-loop
 loop-again c = so-far-more _ _ _ _ _ (c .before .before .loop .inv) (omega arith) (c .before .before .before .pre .1) (c .before .before .before .pre .2)
 
--- src/rows.rt:78:1
 returns : tie.Need-returns Inv-loop μ-loop
 returns c = so-far-end _ _ _ _ _ (c .before .loop .inv) (omega arith) _
 

@@ -11,43 +11,33 @@ Inv-loop order₀ at n i₀ order i = ShiftSoFar order₀ order at n i
 abbrev μ-loop : tie.MeasureT-loop
 μ-loop order₀ at n i₀ order i = i
 
--- src/rows.rt:96:5
 loop-holds : tie.Need-loop-holds Inv-loop μ-loop
 loop-holds c = shift-start _ _ _ (c .pre .0)
 
--- src/rows.rt:97:23
 sub-x : tie.Need-sub-x Inv-loop μ-loop
 sub-x c = omega arith
 
--- src/rows.rt:97:17
 element-copy-out-x : tie.Need-element-copy-out-x Inv-loop μ-loop
 element-copy-out-x c = omega (arith, c .before .loop .inv .high, c .before .before .pre .1)
 
--- src/rows.rt:98:9
 element-write-order : tie.Need-element-write-order Inv-loop μ-loop
 element-write-order c = omega (arith, c .before .before .loop .inv .high, c .before .before .before .pre .1)
 
--- src/rows.rt:99:9
 sub-i : tie.Need-sub-i Inv-loop μ-loop
 sub-i c = omega arith
 
--- src/rows.rt:96:5
 loop-less : tie.Need-loop-less Inv-loop μ-loop
 loop-less c = omega arith
 
--- src/rows.rt:96:5
 loop-again : tie.Need-loop-again Inv-loop μ-loop
 loop-again c = shift-more _ _ _ _ _ (c .before .before .loop .inv) (c .before .before .before .pre .1) (c .before .before .before .pre .2) (omega arith)
 
--- src/rows.rt:101:17
 cast-order : tie.Need-cast-order Inv-loop μ-loop
 cast-order c = omega (arith, c .before .before .pre .1)
 
--- src/rows.rt:101:5
 element-write-order-2 : tie.Need-element-write-order-2 Inv-loop μ-loop
 element-write-order-2 c = omega (arith, c .before .before .pre .0, c .before .before .pre .1)
 
--- src/rows.rt:91:1
 returns : tie.Need-returns Inv-loop μ-loop
 returns c = shift-end _ _ _ _ _ (c .before .loop .inv) (c .before .before .pre .1) (c .before .before .pre .2) (omega arith)
 

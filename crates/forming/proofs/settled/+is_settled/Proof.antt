@@ -40,62 +40,48 @@ is-settled-Inv-loop table index p found k n i₀ i = SettledTo table p found i
 abbrev is-settled-μ-loop : is-settled-lts.MeasureT-loop
 is-settled-μ-loop table index p found k n i₀ i = n - i
 
--- src/settled.rt:15:9
 is-settled-kind-requires : (t : ℕ) → is-settled-lts.Need-kind-requires (is-settled-calls t) (is-settled-at t) is-settled.Post is-settled-Inv-loop is-settled-μ-loop
 is-settled-kind-requires t c κs = c .before .pre .1 .here
 
--- src/settled.rt:17:13
 is-settled-field-requires : (t : ℕ) → is-settled-lts.Need-field-requires (is-settled-calls t) (is-settled-at t) is-settled.Post is-settled-Inv-loop is-settled-μ-loop
 is-settled-field-requires t c κs = name-field _ _ _ (c .before .before .before .pre .1) (sym (c .before .kind .ensures .0) ∙ c .if1 .taken)
 
--- src/settled.rt:18:9
 is-settled-has-word-requires : (t : ℕ) → is-settled-lts.Need-has-word-requires (is-settled-calls t) (is-settled-at t) is-settled.Post is-settled-Inv-loop is-settled-μ-loop
 is-settled-has-word-requires t c κs = search needs
 
--- src/settled.rt:18:9
 is-settled-returns : (t : ℕ) → is-settled-lts.Need-returns (is-settled-calls t) (is-settled-at t) is-settled.Post is-settled-Inv-loop is-settled-μ-loop
 is-settled-returns t c = settled-name _ _ _ (c .before .before .before .before .before .pre .1) _ (sym (c .before .before .before .kind .ensures .0) ∙ c .before .before .if1 .taken) _ (c .before .field .ensures .0) _ (c .has-word .ensures)
 
--- src/settled.rt:21:9
 is-settled-is-composed-requires : (t : ℕ) → is-settled-lts.Need-is-composed-requires (is-settled-calls t) (is-settled-at t) is-settled.Post is-settled-Inv-loop is-settled-μ-loop
 is-settled-is-composed-requires t c κs = c .before .kind .ensures .1
 
 is-settled-returns-2 : (t : ℕ) → is-settled-lts.Need-returns-2 (is-settled-calls t) (is-settled-at t) is-settled.Post is-settled-Inv-loop is-settled-μ-loop
 is-settled-returns-2 t c = settled-leaf _ _ _ (c .before .before .before .before .before .pre .1) _ (λ e. c .before .before .if1 .left (c .before .before .before .kind .ensures .0 ∙ e)) (composed-told (c .before .before .before .kind .ensures .0) (c .before .is-composed .ensures) (not-true _ (c .if2 .taken)))
 
--- src/settled.rt:23:9
 is-settled-operand-count-requires : (t : ℕ) → is-settled-lts.Need-operand-count-requires (is-settled-calls t) (is-settled-at t) is-settled.Post is-settled-Inv-loop is-settled-μ-loop
 is-settled-operand-count-requires t c κs = c .before .before .before .before .before .pre .1 .here
 
--- src/settled.rt:25:5
 is-settled-loop-holds : (t : ℕ) → is-settled-lts.Need-loop-holds (is-settled-calls t) (is-settled-at t) is-settled.Post is-settled-Inv-loop is-settled-μ-loop
 is-settled-loop-holds t c = λ j l. absurd (omega arith)
 
--- src/settled.rt:26:13
 is-settled-operand-requires : (t : ℕ) → is-settled-lts.Need-operand-requires (is-settled-calls t) (is-settled-at t) is-settled.Post is-settled-Inv-loop is-settled-μ-loop
 is-settled-operand-requires t c κs = has-operand _ _ _ (c .before .before .before .before .before .before .before .before .pre .1) _ (omega (arith, c .before .before .operand-count .ensures .0))
 
--- src/settled.rt:27:13
 is-settled-is-settled-requires : (t : ℕ) → is-settled-lts.Need-is-settled-requires (is-settled-calls t) (is-settled-at t) is-settled.Post is-settled-Inv-loop is-settled-μ-loop
 is-settled-is-settled-requires t c κs = let o = operand-readable _ _ _ (c .before .before .before .before .before .before .before .before .before .pre .1) _ (omega (arith, c .before .before .before .operand-count .ensures .0)) _ (c .operand .ensures .0) in (omega (arith, o .1, c .before .before .before .before .before .before .before .before .before .pre .0), o .0)
 
--- src/settled.rt:29:13
 is-settled-returns-3 : (t : ℕ) → is-settled-lts.Need-returns-3 (is-settled-calls t) (is-settled-at t) is-settled.Post is-settled-Inv-loop is-settled-μ-loop
 is-settled-returns-3 t c = settled-no _ _ _
 
--- src/settled.rt:31:9
 is-settled-add-i : (t : ℕ) → is-settled-lts.Need-add-i (is-settled-calls t) (is-settled-at t) is-settled.Post is-settled-Inv-loop is-settled-μ-loop
 is-settled-add-i t c = omega (arith, c .before .before .before .before .before .operand-count .ensures .1)
 
--- src/settled.rt:25:5
 is-settled-loop-less : (t : ℕ) → is-settled-lts.Need-loop-less (is-settled-calls t) (is-settled-at t) is-settled.Post is-settled-Inv-loop is-settled-μ-loop
 is-settled-loop-less t c = omega arith
 
--- src/settled.rt:25:5
 is-settled-loop-again : (t : ℕ) → is-settled-lts.Need-loop-again (is-settled-calls t) (is-settled-at t) is-settled.Post is-settled-Inv-loop is-settled-μ-loop
 is-settled-loop-again t c = settled-next _ _ _ _ _ (c .before .before .before .before .loop .inv) (c .before .before .operand .ensures .0) _ (c .before .is-settled .ensures) (not-false _ (c .if3 .left))
 
--- src/settled.rt:11:1
 is-settled-returns-4 : (t : ℕ) → is-settled-lts.Need-returns-4 (is-settled-calls t) (is-settled-at t) is-settled.Post is-settled-Inv-loop is-settled-μ-loop
 is-settled-returns-4 t c = settled-all _ _ _ (c .before .before .before .before .before .before .before .before .pre .1) _ (composed-told (c .before .before .before .before .before .before .kind .ensures .0) (c .before .before .before .before .is-composed .ensures) (not-false _ (c .before .before .before .if2 .left))) _ (c .before .loop .inv) (omega (arith, c .before .before .operand-count .ensures .0))
 

@@ -6,19 +6,15 @@ use Rattle.forming.proofs.settled.has_word.Tie as tie
 use Rattle.forming.proofs.settled.has_word.Reads as reads
 use Rattle.forming.proofs.settled.has_word.Lts as lts
 
--- src/settled.rt:41:9
 returns : tie.Need-returns
 returns c = record { says = λ e. true-false (sym e) }
 
--- src/settled.rt:43:5
 mul-result : tie.Need-mul-result
 mul-result c = search needs
 
--- src/settled.rt:43:5
 element-copy-out-result : tie.Need-element-copy-out-result
 element-copy-out-result c = search needs
 
--- src/settled.rt:37:1
 returns-2 : tie.Need-returns-2
 returns-2 c = record { says = λ e z. true-false (sym e ∙ rw z refl) }
 

@@ -30,51 +30,39 @@ size-of-below t = and 2 size-of-kinds.ps (falls 2 size-of-kinds.ps _<_ μ-size-o
 abbrev size-of-calls : ℕ → size-of-lts.Claims
 size-of-calls t = (kind-reads.Asked, kind-reads.Learnt, enumeration-of-reads.Asked, enumeration-of-reads.Learnt, operand-count-reads.Asked, operand-count-reads.Learnt, operand-reads.Asked, operand-reads.Learnt, size-of-below t, size-of.Post, sum-reads.Asked, sum-reads.Learnt)
 
--- src/sizes.rt:55:9
 size-of-kind-requires : (t : ℕ) → size-of-lts.Need-kind-requires (size-of-calls t) (size-of-at t) size-of.Post
 size-of-kind-requires t c κs = c .before .pre .1 .0 .here
 
--- src/sizes.rt:56:15
 size-of-enumeration-of-requires : (t : ℕ) → size-of-lts.Need-enumeration-of-requires (size-of-calls t) (size-of-at t) size-of.Post
 size-of-enumeration-of-requires t c κs = search needs
 
--- src/sizes.rt:57:13
 size-of-operand-count-requires : (t : ℕ) → size-of-lts.Need-operand-count-requires (size-of-calls t) (size-of-at t) size-of.Post
 size-of-operand-count-requires t c κs = c .before .before .before .before .pre .1 .0 .here
 
--- src/sizes.rt:59:20
 size-of-cast-t13 : (t : ℕ) → size-of-lts.Need-cast-t13 (size-of-calls t) (size-of-at t) size-of.Post
 size-of-cast-t13 t c = omega (arith, c .operand-count .ensures .1)
 
--- src/sizes.rt:58:9
 size-of-returns : (t : ℕ) → size-of-lts.Need-returns (size-of-calls t) (size-of-at t) size-of.Post
 size-of-returns t c = size-each _ _ _ (c .before .before .before .before .before .pre .1 .0) (c .before .before .before .before .before .args .k) (c .before .before .before .before .before .pre .1 .1) (sym (c .before .before .before .kind .ensures .0) ∙ c .before .if1 .taken ∙ c .before .before .enumeration-of .ensures) _ (c .operand-count .ensures .0)
 
--- src/sizes.rt:64:9
 size-of-returns-2 : (t : ℕ) → size-of-lts.Need-returns-2 (size-of-calls t) (size-of-at t) size-of.Post
 size-of-returns-2 t c = size-any _ _ (c .before .before .before .before .before .args .k)
 
--- src/sizes.rt:69:9
 size-of-operand-requires : (t : ℕ) → size-of-lts.Need-operand-requires (size-of-calls t) (size-of-at t) size-of.Post
 size-of-operand-requires t c κs = has-operand _ _ _ (c .before .before .before .before .before .pre .1 .0) 0 (omega (arith, two-halves _ _ _ (c .before .before .before .before .before .pre .1 .0) (c .before .before .before .before .before .args .k) (omega (arith, c .before .before .before .kind .ensures .0)) (c .before .before .before .before .before .pre .1 .1)))
 
--- src/sizes.rt:70:9
 size-of-size-of-requires : (t : ℕ) → size-of-lts.Need-size-of-requires (size-of-calls t) (size-of-at t) size-of.Post
 size-of-size-of-requires t c κs = let o = operand-readable _ _ _ (c .before .before .before .before .before .before .pre .1 .0) 0 (omega (arith, two-halves _ _ _ (c .before .before .before .before .before .before .pre .1 .0) (c .before .before .before .before .before .before .args .k) (omega (arith, c .before .before .before .before .kind .ensures .0)) (c .before .before .before .before .before .before .pre .1 .1))) _ (c .operand .ensures .0) in (omega (arith, o .1), (o .0, c .before .before .before .before .before .before .pre .1 .1))
 
--- src/sizes.rt:71:9
 size-of-operand-requires-2 : (t : ℕ) → size-of-lts.Need-operand-requires-2 (size-of-calls t) (size-of-at t) size-of.Post
 size-of-operand-requires-2 t c κs = has-operand _ _ _ (c .before .before .before .before .before .before .before .pre .1 .0) 1 (omega (arith, two-halves _ _ _ (c .before .before .before .before .before .before .before .pre .1 .0) (c .before .before .before .before .before .before .before .args .k) (omega (arith, c .before .before .before .before .before .kind .ensures .0)) (c .before .before .before .before .before .before .before .pre .1 .1)))
 
--- src/sizes.rt:72:9
 size-of-size-of-requires-2 : (t : ℕ) → size-of-lts.Need-size-of-requires-2 (size-of-calls t) (size-of-at t) size-of.Post
 size-of-size-of-requires-2 t c κs = let o = operand-readable _ _ _ (c .before .before .before .before .before .before .before .before .pre .1 .0) 1 (omega (arith, two-halves _ _ _ (c .before .before .before .before .before .before .before .before .pre .1 .0) (c .before .before .before .before .before .before .before .before .args .k) (omega (arith, c .before .before .before .before .before .before .kind .ensures .0)) (c .before .before .before .before .before .before .before .before .pre .1 .1))) _ (c .operand2 .ensures .0) in (omega (arith, o .1), (o .0, c .before .before .before .before .before .before .before .before .pre .1 .1))
 
--- src/sizes.rt:73:5
 size-of-sum-requires : (t : ℕ) → size-of-lts.Need-sum-requires (size-of-calls t) (size-of-at t) size-of.Post
 size-of-sum-requires t c κs = search needs
 
--- src/sizes.rt:51:1
 size-of-returns-3 : (t : ℕ) → size-of-lts.Need-returns-3 (size-of-calls t) (size-of-at t) size-of.Post
 size-of-returns-3 t c = size-halved _ _ _ (c .before .before .before .before .before .before .before .before .before .before .pre .1 .0) (c .before .before .before .before .before .before .before .before .before .before .args .k) (c .before .before .before .before .before .before .before .before .before .before .pre .1 .1) (omega (arith, c .before .before .before .before .before .before .before .before .kind .ensures .0)) _ (c .before .before .before .before .operand .ensures .0) _ (c .before .before .operand2 .ensures .0) _ _ (c .before .before .before .size-of .ensures) (c .before .size-of2 .ensures) _ (c .sum .ensures)
 

@@ -8,23 +8,18 @@ use Rattle.forming.proofs.sizes.cut_from.Tie as tie
 use Rattle.forming.proofs.sizes.cut_from.Reads as reads
 use Rattle.forming.proofs.sizes.cut_from.Lts as lts
 
--- src/sizes.rt:171:16
 sub-last : tie.Need-sub-last
 sub-last c = search needs
 
--- src/sizes.rt:172:17
 sub-first : tie.Need-sub-first
 sub-first c = search needs
 
--- src/sizes.rt:174:8
 sub-if2 : tie.Need-sub-if2
 sub-if2 c = ⊎-elim (λ w. omega arith) (λ w. omega arith) (c .before .if1 .came)
 
--- src/sizes.rt:175:9
 returns : tie.Need-returns
 returns c = ⊎-elim (λ w. cut-none _ _ _ _ (omega arith) (omega arith) (inl (w .1)) (omega arith)) (λ w. cut-none _ _ _ _ (omega arith) (omega arith) (inr (w .1, omega (arith, w .0 .left))) (omega arith)) (c .before .before .before .if1 .came)
 
--- src/sizes.rt:167:1
 returns-2 : tie.Need-returns-2
 returns-2 c = ⊎-elim (λ w. cut-first _ _ _ _ (omega arith) (omega arith) (inl (w .1, w .0 .taken))) (λ w. cut-first _ _ _ _ (omega arith) (omega arith) (inr (w .1))) (c .before .before .before .if1 .came)
 

@@ -14,43 +14,33 @@ use Rattle.forming.proofs.sizes.pair.Reads as pair-reads
 use Rattle.forming.proofs.sizes.size_of.Reads as size-of-reads
 use Rattle.tables.proofs.reading.operand.Reads as operand-reads
 
--- src/sizes.rt:97:9
 splits-requires : tie.Need-splits-requires
 splits-requires c κs = search needs
 
--- src/sizes.rt:99:9
 returns : tie.Need-returns
 returns c = no-sizes _ _ (c .before .before .before .args .k) _ _
 
--- src/sizes.rt:105:9
 is-low-requires : tie.Need-is-low-requires
 is-low-requires c κs = search needs
 
--- src/sizes.rt:107:9
 returns-2 : tie.Need-returns-2
 returns-2 c = no-sizes _ _ (c .before .before .before .before .before .args .k) _ _
 
--- src/sizes.rt:113:9
 operand-requires : tie.Need-operand-requires
 operand-requires c κs = has-operand _ _ _ (c .before .before .before .before .before .pre .readable) 0 (omega (arith, two-halves _ _ _ (c .before .before .before .before .before .pre .readable) (c .before .before .before .before .before .args .k) (c .before .before .before .before .before .pre .of-kind) (c .before .before .before .splits .ensures (not-false _ (c .before .before .if1 .left)))))
 
--- src/sizes.rt:114:9
 size-of-requires : tie.Need-size-of-requires
 size-of-requires c κs = (operand-readable _ _ _ (c .before .before .before .before .before .before .pre .readable) 0 (omega (arith, two-halves _ _ _ (c .before .before .before .before .before .before .pre .readable) (c .before .before .before .before .before .before .args .k) (c .before .before .before .before .before .before .pre .of-kind) (c .before .before .before .before .splits .ensures (not-false _ (c .before .before .before .if1 .left))))) _ (c .operand .ensures .0) .0, c .before .before .before .before .splits .ensures (not-false _ (c .before .before .before .if1 .left)))
 
--- src/sizes.rt:115:9
 operand-requires-2 : tie.Need-operand-requires-2
 operand-requires-2 c κs = has-operand _ _ _ (c .before .before .before .before .before .before .before .pre .readable) 1 (omega (arith, two-halves _ _ _ (c .before .before .before .before .before .before .before .pre .readable) (c .before .before .before .before .before .before .before .args .k) (c .before .before .before .before .before .before .before .pre .of-kind) (c .before .before .before .before .before .splits .ensures (not-false _ (c .before .before .before .before .if1 .left)))))
 
--- src/sizes.rt:116:9
 size-of-requires-2 : tie.Need-size-of-requires-2
 size-of-requires-2 c κs = (operand-readable _ _ _ (c .before .before .before .before .before .before .before .before .pre .readable) 1 (omega (arith, two-halves _ _ _ (c .before .before .before .before .before .before .before .before .pre .readable) (c .before .before .before .before .before .before .before .before .args .k) (c .before .before .before .before .before .before .before .before .pre .of-kind) (c .before .before .before .before .before .before .splits .ensures (not-false _ (c .before .before .before .before .before .if1 .left))))) _ (c .operand2 .ensures .0) .0, c .before .before .before .before .before .before .splits .ensures (not-false _ (c .before .before .before .before .before .if1 .left)))
 
--- src/sizes.rt:117:5
 pair-requires : tie.Need-pair-requires
 pair-requires c κs = search needs
 
--- src/sizes.rt:89:1
 returns-3 : tie.Need-returns-3
 returns-3 c = sizes-told _ _ _ (c .before .before .before .before .before .before .before .before .before .before .pre .readable) (c .before .before .before .before .before .before .before .before .before .before .args .k) (c .before .before .before .before .before .before .before .before .splits .ensures (not-false _ (c .before .before .before .before .before .before .before .if1 .left))) (c .before .before .before .before .before .before .before .before .before .before .pre .of-kind) _ (c .before .before .before .before .operand .ensures .0) _ (c .before .before .operand2 .ensures .0) _ _ (c .before .before .before .size-of .ensures) (c .before .size-of2 .ensures) _ (c .pair .ensures)
 

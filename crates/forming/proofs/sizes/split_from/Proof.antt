@@ -14,55 +14,42 @@ Inv-loop w d r e₀ e = SplitFrom w d r e
 abbrev μ-loop : tie.MeasureT-loop
 μ-loop w d r e₀ e = w - e
 
--- src/sizes.rt:155:5
 loop-holds : tie.Need-loop-holds Inv-loop μ-loop
 loop-holds c = first-none _ _ _ _
 
--- src/sizes.rt:156:17
 cast-n : tie.Need-cast-n Inv-loop μ-loop
 cast-n c = omega (arith, ones-le 64 (c .before .loop .e) (omega arith))
 
--- src/sizes.rt:158:23
 sub-few : tie.Need-sub-few Inv-loop μ-loop
 sub-few c = omega arith
 
--- src/sizes.rt:159:16
 sub-if2 : tie.Need-sub-if2 Inv-loop μ-loop
 sub-if2 c = omega arith
 
--- src/sizes.rt:160:17
 returns : tie.Need-returns Inv-loop μ-loop
 returns c = first-on _ _ _ _ _ (c .before .before .before .before .before .loop .inv) (omega arith) (omega arith) (omega arith)
 
--- src/sizes.rt:162:13
 add-e : tie.Need-add-e Inv-loop μ-loop
 add-e c = omega arith
 
--- src/sizes.rt:155:5
 loop-less : tie.Need-loop-less Inv-loop μ-loop
 loop-less c = omega arith
 
--- src/sizes.rt:155:5
 loop-again : tie.Need-loop-again Inv-loop μ-loop
 loop-again c = first-on _ _ _ _ _ (c .before .before .before .before .before .loop .inv) (omega arith) (omega arith) (omega arith)
 
--- src/sizes.rt:165:17
 returns-2 : tie.Need-returns-2 Inv-loop μ-loop
 returns-2 c = c .before .before .before .before .before .loop .inv
 
--- src/sizes.rt:167:13
 add-e-2 : tie.Need-add-e-2 Inv-loop μ-loop
 add-e-2 c = omega arith
 
--- src/sizes.rt:155:5
 loop-less-2 : tie.Need-loop-less-2 Inv-loop μ-loop
 loop-less-2 c = omega arith
 
--- src/sizes.rt:155:5
 loop-again-2 : tie.Need-loop-again-2 Inv-loop μ-loop
 loop-again-2 c = first-more _ _ _ _ _ (c .before .before .before .before .before .loop .inv) (omega arith) (λ a b. omega arith)
 
--- src/sizes.rt:151:1
 returns-3 : tie.Need-returns-3 Inv-loop μ-loop
 returns-3 c = c .before .loop .inv
 

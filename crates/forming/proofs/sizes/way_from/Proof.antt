@@ -12,47 +12,36 @@ use Rattle.forming.proofs.sizes.cut_from.Reads as cut-from-reads
 use Rattle.forming.proofs.sizes.rights.Reads as rights-reads
 use Rattle.forming.proofs.sizes.split_from.Reads as split-from-reads
 
--- src/sizes.rt:186:9
 returns : tie.Need-returns
 returns c = from-none (c .before .before .args .k) (c .before .before .args .w) _ (c .before .before .args .z)
 
--- src/sizes.rt:189:9
 returns-2 : tie.Need-returns-2
 returns-2 c = from-none (c .before .before .before .args .k) (c .before .before .before .args .w) _ (c .before .before .before .args .z)
 
--- src/sizes.rt:192:35
 sub-n : tie.Need-sub-n
 sub-n c = search needs
 
--- src/sizes.rt:192:17
 cast-n : tie.Need-cast-n
 cast-n c = omega (arith, ones-le 64 (c .before .before .before .before .args .w - 1) (omega arith))
 
--- src/sizes.rt:193:13
 rights-requires : tie.Need-rights-requires
 rights-requires c κs = search needs
 
--- src/sizes.rt:194:9
 split-from-requires : tie.Need-split-from-requires
 split-from-requires c κs = search needs
 
--- src/sizes.rt:194:9
 returns-3 : tie.Need-returns-3
 returns-3 c = from-splits (c .before .before .before .before .before .before .args .k) (c .before .before .before .before .before .before .args .w) (c .before .before .before .before .before .before .pre (not-false _ (c .before .before .before .before .if1 .left))) (c .before .before .before .before .before .before .args .z) (not-false _ (c .before .before .before .before .if1 .left)) (c .before .before .before .before .before .before .args .d) (omega arith) _ _ (omega arith) (c .before .rights .ensures) (c .split-from .ensures)
 
--- src/sizes.rt:196:23
 sub-rights : tie.Need-sub-rights
 sub-rights c = search needs
 
--- src/sizes.rt:196:9
 rights-requires-2 : tie.Need-rights-requires-2
 rights-requires-2 c κs = search needs
 
--- src/sizes.rt:197:5
 cut-from-requires : tie.Need-cut-from-requires
 cut-from-requires c κs = (omega arith, omega (arith, c .rights2 .ensures .low))
 
--- src/sizes.rt:181:1
 returns-4 : tie.Need-returns-4
 returns-4 c = from-cuts (c .before .before .before .before .before .before .args .k) (c .before .before .before .before .before .before .args .w) (c .before .before .before .before .before .before .pre (not-false _ (c .before .before .before .before .if1 .left))) (c .before .before .before .before .before .before .args .z) (not-false _ (c .before .before .before .before .if1 .left)) (c .before .before .before .before .before .before .args .d) (omega arith) _ _ (c .before .before .if3 .left) (c .before .rights2 .ensures) (c .cut-from .ensures)
 

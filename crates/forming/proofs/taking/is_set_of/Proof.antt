@@ -10,27 +10,21 @@ use Rattle.parts.proofs.count_of_part.Reads as count-of-part-reads
 use Rattle.parts.proofs.kind_of_part.Reads as kind-of-part-reads
 use Rattle.parts.proofs.words.unpack.Reads as unpack-reads
 
--- src/taking.rt:30:9
 unpack-requires : tie.Need-unpack-requires
 unpack-requires c κs = search needs
 
--- src/taking.rt:31:9
 kind-of-part-requires : tie.Need-kind-of-part-requires
 kind-of-part-requires c κs = subst (PartHeld _) (sym (c .unpack .ensures)) (c .before .before .pre)
 
--- src/taking.rt:33:9
 returns : tie.Need-returns
 returns c = other-kind _ _ _ (c .before .before .unpack .ensures) _ (c .before .kind-of-part .ensures) (c .if1 .taken) _ _
 
--- src/taking.rt:35:9
 count-of-part-requires : tie.Need-count-of-part-requires
 count-of-part-requires c κs = set-held _ _ _ (c .before .before .unpack .ensures) _ (c .before .kind-of-part .ensures) (c .if1 .left) (c .before .before .before .before .pre)
 
--- src/taking.rt:37:9
 returns-2 : tie.Need-returns-2
 returns-2 c = at-least _ _ _ (c .before .before .before .before .unpack .ensures) _ (c .before .before .before .kind-of-part .ensures) (c .before .before .if1 .left) _ (c .before .count-of-part .ensures) (c .before .before .before .before .before .before .args .least) (c .before .before .before .before .before .before .args .more) (c .if2 .taken)
 
--- src/taking.rt:26:1
 returns-3 : tie.Need-returns-3
 returns-3 c = exactly _ _ _ (c .before .before .before .before .unpack .ensures) _ (c .before .before .before .kind-of-part .ensures) (c .before .before .if1 .left) _ (c .before .count-of-part .ensures) (c .before .before .before .before .before .before .args .least) (c .before .before .before .before .before .before .args .more) (c .if2 .left)
 

@@ -13,38 +13,30 @@ use Rattle.forming.proofs.wild.count_only.Reads as count-only-reads
 use Rattle.matching.proofs.leaves.match_leaf.Reads as match-leaf-reads
 use Rattle.tables.proofs.reading.kind.Reads as kind-reads
 
--- src/taking.rt:56:9
 is-set-of-requires : tie.Need-is-set-of-requires
 is-set-of-requires c κs = c .before .before .before .pre .1 .0
 
--- src/taking.rt:56:9
 returns : tie.Need-returns
 returns c = (told-wild _ _ _ (c .before .before .before .before .pre .0) (omega arith) _ _ _ _ (λ v q. c .is-set-of .ensures v q), grown-same _)
 
--- src/taking.rt:58:9
 kind-requires : tie.Need-kind-requires
 kind-requires c κs = (record-leaf _ _ _ (c .before .before .before .pre .0) (omega arith)) .readable .here
 
--- src/taking.rt:60:9
 is-composed-requires : tie.Need-is-composed-requires
 is-composed-requires c κs = c .kind .ensures .1
 
 match-leaf-requires : tie.Need-match-leaf-requires
 match-leaf-requires c κs = (record { readable = (record-leaf _ _ _ (c .before .before .before .before .before .before .before .pre .0) (omega arith)) .readable; leaf = composed-told (c .before .before .before .kind .ensures .0) (c .before .before .is-composed .ensures) (not-true _ (c .before .if2 .taken)) }, c .before .before .before .before .before .before .before .pre .1)
 
--- src/taking.rt:60:9
 returns-2 : tie.Need-returns-2
 returns-2 c = (told-leaf _ _ _ (record-leaf _ _ _ (c .before .before .before .before .before .before .before .before .pre .0) (omega arith)) _ _ _ _ _ (λ v b q h. c .match-leaf .ensures .0 v b q h), c .match-leaf .ensures .1)
 
--- src/taking.rt:62:9
 count-only-requires : tie.Need-count-only-requires
 count-only-requires c κs = (record-leaf _ _ _ (c .before .before .before .before .before .before .pre .0) (omega arith)) .readable
 
--- src/taking.rt:63:5
 is-set-of-requires-2 : tie.Need-is-set-of-requires-2
 is-set-of-requires-2 c κs = c .before .before .before .before .before .before .before .pre .1 .0
 
--- src/taking.rt:43:1
 returns-3 : tie.Need-returns-3
 returns-3 c = (told-count _ _ _ (record-leaf _ _ _ (c .before .before .before .before .before .before .before .before .pre .0) (omega arith)) _ _ _ (composed-told (c .before .before .before .before .kind .ensures .0) (c .before .before .before .is-composed .ensures) (not-false _ (c .before .before .if2 .left))) _ (c .before .count-only .ensures) _ (λ v q. c .is-set-of2 .ensures v q), grown-same _)
 

@@ -14,95 +14,72 @@ Inv-loop table index s agenda head found₀ head₀ wait₀ found head' wait = T
 abbrev μ-loop : tie.MeasureT-loop
 μ-loop table index s agenda head found₀ head₀ wait₀ found head' wait = head'
 
--- src/taking.rt:29:5
 loop-holds : tie.Need-loop-holds Inv-loop μ-loop
 loop-holds c = take-start _ _ _ _ _ _ (c .before .before .pre)
 
--- src/taking.rt:30:24
 mul-p : tie.Need-mul-p Inv-loop μ-loop
 mul-p c = omega (arith, head-low _ _ _ _ _ _ (c .before .before .before .before .pre) _ _ _ (c .before .loop .inv))
 
--- src/taking.rt:30:17
 mul-p-2 : tie.Need-mul-p-2 Inv-loop μ-loop
 mul-p-2 c = omega (arith, head-low _ _ _ _ _ _ (c .before .before .before .before .pre) _ _ _ (c .before .loop .inv))
 
--- src/taking.rt:30:17
 element-copy-out-p : tie.Need-element-copy-out-p Inv-loop μ-loop
 element-copy-out-p c = omega (arith, head-low _ _ _ _ _ _ (c .before .before .before .before .pre) _ _ _ (c .before .loop .inv))
 
--- src/taking.rt:30:17
 cast-p : tie.Need-cast-p Inv-loop μ-loop
 cast-p c = omega (arith, entry-low _ _ _ _ _ _ (c .before .before .before .before .before .pre) _ _ _ (c .before .before .loop .inv) (omega arith))
 
--- src/taking.rt:31:27
 mul-next : tie.Need-mul-next Inv-loop μ-loop
 mul-next c = omega (arith, head-low _ _ _ _ _ _ (c .before .before .before .before .before .pre) _ _ _ (c .before .before .loop .inv))
 
--- src/taking.rt:31:27
 add-next : tie.Need-add-next Inv-loop μ-loop
 add-next c = omega (arith, head-low _ _ _ _ _ _ (c .before .before .before .before .before .pre) _ _ _ (c .before .before .loop .inv))
 
--- src/taking.rt:31:20
 mul-next-2 : tie.Need-mul-next-2 Inv-loop μ-loop
 mul-next-2 c = omega (arith, head-low _ _ _ _ _ _ (c .before .before .before .before .before .pre) _ _ _ (c .before .before .loop .inv))
 
--- src/taking.rt:31:20
 element-copy-out-next : tie.Need-element-copy-out-next Inv-loop μ-loop
 element-copy-out-next c = omega (arith, head-low _ _ _ _ _ _ (c .before .before .before .before .before .pre) _ _ _ (c .before .before .loop .inv))
 
--- src/taking.rt:31:20
 cast-next : tie.Need-cast-next Inv-loop μ-loop
 cast-next c = omega (arith, next-lower _ _ _ _ _ _ (c .before .before .before .before .before .before .pre) _ _ _ (c .before .before .before .loop .inv) (omega arith), head-low _ _ _ _ _ _ (c .before .before .before .before .before .before .pre) _ _ _ (c .before .before .before .loop .inv))
 
--- src/taking.rt:32:13
 has-parts-requires : tie.Need-has-parts-requires Inv-loop μ-loop
 has-parts-requires c κs = entry-held _ _ _ _ _ _ (c .before .before .before .before .before .before .pre) _ _ _ (c .before .before .before .loop .inv) (omega arith)
 
--- src/taking.rt:35:17
 returns : tie.Need-returns Inv-loop μ-loop
 returns c = take-full _ _ _ _ _ _ (c .before .before .before .before .before .before .before .before .before .pre) _ _ _ (c .before .before .before .before .before .before .loop .inv) (omega arith)
 
--- src/taking.rt:29:5
 loop-less : tie.Need-loop-less Inv-loop μ-loop
 loop-less c = omega (arith, next-lower _ _ _ _ _ _ (c .before .before .before .before .before .before .before .before .before .pre) _ _ _ (c .before .before .before .before .before .before .loop .inv) (omega arith))
 
--- src/taking.rt:29:5
 loop-again : tie.Need-loop-again Inv-loop μ-loop
 loop-again c = take-wait _ _ _ _ _ _ (c .before .before .before .before .before .before .before .before .before .pre) _ _ _ (c .before .before .before .before .before .before .loop .inv) (omega arith) (c .before .before .has-parts .ensures .parts (c .before .if1 .taken)) (omega arith)
 
--- src/taking.rt:44:31
 mul-word : tie.Need-mul-word Inv-loop μ-loop
 mul-word c = omega (arith, head-low _ _ _ _ _ _ (c .before .before .before .before .before .before .before .before .pre) _ _ _ (c .before .before .before .before .before .loop .inv))
 
--- src/taking.rt:44:31
 add-word : tie.Need-add-word Inv-loop μ-loop
 add-word c = omega (arith, head-low _ _ _ _ _ _ (c .before .before .before .before .before .before .before .before .pre) _ _ _ (c .before .before .before .before .before .loop .inv))
 
--- src/taking.rt:44:24
 mul-word-2 : tie.Need-mul-word-2 Inv-loop μ-loop
 mul-word-2 c = omega (arith, head-low _ _ _ _ _ _ (c .before .before .before .before .before .before .before .before .pre) _ _ _ (c .before .before .before .before .before .loop .inv))
 
--- src/taking.rt:44:24
 element-copy-out-word : tie.Need-element-copy-out-word Inv-loop μ-loop
 element-copy-out-word c = omega (arith, head-low _ _ _ _ _ _ (c .before .before .before .before .before .before .before .before .pre) _ _ _ (c .before .before .before .before .before .loop .inv))
 
--- src/taking.rt:45:17
 take-leaf-requires : tie.Need-take-leaf-requires Inv-loop μ-loop
 take-leaf-requires c κs = leaf-asked _ _ _ _ _ _ (c .before .before .before .before .before .before .before .before .before .before .pre) _ _ _ (c .before .before .before .before .before .before .before .loop .inv) (omega arith) _ (c .before .before .before .has-parts .ensures) (c .before .before .if1 .left)
 
--- src/taking.rt:47:17
 returns-2 : tie.Need-returns-2 Inv-loop μ-loop
 returns-2 c = take-none _ _ _ _ _ _ (c .before .before .before .before .before .before .before .before .before .before .before .before .pre) _ _ _ (c .before .before .before .before .before .before .before .before .before .loop .inv) (omega arith) _ _ (λ v b q h. c .before .take-leaf .ensures .0 v b q h) (c .before .take-leaf .ensures .1) (not-true _ (c .if3 .taken))
 
--- src/taking.rt:29:5
 loop-less-2 : tie.Need-loop-less-2 Inv-loop μ-loop
 loop-less-2 c = omega (arith, next-lower _ _ _ _ _ _ (c .before .before .before .before .before .before .before .before .before .before .before .before .pre) _ _ _ (c .before .before .before .before .before .before .before .before .before .loop .inv) (omega arith))
 
--- src/taking.rt:29:5
 loop-again-2 : tie.Need-loop-again-2 Inv-loop μ-loop
 loop-again-2 c = take-leaf _ _ _ _ _ _ (c .before .before .before .before .before .before .before .before .before .before .before .before .pre) _ _ _ (c .before .before .before .before .before .before .before .before .before .loop .inv) (omega arith) _ _ (λ v b q h. c .before .take-leaf .ensures .0 v b q h) (c .before .take-leaf .ensures .1) (not-false _ (c .if3 .left))
 
--- src/taking.rt:16:1
 returns-3 : tie.Need-returns-3 Inv-loop μ-loop
 returns-3 c = take-end _ _ _ _ _ _ (c .before .before .before .before .pre) _ _ _ (c .before .loop .inv) (omega arith)
 

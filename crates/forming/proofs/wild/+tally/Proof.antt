@@ -30,51 +30,39 @@ tally-below t = and 2 tally-kinds.ps (falls 2 tally-kinds.ps _<_ μ-tally t) tal
 abbrev tally-calls : ℕ → tally-lts.Claims
 tally-calls t = (kind-reads.Asked, kind-reads.Learnt, tally-set-reads.Asked, tally-set-reads.Learnt, operand-reads.Asked, operand-reads.Learnt, tally-below t, tally.Post, both-reads.Asked, both-reads.Learnt)
 
--- src/wild.rt:62:9
 tally-kind-requires : (t : ℕ) → tally-lts.Need-kind-requires (tally-calls t) (tally-at t) tally.Post
 tally-kind-requires t c κs = c .before .pre .1 .here
 
--- src/wild.rt:64:9
 tally-returns : (t : ℕ) → tally-lts.Need-returns (tally-calls t) (tally-at t) tally.Post
 tally-returns t c = tally-any _ _ _ (c .before .before .before .pre .1) (sym (c .before .kind .ensures .0) ∙ c .if1 .taken)
 
--- src/wild.rt:67:9
 tally-tally-set-requires : (t : ℕ) → tally-lts.Need-tally-set-requires (tally-calls t) (tally-at t) tally.Post
 tally-tally-set-requires t c κs = (c .before .before .before .before .pre .1, sym (c .before .before .kind .ensures .0) ∙ c .if2 .taken)
 
--- src/wild.rt:67:9
 tally-returns-2 : (t : ℕ) → tally-lts.Need-returns-2 (tally-calls t) (tally-at t) tally.Post
 tally-returns-2 t c = c .tally-set .ensures
 
--- src/wild.rt:70:9
 tally-returns-3 : (t : ℕ) → tally-lts.Need-returns-3 (tally-calls t) (tally-at t) tally.Post
 tally-returns-3 t c = tally-none _ _ _ (c .before .before .before .before .before .pre .1) (λ e. c .before .before .if1 .left (c .before .before .before .kind .ensures .0 ∙ e)) (λ e. c .before .if2 .left (c .before .before .before .kind .ensures .0 ∙ e)) (λ e. c .if3 .taken (c .before .before .before .kind .ensures .0 ∙ e))
 
--- src/wild.rt:72:9
 tally-operand-requires : (t : ℕ) → tally-lts.Need-operand-requires (tally-calls t) (tally-at t) tally.Post
 tally-operand-requires t c κs = has-operand _ _ _ (c .before .before .before .before .before .pre .1) 0 (omega (arith, two-halves _ _ _ (c .before .before .before .before .before .pre .1) 38 (sym (c .before .before .before .kind .ensures .0) ∙ c .if3 .left) (inl refl)))
 
--- src/wild.rt:73:9
 tally-tally-requires : (t : ℕ) → tally-lts.Need-tally-requires (tally-calls t) (tally-at t) tally.Post
 tally-tally-requires t c κs = let o = operand-readable _ _ _ (c .before .before .before .before .before .before .pre .1) 0 (omega (arith, two-halves _ _ _ (c .before .before .before .before .before .before .pre .1) 38 (sym (c .before .before .before .before .kind .ensures .0) ∙ c .before .if3 .left) (inl refl))) _ (c .operand .ensures .0) in (omega (arith, o .1, c .before .before .before .before .before .before .pre .0), o .0)
 
--- src/wild.rt:75:9
 tally-returns-4 : (t : ℕ) → tally-lts.Need-returns-4 (tally-calls t) (tally-at t) tally.Post
 tally-returns-4 t c = tally-left _ _ _ (c .before .before .before .before .before .before .before .before .pre .1) (sym (c .before .before .before .before .before .before .kind .ensures .0) ∙ c .before .before .before .if3 .left) _ (c .before .before .operand .ensures .0) _ (c .before .tally .ensures) (c .if4 .taken)
 
--- src/wild.rt:77:9
 tally-operand-requires-2 : (t : ℕ) → tally-lts.Need-operand-requires-2 (tally-calls t) (tally-at t) tally.Post
 tally-operand-requires-2 t c κs = has-operand _ _ _ (c .before .before .before .before .before .before .before .before .pre .1) 1 (omega (arith, two-halves _ _ _ (c .before .before .before .before .before .before .before .before .pre .1) 38 (sym (c .before .before .before .before .before .before .kind .ensures .0) ∙ c .before .before .before .if3 .left) (inl refl)))
 
--- src/wild.rt:78:9
 tally-tally-requires-2 : (t : ℕ) → tally-lts.Need-tally-requires-2 (tally-calls t) (tally-at t) tally.Post
 tally-tally-requires-2 t c κs = let o = operand-readable _ _ _ (c .before .before .before .before .before .before .before .before .before .pre .1) 1 (omega (arith, two-halves _ _ _ (c .before .before .before .before .before .before .before .before .before .pre .1) 38 (sym (c .before .before .before .before .before .before .before .kind .ensures .0) ∙ c .before .before .before .before .if3 .left) (inl refl))) _ (c .operand2 .ensures .0) in (omega (arith, o .1, c .before .before .before .before .before .before .before .before .before .pre .0), o .0)
 
--- src/wild.rt:79:5
 tally-both-requires : (t : ℕ) → tally-lts.Need-both-requires (tally-calls t) (tally-at t) tally.Post
 tally-both-requires t c κs = (positive _ (c .before .before .if4 .left), tally-fits _ _ _ (operand-readable _ _ _ (c .before .before .before .before .before .before .before .before .before .before .pre .1) 0 (omega (arith, two-halves _ _ _ (c .before .before .before .before .before .before .before .before .before .before .pre .1) 38 (sym (c .before .before .before .before .before .before .before .before .kind .ensures .0) ∙ c .before .before .before .before .before .if3 .left) (inl refl))) _ (c .before .before .before .before .operand .ensures .0) .0) _ (c .before .before .before .tally .ensures), tally-fits _ _ _ (operand-readable _ _ _ (c .before .before .before .before .before .before .before .before .before .before .pre .1) 1 (omega (arith, two-halves _ _ _ (c .before .before .before .before .before .before .before .before .before .before .pre .1) 38 (sym (c .before .before .before .before .before .before .before .before .kind .ensures .0) ∙ c .before .before .before .before .before .if3 .left) (inl refl))) _ (c .before .operand2 .ensures .0) .0) _ (c .tally2 .ensures))
 
--- src/wild.rt:58:1
 tally-returns-5 : (t : ℕ) → tally-lts.Need-returns-5 (tally-calls t) (tally-at t) tally.Post
 tally-returns-5 t c = tally-both _ _ _ (c .before .before .before .before .before .before .before .before .before .before .before .pre .1) (sym (c .before .before .before .before .before .before .before .before .before .kind .ensures .0) ∙ c .before .before .before .before .before .before .if3 .left) _ (c .before .before .before .before .before .operand .ensures .0) _ (c .before .before .before .before .tally .ensures) (c .before .before .before .if4 .left) _ (c .before .before .operand2 .ensures .0) _ (c .before .tally2 .ensures) _ (c .both .ensures)
 

@@ -5,43 +5,33 @@ use Rattle.forming.proofs.wild.both.Tie as tie
 use Rattle.forming.proofs.wild.both.Reads as reads
 use Rattle.forming.proofs.wild.both.Lts as lts
 
--- src/wild.rt:46:9
 returns : tie.Need-returns
 returns c = both-none _ _ (c .if1 .taken)
 
--- src/wild.rt:49:16
 add-result : tie.Need-add-result
 add-result c = search needs
 
--- src/wild.rt:49:16
 sub-result : tie.Need-sub-result
 sub-result c = search needs
 
--- src/wild.rt:49:9
 returns-2 : tie.Need-returns-2
 returns-2 c = both-exact _ _ (c .before .if1 .left) (c .if2 .taken)
 
--- src/wild.rt:52:16
 add-result-2 : tie.Need-add-result-2
 add-result-2 c = search needs
 
--- src/wild.rt:52:16
 sub-result-2 : tie.Need-sub-result-2
 sub-result-2 c = search needs
 
--- src/wild.rt:52:9
 returns-3 : tie.Need-returns-3
 returns-3 c = both-second _ _ (c .if3 .taken) (c .before .if2 .left)
 
--- src/wild.rt:54:5
 add-result-3 : tie.Need-add-result-3
 add-result-3 c = search needs
 
--- src/wild.rt:54:5
 sub-result-3 : tie.Need-sub-result-3
 sub-result-3 c = search needs
 
--- src/wild.rt:41:1
 returns-4 : tie.Need-returns-4
 returns-4 c = both-more _ _ (c .before .before .if1 .left) (c .before .if2 .left) (c .if3 .left)
 

@@ -6,19 +6,15 @@ use Rattle.forming.proofs.wild.count_only.Reads as reads
 use Rattle.forming.proofs.wild.count_only.Lts as lts
 use Rattle.forming.proofs.wild.tally.Reads as tally-reads
 
--- src/wild.rt:87:9
 tally-requires : tie.Need-tally-requires
 tally-requires c κs = search needs
 
--- src/wild.rt:89:9
 returns : tie.Need-returns
 returns c = not-told _ _ _ (c .before .before .before .pre) _ (c .before .tally .ensures) (c .if1 .taken)
 
--- src/wild.rt:97:17
 sub-t6 : tie.Need-sub-t6
 sub-t6 c = search needs
 
--- src/wild.rt:83:1
 returns-2 : tie.Need-returns-2
 returns-2 c = told _ _ _ (c .before .before .before .pre) _ (c .before .tally .ensures) (c .if1 .left)
 

@@ -17,47 +17,36 @@ Inv-loop table index p n i₀ i = AnyTo table p i
 abbrev μ-loop : tie.MeasureT-loop
 μ-loop table index p n i₀ i = n - i
 
--- src/wild.rt:27:9
 operand-count-requires : tie.Need-operand-count-requires Inv-loop μ-loop
 operand-count-requires c κs = c .before .pre .0 .here
 
--- src/wild.rt:29:5
 loop-holds : tie.Need-loop-holds Inv-loop μ-loop
 loop-holds c = any-start _ _
 
--- src/wild.rt:30:13
 operand-requires : tie.Need-operand-requires Inv-loop μ-loop
 operand-requires c κs = has-operand _ _ _ (c .before .before .before .before .pre .0) _ (omega (arith, c .before .before .operand-count .ensures .0))
 
--- src/wild.rt:31:13
 kind-requires : tie.Need-kind-requires Inv-loop μ-loop
 kind-requires c κs = operand-readable _ _ _ (c .before .before .before .before .before .pre .0) _ (omega (arith, c .before .before .before .operand-count .ensures .0)) _ (c .operand .ensures .0) .0 .here
 
--- src/wild.rt:33:13
 returns : tie.Need-returns Inv-loop μ-loop
 returns c = tally-part _ _ _ (c .before .before .before .before .before .before .before .pre .0) (c .before .before .before .before .before .before .before .pre .1) _ _ (omega (arith, c .before .before .before .before .before .operand-count .ensures .0)) (c .before .before .operand .ensures .0) (is-any-not _ _ _ (operand-readable _ _ _ (c .before .before .before .before .before .before .before .pre .0) _ (omega (arith, c .before .before .before .before .before .operand-count .ensures .0)) _ (c .before .before .operand .ensures .0) .0) (λ e. c .if1 .taken (c .before .kind .ensures .0 ∙ e)))
 
--- src/wild.rt:35:9
 add-i : tie.Need-add-i Inv-loop μ-loop
 add-i c = omega (arith, c .before .before .before .before .before .operand-count .ensures .1)
 
--- src/wild.rt:29:5
 loop-less : tie.Need-loop-less Inv-loop μ-loop
 loop-less c = omega arith
 
--- src/wild.rt:29:5
 loop-again : tie.Need-loop-again Inv-loop μ-loop
 loop-again c = any-next _ _ _ (c .before .before .before .before .before .before .before .pre .0) _ (c .before .before .before .before .loop .inv) _ (c .before .before .operand .ensures .0) (is-any-so _ _ _ (operand-readable _ _ _ (c .before .before .before .before .before .before .before .pre .0) _ (omega (arith, c .before .before .before .before .before .operand-count .ensures .0)) _ (c .before .before .operand .ensures .0) .0) (sym (c .before .kind .ensures .0) ∙ c .if1 .left))
 
--- src/wild.rt:37:9
 mul-result : tie.Need-mul-result Inv-loop μ-loop
 mul-result c = omega (arith, c .before .before .operand-count .ensures .1)
 
--- src/wild.rt:37:5
 add-result : tie.Need-add-result Inv-loop μ-loop
 add-result c = omega (arith, c .before .before .operand-count .ensures .1)
 
--- src/wild.rt:23:1
 returns-2 : tie.Need-returns-2 Inv-loop μ-loop
 returns-2 c = tally-set _ _ _ (c .before .before .before .before .pre .0) (c .before .before .before .before .pre .1) _ _ (c .before .loop .inv) (c .before .before .operand-count .ensures .0) (omega arith)
 

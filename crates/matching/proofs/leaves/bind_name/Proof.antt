@@ -9,39 +9,30 @@ use Rattle.matching.proofs.leaves.bind_name.Reads as reads
 use Rattle.matching.proofs.leaves.bind_name.Lts as lts
 use Rattle.parts.proofs.words.order_words.Reads as order-words-reads
 
--- src/leaves.rt:19:15
 mul-old : tie.Need-mul-old
 mul-old c = search needs
 
--- src/leaves.rt:19:15
 element-copy-out-old : tie.Need-element-copy-out-old
 element-copy-out-old c = search needs
 
--- src/leaves.rt:21:9
 mul-found : tie.Need-mul-found
 mul-found c = search needs
 
--- src/leaves.rt:21:9
 element-write-found : tie.Need-element-write-found
 element-write-found c = search needs
 
--- src/leaves.rt:22:9
 returns : tie.Need-returns
 returns c = (binds _ _ (c .before .before .before .pre .0) _ _ (c .if1 .taken) _ refl, grown-set _ _ _ (c .if1 .taken))
 
--- src/leaves.rt:24:9
 order-words-requires : tie.Need-order-words-requires
 order-words-requires c κs = (word-held _ _ (c .before .before .before .pre .0) (c .before .before .before .args .word) _ (c .before .before .before .pre .2), part-word _ _ (c .before .before .before .pre .1))
 
--- src/leaves.rt:26:9
 enum-told : tie.Need-enum-told
 enum-told c = search needs
 
--- src/leaves.rt:26:9
 returns-2 : tie.Need-returns-2
 returns-2 c = (agrees _ _ (c .before .before .before .before .before .before .pre .0) _ _ (c .before .before .before .if1 .left) _ (c .before .before .order-words .ensures) (c .enum-told .given .1), grown-same _)
 
--- src/leaves.rt:15:1
 returns-3 : tie.Need-returns-3
 returns-3 c = (clashes _ _ (c .before .before .before .before .before .pre .0) _ _ (c .before .before .if1 .left) _ (c .before .order-words .ensures) (λ d. ⊎-elim (λ k. let e = rw d at k in omega arith) (λ k. let e = rw d at k in omega arith) (c .match .keys2)), grown-same _)
 

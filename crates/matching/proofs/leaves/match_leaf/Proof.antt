@@ -14,35 +14,27 @@ use Rattle.parts.proofs.words.unpack.Reads as unpack-reads
 use Rattle.tables.proofs.reading.field.Reads as field-reads
 use Rattle.tables.proofs.reading.kind.Reads as kind-reads
 
--- src/leaves.rt:44:9
 kind-requires : tie.Need-kind-requires
 kind-requires c κs = search needs
 
--- src/leaves.rt:46:13
 field-requires : tie.Need-field-requires
 field-requires c κs = name-field _ _ _ (c .before .before .before .before .pre .0 .readable) (sym (c .before .kind .ensures .0) ∙ c .if1 .taken)
 
--- src/leaves.rt:47:9
 bind-name-requires : tie.Need-bind-name-requires
 bind-name-requires c κs = (omega (arith, c .before .field .ensures .0, name-small _ _ _ (c .before .before .before .before .before .before .pre .0 .readable) (sym (c .before .before .before .kind .ensures .0) ∙ c .before .before .if1 .taken)), c .before .before .before .before .before .before .pre .1 .0, c .before .before .before .before .before .before .pre .1 .1)
 
--- src/leaves.rt:47:9
 returns : tie.Need-returns
 returns c = (leaf-name _ _ _ (c .before .before .before .before .before .before .before .pre .0 .readable) _ _ _ _ _ _ (sym (c .before .before .before .before .kind .ensures .0) ∙ c .before .before .before .if1 .taken) (c .before .before .field .ensures .0) (c .bind-name .ensures .0), c .bind-name .ensures .1)
 
--- src/leaves.rt:50:9
 returns-2 : tie.Need-returns-2
 returns-2 c = (leaf-any _ _ _ (c .before .before .before .before .before .pre .0 .readable) _ _ _ (sym (c .before .before .kind .ensures .0) ∙ c .if2 .taken), grown-same _)
 
--- src/leaves.rt:52:9
 unpack-requires : tie.Need-unpack-requires
 unpack-requires c κs = search needs
 
--- src/leaves.rt:53:5
 is-literal-requires : tie.Need-is-literal-requires
 is-literal-requires c κs = ((literal-held _ _ _ (c .before .before .before .before .before .before .pre .0 .readable) (λ e. c .before .before .if1 .left (c .before .before .before .kind .ensures .0 ∙ e)) (λ e. c .before .if2 .left (c .before .before .before .kind .ensures .0 ∙ e)) (c .before .before .before .before .before .before .pre .0 .leaf)), subst (PartHeld _) (sym (c .unpack .ensures)) (c .before .before .before .before .before .before .pre .1 .0))
 
--- src/leaves.rt:32:1
 returns-3 : tie.Need-returns-3
 returns-3 c = (leaf-literal _ _ _ (c .before .before .before .before .before .before .before .pre .0 .readable) _ _ _ (literal-held _ _ _ (c .before .before .before .before .before .before .before .pre .0 .readable) (λ e. c .before .before .before .if1 .left (c .before .before .before .before .kind .ensures .0 ∙ e)) (λ e. c .before .before .if2 .left (c .before .before .before .before .kind .ensures .0 ∙ e)) (c .before .before .before .before .before .before .before .pre .0 .leaf)) _ (c .before .unpack .ensures) _ (c .is-literal .ensures), grown-same _)
 

@@ -18,27 +18,22 @@ member-at t = and 0 member-kinds.ps (is 0 member-kinds.ps μ-member t) member.Pr
 abbrev member-below : ℕ → In 0 member-kinds.ps
 member-below t = and 0 member-kinds.ps (falls 0 member-kinds.ps _<_ μ-member t) member.Pre
 
--- src/nodes.rt:40:14
 member-rem-at :
     (t : ℕ) → member-lts.Need-rem-at (member-below t, member.Post) (member-at t) member.Post
 member-rem-at t c = omega arith
 
--- src/nodes.rt:42:9
 member-returns :
     (t : ℕ) → member-lts.Need-returns (member-below t, member.Post) (member-at t) member.Post
 member-returns t c = placed-first _ _ _ (omega arith) (c .before .pre .1 .1) (c .if1 .taken)
 
--- src/nodes.rt:45:27
 member-sub-member :
     (t : ℕ) → member-lts.Need-sub-member (member-below t, member.Post) (member-at t) member.Post
 member-sub-member t c = omega arith
 
--- src/nodes.rt:45:34
 member-div-member :
     (t : ℕ) → member-lts.Need-div-member (member-below t, member.Post) (member-at t) member.Post
 member-div-member t c = omega arith
 
--- src/nodes.rt:45:20
 member-member-requires :
     (t : ℕ) →
     member-lts.Need-member-requires (member-below t, member.Post) (member-at t) member.Post
@@ -46,32 +41,26 @@ member-member-requires t c κs =
     let pre = c .before .before .pre .1 in
     (omega arith, (omega arith, quotient-low _ _ (omega arith) (pre .1), omega (arith, c .if2 .taken, rest-low (c .before .before .args .n) (c .before .before .args .d) (omega arith))))
 
--- src/nodes.rt:45:16
 member-add-result :
     (t : ℕ) → member-lts.Need-add-result (member-below t, member.Post) (member-at t) member.Post
 member-add-result t c = omega (arith, c .member .ensures .below)
 
--- src/nodes.rt:45:9
 member-returns-2 :
     (t : ℕ) → member-lts.Need-returns-2 (member-below t, member.Post) (member-at t) member.Post
 member-returns-2 t c = placed-before _ _ _ (omega arith) (c .before .before .before .pre .1 .1) _ (c .before .if2 .taken) (c .member .ensures)
 
--- src/nodes.rt:47:16
 member-sub-member-2 :
     (t : ℕ) → member-lts.Need-sub-member-2 (member-below t, member.Post) (member-at t) member.Post
 member-sub-member-2 t c = omega arith
 
--- src/nodes.rt:47:23
 member-div-member-2 :
     (t : ℕ) → member-lts.Need-div-member-2 (member-below t, member.Post) (member-at t) member.Post
 member-div-member-2 t c = omega arith
 
--- src/nodes.rt:47:30
 member-sub-member-3 :
     (t : ℕ) → member-lts.Need-sub-member-3 (member-below t, member.Post) (member-at t) member.Post
 member-sub-member-3 t c = omega arith
 
--- src/nodes.rt:47:9
 member-member-requires-2 : (t : ℕ) → member-lts.Need-member-requires-2 (
   member-below t,
   member.Post,
@@ -80,12 +69,10 @@ member-member-requires-2 t c κs =
     let pre = c .before .before .pre .1 in
     (omega arith, (omega arith, quotient-low _ _ (omega arith) (pre .1), omega arith))
 
--- src/nodes.rt:47:5
 member-add-result-2 :
     (t : ℕ) → member-lts.Need-add-result-2 (member-below t, member.Post) (member-at t) member.Post
 member-add-result-2 t c = omega (arith, c .member2 .ensures .below)
 
--- src/nodes.rt:36:1
 member-returns-3 :
     (t : ℕ) → member-lts.Need-returns-3 (member-below t, member.Post) (member-at t) member.Post
 member-returns-3 t c = placed-after _ _ _ (omega arith) (c .before .before .before .pre .1 .1) _ (omega arith) (c .member2 .ensures)

@@ -4,15 +4,12 @@ use Rattle.matching.proofs.nodes.collection_of.Tie as tie
 use Rattle.matching.proofs.nodes.collection_of.Reads as reads
 use Rattle.matching.proofs.nodes.collection_of.Lts as lts
 
--- src/nodes.rt:55:9
 returns : tie.Need-returns
 returns c = rw (c .match .keys1)
 
--- src/nodes.rt:58:9
 returns-2 : tie.Need-returns-2
 returns-2 c = rw (c .match .keys2)
 
--- src/nodes.rt:51:1
 returns-3 : tie.Need-returns-3
 returns-3 c = rw (c .match .keys3)
 

@@ -13,59 +13,47 @@ use Rattle.tables.proofs.reading.kind.Reads as kind-reads
 use Rattle.values.proofs.boolean_at.Reads as boolean-at-reads
 use Rattle.values.proofs.integer_at.Reads as integer-at-reads
 
--- src/nodes.rt:125:9
 kind-requires : tie.Need-kind-requires
 kind-requires c κs = search needs
 
--- src/nodes.rt:126:9
 kind-of-part-requires : tie.Need-kind-of-part-requires
 kind-of-part-requires c κs = search needs
 
--- src/nodes.rt:129:14
 cast-at : tie.Need-cast-at
 cast-at c = search needs
 
--- src/nodes.rt:130:13
 returns : tie.Need-returns
 returns c = other-truth _ _ _ (c .before .before .before .before .before .before .before .pre .0) _ _ _ (c .before .before .before .kind-of-part .ensures) (sym (c .before .before .before .before .kind .ensures .0) ∙ c .before .if1 .taken) (c .if2 .taken)
 
--- src/nodes.rt:132:13
 field-requires : tie.Need-field-requires
 field-requires c κs = truth-field _ _ _ (c .before .before .before .before .before .before .before .pre .0) (sym (c .before .before .before .before .kind .ensures .0) ∙ c .before .if1 .taken)
 
--- src/nodes.rt:133:13
 boolean-at-requires : tie.Need-boolean-at-requires
 boolean-at-requires c κs =
     let k : c .before .before .before .before .kind-of-part .result ≡ 1 = c .before .if2 .left in
     of-kind _ _ _ (c .before .before .before .before .before .before .before .before .pre .0) _ _ _ (c .before .before .before .before .kind-of-part .ensures) _ k (omega arith) (c .before .before .before .before .before .before .before .before .pre .1)
 
--- src/nodes.rt:135:13
 returns-2 : tie.Need-returns-2
 returns-2 c =
     let k : c .before .before .before .before .before .before .kind-of-part .result ≡ 1 = c .before .before .before .if2 .left in
     both-true _ _ _ (c .before .before .before .before .before .before .before .before .before .before .pre .0) _ _ _ (c .before .before .before .before .before .before .kind-of-part .ensures) _ (sym (c .before .before .before .before .before .before .before .kind .ensures .0) ∙ c .before .before .before .before .if1 .taken) (omega arith) (c .before .boolean-at .ensures) _ (c .before .before .field .ensures .0) (c .if3 .taken)
 
--- src/nodes.rt:137:9
 returns-3 : tie.Need-returns-3
 returns-3 c =
     let k : c .before .before .before .before .before .before .kind-of-part .result ≡ 1 = c .before .before .before .if2 .left in
     both-false _ _ _ (c .before .before .before .before .before .before .before .before .before .before .pre .0) _ _ _ (c .before .before .before .before .before .before .kind-of-part .ensures) _ (sym (c .before .before .before .before .before .before .before .kind .ensures .0) ∙ c .before .before .before .before .if1 .taken) (omega arith) (c .before .boolean-at .ensures) _ (c .before .before .field .ensures .0) (c .if3 .left)
 
--- src/nodes.rt:140:9
 returns-4 : tie.Need-returns-4
 returns-4 c = other-whole _ _ _ (c .before .before .before .before .before .before .before .pre .0) _ _ _ (c .before .before .before .kind-of-part .ensures) (λ e. c .before .if1 .left (c .before .before .before .before .kind .ensures .0 ∙ e)) (c .if4 .taken)
 
--- src/nodes.rt:142:9
 integer-requires : tie.Need-integer-requires
 integer-requires c κs = whole-field _ _ _ (c .before .before .before .before .before .before .before .pre .0) (λ e. c .before .if1 .left (c .before .before .before .before .kind .ensures .0 ∙ e))
 
--- src/nodes.rt:143:9
 integer-at-requires : tie.Need-integer-at-requires
 integer-at-requires c κs =
     let k : c .before .before .before .before .kind-of-part .result ≡ 2 = c .before .if4 .left in
     of-kind _ _ _ (c .before .before .before .before .before .before .before .before .pre .0) _ _ _ (c .before .before .before .before .kind-of-part .ensures) _ k (omega arith) (c .before .before .before .before .before .before .before .before .pre .1)
 
--- src/nodes.rt:121:1
 returns-5 : tie.Need-returns-5
 returns-5 c =
     let k : c .before .before .before .before .before .kind-of-part .result ≡ 2 = c .before .before .if4 .left in

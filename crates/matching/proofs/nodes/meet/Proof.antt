@@ -12,59 +12,45 @@ use Rattle.parts.proofs.count_of_part.Reads as count-of-part-reads
 use Rattle.parts.proofs.kind_of_part.Reads as kind-of-part-reads
 use Rattle.parts.proofs.masks.full.Reads as full-reads
 
--- src/nodes.rt:68:9
 kind-of-part-requires : tie.Need-kind-of-part-requires
 kind-of-part-requires c κs = search needs
 
--- src/nodes.rt:69:9
 collection-of-requires : tie.Need-collection-of-requires
 collection-of-requires c κs = search needs
 
--- src/nodes.rt:71:9
 returns : tie.Need-returns
 returns c = kind-unfit _ (c .before .before .before .before .args .n) _ _ (c .before .before .before .before .pre .0) _ (c .before .before .kind-of-part .ensures) (λ e. c .if1 .taken (e ∙ sym (c .before .collection-of .ensures)))
 
--- src/nodes.rt:73:9
 count-of-part-requires : tie.Need-count-of-part-requires
 count-of-part-requires c κs = is-held _ (c .before .before .before .before .args .n) _ _ (c .before .before .before .before .pre .0) _ (c .before .before .kind-of-part .ensures) (c .if1 .left ∙ c .before .collection-of .ensures) (c .before .before .before .before .pre .2)
 
--- src/nodes.rt:76:13
 returns-2 : tie.Need-returns-2
 returns-2 c = too-large _ (c .before .before .before .before .before .before .before .args .n) _ _ (c .before .before .before .before .before .before .before .pre .0) _ (c .before .before .before .before .before .kind-of-part .ensures) (c .before .before .before .if1 .left ∙ c .before .before .before .before .collection-of .ensures) _ (c .before .before .count-of-part .ensures) (c .before .if2 .taken) (c .if3 .taken)
 
--- src/nodes.rt:78:13
 full-requires : tie.Need-full-requires
 full-requires c κs = search needs
 
--- src/nodes.rt:79:30
 add-t12 : tie.Need-add-t12
 add-t12 c = search needs
 
--- src/nodes.rt:79:9
 returns-3 : tie.Need-returns-3
 returns-3 c = by-splits _ (c .before .before .before .before .before .before .before .before .args .n) _ _ (c .before .before .before .before .before .before .before .before .pre .0) _ (c .before .before .before .before .before .before .kind-of-part .ensures) (c .before .before .before .before .if1 .left ∙ c .before .before .before .before .before .collection-of .ensures) _ (c .before .before .before .count-of-part .ensures) (c .before .before .if2 .taken) (omega arith) _ (c .full .ensures)
 
--- src/nodes.rt:82:30
 add-t13 : tie.Need-add-t13
 add-t13 c = omega (arith, count-few _ (c .before .before .before .before .before .before .before .args .n) _ _ (c .before .before .before .before .before .before .before .pre .0) _ (c .before .before .before .before .before .kind-of-part .ensures) (c .before .before .before .if1 .left ∙ c .before .before .before .before .collection-of .ensures) _ (c .before .before .count-of-part .ensures) (c .before .before .before .before .before .before .before .pre .2))
 
--- src/nodes.rt:82:9
 returns-4 : tie.Need-returns-4
 returns-4 c = by-cuts _ (c .before .before .before .before .before .before .before .args .n) _ _ (c .before .before .before .before .before .before .before .pre .0) _ (c .before .before .before .before .before .kind-of-part .ensures) (c .before .before .before .if1 .left ∙ c .before .before .before .before .collection-of .ensures) _ (c .before .before .count-of-part .ensures) (c .if4 .taken) (c .before .before .before .before .before .before .before .pre .2)
 
--- src/nodes.rt:85:9
 returns-5 : tie.Need-returns-5
 returns-5 c = count-unfit _ (c .before .before .before .before .before .before .before .before .args .n) _ _ (c .before .before .before .before .before .before .before .before .pre .0) _ (c .before .before .before .before .before .before .kind-of-part .ensures) (c .before .before .before .before .if1 .left ∙ c .before .before .before .before .before .collection-of .ensures) _ (c .before .before .before .count-of-part .ensures) (c .before .before .if2 .left) (c .before .if4 .left) (c .if5 .taken)
 
--- src/nodes.rt:88:13
 orders-requires : tie.Need-orders-requires
 orders-requires c κs = search needs
 
--- src/nodes.rt:89:9
 returns-6 : tie.Need-returns-6
 returns-6 c = by-orders _ (c .before .before .before .before .before .before .before .before .before .before .args .n) _ _ (c .before .before .before .before .before .before .before .before .before .before .pre .0) _ (c .before .before .before .before .before .before .before .before .kind-of-part .ensures) (c .before .before .before .before .before .before .if1 .left ∙ c .before .before .before .before .before .before .before .collection-of .ensures) _ (c .before .before .before .before .before .count-of-part .ensures) (c .before .before .before .before .if2 .left) (c .before .before .before .if4 .left) (c .before .if6 .taken) (c .before .before .if5 .left) _ (c .orders .ensures)
 
--- src/nodes.rt:64:1
 returns-7 : tie.Need-returns-7
 returns-7 c = by-items _ (c .before .before .before .before .before .before .before .before .before .args .n) _ _ (c .before .before .before .before .before .before .before .before .before .pre .0) _ (c .before .before .before .before .before .before .before .kind-of-part .ensures) (c .before .before .before .before .before .if1 .left ∙ c .before .before .before .before .before .before .collection-of .ensures) _ (c .before .before .before .before .count-of-part .ensures) (c .before .before .before .if2 .left) (c .before .before .if4 .left) (c .if6 .left) (c .before .if5 .left)
 

@@ -5,19 +5,15 @@ use Rattle.matching.proofs.nodes.orders.Tie as tie
 use Rattle.matching.proofs.nodes.orders.Reads as reads
 use Rattle.matching.proofs.nodes.orders.Lts as lts
 
--- src/nodes.rt:24:9
 returns : tie.Need-returns
 returns c = few-orders _ (omega arith)
 
--- src/nodes.rt:27:9
 returns-2 : tie.Need-returns-2
 returns-2 c = (two-orders _ (omega arith), omega arith, omega arith)
 
--- src/nodes.rt:30:9
 returns-3 : tie.Need-returns-3
 returns-3 c = (three-orders _ (omega arith), omega arith, omega arith)
 
--- src/nodes.rt:19:1
 returns-4 : tie.Need-returns-4
 returns-4 c = (four-orders _ (omega arith), omega arith, omega arith)
 

@@ -6,23 +6,18 @@ use Rattle.parts.proofs.masks.deal.Tie as tie
 use Rattle.parts.proofs.masks.deal.Reads as reads
 use Rattle.parts.proofs.masks.deal.Lts as lts
 
--- src/masks.rt:32:16
 mul-left : tie.Need-mul-left
 mul-left c = search needs
 
--- src/masks.rt:35:9
 returns : tie.Need-returns
 returns c = deals-even _ _ (c .before .before .pre .1) (c .if1 .taken)
 
--- src/masks.rt:39:19
 add-t7 : tie.Need-add-t7
 add-t7 c = search needs
 
--- src/masks.rt:38:9
 returns-2 : tie.Need-returns-2
 returns-2 c = deals-left _ _ (c .before .before .before .pre .1) (omega (arith, c .before .if1 .left)) (c .if2 .taken)
 
--- src/masks.rt:28:1
 returns-3 : tie.Need-returns-3
 returns-3 c = deals-right _ _ (c .before .before .before .pre .1) (omega (arith, c .before .if1 .left)) (omega (arith, c .if2 .left))
 

@@ -5,15 +5,12 @@ use Rattle.parts.proofs.masks.full.Tie as tie
 use Rattle.parts.proofs.masks.full.Reads as reads
 use Rattle.parts.proofs.masks.full.Lts as lts
 
--- src/masks.rt:18:5
 mul-result : tie.Need-mul-result
 mul-result c = search needs
 
--- src/masks.rt:18:5
 array-read-result : tie.Need-array-read-result
 array-read-result c = search needs
 
--- src/masks.rt:13:1
 returns : tie.Need-returns
 returns c = full-at _ (c .pre)
 

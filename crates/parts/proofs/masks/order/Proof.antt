@@ -14,35 +14,27 @@ Inv-loop a b x₀ y₀ x y = MasksLeft a b x y
 abbrev μ-loop : tie.MeasureT-loop
 μ-loop a b x₀ y₀ x y = x
 
--- src/masks.rt:65:5
 loop-holds : tie.Need-loop-holds Inv-loop μ-loop
 loop-holds c = left-start _ _
 
--- src/masks.rt:67:13
 returns : tie.Need-returns Inv-loop μ-loop
 returns c = masks-none _ _ _ _ (c .before .before .loop .inv) (c .if1 .taken) (λ z. omega arith)
 
--- src/masks.rt:70:13
 returns-2 : tie.Need-returns-2 Inv-loop μ-loop
 returns-2 c = masks-some _ _ _ _ (c .before .before .before .loop .inv) (c .before .if1 .left) (c .if2 .taken)
 
--- src/masks.rt:74:13
 first-requires : tie.Need-first-requires Inv-loop μ-loop
 first-requires c κs = search needs
 
--- src/masks.rt:74:13
 returns-3 : tie.Need-returns-3 Inv-loop μ-loop
 returns-3 c = masks-first _ _ _ _ (c .before .before .before .before .before .loop .inv) (c .before .before .before .if1 .left) (c .before .before .if2 .left) (c .before .if3 .taken) _ refl _ (c .first .ensures)
 
--- src/masks.rt:65:5
 loop-less : tie.Need-loop-less Inv-loop μ-loop
 loop-less c = omega (arith, c .before .before .if1 .left)
 
--- src/masks.rt:65:5
 loop-again : tie.Need-loop-again Inv-loop μ-loop
 loop-again c = masks-more _ _ _ _ (c .before .before .before .before .loop .inv) (c .before .before .if1 .left) (c .before .if2 .left) (c .if3 .left)
 
--- src/masks.rt:60:1
 returns-4 : tie.Need-returns-4 Inv-loop μ-loop
 returns-4 c = masks-same _ _ _ _ (c .before .loop .inv) (omega arith)
 

@@ -10,35 +10,27 @@ use Rattle.parts.proofs.masks.spread.Reads as reads
 use Rattle.parts.proofs.masks.spread.Lts as lts
 use Rattle.parts.proofs.masks.deal.Reads as deal-reads
 
--- src/masks.rt:61:9
 deal-requires : tie.Need-deal-requires
 deal-requires c κs = search needs
 
--- src/masks.rt:62:9
 deal-requires-2 : tie.Need-deal-requires-2
 deal-requires-2 c κs = search needs
 
--- src/masks.rt:63:9
 deal-requires-3 : tie.Need-deal-requires-3
 deal-requires-3 c κs = search needs
 
--- src/masks.rt:64:9
 deal-requires-4 : tie.Need-deal-requires-4
 deal-requires-4 c κs = search needs
 
--- src/masks.rt:65:9
 deal-requires-5 : tie.Need-deal-requires-5
 deal-requires-5 c κs = search needs
 
--- src/masks.rt:66:9
 deal-requires-6 : tie.Need-deal-requires-6
 deal-requires-6 c κs = search needs
 
--- src/masks.rt:67:9
 deal-requires-7 : tie.Need-deal-requires-7
 deal-requires-7 c κs = search needs
 
--- src/masks.rt:50:1
 returns : tie.Need-returns
 returns c =
     let m = c .before .before .before .before .before .before .before .args .m in

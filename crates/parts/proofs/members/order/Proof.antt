@@ -17,82 +17,63 @@ Inv-loop s a x b y i₀ m₀ j₀ n₀ i m j n = ChoicesLeft s i₀ m₀ j₀ n�
 abbrev μ-loop : tie.MeasureT-loop
 μ-loop s a x b y i₀ m₀ j₀ n₀ i m j n = m + n
 
--- src/members.rt:14:5
 loop-holds : tie.Need-loop-holds Inv-loop μ-loop
 loop-holds c = choices-start _ _ _ _ _
 
--- src/members.rt:16:13
 returns : tie.Need-returns Inv-loop μ-loop
 returns c = choices-higher (c .before .before .loop .inv) (c .before .loop-test .taken) (c .if1 .taken)
 
--- src/members.rt:19:18
 length-of-requires : tie.Need-length-of-requires Inv-loop μ-loop
 length-of-requires c κs = choice-first (choices-held (c .before .before .before .loop .inv) (c .before .before .before .before .before .pre .0) (c .before .before .before .before .before .pre .1) .0) (c .before .before .loop-test .taken)
 
--- src/members.rt:19:13
 add-i : tie.Need-add-i Inv-loop μ-loop
 add-i c = let h = choice-first (choices-held (c .before .before .before .before .loop .inv) (c .before .before .before .before .before .before .pre .0) (c .before .before .before .before .before .before .pre .1) .0) (c .before .before .before .loop-test .taken) in omega (arith, h .whole, c .length-of .ensures .is)
 
--- src/members.rt:14:5
 loop-less : tie.Need-loop-less Inv-loop μ-loop
 loop-less c = omega (arith, c .before .before .before .loop-test .taken)
 
--- src/members.rt:14:5
 loop-again : tie.Need-loop-again Inv-loop μ-loop
 loop-again c = skip-first (c .before .before .before .before .loop .inv) (c .before .before .before .loop-test .taken) (c .before .if2 .taken) _ (c .length-of .ensures .is)
 
--- src/members.rt:24:18
 length-of-requires-2 : tie.Need-length-of-requires-2 Inv-loop μ-loop
 length-of-requires-2 c κs = choice-first (choices-held (c .before .before .before .before .loop .inv) (c .before .before .before .before .before .before .pre .0) (c .before .before .before .before .before .before .pre .1) .1) (c .before .before .if1 .left)
 
--- src/members.rt:24:13
 add-j : tie.Need-add-j Inv-loop μ-loop
 add-j c = let h = choice-first (choices-held (c .before .before .before .before .before .loop .inv) (c .before .before .before .before .before .before .before .pre .0) (c .before .before .before .before .before .before .before .pre .1) .1) (c .before .before .before .if1 .left) in omega (arith, h .whole, c .length-of2 .ensures .is)
 
--- src/members.rt:14:5
 loop-less-2 : tie.Need-loop-less-2 Inv-loop μ-loop
 loop-less-2 c = omega (arith, c .before .before .before .if1 .left)
 
--- src/members.rt:14:5
 loop-again-2 : tie.Need-loop-again-2 Inv-loop μ-loop
 loop-again-2 c = skip-second (c .before .before .before .before .before .loop .inv) (c .before .before .before .before .loop-test .taken) (c .before .before .before .if1 .left) (c .before .if3 .taken) _ (c .length-of2 .ensures .is)
 
--- src/members.rt:28:13
 compare-requires : tie.Need-compare-requires Inv-loop μ-loop
 compare-requires c κs = let h = choices-held (c .before .before .before .before .loop .inv) (c .before .before .before .before .before .before .pre .0) (c .before .before .before .before .before .before .pre .1) in (choice-first (h .0) (c .before .before .before .loop-test .taken), choice-first (h .1) (c .before .before .if1 .left))
 
 enum-told : tie.Need-enum-told Inv-loop μ-loop
 enum-told c = search needs
 
--- src/members.rt:30:13
 returns-2 : tie.Need-returns-2 Inv-loop μ-loop
 returns-2 c = choices-settled (c .before .before .before .before .before .before .loop .inv) (c .before .before .before .before .before .loop-test .taken) (c .before .before .before .before .if1 .left) (omega (arith, c .before .before .before .if2 .left)) (omega (arith, c .before .before .if3 .left)) _ (c .before .compare .ensures) (λ d. ⊎-elim (λ k. let e = rw d at k in omega arith) (λ k. let e = rw d at k in omega arith) (c .match .keys2))
 
--- src/members.rt:32:13
 length-of-requires-3 : tie.Need-length-of-requires-3 Inv-loop μ-loop
 length-of-requires-3 c κs = choice-first (choices-held (c .before .before .before .before .before .before .before .loop .inv) (c .before .before .before .before .before .before .before .before .before .pre .0) (c .before .before .before .before .before .before .before .before .before .pre .1) .0) (c .before .before .before .before .before .before .loop-test .taken)
 
--- src/members.rt:33:9
 add-i-2 : tie.Need-add-i-2 Inv-loop μ-loop
 add-i-2 c = let h = choice-first (choices-held (c .before .before .before .before .before .before .before .before .loop .inv) (c .before .before .before .before .before .before .before .before .before .before .pre .0) (c .before .before .before .before .before .before .before .before .before .before .pre .1) .0) (c .before .before .before .before .before .before .before .loop-test .taken) in omega (arith, h .whole, c .length-of3 .ensures .is)
 
--- src/members.rt:34:9
 add-j-2 : tie.Need-add-j-2 Inv-loop μ-loop
 add-j-2 c = let x = choices-held (c .before .before .before .before .before .before .before .before .loop .inv) (c .before .before .before .before .before .before .before .before .before .before .pre .0) (c .before .before .before .before .before .before .before .before .before .before .pre .1) in let h = choice-first (x .1) (c .before .before .before .before .before .before .if1 .left) in omega (arith, h .whole, c .length-of3 .ensures .is, same-size (c .before .before .before .before .before .before .before .before .loop .inv) (c .before .before .before .before .before .before .before .loop-test .taken) (c .before .before .before .before .before .before .if1 .left) (omega (arith, c .before .before .before .before .before .if2 .left)) (omega (arith, c .before .before .before .before .if3 .left)) _ (c .before .before .before .compare .ensures) (c .before .enum-told .given .1) (x .0) (x .1))
 
--- src/members.rt:14:5
 loop-less-3 : tie.Need-loop-less-3 Inv-loop μ-loop
 loop-less-3 c = omega (arith, c .before .before .before .before .before .before .before .loop-test .taken, c .before .before .before .before .before .before .if1 .left)
 
--- src/members.rt:14:5
 loop-again-3 : tie.Need-loop-again-3 Inv-loop μ-loop
 loop-again-3 c = choices-more (c .before .before .before .before .before .before .before .before .loop .inv) (c .before .before .before .before .before .before .before .loop-test .taken) (c .before .before .before .before .before .before .if1 .left) (omega (arith, c .before .before .before .before .before .if2 .left)) (omega (arith, c .before .before .before .before .if3 .left)) _ (c .before .before .before .compare .ensures) (c .before .enum-told .given .1) _ (c .length-of3 .ensures .is)
 
--- src/members.rt:39:9
 returns-3 : tie.Need-returns-3 Inv-loop μ-loop
 returns-3 c = choices-same (c .before .before .loop .inv) (c .before .loop-test .left) (c .if4 .taken)
 
--- src/members.rt:6:1
 returns-4 : tie.Need-returns-4 Inv-loop μ-loop
 returns-4 c = choices-lower (c .before .before .loop .inv) (c .before .loop-test .left) (c .if4 .left)
 

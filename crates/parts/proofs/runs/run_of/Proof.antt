@@ -10,47 +10,36 @@ use Rattle.parts.proofs.runs.run_of.Lts as lts
 use Rattle.parts.proofs.runs.ready.Reads as ready-reads
 use Rattle.values.proofs.length_of.Reads as length-of-reads
 
--- src/runs.rt:65:14
 cast-at : tie.Need-cast-at
 cast-at c = search needs
 
--- src/runs.rt:66:18
 cast-extent : tie.Need-cast-extent
 cast-extent c = search needs
 
--- src/runs.rt:70:17
 add-t7 : tie.Need-add-t7
 add-t7 c = let x = spans-of (c .if1 .taken) (c .before .before .before .before .before .pre .here) in omega (arith, x .here .ends, x .here .fits)
 
--- src/runs.rt:68:9
 returns : tie.Need-returns
 returns c = run-spans (c .if1 .taken) (c .before .before .before .before .before .pre .here)
 
--- src/runs.rt:74:20
 length-of-requires : tie.Need-length-of-requires
 length-of-requires c κs = record-of (c .if1 .left) (c .before .before .before .before .before .pre .here)
 
--- src/runs.rt:74:15
 add-end : tie.Need-add-end
 add-end c = let x = record-of (c .before .if1 .left) (c .before .before .before .before .before .before .pre .here) in let e = c .length-of .ensures .is in omega arith
 
--- src/runs.rt:79:23
 add-t9 : tie.Need-add-t9
 add-t9 c = let x = record-of (c .before .before .before .if1 .left) (c .before .before .before .before .before .before .before .before .pre .here) in omega arith
 
--- src/runs.rt:76:9
 ready-requires : tie.Need-ready-requires
 ready-requires c κs = selects-startable (c .if2 .taken) (c .before .before .length-of .ensures) (c .before .before .before .before .before .before .before .before .pre .here)
 
--- src/runs.rt:76:9
 returns-2 : tie.Need-returns-2
 returns-2 c = run-selects (c .before .if2 .taken) (c .before .before .before .length-of .ensures) (c .ready .ensures)
 
--- src/runs.rt:86:15
 add-t8 : tie.Need-add-t8
 add-t8 c = let x = record-of (c .before .before .before .if1 .left) (c .before .before .before .before .before .before .before .before .pre .here) in omega arith
 
--- src/runs.rt:61:1
 returns-3 : tie.Need-returns-3
 returns-3 c = run-whole (c .if2 .left) (c .before .before .before .if1 .left) (c .before .before .length-of .ensures)
 

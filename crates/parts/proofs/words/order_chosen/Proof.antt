@@ -10,19 +10,15 @@ use Rattle.parts.proofs.words.order_chosen.Lts as lts
 use Rattle.parts.proofs.order_members.Reads as order-members-reads
 use Rattle.parts.proofs.words.unpack.Reads as unpack-reads
 
--- src/words.rt:84:9
 unpack-requires : tie.Need-unpack-requires
 unpack-requires c κs = search needs
 
--- src/words.rt:85:9
 unpack-requires-2 : tie.Need-unpack-requires-2
 unpack-requires-2 c κs = search needs
 
--- src/words.rt:86:5
 order-members-requires : tie.Need-order-members-requires
 order-members-requires c κs = let h = words-held _ _ _ (c .before .before .before .pre .0) (c .before .before .before .pre .1) (λ e. omega (arith, c .before .before .before .pre .2, e)) (λ e. omega (arith, c .before .before .before .pre .3, e)) _ _ (c .before .unpack .ensures) (c .unpack2 .ensures) in (h .0, h .1, ap (λ (p : Part). p .how) (c .before .unpack .ensures) ∙ c .before .before .before .pre .2, ap (λ (p : Part). p .how) (c .unpack2 .ensures) ∙ c .before .before .before .pre .3)
 
--- src/words.rt:80:1
 returns : tie.Need-returns
 returns c = words-order _ _ _ (c .before .before .before .before .pre .0) (c .before .before .before .before .pre .1) (λ e. omega (arith, c .before .before .before .before .pre .2, e)) (λ e. omega (arith, c .before .before .before .before .pre .3, e)) _ _ (c .before .before .unpack .ensures) (c .before .unpack2 .ensures) _ (c .order-members .ensures)
 

@@ -6,47 +6,36 @@ use Rattle.parts.proofs.words.word_of.Tie as tie
 use Rattle.parts.proofs.words.word_of.Reads as reads
 use Rattle.parts.proofs.words.word_of.Lts as lts
 
--- src/words.rt:40:9
 returns : tie.Need-returns
 returns c = pack-none _ _ (c .if1 .taken)
 
--- src/words.rt:44:20
 mul-result : tie.Need-mul-result
 mul-result c = let l = cell-low _ _ (c .before .before .before .before .pre .0) (c .before .before .if1 .left) (c .before .before .before .before .pre .1) in omega (arith, l .at)
 
--- src/words.rt:44:16
 add-result : tie.Need-add-result
 add-result c = let l = cell-low _ _ (c .before .before .before .before .pre .0) (c .before .before .if1 .left) (c .before .before .before .before .pre .1) in omega (arith, l .at)
 
--- src/words.rt:44:9
 returns-2 : tie.Need-returns-2
 returns-2 c = pack-whole _ _ (c .before .before .before .before .pre .0) (c .if2 .taken) (c .before .before .before .before .pre .1)
 
--- src/words.rt:46:15
 cast-how : tie.Need-cast-how
 cast-how c = search needs
 
--- src/words.rt:47:18
 cast-extent : tie.Need-cast-extent
 cast-extent c = search needs
 
--- src/words.rt:48:21
 mul-result-2 : tie.Need-mul-result-2
 mul-result-2 c = let l = cell-low _ _ (c .before .before .before .before .before .before .pre .0) (c .before .before .before .before .if1 .left) (c .before .before .before .before .before .before .pre .1) in omega (arith, l .extent (c .before .before .if2 .left))
 
--- src/words.rt:48:16
 add-result-2 : tie.Need-add-result-2
 add-result-2 c = let l = cell-low _ _ (c .before .before .before .before .before .before .pre .0) (c .before .before .before .before .if1 .left) (c .before .before .before .before .before .before .pre .1) in omega (arith, l .at, l .extent (c .before .before .if2 .left))
 
--- src/words.rt:48:11
 mul-result-3 : tie.Need-mul-result-3
 mul-result-3 c = let l = cell-low _ _ (c .before .before .before .before .before .before .pre .0) (c .before .before .before .before .if1 .left) (c .before .before .before .before .before .before .pre .1) in omega (arith, l .at, l .extent (c .before .before .if2 .left))
 
--- src/words.rt:48:5
 add-result-3 : tie.Need-add-result-3
 add-result-3 c = let l = cell-low _ _ (c .before .before .before .before .before .before .pre .0) (c .before .before .before .before .if1 .left) (c .before .before .before .before .before .before .pre .1) in omega (arith, l .how, l .at, l .extent (c .before .before .if2 .left))
 
--- src/words.rt:35:1
 returns-3 : tie.Need-returns-3
 returns-3 c = pack-wide _ _ (c .before .before .before .before .before .before .pre .0) (c .before .before .before .before .if1 .left) (c .before .before .if2 .left) (c .before .before .before .before .before .before .pre .1)
 
