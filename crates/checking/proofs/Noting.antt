@@ -11,14 +11,14 @@ use lib.Dec.{eqb, ltb}
 use lib.ListN.{length, getD, drop, set, length-set, replicate, length-replicate}
 use lib.Seq.{drop-cons, drop-length, getD-set-same, getD-set-other}
 use Rattle.prelude.proofs.Truth.{by-lower, implied}
-use Rattle.tables.specs.Record.{Record, shape, isFit, named, operand}
+use Rattle.tables.specs.Record.{Record, shape, isLeaf, isFit, named, operand}
 use Rattle.tables.specs.Shapes.{firstOf}
 use Rattle.tables.specs.Table.{recordAt, kindAt}
 use Rattle.tables.specs.Sheet.{lowest, greatest, height}
 use Rattle.tables.specs.Check.{mostHeight, fault9}
 use Rattle.tables.specs.Laws.Tests.{each, low, low-same}
 use Rattle.tables.specs.Laws.Accepted.{Clear6, fit-kind, operand-lower, height-at, height-operand}
-use Rattle.checking.specs.Heights.{isLeaf, isTall, Settled, Noted, HeightNoted}
+use Rattle.checking.specs.Heights.{isTall, Settled, Noted, HeightNoted}
 use Rattle.checking.proofs.Above.{zeros}
 use Rattle.checking.proofs.Shapes.{roles-many}
 use Rattle.checking.proofs.Reaching.{from-last}

@@ -1,22 +1,18 @@
 -- Rule 9: heights noted record by record.
 use mathlib.Core.Path.{_≡_}
-use mathlib.Core.Bool.{Bool, false, _&&_, _||_}
+use mathlib.Core.Bool.{Bool, false}
 use mathlib.Core.List.{List}
 use mathlib.Core.Logic.{_⊎_}
 use Prim.Native.Nat.{ℕ, _<_}
-use lib.Dec.{ltb, leb}
+use lib.Dec.{ltb}
 use lib.ListN.{length, getD}
-use Rattle.tables.specs.Record.{Record, named, operand}
+use Rattle.tables.specs.Record.{Record, isLeaf, named, operand}
 use Rattle.tables.specs.Table.{recordAt, kindAt}
 use Rattle.tables.specs.Sheet.{height}
 use Rattle.tables.specs.Check.{mostRecords, mostHeight}
 use Rattle.tables.specs.Accepted.{records}
 use Rattle.tables.specs.Laws.Accepted.{Clear6}
 use Rattle.tables.specs.Reading.{Here}
-
--- Kinds 1 to 3 and 32 to 35, whose records have no operands.
-abbrev pub isLeaf : ℕ → Bool
-isLeaf kind = ltb kind 4 || (leb 32 kind && leb kind 35)
 
 -- The noted height is over the limit.
 abbrev pub isTall : List ℕ → ℕ → Bool

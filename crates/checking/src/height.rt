@@ -4,7 +4,7 @@ ghost use mathlib.Core.Bool.{false, cond};
 ghost use Prim.Native.Nat.{_+_, _<_, _≤_, max};
 ghost use lib.Dec.{ltb};
 ghost use lib.ListN.{getD};
-ghost use Rattle.tables.specs.Record.{lastKind, operand as operandIn};
+ghost use Rattle.tables.specs.Record.{lastKind, isLeaf, operand as operandIn};
 ghost use Rattle.tables.specs.Shapes.{firstOf};
 ghost use Rattle.tables.specs.Table.{recordAt, kindAt};
 ghost use Rattle.tables.specs.Sheet.{lowest as lowestOf};
@@ -12,7 +12,7 @@ ghost use Rattle.tables.specs.Check.{mostRecords, mostHeight, fault9};
 ghost use Rattle.tables.specs.Accepted.{records};
 ghost use Rattle.tables.specs.Reading.{Here, HasOperand};
 ghost use Rattle.checking.specs.Scopes.{KeepsRule6};
-ghost use Rattle.checking.specs.Heights.{isLeaf, isTall, AskHeight, HeightNoted};
+ghost use Rattle.checking.specs.Heights.{isTall, AskHeight, HeightNoted};
 use tables::Index;
 use tables::MOST_HEIGHT;
 use tables::MOST_RECORDS;
@@ -23,7 +23,7 @@ use tables::reading::kind;
 use tables::reading::noted_operand;
 use tables::reading::operand_from;
 use tables::reading::operands_from;
-use tables::shape::is_between;
+use tables::shape::is_leaf;
 use tables::shape::wide;
 
 // The higher of two numbers.
@@ -38,16 +38,6 @@ fn is_tall(height: usize) -> bool
     ensures { λ b. ⌜ b ≡ ltb mostHeight height ⌝ }
 {
     MOST_HEIGHT < height
-}
-
-// Records of the kind have no operands: literals, names and patterns that hold no others.
-fn is_leaf(kind: usize) -> bool
-    ensures { λ b. ⌜ b ≡ isLeaf kind ⌝ }
-{
-    if kind < kinds::UNARY {
-        return true;
-    }
-    is_between(kinds::NAME_PATTERN, kind, kinds::INTEGER_PATTERN)
 }
 
 // Where the operands of a kind begin whose records have some: behind the operator of a unary or binary one.

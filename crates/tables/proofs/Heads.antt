@@ -7,7 +7,7 @@ use borrow.Author.Tests.{lt-ltb, le-ltb, lt-leb, le-leb, ne-eqb, not-true}
 use lib.Dec.{eqb, ltb, leb}
 use Rattle.prelude.proofs.Absurd.{never}
 use Rattle.prelude.proofs.Truth.{implied, by-lower}
-use Rattle.tables.specs.Record.{Head, nothing, boolean, integer, name, unary, binary, unknown, shape, isExpression, isPattern, isComposed, fits}
+use Rattle.tables.specs.Record.{Head, nothing, boolean, integer, name, unary, binary, unknown, shape, isExpression, isPattern, isLeaf, isComposed, fits}
 use Rattle.tables.specs.Shapes.{isTested, knownFirst}
 use Rattle.tables.specs.Laws.Tests.{each}
 use Rattle.tables.proofs.Lengths.{sameBool, same-is}
@@ -63,3 +63,7 @@ head-kind k h = same-is _ (isExpression k || isPattern k) (each (λ k. sameBool 
 pub composed-is : (k : ℕ) → k ≤ 40 → eqb (2130303778816 / 2 ^ k % 2) 1 ≡ isComposed k
 unfolding shape
 composed-is k h = same-is _ (isComposed k) (each (λ k. sameBool (eqb (2130303778816 / 2 ^ k % 2) 1) (isComposed k)) 41 refl k (omega arith))
+
+pub leaf-is : (k : ℕ) → k ≤ 40 → eqb (2130307973104 / 2 ^ k % 2) 0 ≡ isLeaf k
+unfolding shape
+leaf-is k h = same-is _ (isLeaf k) (each (λ k. sameBool (eqb (2130307973104 / 2 ^ k % 2) 0) (isLeaf k)) 41 refl k (omega arith))

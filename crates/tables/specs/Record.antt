@@ -1,5 +1,5 @@
 -- Document 01, "Table records": a record, and the shape of each kind.
-use mathlib.Core.Bool.{Bool, true, false, _&&_}
+use mathlib.Core.Bool.{Bool, true, false, not, _&&_}
 use mathlib.Core.List.{List, [], _∷_, map}
 use Prim.Native.Nat.{ℕ, _+_, _-_, _%_}
 use lib.IntN.{ℤ}
@@ -135,6 +135,10 @@ isPattern kind = ofPatterns (shape kind .sort)
 abbrev pub hasRoles : List Role → Bool
 hasRoles [] = false
 hasRoles (role ∷ roles) = true
+
+-- Records of the kind have no operands (1 to 3, and 32 to 35).
+abbrev pub isLeaf : ℕ → Bool
+isLeaf kind = not (hasRoles (shape kind .roles))
 
 -- A pattern that has parts: its kind's row has operands (36 to 40).
 abbrev pub isComposed : ℕ → Bool

@@ -5,7 +5,7 @@ ghost use mathlib.Core.Bool.{_&&_, _||_};
 ghost use lib.Dec.{leb};
 ghost use lib.ListN.{length, getD};
 ghost use Rattle.integers.specs.Bytes.{word};
-ghost use Rattle.tables.specs.Record.{shape, lastKind, isExpression, isPattern, isComposed, fits, isFit};
+ghost use Rattle.tables.specs.Record.{shape, lastKind, isExpression, isPattern, isLeaf, isComposed, fits, isFit};
 ghost use Rattle.tables.specs.Table.{firstRecord};
 ghost use Rattle.tables.specs.Sheet.{isBinder};
 ghost use Rattle.tables.specs.Shapes.{lengthRows, firstOf, rolesOf, firstRole, thirdRole, binderRole, isTested, knownFirst};
@@ -100,6 +100,9 @@ const BYTE_FIRST: u64 = 0x5_0000_003a;
 
 const INTEGER_FIRST: u64 = 0x8_0000_0004;
 
+// Bit k is set for each kind k whose records may have operands: 4 to 21, 36 to 40.
+const INNER: u64 = 0x1f0_003f_fff0;
+
 // Bit k is set for each kind k of patterns that have parts: 36 to 40.
 const COMPOSED: u64 = 0x1f0_0000_0000;
 
@@ -135,6 +138,14 @@ pub fn is_pattern(kind: usize) -> bool
     ensures { λ r. ⌜ r ≡ isPattern kind ⌝ }
 {
     is_between(kinds::FIRST_PATTERN, kind, kinds::LAST)
+}
+
+// Records of the kind have no operands: literals, names and patterns without parts.
+pub fn is_leaf(kind: usize) -> bool
+    requires { ⌜ kind ≤ lastKind ⌝ }
+    ensures { λ r. ⌜ r ≡ isLeaf kind ⌝ }
+{
+    (INNER >> kind) % 2 == 0
 }
 
 // A pattern of the kind has parts.

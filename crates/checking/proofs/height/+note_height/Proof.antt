@@ -10,7 +10,7 @@ use Rattle.tables.specs.Shapes.{firstOf}
 use Rattle.tables.specs.Table.{kindAt}
 use Rattle.tables.specs.Accepted.{records}
 use Rattle.tables.specs.Laws.Accepted.{fit-records, operand-lower}
-use Rattle.checking.specs.Heights.{isLeaf}
+use Rattle.tables.specs.Record.{isLeaf}
 use Rattle.checking.proofs.Noting.{not-leaf, known, Going, going-start, Next, next-known, next-noted, going-more, end-few, going-end}
 use Rattle.checking.proofs.height.note_height.Reads as note-height
 use Rattle.checking.proofs.height.note_height.Kinds as note-height-kinds

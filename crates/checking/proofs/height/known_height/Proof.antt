@@ -2,7 +2,7 @@
 use mathlib.Core.Path.{sym, ap, _∙_}
 use native.Mathlib.Omega.{arith}
 use borrow.Author.Needs.{needs}
-use Rattle.checking.specs.Heights.{isLeaf}
+use Rattle.tables.specs.Record.{isLeaf}
 use Rattle.checking.proofs.height.known_height.Statement.{statement}
 use Rattle.checking.proofs.height.known_height.Tie as tie
 

@@ -4,7 +4,7 @@ use Prim.Native.Nat.{suc, _-_}
 use native.Mathlib.Omega.{arith}
 use borrow.Author.Needs.{needs}
 use lib.ListN.{length}
-use Rattle.checking.specs.Heights.{isLeaf}
+use Rattle.tables.specs.Record.{isLeaf}
 use Rattle.tables.specs.Accepted.{records}
 use Rattle.tables.specs.Laws.Accepted.{fit-records}
 use Rattle.checking.proofs.Noting.{none-noted, leaf-height, tall-lowest, short-lowest}
