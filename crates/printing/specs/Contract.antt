@@ -25,7 +25,7 @@ outcomeNumber (Refused n p k) = n
 abbrev pub due : Progress → Bool
 due p = p .more && ltb (p .lists) mostLines
 
--- The first line is in the buffer, which is as it was behind it, and no list is behind.
+-- The first line is at the start of the buffer, whose other bytes are as they were; no list is printed yet.
 pub record Begun (count : ℕ) (out out₀ : List ℕ) (p : Progress) : Type 0 where
   pub none-yet : p .lists ≡ 0
   pub more : p .more ≡ true
@@ -34,7 +34,7 @@ pub record Begun (count : ℕ) (out out₀ : List ℕ) (p : Progress) : Type 0 w
   pub beyond : drop (p .at) out ≡ drop (p .at) out₀
   pub short : p .at ≤ shortLine
 
--- Where the print of an accepted table stands: so many lists are behind, and their choices are advanced.
+-- Where the print of an accepted table stands: so many lists are printed, and the choices are advanced to the next.
 pub record Stands (table index : List ℕ) (count : ℕ) (s run : List ℕ) (p : Progress) : Type 0 where
   pub indexes : Indexes table index count s
   pub behind : Behind (tree table) (p .lists) (p .more) (lent run)
@@ -46,8 +46,8 @@ pub record Ready (table index : List ℕ) (count : ℕ) (s run out : List ℕ) (
   pub going : p .over ≡ false
   pub room : p .at + longestLine ≤ length out
 
--- The piece grew from p to q by what came next: the piece and what is still to come are together what they were. Behind the piece the buffer is as it was.
--- What the scratch holds is free.
+-- The piece grew from p to q by what came next: the piece and what is still to come are together what they were. After the piece's end the
+-- buffer is as it was. What the scratch holds is free.
 pub record Grew (table index : List ℕ) (count : ℕ) (s run out out₀ : List ℕ) (p q : Progress) : Type 0 where
   pub stands : Stands table index count s run q
   pub inside : q .at ≤ length out
@@ -66,7 +66,7 @@ pub record Lined (table index : List ℕ) (count : ℕ) (s run out out₀ : List
 abbrev pub closing : Progress → List ℕ
 closing p = cond (p .more) cutLine (endLine (p .lists))
 
--- The last line was written, or there was no room for it and nothing was. Behind the piece the buffer is as it was.
+-- The last line was written, or there was no room for it and nothing was. After the piece's end the buffer is as it was.
 pub record Closed (out out₀ : List ℕ) (p q : Progress) : Type 0 where
   pub same-lists : q .lists ≡ p .lists
   pub same-more : q .more ≡ p .more
@@ -83,10 +83,11 @@ pub record Filled (table index : List ℕ) (count : ℕ) (s run out out₀ : Lis
 
 -- ---- piece after piece
 
--- The most bytes of a piece; and of all pieces, of which each but the last has a list's line.
+-- The most bytes of a piece: the walk program's buffer.
 abbrev pub mostPiece : ℕ
 mostPiece = 65536
 
+-- The most bytes of all pieces of a print: each piece but the last has at least one list's line.
 abbrev pub mostSent : ℕ
 mostSent = mostPiece * (mostLines + 1)
 

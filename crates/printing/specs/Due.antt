@@ -20,7 +20,7 @@ pub record Due {A : Type 0} (t : Tree A) (k : ℕ) (c : Choices) : Type 0 where
   pub sound : Invariant c
   pub follows : runOn t (view c) ≡ ranAs (run t (listAt t k)) (atEnd t (listAt t k) true)
 
--- k lists are behind: the k-th is due, or there are only k.
+-- k lists are printed: the k-th, counted from 0, is due, or there are only k.
 pub record Behind {A : Type 0} (t : Tree A) (k : ℕ) (more : Bool) (c : Choices) : Type 0 where
   pub next : more ≡ true → Due t k c
   pub none : more ≡ false → k ≡ length (allLists t)
