@@ -28,7 +28,7 @@ use Rattle.parts.specs.Word.{unpacked, CellHeld, WordOf}
 use Rattle.forming.specs.Frames.{KeptBelow}
 use Rattle.forming.specs.Onward.{Task, task, zipped}
 use Rattle.forming.specs.Codes.{codePattern, codeInner, countOf, codeWays, codeMet, CodeHeld, Composed, CodePartHeld, PartCode}
-use Rattle.forming.proofs.Coding.{by-code, parts-few, parts-two, code-readable}
+use Rattle.forming.proofs.Coding.{by-code, parts-few, parts-two}
 use Rattle.forming.specs.Pending.{Pending, AgendaIs, Pushable, Pushed}
 
 -- ---- the agenda is kept where nothing below its top changed

@@ -15,7 +15,7 @@ use Rattle.values.specs.Value.{Value}
 use Rattle.values.specs.Items.{same}
 use Rattle.tables.specs.Record.{Record, isPattern, isComposed, named as operandsOf, operand, nameOf}
 use Rattle.tables.specs.Laws.Kinds.{name-bare}
-use Rattle.tables.specs.Laws.Through.{EachTo, each-start, each-next}
+use Rattle.tables.specs.Laws.Through.{EachTo, each-next}
 use Rattle.tables.specs.Table.{recordAt, kindAt}
 use Rattle.tables.specs.Accepted.{records}
 use Rattle.patterns.specs.Binding.{Cell, free, is, clash, Binding, names, cellOf, agree, merge, consistent, withEach, together}
@@ -95,9 +95,6 @@ module _ (table index : List ℕ) (p : ℕ) (r : Readable table index p) (m : Li
 
 pub settled-next : (table : List ℕ) (p : ℕ) (m : List ℕ) (i q : ℕ) → SettledTo table p m i → q ≡ operand (recordAt (records table) p) i → (t : Bool) → TellsSettled table q m t → t ≡ true → SettledTo table p m (i + 1)
 settled-next table p m i q h e t o k = each-next (λ q. Settled (patternAt (records table) q) m) (recordAt (records table) p) i q h e (o .says k)
-
-pub settled-start : (table : List ℕ) (p : ℕ) (m : List ℕ) → SettledTo table p m 0
-settled-start table p m = each-start (λ q. Settled (patternAt (records table) q) m) (recordAt (records table) p)
 
 pub settled-no : (table : List ℕ) (p : ℕ) (m : List ℕ) → TellsSettled table p m false
 settled-no table p m = record { says = λ e. true-false (sym e); each = λ e. true-false (sym e) }

@@ -6,7 +6,6 @@ use mathlib.Core.List.{List, [], _∷_}
 use Prim.Native.Nat.{ℕ, zero, suc, _+_, _-_, _*_, _/_, _%_, _^_, _≤_, _<_}
 use native.Mathlib.Nat.{pow-suc}
 use native.Mathlib.Omega.{arith}
-use lib.Dec.{eqb}
 use lib.Count.{ones, ones-cat, ones-ones, ones-step}
 use lib.ListN.{length, take, drop, length-append, length-drop}
 use lib.Seq.{length-take-le}
@@ -17,7 +16,7 @@ use Rattle.tables.specs.Table.{recordAt, kindAt}
 use Rattle.tables.specs.Accepted.{records}
 use Rattle.parts.proofs.Choosing.{split-left, split-right}
 use Rattle.parts.specs.Chosen.{splitAt}
-use Rattle.parts.specs.Laws.Chosen.{power-pos, splits-length, cuts-length, nth-split, nth-cut}
+use Rattle.parts.specs.Laws.Chosen.{splits-length, cuts-length, nth-split, nth-cut}
 use Rattle.patterns.specs.Units.{Shared}
 use Rattle.patterns.specs.Ways.{Halves, halves, splits}
 use Rattle.patterns.specs.Pattern.{Pattern, each, halved, divisions}

@@ -3,7 +3,7 @@ use mathlib.Core.Path.{_≡_, refl, sym, ap, subst, _∙_}
 use mathlib.Core.Bool.{Bool, true, false, cond}
 use mathlib.Core.Option.{Option, none as absent, some}
 use mathlib.Core.List.{List, [], _∷_, _++_, map}
-use Prim.Native.Nat.{ℕ, zero, suc, _+_, _-_, _*_, _%_, _≤_, _<_}
+use Prim.Native.Nat.{ℕ, zero, suc, _+_, _*_, _%_, _≤_, _<_}
 use native.Mathlib.Omega.{arith}
 use lib.Dec.{eqb}
 use lib.ListN.{length, getD}
@@ -22,7 +22,7 @@ use Rattle.patterns.specs.Binding.{Binding}
 use Rattle.patterns.specs.Pattern.{Pattern, any, contents, arrangements, met, split}
 use Rattle.patterns.specs.Read.{patternsOf, patternOf}
 use Rattle.forming.specs.Codes.{codePattern, codeInner, countOf, codeWays, codeMet, Composed}
-use Rattle.forming.proofs.Coding.{by-code, parts-two, code-readable, code-settled, inner-settled}
+use Rattle.forming.proofs.Coding.{by-code, parts-two, code-settled, inner-settled}
 use Rattle.patterns.specs.Laws.Nodes.{on-composed}
 use Rattle.patterns.specs.Nodes.{collectionOf, isHalved, bothHalves, meetings}
 use Rattle.matching.specs.declared.nodes.Meeting.{Meeting}

@@ -3,12 +3,11 @@ use mathlib.Core.Path.{_≡_, refl, sym, ap, subst, _∙_}
 use mathlib.Core.Bool.{Bool, true, false, _||_, cond}
 use mathlib.Core.Option.{Option, none as absent, some}
 use mathlib.Core.List.{List, [], _∷_, map}
-use Prim.Native.Nat.{ℕ, zero, suc, _+_, _-_, _≤_, _<_}
+use Prim.Native.Nat.{ℕ, zero, suc, _≤_, _<_}
 use native.Mathlib.Omega.{arith}
 use lib.Dec.{eqb, leb}
 use lib.ListN.{length, getD, length-map}
 use borrow.Author.Tests.{leb-true, eqb-true, eqb-false}
-use mathlib.Mathlib.Data.Bool.Basic.{and-elim-left, and-elim-right}
 use Rattle.values.specs.Value.{Kind, set, sequence, map as mapping, tuple, Value}
 use Rattle.tables.specs.Laws.Kinds.{by-composed, by-leaf}
 use Rattle.tables.specs.Record.{Record, isComposed, named, operand, nameOf, shape, headOf, size, isKnown}
@@ -30,7 +29,7 @@ use Rattle.patterns.specs.Laws.Some.{some-at, some-none}
 use Rattle.patterns.specs.Nodes.{collectionOf, isHalved, meetings, bothHalves}
 use Rattle.patterns.specs.Laws.Nodes.{is-boolean-literal, is-integer-literal, pattern-at}
 use Rattle.matching.specs.declared.nodes.Meeting.{Meeting}
-use Rattle.matching.specs.Node.{LiteralHeld, Meets, innerOf, metBy}
+use Rattle.matching.specs.Node.{LiteralHeld, Meets, innerOf}
 
 -- ---- the shapes of patterns with parts
 

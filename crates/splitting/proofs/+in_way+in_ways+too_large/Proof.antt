@@ -1,8 +1,8 @@
-use Prim.Native.Nat.{_*_, _+_, _-_, _≤_, ℕ, _<_}
+use Prim.Native.Nat.{_*_, _+_, _-_, ℕ, _<_}
 use native.Mathlib.Omega.{arith}
 use borrow.Author.Needs.{needs}
 use borrow.Author.Tests.{not-true, not-false}
-use mathlib.Core.Path.{sym, ap, _∙_}
+use mathlib.Core.Path.{ap, _∙_}
 use Rattle.tables.specs.Record.{isComposed}
 use Rattle.tables.specs.Laws.Kinds.{composed-told}
 use Rattle.matching.proofs.Records.{count-few, has-operand, operand-readable, recast-meets}

@@ -103,10 +103,7 @@ composed-pattern k e = and-elim-left (isPattern k) (hasRoles (shape k .roles)) e
 pub composed-told : {k c : ℕ} {b t : Bool} → k ≡ c → b ≡ isComposed k → b ≡ t → isComposed c ≡ t
 composed-told e f g = ap isComposed (sym e) ∙ sym f ∙ g
 
-pub tuple-composed : {k : ℕ} → k ≡ 36 → isComposed k ≡ true
-unfolding shape
-tuple-composed e = ap isComposed e
-
+-- Some kinds by themselves.
 pub set-composed : {k : ℕ} → k ≡ 37 → isComposed k ≡ true
 unfolding shape
 set-composed e = ap isComposed e
@@ -114,10 +111,6 @@ set-composed e = ap isComposed e
 pub union-composed : {k : ℕ} → k ≡ 38 → isComposed k ≡ true
 unfolding shape
 union-composed e = ap isComposed e
-
-pub sequence-composed : {k : ℕ} → k ≡ 39 → isComposed k ≡ true
-unfolding shape
-sequence-composed e = ap isComposed e
 
 pub concatenation-composed : {k : ℕ} → k ≡ 40 → isComposed k ≡ true
 unfolding shape

@@ -1,6 +1,6 @@
 -- Going through the operands of a record from the first on: what holds of each of them up to a place.
-use mathlib.Core.Path.{_≡_, sym, ap, subst, _∙_}
-use Prim.Native.Nat.{ℕ, _+_, _≤_, _<_}
+use mathlib.Core.Path.{_≡_, ap, subst, _∙_}
+use Prim.Native.Nat.{ℕ, _+_, _<_}
 use native.Mathlib.Omega.{arith}
 use Rattle.prelude.proofs.Truth.{by-lower}
 use Rattle.tables.specs.Record.{Record, operand}

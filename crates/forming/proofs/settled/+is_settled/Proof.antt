@@ -6,7 +6,7 @@ use Rattle.tables.proofs.shape.is_composed.Reads as is-composed-reads
 use borrow.Author.Needs.{needs}
 use borrow.Author.Tests.{not-true, not-false}
 use Rattle.matching.proofs.Records.{name-field, has-operand, operand-readable}
-use Rattle.forming.proofs.Settling.{SettledTo, settled-name, settled-leaf, settled-start, settled-next, settled-all, settled-no}
+use Rattle.forming.proofs.Settling.{SettledTo, settled-name, settled-leaf, settled-next, settled-all, settled-no}
 use borrow.Fn.Kinds.{In}
 use borrow.Fn.PlainCycle.{Measures, is, falls, and}
 use Rattle.forming.proofs.settled.is_settled.Reads as is-settled
