@@ -3,7 +3,7 @@ use crate::Part;
 use integers::Order;
 ghost use mathlib.Core.Path.{_≡_};
 ghost use Prim.Native.Nat.{ℕ, _%_, _≤_};
-ghost use lib.ListN.{length, replicate};
+ghost use lib.ListN.{length};
 ghost use Rattle.parts.specs.Word.{unpacked, CellHeld, Packed, WordHeld, OrderedWords};
 
 // What each name stands for, as words; 0 where it has no value.
@@ -14,15 +14,6 @@ pub struct Env {
 impl Env {
     // The names are 0 to 15.
     pub const NAMES: usize = 16;
-
-    // No name has a value.
-    pub fn empty() -> Env
-        ensures { λ r. ⌜ r .words ≡ replicate 16 0 ⌝ }
-    {
-        Env {
-            words: [0; Env::NAMES],
-        }
-    }
 }
 
 // A place takes 17 bits of a word.
