@@ -22,9 +22,6 @@ impl Applied {
     // How far above the first operand an operator builds where it still needs both.
     pub const THIRD: usize = 2 * Applied::SECOND;
 
-    // How many bytes an operator may use, from its first operand on.
-    pub const WORKSPACE: usize = 3 * Applied::SECOND;
-
     // The refusals of operators.
     pub const WRONG_KIND: usize = 20;
 

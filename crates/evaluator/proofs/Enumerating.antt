@@ -11,7 +11,7 @@ use lib.ListN.{length, getD, drop}
 use lib.Seq.{drop-cons, drop-length}
 use borrow.Author.Tests.{eq-eqb, ne-eqb, eqb-true}
 use Rattle.prelude.proofs.Absurd.{impossible}
-use Rattle.values.specs.Value.{Kind, number, Shaped, set, sequence, map, tuple, count, sizes, PairedFrom, everyOther, Ascending, Value, collection, Items, none, more, valueLimit}
+use Rattle.values.specs.Value.{Kind, number, Shaped, set, sequence, map, tuple, count, sizes, PairedFrom, everyOther, Ascending, Value, Items, none, more, valueLimit}
 use Rattle.values.specs.Items.{snoc}
 use Rattle.values.specs.Place.{At}
 use Rattle.values.proofs.Records.{holds}

@@ -4,9 +4,6 @@ ghost use Rattle.operators.specs.Operators.{unary, binary};
 ghost use Rattle.calling.specs.Applied.{One, Two, OnOne, OnTwo};
 ghost use Rattle.operations.specs.Numbers.{Unary, Binary};
 
-// The first strict binary operator: below it are and, or and =>.
-pub const FIRST_STRICT: usize = tables::binary::EQUIVALENT;
-
 // The unary operators, 1 to 15, on the value at base.
 pub fn unary(s: &mut [u8], base: usize, operator: usize) -> Applied
     requires { ⌜ One (now s) base × Unary operator ⌝ }
