@@ -1,6 +1,6 @@
 -- The loop over the members for a set too large to split.
 use mathlib.Core.Path.{_≡_, refl, sym, ap, subst, _∙_}
-use mathlib.Core.Bool.{Bool, true, false, _||_, cond}
+use mathlib.Core.Bool.{Bool, true, false, _||_, or-false, cond}
 use mathlib.Core.Logic.{inl}
 use mathlib.Core.List.{List, [], _∷_}
 use Prim.Native.Nat.{ℕ, _+_, _≤_, _<_}
@@ -16,7 +16,6 @@ use Rattle.patterns.specs.Pattern.{Pattern, itemsOf, listOf, wide}
 use Rattle.patterns.specs.Laws.Matched.{items-list}
 use Rattle.patterns.specs.Read.{patternAt}
 use Rattle.prelude.proofs.Absurd.{true-false}
-use Rattle.splitting.proofs.Composed.{or-last}
 use Rattle.bindings.specs.Forming.{Values, Bindable, TellsWideIn, TellsWide}
 use Rattle.bindings.proofs.Members.{first-of, none-left}
 
@@ -116,7 +115,7 @@ module _ (table : List ℕ) (p : ℕ) (s : List ℕ) (at : ℕ) (t : Bool) (r : 
   tells-one e h vs i = go t e i
     where
       go : (t : Bool) → t ≡ true → Values s at t vs → r ≡ exists vs (wide (patternAt (records table) p))
-      go true e (v, j, q) = h v (inl (refl, j)) ∙ or-last (wide (patternAt (records table) p) v) ∙ sym (ap (λ (xs : List Value). exists xs (wide (patternAt (records table) p))) q)
+      go true e (v, j, q) = h v (inl (refl, j)) ∙ sym (or-false (wide (patternAt (records table) p) v)) ∙ sym (ap (λ (xs : List Value). exists xs (wide (patternAt (records table) p))) q)
       go false e i = true-false (sym e)
 
   pub tells-all : t ≡ false → (n : ℕ) → n ≡ word s at → TellsWideIn table p s (at + 4) (at + n) r → TellsWide table p s at t r

@@ -5,7 +5,7 @@ use mathlib.Core.List.{List, [], _∷_, map}
 use mathlib.Core.Logic.{_⊎_, ⊎-elim}
 use Prim.Native.Nat.{ℕ, zero, suc, _+_, _<_}
 use native.Mathlib.Omega.{arith}
-use borrow.Author.Tests.{eqb-true, eq-eqb, not-false}
+use borrow.Author.Tests.{eqb-true}
 use lib.Dec.{eqb}
 use lib.ListN.{length, getD}
 use mathlib.Mathlib.Data.Bool.Basic.{and-elim-left, and-elim-right}
@@ -14,7 +14,7 @@ use Rattle.prelude.proofs.Truth.{by-test, or-cases, or-false-left, or-false-rig
 use Rattle.tables.specs.Record.{Record, named, operand, roleAt, nameOf}
 use Rattle.tables.specs.Table.{recordAt, kindAt}
 use Rattle.tables.specs.Sheet.{some, isName, holdsName, isCovered, isCondition, patternOf, isBound, inCondition}
-use Rattle.tables.specs.Check.{chooses, fault7, fault8}
+use Rattle.tables.specs.Check.{fault7}
 use Rattle.tables.specs.Laws.Accepted.{operand-lower, bound-operand, condition-operand, holds-at}
 use Rattle.checking.specs.Scopes.{hasBit, orBits}
 use Rattle.checking.specs.Sweeps.{Keeps, Allowed}
@@ -48,15 +48,6 @@ allowed-both {rs} {r} {a} {b} {c} x y e =
     either n f = or-cases (hasBit a n) (hasBit b n) (sym (ap (λ (m : ℕ). hasBit m n) e ∙ bit-union a b n) ∙ f)
 
 module _ (rs : List Record) (keeps : Keeps rs) where
-  pub read-bound : (r : ℕ) → r < length rs → kindAt rs r ≡ 3 → isBound rs r (nameOf (recordAt rs r)) ≡ true
-  unfolding fault7
-  read-bound r h e =
-      not-false _ (rw (eq-eqb (kindAt rs r) 3 e) at (or-false-left (eqb (kindAt rs r) 3 && not (isBound rs r (nameOf (recordAt rs r)))) _ (keeps .clear7 r h)))
-
-  pub choice-outside : (r : ℕ) → r < length rs → chooses rs r ≡ true → inCondition rs r ≡ false
-  unfolding fault8
-  choice-outside r h e = rw e at (keeps .clear8 r h)
-
   -- ---- names that are held
 
   own-fresh : (r n : ℕ) → r < length rs → isName n (recordAt rs r) ≡ true → isBound rs r n ≡ false

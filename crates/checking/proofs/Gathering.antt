@@ -24,7 +24,7 @@ use Rattle.tables.specs.Accepted.{records}
 use Rattle.tables.specs.Reading.{Here}
 use Rattle.tables.specs.Laws.Tests.{any-false}
 use Rattle.tables.specs.Laws.Kinds.{binder-kind, binder-from, binder-most, plain-begins}
-use Rattle.tables.specs.Laws.Accepted.{Clear6, lower, operand-lower, operand-sort, operand-first, fit-records, fit-kind}
+use Rattle.tables.specs.Laws.Accepted.{Clear6, lower, operand-lower, operand-sort, operand-first, name-bound, choice-outside, fit-records, fit-kind}
 use Rattle.checking.specs.declared.sweep.Sum.{Sum}
 use Rattle.checking.specs.declared.sweep.Handed.{Handed}
 use Rattle.checking.specs.Scopes.{hasBit, orBits, own, bitsBelow}
@@ -35,7 +35,7 @@ use Rattle.checking.proofs.Below.{Turn, turn-start, turn-more, turn-end
 use Rattle.checking.proofs.Shapes.{binder-expression, roles-many, one-role, second-role, body-role, binder-some, expression-own, NoOperand, leaf-none, leaf-own, leaf-free, sort-asked, named-asked}
 use Rattle.checking.proofs.Leaving.{Due, due, left-take, sort-expression, sort-pattern, not-bad, clear}
 use Rattle.checking.proofs.Closing.{without-is, without-bit, low-bits, apart-bit, apart-all}
-use Rattle.checking.proofs.Allowing.{allowed-both, read-bound, choice-outside, operand-fresh, condition-plain, allowed-up}
+use Rattle.checking.proofs.Allowing.{allowed-both, operand-fresh, condition-plain, allowed-up}
 
 -- ---- what is free at a record by itself
 
@@ -124,7 +124,7 @@ module _ (rs : List Record) (keeps : Keeps rs) (r names : ℕ) (in-table : r < l
                 λ n e.
                 let same : nameOf (recordAt rs r) + 2 ≡ n + 2 = eqb-true _ (n + 2) (sym (bit-pow (nameOf (recordAt rs r) + 2) (n + 2)) ∙ e) in
                 let is : nameOf (recordAt rs r) ≡ n = omega arith in
-                rw is at (read-bound rs keeps r in-table (eqb-true (kindAt rs r) 3 f));
+                rw is at (name-bound rs r (keeps .clear7 r in-table) (eqb-true (kindAt rs r) 3 f));
             outside =
                 λ e.
                 let same : nameOf (recordAt rs r) + 2 ≡ 0 = eqb-true _ 0 (sym (bit-pow (nameOf (recordAt rs r) + 2) 0) ∙ e) in
@@ -133,7 +133,7 @@ module _ (rs : List Record) (keeps : Keeps rs) (r names : ℕ) (in-table : r < l
       go false f =
           record {
             bound = λ n e. never (sym (low-bits (choiceOf (kindAt rs r) names) n (choice-low (kindAt rs r) names)) ∙ e);
-            outside = λ e. choice-outside rs keeps r in-table (chosen-is e);
+            outside = λ e. choice-outside rs r (keeps .clear8 r in-table) (chosen-is e);
           }
 
 -- ---- one operand

@@ -17,6 +17,7 @@ use Rattle.tables.specs.Table.{recordAt, kindAt}
 use Rattle.tables.specs.Sheet.{lowest, greatest, height}
 use Rattle.tables.specs.Check.{mostHeight, fault9}
 use Rattle.tables.specs.Laws.Tests.{each, low, low-same}
+use Rattle.tables.specs.Laws.Operands.{greatest-most}
 use Rattle.tables.specs.Laws.Accepted.{Clear6, fit-kind, operand-lower, height-at, height-operand}
 use Rattle.checking.specs.Heights.{isTall, Settled, Noted, HeightNoted}
 use Rattle.checking.proofs.Above.{zeros}
@@ -37,12 +38,6 @@ set-cases P xs r v q h a b =
   where
     other : (q ≡ r → ⊥) → P (getD (set xs r v) q 0)
     other ne = subst P (sym (getD-set-other xs r q v 0 ne)) (b ne)
-
-greatest-most : (f : ℕ → ℕ) (ms : List ℕ) (m : ℕ) → ((i : ℕ) → i < length ms → f (getD ms i 0) ≤ m) → greatest (map f ms) ≤ m
-greatest-most f [] m h = omega arith
-greatest-most f (x ∷ xs) m h =
-    let here : f x ≤ m = h 0 (omega arith) in
-    omega (arith, greatest-most f xs m (λ i k. h (suc i) (omega arith)))
 
 greatest-none : (f : ℕ → ℕ) (ms : List ℕ) → length ms ≡ 0 → greatest (map f ms) ≡ 0
 greatest-none f [] e = refl

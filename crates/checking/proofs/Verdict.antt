@@ -49,7 +49,7 @@ module _ (rs : List Record) (n : ℕ) (all : n ≡ length rs) where
       refused7 h = rw (above (fault6 rs) l6 e6 c6, below (fault7 rs) l7 e7 h) (ap (Refused 7) (low-all (fault7 rs) l7 e7))
 
       module _ (c7 : n ≤ l7) (l8 : ℕ) (e8 : l8 ≡ lowest (fault8 rs) n) where
-        pub refused8 : l8 < n → Refused 8 l8 ≡ judged rs
+        refused8 : l8 < n → Refused 8 l8 ≡ judged rs
         unfolding judged
         refused8 h = rw (above (fault6 rs) l6 e6 c6, above (fault7 rs) l7 e7 c7, below (fault8 rs) l8 e8 h) (ap (Refused 8) (low-all (fault8 rs) l8 e8))
 
@@ -68,13 +68,13 @@ module _ (rs : List Record) (n : ℕ) (all : n ≡ length rs) where
             }))))
 
         module _ (c8 : n ≤ l8) (l9 : ℕ) (e9 : l9 ≡ lowest (fault9 rs) n) where
-          pub refused9 : l9 < n → Refused 9 l9 ≡ judged rs
+          refused9 : l9 < n → Refused 9 l9 ≡ judged rs
           unfolding judged
           refused9 h =
               rw (above (fault6 rs) l6 e6 c6, above (fault7 rs) l7 e7 c7, above (fault8 rs) l8 e8 c8, below (fault9 rs) l9 e9 h)
               (ap (Refused 9) (low-all (fault9 rs) l9 e9))
 
-          pub none-broken : n ≤ l9 → Accepted n ≡ judged rs
+          none-broken : n ≤ l9 → Accepted n ≡ judged rs
           unfolding judged
           none-broken h =
               rw (above (fault6 rs) l6 e6 c6, above (fault7 rs) l7 e7 c7, above (fault8 rs) l8 e8 c8, above (fault9 rs) l9 e9 h) (ap Accepted all)

@@ -2,21 +2,21 @@
 use mathlib.Core.Path.{_≡_, refl, sym, ap, _∙_}
 use mathlib.Core.Bool.{Bool, true, false}
 use mathlib.Core.Logic.{inl}
-use mathlib.Core.List.{List, [], _∷_, map}
+use mathlib.Core.List.{List, map}
 use Prim.Native.Nat.{ℕ, zero, suc, _+_, _-_, _^_, _≤_, _<_}
 use native.Mathlib.Decide.{ℕ-discrete}
 use native.Mathlib.Nat.{pow-suc}
 use native.Mathlib.Omega.{arith}
 use borrow.Author.Tests.{le-leb, lt-leb, leb-true, leb-false}
 use lib.Dec.{leb}
-use lib.ListN.{length, getD, drop, length-append}
+use lib.ListN.{length, drop, length-append}
 use Rattle.tables.specs.Record.{Record, isPattern, isComposed, shape, size, headOf, operands, named, operand}
 use Rattle.tables.specs.Table.{recordAt, kindAt}
 use Rattle.tables.specs.Sheet.{greatest, height}
 use Rattle.tables.specs.Accepted.{records}
 use Rattle.tables.specs.Laws.Kinds.{no-roles}
 use Rattle.tables.specs.Laws.Through.{EachTo, each-start, each-next}
-use Rattle.tables.specs.Laws.Operands.{operands-few}
+use Rattle.tables.specs.Laws.Operands.{operands-few, greatest-most}
 use Rattle.tables.specs.Laws.Accepted.{height-at, height-operand}
 use Rattle.parts.specs.Laws.Chosen.{power-pos}
 use Rattle.patterns.specs.Pattern.{Pattern}
@@ -25,11 +25,6 @@ use Rattle.matching.proofs.Records.{operand-readable}
 use Rattle.forming.specs.Groups.{leaves}
 use Rattle.forming.proofs.Reducing.{two-halves}
 use Rattle.forming.proofs.Surveying.{leaves-alone, leaves-union}
-
--- The greatest is no greater than what each is at most.
-greatest-most : (f : ℕ → ℕ) (ms : List ℕ) (m : ℕ) → ((i : ℕ) → i < length ms → f (getD ms i 0) ≤ m) → greatest (map f ms) ≤ m
-greatest-most f [] m h = omega arith
-greatest-most f (n ∷ ns) m h = omega (arith, h 0 (omega arith), greatest-most f ns m (λ i l. h (suc i) (omega arith)))
 
 pub positive : (m : ℕ) → (m ≡ 0 → ⊥) → 1 ≤ m
 positive zero f = absurd (f refl)

@@ -31,7 +31,7 @@ use Rattle.forming.specs.declared.sizes.Size.{Size}
 use Rattle.forming.specs.declared.sizes.Sizes.{Sizes}
 use Rattle.forming.specs.declared.sizes.Range.{Range}
 use Rattle.forming.specs.Reduced.{enumerationOf, Splits}
-use Rattle.forming.specs.Sizes.{Sized, Takes, TellsSize, Sum, TellsSizes, Rights, FirstOf, SplitFrom, CutFrom, Divisible, halfAt, Barren, From}
+use Rattle.forming.specs.Sizes.{Sized, Takes, TellsSize, Sum, TellsSizes, Rights, FirstOf, SplitFrom, CutFrom, Divisible, halfAt, From}
 use Rattle.forming.proofs.Reducing.{items-same, is-two}
 
 -- ---- two sizes together
@@ -202,16 +202,20 @@ split-counts (x ∷ xs) d l = go (λ e k. split-counts xs e k) (suc d - 2 ^ leng
 module _ (c w : ℕ) (h : Divisible c w) where
   module _ (z : Sizes) (b : z .bound ≡ true) (d : ℕ) (l : d < w) (r : Range) (e : ℕ) where
     pub from-splits : c ≡ 38 → Rights z (ones (w - 1)) r → SplitFrom w d r e → From c w d z e
-    from-splits q u k = record { low = k .low; within = k .within; barren = λ j m n. (b, λ vs f x y. no j m n vs f x y) }
-      where
-        no : (j : ℕ) → d ≤ j → j < e → Barren c w z j
-        no j m n vs f x y =
+    from-splits q u k = record {
+      low = k .low;
+      within = k .within;
+      barren = λ j m n. (
+        b,
+        λ vs f x y.
             let p : w ≡ 2 ^ length vs = sym f ∙ ap (λ (m : ℕ). length (divisions (collectionOf m) vs)) q ∙ splits-length vs in
             let s : halfAt c vs j ≡ splitAt vs j = ap (λ (m : ℕ). halfAt m vs j) q ∙ nth-split vs j (halves [] []) (omega (arith, k .within (omega arith), p)) in
             let (o, t) = split-counts vs j (omega (arith, k .within (omega arith), p)) in
             let a : ones (w - 1) ≡ length vs = ap (λ (m : ℕ). ones (m - 1)) p ∙ ones-ones (length vs) in
             let i = u .right (length (splitAt vs j .left)) (length (splitAt vs j .right)) (t ∙ sym a) (subst (Sized (z .left)) (ap (λ (x : Halves Value). length (x .left)) s) x) (subst (Sized (z .right)) (ap (λ (x : Halves Value). length (x .right)) s) y) in
-            k .passed j m n (omega (arith, i .0, o)) (omega (arith, i .1, o))
+            k .passed j m n (omega (arith, i .0, o)) (omega (arith, i .1, o)),
+      );
+    }
 
     is-cut : (c ≡ 38 → ⊥) → c ≡ 40
     is-cut f = go (h .splits)
@@ -221,10 +225,12 @@ module _ (c w : ℕ) (h : Divisible c w) where
         go (inr e) = e
 
     pub from-cuts : (c ≡ 38 → ⊥) → Rights z (w - 1) r → CutFrom w d r e → From c w d z e
-    from-cuts g u k = record { low = k .low; within = k .within; barren = λ j m n. (b, no j m n) }
-      where
-        no : (j : ℕ) → d ≤ j → j < e → Barren c w z j
-        no j m n vs f x y =
+    from-cuts g u k = record {
+      low = k .low;
+      within = k .within;
+      barren = λ j m n. (
+        b,
+        λ vs f x y.
             let q = is-cut g in
             let p : w ≡ suc (length vs) = sym f ∙ ap (λ (m : ℕ). length (divisions (collectionOf m) vs)) q ∙ cuts-length vs in
             let under : e ≤ w = k .within (omega arith) in
@@ -232,7 +238,9 @@ module _ (c w : ℕ) (h : Divisible c w) where
             let o : length (take j vs) ≡ j = length-take-le j vs (omega (arith, p)) in
             let t : length (drop j vs) ≡ w - 1 - j = length-drop j vs ∙ omega (arith, p) in
             let i = u .right j (w - 1 - j) (omega arith) (subst (Sized (z .left)) (ap (λ (x : Halves Value). length (x .left)) s ∙ o) x) (subst (Sized (z .right)) (ap (λ (x : Halves Value). length (x .right)) s ∙ t) y) in
-            k .passed j m n (i .0) (i .1)
+            k .passed j m n (i .0) (i .1),
+      );
+    }
 
 -- ---- the first way that may have a match
 

@@ -174,7 +174,7 @@ weigh-drop (suc i) [] = omega arith
 weigh-drop (suc i) (p ∷ ps) = omega (arith, weigh-drop i ps)
 
 -- THEOREM: what is left of the leaves in order has no more parts inside than the pattern
-pub rest-fewer : (p : Pattern) (i : ℕ) → i < length (ordered (leaves p)) → inner (unionOf (drop i (ordered (leaves p)))) ≤ inner p
+rest-fewer : (p : Pattern) (i : ℕ) → i < length (ordered (leaves p)) → inner (unionOf (drop i (ordered (leaves p)))) ≤ inner p
 rest-fewer p i l =
     some-fewer p (drop i (ordered (leaves p))) (omega (arith, length-drop i (ordered (leaves p)))) (omega (arith, weigh-drop i (ordered (leaves p)), ordered-weighs (leaves p), leaves-load p))
 

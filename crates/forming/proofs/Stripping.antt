@@ -90,7 +90,7 @@ each-whole (cons p ps) ls rs b x y m = first-whole p ps (withoutAny ps) (anys ps
 -- ---- a set and its wildcards
 
 -- THEOREM: a set of parts matches what its other parts and its wildcards share out
-pub strip-shares : (ps : Patterns) (vs : List Value) (b : Binding) → Matches (each set ps) (collection set (itemsOf vs)) b → Shares (each set (withoutAny ps) ∷ wildcards (anys ps) false ∷ []) vs b
+strip-shares : (ps : Patterns) (vs : List Value) (b : Binding) → Matches (each set ps) (collection set (itemsOf vs)) b → Shares (each set (withoutAny ps) ∷ wildcards (anys ps) false ∷ []) vs b
 unfolding Matches
 strip-shares ps vs b (us, ws, e, l, a, m) =
     let (ls, rs, s, x, y, k) = each-apart ps ws b (l ∙ sym (permuted-length us ws a)) m in
@@ -102,7 +102,7 @@ strip-shares ps vs b (us, ws, e, l, a, m) =
     fit : (n k : ℕ) → n ≡ k → Fits (wildLeast (wildcards n false)) (wildMore (wildcards n false)) k
     fit n k e = let f = wildcards-least n false in (omega arith, λ t. omega arith)
 
-pub shares-strip : (ps : Patterns) (vs : List Value) (b : Binding) → Shares (each set (withoutAny ps) ∷ wildcards (anys ps) false ∷ []) vs b → Matches (each set ps) (collection set (itemsOf vs)) b
+shares-strip : (ps : Patterns) (vs : List Value) (b : Binding) → Shares (each set (withoutAny ps) ∷ wildcards (anys ps) false ∷ []) vs b → Matches (each set ps) (collection set (itemsOf vs)) b
 unfolding Matches
 shares-strip ps vs b (ls, rs, c, d, s, (us, ms, e, l, a, m), n, j) =
     let (f, g) = counts-gives (wildcards (anys ps) false) (wildcards-count (anys ps) false) rs d (shares-one (wildcards (anys ps) false) rs d n) in

@@ -96,25 +96,23 @@ module _ (a b : ℕ) where
       go y true l m k o f g h = absurd (omega arith)
       go y false l m k o f g h = refl
 
-  pub both-exact : (b ≡ 0 → ⊥) → a % 2 ≡ 1 → TallyOfBoth a b (a + b - 1)
-  both-exact n e = both-by (a + b - 1) (λ y z l m k o. go y z l m k o)
+  -- At most one of them may be more.
+  one-more : (b ≡ 0 → ⊥) → (a % 2 ≡ 0 → b % 2 ≡ 0 → ⊥) → TallyOfBoth a b (a + b - 1)
+  one-more n u = both-by (a + b - 1) (λ y z l m k o. go y z l m k o)
     where
       go : (y z : Bool) (l : ℕ) (m : Bool) (k : ℕ) (o : Bool) → a ≡ tallyBy y l m → b ≡ tallyBy z k o → y ≡ true → a + b - 1 ≡ tallyBy z (l + k) (m || o)
-      go true true l true k o f g h = absurd (omega arith)
+      go true true l true k true f g h = absurd (u (omega arith) (omega arith))
+      go true true l true k false f g h = omega arith
       go true true l false k true f g h = omega arith
       go true true l false k false f g h = omega arith
       go true false l m k o f g h = absurd (n g)
       go false z l m k o f g h = true-false (sym h)
 
+  pub both-exact : (b ≡ 0 → ⊥) → a % 2 ≡ 1 → TallyOfBoth a b (a + b - 1)
+  both-exact n e = one-more n (λ x y. omega arith)
+
   pub both-second : b % 2 ≡ 1 → (a % 2 ≡ 1 → ⊥) → TallyOfBoth a b (a + b - 1)
-  both-second e u = both-by (a + b - 1) (λ y z l m k o. go y z l m k o)
-    where
-      go : (y z : Bool) (l : ℕ) (m : Bool) (k : ℕ) (o : Bool) → a ≡ tallyBy y l m → b ≡ tallyBy z k o → y ≡ true → a + b - 1 ≡ tallyBy z (l + k) (m || o)
-      go true true l true k true f g h = absurd (omega arith)
-      go true true l true k false f g h = omega arith
-      go true true l false k o f g h = absurd (u (omega arith))
-      go true false l m k o f g h = absurd (omega arith)
-      go false z l m k o f g h = true-false (sym h)
+  both-second e u = one-more (λ x. omega arith) (λ x y. omega arith)
 
   pub both-more : (b ≡ 0 → ⊥) → (a % 2 ≡ 1 → ⊥) → (b % 2 ≡ 1 → ⊥) → TallyOfBoth a b (a + b - 2)
   both-more n u v = both-by (a + b - 2) (λ y z l m k o. go y z l m k o)

@@ -66,29 +66,28 @@ module _ (n d i : ℕ) (p : 0 < n) (h : d < factorial n) where
       go [] z l = absurd (omega arith)
       go (x ∷ xs) z l = first x xs d z (subst (λ (k : ℕ). d < factorial k) (sym l) h) i (e ∙ ap (λ (k : ℕ). d % k) (sym l))
 
-  pub placed-before : (r : ℕ) → i < d % n → Ordinal (n - 1) (d / n) i r → Ordinal n d i (1 + r)
-  placed-before r b o = record { below = omega (arith, o .below); right = λ vs z l. go vs z l }
+  -- A member behind the first stands where the order of the rest, read at j, has it.
+  placed-later : (r j : ℕ) → ((x : Value) (xs : List Value) (z : Value) → suc (length xs) ≡ n → getD (getD (orders (x ∷ xs)) d []) i z ≡ getD (getD (orders xs) (d / suc (length xs)) []) j z)
+      → Ordinal (n - 1) (d / n) j r → Ordinal n d i (1 + r)
+  placed-later r j same o = record { below = omega (arith, o .below); right = λ vs z l. go vs z l }
     where
       go : (vs : List Value) (z : Value) → length vs ≡ n → getD (getD (orders vs) d []) i z ≡ getD vs (1 + r) z
       go [] z l = absurd (omega arith)
       go (x ∷ xs) z l =
           let e : 1 + r ≡ suc r = omega arith in
-          before x xs d z (subst (λ (k : ℕ). d < factorial k) (sym l) h) i (subst (λ (k : ℕ). i < d % k) (sym l) b)
-          ∙ ap (λ (k : ℕ). getD (getD (orders xs) (d / k) []) i z) l
+          same x xs z l
+          ∙ ap (λ (k : ℕ). getD (getD (orders xs) (d / k) []) j z) l
           ∙ o .right xs z (omega arith)
           ∙ ap (λ (k : ℕ). getD (x ∷ xs) k z) (sym e)
 
+  pub placed-before : (r : ℕ) → i < d % n → Ordinal (n - 1) (d / n) i r → Ordinal n d i (1 + r)
+  placed-before r b o = placed-later r i (λ x xs z l. before x xs d z (subst (λ (k : ℕ). d < factorial k) (sym l) h) i (subst (λ (k : ℕ). i < d % k) (sym l) b)) o
+
   pub placed-after : (r : ℕ) → d % n < i → Ordinal (n - 1) (d / n) (i - 1) r → Ordinal n d i (1 + r)
-  placed-after r b o = record { below = omega (arith, o .below); right = λ vs z l. go vs z l }
-    where
-      go : (vs : List Value) (z : Value) → length vs ≡ n → getD (getD (orders vs) d []) i z ≡ getD vs (1 + r) z
-      go [] z l = absurd (omega arith)
-      go (x ∷ xs) z l =
-          let e : 1 + r ≡ suc r = omega arith in
-          let f : i ≡ suc (i - 1) = omega arith in
-          let low : d % n ≤ i - 1 = omega arith in
-          ap (λ (k : ℕ). getD (getD (orders (x ∷ xs)) d []) k z) f
-          ∙ after x xs d z (subst (λ (k : ℕ). d < factorial k) (sym l) h) (i - 1) (subst (λ (k : ℕ). d % k ≤ i - 1) (sym l) low)
-          ∙ ap (λ (k : ℕ). getD (getD (orders xs) (d / k) []) (i - 1) z) l
-          ∙ o .right xs z (omega arith)
-          ∙ ap (λ (k : ℕ). getD (x ∷ xs) k z) (sym e)
+  placed-after r b o =
+      let f : i ≡ suc (i - 1) = omega arith in
+      let low : d % n ≤ i - 1 = omega arith in
+      placed-later r (i - 1)
+      (λ x xs z l.
+      ap (λ (k : ℕ). getD (getD (orders (x ∷ xs)) d []) k z) f
+      ∙ after x xs d z (subst (λ (k : ℕ). d < factorial k) (sym l) h) (i - 1) (subst (λ (k : ℕ). d % k ≤ i - 1) (sym l) low)) o

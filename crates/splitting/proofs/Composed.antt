@@ -1,6 +1,6 @@
 -- Number 29 read off the record of a pattern: the same for all kinds of patterns with parts.
 use mathlib.Core.Path.{_≡_, refl, sym, ap, ap₂, _∙_}
-use mathlib.Core.Bool.{Bool, true, false, not, _&&_, _||_}
+use mathlib.Core.Bool.{Bool, true, false, not, _&&_, _||_, or-false}
 use mathlib.Core.List.{List, [], _∷_, map}
 use Prim.Native.Nat.{ℕ}
 use native.Mathlib.Omega.{arith}
@@ -17,10 +17,6 @@ use Rattle.patterns.specs.Nodes.{collectionOf, isHalved, meetings, isLarge, bot
 use Rattle.patterns.specs.Laws.Nodes.{parts-length, on-leaf, on-composed}
 use Rattle.patterns.specs.Laws.Some.{some-halves}
 use Rattle.splitting.specs.Union.{hasUnion, someUnion, shallow}
-
-pub or-last : (b : Bool) → b ≡ b || false
-or-last true = refl
-or-last false = refl
 
 exists-map : {A B : Type 0} (f : A → B) (xs : List A) (g : B → Bool) → exists (map f xs) g ≡ exists xs (λ x. g (f x))
 unfolding exists
@@ -48,7 +44,7 @@ wide-halved k (p ∷ []) v e = absurd (omega arith)
 wide-halved k (p ∷ q ∷ []) v e =
     ap (λ (b : Bool). isTooLarge k (contents k v) || b)
     (exists-same (split k (contents k v)) (λ h. wide p (leftOf k h) || wide q (rightOf k h)) (λ h. wideEach (patternsOf (p ∷ q ∷ [])) (bothHalves k h))
-    (λ h. ap (λ (b : Bool). wide p (leftOf k h) || b) (or-last (wide q (rightOf k h))))
+    (λ h. ap (λ (b : Bool). wide p (leftOf k h) || b) (sym (or-false (wide q (rightOf k h)))))
     ∙ sym (exists-map (bothHalves k) (split k (contents k v)) (λ vs. wideEach (patternsOf (p ∷ q ∷ [])) vs)))
 wide-halved k (p ∷ q ∷ r ∷ ps) v e = absurd (omega arith)
 

@@ -154,7 +154,7 @@ module _ (table : List ℕ) (n : ℕ) (ok : check table ≡ Accepted n) where
       go no-expression t y = absurd y
 
   no-choice : (r : ℕ) → r < length rs → inCondition rs r ≡ true → Chooses (sheet table .pattern) (sheet table .node r) → ⊥
-  no-choice r h c x = never (sym (choice-outside rs fine r h (node-chooses r h x)) ∙ c)
+  no-choice r h c x = never (sym (choice-outside rs r (fine .clear8 r h) (node-chooses r h x)) ∙ c)
 
   -- ---- conditions
 

@@ -180,7 +180,7 @@ module _ (table : List ℕ) (n : ℕ) (ok : check table ≡ Accepted n) where
   name-valued r ρ h e c =
       let known : isKnown (headOf (recordAt rs r)) (recordAt rs r) ≡ true = fit-known (recordAt rs r) (fine .fit r h) in
       let small : leb (nameOf (recordAt rs r)) 15 ≡ true = subst (λ m. isKnown (shape m .head) (recordAt rs r) ≡ true) e known in
-      let (v, d) = c .has (nameOf (recordAt rs r)) (omega (arith, leb-true (nameOf (recordAt rs r)) 15 small)) (name-bound rs fine r h e) in
+      let (v, d) = c .has (nameOf (recordAt rs r)) (omega (arith, leb-true (nameOf (recordAt rs r)) 15 small)) (name-bound rs r (fine .clear7 r h) e) in
       (v, ap heldValue d)
 
   else-given : (r : ℕ) (x : Option Value) (v : Value) → x ≡ some v → Refusing Value (orElse 20 r x)

@@ -36,7 +36,7 @@ module _ (rs : List Record) (clear6 : Clear6 rs) where
       tells-as (tells-below rs clear6 isLoose p h) (λ e. let (q, w, f) = e in record { part = q; within = w; is-loose = f })
       (λ e. (e .part, e .within, e .is-loose))
 
-  pub tells-condition : (r : ℕ) → r < length rs → Tells (inCondition rs r) (InCondition rs r)
+  tells-condition : (r : ℕ) → r < length rs → Tells (inCondition rs r) (InCondition rs r)
   tells-condition r h =
       tells-as
       (tells-around rs clear6 (inCondition rs) (λ q i. isCondition (roleAt (recordAt rs q) i)) (condition-operand rs clear6) (condition-last rs clear6) r h)

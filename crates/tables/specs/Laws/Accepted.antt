@@ -265,17 +265,22 @@ module _ (rs : List Record) (clear6 : Clear6 rs) where
   unfolding fault6
   last-sort r e = rw (eq-eqb (suc r) (length rs) e) at (or-false-right (any (isBad rs r) (length (named (recordAt rs r)))) _ (clear6 r (omega arith)))
 
+-- ---- of a record that keeps rule 7, or rule 8
+
+-- A name that is read is bound around it.
+pub name-bound : (rs : List Record) (r : ℕ) → fault7 rs r ≡ false → kindAt rs r ≡ 3 → isBound rs r (nameOf (recordAt rs r)) ≡ true
+unfolding fault7
+name-bound rs r clear7 e =
+    not-false _ (rw (eq-eqb (kindAt rs r) 3 e) at (or-false-left (eqb (kindAt rs r) 3 && not (isBound rs r (nameOf (recordAt rs r)))) _ clear7))
+
+-- A let-be or a loose let lies in no condition.
+pub choice-outside : (rs : List Record) (r : ℕ) → fault8 rs r ≡ false → chooses rs r ≡ true → inCondition rs r ≡ false
+unfolding fault8
+choice-outside rs r clear8 e = rw e at clear8
+
 -- ---- of a table that breaks no rule
 
 module _ (rs : List Record) (fine : Fine rs) where
-  -- ---- names
-
-  -- Every name that is read is bound around it.
-  pub name-bound : (r : ℕ) → r < length rs → kindAt rs r ≡ 3 → isBound rs r (nameOf (recordAt rs r)) ≡ true
-  unfolding fault7
-  name-bound r h e =
-      not-false _ (rw (eq-eqb (kindAt rs r) 3 e) at (or-false-left (eqb (kindAt rs r) 3 && not (isBound rs r (nameOf (recordAt rs r)))) _ (fine .clear7 r h)))
-
   -- ---- binders
 
   module _ (r : ℕ) (in-table : r < length rs) (binder : isBinder (kindAt rs r) ≡ true) where
@@ -290,13 +295,6 @@ module _ (rs : List Record) (fine : Fine rs) where
 
     pub binder-pattern : isPattern (kindAt rs (patternOf rs r)) ≡ true
     binder-pattern = first-sort (roleAt (recordAt rs r) 0) (kindAt rs (patternOf rs r)) first-role (operand-sort rs (fine .clear6) r 0 in-table binder-operands)
-
-  -- ---- choices
-
-  -- No let-be and no loose let lies in a condition.
-  pub choice-outside : (r : ℕ) → r < length rs → chooses rs r ≡ true → inCondition rs r ≡ false
-  unfolding fault8
-  choice-outside r h e = rw e at (fine .clear8 r h)
 
   -- ---- heights
 

@@ -96,7 +96,7 @@ binder-kind k l m = binder-kinds k ∙ rw (le-leb 12 k l, le-leb k 20 m)
 
 -- ---- patterns with parts and without
 
-pub composed-pattern : (k : ℕ) → isComposed k ≡ true → isPattern k ≡ true
+composed-pattern : (k : ℕ) → isComposed k ≡ true → isPattern k ≡ true
 composed-pattern k e = and-elim-left (isPattern k) (hasRoles (shape k .roles)) e
 
 -- A test of a kind is one of the kind that it equals.

@@ -88,3 +88,8 @@ pub greatest-all : (f : ℕ → ℕ) (ms : List ℕ) (i : ℕ) → i < length ms
 greatest-all f [] i h = absurd (omega arith)
 greatest-all f (m ∷ ms) zero h = omega arith
 greatest-all f (m ∷ ms) (suc i) h = omega (arith, greatest-all f ms i (omega arith))
+
+-- It is at most what each is at most.
+pub greatest-most : (f : ℕ → ℕ) (ms : List ℕ) (m : ℕ) → ((i : ℕ) → i < length ms → f (getD ms i 0) ≤ m) → greatest (map f ms) ≤ m
+greatest-most f [] m h = omega arith
+greatest-most f (n ∷ ns) m h = omega (arith, h 0 (omega arith), greatest-most f ns m (λ i l. h (suc i) (omega arith)))
