@@ -2,7 +2,7 @@
 
 use crate::common::program::{repository, run};
 use std::fs;
-use std::os::unix::fs::{symlink, PermissionsExt};
+use std::os::unix::fs::symlink;
 use std::path::{Path, PathBuf};
 use std::process::Command;
 
@@ -53,8 +53,9 @@ impl Repository {
         for folder in ["bin", "crates/walk", "panel/records", "panel/forms"] {
             fs::create_dir_all(root.join(folder)).expect("a folder");
         }
-        fs::copy(repository().join("walk"), root.join("walk")).expect("the script");
         let made = Repository(root);
+        let script = fs::read_to_string(repository().join("walk")).expect("the script");
+        made.executable("walk", &script);
         made.write("crates.txt", "prelude:\nwalk: prelude\n");
         made.write("panel/Cargo.toml", "");
         made.program("bin/rt", RT);
@@ -71,10 +72,17 @@ impl Repository {
         fs::write(self.0.join(file), text).expect("a file");
     }
 
+    /// Has a program written by another process: whatever the tests start while this one has a file open for writing has
+    /// it open too for a moment, and such a file cannot be run.
+    fn executable(&self, file: &str, text: &str) {
+        let mut command = Command::new("sh");
+        command.args(["-c", "cat >\"$0\" && chmod 755 \"$0\""]);
+        let ended = run(command.arg(self.0.join(file)), text.as_bytes());
+        assert!(ended.status.success(), "{ended:?}");
+    }
+
     fn program(&self, file: &str, text: &str) {
-        self.write(file, &format!("#!/bin/sh\n{text}"));
-        let all = fs::Permissions::from_mode(0o755);
-        fs::set_permissions(self.0.join(file), all).expect("a program");
+        self.executable(file, &format!("#!/bin/sh\n{text}"));
     }
 
     fn remove(&self, file: &str) {
