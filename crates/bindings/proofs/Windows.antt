@@ -461,7 +461,7 @@ module _ (s : List ℕ) (to : ℕ) (c : Cursor) (k : ℕ) (env : Env) (h : Under
               rw a (g .old y (omega arith))
           name-at bs w y i (no z) = g .done bs w y (omega (arith, z))
 
--- The same for whatever cursor and environment the loop began with.
+-- What a turn leaves, for whatever cursor and environment the loop began with.
 abbrev pub UnderInv : List ℕ → ℕ → ℕ → List ℕ → ℕ → ℕ → List ℕ → ℕ → ℕ → ℕ → Type 0
 UnderInv s to k words₀ at₀ left₀ words at left x =
     (c : Cursor) (env : Env) → Underneath s to c k env → env .words ≡ words₀ → at₀ ≡ placeOf to c k → left₀ ≡ c .names → UnderSoFar s to c k (env .words) words left at x

@@ -93,7 +93,7 @@ module _ {k : Kind} {f : Items → Answer} {g : Value → Answer} (e : (v : Valu
   pub off-one : {s : List ℕ} {base kind : ℕ} → KindAt s base kind → (kind ≡ number k → ⊥) → OnOne g s s base (Refused wrongKind)
   off-one r n = one-off (λ v a. e v ∙ needs-off f (no-kind r k n v a))
 
--- The same for two.
+-- Two operands that are of the kinds k and l.
 pub has-two : {s : List ℕ} {base : ℕ} {r : Bool} (k l : Kind) → Two s base → KindsAre s base (number k) (number l) r → r ≡ true → HasTwo k l s base
 has-two {s} {base} k l o c e =
     let v = o .left .value in

@@ -20,7 +20,7 @@ pub record Choices : Type 0 where
   pub used : ℕ
   pub grow : Bool
 
--- The same as lists: the entries taken, the number of ways at each, the entries left, and whether a list that is used up grows by 0.
+-- The state of the choices as lists: the entries taken, the number of ways at each, the entries left, and whether a list that is used up grows by 0.
 pub record View : Type 0 where
   pub past : List ℕ
   pub met : List ℕ

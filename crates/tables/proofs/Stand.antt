@@ -20,7 +20,7 @@ use Rattle.tables.proofs.Cutting.{part-rest, fields-few}
 pub part-at : (s : List ℕ) (at i : ℕ) → getD (take (length s - at) (drop at s)) i 0 ≡ getD s (at + i) 0
 part-at s at i = rw (part-rest s at) (getD-drop at s i 0)
 
--- The same at a place that was read.
+-- A byte of the part that begins at a place which was read.
 pub field-byte : (s : List ℕ) (at place i : ℕ) → at ≡ place → getD (take (length s - at) (drop at s)) i 0 ≡ getD s (place + i) 0
 field-byte s at place i e = part-at s at i ∙ ap (λ (a : ℕ). getD s (a + i) 0) e
 
@@ -37,7 +37,7 @@ module _ (table index : List ℕ) (r : ℕ) (h : Here table index r) where
   pub stands : Stands table (placeIn (getD index r 0)) (recordAt (records table) r)
   stands = entry-here .stands
 
-  -- The same of an entry that was read.
+  -- An entry that was read is that of its record.
   pub entry-read : (e : ℕ) → e ≡ getD index r 0 → EntryOf table e (recordAt (records table) r)
   entry-read e is = rw is entry-here
 

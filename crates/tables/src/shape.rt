@@ -42,7 +42,7 @@ const UP_TO_EIGHT: u16 = 0x1ff;
 
 const PAIRS: u16 = 0x155;
 
-// The kinds from 0 on. No record has kind 0 or 22 to 31. Whoever tests many records lends this table, since it is built anew where it is named.
+// The kinds from 0 on. No record has kind 0 or 22 to 31. Whoever tests many records lends this table.
 pub const LENGTHS: Lengths = [
     NO_FIELD,
     // 1 boolean, 2 integer, 3 name

@@ -57,7 +57,7 @@ same-cond : {A : Type 0} (b : Bool) (t u : Tree A) (S U : Outcomes A) → Same t
 same-cond true t u S U h k = h
 same-cond false t u S U h k = k
 
--- The same outcomes, told otherwise.
+-- Sets of outcomes that agree are a tree's alike.
 same-told : {A : Type 0} (t : Tree A) (S U : Outcomes A) → Same t S → ((o : Outcome A) → S o ↔ U o) → Same t U
 same-told t S U h k o = (λ g. k o .0 (h o .0 g), λ u. h o .1 (k o .1 u))
 

@@ -131,7 +131,7 @@ module _ (table : List ℕ) (n : ℕ) (ok : check table ≡ Accepted n) where
   abbrev Beyond : Walk → Walk → Type 0
   Beyond w v = drop mostChoices (v .entries) ≡ drop mostChoices (w .entries)
 
-  -- It was the walk v with so many steps granted; it is now w with k.
+  -- After calls that began with the walk v: w shows a complete list with k before it, and nothing beyond 64 entries was touched.
   record Goes (v w : Walk) (k : ℕ) : Type 0 where
     held : Held table w k
     beyond : Beyond v w

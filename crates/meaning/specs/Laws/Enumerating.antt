@@ -20,7 +20,7 @@ abbrev pub oneByOne : Kind → (Items → Value → Built) → Evaluation → �
 oneByOne k add rec r [] ρ b = at r (closed k b)
 oneByOne k add rec r (o ∷ os) ρ b = bind (rec o ρ) (λ v. oneByOne k add rec r os ρ (buildOn b (λ us. add us v)))
 
--- The same of key, value, key, value: both are evaluated, then entered. (A map enumeration has no key without a value.)
+-- Operands key, value, key, value: both of a pair are evaluated, then entered. (A map enumeration has no key without a value.)
 abbrev pub pairByPair : Evaluation → ℕ → List ℕ → State → Built → Tree Value
 pairByPair rec r [] ρ b = at r (closed map b)
 pairByPair rec r (o ∷ []) ρ b = bind (rec o ρ) (λ key. at r (closed map b))

@@ -61,7 +61,7 @@ covered (map-comprehension p s c k e) = c ∷ k ∷ e ∷ []
 covered (application a b) = []
 covered no-expression = []
 
--- The same of each of these records.
+-- L holds of each of these records.
 abbrev pub Each : (ℕ → Type 0) → List ℕ → Type 0
 Each L [] = Unit {0}
 Each L (a ∷ os) = L a × Each L os

@@ -180,7 +180,7 @@ module _ (table : List ℕ) (n : ℕ) (ok : check table ≡ Accepted n) where
       reached : Reaches table list (point q ρ k l)
       ends : Stops (sheet table) (point q ρ k l) 24 q left
 
-    -- It is the record q that is a let-be.
+    -- The record r is q, which is a let-be.
     record Own (r q : ℕ) : Type 0 where
       same : r ≡ q
       p : ℕ

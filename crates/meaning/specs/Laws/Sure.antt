@@ -135,7 +135,7 @@ pub placed-meaning : (s : Sheet) → Downward s → (r : ℕ) (ρ : State) → P
 unfolding meaning
 placed-meaning s d r ρ = placed-to s d (suc r) r ρ
 
--- So is the place of a run's refusal.
+-- Where every place of a tree is at most r, so is the place of a run's refusal.
 pub follow-placed : {A : Type 0} (r : ℕ) (t : Tree A) (k : ℕ) (l : List ℕ) (n p : ℕ) (m : List ℕ) → Placed r t → follow t k l ≡ stopped n p m → p ≤ r
 follow-placed r (give a) k l n p m h e = impossible cc
 follow-placed r (stop x q) k l n p m h e = let d : q ≡ p = cc in omega arith

@@ -17,7 +17,7 @@ padded-length l h = omega (arith, length-append l (replicate (mostChoices - leng
 -- ---- showing a list
 
 module _ (w : Walk) (l : List ℕ) (s : Shows w l) where
-  -- It is short.
+  -- The list that a walk shows has at most 64 entries.
   pub shown-short : length l ≤ mostChoices
   shown-short =
       omega (arith, ap length (s .its-entries), length-take mostChoices (w .entries), length-append l (replicate (mostChoices - length l) 0))
