@@ -11,6 +11,7 @@ use lib.ListN.{length, getD, take, drop, length-append, length-map, List·getD-a
 use lib.Seq.{getD-append-add}
 use borrow.Author.Tests.{eq-eqb, ne-eqb, ltb-true, ltb-false}
 use Rattle.prelude.specs.Membership.{In}
+use Rattle.prelude.proofs.Lists.{map-at}
 use Rattle.prelude.proofs.Membership.{in-joined, in-map}
 use Rattle.patterns.specs.Ways.{Halves, halves, toLeft, toRight, splits, isProper, proper, properSplits, cuts}
 use Rattle.patterns.specs.Units.{NonEmpty}
@@ -71,11 +72,6 @@ module _ {A : Type 0} where
 
   -- ---- splits and cuts by number
 
-  getD-map-in : {B : Type 0} (f : A → B) (l : List A) (n : ℕ) (d : A) (e : B) → n < length l → getD (map f l) n e ≡ f (getD l n d)
-  getD-map-in f [] n d e h = absurd (omega arith)
-  getD-map-in f (x ∷ l) zero d e h = refl
-  getD-map-in f (x ∷ l) (suc n) d e h = getD-map-in f l n d e (omega arith)
-
   pub splits-length : (xs : List A) → length (splits xs) ≡ 2 ^ length xs
   unfolding splits
   splits-length [] = refl
@@ -113,7 +109,7 @@ nth-split {A} (x ∷ xs) d h lt = go (ltb d (2 ^ length xs)) refl (λ e l. nth-s
     go true e rec =
         let l = ltb-true d (2 ^ length xs) e in
         let m = splits-length xs in
-        List·getD-append ls rs h d (omega (arith, n)) ∙ getD-map-in (toLeft x) (splits xs) d h h (omega arith) ∙ ap (toLeft x) (rec d l)
+        List·getD-append ls rs h d (omega (arith, n)) ∙ map-at (toLeft x) (splits xs) d h h (omega arith) ∙ ap (toLeft x) (rec d l)
     go false e rec =
         let l = ltb-false d (2 ^ length xs) e in
         let m = splits-length xs in
@@ -122,7 +118,7 @@ nth-split {A} (x ∷ xs) d h lt = go (ltb d (2 ^ length xs)) refl (λ e l. nth-s
         let r : d - 2 ^ length xs < 2 ^ length xs = omega arith in
         ap (λ (k : ℕ). getD (ls ++ rs) k h) (sym q)
         ∙ getD-append-add ls rs (d - 2 ^ length xs) h
-        ∙ getD-map-in (toRight x) (splits xs) (d - 2 ^ length xs) h h (omega arith)
+        ∙ map-at (toRight x) (splits xs) (d - 2 ^ length xs) h h (omega arith)
         ∙ ap (toRight x) (rec (d - 2 ^ length xs) r)
 
 -- ---- proper splits by number
@@ -221,4 +217,4 @@ nth-cut [] (suc k) h le = absurd (omega arith)
 nth-cut (x ∷ xs) zero h le = refl
 nth-cut (x ∷ xs) (suc k) h le =
     let n = cuts-length xs in
-    getD-map-in (toLeft x) (cuts xs) k h h (omega arith) ∙ ap (toLeft x) (nth-cut xs k h (omega arith))
+    map-at (toLeft x) (cuts xs) k h h (omega arith) ∙ ap (toLeft x) (nth-cut xs k h (omega arith))
