@@ -1,3 +1,4 @@
+use mathlib.Core.Path.{refl}
 use borrow.Author.Needs.{needs}
 use Rattle.forming.proofs.frames.frame_of.Statement.{statement}
 use Rattle.forming.proofs.frames.frame_of.Tie as tie
@@ -5,105 +6,80 @@ use Rattle.forming.proofs.frames.frame_of.Reads as reads
 use Rattle.forming.proofs.frames.frame_of.Lts as lts
 use Rattle.forming.proofs.frames.wide.Reads as wide-reads
 
--- src/frames.rt:65:16
 array-read-t10 : tie.Need-array-read-t10
 array-read-t10 c = search needs
 
--- src/frames.rt:66:15
 array-read-t13 : tie.Need-array-read-t13
 array-read-t13 c = search needs
 
--- src/frames.rt:69:16
 array-read-t10-2 : tie.Need-array-read-t10-2
 array-read-t10-2 c = search needs
 
--- src/frames.rt:70:15
 array-read-t13-2 : tie.Need-array-read-t13-2
 array-read-t13-2 c = search needs
 
--- src/frames.rt:73:16
 array-read-t10-3 : tie.Need-array-read-t10-3
 array-read-t10-3 c = search needs
 
--- src/frames.rt:77:20
 array-read-wide : tie.Need-array-read-wide
 array-read-wide c = search needs
 
--- src/frames.rt:77:9
 wide-requires : tie.Need-wide-requires
 wide-requires c κs = search needs
 
--- src/frames.rt:78:21
 array-read-wide-2 : tie.Need-array-read-wide-2
 array-read-wide-2 c = search needs
 
--- src/frames.rt:78:9
 wide-requires-2 : tie.Need-wide-requires-2
 wide-requires-2 c κs = search needs
 
--- src/frames.rt:80:12
 array-read-t13-3 : tie.Need-array-read-t13-3
 array-read-t13-3 c = search needs
 
--- src/frames.rt:80:12
 cast-t27 : tie.Need-cast-t27
 cast-t27 c = search needs
 
--- src/frames.rt:81:13
 array-read-t10-4 : tie.Need-array-read-t10-4
 array-read-t10-4 c = search needs
 
--- src/frames.rt:81:13
 cast-t30 : tie.Need-cast-t30
 cast-t30 c = search needs
 
--- src/frames.rt:82:15
 array-read-t33 : tie.Need-array-read-t33
 array-read-t33 c = search needs
 
--- src/frames.rt:82:15
 cast-t34 : tie.Need-cast-t34
 cast-t34 c = search needs
 
--- src/frames.rt:83:14
 array-read-t37 : tie.Need-array-read-t37
 array-read-t37 c = search needs
 
--- src/frames.rt:83:14
 cast-t38 : tie.Need-cast-t38
 cast-t38 c = search needs
 
--- src/frames.rt:84:14
 array-read-t41 : tie.Need-array-read-t41
 array-read-t41 c = search needs
 
--- src/frames.rt:84:14
 cast-t42 : tie.Need-cast-t42
 cast-t42 c = search needs
 
--- src/frames.rt:85:15
 array-read-t45 : tie.Need-array-read-t45
 array-read-t45 c = search needs
 
--- src/frames.rt:85:15
 cast-t46 : tie.Need-cast-t46
 cast-t46 c = search needs
 
--- src/frames.rt:86:21
 mul-t47 : tie.Need-mul-t47
 mul-t47 c = search needs
 
--- src/frames.rt:86:15
 add-t48 : tie.Need-add-t48
 add-t48 c = search needs
 
--- src/frames.rt:87:15
 array-read-t51 : tie.Need-array-read-t51
 array-read-t51 c = search needs
 
--- src/frames.rt:61:1
 returns : tie.Need-returns
-returns c = ?
+returns c = rw (c .before .wide .ensures .0, c .wide2 .ensures .0) refl
 
 pub frame-of-spec : {M : Type 1} → statement M
 frame-of-spec =

@@ -14,7 +14,7 @@ use Rattle.forming.proofs.reduced.+accepts_all.{statement}
 use Rattle.forming.proofs.reduced.+accepts_all.Tie.{close}
 
 abbrev μ-accepts-all : Measures 2 accepts-all-kinds.ps ℕ
-μ-accepts-all κs a = a .1 .1
+μ-accepts-all κs a = a .1 .1 .0
 
 abbrev accepts-all-at : ℕ → In 2 accepts-all-kinds.ps
 accepts-all-at t =

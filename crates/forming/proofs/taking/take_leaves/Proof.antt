@@ -1,3 +1,7 @@
+use native.Mathlib.Omega.{arith}
+use Rattle.tables.specs.Laws.Kinds.{composed-told}
+use borrow.Author.Tests.{not-true, not-false}
+use Rattle.forming.proofs.Leaving.{TakeSoFar, take-start, head-low, entry-low, entry-readable, next-lower, leaf-asked, take-wait, take-leaf, take-none, take-full, take-end}
 use Rattle.forming.proofs.taking.take_leaves.Statement.{statement}
 use Rattle.forming.proofs.taking.take_leaves.Tie as tie
 use Rattle.forming.proofs.taking.take_leaves.Reads as reads
@@ -7,106 +11,82 @@ use Rattle.tables.proofs.reading.kind.Reads as kind-reads
 use Rattle.tables.proofs.shape.is_composed.Reads as is-composed-reads
 
 abbrev Inv-loop : tie.InvT-loop
-Inv-loop table index s agenda head found₀ head₀ wait₀ found head' wait = ?
+Inv-loop table index s agenda head found₀ head₀ wait₀ found head' wait = TakeSoFar table index s agenda head found₀ head' wait found
 
 abbrev μ-loop : tie.MeasureT-loop
-μ-loop table index s agenda head found₀ head₀ wait₀ found head' wait = ?
+μ-loop table index s agenda head found₀ head₀ wait₀ found head' wait = head'
 
--- src/taking.rt:31:5
 loop-holds : tie.Need-loop-holds Inv-loop μ-loop
-loop-holds c = ?
+loop-holds c = take-start _ _ _ _ _ _ (c .before .before .pre)
 
--- src/taking.rt:32:24
 mul-p : tie.Need-mul-p Inv-loop μ-loop
-mul-p c = ?
+mul-p c = omega (arith, head-low _ _ _ _ _ _ (c .before .before .before .before .pre) _ _ _ (c .before .loop .inv))
 
--- src/taking.rt:32:17
 mul-p-2 : tie.Need-mul-p-2 Inv-loop μ-loop
-mul-p-2 c = ?
+mul-p-2 c = omega (arith, head-low _ _ _ _ _ _ (c .before .before .before .before .pre) _ _ _ (c .before .loop .inv))
 
--- src/taking.rt:32:17
 element-copy-out-p : tie.Need-element-copy-out-p Inv-loop μ-loop
-element-copy-out-p c = ?
+element-copy-out-p c = omega (arith, head-low _ _ _ _ _ _ (c .before .before .before .before .pre) _ _ _ (c .before .loop .inv))
 
--- src/taking.rt:32:17
 cast-p : tie.Need-cast-p Inv-loop μ-loop
-cast-p c = ?
+cast-p c = omega (arith, entry-low _ _ _ _ _ _ (c .before .before .before .before .before .pre) _ _ _ (c .before .before .loop .inv) (omega arith))
 
--- src/taking.rt:33:27
 mul-next : tie.Need-mul-next Inv-loop μ-loop
-mul-next c = ?
+mul-next c = omega (arith, head-low _ _ _ _ _ _ (c .before .before .before .before .before .pre) _ _ _ (c .before .before .loop .inv))
 
--- src/taking.rt:33:27
 add-next : tie.Need-add-next Inv-loop μ-loop
-add-next c = ?
+add-next c = omega (arith, head-low _ _ _ _ _ _ (c .before .before .before .before .before .pre) _ _ _ (c .before .before .loop .inv))
 
--- src/taking.rt:33:20
 mul-next-2 : tie.Need-mul-next-2 Inv-loop μ-loop
-mul-next-2 c = ?
+mul-next-2 c = omega (arith, head-low _ _ _ _ _ _ (c .before .before .before .before .before .pre) _ _ _ (c .before .before .loop .inv))
 
--- src/taking.rt:33:20
 element-copy-out-next : tie.Need-element-copy-out-next Inv-loop μ-loop
-element-copy-out-next c = ?
+element-copy-out-next c = omega (arith, head-low _ _ _ _ _ _ (c .before .before .before .before .before .pre) _ _ _ (c .before .before .loop .inv))
 
--- src/taking.rt:33:20
 cast-next : tie.Need-cast-next Inv-loop μ-loop
-cast-next c = ?
+cast-next c = omega (arith, next-lower _ _ _ _ _ _ (c .before .before .before .before .before .before .pre) _ _ _ (c .before .before .before .loop .inv) (omega arith), head-low _ _ _ _ _ _ (c .before .before .before .before .before .before .pre) _ _ _ (c .before .before .before .loop .inv))
 
--- src/taking.rt:34:13
 kind-requires : tie.Need-kind-requires Inv-loop μ-loop
-kind-requires c κs = ?
+kind-requires c κs = entry-readable _ _ _ _ _ _ (c .before .before .before .before .before .before .pre) _ _ _ (c .before .before .before .loop .inv) (omega arith) .here
 
--- src/taking.rt:35:12
 is-composed-requires : tie.Need-is-composed-requires Inv-loop μ-loop
-is-composed-requires c κs = ?
+is-composed-requires c κs = c .kind .ensures .1
 
--- src/taking.rt:37:17
 returns : tie.Need-returns Inv-loop μ-loop
-returns c = ?
+returns c = take-full _ _ _ _ _ _ (c .before .before .before .before .before .before .before .before .before .before .pre) _ _ _ (c .before .before .before .before .before .before .before .loop .inv) (omega arith)
 
--- src/taking.rt:31:5
 loop-less : tie.Need-loop-less Inv-loop μ-loop
-loop-less c = ?
+loop-less c = omega (arith, next-lower _ _ _ _ _ _ (c .before .before .before .before .before .before .before .before .before .before .pre) _ _ _ (c .before .before .before .before .before .before .before .loop .inv) (omega arith))
 
--- src/taking.rt:31:5
 loop-again : tie.Need-loop-again Inv-loop μ-loop
-loop-again c = ?
+loop-again c = take-wait _ _ _ _ _ _ (c .before .before .before .before .before .before .before .before .before .before .pre) _ _ _ (c .before .before .before .before .before .before .before .loop .inv) (omega arith) (composed-told (c .before .before .before .kind .ensures .0) (c .before .before .is-composed .ensures) (c .before .if1 .taken)) (omega arith)
 
--- src/taking.rt:46:31
 mul-word : tie.Need-mul-word Inv-loop μ-loop
-mul-word c = ?
+mul-word c = omega (arith, head-low _ _ _ _ _ _ (c .before .before .before .before .before .before .before .before .before .pre) _ _ _ (c .before .before .before .before .before .before .loop .inv))
 
--- src/taking.rt:46:31
 add-word : tie.Need-add-word Inv-loop μ-loop
-add-word c = ?
+add-word c = omega (arith, head-low _ _ _ _ _ _ (c .before .before .before .before .before .before .before .before .before .pre) _ _ _ (c .before .before .before .before .before .before .loop .inv))
 
--- src/taking.rt:46:24
 mul-word-2 : tie.Need-mul-word-2 Inv-loop μ-loop
-mul-word-2 c = ?
+mul-word-2 c = omega (arith, head-low _ _ _ _ _ _ (c .before .before .before .before .before .before .before .before .before .pre) _ _ _ (c .before .before .before .before .before .before .loop .inv))
 
--- src/taking.rt:46:24
 element-copy-out-word : tie.Need-element-copy-out-word Inv-loop μ-loop
-element-copy-out-word c = ?
+element-copy-out-word c = omega (arith, head-low _ _ _ _ _ _ (c .before .before .before .before .before .before .before .before .before .pre) _ _ _ (c .before .before .before .before .before .before .loop .inv))
 
--- src/taking.rt:47:17
 match-leaf-requires : tie.Need-match-leaf-requires Inv-loop μ-loop
-match-leaf-requires c κs = ?
+match-leaf-requires c κs = leaf-asked _ _ _ _ _ _ (c .before .before .before .before .before .before .before .before .before .before .before .pre) _ _ _ (c .before .before .before .before .before .before .before .before .loop .inv) (omega arith) (composed-told (c .before .before .before .before .kind .ensures .0) (c .before .before .before .is-composed .ensures) (c .before .before .if1 .left))
 
--- src/taking.rt:49:17
 returns-2 : tie.Need-returns-2 Inv-loop μ-loop
-returns-2 c = ?
+returns-2 c = take-none _ _ _ _ _ _ (c .before .before .before .before .before .before .before .before .before .before .before .before .before .pre) _ _ _ (c .before .before .before .before .before .before .before .before .before .before .loop .inv) (omega arith) _ _ (λ v b q h. c .before .match-leaf .ensures .0 v b q h) (c .before .match-leaf .ensures .1) (not-true _ (c .if3 .taken))
 
--- src/taking.rt:31:5
 loop-less-2 : tie.Need-loop-less-2 Inv-loop μ-loop
-loop-less-2 c = ?
+loop-less-2 c = omega (arith, next-lower _ _ _ _ _ _ (c .before .before .before .before .before .before .before .before .before .before .before .before .before .pre) _ _ _ (c .before .before .before .before .before .before .before .before .before .before .loop .inv) (omega arith))
 
--- src/taking.rt:31:5
 loop-again-2 : tie.Need-loop-again-2 Inv-loop μ-loop
-loop-again-2 c = ?
+loop-again-2 c = take-leaf _ _ _ _ _ _ (c .before .before .before .before .before .before .before .before .before .before .before .before .before .pre) _ _ _ (c .before .before .before .before .before .before .before .before .before .before .loop .inv) (omega arith) _ _ (λ v b q h. c .before .match-leaf .ensures .0 v b q h) (c .before .match-leaf .ensures .1) (not-false _ (c .if3 .left))
 
--- src/taking.rt:18:1
 returns-3 : tie.Need-returns-3 Inv-loop μ-loop
-returns-3 c = ?
+returns-3 c = take-end _ _ _ _ _ _ (c .before .before .before .before .pre) _ _ _ (c .before .loop .inv) (omega arith)
 
 pub take-leaves-spec : {M : Type 1} → statement M
 take-leaves-spec =
