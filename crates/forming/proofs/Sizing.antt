@@ -30,8 +30,7 @@ use Rattle.matching.proofs.Records.{by-record, inner-length}
 use Rattle.forming.specs.declared.sizes.Size.{Size}
 use Rattle.forming.specs.declared.sizes.Sizes.{Sizes}
 use Rattle.forming.specs.declared.sizes.Range.{Range}
-use Rattle.forming.specs.Reduced.{enumerationOf, Splits}
-use Rattle.forming.specs.Sizes.{Sized, Takes, TellsSize, Sum, TellsSizes, Rights, FirstOf, SplitFrom, CutFrom, Divisible, halfAt, From}
+use Rattle.forming.specs.Sizes.{Splits, enumerationOf, Sized, Takes, TellsSize, Sum, TellsSizes, Rights, FirstOf, SplitFrom, CutFrom, Divisible, halfAt, From}
 use Rattle.forming.proofs.Reducing.{items-same, is-two}
 
 -- ---- two sizes together
@@ -51,7 +50,7 @@ sum-is l r x e o f = record {
 
 -- ---- what a pattern takes
 
-pub shared-length : {A : Type 0} (xs ls rs : List A) → Shared xs ls rs → length xs ≡ length ls + length rs
+shared-length : {A : Type 0} (xs ls rs : List A) → Shared xs ls rs → length xs ≡ length ls + length rs
 shared-length [] ls rs h = rw (h .0, h .1) refl
 shared-length (x ∷ xs) ls rs (inl (ms, e, h)) = let l = shared-length xs ms rs h in rw e (omega (arith, l))
 shared-length (x ∷ xs) ls rs (inr (ms, e, h)) = let l = shared-length xs ls ms h in rw e (omega (arith, l))

@@ -1,9 +1,11 @@
 -- How many members or items a pattern takes, and the ways that give its halves so many.
 use mathlib.Core.Path.{_≡_}
-use mathlib.Core.Bool.{true, false}
+use mathlib.Core.Bool.{true, false, cond}
+use mathlib.Core.Logic.{_⊎_}
 use mathlib.Core.List.{List, []}
 use Prim.Native.Nat.{ℕ, _+_, _-_, _≤_, _<_}
 use lib.Count.{ones}
+use lib.Dec.{eqb}
 use lib.ListN.{length, getD}
 use Rattle.values.specs.Value.{Kind, Value, collection}
 use Rattle.tables.specs.Record.{operand}
@@ -18,7 +20,14 @@ use Rattle.patterns.specs.Read.{Readable, patternAt}
 use Rattle.forming.specs.declared.sizes.Size.{Size}
 use Rattle.forming.specs.declared.sizes.Sizes.{Sizes}
 use Rattle.forming.specs.declared.sizes.Range.{Range}
-use Rattle.forming.specs.Reduced.{Splits}
+
+-- Kind 38 splits sets, kind 40 cuts sequences.
+abbrev pub Splits : ℕ → Type 0
+Splits c = (c ≡ 38) ⊎ (c ≡ 40)
+
+-- The kind of patterns with a part for each member or item of what kind c splits or cuts.
+abbrev pub enumerationOf : ℕ → ℕ
+enumerationOf c = cond (eqb c 38) 37 39
 
 -- A size that n is.
 pub record Sized (z : Size) (n : ℕ) : Type 0 where

@@ -1,6 +1,4 @@
 // How many members or items a pattern takes. A way of splitting or cutting that gives a half more or fewer has no match.
-use crate::heights::is_low;
-use crate::reduced::splits;
 use crate::settled::either;
 use tables::Index;
 use tables::kinds;
@@ -8,10 +6,10 @@ use tables::reading::kind;
 use tables::reading::operand;
 use tables::reading::operand_count;
 ghost use mathlib.Core.Path.{_≡_};
+ghost use mathlib.Core.Bool.{true};
 ghost use Prim.Native.Nat.{_<_};
 ghost use Rattle.patterns.specs.Read.{Readable};
-ghost use Rattle.forming.specs.Reduced.{Splits, enumerationOf};
-ghost use Rattle.forming.specs.Sizes.{TellsSize, Sum, HalvesHeld, TellsSizes, Rights, SplitFrom, CutFrom, FromHeld, From};
+ghost use Rattle.forming.specs.Sizes.{Splits, enumerationOf, TellsSize, Sum, HalvesHeld, TellsSizes, Rights, SplitFrom, CutFrom, FromHeld, From};
 
 // At least so many; or exactly so many, where there may not be more.
 pub struct Size {
@@ -34,7 +32,7 @@ pub struct Sizes {
 }
 
 // Two sizes together.
-pub fn sum(l: Size, r: Size) -> Size
+fn sum(l: Size, r: Size) -> Size
     ensures { λ z. ⌜ Sum l r z ⌝ }
 {
     let a = l.least as usize;
@@ -61,7 +59,7 @@ fn enumeration_of(k: usize) -> usize
 }
 
 // What a pattern takes that meets a half, where k is the kind of the whole.
-pub fn size_of(table: &[u8], index: &Index, p: usize, k: usize) -> Size
+fn size_of(table: &[u8], index: &Index, p: usize, k: usize) -> Size
     requires { ⌜ Readable (now table) (now index) p × Splits k ⌝ }
     ensures { λ z. ⌜ TellsSize (now (table .entry)) p k z ⌝ }
 {
@@ -94,10 +92,17 @@ fn is_any(z: Size) -> bool {
     z.more
 }
 
-// The greatest height of a pattern whose sizes are worked out.
-const SIZED: usize = 21;
+// Patterns of this kind have two halves.
+fn splits(k: usize) -> bool
+    ensures { λ r. ⌜ (r ≡ true → Splits k) ⌝ }
+{
+    if k == kinds::UNION_PATTERN {
+        return true;
+    }
+    k == kinds::CONCATENATION_PATTERN
+}
 
-// What the halves of a pattern of kind k take, where it is low; else any number.
+// What the halves of a pattern of kind k take, where it has two; else any number.
 pub fn sizes_of(table: &[u8], index: &Index, p: usize, k: usize) -> Sizes
     requires { ⌜ HalvesHeld (now table) (now index) p k ⌝ }
     ensures { λ z. ⌜ TellsSizes (now (table .entry)) p k z ⌝ }
@@ -114,14 +119,6 @@ pub fn sizes_of(table: &[u8], index: &Index, p: usize, k: usize) -> Sizes
             right: none,
         };
     }
-    let low = is_low(table, index, p, SIZED);
-    if !low {
-        return Sizes {
-            bound: false,
-            left: none,
-            right: none,
-        };
-    }
     let l = operand(table, index, p, 0);
     let left = size_of(table, index, l, k);
     let r = operand(table, index, p, 1);
@@ -130,7 +127,7 @@ pub fn sizes_of(table: &[u8], index: &Index, p: usize, k: usize) -> Sizes
 }
 
 // What two halves take.
-pub fn pair(left: Size, right: Size) -> Sizes
+fn pair(left: Size, right: Size) -> Sizes
     ensures { λ z. ⌜ (z .left ≡ left) × (z .right ≡ right) ⌝ }
 {
     let free = is_any(left);
