@@ -1,6 +1,5 @@
 -- Ways that are passed over: their halves have other sizes than the patterns take, and so no match.
 use mathlib.Core.Path.{_≡_, refl, sym, ap, _∙_}
-use mathlib.Core.Bool.{true}
 use mathlib.Core.Logic.{inl, inr}
 use mathlib.Core.Option.{Option, none as absent, some}
 use mathlib.Core.List.{List, [], _∷_, _++_, map}
@@ -9,11 +8,13 @@ use native.Mathlib.Omega.{arith}
 use lib.ListN.{length, getD, drop, length-map}
 use lib.Seq.{drop-cons}
 use Rattle.prelude.specs.Membership.{In}
+use Rattle.prelude.proofs.Membership.{at-in}
 use Rattle.values.specs.Value.{Kind, Value}
 use Rattle.tables.specs.Record.{named as operandsOf, operand}
 use Rattle.tables.specs.Table.{recordAt, kindAt}
 use Rattle.tables.specs.Accepted.{records}
-use Rattle.patterns.specs.Ways.{halves, gather}
+use Rattle.patterns.specs.Ways.{halves, properSplits, gather}
+use Rattle.patterns.specs.Laws.Units.{in-proper}
 use Rattle.patterns.specs.Binding.{Binding, withEach, together}
 use Rattle.patterns.specs.Pattern.{Pattern, any, contents, divisions, split, leftOf, rightOf, matches, matchEach}
 use Rattle.patterns.specs.Laws.Matched.{in-together, matched}
@@ -26,7 +27,7 @@ use Rattle.matching.proofs.Records.{inner-length}
 use Rattle.forming.specs.declared.sizes.Sizes.{Sizes}
 use Rattle.forming.specs.Onward.{Task, matchesAll, oneWay}
 use Rattle.forming.specs.Inner.{countOf}
-use Rattle.forming.specs.Sizes.{Splits, HalvesTake, TellsSizes, halfAt, Barren, FromHeld, From}
+use Rattle.forming.specs.Sizes.{Splits, fewestOf, HalvesTake, TellsSizes, halfAt, Barren, FromHeld, From}
 use Rattle.prelude.proofs.Lists.{map-at}
 use Rattle.forming.proofs.Reducing.{two-halves}
 
@@ -60,6 +61,10 @@ unfolding together
 no-way ps ts b vs e = ap (λ (l : List Binding). withEach b (together l (matchesAll ts))) e ∙ with-none b
 
 -- ---- the ways of a pattern with two halves
+
+half-fewest : (c : ℕ) → Splits c → (vs : List Value) (j : ℕ) → j < length (divisions (collectionOf c) vs) → (fewestOf c ≤ length (halfAt c vs j .left)) × (fewestOf c ≤ length (halfAt c vs j .right))
+half-fewest c (inl e) vs j = rw e (λ l. let (s, a, b) = in-proper vs (halfAt 38 vs j) .0 (at-in (properSplits vs) j (halves [] []) l) in (a, b))
+half-fewest c (inr e) vs j = rw e (λ l. (omega arith, omega arith))
 
 pub meetings-two : (c n : ℕ) (v : Value) → Splits c → meetings c n v ≡ map (bothHalves (collectionOf c)) (split (collectionOf c) (contents (collectionOf c) v))
 meetings-two c n v (inl e) = rw e refl
@@ -95,13 +100,14 @@ module _ (table index : List ℕ) (p : ℕ) (h : Readable table index p) (c : �
   barren-way z t w j l n v e ts st =
       let (vs, q, d) = some-ways v w e (omega arith) in
       let at : metBy table p v j ≡ bothHalves K (halfAt c vs j) = ap (λ (ws : List (List Value)). getD ws j []) q ∙ map-at (bothHalves K) (divisions K vs) j (halves [] []) [] (omega (arith, d)) in
+      let (x, y) = half-fewest c u vs j (omega (arith, d)) in
       ap (λ (x : List Value). oneWay (innerOf table p) ts st x) at
       ∙ ap (λ (ps : List Pattern). oneWay ps ts st (bothHalves K (halfAt c vs j))) inner-two
       ∙ no-way (half 0 ∷ half 1 ∷ []) ts st (bothHalves K (halfAt c vs j))
       (no-pair (half 0) (half 1) (leftOf K (halfAt c vs j)) (rightOf K (halfAt c vs j)) (λ a b m o.
       n vs d
-      (t .left (halfAt c vs j .left) a (matched (half 0) (leftOf K (halfAt c vs j)) a m))
-      (t .right (halfAt c vs j .right) b (matched (half 1) (rightOf K (halfAt c vs j)) b o))))
+      (t .left (halfAt c vs j .left) a x (matched (half 0) (leftOf K (halfAt c vs j)) a m))
+      (t .right (halfAt c vs j .right) b y (matched (half 1) (rightOf K (halfAt c vs j)) b o))))
 
 -- ---- ways that are passed over
 

@@ -104,7 +104,7 @@ fn split_word(s: &[u8], k: usize, word: u32, ways: usize) -> u32
     }
     let members = Part {
         at: p.at,
-        extent: (ways - 1) as u16,
+        extent: (ways + 1) as u16,
         how: Part::MEMBERS,
     };
     words::word_of(s, members)

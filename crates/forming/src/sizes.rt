@@ -9,7 +9,7 @@ ghost use mathlib.Core.Path.{_≡_};
 ghost use mathlib.Core.Bool.{true};
 ghost use Prim.Native.Nat.{_<_};
 ghost use Rattle.patterns.specs.Read.{Readable};
-ghost use Rattle.forming.specs.Sizes.{Splits, enumerationOf, TellsSize, Sum, HalvesHeld, TellsSizes, Rights, SplitFrom, CutFrom, FromHeld, From};
+ghost use Rattle.forming.specs.Sizes.{Splits, enumerationOf, fewestOf, TellsSize, Sum, HalvesHeld, TellsSizes, Rights, SplitFrom, CutFrom, FromHeld, From};
 
 // At least so many; or exactly so many, where there may not be more.
 pub struct Size {
@@ -58,6 +58,16 @@ fn enumeration_of(k: usize) -> usize
     kinds::SEQUENCE_PATTERN
 }
 
+// A half of what patterns of kind k split or cut has at least so many: of a set it holds something, of a sequence it may be empty.
+fn fewest_of(k: usize) -> u8
+    ensures { λ r. ⌜ r ≡ fewestOf k ⌝ }
+{
+    if k == kinds::UNION_PATTERN {
+        return 1;
+    }
+    0
+}
+
 // What a pattern takes that meets a half, where k is the kind of the whole.
 fn size_of(table: &[u8], index: &Index, p: usize, k: usize) -> Size
     requires { ⌜ Readable (now table) (now index) p × Splits k ⌝ }
@@ -72,10 +82,8 @@ fn size_of(table: &[u8], index: &Index, p: usize, k: usize) -> Size
         };
     }
     if own != k {
-        return Size {
-            least: 0,
-            more: true,
-        };
+        let least = fewest_of(k);
+        return Size { least, more: true };
     }
     let l = operand(table, index, p, 0);
     let left = size_of(table, index, l, k);
@@ -84,9 +92,9 @@ fn size_of(table: &[u8], index: &Index, p: usize, k: usize) -> Size
     sum(left, right)
 }
 
-// Any number.
-fn is_any(z: Size) -> bool {
-    if z.least != 0 {
+// Any number that a half may have.
+fn is_any(z: Size, k: usize) -> bool {
+    if z.least != fewest_of(k) {
         return false;
     }
     z.more
@@ -123,15 +131,15 @@ pub fn sizes_of(table: &[u8], index: &Index, p: usize, k: usize) -> Sizes
     let left = size_of(table, index, l, k);
     let r = operand(table, index, p, 1);
     let right = size_of(table, index, r, k);
-    pair(left, right)
+    pair(left, right, k)
 }
 
-// What two halves take.
-fn pair(left: Size, right: Size) -> Sizes
+// What the two halves of a pattern of kind k take.
+fn pair(left: Size, right: Size, k: usize) -> Sizes
     ensures { λ z. ⌜ (z .left ≡ left) × (z .right ≡ right) ⌝ }
 {
-    let free = is_any(left);
-    let bound = if free { !is_any(right) } else { true };
+    let free = is_any(left, k);
+    let bound = if free { !is_any(right, k) } else { true };
     Sizes { bound, left, right }
 }
 
@@ -155,8 +163,8 @@ fn rights(z: Sizes, n: usize) -> Range
     Range { least, most }
 }
 
-// The first of w splits from d on that has so many members on the right: as many as bits of its number are set. A number that is higher by n has at
-// most n more of them, so those that cannot have enough are passed over together.
+// The first of the splits 0 to w - 1 from d on that has so many members on the right: as many as bits of its number are set. A number that is higher by
+// n has at most n more of them, so those that cannot have enough are passed over together.
 fn split_from(w: usize, d: usize, r: Range) -> usize
     ensures { λ e. ⌜ SplitFrom w d r e ⌝ }
 {
@@ -193,7 +201,8 @@ fn cut_from(w: usize, d: usize, r: Range) -> usize
     e
 }
 
-// The first way from d on whose halves may have what they take.
+// The first way from d on whose halves may have what they take. The ways of a union are all splits but the first and the last, which have an empty half:
+// way d is the split d + 1, and the split w + 1 has all members on the right.
 pub fn way_from(k: usize, w: usize, d: usize, z: Sizes) -> usize
     requires { ⌜ FromHeld k w z ⌝ }
     ensures { λ r. ⌜ From k w d z r ⌝ }
@@ -205,9 +214,11 @@ pub fn way_from(k: usize, w: usize, d: usize, z: Sizes) -> usize
         return d;
     }
     if k == kinds::UNION_PATTERN {
-        let n = usize::count_ones(w - 1) as usize;
+        let last = w + 1;
+        let n = usize::count_ones(last) as usize;
         let r = rights(z, n);
-        return split_from(w, d, r);
+        let e = split_from(last, d + 1, r);
+        return e - 1;
     }
     let r = rights(z, w - 1);
     cut_from(w, d, r)
