@@ -21,7 +21,6 @@ use Rattle.tables.specs.Accepted.{records}
 use Rattle.tables.specs.Laws.Accepted.{Clear6, lower, operand-lower, operand-first, operand-parent}
 use Rattle.patterns.specs.Pattern.{Pattern, any}
 use Rattle.forming.specs.Inner.{inner, innerEach}
-use Rattle.forming.specs.Laws.Inner.{innerInside, inner-most}
 use Rattle.matching.specs.Node.{innerOf}
 use Rattle.matching.proofs.Records.{by-record, inner-length, count-two, operand-readable}
 use Rattle.patterns.specs.Read.{Readable, patternsOf, patternOf, patternAt}
@@ -250,8 +249,8 @@ two-inner (p ∷ []) e = absurd (omega arith)
 two-inner (p ∷ q ∷ ps) e = omega arith
 
 inner-of : (r : Record) (ps : List Pattern) → isComposed (r .kind) ≡ true → (isHalved (r .kind) ≡ true → length ps ≡ 2) → inner (patternOf r ps) ≤ sum (map (λ p. suc (inner p)) ps)
-inner-of r ps c two =
-    omega (arith, inner-most (patternOf r ps), on-composed r ps (λ q. innerInside q ≤ sum (map (λ p. suc (inner p)) ps)) c (λ h. omega (arith, each-inner ps)) (λ h. two-inner ps (two h)))
+unfolding inner
+inner-of r ps c two = on-composed r ps (λ q. inner q ≤ sum (map (λ p. suc (inner p)) ps)) c (λ h. omega (arith, each-inner ps)) (λ h. two-inner ps (two h))
 
 inner-leaf : (r : Record) (ps : List Pattern) → isPattern (r .kind) ≡ true → isComposed (r .kind) ≡ false → inner (patternOf r ps) ≡ 0
 unfolding inner

@@ -31,9 +31,7 @@ use Rattle.forming.specs.Adding.{adding}
 use Rattle.forming.specs.Laws.Adding.{adding-none, adding-more, adding-longer, adding-sorted}
 use Rattle.parts.specs.Word.{unpacked}
 use Rattle.forming.specs.Rows.{RowsAre, Entered}
-use Rattle.forming.specs.Codes.{codePattern}
 use Rattle.forming.specs.Pending.{AgendaIs}
-use Rattle.forming.proofs.Coding.{record-pattern}
 use Rattle.forming.specs.Stack.{Solvable, Solved}
 use Rattle.bindings.specs.Forming.{Values, Bindable, TellsWide, OneHeld, OneFormed, AllHeld, AllFormed, TellsRows, RowsFormed}
 use Rattle.bindings.proofs.Room.{inner-few}
@@ -66,8 +64,8 @@ module _ (table index : List ℕ) (p : ℕ) (s : List ℕ) (at : ℕ) (a rows or
       some = omega arith;
       below = omega arith;
       falls = omega (arith, seed-third);
-      held = inl (inl (subst (Readable table index) (sym seed-first) (h .readable)));
-      pattern = sym (record-pattern table index p (h .readable)) ∙ ap (codePattern table) (sym seed-first);
+      readable = subst (Readable table index) (sym seed-first) (h .readable);
+      pattern = ap (patternAt (records table)) (sym seed-first);
       here = subst (λ (c : ℕ). PartIs s (unpacked c) v) (sym seed-second) (inl (omega arith, subst (λ (c : ℕ). At s c v) (omega (arith, at-low)) i));
       narrow = w;
     },

@@ -6,10 +6,11 @@ use Prim.Native.Nat.{ℕ, suc, _+_, _*_, _^_, _≤_, _<_}
 use native.Mathlib.Omega.{arith}
 use lib.ListN.{getD}
 use Rattle.prelude.proofs.Absurd.{true-false}
+use Rattle.tables.specs.Accepted.{records}
 use Rattle.patterns.specs.Members.{Alike}
 use Rattle.patterns.specs.Binding.{Binding}
 use Rattle.patterns.specs.Pattern.{Pattern, wide}
-use Rattle.forming.specs.Codes.{codePattern}
+use Rattle.patterns.specs.Read.{patternAt}
 use Rattle.matching.proofs.Naming.{stands-fine}
 use Rattle.forming.specs.declared.Step.{Step}
 use Rattle.forming.specs.declared.taking.Left.{Left}
@@ -85,12 +86,12 @@ module _ (table index s a : List ℕ) (head top : ℕ) (found frames : List ℕ)
       module _ (m : 0 < r .wait) where
         pub open-asked : Waiting table index s a (r .wait) (r .head) top g frames depth hit rows order n target
         open-asked =
-            let (t, e, p, c, w) = one-waits table index s a top (r .wait) (left .waits) (left .waits-are) m in
-            let same : left .waits ++ left .tasks ≡ task (codePattern table (getD a (3 * r .wait) 0)) (t .value) ∷ left .tasks =
+            let (t, e, p, c) = one-waits table index s a top (r .wait) (left .waits) (left .waits-are) m in
+            let same : left .waits ++ left .tasks ≡ task (patternAt (records table) (getD a (3 * r .wait) 0)) (t .value) ∷ left .tasks =
             ap (λ (ws : List Task). ws ++ left .tasks) e ∙ ap (λ (z : Pattern). task z (t .value) ∷ left .tasks) (p .pattern) in
-            let room : spaces (task (codePattern table (getD a (3 * r .wait) 0)) (t .value) ∷ left .tasks) ≤ spaces (h .tasks) = subst (λ (ws : List Task). spaces ws ≤ spaces (h .tasks)) same (left .room) in
+            let room : spaces (task (patternAt (records table) (getD a (3 * r .wait) 0)) (t .value) ∷ left .tasks) ≤ spaces (h .tasks) = subst (λ (ws : List Task). spaces ws ≤ spaces (h .tasks)) same (left .room) in
             record {
-              code = record { held = p .held; composed = c; solid = w };
+              composed = record { readable = p .readable; composed = c };
               below = p .below;
               value = t .value;
               here = p .here;
@@ -101,7 +102,7 @@ module _ (table index s a : List ℕ) (head top : ℕ) (found frames : List ℕ)
               low = h .low;
               binding = left .binding;
               stands = left .stands;
-              stacked = stacked-with top (omega arith) (onward (task (codePattern table (getD a (3 * r .wait) 0)) (t .value) ∷ left .tasks) (left .binding))
+              stacked = stacked-with top (omega arith) (onward (task (patternAt (records table) (getD a (3 * r .wait) 0)) (t .value) ∷ left .tasks) (left .binding))
                   (subst (λ (vs : List Task). Alike (onward (h .tasks) (h .binding)) (onward vs (left .binding))) same (left .alike));
             }
 

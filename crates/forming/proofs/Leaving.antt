@@ -2,7 +2,7 @@
 use mathlib.Core.Path.{_≡_, refl, sym, ap, subst, _∙_}
 use mathlib.Core.Bool.{Bool, true, false}
 use mathlib.Core.List.{List, [], _∷_, _++_}
-use Prim.Native.Nat.{ℕ, _+_, _*_, _%_, _≤_, _<_}
+use Prim.Native.Nat.{ℕ, _+_, _*_, _≤_, _<_}
 use native.Mathlib.Omega.{arith}
 use lib.ListN.{length, getD}
 use Rattle.prelude.specs.Membership.{In}
@@ -18,15 +18,14 @@ use Rattle.patterns.specs.Binding.{Binding, names, merge, withEach, together}
 use Rattle.patterns.specs.Pattern.{Pattern, matches}
 use Rattle.patterns.specs.Laws.Matched.{in-together, together-in, joined-merge, merge-joined, matched, match-sized}
 use Rattle.patterns.specs.Laws.Together.{together-assoc}
+use Rattle.patterns.specs.Read.{Readable}
 use Rattle.forming.specs.Frames.{entries}
-use Rattle.forming.specs.Codes.{codePattern, CodeHeld, LeafCode, TellsParts}
-use Rattle.forming.specs.Wild.{isWild}
-use Rattle.forming.proofs.Coding.{code-small}
-use Rattle.matching.specs.Leaf.{Stands, Standing, Grown}
+use Rattle.matching.specs.Leaf.{Stands, Standing, Grown, LeafTold}
+use Rattle.matching.specs.Node.{LeafHeld}
 use Rattle.matching.proofs.Naming.{grown-same, grown-then}
 use Rattle.forming.specs.Onward.{Task, task, matchesAll, onward}
 use Rattle.forming.specs.Laws.Onward.{onward-went, onward-none, together-alike}
-use Rattle.forming.specs.Pending.{Pending, AgendaIs, spaces, CodeTold, WaitsAre, LeftOf, TakeHeld, Taken}
+use Rattle.forming.specs.Pending.{Pending, AgendaIs, spaces, WaitsAre, LeftOf, TakeHeld, Taken}
 use Rattle.forming.proofs.Joining.{joined-swap}
 use Rattle.forming.proofs.Reducing.{with-alike}
 use Rattle.forming.proofs.Solving.{some-task, agenda-low}
@@ -98,9 +97,9 @@ none-waits table index s a top wait [] h l = refl
 none-waits table index s a top wait (t ∷ []) h l = absurd (omega (arith, h .0 .some))
 none-waits table index s a top wait (t ∷ u ∷ ws) h l = absurd h
 
-pub one-waits : (table index s a : List ℕ) (top wait : ℕ) (ws : List Task) → WaitsAre table index s a top wait ws → 0 < wait → (t : Task) × (ws ≡ t ∷ []) × Pending table index s a top wait t × (isComposed (kindAt (records table) (getD a (3 * wait) 0 % 256)) ≡ true) × (isWild (codePattern table (getD a (3 * wait) 0)) ≡ false)
+pub one-waits : (table index s a : List ℕ) (top wait : ℕ) (ws : List Task) → WaitsAre table index s a top wait ws → 0 < wait → (t : Task) × (ws ≡ t ∷ []) × Pending table index s a top wait t × (isComposed (kindAt (records table) (getD a (3 * wait) 0)) ≡ true)
 one-waits table index s a top wait [] h l = absurd (omega (arith, h))
-one-waits table index s a top wait (t ∷ []) h l = (t, refl, h .0, h .1, h .2)
+one-waits table index s a top wait (t ∷ []) h l = (t, refl, h .0, h .1)
 one-waits table index s a top wait (t ∷ u ∷ ws) h l = absurd h
 
 spaces-less : (ws us : List Task) (t : Task) → spaces (ws ++ us) ≤ spaces (ws ++ t ∷ us)
@@ -141,22 +140,22 @@ module _ (table index s a : List ℕ) (head₀ : ℕ) (f : List ℕ) (h : TakeHe
       abbrev N : ℕ
       N = getD a (3 * head + 2) 0
 
-      pub entry-held : CodeHeld table index Q
-      entry-held = let (t, us, e, p, k) = some-task table index s a (h .top) head (now .tasks) (now .are) l in p .held
+      pub entry-readable : Readable table index Q
+      entry-readable = let (t, us, e, p, k) = some-task table index s a (h .top) head (now .tasks) (now .are) l in p .readable
 
-      pub entry-low : Q < 4294967296
-      entry-low = code-small table index Q entry-held
+      pub entry-low : Q < 256
+      entry-low = omega (arith, entry-readable .here .within, entry-readable .fine .few)
 
       pub next-lower : N < head
       next-lower = let (t, us, e, p, k) = some-task table index s a (h .top) head (now .tasks) (now .are) l in p .falls
 
-      pub leaf-asked : (r : Bool) → TellsParts table index Q r → r ≡ false → LeafCode table index Q × (PartHeld s (unpacked W) × Standing s g)
-      leaf-asked r c f =
+      pub leaf-asked : isComposed (kindAt (records table) Q) ≡ false → LeafHeld table index Q × (PartHeld s (unpacked W) × Standing s g)
+      leaf-asked c =
           let (t, us, e, p, k) = some-task table index s a (h .top) head (now .tasks) (now .are) l in
-          (c .leaf f, (record { value = t .value; here = p .here }, (now .binding, now .stands)))
+          (record { readable = p .readable; leaf = c }, (record { value = t .value; here = p .here }, (now .binding, now .stands)))
 
       -- a pattern with parts waits
-      pub take-wait : (isComposed (kindAt (records table) (Q % 256)) ≡ true) × (isWild (codePattern table Q) ≡ false) → wait ≤ 0 → TakeSoFar table index s a head₀ f N head g
+      pub take-wait : isComposed (kindAt (records table) Q) ≡ true → wait ≤ 0 → TakeSoFar table index s a head₀ f N head g
       take-wait c o = record {
         falls = omega (arith, next-lower, w .falls);
         before = λ m. omega (arith, next-lower, w .falls);
@@ -169,7 +168,7 @@ module _ (table index s a : List ℕ) (head₀ : ℕ) (f : List ℕ) (h : TakeHe
               waits = t ∷ [];
               tasks = us;
               binding = r .binding;
-              waits-are = (p, c .0, c .1);
+              waits-are = (p, c);
               are = m;
               stands = r .stands;
               alike = subst (λ (vs : List Task). Alike (onward ts b) (onward vs (r .binding))) q (r .alike);
@@ -177,7 +176,7 @@ module _ (table index s a : List ℕ) (head₀ : ℕ) (f : List ℕ) (h : TakeHe
             };
       }
 
-      module _ (g′ : List ℕ) (fits : Bool) (o : CodeTold table Q s W g g′ fits) (gr : Grown g g′) where
+      module _ (g′ : List ℕ) (fits : Bool) (o : LeafTold table Q s W g g′ fits) (gr : Grown g g′) where
         -- a leaf that agrees
         pub take-leaf : fits ≡ true → TakeSoFar table index s a head₀ f N wait g′
         take-leaf fit = record {

@@ -1,4 +1,4 @@
--- What the proofs of the functions need. Coding is cited by bindings.
+-- What the proofs of the functions need.
 mod Framing
 mod Ranking
 mod Rowing
@@ -6,24 +6,8 @@ mod Pushing
 mod Solving
 mod Settling
 mod Reducing
-mod Lowering
 mod Sizing
 mod Joining
-mod Grouping
-mod Permuting
-mod Counting
-mod Stripping
-mod Sorting
-mod Ordering
-mod Spacing
-mod Surveying
-mod Sparing
-mod Keeping
-mod Classing
-mod Placing
-mod Tallying
-pub mod Coding
-mod Fitting
 mod Skipping
 mod Choosing
 mod Leaving

@@ -3,14 +3,16 @@ use mathlib.Core.Path.{_≡_, refl, sym, ap, subst, _∙_}
 use mathlib.Core.Bool.{Bool, true, false, _||_}
 use mathlib.Core.Logic.{inl, inr}
 use mathlib.Core.List.{List, [], _∷_, _++_}
-use Prim.Native.Nat.{ℕ, zero, suc, _+_, _*_, _%_, _≤_, _<_}
+use Prim.Native.Nat.{ℕ, zero, suc, _+_, _*_, _≤_, _<_}
 use native.Mathlib.Numerals.{add-one}
 use native.Mathlib.Omega.{arith}
 use lib.ListN.{length, getD, set, drop, drop-of-length-le, length-set}
 use lib.Seq.{drop-cons, getD-set-same, getD-set-other}
 use Rattle.prelude.proofs.Absurd.{impossible}
+use Rattle.prelude.proofs.Lists.{map-at}
 use Rattle.prelude.proofs.Truth.{or-false-left, or-false-right}
 use Rattle.values.specs.Value.{Value, boolean}
+use Rattle.tables.specs.Record.{named as operandsOf, operand}
 use Rattle.tables.specs.Table.{recordAt, kindAt}
 use Rattle.tables.specs.Accepted.{records}
 use Rattle.parts.specs.declared.Part.{Part}
@@ -19,16 +21,15 @@ use Rattle.parts.proofs.Laws.{part-one}
 use Rattle.patterns.specs.Ways.{exists}
 use Rattle.patterns.specs.Binding.{is}
 use Rattle.patterns.specs.Pattern.{Pattern, any, wide, wideEach}
-use Rattle.patterns.specs.Read.{patternsOf}
-use Rattle.patterns.specs.Nodes.{meetings, isLarge}
-use Rattle.matching.specs.Node.{PieceHeld, PieceOf}
-use Rattle.matching.proofs.Records.{meeting-length}
+use Rattle.patterns.specs.Read.{Readable, patternsOf, patternAt}
+use Rattle.patterns.specs.Nodes.{meetings, isLarge, isHalved}
+use Rattle.matching.specs.Node.{PieceHeld, PieceOf, innerOf, waysOf, metBy}
+use Rattle.matching.proofs.Records.{by-record, inner-length, count-few, count-two, operand-readable, meeting-length}
 use Rattle.splitting.proofs.Composed.{wide-composed}
 use Rattle.parts.specs.Word.{unpacked, CellHeld, WordOf}
 use Rattle.forming.specs.Frames.{KeptBelow}
 use Rattle.forming.specs.Onward.{Task, task, zipped}
-use Rattle.forming.specs.Codes.{codePattern, codeInner, countOf, codeWays, codeMet, CodeHeld, Composed, CodePartHeld, PartCode}
-use Rattle.forming.proofs.Coding.{by-code, parts-few, parts-two}
+use Rattle.forming.specs.Inner.{Composed, countOf}
 use Rattle.forming.specs.Pending.{Pending, AgendaIs, Pushable, Pushed}
 
 -- ---- the agenda is kept where nothing below its top changed
@@ -43,8 +44,8 @@ agenda-kept table index s a b top high head (t ∷ ts) l k (p, h) =
         some = p .some;
         below = omega (arith, p .below);
         falls = omega (arith, p .falls, e2);
-        held = subst (CodeHeld table index) (sym e0) (p .held);
-        pattern = p .pattern ∙ ap (codePattern table) (sym e0);
+        readable = subst (Readable table index) (sym e0) (p .readable);
+        pattern = p .pattern ∙ ap (patternAt (records table)) (sym e0);
         here = subst (λ (n : ℕ). PartIs s (unpacked n) (t .value)) (sym e1) (p .here);
         narrow = p .narrow;
       },
@@ -102,20 +103,27 @@ each-at (p ∷ ps) (v ∷ vs) zero q z e l m = or-false-left (wide p v) (wideEac
 each-at (p ∷ ps) (v ∷ vs) (suc i) q z e l m = each-at ps vs i q z (or-false-right (wide p v) (wideEach (patternsOf ps) vs) e) (omega arith) (omega arith)
 
 module _ (table index : List ℕ) (p : ℕ) (r : Composed table index p) where
-  pub wide-by : (v : Value) → wide (codePattern table p) v ≡ isLarge (kindAt (records table) (p % 256)) v || exists (codeWays table p v) (λ vs. wideEach (patternsOf (codeInner table p)) vs)
+  two : isHalved (kindAt (records table) p) ≡ true → countOf table p ≡ 2
+  two e = count-two table index p (r .readable) (r .composed) e
+
+  pub inner-two : isHalved (kindAt (records table) p) ≡ true → length (innerOf table p) ≡ 2
+  inner-two e = inner-length table index p (r .readable) ∙ two e
+
+  pub wide-by : (v : Value) → wide (patternAt (records table) p) v ≡ isLarge (kindAt (records table) p) v || exists (waysOf table p v) (λ vs. wideEach (patternsOf (innerOf table p)) vs)
   wide-by v =
-      ap (λ (x : Pattern). wide x v) (by-code table index p r)
-      ∙ wide-composed (recordAt (records table) (p % 256)) (codeInner table p) (r .composed) (parts-two table index p r) v
+      ap (λ (x : Pattern). wide x v) (by-record table index p (r .readable))
+      ∙ wide-composed (recordAt (records table) p) (innerOf table p) (r .composed) inner-two v
+      ∙ ap (λ (n : ℕ). isLarge (kindAt (records table) p) v || exists (meetings (kindAt (records table) p) n v) (λ vs. wideEach (patternsOf (innerOf table p)) vs)) (inner-length table index p (r .readable))
 
-  module _ (v : Value) (d : ℕ) (l : d < length (codeWays table p v)) where
-    pub met-long : length (codeMet table p v d) ≡ countOf table p
-    met-long = meeting-length (kindAt (records table) (p % 256)) (countOf table p) v d (parts-two table index p r) l
+  module _ (v : Value) (d : ℕ) (l : d < length (waysOf table p v)) where
+    pub met-long : length (metBy table p v d) ≡ countOf table p
+    met-long = meeting-length (kindAt (records table) p) (countOf table p) v d two l
 
-    narrow-part : wide (codePattern table p) v ≡ false → (i : ℕ) → i < countOf table p → wide (getD (codeInner table p) i any) (getD (codeMet table p v d) i (boolean true)) ≡ false
+    narrow-part : wide (patternAt (records table) p) v ≡ false → (i : ℕ) → i < countOf table p → wide (getD (innerOf table p) i any) (getD (metBy table p v d) i (boolean true)) ≡ false
     narrow-part w i k =
-        each-at (codeInner table p) (codeMet table p v d) i any (boolean true)
-        (exists-at (codeWays table p v) (λ vs. wideEach (patternsOf (codeInner table p)) vs) d [] (or-false-right (isLarge (kindAt (records table) (p % 256)) v) (exists (codeWays table p v) (λ vs. wideEach (patternsOf (codeInner table p)) vs)) (sym (wide-by v) ∙ w)) l)
-        k (omega (arith, met-long))
+        each-at (innerOf table p) (metBy table p v d) i any (boolean true)
+        (exists-at (waysOf table p v) (λ vs. wideEach (patternsOf (innerOf table p)) vs) d [] (or-false-right (isLarge (kindAt (records table) p) v) (exists (waysOf table p v) (λ vs. wideEach (patternsOf (innerOf table p)) vs)) (sym (wide-by v) ∙ w)) l)
+        (omega (arith, inner-length table index p (r .readable))) (omega (arith, met-long))
 
 -- ---- one after the other, the last first
 
@@ -127,10 +135,10 @@ pub record PushSoFar (table index : List ℕ) (p : ℕ) (s : List ℕ) (word : �
   pub first : i ≡ countOf table p → head ≡ next
   pub kept : KeptBelow a b (3 * top)
   pub long : length b ≡ length a
-  pub right : (v : Value) (ts : List Task) → PartIs s (unpacked word) v → wide (codePattern table p) v ≡ false → AgendaIs table index s a top next ts
-      → AgendaIs table index s b to head (zipped (drop i (codeInner table p)) (drop i (codeMet table p v d)) ++ ts)
+  pub right : (v : Value) (ts : List Task) → PartIs s (unpacked word) v → wide (patternAt (records table) p) v ≡ false → AgendaIs table index s a top next ts
+      → AgendaIs table index s b to head (zipped (drop i (innerOf table p)) (drop i (metBy table p v d)) ++ ts)
 
-module _ (table index : List ℕ) (p : ℕ) (s : List ℕ) (word : ℕ) (d : ℕ) (a : List ℕ) (next top : ℕ) (rest : ℕ) (h : Pushable table index p rest s word d a next top) where
+module _ (table index : List ℕ) (p : ℕ) (s : List ℕ) (word : ℕ) (d : ℕ) (a : List ℕ) (next top : ℕ) (h : Pushable table index p s word d a next top) where
   pub push-start : (n : ℕ) → n ≡ countOf table p → PushSoFar table index p s word d a next top a next n top
   unfolding zipped
   push-start n e = record {
@@ -141,18 +149,15 @@ module _ (table index : List ℕ) (p : ℕ) (s : List ℕ) (word : ℕ) (d : ℕ
     kept = λ j k. refl;
     long = refl;
     right = λ v ts q w g.
-        let z : drop n (codeInner table p) ≡ [] = drop-of-length-le (codeInner table p) {i = n} (omega arith) in
-        subst (λ (ps : List Pattern). AgendaIs table index s a top next (zipped ps (drop n (codeMet table p v d)) ++ ts)) (sym z) g;
+        let z : drop n (innerOf table p) ≡ [] = drop-of-length-le (innerOf table p) {i = n} (omega (arith, inner-length table index p (h .composed .readable))) in
+        subst (λ (ps : List Pattern). AgendaIs table index s a top next (zipped ps (drop n (metBy table p v d)) ++ ts)) (sym z) g;
   }
 
-  pub part-asked : (i : ℕ) → i < countOf table p → CodePartHeld table index p rest i
-  part-asked i l = record { code = h .code; below = l; rest-is = h .rest-is }
-
-  pub piece-asked : (i kind n : ℕ) (part : Part) → part ≡ unpacked word → i < countOf table p → kind ≡ kindAt (records table) (p % 256) → n ≡ countOf table p → PieceHeld kind n s part d i
+  pub piece-asked : (i kind n : ℕ) (part : Part) → part ≡ unpacked word → i < countOf table p → kind ≡ kindAt (records table) p → n ≡ countOf table p → PieceHeld kind n s part d i
   piece-asked i kind n part pe l x y = rw (x, y, pe) (record {
-    composed = h .code .composed;
-    few = parts-few table index p (h .code);
-    two = parts-two table index p (h .code);
+    composed = h .composed .composed;
+    few = count-few table index p (h .composed .readable) (h .composed .composed);
+    two = two table index p (h .composed);
     value = h .value;
     here = h .here;
     narrow = h .narrow;
@@ -162,18 +167,18 @@ module _ (table index : List ℕ) (p : ℕ) (s : List ℕ) (word : ℕ) (d : ℕ
   })
 
   pub few : countOf table p ≤ 4
-  few = parts-few table index p (h .code)
+  few = count-few table index p (h .composed .readable) (h .composed .composed)
 
-  module _ (i kind n : ℕ) (l : i < countOf table p) (x : kind ≡ kindAt (records table) (p % 256)) (y : n ≡ countOf table p) (part : Part) (pe : part ≡ unpacked word) (part′ : Part) (o : PieceOf kind n s part d i part′) where
-    piece-is : (v : Value) → PartIs s (unpacked word) v → PartIs s part′ (getD (codeMet table p v d) i (boolean true))
+  module _ (i kind n : ℕ) (l : i < countOf table p) (x : kind ≡ kindAt (records table) p) (y : n ≡ countOf table p) (part : Part) (pe : part ≡ unpacked word) (part′ : Part) (o : PieceOf kind n s part d i part′) where
+    piece-is : (v : Value) → PartIs s (unpacked word) v → PartIs s part′ (getD (metBy table p v d) i (boolean true))
     piece-is v q =
         subst (λ (c : ℕ). PartIs s part′ (getD (getD (meetings c (countOf table p) v) d []) i (boolean true))) x
         (subst (λ (k : ℕ). PartIs s part′ (getD (getD (meetings kind k v) d []) i (boolean true))) y (o v (boolean true) (subst (λ (k : Part). PartIs s k v) (sym pe) q)))
 
     pub piece-held : CellHeld s part′
-    piece-held = (is (getD (codeMet table p (h .value) d) i (boolean true)), inr (getD (codeMet table p (h .value) d) i (boolean true), refl, piece-is (h .value) (h .here)))
+    piece-held = (is (getD (metBy table p (h .value) d) i (boolean true)), inr (getD (metBy table p (h .value) d) i (boolean true), refl, piece-is (h .value) (h .here)))
 
-    module _ (q : ℕ) (b : PartCode table index p i q) (cell : ℕ) (pk : WordOf s part′ cell) (now : List ℕ) (head suci to : ℕ) (si : suci ≡ i + 1)
+    module _ (q : ℕ) (b : q ≡ operand (recordAt (records table) p) i) (cell : ℕ) (pk : WordOf s part′ cell) (now : List ℕ) (head suci to : ℕ) (si : suci ≡ i + 1)
         (w : PushSoFar table index p s word d a next top now head suci to) where
       pub push-more : PushSoFar table index p s word d a next top (set (set (set now (3 * to) q) (3 * to + 1) cell) (3 * to + 2) head) to i (to + 1)
       unfolding zipped
@@ -193,29 +198,29 @@ module _ (table index : List ℕ) (p : ℕ) (s : List ℕ) (word : ℕ) (d : ℕ
           put : EntryPut now (set (set (set now (3 * to) q) (3 * to + 1) cell) (3 * to + 2) head) (3 * to) q cell head
           put = entry-put now (3 * to) q cell head (omega (arith, w .long, w .ends, h .long, h .room))
 
-          go : (v : Value) (ts : List Task) → PartIs s (unpacked word) v → wide (codePattern table p) v ≡ false → AgendaIs table index s a top next ts
-              → AgendaIs table index s (set (set (set now (3 * to) q) (3 * to + 1) cell) (3 * to + 2) head) (to + 1) to (zipped (drop i (codeInner table p)) (drop i (codeMet table p v d)) ++ ts)
+          go : (v : Value) (ts : List Task) → PartIs s (unpacked word) v → wide (patternAt (records table) p) v ≡ false → AgendaIs table index s a top next ts
+              → AgendaIs table index s (set (set (set now (3 * to) q) (3 * to + 1) cell) (3 * to + 2) head) (to + 1) to (zipped (drop i (innerOf table p)) (drop i (metBy table p v d)) ++ ts)
           go v ts z u g =
-              let below : d < length (codeWays table p v) = subst (λ (e : Value). d < length (codeWays table p e)) (sym (part-one z (h .here))) (h .below) in
-              let long = met-long table index p (h .code) v d below in
-              let it : getD (codeInner table p) i any ≡ codePattern table q = sym (b .pattern) in
-              let pats : drop i (codeInner table p) ≡ getD (codeInner table p) i any ∷ drop suci (codeInner table p) =
-              drop-cons (codeInner table p) i any l ∙ ap (λ (j : ℕ). getD (codeInner table p) i any ∷ drop j (codeInner table p)) (sym (add-one i) ∙ sym si) in
-              let vals : drop i (codeMet table p v d) ≡ getD (codeMet table p v d) i (boolean true) ∷ drop suci (codeMet table p v d) =
-              drop-cons (codeMet table p v d) i (boolean true) (omega (arith, long)) ∙ ap (λ (j : ℕ). getD (codeMet table p v d) i (boolean true) ∷ drop j (codeMet table p v d)) (sym (add-one i) ∙ sym si) in
-              let rest = agenda-kept table index s now (set (set (set now (3 * to) q) (3 * to + 1) cell) (3 * to + 2) head) to (to + 1) head (zipped (drop suci (codeInner table p)) (drop suci (codeMet table p v d)) ++ ts) (omega arith) (put .kept) (w .right v ts z u g) in
-              let first : Pending table index s (set (set (set now (3 * to) q) (3 * to + 1) cell) (3 * to + 2) head) (to + 1) to (task (getD (codeInner table p) i any) (getD (codeMet table p v d) i (boolean true))) = record {
+              let below : d < length (waysOf table p v) = subst (λ (e : Value). d < length (waysOf table p e)) (sym (part-one z (h .here))) (h .below) in
+              let long = met-long table index p (h .composed) v d below in
+              let it : getD (innerOf table p) i any ≡ patternAt (records table) q = map-at (patternAt (records table)) (operandsOf (recordAt (records table) p)) i 0 any l ∙ ap (patternAt (records table)) (sym b) in
+              let pats : drop i (innerOf table p) ≡ getD (innerOf table p) i any ∷ drop suci (innerOf table p) =
+              drop-cons (innerOf table p) i any (omega (arith, inner-length table index p (h .composed .readable))) ∙ ap (λ (j : ℕ). getD (innerOf table p) i any ∷ drop j (innerOf table p)) (sym (add-one i) ∙ sym si) in
+              let vals : drop i (metBy table p v d) ≡ getD (metBy table p v d) i (boolean true) ∷ drop suci (metBy table p v d) =
+              drop-cons (metBy table p v d) i (boolean true) (omega (arith, long)) ∙ ap (λ (j : ℕ). getD (metBy table p v d) i (boolean true) ∷ drop j (metBy table p v d)) (sym (add-one i) ∙ sym si) in
+              let rest = agenda-kept table index s now (set (set (set now (3 * to) q) (3 * to + 1) cell) (3 * to + 2) head) to (to + 1) head (zipped (drop suci (innerOf table p)) (drop suci (metBy table p v d)) ++ ts) (omega arith) (put .kept) (w .right v ts z u g) in
+              let first : Pending table index s (set (set (set now (3 * to) q) (3 * to + 1) cell) (3 * to + 2) head) (to + 1) to (task (getD (innerOf table p) i any) (getD (metBy table p v d) i (boolean true))) = record {
                 some = omega (arith, w .low);
                 below = omega arith;
                 falls = omega (arith, put .third, w .low);
-                held = subst (CodeHeld table index) (sym (put .first)) (b .held);
-                pattern = it ∙ ap (codePattern table) (sym (put .first));
-                here = subst (λ (e : ℕ). PartIs s (unpacked e) (getD (codeMet table p v d) i (boolean true))) (sym (put .second)) (packed-part s part′ cell (getD (codeMet table p v d) i (boolean true)) pk (piece-is v z));
-                narrow = narrow-part table index p (h .code) v d below u i l;
+                readable = subst (Readable table index) (sym (put .first)) (operand-readable table index p (h .composed .readable) i l q b .0);
+                pattern = it ∙ ap (patternAt (records table)) (sym (put .first));
+                here = subst (λ (e : ℕ). PartIs s (unpacked e) (getD (metBy table p v d) i (boolean true))) (sym (put .second)) (packed-part s part′ cell (getD (metBy table p v d) i (boolean true)) pk (piece-is v z));
+                narrow = narrow-part table index p (h .composed) v d below u i l;
               } in
-              subst (λ (ps : List Pattern). AgendaIs table index s (set (set (set now (3 * to) q) (3 * to + 1) cell) (3 * to + 2) head) (to + 1) to (zipped ps (drop i (codeMet table p v d)) ++ ts)) (sym pats)
-              (subst (λ (vs : List Value). AgendaIs table index s (set (set (set now (3 * to) q) (3 * to + 1) cell) (3 * to + 2) head) (to + 1) to (zipped (getD (codeInner table p) i any ∷ drop suci (codeInner table p)) vs ++ ts)) (sym vals)
-              (first, subst (λ (e : ℕ). AgendaIs table index s (set (set (set now (3 * to) q) (3 * to + 1) cell) (3 * to + 2) head) (to + 1) e (zipped (drop suci (codeInner table p)) (drop suci (codeMet table p v d)) ++ ts)) (sym (put .third)) rest))
+              subst (λ (ps : List Pattern). AgendaIs table index s (set (set (set now (3 * to) q) (3 * to + 1) cell) (3 * to + 2) head) (to + 1) to (zipped ps (drop i (metBy table p v d)) ++ ts)) (sym pats)
+              (subst (λ (vs : List Value). AgendaIs table index s (set (set (set now (3 * to) q) (3 * to + 1) cell) (3 * to + 2) head) (to + 1) to (zipped (getD (innerOf table p) i any ∷ drop suci (innerOf table p)) vs ++ ts)) (sym vals)
+              (first, subst (λ (e : ℕ). AgendaIs table index s (set (set (set now (3 * to) q) (3 * to + 1) cell) (3 * to + 2) head) (to + 1) e (zipped (drop suci (innerOf table p)) (drop suci (metBy table p v d)) ++ ts)) (sym (put .third)) rest))
 
   pub push-end : (now : List ℕ) (head i to : ℕ) → i ≤ 0 → PushSoFar table index p s word d a next top now head i to → Pushed table index p s word d a next top now head
   push-end now head i to l w = record {
@@ -225,6 +230,6 @@ module _ (table index : List ℕ) (p : ℕ) (s : List ℕ) (word : ℕ) (d : ℕ
     long = w .long;
     right = λ v ts q u g.
         let e : i ≡ 0 = omega arith in
-        agenda-kept table index s now now to (top + countOf table p) head (zipped (codeInner table p) (codeMet table p v d) ++ ts) (omega (arith, w .ends)) (λ j k. refl)
-        (subst (λ (j : ℕ). AgendaIs table index s now to head (zipped (drop j (codeInner table p)) (drop j (codeMet table p v d)) ++ ts)) e (w .right v ts q u g));
+        agenda-kept table index s now now to (top + countOf table p) head (zipped (innerOf table p) (metBy table p v d) ++ ts) (omega (arith, w .ends)) (λ j k. refl)
+        (subst (λ (j : ℕ). AgendaIs table index s now to head (zipped (drop j (innerOf table p)) (drop j (metBy table p v d)) ++ ts)) e (w .right v ts q u g));
   }

@@ -3,7 +3,7 @@ use mathlib.Core.Path.{_≡_, refl, sym, ap, subst, _∙_}
 use mathlib.Core.Bool.{true}
 use mathlib.Core.Logic.{_⊎_, inl, inr, ⊎-elim}
 use mathlib.Core.List.{List, [], _∷_, _++_}
-use Prim.Native.Nat.{ℕ, suc, _+_, _*_, _%_, _^_, _≤_, _<_}
+use Prim.Native.Nat.{ℕ, zero, suc, _+_, _*_, _^_, _≤_, _<_}
 use native.Mathlib.Numerals.{add-one}
 use native.Mathlib.Omega.{arith}
 use lib.ListN.{length, getD, drop, drop-of-length-le}
@@ -19,9 +19,9 @@ use Rattle.patterns.specs.Laws.Members.{in-gather, gather-in}
 use Rattle.patterns.specs.Laws.Ordered.{Rising, sorted-rising}
 use Rattle.patterns.specs.Laws.Together.{append-nil, append-assoc}
 use Rattle.matching.specs.Leaf.{Stands, Grown}
-use Rattle.forming.specs.Codes.{codeInner, countOf, codeWays, codeMet, CodeHalves}
-use Rattle.forming.proofs.Coding.{code-small}
+use Rattle.matching.specs.Node.{innerOf, waysOf, metBy}
 use Rattle.matching.proofs.Naming.{grown-same}
+use Rattle.forming.specs.Inner.{countOf}
 use Rattle.forming.specs.declared.frames.Frame.{Frame}
 use Rattle.forming.specs.Adding.{adding}
 use Rattle.forming.specs.Laws.Adding.{adding-append, adding-there}
@@ -30,22 +30,26 @@ use Rattle.forming.specs.Onward.{Task, onward, zipped, oneWay}
 use Rattle.forming.specs.Pending.{AgendaIs, Pushable, Pushed}
 use Rattle.forming.specs.Rows.{RowsAre}
 use Rattle.forming.specs.Settled.{TellsSettled}
-use Rattle.forming.specs.Sizes.{FromHeld, From}
+use Rattle.forming.specs.Sizes.{TellsSizes, FromHeld, From}
 use Rattle.forming.specs.Whole.{WordMet, SameValue}
 use Rattle.forming.specs.Stack.{Level, LevelIs, StackIs, dues, Accounted, Stacked, Descending, Solvable}
 use Rattle.forming.proofs.Accounting.{accounted-with}
-use Rattle.forming.proofs.Grouping.{in-drop}
 use Rattle.forming.proofs.Ranking.{back-less}
 use Rattle.forming.proofs.Skipping.{from-asked, passed-over}
 use Rattle.forming.proofs.Solving.{agenda-low, falls-on, several-parts, count-room, parts-room, same-way, enough}
 use Rattle.forming.proofs.Stacking.{level-kept, stack-kept}
+
+in-drop : {A : Type 0} (n : ℕ) (xs : List A) (x : A) → In x (drop n xs) → In x xs
+in-drop zero xs x i = i
+in-drop (suc n) [] x i = i
+in-drop (suc n) (y ∷ xs) x i = inr (in-drop n xs x i)
 
 -- The last level, i, with its frame, and those below.
 pub record Last (table index s a found frames : List ℕ) (hit : ℕ) (rows order : List ℕ) (n : ℕ) (target : List Binding) (i : ℕ) (f : Frame) : Type 0 where
   pub short : length s ≤ 65536
   pub long : length a ≡ agendaWords
   pub sized : length found ≡ 16
-  pub frames-long : length frames ≡ 2100
+  pub frames-long : length frames ≡ 1400
   pub level : Level
   pub others : List Level
   pub count : length others ≡ i
@@ -92,7 +96,7 @@ module _ (table index s a found frames : List ℕ) (hit : ℕ) (rows order : Lis
   L = h .level
 
   abbrev way : List Value → List Binding
-  way = oneWay (codeInner table (f .p)) (h .level .tasks) (h .level .binding)
+  way = oneWay (innerOf table (f .p)) (h .level .tasks) (h .level .binding)
 
   pub last-few : i < 100
   last-few = omega (arith, h .is .high, h .is .room)
@@ -101,7 +105,7 @@ module _ (table index s a found frames : List ℕ) (hit : ℕ) (rows order : Lis
   top-low = omega (arith, h .is .room)
 
   pub top-room : f .top + countOf table (f .p) ≤ entries
-  top-room = count-room table index (f .p) (h .is .code) (f .top) (L .tasks) (h .is .room)
+  top-room = count-room table index (f .p) (h .is .composed) (f .top) (L .tasks) (h .is .room)
 
   -- ---- it is only a test, and has a match
 
@@ -128,24 +132,25 @@ module _ (table index s a found frames : List ℕ) (hit : ℕ) (rows order : Lis
       there c j =
           let (x, xi) = h .hit-some l in
           let (vs, vi, xv, all) = h .is .done x xi in
-          let (us, ui, k) = in-gather c (drop (f .way) (codeWays table (f .p) (L .value))) way (subst (In c) (h .is .due) j) in
-          h .done-in c (all c (enough table index (f .p) (h .is .code) s (L .words) (L .binding) (h .is .stands) (subst (TellsSettled table (f .p % 256) (L .words)) o (h .is .settled)) (L .value) (L .tasks) vs vi x xv c
-          (gather-in us c (codeWays table (f .p) (L .value)) way (in-drop (f .way) (codeWays table (f .p) (L .value)) us ui) k)))
+          let (us, ui, k) = in-gather c (drop (f .way) (waysOf table (f .p) (L .value))) way (subst (In c) (h .is .due) j) in
+          h .done-in c (all c (enough table index (f .p) (h .is .composed) s (L .words) (L .binding) (h .is .stands) (subst (TellsSettled table (f .p) (L .words)) o (h .is .settled)) (L .value) (L .tasks) vs vi x xv c
+          (gather-in us c (waysOf table (f .p) (L .value)) way (in-drop (f .way) (waysOf table (f .p) (L .value)) us ui) k)))
 
   -- ---- its next way
 
-  module _ (k : ℕ) (ek : k ≡ kindAt (records table) (f .p % 256)) where
-    sizes-told : f .sizes .bound ≡ true → CodeHalves table (f .p) k (f .sizes)
-    sizes-told b = subst (λ (c : ℕ). CodeHalves table (f .p) c (f .sizes)) (sym ek) (h .is .sizes b)
+  module _ (k : ℕ) (ek : k ≡ kindAt (records table) (f .p)) where
+    sizes-told : TellsSizes table (f .p) k (f .sizes)
+    sizes-told = subst (λ (c : ℕ). TellsSizes table (f .p) c (f .sizes)) (sym ek) (h .is .sizes)
 
     pub next-asked : FromHeld k (f .ways) (f .sizes)
-    next-asked = from-asked table index (f .p) (h .is .code) k ek (f .sizes) sizes-told (L .value) (f .ways) (h .is .ways) (omega (arith, h .is .within))
+    next-asked = from-asked table index (f .p) (h .is .composed .readable) k ek (f .sizes) sizes-told (L .value) (f .ways) (h .is .ways) (omega (arith, h .is .within))
 
     pub word-met : (word : ℕ) → word ≡ getD a (3 * f .at + 1) 0 → WordMet s k word (f .ways)
     word-met word e = record {
       short = h .short;
       value = L .value;
       here = rw e (h .is .here);
+      narrow = rw ek (h .is .fits);
       count = countOf table (f .p);
       met = rw ek (h .is .ways);
       some = omega (arith, h .is .within);
@@ -156,14 +161,10 @@ module _ (table index s a found frames : List ℕ) (hit : ℕ) (rows order : Lis
     next-low = agenda-low table index s a (f .top) (f .next) (L .tasks) (omega (arith, h .is .low)) (h .is .are)
 
     module _ (e : ℕ) (fr : From k (f .ways) (f .way + 1) (f .sizes) e) where
-      e-low : e ≤ f .ways
-      e-low = fr .within (omega (arith, h .is .within))
-
       module _ (word : ℕ) (we : SameValue s (getD a (3 * f .at + 1) 0) word) where
-        pub push-asked : Pushable table index (f .p) (f .rest) s word (f .way) a (f .next) (f .top)
+        pub push-asked : Pushable table index (f .p) s word (f .way) a (f .next) (f .top)
         push-asked = record {
-          code = h .is .code;
-          rest-is = h .is .rest-is;
+          composed = h .is .composed;
           short = h .short;
           value = L .value;
           here = we (L .value) (h .is .here);
@@ -186,28 +187,28 @@ module _ (table index s a found frames : List ℕ) (hit : ℕ) (rows order : Lis
           words-again = cl (L .words) (h .is .mask) (h .is .stands .sized) (h .grown)
 
           now : List Task
-          now = zipped (codeInner table (f .p)) (codeMet table (f .p) (h .level .value) (f .way)) ++ h .level .tasks
+          now = zipped (innerOf table (f .p)) (metBy table (f .p) (h .level .value) (f .way)) ++ h .level .tasks
 
           more : List Binding
-          more = onward (zipped (codeInner table (f .p)) (codeMet table (f .p) (h .level .value) (f .way)) ++ h .level .tasks) (h .level .binding)
+          more = onward (zipped (innerOf table (f .p)) (metBy table (f .p) (h .level .value) (f .way)) ++ h .level .tasks) (h .level .binding)
 
           due′ : List Binding
-          due′ = gather (drop e (codeWays table (f .p) (h .level .value))) way
+          due′ = gather (drop e (waysOf table (f .p) (h .level .value))) way
 
-          inside : f .way < length (codeWays table (f .p) (h .level .value))
+          inside : f .way < length (waysOf table (f .p) (h .level .value))
           inside = omega (arith, h .is .within, h .is .ways)
 
-          this-way : way (codeMet table (f .p) (h .level .value) (f .way)) ≡ more
+          this-way : way (metBy table (f .p) (h .level .value) (f .way)) ≡ more
           unfolding more
-          this-way = same-way table index (f .p) (h .is .code) (L .value) (L .tasks) (L .binding) (f .way) inside
+          this-way = same-way table index (f .p) (h .is .composed) (L .value) (L .tasks) (L .binding) (f .way) inside
 
           due-is : h .level .due ≡ more ++ due′
           unfolding gather due′
           due-is =
               h .is .due
-              ∙ ap (λ (ws : List (List Value)). gather ws way) (drop-cons (codeWays table (f .p) (L .value)) (f .way) [] inside ∙ ap (λ (j : ℕ). codeMet table (f .p) (L .value) (f .way) ∷ drop j (codeWays table (f .p) (L .value))) (sym (add-one (f .way))))
-              ∙ ap (λ (xs : List Binding). xs ++ gather (drop (f .way + 1) (codeWays table (f .p) (L .value))) way) this-way
-              ∙ ap (λ (xs : List Binding). more ++ xs) (sym (passed-over table index (f .p) (h .is .code) k ek (f .sizes) sizes-told (L .value) (f .ways) (h .is .ways) (L .tasks) (L .binding) (f .way + 1) e (omega (arith, h .is .within)) fr))
+              ∙ ap (λ (ws : List (List Value)). gather ws way) (drop-cons (waysOf table (f .p) (L .value)) (f .way) [] inside ∙ ap (λ (j : ℕ). metBy table (f .p) (L .value) (f .way) ∷ drop j (waysOf table (f .p) (L .value))) (sym (add-one (f .way))))
+              ∙ ap (λ (xs : List Binding). xs ++ gather (drop (f .way + 1) (waysOf table (f .p) (L .value))) way) this-way
+              ∙ ap (λ (xs : List Binding). more ++ xs) (sym (passed-over table index (f .p) (h .is .composed .readable) k ek (f .sizes) sizes-told (L .value) (f .ways) (h .is .ways) (L .tasks) (L .binding) (f .way + 1) e (omega (arith, h .is .within)) fr))
 
           others-kept : (high : ℕ) → f .top ≤ high → StackIs table index s b frames′ high (h .level .words) (h .others)
           others-kept high u = stack-kept table index s a b frames frames′ (f .top) high (L .words) (L .words) (h .others) (pushed .kept) u (grown-same (L .words)) (h .frames-long) (ad .long) (λ j m. ad .kept j (omega (arith, h .count))) (h .below)
@@ -220,9 +221,7 @@ module _ (table index s a found frames : List ℕ) (hit : ℕ) (rows order : Lis
           level-on l =
               let x = level-kept table index s a b i f L (pushed .kept) (h .is) in
               record {
-                code = x .code;
-                rest-is = x .rest-is;
-                rest-low = x .rest-low;
+                composed = x .composed;
                 low = x .low;
                 here = x .here;
                 narrow = x .narrow;
@@ -242,9 +241,9 @@ module _ (table index s a found frames : List ℕ) (hit : ℕ) (rows order : Lis
                 done = λ o j. go o (in-joined o (L .done) more j);
               }
             where
-              go : (o : Binding) → In o (h .level .done) ⊎ In o more → (vs : List Value) × In vs (codeWays table (f .p) (h .level .value)) × In o (way vs) × ((d : Binding) → In d (way vs) → In d (h .level .done ++ more))
+              go : (o : Binding) → In o (h .level .done) ⊎ In o more → (vs : List Value) × In vs (waysOf table (f .p) (h .level .value)) × In o (way vs) × ((d : Binding) → In d (way vs) → In d (h .level .done ++ more))
               go o (inl j) = let (vs, vi, ov, all) = h .is .done o j in (vs, vi, ov, λ d m. in-left d (L .done) more (all d m))
-              go o (inr j) = (codeMet table (f .p) (L .value) (f .way), at-in (codeWays table (f .p) (L .value)) (f .way) [] inside, subst (In o) (sym this-way) j, λ d m. in-right d (L .done) more (subst (In d) this-way m))
+              go o (inr j) = (metBy table (f .p) (L .value) (f .way), at-in (waysOf table (f .p) (L .value)) (f .way) [] inside, subst (In o) (sym this-way) j, λ d m. in-right d (L .done) more (subst (In d) this-way m))
 
           abbrev Now : ℕ → List ℕ → Type 0
           Now d words = Stacked table index s b (f .top + c) words frames′ d hit′ rows order n more target
@@ -277,7 +276,7 @@ module _ (table index s a found frames : List ℕ) (hit : ℕ) (rows order : Lis
           leaves-off : left ≡ i → f .ways ≤ e → Now left (h .level .words)
           unfolding due′ gather
           leaves-off le l =
-              let none : drop e (codeWays table (f .p) (L .value)) ≡ [] = drop-of-length-le (codeWays table (f .p) (L .value)) {i = e} (omega (arith, h .is .ways)) in
+              let none : drop e (waysOf table (f .p) (L .value)) ≡ [] = drop-of-length-le (waysOf table (f .p) (L .value)) {i = e} (omega (arith, h .is .ways)) in
               let all : L .due ≡ more = due-is ∙ ap (λ (ws : List (List Value)). more ++ gather ws way) none ∙ append-nil more in
               record {
                 short = h .short;
@@ -296,7 +295,7 @@ module _ (table index s a found frames : List ℕ) (hit : ℕ) (rows order : Lis
               }
 
           low-enough : (((left ≡ suc i) × (e < f .ways) × (frameAt frames′ i ≡ onto f e)) ⊎ ((left ≡ i) × (f .ways ≤ e))) → 2 * left + 2 ≤ f .top + c
-          low-enough (inl (x, y, z)) = omega (arith, h .is .high, ec, fr .low, several-parts table index (f .p) (h .is .code) (L .value) (omega (arith, fr .low, h .is .ways)))
+          low-enough (inl (x, y, z)) = omega (arith, h .is .high, ec, fr .low, several-parts table index (f .p) (h .is .composed) (L .value) (omega (arith, fr .low, h .is .ways)))
           low-enough (inr (x, y)) = omega (arith, h .is .high)
 
           pub going-down : Descending table index s b head (f .top + c) found′ frames′ left hit′ rows order n target
@@ -304,7 +303,7 @@ module _ (table index s a found frames : List ℕ) (hit : ℕ) (rows order : Lis
           going-down = record {
             tasks = now;
             are = subst (λ (m : ℕ). AgendaIs table index s b (f .top + m) head now) (sym ec) (pushed .right (L .value) (L .tasks) (we (L .value) (h .is .here)) (h .is .narrow) (h .is .are));
-            room = omega (arith, ec, parts-room table index (f .p) (h .is .code) (f .top) (L .tasks) (h .is .room) (codeMet table (f .p) (L .value) (f .way)));
+            room = omega (arith, ec, parts-room table index (f .p) (h .is .composed) (f .top) (L .tasks) (h .is .room) (metBy table (f .p) (L .value) (f .way)));
             low = low-enough (ad .how);
             binding = L .binding;
             stands = subst (λ (ws : List ℕ). Stands s ws (L .binding)) (sym words-again) (h .is .stands);
@@ -313,7 +312,7 @@ module _ (table index s a found frames : List ℕ) (hit : ℕ) (rows order : Lis
 
 -- ---- the first step, and the end
 
-pub starting : (table index s a : List ℕ) (head top : ℕ) (m rows order : List ℕ) (n : ℕ) (h : Solvable table index s a head top m rows order n) (frames : List ℕ) → length frames ≡ 2100
+pub starting : (table index s a : List ℕ) (head top : ℕ) (m rows order : List ℕ) (n : ℕ) (h : Solvable table index s a head top m rows order n) (frames : List ℕ) → length frames ≡ 1400
     → Descending table index s a head top m frames 0 0 rows order n (adding (onward (h .tasks) (h .binding)) (h .bindings))
 starting table index s a head top m rows order n h frames e = record {
   tasks = h .tasks;

@@ -16,9 +16,9 @@ use Rattle.tables.specs.Table.{recordAt, kindAt}
 use Rattle.tables.specs.Accepted.{records}
 use Rattle.parts.proofs.Choosing.{split-left, split-right}
 use Rattle.parts.specs.Chosen.{splitAt}
-use Rattle.parts.specs.Laws.Chosen.{splits-length, cuts-length, nth-split, nth-cut}
-use Rattle.patterns.specs.Units.{Shared}
-use Rattle.patterns.specs.Ways.{Halves, halves, splits}
+use Rattle.parts.specs.Laws.Chosen.{proper-length, cuts-length, nth-proper, nth-cut}
+use Rattle.patterns.specs.Laws.Units.{shared-length}
+use Rattle.patterns.specs.Ways.{Halves, halves}
 use Rattle.patterns.specs.Pattern.{Pattern, each, halved, divisions}
 use Rattle.patterns.specs.Relation.{Divided, Matches}
 use Rattle.prelude.proofs.Absurd.{true-false}
@@ -30,8 +30,7 @@ use Rattle.matching.proofs.Records.{by-record, inner-length}
 use Rattle.forming.specs.declared.sizes.Size.{Size}
 use Rattle.forming.specs.declared.sizes.Sizes.{Sizes}
 use Rattle.forming.specs.declared.sizes.Range.{Range}
-use Rattle.forming.specs.Reduced.{enumerationOf, Splits}
-use Rattle.forming.specs.Sizes.{Sized, Takes, TellsSize, Sum, TellsSizes, Rights, FirstOf, SplitFrom, CutFrom, Divisible, halfAt, From}
+use Rattle.forming.specs.Sizes.{Splits, enumerationOf, fewestOf, Sized, Takes, TellsSize, Sum, TellsSizes, Rights, FirstOf, SplitFrom, CutFrom, Divisible, halfAt, From}
 use Rattle.forming.proofs.Reducing.{items-same, is-two}
 
 -- ---- two sizes together
@@ -51,41 +50,41 @@ sum-is l r x e o f = record {
 
 -- ---- what a pattern takes
 
-pub shared-length : {A : Type 0} (xs ls rs : List A) → Shared xs ls rs → length xs ≡ length ls + length rs
-shared-length [] ls rs h = rw (h .0, h .1) refl
-shared-length (x ∷ xs) ls rs (inl (ms, e, h)) = let l = shared-length xs ms rs h in rw e (omega (arith, l))
-shared-length (x ∷ xs) ls rs (inr (ms, e, h)) = let l = shared-length xs ls ms h in rw e (omega (arith, l))
-
 divided-length : (k : Kind) (vs ls rs : List Value) → Divided k vs ls rs → length vs ≡ length ls + length rs
-divided-length set vs ls rs h = shared-length vs ls rs h
+divided-length set vs ls rs h = shared-length vs ls rs (h .0)
 divided-length sequence vs ls rs h = ap length h ∙ length-append ls rs
 divided-length mapping vs ls rs h = absurd h
 divided-length tuple vs ls rs h = absurd h
 
-takes-each : (k : Kind) (ps : List Pattern) (n : ℕ) → n ≡ length ps → Takes k (each k (patternsOf ps)) (record { least = n; more = false })
+divided-fewest : (c : ℕ) → Splits c → (vs ls rs : List Value) → Divided (collectionOf c) vs ls rs → (fewestOf c ≤ length ls) × (fewestOf c ≤ length rs)
+divided-fewest c (inl e) vs ls rs = rw e (λ (s, l, r). (l, r))
+divided-fewest c (inr e) vs ls rs = rw e (λ h. (omega arith, omega arith))
+
+takes-each : (k : Kind) (i : ℕ) (ps : List Pattern) (n : ℕ) → n ≡ length ps → Takes k i (each k (patternsOf ps)) (record { least = n; more = false })
 unfolding Matches
-takes-each k ps n e vs b (us, ws, d, c, a, m) =
+takes-each k i ps n e vs b low (us, ws, d, c, a, m) =
     let l : n ≡ length vs = e ∙ sym (parts-length ps) ∙ c ∙ ap length (sym (items-same k vs us d)) in
     record { least = omega (arith, l); exact = λ t. sym l }
 
-takes-halved : (k : Kind) (l r : Pattern) (x y z : Size) → Takes k l x → Takes k r y → Sum x y z → Takes k (halved k l r) z
+takes-halved : (k : Kind) (i : ℕ) → ((vs ls rs : List Value) → Divided k vs ls rs → (i ≤ length ls) × (i ≤ length rs)) → (l r : Pattern) (x y z : Size) → Takes k i l x → Takes k i r y → Sum x y z → Takes k i (halved k l r) z
 unfolding Matches
-takes-halved k l r x y z a b s vs c (us, ls, rs, e, f, d, g, m, n, j) =
+takes-halved k i held l r x y z a b s vs c low (us, ls, rs, e, f, d, g, m, n, j) =
     let q : length ls + length rs ≡ length vs = sym (divided-length k us ls rs g) ∙ ap length (sym (items-same k vs us d)) in
-    subst (Sized z) q (s .right (length ls) (length rs) (a ls e m) (b rs f n))
+    let (t, u) = held us ls rs g in
+    subst (Sized z) q (s .right (length ls) (length rs) (a ls e t m) (b rs f u n))
 
 each-by : (r : Record) (ps : List Pattern) (c : ℕ) → r .kind ≡ enumerationOf c → Splits c → patternOf r ps ≡ each (collectionOf c) (patternsOf ps)
 each-by r ps c e (inl f) = let d : r .kind ≡ 37 = e ∙ ap enumerationOf f in rw (d, f) refl
 each-by r ps c e (inr f) = let d : r .kind ≡ 39 = e ∙ ap enumerationOf f in rw (d, f) refl
 
-pub size-any : (table : List ℕ) (p c : ℕ) → TellsSize table p c (record { least = 0; more = true })
-size-any table p c vs b m = record { least = omega arith; exact = λ e. true-false e }
+pub size-any : (table : List ℕ) (p c n : ℕ) → n ≡ fewestOf c → TellsSize table p c (record { least = n; more = true })
+size-any table p c n e vs b low m = record { least = omega (arith, e, low); exact = λ e. true-false e }
 
 module _ (table index : List ℕ) (p : ℕ) (h : Readable table index p) (c : ℕ) (u : Splits c) where
   pub size-each : kindAt (records table) p ≡ enumerationOf c → (n : ℕ) → n ≡ length (operandsOf (recordAt (records table) p)) → TellsSize table p c (record { least = n; more = false })
   size-each e n l =
-      subst (λ (q : Pattern). Takes (collectionOf c) q (record { least = n; more = false })) (sym (by-record table index p h ∙ each-by (recordAt (records table) p) (innerOf table p) c e u))
-      (takes-each (collectionOf c) (innerOf table p) n (l ∙ sym (inner-length table index p h)))
+      subst (λ (q : Pattern). Takes (collectionOf c) (fewestOf c) q (record { least = n; more = false })) (sym (by-record table index p h ∙ each-by (recordAt (records table) p) (innerOf table p) c e u))
+      (takes-each (collectionOf c) (fewestOf c) (innerOf table p) n (l ∙ sym (inner-length table index p h)))
 
   module _ (e : kindAt (records table) p ≡ c) (l : ℕ) (el : l ≡ operand (recordAt (records table) p) 0) (r : ℕ) (er : r ≡ operand (recordAt (records table) p) 1) (x y : Size) (tx : TellsSize table l c x) (ty : TellsSize table r c y) where
     left-takes : TellsSize table (operand (recordAt (records table) p) 0) c x
@@ -96,8 +95,8 @@ module _ (table index : List ℕ) (p : ℕ) (h : Readable table index p) (c : �
 
     pub size-halved : (z : Size) → Sum x y z → TellsSize table p c z
     size-halved z s =
-        subst (λ (q : Pattern). Takes (collectionOf c) q z) (sym (is-two table index p h c e u))
-        (takes-halved (collectionOf c) (patternAt (records table) (operand (recordAt (records table) p) 0)) (patternAt (records table) (operand (recordAt (records table) p) 1)) x y z left-takes right-takes s)
+        subst (λ (q : Pattern). Takes (collectionOf c) (fewestOf c) q z) (sym (is-two table index p h c e u))
+        (takes-halved (collectionOf c) (fewestOf c) (divided-fewest c u) (patternAt (records table) (operand (recordAt (records table) p) 0)) (patternAt (records table) (operand (recordAt (records table) p) 1)) x y z left-takes right-takes s)
 
     pub sizes-told : (z : Sizes) → (z .left ≡ x) × (z .right ≡ y) → TellsSizes table p c z
     sizes-told z (a, b) e =
@@ -200,22 +199,36 @@ split-counts (x ∷ xs) d l = go (λ e k. split-counts xs e k) (suc d - 2 ^ leng
 -- ---- ways whose halves have no such sizes
 
 module _ (c w : ℕ) (h : Divisible c w) where
+  proper-ways : c ≡ 38 → (vs : List Value) → length (divisions (collectionOf c) vs) ≡ w → w ≡ 2 ^ length vs - 2
+  proper-ways q vs f = sym f ∙ ap (λ (m : ℕ). length (divisions (collectionOf m) vs)) q ∙ proper-length vs
+
+  -- there are always two more splits
+  pub even-ways : c ≡ 38 → w % 2 ≡ 0
+  even-ways q = go (h .values) (proper-ways q (h .values) (h .ways))
+    where
+      go : (vs : List Value) → w ≡ 2 ^ length vs - 2 → w % 2 ≡ 0
+      go [] e = omega (arith, e)
+      go (x ∷ xs) e = omega (arith, e, pow-suc 2 (length xs))
+
   module _ (z : Sizes) (b : z .bound ≡ true) (d : ℕ) (l : d < w) (r : Range) (e : ℕ) where
-    pub from-splits : c ≡ 38 → Rights z (ones (w - 1)) r → SplitFrom w d r e → From c w d z e
-    from-splits q u k = record {
-      low = k .low;
-      within = k .within;
-      barren = λ j m n. (
-        b,
-        λ vs f x y.
-            let p : w ≡ 2 ^ length vs = sym f ∙ ap (λ (m : ℕ). length (divisions (collectionOf m) vs)) q ∙ splits-length vs in
-            let s : halfAt c vs j ≡ splitAt vs j = ap (λ (m : ℕ). halfAt m vs j) q ∙ nth-split vs j (halves [] []) (omega (arith, k .within (omega arith), p)) in
-            let (o, t) = split-counts vs j (omega (arith, k .within (omega arith), p)) in
-            let a : ones (w - 1) ≡ length vs = ap (λ (m : ℕ). ones (m - 1)) p ∙ ones-ones (length vs) in
-            let i = u .right (length (splitAt vs j .left)) (length (splitAt vs j .right)) (t ∙ sym a) (subst (Sized (z .left)) (ap (λ (x : Halves Value). length (x .left)) s) x) (subst (Sized (z .right)) (ap (λ (x : Halves Value). length (x .right)) s) y) in
-            k .passed j m n (omega (arith, i .0, o)) (omega (arith, i .1, o)),
-      );
-    }
+    -- way j is the split j + 1
+    pub from-splits : c ≡ 38 → Rights z (ones (w + 1)) r → SplitFrom (w + 1) (d + 1) r e → From c w d z (e - 1)
+    from-splits q u k =
+        let under : e ≤ w + 1 = k .within (omega arith) in record {
+          low = omega (arith, k .low);
+          within = λ i. omega arith;
+          barren = λ j m n. (
+            b,
+            λ vs f x y.
+                let p = proper-ways q vs f in
+                let s : halfAt c vs j ≡ splitAt vs (suc j) = ap (λ (m : ℕ). halfAt m vs j) q ∙ nth-proper vs j (halves [] []) (omega arith) in
+                let (o, t) = split-counts vs (suc j) (omega arith) in
+                let last : w + 1 ≡ 2 ^ length vs - 1 = omega arith in
+                let a : ones (w + 1) ≡ length vs = ap ones last ∙ ones-ones (length vs) in
+                let i = u .right (length (splitAt vs (suc j) .left)) (length (splitAt vs (suc j) .right)) (t ∙ sym a) (subst (Sized (z .left)) (ap (λ (x : Halves Value). length (x .left)) s) x) (subst (Sized (z .right)) (ap (λ (x : Halves Value). length (x .right)) s) y) in
+                k .passed (suc j) (omega arith) (omega arith) (omega (arith, i .0, o)) (omega (arith, i .1, o)),
+          );
+        }
 
     is-cut : (c ≡ 38 → ⊥) → c ≡ 40
     is-cut f = go (h .splits)

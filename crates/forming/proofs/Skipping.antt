@@ -1,33 +1,35 @@
 -- Ways that are passed over: their halves have other sizes than the patterns take, and so no match.
 use mathlib.Core.Path.{_≡_, refl, sym, ap, _∙_}
-use mathlib.Core.Bool.{true}
 use mathlib.Core.Logic.{inl, inr}
 use mathlib.Core.Option.{Option, none as absent, some}
 use mathlib.Core.List.{List, [], _∷_, _++_, map}
-use Prim.Native.Nat.{ℕ, zero, suc, _+_, _-_, _%_, _≤_, _<_}
+use Prim.Native.Nat.{ℕ, zero, suc, _+_, _-_, _≤_, _<_}
 use native.Mathlib.Omega.{arith}
 use lib.ListN.{length, getD, drop, length-map}
 use lib.Seq.{drop-cons}
 use Rattle.prelude.specs.Membership.{In}
+use Rattle.prelude.proofs.Membership.{at-in}
 use Rattle.values.specs.Value.{Kind, Value}
-use Rattle.tables.specs.Table.{kindAt}
+use Rattle.tables.specs.Record.{named as operandsOf, operand}
+use Rattle.tables.specs.Table.{recordAt, kindAt}
 use Rattle.tables.specs.Accepted.{records}
-use Rattle.patterns.specs.Ways.{halves, gather}
+use Rattle.patterns.specs.Ways.{halves, properSplits, gather}
+use Rattle.patterns.specs.Laws.Units.{in-proper}
 use Rattle.patterns.specs.Binding.{Binding, withEach, together}
 use Rattle.patterns.specs.Pattern.{Pattern, any, contents, divisions, split, leftOf, rightOf, matches, matchEach}
 use Rattle.patterns.specs.Laws.Matched.{in-together, matched}
 use Rattle.patterns.specs.Laws.Together.{with-none}
-use Rattle.patterns.specs.Nodes.{collectionOf, bothHalves, meetings, isHalved}
+use Rattle.patterns.specs.Nodes.{collectionOf, bothHalves, meetings}
 use Rattle.patterns.specs.Laws.Nodes.{two-of}
-use Rattle.patterns.specs.Read.{patternsOf}
+use Rattle.patterns.specs.Read.{Readable, patternsOf, patternAt}
+use Rattle.matching.specs.Node.{innerOf, waysOf, metBy}
+use Rattle.matching.proofs.Records.{inner-length}
 use Rattle.forming.specs.declared.sizes.Sizes.{Sizes}
 use Rattle.forming.specs.Onward.{Task, matchesAll, oneWay}
-use Rattle.forming.specs.Reduced.{Splits}
-use Rattle.forming.specs.Sizes.{halfAt, Barren, FromHeld, From}
+use Rattle.forming.specs.Inner.{countOf}
+use Rattle.forming.specs.Sizes.{Splits, fewestOf, HalvesTake, TellsSizes, halfAt, Barren, FromHeld, From}
 use Rattle.prelude.proofs.Lists.{map-at}
-use Rattle.forming.specs.Codes.{codeInner, countOf, codeWays, codeMet, Composed, CodeHalves}
-use Rattle.forming.proofs.Reducing.{is-halved}
-use Rattle.forming.proofs.Coding.{parts-two}
+use Rattle.forming.proofs.Reducing.{two-halves}
 
 -- ---- lists
 
@@ -60,59 +62,67 @@ no-way ps ts b vs e = ap (λ (l : List Binding). withEach b (together l (matches
 
 -- ---- the ways of a pattern with two halves
 
+half-fewest : (c : ℕ) → Splits c → (vs : List Value) (j : ℕ) → j < length (divisions (collectionOf c) vs) → (fewestOf c ≤ length (halfAt c vs j .left)) × (fewestOf c ≤ length (halfAt c vs j .right))
+half-fewest c (inl e) vs j = rw e (λ l. let (s, a, b) = in-proper vs (halfAt 38 vs j) .0 (at-in (properSplits vs) j (halves [] []) l) in (a, b))
+half-fewest c (inr e) vs j = rw e (λ l. (omega arith, omega arith))
+
 pub meetings-two : (c n : ℕ) (v : Value) → Splits c → meetings c n v ≡ map (bothHalves (collectionOf c)) (split (collectionOf c) (contents (collectionOf c) v))
 meetings-two c n v (inl e) = rw e refl
 meetings-two c n v (inr e) = rw e refl
 
-module _ (table index : List ℕ) (p : ℕ) (h : Composed table index p) (c : ℕ) (ec : c ≡ kindAt (records table) (p % 256)) (u : Splits c) where
+module _ (table index : List ℕ) (p : ℕ) (h : Readable table index p) (c : ℕ) (ec : c ≡ kindAt (records table) p) (u : Splits c) where
   abbrev K : Kind
   K = collectionOf c
 
   abbrev half : ℕ → Pattern
-  half i = getD (codeInner table p) i any
+  half i = patternAt (records table) (operand (recordAt (records table) p) i)
 
-  inner-two : codeInner table p ≡ half 0 ∷ half 1 ∷ []
+  inner-two : innerOf table p ≡ half 0 ∷ half 1 ∷ []
   inner-two =
-      sym (two-of (codeInner table p) (parts-two table index p h (ap isHalved (sym ec) ∙ is-halved c u)))
+      let two = two-halves table index p h c (sym ec) u in
+      sym (two-of (innerOf table p) (inner-length table index p h ∙ two))
+      ∙ ap (λ (x : Pattern). x ∷ getD (innerOf table p) 1 any ∷ []) (map-at (patternAt (records table)) (operandsOf (recordAt (records table) p)) 0 0 any (omega (arith, two)))
+      ∙ ap (λ (x : Pattern). half 0 ∷ x ∷ []) (map-at (patternAt (records table)) (operandsOf (recordAt (records table) p)) 1 0 any (omega (arith, two)))
 
-  ways-two : (v : Value) → codeWays table p v ≡ map (bothHalves K) (split K (contents K v))
+  ways-two : (v : Value) → waysOf table p v ≡ map (bothHalves K) (split K (contents K v))
   ways-two v = ap (λ (k : ℕ). meetings k (countOf table p) v) (sym ec) ∙ meetings-two c (countOf table p) v u
 
   -- there are some, so the value is a collection of the kind
-  some-ways : (v : Value) (w : ℕ) → length (codeWays table p v) ≡ w → 0 < w → (vs : List Value) × (codeWays table p v ≡ map (bothHalves K) (divisions K vs)) × (length (divisions K vs) ≡ w)
+  some-ways : (v : Value) (w : ℕ) → length (waysOf table p v) ≡ w → 0 < w → (vs : List Value) × (waysOf table p v ≡ map (bothHalves K) (divisions K vs)) × (length (divisions K vs) ≡ w)
   some-ways v w e l = go (contents K v) (ways-two v)
     where
-      go : (o : Option (List Value)) → codeWays table p v ≡ map (bothHalves K) (split K o) → (vs : List Value) × (codeWays table p v ≡ map (bothHalves K) (divisions K vs)) × (length (divisions K vs) ≡ w)
+      go : (o : Option (List Value)) → waysOf table p v ≡ map (bothHalves K) (split K o) → (vs : List Value) × (waysOf table p v ≡ map (bothHalves K) (divisions K vs)) × (length (divisions K vs) ≡ w)
       go absent q = absurd (omega (arith, e, ap length q))
       go (some vs) q = (vs, q, sym (length-map (divisions K vs) (bothHalves K)) ∙ ap length (sym q) ∙ e)
 
   -- a way whose halves have other sizes has no match
-  barren-way : (z : Sizes) → CodeHalves table p c z → (w j : ℕ) → j < w → Barren c w z j → (v : Value) → length (codeWays table p v) ≡ w → (ts : List Task) (st : Binding) → oneWay (codeInner table p) ts st (codeMet table p v j) ≡ []
+  barren-way : (z : Sizes) → HalvesTake table p c z → (w j : ℕ) → j < w → Barren c w z j → (v : Value) → length (waysOf table p v) ≡ w → (ts : List Task) (st : Binding) → oneWay (innerOf table p) ts st (metBy table p v j) ≡ []
   barren-way z t w j l n v e ts st =
       let (vs, q, d) = some-ways v w e (omega arith) in
-      let at : codeMet table p v j ≡ bothHalves K (halfAt c vs j) = ap (λ (ws : List (List Value)). getD ws j []) q ∙ map-at (bothHalves K) (divisions K vs) j (halves [] []) [] (omega (arith, d)) in
-      ap (λ (x : List Value). oneWay (codeInner table p) ts st x) at
+      let at : metBy table p v j ≡ bothHalves K (halfAt c vs j) = ap (λ (ws : List (List Value)). getD ws j []) q ∙ map-at (bothHalves K) (divisions K vs) j (halves [] []) [] (omega (arith, d)) in
+      let (x, y) = half-fewest c u vs j (omega (arith, d)) in
+      ap (λ (x : List Value). oneWay (innerOf table p) ts st x) at
       ∙ ap (λ (ps : List Pattern). oneWay ps ts st (bothHalves K (halfAt c vs j))) inner-two
       ∙ no-way (half 0 ∷ half 1 ∷ []) ts st (bothHalves K (halfAt c vs j))
       (no-pair (half 0) (half 1) (leftOf K (halfAt c vs j)) (rightOf K (halfAt c vs j)) (λ a b m o.
       n vs d
-      (t .left (halfAt c vs j .left) a (matched (half 0) (leftOf K (halfAt c vs j)) a m))
-      (t .right (halfAt c vs j .right) b (matched (half 1) (rightOf K (halfAt c vs j)) b o))))
+      (t .left (halfAt c vs j .left) a x (matched (half 0) (leftOf K (halfAt c vs j)) a m))
+      (t .right (halfAt c vs j .right) b y (matched (half 1) (rightOf K (halfAt c vs j)) b o))))
 
 -- ---- ways that are passed over
 
-module _ (table index : List ℕ) (p : ℕ) (r : Composed table index p) (c : ℕ) (ec : c ≡ kindAt (records table) (p % 256)) (z : Sizes) (t : z .bound ≡ true → CodeHalves table p c z) (v : Value) (w : ℕ) (n : length (codeWays table p v) ≡ w) where
+module _ (table index : List ℕ) (p : ℕ) (r : Readable table index p) (c : ℕ) (ec : c ≡ kindAt (records table) p) (z : Sizes) (t : TellsSizes table p c z) (v : Value) (w : ℕ) (n : length (waysOf table p v) ≡ w) where
   pub from-asked : 0 < w → FromHeld c w z
   from-asked l b =
       let k = t b in
       let (vs, q, d) = some-ways table index p r c ec (k .splits) v w n l in
       record { splits = k .splits; values = vs; ways = d }
 
-  pub passed-over : (ts : List Task) (st : Binding) (d e : ℕ) → d ≤ w → From c w d z e → gather (drop e (codeWays table p v)) (oneWay (codeInner table p) ts st) ≡ gather (drop d (codeWays table p v)) (oneWay (codeInner table p) ts st)
+  pub passed-over : (ts : List Task) (st : Binding) (d e : ℕ) → d ≤ w → From c w d z e → gather (drop e (waysOf table p v)) (oneWay (innerOf table p) ts st) ≡ gather (drop d (waysOf table p v)) (oneWay (innerOf table p) ts st)
   passed-over ts st d e l k =
       let x : d + (e - d) ≡ e = omega (arith, k .low) in
       let y : e ≤ w = k .within l in
-      ap (λ (j : ℕ). gather (drop j (codeWays table p v)) (oneWay (codeInner table p) ts st)) (sym x)
-      ∙ gather-skip (codeWays table p v) [] (oneWay (codeInner table p) ts st) (e - d) d (omega (arith, n, x, y)) (λ j u o.
+      ap (λ (j : ℕ). gather (drop j (waysOf table p v)) (oneWay (innerOf table p) ts st)) (sym x)
+      ∙ gather-skip (waysOf table p v) [] (oneWay (innerOf table p) ts st) (e - d) d (omega (arith, n, x, y)) (λ j u o.
       let (bound, none) = k .barren j u (omega (arith, x)) in
       barren-way table index p r c ec (t bound .splits) z (t bound) w j (omega (arith, x, y)) none v n ts st)

@@ -3,15 +3,16 @@ use mathlib.Core.Path.{_≡_, refl, sym, ap, subst, _∙_}
 use mathlib.Core.Bool.{Bool, true, false, cond}
 use mathlib.Core.Option.{Option, none as absent, some}
 use mathlib.Core.List.{List, [], _∷_, _++_, map}
-use Prim.Native.Nat.{ℕ, zero, suc, _+_, _*_, _%_, _≤_, _<_}
+use Prim.Native.Nat.{ℕ, zero, suc, _+_, _*_, _≤_, _<_}
 use native.Mathlib.Omega.{arith}
 use lib.Dec.{eqb}
 use lib.ListN.{length, getD}
 use borrow.Author.Tests.{eqb-true}
 use Rattle.prelude.specs.Membership.{In}
+use Rattle.prelude.proofs.Lists.{map-at}
 use Rattle.prelude.proofs.Membership.{in-at}
 use Rattle.values.specs.Value.{Kind, set, sequence, map as mapping, tuple, Value}
-use Rattle.tables.specs.Record.{Record, isComposed}
+use Rattle.tables.specs.Record.{Record, isComposed, named as operandsOf}
 use Rattle.tables.specs.Table.{recordAt, kindAt}
 use Rattle.tables.specs.Accepted.{records}
 use Rattle.parts.specs.declared.Part.{Part}
@@ -20,24 +21,20 @@ use Rattle.parts.specs.Word.{unpacked}
 use Rattle.patterns.specs.Ways.{gather, orders, atEveryPlace}
 use Rattle.patterns.specs.Binding.{Binding}
 use Rattle.patterns.specs.Pattern.{Pattern, any, contents, arrangements, met, split}
-use Rattle.patterns.specs.Read.{patternsOf, patternOf}
-use Rattle.forming.specs.Codes.{codePattern, codeInner, countOf, codeWays, codeMet, Composed}
-use Rattle.forming.proofs.Coding.{by-code, parts-two, code-settled, inner-settled}
+use Rattle.patterns.specs.Read.{patternsOf, patternOf, patternAt}
 use Rattle.patterns.specs.Laws.Nodes.{on-composed}
 use Rattle.patterns.specs.Nodes.{collectionOf, isHalved, bothHalves, meetings}
 use Rattle.matching.specs.declared.nodes.Meeting.{Meeting}
 use Rattle.matching.specs.Leaf.{Stands}
-use Rattle.matching.specs.Node.{Meets}
-use Rattle.matching.proofs.Records.{recast-meets}
+use Rattle.matching.specs.Node.{Meets, innerOf, waysOf, metBy}
+use Rattle.matching.proofs.Records.{by-record, inner-length, count-two, recast-meets}
 use Rattle.forming.specs.Frames.{entries, heft}
-use Rattle.forming.specs.Inner.{inner, innerEach}
-use Rattle.forming.specs.Laws.Inner.{innerInside, inner-solid}
-use Rattle.forming.specs.Wild.{isWild}
+use Rattle.forming.specs.Inner.{Composed, countOf, inner, innerEach}
 use Rattle.forming.specs.Onward.{Task, task, onward, zipped, oneWay}
 use Rattle.forming.specs.Laws.Onward.{onward-ways, one-way}
 use Rattle.forming.specs.Pending.{Pending, AgendaIs, spaces}
-use Rattle.forming.specs.Settled.{TellsSettled}
-use Rattle.forming.proofs.Pushing.{met-long}
+use Rattle.forming.specs.Settled.{Settled, TellsSettled}
+use Rattle.forming.proofs.Pushing.{inner-two, met-long}
 use Rattle.forming.proofs.Settling.{settled-less, several-more}
 
 -- ---- the agenda
@@ -68,10 +65,9 @@ recast-word word {c} {k} kind n s part m e d p h = subst (λ (q : Part). Meets c
 pub part-of : (s : List ℕ) (word : ℕ) (part : Part) (v : Value) → part ≡ unpacked word → PartIs s (unpacked word) v → PartHeld s part
 part-of s word part v e h = record { value = v; here = subst (λ (k : Part). PartIs s k v) (sym e) h }
 
-inner-composed : (r : Record) (ps : List Pattern) → isComposed (r .kind) ≡ true → (isHalved (r .kind) ≡ true → length ps ≡ 2) → isWild (patternOf r ps) ≡ false → inner (patternOf r ps) ≡ innerEach (patternsOf ps)
+inner-composed : (r : Record) (ps : List Pattern) → isComposed (r .kind) ≡ true → (isHalved (r .kind) ≡ true → length ps ≡ 2) → inner (patternOf r ps) ≡ innerEach (patternsOf ps)
 unfolding inner patternsOf
-inner-composed r ps c two h =
-    inner-solid (patternOf r ps) h ∙ on-composed r ps (λ q. innerInside q ≡ innerEach (patternsOf ps)) c (λ g. refl) (λ g. half ps (two g))
+inner-composed r ps c two = on-composed r ps (λ q. inner q ≡ innerEach (patternsOf ps)) c (λ g. refl) (λ g. half ps (two g))
   where
     half : (ps : List Pattern) → length ps ≡ 2 → suc (suc (inner (getD ps 0 any) + inner (getD ps 1 any))) ≡ innerEach (patternsOf ps)
     half [] e = absurd (omega arith)
@@ -122,44 +118,42 @@ two-parts c n v two h = go (isHalved c) refl h
 
 module _ (table index : List ℕ) (p : ℕ) (r : Composed table index p) where
   abbrev P : Pattern
-  P = codePattern table p
+  P = patternAt (records table) p
 
-  two : isHalved (kindAt (records table) (p % 256)) ≡ true → countOf table p ≡ 2
-  two e = parts-two table index p r e
-
-  pub whole : (v : Value) (ts : List Task) (b : Binding) → onward (task P v ∷ ts) b ≡ gather (codeWays table p v) (oneWay (codeInner table p) ts b)
+  pub whole : (v : Value) (ts : List Task) (b : Binding) → onward (task P v ∷ ts) b ≡ gather (waysOf table p v) (oneWay (innerOf table p) ts b)
   whole v ts b =
-      ap (λ (q : Pattern). onward (task q v ∷ ts) b) (by-code table index p r)
-      ∙ onward-ways (recordAt (records table) (p % 256)) (codeInner table p) (r .composed) two v ts b
+      ap (λ (q : Pattern). onward (task q v ∷ ts) b) (by-record table index p (r .readable))
+      ∙ onward-ways (recordAt (records table) p) (innerOf table p) (r .composed) (inner-two table index p r) v ts b
+      ∙ ap (λ (k : ℕ). gather (meetings (kindAt (records table) p) k v) (oneWay (innerOf table p) ts b)) (inner-length table index p (r .readable))
 
-  placed-inside : inner P ≡ innerEach (patternsOf (codeInner table p))
-  placed-inside =
-      ap inner (by-code table index p r)
-      ∙ inner-composed (recordAt (records table) (p % 256)) (codeInner table p) (r .composed) two (ap isWild (sym (by-code table index p r)) ∙ r .solid)
+  placed-inside : inner P ≡ innerEach (patternsOf (innerOf table p))
+  placed-inside = ap inner (by-record table index p (r .readable)) ∙ inner-composed (recordAt (records table) p) (innerOf table p) (r .composed) (inner-two table index p r)
 
-  pub several-parts : (v : Value) → 2 ≤ length (codeWays table p v) → 2 ≤ countOf table p
-  several-parts v l = two-parts (kindAt (records table) (p % 256)) (countOf table p) v two l
+  pub several-parts : (v : Value) → 2 ≤ length (waysOf table p v) → 2 ≤ countOf table p
+  several-parts v l = two-parts (kindAt (records table) p) (countOf table p) v (count-two table index p (r .readable) (r .composed)) l
 
   module _ (top : ℕ) (ts : List Task) (room : top + (inner P + spaces ts) ≤ entries) where
     pub count-room : top + countOf table p ≤ entries
-    count-room = omega (arith, room, placed-inside, inner-least (codeInner table p))
+    count-room = omega (arith, room, placed-inside, inner-least (innerOf table p), inner-length table index p (r .readable))
 
-    pub parts-room : (vs : List Value) → top + countOf table p + spaces (zipped (codeInner table p) vs ++ ts) ≤ entries
-    parts-room vs = omega (arith, room, placed-inside, spaces-zipped (codeInner table p) vs ts)
+    pub parts-room : (vs : List Value) → top + countOf table p + spaces (zipped (innerOf table p) vs ++ ts) ≤ entries
+    parts-room vs = omega (arith, room, placed-inside, spaces-zipped (innerOf table p) vs ts, inner-length table index p (r .readable))
 
   -- what one way gives
-  pub same-way : (v : Value) (ts : List Task) (b : Binding) (d : ℕ) → d < length (codeWays table p v) → oneWay (codeInner table p) ts b (codeMet table p v d) ≡ onward (zipped (codeInner table p) (codeMet table p v d) ++ ts) b
-  same-way v ts b d l = one-way (codeInner table p) ts b (codeMet table p v d) (met-long table index p r v d l)
+  pub same-way : (v : Value) (ts : List Task) (b : Binding) (d : ℕ) → d < length (waysOf table p v) → oneWay (innerOf table p) ts b (metBy table p v d) ≡ onward (zipped (innerOf table p) (metBy table p v d) ++ ts) b
+  same-way v ts b d l = one-way (innerOf table p) ts b (metBy table p v d) (met-long table index p r v d l ∙ sym (inner-length table index p (r .readable)))
 
   -- of a pattern that is only a test one way with a match gives all that the others give
-  pub enough : (s words : List ℕ) (b : Binding) → Stands s words b → TellsSettled table (p % 256) words true → (v : Value) (ts : List Task) (vs : List Value) → In vs (codeWays table p v) → (x : Binding) → In x (oneWay (codeInner table p) ts b vs)
-      → (c : Binding) → In c (gather (codeWays table p v) (oneWay (codeInner table p) ts b)) → In c (oneWay (codeInner table p) ts b vs)
+  pub enough : (s words : List ℕ) (b : Binding) → Stands s words b → TellsSettled table p words true → (v : Value) (ts : List Task) (vs : List Value) → In vs (waysOf table p v) → (x : Binding) → In x (oneWay (innerOf table p) ts b vs)
+      → (c : Binding) → In c (gather (waysOf table p v) (oneWay (innerOf table p) ts b)) → In c (oneWay (innerOf table p) ts b vs)
   enough s words b st t v ts vs i x j c k =
-      let (d, l, e) = in-at vs (codeWays table p v) [] i in
-      let way : oneWay (codeInner table p) ts b vs ≡ onward (zipped (codeInner table p) vs ++ ts) b =
-      ap (oneWay (codeInner table p) ts b) e ∙ same-way v ts b d l ∙ ap (λ (us : List Value). onward (zipped (codeInner table p) us ++ ts) b) (sym e) in
-      let rest = settled-less s words b st P (code-settled table index p r words true t refl) v ts c (subst (In c) (sym (whole v ts b)) k) in
+      let (d, l, e) = in-at vs (waysOf table p v) [] i in
+      let way : oneWay (innerOf table p) ts b vs ≡ onward (zipped (innerOf table p) vs ++ ts) b =
+      ap (oneWay (innerOf table p) ts b) e ∙ same-way v ts b d l ∙ ap (λ (us : List Value). onward (zipped (innerOf table p) us ++ ts) b) (sym e) in
+      let rest = settled-less s words b st P (t .says refl) v ts c (subst (In c) (sym (whole v ts b)) k) in
       subst (In c) (sym way)
-      (several-more s words b st (codeInner table p) vs ts
-      (λ n m. inner-settled table index p r words true t refl n m)
+      (several-more s words b st (innerOf table p) vs ts
+      (λ n m.
+      let q : n < countOf table p = omega (arith, inner-length table index p (r .readable)) in
+      subst (λ (y : Pattern). Settled y words) (sym (map-at (patternAt (records table)) (operandsOf (recordAt (records table) p)) n 0 any q)) (t .each refl (r .composed) n q))
       x (subst (In x) way j) c rest)

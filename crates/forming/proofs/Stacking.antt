@@ -3,7 +3,7 @@ use mathlib.Core.Path.{_≡_, refl, sym, ap, subst, _∙_}
 use mathlib.Core.Bool.{Bool, true, false}
 use mathlib.Core.Logic.{_⊎_, inl, inr, ⊎-elim}
 use mathlib.Core.List.{List, [], _∷_}
-use Prim.Native.Nat.{ℕ, suc, _+_, _*_, _%_, _≤_, _<_}
+use Prim.Native.Nat.{ℕ, suc, _+_, _*_, _≤_, _<_}
 use native.Mathlib.Omega.{arith}
 use lib.ListN.{length, getD, drop, drop-of-length-le}
 use Rattle.prelude.specs.Membership.{In}
@@ -22,10 +22,11 @@ use Rattle.patterns.specs.Binding.{Binding, place}
 use Rattle.patterns.specs.Pattern.{wide}
 use Rattle.patterns.specs.Laws.Ordered.{sorted-in, in-sorted}
 use Rattle.patterns.specs.Nodes.{isLarge}
+use Rattle.patterns.specs.Read.{patternAt}
 use Rattle.matching.specs.declared.nodes.Meeting.{Meeting}
 use Rattle.matching.specs.declared.nodes.Meeting.the-variants.{Unfit, Large, Ways}
 use Rattle.matching.specs.Leaf.{Grown}
-use Rattle.matching.specs.Node.{MeetsAs, Meets}
+use Rattle.matching.specs.Node.{MeetsAs, Meets, innerOf, waysOf}
 use Rattle.matching.proofs.Naming.{grown-same, grown-then}
 use Rattle.forming.specs.declared.frames.Frame.{Frame}
 use Rattle.forming.specs.declared.sizes.Sizes.{Sizes}
@@ -33,11 +34,11 @@ use Rattle.forming.specs.Adding.{adding}
 use Rattle.forming.specs.Laws.Adding.{adding-append, adding-one, adding-longer, adding-alike, placed-sorted}
 use Rattle.forming.specs.Frames.{entries, KeptBelow, frameAt, FrameFits, Advanced, maskOf}
 use Rattle.forming.specs.Onward.{Task, task, onward, oneWay}
-use Rattle.forming.specs.Codes.{codePattern, codeInner, countOf, codeWays, Regrouped, RestIs, CodeHalves}
-use Rattle.forming.proofs.Coding.{code-small}
+use Rattle.forming.specs.Inner.{countOf}
+use Rattle.forming.specs.Reduced.{Reduced}
 use Rattle.forming.specs.Rows.{RowsAre}
 use Rattle.forming.specs.Settled.{TellsSettled}
-use Rattle.forming.specs.Sizes.{FromHeld, From}
+use Rattle.forming.specs.Sizes.{TellsSizes, FromHeld, From}
 use Rattle.forming.specs.Stack.{Level, LevelIs, StackIs, dues, Stacked, Waiting}
 use Rattle.forming.proofs.Accounting.{accounted-with, accounted-hit}
 use Rattle.forming.proofs.Framing.{frame-kept}
@@ -50,9 +51,7 @@ use Rattle.forming.proofs.Solving.{recast-word, agenda-low, whole}
 
 pub level-kept : (table index s a b : List ℕ) (i : ℕ) (f : Frame) (l : Level) → KeptBelow a b (3 * f .top) → LevelIs table index s a i f l → LevelIs table index s b i f l
 level-kept table index s a b i f l k h = record {
-  code = h .code;
-  rest-is = h .rest-is;
-  rest-low = h .rest-low;
+  composed = h .composed;
   low = h .low;
   here = subst (λ (n : ℕ). PartIs s (unpacked n) (l .value)) (sym (k (3 * f .at + 1) (omega (arith, h .low)))) (h .here);
   narrow = h .narrow;
@@ -72,7 +71,7 @@ level-kept table index s a b i f l k h = record {
   done = h .done;
 }
 
-pub stack-kept : (table index s a b frames frames′ : List ℕ) (high high′ : ℕ) (found found′ : List ℕ) (ls : List Level) → KeptBelow a b (3 * high) → high ≤ high′ → Grown found found′ → length frames ≡ 2100 → length frames′ ≡ length frames → KeptBelow frames frames′ (21 * length ls)
+pub stack-kept : (table index s a b frames frames′ : List ℕ) (high high′ : ℕ) (found found′ : List ℕ) (ls : List Level) → KeptBelow a b (3 * high) → high ≤ high′ → Grown found found′ → length frames ≡ 1400 → length frames′ ≡ length frames → KeptBelow frames frames′ (14 * length ls)
     → StackIs table index s a frames high found ls → StackIs table index s b frames′ high′ found′ ls
 stack-kept table index s a b frames frames′ high high′ found found′ [] k u g e d q h = omega arith
 stack-kept table index s a b frames frames′ high high′ found found′ (l ∷ ls) k u g e d q (x, y, z, w) =
@@ -96,7 +95,7 @@ module _ (table index s a : List ℕ) (high : ℕ) (found frames : List ℕ) (de
       ap (adding (dues (h .levels))) (sym (adding-alike more more′ cs (h .rows-are .given) (h .rows-are .ordered) e))
       ∙ sym (adding-append more (dues (h .levels)) cs) ∙ h .right
 
-  pub restacked : (high′ : ℕ) → high ≤ high′ → (found′ : List ℕ) → Grown found found′ → (frames′ : List ℕ) → length frames′ ≡ length frames → KeptBelow frames frames′ (21 * depth) → (more′ : List Binding) → Alike more more′
+  pub restacked : (high′ : ℕ) → high ≤ high′ → (found′ : List ℕ) → Grown found found′ → (frames′ : List ℕ) → length frames′ ≡ length frames → KeptBelow frames frames′ (14 * depth) → (more′ : List Binding) → Alike more more′
       → Stacked table index s a high′ found′ frames′ depth hit rows order n more′ target
   restacked high′ u found′ g frames′ d k more′ e = record {
     short = h .short;
@@ -141,8 +140,8 @@ module _ (table index s a : List ℕ) (high : ℕ) (found frames : List ℕ) (de
 
 -- ---- a frame opened
 
-abbrev pub framed : ℕ → ℕ → ℕ → ℕ → ℕ → ℕ → ℕ → ℕ → Bool → Sizes → Frame
-framed p rest at next top way ways mask once sizes = record { p = p; rest = rest; at = at; next = next; top = top; way = way; ways = ways; mask = mask; once = once; sizes = sizes }
+abbrev pub framed : ℕ → ℕ → ℕ → ℕ → ℕ → ℕ → ℕ → Bool → Sizes → Frame
+framed p at next top way ways mask once sizes = record { p = p; at = at; next = next; top = top; way = way; ways = ways; mask = mask; once = once; sizes = sizes }
 
 module _ (table index s a : List ℕ) (at next top : ℕ) (found frames : List ℕ) (depth hit : ℕ) (rows order : List ℕ) (n : ℕ) (target : List Binding) (w : Waiting table index s a at next top found frames depth hit rows order n target) where
   abbrev v : Value
@@ -160,47 +159,46 @@ module _ (table index s a : List ℕ) (at next top : ℕ) (found frames : List �
   pub depth-few : depth < 100
   depth-few = omega (arith, w .low, w .room)
 
-  module _ (p : ℕ) (x : Regrouped table index (getD a (3 * at) 0) p) where
-    pub met-as : (kind count : ℕ) (part : Part) (m : Meeting) → kind ≡ kindAt (records table) (p % 256) → count ≡ countOf table p → part ≡ unpacked (getD a (3 * at + 1) 0) → Meets kind count s part m → Meets (kindAt (records table) (p % 256)) (countOf table p) s (unpacked (getD a (3 * at + 1) 0)) m
+  module _ (p : ℕ) (x : Reduced table index (getD a (3 * at) 0) p) where
+    pub met-as : (kind count : ℕ) (part : Part) (m : Meeting) → kind ≡ kindAt (records table) p → count ≡ countOf table p → part ≡ unpacked (getD a (3 * at + 1) 0) → Meets kind count s part m → Meets (kindAt (records table) p) (countOf table p) s (unpacked (getD a (3 * at + 1) 0)) m
     met-as kind count part m ke ce pe h = recast-word (getD a (3 * at + 1) 0) kind count s part m ke ce pe h
 
-    narrow-now : wide (codePattern table p) (w .value) ≡ false
+    narrow-now : wide (patternAt (records table) p) (w .value) ≡ false
     narrow-now = x .narrow v (w .narrow)
 
     -- all ways
-    all-ways : Alike (onward (task (codePattern table (getD a (3 * at) 0)) (w .value) ∷ w .tasks) (w .binding)) (gather (codeWays table p (w .value)) (oneWay (codeInner table p) (w .tasks) (w .binding)))
-    all-ways = subst (Alike (onward (task (codePattern table (getD a (3 * at) 0)) v ∷ ts) b)) (whole table index p (x .code) v ts b) (onward-alike (codePattern table (getD a (3 * at) 0)) (codePattern table p) v ts b (x .alike v))
+    all-ways : Alike (onward (task (patternAt (records table) (getD a (3 * at) 0)) (w .value) ∷ w .tasks) (w .binding)) (gather (waysOf table p (w .value)) (oneWay (innerOf table p) (w .tasks) (w .binding)))
+    all-ways = subst (Alike (onward (task (patternAt (records table) (getD a (3 * at) 0)) v ∷ ts) b)) (whole table index p (x .composed) v ts b) (onward-alike (patternAt (records table) (getD a (3 * at) 0)) (patternAt (records table) p) v ts b (x .alike v))
 
-    unopened : (frames′ : List ℕ) → length frames′ ≡ length frames → KeptBelow frames frames′ (21 * depth) → gather (codeWays table p (w .value)) (oneWay (codeInner table p) (w .tasks) (w .binding)) ≡ [] → Stacked table index s a entries found frames′ depth hit rows order n [] target
+    unopened : (frames′ : List ℕ) → length frames′ ≡ length frames → KeptBelow frames frames′ (14 * depth) → gather (waysOf table p (w .value)) (oneWay (innerOf table p) (w .tasks) (w .binding)) ≡ [] → Stacked table index s a entries found frames′ depth hit rows order n [] target
     unopened frames′ d k e =
-        restacked table index s a top found frames depth hit rows order n (onward (task (codePattern table (getD a (3 * at) 0)) v ∷ ts) b) target (w .stacked) entries top-few found (grown-same found) frames′ d k []
-        (subst (Alike (onward (task (codePattern table (getD a (3 * at) 0)) v ∷ ts) b)) e all-ways)
+        restacked table index s a top found frames depth hit rows order n (onward (task (patternAt (records table) (getD a (3 * at) 0)) v ∷ ts) b) target (w .stacked) entries top-few found (grown-same found) frames′ d k []
+        (subst (Alike (onward (task (patternAt (records table) (getD a (3 * at) 0)) v ∷ ts) b)) e all-ways)
 
-    module _ (m : Meeting) (met : Meets (kindAt (records table) (p % 256)) (countOf table p) s (unpacked (getD a (3 * at + 1) 0)) m) where
+    module _ (m : Meeting) (met : Meets (kindAt (records table) p) (countOf table p) s (unpacked (getD a (3 * at + 1) 0)) m) where
       pub no-ways : ((k : ℕ) → m ≡ Ways k → ⊥) → Stacked table index s a entries found frames depth hit rows order n [] target
       unfolding gather
-      no-ways nope = unopened frames refl (λ j m. refl) (ap (λ (ws : List (List Value)). gather ws (oneWay (codeInner table p) ts b)) (go m nope (met v (w .here))))
+      no-ways nope = unopened frames refl (λ j m. refl) (ap (λ (ws : List (List Value)). gather ws (oneWay (innerOf table p) ts b)) (go m nope (met v (w .here))))
         where
-          go : (y : Meeting) → ((k : ℕ) → y ≡ Ways k → ⊥) → MeetsAs (kindAt (records table) (p % 256)) (countOf table p) (w .value) y → codeWays table p (w .value) ≡ []
+          go : (y : Meeting) → ((k : ℕ) → y ≡ Ways k → ⊥) → MeetsAs (kindAt (records table) p) (countOf table p) (w .value) y → waysOf table p (w .value) ≡ []
           go Unfit f k = k .1
-          go Large f k = true-false (sym k ∙ or-false-left (isLarge (kindAt (records table) (p % 256)) v) _ (sym (wide-by table index p (x .code) v) ∙ narrow-now))
+          go Large f k = true-false (sym k ∙ or-false-left (isLarge (kindAt (records table) p) v) _ (sym (wide-by table index p (x .composed) v) ∙ narrow-now))
           go (Ways z) f k = absurd (f z refl)
 
-      module _ (ways : ℕ) (me : m ≡ Ways ways) (k : ℕ) (ek : k ≡ kindAt (records table) (p % 256)) (sizes : Sizes) (t : sizes .bound ≡ true → CodeHalves table p k sizes) where
-        there : MeetsAs (kindAt (records table) (p % 256)) (countOf table p) (w .value) (Ways ways)
-        there = subst (MeetsAs (kindAt (records table) (p % 256)) (countOf table p) v) me (met v (w .here))
+      module _ (ways : ℕ) (me : m ≡ Ways ways) (k : ℕ) (ek : k ≡ kindAt (records table) p) (sizes : Sizes) (t : TellsSizes table p k sizes) where
+        there : MeetsAs (kindAt (records table) p) (countOf table p) (w .value) (Ways ways)
+        there = subst (MeetsAs (kindAt (records table) p) (countOf table p) v) me (met v (w .here))
 
         pub ways-few : ways < 256
         ways-few = there .3
 
         pub first-asked : FromHeld k ways sizes
-        first-asked = from-asked table index p (x .code) k ek sizes t v ways (there .1) (there .2)
+        first-asked = from-asked table index p (x .composed .readable) k ek sizes t v ways (there .1) (there .2)
 
-        module _ (rest : ℕ) (ri : RestIs table index p rest) (rl : rest < 4294967296) (way : ℕ) (fr : From k ways 0 sizes way) (once : Bool) (so : TellsSettled table (p % 256) found once) (mask : ℕ) (ms : (mask ≡ maskOf found) × (mask < 65536)) where
-          pub frame-fits : FrameFits (framed p rest at next top way ways mask once sizes)
+        module _ (way : ℕ) (fr : From k ways 0 sizes way) (once : Bool) (so : TellsSettled table p found once) (mask : ℕ) (ms : (mask ≡ maskOf found) × (mask < 65536)) where
+          pub frame-fits : FrameFits (framed p at next top way ways mask once sizes)
           frame-fits = record {
-            code-small = code-small table index p (x .code .held);
-            rest-small = rl;
+            record-small = omega (arith, x .composed .readable .here .within, x .composed .readable .fine .few);
             at-small = omega (arith, w .below, top-few);
             next-small = omega (arith, top-few, agenda-low table index s a top next ts (omega (arith, w .low)) (w .are));
             top-small = omega (arith, top-few);
@@ -209,18 +207,16 @@ module _ (table index s a : List ℕ) (at next top : ℕ) (found frames : List �
             mask-small = ms .1;
           }
 
-          skipped : gather (drop way (codeWays table p (w .value))) (oneWay (codeInner table p) (w .tasks) (w .binding)) ≡ gather (codeWays table p (w .value)) (oneWay (codeInner table p) (w .tasks) (w .binding))
-          skipped = passed-over table index p (x .code) k ek sizes t v ways (there .1) ts b 0 way (omega arith) fr
+          skipped : gather (drop way (waysOf table p (w .value))) (oneWay (innerOf table p) (w .tasks) (w .binding)) ≡ gather (waysOf table p (w .value)) (oneWay (innerOf table p) (w .tasks) (w .binding))
+          skipped = passed-over table index p (x .composed .readable) k ek sizes t v ways (there .1) ts b 0 way (omega arith) fr
 
           level : Level
-          level = record { value = w .value; tasks = w .tasks; binding = w .binding; words = found; done = []; due = gather (drop way (codeWays table p (w .value))) (oneWay (codeInner table p) (w .tasks) (w .binding)) }
+          level = record { value = w .value; tasks = w .tasks; binding = w .binding; words = found; done = []; due = gather (drop way (waysOf table p (w .value))) (oneWay (innerOf table p) (w .tasks) (w .binding)) }
 
-          level-is : way < ways → LevelIs table index s a depth (framed p rest at next top way ways mask once sizes) level
+          level-is : way < ways → LevelIs table index s a depth (framed p at next top way ways mask once sizes) level
           unfolding level
           level-is l = record {
-            code = x .code;
-            rest-is = ri;
-            rest-low = rl;
+            composed = x .composed;
             low = w .below;
             here = w .here;
             narrow = narrow-now;
@@ -235,19 +231,19 @@ module _ (table index s a : List ℕ) (at next top : ℕ) (found frames : List �
             few = ways-few;
             within = l;
             settled = so;
-            sizes = λ b. subst (λ (c : ℕ). CodeHalves table p c sizes) ek (t b);
+            sizes = subst (λ (c : ℕ). TellsSizes table p c sizes) ek t;
             due = refl;
             done = λ o i. absurd i;
           }
 
-          module _ (frames′ : List ℕ) (r : ℕ) (ad : Advanced frames depth (framed p rest at next top way ways mask once sizes) frames′ r) where
-            same-due : Alike (onward (task (codePattern table (getD a (3 * at) 0)) (w .value) ∷ w .tasks) (w .binding)) (gather (drop way (codeWays table p (w .value))) (oneWay (codeInner table p) (w .tasks) (w .binding)))
-            same-due = subst (Alike (onward (task (codePattern table (getD a (3 * at) 0)) v ∷ ts) b)) (sym skipped) all-ways
+          module _ (frames′ : List ℕ) (r : ℕ) (ad : Advanced frames depth (framed p at next top way ways mask once sizes) frames′ r) where
+            same-due : Alike (onward (task (patternAt (records table) (getD a (3 * at) 0)) (w .value) ∷ w .tasks) (w .binding)) (gather (drop way (waysOf table p (w .value))) (oneWay (innerOf table p) (w .tasks) (w .binding)))
+            same-due = subst (Alike (onward (task (patternAt (records table) (getD a (3 * at) 0)) v ∷ ts) b)) (sym skipped) all-ways
 
-            stays : way < ways → frameAt frames′ depth ≡ framed p rest at next top way ways mask once sizes → Stacked table index s a entries found frames′ (suc depth) hit rows order n [] target
+            stays : way < ways → frameAt frames′ depth ≡ framed p at next top way ways mask once sizes → Stacked table index s a entries found frames′ (suc depth) hit rows order n [] target
             unfolding level
             stays l fe =
-                let st = restacked table index s a top found frames depth hit rows order n (onward (task (codePattern table (getD a (3 * at) 0)) v ∷ ts) b) target (w .stacked) top (omega arith) found (grown-same found) frames′ (ad .long) (ad .kept) (gather (drop way (codeWays table p v)) (oneWay (codeInner table p) ts b)) same-due in
+                let st = restacked table index s a top found frames depth hit rows order n (onward (task (patternAt (records table) (getD a (3 * at) 0)) v ∷ ts) b) target (w .stacked) top (omega arith) found (grown-same found) frames′ (ad .long) (ad .kept) (gather (drop way (waysOf table p v)) (oneWay (innerOf table p) ts b)) same-due in
                 record {
                   short = st .short;
                   long = st .long;
@@ -268,9 +264,9 @@ module _ (table index s a : List ℕ) (at next top : ℕ) (found frames : List �
             unfolding gather
             frame-opened = go (ad .how)
               where
-                go : ((r ≡ suc depth) × (way < ways) × (frameAt frames′ depth ≡ framed p rest at next top way ways mask once sizes)) ⊎ ((r ≡ depth) × (ways ≤ way)) → Stacked table index s a entries found frames′ r hit rows order n [] target
+                go : ((r ≡ suc depth) × (way < ways) × (frameAt frames′ depth ≡ framed p at next top way ways mask once sizes)) ⊎ ((r ≡ depth) × (ways ≤ way)) → Stacked table index s a entries found frames′ r hit rows order n [] target
                 go (inl (e, l, fe)) = subst (λ (y : ℕ). Stacked table index s a entries found frames′ y hit rows order n [] target) (sym e) (stays l fe)
                 go (inr (e, l)) =
-                    let none : drop way (codeWays table p v) ≡ [] = drop-of-length-le (codeWays table p v) {i = way} (omega (arith, there .1)) in
+                    let none : drop way (waysOf table p v) ≡ [] = drop-of-length-le (waysOf table p v) {i = way} (omega (arith, there .1)) in
                     subst (λ (y : ℕ). Stacked table index s a entries found frames′ y hit rows order n [] target) (sym e)
-                    (unopened frames′ (ad .long) (ad .kept) (sym skipped ∙ ap (λ (ws : List (List Value)). gather ws (oneWay (codeInner table p) ts b)) none))
+                    (unopened frames′ (ad .long) (ad .kept) (sym skipped ∙ ap (λ (ws : List (List Value)). gather ws (oneWay (innerOf table p) ts b)) none))

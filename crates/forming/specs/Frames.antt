@@ -28,13 +28,9 @@ agendaWords = 3 * entries
 abbrev pub flagByte : Bool → ℕ
 flagByte b = cond b 1 0
 
--- Four bytes as a number.
-abbrev pub wordAt : List ℕ → ℕ → ℕ
-wordAt b i = getD b i 0 + 256 * getD b (i + 1) 0 + 65536 * getD b (i + 2) 0 + 16777216 * getD b (i + 3) 0
-
 -- A frame takes so many bytes, and two of the records of a table at least: so many frames, and bytes of them, are enough.
 abbrev pub frameBytes : ℕ
-frameBytes = 21
+frameBytes = 14
 
 abbrev pub mostFrames : ℕ
 mostFrames = mostRecords / 2
@@ -45,19 +41,18 @@ framesBytes = mostFrames * frameBytes
 -- A frame from its bytes.
 abbrev pub frameOf : List ℕ → Frame
 frameOf b = record {
-  p = wordAt b 0;
-  rest = wordAt b 17;
-  at = getD b 4 0;
-  next = getD b 5 0;
-  top = getD b 6 0;
-  way = getD b 7 0;
-  ways = getD b 8 0;
-  mask = getD b 9 0 + 256 * getD b 10 0;
-  once = eqb (getD b 11 0) 1;
+  p = getD b 0 0;
+  at = getD b 1 0;
+  next = getD b 2 0;
+  top = getD b 3 0;
+  way = getD b 4 0;
+  ways = getD b 5 0;
+  mask = getD b 6 0 + 256 * getD b 7 0;
+  once = eqb (getD b 8 0) 1;
   sizes = record {
-    bound = eqb (getD b 12 0) 1;
-    left = record { least = getD b 13 0; more = eqb (getD b 14 0) 1 };
-    right = record { least = getD b 15 0; more = eqb (getD b 16 0) 1 };
+    bound = eqb (getD b 9 0) 1;
+    left = record { least = getD b 10 0; more = eqb (getD b 11 0) 1 };
+    right = record { least = getD b 12 0; more = eqb (getD b 13 0) 1 };
   };
 }
 
@@ -70,11 +65,10 @@ frameAt a i = frameOf (slotAt a i)
 
 -- A frame with another way next.
 abbrev pub onto : Frame → ℕ → Frame
-onto f e = record { p = f .p; rest = f .rest; at = f .at; next = f .next; top = f .top; way = e; ways = f .ways; mask = f .mask; once = f .once; sizes = f .sizes }
+onto f e = record { p = f .p; at = f .at; next = f .next; top = f .top; way = e; ways = f .ways; mask = f .mask; once = f .once; sizes = f .sizes }
 
 pub record FrameFits (f : Frame) : Type 0 where
-  pub code-small : f .p < 4294967296
-  pub rest-small : f .rest < 4294967296
+  pub record-small : f .p < 256
   pub at-small : f .at < 256
   pub next-small : f .next < 256
   pub top-small : f .top < 256

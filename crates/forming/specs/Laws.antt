@@ -1,4 +1,3 @@
 -- Laws of the definitions of forming. Cited by bindings.
 pub mod Adding
-pub mod Inner
 pub mod Onward

@@ -1,35 +1,34 @@
 -- The agenda as a list linked through an array, and what the functions that go through it ask and promise.
 use mathlib.Core.Path.{_≡_}
-use mathlib.Core.Bool.{Bool, true, false}
+use mathlib.Core.Bool.{true, false}
 use mathlib.Core.List.{List, [], _∷_, _++_}
-use Prim.Native.Nat.{ℕ, _+_, _*_, _%_, _≤_, _<_}
+use Prim.Native.Nat.{ℕ, _+_, _*_, _≤_, _<_}
 use lib.ListN.{length, getD}
 use Rattle.values.specs.Value.{Value}
 use Rattle.tables.specs.Record.{isComposed}
 use Rattle.tables.specs.Table.{kindAt}
 use Rattle.tables.specs.Accepted.{records}
 use Rattle.parts.specs.Part.{PartIs}
+use Rattle.parts.specs.Word.{unpacked}
 use Rattle.patterns.specs.Binding.{Binding}
 use Rattle.patterns.specs.Members.{Alike}
 use Rattle.patterns.specs.Pattern.{wide}
 use Rattle.patterns.specs.Nodes.{isLarge}
-use Rattle.matching.specs.Leaf.{Stands, Went, Grown}
-use Rattle.forming.specs.Inner.{inner}
-use Rattle.forming.specs.Wild.{isWild}
-use Rattle.forming.specs.Leaves.{recordCodes}
-use Rattle.forming.specs.Codes.{codePattern, codeInner, countOf, codeWays, codeMet, CodeHeld, Composed, RestIs}
+use Rattle.patterns.specs.Read.{Readable, patternAt}
+use Rattle.matching.specs.Leaf.{Stands, Grown}
+use Rattle.matching.specs.Node.{innerOf, waysOf, metBy}
+use Rattle.forming.specs.Inner.{Composed, countOf, inner}
 use Rattle.forming.specs.declared.taking.Left.{Left}
 use Rattle.forming.specs.Onward.{Task, onward, zipped}
-use Rattle.parts.specs.Word.{unpacked}
 use Rattle.forming.specs.Frames.{KeptBelow, entries, agendaWords}
 
--- An entry of three numbers: the code of the pattern, the part that it meets, and the entry that follows, a lower one.
+-- An entry of three numbers: the record of the pattern, the part that it meets, and the entry that follows, a lower one.
 pub record Pending (table index s a : List ℕ) (top head : ℕ) (t : Task) : Type 0 where
   pub some : 0 < head
   pub below : head < top
   pub falls : getD a (3 * head + 2) 0 < head
-  pub held : CodeHeld table index (getD a (3 * head) 0)
-  pub pattern : t .what ≡ codePattern table (getD a (3 * head) 0)
+  pub readable : Readable table index (getD a (3 * head) 0)
+  pub pattern : t .what ≡ patternAt (records table) (getD a (3 * head) 0)
   pub here : PartIs s (unpacked (getD a (3 * head + 1) 0)) (t .value)
   pub narrow : wide (t .what) (t .value) ≡ false
 
@@ -45,36 +44,31 @@ spaces (t ∷ ts) = inner (t .what) + spaces ts
 
 -- ---- the parts of a pattern put before the rest
 
-pub record Pushable (table index : List ℕ) (c rest : ℕ) (s : List ℕ) (word : ℕ) (d : ℕ) (a : List ℕ) (next top : ℕ) : Type 0 where
-  pub code : Composed table index c
-  pub rest-is : RestIs table index c rest
+pub record Pushable (table index : List ℕ) (p : ℕ) (s : List ℕ) (word : ℕ) (d : ℕ) (a : List ℕ) (next top : ℕ) : Type 0 where
+  pub composed : Composed table index p
   pub short : length s ≤ 65536
   pub value : Value
   pub here : PartIs s (unpacked word) value
-  pub narrow : isLarge (kindAt (records table) (c % recordCodes)) value ≡ false
-  pub below : d < length (codeWays table c value)
+  pub narrow : isLarge (kindAt (records table) p) value ≡ false
+  pub below : d < length (waysOf table p value)
   pub low : next < top
-  pub room : top + countOf table c ≤ entries
+  pub room : top + countOf table p ≤ entries
   pub long : length a ≡ agendaWords
 
-pub record Pushed (table index : List ℕ) (c : ℕ) (s : List ℕ) (word : ℕ) (d : ℕ) (a : List ℕ) (next top : ℕ) (b : List ℕ) (r : ℕ) : Type 0 where
-  pub low : r < top + countOf table c
-  pub none : countOf table c ≡ 0 → r ≡ next
+pub record Pushed (table index : List ℕ) (p : ℕ) (s : List ℕ) (word : ℕ) (d : ℕ) (a : List ℕ) (next top : ℕ) (b : List ℕ) (r : ℕ) : Type 0 where
+  pub low : r < top + countOf table p
+  pub none : countOf table p ≡ 0 → r ≡ next
   pub kept : KeptBelow a b (3 * top)
   pub long : length b ≡ length a
-  pub right : (v : Value) (ts : List Task) → PartIs s (unpacked word) v → wide (codePattern table c) v ≡ false → AgendaIs table index s a top next ts
-      → AgendaIs table index s b (top + countOf table c) r (zipped (codeInner table c) (codeMet table c v d) ++ ts)
+  pub right : (v : Value) (ts : List Task) → PartIs s (unpacked word) v → wide (patternAt (records table) p) v ≡ false → AgendaIs table index s a top next ts
+      → AgendaIs table index s b (top + countOf table p) r (zipped (innerOf table p) (metBy table p v d) ++ ts)
 
 -- ---- leaves taken off an agenda
-
--- A leaf and what is found: whether it agrees.
-abbrev pub CodeTold : List ℕ → ℕ → List ℕ → ℕ → List ℕ → List ℕ → Bool → Type 0
-CodeTold table c s word found after agrees = (v : Value) (b : Binding) → PartIs s (unpacked word) v → Stands s found b → Went s b (codePattern table c) v after agrees
 
 -- An entry with parts that waits, or none.
 abbrev pub WaitsAre : List ℕ → List ℕ → List ℕ → List ℕ → ℕ → ℕ → List Task → Type 0
 WaitsAre table index s a top wait [] = wait ≡ 0
-WaitsAre table index s a top wait (t ∷ []) = Pending table index s a top wait t × (isComposed (kindAt (records table) (getD a (3 * wait) 0 % recordCodes)) ≡ true) × (isWild (codePattern table (getD a (3 * wait) 0)) ≡ false)
+WaitsAre table index s a top wait (t ∷ []) = Pending table index s a top wait t × (isComposed (kindAt (records table) (getD a (3 * wait) 0)) ≡ true)
 WaitsAre table index s a top wait (t ∷ u ∷ ts) = ⊥
 
 -- What is left of the tasks ts, going on from b: the one that waits, and those from head on, with what is found now.

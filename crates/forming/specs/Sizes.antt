@@ -1,9 +1,11 @@
 -- How many members or items a pattern takes, and the ways that give its halves so many.
 use mathlib.Core.Path.{_≡_}
-use mathlib.Core.Bool.{true, false}
+use mathlib.Core.Bool.{true, false, cond}
+use mathlib.Core.Logic.{_⊎_}
 use mathlib.Core.List.{List, []}
 use Prim.Native.Nat.{ℕ, _+_, _-_, _≤_, _<_}
 use lib.Count.{ones}
+use lib.Dec.{eqb}
 use lib.ListN.{length, getD}
 use Rattle.values.specs.Value.{Kind, Value, collection}
 use Rattle.tables.specs.Record.{operand}
@@ -18,19 +20,30 @@ use Rattle.patterns.specs.Read.{Readable, patternAt}
 use Rattle.forming.specs.declared.sizes.Size.{Size}
 use Rattle.forming.specs.declared.sizes.Sizes.{Sizes}
 use Rattle.forming.specs.declared.sizes.Range.{Range}
-use Rattle.forming.specs.Reduced.{Splits}
+
+-- Kind 38 splits sets, kind 40 cuts sequences.
+abbrev pub Splits : ℕ → Type 0
+Splits c = (c ≡ 38) ⊎ (c ≡ 40)
+
+-- The kind of patterns with a part for each member or item of what kind c splits or cuts.
+abbrev pub enumerationOf : ℕ → ℕ
+enumerationOf c = cond (eqb c 38) 37 39
+
+-- A half of what kind c splits or cuts has at least so many: of a set it holds something (wish 1), of a sequence it may be empty.
+abbrev pub fewestOf : ℕ → ℕ
+fewestOf c = cond (eqb c 38) 1 0
 
 -- A size that n is.
 pub record Sized (z : Size) (n : ℕ) : Type 0 where
   pub least : z .least ≤ n
   pub exact : z .more ≡ false → n ≡ z .least
 
--- What the pattern matches of the kind has such a size.
-abbrev pub Takes : Kind → Pattern → Size → Type 0
-Takes k p z = (vs : List Value) (b : Binding) → Matches p (collection k (itemsOf vs)) b → Sized z (length vs)
+-- What the pattern matches of the kind, with at least n members or items, has such a size.
+abbrev pub Takes : Kind → ℕ → Pattern → Size → Type 0
+Takes k n p z = (vs : List Value) (b : Binding) → n ≤ length vs → Matches p (collection k (itemsOf vs)) b → Sized z (length vs)
 
 abbrev pub TellsSize : List ℕ → ℕ → ℕ → Size → Type 0
-TellsSize table p c z = Takes (collectionOf c) (patternAt (records table) p) z
+TellsSize table p c z = Takes (collectionOf c) (fewestOf c) (patternAt (records table) p) z
 
 pub record Sum (l r z : Size) : Type 0 where
   pub right : (m n : ℕ) → Sized l m → Sized r n → Sized z (m + n)
@@ -62,9 +75,11 @@ pub record FirstOf (f : ℕ → ℕ) (w d : ℕ) (r : Range) (e : ℕ) : Type 0 
   pub within : d ≤ w → e ≤ w
   pub passed : (j : ℕ) → d ≤ j → j < e → r .least ≤ f j → f j ≤ r .most → ⊥
 
+-- The d-th of all splits gives it as many as bits of d are set.
 abbrev pub SplitFrom : ℕ → ℕ → Range → ℕ → Type 0
 SplitFrom = FirstOf ones
 
+-- The last cut gives it none, each before that one more.
 abbrev pub CutFrom : ℕ → ℕ → Range → ℕ → Type 0
 CutFrom w = FirstOf (λ j. w - 1 - j) w
 

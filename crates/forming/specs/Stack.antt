@@ -3,7 +3,7 @@ use mathlib.Core.Path.{_≡_}
 use mathlib.Core.Bool.{true, false}
 use mathlib.Core.Logic.{_⊎_}
 use mathlib.Core.List.{List, [], _∷_, _++_}
-use Prim.Native.Nat.{ℕ, suc, _+_, _*_, _%_, _^_, _≤_, _<_}
+use Prim.Native.Nat.{ℕ, suc, _+_, _*_, _^_, _≤_, _<_}
 use lib.ListN.{length, getD, drop}
 use Rattle.prelude.specs.Membership.{In}
 use Rattle.values.specs.Value.{Value}
@@ -16,19 +16,20 @@ use Rattle.patterns.specs.Binding.{Binding, names, place}
 use Rattle.patterns.specs.Binder.{mostBindings}
 use Rattle.patterns.specs.Pattern.{wide}
 use Rattle.patterns.specs.Nodes.{isLarge}
+use Rattle.patterns.specs.Read.{patternAt}
 use Rattle.matching.specs.Leaf.{Stands, Grown}
+use Rattle.matching.specs.Node.{innerOf, waysOf}
 use Rattle.forming.specs.declared.Step.{Step}
 use Rattle.forming.specs.declared.Formed.{Formed}
 use Rattle.forming.specs.declared.frames.Frame.{Frame}
 use Rattle.forming.specs.Adding.{adding}
-use Rattle.forming.specs.Inner.{inner}
+use Rattle.forming.specs.Inner.{Composed, inner}
 use Rattle.forming.specs.Frames.{entries, agendaWords, framesBytes, frameAt, heft, rank, maskOf}
 use Rattle.forming.specs.Onward.{Task, task, onward, oneWay}
 use Rattle.forming.specs.Pending.{AgendaIs, spaces}
 use Rattle.forming.specs.Rows.{RowsAre, Entered}
 use Rattle.forming.specs.Settled.{TellsSettled}
-use Rattle.forming.specs.Leaves.{recordCodes}
-use Rattle.forming.specs.Codes.{codePattern, codeInner, codeWays, Composed, RestIs, CodeHalves}
+use Rattle.forming.specs.Sizes.{TellsSizes}
 
 -- What a frame stands for: a pattern with parts that meets a value, before the rest of the tasks, going on from a binding and its words; the
 -- matches of the ways that were gone into, and those of the ways that are left.
@@ -42,30 +43,28 @@ pub record Level : Type 0 where
 
 -- The matches of one way of the pattern.
 abbrev pub wayOf : List ℕ → Frame → Level → List Value → List Binding
-wayOf table f l vs = oneWay (codeInner table (f .p)) (l .tasks) (l .binding) vs
+wayOf table f l vs = oneWay (innerOf table (f .p)) (l .tasks) (l .binding) vs
 
 -- Frame i stands for the level.
 pub record LevelIs (table index s a : List ℕ) (i : ℕ) (f : Frame) (l : Level) : Type 0 where
-  pub code : Composed table index (f .p)
-  pub rest-is : RestIs table index (f .p) (f .rest)
-  pub rest-low : f .rest < 4294967296
+  pub composed : Composed table index (f .p)
   pub low : f .at < f .top
   pub here : PartIs s (unpacked (getD a (3 * f .at + 1) 0)) (l .value)
-  pub narrow : wide (codePattern table (f .p)) (l .value) ≡ false
-  pub fits : isLarge (kindAt (records table) (f .p % recordCodes)) (l .value) ≡ false
+  pub narrow : wide (patternAt (records table) (f .p)) (l .value) ≡ false
+  pub fits : isLarge (kindAt (records table) (f .p)) (l .value) ≡ false
   pub are : AgendaIs table index s a (f .top) (f .next) (l .tasks)
-  pub room : f .top + (inner (codePattern table (f .p)) + spaces (l .tasks)) ≤ entries
+  pub room : f .top + (inner (patternAt (records table) (f .p)) + spaces (l .tasks)) ≤ entries
   pub high : 2 * i + 2 ≤ f .top
   pub stands : Stands s (l .words) (l .binding)
   pub mask : f .mask ≡ maskOf (l .words)
   pub mask-low : f .mask < 65536
-  pub ways : length (codeWays table (f .p) (l .value)) ≡ f .ways
+  pub ways : length (waysOf table (f .p) (l .value)) ≡ f .ways
   pub few : f .ways < 256
   pub within : f .way < f .ways
-  pub settled : TellsSettled table (f .p % recordCodes) (l .words) (f .once)
-  pub sizes : f .sizes .bound ≡ true → CodeHalves table (f .p) (kindAt (records table) (f .p % recordCodes)) (f .sizes)
-  pub due : l .due ≡ gather (drop (f .way) (codeWays table (f .p) (l .value))) (wayOf table f l)
-  pub done : (o : Binding) → In o (l .done) → (vs : List Value) × In vs (codeWays table (f .p) (l .value)) × In o (wayOf table f l vs) × ((c : Binding) → In c (wayOf table f l vs) → In c (l .done))
+  pub settled : TellsSettled table (f .p) (l .words) (f .once)
+  pub sizes : TellsSizes table (f .p) (kindAt (records table) (f .p)) (f .sizes)
+  pub due : l .due ≡ gather (drop (f .way) (waysOf table (f .p) (l .value))) (wayOf table f l)
+  pub done : (o : Binding) → In o (l .done) → (vs : List Value) × In vs (waysOf table (f .p) (l .value)) × In o (wayOf table f l vs) × ((c : Binding) → In c (wayOf table f l vs) → In c (l .done))
 
 -- The frames are the levels, the last first, below an entry of the agenda, with words that have grown since.
 abbrev pub StackIs : List ℕ → List ℕ → List ℕ → List ℕ → List ℕ → ℕ → List ℕ → List Level → Type 0
@@ -111,18 +110,18 @@ pub record AfterStep (table index s a : List ℕ) (found frames rows order : Lis
 -- ---- a frame opened for an entry with parts
 
 pub record Waiting (table index s a : List ℕ) (at next top : ℕ) (found frames : List ℕ) (depth hit : ℕ) (rows order : List ℕ) (n : ℕ) (target : List Binding) : Type 0 where
-  pub code : Composed table index (getD a (3 * at) 0)
+  pub composed : Composed table index (getD a (3 * at) 0)
   pub below : at < top
   pub value : Value
   pub here : PartIs s (unpacked (getD a (3 * at + 1) 0)) value
-  pub narrow : wide (codePattern table (getD a (3 * at) 0)) value ≡ false
+  pub narrow : wide (patternAt (records table) (getD a (3 * at) 0)) value ≡ false
   pub tasks : List Task
   pub are : AgendaIs table index s a top next tasks
-  pub room : top + (inner (codePattern table (getD a (3 * at) 0)) + spaces tasks) ≤ entries
+  pub room : top + (inner (patternAt (records table) (getD a (3 * at) 0)) + spaces tasks) ≤ entries
   pub low : 2 * depth + 2 ≤ top
   pub binding : Binding
   pub stands : Stands s found binding
-  pub stacked : Stacked table index s a top found frames depth hit rows order n (onward (task (codePattern table (getD a (3 * at) 0)) value ∷ tasks) binding) target
+  pub stacked : Stacked table index s a top found frames depth hit rows order n (onward (task (patternAt (records table) (getD a (3 * at) 0)) value ∷ tasks) binding) target
 
 pub record OpenHeld (table index s a : List ℕ) (at next top : ℕ) (found frames : List ℕ) (depth : ℕ) : Type 0 where
   pub hit : ℕ

@@ -11,8 +11,8 @@ ghost use Rattle.forming.specs.Frames.{frameBytes, mostFrames, framesByt
 // A frame takes two of the records of a table at least, so that no more are on the stack.
 const MOST_FRAMES: usize = MOST_RECORDS / 2;
 
-// The bytes of a frame: four for each of two codes, two for the names, and one for each of the other eleven fields.
-const FRAME_BYTES: usize = 21;
+// The bytes of a frame: two for the names, and one for each of the other twelve fields.
+const FRAME_BYTES: usize = 14;
 
 pub type Bytes = [u8; FRAME_BYTES];
 
@@ -21,11 +21,10 @@ pub const FRAMES_BYTES: usize = MOST_FRAMES * FRAME_BYTES;
 
 pub type Frames = [u8; FRAMES_BYTES];
 
-// The code of the pattern, and of the right half of a group; the entry of the agenda that has the part it meets, the entry that follows, and the first that
-// is free; the way that is next, and how many there are; the names that had a value; whether the pattern is only a test; and what its halves take.
+// The record of the pattern; the entry of the agenda that has the part it meets, the entry that follows, and the first that is free; the way that is
+// next, and how many there are; the names that had a value; whether the pattern is only a test; and what its halves take.
 pub struct Frame {
     pub p: usize,
-    pub rest: usize,
     pub at: usize,
     pub next: usize,
     pub top: usize,
@@ -58,46 +57,34 @@ fn wide(x: u8) -> usize
     x as usize
 }
 
-// Four bytes as a number, the lowest first.
-fn word(a: u8, b: u8, c: u8, d: u8) -> usize
-    ensures { λ r. ⌜ r ≡ a + 256 * b + 65536 * c + 16777216 * d ⌝ }
-{
-    let low = wide(a) + 256 * wide(b);
-    let high = wide(c) + 256 * wide(d);
-    low + 65536 * high
-}
-
 // A frame from its bytes.
 fn frame_of(b: Bytes) -> Frame
     ensures { λ r. ⌜ r ≡ frameOf b ⌝ }
 {
     let left = Size {
-        least: b[13],
-        more: b[14] == 1,
+        least: b[10],
+        more: b[11] == 1,
     };
     let right = Size {
-        least: b[15],
-        more: b[16] == 1,
+        least: b[12],
+        more: b[13] == 1,
     };
     let sizes = Sizes {
-        bound: b[12] == 1,
+        bound: b[9] == 1,
         left,
         right,
     };
-    let p = word(b[0], b[1], b[2], b[3]);
-    let rest = word(b[17], b[18], b[19], b[20]);
-    let low = wide(b[9]);
-    let high = wide(b[10]);
+    let low = wide(b[6]);
+    let high = wide(b[7]);
     Frame {
-        p,
-        rest,
-        at: b[4] as usize,
-        next: b[5] as usize,
-        top: b[6] as usize,
-        way: b[7] as usize,
-        ways: b[8] as usize,
+        p: b[0] as usize,
+        at: b[1] as usize,
+        next: b[2] as usize,
+        top: b[3] as usize,
+        way: b[4] as usize,
+        ways: b[5] as usize,
         mask: low + 256 * high,
-        once: b[11] == 1,
+        once: b[8] == 1,
         sizes,
     }
 }
@@ -132,10 +119,7 @@ fn bytes_of(f: Frame) -> Bytes
     let left = flag(z.left.more);
     let right = flag(z.right.more);
     [
-        (f.p % 256) as u8,
-        (f.p / 256 % 256) as u8,
-        (f.p / 65536 % 256) as u8,
-        (f.p / 16777216 % 256) as u8,
+        f.p as u8,
         f.at as u8,
         f.next as u8,
         f.top as u8,
@@ -149,10 +133,6 @@ fn bytes_of(f: Frame) -> Bytes
         left,
         z.right.least,
         right,
-        (f.rest % 256) as u8,
-        (f.rest / 256 % 256) as u8,
-        (f.rest / 65536 % 256) as u8,
-        (f.rest / 16777216 % 256) as u8,
     ]
 }
 
@@ -197,7 +177,7 @@ pub fn go_on(frames: &mut Frames, i: usize, way: usize, ways: usize) -> usize
     ensures { λ r. ⌜ Advanced (now (frames .entry)) i (onto (frameAt (now (frames .entry)) i) way) (now (frames .exit)) r ⌝ }
 {
     if way < ways {
-        frames[FRAME_BYTES * i + 7] = way as u8;
+        frames[FRAME_BYTES * i + 4] = way as u8;
         return i + 1;
     }
     i

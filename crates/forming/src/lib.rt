@@ -1,17 +1,12 @@
 // The bindings of a pattern formed once: all ways are gone through with an agenda of what is still to be matched and a stack of the patterns
 // whose ways are not all gone through. Each match found is inserted in order, once, among rows.
-mod codes;
 mod frames;
-mod groups;
-mod heights;
-mod leaves;
 mod masks;
 mod reduced;
 mod rows;
 mod settled;
 mod sizes;
 mod taking;
-mod wild;
 
 use crate::frames::Frame;
 use crate::frames::Frames;
@@ -24,6 +19,8 @@ use tables::Index;
 use tables::MOST_RECORDS;
 use tables::kinds;
 use tables::reading::kind;
+use tables::reading::operand;
+use tables::reading::operand_count;
 use values::Value;
 ghost use Prim.Native.Nat.{_≤_};
 ghost use Rattle.forming.specs.Rows.{EntryHeld};
@@ -31,8 +28,8 @@ ghost use Rattle.forming.specs.Whole.{WordMet, SameValue};
 ghost use Rattle.forming.specs.Pending.{Pushable, Pushed};
 ghost use Rattle.forming.specs.Stack.{OpenHeld, Opened, MatchEntered, DownHeld, WentDown, BackHeld, WentBack, FinishHeld, Finished, Solvable, Solved};
 
-// An agenda is what is still to be matched. An entry is the code of a pattern, the part that it meets, and the entry that follows. Entry 0 is none, one is
-// for the whole pattern, and one for each of its parts, which are other records of the table.
+// An agenda is what is still to be matched. An entry is the record of a pattern, the part that it meets, and the entry that follows. Entry 0 is none, one
+// is for the whole pattern, and one for each of its parts, which are other records of the table.
 pub const AGENDA_WORDS: usize = 3 * (MOST_RECORDS + 1);
 
 pub type Agenda = [u32; AGENDA_WORDS];
@@ -62,8 +59,7 @@ pub struct Step {
 fn push(
     table: &[u8],
     index: &Index,
-    c: usize,
-    rest: usize,
+    p: usize,
     s: &[u8],
     word: u32,
     d: usize,
@@ -71,12 +67,11 @@ fn push(
     next: usize,
     top: usize,
 ) -> usize
-    requires { ⌜ Pushable (now table) (now index) c rest (now s) word d (now agenda) next top ⌝ }
-    ensures { λ r. ⌜ Pushed (now (table .entry)) (now (index .entry)) c (now (s .entry)) word d (now (agenda .entry)) next top (now (agenda .exit)) r ⌝ }
+    requires { ⌜ Pushable (now table) (now index) p (now s) word d (now agenda) next top ⌝ }
+    ensures { λ r. ⌜ Pushed (now (table .entry)) (now (index .entry)) p (now (s .entry)) word d (now (agenda .entry)) next top (now (agenda .exit)) r ⌝ }
 {
-    let p = c % codes::RECORDS;
     let k = kind(table, index, p);
-    let n = groups::part_count(table, index, c);
+    let n = operand_count(table, index, p);
     let part = words::unpack(word);
     let mut head = next;
     let mut i = n;
@@ -84,7 +79,7 @@ fn push(
     while 0 < i {
         i -= 1;
         let a = nodes::piece(k, n, s, part, d, i);
-        let q = groups::part_code(table, index, c, rest, i);
+        let q = operand(table, index, p, i);
         let b = words::word_of(s, a);
         agenda[3 * to] = q as u32;
         agenda[3 * to + 1] = b;
@@ -109,7 +104,7 @@ fn split_word(s: &[u8], k: usize, word: u32, ways: usize) -> u32
     }
     let members = Part {
         at: p.at,
-        extent: (ways - 1) as u16,
+        extent: (ways + 1) as u16,
         how: Part::MEMBERS,
     };
     words::word_of(s, members)
@@ -133,22 +128,18 @@ fn open_frame(
 {
     let whole = agenda[3 * at] as usize;
     let word = agenda[3 * at + 1];
-    let p = groups::regrouped(table, index, whole);
-    let own = p % codes::RECORDS;
-    let k = kind(table, index, own);
-    let c = groups::part_count(table, index, p);
+    let p = reduced::reduced(table, index, whole);
+    let k = kind(table, index, p);
+    let c = operand_count(table, index, p);
     let part = words::unpack(word);
     let m = nodes::meet(k, c, s, part);
     if let Meeting::Ways(ways) = m {
-        let opened = groups::open_code(table, index, p, k);
-        let rest = opened.rest;
-        let sizes = opened.sizes;
+        let sizes = sizes::sizes_of(table, index, p, k);
         let way = sizes::way_from(k, ways, 0, sizes);
-        let once = settled::is_settled(table, index, own, found);
+        let once = settled::is_settled(table, index, p, found);
         let mask = masks::mask_of(found);
         let f = Frame {
             p,
-            rest,
             at,
             next,
             top,
@@ -285,15 +276,14 @@ fn back(
     }
     let p = f.p;
     let at = f.at;
-    let own = p % codes::RECORDS;
-    let k = kind(table, index, own);
-    let c = groups::part_count(table, index, p);
+    let k = kind(table, index, p);
+    let c = operand_count(table, index, p);
     let met = agenda[3 * at + 1];
     let w = split_word(s, k, met, f.ways);
     let way = sizes::way_from(k, f.ways, f.way + 1, f.sizes);
     let left = frames::go_on(frames, i, way, f.ways);
     masks::clear(found, f.mask);
-    let head = push(table, index, p, f.rest, s, w, f.way, agenda, f.next, f.top);
+    let head = push(table, index, p, s, w, f.way, agenda, f.next, f.top);
     down(
         table,
         index,

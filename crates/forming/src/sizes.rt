@@ -1,6 +1,4 @@
 // How many members or items a pattern takes. A way of splitting or cutting that gives a half more or fewer has no match.
-use crate::heights::is_low;
-use crate::reduced::splits;
 use crate::settled::either;
 use tables::Index;
 use tables::kinds;
@@ -8,10 +6,10 @@ use tables::reading::kind;
 use tables::reading::operand;
 use tables::reading::operand_count;
 ghost use mathlib.Core.Path.{_≡_};
+ghost use mathlib.Core.Bool.{true};
 ghost use Prim.Native.Nat.{_<_};
 ghost use Rattle.patterns.specs.Read.{Readable};
-ghost use Rattle.forming.specs.Reduced.{Splits, enumerationOf};
-ghost use Rattle.forming.specs.Sizes.{TellsSize, Sum, HalvesHeld, TellsSizes, Rights, SplitFrom, CutFrom, FromHeld, From};
+ghost use Rattle.forming.specs.Sizes.{Splits, enumerationOf, fewestOf, TellsSize, Sum, HalvesHeld, TellsSizes, Rights, SplitFrom, CutFrom, FromHeld, From};
 
 // At least so many; or exactly so many, where there may not be more.
 pub struct Size {
@@ -34,7 +32,7 @@ pub struct Sizes {
 }
 
 // Two sizes together.
-pub fn sum(l: Size, r: Size) -> Size
+fn sum(l: Size, r: Size) -> Size
     ensures { λ z. ⌜ Sum l r z ⌝ }
 {
     let a = l.least as usize;
@@ -60,8 +58,18 @@ fn enumeration_of(k: usize) -> usize
     kinds::SEQUENCE_PATTERN
 }
 
+// A half of what patterns of kind k split or cut has at least so many: of a set it holds something, of a sequence it may be empty.
+fn fewest_of(k: usize) -> u8
+    ensures { λ r. ⌜ r ≡ fewestOf k ⌝ }
+{
+    if k == kinds::UNION_PATTERN {
+        return 1;
+    }
+    0
+}
+
 // What a pattern takes that meets a half, where k is the kind of the whole.
-pub fn size_of(table: &[u8], index: &Index, p: usize, k: usize) -> Size
+fn size_of(table: &[u8], index: &Index, p: usize, k: usize) -> Size
     requires { ⌜ Readable (now table) (now index) p × Splits k ⌝ }
     ensures { λ z. ⌜ TellsSize (now (table .entry)) p k z ⌝ }
 {
@@ -74,10 +82,8 @@ pub fn size_of(table: &[u8], index: &Index, p: usize, k: usize) -> Size
         };
     }
     if own != k {
-        return Size {
-            least: 0,
-            more: true,
-        };
+        let least = fewest_of(k);
+        return Size { least, more: true };
     }
     let l = operand(table, index, p, 0);
     let left = size_of(table, index, l, k);
@@ -86,18 +92,25 @@ pub fn size_of(table: &[u8], index: &Index, p: usize, k: usize) -> Size
     sum(left, right)
 }
 
-// Any number.
-fn is_any(z: Size) -> bool {
-    if z.least != 0 {
+// Any number that a half may have.
+fn is_any(z: Size, k: usize) -> bool {
+    if z.least != fewest_of(k) {
         return false;
     }
     z.more
 }
 
-// The greatest height of a pattern whose sizes are worked out.
-const SIZED: usize = 21;
+// Patterns of this kind have two halves.
+fn splits(k: usize) -> bool
+    ensures { λ r. ⌜ (r ≡ true → Splits k) ⌝ }
+{
+    if k == kinds::UNION_PATTERN {
+        return true;
+    }
+    k == kinds::CONCATENATION_PATTERN
+}
 
-// What the halves of a pattern of kind k take, where it is low; else any number.
+// What the halves of a pattern of kind k take, where it has two; else any number.
 pub fn sizes_of(table: &[u8], index: &Index, p: usize, k: usize) -> Sizes
     requires { ⌜ HalvesHeld (now table) (now index) p k ⌝ }
     ensures { λ z. ⌜ TellsSizes (now (table .entry)) p k z ⌝ }
@@ -114,27 +127,19 @@ pub fn sizes_of(table: &[u8], index: &Index, p: usize, k: usize) -> Sizes
             right: none,
         };
     }
-    let low = is_low(table, index, p, SIZED);
-    if !low {
-        return Sizes {
-            bound: false,
-            left: none,
-            right: none,
-        };
-    }
     let l = operand(table, index, p, 0);
     let left = size_of(table, index, l, k);
     let r = operand(table, index, p, 1);
     let right = size_of(table, index, r, k);
-    pair(left, right)
+    pair(left, right, k)
 }
 
-// What two halves take.
-pub fn pair(left: Size, right: Size) -> Sizes
+// What the two halves of a pattern of kind k take.
+fn pair(left: Size, right: Size, k: usize) -> Sizes
     ensures { λ z. ⌜ (z .left ≡ left) × (z .right ≡ right) ⌝ }
 {
-    let free = is_any(left);
-    let bound = if free { !is_any(right) } else { true };
+    let free = is_any(left, k);
+    let bound = if free { !is_any(right, k) } else { true };
     Sizes { bound, left, right }
 }
 
@@ -158,8 +163,8 @@ fn rights(z: Sizes, n: usize) -> Range
     Range { least, most }
 }
 
-// The first of w splits from d on that has so many members on the right: as many as bits of its number are set. A number that is higher by n has at
-// most n more of them, so those that cannot have enough are passed over together.
+// The first of the splits 0 to w - 1 from d on that has so many members on the right: as many as bits of its number are set. A number that is higher by
+// n has at most n more of them, so those that cannot have enough are passed over together.
 fn split_from(w: usize, d: usize, r: Range) -> usize
     ensures { λ e. ⌜ SplitFrom w d r e ⌝ }
 {
@@ -196,7 +201,8 @@ fn cut_from(w: usize, d: usize, r: Range) -> usize
     e
 }
 
-// The first way from d on whose halves may have what they take.
+// The first way from d on whose halves may have what they take. The ways of a union are all splits but the first and the last, which have an empty half:
+// way d is the split d + 1, and the split w + 1 has all members on the right.
 pub fn way_from(k: usize, w: usize, d: usize, z: Sizes) -> usize
     requires { ⌜ FromHeld k w z ⌝ }
     ensures { λ r. ⌜ From k w d z r ⌝ }
@@ -208,9 +214,11 @@ pub fn way_from(k: usize, w: usize, d: usize, z: Sizes) -> usize
         return d;
     }
     if k == kinds::UNION_PATTERN {
-        let n = usize::count_ones(w - 1) as usize;
+        let last = w + 1;
+        let n = usize::count_ones(last) as usize;
         let r = rights(z, n);
-        return split_from(w, d, r);
+        let e = split_from(last, d + 1, r);
+        return e - 1;
     }
     let r = rights(z, w - 1);
     cut_from(w, d, r)

@@ -3,11 +3,12 @@ use mathlib.Core.Path.{_≡_, refl, sym, ap, subst, _∙_}
 use mathlib.Core.Bool.{Bool, true, false, cond}
 use mathlib.Core.Option.{none as absent, some}
 use mathlib.Core.List.{List, [], _∷_, map}
-use Prim.Native.Nat.{ℕ, _+_, _^_, _≤_, _<_}
+use Prim.Native.Nat.{ℕ, _+_, _-_, _^_, _≤_, _<_}
 use native.Mathlib.Decide.{ℕ-discrete}
 use native.Mathlib.Omega.{arith}
 use lib.Dec.{eqb, ltb}
 use lib.ListN.{length, length-map}
+use lib.Pow.{pow-mono}
 use borrow.Author.Tests.{eq-eqb, ne-eqb, lt-ltb, le-ltb}
 use Rattle.values.specs.Value.{Kind, set, sequence, map as mapping, tuple, number, kindOf, Value, boolean, integer, collection, WellFormed}
 use Rattle.values.proofs.Order.{number-low, number-inj}
@@ -19,8 +20,8 @@ use Rattle.parts.specs.Part.{PartIs, PartHeld}
 use Rattle.parts.specs.Contract.{KindOfPart, CollectionHeld, CountOfPart}
 use Rattle.parts.specs.Mask.{Full}
 use Rattle.parts.proofs.Laws.{part-well-formed}
-use Rattle.parts.specs.Laws.Chosen.{splits-length, cuts-length}
-use Rattle.patterns.specs.Ways.{splits, cuts, orders}
+use Rattle.parts.specs.Laws.Chosen.{proper-none, proper-length, cuts-length}
+use Rattle.patterns.specs.Ways.{properSplits, cuts, orders}
 use Rattle.patterns.specs.Pattern.{listOf, itemsOf, contents, isTooLarge}
 use Rattle.patterns.specs.Laws.Matched.{items-list, list-items}
 use Rattle.patterns.specs.Laws.Plain.{count-list}
@@ -78,7 +79,7 @@ module _ (c n : ℕ) (v : Value) where
       go false f = (rw f, rw (f, e))
 
   module _ (vs : List Value) where
-    pub meets-splits : c ≡ 38 → contents set v ≡ some vs → (meetings c n v ≡ map (bothHalves set) (splits vs)) × (isLarge c v ≡ ltb 7 (length vs))
+    pub meets-splits : c ≡ 38 → contents set v ≡ some vs → (meetings c n v ≡ map (bothHalves set) (properSplits vs)) × (isLarge c v ≡ ltb 7 (length vs))
     meets-splits e f = (rw (e, f), rw (e, f))
 
     pub meets-cuts : c ≡ 40 → contents sequence v ≡ some vs → (meetings c n v ≡ map (bothHalves sequence) (cuts vs)) × (isLarge c v ≡ false)
@@ -96,6 +97,10 @@ module _ (c n : ℕ) (v : Value) where
         (λ e. absurd (z e))
 
 -- ---- what `meet` answers
+
+-- two members or more have a mask above 2
+pub full-some : (k m : ℕ) → 2 ≤ k → Full k m → 2 < m
+full-some k m l full = omega (arith, full .power, pow-mono {i = 2} {j = k} l)
 
 module _ (c n : ℕ) (s : List ℕ) (p : Part) (composed : isComposed c ≡ true) (k : ℕ) (kind : KindOfPart s p k) where
   pub kind-unfit : (k ≡ number (collectionOf c) → ⊥) → Meets c n s p Unfit
@@ -123,14 +128,23 @@ module _ (c n : ℕ) (s : List ℕ) (p : Part) (composed : isComposed c ≡ true
           let f : contents set v ≡ some (w .items) = subst (λ (x : ℕ). contents (collectionOf x) v ≡ some (w .items)) e (w .has) in
           meets-splits c n v (w .items) e f .1 ∙ lt-ltb 7 (length (w .items)) (omega (arith, counts v h))
 
-      pub by-splits : c ≡ 38 → count ≤ 7 → (m : ℕ) → Full count m → Meets c n s p (Ways (m + 1))
-      by-splits e l m full v h =
+      pub too-small : c ≡ 38 → count < 2 → Meets c n s p Unfit
+      too-small e l v h =
           let w = has-items v h in
           let f : contents set v ≡ some (w .items) = subst (λ (x : ℕ). contents (collectionOf x) v ≡ some (w .items)) e (w .has) in
           let q = counts v h in
           let a = meets-splits c n v (w .items) e f in
-          let len : length (meetings c n v) ≡ m + 1 =
-          ap length (a .0) ∙ length-map (splits (w .items)) (bothHalves set) ∙ splits-length (w .items) ∙ ap (λ (x : ℕ). 2 ^ x) (sym q) ∙ sym (full .power) in
+          (a .1 ∙ le-ltb 7 (length (w .items)) (omega (arith, q)), a .0 ∙ ap (map (bothHalves set)) (proper-none (w .items) (omega (arith, q))))
+
+      pub by-splits : c ≡ 38 → count ≤ 7 → 2 ≤ count → (m : ℕ) → Full count m → Meets c n s p (Ways (m - 1))
+      by-splits e l k m full v h =
+          let w = has-items v h in
+          let f : contents set v ≡ some (w .items) = subst (λ (x : ℕ). contents (collectionOf x) v ≡ some (w .items)) e (w .has) in
+          let q = counts v h in
+          let a = meets-splits c n v (w .items) e f in
+          let some-members = full-some count m k full in
+          let len : length (meetings c n v) ≡ m - 1 =
+          ap length (a .0) ∙ length-map (properSplits (w .items)) (bothHalves set) ∙ proper-length (w .items) ∙ ap (λ (x : ℕ). 2 ^ x - 2) (sym q) ∙ omega (arith, full .power) in
           (a .1 ∙ le-ltb 7 (length (w .items)) (omega (arith, q)), len, omega arith, omega (arith, full .small))
 
       pub by-cuts : c ≡ 40 → PartHeld s p → Meets c n s p (Ways (count + 1))

@@ -4,11 +4,12 @@ use mathlib.Core.Bool.{Bool, true, false, cond}
 use mathlib.Core.Logic.{inl}
 use mathlib.Core.Option.{some}
 use mathlib.Core.List.{List, [], _∷_, map}
-use Prim.Native.Nat.{ℕ, _≤_, _<_}
+use Prim.Native.Nat.{ℕ, suc, _+_, _^_, _≤_, _<_}
 use native.Mathlib.Decide.{ℕ-discrete}
 use native.Mathlib.Omega.{arith}
 use lib.Dec.{eqb}
 use lib.ListN.{length, getD, length-map}
+use lib.Pow.{pow-mono}
 use borrow.Author.Tests.{eqb-true, ltb-false}
 use Rattle.prelude.proofs.Lists.{map-at}
 use Rattle.values.specs.Value.{Kind, set, sequence, number, kindOf, Value, collection}
@@ -18,8 +19,9 @@ use Rattle.parts.specs.declared.Halves.{Halves}
 use Rattle.parts.specs.Part.{PartIs}
 use Rattle.parts.specs.Contract.{ItemHeld, ItemOfPart, HalvesAre, SplitHeld, SplitOf, CutHeld, CutOf}
 use Rattle.parts.proofs.Laws.{part-one}
-use Rattle.parts.specs.Laws.Chosen.{splits-length, cuts-length}
-use Rattle.patterns.specs.Ways.{Halves as Split, halves, splits, cuts, orders}
+use Rattle.parts.specs.Chosen.{splitAt}
+use Rattle.parts.specs.Laws.Chosen.{proper-length, nth-split, nth-proper, cuts-length}
+use Rattle.patterns.specs.Ways.{Halves as Split, halves, splits, properSplits, cuts, orders}
 use Rattle.patterns.specs.Pattern.{itemsOf, contents}
 use Rattle.patterns.specs.Nodes.{collectionOf, meetings, bothHalves}
 use Rattle.patterns.specs.Laws.Orders.{factorial, orders-length}
@@ -71,25 +73,35 @@ module _ (c n : ℕ) (s : List ℕ) (p : Part) (d i : ℕ) (h : PieceHeld c n s 
     has-set : contents set (h .value) ≡ some vs
     has-set = subst (λ (x : ℕ). contents (collectionOf x) (h .value) ≡ some vs) e (has-value .has)
 
-    splits-are : meetings c n (h .value) ≡ map (bothHalves set) (splits vs)
+    splits-are : meetings c n (h .value) ≡ map (bothHalves set) (properSplits vs)
     splits-are = meets-splits c n (h .value) vs e has-set .0
 
-    below-splits : d < length (splits vs)
-    below-splits = omega (arith, h .below, ap length splits-are, length-map (splits vs) (bothHalves set))
+    below-splits : d < length (properSplits vs)
+    below-splits = omega (arith, h .below, ap length splits-are, length-map (properSplits vs) (bothHalves set))
 
-    pub split-held : SplitHeld s p d
-    split-held = record {
-      items = vs;
-      here = here set (rw e);
-      few = ltb-false 7 (length vs) (sym (meets-splits c n (h .value) vs e has-set .1) ∙ h .narrow);
-      below = omega (arith, below-splits, splits-length vs);
-    }
+    next-below : suc d + 1 < 2 ^ length vs
+    next-below = omega (arith, below-splits, proper-length vs)
 
-    split-way : getD (meetings c n (h .value)) d [] ≡ bothHalves set (getD (splits vs) d (halves [] []))
-    split-way = ap (λ (l : List (List Value)). getD l d []) splits-are ∙ map-at (bothHalves set) (splits vs) d (halves [] []) [] below-splits
+    few-members : length vs ≤ 7
+    few-members = ltb-false 7 (length vs) (sym (meets-splits c n (h .value) vs e has-set .1) ∙ h .narrow)
 
-    pub split-meets : (r : Halves) → SplitOf s p d r → Met r
-    split-meets r o = halves-meet set (getD (splits vs) d (halves [] [])) (h .two (rw e)) split-way r (o .right vs (here set (rw e)))
+    pub next-low : d + 1 < 128
+    next-low = omega (arith, next-below, pow-mono {i = length vs} {j = 7} few-members)
+
+    pub split-held : SplitHeld s p (d + 1)
+    split-held = record { items = vs; here = here set (rw e); few = few-members; below = omega (arith, next-below) }
+
+    next-split : getD (properSplits vs) d (halves [] []) ≡ getD (splits vs) (d + 1) (halves [] [])
+    next-split =
+        let e : suc d ≡ d + 1 = omega arith in
+        nth-proper vs d (halves [] []) next-below ∙ ap (splitAt vs) e ∙ sym (nth-split vs (d + 1) (halves [] []) (omega (arith, next-below)))
+
+    split-way : getD (meetings c n (h .value)) d [] ≡ bothHalves set (getD (splits vs) (d + 1) (halves [] []))
+    split-way =
+        ap (λ (l : List (List Value)). getD l d []) splits-are ∙ map-at (bothHalves set) (properSplits vs) d (halves [] []) [] below-splits ∙ ap (bothHalves set) next-split
+
+    pub split-meets : (r : Halves) → SplitOf s p (d + 1) r → Met r
+    split-meets r o = halves-meet set (getD (splits vs) (d + 1) (halves [] [])) (h .two (rw e)) split-way r (o .right vs (here set (rw e)))
 
   module _ (e : c ≡ 40) where
     has-sequence : contents sequence (h .value) ≡ some vs

@@ -79,8 +79,11 @@ pub fn meet(kind: usize, n: usize, s: &[u8], part: Part) -> Meeting
         if parts::masks::MOST_MEMBERS < count {
             return Meeting::Large;
         }
+        if count < 2 {
+            return Meeting::Unfit;
+        }
         let m = parts::masks::full(count);
-        return Meeting::Ways(m + 1);
+        return Meeting::Ways(m - 1);
     }
     if kind == kinds::CONCATENATION_PATTERN {
         return Meeting::Ways(count + 1);
@@ -95,13 +98,13 @@ pub fn meet(kind: usize, n: usize, s: &[u8], part: Part) -> Meeting
     Meeting::Ways(1)
 }
 
-// What part i meets in the way d.
+// What part i meets in the way d. The first of all splits has an empty half, so the ways of a union start at the next.
 pub fn piece(kind: usize, n: usize, s: &[u8], part: Part, d: usize, i: usize) -> Part
     requires { ⌜ PieceHeld kind n (now s) part d i ⌝ }
     ensures { λ r. ⌜ PieceOf kind n (now (s .entry)) part d i r ⌝ }
 {
     if kind == kinds::UNION_PATTERN {
-        let h = parts::split_part(s, part, d);
+        let h = parts::split_part(s, part, d + 1);
         if i == 0 {
             return h.left;
         }

@@ -7,7 +7,7 @@ use lib.Dec.{eqb, ltb}
 use lib.ListN.{length}
 use Rattle.values.specs.Value.{Kind, set, sequence, map as mapping, tuple, number, Value, boolean, integer, collection, Items, none, more}
 use Rattle.values.specs.Items.{same}
-use Rattle.patterns.specs.Ways.{gather, exists, Halves, splits, cuts, orders}
+use Rattle.patterns.specs.Ways.{gather, exists, Halves, properSplits, cuts, orders}
 use Rattle.patterns.specs.Binding.{Binding, nothing, only, together}
 
 -- 32 a name; 33 any; 34 and 35 a literal; 36, 37 and 39 one part for each item, of a tuple, a set or a sequence;
@@ -51,9 +51,9 @@ arrangements sequence vs = vs ∷ []
 arrangements mapping vs = []
 arrangements tuple vs = vs ∷ []
 
--- Every split of a set into two disjoint sets, every cut of a sequence in two.
+-- Every split of a set into two disjoint sets, neither of them empty; every cut of a sequence in two, empty parts too.
 abbrev pub divisions : Kind → List Value → List (Halves Value)
-divisions set vs = splits vs
+divisions set vs = properSplits vs
 divisions sequence vs = cuts vs
 divisions mapping vs = []
 divisions tuple vs = []

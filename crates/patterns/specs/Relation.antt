@@ -5,7 +5,7 @@ use mathlib.Core.List.{List, [], _∷_, _++_}
 use Prim.Native.Nat.{ℕ, _<_}
 use lib.ListN.{length}
 use Rattle.values.specs.Value.{Kind, set, sequence, map as mapping, tuple, Value, collection}
-use Rattle.patterns.specs.Units.{Shared, Permuted}
+use Rattle.patterns.specs.Units.{Parted, Permuted}
 use Rattle.patterns.specs.Binding.{Cell, free, is, clash, Binding, names, nothing, only, cellOf}
 use Rattle.patterns.specs.Pattern.{Pattern, name, any, literal, each, halved, Patterns, nil, cons, parts, itemsOf}
 
@@ -35,9 +35,9 @@ Arranged sequence vs ws = ws ≡ vs
 Arranged mapping vs ws = ⊥
 Arranged tuple vs ws = ws ≡ vs
 
--- Two disjoint sets that are the set together; two sequences that are the sequence one after the other. Both may be empty.
+-- Two disjoint sets that are the set together, neither of them empty; two sequences that are the sequence one after the other, empty ones too.
 abbrev pub Divided : Kind → List Value → List Value → List Value → Type 0
-Divided set vs ls rs = Shared vs ls rs
+Divided set vs ls rs = Parted vs ls rs
 Divided sequence vs ls rs = vs ≡ ls ++ rs
 Divided mapping vs ls rs = ⊥
 Divided tuple vs ls rs = ⊥

@@ -1,5 +1,5 @@
 -- The ways to take units apart, for units of any type: members of a set, items of a sequence, and one day the entries of a map.
-use mathlib.Core.Bool.{Bool, false, _||_}
+use mathlib.Core.Bool.{Bool, true, false, _&&_, _||_, cond}
 use mathlib.Core.List.{List, [], _∷_, _++_, map}
 
 -- What f gives for each, one after the other.
@@ -30,6 +30,23 @@ toRight x h = halves (h .left) (x ∷ h .right)
 unfoldable pub splits : {A : Type 0} → List A → List (Halves A)
 splits [] = halves [] [] ∷ []
 splits (x ∷ xs) = map (toLeft x) (splits xs) ++ map (toRight x) (splits xs)
+
+abbrev pub isNonEmpty : {A : Type 0} → List A → Bool
+isNonEmpty [] = false
+isNonEmpty (x ∷ xs) = true
+
+-- A split is proper where neither half is empty.
+abbrev pub isProper : {A : Type 0} → Halves A → Bool
+isProper h = isNonEmpty (h .left) && isNonEmpty (h .right)
+
+-- Those of them that are proper.
+unfoldable pub proper : {A : Type 0} → List (Halves A) → List (Halves A)
+proper [] = []
+proper (h ∷ hs) = cond (isProper h) (h ∷ proper hs) (proper hs)
+
+-- Every split of the units in which neither half is empty (wish 1).
+abbrev pub properSplits : {A : Type 0} → List A → List (Halves A)
+properSplits xs = proper (splits xs)
 
 -- Every cut of the units in two, empty parts too.
 unfoldable pub cuts : {A : Type 0} → List A → List (Halves A)

@@ -8,7 +8,7 @@ use Prim.Native.Nat.{_<_}
 use lib.ListN.{length}
 use Rattle.prelude.specs.Membership.{In}
 use Rattle.values.specs.Value.{set, sequence, map as mapping, tuple, Value, collection}
-use Rattle.patterns.specs.Units.{Shared}
+use Rattle.patterns.specs.Units.{Parted}
 use Rattle.patterns.specs.Pattern.{Pattern, name, any, literal, each, halved, Patterns, nil, cons, parts, itemsOf, mostSplit}
 
 unfoldable mutual
@@ -23,7 +23,7 @@ unfoldable mutual
   Wide (each tuple ps) v = (vs : List Value) × (v ≡ collection tuple (itemsOf vs)) × (parts ps ≡ length vs) × WideInTurn ps vs
   Wide (halved set p q) v =
       (vs : List Value) × (v ≡ collection set (itemsOf vs))
-      × ((mostSplit < length vs) ⊎ ((ls rs : List Value) × Shared vs ls rs × (Wide p (collection set (itemsOf ls)) ⊎ Wide q (collection set (itemsOf rs)))))
+      × ((mostSplit < length vs) ⊎ ((ls rs : List Value) × Parted vs ls rs × (Wide p (collection set (itemsOf ls)) ⊎ Wide q (collection set (itemsOf rs)))))
   Wide (halved sequence p q) v =
       (ls rs : List Value) × (v ≡ collection sequence (itemsOf (ls ++ rs))) × (Wide p (collection sequence (itemsOf ls)) ⊎ Wide q (collection sequence (itemsOf rs)))
   Wide (halved mapping p q) v = ⊥

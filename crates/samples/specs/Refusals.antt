@@ -105,8 +105,8 @@ pub iota-tests-all : walk (rows (P 0 ∷ whole 0 ∷ whole 1 ∷ whole 2 ∷ row
 unfolding computing
 iota-tests-all = refl
 
--- exists a union - in set {{1}, {1,...,8}} & 1 div 0 = 1: 29, all bindings are formed before the first condition
-pub formed-first : walk (rows (P 0 ∷ row 33 [] ∷ row 38 (0 ∷ 1 ∷ []) ∷ whole 1 ∷ row 7 (3 ∷ []) ∷ whole 1 ∷ whole 8 ∷ row 11 (5 ∷ 6 ∷ []) ∷ row 7 (4 ∷ 7 ∷ []) ∷ whole 1 ∷ whole 0 ∷ operation 10 9 10 ∷ whole 1 ∷ operation 5 11 12 ∷ row 15 (2 ∷ 8 ∷ 13 ∷ []) ∷ [])) ≡ alone (refuses 29 14 0)
+-- exists a union - in set {{1, 2}, {1,...,8}} & 1 div 0 = 1: 29, all bindings are formed before the first condition
+pub formed-first : walk (rows (P 0 ∷ row 33 [] ∷ row 38 (0 ∷ 1 ∷ []) ∷ whole 1 ∷ whole 2 ∷ row 7 (3 ∷ 4 ∷ []) ∷ whole 1 ∷ whole 8 ∷ row 11 (6 ∷ 7 ∷ []) ∷ row 7 (5 ∷ 8 ∷ []) ∷ whole 1 ∷ whole 0 ∷ operation 10 10 11 ∷ whole 1 ∷ operation 5 12 13 ∷ row 15 (2 ∷ 9 ∷ 14 ∷ []) ∷ [])) ≡ alone (refuses 29 15 0)
 unfolding computing
 formed-first = refl
 

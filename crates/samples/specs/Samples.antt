@@ -115,12 +115,12 @@ pub unpaired-shows : walk unpaired ≡ ([], refuses 23 8 0) ∷ []
 unfolding computing
 unpaired-shows = refl
 
--- ---- let a union b = {1,2} in card a: 0, 1, 2, 1
+-- ---- let a union b = {1,2} in card a: 1, 1
 
 abbrev splitting : List ℕ
 splitting = rows (P 0 ∷ P 1 ∷ row 38 (0 ∷ 1 ∷ []) ∷ whole 1 ∷ whole 2 ∷ row 7 (3 ∷ 4 ∷ []) ∷ name 0 ∷ row 4 (4 ∷ 6 ∷ []) ∷ row 12 (2 ∷ 5 ∷ 7 ∷ []) ∷ [])
 
-pub splitting-shows : walk splitting ≡ (0 ∷ [], result (n 0)) ∷ (1 ∷ [], result (n 1)) ∷ (2 ∷ [], result (n 2)) ∷ (3 ∷ [], result (n 1)) ∷ []
+pub splitting-shows : walk splitting ≡ (0 ∷ [], result (n 1)) ∷ (1 ∷ [], result (n 1)) ∷ []
 unfolding computing
 splitting-shows = refl
 
@@ -178,11 +178,11 @@ height-33-refused = refl
 
 -- ---- a set of 7 splits, of 8: 29
 
--- let a union - = {1,...,k} in 0: 128 ways for 7
+-- let a union - = {1,...,k} in 0: 126 ways for 7
 abbrev split-of : ℕ → List ℕ
 split-of k = rows (P 0 ∷ row 33 [] ∷ row 38 (0 ∷ 1 ∷ []) ∷ whole 1 ∷ whole k ∷ row 11 (3 ∷ 4 ∷ []) ∷ whole 0 ∷ row 12 (2 ∷ 5 ∷ 6 ∷ []) ∷ [])
 
-pub split-of-7-shows : length (walk (split-of 7)) ≡ 128
+pub split-of-7-shows : length (walk (split-of 7)) ≡ 126
 unfolding computing
 split-of-7-shows = refl
 

@@ -1,50 +1,50 @@
-use Rattle.forming.proofs.Coding.{code-readable, code-small}
 use borrow.Author.Needs.{needs}
 use native.Mathlib.Omega.{arith}
-use Rattle.forming.proofs.Pushing.{PushSoFar, push-start, part-asked, piece-asked, piece-held, push-more, push-end}
+use Rattle.matching.proofs.Records.{has-operand}
+use Rattle.forming.proofs.Pushing.{PushSoFar, push-start, piece-asked, piece-held, push-more, push-end}
 use Rattle.forming.proofs.push.Statement.{statement}
 use Rattle.forming.proofs.push.Tie as tie
 use Rattle.forming.proofs.push.Reads as reads
 use Rattle.forming.proofs.push.Lts as lts
-use Rattle.forming.proofs.groups.part_code.Reads as part-code-reads
 use Rattle.matching.proofs.nodes.piece.Reads as piece-reads
 use Rattle.parts.proofs.words.word_of.Reads as word-of-reads
 use Rattle.parts.proofs.words.unpack.Reads as unpack-reads
 use Rattle.tables.proofs.reading.kind.Reads as kind-reads
-use Rattle.forming.proofs.groups.part_count.Reads as part-count-reads
+use Rattle.tables.proofs.reading.operand.Reads as operand-reads
+use Rattle.tables.proofs.reading.operand_count.Reads as operand-count-reads
 
 abbrev Inv-loop : tie.InvT-loop
-Inv-loop table index c rest s word d agenda₀ next top p k n part head₀ i₀ to₀ agenda head i to = PushSoFar table index c s word d agenda₀ next top agenda head i to
+Inv-loop table index p s word d agenda₀ next top k n part head₀ i₀ to₀ agenda head i to = PushSoFar table index p s word d agenda₀ next top agenda head i to
 
 abbrev μ-loop : tie.MeasureT-loop
-μ-loop table index c rest s word d agenda₀ next top p k n part head₀ i₀ to₀ agenda head i to = i
+μ-loop table index p s word d agenda₀ next top k n part head₀ i₀ to₀ agenda head i to = i
 
 kind-requires : tie.Need-kind-requires Inv-loop μ-loop
-kind-requires c κs = code-readable _ _ _ (c .before .before .pre .code) .here
+kind-requires c κs = c .before .before .pre .composed .readable .here
 
-part-count-requires : tie.Need-part-count-requires Inv-loop μ-loop
-part-count-requires c κs = c .before .before .before .pre .code
+operand-count-requires : tie.Need-operand-count-requires Inv-loop μ-loop
+operand-count-requires c κs = c .before .before .before .pre .composed .readable .here
 
 unpack-requires : tie.Need-unpack-requires Inv-loop μ-loop
 unpack-requires c κs = search needs
 
 loop-holds : tie.Need-loop-holds Inv-loop μ-loop
-loop-holds c = push-start _ _ _ _ _ _ _ _ _ _ (c .before .before .before .before .before .pre) _ (c .before .part-count .ensures .0)
+loop-holds c = push-start _ _ _ _ _ _ _ _ _ (c .before .before .before .before .before .pre) _ (c .before .operand-count .ensures .0)
 
 sub-i : tie.Need-sub-i Inv-loop μ-loop
 sub-i c = omega arith
 
 piece-requires : tie.Need-piece-requires Inv-loop μ-loop
-piece-requires c κs = piece-asked _ _ _ _ _ _ _ _ _ _ (c .before .before .before .before .before .before .before .pre) _ _ _ _ (c .before .before .unpack .ensures) (omega (arith, c .before .loop .inv .within)) (c .before .before .before .before .kind .ensures .0) (c .before .before .before .part-count .ensures .0)
+piece-requires c κs = piece-asked _ _ _ _ _ _ _ _ _ (c .before .before .before .before .before .before .before .pre) _ _ _ _ (c .before .before .unpack .ensures) (omega (arith, c .before .loop .inv .within)) (c .before .before .before .before .kind .ensures .0) (c .before .before .before .operand-count .ensures .0)
 
-part-code-requires : tie.Need-part-code-requires Inv-loop μ-loop
-part-code-requires c κs = part-asked _ _ _ _ _ _ _ _ _ _ (c .before .before .before .before .before .before .before .before .pre) _ (omega (arith, c .before .before .loop .inv .within))
+operand-requires : tie.Need-operand-requires Inv-loop μ-loop
+operand-requires c κs = has-operand _ _ _ (c .before .before .before .before .before .before .before .before .pre .composed .readable) _ (omega (arith, c .before .before .loop .inv .within))
 
 word-of-requires : tie.Need-word-of-requires Inv-loop μ-loop
-word-of-requires c κs = (c .before .before .before .before .before .before .before .before .before .pre .short, piece-held _ _ _ _ _ _ _ _ _ _ (c .before .before .before .before .before .before .before .before .before .pre) _ _ _ (omega (arith, c .before .before .before .loop .inv .within)) (c .before .before .before .before .before .before .kind .ensures .0) (c .before .before .before .before .before .part-count .ensures .0) _ (c .before .before .before .before .unpack .ensures) _ (c .before .piece .ensures))
+word-of-requires c κs = (c .before .before .before .before .before .before .before .before .before .pre .short, piece-held _ _ _ _ _ _ _ _ _ (c .before .before .before .before .before .before .before .before .before .pre) _ _ _ (omega (arith, c .before .before .before .loop .inv .within)) (c .before .before .before .before .before .before .kind .ensures .0) (c .before .before .before .before .before .operand-count .ensures .0) _ (c .before .before .before .before .unpack .ensures) _ (c .before .piece .ensures))
 
 cast-agenda : tie.Need-cast-agenda Inv-loop μ-loop
-cast-agenda c = omega (arith, code-small _ _ _ (c .before .part-code .ensures .held))
+cast-agenda c = omega (arith, c .before .operand .ensures .1)
 
 mul-agenda : tie.Need-mul-agenda Inv-loop μ-loop
 mul-agenda c = omega (arith, c .before .before .before .before .before .before .before .before .before .before .pre .room, c .before .before .before .before .loop .inv .ends, c .before .before .before .before .loop .inv .within)
@@ -89,10 +89,10 @@ loop-less : tie.Need-loop-less Inv-loop μ-loop
 loop-less c = omega arith
 
 loop-again : tie.Need-loop-again Inv-loop μ-loop
-loop-again c = push-more _ _ _ _ _ _ _ _ _ _ (c .before .before .before .before .before .before .before .before .before .before .pre) _ _ _ (omega (arith, c .before .before .before .before .loop .inv .within)) (c .before .before .before .before .before .before .before .kind .ensures .0) (c .before .before .before .before .before .before .part-count .ensures .0) _ (c .before .before .before .before .before .unpack .ensures) _ (c .before .before .piece .ensures) _ (c .before .part-code .ensures) _ (c .word-of .ensures) _ _ _ _ (omega arith) (c .before .before .before .before .loop .inv)
+loop-again c = push-more _ _ _ _ _ _ _ _ _ (c .before .before .before .before .before .before .before .before .before .before .pre) _ _ _ (omega (arith, c .before .before .before .before .loop .inv .within)) (c .before .before .before .before .before .before .before .kind .ensures .0) (c .before .before .before .before .before .before .operand-count .ensures .0) _ (c .before .before .before .before .before .unpack .ensures) _ (c .before .before .piece .ensures) _ (c .before .operand .ensures .0) _ (c .word-of .ensures) _ _ _ _ (omega arith) (c .before .before .before .before .loop .inv)
 
 returns : tie.Need-returns Inv-loop μ-loop
-returns c = push-end _ _ _ _ _ _ _ _ _ _ (c .before .before .before .before .before .before .before .pre) _ _ _ _ (omega arith) (c .before .loop .inv)
+returns c = push-end _ _ _ _ _ _ _ _ _ (c .before .before .before .before .before .before .before .pre) _ _ _ _ (omega arith) (c .before .loop .inv)
 
 pub push-spec : {M : Type 1} → statement M
 push-spec =
@@ -101,12 +101,12 @@ push-spec =
     Inv-loop
     μ-loop
     kind-requires
-    part-count-requires
+    operand-count-requires
     unpack-requires
     loop-holds
     sub-i
     piece-requires
-    part-code-requires
+    operand-requires
     word-of-requires
     cast-agenda
     mul-agenda

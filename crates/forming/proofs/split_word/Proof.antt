@@ -20,8 +20,8 @@ unpack-requires c κs = search needs
 returns-2 : tie.Need-returns-2
 returns-2 c = search needs
 
-sub-t8 : tie.Need-sub-t8
-sub-t8 c = search needs
+add-t8 : tie.Need-add-t8
+add-t8 c = search needs
 
 cast-t9 : tie.Need-cast-t9
 cast-t9 c = search needs
@@ -34,4 +34,4 @@ returns-3 c = packed-same _ _ _ _ (c .before .before .before .before .before .be
 
 pub split-word-spec : {M : Type 1} → statement M
 split-word-spec =
-    tie.close (tie.spec returns unpack-requires returns-2 sub-t8 cast-t9 word-of-requires returns-3)
+    tie.close (tie.spec returns unpack-requires returns-2 add-t8 cast-t9 word-of-requires returns-3)

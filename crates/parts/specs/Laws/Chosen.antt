@@ -1,7 +1,8 @@
--- Laws of units that the bits of a number choose, and of the splits and cuts by their number.
-use mathlib.Core.Path.{_≡_, refl, sym, ap, _∙_}
+-- Laws of units that the bits of a number choose, and of the splits, the proper splits and the cuts by their number.
+use mathlib.Core.Path.{_≡_, refl, sym, ap, ap₂, _∙_}
 use mathlib.Core.Bool.{Bool, true, false, cond}
-use mathlib.Core.List.{List, [], _∷_, _++_, map}
+use mathlib.Core.Logic.{inl, inr, ⊎-elim}
+use mathlib.Core.List.{List, [], _∷_, _++_, map, map-append, append-assoc}
 use Prim.Native.Nat.{ℕ, zero, suc, _+_, _*_, _-_, _/_, _%_, _^_, _≤_, _<_}
 use native.Mathlib.Nat.{pow-suc}
 use native.Mathlib.Omega.{arith}
@@ -9,7 +10,12 @@ use lib.Dec.{eqb, ltb}
 use lib.ListN.{length, getD, take, drop, length-append, length-map, List·getD-append}
 use lib.Seq.{getD-append-add}
 use borrow.Author.Tests.{eq-eqb, ne-eqb, ltb-true, ltb-false}
-use Rattle.patterns.specs.Ways.{Halves, halves, toLeft, toRight, splits, cuts}
+use Rattle.prelude.specs.Membership.{In}
+use Rattle.prelude.proofs.Lists.{map-at}
+use Rattle.prelude.proofs.Membership.{in-joined, in-map}
+use Rattle.patterns.specs.Ways.{Halves, halves, toLeft, toRight, splits, isProper, proper, properSplits, cuts}
+use Rattle.patterns.specs.Units.{NonEmpty}
+use Rattle.patterns.specs.Laws.Units.{proper-halves}
 use Rattle.parts.specs.Chosen.{keep, everyOne, chosen, splitAt}
 
 pub power-pos : (n : ℕ) → 0 < 2 ^ n
@@ -66,11 +72,6 @@ module _ {A : Type 0} where
 
   -- ---- splits and cuts by number
 
-  getD-map-in : {B : Type 0} (f : A → B) (l : List A) (n : ℕ) (d : A) (e : B) → n < length l → getD (map f l) n e ≡ f (getD l n d)
-  getD-map-in f [] n d e h = absurd (omega arith)
-  getD-map-in f (x ∷ l) zero d e h = refl
-  getD-map-in f (x ∷ l) (suc n) d e h = getD-map-in f l n d e (omega arith)
-
   pub splits-length : (xs : List A) → length (splits xs) ≡ 2 ^ length xs
   unfolding splits
   splits-length [] = refl
@@ -108,7 +109,7 @@ nth-split {A} (x ∷ xs) d h lt = go (ltb d (2 ^ length xs)) refl (λ e l. nth-s
     go true e rec =
         let l = ltb-true d (2 ^ length xs) e in
         let m = splits-length xs in
-        List·getD-append ls rs h d (omega (arith, n)) ∙ getD-map-in (toLeft x) (splits xs) d h h (omega arith) ∙ ap (toLeft x) (rec d l)
+        List·getD-append ls rs h d (omega (arith, n)) ∙ map-at (toLeft x) (splits xs) d h h (omega arith) ∙ ap (toLeft x) (rec d l)
     go false e rec =
         let l = ltb-false d (2 ^ length xs) e in
         let m = splits-length xs in
@@ -117,8 +118,96 @@ nth-split {A} (x ∷ xs) d h lt = go (ltb d (2 ^ length xs)) refl (λ e l. nth-s
         let r : d - 2 ^ length xs < 2 ^ length xs = omega arith in
         ap (λ (k : ℕ). getD (ls ++ rs) k h) (sym q)
         ∙ getD-append-add ls rs (d - 2 ^ length xs) h
-        ∙ getD-map-in (toRight x) (splits xs) (d - 2 ^ length xs) h h (omega arith)
+        ∙ map-at (toRight x) (splits xs) (d - 2 ^ length xs) h h (omega arith)
         ∙ ap (toRight x) (rec (d - 2 ^ length xs) r)
+
+-- ---- proper splits by number
+
+module _ {A : Type 0} where
+  -- the first split has nothing on the right, every other has something there
+  first-split : (xs : List A) → (hs : List (Halves A)) × (splits xs ≡ halves xs [] ∷ hs) × ((h : Halves A) → In h hs → NonEmpty (h .right))
+  unfolding splits
+  first-split [] = ([], refl, λ h i. absurd i)
+  first-split (x ∷ xs) =
+      let (hs, e, f) = first-split xs in (
+        map (toLeft x) hs ++ map (toRight x) (splits xs),
+        ap (λ (l : List (Halves A)). map (toLeft x) l ++ map (toRight x) (splits xs)) e,
+        λ h i.
+            ⊎-elim
+            (λ j. let (g, k, d) = in-map h (toLeft x) hs j in rw d (f g k))
+            (λ j. let (g, k, d) = in-map h (toRight x) (splits xs) j in rw d (omega arith))
+            (in-joined h (map (toLeft x) hs) (map (toRight x) (splits xs)) i),
+      )
+
+  -- the last split has nothing on the left, every other has something there
+  last-split : (xs : List A) → (hs : List (Halves A)) × (splits xs ≡ hs ++ halves [] xs ∷ []) × ((h : Halves A) → In h hs → NonEmpty (h .left))
+  unfolding splits
+  last-split [] = ([], refl, λ h i. absurd i)
+  last-split (x ∷ xs) =
+      let (hs, e, f) = last-split xs in
+      let ls = map (toLeft x) (splits xs) in (
+        ls ++ map (toRight x) hs,
+        ap (λ (l : List (Halves A)). ls ++ map (toRight x) l) e ∙ ap (λ (l : List (Halves A)). ls ++ l) (map-append (toRight x) hs (halves [] xs ∷ [])) ∙ sym (append-assoc ls (map (toRight x) hs) (halves [] (x ∷ xs) ∷ [])),
+        λ h i.
+            ⊎-elim
+            (λ j. let (g, k, d) = in-map h (toLeft x) (splits xs) j in rw d (omega arith))
+            (λ j. let (g, k, d) = in-map h (toRight x) hs j in rw d (f g k))
+            (in-joined h ls (map (toRight x) hs) i),
+      )
+
+  -- all but the last are proper
+  proper-before : (hs : List (Halves A)) (l : Halves A) → ((h : Halves A) → In h hs → isProper h ≡ true) → isProper l ≡ false → proper (hs ++ l ∷ []) ≡ hs
+  unfolding proper
+  proper-before [] l f e = rw e
+  proper-before (h ∷ hs) l f e = rw (f h (inl refl)) (ap (λ (l : List (Halves A)). h ∷ l) (proper-before hs l (λ g i. f g (inr i)) e))
+
+  -- THEOREM: the splits of some units are the one with all on the left, the proper ones, and the one with all on the right
+  pub splits-proper : (xs : List A) → NonEmpty xs → splits xs ≡ halves xs [] ∷ (properSplits xs ++ halves [] xs ∷ [])
+  unfolding splits proper
+  splits-proper [] n = absurd (omega arith)
+  splits-proper (x ∷ xs) n =
+      let (ls, e, f) = first-split xs in
+      let (rs, d, g) = last-split xs in
+      let between = map (toLeft x) ls ++ map (toRight x) rs in
+      let all : splits (x ∷ xs) ≡ halves (x ∷ xs) [] ∷ (between ++ halves [] (x ∷ xs) ∷ []) =
+      ap₂ (λ (l r : List (Halves A)). map (toLeft x) l ++ map (toRight x) r) e d
+      ∙ ap (λ (r : List (Halves A)). map (toLeft x) (halves xs [] ∷ ls) ++ r) (map-append (toRight x) rs (halves [] xs ∷ []))
+      ∙ sym (append-assoc (map (toLeft x) (halves xs [] ∷ ls)) (map (toRight x) rs) (halves [] (x ∷ xs) ∷ [])) in
+      let those : properSplits (x ∷ xs) ≡ between =
+      ap proper all
+      ∙ proper-before between (halves [] (x ∷ xs)) (λ h i.
+      proper-halves h .1
+      (⊎-elim
+      (λ j. let (k, u, q) = in-map h (toLeft x) ls j in rw q (omega arith, f k u))
+      (λ j. let (k, u, q) = in-map h (toRight x) rs j in rw q (g k u, omega arith))
+      (in-joined h (map (toLeft x) ls) (map (toRight x) rs) i)))
+      refl in
+      all ∙ ap (λ (l : List (Halves A)). halves (x ∷ xs) [] ∷ (l ++ halves [] (x ∷ xs) ∷ [])) (sym those)
+
+  -- below two units none is proper
+  pub proper-none : (xs : List A) → length xs < 2 → properSplits xs ≡ []
+  unfolding splits proper
+  proper-none [] l = refl
+  proper-none (x ∷ []) l = refl
+  proper-none (x ∷ y ∷ xs) l = absurd (omega arith)
+
+  -- all but two are proper
+  pub proper-length : (xs : List A) → length (properSplits xs) ≡ 2 ^ length xs - 2
+  proper-length [] = ap length (proper-none [] (omega arith))
+  proper-length (x ∷ xs) =
+      let e = ap length (splits-proper (x ∷ xs) (omega arith)) in
+      let l = length-append (properSplits (x ∷ xs)) (halves [] (x ∷ xs) ∷ []) in
+      let n = splits-length (x ∷ xs) in
+      omega arith
+
+-- THEOREM: the d-th of the proper splits is the next after the d-th of the splits
+pub nth-proper : {A : Type 0} (xs : List A) (d : ℕ) (h : Halves A) → suc d + 1 < 2 ^ length xs → getD (properSplits xs) d h ≡ splitAt xs (suc d)
+nth-proper [] d h l = absurd (omega arith)
+nth-proper {A} (x ∷ xs) d h l =
+    let n = proper-length (x ∷ xs) in
+    sym (List·getD-append (properSplits (x ∷ xs)) (halves [] (x ∷ xs) ∷ []) h d (omega arith))
+    ∙ ap (λ (hs : List (Halves A)). getD hs (suc d) h) (sym (splits-proper (x ∷ xs) (omega arith)))
+    ∙ nth-split (x ∷ xs) (suc d) h (omega arith)
 
 -- THEOREM: the k-th of the cuts
 pub nth-cut : {A : Type 0} (xs : List A) (k : ℕ) (h : Halves A) → k ≤ length xs → getD (cuts xs) k h ≡ halves (take k xs) (drop k xs)
@@ -128,4 +217,4 @@ nth-cut [] (suc k) h le = absurd (omega arith)
 nth-cut (x ∷ xs) zero h le = refl
 nth-cut (x ∷ xs) (suc k) h le =
     let n = cuts-length xs in
-    getD-map-in (toLeft x) (cuts xs) k h h (omega arith) ∙ ap (toLeft x) (nth-cut xs k h (omega arith))
+    map-at (toLeft x) (cuts xs) k h h (omega arith) ∙ ap (toLeft x) (nth-cut xs k h (omega arith))

@@ -1,4 +1,5 @@
--- Source 001's SetChop: of a set, the halves among the splits are exactly the pairs of sets that together are the set and have no member in common.
+-- Source 001's SetChop, of which only pairs without an empty set are left (wish 1): of a set, the halves among the proper splits are exactly the pairs of
+-- sets that together are the set, have no member in common and are both not empty.
 use mathlib.Core.Path.{_≡_, refl, sym, ap, subst, _∙_}
 use mathlib.Core.Logic.{_⊎_, inl, inr, ⊎-elim, _↔_}
 use mathlib.Core.List.{List, [], _∷_}
@@ -6,9 +7,9 @@ use Rattle.prelude.specs.Membership.{In}
 use Rattle.integers.specs.declared.Order.the-variants.{Lower}
 use Rattle.values.specs.Value.{Value, order, Before, Ascending}
 use Rattle.values.proofs.Order.{irreflexive, asymmetric}
-use Rattle.patterns.specs.Ways.{halves, splits}
-use Rattle.patterns.specs.Units.{Shared}
-use Rattle.patterns.specs.Laws.Units.{in-splits}
+use Rattle.patterns.specs.Ways.{halves, properSplits}
+use Rattle.patterns.specs.Units.{Shared, NonEmpty}
+use Rattle.patterns.specs.Laws.Units.{in-proper}
 use Rattle.patterns.specs.Pattern.{itemsOf}
 use Rattle.patterns.specs.Laws.Named.{PartOf, shared-left, shared-right, part-ascending}
 
@@ -133,7 +134,9 @@ chop-shared (v ∷ vs) ls rs a h = go (h .whole v (inl refl)) (λ ms qs k. chop-
         let (ms, e) = least-first v vs rs a (h .right-set) (h .right-in) i in
         inr (ms, e, rest ls ms (mirror (rest-chop v vs ms ls a (mirror (subst (λ (l : List Value). SetChop (v ∷ vs) ls l) e h)))))
 
--- THEOREM: two halves are among the splits of a set exactly when they are a chop of it
-pub splits-chop : (vs ls rs : List Value) → Ascending (itemsOf vs) → In (halves ls rs) (splits vs) ↔ SetChop vs ls rs
-splits-chop vs ls rs a =
-    (λ i. shared-chop vs ls rs a (in-splits vs (halves ls rs) .0 i), λ h. in-splits vs (halves ls rs) .1 (chop-shared vs ls rs a h))
+-- THEOREM: two halves are among the proper splits of a set exactly when they are a chop of it and neither is empty
+pub proper-chop : (vs ls rs : List Value) → Ascending (itemsOf vs) → In (halves ls rs) (properSplits vs) ↔ (SetChop vs ls rs × NonEmpty ls × NonEmpty rs)
+proper-chop vs ls rs a = (
+  λ i. let (s, l, r) = in-proper vs (halves ls rs) .0 i in (shared-chop vs ls rs a s, l, r),
+  λ (h, l, r). in-proper vs (halves ls rs) .1 (chop-shared vs ls rs a h, l, r),
+)

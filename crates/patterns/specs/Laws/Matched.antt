@@ -4,7 +4,7 @@ use mathlib.Core.Bool.{Bool, true, false, cond}
 use mathlib.Core.Logic.{_⊎_, inl, inr, _↔_}
 use mathlib.Core.Option.{Option, none as absent, some}
 use mathlib.Core.List.{List, [], _∷_}
-use Prim.Native.Nat.{ℕ, zero, suc, _<_}
+use Prim.Native.Nat.{ℕ, zero, suc, _≤_, _<_}
 use native.Mathlib.Omega.{arith}
 use lib.Dec.{eqb}
 use lib.ListN.{length, length-set}
@@ -17,7 +17,7 @@ use Rattle.values.specs.Items.{same}
 use Rattle.values.proofs.Order.{number-inj, same-true, true-same}
 use Rattle.patterns.specs.Ways.{gather, Halves, halves}
 use Rattle.patterns.specs.Laws.Members.{in-gather, gather-in}
-use Rattle.patterns.specs.Laws.Units.{in-splits, in-cuts, in-orders}
+use Rattle.patterns.specs.Laws.Units.{shared-length, in-proper, in-cuts, in-orders}
 use Rattle.patterns.specs.Binding.{Cell, free, is, clash, Binding, names, nothing, only, cellOf, agree, merge, consistent, withEach, together}
 use Rattle.patterns.specs.Pattern.{Pattern, name, any, literal, each, halved, Patterns, nil, cons, parts, listOf, itemsOf, contents, arrangements, divisions, met, split, leftOf, rightOf, matches, matchEach}
 use Rattle.patterns.specs.Binder.{bindings}
@@ -173,7 +173,7 @@ in-arrangements mapping vs ws = (λ h. h, λ h. h)
 in-arrangements tuple vs ws = (in-one ws, λ e. inl e)
 
 in-divisions : (k : Kind) (vs : List Value) (h : Halves Value) → In h (divisions k vs) ↔ Divided k vs (h .left) (h .right)
-in-divisions set vs h = in-splits vs h
+in-divisions set vs h = in-proper vs h
 in-divisions sequence vs h = in-cuts vs h
 in-divisions mapping vs h = (λ i. i, λ i. i)
 in-divisions tuple vs h = (λ i. i, λ i. i)
@@ -295,3 +295,8 @@ bindings-exactly p vs b = (λ i. there i, λ h. back h)
 
     back : (v : Value) × In v vs × Matches p v b → In b (bindings p vs)
     back (v, j, m) = sorted-in b (gather vs (matches p)) (gather-in v b vs (matches p) j (matching p v b m))
+
+-- THEOREM: a union pattern matches only a set of two members or more (wish 1: a set of 0 or 1 members never matches)
+pub union-two : (p q : Pattern) (v : Value) (b : Binding) → Matches (halved set p q) v b → (vs : List Value) × (v ≡ collection set (itemsOf vs)) × (2 ≤ length vs)
+unfolding Matches
+union-two p q v b (vs, ls, rs, c, d, e, (s, l, r), m, n, j) = (vs, e, omega (arith, shared-length vs ls rs s))

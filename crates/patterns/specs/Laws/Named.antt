@@ -159,7 +159,7 @@ part-fine k ls vs d p h =
     well-formed-collection (part-shaped k ls vs d p (collection-shaped h)) (part-sound ls vs p (collection-sound h)) (omega (arith, part-sizes ls vs p))
 
 halves-of : (k : Kind) (vs ls rs : List Value) → Divided k vs ls rs → Divides k × PartOf ls vs × PartOf rs vs
-halves-of set vs ls rs h = (tt, shared-left vs ls rs h, shared-right vs ls rs h)
+halves-of set vs ls rs (h, l, r) = (tt, shared-left vs ls rs h, shared-right vs ls rs h)
 halves-of sequence vs ls rs e = (tt, subst (PartOf ls) (sym e) (part-left ls rs), subst (PartOf rs) (sym e) (part-right ls rs))
 halves-of mapping vs ls rs h = absurd h
 halves-of tuple vs ls rs h = absurd h

@@ -5,7 +5,7 @@ use Prim.Native.Nat.{ℕ}
 use lib.IntN.{pos}
 use Rattle.values.specs.Value.{Value, integer, collection, set, within}
 use Rattle.integers.specs.Order.{orderℕ, orderℤ}
-use Rattle.patterns.specs.Ways.{gather, exists, splits, orders, atEveryPlace}
+use Rattle.patterns.specs.Ways.{gather, exists, splits, proper, orders, atEveryPlace}
 use Rattle.patterns.specs.Binding.{Binding, Cell, is, cellOf, sorted, place, orderBindings, together, withEach, consistent, merge}
 use Rattle.patterns.specs.Pattern.{name, any, each, halved, nil, cons, itemsOf, listOf, parts, matches, wide}
 use Rattle.patterns.specs.Binder.{bindings, refused, formed}
@@ -29,10 +29,14 @@ pub unequal : bindings (each set (cons (name 0) (cons (name 1) nil))) (numbers (
 unfolding sorted place orderBindings gather splits matches together withEach consistent merge parts listOf itemsOf orderℕ orderℤ within orders atEveryPlace
 unequal = refl
 
--- a union b against {1, 2}: a is {}, {1}, {1, 2}, {2}.
-pub unions : shown 0 (bindings (halved set (name 0) (name 1)) (numbers (1 ∷ 2 ∷ []) ∷ [])) ≡ is (numbers []) ∷ is (numbers (1 ∷ [])) ∷ is (numbers (1 ∷ 2 ∷ [])) ∷ is (numbers (2 ∷ [])) ∷ []
-unfolding sorted place orderBindings gather splits matches together withEach consistent merge parts listOf itemsOf orderℕ orderℤ within orders atEveryPlace
+-- a union b against {1, 2}: a is {1}, then {2}. Against {1} and {} there is none.
+pub unions : shown 0 (bindings (halved set (name 0) (name 1)) (numbers (1 ∷ 2 ∷ []) ∷ [])) ≡ is (numbers (1 ∷ [])) ∷ is (numbers (2 ∷ [])) ∷ []
+unfolding sorted place orderBindings gather splits proper matches together withEach consistent merge parts listOf itemsOf orderℕ orderℤ within orders atEveryPlace
 unions = refl
+
+pub unsplit : bindings (halved set (name 0) (name 1)) (numbers (1 ∷ []) ∷ numbers [] ∷ []) ≡ []
+unfolding sorted place orderBindings gather splits proper matches together withEach consistent merge parts listOf itemsOf orderℕ orderℤ within orders atEveryPlace
+unsplit = refl
 
 -- A set of 8 does not split: 29.
 pub eight : formed (halved set (name 0) any) (numbers (1 ∷ 2 ∷ 3 ∷ 4 ∷ 5 ∷ 6 ∷ 7 ∷ 8 ∷ []) ∷ []) ≡ refused 29

@@ -1,11 +1,17 @@
--- What is among the splits, the cuts and the orders of units.
+-- What is among the splits, the proper ones of them, the cuts and the orders of units.
 use mathlib.Core.Path.{_≡_, refl, sym, ap, ap₂, subst, _∙_}
+use mathlib.Core.Bool.{Bool, true, false, cond}
 use mathlib.Core.Logic.{_⊎_, inl, inr, _↔_}
 use mathlib.Core.List.{List, [], _∷_, _++_, map}
+use Prim.Native.Nat.{_+_}
+use native.Mathlib.Omega.{arith}
+use lib.ListN.{length}
+use mathlib.Mathlib.Data.Bool.Basic.{and-intro, and-elim-left, and-elim-right}
+use Rattle.prelude.proofs.Absurd.{impossible}
 use Rattle.prelude.specs.Membership.{In}
 use Rattle.prelude.proofs.Membership.{in-one, in-left, in-right, in-joined, map-in, in-map}
-use Rattle.patterns.specs.Ways.{Halves, halves, toLeft, toRight, splits, cuts, atEveryPlace, orders}
-use Rattle.patterns.specs.Units.{Shared, Inserted, Permuted}
+use Rattle.patterns.specs.Ways.{Halves, halves, toLeft, toRight, splits, isNonEmpty, isProper, proper, properSplits, cuts, atEveryPlace, orders}
+use Rattle.patterns.specs.Units.{Shared, NonEmpty, Parted, Inserted, Permuted}
 use Rattle.patterns.specs.Laws.Members.{in-gather, gather-in}
 
 module _ {A : Type 0} where
@@ -37,6 +43,51 @@ module _ {A : Type 0} where
   -- THEOREM: two halves are among the splits exactly when the units are shared out between them
   pub in-splits : (xs : List A) (h : Halves A) → In h (splits xs) ↔ Shared xs (h .left) (h .right)
   in-splits xs h = (split-shared xs h, shared-split xs (h .left) (h .right))
+
+  pub shared-length : (xs ls rs : List A) → Shared xs ls rs → length xs ≡ length ls + length rs
+  shared-length [] ls rs h = rw (h .0, h .1) refl
+  shared-length (x ∷ xs) ls rs (inl (ms, e, h)) = let l = shared-length xs ms rs h in rw e (omega (arith, l))
+  shared-length (x ∷ xs) ls rs (inr (ms, e, h)) = let l = shared-length xs ls ms h in rw e (omega (arith, l))
+
+  -- ---- proper splits
+
+  kept-proper : (hs : List (Halves A)) (h : Halves A) → In h (proper hs) → In h hs × (isProper h ≡ true)
+  unfolding proper
+  kept-proper [] h i = absurd i
+  kept-proper (g ∷ hs) h i = go (isProper g) refl i (λ j. kept-proper hs h j)
+    where
+      go : (t : Bool) → isProper g ≡ t → In h (cond t (g ∷ proper hs) (proper hs)) → (In h (proper hs) → In h hs × (isProper h ≡ true)) → In h (g ∷ hs) × (isProper h ≡ true)
+      go true e (inl p) rest = (inl p, ap isProper p ∙ e)
+      go true e (inr j) rest = let (k, t) = rest j in (inr k, t)
+      go false e j rest = let (k, t) = rest j in (inr k, t)
+
+  proper-kept : (hs : List (Halves A)) (h : Halves A) → In h hs → isProper h ≡ true → In h (proper hs)
+  unfolding proper
+  proper-kept [] h i e = absurd i
+  proper-kept (g ∷ hs) h (inl p) e = let f : isProper g ≡ true = ap isProper (sym p) ∙ e in rw f (inl p)
+  proper-kept (g ∷ hs) h (inr i) e = go (isProper g) (proper-kept hs h i e)
+    where
+      go : (t : Bool) → In h (proper hs) → In h (cond t (g ∷ proper hs) (proper hs))
+      go true j = inr j
+      go false j = j
+
+  non-empty : (xs : List A) → (isNonEmpty xs ≡ true) ↔ NonEmpty xs
+  non-empty [] = (λ e. impossible cc, λ h. absurd (omega arith))
+  non-empty (x ∷ xs) = (λ e. omega arith, λ h. refl)
+
+  -- a split is proper exactly when neither half is empty
+  pub proper-halves : (h : Halves A) → (isProper h ≡ true) ↔ (NonEmpty (h .left) × NonEmpty (h .right))
+  proper-halves h = (
+    λ e. (non-empty (h .left) .0 (and-elim-left (isNonEmpty (h .left)) (isNonEmpty (h .right)) e), non-empty (h .right) .0 (and-elim-right (isNonEmpty (h .left)) (isNonEmpty (h .right)) e)),
+    λ (l, r). and-intro (non-empty (h .left) .1 l) (non-empty (h .right) .1 r),
+  )
+
+  -- THEOREM: two halves are among the proper splits exactly when the units are shared out between them and neither is empty
+  pub in-proper : (xs : List A) (h : Halves A) → In h (properSplits xs) ↔ Parted xs (h .left) (h .right)
+  in-proper xs h = (
+    λ i. let (j, e) = kept-proper (splits xs) h i in let (l, r) = proper-halves h .0 e in (in-splits xs h .0 j, l, r),
+    λ (s, l, r). proper-kept (splits xs) h (in-splits xs h .1 s) (proper-halves h .1 (l, r)),
+  )
 
   -- ---- cuts
 

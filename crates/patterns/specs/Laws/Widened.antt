@@ -17,7 +17,7 @@ use Rattle.prelude.proofs.Membership.{in-one, in-picked, picked-in}
 use Rattle.values.specs.Value.{Kind, set, sequence, map as mapping, tuple, Value, boolean, collection}
 use Rattle.patterns.specs.Ways.{exists, Halves, halves}
 use Rattle.patterns.specs.Units.{Inserted, Permuted}
-use Rattle.patterns.specs.Laws.Units.{in-splits, in-cuts, in-orders}
+use Rattle.patterns.specs.Laws.Units.{in-proper, in-cuts, in-orders}
 use Rattle.patterns.specs.Pattern.{Pattern, name, any, literal, each, halved, Patterns, nil, cons, parts, itemsOf, contents, arrangements, divisions, met, split, leftOf, rightOf, mostSplit, wide, wideEach, isTooLarge}
 use Rattle.patterns.specs.Binder.{mostBindings, bound, refused, few, bindings, formed}
 use Rattle.patterns.specs.Laws.Matched.{contents-of, of-contents}
@@ -160,7 +160,7 @@ mutual
       (λ d.
       let (h, i, g) = exists-out (split set (contents set v)) (λ h. wide p (leftOf set h) || wide q (rightOf set h)) d in
       let (vs, f, j) = split-out set v h i in
-      (vs, f, inr (h .left, h .right, in-splits vs h .0 j, ⊎-elim (λ x. inl (widened p (leftOf set h) x)) (λ x. inr (widened q (rightOf set h) x)) (or-cases (wide p (leftOf set h)) (wide q (rightOf set h)) g))))
+      (vs, f, inr (h .left, h .right, in-proper vs h .0 j, ⊎-elim (λ x. inl (widened p (leftOf set h) x)) (λ x. inr (widened q (rightOf set h) x)) (or-cases (wide p (leftOf set h)) (wide q (rightOf set h)) g))))
       (or-cases (isTooLarge set (contents set v)) _ e)
   widened (halved sequence p q) v e =
       ⊎-elim (λ d. absurd (never-large (contents sequence v) d))
@@ -227,8 +227,8 @@ mutual
   widening (each mapping ps) v h = absurd h
   widening (each tuple ps) v (vs, e, n, h) = in-arrangement tuple ps v vs vs e n (inl refl) (turning ps vs h)
   widening (halved set p q) v (vs, e, inl l) = or-inl (isTooLarge set (contents set v)) _ (large-in v vs e l)
-  widening (halved set p q) v (vs, e, inr (ls, rs, s, inl h)) = in-half set p q v vs (halves ls rs) e (in-splits vs (halves ls rs) .1 s) (inl (widening p (collection set (itemsOf ls)) h))
-  widening (halved set p q) v (vs, e, inr (ls, rs, s, inr h)) = in-half set p q v vs (halves ls rs) e (in-splits vs (halves ls rs) .1 s) (inr (widening q (collection set (itemsOf rs)) h))
+  widening (halved set p q) v (vs, e, inr (ls, rs, s, inl h)) = in-half set p q v vs (halves ls rs) e (in-proper vs (halves ls rs) .1 s) (inl (widening p (collection set (itemsOf ls)) h))
+  widening (halved set p q) v (vs, e, inr (ls, rs, s, inr h)) = in-half set p q v vs (halves ls rs) e (in-proper vs (halves ls rs) .1 s) (inr (widening q (collection set (itemsOf rs)) h))
   widening (halved sequence p q) v (ls, rs, e, inl h) = in-half sequence p q v (ls ++ rs) (halves ls rs) e (in-cuts (ls ++ rs) (halves ls rs) .1 refl) (inl (widening p (collection sequence (itemsOf ls)) h))
   widening (halved sequence p q) v (ls, rs, e, inr h) = in-half sequence p q v (ls ++ rs) (halves ls rs) e (in-cuts (ls ++ rs) (halves ls rs) .1 refl) (inr (widening q (collection sequence (itemsOf rs)) h))
   widening (halved mapping p q) v h = absurd h

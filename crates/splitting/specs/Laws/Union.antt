@@ -13,9 +13,9 @@ use Rattle.prelude.proofs.Truth.{or-false-left, or-false-right, or-false-both}
 use Rattle.prelude.specs.Membership.{In}
 use Rattle.values.specs.Value.{Kind, set, sequence, map as mapping, tuple, Value}
 use Rattle.prelude.proofs.Absurd.{true-false}
-use Rattle.patterns.specs.Ways.{Halves, exists, splits}
-use Rattle.patterns.specs.Units.{Shared}
-use Rattle.patterns.specs.Laws.Units.{in-splits}
+use Rattle.patterns.specs.Ways.{Halves, exists, properSplits}
+use Rattle.patterns.specs.Units.{Parted}
+use Rattle.patterns.specs.Laws.Units.{in-proper}
 use Rattle.patterns.specs.Laws.Named.{PartOf, shared-left, shared-right}
 use Rattle.patterns.specs.Laws.Matched.{list-items}
 use Rattle.patterns.specs.Pattern.{Pattern, name, any, literal, each, halved, Patterns, nil, cons, parts, listOf, itemsOf, contents, met, split, leftOf, rightOf, isSet, wide, wideEach, isTooLarge}
@@ -74,10 +74,10 @@ halves-fit : (f g : Value → Bool) (o : Option (List Value)) → isTooLarge set
 unfolding exists
 halves-fit f g absent e a b = refl
 halves-fit f g (some vs) e a b =
-    none-of (splits vs) (λ h. f (leftOf set h) || g (rightOf set h)) (λ h i. both h (in-splits vs h .0 i))
+    none-of (properSplits vs) (λ h. f (leftOf set h) || g (rightOf set h)) (λ h i. both h (in-proper vs h .0 i))
   where
-    both : (h : Halves Value) → Shared vs (h .left) (h .right) → f (leftOf set h) || g (rightOf set h) ≡ false
-    both h s =
+    both : (h : Halves Value) → Parted vs (h .left) (h .right) → f (leftOf set h) || g (rightOf set h) ≡ false
+    both h (s, l, r) =
         or-false-both (f (leftOf set h)) (g (rightOf set h))
         (a (leftOf set h) (part-fits (h .left) vs (shared-left vs (h .left) (h .right) s) e))
         (b (rightOf set h) (part-fits (h .right) vs (shared-right vs (h .left) (h .right) s) e))

@@ -1,7 +1,6 @@
 use native.Mathlib.Omega.{arith}
-use Prim.Native.Nat.{_-_}
 use Rattle.matching.proofs.Records.{has-operand, operand-readable}
-use Rattle.forming.proofs.Reducing.{two-halves, more-wild, no-more, more-first, more-other}
+use Rattle.forming.proofs.Reducing.{concatenation-two, more-wild, no-more, more-told}
 use Prim.Native.Nat.{ℕ, _<_}
 use borrow.Fn.Kinds.{In}
 use borrow.Fn.PlainCycle.{Measures, is, falls, and}
@@ -31,34 +30,19 @@ takes-more-kind-requires : (t : ℕ) → takes-more-lts.Need-kind-requires (take
 takes-more-kind-requires t c κs = c .before .pre .1 .0 .here
 
 takes-more-returns : (t : ℕ) → takes-more-lts.Need-returns (takes-more-calls t) (takes-more-at t) takes-more.Post
-takes-more-returns t c = more-wild _ _ _ (c .before .before .before .pre .1 .0) (omega (arith, c .before .kind .ensures .0)) (c .before .before .before .args .k) (c .before .before .before .args .side)
+takes-more-returns t c = more-wild _ _ _ (c .before .before .before .pre .1 .0) (omega (arith, c .before .kind .ensures .0)) (c .before .before .before .args .side)
 
 takes-more-returns-2 : (t : ℕ) → takes-more-lts.Need-returns-2 (takes-more-calls t) (takes-more-at t) takes-more.Post
-takes-more-returns-2 t c = no-more _ _ _ (c .before .before .before .before .pre .1 .0) (c .before .before .before .before .args .k) (c .before .before .before .before .args .side)
+takes-more-returns-2 t c = no-more _ _ _ (c .before .before .before .before .pre .1 .0) (c .before .before .before .before .args .side)
 
 takes-more-operand-requires : (t : ℕ) → takes-more-lts.Need-operand-requires (takes-more-calls t) (takes-more-at t) takes-more.Post
-takes-more-operand-requires t c κs = has-operand _ _ _ (c .before .before .before .before .pre .1 .0) (c .before .before .before .before .args .side) (omega (arith, two-halves _ _ _ (c .before .before .before .before .pre .1 .0) (c .before .before .before .before .args .k) (omega (arith, c .before .before .kind .ensures .0)) (c .before .before .before .before .pre .1 .1), c .before .before .before .before .pre .1 .2))
+takes-more-operand-requires t c κs = has-operand _ _ _ (c .before .before .before .before .pre .1 .0) (c .before .before .before .before .args .side) (omega (arith, concatenation-two _ _ _ (c .before .before .before .before .pre .1 .0) (omega (arith, c .before .before .kind .ensures .0)), c .before .before .before .before .pre .1 .1))
 
 takes-more-takes-more-requires : (t : ℕ) → takes-more-lts.Need-takes-more-requires (takes-more-calls t) (takes-more-at t) takes-more.Post
-takes-more-takes-more-requires t c κs = let o = operand-readable _ _ _ (c .before .before .before .before .before .pre .1 .0) (c .before .before .before .before .before .args .side) (omega (arith, two-halves _ _ _ (c .before .before .before .before .before .pre .1 .0) (c .before .before .before .before .before .args .k) (omega (arith, c .before .before .before .kind .ensures .0)) (c .before .before .before .before .before .pre .1 .1), c .before .before .before .before .before .pre .1 .2)) _ (c .operand .ensures .0) in (omega (arith, o .1), (o .0, c .before .before .before .before .before .pre .1 .1, c .before .before .before .before .before .pre .1 .2))
+takes-more-takes-more-requires t c κs = let o = operand-readable _ _ _ (c .before .before .before .before .before .pre .1 .0) (c .before .before .before .before .before .args .side) (omega (arith, concatenation-two _ _ _ (c .before .before .before .before .before .pre .1 .0) (omega (arith, c .before .before .before .kind .ensures .0)), c .before .before .before .before .before .pre .1 .1)) _ (c .operand .ensures .0) in (omega (arith, o .1), (o .0, c .before .before .before .before .before .pre .1 .1))
 
 takes-more-returns-3 : (t : ℕ) → takes-more-lts.Need-returns-3 (takes-more-calls t) (takes-more-at t) takes-more.Post
-takes-more-returns-3 t c = more-first _ _ _ (c .before .before .before .before .before .before .before .pre .1 .0) (c .before .before .before .before .before .before .before .args .k) (omega (arith, c .before .before .before .before .before .kind .ensures .0)) (c .before .before .before .before .before .before .before .pre .1 .1) (c .before .before .before .before .before .before .before .args .side) (c .before .before .before .before .before .before .before .pre .1 .2) _ _ (c .before .takes-more .ensures) (c .before .before .operand .ensures .0) (c .if3 .taken)
-
-takes-more-returns-4 : (t : ℕ) → takes-more-lts.Need-returns-4 (takes-more-calls t) (takes-more-at t) takes-more.Post
-takes-more-returns-4 t c = no-more _ _ _ (c .before .before .before .before .before .before .before .before .pre .1 .0) (c .before .before .before .before .before .before .before .before .args .k) (c .before .before .before .before .before .before .before .before .args .side)
-
-takes-more-sub-operand : (t : ℕ) → takes-more-lts.Need-sub-operand (takes-more-calls t) (takes-more-at t) takes-more.Post
-takes-more-sub-operand t c = omega (arith, c .before .before .before .before .before .before .before .before .pre .1 .2)
-
-takes-more-operand-requires-2 : (t : ℕ) → takes-more-lts.Need-operand-requires-2 (takes-more-calls t) (takes-more-at t) takes-more.Post
-takes-more-operand-requires-2 t c κs = has-operand _ _ _ (c .before .before .before .before .before .before .before .before .pre .1 .0) (1 - c .before .before .before .before .before .before .before .before .args .side) (omega (arith, two-halves _ _ _ (c .before .before .before .before .before .before .before .before .pre .1 .0) (c .before .before .before .before .before .before .before .before .args .k) (omega (arith, c .before .before .before .before .before .before .kind .ensures .0)) (c .before .before .before .before .before .before .before .before .pre .1 .1), c .before .before .before .before .before .before .before .before .pre .1 .2))
-
-takes-more-takes-more-requires-2 : (t : ℕ) → takes-more-lts.Need-takes-more-requires-2 (takes-more-calls t) (takes-more-at t) takes-more.Post
-takes-more-takes-more-requires-2 t c κs = let o = operand-readable _ _ _ (c .before .before .before .before .before .before .before .before .before .pre .1 .0) (1 - c .before .before .before .before .before .before .before .before .before .args .side) (omega (arith, two-halves _ _ _ (c .before .before .before .before .before .before .before .before .before .pre .1 .0) (c .before .before .before .before .before .before .before .before .before .args .k) (omega (arith, c .before .before .before .before .before .before .before .kind .ensures .0)) (c .before .before .before .before .before .before .before .before .before .pre .1 .1), c .before .before .before .before .before .before .before .before .before .pre .1 .2)) _ (c .operand2 .ensures .0) in (omega (arith, o .1), (o .0, c .before .before .before .before .before .before .before .before .before .pre .1 .1, c .before .before .before .before .before .before .before .before .before .pre .1 .2))
-
-takes-more-returns-5 : (t : ℕ) → takes-more-lts.Need-returns-5 (takes-more-calls t) (takes-more-at t) takes-more.Post
-takes-more-returns-5 t c = more-other _ _ _ (c .before .before .before .before .before .before .before .before .before .before .pre .1 .0) (c .before .before .before .before .before .before .before .before .before .before .args .k) (omega (arith, c .before .before .before .before .before .before .before .before .kind .ensures .0)) (c .before .before .before .before .before .before .before .before .before .before .pre .1 .1) (c .before .before .before .before .before .before .before .before .before .before .args .side) (c .before .before .before .before .before .before .before .before .before .before .pre .1 .2) _ _ (c .takes-more2 .ensures) (omega arith) (c .before .operand2 .ensures .0)
+takes-more-returns-3 t c = more-told _ _ _ (c .before .before .before .before .before .before .pre .1 .0) (omega (arith, c .before .before .before .before .kind .ensures .0)) (c .before .before .before .before .before .before .args .side) (c .before .before .before .before .before .before .pre .1 .1) _ (c .before .operand .ensures .0) _ (c .takes-more .ensures)
 
 pub +takes-more-spec : {M : Type 1} → statement M
 +takes-more-spec = close μ-takes-more λ t. takes-more-lts.spec (takes-more-calls t)
@@ -70,8 +54,3 @@ pub +takes-more-spec : {M : Type 1} → statement M
     (takes-more-operand-requires t)
     (takes-more-takes-more-requires t)
     (takes-more-returns-3 t)
-    (takes-more-returns-4 t)
-    (takes-more-sub-operand t)
-    (takes-more-operand-requires-2 t)
-    (takes-more-takes-more-requires-2 t)
-    (takes-more-returns-5 t)

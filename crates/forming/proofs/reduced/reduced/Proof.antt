@@ -20,7 +20,7 @@ loop-holds : tie.Need-loop-holds Inv-loop μ-loop
 loop-holds c = c .less-spare .ensures
 
 less-spare-requires-2 : tie.Need-less-spare-requires-2 Inv-loop μ-loop
-less-spare-requires-2 c κs = (c .before .loop .inv .readable, c .before .loop .inv .composed)
+less-spare-requires-2 c κs = c .before .loop .inv .composed
 
 loop-less : tie.Need-loop-less Inv-loop μ-loop
 loop-less c = omega arith

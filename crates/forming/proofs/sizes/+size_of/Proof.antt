@@ -11,6 +11,7 @@ use Rattle.forming.proofs.sizes.size_of.Reads as size-of
 use Rattle.forming.proofs.sizes.size_of.Kinds as size-of-kinds
 use Rattle.forming.proofs.sizes.+size_of.Lts-size_of as size-of-lts
 use Rattle.forming.proofs.sizes.enumeration_of.Reads as enumeration-of-reads
+use Rattle.forming.proofs.sizes.fewest_of.Reads as fewest-of-reads
 use Rattle.forming.proofs.sizes.sum.Reads as sum-reads
 use Rattle.tables.proofs.reading.kind.Reads as kind-reads
 use Rattle.tables.proofs.reading.operand.Reads as operand-reads
@@ -28,7 +29,7 @@ abbrev size-of-below : ℕ → In 2 size-of-kinds.ps
 size-of-below t = and 2 size-of-kinds.ps (falls 2 size-of-kinds.ps _<_ μ-size-of t) size-of.Pre
 
 abbrev size-of-calls : ℕ → size-of-lts.Claims
-size-of-calls t = (kind-reads.Asked, kind-reads.Learnt, enumeration-of-reads.Asked, enumeration-of-reads.Learnt, operand-count-reads.Asked, operand-count-reads.Learnt, operand-reads.Asked, operand-reads.Learnt, size-of-below t, size-of.Post, sum-reads.Asked, sum-reads.Learnt)
+size-of-calls t = (kind-reads.Asked, kind-reads.Learnt, enumeration-of-reads.Asked, enumeration-of-reads.Learnt, operand-count-reads.Asked, operand-count-reads.Learnt, fewest-of-reads.Asked, fewest-of-reads.Learnt, operand-reads.Asked, operand-reads.Learnt, size-of-below t, size-of.Post, sum-reads.Asked, sum-reads.Learnt)
 
 size-of-kind-requires : (t : ℕ) → size-of-lts.Need-kind-requires (size-of-calls t) (size-of-at t) size-of.Post
 size-of-kind-requires t c κs = c .before .pre .1 .0 .here
@@ -39,14 +40,17 @@ size-of-enumeration-of-requires t c κs = search needs
 size-of-operand-count-requires : (t : ℕ) → size-of-lts.Need-operand-count-requires (size-of-calls t) (size-of-at t) size-of.Post
 size-of-operand-count-requires t c κs = c .before .before .before .before .pre .1 .0 .here
 
-size-of-cast-t13 : (t : ℕ) → size-of-lts.Need-cast-t13 (size-of-calls t) (size-of-at t) size-of.Post
-size-of-cast-t13 t c = omega (arith, c .operand-count .ensures .1)
+size-of-cast-t14 : (t : ℕ) → size-of-lts.Need-cast-t14 (size-of-calls t) (size-of-at t) size-of.Post
+size-of-cast-t14 t c = omega (arith, c .operand-count .ensures .1)
 
 size-of-returns : (t : ℕ) → size-of-lts.Need-returns (size-of-calls t) (size-of-at t) size-of.Post
 size-of-returns t c = size-each _ _ _ (c .before .before .before .before .before .pre .1 .0) (c .before .before .before .before .before .args .k) (c .before .before .before .before .before .pre .1 .1) (sym (c .before .before .before .kind .ensures .0) ∙ c .before .if1 .taken ∙ c .before .before .enumeration-of .ensures) _ (c .operand-count .ensures .0)
 
+size-of-fewest-of-requires : (t : ℕ) → size-of-lts.Need-fewest-of-requires (size-of-calls t) (size-of-at t) size-of.Post
+size-of-fewest-of-requires t c κs = search needs
+
 size-of-returns-2 : (t : ℕ) → size-of-lts.Need-returns-2 (size-of-calls t) (size-of-at t) size-of.Post
-size-of-returns-2 t c = size-any _ _ (c .before .before .before .before .before .args .k)
+size-of-returns-2 t c = size-any _ _ (c .before .before .before .before .before .before .args .k) _ (c .fewest-of .ensures)
 
 size-of-operand-requires : (t : ℕ) → size-of-lts.Need-operand-requires (size-of-calls t) (size-of-at t) size-of.Post
 size-of-operand-requires t c κs = has-operand _ _ _ (c .before .before .before .before .before .pre .1 .0) 0 (omega (arith, two-halves _ _ _ (c .before .before .before .before .before .pre .1 .0) (c .before .before .before .before .before .args .k) (omega (arith, c .before .before .before .kind .ensures .0)) (c .before .before .before .before .before .pre .1 .1)))
@@ -73,8 +77,9 @@ pub +size-of-spec : {M : Type 1} → statement M
     (size-of-kind-requires t)
     (size-of-enumeration-of-requires t)
     (size-of-operand-count-requires t)
-    (size-of-cast-t13 t)
+    (size-of-cast-t14 t)
     (size-of-returns t)
+    (size-of-fewest-of-requires t)
     (size-of-returns-2 t)
     (size-of-operand-requires t)
     (size-of-size-of-requires t)

@@ -8,8 +8,7 @@ use Rattle.forming.proofs.sizes.sizes_of.Statement.{statement}
 use Rattle.forming.proofs.sizes.sizes_of.Tie as tie
 use Rattle.forming.proofs.sizes.sizes_of.Reads as reads
 use Rattle.forming.proofs.sizes.sizes_of.Lts as lts
-use Rattle.forming.proofs.heights.is_low.Reads as is-low-reads
-use Rattle.forming.proofs.reduced.splits.Reads as splits-reads
+use Rattle.forming.proofs.sizes.splits.Reads as splits-reads
 use Rattle.forming.proofs.sizes.pair.Reads as pair-reads
 use Rattle.forming.proofs.sizes.size_of.Reads as size-of-reads
 use Rattle.tables.proofs.reading.operand.Reads as operand-reads
@@ -20,29 +19,23 @@ splits-requires c κs = search needs
 returns : tie.Need-returns
 returns c = no-sizes _ _ (c .before .before .before .args .k) _ _
 
-is-low-requires : tie.Need-is-low-requires
-is-low-requires c κs = search needs
-
-returns-2 : tie.Need-returns-2
-returns-2 c = no-sizes _ _ (c .before .before .before .before .before .args .k) _ _
-
 operand-requires : tie.Need-operand-requires
-operand-requires c κs = has-operand _ _ _ (c .before .before .before .before .before .pre .readable) 0 (omega (arith, two-halves _ _ _ (c .before .before .before .before .before .pre .readable) (c .before .before .before .before .before .args .k) (c .before .before .before .before .before .pre .of-kind) (c .before .before .before .splits .ensures (not-false _ (c .before .before .if1 .left)))))
+operand-requires c κs = has-operand _ _ _ (c .before .before .before .pre .readable) 0 (omega (arith, two-halves _ _ _ (c .before .before .before .pre .readable) (c .before .before .before .args .k) (c .before .before .before .pre .of-kind) (c .before .splits .ensures (not-false _ (c .if1 .left)))))
 
 size-of-requires : tie.Need-size-of-requires
-size-of-requires c κs = (operand-readable _ _ _ (c .before .before .before .before .before .before .pre .readable) 0 (omega (arith, two-halves _ _ _ (c .before .before .before .before .before .before .pre .readable) (c .before .before .before .before .before .before .args .k) (c .before .before .before .before .before .before .pre .of-kind) (c .before .before .before .before .splits .ensures (not-false _ (c .before .before .before .if1 .left))))) _ (c .operand .ensures .0) .0, c .before .before .before .before .splits .ensures (not-false _ (c .before .before .before .if1 .left)))
+size-of-requires c κs = (operand-readable _ _ _ (c .before .before .before .before .pre .readable) 0 (omega (arith, two-halves _ _ _ (c .before .before .before .before .pre .readable) (c .before .before .before .before .args .k) (c .before .before .before .before .pre .of-kind) (c .before .before .splits .ensures (not-false _ (c .before .if1 .left))))) _ (c .operand .ensures .0) .0, c .before .before .splits .ensures (not-false _ (c .before .if1 .left)))
 
 operand-requires-2 : tie.Need-operand-requires-2
-operand-requires-2 c κs = has-operand _ _ _ (c .before .before .before .before .before .before .before .pre .readable) 1 (omega (arith, two-halves _ _ _ (c .before .before .before .before .before .before .before .pre .readable) (c .before .before .before .before .before .before .before .args .k) (c .before .before .before .before .before .before .before .pre .of-kind) (c .before .before .before .before .before .splits .ensures (not-false _ (c .before .before .before .before .if1 .left)))))
+operand-requires-2 c κs = has-operand _ _ _ (c .before .before .before .before .before .pre .readable) 1 (omega (arith, two-halves _ _ _ (c .before .before .before .before .before .pre .readable) (c .before .before .before .before .before .args .k) (c .before .before .before .before .before .pre .of-kind) (c .before .before .before .splits .ensures (not-false _ (c .before .before .if1 .left)))))
 
 size-of-requires-2 : tie.Need-size-of-requires-2
-size-of-requires-2 c κs = (operand-readable _ _ _ (c .before .before .before .before .before .before .before .before .pre .readable) 1 (omega (arith, two-halves _ _ _ (c .before .before .before .before .before .before .before .before .pre .readable) (c .before .before .before .before .before .before .before .before .args .k) (c .before .before .before .before .before .before .before .before .pre .of-kind) (c .before .before .before .before .before .before .splits .ensures (not-false _ (c .before .before .before .before .before .if1 .left))))) _ (c .operand2 .ensures .0) .0, c .before .before .before .before .before .before .splits .ensures (not-false _ (c .before .before .before .before .before .if1 .left)))
+size-of-requires-2 c κs = (operand-readable _ _ _ (c .before .before .before .before .before .before .pre .readable) 1 (omega (arith, two-halves _ _ _ (c .before .before .before .before .before .before .pre .readable) (c .before .before .before .before .before .before .args .k) (c .before .before .before .before .before .before .pre .of-kind) (c .before .before .before .before .splits .ensures (not-false _ (c .before .before .before .if1 .left))))) _ (c .operand2 .ensures .0) .0, c .before .before .before .before .splits .ensures (not-false _ (c .before .before .before .if1 .left)))
 
 pair-requires : tie.Need-pair-requires
 pair-requires c κs = search needs
 
-returns-3 : tie.Need-returns-3
-returns-3 c = sizes-told _ _ _ (c .before .before .before .before .before .before .before .before .before .before .pre .readable) (c .before .before .before .before .before .before .before .before .before .before .args .k) (c .before .before .before .before .before .before .before .before .splits .ensures (not-false _ (c .before .before .before .before .before .before .before .if1 .left))) (c .before .before .before .before .before .before .before .before .before .before .pre .of-kind) _ (c .before .before .before .before .operand .ensures .0) _ (c .before .before .operand2 .ensures .0) _ _ (c .before .before .before .size-of .ensures) (c .before .size-of2 .ensures) _ (c .pair .ensures)
+returns-2 : tie.Need-returns-2
+returns-2 c = sizes-told _ _ _ (c .before .before .before .before .before .before .before .before .pre .readable) (c .before .before .before .before .before .before .before .before .args .k) (c .before .before .before .before .before .before .splits .ensures (not-false _ (c .before .before .before .before .before .if1 .left))) (c .before .before .before .before .before .before .before .before .pre .of-kind) _ (c .before .before .before .before .operand .ensures .0) _ (c .before .before .operand2 .ensures .0) _ _ (c .before .before .before .size-of .ensures) (c .before .size-of2 .ensures) _ (c .pair .ensures)
 
 pub sizes-of-spec : {M : Type 1} → statement M
 sizes-of-spec =
@@ -50,11 +43,9 @@ sizes-of-spec =
     (tie.spec
     splits-requires
     returns
-    is-low-requires
-    returns-2
     operand-requires
     size-of-requires
     operand-requires-2
     size-of-requires-2
     pair-requires
-    returns-3)
+    returns-2)

@@ -1,9 +1,9 @@
 use native.Mathlib.Omega.{arith}
 use borrow.Author.Tests.{not-false}
-use Prim.Native.Nat.{_-_}
+use Prim.Native.Nat.{_+_}
 use lib.Count.{ones-le}
 use borrow.Author.Needs.{needs}
-use Rattle.forming.proofs.Sizing.{from-none, from-splits, from-cuts}
+use Rattle.forming.proofs.Sizing.{from-none, even-ways, from-splits, from-cuts}
 use Rattle.forming.proofs.sizes.way_from.Statement.{statement}
 use Rattle.forming.proofs.sizes.way_from.Tie as tie
 use Rattle.forming.proofs.sizes.way_from.Reads as reads
@@ -18,17 +18,23 @@ returns c = from-none (c .before .before .args .k) (c .before .before .args .w) 
 returns-2 : tie.Need-returns-2
 returns-2 c = from-none (c .before .before .before .args .k) (c .before .before .before .args .w) _ (c .before .before .before .args .z)
 
-sub-n : tie.Need-sub-n
-sub-n c = search needs
+add-last : tie.Need-add-last
+add-last c = omega (arith, even-ways (c .before .before .before .before .args .k) (c .before .before .before .before .args .w) (c .before .before .before .before .pre (not-false _ (c .before .before .if1 .left))) (omega arith))
 
 cast-n : tie.Need-cast-n
-cast-n c = omega (arith, ones-le 64 (c .before .before .before .before .args .w - 1) (omega arith))
+cast-n c = omega (arith, ones-le 64 (c .before .before .before .before .args .w + 1) (omega (arith, add-last c)))
 
 rights-requires : tie.Need-rights-requires
 rights-requires c κs = search needs
 
+add-split-from : tie.Need-add-split-from
+add-split-from c = search needs
+
 split-from-requires : tie.Need-split-from-requires
 split-from-requires c κs = search needs
+
+sub-result : tie.Need-sub-result
+sub-result c = search needs
 
 returns-3 : tie.Need-returns-3
 returns-3 c = from-splits (c .before .before .before .before .before .before .args .k) (c .before .before .before .before .before .before .args .w) (c .before .before .before .before .before .before .pre (not-false _ (c .before .before .before .before .if1 .left))) (c .before .before .before .before .before .before .args .z) (not-false _ (c .before .before .before .before .if1 .left)) (c .before .before .before .before .before .before .args .d) (omega arith) _ _ (omega arith) (c .before .rights .ensures) (c .split-from .ensures)
@@ -51,10 +57,12 @@ way-from-spec =
     (tie.spec
     returns
     returns-2
-    sub-n
+    add-last
     cast-n
     rights-requires
+    add-split-from
     split-from-requires
+    sub-result
     returns-3
     sub-rights
     rights-requires-2

@@ -1,12 +1,14 @@
 use native.Mathlib.Omega.{arith}
+use Rattle.tables.specs.Laws.Kinds.{composed-told}
 use borrow.Author.Tests.{not-true, not-false}
-use Rattle.forming.proofs.Leaving.{TakeSoFar, take-start, head-low, entry-low, entry-held, next-lower, leaf-asked, take-wait, take-leaf, take-none, take-full, take-end}
+use Rattle.forming.proofs.Leaving.{TakeSoFar, take-start, head-low, entry-low, entry-readable, next-lower, leaf-asked, take-wait, take-leaf, take-none, take-full, take-end}
 use Rattle.forming.proofs.taking.take_leaves.Statement.{statement}
 use Rattle.forming.proofs.taking.take_leaves.Tie as tie
 use Rattle.forming.proofs.taking.take_leaves.Reads as reads
 use Rattle.forming.proofs.taking.take_leaves.Lts as lts
-use Rattle.forming.proofs.groups.has_parts.Reads as has-parts-reads
-use Rattle.forming.proofs.taking.take_leaf.Reads as take-leaf-reads
+use Rattle.matching.proofs.leaves.match_leaf.Reads as match-leaf-reads
+use Rattle.tables.proofs.reading.kind.Reads as kind-reads
+use Rattle.tables.proofs.shape.is_composed.Reads as is-composed-reads
 
 abbrev Inv-loop : tie.InvT-loop
 Inv-loop table index s agenda head found₀ head₀ wait₀ found head' wait = TakeSoFar table index s agenda head found₀ head' wait found
@@ -44,41 +46,44 @@ element-copy-out-next c = omega (arith, head-low _ _ _ _ _ _ (c .before .before 
 cast-next : tie.Need-cast-next Inv-loop μ-loop
 cast-next c = omega (arith, next-lower _ _ _ _ _ _ (c .before .before .before .before .before .before .pre) _ _ _ (c .before .before .before .loop .inv) (omega arith), head-low _ _ _ _ _ _ (c .before .before .before .before .before .before .pre) _ _ _ (c .before .before .before .loop .inv))
 
-has-parts-requires : tie.Need-has-parts-requires Inv-loop μ-loop
-has-parts-requires c κs = entry-held _ _ _ _ _ _ (c .before .before .before .before .before .before .pre) _ _ _ (c .before .before .before .loop .inv) (omega arith)
+kind-requires : tie.Need-kind-requires Inv-loop μ-loop
+kind-requires c κs = entry-readable _ _ _ _ _ _ (c .before .before .before .before .before .before .pre) _ _ _ (c .before .before .before .loop .inv) (omega arith) .here
+
+is-composed-requires : tie.Need-is-composed-requires Inv-loop μ-loop
+is-composed-requires c κs = c .kind .ensures .1
 
 returns : tie.Need-returns Inv-loop μ-loop
-returns c = take-full _ _ _ _ _ _ (c .before .before .before .before .before .before .before .before .before .pre) _ _ _ (c .before .before .before .before .before .before .loop .inv) (omega arith)
+returns c = take-full _ _ _ _ _ _ (c .before .before .before .before .before .before .before .before .before .before .pre) _ _ _ (c .before .before .before .before .before .before .before .loop .inv) (omega arith)
 
 loop-less : tie.Need-loop-less Inv-loop μ-loop
-loop-less c = omega (arith, next-lower _ _ _ _ _ _ (c .before .before .before .before .before .before .before .before .before .pre) _ _ _ (c .before .before .before .before .before .before .loop .inv) (omega arith))
+loop-less c = omega (arith, next-lower _ _ _ _ _ _ (c .before .before .before .before .before .before .before .before .before .before .pre) _ _ _ (c .before .before .before .before .before .before .before .loop .inv) (omega arith))
 
 loop-again : tie.Need-loop-again Inv-loop μ-loop
-loop-again c = take-wait _ _ _ _ _ _ (c .before .before .before .before .before .before .before .before .before .pre) _ _ _ (c .before .before .before .before .before .before .loop .inv) (omega arith) (c .before .before .has-parts .ensures .parts (c .before .if1 .taken)) (omega arith)
+loop-again c = take-wait _ _ _ _ _ _ (c .before .before .before .before .before .before .before .before .before .before .pre) _ _ _ (c .before .before .before .before .before .before .before .loop .inv) (omega arith) (composed-told (c .before .before .before .kind .ensures .0) (c .before .before .is-composed .ensures) (c .before .if1 .taken)) (omega arith)
 
 mul-word : tie.Need-mul-word Inv-loop μ-loop
-mul-word c = omega (arith, head-low _ _ _ _ _ _ (c .before .before .before .before .before .before .before .before .pre) _ _ _ (c .before .before .before .before .before .loop .inv))
+mul-word c = omega (arith, head-low _ _ _ _ _ _ (c .before .before .before .before .before .before .before .before .before .pre) _ _ _ (c .before .before .before .before .before .before .loop .inv))
 
 add-word : tie.Need-add-word Inv-loop μ-loop
-add-word c = omega (arith, head-low _ _ _ _ _ _ (c .before .before .before .before .before .before .before .before .pre) _ _ _ (c .before .before .before .before .before .loop .inv))
+add-word c = omega (arith, head-low _ _ _ _ _ _ (c .before .before .before .before .before .before .before .before .before .pre) _ _ _ (c .before .before .before .before .before .before .loop .inv))
 
 mul-word-2 : tie.Need-mul-word-2 Inv-loop μ-loop
-mul-word-2 c = omega (arith, head-low _ _ _ _ _ _ (c .before .before .before .before .before .before .before .before .pre) _ _ _ (c .before .before .before .before .before .loop .inv))
+mul-word-2 c = omega (arith, head-low _ _ _ _ _ _ (c .before .before .before .before .before .before .before .before .before .pre) _ _ _ (c .before .before .before .before .before .before .loop .inv))
 
 element-copy-out-word : tie.Need-element-copy-out-word Inv-loop μ-loop
-element-copy-out-word c = omega (arith, head-low _ _ _ _ _ _ (c .before .before .before .before .before .before .before .before .pre) _ _ _ (c .before .before .before .before .before .loop .inv))
+element-copy-out-word c = omega (arith, head-low _ _ _ _ _ _ (c .before .before .before .before .before .before .before .before .before .pre) _ _ _ (c .before .before .before .before .before .before .loop .inv))
 
-take-leaf-requires : tie.Need-take-leaf-requires Inv-loop μ-loop
-take-leaf-requires c κs = leaf-asked _ _ _ _ _ _ (c .before .before .before .before .before .before .before .before .before .before .pre) _ _ _ (c .before .before .before .before .before .before .before .loop .inv) (omega arith) _ (c .before .before .before .has-parts .ensures) (c .before .before .if1 .left)
+match-leaf-requires : tie.Need-match-leaf-requires Inv-loop μ-loop
+match-leaf-requires c κs = leaf-asked _ _ _ _ _ _ (c .before .before .before .before .before .before .before .before .before .before .before .pre) _ _ _ (c .before .before .before .before .before .before .before .before .loop .inv) (omega arith) (composed-told (c .before .before .before .before .kind .ensures .0) (c .before .before .before .is-composed .ensures) (c .before .before .if1 .left))
 
 returns-2 : tie.Need-returns-2 Inv-loop μ-loop
-returns-2 c = take-none _ _ _ _ _ _ (c .before .before .before .before .before .before .before .before .before .before .before .before .pre) _ _ _ (c .before .before .before .before .before .before .before .before .before .loop .inv) (omega arith) _ _ (λ v b q h. c .before .take-leaf .ensures .0 v b q h) (c .before .take-leaf .ensures .1) (not-true _ (c .if3 .taken))
+returns-2 c = take-none _ _ _ _ _ _ (c .before .before .before .before .before .before .before .before .before .before .before .before .before .pre) _ _ _ (c .before .before .before .before .before .before .before .before .before .before .loop .inv) (omega arith) _ _ (λ v b q h. c .before .match-leaf .ensures .0 v b q h) (c .before .match-leaf .ensures .1) (not-true _ (c .if3 .taken))
 
 loop-less-2 : tie.Need-loop-less-2 Inv-loop μ-loop
-loop-less-2 c = omega (arith, next-lower _ _ _ _ _ _ (c .before .before .before .before .before .before .before .before .before .before .before .before .pre) _ _ _ (c .before .before .before .before .before .before .before .before .before .loop .inv) (omega arith))
+loop-less-2 c = omega (arith, next-lower _ _ _ _ _ _ (c .before .before .before .before .before .before .before .before .before .before .before .before .before .pre) _ _ _ (c .before .before .before .before .before .before .before .before .before .before .loop .inv) (omega arith))
 
 loop-again-2 : tie.Need-loop-again-2 Inv-loop μ-loop
-loop-again-2 c = take-leaf _ _ _ _ _ _ (c .before .before .before .before .before .before .before .before .before .before .before .before .pre) _ _ _ (c .before .before .before .before .before .before .before .before .before .loop .inv) (omega arith) _ _ (λ v b q h. c .before .take-leaf .ensures .0 v b q h) (c .before .take-leaf .ensures .1) (not-false _ (c .if3 .left))
+loop-again-2 c = take-leaf _ _ _ _ _ _ (c .before .before .before .before .before .before .before .before .before .before .before .before .before .pre) _ _ _ (c .before .before .before .before .before .before .before .before .before .before .loop .inv) (omega arith) _ _ (λ v b q h. c .before .match-leaf .ensures .0 v b q h) (c .before .match-leaf .ensures .1) (not-false _ (c .if3 .left))
 
 returns-3 : tie.Need-returns-3 Inv-loop μ-loop
 returns-3 c = take-end _ _ _ _ _ _ (c .before .before .before .before .pre) _ _ _ (c .before .loop .inv) (omega arith)
@@ -99,7 +104,8 @@ take-leaves-spec =
     mul-next-2
     element-copy-out-next
     cast-next
-    has-parts-requires
+    kind-requires
+    is-composed-requires
     returns
     loop-less
     loop-again
@@ -107,7 +113,7 @@ take-leaves-spec =
     add-word
     mul-word-2
     element-copy-out-word
-    take-leaf-requires
+    match-leaf-requires
     returns-2
     loop-less-2
     loop-again-2

@@ -1,4 +1,5 @@
-use Rattle.matching.proofs.Piecing.{split-held, split-meets, cut-held, cut-meets, order-low, member-held, member-is, one-held, one-is}
+use native.Mathlib.Omega.{arith}
+use Rattle.matching.proofs.Piecing.{next-low, split-held, split-meets, cut-held, cut-meets, order-low, member-held, member-is, one-held, one-is}
 use Rattle.matching.proofs.nodes.piece.Statement.{statement}
 use Rattle.matching.proofs.nodes.piece.Tie as tie
 use Rattle.matching.proofs.nodes.piece.Reads as reads
@@ -7,6 +8,9 @@ use Rattle.matching.proofs.nodes.member.Reads as member-reads
 use Rattle.parts.proofs.cut_part.Reads as cut-part-reads
 use Rattle.parts.proofs.item_of_part.Reads as item-of-part-reads
 use Rattle.parts.proofs.split_part.Reads as split-part-reads
+
+add-split-part : tie.Need-add-split-part
+add-split-part c = omega (arith, next-low _ _ _ _ _ _ (c .before .before .pre) (c .if1 .taken))
 
 split-part-requires : tie.Need-split-part-requires
 split-part-requires c κs = split-held _ _ _ _ _ _ (c .before .before .pre) (c .if1 .taken)
@@ -45,6 +49,7 @@ pub piece-spec : {M : Type 1} → statement M
 piece-spec =
     tie.close
     (tie.spec
+    add-split-part
     split-part-requires
     returns
     returns-2

@@ -1,10 +1,10 @@
 use native.Mathlib.Omega.{arith}
 use mathlib.Core.Logic.{inl, inr}
 use borrow.Author.Tests.{eqb-true}
-use Rattle.forming.proofs.reduced.splits.Statement.{statement}
-use Rattle.forming.proofs.reduced.splits.Tie as tie
-use Rattle.forming.proofs.reduced.splits.Reads as reads
-use Rattle.forming.proofs.reduced.splits.Lts as lts
+use Rattle.forming.proofs.sizes.splits.Statement.{statement}
+use Rattle.forming.proofs.sizes.splits.Tie as tie
+use Rattle.forming.proofs.sizes.splits.Reads as reads
+use Rattle.forming.proofs.sizes.splits.Lts as lts
 
 returns : tie.Need-returns
 returns c = λ e. inl (omega arith)
