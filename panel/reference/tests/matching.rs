@@ -132,34 +132,71 @@ fn unions(parts: impl Iterator<Item = Node>) -> Node {
     parts.reduce(p_union).expect("a part")
 }
 
+/// The ways to deal out so many members to so many parts, each with one at least.
+fn deals(members: usize, parts: usize) -> usize {
+    match (members, parts) {
+        (0, 0) => 1,
+        (0, _) | (_, 0) => 0,
+        _ => parts * (deals(members - 1, parts) + deals(members - 1, parts - 1)),
+    }
+}
+
+/// A let over a union of so many parts and {1,...,members}: its number and its count.
+fn of_union(part: fn(u8) -> Node, parts: u8, members: i32) -> (u32, usize) {
+    let sheet = let_(unions((0..parts).map(part)), range(1, members), int(1));
+    let (number, _, count) = soon(&sheet);
+    (number, count)
+}
+
 #[test]
 fn unions_of_many_parts() {
-    // 15^7 ways, one binding.
-    let sheet = let_(unions((0..15).map(|_| p_any())), range(1, 7), int(1));
-    assert_eq!(soon(&sheet), (32, 33, 1));
-    // 15^7 ways, 128 bindings.
-    let parts = std::iter::once(p_name(0)).chain((0..14).map(|_| p_any()));
     assert_eq!(
-        soon(&let_(unions(parts), range(1, 7), int(1))),
-        (32, 33, 128)
+        [deals(7, 5), deals(7, 6), deals(7, 7)],
+        [16_800, 15_120, 5_040]
     );
-    // 16^7 bindings.
-    let names = || unions((0..16).map(p_name));
-    assert_eq!(soon(&let_(names(), range(1, 7), int(1))), (30, 35, 0));
+    for members in 0..=7 {
+        for parts in 2..=16 {
+            let ways = deals(members as usize, parts.into());
+            // Every part takes a member at least, so more parts than members match nothing.
+            let due = if ways == 0 { (23, 0) } else { (32, 1) };
+            assert_eq!(of_union(|_| p_any(), parts, members), due);
+            let due = match ways {
+                0 => (23, 0),
+                1..=MAX_BINDINGS => (32, ways),
+                _ => (30, 0),
+            };
+            assert_eq!(of_union(p_name, parts, members), due, "{parts} {members}");
+        }
+    }
+    // A name beside wildcards takes one member to all but so many as there are wildcards.
+    let beside = |n: u8| if n == 0 { p_name(0) } else { p_any() };
+    for (parts, bindings) in [(2, 126), (3, 119), (4, 98), (5, 63), (6, 28), (7, 7)] {
+        assert_eq!(of_union(beside, parts, 7), (32, bindings));
+    }
+    // Four unions of five wildcards, 16,800 ways each: one binding.
+    let wild = unions((0..5).map(|_| p_any()));
+    let sets = || tuple(&vec![range(1, 7); 4]);
+    let sheet = let_(p_tuple(&vec![wild; 4]), sets(), int(1));
+    assert_eq!(soon(&sheet), (32, 51, 1));
+    // Four unions of four names, 8,400 bindings each.
+    let names = |from: u8| unions((from..from + 4).map(p_name));
+    let four = || p_tuple(&[names(0), names(4), names(8), names(12)]);
+    assert_eq!(soon(&let_(four(), sets(), int(1))), (30, 43, 0));
     // Beside a part that does not match there is none of them.
     let sheet = let_(
-        p_tuple(&[names(), p_int(1)]),
-        tuple(&[range(1, 7), int(2)]),
+        p_tuple(&[four(), p_int(1)]),
+        tuple(&[sets(), int(2)]),
         int(1),
     );
-    assert_eq!(soon(&sheet), (23, 39, 0));
+    assert_eq!(soon(&sheet), (23, 47, 0));
     let sheet = let_(
-        p_tuple(&[p_int(1), names()]),
-        tuple(&[int(2), range(1, 7)]),
+        p_tuple(&[p_int(1), four()]),
+        tuple(&[int(2), sets()]),
         int(1),
     );
-    assert_eq!(soon(&sheet), (23, 39, 0));
+    assert_eq!(soon(&sheet), (23, 47, 0));
     // A wide union among the parts is still found.
+    let names = || unions((0..16).map(p_name));
     let parts = names();
     let wide = p_set(&[p_union(p_any(), p_any())]);
     let sheet = let_(
@@ -176,24 +213,27 @@ fn names_repeated_in_unions() {
     let parts = || unions((0..3).map(p_name));
     let value = |beside| tuple(&[range(1, 7), beside]);
     let sheet = let_(p_tuple(&[parts(), p_name(0)]), value(range(1, 4)), int(1));
-    assert_eq!(soon(&sheet), (32, 15, 8));
+    // The three members that are left are split.
+    assert_eq!(soon(&sheet), (32, 15, 6));
     let sheet = let_(p_tuple(&[parts(), p_name(0)]), value(range(0, 4)), int(1));
     assert_eq!(soon(&sheet), (23, 15, 0));
     let sheet = let_(p_tuple(&[parts(), parts()]), value(range(1, 6)), int(1));
     assert_eq!(soon(&sheet), (23, 19, 0));
     let sheet = let_(p_tuple(&[parts(), parts()]), value(range(1, 7)), int(1));
     assert_eq!(soon(&sheet), (30, 19, 0));
-    // With one name in common, however many there are.
-    let parts = || unions((0..16).map(p_name));
-    for pattern in [
-        p_tuple(&[parts(), p_name(0)]),
-        p_tuple(&[parts(), p_name(15)]),
-    ] {
-        let sheet = let_(pattern, value(range(1, 4)), int(1));
-        assert_eq!(soon(&sheet), (30, 41, 0));
+    // With one name in common: the others share out 6 members in 540 ways, 5 in 150, and 2 in none.
+    let parts = || unions((0..4).map(p_name));
+    for name in [0, 3] {
+        for (beside, due) in [(1, (30, 17, 0)), (2, (32, 17, 150)), (5, (23, 17, 0))] {
+            let pattern = p_tuple(&[parts(), p_name(name)]);
+            assert_eq!(soon(&let_(pattern, value(range(1, beside)), int(1))), due);
+        }
     }
-    let sheet = let_(p_union(p_name(0), p_name(0)), set(&[]), int(1));
-    assert_eq!(soon(&sheet), (32, 5, 1));
+    // No two halves are equal.
+    for members in 0..=7 {
+        let sheet = let_(p_union(p_name(0), p_name(0)), range(1, members), int(1));
+        assert_eq!(soon(&sheet), (23, 7, 0));
+    }
 }
 
 #[test]
