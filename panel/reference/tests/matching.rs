@@ -7,6 +7,7 @@ use reference::definition;
 use reference::matching::{bindings, MAX_BINDINGS};
 use reference::table::{Record, Table};
 use reference::value::Value;
+use std::collections::BTreeSet;
 use std::time::{Duration, Instant};
 
 /// A generator of pseudo-random numbers (xorshift).
@@ -30,9 +31,25 @@ impl Random {
             3 => p_int(self.below(2) as i32),
             4 => p_tuple(&[part(self), part(self)]),
             5 => p_set(&(0..count).map(|_| part(self)).collect::<Vec<_>>()),
-            6 => p_union(part(self), part(self)),
+            6 => p_union(self.half(height - 1), self.half(height - 1)),
             7 => p_seq(&(0..count).map(|_| part(self)).collect::<Vec<_>>()),
             _ => p_conc(part(self), part(self)),
+        }
+    }
+
+    /// A part of a union, mostly one that a set might match.
+    fn half(&mut self, height: u32) -> Node {
+        let count = 1 + self.below(3);
+        match self.below(8) {
+            0 if height > 0 => p_union(self.half(height - 1), self.half(height - 1)),
+            1..=3 if height > 0 => p_set(
+                &(0..count)
+                    .map(|_| self.pattern(height - 1))
+                    .collect::<Vec<_>>(),
+            ),
+            4 => self.pattern(height),
+            5 => p_any(),
+            _ => p_name(self.below(6) as u8),
         }
     }
 
@@ -52,10 +69,7 @@ impl Random {
                 Value::Set(parts.iter().map(|&part| self.value(table, part)).collect())
             }
             Record::UnionPattern(left, right) => {
-                match (self.value(table, *left), self.value(table, *right)) {
-                    (Value::Set(one), Value::Set(other)) => Value::Set(&one | &other),
-                    _ => self.any_set(),
-                }
+                Value::Set(&self.members(table, *left) | &self.members(table, *right))
             }
             Record::ConcatenationPattern(left, right) => {
                 match (self.value(table, *left), self.value(table, *right)) {
@@ -68,6 +82,23 @@ impl Random {
             _ if self.below(3) == 0 => self.any_set(),
             _ => self.small(),
         }
+    }
+
+    /// The members of a set that a part of a union might match.
+    fn members(&mut self, table: &Table, part: usize) -> BTreeSet<Value> {
+        if matches!(
+            table.record(part),
+            Record::SetPattern(_) | Record::UnionPattern(..)
+        ) {
+            if let Value::Set(members) = self.value(table, part) {
+                return members;
+            }
+        }
+        if self.below(12) == 0 {
+            return (0..8).map(Value::Integer).collect();
+        }
+        let members = (0..self.below(5)).map(|_| Value::Integer(self.below(9) as i32));
+        members.collect()
     }
 
     fn small(&mut self) -> Value {
@@ -83,9 +114,13 @@ impl Random {
 #[test]
 fn bindings_are_those_of_the_definition() {
     let mut random = Random(0x2545_F491_4F6C_DD1D);
-    let mut met = [0; 4];
+    let (mut met, mut unions) = ([0; 4], 0);
     for round in 0..6000 {
-        let sheet = let_(random.pattern(3), int(1), int(1));
+        let pattern = match round % 2 {
+            0 => random.pattern(3),
+            _ => p_union(random.half(2), random.half(2)),
+        };
+        let sheet = let_(pattern, int(1), int(1));
         let Ok(table) = accept(&sheet.table()) else {
             continue;
         };
@@ -107,6 +142,12 @@ fn bindings_are_those_of_the_definition() {
             Ok(all) if all.is_empty() => 2,
             Ok(_) => 3,
         }] += 1;
+        let holds_union = table
+            .records()
+            .iter()
+            .any(|record| matches!(record, Record::UnionPattern(..)));
+        let matches = expected.as_ref().is_ok_and(|all| !all.is_empty());
+        unions += usize::from(holds_union && matches);
         let found = bindings(&table, pattern, [&value]);
         assert_eq!(
             found,
@@ -116,6 +157,7 @@ fn bindings_are_those_of_the_definition() {
         );
     }
     assert!(met.iter().all(|&count| count > 0), "{met:?}");
+    assert!(unions > 700, "{met:?}, {unions} unions that match");
 }
 
 /// Evaluates within a time that no count of all ways could keep.
