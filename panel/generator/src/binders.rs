@@ -83,10 +83,15 @@ impl Writer {
                 (pattern, self.distinct_members(&part, count, depth - 1))
             }
             2 | 3 => {
-                let most = if self.random.once_in(16) {
-                    1
+                // Integers mostly differ, so that there is something to split.
+                let part = if self.random.once_in(3) {
+                    part
                 } else {
-                    2 + self.random.below(3)
+                    Shape::Integer
+                };
+                let most = match self.random.below(16) {
+                    0 => 1,
+                    _ => 2 + self.random.below(3),
                 };
                 let pattern = self.union_pattern(&part, most, 1, names);
                 (pattern, self.split_operand(&part, most, depth))
@@ -124,7 +129,7 @@ impl Writer {
             return self.out.range(1, most);
         }
         // Any other set may have a member or none, and then it has no split.
-        if !self.random.once_in(4) {
+        if !self.random.once_in(8) {
             return self.distinct_members(member, most, depth - 1);
         }
         self.expression(&Shape::set(member.clone(), most), depth - 1)

@@ -98,7 +98,7 @@ fn unions_match_often_but_not_always() {
             _ => matched += 1,
         }
     }
-    assert!(matched > 2 * unmatched, "{matched}, {unmatched}");
+    assert!(matched > 3 * unmatched, "{matched}, {unmatched}");
     assert!(unmatched > 10, "{matched}, {unmatched}");
 }
 
