@@ -83,10 +83,17 @@ impl Writer {
                 (pattern, self.distinct_members(&part, count, depth - 1))
             }
             2 | 3 => {
-                let most = 1 + self.random.below(4);
-                let shape = Shape::set(part.clone(), most);
-                let halves = [shape.clone(), shape.clone()];
-                let pattern = self.pattern_list(kind::P_UNION, &halves, 1 << most, true, 1, names);
+                // Integers mostly differ, so that there is something to split.
+                let part = if self.random.once_in(3) {
+                    part
+                } else {
+                    Shape::Integer
+                };
+                let most = match self.random.below(16) {
+                    0 => 1,
+                    _ => 2 + self.random.below(3),
+                };
+                let pattern = self.union_pattern(&part, most, 1, names);
                 (pattern, self.split_operand(&part, most, depth))
             }
             4 | 5 => {
@@ -115,13 +122,14 @@ impl Writer {
 
     /// A set to be split; wildly, one of 7 to 9 members.
     fn split_operand(&mut self, member: &Shape, most: usize, depth: usize) -> usize {
-        let splits_of_seven = 128f64.ln();
+        let splits_of_seven = 126f64.ln();
         if self.times == 1 && self.lists > splits_of_seven && self.wildly(10) {
             self.lists -= splits_of_seven;
             let most = self.random.between(7, 9);
             return self.out.range(1, most);
         }
-        if self.random.once_in(2) {
+        // Any other set may have a member or none, and then it has no split.
+        if !self.random.once_in(8) {
             return self.distinct_members(member, most, depth - 1);
         }
         self.expression(&Shape::set(member.clone(), most), depth - 1)

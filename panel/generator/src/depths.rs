@@ -15,48 +15,111 @@ pub fn deepest() -> Vec<(String, Vec<u8>)> {
     sheets.push(("patterns of tuples".into(), patterns(kind::P_TUPLE)));
     sheets.push(("patterns of sequences".into(), patterns(kind::P_SEQUENCE)));
     sheets.push(("patterns of sets".into(), patterns(kind::P_SET)));
-    sheets.push((
-        "concatenation patterns".into(),
-        halves(kind::P_CONCATENATION),
-    ));
-    sheets.push(("union patterns".into(), halves(kind::P_UNION)));
+    sheets.push(("concatenation patterns".into(), cuts()));
+    sheets.push(("union patterns".into(), splits()));
+    sheets.push(("unions within sets of unions".into(), sets_of_unions()));
     sheets.push(("values within values, compared".into(), values()));
     sheets
 }
 
-/// Sheets with as many patterns with parts as the records allow, in one pattern: they are matched one after the other, each within the one before.
+/// Sheets with as many patterns with parts as the records and a value's size allow, in one pattern that matches in one way: they are matched one after
+/// the other, each within the one before.
 pub fn widest() -> Vec<(String, Vec<u8>)> {
     vec![
-        ("unions of empty sets".into(), halved(kind::P_UNION)),
+        (
+            "tuples of unions of two sets".into(),
+            tuples_of_unions(truths_apart, both_truths, &[2, 4, 4]),
+        ),
+        (
+            "tuples of unions of seven sets".into(),
+            tuples_of_unions(one_to_seven_apart, one_to_seven, &[2, 4]),
+        ),
         (
             "concatenations of empty sequences".into(),
-            halved(kind::P_CONCATENATION),
+            empty_sequences(),
         ),
     ]
 }
 
-/// A let with a pattern of halves, their halves and so on, that meets an empty set or sequence.
-fn halved(form: u16) -> Vec<u8> {
-    let (empty, value) = match form {
-        kind::P_UNION => (kind::P_SET, kind::SET),
-        _ => (kind::P_SEQUENCE, kind::SEQUENCE),
-    };
+/// A let with a pattern of halves, their halves and so on, that meets an empty sequence.
+fn empty_sequences() -> Vec<u8> {
     let mut b = Builder::new();
     // With a value, a body and the let, n empty ones and the n - 1 patterns that join them are all records.
     let mut level: Vec<usize> = (0..(MOST_RECORDS - 2) / 2)
-        .map(|_| b.node(empty, &[]))
+        .map(|_| b.node(kind::P_SEQUENCE, &[]))
         .collect();
     while level.len() > 1 {
         let joined = level.chunks(2).map(|pair| match pair {
-            [_, _] => b.node(form, pair),
+            [_, _] => b.node(kind::P_CONCATENATION, pair),
             _ => pair[0],
         });
         level = joined.collect();
     }
-    let value = b.node(value, &[]);
+    let value = b.node(kind::SEQUENCE, &[]);
     let body = b.integer(5);
     b.node(kind::LET, &[level[0], value, body]);
     b.table()
+}
+
+/// A let with a pattern of tuples within tuples, so many parts each, from the outermost on, and of unions in the innermost ones. Lets around it build
+/// the value from a set that all unions meet.
+fn tuples_of_unions(union: Start, set: Start, counts: &[usize]) -> Vec<u8> {
+    let mut b = Builder::new();
+    let mut value = set(&mut b);
+    let mut lets = Vec::new();
+    for (name, &count) in (0..).zip(counts.iter().rev()) {
+        lets.push((b.p_name(name), value));
+        let items: Vec<usize> = (0..count).map(|_| b.name(name)).collect();
+        value = b.node(kind::TUPLE, &items);
+    }
+    let pattern = tuples(&mut b, union, counts);
+    let body = b.integer(5);
+    let body = b.node(kind::LET, &[pattern, value, body]);
+    lets.into_iter().rev().fold(body, |body, (name, value)| {
+        b.node(kind::LET, &[name, value, body])
+    });
+    b.table()
+}
+
+fn tuples(b: &mut Builder, union: Start, counts: &[usize]) -> usize {
+    let Some((&count, inner)) = counts.split_first() else {
+        return union(b);
+    };
+    let parts: Vec<usize> = (0..count).map(|_| tuples(b, union, inner)).collect();
+    b.node(kind::P_TUPLE, &parts)
+}
+
+/// {false} union {true}.
+fn truths_apart(b: &mut Builder) -> usize {
+    let halves = [0, 1].map(|truth| {
+        let member = b.record(kind::P_BOOLEAN, &[truth], &[]);
+        b.node(kind::P_SET, &[member])
+    });
+    b.node(kind::P_UNION, &halves)
+}
+
+/// {false,true}.
+fn both_truths(b: &mut Builder) -> usize {
+    let members = [b.boolean(false), b.boolean(true)];
+    b.node(kind::SET, &members)
+}
+
+/// {1} union ({2} union (.. union {7})).
+fn one_to_seven_apart(b: &mut Builder) -> usize {
+    let sets: Vec<usize> = (1..=7_i32)
+        .map(|number| {
+            let member = b.record(kind::P_INTEGER, &number.to_le_bytes(), &[]);
+            b.node(kind::P_SET, &[member])
+        })
+        .collect();
+    let joined = sets.into_iter().rev();
+    let joined = joined.reduce(|right, left| b.node(kind::P_UNION, &[left, right]));
+    joined.expect("a set")
+}
+
+/// {1,...,7}.
+fn one_to_seven(b: &mut Builder) -> usize {
+    b.range(1, 7)
 }
 
 type Start = fn(&mut Builder) -> usize;
@@ -226,21 +289,48 @@ fn patterns(form: u16) -> Vec<u8> {
     b.table()
 }
 
-/// A let whose pattern takes half of a half of a half.
-fn halves(form: u16) -> Vec<u8> {
-    let mut b = Builder::new();
-    let mut pattern = b.p_name(0);
-    for _ in 2..MOST_HEIGHT {
+/// The half of a half of a half, as high as a pattern may be.
+fn halves(b: &mut Builder, form: u16) -> usize {
+    let innermost = b.p_name(0);
+    (2..MOST_HEIGHT).fold(innermost, |half, _| {
         let beside = b.p_any();
-        pattern = b.node(form, &[beside, pattern]);
-    }
+        b.node(form, &[beside, half])
+    })
+}
+
+/// A let whose pattern cuts a sequence again and again.
+fn cuts() -> Vec<u8> {
+    let mut b = Builder::new();
+    let pattern = halves(&mut b, kind::P_CONCATENATION);
     let items: Vec<usize> = (0..3).map(|number| b.integer(number)).collect();
-    let enumeration = if form == kind::P_UNION {
-        kind::SET
-    } else {
-        kind::SEQUENCE
-    };
-    let value = b.node(enumeration, &items);
+    let value = b.node(kind::SEQUENCE, &items);
+    let body = b.name(0);
+    b.node(kind::LET, &[pattern, value, body]);
+    b.table()
+}
+
+/// An exists whose pattern splits a set again and again: more often than its members, so that nothing matches.
+fn splits() -> Vec<u8> {
+    let mut b = Builder::new();
+    let pattern = halves(&mut b, kind::P_UNION);
+    let members = b.range(1, 7);
+    let set = b.node(kind::SET, &[members]);
+    let condition = b.boolean(true);
+    b.node(kind::EXISTS, &[pattern, set, condition]);
+    b.table()
+}
+
+/// let {{{a} union -} union -} union - = {1,{1,{1,5}}} in a, as deep as it goes.
+fn sets_of_unions() -> Vec<u8> {
+    let mut b = Builder::new();
+    let (mut pattern, mut value) = (b.p_name(0), b.integer(5));
+    // A set and a union for each level.
+    for _ in 0..(MOST_HEIGHT - 2) / 2 {
+        let halves = [b.node(kind::P_SET, &[pattern]), b.p_any()];
+        pattern = b.node(kind::P_UNION, &halves);
+        let members = [b.integer(1), value];
+        value = b.node(kind::SET, &members);
+    }
     let body = b.name(0);
     b.node(kind::LET, &[pattern, value, body]);
     b.table()

@@ -50,10 +50,8 @@ impl Writer {
                     names,
                 );
             }
-            Shape::Set(_, most) if inside && loose && *most <= 7 && self.random.once_in(2) => {
-                let parts = [shape.clone(), shape.clone()];
-                let splits = 1 << most;
-                return self.pattern_list(kind::P_UNION, &parts, splits, loose, depth, names);
+            Shape::Set(member, most) if inside && loose && self.splits_union(*most) => {
+                return self.union_pattern(member, *most, depth, names);
             }
             Shape::Set(member, most) if inside && loose => {
                 let count = self.random.below(most.min(&4) + 1);
@@ -78,6 +76,26 @@ impl Writer {
         let parts = vec![member.clone(); count];
         let pairings = (1..=count).product();
         self.pattern_list(kind::P_SET, &parts, pairings, true, depth, names)
+    }
+
+    /// Whether a set of at most so many members is split by a union: rarely one of a member or none, which has no split.
+    fn splits_union(&mut self, most: usize) -> bool {
+        let times = if most < 2 { 12 } else { 2 };
+        most <= 7 && self.random.once_in(times)
+    }
+
+    /// A union over sets of at most so many members. A half has at least one, and leaves one to the other.
+    pub fn union_pattern(
+        &mut self,
+        member: &Shape,
+        most: usize,
+        depth: usize,
+        names: &mut Names,
+    ) -> Pattern {
+        let half = Shape::set(member.clone(), most.saturating_sub(1).max(1));
+        let halves = [half.clone(), half];
+        let splits = (1_usize << most).saturating_sub(2);
+        self.pattern_list(kind::P_UNION, &halves, splits, true, depth, names)
     }
 
     /// A pattern of parts, which are tried on a value in `ways` ways.

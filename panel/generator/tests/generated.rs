@@ -1,8 +1,11 @@
 //! The generated tables are what they are meant to be, as the reference judges them.
 
-use generator::{accepted, at_limits, damaged, deepest};
-use reference::check::check;
+use generator::{accepted, at_limits, damaged, deepest, widest};
+use reference::check::{accept, check};
+use reference::eval::run;
 use reference::print::walk_print;
+use reference::table::Record;
+use reference::walk::first;
 
 #[test]
 fn accepted_sheets_are_accepted() {
@@ -77,6 +80,28 @@ fn most_sheets_evaluate_and_many_choose() {
     assert!(tame.over_500_lists * 50 < tame.sheets, "{tame:?}");
 }
 
+/// Of the sheets that are a let with a union pattern, many have a match, and some have none.
+#[test]
+fn unions_match_often_but_not_always() {
+    let (mut matched, mut unmatched) = (0, 0);
+    for seed in 0..8000 {
+        let table = accept(&accepted(seed)).expect("an accepted table");
+        let Record::Let { pattern, .. } = table.record(table.last()) else {
+            continue;
+        };
+        if !matches!(table.record(*pattern), Record::UnionPattern(..)) {
+            continue;
+        }
+        let end = run(&table, &first(&table));
+        match (end.number, end.place == table.last()) {
+            (23, true) => unmatched += 1,
+            _ => matched += 1,
+        }
+    }
+    assert!(matched > 3 * unmatched, "{matched}, {unmatched}");
+    assert!(unmatched > 10, "{matched}, {unmatched}");
+}
+
 #[test]
 fn every_refusal_of_a_run_occurs() {
     let wild = tally((0..3000).filter(|seed| seed % 4 == 3));
@@ -93,7 +118,7 @@ const AT_LIMITS: &[(&str, &str)] = &[
     ("sequence of 513 bytes", "- !28 large\nend 1"),
     ("map of 513 bytes", "- !28 large\nend 1"),
     ("tuple of 513 bytes", "- !28 large\nend 1"),
-    ("7 members under a union pattern", "127 =1\nend 128"),
+    ("7 members under a union pattern", "125 =1\nend 126"),
     ("8 members under a union pattern", "- !29 split\nend 1"),
     ("height 32", "- =-5\nend 1"),
     ("height 33", "refused 9 32"),
@@ -173,6 +198,17 @@ fn deep_sheets_are_accepted_and_end_in_values() {
         assert!(print.starts_with("table "), "{label}: {print}");
         assert!(!print.contains('!'), "{label}: {print}");
         assert!(is_high(&table), "{label}");
+    }
+}
+
+/// The sheets of the most patterns are accepted, and their pattern has one binding.
+#[test]
+fn wide_sheets_have_one_binding() {
+    for (label, table) in widest() {
+        let print = walk_print(&table);
+        assert!(print.ends_with("\n0 =5\nend 1\n"), "{label}: {print}");
+        let records = check(&table).expect("an accepted table");
+        assert!(records >= 180, "{label}: {records} records");
     }
 }
 

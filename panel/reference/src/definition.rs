@@ -41,7 +41,7 @@ pub fn bindings(table: &Table, pattern: usize, value: &Value) -> Option<BTreeSet
                 return None;
             }
             let members: Vec<Value> = members.iter().cloned().collect();
-            union((0..1 << members.len()).map(|chosen: usize| {
+            union((0..1 << members.len()).filter_map(|chosen: usize| {
                 let (mut one, mut other) = (BTreeSet::new(), BTreeSet::new());
                 for (place, member) in members.iter().enumerate() {
                     let half = if chosen >> place & 1 == 1 {
@@ -51,11 +51,10 @@ pub fn bindings(table: &Table, pattern: usize, value: &Value) -> Option<BTreeSet
                     };
                     half.insert(member.clone());
                 }
-                paired(
-                    table,
-                    &[*left, *right],
-                    &[Value::Set(one), Value::Set(other)],
-                )
+                // Neither half is empty.
+                let is_split = !one.is_empty() && !other.is_empty();
+                let halves = [Value::Set(one), Value::Set(other)];
+                is_split.then(|| paired(table, &[*left, *right], &halves))
             }))
         }
         (Record::ConcatenationPattern(left, right), Value::Sequence(items)) => {

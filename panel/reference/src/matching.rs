@@ -306,9 +306,11 @@ fn ways<'v>(pattern: &Record, value: &'v Value) -> Box<dyn Iterator<Item = Vec<V
     }
 }
 
-/// Every split of a set into two disjoint sets.
+/// Every split of a set into two disjoint sets, neither of them empty: at least one member is chosen for the first
+/// half, and not all are. A set of 0 or 1 members has none.
 fn splits(members: &BTreeSet<Value>) -> impl Iterator<Item = Vec<Value>> + '_ {
-    (0..1_usize << members.len()).map(|chosen| {
+    let all = (1_usize << members.len()) - 1;
+    (1..all).map(|chosen| {
         let half = |side: usize| {
             let members = members.iter().enumerate();
             let members = members.filter(|(place, _)| chosen >> place & 1 == side);

@@ -215,11 +215,29 @@ fn number_29_a_wide_union() {
         let_(in_set, set(&[boolean(true), range(1, 8)]), int(1)).answer(&[]),
         (29, 11, 0)
     );
-    let in_half = p_union(p_set(&[wide()]), p_int(4));
+    let in_half = || p_union(p_set(&[wide()]), p_int(4));
     assert_eq!(
-        let_(in_half, set(&[int(1), range(1, 8)]), int(1)).answer(&[]),
+        let_(in_half(), set(&[int(1), range(1, 8)]), int(1)).answer(&[]),
         (29, 12, 0)
     );
+    // A set of one member has no split whose halves could be tried.
+    assert_eq!(
+        let_(in_half(), set(&[range(1, 8)]), int(1)).answer(&[]),
+        (23, 11, 0)
+    );
+    let deeper = || p_union(p_union(p_set(&[wide()]), p_any()), p_any());
+    assert_eq!(
+        let_(deeper(), set(&[int(1), range(1, 8)]), int(1)).answer(&[]),
+        (23, 14, 0)
+    );
+    assert_eq!(
+        let_(deeper(), set(&[int(1), int(2), range(1, 8)]), int(1)).answer(&[]),
+        (29, 15, 0)
+    );
+    // A union that cannot match tells a wide set all the same.
+    let empty = || p_union(p_set(&[]), p_name(0));
+    assert_eq!(let_(empty(), range(1, 8), int(1)).answer(&[]), (29, 7, 0));
+    assert_eq!(let_(empty(), range(1, 2), int(1)).answer(&[]), (23, 7, 0));
     let in_cut = p_conc(p_seq(&[p_any(), wide()]), p_seq(&[p_int(4)]));
     let items = seq(&[int(1), range(1, 8), int(1)]);
     assert_eq!(let_(in_cut, items, int(1)).answer(&[]), (29, 15, 0));
@@ -244,12 +262,15 @@ fn number_29_a_wide_union() {
 fn number_30_too_many_bindings() {
     let many = || p_tuple(&[p_union(p_name(0), p_name(1)), p_union(p_name(2), p_name(3))]);
     let sheet = |first, second| let_(many(), tuple(&[range(1, first), range(1, second)]), int(1));
-    assert_eq!(sheet(3, 4).answer(&[]), (32, 15, 128));
-    assert_eq!(sheet(4, 4).answer(&[]), (30, 15, 0));
-    assert_eq!(sheet(7, 1).answer(&[]), (30, 15, 0));
-    // Over all members: 128 + 64 bindings are not too many, and 128 + 128 are.
+    // 14 × 14, 126 × 2, 30 × 14 and 126 × 6.
+    assert_eq!(sheet(4, 4).answer(&[]), (32, 15, 196));
+    assert_eq!(sheet(7, 2).answer(&[]), (32, 15, 252));
+    assert_eq!(sheet(5, 4).answer(&[]), (30, 15, 0));
+    assert_eq!(sheet(7, 3).answer(&[]), (30, 15, 0));
+    assert_eq!(sheet(7, 1).answer(&[]), (23, 15, 0));
+    // Over all members: 126 + 126 + 2 bindings are not too many, and 126 + 126 + 2 + 2 are.
     let sheet = |to| {
-        let members = set(&[range(1, 7), range(8, to)]);
+        let members = set(&[range(1, 7), range(8, 14), range(15, 16), range(17, to)]);
         let_be(
             p_union(p_name(0), p_name(1)),
             members,
@@ -257,8 +278,19 @@ fn number_30_too_many_bindings() {
             int(1),
         )
     };
-    assert_eq!(sheet(13).answer(&[]), (32, 12, 192));
-    assert_eq!(sheet(14).answer(&[]), (30, 12, 0));
+    assert_eq!(sheet(17).answer(&[]), (32, 18, 254));
+    assert_eq!(sheet(18).answer(&[]), (30, 18, 0));
+    // n members have n splits whose first half is one of them, and m items m + 1 cuts: 5 × 51 and 4 × 64.
+    let sheet = |members, items| {
+        let pattern = p_tuple(&[
+            p_union(p_set(&[p_name(0)]), p_name(1)),
+            p_conc(p_name(2), p_any()),
+        ]);
+        let all = seq_comp(p_name(9), range(1, items), boolean(true), boolean(true));
+        let_(pattern, tuple(&[range(1, members), all]), int(1))
+    };
+    assert_eq!(sheet(5, 50).answer(&[]), (32, 20, 255));
+    assert_eq!(sheet(4, 63).answer(&[]), (30, 20, 0));
     // A sequence of n items is cut in three in (n + 1) × (n + 2) ÷ 2 ways.
     let cuts = |items: i32| {
         let all = seq_comp(p_name(9), range(1, items), boolean(true), boolean(true));
@@ -267,13 +299,13 @@ fn number_30_too_many_bindings() {
     };
     assert_eq!(cuts(21).answer(&[]), (32, 13, 253));
     assert_eq!(cuts(22).answer(&[]), (30, 13, 0));
-    // Distinct bindings count, not ways.
+    // Distinct bindings count, not ways: of the 126 halves of seven those of six leave the others too little.
     let sheet = let_(
         p_union(p_union(p_name(0), p_any()), p_any()),
         range(1, 7),
         int(1),
     );
-    assert_eq!(sheet.answer(&[]), (32, 9, 128));
+    assert_eq!(sheet.answer(&[]), (32, 9, 119));
 }
 
 #[test]

@@ -35,7 +35,7 @@ fn choices_give_each_outcome_once() {
         range(1, 3),
         un(unary::CARD, name(0)),
     );
-    assert_eq!(printed(&sheet), ["0", "1", "2", "3"]);
+    assert_eq!(printed(&sheet), ["1", "2"]);
 }
 
 #[test]

@@ -58,8 +58,52 @@ fn a_union_pattern_splits_in_every_way() {
         set(&ints(&[1, 2])),
         un(unary::CARD, name(0)),
     );
-    let print = "table 9\n0 =0\n1 =1\n2 =2\n3 =1\nend 4\n";
+    let print = "table 9\n0 =1\n1 =1\nend 2\n";
     assert_eq!(walk_print(&sheet.table()), print);
+}
+
+/// The lines of a let's print after the first, with the names 0, 1 and so on as a tuple.
+fn lines(pattern: Node, value: Node, names: u8) -> Vec<String> {
+    let body = tuple(&(0..names).map(name).collect::<Vec<_>>());
+    let print = walk_print(&let_(pattern, value, body).table());
+    print.lines().skip(1).map(str::to_string).collect()
+}
+
+#[test]
+fn neither_half_of_a_union_is_empty() {
+    let two = || p_union(p_name(0), p_name(1));
+    assert_eq!(
+        lines(two(), range(1, 3), 2),
+        [
+            "0 =mk_({1},{2,3})",
+            "1 =mk_({1,2},{3})",
+            "2 =mk_({1,3},{2})",
+            "3 =mk_({2},{1,3})",
+            "4 =mk_({2,3},{1})",
+            "5 =mk_({3},{1,2})",
+            "end 6",
+        ]
+    );
+    let refused = ["- !23 no-match", "end 1"];
+    assert_eq!(lines(two(), range(1, 1), 2), refused);
+    assert_eq!(lines(two(), range(1, 0), 2), refused);
+    let three = || p_union(p_name(0), p_union(p_name(1), p_name(2)));
+    assert_eq!(
+        lines(three(), range(1, 3), 3),
+        [
+            "0 =mk_({1},{2},{3})",
+            "1 =mk_({1},{3},{2})",
+            "2 =mk_({2},{1},{3})",
+            "3 =mk_({2},{3},{1})",
+            "4 =mk_({3},{1},{2})",
+            "5 =mk_({3},{2},{1})",
+            "end 6",
+        ]
+    );
+    assert_eq!(lines(three(), range(1, 2), 3), refused);
+    // A concatenation keeps its empty parts.
+    let cut = let_(p_conc(p_any(), p_name(0)), seq(&[]), name(0));
+    assert_eq!(cut.prints_under(&[0]), "[]");
 }
 
 #[test]
@@ -88,8 +132,9 @@ fn height_32_is_accepted_and_33_is_not() {
 #[test]
 fn a_set_of_7_splits_and_one_of_8_does_not() {
     let sheet = |to| let_(p_union(p_name(0), p_name(1)), range(1, to), name(0));
-    assert_eq!(sheet(7).answer(&[]), (32, 7, 128));
-    assert_eq!(sheet(7).prints_under(&[127]), "{7}");
+    assert_eq!(sheet(7).answer(&[]), (32, 7, 126));
+    assert_eq!(sheet(7).prints_under(&[0]), "{1}");
+    assert_eq!(sheet(7).prints_under(&[125]), "{7}");
     assert_eq!(sheet(8).answer(&[]), (29, 7, 0));
 }
 

@@ -50,7 +50,7 @@ fn outcomes(name: &str) -> Vec<String> {
 #[test]
 fn every_sample_gives_its_print() {
     let samples = samples();
-    assert!(samples.len() >= 35);
+    assert!(samples.len() >= 45);
     for (name, table, expected) in samples {
         assert_eq!(print(&table), expected, "{name}");
     }
@@ -100,9 +100,19 @@ fn a_set_pattern_pairs_in_every_way() {
 
 #[test]
 fn a_union_pattern_splits_in_every_way() {
-    assert_eq!(outcomes("union-of-two"), ["0", "1", "2", "1"]);
-    assert_eq!(outcomes("union-of-seven").len(), 128);
+    assert_eq!(outcomes("union-of-two"), ["1", "1"]);
+    assert_eq!(outcomes("union-of-seven").len(), 126);
     assert_eq!(outcomes("union-of-eight"), ["29"]);
+}
+
+#[test]
+fn neither_half_of_a_union_is_empty() {
+    assert_eq!(outcomes("union-of-one"), ["23"]);
+    assert_eq!(outcomes("union-with-empty"), ["23"]);
+    assert_eq!(outcomes("union-of-three").len(), 6);
+    assert_eq!(outcomes("union-within"), ["23"]);
+    assert_eq!(outcomes("union-within-split"), ["29"]);
+    assert_eq!(outcomes("sequence-split").len(), 4);
 }
 
 #[test]

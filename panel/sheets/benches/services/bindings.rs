@@ -11,7 +11,7 @@ use generator::builder::kind;
 use generator::{Builder, Random};
 
 /// Patterns of a let, each with the value that it is matched with.
-const LETS: [(&str, &str); 22] = [
+const LETS: [(&str, &str); 23] = [
     ("mk_(a ^ -, b)", "mk_([],{1,2,3})"),
     ("{a,b,c,d}", "{1,2,3,4}"),
     (
@@ -40,6 +40,10 @@ const LETS: [(&str, &str); 22] = [
     (
         "(({-} union {-}) union ({-} union {-})) union (({-} union {-}) union a)",
         "{1,...,7}",
+    ),
+    (
+        "({a union b} union c) union -",
+        "{{1,2},{3,4},{5,6},{7,8},{9,10},{11,12},{13,14}}",
     ),
     (
         "- ^ (- ^ (- ^ a))",
@@ -101,6 +105,24 @@ pub fn unions() -> Vec<(String, Vec<u8>)> {
     (0..200).map(union).collect()
 }
 
+/// Random tuples of two such unions of two to five parts, each over seven members. Of every other one the names stand in both unions.
+pub fn tuples() -> Vec<(String, Vec<u8>)> {
+    let tuple = |seed| {
+        let mut random = Random::new(seed);
+        let all: Vec<char> = ('a'..='p').collect();
+        let mut names = all.clone();
+        let parts = [2 + random.below(4), 2 + random.below(4)];
+        let left = union(&mut random, &mut names, parts[0]);
+        if seed % 2 == 1 {
+            names = all;
+        }
+        let right = union(&mut random, &mut names, parts[1]);
+        let pattern = format!("mk_({left}, {right})");
+        row(kind::LET, &pattern, "mk_({1,...,7},{1,...,7})")
+    };
+    (0..200).map(tuple).collect()
+}
+
 fn union(random: &mut Random, names: &mut Vec<char>, parts: usize) -> String {
     if parts > 1 {
         let left = 1 + random.below(parts - 1);
@@ -110,7 +132,7 @@ fn union(random: &mut Random, names: &mut Vec<char>, parts: usize) -> String {
         });
         return halves.join(" union ");
     }
-    let mut leaf = |random: &mut Random| match random.once_in(2) {
+    let mut leaf = |random: &mut Random| match random.once_in(2) && !names.is_empty() {
         true => names.remove(0).to_string(),
         false => "-".to_string(),
     };

@@ -19,8 +19,11 @@ const FEWEST: usize = 11;
 const MOST: usize = 301;
 /// The least time of one measurement, so that the clock does not matter.
 const LEAST: Duration = Duration::from_micros(100);
-/// How many of the random unions are shown, and of the refused tables measured twice.
+/// How many of the random patterns are shown, and of the refused tables measured twice.
 const SLOWEST: usize = 10;
+/// How often each random pattern is run to find these, unless it takes longer than the time in all.
+const RUNS: usize = 5;
+const LONG: Duration = Duration::from_millis(100);
 
 /// The buffers that are lent.
 struct Lent {
@@ -308,24 +311,64 @@ fn slowest_refused() -> Vec<u8> {
     tables.into_iter().max_by_key(slowness).expect("a table")
 }
 
-/// Of the random unions those that are slowest against the second evaluator, by the least of a few runs.
-fn slowest_unions() -> Vec<Row> {
-    let mut lent = Lent::new();
-    let mut least = |work: Work| {
-        let mut work = work;
-        let times = (0..5).map(|_| time(&mut work, &mut lent, 1));
-        times.min().expect("a time").as_secs_f64()
-    };
-    let mut rows: Vec<(f64, Row)> = bindings::unions()
-        .into_iter()
-        .map(|(label, table)| {
+/// Those of random patterns that are slowest against the second evaluator.
+struct Slowest {
+    what: &'static str,
+    rows: Vec<Row>,
+    /// The greatest time of ours among all of them, with its label.
+    greatest: Option<(Duration, String)>,
+}
+
+impl Slowest {
+    fn of(what: &'static str, tables: impl Iterator<Item = (String, Vec<u8>)>) -> Slowest {
+        let mut greatest = None;
+        let mut rows: Vec<(f64, Row)> = Vec::new();
+        for (label, table) in tables {
             let ours = least(&mut |lent| Ours::evaluate(lent, &table));
             let second = least(&mut |lent| Second::evaluate(lent, &table));
-            (ours / second, Row::new(&label, Call::Evaluate, table))
-        })
-        .collect();
-    rows.sort_by(|one, other| other.0.total_cmp(&one.0));
-    rows.into_iter().map(|(_, row)| row).take(SLOWEST).collect()
+            let ratio = ours.as_secs_f64() / second.as_secs_f64();
+            greatest = greatest.max(Some((ours, label.clone())));
+            rows.push((ratio, Row::new(&label, Call::Evaluate, table)));
+        }
+        rows.sort_by(|one, other| other.0.total_cmp(&one.0));
+        let rows = rows.into_iter().map(|(_, row)| row).take(SLOWEST);
+        Slowest {
+            what,
+            rows: rows.collect(),
+            greatest,
+        }
+    }
+
+    fn print(&self) {
+        for row in &self.rows {
+            row.print();
+        }
+    }
+
+    /// The greatest time, in milliseconds.
+    fn print_greatest(&self) {
+        if let Some((time, label)) = &self.greatest {
+            let millis = time.as_secs_f64() * 1e3;
+            println!(
+                "{}, the greatest time of ours: {millis:.3} ms, {label}",
+                self.what
+            );
+        }
+    }
+}
+
+/// The least time of a few runs.
+fn least(mut work: Work) -> Duration {
+    let mut lent = Lent::new();
+    let start = Instant::now();
+    let mut least = time(&mut work, &mut lent, 1);
+    for _ in 1..RUNS {
+        if start.elapsed() > LONG {
+            break;
+        }
+        least = least.min(time(&mut work, &mut lent, 1));
+    }
+    least
 }
 
 fn rows() -> Vec<Row> {
@@ -350,7 +393,6 @@ fn rows() -> Vec<Row> {
             .into_iter()
             .map(|(label, table)| Row::new(&label, Call::Evaluate, table)),
     );
-    rows.extend(slowest_unions());
     rows
 }
 
@@ -361,7 +403,7 @@ fn walks() -> [Row; 2] {
             cases::nested_choices(),
         ),
         (
-            "walk of 128 lists: let a union b = {1,...,7}",
+            "walk of 126 lists: let a union b = {1,...,7}",
             cases::union_of_seven(),
         ),
     ]
@@ -412,7 +454,7 @@ fn prints() -> Vec<Row> {
             cases::nested_choices(),
         ),
         (
-            "walk program, 128 lists: let a union b = {1,...,7}",
+            "walk program, 126 lists: let a union b = {1,...,7}",
             cases::union_of_seven(),
         ),
         (
@@ -466,5 +508,19 @@ fn main() {
     println!("| the floor: clearing 65,536 bytes | {floor} | | |");
     for row in rows().iter().filter(|row| is_picked(&row.label)) {
         row.print();
+    }
+    let slowest = [
+        ("200 random unions", bindings::unions()),
+        ("200 random tuples of two unions", bindings::tuples()),
+    ]
+    .map(|(what, tables)| {
+        let picked = tables.into_iter().filter(|(label, _)| is_picked(label));
+        let slowest = Slowest::of(what, picked);
+        slowest.print();
+        slowest
+    });
+    println!();
+    for slowest in &slowest {
+        slowest.print_greatest();
     }
 }

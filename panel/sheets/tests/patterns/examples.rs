@@ -13,7 +13,7 @@ fn factorial(number: usize) -> usize {
 /// One value or more of every kind.
 fn one_of_each() -> Vec<Value> {
     let mut values: Vec<Value> = [
-        "false", "true", "-1", "0", "1", "{}", "{1}", "[]", "[1]", "mk_(1,2)",
+        "false", "true", "-1", "0", "1", "{}", "{1}", "{1,2}", "[]", "[1]", "mk_(1,2)",
     ]
     .map(value)
     .into();
@@ -25,16 +25,71 @@ fn one_of_each() -> Vec<Value> {
 
 // ---- union
 
+/// A set of n members has 2^n − 2 splits, and one of 0 or 1 members none.
 #[test]
 fn splits_of_up_to_seven_members() {
-    for members in 0..=7 {
-        let set = numbers(members);
-        assert_eq!(count("a union b", &set), Ok(1 << members));
-        assert_eq!(count("a union -", &set), Ok(1 << members));
-        assert_eq!(count("- union a", &set), Ok(1 << members));
-        assert_eq!(count("- union -", &set), Ok(1));
-        assert_eq!(count("{a} union b", &set), Ok(members as usize));
-        assert_eq!(count("a union {b}", &set), Ok(members as usize));
+    for (members, splits) in [0, 0, 2, 6, 14, 30, 62, 126].into_iter().enumerate() {
+        let set = numbers(members as i32);
+        assert_eq!(count("a union b", &set), Ok(splits));
+        assert_eq!(count("a union -", &set), Ok(splits));
+        assert_eq!(count("- union a", &set), Ok(splits));
+        assert_eq!(count("- union -", &set), Ok(splits.min(1)));
+        let of_one = if splits == 0 { 0 } else { members };
+        assert_eq!(count("{a} union b", &set), Ok(of_one));
+        assert_eq!(count("a union {b}", &set), Ok(of_one));
+        // The same over the members of a set, where a set without a split is passed over.
+        let sets = set_of([set.clone(), numbers(0), set_of([value("9")])]);
+        assert_eq!(count_over("a union b", &sets), Ok(splits));
+    }
+}
+
+/// The bindings in their order, each with its values in rising name number.
+#[test]
+fn splits_in_order() {
+    for (text, with, expected) in [
+        ("a union -", "{1,2}", &["{1}", "{2}"][..]),
+        ("{a} union -", "{1,2}", &["1", "2"]),
+        (
+            "a union -",
+            "{1,2,3}",
+            &["{1}", "{1,2}", "{1,3}", "{2}", "{2,3}", "{3}"],
+        ),
+        (
+            "a union b",
+            "{1,2,3}",
+            &[
+                "{1} {2,3}",
+                "{1,2} {3}",
+                "{1,3} {2}",
+                "{2} {1,3}",
+                "{2,3} {1}",
+                "{3} {1,2}",
+            ],
+        ),
+        (
+            "a union (b union c)",
+            "{1,2,3}",
+            &[
+                "{1} {2} {3}",
+                "{1} {3} {2}",
+                "{2} {1} {3}",
+                "{2} {3} {1}",
+                "{3} {1} {2}",
+                "{3} {2} {1}",
+            ],
+        ),
+        (
+            "{a union b} union c",
+            "{1,{2,3}}",
+            &["{2} {3} {1}", "{3} {2} {1}"],
+        ),
+    ] {
+        let found = matched(text, &value(with)).expect("bindings");
+        let shown = found.iter().map(|binding| {
+            let values: Vec<String> = binding.values().map(Value::to_string).collect();
+            values.join(" ")
+        });
+        assert_eq!(shown.collect::<Vec<_>>(), expected, "{text} and {with}");
     }
 }
 
@@ -47,6 +102,8 @@ fn eight_members_are_too_many_whatever_the_halves() {
         "1 union true",
         "{a} union b",
         "{} union {}",
+        "{} union a",
+        "a union {}",
         "a union (b union c)",
         "[] union mk_(a,b)",
     ] {
@@ -58,32 +115,72 @@ fn eight_members_are_too_many_whatever_the_halves() {
     }
 }
 
+/// No half is empty, so {} is none, and halves of one name are not equal.
 #[test]
-fn halves_may_be_empty() {
-    assert_eq!(count("{} union a", &numbers(3)), Ok(1));
-    assert_eq!(count("a union {}", &numbers(3)), Ok(1));
-    assert_eq!(count("{} union {}", &numbers(0)), Ok(1));
-    assert_eq!(count("{} union {}", &numbers(1)), Ok(0));
-    assert_eq!(count("a union a", &numbers(0)), Ok(1));
-    assert_eq!(count("a union a", &numbers(2)), Ok(0));
-    assert_eq!(count("{a,b} union c", &numbers(1)), Ok(0));
-    assert_eq!(count("1 union a", &numbers(2)), Ok(0));
-    assert_eq!(count("[] union a", &numbers(2)), Ok(0));
+fn halves_that_no_split_gives() {
+    for members in 0..=7 {
+        for text in [
+            "{} union a",
+            "a union {}",
+            "{} union {}",
+            "{} union -",
+            "a union a",
+            "1 union a",
+            "[] union a",
+            "(a union b) union {}",
+            "{a} union ({} union b)",
+            "(a union -) union (- union a)",
+        ] {
+            assert_eq!(count(text, &numbers(members)), Ok(0), "{text} {members}");
+        }
+    }
+    // Two members of three and the third.
+    for (members, ways) in [(0, 0), (1, 0), (2, 0), (3, 6), (4, 12)] {
+        assert_eq!(count("{a,b} union c", &numbers(members)), Ok(ways));
+    }
 }
 
 #[test]
 fn unions_in_unions() {
-    for members in 0..=4 {
-        let set = numbers(members);
-        let thrice = 3_usize.pow(members as u32);
-        assert_eq!(count("a union (b union c)", &set), Ok(thrice));
-        assert_eq!(count("(a union b) union c", &set), Ok(thrice));
-        let rest = (members * (members - 1)).max(0) as usize;
+    // Every leaf takes a member at least: 3^n − 3 × 2^n + 3 ways for three of them.
+    for (members, ways) in [0, 0, 0, 6, 36, 150].into_iter().enumerate() {
+        let set = numbers(members as i32);
+        assert_eq!(count("a union (b union c)", &set), Ok(ways));
+        assert_eq!(count("(a union b) union c", &set), Ok(ways));
+        assert_eq!(
+            count("(- union b) union -", &set).map(|n| n > 0),
+            Ok(ways > 0)
+        );
+        let rest = if ways == 0 {
+            0
+        } else {
+            members * (members - 1)
+        };
         assert_eq!(count("{a} union ({b} union c)", &set), Ok(rest));
     }
+    assert_eq!(count("a union (b union c)", &numbers(6)), Err(30));
+    // Four leaves: 4! and 4^5 − 4 × 3^5 + 6 × 2^5 − 4.
+    for (members, ways) in [(2, 0), (3, 0), (4, 24), (5, 240)] {
+        let found = count("(a union b) union (c union d)", &numbers(members));
+        assert_eq!(found, Ok(ways), "{members}");
+    }
+    // A name beside wildcards takes up to as many members as they leave.
+    for (text, bindings) in [
+        ("a union (- union -)", 119),
+        ("(- union -) union (a union -)", 98),
+        ("(- union -) union (a union (- union -))", 63),
+        (
+            "- union (- union (- union (- union (- union (- union a)))))",
+            7,
+        ),
+        (
+            "- union (- union (- union (- union (- union (- union (- union a))))))",
+            0,
+        ),
+    ] {
+        assert_eq!(count(text, &numbers(7)), Ok(bindings), "{text}");
+    }
     let set = numbers(3);
-    assert_eq!(count("(a union b) union (c union d)", &set), Ok(64));
-    assert_eq!(count("(a union -) union (- union a)", &set), Ok(1));
     assert_eq!(count("{a,b} union {c}", &set), Ok(6));
     assert_eq!(count("{a} union ({b} union {c})", &set), Ok(6));
     assert_eq!(count("({a} union {b}) union {c}", &set), Ok(6));
@@ -103,15 +200,19 @@ fn unions_under_other_patterns() {
         ("[0, a union b]", |v| Value::Sequence(vec![value("0"), v])),
         ("{a union b, c}", |v| set_of([v, value("0")])),
         ("{0, a union b}", |v| set_of([v, value("0")])),
-        ("{a union b} union c", |v| set_of([v])),
+        ("{a union b} union c", |v| set_of([v, value("0")])),
+        ("c union {a union b}", |v| set_of([v, value("0")])),
         ("[a union b] ^ c", |v| Value::Sequence(vec![v, value("0")])),
         ("c ^ [a union b]", |v| Value::Sequence(vec![value("0"), v])),
     ] {
-        assert_eq!(count(text, &with(numbers(7))), Ok(128), "{text}");
+        assert_eq!(count(text, &with(numbers(7))), Ok(126), "{text}");
         assert_eq!(count(text, &with(numbers(8))), Err(29), "{text}");
         assert_eq!(count(text, &with(items(8))), Ok(0), "{text}");
+        // 2 + 6 and none.
         let members = set_of([with(numbers(2)), with(numbers(3)), with(value("1"))]);
-        assert_eq!(count_over(text, &members), Ok(12), "{text}");
+        assert_eq!(count_over(text, &members), Ok(8), "{text}");
+        let members = set_of([with(numbers(0)), with(numbers(1)), with(numbers(2))]);
+        assert_eq!(count_over(text, &members), Ok(2), "{text}");
         let members = set_of([with(numbers(2)), with(numbers(9))]);
         assert_eq!(count_over(text, &members), Err(29), "{text}");
     }
@@ -132,14 +233,20 @@ fn a_set_too_large_beside_a_part_that_does_not_match() {
         ("[3,-] ^ [a union b]", "[1,2,{1,...,8}]"),
         ("([3] ^ -) ^ [a union b]", "[1,2,{1,...,8}]"),
         ("mk_(1, mk_(2, a union b))", "mk_(0,mk_(0,{1,...,8}))"),
+        ("{a union b} union c", "{1,{1,...,8}}"),
+        ("{a union b} union {2}", "{1,{1,...,8}}"),
+        ("{} union {a union b}", "{1,{1,...,8}}"),
+        ("({a union b} union -) union -", "{1,2,{1,...,8}}"),
+        ("{} union ({a union b} union {})", "{1,2,{1,...,8}}"),
     ] {
         assert_eq!(count(text, &value(with)), Err(29), "{text} and {with}");
     }
     // Among members of which another matches, and after one that has no match.
     for (text, with) in [
-        ("mk_(1, a union b)", "{mk_(1,{}),mk_(2,{1,...,8})}"),
+        ("mk_(1, a union b)", "{mk_(1,{1,2}),mk_(2,{1,...,8})}"),
         ("mk_(3, a union b)", "{mk_(1,1),mk_(2,{1,...,8})}"),
-        ("mk_(2, a union b)", "{mk_(1,{1,...,8}),mk_(2,{1})}"),
+        ("mk_(2, a union b)", "{mk_(1,{1,...,8}),mk_(2,{1,2})}"),
+        ("a union b", "{{},{1},{1,...,8}}"),
     ] {
         assert_eq!(count_over(text, &value(with)), Err(29), "{text} and {with}");
     }
@@ -153,7 +260,13 @@ fn a_set_too_large_that_no_part_meets() {
         ("mk_(a union b, c, d)", "[{1,...,8},1,1]", 0),
         ("[a union b, c]", "[{1,...,8},1,1]", 0),
         ("{a union b, c, d}", "{{1,...,8},1}", 0),
-        ("{a union b, c} union d", "{{1,...,8}}", 0),
+        ("{a union b, c} union d", "{{1,...,8},1}", 0),
+        // Of one member there is no split, so the halves meet nothing.
+        ("{a union b} union c", "{{1,...,8}}", 0),
+        ("c union {a union b}", "{{1,...,8}}", 0),
+        ("({a union b} union -) union -", "{1,{1,...,8}}", 0),
+        ("- union (- union {a union b})", "{1,{1,...,8}}", 0),
+        ("{{a union b} union -} union -", "{1,{{1,...,8}}}", 0),
         ("[a union b] ^ c", "[1,{1,...,8}]", 0),
         ("[] ^ c", "[{1,...,8},1,1]", 1),
         ("a", "{1,...,8}", 1),
@@ -215,7 +328,7 @@ fn pairings_with_one_binding_count_once() {
     assert_eq!(count_over("{a,b}", &members), Ok(6));
     assert_eq!(count_over("{1,a}", &members), Ok(2));
     assert_eq!(count_over("{-,-}", &members), Ok(1));
-    assert_eq!(count_over("a union -", &members), Ok(7));
+    assert_eq!(count_over("a union -", &members), Ok(3));
 }
 
 #[test]
@@ -224,7 +337,7 @@ fn sets_in_sets() {
     assert_eq!(count("{{a,b},{c,d}}", &set), Ok(8));
     assert_eq!(count("{{a,b},c}", &set), Ok(4));
     assert_eq!(count("{{a,-},{1,-}}", &set), Ok(2));
-    assert_eq!(count("{a union b,c union d}", &set), Ok(32));
+    assert_eq!(count("{a union b,c union d}", &set), Ok(8));
     assert_eq!(count("{a union {1},b}", &set), Ok(1));
     assert_eq!(count("{{a,1},{a,b}}", &set), Ok(0));
     assert_eq!(count("{{a,1},{a,b}}", &value("{{1,2},{2,4}}")), Ok(1));
@@ -301,8 +414,10 @@ fn names_that_stand_twice_get_equal_values() {
         ("[a,b,a,b]", "[1,2,1,2]", 1),
         ("{a} union {a}", "{1,2}", 0),
         ("{a,b} union {b,c}", "{1,2,3,4}", 0),
-        ("mk_(a union b, b union c)", "mk_({1,2},{2,3})", 2),
-        ("mk_(a union b, b union a)", "mk_({1,2},{1,2})", 4),
+        ("mk_(a union b, b union c)", "mk_({1,2},{2,3})", 1),
+        ("mk_(a union b, b union a)", "mk_({1,2},{1,2})", 2),
+        ("mk_(a union b, b)", "mk_({1,2},{1,2})", 0),
+        ("mk_(a union b, b)", "mk_({1,2},{})", 0),
         ("mk_(a union b, a)", "mk_({1,2},{1})", 1),
         ("mk_(a, a union b)", "mk_({1},{1,2})", 1),
         ("mk_({a,b},[b,a])", "mk_({1,2},[1,2])", 1),
@@ -329,7 +444,7 @@ fn every_simple_pattern_and_every_kind_of_value() {
         assert_eq!(found, [[(15, value.clone())].into()]);
     }
     let all = set_of(one_of_each());
-    assert_eq!(count_over("a", &all), Ok(12));
+    assert_eq!(count_over("a", &all), Ok(13));
     assert_eq!(count_over("1", &all), Ok(1));
     assert_eq!(count_over("2", &all), Ok(0));
     assert_eq!(count_over("true", &all), Ok(1));
@@ -534,11 +649,23 @@ fn deep_patterns() {
             assert_eq!(by_let(nested(depth - 1)).map(|f| f.len()), Ok(0));
         }
     }
-    let unions = (0..30).fold(Pattern::Name(1), |part, _| {
-        Pattern::union(part, Pattern::Set(vec![]))
+    // A union within unions leaves each a member: of seven there are six at most.
+    for (unions, members, bindings) in [(6, 7, 7), (6, 6, 0), (7, 7, 0), (30, 7, 0)] {
+        let pattern = (0..unions).fold(Pattern::Name(1), |part, _| {
+            Pattern::union(part, Pattern::Any)
+        });
+        let found = compare(kind::LET, &pattern, &numbers(members));
+        assert_eq!(found.map(|f| f.len()), Ok(bindings));
+    }
+    // {{{b} union -} union -} union - over {1,{1,{1,5}}}, and a set less.
+    let unions = (0..15).fold(Pattern::Name(1), |part, _| {
+        Pattern::union(Pattern::Set(vec![part]), Pattern::Any)
     });
-    let found = compare(kind::LET, &unions, &numbers(2));
-    assert_eq!(found.map(|f| f.len()), Ok(1));
+    for (sets, bindings) in [(15, 2), (14, 0)] {
+        let value = (0..sets).fold(value("5"), |member, _| set_of([value("1"), member]));
+        let found = compare(kind::LET, &unions, &value);
+        assert_eq!(found.map(|f| f.len()), Ok(bindings));
+    }
 }
 
 /// Patterns over the deepest value, 127 sequences in each other, which five lets build.
@@ -587,15 +714,15 @@ fn values_of_512_bytes() {
 #[test]
 fn records_in_any_order() {
     let pattern = pattern("mk_({a,b} union c, [d] ^ -)");
-    let members = value("{mk_({1,2,3},[4]),mk_({1,2},[4,5]),mk_({1,2},[]),mk_({1},[1])}");
+    let members = value("{mk_({1,2,3},[4]),mk_({5,6,7},[4,5]),mk_({1,2,3},[]),mk_({1,2},[1])}");
     let case = Case::new(kind::LET_BE, &pattern, &members);
     case.compare();
-    assert_eq!(case.expected.as_ref().map(Vec::len), Ok(8));
+    assert_eq!(case.expected.as_ref().map(Vec::len), Ok(12));
     let (sheet, mut random) = (case.sheet(), Random::new(41));
     for _ in 0..60 {
         let table = sheet.shuffled(&mut random).table();
-        assert_eq!(run(&table, &[]).unwrap_err().count, 8);
-        for k in 0..8 {
+        assert_eq!(run(&table, &[]).unwrap_err().count, 12);
+        for k in 0..12 {
             assert_eq!(run(&table, &[k]), run(&sheet.table(), &[k]));
         }
     }

@@ -52,19 +52,46 @@ fn cuts_into_three() {
     assert_eq!(count("a ^ (b ^ c)", &items(22)), Err(30));
 }
 
-/// A set of n members has 2^n splits, and sets that differ have no split in common.
+/// A set of n members, at least 2, has 2^n − 2 splits, and sets that differ have no split in common.
 #[test]
 fn splits_of_many_sets() {
-    // 128 + 64 + 32 + 16 + 8 + 4 + 2 + 1.
-    let sets = |least| (1..=7).map(numbers).chain([least]);
-    assert_eq!(count_over("a union b", &set_of(sets(numbers(0)))), Ok(255));
-    // With a second set of one member in place of {} they are 256.
-    assert_eq!(count_over("a union b", &set_of(sets(range(9, 9)))), Err(30));
-    // 16 × 16 and 128 × 2.
-    let two = |left, right| pair(numbers(left), numbers(right));
-    assert_eq!(count("mk_(a union b, c union d)", &two(4, 4)), Err(30));
-    assert_eq!(count("mk_(a union b, c union d)", &two(7, 1)), Err(30));
-    assert_eq!(count("mk_(a union b, c union d)", &two(7, 0)), Ok(128));
+    let text = "a union b";
+    let with = |others: &[Value]| set_of((0..=7).map(numbers).chain(others.iter().cloned()));
+    // 0 + 0 + 2 + 6 + 14 + 30 + 62 + 126.
+    assert_eq!(count_over(text, &with(&[])), Ok(240));
+    // 14 more, which another set of one member leaves as they are, and then 2 more.
+    assert_eq!(count_over(text, &with(&[range(11, 14)])), Ok(254));
+    let one = [range(11, 14), range(9, 9)];
+    assert_eq!(count_over(text, &with(&one)), Ok(254));
+    let two = [range(11, 14), range(8, 9)];
+    assert_eq!(count_over(text, &with(&two)), Err(30));
+}
+
+/// The splits of two sets, and of a set beside the cuts of a sequence.
+#[test]
+fn splits_of_two() {
+    let text = "mk_(a union b, c union d)";
+    for (left, right, bindings) in [
+        (7, 0, Ok(0)),
+        (7, 1, Ok(0)),
+        (1, 7, Ok(0)),
+        (3, 5, Ok(6 * 30)),
+        (4, 4, Ok(14 * 14)),
+        (7, 2, Ok(126 * 2)),
+        (2, 7, Ok(2 * 126)),
+        // 6 × 62, 14 × 30 and 126 × 6.
+        (3, 6, Err(30)),
+        (4, 5, Err(30)),
+        (7, 3, Err(30)),
+    ] {
+        let value = pair(numbers(left), numbers(right));
+        assert_eq!(count(text, &value), bindings, "{left} and {right}");
+    }
+    // n members have n splits whose first half is one of them: 5 × 51 and 4 × 64.
+    for text in ["mk_({a} union b, c ^ d)", "mk_(b union {a}, c ^ -)"] {
+        assert_eq!(count(text, &pair(numbers(5), items(50))), Ok(255));
+        assert_eq!(count(text, &pair(numbers(4), items(63))), Err(30));
+    }
 }
 
 /// Ways beyond 255 do not count where their bindings are the same.
@@ -76,35 +103,45 @@ fn ways_beyond_255_with_255_bindings() {
     assert_eq!(count_over(text, &members([14, 16])), Ok(255));
     // 512 ways.
     assert_eq!(count_over(text, &members([15, 15])), Err(30));
-    // 6 × 64 ways.
+    // 6 × 62 ways, 3 × 62 bindings.
     assert_eq!(
         count("mk_({a,-,-}, b union -)", &pair(numbers(3), numbers(6))),
-        Ok(192)
+        Ok(186)
     );
-    // Sets of 6 members, each with 64 parts of which {} is in common.
-    let sets = |count| set_of((0..count).map(|n| range(10 * n + 1, 10 * n + 6)));
-    assert_eq!(count_over("- union {a}", &sets(7)), Ok(42));
-    assert_eq!(count_over("a union -", &sets(4)), Ok(253));
-    assert_eq!(count_over("a union -", &sets(5)), Err(30));
-    // Another set adds those of its parts that are new: 1, 3, and 2.
-    let with = |other| {
-        let Value::Set(mut members) = sets(4) else {
-            panic!("a set");
-        };
-        members.insert(other);
-        Value::Set(members)
-    };
-    assert_eq!(count_over("a union -", &with(range(90, 90))), Ok(254));
-    assert_eq!(count_over("a union -", &with(range(90, 91))), Err(30));
-    assert_eq!(count_over("a union -", &with(range(6, 7))), Ok(255));
+    // Sets of 6 members, each with 62 halves.
+    assert_eq!(count_over("- union {a}", &sixes(7, [])), Ok(42));
+    assert_eq!(count_over("a union -", &sixes(4, [])), Ok(248));
+    assert_eq!(count_over("a union -", &sixes(5, [])), Err(30));
+    // Another set adds those of its halves that are new.
+    for (other, new) in [
+        (range(90, 90), 0),
+        (range(90, 91), 2),
+        (range(90, 92), 6),
+        (range(6, 7), 1),
+        (range(5, 7), 3),
+        (range(6, 8), 5),
+    ] {
+        let found = count_over("a union -", &sixes(4, [other]));
+        assert_eq!(found, Ok(248 + new));
+    }
+    // 6 and 1, 6 and 2.
+    for (other, bindings) in [(range(6, 7), Ok(255)), (range(93, 94), Err(30))] {
+        let sets = sixes(4, [range(90, 92), other]);
+        assert_eq!(count_over("a union -", &sets), bindings);
+    }
+}
+
+/// So many sets of 6 members that have none in common, and others.
+fn sixes<const N: usize>(count: i32, others: [Value; N]) -> Value {
+    let sets = (0..count).map(|n| range(10 * n + 1, 10 * n + 6));
+    set_of(sets.chain(others))
 }
 
 /// Every one of 255 bindings.
 #[test]
 fn all_of_255_bindings() {
-    // 64 parts of each of 4 sets with {} in common, and 2 more of {6,7}.
-    let sets = (0..4).map(|n| range(10 * n + 1, 10 * n + 6));
-    let sets = set_of(sets.chain([range(6, 7)]));
+    // 62 halves of each of 4 sets, 6 of {90,91,92} and of {6,7} the one that is new.
+    let sets = sixes(4, [range(90, 92), range(6, 7)]);
     for kind in [kind::LET_BE, kind::FORALL, kind::EXISTS1] {
         let found = compare(kind, &pattern("a union -"), &sets);
         assert_eq!(found.map(|found| found.len()), Ok(255));
@@ -114,17 +151,24 @@ fn all_of_255_bindings() {
 /// A set too large is told before too many bindings, wherever it stands among them.
 #[test]
 fn refusal_29_comes_before_30() {
-    let many = [range(1, 7), range(2, 8)];
+    let many = [range(1, 7), range(2, 8), range(3, 6)];
     assert_eq!(count_over("a union b", &set_of(many.clone())), Err(30));
     for large in [range(0, 7), range(1, 8), range(3, 10)] {
         let members = many.iter().cloned().chain([large]);
         assert_eq!(count_over("a union b", &set_of(members)), Err(29));
     }
-    let text = "mk_(a ^ b, c ^ d, e union f)";
-    assert_eq!(count(text, &tuple([15, 15], numbers(0))), Err(30));
+    let text = "mk_(a ^ b, c ^ d, - union -)";
+    assert_eq!(count(text, &tuple([15, 15], numbers(2))), Err(30));
     assert_eq!(count(text, &tuple([15, 15], numbers(8))), Err(29));
-    assert_eq!(count(text, &tuple([14, 16], numbers(0))), Ok(255));
+    assert_eq!(count(text, &tuple([14, 16], numbers(2))), Ok(255));
     assert_eq!(count(text, &tuple([14, 16], numbers(8))), Err(29));
+    // Beside a set that has no split there is no binding at all.
+    assert_eq!(count(text, &tuple([15, 15], numbers(0))), Ok(0));
+    assert_eq!(count(text, &tuple([15, 15], numbers(1))), Ok(0));
+    // 128 × 2 and 120 × 2.
+    let text = "mk_(a ^ b, c ^ d, e union f)";
+    assert_eq!(count(text, &tuple([15, 7], numbers(2))), Err(30));
+    assert_eq!(count(text, &tuple([14, 7], numbers(2))), Ok(240));
     let text = "mk_(a ^ b, c ^ d, {0} union -)";
     assert_eq!(count(text, &tuple([15, 15], numbers(7))), Ok(0));
     assert_eq!(count(text, &tuple([15, 15], numbers(8))), Err(29));

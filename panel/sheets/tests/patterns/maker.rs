@@ -69,6 +69,13 @@ impl Maker {
         Pattern::Set(self.patterns(count, height - 1))
     }
 
+    /// A set enumeration as a half, so mostly not {}.
+    fn half_set_pattern(&mut self, height: usize) -> Pattern {
+        let least = usize::from(!self.random.once_in(8));
+        let count = least + self.random.below(4);
+        Pattern::Set(self.patterns(count, height - 1))
+    }
+
     fn sequence_pattern(&mut self, height: usize) -> Pattern {
         let count = self.random.below(5);
         Pattern::Sequence(self.patterns(count, height - 1))
@@ -76,7 +83,7 @@ impl Maker {
 
     fn union(&mut self, height: usize) -> Pattern {
         let half = |maker: &mut Maker| match maker.random.below(9) {
-            0..=2 if height > 1 => maker.set_pattern(height - 1),
+            0..=2 if height > 1 => maker.half_set_pattern(height - 1),
             3 if height > 1 => maker.union(height - 1),
             4 => maker.pattern(height - 1),
             _ => maker.name_or_any(),
@@ -151,10 +158,11 @@ impl Maker {
         match want {
             Want::Anything => self.any_value(2),
             Want::Set => {
-                let count = if self.random.once_in(10) {
-                    5 + self.random.below(5)
-                } else {
-                    self.random.below(4)
+                // A half is not empty.
+                let count = match self.random.below(12) {
+                    0 => 5 + self.random.below(5),
+                    1 => 0,
+                    _ => 1 + self.random.below(3),
                 };
                 let most = self.random.pick(&[5, 30, 30]);
                 set_of((0..count).map(|_| self.small(most)))

@@ -143,7 +143,9 @@ impl Pattern {
             (Set(parts), Value::Set(members)) if parts.len() == members.len() => {
                 (1..=parts.len()).product()
             }
-            (Union(_), Value::Set(members)) if members.len() <= MAX_SPLIT => 1 << members.len(),
+            (Union(_), Value::Set(members)) if members.len() <= MAX_SPLIT => {
+                splits(members).count().max(1)
+            }
             (Concatenation(_), Value::Sequence(items)) => items.len() + 1,
             _ => 1,
         }
@@ -160,10 +162,9 @@ impl Pattern {
             (Set(parts), Value::Set(members)) if parts.len() == members.len() => {
                 permutations(&members.iter().cloned().collect::<Vec<_>>())
             }
-            (Union(_), Value::Set(members)) if members.len() <= MAX_SPLIT => (0..1
-                << members.len())
-                .map(|bits| halves(members, bits))
-                .collect(),
+            (Union(_), Value::Set(members)) if members.len() <= MAX_SPLIT => {
+                splits(members).map(|bits| halves(members, bits)).collect()
+            }
             (Concatenation(_), Value::Sequence(items)) => {
                 let half = |items: &[Value]| Value::Sequence(items.to_vec());
                 let cuts = (0..=items.len()).map(|at| items.split_at(at));
@@ -173,6 +174,11 @@ impl Pattern {
             _ => vec![],
         }
     }
+}
+
+/// The splits of a set, by the bits of the members in the left half: neither none of them nor all.
+fn splits(members: &BTreeSet<Value>) -> std::ops::Range<usize> {
+    1..(1 << members.len()) - 1
 }
 
 /// The members whose bits are set, and the others.
