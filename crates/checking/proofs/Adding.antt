@@ -9,7 +9,7 @@ use native.Mathlib.Numerals.{add-one}
 use borrow.Author.Tests.{lt-ltb}
 use lib.Bits.{bitOr, or-add-and, or-self, and-le-l, and-le-r}
 use lib.ListN.{length, getD, set, length-set, take, replicate, length-replicate}
-use lib.Seq.{take-all, getD-set-same, getD-set-other}
+use lib.Seq.{take-all, getD-set-other}
 use Rattle.prelude.proofs.Absurd.{never}
 use Rattle.prelude.proofs.Truth.{by-test, by-lower}
 use Rattle.tables.specs.Record.{Record, operand}
@@ -19,6 +19,7 @@ use Rattle.tables.specs.Laws.Accepted.{Clear6, operand-lower, bound-last, named
 use Rattle.checking.specs.declared.sweep.Sum.{Sum}
 use Rattle.checking.specs.Scopes.{hasBit, bitsBelow}
 use Rattle.checking.specs.Sweeps.{sortOf, Left, aloneOf, Passes, Frees, Allowed, Keeps, Known, Sums, RecordAdded, Passed, Closed}
+use Rattle.checking.proofs.Below.{set-more}
 use Rattle.checking.proofs.Above.{zeros}
 use Rattle.checking.proofs.Leaving.{left-more, clear}
 use Rattle.checking.proofs.Reaching.{last-unnamed}
@@ -26,14 +27,6 @@ use Rattle.checking.proofs.Closing.{low-bits, few-bits, closed7, closed
 use Rattle.checking.proofs.Gathering.{choice-none, free-choice, leaf-sums}
 
 -- ---- one more record
-
--- What holds of the entries below r of a list, and of one more, holds of those below r + 1.
-set-more : (P : ℕ → ℕ → Type 0) (xs xs′ : List ℕ) (r v : ℕ) → r < length xs → ((q : ℕ) → q < r → P q (getD xs q 0)) → P r v → xs′ ≡ set xs r v → (q : ℕ) → q < r + 1 → P q (getD xs′ q 0)
-set-more P xs xs′ r v h a b e q k =
-    by-lower q r (λ l. subst (P q) (sym (ap (λ (ys : List ℕ). getD ys q 0) e ∙ getD-set-other xs r q v 0 (λ same. omega arith))) (a q l))
-    (λ l.
-    let same : r ≡ q = omega arith in
-    subst (λ (p : ℕ). P p (getD xs′ p 0)) same (subst (P r) (sym (ap (λ (ys : List ℕ). getD ys r 0) e ∙ getD-set-same xs r v 0 h)) b))
 
 -- What is free at a record stands when that of a higher one is set.
 frees-set : (rs : List Record) (frees frees′ : List ℕ) (r v q o : ℕ) → Clear6 rs → q < length rs → q ≤ r → frees′ ≡ set frees r v → Frees rs frees q o → Frees rs frees′ q o

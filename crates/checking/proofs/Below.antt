@@ -1,5 +1,5 @@
 -- The bits of a record and of all below it.
-use mathlib.Core.Path.{_≡_, sym, ap, _∙_}
+use mathlib.Core.Path.{_≡_, refl, sym, ap, subst, _∙_}
 use mathlib.Core.Bool.{true, false}
 use mathlib.Core.List.{List, [], map}
 use Prim.Native.Nat.{ℕ, suc, _+_, _*_, _^_, _%_, _≤_, _<_}
@@ -7,7 +7,7 @@ use native.Mathlib.Omega.{arith}
 use native.Mathlib.Numerals.{add-one}
 use borrow.Author.Tests.{eq-eqb, ne-eqb, leb-true}
 use lib.Pow.{shl-exact}
-use lib.ListN.{length, drop, set, length-set}
+use lib.ListN.{length, getD, drop, set, length-set}
 use lib.Seq.{drop-cons, drop-length, getD-set-same, getD-set-other}
 use Rattle.tables.specs.Record.{Record, Head, name, shape, size, headOf, named, operand, nameOf, isKnown, isFit}
 use Rattle.tables.specs.Table.{recordAt}
@@ -15,7 +15,7 @@ use Rattle.tables.specs.Sheet.{isLoose}
 use Rattle.prelude.proofs.Truth.{by-lower}
 use Rattle.tables.specs.Laws.Below.{OperandsLower as Lower, fold-at}
 use Rattle.tables.specs.Laws.Accepted.{fit-least, fit-known}
-use Rattle.checking.specs.Scopes.{orBits, orBitsAll, own, bitsBelow, Below}
+use Rattle.checking.specs.Scopes.{orBits, orBitsAll, own, bitsBelow, Filled}
 
 pub one-bit : (n : ℕ) → n < 32 → (1 * 2 ^ n) % 4294967296 ≡ 2 ^ n
 one-bit n h = shl-exact {a = 1} 1 n 32 (omega arith) (omega arith) ∙ omega arith
@@ -86,17 +86,17 @@ turn-end rs r m i t h =
 
 -- ---- all records
 
-pub below-start : (rs : List Record) (bits : List ℕ) → length bits ≡ 200 → Below rs bits 0
-below-start rs bits h = record { long = h; is = λ q k. absurd (omega arith) }
+-- What holds of the entries below r of a list, and of one more, holds of those below r + 1.
+pub set-more : (P : ℕ → ℕ → Type 0) (xs xs′ : List ℕ) (r v : ℕ) → r < length xs → ((q : ℕ) → q < r → P q (getD xs q 0)) → P r v → xs′ ≡ set xs r v → (q : ℕ) → q < r + 1 → P q (getD xs′ q 0)
+set-more P xs xs′ r v h a b e q k =
+    by-lower q r (λ l. subst (P q) (sym (ap (λ (ys : List ℕ). getD ys q 0) e ∙ getD-set-other xs r q v 0 (λ same. omega arith))) (a q l))
+    (λ l.
+    let same : r ≡ q = omega arith in
+    subst (λ (p : ℕ). P p (getD xs′ p 0)) same (subst (P r) (sym (ap (λ (ys : List ℕ). getD ys r 0) e ∙ getD-set-same xs r v 0 h)) b))
 
-pub below-more : (rs : List Record) (bits bits′ : List ℕ) (r m : ℕ) → r < 200 → Below rs bits r → m ≡ bitsBelow rs r → bits′ ≡ set bits r m → Below rs bits′ (r + 1)
-below-more rs bits bits′ r m h b e f =
-    record {
-      long = rw f (length-set bits r m ∙ b .long);
-      is =
-          λ q k.
-          by-lower q r (λ l. rw (f, getD-set-other bits r q m 0 (λ same. omega arith)) (b .is q l))
-          (λ l.
-          let same : q ≡ r = omega arith in
-          rw (f, same, getD-set-same bits r m 0 (omega (arith, b .long))) e);
-    }
+pub filled-start : (f : ℕ → ℕ) (xs : List ℕ) → length xs ≡ 200 → Filled f xs 0
+filled-start f xs h = record { long = h; is = λ q k. absurd (omega arith) }
+
+pub filled-more : (f : ℕ → ℕ) (xs : List ℕ) (r m : ℕ) → r < 200 → Filled f xs r → m ≡ f r → Filled f (set xs r m) (r + 1)
+filled-more f xs r m h b e =
+    record { long = length-set xs r m ∙ b .long; is = set-more (λ q x. x ≡ f q) xs (set xs r m) r m (omega (arith, b .long)) (b .is) e refl }

@@ -7,7 +7,7 @@ mod Above
 mod Bits
 mod Faults
 mod Reaching
-mod Noting
+mod Heights
 mod Leaving
 mod Closing
 mod Allowing

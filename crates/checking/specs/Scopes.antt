@@ -52,10 +52,14 @@ around rs r = climb (λ q role up. orBits up (given rs q role)) 0 rs r
 
 -- ---- the passes
 
--- The bits below each record lower than r stand in the list.
-pub record Below (rs : List Record) (bits : List ℕ) (r : ℕ) : Type 0 where
-  pub long : length bits ≡ mostRecords
-  pub is : (q : ℕ) → q < r → getD bits q 0 ≡ bitsBelow rs q
+-- What f says of each record lower than r stands in the list.
+pub record Filled (f : ℕ → ℕ) (xs : List ℕ) (r : ℕ) : Type 0 where
+  pub long : length xs ≡ mostRecords
+  pub is : (q : ℕ) → q < r → getD xs q 0 ≡ f q
+
+-- The bits below each record lower than r.
+abbrev pub Below : List Record → List ℕ → ℕ → Type 0
+Below rs bits r = Filled (bitsBelow rs) bits r
 
 -- The bits around each record that one from q on names, or none.
 pub record Around (rs : List Record) (bits : List ℕ) (q : ℕ) : Type 0 where

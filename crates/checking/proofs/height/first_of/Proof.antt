@@ -1,5 +1,5 @@
 -- Kind by kind.
-use Rattle.checking.proofs.Noting.{first-operator, first-other}
+use Rattle.checking.proofs.Heights.{first-operator, first-other}
 use Rattle.checking.proofs.height.first_of.Statement.{statement}
 use Rattle.checking.proofs.height.first_of.Tie as tie
 

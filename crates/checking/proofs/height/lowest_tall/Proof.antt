@@ -1,48 +1,53 @@
--- None, or the first that is found.
-use mathlib.Core.Path.{_≡_, sym, ap, _∙_}
-use mathlib.Core.Bool.{false}
-use Prim.Native.Nat.{ℕ, _-_, _≤_, _<_}
+-- The heights of all records before r stand, and none is over the limit.
+use mathlib.Core.Path.{_≡_, ap}
+use Prim.Native.Nat.{ℕ, _+_, _-_, _≤_, _<_}
 use native.Mathlib.Omega.{arith}
-use borrow.Author.Needs.{needs}
-use lib.Dec.{ltb}
+use lib.ListN.{replicate, length-replicate}
+use Rattle.prelude.proofs.Truth.{by-lower}
+use Rattle.tables.specs.Sheet.{height}
 use Rattle.tables.specs.Check.{mostHeight}
-use Rattle.checking.specs.Heights.{isTall}
-use Rattle.checking.proofs.Noting.{lowest-first, short-more}
+use Rattle.tables.specs.Accepted.{records}
+use Rattle.checking.specs.Scopes.{Filled}
+use Rattle.checking.proofs.Below.{filled-start, filled-more}
+use Rattle.checking.proofs.Heights.{tall-first}
 use Rattle.checking.proofs.height.lowest_tall.Statement.{statement}
 use Rattle.checking.proofs.height.lowest_tall.Tie as tie
 
 abbrev Inv-loop : tie.InvT-loop
-Inv-loop heights count r₀ r = (r ≤ count) × ((q : ℕ) → q < r → isTall heights q ≡ false)
+Inv-loop table index count heights₀ r₀ heights r = (r ≤ count) × Filled (height (records table)) heights r × ((q : ℕ) → q < r → height (records table) q ≤ mostHeight)
 
 abbrev μ-loop : tie.MeasureT-loop
-μ-loop heights count r₀ r = count - r
+μ-loop table index count heights₀ r₀ heights r = count - r
 
 loop-holds : tie.Need-loop-holds Inv-loop μ-loop
-loop-holds c = (omega arith, λ q h. absurd (omega arith))
+loop-holds c = (omega arith, filled-start (height (records (c .before .args .table .now))) (replicate 200 0) (length-replicate {A = ℕ} 200 0), λ q k. absurd (omega arith))
 
-element-copy-out-wide : tie.Need-element-copy-out-wide Inv-loop μ-loop
-element-copy-out-wide c = omega (arith, c .loop-test .taken, c .before .before .pre)
-
-wide-requires : tie.Need-wide-requires Inv-loop μ-loop
-wide-requires c κs = search needs
-
-is-tall-requires : tie.Need-is-tall-requires Inv-loop μ-loop
-is-tall-requires c κs = search needs
+highest-requires : tie.Need-highest-requires Inv-loop μ-loop
+highest-requires c κs = record { here = record { indexed = c .before .before .before .before .pre .whole .indexed; within = omega (arith, c .before .loop-test .taken, c .before .before .before .before .pre .whole .all) }; clear = c .before .before .before .before .pre .clear; noted = c .before .before .loop .inv .1 }
 
 returns : tie.Need-returns Inv-loop μ-loop
-returns c = lowest-first (c .before .before .before .before .before .before .args .heights .now) (c .before .before .before .before .before .before .args .count) (c .before .before .before .before .before .loop .r) (omega (arith, c .before .before .before .before .loop-test .taken)) (c .before .before .before .before .before .loop .inv .1) (λ h. sym (c .before .is-tall .ensures ∙ ap (ltb mostHeight) (c .before .before .wide .ensures .0)) ∙ c .if1 .taken)
+returns c = tall-first (records (c .before .before .before .before .before .before .args .table .now)) (c .before .before .before .before .before .before .pre .clear) (c .before .before .before .before .before .before .args .count) (c .before .before .before .before .loop .r) (c .before .before .before .before .loop .inv .0) (c .before .before .before .before .loop .inv .2) (λ k. omega (arith, c .before .highest .ensures, c .if1 .taken))
+
+add-heights : tie.Need-add-heights Inv-loop μ-loop
+add-heights c = omega (arith, c .if1 .left)
+
+cast-heights : tie.Need-cast-heights Inv-loop μ-loop
+cast-heights c = omega (arith, c .if1 .left)
+
+array-write-heights : tie.Need-array-write-heights Inv-loop μ-loop
+array-write-heights c = omega (arith, c .before .before .before .loop-test .taken, c .before .before .before .before .before .before .pre .whole .all, c .before .before .before .before .before .before .pre .whole .indexed .few)
 
 add-r : tie.Need-add-r Inv-loop μ-loop
-add-r c = omega (arith, c .before .before .before .before .loop-test .taken, c .before .before .before .before .before .before .pre)
+add-r c = omega (arith, c .before .before .before .loop-test .taken, c .before .before .before .before .before .before .pre .whole .all, c .before .before .before .before .before .before .pre .whole .indexed .few)
 
 loop-less : tie.Need-loop-less Inv-loop μ-loop
-loop-less c = omega (arith, c .before .before .before .before .loop-test .taken)
+loop-less c = omega (arith, c .before .before .before .loop-test .taken)
 
 loop-again : tie.Need-loop-again Inv-loop μ-loop
-loop-again c = (omega (arith, c .before .before .before .before .loop-test .taken), short-more (c .before .before .before .before .before .before .args .heights .now) (c .before .before .before .before .before .loop .r) (c .before .before .before .before .before .loop .inv .1) (sym (c .before .is-tall .ensures ∙ ap (ltb mostHeight) (c .before .before .wide .ensures .0)) ∙ c .if1 .left))
+loop-again c = (omega (arith, c .before .before .before .loop-test .taken), filled-more (height (records (c .before .before .before .before .before .before .args .table .now))) (c .before .before .before .before .loop .heights) (c .before .before .before .before .loop .r) (c .before .highest .result + 1) (omega (arith, c .before .before .before .loop-test .taken, c .before .before .before .before .before .before .pre .whole .all, c .before .before .before .before .before .before .pre .whole .indexed .few)) (c .before .before .before .before .loop .inv .1) (omega (arith, c .before .highest .ensures)), λ q k. by-lower q (c .before .before .before .before .loop .r) (λ l. c .before .before .before .before .loop .inv .2 q l) (λ l. let same : q ≡ c .before .before .before .before .loop .r = omega arith in omega (arith, ap (height (records (c .before .before .before .before .before .before .args .table .now))) same, c .before .highest .ensures, c .if1 .left)))
 
 returns-2 : tie.Need-returns-2 Inv-loop μ-loop
-returns-2 c = let all : c .before .loop .r ≡ c .before .before .args .count = omega (arith, c .before .loop .inv .0, c .loop-test .left) in lowest-first (c .before .before .args .heights .now) (c .before .before .args .count) (c .before .before .args .count) (omega arith) (λ q h. c .before .loop .inv .1 q (omega arith)) (λ h. absurd (omega arith))
+returns-2 c = let all : c .before .loop .r ≡ c .before .before .before .args .count = omega (arith, c .before .loop .inv .0, c .loop-test .left) in tall-first (records (c .before .before .before .args .table .now)) (c .before .before .before .pre .clear) (c .before .before .before .args .count) (c .before .before .before .args .count) (omega arith) (λ q k. c .before .loop .inv .2 q (omega (arith, all))) (λ k. absurd (omega arith))
 
 pub lowest-tall-spec : {M : Type 1} → statement M
 lowest-tall-spec =
@@ -51,10 +56,11 @@ lowest-tall-spec =
     Inv-loop
     μ-loop
     loop-holds
-    element-copy-out-wide
-    wide-requires
-    is-tall-requires
+    highest-requires
     returns
+    add-heights
+    cast-heights
+    array-write-heights
     add-r
     loop-less
     loop-again

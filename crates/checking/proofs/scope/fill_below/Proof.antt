@@ -1,6 +1,6 @@
 -- After r records, the bits below each of them stand.
-use Rattle.checking.proofs.Below.{below-start, below-more}
-use Rattle.checking.specs.Scopes.{Below}
+use Rattle.checking.proofs.Below.{filled-start, filled-more}
+use Rattle.checking.specs.Scopes.{bitsBelow, Below}
 use Rattle.tables.specs.Accepted.{records}
 use lib.ListN.{length}
 use Prim.Native.Nat.{_-_, _≤_}
@@ -16,7 +16,7 @@ abbrev μ-loop : tie.MeasureT-loop
 μ-loop table index count below₀ r₀ below r = count - r
 
 loop-holds : tie.Need-loop-holds Inv-loop μ-loop
-loop-holds c = (omega arith, below-start (records (c .before .args .table .now)) (c .before .args .below .now) (c .before .pre .1))
+loop-holds c = (omega arith, filled-start (bitsBelow (records (c .before .args .table .now))) (c .before .args .below .now) (c .before .pre .1))
 
 held-at-requires : tie.Need-held-at-requires Inv-loop μ-loop
 held-at-requires c κs = record { here = record { indexed = c .before .before .before .before .pre .0 .whole .indexed; within = omega (arith, c .before .loop-test .taken, c .before .before .before .before .pre .0 .whole .all) }; clear = c .before .before .before .before .pre .0 .clear; below = c .before .before .loop .inv .1 }
@@ -34,7 +34,7 @@ loop-less : tie.Need-loop-less Inv-loop μ-loop
 loop-less c = omega arith
 
 loop-again : tie.Need-loop-again Inv-loop μ-loop
-loop-again c = (omega (arith, c .before .before .loop-test .taken), below-more (records (c .before .before .before .before .before .args .table .now)) (c .before .before .before .loop .below) _ (c .before .before .before .loop .r) (c .held-at .result) (omega (arith, c .before .before .loop-test .taken, c .before .before .before .before .before .pre .0 .whole .all, c .before .before .before .before .before .pre .0 .whole .indexed .few)) (c .before .before .before .loop .inv .1) (c .held-at .ensures) refl)
+loop-again c = (omega (arith, c .before .before .loop-test .taken), filled-more (bitsBelow (records (c .before .before .before .before .before .args .table .now))) (c .before .before .before .loop .below) (c .before .before .before .loop .r) (c .held-at .result) (omega (arith, c .before .before .loop-test .taken, c .before .before .before .before .before .pre .0 .whole .all, c .before .before .before .before .before .pre .0 .whole .indexed .few)) (c .before .before .before .loop .inv .1) (c .held-at .ensures))
 
 returns : tie.Need-returns Inv-loop μ-loop
 returns c = let all : (c .before .loop .r) ≡ length (records (c .before .before .before .args .table .now)) = omega (arith, c .before .loop .inv .0, c .loop-test .left, c .before .before .before .pre .0 .whole .all) in rw (sym all) (c .before .loop .inv .1)

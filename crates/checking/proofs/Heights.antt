@@ -1,0 +1,143 @@
+-- Heights: whether a record is low, told operand by operand; heights noted record by record; the lowest record that is too high.
+use mathlib.Core.Path.{_≡_, refl, sym, ap, _∙_}
+use mathlib.Core.Bool.{Bool, true, false, not, _||_, cond}
+use mathlib.Core.List.{List, [], _∷_, map}
+use Prim.Native.Nat.{ℕ, zero, suc, _+_, _-_, _≤_, _<_, max}
+use native.Mathlib.Omega.{arith}
+use native.Mathlib.Numerals.{add-one}
+use borrow.Author.Tests.{eqb-true, lt-ltb, le-ltb, le-leb, lt-leb, leb-true, leb-false}
+use lib.Dec.{eqb, ltb, leb}
+use lib.ListN.{length, getD, drop}
+use lib.Seq.{drop-cons, drop-length}
+use Rattle.prelude.proofs.Truth.{by-test, implied}
+use Rattle.tables.specs.Record.{Record, shape, isLeaf, isFit, named, operand}
+use Rattle.tables.specs.Shapes.{firstOf}
+use Rattle.tables.specs.Table.{recordAt, kindAt}
+use Rattle.tables.specs.Sheet.{lowest, greatest, height}
+use Rattle.tables.specs.Check.{mostHeight, fault9}
+use Rattle.tables.specs.Laws.Tests.{each, low, low-same}
+use Rattle.tables.specs.Laws.Through.{EachTo, each-start, each-next}
+use Rattle.tables.specs.Laws.Operands.{greatest-most}
+use Rattle.tables.specs.Laws.Accepted.{Clear6, fit-kind, operand-lower, height-at, height-operand}
+use Rattle.checking.specs.Scopes.{Filled}
+use Rattle.checking.proofs.Shapes.{roles-many}
+use Rattle.checking.proofs.Reaching.{from-last}
+
+-- ---- kinds
+
+-- Where the operands of a kind begin that is no leaf's.
+inner-first : (k : ℕ) → isLeaf k ≡ false → k ≤ 40 → firstOf k ≡ cond (ltb k 6) 5 4
+unfolding shape
+inner-first k e h =
+    eqb-true (firstOf k) (cond (ltb k 6) 5 4) (rw e at (each (λ k. isLeaf k || eqb (firstOf k) (cond (ltb k 6) 5 4)) 41 refl k (omega arith)))
+
+pub first-operator : (k : ℕ) → isLeaf k ≡ false → k ≤ 40 → k < 6 → 5 ≡ firstOf k
+first-operator k e h l = sym (inner-first k e h ∙ rw (lt-ltb k 6 l))
+
+pub first-other : (k : ℕ) → isLeaf k ≡ false → k ≤ 40 → 6 ≤ k → 4 ≡ firstOf k
+first-other k e h l = sym (inner-first k e h ∙ rw (le-ltb k 6 l))
+
+leaf-operands : (x : Record) → isFit x ≡ true → isLeaf (x .kind) ≡ true → length (named x) ≡ 0
+unfolding shape
+leaf-operands x fit e =
+    let none : length (shape (x .kind) .roles) ≡ 0 = eqb-true _ 0 (implied (isLeaf (x .kind)) _ (each (λ k. not (isLeaf k) || eqb (length (shape k .roles)) 0) 41 refl (x .kind) (omega (arith, fit-kind x fit))) e) in
+    omega (arith, roles-many x)
+
+-- ---- the height of one record
+
+-- After i operands, the greatest height so far and those that are left make the greatest.
+pub record Going (rs : List Record) (r high i : ℕ) : Type 0 where
+  pub within : i ≤ length (named (recordAt rs r))
+  pub is : max high (greatest (map (height rs) (drop i (named (recordAt rs r))))) ≡ greatest (map (height rs) (named (recordAt rs r)))
+
+-- The operands of record r before i are low enough for it to be at most so high.
+abbrev pub LowTo : List Record → ℕ → ℕ → ℕ → Type 0
+LowTo rs r most i = EachTo (λ q. height rs q ≤ most - 1) (recordAt rs r) i
+
+module _ (rs : List Record) (clear : Clear6 rs) where
+  height-most : (bound r : ℕ) → r < bound → r < length rs → height rs r ≤ r + 1
+  height-most zero r b h = absurd (omega arith)
+  height-most (suc bound) r b h =
+      omega (arith, height-at rs clear r h, greatest-most (height rs) (named (recordAt rs r)) r (λ i k. omega (arith, operand-lower rs clear r i h k, height-most bound (operand (recordAt rs r) i) (omega (arith, operand-lower rs clear r i h k)) (omega (arith, operand-lower rs clear r i h k)))))
+
+  pub leaf-height : (r : ℕ) → r < length rs → isFit (recordAt rs r) ≡ true → isLeaf (kindAt rs r) ≡ true → height rs r ≡ 1
+  leaf-height r h fit e =
+      let none = greatest-most (height rs) (named (recordAt rs r)) 0 (λ i k. absurd (omega (arith, leaf-operands (recordAt rs r) fit e))) in
+      omega (arith, height-at rs clear r h)
+
+  module _ (r : ℕ) (in-table : r < length rs) where
+    -- ---- low or not
+
+    pub low-start : (most : ℕ) → LowTo rs r most 0
+    low-start most = each-start (λ q. height rs q ≤ most - 1) (recordAt rs r)
+
+    module _ (most i : ℕ) (has : i < length (named (recordAt rs r))) where
+      pub one-high : most ≡ 1 → false ≡ leb (height rs r) most
+      one-high e =
+          sym (lt-leb (height rs r) most (omega (arith, height-operand rs clear r i in-table has, height-at rs clear (operand (recordAt rs r) i) (omega (arith, operand-lower rs clear r i in-table has)))))
+
+      module _ (n : ℕ) (is : n ≡ operand (recordAt rs r) i) (b : Bool) (e : b ≡ leb (height rs n) (most - 1)) where
+        pub some-high : b ≡ false → false ≡ leb (height rs r) most
+        some-high f =
+            let same : height rs n ≡ height rs (operand (recordAt rs r) i) = ap (height rs) is in
+            sym (lt-leb (height rs r) most (omega (arith, leb-false (height rs n) (most - 1) (sym e ∙ f), height-operand rs clear r i in-table has)))
+
+      pub low-more : (n : ℕ) → n ≡ operand (recordAt rs r) i → LowTo rs r most i → height rs n ≤ most - 1 → LowTo rs r most (i + 1)
+      low-more n is so h = each-next (λ q. height rs q ≤ most - 1) (recordAt rs r) i n so is h
+
+    pub all-low : (most i : ℕ) → 0 < most → LowTo rs r most i → length (named (recordAt rs r)) ≤ i → true ≡ leb (height rs r) most
+    all-low most i room so l =
+        let few = greatest-most (height rs) (named (recordAt rs r)) (most - 1) (λ j k. so j (omega arith)) in
+        sym (le-leb (height rs r) most (omega (arith, height-at rs clear r in-table)))
+
+    -- ---- noted
+
+    pub going-start : Going rs r 0 0
+    going-start = record { within = omega arith; is = omega arith }
+
+    pub going-more : (heights : List ℕ) (high high′ h i n : ℕ) → Filled (height rs) heights r → Going rs r high i → i < length (named (recordAt rs r)) → n ≡ operand (recordAt rs r) i → h ≡ getD heights n 0 → high′ ≡ max high h → Going rs r high′ (i + 1)
+    going-more heights high high′ h i n noted g k is e f =
+        let ms : List ℕ = named (recordAt rs r) in
+        let cons : drop i ms ≡ n ∷ drop (suc i) ms = drop-cons ms i 0 k ∙ ap (λ (m : ℕ). m ∷ drop (suc i) ms) (sym is) in
+        let old : max high (max (height rs n) (greatest (map (height rs) (drop (suc i) ms)))) ≡ greatest (map (height rs) ms) =
+        sym (ap (λ (ns : List ℕ). max high (greatest (map (height rs) ns))) cons) ∙ g .is in
+        record { within = omega arith; is = rw (add-one i) (omega (arith, old, noted .is n (omega (arith, operand-lower rs clear r i in-table k)))) }
+
+    pub going-end : (high i : ℕ) → Going rs r high i → length (named (recordAt rs r)) ≤ i → suc high ≡ height rs r
+    going-end high i g over =
+        let all : i ≡ length (named (recordAt rs r)) = omega (arith, g .within) in
+        let none : drop i (named (recordAt rs r)) ≡ [] = rw all (drop-length (named (recordAt rs r))) in
+        let most : max high 0 ≡ greatest (map (height rs) (named (recordAt rs r))) = sym (ap (λ (ns : List ℕ). max high (greatest (map (height rs) ns))) none) ∙ g .is in
+        omega (arith, height-at rs clear r in-table)
+
+  -- ---- all records
+
+  -- The lowest that is too high, where all records before it are low.
+  pub tall-first : (n r : ℕ) → r ≤ n → ((q : ℕ) → q < r → height rs q ≤ mostHeight) → (r < n → mostHeight < height rs r) → r ≡ lowest (fault9 rs) n
+  unfolding fault9
+  tall-first n r w a h =
+      low-same (fault9 rs) (record { within = w; hit = λ k. lt-ltb mostHeight (height rs r) (h k); miss = λ q k. le-ltb mostHeight (height rs q) (a q k) })
+      (low (fault9 rs) n)
+
+  module _ (n : ℕ) (all : n ≡ length rs) where
+    -- No record is higher than there are records.
+    pub few-low : n ≤ mostHeight → n ≡ lowest (fault9 rs) n
+    few-low l = tall-first n n (omega arith) (λ q k. omega (arith, height-most (suc q) q (omega arith) (omega arith))) (λ k. absurd (omega arith))
+
+    module _ (last : ℕ) (is-last : suc last ≡ n) where
+      -- No record is higher than the last.
+      pub last-low : true ≡ leb (height rs last) mostHeight → n ≡ lowest (fault9 rs) n
+      last-low e =
+          tall-first n n (omega arith)
+          (λ q k.
+          omega (arith, leb-true (height rs last) mostHeight (sym e), from-last rs clear (λ r. height rs r ≤ height rs last) last (omega arith) (omega arith) (λ q i h k l. omega (arith, height-operand rs clear q i h k)) q (omega arith)))
+          (λ k. absurd (omega arith))
+
+      -- The last of several records is no leaf, since all others lie below it.
+      pub last-inner : 1 < n → isFit (recordAt rs last) ≡ true → isLeaf (kindAt rs last) ≡ false
+      last-inner some fit =
+          by-test {P = isLeaf (kindAt rs last) ≡ false} (isLeaf (kindAt rs last))
+          (λ e.
+          let none : length (named (recordAt rs last)) ≡ 0 = leaf-operands (recordAt rs last) fit e in
+          absurd (omega (arith, from-last rs clear (λ r. r ≡ last) last (omega arith) refl (λ q i h k same. absurd (omega (arith, ap (λ (p : ℕ). length (named (recordAt rs p))) same))) 0 (omega arith))))
+          (λ e. e)
