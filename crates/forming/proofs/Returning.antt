@@ -160,9 +160,6 @@ module _ (table index s a found frames : List ℕ) (hit : ℕ) (rows order : Lis
     next-low = agenda-low table index s a (f .top) (f .next) (L .tasks) (omega (arith, h .is .low)) (h .is .are)
 
     module _ (e : ℕ) (fr : From k (f .ways) (f .way + 1) (f .sizes) e) where
-      e-low : e ≤ f .ways
-      e-low = fr .within (omega (arith, h .is .within))
-
       module _ (word : ℕ) (we : SameValue s (getD a (3 * f .at + 1) 0) word) where
         pub push-asked : Pushable table index (f .p) s word (f .way) a (f .next) (f .top)
         push-asked = record {
