@@ -166,9 +166,6 @@ module _ (table index : List ℕ) (p : ℕ) (s : List ℕ) (word : ℕ) (d : ℕ
     short = h .short;
   })
 
-  pub few : countOf table p ≤ 4
-  few = count-few table index p (h .composed .readable) (h .composed .composed)
-
   module _ (i kind n : ℕ) (l : i < countOf table p) (x : kind ≡ kindAt (records table) p) (y : n ≡ countOf table p) (part : Part) (pe : part ≡ unpacked word) (part′ : Part) (o : PieceOf kind n s part d i part′) where
     piece-is : (v : Value) → PartIs s (unpacked word) v → PartIs s part′ (getD (metBy table p v d) i (boolean true))
     piece-is v q =
