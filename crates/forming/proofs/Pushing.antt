@@ -8,6 +8,7 @@ use native.Mathlib.Numerals.{add-one}
 use native.Mathlib.Omega.{arith}
 use lib.ListN.{length, getD, set, drop, drop-of-length-le, length-set}
 use lib.Seq.{drop-cons, getD-set-same, getD-set-other}
+use lib.Pow.{shr-shr}
 use Rattle.prelude.proofs.Absurd.{impossible}
 use Rattle.prelude.proofs.Lists.{map-at}
 use Rattle.prelude.proofs.Truth.{or-false-left, or-false-right}
@@ -32,7 +33,7 @@ use Rattle.forming.specs.Frames.{KeptBelow, entries}
 use Rattle.forming.specs.Onward.{Task, task, zipped}
 use Rattle.forming.specs.Inner.{Composed, countOf}
 use Rattle.forming.specs.Pending.{Pending, AgendaIs, withBit, howMany, testsFirst, Pushable, PushedWhere, Pushed}
-use Rattle.forming.proofs.Joining.{bit-is, bit-not, no-bits, fewer-on, both-all}
+use Rattle.forming.proofs.Joining.{with-is, with-not, no-bits, fewer-on, by-bits, shared-length}
 
 -- ---- the agenda is kept where nothing below its top changed
 
@@ -173,6 +174,9 @@ module _ (table index : List ℕ) (p : ℕ) (s : List ℕ) (word : ℕ) (d : ℕ
     pats : drop i (innerOf table p) ≡ getD (innerOf table p) i any ∷ drop suci (innerOf table p)
     pats = drop-cons (innerOf table p) i any (omega (arith, inner-length table index p (h .composed .readable))) ∙ ap (λ (j : ℕ). getD (innerOf table p) i any ∷ drop j (innerOf table p)) (sym (add-one i) ∙ sym si)
 
+    shifted : bits / 2 ^ i / 2 ≡ bits / 2 ^ suci
+    shifted = shr-shr bits i 1 ∙ ap (λ (j : ℕ). bits / 2 ^ j) (sym si)
+
     module _ (v : Value) (below : d < length (waysOf table p v)) where
       parts : zipped (drop i (innerOf table p)) (drop i (metBy table p v d)) ≡ task (getD (innerOf table p) i any) (getD (metBy table p v d) i (boolean true)) ∷ zipped (drop suci (innerOf table p)) (drop suci (metBy table p v d))
       unfolding zipped
@@ -198,11 +202,11 @@ module _ (table index : List ℕ) (p : ℕ) (s : List ℕ) (word : ℕ) (d : ℕ
       }
         where
           skip : {A : Type 0} (x : A) (xs : List A) → withBit (bits / 2 ^ i) bit (x ∷ xs) ≡ withBit (bits / 2 ^ suci) bit xs
-          skip x xs = bit-not bits bit i x xs other ∙ ap (λ (j : ℕ). withBit (bits / 2 ^ j) bit xs) (sym si)
+          skip x xs = with-not (bits / 2 ^ i) bit x xs other ∙ ap (λ (k : ℕ). withBit k bit xs) shifted
 
       module _ (this : bits / 2 ^ i % 2 ≡ bit) where
         take : {A : Type 0} (x : A) (xs : List A) → withBit (bits / 2 ^ i) bit (x ∷ xs) ≡ x ∷ withBit (bits / 2 ^ suci) bit xs
-        take x xs = bit-is bits bit i x xs this ∙ ap (λ (j : ℕ). x ∷ withBit (bits / 2 ^ j) bit xs) (sym si)
+        take x xs = with-is (bits / 2 ^ i) bit x xs this ∙ ap (λ (k : ℕ). x ∷ withBit k bit xs) shifted
 
         more-ends : to + 1 ≡ top + length (withBit (bits / 2 ^ i) bit (drop i (innerOf table p)))
         more-ends = let e = ap length (ap (withBit (bits / 2 ^ i) bit) pats ∙ take (getD (innerOf table p) i any) (drop suci (innerOf table p))) in omega (arith, w .ends, e)
@@ -269,8 +273,8 @@ module _ (table index : List ℕ) (p : ℕ) (s : List ℕ) (word : ℕ) (d : ℕ
 -- ---- those that are no tests, then the tests
 
 module _ (table index : List ℕ) (p : ℕ) (s : List ℕ) (word : ℕ) (d : ℕ) (a : List ℕ) (next top tests : ℕ) (h : Pushable table index p s word d a next top (countOf table p)) where
-  all-parts : howMany table p tests 0 + howMany table p tests 1 ≡ countOf table p
-  all-parts = both-all tests (innerOf table p) ∙ inner-length table index p (h .composed .readable)
+  all-parts : howMany table p tests 1 + howMany table p tests 0 ≡ countOf table p
+  all-parts = shared-length (innerOf table p) (withBit tests 1 (innerOf table p)) (withBit tests 0 (innerOf table p)) (by-bits tests (innerOf table p)) ∙ inner-length table index p (h .composed .readable)
 
   again : (b : List ℕ) (next′ top′ count : ℕ) → length b ≡ length a → next′ < top′ → top′ + count ≤ entries → Pushable table index p s word d b next′ top′ count
   again b next′ top′ count e l m = record { composed = h .composed; short = h .short; value = h .value; here = h .here; narrow = h .narrow; below = h .below; low = l; room = m; long = e ∙ h .long }
