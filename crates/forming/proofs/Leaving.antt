@@ -14,61 +14,20 @@ use Rattle.tables.specs.Accepted.{records}
 use Rattle.parts.specs.Part.{PartHeld}
 use Rattle.parts.specs.Word.{unpacked}
 use Rattle.patterns.specs.Members.{Alike}
-use Rattle.patterns.specs.Binding.{Binding, names, merge, withEach, together}
+use Rattle.patterns.specs.Binding.{Binding, withEach}
 use Rattle.patterns.specs.Pattern.{Pattern, matches}
-use Rattle.patterns.specs.Laws.Matched.{in-together, together-in, joined-merge, merge-joined, matched, match-sized}
-use Rattle.patterns.specs.Laws.Together.{together-assoc}
 use Rattle.patterns.specs.Read.{Readable}
 use Rattle.forming.specs.Frames.{entries}
 use Rattle.matching.specs.Leaf.{Stands, Standing, Grown, LeafTold}
 use Rattle.matching.specs.Node.{LeafHeld}
 use Rattle.matching.proofs.Naming.{grown-same, grown-then}
-use Rattle.forming.specs.Onward.{Task, task, matchesAll, onward}
-use Rattle.forming.specs.Laws.Onward.{onward-went, onward-none, together-alike}
+use Rattle.forming.specs.Onward.{Task, task, onward}
+use Rattle.forming.specs.Laws.Onward.{onward-went, onward-none}
 use Rattle.forming.specs.Pending.{Pending, AgendaIs, spaces, WaitsAre, LeftOf, TakeHeld, Taken}
-use Rattle.forming.proofs.Joining.{joined-swap}
-use Rattle.forming.proofs.Reducing.{with-alike}
+use Rattle.forming.proofs.Joining.{onward-swap}
 use Rattle.forming.proofs.Solving.{some-task, agenda-low}
 
--- ---- in any order
-
-abbrev AllSized : List Binding → Type 0
-AllSized xs = (b : Binding) → In b xs → length b ≡ names
-
-together-swap : (xs ys : List Binding) → AllSized xs → AllSized ys → (c : Binding) → In c (together xs ys) → In c (together ys xs)
-together-swap xs ys hx hy c i =
-    let (a, d, m, n, t, e) = in-together c xs ys i in
-    let (f, u) = joined-merge d a (merge a d) (hy d n) (hx a m) (joined-swap a d (merge a d) (merge-joined a d (hx a m) (hy d n) t)) in
-    subst (λ (x : Binding). In x (together ys xs)) (sym (e ∙ f)) (together-in d a ys xs n m u)
-
-matches-sized : (p : Pattern) (v : Value) → AllSized (matches p v)
-matches-sized p v b i = match-sized p v b (matched p v b i)
-
--- THEOREM: two tasks may change places
-onward-swap : (t u : Task) (ts : List Task) (b : Binding) → Alike (onward (t ∷ u ∷ ts) b) (onward (u ∷ t ∷ ts) b)
-unfolding matchesAll
-onward-swap t u ts b = with-alike b (together T (together U M)) (together U (together T M)) (λ c. (λ i. go T U sized-t sized-u c i, λ i. go U T sized-u sized-t c i))
-  where
-    T : List Binding
-    T = matches (t .what) (t .value)
-
-    U : List Binding
-    U = matches (u .what) (u .value)
-
-    M : List Binding
-    M = matchesAll ts
-
-    sized-t : AllSized T
-    sized-t = matches-sized (t .what) (t .value)
-
-    sized-u : AllSized U
-    sized-u = matches-sized (u .what) (u .value)
-
-    go : (xs ys : List Binding) → AllSized xs → AllSized ys → (c : Binding) → In c (together xs (together ys M)) → In c (together ys (together xs M))
-    go xs ys hx hy c i =
-        subst (In c) (together-assoc ys xs M)
-        (together-alike (together xs ys) (together ys xs) M (λ d. (λ j. together-swap xs ys hx hy d j, λ j. together-swap ys xs hy hx d j)) c .0
-        (subst (In c) (sym (together-assoc xs ys M)) i))
+-- ---- a leaf behind
 
 -- a task behind at most one other
 went-behind : (ws us : List Task) (p : Pattern) (v : Value) (b q : Binding) → length ws ≤ 1 → Alike (withEach b (matches p v)) (q ∷ []) → Alike (onward (ws ++ task p v ∷ us) b) (onward (ws ++ us) q)

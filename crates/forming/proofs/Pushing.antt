@@ -1,13 +1,14 @@
 -- The parts of a pattern put before the rest of an agenda.
-use mathlib.Core.Path.{_≡_, refl, sym, ap, subst, _∙_}
+use mathlib.Core.Path.{_≡_, refl, sym, ap, ap₂, subst, _∙_}
 use mathlib.Core.Bool.{Bool, true, false, _||_}
 use mathlib.Core.Logic.{inl, inr}
 use mathlib.Core.List.{List, [], _∷_, _++_}
-use Prim.Native.Nat.{ℕ, zero, suc, _+_, _*_, _≤_, _<_}
+use Prim.Native.Nat.{ℕ, zero, suc, _+_, _*_, _/_, _%_, _^_, _≤_, _<_}
 use native.Mathlib.Numerals.{add-one}
 use native.Mathlib.Omega.{arith}
 use lib.ListN.{length, getD, set, drop, drop-of-length-le, length-set}
 use lib.Seq.{drop-cons, getD-set-same, getD-set-other}
+use lib.Pow.{shr-shr}
 use Rattle.prelude.proofs.Absurd.{impossible}
 use Rattle.prelude.proofs.Lists.{map-at}
 use Rattle.prelude.proofs.Truth.{or-false-left, or-false-right}
@@ -27,10 +28,12 @@ use Rattle.matching.specs.Node.{PieceHeld, PieceOf, innerOf, waysOf, metBy}
 use Rattle.matching.proofs.Records.{by-record, inner-length, count-few, count-two, operand-readable, meeting-length}
 use Rattle.splitting.proofs.Composed.{wide-composed}
 use Rattle.parts.specs.Word.{unpacked, CellHeld, WordOf}
-use Rattle.forming.specs.Frames.{KeptBelow}
+use Rattle.forming.specs.declared.Queue.{Queue}
+use Rattle.forming.specs.Frames.{KeptBelow, entries}
 use Rattle.forming.specs.Onward.{Task, task, zipped}
 use Rattle.forming.specs.Inner.{Composed, countOf}
-use Rattle.forming.specs.Pending.{Pending, AgendaIs, Pushable, Pushed}
+use Rattle.forming.specs.Pending.{Pending, AgendaIs, withBit, howMany, testsFirst, Pushable, PushedWhere, Pushed}
+use Rattle.forming.proofs.Joining.{with-is, with-not, no-bits, fewer-on, by-bits, shared-length}
 
 -- ---- the agenda is kept where nothing below its top changed
 
@@ -127,31 +130,32 @@ module _ (table index : List ℕ) (p : ℕ) (r : Composed table index p) where
 
 -- ---- one after the other, the last first
 
--- The parts from i on stand before the rest.
-pub record PushSoFar (table index : List ℕ) (p : ℕ) (s : List ℕ) (word : ℕ) (d : ℕ) (a : List ℕ) (next top : ℕ) (b : List ℕ) (head i to : ℕ) : Type 0 where
+-- The parts from i on that have the bit stand before the rest.
+pub record PushSoFar (table index : List ℕ) (p : ℕ) (s : List ℕ) (word : ℕ) (d : ℕ) (a : List ℕ) (next top bits bit : ℕ) (b : List ℕ) (head i to : ℕ) : Type 0 where
   pub within : i ≤ countOf table p
-  pub ends : to + i ≡ top + countOf table p
+  pub ends : to ≡ top + length (withBit (bits / 2 ^ i) bit (drop i (innerOf table p)))
   pub low : head < to
-  pub first : i ≡ countOf table p → head ≡ next
+  pub none : to ≡ top → head ≡ next
   pub kept : KeptBelow a b (3 * top)
   pub long : length b ≡ length a
   pub right : (v : Value) (ts : List Task) → PartIs s (unpacked word) v → wide (patternAt (records table) p) v ≡ false → AgendaIs table index s a top next ts
-      → AgendaIs table index s b to head (zipped (drop i (innerOf table p)) (drop i (metBy table p v d)) ++ ts)
+      → AgendaIs table index s b to head (withBit (bits / 2 ^ i) bit (zipped (drop i (innerOf table p)) (drop i (metBy table p v d))) ++ ts)
 
-module _ (table index : List ℕ) (p : ℕ) (s : List ℕ) (word : ℕ) (d : ℕ) (a : List ℕ) (next top : ℕ) (h : Pushable table index p s word d a next top) where
-  pub push-start : (n : ℕ) → n ≡ countOf table p → PushSoFar table index p s word d a next top a next n top
-  unfolding zipped
+module _ (table index : List ℕ) (p : ℕ) (s : List ℕ) (word : ℕ) (d : ℕ) (a : List ℕ) (next top bits bit : ℕ) (h : Pushable table index p s word d a next top (howMany table p bits bit)) where
+  pub push-start : (n : ℕ) → n ≡ countOf table p → PushSoFar table index p s word d a next top bits bit a next n top
+  unfolding zipped withBit
   push-start n e = record {
     within = omega arith;
-    ends = omega arith;
+    ends = omega (arith, ap (λ (ps : List Pattern). length (withBit (bits / 2 ^ n) bit ps)) z);
     low = h .low;
-    first = λ z. refl;
+    none = λ q. refl;
     kept = λ j k. refl;
     long = refl;
-    right = λ v ts q w g.
-        let z : drop n (innerOf table p) ≡ [] = drop-of-length-le (innerOf table p) {i = n} (omega (arith, inner-length table index p (h .composed .readable))) in
-        subst (λ (ps : List Pattern). AgendaIs table index s a top next (zipped ps (drop n (metBy table p v d)) ++ ts)) (sym z) g;
+    right = λ v ts q w g. subst (λ (ps : List Pattern). AgendaIs table index s a top next (withBit (bits / 2 ^ n) bit (zipped ps (drop n (metBy table p v d))) ++ ts)) (sym z) g;
   }
+    where
+      z : drop n (innerOf table p) ≡ []
+      z = drop-of-length-le (innerOf table p) {i = n} (omega (arith, inner-length table index p (h .composed .readable)))
 
   pub piece-asked : (i kind n : ℕ) (part : Part) → part ≡ unpacked word → i < countOf table p → kind ≡ kindAt (records table) p → n ≡ countOf table p → PieceHeld kind n s part d i
   piece-asked i kind n part pe l x y = rw (x, y, pe) (record {
@@ -166,6 +170,50 @@ module _ (table index : List ℕ) (p : ℕ) (s : List ℕ) (word : ℕ) (d : ℕ
     short = h .short;
   })
 
+  module _ (i suci : ℕ) (si : suci ≡ i + 1) (l : i < countOf table p) where
+    pats : drop i (innerOf table p) ≡ getD (innerOf table p) i any ∷ drop suci (innerOf table p)
+    pats = drop-cons (innerOf table p) i any (omega (arith, inner-length table index p (h .composed .readable))) ∙ ap (λ (j : ℕ). getD (innerOf table p) i any ∷ drop j (innerOf table p)) (sym (add-one i) ∙ sym si)
+
+    shifted : bits / 2 ^ i / 2 ≡ bits / 2 ^ suci
+    shifted = shr-shr bits i 1 ∙ ap (λ (j : ℕ). bits / 2 ^ j) (sym si)
+
+    module _ (v : Value) (below : d < length (waysOf table p v)) where
+      parts : zipped (drop i (innerOf table p)) (drop i (metBy table p v d)) ≡ task (getD (innerOf table p) i any) (getD (metBy table p v d) i (boolean true)) ∷ zipped (drop suci (innerOf table p)) (drop suci (metBy table p v d))
+      unfolding zipped
+      parts =
+          ap₂ zipped pats
+          (drop-cons (metBy table p v d) i (boolean true) (omega (arith, met-long table index p (h .composed) v d below)) ∙ ap (λ (j : ℕ). getD (metBy table p v d) i (boolean true) ∷ drop j (metBy table p v d)) (sym (add-one i) ∙ sym si))
+
+    module _ (now : List ℕ) (head to : ℕ) (w : PushSoFar table index p s word d a next top bits bit now head suci to) where
+      way-below : (v : Value) → PartIs s (unpacked word) v → d < length (waysOf table p v)
+      way-below v z = subst (λ (e : Value). d < length (waysOf table p e)) (sym (part-one z (h .here))) (h .below)
+
+      -- a part with the other bit
+      pub push-not : (bits / 2 ^ i % 2 ≡ bit → ⊥) → PushSoFar table index p s word d a next top bits bit now head i to
+      push-not other = record {
+        within = omega arith;
+        ends = w .ends ∙ ap (λ (k : ℕ). top + k) (sym (ap length (ap (withBit (bits / 2 ^ i) bit) pats ∙ skip (getD (innerOf table p) i any) (drop suci (innerOf table p)))));
+        low = w .low;
+        none = w .none;
+        kept = w .kept;
+        long = w .long;
+        right = λ v ts z u g.
+            subst (λ (us : List Task). AgendaIs table index s now to head (us ++ ts)) (sym (ap (withBit (bits / 2 ^ i) bit) (parts v (way-below v z)) ∙ skip _ _)) (w .right v ts z u g);
+      }
+        where
+          skip : {A : Type 0} (x : A) (xs : List A) → withBit (bits / 2 ^ i) bit (x ∷ xs) ≡ withBit (bits / 2 ^ suci) bit xs
+          skip x xs = with-not (bits / 2 ^ i) bit x xs other ∙ ap (λ (k : ℕ). withBit k bit xs) shifted
+
+      module _ (this : bits / 2 ^ i % 2 ≡ bit) where
+        take : {A : Type 0} (x : A) (xs : List A) → withBit (bits / 2 ^ i) bit (x ∷ xs) ≡ x ∷ withBit (bits / 2 ^ suci) bit xs
+        take x xs = with-is (bits / 2 ^ i) bit x xs this ∙ ap (λ (k : ℕ). x ∷ withBit k bit xs) shifted
+
+        more-ends : to + 1 ≡ top + length (withBit (bits / 2 ^ i) bit (drop i (innerOf table p)))
+        more-ends = let e = ap length (ap (withBit (bits / 2 ^ i) bit) pats ∙ take (getD (innerOf table p) i any) (drop suci (innerOf table p))) in omega (arith, w .ends, e)
+
+        pub push-room : to + 1 ≤ entries
+        push-room = omega (arith, more-ends, fewer-on bits bit i (innerOf table p), h .room)
+
   module _ (i kind n : ℕ) (l : i < countOf table p) (x : kind ≡ kindAt (records table) p) (y : n ≡ countOf table p) (part : Part) (pe : part ≡ unpacked word) (part′ : Part) (o : PieceOf kind n s part d i part′) where
     piece-is : (v : Value) → PartIs s (unpacked word) v → PartIs s part′ (getD (metBy table p v d) i (boolean true))
     piece-is v q =
@@ -176,36 +224,27 @@ module _ (table index : List ℕ) (p : ℕ) (s : List ℕ) (word : ℕ) (d : ℕ
     piece-held = (is (getD (metBy table p (h .value) d) i (boolean true)), inr (getD (metBy table p (h .value) d) i (boolean true), refl, piece-is (h .value) (h .here)))
 
     module _ (q : ℕ) (b : q ≡ operand (recordAt (records table) p) i) (cell : ℕ) (pk : WordOf s part′ cell) (now : List ℕ) (head suci to : ℕ) (si : suci ≡ i + 1)
-        (w : PushSoFar table index p s word d a next top now head suci to) where
-      pub push-more : PushSoFar table index p s word d a next top (set (set (set now (3 * to) q) (3 * to + 1) cell) (3 * to + 2) head) to i (to + 1)
-      unfolding zipped
+        (w : PushSoFar table index p s word d a next top bits bit now head suci to) (this : bits / 2 ^ i % 2 ≡ bit) where
+      pub push-more : PushSoFar table index p s word d a next top bits bit (set (set (set now (3 * to) q) (3 * to + 1) cell) (3 * to + 2) head) to i (to + 1)
       push-more = record {
         within = omega arith;
-        ends = omega (arith, w .ends);
+        ends = more-ends i suci si l now head to w this;
         low = omega arith;
-        first = λ z. absurd (omega arith);
+        none = λ z. absurd (omega (arith, w .ends));
         kept = kept-then a now (set (set (set now (3 * to) q) (3 * to + 1) cell) (3 * to + 2) head) (3 * top) (3 * to) (omega (arith, w .ends)) (w .kept) (put .kept);
         long = put .long ∙ w .long;
         right = λ v ts z u g. go v ts z u g;
       }
         where
-          after : List ℕ
-          after = set (set (set now (3 * to) q) (3 * to + 1) cell) (3 * to + 2) head
-
           put : EntryPut now (set (set (set now (3 * to) q) (3 * to + 1) cell) (3 * to + 2) head) (3 * to) q cell head
-          put = entry-put now (3 * to) q cell head (omega (arith, w .long, w .ends, h .long, h .room))
+          put = entry-put now (3 * to) q cell head (omega (arith, w .long, h .long, push-room i suci si l now head to w this))
 
           go : (v : Value) (ts : List Task) → PartIs s (unpacked word) v → wide (patternAt (records table) p) v ≡ false → AgendaIs table index s a top next ts
-              → AgendaIs table index s (set (set (set now (3 * to) q) (3 * to + 1) cell) (3 * to + 2) head) (to + 1) to (zipped (drop i (innerOf table p)) (drop i (metBy table p v d)) ++ ts)
+              → AgendaIs table index s (set (set (set now (3 * to) q) (3 * to + 1) cell) (3 * to + 2) head) (to + 1) to (withBit (bits / 2 ^ i) bit (zipped (drop i (innerOf table p)) (drop i (metBy table p v d))) ++ ts)
           go v ts z u g =
-              let below : d < length (waysOf table p v) = subst (λ (e : Value). d < length (waysOf table p e)) (sym (part-one z (h .here))) (h .below) in
-              let long = met-long table index p (h .composed) v d below in
+              let below = way-below i suci si l now head to w v z in
               let it : getD (innerOf table p) i any ≡ patternAt (records table) q = map-at (patternAt (records table)) (operandsOf (recordAt (records table) p)) i 0 any l ∙ ap (patternAt (records table)) (sym b) in
-              let pats : drop i (innerOf table p) ≡ getD (innerOf table p) i any ∷ drop suci (innerOf table p) =
-              drop-cons (innerOf table p) i any (omega (arith, inner-length table index p (h .composed .readable))) ∙ ap (λ (j : ℕ). getD (innerOf table p) i any ∷ drop j (innerOf table p)) (sym (add-one i) ∙ sym si) in
-              let vals : drop i (metBy table p v d) ≡ getD (metBy table p v d) i (boolean true) ∷ drop suci (metBy table p v d) =
-              drop-cons (metBy table p v d) i (boolean true) (omega (arith, long)) ∙ ap (λ (j : ℕ). getD (metBy table p v d) i (boolean true) ∷ drop j (metBy table p v d)) (sym (add-one i) ∙ sym si) in
-              let rest = agenda-kept table index s now (set (set (set now (3 * to) q) (3 * to + 1) cell) (3 * to + 2) head) to (to + 1) head (zipped (drop suci (innerOf table p)) (drop suci (metBy table p v d)) ++ ts) (omega arith) (put .kept) (w .right v ts z u g) in
+              let rest = agenda-kept table index s now (set (set (set now (3 * to) q) (3 * to + 1) cell) (3 * to + 2) head) to (to + 1) head (withBit (bits / 2 ^ suci) bit (zipped (drop suci (innerOf table p)) (drop suci (metBy table p v d))) ++ ts) (omega arith) (put .kept) (w .right v ts z u g) in
               let first : Pending table index s (set (set (set now (3 * to) q) (3 * to + 1) cell) (3 * to + 2) head) (to + 1) to (task (getD (innerOf table p) i any) (getD (metBy table p v d) i (boolean true))) = record {
                 some = omega (arith, w .low);
                 below = omega arith;
@@ -215,18 +254,63 @@ module _ (table index : List ℕ) (p : ℕ) (s : List ℕ) (word : ℕ) (d : ℕ
                 here = subst (λ (e : ℕ). PartIs s (unpacked e) (getD (metBy table p v d) i (boolean true))) (sym (put .second)) (packed-part s part′ cell (getD (metBy table p v d) i (boolean true)) pk (piece-is v z));
                 narrow = narrow-part table index p (h .composed) v d below u i l;
               } in
-              subst (λ (ps : List Pattern). AgendaIs table index s (set (set (set now (3 * to) q) (3 * to + 1) cell) (3 * to + 2) head) (to + 1) to (zipped ps (drop i (metBy table p v d)) ++ ts)) (sym pats)
-              (subst (λ (vs : List Value). AgendaIs table index s (set (set (set now (3 * to) q) (3 * to + 1) cell) (3 * to + 2) head) (to + 1) to (zipped (getD (innerOf table p) i any ∷ drop suci (innerOf table p)) vs ++ ts)) (sym vals)
-              (first, subst (λ (e : ℕ). AgendaIs table index s (set (set (set now (3 * to) q) (3 * to + 1) cell) (3 * to + 2) head) (to + 1) e (zipped (drop suci (innerOf table p)) (drop suci (metBy table p v d)) ++ ts)) (sym (put .third)) rest))
+              subst (λ (us : List Task). AgendaIs table index s (set (set (set now (3 * to) q) (3 * to + 1) cell) (3 * to + 2) head) (to + 1) to (us ++ ts)) (sym (ap (withBit (bits / 2 ^ i) bit) (parts i suci si l v below) ∙ take i suci si l now head to w this _ _))
+              (first, subst (λ (e : ℕ). AgendaIs table index s (set (set (set now (3 * to) q) (3 * to + 1) cell) (3 * to + 2) head) (to + 1) e (withBit (bits / 2 ^ suci) bit (zipped (drop suci (innerOf table p)) (drop suci (metBy table p v d))) ++ ts)) (sym (put .third)) rest)
 
-  pub push-end : (now : List ℕ) (head i to : ℕ) → i ≤ 0 → PushSoFar table index p s word d a next top now head i to → Pushed table index p s word d a next top now head
-  push-end now head i to l w = record {
-    low = omega (arith, w .low, w .ends);
-    none = λ z. w .first (omega arith);
-    kept = w .kept;
-    long = w .long;
-    right = λ v ts q u g.
-        let e : i ≡ 0 = omega arith in
-        agenda-kept table index s now now to (top + countOf table p) head (zipped (innerOf table p) (metBy table p v d) ++ ts) (omega (arith, w .ends)) (λ j k. refl)
-        (subst (λ (j : ℕ). AgendaIs table index s now to head (zipped (drop j (innerOf table p)) (drop j (metBy table p v d)) ++ ts)) e (w .right v ts q u g));
-  }
+  pub push-end : (now : List ℕ) (head i to : ℕ) → i ≤ 0 → PushSoFar table index p s word d a next top bits bit now head i to → PushedWhere table index p s word d a next top bits bit now (record { head = head; top = to })
+  push-end now head i to l w =
+      let e : i ≡ 0 = omega arith in
+      let f : bits / 2 ^ i ≡ bits = ap (λ (j : ℕ). bits / 2 ^ j) e ∙ omega arith in
+      record {
+        ends = w .ends ∙ ap₂ (λ (k j : ℕ). top + length (withBit k bit (drop j (innerOf table p)))) f e;
+        low = w .low;
+        none = w .none;
+        kept = w .kept;
+        long = w .long;
+        right = λ v ts q u g. subst (λ (us : List Task). AgendaIs table index s now to head (us ++ ts)) (ap₂ (λ (k j : ℕ). withBit k bit (zipped (drop j (innerOf table p)) (drop j (metBy table p v d)))) f e) (w .right v ts q u g);
+      }
+
+-- ---- those that are no tests, then the tests
+
+module _ (table index : List ℕ) (p : ℕ) (s : List ℕ) (word : ℕ) (d : ℕ) (a : List ℕ) (next top tests : ℕ) (h : Pushable table index p s word d a next top (countOf table p)) where
+  all-parts : howMany table p tests 1 + howMany table p tests 0 ≡ countOf table p
+  all-parts = shared-length (innerOf table p) (withBit tests 1 (innerOf table p)) (withBit tests 0 (innerOf table p)) (by-bits tests (innerOf table p)) ∙ inner-length table index p (h .composed .readable)
+
+  again : (b : List ℕ) (next′ top′ count : ℕ) → length b ≡ length a → next′ < top′ → top′ + count ≤ entries → Pushable table index p s word d b next′ top′ count
+  again b next′ top′ count e l m = record { composed = h .composed; short = h .short; value = h .value; here = h .here; narrow = h .narrow; below = h .below; low = l; room = m; long = e ∙ h .long }
+
+  pub others-asked : Pushable table index p s word d a next top (howMany table p tests 0)
+  others-asked = again a next top (howMany table p tests 0) refl (h .low) (omega (arith, h .room, all-parts))
+
+  module _ (b : List ℕ) (r : Queue) (k : PushedWhere table index p s word d a next top tests 0 b r) where
+    -- no tests
+    pub pushed-all : tests ≡ 0 → Pushed table index p s word d a next top tests b (r .head)
+    pushed-all e =
+        let none : withBit tests 1 (innerOf table p) ≡ [] = ap (λ (m : ℕ). withBit m 1 (innerOf table p)) e ∙ no-bits (innerOf table p) in
+        let all : r .top ≡ top + countOf table p = omega (arith, k .ends, all-parts, ap length none) in
+        record {
+          low = omega (arith, k .low, all);
+          none = λ z. k .none (omega (arith, all));
+          kept = k .kept;
+          long = k .long;
+          right = λ v ts q u g.
+              let zs = zipped (innerOf table p) (metBy table p v d) in
+              let f : withBit tests 1 zs ≡ [] = ap (λ (m : ℕ). withBit m 1 zs) e ∙ no-bits zs in
+              subst (λ (us : List Task). AgendaIs table index s b (top + countOf table p) (r .head) (us ++ (withBit tests 0 zs ++ ts))) (sym f)
+              (subst (λ (j : ℕ). AgendaIs table index s b j (r .head) (withBit tests 0 zs ++ ts)) all (k .right v ts q u g));
+        }
+
+    pub tests-asked : Pushable table index p s word d b (r .head) (r .top) (howMany table p tests 1)
+    tests-asked = again b (r .head) (r .top) (howMany table p tests 1) (k .long) (k .low) (omega (arith, h .room, k .ends, all-parts))
+
+    pub pushed-both : (c : List ℕ) (q : Queue) → PushedWhere table index p s word d b (r .head) (r .top) tests 1 c q → Pushed table index p s word d a next top tests c (q .head)
+    pushed-both c q j =
+        let all : q .top ≡ top + countOf table p = omega (arith, k .ends, j .ends, all-parts) in
+        record {
+          low = omega (arith, j .low, all);
+          none = λ z. j .none (omega (arith, j .ends, all-parts)) ∙ k .none (omega (arith, k .ends, all-parts));
+          kept = kept-then a b c (3 * top) (3 * r .top) (omega (arith, k .ends)) (k .kept) (j .kept);
+          long = j .long ∙ k .long;
+          right = λ v ts x u g. subst (λ (m : ℕ). AgendaIs table index s c m (q .head) (testsFirst tests (zipped (innerOf table p) (metBy table p v d)) ts)) all
+              (j .right v (withBit tests 0 (zipped (innerOf table p) (metBy table p v d)) ++ ts) x u (k .right v ts x u g));
+        }

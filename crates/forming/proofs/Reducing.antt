@@ -30,7 +30,7 @@ use Rattle.matching.specs.Node.{innerOf}
 use Rattle.matching.proofs.Records.{by-record, count-two}
 use Rattle.forming.specs.Inner.{inner}
 use Rattle.forming.specs.Onward.{Task, task, matchesAll, onward}
-use Rattle.forming.specs.Laws.Onward.{together-alike}
+use Rattle.forming.specs.Laws.Onward.{alike-same, together-alike}
 use Rattle.forming.specs.Reduced.{AcceptsAll, TakesMore, TellsAll, TellsMore, Reduced, TellsSpare}
 use Rattle.forming.specs.Sizes.{Splits}
 
@@ -277,13 +277,10 @@ module _ (table index : List ℕ) (p : ℕ) where
 -- ---- before the rest of an agenda
 
 pub with-alike : (b : Binding) (xs ys : List Binding) → Alike xs ys → Alike (withEach b xs) (withEach b ys)
-with-alike b xs ys h c = (go xs ys (λ x i. h x .0 i), go ys xs (λ x i. h x .1 i))
-  where
-    go : (us ws : List Binding) → ((x : Binding) → In x us → In x ws) → In c (withEach b us) → In c (withEach b ws)
-    go us ws f i =
-        let (a, d, m, n, t, e) = in-together c (b ∷ []) us (subst (In c) (sym (one-together b us)) i) in
-        subst (In c) (one-together b ws) (subst (λ (x : Binding). In x (together (b ∷ []) ws)) (sym e) (together-in a d (b ∷ []) ws m (f d n) t))
+with-alike b xs ys h =
+    subst (λ (l : List Binding). Alike l (withEach b ys)) (one-together b xs)
+    (subst (Alike (together (b ∷ []) xs)) (one-together b ys) (together-alike (b ∷ []) (b ∷ []) xs ys (alike-same (b ∷ [])) h))
 
 pub onward-alike : (p q : Pattern) (v : Value) (ts : List Task) (b : Binding) → Alike (matches p v) (matches q v) → Alike (onward (task p v ∷ ts) b) (onward (task q v ∷ ts) b)
 unfolding matchesAll
-onward-alike p q v ts b h = with-alike b (together (matches p v) (matchesAll ts)) (together (matches q v) (matchesAll ts)) (together-alike (matches p v) (matches q v) (matchesAll ts) h)
+onward-alike p q v ts b h = with-alike b (together (matches p v) (matchesAll ts)) (together (matches q v) (matchesAll ts)) (together-alike (matches p v) (matches q v) (matchesAll ts) (matchesAll ts) h (alike-same (matchesAll ts)))

@@ -27,17 +27,18 @@ use Rattle.forming.specs.Adding.{adding}
 use Rattle.forming.specs.Laws.Adding.{adding-append, adding-there}
 use Rattle.forming.specs.Frames.{entries, agendaWords, frameAt, onto, Advanced, Cleared, heft, rank}
 use Rattle.forming.specs.Onward.{Task, onward, zipped, oneWay}
-use Rattle.forming.specs.Pending.{AgendaIs, Pushable, Pushed}
+use Rattle.forming.specs.Pending.{AgendaIs, testsFirst, Pushable, Pushed}
 use Rattle.forming.specs.Rows.{RowsAre}
 use Rattle.forming.specs.Settled.{TellsSettled}
 use Rattle.forming.specs.Sizes.{TellsSizes, FromHeld, From}
 use Rattle.forming.specs.Whole.{WordMet, SameValue}
 use Rattle.forming.specs.Stack.{Level, LevelIs, StackIs, dues, Accounted, Stacked, Descending, Solvable}
 use Rattle.forming.proofs.Accounting.{accounted-with}
+use Rattle.forming.proofs.Joining.{tests-alike, tests-room}
 use Rattle.forming.proofs.Ranking.{back-less}
 use Rattle.forming.proofs.Skipping.{from-asked, passed-over}
 use Rattle.forming.proofs.Solving.{agenda-low, falls-on, several-parts, count-room, parts-room, same-way, enough}
-use Rattle.forming.proofs.Stacking.{level-kept, stack-kept}
+use Rattle.forming.proofs.Stacking.{level-kept, stack-kept, restacked}
 
 in-drop : {A : Type 0} (n : ℕ) (xs : List A) (x : A) → In x (drop n xs) → In x xs
 in-drop zero xs x i = i
@@ -49,7 +50,7 @@ pub record Last (table index s a found frames : List ℕ) (hit : ℕ) (rows orde
   pub short : length s ≤ 65536
   pub long : length a ≡ agendaWords
   pub sized : length found ≡ 16
-  pub frames-long : length frames ≡ 1400
+  pub frames-long : length frames ≡ 1500
   pub level : Level
   pub others : List Level
   pub count : length others ≡ i
@@ -162,7 +163,7 @@ module _ (table index s a found frames : List ℕ) (hit : ℕ) (rows order : Lis
 
     module _ (e : ℕ) (fr : From k (f .ways) (f .way + 1) (f .sizes) e) where
       module _ (word : ℕ) (we : SameValue s (getD a (3 * f .at + 1) 0) word) where
-        pub push-asked : Pushable table index (f .p) s word (f .way) a (f .next) (f .top)
+        pub push-asked : Pushable table index (f .p) s word (f .way) a (f .next) (f .top) (countOf table (f .p))
         push-asked = record {
           composed = h .is .composed;
           short = h .short;
@@ -175,7 +176,7 @@ module _ (table index s a found frames : List ℕ) (hit : ℕ) (rows order : Lis
           long = h .long;
         }
 
-        module _ (b : List ℕ) (head : ℕ) (pushed : Pushed table index (f .p) s word (f .way) a (f .next) (f .top) b head) (frames′ : List ℕ) (left : ℕ) (ad : Advanced frames i (onto f e) frames′ left)
+        module _ (b : List ℕ) (head : ℕ) (pushed : Pushed table index (f .p) s word (f .way) a (f .next) (f .top) (f .tests) b head) (frames′ : List ℕ) (left : ℕ) (ad : Advanced frames i (onto f e) frames′ left)
             (found′ : List ℕ) (cl : Cleared found (f .mask) found′) (c : ℕ) (ec : c ≡ countOf table (f .p)) (hit′ : ℕ) (hl : hit′ ≤ hit) (hd : hit′ ≤ left) where
           head-falls : heft (f .top + c) head ≤ heft (f .top) (f .next)
           head-falls = falls-on (f .top) (f .next) c head (omega (arith, ec, top-room)) (omega (arith, ec, pushed .low)) (λ z. pushed .none (omega (arith, ec, z)))
@@ -186,11 +187,14 @@ module _ (table index s a found frames : List ℕ) (hit : ℕ) (rows order : Lis
           words-again : found′ ≡ h .level .words
           words-again = cl (L .words) (h .is .mask) (h .is .stands .sized) (h .grown)
 
+          abbrev parts : List Task
+          parts = zipped (innerOf table (f .p)) (metBy table (f .p) (h .level .value) (f .way))
+
           now : List Task
-          now = zipped (innerOf table (f .p)) (metBy table (f .p) (h .level .value) (f .way)) ++ h .level .tasks
+          now = testsFirst (f .tests) parts (h .level .tasks)
 
           more : List Binding
-          more = onward (zipped (innerOf table (f .p)) (metBy table (f .p) (h .level .value) (f .way)) ++ h .level .tasks) (h .level .binding)
+          more = onward (parts ++ h .level .tasks) (h .level .binding)
 
           due′ : List Binding
           due′ = gather (drop e (waysOf table (f .p) (h .level .value))) way
@@ -303,16 +307,17 @@ module _ (table index s a found frames : List ℕ) (hit : ℕ) (rows order : Lis
           going-down = record {
             tasks = now;
             are = subst (λ (m : ℕ). AgendaIs table index s b (f .top + m) head now) (sym ec) (pushed .right (L .value) (L .tasks) (we (L .value) (h .is .here)) (h .is .narrow) (h .is .are));
-            room = omega (arith, ec, parts-room table index (f .p) (h .is .composed) (f .top) (L .tasks) (h .is .room) (metBy table (f .p) (L .value) (f .way)));
+            room = omega (arith, ec, tests-room (f .tests) parts (L .tasks), parts-room table index (f .p) (h .is .composed) (f .top) (L .tasks) (h .is .room) (metBy table (f .p) (L .value) (f .way)));
             low = low-enough (ad .how);
             binding = L .binding;
             stands = subst (λ (ws : List ℕ). Stands s ws (L .binding)) (sym words-again) (h .is .stands);
-            stacked = subst (λ (ws : List ℕ). Now left ws) (sym words-again) (⊎-elim (λ (x, y, z). stays-on x y z) (λ (x, y). leaves-off x y) (ad .how));
+            stacked = restacked table index s b (f .top + c) found′ frames′ left hit′ rows order n more target (subst (λ (ws : List ℕ). Now left ws) (sym words-again) (⊎-elim (λ (x, y, z). stays-on x y z) (λ (x, y). leaves-off x y) (ad .how)))
+                (f .top + c) (omega arith) found′ (grown-same found′) frames′ refl (λ j m. refl) (onward now (L .binding)) (tests-alike (f .tests) parts (L .tasks) (L .binding));
           }
 
 -- ---- the first step, and the end
 
-pub starting : (table index s a : List ℕ) (head top : ℕ) (m rows order : List ℕ) (n : ℕ) (h : Solvable table index s a head top m rows order n) (frames : List ℕ) → length frames ≡ 1400
+pub starting : (table index s a : List ℕ) (head top : ℕ) (m rows order : List ℕ) (n : ℕ) (h : Solvable table index s a head top m rows order n) (frames : List ℕ) → length frames ≡ 1500
     → Descending table index s a head top m frames 0 0 rows order n (adding (onward (h .tasks) (h .binding)) (h .bindings))
 starting table index s a head top m rows order n h frames e = record {
   tasks = h .tasks;

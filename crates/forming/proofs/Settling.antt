@@ -3,11 +3,13 @@ use mathlib.Core.Path.{_≡_, refl, sym, ap, ap₂, subst, _∙_}
 use mathlib.Core.Bool.{Bool, true, false, cond}
 use mathlib.Core.Logic.{inl, inr, ⊎-elim}
 use mathlib.Core.List.{List, [], _∷_, _++_}
-use Prim.Native.Nat.{ℕ, suc, _+_, _≤_, _<_}
+use Prim.Native.Nat.{ℕ, suc, _+_, _*_, _^_, _≤_, _<_}
+use native.Mathlib.Nat.{pow-suc}
 use native.Mathlib.Omega.{arith}
 use lib.Dec.{eqb}
 use lib.ListN.{length, getD}
 use lib.Seq.{ext-getD}
+use lib.Pow.{pow-mono}
 use borrow.Author.Tests.{eqb-true}
 use Rattle.prelude.specs.Membership.{In}
 use Rattle.prelude.proofs.Membership.{in-one}
@@ -189,3 +191,20 @@ module _ (s : List ℕ) (m : List ℕ) (b : Binding) (h : Stands s m b) where
       let less = settled-less p (f 0 (omega arith)) v (zipped ps vs ++ ts) o i in
       let on = several-more ps vs ts (λ j k. f (suc j) (omega arith)) o less c l in
       settled-more p (f 0 (omega arith)) v (zipped ps vs ++ ts) o i c on
+
+-- ---- parts that are only tests
+
+-- So many parts are told, a bit for each.
+pub record ToldSoFar (n tests i : ℕ) : Type 0 where
+  pub told : ℕ
+  pub within : i + told ≡ n
+  pub low : tests < 2 ^ told
+
+pub told-start : (n : ℕ) → ToldSoFar n 0 n
+told-start n = record { told = 0; within = omega arith; low = omega arith }
+
+pub told-more : (n tests i j r : ℕ) → i ≡ j + 1 → r ≤ 2 * tests + 1 → ToldSoFar n tests i → ToldSoFar n r j
+told-more n tests i j r e l h = record { told = suc (h .told); within = omega (arith, h .within); low = omega (arith, h .low, pow-suc 2 (h .told)) }
+
+pub told-few : (n tests i : ℕ) → n ≤ 8 → ToldSoFar n tests i → tests < 256
+told-few n tests i l h = let p : 2 ^ h .told ≤ 256 = pow-mono {i = h .told} {j = 8} (omega (arith, h .within)) in omega (arith, h .low, p)

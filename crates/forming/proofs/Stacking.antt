@@ -71,7 +71,7 @@ level-kept table index s a b i f l k h = record {
   done = h .done;
 }
 
-pub stack-kept : (table index s a b frames frames′ : List ℕ) (high high′ : ℕ) (found found′ : List ℕ) (ls : List Level) → KeptBelow a b (3 * high) → high ≤ high′ → Grown found found′ → length frames ≡ 1400 → length frames′ ≡ length frames → KeptBelow frames frames′ (14 * length ls)
+pub stack-kept : (table index s a b frames frames′ : List ℕ) (high high′ : ℕ) (found found′ : List ℕ) (ls : List Level) → KeptBelow a b (3 * high) → high ≤ high′ → Grown found found′ → length frames ≡ 1500 → length frames′ ≡ length frames → KeptBelow frames frames′ (15 * length ls)
     → StackIs table index s a frames high found ls → StackIs table index s b frames′ high′ found′ ls
 stack-kept table index s a b frames frames′ high high′ found found′ [] k u g e d q h = omega arith
 stack-kept table index s a b frames frames′ high high′ found found′ (l ∷ ls) k u g e d q (x, y, z, w) =
@@ -95,7 +95,7 @@ module _ (table index s a : List ℕ) (high : ℕ) (found frames : List ℕ) (de
       ap (adding (dues (h .levels))) (sym (adding-alike more more′ cs (h .rows-are .given) (h .rows-are .ordered) e))
       ∙ sym (adding-append more (dues (h .levels)) cs) ∙ h .right
 
-  pub restacked : (high′ : ℕ) → high ≤ high′ → (found′ : List ℕ) → Grown found found′ → (frames′ : List ℕ) → length frames′ ≡ length frames → KeptBelow frames frames′ (14 * depth) → (more′ : List Binding) → Alike more more′
+  pub restacked : (high′ : ℕ) → high ≤ high′ → (found′ : List ℕ) → Grown found found′ → (frames′ : List ℕ) → length frames′ ≡ length frames → KeptBelow frames frames′ (15 * depth) → (more′ : List Binding) → Alike more more′
       → Stacked table index s a high′ found′ frames′ depth hit rows order n more′ target
   restacked high′ u found′ g frames′ d k more′ e = record {
     short = h .short;
@@ -140,8 +140,8 @@ module _ (table index s a : List ℕ) (high : ℕ) (found frames : List ℕ) (de
 
 -- ---- a frame opened
 
-abbrev pub framed : ℕ → ℕ → ℕ → ℕ → ℕ → ℕ → ℕ → Bool → Sizes → Frame
-framed p at next top way ways mask once sizes = record { p = p; at = at; next = next; top = top; way = way; ways = ways; mask = mask; once = once; sizes = sizes }
+abbrev pub framed : ℕ → ℕ → ℕ → ℕ → ℕ → ℕ → ℕ → Bool → Sizes → ℕ → Frame
+framed p at next top way ways mask once sizes tests = record { p = p; at = at; next = next; top = top; way = way; ways = ways; mask = mask; once = once; sizes = sizes; tests = tests }
 
 module _ (table index s a : List ℕ) (at next top : ℕ) (found frames : List ℕ) (depth hit : ℕ) (rows order : List ℕ) (n : ℕ) (target : List Binding) (w : Waiting table index s a at next top found frames depth hit rows order n target) where
   abbrev v : Value
@@ -170,7 +170,7 @@ module _ (table index s a : List ℕ) (at next top : ℕ) (found frames : List �
     all-ways : Alike (onward (task (patternAt (records table) (getD a (3 * at) 0)) (w .value) ∷ w .tasks) (w .binding)) (gather (waysOf table p (w .value)) (oneWay (innerOf table p) (w .tasks) (w .binding)))
     all-ways = subst (Alike (onward (task (patternAt (records table) (getD a (3 * at) 0)) v ∷ ts) b)) (whole table index p (x .composed) v ts b) (onward-alike (patternAt (records table) (getD a (3 * at) 0)) (patternAt (records table) p) v ts b (x .alike v))
 
-    unopened : (frames′ : List ℕ) → length frames′ ≡ length frames → KeptBelow frames frames′ (14 * depth) → gather (waysOf table p (w .value)) (oneWay (innerOf table p) (w .tasks) (w .binding)) ≡ [] → Stacked table index s a entries found frames′ depth hit rows order n [] target
+    unopened : (frames′ : List ℕ) → length frames′ ≡ length frames → KeptBelow frames frames′ (15 * depth) → gather (waysOf table p (w .value)) (oneWay (innerOf table p) (w .tasks) (w .binding)) ≡ [] → Stacked table index s a entries found frames′ depth hit rows order n [] target
     unopened frames′ d k e =
         restacked table index s a top found frames depth hit rows order n (onward (task (patternAt (records table) (getD a (3 * at) 0)) v ∷ ts) b) target (w .stacked) entries top-few found (grown-same found) frames′ d k []
         (subst (Alike (onward (task (patternAt (records table) (getD a (3 * at) 0)) v ∷ ts) b)) e all-ways)
@@ -195,8 +195,8 @@ module _ (table index s a : List ℕ) (at next top : ℕ) (found frames : List �
         pub first-asked : FromHeld k ways sizes
         first-asked = from-asked table index p (x .composed .readable) k ek sizes t v ways (there .1) (there .2)
 
-        module _ (way : ℕ) (fr : From k ways 0 sizes way) (once : Bool) (so : TellsSettled table p found once) (mask : ℕ) (ms : (mask ≡ maskOf found) × (mask < 65536)) where
-          pub frame-fits : FrameFits (framed p at next top way ways mask once sizes)
+        module _ (way : ℕ) (fr : From k ways 0 sizes way) (once : Bool) (so : TellsSettled table p found once) (mask : ℕ) (ms : (mask ≡ maskOf found) × (mask < 65536)) (tests : ℕ) (few : tests < 256) where
+          pub frame-fits : FrameFits (framed p at next top way ways mask once sizes tests)
           frame-fits = record {
             record-small = omega (arith, x .composed .readable .here .within, x .composed .readable .fine .few);
             at-small = omega (arith, w .below, top-few);
@@ -205,6 +205,7 @@ module _ (table index s a : List ℕ) (at next top : ℕ) (found frames : List �
             way-small = omega (arith, fr .within (omega arith), ways-few);
             ways-small = ways-few;
             mask-small = ms .1;
+            tests-small = few;
           }
 
           skipped : gather (drop way (waysOf table p (w .value))) (oneWay (innerOf table p) (w .tasks) (w .binding)) ≡ gather (waysOf table p (w .value)) (oneWay (innerOf table p) (w .tasks) (w .binding))
@@ -213,7 +214,7 @@ module _ (table index s a : List ℕ) (at next top : ℕ) (found frames : List �
           level : Level
           level = record { value = w .value; tasks = w .tasks; binding = w .binding; words = found; done = []; due = gather (drop way (waysOf table p (w .value))) (oneWay (innerOf table p) (w .tasks) (w .binding)) }
 
-          level-is : way < ways → LevelIs table index s a depth (framed p at next top way ways mask once sizes) level
+          level-is : way < ways → LevelIs table index s a depth (framed p at next top way ways mask once sizes tests) level
           unfolding level
           level-is l = record {
             composed = x .composed;
@@ -236,11 +237,11 @@ module _ (table index s a : List ℕ) (at next top : ℕ) (found frames : List �
             done = λ o i. absurd i;
           }
 
-          module _ (frames′ : List ℕ) (r : ℕ) (ad : Advanced frames depth (framed p at next top way ways mask once sizes) frames′ r) where
+          module _ (frames′ : List ℕ) (r : ℕ) (ad : Advanced frames depth (framed p at next top way ways mask once sizes tests) frames′ r) where
             same-due : Alike (onward (task (patternAt (records table) (getD a (3 * at) 0)) (w .value) ∷ w .tasks) (w .binding)) (gather (drop way (waysOf table p (w .value))) (oneWay (innerOf table p) (w .tasks) (w .binding)))
             same-due = subst (Alike (onward (task (patternAt (records table) (getD a (3 * at) 0)) v ∷ ts) b)) (sym skipped) all-ways
 
-            stays : way < ways → frameAt frames′ depth ≡ framed p at next top way ways mask once sizes → Stacked table index s a entries found frames′ (suc depth) hit rows order n [] target
+            stays : way < ways → frameAt frames′ depth ≡ framed p at next top way ways mask once sizes tests → Stacked table index s a entries found frames′ (suc depth) hit rows order n [] target
             unfolding level
             stays l fe =
                 let st = restacked table index s a top found frames depth hit rows order n (onward (task (patternAt (records table) (getD a (3 * at) 0)) v ∷ ts) b) target (w .stacked) top (omega arith) found (grown-same found) frames′ (ad .long) (ad .kept) (gather (drop way (waysOf table p v)) (oneWay (innerOf table p) ts b)) same-due in
@@ -264,7 +265,7 @@ module _ (table index s a : List ℕ) (at next top : ℕ) (found frames : List �
             unfolding gather
             frame-opened = go (ad .how)
               where
-                go : ((r ≡ suc depth) × (way < ways) × (frameAt frames′ depth ≡ framed p at next top way ways mask once sizes)) ⊎ ((r ≡ depth) × (ways ≤ way)) → Stacked table index s a entries found frames′ r hit rows order n [] target
+                go : ((r ≡ suc depth) × (way < ways) × (frameAt frames′ depth ≡ framed p at next top way ways mask once sizes tests)) ⊎ ((r ≡ depth) × (ways ≤ way)) → Stacked table index s a entries found frames′ r hit rows order n [] target
                 go (inl (e, l, fe)) = subst (λ (y : ℕ). Stacked table index s a entries found frames′ y hit rows order n [] target) (sym e) (stays l fe)
                 go (inr (e, l)) =
                     let none : drop way (waysOf table p v) ≡ [] = drop-of-length-le (waysOf table p v) {i = way} (omega (arith, there .1)) in

@@ -30,7 +30,7 @@ flagByte b = cond b 1 0
 
 -- A frame takes so many bytes, and two of the records of a table at least: so many frames, and bytes of them, are enough.
 abbrev pub frameBytes : ℕ
-frameBytes = 14
+frameBytes = 15
 
 abbrev pub mostFrames : ℕ
 mostFrames = mostRecords / 2
@@ -54,6 +54,7 @@ frameOf b = record {
     left = record { least = getD b 10 0; more = eqb (getD b 11 0) 1 };
     right = record { least = getD b 12 0; more = eqb (getD b 13 0) 1 };
   };
+  tests = getD b 14 0;
 }
 
 -- The bytes of frame i, and the frame.
@@ -65,7 +66,7 @@ frameAt a i = frameOf (slotAt a i)
 
 -- A frame with another way next.
 abbrev pub onto : Frame → ℕ → Frame
-onto f e = record { p = f .p; at = f .at; next = f .next; top = f .top; way = e; ways = f .ways; mask = f .mask; once = f .once; sizes = f .sizes }
+onto f e = record { p = f .p; at = f .at; next = f .next; top = f .top; way = e; ways = f .ways; mask = f .mask; once = f .once; sizes = f .sizes; tests = f .tests }
 
 pub record FrameFits (f : Frame) : Type 0 where
   pub record-small : f .p < 256
@@ -75,6 +76,7 @@ pub record FrameFits (f : Frame) : Type 0 where
   pub way-small : f .way < 256
   pub ways-small : f .ways < 256
   pub mask-small : f .mask < 65536
+  pub tests-small : f .tests < 256
 
 pub record SlotPut (a : List ℕ) (i : ℕ) (bytes b : List ℕ) : Type 0 where
   pub here : slotAt b i ≡ bytes

@@ -1,8 +1,9 @@
 -- The agenda as a list linked through an array, and what the functions that go through it ask and promise.
 use mathlib.Core.Path.{_≡_}
-use mathlib.Core.Bool.{true, false}
+use mathlib.Core.Bool.{true, false, cond}
 use mathlib.Core.List.{List, [], _∷_, _++_}
-use Prim.Native.Nat.{ℕ, _+_, _*_, _≤_, _<_}
+use Prim.Native.Nat.{ℕ, _+_, _*_, _/_, _%_, _≤_, _<_}
+use lib.Dec.{eqb}
 use lib.ListN.{length, getD}
 use Rattle.values.specs.Value.{Value}
 use Rattle.tables.specs.Record.{isComposed}
@@ -18,6 +19,7 @@ use Rattle.patterns.specs.Read.{Readable, patternAt}
 use Rattle.matching.specs.Leaf.{Stands, Grown}
 use Rattle.matching.specs.Node.{innerOf, waysOf, metBy}
 use Rattle.forming.specs.Inner.{Composed, countOf, inner}
+use Rattle.forming.specs.declared.Queue.{Queue}
 use Rattle.forming.specs.declared.taking.Left.{Left}
 use Rattle.forming.specs.Onward.{Task, onward, zipped}
 use Rattle.forming.specs.Frames.{KeptBelow, entries, agendaWords}
@@ -44,7 +46,17 @@ spaces (t ∷ ts) = inner (t .what) + spaces ts
 
 -- ---- the parts of a pattern put before the rest
 
-pub record Pushable (table index : List ℕ) (p : ℕ) (s : List ℕ) (word : ℕ) (d : ℕ) (a : List ℕ) (next top : ℕ) : Type 0 where
+-- The units whose bit is b, the first unit's bit being the lowest.
+unfoldable pub withBit : {A : Type 0} → ℕ → ℕ → List A → List A
+withBit m b [] = []
+withBit m b (x ∷ xs) = cond (eqb (m % 2) b) (x ∷ withBit (m / 2) b xs) (withBit (m / 2) b xs)
+
+-- How many parts of pattern p have the bit.
+abbrev pub howMany : List ℕ → ℕ → ℕ → ℕ → ℕ
+howMany table p bits bit = length (withBit bits bit (innerOf table p))
+
+-- There is room for so many parts.
+pub record Pushable (table index : List ℕ) (p : ℕ) (s : List ℕ) (word : ℕ) (d : ℕ) (a : List ℕ) (next top count : ℕ) : Type 0 where
   pub composed : Composed table index p
   pub short : length s ≤ 65536
   pub value : Value
@@ -52,16 +64,30 @@ pub record Pushable (table index : List ℕ) (p : ℕ) (s : List ℕ) (word : �
   pub narrow : isLarge (kindAt (records table) p) value ≡ false
   pub below : d < length (waysOf table p value)
   pub low : next < top
-  pub room : top + countOf table p ≤ entries
+  pub room : top + count ≤ entries
   pub long : length a ≡ agendaWords
 
-pub record Pushed (table index : List ℕ) (p : ℕ) (s : List ℕ) (word : ℕ) (d : ℕ) (a : List ℕ) (next top : ℕ) (b : List ℕ) (r : ℕ) : Type 0 where
+-- The parts that have the bit stand before the rest.
+pub record PushedWhere (table index : List ℕ) (p : ℕ) (s : List ℕ) (word : ℕ) (d : ℕ) (a : List ℕ) (next top bits bit : ℕ) (b : List ℕ) (r : Queue) : Type 0 where
+  pub ends : r .top ≡ top + howMany table p bits bit
+  pub low : r .head < r .top
+  pub none : r .top ≡ top → r .head ≡ next
+  pub kept : KeptBelow a b (3 * top)
+  pub long : length b ≡ length a
+  pub right : (v : Value) (ts : List Task) → PartIs s (unpacked word) v → wide (patternAt (records table) p) v ≡ false → AgendaIs table index s a top next ts
+      → AgendaIs table index s b (r .top) (r .head) (withBit bits bit (zipped (innerOf table p) (metBy table p v d)) ++ ts)
+
+-- All parts do, the tests first.
+abbrev pub testsFirst : ℕ → List Task → List Task → List Task
+testsFirst tests parts ts = withBit tests 1 parts ++ (withBit tests 0 parts ++ ts)
+
+pub record Pushed (table index : List ℕ) (p : ℕ) (s : List ℕ) (word : ℕ) (d : ℕ) (a : List ℕ) (next top tests : ℕ) (b : List ℕ) (r : ℕ) : Type 0 where
   pub low : r < top + countOf table p
   pub none : countOf table p ≡ 0 → r ≡ next
   pub kept : KeptBelow a b (3 * top)
   pub long : length b ≡ length a
   pub right : (v : Value) (ts : List Task) → PartIs s (unpacked word) v → wide (patternAt (records table) p) v ≡ false → AgendaIs table index s a top next ts
-      → AgendaIs table index s b (top + countOf table p) r (zipped (innerOf table p) (metBy table p v d) ++ ts)
+      → AgendaIs table index s b (top + countOf table p) r (testsFirst tests (zipped (innerOf table p) (metBy table p v d)) ts)
 
 -- ---- leaves taken off an agenda
 

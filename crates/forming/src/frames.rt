@@ -11,8 +11,8 @@ ghost use Rattle.forming.specs.Frames.{frameBytes, mostFrames, framesByt
 // A frame takes two of the records of a table at least, so that no more are on the stack.
 const MOST_FRAMES: usize = MOST_RECORDS / 2;
 
-// The bytes of a frame: two for the names, and one for each of the other twelve fields.
-const FRAME_BYTES: usize = 14;
+// The bytes of a frame: two for the names, and one for each of the other thirteen fields.
+const FRAME_BYTES: usize = 15;
 
 pub type Bytes = [u8; FRAME_BYTES];
 
@@ -22,7 +22,8 @@ pub const FRAMES_BYTES: usize = MOST_FRAMES * FRAME_BYTES;
 pub type Frames = [u8; FRAMES_BYTES];
 
 // The record of the pattern; the entry of the agenda that has the part it meets, the entry that follows, and the first that is free; the way that is
-// next, and how many there are; the names that had a value; whether the pattern is only a test; and what its halves take.
+// next, and how many there are; the names that had a value; whether the pattern is only a test; what its halves take; and which of its parts are only
+// tests, a bit for each.
 pub struct Frame {
     pub p: usize,
     pub at: usize,
@@ -33,6 +34,7 @@ pub struct Frame {
     pub mask: usize,
     pub once: bool,
     pub sizes: Sizes,
+    pub tests: usize,
 }
 
 // The bytes of frame i.
@@ -86,6 +88,7 @@ fn frame_of(b: Bytes) -> Frame
         mask: low + 256 * high,
         once: b[8] == 1,
         sizes,
+        tests: b[14] as usize,
     }
 }
 
@@ -133,6 +136,7 @@ fn bytes_of(f: Frame) -> Bytes
         left,
         z.right.least,
         right,
+        f.tests as u8,
     ]
 }
 

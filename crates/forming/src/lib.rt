@@ -25,7 +25,8 @@ use values::Value;
 ghost use Prim.Native.Nat.{_≤_};
 ghost use Rattle.forming.specs.Rows.{EntryHeld};
 ghost use Rattle.forming.specs.Whole.{WordMet, SameValue};
-ghost use Rattle.forming.specs.Pending.{Pushable, Pushed};
+ghost use Rattle.forming.specs.Inner.{countOf};
+ghost use Rattle.forming.specs.Pending.{Pushable, howMany, PushedWhere, Pushed};
 ghost use Rattle.forming.specs.Stack.{OpenHeld, Opened, MatchEntered, DownHeld, WentDown, BackHeld, WentBack, FinishHeld, Finished, Solvable, Solved};
 
 // An agenda is what is still to be matched. An entry is the record of a pattern, the part that it meets, and the entry that follows. Entry 0 is none, one
@@ -55,7 +56,53 @@ pub struct Step {
     pub hit: usize,
 }
 
-// Puts the parts of a pattern, each with what it meets in the way d, before the rest of the agenda.
+// The first entry of an agenda, and the first that is free.
+pub struct Queue {
+    pub head: usize,
+    pub top: usize,
+}
+
+// Puts the parts of a pattern that have this bit among the bits of all, each with what it meets in the way d, before the rest of the agenda.
+fn push_where(
+    table: &[u8],
+    index: &Index,
+    p: usize,
+    s: &[u8],
+    word: u32,
+    d: usize,
+    agenda: &mut Agenda,
+    next: usize,
+    top: usize,
+    bits: usize,
+    bit: usize,
+) -> Queue
+    requires { ⌜ Pushable (now table) (now index) p (now s) word d (now agenda) next top (howMany (now table) p bits bit) ⌝ }
+    ensures { λ r. ⌜ PushedWhere (now (table .entry)) (now (index .entry)) p (now (s .entry)) word d (now (agenda .entry)) next top bits bit (now (agenda .exit)) r ⌝ }
+{
+    let k = kind(table, index, p);
+    let n = operand_count(table, index, p);
+    let part = words::unpack(word);
+    let mut head = next;
+    let mut i = n;
+    let mut to = top;
+    while 0 < i {
+        i -= 1;
+        if (bits >> i) % 2 == bit {
+            let a = nodes::piece(k, n, s, part, d, i);
+            let q = operand(table, index, p, i);
+            let b = words::word_of(s, a);
+            agenda[3 * to] = q as u32;
+            agenda[3 * to + 1] = b;
+            agenda[3 * to + 2] = head as u32;
+            head = to;
+            to += 1;
+        }
+    }
+    Queue { head, top: to }
+}
+
+// Puts the parts of a pattern, each with what it meets in the way d, before the rest of the agenda: first those that are only tests, as one that fails
+// ends the way.
 fn push(
     table: &[u8],
     index: &Index,
@@ -66,28 +113,29 @@ fn push(
     agenda: &mut Agenda,
     next: usize,
     top: usize,
+    tests: usize,
 ) -> usize
-    requires { ⌜ Pushable (now table) (now index) p (now s) word d (now agenda) next top ⌝ }
-    ensures { λ r. ⌜ Pushed (now (table .entry)) (now (index .entry)) p (now (s .entry)) word d (now (agenda .entry)) next top (now (agenda .exit)) r ⌝ }
+    requires { ⌜ Pushable (now table) (now index) p (now s) word d (now agenda) next top (countOf (now table) p) ⌝ }
+    ensures { λ r. ⌜ Pushed (now (table .entry)) (now (index .entry)) p (now (s .entry)) word d (now (agenda .entry)) next top tests (now (agenda .exit)) r ⌝ }
 {
-    let k = kind(table, index, p);
-    let n = operand_count(table, index, p);
-    let part = words::unpack(word);
-    let mut head = next;
-    let mut i = n;
-    let mut to = top;
-    while 0 < i {
-        i -= 1;
-        let a = nodes::piece(k, n, s, part, d, i);
-        let q = operand(table, index, p, i);
-        let b = words::word_of(s, a);
-        agenda[3 * to] = q as u32;
-        agenda[3 * to + 1] = b;
-        agenda[3 * to + 2] = head as u32;
-        head = to;
-        to += 1;
+    let others = push_where(table, index, p, s, word, d, agenda, next, top, tests, 0);
+    if tests == 0 {
+        return others.head;
     }
-    head
+    let all = push_where(
+        table,
+        index,
+        p,
+        s,
+        word,
+        d,
+        agenda,
+        others.head,
+        others.top,
+        tests,
+        1,
+    );
+    all.head
 }
 
 // The word of what a pattern of kind k meets in so many ways: of a whole set that is to be split, the word of its members.
@@ -138,6 +186,7 @@ fn open_frame(
         let way = sizes::way_from(k, ways, 0, sizes);
         let once = settled::is_settled(table, index, p, found);
         let mask = masks::mask_of(found);
+        let tests = settled::tests_of(table, index, p, k, once, found);
         let f = Frame {
             p,
             at,
@@ -148,6 +197,7 @@ fn open_frame(
             mask,
             once,
             sizes,
+            tests,
         };
         return frames::advance(frames, depth, f);
     }
@@ -283,7 +333,7 @@ fn back(
     let way = sizes::way_from(k, f.ways, f.way + 1, f.sizes);
     let left = frames::go_on(frames, i, way, f.ways);
     masks::clear(found, f.mask);
-    let head = push(table, index, p, s, w, f.way, agenda, f.next, f.top);
+    let head = push(table, index, p, s, w, f.way, agenda, f.next, f.top, f.tests);
     down(
         table,
         index,

@@ -9,7 +9,9 @@ use tables::reading::operand_count;
 use tables::shape::is_composed;
 ghost use mathlib.Core.Path.{_≡_};
 ghost use mathlib.Core.Bool.{_||_};
+ghost use Prim.Native.Nat.{_<_};
 ghost use Rattle.patterns.specs.Read.{Readable};
+ghost use Rattle.forming.specs.Inner.{Composed};
 ghost use Rattle.forming.specs.Settled.{TellsSettled, HasWord};
 
 // Every name of a pattern has a value.
@@ -46,6 +48,41 @@ fn has_word(found: &[u32; Env::NAMES], x: usize) -> bool
         return false;
     }
     found[x] != 0
+}
+
+// Which parts of a pattern of kind k are only a test, a bit for each, the first as the lowest. None where all are, and none of two halves.
+pub fn tests_of(
+    table: &[u8],
+    index: &Index,
+    p: usize,
+    k: usize,
+    once: bool,
+    found: &[u32; Env::NAMES],
+) -> usize
+    requires { ⌜ Composed (now table) (now index) p ⌝ }
+    ensures { λ r. ⌜ r < 256 ⌝ }
+{
+    if once {
+        return 0;
+    }
+    if k == kinds::UNION_PATTERN {
+        return 0;
+    }
+    if k == kinds::CONCATENATION_PATTERN {
+        return 0;
+    }
+    let mut tests = 0;
+    let mut i = operand_count(table, index, p);
+    while 0 < i {
+        i -= 1;
+        let q = operand(table, index, p, i);
+        let settled = is_settled(table, index, q, found);
+        tests *= 2;
+        if settled {
+            tests += 1;
+        }
+    }
+    tests
 }
 
 // At least one of two tests holds.

@@ -15,6 +15,7 @@ use Rattle.forming.proofs.frames.advance.Reads as advance-reads
 use Rattle.forming.proofs.masks.mask_of.Reads as mask-of-reads
 use Rattle.forming.proofs.reduced.reduced.Reads as reduced-reads
 use Rattle.forming.proofs.settled.is_settled.Reads as is-settled-reads
+use Rattle.forming.proofs.settled.tests_of.Reads as tests-of-reads
 use Rattle.forming.proofs.sizes.sizes_of.Reads as sizes-of-reads
 use Rattle.forming.proofs.sizes.way_from.Reads as way-from-reads
 use Rattle.matching.proofs.nodes.meet.Reads as meet-reads
@@ -76,11 +77,14 @@ is-settled-requires c κs = c .before .before .before .before .before .before .b
 mask-of-requires : tie.Need-mask-of-requires
 mask-of-requires c κs = c .before .before .before .before .before .before .before .before .before .before .before .before .before .before .before .pre .waiting .stacked .sized
 
+tests-of-requires : tie.Need-tests-of-requires
+tests-of-requires c κs = c .before .before .before .before .before .before .before .before .before .before .before .reduced .ensures .composed
+
 advance-requires : tie.Need-advance-requires
-advance-requires c κs = (depth-few _ _ _ _ _ _ _ _ _ _ _ _ _ _ _ (c .before .before .before .before .before .before .before .before .before .before .before .before .before .before .before .before .before .pre .waiting), c .before .before .before .before .before .before .before .before .before .before .before .before .before .before .before .before .before .pre .waiting .stacked .frames-long, frame-fits _ _ _ _ _ _ _ _ _ _ _ _ _ _ _ (c .before .before .before .before .before .before .before .before .before .before .before .before .before .before .before .before .before .pre .waiting) _ (c .before .before .before .before .before .before .before .before .before .before .before .before .reduced .ensures) (c .before .before .before .before .before .before .before .before .meet .result) (met-as _ _ _ _ _ _ _ _ _ _ _ _ _ _ _ (c .before .before .before .before .before .before .before .before .before .before .before .before .before .before .before .before .before .pre .waiting) _ (c .before .before .before .before .before .before .before .before .before .before .before .before .reduced .ensures) _ _ _ (c .before .before .before .before .before .before .before .before .meet .result) (c .before .before .before .before .before .before .before .before .before .before .before .kind .ensures .0) (c .before .before .before .before .before .before .before .before .before .before .operand-count .ensures .0) (c .before .before .before .before .before .before .before .before .before .unpack .ensures) (c .before .before .before .before .before .before .before .before .meet .ensures)) _ (c .before .before .before .before .before .before .m .given .1) _ (c .before .before .before .before .before .before .before .before .before .before .before .kind .ensures .0) _ (c .before .before .before .before .sizes-of .ensures) _ (c .before .before .before .way-from .ensures) _ (c .before .before .is-settled .ensures) _ (c .before .mask-of .ensures))
+advance-requires c κs = (depth-few _ _ _ _ _ _ _ _ _ _ _ _ _ _ _ (c .before .before .before .before .before .before .before .before .before .before .before .before .before .before .before .before .before .before .pre .waiting), c .before .before .before .before .before .before .before .before .before .before .before .before .before .before .before .before .before .before .pre .waiting .stacked .frames-long, frame-fits _ _ _ _ _ _ _ _ _ _ _ _ _ _ _ (c .before .before .before .before .before .before .before .before .before .before .before .before .before .before .before .before .before .before .pre .waiting) _ (c .before .before .before .before .before .before .before .before .before .before .before .before .before .reduced .ensures) (c .before .before .before .before .before .before .before .before .before .meet .result) (met-as _ _ _ _ _ _ _ _ _ _ _ _ _ _ _ (c .before .before .before .before .before .before .before .before .before .before .before .before .before .before .before .before .before .before .pre .waiting) _ (c .before .before .before .before .before .before .before .before .before .before .before .before .before .reduced .ensures) _ _ _ (c .before .before .before .before .before .before .before .before .before .meet .result) (c .before .before .before .before .before .before .before .before .before .before .before .before .kind .ensures .0) (c .before .before .before .before .before .before .before .before .before .before .before .operand-count .ensures .0) (c .before .before .before .before .before .before .before .before .before .before .unpack .ensures) (c .before .before .before .before .before .before .before .before .before .meet .ensures)) _ (c .before .before .before .before .before .before .before .m .given .1) _ (c .before .before .before .before .before .before .before .before .before .before .before .before .kind .ensures .0) _ (c .before .before .before .before .before .sizes-of .ensures) _ (c .before .before .before .before .way-from .ensures) _ (c .before .before .before .is-settled .ensures) _ (c .before .before .mask-of .ensures) _ (c .before .tests-of .ensures))
 
 returns : tie.Need-returns
-returns c = record { right = λ hit rows order n target w. frame-opened _ _ _ _ _ _ _ _ _ _ _ _ _ _ _ w _ (c .before .before .before .before .before .before .before .before .before .before .before .before .before .reduced .ensures) (c .before .before .before .before .before .before .before .before .before .meet .result) (met-as _ _ _ _ _ _ _ _ _ _ _ _ _ _ _ w _ (c .before .before .before .before .before .before .before .before .before .before .before .before .before .reduced .ensures) _ _ _ (c .before .before .before .before .before .before .before .before .before .meet .result) (c .before .before .before .before .before .before .before .before .before .before .before .before .kind .ensures .0) (c .before .before .before .before .before .before .before .before .before .before .before .operand-count .ensures .0) (c .before .before .before .before .before .before .before .before .before .before .unpack .ensures) (c .before .before .before .before .before .before .before .before .before .meet .ensures)) _ (c .before .before .before .before .before .before .before .m .given .1) _ (c .before .before .before .before .before .before .before .before .before .before .before .before .kind .ensures .0) _ (c .before .before .before .before .before .sizes-of .ensures) _ (c .before .before .before .before .way-from .ensures) _ (c .before .before .before .is-settled .ensures) _ (c .before .before .mask-of .ensures) _ _ (c .advance .ensures); less = opened-less _ _ (depth-few _ _ _ _ _ _ _ _ _ _ _ _ _ _ _ (c .before .before .before .before .before .before .before .before .before .before .before .before .before .before .before .before .before .before .pre .waiting)) (c .before .before .before .before .before .before .before .before .before .before .before .before .before .before .before .before .before .before .pre .waiting .stacked .frames-long) _ _ _ (c .advance .ensures) (ways-few _ _ _ _ _ _ _ _ _ _ _ _ _ _ _ (c .before .before .before .before .before .before .before .before .before .before .before .before .before .before .before .before .before .before .pre .waiting) _ (c .before .before .before .before .before .before .before .before .before .before .before .before .before .reduced .ensures) (c .before .before .before .before .before .before .before .before .before .meet .result) (met-as _ _ _ _ _ _ _ _ _ _ _ _ _ _ _ (c .before .before .before .before .before .before .before .before .before .before .before .before .before .before .before .before .before .before .pre .waiting) _ (c .before .before .before .before .before .before .before .before .before .before .before .before .before .reduced .ensures) _ _ _ (c .before .before .before .before .before .before .before .before .before .meet .result) (c .before .before .before .before .before .before .before .before .before .before .before .before .kind .ensures .0) (c .before .before .before .before .before .before .before .before .before .before .before .operand-count .ensures .0) (c .before .before .before .before .before .before .before .before .before .before .unpack .ensures) (c .before .before .before .before .before .before .before .before .before .meet .ensures)) _ (c .before .before .before .before .before .before .before .m .given .1) _ (c .before .before .before .before .before .before .before .before .before .before .before .before .kind .ensures .0) _ (c .before .before .before .before .before .sizes-of .ensures)) }
+returns c = record { right = λ hit rows order n target w. frame-opened _ _ _ _ _ _ _ _ _ _ _ _ _ _ _ w _ (c .before .before .before .before .before .before .before .before .before .before .before .before .before .before .reduced .ensures) (c .before .before .before .before .before .before .before .before .before .before .meet .result) (met-as _ _ _ _ _ _ _ _ _ _ _ _ _ _ _ w _ (c .before .before .before .before .before .before .before .before .before .before .before .before .before .before .reduced .ensures) _ _ _ (c .before .before .before .before .before .before .before .before .before .before .meet .result) (c .before .before .before .before .before .before .before .before .before .before .before .before .before .kind .ensures .0) (c .before .before .before .before .before .before .before .before .before .before .before .before .operand-count .ensures .0) (c .before .before .before .before .before .before .before .before .before .before .before .unpack .ensures) (c .before .before .before .before .before .before .before .before .before .before .meet .ensures)) _ (c .before .before .before .before .before .before .before .before .m .given .1) _ (c .before .before .before .before .before .before .before .before .before .before .before .before .before .kind .ensures .0) _ (c .before .before .before .before .before .before .sizes-of .ensures) _ (c .before .before .before .before .before .way-from .ensures) _ (c .before .before .before .before .is-settled .ensures) _ (c .before .before .before .mask-of .ensures) _ (c .before .before .tests-of .ensures) _ _ (c .advance .ensures); less = opened-less _ _ (depth-few _ _ _ _ _ _ _ _ _ _ _ _ _ _ _ (c .before .before .before .before .before .before .before .before .before .before .before .before .before .before .before .before .before .before .before .pre .waiting)) (c .before .before .before .before .before .before .before .before .before .before .before .before .before .before .before .before .before .before .before .pre .waiting .stacked .frames-long) _ _ _ (c .advance .ensures) (ways-few _ _ _ _ _ _ _ _ _ _ _ _ _ _ _ (c .before .before .before .before .before .before .before .before .before .before .before .before .before .before .before .before .before .before .before .pre .waiting) _ (c .before .before .before .before .before .before .before .before .before .before .before .before .before .before .reduced .ensures) (c .before .before .before .before .before .before .before .before .before .before .meet .result) (met-as _ _ _ _ _ _ _ _ _ _ _ _ _ _ _ (c .before .before .before .before .before .before .before .before .before .before .before .before .before .before .before .before .before .before .before .pre .waiting) _ (c .before .before .before .before .before .before .before .before .before .before .before .before .before .before .reduced .ensures) _ _ _ (c .before .before .before .before .before .before .before .before .before .before .meet .result) (c .before .before .before .before .before .before .before .before .before .before .before .before .before .kind .ensures .0) (c .before .before .before .before .before .before .before .before .before .before .before .before .operand-count .ensures .0) (c .before .before .before .before .before .before .before .before .before .before .before .unpack .ensures) (c .before .before .before .before .before .before .before .before .before .before .meet .ensures)) _ (c .before .before .before .before .before .before .before .before .m .given .1) _ (c .before .before .before .before .before .before .before .before .before .before .before .before .before .kind .ensures .0) _ (c .before .before .before .before .before .before .sizes-of .ensures)) }
 
 returns-2 : tie.Need-returns-2
 returns-2 c = record { right = λ hit rows order n target w. no-ways _ _ _ _ _ _ _ _ _ _ _ _ _ _ _ w _ (c .before .before .before .before .before .reduced .ensures) (c .before .meet .result) (met-as _ _ _ _ _ _ _ _ _ _ _ _ _ _ _ w _ (c .before .before .before .before .before .reduced .ensures) _ _ _ (c .before .meet .result) (c .before .before .before .before .kind .ensures .0) (c .before .before .before .operand-count .ensures .0) (c .before .before .unpack .ensures) (c .before .meet .ensures)) (λ k d. ⊎-elim (λ x. let e = rw d at x in omega arith) (λ x. let e = rw d at x in omega arith) (c .match .keys2)); less = not-opened-less _ _ _ }
@@ -107,6 +111,7 @@ open-frame-spec =
     way-from-requires
     is-settled-requires
     mask-of-requires
+    tests-of-requires
     advance-requires
     returns
     returns-2)

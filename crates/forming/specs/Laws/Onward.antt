@@ -42,19 +42,22 @@ pub onward-first : (p : Pattern) (v : Value) (ts : List Task) (b : Binding) → 
 unfolding matchesAll
 onward-first p v ts b = sym (together-with b (matches p v) (matchesAll ts))
 
--- what is put together with the same is the same
-pub together-alike : (xs ys ds : List Binding) → Alike xs ys → Alike (together xs ds) (together ys ds)
-together-alike xs ys ds h c = (go xs ys (λ x i. h x .0 i), go ys xs (λ x i. h x .1 i))
+pub alike-same : (xs : List Binding) → Alike xs xs
+alike-same xs c = (λ i. i, λ i. i)
+
+-- what is put together of the same is the same
+pub together-alike : (xs ys ds es : List Binding) → Alike xs ys → Alike ds es → Alike (together xs ds) (together ys es)
+together-alike xs ys ds es h k c = (go xs ys ds es (λ x i. h x .0 i) (λ x i. k x .0 i), go ys xs es ds (λ x i. h x .1 i) (λ x i. k x .1 i))
   where
-    go : (us ws : List Binding) → ((x : Binding) → In x us → In x ws) → In c (together us ds) → In c (together ws ds)
-    go us ws f i =
-        let (a, d, m, n, t, e) = in-together c us ds i in
-        subst (λ (x : Binding). In x (together ws ds)) (sym e) (together-in a d ws ds (f a m) n t)
+    go : (us ws gs hs : List Binding) → ((x : Binding) → In x us → In x ws) → ((x : Binding) → In x gs → In x hs) → In c (together us gs) → In c (together ws hs)
+    go us ws gs hs f g i =
+        let (a, d, m, n, t, e) = in-together c us gs i in
+        subst (λ (x : Binding). In x (together ws hs)) (sym e) (together-in a d ws hs (f a m) (g d n) t)
 
 -- THEOREM: a pattern that gives one binding goes on with it
 pub onward-went : (p : Pattern) (v : Value) (ts : List Task) (b q : Binding) → Alike (withEach b (matches p v)) (q ∷ []) → Alike (onward (task p v ∷ ts) b) (onward ts q)
 onward-went p v ts b q h c =
-    let a = together-alike (withEach b (matches p v)) (q ∷ []) (matchesAll ts) h c in (
+    let a = together-alike (withEach b (matches p v)) (q ∷ []) (matchesAll ts) (matchesAll ts) h (alike-same (matchesAll ts)) c in (
       λ i. subst (In c) (one-together q (matchesAll ts)) (a .0 (subst (In c) (onward-first p v ts b) i)),
       λ i. subst (In c) (sym (onward-first p v ts b)) (a .1 (subst (In c) (sym (one-together q (matchesAll ts))) i)),
     )

@@ -1,4 +1,5 @@
 use mathlib.Core.Path.{refl}
+use native.Mathlib.Omega.{arith}
 use Rattle.forming.proofs.Framing.{packed}
 use borrow.Author.Needs.{needs}
 use Rattle.forming.proofs.frames.bytes_of.Statement.{statement}
@@ -43,8 +44,11 @@ cast-t14 c = search needs
 cast-t17 : tie.Need-cast-t17
 cast-t17 c = search needs
 
+cast-t18 : tie.Need-cast-t18
+cast-t18 c = omega (arith, c .before .before .before .before .before .before .before .before .before .before .before .before .before .before .pre .tests-small)
+
 returns : tie.Need-returns
-returns c = (packed _ (c .before .before .before .before .before .before .before .before .before .before .before .before .before .pre) _ _ _ _ (c .before .before .before .before .before .before .before .before .before .before .before .flag .ensures) (c .before .before .before .before .before .before .before .before .before .before .flag2 .ensures) (c .before .before .before .before .before .before .before .before .before .flag3 .ensures) (c .before .before .before .before .before .before .before .before .flag4 .ensures), refl)
+returns c = (packed _ (c .before .before .before .before .before .before .before .before .before .before .before .before .before .before .pre) _ _ _ _ (c .before .before .before .before .before .before .before .before .before .before .before .before .flag .ensures) (c .before .before .before .before .before .before .before .before .before .before .before .flag2 .ensures) (c .before .before .before .before .before .before .before .before .before .before .flag3 .ensures) (c .before .before .before .before .before .before .before .before .before .flag4 .ensures), refl)
 
 pub bytes-of-spec : {M : Type 1} → statement M
 bytes-of-spec =
@@ -62,4 +66,5 @@ bytes-of-spec =
     cast-t12
     cast-t14
     cast-t17
+    cast-t18
     returns)

@@ -78,6 +78,12 @@ add-t48 c = search needs
 array-read-t51 : tie.Need-array-read-t51
 array-read-t51 c = search needs
 
+array-read-t54 : tie.Need-array-read-t54
+array-read-t54 c = search needs
+
+cast-t55 : tie.Need-cast-t55
+cast-t55 c = search needs
+
 returns : tie.Need-returns
 returns c = rw (c .before .wide .ensures .0, c .wide2 .ensures .0) refl
 
@@ -109,4 +115,6 @@ frame-of-spec =
     mul-t47
     add-t48
     array-read-t51
+    array-read-t54
+    cast-t55
     returns)
