@@ -19,8 +19,21 @@ pub fn at_limits() -> Vec<(&'static str, Vec<u8>)> {
         ("map of 513 bytes", build(|b| map_and(b, kind::BOOLEAN))),
         ("tuple of 512 bytes", build(|b| tuple_and(b, false))),
         ("tuple of 513 bytes", build(|b| tuple_and(b, true))),
+        ("no member under a union pattern", build(|b| splits(b, 0))),
+        ("1 member under a union pattern", build(|b| splits(b, 1))),
+        ("2 members under a union pattern", build(|b| splits(b, 2))),
         ("7 members under a union pattern", build(|b| splits(b, 7))),
         ("8 members under a union pattern", build(|b| splits(b, 8))),
+        ("126 × 2 bindings of two unions", build(|b| unions(b, 7, 2))),
+        ("30 × 14 bindings of two unions", build(|b| unions(b, 5, 4))),
+        (
+            "5 × 51 bindings of a union and a concatenation",
+            build(|b| union_and_cut(b, 5, 50)),
+        ),
+        (
+            "4 × 64 bindings of a union and a concatenation",
+            build(|b| union_and_cut(b, 4, 63)),
+        ),
         ("64 choices", build(|b| choices(b, 64))),
         ("65 choices", build(|b| choices(b, 65))),
         ("height 32", build(|b| height(b, 32))),
@@ -94,10 +107,15 @@ fn empty_or_true(b: &mut Builder, more: u16) -> usize {
 
 /// [1,...,n] by a comprehension over name 0.
 fn numbers(b: &mut Builder, most: i32) -> usize {
+    items(b, most, |b| b.name(0))
+}
+
+/// So many items by a comprehension over name 0.
+fn items(b: &mut Builder, count: i32, item: fn(&mut Builder) -> usize) -> usize {
     let pattern = b.p_name(0);
-    let set = b.range(1, most);
+    let set = b.range(1, count);
     let condition = b.boolean(true);
-    let element = b.name(0);
+    let element = item(b);
     b.node(
         kind::SEQUENCE_COMPREHENSION,
         &[pattern, set, condition, element],
@@ -148,6 +166,38 @@ fn splits(b: &mut Builder, members: i32) -> usize {
     let half = b.name(0);
     let body = b.unary(unary::CARD, half);
     b.node(kind::LET, &[pattern, set, body])
+}
+
+/// let mk_(a union b, c union d) = mk_({1,...,n},{1,...,m}) in mk_(card a, card c): a set of n members has 2^n - 2 splits.
+fn unions(b: &mut Builder, left: i32, right: i32) -> usize {
+    let halves = [b.p_name(1), b.p_name(2)];
+    let one = b.node(kind::P_UNION, &halves);
+    let halves = [b.p_name(3), b.p_name(4)];
+    let other = b.node(kind::P_UNION, &halves);
+    let pattern = b.node(kind::P_TUPLE, &[one, other]);
+    let pair = [b.range(1, left), b.range(1, right)];
+    let value = b.node(kind::TUPLE, &pair);
+    let cards = [1, 3].map(|name| {
+        let half = b.name(name);
+        b.unary(unary::CARD, half)
+    });
+    let body = b.node(kind::TUPLE, &cards);
+    b.node(kind::LET, &[pattern, value, body])
+}
+
+/// let mk_({a} union b, c ^ d) = mk_({1,...,n},[true,...,true]) in mk_(a, len c): n splits and as many cuts as items, and one.
+fn union_and_cut(b: &mut Builder, members: i32, count: i32) -> usize {
+    let member = b.p_name(1);
+    let halves = [b.node(kind::P_SET, &[member]), b.p_name(2)];
+    let one = b.node(kind::P_UNION, &halves);
+    let halves = [b.p_name(3), b.p_name(4)];
+    let other = b.node(kind::P_CONCATENATION, &halves);
+    let pattern = b.node(kind::P_TUPLE, &[one, other]);
+    let pair = [b.range(1, members), items(b, count, |b| b.boolean(true))];
+    let value = b.node(kind::TUPLE, &pair);
+    let shown = [b.name(1), size(b, 3)];
+    let body = b.node(kind::TUPLE, &shown);
+    b.node(kind::LET, &[pattern, value, body])
 }
 
 /// A sum of 63 choices within a comprehension and of the rest beside it.

@@ -1,4 +1,5 @@
-//! How much stack the services need: the deepest sheets and those with the most patterns run in a thread that has 64 KB of it (docs/PERFORMANCE.md says which take how much).
+//! How much stack the services need: the deepest sheets and those with the most patterns run in a thread that has 64 KB of it (docs/PERFORMANCE.md says
+//! which take how much).
 
 use generator::{accepted, at_limits, deepest, widest};
 use sheets::lent::{self, SCRATCH_SIZE};

@@ -1,5 +1,5 @@
-//! Lets and let-bes whose bindings are formed and counted: with an empty list a run ends in 32 once they are, or in 30. An exists whose first binding settles it
-//! takes what forming them takes, and no more; a let-be tests every binding, window by window.
+//! Lets and let-bes whose bindings are formed and counted: with an empty list a run ends in 32 once they are, or in 30, or in 23 where there is none. An
+//! exists whose first binding settles it takes what forming them takes, and no more; a let-be tests every binding, window by window.
 
 #[allow(dead_code)]
 #[path = "../../tests/patterns/pattern.rs"]

@@ -92,6 +92,23 @@ impl Maker {
         Pattern::union(left, half(self))
     }
 
+    /// Unions within each other in any shape, of so many parts that are none; of these some are sets of a union again.
+    pub fn tree_of_unions(&mut self, parts: usize) -> Pattern {
+        if parts > 1 {
+            let left = 1 + self.random.below(parts - 1);
+            let right = parts - left;
+            return Pattern::union(self.tree_of_unions(left), self.tree_of_unions(right));
+        }
+        let count = 1 + self.random.below(3);
+        match self.random.below(12) {
+            0..=3 => self.name_or_any(),
+            4 | 5 => Pattern::Any,
+            6..=9 => Pattern::Set((0..count).map(|_| self.simple()).collect()),
+            10 => Pattern::Set(vec![Pattern::union(self.name_or_any(), self.name_or_any())]),
+            _ => self.pattern(1),
+        }
+    }
+
     fn concatenation(&mut self, height: usize) -> Pattern {
         let half = |maker: &mut Maker| match maker.random.below(9) {
             0..=2 if height > 1 => maker.sequence_pattern(height - 1),

@@ -7,8 +7,9 @@ use super::*;
 use reference::answer::WIDE_UNION;
 use std::collections::{BTreeMap, BTreeSet};
 
-/// The most ways of a case times its bindings: all are gone over for each binding that is shown.
+/// The most ways of a case times its bindings: all are gone over for each binding that is shown. Trees of unions have more of them.
 const MOST_STEPS: usize = 2_000;
+const MOST_STEPS_OF_TREES: usize = 20_000;
 
 /// How many cases of each sort were compared.
 #[derive(Debug, Default)]
@@ -34,9 +35,9 @@ struct Tally {
 
 impl Tally {
     /// Compares a case, unless it is too large for a table or has too many ways.
-    fn compare(&mut self, case: &Case) {
+    fn compare(&mut self, case: &Case, most_steps: usize) {
         let bindings = case.expected.as_ref().map_or(0, Vec::len);
-        if case.ways(MOST_STEPS) * (bindings + 1) > MOST_STEPS || !case.fits() {
+        if case.ways(most_steps) * (bindings + 1) > most_steps || !case.fits() {
             self.left_out += 1;
             return;
         }
@@ -92,7 +93,30 @@ fn compare_random(seed: u64, cases: usize, once_damaged_in: usize) -> Tally {
         let kind = maker.random.pick(&[kind::LET, others]);
         let value = maker.offer(kind, &pattern, once_damaged_in);
         if value.size() <= Value::MAX_SIZE {
-            tally.compare(&Case::new(kind, &pattern, &value));
+            tally.compare(&Case::new(kind, &pattern, &value), MOST_STEPS);
+        }
+    }
+    println!("{tally:?}");
+    tally
+}
+
+/// Compares cases of random trees of unions, one by itself or two in a tuple.
+fn compare_trees(seed: u64, cases: usize) -> Tally {
+    let mut maker = Maker::new(seed);
+    let mut tally = Tally::default();
+    for _ in 0..cases {
+        maker.names = maker.random.pick(&[3, 16, 16]);
+        let parts = 2 + maker.random.below(4);
+        let mut pattern = maker.tree_of_unions(parts);
+        if maker.random.once_in(3) {
+            let parts = 2 + maker.random.below(2);
+            pattern = Pattern::Tuple(vec![pattern, maker.tree_of_unions(parts)]);
+        }
+        let others = maker.random.pick(&BINDERS);
+        let kind = maker.random.pick(&[kind::LET, others]);
+        let value = maker.offer(kind, &pattern, 6);
+        if value.size() <= Value::MAX_SIZE {
+            tally.compare(&Case::new(kind, &pattern, &value), MOST_STEPS_OF_TREES);
         }
     }
     println!("{tally:?}");
@@ -124,4 +148,17 @@ fn damaged_values() {
     assert!(tally.wide > 40, "{tally:?}");
     assert!(tally.bindings > 4000, "{tally:?}");
     tally.expect_kinds(BINDERS.into_iter().chain(32..=40), 60);
+}
+
+#[test]
+fn trees_of_unions() {
+    let tally = compare_trees(503, 4000);
+    assert!(tally.matched > 500, "{tally:?}");
+    assert!(tally.several > 400, "{tally:?}");
+    assert!(tally.repeated > 40, "{tally:?}");
+    assert!(tally.unmatched > 500, "{tally:?}");
+    assert!(tally.wide > 200, "{tally:?}");
+    assert!(tally.many > 50, "{tally:?}");
+    assert!(tally.bindings > 9000, "{tally:?}");
+    tally.expect_kinds(BINDERS.into_iter(), 20);
 }
