@@ -174,19 +174,8 @@ fn push(
     }
     let others = push_where(table, index, p, s, word, d, agenda, next, top, tests, 0);
     let head = others.head;
-    let all = push_where(
-        table,
-        index,
-        p,
-        s,
-        word,
-        d,
-        agenda,
-        head,
-        others.top,
-        tests,
-        1,
-    );
+    let free = others.top;
+    let all = push_where(table, index, p, s, word, d, agenda, head, free, tests, 1);
     all.head
 }
 
