@@ -32,7 +32,7 @@ use Rattle.forming.specs.declared.Queue.{Queue}
 use Rattle.forming.specs.Frames.{KeptBelow, entries}
 use Rattle.forming.specs.Onward.{Task, task, zipped}
 use Rattle.forming.specs.Inner.{Composed, countOf}
-use Rattle.forming.specs.Pending.{Pending, AgendaIs, withBit, howMany, testsFirst, Pushable, PartPushable, PartPushed, PushedWhere, Pushed}
+use Rattle.forming.specs.Pending.{AgendaIs, withBit, howMany, testsFirst, Pushable, PartPushable, PartPushed, PushedWhere, Pushed}
 use Rattle.forming.proofs.Joining.{with-is, with-not, no-bits, fewer-on, by-bits, shared-length}
 
 -- ---- the agenda is kept where nothing below its top changed
