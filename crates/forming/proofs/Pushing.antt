@@ -8,7 +8,7 @@ use native.Mathlib.Numerals.{add-one}
 use native.Mathlib.Omega.{arith}
 use lib.ListN.{length, getD, set, drop, drop-of-length-le, length-set}
 use lib.Seq.{drop-cons, getD-set-same, getD-set-other}
-use lib.Pow.{shr-shr}
+use lib.Pow.{shr-shr, shr-le}
 use Rattle.prelude.proofs.Absurd.{impossible}
 use Rattle.prelude.proofs.Lists.{map-at}
 use Rattle.prelude.proofs.Truth.{or-false-left, or-false-right}
@@ -32,7 +32,7 @@ use Rattle.forming.specs.declared.Queue.{Queue}
 use Rattle.forming.specs.Frames.{KeptBelow, entries}
 use Rattle.forming.specs.Onward.{Task, task, zipped}
 use Rattle.forming.specs.Inner.{Composed, countOf}
-use Rattle.forming.specs.Pending.{Pending, AgendaIs, withBit, howMany, testsFirst, Pushable, PushedWhere, Pushed}
+use Rattle.forming.specs.Pending.{AgendaIs, withBit, howMany, testsFirst, Pushable, PartPushable, PartPushed, PushedWhere, Pushed}
 use Rattle.forming.proofs.Joining.{with-is, with-not, no-bits, fewer-on, by-bits, shared-length}
 
 -- ---- the agenda is kept where nothing below its top changed
@@ -128,25 +128,79 @@ module _ (table index : List ℕ) (p : ℕ) (r : Composed table index p) where
         (exists-at (waysOf table p v) (λ vs. wideEach (patternsOf (innerOf table p)) vs) d [] (or-false-right (isLarge (kindAt (records table) p) v) (exists (waysOf table p v) (λ vs. wideEach (patternsOf (innerOf table p)) vs)) (sym (wide-by v) ∙ w)) l)
         (omega (arith, inner-length table index p (r .readable))) (omega (arith, met-long))
 
+-- ---- one part
+
+module _ (table index : List ℕ) (p k n : ℕ) (s : List ℕ) (part : Part) (d i : ℕ) (a : List ℕ) (next top : ℕ) (g : PartPushable table index p k n s part d i a next top) where
+  abbrev h : Pushable table index p s part d a next top 1
+  h = g .held
+
+  pub piece-asked : PieceHeld k n s part d i
+  piece-asked = rw (g .of-kind, g .counted) (record {
+    composed = h .composed .composed;
+    few = count-few table index p (h .composed .readable) (h .composed .composed);
+    two = two table index p (h .composed);
+    value = h .value;
+    here = h .here;
+    narrow = h .narrow;
+    below = h .below;
+    within = g .within;
+    short = h .short;
+  })
+
+  module _ (part′ : Part) (o : PieceOf k n s part d i part′) where
+    piece-is : (v : Value) → PartIs s part v → PartIs s part′ (getD (metBy table p v d) i (boolean true))
+    piece-is v q =
+        subst (λ (c : ℕ). PartIs s part′ (getD (getD (meetings c (countOf table p) v) d []) i (boolean true))) (g .of-kind)
+        (subst (λ (c : ℕ). PartIs s part′ (getD (getD (meetings k c v) d []) i (boolean true))) (g .counted) (o v (boolean true) q))
+
+    pub piece-held : CellHeld s part′
+    piece-held = (is (getD (metBy table p (h .value) d) i (boolean true)), inr (getD (metBy table p (h .value) d) i (boolean true), refl, piece-is (h .value) (h .here)))
+
+    pub part-pushed : (q : ℕ) → q ≡ operand (recordAt (records table) p) i → (cell : ℕ) → WordOf s part′ cell → PartPushed table index p s part d i a next top (set (set (set a (3 * top) q) (3 * top + 1) cell) (3 * top + 2) next)
+    part-pushed q b cell pk = record { kept = put .kept; long = put .long; right = go }
+      where
+        put : EntryPut a (set (set (set a (3 * top) q) (3 * top + 1) cell) (3 * top + 2) next) (3 * top) q cell next
+        put = entry-put a (3 * top) q cell next (omega (arith, h .long, h .room))
+
+        go : (v : Value) (ts : List Task) → PartIs s part v → wide (patternAt (records table) p) v ≡ false → AgendaIs table index s a top next ts
+            → AgendaIs table index s (set (set (set a (3 * top) q) (3 * top + 1) cell) (3 * top + 2) next) (top + 1) top (task (getD (innerOf table p) i any) (getD (metBy table p v d) i (boolean true)) ∷ ts)
+        go v ts z u f =
+            let below : d < length (waysOf table p v) = subst (λ (e : Value). d < length (waysOf table p e)) (sym (part-one z (h .here))) (h .below) in
+            let it : getD (innerOf table p) i any ≡ patternAt (records table) q = map-at (patternAt (records table)) (operandsOf (recordAt (records table) p)) i 0 any (g .within) ∙ ap (patternAt (records table)) (sym b) in (
+              record {
+                some = omega (arith, h .low);
+                below = omega arith;
+                falls = omega (arith, put .third, h .low);
+                readable = subst (Readable table index) (sym (put .first)) (operand-readable table index p (h .composed .readable) i (g .within) q b .0);
+                pattern = it ∙ ap (patternAt (records table)) (sym (put .first));
+                here = subst (λ (e : ℕ). PartIs s (unpacked e) (getD (metBy table p v d) i (boolean true))) (sym (put .second)) (packed-part s part′ cell (getD (metBy table p v d) i (boolean true)) pk (piece-is v z));
+                narrow = narrow-part table index p (h .composed) v d below u i (g .within);
+              },
+              subst (λ (e : ℕ). AgendaIs table index s (set (set (set a (3 * top) q) (3 * top + 1) cell) (3 * top + 2) next) (top + 1) e ts) (sym (put .third))
+                  (agenda-kept table index s a (set (set (set a (3 * top) q) (3 * top + 1) cell) (3 * top + 2) next) top (top + 1) next ts (omega arith) (put .kept) f),
+            )
+
 -- ---- one after the other, the last first
 
 -- The parts from i on that have the bit stand before the rest.
-pub record PushSoFar (table index : List ℕ) (p : ℕ) (s : List ℕ) (word : ℕ) (d : ℕ) (a : List ℕ) (next top bits bit : ℕ) (b : List ℕ) (head i to : ℕ) : Type 0 where
+pub record PushSoFar (table index : List ℕ) (p : ℕ) (s : List ℕ) (part : Part) (d : ℕ) (a : List ℕ) (next top bits bit : ℕ) (b : List ℕ) (head i to : ℕ) : Type 0 where
   pub within : i ≤ countOf table p
   pub ends : to ≡ top + length (withBit (bits / 2 ^ i) bit (drop i (innerOf table p)))
+  pub room : to ≤ entries
   pub low : head < to
   pub none : to ≡ top → head ≡ next
   pub kept : KeptBelow a b (3 * top)
   pub long : length b ≡ length a
-  pub right : (v : Value) (ts : List Task) → PartIs s (unpacked word) v → wide (patternAt (records table) p) v ≡ false → AgendaIs table index s a top next ts
+  pub right : (v : Value) (ts : List Task) → PartIs s part v → wide (patternAt (records table) p) v ≡ false → AgendaIs table index s a top next ts
       → AgendaIs table index s b to head (withBit (bits / 2 ^ i) bit (zipped (drop i (innerOf table p)) (drop i (metBy table p v d))) ++ ts)
 
-module _ (table index : List ℕ) (p : ℕ) (s : List ℕ) (word : ℕ) (d : ℕ) (a : List ℕ) (next top bits bit : ℕ) (h : Pushable table index p s word d a next top (howMany table p bits bit)) where
-  pub push-start : (n : ℕ) → n ≡ countOf table p → PushSoFar table index p s word d a next top bits bit a next n top
+module _ (table index : List ℕ) (p : ℕ) (s : List ℕ) (part : Part) (d : ℕ) (a : List ℕ) (next top bits bit : ℕ) (h : Pushable table index p s part d a next top (howMany table p bits bit)) where
+  pub push-start : (n : ℕ) → n ≡ countOf table p → PushSoFar table index p s part d a next top bits bit a next n top
   unfolding zipped withBit
   push-start n e = record {
     within = omega arith;
     ends = omega (arith, ap (λ (ps : List Pattern). length (withBit (bits / 2 ^ n) bit ps)) z);
+    room = omega (arith, h .room);
     low = h .low;
     none = λ q. refl;
     kept = λ j k. refl;
@@ -157,108 +211,83 @@ module _ (table index : List ℕ) (p : ℕ) (s : List ℕ) (word : ℕ) (d : ℕ
       z : drop n (innerOf table p) ≡ []
       z = drop-of-length-le (innerOf table p) {i = n} (omega (arith, inner-length table index p (h .composed .readable)))
 
-  pub piece-asked : (i kind n : ℕ) (part : Part) → part ≡ unpacked word → i < countOf table p → kind ≡ kindAt (records table) p → n ≡ countOf table p → PieceHeld kind n s part d i
-  piece-asked i kind n part pe l x y = rw (x, y, pe) (record {
-    composed = h .composed .composed;
-    few = count-few table index p (h .composed .readable) (h .composed .composed);
-    two = two table index p (h .composed);
-    value = h .value;
-    here = h .here;
-    narrow = h .narrow;
-    below = h .below;
-    within = l;
-    short = h .short;
-  })
+  module _ (i suci : ℕ) (si : suci ≡ i + 1) (b : List ℕ) (head to : ℕ) (w : PushSoFar table index p s part d a next top bits bit b head suci to) (some : 0 < suci) where
+    within : i < countOf table p
+    within = omega (arith, w .within)
 
-  module _ (i suci : ℕ) (si : suci ≡ i + 1) (l : i < countOf table p) where
     pats : drop i (innerOf table p) ≡ getD (innerOf table p) i any ∷ drop suci (innerOf table p)
-    pats = drop-cons (innerOf table p) i any (omega (arith, inner-length table index p (h .composed .readable))) ∙ ap (λ (j : ℕ). getD (innerOf table p) i any ∷ drop j (innerOf table p)) (sym (add-one i) ∙ sym si)
+    pats = drop-cons (innerOf table p) i any (omega (arith, within, inner-length table index p (h .composed .readable))) ∙ ap (λ (j : ℕ). getD (innerOf table p) i any ∷ drop j (innerOf table p)) (sym (add-one i) ∙ sym si)
+
+    parts : (v : Value) → PartIs s part v → zipped (drop i (innerOf table p)) (drop i (metBy table p v d)) ≡ task (getD (innerOf table p) i any) (getD (metBy table p v d) i (boolean true)) ∷ zipped (drop suci (innerOf table p)) (drop suci (metBy table p v d))
+    unfolding zipped
+    parts v z =
+        let below : d < length (waysOf table p v) = subst (λ (e : Value). d < length (waysOf table p e)) (sym (part-one z (h .here))) (h .below) in
+        ap₂ zipped pats
+        (drop-cons (metBy table p v d) i (boolean true) (omega (arith, within, met-long table index p (h .composed) v d below)) ∙ ap (λ (j : ℕ). getD (metBy table p v d) i (boolean true) ∷ drop j (metBy table p v d)) (sym (add-one i) ∙ sym si))
 
     shifted : bits / 2 ^ i / 2 ≡ bits / 2 ^ suci
     shifted = shr-shr bits i 1 ∙ ap (λ (j : ℕ). bits / 2 ^ j) (sym si)
 
-    module _ (v : Value) (below : d < length (waysOf table p v)) where
-      parts : zipped (drop i (innerOf table p)) (drop i (metBy table p v d)) ≡ task (getD (innerOf table p) i any) (getD (metBy table p v d) i (boolean true)) ∷ zipped (drop suci (innerOf table p)) (drop suci (metBy table p v d))
-      unfolding zipped
-      parts =
-          ap₂ zipped pats
-          (drop-cons (metBy table p v d) i (boolean true) (omega (arith, met-long table index p (h .composed) v d below)) ∙ ap (λ (j : ℕ). getD (metBy table p v d) i (boolean true) ∷ drop j (metBy table p v d)) (sym (add-one i) ∙ sym si))
+    -- a part with the other bit
+    pub push-not : (bits / 2 ^ i % 2 ≡ bit → ⊥) → PushSoFar table index p s part d a next top bits bit b head i to
+    push-not other = record {
+      within = omega (arith, within);
+      ends = w .ends ∙ ap (λ (k : ℕ). top + k) (sym (ap length (ap (withBit (bits / 2 ^ i) bit) pats ∙ skip (getD (innerOf table p) i any) (drop suci (innerOf table p)))));
+      room = w .room;
+      low = w .low;
+      none = w .none;
+      kept = w .kept;
+      long = w .long;
+      right = λ v ts z u g. subst (λ (us : List Task). AgendaIs table index s b to head (us ++ ts)) (sym (ap (withBit (bits / 2 ^ i) bit) (parts v z) ∙ skip _ _)) (w .right v ts z u g);
+    }
+      where
+        skip : {A : Type 0} (x : A) (xs : List A) → withBit (bits / 2 ^ i) bit (x ∷ xs) ≡ withBit (bits / 2 ^ suci) bit xs
+        skip x xs = with-not (bits / 2 ^ i) bit x xs other ∙ ap (λ (k : ℕ). withBit k bit xs) shifted
 
-    module _ (now : List ℕ) (head to : ℕ) (w : PushSoFar table index p s word d a next top bits bit now head suci to) where
-      way-below : (v : Value) → PartIs s (unpacked word) v → d < length (waysOf table p v)
-      way-below v z = subst (λ (e : Value). d < length (waysOf table p e)) (sym (part-one z (h .here))) (h .below)
+    -- one with the bit
+    module _ (this : bits / 2 ^ i % 2 ≡ bit) where
+      taken : {A : Type 0} (x : A) (xs : List A) → withBit (bits / 2 ^ i) bit (x ∷ xs) ≡ x ∷ withBit (bits / 2 ^ suci) bit xs
+      taken x xs = with-is (bits / 2 ^ i) bit x xs this ∙ ap (λ (k : ℕ). x ∷ withBit k bit xs) shifted
 
-      -- a part with the other bit
-      pub push-not : (bits / 2 ^ i % 2 ≡ bit → ⊥) → PushSoFar table index p s word d a next top bits bit now head i to
-      push-not other = record {
-        within = omega arith;
-        ends = w .ends ∙ ap (λ (k : ℕ). top + k) (sym (ap length (ap (withBit (bits / 2 ^ i) bit) pats ∙ skip (getD (innerOf table p) i any) (drop suci (innerOf table p)))));
-        low = w .low;
-        none = w .none;
-        kept = w .kept;
-        long = w .long;
-        right = λ v ts z u g.
-            subst (λ (us : List Task). AgendaIs table index s now to head (us ++ ts)) (sym (ap (withBit (bits / 2 ^ i) bit) (parts v (way-below v z)) ∙ skip _ _)) (w .right v ts z u g);
-      }
-        where
-          skip : {A : Type 0} (x : A) (xs : List A) → withBit (bits / 2 ^ i) bit (x ∷ xs) ≡ withBit (bits / 2 ^ suci) bit xs
-          skip x xs = with-not (bits / 2 ^ i) bit x xs other ∙ ap (λ (k : ℕ). withBit k bit xs) shifted
+      more-ends : to + 1 ≡ top + length (withBit (bits / 2 ^ i) bit (drop i (innerOf table p)))
+      more-ends = omega (arith, w .ends, ap length (ap (withBit (bits / 2 ^ i) bit) pats ∙ taken (getD (innerOf table p) i any) (drop suci (innerOf table p))))
 
-      module _ (this : bits / 2 ^ i % 2 ≡ bit) where
-        take : {A : Type 0} (x : A) (xs : List A) → withBit (bits / 2 ^ i) bit (x ∷ xs) ≡ x ∷ withBit (bits / 2 ^ suci) bit xs
-        take x xs = with-is (bits / 2 ^ i) bit x xs this ∙ ap (λ (k : ℕ). x ∷ withBit k bit xs) shifted
+      more-room : to + 1 ≤ entries
+      more-room = omega (arith, more-ends, fewer-on bits bit i (innerOf table p), h .room)
 
-        more-ends : to + 1 ≡ top + length (withBit (bits / 2 ^ i) bit (drop i (innerOf table p)))
-        more-ends = let e = ap length (ap (withBit (bits / 2 ^ i) bit) pats ∙ take (getD (innerOf table p) i any) (drop suci (innerOf table p))) in omega (arith, w .ends, e)
+      pub part-asked : (k n : ℕ) → k ≡ kindAt (records table) p → n ≡ countOf table p → (part′ : Part) → part′ ≡ part → PartPushable table index p k n s part′ d i b head to
+      part-asked k n x y part′ e = rw e (record {
+        held = record {
+          composed = h .composed;
+          short = h .short;
+          value = h .value;
+          here = h .here;
+          narrow = h .narrow;
+          below = h .below;
+          low = w .low;
+          room = more-room;
+          long = w .long ∙ h .long;
+        };
+        of-kind = x;
+        counted = y;
+        within = within;
+      })
 
-        pub push-room : to + 1 ≤ entries
-        push-room = omega (arith, more-ends, fewer-on bits bit i (innerOf table p), h .room)
-
-  module _ (i kind n : ℕ) (l : i < countOf table p) (x : kind ≡ kindAt (records table) p) (y : n ≡ countOf table p) (part : Part) (pe : part ≡ unpacked word) (part′ : Part) (o : PieceOf kind n s part d i part′) where
-    piece-is : (v : Value) → PartIs s (unpacked word) v → PartIs s part′ (getD (metBy table p v d) i (boolean true))
-    piece-is v q =
-        subst (λ (c : ℕ). PartIs s part′ (getD (getD (meetings c (countOf table p) v) d []) i (boolean true))) x
-        (subst (λ (k : ℕ). PartIs s part′ (getD (getD (meetings kind k v) d []) i (boolean true))) y (o v (boolean true) (subst (λ (k : Part). PartIs s k v) (sym pe) q)))
-
-    pub piece-held : CellHeld s part′
-    piece-held = (is (getD (metBy table p (h .value) d) i (boolean true)), inr (getD (metBy table p (h .value) d) i (boolean true), refl, piece-is (h .value) (h .here)))
-
-    module _ (q : ℕ) (b : q ≡ operand (recordAt (records table) p) i) (cell : ℕ) (pk : WordOf s part′ cell) (now : List ℕ) (head suci to : ℕ) (si : suci ≡ i + 1)
-        (w : PushSoFar table index p s word d a next top bits bit now head suci to) (this : bits / 2 ^ i % 2 ≡ bit) where
-      pub push-more : PushSoFar table index p s word d a next top bits bit (set (set (set now (3 * to) q) (3 * to + 1) cell) (3 * to + 2) head) to i (to + 1)
-      push-more = record {
-        within = omega arith;
-        ends = more-ends i suci si l now head to w this;
+      pub push-more : (part′ : Part) → part′ ≡ part → (c : List ℕ) → PartPushed table index p s part′ d i b head to c → PushSoFar table index p s part d a next top bits bit c to i (to + 1)
+      push-more part′ e c f = record {
+        within = omega (arith, within);
+        ends = more-ends;
+        room = more-room;
         low = omega arith;
         none = λ z. absurd (omega (arith, w .ends));
-        kept = kept-then a now (set (set (set now (3 * to) q) (3 * to + 1) cell) (3 * to + 2) head) (3 * top) (3 * to) (omega (arith, w .ends)) (w .kept) (put .kept);
-        long = put .long ∙ w .long;
-        right = λ v ts z u g. go v ts z u g;
+        kept = kept-then a b c (3 * top) (3 * to) (omega (arith, w .ends)) (w .kept) (f .kept);
+        long = f .long ∙ w .long;
+        right = λ v ts z u g. subst (λ (us : List Task). AgendaIs table index s c (to + 1) to (us ++ ts)) (sym (ap (withBit (bits / 2 ^ i) bit) (parts v z) ∙ taken _ _))
+            (f .right v (withBit (bits / 2 ^ suci) bit (zipped (drop suci (innerOf table p)) (drop suci (metBy table p v d))) ++ ts) (subst (λ (q : Part). PartIs s q v) (sym e) z) u (w .right v ts z u g));
       }
-        where
-          put : EntryPut now (set (set (set now (3 * to) q) (3 * to + 1) cell) (3 * to + 2) head) (3 * to) q cell head
-          put = entry-put now (3 * to) q cell head (omega (arith, w .long, h .long, push-room i suci si l now head to w this))
 
-          go : (v : Value) (ts : List Task) → PartIs s (unpacked word) v → wide (patternAt (records table) p) v ≡ false → AgendaIs table index s a top next ts
-              → AgendaIs table index s (set (set (set now (3 * to) q) (3 * to + 1) cell) (3 * to + 2) head) (to + 1) to (withBit (bits / 2 ^ i) bit (zipped (drop i (innerOf table p)) (drop i (metBy table p v d))) ++ ts)
-          go v ts z u g =
-              let below = way-below i suci si l now head to w v z in
-              let it : getD (innerOf table p) i any ≡ patternAt (records table) q = map-at (patternAt (records table)) (operandsOf (recordAt (records table) p)) i 0 any l ∙ ap (patternAt (records table)) (sym b) in
-              let rest = agenda-kept table index s now (set (set (set now (3 * to) q) (3 * to + 1) cell) (3 * to + 2) head) to (to + 1) head (withBit (bits / 2 ^ suci) bit (zipped (drop suci (innerOf table p)) (drop suci (metBy table p v d))) ++ ts) (omega arith) (put .kept) (w .right v ts z u g) in
-              let first : Pending table index s (set (set (set now (3 * to) q) (3 * to + 1) cell) (3 * to + 2) head) (to + 1) to (task (getD (innerOf table p) i any) (getD (metBy table p v d) i (boolean true))) = record {
-                some = omega (arith, w .low);
-                below = omega arith;
-                falls = omega (arith, put .third, w .low);
-                readable = subst (Readable table index) (sym (put .first)) (operand-readable table index p (h .composed .readable) i l q b .0);
-                pattern = it ∙ ap (patternAt (records table)) (sym (put .first));
-                here = subst (λ (e : ℕ). PartIs s (unpacked e) (getD (metBy table p v d) i (boolean true))) (sym (put .second)) (packed-part s part′ cell (getD (metBy table p v d) i (boolean true)) pk (piece-is v z));
-                narrow = narrow-part table index p (h .composed) v d below u i l;
-              } in
-              subst (λ (us : List Task). AgendaIs table index s (set (set (set now (3 * to) q) (3 * to + 1) cell) (3 * to + 2) head) (to + 1) to (us ++ ts)) (sym (ap (withBit (bits / 2 ^ i) bit) (parts i suci si l v below) ∙ take i suci si l now head to w this _ _))
-              (first, subst (λ (e : ℕ). AgendaIs table index s (set (set (set now (3 * to) q) (3 * to + 1) cell) (3 * to + 2) head) (to + 1) e (withBit (bits / 2 ^ suci) bit (zipped (drop suci (innerOf table p)) (drop suci (metBy table p v d))) ++ ts)) (sym (put .third)) rest)
-
-  pub push-end : (now : List ℕ) (head i to : ℕ) → i ≤ 0 → PushSoFar table index p s word d a next top bits bit now head i to → PushedWhere table index p s word d a next top bits bit now (record { head = head; top = to })
-  push-end now head i to l w =
+  pub push-end : (b : List ℕ) (head i to : ℕ) → i ≤ 0 → PushSoFar table index p s part d a next top bits bit b head i to → PushedWhere table index p s part d a next top bits bit b (record { head = head; top = to })
+  push-end b head i to l w =
       let e : i ≡ 0 = omega arith in
       let f : bits / 2 ^ i ≡ bits = ap (λ (j : ℕ). bits / 2 ^ j) e ∙ omega arith in
       record {
@@ -267,24 +296,31 @@ module _ (table index : List ℕ) (p : ℕ) (s : List ℕ) (word : ℕ) (d : ℕ
         none = w .none;
         kept = w .kept;
         long = w .long;
-        right = λ v ts q u g. subst (λ (us : List Task). AgendaIs table index s now to head (us ++ ts)) (ap₂ (λ (k j : ℕ). withBit k bit (zipped (drop j (innerOf table p)) (drop j (metBy table p v d)))) f e) (w .right v ts q u g);
+        right = λ v ts q u g. subst (λ (us : List Task). AgendaIs table index s b to head (us ++ ts)) (ap₂ (λ (k j : ℕ). withBit k bit (zipped (drop j (innerOf table p)) (drop j (metBy table p v d)))) f e) (w .right v ts q u g);
       }
+
+-- in 0 every bit is 0
+pub zero-bit : (i : ℕ) → 0 / 2 ^ i % 2 ≡ 0
+zero-bit i = let l : 0 / 2 ^ i ≤ 0 = shr-le 0 i in omega arith
 
 -- ---- those that are no tests, then the tests
 
-module _ (table index : List ℕ) (p : ℕ) (s : List ℕ) (word : ℕ) (d : ℕ) (a : List ℕ) (next top tests : ℕ) (h : Pushable table index p s word d a next top (countOf table p)) where
+module _ (table index : List ℕ) (p : ℕ) (s : List ℕ) (part : Part) (d : ℕ) (a : List ℕ) (next top tests : ℕ) (h : Pushable table index p s part d a next top (countOf table p)) where
   all-parts : howMany table p tests 1 + howMany table p tests 0 ≡ countOf table p
   all-parts = shared-length (innerOf table p) (withBit tests 1 (innerOf table p)) (withBit tests 0 (innerOf table p)) (by-bits tests (innerOf table p)) ∙ inner-length table index p (h .composed .readable)
 
-  again : (b : List ℕ) (next′ top′ count : ℕ) → length b ≡ length a → next′ < top′ → top′ + count ≤ entries → Pushable table index p s word d b next′ top′ count
+  again : (b : List ℕ) (next′ top′ count : ℕ) → length b ≡ length a → next′ < top′ → top′ + count ≤ entries → Pushable table index p s part d b next′ top′ count
   again b next′ top′ count e l m = record { composed = h .composed; short = h .short; value = h .value; here = h .here; narrow = h .narrow; below = h .below; low = l; room = m; long = e ∙ h .long }
 
-  pub others-asked : Pushable table index p s word d a next top (howMany table p tests 0)
+  pub others-asked : Pushable table index p s part d a next top (howMany table p tests 0)
   others-asked = again a next top (howMany table p tests 0) refl (h .low) (omega (arith, h .room, all-parts))
 
-  module _ (b : List ℕ) (r : Queue) (k : PushedWhere table index p s word d a next top tests 0 b r) where
+  pub none-test : tests ≡ 0 → (b : List ℕ) (r : ℕ) → Pushed table index p s part d a next top 0 b r → Pushed table index p s part d a next top tests b r
+  none-test e b r k = subst (λ (n : ℕ). Pushed table index p s part d a next top n b r) (sym e) k
+
+  module _ (b : List ℕ) (r : Queue) (k : PushedWhere table index p s part d a next top tests 0 b r) where
     -- no tests
-    pub pushed-all : tests ≡ 0 → Pushed table index p s word d a next top tests b (r .head)
+    pub pushed-all : tests ≡ 0 → Pushed table index p s part d a next top tests b (r .head)
     pushed-all e =
         let none : withBit tests 1 (innerOf table p) ≡ [] = ap (λ (m : ℕ). withBit m 1 (innerOf table p)) e ∙ no-bits (innerOf table p) in
         let all : r .top ≡ top + countOf table p = omega (arith, k .ends, all-parts, ap length none) in
@@ -300,10 +336,11 @@ module _ (table index : List ℕ) (p : ℕ) (s : List ℕ) (word : ℕ) (d : ℕ
               (subst (λ (j : ℕ). AgendaIs table index s b j (r .head) (withBit tests 0 zs ++ ts)) all (k .right v ts q u g));
         }
 
-    pub tests-asked : Pushable table index p s word d b (r .head) (r .top) (howMany table p tests 1)
+    -- some
+    pub tests-asked : Pushable table index p s part d b (r .head) (r .top) (howMany table p tests 1)
     tests-asked = again b (r .head) (r .top) (howMany table p tests 1) (k .long) (k .low) (omega (arith, h .room, k .ends, all-parts))
 
-    pub pushed-both : (c : List ℕ) (q : Queue) → PushedWhere table index p s word d b (r .head) (r .top) tests 1 c q → Pushed table index p s word d a next top tests c (q .head)
+    pub pushed-both : (c : List ℕ) (q : Queue) → PushedWhere table index p s part d b (r .head) (r .top) tests 1 c q → Pushed table index p s part d a next top tests c (q .head)
     pushed-both c q j =
         let all : q .top ≡ top + countOf table p = omega (arith, k .ends, j .ends, all-parts) in
         record {

@@ -6,7 +6,6 @@ use mathlib.Core.List.{List, [], _∷_, _++_}
 use Prim.Native.Nat.{ℕ, zero, suc, _-_, _≤_, _<_}
 use native.Mathlib.Omega.{arith}
 use lib.ListN.{length, getD}
-use Rattle.prelude.specs.Membership.{In}
 use Rattle.prelude.proofs.Absurd.{true-false}
 use Rattle.prelude.proofs.Lists.{map-at}
 use Rattle.values.specs.Value.{Kind, sequence, Value, collection}
@@ -19,7 +18,7 @@ use Rattle.patterns.specs.Binding.{Binding, nothing, merge, consistent, withEac
 use Rattle.patterns.specs.Pattern.{Pattern, any, halved, itemsOf, listOf, matches, wide}
 use Rattle.patterns.specs.Relation.{Joined, Matches}
 use Rattle.patterns.specs.Wide.{Wide}
-use Rattle.patterns.specs.Laws.Matched.{in-together, together-in, matched, matching, match-sized, joined-merge, merge-joined, nothing-sized, list-items}
+use Rattle.patterns.specs.Laws.Matched.{matched, matching, match-sized, joined-merge, merge-joined, nothing-sized, list-items}
 use Rattle.patterns.specs.Laws.Merging.{nothing-merge, merge-nothing}
 use Rattle.patterns.specs.Laws.Together.{one-together, append-nil, append-assoc, Fine, nothing-fine, match-consistent}
 use Rattle.patterns.specs.Laws.Widened.{wide-exactly}

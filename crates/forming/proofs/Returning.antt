@@ -13,6 +13,7 @@ use Rattle.prelude.proofs.Membership.{in-left, in-right, in-joined, at-in}
 use Rattle.values.specs.Value.{Value}
 use Rattle.tables.specs.Table.{kindAt}
 use Rattle.tables.specs.Accepted.{records}
+use Rattle.parts.specs.Word.{unpacked}
 use Rattle.patterns.specs.Ways.{gather}
 use Rattle.patterns.specs.Binding.{Binding}
 use Rattle.patterns.specs.Laws.Members.{in-gather, gather-in}
@@ -163,7 +164,7 @@ module _ (table index s a found frames : List ℕ) (hit : ℕ) (rows order : Lis
 
     module _ (e : ℕ) (fr : From k (f .ways) (f .way + 1) (f .sizes) e) where
       module _ (word : ℕ) (we : SameValue s (getD a (3 * f .at + 1) 0) word) where
-        pub push-asked : Pushable table index (f .p) s word (f .way) a (f .next) (f .top) (countOf table (f .p))
+        pub push-asked : Pushable table index (f .p) s (unpacked word) (f .way) a (f .next) (f .top) (countOf table (f .p))
         push-asked = record {
           composed = h .is .composed;
           short = h .short;
@@ -176,7 +177,7 @@ module _ (table index s a found frames : List ℕ) (hit : ℕ) (rows order : Lis
           long = h .long;
         }
 
-        module _ (b : List ℕ) (head : ℕ) (pushed : Pushed table index (f .p) s word (f .way) a (f .next) (f .top) (f .tests) b head) (frames′ : List ℕ) (left : ℕ) (ad : Advanced frames i (onto f e) frames′ left)
+        module _ (b : List ℕ) (head : ℕ) (pushed : Pushed table index (f .p) s (unpacked word) (f .way) a (f .next) (f .top) (f .tests) b head) (frames′ : List ℕ) (left : ℕ) (ad : Advanced frames i (onto f e) frames′ left)
             (found′ : List ℕ) (cl : Cleared found (f .mask) found′) (c : ℕ) (ec : c ≡ countOf table (f .p)) (hit′ : ℕ) (hl : hit′ ≤ hit) (hd : hit′ ≤ left) where
           head-falls : heft (f .top + c) head ≤ heft (f .top) (f .next)
           head-falls = falls-on (f .top) (f .next) c head (omega (arith, ec, top-room)) (omega (arith, ec, pushed .low)) (λ z. pushed .none (omega (arith, ec, z)))

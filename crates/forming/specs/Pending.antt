@@ -5,15 +5,16 @@ use mathlib.Core.List.{List, [], _∷_, _++_}
 use Prim.Native.Nat.{ℕ, _+_, _*_, _/_, _%_, _≤_, _<_}
 use lib.Dec.{eqb}
 use lib.ListN.{length, getD}
-use Rattle.values.specs.Value.{Value}
+use Rattle.values.specs.Value.{Value, boolean}
 use Rattle.tables.specs.Record.{isComposed}
 use Rattle.tables.specs.Table.{kindAt}
 use Rattle.tables.specs.Accepted.{records}
+use Rattle.parts.specs.declared.Part.{Part}
 use Rattle.parts.specs.Part.{PartIs}
 use Rattle.parts.specs.Word.{unpacked}
 use Rattle.patterns.specs.Binding.{Binding}
 use Rattle.patterns.specs.Members.{Alike}
-use Rattle.patterns.specs.Pattern.{wide}
+use Rattle.patterns.specs.Pattern.{any, wide}
 use Rattle.patterns.specs.Nodes.{isLarge}
 use Rattle.patterns.specs.Read.{Readable, patternAt}
 use Rattle.matching.specs.Leaf.{Stands, Grown}
@@ -21,7 +22,7 @@ use Rattle.matching.specs.Node.{innerOf, waysOf, metBy}
 use Rattle.forming.specs.Inner.{Composed, countOf, inner}
 use Rattle.forming.specs.declared.Queue.{Queue}
 use Rattle.forming.specs.declared.taking.Left.{Left}
-use Rattle.forming.specs.Onward.{Task, onward, zipped}
+use Rattle.forming.specs.Onward.{Task, task, onward, zipped}
 use Rattle.forming.specs.Frames.{KeptBelow, entries, agendaWords}
 
 -- An entry of three numbers: the record of the pattern, the part that it meets, and the entry that follows, a lower one.
@@ -46,6 +47,31 @@ spaces (t ∷ ts) = inner (t .what) + spaces ts
 
 -- ---- the parts of a pattern put before the rest
 
+-- There is room for so many parts of a pattern, each with what it meets in the way d.
+pub record Pushable (table index : List ℕ) (p : ℕ) (s : List ℕ) (part : Part) (d : ℕ) (a : List ℕ) (next top count : ℕ) : Type 0 where
+  pub composed : Composed table index p
+  pub short : length s ≤ 65536
+  pub value : Value
+  pub here : PartIs s part value
+  pub narrow : isLarge (kindAt (records table) p) value ≡ false
+  pub below : d < length (waysOf table p value)
+  pub low : next < top
+  pub room : top + count ≤ entries
+  pub long : length a ≡ agendaWords
+
+pub record PartPushable (table index : List ℕ) (p k n : ℕ) (s : List ℕ) (part : Part) (d i : ℕ) (a : List ℕ) (next top : ℕ) : Type 0 where
+  pub held : Pushable table index p s part d a next top 1
+  pub of-kind : k ≡ kindAt (records table) p
+  pub counted : n ≡ countOf table p
+  pub within : i < countOf table p
+
+-- Part i stands before the rest.
+pub record PartPushed (table index : List ℕ) (p : ℕ) (s : List ℕ) (part : Part) (d i : ℕ) (a : List ℕ) (next top : ℕ) (b : List ℕ) : Type 0 where
+  pub kept : KeptBelow a b (3 * top)
+  pub long : length b ≡ length a
+  pub right : (v : Value) (ts : List Task) → PartIs s part v → wide (patternAt (records table) p) v ≡ false → AgendaIs table index s a top next ts
+      → AgendaIs table index s b (top + 1) top (task (getD (innerOf table p) i any) (getD (metBy table p v d) i (boolean true)) ∷ ts)
+
 -- The units whose bit is b, the first unit's bit being the lowest.
 unfoldable pub withBit : {A : Type 0} → ℕ → ℕ → List A → List A
 withBit m b [] = []
@@ -55,38 +81,26 @@ withBit m b (x ∷ xs) = cond (eqb (m % 2) b) (x ∷ withBit (m / 2) b xs) (with
 abbrev pub howMany : List ℕ → ℕ → ℕ → ℕ → ℕ
 howMany table p bits bit = length (withBit bits bit (innerOf table p))
 
--- There is room for so many parts.
-pub record Pushable (table index : List ℕ) (p : ℕ) (s : List ℕ) (word : ℕ) (d : ℕ) (a : List ℕ) (next top count : ℕ) : Type 0 where
-  pub composed : Composed table index p
-  pub short : length s ≤ 65536
-  pub value : Value
-  pub here : PartIs s (unpacked word) value
-  pub narrow : isLarge (kindAt (records table) p) value ≡ false
-  pub below : d < length (waysOf table p value)
-  pub low : next < top
-  pub room : top + count ≤ entries
-  pub long : length a ≡ agendaWords
-
 -- The parts that have the bit stand before the rest.
-pub record PushedWhere (table index : List ℕ) (p : ℕ) (s : List ℕ) (word : ℕ) (d : ℕ) (a : List ℕ) (next top bits bit : ℕ) (b : List ℕ) (r : Queue) : Type 0 where
+pub record PushedWhere (table index : List ℕ) (p : ℕ) (s : List ℕ) (part : Part) (d : ℕ) (a : List ℕ) (next top bits bit : ℕ) (b : List ℕ) (r : Queue) : Type 0 where
   pub ends : r .top ≡ top + howMany table p bits bit
   pub low : r .head < r .top
   pub none : r .top ≡ top → r .head ≡ next
   pub kept : KeptBelow a b (3 * top)
   pub long : length b ≡ length a
-  pub right : (v : Value) (ts : List Task) → PartIs s (unpacked word) v → wide (patternAt (records table) p) v ≡ false → AgendaIs table index s a top next ts
+  pub right : (v : Value) (ts : List Task) → PartIs s part v → wide (patternAt (records table) p) v ≡ false → AgendaIs table index s a top next ts
       → AgendaIs table index s b (r .top) (r .head) (withBit bits bit (zipped (innerOf table p) (metBy table p v d)) ++ ts)
 
 -- All parts do, the tests first.
 abbrev pub testsFirst : ℕ → List Task → List Task → List Task
 testsFirst tests parts ts = withBit tests 1 parts ++ (withBit tests 0 parts ++ ts)
 
-pub record Pushed (table index : List ℕ) (p : ℕ) (s : List ℕ) (word : ℕ) (d : ℕ) (a : List ℕ) (next top tests : ℕ) (b : List ℕ) (r : ℕ) : Type 0 where
+pub record Pushed (table index : List ℕ) (p : ℕ) (s : List ℕ) (part : Part) (d : ℕ) (a : List ℕ) (next top tests : ℕ) (b : List ℕ) (r : ℕ) : Type 0 where
   pub low : r < top + countOf table p
   pub none : countOf table p ≡ 0 → r ≡ next
   pub kept : KeptBelow a b (3 * top)
   pub long : length b ≡ length a
-  pub right : (v : Value) (ts : List Task) → PartIs s (unpacked word) v → wide (patternAt (records table) p) v ≡ false → AgendaIs table index s a top next ts
+  pub right : (v : Value) (ts : List Task) → PartIs s part v → wide (patternAt (records table) p) v ≡ false → AgendaIs table index s a top next ts
       → AgendaIs table index s b (top + countOf table p) r (testsFirst tests (zipped (innerOf table p) (metBy table p v d)) ts)
 
 -- ---- leaves taken off an agenda

@@ -25,8 +25,9 @@ use values::Value;
 ghost use Prim.Native.Nat.{_≤_};
 ghost use Rattle.forming.specs.Rows.{EntryHeld};
 ghost use Rattle.forming.specs.Whole.{WordMet, SameValue};
+ghost use Rattle.parts.specs.Word.{unpacked};
 ghost use Rattle.forming.specs.Inner.{countOf};
-ghost use Rattle.forming.specs.Pending.{Pushable, howMany, PushedWhere, Pushed};
+ghost use Rattle.forming.specs.Pending.{Pushable, PartPushable, PartPushed, howMany, PushedWhere, Pushed};
 ghost use Rattle.forming.specs.Stack.{OpenHeld, Opened, MatchEntered, DownHeld, WentDown, BackHeld, WentBack, FinishHeld, Finished, Solvable, Solved};
 
 // An agenda is what is still to be matched. An entry is the record of a pattern, the part that it meets, and the entry that follows. Entry 0 is none, one
@@ -62,7 +63,63 @@ pub struct Queue {
     pub top: usize,
 }
 
-// Puts the parts of a pattern that have this bit among the bits of all, each with what it meets in the way d, before the rest of the agenda.
+// Puts part i of a pattern of kind k with n parts, with what it meets in the way d, before the rest of the agenda.
+fn push_part(
+    table: &[u8],
+    index: &Index,
+    p: usize,
+    k: usize,
+    n: usize,
+    s: &[u8],
+    part: Part,
+    d: usize,
+    i: usize,
+    agenda: &mut Agenda,
+    next: usize,
+    top: usize,
+)
+    requires { ⌜ PartPushable (now table) (now index) p k n (now s) part d i (now agenda) next top ⌝ }
+    ensures { λ u. ⌜ PartPushed (now (table .entry)) (now (index .entry)) p (now (s .entry)) part d i (now (agenda .entry)) next top (now (agenda .exit)) ⌝ }
+{
+    let a = nodes::piece(k, n, s, part, d, i);
+    let q = operand(table, index, p, i);
+    let b = words::word_of(s, a);
+    agenda[3 * top] = q as u32;
+    agenda[3 * top + 1] = b;
+    agenda[3 * top + 2] = next as u32;
+}
+
+// Puts the parts of a pattern, each with what it meets in the way d, before the rest of the agenda.
+fn push_all(
+    table: &[u8],
+    index: &Index,
+    p: usize,
+    s: &[u8],
+    word: u32,
+    d: usize,
+    agenda: &mut Agenda,
+    next: usize,
+    top: usize,
+) -> usize
+    requires { ⌜ Pushable (now table) (now index) p (now s) (unpacked word) d (now agenda) next top (countOf (now table) p) ⌝ }
+    ensures { λ r. ⌜ Pushed (now (table .entry)) (now (index .entry)) p (now (s .entry)) (unpacked word) d (now (agenda .entry)) next top 0 (now (agenda .exit)) r ⌝ }
+{
+    let k = kind(table, index, p);
+    let n = operand_count(table, index, p);
+    let part = words::unpack(word);
+    let mut head = next;
+    let mut i = n;
+    let mut to = top;
+    while 0 < i {
+        i -= 1;
+        push_part(table, index, p, k, n, s, part, d, i, agenda, head, to);
+        head = to;
+        to += 1;
+    }
+    head
+}
+
+// Puts those parts before the rest of the agenda whose bit is this one.
 fn push_where(
     table: &[u8],
     index: &Index,
@@ -76,8 +133,8 @@ fn push_where(
     bits: usize,
     bit: usize,
 ) -> Queue
-    requires { ⌜ Pushable (now table) (now index) p (now s) word d (now agenda) next top (howMany (now table) p bits bit) ⌝ }
-    ensures { λ r. ⌜ PushedWhere (now (table .entry)) (now (index .entry)) p (now (s .entry)) word d (now (agenda .entry)) next top bits bit (now (agenda .exit)) r ⌝ }
+    requires { ⌜ Pushable (now table) (now index) p (now s) (unpacked word) d (now agenda) next top (howMany (now table) p bits bit) ⌝ }
+    ensures { λ r. ⌜ PushedWhere (now (table .entry)) (now (index .entry)) p (now (s .entry)) (unpacked word) d (now (agenda .entry)) next top bits bit (now (agenda .exit)) r ⌝ }
 {
     let k = kind(table, index, p);
     let n = operand_count(table, index, p);
@@ -88,12 +145,7 @@ fn push_where(
     while 0 < i {
         i -= 1;
         if (bits >> i) % 2 == bit {
-            let a = nodes::piece(k, n, s, part, d, i);
-            let q = operand(table, index, p, i);
-            let b = words::word_of(s, a);
-            agenda[3 * to] = q as u32;
-            agenda[3 * to + 1] = b;
-            agenda[3 * to + 2] = head as u32;
+            push_part(table, index, p, k, n, s, part, d, i, agenda, head, to);
             head = to;
             to += 1;
         }
@@ -101,8 +153,7 @@ fn push_where(
     Queue { head, top: to }
 }
 
-// Puts the parts of a pattern, each with what it meets in the way d, before the rest of the agenda: first those that are only tests, as one that fails
-// ends the way.
+// Puts the parts before the rest of the agenda, those first that are only tests: one that fails ends the way.
 fn push(
     table: &[u8],
     index: &Index,
@@ -115,26 +166,16 @@ fn push(
     top: usize,
     tests: usize,
 ) -> usize
-    requires { ⌜ Pushable (now table) (now index) p (now s) word d (now agenda) next top (countOf (now table) p) ⌝ }
-    ensures { λ r. ⌜ Pushed (now (table .entry)) (now (index .entry)) p (now (s .entry)) word d (now (agenda .entry)) next top tests (now (agenda .exit)) r ⌝ }
+    requires { ⌜ Pushable (now table) (now index) p (now s) (unpacked word) d (now agenda) next top (countOf (now table) p) ⌝ }
+    ensures { λ r. ⌜ Pushed (now (table .entry)) (now (index .entry)) p (now (s .entry)) (unpacked word) d (now (agenda .entry)) next top tests (now (agenda .exit)) r ⌝ }
 {
-    let others = push_where(table, index, p, s, word, d, agenda, next, top, tests, 0);
     if tests == 0 {
-        return others.head;
+        return push_all(table, index, p, s, word, d, agenda, next, top);
     }
-    let all = push_where(
-        table,
-        index,
-        p,
-        s,
-        word,
-        d,
-        agenda,
-        others.head,
-        others.top,
-        tests,
-        1,
-    );
+    let others = push_where(table, index, p, s, word, d, agenda, next, top, tests, 0);
+    let head = others.head;
+    let free = others.top;
+    let all = push_where(table, index, p, s, word, d, agenda, head, free, tests, 1);
     all.head
 }
 
