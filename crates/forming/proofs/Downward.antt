@@ -5,6 +5,7 @@ use mathlib.Core.List.{List, [], _∷_, _++_}
 use Prim.Native.Nat.{ℕ, suc, _+_, _*_, _^_, _≤_, _<_}
 use native.Mathlib.Omega.{arith}
 use lib.ListN.{getD}
+use Rattle.prelude.specs.Membership.{In}
 use Rattle.prelude.proofs.Absurd.{true-false}
 use Rattle.tables.specs.Accepted.{records}
 use Rattle.patterns.specs.Members.{Alike}
@@ -14,16 +15,19 @@ use Rattle.patterns.specs.Read.{patternAt}
 use Rattle.matching.proofs.Naming.{stands-fine}
 use Rattle.forming.specs.declared.Step.{Step}
 use Rattle.forming.specs.declared.taking.Left.{Left}
-use Rattle.forming.specs.Frames.{entries, heft, rank}
+use Rattle.forming.specs.Frames.{entries, frameAt, heft, rank}
 use Rattle.forming.specs.Onward.{Task, task, onward}
 use Rattle.forming.specs.Laws.Onward.{onward-end}
 use Rattle.forming.specs.Pending.{spaces, LeftOf, TakeHeld, Taken}
+use Rattle.forming.specs.Repeats.{RepeatHeld, Repeat}
 use Rattle.forming.specs.Rows.{EntryHeld}
 use Rattle.forming.specs.Stack.{Stacked, AfterStep, Waiting, MatchEntered, Descending}
+use Rattle.forming.proofs.Accounting.{LevelAt, level-at}
 use Rattle.forming.proofs.Leaving.{none-waits, one-waits}
 use Rattle.forming.proofs.Ranking.{not-opened-less, refused-less, less-more}
 use Rattle.forming.proofs.Solving.{no-task}
-use Rattle.forming.proofs.Stacking.{restacked, match-entered, match-full}
+use Rattle.forming.proofs.Repeating.{other-way, row-same}
+use Rattle.forming.proofs.Stacking.{restacked, nothing-more, match-entered, match-full}
 
 pub reached : (table index s a found frames rows order : List ℕ) (n depth hit : ℕ) (target : List Binding) → Stacked table index s a entries found frames depth hit rows order n [] target
     → AfterStep table index s a found frames rows order (record { n = n; full = false; depth = depth; hit = hit }) target
@@ -76,10 +80,10 @@ module _ (table index s a : List ℕ) (head top : ℕ) (found frames : List ℕ)
               let (z, y) = m .full x in
               (match-full table index s a top g frames depth hit rows order n (left .binding ∷ []) target st (left .binding) (λ c. (λ i. i, λ i. i)) (y (left .binding) (st .bindings) (left .stands) (st .rows-are)), z);
           going = λ x.
-              let (d, t, y) = m .going x in
+              let (d, t, y, w) = m .going x in
               subst (λ (z : ℕ). Stacked table index s a entries g frames z (q .hit) rows′ order′ (q .n) [] target) (sym d)
               (subst (λ (z : ℕ). Stacked table index s a entries g frames depth z rows′ order′ (q .n) [] target) (sym t)
-              (match-entered table index s a top g frames depth hit rows order n (left .binding ∷ []) target st (left .binding) (λ c. (λ i. i, λ i. i)) few rows′ order′ (q .n) (y (left .binding) (st .bindings) (left .stands) (st .rows-are))));
+              (match-entered table index s a top g frames depth hit rows order n (left .binding ∷ []) target st (left .binding) (λ c. (λ i. i, λ i. i)) few rows′ order′ (q .n) (y (left .binding) (st .bindings) (left .stands) (st .rows-are)) (left .stands) w));
         }
 
       -- a pattern with parts is left
@@ -105,6 +109,43 @@ module _ (table index s a : List ℕ) (head top : ℕ) (found frames : List ℕ)
               stacked = stacked-with top (omega arith) (onward (task (patternAt (records table) (getD a (3 * r .wait) 0)) (t .value) ∷ left .tasks) (left .binding))
                   (subst (λ (vs : List Task). Alike (onward (h .tasks) (h .binding)) (onward vs (left .binding))) same (left .alike));
             }
+
+-- ---- all that follows is entered already
+
+module _ (table index s a : List ℕ) (at next top : ℕ) (found frames : List ℕ) (depth hit : ℕ) (rows order : List ℕ) (n : ℕ) (target : List Binding) (w : Waiting table index s a at next top found frames depth hit rows order n target) where
+  abbrev following : List Task
+  following = task (patternAt (records table) (getD a (3 * at) 0)) (w .value) ∷ w .tasks
+
+  at-level : (j : ℕ) → j < depth → LevelAt table index s a frames rows n (w .stacked .bindings) (onward following (w .binding)) j
+  at-level j l =
+      level-at table index s a frames rows n (w .stacked .bindings) (onward following (w .binding)) hit (onward following (w .binding)) (onward following (w .binding)) top found (w .stacked .levels) (w .stacked .stack) (w .stacked .accounted) (w .stacked .traced) (λ c i. i) j
+      (omega (arith, w .stacked .deep))
+
+  pub repeat-asked : RepeatHeld table index frames depth
+  repeat-asked = record {
+    few = omega (arith, w .low, w .room);
+    long = w .stacked .frames-long;
+    readable = λ j l. at-level j l .1 .composed .readable;
+    low = λ j l. omega (arith, at-level j l .1 .seen, at-level j l .2 .few, w .stacked .rows-are .few);
+  }
+
+  -- THEOREM: what goes on from here goes on in the way of the row that agrees, and that way is entered whole
+  all-there : Repeat table found frames depth rows → (c : Binding) → In c (onward following (w .binding)) → In c (w .stacked .bindings)
+  all-there h c i =
+      let (l, x, y, z) = at-level (h .frame) (h .within) in
+      let k = h .row in
+      let (o, ro, oi) = y .past (k .row) (omega (arith, k .low, x .since)) (omega (arith, k .high, x .seen)) in
+      let (vs, vi, ov, all) = x .past o oi in
+      let (us, ui, cu, rest) = x .done c (z c i) in
+      y .whole c
+      (all c
+      (other-way table index (frameAt frames (h .frame) .p) (x .composed) (l .value) (l .tasks) (l .binding) (x .stands .binding-sized) vs us vi ui o ov c cu
+      (λ m b e. row-same s found (w .binding) (w .stands) rows (k .row) o ro (k .agrees) following c i m b (h .settled m b e))))
+
+  pub repeated : Repeat table found frames depth rows → AfterStep table index s a found frames rows order (record { n = n; full = false; depth = depth; hit = hit }) target
+  repeated h =
+      reached table index s a found frames rows order n depth hit target
+      (nothing-more table index s a top found frames depth hit rows order n (onward following (w .binding)) target (w .stacked) (omega (arith, w .room)) (all-there h))
 
 -- ---- what is left to be gone through
 

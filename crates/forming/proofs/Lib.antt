@@ -11,6 +11,7 @@ mod Joining
 mod Skipping
 mod Choosing
 mod Leaving
+mod Repeating
 mod Accounting
 mod Stacking
 mod Returning

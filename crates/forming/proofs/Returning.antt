@@ -33,7 +33,7 @@ use Rattle.forming.specs.Rows.{RowsAre}
 use Rattle.forming.specs.Settled.{TellsSettled}
 use Rattle.forming.specs.Sizes.{TellsSizes, FromHeld, From}
 use Rattle.forming.specs.Whole.{WordMet, SameValue}
-use Rattle.forming.specs.Stack.{Level, LevelIs, StackIs, dues, Accounted, Stacked, Descending, Solvable}
+use Rattle.forming.specs.Stack.{Level, LevelIs, StackIs, dues, Accounted, RowsOf, Traced, Stacked, Descending, Solvable}
 use Rattle.forming.proofs.Accounting.{accounted-with}
 use Rattle.forming.proofs.Joining.{tests-alike, tests-room}
 use Rattle.forming.proofs.Ranking.{back-less}
@@ -51,7 +51,7 @@ pub record Last (table index s a found frames : List ℕ) (hit : ℕ) (rows orde
   pub short : length s ≤ 65536
   pub long : length a ≡ agendaWords
   pub sized : length found ≡ 16
-  pub frames-long : length frames ≡ 1500
+  pub frames-long : length frames ≡ 1700
   pub level : Level
   pub others : List Level
   pub count : length others ≡ i
@@ -63,15 +63,17 @@ pub record Last (table index s a found frames : List ℕ) (hit : ℕ) (rows orde
   pub done-in : (c : Binding) → In c (level .done) → In c bindings
   pub hit-some : i < hit → (c : Binding) × In c (level .done)
   pub accounted : Accounted (level .done ++ level .due) (level .due) bindings hit others
+  pub rows-of : RowsOf s rows n bindings level
+  pub traced : Traced s rows n bindings others
   pub right : adding (level .due ++ dues others) bindings ≡ target
 
 pub last-of : (table index s a found frames : List ℕ) (depth hit : ℕ) (rows order : List ℕ) (n : ℕ) (target : List Binding) → Stacked table index s a entries found frames depth hit rows order n [] target → (i : ℕ) → depth ≡ suc i → (f : Frame) → f ≡ frameAt frames i
     → Last table index s a found frames hit rows order n target i f
-last-of table index s a found frames depth hit rows order n target h i e f fe = go (h .levels) (h .deep) (h .stack) (h .accounted) (h .right)
+last-of table index s a found frames depth hit rows order n target h i e f fe = go (h .levels) (h .deep) (h .stack) (h .accounted) (h .traced) (h .right)
   where
-    go : (ls : List Level) → length ls ≡ depth → StackIs table index s a frames entries found ls → Accounted [] [] (h .bindings) hit ls → adding (dues ls) (h .bindings) ≡ target → Last table index s a found frames hit rows order n target i f
-    go [] d x y z = absurd (omega arith)
-    go (l ∷ ls) d (x, u, g, w) (p, q, r, t) z =
+    go : (ls : List Level) → length ls ≡ depth → StackIs table index s a frames entries found ls → Accounted [] [] (h .bindings) hit ls → Traced s rows n (h .bindings) ls → adding (dues ls) (h .bindings) ≡ target → Last table index s a found frames hit rows order n target i f
+    go [] d x y v z = absurd (omega arith)
+    go (l ∷ ls) d (x, u, g, w) (p, q, r, t) v z =
         let c : length ls ≡ i = omega arith in
         let same : frameAt frames (length ls) ≡ f = ap (frameAt frames) c ∙ sym fe in
         record {
@@ -90,6 +92,8 @@ last-of table index s a found frames depth hit rows order n target h i e f fe = 
           done-in = λ b j. ⊎-elim (λ k. k) (λ k. absurd k) (q b j);
           hit-some = λ m. r (omega arith);
           accounted = t;
+          rows-of = v .0;
+          traced = v .1;
           right = z;
         }
 
@@ -124,6 +128,7 @@ module _ (table index s a found frames : List ℕ) (hit : ℕ) (rows order : Lis
     bindings = h .bindings;
     rows-are = h .rows-are;
     accounted = accounted-with (L .done ++ L .due) [] (L .due) [] (h .bindings) (h .bindings) hit i (h .others) (λ c j. absurd j) (λ c j. inl (⊎-elim (λ k. k) (λ k. there c k) j)) (omega arith) (h .accounted);
+    traced = h .traced;
     right = ap (adding (dues (h .others))) (sym (adding-there (L .due) (h .bindings) rising (λ c j. there c j))) ∙ sym (adding-append (L .due) (dues (h .others)) (h .bindings)) ∙ h .right;
   }
     where
@@ -177,13 +182,13 @@ module _ (table index s a found frames : List ℕ) (hit : ℕ) (rows order : Lis
           long = h .long;
         }
 
-        module _ (b : List ℕ) (head : ℕ) (pushed : Pushed table index (f .p) s (unpacked word) (f .way) a (f .next) (f .top) (f .tests) b head) (frames′ : List ℕ) (left : ℕ) (ad : Advanced frames i (onto f e) frames′ left)
+        module _ (b : List ℕ) (head : ℕ) (pushed : Pushed table index (f .p) s (unpacked word) (f .way) a (f .next) (f .top) (f .tests) b head) (frames′ : List ℕ) (left : ℕ) (ad : Advanced frames i (onto f e n) frames′ left)
             (found′ : List ℕ) (cl : Cleared found (f .mask) found′) (c : ℕ) (ec : c ≡ countOf table (f .p)) (hit′ : ℕ) (hl : hit′ ≤ hit) (hd : hit′ ≤ left) where
           head-falls : heft (f .top + c) head ≤ heft (f .top) (f .next)
           head-falls = falls-on (f .top) (f .next) c head (omega (arith, ec, top-room)) (omega (arith, ec, pushed .low)) (λ z. pushed .none (omega (arith, ec, z)))
 
           pub next-less : (depth : ℕ) → depth ≡ suc i → f ≡ frameAt frames i → (x : ℕ) → x < rank frames′ left + 256 ^ heft (f .top + c) head → x < rank frames depth
-          next-less depth de fe x l = back-less frames i depth de f fe (h .is .within) last-few (h .frames-long) e (omega (arith, fr .low)) frames′ left ad x (heft (f .top + c) head) head-falls l
+          next-less depth de fe x l = back-less frames i depth de f fe (h .is .within) last-few (h .frames-long) e n (omega (arith, fr .low)) frames′ left ad x (heft (f .top + c) head) head-falls l
 
           words-again : found′ ≡ h .level .words
           words-again = cl (L .words) (h .is .mask) (h .is .stands .sized) (h .grown)
@@ -219,9 +224,9 @@ module _ (table index s a found frames : List ℕ) (hit : ℕ) (rows order : Lis
           others-kept high u = stack-kept table index s a b frames frames′ (f .top) high (L .words) (L .words) (h .others) (pushed .kept) u (grown-same (L .words)) (h .frames-long) (ad .long) (λ j m. ad .kept j (omega (arith, h .count))) (h .below)
 
           level′ : Level
-          level′ = record { value = h .level .value; tasks = h .level .tasks; binding = h .level .binding; words = h .level .words; done = h .level .done ++ more; due = due′ }
+          level′ = record { value = h .level .value; tasks = h .level .tasks; binding = h .level .binding; words = h .level .words; past = h .level .done; done = h .level .done ++ more; due = due′; since = h .level .since; seen = n }
 
-          level-on : e < f .ways → LevelIs table index s b i (onto f e) level′
+          level-on : e < f .ways → LevelIs table index s b i (onto f e n) level′
           unfolding level′ due′
           level-on l =
               let x = level-kept table index s a b i f L (pushed .kept) (h .is) in
@@ -244,6 +249,9 @@ module _ (table index s a found frames : List ℕ) (hit : ℕ) (rows order : Lis
                 sizes = x .sizes;
                 due = refl;
                 done = λ o j. go o (in-joined o (L .done) more j);
+                past = h .is .done;
+                since = h .is .since;
+                seen = refl;
               }
             where
               go : (o : Binding) → In o (h .level .done) ⊎ In o more → (vs : List Value) × In vs (waysOf table (f .p) (h .level .value)) × In o (way vs) × ((d : Binding) → In d (way vs) → In d (h .level .done ++ more))
@@ -253,7 +261,7 @@ module _ (table index s a found frames : List ℕ) (hit : ℕ) (rows order : Lis
           abbrev Now : ℕ → List ℕ → Type 0
           Now d words = Stacked table index s b (f .top + c) words frames′ d hit′ rows order n more target
 
-          stays-on : left ≡ suc i → e < f .ways → frameAt frames′ i ≡ onto f e → Now left (h .level .words)
+          stays-on : left ≡ suc i → e < f .ways → frameAt frames′ i ≡ onto f e n → Now left (h .level .words)
           unfolding level′
           stays-on le l fe = subst (λ (d : ℕ). hit′ ≤ d → Now d (L .words)) (sym le) (λ hs. record {
             short = h .short;
@@ -274,6 +282,15 @@ module _ (table index s a found frames : List ℕ) (hit : ℕ) (rows order : Lis
               accounted-with (L .done ++ L .due) ((L .done ++ more) ++ due′) (L .due) (more ++ due′) (h .bindings) (h .bindings) hit hit′ (h .others)
                   (λ x j. subst (λ (ys : List Binding). In x (L .done ++ ys)) (sym due-is) (subst (In x) (append-assoc (L .done) more due′) j))
                   (λ x j. ⊎-elim (λ m. inl m) (λ m. inr (subst (In x) due-is m)) j) hl (h .accounted),
+            );
+            traced = (
+              record {
+                few = omega arith;
+                whole = h .done-in;
+                past = h .rows-of .done;
+                done = λ r u m. let (o, x, j) = h .rows-of .done r u m in (o, x, in-left o (L .done) more j);
+              },
+              h .traced,
             );
             right = ap (λ (xs : List Binding). adding xs (h .bindings)) (sym (append-assoc more due′ (dues (h .others))) ∙ ap (λ (xs : List Binding). xs ++ dues (h .others)) (sym due-is)) ∙ h .right;
           }) hd
@@ -296,10 +313,11 @@ module _ (table index s a found frames : List ℕ) (hit : ℕ) (rows order : Lis
                 rows-are = h .rows-are;
                 accounted = accounted-with (L .done ++ L .due) more (L .due) more (h .bindings) (h .bindings) hit hit′ (h .others)
                     (λ x j. in-right x (L .done) (L .due) (subst (In x) (sym all) j)) (λ x j. ⊎-elim (λ m. inl m) (λ m. inr (subst (In x) all m)) j) hl (h .accounted);
+                traced = h .traced;
                 right = ap (λ (xs : List Binding). adding (xs ++ dues (h .others)) (h .bindings)) (sym all) ∙ h .right;
               }
 
-          low-enough : (((left ≡ suc i) × (e < f .ways) × (frameAt frames′ i ≡ onto f e)) ⊎ ((left ≡ i) × (f .ways ≤ e))) → 2 * left + 2 ≤ f .top + c
+          low-enough : (((left ≡ suc i) × (e < f .ways) × (frameAt frames′ i ≡ onto f e n)) ⊎ ((left ≡ i) × (f .ways ≤ e))) → 2 * left + 2 ≤ f .top + c
           low-enough (inl (x, y, z)) = omega (arith, h .is .high, ec, fr .low, several-parts table index (f .p) (h .is .composed) (L .value) (omega (arith, fr .low, h .is .ways)))
           low-enough (inr (x, y)) = omega (arith, h .is .high)
 
@@ -318,7 +336,7 @@ module _ (table index s a found frames : List ℕ) (hit : ℕ) (rows order : Lis
 
 -- ---- the first step, and the end
 
-pub starting : (table index s a : List ℕ) (head top : ℕ) (m rows order : List ℕ) (n : ℕ) (h : Solvable table index s a head top m rows order n) (frames : List ℕ) → length frames ≡ 1500
+pub starting : (table index s a : List ℕ) (head top : ℕ) (m rows order : List ℕ) (n : ℕ) (h : Solvable table index s a head top m rows order n) (frames : List ℕ) → length frames ≡ 1700
     → Descending table index s a head top m frames 0 0 rows order n (adding (onward (h .tasks) (h .binding)) (h .bindings))
 starting table index s a head top m rows order n h frames e = record {
   tasks = h .tasks;
@@ -339,6 +357,7 @@ starting table index s a head top m rows order n h frames e = record {
     bindings = h .bindings;
     rows-are = h .rows-are;
     accounted = omega arith;
+    traced = tt;
     right = ap (λ (xs : List Binding). adding xs (h .bindings)) (append-nil (onward (h .tasks) (h .binding)));
   };
 }

@@ -21,7 +21,9 @@ use Rattle.patterns.specs.Laws.Ordered.{Rising, before-in, bindings-same, bindi
 use Rattle.matching.specs.Leaf.{Stands, Standing}
 use Rattle.parts.specs.Word.{unpacked, WordHeld, OrderedWords}
 use Rattle.forming.specs.declared.rows.Seek.{Seek}
-use Rattle.forming.specs.Rows.{RowIs, RowHeld, RowsAre, RowsHeld, SoughtIn, Sought, RowPut, Shifted}
+use Rattle.forming.specs.declared.Formed.{Formed}
+use Rattle.forming.specs.declared.Formed.the-variants.{Number}
+use Rattle.forming.specs.Rows.{RowIs, RowHeld, RowsAre, RowsHeld, SoughtIn, Sought, RowPut, Shifted, Appended}
 use Rattle.forming.specs.Laws.Adding.{flip-higher, place-there, place-parted, placed-sorted}
 
 -- ---- a stored cell
@@ -257,7 +259,7 @@ sides (suc j) (suc k) = go (sides j k)
     go (inr (inl e)) = inr (inl (ap suc e))
     go (inr (inr (i, e, h))) = inr (inr (suc i, ap suc e, omega arith))
 
-row-kept : {s rows after : List ℕ} {r : ℕ} {b : Binding} (n : ℕ) → r < n → ((j : ℕ) → j < 16 * n → getD after j 0 ≡ getD rows j 0) → RowIs s rows r b → RowIs s after r b
+pub row-kept : {s rows after : List ℕ} {r : ℕ} {b : Binding} (n : ℕ) → r < n → ((j : ℕ) → j < 16 * n → getD after j 0 ≡ getD rows j 0) → RowIs s rows r b → RowIs s after r b
 row-kept {s} {rows} {after} {r} {b} n l k h = record { sized = h .sized; cells = λ x m. subst (λ (z : ℕ). CellIs s (unpacked z) (cellOf b x)) (sym (k (16 * r + x) (omega arith))) (h .cells x m); blank = λ x m z. k (16 * r + x) (omega arith) ∙ h .blank x m (ap (λ (n : ℕ). n % 4) (sym (k (16 * r + x) (omega arith))) ∙ z) }
 
 module _ (s : List ℕ) (f : List ℕ) (rows order : List ℕ) (n : ℕ) (q : Seek) (sought : Sought s f rows order n q) where
@@ -308,3 +310,15 @@ module _ (s : List ℕ) (f : List ℕ) (rows order : List ℕ) (n : ℕ) (q : Se
       each-of j i (inr (inr (y, d, u))) =
           let v : y < n = omega arith in
           rw d (rw (shift .from y u v, inserted-after b bs (q .at) y w u) (row-kept n (g .row y v) (put .before) (g .each y v)))
+
+-- ---- rows are only appended
+
+pub none-appended : (s f rows : List ℕ) (n k : ℕ) → _≡_ {A = Formed} (Number n) (Number k) → Appended s f rows n rows k
+none-appended s f rows n k e =
+    let d : n ≡ k = cc in
+    record { low = omega arith; kept = λ j l. refl; new = λ r l m. absurd (omega arith) }
+
+pub one-appended : (s f rows rows′ : List ℕ) (n k : ℕ) → RowPut s f rows rows′ n → _≡_ {A = Formed} (Number (n + 1)) (Number k) → Appended s f rows n rows′ k
+one-appended s f rows rows′ n k put e =
+    let d : n + 1 ≡ k = cc in
+    record { low = omega arith; kept = put .before; new = λ r l m b h. let q : n ≡ r = omega arith in subst (λ (i : ℕ). RowIs s rows′ i b) q (put .right b h) }

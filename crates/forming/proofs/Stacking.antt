@@ -20,27 +20,27 @@ use Rattle.patterns.specs.Ways.{gather}
 use Rattle.patterns.specs.Members.{Alike}
 use Rattle.patterns.specs.Binding.{Binding, place}
 use Rattle.patterns.specs.Pattern.{wide}
-use Rattle.patterns.specs.Laws.Ordered.{sorted-in, in-sorted}
+use Rattle.patterns.specs.Laws.Ordered.{Rising, sorted-in, in-sorted, sorted-rising}
 use Rattle.patterns.specs.Nodes.{isLarge}
 use Rattle.patterns.specs.Read.{patternAt}
 use Rattle.matching.specs.declared.nodes.Meeting.{Meeting}
 use Rattle.matching.specs.declared.nodes.Meeting.the-variants.{Unfit, Large, Ways}
-use Rattle.matching.specs.Leaf.{Grown}
+use Rattle.matching.specs.Leaf.{Stands, Grown}
 use Rattle.matching.specs.Node.{MeetsAs, Meets, innerOf, waysOf}
 use Rattle.matching.proofs.Naming.{grown-same, grown-then}
 use Rattle.forming.specs.declared.frames.Frame.{Frame}
 use Rattle.forming.specs.declared.sizes.Sizes.{Sizes}
 use Rattle.forming.specs.Adding.{adding}
-use Rattle.forming.specs.Laws.Adding.{adding-append, adding-one, adding-longer, adding-alike, placed-sorted}
+use Rattle.forming.specs.Laws.Adding.{adding-append, adding-one, adding-longer, adding-alike, adding-there, placed-sorted}
 use Rattle.forming.specs.Frames.{entries, KeptBelow, frameAt, FrameFits, Advanced, maskOf}
 use Rattle.forming.specs.Onward.{Task, task, onward, oneWay}
 use Rattle.forming.specs.Inner.{countOf}
 use Rattle.forming.specs.Reduced.{Reduced}
-use Rattle.forming.specs.Rows.{RowsAre}
+use Rattle.forming.specs.Rows.{RowsAre, Appended}
 use Rattle.forming.specs.Settled.{TellsSettled}
 use Rattle.forming.specs.Sizes.{TellsSizes, FromHeld, From}
 use Rattle.forming.specs.Stack.{Level, LevelIs, StackIs, dues, Stacked, Waiting}
-use Rattle.forming.proofs.Accounting.{accounted-with, accounted-hit}
+use Rattle.forming.proofs.Accounting.{accounted-with, accounted-hit, traced-with}
 use Rattle.forming.proofs.Framing.{frame-kept}
 use Rattle.forming.proofs.Pushing.{agenda-kept, wide-by}
 use Rattle.forming.proofs.Reducing.{onward-alike}
@@ -69,9 +69,12 @@ level-kept table index s a b i f l k h = record {
   sizes = h .sizes;
   due = h .due;
   done = h .done;
+  past = h .past;
+  since = h .since;
+  seen = h .seen;
 }
 
-pub stack-kept : (table index s a b frames frames′ : List ℕ) (high high′ : ℕ) (found found′ : List ℕ) (ls : List Level) → KeptBelow a b (3 * high) → high ≤ high′ → Grown found found′ → length frames ≡ 1500 → length frames′ ≡ length frames → KeptBelow frames frames′ (15 * length ls)
+pub stack-kept : (table index s a b frames frames′ : List ℕ) (high high′ : ℕ) (found found′ : List ℕ) (ls : List Level) → KeptBelow a b (3 * high) → high ≤ high′ → Grown found found′ → length frames ≡ 1700 → length frames′ ≡ length frames → KeptBelow frames frames′ (17 * length ls)
     → StackIs table index s a frames high found ls → StackIs table index s b frames′ high′ found′ ls
 stack-kept table index s a b frames frames′ high high′ found found′ [] k u g e d q h = omega arith
 stack-kept table index s a b frames frames′ high high′ found found′ (l ∷ ls) k u g e d q (x, y, z, w) =
@@ -95,7 +98,7 @@ module _ (table index s a : List ℕ) (high : ℕ) (found frames : List ℕ) (de
       ap (adding (dues (h .levels))) (sym (adding-alike more more′ cs (h .rows-are .given) (h .rows-are .ordered) e))
       ∙ sym (adding-append more (dues (h .levels)) cs) ∙ h .right
 
-  pub restacked : (high′ : ℕ) → high ≤ high′ → (found′ : List ℕ) → Grown found found′ → (frames′ : List ℕ) → length frames′ ≡ length frames → KeptBelow frames frames′ (15 * depth) → (more′ : List Binding) → Alike more more′
+  pub restacked : (high′ : ℕ) → high ≤ high′ → (found′ : List ℕ) → Grown found found′ → (frames′ : List ℕ) → length frames′ ≡ length frames → KeptBelow frames frames′ (17 * depth) → (more′ : List Binding) → Alike more more′
       → Stacked table index s a high′ found′ frames′ depth hit rows order n more′ target
   restacked high′ u found′ g frames′ d k more′ e = record {
     short = h .short;
@@ -109,7 +112,28 @@ module _ (table index s a : List ℕ) (high : ℕ) (found frames : List ℕ) (de
     bindings = cs;
     rows-are = h .rows-are;
     accounted = accounted-with more more′ more more′ cs cs hit hit (h .levels) (λ c i. e c .1 i) (λ c i. ⊎-elim (λ j. inl j) (λ j. inr (e c .0 j)) i) (omega arith) (h .accounted);
+    traced = h .traced;
     right = adding-append more′ (dues (h .levels)) cs ∙ swapped more′ e;
+  }
+
+  -- all of them are entered already
+  pub nothing-more : high ≤ entries → ((c : Binding) → In c more → In c (h .bindings)) → Stacked table index s a entries found frames depth hit rows order n [] target
+  nothing-more u there = record {
+    short = h .short;
+    long = h .long;
+    sized = h .sized;
+    frames-long = h .frames-long;
+    levels = h .levels;
+    deep = h .deep;
+    hits = h .hits;
+    stack = stack-kept table index s a a frames frames high entries found found (h .levels) (λ j m. refl) u (grown-same found) (h .frames-long) refl (λ j m. refl) (h .stack);
+    bindings = cs;
+    rows-are = h .rows-are;
+    accounted = accounted-with more [] more [] cs cs hit hit (h .levels) (λ c i. absurd i) (λ c i. inl (⊎-elim (λ j. j) (λ j. there c j) i)) (omega arith) (h .accounted);
+    traced = h .traced;
+    right =
+        ap (adding (dues (h .levels))) (sym (adding-there more cs (subst Rising (sym (h .rows-are .ordered)) (sorted-rising (h .rows-are .given))) there))
+        ∙ sym (adding-append more (dues (h .levels)) cs) ∙ h .right;
   }
 
   module _ (b : Binding) (e : Alike more (b ∷ [])) where
@@ -119,8 +143,8 @@ module _ (table index s a : List ℕ) (high : ℕ) (found frames : List ℕ) (de
     in-place : (c : Binding) → In c (h .bindings) ⊎ In c more → In c (place b (h .bindings))
     in-place c i = subst (In c) (sym (placed-sorted b cs (h .rows-are .given) (h .rows-are .ordered))) (sorted-in c (b ∷ h .rows-are .given) (⊎-elim (λ j. inr (in-sorted c (h .rows-are .given) (subst (In c) (h .rows-are .ordered) j))) (λ j. inl (in-one c (e c .0 j))) i))
 
-    pub match-entered : high ≤ entries → (rows′ order′ : List ℕ) (n′ : ℕ) → RowsAre s rows′ order′ n′ (place b (h .bindings)) → Stacked table index s a entries found frames depth depth rows′ order′ n′ [] target
-    match-entered u rows′ order′ n′ r = record {
+    pub match-entered : high ≤ entries → (rows′ order′ : List ℕ) (n′ : ℕ) → RowsAre s rows′ order′ n′ (place b (h .bindings)) → Stands s found b → Appended s found rows n rows′ n′ → Stacked table index s a entries found frames depth depth rows′ order′ n′ [] target
+    match-entered u rows′ order′ n′ r st ap′ = record {
       short = h .short;
       long = h .long;
       sized = h .sized;
@@ -132,6 +156,7 @@ module _ (table index s a : List ℕ) (high : ℕ) (found frames : List ℕ) (de
       bindings = place b cs;
       rows-are = r;
       accounted = accounted-with more [] more [] cs (place b cs) depth depth (h .levels) (λ c i. absurd i) (λ c i. inl (in-place c i)) (omega arith) (accounted-hit more more cs hit depth (h .levels) b (e b .1 (inl refl)) (h .accounted));
+      traced = traced-with s found rows n rows′ n′ ap′ b st more more cs (place b cs) hit (h .levels) (e b .1 (inl refl)) (λ c i. in-place c (inl i)) (h .accounted) (h .traced);
       right = all-with;
     }
 
@@ -140,8 +165,8 @@ module _ (table index s a : List ℕ) (high : ℕ) (found frames : List ℕ) (de
 
 -- ---- a frame opened
 
-abbrev pub framed : ℕ → ℕ → ℕ → ℕ → ℕ → ℕ → ℕ → Bool → Sizes → ℕ → Frame
-framed p at next top way ways mask once sizes tests = record { p = p; at = at; next = next; top = top; way = way; ways = ways; mask = mask; once = once; sizes = sizes; tests = tests }
+abbrev pub framed : ℕ → ℕ → ℕ → ℕ → ℕ → ℕ → ℕ → Bool → Sizes → ℕ → ℕ → Frame
+framed p at next top way ways mask once sizes tests n = record { p = p; at = at; next = next; top = top; way = way; ways = ways; mask = mask; once = once; sizes = sizes; tests = tests; since = n; seen = n }
 
 module _ (table index s a : List ℕ) (at next top : ℕ) (found frames : List ℕ) (depth hit : ℕ) (rows order : List ℕ) (n : ℕ) (target : List Binding) (w : Waiting table index s a at next top found frames depth hit rows order n target) where
   abbrev v : Value
@@ -170,7 +195,7 @@ module _ (table index s a : List ℕ) (at next top : ℕ) (found frames : List �
     all-ways : Alike (onward (task (patternAt (records table) (getD a (3 * at) 0)) (w .value) ∷ w .tasks) (w .binding)) (gather (waysOf table p (w .value)) (oneWay (innerOf table p) (w .tasks) (w .binding)))
     all-ways = subst (Alike (onward (task (patternAt (records table) (getD a (3 * at) 0)) v ∷ ts) b)) (whole table index p (x .composed) v ts b) (onward-alike (patternAt (records table) (getD a (3 * at) 0)) (patternAt (records table) p) v ts b (x .alike v))
 
-    unopened : (frames′ : List ℕ) → length frames′ ≡ length frames → KeptBelow frames frames′ (15 * depth) → gather (waysOf table p (w .value)) (oneWay (innerOf table p) (w .tasks) (w .binding)) ≡ [] → Stacked table index s a entries found frames′ depth hit rows order n [] target
+    unopened : (frames′ : List ℕ) → length frames′ ≡ length frames → KeptBelow frames frames′ (17 * depth) → gather (waysOf table p (w .value)) (oneWay (innerOf table p) (w .tasks) (w .binding)) ≡ [] → Stacked table index s a entries found frames′ depth hit rows order n [] target
     unopened frames′ d k e =
         restacked table index s a top found frames depth hit rows order n (onward (task (patternAt (records table) (getD a (3 * at) 0)) v ∷ ts) b) target (w .stacked) entries top-few found (grown-same found) frames′ d k []
         (subst (Alike (onward (task (patternAt (records table) (getD a (3 * at) 0)) v ∷ ts) b)) e all-ways)
@@ -196,7 +221,7 @@ module _ (table index s a : List ℕ) (at next top : ℕ) (found frames : List �
         first-asked = from-asked table index p (x .composed .readable) k ek sizes t v ways (there .1) (there .2)
 
         module _ (way : ℕ) (fr : From k ways 0 sizes way) (once : Bool) (so : TellsSettled table p found once) (mask : ℕ) (ms : (mask ≡ maskOf found) × (mask < 65536)) (tests : ℕ) (few : tests < 256) where
-          pub frame-fits : FrameFits (framed p at next top way ways mask once sizes tests)
+          pub frame-fits : FrameFits (framed p at next top way ways mask once sizes tests n)
           frame-fits = record {
             record-small = omega (arith, x .composed .readable .here .within, x .composed .readable .fine .few);
             at-small = omega (arith, w .below, top-few);
@@ -206,15 +231,17 @@ module _ (table index s a : List ℕ) (at next top : ℕ) (found frames : List �
             ways-small = ways-few;
             mask-small = ms .1;
             tests-small = few;
+            since-small = omega (arith, w .stacked .rows-are .few);
+            seen-small = omega (arith, w .stacked .rows-are .few);
           }
 
           skipped : gather (drop way (waysOf table p (w .value))) (oneWay (innerOf table p) (w .tasks) (w .binding)) ≡ gather (waysOf table p (w .value)) (oneWay (innerOf table p) (w .tasks) (w .binding))
           skipped = passed-over table index p (x .composed .readable) k ek sizes t v ways (there .1) ts b 0 way (omega arith) fr
 
           level : Level
-          level = record { value = w .value; tasks = w .tasks; binding = w .binding; words = found; done = []; due = gather (drop way (waysOf table p (w .value))) (oneWay (innerOf table p) (w .tasks) (w .binding)) }
+          level = record { value = w .value; tasks = w .tasks; binding = w .binding; words = found; past = []; done = []; due = gather (drop way (waysOf table p (w .value))) (oneWay (innerOf table p) (w .tasks) (w .binding)); since = n; seen = n }
 
-          level-is : way < ways → LevelIs table index s a depth (framed p at next top way ways mask once sizes tests) level
+          level-is : way < ways → LevelIs table index s a depth (framed p at next top way ways mask once sizes tests n) level
           unfolding level
           level-is l = record {
             composed = x .composed;
@@ -235,13 +262,16 @@ module _ (table index s a : List ℕ) (at next top : ℕ) (found frames : List �
             sizes = subst (λ (c : ℕ). TellsSizes table p c sizes) ek t;
             due = refl;
             done = λ o i. absurd i;
+            past = λ o i. absurd i;
+            since = refl;
+            seen = refl;
           }
 
-          module _ (frames′ : List ℕ) (r : ℕ) (ad : Advanced frames depth (framed p at next top way ways mask once sizes tests) frames′ r) where
+          module _ (frames′ : List ℕ) (r : ℕ) (ad : Advanced frames depth (framed p at next top way ways mask once sizes tests n) frames′ r) where
             same-due : Alike (onward (task (patternAt (records table) (getD a (3 * at) 0)) (w .value) ∷ w .tasks) (w .binding)) (gather (drop way (waysOf table p (w .value))) (oneWay (innerOf table p) (w .tasks) (w .binding)))
             same-due = subst (Alike (onward (task (patternAt (records table) (getD a (3 * at) 0)) v ∷ ts) b)) (sym skipped) all-ways
 
-            stays : way < ways → frameAt frames′ depth ≡ framed p at next top way ways mask once sizes tests → Stacked table index s a entries found frames′ (suc depth) hit rows order n [] target
+            stays : way < ways → frameAt frames′ depth ≡ framed p at next top way ways mask once sizes tests n → Stacked table index s a entries found frames′ (suc depth) hit rows order n [] target
             unfolding level
             stays l fe =
                 let st = restacked table index s a top found frames depth hit rows order n (onward (task (patternAt (records table) (getD a (3 * at) 0)) v ∷ ts) b) target (w .stacked) top (omega arith) found (grown-same found) frames′ (ad .long) (ad .kept) (gather (drop way (waysOf table p v)) (oneWay (innerOf table p) ts b)) same-due in
@@ -258,6 +288,7 @@ module _ (table index s a : List ℕ) (at next top : ℕ) (found frames : List �
                   bindings = st .bindings;
                   rows-are = st .rows-are;
                   accounted = (λ c i. absurd i, λ c i. absurd i, λ m. absurd (omega (arith, st .hits, st .deep)), st .accounted);
+                  traced = (record { few = omega arith; whole = λ c i. absurd i; past = λ r l m. absurd (omega arith); done = λ r l m. absurd (omega arith) }, st .traced);
                   right = st .right;
                 }
 
@@ -265,7 +296,7 @@ module _ (table index s a : List ℕ) (at next top : ℕ) (found frames : List �
             unfolding gather
             frame-opened = go (ad .how)
               where
-                go : ((r ≡ suc depth) × (way < ways) × (frameAt frames′ depth ≡ framed p at next top way ways mask once sizes tests)) ⊎ ((r ≡ depth) × (ways ≤ way)) → Stacked table index s a entries found frames′ r hit rows order n [] target
+                go : ((r ≡ suc depth) × (way < ways) × (frameAt frames′ depth ≡ framed p at next top way ways mask once sizes tests n)) ⊎ ((r ≡ depth) × (ways ≤ way)) → Stacked table index s a entries found frames′ r hit rows order n [] target
                 go (inl (e, l, fe)) = subst (λ (y : ℕ). Stacked table index s a entries found frames′ y hit rows order n [] target) (sym e) (stays l fe)
                 go (inr (e, l)) =
                     let none : drop way (waysOf table p v) ≡ [] = drop-of-length-le (waysOf table p v) {i = way} (omega (arith, there .1)) in

@@ -30,7 +30,7 @@ flagByte b = cond b 1 0
 
 -- A frame takes so many bytes, and two of the records of a table at least: so many frames, and bytes of them, are enough.
 abbrev pub frameBytes : ℕ
-frameBytes = 15
+frameBytes = 17
 
 abbrev pub mostFrames : ℕ
 mostFrames = mostRecords / 2
@@ -46,15 +46,17 @@ frameOf b = record {
   next = getD b 2 0;
   top = getD b 3 0;
   way = getD b 4 0;
-  ways = getD b 5 0;
-  mask = getD b 6 0 + 256 * getD b 7 0;
-  once = eqb (getD b 8 0) 1;
+  ways = getD b 6 0;
+  mask = getD b 7 0 + 256 * getD b 8 0;
+  once = eqb (getD b 9 0) 1;
   sizes = record {
-    bound = eqb (getD b 9 0) 1;
-    left = record { least = getD b 10 0; more = eqb (getD b 11 0) 1 };
-    right = record { least = getD b 12 0; more = eqb (getD b 13 0) 1 };
+    bound = eqb (getD b 10 0) 1;
+    left = record { least = getD b 11 0; more = eqb (getD b 12 0) 1 };
+    right = record { least = getD b 13 0; more = eqb (getD b 14 0) 1 };
   };
-  tests = getD b 14 0;
+  tests = getD b 15 0;
+  since = getD b 16 0;
+  seen = getD b 5 0;
 }
 
 -- The bytes of frame i, and the frame.
@@ -64,9 +66,9 @@ slotAt a i = take frameBytes (drop (frameBytes * i) a)
 abbrev pub frameAt : List ℕ → ℕ → Frame
 frameAt a i = frameOf (slotAt a i)
 
--- A frame with another way next.
-abbrev pub onto : Frame → ℕ → Frame
-onto f e = record { p = f .p; at = f .at; next = f .next; top = f .top; way = e; ways = f .ways; mask = f .mask; once = f .once; sizes = f .sizes; tests = f .tests }
+-- A frame with another way next, where there are n rows.
+abbrev pub onto : Frame → ℕ → ℕ → Frame
+onto f e n = record { p = f .p; at = f .at; next = f .next; top = f .top; way = e; ways = f .ways; mask = f .mask; once = f .once; sizes = f .sizes; tests = f .tests; since = f .since; seen = n }
 
 pub record FrameFits (f : Frame) : Type 0 where
   pub record-small : f .p < 256
@@ -77,6 +79,8 @@ pub record FrameFits (f : Frame) : Type 0 where
   pub ways-small : f .ways < 256
   pub mask-small : f .mask < 65536
   pub tests-small : f .tests < 256
+  pub since-small : f .since < 256
+  pub seen-small : f .seen < 256
 
 pub record SlotPut (a : List ℕ) (i : ℕ) (bytes b : List ℕ) : Type 0 where
   pub here : slotAt b i ≡ bytes

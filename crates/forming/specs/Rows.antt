@@ -28,6 +28,17 @@ pub record RowHeld (s rows : List ℕ) (r : ℕ) : Type 0 where
   pub binding : Binding
   pub is : RowIs s rows r binding
 
+-- Row r has the word of each name found.
+abbrev pub Agrees : List ℕ → List ℕ → ℕ → Type 0
+Agrees found rows r = (x : ℕ) → x < names → (getD found x 0 ≡ 0 → ⊥) → getD rows (names * r + x) 0 ≡ getD found x 0
+
+-- Some row between two does.
+pub record SomeAgrees (found rows : List ℕ) (from to : ℕ) : Type 0 where
+  pub row : ℕ
+  pub low : from ≤ row
+  pub high : row < to
+  pub agrees : Agrees found rows row
+
 -- The first n rows, in the order given, are the bindings bs, distinct and ascending.
 pub record RowsAre (s rows order : List ℕ) (n : ℕ) (bs : List Binding) : Type 0 where
   pub wide : length rows ≡ rowsWords
@@ -75,5 +86,12 @@ abbrev pub Entered : List ℕ → List ℕ → List ℕ → List Binding → For
 Entered s rows order bs (Number n) = RowsAre s rows order n bs
 Entered s rows order bs (Refused k) = (k ≡ 30) × (mostBindings < length bs)
 
-abbrev pub Entry : List ℕ → List ℕ → List ℕ → List ℕ → ℕ → List ℕ → List ℕ → Formed → Type 0
-Entry s m rows order n rows′ order′ r = (b : Binding) (bs : List Binding) → Stands s m b → RowsAre s rows order n bs → Entered s rows′ order′ (place b bs) r
+-- The first n rows are as they were, and any other up to k stands for the binding.
+pub record Appended (s m rows : List ℕ) (n : ℕ) (rows′ : List ℕ) (k : ℕ) : Type 0 where
+  pub low : n ≤ k
+  pub kept : (j : ℕ) → j < names * n → getD rows′ j 0 ≡ getD rows j 0
+  pub new : (r : ℕ) → n ≤ r → r < k → (b : Binding) → Stands s m b → RowIs s rows′ r b
+
+pub record Entry (s m rows order : List ℕ) (n : ℕ) (rows′ order′ : List ℕ) (r : Formed) : Type 0 where
+  pub right : (b : Binding) (bs : List Binding) → Stands s m b → RowsAre s rows order n bs → Entered s rows′ order′ (place b bs) r
+  pub appended : (k : ℕ) → r ≡ Number k → Appended s m rows n rows′ k

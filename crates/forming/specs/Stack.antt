@@ -27,23 +27,31 @@ use Rattle.forming.specs.Inner.{Composed, inner}
 use Rattle.forming.specs.Frames.{entries, agendaWords, framesBytes, frameAt, heft, rank, maskOf}
 use Rattle.forming.specs.Onward.{Task, task, onward, oneWay}
 use Rattle.forming.specs.Pending.{AgendaIs, spaces}
-use Rattle.forming.specs.Rows.{RowsAre, Entered}
+use Rattle.forming.specs.Rows.{RowIs, RowsAre, Entered, Appended}
 use Rattle.forming.specs.Settled.{TellsSettled}
 use Rattle.forming.specs.Sizes.{TellsSizes}
 
 -- What a frame stands for: a pattern with parts that meets a value, before the rest of the tasks, going on from a binding and its words; the
--- matches of the ways that were gone into, and those of the ways that are left.
+-- matches of the ways that were gone through, of those that were gone into, and of those that are left; how many rows there were when it was
+-- opened, and how many when its present way began.
 pub record Level : Type 0 where
   pub value : Value
   pub tasks : List Task
   pub binding : Binding
   pub words : List ℕ
+  pub past : List Binding
   pub done : List Binding
   pub due : List Binding
+  pub since : ℕ
+  pub seen : ℕ
 
 -- The matches of one way of the pattern.
 abbrev pub wayOf : List ℕ → Frame → Level → List Value → List Binding
 wayOf table f l vs = oneWay (innerOf table (f .p)) (l .tasks) (l .binding) vs
+
+-- Each of the bindings is a match of some way, all matches of which are among them.
+abbrev pub ByWays : List ℕ → Frame → Level → List Binding → Type 0
+ByWays table f l bs = (o : Binding) → In o bs → (vs : List Value) × In vs (waysOf table (f .p) (l .value)) × In o (wayOf table f l vs) × ((c : Binding) → In c (wayOf table f l vs) → In c bs)
 
 -- Frame i stands for the level.
 pub record LevelIs (table index s a : List ℕ) (i : ℕ) (f : Frame) (l : Level) : Type 0 where
@@ -64,7 +72,10 @@ pub record LevelIs (table index s a : List ℕ) (i : ℕ) (f : Frame) (l : Level
   pub settled : TellsSettled table (f .p) (l .words) (f .once)
   pub sizes : TellsSizes table (f .p) (kindAt (records table) (f .p)) (f .sizes)
   pub due : l .due ≡ gather (drop (f .way) (waysOf table (f .p) (l .value))) (wayOf table f l)
-  pub done : (o : Binding) → In o (l .done) → (vs : List Value) × In vs (waysOf table (f .p) (l .value)) × In o (wayOf table f l vs) × ((c : Binding) → In c (wayOf table f l vs) → In c (l .done))
+  pub done : ByWays table f l (l .done)
+  pub past : ByWays table f l (l .past)
+  pub since : f .since ≡ l .since
+  pub seen : f .seen ≡ l .seen
 
 -- The frames are the levels, the last first, below an entry of the agenda, with words that have grown since.
 abbrev pub StackIs : List ℕ → List ℕ → List ℕ → List ℕ → List ℕ → ℕ → List ℕ → List Level → Type 0
@@ -86,6 +97,21 @@ Accounted all pending entered hit (l ∷ ls) =
     ((c : Binding) → In c all → In c (l .done)) × ((c : Binding) → In c (l .done) → In c entered ⊎ In c pending) × (length ls < hit → (c : Binding) × In c (l .done))
     × Accounted (l .done ++ l .due) (pending ++ l .due) entered hit ls
 
+-- Each row between two stands for one of the bindings.
+abbrev pub RowsAmong : List ℕ → List ℕ → ℕ → ℕ → List Binding → Type 0
+RowsAmong s rows from to bs = (r : ℕ) → from ≤ r → r < to → (o : Binding) × RowIs s rows r o × In o bs
+
+-- The rows since a frame was opened are matches of its level; those of the ways gone through are so, and all matches of these ways are entered.
+pub record RowsOf (s rows : List ℕ) (n : ℕ) (entered : List Binding) (l : Level) : Type 0 where
+  pub few : l .seen ≤ n
+  pub whole : (c : Binding) → In c (l .past) → In c entered
+  pub past : RowsAmong s rows (l .since) (l .seen) (l .past)
+  pub done : RowsAmong s rows (l .since) n (l .done)
+
+abbrev pub Traced : List ℕ → List ℕ → ℕ → List Binding → List Level → Type 0
+Traced s rows n entered [] = Unit {0}
+Traced s rows n entered (l ∷ ls) = RowsOf s rows n entered l × Traced s rows n entered ls
+
 -- What is entered now, the matches of more, and what is due are together the target.
 pub record Stacked (table index s a : List ℕ) (high : ℕ) (found frames : List ℕ) (depth hit : ℕ) (rows order : List ℕ) (n : ℕ) (more target : List Binding) : Type 0 where
   pub short : length s ≤ 65536
@@ -99,6 +125,7 @@ pub record Stacked (table index s a : List ℕ) (high : ℕ) (found frames : Lis
   pub bindings : List Binding
   pub rows-are : RowsAre s rows order n bindings
   pub accounted : Accounted more more bindings hit levels
+  pub traced : Traced s rows n bindings levels
   pub right : adding (more ++ dues levels) bindings ≡ target
 
 -- After a step: the target has more bindings than there may be, or is not reached yet.
@@ -123,16 +150,15 @@ pub record Waiting (table index s a : List ℕ) (at next top : ℕ) (found frame
   pub stands : Stands s found binding
   pub stacked : Stacked table index s a top found frames depth hit rows order n (onward (task (patternAt (records table) (getD a (3 * at) 0)) value ∷ tasks) binding) target
 
-pub record OpenHeld (table index s a : List ℕ) (at next top : ℕ) (found frames : List ℕ) (depth : ℕ) : Type 0 where
+pub record OpenHeld (table index s a : List ℕ) (at next top : ℕ) (found frames : List ℕ) (depth n : ℕ) : Type 0 where
   pub hit : ℕ
   pub rows : List ℕ
   pub order : List ℕ
-  pub n : ℕ
   pub target : List Binding
   pub waiting : Waiting table index s a at next top found frames depth hit rows order n target
 
-pub record Opened (table index s a : List ℕ) (at next top : ℕ) (found frames : List ℕ) (depth : ℕ) (frames′ : List ℕ) (r : ℕ) : Type 0 where
-  pub right : (hit : ℕ) (rows order : List ℕ) (n : ℕ) (target : List Binding) → Waiting table index s a at next top found frames depth hit rows order n target
+pub record Opened (table index s a : List ℕ) (at next top : ℕ) (found frames : List ℕ) (depth n : ℕ) (frames′ : List ℕ) (r : ℕ) : Type 0 where
+  pub right : (hit : ℕ) (rows order : List ℕ) (target : List Binding) → Waiting table index s a at next top found frames depth hit rows order n target
       → Stacked table index s a entries found frames′ r hit rows order n [] target
   pub less : rank frames′ r < rank frames depth + 256 ^ suc (heft top next)
 
@@ -140,7 +166,7 @@ pub record Opened (table index s a : List ℕ) (at next top : ℕ) (found frames
 
 pub record MatchEntered (s found : List ℕ) (depth : ℕ) (rows order : List ℕ) (n : ℕ) (rows′ order′ : List ℕ) (r : Step) : Type 0 where
   pub full : r .full ≡ true → (r .depth ≡ 0) × ((b : Binding) (bs : List Binding) → Stands s found b → RowsAre s rows order n bs → mostBindings < length (place b bs))
-  pub going : r .full ≡ false → (r .depth ≡ depth) × (r .hit ≡ depth) × ((b : Binding) (bs : List Binding) → Stands s found b → RowsAre s rows order n bs → RowsAre s rows′ order′ (r .n) (place b bs))
+  pub going : r .full ≡ false → (r .depth ≡ depth) × (r .hit ≡ depth) × ((b : Binding) (bs : List Binding) → Stands s found b → RowsAre s rows order n bs → RowsAre s rows′ order′ (r .n) (place b bs)) × Appended s found rows n rows′ (r .n)
 
 -- ---- down
 

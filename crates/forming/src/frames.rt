@@ -11,8 +11,8 @@ ghost use Rattle.forming.specs.Frames.{frameBytes, mostFrames, framesByt
 // A frame takes two of the records of a table at least, so that no more are on the stack.
 const MOST_FRAMES: usize = MOST_RECORDS / 2;
 
-// The bytes of a frame: two for the names, and one for each of the other thirteen fields.
-const FRAME_BYTES: usize = 15;
+// The bytes of a frame: two for the names, and one for each of the other fifteen fields.
+const FRAME_BYTES: usize = 17;
 
 pub type Bytes = [u8; FRAME_BYTES];
 
@@ -22,8 +22,8 @@ pub const FRAMES_BYTES: usize = MOST_FRAMES * FRAME_BYTES;
 pub type Frames = [u8; FRAMES_BYTES];
 
 // The record of the pattern; the entry of the agenda that has the part it meets, the entry that follows, and the first that is free; the way that is
-// next, and how many there are; the names that had a value; whether the pattern is only a test; what its halves take; and which of its parts are only
-// tests, a bit for each.
+// next, and how many there are; the names that had a value; whether the pattern is only a test; what its halves take; which of its parts are only
+// tests, a bit for each; how many rows there were when the frame was opened; and how many when its present way began.
 pub struct Frame {
     pub p: usize,
     pub at: usize,
@@ -35,6 +35,8 @@ pub struct Frame {
     pub once: bool,
     pub sizes: Sizes,
     pub tests: usize,
+    pub since: usize,
+    pub seen: usize,
 }
 
 // The bytes of frame i.
@@ -64,31 +66,33 @@ fn frame_of(b: Bytes) -> Frame
     ensures { λ r. ⌜ r ≡ frameOf b ⌝ }
 {
     let left = Size {
-        least: b[10],
-        more: b[11] == 1,
+        least: b[11],
+        more: b[12] == 1,
     };
     let right = Size {
-        least: b[12],
-        more: b[13] == 1,
+        least: b[13],
+        more: b[14] == 1,
     };
     let sizes = Sizes {
-        bound: b[9] == 1,
+        bound: b[10] == 1,
         left,
         right,
     };
-    let low = wide(b[6]);
-    let high = wide(b[7]);
+    let low = wide(b[7]);
+    let high = wide(b[8]);
     Frame {
         p: b[0] as usize,
         at: b[1] as usize,
         next: b[2] as usize,
         top: b[3] as usize,
         way: b[4] as usize,
-        ways: b[5] as usize,
+        ways: b[6] as usize,
         mask: low + 256 * high,
-        once: b[8] == 1,
+        once: b[9] == 1,
         sizes,
-        tests: b[14] as usize,
+        tests: b[15] as usize,
+        since: b[16] as usize,
+        seen: b[5] as usize,
     }
 }
 
@@ -99,6 +103,15 @@ pub fn load(frames: &Frames, i: usize) -> Frame
 {
     let b = slot(frames, i);
     frame_of(b)
+}
+
+// The first free entry of the agenda in frame i.
+pub fn top_of(frames: &Frames, i: usize) -> usize
+    requires { ⌜ (i < mostFrames) × (length (now frames) ≡ framesBytes) ⌝ }
+    ensures { λ r. ⌜ r ≡ frameAt (now (frames .entry)) i .top ⌝ }
+{
+    let top = frames[FRAME_BYTES * i + 3];
+    wide(top)
 }
 
 // A flag as a byte.
@@ -127,6 +140,7 @@ fn bytes_of(f: Frame) -> Bytes
         f.next as u8,
         f.top as u8,
         f.way as u8,
+        f.seen as u8,
         f.ways as u8,
         (f.mask % 256) as u8,
         (f.mask / 256 % 256) as u8,
@@ -137,6 +151,7 @@ fn bytes_of(f: Frame) -> Bytes
         z.right.least,
         right,
         f.tests as u8,
+        f.since as u8,
     ]
 }
 
@@ -175,13 +190,14 @@ pub fn advance(frames: &mut Frames, i: usize, f: Frame) -> usize
     i
 }
 
-// Writes the way that is next in frame i, the last, where it is one of so many; how many frames there are.
-pub fn go_on(frames: &mut Frames, i: usize, way: usize, ways: usize) -> usize
-    requires { ⌜ (i < mostFrames) × (length (now frames) ≡ framesBytes) × (ways < 256) × (ways ≡ frameAt (now frames) i .ways) ⌝ }
-    ensures { λ r. ⌜ Advanced (now (frames .entry)) i (onto (frameAt (now (frames .entry)) i) way) (now (frames .exit)) r ⌝ }
+// Writes the way that is next in frame i, the last, where it is one of so many, and how many rows there are; how many frames there are.
+pub fn go_on(frames: &mut Frames, i: usize, way: usize, ways: usize, seen: usize) -> usize
+    requires { ⌜ (i < mostFrames) × (length (now frames) ≡ framesBytes) × (ways < 256) × (ways ≡ frameAt (now frames) i .ways) × (seen < 256) ⌝ }
+    ensures { λ r. ⌜ Advanced (now (frames .entry)) i (onto (frameAt (now (frames .entry)) i) way seen) (now (frames .exit)) r ⌝ }
 {
     if way < ways {
         frames[FRAME_BYTES * i + 4] = way as u8;
+        frames[FRAME_BYTES * i + 5] = seen as u8;
         return i + 1;
     }
     i

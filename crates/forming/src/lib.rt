@@ -3,6 +3,7 @@
 mod frames;
 mod masks;
 mod reduced;
+mod repeats;
 mod rows;
 mod settled;
 mod sizes;
@@ -199,7 +200,7 @@ fn split_word(s: &[u8], k: usize, word: u32, ways: usize) -> u32
     words::word_of(s, members)
 }
 
-// Opens a frame for the entry at, where some way may have a match; how many frames there are.
+// Opens a frame for the entry at, where some way may have a match and there are n rows; how many frames there are.
 fn open_frame(
     table: &[u8],
     index: &Index,
@@ -211,9 +212,10 @@ fn open_frame(
     found: &[u32; Env::NAMES],
     frames: &mut Frames,
     depth: usize,
+    n: usize,
 ) -> usize
-    requires { ⌜ OpenHeld (now table) (now index) (now s) (now agenda) at next top (now found) (now frames) depth ⌝ }
-    ensures { λ r. ⌜ Opened (now (table .entry)) (now (index .entry)) (now (s .entry)) (now (agenda .entry)) at next top (now (found .entry)) (now (frames .entry)) depth (now (frames .exit)) r ⌝ }
+    requires { ⌜ OpenHeld (now table) (now index) (now s) (now agenda) at next top (now found) (now frames) depth n ⌝ }
+    ensures { λ r. ⌜ Opened (now (table .entry)) (now (index .entry)) (now (s .entry)) (now (agenda .entry)) at next top (now (found .entry)) (now (frames .entry)) depth n (now (frames .exit)) r ⌝ }
 {
     let whole = agenda[3 * at] as usize;
     let word = agenda[3 * at + 1];
@@ -239,13 +241,16 @@ fn open_frame(
             once,
             sizes,
             tests,
+            since: n,
+            seen: n,
         };
         return frames::advance(frames, depth, f);
     }
     depth
 }
 
-// Goes on with an agenda: leaves are taken off; a match is inserted, or a frame opened for the pattern with parts that waits.
+// Goes on with an agenda: leaves are taken off; a match is inserted, or a frame opened for the pattern with parts that waits, unless all that would
+// follow is among the rows already.
 fn down(
     table: &[u8],
     index: &Index,
@@ -277,6 +282,14 @@ fn down(
     if at == 0 {
         return insert_match(s, found, depth, rows, order, n);
     }
+    if repeats::is_repeat(table, index, at, found, frames, depth, rows) {
+        return Step {
+            n,
+            full: false,
+            depth,
+            hit,
+        };
+    }
     let opened = open_frame(
         table,
         index,
@@ -288,6 +301,7 @@ fn down(
         found,
         frames,
         depth,
+        n,
     );
     Step {
         n,
@@ -372,7 +386,7 @@ fn back(
     let met = agenda[3 * at + 1];
     let w = split_word(s, k, met, f.ways);
     let way = sizes::way_from(k, f.ways, f.way + 1, f.sizes);
-    let left = frames::go_on(frames, i, way, f.ways);
+    let left = frames::go_on(frames, i, way, f.ways, n);
     masks::clear(found, f.mask);
     let head = push(table, index, p, s, w, f.way, agenda, f.next, f.top, f.tests);
     down(

@@ -7,13 +7,14 @@ use parts::Part;
 use parts::words;
 use parts::words::Env;
 ghost use mathlib.Core.Path.{_≡_};
+ghost use mathlib.Core.Bool.{true};
 ghost use Prim.Native.Nat.{ℕ, _≤_, _<_};
 ghost use lib.ListN.{length};
 ghost use Rattle.parts.specs.Word.{WordHeld, OrderedWords};
 ghost use Rattle.patterns.specs.Binding.{Binding, orderBindings};
 ghost use Rattle.patterns.specs.Binder.{mostBindings};
 ghost use Rattle.matching.specs.Leaf.{Stands, Standing};
-ghost use Rattle.forming.specs.Rows.{rowsWords, RowIs, RowHeld, RowPut, RowsHeld, Sought, Shifted, EntryHeld, Entry};
+ghost use Rattle.forming.specs.Rows.{rowsWords, RowIs, RowHeld, Agrees, SomeAgrees, RowPut, RowsHeld, Sought, Shifted, EntryHeld, Entry};
 
 // Where a binding has its place among the rows, and whether it is there.
 pub struct Seek {
@@ -90,6 +91,41 @@ fn find_place(s: &[u8], found: &[u32; Env::NAMES], rows: &Rows, order: &RowOrder
         at: low,
         there: false,
     }
+}
+
+// A row has the word of each name found.
+fn agrees(found: &[u32; Env::NAMES], rows: &Rows, r: usize) -> bool
+    requires { ⌜ r < mostBindings ⌝ }
+    ensures { λ t. ⌜ (t ≡ true → Agrees (now (found .entry)) (now (rows .entry)) r) ⌝ }
+{
+    let mut x = 0;
+    while x < Env::NAMES {
+        let a = found[x];
+        let b = rows[Env::NAMES * r + x];
+        if a != 0 {
+            if a != b {
+                return false;
+            }
+        }
+        x += 1;
+    }
+    true
+}
+
+// Some row between two has the word of each name found.
+pub fn some_agrees(found: &[u32; Env::NAMES], rows: &Rows, from: usize, to: usize) -> bool
+    requires { ⌜ to ≤ mostBindings ⌝ }
+    ensures { λ t. ⌜ (t ≡ true → SomeAgrees (now (found .entry)) (now (rows .entry)) from to) ⌝ }
+{
+    let mut r = from;
+    while r < to {
+        let same = agrees(found, rows, r);
+        if same {
+            return true;
+        }
+        r += 1;
+    }
+    false
 }
 
 // Writes a binding as row r.

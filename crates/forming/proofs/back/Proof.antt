@@ -59,7 +59,7 @@ way-from-requires : tie.Need-way-from-requires
 way-from-requires c κs = next-asked _ _ _ _ _ _ _ _ _ _ _ _ _ (last-of _ _ _ _ _ _ _ _ _ _ _ _ (c .before .before .before .before .before .before .before .before .before .before .pre .stacked) (c .before .before .before .before .before .before .before .before .before .before .args .depth - 1) (omega (arith, c .before .before .before .before .before .before .before .before .before .before .pre .some)) _ (c .before .before .before .before .before .before .load .ensures)) _ (c .before .before .before .before .kind .ensures .0)
 
 go-on-requires : tie.Need-go-on-requires
-go-on-requires c κs = let l = (last-of _ _ _ _ _ _ _ _ _ _ _ _ (c .before .before .before .before .before .before .before .before .before .before .before .before .pre .stacked) (c .before .before .before .before .before .before .before .before .before .before .before .before .args .depth - 1) (omega (arith, c .before .before .before .before .before .before .before .before .before .before .before .before .pre .some)) _ (c .before .before .before .before .before .before .before .before .load .ensures)) in (last-few _ _ _ _ _ _ _ _ _ _ _ _ _ l, l .frames-long, l .is .few, ap (λ (f : Frame). f .ways) (c .before .before .before .before .before .before .before .before .load .ensures))
+go-on-requires c κs = let l = (last-of _ _ _ _ _ _ _ _ _ _ _ _ (c .before .before .before .before .before .before .before .before .before .before .before .before .pre .stacked) (c .before .before .before .before .before .before .before .before .before .before .before .before .args .depth - 1) (omega (arith, c .before .before .before .before .before .before .before .before .before .before .before .before .pre .some)) _ (c .before .before .before .before .before .before .before .before .load .ensures)) in (last-few _ _ _ _ _ _ _ _ _ _ _ _ _ l, l .frames-long, l .is .few, ap (λ (f : Frame). f .ways) (c .before .before .before .before .before .before .before .before .load .ensures), omega (arith, l .rows-are .few))
 
 clear-requires : tie.Need-clear-requires
 clear-requires c κs = (last-of _ _ _ _ _ _ _ _ _ _ _ _ (c .before .before .before .before .before .before .before .before .before .before .before .before .before .before .pre .stacked) (c .before .before .before .before .before .before .before .before .before .before .before .before .before .before .args .depth - 1) (omega (arith, c .before .before .before .before .before .before .before .before .before .before .before .before .before .before .pre .some)) _ (c .before .before .before .before .before .before .before .before .before .before .load .ensures)) .sized
@@ -74,10 +74,10 @@ lesser-requires : tie.Need-lesser-requires
 lesser-requires c κs = search needs
 
 down-requires : tie.Need-down-requires
-down-requires c κs = (_, going-down _ _ _ _ _ _ _ _ _ _ _ _ _ (last-of _ _ _ _ _ _ _ _ _ _ _ _ (c .before .before .before .before .before .before .before .before .before .before .before .before .before .before .before .before .before .before .before .before .before .before .before .before .pre .stacked) (c .before .before .before .before .before .before .before .before .before .before .before .before .before .before .before .before .before .before .before .before .before .before .before .before .args .depth - 1) (omega (arith, c .before .before .before .before .before .before .before .before .before .before .before .before .before .before .before .before .before .before .before .before .before .before .before .before .pre .some)) _ (c .before .before .before .before .before .before .before .before .before .before .before .before .before .before .before .before .before .before .before .before .load .ensures)) _ (c .before .before .before .before .before .before .before .before .before .before .before .before .before .before .before .before .before .before .kind .ensures .0) _ (c .before .before .before .before .before .before .before .before .before .before .before .before .before .way-from .ensures) _ (c .before .before .before .before .before .before .before .before .before .before .before .before .before .before .before .split-word .ensures) _ _ (c .before .before .before .before .before .before .before .push .ensures) _ _ (advanced-from _ _ _ (c .before .before .before .before .before .before .before .before .before .before .before .before .before .before .before .before .before .before .before .before .load .ensures) _ _ _ (c .before .before .before .before .before .before .before .before .before .before .before .go-on .ensures)) _ (c .before .before .before .before .before .before .before .before .before .clear .ensures) _ (c .before .before .before .before .before .before .before .before .before .before .before .before .before .before .before .before .before .operand-count .ensures .0) _ (c .before .before .lesser .ensures .0) (c .before .before .lesser .ensures .1))
+down-requires c κs = (_, going-down _ _ _ _ _ _ _ _ _ _ _ _ _ (last-of _ _ _ _ _ _ _ _ _ _ _ _ (c .before .before .before .before .before .before .before .before .before .before .before .before .before .before .before .before .before .before .before .before .before .before .before .before .pre .stacked) (c .before .before .before .before .before .before .before .before .before .before .before .before .before .before .before .before .before .before .before .before .before .before .before .before .args .depth - 1) (omega (arith, c .before .before .before .before .before .before .before .before .before .before .before .before .before .before .before .before .before .before .before .before .before .before .before .before .pre .some)) _ (c .before .before .before .before .before .before .before .before .before .before .before .before .before .before .before .before .before .before .before .before .load .ensures)) _ (c .before .before .before .before .before .before .before .before .before .before .before .before .before .before .before .before .before .before .kind .ensures .0) _ (c .before .before .before .before .before .before .before .before .before .before .before .before .before .way-from .ensures) _ (c .before .before .before .before .before .before .before .before .before .before .before .before .before .before .before .split-word .ensures) _ _ (c .before .before .before .before .before .before .before .push .ensures) _ _ (advanced-from _ _ _ (c .before .before .before .before .before .before .before .before .before .before .before .before .before .before .before .before .before .before .before .before .load .ensures) _ _ _ _ (c .before .before .before .before .before .before .before .before .before .before .before .go-on .ensures)) _ (c .before .before .before .before .before .before .before .before .before .clear .ensures) _ (c .before .before .before .before .before .before .before .before .before .before .before .before .before .before .before .before .before .operand-count .ensures .0) _ (c .before .before .lesser .ensures .0) (c .before .before .lesser .ensures .1))
 
 returns-2 : tie.Need-returns-2
-returns-2 c = record { right = λ t h. c .down .ensures .right t (going-down _ _ _ _ _ _ _ _ _ _ _ _ _ (last-of _ _ _ _ _ _ _ _ _ _ _ _ h (c .before .before .before .before .before .before .before .before .before .before .before .before .before .before .before .before .before .before .before .before .before .before .before .before .before .args .depth - 1) (omega (arith, c .before .before .before .before .before .before .before .before .before .before .before .before .before .before .before .before .before .before .before .before .before .before .before .before .before .pre .some)) _ (c .before .before .before .before .before .before .before .before .before .before .before .before .before .before .before .before .before .before .before .before .before .load .ensures)) _ (c .before .before .before .before .before .before .before .before .before .before .before .before .before .before .before .before .before .before .before .kind .ensures .0) _ (c .before .before .before .before .before .before .before .before .before .before .before .before .before .before .way-from .ensures) _ (c .before .before .before .before .before .before .before .before .before .before .before .before .before .before .before .before .split-word .ensures) _ _ (c .before .before .before .before .before .before .before .before .push .ensures) _ _ (advanced-from _ _ _ (c .before .before .before .before .before .before .before .before .before .before .before .before .before .before .before .before .before .before .before .before .before .load .ensures) _ _ _ (c .before .before .before .before .before .before .before .before .before .before .before .before .go-on .ensures)) _ (c .before .before .before .before .before .before .before .before .before .before .clear .ensures) _ (c .before .before .before .before .before .before .before .before .before .before .before .before .before .before .before .before .before .before .operand-count .ensures .0) _ (c .before .before .before .lesser .ensures .0) (c .before .before .before .lesser .ensures .1)); less = next-less _ _ _ _ _ _ _ _ _ _ _ _ _ (last-of _ _ _ _ _ _ _ _ _ _ _ _ (c .before .before .before .before .before .before .before .before .before .before .before .before .before .before .before .before .before .before .before .before .before .before .before .before .before .pre .stacked) (c .before .before .before .before .before .before .before .before .before .before .before .before .before .before .before .before .before .before .before .before .before .before .before .before .before .args .depth - 1) (omega (arith, c .before .before .before .before .before .before .before .before .before .before .before .before .before .before .before .before .before .before .before .before .before .before .before .before .before .pre .some)) _ (c .before .before .before .before .before .before .before .before .before .before .before .before .before .before .before .before .before .before .before .before .before .load .ensures)) _ (c .before .before .before .before .before .before .before .before .before .before .before .before .before .before .before .before .before .before .before .kind .ensures .0) _ (c .before .before .before .before .before .before .before .before .before .before .before .before .before .before .way-from .ensures) _ (c .before .before .before .before .before .before .before .before .before .before .before .before .before .before .before .before .split-word .ensures) _ _ (c .before .before .before .before .before .before .before .before .push .ensures) _ _ (advanced-from _ _ _ (c .before .before .before .before .before .before .before .before .before .before .before .before .before .before .before .before .before .before .before .before .before .load .ensures) _ _ _ (c .before .before .before .before .before .before .before .before .before .before .before .before .go-on .ensures)) _ (c .before .before .before .before .before .before .before .before .before .before .clear .ensures) _ (c .before .before .before .before .before .before .before .before .before .before .before .before .before .before .before .before .before .before .operand-count .ensures .0) _ (c .before .before .before .lesser .ensures .0) (c .before .before .before .lesser .ensures .1) _ (omega (arith, c .before .before .before .before .before .before .before .before .before .before .before .before .before .before .before .before .before .before .before .before .before .before .before .before .before .pre .some)) (c .before .before .before .before .before .before .before .before .before .before .before .before .before .before .before .before .before .before .before .before .before .load .ensures) _ (c .down .ensures .less) }
+returns-2 c = record { right = λ t h. c .down .ensures .right t (going-down _ _ _ _ _ _ _ _ _ _ _ _ _ (last-of _ _ _ _ _ _ _ _ _ _ _ _ h (c .before .before .before .before .before .before .before .before .before .before .before .before .before .before .before .before .before .before .before .before .before .before .before .before .before .args .depth - 1) (omega (arith, c .before .before .before .before .before .before .before .before .before .before .before .before .before .before .before .before .before .before .before .before .before .before .before .before .before .pre .some)) _ (c .before .before .before .before .before .before .before .before .before .before .before .before .before .before .before .before .before .before .before .before .before .load .ensures)) _ (c .before .before .before .before .before .before .before .before .before .before .before .before .before .before .before .before .before .before .before .kind .ensures .0) _ (c .before .before .before .before .before .before .before .before .before .before .before .before .before .before .way-from .ensures) _ (c .before .before .before .before .before .before .before .before .before .before .before .before .before .before .before .before .split-word .ensures) _ _ (c .before .before .before .before .before .before .before .before .push .ensures) _ _ (advanced-from _ _ _ (c .before .before .before .before .before .before .before .before .before .before .before .before .before .before .before .before .before .before .before .before .before .load .ensures) _ _ _ _ (c .before .before .before .before .before .before .before .before .before .before .before .before .go-on .ensures)) _ (c .before .before .before .before .before .before .before .before .before .before .clear .ensures) _ (c .before .before .before .before .before .before .before .before .before .before .before .before .before .before .before .before .before .before .operand-count .ensures .0) _ (c .before .before .before .lesser .ensures .0) (c .before .before .before .lesser .ensures .1)); less = next-less _ _ _ _ _ _ _ _ _ _ _ _ _ (last-of _ _ _ _ _ _ _ _ _ _ _ _ (c .before .before .before .before .before .before .before .before .before .before .before .before .before .before .before .before .before .before .before .before .before .before .before .before .before .pre .stacked) (c .before .before .before .before .before .before .before .before .before .before .before .before .before .before .before .before .before .before .before .before .before .before .before .before .before .args .depth - 1) (omega (arith, c .before .before .before .before .before .before .before .before .before .before .before .before .before .before .before .before .before .before .before .before .before .before .before .before .before .pre .some)) _ (c .before .before .before .before .before .before .before .before .before .before .before .before .before .before .before .before .before .before .before .before .before .load .ensures)) _ (c .before .before .before .before .before .before .before .before .before .before .before .before .before .before .before .before .before .before .before .kind .ensures .0) _ (c .before .before .before .before .before .before .before .before .before .before .before .before .before .before .way-from .ensures) _ (c .before .before .before .before .before .before .before .before .before .before .before .before .before .before .before .before .split-word .ensures) _ _ (c .before .before .before .before .before .before .before .before .push .ensures) _ _ (advanced-from _ _ _ (c .before .before .before .before .before .before .before .before .before .before .before .before .before .before .before .before .before .before .before .before .before .load .ensures) _ _ _ _ (c .before .before .before .before .before .before .before .before .before .before .before .before .go-on .ensures)) _ (c .before .before .before .before .before .before .before .before .before .before .clear .ensures) _ (c .before .before .before .before .before .before .before .before .before .before .before .before .before .before .before .before .before .before .operand-count .ensures .0) _ (c .before .before .before .lesser .ensures .0) (c .before .before .before .lesser .ensures .1) _ (omega (arith, c .before .before .before .before .before .before .before .before .before .before .before .before .before .before .before .before .before .before .before .before .before .before .before .before .before .pre .some)) (c .before .before .before .before .before .before .before .before .before .before .before .before .before .before .before .before .before .before .before .before .before .load .ensures) _ (c .down .ensures .less) }
 
 pub back-spec : {M : Type 1} → statement M
 back-spec =

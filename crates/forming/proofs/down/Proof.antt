@@ -1,12 +1,13 @@
 use native.Mathlib.Omega.{arith}
 use borrow.Author.Tests.{not-true, not-false}
-use Rattle.forming.proofs.Downward.{reached, take-asked, no-match, enter-asked, match-told, open-asked, none-less, match-less, open-less}
+use Rattle.forming.proofs.Downward.{reached, take-asked, no-match, enter-asked, match-told, open-asked, repeat-asked, repeated, none-less, match-less, open-less}
 use Rattle.forming.proofs.down.Statement.{statement}
 use Rattle.forming.proofs.down.Tie as tie
 use Rattle.forming.proofs.down.Reads as reads
 use Rattle.forming.proofs.down.Lts as lts
 use Rattle.forming.proofs.insert_match.Reads as insert-match-reads
 use Rattle.forming.proofs.open_frame.Reads as open-frame-reads
+use Rattle.forming.proofs.repeats.is_repeat.Reads as is-repeat-reads
 use Rattle.forming.proofs.taking.take_leaves.Reads as take-leaves-reads
 
 take-leaves-requires : tie.Need-take-leaves-requires
@@ -21,11 +22,17 @@ insert-match-requires c κs = enter-asked _ _ _ _ _ _ _ _ _ _ _ _ _ _ (c .before
 returns-2 : tie.Need-returns-2
 returns-2 c = record { right = λ t d. match-told _ _ _ _ _ _ _ _ _ _ _ _ _ t d _ _ (c .before .before .before .before .before .before .before .take-leaves .ensures) (not-false _ (c .before .before .before .before .before .if1 .left)) (c .before .before .before .before .if2 .taken) _ _ _ (c .insert-match .ensures); less = match-less _ _ _ _ _ _ _ _ _ (c .insert-match .ensures) _ _ _ }
 
-open-frame-requires : tie.Need-open-frame-requires
-open-frame-requires c κs = record { hit = _; rows = _; order = _; n = _; target = _; waiting = open-asked _ _ _ _ _ _ _ _ _ _ _ _ _ _ (c .before .before .before .before .before .before .before .before .before .pre .1) _ _ (c .before .before .before .before .before .take-leaves .ensures) (not-false _ (c .before .before .before .if1 .left)) (omega arith) }
+is-repeat-requires : tie.Need-is-repeat-requires
+is-repeat-requires c κs = repeat-asked _ _ _ _ _ _ _ _ _ _ _ _ _ _ _ (open-asked _ _ _ _ _ _ _ _ _ _ _ _ _ _ (c .before .before .before .before .before .before .before .before .before .before .pre .1) _ _ (c .before .before .before .before .before .before .take-leaves .ensures) (not-false _ (c .before .before .before .before .if1 .left)) (omega arith))
 
 returns-3 : tie.Need-returns-3
-returns-3 c = record { right = λ t d. reached _ _ _ _ _ _ _ _ _ _ _ _ (c .open-frame .ensures .right _ _ _ _ t (open-asked _ _ _ _ _ _ _ _ _ _ _ _ _ t d _ _ (c .before .before .before .before .before .before .take-leaves .ensures) (not-false _ (c .before .before .before .before .if1 .left)) (omega arith))); less = open-less _ _ _ _ _ _ _ (c .before .before .before .before .before .before .take-leaves .ensures .falls (omega arith)) (c .open-frame .ensures .less) }
+returns-3 c = record { right = λ t d. repeated _ _ _ _ _ _ _ _ _ _ _ _ _ _ t (open-asked _ _ _ _ _ _ _ _ _ _ _ _ _ t d _ _ (c .before .before .before .before .before .before .before .before .take-leaves .ensures) (not-false _ (c .before .before .before .before .before .before .if1 .left)) (omega arith)) (c .before .is-repeat .ensures (c .if3 .taken)); less = none-less _ _ _ _ }
+
+open-frame-requires : tie.Need-open-frame-requires
+open-frame-requires c κs = record { hit = _; rows = _; order = _; target = _; waiting = open-asked _ _ _ _ _ _ _ _ _ _ _ _ _ _ (c .before .before .before .before .before .before .before .before .before .before .before .before .before .before .pre .1) _ _ (c .before .before .before .before .before .before .before .before .before .before .take-leaves .ensures) (not-false _ (c .before .before .before .before .before .before .before .before .if1 .left)) (omega arith) }
+
+returns-4 : tie.Need-returns-4
+returns-4 c = record { right = λ t d. reached _ _ _ _ _ _ _ _ _ _ _ _ (c .open-frame .ensures .right _ _ _ t (open-asked _ _ _ _ _ _ _ _ _ _ _ _ _ t d _ _ (c .before .before .before .before .before .before .before .before .before .before .before .take-leaves .ensures) (not-false _ (c .before .before .before .before .before .before .before .before .before .if1 .left)) (omega arith))); less = open-less _ _ _ _ _ _ _ (c .before .before .before .before .before .before .before .before .before .before .before .take-leaves .ensures .falls (omega arith)) (c .open-frame .ensures .less) }
 
 pub down-spec : {M : Type 1} → statement M
 down-spec =
@@ -35,5 +42,7 @@ down-spec =
     returns
     insert-match-requires
     returns-2
+    is-repeat-requires
+    returns-3
     open-frame-requires
-    returns-3)
+    returns-4)

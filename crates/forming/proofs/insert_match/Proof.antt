@@ -18,10 +18,10 @@ enum-known-formed : tie.Need-enum-known-formed
 enum-known-formed c = search needs
 
 returns : tie.Need-returns
-returns c = record { full = λ x. (refl, λ b bs h g. subst (Entered _ _ _ _) (c .enum-told .given .1) (c .before .before .insert-row .ensures b bs h g) .1); going = λ x. true-false x }
+returns c = record { full = λ x. (refl, λ b bs h g. subst (Entered _ _ _ _) (c .enum-told .given .1) (c .before .before .insert-row .ensures .right b bs h g) .1); going = λ x. true-false x }
 
 returns-2 : tie.Need-returns-2
-returns-2 c = record { full = λ x. true-false (sym x); going = λ x. (refl, refl, λ b bs h g. subst (Entered _ _ _ _) (c .before .formed .given .1) (c .before .before .before .insert-row .ensures b bs h g)) }
+returns-2 c = record { full = λ x. true-false (sym x); going = λ x. (refl, refl, λ b bs h g. subst (Entered _ _ _ _) (c .before .formed .given .1) (c .before .before .before .insert-row .ensures .right b bs h g), c .before .before .before .insert-row .ensures .appended _ (c .before .formed .given .1)) }
 
 pub insert-match-spec : {M : Type 1} → statement M
 insert-match-spec = tie.close (tie.spec insert-row-requires enum-told enum-known-formed returns returns-2)

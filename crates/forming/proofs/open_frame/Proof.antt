@@ -84,10 +84,10 @@ advance-requires : tie.Need-advance-requires
 advance-requires c κs = (depth-few _ _ _ _ _ _ _ _ _ _ _ _ _ _ _ (c .before .before .before .before .before .before .before .before .before .before .before .before .before .before .before .before .before .before .pre .waiting), c .before .before .before .before .before .before .before .before .before .before .before .before .before .before .before .before .before .before .pre .waiting .stacked .frames-long, frame-fits _ _ _ _ _ _ _ _ _ _ _ _ _ _ _ (c .before .before .before .before .before .before .before .before .before .before .before .before .before .before .before .before .before .before .pre .waiting) _ (c .before .before .before .before .before .before .before .before .before .before .before .before .before .reduced .ensures) (c .before .before .before .before .before .before .before .before .before .meet .result) (met-as _ _ _ _ _ _ _ _ _ _ _ _ _ _ _ (c .before .before .before .before .before .before .before .before .before .before .before .before .before .before .before .before .before .before .pre .waiting) _ (c .before .before .before .before .before .before .before .before .before .before .before .before .before .reduced .ensures) _ _ _ (c .before .before .before .before .before .before .before .before .before .meet .result) (c .before .before .before .before .before .before .before .before .before .before .before .before .kind .ensures .0) (c .before .before .before .before .before .before .before .before .before .before .before .operand-count .ensures .0) (c .before .before .before .before .before .before .before .before .before .before .unpack .ensures) (c .before .before .before .before .before .before .before .before .before .meet .ensures)) _ (c .before .before .before .before .before .before .before .m .given .1) _ (c .before .before .before .before .before .before .before .before .before .before .before .before .kind .ensures .0) _ (c .before .before .before .before .before .sizes-of .ensures) _ (c .before .before .before .before .way-from .ensures) _ (c .before .before .before .is-settled .ensures) _ (c .before .before .mask-of .ensures) _ (c .before .tests-of .ensures))
 
 returns : tie.Need-returns
-returns c = record { right = λ hit rows order n target w. frame-opened _ _ _ _ _ _ _ _ _ _ _ _ _ _ _ w _ (c .before .before .before .before .before .before .before .before .before .before .before .before .before .before .reduced .ensures) (c .before .before .before .before .before .before .before .before .before .before .meet .result) (met-as _ _ _ _ _ _ _ _ _ _ _ _ _ _ _ w _ (c .before .before .before .before .before .before .before .before .before .before .before .before .before .before .reduced .ensures) _ _ _ (c .before .before .before .before .before .before .before .before .before .before .meet .result) (c .before .before .before .before .before .before .before .before .before .before .before .before .before .kind .ensures .0) (c .before .before .before .before .before .before .before .before .before .before .before .before .operand-count .ensures .0) (c .before .before .before .before .before .before .before .before .before .before .before .unpack .ensures) (c .before .before .before .before .before .before .before .before .before .before .meet .ensures)) _ (c .before .before .before .before .before .before .before .before .m .given .1) _ (c .before .before .before .before .before .before .before .before .before .before .before .before .before .kind .ensures .0) _ (c .before .before .before .before .before .before .sizes-of .ensures) _ (c .before .before .before .before .before .way-from .ensures) _ (c .before .before .before .before .is-settled .ensures) _ (c .before .before .before .mask-of .ensures) _ (c .before .before .tests-of .ensures) _ _ (c .advance .ensures); less = opened-less _ _ (depth-few _ _ _ _ _ _ _ _ _ _ _ _ _ _ _ (c .before .before .before .before .before .before .before .before .before .before .before .before .before .before .before .before .before .before .before .pre .waiting)) (c .before .before .before .before .before .before .before .before .before .before .before .before .before .before .before .before .before .before .before .pre .waiting .stacked .frames-long) _ _ _ (c .advance .ensures) (ways-few _ _ _ _ _ _ _ _ _ _ _ _ _ _ _ (c .before .before .before .before .before .before .before .before .before .before .before .before .before .before .before .before .before .before .before .pre .waiting) _ (c .before .before .before .before .before .before .before .before .before .before .before .before .before .before .reduced .ensures) (c .before .before .before .before .before .before .before .before .before .before .meet .result) (met-as _ _ _ _ _ _ _ _ _ _ _ _ _ _ _ (c .before .before .before .before .before .before .before .before .before .before .before .before .before .before .before .before .before .before .before .pre .waiting) _ (c .before .before .before .before .before .before .before .before .before .before .before .before .before .before .reduced .ensures) _ _ _ (c .before .before .before .before .before .before .before .before .before .before .meet .result) (c .before .before .before .before .before .before .before .before .before .before .before .before .before .kind .ensures .0) (c .before .before .before .before .before .before .before .before .before .before .before .before .operand-count .ensures .0) (c .before .before .before .before .before .before .before .before .before .before .before .unpack .ensures) (c .before .before .before .before .before .before .before .before .before .before .meet .ensures)) _ (c .before .before .before .before .before .before .before .before .m .given .1) _ (c .before .before .before .before .before .before .before .before .before .before .before .before .before .kind .ensures .0) _ (c .before .before .before .before .before .before .sizes-of .ensures)) }
+returns c = record { right = λ hit rows order target w. frame-opened _ _ _ _ _ _ _ _ _ _ _ _ _ _ _ w _ (c .before .before .before .before .before .before .before .before .before .before .before .before .before .before .reduced .ensures) (c .before .before .before .before .before .before .before .before .before .before .meet .result) (met-as _ _ _ _ _ _ _ _ _ _ _ _ _ _ _ w _ (c .before .before .before .before .before .before .before .before .before .before .before .before .before .before .reduced .ensures) _ _ _ (c .before .before .before .before .before .before .before .before .before .before .meet .result) (c .before .before .before .before .before .before .before .before .before .before .before .before .before .kind .ensures .0) (c .before .before .before .before .before .before .before .before .before .before .before .before .operand-count .ensures .0) (c .before .before .before .before .before .before .before .before .before .before .before .unpack .ensures) (c .before .before .before .before .before .before .before .before .before .before .meet .ensures)) _ (c .before .before .before .before .before .before .before .before .m .given .1) _ (c .before .before .before .before .before .before .before .before .before .before .before .before .before .kind .ensures .0) _ (c .before .before .before .before .before .before .sizes-of .ensures) _ (c .before .before .before .before .before .way-from .ensures) _ (c .before .before .before .before .is-settled .ensures) _ (c .before .before .before .mask-of .ensures) _ (c .before .before .tests-of .ensures) _ _ (c .advance .ensures); less = opened-less _ _ (depth-few _ _ _ _ _ _ _ _ _ _ _ _ _ _ _ (c .before .before .before .before .before .before .before .before .before .before .before .before .before .before .before .before .before .before .before .pre .waiting)) (c .before .before .before .before .before .before .before .before .before .before .before .before .before .before .before .before .before .before .before .pre .waiting .stacked .frames-long) _ _ _ (c .advance .ensures) (ways-few _ _ _ _ _ _ _ _ _ _ _ _ _ _ _ (c .before .before .before .before .before .before .before .before .before .before .before .before .before .before .before .before .before .before .before .pre .waiting) _ (c .before .before .before .before .before .before .before .before .before .before .before .before .before .before .reduced .ensures) (c .before .before .before .before .before .before .before .before .before .before .meet .result) (met-as _ _ _ _ _ _ _ _ _ _ _ _ _ _ _ (c .before .before .before .before .before .before .before .before .before .before .before .before .before .before .before .before .before .before .before .pre .waiting) _ (c .before .before .before .before .before .before .before .before .before .before .before .before .before .before .reduced .ensures) _ _ _ (c .before .before .before .before .before .before .before .before .before .before .meet .result) (c .before .before .before .before .before .before .before .before .before .before .before .before .before .kind .ensures .0) (c .before .before .before .before .before .before .before .before .before .before .before .before .operand-count .ensures .0) (c .before .before .before .before .before .before .before .before .before .before .before .unpack .ensures) (c .before .before .before .before .before .before .before .before .before .before .meet .ensures)) _ (c .before .before .before .before .before .before .before .before .m .given .1) _ (c .before .before .before .before .before .before .before .before .before .before .before .before .before .kind .ensures .0) _ (c .before .before .before .before .before .before .sizes-of .ensures)) }
 
 returns-2 : tie.Need-returns-2
-returns-2 c = record { right = λ hit rows order n target w. no-ways _ _ _ _ _ _ _ _ _ _ _ _ _ _ _ w _ (c .before .before .before .before .before .reduced .ensures) (c .before .meet .result) (met-as _ _ _ _ _ _ _ _ _ _ _ _ _ _ _ w _ (c .before .before .before .before .before .reduced .ensures) _ _ _ (c .before .meet .result) (c .before .before .before .before .kind .ensures .0) (c .before .before .before .operand-count .ensures .0) (c .before .before .unpack .ensures) (c .before .meet .ensures)) (λ k d. ⊎-elim (λ x. let e = rw d at x in omega arith) (λ x. let e = rw d at x in omega arith) (c .match .keys2)); less = not-opened-less _ _ _ }
+returns-2 c = record { right = λ hit rows order target w. no-ways _ _ _ _ _ _ _ _ _ _ _ _ _ _ _ w _ (c .before .before .before .before .before .reduced .ensures) (c .before .meet .result) (met-as _ _ _ _ _ _ _ _ _ _ _ _ _ _ _ w _ (c .before .before .before .before .before .reduced .ensures) _ _ _ (c .before .meet .result) (c .before .before .before .before .kind .ensures .0) (c .before .before .before .operand-count .ensures .0) (c .before .before .unpack .ensures) (c .before .meet .ensures)) (λ k d. ⊎-elim (λ x. let e = rw d at x in omega arith) (λ x. let e = rw d at x in omega arith) (c .match .keys2)); less = not-opened-less _ _ _ }
 
 pub open-frame-spec : {M : Type 1} → statement M
 open-frame-spec =

@@ -1,6 +1,6 @@
-use mathlib.Core.Path.{refl}
 use native.Mathlib.Omega.{arith}
 use Rattle.forming.proofs.Framing.{packed}
+use mathlib.Core.Path.{refl}
 use borrow.Author.Needs.{needs}
 use Rattle.forming.proofs.frames.bytes_of.Statement.{statement}
 use Rattle.forming.proofs.frames.bytes_of.Tie as tie
@@ -38,17 +38,23 @@ cast-t11 c = search needs
 cast-t12 : tie.Need-cast-t12
 cast-t12 c = search needs
 
-cast-t14 : tie.Need-cast-t14
-cast-t14 c = search needs
+cast-t13 : tie.Need-cast-t13
+cast-t13 c = omega (arith, c .before .before .before .before .before .before .before .before .before .before .before .before .pre .ways-small)
 
-cast-t17 : tie.Need-cast-t17
-cast-t17 c = search needs
+cast-t15 : tie.Need-cast-t15
+cast-t15 c = search needs
 
 cast-t18 : tie.Need-cast-t18
-cast-t18 c = omega (arith, c .before .before .before .before .before .before .before .before .before .before .before .before .before .before .pre .tests-small)
+cast-t18 c = search needs
+
+cast-t19 : tie.Need-cast-t19
+cast-t19 c = omega (arith, c .before .before .before .before .before .before .before .before .before .before .before .before .before .before .before .pre .tests-small)
+
+cast-t20 : tie.Need-cast-t20
+cast-t20 c = omega (arith, c .before .before .before .before .before .before .before .before .before .before .before .before .before .before .before .before .pre .since-small)
 
 returns : tie.Need-returns
-returns c = (packed _ (c .before .before .before .before .before .before .before .before .before .before .before .before .before .before .pre) _ _ _ _ (c .before .before .before .before .before .before .before .before .before .before .before .before .flag .ensures) (c .before .before .before .before .before .before .before .before .before .before .before .flag2 .ensures) (c .before .before .before .before .before .before .before .before .before .before .flag3 .ensures) (c .before .before .before .before .before .before .before .before .before .flag4 .ensures), refl)
+returns c = (packed _ (c .before .before .before .before .before .before .before .before .before .before .before .before .before .before .before .before .pre) _ _ _ _ (c .before .before .before .before .before .before .before .before .before .before .before .before .before .before .flag .ensures) (c .before .before .before .before .before .before .before .before .before .before .before .before .before .flag2 .ensures) (c .before .before .before .before .before .before .before .before .before .before .before .before .flag3 .ensures) (c .before .before .before .before .before .before .before .before .before .before .before .flag4 .ensures), refl)
 
 pub bytes-of-spec : {M : Type 1} → statement M
 bytes-of-spec =
@@ -64,7 +70,9 @@ bytes-of-spec =
     cast-t10
     cast-t11
     cast-t12
-    cast-t14
-    cast-t17
+    cast-t13
+    cast-t15
     cast-t18
+    cast-t19
+    cast-t20
     returns)

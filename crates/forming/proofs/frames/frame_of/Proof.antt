@@ -84,6 +84,18 @@ array-read-t54 c = search needs
 cast-t55 : tie.Need-cast-t55
 cast-t55 c = search needs
 
+array-read-t58 : tie.Need-array-read-t58
+array-read-t58 c = search needs
+
+cast-t59 : tie.Need-cast-t59
+cast-t59 c = search needs
+
+array-read-t62 : tie.Need-array-read-t62
+array-read-t62 c = search needs
+
+cast-t63 : tie.Need-cast-t63
+cast-t63 c = search needs
+
 returns : tie.Need-returns
 returns c = rw (c .before .wide .ensures .0, c .wide2 .ensures .0) refl
 
@@ -117,4 +129,8 @@ frame-of-spec =
     array-read-t51
     array-read-t54
     cast-t55
+    array-read-t58
+    cast-t59
+    array-read-t62
+    cast-t63
     returns)
