@@ -2,9 +2,8 @@
 use mathlib.Core.Path.{_≡_, refl, sym, ap, subst, _∙_}
 use mathlib.Core.Bool.{Bool, true, false}
 use mathlib.Core.Logic.{inl, inr}
-use mathlib.Core.List.{List, [], _∷_, _++_}
+use mathlib.Core.List.{List, [], _∷_}
 use Prim.Native.Nat.{ℕ, _+_, _*_, _%_, _≤_, _<_}
-use native.Mathlib.Decide.{ℕ-discrete}
 use native.Mathlib.Omega.{arith}
 use lib.ListN.{length, getD}
 use lib.Seq.{ext-getD}
@@ -19,7 +18,6 @@ use Rattle.tables.specs.Accepted.{records}
 use Rattle.parts.specs.Part.{CellIs}
 use Rattle.parts.specs.Word.{unpacked}
 use Rattle.parts.proofs.Laws.{part-one}
-use Rattle.patterns.specs.Ways.{gather}
 use Rattle.patterns.specs.Binding.{Cell, free, is, clash, Binding, names, nothing, cellOf, merge, consistent, withEach, together}
 use Rattle.patterns.specs.Pattern.{Pattern, matches, matchEach}
 use Rattle.patterns.specs.Relation.{Agree, Joined}
@@ -39,7 +37,6 @@ use Rattle.forming.specs.Onward.{Task, matchesAll, onward, oneWay}
 use Rattle.forming.specs.Laws.Onward.{onward-one}
 use Rattle.forming.specs.Repeats.{holdsAny, someAny, TellsAny}
 use Rattle.forming.specs.Rows.{RowIs, Agrees}
-use Rattle.forming.specs.Settled.{Settled}
 use Rattle.forming.proofs.Solving.{whole}
 
 -- ---- what two say of a name that one of them gives a value

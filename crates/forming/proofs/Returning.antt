@@ -17,7 +17,6 @@ use Rattle.parts.specs.Word.{unpacked}
 use Rattle.patterns.specs.Ways.{gather}
 use Rattle.patterns.specs.Binding.{Binding}
 use Rattle.patterns.specs.Laws.Members.{in-gather, gather-in}
-use Rattle.patterns.specs.Laws.Ordered.{Rising, sorted-rising}
 use Rattle.patterns.specs.Laws.Together.{append-nil, append-assoc}
 use Rattle.matching.specs.Leaf.{Stands, Grown}
 use Rattle.matching.specs.Node.{innerOf, waysOf, metBy}
@@ -37,6 +36,7 @@ use Rattle.forming.specs.Stack.{Level, LevelIs, StackIs, dues, Accounted
 use Rattle.forming.proofs.Accounting.{accounted-with}
 use Rattle.forming.proofs.Joining.{tests-alike, tests-room}
 use Rattle.forming.proofs.Ranking.{back-less}
+use Rattle.forming.proofs.Rowing.{rows-rising}
 use Rattle.forming.proofs.Skipping.{from-asked, passed-over}
 use Rattle.forming.proofs.Solving.{agenda-low, falls-on, several-parts, count-room, parts-room, same-way, enough}
 use Rattle.forming.proofs.Stacking.{level-kept, stack-kept, restacked}
@@ -129,12 +129,9 @@ module _ (table index s a found frames : List ℕ) (hit : ℕ) (rows order : Lis
     rows-are = h .rows-are;
     accounted = accounted-with (L .done ++ L .due) [] (L .due) [] (h .bindings) (h .bindings) hit i (h .others) (λ c j. absurd j) (λ c j. inl (⊎-elim (λ k. k) (λ k. there c k) j)) (omega arith) (h .accounted);
     traced = h .traced;
-    right = ap (adding (dues (h .others))) (sym (adding-there (L .due) (h .bindings) rising (λ c j. there c j))) ∙ sym (adding-append (L .due) (dues (h .others)) (h .bindings)) ∙ h .right;
+    right = ap (adding (dues (h .others))) (sym (adding-there (L .due) (h .bindings) (rows-rising (h .rows-are)) (λ c j. there c j))) ∙ sym (adding-append (L .due) (dues (h .others)) (h .bindings)) ∙ h .right;
   }
     where
-      rising : Rising (h .bindings)
-      rising = subst Rising (sym (h .rows-are .ordered)) (sorted-rising (h .rows-are .given))
-
       there : (c : Binding) → In c (h .level .due) → In c (h .bindings)
       there c j =
           let (x, xi) = h .hit-some l in

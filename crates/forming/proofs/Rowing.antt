@@ -92,7 +92,7 @@ pub record Between (s : List ℕ) (f : List ℕ) (rows order : List ℕ) (n low 
   pub below : (b : Binding) (bs : List Binding) → Stands s f b → RowsAre s rows order n bs → (j : ℕ) → j < low → orderBindings b (getD bs j nothing) ≡ Higher
   pub above : (b : Binding) (bs : List Binding) → Stands s f b → RowsAre s rows order n bs → (j : ℕ) → high ≤ j → j < n → orderBindings b (getD bs j nothing) ≡ Lower
 
-rows-rising : {s rows order : List ℕ} {n : ℕ} {bs : List Binding} → RowsAre s rows order n bs → Rising bs
+pub rows-rising : {s rows order : List ℕ} {n : ℕ} {bs : List Binding} → RowsAre s rows order n bs → Rising bs
 rows-rising h = subst Rising (sym (h .ordered)) (sorted-rising (h .given))
 
 pub row-held : (s rows order : List ℕ) (n : ℕ) → RowsHeld s rows order n → (m r : ℕ) → m < n → r ≡ getD order m 0 → RowHeld s rows r

@@ -20,7 +20,7 @@ use Rattle.patterns.specs.Ways.{gather}
 use Rattle.patterns.specs.Members.{Alike}
 use Rattle.patterns.specs.Binding.{Binding, place}
 use Rattle.patterns.specs.Pattern.{wide}
-use Rattle.patterns.specs.Laws.Ordered.{Rising, sorted-in, in-sorted, sorted-rising}
+use Rattle.patterns.specs.Laws.Ordered.{sorted-in, in-sorted}
 use Rattle.patterns.specs.Nodes.{isLarge}
 use Rattle.patterns.specs.Read.{patternAt}
 use Rattle.matching.specs.declared.nodes.Meeting.{Meeting}
@@ -44,6 +44,7 @@ use Rattle.forming.proofs.Accounting.{accounted-with, accounted-hit, tr
 use Rattle.forming.proofs.Framing.{frame-kept}
 use Rattle.forming.proofs.Pushing.{agenda-kept, wide-by}
 use Rattle.forming.proofs.Reducing.{onward-alike}
+use Rattle.forming.proofs.Rowing.{rows-rising}
 use Rattle.forming.proofs.Skipping.{from-asked, passed-over}
 use Rattle.forming.proofs.Solving.{recast-word, agenda-low, whole}
 
@@ -132,7 +133,7 @@ module _ (table index s a : List ℕ) (high : ℕ) (found frames : List ℕ) (de
     accounted = accounted-with more [] more [] cs cs hit hit (h .levels) (λ c i. absurd i) (λ c i. inl (⊎-elim (λ j. j) (λ j. there c j) i)) (omega arith) (h .accounted);
     traced = h .traced;
     right =
-        ap (adding (dues (h .levels))) (sym (adding-there more cs (subst Rising (sym (h .rows-are .ordered)) (sorted-rising (h .rows-are .given))) there))
+        ap (adding (dues (h .levels))) (sym (adding-there more cs (rows-rising (h .rows-are)) there))
         ∙ sym (adding-append more (dues (h .levels)) cs) ∙ h .right;
   }
 

@@ -270,43 +270,37 @@ fn down(
     ensures { λ r. ⌜ WentDown (now (table .entry)) (now (index .entry)) (now (s .entry)) (now (agenda .entry)) head top (now (found .entry)) (now (frames .entry)) depth hit (now (rows .entry)) (now (order .entry)) n (now (found .exit)) (now (frames .exit)) (now (rows .exit)) (now (order .exit)) r ⌝ }
 {
     let left = taking::take_leaves(table, index, s, agenda, head, found);
-    if !left.fits {
-        return Step {
-            n,
-            full: false,
-            depth,
-            hit,
-        };
+    if left.fits {
+        let at = left.wait;
+        if at == 0 {
+            return insert_match(s, found, depth, rows, order, n);
+        }
+        if !repeats::is_repeat(table, index, at, found, frames, depth, rows) {
+            let opened = open_frame(
+                table,
+                index,
+                s,
+                agenda,
+                at,
+                left.head,
+                top,
+                found,
+                frames,
+                depth,
+                n,
+            );
+            return Step {
+                n,
+                full: false,
+                depth: opened,
+                hit,
+            };
+        }
     }
-    let at = left.wait;
-    if at == 0 {
-        return insert_match(s, found, depth, rows, order, n);
-    }
-    if repeats::is_repeat(table, index, at, found, frames, depth, rows) {
-        return Step {
-            n,
-            full: false,
-            depth,
-            hit,
-        };
-    }
-    let opened = open_frame(
-        table,
-        index,
-        s,
-        agenda,
-        at,
-        left.head,
-        top,
-        found,
-        frames,
-        depth,
-        n,
-    );
     Step {
         n,
         full: false,
-        depth: opened,
+        depth,
         hit,
     }
 }
