@@ -4,18 +4,17 @@ ghost use Rattle.choices.specs.Tree.{result};
 ghost use Rattle.meaning.specs.Answer.{packed, recordCount};
 ghost use Rattle.meaning.specs.Service.{accepted};
 ghost use Rattle.meaning.specs.Lent.{checkCall};
-ghost use Rattle.meaning.specs.Laws.ReadBack.{SmallCheck};
-use crate::SCRATCH;
-use crate::SHORT_SCRATCH;
-use crate::lent::clear;
-use checking::check;
+ghost use Rattle.services.specs.Left.{Small};
+use crate::call::admitted;
+use crate::call::finish;
 use tables::Checked;
 use tables::MOST_RECORDS;
+use values::Value;
 use walks::pack;
 
-// What the check of a table answers, as one number.
+// What rules 1 to 9 answer, as one number.
 fn pack_check(checked: Checked) -> u64
-    requires { ⌜ SmallCheck checked ⌝ }
+    requires { ⌜ Small checked ⌝ }
     ensures { λ a. ⌜ a ≡ packed recordCount (accepted checked (λ n. result n)) ⌝ }
 {
     match checked {
@@ -29,10 +28,7 @@ fn pack_check(checked: Checked) -> u64
 pub extern "C" fn dengwizo_check(table: &[u8], scratch: &mut [u8]) -> u64
     ensures { λ a. ⌜ checkCall (now (table .entry)) (now (scratch .entry)) ≡ record { answer = a; scratch = now (scratch .exit) } ⌝ }
 {
-    if scratch.len() < SCRATCH {
-        return pack(SHORT_SCRATCH, 0, 0);
-    }
-    clear(scratch);
     let mut index = [0u32; MOST_RECORDS];
-    pack_check(check(table, &mut index))
+    let checked = admitted(table, scratch.len(), Value::LIMIT, &mut index);
+    finish(pack_check(checked), scratch)
 }

@@ -1,22 +1,21 @@
 // The step from a choice list of a table to the next.
 ghost use mathlib.Core.Path.{_≡_};
-ghost use Prim.Native.Nat.{_≤_};
 ghost use lib.ListN.{length};
 ghost use Rattle.tables.specs.Reading.{Indexed};
-ghost use Rattle.meaning.specs.Service.{scratchBytes, steps};
+ghost use Rattle.meaning.specs.Service.{steps};
 ghost use Rattle.meaning.specs.Lent.{stepCall};
 ghost use Rattle.services.specs.Left.{Accepts, walkOf, Left};
 use crate::LONG_LIST;
 use crate::SCRATCH;
-use crate::SHORT_SCRATCH;
-use crate::lent::clear;
+use crate::call::admitted;
+use crate::call::finish;
 use crate::lent::load;
 use crate::lent::store;
-use checking::check;
 use choices::list::Walk;
 use tables::Checked;
 use tables::Index;
 use tables::MOST_RECORDS;
+use values::Value;
 use walks::pack;
 use walks::stepped_by;
 
@@ -46,13 +45,12 @@ fn step_accepted(
     next.answer
 }
 
-// Tests rules 3 to 9, and steps to the next list of a table that keeps them.
-fn step_checked(table: &[u8], entries: &mut [u8], len: &mut usize, scratch: &mut [u8]) -> u64
-    requires { ⌜ scratchBytes ≤ length (now scratch) ⌝ }
+// The step of a lent walk to the next list of a table: rules 1 to 10, then the runs.
+fn next_list(table: &[u8], entries: &mut [u8], len: &mut usize, scratch: &mut [u8]) -> u64
     ensures { λ a. ⌜ Left (steps (length (now (scratch .entry))) (now (table .entry)) (walkOf (now (entries .entry)) (now (len .entry)))) (walkOf (now (entries .entry)) (now (len .entry))) (now (scratch .entry)) (record { answer = a; scratch = now (scratch .exit); walk = walkOf (now (entries .exit)) (now (len .exit)) }) ⌝ }
 {
     let mut index = [0u32; MOST_RECORDS];
-    match check(table, &mut index) {
+    match admitted(table, scratch.len(), Value::LIMIT, &mut index) {
         Checked::Refused(n, r) => pack(n, r, 0),
         Checked::Accepted(count) => step_accepted(table, &index, count, entries, len, scratch),
     }
@@ -68,10 +66,6 @@ pub extern "C" fn dengwizo_step(
 ) -> u64
     ensures { λ a. ⌜ stepCall (now (table .entry)) (walkOf (now (entries .entry)) (now (length .entry))) (now (scratch .entry)) ≡ record { answer = a; scratch = now (scratch .exit); walk = walkOf (now (entries .exit)) (now (length .exit)) } ⌝ }
 {
-    if scratch.len() < SCRATCH {
-        return pack(SHORT_SCRATCH, 0, 0);
-    }
-    let a = step_checked(table, entries, length, scratch);
-    clear(scratch);
-    a
+    let answer = next_list(table, entries, length, scratch);
+    finish(answer, scratch)
 }

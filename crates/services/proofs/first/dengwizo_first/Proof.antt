@@ -1,21 +1,16 @@
--- Rule 1, then the others; the scratch is cleared.
+-- Rules 1 to 10 and the work; the scratch is cleared.
 use borrow.Author.Needs.{needs}
-use Rattle.services.proofs.Calls.{first-short, first-call}
+use native.Mathlib.Omega.{arith}
 use Rattle.services.specs.Left.{walkOf}
+use Rattle.services.proofs.Calls.{first-room, first-call}
 use Rattle.services.proofs.first.dengwizo_first.Statement.{statement}
 use Rattle.services.proofs.first.dengwizo_first.Tie as tie
 
-pack-requires : tie.Need-pack-requires
-pack-requires c κs = search needs
+first-list-requires : tie.Need-first-list-requires
+first-list-requires c κs = search needs
 
-returns : tie.Need-returns
-returns c = first-short (c .before .before .before .before .before .args .table .now) (c .before .before .before .before .before .args .scratch .now) (walkOf (c .before .before .before .before .before .args .entries .now) (c .before .before .before .before .before .args .length .now)) (c .before .if1 .taken) (c .pack .result) (c .pack .ensures)
-
-first-checked-requires : tie.Need-first-checked-requires
-first-checked-requires c κs = search needs
-
-clear-requires : tie.Need-clear-requires
-clear-requires c κs = search needs
+finish-requires : tie.Need-finish-requires
+finish-requires c κs = λ e. omega (arith, first-room (c .before .before .before .before .before .before .before .before .before .before .before .before .args .table .now) (c .before .before .before .before .before .before .before .before .before .before .before .before .args .scratch .now) (walkOf (c .before .before .before .before .before .before .before .before .before .before .before .before .args .entries .now) (c .before .before .before .before .before .before .before .before .before .before .before .before .args .length .now)) _ (c .before .before .before .before .before .first-list .ensures) e, c .before .before .before .before .before .first-list .kept .1 .1 .1 .0)
 
 same-length : tie.Need-same-length
 same-length c = search needs
@@ -23,17 +18,15 @@ same-length c = search needs
 same-length-2 : tie.Need-same-length-2
 same-length-2 c = search needs
 
-returns-2 : tie.Need-returns-2
-returns-2 c = first-call (c .before .before .before .before .before .before .before .before .before .before .before .before .before .before .before .before .args .table .now) (c .before .before .before .before .before .before .before .before .before .before .before .before .before .before .before .before .args .scratch .now) (walkOf (c .before .before .before .before .before .before .before .before .before .before .before .before .before .before .before .before .args .entries .now) (c .before .before .before .before .before .before .before .before .before .before .before .before .before .before .before .before .args .length .now)) (c .before .before .before .before .before .before .before .before .before .before .before .before .if1 .left) _ (c .before .before .before .before .before .before .before .before .first-checked .ensures) _ (c .before .before .clear .ensures)
+returns : tie.Need-returns
+returns c = first-call (c .before .before .before .before .before .before .before .before .before .before .before .before .before .before .before .args .table .now) (c .before .before .before .before .before .before .before .before .before .before .before .before .before .before .before .args .scratch .now) (walkOf (c .before .before .before .before .before .before .before .before .before .before .before .before .before .before .before .args .entries .now) (c .before .before .before .before .before .before .before .before .before .before .before .before .before .before .before .args .length .now)) _ (c .before .before .before .before .before .before .before .before .first-list .ensures) (c .before .before .finish .result) (c .before .before .finish .ensures .0) _ (c .before .before .finish .ensures .1)
 
 pub dengwizo-first-spec : {M : Type 1} → statement M
 dengwizo-first-spec =
     tie.close
     (tie.spec
-    pack-requires
-    returns
-    first-checked-requires
-    clear-requires
+    first-list-requires
+    finish-requires
     same-length
     same-length-2
-    returns-2)
+    returns)
