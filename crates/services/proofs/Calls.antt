@@ -1,12 +1,12 @@
 -- Each service from what its parts leave: by the cases of what is due.
 use mathlib.Core.Path.{_≡_, refl, sym, ap, _∙_, subst}
-use mathlib.Core.Bool.{Bool, true, false, cond}
+use mathlib.Core.Bool.{cond}
 use mathlib.Core.List.{List, [], _++_, append-nil}
 use Prim.Native.Nat.{ℕ, _-_, _≤_, _<_}
 use native.Mathlib.Omega.{arith}
 use lib.ListN.{length, take, drop, drop-of-length-le, replicate, length-append, length-replicate, take-append-drop}
 use lib.Seq.{take-append-le, drop-at, take-take, length-take-le}
-use Rattle.prelude.proofs.Absurd.{never, impossible}
+use Rattle.prelude.proofs.Absurd.{impossible}
 use Rattle.choices.specs.declared.list.Walk.{Walk as Held}
 use Rattle.choices.specs.Tree.{Final, result, refuses, mostChoices}
 use Rattle.choices.specs.Paths.{firstList, nextList}
@@ -20,11 +20,11 @@ use Rattle.values.proofs.Records.{holds}
 use Rattle.values.specs.Contract.{Shows}
 use Rattle.tables.specs.Check.{check}
 use Rattle.tables.specs.declared.Checked.the-variants.{Accepted, Refused as Faulty}
-use Rattle.meaning.specs.Answer.{pack, packed, uncounted, recordCount, finalNumber, numberPart, ReadBack}
+use Rattle.meaning.specs.Answer.{pack, packed, uncounted}
 use Rattle.meaning.specs.Walk.{Walk, walkList as listed, overwritten}
-use Rattle.meaning.specs.Service.{scratchBytes, tree, accepted, checks, runs, evaluates, firsts, steps, onward, steppedFrom}
-use Rattle.meaning.specs.Lent.{zeroed, filledUp as filled, isEarly, AfterWalk, afterWalk, afterEvaluate, walkAfter, resultAfter, checkCall, evaluateCall, firstCall, stepCall}
-use Rattle.meaning.specs.Laws.ReadBack.{fits-evaluate, check-read-back, evaluate-read-back, first-read-back, step-read-back, Late, first-late, step-late}
+use Rattle.meaning.specs.Service.{scratchBytes, tree, runs, evaluates, firsts, steps, onward, steppedFrom}
+use Rattle.meaning.specs.Lent.{zeroed, filledUp as filled, isEarly, AfterWalk, afterCheck, afterWalk, afterEvaluate, walkAfter, resultAfter, checkCall, evaluateCall, firstCall, stepCall}
+use Rattle.meaning.specs.Laws.ReadBack.{fits-evaluate, Late, first-late, step-late}
 use Rattle.meaning.specs.Laws.Services.{firsts-10, firsts-granted, steps-10, steps-long, steps-run}
 use Rattle.walks.specs.declared.Stepped.{Stepped}
 use Rattle.evaluator.specs.declared.Outcome.{Outcome}
@@ -33,7 +33,7 @@ use Rattle.tables.specs.Reading.{Indexed}
 use Rattle.walks.specs.Steps.{Indexes, Small, packedOf, Ran, Answers, Steps, outcomeAs}
 use Rattle.walks.proofs.Settling.{small-final}
 use Rattle.services.specs.Left.{admits, Loaded, walkOf, stored, Left, Evaluated, Valued, Handed}
-use Rattle.services.proofs.Admitting.{by-rules, refused-due, late-long}
+use Rattle.services.proofs.Admitting.{accepted-due, refused-due}
 
 -- ---- the scratch that is lent on
 
@@ -58,33 +58,35 @@ zeroed-same : (s t : List ℕ) → drop scratchBytes t ≡ drop scratchBytes s �
 unfolding zeroed
 zeroed-same s t e = ap (λ (x : List ℕ). replicate scratchBytes 0 ++ x) e
 
--- The scratch after the work t, and then cleared unless 1 or 2 is answered, as it is due after s.
-cleared : (b : Bool) (s t : List ℕ) → (b ≡ true → t ≡ s) → drop scratchBytes t ≡ drop scratchBytes s → cond b t (zeroed scratchBytes t) ≡ cond b s (zeroed scratchBytes s)
-cleared true s t k e = k refl
-cleared false s t k e = zeroed-same s t e
-
--- The number that is read from the answer is the one that is due.
-early-due : {A : Type 0} (counted : A → ℕ) (due : Final A) → ReadBack counted due → (a : ℕ) → a ≡ packed counted due → isEarly (numberPart a) ≡ isEarly (finalNumber due)
-early-due counted due back a e = ap (λ (x : ℕ). isEarly (numberPart x)) e ∙ ap isEarly (back .number-back)
-
 module _ (table s : List ℕ) (n : ℕ) (ok : check table ≡ Accepted n) (enough : scratchBytes ≤ length s) where
   pub indexes : (index : List ℕ) → Indexed table index → Indexes table index n (take scratchBytes s)
   indexes index i = record { ok = ok; room = length-take-le scratchBytes s enough; indexed = i }
 
+-- ---- refused by rules 1 to 9
+
+module _ (table s : List ℕ) (n p a : ℕ) (q : a ≡ pack n p 0) (s′ : List ℕ) (d : s′ ≡ cond (isEarly n) s (zeroed scratchBytes s)) where
+  module _ (no : admits (length s) largest table ≡ Faulty n p) where
+    pub check-refused : checkCall table s ≡ record { answer = a; scratch = s′ }
+    check-refused = ap (λ x. afterCheck x s) (refused-due (length s) largest table n p no (λ k. result k)) ∙ (λ i. record { answer = sym q i; scratch = sym d i })
+
+    walk-refused : (w : Walk) (due : Final (List ℕ)) → due ≡ refuses n p 0 → afterWalk due s w ≡ record { answer = a; scratch = s′; walk = w }
+    walk-refused w due e = ap (λ x. afterWalk x s w) e ∙ (λ i. record { answer = sym q i; scratch = sym d i; walk = w })
+
+    pub first-refused : (w : Walk) → firstCall table w s ≡ record { answer = a; scratch = s′; walk = w }
+    first-refused w = walk-refused w _ (refused-due (length s) largest table n p no _)
+
+    pub step-refused : (w : Walk) → stepCall table w s ≡ record { answer = a; scratch = s′; walk = w }
+    step-refused w = walk-refused w _ (refused-due (length s) largest table n p no _)
+
+  pub evaluate-refused : (list buffer : List ℕ) → admits (length s) (length buffer) table ≡ Faulty n p → (b′ : List ℕ) → b′ ≡ cond (isEarly n) buffer (zeroed largest buffer) → evaluateCall table list s buffer ≡ record { answer = a; scratch = s′; buffer = b′ }
+  evaluate-refused list buffer off b′ f =
+      ap (λ x. afterEvaluate x s buffer) (refused-due (length s) (length buffer) table n p off _) ∙ (λ i. record { answer = sym q i; scratch = sym d i; buffer = sym f i })
+
 -- ---- check
 
-module _ (table s : List ℕ) (a : ℕ) (q : a ≡ packed recordCount (accepted (admits (length s) largest table) (λ n. result n))) where
-  check-due : a ≡ packed recordCount (checks (length s) table)
-  check-due = q ∙ ap (packed recordCount) (sym (by-rules (length s) largest table (λ n. result n)))
-
-  check-early : isEarly (numberPart a) ≡ isEarly (finalNumber (checks (length s) table))
-  check-early = early-due recordCount (checks (length s) table) (check-read-back (length s) table) a check-due
-
-  pub check-room : isEarly (numberPart a) ≡ false → scratchBytes ≤ length s
-  check-room e = late-long (length s) largest table (accepted (check table) (λ n. result n)) (sym check-early ∙ e) .0
-
-  pub check-call : (a′ : ℕ) → a′ ≡ a → (s′ : List ℕ) → s′ ≡ cond (isEarly (numberPart a)) s (zeroed scratchBytes s) → checkCall table s ≡ record { answer = a′; scratch = s′ }
-  check-call a′ e s′ d = λ i. record { answer = (sym check-due ∙ sym e) i; scratch = (ap (λ b. cond b s (zeroed scratchBytes s)) (sym check-early) ∙ sym d) i }
+pub check-accepted : (table s : List ℕ) (n : ℕ) → admits (length s) largest table ≡ Accepted n → (a : ℕ) → a ≡ pack 0 0 n → (s′ : List ℕ) → s′ ≡ zeroed scratchBytes s → checkCall table s ≡ record { answer = a; scratch = s′ }
+check-accepted table s n ok a q s′ d =
+    ap (λ x. afterCheck x s) (accepted-due (length s) largest table n ok (λ k. result k)) ∙ (λ i. record { answer = sym q i; scratch = sym d i })
 
 -- ---- evaluate
 
@@ -93,11 +95,11 @@ no-value n p k v e = impossible cc
 
 module _ (due : Final Value) (s : List ℕ) where
   pub evaluated-off : (n p k : ℕ) → due ≡ refuses n p k → Evaluated due s s (Refused n p k)
-  evaluated-off n p k e = record { outcome = sym (ap outcomeAs e); value = λ v q. absurd (no-value n p k v (sym e ∙ q)); beyond = refl; kept = λ early. refl }
+  evaluated-off n p k e = record { outcome = sym (ap outcomeAs e); value = λ v q. absurd (no-value n p k v (sym e ∙ q)); beyond = refl }
 
-  pub evaluated-ran : (table l t : List ℕ) (o : Outcome) → due ≡ runs table l → Late due → length t ≡ scratchBytes → Ran table l t o → Evaluated due s (t ++ drop scratchBytes s) o
-  evaluated-ran table l t o e late long r =
-      record { outcome = r .outcome ∙ sym (ap outcomeAs e); value = λ v q. value-kept s t long v (r .value v (sym e ∙ q)); beyond = rest-kept s t long; kept = λ early. never (sym late ∙ early) }
+  pub evaluated-ran : (table l t : List ℕ) (o : Outcome) → due ≡ runs table l → length t ≡ scratchBytes → Ran table l t o → Evaluated due s (t ++ drop scratchBytes s) o
+  evaluated-ran table l t o e long r =
+      record { outcome = r .outcome ∙ sym (ap outcomeAs e); value = λ v q. value-kept s t long v (r .value v (sym e ∙ q)); beyond = rest-kept s t long }
 
 pub valued : (due : Final Value) (s t : List ℕ) (o : Outcome) → Evaluated due s t o → Valued o t
 valued (result v) s t o e = subst (λ x. Valued x t) (sym (e .outcome)) (holds (e .value v refl))
@@ -143,90 +145,36 @@ module _ (due : Final Value) (s t : List ℕ) (o : Outcome) (c : Copy) (e : Eval
         buffer = (result-after due buffer late ∙ sym (filled-is buffer) ∙ sym f) i;
       }
 
--- 1 and 2 leave the result buffer.
-result-early : (due : Final Value) (buffer : List ℕ) → isEarly (finalNumber due) ≡ true → resultAfter due buffer ≡ buffer
-result-early (result v) buffer e = never e
-result-early (refuses n p k) buffer e = ap (λ b. cond b buffer (zeroed largest buffer)) e
-
-module _ (table list s buffer : List ℕ) (t : List ℕ) (o : Outcome) where
+module _ (table list s buffer : List ℕ) where
   abbrev due : Final Value
   due = evaluates (length s) (length buffer) table list
 
-  pub small-due : Evaluated due s t o → Small o
-  small-due e = subst Small (sym (e .outcome)) (small-final due (fits-evaluate (length s) table (length buffer) list))
-
-  module _ (e : Evaluated due s t o) (a : ℕ) (q : a ≡ packedOf o) where
-    evaluate-due : a ≡ packed uncounted due
-    evaluate-due = q ∙ ap packedOf (e .outcome) ∙ packed-outcome due
-
-    evaluate-number : isEarly (numberPart a) ≡ isEarly (finalNumber due)
-    evaluate-number = early-due uncounted due (evaluate-read-back (length s) table (length buffer) list) a evaluate-due
-
-    pub evaluate-early : isEarly (numberPart a) ≡ true → evaluateCall table list s buffer ≡ record { answer = a; scratch = t; buffer = buffer }
-    evaluate-early early =
-        let b : isEarly (finalNumber due) ≡ true = sym evaluate-number ∙ early in
-        λ i.
-        record {
-          answer = sym evaluate-due i;
-          scratch = (ap (λ x. cond x s (zeroed scratchBytes s)) b ∙ sym (e .kept b)) i;
-          buffer = result-early due buffer b i;
-        }
-
-    module _ (l : isEarly (numberPart a) ≡ false) where
-      late : Late due
-      late = sym evaluate-number ∙ l
-
-      pub evaluate-long : (scratchBytes ≤ length s) × (largest ≤ length buffer)
-      evaluate-long = late-long (length s) (length buffer) table _ late
-
-      pub evaluate-late-call : (c : Copy) → Handed o t c → (a′ : ℕ) → a′ ≡ a → (s′ b′ : List ℕ) → s′ ≡ cond (isEarly (numberPart a)) t (zeroed scratchBytes t) → b′ ≡ c .bytes ++ drop (length (c .bytes)) buffer
-          → evaluateCall table list s buffer ≡ record { answer = a′; scratch = s′; buffer = b′ }
-      evaluate-late-call c h a′ f s′ b′ d g =
-          evaluate-done due s t o c e h buffer late a′ (f ∙ q) s′ b′ (d ∙ ap (λ x. cond x t (zeroed scratchBytes t)) l) g
+  pub small-due : (t : List ℕ) (o : Outcome) → Evaluated due s t o → Small o
+  small-due t o e = subst Small (sym (e .outcome)) (small-final due (fits-evaluate (length s) table (length buffer) list))
 
 -- ---- first list and step
 
-module _ (due : Final (List ℕ)) (s : List ℕ) (w : Walk) (r : AfterWalk) (back : ReadBack uncounted due) (l : Left due w s r) where
-  walk-number : isEarly (numberPart (r .answer)) ≡ isEarly (finalNumber due)
-  walk-number = early-due uncounted due back (r .answer) (l .answered)
-
-  walk-call : (a′ : ℕ) → a′ ≡ r .answer → (s′ : List ℕ) → s′ ≡ cond (isEarly (numberPart (r .answer))) (r .scratch) (zeroed scratchBytes (r .scratch))
-      → afterWalk due s w ≡ record { answer = a′; scratch = s′; walk = r .walk }
-  walk-call a′ q s′ d =
-      λ i.
-      record {
-        answer = (sym (l .answered) ∙ sym q) i;
-        scratch = (sym (cleared (isEarly (finalNumber due)) s (r .scratch) (l .kept) (l .beyond)) ∙ ap (λ b. cond b (r .scratch) (zeroed scratchBytes (r .scratch))) (sym walk-number) ∙ sym d) i;
-        walk = sym (l .walked) i;
-      }
+walk-late : (due : Final (List ℕ)) (s : List ℕ) (w : Walk) (r : AfterWalk) → Late due → Left due w s r → (s′ : List ℕ) → s′ ≡ zeroed scratchBytes (r .scratch)
+    → afterWalk due s w ≡ record { answer = r .answer; scratch = s′; walk = r .walk }
+walk-late due s w r late l s′ d =
+    λ i.
+    record {
+      answer = sym (l .answered) i;
+      scratch = (ap (λ x. cond x s (zeroed scratchBytes s)) late ∙ sym (zeroed-same s (r .scratch) (l .beyond)) ∙ sym d) i;
+      walk = sym (l .walked) i;
+    }
 
 left-off : (due : Final (List ℕ)) (w : Walk) (s : List ℕ) (n p k a : ℕ) → due ≡ refuses n p k → a ≡ pack n p k → Left due w s (record { answer = a; scratch = s; walk = w })
-left-off due w s n p k a e q = record { answered = q ∙ sym (ap (packed uncounted) e); walked = sym (ap (λ x. walkAfter x w) e); beyond = refl; kept = λ early. refl }
+left-off due w s n p k a e q = record { answered = q ∙ sym (ap (packed uncounted) e); walked = sym (ap (λ x. walkAfter x w) e); beyond = refl }
 
 module _ (table s : List ℕ) (w : Walk) where
-  module _ (r : AfterWalk) where
-    module _ (l : Left (firsts (length s) table w) w s r) where
-      pub first-room : isEarly (numberPart (r .answer)) ≡ false → scratchBytes ≤ length s
-      first-room e = late-long (length s) largest table _ (sym (walk-number _ s w r (first-read-back (length s) table w) l) ∙ e) .0
-
-      pub first-call : (a′ : ℕ) → a′ ≡ r .answer → (s′ : List ℕ) → s′ ≡ cond (isEarly (numberPart (r .answer))) (r .scratch) (zeroed scratchBytes (r .scratch)) → firstCall table w s ≡ record { answer = a′; scratch = s′; walk = r .walk }
-      first-call = walk-call _ s w r (first-read-back (length s) table w) l
-
-    module _ (l : Left (steps (length s) table w) w s r) where
-      pub step-room : isEarly (numberPart (r .answer)) ≡ false → scratchBytes ≤ length s
-      step-room e = late-long (length s) largest table _ (sym (walk-number _ s w r (step-read-back (length s) table w) l) ∙ e) .0
-
-      pub step-call : (a′ : ℕ) → a′ ≡ r .answer → (s′ : List ℕ) → s′ ≡ cond (isEarly (numberPart (r .answer))) (r .scratch) (zeroed scratchBytes (r .scratch)) → stepCall table w s ≡ record { answer = a′; scratch = s′; walk = r .walk }
-      step-call = walk-call _ s w r (step-read-back (length s) table w) l
-
-  module _ (n p : ℕ) (no : admits (length s) largest table ≡ Faulty n p) (a : ℕ) (q : a ≡ pack n p 0) where
-    pub first-refused : Left (firsts (length s) table w) w s (record { answer = a; scratch = s; walk = w })
-    first-refused = left-off _ w s n p 0 a (refused-due (length s) largest table n p no _) q
-
-    pub step-refused : Left (steps (length s) table w) w s (record { answer = a; scratch = s; walk = w })
-    step-refused = left-off _ w s n p 0 a (refused-due (length s) largest table n p no _) q
-
   module _ (enough : scratchBytes ≤ length s) where
+    pub first-call : (r : AfterWalk) → Left (firsts (length s) table w) w s r → (s′ : List ℕ) → s′ ≡ zeroed scratchBytes (r .scratch) → firstCall table w s ≡ record { answer = r .answer; scratch = s′; walk = r .walk }
+    first-call r l s′ d = walk-late (firsts (length s) table w) s w r (first-late (length s) table enough w) l s′ d
+
+    pub step-call : (r : AfterWalk) → Left (steps (length s) table w) w s r → (s′ : List ℕ) → s′ ≡ zeroed scratchBytes (r .scratch) → stepCall table w s ≡ record { answer = r .answer; scratch = s′; walk = r .walk }
+    step-call r l s′ d = walk-late (steps (length s) table w) s w r (step-late (length s) table enough w) l s′ d
+
     module _ (n : ℕ) (ok : check table ≡ Accepted n) where
       module _ (a : ℕ) (q : a ≡ pack 10 0 0) where
         pub first-few : length (w .entries) < mostChoices → Left (firsts (length s) table w) w s (record { answer = a; scratch = s; walk = w })
@@ -248,7 +196,6 @@ module _ (table s : List ℕ) (w : Walk) where
               answered = q ∙ sym (ap (packed uncounted) g);
               walked = e ∙ (λ i. record { entries = h .padding i ++ drop mostChoices (w .entries); len = h .long i }) ∙ sym (ap (λ x. walkAfter x w) g);
               beyond = rest-kept s t long;
-              kept = λ early. never (sym (first-late (length s) table enough w) ∙ early);
             }
 
         pub step-left : w .len ≤ mostChoices → (v : Held) → Loaded (w .entries) (w .len) v → (r : Stepped) → Steps table v r → (v′ : Walk) → v′ ≡ stored (r .walk) (w .entries)
@@ -263,7 +210,6 @@ module _ (table s : List ℕ) (w : Walk) where
               answered = j .answer ∙ sym (ap (packed uncounted) g);
               walked = e ∙ stored-after due j ∙ sym (ap (λ x. walkAfter x w) g);
               beyond = rest-kept s t long;
-              kept = λ early. never (sym (step-late (length s) table enough w) ∙ early);
             }
           where
             gone : drop mostChoices (v .entries) ≡ []
@@ -303,6 +249,15 @@ pub runnable-loaded : (entries : List ℕ) (len : ℕ) (w : Held) → mostChoice
 runnable-loaded entries len w all within h = record { sized = ap length (h .entries-are) ∙ length-take-le mostChoices entries all; short = omega (arith, h .len-is) }
 
 -- ---- by the outcome
+
+-- Zeros are handed out where there is no value.
+module _ (c : Copy) (h : Shows [] c) where
+  pub none-long : length (c .bytes) ≡ largest
+  none-long = ap length (h .bytes) ∙ length-replicate {A = ℕ} largest 0
+
+  pub none-handed : (buffer : List ℕ) → c .bytes ++ drop (length (c .bytes)) buffer ≡ zeroed largest buffer
+  unfolding zeroed
+  none-handed buffer = ap (λ n. c .bytes ++ drop n buffer) none-long ∙ ap (λ (x : List ℕ). x ++ drop largest buffer) (h .bytes)
 
 module _ (o : Outcome) (s : List ℕ) where
   pub holds-value : o ≡ HasValue → Valued o s → Holds s 0

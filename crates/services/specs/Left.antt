@@ -1,8 +1,8 @@
 -- What the parts of a service answer and leave, before the scratch is cleared: the exported functions' promises are in meaning's `Lent`.
 use mathlib.Core.Path.{_≡_}
-use mathlib.Core.Bool.{true, cond}
+use mathlib.Core.Bool.{cond}
 use mathlib.Core.List.{List, [], _++_}
-use Prim.Native.Nat.{ℕ, _≤_, _<_}
+use Prim.Native.Nat.{ℕ, _≤_}
 use lib.Dec.{ltb}
 use lib.ListN.{length, take, drop}
 use Rattle.choices.specs.Tree.{Final, result, mostChoices}
@@ -15,10 +15,10 @@ use Rattle.tables.specs.Check.{check}
 use Rattle.tables.specs.declared.Checked.{Checked}
 use Rattle.tables.specs.declared.Checked.the-variants.{Accepted, Refused as Faulty}
 use Rattle.tables.specs.Reading.{Indexed}
-use Rattle.meaning.specs.Answer.{packed, uncounted, finalNumber}
+use Rattle.meaning.specs.Answer.{packed, uncounted}
 use Rattle.meaning.specs.Walk.{Walk}
 use Rattle.meaning.specs.Service.{scratchBytes}
-use Rattle.meaning.specs.Lent.{isEarly, AfterWalk, walkAfter}
+use Rattle.meaning.specs.Lent.{AfterWalk, walkAfter}
 use Rattle.evaluator.specs.declared.Outcome.{Outcome}
 use Rattle.evaluator.specs.declared.Outcome.the-variants.{Value as HasValue, Refused}
 use Rattle.walks.specs.Steps.{outcomeAs}
@@ -33,11 +33,6 @@ admits scratch buffer table = cond (ltb scratch scratchBytes) (Faulty 1 0) (cond
 pub record Admits (scratch buffer : ℕ) (table index : List ℕ) (a : Checked) : Type 0 where
   pub answer : a ≡ admits scratch buffer table
   pub indexed : (n : ℕ) → a ≡ Accepted n → Indexed table index
-
--- An answer that can be packed.
-abbrev pub Small : Checked → Type 0
-Small (Accepted n) = n ≤ 200
-Small (Faulty n r) = (n ≤ 9) × (r < 600)
 
 -- ---- walks
 
@@ -59,21 +54,19 @@ pub record Accepts (table : List ℕ) (count : ℕ) (scratch : List ℕ) : Type 
   pub ok : check table ≡ Accepted count
   pub enough : scratchBytes ≤ length scratch
 
--- What is due is answered, the walk is the one after it, and what lies beyond the scratch that is needed is untouched; 1 and 2 leave all of it.
+-- What is due is answered, the walk is the one after it, and what lies beyond the scratch that is needed is untouched.
 pub record Left (due : Final (List ℕ)) (w : Walk) (scratch : List ℕ) (r : AfterWalk) : Type 0 where
   pub answered : r .answer ≡ packed uncounted due
   pub walked : r .walk ≡ walkAfter due w
   pub beyond : drop scratchBytes (r .scratch) ≡ drop scratchBytes scratch
-  pub kept : isEarly (finalNumber due) ≡ true → r .scratch ≡ scratch
 
 -- ---- outcomes
 
--- What is due is the outcome, its value stands at the start of the scratch, and what lies beyond is untouched; 1 and 2 leave all of it.
+-- What is due is the outcome, its value stands at the start of the scratch, and what lies beyond is untouched.
 pub record Evaluated (due : Final Value) (before after : List ℕ) (o : Outcome) : Type 0 where
   pub outcome : o ≡ outcomeAs due
   pub value : (v : Value) → due ≡ result v → At after 0 v
   pub beyond : drop scratchBytes after ≡ drop scratchBytes before
-  pub kept : isEarly (finalNumber due) ≡ true → after ≡ before
 
 -- Where there is a value, its record stands at the start of the scratch.
 abbrev pub Valued : Outcome → List ℕ → Type 0

@@ -1,10 +1,10 @@
-// What every service does first and last: rules 1 to 9, and the clearing of the scratch.
+// What every service does first: rules 1 to 9, and the answer where one of them is broken.
 ghost use mathlib.Core.Path.{_≡_};
 ghost use mathlib.Core.Bool.{false, cond};
-ghost use Prim.Native.Nat.{_≤_};
+ghost use Prim.Native.Nat.{_≤_, _<_};
 ghost use lib.ListN.{length};
 ghost use Rattle.tables.specs.Check.{mostRecords};
-ghost use Rattle.meaning.specs.Answer.{numberPart};
+ghost use Rattle.meaning.specs.Answer.{weight, pack as packed};
 ghost use Rattle.meaning.specs.Service.{scratchBytes};
 ghost use Rattle.meaning.specs.Lent.{zeroed, isEarly};
 ghost use Rattle.services.specs.Left.{Admits};
@@ -14,14 +14,12 @@ use checking::check;
 use tables::Checked;
 use tables::Index;
 use values::Value;
+use walks::pack;
 
 // 1: too little scratch. 2: too short a result buffer.
 const SHORT_SCRATCH: usize = 1;
 
 const SHORT_RESULT: usize = 2;
-
-// The numbers that an answer can have.
-const NUMBERS: u64 = 65536;
 
 // Rules 1 to 9: enough scratch, a buffer that holds any value, and the check of the table, which fills the index. Where no value is due, the buffer
 // counts as long enough, `Value::LIMIT`.
@@ -38,23 +36,23 @@ pub fn admitted(table: &[u8], scratch: usize, buffer: usize, index: &mut Index) 
     check(table, index)
 }
 
-// The answer is 1 or 2, which change nothing.
-pub fn is_early(answer: u64) -> bool
-    ensures { λ b. ⌜ b ≡ isEarly (numberPart answer) ⌝ }
+// 1 and 2, which change nothing.
+pub fn is_early(number: usize) -> bool
+    ensures { λ b. ⌜ b ≡ isEarly number ⌝ }
 {
-    let number = (answer % NUMBERS) as usize;
     if number == SHORT_SCRATCH {
         return true;
     }
     number == SHORT_RESULT
 }
 
-// Clears the scratch, unless the answer is 1 or 2, and gives the answer back.
-pub fn finish(answer: u64, scratch: &mut [u8]) -> u64
-    requires { ⌜ (isEarly (numberPart answer) ≡ false → scratchBytes ≤ length (now scratch)) ⌝ }
-    ensures { λ a. ⌜ (a ≡ answer) × (now (scratch .exit) ≡ cond (isEarly (numberPart answer)) (now (scratch .entry)) (zeroed scratchBytes (now (scratch .entry)))) ⌝ }
+// The answer to a refusal by rules 1 to 9. The scratch is cleared, unless it is 1 or 2.
+pub fn refuse(number: usize, place: usize, scratch: &mut [u8]) -> u64
+    requires { ⌜ (number < weight) × (place < weight) × (isEarly number ≡ false → scratchBytes ≤ length (now scratch)) ⌝ }
+    ensures { λ a. ⌜ (a ≡ packed number place 0) × (now (scratch .exit) ≡ cond (isEarly number) (now (scratch .entry)) (zeroed scratchBytes (now (scratch .entry)))) ⌝ }
 {
-    if is_early(answer) {
+    let answer = pack(number, place, 0);
+    if is_early(number) {
         return answer;
     }
     clear(scratch);

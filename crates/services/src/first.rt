@@ -8,7 +8,8 @@ ghost use Rattle.services.specs.Left.{Accepts, walkOf, Left};
 use crate::LONG_LIST;
 use crate::SCRATCH;
 use crate::call::admitted;
-use crate::call::finish;
+use crate::call::refuse;
+use crate::lent::clear;
 use crate::lent::store;
 use choices::list::Walk;
 use tables::Checked;
@@ -38,17 +39,6 @@ fn first_accepted(
     pack(0, 0, 0)
 }
 
-// The first list of a table, into a lent walk: rules 1 to 10, then the run.
-fn first_list(table: &[u8], entries: &mut [u8], len: &mut usize, scratch: &mut [u8]) -> u64
-    ensures { λ a. ⌜ Left (firsts (length (now (scratch .entry))) (now (table .entry)) (walkOf (now (entries .entry)) (now (len .entry)))) (walkOf (now (entries .entry)) (now (len .entry))) (now (scratch .entry)) (record { answer = a; scratch = now (scratch .exit); walk = walkOf (now (entries .exit)) (now (len .exit)) }) ⌝ }
-{
-    let mut index = [0u32; MOST_RECORDS];
-    match admitted(table, scratch.len(), Value::LIMIT, &mut index) {
-        Checked::Refused(n, r) => pack(n, r, 0),
-        Checked::Accepted(count) => first_accepted(table, &index, count, entries, len, scratch),
-    }
-}
-
 // Gives the first choice list of a table.
 #[no_mangle]
 pub extern "C" fn dengwizo_first(
@@ -59,6 +49,13 @@ pub extern "C" fn dengwizo_first(
 ) -> u64
     ensures { λ a. ⌜ firstCall (now (table .entry)) (walkOf (now (entries .entry)) (now (length .entry))) (now (scratch .entry)) ≡ record { answer = a; scratch = now (scratch .exit); walk = walkOf (now (entries .exit)) (now (length .exit)) } ⌝ }
 {
-    let answer = first_list(table, entries, length, scratch);
-    finish(answer, scratch)
+    let mut index = [0u32; MOST_RECORDS];
+    match admitted(table, scratch.len(), Value::LIMIT, &mut index) {
+        Checked::Refused(n, r) => refuse(n, r, scratch),
+        Checked::Accepted(count) => {
+            let answer = first_accepted(table, &index, count, entries, length, scratch);
+            clear(scratch);
+            answer
+        }
+    }
 }

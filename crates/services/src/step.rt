@@ -8,7 +8,8 @@ ghost use Rattle.services.specs.Left.{Accepts, walkOf, Left};
 use crate::LONG_LIST;
 use crate::SCRATCH;
 use crate::call::admitted;
-use crate::call::finish;
+use crate::call::refuse;
+use crate::lent::clear;
 use crate::lent::load;
 use crate::lent::store;
 use choices::list::Walk;
@@ -45,17 +46,6 @@ fn step_accepted(
     next.answer
 }
 
-// The step of a lent walk to the next list of a table: rules 1 to 10, then the runs.
-fn next_list(table: &[u8], entries: &mut [u8], len: &mut usize, scratch: &mut [u8]) -> u64
-    ensures { λ a. ⌜ Left (steps (length (now (scratch .entry))) (now (table .entry)) (walkOf (now (entries .entry)) (now (len .entry)))) (walkOf (now (entries .entry)) (now (len .entry))) (now (scratch .entry)) (record { answer = a; scratch = now (scratch .exit); walk = walkOf (now (entries .exit)) (now (len .exit)) }) ⌝ }
-{
-    let mut index = [0u32; MOST_RECORDS];
-    match admitted(table, scratch.len(), Value::LIMIT, &mut index) {
-        Checked::Refused(n, r) => pack(n, r, 0),
-        Checked::Accepted(count) => step_accepted(table, &index, count, entries, len, scratch),
-    }
-}
-
 // Steps to the next choice list of a table.
 #[no_mangle]
 pub extern "C" fn dengwizo_step(
@@ -66,6 +56,13 @@ pub extern "C" fn dengwizo_step(
 ) -> u64
     ensures { λ a. ⌜ stepCall (now (table .entry)) (walkOf (now (entries .entry)) (now (length .entry))) (now (scratch .entry)) ≡ record { answer = a; scratch = now (scratch .exit); walk = walkOf (now (entries .exit)) (now (length .exit)) } ⌝ }
 {
-    let answer = next_list(table, entries, length, scratch);
-    finish(answer, scratch)
+    let mut index = [0u32; MOST_RECORDS];
+    match admitted(table, scratch.len(), Value::LIMIT, &mut index) {
+        Checked::Refused(n, r) => refuse(n, r, scratch),
+        Checked::Accepted(count) => {
+            let answer = step_accepted(table, &index, count, entries, length, scratch);
+            clear(scratch);
+            answer
+        }
+    }
 }
