@@ -1,6 +1,6 @@
 -- Each service from what its parts leave: by the cases of what is due.
 use mathlib.Core.Path.{_≡_, refl, sym, ap, _∙_, subst}
-use mathlib.Core.Bool.{true, cond}
+use mathlib.Core.Bool.{cond}
 use mathlib.Core.List.{List, [], _++_, append-nil}
 use Prim.Native.Nat.{ℕ, _-_, _≤_, _<_}
 use native.Mathlib.Omega.{arith}
@@ -23,16 +23,17 @@ use Rattle.tables.specs.declared.Checked.the-variants.{Accepted, Refused as Fau
 use Rattle.meaning.specs.Answer.{pack, packed, uncounted}
 use Rattle.meaning.specs.Walk.{Walk, walkList as listed, overwritten}
 use Rattle.meaning.specs.Service.{scratchBytes, tree, runs, evaluates, firsts, steps, onward, steppedFrom}
-use Rattle.meaning.specs.Lent.{zeroed, filledUp as filled, isEarly, AfterWalk, afterWalk, afterEvaluate, walkAfter, resultAfter, evaluateCall, firstCall, stepCall}
+use Rattle.meaning.specs.Lent.{zeroed, filledUp as filled, isEarly, AfterWalk, afterCheck, afterWalk, afterEvaluate, walkAfter, resultAfter, checkCall, evaluateCall, firstCall, stepCall}
 use Rattle.meaning.specs.Laws.ReadBack.{fits-evaluate, Late, first-late, step-late}
-use Rattle.meaning.specs.Laws.Services.{firsts-1, firsts-refused, firsts-10, firsts-granted, steps-1, steps-refused, steps-10, steps-long, steps-run}
+use Rattle.meaning.specs.Laws.Services.{firsts-10, firsts-granted, steps-10, steps-long, steps-run}
 use Rattle.walks.specs.declared.Stepped.{Stepped}
 use Rattle.evaluator.specs.declared.Outcome.{Outcome}
 use Rattle.evaluator.specs.declared.Outcome.the-variants.{Value as HasValue, Refused}
 use Rattle.tables.specs.Reading.{Indexed}
 use Rattle.walks.specs.Steps.{Indexes, Small, packedOf, Ran, Answers, Steps, outcomeAs}
 use Rattle.walks.proofs.Settling.{small-final}
-use Rattle.services.specs.Left.{Loaded, walkOf, stored, Left, Evaluated, Valued, Handed}
+use Rattle.services.specs.Left.{admits, Loaded, walkOf, stored, Left, Evaluated, Valued, Handed}
+use Rattle.services.proofs.Admitting.{accepted-due, refused-due}
 
 -- ---- the scratch that is lent on
 
@@ -60,6 +61,32 @@ zeroed-same s t e = ap (λ (x : List ℕ). replicate scratchBytes 0 ++ x) e
 module _ (table s : List ℕ) (n : ℕ) (ok : check table ≡ Accepted n) (enough : scratchBytes ≤ length s) where
   pub indexes : (index : List ℕ) → Indexed table index → Indexes table index n (take scratchBytes s)
   indexes index i = record { ok = ok; room = length-take-le scratchBytes s enough; indexed = i }
+
+-- ---- refused by rules 1 to 9
+
+module _ (table s : List ℕ) (n p a : ℕ) (q : a ≡ pack n p 0) (s′ : List ℕ) (d : s′ ≡ cond (isEarly n) s (zeroed scratchBytes s)) where
+  module _ (no : admits (length s) largest table ≡ Faulty n p) where
+    pub check-refused : checkCall table s ≡ record { answer = a; scratch = s′ }
+    check-refused = ap (λ x. afterCheck x s) (refused-due (length s) largest table n p no (λ k. result k)) ∙ (λ i. record { answer = sym q i; scratch = sym d i })
+
+    walk-refused : (w : Walk) (due : Final (List ℕ)) → due ≡ refuses n p 0 → afterWalk due s w ≡ record { answer = a; scratch = s′; walk = w }
+    walk-refused w due e = ap (λ x. afterWalk x s w) e ∙ (λ i. record { answer = sym q i; scratch = sym d i; walk = w })
+
+    pub first-refused : (w : Walk) → firstCall table w s ≡ record { answer = a; scratch = s′; walk = w }
+    first-refused w = walk-refused w _ (refused-due (length s) largest table n p no _)
+
+    pub step-refused : (w : Walk) → stepCall table w s ≡ record { answer = a; scratch = s′; walk = w }
+    step-refused w = walk-refused w _ (refused-due (length s) largest table n p no _)
+
+  pub evaluate-refused : (list buffer : List ℕ) → admits (length s) (length buffer) table ≡ Faulty n p → (b′ : List ℕ) → b′ ≡ cond (isEarly n) buffer (zeroed largest buffer) → evaluateCall table list s buffer ≡ record { answer = a; scratch = s′; buffer = b′ }
+  evaluate-refused list buffer off b′ f =
+      ap (λ x. afterEvaluate x s buffer) (refused-due (length s) (length buffer) table n p off _) ∙ (λ i. record { answer = sym q i; scratch = sym d i; buffer = sym f i })
+
+-- ---- check
+
+pub check-accepted : (table s : List ℕ) (n : ℕ) → admits (length s) largest table ≡ Accepted n → (a : ℕ) → a ≡ pack 0 0 n → (s′ : List ℕ) → s′ ≡ zeroed scratchBytes s → checkCall table s ≡ record { answer = a; scratch = s′ }
+check-accepted table s n ok a q s′ d =
+    ap (λ x. afterCheck x s) (accepted-due (length s) largest table n ok (λ k. result k)) ∙ (λ i. record { answer = sym q i; scratch = sym d i })
 
 -- ---- evaluate
 
@@ -122,18 +149,10 @@ module _ (table list s buffer : List ℕ) where
   abbrev due : Final Value
   due = evaluates (length s) (length buffer) table list
 
-  pub evaluate-early : (n a : ℕ) → due ≡ refuses n 0 0 → isEarly n ≡ true → a ≡ pack n 0 0 → evaluateCall table list s buffer ≡ record { answer = a; scratch = s; buffer = buffer }
-  evaluate-early n a e early q =
-      ap (λ x. afterEvaluate x s buffer) e
-      ∙ (λ i. record { answer = sym q i; scratch = cond (early i) s (zeroed scratchBytes s); buffer = cond (early i) buffer (zeroed largest buffer) })
-
   pub small-due : (t : List ℕ) (o : Outcome) → Evaluated due s t o → Small o
   small-due t o e = subst Small (sym (e .outcome)) (small-final due (fits-evaluate (length s) table (length buffer) list))
 
 -- ---- first list and step
-
-walk-early : (due : Final (List ℕ)) (s : List ℕ) (w : Walk) (a : ℕ) → due ≡ refuses 1 0 0 → a ≡ pack 1 0 0 → afterWalk due s w ≡ record { answer = a; scratch = s; walk = w }
-walk-early due s w a e q = ap (λ x. afterWalk x s w) e ∙ (λ i. record { answer = sym q i; scratch = s; walk = w })
 
 walk-late : (due : Final (List ℕ)) (s : List ℕ) (w : Walk) (r : AfterWalk) → Late due → Left due w s r → (s′ : List ℕ) → s′ ≡ zeroed scratchBytes (r .scratch)
     → afterWalk due s w ≡ record { answer = r .answer; scratch = s′; walk = r .walk }
@@ -149,25 +168,12 @@ left-off : (due : Final (List ℕ)) (w : Walk) (s : List ℕ) (n p k a : ℕ) �
 left-off due w s n p k a e q = record { answered = q ∙ sym (ap (packed uncounted) e); walked = sym (ap (λ x. walkAfter x w) e); beyond = refl }
 
 module _ (table s : List ℕ) (w : Walk) where
-  pub first-short : length s < scratchBytes → (a : ℕ) → a ≡ pack 1 0 0 → firstCall table w s ≡ record { answer = a; scratch = s; walk = w }
-  first-short h a q = walk-early (firsts (length s) table w) s w a (firsts-1 table (length s) h w) q
-
-  pub step-short : length s < scratchBytes → (a : ℕ) → a ≡ pack 1 0 0 → stepCall table w s ≡ record { answer = a; scratch = s; walk = w }
-  step-short h a q = walk-early (steps (length s) table w) s w a (steps-1 table (length s) h w) q
-
   module _ (enough : scratchBytes ≤ length s) where
     pub first-call : (r : AfterWalk) → Left (firsts (length s) table w) w s r → (s′ : List ℕ) → s′ ≡ zeroed scratchBytes (r .scratch) → firstCall table w s ≡ record { answer = r .answer; scratch = s′; walk = r .walk }
     first-call r l s′ d = walk-late (firsts (length s) table w) s w r (first-late (length s) table enough w) l s′ d
 
     pub step-call : (r : AfterWalk) → Left (steps (length s) table w) w s r → (s′ : List ℕ) → s′ ≡ zeroed scratchBytes (r .scratch) → stepCall table w s ≡ record { answer = r .answer; scratch = s′; walk = r .walk }
     step-call r l s′ d = walk-late (steps (length s) table w) s w r (step-late (length s) table enough w) l s′ d
-
-    module _ (n p : ℕ) (no : check table ≡ Faulty n p) (a : ℕ) (q : a ≡ pack n p 0) where
-      pub first-faulty : Left (firsts (length s) table w) w s (record { answer = a; scratch = s; walk = w })
-      first-faulty = left-off _ w s n p 0 a (firsts-refused table (length s) enough n p no w) q
-
-      pub step-faulty : Left (steps (length s) table w) w s (record { answer = a; scratch = s; walk = w })
-      step-faulty = left-off _ w s n p 0 a (steps-refused table (length s) enough n p no w) q
 
     module _ (n : ℕ) (ok : check table ≡ Accepted n) where
       module _ (a : ℕ) (q : a ≡ pack 10 0 0) where
@@ -243,6 +249,15 @@ pub runnable-loaded : (entries : List ℕ) (len : ℕ) (w : Held) → mostChoice
 runnable-loaded entries len w all within h = record { sized = ap length (h .entries-are) ∙ length-take-le mostChoices entries all; short = omega (arith, h .len-is) }
 
 -- ---- by the outcome
+
+-- Zeros are handed out where there is no value.
+module _ (c : Copy) (h : Shows [] c) where
+  pub none-long : length (c .bytes) ≡ largest
+  none-long = ap length (h .bytes) ∙ length-replicate {A = ℕ} largest 0
+
+  pub none-handed : (buffer : List ℕ) → c .bytes ++ drop (length (c .bytes)) buffer ≡ zeroed largest buffer
+  unfolding zeroed
+  none-handed buffer = ap (λ n. c .bytes ++ drop n buffer) none-long ∙ ap (λ (x : List ℕ). x ++ drop largest buffer) (h .bytes)
 
 module _ (o : Outcome) (s : List ℕ) where
   pub holds-value : o ≡ HasValue → Valued o s → Holds s 0

@@ -1,5 +1,5 @@
 -- What the proofs of the exported functions need; nobody else cites it.
 mod Zeros
-mod Packing
+mod Admitting
 mod Writing
 mod Calls

@@ -1,16 +1,20 @@
--- What the parts of a service leave, before the scratch is cleared: the exported functions' promises are in meaning's `Lent`.
+-- What the parts of a service answer and leave, before the scratch is cleared: the exported functions' promises are in meaning's `Lent`.
 use mathlib.Core.Path.{_≡_}
+use mathlib.Core.Bool.{cond}
 use mathlib.Core.List.{List, [], _++_}
 use Prim.Native.Nat.{ℕ, _≤_}
+use lib.Dec.{ltb}
 use lib.ListN.{length, take, drop}
 use Rattle.choices.specs.Tree.{Final, result, mostChoices}
 use Rattle.choices.specs.declared.list.Walk.{Walk as Held}
 use Rattle.values.specs.declared.Value.{Value as Copy}
-use Rattle.values.specs.Value.{Value}
+use Rattle.values.specs.Value.{Value, valueLimit as largest}
 use Rattle.values.specs.Place.{At, Holds}
 use Rattle.values.specs.Contract.{Shows, ShowsAt}
 use Rattle.tables.specs.Check.{check}
-use Rattle.tables.specs.declared.Checked.the-variants.{Accepted}
+use Rattle.tables.specs.declared.Checked.{Checked}
+use Rattle.tables.specs.declared.Checked.the-variants.{Accepted, Refused as Faulty}
+use Rattle.tables.specs.Reading.{Indexed}
 use Rattle.meaning.specs.Answer.{packed, uncounted}
 use Rattle.meaning.specs.Walk.{Walk}
 use Rattle.meaning.specs.Service.{scratchBytes}
@@ -18,6 +22,17 @@ use Rattle.meaning.specs.Lent.{AfterWalk, walkAfter}
 use Rattle.evaluator.specs.declared.Outcome.{Outcome}
 use Rattle.evaluator.specs.declared.Outcome.the-variants.{Value as HasValue, Refused}
 use Rattle.walks.specs.Steps.{outcomeAs}
+
+-- ---- rules 1 to 9
+
+-- What they answer: 1 where there is too little scratch, 2 where the buffer is too short for a value, else what the check answers.
+abbrev pub admits : ℕ → ℕ → List ℕ → Checked
+admits scratch buffer table = cond (ltb scratch scratchBytes) (Faulty 1 0) (cond (ltb buffer largest) (Faulty 2 0) (check table))
+
+-- The answer, and an index of a table that is accepted.
+pub record Admits (scratch buffer : ℕ) (table index : List ℕ) (a : Checked) : Type 0 where
+  pub answer : a ≡ admits scratch buffer table
+  pub indexed : (n : ℕ) → a ≡ Accepted n → Indexed table index
 
 -- ---- walks
 

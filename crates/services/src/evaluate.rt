@@ -1,41 +1,38 @@
 // Evaluating a table under a choice list.
 ghost use mathlib.Core.Path.{_≡_};
+ghost use mathlib.Core.Bool.{false, cond};
 ghost use Prim.Native.Nat.{ℕ, _≤_};
 ghost use lib.ListN.{length};
+ghost use Rattle.tables.specs.Reading.{Indexed};
 ghost use Rattle.values.specs.Value.{valueLimit as largest};
-ghost use Rattle.meaning.specs.Service.{scratchBytes, evaluates};
-ghost use Rattle.meaning.specs.Lent.{evaluateCall};
-ghost use Rattle.services.specs.Left.{Evaluated, Valued, Handed};
+ghost use Rattle.meaning.specs.Service.{evaluates};
+ghost use Rattle.meaning.specs.Lent.{zeroed, isEarly, evaluateCall};
+ghost use Rattle.services.specs.Left.{Accepts, Evaluated, Valued, Handed};
 use crate::LONG_LIST;
 use crate::SCRATCH;
-use crate::SHORT_RESULT;
-use crate::SHORT_SCRATCH;
+use crate::call::admitted;
+use crate::call::is_early;
+use crate::call::refuse;
 use crate::lent::clear;
 use crate::lent::put;
-use checking::check;
 use choices::list::Walk;
 use evaluator::Outcome;
 use tables::Checked;
+use tables::Index;
 use tables::MOST_RECORDS;
 use values::Value;
-use walks::pack;
 use walks::pack_outcome;
 use walks::run_list;
 
-// The outcome of evaluating: a refusal by rules 3 to 10, or what the run comes to. A value stands at the start of the scratch.
-fn evaluated(table: &[u8], list: &[u8], scratch: &mut [u8]) -> Outcome
-    requires { ⌜ scratchBytes ≤ length (now scratch) ⌝ }
+// The outcome of evaluating an accepted table: rule 10, or what the run comes to. A value stands at the start of the scratch.
+fn evaluated(table: &[u8], index: &Index, count: usize, list: &[u8], scratch: &mut [u8]) -> Outcome
+    requires { ⌜ Accepts (now table) count (now scratch) × Indexed (now table) (now index) ⌝ }
     ensures { λ o. ⌜ ((buffer : ℕ) → largest ≤ buffer → Evaluated (evaluates (length (now (scratch .entry))) buffer (now (table .entry)) (now (list .entry))) (now (scratch .entry)) (now (scratch .exit)) o) ⌝ }
 {
-    let mut index = [0u32; MOST_RECORDS];
-    match check(table, &mut index) {
-        Checked::Refused(n, r) => Outcome::Refused(n, r, 0),
-        Checked::Accepted(count) => if Walk::LIMIT < list.len() {
-            Outcome::Refused(LONG_LIST, 0, 0)
-        } else {
-            run_list(list, table, &index, count, &mut scratch[..SCRATCH])
-        },
+    if Walk::LIMIT < list.len() {
+        return Outcome::Refused(LONG_LIST, 0, 0);
     }
+    run_list(list, table, index, count, &mut scratch[..SCRATCH])
 }
 
 // The value of an outcome, to be handed out; zeros where it is refused.
@@ -49,6 +46,19 @@ fn handed(o: Outcome, scratch: &[u8]) -> Value
     }
 }
 
+// The result buffer after a refusal by rules 1 to 9: zeros, unless it is 1 or 2.
+fn hand_none(number: usize, result: &mut [u8])
+    requires { ⌜ (isEarly number ≡ false → largest ≤ length (now result)) ⌝ }
+    ensures { λ _. ⌜ now (result .exit) ≡ cond (isEarly number) (now (result .entry)) (zeroed largest (now (result .entry))) ⌝ }
+{
+    if is_early(number) {
+        return;
+    }
+    let none = Value::empty();
+    let bytes = none.bytes;
+    put(&bytes, result);
+}
+
 // Evaluates a table under a choice list.
 #[no_mangle]
 pub extern "C" fn dengwizo_evaluate(
@@ -59,16 +69,19 @@ pub extern "C" fn dengwizo_evaluate(
 ) -> u64
     ensures { λ a. ⌜ evaluateCall (now (table .entry)) (now (list .entry)) (now (scratch .entry)) (now (result .entry)) ≡ record { answer = a; scratch = now (scratch .exit); buffer = now (result .exit) } ⌝ }
 {
-    if scratch.len() < SCRATCH {
-        return pack(SHORT_SCRATCH, 0, 0);
+    let mut index = [0u32; MOST_RECORDS];
+    match admitted(table, scratch.len(), result.len(), &mut index) {
+        Checked::Refused(n, r) => {
+            hand_none(n, result);
+            refuse(n, r, scratch)
+        }
+        Checked::Accepted(count) => {
+            let o = evaluated(table, &index, count, list, scratch);
+            let value = handed(o, scratch);
+            let bytes = value.bytes;
+            put(&bytes, result);
+            clear(scratch);
+            pack_outcome(o)
+        }
     }
-    if result.len() < Value::LIMIT {
-        return pack(SHORT_RESULT, 0, 0);
-    }
-    let o = evaluated(table, list, scratch);
-    let value = handed(o, scratch);
-    clear(scratch);
-    let bytes = value.bytes;
-    put(&bytes, result);
-    pack_outcome(o)
 }
