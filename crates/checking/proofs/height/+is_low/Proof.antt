@@ -3,7 +3,6 @@ use mathlib.Core.Path.{_≡_, ap, _∙_, sym}
 use mathlib.Core.Logic.{⊎-elim}
 use Prim.Native.Nat.{ℕ, _<_, _≤_, _-_}
 use native.Mathlib.Omega.{arith}
-use borrow.Author.Needs.{needs}
 use borrow.Author.Tests.{leb-true, not-true, not-false}
 use borrow.Fn.Kinds.{In}
 use borrow.Fn.PlainCycle.{Measures, is, falls, and}
@@ -11,7 +10,6 @@ use lib.ListN.{length}
 use Rattle.prelude.proofs.Truth.{by-lower}
 use Rattle.tables.specs.Record.{isLeaf}
 use Rattle.tables.specs.Shapes.{firstOf}
-use Rattle.tables.specs.Table.{kindAt}
 use Rattle.tables.specs.Sheet.{height}
 use Rattle.tables.specs.Accepted.{records}
 use Rattle.tables.specs.Laws.Accepted.{fit-records, operand-lower}

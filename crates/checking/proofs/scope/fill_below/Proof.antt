@@ -5,7 +5,7 @@ use Rattle.tables.specs.Accepted.{records}
 use lib.ListN.{length}
 use Prim.Native.Nat.{_-_, _≤_}
 use native.Mathlib.Omega.{arith}
-use mathlib.Core.Path.{_≡_, refl, sym}
+use mathlib.Core.Path.{_≡_, sym}
 use Rattle.checking.proofs.scope.fill_below.Statement.{statement}
 use Rattle.checking.proofs.scope.fill_below.Tie as tie
 
