@@ -121,10 +121,13 @@ module _ (table index s a : List ℕ) (at next top : ℕ) (found frames : List �
       level-at table index s a frames rows n (w .stacked .bindings) (onward following (w .binding)) hit (onward following (w .binding)) (onward following (w .binding)) top found (w .stacked .levels) (w .stacked .stack) (w .stacked .accounted) (w .stacked .traced) (λ c i. i) j
       (omega (arith, w .stacked .deep))
 
-  pub repeat-asked : RepeatHeld table index frames depth
+  pub repeat-asked : RepeatHeld table index a at frames depth
   repeat-asked = record {
+    long = w .stacked .long;
+    below = omega (arith, w .below, w .room);
+    waits = w .composed .readable;
     few = omega (arith, w .low, w .room);
-    long = w .stacked .frames-long;
+    frames-long = w .stacked .frames-long;
     readable = λ j l. at-level j l .1 .composed .readable;
     low = λ j l. omega (arith, at-level j l .1 .seen, at-level j l .2 .few, w .stacked .rows-are .few);
   }

@@ -2,13 +2,13 @@
 use mathlib.Core.Path.{_≡_}
 use mathlib.Core.Bool.{Bool, true, false, _||_}
 use mathlib.Core.List.{List}
-use Prim.Native.Nat.{ℕ, _≤_, _<_}
-use lib.ListN.{length}
+use Prim.Native.Nat.{ℕ, _*_, _≤_, _<_}
+use lib.ListN.{length, getD}
 use Rattle.tables.specs.Accepted.{records}
 use Rattle.patterns.specs.Binder.{mostBindings}
 use Rattle.patterns.specs.Pattern.{Pattern, name, any, literal, each, halved, Patterns, nil, cons}
 use Rattle.patterns.specs.Read.{Readable, patternAt}
-use Rattle.forming.specs.Frames.{mostFrames, framesBytes, frameAt}
+use Rattle.forming.specs.Frames.{entries, agendaWords, mostFrames, framesBytes, frameAt}
 use Rattle.forming.specs.Rows.{SomeAgrees}
 use Rattle.forming.specs.Settled.{Settled}
 
@@ -28,10 +28,13 @@ unfoldable mutual
 abbrev pub TellsAny : List ℕ → ℕ → Bool → Type 0
 TellsAny table p r = r ≡ holdsAny (patternAt (records table) p)
 
--- The frames of a stack, of patterns and rows that are there.
-pub record RepeatHeld (table index frames : List ℕ) (depth : ℕ) : Type 0 where
+-- An entry of an agenda, and the frames of a stack, of patterns and rows that are there.
+pub record RepeatHeld (table index a : List ℕ) (at : ℕ) (frames : List ℕ) (depth : ℕ) : Type 0 where
+  pub long : length a ≡ agendaWords
+  pub below : at < entries
+  pub waits : Readable table index (getD a (3 * at) 0)
   pub few : depth ≤ mostFrames
-  pub long : length frames ≡ framesBytes
+  pub frames-long : length frames ≡ framesBytes
   pub readable : (j : ℕ) → j < depth → Readable table index (frameAt frames j .p)
   pub low : (j : ℕ) → j < depth → frameAt frames j .seen ≤ mostBindings
 

@@ -275,7 +275,7 @@ fn down(
         if at == 0 {
             return insert_match(s, found, depth, rows, order, n);
         }
-        if !repeats::is_repeat(table, index, at, found, frames, depth, rows) {
+        if !repeats::is_repeat(table, index, agenda, at, found, frames, depth, rows) {
             let opened = open_frame(
                 table,
                 index,

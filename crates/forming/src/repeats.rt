@@ -1,10 +1,12 @@
 // Repeats: a pattern with wildcards may match in many ways with the same values of its names. What follows is then gone through once: where a row
 // that was inserted in a way gone through agrees with all that is found, all that would follow is among the rows already.
+use crate::Agenda;
 use crate::Rows;
 use crate::frames;
 use crate::frames::Frames;
 use crate::rows;
 use crate::settled;
+use crate::sizes;
 use parts::words::Env;
 use tables::Index;
 use tables::kinds;
@@ -60,19 +62,26 @@ fn lowest_matched(frames: &Frames, depth: usize, at: usize) -> usize
     j
 }
 
-// All that follows what is found, the entry at first, is among the rows already.
+// All that follows what is found, the entry at first, is among the rows already. This is asked only where the pattern of that entry has two halves:
+// another is mostly gone through at less cost than the question.
 pub fn is_repeat(
     table: &[u8],
     index: &Index,
+    agenda: &Agenda,
     at: usize,
     found: &[u32; Env::NAMES],
     frames: &Frames,
     depth: usize,
     rows: &Rows,
 ) -> bool
-    requires { ⌜ RepeatHeld (now table) (now index) (now frames) depth ⌝ }
+    requires { ⌜ RepeatHeld (now table) (now index) (now agenda) at (now frames) depth ⌝ }
     ensures { λ r. ⌜ TellsRepeat (now (table .entry)) (now (found .entry)) (now (frames .entry)) depth (now (rows .entry)) r ⌝ }
 {
+    let p = agenda[3 * at] as usize;
+    let k = kind(table, index, p);
+    if !sizes::splits(k) {
+        return false;
+    }
     let j = lowest_matched(frames, depth, at);
     if depth <= j {
         return false;

@@ -101,7 +101,7 @@ fn is_any(z: Size, k: usize) -> bool {
 }
 
 // Patterns of this kind have two halves.
-fn splits(k: usize) -> bool
+pub fn splits(k: usize) -> bool
     ensures { λ r. ⌜ (r ≡ true → Splits k) ⌝ }
 {
     if k == kinds::UNION_PATTERN {
