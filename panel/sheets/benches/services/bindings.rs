@@ -105,14 +105,19 @@ pub fn unions() -> Vec<(String, Vec<u8>)> {
     (0..200).map(union).collect()
 }
 
-/// Random tuples of two such unions of two to five parts, each over seven members; names are distinct in both together.
-pub fn tuples() -> Vec<(String, Vec<u8>)> {
+/// Random tuples of two such unions of two to five parts, each over seven members; the names of the first stand in the second too, or are others.
+pub fn tuples(is_shared: bool) -> Vec<(String, Vec<u8>)> {
     let tuple = |seed| {
         let mut random = Random::new(seed);
-        let mut names = ('a'..='p').collect();
+        let all: Vec<char> = ('a'..='p').collect();
+        let mut names = all.clone();
         let parts = [2 + random.below(4), 2 + random.below(4)];
-        let unions = parts.map(|parts| union(&mut random, &mut names, parts));
-        let pattern = format!("mk_({})", unions.join(", "));
+        let left = union(&mut random, &mut names, parts[0]);
+        if is_shared {
+            names = all;
+        }
+        let right = union(&mut random, &mut names, parts[1]);
+        let pattern = format!("mk_({left}, {right})");
         row(kind::LET, &pattern, "mk_({1,...,7},{1,...,7})")
     };
     (0..200).map(tuple).collect()

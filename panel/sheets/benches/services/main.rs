@@ -511,7 +511,11 @@ fn main() {
     }
     let slowest = [
         ("200 random unions", bindings::unions()),
-        ("200 random tuples of two unions", bindings::tuples()),
+        ("200 random tuples of two unions", bindings::tuples(false)),
+        (
+            "200 random tuples of two unions with the same names",
+            bindings::tuples(true),
+        ),
     ]
     .map(|(what, tables)| {
         let picked = tables.into_iter().filter(|(label, _)| is_picked(label));
