@@ -317,6 +317,8 @@ struct Slowest {
     rows: Vec<Row>,
     /// The greatest time of ours among all of them, with its label.
     greatest: Option<(Duration, String)>,
+    /// How many take ours over half the second evaluator's time.
+    over_half: usize,
 }
 
 impl Slowest {
@@ -331,11 +333,13 @@ impl Slowest {
             rows.push((ratio, Row::new(&label, Call::Evaluate, table)));
         }
         rows.sort_by(|one, other| other.0.total_cmp(&one.0));
+        let over_half = rows.partition_point(|(ratio, _)| *ratio > 0.5);
         let rows = rows.into_iter().map(|(_, row)| row).take(SLOWEST);
         Slowest {
             what,
             rows: rows.collect(),
             greatest,
+            over_half,
         }
     }
 
@@ -345,14 +349,14 @@ impl Slowest {
         }
     }
 
-    /// The greatest time, in milliseconds.
+    /// The greatest time, in milliseconds, and how many are over half the second evaluator's time.
     fn print_greatest(&self) {
         if let Some((time, label)) = &self.greatest {
+            let Slowest {
+                what, over_half, ..
+            } = self;
             let millis = time.as_secs_f64() * 1e3;
-            println!(
-                "{}, the greatest time of ours: {millis:.3} ms, {label}",
-                self.what
-            );
+            println!("{what}: over half the second evaluator's time: {over_half}; the greatest time of ours: {millis:.3} ms, {label}");
         }
     }
 }

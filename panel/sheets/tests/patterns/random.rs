@@ -100,15 +100,15 @@ fn compare_random(seed: u64, cases: usize, once_damaged_in: usize) -> Tally {
     tally
 }
 
-/// Compares cases of random trees of unions, one by itself or two in a tuple.
-fn compare_trees(seed: u64, cases: usize) -> Tally {
+/// Compares cases of random trees of unions over one of these numbers of names, one tree by itself or, once in so many times, two in a tuple.
+fn compare_trees(seed: u64, cases: usize, names: &[usize], once_two_in: usize) -> Tally {
     let mut maker = Maker::new(seed);
     let mut tally = Tally::default();
     for _ in 0..cases {
-        maker.names = maker.random.pick(&[3, 16, 16]);
+        maker.names = maker.random.pick(names);
         let parts = 2 + maker.random.below(4);
         let mut pattern = maker.tree_of_unions(parts);
-        if maker.random.once_in(3) {
+        if maker.random.once_in(once_two_in) {
             let parts = 2 + maker.random.below(2);
             pattern = Pattern::Tuple(vec![pattern, maker.tree_of_unions(parts)]);
         }
@@ -152,7 +152,7 @@ fn damaged_values() {
 
 #[test]
 fn trees_of_unions() {
-    let tally = compare_trees(503, 4000);
+    let tally = compare_trees(503, 4000, &[3, 16, 16], 3);
     assert!(tally.matched > 500, "{tally:?}");
     assert!(tally.several > 400, "{tally:?}");
     assert!(tally.repeated > 40, "{tally:?}");
@@ -161,4 +161,12 @@ fn trees_of_unions() {
     assert!(tally.many > 50, "{tally:?}");
     assert!(tally.bindings > 9000, "{tally:?}");
     tally.expect_kinds(BINDERS.into_iter(), 20);
+}
+
+#[test]
+fn two_trees_of_unions_with_the_same_names() {
+    let tally = compare_trees(504, 4000, &[2, 3, 4], 1);
+    assert!(tally.matched > 150, "{tally:?}");
+    assert!(tally.repeated > 80, "{tally:?}");
+    assert!(tally.unmatched > 500, "{tally:?}");
 }
