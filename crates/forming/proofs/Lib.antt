@@ -5,6 +5,7 @@ mod Rowing
 mod Pushing
 mod Solving
 mod Settling
+mod Compatible
 mod Reducing
 mod Sizing
 mod Joining

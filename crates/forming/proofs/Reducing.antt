@@ -147,7 +147,7 @@ is-halved : (c : ℕ) → Splits c → isHalved c ≡ true
 is-halved c (inl f) = rw f refl
 is-halved c (inr f) = rw f refl
 
-splits-composed : (c : ℕ) → Splits c → isComposed c ≡ true
+pub splits-composed : (c : ℕ) → Splits c → isComposed c ≡ true
 splits-composed c (inl f) = union-composed f
 splits-composed c (inr f) = concatenation-composed f
 

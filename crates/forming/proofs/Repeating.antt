@@ -18,13 +18,13 @@ use Rattle.tables.specs.Accepted.{records}
 use Rattle.parts.specs.Part.{CellIs}
 use Rattle.parts.specs.Word.{unpacked}
 use Rattle.parts.proofs.Laws.{part-one}
-use Rattle.patterns.specs.Binding.{Cell, free, is, clash, Binding, names, nothing, cellOf, merge, consistent, withEach, together}
+use Rattle.patterns.specs.Binding.{Cell, free, is, Binding, names, nothing, cellOf, merge, consistent, withEach, together}
 use Rattle.patterns.specs.Pattern.{Pattern, matches, matchEach}
-use Rattle.patterns.specs.Relation.{Agree, Joined}
+use Rattle.patterns.specs.Relation.{Joined}
 use Rattle.patterns.specs.Laws.Members.{gather-in}
 use Rattle.patterns.specs.Laws.Matched.{in-together, together-in, matched, matchedEach, match-sized, each-sized, merge-sized, merge-joined}
 use Rattle.patterns.specs.Laws.Named.{holdsNamed as named, Told, told}
-use Rattle.patterns.specs.Laws.Together.{all-fine, each-consistent, with-nothing, together-nothing, together-with, one-together}
+use Rattle.patterns.specs.Laws.Together.{all-fine, each-consistent, with-nothing, together-nothing, together-with}
 use Rattle.patterns.specs.Laws.Some.{some-halves}
 use Rattle.patterns.specs.Nodes.{isHalved}
 use Rattle.patterns.specs.Laws.Nodes.{is-any, on-leaf, on-composed}
@@ -37,19 +37,8 @@ use Rattle.forming.specs.Onward.{Task, matchesAll, onward, oneWay}
 use Rattle.forming.specs.Laws.Onward.{onward-one}
 use Rattle.forming.specs.Repeats.{holdsAny, someAny, TellsAny}
 use Rattle.forming.specs.Rows.{RowIs, Agrees}
+use Rattle.forming.proofs.Compatible.{agreed-left, agreed-right, with-in}
 use Rattle.forming.proofs.Solving.{whole}
-
--- ---- what two say of a name that one of them gives a value
-
-agreed-left : (a b c : Cell) (v : Value) → Agree a b c → a ≡ is v → c ≡ is v
-agreed-left a free c v h e = subst (λ (x : Cell). Agree x free c) e h
-agreed-left a (is w) c v h e = let g : Agree (is v) (is w) c = subst (λ (x : Cell). Agree x (is w) c) e h in g .1
-agreed-left a clash c v h e = let g : Agree (is v) clash c = subst (λ (x : Cell). Agree x clash c) e h in absurd g
-
-agreed-right : (a b c : Cell) (w : Value) → Agree a b c → b ≡ is w → c ≡ is w
-agreed-right free b c w h e = subst (λ (x : Cell). Agree free x c) e h
-agreed-right (is v) b c w h e = let g : Agree (is v) (is w) c = subst (λ (x : Cell). Agree (is v) x c) e h in g .1 ∙ ap is (g .0)
-agreed-right clash b c w h e = absurd h
 
 -- ---- matches have a cell for each name
 
@@ -80,10 +69,8 @@ module _ (b : Binding) (b-sized : length b ≡ names) (rs : List Binding) (rs-si
   apart : (xs : List Binding) → ((m : Binding) → In m xs → length m ≡ names) → (o : Binding) → In o (withEach b (together xs rs)) → Apart b xs rs o
   apart xs f o i =
       let (x, d, j, k, t, e) = in-together o (withEach b xs) rs (subst (In o) (sym (together-with b xs rs)) i) in
-      let (b′, m, u, n, t′, e′) = in-together x (b ∷ []) xs (subst (In x) (sym (one-together b xs)) j) in
-      let q : b′ ≡ b = in-one b′ u in
-      let is-both : x ≡ merge b m = e′ ∙ ap (λ (y : Binding). merge y m) q in
-      let l : Joined b m x = subst (Joined b m) (sym is-both) (merge-joined b m b-sized (f m n) (ap (λ (y : Binding). consistent (merge y m)) (sym q) ∙ t′)) in
+      let (m, n, t′, is-both) = with-in b xs x j in
+      let l : Joined b m x = subst (Joined b m) (sym is-both) (merge-joined b m b-sized (f m n) t′) in
       record {
         first = m;
         both = x;
@@ -200,7 +187,6 @@ word-cell s w c d f (inr (v, e, h)) (inr (u, g, k)) = (v, e, g ∙ ap is (sym (p
 pub row-same : (s found : List ℕ) (q : Binding) → Stands s found q → (rows : List ℕ) (r : ℕ) (o : Binding) → RowIs s rows r o → Agrees found rows r → (ts : List Task) (c : Binding) → In c (onward ts q) → (y : ℕ) → y < names → (getD found y 0 ≡ 0 → ⊥) → cellOf o y ≡ cellOf c y
 row-same s found q st rows r o ro g ts c i y l f =
     let (v, e, d) = word-cell s (getD found y 0) (cellOf q y) (cellOf o y) (λ z. f (st .blank y l z)) (st .cells y l) (subst (λ (w : ℕ). CellIs s (unpacked w) (cellOf o y)) (g y l f) (ro .cells y l)) in
-    let (q′, x, j, k, t, m) = in-together c (q ∷ []) (matchesAll ts) (subst (In c) (sym (one-together q (matchesAll ts))) i) in
-    let same : q′ ≡ q = in-one q′ j in
-    let n = merge-joined q′ x (ap length same ∙ st .binding-sized) (sized-all ts x k) t in
-    d ∙ sym (ap (λ (b : Binding). cellOf b y) m ∙ agreed-left (cellOf q′ y) (cellOf x y) (cellOf (merge q′ x) y) v (n .agreed y l) (ap (λ (b : Binding). cellOf b y) same ∙ e))
+    let (x, k, t, m) = with-in q (matchesAll ts) c i in
+    let n = merge-joined q x (st .binding-sized) (sized-all ts x k) t in
+    d ∙ sym (ap (λ (b : Binding). cellOf b y) m ∙ agreed-left (cellOf q y) (cellOf x y) (cellOf (merge q x) y) v (n .agreed y l) e)

@@ -143,11 +143,11 @@ module _ (table index s a found frames : List ℕ) (hit : ℕ) (rows order : Lis
   -- ---- its next way
 
   module _ (k : ℕ) (ek : k ≡ kindAt (records table) (f .p)) where
-    sizes-told : TellsSizes table (f .p) k (f .sizes)
-    sizes-told = subst (λ (c : ℕ). TellsSizes table (f .p) c (f .sizes)) (sym ek) (h .is .sizes)
+    sizes-told : TellsSizes table (h .level .binding) (f .p) k (f .sizes)
+    sizes-told = subst (λ (c : ℕ). TellsSizes table (L .binding) (f .p) c (f .sizes)) (sym ek) (h .is .sizes)
 
     pub next-asked : FromHeld k (f .ways) (f .sizes)
-    next-asked = from-asked table index (f .p) (h .is .composed .readable) k ek (f .sizes) sizes-told (L .value) (f .ways) (h .is .ways) (omega (arith, h .is .within))
+    next-asked = from-asked table index (f .p) (h .is .composed .readable) k ek (L .binding) (f .sizes) sizes-told (L .value) (f .ways) (h .is .ways) (omega (arith, h .is .within))
 
     pub word-met : (word : ℕ) → word ≡ getD a (3 * f .at + 1) 0 → WordMet s k word (f .ways)
     word-met word e = record {
@@ -215,7 +215,7 @@ module _ (table index s a found frames : List ℕ) (hit : ℕ) (rows order : Lis
               h .is .due
               ∙ ap (λ (ws : List (List Value)). gather ws way) (drop-cons (waysOf table (f .p) (L .value)) (f .way) [] inside ∙ ap (λ (j : ℕ). metBy table (f .p) (L .value) (f .way) ∷ drop j (waysOf table (f .p) (L .value))) (sym (add-one (f .way))))
               ∙ ap (λ (xs : List Binding). xs ++ gather (drop (f .way + 1) (waysOf table (f .p) (L .value))) way) this-way
-              ∙ ap (λ (xs : List Binding). more ++ xs) (sym (passed-over table index (f .p) (h .is .composed .readable) k ek (f .sizes) sizes-told (L .value) (f .ways) (h .is .ways) (L .tasks) (L .binding) (f .way + 1) e (omega (arith, h .is .within)) fr))
+              ∙ ap (λ (xs : List Binding). more ++ xs) (sym (passed-over table index (f .p) (h .is .composed .readable) k ek (L .binding) (f .sizes) sizes-told (L .value) (f .ways) (h .is .ways) (h .is .stands .binding-sized) (L .tasks) (f .way + 1) e (omega (arith, h .is .within)) fr))
 
           others-kept : (high : ℕ) → f .top ≤ high → StackIs table index s b frames′ high (h .level .words) (h .others)
           others-kept high u = stack-kept table index s a b frames frames′ (f .top) high (L .words) (L .words) (h .others) (pushed .kept) u (grown-same (L .words)) (h .frames-long) (ad .long) (λ j m. ad .kept j (omega (arith, h .count))) (h .below)

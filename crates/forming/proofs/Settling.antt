@@ -20,6 +20,8 @@ use Rattle.tables.specs.Laws.Kinds.{name-bare}
 use Rattle.tables.specs.Laws.Through.{EachTo, each-next}
 use Rattle.tables.specs.Table.{recordAt, kindAt}
 use Rattle.tables.specs.Accepted.{records}
+use Rattle.parts.specs.Part.{PartIs}
+use Rattle.parts.specs.Word.{unpacked}
 use Rattle.patterns.specs.Binding.{Cell, free, is, clash, Binding, names, cellOf, agree, merge, consistent, withEach, together}
 use Rattle.patterns.specs.Pattern.{Pattern, any, matches}
 use Rattle.patterns.specs.Laws.Named.{holdsNamed as named, namedEach, Told, told}
@@ -104,8 +106,8 @@ settled-no table p m = record { says = λ e. true-false (sym e); each = λ e. tr
 -- ---- a settled pattern gives nothing new
 
 module _ (s : List ℕ) (m : List ℕ) (b : Binding) (h : Stands s m b) where
-  has-value : (y : ℕ) → y < names → (getD m y 0 ≡ 0 → ⊥) → (v : Value) × (cellOf b y ≡ is v)
-  has-value y l f = ⊎-elim (λ z. absurd (f (h .blank y l (z .0)))) (λ z. (z .0, z .1)) (h .cells y l)
+  pub has-value : (y : ℕ) → y < names → (getD m y 0 ≡ 0 → ⊥) → (v : Value) × (cellOf b y ≡ is v) × PartIs s (unpacked (getD m y 0)) v
+  has-value y l f = ⊎-elim (λ z. absurd (f (h .blank y l (z .0)))) (λ z. z) (h .cells y l)
 
   abbrev isFine : Cell → Bool
   isFine free = true
@@ -135,7 +137,7 @@ module _ (s : List ℕ) (m : List ℕ) (b : Binding) (h : Stands s m b) where
         ext-getD free (merge b c) b long (λ y l.
         let w : y < names = omega (arith, long, h .binding-sized) in
         merge-cell b c y both
-        ∙ same-cell (named p y) (cellOf b y) (cellOf c y) (λ e. has-value y w (settled y w e)) (told p v c q y w)
+        ∙ same-cell (named p y) (cellOf b y) (cellOf c y) (λ e. let (u, d, i) = has-value y w (settled y w e) in (u, d)) (told p v c q y w)
         (ap isFine (sym (merge-cell b c y both)) ∙ consistent-at (merge b c) k y l))
 
     with-same : (ds : List Binding) → ((c : Binding) → In c ds → In c (matches p v)) → (c : Binding) → In c (withEach b ds) → c ≡ b

@@ -7,31 +7,39 @@ use Prim.Native.Nat.{ℕ, zero, suc, _+_, _-_, _*_, _/_, _%_, _^_, _≤_, _<_}
 use native.Mathlib.Nat.{pow-suc}
 use native.Mathlib.Omega.{arith}
 use lib.Count.{ones, ones-cat, ones-ones, ones-step}
-use lib.ListN.{length, take, drop, length-append, length-drop}
-use lib.Seq.{length-take-le}
+use lib.ListN.{length, getD, take, drop, length-append, length-drop}
+use lib.Seq.{length-take-le, getD-set-same}
 use Rattle.prelude.proofs.Truth.{or-false-left, or-false-right}
-use Rattle.values.specs.Value.{Kind, set, sequence, map as mapping, tuple, Value}
-use Rattle.tables.specs.Record.{Record, named as operandsOf, operand}
+use Rattle.values.specs.Value.{Kind, set, sequence, map as mapping, tuple, number, Value, collection}
+use Rattle.tables.specs.Record.{Record, named as operandsOf, operand, nameOf}
 use Rattle.tables.specs.Table.{recordAt, kindAt}
 use Rattle.tables.specs.Accepted.{records}
 use Rattle.parts.proofs.Choosing.{split-left, split-right}
+use Rattle.parts.specs.declared.Part.{Part}
+use Rattle.parts.specs.Part.{PartIs, PartHeld}
+use Rattle.parts.specs.Word.{unpacked}
+use Rattle.parts.specs.Contract.{KindOfPart, CountOfPart}
 use Rattle.parts.specs.Chosen.{splitAt}
 use Rattle.parts.specs.Laws.Chosen.{proper-length, cuts-length, nth-proper, nth-cut}
 use Rattle.patterns.specs.Laws.Units.{shared-length}
 use Rattle.patterns.specs.Ways.{Halves, halves}
-use Rattle.patterns.specs.Pattern.{Pattern, each, halved, divisions}
+use Rattle.patterns.specs.Binding.{free, is, Binding, names, nothing, cellOf}
+use Rattle.patterns.specs.Pattern.{Pattern, name, each, halved, itemsOf, divisions}
 use Rattle.patterns.specs.Relation.{Divided, Matches}
 use Rattle.prelude.proofs.Absurd.{true-false}
 use Rattle.patterns.specs.Nodes.{collectionOf}
-use Rattle.patterns.specs.Laws.Nodes.{parts-length}
+use Rattle.patterns.specs.Laws.Nodes.{parts-length, is-name}
 use Rattle.patterns.specs.Read.{Readable, patternsOf, patternOf, patternAt}
+use Rattle.matching.specs.Leaf.{Stands, Standing}
 use Rattle.matching.specs.Node.{innerOf}
-use Rattle.matching.proofs.Records.{by-record, inner-length}
+use Rattle.matching.proofs.Records.{by-record, inner-length, name-small}
 use Rattle.forming.specs.declared.sizes.Size.{Size}
 use Rattle.forming.specs.declared.sizes.Sizes.{Sizes}
 use Rattle.forming.specs.declared.sizes.Range.{Range}
-use Rattle.forming.specs.Sizes.{Splits, enumerationOf, fewestOf, Sized, Takes, TellsSize, Sum, TellsSizes, Rights, FirstOf, SplitFrom, CutFrom, Divisible, halfAt, From}
+use Rattle.forming.specs.Sizes.{Splits, enumerationOf, fewestOf, Sized, SizeOfValue, Takes, TellsSize, Sum, TellsSizes, Rights, FirstOf, SplitFrom, CutFrom, Divisible, halfAt, From}
+use Rattle.forming.proofs.Compatible.{compatible-left, compatible-right}
 use Rattle.forming.proofs.Reducing.{items-same, is-two}
+use Rattle.forming.proofs.Settling.{has-value}
 
 -- ---- two sizes together
 
@@ -48,6 +56,29 @@ sum-is l r x e o f = record {
   };
 }
 
+-- ---- the kinds that are split or cut
+
+pub is-cut : (c : ℕ) → Splits c → (c ≡ 38 → ⊥) → c ≡ 40
+is-cut c (inl e) f = absurd (f e)
+is-cut c (inr e) f = e
+
+-- ---- how many a value has
+
+pub word-held : (s found : List ℕ) (x : ℕ) → x < names → (getD found x 0 ≡ 0 → ⊥) → Standing s found → PartHeld s (unpacked (getD found x 0))
+word-held s found x l f (b, st) = let (v, e, p) = has-value s found b st x l f in record { value = v; here = p }
+
+module _ (s : List ℕ) (word c : ℕ) (part : Part) (e : part ≡ unpacked word) where
+  as-part : (v : Value) → PartIs s (unpacked word) v → PartIs s part v
+  as-part v i = subst (λ (p : Part). PartIs s p v) (sym e) i
+
+  pub kind-other : (k : ℕ) → KindOfPart s part k → (k ≡ number (collectionOf c) → ⊥) → (z : Size) → SizeOfValue s word c z
+  kind-other k h f z vs i = absurd (f (h (collection (collectionOf c) (itemsOf vs)) (as-part (collection (collectionOf c) (itemsOf vs)) i)))
+
+  pub count-is : (n : ℕ) → CountOfPart s part n → SizeOfValue s word c (record { least = n; more = false })
+  count-is n h vs i =
+      let q = h (collectionOf c) vs (as-part (collection (collectionOf c) (itemsOf vs)) i) in
+      record { least = omega (arith, q); exact = λ t. sym q }
+
 -- ---- what a pattern takes
 
 divided-length : (k : Kind) (vs ls rs : List Value) → Divided k vs ls rs → length vs ≡ length ls + length rs
@@ -60,50 +91,63 @@ divided-fewest : (c : ℕ) → Splits c → (vs ls rs : List Value) → Divided 
 divided-fewest c (inl e) vs ls rs = rw e (λ (s, l, r). (l, r))
 divided-fewest c (inr e) vs ls rs = rw e (λ h. (omega arith, omega arith))
 
-takes-each : (k : Kind) (i : ℕ) (ps : List Pattern) (n : ℕ) → n ≡ length ps → Takes k i (each k (patternsOf ps)) (record { least = n; more = false })
+takes-each : (s : Binding) (k : Kind) (i : ℕ) (ps : List Pattern) (n : ℕ) → n ≡ length ps → Takes s k i (each k (patternsOf ps)) (record { least = n; more = false })
 unfolding Matches
-takes-each k i ps n e vs b low (us, ws, d, c, a, m) =
+takes-each s k i ps n e vs b low (us, ws, d, c, a, m) f =
     let l : n ≡ length vs = e ∙ sym (parts-length ps) ∙ c ∙ ap length (sym (items-same k vs us d)) in
     record { least = omega (arith, l); exact = λ t. sym l }
 
-takes-halved : (k : Kind) (i : ℕ) → ((vs ls rs : List Value) → Divided k vs ls rs → (i ≤ length ls) × (i ≤ length rs)) → (l r : Pattern) (x y z : Size) → Takes k i l x → Takes k i r y → Sum x y z → Takes k i (halved k l r) z
+takes-halved : (st : Binding) (k : Kind) (i : ℕ) → ((vs ls rs : List Value) → Divided k vs ls rs → (i ≤ length ls) × (i ≤ length rs)) → (l r : Pattern) (x y z : Size) → Takes st k i l x → Takes st k i r y → Sum x y z → Takes st k i (halved k l r) z
 unfolding Matches
-takes-halved k i held l r x y z a b s vs c low (us, ls, rs, e, f, d, g, m, n, j) =
+takes-halved st k i held l r x y z a b s vs c low (us, ls, rs, e, f, d, g, m, n, j) o =
     let q : length ls + length rs ≡ length vs = sym (divided-length k us ls rs g) ∙ ap length (sym (items-same k vs us d)) in
     let (t, u) = held us ls rs g in
-    subst (Sized z) q (s .right (length ls) (length rs) (a ls e t m) (b rs f u n))
+    subst (Sized z) q (s .right (length ls) (length rs) (a ls e t m (compatible-left st e f c j o)) (b rs f u n (compatible-right st e f c j o)))
+
+-- a name that has a value takes this alone
+takes-name : (st : Binding) (k : Kind) (i x : ℕ) → x < names → (w : Value) → cellOf st x ≡ is w → (z : Size) → ((vs : List Value) → w ≡ collection k (itemsOf vs) → Sized z (length vs)) → Takes st k i (name x) z
+unfolding Matches
+takes-name st k i x l w e z h vs a low m o =
+    h vs (o x l w (collection k (itemsOf vs)) e (ap (λ (b : Binding). cellOf b x) m ∙ getD-set-same nothing x (is (collection k (itemsOf vs))) free l))
 
 each-by : (r : Record) (ps : List Pattern) (c : ℕ) → r .kind ≡ enumerationOf c → Splits c → patternOf r ps ≡ each (collectionOf c) (patternsOf ps)
 each-by r ps c e (inl f) = let d : r .kind ≡ 37 = e ∙ ap enumerationOf f in rw (d, f) refl
 each-by r ps c e (inr f) = let d : r .kind ≡ 39 = e ∙ ap enumerationOf f in rw (d, f) refl
 
-pub size-any : (table : List ℕ) (p c n : ℕ) → n ≡ fewestOf c → TellsSize table p c (record { least = n; more = true })
-size-any table p c n e vs b low m = record { least = omega (arith, e, low); exact = λ e. true-false e }
+pub size-any : (table : List ℕ) (st : Binding) (p c n : ℕ) → n ≡ fewestOf c → TellsSize table st p c (record { least = n; more = true })
+size-any table st p c n e vs b low m o = record { least = omega (arith, e, low); exact = λ e. true-false e }
 
 module _ (table index : List ℕ) (p : ℕ) (h : Readable table index p) (c : ℕ) (u : Splits c) where
-  pub size-each : kindAt (records table) p ≡ enumerationOf c → (n : ℕ) → n ≡ length (operandsOf (recordAt (records table) p)) → TellsSize table p c (record { least = n; more = false })
-  size-each e n l =
-      subst (λ (q : Pattern). Takes (collectionOf c) (fewestOf c) q (record { least = n; more = false })) (sym (by-record table index p h ∙ each-by (recordAt (records table) p) (innerOf table p) c e u))
-      (takes-each (collectionOf c) (fewestOf c) (innerOf table p) n (l ∙ sym (inner-length table index p h)))
+  pub size-each : kindAt (records table) p ≡ enumerationOf c → (n : ℕ) → n ≡ length (operandsOf (recordAt (records table) p)) → (st : Binding) → TellsSize table st p c (record { least = n; more = false })
+  size-each e n l st =
+      subst (λ (q : Pattern). Takes st (collectionOf c) (fewestOf c) q (record { least = n; more = false })) (sym (by-record table index p h ∙ each-by (recordAt (records table) p) (innerOf table p) c e u))
+      (takes-each st (collectionOf c) (fewestOf c) (innerOf table p) n (l ∙ sym (inner-length table index p h)))
 
-  module _ (e : kindAt (records table) p ≡ c) (l : ℕ) (el : l ≡ operand (recordAt (records table) p) 0) (r : ℕ) (er : r ≡ operand (recordAt (records table) p) 1) (x y : Size) (tx : TellsSize table l c x) (ty : TellsSize table r c y) where
-    left-takes : TellsSize table (operand (recordAt (records table) p) 0) c x
-    left-takes = subst (λ (n : ℕ). TellsSize table n c x) el tx
+  pub size-name : kindAt (records table) p ≡ 32 → (s found : List ℕ) (x : ℕ) → x ≡ nameOf (recordAt (records table) p) → (getD found x 0 ≡ 0 → ⊥) → (z : Size) → SizeOfValue s (getD found x 0) c z → (st : Binding) → Stands s found st → TellsSize table st p c z
+  size-name e s found x q f z t st k =
+      let l : x < names = omega (arith, name-small table index p h e, q) in
+      let (w, d, i) = has-value s found st k x l f in
+      subst (λ (q : Pattern). Takes st (collectionOf c) (fewestOf c) q z) (sym (by-record table index p h ∙ is-name (recordAt (records table) p) (innerOf table p) e ∙ ap name (sym q)))
+      (takes-name st (collectionOf c) (fewestOf c) x l w d z (λ vs g. t vs (subst (PartIs s (unpacked (getD found x 0))) g i)))
 
-    right-takes : TellsSize table (operand (recordAt (records table) p) 1) c y
-    right-takes = subst (λ (n : ℕ). TellsSize table n c y) er ty
+  module _ (e : kindAt (records table) p ≡ c) (l : ℕ) (el : l ≡ operand (recordAt (records table) p) 0) (r : ℕ) (er : r ≡ operand (recordAt (records table) p) 1) (x y : Size) (st : Binding) (tx : TellsSize table st l c x) (ty : TellsSize table st r c y) where
+    left-takes : TellsSize table st (operand (recordAt (records table) p) 0) c x
+    left-takes = subst (λ (n : ℕ). TellsSize table st n c x) el tx
 
-    pub size-halved : (z : Size) → Sum x y z → TellsSize table p c z
+    right-takes : TellsSize table st (operand (recordAt (records table) p) 1) c y
+    right-takes = subst (λ (n : ℕ). TellsSize table st n c y) er ty
+
+    pub size-halved : (z : Size) → Sum x y z → TellsSize table st p c z
     size-halved z s =
-        subst (λ (q : Pattern). Takes (collectionOf c) (fewestOf c) q z) (sym (is-two table index p h c e u))
-        (takes-halved (collectionOf c) (fewestOf c) (divided-fewest c u) (patternAt (records table) (operand (recordAt (records table) p) 0)) (patternAt (records table) (operand (recordAt (records table) p) 1)) x y z left-takes right-takes s)
+        subst (λ (q : Pattern). Takes st (collectionOf c) (fewestOf c) q z) (sym (is-two table index p h c e u))
+        (takes-halved st (collectionOf c) (fewestOf c) (divided-fewest c u) (patternAt (records table) (operand (recordAt (records table) p) 0)) (patternAt (records table) (operand (recordAt (records table) p) 1)) x y z left-takes right-takes s)
 
-    pub sizes-told : (z : Sizes) → (z .left ≡ x) × (z .right ≡ y) → TellsSizes table p c z
+    pub sizes-told : (z : Sizes) → (z .left ≡ x) × (z .right ≡ y) → TellsSizes table st p c z
     sizes-told z (a, b) e =
-        record { splits = u; left = subst (TellsSize table (operand (recordAt (records table) p) 0) c) (sym a) left-takes; right = subst (TellsSize table (operand (recordAt (records table) p) 1) c) (sym b) right-takes }
+        record { splits = u; left = subst (TellsSize table st (operand (recordAt (records table) p) 0) c) (sym a) left-takes; right = subst (TellsSize table st (operand (recordAt (records table) p) 1) c) (sym b) right-takes }
 
-pub no-sizes : (table : List ℕ) (p c : ℕ) (x y : Size) → TellsSizes table p c (record { bound = false; left = x; right = y })
-no-sizes table p c x y e = true-false (sym e)
+pub no-sizes : (table : List ℕ) (st : Binding) (p c : ℕ) (x y : Size) → TellsSizes table st p c (record { bound = false; left = x; right = y })
+no-sizes table st p c x y e = true-false (sym e)
 
 -- ---- how many the right half has
 
@@ -129,6 +173,10 @@ rights-are z n x y l e f = record { low = high f; right = λ i j s a b. (from e 
 
 pub first-none : (f : ℕ → ℕ) (w d : ℕ) (r : Range) → FirstOf f w d r d
 first-none f w d r = record { low = omega arith; within = λ l. l; passed = λ j l m. absurd (omega arith) }
+
+-- no way gives so many
+pub first-past : (f : ℕ → ℕ) (w d : ℕ) (r : Range) → d ≤ w → r .most < r .least → FirstOf f w d r w
+first-past f w d r l m = record { low = l; within = λ k. omega arith; passed = λ j a b x y. omega arith }
 
 pub first-more : (f : ℕ → ℕ) (w d : ℕ) (r : Range) (e : ℕ) → FirstOf f w d r e → e < w → (r .least ≤ f e → f e ≤ r .most → ⊥) → FirstOf f w d r (e + 1)
 first-more f w d r e h l n = record { low = omega (arith, h .low); within = λ k. omega arith; passed = λ j a m. go j a m (e - j) refl }
@@ -230,13 +278,6 @@ module _ (c w : ℕ) (h : Divisible c w) where
           );
         }
 
-    is-cut : (c ≡ 38 → ⊥) → c ≡ 40
-    is-cut f = go (h .splits)
-      where
-        go : Splits c → c ≡ 40
-        go (inl e) = absurd (f e)
-        go (inr e) = e
-
     pub from-cuts : (c ≡ 38 → ⊥) → Rights z (w - 1) r → CutFrom w d r e → From c w d z e
     from-cuts g u k = record {
       low = k .low;
@@ -244,7 +285,7 @@ module _ (c w : ℕ) (h : Divisible c w) where
       barren = λ j m n. (
         b,
         λ vs f x y.
-            let q = is-cut g in
+            let q = is-cut c (h .splits) g in
             let p : w ≡ suc (length vs) = sym f ∙ ap (λ (m : ℕ). length (divisions (collectionOf m) vs)) q ∙ cuts-length vs in
             let under : e ≤ w = k .within (omega arith) in
             let s : halfAt c vs j ≡ halves (take j vs) (drop j vs) = ap (λ (m : ℕ). halfAt m vs j) q ∙ nth-cut vs j (halves [] []) (omega (arith, p)) in
@@ -254,6 +295,9 @@ module _ (c w : ℕ) (h : Divisible c w) where
             k .passed j m n (i .0) (i .1),
       );
     }
+
+pub from-past : (c w : ℕ) → Divisible c w → (z : Sizes) → z .bound ≡ true → (d : ℕ) → d < w → (r : Range) → c ≡ 38 → Rights z (ones (w + 1)) r → r .most < r .least → From c w d z w
+from-past c w h z b d l r q u m = let e : w + 1 - 1 ≡ w = omega arith in subst (From c w d z) e (from-splits c w h z b d l r (w + 1) q u (first-past ones (w + 1) (d + 1) r (omega arith) m))
 
 -- ---- the first way that may have a match
 

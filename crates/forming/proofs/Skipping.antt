@@ -1,4 +1,4 @@
--- Ways that are passed over: their halves have other sizes than the patterns take, and so no match.
+-- Ways that are passed over: their halves have other sizes than the patterns take, and so no match that is compatible with what is found.
 use mathlib.Core.Path.{_≡_, refl, sym, ap, _∙_}
 use mathlib.Core.Logic.{inl, inr}
 use mathlib.Core.Option.{Option, none as absent, some}
@@ -15,27 +15,25 @@ use Rattle.tables.specs.Table.{recordAt, kindAt}
 use Rattle.tables.specs.Accepted.{records}
 use Rattle.patterns.specs.Ways.{halves, properSplits, gather}
 use Rattle.patterns.specs.Laws.Units.{in-proper}
-use Rattle.patterns.specs.Binding.{Binding, withEach, together}
-use Rattle.patterns.specs.Pattern.{Pattern, any, contents, divisions, split, leftOf, rightOf, matches, matchEach}
-use Rattle.patterns.specs.Laws.Matched.{in-together, matched}
-use Rattle.patterns.specs.Laws.Together.{with-none}
+use Rattle.patterns.specs.Binding.{Binding, names}
+use Rattle.patterns.specs.Pattern.{Pattern, any, contents, divisions, split, leftOf, rightOf, matchEach}
+use Rattle.patterns.specs.Relation.{Matches}
+use Rattle.patterns.specs.Laws.Matched.{matchedEach}
 use Rattle.patterns.specs.Nodes.{collectionOf, bothHalves, meetings}
 use Rattle.patterns.specs.Laws.Nodes.{two-of}
 use Rattle.patterns.specs.Read.{Readable, patternsOf, patternAt}
 use Rattle.matching.specs.Node.{innerOf, waysOf, metBy}
 use Rattle.matching.proofs.Records.{inner-length}
 use Rattle.forming.specs.declared.sizes.Sizes.{Sizes}
-use Rattle.forming.specs.Onward.{Task, matchesAll, oneWay}
+use Rattle.forming.specs.Compatible.{Compatible}
+use Rattle.forming.specs.Onward.{Task, oneWay}
 use Rattle.forming.specs.Inner.{countOf}
 use Rattle.forming.specs.Sizes.{Splits, fewestOf, HalvesTake, TellsSizes, halfAt, Barren, FromHeld, From}
 use Rattle.prelude.proofs.Lists.{map-at}
+use Rattle.forming.proofs.Compatible.{compatible-left, compatible-right, no-way}
 use Rattle.forming.proofs.Reducing.{two-halves}
 
 -- ---- lists
-
-none-in : {A : Type 0} (xs : List A) → ((x : A) → In x xs → ⊥) → xs ≡ []
-none-in [] h = refl
-none-in (x ∷ xs) h = absurd (h x (inl refl))
 
 gather-skip : {A B : Type 0} (xs : List A) (z : A) (f : A → List B) (n d : ℕ) → d + n ≤ length xs → ((j : ℕ) → d ≤ j → j < d + n → f (getD xs j z) ≡ []) → gather (drop (d + n) xs) f ≡ gather (drop d xs) f
 unfolding gather
@@ -46,19 +44,13 @@ gather-skip {A} {B} xs z f (suc n) d l h =
     let on : gather (drop (suc d + n) xs) f ≡ gather (drop (suc d) xs) f = gather-skip xs z f n (suc d) (omega arith) (λ j a b. h j (omega arith) (omega arith)) in
     ap (λ (k : ℕ). gather (drop k xs) f) e ∙ on ∙ ap (λ (l : List B). l ++ gather (drop (suc d) xs) f) (sym (h d (omega arith) (omega arith))) ∙ ap (λ (l : List A). gather l f) (sym here)
 
--- ---- two parts, one of which has no match
+-- ---- two parts of which one has no match that is compatible
 
-no-pair : (l r : Pattern) (x y : Value) → ((a b : Binding) → In a (matches l x) → In b (matches r y) → ⊥) → matchEach (patternsOf (l ∷ r ∷ [])) (x ∷ y ∷ []) ≡ []
-unfolding matches patternsOf
-no-pair l r x y h =
-    none-in (together (matches l x) (matchEach (patternsOf (r ∷ [])) (y ∷ []))) (λ c i.
-    let (a, b, m, n, t, e) = in-together c (matches l x) (matchEach (patternsOf (r ∷ [])) (y ∷ [])) i in
-    let (a′, b′, m′, n′, t′, e′) = in-together b (matches r y) (matchEach (patternsOf []) []) n in
-    h a a′ m m′)
-
-no-way : (ps : List Pattern) (ts : List Task) (b : Binding) (vs : List Value) → matchEach (patternsOf ps) vs ≡ [] → oneWay ps ts b vs ≡ []
-unfolding together
-no-way ps ts b vs e = ap (λ (l : List Binding). withEach b (together l (matchesAll ts))) e ∙ with-none b
+no-pair : (b : Binding) (l r : Pattern) (x y : Value) → ((a d : Binding) → Matches l x a → Matches r y d → Compatible b a → Compatible b d → ⊥) → (m : Binding) → In m (matchEach (patternsOf (l ∷ r ∷ [])) (x ∷ y ∷ [])) → Compatible b m → ⊥
+unfolding Matches patternsOf
+no-pair b l r x y h m i k =
+    let (a, d, ma, (e, f, me, mf, j), j′) = matchedEach (patternsOf (l ∷ r ∷ [])) (x ∷ y ∷ []) m i in
+    h a e ma me (compatible-left b a d m j′ k) (compatible-left b e f d j (compatible-right b a d m j′ k))
 
 -- ---- the ways of a pattern with two halves
 
@@ -95,34 +87,31 @@ module _ (table index : List ℕ) (p : ℕ) (h : Readable table index p) (c : �
       go absent q = absurd (omega (arith, e, ap length q))
       go (some vs) q = (vs, q, sym (length-map (divisions K vs) (bothHalves K)) ∙ ap length (sym q) ∙ e)
 
-  -- a way whose halves have other sizes has no match
-  barren-way : (z : Sizes) → HalvesTake table p c z → (w j : ℕ) → j < w → Barren c w z j → (v : Value) → length (waysOf table p v) ≡ w → (ts : List Task) (st : Binding) → oneWay (innerOf table p) ts st (metBy table p v j) ≡ []
-  barren-way z t w j l n v e ts st =
+  -- a way whose halves have other sizes has no match that goes on from the binding
+  barren-way : (st : Binding) → length st ≡ names → (z : Sizes) → HalvesTake table st p c z → (w j : ℕ) → j < w → Barren c w z j → (v : Value) → length (waysOf table p v) ≡ w → (ts : List Task) → oneWay (innerOf table p) ts st (metBy table p v j) ≡ []
+  barren-way st o z t w j l n v e ts =
       let (vs, q, d) = some-ways v w e (omega arith) in
       let at : metBy table p v j ≡ bothHalves K (halfAt c vs j) = ap (λ (ws : List (List Value)). getD ws j []) q ∙ map-at (bothHalves K) (divisions K vs) j (halves [] []) [] (omega (arith, d)) in
       let (x, y) = half-fewest c u vs j (omega (arith, d)) in
       ap (λ (x : List Value). oneWay (innerOf table p) ts st x) at
       ∙ ap (λ (ps : List Pattern). oneWay ps ts st (bothHalves K (halfAt c vs j))) inner-two
-      ∙ no-way (half 0 ∷ half 1 ∷ []) ts st (bothHalves K (halfAt c vs j))
-      (no-pair (half 0) (half 1) (leftOf K (halfAt c vs j)) (rightOf K (halfAt c vs j)) (λ a b m o.
-      n vs d
-      (t .left (halfAt c vs j .left) a x (matched (half 0) (leftOf K (halfAt c vs j)) a m))
-      (t .right (halfAt c vs j .right) b y (matched (half 1) (rightOf K (halfAt c vs j)) b o))))
+      ∙ no-way (half 0 ∷ half 1 ∷ []) ts st o (bothHalves K (halfAt c vs j))
+      (no-pair st (half 0) (half 1) (leftOf K (halfAt c vs j)) (rightOf K (halfAt c vs j)) (λ a b m k f g. n vs d (t .left (halfAt c vs j .left) a x m f) (t .right (halfAt c vs j .right) b y k g)))
 
 -- ---- ways that are passed over
 
-module _ (table index : List ℕ) (p : ℕ) (r : Readable table index p) (c : ℕ) (ec : c ≡ kindAt (records table) p) (z : Sizes) (t : TellsSizes table p c z) (v : Value) (w : ℕ) (n : length (waysOf table p v) ≡ w) where
+module _ (table index : List ℕ) (p : ℕ) (r : Readable table index p) (c : ℕ) (ec : c ≡ kindAt (records table) p) (st : Binding) (z : Sizes) (t : TellsSizes table st p c z) (v : Value) (w : ℕ) (n : length (waysOf table p v) ≡ w) where
   pub from-asked : 0 < w → FromHeld c w z
   from-asked l b =
       let k = t b in
       let (vs, q, d) = some-ways table index p r c ec (k .splits) v w n l in
       record { splits = k .splits; values = vs; ways = d }
 
-  pub passed-over : (ts : List Task) (st : Binding) (d e : ℕ) → d ≤ w → From c w d z e → gather (drop e (waysOf table p v)) (oneWay (innerOf table p) ts st) ≡ gather (drop d (waysOf table p v)) (oneWay (innerOf table p) ts st)
-  passed-over ts st d e l k =
+  pub passed-over : length st ≡ names → (ts : List Task) (d e : ℕ) → d ≤ w → From c w d z e → gather (drop e (waysOf table p v)) (oneWay (innerOf table p) ts st) ≡ gather (drop d (waysOf table p v)) (oneWay (innerOf table p) ts st)
+  passed-over sized ts d e l k =
       let x : d + (e - d) ≡ e = omega (arith, k .low) in
       let y : e ≤ w = k .within l in
       ap (λ (j : ℕ). gather (drop j (waysOf table p v)) (oneWay (innerOf table p) ts st)) (sym x)
       ∙ gather-skip (waysOf table p v) [] (oneWay (innerOf table p) ts st) (e - d) d (omega (arith, n, x, y)) (λ j u o.
       let (bound, none) = k .barren j u (omega (arith, x)) in
-      barren-way table index p r c ec (t bound .splits) z (t bound) w j (omega (arith, x, y)) none v n ts st)
+      barren-way table index p r c ec (t bound .splits) st sized z (t bound) w j (omega (arith, x, y)) none v n ts)

@@ -211,7 +211,10 @@ module _ (table index s a : List ℕ) (at next top : ℕ) (found frames : List �
           go Large f k = true-false (sym k ∙ or-false-left (isLarge (kindAt (records table) p) v) _ (sym (wide-by table index p (x .composed) v) ∙ narrow-now))
           go (Ways z) f k = absurd (f z refl)
 
-      module _ (ways : ℕ) (me : m ≡ Ways ways) (k : ℕ) (ek : k ≡ kindAt (records table) p) (sizes : Sizes) (t : TellsSizes table p k sizes) where
+      module _ (ways : ℕ) (me : m ≡ Ways ways) (k : ℕ) (ek : k ≡ kindAt (records table) p) (sizes : Sizes) (told : (b : Binding) → Stands s found b → TellsSizes table b p k sizes) where
+        t : TellsSizes table (w .binding) p k sizes
+        t = told b (w .stands)
+
         there : MeetsAs (kindAt (records table) p) (countOf table p) (w .value) (Ways ways)
         there = subst (MeetsAs (kindAt (records table) p) (countOf table p) v) me (met v (w .here))
 
@@ -219,7 +222,7 @@ module _ (table index s a : List ℕ) (at next top : ℕ) (found frames : List �
         ways-few = there .3
 
         pub first-asked : FromHeld k ways sizes
-        first-asked = from-asked table index p (x .composed .readable) k ek sizes t v ways (there .1) (there .2)
+        first-asked = from-asked table index p (x .composed .readable) k ek b sizes t v ways (there .1) (there .2)
 
         module _ (way : ℕ) (fr : From k ways 0 sizes way) (once : Bool) (so : TellsSettled table p found once) (mask : ℕ) (ms : (mask ≡ maskOf found) × (mask < 65536)) (tests : ℕ) (few : tests < 256) where
           pub frame-fits : FrameFits (framed p at next top way ways mask once sizes tests n)
@@ -237,7 +240,7 @@ module _ (table index s a : List ℕ) (at next top : ℕ) (found frames : List �
           }
 
           skipped : gather (drop way (waysOf table p (w .value))) (oneWay (innerOf table p) (w .tasks) (w .binding)) ≡ gather (waysOf table p (w .value)) (oneWay (innerOf table p) (w .tasks) (w .binding))
-          skipped = passed-over table index p (x .composed .readable) k ek sizes t v ways (there .1) ts b 0 way (omega arith) fr
+          skipped = passed-over table index p (x .composed .readable) k ek b sizes t v ways (there .1) (w .stands .binding-sized) ts 0 way (omega arith) fr
 
           level : Level
           level = record { value = w .value; tasks = w .tasks; binding = w .binding; words = found; past = []; done = []; due = gather (drop way (waysOf table p (w .value))) (oneWay (innerOf table p) (w .tasks) (w .binding)); since = n; seen = n }
@@ -260,7 +263,7 @@ module _ (table index s a : List ℕ) (at next top : ℕ) (found frames : List �
             few = ways-few;
             within = l;
             settled = so;
-            sizes = subst (λ (c : ℕ). TellsSizes table p c sizes) ek t;
+            sizes = subst (λ (c : ℕ). TellsSizes table b p c sizes) ek t;
             due = refl;
             done = λ o i. absurd i;
             past = λ o i. absurd i;

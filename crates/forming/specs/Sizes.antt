@@ -11,6 +11,8 @@ use Rattle.values.specs.Value.{Kind, Value, collection}
 use Rattle.tables.specs.Record.{operand}
 use Rattle.tables.specs.Table.{recordAt, kindAt}
 use Rattle.tables.specs.Accepted.{records}
+use Rattle.parts.specs.Part.{PartIs}
+use Rattle.parts.specs.Word.{unpacked}
 use Rattle.patterns.specs.Ways.{Halves, halves}
 use Rattle.patterns.specs.Binding.{Binding}
 use Rattle.patterns.specs.Pattern.{Pattern, itemsOf, divisions}
@@ -20,6 +22,7 @@ use Rattle.patterns.specs.Read.{Readable, patternAt}
 use Rattle.forming.specs.declared.sizes.Size.{Size}
 use Rattle.forming.specs.declared.sizes.Sizes.{Sizes}
 use Rattle.forming.specs.declared.sizes.Range.{Range}
+use Rattle.forming.specs.Compatible.{Compatible}
 
 -- Kind 38 splits sets, kind 40 cuts sequences.
 abbrev pub Splits : ℕ → Type 0
@@ -38,12 +41,16 @@ pub record Sized (z : Size) (n : ℕ) : Type 0 where
   pub least : z .least ≤ n
   pub exact : z .more ≡ false → n ≡ z .least
 
--- What the pattern matches of the kind, with at least n members or items, has such a size.
-abbrev pub Takes : Kind → ℕ → Pattern → Size → Type 0
-Takes k n p z = (vs : List Value) (b : Binding) → n ≤ length vs → Matches p (collection k (itemsOf vs)) b → Sized z (length vs)
+-- Where the word stands for a collection of the kind that c splits or cuts, this has such a size.
+abbrev pub SizeOfValue : List ℕ → ℕ → ℕ → Size → Type 0
+SizeOfValue s word c z = (vs : List Value) → PartIs s (unpacked word) (collection (collectionOf c) (itemsOf vs)) → Sized z (length vs)
 
-abbrev pub TellsSize : List ℕ → ℕ → ℕ → Size → Type 0
-TellsSize table p c z = Takes (collectionOf c) (fewestOf c) (patternAt (records table) p) z
+-- What the pattern matches of the kind, with at least n members or items and with values that are compatible with b, has such a size.
+abbrev pub Takes : Binding → Kind → ℕ → Pattern → Size → Type 0
+Takes b k n p z = (vs : List Value) (a : Binding) → n ≤ length vs → Matches p (collection k (itemsOf vs)) a → Compatible b a → Sized z (length vs)
+
+abbrev pub TellsSize : List ℕ → Binding → ℕ → ℕ → Size → Type 0
+TellsSize table b p c z = Takes b (collectionOf c) (fewestOf c) (patternAt (records table) p) z
 
 pub record Sum (l r z : Size) : Type 0 where
   pub right : (m n : ℕ) → Sized l m → Sized r n → Sized z (m + n)
@@ -54,13 +61,13 @@ pub record HalvesHeld (table index : List ℕ) (p c : ℕ) : Type 0 where
   pub readable : Readable table index p
   pub of-kind : kindAt (records table) p ≡ c
 
-pub record HalvesTake (table : List ℕ) (p c : ℕ) (z : Sizes) : Type 0 where
+pub record HalvesTake (table : List ℕ) (b : Binding) (p c : ℕ) (z : Sizes) : Type 0 where
   pub splits : Splits c
-  pub left : TellsSize table (operand (recordAt (records table) p) 0) c (z .left)
-  pub right : TellsSize table (operand (recordAt (records table) p) 1) c (z .right)
+  pub left : TellsSize table b (operand (recordAt (records table) p) 0) c (z .left)
+  pub right : TellsSize table b (operand (recordAt (records table) p) 1) c (z .right)
 
-abbrev pub TellsSizes : List ℕ → ℕ → ℕ → Sizes → Type 0
-TellsSizes table p c z = z .bound ≡ true → HalvesTake table p c z
+abbrev pub TellsSizes : List ℕ → Binding → ℕ → ℕ → Sizes → Type 0
+TellsSizes table b p c z = z .bound ≡ true → HalvesTake table b p c z
 
 -- ---- how many the right half has in a way
 

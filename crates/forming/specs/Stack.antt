@@ -70,7 +70,7 @@ pub record LevelIs (table index s a : List ℕ) (i : ℕ) (f : Frame) (l : Level
   pub few : f .ways < 256
   pub within : f .way < f .ways
   pub settled : TellsSettled table (f .p) (l .words) (f .once)
-  pub sizes : TellsSizes table (f .p) (kindAt (records table) (f .p)) (f .sizes)
+  pub sizes : TellsSizes table (l .binding) (f .p) (kindAt (records table) (f .p)) (f .sizes)
   pub due : l .due ≡ gather (drop (f .way) (waysOf table (f .p) (l .value))) (wayOf table f l)
   pub done : ByWays table f l (l .done)
   pub past : ByWays table f l (l .past)

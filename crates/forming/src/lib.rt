@@ -225,7 +225,7 @@ fn open_frame(
     let part = words::unpack(word);
     let m = nodes::meet(k, c, s, part);
     if let Meeting::Ways(ways) = m {
-        let sizes = sizes::sizes_of(table, index, p, k);
+        let sizes = sizes::sizes_of(table, index, p, k, s, found);
         let way = sizes::way_from(k, ways, 0, sizes);
         let once = settled::is_settled(table, index, p, found);
         let mask = masks::mask_of(found);

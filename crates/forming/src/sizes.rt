@@ -1,15 +1,25 @@
-// How many members or items a pattern takes. A way of splitting or cutting that gives a half more or fewer has no match.
+// How many members or items a pattern takes that agrees with what is found. A way of splitting or cutting that gives a half more or fewer has no match.
 use crate::settled::either;
+use parts::words;
+use parts::words::Env;
 use tables::Index;
 use tables::kinds;
+use tables::reading::field;
 use tables::reading::kind;
 use tables::reading::operand;
 use tables::reading::operand_count;
+use values::Value;
 ghost use mathlib.Core.Path.{_≡_};
 ghost use mathlib.Core.Bool.{true};
 ghost use Prim.Native.Nat.{_<_};
+ghost use Rattle.values.specs.Value.{number};
+ghost use Rattle.parts.specs.Part.{PartHeld};
+ghost use Rattle.parts.specs.Word.{unpacked};
+ghost use Rattle.patterns.specs.Binding.{Binding};
+ghost use Rattle.patterns.specs.Nodes.{collectionOf};
 ghost use Rattle.patterns.specs.Read.{Readable};
-ghost use Rattle.forming.specs.Sizes.{Splits, enumerationOf, fewestOf, TellsSize, Sum, HalvesHeld, TellsSizes, Rights, SplitFrom, CutFrom, FromHeld, From};
+ghost use Rattle.matching.specs.Leaf.{Stands, Standing};
+ghost use Rattle.forming.specs.Sizes.{Splits, enumerationOf, fewestOf, SizeOfValue, TellsSize, Sum, HalvesHeld, TellsSizes, Rights, SplitFrom, CutFrom, FromHeld, From};
 
 // At least so many; or exactly so many, where there may not be more.
 pub struct Size {
@@ -68,10 +78,49 @@ fn fewest_of(k: usize) -> u8
     0
 }
 
+// The kind of the values that patterns of kind k split or cut.
+fn collection_of(k: usize) -> usize
+    requires { ⌜ Splits k ⌝ }
+    ensures { λ r. ⌜ r ≡ number (collectionOf k) ⌝ }
+{
+    if k == kinds::UNION_PATTERN {
+        return Value::SET;
+    }
+    Value::SEQUENCE
+}
+
+// What a name takes that has a value: as many members or items as this has; where it is of another kind than what patterns of kind k split or cut, more
+// than any half has.
+fn size_of_value(s: &[u8], word: u32, k: usize) -> Size
+    requires { ⌜ PartHeld (now s) (unpacked word) × Splits k ⌝ }
+    ensures { λ z. ⌜ SizeOfValue (now (s .entry)) word k z ⌝ }
+{
+    let part = words::unpack(word);
+    let own = parts::kind_of_part(s, part);
+    if own != collection_of(k) {
+        return Size {
+            least: Size::TOLD,
+            more: true,
+        };
+    }
+    let n = parts::count_of_part(s, part);
+    Size {
+        least: n as u8,
+        more: false,
+    }
+}
+
 // What a pattern takes that meets a half, where k is the kind of the whole.
-fn size_of(table: &[u8], index: &Index, p: usize, k: usize) -> Size
-    requires { ⌜ Readable (now table) (now index) p × Splits k ⌝ }
-    ensures { λ z. ⌜ TellsSize (now (table .entry)) p k z ⌝ }
+fn size_of(
+    table: &[u8],
+    index: &Index,
+    p: usize,
+    k: usize,
+    s: &[u8],
+    found: &[u32; Env::NAMES],
+) -> Size
+    requires { ⌜ Readable (now table) (now index) p × Splits k × Standing (now s) (now found) ⌝ }
+    ensures { λ z. ⌜ ((b : Binding) → Stands (now (s .entry)) (now (found .entry)) b → TellsSize (now (table .entry)) b p k z) ⌝ }
 {
     let own = kind(table, index, p);
     if own == enumeration_of(k) {
@@ -81,15 +130,22 @@ fn size_of(table: &[u8], index: &Index, p: usize, k: usize) -> Size
             more: false,
         };
     }
-    if own != k {
-        let least = fewest_of(k);
-        return Size { least, more: true };
+    if own == k {
+        let l = operand(table, index, p, 0);
+        let left = size_of(table, index, l, k, s, found);
+        let r = operand(table, index, p, 1);
+        let right = size_of(table, index, r, k, s, found);
+        return sum(left, right);
     }
-    let l = operand(table, index, p, 0);
-    let left = size_of(table, index, l, k);
-    let r = operand(table, index, p, 1);
-    let right = size_of(table, index, r, k);
-    sum(left, right)
+    if own == kinds::NAME_PATTERN {
+        let x = field(table, index, p, 0);
+        let word = found[x];
+        if word != 0 {
+            return size_of_value(s, word, k);
+        }
+    }
+    let least = fewest_of(k);
+    Size { least, more: true }
 }
 
 // Any number that a half may have.
@@ -111,9 +167,16 @@ pub fn splits(k: usize) -> bool
 }
 
 // What the halves of a pattern of kind k take, where it has two; else any number.
-pub fn sizes_of(table: &[u8], index: &Index, p: usize, k: usize) -> Sizes
-    requires { ⌜ HalvesHeld (now table) (now index) p k ⌝ }
-    ensures { λ z. ⌜ TellsSizes (now (table .entry)) p k z ⌝ }
+pub fn sizes_of(
+    table: &[u8],
+    index: &Index,
+    p: usize,
+    k: usize,
+    s: &[u8],
+    found: &[u32; Env::NAMES],
+) -> Sizes
+    requires { ⌜ HalvesHeld (now table) (now index) p k × Standing (now s) (now found) ⌝ }
+    ensures { λ z. ⌜ ((b : Binding) → Stands (now (s .entry)) (now (found .entry)) b → TellsSizes (now (table .entry)) b p k z) ⌝ }
 {
     let none = Size {
         least: 0,
@@ -128,9 +191,9 @@ pub fn sizes_of(table: &[u8], index: &Index, p: usize, k: usize) -> Sizes
         };
     }
     let l = operand(table, index, p, 0);
-    let left = size_of(table, index, l, k);
+    let left = size_of(table, index, l, k, s, found);
     let r = operand(table, index, p, 1);
-    let right = size_of(table, index, r, k);
+    let right = size_of(table, index, r, k, s, found);
     pair(left, right, k)
 }
 
@@ -217,6 +280,9 @@ pub fn way_from(k: usize, w: usize, d: usize, z: Sizes) -> usize
         let last = w + 1;
         let n = usize::count_ones(last) as usize;
         let r = rights(z, n);
+        if r.most < r.least {
+            return w;
+        }
         let e = split_from(last, d + 1, r);
         return e - 1;
     }

@@ -66,7 +66,7 @@ enum-known-m : tie.Need-enum-known-m
 enum-known-m c = search needs
 
 sizes-of-requires : tie.Need-sizes-of-requires
-sizes-of-requires c κs = record { readable = c .before .before .before .before .before .before .before .reduced .ensures .composed .readable; of-kind = sym (c .before .before .before .before .before .before .kind .ensures .0) }
+sizes-of-requires c κs = (record { readable = c .before .before .before .before .before .before .before .reduced .ensures .composed .readable; of-kind = sym (c .before .before .before .before .before .before .kind .ensures .0) }, (c .before .before .before .before .before .before .before .before .before .before .before .before .pre .waiting .binding, c .before .before .before .before .before .before .before .before .before .before .before .before .pre .waiting .stands))
 
 way-from-requires : tie.Need-way-from-requires
 way-from-requires c κs = first-asked _ _ _ _ _ _ _ _ _ _ _ _ _ _ _ (c .before .before .before .before .before .before .before .before .before .before .before .before .before .pre .waiting) _ (c .before .before .before .before .before .before .before .before .reduced .ensures) (c .before .before .before .before .meet .result) (met-as _ _ _ _ _ _ _ _ _ _ _ _ _ _ _ (c .before .before .before .before .before .before .before .before .before .before .before .before .before .pre .waiting) _ (c .before .before .before .before .before .before .before .before .reduced .ensures) _ _ _ (c .before .before .before .before .meet .result) (c .before .before .before .before .before .before .before .kind .ensures .0) (c .before .before .before .before .before .before .operand-count .ensures .0) (c .before .before .before .before .before .unpack .ensures) (c .before .before .before .before .meet .ensures)) _ (c .before .before .m .given .1) _ (c .before .before .before .before .before .before .before .kind .ensures .0) _ (c .sizes-of .ensures)

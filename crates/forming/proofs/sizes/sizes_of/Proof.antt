@@ -17,25 +17,25 @@ splits-requires : tie.Need-splits-requires
 splits-requires c κs = search needs
 
 returns : tie.Need-returns
-returns c = no-sizes _ _ (c .before .before .before .args .k) _ _
+returns c = λ b st. no-sizes _ b _ (c .before .before .before .before .args .k) _ _
 
 operand-requires : tie.Need-operand-requires
-operand-requires c κs = has-operand _ _ _ (c .before .before .before .pre .readable) 0 (omega (arith, two-halves _ _ _ (c .before .before .before .pre .readable) (c .before .before .before .args .k) (c .before .before .before .pre .of-kind) (c .before .splits .ensures (not-false _ (c .if1 .left)))))
+operand-requires c κs = has-operand _ _ _ (c .before .before .before .before .pre .0 .readable) 0 (omega (arith, two-halves _ _ _ (c .before .before .before .before .pre .0 .readable) (c .before .before .before .before .args .k) (c .before .before .before .before .pre .0 .of-kind) (c .before .splits .ensures (not-false _ (c .if1 .left)))))
 
 size-of-requires : tie.Need-size-of-requires
-size-of-requires c κs = (operand-readable _ _ _ (c .before .before .before .before .pre .readable) 0 (omega (arith, two-halves _ _ _ (c .before .before .before .before .pre .readable) (c .before .before .before .before .args .k) (c .before .before .before .before .pre .of-kind) (c .before .before .splits .ensures (not-false _ (c .before .if1 .left))))) _ (c .operand .ensures .0) .0, c .before .before .splits .ensures (not-false _ (c .before .if1 .left)))
+size-of-requires c κs = (operand-readable _ _ _ (c .before .before .before .before .before .pre .0 .readable) 0 (omega (arith, two-halves _ _ _ (c .before .before .before .before .before .pre .0 .readable) (c .before .before .before .before .before .args .k) (c .before .before .before .before .before .pre .0 .of-kind) (c .before .before .splits .ensures (not-false _ (c .before .if1 .left))))) _ (c .operand .ensures .0) .0, c .before .before .splits .ensures (not-false _ (c .before .if1 .left)), c .before .before .before .before .before .pre .1)
 
 operand-requires-2 : tie.Need-operand-requires-2
-operand-requires-2 c κs = has-operand _ _ _ (c .before .before .before .before .before .pre .readable) 1 (omega (arith, two-halves _ _ _ (c .before .before .before .before .before .pre .readable) (c .before .before .before .before .before .args .k) (c .before .before .before .before .before .pre .of-kind) (c .before .before .before .splits .ensures (not-false _ (c .before .before .if1 .left)))))
+operand-requires-2 c κs = has-operand _ _ _ (c .before .before .before .before .before .before .pre .0 .readable) 1 (omega (arith, two-halves _ _ _ (c .before .before .before .before .before .before .pre .0 .readable) (c .before .before .before .before .before .before .args .k) (c .before .before .before .before .before .before .pre .0 .of-kind) (c .before .before .before .splits .ensures (not-false _ (c .before .before .if1 .left)))))
 
 size-of-requires-2 : tie.Need-size-of-requires-2
-size-of-requires-2 c κs = (operand-readable _ _ _ (c .before .before .before .before .before .before .pre .readable) 1 (omega (arith, two-halves _ _ _ (c .before .before .before .before .before .before .pre .readable) (c .before .before .before .before .before .before .args .k) (c .before .before .before .before .before .before .pre .of-kind) (c .before .before .before .before .splits .ensures (not-false _ (c .before .before .before .if1 .left))))) _ (c .operand2 .ensures .0) .0, c .before .before .before .before .splits .ensures (not-false _ (c .before .before .before .if1 .left)))
+size-of-requires-2 c κs = (operand-readable _ _ _ (c .before .before .before .before .before .before .before .pre .0 .readable) 1 (omega (arith, two-halves _ _ _ (c .before .before .before .before .before .before .before .pre .0 .readable) (c .before .before .before .before .before .before .before .args .k) (c .before .before .before .before .before .before .before .pre .0 .of-kind) (c .before .before .before .before .splits .ensures (not-false _ (c .before .before .before .if1 .left))))) _ (c .operand2 .ensures .0) .0, c .before .before .before .before .splits .ensures (not-false _ (c .before .before .before .if1 .left)), c .before .before .before .before .before .before .before .pre .1)
 
 pair-requires : tie.Need-pair-requires
 pair-requires c κs = search needs
 
 returns-2 : tie.Need-returns-2
-returns-2 c = sizes-told _ _ _ (c .before .before .before .before .before .before .before .before .pre .readable) (c .before .before .before .before .before .before .before .before .args .k) (c .before .before .before .before .before .before .splits .ensures (not-false _ (c .before .before .before .before .before .if1 .left))) (c .before .before .before .before .before .before .before .before .pre .of-kind) _ (c .before .before .before .before .operand .ensures .0) _ (c .before .before .operand2 .ensures .0) _ _ (c .before .before .before .size-of .ensures) (c .before .size-of2 .ensures) _ (c .pair .ensures)
+returns-2 c = λ b st. sizes-told _ _ _ (c .before .before .before .before .before .before .before .before .before .pre .0 .readable) (c .before .before .before .before .before .before .before .before .before .args .k) (c .before .before .before .before .before .before .splits .ensures (not-false _ (c .before .before .before .before .before .if1 .left))) (c .before .before .before .before .before .before .before .before .before .pre .0 .of-kind) _ (c .before .before .before .before .operand .ensures .0) _ (c .before .before .operand2 .ensures .0) _ _ b (c .before .before .before .size-of .ensures b st) (c .before .size-of2 .ensures b st) _ (c .pair .ensures)
 
 pub sizes-of-spec : {M : Type 1} → statement M
 sizes-of-spec =

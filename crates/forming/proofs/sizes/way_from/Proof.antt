@@ -3,7 +3,7 @@ use borrow.Author.Tests.{not-false}
 use Prim.Native.Nat.{_+_}
 use lib.Count.{ones-le}
 use borrow.Author.Needs.{needs}
-use Rattle.forming.proofs.Sizing.{from-none, even-ways, from-splits, from-cuts}
+use Rattle.forming.proofs.Sizing.{from-none, even-ways, from-splits, from-past, from-cuts}
 use Rattle.forming.proofs.sizes.way_from.Statement.{statement}
 use Rattle.forming.proofs.sizes.way_from.Tie as tie
 use Rattle.forming.proofs.sizes.way_from.Reads as reads
@@ -27,6 +27,9 @@ cast-n c = omega (arith, ones-le 64 (c .before .before .before .before .args .w 
 rights-requires : tie.Need-rights-requires
 rights-requires c κs = search needs
 
+returns-3 : tie.Need-returns-3
+returns-3 c = from-past (c .before .before .before .before .before .before .before .args .k) (c .before .before .before .before .before .before .before .args .w) (c .before .before .before .before .before .before .before .pre (not-false _ (c .before .before .before .before .before .if1 .left))) (c .before .before .before .before .before .before .before .args .z) (not-false _ (c .before .before .before .before .before .if1 .left)) (c .before .before .before .before .before .before .before .args .d) (omega arith) _ (omega arith) (c .before .before .rights .ensures) (c .if4 .taken)
+
 add-split-from : tie.Need-add-split-from
 add-split-from c = search needs
 
@@ -36,8 +39,8 @@ split-from-requires c κs = search needs
 sub-result : tie.Need-sub-result
 sub-result c = search needs
 
-returns-3 : tie.Need-returns-3
-returns-3 c = from-splits (c .before .before .before .before .before .before .args .k) (c .before .before .before .before .before .before .args .w) (c .before .before .before .before .before .before .pre (not-false _ (c .before .before .before .before .if1 .left))) (c .before .before .before .before .before .before .args .z) (not-false _ (c .before .before .before .before .if1 .left)) (c .before .before .before .before .before .before .args .d) (omega arith) _ _ (omega arith) (c .before .rights .ensures) (c .split-from .ensures)
+returns-4 : tie.Need-returns-4
+returns-4 c = from-splits (c .before .before .before .before .before .before .before .before .args .k) (c .before .before .before .before .before .before .before .before .args .w) (c .before .before .before .before .before .before .before .before .pre (not-false _ (c .before .before .before .before .before .before .if1 .left))) (c .before .before .before .before .before .before .before .before .args .z) (not-false _ (c .before .before .before .before .before .before .if1 .left)) (c .before .before .before .before .before .before .before .before .args .d) (omega arith) _ _ (omega arith) (c .before .before .before .rights .ensures) (c .split-from .ensures)
 
 sub-rights : tie.Need-sub-rights
 sub-rights c = search needs
@@ -48,8 +51,8 @@ rights-requires-2 c κs = search needs
 cut-from-requires : tie.Need-cut-from-requires
 cut-from-requires c κs = (omega arith, omega (arith, c .rights2 .ensures .low))
 
-returns-4 : tie.Need-returns-4
-returns-4 c = from-cuts (c .before .before .before .before .before .before .args .k) (c .before .before .before .before .before .before .args .w) (c .before .before .before .before .before .before .pre (not-false _ (c .before .before .before .before .if1 .left))) (c .before .before .before .before .before .before .args .z) (not-false _ (c .before .before .before .before .if1 .left)) (c .before .before .before .before .before .before .args .d) (omega arith) _ _ (c .before .before .if3 .left) (c .before .rights2 .ensures) (c .cut-from .ensures)
+returns-5 : tie.Need-returns-5
+returns-5 c = from-cuts (c .before .before .before .before .before .before .args .k) (c .before .before .before .before .before .before .args .w) (c .before .before .before .before .before .before .pre (not-false _ (c .before .before .before .before .if1 .left))) (c .before .before .before .before .before .before .args .z) (not-false _ (c .before .before .before .before .if1 .left)) (c .before .before .before .before .before .before .args .d) (omega arith) _ _ (c .before .before .if3 .left) (c .before .rights2 .ensures) (c .cut-from .ensures)
 
 pub way-from-spec : {M : Type 1} → statement M
 way-from-spec =
@@ -60,11 +63,12 @@ way-from-spec =
     add-last
     cast-n
     rights-requires
+    returns-3
     add-split-from
     split-from-requires
     sub-result
-    returns-3
+    returns-4
     sub-rights
     rights-requires-2
     cut-from-requires
-    returns-4)
+    returns-5)

@@ -1,0 +1,48 @@
+use borrow.Author.Needs.{needs}
+use native.Mathlib.Omega.{arith}
+use mathlib.Core.Path.{sym, subst, _∙_}
+use Rattle.parts.specs.Part.{PartHeld}
+use Rattle.matching.proofs.Counting.{is-held, count-few}
+use Rattle.forming.proofs.Reducing.{splits-composed}
+use Rattle.forming.proofs.Sizing.{kind-other, count-is}
+use Rattle.forming.proofs.sizes.size_of_value.Statement.{statement}
+use Rattle.forming.proofs.sizes.size_of_value.Tie as tie
+use Rattle.forming.proofs.sizes.size_of_value.Reads as reads
+use Rattle.forming.proofs.sizes.size_of_value.Lts as lts
+use Rattle.forming.proofs.sizes.collection_of.Reads as collection-of-reads
+use Rattle.parts.proofs.count_of_part.Reads as count-of-part-reads
+use Rattle.parts.proofs.kind_of_part.Reads as kind-of-part-reads
+use Rattle.parts.proofs.words.unpack.Reads as unpack-reads
+
+unpack-requires : tie.Need-unpack-requires
+unpack-requires c κs = search needs
+
+kind-of-part-requires : tie.Need-kind-of-part-requires
+kind-of-part-requires c κs = subst (PartHeld _) (sym (c .unpack .ensures)) (c .before .before .pre .0)
+
+collection-of-requires : tie.Need-collection-of-requires
+collection-of-requires c κs = search needs
+
+returns : tie.Need-returns
+returns c = kind-other _ _ (c .before .before .before .before .before .args .k) _ (c .before .before .before .unpack .ensures) _ (c .before .before .kind-of-part .ensures) (λ e. c .if1 .taken (e ∙ sym (c .before .collection-of .ensures))) _
+
+count-of-part-requires : tie.Need-count-of-part-requires
+count-of-part-requires c κs = is-held (c .before .before .before .before .before .args .k) 0 _ _ (splits-composed _ (c .before .before .before .before .before .pre .1)) _ (c .before .before .kind-of-part .ensures) (c .if1 .left ∙ c .before .collection-of .ensures) (subst (PartHeld _) (sym (c .before .before .before .unpack .ensures)) (c .before .before .before .before .before .pre .0))
+
+cast-t9 : tie.Need-cast-t9
+cast-t9 c = omega (arith, count-few (c .before .before .before .before .before .before .args .k) 0 _ _ (splits-composed _ (c .before .before .before .before .before .before .pre .1)) _ (c .before .before .before .kind-of-part .ensures) (c .before .if1 .left ∙ c .before .before .collection-of .ensures) _ (c .count-of-part .ensures) (subst (PartHeld _) (sym (c .before .before .before .before .unpack .ensures)) (c .before .before .before .before .before .before .pre .0)))
+
+returns-2 : tie.Need-returns-2
+returns-2 c = count-is _ _ (c .before .before .before .before .before .before .args .k) _ (c .before .before .before .before .unpack .ensures) _ (c .count-of-part .ensures)
+
+pub size-of-value-spec : {M : Type 1} → statement M
+size-of-value-spec =
+    tie.close
+    (tie.spec
+    unpack-requires
+    kind-of-part-requires
+    collection-of-requires
+    returns
+    count-of-part-requires
+    cast-t9
+    returns-2)
