@@ -58,7 +58,7 @@ sum-is l r x e o f = record {
 
 -- ---- the kinds that are split or cut
 
-pub is-cut : (c : ℕ) → Splits c → (c ≡ 38 → ⊥) → c ≡ 40
+is-cut : (c : ℕ) → Splits c → (c ≡ 38 → ⊥) → c ≡ 40
 is-cut c (inl e) f = absurd (f e)
 is-cut c (inr e) f = e
 

@@ -1,5 +1,6 @@
 // How many members or items a pattern takes that agrees with what is found. A way of splitting or cutting that gives a half more or fewer has no match.
 use crate::settled::either;
+use matching::nodes;
 use parts::words;
 use parts::words::Env;
 use tables::Index;
@@ -8,15 +9,12 @@ use tables::reading::field;
 use tables::reading::kind;
 use tables::reading::operand;
 use tables::reading::operand_count;
-use values::Value;
 ghost use mathlib.Core.Path.{_≡_};
 ghost use mathlib.Core.Bool.{true};
 ghost use Prim.Native.Nat.{_<_};
-ghost use Rattle.values.specs.Value.{number};
 ghost use Rattle.parts.specs.Part.{PartHeld};
 ghost use Rattle.parts.specs.Word.{unpacked};
 ghost use Rattle.patterns.specs.Binding.{Binding};
-ghost use Rattle.patterns.specs.Nodes.{collectionOf};
 ghost use Rattle.patterns.specs.Read.{Readable};
 ghost use Rattle.matching.specs.Leaf.{Stands, Standing};
 ghost use Rattle.forming.specs.Sizes.{Splits, enumerationOf, fewestOf, SizeOfValue, TellsSize, Sum, HalvesHeld, TellsSizes, Rights, SplitFrom, CutFrom, FromHeld, From};
@@ -78,17 +76,6 @@ fn fewest_of(k: usize) -> u8
     0
 }
 
-// The kind of the values that patterns of kind k split or cut.
-fn collection_of(k: usize) -> usize
-    requires { ⌜ Splits k ⌝ }
-    ensures { λ r. ⌜ r ≡ number (collectionOf k) ⌝ }
-{
-    if k == kinds::UNION_PATTERN {
-        return Value::SET;
-    }
-    Value::SEQUENCE
-}
-
 // What a name takes that has a value: as many members or items as this has; where it is of another kind than what patterns of kind k split or cut, more
 // than any half has.
 fn size_of_value(s: &[u8], word: u32, k: usize) -> Size
@@ -97,7 +84,7 @@ fn size_of_value(s: &[u8], word: u32, k: usize) -> Size
 {
     let part = words::unpack(word);
     let own = parts::kind_of_part(s, part);
-    if own != collection_of(k) {
+    if own != nodes::collection_of(k) {
         return Size {
             least: Size::TOLD,
             more: true,

@@ -53,7 +53,7 @@ fn member(n: usize, d: usize, i: usize) -> usize
 }
 
 // The kind of the values that a pattern of the kind meets.
-fn collection_of(kind: usize) -> usize
+pub fn collection_of(kind: usize) -> usize
     ensures { λ r. ⌜ r ≡ number (collectionOf kind) ⌝ }
 {
     match kind {

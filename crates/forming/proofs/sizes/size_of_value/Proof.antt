@@ -9,7 +9,7 @@ use Rattle.forming.proofs.sizes.size_of_value.Statement.{statement}
 use Rattle.forming.proofs.sizes.size_of_value.Tie as tie
 use Rattle.forming.proofs.sizes.size_of_value.Reads as reads
 use Rattle.forming.proofs.sizes.size_of_value.Lts as lts
-use Rattle.forming.proofs.sizes.collection_of.Reads as collection-of-reads
+use Rattle.matching.proofs.nodes.collection_of.Reads as collection-of-reads
 use Rattle.parts.proofs.count_of_part.Reads as count-of-part-reads
 use Rattle.parts.proofs.kind_of_part.Reads as kind-of-part-reads
 use Rattle.parts.proofs.words.unpack.Reads as unpack-reads
