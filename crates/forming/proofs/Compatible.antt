@@ -1,20 +1,23 @@
--- Bindings that may go together, and ways in which nothing goes with what is found.
+-- Bindings that may go together, and matches of which none goes with what is found.
 use mathlib.Core.Path.{_≡_, refl, sym, ap, subst, _∙_}
 use mathlib.Core.Bool.{true}
 use mathlib.Core.Logic.{inl}
-use mathlib.Core.List.{List, [], _∷_}
+use mathlib.Core.List.{List, [], _∷_, _++_}
+use Prim.Native.Nat.{ℕ, _<_}
 use lib.ListN.{length}
 use Rattle.prelude.specs.Membership.{In}
 use Rattle.prelude.proofs.Membership.{in-one}
 use Rattle.values.specs.Value.{Value}
+use Rattle.patterns.specs.Members.{Alike}
 use Rattle.patterns.specs.Binding.{Cell, free, is, clash, Binding, names, cellOf, merge, consistent, withEach}
-use Rattle.patterns.specs.Pattern.{Pattern, matchEach}
+use Rattle.patterns.specs.Pattern.{Pattern, matches, matchEach}
 use Rattle.patterns.specs.Relation.{Agree, Joined}
-use Rattle.patterns.specs.Laws.Matched.{in-together, matchedEach, each-sized, merge-joined}
+use Rattle.patterns.specs.Laws.Matched.{in-together, matched, matchedEach, match-sized, each-sized, merge-sized, merge-joined}
 use Rattle.patterns.specs.Laws.Together.{together-with, one-together}
 use Rattle.patterns.specs.Read.{patternsOf}
 use Rattle.forming.specs.Compatible.{Compatible}
-use Rattle.forming.specs.Onward.{Task, matchesAll, oneWay}
+use Rattle.forming.specs.Needs.{Unmatched}
+use Rattle.forming.specs.Onward.{Task, matchesAll, onward, oneWay}
 
 -- ---- what two say of a name that one of them gives a value
 
@@ -28,20 +31,33 @@ agreed-right free b c w h e = subst (λ (x : Cell). Agree free x c) e h
 agreed-right (is v) b c w h e = let g : Agree (is v) (is w) c = subst (λ (x : Cell). Agree (is v) x c) e h in g .1 ∙ ap is (g .0)
 agreed-right clash b c w h e = absurd h
 
--- ---- what is joined
+-- ---- matches have a cell for each name
 
-pub joined-compatible : (b a c : Binding) → Joined b a c → Compatible b a
-joined-compatible b a c j x l v w e f =
-    let g : is v ≡ is w = sym (agreed-left (cellOf b x) (cellOf a x) (cellOf c x) v (j .agreed x l) e) ∙ agreed-right (cellOf b x) (cellOf a x) (cellOf c x) w (j .agreed x l) f in
-    cc
+pub sized-all : (ts : List Task) (d : Binding) → In d (matchesAll ts) → length d ≡ names
+unfolding matchesAll
+sized-all [] d i = ap length (in-one d i)
+sized-all (t ∷ ts) d i =
+    let (a, b, j, k, f, e) = in-together d (matches (t .what) (t .value)) (matchesAll ts) i in
+    let n = match-sized (t .what) (t .value) a (matched (t .what) (t .value) a j) in
+    ap length e ∙ merge-sized a b (n ∙ sym (sized-all ts b k)) ∙ n
 
--- what is compatible with both together is so with each
-module _ (b c d a : Binding) (j : Joined c d a) (h : Compatible b a) where
-  pub compatible-left : Compatible b c
-  compatible-left x l v w e f = h x l v w e (agreed-left (cellOf c x) (cellOf d x) (cellOf a x) w (j .agreed x l) f)
+-- ---- one binding gives all that another gives
 
-  pub compatible-right : Compatible b d
-  compatible-right x l v w e f = h x l v w e (agreed-right (cellOf c x) (cellOf d x) (cellOf a x) w (j .agreed x l) f)
+abbrev pub Within : Binding → Binding → Type 0
+Within a b = (x : ℕ) → x < names → (v : Value) → cellOf a x ≡ is v → cellOf b x ≡ is v
+
+pub joined-left : (a b c : Binding) → Joined a b c → Within a c
+joined-left a b c h x l v e = agreed-left (cellOf a x) (cellOf b x) (cellOf c x) v (h .agreed x l) e
+
+pub joined-right : (a b c : Binding) → Joined a b c → Within b c
+joined-right a b c h x l v e = agreed-right (cellOf a x) (cellOf b x) (cellOf c x) v (h .agreed x l) e
+
+-- two that one binding holds are compatible
+within-compatible : (a b c : Binding) → Within a c → Within b c → Compatible a b
+within-compatible a b c f g x l v w e d = let q : is v ≡ is w = sym (f x l v e) ∙ g x l w d in cc
+
+pub compatible-within : (a b c : Binding) → Within a b → Compatible c b → Compatible c a
+compatible-within a b c f h x l v w e d = h x l v w e (f x l w d)
 
 -- ---- a binding with each of several
 
@@ -51,16 +67,47 @@ with-in b xs x i =
     let s : q ≡ b = in-one q j in
     (m, n, ap (λ (y : Binding). consistent (merge y m)) (sym s) ∙ t, e ∙ ap (λ (y : Binding). merge y m) s)
 
--- ---- a way in which nothing is compatible with what is found
+-- THEOREM: what goes on with a binding is compatible with it
+with-compatible : (b : Binding) → length b ≡ names → (ds : List Binding) → ((d : Binding) → In d ds → length d ≡ names) → (o : Binding) → In o (withEach b ds) → (d : Binding) × In d ds × Compatible b d
+with-compatible b n ds f o i =
+    let (d, k, t, e) = with-in b ds o i in
+    let h = merge-joined b d n (f d k) t in
+    (d, k, within-compatible b d (merge b d) (joined-left b d (merge b d) h) (joined-right b d (merge b d) h))
+
+-- ---- nothing is compatible with what is found
 
 none-in : {A : Type 0} (xs : List A) → ((x : A) → In x xs → ⊥) → xs ≡ []
 none-in [] h = refl
 none-in (x ∷ xs) h = absurd (h x (inl refl))
 
+-- THEOREM: a way in which no match of the parts is compatible with what is found gives nothing
 pub no-way : (ps : List Pattern) (ts : List Task) (b : Binding) → length b ≡ names → (vs : List Value) → ((m : Binding) → In m (matchEach (patternsOf ps) vs) → Compatible b m → ⊥) → oneWay ps ts b vs ≡ []
 no-way ps ts b n vs h =
     none-in (oneWay ps ts b vs) (λ o i.
     let xs = matchEach (patternsOf ps) vs in
     let (x, d, j, k, t, e) = in-together o (withEach b xs) (matchesAll ts) (subst (In o) (sym (together-with b xs (matchesAll ts))) i) in
-    let (m, u, y, z) = with-in b xs x j in
-    h m u (joined-compatible b m (merge b m) (merge-joined b m n (each-sized (patternsOf ps) vs m (matchedEach (patternsOf ps) vs m u)) y)))
+    let (m, u, c) = with-compatible b n xs (λ m u. each-sized (patternsOf ps) vs m (matchedEach (patternsOf ps) vs m u)) x j in
+    h m u c)
+
+-- each match of all tasks holds one of each of them
+task-within : (us : List Task) (t : Task) (ts : List Task) (d : Binding) → In d (matchesAll (us ++ t ∷ ts)) → (m : Binding) × In m (matches (t .what) (t .value)) × Within m d
+unfolding matchesAll
+task-within [] t ts d i =
+    let (a, c, j, k, f, e) = in-together d (matches (t .what) (t .value)) (matchesAll ts) i in
+    let h = merge-joined a c (match-sized (t .what) (t .value) a (matched (t .what) (t .value) a j)) (sized-all ts c k) f in
+    (a, j, joined-left a c d (subst (Joined a c) (sym e) h))
+task-within (u ∷ us) t ts d i =
+    let (a, c, j, k, f, e) = in-together d (matches (u .what) (u .value)) (matchesAll (us ++ t ∷ ts)) i in
+    let h = merge-joined a c (match-sized (u .what) (u .value) a (matched (u .what) (u .value) a j)) (sized-all (us ++ t ∷ ts) c k) f in
+    let (m, x, w) = task-within us t ts c k in
+    (m, x, λ y l v q. joined-right a c d (subst (Joined a c) (sym e) h) y l v (w y l v q))
+
+-- THEOREM: where one task has no match that is compatible with what is found, nothing goes on
+pub none-onward : (us : List Task) (t : Task) (ts : List Task) (b : Binding) → length b ≡ names → Unmatched b (t .what) (t .value) → Alike (onward (us ++ t ∷ ts) b) []
+none-onward us t ts b n f o = (
+  λ i.
+      let (d, j, c) = with-compatible b n (matchesAll (us ++ t ∷ ts)) (sized-all (us ++ t ∷ ts)) o i in
+      let (m, k, w) = task-within us t ts d j in
+      f m (matched (t .what) (t .value) m k) (compatible-within m d b w c),
+  λ i. absurd i,
+)

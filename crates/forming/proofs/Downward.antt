@@ -46,7 +46,7 @@ module _ (table index s a : List ℕ) (head top : ℕ) (found frames : List ℕ)
   few = omega (arith, h .room)
 
   pub take-asked : TakeHeld table index s a head found
-  take-asked = record { top = top; tasks = h .tasks; are = h .are; low = omega (arith, h .low); room = few; binding = h .binding; stands = h .stands }
+  take-asked = record { top = top; tasks = h .tasks; are = h .are; low = omega (arith, h .low); room = few; binding = h .binding; stands = h .stands; short = h .stacked .short }
 
   module _ (g : List ℕ) (r : Left) (k : Taken table index s a head found g r) where
     stacked-with : (high : ℕ) → top ≤ high → (more : List Binding) → Alike (onward (h .tasks) (h .binding)) more → Stacked table index s a high g frames depth hit rows order n more target

@@ -19,52 +19,52 @@ use Rattle.forming.specs.Frames.{KeptBelow, flagByte, frameOf, slotAt, f
 
 -- ---- bytes
 
-slot-at : (a : List ℕ) (i j : ℕ) → j < 17 → getD (slotAt a i) j 0 ≡ getD a (17 * i + j) 0
-slot-at a i j l = getD-take 17 (drop (17 * i) a) j 0 l ∙ getD-drop (17 * i) a j 0
+slot-at : (a : List ℕ) (i j : ℕ) → j < 18 → getD (slotAt a i) j 0 ≡ getD a (18 * i + j) 0
+slot-at a i j l = getD-take 18 (drop (18 * i) a) j 0 l ∙ getD-drop (18 * i) a j 0
 
-slot-long : (a : List ℕ) (i : ℕ) → i < 100 → length a ≡ 1700 → length (slotAt a i) ≡ 17
-slot-long a i l e = length-take-le 17 (drop (17 * i) a) (omega (arith, length-drop (17 * i) a))
+slot-long : (a : List ℕ) (i : ℕ) → i < 100 → length a ≡ 1800 → length (slotAt a i) ≡ 18
+slot-long a i l e = length-take-le 18 (drop (18 * i) a) (omega (arith, length-drop (18 * i) a))
 
 -- the bytes before j are read
 pub record SlotRead (a : List ℕ) (i : ℕ) (bytes : List ℕ) (j : ℕ) : Type 0 where
-  pub long : length bytes ≡ 17
-  pub same : (k : ℕ) → k < j → getD bytes k 0 ≡ getD a (17 * i + k) 0
+  pub long : length bytes ≡ 18
+  pub same : (k : ℕ) → k < j → getD bytes k 0 ≡ getD a (18 * i + k) 0
 
-pub read-start : (a : List ℕ) (i : ℕ) (bytes : List ℕ) → length bytes ≡ 17 → SlotRead a i bytes 0
+pub read-start : (a : List ℕ) (i : ℕ) (bytes : List ℕ) → length bytes ≡ 18 → SlotRead a i bytes 0
 read-start a i bytes e = record { long = e; same = λ k l. absurd (omega arith) }
 
-pub read-more : (a : List ℕ) (i : ℕ) (bytes : List ℕ) (j b : ℕ) → j < 17 → b ≡ getD a (17 * i + j) 0 → SlotRead a i bytes j → SlotRead a i (set bytes j b) (j + 1)
+pub read-more : (a : List ℕ) (i : ℕ) (bytes : List ℕ) (j b : ℕ) → j < 18 → b ≡ getD a (18 * i + j) 0 → SlotRead a i bytes j → SlotRead a i (set bytes j b) (j + 1)
 read-more a i bytes j b l e h = record { long = length-set bytes j b ∙ h .long; same = λ k m. go k m (ℕ-discrete k j) }
   where
-    go : (k : ℕ) → k < j + 1 → Dec (k ≡ j) → getD (set bytes j b) k 0 ≡ getD a (17 * i + k) 0
+    go : (k : ℕ) → k < j + 1 → Dec (k ≡ j) → getD (set bytes j b) k 0 ≡ getD a (18 * i + k) 0
     go k m (yes q) = rw q (getD-set-same bytes j b 0 (omega (arith, h .long)) ∙ e)
     go k m (no q) = getD-set-other bytes j k b 0 q ∙ h .same k (omega arith)
 
-pub read-end : (a : List ℕ) (i : ℕ) (bytes : List ℕ) (j : ℕ) → i < 100 → length a ≡ 1700 → 17 ≤ j → SlotRead a i bytes j → bytes ≡ slotAt a i
+pub read-end : (a : List ℕ) (i : ℕ) (bytes : List ℕ) (j : ℕ) → i < 100 → length a ≡ 1800 → 18 ≤ j → SlotRead a i bytes j → bytes ≡ slotAt a i
 read-end a i bytes j l e m h =
     ext-getD 0 bytes (slotAt a i) (h .long ∙ sym (slot-long a i l e)) (λ k o. h .same k (omega (arith, h .long)) ∙ sym (slot-at a i k (omega (arith, h .long))))
 
 -- the bytes before j are written
 pub record SlotWritten (a : List ℕ) (i : ℕ) (bytes : List ℕ) (b : List ℕ) (j : ℕ) : Type 0 where
-  pub same : (k : ℕ) → k < j → getD b (17 * i + k) 0 ≡ getD bytes k 0
-  pub kept : KeptBelow a b (17 * i)
+  pub same : (k : ℕ) → k < j → getD b (18 * i + k) 0 ≡ getD bytes k 0
+  pub kept : KeptBelow a b (18 * i)
   pub long : length b ≡ length a
 
 pub written-start : (a : List ℕ) (i : ℕ) (bytes : List ℕ) → SlotWritten a i bytes a 0
 written-start a i bytes = record { same = λ k l. absurd (omega arith); kept = λ j l. refl; long = refl }
 
-pub written-more : (a : List ℕ) (i : ℕ) (bytes b : List ℕ) (j x : ℕ) → i < 100 → length a ≡ 1700 → j < 17 → x ≡ getD bytes j 0 → SlotWritten a i bytes b j → SlotWritten a i bytes (set b (17 * i + j) x) (j + 1)
+pub written-more : (a : List ℕ) (i : ℕ) (bytes b : List ℕ) (j x : ℕ) → i < 100 → length a ≡ 1800 → j < 18 → x ≡ getD bytes j 0 → SlotWritten a i bytes b j → SlotWritten a i bytes (set b (18 * i + j) x) (j + 1)
 written-more a i bytes b j x l e m q h = record {
   same = λ k o. go k o (ℕ-discrete k j);
-  kept = λ k o. getD-set-other b (17 * i + j) k x 0 (λ d. absurd (omega arith)) ∙ h .kept k o;
-  long = length-set b (17 * i + j) x ∙ h .long;
+  kept = λ k o. getD-set-other b (18 * i + j) k x 0 (λ d. absurd (omega arith)) ∙ h .kept k o;
+  long = length-set b (18 * i + j) x ∙ h .long;
 }
   where
-    go : (k : ℕ) → k < j + 1 → Dec (k ≡ j) → getD (set b (17 * i + j) x) (17 * i + k) 0 ≡ getD bytes k 0
-    go k o (yes d) = rw d (getD-set-same b (17 * i + j) x 0 (omega (arith, h .long)) ∙ q)
-    go k o (no d) = getD-set-other b (17 * i + j) (17 * i + k) x 0 (λ z. d (omega arith)) ∙ h .same k (omega arith)
+    go : (k : ℕ) → k < j + 1 → Dec (k ≡ j) → getD (set b (18 * i + j) x) (18 * i + k) 0 ≡ getD bytes k 0
+    go k o (yes d) = rw d (getD-set-same b (18 * i + j) x 0 (omega (arith, h .long)) ∙ q)
+    go k o (no d) = getD-set-other b (18 * i + j) (18 * i + k) x 0 (λ z. d (omega arith)) ∙ h .same k (omega arith)
 
-pub written-end : (a : List ℕ) (i : ℕ) (bytes b : List ℕ) (j : ℕ) → i < 100 → length a ≡ 1700 → length bytes ≡ 17 → 17 ≤ j → SlotWritten a i bytes b j → SlotPut a i bytes b
+pub written-end : (a : List ℕ) (i : ℕ) (bytes b : List ℕ) (j : ℕ) → i < 100 → length a ≡ 1800 → length bytes ≡ 18 → 18 ≤ j → SlotWritten a i bytes b j → SlotPut a i bytes b
 written-end a i bytes b j l e n m h = record {
   here =
       let long = slot-long b i l (h .long ∙ e) in
@@ -82,9 +82,9 @@ bit-told false = refl
 mask-told : (m : ℕ) → m < 65536 → m % 256 + 256 * (m / 256 % 256) ≡ m
 mask-told m l = omega arith
 
-pub packed : (f : Frame) → FrameFits f → (o b l r : ℕ) → o ≡ flagByte (f .once) → b ≡ flagByte (f .sizes .bound) → l ≡ flagByte (f .sizes .left .more) → r ≡ flagByte (f .sizes .right .more)
-    → frameOf (f .p ∷ f .at ∷ f .next ∷ f .top ∷ f .way ∷ f .seen ∷ f .ways ∷ f .mask % 256 ∷ f .mask / 256 % 256 ∷ o ∷ b ∷ f .sizes .left .least ∷ l ∷ f .sizes .right .least ∷ r ∷ f .tests ∷ f .since ∷ []) ≡ f
-packed f h o b l r oe be le re = rw (oe, be, le, re) (rw (mask-told (f .mask) (h .mask-small), bit-told (f .once), bit-told (f .sizes .bound), bit-told (f .sizes .left .more), bit-told (f .sizes .right .more)) refl)
+pub packed : (f : Frame) → FrameFits f → (o b l r k : ℕ) → o ≡ flagByte (f .once) → b ≡ flagByte (f .sizes .bound) → l ≡ flagByte (f .sizes .left .more) → r ≡ flagByte (f .sizes .right .more) → k ≡ flagByte (f .asks)
+    → frameOf (f .p ∷ f .at ∷ f .next ∷ f .top ∷ f .way ∷ f .seen ∷ f .ways ∷ f .mask % 256 ∷ f .mask / 256 % 256 ∷ o ∷ b ∷ f .sizes .left .least ∷ l ∷ f .sizes .right .least ∷ r ∷ f .tests ∷ f .since ∷ k ∷ []) ≡ f
+packed f h o b l r k oe be le re ke = rw (oe, be, le, re, ke) (rw (mask-told (f .mask) (h .mask-small), bit-told (f .once), bit-told (f .sizes .bound), bit-told (f .sizes .left .more), bit-told (f .sizes .right .more), bit-told (f .asks)) refl)
 
 pub stored : (a : List ℕ) (i : ℕ) (f : Frame) (bytes b : List ℕ) → frameOf bytes ≡ f → SlotPut a i bytes b → Stored a i f b
 stored a i f bytes b e h = record { here = ap frameOf (h .here) ∙ e; kept = h .kept; long = h .long }
@@ -96,7 +96,7 @@ pub not-advanced : (a : List ℕ) (i : ℕ) (f : Frame) → f .ways ≤ f .way �
 not-advanced a i f l = record { kept = λ j m. refl; long = refl; how = inr (refl, l) }
 
 -- the bytes of its way and of the rows alone
-way-set : (x : List ℕ) (w n : ℕ) → length x ≡ 17 → frameOf (set (set x 4 w) 5 n) ≡ onto (frameOf x) w n
+way-set : (x : List ℕ) (w n : ℕ) → length x ≡ 18 → frameOf (set (set x 4 w) 5 n) ≡ onto (frameOf x) w n
 way-set ([]) w n l = absurd (omega arith)
 way-set (a ∷ []) w n l = absurd (omega arith)
 way-set (a ∷ b ∷ []) w n l = absurd (omega arith)
@@ -105,41 +105,41 @@ way-set (a ∷ b ∷ c ∷ d ∷ []) w n l = absurd (omega arith)
 way-set (a ∷ b ∷ c ∷ d ∷ e ∷ []) w n l = absurd (omega arith)
 way-set (a ∷ b ∷ c ∷ d ∷ e ∷ f ∷ rest) w n l = refl
 
-slot-set : (a : List ℕ) (i : ℕ) → i < 100 → length a ≡ 1700 → (j : ℕ) → j < 17 → (e : ℕ) → slotAt (set a (17 * i + j) e) i ≡ set (slotAt a i) j e
+slot-set : (a : List ℕ) (i : ℕ) → i < 100 → length a ≡ 1800 → (j : ℕ) → j < 18 → (e : ℕ) → slotAt (set a (18 * i + j) e) i ≡ set (slotAt a i) j e
 slot-set a i l n j u e =
     let m = slot-long a i l n in
-    let o = slot-long (set a (17 * i + j) e) i l (length-set a (17 * i + j) e ∙ n) in
-    ext-getD 0 (slotAt (set a (17 * i + j) e) i) (set (slotAt a i) j e) (o ∙ sym (length-set (slotAt a i) j e ∙ m)) (λ k q. slot-at (set a (17 * i + j) e) i k (omega (arith, o)) ∙ go m k (omega (arith, o)) (ℕ-discrete k j))
+    let o = slot-long (set a (18 * i + j) e) i l (length-set a (18 * i + j) e ∙ n) in
+    ext-getD 0 (slotAt (set a (18 * i + j) e) i) (set (slotAt a i) j e) (o ∙ sym (length-set (slotAt a i) j e ∙ m)) (λ k q. slot-at (set a (18 * i + j) e) i k (omega (arith, o)) ∙ go m k (omega (arith, o)) (ℕ-discrete k j))
   where
-    go : length (slotAt a i) ≡ 17 → (k : ℕ) → k < 17 → Dec (k ≡ j) → getD (set a (17 * i + j) e) (17 * i + k) 0 ≡ getD (set (slotAt a i) j e) k 0
-    go m k q (yes d) = rw d (getD-set-same a (17 * i + j) e 0 (omega arith) ∙ sym (getD-set-same (slotAt a i) j e 0 (omega arith)))
-    go m k q (no d) = getD-set-other a (17 * i + j) (17 * i + k) e 0 (λ z. d (omega arith)) ∙ sym (getD-set-other (slotAt a i) j k e 0 d ∙ slot-at a i k q)
+    go : length (slotAt a i) ≡ 18 → (k : ℕ) → k < 18 → Dec (k ≡ j) → getD (set a (18 * i + j) e) (18 * i + k) 0 ≡ getD (set (slotAt a i) j e) k 0
+    go m k q (yes d) = rw d (getD-set-same a (18 * i + j) e 0 (omega arith) ∙ sym (getD-set-same (slotAt a i) j e 0 (omega arith)))
+    go m k q (no d) = getD-set-other a (18 * i + j) (18 * i + k) e 0 (λ z. d (omega arith)) ∙ sym (getD-set-other (slotAt a i) j k e 0 d ∙ slot-at a i k q)
 
-pub way-put : (a : List ℕ) (i : ℕ) → i < 100 → length a ≡ 1700 → (e n : ℕ) → e < frameAt a i .ways → (r : ℕ) → r ≡ i + 1 → Advanced a i (onto (frameAt a i) e n) (set (set a (17 * i + 4) e) (17 * i + 5) n) r
+pub way-put : (a : List ℕ) (i : ℕ) → i < 100 → length a ≡ 1800 → (e n : ℕ) → e < frameAt a i .ways → (r : ℕ) → r ≡ i + 1 → Advanced a i (onto (frameAt a i) e n) (set (set a (18 * i + 4) e) (18 * i + 5) n) r
 way-put a i l m e n o r q =
-    let b : length (set a (17 * i + 4) e) ≡ length a = length-set a (17 * i + 4) e in
+    let b : length (set a (18 * i + 4) e) ≡ length a = length-set a (18 * i + 4) e in
     record {
-      kept = λ j k. getD-set-other (set a (17 * i + 4) e) (17 * i + 5) j n 0 (λ d. absurd (omega arith)) ∙ getD-set-other a (17 * i + 4) j e 0 (λ d. absurd (omega arith));
-      long = length-set (set a (17 * i + 4) e) (17 * i + 5) n ∙ b;
+      kept = λ j k. getD-set-other (set a (18 * i + 4) e) (18 * i + 5) j n 0 (λ d. absurd (omega arith)) ∙ getD-set-other a (18 * i + 4) j e 0 (λ d. absurd (omega arith));
+      long = length-set (set a (18 * i + 4) e) (18 * i + 5) n ∙ b;
       how = inl (
         q ∙ add-one i,
         o,
-        ap frameOf (slot-set (set a (17 * i + 4) e) i l (b ∙ m) 5 (omega arith) n ∙ ap (λ (x : List ℕ). set x 5 n) (slot-set a i l m 4 (omega arith) e)) ∙ way-set (slotAt a i) e n (slot-long a i l m),
+        ap frameOf (slot-set (set a (18 * i + 4) e) i l (b ∙ m) 5 (omega arith) n ∙ ap (λ (x : List ℕ). set x 5 n) (slot-set a i l m 4 (omega arith) e)) ∙ way-set (slotAt a i) e n (slot-long a i l m),
       );
     }
 
 pub advanced-from : (a : List ℕ) (i : ℕ) (f : Frame) → f ≡ frameAt a i → (e n : ℕ) (b : List ℕ) (r : ℕ) → Advanced a i (onto (frameAt a i) e n) b r → Advanced a i (onto f e n) b r
 advanced-from a i f q e n b r h = subst (λ (g : Frame). Advanced a i (onto g e n) b r) (sym q) h
 
-pub top-at : (a : List ℕ) (i : ℕ) → getD a (17 * i + 3) 0 ≡ frameAt a i .top
+pub top-at : (a : List ℕ) (i : ℕ) → getD a (18 * i + 3) 0 ≡ frameAt a i .top
 top-at a i = sym (slot-at a i 3 (omega arith))
 
 -- frames below are kept
-pub frame-kept : (a b : List ℕ) (i n : ℕ) → i < n → n ≤ 100 → length a ≡ 1700 → length b ≡ length a → KeptBelow a b (17 * n) → frameAt b i ≡ frameAt a i
+pub frame-kept : (a b : List ℕ) (i n : ℕ) → i < n → n ≤ 100 → length a ≡ 1800 → length b ≡ length a → KeptBelow a b (18 * n) → frameAt b i ≡ frameAt a i
 frame-kept a b i n l m e d k =
     let la = slot-long a i (omega arith) e in
     let lb = slot-long b i (omega arith) (d ∙ e) in
-    ap frameOf (ext-getD 0 (slotAt b i) (slotAt a i) (lb ∙ sym la) (λ j o. slot-at b i j (omega (arith, lb)) ∙ k (17 * i + j) (omega (arith, lb)) ∙ sym (slot-at a i j (omega (arith, lb)))))
+    ap frameOf (ext-getD 0 (slotAt b i) (slotAt a i) (lb ∙ sym la) (λ j o. slot-at b i j (omega (arith, lb)) ∙ k (18 * i + j) (omega (arith, lb)) ∙ sym (slot-at a i j (omega (arith, lb)))))
 
 -- ---- masks
 

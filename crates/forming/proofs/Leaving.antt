@@ -17,6 +17,7 @@ use Rattle.patterns.specs.Members.{Alike}
 use Rattle.patterns.specs.Binding.{Binding, withEach}
 use Rattle.patterns.specs.Pattern.{Pattern, matches}
 use Rattle.patterns.specs.Read.{Readable}
+use Rattle.forming.specs.Needs.{Unmatched, AskHeld, TellsFit}
 use Rattle.forming.specs.Frames.{entries}
 use Rattle.matching.specs.Leaf.{Stands, Standing, Grown, LeafTold}
 use Rattle.matching.specs.Node.{LeafHeld}
@@ -24,6 +25,7 @@ use Rattle.matching.proofs.Naming.{grown-same, grown-then}
 use Rattle.forming.specs.Onward.{Task, task, onward}
 use Rattle.forming.specs.Laws.Onward.{onward-went, onward-none}
 use Rattle.forming.specs.Pending.{Pending, AgendaIs, spaces, WaitsAre, LeftOf, TakeHeld, Taken}
+use Rattle.forming.proofs.Compatible.{none-onward}
 use Rattle.forming.proofs.Joining.{onward-swap}
 use Rattle.forming.proofs.Solving.{some-task, agenda-low}
 
@@ -113,6 +115,32 @@ module _ (table index s a : List ℕ) (head₀ : ℕ) (f : List ℕ) (h : TakeHe
           let (t, us, e, p, k) = some-task table index s a (h .top) head (now .tasks) (now .are) l in
           (record { readable = p .readable; leaf = c }, (record { value = t .value; here = p .here }, (now .binding, now .stands)))
 
+      pub ask-asked : AskHeld table index Q s g × PartHeld s (unpacked W)
+      ask-asked =
+          let (t, us, e, p, k) = some-task table index s a (h .top) head (now .tasks) (now .are) l in
+          (record { readable = p .readable; short = h .short; standing = (now .binding, now .stands) }, record { value = t .value; here = p .here })
+
+      -- nothing goes on with the entry
+      module _ (g′ : List ℕ) (gr : Grown g g′) (fits : Bool) (fit : fits ≡ false) where
+        take-ended : ((top : ℕ) (ws us : List Task) (t : Task) (b : Binding) → length ws ≤ 1 → Pending table index s a top head t → Stands s g b → Alike (onward (ws ++ t ∷ us) b) []) → Taken table index s a head₀ f g′ (record { wait = wait; head = head; fits = fits })
+        take-ended f = record {
+          falls = w .before;
+          stays = grown-then (w .stays) gr;
+          ends = λ e. true-false (sym e ∙ fit);
+          none = λ x top ts b k z.
+              let r = w .right top ts b k z in
+              let (t, us, e, p, m) = some-task table index s a top head (r .tasks) (r .are) l in
+              let al : Alike (onward ts b) (onward (r .waits ++ t ∷ us) (r .binding)) = subst (λ (vs : List Task). Alike (onward ts b) (onward (r .waits ++ vs) (r .binding))) e (r .alike) in
+              λ c. (λ i. f top (r .waits) us t (r .binding) (few-wait table index s a top wait (r .waits) (r .waits-are)) p (r .stands) c .0 (al c .0 i), λ i. absurd i);
+          some = λ e. true-false (sym e ∙ fit);
+        }
+
+      -- the pattern with parts lacks a member
+      pub take-lacked : (fits : Bool) → TellsFit table Q s (unpacked W) g fits → fits ≡ false → Taken table index s a head₀ f g (record { wait = wait; head = head; fits = fits })
+      take-lacked fits o fit =
+          take-ended g (grown-same g) fits fit (λ top ws us t b k p z.
+          none-onward ws t us b (z .binding-sized) (subst (λ (q : Pattern). Unmatched b q (t .value)) (sym (p .pattern)) (o fit (t .value) b (p .here) z)))
+
       -- a pattern with parts waits
       pub take-wait : isComposed (kindAt (records table) Q) ≡ true → wait ≤ 0 → TakeSoFar table index s a head₀ f N head g
       take-wait c o = record {
@@ -163,24 +191,14 @@ module _ (table index s a : List ℕ) (head₀ : ℕ) (f : List ℕ) (h : TakeHe
         }
 
         -- one that does not
-        pub take-none : fits ≡ false → Taken table index s a head₀ f g′ (record { wait = wait; head = head; fits = false })
-        take-none fit = record {
-          falls = w .before;
-          stays = grown-then (w .stays) gr;
-          ends = λ e. true-false (sym e);
-          none = λ x top ts b k z.
-              let r = w .right top ts b k z in
-              let (t, us, e, p, m) = some-task table index s a top head (r .tasks) (r .are) l in
-              let no : withEach (r .binding) (matches (t .what) (t .value)) ≡ [] = ap (λ (y : Pattern). withEach (r .binding) (matches y (t .value))) (p .pattern) ∙ o (t .value) (r .binding) (p .here) (r .stands) .bad fit in
-              let nb = none-behind (r .waits) us (t .what) (t .value) (r .binding) (few-wait table index s a top wait (r .waits) (r .waits-are)) no in
-              let al : Alike (onward ts b) (onward (r .waits ++ t ∷ us) (r .binding)) = subst (λ (vs : List Task). Alike (onward ts b) (onward (r .waits ++ vs) (r .binding))) e (r .alike) in
-              λ c. (λ i. nb c .0 (al c .0 i), λ i. absurd i);
-          some = λ e. true-false (sym e);
-        }
+        pub take-none : fits ≡ false → Taken table index s a head₀ f g′ (record { wait = wait; head = head; fits = fits })
+        take-none fit =
+            take-ended g′ gr fits fit (λ top ws us t b k p z.
+            none-behind ws us (t .what) (t .value) b k (ap (λ (y : Pattern). withEach b (matches y (t .value))) (p .pattern) ∙ o (t .value) b (p .here) z .bad fit))
 
     -- the second pattern with parts, or the end
-    pub take-full : 0 < wait → Taken table index s a head₀ f g (record { wait = wait; head = head; fits = true })
-    take-full m = record { falls = w .before; stays = w .stays; ends = λ e z. absurd (omega arith); none = λ e. true-false e; some = λ e. w .right }
+    pub take-full : 0 < wait → (fits : Bool) → fits ≡ true → Taken table index s a head₀ f g (record { wait = wait; head = head; fits = fits })
+    take-full m fits fit = record { falls = w .before; stays = w .stays; ends = λ e z. absurd (omega arith); none = λ e. true-false (sym fit ∙ e); some = λ e. w .right }
 
     pub take-end : head ≤ 0 → Taken table index s a head₀ f g (record { wait = wait; head = head; fits = true })
     take-end m = record { falls = w .before; stays = w .stays; ends = λ e z. omega arith; none = λ e. true-false e; some = λ e. w .right }

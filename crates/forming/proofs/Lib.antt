@@ -11,6 +11,7 @@ mod Sizing
 mod Joining
 mod Skipping
 mod Choosing
+mod Needing
 mod Leaving
 mod Repeating
 mod Accounting

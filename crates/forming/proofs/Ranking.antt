@@ -16,7 +16,7 @@ power-some k = one-le-pow k 256 (omega arith)
 power-more : {i j : ℕ} → i ≤ j → 256 ^ i ≤ 256 ^ j
 power-more l = pow-le-pow-right (omega arith) l
 
-pub rank-kept : (a b : List ℕ) (n : ℕ) → n ≤ 100 → length a ≡ 1700 → length b ≡ length a → KeptBelow a b (17 * n) → rank b n ≡ rank a n
+pub rank-kept : (a b : List ℕ) (n : ℕ) → n ≤ 100 → length a ≡ 1800 → length b ≡ length a → KeptBelow a b (18 * n) → rank b n ≡ rank a n
 unfolding rank
 rank-kept a b zero l e d k = refl
 rank-kept a b (suc n) l e d k =
@@ -46,7 +46,7 @@ burden-less w d e P l k =
     let m : suc (w - e) * P ≤ (w - d) * P = mul-le-mul-right P (omega arith) in
     omega (arith, m, suc-mul (w - e) P)
 
-module _ (a : List ℕ) (n : ℕ) (l : n < 100) (e : length a ≡ 1700) (f : Frame) (b : List ℕ) (r : ℕ) (h : Advanced a n f b r) where
+module _ (a : List ℕ) (n : ℕ) (l : n < 100) (e : length a ≡ 1800) (f : Frame) (b : List ℕ) (r : ℕ) (h : Advanced a n f b r) where
   same-below : rank b n ≡ rank a n
   same-below = rank-kept a b n (omega arith) e (h .long) (h .kept)
 
@@ -77,7 +77,7 @@ module _ (a : List ℕ) (n depth : ℕ) (de : depth ≡ suc n) (f : Frame) (fe :
   pub left-less : rank a n < rank a depth
   left-less = omega (arith, all, burden-some f s, power-some (heft (f .top) (f .next)))
 
-  pub back-less : n < 100 → length a ≡ 1700 → (e y : ℕ) → f .way < e → (b : List ℕ) (r : ℕ) → Advanced a n (onto f e y) b r → (x k : ℕ) → k ≤ heft (f .top) (f .next) → x < rank b r + 256 ^ k → x < rank a depth
+  pub back-less : n < 100 → length a ≡ 1800 → (e y : ℕ) → f .way < e → (b : List ℕ) (r : ℕ) → Advanced a n (onto f e y) b r → (x k : ℕ) → k ≤ heft (f .top) (f .next) → x < rank b r + 256 ^ k → x < rank a depth
   back-less l m e y d b r h x k le lt = go (h .how)
     where
       below : rank b n ≡ rank a n

@@ -22,7 +22,7 @@ use Rattle.patterns.specs.Binding.{Cell, free, is, Binding, names, nothing, cel
 use Rattle.patterns.specs.Pattern.{Pattern, matches, matchEach}
 use Rattle.patterns.specs.Relation.{Joined}
 use Rattle.patterns.specs.Laws.Members.{gather-in}
-use Rattle.patterns.specs.Laws.Matched.{in-together, together-in, matched, matchedEach, match-sized, each-sized, merge-sized, merge-joined}
+use Rattle.patterns.specs.Laws.Matched.{in-together, together-in, matched, matchedEach, match-sized, each-sized, merge-joined}
 use Rattle.patterns.specs.Laws.Named.{holdsNamed as named, Told, told}
 use Rattle.patterns.specs.Laws.Together.{all-fine, each-consistent, with-nothing, together-nothing, together-with}
 use Rattle.patterns.specs.Laws.Some.{some-halves}
@@ -37,18 +37,8 @@ use Rattle.forming.specs.Onward.{Task, matchesAll, onward, oneWay}
 use Rattle.forming.specs.Laws.Onward.{onward-one}
 use Rattle.forming.specs.Repeats.{holdsAny, someAny, TellsAny}
 use Rattle.forming.specs.Rows.{RowIs, Agrees}
-use Rattle.forming.proofs.Compatible.{agreed-left, agreed-right, with-in}
+use Rattle.forming.proofs.Compatible.{agreed-left, agreed-right, sized-all, with-in}
 use Rattle.forming.proofs.Solving.{whole}
-
--- ---- matches have a cell for each name
-
-sized-all : (ts : List Task) (d : Binding) → In d (matchesAll ts) → length d ≡ names
-unfolding matchesAll
-sized-all [] d i = ap length (in-one d i)
-sized-all (t ∷ ts) d i =
-    let (a, b, j, k, f, e) = in-together d (matches (t .what) (t .value)) (matchesAll ts) i in
-    let n = match-sized (t .what) (t .value) a (matched (t .what) (t .value) a j) in
-    ap length e ∙ merge-sized a b (n ∙ sym (sized-all ts b k)) ∙ n
 
 -- ---- a binding, one of several, and one of others, together
 
@@ -90,7 +80,7 @@ module _ (b : Binding) (b-sized : length b ≡ names) (rs : List Binding) (rs-si
   first-cell xs o a y l (v, e) = e ∙ sym (agreed-left (cellOf (a .both) y) (cellOf (a .rest) y) (cellOf o y) v (a .right .agreed y l) (agreed-right (cellOf b y) (cellOf (a .first) y) (cellOf (a .both) y) v (a .left .agreed y l) e))
 
   -- THEOREM: where those of one list and those of the other give the same names values, what goes on with the other and has the same values goes on with the one
-  pub same-names : (u : ℕ → Bool) (xs ys : List Binding) → ((m : Binding) → In m xs → (length m ≡ names) × ((y : ℕ) → y < names → Told (u y) (cellOf m y))) → ((m : Binding) → In m ys → (length m ≡ names) × ((y : ℕ) → y < names → Told (u y) (cellOf m y)))
+  same-names : (u : ℕ → Bool) (xs ys : List Binding) → ((m : Binding) → In m xs → (length m ≡ names) × ((y : ℕ) → y < names → Told (u y) (cellOf m y))) → ((m : Binding) → In m ys → (length m ≡ names) × ((y : ℕ) → y < names → Told (u y) (cellOf m y)))
       → (o : Binding) → In o (withEach b (together xs rs)) → (c : Binding) → In c (withEach b (together ys rs)) → ((y : ℕ) → y < names → u y ≡ true → cellOf o y ≡ cellOf c y) → In c (withEach b (together xs rs))
   same-names u xs ys f g o i c k h =
       let p = apart xs (λ m j. f m j .0) o i in

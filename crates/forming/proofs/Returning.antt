@@ -51,7 +51,7 @@ pub record Last (table index s a found frames : List ℕ) (hit : ℕ) (rows orde
   pub short : length s ≤ 65536
   pub long : length a ≡ agendaWords
   pub sized : length found ≡ 16
-  pub frames-long : length frames ≡ 1700
+  pub frames-long : length frames ≡ 1800
   pub level : Level
   pub others : List Level
   pub count : length others ≡ i
@@ -333,7 +333,7 @@ module _ (table index s a found frames : List ℕ) (hit : ℕ) (rows order : Lis
 
 -- ---- the first step, and the end
 
-pub starting : (table index s a : List ℕ) (head top : ℕ) (m rows order : List ℕ) (n : ℕ) (h : Solvable table index s a head top m rows order n) (frames : List ℕ) → length frames ≡ 1700
+pub starting : (table index s a : List ℕ) (head top : ℕ) (m rows order : List ℕ) (n : ℕ) (h : Solvable table index s a head top m rows order n) (frames : List ℕ) → length frames ≡ 1800
     → Descending table index s a head top m frames 0 0 rows order n (adding (onward (h .tasks) (h .binding)) (h .bindings))
 starting table index s a head top m rows order n h frames e = record {
   tasks = h .tasks;

@@ -37,7 +37,7 @@ use Rattle.forming.specs.declared.sizes.Size.{Size}
 use Rattle.forming.specs.declared.sizes.Sizes.{Sizes}
 use Rattle.forming.specs.declared.sizes.Range.{Range}
 use Rattle.forming.specs.Sizes.{Splits, enumerationOf, fewestOf, Sized, SizeOfValue, Takes, TellsSize, Sum, TellsSizes, Rights, FirstOf, SplitFrom, CutFrom, Divisible, halfAt, From}
-use Rattle.forming.proofs.Compatible.{compatible-left, compatible-right}
+use Rattle.forming.proofs.Compatible.{joined-left, joined-right, compatible-within}
 use Rattle.forming.proofs.Reducing.{items-same, is-two}
 use Rattle.forming.proofs.Settling.{has-value}
 
@@ -102,7 +102,7 @@ unfolding Matches
 takes-halved st k i held l r x y z a b s vs c low (us, ls, rs, e, f, d, g, m, n, j) o =
     let q : length ls + length rs ≡ length vs = sym (divided-length k us ls rs g) ∙ ap length (sym (items-same k vs us d)) in
     let (t, u) = held us ls rs g in
-    subst (Sized z) q (s .right (length ls) (length rs) (a ls e t m (compatible-left st e f c j o)) (b rs f u n (compatible-right st e f c j o)))
+    subst (Sized z) q (s .right (length ls) (length rs) (a ls e t m (compatible-within e c st (joined-left e f c j) o)) (b rs f u n (compatible-within f c st (joined-right e f c j) o)))
 
 -- a name that has a value takes this alone
 takes-name : (st : Binding) (k : Kind) (i x : ℕ) → x < names → (w : Value) → cellOf st x ≡ is w → (z : Size) → ((vs : List Value) → w ≡ collection k (itemsOf vs) → Sized z (length vs)) → Takes st k i (name x) z

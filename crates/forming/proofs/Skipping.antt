@@ -30,7 +30,7 @@ use Rattle.forming.specs.Onward.{Task, oneWay}
 use Rattle.forming.specs.Inner.{countOf}
 use Rattle.forming.specs.Sizes.{Splits, fewestOf, HalvesTake, TellsSizes, halfAt, Barren, FromHeld, From}
 use Rattle.prelude.proofs.Lists.{map-at}
-use Rattle.forming.proofs.Compatible.{compatible-left, compatible-right, no-way}
+use Rattle.forming.proofs.Compatible.{joined-left, joined-right, compatible-within, no-way}
 use Rattle.forming.proofs.Reducing.{two-halves}
 
 -- ---- lists
@@ -50,7 +50,7 @@ no-pair : (b : Binding) (l r : Pattern) (x y : Value) → ((a d : Binding) → M
 unfolding Matches patternsOf
 no-pair b l r x y h m i k =
     let (a, d, ma, (e, f, me, mf, j), j′) = matchedEach (patternsOf (l ∷ r ∷ [])) (x ∷ y ∷ []) m i in
-    h a e ma me (compatible-left b a d m j′ k) (compatible-left b e f d j (compatible-right b a d m j′ k))
+    h a e ma me (compatible-within a m b (joined-left a d m j′) k) (compatible-within e d b (joined-left e f d j) (compatible-within d m b (joined-right a d m j′) k))
 
 -- ---- the ways of a pattern with two halves
 

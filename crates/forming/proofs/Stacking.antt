@@ -35,12 +35,14 @@ use Rattle.forming.specs.Laws.Adding.{adding-append, adding-one, adding-
 use Rattle.forming.specs.Frames.{entries, KeptBelow, frameAt, FrameFits, Advanced, maskOf}
 use Rattle.forming.specs.Onward.{Task, task, onward, oneWay}
 use Rattle.forming.specs.Inner.{countOf}
+use Rattle.forming.specs.Needs.{NoMatch}
 use Rattle.forming.specs.Reduced.{Reduced}
 use Rattle.forming.specs.Rows.{RowsAre, Appended}
 use Rattle.forming.specs.Settled.{TellsSettled}
 use Rattle.forming.specs.Sizes.{TellsSizes, FromHeld, From}
 use Rattle.forming.specs.Stack.{Level, LevelIs, StackIs, dues, Stacked, Waiting}
 use Rattle.forming.proofs.Accounting.{accounted-with, accounted-hit, traced-with}
+use Rattle.forming.proofs.Compatible.{none-onward}
 use Rattle.forming.proofs.Framing.{frame-kept}
 use Rattle.forming.proofs.Pushing.{agenda-kept, wide-by}
 use Rattle.forming.proofs.Reducing.{onward-alike}
@@ -75,7 +77,7 @@ level-kept table index s a b i f l k h = record {
   seen = h .seen;
 }
 
-pub stack-kept : (table index s a b frames frames′ : List ℕ) (high high′ : ℕ) (found found′ : List ℕ) (ls : List Level) → KeptBelow a b (3 * high) → high ≤ high′ → Grown found found′ → length frames ≡ 1700 → length frames′ ≡ length frames → KeptBelow frames frames′ (17 * length ls)
+pub stack-kept : (table index s a b frames frames′ : List ℕ) (high high′ : ℕ) (found found′ : List ℕ) (ls : List Level) → KeptBelow a b (3 * high) → high ≤ high′ → Grown found found′ → length frames ≡ 1800 → length frames′ ≡ length frames → KeptBelow frames frames′ (18 * length ls)
     → StackIs table index s a frames high found ls → StackIs table index s b frames′ high′ found′ ls
 stack-kept table index s a b frames frames′ high high′ found found′ [] k u g e d q h = omega arith
 stack-kept table index s a b frames frames′ high high′ found found′ (l ∷ ls) k u g e d q (x, y, z, w) =
@@ -99,7 +101,7 @@ module _ (table index s a : List ℕ) (high : ℕ) (found frames : List ℕ) (de
       ap (adding (dues (h .levels))) (sym (adding-alike more more′ cs (h .rows-are .given) (h .rows-are .ordered) e))
       ∙ sym (adding-append more (dues (h .levels)) cs) ∙ h .right
 
-  pub restacked : (high′ : ℕ) → high ≤ high′ → (found′ : List ℕ) → Grown found found′ → (frames′ : List ℕ) → length frames′ ≡ length frames → KeptBelow frames frames′ (17 * depth) → (more′ : List Binding) → Alike more more′
+  pub restacked : (high′ : ℕ) → high ≤ high′ → (found′ : List ℕ) → Grown found found′ → (frames′ : List ℕ) → length frames′ ≡ length frames → KeptBelow frames frames′ (18 * depth) → (more′ : List Binding) → Alike more more′
       → Stacked table index s a high′ found′ frames′ depth hit rows order n more′ target
   restacked high′ u found′ g frames′ d k more′ e = record {
     short = h .short;
@@ -166,8 +168,8 @@ module _ (table index s a : List ℕ) (high : ℕ) (found frames : List ℕ) (de
 
 -- ---- a frame opened
 
-abbrev pub framed : ℕ → ℕ → ℕ → ℕ → ℕ → ℕ → ℕ → Bool → Sizes → ℕ → ℕ → Frame
-framed p at next top way ways mask once sizes tests n = record { p = p; at = at; next = next; top = top; way = way; ways = ways; mask = mask; once = once; sizes = sizes; tests = tests; since = n; seen = n }
+abbrev pub framed : ℕ → ℕ → ℕ → ℕ → ℕ → ℕ → ℕ → Bool → Sizes → ℕ → ℕ → Bool → Frame
+framed p at next top way ways mask once sizes tests n asks = record { p = p; at = at; next = next; top = top; way = way; ways = ways; mask = mask; once = once; sizes = sizes; tests = tests; since = n; seen = n; asks = asks }
 
 module _ (table index s a : List ℕ) (at next top : ℕ) (found frames : List ℕ) (depth hit : ℕ) (rows order : List ℕ) (n : ℕ) (target : List Binding) (w : Waiting table index s a at next top found frames depth hit rows order n target) where
   abbrev v : Value
@@ -196,10 +198,19 @@ module _ (table index s a : List ℕ) (at next top : ℕ) (found frames : List �
     all-ways : Alike (onward (task (patternAt (records table) (getD a (3 * at) 0)) (w .value) ∷ w .tasks) (w .binding)) (gather (waysOf table p (w .value)) (oneWay (innerOf table p) (w .tasks) (w .binding)))
     all-ways = subst (Alike (onward (task (patternAt (records table) (getD a (3 * at) 0)) v ∷ ts) b)) (whole table index p (x .composed) v ts b) (onward-alike (patternAt (records table) (getD a (3 * at) 0)) (patternAt (records table) p) v ts b (x .alike v))
 
-    unopened : (frames′ : List ℕ) → length frames′ ≡ length frames → KeptBelow frames frames′ (17 * depth) → gather (waysOf table p (w .value)) (oneWay (innerOf table p) (w .tasks) (w .binding)) ≡ [] → Stacked table index s a entries found frames′ depth hit rows order n [] target
+    unopened : (frames′ : List ℕ) → length frames′ ≡ length frames → KeptBelow frames frames′ (18 * depth) → gather (waysOf table p (w .value)) (oneWay (innerOf table p) (w .tasks) (w .binding)) ≡ [] → Stacked table index s a entries found frames′ depth hit rows order n [] target
     unopened frames′ d k e =
         restacked table index s a top found frames depth hit rows order n (onward (task (patternAt (records table) (getD a (3 * at) 0)) v ∷ ts) b) target (w .stacked) entries top-few found (grown-same found) frames′ d k []
         (subst (Alike (onward (task (patternAt (records table) (getD a (3 * at) 0)) v ∷ ts) b)) e all-ways)
+
+    -- the pattern has no match that is compatible with what is found
+    pub unmatched : (part : Part) → part ≡ unpacked (getD a (3 * at + 1) 0) → NoMatch table p s part found → Stacked table index s a entries found frames depth hit rows order n [] target
+    unmatched part e f =
+        restacked table index s a top found frames depth hit rows order n (onward (task (patternAt (records table) (getD a (3 * at) 0)) v ∷ ts) b) target (w .stacked) entries top-few found (grown-same found) frames refl (λ j m. refl) []
+        (λ c.
+        let o = onward-alike (patternAt (records table) (getD a (3 * at) 0)) (patternAt (records table) p) v ts b (x .alike v) c in
+        let z = none-onward [] (task (patternAt (records table) p) v) ts b (w .stands .binding-sized) (f v b (subst (λ (k : Part). PartIs s k v) (sym e) (w .here)) (w .stands)) c in
+        (λ i. z .0 (o .0 i), λ i. absurd i))
 
     module _ (m : Meeting) (met : Meets (kindAt (records table) p) (countOf table p) s (unpacked (getD a (3 * at + 1) 0)) m) where
       pub no-ways : ((k : ℕ) → m ≡ Ways k → ⊥) → Stacked table index s a entries found frames depth hit rows order n [] target
@@ -224,8 +235,8 @@ module _ (table index s a : List ℕ) (at next top : ℕ) (found frames : List �
         pub first-asked : FromHeld k ways sizes
         first-asked = from-asked table index p (x .composed .readable) k ek b sizes t v ways (there .1) (there .2)
 
-        module _ (way : ℕ) (fr : From k ways 0 sizes way) (once : Bool) (so : TellsSettled table p found once) (mask : ℕ) (ms : (mask ≡ maskOf found) × (mask < 65536)) (tests : ℕ) (few : tests < 256) where
-          pub frame-fits : FrameFits (framed p at next top way ways mask once sizes tests n)
+        module _ (way : ℕ) (fr : From k ways 0 sizes way) (once : Bool) (so : TellsSettled table p found once) (mask : ℕ) (ms : (mask ≡ maskOf found) × (mask < 65536)) (tests : ℕ) (few : tests < 256) (asks : Bool) where
+          pub frame-fits : FrameFits (framed p at next top way ways mask once sizes tests n asks)
           frame-fits = record {
             record-small = omega (arith, x .composed .readable .here .within, x .composed .readable .fine .few);
             at-small = omega (arith, w .below, top-few);
@@ -245,7 +256,7 @@ module _ (table index s a : List ℕ) (at next top : ℕ) (found frames : List �
           level : Level
           level = record { value = w .value; tasks = w .tasks; binding = w .binding; words = found; past = []; done = []; due = gather (drop way (waysOf table p (w .value))) (oneWay (innerOf table p) (w .tasks) (w .binding)); since = n; seen = n }
 
-          level-is : way < ways → LevelIs table index s a depth (framed p at next top way ways mask once sizes tests n) level
+          level-is : way < ways → LevelIs table index s a depth (framed p at next top way ways mask once sizes tests n asks) level
           unfolding level
           level-is l = record {
             composed = x .composed;
@@ -271,11 +282,11 @@ module _ (table index s a : List ℕ) (at next top : ℕ) (found frames : List �
             seen = refl;
           }
 
-          module _ (frames′ : List ℕ) (r : ℕ) (ad : Advanced frames depth (framed p at next top way ways mask once sizes tests n) frames′ r) where
+          module _ (frames′ : List ℕ) (r : ℕ) (ad : Advanced frames depth (framed p at next top way ways mask once sizes tests n asks) frames′ r) where
             same-due : Alike (onward (task (patternAt (records table) (getD a (3 * at) 0)) (w .value) ∷ w .tasks) (w .binding)) (gather (drop way (waysOf table p (w .value))) (oneWay (innerOf table p) (w .tasks) (w .binding)))
             same-due = subst (Alike (onward (task (patternAt (records table) (getD a (3 * at) 0)) v ∷ ts) b)) (sym skipped) all-ways
 
-            stays : way < ways → frameAt frames′ depth ≡ framed p at next top way ways mask once sizes tests n → Stacked table index s a entries found frames′ (suc depth) hit rows order n [] target
+            stays : way < ways → frameAt frames′ depth ≡ framed p at next top way ways mask once sizes tests n asks → Stacked table index s a entries found frames′ (suc depth) hit rows order n [] target
             unfolding level
             stays l fe =
                 let st = restacked table index s a top found frames depth hit rows order n (onward (task (patternAt (records table) (getD a (3 * at) 0)) v ∷ ts) b) target (w .stacked) top (omega arith) found (grown-same found) frames′ (ad .long) (ad .kept) (gather (drop way (waysOf table p v)) (oneWay (innerOf table p) ts b)) same-due in
@@ -300,7 +311,7 @@ module _ (table index s a : List ℕ) (at next top : ℕ) (found frames : List �
             unfolding gather
             frame-opened = go (ad .how)
               where
-                go : ((r ≡ suc depth) × (way < ways) × (frameAt frames′ depth ≡ framed p at next top way ways mask once sizes tests n)) ⊎ ((r ≡ depth) × (ways ≤ way)) → Stacked table index s a entries found frames′ r hit rows order n [] target
+                go : ((r ≡ suc depth) × (way < ways) × (frameAt frames′ depth ≡ framed p at next top way ways mask once sizes tests n asks)) ⊎ ((r ≡ depth) × (ways ≤ way)) → Stacked table index s a entries found frames′ r hit rows order n [] target
                 go (inl (e, l, fe)) = subst (λ (y : ℕ). Stacked table index s a entries found frames′ y hit rows order n [] target) (sym e) (stays l fe)
                 go (inr (e, l)) =
                     let none : drop way (waysOf table p v) ≡ [] = drop-of-length-le (waysOf table p v) {i = way} (omega (arith, there .1)) in

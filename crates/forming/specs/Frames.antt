@@ -30,7 +30,7 @@ flagByte b = cond b 1 0
 
 -- A frame takes so many bytes, and two of the records of a table at least: so many frames, and bytes of them, are enough.
 abbrev pub frameBytes : ℕ
-frameBytes = 17
+frameBytes = 18
 
 abbrev pub mostFrames : ℕ
 mostFrames = mostRecords / 2
@@ -57,6 +57,7 @@ frameOf b = record {
   tests = getD b 15 0;
   since = getD b 16 0;
   seen = getD b 5 0;
+  asks = eqb (getD b 17 0) 1;
 }
 
 -- The bytes of frame i, and the frame.
@@ -68,7 +69,7 @@ frameAt a i = frameOf (slotAt a i)
 
 -- A frame with another way next, where there are n rows.
 abbrev pub onto : Frame → ℕ → ℕ → Frame
-onto f e n = record { p = f .p; at = f .at; next = f .next; top = f .top; way = e; ways = f .ways; mask = f .mask; once = f .once; sizes = f .sizes; tests = f .tests; since = f .since; seen = n }
+onto f e n = record { p = f .p; at = f .at; next = f .next; top = f .top; way = e; ways = f .ways; mask = f .mask; once = f .once; sizes = f .sizes; tests = f .tests; since = f .since; seen = n; asks = f .asks }
 
 pub record FrameFits (f : Frame) : Type 0 where
   pub record-small : f .p < 256

@@ -130,6 +130,7 @@ pub record TakeHeld (table index s a : List ℕ) (head : ℕ) (found : List ℕ)
   pub room : top ≤ entries
   pub binding : Binding
   pub stands : Stands s found binding
+  pub short : length s ≤ 65536
 
 pub record Taken (table index s a : List ℕ) (head : ℕ) (found after : List ℕ) (r : Left) : Type 0 where
   pub falls : 0 < r .wait → r .head < head

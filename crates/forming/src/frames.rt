@@ -11,8 +11,8 @@ ghost use Rattle.forming.specs.Frames.{frameBytes, mostFrames, framesByt
 // A frame takes two of the records of a table at least, so that no more are on the stack.
 const MOST_FRAMES: usize = MOST_RECORDS / 2;
 
-// The bytes of a frame: two for the names, and one for each of the other fifteen fields.
-const FRAME_BYTES: usize = 17;
+// The bytes of a frame: two for the names, and one for each of the other sixteen fields.
+const FRAME_BYTES: usize = 18;
 
 pub type Bytes = [u8; FRAME_BYTES];
 
@@ -23,7 +23,8 @@ pub type Frames = [u8; FRAMES_BYTES];
 
 // The record of the pattern; the entry of the agenda that has the part it meets, the entry that follows, and the first that is free; the way that is
 // next, and how many there are; the names that had a value; whether the pattern is only a test; what its halves take; which of its parts are only
-// tests, a bit for each; how many rows there were when the frame was opened; and how many when its present way began.
+// tests, a bit for each; how many rows there were when the frame was opened; how many when its present way began; and whether its halves are to be asked
+// for members.
 pub struct Frame {
     pub p: usize,
     pub at: usize,
@@ -37,6 +38,7 @@ pub struct Frame {
     pub tests: usize,
     pub since: usize,
     pub seen: usize,
+    pub asks: bool,
 }
 
 // The bytes of frame i.
@@ -93,6 +95,7 @@ fn frame_of(b: Bytes) -> Frame
         tests: b[15] as usize,
         since: b[16] as usize,
         seen: b[5] as usize,
+        asks: b[17] == 1,
     }
 }
 
@@ -134,6 +137,7 @@ fn bytes_of(f: Frame) -> Bytes
     let bound = flag(z.bound);
     let left = flag(z.left.more);
     let right = flag(z.right.more);
+    let asks = flag(f.asks);
     [
         f.p as u8,
         f.at as u8,
@@ -152,6 +156,7 @@ fn bytes_of(f: Frame) -> Bytes
         right,
         f.tests as u8,
         f.since as u8,
+        asks,
     ]
 }
 

@@ -2,6 +2,7 @@
 // whose ways are not all gone through. Each match found is inserted in order, once, among rows.
 mod frames;
 mod masks;
+mod needs;
 mod reduced;
 mod repeats;
 mod rows;
@@ -11,6 +12,7 @@ mod taking;
 
 use crate::frames::Frame;
 use crate::frames::Frames;
+use crate::needs::Asked;
 use matching::nodes;
 use matching::nodes::Meeting;
 use parts::Part;
@@ -230,6 +232,11 @@ fn open_frame(
         let once = settled::is_settled(table, index, p, found);
         let mask = masks::mask_of(found);
         let tests = settled::tests_of(table, index, p, k, once, found);
+        let asked = needs::asked_by_union(table, index, p, k, s, part, found);
+        if let Asked::Lacked = asked {
+            return depth;
+        }
+        let asks = needs::is_had(asked);
         let f = Frame {
             p,
             at,
@@ -243,6 +250,7 @@ fn open_frame(
             tests,
             since: n,
             seen: n,
+            asks,
         };
         return frames::advance(frames, depth, f);
     }
@@ -250,7 +258,7 @@ fn open_frame(
 }
 
 // Goes on with an agenda: leaves are taken off; a match is inserted, or a frame opened for the pattern with parts that waits, unless all that would
-// follow is among the rows already.
+// follow is among the rows already. Where asks is true, patterns with parts are asked for members first.
 fn down(
     table: &[u8],
     index: &Index,
@@ -265,11 +273,12 @@ fn down(
     rows: &mut Rows,
     order: &mut RowOrder,
     n: usize,
+    asks: bool,
 ) -> Step
     requires { ⌜ DownHeld (now table) (now index) (now s) (now agenda) head top (now found) (now frames) depth hit (now rows) (now order) n ⌝ }
     ensures { λ r. ⌜ WentDown (now (table .entry)) (now (index .entry)) (now (s .entry)) (now (agenda .entry)) head top (now (found .entry)) (now (frames .entry)) depth hit (now (rows .entry)) (now (order .entry)) n (now (found .exit)) (now (frames .exit)) (now (rows .exit)) (now (order .exit)) r ⌝ }
 {
-    let left = taking::take_leaves(table, index, s, agenda, head, found);
+    let left = taking::take_leaves(table, index, s, agenda, head, found, asks);
     if left.fits {
         let at = left.wait;
         if at == 0 {
@@ -397,6 +406,7 @@ fn back(
         rows,
         order,
         n,
+        f.asks,
     )
 }
 
@@ -468,6 +478,7 @@ pub fn solve(
         rows,
         order,
         n,
+        false,
     );
     finish(
         table,

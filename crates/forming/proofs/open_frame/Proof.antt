@@ -1,7 +1,7 @@
 use mathlib.Core.Path.{sym, ap, _∙_}
 use mathlib.Core.Logic.{⊎-elim}
 use native.Mathlib.Omega.{arith}
-use Rattle.forming.proofs.Stacking.{depth-few, met-as, no-ways, ways-few, first-asked, frame-fits, frame-opened}
+use Rattle.forming.proofs.Stacking.{depth-few, met-as, unmatched, no-ways, ways-few, first-asked, frame-fits, frame-opened}
 use Rattle.matching.proofs.Records.{count-few}
 use Rattle.forming.proofs.Solving.{part-of}
 use Rattle.forming.proofs.Ranking.{opened-less, not-opened-less}
@@ -13,6 +13,8 @@ use Rattle.forming.proofs.open_frame.Reads as reads
 use Rattle.forming.proofs.open_frame.Lts as lts
 use Rattle.forming.proofs.frames.advance.Reads as advance-reads
 use Rattle.forming.proofs.masks.mask_of.Reads as mask-of-reads
+use Rattle.forming.proofs.needs.asked_by_union.Reads as asked-by-union-reads
+use Rattle.forming.proofs.needs.is_had.Reads as is-had-reads
 use Rattle.forming.proofs.reduced.reduced.Reads as reduced-reads
 use Rattle.forming.proofs.settled.is_settled.Reads as is-settled-reads
 use Rattle.forming.proofs.settled.tests_of.Reads as tests-of-reads
@@ -80,14 +82,26 @@ mask-of-requires c κs = c .before .before .before .before .before .before .befo
 tests-of-requires : tie.Need-tests-of-requires
 tests-of-requires c κs = c .before .before .before .before .before .before .before .before .before .before .before .reduced .ensures .composed
 
-advance-requires : tie.Need-advance-requires
-advance-requires c κs = (depth-few _ _ _ _ _ _ _ _ _ _ _ _ _ _ _ (c .before .before .before .before .before .before .before .before .before .before .before .before .before .before .before .before .before .before .pre .waiting), c .before .before .before .before .before .before .before .before .before .before .before .before .before .before .before .before .before .before .pre .waiting .stacked .frames-long, frame-fits _ _ _ _ _ _ _ _ _ _ _ _ _ _ _ (c .before .before .before .before .before .before .before .before .before .before .before .before .before .before .before .before .before .before .pre .waiting) _ (c .before .before .before .before .before .before .before .before .before .before .before .before .before .reduced .ensures) (c .before .before .before .before .before .before .before .before .before .meet .result) (met-as _ _ _ _ _ _ _ _ _ _ _ _ _ _ _ (c .before .before .before .before .before .before .before .before .before .before .before .before .before .before .before .before .before .before .pre .waiting) _ (c .before .before .before .before .before .before .before .before .before .before .before .before .before .reduced .ensures) _ _ _ (c .before .before .before .before .before .before .before .before .before .meet .result) (c .before .before .before .before .before .before .before .before .before .before .before .before .kind .ensures .0) (c .before .before .before .before .before .before .before .before .before .before .before .operand-count .ensures .0) (c .before .before .before .before .before .before .before .before .before .before .unpack .ensures) (c .before .before .before .before .before .before .before .before .before .meet .ensures)) _ (c .before .before .before .before .before .before .before .m .given .1) _ (c .before .before .before .before .before .before .before .before .before .before .before .before .kind .ensures .0) _ (c .before .before .before .before .before .sizes-of .ensures) _ (c .before .before .before .before .way-from .ensures) _ (c .before .before .before .is-settled .ensures) _ (c .before .before .mask-of .ensures) _ (c .before .tests-of .ensures))
+asked-by-union-requires : tie.Need-asked-by-union-requires
+asked-by-union-requires c κs = (record { readable = c .before .before .before .before .before .before .before .before .before .before .before .before .reduced .ensures .composed .readable; short = c .before .before .before .before .before .before .before .before .before .before .before .before .before .before .before .before .before .pre .waiting .stacked .short; standing = (c .before .before .before .before .before .before .before .before .before .before .before .before .before .before .before .before .before .pre .waiting .binding, c .before .before .before .before .before .before .before .before .before .before .before .before .before .before .before .before .before .pre .waiting .stands) }, part-of _ _ _ (c .before .before .before .before .before .before .before .before .before .before .before .before .before .before .before .before .before .pre .waiting .value) (c .before .before .before .before .before .before .before .before .before .unpack .ensures) (c .before .before .before .before .before .before .before .before .before .before .before .before .before .before .before .before .before .pre .waiting .here))
+
+enum-told : tie.Need-enum-told
+enum-told c = search needs
 
 returns : tie.Need-returns
-returns c = record { right = λ hit rows order target w. frame-opened _ _ _ _ _ _ _ _ _ _ _ _ _ _ _ w _ (c .before .before .before .before .before .before .before .before .before .before .before .before .before .before .reduced .ensures) (c .before .before .before .before .before .before .before .before .before .before .meet .result) (met-as _ _ _ _ _ _ _ _ _ _ _ _ _ _ _ w _ (c .before .before .before .before .before .before .before .before .before .before .before .before .before .before .reduced .ensures) _ _ _ (c .before .before .before .before .before .before .before .before .before .before .meet .result) (c .before .before .before .before .before .before .before .before .before .before .before .before .before .kind .ensures .0) (c .before .before .before .before .before .before .before .before .before .before .before .before .operand-count .ensures .0) (c .before .before .before .before .before .before .before .before .before .before .before .unpack .ensures) (c .before .before .before .before .before .before .before .before .before .before .meet .ensures)) _ (c .before .before .before .before .before .before .before .before .m .given .1) _ (c .before .before .before .before .before .before .before .before .before .before .before .before .before .kind .ensures .0) _ (c .before .before .before .before .before .before .sizes-of .ensures) _ (c .before .before .before .before .before .way-from .ensures) _ (c .before .before .before .before .is-settled .ensures) _ (c .before .before .before .mask-of .ensures) _ (c .before .before .tests-of .ensures) _ _ (c .advance .ensures); less = opened-less _ _ (depth-few _ _ _ _ _ _ _ _ _ _ _ _ _ _ _ (c .before .before .before .before .before .before .before .before .before .before .before .before .before .before .before .before .before .before .before .pre .waiting)) (c .before .before .before .before .before .before .before .before .before .before .before .before .before .before .before .before .before .before .before .pre .waiting .stacked .frames-long) _ _ _ (c .advance .ensures) (ways-few _ _ _ _ _ _ _ _ _ _ _ _ _ _ _ (c .before .before .before .before .before .before .before .before .before .before .before .before .before .before .before .before .before .before .before .pre .waiting) _ (c .before .before .before .before .before .before .before .before .before .before .before .before .before .before .reduced .ensures) (c .before .before .before .before .before .before .before .before .before .before .meet .result) (met-as _ _ _ _ _ _ _ _ _ _ _ _ _ _ _ (c .before .before .before .before .before .before .before .before .before .before .before .before .before .before .before .before .before .before .before .pre .waiting) _ (c .before .before .before .before .before .before .before .before .before .before .before .before .before .before .reduced .ensures) _ _ _ (c .before .before .before .before .before .before .before .before .before .before .meet .result) (c .before .before .before .before .before .before .before .before .before .before .before .before .before .kind .ensures .0) (c .before .before .before .before .before .before .before .before .before .before .before .before .operand-count .ensures .0) (c .before .before .before .before .before .before .before .before .before .before .before .unpack .ensures) (c .before .before .before .before .before .before .before .before .before .before .meet .ensures)) _ (c .before .before .before .before .before .before .before .before .m .given .1) _ (c .before .before .before .before .before .before .before .before .before .before .before .before .before .kind .ensures .0) _ (c .before .before .before .before .before .before .sizes-of .ensures)) }
+returns c = record { right = λ hit rows order target w. unmatched _ _ _ _ _ _ _ _ _ _ _ _ _ _ _ w _ (c .before .before .before .before .before .before .before .before .before .before .before .before .before .before .before .reduced .ensures) _ (c .before .before .before .before .before .before .before .before .before .before .before .before .unpack .ensures) (c .before .before .asked-by-union .ensures (c .enum-told .given .1)); less = not-opened-less _ _ _ }
+
+is-had-requires : tie.Need-is-had-requires
+is-had-requires c κs = search needs
+
+advance-requires : tie.Need-advance-requires
+advance-requires c κs = (depth-few _ _ _ _ _ _ _ _ _ _ _ _ _ _ _ (c .before .before .before .before .before .before .before .before .before .before .before .before .before .before .before .before .before .before .before .before .before .pre .waiting), c .before .before .before .before .before .before .before .before .before .before .before .before .before .before .before .before .before .before .before .before .before .pre .waiting .stacked .frames-long, frame-fits _ _ _ _ _ _ _ _ _ _ _ _ _ _ _ (c .before .before .before .before .before .before .before .before .before .before .before .before .before .before .before .before .before .before .before .before .before .pre .waiting) _ (c .before .before .before .before .before .before .before .before .before .before .before .before .before .before .before .before .reduced .ensures) (c .before .before .before .before .before .before .before .before .before .before .before .before .meet .result) (met-as _ _ _ _ _ _ _ _ _ _ _ _ _ _ _ (c .before .before .before .before .before .before .before .before .before .before .before .before .before .before .before .before .before .before .before .before .before .pre .waiting) _ (c .before .before .before .before .before .before .before .before .before .before .before .before .before .before .before .before .reduced .ensures) _ _ _ (c .before .before .before .before .before .before .before .before .before .before .before .before .meet .result) (c .before .before .before .before .before .before .before .before .before .before .before .before .before .before .before .kind .ensures .0) (c .before .before .before .before .before .before .before .before .before .before .before .before .before .before .operand-count .ensures .0) (c .before .before .before .before .before .before .before .before .before .before .before .before .before .unpack .ensures) (c .before .before .before .before .before .before .before .before .before .before .before .before .meet .ensures)) _ (c .before .before .before .before .before .before .before .before .before .before .m .given .1) _ (c .before .before .before .before .before .before .before .before .before .before .before .before .before .before .before .kind .ensures .0) _ (c .before .before .before .before .before .before .before .before .sizes-of .ensures) _ (c .before .before .before .before .before .before .before .way-from .ensures) _ (c .before .before .before .before .before .before .is-settled .ensures) _ (c .before .before .before .before .before .mask-of .ensures) _ (c .before .before .before .before .tests-of .ensures) _)
 
 returns-2 : tie.Need-returns-2
-returns-2 c = record { right = λ hit rows order target w. no-ways _ _ _ _ _ _ _ _ _ _ _ _ _ _ _ w _ (c .before .before .before .before .before .reduced .ensures) (c .before .meet .result) (met-as _ _ _ _ _ _ _ _ _ _ _ _ _ _ _ w _ (c .before .before .before .before .before .reduced .ensures) _ _ _ (c .before .meet .result) (c .before .before .before .before .kind .ensures .0) (c .before .before .before .operand-count .ensures .0) (c .before .before .unpack .ensures) (c .before .meet .ensures)) (λ k d. ⊎-elim (λ x. let e = rw d at x in omega arith) (λ x. let e = rw d at x in omega arith) (c .match .keys2)); less = not-opened-less _ _ _ }
+returns-2 c = record { right = λ hit rows order target w. frame-opened _ _ _ _ _ _ _ _ _ _ _ _ _ _ _ w _ (c .before .before .before .before .before .before .before .before .before .before .before .before .before .before .before .before .before .reduced .ensures) (c .before .before .before .before .before .before .before .before .before .before .before .before .before .meet .result) (met-as _ _ _ _ _ _ _ _ _ _ _ _ _ _ _ w _ (c .before .before .before .before .before .before .before .before .before .before .before .before .before .before .before .before .before .reduced .ensures) _ _ _ (c .before .before .before .before .before .before .before .before .before .before .before .before .before .meet .result) (c .before .before .before .before .before .before .before .before .before .before .before .before .before .before .before .before .kind .ensures .0) (c .before .before .before .before .before .before .before .before .before .before .before .before .before .before .before .operand-count .ensures .0) (c .before .before .before .before .before .before .before .before .before .before .before .before .before .before .unpack .ensures) (c .before .before .before .before .before .before .before .before .before .before .before .before .before .meet .ensures)) _ (c .before .before .before .before .before .before .before .before .before .before .before .m .given .1) _ (c .before .before .before .before .before .before .before .before .before .before .before .before .before .before .before .before .kind .ensures .0) _ (c .before .before .before .before .before .before .before .before .before .sizes-of .ensures) _ (c .before .before .before .before .before .before .before .before .way-from .ensures) _ (c .before .before .before .before .before .before .before .is-settled .ensures) _ (c .before .before .before .before .before .before .mask-of .ensures) _ (c .before .before .before .before .before .tests-of .ensures) _ _ _ (c .advance .ensures); less = opened-less _ _ (depth-few _ _ _ _ _ _ _ _ _ _ _ _ _ _ _ (c .before .before .before .before .before .before .before .before .before .before .before .before .before .before .before .before .before .before .before .before .before .before .pre .waiting)) (c .before .before .before .before .before .before .before .before .before .before .before .before .before .before .before .before .before .before .before .before .before .before .pre .waiting .stacked .frames-long) _ _ _ (c .advance .ensures) (ways-few _ _ _ _ _ _ _ _ _ _ _ _ _ _ _ (c .before .before .before .before .before .before .before .before .before .before .before .before .before .before .before .before .before .before .before .before .before .before .pre .waiting) _ (c .before .before .before .before .before .before .before .before .before .before .before .before .before .before .before .before .before .reduced .ensures) (c .before .before .before .before .before .before .before .before .before .before .before .before .before .meet .result) (met-as _ _ _ _ _ _ _ _ _ _ _ _ _ _ _ (c .before .before .before .before .before .before .before .before .before .before .before .before .before .before .before .before .before .before .before .before .before .before .pre .waiting) _ (c .before .before .before .before .before .before .before .before .before .before .before .before .before .before .before .before .before .reduced .ensures) _ _ _ (c .before .before .before .before .before .before .before .before .before .before .before .before .before .meet .result) (c .before .before .before .before .before .before .before .before .before .before .before .before .before .before .before .before .kind .ensures .0) (c .before .before .before .before .before .before .before .before .before .before .before .before .before .before .before .operand-count .ensures .0) (c .before .before .before .before .before .before .before .before .before .before .before .before .before .before .unpack .ensures) (c .before .before .before .before .before .before .before .before .before .before .before .before .before .meet .ensures)) _ (c .before .before .before .before .before .before .before .before .before .before .before .m .given .1) _ (c .before .before .before .before .before .before .before .before .before .before .before .before .before .before .before .before .kind .ensures .0) _ (c .before .before .before .before .before .before .before .before .before .sizes-of .ensures)) }
+
+returns-3 : tie.Need-returns-3
+returns-3 c = record { right = λ hit rows order target w. no-ways _ _ _ _ _ _ _ _ _ _ _ _ _ _ _ w _ (c .before .before .before .before .before .reduced .ensures) (c .before .meet .result) (met-as _ _ _ _ _ _ _ _ _ _ _ _ _ _ _ w _ (c .before .before .before .before .before .reduced .ensures) _ _ _ (c .before .meet .result) (c .before .before .before .before .kind .ensures .0) (c .before .before .before .operand-count .ensures .0) (c .before .before .unpack .ensures) (c .before .meet .ensures)) (λ k d. ⊎-elim (λ x. let e = rw d at x in omega arith) (λ x. let e = rw d at x in omega arith) (c .match .keys2)); less = not-opened-less _ _ _ }
 
 pub open-frame-spec : {M : Type 1} → statement M
 open-frame-spec =
@@ -112,6 +126,10 @@ open-frame-spec =
     is-settled-requires
     mask-of-requires
     tests-of-requires
-    advance-requires
+    asked-by-union-requires
+    enum-told
     returns
-    returns-2)
+    is-had-requires
+    advance-requires
+    returns-2
+    returns-3)

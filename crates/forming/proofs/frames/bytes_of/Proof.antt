@@ -20,8 +20,8 @@ flag-requires-3 c κs = search needs
 flag-requires-4 : tie.Need-flag-requires-4
 flag-requires-4 c κs = search needs
 
-cast-t7 : tie.Need-cast-t7
-cast-t7 c = search needs
+flag-requires-5 : tie.Need-flag-requires-5
+flag-requires-5 c κs = search needs
 
 cast-t8 : tie.Need-cast-t8
 cast-t8 c = search needs
@@ -39,22 +39,25 @@ cast-t12 : tie.Need-cast-t12
 cast-t12 c = search needs
 
 cast-t13 : tie.Need-cast-t13
-cast-t13 c = omega (arith, c .before .before .before .before .before .before .before .before .before .before .before .before .pre .ways-small)
+cast-t13 c = omega (arith, c .before .before .before .before .before .before .before .before .before .before .before .before .pre .seen-small)
 
-cast-t15 : tie.Need-cast-t15
-cast-t15 c = search needs
+cast-t14 : tie.Need-cast-t14
+cast-t14 c = omega (arith, c .before .before .before .before .before .before .before .before .before .before .before .before .before .pre .ways-small)
 
-cast-t18 : tie.Need-cast-t18
-cast-t18 c = search needs
+cast-t16 : tie.Need-cast-t16
+cast-t16 c = search needs
 
 cast-t19 : tie.Need-cast-t19
-cast-t19 c = omega (arith, c .before .before .before .before .before .before .before .before .before .before .before .before .before .before .before .pre .tests-small)
+cast-t19 c = search needs
 
 cast-t20 : tie.Need-cast-t20
-cast-t20 c = omega (arith, c .before .before .before .before .before .before .before .before .before .before .before .before .before .before .before .before .pre .since-small)
+cast-t20 c = omega (arith, c .before .before .before .before .before .before .before .before .before .before .before .before .before .before .before .before .pre .tests-small)
+
+cast-t21 : tie.Need-cast-t21
+cast-t21 c = omega (arith, c .before .before .before .before .before .before .before .before .before .before .before .before .before .before .before .before .before .pre .since-small)
 
 returns : tie.Need-returns
-returns c = (packed _ (c .before .before .before .before .before .before .before .before .before .before .before .before .before .before .before .before .pre) _ _ _ _ (c .before .before .before .before .before .before .before .before .before .before .before .before .before .before .flag .ensures) (c .before .before .before .before .before .before .before .before .before .before .before .before .before .flag2 .ensures) (c .before .before .before .before .before .before .before .before .before .before .before .before .flag3 .ensures) (c .before .before .before .before .before .before .before .before .before .before .before .flag4 .ensures), refl)
+returns c = (packed _ (c .before .before .before .before .before .before .before .before .before .before .before .before .before .before .before .before .before .pre) _ _ _ _ _ (c .before .before .before .before .before .before .before .before .before .before .before .before .before .before .before .flag .ensures) (c .before .before .before .before .before .before .before .before .before .before .before .before .before .before .flag2 .ensures) (c .before .before .before .before .before .before .before .before .before .before .before .before .before .flag3 .ensures) (c .before .before .before .before .before .before .before .before .before .before .before .before .flag4 .ensures) (c .before .before .before .before .before .before .before .before .before .before .before .flag5 .ensures), refl)
 
 pub bytes-of-spec : {M : Type 1} → statement M
 bytes-of-spec =
@@ -64,15 +67,16 @@ bytes-of-spec =
     flag-requires-2
     flag-requires-3
     flag-requires-4
-    cast-t7
+    flag-requires-5
     cast-t8
     cast-t9
     cast-t10
     cast-t11
     cast-t12
     cast-t13
-    cast-t15
-    cast-t18
+    cast-t14
+    cast-t16
     cast-t19
     cast-t20
+    cast-t21
     returns)

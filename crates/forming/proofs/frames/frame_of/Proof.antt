@@ -96,6 +96,9 @@ array-read-t62 c = search needs
 cast-t63 : tie.Need-cast-t63
 cast-t63 c = search needs
 
+array-read-t66 : tie.Need-array-read-t66
+array-read-t66 c = search needs
+
 returns : tie.Need-returns
 returns c = rw (c .before .wide .ensures .0, c .wide2 .ensures .0) refl
 
@@ -133,4 +136,5 @@ frame-of-spec =
     cast-t59
     array-read-t62
     cast-t63
+    array-read-t66
     returns)

@@ -11,7 +11,7 @@ abbrev Inv-loop : tie.InvT-loop
 Inv-loop frames₀ i bytes j₀ frames j = SlotWritten frames₀ i bytes frames j
 
 abbrev μ-loop : tie.MeasureT-loop
-μ-loop frames₀ i bytes j₀ frames j = 17 - j
+μ-loop frames₀ i bytes j₀ frames j = 18 - j
 
 loop-holds : tie.Need-loop-holds Inv-loop μ-loop
 loop-holds c = written-start _ _ _

@@ -11,7 +11,7 @@ abbrev Inv-loop : tie.InvT-loop
 Inv-loop frames i bytes₀ j₀ bytes j = SlotRead frames i bytes j
 
 abbrev μ-loop : tie.MeasureT-loop
-μ-loop frames i bytes₀ j₀ bytes j = 17 - j
+μ-loop frames i bytes₀ j₀ bytes j = 18 - j
 
 loop-holds : tie.Need-loop-holds Inv-loop μ-loop
 loop-holds c = read-start _ _ _ refl

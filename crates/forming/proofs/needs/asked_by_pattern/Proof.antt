@@ -1,0 +1,40 @@
+use native.Mathlib.Omega.{arith}
+use Rattle.parts.proofs.Laws.{collection-held}
+use Rattle.forming.proofs.Needing.{whole-lacks, nothing-told}
+use borrow.Author.Needs.{needs}
+use Rattle.forming.proofs.needs.asked_by_pattern.Statement.{statement}
+use Rattle.forming.proofs.needs.asked_by_pattern.Tie as tie
+use Rattle.forming.proofs.needs.asked_by_pattern.Reads as reads
+use Rattle.forming.proofs.needs.asked_by_pattern.Lts as lts
+use Rattle.forming.proofs.needs.asked_by_tree.Reads as asked-by-tree-reads
+use Rattle.parts.proofs.count_of_part.Reads as count-of-part-reads
+use Rattle.parts.proofs.kind_of_part.Reads as kind-of-part-reads
+
+kind-of-part-requires : tie.Need-kind-of-part-requires
+kind-of-part-requires c κs = search needs
+
+returns : tie.Need-returns
+returns c = λ z. nothing-told z
+
+count-of-part-requires : tie.Need-count-of-part-requires
+count-of-part-requires c κs = collection-held (c .before .kind-of-part .ensures) (omega arith) (c .before .before .before .before .pre .1)
+
+returns-2 : tie.Need-returns-2
+returns-2 c = λ z. nothing-told z
+
+asked-by-tree-requires : tie.Need-asked-by-tree-requires
+asked-by-tree-requires c κs = (c .before .before .before .before .before .before .pre .0, collection-held (c .before .before .before .kind-of-part .ensures) (omega arith) (c .before .before .before .before .before .before .pre .1))
+
+returns-3 : tie.Need-returns-3
+returns-3 c = λ z. whole-lacks _ _ _ _ _ _ (c .before .before .before .before .kind-of-part .ensures) (c .before .before .before .if1 .left) (c .asked-by-tree .ensures z)
+
+pub asked-by-pattern-spec : {M : Type 1} → statement M
+asked-by-pattern-spec =
+    tie.close
+    (tie.spec
+    kind-of-part-requires
+    returns
+    count-of-part-requires
+    returns-2
+    asked-by-tree-requires
+    returns-3)

@@ -1,0 +1,201 @@
+// What names ask of a set: a set enumeration at or below a tree of unions names a member by each of its names. A name that has a value asks for a member
+// with that value; where the set that the tree meets lacks it, nothing matches.
+use integers::Order;
+use parts::Part;
+use parts::words;
+use parts::words::Env;
+use tables::Index;
+use tables::kinds;
+use tables::reading::field;
+use tables::reading::kind;
+use tables::reading::operand;
+use tables::reading::operand_count;
+use values::Value;
+ghost use mathlib.Core.Path.{_≡_};
+ghost use Prim.Native.Nat.{_≤_};
+ghost use lib.ListN.{length};
+ghost use Rattle.tables.specs.Table.{kindAt};
+ghost use Rattle.tables.specs.Accepted.{records};
+ghost use Rattle.parts.specs.Part.{PartHeld};
+ghost use Rattle.parts.specs.Contract.{CollectionHeld};
+ghost use Rattle.parts.specs.Word.{unpacked, WordHeld};
+ghost use Rattle.patterns.specs.Read.{Readable};
+ghost use Rattle.forming.specs.Needs.{AskHeld, TellsAsked, TellsLacked, TellsFit, WordAt, TellsMember};
+
+// What the names that have a value ask of a set that a pattern meets: nothing, members that it has, or one that it lacks.
+pub enum Asked {
+    Nothing,
+    Had,
+    Lacked,
+}
+
+// A member of what the part denotes has the value of the word.
+fn has_member(s: &[u8], part: Part, word: u32) -> bool
+    requires { ⌜ (length (now s) ≤ 65536) × CollectionHeld (now s) part × WordHeld (now s) word ⌝ }
+    ensures { λ r. ⌜ TellsMember (now (s .entry)) part word r ⌝ }
+{
+    let n = parts::count_of_part(s, part);
+    let mut k = 0;
+    while k < n {
+        let member = parts::item_of_part(s, part, k);
+        let w = words::word_of(s, member);
+        let o = words::order_words(s, word, w);
+        if let Order::Same = o {
+            return true;
+        }
+        k += 1;
+    }
+    false
+}
+
+// The word of a name; 0 where the pattern is none, or the name has no value.
+fn word_at(table: &[u8], index: &Index, p: usize, found: &[u32; Env::NAMES]) -> u32
+    requires { ⌜ Readable (now table) (now index) p ⌝ }
+    ensures { λ r. ⌜ WordAt (now (table .entry)) p (now (found .entry)) r ⌝ }
+{
+    let k = kind(table, index, p);
+    if k != kinds::NAME_PATTERN {
+        return 0;
+    }
+    let x = field(table, index, p, 0);
+    found[x]
+}
+
+// What the names of a set enumeration ask.
+fn asked_by_names(
+    table: &[u8],
+    index: &Index,
+    p: usize,
+    s: &[u8],
+    part: Part,
+    found: &[u32; Env::NAMES],
+) -> Asked
+    requires { ⌜ AskHeld (now table) (now index) p (now s) (now found) × CollectionHeld (now s) part × (kindAt (records (now table)) p ≡ 37) ⌝ }
+    ensures { λ r. ⌜ TellsLacked (now (table .entry)) p (now (s .entry)) part (now (found .entry)) r ⌝ }
+{
+    let n = operand_count(table, index, p);
+    let mut had = false;
+    let mut i = 0;
+    while i < n {
+        let q = operand(table, index, p, i);
+        let word = word_at(table, index, q, found);
+        if word != 0 {
+            let there = has_member(s, part, word);
+            if !there {
+                return Asked::Lacked;
+            }
+            had = true;
+        }
+        i += 1;
+    }
+    if had {
+        return Asked::Had;
+    }
+    Asked::Nothing
+}
+
+// What a set enumeration or a tree of unions asks of a set of which it meets some members.
+fn asked_by_tree(
+    table: &[u8],
+    index: &Index,
+    p: usize,
+    s: &[u8],
+    part: Part,
+    found: &[u32; Env::NAMES],
+) -> Asked
+    requires { ⌜ AskHeld (now table) (now index) p (now s) (now found) × CollectionHeld (now s) part ⌝ }
+    ensures { λ r. ⌜ TellsLacked (now (table .entry)) p (now (s .entry)) part (now (found .entry)) r ⌝ }
+{
+    let k = kind(table, index, p);
+    if k == kinds::SET_PATTERN {
+        return asked_by_names(table, index, p, s, part, found);
+    }
+    if k != kinds::UNION_PATTERN {
+        return Asked::Nothing;
+    }
+    let l = operand(table, index, p, 0);
+    let left = asked_by_tree(table, index, l, s, part, found);
+    if let Asked::Lacked = left {
+        return Asked::Lacked;
+    }
+    let r = operand(table, index, p, 1);
+    let right = asked_by_tree(table, index, r, s, part, found);
+    if let Asked::Nothing = right {
+        return left;
+    }
+    right
+}
+
+// What a pattern asks of what it meets: nothing of what is no set, or a set that is too large to split.
+pub fn asked_by_pattern(
+    table: &[u8],
+    index: &Index,
+    p: usize,
+    s: &[u8],
+    part: Part,
+    found: &[u32; Env::NAMES],
+) -> Asked
+    requires { ⌜ AskHeld (now table) (now index) p (now s) (now found) × PartHeld (now s) part ⌝ }
+    ensures { λ r. ⌜ TellsAsked (now (table .entry)) p (now (s .entry)) part (now (found .entry)) r ⌝ }
+{
+    let k = parts::kind_of_part(s, part);
+    if k != Value::SET {
+        return Asked::Nothing;
+    }
+    let n = parts::count_of_part(s, part);
+    if parts::masks::MOST_MEMBERS < n {
+        return Asked::Nothing;
+    }
+    asked_by_tree(table, index, p, s, part, found)
+}
+
+// What a pattern of kind k asks, where it is a union; else nothing.
+pub fn asked_by_union(
+    table: &[u8],
+    index: &Index,
+    p: usize,
+    k: usize,
+    s: &[u8],
+    part: Part,
+    found: &[u32; Env::NAMES],
+) -> Asked
+    requires { ⌜ AskHeld (now table) (now index) p (now s) (now found) × PartHeld (now s) part ⌝ }
+    ensures { λ r. ⌜ TellsAsked (now (table .entry)) p (now (s .entry)) part (now (found .entry)) r ⌝ }
+{
+    if k != kinds::UNION_PATTERN {
+        return Asked::Nothing;
+    }
+    asked_by_pattern(table, index, p, s, part, found)
+}
+
+// Members were asked for.
+pub fn is_had(a: Asked) -> bool {
+    if let Asked::Had = a {
+        return true;
+    }
+    false
+}
+
+// The part has what the pattern asks of it, where this is asked.
+pub fn may_match(
+    asks: bool,
+    table: &[u8],
+    index: &Index,
+    p: usize,
+    s: &[u8],
+    word: u32,
+    found: &[u32; Env::NAMES],
+) -> bool
+    requires { ⌜ AskHeld (now table) (now index) p (now s) (now found) × PartHeld (now s) (unpacked word) ⌝ }
+    ensures { λ r. ⌜ TellsFit (now (table .entry)) p (now (s .entry)) (unpacked word) (now (found .entry)) r ⌝ }
+{
+    if !asks {
+        return true;
+    }
+    let part = words::unpack(word);
+    let a = asked_by_pattern(table, index, p, s, part, found);
+    if let Asked::Lacked = a {
+        return false;
+    }
+    true
+}
