@@ -1,7 +1,7 @@
 -- Members that names ask for: a set that lacks one is not matched.
 use mathlib.Core.Path.{_≡_, refl, sym, ap, subst, _∙_}
 use mathlib.Core.Bool.{Bool, true, false}
-use mathlib.Core.Logic.{_⊎_, inl, inr, ⊎-elim}
+use mathlib.Core.Logic.{inl, inr, ⊎-elim}
 use mathlib.Core.List.{List, [], _∷_}
 use Prim.Native.Nat.{ℕ, _+_, _%_, _≤_, _<_}
 use native.Mathlib.Omega.{arith}
@@ -10,7 +10,7 @@ use lib.Seq.{getD-set-same}
 use Rattle.prelude.specs.Membership.{In}
 use Rattle.prelude.proofs.Absurd.{impossible}
 use Rattle.prelude.proofs.Truth.{by-lower}
-use Rattle.prelude.proofs.Membership.{in-left, in-right, in-joined, in-at, at-in, map-in}
+use Rattle.prelude.proofs.Membership.{in-at, at-in, map-in}
 use Rattle.integers.specs.declared.Order.{Order}
 use Rattle.integers.specs.declared.Order.the-variants.{Same}
 use Rattle.values.specs.Value.{Kind, set, Value, boolean, collection, order}
@@ -23,12 +23,12 @@ use Rattle.parts.specs.Part.{PartIs, CellIs}
 use Rattle.parts.specs.Contract.{KindOfPart, CollectionHeld, CountOfPart, ItemHeld, ItemOfPart}
 use Rattle.parts.specs.Word.{unpacked, CellHeld, WordOf, WordHeld, OrderedWords}
 use Rattle.parts.proofs.Laws.{of-kind}
-use Rattle.patterns.specs.Units.{Inserted, Permuted}
 use Rattle.patterns.specs.Binding.{free, is, Binding, names, nothing, only, cellOf}
 use Rattle.patterns.specs.Pattern.{Pattern, name, each, halved, itemsOf}
 use Rattle.patterns.specs.Relation.{Matches, MatchesEach}
 use Rattle.patterns.specs.Read.{Readable, patternsOf, patternOf, patternAt}
-use Rattle.patterns.specs.Laws.Named.{PartOf, shared-left, shared-right}
+use Rattle.patterns.specs.Laws.Named.{shared-left, shared-right, permuted-in}
+use Rattle.patterns.specs.Laws.Chopped.{part-in}
 use Rattle.patterns.specs.Laws.Nodes.{is-name}
 use Rattle.matching.specs.Leaf.{Standing}
 use Rattle.matching.specs.Node.{innerOf}
@@ -37,22 +37,6 @@ use Rattle.forming.specs.declared.needs.Asked.the-variants.{Nothing, Had
 use Rattle.forming.specs.Needs.{Unmatched, Lacks, NoMatch, NoneMatch, WordAt, TellsMember}
 use Rattle.forming.proofs.Compatible.{joined-left, joined-right, compatible-within}
 use Rattle.forming.proofs.Reducing.{items-same, is-two}
-
--- ---- members of a set in another order, and of a part of it
-
-inserted-in : (v x : Value) (ys zs : List Value) → Inserted x ys zs → In v zs → (v ≡ x) ⊎ In v ys
-inserted-in v x ys zs (l, r, p, q) i =
-    ⊎-elim (λ j. inr (subst (In v) (sym p) (in-left v l r j))) (λ j. ⊎-elim (λ e. inl e) (λ k. inr (subst (In v) (sym p) (in-right v l r k))) j)
-    (in-joined v l (x ∷ r) (subst (In v) q i))
-
-permuted-in : (v : Value) (vs ws : List Value) → Permuted vs ws → In v ws → In v vs
-permuted-in v [] ws e i = subst (In v) e i
-permuted-in v (x ∷ vs) ws (ys, p, h) i = ⊎-elim (λ e. inl e) (λ j. inr (permuted-in v vs ys p j)) (inserted-in v x ys ws h i)
-
-part-in : (ls vs : List Value) → PartOf ls vs → (v : Value) → In v ls → In v vs
-part-in ls [] e v i = subst (In v) e i
-part-in ls (x ∷ vs) (inl p) v i = inr (part-in ls vs p v i)
-part-in ls (x ∷ vs) (inr (ms, e, p)) v i = ⊎-elim (λ q. inl q) (λ j. inr (part-in ms vs p v j)) (subst (In v) e i)
 
 -- ---- a name among the parts is bound to one of the items
 

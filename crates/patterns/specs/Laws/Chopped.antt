@@ -49,7 +49,7 @@ whole-of (x ∷ vs) ls rs (inl (ms, e, h)) v (inr i) = ⊎-elim (λ j. inl (subs
 whole-of (x ∷ vs) ls rs (inr (ms, e, h)) v (inl p) = inr (subst (In v) (sym e) (inl p))
 whole-of (x ∷ vs) ls rs (inr (ms, e, h)) v (inr i) = ⊎-elim (λ j. inl j) (λ j. inr (subst (In v) (sym e) (inr j))) (whole-of vs ls ms h v i)
 
-part-in : (ls vs : List Value) → PartOf ls vs → (v : Value) → In v ls → In v vs
+pub part-in : (ls vs : List Value) → PartOf ls vs → (v : Value) → In v ls → In v vs
 part-in ls [] e v i = subst (In v) e i
 part-in ls (x ∷ vs) (inl p) v i = inr (part-in ls vs p v i)
 part-in ls (x ∷ vs) (inr (ms, e, p)) v i = ⊎-elim (λ q. inl q) (λ j. inr (part-in ms vs p v j)) (subst (In v) e i)

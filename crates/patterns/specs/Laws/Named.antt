@@ -192,7 +192,7 @@ inserted-in v x ys zs (l, r, p, q) i = go (in-joined v l (x ∷ r) (subst (In v)
     go (inr (inl e)) = inl e
     go (inr (inr j)) = inr (subst (In v) (sym p) (in-right v l r j))
 
-permuted-in : (v : Value) (vs ws : List Value) → Permuted vs ws → In v ws → In v vs
+pub permuted-in : (v : Value) (vs ws : List Value) → Permuted vs ws → In v ws → In v vs
 permuted-in v [] ws e i = subst (In v) e i
 permuted-in v (x ∷ vs) ws (ys, p, h) i = ⊎-elim (λ e. inl e) (λ j. inr (permuted-in v vs ys p j)) (inserted-in v x ys ws h i)
 
