@@ -1,8 +1,8 @@
 -- Heights: whether a record is low, told operand by operand; heights noted record by record; the lowest record that is too high.
 use mathlib.Core.Path.{_≡_, refl, sym, ap, _∙_}
-use mathlib.Core.Bool.{Bool, true, false, not, _||_, cond}
+use mathlib.Core.Bool.{true, false, not, _||_, cond}
 use mathlib.Core.List.{List, [], _∷_, map}
-use Prim.Native.Nat.{ℕ, zero, suc, _+_, _-_, _≤_, _<_, max}
+use Prim.Native.Nat.{ℕ, zero, suc, _+_, _≤_, _<_, max}
 use native.Mathlib.Omega.{arith}
 use native.Mathlib.Numerals.{add-one}
 use borrow.Author.Tests.{eqb-true, eq-eqb, lt-ltb, le-ltb, le-leb, lt-leb, leb-true, leb-false}
@@ -59,6 +59,7 @@ LowTo rs r most i = EachTo (λ q. height rs q ≤ most) (recordAt rs r) i
 pub record Turn (rs : List Record) (r most last n i : ℕ) : Type 0 where
   pub within : i ≤ last
   pub is : n ≡ operand (recordAt rs r) i
+  pub byte : n < 256
   pub low : LowTo rs r most i
 
 -- Whether record r is at most so high is whether q is, which lies at or below it and has room left.
@@ -106,20 +107,20 @@ module _ (rs : List Record) (clear : Clear6 rs) where
     -- ---- all operands but the last
 
     module _ (most i n : ℕ) (has : i < length (named (recordAt rs r))) (is : n ≡ operand (recordAt rs r) i) where
-      pub operand-high : leb (height rs n) most ≡ false → LastLow rs r most r
+      pub operand-high : leb (height rs n) most ≡ false → LastLow rs r most 256
       operand-high e =
           let same : height rs n ≡ height rs (operand (recordAt rs r) i) = ap (height rs) is in
-          record { within = omega arith; low = λ l. absurd (omega arith); high = λ d. omega (arith, leb-false (height rs n) most e, height-operand rs clear r i in-table has) }
+          record { lower = λ f. absurd (f refl); low = λ f. absurd (f refl); high = λ d. omega (arith, leb-false (height rs n) most e, height-operand rs clear r i in-table has) }
 
-      pub operand-last : suc i ≡ length (named (recordAt rs r)) → LowTo rs r most i → LastLow rs r most n
-      operand-last last so =
+      pub operand-last : suc i ≡ length (named (recordAt rs r)) → n < 256 → LowTo rs r most i → LastLow rs r most n
+      operand-last last byte so =
           let same : height rs n ≡ height rs (operand (recordAt rs r) i) = ap (height rs) is in
           record {
-            within = omega (arith, operand-lower rs clear r i in-table has);
+            lower = λ f. omega (arith, operand-lower rs clear r i in-table has);
             low = λ l. both-ways (leb (height rs r) (suc most)) (leb (height rs n) most)
                 (λ e. le-leb (height rs n) most (omega (arith, leb-true (height rs r) (suc most) e, height-operand rs clear r i in-table has)))
                 (λ e. le-leb (height rs r) (suc most) (all-low most (i + 1) (low-more most i n is so (leb-true (height rs n) most e)) (omega arith)));
-            high = λ e. absurd (omega (arith, operand-lower rs clear r i in-table has));
+            high = λ e. absurd (omega arith);
           }
 
     -- ---- down to the last operand
@@ -135,13 +136,12 @@ module _ (rs : List Record) (clear : Clear6 rs) where
       down-leaf fit e = down-bare (leaf-operands (recordAt rs q) fit e)
 
       module _ (room′ n : ℕ) (less : suc room′ ≡ room) (last : LastLow rs q room′ n) where
-        pub down-high : n ≡ q → false ≡ leb (height rs r) most
+        pub down-high : n ≡ 256 → false ≡ leb (height rs r) most
         down-high e = sym (down .same ∙ lt-leb (height rs q) room (omega (arith, last .high e)))
 
-        pub down-more : 0 < room′ → (n ≡ q → ⊥) → Down rs r most n room′
+        pub down-more : 0 < room′ → (n ≡ 256 → ⊥) → Down rs r most n room′
         down-more some other =
-            let lower : n < q = by-lower n q (λ l. l) (λ l. absurd (other (omega (arith, last .within)))) in
-            record { within = omega (arith, down .within); some = some; same = down .same ∙ ap (leb (height rs q)) (sym less) ∙ last .low lower }
+            record { within = omega (arith, down .within, last .lower other); some = some; same = down .same ∙ ap (leb (height rs q)) (sym less) ∙ last .low other }
 
       pub down-end : (k : ℕ) → room ≤ 1 → k ≡ length (named (recordAt rs q)) → eqb k 0 ≡ leb (height rs r) most
       down-end k one is =

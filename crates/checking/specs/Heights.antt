@@ -1,7 +1,7 @@
 -- Rule 9: what is asked of a record's height, and heights noted from the first record on.
 use mathlib.Core.Path.{_≡_}
 use mathlib.Core.List.{List}
-use Prim.Native.Nat.{ℕ, suc, _<_, _≤_}
+use Prim.Native.Nat.{ℕ, suc, _<_}
 use lib.Dec.{leb}
 use lib.ListN.{length}
 use Rattle.tables.specs.Record.{Record, named}
@@ -25,11 +25,11 @@ pub record AskLast (table index : List ℕ) (r first last most : ℕ) : Type 0 w
   pub begin : first ≡ firstOf (kindAt (records table) r)
   pub all : suc last ≡ length (named (recordAt (records table) r))
 
--- All depends on the last operand, n, where the others of record r are low enough; r is too high where n is r itself.
+-- All depends on the last operand, n, where the others of record r are low enough; r is too high where n is 256, which is no record.
 pub record LastLow (rs : List Record) (r most n : ℕ) : Type 0 where
-  pub within : n ≤ r
-  pub low : n < r → leb (height rs r) (suc most) ≡ leb (height rs n) most
-  pub high : n ≡ r → suc most < height rs r
+  pub lower : (n ≡ 256 → ⊥) → n < r
+  pub low : (n ≡ 256 → ⊥) → leb (height rs r) (suc most) ≡ leb (height rs n) most
+  pub high : n ≡ 256 → suc most < height rs r
 
 -- The height of a record, where those of all lower ones stand in a list.
 pub record AskHighest (table index : List ℕ) (r : ℕ) (heights : List ℕ) : Type 0 where

@@ -24,6 +24,9 @@ use tables::reading::operands_from;
 use tables::shape::is_leaf;
 use tables::shape::wide;
 
+// Stands for an operand where one is too high; no byte holds it.
+const TOO_HIGH: usize = 256;
+
 // Where the operands of a kind begin whose records have some: behind the operator of a unary or binary one.
 fn first_of(kind: usize) -> usize
     requires { ⌜ (isLeaf kind ≡ false) × (kind ≤ lastKind) ⌝ }
@@ -61,7 +64,7 @@ fn is_flat(table: &[u8], index: &Index, r: usize, most: usize) -> bool
     true
 }
 
-// The last operand of record r, where the heights of those before it are at most so much; r itself where one is higher.
+// The last operand of record r, where the heights of those before it are at most so much; 256 where one is higher.
 fn last_low(table: &[u8], index: &Index, r: usize, first: usize, last: usize, most: usize) -> usize
     requires { ⌜ AskLast (now table) (now index) r first last most ⌝ }
     ensures { λ n. ⌜ LastLow (records (now (table .entry))) r most n ⌝ }
@@ -73,7 +76,7 @@ fn last_low(table: &[u8], index: &Index, r: usize, first: usize, last: usize, mo
         if !flat {
             let low = is_low(table, index, n, most);
             if !low {
-                return r;
+                return TOO_HIGH;
             }
         }
         i += 1;
@@ -102,7 +105,7 @@ fn is_low(table: &[u8], index: &Index, r: usize, most: usize) -> bool
         }
         room -= 1;
         let n = last_low(table, index, q, first, count - 1, room);
-        if n == q {
+        if n == TOO_HIGH {
             return false;
         }
         q = n;

@@ -1,7 +1,7 @@
 -- Whether a record is low, by recursion on the record number: an operand is lower.
 use mathlib.Core.Path.{_≡_, sym, ap, _∙_}
 use mathlib.Core.Logic.{⊎-elim}
-use Prim.Native.Nat.{ℕ, suc, _+_, _*_, _-_, _<_, _≤_}
+use Prim.Native.Nat.{ℕ, _+_, _*_, _-_, _<_, _≤_}
 use native.Mathlib.Omega.{arith}
 use borrow.Author.Tests.{leb-true, not-true, not-false}
 use borrow.Fn.Kinds.{In}
@@ -11,7 +11,6 @@ use Rattle.tables.specs.Shapes.{firstOf}
 use Rattle.tables.specs.Record.{isLeaf}
 use Rattle.tables.specs.Sheet.{height}
 use Rattle.tables.specs.Accepted.{records}
-use Rattle.tables.specs.Reading.{Here}
 use Rattle.tables.specs.Laws.Accepted.{fit-records, operand-lower}
 use Rattle.checking.proofs.Heights.{Turn, Down, low-start, low-more, operand-high, operand-last, down-start, down-bare, down-leaf, down-high, down-more, down-end}
 use Rattle.checking.proofs.height.is_low.Reads as is-low
@@ -125,7 +124,7 @@ last-low-operand-from-requires : (t : ℕ) → last-low-lts.Need-operand-from-re
 last-low-operand-from-requires t c κs = (record { here = c .before .pre .1 .low .here; has = omega (arith, c .before .pre .1 .all) }, c .before .pre .1 .begin)
 
 last-low-loop-holds : (t : ℕ) → last-low-lts.Need-loop-holds (last-low-calls t) (last-low-at t) last-low.Post last-low-Inv-loop last-low-μ-loop
-last-low-loop-holds t c = record { within = omega arith; is = c .operand-from .ensures .0; low = low-start (records (c .before .before .args .table .now)) (c .before .before .pre .1 .low .clear) (c .before .before .args .r) (c .before .before .pre .1 .low .here .within) (c .before .before .args .most) }
+last-low-loop-holds t c = record { within = omega arith; is = c .operand-from .ensures .0; byte = c .operand-from .ensures .1; low = low-start (records (c .before .before .args .table .now)) (c .before .before .pre .1 .low .clear) (c .before .before .args .r) (c .before .before .pre .1 .low .here .within) (c .before .before .args .most) }
 
 -- Operand n is lower.
 is-lower : (t : ℕ) (c : last-low-lts.In-loop (last-low-calls t) (last-low-at t) last-low.Post last-low-Inv-loop last-low-μ-loop) → c .before .loop .n < c .before .before .before .before .args .r
@@ -157,10 +156,10 @@ is-so-low t c =
     (c .if1 .came)
 
 last-low-loop-again : (t : ℕ) → last-low-lts.Need-loop-again (last-low-calls t) (last-low-at t) last-low.Post last-low-Inv-loop last-low-μ-loop
-last-low-loop-again t c = record { within = omega (arith, c .before .before .before .loop-test .taken); is = c .operand-from2 .ensures .0; low = low-more (records (c .before .before .before .before .before .before .before .args .table .now)) (c .before .before .before .before .before .before .before .pre .1 .low .clear) (c .before .before .before .before .before .before .before .args .r) (c .before .before .before .before .before .before .before .pre .1 .low .here .within) (c .before .before .before .before .before .before .before .args .most) (c .before .before .before .before .loop .i) (c .before .before .before .before .loop .n) (c .before .before .before .before .loop .inv .is) (c .before .before .before .before .loop .inv .low) (is-so-low t (c .before)) }
+last-low-loop-again t c = record { within = omega (arith, c .before .before .before .loop-test .taken); is = c .operand-from2 .ensures .0; byte = c .operand-from2 .ensures .1; low = low-more (records (c .before .before .before .before .before .before .before .args .table .now)) (c .before .before .before .before .before .before .before .pre .1 .low .clear) (c .before .before .before .before .before .before .before .args .r) (c .before .before .before .before .before .before .before .pre .1 .low .here .within) (c .before .before .before .before .before .before .before .args .most) (c .before .before .before .before .loop .i) (c .before .before .before .before .loop .n) (c .before .before .before .before .loop .inv .is) (c .before .before .before .before .loop .inv .low) (is-so-low t (c .before)) }
 
 last-low-returns-2 : (t : ℕ) → last-low-lts.Need-returns-2 (last-low-calls t) (last-low-at t) last-low.Post last-low-Inv-loop last-low-μ-loop
-last-low-returns-2 t c = operand-last (records (c .before .before .before .before .args .table .now)) (c .before .before .before .before .pre .1 .low .clear) (c .before .before .before .before .args .r) (c .before .before .before .before .pre .1 .low .here .within) (c .before .before .before .before .args .most) (c .before .loop .i) (c .before .loop .n) (omega (arith, c .before .loop .inv .within, c .before .before .before .before .pre .1 .all)) (c .before .loop .inv .is) (omega (arith, c .before .loop .inv .within, c .loop-test .left, c .before .before .before .before .pre .1 .all)) (c .before .loop .inv .low)
+last-low-returns-2 t c = operand-last (records (c .before .before .before .before .args .table .now)) (c .before .before .before .before .pre .1 .low .clear) (c .before .before .before .before .args .r) (c .before .before .before .before .pre .1 .low .here .within) (c .before .before .before .before .args .most) (c .before .loop .i) (c .before .loop .n) (omega (arith, c .before .loop .inv .within, c .before .before .before .before .pre .1 .all)) (c .before .loop .inv .is) (omega (arith, c .before .loop .inv .within, c .loop-test .left, c .before .before .before .before .pre .1 .all)) (c .before .loop .inv .byte) (c .before .loop .inv .low)
 
 pub +is-low+last-low-spec : {M : Type 1} → statement M
 +is-low+last-low-spec =
