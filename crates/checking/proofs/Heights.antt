@@ -1,15 +1,15 @@
 -- Heights: whether a record is low, told operand by operand; heights noted record by record; the lowest record that is too high.
 use mathlib.Core.Path.{_≡_, refl, sym, ap, _∙_}
-use mathlib.Core.Bool.{Bool, true, false, not, _||_, cond}
+use mathlib.Core.Bool.{true, false, not, _||_, cond}
 use mathlib.Core.List.{List, [], _∷_, map}
-use Prim.Native.Nat.{ℕ, zero, suc, _+_, _-_, _≤_, _<_, max}
+use Prim.Native.Nat.{ℕ, zero, suc, _+_, _≤_, _<_, max}
 use native.Mathlib.Omega.{arith}
 use native.Mathlib.Numerals.{add-one}
-use borrow.Author.Tests.{eqb-true, lt-ltb, le-ltb, le-leb, lt-leb, leb-true, leb-false}
+use borrow.Author.Tests.{eqb-true, eq-eqb, lt-ltb, le-ltb, le-leb, lt-leb, leb-true, leb-false}
 use lib.Dec.{eqb, ltb, leb}
 use lib.ListN.{length, getD, drop}
 use lib.Seq.{drop-cons, drop-length}
-use Rattle.prelude.proofs.Truth.{by-test, implied}
+use Rattle.prelude.proofs.Truth.{by-lower, both-ways, implied}
 use Rattle.tables.specs.Record.{Record, shape, isLeaf, isFit, named, operand}
 use Rattle.tables.specs.Shapes.{firstOf}
 use Rattle.tables.specs.Table.{recordAt, kindAt}
@@ -20,6 +20,7 @@ use Rattle.tables.specs.Laws.Through.{EachTo, each-start, each-next}
 use Rattle.tables.specs.Laws.Operands.{greatest-most}
 use Rattle.tables.specs.Laws.Accepted.{Clear6, fit-kind, operand-lower, height-at, height-operand}
 use Rattle.checking.specs.Scopes.{Filled}
+use Rattle.checking.specs.Heights.{LastLow}
 use Rattle.checking.proofs.Shapes.{roles-many}
 use Rattle.checking.proofs.Reaching.{from-last}
 
@@ -50,9 +51,22 @@ pub record Going (rs : List Record) (r high i : ℕ) : Type 0 where
   pub within : i ≤ length (named (recordAt rs r))
   pub is : max high (greatest (map (height rs) (drop i (named (recordAt rs r))))) ≡ greatest (map (height rs) (named (recordAt rs r)))
 
--- The operands of record r before i are low enough for it to be at most so high.
+-- The operands of record r before i are at most so high.
 abbrev pub LowTo : List Record → ℕ → ℕ → ℕ → Type 0
-LowTo rs r most i = EachTo (λ q. height rs q ≤ most - 1) (recordAt rs r) i
+LowTo rs r most i = EachTo (λ q. height rs q ≤ most) (recordAt rs r) i
+
+-- Operand i of record r is n, and those before it are at most so high.
+pub record Turn (rs : List Record) (r most last n i : ℕ) : Type 0 where
+  pub within : i ≤ last
+  pub is : n ≡ operand (recordAt rs r) i
+  pub byte : n < 256
+  pub low : LowTo rs r most i
+
+-- Whether record r is at most so high is whether q is, which lies at or below it and has room left.
+pub record Down (rs : List Record) (r most q room : ℕ) : Type 0 where
+  pub within : q ≤ r
+  pub some : 0 < room
+  pub same : leb (height rs r) most ≡ leb (height rs q) room
 
 module _ (rs : List Record) (clear : Clear6 rs) where
   height-most : (bound r : ℕ) → r < bound → r < length rs → height rs r ≤ r + 1
@@ -60,35 +74,79 @@ module _ (rs : List Record) (clear : Clear6 rs) where
   height-most (suc bound) r b h =
       omega (arith, height-at rs clear r h, greatest-most (height rs) (named (recordAt rs r)) r (λ i k. omega (arith, operand-lower rs clear r i h k, height-most bound (operand (recordAt rs r) i) (omega (arith, operand-lower rs clear r i h k)) (omega (arith, operand-lower rs clear r i h k)))))
 
+  pub bare-height : (r : ℕ) → r < length rs → length (named (recordAt rs r)) ≡ 0 → height rs r ≡ 1
+  bare-height r h e =
+      omega (arith, height-at rs clear r h, greatest-most (height rs) (named (recordAt rs r)) 0 (λ i k. absurd (omega arith)))
+
   pub leaf-height : (r : ℕ) → r < length rs → isFit (recordAt rs r) ≡ true → isLeaf (kindAt rs r) ≡ true → height rs r ≡ 1
-  leaf-height r h fit e =
-      let none = greatest-most (height rs) (named (recordAt rs r)) 0 (λ i k. absurd (omega (arith, leaf-operands (recordAt rs r) fit e))) in
-      omega (arith, height-at rs clear r h)
+  leaf-height r h fit e = bare-height r h (leaf-operands (recordAt rs r) fit e)
+
+  -- A record has height 1 just where it has no operands.
+  bare-low : (r k : ℕ) → r < length rs → k ≡ length (named (recordAt rs r)) → eqb k 0 ≡ leb (height rs r) 1
+  bare-low r k h is =
+      both-ways (eqb k 0) (leb (height rs r) 1)
+      (λ e. le-leb (height rs r) 1 (omega (arith, bare-height r h (sym is ∙ eqb-true k 0 e))))
+      (λ e.
+      by-lower 0 k
+      (λ l. absurd (omega (arith, leb-true (height rs r) 1 e, height-operand rs clear r 0 h (omega arith), height-at rs clear (operand (recordAt rs r) 0) (omega (arith, operand-lower rs clear r 0 h (omega arith))))))
+      (λ l. eq-eqb k 0 (omega arith)))
 
   module _ (r : ℕ) (in-table : r < length rs) where
     -- ---- low or not
 
     pub low-start : (most : ℕ) → LowTo rs r most 0
-    low-start most = each-start (λ q. height rs q ≤ most - 1) (recordAt rs r)
+    low-start most = each-start (λ q. height rs q ≤ most) (recordAt rs r)
 
-    module _ (most i : ℕ) (has : i < length (named (recordAt rs r))) where
-      pub one-high : most ≡ 1 → false ≡ leb (height rs r) most
-      one-high e =
-          sym (lt-leb (height rs r) most (omega (arith, height-operand rs clear r i in-table has, height-at rs clear (operand (recordAt rs r) i) (omega (arith, operand-lower rs clear r i in-table has)))))
+    pub low-more : (most i n : ℕ) → n ≡ operand (recordAt rs r) i → LowTo rs r most i → height rs n ≤ most → LowTo rs r most (i + 1)
+    low-more most i n is so h = each-next (λ q. height rs q ≤ most) (recordAt rs r) i n so is h
 
-      module _ (n : ℕ) (is : n ≡ operand (recordAt rs r) i) (b : Bool) (e : b ≡ leb (height rs n) (most - 1)) where
-        pub some-high : b ≡ false → false ≡ leb (height rs r) most
-        some-high f =
-            let same : height rs n ≡ height rs (operand (recordAt rs r) i) = ap (height rs) is in
-            sym (lt-leb (height rs r) most (omega (arith, leb-false (height rs n) (most - 1) (sym e ∙ f), height-operand rs clear r i in-table has)))
+    pub all-low : (most i : ℕ) → LowTo rs r most i → length (named (recordAt rs r)) ≤ i → height rs r ≤ suc most
+    all-low most i so l =
+        omega (arith, height-at rs clear r in-table, greatest-most (height rs) (named (recordAt rs r)) most (λ j k. so j (omega arith)))
 
-      pub low-more : (n : ℕ) → n ≡ operand (recordAt rs r) i → LowTo rs r most i → height rs n ≤ most - 1 → LowTo rs r most (i + 1)
-      low-more n is so h = each-next (λ q. height rs q ≤ most - 1) (recordAt rs r) i n so is h
+    -- ---- all operands but the last
 
-    pub all-low : (most i : ℕ) → 0 < most → LowTo rs r most i → length (named (recordAt rs r)) ≤ i → true ≡ leb (height rs r) most
-    all-low most i room so l =
-        let few = greatest-most (height rs) (named (recordAt rs r)) (most - 1) (λ j k. so j (omega arith)) in
-        sym (le-leb (height rs r) most (omega (arith, height-at rs clear r in-table)))
+    module _ (most i n : ℕ) (has : i < length (named (recordAt rs r))) (is : n ≡ operand (recordAt rs r) i) where
+      pub operand-high : leb (height rs n) most ≡ false → LastLow rs r most 256
+      operand-high e =
+          let same : height rs n ≡ height rs (operand (recordAt rs r) i) = ap (height rs) is in
+          record { lower = λ f. absurd (f refl); low = λ f. absurd (f refl); high = λ d. omega (arith, leb-false (height rs n) most e, height-operand rs clear r i in-table has) }
+
+      pub operand-last : suc i ≡ length (named (recordAt rs r)) → n < 256 → LowTo rs r most i → LastLow rs r most n
+      operand-last last byte so =
+          let same : height rs n ≡ height rs (operand (recordAt rs r) i) = ap (height rs) is in
+          record {
+            lower = λ f. omega (arith, operand-lower rs clear r i in-table has);
+            low = λ l. both-ways (leb (height rs r) (suc most)) (leb (height rs n) most)
+                (λ e. le-leb (height rs n) most (omega (arith, leb-true (height rs r) (suc most) e, height-operand rs clear r i in-table has)))
+                (λ e. le-leb (height rs r) (suc most) (all-low most (i + 1) (low-more most i n is so (leb-true (height rs n) most e)) (omega arith)));
+            high = λ e. absurd (omega arith);
+          }
+
+    -- ---- down to the last operand
+
+    pub down-start : (most : ℕ) → 0 < most → Down rs r most r most
+    down-start most h = record { within = omega arith; some = h; same = refl }
+
+    module _ (most q room : ℕ) (down : Down rs r most q room) where
+      pub down-bare : length (named (recordAt rs q)) ≡ 0 → true ≡ leb (height rs r) most
+      down-bare e = sym (down .same ∙ le-leb (height rs q) room (omega (arith, bare-height q (omega (arith, down .within)) e, down .some)))
+
+      pub down-leaf : isFit (recordAt rs q) ≡ true → isLeaf (kindAt rs q) ≡ true → true ≡ leb (height rs r) most
+      down-leaf fit e = down-bare (leaf-operands (recordAt rs q) fit e)
+
+      module _ (room′ n : ℕ) (less : suc room′ ≡ room) (last : LastLow rs q room′ n) where
+        pub down-high : n ≡ 256 → false ≡ leb (height rs r) most
+        down-high e = sym (down .same ∙ lt-leb (height rs q) room (omega (arith, last .high e)))
+
+        pub down-more : 0 < room′ → (n ≡ 256 → ⊥) → Down rs r most n room′
+        down-more some other =
+            record { within = omega (arith, down .within, last .lower other); some = some; same = down .same ∙ ap (leb (height rs q)) (sym less) ∙ last .low other }
+
+      pub down-end : (k : ℕ) → room ≤ 1 → k ≡ length (named (recordAt rs q)) → eqb k 0 ≡ leb (height rs r) most
+      down-end k one is =
+          let e : room ≡ 1 = omega (arith, down .some) in
+          bare-low q k (omega (arith, down .within)) is ∙ ap (leb (height rs q)) (sym e) ∙ sym (down .same)
 
     -- ---- noted
 
@@ -132,12 +190,3 @@ module _ (rs : List Record) (clear : Clear6 rs) where
           (λ q k.
           omega (arith, leb-true (height rs last) mostHeight (sym e), from-last rs clear (λ r. height rs r ≤ height rs last) last (omega arith) (omega arith) (λ q i h k l. omega (arith, height-operand rs clear q i h k)) q (omega arith)))
           (λ k. absurd (omega arith))
-
-      -- The last of several records is no leaf, since all others lie below it.
-      pub last-inner : 1 < n → isFit (recordAt rs last) ≡ true → isLeaf (kindAt rs last) ≡ false
-      last-inner some fit =
-          by-test {P = isLeaf (kindAt rs last) ≡ false} (isLeaf (kindAt rs last))
-          (λ e.
-          let none : length (named (recordAt rs last)) ≡ 0 = leaf-operands (recordAt rs last) fit e in
-          absurd (omega (arith, from-last rs clear (λ r. r ≡ last) last (omega arith) refl (λ q i h k same. absurd (omega (arith, ap (λ (p : ℕ). length (named (recordAt rs p))) same))) 0 (omega arith))))
-          (λ e. e)

@@ -1,6 +1,6 @@
 // Rule 9: heights, by recursion on the record number, which falls at each operand.
 ghost use mathlib.Core.Path.{_≡_};
-ghost use mathlib.Core.Bool.{false};
+ghost use mathlib.Core.Bool.{true, false};
 ghost use Prim.Native.Nat.{suc, _<_, _≤_, max};
 ghost use lib.Dec.{leb};
 ghost use Rattle.tables.specs.Record.{lastKind, isLeaf};
@@ -9,7 +9,7 @@ ghost use Rattle.tables.specs.Sheet.{lowest as lowestOf, height as heightOf};
 ghost use Rattle.tables.specs.Check.{fault9};
 ghost use Rattle.tables.specs.Accepted.{records};
 ghost use Rattle.checking.specs.Scopes.{KeepsRule6};
-ghost use Rattle.checking.specs.Heights.{AskLow, AskHighest};
+ghost use Rattle.checking.specs.Heights.{AskLow, AskLast, LastLow, AskHighest};
 use tables::Index;
 use tables::MOST_HEIGHT;
 use tables::MOST_RECORDS;
@@ -24,6 +24,9 @@ use tables::reading::operands_from;
 use tables::shape::is_leaf;
 use tables::shape::wide;
 
+// Stands for an operand where one is too high; no byte holds it.
+const TOO_HIGH: usize = 256;
+
 // Where the operands of a kind begin whose records have some: behind the operator of a unary or binary one.
 fn first_of(kind: usize) -> usize
     requires { ⌜ (isLeaf kind ≡ false) × (kind ≤ lastKind) ⌝ }
@@ -35,29 +38,79 @@ fn first_of(kind: usize) -> usize
     PLAIN
 }
 
-// The height of record r, which is no leaf, is at most so much. Every record is named once, so that none is gone through twice; a leaf has height 1.
-fn is_low(table: &[u8], index: &Index, r: usize, most: usize) -> bool
+// Record r is a leaf, or has leaves alone as operands: where that is so, its height is at most so much, and it needs no recursion.
+fn is_flat(table: &[u8], index: &Index, r: usize, most: usize) -> bool
     requires { ⌜ AskLow (now table) (now index) r most ⌝ }
-    ensures { λ b. ⌜ b ≡ leb (heightOf (records (now (table .entry))) r) most ⌝ }
+    ensures { λ b. ⌜ (b ≡ true → heightOf (records (now (table .entry))) r ≤ most) ⌝ }
 {
-    let first = first_of(kind(table, index, r));
+    let k = kind(table, index, r);
+    if is_leaf(k) {
+        return true;
+    }
+    if most == 1 {
+        return false;
+    }
+    let first = first_of(k);
     let count = operands_from(table, index, r, first);
     let mut i = 0;
     while i < count {
-        if most == 1 {
-            return false;
-        }
         let n = operand_from(table, index, r, first, i);
         let leaf = is_leaf(kind(table, index, n));
         if !leaf {
-            let low = is_low(table, index, n, most - 1);
-            if !low {
-                return false;
-            }
+            return false;
         }
         i += 1;
     }
     true
+}
+
+// The last operand of record r, where the heights of those before it are at most so much; 256 where one is higher.
+fn last_low(table: &[u8], index: &Index, r: usize, first: usize, last: usize, most: usize) -> usize
+    requires { ⌜ AskLast (now table) (now index) r first last most ⌝ }
+    ensures { λ n. ⌜ LastLow (records (now (table .entry))) r most n ⌝ }
+{
+    let mut n = operand_from(table, index, r, first, 0);
+    let mut i = 0;
+    while i < last {
+        let flat = is_flat(table, index, n, most);
+        if !flat {
+            let low = is_low(table, index, n, most);
+            if !low {
+                return TOO_HIGH;
+            }
+        }
+        i += 1;
+        n = operand_from(table, index, r, first, i);
+    }
+    n
+}
+
+// The height of record r is at most so much: so are its operands' with one less. The last of these takes the place of its record. Every record is
+// named once, so that none is gone through twice.
+fn is_low(table: &[u8], index: &Index, r: usize, most: usize) -> bool
+    requires { ⌜ AskLow (now table) (now index) r most ⌝ }
+    ensures { λ b. ⌜ b ≡ leb (heightOf (records (now (table .entry))) r) most ⌝ }
+{
+    let mut q = r;
+    let mut room = most;
+    while 1 < room {
+        let k = kind(table, index, q);
+        if is_leaf(k) {
+            return true;
+        }
+        let first = first_of(k);
+        let count = operands_from(table, index, q, first);
+        if count == 0 {
+            return true;
+        }
+        room -= 1;
+        let n = last_low(table, index, q, first, count - 1, room);
+        if n == TOO_HIGH {
+            return false;
+        }
+        q = n;
+    }
+    operand_count(table, index, q) == 0
 }
 
 // The higher of two numbers.

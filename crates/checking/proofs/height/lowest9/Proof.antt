@@ -3,8 +3,7 @@ use mathlib.Core.Path.{sym, _∙_}
 use Prim.Native.Nat.{_-_}
 use native.Mathlib.Omega.{arith}
 use Rattle.tables.specs.Accepted.{records}
-use Rattle.tables.specs.Laws.Accepted.{fit-records}
-use Rattle.checking.proofs.Heights.{few-low, last-low, last-inner}
+use Rattle.checking.proofs.Heights.{few-low, last-low}
 use Rattle.checking.proofs.height.lowest9.Statement.{statement}
 use Rattle.checking.proofs.height.lowest9.Tie as tie
 
@@ -15,7 +14,7 @@ sub-is-low : tie.Need-sub-is-low
 sub-is-low c = omega (arith, c .if1 .left)
 
 is-low-requires : tie.Need-is-low-requires
-is-low-requires c κs = record { here = record { indexed = c .before .before .pre .0 .whole .indexed; within = omega (arith, c .before .before .pre .0 .whole .all, c .if1 .left) }; inner = last-inner (records (c .before .before .args .table .now)) (c .before .before .pre .0 .clear) (c .before .before .args .count) (c .before .before .pre .0 .whole .all) (c .before .before .args .count - 1) (omega (arith, c .if1 .left)) (omega (arith, c .if1 .left)) (fit-records (c .before .before .args .table .now) (c .before .before .args .count - 1) (omega (arith, c .before .before .pre .0 .whole .all, c .if1 .left))); clear = c .before .before .pre .0 .clear; room = omega arith }
+is-low-requires c κs = record { here = record { indexed = c .before .before .pre .0 .whole .indexed; within = omega (arith, c .before .before .pre .0 .whole .all, c .if1 .left) }; clear = c .before .before .pre .0 .clear; room = omega arith }
 
 returns-2 : tie.Need-returns-2
 returns-2 c = last-low (records (c .before .before .before .before .args .table .now)) (c .before .before .before .before .pre .0 .clear) (c .before .before .before .before .args .count) (c .before .before .before .before .pre .0 .whole .all) (c .before .before .before .before .args .count - 1) (omega (arith, c .before .before .if1 .left)) (sym (c .if2 .taken) ∙ c .before .is-low .ensures)
