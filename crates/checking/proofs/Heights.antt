@@ -2,7 +2,7 @@
 use mathlib.Core.Path.{_≡_, refl, sym, ap, _∙_}
 use mathlib.Core.Bool.{true, false, not, _||_, cond}
 use mathlib.Core.List.{List, [], _∷_, map}
-use Prim.Native.Nat.{ℕ, zero, suc, _+_, _≤_, _<_, max}
+use Prim.Native.Nat.{ℕ, zero, suc, _+_, _-_, _≤_, _<_, max}
 use native.Mathlib.Omega.{arith}
 use native.Mathlib.Numerals.{add-one}
 use borrow.Author.Tests.{eqb-true, eq-eqb, lt-ltb, le-ltb, le-leb, lt-leb, leb-true, leb-false}
@@ -20,7 +20,7 @@ use Rattle.tables.specs.Laws.Through.{EachTo, each-start, each-next}
 use Rattle.tables.specs.Laws.Operands.{greatest-most}
 use Rattle.tables.specs.Laws.Accepted.{Clear6, fit-kind, operand-lower, height-at, height-operand}
 use Rattle.checking.specs.Scopes.{Filled}
-use Rattle.checking.specs.Heights.{LastLow}
+use Rattle.checking.specs.Heights.{LastLow, LeafFirst}
 use Rattle.checking.proofs.Shapes.{roles-many}
 use Rattle.checking.proofs.Reaching.{from-last}
 
@@ -43,6 +43,12 @@ unfolding shape
 leaf-operands x fit e =
     let none : length (shape (x .kind) .roles) ≡ 0 = eqb-true _ 0 (implied (isLeaf (x .kind)) _ (each (λ k. not (isLeaf k) || eqb (length (shape k .roles)) 0) 41 refl (x .kind) (omega (arith, fit-kind x fit))) e) in
     omega (arith, roles-many x)
+
+-- ---- the first leaves
+
+pub leaf-more : (rs : List Record) (count n : ℕ) → LeafFirst rs count n → n < count → isLeaf (kindAt rs n) ≡ true → LeafFirst rs count (n + 1)
+leaf-more rs count n so h e =
+    record { within = omega arith; leaf = λ r l. by-lower r n (λ k. so .leaf r k) (λ k. let same : r ≡ n = omega arith in ap (λ (q : ℕ). isLeaf (kindAt rs q)) same ∙ e) }
 
 -- ---- the height of one record
 
@@ -69,17 +75,21 @@ pub record Down (rs : List Record) (r most q room : ℕ) : Type 0 where
   pub same : leb (height rs r) most ≡ leb (height rs q) room
 
 module _ (rs : List Record) (clear : Clear6 rs) where
-  height-most : (bound r : ℕ) → r < bound → r < length rs → height rs r ≤ r + 1
-  height-most zero r b h = absurd (omega arith)
-  height-most (suc bound) r b h =
-      omega (arith, height-at rs clear r h, greatest-most (height rs) (named (recordAt rs r)) r (λ i k. omega (arith, operand-lower rs clear r i h k, height-most bound (operand (recordAt rs r) i) (omega (arith, operand-lower rs clear r i h k)) (omega (arith, operand-lower rs clear r i h k)))))
-
   pub bare-height : (r : ℕ) → r < length rs → length (named (recordAt rs r)) ≡ 0 → height rs r ≡ 1
   bare-height r h e =
       omega (arith, height-at rs clear r h, greatest-most (height rs) (named (recordAt rs r)) 0 (λ i k. absurd (omega arith)))
 
   pub leaf-height : (r : ℕ) → r < length rs → isFit (recordAt rs r) ≡ true → isLeaf (kindAt rs r) ≡ true → height rs r ≡ 1
   leaf-height r h fit e = bare-height r h (leaf-operands (recordAt rs r) fit e)
+
+  -- Where all records below n have height 1, record n is at most 2 high, record n + 1 at most 3, and so on.
+  height-most : (n : ℕ) → ((r : ℕ) → r < n → height rs r ≡ 1) → (bound r : ℕ) → r < bound → r < length rs → height rs r ≤ suc (suc r - n)
+  height-most n leaf zero r b h = absurd (omega arith)
+  height-most n leaf (suc bound) r b h =
+      by-lower r n
+      (λ l. omega (arith, leaf r l))
+      (λ l.
+      omega (arith, height-at rs clear r h, greatest-most (height rs) (named (recordAt rs r)) (suc r - n) (λ i k. omega (arith, operand-lower rs clear r i h k, height-most n leaf bound (operand (recordAt rs r) i) (omega (arith, operand-lower rs clear r i h k)) (omega (arith, operand-lower rs clear r i h k))))))
 
   -- A record has height 1 just where it has no operands.
   bare-low : (r k : ℕ) → r < length rs → k ≡ length (named (recordAt rs r)) → eqb k 0 ≡ leb (height rs r) 1
@@ -178,9 +188,9 @@ module _ (rs : List Record) (clear : Clear6 rs) where
       (low (fault9 rs) n)
 
   module _ (n : ℕ) (all : n ≡ length rs) where
-    -- No record is higher than there are records.
-    pub few-low : n ≤ mostHeight → n ≡ lowest (fault9 rs) n
-    few-low l = tall-first n n (omega arith) (λ q k. omega (arith, height-most (suc q) q (omega arith) (omega arith))) (λ k. absurd (omega arith))
+    -- No record is higher than one more than there are records behind the first leaves.
+    pub few-low : (leaves : ℕ) → ((r : ℕ) → r < leaves → height rs r ≡ 1) → n < leaves + mostHeight → n ≡ lowest (fault9 rs) n
+    few-low leaves leaf l = tall-first n n (omega arith) (λ q k. omega (arith, height-most leaves leaf (suc q) q (omega arith) (omega arith))) (λ k. absurd (omega arith))
 
     module _ (last : ℕ) (is-last : suc last ≡ n) where
       -- No record is higher than the last.

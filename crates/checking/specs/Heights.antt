@@ -1,10 +1,11 @@
--- Rule 9: what is asked of a record's height, and heights noted from the first record on.
+-- Rule 9: what is asked of a record's height, heights noted from the first record on, and leaves at the start.
 use mathlib.Core.Path.{_≡_}
+use mathlib.Core.Bool.{true}
 use mathlib.Core.List.{List}
-use Prim.Native.Nat.{ℕ, suc, _<_}
+use Prim.Native.Nat.{ℕ, suc, _≤_, _<_}
 use lib.Dec.{leb}
 use lib.ListN.{length}
-use Rattle.tables.specs.Record.{Record, named}
+use Rattle.tables.specs.Record.{Record, isLeaf, named}
 use Rattle.tables.specs.Shapes.{firstOf}
 use Rattle.tables.specs.Table.{recordAt, kindAt}
 use Rattle.tables.specs.Sheet.{height}
@@ -36,3 +37,8 @@ pub record AskHighest (table index : List ℕ) (r : ℕ) (heights : List ℕ) : 
   pub here : Here table index r
   pub clear : Clear6 (records table)
   pub noted : Filled (height (records table)) heights r
+
+-- The first n of so many records are leaves.
+pub record LeafFirst (rs : List Record) (count n : ℕ) : Type 0 where
+  pub within : n ≤ count
+  pub leaf : (r : ℕ) → r < n → isLeaf (kindAt rs r) ≡ true

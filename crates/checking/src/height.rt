@@ -8,8 +8,9 @@ ghost use Rattle.tables.specs.Shapes.{firstOf};
 ghost use Rattle.tables.specs.Sheet.{lowest as lowestOf, height as heightOf};
 ghost use Rattle.tables.specs.Check.{fault9};
 ghost use Rattle.tables.specs.Accepted.{records};
+ghost use Rattle.checking.specs.Naming.{WholeTable};
 ghost use Rattle.checking.specs.Scopes.{KeepsRule6};
-ghost use Rattle.checking.specs.Heights.{AskLow, AskLast, LastLow, AskHighest};
+ghost use Rattle.checking.specs.Heights.{AskLow, AskLast, LastLow, AskHighest, LeafFirst};
 use tables::Index;
 use tables::MOST_HEIGHT;
 use tables::MOST_RECORDS;
@@ -154,12 +155,30 @@ fn lowest_tall(table: &[u8], index: &Index, count: usize) -> usize
     count
 }
 
-// The lowest record that breaks rule 9; the number of records where none does. No record is higher than the last, nor than there are records.
+// How many records from the first on are leaves.
+fn leading_leaves(table: &[u8], index: &Index, count: usize) -> usize
+    requires { ⌜ WholeTable (now table) (now index) count ⌝ }
+    ensures { λ n. ⌜ LeafFirst (records (now (table .entry))) count n ⌝ }
+{
+    let mut n = 0;
+    while n < count {
+        let leaf = is_leaf(kind(table, index, n));
+        if !leaf {
+            return n;
+        }
+        n += 1;
+    }
+    n
+}
+
+// The lowest record that breaks rule 9; the number of records where none does. No record is higher than the last, nor than one more than there are
+// records from the first with operands on.
 pub fn lowest9(table: &[u8], index: &Index, count: usize) -> usize
     requires { ⌜ KeepsRule6 (now table) (now index) count × (0 < count) ⌝ }
     ensures { λ p. ⌜ p ≡ lowestOf (fault9 (records (now (table .entry)))) count ⌝ }
 {
-    if count <= MOST_HEIGHT {
+    let leaves = leading_leaves(table, index, count);
+    if count < leaves + MOST_HEIGHT {
         return count;
     }
     let low = is_low(table, index, count - 1, MOST_HEIGHT);
