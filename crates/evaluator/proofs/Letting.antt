@@ -2,9 +2,10 @@
 use mathlib.Core.Path.{_≡_, refl, sym, ap, subst, _∙_}
 use mathlib.Core.Bool.{Bool, true, false}
 use mathlib.Core.List.{List}
-use Prim.Native.Nat.{ℕ, zero, suc, _+_, _<_}
+use Prim.Native.Nat.{ℕ, _+_, _<_}
 use native.Mathlib.Omega.{arith}
 use lib.ListN.{length, getD}
+use Rattle.prelude.proofs.Truth.{positive}
 use Rattle.values.specs.Value.{Value}
 use Rattle.values.specs.Place.{At}
 use Rattle.values.specs.Contract.{Copyable, Copied}
@@ -37,10 +38,6 @@ use Rattle.evaluator.proofs.Coming.{value-refused, comes-on, comes-stop
 use Rattle.evaluator.proofs.Choosing.{chosen-due, choice-taken, choice-off, matched-none, matched-loose, matched-plain, satisfied-none, satisfied-some}
 use Rattle.evaluator.proofs.Meant.{bodyIn, letIn, suchIn, mean-let, mean-let-be}
 use Rattle.evaluator.proofs.Opening.{ask-again, opened-off, opened-asked, opened-standing, opened-on}
-
-positive : (n : ℕ) → (n ≡ 0 → ⊥) → 0 < n
-positive zero z = absurd (z refl)
-positive (suc n) z = omega arith
 
 -- ---- the body under a binding, its value brought down to base
 

@@ -4,6 +4,7 @@ use mathlib.Core.Path.{_≡_, refl}
 use mathlib.Core.Bool.{Bool, true, false, not, cond, _||_}
 use mathlib.Core.Logic.{_⊎_, inl, inr}
 use Prim.Native.Nat.{ℕ, _<_, _≤_}
+use native.Mathlib.Omega.{arith}
 use borrow.Author.Tests.{ltb-true, ltb-false}
 use lib.Dec.{ltb}
 use Rattle.prelude.proofs.Absurd.{never}
@@ -17,6 +18,10 @@ by-test false f g = g refl
 -- Either a is lower than b, or not.
 pub by-lower {ℓ} : {P : Type ℓ} (a b : ℕ) → (a < b → P) → (b ≤ a → P) → P
 by-lower a b f g = by-test (ltb a b) (λ e. f (ltb-true a b e)) (λ e. g (ltb-false a b e))
+
+-- What is not 0 is more.
+pub positive : (n : ℕ) → (n ≡ 0 → ⊥) → 0 < n
+positive n f = by-lower 0 n (λ l. l) (λ l. absurd (f (omega arith)))
 
 pub both-ways : (b c : Bool) → (b ≡ true → c ≡ true) → (c ≡ true → b ≡ true) → b ≡ c
 both-ways true c f g = cc (f refl)

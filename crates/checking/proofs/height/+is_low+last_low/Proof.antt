@@ -6,7 +6,7 @@ use native.Mathlib.Omega.{arith}
 use borrow.Author.Tests.{leb-true, not-true, not-false}
 use borrow.Fn.Kinds.{In}
 use borrow.Fn.PlainCycle.{Measures, is, falls, and}
-use Rattle.prelude.proofs.Truth.{by-lower}
+use Rattle.prelude.proofs.Truth.{positive}
 use Rattle.tables.specs.Shapes.{firstOf}
 use Rattle.tables.specs.Record.{isLeaf}
 use Rattle.tables.specs.Sheet.{height}
@@ -80,18 +80,14 @@ is-low-operands-from-requires t c κs = (record { indexed = c .before .before .b
 is-low-returns-2 : (t : ℕ) → is-low-lts.Need-returns-2 (is-low-calls t) (is-low-at t) is-low.Post is-low-Inv-loop is-low-μ-loop
 is-low-returns-2 t c = down-bare (records (c .before .before .before .before .before .before .before .before .before .args .table .now)) (c .before .before .before .before .before .before .before .before .before .pre .1 .clear) (c .before .before .before .before .before .before .before .before .before .args .r) (c .before .before .before .before .before .before .before .before .before .pre .1 .here .within) (c .before .before .before .before .before .before .before .before .before .args .most) (c .before .before .before .before .before .before .before .loop .q) (c .before .before .before .before .before .before .before .loop .room) (c .before .before .before .before .before .before .before .loop .inv) (sym (c .before .operands-from .ensures .0) ∙ c .if2 .taken)
 
--- What is not 0 is more.
-some : (m : ℕ) → (m ≡ 0 → ⊥) → 0 < m
-some m f = by-lower 0 m (λ l. l) (λ l. absurd (f (omega arith)))
-
 is-low-sub-room : (t : ℕ) → is-low-lts.Need-sub-room (is-low-calls t) (is-low-at t) is-low.Post is-low-Inv-loop is-low-μ-loop
 is-low-sub-room t c = omega (arith, c .before .before .before .before .before .before .loop-test .taken)
 
 is-low-sub-last-low : (t : ℕ) → is-low-lts.Need-sub-last-low (is-low-calls t) (is-low-at t) is-low.Post is-low-Inv-loop is-low-μ-loop
-is-low-sub-last-low t c = omega (arith, some (c .before .operands-from .result) (c .if2 .left))
+is-low-sub-last-low t c = omega (arith, positive (c .before .operands-from .result) (c .if2 .left))
 
 is-low-last-low-requires : (t : ℕ) → is-low-lts.Need-last-low-requires (is-low-calls t) (is-low-at t) is-low.Post is-low-Inv-loop is-low-μ-loop
-is-low-last-low-requires t c κs = (omega (arith, c .before .before .before .before .before .before .before .loop .inv .within, c .before .before .before .before .before .before .before .before .before .pre .0), record { low = record { here = record { indexed = c .before .before .before .before .before .before .before .before .before .pre .1 .here .indexed; within = omega (arith, c .before .before .before .before .before .before .before .loop .inv .within, c .before .before .before .before .before .before .before .before .before .pre .1 .here .within) }; clear = c .before .before .before .before .before .before .before .before .before .pre .1 .clear; room = omega (arith, c .before .before .before .before .before .before .loop-test .taken) }; begin = c .before .before .first-of .ensures ∙ ap firstOf (c .before .before .before .before .before .kind .ensures .0); all = omega (arith, some (c .before .operands-from .result) (c .if2 .left), c .before .operands-from .ensures .0) })
+is-low-last-low-requires t c κs = (omega (arith, c .before .before .before .before .before .before .before .loop .inv .within, c .before .before .before .before .before .before .before .before .before .pre .0), record { low = record { here = record { indexed = c .before .before .before .before .before .before .before .before .before .pre .1 .here .indexed; within = omega (arith, c .before .before .before .before .before .before .before .loop .inv .within, c .before .before .before .before .before .before .before .before .before .pre .1 .here .within) }; clear = c .before .before .before .before .before .before .before .before .before .pre .1 .clear; room = omega (arith, c .before .before .before .before .before .before .loop-test .taken) }; begin = c .before .before .first-of .ensures ∙ ap firstOf (c .before .before .before .before .before .kind .ensures .0); all = omega (arith, positive (c .before .operands-from .result) (c .if2 .left), c .before .operands-from .ensures .0) })
 
 is-low-returns-3 : (t : ℕ) → is-low-lts.Need-returns-3 (is-low-calls t) (is-low-at t) is-low.Post is-low-Inv-loop is-low-μ-loop
 is-low-returns-3 t c = down-high (records (c .before .before .before .before .before .before .before .before .before .before .before .args .table .now)) (c .before .before .before .before .before .before .before .before .before .before .before .pre .1 .clear) (c .before .before .before .before .before .before .before .before .before .before .before .args .r) (c .before .before .before .before .before .before .before .before .before .before .before .pre .1 .here .within) (c .before .before .before .before .before .before .before .before .before .before .before .args .most) (c .before .before .before .before .before .before .before .before .before .loop .q) (c .before .before .before .before .before .before .before .before .before .loop .room) (c .before .before .before .before .before .before .before .before .before .loop .inv) (c .before .before .before .before .before .before .before .before .before .loop .room - 1) (c .before .last-low .result) (omega (arith, c .before .before .before .before .before .before .before .before .loop-test .taken)) (c .before .last-low .ensures) (c .if3 .taken)
