@@ -172,7 +172,7 @@ fn leading_leaves(table: &[u8], index: &Index, count: usize) -> usize
 }
 
 // The lowest record that breaks rule 9; the number of records where none does. No record is higher than the last, nor than one more than there are
-// records from the first with operands on.
+// records from the first on that is no leaf.
 pub fn lowest9(table: &[u8], index: &Index, count: usize) -> usize
     requires { ⌜ KeepsRule6 (now table) (now index) count × (0 < count) ⌝ }
     ensures { λ p. ⌜ p ≡ lowestOf (fault9 (records (now (table .entry)))) count ⌝ }

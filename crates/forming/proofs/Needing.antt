@@ -6,7 +6,6 @@ use mathlib.Core.List.{List, [], _∷_}
 use Prim.Native.Nat.{ℕ, _+_, _%_, _≤_, _<_}
 use native.Mathlib.Omega.{arith}
 use lib.ListN.{length, getD}
-use lib.Seq.{getD-set-same}
 use Rattle.prelude.specs.Membership.{In}
 use Rattle.prelude.proofs.Absurd.{impossible}
 use Rattle.prelude.proofs.Truth.{by-lower}
@@ -15,7 +14,7 @@ use Rattle.integers.specs.declared.Order.{Order}
 use Rattle.integers.specs.declared.Order.the-variants.{Same}
 use Rattle.values.specs.Value.{Kind, set, Value, boolean, collection, order}
 use Rattle.values.proofs.Order.{order-refl}
-use Rattle.tables.specs.Record.{Record, named as operandsOf, operand, nameOf}
+use Rattle.tables.specs.Record.{named as operandsOf, operand}
 use Rattle.tables.specs.Table.{recordAt, kindAt}
 use Rattle.tables.specs.Accepted.{records}
 use Rattle.parts.specs.declared.Part.{Part}
@@ -23,20 +22,20 @@ use Rattle.parts.specs.Part.{PartIs, CellIs}
 use Rattle.parts.specs.Contract.{KindOfPart, CollectionHeld, CountOfPart, ItemHeld, ItemOfPart}
 use Rattle.parts.specs.Word.{unpacked, CellHeld, WordOf, WordHeld, OrderedWords}
 use Rattle.parts.proofs.Laws.{of-kind}
-use Rattle.patterns.specs.Binding.{free, is, Binding, names, nothing, only, cellOf}
+use Rattle.patterns.specs.Binding.{is, Binding, names, only, cellOf}
 use Rattle.patterns.specs.Pattern.{Pattern, name, each, halved, itemsOf}
 use Rattle.patterns.specs.Relation.{Matches, MatchesEach}
-use Rattle.patterns.specs.Read.{Readable, patternsOf, patternOf, patternAt}
-use Rattle.patterns.specs.Laws.Named.{shared-left, shared-right, permuted-in}
+use Rattle.patterns.specs.Read.{Readable, patternsOf, patternAt}
+use Rattle.patterns.specs.Laws.Named.{only-cell, shared-left, shared-right, permuted-in}
 use Rattle.patterns.specs.Laws.Chopped.{part-in}
-use Rattle.patterns.specs.Laws.Nodes.{is-name}
 use Rattle.matching.specs.Leaf.{Standing}
 use Rattle.matching.specs.Node.{innerOf}
-use Rattle.matching.proofs.Records.{name-small, by-record}
+use Rattle.matching.proofs.Records.{by-record}
 use Rattle.forming.specs.declared.needs.Asked.the-variants.{Nothing, Had, Lacked}
 use Rattle.forming.specs.Needs.{Unmatched, Lacks, NoMatch, NoneMatch, WordAt, TellsMember}
 use Rattle.forming.proofs.Compatible.{joined-left, joined-right, compatible-within}
 use Rattle.forming.proofs.Reducing.{items-same, is-two}
+use Rattle.forming.proofs.Sizing.{each-by}
 
 -- ---- a name among the parts is bound to one of the items
 
@@ -46,7 +45,7 @@ name-part [] ws a x l i m = absurd i
 name-part (p ∷ ps) [] a x l i m = absurd m
 name-part (p ∷ ps) (w ∷ ws) a x l (inl e) (c, d, m, n, j) =
     let o : c ≡ only x w = subst (λ (q : Pattern). Matches q w c) (sym e) m in
-    (w, inl refl, joined-left c d a j x l w (ap (λ (b : Binding). cellOf b x) o ∙ getD-set-same nothing x (is w) free l))
+    (w, inl refl, joined-left c d a j x l w (ap (λ (b : Binding). cellOf b x) o ∙ only-cell x w l))
 name-part (p ∷ ps) (w ∷ ws) a x l (inr i) (c, d, m, n, j) =
     let (t, k, e) = name-part ps ws d x l i n in
     (t, inr k, joined-right c d a j x l t e)
@@ -102,10 +101,6 @@ module _ (s : List ℕ) (part : Part) (word : ℕ) where
 
 -- ---- word_at
 
-module _ (table index : List ℕ) (p : ℕ) (h : Readable table index p) where
-  pub name-is : kindAt (records table) p ≡ 32 → (x : ℕ) → x ≡ nameOf (recordAt (records table) p) → (x < names) × (patternAt (records table) p ≡ name x)
-  name-is e x n = (omega (arith, n, name-small table index p h e), by-record table index p h ∙ is-name (recordAt (records table) p) (innerOf table p) e ∙ ap name (sym n))
-
 pub named-word : (table : List ℕ) (q : ℕ) (s found : List ℕ) → Standing s found → (word : ℕ) → WordAt table q found word → (word ≡ 0 → ⊥) → WordHeld s word
 named-word table q s found (b, st) word k f =
     let (x, l, e, w) = k f in
@@ -119,9 +114,6 @@ nothing-told e = impossible cc
 pub had-told : {A : Type 0} → Had ≡ Lacked → A
 had-told e = impossible cc
 
-set-pattern : (r : Record) (ps : List Pattern) → r .kind ≡ 37 → patternOf r ps ≡ each set (patternsOf ps)
-set-pattern r ps e = rw e refl
-
 module _ (table index : List ℕ) (p : ℕ) (h : Readable table index p) (s : List ℕ) (part : Part) (found : List ℕ) where
   pub names-lack : kindAt (records table) p ≡ 37 → (i : ℕ) → i < length (operandsOf (recordAt (records table) p)) → (q : ℕ) → q ≡ operand (recordAt (records table) p) i → (word : ℕ) → WordAt table q found word → (word ≡ 0 → ⊥)
       → (t : Bool) → TellsMember s part word t → t ≡ false → NoneMatch table p s part found
@@ -130,7 +122,7 @@ module _ (table index : List ℕ) (p : ℕ) (h : Readable table index p) (s : Li
       let among : In (name x) (innerOf table p) =
       subst (λ (y : Pattern). In y (innerOf table p)) (ap (patternAt (records table)) (sym qe) ∙ pe)
       (map-in (operand (recordAt (records table) p) i) (patternAt (records table)) (operandsOf (recordAt (records table) p)) (at-in (operandsOf (recordAt (records table) p)) i 0 l)) in
-      subst (λ (y : Pattern). Lacks b y vs) (sym (by-record table index p h ∙ set-pattern (recordAt (records table) p) (innerOf table p) e))
+      subst (λ (y : Pattern). Lacks b y vs) (sym (by-record table index p h ∙ each-by (recordAt (records table) p) (innerOf table p) 38 e (inl refl)))
       (⊎-elim (λ c. absurd (f (we ∙ st .blank x xl (c .0))))
       (λ (v, d, u). each-lacks b (innerOf table p) vs x xl among v d (m z vs v o (subst (λ (n : ℕ). PartIs s (unpacked n) v) (sym we) u)))
       (st .cells x xl))

@@ -23,7 +23,7 @@ use Rattle.tables.specs.Accepted.{records}
 use Rattle.parts.specs.Part.{PartIs}
 use Rattle.parts.specs.Word.{unpacked}
 use Rattle.patterns.specs.Binding.{Cell, free, is, clash, Binding, names, cellOf, agree, merge, consistent, withEach, together}
-use Rattle.patterns.specs.Pattern.{Pattern, any, matches}
+use Rattle.patterns.specs.Pattern.{Pattern, name, any, matches}
 use Rattle.patterns.specs.Laws.Named.{holdsNamed as named, namedEach, Told, told}
 use Rattle.patterns.specs.Laws.Matched.{in-together, together-in, matched, match-sized, merge-sized}
 use Rattle.prelude.proofs.Absurd.{true-false}
@@ -34,7 +34,7 @@ use Rattle.patterns.specs.Laws.Some.{some-halves}
 use Rattle.patterns.specs.Read.{Readable, patternsOf, patternOf, patternAt}
 use Rattle.matching.specs.Leaf.{Stands}
 use Rattle.matching.specs.Node.{innerOf}
-use Rattle.matching.proofs.Records.{by-record, inner-length, count-two, no-part}
+use Rattle.matching.proofs.Records.{by-record, inner-length, count-two, name-small, no-part}
 use Rattle.matching.proofs.Naming.{merge-cell, consistent-at}
 use Rattle.patterns.specs.Laws.Merging.{agree-free}
 use Rattle.forming.specs.Settled.{Settled, TellsSettled, HasWord}
@@ -42,6 +42,10 @@ use Rattle.forming.specs.Onward.{Task, task, matchesAll, onward, zipped}
 use Rattle.forming.specs.Laws.Onward.{onward-first}
 
 -- ---- the names of a pattern by its record
+
+-- a name's record has its number
+pub name-is : (table index : List ℕ) (p : ℕ) → Readable table index p → kindAt (records table) p ≡ 32 → (x : ℕ) → x ≡ nameOf (recordAt (records table) p) → (x < names) × (patternAt (records table) p ≡ name x)
+name-is table index p h e x n = (omega (arith, n, name-small table index p h e), by-record table index p h ∙ is-name (recordAt (records table) p) (innerOf table p) e ∙ ap name (sym n))
 
 composed-names : (r : Record) (ps : List Pattern) → isComposed (r .kind) ≡ true → (isHalved (r .kind) ≡ true → length ps ≡ 2) → (y : ℕ) → named (patternOf r ps) y ≡ namedEach (patternsOf ps) y
 unfolding named
@@ -66,8 +70,7 @@ module _ (table index : List ℕ) (p : ℕ) (r : Readable table index p) (m : Li
   unfolding named
   settled-name e x q t h = record {
     says = λ k.
-        subst (λ (w : Pattern). Settled w m) (sym (by-record table index p r ∙ is-name (recordAt (records table) p) (innerOf table p) e))
-        (λ y l n z. only-name (nameOf (recordAt (records table) p)) m (subst (λ (a : ℕ). getD m a 0 ≡ 0 → ⊥) q (h .says k)) y n z);
+        subst (λ (w : Pattern). Settled w m) (sym (name-is table index p r e x q .1)) (λ y l n z. only-name x m (h .says k) y n z);
     each = λ k c. true-false (sym c ∙ name-bare e);
   }
 

@@ -8,7 +8,7 @@ use native.Mathlib.Nat.{pow-suc}
 use native.Mathlib.Omega.{arith}
 use lib.Count.{ones, ones-cat, ones-ones, ones-step}
 use lib.ListN.{length, getD, take, drop, length-append, length-drop}
-use lib.Seq.{length-take-le, getD-set-same}
+use lib.Seq.{length-take-le}
 use Rattle.prelude.proofs.Truth.{or-false-left, or-false-right}
 use Rattle.values.specs.Value.{Kind, set, sequence, map as mapping, tuple, number, Value, collection}
 use Rattle.tables.specs.Record.{Record, named as operandsOf, operand, nameOf}
@@ -23,23 +23,24 @@ use Rattle.parts.specs.Chosen.{splitAt}
 use Rattle.parts.specs.Laws.Chosen.{proper-length, cuts-length, nth-proper, nth-cut}
 use Rattle.patterns.specs.Laws.Units.{shared-length}
 use Rattle.patterns.specs.Ways.{Halves, halves}
-use Rattle.patterns.specs.Binding.{free, is, Binding, names, nothing, cellOf}
+use Rattle.patterns.specs.Binding.{is, Binding, names, cellOf}
 use Rattle.patterns.specs.Pattern.{Pattern, name, each, halved, itemsOf, divisions}
 use Rattle.patterns.specs.Relation.{Divided, Matches}
 use Rattle.prelude.proofs.Absurd.{true-false}
 use Rattle.patterns.specs.Nodes.{collectionOf}
-use Rattle.patterns.specs.Laws.Nodes.{parts-length, is-name}
+use Rattle.patterns.specs.Laws.Named.{only-cell}
+use Rattle.patterns.specs.Laws.Nodes.{parts-length}
 use Rattle.patterns.specs.Read.{Readable, patternsOf, patternOf, patternAt}
 use Rattle.matching.specs.Leaf.{Stands, Standing}
 use Rattle.matching.specs.Node.{innerOf}
-use Rattle.matching.proofs.Records.{by-record, inner-length, name-small}
+use Rattle.matching.proofs.Records.{by-record, inner-length}
 use Rattle.forming.specs.declared.sizes.Size.{Size}
 use Rattle.forming.specs.declared.sizes.Sizes.{Sizes}
 use Rattle.forming.specs.declared.sizes.Range.{Range}
 use Rattle.forming.specs.Sizes.{Splits, enumerationOf, fewestOf, Sized, SizeOfValue, Takes, TellsSize, Sum, TellsSizes, Rights, FirstOf, SplitFrom, CutFrom, Divisible, halfAt, From}
 use Rattle.forming.proofs.Compatible.{joined-left, joined-right, compatible-within}
 use Rattle.forming.proofs.Reducing.{items-same, is-two}
-use Rattle.forming.proofs.Settling.{has-value}
+use Rattle.forming.proofs.Settling.{name-is, has-value}
 
 -- ---- two sizes together
 
@@ -108,9 +109,9 @@ takes-halved st k i held l r x y z a b s vs c low (us, ls, rs, e, f, d, g, m, n,
 takes-name : (st : Binding) (k : Kind) (i x : ℕ) → x < names → (w : Value) → cellOf st x ≡ is w → (z : Size) → ((vs : List Value) → w ≡ collection k (itemsOf vs) → Sized z (length vs)) → Takes st k i (name x) z
 unfolding Matches
 takes-name st k i x l w e z h vs a low m o =
-    h vs (o x l w (collection k (itemsOf vs)) e (ap (λ (b : Binding). cellOf b x) m ∙ getD-set-same nothing x (is (collection k (itemsOf vs))) free l))
+    h vs (o x l w (collection k (itemsOf vs)) e (ap (λ (b : Binding). cellOf b x) m ∙ only-cell x (collection k (itemsOf vs)) l))
 
-each-by : (r : Record) (ps : List Pattern) (c : ℕ) → r .kind ≡ enumerationOf c → Splits c → patternOf r ps ≡ each (collectionOf c) (patternsOf ps)
+pub each-by : (r : Record) (ps : List Pattern) (c : ℕ) → r .kind ≡ enumerationOf c → Splits c → patternOf r ps ≡ each (collectionOf c) (patternsOf ps)
 each-by r ps c e (inl f) = let d : r .kind ≡ 37 = e ∙ ap enumerationOf f in rw (d, f) refl
 each-by r ps c e (inr f) = let d : r .kind ≡ 39 = e ∙ ap enumerationOf f in rw (d, f) refl
 
@@ -125,9 +126,9 @@ module _ (table index : List ℕ) (p : ℕ) (h : Readable table index p) (c : �
 
   pub size-name : kindAt (records table) p ≡ 32 → (s found : List ℕ) (x : ℕ) → x ≡ nameOf (recordAt (records table) p) → (getD found x 0 ≡ 0 → ⊥) → (z : Size) → SizeOfValue s (getD found x 0) c z → (st : Binding) → Stands s found st → TellsSize table st p c z
   size-name e s found x q f z t st k =
-      let l : x < names = omega (arith, name-small table index p h e, q) in
+      let (l, n) = name-is table index p h e x q in
       let (w, d, i) = has-value s found st k x l f in
-      subst (λ (q : Pattern). Takes st (collectionOf c) (fewestOf c) q z) (sym (by-record table index p h ∙ is-name (recordAt (records table) p) (innerOf table p) e ∙ ap name (sym q)))
+      subst (λ (q : Pattern). Takes st (collectionOf c) (fewestOf c) q z) (sym n)
       (takes-name st (collectionOf c) (fewestOf c) x l w d z (λ vs g. t vs (subst (PartIs s (unpacked (getD found x 0))) g i)))
 
   module _ (e : kindAt (records table) p ≡ c) (l : ℕ) (el : l ≡ operand (recordAt (records table) p) 0) (r : ℕ) (er : r ≡ operand (recordAt (records table) p) 1) (x y : Size) (st : Binding) (tx : TellsSize table st l c x) (ty : TellsSize table st r c y) where
@@ -175,7 +176,7 @@ pub first-none : (f : ℕ → ℕ) (w d : ℕ) (r : Range) → FirstOf f w d r d
 first-none f w d r = record { low = omega arith; within = λ l. l; passed = λ j l m. absurd (omega arith) }
 
 -- no way gives so many
-pub first-past : (f : ℕ → ℕ) (w d : ℕ) (r : Range) → d ≤ w → r .most < r .least → FirstOf f w d r w
+first-past : (f : ℕ → ℕ) (w d : ℕ) (r : Range) → d ≤ w → r .most < r .least → FirstOf f w d r w
 first-past f w d r l m = record { low = l; within = λ k. omega arith; passed = λ j a b x y. omega arith }
 
 pub first-more : (f : ℕ → ℕ) (w d : ℕ) (r : Range) (e : ℕ) → FirstOf f w d r e → e < w → (r .least ≤ f e → f e ≤ r .most → ⊥) → FirstOf f w d r (e + 1)

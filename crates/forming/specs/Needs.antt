@@ -1,6 +1,6 @@
 -- What the names that have a value ask of a set that a pattern meets.
 use mathlib.Core.Path.{_≡_}
-use mathlib.Core.Bool.{Bool, false}
+use mathlib.Core.Bool.{Bool, true, false}
 use mathlib.Core.List.{List}
 use Prim.Native.Nat.{ℕ, _≤_, _<_}
 use lib.ListN.{length, getD}
@@ -16,7 +16,7 @@ use Rattle.patterns.specs.Relation.{Matches}
 use Rattle.patterns.specs.Read.{Readable, patternAt}
 use Rattle.matching.specs.Leaf.{Stands, Standing}
 use Rattle.forming.specs.declared.needs.Asked.{Asked}
-use Rattle.forming.specs.declared.needs.Asked.the-variants.{Lacked}
+use Rattle.forming.specs.declared.needs.Asked.the-variants.{Nothing, Had, Lacked}
 use Rattle.forming.specs.Compatible.{Compatible}
 
 -- The pattern matches the value with no values that are compatible with the binding.
@@ -50,6 +50,12 @@ TellsLacked table p s part found r = r ≡ Lacked → NoneMatch table p s part f
 
 abbrev pub TellsFit : List ℕ → ℕ → List ℕ → Part → List ℕ → Bool → Type 0
 TellsFit table p s part found r = r ≡ false → NoMatch table p s part found
+
+-- Members were asked for, and the set has them.
+abbrev pub isHad : Asked → Bool
+isHad Nothing = false
+isHad Had = true
+isHad Lacked = false
 
 -- Where r is not 0, the pattern is a name and r is its word.
 abbrev pub WordAt : List ℕ → ℕ → List ℕ → ℕ → Type 0

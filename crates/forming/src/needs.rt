@@ -20,7 +20,7 @@ ghost use Rattle.parts.specs.Part.{PartHeld};
 ghost use Rattle.parts.specs.Contract.{CollectionHeld};
 ghost use Rattle.parts.specs.Word.{unpacked, WordHeld};
 ghost use Rattle.patterns.specs.Read.{Readable};
-ghost use Rattle.forming.specs.Needs.{AskHeld, TellsAsked, TellsLacked, TellsFit, WordAt, TellsMember};
+ghost use Rattle.forming.specs.Needs.{AskHeld, isHad, TellsAsked, TellsLacked, TellsFit, WordAt, TellsMember};
 
 // What the names that have a value ask of a set that a pattern meets: nothing, members that it has, or one that it lacks.
 pub enum Asked {
@@ -168,12 +168,15 @@ pub fn asked_by_union(
     asked_by_pattern(table, index, p, s, part, found)
 }
 
-// Members were asked for.
-pub fn is_had(a: Asked) -> bool {
-    if let Asked::Had = a {
-        return true;
+// Members were asked for, and the set has them.
+pub fn is_had(a: Asked) -> bool
+    ensures { λ r. ⌜ r ≡ isHad a ⌝ }
+{
+    match a {
+        Asked::Nothing => false,
+        Asked::Had => true,
+        Asked::Lacked => false,
     }
-    false
 }
 
 // The part has what the pattern asks of it, where this is asked.

@@ -26,7 +26,7 @@ use Rattle.patterns.specs.Laws.Matched.{matched}
 nothing-cell : (y : ℕ) → y < names → cellOf nothing y ≡ free
 nothing-cell y h = getD-replicate names y free free h
 
-only-cell : (x : ℕ) (v : Value) → x < names → cellOf (only x v) x ≡ is v
+pub only-cell : (x : ℕ) (v : Value) → x < names → cellOf (only x v) x ≡ is v
 only-cell x v h = getD-set-same nothing x (is v) free h
 
 only-other : (x y : ℕ) (v : Value) → (x ≡ y → ⊥) → y < names → cellOf (only x v) y ≡ free

@@ -1,7 +1,7 @@
 use mathlib.Core.Path.{refl, sym, _∙_}
 use native.Mathlib.Omega.{arith}
 use Rattle.matching.proofs.Records.{name-field}
-use Rattle.forming.proofs.Needing.{name-is}
+use Rattle.forming.proofs.Settling.{name-is}
 use borrow.Author.Needs.{needs}
 use Rattle.forming.proofs.needs.word_at.Statement.{statement}
 use Rattle.forming.proofs.needs.word_at.Tie as tie
