@@ -10,12 +10,13 @@ use lib.Dec.{eqb, ltb, leb}
 use lib.ListN.{length, getD, drop}
 use lib.Seq.{drop-cons, drop-length}
 use Rattle.prelude.proofs.Truth.{by-lower, both-ways, implied}
-use Rattle.tables.specs.Record.{Record, shape, isLeaf, isFit, named, operand}
+use Rattle.tables.specs.Record.{Record, lastKind, shape, isLeaf, isFit, named, operand}
 use Rattle.tables.specs.Shapes.{firstOf}
 use Rattle.tables.specs.Table.{recordAt, kindAt}
 use Rattle.tables.specs.Sheet.{lowest, greatest, height}
 use Rattle.tables.specs.Check.{mostHeight, fault9}
-use Rattle.tables.specs.Laws.Tests.{each, low, low-same}
+use Rattle.tables.specs.Laws.Tests.{low, low-same}
+use Rattle.tables.specs.Laws.Kinds.{each-kind}
 use Rattle.tables.specs.Laws.Through.{EachTo, each-start, each-next}
 use Rattle.tables.specs.Laws.Operands.{greatest-most}
 use Rattle.tables.specs.Laws.Accepted.{Clear6, fit-kind, operand-lower, height-at, height-operand}
@@ -27,21 +28,21 @@ use Rattle.checking.proofs.Reaching.{from-last}
 -- ---- kinds
 
 -- Where the operands of a kind begin that is no leaf's.
-inner-first : (k : ℕ) → isLeaf k ≡ false → k ≤ 40 → firstOf k ≡ cond (ltb k 6) 5 4
+inner-first : (k : ℕ) → isLeaf k ≡ false → k ≤ lastKind → firstOf k ≡ cond (ltb k 6) 5 4
 unfolding shape
 inner-first k e h =
-    eqb-true (firstOf k) (cond (ltb k 6) 5 4) (rw e at (each (λ k. isLeaf k || eqb (firstOf k) (cond (ltb k 6) 5 4)) 41 refl k (omega arith)))
+    eqb-true (firstOf k) (cond (ltb k 6) 5 4) (rw e at (each-kind (λ k. isLeaf k || eqb (firstOf k) (cond (ltb k 6) 5 4)) refl k h))
 
-pub first-operator : (k : ℕ) → isLeaf k ≡ false → k ≤ 40 → k < 6 → 5 ≡ firstOf k
+pub first-operator : (k : ℕ) → isLeaf k ≡ false → k ≤ lastKind → k < 6 → 5 ≡ firstOf k
 first-operator k e h l = sym (inner-first k e h ∙ rw (lt-ltb k 6 l))
 
-pub first-other : (k : ℕ) → isLeaf k ≡ false → k ≤ 40 → 6 ≤ k → 4 ≡ firstOf k
+pub first-other : (k : ℕ) → isLeaf k ≡ false → k ≤ lastKind → 6 ≤ k → 4 ≡ firstOf k
 first-other k e h l = sym (inner-first k e h ∙ rw (le-ltb k 6 l))
 
 leaf-operands : (x : Record) → isFit x ≡ true → isLeaf (x .kind) ≡ true → length (named x) ≡ 0
 unfolding shape
 leaf-operands x fit e =
-    let none : length (shape (x .kind) .roles) ≡ 0 = eqb-true _ 0 (implied (isLeaf (x .kind)) _ (each (λ k. not (isLeaf k) || eqb (length (shape k .roles)) 0) 41 refl (x .kind) (omega (arith, fit-kind x fit))) e) in
+    let none : length (shape (x .kind) .roles) ≡ 0 = eqb-true _ 0 (implied (isLeaf (x .kind)) _ (each-kind (λ k. not (isLeaf k) || eqb (length (shape k .roles)) 0) refl (x .kind) (fit-kind x fit)) e) in
     omega (arith, roles-many x)
 
 -- ---- the first leaves

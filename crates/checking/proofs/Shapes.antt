@@ -12,10 +12,10 @@ use Rattle.prelude.proofs.Absurd.{never}
 use Rattle.prelude.proofs.Truth.{by-test, by-lower, implied}
 use Rattle.tables.specs.declared.Role.{Role}
 use Rattle.tables.specs.declared.Role.the-variants.{Plain, Condition, Body, Pattern, Name}
-use Rattle.tables.specs.Record.{Record, shape, size, headOf, isExpression, isPattern, isFit, operands, named, roleAt}
+use Rattle.tables.specs.Record.{Record, lastKind, shape, size, headOf, isExpression, isPattern, isFit, operands, named, roleAt}
 use Rattle.tables.specs.Sheet.{any, isBinder}
 use Rattle.tables.specs.Laws.Tests.{each}
-use Rattle.tables.specs.Laws.Kinds.{not-loose, pattern-kinds, binder-most, pattern-least}
+use Rattle.tables.specs.Laws.Kinds.{each-kind, not-loose, pattern-kinds, binder-most, pattern-least}
 use Rattle.tables.specs.Shapes.{binderRole}
 use Rattle.tables.specs.Laws.Roles.{roleBy, role-by, binder-later}
 use Rattle.tables.specs.Laws.Operands.{operands-few, isFirst, binder-roles}
@@ -28,9 +28,9 @@ use Rattle.checking.proofs.Below.{own-none}
 pub binder-expression : (k : ℕ) → isBinder k ≡ true → isPattern k ≡ false
 binder-expression k e = by-test {P = isPattern k ≡ false} (isPattern k) (λ f. absurd (omega (arith, binder-most k e, pattern-least k f))) (λ f. f)
 
--- A kind of at most 40 that is no pattern's is below 32.
-pub plain-low : (k : ℕ) → k ≤ 40 → isPattern k ≡ false → k < 32
-plain-low k h e = by-lower k 32 (λ l. l) (λ l. never (sym e ∙ pattern-kinds k ∙ rw (le-leb 32 k l, le-leb k 40 h)))
+-- A kind that is no pattern's is below 32.
+pub plain-low : (k : ℕ) → k ≤ lastKind → isPattern k ≡ false → k < 32
+plain-low k h e = by-lower k 32 (λ l. l) (λ l. never (sym e ∙ pattern-kinds k ∙ rw (le-leb 32 k l, le-leb k lastKind h)))
 
 -- ---- what operands are for
 
@@ -66,10 +66,7 @@ module _ (x : Record) (fit : isFit x ≡ true) where
 
 pub expression-own : (x : Record) → isPattern (x .kind) ≡ false → 0 ≡ own x
 unfolding shape
-expression-own x e = own-none x (other 32 refl) (not-loose (x .kind) (other 37 refl) (other 38 refl) (other 40 refl))
-  where
-    other : (n : ℕ) → isPattern n ≡ true → x .kind ≡ n → ⊥
-    other n f same = never (sym e ∙ ap isPattern same ∙ f)
+expression-own x e = own-none x (λ same. never (sym e ∙ ap isPattern same)) (not-loose (x .kind) e)
 
 -- A literal, a name that is read and any have no operands, hold nothing and bind nothing.
 abbrev pub NoOperand : ℕ → Type 0
@@ -102,10 +99,10 @@ unfolding shape
 sort-any k e = subst (λ (j : ℕ). 2 ≡ sortOf j) (sym e) refl
 
 -- A record of the sort that a role asks for.
-expression-plain : (k : ℕ) → k ≤ 40 → isExpression k ≡ true → isPattern k ≡ false
+expression-plain : (k : ℕ) → k ≤ lastKind → isExpression k ≡ true → isPattern k ≡ false
 unfolding shape
 expression-plain k h e =
-    not-true (isPattern k) (implied (isExpression k) (not (isPattern k)) (each (λ k. not (isExpression k) || not (isPattern k)) 41 refl k (omega arith)) e)
+    not-true (isPattern k) (implied (isExpression k) (not (isPattern k)) (each-kind (λ k. not (isExpression k) || not (isPattern k)) refl k h) e)
 
 expression-sort : (x : Record) → isFit x ≡ true → isExpression (x .kind) ≡ true → sortOf (x .kind) ≡ 1
 expression-sort x fit e = rw (expression-plain (x .kind) (fit-kind x fit) e)

@@ -1,4 +1,4 @@
--- Members that names ask for: a set that lacks one is not matched.
+-- Items that names ask for: a set or map that lacks one is not matched.
 use mathlib.Core.Path.{_≡_, refl, sym, ap, subst, _∙_}
 use mathlib.Core.Bool.{Bool, true, false}
 use mathlib.Core.Logic.{inl, inr, ⊎-elim}
@@ -12,7 +12,7 @@ use Rattle.prelude.proofs.Truth.{by-lower}
 use Rattle.prelude.proofs.Membership.{in-at, at-in, map-in}
 use Rattle.integers.specs.declared.Order.{Order}
 use Rattle.integers.specs.declared.Order.the-variants.{Same}
-use Rattle.values.specs.Value.{Kind, set, Value, boolean, collection, order}
+use Rattle.values.specs.Value.{Kind, number, Value, boolean, collection, order}
 use Rattle.values.proofs.Order.{order-refl}
 use Rattle.tables.specs.Record.{named as operandsOf, operand}
 use Rattle.tables.specs.Table.{recordAt, kindAt}
@@ -23,16 +23,20 @@ use Rattle.parts.specs.Contract.{KindOfPart, CollectionHeld, CountOfPart, ItemH
 use Rattle.parts.specs.Word.{unpacked, CellHeld, WordOf, WordHeld, OrderedWords}
 use Rattle.parts.proofs.Laws.{of-kind}
 use Rattle.patterns.specs.Binding.{is, Binding, names, only, cellOf}
-use Rattle.patterns.specs.Pattern.{Pattern, name, each, halved, itemsOf}
-use Rattle.patterns.specs.Relation.{Matches, MatchesEach}
+use Rattle.patterns.specs.Units.{Permuted}
+use Rattle.patterns.specs.Pattern.{Pattern, name, each, halved, itemsOf, UnitOf, unitsOf, itemsIn, isUnordered}
+use Rattle.patterns.specs.Relation.{Divided, Matches, MatchesEach}
+use Rattle.patterns.specs.Nodes.{collectionOf}
 use Rattle.patterns.specs.Read.{Readable, patternsOf, patternAt}
-use Rattle.patterns.specs.Laws.Named.{only-cell, shared-left, shared-right, permuted-in}
-use Rattle.patterns.specs.Laws.Chopped.{part-in}
+use Rattle.patterns.specs.Laws.Collected.{arranged-units, divided-units}
+use Rattle.patterns.specs.Laws.Named.{only-cell, PartOf, shared-left, shared-right, part-in, part-items, arranged-in}
 use Rattle.matching.specs.Leaf.{Standing}
-use Rattle.matching.specs.Node.{innerOf}
+use Rattle.matching.specs.Node.{isSplit, innerOf}
+use Rattle.matching.proofs.Counting.{split-kind}
 use Rattle.matching.proofs.Records.{by-record}
 use Rattle.forming.specs.declared.needs.Asked.the-variants.{Nothing, Had, Lacked}
-use Rattle.forming.specs.Needs.{Unmatched, Lacks, NoMatch, NoneMatch, WordAt, TellsMember}
+use Rattle.forming.specs.Needs.{Unmatched, Lacks, NoMatch, NoneMatch, WordAt, TellsItem}
+use Rattle.forming.specs.Sizes.{Splits, enumerationOf}
 use Rattle.forming.proofs.Compatible.{joined-left, joined-right, compatible-within}
 use Rattle.forming.proofs.Reducing.{items-same, is-two}
 use Rattle.forming.proofs.Sizing.{each-by}
@@ -50,34 +54,52 @@ name-part (p ∷ ps) (w ∷ ws) a x l (inr i) (c, d, m, n, j) =
     let (t, k, e) = name-part ps ws d x l i n in
     (t, inr k, joined-right c d a j x l t e)
 
--- THEOREM: an enumeration that names a member which is not there matches no set of some of the members
-each-lacks : (b : Binding) (ps : List Pattern) (vs : List Value) (x : ℕ) → x < names → In (name x) ps → (v : Value) → cellOf b x ≡ is v → (In v vs → ⊥) → Lacks b (each set (patternsOf ps)) vs
+-- THEOREM: an enumeration that names an item which is not there matches no set or map of some of the items
+each-lacks : (b : Binding) (k : Kind) (ps : List Pattern) (vs : List Value) (x : ℕ) → x < names → In (name x) ps → (v : Value) → cellOf b x ≡ is v → (In v vs → ⊥) → Lacks b k (each k (patternsOf ps)) vs
 unfolding Matches
-each-lacks b ps vs x l i v e f ts g a (us, ws, d, n, h, m) c =
-    let (t, k, q) = name-part ps ws a x l i m in
+each-lacks b k ps vs x l i v e f ts g a (us, ws, d, n, h, m) c =
+    let (t, j, q) = name-part ps ws a x l i m in
     let same : v ≡ t = c x l v t e q in
-    f (subst (λ (z : Value). In z vs) (sym same) (g t (subst (In t) (sym (items-same set ts us d)) (permuted-in t us ws h k))))
+    f (subst (λ (z : Value). In z vs) (sym same) (g t (subst (In t) (sym (items-same k ts us d)) (arranged-in k t us ws h j))))
 
--- a union lacks what a half of it lacks
-left-half : (b : Binding) (p q : Pattern) (vs : List Value) → Lacks b p vs → Lacks b (halved set p q) vs
+-- ---- a half has items of the whole alone
+
+permuted-self : {A : Type 0} (xs : List A) → Permuted xs xs
+permuted-self [] = refl
+permuted-self (x ∷ xs) = (xs, permuted-self xs, ([], xs, refl, refl))
+
+module _ (k : Kind) (u : isUnordered k ≡ true) (vs : List Value) where
+  part-of : (ls : List Value) (ms : List (UnitOf k)) → PartOf ms (unitsOf k vs) → ls ≡ itemsIn k ms → (t : Value) → In t ls → In t vs
+  part-of ls ms p e t i =
+      arranged-in k t vs (itemsIn k (unitsOf k vs)) (arranged-units k u vs (itemsIn k (unitsOf k vs)) .1 (unitsOf k vs, permuted-self (unitsOf k vs), refl))
+      (part-in (itemsIn k ms) (itemsIn k (unitsOf k vs)) (part-items k ms (unitsOf k vs) p) t (subst (In t) e i))
+
+  left-in : (ls rs : List Value) → Divided k vs ls rs → (t : Value) → In t ls → In t vs
+  left-in ls rs h = let (ms, ns, (s, l, r), d, e) = divided-units k u vs ls rs .0 h in part-of ls ms (shared-left (unitsOf k vs) ms ns s) d
+
+  right-in : (ls rs : List Value) → Divided k vs ls rs → (t : Value) → In t rs → In t vs
+  right-in ls rs h = let (ms, ns, (s, l, r), d, e) = divided-units k u vs ls rs .0 h in part-of rs ns (shared-right (unitsOf k vs) ms ns s) e
+
+-- a union or munion lacks what a half of it lacks
+left-half : (b : Binding) (k : Kind) → isUnordered k ≡ true → (p q : Pattern) (vs : List Value) → Lacks b k p vs → Lacks b k (halved k p q) vs
 unfolding Matches
-left-half b p q vs f ts g a (us, ls, rs, c, d, e, (s, k, r), m, n, j) h =
-    f ls (λ t i. g t (subst (In t) (sym (items-same set ts us e)) (part-in ls us (shared-left us ls rs s) t i))) c m (compatible-within c a b (joined-left c d a j) h)
+left-half b k u p q vs f ts g a (us, ls, rs, c, d, e, s, m, n, j) h =
+    f ls (λ t i. g t (subst (In t) (sym (items-same k ts us e)) (left-in k u us ls rs s t i))) c m (compatible-within c a b (joined-left c d a j) h)
 
-right-half : (b : Binding) (p q : Pattern) (vs : List Value) → Lacks b q vs → Lacks b (halved set p q) vs
+right-half : (b : Binding) (k : Kind) → isUnordered k ≡ true → (p q : Pattern) (vs : List Value) → Lacks b k q vs → Lacks b k (halved k p q) vs
 unfolding Matches
-right-half b p q vs f ts g a (us, ls, rs, c, d, e, (s, k, r), m, n, j) h =
-    f rs (λ t i. g t (subst (In t) (sym (items-same set ts us e)) (part-in rs us (shared-right us ls rs s) t i))) d n (compatible-within d a b (joined-right c d a j) h)
+right-half b k u p q vs f ts g a (us, ls, rs, c, d, e, s, m, n, j) h =
+    f rs (λ t i. g t (subst (In t) (sym (items-same k ts us e)) (right-in k u us ls rs s t i))) d n (compatible-within d a b (joined-right c d a j) h)
 
--- ---- has_member
+-- ---- has_item
 
--- None of the first k members has the value of the word.
+-- None of the first n items has the value of the word.
 abbrev pub NoneTo : List ℕ → Part → ℕ → ℕ → Type 0
-NoneTo s part word k = (vs : List Value) (v : Value) → PartIs s part (collection set (itemsOf vs)) → PartIs s (unpacked word) v → (j : ℕ) → j < k → v ≡ getD vs j (boolean true) → ⊥
+NoneTo s part word n = (k : Kind) (vs : List Value) (v : Value) → PartIs s part (collection k (itemsOf vs)) → PartIs s (unpacked word) v → (j : ℕ) → j < n → v ≡ getD vs j (boolean true) → ⊥
 
 module _ (s : List ℕ) (part : Part) (word : ℕ) where
-  pub none-end : (n : ℕ) → CountOfPart s part n → (k : ℕ) → n ≤ k → NoneTo s part word k → TellsMember s part word false
-  none-end n c k l h e vs v p q i = let (j, m, d) = in-at v vs (boolean true) i in h vs v p q j (omega (arith, m, c set vs p)) d
+  pub none-end : (n : ℕ) → CountOfPart s part n → (k : ℕ) → n ≤ k → NoneTo s part word k → TellsItem s part word false
+  none-end n c k l h e kind vs v p q i = let (j, m, d) = in-at v vs (boolean true) i in h kind vs v p q j (omega (arith, m, c kind vs p)) d
 
   pub item-asked : length s ≤ 65536 → (h : CollectionHeld s part) (n : ℕ) → CountOfPart s part n → (k : ℕ) → k < n → ItemHeld s part k
   item-asked l h n c k m = record { kind = h .kind; items = h .items; here = h .here; below = omega (arith, m, c (h .kind) (h .items) (h .here)); short = l }
@@ -94,10 +116,10 @@ module _ (s : List ℕ) (part : Part) (word : ℕ) where
       item-word h = record { cell = is (getD (h .items) k (boolean true)); is = o .is (is (getD (h .items) k (boolean true))) (item-cell (h .kind) (h .items) (h .here)); blank = o .blank }
 
       pub none-more : (c : Order) → OrderedWords s word w c → (c ≡ Same → ⊥) → NoneTo s part word k → NoneTo s part word (k + 1)
-      none-more c d f h vs v p q j l =
-          by-lower j k (λ n. h vs v p q j n) (λ n e.
+      none-more c d f h kind vs v p q j l =
+          by-lower j k (λ n. h kind vs v p q j n) (λ n e.
           let x : v ≡ getD vs k (boolean true) = let i : j ≡ k = omega arith in e ∙ ap (λ (y : ℕ). getD vs y (boolean true)) i in
-          f (d (is v) (is (getD vs k (boolean true))) (inr (v, refl, q)) (o .is (is (getD vs k (boolean true))) (item-cell set vs p)) ∙ ap (order v) (sym x) ∙ order-refl v))
+          f (d (is v) (is (getD vs k (boolean true))) (inr (v, refl, q)) (o .is (is (getD vs k (boolean true))) (item-cell kind vs p)) ∙ ap (order v) (sym x) ∙ order-refl v))
 
 -- ---- word_at
 
@@ -115,32 +137,36 @@ pub had-told : {A : Type 0} → Had ≡ Lacked → A
 had-told e = impossible cc
 
 module _ (table index : List ℕ) (p : ℕ) (h : Readable table index p) (s : List ℕ) (part : Part) (found : List ℕ) where
-  pub names-lack : kindAt (records table) p ≡ 37 → (i : ℕ) → i < length (operandsOf (recordAt (records table) p)) → (q : ℕ) → q ≡ operand (recordAt (records table) p) i → (word : ℕ) → WordAt table q found word → (word ≡ 0 → ⊥)
-      → (t : Bool) → TellsMember s part word t → t ≡ false → NoneMatch table p s part found
-  names-lack e i l q qe word k f t m z vs b o st =
+  pub names-lack : (c : ℕ) → Splits c → kindAt (records table) p ≡ enumerationOf c → (i : ℕ) → i < length (operandsOf (recordAt (records table) p)) → (q : ℕ) → q ≡ operand (recordAt (records table) p) i → (word : ℕ) → WordAt table q found word → (word ≡ 0 → ⊥)
+      → (t : Bool) → TellsItem s part word t → t ≡ false → NoneMatch table p c s part found
+  names-lack c u e i l q qe word k f t m z vs b o st =
       let (x, xl, pe, we) = k f in
       let among : In (name x) (innerOf table p) =
       subst (λ (y : Pattern). In y (innerOf table p)) (ap (patternAt (records table)) (sym qe) ∙ pe)
       (map-in (operand (recordAt (records table) p) i) (patternAt (records table)) (operandsOf (recordAt (records table) p)) (at-in (operandsOf (recordAt (records table) p)) i 0 l)) in
-      subst (λ (y : Pattern). Lacks b y vs) (sym (by-record table index p h ∙ each-by (recordAt (records table) p) (innerOf table p) 38 e (inl refl)))
-      (⊎-elim (λ c. absurd (f (we ∙ st .blank x xl (c .0))))
-      (λ (v, d, u). each-lacks b (innerOf table p) vs x xl among v d (m z vs v o (subst (λ (n : ℕ). PartIs s (unpacked n) v) (sym we) u)))
+      subst (λ (y : Pattern). Lacks b (collectionOf c) y vs) (sym (by-record table index p h ∙ each-by (recordAt (records table) p) (innerOf table p) c e u))
+      (⊎-elim (λ n. absurd (f (we ∙ st .blank x xl (n .0))))
+      (λ (v, d, g). each-lacks b (collectionOf c) (innerOf table p) vs x xl among v d (m z (collectionOf c) vs v o (subst (λ (n : ℕ). PartIs s (unpacked n) v) (sym we) g)))
       (st .cells x xl))
 
-  module _ (e : kindAt (records table) p ≡ 38) where
-    two : patternAt (records table) p ≡ halved set (patternAt (records table) (operand (recordAt (records table) p) 0)) (patternAt (records table) (operand (recordAt (records table) p) 1))
-    two = is-two table index p h 38 e (inl refl)
+  module _ (c : ℕ) (u : isSplit c ≡ true) (e : kindAt (records table) p ≡ c) where
+    two : patternAt (records table) p ≡ halved (collectionOf c) (patternAt (records table) (operand (recordAt (records table) p) 0)) (patternAt (records table) (operand (recordAt (records table) p) 1))
+    two = is-two table index p h c e (split-kind c u .0)
 
-    pub left-lack : (l : ℕ) → l ≡ operand (recordAt (records table) p) 0 → NoneMatch table l s part found → NoneMatch table p s part found
-    left-lack l q f vs b o st = subst (λ (y : Pattern). Lacks b y vs) (sym two) (left-half b _ _ vs (subst (λ (n : ℕ). Lacks b (patternAt (records table) n) vs) q (f vs b o st)))
+    pub left-lack : (l : ℕ) → l ≡ operand (recordAt (records table) p) 0 → NoneMatch table l c s part found → NoneMatch table p c s part found
+    left-lack l q f vs b o st =
+        subst (λ (y : Pattern). Lacks b (collectionOf c) y vs) (sym two)
+        (left-half b (collectionOf c) (split-kind c u .1) _ _ vs (subst (λ (n : ℕ). Lacks b (collectionOf c) (patternAt (records table) n) vs) q (f vs b o st)))
 
-    pub right-lack : (r : ℕ) → r ≡ operand (recordAt (records table) p) 1 → NoneMatch table r s part found → NoneMatch table p s part found
-    right-lack r q f vs b o st = subst (λ (y : Pattern). Lacks b y vs) (sym two) (right-half b _ _ vs (subst (λ (n : ℕ). Lacks b (patternAt (records table) n) vs) q (f vs b o st)))
+    pub right-lack : (r : ℕ) → r ≡ operand (recordAt (records table) p) 1 → NoneMatch table r c s part found → NoneMatch table p c s part found
+    right-lack r q f vs b o st =
+        subst (λ (y : Pattern). Lacks b (collectionOf c) y vs) (sym two)
+        (right-half b (collectionOf c) (split-kind c u .1) _ _ vs (subst (λ (n : ℕ). Lacks b (collectionOf c) (patternAt (records table) n) vs) q (f vs b o st)))
 
--- all members are some of them
-pub whole-lacks : (table : List ℕ) (p : ℕ) (s : List ℕ) (part : Part) (found : List ℕ) (k : ℕ) → KindOfPart s part k → k ≡ 3 → NoneMatch table p s part found → NoMatch table p s part found
-whole-lacks table p s part found k o e f v b h st =
-    let (vs, d) = of-kind set v (sym (o v h) ∙ e) in
+-- all items are some of them
+pub whole-lacks : (table : List ℕ) (p c : ℕ) (s : List ℕ) (part : Part) (found : List ℕ) (k : ℕ) → KindOfPart s part k → k ≡ number (collectionOf c) → NoneMatch table p c s part found → NoMatch table p s part found
+whole-lacks table p c s part found k o e f v b h st =
+    let (vs, d) = of-kind (collectionOf c) v (sym (o v h) ∙ e) in
     subst (Unmatched b (patternAt (records table) p)) (sym d) (f vs b (subst (PartIs s part) d h) st vs (λ t i. i))
 
 pub met-by-word : (table : List ℕ) (p : ℕ) (s : List ℕ) (part : Part) (word : ℕ) → part ≡ unpacked word → (found : List ℕ) → NoMatch table p s part found → NoMatch table p s (unpacked word) found

@@ -12,13 +12,13 @@ use lib.Pow.{shr-shr, shr-le}
 use Rattle.prelude.proofs.Absurd.{impossible}
 use Rattle.prelude.proofs.Lists.{map-at}
 use Rattle.prelude.proofs.Truth.{or-false-left, or-false-right}
-use Rattle.values.specs.Value.{Value, boolean}
+use Rattle.values.specs.Value.{Value, boolean, WellFormed}
 use Rattle.tables.specs.Record.{named as operandsOf, operand}
 use Rattle.tables.specs.Table.{recordAt, kindAt}
 use Rattle.tables.specs.Accepted.{records}
 use Rattle.parts.specs.declared.Part.{Part}
 use Rattle.parts.specs.Part.{PartIs, CellIs}
-use Rattle.parts.proofs.Laws.{part-one}
+use Rattle.parts.proofs.Laws.{part-one, part-well-formed}
 use Rattle.patterns.specs.Ways.{exists}
 use Rattle.patterns.specs.Binding.{is}
 use Rattle.patterns.specs.Pattern.{Pattern, any, wide, wideEach}
@@ -118,9 +118,9 @@ module _ (table index : List ℕ) (p : ℕ) (r : Composed table index p) where
       ∙ wide-composed (recordAt (records table) p) (innerOf table p) (r .composed) inner-two v
       ∙ ap (λ (n : ℕ). isLarge (kindAt (records table) p) v || exists (meetings (kindAt (records table) p) n v) (λ vs. wideEach (patternsOf (innerOf table p)) vs)) (inner-length table index p (r .readable))
 
-  module _ (v : Value) (d : ℕ) (l : d < length (waysOf table p v)) where
+  module _ (v : Value) (fine : WellFormed v) (d : ℕ) (l : d < length (waysOf table p v)) where
     pub met-long : length (metBy table p v d) ≡ countOf table p
-    met-long = meeting-length (kindAt (records table) p) (countOf table p) v d two l
+    met-long = meeting-length (kindAt (records table) p) (countOf table p) v d fine two l
 
     narrow-part : wide (patternAt (records table) p) v ≡ false → (i : ℕ) → i < countOf table p → wide (getD (innerOf table p) i any) (getD (metBy table p v d) i (boolean true)) ≡ false
     narrow-part w i k =
@@ -174,7 +174,7 @@ module _ (table index : List ℕ) (p k n : ℕ) (s : List ℕ) (part : Part) (d 
                 readable = subst (Readable table index) (sym (put .first)) (operand-readable table index p (h .composed .readable) i (g .within) q b .0);
                 pattern = it ∙ ap (patternAt (records table)) (sym (put .first));
                 here = subst (λ (e : ℕ). PartIs s (unpacked e) (getD (metBy table p v d) i (boolean true))) (sym (put .second)) (packed-part s part′ cell (getD (metBy table p v d) i (boolean true)) pk (piece-is v z));
-                narrow = narrow-part table index p (h .composed) v d below u i (g .within);
+                narrow = narrow-part table index p (h .composed) v (part-well-formed z) d below u i (g .within);
               },
               subst (λ (e : ℕ). AgendaIs table index s (set (set (set a (3 * top) q) (3 * top + 1) cell) (3 * top + 2) next) (top + 1) e ts) (sym (put .third))
                   (agenda-kept table index s a (set (set (set a (3 * top) q) (3 * top + 1) cell) (3 * top + 2) next) top (top + 1) next ts (omega arith) (put .kept) f),
@@ -223,7 +223,7 @@ module _ (table index : List ℕ) (p : ℕ) (s : List ℕ) (part : Part) (d : �
     parts v z =
         let below : d < length (waysOf table p v) = subst (λ (e : Value). d < length (waysOf table p e)) (sym (part-one z (h .here))) (h .below) in
         ap₂ zipped pats
-        (drop-cons (metBy table p v d) i (boolean true) (omega (arith, within, met-long table index p (h .composed) v d below)) ∙ ap (λ (j : ℕ). getD (metBy table p v d) i (boolean true) ∷ drop j (metBy table p v d)) (sym (add-one i) ∙ sym si))
+        (drop-cons (metBy table p v d) i (boolean true) (omega (arith, within, met-long table index p (h .composed) v (part-well-formed z) d below)) ∙ ap (λ (j : ℕ). getD (metBy table p v d) i (boolean true) ∷ drop j (metBy table p v d)) (sym (add-one i) ∙ sym si))
 
     shifted : bits / 2 ^ i / 2 ≡ bits / 2 ^ suci
     shifted = shr-shr bits i 1 ∙ ap (λ (j : ℕ). bits / 2 ^ j) (sym si)

@@ -5,11 +5,14 @@ use mathlib.Core.Logic.{inl, inr}
 use mathlib.Core.List.{List, [], _∷_, _++_}
 use Prim.Native.Nat.{ℕ, zero, suc, _-_, _≤_, _<_}
 use native.Mathlib.Omega.{arith}
+use lib.Dec.{eqb}
 use lib.ListN.{length, getD}
-use Rattle.prelude.proofs.Absurd.{true-false}
+use borrow.Author.Tests.{eqb-true}
+use Rattle.prelude.proofs.Absurd.{true-false, never}
+use Rattle.prelude.proofs.Truth.{by-test}
 use Rattle.prelude.proofs.Lists.{map-at}
 use Rattle.values.specs.Value.{Kind, sequence, Value, collection}
-use Rattle.tables.specs.Laws.Kinds.{union-composed, concatenation-composed}
+use Rattle.tables.specs.Laws.Kinds.{union-composed, concatenation-composed, munion-composed}
 use Rattle.tables.specs.Record.{Record, isComposed, named as operandsOf, operand}
 use Rattle.tables.specs.Table.{recordAt, kindAt}
 use Rattle.tables.specs.Accepted.{records}
@@ -23,7 +26,7 @@ use Rattle.patterns.specs.Laws.Merging.{nothing-merge, merge-nothing}
 use Rattle.patterns.specs.Laws.Together.{one-together, append-nil, append-assoc, Fine, nothing-fine, match-consistent}
 use Rattle.patterns.specs.Laws.Widened.{wide-exactly}
 use Rattle.patterns.specs.Nodes.{collectionOf, isHalved}
-use Rattle.patterns.specs.Laws.Nodes.{is-any}
+use Rattle.patterns.specs.Laws.Nodes.{is-any, on-composed}
 use Rattle.patterns.specs.Read.{Readable, patternOf, patternAt}
 use Rattle.matching.specs.Node.{innerOf}
 use Rattle.matching.proofs.Records.{by-record, count-two}
@@ -130,26 +133,27 @@ not-wide p q v f e = go (wide q v) refl
 
 left-wide : (l x y : Pattern) (v : Value) → Wide (halved sequence x y) v → Wide (halved sequence l (halved sequence x y)) v
 unfolding Wide
-left-wide l x y v (ls, rs, e, w) = ([], ls ++ rs, e, inr (ls, rs, refl, w))
+left-wide l x y v (vs, e, w) = (vs, e, inr ([], vs, refl, inr (vs, refl, w)))
 
 right-wide : (r x y : Pattern) (v : Value) → Wide (halved sequence x y) v → Wide (halved sequence (halved sequence x y) r) v
 unfolding Wide
-right-wide r x y v (ls, rs, e, w) =
-    (ls ++ rs, [], e ∙ ap (λ (l : List Value). collection sequence (itemsOf l)) (sym (append-nil (ls ++ rs))), inl (ls, rs, refl, w))
+right-wide r x y v (vs, e, w) = (vs, e, inr (vs, [], sym (append-nil vs), inl (vs, refl, w)))
 
 -- ---- by records
 
+-- what follows from each of the kinds with two halves follows of all
+pub by-splits : {A : Type 0} (c : ℕ) → Splits c → (c ≡ 38 → A) → (c ≡ 40 → A) → (c ≡ 42 → A) → A
+by-splits c u union concatenation munion =
+    by-test (eqb c 38) (λ e. union (eqb-true c 38 e)) (λ e.
+    by-test (eqb c 40) (λ f. concatenation (eqb-true c 40 f)) (λ f. munion (eqb-true c 42 (rw (e, f) at u))))
+
+splits-composed : (c : ℕ) → Splits c → isComposed c ≡ true
+splits-composed c u = by-splits c u (λ e. union-composed e) (λ e. concatenation-composed e) (λ e. munion-composed e)
+
 halved-by : (r : Record) (ps : List Pattern) (c : ℕ) → r .kind ≡ c → Splits c → patternOf r ps ≡ halved (collectionOf c) (getD ps 0 any) (getD ps 1 any)
-halved-by r ps c e (inl f) = let d : r .kind ≡ 38 = e ∙ f in rw (d, f) refl
-halved-by r ps c e (inr f) = let d : r .kind ≡ 40 = e ∙ f in rw (d, f) refl
-
-is-halved : (c : ℕ) → Splits c → isHalved c ≡ true
-is-halved c (inl f) = rw f refl
-is-halved c (inr f) = rw f refl
-
-pub splits-composed : (c : ℕ) → Splits c → isComposed c ≡ true
-splits-composed c (inl f) = union-composed f
-splits-composed c (inr f) = concatenation-composed f
+halved-by r ps c e u =
+    on-composed r ps (λ q. q ≡ halved (collectionOf c) (getD ps 0 any) (getD ps 1 any)) (ap isComposed e ∙ splits-composed c u)
+    (λ h. never (sym h ∙ ap isHalved e ∙ u)) (λ h. ap (λ (k : ℕ). halved (collectionOf k) (getD ps 0 any) (getD ps 1 any)) e)
 
 -- The pattern of a part.
 abbrev half : List ℕ → ℕ → ℕ → Pattern
@@ -158,7 +162,7 @@ half table p i = patternAt (records table) (operand (recordAt (records table) p)
 module _ (table index : List ℕ) (p : ℕ) (h : Readable table index p) where
   module _ (c : ℕ) (e : kindAt (records table) p ≡ c) (u : Splits c) where
     pub two-halves : length (operandsOf (recordAt (records table) p)) ≡ 2
-    two-halves = count-two table index p h (ap isComposed e ∙ splits-composed c u) (ap isHalved e ∙ is-halved c u)
+    two-halves = count-two table index p h (ap isComposed e ∙ splits-composed c u) (ap isHalved e ∙ u)
 
     pub is-two : patternAt (records table) p ≡ halved (collectionOf c) (half table p 0) (half table p 1)
     is-two =
@@ -183,10 +187,10 @@ module _ (table index : List ℕ) (p : ℕ) (h : Readable table index p) where
 
   module _ (e : kindAt (records table) p ≡ 40) where
     pub concatenation-two : length (operandsOf (recordAt (records table) p)) ≡ 2
-    concatenation-two = two-halves 40 e (inr refl)
+    concatenation-two = two-halves 40 e refl
 
     pub is-concatenation : patternAt (records table) p ≡ halved sequence (half table p 0) (half table p 1)
-    is-concatenation = is-two 40 e (inr refl)
+    is-concatenation = is-two 40 e refl
 
     pub all-halves : (l : ℕ) → l ≡ operand (recordAt (records table) p) 0 → (x : Bool) → TellsAll table l x → x ≡ true → (r : ℕ) → r ≡ operand (recordAt (records table) p) 1 → (y : Bool) → TellsAll table r y → TellsAll table p y
     all-halves l el x a ex r er y b ey =

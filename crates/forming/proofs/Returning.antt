@@ -14,6 +14,7 @@ use Rattle.values.specs.Value.{Value}
 use Rattle.tables.specs.Table.{kindAt}
 use Rattle.tables.specs.Accepted.{records}
 use Rattle.parts.specs.Word.{unpacked}
+use Rattle.parts.proofs.Laws.{part-well-formed}
 use Rattle.patterns.specs.Ways.{gather}
 use Rattle.patterns.specs.Binding.{Binding}
 use Rattle.patterns.specs.Laws.Members.{in-gather, gather-in}
@@ -137,7 +138,7 @@ module _ (table index s a found frames : List ℕ) (hit : ℕ) (rows order : Lis
           let (x, xi) = h .hit-some l in
           let (vs, vi, xv, all) = h .is .done x xi in
           let (us, ui, k) = in-gather c (drop (f .way) (waysOf table (f .p) (L .value))) way (subst (In c) (h .is .due) j) in
-          h .done-in c (all c (enough table index (f .p) (h .is .composed) s (L .words) (L .binding) (h .is .stands) (subst (TellsSettled table (f .p) (L .words)) o (h .is .settled)) (L .value) (L .tasks) vs vi x xv c
+          h .done-in c (all c (enough table index (f .p) (h .is .composed) s (L .words) (L .binding) (h .is .stands) (subst (TellsSettled table (f .p) (L .words)) o (h .is .settled)) (L .value) (part-well-formed (h .is .here)) (L .tasks) vs vi x xv c
           (gather-in us c (waysOf table (f .p) (L .value)) way (in-drop (f .way) (waysOf table (f .p) (L .value)) us ui) k)))
 
   -- ---- its next way
@@ -207,7 +208,7 @@ module _ (table index s a found frames : List ℕ) (hit : ℕ) (rows order : Lis
 
           this-way : way (metBy table (f .p) (h .level .value) (f .way)) ≡ more
           unfolding more
-          this-way = same-way table index (f .p) (h .is .composed) (L .value) (L .tasks) (L .binding) (f .way) inside
+          this-way = same-way table index (f .p) (h .is .composed) (L .value) (part-well-formed (h .is .here)) (L .tasks) (L .binding) (f .way) inside
 
           due-is : h .level .due ≡ more ++ due′
           unfolding gather due′

@@ -1,6 +1,5 @@
 -- Ways that are passed over: their halves have other sizes than the patterns take, and so no match that is compatible with what is found.
-use mathlib.Core.Path.{_≡_, refl, sym, ap, _∙_}
-use mathlib.Core.Logic.{inl, inr}
+use mathlib.Core.Path.{_≡_, sym, ap, ap₂, _∙_}
 use mathlib.Core.Option.{Option, none as absent, some}
 use mathlib.Core.List.{List, [], _∷_, _++_, map}
 use Prim.Native.Nat.{ℕ, zero, suc, _+_, _-_, _≤_, _<_}
@@ -13,12 +12,11 @@ use Rattle.values.specs.Value.{Kind, Value}
 use Rattle.tables.specs.Record.{named as operandsOf, operand}
 use Rattle.tables.specs.Table.{recordAt, kindAt}
 use Rattle.tables.specs.Accepted.{records}
-use Rattle.patterns.specs.Ways.{halves, properSplits, gather}
-use Rattle.patterns.specs.Laws.Units.{in-proper}
+use Rattle.patterns.specs.Ways.{Halves, halves, gather}
 use Rattle.patterns.specs.Binding.{Binding, names}
-use Rattle.patterns.specs.Pattern.{Pattern, any, contents, divisions, split, leftOf, rightOf, matchEach}
+use Rattle.patterns.specs.Pattern.{Pattern, any, contents, UnitOf, halvesIn, divisions, split, leftOf, rightOf, matchEach}
 use Rattle.patterns.specs.Relation.{Matches}
-use Rattle.patterns.specs.Laws.Matched.{matchedEach}
+use Rattle.patterns.specs.Laws.Matched.{in-divisions, matchedEach}
 use Rattle.patterns.specs.Nodes.{collectionOf, bothHalves, meetings}
 use Rattle.patterns.specs.Laws.Nodes.{two-of}
 use Rattle.patterns.specs.Read.{Readable, patternsOf, patternAt}
@@ -32,6 +30,7 @@ use Rattle.forming.specs.Sizes.{Splits, fewestOf, HalvesTake, TellsSizes
 use Rattle.prelude.proofs.Lists.{map-at}
 use Rattle.forming.proofs.Compatible.{joined-left, joined-right, compatible-within, no-way}
 use Rattle.forming.proofs.Reducing.{two-halves}
+use Rattle.forming.proofs.Sizing.{divided-counts}
 
 -- ---- lists
 
@@ -54,13 +53,14 @@ no-pair b l r x y h m i k =
 
 -- ---- the ways of a pattern with two halves
 
-half-fewest : (c : ℕ) → Splits c → (vs : List Value) (j : ℕ) → j < length (divisions (collectionOf c) vs) → (fewestOf c ≤ length (halfAt c vs j .left)) × (fewestOf c ≤ length (halfAt c vs j .right))
-half-fewest c (inl e) vs j = rw e (λ l. let (s, a, b) = in-proper vs (halfAt 38 vs j) .0 (at-in (properSplits vs) j (halves [] []) l) in (a, b))
-half-fewest c (inr e) vs j = rw e (λ l. (omega arith, omega arith))
+-- the units of the halves of a way
+half-units : (k : Kind) (vs : List Value) (j : ℕ) → j < length (divisions k vs) → (h : Halves (UnitOf k)) × (halfAt k vs j ≡ halvesIn k h) × (fewestOf k ≤ length (h .left)) × (fewestOf k ≤ length (h .right))
+half-units k vs j l =
+    let (ms, ns, d, e, n, x, y) = divided-counts k vs (halfAt k vs j .left) (halfAt k vs j .right) (in-divisions k vs (halfAt k vs j) .0 (at-in (divisions k vs) j (halves [] []) l)) in
+    (halves ms ns, ap₂ halves d e, x, y)
 
-pub meetings-two : (c n : ℕ) (v : Value) → Splits c → meetings c n v ≡ map (bothHalves (collectionOf c)) (split (collectionOf c) (contents (collectionOf c) v))
-meetings-two c n v (inl e) = rw e refl
-meetings-two c n v (inr e) = rw e refl
+meetings-two : (c n : ℕ) (v : Value) → Splits c → meetings c n v ≡ map (bothHalves (collectionOf c)) (split (collectionOf c) (contents (collectionOf c) v))
+meetings-two c n v u = rw u
 
 module _ (table index : List ℕ) (p : ℕ) (h : Readable table index p) (c : ℕ) (ec : c ≡ kindAt (records table) p) (u : Splits c) where
   abbrev K : Kind
@@ -88,15 +88,21 @@ module _ (table index : List ℕ) (p : ℕ) (h : Readable table index p) (c : �
       go (some vs) q = (vs, q, sym (length-map (divisions K vs) (bothHalves K)) ∙ ap length (sym q) ∙ e)
 
   -- a way whose halves have other sizes has no match that goes on from the binding
-  barren-way : (st : Binding) → length st ≡ names → (z : Sizes) → HalvesTake table st p c z → (w j : ℕ) → j < w → Barren c w z j → (v : Value) → length (waysOf table p v) ≡ w → (ts : List Task) → oneWay (innerOf table p) ts st (metBy table p v j) ≡ []
+  barren-way : (st : Binding) → length st ≡ names → (z : Sizes) → HalvesTake table st p c z → (w j : ℕ) → j < w → Barren K w z j → (v : Value) → length (waysOf table p v) ≡ w → (ts : List Task) → oneWay (innerOf table p) ts st (metBy table p v j) ≡ []
   barren-way st o z t w j l n v e ts =
       let (vs, q, d) = some-ways v w e (omega arith) in
-      let at : metBy table p v j ≡ bothHalves K (halfAt c vs j) = ap (λ (ws : List (List Value)). getD ws j []) q ∙ map-at (bothHalves K) (divisions K vs) j (halves [] []) [] (omega (arith, d)) in
-      let (x, y) = half-fewest c u vs j (omega (arith, d)) in
-      ap (λ (x : List Value). oneWay (innerOf table p) ts st x) at
-      ∙ ap (λ (ps : List Pattern). oneWay ps ts st (bothHalves K (halfAt c vs j))) inner-two
-      ∙ no-way (half 0 ∷ half 1 ∷ []) ts st o (bothHalves K (halfAt c vs j))
-      (no-pair st (half 0) (half 1) (leftOf K (halfAt c vs j)) (rightOf K (halfAt c vs j)) (λ a b m k f g. n vs d (t .left (halfAt c vs j .left) a x m f) (t .right (halfAt c vs j .right) b y k g)))
+      let (h, are, x, y) = half-units K vs j (omega (arith, d)) in
+      go vs q d h are x y
+    where
+      go : (vs : List Value) → waysOf table p v ≡ map (bothHalves K) (divisions K vs) → length (divisions K vs) ≡ w → (h : Halves (UnitOf K)) → halfAt K vs j ≡ halvesIn K h
+          → fewestOf K ≤ length (h .left) → fewestOf K ≤ length (h .right) → oneWay (innerOf table p) ts st (metBy table p v j) ≡ []
+      go vs q d h are x y =
+          let at : metBy table p v j ≡ bothHalves K (halvesIn K h) =
+          ap (λ (ws : List (List Value)). getD ws j []) q ∙ map-at (bothHalves K) (divisions K vs) j (halves [] []) [] (omega (arith, d)) ∙ ap (bothHalves K) are in
+          ap (λ (x : List Value). oneWay (innerOf table p) ts st x) at
+          ∙ ap (λ (ps : List Pattern). oneWay ps ts st (bothHalves K (halvesIn K h))) inner-two
+          ∙ no-way (half 0 ∷ half 1 ∷ []) ts st o (bothHalves K (halvesIn K h))
+          (no-pair st (half 0) (half 1) (leftOf K (halvesIn K h)) (rightOf K (halvesIn K h)) (λ a b m k f g. n vs h d are (t .left (h .left) a x m f) (t .right (h .right) b y k g)))
 
 -- ---- ways that are passed over
 

@@ -11,7 +11,7 @@ use borrow.Author.Tests.{eqb-true}
 use Rattle.prelude.specs.Membership.{In}
 use Rattle.prelude.proofs.Lists.{map-at}
 use Rattle.prelude.proofs.Membership.{in-at}
-use Rattle.values.specs.Value.{Kind, set, sequence, map as mapping, tuple, Value}
+use Rattle.values.specs.Value.{Kind, set, sequence, map as mapping, tuple, Value, WellFormed}
 use Rattle.tables.specs.Record.{Record, isComposed, named as operandsOf}
 use Rattle.tables.specs.Table.{recordAt, kindAt}
 use Rattle.tables.specs.Accepted.{records}
@@ -20,7 +20,7 @@ use Rattle.parts.specs.Part.{PartIs, PartHeld}
 use Rattle.parts.specs.Word.{unpacked}
 use Rattle.patterns.specs.Ways.{gather, orders, atEveryPlace}
 use Rattle.patterns.specs.Binding.{Binding}
-use Rattle.patterns.specs.Pattern.{Pattern, any, contents, arrangements, met, split}
+use Rattle.patterns.specs.Pattern.{Pattern, any, contents, entriesOf, arrangements, met, split}
 use Rattle.patterns.specs.Read.{patternsOf, patternOf, patternAt}
 use Rattle.patterns.specs.Laws.Nodes.{on-composed}
 use Rattle.patterns.specs.Nodes.{collectionOf, isHalved, bothHalves, meetings}
@@ -88,12 +88,14 @@ spaces-zipped (p ∷ ps) (v ∷ vs) ts = omega (arith, spaces-zipped ps vs ts)
 
 -- several ways are those of two parts or more
 few-orders : (k : Kind) (vs : List Value) → length vs < 2 → length (arrangements k vs) < 2
-unfolding orders gather atEveryPlace
+unfolding orders gather atEveryPlace entriesOf
 few-orders set [] l = omega arith
 few-orders set (v ∷ []) l = omega arith
 few-orders set (v ∷ w ∷ vs) l = absurd (omega arith)
 few-orders sequence vs l = omega arith
-few-orders mapping vs l = omega arith
+few-orders mapping [] l = omega arith
+few-orders mapping (k ∷ []) l = omega arith
+few-orders mapping (k ∷ v ∷ vs) l = absurd (omega arith)
 few-orders tuple vs l = omega arith
 
 few-met : (k : Kind) (n : ℕ) (o : Option (List Value)) → n < 2 → length (met k n o) < 2
@@ -140,16 +142,16 @@ module _ (table index : List ℕ) (p : ℕ) (r : Composed table index p) where
     parts-room vs = omega (arith, room, placed-inside, spaces-zipped (innerOf table p) vs ts, inner-length table index p (r .readable))
 
   -- what one way gives
-  pub same-way : (v : Value) (ts : List Task) (b : Binding) (d : ℕ) → d < length (waysOf table p v) → oneWay (innerOf table p) ts b (metBy table p v d) ≡ onward (zipped (innerOf table p) (metBy table p v d) ++ ts) b
-  same-way v ts b d l = one-way (innerOf table p) ts b (metBy table p v d) (met-long table index p r v d l ∙ sym (inner-length table index p (r .readable)))
+  pub same-way : (v : Value) → WellFormed v → (ts : List Task) (b : Binding) (d : ℕ) → d < length (waysOf table p v) → oneWay (innerOf table p) ts b (metBy table p v d) ≡ onward (zipped (innerOf table p) (metBy table p v d) ++ ts) b
+  same-way v fine ts b d l = one-way (innerOf table p) ts b (metBy table p v d) (met-long table index p r v fine d l ∙ sym (inner-length table index p (r .readable)))
 
   -- of a pattern that is only a test one way with a match gives all that the others give
-  pub enough : (s words : List ℕ) (b : Binding) → Stands s words b → TellsSettled table p words true → (v : Value) (ts : List Task) (vs : List Value) → In vs (waysOf table p v) → (x : Binding) → In x (oneWay (innerOf table p) ts b vs)
+  pub enough : (s words : List ℕ) (b : Binding) → Stands s words b → TellsSettled table p words true → (v : Value) → WellFormed v → (ts : List Task) (vs : List Value) → In vs (waysOf table p v) → (x : Binding) → In x (oneWay (innerOf table p) ts b vs)
       → (c : Binding) → In c (gather (waysOf table p v) (oneWay (innerOf table p) ts b)) → In c (oneWay (innerOf table p) ts b vs)
-  enough s words b st t v ts vs i x j c k =
+  enough s words b st t v fine ts vs i x j c k =
       let (d, l, e) = in-at vs (waysOf table p v) [] i in
       let way : oneWay (innerOf table p) ts b vs ≡ onward (zipped (innerOf table p) vs ++ ts) b =
-      ap (oneWay (innerOf table p) ts b) e ∙ same-way v ts b d l ∙ ap (λ (us : List Value). onward (zipped (innerOf table p) us ++ ts) b) (sym e) in
+      ap (oneWay (innerOf table p) ts b) e ∙ same-way v fine ts b d l ∙ ap (λ (us : List Value). onward (zipped (innerOf table p) us ++ ts) b) (sym e) in
       let rest = settled-less s words b st P (t .says refl) v ts c (subst (In c) (sym (whole v ts b)) k) in
       subst (In c) (sym way)
       (several-more s words b st (innerOf table p) vs ts

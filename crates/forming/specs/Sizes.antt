@@ -1,7 +1,6 @@
--- How many members or items a pattern takes, and the ways that give its halves so many.
+-- How many units a pattern takes, members, entries or items, and the ways that give its halves so many.
 use mathlib.Core.Path.{_≡_}
 use mathlib.Core.Bool.{true, false, cond}
-use mathlib.Core.Logic.{_⊎_}
 use mathlib.Core.List.{List, []}
 use Prim.Native.Nat.{ℕ, _+_, _-_, _≤_, _<_}
 use lib.Count.{ones}
@@ -15,26 +14,26 @@ use Rattle.parts.specs.Part.{PartIs}
 use Rattle.parts.specs.Word.{unpacked}
 use Rattle.patterns.specs.Ways.{Halves, halves}
 use Rattle.patterns.specs.Binding.{Binding}
-use Rattle.patterns.specs.Pattern.{Pattern, itemsOf, divisions}
+use Rattle.patterns.specs.Pattern.{Pattern, itemsOf, UnitOf, itemsIn, halvesIn, isUnordered, divisions}
 use Rattle.patterns.specs.Relation.{Matches}
-use Rattle.patterns.specs.Nodes.{collectionOf}
+use Rattle.patterns.specs.Nodes.{collectionOf, isHalved}
 use Rattle.patterns.specs.Read.{Readable, patternAt}
 use Rattle.forming.specs.declared.sizes.Size.{Size}
 use Rattle.forming.specs.declared.sizes.Sizes.{Sizes}
 use Rattle.forming.specs.declared.sizes.Range.{Range}
 use Rattle.forming.specs.Compatible.{Compatible}
 
--- Kind 38 splits sets, kind 40 cuts sequences.
+-- Kind 38 splits sets, kind 40 cuts sequences, kind 42 splits maps.
 abbrev pub Splits : ℕ → Type 0
-Splits c = (c ≡ 38) ⊎ (c ≡ 40)
+Splits c = isHalved c ≡ true
 
--- The kind of patterns with a part for each member or item of what kind c splits or cuts.
+-- The kind of patterns with a part for each item of what kind c splits or cuts.
 abbrev pub enumerationOf : ℕ → ℕ
-enumerationOf c = cond (eqb c 38) 37 39
+enumerationOf c = cond (eqb c 38) 37 (cond (eqb c 42) 41 39)
 
--- A half of what kind c splits or cuts has at least so many: of a set it holds something (wish 1), of a sequence it may be empty.
-abbrev pub fewestOf : ℕ → ℕ
-fewestOf c = cond (eqb c 38) 1 0
+-- A half has at least so many units: of a set or map it holds something (wish 1), of a sequence it may be empty.
+abbrev pub fewestOf : Kind → ℕ
+fewestOf k = cond (isUnordered k) 1 0
 
 -- A size that n is.
 pub record Sized (z : Size) (n : ℕ) : Type 0 where
@@ -43,14 +42,14 @@ pub record Sized (z : Size) (n : ℕ) : Type 0 where
 
 -- Where the word stands for a collection of the kind that c splits or cuts, this has such a size.
 abbrev pub SizeOfValue : List ℕ → ℕ → ℕ → Size → Type 0
-SizeOfValue s word c z = (vs : List Value) → PartIs s (unpacked word) (collection (collectionOf c) (itemsOf vs)) → Sized z (length vs)
+SizeOfValue s word c z = (us : List (UnitOf (collectionOf c))) → PartIs s (unpacked word) (collection (collectionOf c) (itemsOf (itemsIn (collectionOf c) us))) → Sized z (length us)
 
--- What the pattern matches of the kind, with at least n members or items and with values that are compatible with b, has such a size.
-abbrev pub Takes : Binding → Kind → ℕ → Pattern → Size → Type 0
-Takes b k n p z = (vs : List Value) (a : Binding) → n ≤ length vs → Matches p (collection k (itemsOf vs)) a → Compatible b a → Sized z (length vs)
+-- A half of the kind that the pattern matches with values that are compatible with b has such a size.
+abbrev pub Takes : Binding → Kind → Pattern → Size → Type 0
+Takes b k p z = (us : List (UnitOf k)) (a : Binding) → fewestOf k ≤ length us → Matches p (collection k (itemsOf (itemsIn k us))) a → Compatible b a → Sized z (length us)
 
 abbrev pub TellsSize : List ℕ → Binding → ℕ → ℕ → Size → Type 0
-TellsSize table b p c z = Takes b (collectionOf c) (fewestOf c) (patternAt (records table) p) z
+TellsSize table b p c z = Takes b (collectionOf c) (patternAt (records table) p) z
 
 pub record Sum (l r z : Size) : Type 0 where
   pub right : (m n : ℕ) → Sized l m → Sized r n → Sized z (m + n)
@@ -71,7 +70,7 @@ TellsSizes table b p c z = z .bound ≡ true → HalvesTake table b p c z
 
 -- ---- how many the right half has in a way
 
--- The right half has from the least to the most of the range of n members or items, where both halves have such sizes.
+-- The right half has from the least to the most of the range of n units, where both halves have such sizes.
 pub record Rights (z : Sizes) (n : ℕ) (r : Range) : Type 0 where
   pub low : r .most ≤ n
   pub right : (i j : ℕ) → i + j ≡ n → Sized (z .left) i → Sized (z .right) j → (r .least ≤ j) × (j ≤ r .most)
@@ -92,12 +91,14 @@ CutFrom w = FirstOf (λ j. w - 1 - j) w
 
 -- ---- ways without a match
 
-abbrev pub halfAt : ℕ → List Value → ℕ → Halves Value
-halfAt c vs j = getD (divisions (collectionOf c) vs) j (halves [] [])
+abbrev pub halfAt : Kind → List Value → ℕ → Halves Value
+halfAt k vs j = getD (divisions k vs) j (halves [] [])
 
 -- The halves of way j of w have no such sizes.
-abbrev pub Barren : ℕ → ℕ → Sizes → ℕ → Type 0
-Barren c w z j = (vs : List Value) → length (divisions (collectionOf c) vs) ≡ w → Sized (z .left) (length (halfAt c vs j .left)) → Sized (z .right) (length (halfAt c vs j .right)) → ⊥
+abbrev pub Barren : Kind → ℕ → Sizes → ℕ → Type 0
+Barren k w z j =
+    (vs : List Value) (h : Halves (UnitOf k)) → length (divisions k vs) ≡ w → halfAt k vs j ≡ halvesIn k h
+    → Sized (z .left) (length (h .left)) → Sized (z .right) (length (h .right)) → ⊥
 
 pub record Divisible (c w : ℕ) : Type 0 where
   pub splits : Splits c
@@ -110,4 +111,4 @@ FromHeld c w z = z .bound ≡ true → Divisible c w
 pub record From (c w d : ℕ) (z : Sizes) (r : ℕ) : Type 0 where
   pub low : d ≤ r
   pub within : d ≤ w → r ≤ w
-  pub barren : (j : ℕ) → d ≤ j → j < r → (z .bound ≡ true) × Barren c w z j
+  pub barren : (j : ℕ) → d ≤ j → j < r → (z .bound ≡ true) × Barren (collectionOf c) w z j

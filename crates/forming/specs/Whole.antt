@@ -1,4 +1,4 @@
--- A whole set that is to be split, as a choice of all its members.
+-- A whole set or map that is to be split, as a choice of all its members or entries.
 use mathlib.Core.Path.{_≡_}
 use mathlib.Core.Bool.{false}
 use mathlib.Core.List.{List}

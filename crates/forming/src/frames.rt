@@ -23,8 +23,8 @@ pub type Frames = [u8; FRAMES_BYTES];
 
 // The record of the pattern; the entry of the agenda that has the part it meets, the entry that follows, and the first that is free; the way that is
 // next, and how many there are; the names that had a value; whether the pattern is only a test; what its halves take; which of its parts are only
-// tests, a bit for each; how many rows there were when the frame was opened; how many when its present way began; and whether its halves are to be asked
-// for members.
+// tests, a bit for each; how many rows there were when the frame was opened; how many when its present way began; and whether its halves are to ask
+// for items.
 pub struct Frame {
     pub p: usize,
     pub at: usize,

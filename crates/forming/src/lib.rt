@@ -20,7 +20,6 @@ use parts::words;
 use parts::words::Env;
 use tables::Index;
 use tables::MOST_RECORDS;
-use tables::kinds;
 use tables::reading::kind;
 use tables::reading::operand;
 use tables::reading::operand_count;
@@ -182,24 +181,25 @@ fn push(
     all.head
 }
 
-// The word of what a pattern of kind k meets in so many ways: of a whole set that is to be split, the word of its members.
+// The word of what a pattern of kind k meets in so many ways: of a whole set or map that is to be split, the word of its members or entries.
 fn split_word(s: &[u8], k: usize, word: u32, ways: usize) -> u32
     requires { ⌜ WordMet (now s) k word ways ⌝ }
     ensures { λ r. ⌜ SameValue (now (s .entry)) word r ⌝ }
 {
-    if k != kinds::UNION_PATTERN {
+    let united = nodes::is_split(k);
+    if !united {
         return word;
     }
     let p = words::unpack(word);
     if p.how != Part::WHOLE {
         return word;
     }
-    let members = Part {
+    let units = Part {
         at: p.at,
         extent: (ways + 1) as u16,
-        how: Part::MEMBERS,
+        how: Part::UNITS,
     };
-    words::word_of(s, members)
+    words::word_of(s, units)
 }
 
 // Opens a frame for the entry at, where some way may have a match and there are n rows; how many frames there are.
@@ -258,7 +258,7 @@ fn open_frame(
 }
 
 // Goes on with an agenda: leaves are taken off; a match is inserted, or a frame opened for the pattern with parts that waits, unless all that would
-// follow is among the rows already. Where asks is true, patterns with parts are asked for members first.
+// follow is among the rows already. Where asks is true, patterns with parts ask for items first.
 fn down(
     table: &[u8],
     index: &Index,

@@ -1,6 +1,8 @@
-// What names ask of a set: a set enumeration at or below a tree of unions names a member by each of its names. A name that has a value asks for a member
-// with that value; where the set that the tree meets lacks it, nothing matches.
+// What names ask of a set or map: an enumeration at or below a tree of unions or munions names an item by each of its names, a member, key or value. A name
+// that has a value asks for an item with that value; where the set or map that the tree meets lacks it, nothing matches.
+use crate::sizes;
 use integers::Order;
+use matching::nodes;
 use parts::Part;
 use parts::words;
 use parts::words::Env;
@@ -12,6 +14,7 @@ use tables::reading::operand;
 use tables::reading::operand_count;
 use values::Value;
 ghost use mathlib.Core.Path.{_≡_};
+ghost use mathlib.Core.Bool.{true};
 ghost use Prim.Native.Nat.{_≤_};
 ghost use lib.ListN.{length};
 ghost use Rattle.tables.specs.Table.{kindAt};
@@ -20,25 +23,27 @@ ghost use Rattle.parts.specs.Part.{PartHeld};
 ghost use Rattle.parts.specs.Contract.{CollectionHeld};
 ghost use Rattle.parts.specs.Word.{unpacked, WordHeld};
 ghost use Rattle.patterns.specs.Read.{Readable};
-ghost use Rattle.forming.specs.Needs.{AskHeld, isHad, TellsAsked, TellsLacked, TellsFit, WordAt, TellsMember};
+ghost use Rattle.matching.specs.Node.{isSplit};
+ghost use Rattle.forming.specs.Sizes.{Splits, enumerationOf};
+ghost use Rattle.forming.specs.Needs.{AskHeld, UnionOf, isHad, TellsAsked, TellsLacked, TellsFit, WordAt, TellsItem};
 
-// What the names that have a value ask of a set that a pattern meets: nothing, members that it has, or one that it lacks.
+// What the names that have a value ask of a set or map that a pattern meets: nothing, items that it has, or one that it lacks.
 pub enum Asked {
     Nothing,
     Had,
     Lacked,
 }
 
-// A member of what the part denotes has the value of the word.
-fn has_member(s: &[u8], part: Part, word: u32) -> bool
+// An item of what the part denotes has the value of the word.
+fn has_item(s: &[u8], part: Part, word: u32) -> bool
     requires { ⌜ (length (now s) ≤ 65536) × CollectionHeld (now s) part × WordHeld (now s) word ⌝ }
-    ensures { λ r. ⌜ TellsMember (now (s .entry)) part word r ⌝ }
+    ensures { λ r. ⌜ TellsItem (now (s .entry)) part word r ⌝ }
 {
     let n = parts::count_of_part(s, part);
     let mut k = 0;
     while k < n {
-        let member = parts::item_of_part(s, part, k);
-        let w = words::word_of(s, member);
+        let item = parts::item_of_part(s, part, k);
+        let w = words::word_of(s, item);
         let o = words::order_words(s, word, w);
         if let Order::Same = o {
             return true;
@@ -61,17 +66,18 @@ fn word_at(table: &[u8], index: &Index, p: usize, found: &[u32; Env::NAMES]) -> 
     found[x]
 }
 
-// What the names of a set enumeration ask.
+// What the names of an enumeration ask, where c is the kind of the unions or munions of such enumerations.
 fn asked_by_names(
     table: &[u8],
     index: &Index,
     p: usize,
+    c: usize,
     s: &[u8],
     part: Part,
     found: &[u32; Env::NAMES],
 ) -> Asked
-    requires { ⌜ AskHeld (now table) (now index) p (now s) (now found) × CollectionHeld (now s) part × (kindAt (records (now table)) p ≡ 37) ⌝ }
-    ensures { λ r. ⌜ TellsLacked (now (table .entry)) p (now (s .entry)) part (now (found .entry)) r ⌝ }
+    requires { ⌜ AskHeld (now table) (now index) p (now s) (now found) × CollectionHeld (now s) part × Splits c × (kindAt (records (now table)) p ≡ enumerationOf c) ⌝ }
+    ensures { λ r. ⌜ TellsLacked (now (table .entry)) p c (now (s .entry)) part (now (found .entry)) r ⌝ }
 {
     let n = operand_count(table, index, p);
     let mut had = false;
@@ -80,7 +86,7 @@ fn asked_by_names(
         let q = operand(table, index, p, i);
         let word = word_at(table, index, q, found);
         if word != 0 {
-            let there = has_member(s, part, word);
+            let there = has_item(s, part, word);
             if !there {
                 return Asked::Lacked;
             }
@@ -94,39 +100,52 @@ fn asked_by_names(
     Asked::Nothing
 }
 
-// What a set enumeration or a tree of unions asks of a set of which it meets some members.
+// What an enumeration or a tree of unions or munions, of kind c, asks of a set or map of which it meets some members or entries.
 fn asked_by_tree(
     table: &[u8],
     index: &Index,
     p: usize,
+    c: usize,
     s: &[u8],
     part: Part,
     found: &[u32; Env::NAMES],
 ) -> Asked
-    requires { ⌜ AskHeld (now table) (now index) p (now s) (now found) × CollectionHeld (now s) part ⌝ }
-    ensures { λ r. ⌜ TellsLacked (now (table .entry)) p (now (s .entry)) part (now (found .entry)) r ⌝ }
+    requires { ⌜ AskHeld (now table) (now index) p (now s) (now found) × CollectionHeld (now s) part × (isSplit c ≡ true) ⌝ }
+    ensures { λ r. ⌜ TellsLacked (now (table .entry)) p c (now (s .entry)) part (now (found .entry)) r ⌝ }
 {
     let k = kind(table, index, p);
-    if k == kinds::SET_PATTERN {
-        return asked_by_names(table, index, p, s, part, found);
+    let named = sizes::enumeration_of(c);
+    if k == named {
+        return asked_by_names(table, index, p, c, s, part, found);
     }
-    if k != kinds::UNION_PATTERN {
+    if k != c {
         return Asked::Nothing;
     }
     let l = operand(table, index, p, 0);
-    let left = asked_by_tree(table, index, l, s, part, found);
+    let left = asked_by_tree(table, index, l, c, s, part, found);
     if let Asked::Lacked = left {
         return Asked::Lacked;
     }
     let r = operand(table, index, p, 1);
-    let right = asked_by_tree(table, index, r, s, part, found);
+    let right = asked_by_tree(table, index, r, c, s, part, found);
     if let Asked::Nothing = right {
         return left;
     }
     right
 }
 
-// What a pattern asks of what it meets: nothing of what is no set, or a set that is too large to split.
+// The kind of patterns that split values of this kind, sets or maps; 0 where there is none.
+fn union_of(kind: usize) -> usize
+    ensures { λ r. ⌜ UnionOf kind r ⌝ }
+{
+    match kind {
+        Value::SET => kinds::UNION_PATTERN,
+        Value::MAP => kinds::MUNION_PATTERN,
+        _ => 0,
+    }
+}
+
+// What a pattern asks of what it meets: nothing of what is no set or map, or one that is too large to split.
 pub fn asked_by_pattern(
     table: &[u8],
     index: &Index,
@@ -139,17 +158,19 @@ pub fn asked_by_pattern(
     ensures { λ r. ⌜ TellsAsked (now (table .entry)) p (now (s .entry)) part (now (found .entry)) r ⌝ }
 {
     let k = parts::kind_of_part(s, part);
-    if k != Value::SET {
+    let c = union_of(k);
+    if c == 0 {
         return Asked::Nothing;
     }
     let n = parts::count_of_part(s, part);
-    if parts::masks::MOST_MEMBERS < n {
+    let width = parts::masks::width(k);
+    if parts::masks::MOST_UNITS * width < n {
         return Asked::Nothing;
     }
-    asked_by_tree(table, index, p, s, part, found)
+    asked_by_tree(table, index, p, c, s, part, found)
 }
 
-// What a pattern of kind k asks, where it is a union; else nothing.
+// What a pattern of kind k asks, where it is a union or munion; else nothing.
 pub fn asked_by_union(
     table: &[u8],
     index: &Index,
@@ -162,13 +183,14 @@ pub fn asked_by_union(
     requires { ⌜ AskHeld (now table) (now index) p (now s) (now found) × PartHeld (now s) part ⌝ }
     ensures { λ r. ⌜ TellsAsked (now (table .entry)) p (now (s .entry)) part (now (found .entry)) r ⌝ }
 {
-    if k != kinds::UNION_PATTERN {
+    let united = nodes::is_split(k);
+    if !united {
         return Asked::Nothing;
     }
     asked_by_pattern(table, index, p, s, part, found)
 }
 
-// Members were asked for, and the set has them.
+// Items were asked for, and the set or map has them.
 pub fn is_had(a: Asked) -> bool
     ensures { λ r. ⌜ r ≡ isHad a ⌝ }
 {

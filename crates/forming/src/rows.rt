@@ -22,14 +22,14 @@ pub struct Seek {
     pub there: bool,
 }
 
-// The order of what a binding and a row say of a name. Most of them choose members, as the words tell.
+// The order of what a binding and a row say of a name. Most of them choose members or entries, as the words tell.
 fn order_names(s: &[u8], a: u32, b: u32) -> Order
     requires { ⌜ WordHeld (now s) a × WordHeld (now s) b ⌝ }
     ensures { λ r. ⌜ OrderedWords (now (s .entry)) a b r ⌝ }
 {
-    let members = Part::MEMBERS as u32;
-    if a % 4 == members {
-        if b % 4 == members {
+    let units = Part::UNITS as u32;
+    if a % 4 == units {
+        if b % 4 == units {
             return words::order_chosen(s, a, b);
         }
     }

@@ -1,4 +1,5 @@
 // Patterns that are only a test: every name in them has a value already, so they give no name one, and one way of matching is enough.
+use crate::sizes;
 use parts::words::Env;
 use tables::Index;
 use tables::kinds;
@@ -65,10 +66,8 @@ pub fn tests_of(
     if once {
         return 0;
     }
-    if k == kinds::UNION_PATTERN {
-        return 0;
-    }
-    if k == kinds::CONCATENATION_PATTERN {
+    let halved = sizes::splits(k);
+    if halved {
         return 0;
     }
     let mut tests = 0;

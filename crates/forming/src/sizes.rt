@@ -1,4 +1,5 @@
-// How many members or items a pattern takes that agrees with what is found. A way of splitting or cutting that gives a half more or fewer has no match.
+// How many units a pattern takes that agrees with what is found: members of a set, entries of a map, items of a sequence. A way of splitting or cutting
+// that gives a half more or fewer has no match.
 use crate::settled::either;
 use matching::nodes;
 use parts::words;
@@ -11,10 +12,11 @@ use tables::reading::operand;
 use tables::reading::operand_count;
 ghost use mathlib.Core.Path.{_≡_};
 ghost use mathlib.Core.Bool.{true};
-ghost use Prim.Native.Nat.{_<_};
+ghost use Prim.Native.Nat.{_/_, _≤_, _<_};
 ghost use Rattle.parts.specs.Part.{PartHeld};
 ghost use Rattle.parts.specs.Word.{unpacked};
 ghost use Rattle.patterns.specs.Binding.{Binding};
+ghost use Rattle.patterns.specs.Nodes.{collectionOf, width};
 ghost use Rattle.patterns.specs.Read.{Readable};
 ghost use Rattle.matching.specs.Leaf.{Stands, Standing};
 ghost use Rattle.forming.specs.Sizes.{Splits, enumerationOf, fewestOf, SizeOfValue, TellsSize, Sum, HalvesHeld, TellsSizes, Rights, SplitFrom, CutFrom, FromHeld, From};
@@ -57,27 +59,38 @@ fn sum(l: Size, r: Size) -> Size
 }
 
 // The kind of patterns that have a part for each item of what patterns of kind k split or cut.
-fn enumeration_of(k: usize) -> usize
+pub fn enumeration_of(k: usize) -> usize
     ensures { λ r. ⌜ r ≡ enumerationOf k ⌝ }
 {
-    if k == kinds::UNION_PATTERN {
-        return kinds::SET_PATTERN;
+    match k {
+        kinds::UNION_PATTERN => kinds::SET_PATTERN,
+        kinds::MUNION_PATTERN => kinds::MAP_PATTERN,
+        _ => kinds::SEQUENCE_PATTERN,
     }
-    kinds::SEQUENCE_PATTERN
 }
 
-// A half of what patterns of kind k split or cut has at least so many: of a set it holds something, of a sequence it may be empty.
+// A half of what patterns of kind k split or cut has at least so many units: of a set or map it holds something, of a sequence it may be empty.
 fn fewest_of(k: usize) -> u8
-    ensures { λ r. ⌜ r ≡ fewestOf k ⌝ }
+    ensures { λ r. ⌜ (Splits k → r ≡ fewestOf (collectionOf k)) ⌝ }
 {
-    if k == kinds::UNION_PATTERN {
-        return 1;
+    if k == kinds::CONCATENATION_PATTERN {
+        return 0;
     }
-    0
+    1
 }
 
-// What a name takes that has a value: as many members or items as this has; where it is of another kind than what patterns of kind k split or cut, more
-// than any half has.
+// How many units n items are of what patterns of kind k split or cut: an entry of a map is two.
+fn units_of(k: usize, n: usize) -> usize
+    ensures { λ r. ⌜ (r ≤ n) × (Splits k → r ≡ n / width (collectionOf k)) ⌝ }
+{
+    if k == kinds::MUNION_PATTERN {
+        return n / 2;
+    }
+    n
+}
+
+// What a name takes that has a value: as many units as this has; where it is of another kind than what patterns of kind k split or cut, more than any half
+// has.
 fn size_of_value(s: &[u8], word: u32, k: usize) -> Size
     requires { ⌜ PartHeld (now s) (unpacked word) × Splits k ⌝ }
     ensures { λ z. ⌜ SizeOfValue (now (s .entry)) word k z ⌝ }
@@ -91,8 +104,9 @@ fn size_of_value(s: &[u8], word: u32, k: usize) -> Size
         };
     }
     let n = parts::count_of_part(s, part);
+    let units = units_of(k, n);
     Size {
-        least: n as u8,
+        least: units as u8,
         more: false,
     }
 }
@@ -112,8 +126,9 @@ fn size_of(
     let own = kind(table, index, p);
     if own == enumeration_of(k) {
         let n = operand_count(table, index, p);
+        let units = units_of(k, n);
         return Size {
-            least: n as u8,
+            least: units as u8,
             more: false,
         };
     }
@@ -147,10 +162,10 @@ fn is_any(z: Size, k: usize) -> bool {
 pub fn splits(k: usize) -> bool
     ensures { λ r. ⌜ (r ≡ true → Splits k) ⌝ }
 {
-    if k == kinds::UNION_PATTERN {
+    if k == kinds::CONCATENATION_PATTERN {
         return true;
     }
-    k == kinds::CONCATENATION_PATTERN
+    nodes::is_split(k)
 }
 
 // What the halves of a pattern of kind k take, where it has two; else any number.
@@ -213,7 +228,7 @@ fn rights(z: Sizes, n: usize) -> Range
     Range { least, most }
 }
 
-// The first of the splits 0 to w - 1 from d on that has so many members on the right: as many as bits of its number are set. A number that is higher by
+// The first of the splits 0 to w - 1 from d on that has so many units on the right: as many as bits of its number are set. A number that is higher by
 // n has at most n more of them, so those that cannot have enough are passed over together.
 fn split_from(w: usize, d: usize, r: Range) -> usize
     ensures { λ e. ⌜ SplitFrom w d r e ⌝ }
@@ -251,8 +266,8 @@ fn cut_from(w: usize, d: usize, r: Range) -> usize
     e
 }
 
-// The first way from d on whose halves may have what they take. The ways of a union are all splits but the first and the last, which have an empty half:
-// way d is the split d + 1, and the split w + 1 has all members on the right.
+// The first way from d on whose halves may have what they take. The ways of a union or munion are all splits but the first and the last, which have an
+// empty half: way d is the split d + 1, and the split w + 1 has all units on the right.
 pub fn way_from(k: usize, w: usize, d: usize, z: Sizes) -> usize
     requires { ⌜ FromHeld k w z ⌝ }
     ensures { λ r. ⌜ From k w d z r ⌝ }
@@ -263,16 +278,16 @@ pub fn way_from(k: usize, w: usize, d: usize, z: Sizes) -> usize
     if w <= d {
         return d;
     }
-    if k == kinds::UNION_PATTERN {
-        let last = w + 1;
-        let n = usize::count_ones(last) as usize;
-        let r = rights(z, n);
-        if r.most < r.least {
-            return w;
-        }
-        let e = split_from(last, d + 1, r);
-        return e - 1;
+    if k == kinds::CONCATENATION_PATTERN {
+        let r = rights(z, w - 1);
+        return cut_from(w, d, r);
     }
-    let r = rights(z, w - 1);
-    cut_from(w, d, r)
+    let last = w + 1;
+    let n = usize::count_ones(last) as usize;
+    let r = rights(z, n);
+    if r.most < r.least {
+        return w;
+    }
+    let e = split_from(last, d + 1, r);
+    e - 1
 }

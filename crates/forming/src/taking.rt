@@ -15,7 +15,7 @@ pub struct Left {
     pub fits: bool,
 }
 
-// Takes leaves off an agenda, up to its end or to the second pattern with parts; or to one that lacks a member, where this is asked.
+// Takes leaves off an agenda, up to its end or to the second pattern with parts; or to one that lacks an item, where this is asked.
 pub fn take_leaves(
     table: &[u8],
     index: &Index,

@@ -13,9 +13,9 @@ use mir.ValLaws.{toZ-ofZ}
 use borrow.Author.Tests.{eq-eqb, eqb-true}
 use lib.ListN.{length}
 use Rattle.prelude.proofs.Absurd.{impossible}
-use Rattle.values.specs.Value.{Value, boolean, integer, kindOf}
+use Rattle.values.specs.Value.{number, Value, boolean, integer, kindOf}
 use Rattle.values.specs.Items.{same}
-use Rattle.values.proofs.Order.{true-same, false-same}
+use Rattle.values.proofs.Order.{number-low, true-same, false-same}
 use Rattle.values.specs.Place.{At}
 use Rattle.values.proofs.Records.{one-value, holds, word-kind}
 use Rattle.values.specs.Contract.{OfKind}
@@ -37,7 +37,7 @@ use Rattle.matching.specs.Node.{LiteralHeld, LiteralIs}
 -- a part of a kind below 3 is a whole record
 plain-how : {s : List ℕ} {p : Part} {k : ℕ} {v : Value} → KindOfPart s p k → k < 3 → PartIs s p v → p .how ≡ 1
 plain-how c l (inl h) = h .0
-plain-how {v = v} c l (inr (inl h)) = absurd (let e = c v (inr (inl h)) in let d = ap kindOf (h .1 .is) in omega arith)
+plain-how {v = v} c l (inr (inl h)) = absurd (let e = c v (inr (inl h)) in let d : kindOf v ≡ number (h .1 .kind) = ap kindOf (h .1 .is) in omega (arith, number-low (h .1 .kind)))
 plain-how {v = v} c l (inr (inr h)) = absurd (let e = c v (inr (inr h)) in let d = ap kindOf (h .1 .is) in omega arith)
 
 one-byte : (c : ℕ) → c ≡ 34 → size (shape c .head) ≡ 1

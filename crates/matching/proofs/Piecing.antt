@@ -2,31 +2,35 @@
 use mathlib.Core.Path.{_≡_, refl, sym, ap, subst, _∙_}
 use mathlib.Core.Bool.{Bool, true, false, cond}
 use mathlib.Core.Logic.{inl}
-use mathlib.Core.Option.{some}
 use mathlib.Core.List.{List, [], _∷_, map}
-use Prim.Native.Nat.{ℕ, suc, _+_, _^_, _≤_, _<_}
+use Prim.Native.Nat.{ℕ, suc, _+_, _*_, _/_, _%_, _^_, _≤_, _<_}
 use native.Mathlib.Decide.{ℕ-discrete}
+use native.Mathlib.Nat.{mul-comm, div-add-mod, div-lt-iff-lt-mul, mod-lt}
 use native.Mathlib.Omega.{arith}
+use lib.Arith.{digits-lt}
 use lib.Dec.{eqb}
 use lib.ListN.{length, getD, length-map}
 use lib.Pow.{pow-mono}
 use borrow.Author.Tests.{eqb-true, ltb-false}
 use Rattle.prelude.proofs.Lists.{map-at}
-use Rattle.values.specs.Value.{Kind, set, sequence, number, kindOf, Value, collection}
+use Rattle.prelude.proofs.Membership.{at-in}
+use Rattle.values.specs.Value.{Kind, sequence, number, kindOf, Value, collection}
 use Rattle.values.specs.Place.{At}
 use Rattle.parts.specs.declared.Part.{Part}
 use Rattle.parts.specs.declared.Halves.{Halves}
 use Rattle.parts.specs.Part.{PartIs}
-use Rattle.parts.specs.Contract.{ItemHeld, ItemOfPart, HalvesAre, SplitHeld, SplitOf, CutHeld, CutOf}
-use Rattle.parts.proofs.Laws.{part-one}
+use Rattle.parts.specs.Contract.{ItemHeld, ItemOfPart, HalvesAre, UnitsHere, SplitHeld, SplitOf, CutHeld, CutOf}
+use Rattle.parts.proofs.Laws.{part-one, part-well-formed}
 use Rattle.parts.specs.Chosen.{splitAt}
 use Rattle.parts.specs.Laws.Chosen.{proper-length, nth-split, nth-proper, cuts-length}
 use Rattle.patterns.specs.Ways.{Halves as Split, halves, splits, properSplits, cuts, orders}
-use Rattle.patterns.specs.Pattern.{itemsOf, contents}
-use Rattle.patterns.specs.Nodes.{collectionOf, meetings, bothHalves}
-use Rattle.patterns.specs.Laws.Orders.{factorial, orders-length}
-use Rattle.matching.specs.Node.{Ordinal, PieceHeld, PieceOf}
-use Rattle.matching.proofs.Counting.{pick-true, Has, contents-other, contents-same, none-meets, meets-splits, meets-cuts, meets-orders, meets-items}
+use Rattle.patterns.specs.Pattern.{itemsOf, UnitOf, itemsIn, halvesIn, isUnordered}
+use Rattle.patterns.specs.Laws.Collected.{items-length}
+use Rattle.patterns.specs.Nodes.{collectionOf, width, isHalved, meetings, bothHalves}
+use Rattle.patterns.specs.Laws.Orders.{factorial, order-length, orders-length}
+use Rattle.matching.specs.Node.{isSplit, isPaired, Ordinal, PieceHeld, PieceOf}
+use Rattle.matching.proofs.Placing.{same-item}
+use Rattle.matching.proofs.Counting.{pick-true, split-kind, in-turn, Has, few-items, width-range, units-count, four-units, contents-other, contents-same, none-meets, meets-each, meets-splits, meets-cuts, meets-orders}
 
 -- some way there is only where the test is true
 picked-some : {A : Type 0} (t : Bool) (xs : List A) (d : ℕ) → d < length (cond t xs []) → (t ≡ true) × (d < length xs)
@@ -38,13 +42,16 @@ module _ (c n : ℕ) (s : List ℕ) (p : Part) (d i : ℕ) (h : PieceHeld c n s 
   has-value = go (ℕ-discrete (kindOf (h .value)) (number (collectionOf c)))
     where
       go : Dec (kindOf (h .value) ≡ number (collectionOf c)) → Has (collectionOf c) (h .value)
-      go (yes e) = contents-same (collectionOf c) (h .value) e
+      go (yes e) = contents-same (collectionOf c) (h .value) (part-well-formed (h .here)) e
       go (no f) =
-          let a = none-meets c n (h .value) (h .composed) (contents-other (collectionOf c) (h .value) f) in
+          let a = none-meets c n (h .value) (contents-other (collectionOf c) (h .value) f) in
           absurd (omega (arith, h .below, ap length (a .1)))
 
+  abbrev us : List (UnitOf (collectionOf c))
+  us = has-value .units
+
   abbrev vs : List Value
-  vs = has-value .items
+  vs = itemsIn (collectionOf c) us
 
   here : (k : Kind) → collectionOf c ≡ k → PartIs s p (collection k (itemsOf vs))
   here k e = subst (λ (q : Kind). PartIs s p (collection q (itemsOf vs))) e (subst (PartIs s p) (has-value .is) (h .here))
@@ -69,46 +76,49 @@ module _ (c n : ℕ) (s : List ℕ) (p : Part) (d i : ℕ) (h : PieceHeld c n s 
       part-at j f v z q =
           ap (λ (w : Value). getD (getD (meetings c n w) d []) i z) (same-value v q) ∙ ap (λ (l : List Value). getD l i z) way ∙ ap (λ (m : ℕ). getD (bothHalves k g) m z) f
 
-  module _ (e : c ≡ 38) where
-    has-set : contents set (h .value) ≡ some vs
-    has-set = subst (λ (x : ℕ). contents (collectionOf x) (h .value) ≡ some vs) e (has-value .has)
+  module _ (e : isSplit c ≡ true) where
+    splits-are : meetings c n (h .value) ≡ map (bothHalves (collectionOf c)) (map (halvesIn (collectionOf c)) (properSplits us))
+    splits-are = meets-splits c n (h .value) us (has-value .has) e .0
 
-    splits-are : meetings c n (h .value) ≡ map (bothHalves set) (properSplits vs)
-    splits-are = meets-splits c n (h .value) vs e has-set .0
+    many : length (map (halvesIn (collectionOf c)) (properSplits us)) ≡ length (properSplits us)
+    many = length-map (properSplits us) (halvesIn (collectionOf c))
 
-    below-splits : d < length (properSplits vs)
-    below-splits = omega (arith, h .below, ap length splits-are, length-map (properSplits vs) (bothHalves set))
+    below-splits : d < length (properSplits us)
+    below-splits = omega (arith, h .below, ap length splits-are, length-map (map (halvesIn (collectionOf c)) (properSplits us)) (bothHalves (collectionOf c)), many)
 
-    next-below : suc d + 1 < 2 ^ length vs
-    next-below = omega (arith, below-splits, proper-length vs)
+    next-below : suc d + 1 < 2 ^ length us
+    next-below = omega (arith, below-splits, proper-length us)
 
-    few-members : length vs ≤ 7
-    few-members = ltb-false 7 (length vs) (sym (meets-splits c n (h .value) vs e has-set .1) ∙ h .narrow)
+    few-units : length us ≤ 7
+    few-units = ltb-false 7 (length us) (sym (meets-splits c n (h .value) us (has-value .has) e .1) ∙ h .narrow)
 
     pub next-low : d + 1 < 128
-    next-low = omega (arith, next-below, pow-mono {i = length vs} {j = 7} few-members)
+    next-low = omega (arith, next-below, pow-mono {i = length us} {j = 7} few-units)
+
+    units-here : UnitsHere s p (collectionOf c) us
+    units-here = (split-kind c e .1, here (collectionOf c) refl)
 
     pub split-held : SplitHeld s p (d + 1)
-    split-held = record { items = vs; here = here set (rw e); few = few-members; below = omega (arith, next-below) }
+    split-held = record { kind = collectionOf c; units = us; here = units-here; few = few-units; below = omega (arith, next-below) }
 
-    next-split : getD (properSplits vs) d (halves [] []) ≡ getD (splits vs) (d + 1) (halves [] [])
+    next-split : getD (properSplits us) d (halves [] []) ≡ getD (splits us) (d + 1) (halves [] [])
     next-split =
         let e : suc d ≡ d + 1 = omega arith in
-        nth-proper vs d (halves [] []) next-below ∙ ap (splitAt vs) e ∙ sym (nth-split vs (d + 1) (halves [] []) (omega (arith, next-below)))
+        nth-proper us d (halves [] []) next-below ∙ ap (splitAt us) e ∙ sym (nth-split us (d + 1) (halves [] []) (omega (arith, next-below)))
 
-    split-way : getD (meetings c n (h .value)) d [] ≡ bothHalves set (getD (splits vs) (d + 1) (halves [] []))
+    split-way : getD (meetings c n (h .value)) d [] ≡ bothHalves (collectionOf c) (halvesIn (collectionOf c) (getD (splits us) (d + 1) (halves [] [])))
     split-way =
-        ap (λ (l : List (List Value)). getD l d []) splits-are ∙ map-at (bothHalves set) (properSplits vs) d (halves [] []) [] below-splits ∙ ap (bothHalves set) next-split
+        ap (λ (l : List (List Value)). getD l d []) splits-are
+        ∙ map-at (bothHalves (collectionOf c)) (map (halvesIn (collectionOf c)) (properSplits us)) d (halves [] []) [] (omega (arith, below-splits, many))
+        ∙ ap (bothHalves (collectionOf c)) (map-at (halvesIn (collectionOf c)) (properSplits us) d (halves [] []) (halves [] []) below-splits ∙ ap (halvesIn (collectionOf c)) next-split)
 
     pub split-meets : (r : Halves) → SplitOf s p (d + 1) r → Met r
-    split-meets r o = halves-meet set (getD (splits vs) (d + 1) (halves [] [])) (h .two (rw e)) split-way r (o .right vs (here set (rw e)))
+    split-meets r o =
+        halves-meet (collectionOf c) (halvesIn (collectionOf c) (getD (splits us) (d + 1) (halves [] []))) (h .two (split-kind c e .0)) split-way r (o .right (collectionOf c) us units-here)
 
   module _ (e : c ≡ 40) where
-    has-sequence : contents sequence (h .value) ≡ some vs
-    has-sequence = subst (λ (x : ℕ). contents (collectionOf x) (h .value) ≡ some vs) e (has-value .has)
-
     cuts-are : meetings c n (h .value) ≡ map (bothHalves sequence) (cuts vs)
-    cuts-are = meets-cuts c n (h .value) vs e has-sequence .0
+    cuts-are = meets-cuts c n (h .value) vs (has-value .has) e .0
 
     below-cuts : d < length (cuts vs)
     below-cuts = omega (arith, h .below, ap length cuts-are, length-map (cuts vs) (bothHalves sequence))
@@ -134,32 +144,78 @@ module _ (c n : ℕ) (s : List ℕ) (p : Part) (d i : ℕ) (h : PieceHeld c n s 
   item-held : (k : ℕ) → k < length vs → ItemHeld s p k
   item-held k l = record { kind = collectionOf c; items = vs; here = here (collectionOf c) refl; below = l; short = h .short }
 
-  module _ (e : c ≡ 37) where
-    has-members : contents set (h .value) ≡ some vs
-    has-members = subst (λ (x : ℕ). contents (collectionOf x) (h .value) ≡ some vs) e (has-value .has)
+  module _ (e : isPaired c ≡ true) where
+    orders-are : meetings c n (h .value) ≡ cond (eqb n (length vs)) (map (itemsIn (collectionOf c)) (orders us)) []
+    orders-are = meets-orders c n (h .value) us (has-value .has) e .0
 
-    orders-are : meetings c n (h .value) ≡ cond (eqb n (length vs)) (orders vs) []
-    orders-are = meets-orders c n (h .value) vs e has-members .0
+    fits : (eqb n (length vs) ≡ true) × (d < length (map (itemsIn (collectionOf c)) (orders us)))
+    fits = picked-some (eqb n (length vs)) (map (itemsIn (collectionOf c)) (orders us)) d (omega (arith, h .below, ap length orders-are))
 
-    fits : (eqb n (length vs) ≡ true) × (d < length (orders vs))
-    fits = picked-some (eqb n (length vs)) (orders vs) d (omega (arith, h .below, ap length orders-are))
+    below-orders : d < length (orders us)
+    below-orders = omega (arith, fits .1, length-map (orders us) (itemsIn (collectionOf c)))
 
     count-is : n ≡ length vs
     count-is = eqb-true n (length vs) (fits .0)
 
-    pub order-low : (n ≤ 4) × (d < factorial n) × (i < n)
-    order-low = (h .few, omega (arith, fits .1, orders-length vs, ap factorial count-is), h .within)
+    abbrev w : ℕ
+    w = width (collectionOf c)
 
-    pub member-held : (r : ℕ) → Ordinal n d i r → ItemHeld s p r
-    member-held r o = item-held r (omega (arith, o .below, count-is))
+    some-width : 0 < w
+    some-width = width-range (collectionOf c) .0
 
-    pub member-is : (r : ℕ) (q : Part) → Ordinal n d i r → ItemOfPart s p r q → PieceOf c n s p d i q
-    member-is r q o g =
-        item-is q r (getD (orders vs) d []) (ap (λ (l : List (List Value)). getD l d []) (orders-are ∙ pick-true (orders vs) (fits .0))) (λ z. o .right vs z (sym count-is)) g
+    units-are : n / w ≡ length us
+    units-are = ap (λ (x : ℕ). x / w) count-is ∙ units-count (collectionOf c) us
 
-  module _ (x : c ≡ 37 → ⊥) (y : c ≡ 38 → ⊥) (w : c ≡ 40 → ⊥) where
+    all-items : n ≡ length us * w
+    all-items = count-is ∙ items-length (collectionOf c) us ∙ mul-comm w (length us)
+
+    unit-low : i / w < length us
+    unit-low = div-lt-iff-lt-mul {k = w} {x = i} {y = length us} some-width .1 (subst (λ (x : ℕ). i < x) all-items (h .within))
+
+    -- The order is one of at most four units, and the item is one of a unit.
+    pub order-low : (x : ℕ) → x ≡ w → (n / x ≤ 4) × (d < factorial (n / x)) × (i / x < n / x)
+    order-low x f = rw f (four-units (collectionOf c) n w (h .few) refl, omega (arith, below-orders, orders-length us, ap factorial units-are), subst (λ (y : ℕ). i / w < y) (sym units-are) unit-low)
+
+    module _ (r : ℕ) (o : Ordinal (n / w) d (i / w) r) where
+      unit-there : r < length us
+      unit-there = omega (arith, o .below, units-are)
+
+      item-there : w * r + i % w < length vs
+      item-there =
+          let m : r * w + i % w < length us * w = digits-lt unit-there (mod-lt i some-width) in
+          omega (arith, m, mul-comm w r, all-items, count-is)
+
+      -- in the order, the item at i is the same one of its unit
+      item-placed : (z : Value) → getD (itemsIn (collectionOf c) (getD (orders us) d [])) i z ≡ getD vs (w * r + i % w) z
+      item-placed z =
+          let long = order-length us (getD (orders us) d []) (at-in (orders us) d [] below-orders) in
+          ap (λ (x : ℕ). getD (itemsIn (collectionOf c) (getD (orders us) d [])) x z) (sym (div-add-mod i w))
+          ∙ same-item (collectionOf c) (getD (orders us) d []) us (i / w) r (i % w) z (λ u. o .right (collectionOf c) us u (sym units-are)) (omega (arith, unit-low, long)) unit-there (mod-lt i some-width)
+
+      order-way : getD (meetings c n (h .value)) d [] ≡ itemsIn (collectionOf c) (getD (orders us) d [])
+      order-way =
+          ap (λ (l : List (List Value)). getD l d []) (orders-are ∙ pick-true (map (itemsIn (collectionOf c)) (orders us)) (fits .0))
+          ∙ map-at (itemsIn (collectionOf c)) (orders us) d [] [] below-orders
+
+    -- The unit r stands at the place of part i: the part meets the item of that unit at its own place.
+    module _ (x : ℕ) (f : x ≡ w) (r : ℕ) (o : Ordinal (n / x) d (i / x) r) where
+      placed : Ordinal (n / w) d (i / w) r
+      placed = subst (λ (y : ℕ). Ordinal (n / y) d (i / y) r) f o
+
+      pub item-small : x * r + i % x ≤ 127
+      item-small = rw f (omega (arith, item-there r placed, few-items (collectionOf c) vs (part-well-formed (here (collectionOf c) refl))))
+
+      pub paired-held : ItemHeld s p (x * r + i % x)
+      paired-held = rw f (item-held (w * r + i % w) (item-there r placed))
+
+      pub paired-is : (q : Part) → ItemOfPart s p (x * r + i % x) q → PieceOf c n s p d i q
+      paired-is q g =
+          item-is q (w * r + i % w) (itemsIn (collectionOf c) (getD (orders us) d [])) (order-way r placed) (item-placed r placed) (subst (λ (y : ℕ). ItemOfPart s p (y * r + i % y) q) f g)
+
+  module _ (each : isHalved c ≡ false) (ordered : isUnordered (collectionOf c) ≡ false) where
     items-are : meetings c n (h .value) ≡ cond (eqb n (length vs)) (vs ∷ []) []
-    items-are = meets-items c n (h .value) vs x y w (h .composed) (has-value .has) .0
+    items-are =
+        meets-each c n (h .value) vs (has-value .has) each .0 ∙ ap (λ (l : List (List Value)). cond (eqb n (length vs)) l []) (in-turn (collectionOf c) ordered vs)
 
     fit : (eqb n (length vs) ≡ true) × (d < 1)
     fit = picked-some (eqb n (length vs)) (vs ∷ []) d (omega (arith, h .below, ap length items-are))

@@ -3,12 +3,13 @@ use mathlib.Core.Path.{_≡_, refl, sym, ap, subst, _∙_}
 use mathlib.Core.Bool.{Bool, true, false, _||_, cond}
 use mathlib.Core.Option.{Option, none as absent, some}
 use mathlib.Core.List.{List, [], _∷_, map}
-use Prim.Native.Nat.{ℕ, zero, suc, _≤_, _<_}
+use Prim.Native.Nat.{ℕ, zero, suc, _*_, _≤_, _<_}
+use native.Mathlib.Decide.{ℕ-discrete}
 use native.Mathlib.Omega.{arith}
 use lib.Dec.{eqb, leb}
 use lib.ListN.{length, getD, length-map}
 use borrow.Author.Tests.{leb-true, eqb-true, eqb-false}
-use Rattle.values.specs.Value.{Kind, set, sequence, map as mapping, tuple, Value}
+use Rattle.values.specs.Value.{Kind, set, sequence, map as mapping, tuple, number, Value, kindOf, WellFormed}
 use Rattle.tables.specs.Laws.Kinds.{by-composed, by-leaf}
 use Rattle.tables.specs.Record.{Record, isComposed, named, operand, nameOf, shape, headOf, size, isKnown}
 use Rattle.tables.specs.Table.{recordAt, kindAt}
@@ -21,21 +22,24 @@ use Rattle.parts.specs.declared.Part.{Part}
 use Rattle.patterns.specs.Ways.{Halves, orders}
 use Rattle.prelude.proofs.Lists.{map-at}
 use Rattle.prelude.proofs.Membership.{at-in}
-use Rattle.patterns.specs.Pattern.{Pattern, any, literal, Patterns, nil, cons, arrangements, contents, met, split}
+use Rattle.patterns.specs.Pattern.{Pattern, any, literal, Patterns, nil, cons, UnitOf, itemsIn, isUnordered, arrangements, contents, met, split}
+use Rattle.patterns.specs.Laws.Collected.{items-length, arrangements-units}
 use Rattle.prelude.proofs.Absurd.{true-false}
+use Rattle.prelude.proofs.Truth.{by-test}
 use Rattle.patterns.specs.Laws.Orders.{order-length}
 use Rattle.patterns.specs.Read.{Readable, patternsOf, patternOf, patternAt}
 use Rattle.patterns.specs.Laws.Some.{some-at, some-none}
-use Rattle.patterns.specs.Nodes.{collectionOf, isHalved, meetings, bothHalves}
+use Rattle.patterns.specs.Nodes.{collectionOf, width, isHalved, meetings, bothHalves}
 use Rattle.patterns.specs.Laws.Nodes.{is-boolean-literal, is-integer-literal, pattern-at}
 use Rattle.matching.specs.declared.nodes.Meeting.{Meeting}
 use Rattle.matching.specs.Node.{LiteralHeld, Meets, innerOf}
+use Rattle.matching.proofs.Counting.{contents-other, contents-same, width-range, in-turn}
 
 -- ---- the shapes of patterns with parts
 
 pub record Shapely (c : ℕ) : Type 0 where
   pub no-head : size (shape c .head) ≡ 0
-  pub most : length (shape c .roles) ≤ 4
+  pub most : length (shape c .roles) ≤ 4 * width (collectionOf c)
   pub two : isHalved c ≡ true → (2 ≤ shape c .least) × (length (shape c .roles) ≤ 2)
 
 shapely : (c : ℕ) → isComposed c ≡ true → Shapely c
@@ -43,6 +47,8 @@ unfolding shape
 shapely c h =
     by-composed c h
     (λ e. subst Shapely (sym e) (record { no-head = refl; most = omega arith; two = λ e. true-false (sym e) }))
+    (λ e. subst Shapely (sym e) (record { no-head = refl; most = omega arith; two = λ e. true-false (sym e) }))
+    (λ e. subst Shapely (sym e) (record { no-head = refl; most = omega arith; two = λ e. (omega arith, omega arith) }))
     (λ e. subst Shapely (sym e) (record { no-head = refl; most = omega arith; two = λ e. true-false (sym e) }))
     (λ e. subst Shapely (sym e) (record { no-head = refl; most = omega arith; two = λ e. (omega arith, omega arith) }))
     (λ e. subst Shapely (sym e) (record { no-head = refl; most = omega arith; two = λ e. true-false (sym e) }))
@@ -96,8 +102,16 @@ module _ (table index : List ℕ) (p : ℕ) (r : Readable table index p) where
     shaped : Shapely (kindAt (records table) p)
     shaped = shapely (kindAt (records table) p) c
 
-    pub count-few : length (named (recordAt (records table) p)) ≤ 4
+    -- four units at most,
+    pub count-few : length (named (recordAt (records table) p)) ≤ 4 * width (collectionOf (kindAt (records table) p))
     count-few = omega (arith, named-count (recordAt (records table) p) (r .fine .fit p within), fit-most (recordAt (records table) p) (r .fine .fit p within), shaped .no-head, shaped .most)
+
+    pub count-fits : (kind n : ℕ) → kind ≡ kindAt (records table) p → n ≡ length (named (recordAt (records table) p)) → n ≤ 4 * width (collectionOf kind)
+    count-fits kind n x y = rw (x, y) count-few
+
+    -- and so eight parts.
+    pub count-most : length (named (recordAt (records table) p)) ≤ 8
+    count-most = omega (arith, count-few, width-range (collectionOf (kindAt (records table) p)) .1)
 
     pub count-two : isHalved (kindAt (records table) p) ≡ true → length (named (recordAt (records table) p)) ≡ 2
     count-two e =
@@ -144,29 +158,45 @@ picked-some : {A : Type 0} (t : Bool) (xs : List A) (d : ℕ) (z : A) → d < le
 picked-some true xs d z h = (refl, h, refl)
 picked-some false xs d z h = absurd (omega arith)
 
-arranged-length : (k : Kind) (vs : List Value) (d : ℕ) → d < length (arrangements k vs) → length (getD (arrangements k vs) d []) ≡ length vs
-arranged-length set vs d h = order-length vs (getD (orders vs) d []) (at-in (orders vs) d [] h)
-arranged-length sequence vs zero h = refl
-arranged-length sequence vs (suc d) h = absurd (omega arith)
-arranged-length mapping vs d h = absurd (omega arith)
-arranged-length tuple vs zero h = refl
-arranged-length tuple vs (suc d) h = absurd (omega arith)
+arranged-length : (k : Kind) (us : List (UnitOf k)) (d : ℕ) → d < length (arrangements k (itemsIn k us)) → length (getD (arrangements k (itemsIn k us)) d []) ≡ length (itemsIn k us)
+arranged-length k us d h = by-test (isUnordered k) (λ u. shuffled u) (λ u. in-order u d h)
+  where
+    shuffled : isUnordered k ≡ true → length (getD (arrangements k (itemsIn k us)) d []) ≡ length (itemsIn k us)
+    shuffled u =
+        let e = arrangements-units k u us in
+        let l : d < length (orders us) = omega (arith, h, ap length e, length-map (orders us) (itemsIn k)) in
+        ap (λ (ws : List (List Value)). length (getD ws d [])) e
+        ∙ ap length (map-at (itemsIn k) (orders us) d [] [] l)
+        ∙ items-length k (getD (orders us) d [])
+        ∙ ap (λ (n : ℕ). width k * n) (order-length us (getD (orders us) d []) (at-in (orders us) d [] l))
+        ∙ sym (items-length k us)
 
-met-length : (k : Kind) (n : ℕ) (o : Option (List Value)) (d : ℕ) → d < length (met k n o) → length (getD (met k n o) d []) ≡ n
-met-length k n absent d h = absurd (omega arith)
-met-length k n (some vs) d h =
-    let (e, l, g) = picked-some (eqb n (length vs)) (arrangements k vs) d [] h in
-    ap length g ∙ arranged-length k vs d l ∙ sym (eqb-true n (length vs) e)
+    in-order : isUnordered k ≡ false → (d : ℕ) → d < length (arrangements k (itemsIn k us)) → length (getD (arrangements k (itemsIn k us)) d []) ≡ length (itemsIn k us)
+    in-order u d h =
+        let e = in-turn k u (itemsIn k us) in
+        let z : d ≡ 0 = omega (arith, h, ap length e) in
+        ap (λ (ws : List (List Value)). length (getD ws d [])) e ∙ ap (λ (i : ℕ). length (getD (itemsIn k us ∷ []) i [])) z
+
+met-length : (k : Kind) (n : ℕ) (v : Value) (d : ℕ) → WellFormed v → d < length (met k n (contents k v)) → length (getD (met k n (contents k v)) d []) ≡ n
+met-length k n v d w h = go (ℕ-discrete (kindOf v) (number k))
+  where
+    go : Dec (kindOf v ≡ number k) → length (getD (met k n (contents k v)) d []) ≡ n
+    go (yes e) =
+        let c = contents-same k v w e in
+        let m = ap (met k n) (c .has) in
+        let (f, l, g) = picked-some (eqb n (length (itemsIn k (c .units)))) (arrangements k (itemsIn k (c .units))) d [] (omega (arith, h, ap length m)) in
+        ap (λ (ws : List (List Value)). length (getD ws d [])) m ∙ ap length g ∙ arranged-length k (c .units) d l ∙ sym (eqb-true n (length (itemsIn k (c .units))) f)
+    go (no f) = absurd (omega (arith, h, ap (λ (o : Option (List Value)). length (met k n o)) (contents-other k v f)))
 
 pair-length : (k : Kind) (hs : List (Halves Value)) (d : ℕ) → d < length (map (bothHalves k) hs) → length (getD (map (bothHalves k) hs) d []) ≡ 2
 pair-length k [] d h = absurd (omega arith)
 pair-length k (x ∷ hs) zero h = refl
 pair-length k (x ∷ hs) (suc d) h = pair-length k hs d (omega arith)
 
-pub meeting-length : (c n : ℕ) (v : Value) (d : ℕ) → (isHalved c ≡ true → n ≡ 2) → d < length (meetings c n v) → length (getD (meetings c n v) d []) ≡ n
-meeting-length c n v d two h = go (isHalved c) refl h
+pub meeting-length : (c n : ℕ) (v : Value) (d : ℕ) → WellFormed v → (isHalved c ≡ true → n ≡ 2) → d < length (meetings c n v) → length (getD (meetings c n v) d []) ≡ n
+meeting-length c n v d w two h = go (isHalved c) refl h
   where
     go : (t : Bool) → isHalved c ≡ t → d < length (cond t (map (bothHalves (collectionOf c)) (split (collectionOf c) (contents (collectionOf c) v))) (met (collectionOf c) n (contents (collectionOf c) v)))
         → length (getD (cond t (map (bothHalves (collectionOf c)) (split (collectionOf c) (contents (collectionOf c) v))) (met (collectionOf c) n (contents (collectionOf c) v))) d []) ≡ n
     go true e l = pair-length (collectionOf c) (split (collectionOf c) (contents (collectionOf c) v)) d l ∙ sym (two e)
-    go false e l = met-length (collectionOf c) n (contents (collectionOf c) v) d l
+    go false e l = met-length (collectionOf c) n v d w l

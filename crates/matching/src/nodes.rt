@@ -5,22 +5,22 @@ use tables::kinds;
 use values::Value;
 ghost use mathlib.Core.Path.{_≡_};
 ghost use mathlib.Core.Bool.{true};
-ghost use Prim.Native.Nat.{_≤_, _<_};
+ghost use Prim.Native.Nat.{_*_, _≤_, _<_};
 ghost use Rattle.parts.specs.Part.{PartHeld};
 ghost use Rattle.values.specs.Value.{number};
 ghost use Rattle.tables.specs.Record.{isComposed};
-ghost use Rattle.patterns.specs.Nodes.{collectionOf};
+ghost use Rattle.patterns.specs.Nodes.{collectionOf, width};
 ghost use Rattle.patterns.specs.Laws.Orders.{factorial};
-ghost use Rattle.matching.specs.Node.{Ordinal, Meets, PieceHeld, PieceOf, LiteralHeld, LiteralIs};
+ghost use Rattle.matching.specs.Node.{Ordinal, isSplit, isPaired, SplitsAs, Meets, PieceHeld, PieceOf, LiteralHeld, LiteralIs};
 
-// Kind or count do not fit; a set is too large to split; or so many ways.
+// Kind or count do not fit; a set or map is too large to split; or so many ways.
 pub enum Meeting {
     Unfit,
     Large,
     Ways(usize),
 }
 
-// The number of orders of at most four members.
+// The number of orders of at most four units: members of a set, entries of a map.
 fn orders(n: usize) -> usize
     requires { ⌜ n ≤ 4 ⌝ }
     ensures { λ r. ⌜ (r ≡ factorial n) × (0 < r) × (r < 256) ⌝ }
@@ -37,8 +37,8 @@ fn orders(n: usize) -> usize
     24
 }
 
-// Which of n members stands at i in the d-th of their orders.
-fn member(n: usize, d: usize, i: usize) -> usize
+// Which of n units stands at i in the d-th of their orders.
+fn unit_at(n: usize, d: usize, i: usize) -> usize
     requires { ⌜ (n ≤ 4) × (d < factorial n) × (i < n) ⌝ }
     ensures { λ r. ⌜ Ordinal n d i r ⌝ }
 {
@@ -47,9 +47,9 @@ fn member(n: usize, d: usize, i: usize) -> usize
         return 0;
     }
     if i < at {
-        return 1 + member(n - 1, d / n, i);
+        return 1 + unit_at(n - 1, d / n, i);
     }
-    1 + member(n - 1, d / n, i - 1)
+    1 + unit_at(n - 1, d / n, i - 1)
 }
 
 // The kind of the values that a pattern of the kind meets.
@@ -60,13 +60,49 @@ pub fn collection_of(kind: usize) -> usize
         kinds::TUPLE_PATTERN => Value::TUPLE,
         kinds::SET_PATTERN => Value::SET,
         kinds::UNION_PATTERN => Value::SET,
+        kinds::MAP_PATTERN => Value::MAP,
+        kinds::MUNION_PATTERN => Value::MAP,
         _ => Value::SEQUENCE,
     }
 }
 
-// The ways in which n parts of a pattern of the kind meet a part of a value.
+// A union or munion pattern: its halves meet the two halves of a set or map, in every split.
+pub fn is_split(kind: usize) -> bool
+    ensures { λ r. ⌜ r ≡ isSplit kind ⌝ }
+{
+    if kind == kinds::UNION_PATTERN {
+        return true;
+    }
+    kind == kinds::MUNION_PATTERN
+}
+
+// A set or map enumeration: its parts meet the members or entries, in every order.
+fn is_paired(kind: usize) -> bool
+    ensures { λ r. ⌜ r ≡ isPaired kind ⌝ }
+{
+    if kind == kinds::SET_PATTERN {
+        return true;
+    }
+    kind == kinds::MAP_PATTERN
+}
+
+// The ways to split so many units into two halves, neither of them empty.
+fn meet_halves(units: usize) -> Meeting
+    ensures { λ r. ⌜ SplitsAs units r ⌝ }
+{
+    if parts::masks::MOST_UNITS < units {
+        return Meeting::Large;
+    }
+    if units < 2 {
+        return Meeting::Unfit;
+    }
+    let m = parts::masks::full(units);
+    Meeting::Ways(m - 1)
+}
+
+// The ways in which n parts of a pattern of the kind meet a part of a value. Counts are of items: an entry has two.
 pub fn meet(kind: usize, n: usize, s: &[u8], part: Part) -> Meeting
-    requires { ⌜ (isComposed kind ≡ true) × (n ≤ 4) × PartHeld (now s) part ⌝ }
+    requires { ⌜ (isComposed kind ≡ true) × (n ≤ 4 * width (collectionOf kind)) × PartHeld (now s) part ⌝ }
     ensures { λ r. ⌜ Meets kind n (now (s .entry)) part r ⌝ }
 {
     let k = parts::kind_of_part(s, part);
@@ -75,35 +111,30 @@ pub fn meet(kind: usize, n: usize, s: &[u8], part: Part) -> Meeting
         return Meeting::Unfit;
     }
     let count = parts::count_of_part(s, part);
-    if kind == kinds::UNION_PATTERN {
-        if parts::masks::MOST_MEMBERS < count {
-            return Meeting::Large;
-        }
-        if count < 2 {
-            return Meeting::Unfit;
-        }
-        let m = parts::masks::full(count);
-        return Meeting::Ways(m - 1);
-    }
     if kind == kinds::CONCATENATION_PATTERN {
         return Meeting::Ways(count + 1);
+    }
+    let w = parts::masks::width(k);
+    let units = count / w;
+    if is_split(kind) {
+        return meet_halves(units);
     }
     if count != n {
         return Meeting::Unfit;
     }
-    if kind == kinds::SET_PATTERN {
-        let m = orders(n);
+    if is_paired(kind) {
+        let m = orders(units);
         return Meeting::Ways(m);
     }
     Meeting::Ways(1)
 }
 
-// What part i meets in the way d. The first of all splits has an empty half, so the ways of a union start at the next.
+// What part i meets in the way d. The first of all splits has an empty half, so the ways of a union or munion start at the next.
 pub fn piece(kind: usize, n: usize, s: &[u8], part: Part, d: usize, i: usize) -> Part
     requires { ⌜ PieceHeld kind n (now s) part d i ⌝ }
     ensures { λ r. ⌜ PieceOf kind n (now (s .entry)) part d i r ⌝ }
 {
-    if kind == kinds::UNION_PATTERN {
+    if is_split(kind) {
         let h = parts::split_part(s, part, d + 1);
         if i == 0 {
             return h.left;
@@ -117,9 +148,11 @@ pub fn piece(kind: usize, n: usize, s: &[u8], part: Part, d: usize, i: usize) ->
         }
         return h.right;
     }
-    if kind == kinds::SET_PATTERN {
-        let k = member(n, d, i);
-        return parts::item_of_part(s, part, k);
+    if is_paired(kind) {
+        let c = collection_of(kind);
+        let w = parts::masks::width(c);
+        let unit = unit_at(n / w, d, i / w);
+        return parts::item_of_part(s, part, w * unit + i % w);
     }
     parts::item_of_part(s, part, i)
 }

@@ -1,124 +1,132 @@
 -- The halves of a part, said of lists, places and numbers alone.
+use mathlib.Core.Bool.{true}
 use mathlib.Core.Path.{_≡_, refl, sym, ap, subst, _∙_}
 use mathlib.Core.Logic.{inl, inr}
 use mathlib.Core.List.{List, [], _∷_, _++_}
-use Prim.Native.Nat.{ℕ, zero, suc, _+_, _-_, _/_, _%_, _^_, _≤_, _<_}
-use native.Mathlib.Nat.{pow-suc, pow-le-pow-right}
+use Prim.Native.Nat.{ℕ, _+_, _*_, _-_, _/_, _^_, _≤_, _<_}
 use native.Mathlib.Omega.{arith}
-use lib.Count.{ones, ones-step, ones-ones}
 use lib.ListN.{length, getD, take, drop, take-append-drop}
-use Rattle.values.specs.Value.{set, sequence, Value, collection, Items, more, kindOf, sizes}
+use Rattle.prelude.proofs.Absurd.{never}
+use Rattle.values.specs.Value.{Kind, set, sequence, map as mapping, tuple, Value, collection, Items, more, kindOf, sizes}
 use Rattle.values.specs.Items.{join}
 use Rattle.values.specs.Place.{ItemsAt}
 use Rattle.values.proofs.Encoding.{collection-size, join-sizes}
+use Rattle.values.proofs.Order.{number-inj}
 use Rattle.values.proofs.Records.{parted}
-use Rattle.patterns.specs.Ways.{halves, splits, cuts}
-use Rattle.patterns.specs.Pattern.{itemsOf, leftOf, rightOf}
+use Rattle.patterns.specs.Ways.{Halves as Split, halves, splits, cuts}
+use Rattle.patterns.specs.Pattern.{itemsOf, UnitOf, itemsIn, halvesIn, isUnordered, leftOf, rightOf}
+use Rattle.patterns.specs.Nodes.{width}
+use Rattle.patterns.specs.Laws.Collected.{items-length}
 use Rattle.parts.specs.declared.Part.{Part}
 use Rattle.parts.specs.declared.runs.Run.{Run}
 use Rattle.parts.specs.Chosen.{everyOne, keep, chosen, splitAt}
-use Rattle.parts.specs.Laws.Chosen.{chosen-all, keep-none, keep-odd, keep-even, keep-full, nth-split, nth-cut}
-use Rattle.parts.specs.Mask.{Full, Spread}
-use Rattle.parts.specs.Part.{Selects, PartIs}
-use Rattle.parts.proofs.Laws.{selects-of, part-one, part-well-formed, one-collection, end-record}
+use Rattle.parts.specs.Laws.Chosen.{chosen-all, keep-full, nth-split, nth-cut}
+use Rattle.parts.specs.Mask.{Full, Spread, WidthOf}
+use Rattle.parts.specs.Part.{Selects, PartIs, PartHeld}
+use Rattle.parts.proofs.Laws.{selects-of, selects-low, part-one, part-well-formed, one-collection, one-units, end-record}
 use Rattle.parts.specs.Run.{RunIs, RunOf, SkipHeld, Skipped}
-use Rattle.parts.specs.Contract.{CollectionHeld, CountOfPart, HalvesAre, Countable, MaskOf, SplitHeld, SplitOf, CutHeld, CutOf}
-
--- ---- `count_of_part`
-
--- a mask chooses as many as it has bits that are set
-kept-length : (m : ℕ) (vs : List Value) → m < 2 ^ length vs → length (keep m vs) ≡ ones m
-kept-length m [] h = let e : m ≡ 0 = omega arith in ap length (keep-none {A = Value} m) ∙ sym (ap ones e ∙ ones-ones 0)
-kept-length m (v ∷ vs) h = go (kept-length (m / 2) vs (omega (arith, pow-suc 2 (length vs)))) (m % 2) refl (omega arith)
-  where
-    go : length (keep (m / 2) vs) ≡ ones (m / 2) → (b : ℕ) → m % 2 ≡ b → b < 2 → length (keep m (v ∷ vs)) ≡ ones m
-    go l zero e q = ap length (keep-even m (m / 2) v vs e refl) ∙ omega (arith, l, ones-step m)
-    go l (suc zero) e q = ap length (keep-odd m (m / 2) v vs e refl) ∙ omega (arith, l, ones-step m)
-    go l (suc (suc b)) e q = absurd (omega arith)
-
-pub members-counted : {s : List ℕ} {p : Part} → p .how ≡ 2 → CountOfPart s p (ones (p .extent))
-members-counted {s} {p} e k vs h = let x = selects-of {p = p} e h in sym (kept-length (p .extent) (x .all) (x .below)) ∙ ap length (sym (one-collection (x .is)))
+use Rattle.parts.specs.Contract.{KindOfPart, CollectionHeld, CountOfPart, HalvesAre, UnitsHere, Countable, MaskOf, SplitHeld, SplitOf, CutHeld, CutOf}
 
 -- ---- `mask_of`
 
--- a set is no span, a sequence no choice of members
-set-how : {s : List ℕ} {p : Part} {vs : Items} → PartIs s p (collection set vs) → p .how ≡ 3 → ⊥
-set-how (inl h) e = omega (arith, h .0)
-set-how (inr (inl h)) e = omega (arith, h .0)
-set-how (inr (inr h)) e = let d : _≡_ {A = ℕ} 3 4 = ap kindOf (h .1 .is) in omega arith
+-- no set or map is a sequence
+no-sequence : {k : Kind} {vs ws : Items} → isUnordered k ≡ true → collection k vs ≡ collection sequence ws → ⊥
+no-sequence {k} u e = never (sym (ap isUnordered (number-inj k sequence (ap kindOf e))) ∙ u)
+
+-- a set or map is no span, a sequence no choice of units
+unordered-how : {s : List ℕ} {p : Part} {k : Kind} {vs : Items} → isUnordered k ≡ true → PartIs s p (collection k vs) → p .how ≡ 3 → ⊥
+unordered-how u (inl h) e = omega (arith, h .0)
+unordered-how u (inr (inl h)) e = omega (arith, h .0)
+unordered-how u (inr (inr h)) e = no-sequence u (h .1 .is)
 
 sequence-how : {s : List ℕ} {p : Part} {vs : Items} → PartIs s p (collection sequence vs) → p .how ≡ 2 → ⊥
 sequence-how (inl h) e = omega (arith, h .0)
-sequence-how (inr (inl h)) e = let d : _≡_ {A = ℕ} 4 3 = ap kindOf (h .1 .is) in omega arith
+sequence-how (inr (inl h)) e = no-sequence (h .1 .unordered) (sym (h .1 .is))
 sequence-how (inr (inr h)) e = omega (arith, h .0)
+
+-- so many items are so many units
+units-of-items : (k : Kind) (n l : ℕ) → n ≡ width k * l → n / width k ≡ l
+units-of-items set n l e = omega arith
+units-of-items sequence n l e = omega arith
+units-of-items mapping n l e = omega arith
+units-of-items tuple n l e = omega arith
 
 module _ {s : List ℕ} {p : Part} where
   pub countable-held : Countable s p → CollectionHeld s p
-  countable-held h = record { kind = set; items = h .items; here = h .here }
+  countable-held h = record { kind = h .kind; items = itemsIn (h .kind) (h .units); here = h .here .1 }
+
+  pub countable-part : Countable s p → PartHeld s p
+  countable-part h = record { value = collection (h .kind) (itemsOf (itemsIn (h .kind) (h .units))); here = h .here .1 }
 
   pub mask-selects : p .how ≡ 2 → Countable s p → MaskOf s p (p .extent)
-  mask-selects e h =
-      let x = selects-of e (h .here) in
-      let f = x .few in
-      let b = x .below in
-      let l : 2 ^ length (x .all) ≤ 2 ^ 7 = pow-le-pow-right (omega arith) f in
-      record { low = omega arith; right = λ vs g. selects-of e g }
+  mask-selects e h = record { low = selects-low (selects-of e (h .here .1)); right = λ k us g. selects-of e (g .1) }
 
-  pub mask-full : {n m : ℕ} → (p .how ≡ 2 → ⊥) → Countable s p → CountOfPart s p n → Full n m → MaskOf s p m
-  mask-full {n} {m} f h c g = record { low = g .small; right = λ vs x. go vs x x }
-    where
-      go : (vs : List Value) → PartIs s p (collection set (itemsOf vs)) → PartIs s p (collection set (itemsOf vs)) → Selects s (p .at) m (collection set (itemsOf vs))
-      go vs x (inl y) =
-          let e : vs ≡ h .items = one-collection (part-one x (h .here)) in
-          let few : length vs ≤ 7 = subst (λ (l : List Value). length l ≤ 7) (sym e) (h .few) in
-          let q : m + 1 ≡ 2 ^ length vs = g .power ∙ ap (λ (k : ℕ). 2 ^ k) (c set vs x) in
-          record { all = vs; here = y .1; few = few; below = omega arith; is = ap (λ (l : List Value). collection set (itemsOf l)) (sym (keep-full vs m q)) }
-      go vs x (inr (inl y)) = absurd (f (y .0))
-      go vs x (inr (inr y)) = absurd (set-how x (y .0))
+  module _ {kind n w : ℕ} (a : KindOfPart s p kind) (b : CountOfPart s p n) (c : WidthOf kind w) where
+    counted-units : (k : Kind) (us : List (UnitOf k)) → PartIs s p (collection k (itemsOf (itemsIn k us))) → n / w ≡ length us
+    counted-units k us x =
+        let v = collection k (itemsOf (itemsIn k us)) in
+        ap (λ (i : ℕ). n / i) (c k (a v x)) ∙ units-of-items k n (length us) (b k (itemsIn k us) x ∙ items-length k us)
+
+    pub counted-few : Countable s p → n / w ≤ 7
+    counted-few h = let e = counted-units (h .kind) (h .units) (h .here .1) in let f = h .few in omega arith
+
+    pub mask-full : {m : ℕ} → (p .how ≡ 2 → ⊥) → Countable s p → Full (n / w) m → MaskOf s p m
+    mask-full {m} f h g = record { low = g .small; right = λ k us (u, x). go k us u x x }
+      where
+        go : (k : Kind) (us : List (UnitOf k)) → isUnordered k ≡ true → PartIs s p (collection k (itemsOf (itemsIn k us))) → PartIs s p (collection k (itemsOf (itemsIn k us)))
+            → Selects s (p .at) m (collection k (itemsOf (itemsIn k us)))
+        go k us u x (inl y) =
+            let e = counted-units k us x in
+            let l = counted-few h in
+            let q : m + 1 ≡ 2 ^ length us = g .power ∙ ap (λ (i : ℕ). 2 ^ i) e in
+            record { kind = k; unordered = u; all = us; here = y .1; few = omega arith; below = omega arith; is = ap (λ (l : List (UnitOf k)). collection k (itemsOf (itemsIn k l))) (sym (keep-full us m q)) }
+        go k us u x (inr (inl y)) = absurd (f (y .0))
+        go k us u x (inr (inr y)) = absurd (unordered-how u x (y .0))
 
   -- ---- `split_part`
 
   pub split-countable : {d : ℕ} → SplitHeld s p d → Countable s p
-  split-countable h = record { items = h .items; here = h .here; few = h .few }
+  split-countable h = record { kind = h .kind; units = h .units; here = h .here; few = h .few }
 
   pub split-is : {d m r : ℕ} → SplitHeld s p d → MaskOf s p m → Spread m d r
       → SplitOf s p d (record { left = record { how = 2; at = p .at; extent = r }; right = record { how = 2; at = p .at; extent = m - r } })
   split-is {d} {m} {r} h c g =
-      let e = end-record s p (set-how (h .here)) in
-      record { right = right; inside = record { left = omega arith; right = omega arith } }
+      let e = end-record s p (unordered-how (h .here .0) (h .here .1)) in
+      record { right = λ k us x. right k us x (c .right k us x); inside = record { left = omega arith; right = omega arith } }
     where
-      right : (vs : List Value) → PartIs s p (collection set (itemsOf vs))
-          → HalvesAre s set (getD (splits vs) d (halves [] [])) (record { left = record { how = 2; at = p .at; extent = r }; right = record { how = 2; at = p .at; extent = m - r } })
-      right vs x =
-          let y = c .right vs x in
-          let o : vs ≡ h .items = one-collection (part-one x (h .here)) in
-          let l : d < 2 ^ length vs = subst (λ (k : List Value). d < 2 ^ length k) (sym o) (h .below) in
-          let e : vs ≡ keep m (y .all) = one-collection (y .is) in
-          let n : getD (splits vs) d (halves [] []) ≡ splitAt (keep m (y .all)) d = nth-split vs d (halves [] []) l ∙ ap (λ (k : List Value). splitAt k d) e in
+      -- d is the number of a split, also of what the mask chooses
+      Below : (k : Kind) → List (UnitOf k) → Type 0
+      Below k us = d < 2 ^ length us
+
+      -- a mask chooses a half of them
+      chosen-half : (k : Kind) (us : List (UnitOf k)) (y : Selects s (p .at) m (collection k (itemsOf (itemsIn k us)))) (l : ℕ) (half : (A : Type 0) → Split A → List A) → l ≤ m
+          → keep l (y .all) ≡ half (UnitOf (y .kind)) (splitAt (keep m (y .all)) d)
+          → Selects s (p .at) l (collection k (itemsOf (itemsIn k (half (UnitOf k) (splitAt us d)))))
+      chosen-half k us y l half low e =
           let b = y .below in
-          let w = g .low in
-          let u : d < 2 ^ length (keep m (y .all)) = subst (λ (k : List Value). d < 2 ^ length k) e l in
           record {
-            left = inr (inl (
-              refl,
-              record {
-                all = y .all;
-                here = y .here;
-                few = y .few;
-                below = omega arith;
-                is = ap (leftOf set) n ∙ ap (λ (k : List Value). collection set (itemsOf k)) (sym (g .left (y .all) b u));
-              },
-            ));
-            right = inr (inl (
-              refl,
-              record {
-                all = y .all;
-                here = y .here;
-                few = y .few;
-                below = omega arith;
-                is = ap (rightOf set) n ∙ ap (λ (k : List Value). collection set (itemsOf k)) (sym (g .right (y .all) b u));
-              },
-            ));
+            kind = y .kind;
+            unordered = y .unordered;
+            all = y .all;
+            here = y .here;
+            few = y .few;
+            below = omega arith;
+            is =
+                one-units
+                (λ (i : Kind) (ws : List (UnitOf i)). collection i (itemsOf (itemsIn i (half (UnitOf i) (splitAt ws d)))) ≡ collection (y .kind) (itemsOf (itemsIn (y .kind) (keep l (y .all)))))
+                (y .kind) k (keep m (y .all)) us (sym (y .is)) (ap (λ (ws : List (UnitOf (y .kind))). collection (y .kind) (itemsOf (itemsIn (y .kind) ws))) (sym e));
+          }
+
+      right : (k : Kind) (us : List (UnitOf k)) → UnitsHere s p k us → Selects s (p .at) m (collection k (itemsOf (itemsIn k us)))
+          → HalvesAre s k (halvesIn k (getD (splits us) d (halves [] []))) (record { left = record { how = 2; at = p .at; extent = r }; right = record { how = 2; at = p .at; extent = m - r } })
+      right k us (u, x) y =
+          let l : d < 2 ^ length us = one-units Below (h .kind) k (h .units) us (part-one (h .here .1) x) (h .below) in
+          let i : d < 2 ^ length (keep m (y .all)) = one-units Below k (y .kind) us (keep m (y .all)) (y .is) l in
+          let n = nth-split us d (halves [] []) l in
+          let w = g .low in
+          rw n record {
+            left = inr (inl (refl, chosen-half k us y r (λ A (s : Split A). s .left) w (g .left (y .kind) (y .all) (y .below) i)));
+            right = inr (inl (refl, chosen-half k us y (m - r) (λ A (s : Split A). s .right) (omega arith) (g .right (y .kind) (y .all) (y .below) i)));
           }
 
 -- ---- `cut_part`

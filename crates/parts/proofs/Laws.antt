@@ -3,21 +3,23 @@ use mathlib.Core.Path.{_≡_, refl, sym, ap, subst, _∙_}
 use mathlib.Core.Bool.{Bool, true, false, cond}
 use mathlib.Core.Logic.{inl, inr}
 use mathlib.Core.List.{List, [], _∷_}
-use Prim.Native.Nat.{ℕ, _+_, _/_, _≤_}
+use Prim.Native.Nat.{ℕ, _+_, _/_, _^_, _≤_, _<_}
+use native.Mathlib.Nat.{pow-le-pow-right}
 use native.Mathlib.Omega.{arith}
 use lib.ListN.{length, take, length-take}
 use lib.Seq.{take-take}
 use borrow.Author.Tests.{eq-eqb, ne-eqb}
 use Rattle.integers.specs.Bytes.{word}
-use Rattle.values.specs.Value.{Kind, set, sequence, number, Value, collection, Items, kindOf, WellFormed}
+use Rattle.values.specs.Value.{Kind, sequence, number, Value, collection, Items, kindOf, WellFormed}
 use Rattle.values.specs.Place.{At}
 use Rattle.values.proofs.Encoding.{size-low}
 use Rattle.values.proofs.Order.{number-low, number-inj}
 use Rattle.values.proofs.Records.{is-collection, one-value, one-list, word-size, well-formed-collection}
 use Rattle.values.proofs.Frame.{kept, items-kept, word-kept}
-use Rattle.patterns.specs.Pattern.{listOf, itemsOf}
+use Rattle.patterns.specs.Pattern.{listOf, itemsOf, UnitOf, unitsOf, itemsIn}
+use Rattle.patterns.specs.Laws.Collected.{units-items}
 use Rattle.patterns.specs.Laws.Matched.{items-list, list-items}
-use Rattle.patterns.specs.Laws.Named.{PartOf, part-fine}
+use Rattle.patterns.specs.Laws.Named.{PartOf, divides, part-fine}
 use Rattle.parts.specs.declared.Part.{Part}
 use Rattle.parts.specs.Chosen.{odd, keep}
 use Rattle.parts.specs.Part.{Selects, Spans, PartIs, PartHeld, endOf}
@@ -41,6 +43,13 @@ module _ {s : List ℕ} {p : Part} {v : Value} where
   spans-of e (inr (inl h)) = absurd (omega (arith, h .0))
   spans-of e (inr (inr h)) = h .1
 
+-- a mask has at most seven bits
+pub selects-low : {s : List ℕ} {at m : ℕ} {v : Value} → Selects s at m v → m < 128
+selects-low x =
+    let b = x .below in
+    let l : 2 ^ length (x .all) ≤ 2 ^ 7 = pow-le-pow-right (omega arith) (x .few) in
+    omega arith
+
 -- ---- one value
 
 itemsOf-injective : (vs ws : List Value) → itemsOf vs ≡ itemsOf ws → vs ≡ ws
@@ -50,9 +59,19 @@ itemsOf-injective vs ws e = sym (list-items vs) ∙ ap listOf e ∙ list-items w
 pub one-collection : {k l : Kind} {vs ws : List Value} → collection k (itemsOf vs) ≡ collection l (itemsOf ws) → vs ≡ ws
 one-collection {vs = vs} {ws = ws} e = itemsOf-injective vs ws (cc)
 
+-- what holds of a kind and units of it holds of whatever kind and units make the same collection
+pub one-units : (P : (k : Kind) → List (UnitOf k) → Type 0) (k l : Kind) (us : List (UnitOf k)) (ws : List (UnitOf l))
+    → collection k (itemsOf (itemsIn k us)) ≡ collection l (itemsOf (itemsIn l ws)) → P k us → P l ws
+one-units P k l us ws e h =
+    let n : k ≡ l = number-inj k l (ap kindOf e) in
+    let i : itemsIn k us ≡ itemsIn l ws = one-collection e in
+    let g : P l (unitsOf l (itemsIn k us)) = subst (λ (j : Kind). P j (unitsOf j (itemsIn k us))) n (subst (P k) (sym (units-items k us)) h) in
+    subst (P l) (ap (unitsOf l) i ∙ units-items l ws) g
+
 selects-one : {s : List ℕ} {at mask : ℕ} {v w : Value} → Selects s at mask v → Selects s at mask w → v ≡ w
-selects-one {mask = mask} h g =
-    h .is ∙ ap (λ (l : List Value). collection set (itemsOf (keep mask l))) (one-collection (one-value (h .here) (g .here))) ∙ sym (g .is)
+selects-one {mask = mask} {v = v} h g =
+    one-units (λ (k : Kind) (us : List (UnitOf k)). v ≡ collection k (itemsOf (itemsIn k (keep mask us)))) (h .kind) (g .kind) (h .all) (g .all) (one-value (h .here) (g .here)) (h .is)
+    ∙ sym (g .is)
 
 spans-one : {s : List ℕ} {from to : ℕ} {v w : Value} → Spans s from to v → Spans s from to w → v ≡ w
 spans-one h g = h .is ∙ ap (collection sequence) (one-list (h .here) (g .here)) ∙ sym (g .is)
@@ -65,13 +84,13 @@ part-one (inr (inr h)) g = spans-one (h .1) (spans-of (h .0) g)
 
 -- ---- well-formed
 
-pub keep-part : (m : ℕ) (vs : List Value) → PartOf (keep m vs) vs
+pub keep-part : {A : Type 0} (m : ℕ) (us : List A) → PartOf (keep m us) us
 unfolding keep
 keep-part m [] = refl
-keep-part m (v ∷ vs) = go (odd m) (keep-part (m / 2) vs)
+keep-part m (u ∷ us) = go (odd m) (keep-part (m / 2) us)
   where
-    go : (b : Bool) → PartOf (keep (m / 2) vs) vs → PartOf (cond b (v ∷ keep (m / 2) vs) (keep (m / 2) vs)) (v ∷ vs)
-    go true h = inr (keep (m / 2) vs, refl, h)
+    go : (b : Bool) → PartOf (keep (m / 2) us) us → PartOf (cond b (u ∷ keep (m / 2) us) (keep (m / 2) us)) (u ∷ us)
+    go true h = inr (keep (m / 2) us, refl, h)
     go false h = inl h
 
 -- THEOREM: what a part denotes is well-formed
@@ -79,7 +98,7 @@ pub part-well-formed : {s : List ℕ} {p : Part} {v : Value} → PartIs s p v �
 part-well-formed (inl h) = h .1 .fine
 part-well-formed {p = p} (inr (inl h)) =
     let x = h .1 in
-    subst WellFormed (sym (x .is)) (part-fine set (keep (p .extent) (x .all)) (x .all) tt (keep-part (p .extent) (x .all)) (x .here .fine))
+    subst WellFormed (sym (x .is)) (part-fine (x .kind) (keep (p .extent) (x .all)) (x .all) (divides (x .kind) (x .unordered)) (keep-part (p .extent) (x .all)) (x .here .fine))
 part-well-formed (inr (inr h)) =
     let x = h .1 in
     subst WellFormed (sym (x .is)) (well-formed-collection tt (x .here .fine) (x .short))
@@ -107,8 +126,8 @@ part-kept {s} {t} {base} {p} {v} e l b (inr (inl h)) =
     let n = end-record s p (λ q. omega (arith, h .0)) in
     let m = end-record t p (λ q. omega (arith, h .0)) in
     let w = word-size (x .here) in
-    let low = size-low (collection set (itemsOf (x .all))) in (
-      inr (inl (h .0, record { all = x .all; here = kept e l (omega arith) (x .here); few = x .few; below = x .below; is = x .is })),
+    let low = size-low (collection (x .kind) (itemsOf (itemsIn (x .kind) (x .all)))) in (
+      inr (inl (h .0, record { kind = x .kind; unordered = x .unordered; all = x .all; here = kept e l (omega arith) (x .here); few = x .few; below = x .below; is = x .is })),
       m ∙ ap (λ (y : ℕ). p .at + y) (word-kept base (p .at) s t (omega arith) e) ∙ sym n,
     )
 part-kept {s} {t} {base} {p} {v} e l b (inr (inr h)) =

@@ -1,8 +1,8 @@
--- Masks of one set compared by their bits, and words compared.
+-- Masks of one set or map compared by their bits, and words compared.
 use mathlib.Core.Path.{_≡_, refl, sym, ap, ap₂, subst, _∙_}
-use mathlib.Core.Bool.{Bool, cond}
+use mathlib.Core.Bool.{Bool, true, cond}
 use mathlib.Core.Logic.{inl, inr}
-use mathlib.Core.List.{List, [], _∷_}
+use mathlib.Core.List.{List, [], _∷_, _++_, map}
 use Prim.Native.Nat.{ℕ, _/_, _%_, _^_, _<_}
 use native.Mathlib.Nat.{pow-suc}
 use native.Mathlib.Decide.{ℕ-discrete}
@@ -13,21 +13,23 @@ use borrow.Author.Tests.{eq-eqb, ne-eqb}
 use Rattle.prelude.specs.Membership.{In}
 use Rattle.integers.specs.declared.Order.{Order}
 use Rattle.integers.specs.declared.Order.the-variants.{Lower, Same, Higher}
-use Rattle.values.specs.Value.{Value, set, collection, order, after, within, orderItems, Before, Ascending}
+use Rattle.values.specs.Value.{Kind, set, sequence, map as mapping, tuple, Value, collection, order, after, within, orderItems, Shaped}
+use Rattle.values.specs.Entries.{flat}
+use Rattle.values.specs.Place.{At}
 use Rattle.values.proofs.Order.{order-refl, items-refl, lower-flip}
 use Rattle.values.proofs.Records.{collection-shaped, one-value}
-use Rattle.patterns.specs.Pattern.{itemsOf}
+use Rattle.patterns.specs.Pattern.{listOf, itemsOf, UnitOf, itemsIn, isUnordered}
 use Rattle.patterns.specs.Binding.{Cell, is, orderCells}
 use Rattle.patterns.specs.Laws.Plain.{cell-refl}
+use Rattle.patterns.specs.Laws.Collected.{firstOf, Led, led-first, shaped-led}
 use Rattle.parts.specs.declared.Part.{Part}
 use Rattle.parts.specs.Chosen.{keep}
 use Rattle.parts.specs.Laws.Chosen.{keep-zero, keep-odd, keep-even}
 use Rattle.parts.specs.Mask.{OrderedMasks}
-use Rattle.parts.specs.Part.{PartIs, PartHeld, CellIs}
+use Rattle.parts.specs.Part.{Selects, PartIs, PartHeld, CellIs}
 use Rattle.parts.specs.Contract.{OrderedParts}
 use Rattle.parts.specs.Word.{unpacked, WordHeld, OrderedWords}
-use Rattle.parts.proofs.Laws.{selects-of, part-one, one-collection}
-use Rattle.values.specs.Place.{At}
+use Rattle.parts.proofs.Laws.{selects-of, part-one, one-units}
 use Rattle.parts.proofs.Parting.{collections-order}
 use Rattle.parts.proofs.Packing.{cell-value, cell-free, order-left, order-right, order-both}
 
@@ -49,122 +51,193 @@ pub some-higher : (v : Value) (vs : List Value) → orderItems (itemsOf (v ∷ v
 unfolding within itemsOf
 some-higher v vs = refl
 
-first-before : (v : Value) (vs : List Value) → Ascending (itemsOf (v ∷ vs)) → Before v (itemsOf vs) × Ascending (itemsOf vs)
-unfolding Ascending itemsOf
-first-before v vs h = h
+-- equal items at the start decide nothing
+items-same-start : (us vs ws : List Value) → orderItems (itemsOf (us ++ vs)) (itemsOf (us ++ ws)) ≡ orderItems (itemsOf vs) (itemsOf ws)
+items-same-start [] vs ws = refl
+items-same-start (u ∷ us) vs ws =
+    items-more u u (us ++ vs) (us ++ ws)
+    ∙ ap (λ (j : Order). after j (orderItems (itemsOf (us ++ vs)) (itemsOf (us ++ ws)))) (order-refl u)
+    ∙ items-same-start us vs ws
 
-before-in : (v : Value) (vs : List Value) (u : Value) → Before v (itemsOf vs) → In u vs → order v u ≡ Lower
-unfolding Before itemsOf
-before-in v [] u h i = absurd i
-before-in v (w ∷ vs) u h (inl e) = ap (order v) e ∙ h .0
-before-in v (w ∷ vs) u h (inr i) = before-in v vs u (h .1) i
+-- ---- units and their first items
+
+-- The items of a unit after the one that it stands in order by.
+abbrev othersOf : (k : Kind) → UnitOf k → List Value
+othersOf set v = []
+othersOf sequence v = []
+othersOf mapping e = e .value ∷ []
+othersOf tuple v = []
+
+items-none : (k : Kind) → itemsIn k [] ≡ []
+unfolding listOf flat
+items-none set = refl
+items-none sequence = refl
+items-none mapping = refl
+items-none tuple = refl
+
+items-begin : (k : Kind) (u : UnitOf k) (us : List (UnitOf k)) → itemsIn k (u ∷ us) ≡ firstOf k u ∷ (othersOf k u ++ itemsIn k us)
+unfolding listOf flat
+items-begin set u us = refl
+items-begin sequence u us = refl
+items-begin mapping u us = refl
+items-begin tuple u us = refl
 
 -- a mask that is not 0 chooses some
-pub record Some (m : ℕ) (vs : List Value) : Type 0 where
-  pub first : Value
-  pub others : List Value
-  pub is : keep m vs ≡ first ∷ others
-  pub there : In first vs
+pub record Some {A : Type 0} (m : ℕ) (us : List A) : Type 0 where
+  pub first : A
+  pub others : List A
+  pub is : keep m us ≡ first ∷ others
+  pub there : In first us
 
-pub keep-some : (m : ℕ) (vs : List Value) → (m ≡ 0 → ⊥) → m < 2 ^ length vs → Some m vs
+pub keep-some : {A : Type 0} (m : ℕ) (us : List A) → (m ≡ 0 → ⊥) → m < 2 ^ length us → Some m us
 keep-some m [] f l = absurd (f (omega arith))
-keep-some m (v ∷ vs) f l = go (ℕ-discrete (m % 2) 1) (λ k. keep-some (m / 2) vs k (omega (arith, pow-suc 2 (length vs))))
+keep-some m (u ∷ us) f l = go (ℕ-discrete (m % 2) 1) (λ k. keep-some (m / 2) us k (omega (arith, pow-suc 2 (length us))))
   where
-    go : Dec (m % 2 ≡ 1) → ((m / 2 ≡ 0 → ⊥) → Some (m / 2) vs) → Some m (v ∷ vs)
-    go (yes o) on = record { first = v; others = keep (m / 2) vs; is = keep-odd m (m / 2) v vs o refl; there = inl refl }
+    go : Dec (m % 2 ≡ 1) → ((m / 2 ≡ 0 → ⊥) → Some (m / 2) us) → Some m (u ∷ us)
+    go (yes o) on = record { first = u; others = keep (m / 2) us; is = keep-odd m (m / 2) u us o refl; there = inl refl }
     go (no o) on =
         let r = on (λ z. f (omega (arith, o))) in
-        record { first = r .first; others = r .others; is = keep-even m (m / 2) v vs (omega (arith, o)) refl ∙ r .is; there = inr (r .there) }
+        record { first = r .first; others = r .others; is = keep-even m (m / 2) u us (omega (arith, o)) refl ∙ r .is; there = inr (r .there) }
+
+-- ---- chosen units in order
+
+abbrev pub orderIn : (k : Kind) → List (UnitOf k) → List (UnitOf k) → Order
+orderIn k us ws = orderItems (itemsOf (itemsIn k us)) (itemsOf (itemsIn k ws))
+
+module _ (k : Kind) where
+  abbrev U : Type 0
+  U = UnitOf k
+
+  -- the order of what begins with two units
+  begun : (u w : U) (us ws : List U) → orderIn k (u ∷ us) (w ∷ ws) ≡ after (order (firstOf k u) (firstOf k w)) (orderItems (itemsOf (othersOf k u ++ itemsIn k us)) (itemsOf (othersOf k w ++ itemsIn k ws)))
+  begun u w us ws =
+      ap₂ (λ (l m : List Value). orderItems (itemsOf l) (itemsOf m)) (items-begin k u us) (items-begin k w ws)
+      ∙ items-more (firstOf k u) (firstOf k w) (othersOf k u ++ itemsIn k us) (othersOf k w ++ itemsIn k ws)
+
+  units-lower : (u w : U) (us ws : List U) → order (firstOf k u) (firstOf k w) ≡ Lower → orderIn k (u ∷ us) (w ∷ ws) ≡ Lower
+  units-lower u w us ws e =
+      begun u w us ws ∙ ap (λ (j : Order). after j (orderItems (itemsOf (othersOf k u ++ itemsIn k us)) (itemsOf (othersOf k w ++ itemsIn k ws)))) e
+
+  units-higher : (u w : U) (us ws : List U) → order (firstOf k u) (firstOf k w) ≡ Higher → orderIn k (u ∷ us) (w ∷ ws) ≡ Higher
+  units-higher u w us ws e =
+      begun u w us ws ∙ ap (λ (j : Order). after j (orderItems (itemsOf (othersOf k u ++ itemsIn k us)) (itemsOf (othersOf k w ++ itemsIn k ws)))) e
+
+  units-more : (u : U) (us ws : List U) → orderIn k (u ∷ us) (u ∷ ws) ≡ orderIn k us ws
+  units-more u us ws =
+      ap₂ (λ (l m : List Value). orderItems (itemsOf l) (itemsOf m)) (items-begin k u us) (items-begin k u ws)
+      ∙ items-same-start (firstOf k u ∷ othersOf k u) (itemsIn k us) (itemsIn k ws)
+
+  -- a unit comes before what a mask chooses of those after it
+  comes-first : (w : U) (us ws : List U) (m : ℕ) → Led (firstOf k) (w ∷ ws) → Some m ws → (orderIn k (w ∷ us) (keep m ws) ≡ Lower) × (orderIn k (keep m ws) (w ∷ us) ≡ Higher)
+  comes-first w us ws m h r =
+      let lower = led-first (firstOf k) w ws h .0 (r .first) (r .there) in (
+        ap (orderIn k (w ∷ us)) (r .is) ∙ units-lower w (r .first) us (r .others) lower,
+        ap (λ (l : List U). orderIn k l (w ∷ us)) (r .is) ∙ units-higher (r .first) w (r .others) us (lower-flip (firstOf k w) (firstOf k (r .first)) lower),
+      )
+
+  units-none : (w : U) (ws : List U) → orderIn k [] (w ∷ ws) ≡ Lower
+  units-none w ws =
+      ap₂ (λ (l m : List Value). orderItems (itemsOf l) (itemsOf m)) (items-none k) (items-begin k w ws)
+      ∙ none-lower (firstOf k w) (othersOf k w ++ itemsIn k ws)
+
+  units-some : (u : U) (us : List U) → orderIn k (u ∷ us) [] ≡ Higher
+  units-some u us =
+      ap₂ (λ (l m : List Value). orderItems (itemsOf l) (itemsOf m)) (items-begin k u us) (items-none k)
+      ∙ some-higher (firstOf k u) (othersOf k u ++ itemsIn k us)
 
 -- ---- from the lowest bit on
 
--- The order of what x and y choose of some items is that of what a and b choose of all.
+-- Of some units two masks choose what has this order.
+pub record Left (k : Kind) (x y : ℕ) (o : Order) : Type 0 where
+  pub units : List (UnitOf k)
+  pub left : x < 2 ^ length units
+  pub right : y < 2 ^ length units
+  pub led : Led (firstOf k) units
+  pub is : orderIn k (keep x units) (keep y units) ≡ o
+
+-- The order of what x and y choose of some units is that of what a and b choose of all.
 abbrev pub MasksLeft : ℕ → ℕ → ℕ → ℕ → Type 0
 MasksLeft a b x y =
-    (vs : List Value) → a < 2 ^ length vs → b < 2 ^ length vs → Ascending (itemsOf vs)
-    → (ws : List Value) × (x < 2 ^ length ws) × (y < 2 ^ length ws) × Ascending (itemsOf ws) × (orderItems (itemsOf (keep x ws)) (itemsOf (keep y ws)) ≡ orderItems (itemsOf (keep a vs)) (itemsOf (keep b vs)))
+    (k : Kind) → isUnordered k ≡ true → (us : List (UnitOf k)) → a < 2 ^ length us → b < 2 ^ length us → Shaped k (itemsOf (itemsIn k us))
+    → Left k x y (orderIn k (keep a us) (keep b us))
 
 pub left-start : (a b : ℕ) → MasksLeft a b a b
-left-start a b vs p q h = (vs, p, q, h, refl)
+left-start a b k u us p q h = record { units = us; left = p; right = q; led = shaped-led k u us h; is = refl }
 
 module _ (a b x y : ℕ) (i : MasksLeft a b x y) where
+  -- what is left decides
+  decided : (o : Order) → ((k : Kind) (ws : List (UnitOf k)) → x < 2 ^ length ws → y < 2 ^ length ws → Led (firstOf k) ws → orderIn k (keep x ws) (keep y ws) ≡ o) → OrderedMasks a b o
+  decided o f k u us p q h = let r = i k u us p q h in sym (f k (r .units) (r .left) (r .right) (r .led)) ∙ r .is
+
   pub masks-same : x ≡ y → OrderedMasks a b Same
-  masks-same e vs p q h =
-      let (ws, k, l, s, f) = i vs p q h in
-      sym (sym f ∙ ap (λ (m : ℕ). orderItems (itemsOf (keep x ws)) (itemsOf (keep m ws))) (sym e) ∙ items-refl (itemsOf (keep x ws)))
+  masks-same e =
+      decided Same (λ k ws p q h. ap (λ (m : ℕ). orderIn k (keep x ws) (keep m ws)) (sym e) ∙ items-refl (itemsOf (itemsIn k (keep x ws))))
 
   pub masks-none : x ≡ 0 → (y ≡ 0 → ⊥) → OrderedMasks a b Lower
-  masks-none e f vs p q h =
-      let (ws, k, l, s, g) = i vs p q h in
-      let r = keep-some y ws f l in
-      sym (sym g ∙ ap₂ (λ (m n : List Value). orderItems (itemsOf m) (itemsOf n)) (ap (λ (m : ℕ). keep m ws) e ∙ keep-zero ws) (r .is) ∙ none-lower (r .first) (r .others))
+  masks-none e f =
+      decided Lower (λ k ws p q h.
+      let r = keep-some y ws f q in
+      ap₂ (orderIn k) (ap (λ (m : ℕ). keep m ws) e ∙ keep-zero ws) (r .is) ∙ units-none k (r .first) (r .others))
 
   pub masks-some : (x ≡ 0 → ⊥) → y ≡ 0 → OrderedMasks a b Higher
-  masks-some e f vs p q h =
-      let (ws, k, l, s, g) = i vs p q h in
-      let r = keep-some x ws e k in
-      sym (sym g ∙ ap₂ (λ (m n : List Value). orderItems (itemsOf m) (itemsOf n)) (r .is) (ap (λ (m : ℕ). keep m ws) f ∙ keep-zero ws) ∙ some-higher (r .first) (r .others))
+  masks-some e f =
+      decided Higher (λ k ws p q h.
+      let r = keep-some x ws e p in
+      ap₂ (orderIn k) (r .is) (ap (λ (m : ℕ). keep m ws) f ∙ keep-zero ws) ∙ units-some k (r .first) (r .others))
 
   module _ (e : x ≡ 0 → ⊥) (f : y ≡ 0 → ⊥) where
-    -- one has the first item, the other begins after it
+    -- one has the first unit, the other begins after it
     pub masks-first : (x % 2 ≡ y % 2 → ⊥) → (t : Bool) → t ≡ eqb (x % 2) 1 → (o : Order) → o ≡ cond t Lower Higher → OrderedMasks a b o
-    masks-first d t te o oe vs p q h =
-        let (ws, k, l, s, g) = i vs p q h in
-        oe ∙ sym (sym g ∙ go ws k l s (ℕ-discrete (x % 2) 1))
+    masks-first d t te o oe = decided o (λ k ws p q h. go k ws p q h (ℕ-discrete (x % 2) 1) ∙ sym oe)
       where
-        go : (ws : List Value) → x < 2 ^ length ws → y < 2 ^ length ws → Ascending (itemsOf ws) → Dec (x % 2 ≡ 1) → orderItems (itemsOf (keep x ws)) (itemsOf (keep y ws)) ≡ cond t Lower Higher
-        go [] k l s z = absurd (e (omega arith))
-        go (w ∷ ws) k l s (yes z) =
-            let c = first-before w ws s in
+        go : (k : Kind) (ws : List (UnitOf k)) → x < 2 ^ length ws → y < 2 ^ length ws → Led (firstOf k) ws → Dec (x % 2 ≡ 1) → orderIn k (keep x ws) (keep y ws) ≡ cond t Lower Higher
+        go k [] p q h z = absurd (e (omega arith))
+        go k (w ∷ ws) p q h (yes z) =
             let r = keep-some (y / 2) ws (λ u. f (omega (arith, d))) (omega (arith, pow-suc 2 (length ws))) in
-            let m : keep y (w ∷ ws) ≡ r .first ∷ r .others = keep-even y (y / 2) w ws (omega (arith, d)) refl ∙ r .is in
-            ap₂ (λ (m n : List Value). orderItems (itemsOf m) (itemsOf n)) (keep-odd x (x / 2) w ws z refl) m
-            ∙ items-more w (r .first) (keep (x / 2) ws) (r .others)
-            ∙ ap (λ (j : Order). after j (orderItems (itemsOf (keep (x / 2) ws)) (itemsOf (r .others)))) (before-in w ws (r .first) (c .0) (r .there))
+            ap₂ (orderIn k) (keep-odd x (x / 2) w ws z refl) (keep-even y (y / 2) w ws (omega (arith, d)) refl)
+            ∙ comes-first k w (keep (x / 2) ws) ws (y / 2) h r .0
             ∙ sym (ap (λ (u : Bool). cond u Lower Higher) (te ∙ eq-eqb (x % 2) 1 z))
-        go (w ∷ ws) k l s (no z) =
-            let c = first-before w ws s in
+        go k (w ∷ ws) p q h (no z) =
             let r = keep-some (x / 2) ws (λ u. e (omega (arith, z))) (omega (arith, pow-suc 2 (length ws))) in
-            let m : keep x (w ∷ ws) ≡ r .first ∷ r .others = keep-even x (x / 2) w ws (omega (arith, z)) refl ∙ r .is in
-            ap₂ (λ (m n : List Value). orderItems (itemsOf m) (itemsOf n)) m (keep-odd y (y / 2) w ws (omega (arith, d, z)) refl)
-            ∙ items-more (r .first) w (r .others) (keep (y / 2) ws)
-            ∙ ap (λ (j : Order). after j (orderItems (itemsOf (r .others)) (itemsOf (keep (y / 2) ws)))) (lower-flip w (r .first) (before-in w ws (r .first) (c .0) (r .there)))
+            ap₂ (orderIn k) (keep-even x (x / 2) w ws (omega (arith, z)) refl) (keep-odd y (y / 2) w ws (omega (arith, d, z)) refl)
+            ∙ comes-first k w (keep (y / 2) ws) ws (x / 2) h r .1
             ∙ sym (ap (λ (u : Bool). cond u Lower Higher) (te ∙ ne-eqb (x % 2) 1 z))
 
     pub masks-more : x % 2 ≡ y % 2 → MasksLeft a b (x / 2) (y / 2)
-    masks-more d vs p q h =
-        let (ws, k, l, s, g) = i vs p q h in
-        go ws k l s g (ℕ-discrete (x % 2) 1)
+    masks-more d k u us p q h = let r = i k u us p q h in go (r .units) (r .left) (r .right) (r .led) (r .is)
       where
-        go : (ws : List Value) → x < 2 ^ length ws → y < 2 ^ length ws → Ascending (itemsOf ws) → orderItems (itemsOf (keep x ws)) (itemsOf (keep y ws)) ≡ orderItems (itemsOf (keep a vs)) (itemsOf (keep b vs)) → Dec (x % 2 ≡ 1)
-            → (us : List Value) × (x / 2 < 2 ^ length us) × (y / 2 < 2 ^ length us) × Ascending (itemsOf us) × (orderItems (itemsOf (keep (x / 2) us)) (itemsOf (keep (y / 2) us)) ≡ orderItems (itemsOf (keep a vs)) (itemsOf (keep b vs)))
-        go [] k l s g z = absurd (e (omega arith))
-        go (w ∷ ws) k l s g (yes z) = (
-          ws,
-          omega (arith, pow-suc 2 (length ws)),
-          omega (arith, pow-suc 2 (length ws)),
-          first-before w ws s .1,
-          sym (ap (λ (j : Order). after j (orderItems (itemsOf (keep (x / 2) ws)) (itemsOf (keep (y / 2) ws)))) (order-refl w))
-              ∙ sym (items-more w w (keep (x / 2) ws) (keep (y / 2) ws))
-              ∙ sym (ap₂ (λ (m n : List Value). orderItems (itemsOf m) (itemsOf n)) (keep-odd x (x / 2) w ws z refl) (keep-odd y (y / 2) w ws (omega (arith, d)) refl)) ∙ g,
-        )
-        go (w ∷ ws) k l s g (no z) = (
-          ws,
-          omega (arith, pow-suc 2 (length ws)),
-          omega (arith, pow-suc 2 (length ws)),
-          first-before w ws s .1,
-          sym (ap₂ (λ (m n : List Value). orderItems (itemsOf m) (itemsOf n)) (keep-even x (x / 2) w ws (omega (arith, z)) refl) (keep-even y (y / 2) w ws (omega (arith, d, z)) refl)) ∙ g,
-        )
+        same : (w : UnitOf k) (ws : List (UnitOf k)) → Dec (x % 2 ≡ 1) → orderIn k (keep (x / 2) ws) (keep (y / 2) ws) ≡ orderIn k (keep x (w ∷ ws)) (keep y (w ∷ ws))
+        same w ws (yes z) =
+            sym (units-more k w (keep (x / 2) ws) (keep (y / 2) ws))
+            ∙ sym (ap₂ (orderIn k) (keep-odd x (x / 2) w ws z refl) (keep-odd y (y / 2) w ws (omega (arith, d)) refl))
+        same w ws (no z) = sym (ap₂ (orderIn k) (keep-even x (x / 2) w ws (omega (arith, z)) refl) (keep-even y (y / 2) w ws (omega (arith, d, z)) refl))
 
--- ---- two masks of one set
+        go : (ws : List (UnitOf k)) → x < 2 ^ length ws → y < 2 ^ length ws → Led (firstOf k) ws → orderIn k (keep x ws) (keep y ws) ≡ orderIn k (keep a us) (keep b us)
+            → Left k (x / 2) (y / 2) (orderIn k (keep a us) (keep b us))
+        go [] l r s g = absurd (e (omega arith))
+        go (w ∷ ws) l r s g = record {
+          units = ws;
+          left = omega (arith, pow-suc 2 (length ws));
+          right = omega (arith, pow-suc 2 (length ws));
+          led = led-first (firstOf k) w ws s .1;
+          is = same w ws (ℕ-discrete (x % 2) 1) ∙ g;
+        }
+
+-- ---- two masks of one set or map
+
+-- what a mask chooses, by whatever kind and units stand at the place
+selects-there : {s : List ℕ} {at mask : ℕ} {w : Value} (k : Kind) (us : List (UnitOf k)) → At s at (collection k (itemsOf (itemsIn k us))) → Selects s at mask w
+    → (mask < 2 ^ length us) × (w ≡ collection k (itemsOf (itemsIn k (keep mask us))))
+selects-there {mask = mask} {w = w} k us h y =
+    one-units (λ (l : Kind) (ws : List (UnitOf l)). (mask < 2 ^ length ws) × (w ≡ collection l (itemsOf (itemsIn l (keep mask ws))))) (y .kind) k (y .all) us (one-value (y .here) h) (y .below, y .is)
 
 pub masks-order : (s : List ℕ) (p q : Part) → p .how ≡ 2 → q .how ≡ 2 → p .at ≡ q .at → (o : Order) → OrderedMasks (p .extent) (q .extent) o → OrderedParts s p q o
 masks-order s p q e f g o h v w i j =
     let x = selects-of {p = p} e i in
-    let y = selects-of {p = q} f j in
-    let same : y .all ≡ x .all = one-collection (one-value (subst (λ (n : ℕ). At s n (collection set (itemsOf (y .all)))) (sym g) (y .here)) (x .here)) in
-    h (x .all) (x .below) (subst (λ (l : List Value). q .extent < 2 ^ length l) same (y .below)) (collection-shaped (x .here .fine))
-    ∙ sym (ap₂ order (x .is) (y .is ∙ ap (λ (l : List Value). collection set (itemsOf (keep (q .extent) l))) same) ∙ collections-order set set (keep (p .extent) (x .all)) (keep (q .extent) (x .all)) refl)
+    let k = x .kind in
+    let (below, chosen) = selects-there k (x .all) (x .here) (subst (λ (n : ℕ). Selects s n (q .extent) w) (sym g) (selects-of {p = q} f j)) in
+    h k (x .unordered) (x .all) (x .below) below (collection-shaped (x .here .fine))
+    ∙ sym (ap₂ order (x .is) chosen ∙ collections-order k k (itemsIn k (keep (p .extent) (x .all))) (itemsIn k (keep (q .extent) (x .all))) refl)
 
 -- ---- words
 

@@ -1,4 +1,4 @@
--- The order of what two masks choose of members that stand from two places on, said of lists, places and numbers alone.
+-- The order of what two masks choose of items that stand from two places on, said of lists, places and numbers alone.
 use mathlib.Core.Path.{_≡_, refl, sym, ap, ap₂, subst, _∙_}
 use mathlib.Core.List.{List, [], _∷_}
 use Prim.Native.Nat.{ℕ, _+_, _*_, _/_, _%_, _^_, _<_}
@@ -8,20 +8,21 @@ use lib.ListN.{length}
 use Rattle.integers.specs.declared.Order.{Order}
 use Rattle.integers.specs.declared.Order.the-variants.{Lower, Same, Higher}
 use Rattle.integers.specs.Bytes.{word}
-use Rattle.values.specs.Value.{Value, set, collection, size, order, after, orderItems}
+use Rattle.values.specs.Value.{number, Value, collection, size, order, after, orderItems}
 use Rattle.values.specs.Place.{At, Holds}
-use Rattle.values.specs.Contract.{Ordered}
+use Rattle.values.specs.Contract.{KindAt, Ordered}
 use Rattle.values.proofs.Order.{same-equal}
 use Rattle.values.proofs.Records.{holds, items-of, word-size}
-use Rattle.patterns.specs.Pattern.{itemsOf}
+use Rattle.patterns.specs.Pattern.{itemsOf, itemsIn}
 use Rattle.parts.specs.declared.Part.{Part}
 use Rattle.parts.specs.Chosen.{keep}
 use Rattle.parts.specs.Laws.Chosen.{keep-zero, keep-odd, keep-even}
 use Rattle.parts.specs.Choice.{ChoiceIs, ChoiceHeld, OrderedChoices}
+use Rattle.parts.specs.Mask.{ItemMask}
 use Rattle.parts.specs.Part.{PartIs, PartHeld}
 use Rattle.parts.specs.Contract.{OrderedParts}
 use Rattle.parts.proofs.Laws.{selects-of}
-use Rattle.parts.proofs.Parting.{collections-order}
+use Rattle.parts.proofs.Parting.{items-chosen, collections-order}
 use Rattle.parts.proofs.Running.{Stand, Lead, lead-cons}
 use Rattle.parts.proofs.Masking.{items-more, none-none, none-lower, some-higher, keep-some}
 
@@ -72,7 +73,7 @@ module _ {s : List ℕ} {at m : ℕ} {vs : List Value} (h : ChoiceIs s at m vs) 
           rest = record { all = l .others; to = h .to; here = l .others-at; below = half-below; is = refl };
         }
 
--- a member stands where a mask chooses some
+-- an item stands where a mask chooses some
 pub choice-first : {s : List ℕ} {at m : ℕ} → ChoiceHeld s at m → (m ≡ 0 → ⊥) → Holds s at
 choice-first h f = holds (choice-lead (h .here) f .first-at)
 
@@ -81,7 +82,7 @@ after-own Lower p f = refl
 after-own Same p f = absurd (f refl)
 after-own Higher p f = refl
 
--- ---- from member to member
+-- ---- from item to item
 
 -- The order of what m and n choose from i and j on is that of what x and y choose from a and b on.
 abbrev pub ChoicesLeft : List ℕ → ℕ → ℕ → ℕ → ℕ → ℕ → ℕ → ℕ → ℕ → Type 0
@@ -128,7 +129,7 @@ module _ {s : List ℕ} {a x b y i m j n : ℕ} (l : ChoicesLeft s a x b y i m j
           (us, ts, p, subst (λ (y : ℕ). ChoiceIs s (j + y) (n / 2) ts) (sym d) (choice-skip q g o), e)
 
       module _ (om : m % 2 ≡ 1) (on : n % 2 ≡ 1) (o : Order) (c : Ordered s i j o) where
-        -- the order of the members that stand there, and then that of the others
+        -- the order of the items that stand there, and then that of the others
         heads : {us ts : List Value} (p : Taken s i m us) (q : Taken s j n ts) → orderItems (itemsOf us) (itemsOf ts) ≡ after o (orderItems (itemsOf (p .others)) (itemsOf (q .others)))
         heads p q =
             ap₂ (λ (c d : List Value). orderItems (itemsOf c) (itemsOf d)) (p .is) (q .is)
@@ -156,7 +157,7 @@ module _ {s : List ℕ} {a x b y i m j n : ℕ} (l : ChoicesLeft s a x b y i m j
               sym (heads u t ∙ ap (λ (y : Order). after y (orderItems (itemsOf (u .others)) (itemsOf (t .others)))) z) ∙ e,
             )
 
-        -- equal members are of one size
+        -- equal items are of one size
         pub same-size : o ≡ Same → ChoiceHeld s i m → ChoiceHeld s j n → word s j ≡ word s i
         same-size z h k =
             let u = choice-take (h .here) f om in
@@ -164,18 +165,24 @@ module _ {s : List ℕ} {a x b y i m j n : ℕ} (l : ChoicesLeft s a x b y i m j
             let v : u .first ≡ t .first = same-equal (u .first) (t .first) (sym (c (u .first) (t .first) (u .first-at) (t .first-at)) ∙ z) in
             word-size (t .first-at) ∙ ap size (sym v) ∙ sym (word-size (u .first-at))
 
--- ---- two parts that choose members
+-- ---- two parts that choose units
 
-module _ {s : List ℕ} {p : Part} (e : p .how ≡ 2) where
-  part-choice : {v : Value} (h : PartIs s p v) → ChoiceIs s (p .at + 4) (p .extent) (keep (p .extent) (selects-of e h .all))
-  part-choice h = let x = selects-of e h in record { all = x .all; to = p .at + size (collection set (itemsOf (x .all))); here = items-of (x .here); below = x .below; is = refl }
+module _ {s : List ℕ} {p : Part} {kind m : ℕ} (e : p .how ≡ 2) (d : KindAt s (p .at) kind) (i : ItemMask kind (p .extent) m) where
+  part-choice : {v : Value} (h : PartIs s p v) → ChoiceIs s (p .at + 4) m (itemsIn (selects-of e h .kind) (keep (p .extent) (selects-of e h .all)))
+  part-choice h =
+      let x = selects-of e h in
+      let c = items-chosen e d i h in
+      record { all = itemsIn (x .kind) (x .all); to = p .at + size (collection (x .kind) (itemsOf (itemsIn (x .kind) (x .all)))); here = items-of (x .here); below = c .below; is = sym (c .is) }
 
-  pub members-held : PartHeld s p → ChoiceHeld s (p .at + 4) (p .extent)
-  members-held h = record { items = keep (p .extent) (selects-of e (h .here) .all); here = part-choice (h .here) }
+  pub units-held : PartHeld s p → ChoiceHeld s (p .at + 4) m
+  units-held h = let x = selects-of e (h .here) in record { items = itemsIn (x .kind) (keep (p .extent) (x .all)); here = part-choice (h .here) }
 
-pub members-order : {s : List ℕ} {p q : Part} → p .how ≡ 2 → q .how ≡ 2 → (o : Order) → OrderedChoices s (p .at + 4) (p .extent) (q .at + 4) (q .extent) o → OrderedParts s p q o
-members-order {p = p} {q = q} e f o c v w h k =
+pub units-order : {s : List ℕ} {p q : Part} {kind m n : ℕ} → p .how ≡ 2 → q .how ≡ 2 → KindAt s (p .at) kind → KindAt s (q .at) kind → ItemMask kind (p .extent) m → ItemMask kind (q .extent) n
+    → (o : Order) → OrderedChoices s (p .at + 4) m (q .at + 4) n o → OrderedParts s p q o
+units-order {p = p} {q = q} e f kp kq mp mq o c v w h k =
     let x = selects-of e h in
     let y = selects-of f k in
-    c (keep (p .extent) (x .all)) (keep (q .extent) (y .all)) (part-choice e h) (part-choice f k)
-    ∙ sym (ap₂ order (x .is) (y .is) ∙ collections-order set set (keep (p .extent) (x .all)) (keep (q .extent) (y .all)) refl)
+    let vs = itemsIn (x .kind) (keep (p .extent) (x .all)) in
+    let ws = itemsIn (y .kind) (keep (q .extent) (y .all)) in
+    let n : number (x .kind) ≡ number (y .kind) = sym (kp .right (collection (x .kind) (itemsOf (itemsIn (x .kind) (x .all)))) (x .here)) ∙ kq .right (collection (y .kind) (itemsOf (itemsIn (y .kind) (y .all)))) (y .here) in
+    c vs ws (part-choice e kp mp h) (part-choice f kq mq k) ∙ sym (ap₂ order (x .is) (y .is) ∙ collections-order (x .kind) (y .kind) vs ws n)

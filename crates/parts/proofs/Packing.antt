@@ -2,7 +2,7 @@
 use mathlib.Core.Path.{_≡_, refl, sym, ap, ap₂, subst, _∙_}
 use mathlib.Core.Logic.{inl, inr}
 use mathlib.Core.List.{List}
-use Prim.Native.Nat.{ℕ, zero, suc, _+_, _-_, _*_, _/_, _%_, _^_, _≤_, _<_}
+use Prim.Native.Nat.{ℕ, _+_, _*_, _/_, _%_, _≤_}
 use native.Mathlib.Omega.{arith}
 use lib.ListN.{length}
 use Rattle.integers.specs.declared.Order.{Order}
@@ -14,6 +14,7 @@ use Rattle.parts.specs.Part.{PartIs, CellIs}
 use Rattle.parts.specs.Contract.{OrderedParts}
 use Rattle.patterns.specs.Binding.{Cell, free, is, orderCells}
 use Rattle.parts.specs.Word.{unpacked, CellHeld, WordOf}
+use Rattle.parts.proofs.Laws.{selects-low}
 
 pub cell-free : {s : List ℕ} {p : Part} {c : Cell} → p .how ≡ 0 → CellIs s p c → c ≡ free
 cell-free e (inl h) = h .1
@@ -26,17 +27,6 @@ cell-value f (inl h) = absurd (f (h .0))
 cell-value f (inr h) = h
 
 -- ---- packing
-
-mask-low : (n m : ℕ) → n ≤ 7 → m < 2 ^ n → m < 128
-mask-low zero m h l = omega arith
-mask-low (suc zero) m h l = omega arith
-mask-low (suc (suc zero)) m h l = omega arith
-mask-low (suc (suc (suc zero))) m h l = omega arith
-mask-low (suc (suc (suc (suc zero)))) m h l = omega arith
-mask-low (suc (suc (suc (suc (suc zero))))) m h l = omega arith
-mask-low (suc (suc (suc (suc (suc (suc zero)))))) m h l = omega arith
-mask-low (suc (suc (suc (suc (suc (suc (suc zero))))))) m h l = omega arith
-mask-low (suc (suc (suc (suc (suc (suc (suc (suc n)))))))) m h l = absurd (omega arith)
 
 module _ (s : List ℕ) (p : Part) where
   pub pack-none : p .how ≡ 0 → WordOf s p 0
@@ -51,7 +41,7 @@ module _ (s : List ℕ) (p : Part) where
   module _ (short : length s ≤ 65536) where
     part-low : (v : Value) → PartIs s p v → Low
     part-low v (inl h) = record { how = omega (arith, h .0); at = omega (arith, h .1 .fits); extent = λ f. absurd (f (h .0)) }
-    part-low v (inr (inl h)) = record { how = omega (arith, h .0); at = omega (arith, h .1 .here .fits); extent = λ f. omega (arith, mask-low _ _ (h .1 .few) (h .1 .below)) }
+    part-low v (inr (inl h)) = record { how = omega (arith, h .0); at = omega (arith, h .1 .here .fits); extent = λ f. omega (arith, selects-low (h .1)) }
     part-low v (inr (inr h)) = record { how = omega (arith, h .0); at = omega (arith, h .1 .here .fits, h .1 .here .ends); extent = λ f. omega (arith, h .1 .here .ends, h .1 .short) }
 
     pub cell-low : (p .how ≡ 0 → ⊥) → CellHeld s p → Low
@@ -68,7 +58,7 @@ module _ (s : List ℕ) (p : Part) where
         go c (v, f, inr (inl k)) = absurd (omega (arith, k .0))
         go c (v, f, inr (inr k)) = absurd (omega (arith, k .0))
 
-    -- members and spans have their extent in the word
+    -- units and spans have their extent in the word
     pub pack-wide : (p .how ≡ 0 → ⊥) → (p .how ≡ 1 → ⊥) → CellHeld s p → WordOf s p (p .how + 4 * (p .at + 131072 * p .extent))
     pack-wide f0 f1 z =
         let l = cell-low f0 z in

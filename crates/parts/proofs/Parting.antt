@@ -3,10 +3,11 @@ use mathlib.Core.Path.{_≡_, refl, sym, ap, ap₂, subst, _∙_}
 use mathlib.Core.Bool.{false}
 use mathlib.Core.Logic.{inl, inr}
 use mathlib.Core.List.{List, _∷_}
-use Prim.Native.Nat.{ℕ, suc, _+_, _-_, _^_, _≤_, _<_}
-use native.Mathlib.Nat.{pow-le-pow-right}
+use Prim.Native.Nat.{ℕ, suc, _+_, _*_, _≤_, _<_}
+use native.Mathlib.Nat.{mul-comm}
 use native.Mathlib.Decide.{ℕ-discrete}
 use native.Mathlib.Omega.{arith}
+use lib.Count.{ones}
 use lib.ListN.{length, getD, drop}
 use lib.Seq.{drop-cons}
 use Rattle.integers.specs.declared.Order.{Order}
@@ -16,14 +17,18 @@ use Rattle.values.specs.Place.{At, ItemsAt, Holds}
 use Rattle.values.specs.Contract.{Length, KindAt, Ordered}
 use Rattle.integers.specs.Order.{orderℕ}
 use Rattle.integers.proofs.Ordered.{lt-lower, gt-higher, eq-same}
+use Rattle.values.proofs.Order.{number-low}
 use Rattle.values.proofs.Records.{holds, items-to, is-collection}
-use Rattle.patterns.specs.Pattern.{listOf, itemsOf}
+use Rattle.patterns.specs.Pattern.{listOf, itemsOf, itemsIn}
+use Rattle.patterns.specs.Nodes.{width}
+use Rattle.patterns.specs.Laws.Collected.{items-length}
 use Rattle.parts.specs.declared.Part.{Part}
 use Rattle.parts.specs.declared.runs.Run.{Run}
 use Rattle.parts.specs.Chosen.{everyOne, keep}
-use Rattle.parts.specs.Laws.Chosen.{chosen-all, chosen-keep}
+use Rattle.parts.specs.Laws.Chosen.{kept-length, chosen-all, chosen-keep}
+use Rattle.parts.specs.Mask.{WidthOf, ChoosesItems, ItemMask}
 use Rattle.parts.specs.Part.{PartIs, PartHeld, endOf}
-use Rattle.parts.proofs.Laws.{as-list, whole-of, selects-of, spans-of, part-one, one-collection, end-span, end-record}
+use Rattle.parts.proofs.Laws.{as-list, whole-of, selects-of, selects-low, spans-of, part-one, one-collection, end-span, end-record}
 use Rattle.parts.specs.Run.{RunIs, RunHeld, Startable, ReadyRun, RunOf, CountOf, SkipHeld, Skipped, OrderedRuns}
 use Rattle.parts.specs.Contract.{KindOfPart, CollectionHeld, CountOfPart, OrderedParts, ItemHeld, ItemOfPart}
 use Rattle.parts.proofs.Running.{ready-odd, run-head, more-less}
@@ -47,14 +52,14 @@ module _ {s : List ℕ} {p : Part} where
 
   -- ---- `kind_of_part`
 
-  pub kind-selects : p .how ≡ 2 → KindOfPart s p 3
-  kind-selects e v h = sym (ap kindOf (selects-of e h .is))
-
   pub kind-spans : p .how ≡ 3 → KindOfPart s p 4
   kind-spans e v h = sym (ap kindOf (spans-of e h .is))
 
-  pub kind-whole : {k : ℕ} → (p .how ≡ 2 → ⊥) → (p .how ≡ 3 → ⊥) → KindAt s (p .at) k → KindOfPart s p k
-  kind-whole f g c v h = c .right v (whole-left f g h)
+  -- some units of a set or map are of its kind
+  pub kind-record : {k : ℕ} → (p .how ≡ 3 → ⊥) → KindAt s (p .at) k → KindOfPart s p k
+  kind-record f c v (inl h) = c .right v (h .1)
+  kind-record f c v (inr (inl h)) = let x = h .1 in c .right (collection (x .kind) (itemsOf (itemsIn (x .kind) (x .all)))) (x .here) ∙ sym (ap kindOf (x .is))
+  kind-record f c v (inr (inr h)) = absurd (f (h .0))
 
   -- ---- `run_of`
 
@@ -74,32 +79,48 @@ module _ {s : List ℕ} {p : Part} where
     right = λ k vs h. every-run vs (items-to (c .is) (whole-left f g h));
   }
 
-  pub selects-startable : {n : ℕ} {v : Value} → p .how ≡ 2 → Length s (p .at) n → PartIs s p v → Startable s (record { from = p .at + 4; to = p .at + n; mask = p .extent })
-  selects-startable e c h =
-      let x = selects-of e h in
-      let f = x .few in
-      let b = x .below in
-      let l : 2 ^ length (x .all) ≤ 2 ^ 7 = pow-le-pow-right (omega arith) f in
-      record { items = x .all; here = items-to (c .is) (x .here); small = omega arith }
+  pub units-low : {v : Value} → p .how ≡ 2 → PartIs s p v → p .extent < 128
+  units-low e h = selects-low (selects-of e h)
 
-  pub run-selects : {n : ℕ} {r : Run} → p .how ≡ 2 → Length s (p .at) n → ReadyRun s (record { from = p .at + 4; to = p .at + n; mask = p .extent }) r → RunOf s p r
-  run-selects {n} {r} e c q = record {
-    ends = let d = c .is in let t = q .to in omega (arith, end-record s p (λ z. omega (arith, z)));
-    short = let h = c .high in let t = q .to in let o = q .from in omega arith;
-    every = λ f. absurd (f e);
-    right = right;
-  }
-    where
-      right : (k : Kind) (vs : List Value) → PartIs s p (collection k (itemsOf vs)) → RunIs s r vs
-      right k vs h =
-          let x = selects-of e h in
-          let f = x .few in
-          let b = x .below in
-          let l : 2 ^ length (x .all) ≤ 2 ^ 7 = pow-le-pow-right (omega arith) f in
-          let d : vs ≡ keep (p .extent) (x .all) = one-collection (x .is) in
-          subst (RunIs s r) (sym (d ∙ sym (chosen-keep (p .extent) (x .all) (λ z. omega arith)))) (q .right (x .all) (items-to (c .is) (x .here)))
+  -- the items of the units that are chosen
+  module _ {kind m : ℕ} (e : p .how ≡ 2) (d : KindAt s (p .at) kind) (i : ItemMask kind (p .extent) m) where
+    pub items-chosen : {v : Value} (h : PartIs s p v) → ChoosesItems (selects-of e h .kind) (p .extent) m (selects-of e h .all)
+    items-chosen h =
+        let x = selects-of e h in
+        i .right (x .kind) (x .unordered) (d .right (collection (x .kind) (itemsOf (itemsIn (x .kind) (x .all)))) (x .here)) (x .all) (x .below)
+
+    pub selects-startable : {n : ℕ} {v : Value} → Length s (p .at) n → PartIs s p v → Startable s (record { from = p .at + 4; to = p .at + n; mask = m })
+    selects-startable c h =
+        let x = selects-of e h in
+        let l = i .small in
+        record { items = itemsIn (x .kind) (x .all); here = items-to (c .is) (x .here); small = omega arith }
+
+    pub run-selects : {n : ℕ} {r : Run} → Length s (p .at) n → ReadyRun s (record { from = p .at + 4; to = p .at + n; mask = m }) r → RunOf s p r
+    run-selects {n} {r} c q = record {
+      ends = let d = c .is in let t = q .to in omega (arith, end-record s p (λ z. omega (arith, z)));
+      short = let h = c .high in let t = q .to in let o = q .from in omega arith;
+      every = λ f. absurd (f e);
+      right = right;
+    }
+      where
+        right : (k : Kind) (vs : List Value) → PartIs s p (collection k (itemsOf vs)) → RunIs s r vs
+        right k vs h =
+            let x = selects-of e h in
+            let l = i .small in
+            let all = itemsIn (x .kind) (x .all) in
+            let d : vs ≡ itemsIn (x .kind) (keep (p .extent) (x .all)) = one-collection (x .is) in
+            subst (RunIs s r) (sym (d ∙ sym (chosen-keep m all (λ z. omega arith) ∙ items-chosen h .is))) (q .right all (items-to (c .is) (x .here)))
 
   -- ---- `count_of_part`
+
+  -- of units as many as bits are set, and each unit's items
+  pub units-counted : {kind w : ℕ} → p .how ≡ 2 → KindAt s (p .at) kind → WidthOf kind w → CountOfPart s p (ones (p .extent) * w)
+  units-counted {kind} {w} e d c k vs h =
+      let x = selects-of e h in
+      let n : w ≡ width (x .kind) = c (x .kind) (d .right (collection (x .kind) (itemsOf (itemsIn (x .kind) (x .all)))) (x .here)) in
+      ap₂ (λ (a b : ℕ). a * b) (sym (kept-length (p .extent) (x .all) (x .below))) n
+      ∙ mul-comm (length (keep (p .extent) (x .all))) (width (x .kind))
+      ∙ sym (ap length (one-collection (x .is)) ∙ items-length (x .kind) (keep (p .extent) (x .all)))
 
   pub run-held : {r : Run} → CollectionHeld s p → RunOf s p r → RunHeld s r
   run-held h c = record { items = h .items; here = c .right (h .kind) (h .items) (h .here) }
@@ -137,7 +158,7 @@ apart-kind {s} {p} {k} c f h = go (h .value) (h .here) (c (h .value) (h .here))
   where
     go : (v : Value) → PartIs s p v → k ≡ kindOf v → 3 ≤ k
     go v (inl x) e = absurd (f (x .0))
-    go v (inr (inl x)) e = let d = ap kindOf (x .1 .is) in omega arith
+    go v (inr (inl x)) e = let d = ap kindOf (x .1 .is) in omega (arith, number-low (x .1 .kind))
     go v (inr (inr x)) e = let d = ap kindOf (x .1 .is) in omega arith
 
 -- two parts of one kind that are not both whole records are collections

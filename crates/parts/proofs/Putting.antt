@@ -17,7 +17,7 @@ use Rattle.values.proofs.Encoding.{collection-size, join-sizes}
 use Rattle.values.proofs.Records.{holds, word-size, no-items, one-more, collection-shaped}
 use Rattle.values.proofs.Frame.{items-below, outside-none, outside-then, word-below}
 use Rattle.values.proofs.Written.{headed-collection}
-use Rattle.patterns.specs.Pattern.{itemsOf}
+use Rattle.patterns.specs.Pattern.{itemsOf, itemsIn}
 use Rattle.patterns.specs.Laws.Named.{part-sizes}
 use Rattle.parts.specs.declared.Part.{Part}
 use Rattle.parts.specs.declared.runs.Run.{Run}
@@ -193,7 +193,7 @@ module _ {s : List ℕ} {p : Part} {base : ℕ} (h : Puttable s p base) where
     where
       go : PartIs s p (h .value) → CollectionHeld s p
       go (inl x) = absurd (f (x .0))
-      go (inr (inl x)) = record { kind = set; items = keep (p .extent) (x .1 .all); here = subst (PartIs s p) (x .1 .is) (h .here) }
+      go (inr (inl x)) = record { kind = x .1 .kind; items = itemsIn (x .1 .kind) (keep (p .extent) (x .1 .all)); here = subst (PartIs s p) (x .1 .is) (h .here) }
       go (inr (inr x)) = record { kind = sequence; items = x .1 .items; here = subst (PartIs s p) (x .1 .is) (h .here) }
 
   pub puttable-run : {r : Run} → (p .how ≡ 1 → ⊥) → RunOf s p r → PutHeld s r (base + 4)

@@ -1,4 +1,4 @@
--- What masks choose of members whose records stand from a place on, and what the functions on them ask and promise.
+-- What masks choose of items whose records stand from a place on, and what the functions on them ask and promise.
 use mathlib.Core.Path.{_≡_}
 use mathlib.Core.List.{List}
 use Prim.Native.Nat.{ℕ, _^_, _<_}
@@ -9,7 +9,7 @@ use Rattle.values.specs.Place.{ItemsAt}
 use Rattle.patterns.specs.Pattern.{itemsOf}
 use Rattle.parts.specs.Chosen.{keep}
 
--- A mask chooses vs of the members whose records stand from a place on.
+-- A mask chooses vs of the items whose records stand from a place on.
 pub record ChoiceIs (s : List ℕ) (at mask : ℕ) (vs : List Value) : Type 0 where
   pub all : List Value
   pub to : ℕ

@@ -14,9 +14,9 @@ unfoldable pub keep : {A : Type 0} → ℕ → List A → List A
 keep m [] = []
 keep m (x ∷ xs) = cond (odd m) (x ∷ keep (m / 2) xs) (keep (m / 2) xs)
 
--- A mask of at most seven bits, or this number for every unit, however many there are.
+-- A mask of at most fourteen bits, or this number for every unit, however many there are.
 abbrev pub everyOne : ℕ
-everyOne = 255
+everyOne = 65535
 
 unfoldable pub chosen : {A : Type 0} → ℕ → List A → List A
 chosen m xs = cond (eqb m everyOne) xs (keep m xs)

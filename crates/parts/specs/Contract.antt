@@ -1,13 +1,14 @@
 -- What the functions on parts ask and promise. Each promise is for whatever value the part denotes: by `part-one` there is one.
 use mathlib.Core.Path.{_≡_}
+use mathlib.Core.Bool.{true}
 use mathlib.Core.List.{List, []}
 use Prim.Native.Nat.{ℕ, _+_, _^_, _≤_, _<_}
 use lib.ListN.{length, getD}
 use Rattle.integers.specs.declared.Order.{Order}
-use Rattle.values.specs.Value.{Kind, set, sequence, Value, collection, kindOf, size, order, valueLimit}
+use Rattle.values.specs.Value.{Kind, sequence, Value, collection, kindOf, size, order, valueLimit}
 use Rattle.values.specs.Place.{At, Outside}
 use Rattle.patterns.specs.Ways.{Halves as Split, halves, splits, cuts}
-use Rattle.patterns.specs.Pattern.{itemsOf, leftOf, rightOf, mostSplit}
+use Rattle.patterns.specs.Pattern.{itemsOf, UnitOf, itemsIn, halvesIn, isUnordered, leftOf, rightOf, mostSplit}
 use Rattle.parts.specs.declared.Part.{Part}
 use Rattle.parts.specs.declared.Halves.{Halves}
 use Rattle.parts.specs.Part.{Selects, PartIs, endOf}
@@ -58,27 +59,33 @@ pub record Inside (s : List ℕ) (p : Part) (r : Halves) : Type 0 where
   pub left : endOf s (r .left) ≤ endOf s p
   pub right : endOf s (r .right) ≤ endOf s p
 
--- A part denotes a set of at most seven.
-pub record Countable (s : List ℕ) (p : Part) : Type 0 where
-  pub items : List Value
-  pub here : PartIs s p (collection set (itemsOf items))
-  pub few : length items ≤ mostSplit
+-- A part denotes the set or map of these units.
+abbrev pub UnitsHere : List ℕ → Part → (k : Kind) → List (UnitOf k) → Type 0
+UnitsHere s p k us = (isUnordered k ≡ true) × PartIs s p (collection k (itemsOf (itemsIn k us)))
 
--- m chooses its members from those of the set whose record stands there
+-- A part denotes a set or map of at most seven.
+pub record Countable (s : List ℕ) (p : Part) : Type 0 where
+  pub kind : Kind
+  pub units : List (UnitOf kind)
+  pub here : UnitsHere s p kind units
+  pub few : length units ≤ mostSplit
+
+-- m chooses its units from those of the set or map whose record stands there
 pub record MaskOf (s : List ℕ) (p : Part) (m : ℕ) : Type 0 where
   pub low : m < 128
-  pub right : (vs : List Value) → PartIs s p (collection set (itemsOf vs)) → Selects s (p .at) m (collection set (itemsOf vs))
+  pub right : (k : Kind) (us : List (UnitOf k)) → UnitsHere s p k us → Selects s (p .at) m (collection k (itemsOf (itemsIn k us)))
 
--- A part denotes a set of at most seven members, and d is the number of one of its splits.
+-- A part denotes a set or map of at most seven, and d is the number of one of its splits.
 pub record SplitHeld (s : List ℕ) (p : Part) (d : ℕ) : Type 0 where
-  pub items : List Value
-  pub here : PartIs s p (collection set (itemsOf items))
-  pub few : length items ≤ mostSplit
-  pub below : d < 2 ^ length items
+  pub kind : Kind
+  pub units : List (UnitOf kind)
+  pub here : UnitsHere s p kind units
+  pub few : length units ≤ mostSplit
+  pub below : d < 2 ^ length units
 
 -- r is the d-th split
 pub record SplitOf (s : List ℕ) (p : Part) (d : ℕ) (r : Halves) : Type 0 where
-  pub right : (vs : List Value) → PartIs s p (collection set (itemsOf vs)) → HalvesAre s set (getD (splits vs) d (halves [] [])) r
+  pub right : (k : Kind) (us : List (UnitOf k)) → UnitsHere s p k us → HalvesAre s k (halvesIn k (getD (splits us) d (halves [] []))) r
   pub inside : Inside s p r
 
 -- A part denotes a sequence, in a slice whose places fit, and k is the number of one of its cuts.

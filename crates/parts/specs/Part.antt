@@ -5,22 +5,24 @@ use mathlib.Core.List.{List}
 use Prim.Native.Nat.{ℕ, _+_, _^_, _≤_, _<_}
 use lib.Dec.{eqb}
 use lib.ListN.{length}
-use mathlib.Core.Bool.{cond}
+use mathlib.Core.Bool.{true, cond}
 use Rattle.integers.specs.Bytes.{word}
-use Rattle.values.specs.Value.{set, sequence, Value, collection, sizes, valueLimit}
+use Rattle.values.specs.Value.{Kind, sequence, Value, collection, sizes, valueLimit}
 use Rattle.values.specs.Place.{At, ItemsAt}
 use Rattle.patterns.specs.Binding.{Cell, free, is}
-use Rattle.patterns.specs.Pattern.{itemsOf, mostSplit}
+use Rattle.patterns.specs.Pattern.{itemsOf, UnitOf, itemsIn, isUnordered, mostSplit}
 use Rattle.parts.specs.declared.Part.{Part}
 use Rattle.parts.specs.Chosen.{keep}
 
--- v is the set of the members that the bits of a mask choose, of a set small enough to be split whose record stands at a place.
+-- v is the set of the members, or the map of the entries, that the bits of a mask choose, of one small enough to be split whose record stands at a place.
 pub record Selects (s : List ℕ) (at mask : ℕ) (v : Value) : Type 0 where
-  pub all : List Value
-  pub here : At s at (collection set (itemsOf all))
+  pub kind : Kind
+  pub unordered : isUnordered kind ≡ true
+  pub all : List (UnitOf kind)
+  pub here : At s at (collection kind (itemsOf (itemsIn kind all)))
   pub few : length all ≤ mostSplit
   pub below : mask < 2 ^ length all
-  pub is : v ≡ collection set (itemsOf (keep mask all))
+  pub is : v ≡ collection kind (itemsOf (itemsIn kind (keep mask all)))
 
 -- v is the sequence of the items whose records stand from a place up to another.
 pub record Spans (s : List ℕ) (from to : ℕ) (v : Value) : Type 0 where

@@ -1,6 +1,6 @@
-// Parts of a value where they lie, by value and without copying: a whole record, some members of a set, a span of a sequence.
+// Parts of a value where they lie, by value and without copying: a whole record, some members of a set or entries of a map, a span of a sequence.
+mod items;
 pub mod masks;
-mod members;
 pub mod runs;
 pub mod words;
 
@@ -10,8 +10,9 @@ ghost use mathlib.Core.Path.{_≡_};
 ghost use Rattle.parts.specs.Part.{PartHeld};
 ghost use Rattle.parts.specs.Contract.{KindOfPart, CollectionHeld, Countable, OrderedParts, CountOfPart, ItemHeld, ItemOfPart, SplitHeld, CutHeld, SplitOf, CutOf, Puttable, PutPart, MaskOf};
 
-// Nothing; the whole record at a place; of the set of at most seven members whose record stands at a place, those that the bits of `extent`
-// choose, the first member by the lowest bit; the sequence of the items whose records take `extent` bytes from a place on. Eight bytes in all.
+// Nothing; the whole record at a place; of the set of at most seven members or the map of at most seven entries whose record stands at a place, those
+// units that the bits of `extent` choose, the first by the lowest bit; the sequence of the items whose records take `extent` bytes from a place on.
+// Eight bytes in all.
 pub struct Part {
     pub at: u32,
     pub extent: u16,
@@ -23,7 +24,7 @@ impl Part {
 
     pub const WHOLE: u8 = 1;
 
-    pub const MEMBERS: u8 = 2;
+    pub const UNITS: u8 = 2;
 
     pub const SPAN: u8 = 3;
 }
@@ -39,9 +40,6 @@ pub fn kind_of_part(s: &[u8], p: Part) -> usize
     requires { ⌜ PartHeld (now s) p ⌝ }
     ensures { λ r. ⌜ KindOfPart (now (s .entry)) p r ⌝ }
 {
-    if p.how == Part::MEMBERS {
-        return Value::SET;
-    }
     if p.how == Part::SPAN {
         return Value::SEQUENCE;
     }
@@ -49,21 +47,24 @@ pub fn kind_of_part(s: &[u8], p: Part) -> usize
     values::kind_of(s, at)
 }
 
-// How many items the collection has that a part denotes: of members as many as bits are set.
+// How many items the collection has that a part denotes: of units as many as bits are set, and each unit's items.
 pub fn count_of_part(s: &[u8], p: Part) -> usize
     requires { ⌜ CollectionHeld (now s) p ⌝ }
     ensures { λ r. ⌜ CountOfPart (now (s .entry)) p r ⌝ }
 {
-    if p.how == Part::MEMBERS {
+    if p.how == Part::UNITS {
+        let at = p.at as usize;
+        let kind = values::kind_of(s, at);
         let mask = p.extent as usize;
-        return usize::count_ones(mask) as usize;
+        let units = usize::count_ones(mask) as usize;
+        return units * masks::width(kind);
     }
     let r = runs::run_of(s, p);
     runs::count(s, r)
 }
 
-// The order of the sets that two parts choose members of: those of one set by their bits.
-fn order_members(s: &[u8], p: Part, q: Part) -> Order
+// The order of the sets or maps that two parts choose units of: those of one set or map by their bits.
+fn order_units(s: &[u8], p: Part, q: Part) -> Order
     requires { ⌜ PartHeld (now s) p × PartHeld (now s) q × (p .how ≡ 2) × (q .how ≡ 2) ⌝ }
     ensures { λ r. ⌜ OrderedParts (now (s .entry)) p q r ⌝ }
 {
@@ -74,7 +75,14 @@ fn order_members(s: &[u8], p: Part, q: Part) -> Order
     if a == b {
         return masks::order(x, y);
     }
-    members::order(s, a + Value::HEAD, x, b + Value::HEAD, y)
+    let kind = values::kind_of(s, a);
+    let other = values::kind_of(s, b);
+    if kind != other {
+        return order_kinds(s, p, q);
+    }
+    let m = masks::item_mask(kind, x);
+    let n = masks::item_mask(kind, y);
+    items::order(s, a + Value::HEAD, m, b + Value::HEAD, n)
 }
 
 // The order of the values that two parts denote, where they lie. It serves the order of bindings and the test of repeated names alike.
@@ -85,8 +93,8 @@ pub fn order_parts(s: &[u8], p: Part, q: Part) -> Order
     if p.how != q.how {
         return order_kinds(s, p, q);
     }
-    if p.how == Part::MEMBERS {
-        return order_members(s, p, q);
+    if p.how == Part::UNITS {
+        return order_units(s, p, q);
     }
     if p.how == Part::WHOLE {
         let a = p.at as usize;
@@ -130,7 +138,7 @@ pub fn item_of_part(s: &[u8], p: Part, k: usize) -> Part
     }
 }
 
-// The d-th split of the set that a part denotes.
+// The d-th split of the set or map that a part denotes.
 pub fn split_part(s: &[u8], p: Part, d: usize) -> Halves
     requires { ⌜ SplitHeld (now s) p d ⌝ }
     ensures { λ r. ⌜ SplitOf (now (s .entry)) p d r ⌝ }
@@ -143,26 +151,27 @@ pub fn split_part(s: &[u8], p: Part, d: usize) -> Halves
         left: Part {
             at,
             extent: left as u16,
-            how: Part::MEMBERS,
+            how: Part::UNITS,
         },
         right: Part {
             at,
             extent: right as u16,
-            how: Part::MEMBERS,
+            how: Part::UNITS,
         },
     }
 }
 
-// The bits that choose, of the whole set's members, those of a part.
+// The bits that choose, of the units of the whole set or map, those of a part.
 fn mask_of(s: &[u8], p: Part) -> usize
     requires { ⌜ Countable (now s) p ⌝ }
     ensures { λ r. ⌜ MaskOf (now (s .entry)) p r ⌝ }
 {
-    if p.how == Part::MEMBERS {
+    if p.how == Part::UNITS {
         return p.extent as usize;
     }
+    let kind = kind_of_part(s, p);
     let n = count_of_part(s, p);
-    masks::full(n)
+    masks::full(n / masks::width(kind))
 }
 
 // The k-th cut of the sequence that a part denotes: k items, and the others.

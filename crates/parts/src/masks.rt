@@ -1,19 +1,20 @@
-// Bits that choose members of a set that can be split.
+// Bits that choose units of a set or map that can be split: its members or its entries.
 use integers::Order;
+use values::Value;
 ghost use mathlib.Core.Path.{_≡_};
 ghost use Prim.Native.Nat.{_/_, _≤_, _<_};
 ghost use mathlib.Core.Bool.{cond};
 ghost use Rattle.integers.specs.declared.Order.the-variants.{Lower, Higher};
 ghost use Rattle.patterns.specs.Pattern.{mostSplit};
-ghost use Rattle.parts.specs.Mask.{Full, Deals, Spread, OrderedMasks};
+ghost use Rattle.parts.specs.Mask.{Full, Deals, Spread, OrderedMasks, WidthOf, ItemMask};
 
-// A set of more members is too large to split.
-pub const MOST_MEMBERS: usize = 7;
+// A set or map of more units is too large to split.
+pub const MOST_UNITS: usize = 7;
 
-// The masks of all members, of none to the most.
-const FULL: [usize; MOST_MEMBERS + 1] = [0, 1, 3, 7, 15, 31, 63, 127];
+// The masks of all units, of none to the most.
+const FULL: [usize; MOST_UNITS + 1] = [0, 1, 3, 7, 15, 31, 63, 127];
 
-// The mask of all of k members.
+// The mask of all of k units.
 pub fn full(k: usize) -> usize
     requires { ⌜ k ≤ mostSplit ⌝ }
     ensures { λ r. ⌜ Full k r ⌝ }
@@ -22,13 +23,13 @@ pub fn full(k: usize) -> usize
     masks[k]
 }
 
-// Members dealt out, the last ones first: the mask of those on the left, and what is left of the number of the split.
+// Units dealt out, the last ones first: the mask of those on the left, and what is left of the number of the split.
 pub struct Dealing {
     pub left: usize,
     pub rest: usize,
 }
 
-// One bit more of a mask, of which those above it are dealt out: the number's lowest bit says where its member goes.
+// One bit more of a mask, of which those above it are dealt out: the number's lowest bit says where its unit goes.
 fn deal(m: usize, dealt: Dealing) -> Dealing
     requires { ⌜ (m < 128) × (dealt .left ≤ m / 2) ⌝ }
     ensures { λ r. ⌜ Deals m dealt r ⌝ }
@@ -50,7 +51,7 @@ fn deal(m: usize, dealt: Dealing) -> Dealing
     }
 }
 
-// The mask of those members that the d-th split of what a mask chooses has on the left.
+// The mask of those units that the d-th split of what a mask chooses has on the left.
 pub fn spread(m: usize, d: usize) -> usize
     requires { ⌜ m < 128 ⌝ }
     ensures { λ r. ⌜ Spread m d r ⌝ }
@@ -72,7 +73,7 @@ pub fn spread(m: usize, d: usize) -> usize
     all.left
 }
 
-// The order of the sets that two masks choose of one set: the lowest bit that differs decides, unless one of them ends before it.
+// The order of the sets or maps that two masks choose of one: the lowest bit that differs decides, unless one of them ends before it.
 pub fn order(a: usize, b: usize) -> Order
     ensures { λ r. ⌜ OrderedMasks a b r ⌝ }
 {
@@ -103,4 +104,46 @@ fn first(left: bool) -> Order
         return Order::Lower;
     }
     Order::Higher
+}
+
+// How many items a unit of a value of the kind has: an entry has a key and a value.
+pub fn width(kind: usize) -> usize
+    ensures { λ r. ⌜ WidthOf kind r × (0 < r) × (r ≤ 2) ⌝ }
+{
+    if kind == Value::MAP {
+        return 2;
+    }
+    1
+}
+
+// Four bits, each of them twice.
+const DOUBLED: [usize; 16] = [
+    0,
+    3,
+    12,
+    15,
+    48,
+    51,
+    60,
+    63,
+    192,
+    195,
+    204,
+    207,
+    240,
+    243,
+    252,
+    255,
+];
+
+// The mask of the items of the units that a mask chooses, of a set or map of the kind.
+pub fn item_mask(kind: usize, m: usize) -> usize
+    requires { ⌜ m < 128 ⌝ }
+    ensures { λ r. ⌜ ItemMask kind m r ⌝ }
+{
+    if kind != Value::MAP {
+        return m;
+    }
+    let doubled = DOUBLED;
+    doubled[m % 16] + 256 * doubled[m / 16]
 }

@@ -1,5 +1,6 @@
 // Runs: the items from a place up to another, of which a mask chooses some. A run stands at an item that is chosen, or at its end.
 use crate::Part;
+use crate::masks;
 use integers::Order;
 ghost use Rattle.parts.specs.Run.{Startable, ReadyRun, RunHeld, MoreHeld, RestOf, RunOf, OrderedRuns, CountOf, SkipHeld, Skipped, PutHeld, PutRun};
 ghost use Rattle.parts.specs.Contract.{CollectionHeld};
@@ -11,8 +12,8 @@ pub struct Run {
 }
 
 impl Run {
-    // The mask that chooses every item, however many there are. Others have at most seven bits.
-    pub const ALL: usize = 255;
+    // The mask that chooses every item, however many there are. Others have at most fourteen bits.
+    pub const ALL: usize = 65535;
 }
 
 // Past the items that the mask does not choose.
@@ -72,13 +73,15 @@ pub fn run_of(s: &[u8], p: Part) -> Run
         };
     }
     let end = at + values::length_of(s, at);
-    if p.how == Part::MEMBERS {
+    if p.how == Part::UNITS {
+        let kind = values::kind_of(s, at);
+        let mask = masks::item_mask(kind, extent);
         return ready(
             s,
             Run {
                 from: at + 4,
                 to: end,
-                mask: extent,
+                mask,
             },
         );
     }

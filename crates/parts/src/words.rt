@@ -67,12 +67,12 @@ pub fn order_words(s: &[u8], a: u32, b: u32) -> Order
     crate::order_parts(s, p, q)
 }
 
-// The order of what two words say of a name that both choose members of sets.
+// The order of what two words say of a name that both choose units of sets or maps.
 pub fn order_chosen(s: &[u8], a: u32, b: u32) -> Order
     requires { ⌜ WordHeld (now s) a × WordHeld (now s) b × (a % 4 ≡ 2) × (b % 4 ≡ 2) ⌝ }
     ensures { λ r. ⌜ OrderedWords (now (s .entry)) a b r ⌝ }
 {
     let p = unpack(a);
     let q = unpack(b);
-    crate::order_members(s, p, q)
+    crate::order_units(s, p, q)
 }

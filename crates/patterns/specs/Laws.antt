@@ -4,6 +4,7 @@ pub mod Units
 pub mod Nodes
 pub mod Some
 pub mod Ordered
+pub mod Collected
 pub mod Matched
 pub mod Widened
 pub mod Single

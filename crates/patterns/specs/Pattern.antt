@@ -1,17 +1,18 @@
--- Document 01, kinds 32 to 40 and "Evaluation": patterns, all bindings of a pattern and a value, and where a set is too large to split.
-use mathlib.Core.Bool.{Bool, true, false, _||_, cond}
+-- Document 01, kinds 32 to 42 and "Evaluation": patterns, all bindings of a pattern and a value, and where a set or map is too large to split.
+use mathlib.Core.Bool.{Bool, true, false, _&&_, _||_, cond}
 use mathlib.Core.Option.{Option, none as absent, some}
-use mathlib.Core.List.{List, [], _∷_}
+use mathlib.Core.List.{List, [], _∷_, map}
 use Prim.Native.Nat.{ℕ, suc}
 use lib.Dec.{eqb, ltb}
 use lib.ListN.{length}
 use Rattle.values.specs.Value.{Kind, set, sequence, map as mapping, tuple, number, Value, boolean, integer, collection, Items, none, more}
 use Rattle.values.specs.Items.{same}
-use Rattle.patterns.specs.Ways.{gather, exists, Halves, properSplits, cuts, orders}
+use Rattle.values.specs.Entries.{Entry, entry, flat}
+use Rattle.patterns.specs.Ways.{gather, exists, Halves, halves, properSplits, cuts, orders}
 use Rattle.patterns.specs.Binding.{Binding, nothing, only, together}
 
--- 32 a name; 33 any; 34 and 35 a literal; 36, 37 and 39 one part for each item, of a tuple, a set or a sequence;
--- 38 and 40 two parts, for the two halves of a set or a sequence.
+-- 32 a name; 33 any; 34 and 35 a literal; 36, 37, 39 and 41 one part for each item, of a tuple, a set, a sequence or a map (key, value, key, value);
+-- 38, 40 and 42 two parts, for the two halves of a set, a sequence or a map.
 mutual
   pub data Pattern : Type 0 where
     name : ℕ → Pattern
@@ -44,18 +45,54 @@ contents k (boolean b) = absent
 contents k (integer z) = absent
 contents k (collection l vs) = cond (eqb (number k) (number l)) (some (listOf vs)) absent
 
--- A set's members are paired with the parts one to one in every way; a tuple's and a sequence's items in their order.
+-- The entries of items that are key, value, key, value. (A key without its value is left out; no map has one.)
+unfoldable pub entriesOf : List Value → List Entry
+entriesOf [] = []
+entriesOf (k ∷ []) = []
+entriesOf (k ∷ v ∷ vs) = entry k v ∷ entriesOf vs
+
+-- A unit is what is paired with parts and goes to one half: a member of a set, an entry of a map, an item of a sequence or tuple.
+abbrev pub UnitOf : Kind → Type 0
+UnitOf set = Value
+UnitOf sequence = Value
+UnitOf mapping = Entry
+UnitOf tuple = Value
+
+-- The units of some items, and the items of some units.
+abbrev pub unitsOf : (k : Kind) → List Value → List (UnitOf k)
+unitsOf set vs = vs
+unitsOf sequence vs = vs
+unitsOf mapping vs = entriesOf vs
+unitsOf tuple vs = vs
+
+abbrev pub itemsIn : (k : Kind) → List (UnitOf k) → List Value
+itemsIn set us = us
+itemsIn sequence us = us
+itemsIn mapping us = listOf (flat us)
+itemsIn tuple us = us
+
+abbrev pub halvesIn : (k : Kind) → Halves (UnitOf k) → Halves Value
+halvesIn k h = halves (itemsIn k (h .left)) (itemsIn k (h .right))
+
+-- The units of sets and maps have no order.
+abbrev pub isUnordered : Kind → Bool
+isUnordered set = true
+isUnordered sequence = false
+isUnordered mapping = true
+isUnordered tuple = false
+
+-- A set's members and a map's entries are paired with the parts one to one in every way; a tuple's and a sequence's items in their order.
 abbrev pub arrangements : Kind → List Value → List (List Value)
 arrangements set vs = orders vs
 arrangements sequence vs = vs ∷ []
-arrangements mapping vs = []
+arrangements mapping vs = map (itemsIn mapping) (orders (entriesOf vs))
 arrangements tuple vs = vs ∷ []
 
--- Every split of a set into two disjoint sets, neither of them empty; every cut of a sequence in two, empty parts too.
+-- Every split of a set into two disjoint sets, and of a map into two maps, neither of them empty; every cut of a sequence in two, empty parts too.
 abbrev pub divisions : Kind → List Value → List (Halves Value)
 divisions set vs = properSplits vs
 divisions sequence vs = cuts vs
-divisions mapping vs = []
+divisions mapping vs = map (halvesIn mapping) (properSplits (entriesOf vs))
 divisions tuple vs = []
 
 -- What n parts meet, in every way: as many items of kind k, or nothing.
@@ -92,18 +129,15 @@ unfoldable mutual
 
 -- ---- number 29
 
--- A union pattern takes sets of at most seven members.
+-- A union pattern takes sets of at most seven members, a munion pattern maps of at most seven entries.
 abbrev pub mostSplit : ℕ
 mostSplit = 7
 
 abbrev pub isTooLarge : Kind → Option (List Value) → Bool
 isTooLarge k absent = false
-isTooLarge set (some vs) = ltb mostSplit (length vs)
-isTooLarge sequence (some vs) = false
-isTooLarge mapping (some vs) = false
-isTooLarge tuple (some vs) = false
+isTooLarge k (some vs) = isUnordered k && ltb mostSplit (length (unitsOf k vs))
 
--- Somewhere a union pattern is met by a set of over seven members. All parts are tried where kind and count fit.
+-- Somewhere a union or munion pattern is met by a set or map of over seven. All parts are tried where kind and count fit.
 unfoldable mutual
   pub wide : Pattern → Value → Bool
   wide (name x) v = false
@@ -119,19 +153,13 @@ unfoldable mutual
 
 -- ---- looseness
 
--- The pattern holds a 37, 38 or 40.
-abbrev pub isSet : Kind → Bool
-isSet set = true
-isSet sequence = false
-isSet mapping = false
-isSet tuple = false
-
+-- The pattern holds a 37, 38, 40, 41 or 42.
 unfoldable mutual
   pub loose : Pattern → Bool
   loose (name x) = false
   loose any = false
   loose (literal w) = false
-  loose (each k ps) = isSet k || looseEach ps
+  loose (each k ps) = isUnordered k || looseEach ps
   loose (halved k p q) = true
 
   pub looseEach : Patterns → Bool

@@ -5,9 +5,10 @@ use mathlib.Core.List.{List, [], _∷_, _++_}
 use Prim.Native.Nat.{ℕ, _<_}
 use lib.ListN.{length}
 use Rattle.values.specs.Value.{Kind, set, sequence, map as mapping, tuple, Value, collection}
+use Rattle.values.specs.Entries.{Entry}
 use Rattle.patterns.specs.Units.{Parted, Permuted}
 use Rattle.patterns.specs.Binding.{Cell, free, is, clash, Binding, names, nothing, only, cellOf}
-use Rattle.patterns.specs.Pattern.{Pattern, name, any, literal, each, halved, Patterns, nil, cons, parts, itemsOf}
+use Rattle.patterns.specs.Pattern.{Pattern, name, any, literal, each, halved, Patterns, nil, cons, parts, itemsOf, entriesOf, itemsIn}
 
 -- ---- two bindings together
 
@@ -28,18 +29,19 @@ pub record Joined (a b c : Binding) : Type 0 where
 
 -- ---- what the parts of a pattern meet
 
--- A set's members in some order; a tuple's and a sequence's items in their own.
+-- A set's members or a map's entries in some order; a tuple's and a sequence's items in their own.
 abbrev pub Arranged : Kind → List Value → List Value → Type 0
 Arranged set vs ws = Permuted vs ws
 Arranged sequence vs ws = ws ≡ vs
-Arranged mapping vs ws = ⊥
+Arranged mapping vs ws = (es : List Entry) × Permuted (entriesOf vs) es × (ws ≡ itemsIn mapping es)
 Arranged tuple vs ws = ws ≡ vs
 
--- Two disjoint sets that are the set together, neither of them empty; two sequences that are the sequence one after the other, empty ones too.
+-- Two disjoint sets that are the set together, or two maps with the map's entries, neither of them empty; two sequences that are the sequence one after
+-- the other, empty ones too.
 abbrev pub Divided : Kind → List Value → List Value → List Value → Type 0
 Divided set vs ls rs = Parted vs ls rs
 Divided sequence vs ls rs = vs ≡ ls ++ rs
-Divided mapping vs ls rs = ⊥
+Divided mapping vs ls rs = (es fs : List Entry) × Parted (entriesOf vs) es fs × (ls ≡ itemsIn mapping es) × (rs ≡ itemsIn mapping fs)
 Divided tuple vs ls rs = ⊥
 
 -- ---- matching

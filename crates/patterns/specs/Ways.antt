@@ -1,4 +1,4 @@
--- The ways to take units apart, for units of any type: members of a set, items of a sequence, and one day the entries of a map.
+-- The ways to take units apart, for units of any type: members of a set, items of a sequence, entries of a map.
 use mathlib.Core.Bool.{Bool, true, false, _&&_, _||_, cond}
 use mathlib.Core.List.{List, [], _∷_, _++_, map}
 

@@ -9,13 +9,14 @@ use Rattle.choices.specs.Tree.{Final}
 use Rattle.choices.specs.Paths.{allLists}
 use Rattle.integers.specs.Order.{orderℕ, orderℤ}
 use Rattle.values.specs.Value.{Value, integer, collection, set, Items, none, more, valueLimit, count, everyOther, size, within}
+use Rattle.values.specs.Entries.{flat}
 use Rattle.values.specs.Items.{join, isMember, nth, insert, lookup, enter}
 use Rattle.operators.specs.Gather.{everyItem, anyItem, keepItems, insertAll, flatten, backwards, upFrom, everyEntry, keepEntries, enterAll}
 use Rattle.operators.specs.Enumerations.{addMembers, addItems, addEntries}
 use Rattle.operators.specs.Operators.{unary, binary}
 use Rattle.patterns.specs.Ways.{gather, exists, splits, proper, cuts, atEveryPlace, orders}
 use Rattle.patterns.specs.Binding.{merge, consistent, withEach, together, orderBindings, place, sorted}
-use Rattle.patterns.specs.Pattern.{parts, listOf, itemsOf, matches, wide, loose}
+use Rattle.patterns.specs.Pattern.{parts, listOf, itemsOf, entriesOf, matches, wide, loose}
 use Rattle.tables.specs.Record as Record
 use Rattle.tables.specs.Table as Table
 use Rattle.tables.specs.Sheet as Sheet
@@ -96,5 +97,5 @@ alone f = ([], f) ∷ []
 
 -- To unfold this is to unfold everything that the walk over a table computes with.
 unfoldable pub computing : ℕ
-unfolding Check.check Check.judgedCut Check.judged Check.fault6 Check.fault7 Check.fault8 Check.fault9 Check.chooses Sheet.isBound Sheet.inCondition Sheet.climbBy Sheet.height Sheet.loose Sheet.holdsName Sheet.foldBy Table.cut Table.cutBy Table.next Record.isFit Record.operands Record.shape under allOf satisfying untilFalse untilTrue collected integersAt means meaningTo meaning nodeOf patternsOf patternAt addMembers addItems addEntries everyItem anyItem keepItems insertAll flatten backwards upFrom everyEntry keepEntries enterAll unary binary count everyOther size orderℕ orderℤ within join isMember nth insert lookup enter ranged gather exists splits proper cuts atEveryPlace orders merge consistent withEach together orderBindings place sorted parts listOf itemsOf matches wide loose
+unfolding Check.check Check.judgedCut Check.judged Check.fault6 Check.fault7 Check.fault8 Check.fault9 Check.chooses Sheet.isBound Sheet.inCondition Sheet.climbBy Sheet.height Sheet.loose Sheet.holdsName Sheet.foldBy Table.cut Table.cutBy Table.next Record.isFit Record.operands Record.shape under allOf satisfying untilFalse untilTrue collected integersAt means meaningTo meaning nodeOf patternsOf patternAt addMembers addItems addEntries everyItem anyItem keepItems insertAll flatten backwards upFrom everyEntry keepEntries enterAll unary binary count everyOther size orderℕ orderℤ within join isMember nth insert lookup enter ranged gather exists splits proper cuts atEveryPlace orders merge consistent withEach together orderBindings place sorted parts listOf itemsOf entriesOf flat matches wide loose
 computing = 0

@@ -1,11 +1,13 @@
--- One small table for each pattern kind, and for what matching says of names, kinds and counts.
+-- One small table for each pattern kind, and for what matching says of names, kinds and counts. (Every pairing and split of a map stand in Prints.)
 use mathlib.Core.Path.{_≡_, refl}
 use mathlib.Core.Bool.{true}
-use mathlib.Core.List.{[], _∷_}
+use mathlib.Core.List.{List, [], _∷_}
+use Prim.Native.Nat.{ℕ}
 use lib.IntN.{pos}
 use Rattle.choices.specs.Tree.{result, refuses}
 use Rattle.integers.specs.Bytes.{integerBytes}
 use Rattle.values.specs.Value.{boolean, collection, set, sequence, tuple, none}
+use Rattle.meaning.specs.Service.{scratchBytes, checks}
 use Rattle.samples.specs.Notation.{row, rows, flag, whole, name, operation, P, n, below0, of, walk, alone, computing}
 
 -- let - = 1 in 2 = 2
@@ -48,6 +50,39 @@ pub concatenation-matches : walk (rows (P 0 ∷ P 1 ∷ row 40 (0 ∷ 1 ∷ []) 
 unfolding computing
 concatenation-matches = refl
 
+-- let {a |-> a, b |-> c} = {1 |-> 1, 2 |-> k} in mk_(a, b, c)
+abbrev repeated : ℕ → List ℕ
+repeated k = rows (P 0 ∷ P 0 ∷ P 1 ∷ P 2 ∷ row 41 (0 ∷ 1 ∷ 2 ∷ 3 ∷ []) ∷ whole 1 ∷ whole 1 ∷ whole 2 ∷ whole k ∷ row 9 (5 ∷ 6 ∷ 7 ∷ 8 ∷ []) ∷ name 0 ∷ name 1 ∷ name 2 ∷ row 10 (10 ∷ 11 ∷ 12 ∷ []) ∷ row 12 (4 ∷ 9 ∷ 13 ∷ []) ∷ [])
+
+-- 2 |-> 3: one binding, and still a choice. 2 |-> 2: either entry may be a's.
+pub map-matches : walk (repeated 3) ≡ (0 ∷ [], result (collection tuple (of (n 1 ∷ n 2 ∷ n 3 ∷ [])))) ∷ []
+unfolding computing
+map-matches = refl
+
+pub map-matches-twice : walk (repeated 2) ≡ (0 ∷ [], result (collection tuple (of (n 1 ∷ n 2 ∷ n 2 ∷ [])))) ∷ (1 ∷ [], result (collection tuple (of (n 2 ∷ n 1 ∷ n 1 ∷ [])))) ∷ []
+unfolding computing
+map-matches-twice = refl
+
+-- let {|->} = {|->} in 5 = 5
+pub empty-map-matches : walk (rows (row 41 [] ∷ row 9 [] ∷ whole 5 ∷ row 12 (0 ∷ 1 ∷ 2 ∷ []) ∷ [])) ≡ (0 ∷ [], result (n 5)) ∷ []
+unfolding computing
+empty-map-matches = refl
+
+-- let {|->} = {1 |-> 2} in 5: 23
+pub empty-map-unmatched : walk (rows (row 41 [] ∷ whole 1 ∷ whole 2 ∷ row 9 (1 ∷ 2 ∷ []) ∷ whole 5 ∷ row 12 (0 ∷ 3 ∷ 4 ∷ []) ∷ [])) ≡ alone (refuses 23 5 0)
+unfolding computing
+empty-map-unmatched = refl
+
+-- forall {a |-> b} in set {{1 |-> 2}, {3 |-> 4}} & a < b = true
+pub maps-quantified : walk (rows (P 0 ∷ P 1 ∷ row 41 (0 ∷ 1 ∷ []) ∷ whole 1 ∷ whole 2 ∷ row 9 (3 ∷ 4 ∷ []) ∷ whole 3 ∷ whole 4 ∷ row 9 (6 ∷ 7 ∷ []) ∷ row 7 (5 ∷ 8 ∷ []) ∷ name 0 ∷ name 1 ∷ operation 13 10 11 ∷ row 14 (2 ∷ 9 ∷ 12 ∷ []) ∷ [])) ≡ alone (result (boolean true))
+unfolding computing
+maps-quantified = refl
+
+-- let a munion b = {1 |-> 2} in a: 23, neither half is empty
+pub one-entry-unsplit : walk (rows (P 0 ∷ P 1 ∷ row 42 (0 ∷ 1 ∷ []) ∷ whole 1 ∷ whole 2 ∷ row 9 (3 ∷ 4 ∷ []) ∷ name 0 ∷ row 12 (2 ∷ 5 ∷ 6 ∷ []) ∷ [])) ≡ alone (refuses 23 7 0)
+unfolding computing
+one-entry-unsplit = refl
+
 -- let mk_(a, a) in set {mk_(1, 2), mk_(3, 3)} be st true in a = 3
 pub name-repeated : walk (rows (P 0 ∷ P 0 ∷ row 36 (0 ∷ 1 ∷ []) ∷ whole 1 ∷ whole 2 ∷ row 10 (3 ∷ 4 ∷ []) ∷ whole 3 ∷ whole 3 ∷ row 10 (6 ∷ 7 ∷ []) ∷ row 7 (5 ∷ 8 ∷ []) ∷ flag 1 ∷ name 0 ∷ row 13 (2 ∷ 9 ∷ 10 ∷ 11 ∷ []) ∷ [])) ≡ (0 ∷ [], result (n 3)) ∷ []
 unfolding computing
@@ -58,6 +93,15 @@ pub other-kind-unmatched : walk (rows (P 0 ∷ row 39 (0 ∷ []) ∷ whole 1 ∷
 unfolding computing
 other-kind-unmatched = refl
 
+-- let {a |-> b} = [1] in a: 23, and let a munion b = {1, 2} in a: 23
+pub sequence-is-no-map : walk (rows (P 0 ∷ P 1 ∷ row 41 (0 ∷ 1 ∷ []) ∷ whole 1 ∷ row 8 (3 ∷ []) ∷ name 0 ∷ row 12 (2 ∷ 4 ∷ 5 ∷ []) ∷ [])) ≡ alone (refuses 23 6 0)
+unfolding computing
+sequence-is-no-map = refl
+
+pub set-is-no-map : walk (rows (P 0 ∷ P 1 ∷ row 42 (0 ∷ 1 ∷ []) ∷ whole 1 ∷ whole 2 ∷ row 7 (3 ∷ 4 ∷ []) ∷ name 0 ∷ row 12 (2 ∷ 5 ∷ 6 ∷ []) ∷ [])) ≡ alone (refuses 23 7 0)
+unfolding computing
+set-is-no-map = refl
+
 -- let {a} = {1, 2} in a: 23, the counts differ
 pub other-count : walk (rows (P 0 ∷ row 37 (0 ∷ []) ∷ whole 1 ∷ whole 2 ∷ row 7 (2 ∷ 3 ∷ []) ∷ name 0 ∷ row 12 (1 ∷ 4 ∷ 5 ∷ []) ∷ [])) ≡ alone (refuses 23 6 0)
 unfolding computing
@@ -67,3 +111,20 @@ other-count = refl
 pub bindings-distinct : walk (rows (row 33 [] ∷ row 33 [] ∷ row 37 (0 ∷ 1 ∷ []) ∷ whole 1 ∷ whole 2 ∷ row 7 (3 ∷ 4 ∷ []) ∷ whole 0 ∷ row 12 (2 ∷ 5 ∷ 6 ∷ []) ∷ [])) ≡ (0 ∷ [], result (n 0)) ∷ []
 unfolding computing
 bindings-distinct = refl
+
+-- let {(a union b) |-> c} = {{1,...,8} |-> 0} in c: 29, keys are looked into
+pub wide-key : walk (rows (P 0 ∷ P 1 ∷ row 38 (0 ∷ 1 ∷ []) ∷ P 2 ∷ row 41 (2 ∷ 3 ∷ []) ∷ whole 1 ∷ whole 8 ∷ row 11 (5 ∷ 6 ∷ []) ∷ whole 0 ∷ row 9 (7 ∷ 8 ∷ []) ∷ name 2 ∷ row 12 (4 ∷ 9 ∷ 10 ∷ []) ∷ [])) ≡ alone (refuses 29 11 0)
+unfolding computing
+wide-key = refl
+
+-- exists c in set {1} & let {a |-> b} (41) or a munion b (42) = {1 |-> 2, 3 |-> 4} in true: 8, a choice in a condition
+abbrev tests : ℕ → List ℕ
+tests kind = rows (P 2 ∷ whole 1 ∷ row 7 (1 ∷ []) ∷ P 0 ∷ P 1 ∷ row kind (3 ∷ 4 ∷ []) ∷ whole 1 ∷ whole 2 ∷ whole 3 ∷ whole 4 ∷ row 9 (6 ∷ 7 ∷ 8 ∷ 9 ∷ []) ∷ flag 1 ∷ row 12 (5 ∷ 10 ∷ 11 ∷ []) ∷ row 15 (0 ∷ 2 ∷ 12 ∷ []) ∷ [])
+
+pub map-in-condition : checks scratchBytes (tests 41) ≡ refuses 8 12 0
+unfolding computing
+map-in-condition = refl
+
+pub munion-in-condition : checks scratchBytes (tests 42) ≡ refuses 8 12 0
+unfolding computing
+munion-in-condition = refl

@@ -1,4 +1,5 @@
--- Whole prints, computed: document 01's worked print, and tables of `sheets` whose prints show each form of a line and of a value.
+-- Whole prints, computed: document 01's worked print, and tables of `sheets` whose prints show each form of a line and of a value;
+-- every pairing and every split of a map.
 use mathlib.Core.Path.{_≡_, refl, ap}
 use mathlib.Core.List.{List, [], _∷_}
 use Prim.Native.Nat.{ℕ}
@@ -52,10 +53,33 @@ pub separate-print :
 unfolding printing
 separate-print = refl
 
+-- let {a|->b, c|->d} = {1|->2,3|->4} in mk_(a,b,c,d)
+pub pairing-print :
+    printOf
+    (rows
+    (P 0 ∷ P 1 ∷ P 2 ∷ P 3 ∷ row 41 (0 ∷ 1 ∷ 2 ∷ 3 ∷ []) ∷ whole 1 ∷ whole 2 ∷ whole 3 ∷ whole 4 ∷ row 9 (5 ∷ 6 ∷ 7 ∷ 8 ∷ []) ∷ name 0 ∷ name 1 ∷ name 2 ∷ name 3 ∷ row 10 (10 ∷ 11 ∷ 12 ∷ 13 ∷ []) ∷ row 12 (4 ∷ 9 ∷ 14 ∷ []) ∷ []))
+    ≡ ascii "table 16\n0 =mk_(1,2,3,4)\n1 =mk_(3,4,1,2)\nend 2\n"
+unfolding printing
+pairing-print = refl
+
+-- let a munion b = {1|->2,3|->4,5|->6} in mk_(a,b)
+pub splitting-print :
+    printOf
+    (rows
+    (P 0 ∷ P 1 ∷ row 42 (0 ∷ 1 ∷ []) ∷ whole 1 ∷ whole 2 ∷ whole 3 ∷ whole 4 ∷ whole 5 ∷ whole 6 ∷ row 9 (3 ∷ 4 ∷ 5 ∷ 6 ∷ 7 ∷ 8 ∷ []) ∷ name 0 ∷ name 1 ∷ row 10 (10 ∷ 11 ∷ []) ∷ row 12 (2 ∷ 9 ∷ 12 ∷ []) ∷ []))
+    ≡ ascii "table 14\n0 =mk_({1|->2},{3|->4,5|->6})\n1 =mk_({1|->2,3|->4},{5|->6})\n2 =mk_({1|->2,5|->6},{3|->4})\n3 =mk_({3|->4},{1|->2,5|->6})\n4 =mk_({3|->4,5|->6},{1|->2})\n5 =mk_({5|->6},{1|->2,3|->4})\nend 6\n"
+unfolding printing
+splitting-print = refl
+
 -- sheets/unbound-name.sheet: a + 1, with a bound nowhere
 pub refused-print : printOf (rows (name 0 ∷ whole 1 ∷ operation 7 0 1 ∷ [])) ≡ ascii "refused 7 0\n"
 unfolding printing
 refused-print = refl
+
+-- A map enumeration of one part.
+pub odd-print : printOf (5 ∷ 0 ∷ 41 ∷ 0 ∷ 0 ∷ []) ≡ ascii "refused 4 0\n"
+unfolding printing
+odd-print = refl
 
 -- The empty table.
 pub empty-print : printOf [] ≡ ascii "refused 3 0\n"

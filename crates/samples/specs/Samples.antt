@@ -190,6 +190,23 @@ pub split-of-8-shows : walk (split-of 8) ≡ ([], refuses 29 7 0) ∷ []
 unfolding computing
 split-of-8-shows = refl
 
+-- ---- a map of 7 splits, of 8: 29
+
+-- let a munion - = {c|->c | c in set {1,...,k} & true} in card dom a: 126 ways for 7
+abbrev map-split-of : ℕ → List ℕ
+map-split-of k =
+    rows
+    (P 0 ∷ row 33 [] ∷ row 42 (0 ∷ 1 ∷ []) ∷ P 2 ∷ whole 1 ∷ whole k ∷ row 11 (4 ∷ 5 ∷ []) ∷ flag 1 ∷ name 2 ∷ name 2 ∷ row 20 (3 ∷ 6 ∷ 7 ∷ 8 ∷ 9 ∷ []) ∷ name 0
+    ∷ row 4 (14 ∷ 11 ∷ []) ∷ row 4 (4 ∷ 12 ∷ []) ∷ row 12 (2 ∷ 10 ∷ 13 ∷ []) ∷ [])
+
+pub map-split-of-7-shows : length (walk (map-split-of 7)) ≡ 126
+unfolding computing
+map-split-of-7-shows = refl
+
+pub map-split-of-8-shows : walk (map-split-of 8) ≡ ([], refuses 29 14 0) ∷ []
+unfolding computing
+map-split-of-8-shows = refl
+
 -- ---- the walk print: let a in set {1,...,3} be st a <> 2 in a + 1
 
 abbrev pub worked : List ℕ

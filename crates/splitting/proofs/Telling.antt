@@ -5,21 +5,19 @@ use mathlib.Core.List.{List, [], _∷_}
 use Prim.Native.Nat.{ℕ, _+_, _≤_, _<_}
 use native.Mathlib.Numerals.{add-one}
 use native.Mathlib.Omega.{arith}
-use lib.Dec.{eqb}
 use lib.ListN.{length, getD, drop, length-map, drop-of-length-le}
 use lib.Seq.{drop-cons}
-use borrow.Author.Tests.{eq-eqb, ne-eqb, eqb-true, eqb-false, not-true}
-use Rattle.prelude.proofs.Truth.{or-false-right}
+use borrow.Author.Tests.{not-true}
+use Rattle.prelude.proofs.Truth.{by-test, or-false-right}
 use Rattle.values.specs.Value.{Value, boolean}
 use Rattle.tables.specs.Record.{isComposed, named, operand}
 use Rattle.tables.specs.Table.{recordAt, kindAt}
 use Rattle.tables.specs.Accepted.{records}
-use Rattle.tables.specs.Laws.Kinds.{union-composed as union-kind}
 use Rattle.tables.specs.Laws.Through.{EachTo, each-start, each-next}
 use Rattle.tables.specs.Laws.Accepted.{lower}
 use Rattle.parts.specs.declared.Part.{Part}
 use Rattle.parts.specs.Part.{PartIs, PartHeld}
-use Rattle.parts.proofs.Laws.{part-one}
+use Rattle.parts.proofs.Laws.{part-one, part-well-formed}
 use Rattle.patterns.specs.Ways.{exists}
 use Rattle.patterns.specs.Pattern.{Pattern, any, wide, wideEach}
 use Rattle.patterns.specs.Read.{patternsOf, patternOf, patternAt, Readable}
@@ -27,21 +25,22 @@ use Rattle.patterns.specs.Nodes.{isHalved, meetings, isLarge}
 use Rattle.patterns.specs.Laws.Nodes.{pattern-at}
 use Rattle.matching.specs.declared.nodes.Meeting.{Meeting}
 use Rattle.matching.specs.declared.nodes.Meeting.the-variants.{Unfit, Large, Ways}
-use Rattle.matching.specs.Node.{MeetsAs, Meets, PieceHeld, PieceOf, innerOf, waysOf, metBy}
+use Rattle.matching.specs.Node.{isSplit, MeetsAs, Meets, PieceHeld, PieceOf, innerOf, waysOf, metBy}
 use Rattle.prelude.proofs.Lists.{map-at}
+use Rattle.matching.proofs.Counting.{split-kind}
 use Rattle.matching.proofs.Records.{count-few, count-two, some-part, no-part, meeting-length}
-use Rattle.splitting.specs.Union.{hasUnion, someUnion, shallow}
-use Rattle.splitting.specs.Laws.Union.{no-union-narrow, shallow-narrow}
-use Rattle.splitting.proofs.Composed.{leaf-no-union, wide-composed, union-composed, shallow-union, shallow-other}
-use Rattle.splitting.specs.Told.{TellsUnion, TellsShallow, TellsWide, TellsWays, TellsWay, WaysHeld, WayHeld, wideWays}
+use Rattle.splitting.specs.Split.{hasSplit, someSplit, shallow}
+use Rattle.splitting.specs.Laws.Split.{no-split-narrow}
+use Rattle.splitting.proofs.Composed.{split-composed, leaf-no-split, wide-composed, has-split-composed, shallow-split, shallow-fits, shallow-other}
+use Rattle.splitting.specs.Told.{TellsSplit, TellsShallow, TellsWide, TellsWays, TellsWay, WaysHeld, WayHeld, wideWays}
 
 -- one more item is looked at
 drop-next : {A : Type 0} (l : List A) (i : ℕ) (z : A) → i < length l → drop i l ≡ getD l i z ∷ drop (i + 1) l
 drop-next l i z h = drop-cons l i z h ∙ ap (λ (j : ℕ). getD l i z ∷ drop j l) (sym (add-one i))
 
--- No part before i holds a union pattern.
-abbrev pub NoUnionTo : List ℕ → ℕ → ℕ → Type 0
-NoUnionTo table p i = EachTo (λ q. hasUnion (patternAt (records table) q) ≡ false) (recordAt (records table) p) i
+-- No part before i holds a union or munion pattern.
+abbrev pub NoSplitTo : List ℕ → ℕ → ℕ → Type 0
+NoSplitTo table p i = EachTo (λ q. hasSplit (patternAt (records table) q) ≡ false) (recordAt (records table) p) i
 
 -- What is asked of the items from i on, and of the ways from d on, is asked of all of them.
 abbrev pub PartsLeft : List ℕ → ℕ → List ℕ → Part → ℕ → ℕ → Type 0
@@ -52,11 +51,15 @@ abbrev pub WaysLeft : List ℕ → ℕ → List ℕ → Part → ℕ → Type 0
 WaysLeft table p s part d =
     (v : Value) → PartIs s part v → wideWays table p (drop d (waysOf table p v)) ≡ wideWays table p (waysOf table p v)
 
-pub union-start : (table : List ℕ) (p : ℕ) → NoUnionTo table p 0
-union-start table p = each-start (λ q. hasUnion (patternAt (records table) q) ≡ false) (recordAt (records table) p)
+pub split-start : (table : List ℕ) (p : ℕ) → NoSplitTo table p 0
+split-start table p = each-start (λ q. hasSplit (patternAt (records table) q) ≡ false) (recordAt (records table) p)
 
-pub union-next : (table : List ℕ) (p i q : ℕ) → NoUnionTo table p i → q ≡ operand (recordAt (records table) p) i → (h : Bool) → TellsUnion table q h → h ≡ false → NoUnionTo table p (i + 1)
-union-next table p i q n e h t y = each-next (λ q. hasUnion (patternAt (records table) q) ≡ false) (recordAt (records table) p) i q n e (sym t ∙ y)
+pub split-next : (table : List ℕ) (p i q : ℕ) → NoSplitTo table p i → q ≡ operand (recordAt (records table) p) i → (h : Bool) → TellsSplit table q h → h ≡ false → NoSplitTo table p (i + 1)
+split-next table p i q n e h t y = each-next (λ q. hasSplit (patternAt (records table) q) ≡ false) (recordAt (records table) p) i q n e (sym t ∙ y)
+
+-- A test of a kind is one of the kind that it equals.
+pub split-told : {k c : ℕ} {b t : Bool} → k ≡ c → b ≡ isSplit k → b ≡ t → isSplit c ≡ t
+split-told e f g = ap isSplit (sym e) ∙ sym f ∙ g
 
 module _ (table index : List ℕ) (p : ℕ) (r : Readable table index p) where
   by-record : patternAt (records table) p ≡ patternOf (recordAt (records table) p) (innerOf table p)
@@ -77,58 +80,58 @@ module _ (table index : List ℕ) (p : ℕ) (r : Readable table index p) where
   two : isComposed (kindAt (records table) p) ≡ true → isHalved (kindAt (records table) p) ≡ true → length (innerOf table p) ≡ 2
   two c e = inner-length ∙ count-two table index p r c e
 
-  -- ---- has_union
+  -- ---- has_split
 
-  pub union-leaf : isComposed (kindAt (records table) p) ≡ false → TellsUnion table p false
-  union-leaf l = sym (ap hasUnion by-record ∙ leaf-no-union (recordAt (records table) p) (innerOf table p) (r .pattern) l)
+  pub split-leaf : isComposed (kindAt (records table) p) ≡ false → TellsSplit table p false
+  split-leaf l = sym (ap hasSplit by-record ∙ leaf-no-split (recordAt (records table) p) (innerOf table p) (r .pattern) l)
 
   module _ (c : isComposed (kindAt (records table) p) ≡ true) where
-    union-by : hasUnion (patternAt (records table) p) ≡ eqb (kindAt (records table) p) 38 || someUnion (patternsOf (innerOf table p))
-    union-by = ap hasUnion by-record ∙ union-composed (recordAt (records table) p) (innerOf table p) c (two c)
+    split-by : hasSplit (patternAt (records table) p) ≡ isSplit (kindAt (records table) p) || someSplit (patternsOf (innerOf table p))
+    split-by = ap hasSplit by-record ∙ has-split-composed (recordAt (records table) p) (innerOf table p) c (two c)
 
-    pub union-here : kindAt (records table) p ≡ 38 → TellsUnion table p true
-    union-here e = sym (union-by ∙ ap (λ (b : Bool). b || someUnion (patternsOf (innerOf table p))) (eq-eqb (kindAt (records table) p) 38 e))
+    pub split-here : isSplit (kindAt (records table) p) ≡ true → TellsSplit table p true
+    split-here e = sym (split-by ∙ ap (λ (b : Bool). b || someSplit (patternsOf (innerOf table p))) e)
 
-    module _ (other : kindAt (records table) p ≡ 38 → ⊥) where
-      union-parts : hasUnion (patternAt (records table) p) ≡ someUnion (patternsOf (innerOf table p))
-      union-parts = union-by ∙ ap (λ (b : Bool). b || someUnion (patternsOf (innerOf table p))) (ne-eqb (kindAt (records table) p) 38 other)
+    module _ (other : isSplit (kindAt (records table) p) ≡ false) where
+      split-parts : hasSplit (patternAt (records table) p) ≡ someSplit (patternsOf (innerOf table p))
+      split-parts = split-by ∙ ap (λ (b : Bool). b || someSplit (patternsOf (innerOf table p))) other
 
-      pub union-none : (i : ℕ) → NoUnionTo table p i → length (named (recordAt (records table) p)) ≤ i → TellsUnion table p false
-      unfolding hasUnion
-      union-none i h l = sym (no-part hasUnion someUnion refl (λ q qs. refl) table index p r union-parts i h l)
+      pub split-none : (i : ℕ) → NoSplitTo table p i → length (named (recordAt (records table) p)) ≤ i → TellsSplit table p false
+      unfolding hasSplit
+      split-none i h l = sym (no-part hasSplit someSplit refl (λ q qs. refl) table index p r split-parts i h l)
 
-      pub union-found : (i q : ℕ) → i < length (named (recordAt (records table) p)) → q ≡ operand (recordAt (records table) p) i → (h : Bool) → TellsUnion table q h → h ≡ true → TellsUnion table p true
-      unfolding hasUnion
-      union-found i q l e h t y = sym (some-part hasUnion someUnion refl (λ q qs. refl) table index p r union-parts i q l e (sym t ∙ y))
+      pub split-found : (i q : ℕ) → i < length (named (recordAt (records table) p)) → q ≡ operand (recordAt (records table) p) i → (h : Bool) → TellsSplit table q h → h ≡ true → TellsSplit table p true
+      unfolding hasSplit
+      split-found i q l e h t y = sym (some-part hasSplit someSplit refl (λ q qs. refl) table index p r split-parts i q l e (sym t ∙ y))
 
   -- ---- is_shallow
 
-  pub shallow-no-union : (kindAt (records table) p ≡ 38 → ⊥) → (h : Bool) → TellsUnion table p h → TellsShallow table p (not h)
-  shallow-no-union other h t =
-      sym (ap shallow by-record ∙ shallow-other (recordAt (records table) p) (innerOf table p) (r .pattern) other ∙ ap (λ (x : Pattern). not (hasUnion x)) (sym by-record) ∙ ap not (sym t))
+  pub shallow-no-split : isSplit (kindAt (records table) p) ≡ false → (h : Bool) → TellsSplit table p h → TellsShallow table p (not h)
+  shallow-no-split other h t =
+      sym (ap shallow by-record ∙ shallow-other (recordAt (records table) p) (innerOf table p) (r .pattern) other ∙ ap (λ (x : Pattern). not (hasSplit x)) (sym by-record) ∙ ap not (sym t))
 
-  module _ (e : kindAt (records table) p ≡ 38) where
-    pub union-two : length (named (recordAt (records table) p)) ≡ 2
-    union-two = count-two table index p r (union-kind e) (rw e)
+  module _ (e : isSplit (kindAt (records table) p) ≡ true) where
+    pub split-two : length (named (recordAt (records table) p)) ≡ 2
+    split-two = count-two table index p r (split-composed (kindAt (records table) p) e) (split-kind (kindAt (records table) p) e .0)
 
     module _ (a : ℕ) (ea : a ≡ operand (recordAt (records table) p) 0) (x : Bool) (tx : TellsShallow table a x) where
       shallow-by : shallow (patternAt (records table) p) ≡ x && shallow (getD (innerOf table p) 1 any)
       shallow-by =
-          ap shallow by-record ∙ shallow-union (recordAt (records table) p) (innerOf table p) e
-          ∙ ap (λ (b : Bool). b && shallow (getD (innerOf table p) 1 any)) (ap shallow (inner-at 0 a any (omega (arith, union-two)) ea) ∙ sym tx)
+          ap shallow by-record ∙ shallow-split (recordAt (records table) p) (innerOf table p) e
+          ∙ ap (λ (b : Bool). b && shallow (getD (innerOf table p) 1 any)) (ap shallow (inner-at 0 a any (omega (arith, split-two)) ea) ∙ sym tx)
 
       pub shallow-not : x ≡ false → TellsShallow table p false
       shallow-not y = sym (shallow-by ∙ ap (λ (b : Bool). b && shallow (getD (innerOf table p) 1 any)) y)
 
       pub shallow-both : x ≡ true → (b : ℕ) → b ≡ operand (recordAt (records table) p) 1 → (y : Bool) → TellsShallow table b y → TellsShallow table p y
       shallow-both o b eb y ty =
-          sym (shallow-by ∙ ap (λ (t : Bool). t && shallow (getD (innerOf table p) 1 any)) o ∙ ap shallow (inner-at 1 b any (omega (arith, union-two)) eb) ∙ sym ty)
+          sym (shallow-by ∙ ap (λ (t : Bool). t && shallow (getD (innerOf table p) 1 any)) o ∙ ap shallow (inner-at 1 b any (omega (arith, split-two)) eb) ∙ sym ty)
 
   -- ---- too_large
 
   module _ (s : List ℕ) (part : Part) where
     pub wide-leaf : isComposed (kindAt (records table) p) ≡ false → TellsWide table p s part false
-    wide-leaf l v q = sym (no-union-narrow (patternAt (records table) p) v (sym (union-leaf l)))
+    wide-leaf l v q = sym (no-split-narrow (patternAt (records table) p) v (sym (split-leaf l)))
 
     module _ (c : isComposed (kindAt (records table) p) ≡ true) where
       wide-by : (v : Value) → wide (patternAt (records table) p) v
@@ -168,11 +171,11 @@ module _ (table index : List ℕ) (p : ℕ) (r : Readable table index p) where
       ways-shallow b t y v q =
           let narrow : isLarge (kindAt (records table) p) v ≡ false = subst (λ (u : Value). isLarge (kindAt (records table) p) u ≡ false) (sym (part-one q (h .here))) (h .narrow) in
           sym (or-false-right (isLarge (kindAt (records table) p) v) (wideWays table p (waysOf table p v))
-          (sym (wide-by (h .composed) v) ∙ go (eqb (kindAt (records table) p) 38) refl narrow))
-        where
-          go : (k : Bool) → eqb (kindAt (records table) p) 38 ≡ k → isLarge (kindAt (records table) p) v ≡ false → wide (patternAt (records table) p) v ≡ false
-          go true e n = shallow-narrow (patternAt (records table) p) v (sym t ∙ y) (rw (eqb-true (kindAt (records table) p) 38 e) at n)
-          go false e n = no-union-narrow (patternAt (records table) p) v (not-true (hasUnion (patternAt (records table) p)) (shallow-no-union (eqb-false (kindAt (records table) p) 38 e) (hasUnion (patternAt (records table) p)) refl ∙ sym t ∙ y))
+          (sym (wide-by (h .composed) v) ∙ by-test (isSplit (kindAt (records table) p))
+          (λ e. ap (λ (x : Pattern). wide x v) by-record ∙ shallow-fits (recordAt (records table) p) (innerOf table p) e v (sym (ap shallow by-record) ∙ sym t ∙ y) narrow)
+          (λ e.
+          let none = shallow-no-split e (hasSplit (patternAt (records table) p)) refl ∙ sym t ∙ y in
+          no-split-narrow (patternAt (records table) p) v (not-true (hasSplit (patternAt (records table) p)) none))))
 
       pub ways-start : WaysLeft table p s part 0
       ways-start v q = refl
@@ -245,7 +248,7 @@ module _ (table index : List ℕ) (p : ℕ) (r : Readable table index p) where
               unfolding wide patternsOf
               parts-step v z =
                   let below : d < length (waysOf table p v) = subst (λ (u : Value). d < length (waysOf table p u)) (sym (part-one z (h .here))) (h .below) in
-                  let long : length (metBy table p v d) ≡ length (named (recordAt (records table) p)) = meeting-length (kindAt (records table) p) (length (named (recordAt (records table) p))) v d (count-two table index p r (h .composed)) below in
+                  let long : length (metBy table p v d) ≡ length (named (recordAt (records table) p)) = meeting-length (kindAt (records table) p) (length (named (recordAt (records table) p))) v d (part-well-formed z) (count-two table index p r (h .composed)) below in
                   ap₂ (λ (ps : List Pattern) (vs : List Value). wideEach (patternsOf ps) vs) (inner-next i q l e) (drop-next (metBy table p v d) i (boolean true) (omega (arith, long)))
                   ∙ ap (λ (k : Bool). k || wideEach (patternsOf (drop (i + 1) (innerOf table p))) (drop (i + 1) (metBy table p v d))) (sym (t (getD (metBy table p v d) i (boolean true)) (piece-is v z)))
 

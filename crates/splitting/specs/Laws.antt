@@ -1,2 +1,2 @@
 -- Laws of the definitions of splitting.
-pub mod Union
+pub mod Split

@@ -15,16 +15,16 @@ use Rattle.patterns.specs.Pattern.{wide, wideEach}
 use Rattle.patterns.specs.Read.{patternsOf, patternAt}
 use Rattle.patterns.specs.Nodes.{isLarge}
 use Rattle.matching.specs.Node.{innerOf, waysOf, metBy}
-use Rattle.splitting.specs.Union.{hasUnion, shallow}
+use Rattle.splitting.specs.Split.{hasSplit, shallow}
 
--- r says whether pattern record p holds a union pattern, and whether it is shallow
-abbrev pub TellsUnion : List ℕ → ℕ → Bool → Type 0
-TellsUnion table p r = r ≡ hasUnion (patternAt (records table) p)
+-- r says whether pattern record p holds a union or munion pattern, and whether it is shallow
+abbrev pub TellsSplit : List ℕ → ℕ → Bool → Type 0
+TellsSplit table p r = r ≡ hasSplit (patternAt (records table) p)
 
 abbrev pub TellsShallow : List ℕ → ℕ → Bool → Type 0
 TellsShallow table p r = r ≡ shallow (patternAt (records table) p)
 
--- r says whether a union pattern in pattern record p is met by a set of over seven members, where p meets what the part denotes: number 29
+-- r says whether a union or munion pattern in pattern record p is met by a set or map of over seven, where p meets what the part denotes: number 29
 abbrev pub TellsWide : List ℕ → ℕ → List ℕ → Part → Bool → Type 0
 TellsWide table p s part r = (v : Value) → PartIs s part v → r ≡ wide (patternAt (records table) p) v
 

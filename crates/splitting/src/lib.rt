@@ -1,9 +1,8 @@
-// Whether a union pattern is met by a set too large to split, wherever kind and count fit: number 29.
+// Whether a union or munion pattern is met by a set or map too large to split, wherever kind and count fit: number 29.
 use matching::nodes;
 use matching::nodes::Meeting;
 use parts::Part;
 use tables::Index;
-use tables::kinds;
 use tables::reading::kind;
 use tables::reading::operand;
 use tables::reading::operand_count;
@@ -12,25 +11,25 @@ ghost use Prim.Native.Nat.{_≤_};
 ghost use lib.ListN.{length};
 ghost use Rattle.patterns.specs.Read.{Readable};
 ghost use Rattle.parts.specs.Part.{PartHeld};
-ghost use Rattle.splitting.specs.Told.{TellsUnion, TellsShallow, TellsWide, TellsWays, TellsWay, WaysHeld, WayHeld};
+ghost use Rattle.splitting.specs.Told.{TellsSplit, TellsShallow, TellsWide, TellsWays, TellsWay, WaysHeld, WayHeld};
 
-// A pattern holds a union pattern.
-fn has_union(table: &[u8], index: &Index, p: usize) -> bool
+// A pattern holds a union or munion pattern.
+fn has_split(table: &[u8], index: &Index, p: usize) -> bool
     requires { ⌜ Readable (now table) (now index) p ⌝ }
-    ensures { λ r. ⌜ TellsUnion (now (table .entry)) p r ⌝ }
+    ensures { λ r. ⌜ TellsSplit (now (table .entry)) p r ⌝ }
 {
     let k = kind(table, index, p);
     if !is_composed(k) {
         return false;
     }
-    if k == kinds::UNION_PATTERN {
+    if nodes::is_split(k) {
         return true;
     }
     let n = operand_count(table, index, p);
     let mut i = 0;
     while i < n {
         let q = operand(table, index, p, i);
-        let has = has_union(table, index, q);
+        let has = has_split(table, index, q);
         if has {
             return true;
         }
@@ -39,14 +38,14 @@ fn has_union(table: &[u8], index: &Index, p: usize) -> bool
     false
 }
 
-// A pattern holds no union pattern but itself and its halves: all of them meet parts of one set.
+// A pattern holds no union or munion pattern but itself and its halves: all of them meet parts of one set or map.
 fn is_shallow(table: &[u8], index: &Index, p: usize) -> bool
     requires { ⌜ Readable (now table) (now index) p ⌝ }
     ensures { λ r. ⌜ TellsShallow (now (table .entry)) p r ⌝ }
 {
     let k = kind(table, index, p);
-    if k != kinds::UNION_PATTERN {
-        let has = has_union(table, index, p);
+    if !nodes::is_split(k) {
+        let has = has_split(table, index, p);
         return !has;
     }
     let l = operand(table, index, p, 0);
@@ -76,7 +75,7 @@ pub fn too_large(table: &[u8], index: &Index, p: usize, s: &[u8], part: Part) ->
     }
 }
 
-// The parts of a pattern, in one of w ways. Those of a shallow pattern meet no more members than it does, and so are not tried.
+// The parts of a pattern, in one of w ways. Those of a shallow pattern meet no more units than it does, and so are not tried.
 fn in_ways(table: &[u8], index: &Index, p: usize, s: &[u8], part: Part, w: usize) -> bool
     requires { ⌜ Readable (now table) (now index) p × WaysHeld (now table) p (now s) part w ⌝ }
     ensures { λ r. ⌜ TellsWays (now (table .entry)) p (now (s .entry)) part r ⌝ }

@@ -4,20 +4,19 @@ use mathlib.Core.Bool.{true, false}
 use mathlib.Core.List.{List, [], _∷_}
 use Prim.Native.Nat.{ℕ, zero, suc, _+_, _*_, _-_, _≤_, _<_}
 use native.Mathlib.Omega.{arith}
-use borrow.Author.Tests.{lt-ltb, le-ltb, ne-eqb, leb-true}
-use lib.Dec.{leb}
+use borrow.Author.Tests.{lt-ltb, le-ltb, ne-eqb}
 use lib.ListN.{length, getD, take, drop, set, length-drop, length-set}
 use lib.Seq.{take-all, getD-set-same, getD-set-other, getD-drop, drop-drop, drop-length}
 use Rattle.integers.specs.Bytes.{word}
-use Rattle.tables.specs.Record.{Record, shape, size, isFit}
+use Rattle.tables.specs.Record.{Record, isFit}
 use Rattle.tables.specs.Table.{firstRecord, Next, fault, one, next, Cut, cutBy, cut, noRecord, onNext}
 use Rattle.tables.specs.Check.{mostRecords}
 use Rattle.prelude.proofs.Truth.{by-lower}
-use Rattle.tables.specs.Laws.Tests.{each}
 use Rattle.tables.specs.Accepted.{records}
 use Rattle.tables.specs.Laws.Accepted.{fit-kind, fit-most}
 use Rattle.tables.specs.Laws.Cutting.{IsNext, next-is}
 use Rattle.tables.specs.Reading.{Stands, EntryOf, EntriesOf, Measured, Packs, CutOut}
+use Rattle.tables.proofs.Lengths.{fields-few}
 use Rattle.tables.proofs.Fit.{plus-zero, plus-four, fields-long, field-at}
 
 -- ---- one record
@@ -73,11 +72,6 @@ pub next-long : (s : List ℕ) (at n : ℕ) → Measured (drop at s) n → 0 < n
 next-long s at n m h = omega (arith, next-is (drop at s) (firstRecord (drop at s)) (drop n (drop at s)) (m .good h) .long, m .long h)
 
 -- ---- where a record stands
-
--- No record has more than 8 fields.
-pub fields-few : (k : ℕ) → k ≤ 40 → size (shape k .head) + length (shape k .roles) ≤ 8
-unfolding shape
-fields-few k h = leb-true _ _ (each (λ k. leb (size (shape k .head) + length (shape k .roles)) 8) 41 refl k (omega arith))
 
 stands : (table : List ℕ) (at : ℕ) (rest : List ℕ) → IsNext (drop at table) (firstRecord (drop at table)) rest → Stands table at (firstRecord (drop at table))
 stands table at rest n =

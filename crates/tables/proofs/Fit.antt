@@ -12,7 +12,7 @@ use mathlib.Mathlib.Data.Bool.Basic.{and-elim-left}
 use Rattle.integers.specs.Bytes.{word, bits32, integerAt}
 use Rattle.integers.specs.Whole.{inRange}
 use Rattle.integers.proofs.Written.{bits-range}
-use Rattle.tables.specs.Record.{Record, Head, nothing, boolean, integer, name, unary, binary, unknown, Shape, shape, isExpression, isPattern, size, headOf, field, integerOf, fits, isKnown, isFit}
+use Rattle.tables.specs.Record.{Record, Head, nothing, boolean, integer, name, unary, binary, unknown, Shape, lastKind, shape, isExpression, isPattern, size, headOf, field, integerOf, fits, isKnown, isFit}
 use Rattle.tables.specs.Table.{firstRecord}
 use Rattle.tables.specs.Shapes.{isTested, knownFirst}
 use Rattle.prelude.proofs.Absurd.{never}
@@ -41,7 +41,7 @@ known-first unary r e = refl
 known-first binary r e = refl
 known-first unknown r e = refl
 
-pub fit-beyond : (bytes : List ℕ) → 40 < word bytes 2 → false ≡ isFit (firstRecord bytes)
+pub fit-beyond : (bytes : List ℕ) → lastKind < word bytes 2 → false ≡ isFit (firstRecord bytes)
 fit-beyond bytes h = go (isFit (firstRecord bytes)) refl
   where
     go : (b : Bool) → isFit (firstRecord bytes) ≡ b → false ≡ b
@@ -89,7 +89,7 @@ module _ (bytes : List ℕ) (len : ℕ) (is : len ≡ word bytes 0) (four : 4 �
       (λ i. bytes-range (firstRecord bytes .fields) (λ k h. rw (field-at k (omega (arith, integer-long e i))) (small (4 + k))))
       ∙ ap (knownFirst (headOf (firstRecord bytes))) (field-at 0 (omega arith))
 
-  module _ (fit : true ≡ fits (shape (word bytes 2)) (len - 4)) (known : word bytes 2 ≤ 40) where
+  module _ (fit : true ≡ fits (shape (word bytes 2)) (len - 4)) (known : word bytes 2 ≤ lastKind) where
     pub fit-untested : isTested (word bytes 2) ≡ false → ((i : ℕ) → getD bytes i 0 < 256) → isFit (firstRecord bytes) ≡ isExpression (word bytes 2) || isPattern (word bytes 2)
     fit-untested u small =
         by-lower 4 len (λ l. fit-first fit l small ∙ sym (untested-known (word bytes 2) (getD bytes 4 0) known u))

@@ -75,6 +75,11 @@ odd-map : check (rows (whole 1 ∷ row 9 (0 ∷ []) ∷ [])) ≡ Refused 4 1
 unfolding check judgedCut judged fault6 fault7 fault8 fault9 chooses isBound inCondition climbBy height loose holdsName foldBy cut cutBy next isFit operands shape
 odd-map = refl
 
+-- 4: a map enumeration pattern with a key and no value.
+odd-map-pattern : check (row 41 (0 ∷ [])) ≡ Refused 4 0
+unfolding check judgedCut judged fault6 fault7 fault8 fault9 chooses isBound inCondition climbBy height loose holdsName foldBy cut cutBy next isFit operands shape
+odd-map-pattern = refl
+
 -- 5: 201 records.
 too-many : check (rows (replicate 201 (row 33 []))) ≡ Refused 5 200
 unfolding check judgedCut judged fault6 fault7 fault8 fault9 chooses isBound inCondition climbBy height loose holdsName foldBy cut cutBy next isFit operands shape
@@ -114,6 +119,11 @@ bound-twice = refl
 choice-in-condition : check (rows (pattern 0 ∷ row 7 [] ∷ pattern 1 ∷ row 37 (2 ∷ []) ∷ row 7 [] ∷ row 1 (1 ∷ []) ∷ row 12 (3 ∷ 4 ∷ 5 ∷ []) ∷ row 14 (0 ∷ 1 ∷ 6 ∷ []) ∷ [])) ≡ Refused 8 6
 unfolding check judgedCut judged fault6 fault7 fault8 fault9 chooses isBound inCondition climbBy height loose holdsName foldBy cut cutBy next isFit operands shape
 choice-in-condition = refl
+
+-- 8: forall 0 in set {} with (let 1 munion - = {|->} in true).
+munion-in-condition : check (rows (pattern 0 ∷ row 7 [] ∷ pattern 1 ∷ row 33 [] ∷ row 42 (2 ∷ 3 ∷ []) ∷ row 9 [] ∷ row 1 (1 ∷ []) ∷ row 12 (4 ∷ 5 ∷ 6 ∷ []) ∷ row 14 (0 ∷ 1 ∷ 7 ∷ []) ∷ [])) ≡ Refused 8 7
+unfolding check judgedCut judged fault6 fault7 fault8 fault9 chooses isBound inCondition climbBy height loose holdsName foldBy cut cutBy next isFit operands shape
+munion-in-condition = refl
 
 -- n times not, on record r and so on.
 abbrev nots : ℕ → ℕ → List ℕ

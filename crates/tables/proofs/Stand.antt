@@ -7,15 +7,16 @@ use native.Mathlib.Omega.{arith}
 use lib.ListN.{length, getD, take, drop, length-drop}
 use lib.Seq.{getD-drop}
 use Rattle.integers.specs.Bytes.{bits32, ofBits, integerAt}
-use Rattle.tables.specs.Record.{size, headOf, field, named, operand, integerOf, isFit}
+use Rattle.tables.specs.Record.{lastKind, size, headOf, field, named, operand, integerOf, isFit}
 use Rattle.tables.specs.Table.{recordAt, kindAt}
 use Rattle.tables.specs.Check.{mostRecords}
 use Rattle.tables.specs.Shapes.{firstOf, rolesOf}
 use Rattle.tables.specs.Accepted.{records}
 use Rattle.tables.specs.Laws.Accepted.{fit-records, fit-kind, fit-least, fit-most, named-count, operand-field}
 use Rattle.tables.specs.Reading.{Stands, placeIn, secondIn, EntryOf, Here}
+use Rattle.tables.proofs.Lengths.{fields-few}
 use Rattle.tables.proofs.Fit.{plus-four}
-use Rattle.tables.proofs.Cutting.{part-rest, fields-few}
+use Rattle.tables.proofs.Cutting.{part-rest}
 
 pub part-at : (s : List ℕ) (at i : ℕ) → getD (take (length s - at) (drop at s)) i 0 ≡ getD s (at + i) 0
 part-at s at i = rw (part-rest s at) (getD-drop at s i 0)
@@ -47,7 +48,7 @@ module _ (table index : List ℕ) (r : ℕ) (h : Here table index r) where
   pub four-there : placeIn (getD index r 0) + 4 ≤ length table
   four-there = omega (arith, stands .fits)
 
-  pub kind-few : kindAt (records table) r ≤ 40
+  pub kind-few : kindAt (records table) r ≤ lastKind
   kind-few = fit-kind (recordAt (records table) r) fit
 
   -- The length, and the number of operands.

@@ -54,7 +54,7 @@ choosing s = record { sort = s .sort; head = s .head; roles = s .roles; least = 
 abbrev pub missing : Shape
 missing = just neither unknown []
 
--- One row for each kind from 0 to 40. All that is told of a kind by itself derives from its row.
+-- One row for each kind from 0 to 42. All that is told of a kind by itself derives from its row.
 abbrev pub shapes : List Shape
 shapes =
     -- 0
@@ -104,10 +104,13 @@ shapes =
     -- 39 sequence enumeration, 40 concatenation
     several pattern nothing 0 4 1 Pattern ∷
     choosing (just pattern nothing (Pattern ∷ Pattern ∷ [])) ∷
+    -- 41 map enumeration, 42 munion
+    choosing (several pattern nothing 0 8 2 Pattern) ∷
+    choosing (just pattern nothing (Pattern ∷ Pattern ∷ [])) ∷
     []
 
 abbrev pub lastKind : ℕ
-lastKind = 40
+lastKind = 42
 
 unfoldable pub shape : ℕ → Shape
 shape kind = getD shapes kind missing
@@ -124,7 +127,7 @@ ofPatterns expression = false
 ofPatterns pattern = true
 ofPatterns neither = false
 
--- Kinds 1 to 21, and 32 to 40.
+-- Kinds 1 to 21, and 32 to 42.
 abbrev pub isExpression : ℕ → Bool
 isExpression kind = ofExpressions (shape kind .sort)
 
@@ -140,7 +143,7 @@ hasRoles (role ∷ roles) = true
 abbrev pub isLeaf : ℕ → Bool
 isLeaf kind = not (hasRoles (shape kind .roles))
 
--- A pattern that has parts: its kind's row has operands (36 to 40).
+-- A pattern that has parts: its kind's row has operands (36 to 42).
 abbrev pub isComposed : ℕ → Bool
 isComposed kind = isPattern kind && hasRoles (shape kind .roles)
 

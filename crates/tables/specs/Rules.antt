@@ -159,7 +159,7 @@ pub data Fault7 (rs : List Record) (r : ℕ) : Type 0 where
 
 -- ---- rule 8
 
--- A pattern p is loose: it is, or has below it, a 37, 38 or 40. (Their rows say so.)
+-- A pattern p is loose: it is, or has below it, a 37, 38, 40, 41 or 42. (Their rows say so.)
 pub record Loose (rs : List Record) (p : ℕ) : Type 0 where
   pub part : ℕ
   pub within : Within rs part p

@@ -12,7 +12,7 @@ use Rattle.tables.specs.Record.{Head, nothing, boolean, integer, name, u
 abbrev pub lengthRows : List ℕ
 lengthRows =
     1 ∷ 2 ∷ 16 ∷ 2 ∷ 4 ∷ 8 ∷ 8 ∷ 511 ∷ 511 ∷ 341 ∷ 28 ∷ 4 ∷ 8 ∷ 16 ∷ 8 ∷ 8 ∷ 8 ∷ 8 ∷ 16 ∷ 16 ∷ 32 ∷ 4 ∷
-    1 ∷ 1 ∷ 1 ∷ 1 ∷ 1 ∷ 1 ∷ 1 ∷ 1 ∷ 1 ∷ 1 ∷ 2 ∷ 1 ∷ 2 ∷ 16 ∷ 28 ∷ 31 ∷ 4 ∷ 31 ∷ 4 ∷ []
+    1 ∷ 1 ∷ 1 ∷ 1 ∷ 1 ∷ 1 ∷ 1 ∷ 1 ∷ 1 ∷ 1 ∷ 2 ∷ 1 ∷ 2 ∷ 16 ∷ 28 ∷ 31 ∷ 4 ∷ 31 ∷ 4 ∷ 341 ∷ 4 ∷ []
 
 -- The place of the first operand in a record of the kind.
 abbrev pub firstOf : ℕ → ℕ

@@ -56,7 +56,7 @@ isName n r = eqb (r .kind) 32 && eqb (nameOf r) n
 unfoldable pub holdsName : List Record → ℕ → ℕ → Bool
 holdsName rs p n = anyBelow (isName n) rs p
 
--- A pattern is loose when it holds a 37, 38 or 40: a let with it is a choice.
+-- A pattern is loose when it holds a 37, 38, 40, 41 or 42: a let with it is a choice.
 abbrev pub isLoose : Record → Bool
 isLoose r = shape (r .kind) .loose
 

@@ -1,4 +1,4 @@
-// The kinds of records by name: expressions 1 to 21, patterns 32 to 40.
+// The kinds of records by name: expressions 1 to 21, patterns 32 to 42.
 pub const BOOLEAN: usize = 1;
 
 pub const INTEGER: usize = 2;
@@ -59,9 +59,13 @@ pub const SEQUENCE_PATTERN: usize = 39;
 
 pub const CONCATENATION_PATTERN: usize = 40;
 
+pub const MAP_PATTERN: usize = 41;
+
+pub const MUNION_PATTERN: usize = 42;
+
 // Where expressions end, patterns begin, and all kinds end.
 pub const LAST_EXPRESSION: usize = APPLY;
 
 pub const FIRST_PATTERN: usize = NAME_PATTERN;
 
-pub const LAST: usize = CONCATENATION_PATTERN;
+pub const LAST: usize = MUNION_PATTERN;

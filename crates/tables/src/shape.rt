@@ -93,6 +93,9 @@ pub const LENGTHS: Lengths = [
     TWO,
     UP_TO_FOUR,
     TWO,
+    // 41 map enumeration, 42 munion
+    PAIRS,
+    TWO,
 ];
 
 // Bit k is set for each kind k whose records have one byte before their operands (1, 3, 4, 5, 32, 34), or an integer (2, 35).
@@ -100,14 +103,17 @@ const BYTE_FIRST: u64 = 0x5_0000_003a;
 
 const INTEGER_FIRST: u64 = 0x8_0000_0004;
 
-// Bit k is set for each kind k whose records may have operands: 4 to 21, 36 to 40.
-const INNER: u64 = 0x1f0_003f_fff0;
+// Bit k is set for each kind k whose records may have operands: 4 to 21, 36 to 42.
+const INNER: u64 = 0x7f0_003f_fff0;
 
-// Bit k is set for each kind k of patterns that have parts: 36 to 40.
-const COMPOSED: u64 = 0x1f0_0000_0000;
+// Bit k is set for each kind k of patterns that have parts: 36 to 42.
+const COMPOSED: u64 = 0x7f0_0000_0000;
 
-// Bit k is set for each kind k that there is: 1 to 21, 32 to 40.
-const KNOWN: u64 = 0x1ff_003f_fffe;
+// Bit k is set for each kind k of patterns that make a let loose: 37, 38, 40 to 42.
+const LOOSE: u64 = 0x760_0000_0000;
+
+// Bit k is set for each kind k that there is: 1 to 21, 32 to 42.
+const KNOWN: u64 = 0x7ff_003f_fffe;
 
 // A byte as a number.
 pub fn wide(b: u8) -> usize
@@ -165,14 +171,10 @@ pub fn is_binder(kind: usize) -> bool
 
 // A let whose pattern holds this kind is a choice.
 pub fn is_loose(kind: usize) -> bool
+    requires { ⌜ kind ≤ lastKind ⌝ }
     ensures { λ r. ⌜ r ≡ shape kind .loose ⌝ }
 {
-    match kind {
-        kinds::SET_PATTERN => true,
-        kinds::UNION_PATTERN => true,
-        kinds::CONCATENATION_PATTERN => true,
-        _ => false,
-    }
+    (LOOSE >> kind) % 2 == 1
 }
 
 // ---- lengths

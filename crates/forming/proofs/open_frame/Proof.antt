@@ -1,5 +1,6 @@
 use mathlib.Core.Path.{sym, ap, _∙_}
 use mathlib.Core.Logic.{⊎-elim}
+use Prim.Native.Nat.{ℕ}
 use native.Mathlib.Omega.{arith}
 use Rattle.forming.proofs.Stacking.{depth-few, met-as, unmatched, no-ways, ways-few, first-asked, frame-fits, frame-opened}
 use Rattle.matching.proofs.Records.{count-few}
@@ -7,6 +8,7 @@ use Rattle.forming.proofs.Solving.{part-of}
 use Rattle.forming.proofs.Ranking.{opened-less, not-opened-less}
 use borrow.Author.Needs.{needs}
 use Rattle.tables.specs.Record.{isComposed}
+use Rattle.patterns.specs.Nodes.{collectionOf, width}
 use Rattle.forming.proofs.open_frame.Statement.{statement}
 use Rattle.forming.proofs.open_frame.Tie as tie
 use Rattle.forming.proofs.open_frame.Reads as reads
@@ -62,7 +64,7 @@ unpack-requires : tie.Need-unpack-requires
 unpack-requires c κs = search needs
 
 meet-requires : tie.Need-meet-requires
-meet-requires c κs = (ap isComposed (c .before .before .kind .ensures .0) ∙ c .before .before .before .reduced .ensures .composed .composed, (let r = c .before .before .before .reduced .ensures .composed in omega (arith, count-few _ _ _ (r .readable) (r .composed), c .before .operand-count .ensures .0)), part-of _ _ _ (c .before .before .before .before .before .before .before .before .pre .waiting .value) (c .unpack .ensures) (c .before .before .before .before .before .before .before .before .pre .waiting .here))
+meet-requires c κs = (ap isComposed (c .before .before .kind .ensures .0) ∙ c .before .before .before .reduced .ensures .composed .composed, (let r = c .before .before .before .reduced .ensures .composed in omega (arith, count-few _ _ _ (r .readable) (r .composed), c .before .operand-count .ensures .0, ap (λ (k : ℕ). width (collectionOf k)) (c .before .before .kind .ensures .0))), part-of _ _ _ (c .before .before .before .before .before .before .before .before .pre .waiting .value) (c .unpack .ensures) (c .before .before .before .before .before .before .before .before .pre .waiting .here))
 
 enum-known-m : tie.Need-enum-known-m
 enum-known-m c = search needs

@@ -1,6 +1,6 @@
 use native.Mathlib.Omega.{arith}
 use Rattle.parts.specs.Word.{unpacked}
-use Rattle.matching.proofs.Records.{count-few}
+use Rattle.matching.proofs.Records.{count-most}
 use Rattle.forming.proofs.Pushing.{PushSoFar, push-start, part-asked, push-more, push-not, push-end}
 use Rattle.forming.proofs.push_where.Statement.{statement}
 use Rattle.forming.proofs.push_where.Tie as tie
@@ -33,7 +33,7 @@ sub-i : tie.Need-sub-i Inv-loop μ-loop
 sub-i c = omega arith
 
 shr-if1 : tie.Need-shr-if1 Inv-loop μ-loop
-shr-if1 c = omega (arith, c .before .loop .inv .within, count-few _ _ _ (c .before .before .before .before .before .before .before .pre .composed .readable) (c .before .before .before .before .before .before .before .pre .composed .composed))
+shr-if1 c = omega (arith, c .before .loop .inv .within, count-most _ _ _ (c .before .before .before .before .before .before .before .pre .composed .readable) (c .before .before .before .before .before .before .before .pre .composed .composed))
 
 push-part-requires : tie.Need-push-part-requires Inv-loop μ-loop
 push-part-requires c κs = part-asked _ _ _ _ _ _ _ _ _ _ _ (c .before .before .before .before .before .before .before .before .before .pre) _ _ (omega arith) _ _ _ (c .before .before .before .loop .inv) (omega arith) (c .before .if1 .taken) _ _ (c .before .before .before .before .before .before .kind .ensures .0) (c .before .before .before .before .before .operand-count .ensures .0) _ (c .before .before .before .before .unpack .ensures)

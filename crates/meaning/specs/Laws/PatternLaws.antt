@@ -7,7 +7,8 @@ use Prim.Native.Nat.{ℕ, zero, suc, _+_, _-_, _≤_, _<_}
 use native.Mathlib.Omega.{arith}
 use lib.Dec.{eqb}
 use lib.ListN.{length, getD, length-map}
-use Rattle.patterns.specs.Pattern.{Pattern, any, loose as isLooseAt, looseEach}
+use Rattle.patterns.specs.Pattern.{Pattern, any, each, halved, isUnordered, loose as isLooseAt, looseEach}
+use Rattle.values.specs.Value.{Kind, set, sequence, map as mapping, tuple}
 use Rattle.patterns.specs.Laws.Named.{holdsNamed as holdsAt, namedEach}
 use Rattle.tables.specs.declared.Checked.the-variants.{Accepted}
 use Rattle.tables.specs.Record.{Record, shape, isPattern, isFit, nameOf, named as operandsOf, operand}
@@ -108,18 +109,29 @@ no-parts m k (p ∷ ps) e c = let h = c .high in absurd (omega arith)
 or-both : {a b c d : Bool} → a ≡ c → b ≡ d → c || d ≡ a || b
 or-both {a} {b} {c} {d} e f = sym (ap (λ x. x || b) e ∙ ap (λ x. c || x) f)
 
-each-loose : EachAgrees isLoose isLooseAt 32 patterns
+-- One part for each item, and two halves.
+loose-each : (k : ℕ) (d : Kind) → looseKind k ≡ isUnordered d → Agrees isLoose isLooseAt k (λ r ps. each d (patternsOf ps))
+unfolding isLooseAt
+loose-each k d u q e ps c = or-both (ap looseKind e ∙ u) (sym (loose-parts ps))
+
+loose-halves : (k : ℕ) (d : Kind) → looseKind k ≡ true → Agrees isLoose isLooseAt k (λ r ps. halved d (getD ps 0 any) (getD ps 1 any))
+unfolding isLooseAt
+loose-halves k d u q e ps c = sym (ap (λ x. x || some (map isLooseAt ps)) (ap looseKind e ∙ u))
+
+all-loose : EachAgrees isLoose isLooseAt 32 patterns
 unfolding isLooseAt shape
-each-loose =
+all-loose =
     (λ q e ps c. or-both (ap looseKind e) (no-parts isLooseAt 32 ps refl c))
     & (λ q e ps c. or-both (ap looseKind e) (no-parts isLooseAt 33 ps refl c))
     & (λ q e ps c. or-both (ap looseKind e) (no-parts isLooseAt 34 ps refl c))
     & (λ q e ps c. or-both (ap looseKind e) (no-parts isLooseAt 35 ps refl c))
-    & (λ q e ps c. or-both (ap looseKind e) (sym (loose-parts ps)))
-    & (λ q e ps c. or-both (ap looseKind e) (sym (loose-parts ps)))
-    & (λ q e ps c. sym (ap (λ x. x || some (map isLooseAt ps)) (ap looseKind e)))
-    & (λ q e ps c. or-both (ap looseKind e) (sym (loose-parts ps)))
-    & (λ q e ps c. sym (ap (λ x. x || some (map isLooseAt ps)) (ap looseKind e)))
+    & loose-each 36 tuple refl
+    & loose-each 37 set refl
+    & loose-halves 38 set refl
+    & loose-each 39 sequence refl
+    & loose-halves 40 sequence refl
+    & loose-each 41 mapping refl
+    & loose-halves 42 mapping refl
     & tt
 
 -- ---- names
@@ -138,33 +150,50 @@ two-parts m (p ∷ q ∷ s ∷ ps) e = absurd (omega arith)
 abbrev nameKind : ℕ → ℕ → ℕ → Bool
 nameKind x y k = eqb k 32 && eqb y x
 
-each-name : (x : ℕ) → EachAgrees (isName x) (λ p. holdsAt p x) 32 patterns
-unfolding holdsAt shape
-each-name x =
-    (λ q e ps c. sym (or-false (eqb (nameOf q) x)) ∙ or-both (ap (nameKind x (nameOf q)) e) (no-parts (λ p. holdsAt p x) 32 ps refl c))
-    & (λ q e ps c. or-both (ap (nameKind x (nameOf q)) e) (no-parts (λ p. holdsAt p x) 33 ps refl c))
-    & (λ q e ps c. or-both (ap (nameKind x (nameOf q)) e) (no-parts (λ p. holdsAt p x) 34 ps refl c))
-    & (λ q e ps c. or-both (ap (nameKind x (nameOf q)) e) (no-parts (λ p. holdsAt p x) 35 ps refl c))
-    & (λ q e ps c. or-both (ap (nameKind x (nameOf q)) e) (sym (name-parts x ps)))
-    & (λ q e ps c. or-both (ap (nameKind x (nameOf q)) e) (sym (name-parts x ps)))
-    & (λ q e ps c. let l = c .low in let h = c .high in or-both (ap (nameKind x (nameOf q)) e) (two-parts (λ p. holdsAt p x) ps (omega arith)))
-    & (λ q e ps c. or-both (ap (nameKind x (nameOf q)) e) (sym (name-parts x ps)))
-    & (λ q e ps c. let l = c .low in let h = c .high in or-both (ap (nameKind x (nameOf q)) e) (two-parts (λ p. holdsAt p x) ps (omega arith)))
-    & tt
+module _ (x : ℕ) where
+  abbrev named : Pattern → Bool
+  named p = holdsAt p x
+
+  name-each : (k : ℕ) (d : Kind) → eqb k 32 ≡ false → Agrees (isName x) named k (λ r ps. each d (patternsOf ps))
+  unfolding holdsAt
+  name-each k d u q e ps c = or-both (ap (nameKind x (nameOf q)) e ∙ ap (λ b. b && eqb (nameOf q) x) u) (sym (name-parts x ps))
+
+  name-halves : (k : ℕ) (d : Kind) → eqb k 32 ≡ false → shape k .least ≡ 2 → length (shape k .roles) ≡ 2 → Agrees (isName x) named k (λ r ps. halved d (getD ps 0 any) (getD ps 1 any))
+  unfolding holdsAt
+  name-halves k d u low high q e ps c =
+      let l = c .low in
+      let h = c .high in
+      or-both (ap (nameKind x (nameOf q)) e ∙ ap (λ b. b && eqb (nameOf q) x) u) (two-parts named ps (omega arith))
+
+  all-names : EachAgrees (isName x) named 32 patterns
+  unfolding holdsAt shape
+  all-names =
+      (λ q e ps c. sym (or-false (eqb (nameOf q) x)) ∙ or-both (ap (nameKind x (nameOf q)) e) (no-parts named 32 ps refl c))
+      & (λ q e ps c. or-both (ap (nameKind x (nameOf q)) e) (no-parts named 33 ps refl c))
+      & (λ q e ps c. or-both (ap (nameKind x (nameOf q)) e) (no-parts named 34 ps refl c))
+      & (λ q e ps c. or-both (ap (nameKind x (nameOf q)) e) (no-parts named 35 ps refl c))
+      & name-each 36 tuple refl
+      & name-each 37 set refl
+      & name-halves 38 set refl refl refl
+      & name-each 39 sequence refl
+      & name-halves 40 sequence refl refl refl
+      & name-each 41 mapping refl
+      & name-halves 42 mapping refl refl refl
+      & tt
 
 -- ---- of an accepted table
 
 module _ (table : List ℕ) (n : ℕ) (ok : check table ≡ Accepted n) where
   -- THEOREM: a pattern record is read over what its parts are read as.
   pub pattern-is : (r : ℕ) → r < length (records table) → patternAt (records table) r ≡ patternOf (recordAt (records table) r) (map (patternAt (records table)) (operandsOf (recordAt (records table) r)))
-  pattern-is r h = pattern-at isLoose isLooseAt each-loose (records table) (accepted-fine table n ok .0) r h
+  pattern-is r h = pattern-at isLoose isLooseAt all-loose (records table) (accepted-fine table n ok .0) r h
 
-  -- THEOREM: a pattern is loose exactly when the check finds a 37, 38 or 40 in it.
+  -- THEOREM: a pattern is loose exactly when the check finds a 37, 38, 40, 41 or 42 in it.
   pub loose-is : (r : ℕ) → r < length (records table) → isPattern (kindAt (records table) r) ≡ true → loose (records table) r ≡ isLooseAt (patternAt (records table) r)
   unfolding loose
-  loose-is r h p = same-to isLoose isLooseAt each-loose (records table) (accepted-fine table n ok .0) (suc r) r (omega arith) h p
+  loose-is r h p = same-to isLoose isLooseAt all-loose (records table) (accepted-fine table n ok .0) (suc r) r (omega arith) h p
 
   -- THEOREM: a pattern has the names that the check finds in it.
   pub names-are : (r x : ℕ) → r < length (records table) → isPattern (kindAt (records table) r) ≡ true → holdsName (records table) r x ≡ holdsAt (patternAt (records table) r) x
   unfolding holdsName
-  names-are r x h p = same-to (isName x) (λ y. holdsAt y x) (each-name x) (records table) (accepted-fine table n ok .0) (suc r) r (omega arith) h p
+  names-are r x h p = same-to (isName x) (λ y. holdsAt y x) (all-names x) (records table) (accepted-fine table n ok .0) (suc r) r (omega arith) h p

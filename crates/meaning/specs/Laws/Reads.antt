@@ -1,7 +1,7 @@
 -- In an accepted table every name that is read is bound, and no pattern is evaluated: no run refuses at a literal, a name or a pattern. So what the
 -- definitions say there is of no account.
 use mathlib.Core.Path.{_≡_, refl, sym, ap, _∙_, subst}
-use mathlib.Core.Bool.{Bool, true, false, not, _&&_, _||_}
+use mathlib.Core.Bool.{Bool, true, false, _&&_, _||_}
 use mathlib.Core.Option.{Option, some}
 use mathlib.Core.Logic.{⊎-elim}
 use mathlib.Core.List.{List, [], _∷_, map}
@@ -10,9 +10,9 @@ use native.Mathlib.Omega.{arith}
 use lib.Dec.{eqb, leb}
 use lib.ListN.{length, getD}
 use borrow.Author.Tests.{leb-true, eqb-true}
-use mathlib.Mathlib.Data.Bool.Basic.{or-inr}
+use mathlib.Mathlib.Data.Bool.Basic.{or-inr, and-elim-left}
 use Rattle.prelude.proofs.Absurd.{never, impossible}
-use Rattle.prelude.proofs.Truth.{implied, by-lower}
+use Rattle.prelude.proofs.Truth.{by-lower}
 use Rattle.choices.specs.Tree.{Tree, give, Gives}
 use Rattle.choices.specs.Outcome.{refusal}
 use Rattle.choices.proofs.Trees.{gives-bind-out}
@@ -27,10 +27,10 @@ use Rattle.tables.specs.Record.{Record, name, shape, headOf, isExpression, isPa
 use Rattle.tables.specs.Table.{recordAt, kindAt}
 use Rattle.tables.specs.Sheet.{some as someOf, isCovered, isBound, holdsName, patternOf}
 use Rattle.tables.specs.Check.{check}
-use Rattle.tables.specs.Laws.Tests.{each}
 use Rattle.tables.specs.Laws.Kinds.{expression-least, expression-most}
+use Rattle.tables.specs.Laws.Operands.{isFirst, binder-roles}
 use Rattle.tables.specs.Accepted.{records, Fine}
-use Rattle.tables.specs.Laws.Accepted.{accepted-fine, operand-lower, operand-sort, bound-operand, bound-last, name-bound, last-sort, fit-known, fit-kind, fit-expression}
+use Rattle.tables.specs.Laws.Accepted.{accepted-fine, operand-lower, operand-sort, bound-operand, bound-last, name-bound, last-sort, fit-known, fit-expression}
 use Rattle.meaning.specs.State.{State, unbound, over, under, heldValue, valueIn}
 use Rattle.meaning.specs.Meaning.{orElse, means, meaningTo, meaning}
 use Rattle.patterns.specs.Read.{patternAt}
@@ -57,24 +57,14 @@ under-cell (c ∷ ρ) (d ∷ b) (suc x) h k = under-cell ρ b x (omega arith) (o
 
 -- ---- roles
 
-abbrev isFirst : Role → Bool
-isFirst Plain = false
-isFirst Condition = false
-isFirst Body = false
-isFirst Part = true
-isFirst Name = true
-
 some-at : (roles : List Role) (i : ℕ) → isCovered (getD roles i Plain) ≡ true → someOf (map isCovered roles) ≡ true
 some-at [] i e = e
 some-at (x ∷ roles) zero e = ap (λ b. b || someOf (map isCovered roles)) e
 some-at (x ∷ roles) (suc i) e = or-inr (isCovered x) _ (some-at roles i e)
 
 -- A kind with a covered operand has a pattern as its first.
-first-role : (k i : ℕ) → k ≤ 40 → isCovered (getD (shape k .roles) i Plain) ≡ true → isFirst (getD (shape k .roles) 0 Plain) ≡ true
-unfolding shape
-first-role k i h e =
-    implied (someOf (map isCovered (shape k .roles))) _
-    (each (λ j. not (someOf (map isCovered (shape j .roles))) || isFirst (getD (shape j .roles) 0 Plain)) 41 refl k (omega arith)) (some-at (shape k .roles) i e)
+first-role : (k i : ℕ) → isCovered (getD (shape k .roles) i Plain) ≡ true → isFirst (getD (shape k .roles) 0 Plain) ≡ true
+first-role k i e = and-elim-left _ (leb 3 (shape k .least)) (binder-roles k (some-at (shape k .roles) i e))
 
 module _ (table : List ℕ) (n : ℕ) (ok : check table ≡ Accepted n) where
   abbrev rs : List Record
@@ -125,7 +115,7 @@ module _ (table : List ℕ) (n : ℕ) (ok : check table ≡ Accepted n) where
 
     first-pattern : isCovered (roleAt (recordAt rs r) i) ≡ true → isPattern (kindAt rs (patternOf rs r)) ≡ true
     unfolding shape
-    first-pattern e = go (roleAt (recordAt rs r) 0) refl (first-role (kindAt rs r) i (fit-kind (recordAt rs r) (fine .fit r h)) e)
+    first-pattern e = go (roleAt (recordAt rs r) 0) refl (first-role (kindAt rs r) i e)
       where
         go : (x : Role) → roleAt (recordAt rs r) 0 ≡ x → isFirst x ≡ true → isPattern (kindAt rs (patternOf rs r)) ≡ true
         go Plain d f = never f

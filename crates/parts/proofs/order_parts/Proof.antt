@@ -7,7 +7,7 @@ use Rattle.parts.proofs.order_parts.Tie as tie
 use Rattle.parts.proofs.order_parts.Reads as reads
 use Rattle.parts.proofs.order_parts.Lts as lts
 use Rattle.parts.proofs.order_kinds.Reads as order-kinds-reads
-use Rattle.parts.proofs.order_members.Reads as order-members-reads
+use Rattle.parts.proofs.order_units.Reads as order-units-reads
 use Rattle.values.proofs.compare.Reads as compare-reads
 
 order-kinds-requires : tie.Need-order-kinds-requires
@@ -16,8 +16,8 @@ order-kinds-requires c κs = search needs
 returns : tie.Need-returns
 returns c = search needs
 
-order-members-requires : tie.Need-order-members-requires
-order-members-requires c κs = search needs
+order-units-requires : tie.Need-order-units-requires
+order-units-requires c κs = search needs
 
 returns-2 : tie.Need-returns-2
 returns-2 c = search needs
@@ -46,7 +46,7 @@ order-parts-spec =
     (tie.spec
     order-kinds-requires
     returns
-    order-members-requires
+    order-units-requires
     returns-2
     cast-a
     cast-b

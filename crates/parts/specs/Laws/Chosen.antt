@@ -6,6 +6,7 @@ use mathlib.Core.List.{List, [], _∷_, _++_, map, map-append, append-assoc}
 use Prim.Native.Nat.{ℕ, zero, suc, _+_, _*_, _-_, _/_, _%_, _^_, _≤_, _<_}
 use native.Mathlib.Nat.{pow-suc}
 use native.Mathlib.Omega.{arith}
+use lib.Count.{ones, ones-step, ones-ones}
 use lib.Dec.{eqb, ltb}
 use lib.ListN.{length, getD, take, drop, length-append, length-map, List·getD-append}
 use lib.Seq.{getD-append-add}
@@ -51,6 +52,16 @@ module _ {A : Type 0} where
       let h : m % 2 ≡ 1 = omega arith in
       let g : m / 2 + 1 ≡ 2 ^ length xs = omega arith in
       keep-odd m (m / 2) x xs h refl ∙ ap (λ (l : List A). x ∷ l) (keep-full xs (m / 2) g)
+
+  -- a mask chooses as many as it has bits that are set
+  pub kept-length : (m : ℕ) (xs : List A) → m < 2 ^ length xs → length (keep m xs) ≡ ones m
+  kept-length m [] h = let e : m ≡ 0 = omega arith in ap length (keep-none m) ∙ sym (ap ones e ∙ ones-ones 0)
+  kept-length m (x ∷ xs) h = go (kept-length (m / 2) xs (omega (arith, pow-suc 2 (length xs)))) (m % 2) refl (omega arith)
+    where
+      go : length (keep (m / 2) xs) ≡ ones (m / 2) → (b : ℕ) → m % 2 ≡ b → b < 2 → length (keep m (x ∷ xs)) ≡ ones m
+      go l zero e q = ap length (keep-even m (m / 2) x xs e refl) ∙ omega (arith, l, ones-step m)
+      go l (suc zero) e q = ap length (keep-odd m (m / 2) x xs e refl) ∙ omega (arith, l, ones-step m)
+      go l (suc (suc b)) e q = absurd (omega arith)
 
   -- ---- laws of what is chosen
 

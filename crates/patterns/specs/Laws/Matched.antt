@@ -11,18 +11,19 @@ use lib.ListN.{length, length-set}
 use borrow.Author.Tests.{eq-eqb, eqb-true}
 use Rattle.prelude.proofs.Absurd.{impossible}
 use Rattle.prelude.specs.Membership.{In}
-use Rattle.prelude.proofs.Membership.{in-one, in-left, in-right, in-joined, in-picked, picked-in}
+use Rattle.prelude.proofs.Membership.{in-one, in-left, in-right, in-joined, in-picked, picked-in, map-in, in-map}
 use Rattle.values.specs.Value.{Kind, set, sequence, map as mapping, tuple, number, Value, boolean, integer, collection, Items, none, more}
 use Rattle.values.specs.Items.{same}
 use Rattle.values.proofs.Order.{number-inj, same-true, true-same}
-use Rattle.patterns.specs.Ways.{gather, Halves, halves}
+use Rattle.patterns.specs.Ways.{gather, Halves, halves, properSplits, orders}
 use Rattle.patterns.specs.Laws.Members.{in-gather, gather-in}
 use Rattle.patterns.specs.Laws.Units.{shared-length, in-proper, in-cuts, in-orders}
 use Rattle.patterns.specs.Binding.{Cell, free, is, clash, Binding, names, nothing, only, cellOf, agree, merge, consistent, withEach, together}
-use Rattle.patterns.specs.Pattern.{Pattern, name, any, literal, each, halved, Patterns, nil, cons, parts, listOf, itemsOf, contents, arrangements, divisions, met, split, leftOf, rightOf, matches, matchEach}
+use Rattle.patterns.specs.Pattern.{Pattern, name, any, literal, each, halved, Patterns, nil, cons, parts, listOf, itemsOf, contents, entriesOf, unitsOf, itemsIn, halvesIn, isUnordered, arrangements, divisions, met, split, leftOf, rightOf, matches, matchEach}
 use Rattle.patterns.specs.Binder.{bindings}
 use Rattle.patterns.specs.Laws.Ordered.{sorted-in, in-sorted}
 use Rattle.patterns.specs.Relation.{Agree, Joined, Arranged, Divided, Matches, MatchesEach}
+use Rattle.patterns.specs.Laws.Collected.{divided-units}
 
 -- ---- bindings have a cell for each name
 
@@ -166,23 +167,32 @@ of-contents k (collection l ws) vs e = go (eqb (number k) (number l)) refl e
 
 -- ---- what the parts of a pattern meet
 
-in-arrangements : (k : Kind) (vs ws : List Value) → In ws (arrangements k vs) ↔ Arranged k vs ws
+pub in-arrangements : (k : Kind) (vs ws : List Value) → In ws (arrangements k vs) ↔ Arranged k vs ws
 in-arrangements set vs ws = in-orders vs ws
 in-arrangements sequence vs ws = (in-one ws, λ e. inl e)
-in-arrangements mapping vs ws = (λ h. h, λ h. h)
+in-arrangements mapping vs ws = (
+  λ i. let (es, j, e) = in-map ws (itemsIn mapping) (orders (entriesOf vs)) i in (es, in-orders (entriesOf vs) es .0 j, e),
+  λ (es, h, e). subst (λ (l : List Value). In l (arrangements mapping vs)) (sym e) (map-in es (itemsIn mapping) (orders (entriesOf vs)) (in-orders (entriesOf vs) es .1 h)),
+)
 in-arrangements tuple vs ws = (in-one ws, λ e. inl e)
 
-in-divisions : (k : Kind) (vs : List Value) (h : Halves Value) → In h (divisions k vs) ↔ Divided k vs (h .left) (h .right)
+pub in-divisions : (k : Kind) (vs : List Value) (h : Halves Value) → In h (divisions k vs) ↔ Divided k vs (h .left) (h .right)
 in-divisions set vs h = in-proper vs h
 in-divisions sequence vs h = in-cuts vs h
-in-divisions mapping vs h = (λ i. i, λ i. i)
+in-divisions mapping vs h = (
+  λ i.
+      let (g, j, e) = in-map h (halvesIn mapping) (properSplits (entriesOf vs)) i in
+      (g .left, g .right, in-proper (entriesOf vs) g .0 j, ap (λ (f : Halves Value). f .left) e, ap (λ (f : Halves Value). f .right) e),
+  λ (es, fs, p, d, e).
+      subst (λ (g : Halves Value). In g (divisions mapping vs)) (sym (ap₂ halves d e)) (map-in (halves es fs) (halvesIn mapping) (properSplits (entriesOf vs)) (in-proper (entriesOf vs) (halves es fs) .1 p)),
+)
 in-divisions tuple vs h = (λ i. i, λ i. i)
 
 -- n items of kind k, arranged
-abbrev Met : Kind → ℕ → Value → List Value → List Value → Type 0
+abbrev pub Met : Kind → ℕ → Value → List Value → List Value → Type 0
 Met k n v vs ws = (v ≡ collection k (itemsOf vs)) × (n ≡ length vs) × Arranged k vs ws
 
-in-met : (k : Kind) (n : ℕ) (v : Value) (ws : List Value) → In ws (met k n (contents k v)) → (vs : List Value) × Met k n v vs ws
+pub in-met : (k : Kind) (n : ℕ) (v : Value) (ws : List Value) → In ws (met k n (contents k v)) → (vs : List Value) × Met k n v vs ws
 in-met k n v ws i = go (contents k v) refl i
   where
     go : (o : Option (List Value)) → contents k v ≡ o → In ws (met k n o) → (vs : List Value) × Met k n v vs ws
@@ -191,19 +201,19 @@ in-met k n v ws i = go (contents k v) refl i
         let (t, j) = in-picked ws (eqb n (length vs)) (arrangements k vs) i in
         (vs, (of-contents k v vs e, eqb-true n (length vs) t, in-arrangements k vs ws .0 j))
 
-met-in : (k : Kind) (n : ℕ) (v : Value) (vs ws : List Value) → Met k n v vs ws → In ws (met k n (contents k v))
+pub met-in : (k : Kind) (n : ℕ) (v : Value) (vs ws : List Value) → Met k n v vs ws → In ws (met k n (contents k v))
 met-in k n v vs ws (e, f, h) =
     subst (λ (o : Option (List Value)). In ws (met k n o)) (sym (ap (contents k) e ∙ contents-of k vs))
     (picked-in ws (eqb n (length vs)) (arrangements k vs) (eq-eqb n (length vs) f) (in-arrangements k vs ws .1 h))
 
-in-split : (k : Kind) (v : Value) (h : Halves Value) → In h (split k (contents k v)) → (vs : List Value) × (v ≡ collection k (itemsOf vs)) × Divided k vs (h .left) (h .right)
+pub in-split : (k : Kind) (v : Value) (h : Halves Value) → In h (split k (contents k v)) → (vs : List Value) × (v ≡ collection k (itemsOf vs)) × Divided k vs (h .left) (h .right)
 in-split k v h i = go (contents k v) refl i
   where
     go : (o : Option (List Value)) → contents k v ≡ o → In h (split k o) → (vs : List Value) × (v ≡ collection k (itemsOf vs)) × Divided k vs (h .left) (h .right)
     go absent e i = absurd i
     go (some vs) e i = (vs, of-contents k v vs e, in-divisions k vs h .0 i)
 
-split-in : (k : Kind) (v : Value) (vs ls rs : List Value) → v ≡ collection k (itemsOf vs) → Divided k vs ls rs → In (halves ls rs) (split k (contents k v))
+pub split-in : (k : Kind) (v : Value) (vs ls rs : List Value) → v ≡ collection k (itemsOf vs) → Divided k vs ls rs → In (halves ls rs) (split k (contents k v))
 split-in k v vs ls rs e d =
     subst (λ (o : Option (List Value)). In (halves ls rs) (split k o)) (sym (ap (contents k) e ∙ contents-of k vs)) (in-divisions k vs (halves ls rs) .1 d)
 
@@ -296,7 +306,9 @@ bindings-exactly p vs b = (λ i. there i, λ h. back h)
     back : (v : Value) × In v vs × Matches p v b → In b (bindings p vs)
     back (v, j, m) = sorted-in b (gather vs (matches p)) (gather-in v b vs (matches p) j (matching p v b m))
 
--- THEOREM: a union pattern matches only a set of two members or more (wish 1: a set of 0 or 1 members never matches)
-pub union-two : (p q : Pattern) (v : Value) (b : Binding) → Matches (halved set p q) v b → (vs : List Value) × (v ≡ collection set (itemsOf vs)) × (2 ≤ length vs)
+-- THEOREM: a union pattern matches only a set of two members or more, a munion pattern a map of two entries or more (wish 1)
+pub halved-two : (k : Kind) → isUnordered k ≡ true → (p q : Pattern) (v : Value) (b : Binding) → Matches (halved k p q) v b → (vs : List Value) × (v ≡ collection k (itemsOf vs)) × (2 ≤ length (unitsOf k vs))
 unfolding Matches
-union-two p q v b (vs, ls, rs, c, d, e, (s, l, r), m, n, j) = (vs, e, omega (arith, shared-length vs ls rs s))
+halved-two k u p q v b (vs, ls, rs, c, d, e, s, m, n, j) =
+    let (ms, ns, (h, l, r), f, g) = divided-units k u vs ls rs .0 s in
+    (vs, e, omega (arith, shared-length (unitsOf k vs) ms ns h))

@@ -7,19 +7,23 @@ use Prim.Native.Nat.{ℕ, _+_, _≤_, _<_}
 use native.Mathlib.Decide.{ℕ-discrete}
 use native.Mathlib.Omega.{arith}
 use lib.Dec.{eqb}
-use lib.ListN.{getD-replicate}
+use lib.ListN.{length, getD-replicate}
 use lib.Seq.{getD-set-same, getD-set-other}
 use borrow.Author.Tests.{eq-eqb, ne-eqb}
+use Rattle.prelude.proofs.Absurd.{true-false}
 use Rattle.prelude.specs.Membership.{In}
 use Rattle.prelude.proofs.Membership.{in-left, in-right, in-joined}
-use Rattle.values.specs.Value.{Kind, set, sequence, map as mapping, tuple, Value, collection, size, sizes, Before, Ascending, Shaped, Sound, SoundItems, WellFormed}
+use Rattle.values.specs.Value.{Kind, set, sequence, map as mapping, tuple, Value, collection, keys, size, sizes, Before, Ascending, Shaped, Sound, SoundItems, WellFormed}
+use Rattle.values.specs.Entries.{Entry, flat, keysOf}
 use Rattle.values.proofs.Encoding.{collection-size}
+use Rattle.values.proofs.Listed.{keys-flat, flat-shaped}
 use Rattle.values.proofs.Records.{collection-shaped, collection-sound, well-formed-collection}
 use Rattle.patterns.specs.Units.{Shared, Inserted, Permuted}
 use Rattle.patterns.specs.Binding.{Cell, free, is, clash, Binding, names, nothing, only, cellOf}
-use Rattle.patterns.specs.Pattern.{Pattern, name, any, literal, each, halved, Patterns, nil, cons, itemsOf, matches}
+use Rattle.patterns.specs.Pattern.{Pattern, name, any, literal, each, halved, Patterns, nil, cons, listOf, itemsOf, entriesOf, UnitOf, unitsOf, itemsIn, isUnordered, matches}
 use Rattle.patterns.specs.Relation.{Agree, Arranged, Divided, Matches, MatchesEach}
-use Rattle.patterns.specs.Laws.Matched.{matched}
+use Rattle.patterns.specs.Laws.Collected.{items-units}
+use Rattle.patterns.specs.Laws.Matched.{items-list, matched}
 
 -- ---- the cells of one name and of nothing
 
@@ -83,35 +87,66 @@ mutual
 -- ---- parts of a list
 
 -- The first list has some of the units of the second, in their order.
-abbrev pub PartOf : List Value → List Value → Type 0
+abbrev pub PartOf : {A : Type 0} → List A → List A → Type 0
 PartOf ls [] = ls ≡ []
-PartOf ls (v ∷ vs) = PartOf ls vs ⊎ ((ms : List Value) × (ls ≡ v ∷ ms) × PartOf ms vs)
+PartOf {A} ls (x ∷ xs) = PartOf ls xs ⊎ ((ms : List A) × (ls ≡ x ∷ ms) × PartOf ms xs)
 
-pub part-none : (vs : List Value) → PartOf [] vs
-part-none [] = refl
-part-none (v ∷ vs) = inl (part-none vs)
+module _ {A : Type 0} where
+  pub part-none : (xs : List A) → PartOf [] xs
+  part-none [] = refl
+  part-none (x ∷ xs) = inl (part-none xs)
 
-pub part-self : (vs : List Value) → PartOf vs vs
-part-self [] = refl
-part-self (v ∷ vs) = inr (vs, refl, part-self vs)
+  pub part-self : (xs : List A) → PartOf xs xs
+  part-self [] = refl
+  part-self (x ∷ xs) = inr (xs, refl, part-self xs)
 
-part-left : (ls rs : List Value) → PartOf ls (ls ++ rs)
-part-left [] rs = part-none rs
-part-left (l ∷ ls) rs = inr (ls, refl, part-left ls rs)
+  part-left : (ls rs : List A) → PartOf ls (ls ++ rs)
+  part-left [] rs = part-none rs
+  part-left (l ∷ ls) rs = inr (ls, refl, part-left ls rs)
 
-part-right : (ls rs : List Value) → PartOf rs (ls ++ rs)
-part-right [] rs = part-self rs
-part-right (l ∷ ls) rs = inl (part-right ls rs)
+  part-right : (ls rs : List A) → PartOf rs (ls ++ rs)
+  part-right [] rs = part-self rs
+  part-right (l ∷ ls) rs = inl (part-right ls rs)
 
-pub shared-left : (vs ls rs : List Value) → Shared vs ls rs → PartOf ls vs
-shared-left [] ls rs h = h .0
-shared-left (v ∷ vs) ls rs (inl (ms, e, h)) = inr (ms, e, shared-left vs ms rs h)
-shared-left (v ∷ vs) ls rs (inr (ms, e, h)) = inl (shared-left vs ls ms h)
+  pub shared-left : (xs ls rs : List A) → Shared xs ls rs → PartOf ls xs
+  shared-left [] ls rs h = h .0
+  shared-left (x ∷ xs) ls rs (inl (ms, e, h)) = inr (ms, e, shared-left xs ms rs h)
+  shared-left (x ∷ xs) ls rs (inr (ms, e, h)) = inl (shared-left xs ls ms h)
 
-pub shared-right : (vs ls rs : List Value) → Shared vs ls rs → PartOf rs vs
-shared-right [] ls rs h = h .1
-shared-right (v ∷ vs) ls rs (inl (ms, e, h)) = inl (shared-right vs ms rs h)
-shared-right (v ∷ vs) ls rs (inr (ms, e, h)) = inr (ms, e, shared-right vs ls ms h)
+  pub shared-right : (xs ls rs : List A) → Shared xs ls rs → PartOf rs xs
+  shared-right [] ls rs h = h .1
+  shared-right (x ∷ xs) ls rs (inl (ms, e, h)) = inl (shared-right xs ms rs h)
+  shared-right (x ∷ xs) ls rs (inr (ms, e, h)) = inr (ms, e, shared-right xs ls ms h)
+
+  pub part-in : (ls xs : List A) → PartOf ls xs → (x : A) → In x ls → In x xs
+  part-in ls [] e x i = subst (In x) e i
+  part-in ls (y ∷ xs) (inl p) x i = inr (part-in ls xs p x i)
+  part-in ls (y ∷ xs) (inr (ms, e, p)) x i = ⊎-elim (λ q. inl q) (λ j. inr (part-in ms xs p x j)) (subst (In x) e i)
+
+  pub part-length : (ls xs : List A) → PartOf ls xs → length ls ≤ length xs
+  part-length ls [] e = rw e (omega arith)
+  part-length ls (x ∷ xs) (inl p) = omega (arith, part-length ls xs p)
+  part-length ls (x ∷ xs) (inr (ms, e, p)) = rw e (omega (arith, part-length ms xs p))
+
+-- some of the entries: their keys, and their items
+part-keys : (es fs : List Entry) → PartOf es fs → PartOf (listOf (keysOf es)) (listOf (keysOf fs))
+unfolding keysOf listOf
+part-keys es [] e = rw e refl
+part-keys es (f ∷ fs) (inl p) = inl (part-keys es fs p)
+part-keys es (f ∷ fs) (inr (ms, e, p)) = rw e (inr (listOf (keysOf ms), refl, part-keys ms fs p))
+
+part-flat : (es fs : List Entry) → PartOf es fs → PartOf (listOf (flat es)) (listOf (flat fs))
+unfolding flat listOf
+part-flat es [] e = rw e refl
+part-flat es (f ∷ fs) (inl p) = inl (inl (part-flat es fs p))
+part-flat es (f ∷ fs) (inr (ms, e, p)) = rw e (inr (f .value ∷ listOf (flat ms), refl, inr (listOf (flat ms), refl, part-flat ms fs p)))
+
+-- some of the units: their items are some of the items
+pub part-items : (k : Kind) (ls us : List (UnitOf k)) → PartOf ls us → PartOf (itemsIn k ls) (itemsIn k us)
+part-items set ls us p = p
+part-items sequence ls us p = p
+part-items mapping ls us p = part-flat ls us p
+part-items tuple ls us p = p
 
 -- ---- parts of a well-formed collection
 
@@ -139,30 +174,55 @@ part-sizes ls [] e = rw e (omega arith)
 part-sizes ls (w ∷ vs) (inl p) = omega (arith, part-sizes ls vs p)
 part-sizes ls (w ∷ vs) (inr (ms, e, p)) = rw e (omega (arith, part-sizes ms vs p))
 
--- sets and sequences, of which a part is again one
+-- sets, sequences and maps, of which some units are again one
 abbrev pub Divides : Kind → Type 0
 Divides set = Unit {0}
 Divides sequence = Unit {0}
-Divides mapping = ⊥
+Divides mapping = Unit {0}
 Divides tuple = ⊥
 
-pub part-shaped : (k : Kind) (ls vs : List Value) → Divides k → PartOf ls vs → Shaped k (itemsOf vs) → Shaped k (itemsOf ls)
-part-shaped set ls vs d p h = part-ascending ls vs p h
-part-shaped sequence ls vs d p h = tt
-part-shaped mapping ls vs d p h = absurd d
-part-shaped tuple ls vs d p h = absurd d
+pub divides : (k : Kind) → isUnordered k ≡ true → Divides k
+divides set u = tt
+divides sequence u = true-false (sym u)
+divides mapping u = tt
+divides tuple u = true-false (sym u)
 
-pub part-fine : (k : Kind) (ls vs : List Value) → Divides k → PartOf ls vs → WellFormed (collection k (itemsOf vs)) → WellFormed (collection k (itemsOf ls))
-part-fine k ls vs d p h =
-    let n = collection-size k (itemsOf vs) in
+part-rising : (es fs : List Entry) → PartOf es fs → Shaped mapping (itemsOf (listOf (flat fs))) → Shaped mapping (itemsOf (listOf (flat es)))
+part-rising es fs p h =
+    let r : Ascending (keysOf fs) = subst Ascending (ap keys (items-list (flat fs)) ∙ keys-flat fs) (h .1) in
+    let q = part-ascending (listOf (keysOf es)) (listOf (keysOf fs)) (part-keys es fs p) (subst Ascending (sym (items-list (keysOf fs))) r) in
+    subst (Shaped mapping) (sym (items-list (flat es))) (flat-shaped es (subst Ascending (items-list (keysOf es)) q))
+
+pub part-shaped : (k : Kind) (ls us : List (UnitOf k)) → Divides k → PartOf ls us → Shaped k (itemsOf (itemsIn k us)) → Shaped k (itemsOf (itemsIn k ls))
+part-shaped set ls us d p h = part-ascending ls us p h
+part-shaped sequence ls us d p h = tt
+part-shaped mapping ls us d p h = part-rising ls us p h
+part-shaped tuple ls us d p h = absurd d
+
+-- THEOREM: some units of a well-formed set, sequence or map are one again
+pub part-fine : (k : Kind) (ls us : List (UnitOf k)) → Divides k → PartOf ls us → WellFormed (collection k (itemsOf (itemsIn k us))) → WellFormed (collection k (itemsOf (itemsIn k ls)))
+part-fine k ls us d p h =
+    let n = collection-size k (itemsOf (itemsIn k us)) in
     let s = h .short in
-    well-formed-collection (part-shaped k ls vs d p (collection-shaped h)) (part-sound ls vs p (collection-sound h)) (omega (arith, part-sizes ls vs p))
+    let q = part-items k ls us p in
+    well-formed-collection (part-shaped k ls us d p (collection-shaped h)) (part-sound (itemsIn k ls) (itemsIn k us) q (collection-sound h)) (omega (arith, part-sizes (itemsIn k ls) (itemsIn k us) q))
 
-halves-of : (k : Kind) (vs ls rs : List Value) → Divided k vs ls rs → Divides k × PartOf ls vs × PartOf rs vs
-halves-of set vs ls rs (h, l, r) = (tt, shared-left vs ls rs h, shared-right vs ls rs h)
-halves-of sequence vs ls rs e = (tt, subst (PartOf ls) (sym e) (part-left ls rs), subst (PartOf rs) (sym e) (part-right ls rs))
-halves-of mapping vs ls rs h = absurd h
+-- Both halves have some of the units.
+abbrev Halved : (k : Kind) → List Value → List Value → List Value → Type 0
+Halved k vs ls rs = (ms ns : List (UnitOf k)) × Divides k × PartOf ms (unitsOf k vs) × PartOf ns (unitsOf k vs) × (ls ≡ itemsIn k ms) × (rs ≡ itemsIn k ns)
+
+halves-of : (k : Kind) (vs ls rs : List Value) → Divided k vs ls rs → Halved k vs ls rs
+halves-of set vs ls rs (h, l, r) = (ls, rs, tt, shared-left vs ls rs h, shared-right vs ls rs h, refl, refl)
+halves-of sequence vs ls rs e = (ls, rs, tt, subst (PartOf ls) (sym e) (part-left ls rs), subst (PartOf rs) (sym e) (part-right ls rs), refl, refl)
+halves-of mapping vs ls rs (es, fs, (h, l, r), d, e) = (es, fs, tt, shared-left (entriesOf vs) es fs h, shared-right (entriesOf vs) es fs h, d, e)
 halves-of tuple vs ls rs h = absurd h
+
+-- and so each is well-formed
+halves-fine : (k : Kind) (vs ls rs : List Value) → Divided k vs ls rs → WellFormed (collection k (itemsOf vs)) → WellFormed (collection k (itemsOf ls)) × WellFormed (collection k (itemsOf rs))
+halves-fine k vs ls rs s h =
+    let (ms, ns, t, l, r, d, e) = halves-of k vs ls rs s in
+    let g = subst (λ (us : List Value). WellFormed (collection k (itemsOf us))) (sym (items-units k vs (collection-shaped h))) h in
+    (rw d (part-fine k ms (unitsOf k vs) t l g), rw e (part-fine k ns (unitsOf k vs) t r g))
 
 -- ---- the items of a well-formed collection
 
@@ -184,22 +244,41 @@ item-fine k vs h v i =
     let s = h .short in
     record { sound = item-sound v vs i (collection-sound h); short = omega (arith, item-size v vs i) }
 
-inserted-in : (v x : Value) (ys zs : List Value) → Inserted x ys zs → In v zs → (v ≡ x) ⊎ In v ys
-inserted-in v x ys zs (l, r, p, q) i = go (in-joined v l (x ∷ r) (subst (In v) q i))
-  where
-    go : In v l ⊎ In v (x ∷ r) → (v ≡ x) ⊎ In v ys
-    go (inl j) = inr (subst (In v) (sym p) (in-left v l r j))
-    go (inr (inl e)) = inl e
-    go (inr (inr j)) = inr (subst (In v) (sym p) (in-right v l r j))
+module _ {A : Type 0} where
+  inserted-in : (y x : A) (ys zs : List A) → Inserted x ys zs → In y zs → (y ≡ x) ⊎ In y ys
+  inserted-in y x ys zs (l, r, p, q) i = go (in-joined y l (x ∷ r) (subst (In y) q i))
+    where
+      go : In y l ⊎ In y (x ∷ r) → (y ≡ x) ⊎ In y ys
+      go (inl j) = inr (subst (In y) (sym p) (in-left y l r j))
+      go (inr (inl e)) = inl e
+      go (inr (inr j)) = inr (subst (In y) (sym p) (in-right y l r j))
 
-pub permuted-in : (v : Value) (vs ws : List Value) → Permuted vs ws → In v ws → In v vs
-permuted-in v [] ws e i = subst (In v) e i
-permuted-in v (x ∷ vs) ws (ys, p, h) i = ⊎-elim (λ e. inl e) (λ j. inr (permuted-in v vs ys p j)) (inserted-in v x ys ws h i)
+  pub permuted-in : (y : A) (xs zs : List A) → Permuted xs zs → In y zs → In y xs
+  permuted-in y [] zs e i = subst (In y) e i
+  permuted-in y (x ∷ xs) zs (ys, p, h) i = ⊎-elim (λ e. inl e) (λ j. inr (permuted-in y xs ys p j)) (inserted-in y x ys zs h i)
 
-arranged-in : (k : Kind) (v : Value) (vs ws : List Value) → Arranged k vs ws → In v ws → In v vs
+-- an item of entries is the key or the value of one of them
+flat-in : (v : Value) (es : List Entry) → In v (listOf (flat es)) → (e : Entry) × In e es × ((v ≡ e .key) ⊎ (v ≡ e .value))
+unfolding flat listOf
+flat-in v [] i = absurd i
+flat-in v (e ∷ es) (inl p) = (e, inl refl, inl p)
+flat-in v (e ∷ es) (inr (inl p)) = (e, inl refl, inr p)
+flat-in v (e ∷ es) (inr (inr i)) = let (f, j, p) = flat-in v es i in (f, inr j, p)
+
+in-entries : (v : Value) (vs : List Value) (e : Entry) → In e (entriesOf vs) → (v ≡ e .key) ⊎ (v ≡ e .value) → In v vs
+unfolding entriesOf
+in-entries v [] e i p = absurd i
+in-entries v (k ∷ []) e i p = absurd i
+in-entries v (k ∷ w ∷ vs) e (inl q) (inl p) = inl (p ∙ ap (λ (f : Entry). f .key) q)
+in-entries v (k ∷ w ∷ vs) e (inl q) (inr p) = inr (inl (p ∙ ap (λ (f : Entry). f .value) q))
+in-entries v (k ∷ w ∷ vs) e (inr i) p = inr (inr (in-entries v vs e i p))
+
+pub arranged-in : (k : Kind) (v : Value) (vs ws : List Value) → Arranged k vs ws → In v ws → In v vs
 arranged-in set v vs ws h i = permuted-in v vs ws h i
 arranged-in sequence v vs ws e i = subst (In v) e i
-arranged-in mapping v vs ws h i = absurd h
+arranged-in mapping v vs ws (es, h, e) i =
+    let (f, j, p) = flat-in v es (subst (In v) e i) in
+    in-entries v vs f (permuted-in f (entriesOf vs) es h j) p
 arranged-in tuple v vs ws e i = subst (In v) e i
 
 -- ---- every value that is bound is well-formed
@@ -239,10 +318,10 @@ mutual
       fineEach ps ws b (λ w i. item-fine k vs g w (arranged-in k w vs ws a i)) m y h
   fine (halved k p q) v b f (vs, ls, rs, c, d, e, s, m, n, j) y h =
       let g = subst WellFormed e f in
-      let (t, l, r) = halves-of k vs ls rs s in
+      let (l, r) = halves-fine k vs ls rs s g in
       fine-both (cellOf c y) (cellOf d y) (cellOf b y)
-      (fine p (collection k (itemsOf ls)) c (part-fine k ls vs t l g) m y h)
-      (fine q (collection k (itemsOf rs)) d (part-fine k rs vs t r g) n y h)
+      (fine p (collection k (itemsOf ls)) c l m y h)
+      (fine q (collection k (itemsOf rs)) d r n y h)
       (j .agreed y h)
 
   fineEach : (ps : Patterns) (vs : List Value) (b : Binding) → ((v : Value) → In v vs → WellFormed v) → MatchesEach ps vs b → (y : ℕ) → y < names → FineCell (cellOf b y)

@@ -48,11 +48,11 @@ module _ (r : Record) (ps : List Pattern) where
 
   is-each : isComposed (r .kind) ≡ true → isHalved (r .kind) ≡ false → patternOf r ps ≡ each (collectionOf (r .kind)) (patternsOf ps)
   is-each c h =
-      by-composed (r .kind) c (λ e. rw e) (λ e. rw e) (λ e. never (sym h ∙ ap isHalved e)) (λ e. rw e) (λ e. never (sym h ∙ ap isHalved e))
+      by-composed (r .kind) c (λ e. rw e) (λ e. rw e) (λ e. never (sym h ∙ ap isHalved e)) (λ e. rw e) (λ e. never (sym h ∙ ap isHalved e)) (λ e. rw e) (λ e. never (sym h ∙ ap isHalved e))
 
   is-halves : isComposed (r .kind) ≡ true → isHalved (r .kind) ≡ true → patternOf r ps ≡ halved (collectionOf (r .kind)) (getD ps 0 any) (getD ps 1 any)
   is-halves c h =
-      by-composed (r .kind) c (λ e. never (sym (ap isHalved e) ∙ h)) (λ e. never (sym (ap isHalved e) ∙ h)) (λ e. rw e) (λ e. never (sym (ap isHalved e) ∙ h)) (λ e. rw e)
+      by-composed (r .kind) c (λ e. never (sym (ap isHalved e) ∙ h)) (λ e. never (sym (ap isHalved e) ∙ h)) (λ e. rw e) (λ e. never (sym (ap isHalved e) ∙ h)) (λ e. rw e) (λ e. never (sym (ap isHalved e) ∙ h)) (λ e. rw e)
 
   module _ (P : Pattern → Type 0) where
     -- What holds of a name, of any and of every literal holds of a pattern without parts,

@@ -1,4 +1,4 @@
--- A pattern that holds no 37, 38 or 40 has at most one binding for a value.
+-- A pattern that holds no 37, 38, 40, 41 or 42 has at most one binding for a value.
 use mathlib.Core.Path.{_≡_}
 use mathlib.Core.Bool.{Bool, true, false, cond}
 use mathlib.Core.Option.{Option, none as absent, some}
@@ -15,7 +15,7 @@ use Rattle.values.specs.Value.{Kind, set, sequence, map as mapping, tuple, Valu
 use Rattle.values.specs.Items.{same, inOrder}
 use Rattle.patterns.specs.Ways.{gather}
 use Rattle.patterns.specs.Binding.{Binding, nothing, merge, consistent, withEach, together, orderBindings, place, sorted}
-use Rattle.patterns.specs.Pattern.{Pattern, name, any, literal, each, halved, Patterns, nil, cons, parts, contents, arrangements, met, matches, matchEach, isSet, loose, looseEach}
+use Rattle.patterns.specs.Pattern.{Pattern, name, any, literal, each, halved, Patterns, nil, cons, parts, contents, arrangements, met, matches, matchEach, isUnordered, loose, looseEach}
 use Rattle.patterns.specs.Binder.{bindings}
 
 -- ---- lists of at most one
@@ -43,13 +43,13 @@ gather-one (x ∷ []) f p q = omega (arith, length-append (f x) [], q x)
 gather-one (x ∷ y ∷ xs) f p q = absurd (omega arith)
 
 -- items in their order are paired in one way
-arranged-one : (k : Kind) (vs : List Value) → isSet k ≡ false → length (arrangements k vs) ≤ 1
+arranged-one : (k : Kind) (vs : List Value) → isUnordered k ≡ false → length (arrangements k vs) ≤ 1
 arranged-one set vs e = impossible cc
 arranged-one sequence vs e = omega arith
-arranged-one mapping vs e = omega arith
+arranged-one mapping vs e = impossible cc
 arranged-one tuple vs e = omega arith
 
-met-one : (k : Kind) (n : ℕ) (o : Option (List Value)) → isSet k ≡ false → length (met k n o) ≤ 1
+met-one : (k : Kind) (n : ℕ) (o : Option (List Value)) → isUnordered k ≡ false → length (met k n o) ≤ 1
 met-one k n absent e = omega arith
 met-one k n (some vs) e = go (eqb n (length vs))
   where
@@ -72,8 +72,8 @@ mutual
   match-one any v e = omega arith
   match-one (literal w) v e = literal-one (same w v)
   match-one (each k ps) v e =
-      gather-one (met k (parts ps) (contents k v)) (λ vs. matchEach ps vs) (met-one k (parts ps) (contents k v) (or-false-left (isSet k) (looseEach ps) e))
-      (λ vs. each-one ps vs (or-false-right (isSet k) (looseEach ps) e))
+      gather-one (met k (parts ps) (contents k v)) (λ vs. matchEach ps vs) (met-one k (parts ps) (contents k v) (or-false-left (isUnordered k) (looseEach ps) e))
+      (λ vs. each-one ps vs (or-false-right (isUnordered k) (looseEach ps) e))
   match-one (halved k p q) v e = impossible cc
 
   each-one : (ps : Patterns) (vs : List Value) → looseEach ps ≡ false → length (matchEach ps vs) ≤ 1

@@ -5,7 +5,7 @@ use borrow.Author.Tests.{not-true, not-false}
 use mathlib.Core.Path.{ap, _∙_}
 use Rattle.tables.specs.Record.{isComposed}
 use Rattle.tables.specs.Laws.Kinds.{composed-told}
-use Rattle.matching.proofs.Records.{count-few, has-operand, operand-readable, recast-meets}
+use Rattle.matching.proofs.Records.{count-fits, has-operand, operand-readable, recast-meets}
 use Rattle.splitting.proofs.Telling.{PartsLeft, WaysLeft, wide-leaf, wide-unfit, wide-large, ways-held, wide-ways, ways-shallow, ways-start, ways-none, way-held, ways-found, ways-next, parts-start, parts-none, piece-asked, piece-held, parts-found, parts-next}
 use borrow.Fn.Kinds.{In}
 use borrow.Fn.PlainCycle.{Measures, is, falls, and}
@@ -150,7 +150,7 @@ too-large-operand-count-requires : (t : ℕ) → too-large-lts.Need-operand-coun
 too-large-operand-count-requires t c κs = c .before .before .before .before .before .pre .1 .0 .here
 
 too-large-meet-requires : (t : ℕ) → too-large-lts.Need-meet-requires (too-large-calls t) (too-large-at t) too-large.Post
-too-large-meet-requires t c κs = let composed = (composed-told (c .before .before .before .kind .ensures .0) (c .before .before .is-composed .ensures) (not-false _ (c .before .if1 .left))) in (ap isComposed (c .before .before .before .kind .ensures .0) ∙ composed, omega (arith, c .operand-count .ensures .0, count-few _ _ _ (c .before .before .before .before .before .before .pre .1 .0) composed), c .before .before .before .before .before .before .pre .1 .1)
+too-large-meet-requires t c κs = let composed = (composed-told (c .before .before .before .kind .ensures .0) (c .before .before .is-composed .ensures) (not-false _ (c .before .if1 .left))) in (ap isComposed (c .before .before .before .kind .ensures .0) ∙ composed, count-fits _ _ _ (c .before .before .before .before .before .before .pre .1 .0) composed _ _ (c .before .before .before .kind .ensures .0) (c .operand-count .ensures .0), c .before .before .before .before .before .before .pre .1 .1)
 
 too-large-enum-told : (t : ℕ) → too-large-lts.Need-enum-told (too-large-calls t) (too-large-at t) too-large.Post
 too-large-enum-told t c = search needs

@@ -15,16 +15,16 @@ use Rattle.tables.specs.declared.Role.{Role}
 use Rattle.tables.specs.declared.Role.the-variants.{Pattern}
 use Rattle.tables.specs.declared.Checked.{Checked}
 use Rattle.tables.specs.declared.Checked.the-variants.{Accepted, Refused}
-use Rattle.tables.specs.Record.{Record, Head, nothing, boolean, integer, name, unary, binary, unknown, Shape, shape, field, size, headOf, isExpression, isPattern, operands, named, operand, roleAt, nameOf, fits, isKnown, isFit}
+use Rattle.tables.specs.Record.{Record, Head, nothing, boolean, integer, name, unary, binary, unknown, Shape, lastKind, shape, field, size, headOf, isExpression, isPattern, operands, named, operand, roleAt, nameOf, fits, isKnown, isFit}
 use Rattle.tables.specs.Table.{cut, recordAt, kindAt}
 use Rattle.tables.specs.Sheet.{any, lowest, some, greatest, isIn, isName, holdsName, height, parent, roleIn, isCovered, isCondition, isBinder, patternOf, climb, isBound, inCondition}
 use Rattle.tables.specs.Check.{mostBytes, mostRecords, mostHeight, isOfSort, allNamed, namedBefore, isBad, fault6, fault7, chooses, fault8, fault9, judged, judgedCut, check}
 use Rattle.tables.specs.Accepted.{records, Fine, AcceptedIsFine}
 use Rattle.tables.specs.Reading.{Indexed, CutOut}
 use Rattle.tables.specs.declared.reading.Cutting.{Cutting}
-use Rattle.tables.specs.Laws.Tests.{any-none, low, each}
+use Rattle.tables.specs.Laws.Tests.{any-none, low}
 use Rattle.tables.specs.Laws.Below.{OperandsLower, fold-at, climb-up, climb-top, parent-higher, parent-is, role-is}
-use Rattle.tables.specs.Laws.Kinds.{beyond, pattern-most}
+use Rattle.tables.specs.Laws.Kinds.{beyond, each-kind, pattern-most}
 use Rattle.tables.specs.Laws.Cutting.{cut-fit, cut-some}
 use Rattle.tables.specs.Laws.Operands.{isPart, is-part, all-parts, operands-few, operands-count, operands-at, isFirst, first-sort, binder-roles, greatest-all}
 
@@ -100,7 +100,7 @@ pattern-role r i e h =
     is-part _ (all-parts (shape (r .kind) .roles) i
     (not-true (some (map (λ x. not (isPart x)) (shape (r .kind) .roles)))
     (implied (isPattern (r .kind)) _
-    (each (λ k. not (isPattern k) || not (some (map (λ x. not (isPart x)) (shape k .roles)))) 41 refl (r .kind) (omega (arith, pattern-most (r .kind) e)))
+    (each-kind (λ k. not (isPattern k) || not (some (map (λ x. not (isPart x)) (shape k .roles)))) refl (r .kind) (pattern-most (r .kind) e))
     e))
     (omega (arith, operands-few (shape (r .kind) .roles) (drop (size (headOf r)) (r .fields)))))
 
@@ -139,11 +139,11 @@ unfolding shape
 let-operand r fit e =
     omega (arith, named-count r fit, fit-least r fit, ap (λ (k : ℕ). size (shape k .head)) e, ap (λ (k : ℕ). shape k .least) e)
 
--- A kind that is known is at most 40.
-pub fit-kind : (r : Record) → isFit r ≡ true → r .kind ≤ 40
+-- A kind that is known is at most the last.
+pub fit-kind : (r : Record) → isFit r ≡ true → r .kind ≤ lastKind
 unfolding shape
 fit-kind r fit =
-    by-lower 40 (r .kind) (λ h. never (sym (ap (λ (s : Shape). isKnown (s .head) r) (beyond (r .kind) h)) ∙ fit-known r fit)) (λ h. h)
+    by-lower lastKind (r .kind) (λ h. never (sym (ap (λ (s : Shape). isKnown (s .head) r) (beyond (r .kind) h)) ∙ fit-known r fit)) (λ h. h)
 
 -- A record that is fit and no pattern is an expression.
 abbrev isUnknown : Head → Bool
@@ -168,7 +168,7 @@ pub fit-expression : (r : Record) → isFit r ≡ true → isPattern (r .kind) �
 unfolding shape
 fit-expression r fit p =
     go (isExpression (r .kind)) (isPattern (r .kind)) (isUnknown (headOf r))
-    (each (λ k. isExpression k || isPattern k || isUnknown (shape k .head)) 41 refl (r .kind) (omega (arith, fit-kind r fit))) p (known-head (headOf r) r (fit-known r fit))
+    (each-kind (λ k. isExpression k || isPattern k || isUnknown (shape k .head)) refl (r .kind) (fit-kind r fit)) p (known-head (headOf r) r (fit-known r fit))
   where
     go : (a b c : Bool) → a || b || c ≡ true → b ≡ false → c ≡ false → a ≡ true
     go true b c f g h = refl

@@ -14,8 +14,7 @@ use Rattle.tables.specs.declared.Role.the-variants.{Plain, Condition, Bo
 use Rattle.tables.specs.Record.{shape, isPattern, operandsOf, numbers}
 use Rattle.tables.specs.Sheet.{some, greatest, isBinder}
 use Rattle.tables.specs.Check.{isOfSort}
-use Rattle.tables.specs.Laws.Tests.{each}
-use Rattle.tables.specs.Laws.Kinds.{binder-most}
+use Rattle.tables.specs.Laws.Kinds.{each-kind, binder-most}
 
 -- ---- patterns
 
@@ -81,7 +80,7 @@ pub binder-roles : (k : ℕ) → isBinder k ≡ true → isFirst (getD (shape k 
 unfolding shape
 binder-roles k e =
     implied (isBinder k) _
-    (each (λ k. not (isBinder k) || (isFirst (getD (shape k .roles) 0 Plain) && leb 3 (shape k .least))) 41 refl k (omega (arith, binder-most k e))) e
+    (each-kind (λ k. not (isBinder k) || (isFirst (getD (shape k .roles) 0 Plain) && leb 3 (shape k .least))) refl k (omega (arith, binder-most k e))) e
 
 -- The greatest of what a list gives is as great as each.
 pub greatest-all : (f : ℕ → ℕ) (ms : List ℕ) (i : ℕ) → i < length ms → f (getD ms i 0) ≤ greatest (map f ms)

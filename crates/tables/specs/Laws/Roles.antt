@@ -8,7 +8,7 @@ use lib.Dec.{eqb}
 use lib.ListN.{length, getD}
 use Rattle.tables.specs.declared.Role.{Role}
 use Rattle.tables.specs.declared.Role.the-variants.{Plain, Condition, Body, Pattern, Name}
-use Rattle.tables.specs.Record.{shape, isPattern}
+use Rattle.tables.specs.Record.{lastKind, shape, isPattern}
 use Rattle.tables.specs.Shapes.{rolesOf, binderRole}
 use Rattle.tables.specs.Sheet.{any, isBinder}
 use Rattle.tables.specs.Laws.Tests.{any-none}
@@ -40,11 +40,11 @@ back Body = refl
 back Pattern = refl
 back Name = refl
 
-pub role-by : (k i : ℕ) → k ≤ 40 → i < length (rolesOf k) → getD (rolesOf k) i Plain ≡ roleBy k i
+pub role-by : (k i : ℕ) → k ≤ lastKind → i < length (rolesOf k) → getD (rolesOf k) i Plain ≡ roleBy k i
 unfolding shape
 role-by k i h l =
     sym (back (getD (rolesOf k) i Plain))
     ∙ ap role
     (eqb-true (number (getD (rolesOf k) i Plain)) (number (roleBy k i)) (not-false _ (any-none (λ i. not (eqb (number (getD (rolesOf k) i Plain)) (number (roleBy k i)))) (length (rolesOf k))
-    (any-none (λ k. any (λ i. not (eqb (number (getD (rolesOf k) i Plain)) (number (roleBy k i)))) (length (rolesOf k))) 41 refl k (omega arith)) i l)))
+    (any-none (λ k. any (λ i. not (eqb (number (getD (rolesOf k) i Plain)) (number (roleBy k i)))) (length (rolesOf k))) (suc lastKind) refl k (omega arith)) i l)))
     ∙ back (roleBy k i)

@@ -7,16 +7,16 @@ use Rattle.forming.proofs.needs.asked_by_names.Statement.{statement}
 use Rattle.forming.proofs.needs.asked_by_names.Tie as tie
 use Rattle.forming.proofs.needs.asked_by_names.Reads as reads
 use Rattle.forming.proofs.needs.asked_by_names.Lts as lts
-use Rattle.forming.proofs.needs.has_member.Reads as has-member-reads
+use Rattle.forming.proofs.needs.has_item.Reads as has-item-reads
 use Rattle.forming.proofs.needs.word_at.Reads as word-at-reads
 use Rattle.tables.proofs.reading.operand.Reads as operand-reads
 use Rattle.tables.proofs.reading.operand_count.Reads as operand-count-reads
 
 abbrev Inv-loop : tie.InvT-loop
-Inv-loop table index p s part found n had₀ i₀ had i = Unit {0}
+Inv-loop table index p c s part found n had₀ i₀ had i = Unit {0}
 
 abbrev μ-loop : tie.MeasureT-loop
-μ-loop table index p s part found n had₀ i₀ had i = n - i
+μ-loop table index p c s part found n had₀ i₀ had i = n - i
 
 operand-count-requires : tie.Need-operand-count-requires Inv-loop μ-loop
 operand-count-requires c κs = c .before .before .pre .0 .readable .here
@@ -30,11 +30,11 @@ operand-requires c κs = has-operand _ _ _ (c .before .before .before .before .b
 word-at-requires : tie.Need-word-at-requires Inv-loop μ-loop
 word-at-requires c κs = operand-readable _ _ _ (c .before .before .before .before .before .before .pre .0 .readable) _ (omega (arith, c .before .before .before .operand-count .ensures .0)) _ (c .operand .ensures .0) .0
 
-has-member-requires : tie.Need-has-member-requires Inv-loop μ-loop
-has-member-requires c κs = (c .before .before .before .before .before .before .before .before .pre .0 .short, c .before .before .before .before .before .before .before .before .pre .1, named-word _ _ _ _ (c .before .before .before .before .before .before .before .before .pre .0 .standing) _ (c .before .word-at .ensures) (c .if1 .taken))
+has-item-requires : tie.Need-has-item-requires Inv-loop μ-loop
+has-item-requires c κs = (c .before .before .before .before .before .before .before .before .pre .0 .short, c .before .before .before .before .before .before .before .before .pre .1, named-word _ _ _ _ (c .before .before .before .before .before .before .before .before .pre .0 .standing) _ (c .before .word-at .ensures) (c .if1 .taken))
 
 returns : tie.Need-returns Inv-loop μ-loop
-returns c = λ z. names-lack _ _ _ (c .before .before .before .before .before .before .before .before .before .before .pre .0 .readable) _ _ _ (c .before .before .before .before .before .before .before .before .before .before .pre .2) _ (omega (arith, c .before .before .before .before .before .before .before .operand-count .ensures .0)) _ (c .before .before .before .before .operand .ensures .0) _ (c .before .before .before .word-at .ensures) (c .before .before .if1 .taken) _ (c .before .has-member .ensures) (not-true _ (c .if2 .taken))
+returns c = λ z. names-lack _ _ _ (c .before .before .before .before .before .before .before .before .before .before .pre .0 .readable) _ _ _ (c .before .before .before .before .before .before .before .before .before .before .args .c) (c .before .before .before .before .before .before .before .before .before .before .pre .2) (c .before .before .before .before .before .before .before .before .before .before .pre .3) _ (omega (arith, c .before .before .before .before .before .before .before .operand-count .ensures .0)) _ (c .before .before .before .before .operand .ensures .0) _ (c .before .before .before .word-at .ensures) (c .before .before .if1 .taken) _ (c .before .has-item .ensures) (not-true _ (c .if2 .taken))
 
 add-i : tie.Need-add-i Inv-loop μ-loop
 add-i c = omega (arith, c .before .before .before .before .before .operand-count .ensures .1)
@@ -61,7 +61,7 @@ asked-by-names-spec =
     loop-holds
     operand-requires
     word-at-requires
-    has-member-requires
+    has-item-requires
     returns
     add-i
     loop-less

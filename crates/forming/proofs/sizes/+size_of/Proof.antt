@@ -14,6 +14,7 @@ use Rattle.forming.proofs.sizes.enumeration_of.Reads as enumeration-of-
 use Rattle.forming.proofs.sizes.fewest_of.Reads as fewest-of-reads
 use Rattle.forming.proofs.sizes.size_of_value.Reads as size-of-value-reads
 use Rattle.forming.proofs.sizes.sum.Reads as sum-reads
+use Rattle.forming.proofs.sizes.units_of.Reads as units-of-reads
 use Rattle.tables.proofs.reading.field.Reads as field-reads
 use Rattle.tables.proofs.reading.kind.Reads as kind-reads
 use Rattle.tables.proofs.reading.operand.Reads as operand-reads
@@ -31,7 +32,7 @@ abbrev size-of-below : ℕ → In 4 size-of-kinds.ps
 size-of-below t = and 4 size-of-kinds.ps (falls 4 size-of-kinds.ps _<_ μ-size-of t) size-of.Pre
 
 abbrev size-of-calls : ℕ → size-of-lts.Claims
-size-of-calls t = (kind-reads.Asked, kind-reads.Learnt, enumeration-of-reads.Asked, enumeration-of-reads.Learnt, operand-count-reads.Asked, operand-count-reads.Learnt, operand-reads.Asked, operand-reads.Learnt, size-of-below t, size-of.Post, sum-reads.Asked, sum-reads.Learnt, field-reads.Asked, field-reads.Learnt, size-of-value-reads.Asked, size-of-value-reads.Learnt, fewest-of-reads.Asked, fewest-of-reads.Learnt)
+size-of-calls t = (kind-reads.Asked, kind-reads.Learnt, enumeration-of-reads.Asked, enumeration-of-reads.Learnt, operand-count-reads.Asked, operand-count-reads.Learnt, units-of-reads.Asked, units-of-reads.Learnt, operand-reads.Asked, operand-reads.Learnt, size-of-below t, size-of.Post, sum-reads.Asked, sum-reads.Learnt, field-reads.Asked, field-reads.Learnt, size-of-value-reads.Asked, size-of-value-reads.Learnt, fewest-of-reads.Asked, fewest-of-reads.Learnt)
 
 size-of-kind-requires : (t : ℕ) → size-of-lts.Need-kind-requires (size-of-calls t) (size-of-at t) size-of.Post
 size-of-kind-requires t c κs = c .before .before .pre .1 .0 .here
@@ -42,11 +43,14 @@ size-of-enumeration-of-requires t c κs = search needs
 size-of-operand-count-requires : (t : ℕ) → size-of-lts.Need-operand-count-requires (size-of-calls t) (size-of-at t) size-of.Post
 size-of-operand-count-requires t c κs = c .before .before .before .before .before .pre .1 .0 .here
 
-size-of-cast-t18 : (t : ℕ) → size-of-lts.Need-cast-t18 (size-of-calls t) (size-of-at t) size-of.Post
-size-of-cast-t18 t c = omega (arith, c .operand-count .ensures .1)
+size-of-units-of-requires : (t : ℕ) → size-of-lts.Need-units-of-requires (size-of-calls t) (size-of-at t) size-of.Post
+size-of-units-of-requires t c κs = search needs
+
+size-of-cast-t19 : (t : ℕ) → size-of-lts.Need-cast-t19 (size-of-calls t) (size-of-at t) size-of.Post
+size-of-cast-t19 t c = omega (arith, c .units-of .ensures .0, c .before .operand-count .ensures .1)
 
 size-of-returns : (t : ℕ) → size-of-lts.Need-returns (size-of-calls t) (size-of-at t) size-of.Post
-size-of-returns t c = λ b st. size-each _ _ _ (c .before .before .before .before .before .before .pre .1 .0) (c .before .before .before .before .before .before .args .k) (c .before .before .before .before .before .before .pre .1 .1) (sym (c .before .before .before .kind .ensures .0) ∙ c .before .if1 .taken ∙ c .before .before .enumeration-of .ensures) _ (c .operand-count .ensures .0) b
+size-of-returns t c = λ b st. size-each _ _ _ (c .before .before .before .before .before .before .before .pre .1 .0) (c .before .before .before .before .before .before .before .args .k) (c .before .before .before .before .before .before .before .pre .1 .1) (sym (c .before .before .before .before .kind .ensures .0) ∙ c .before .before .if1 .taken ∙ c .before .before .before .enumeration-of .ensures) _ (c .before .operand-count .ensures .0) _ (c .units-of .ensures .1 (c .before .before .before .before .before .before .before .pre .1 .1)) b
 
 size-of-operand-requires : (t : ℕ) → size-of-lts.Need-operand-requires (size-of-calls t) (size-of-at t) size-of.Post
 size-of-operand-requires t c κs = has-operand _ _ _ (c .before .before .before .before .before .before .pre .1 .0) 0 (omega (arith, two-halves _ _ _ (c .before .before .before .before .before .before .pre .1 .0) (c .before .before .before .before .before .before .args .k) (sym (c .before .before .before .kind .ensures .0) ∙ c .if2 .taken) (c .before .before .before .before .before .before .pre .1 .1)))
@@ -85,7 +89,7 @@ size-of-fewest-of-requires : (t : ℕ) → size-of-lts.Need-fewest-of-requires (
 size-of-fewest-of-requires t c κs = search needs
 
 size-of-returns-4 : (t : ℕ) → size-of-lts.Need-returns-4 (size-of-calls t) (size-of-at t) size-of.Post
-size-of-returns-4 t c = λ b st. size-any _ b _ (c .before .before .before .before .before .before .before .before .args .k) _ (c .fewest-of .ensures)
+size-of-returns-4 t c = λ b st. size-any _ b _ (c .before .before .before .before .before .before .before .before .args .k) _ (c .fewest-of .ensures (c .before .before .before .before .before .before .before .before .pre .1 .1))
 
 pub +size-of-spec : {M : Type 1} → statement M
 +size-of-spec = close μ-size-of λ t. size-of-lts.spec (size-of-calls t)
@@ -94,7 +98,8 @@ pub +size-of-spec : {M : Type 1} → statement M
     (size-of-kind-requires t)
     (size-of-enumeration-of-requires t)
     (size-of-operand-count-requires t)
-    (size-of-cast-t18 t)
+    (size-of-units-of-requires t)
+    (size-of-cast-t19 t)
     (size-of-returns t)
     (size-of-operand-requires t)
     (size-of-size-of-requires t)

@@ -14,7 +14,15 @@ returns-3 : tie.Need-returns-3
 returns-3 c = rw (c .match .keys3)
 
 returns-4 : tie.Need-returns-4
-returns-4 c = rw (ne-eqb (c .before .args .kind) 36 (c .match .rest .0 .0 .1), ne-eqb (c .before .args .kind) 37 (c .match .rest .0 .1), ne-eqb (c .before .args .kind) 38 (c .match .rest .1))
+returns-4 c = rw (c .match .keys4)
+
+returns-5 : tie.Need-returns-5
+returns-5 c = rw (c .match .keys5)
+
+returns-6 : tie.Need-returns-6
+returns-6 c =
+    let f = c .match .rest in
+    rw (ne-eqb (c .before .args .kind) 36 (f .0 .0 .0 .0 .1), ne-eqb (c .before .args .kind) 37 (f .0 .0 .0 .1), ne-eqb (c .before .args .kind) 38 (f .0 .0 .1), ne-eqb (c .before .args .kind) 41 (f .0 .1), ne-eqb (c .before .args .kind) 42 (f .1))
 
 pub collection-of-spec : {M : Type 1} → statement M
-collection-of-spec = tie.close (tie.spec returns returns-2 returns-3 returns-4)
+collection-of-spec = tie.close (tie.spec returns returns-2 returns-3 returns-4 returns-5 returns-6)

@@ -35,14 +35,14 @@ returns : tie.Need-returns
 returns c =
     let m = c .before .before .before .before .before .before .before .args .m in
     let d = c .before .before .before .before .before .before .before .args .d in
-    dealt-all m d _ (c .deal7 .ensures .low) (λ vs h.
-    let h1 = half-fits m vs h in
-    let h2 = half-fits (m / 2) (drop 1 vs) h1 in
-    let h3 = half-fits (m / 2 / 2) (drop 1 (drop 1 vs)) h2 in
-    let h4 = half-fits (m / 2 / 2 / 2) (drop 1 (drop 1 (drop 1 vs))) h3 in
-    let h5 = half-fits (m / 2 / 2 / 2 / 2) (drop 1 (drop 1 (drop 1 (drop 1 vs)))) h4 in
-    let h6 = half-fits (m / 2 / 2 / 2 / 2 / 2) (drop 1 (drop 1 (drop 1 (drop 1 (drop 1 vs))))) h5 in
-    (_, c .deal7 .ensures .more d vs h (c .before .deal6 .ensures .more d _ h1 (c .before .before .deal5 .ensures .more d _ h2 (c .before .before .before .deal4 .ensures .more d _ h3 (c .before .before .before .before .deal3 .ensures .more d _ h4 (c .before .before .before .before .before .deal2 .ensures .more d _ h5 (c .before .before .before .before .before .before .deal .ensures .more d _ h6 (dealt-none d _ _ (omega arith))))))))))
+    dealt-all m d _ (c .deal7 .ensures .low) (λ k us h.
+    let h1 = half-fits m us h in
+    let h2 = half-fits (m / 2) (drop 1 us) h1 in
+    let h3 = half-fits (m / 2 / 2) (drop 1 (drop 1 us)) h2 in
+    let h4 = half-fits (m / 2 / 2 / 2) (drop 1 (drop 1 (drop 1 us))) h3 in
+    let h5 = half-fits (m / 2 / 2 / 2 / 2) (drop 1 (drop 1 (drop 1 (drop 1 us)))) h4 in
+    let h6 = half-fits (m / 2 / 2 / 2 / 2 / 2) (drop 1 (drop 1 (drop 1 (drop 1 (drop 1 us))))) h5 in
+    (_, c .deal7 .ensures .more d k us h (c .before .deal6 .ensures .more d k _ h1 (c .before .before .deal5 .ensures .more d k _ h2 (c .before .before .before .deal4 .ensures .more d k _ h3 (c .before .before .before .before .deal3 .ensures .more d k _ h4 (c .before .before .before .before .before .deal2 .ensures .more d k _ h5 (c .before .before .before .before .before .before .deal .ensures .more d k _ h6 (dealt-none d _ _ (omega arith))))))))))
 
 pub spread-spec : {M : Type 1} → statement M
 spread-spec =

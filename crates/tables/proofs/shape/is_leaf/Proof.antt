@@ -1,5 +1,7 @@
 -- As computed over all kinds.
-use Rattle.tables.proofs.Heads.{leaf-is}
+use mathlib.Core.Path.{refl}
+use Rattle.tables.specs.Record.{shape, isLeaf}
+use Rattle.tables.proofs.Heads.{bit-tells}
 use borrow.Author.Needs.{needs}
 use Rattle.tables.proofs.shape.is_leaf.Statement.{statement}
 use Rattle.tables.proofs.shape.is_leaf.Tie as tie
@@ -8,7 +10,8 @@ shr-result : tie.Need-shr-result
 shr-result c = search needs
 
 returns : tie.Need-returns
-returns c = leaf-is (c .args .kind) (c .pre)
+unfolding shape
+returns c = bit-tells _ 0 isLeaf refl (c .args .kind) (c .pre)
 
 pub is-leaf-spec : {M : Type 1} → statement M
 is-leaf-spec = tie.close (tie.spec shr-result returns)

@@ -1,4 +1,4 @@
--- Kinds 32 to 40.
+-- Kinds 32 to the last.
 use mathlib.Core.Path.{sym, _∙_}
 use borrow.Author.Needs.{needs}
 use Rattle.tables.specs.Laws.Kinds.{pattern-kinds}

@@ -1,13 +1,13 @@
--- `order` of members: what is left to compare says what all of them say.
+-- `order` of items: what is left to compare says what all of them say.
 use mathlib.Core.Logic.{⊎-elim}
 use Prim.Native.Nat.{_+_}
 use native.Mathlib.Omega.{arith}
 use borrow.Author.Needs.{needs}
 use Rattle.parts.proofs.Ordering.{ChoicesLeft, choices-start, choices-held, choice-first, choices-same, choices-lower, choices-higher, skip-first, skip-second, choices-settled, choices-more, same-size}
-use Rattle.parts.proofs.members.order.Statement.{statement}
-use Rattle.parts.proofs.members.order.Tie as tie
-use Rattle.parts.proofs.members.order.Reads as reads
-use Rattle.parts.proofs.members.order.Lts as lts
+use Rattle.parts.proofs.items.order.Statement.{statement}
+use Rattle.parts.proofs.items.order.Tie as tie
+use Rattle.parts.proofs.items.order.Reads as reads
+use Rattle.parts.proofs.items.order.Lts as lts
 use Rattle.values.proofs.compare.Reads as compare-reads
 use Rattle.values.proofs.length_of.Reads as length-of-reads
 

@@ -4,10 +4,10 @@ use native.Mathlib.Omega.{arith}
 use borrow.Author.Needs.{needs}
 use Rattle.prelude.proofs.Absurd.{true-false}
 use Rattle.forming.proofs.Needing.{NoneTo, item-asked, item-held, item-word, none-more, none-end}
-use Rattle.forming.proofs.needs.has_member.Statement.{statement}
-use Rattle.forming.proofs.needs.has_member.Tie as tie
-use Rattle.forming.proofs.needs.has_member.Reads as reads
-use Rattle.forming.proofs.needs.has_member.Lts as lts
+use Rattle.forming.proofs.needs.has_item.Statement.{statement}
+use Rattle.forming.proofs.needs.has_item.Tie as tie
+use Rattle.forming.proofs.needs.has_item.Reads as reads
+use Rattle.forming.proofs.needs.has_item.Lts as lts
 use Rattle.parts.proofs.count_of_part.Reads as count-of-part-reads
 use Rattle.parts.proofs.item_of_part.Reads as item-of-part-reads
 use Rattle.parts.proofs.words.order_words.Reads as order-words-reads
@@ -23,7 +23,7 @@ count-of-part-requires : tie.Need-count-of-part-requires Inv-loop μ-loop
 count-of-part-requires c κs = c .before .pre .1
 
 loop-holds : tie.Need-loop-holds Inv-loop μ-loop
-loop-holds c = λ vs v p q j l. absurd (omega arith)
+loop-holds c = λ k vs v p q j l. absurd (omega arith)
 
 item-of-part-requires : tie.Need-item-of-part-requires Inv-loop μ-loop
 item-of-part-requires c κs = item-asked _ _ (c .before .before .before .before .args .word) (c .before .before .before .before .pre .0) (c .before .before .before .before .pre .1) _ (c .before .before .count-of-part .ensures) _ (omega arith)
@@ -52,8 +52,8 @@ loop-again c = none-more _ _ _ _ _ (c .before .before .before .item-of-part .ens
 returns-2 : tie.Need-returns-2 Inv-loop μ-loop
 returns-2 c = none-end _ _ _ _ (c .before .before .count-of-part .ensures) _ (omega arith) (c .before .loop .inv)
 
-pub has-member-spec : {M : Type 1} → statement M
-has-member-spec =
+pub has-item-spec : {M : Type 1} → statement M
+has-item-spec =
     tie.close
     (tie.spec
     Inv-loop

@@ -1,8 +1,8 @@
-// Members of sets, chosen by masks, where they lie.
+// Items of collections, chosen by masks, where they lie.
 use integers::Order;
 ghost use Rattle.parts.specs.Choice.{ChoiceHeld, OrderedChoices};
 
-// The order of the sets that x chooses of the members from a on, and y of those from b on: member by member, a prefix before what extends it.
+// The order of what x chooses of the items from a on, and y of those from b on: item by item, a prefix before what extends it.
 pub fn order(s: &[u8], a: usize, x: usize, b: usize, y: usize) -> Order
     requires { ⌜ ChoiceHeld (now s) a x × ChoiceHeld (now s) b y ⌝ }
     ensures { λ r. ⌜ OrderedChoices (now (s .entry)) a x b y r ⌝ }
