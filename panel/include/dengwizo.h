@@ -70,7 +70,7 @@ enum {
     DENGWIZO_ABSENT = 26,          /* hd or tl of [], dinter of {}, absent index or key */
     DENGWIZO_CLASH = 27,           /* one key, two values */
     DENGWIZO_LARGE = 28,           /* value over 512 bytes */
-    DENGWIZO_SPLIT = 29,           /* a union pattern met by a set of over 7 members */
+    DENGWIZO_SPLIT = 29,           /* a union or munion pattern met by over 7 members or entries */
     DENGWIZO_BINDINGS = 30,        /* over 255 distinct bindings */
     DENGWIZO_CHOICES = 31,         /* a 65th choice */
     DENGWIZO_USED_UP = 32,         /* list used up; the count is the number of bindings */

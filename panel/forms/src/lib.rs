@@ -64,6 +64,8 @@ pub mod kind {
     pub const P_UNION: u16 = 38;
     pub const P_SEQUENCE: u16 = 39;
     pub const P_CONCATENATION: u16 = 40;
+    pub const P_MAP: u16 = 41;
+    pub const P_MUNION: u16 = 42;
 }
 
 /// Operators, one a row: the variant, its number, the name of that number and the word.
@@ -186,6 +188,12 @@ const fn operands(word: &'static str, kind: u16, least: usize, most: usize) -> F
     form(word, kind, Fields::Operands { least, most, step })
 }
 
+/// Up to four keys, each with its value after it.
+const fn keys_and_values(word: &'static str, kind: u16) -> Form {
+    let (least, most, step) = (0, 8, 2);
+    form(word, kind, Fields::Operands { least, most, step })
+}
+
 const fn exactly(word: &'static str, kind: u16, count: usize) -> Form {
     operands(word, kind, count, count)
 }
@@ -206,15 +214,7 @@ const KIND_FORMS: &[Form] = &[
     exactly("if", kind::IF, 3),
     operands("set", kind::SET, 0, 8),
     operands("sequence", kind::SEQUENCE, 0, 8),
-    form(
-        "map",
-        kind::MAP,
-        Fields::Operands {
-            least: 0,
-            most: 8,
-            step: 2,
-        },
-    ),
+    keys_and_values("map", kind::MAP),
     operands("tuple", kind::TUPLE, 2, 4),
     exactly("range", kind::RANGE, 2),
     exactly("let", kind::LET, 3),
@@ -236,6 +236,8 @@ const KIND_FORMS: &[Form] = &[
     exactly("p-union", kind::P_UNION, 2),
     operands("p-sequence", kind::P_SEQUENCE, 0, 4),
     exactly("p-concatenation", kind::P_CONCATENATION, 2),
+    keys_and_values("p-map", kind::P_MAP),
+    exactly("p-munion", kind::P_MUNION, 2),
 ];
 
 /// Every form of record. No word stands twice.
@@ -273,7 +275,7 @@ mod tests {
         let key = |form: &Form| (form.kind, form.operator.unwrap_or(0));
         let mut keys: Vec<_> = all().map(key).collect();
         keys.sort();
-        let mut expected: Vec<(u16, u8)> = (1..=21).chain(32..=40).map(|kind| (kind, 0)).collect();
+        let mut expected: Vec<(u16, u8)> = (1..=21).chain(32..=42).map(|kind| (kind, 0)).collect();
         expected.retain(|&(kind, _)| kind != kind::UNARY && kind != kind::BINARY);
         expected.extend((1..=15).map(|operator| (kind::UNARY, operator)));
         expected.extend((1..=28).map(|operator| (kind::BINARY, operator)));
@@ -298,6 +300,8 @@ mod tests {
         assert_eq!(counts("tuple"), [2, 3, 4]);
         assert_eq!(counts("p-any"), [0]);
         assert_eq!(counts("p-set"), [0, 1, 2, 3, 4]);
+        assert_eq!(counts("p-map"), [0, 2, 4, 6, 8]);
+        assert_eq!(counts("p-munion"), [2]);
         assert_eq!(counts("set").len(), 9);
         assert_eq!(counts("map-comprehension"), [5]);
     }
@@ -313,6 +317,9 @@ mod tests {
         assert_eq!(lengths(kind::MAP_COMPREHENSION), [9]);
         assert_eq!(lengths(kind::MAP), [4, 6, 8, 10, 12]);
         assert_eq!(lengths(kind::P_TUPLE), [6, 7, 8]);
+        assert_eq!(lengths(kind::P_MAP), [4, 6, 8, 10, 12]);
+        assert_eq!(lengths(kind::P_MUNION), [6]);
         assert_eq!(lengths(22), []);
+        assert_eq!(lengths(43), []);
     }
 }

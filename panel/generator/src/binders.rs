@@ -75,30 +75,15 @@ impl Writer {
     }
 
     fn matching(&mut self, depth: usize, names: &mut Names) -> (Pattern, usize) {
-        let part = Shape::random(&mut self.random, 1);
-        match self.random.below(7) {
-            0 | 1 => {
+        match self.random.below(9) {
+            0..=2 => {
                 let count = 1 + self.random.below(3);
-                let pattern = self.set_pattern(&part, count, 1, names);
-                (pattern, self.distinct_members(&part, count, depth - 1))
+                self.pairing(count, depth, names)
             }
-            2 | 3 => {
-                // Integers mostly differ, so that there is something to split.
-                let part = if self.random.once_in(3) {
-                    part
-                } else {
-                    Shape::Integer
-                };
-                let most = match self.random.below(16) {
-                    0 => 1,
-                    _ => 2 + self.random.below(3),
-                };
-                let pattern = self.union_pattern(&part, most, 1, names);
-                (pattern, self.split_operand(&part, most, depth))
-            }
-            4 | 5 => {
+            3..=5 => self.splitting(depth, names),
+            6 | 7 => {
                 let most = 1 + self.random.below(4);
-                let shape = Shape::sequence(part, most);
+                let shape = Shape::sequence(Shape::random(&mut self.random, 1), most);
                 let halves = [shape.clone(), shape.clone()];
                 let ways = most + 1;
                 let pattern =
@@ -113,26 +98,70 @@ impl Writer {
                 let operand = self.out.node(kind::TUPLE, &[left, right]);
                 (Pattern { record, bindings }, operand)
             }
-            _ => {
-                let pattern = self.set_pattern(&part, 1, 1, names);
-                (pattern, self.distinct_members(&part, 1, depth - 1))
-            }
+            _ => self.pairing(1, depth, names),
         }
     }
 
-    /// A set to be split; wildly, one of 7 to 9 members.
-    fn split_operand(&mut self, member: &Shape, most: usize, depth: usize) -> usize {
+    /// A set or map enumeration, and a value of as many members or entries.
+    fn pairing(&mut self, count: usize, depth: usize, names: &mut Names) -> (Pattern, usize) {
+        let part = Shape::random(&mut self.random, 1);
+        let shape = self.set_or_map(part, count);
+        let pattern = self.paired_pattern(&shape, count, 1, names);
+        (pattern, self.distinct_units(&shape, count, depth - 1))
+    }
+
+    /// A union or munion, and a value to be split.
+    fn splitting(&mut self, depth: usize, names: &mut Names) -> (Pattern, usize) {
+        // Integers mostly differ, so that there is something to split.
+        let part = if self.random.once_in(3) {
+            Shape::random(&mut self.random, 1)
+        } else {
+            Shape::Integer
+        };
+        let most = match self.random.below(16) {
+            0 => 1,
+            _ => 2 + self.random.below(3),
+        };
+        let shape = self.set_or_map(part, most);
+        let pattern = self.split_pattern(&shape, most, 1, names);
+        (pattern, self.split_operand(&shape, most, depth))
+    }
+
+    /// Sets of such members or, now and then, maps of such keys: to values of the same shape, so that a name may stand for
+    /// a key and a value, or of any other.
+    fn set_or_map(&mut self, part: Shape, most: usize) -> Shape {
+        if !self.random.once_in(3) {
+            return Shape::set(part, most);
+        }
+        let value = if self.random.once_in(2) {
+            part.clone()
+        } else {
+            Shape::random(&mut self.random, 1)
+        };
+        Shape::map(part, value, most)
+    }
+
+    /// A set or map to be split; wildly, one of 7 to 9 members or entries.
+    fn split_operand(&mut self, shape: &Shape, most: usize, depth: usize) -> usize {
         let splits_of_seven = 126f64.ln();
-        if self.times == 1 && self.lists > splits_of_seven && self.wildly(10) {
+        if self.times == 1 && self.lists > splits_of_seven && self.wildly(6) {
             self.lists -= splits_of_seven;
             let most = self.random.between(7, 9);
-            return self.out.range(1, most);
+            return self.numbered(shape, most);
         }
-        // Any other set may have a member or none, and then it has no split.
+        // Any other may have a member or entry or none, and then it has no split.
         if !self.random.once_in(8) {
-            return self.distinct_members(member, most, depth - 1);
+            return self.distinct_units(shape, most, depth - 1);
         }
-        self.expression(&Shape::set(member.clone(), most), depth - 1)
+        self.expression(shape, depth - 1)
+    }
+
+    /// {1,...,n}, or for maps {a |-> a | a in set {1,...,n} & true} where a name is left for it.
+    fn numbered(&mut self, shape: &Shape, most: i32) -> usize {
+        match (shape, self.fresh_name(&Names::new())) {
+            (Shape::Map(..), Some(name)) => self.out.entries(name, 1, most),
+            _ => self.out.range(1, most),
+        }
     }
 
     /// A let-be; nothing where a choice may not stand here.

@@ -81,6 +81,17 @@ impl Builder {
         self.node(kind::RANGE, &[from, to])
     }
 
+    /// {a |-> a | a in set {from,...,to} & true}, where a is the name.
+    pub fn entries(&mut self, name: u8, from: i32, to: i32) -> usize {
+        let (pattern, set) = (self.p_name(name), self.range(from, to));
+        let condition = self.boolean(true);
+        let (key, value) = (self.name(name), self.name(name));
+        self.node(
+            kind::MAP_COMPREHENSION,
+            &[pattern, set, condition, key, value],
+        )
+    }
+
     /// let a in set {from,...,to} be st true in a, where a is the name.
     pub fn choice(&mut self, name: u8, from: i32, to: i32) -> usize {
         let pattern = self.p_name(name);

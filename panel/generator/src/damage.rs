@@ -46,7 +46,7 @@ fn malformed(sheet: &Builder, random: &mut Random) -> Vec<u8> {
         1 => parts[at][0] = random.below(4) as u8,
         2 => parts[at][1] = 1 + random.below(255) as u8,
         3 => {
-            let unknown = [0, 22, 31, 41, 255, 256 + 1, 256 + 32];
+            let unknown = [0, 22, 31, 43, 255, 256 + 1, 256 + 32];
             let kind: u16 = random.pick(&unknown);
             parts[at][2..4].copy_from_slice(&kind.to_le_bytes());
         }
@@ -109,6 +109,12 @@ fn bad_count(random: &mut Random) -> Vec<u8> {
         (kind::P_UNION, 3),
         (kind::P_SEQUENCE, 5),
         (kind::P_CONCATENATION, 1),
+        (kind::P_MAP, 1),
+        (kind::P_MAP, 3),
+        (kind::P_MAP, 7),
+        (kind::P_MAP, 10),
+        (kind::P_MUNION, 1),
+        (kind::P_MUNION, 3),
     ]);
     Record {
         kind,
@@ -283,7 +289,13 @@ fn choosing_condition(mut sheet: Builder, random: &mut Random) -> Builder {
 
 fn loose_let(b: &mut Builder, sheet: &Builder, random: &mut Random) -> usize {
     let parts = [b.p_any(), b.p_any()];
-    let kind = random.pick(&[kind::P_SET, kind::P_UNION, kind::P_CONCATENATION]);
+    let kind = random.pick(&[
+        kind::P_SET,
+        kind::P_UNION,
+        kind::P_CONCATENATION,
+        kind::P_MAP,
+        kind::P_MUNION,
+    ]);
     let mut pattern = b.node(kind, &parts);
     if random.once_in(2) {
         let beside = b.p_any();

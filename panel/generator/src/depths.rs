@@ -15,9 +15,12 @@ pub fn deepest() -> Vec<(String, Vec<u8>)> {
     sheets.push(("patterns of tuples".into(), patterns(kind::P_TUPLE)));
     sheets.push(("patterns of sequences".into(), patterns(kind::P_SEQUENCE)));
     sheets.push(("patterns of sets".into(), patterns(kind::P_SET)));
+    sheets.push(("patterns of maps".into(), patterns(kind::P_MAP)));
     sheets.push(("concatenation patterns".into(), cuts()));
-    sheets.push(("union patterns".into(), splits()));
+    sheets.push(("union patterns".into(), splits(kind::P_UNION)));
+    sheets.push(("munion patterns".into(), splits(kind::P_MUNION)));
     sheets.push(("unions within sets of unions".into(), sets_of_unions()));
+    sheets.push(("munions within maps of munions".into(), maps_of_munions()));
     sheets.push(("values within values, compared".into(), values()));
     sheets
 }
@@ -38,6 +41,11 @@ pub fn widest() -> Vec<(String, Vec<u8>)> {
             "concatenations of empty sequences".into(),
             empty_sequences(),
         ),
+        (
+            "tuples of munions of two maps".into(),
+            tuples_of_unions(entries_apart, both_entries, &[4, 4]),
+        ),
+        ("maps of empty maps".into(), empty_maps()),
     ]
 }
 
@@ -62,22 +70,54 @@ fn empty_sequences() -> Vec<u8> {
 }
 
 /// A let with a pattern of tuples within tuples, so many parts each, from the outermost on, and of unions in the innermost ones. Lets around it build
-/// the value from a set that all unions meet.
+/// the value from a set or map that all unions or munions meet.
 fn tuples_of_unions(union: Start, set: Start, counts: &[usize]) -> Vec<u8> {
     let mut b = Builder::new();
-    let mut value = set(&mut b);
+    let start = set(&mut b);
+    let (lets, value) = repeated(&mut b, start, kind::TUPLE, counts);
+    let pattern = tuples(&mut b, union, counts);
+    let body = b.integer(5);
+    let body = b.node(kind::LET, &[pattern, value, body]);
+    within_lets(&mut b, lets, body);
+    b.table()
+}
+
+/// Patterns of lets with their values.
+type Lets = Vec<(usize, usize)>;
+
+/// An enumeration of so many equal items, each of these one of so many, from the outermost on, and in the innermost the start: the lets that build it,
+/// and the last value.
+fn repeated(b: &mut Builder, start: usize, form: u16, counts: &[usize]) -> (Lets, usize) {
+    let mut value = start;
     let mut lets = Vec::new();
     for (name, &count) in (0..).zip(counts.iter().rev()) {
         lets.push((b.p_name(name), value));
         let items: Vec<usize> = (0..count).map(|_| b.name(name)).collect();
-        value = b.node(kind::TUPLE, &items);
+        value = b.node(form, &items);
     }
-    let pattern = tuples(&mut b, union, counts);
-    let body = b.integer(5);
-    let body = b.node(kind::LET, &[pattern, value, body]);
+    (lets, value)
+}
+
+/// A body within lets, the first of them outermost.
+fn within_lets(b: &mut Builder, lets: Lets, body: usize) {
     lets.into_iter().rev().fold(body, |body, (name, value)| {
         b.node(kind::LET, &[name, value, body])
     });
+}
+
+/// A let with a pattern of maps of one entry, a map as key and as value each, and so on: with 63 of them and 64 empty ones a value has 508 bytes.
+fn empty_maps() -> Vec<u8> {
+    let mut b = Builder::new();
+    let start = b.node(kind::MAP, &[]);
+    let (lets, value) = repeated(&mut b, start, kind::MAP, &[2; 6]);
+    let mut level: Vec<usize> = (0..64).map(|_| b.node(kind::P_MAP, &[])).collect();
+    while level.len() > 1 {
+        let entries = level.chunks(2).map(|entry| b.node(kind::P_MAP, entry));
+        level = entries.collect();
+    }
+    let body = b.integer(5);
+    let body = b.node(kind::LET, &[level[0], value, body]);
+    within_lets(&mut b, lets, body);
     b.table()
 }
 
@@ -102,6 +142,21 @@ fn truths_apart(b: &mut Builder) -> usize {
 fn both_truths(b: &mut Builder) -> usize {
     let members = [b.boolean(false), b.boolean(true)];
     b.node(kind::SET, &members)
+}
+
+/// {false |-> -} munion {true |-> -}.
+fn entries_apart(b: &mut Builder) -> usize {
+    let halves = [0, 1].map(|truth| {
+        let entry = [b.record(kind::P_BOOLEAN, &[truth], &[]), b.p_any()];
+        b.node(kind::P_MAP, &entry)
+    });
+    b.node(kind::P_MUNION, &halves)
+}
+
+/// {false|->true,true|->false}.
+fn both_entries(b: &mut Builder) -> usize {
+    let entries = [false, true, true, false].map(|truth| b.boolean(truth));
+    b.node(kind::MAP, &entries)
 }
 
 /// {1} union ({2} union (.. union {7})).
@@ -266,7 +321,7 @@ fn nested(start: Start, wrap: Wrap) -> Vec<u8> {
     }
 }
 
-/// A let that matches nested items one by one: mk_(1,mk_(1,...)), [1,[1,...]] or {1,{1,...}}.
+/// A let that matches nested items one by one: mk_(1,mk_(1,...)), [1,[1,...]], {1,{1,...}} or {1|->{1|->...}}.
 fn patterns(form: u16) -> Vec<u8> {
     let mut b = Builder::new();
     let mut pattern = b.p_name(0);
@@ -277,6 +332,7 @@ fn patterns(form: u16) -> Vec<u8> {
     let enumeration = match form {
         kind::P_TUPLE => kind::TUPLE,
         kind::P_SEQUENCE => kind::SEQUENCE,
+        kind::P_MAP => kind::MAP,
         _ => kind::SET,
     };
     let mut value = b.integer(5);
@@ -309,12 +365,15 @@ fn cuts() -> Vec<u8> {
     b.table()
 }
 
-/// An exists whose pattern splits a set again and again: more often than its members, so that nothing matches.
-fn splits() -> Vec<u8> {
+/// An exists whose pattern splits a set or map again and again: more often than its members or entries, so that nothing matches.
+fn splits(form: u16) -> Vec<u8> {
     let mut b = Builder::new();
-    let pattern = halves(&mut b, kind::P_UNION);
-    let members = b.range(1, 7);
-    let set = b.node(kind::SET, &[members]);
+    let pattern = halves(&mut b, form);
+    let whole = match form {
+        kind::P_MUNION => b.entries(0, 1, 7),
+        _ => b.range(1, 7),
+    };
+    let set = b.node(kind::SET, &[whole]);
     let condition = b.boolean(true);
     b.node(kind::EXISTS, &[pattern, set, condition]);
     b.table()
@@ -330,6 +389,23 @@ fn sets_of_unions() -> Vec<u8> {
         pattern = b.node(kind::P_UNION, &halves);
         let members = [b.integer(1), value];
         value = b.node(kind::SET, &members);
+    }
+    let body = b.name(0);
+    b.node(kind::LET, &[pattern, value, body]);
+    b.table()
+}
+
+/// let {- |-> {- |-> a} munion -} munion - = {1|->{1|->5,2|->1},2|->1} in a, as deep as it goes.
+fn maps_of_munions() -> Vec<u8> {
+    let mut b = Builder::new();
+    let (mut pattern, mut value) = (b.p_name(0), b.integer(5));
+    // A map and a munion for each level.
+    for _ in 0..(MOST_HEIGHT - 2) / 2 {
+        let entry = [b.p_any(), pattern];
+        let halves = [b.node(kind::P_MAP, &entry), b.p_any()];
+        pattern = b.node(kind::P_MUNION, &halves);
+        let entries = [b.integer(1), value, b.integer(2), b.integer(1)];
+        value = b.node(kind::MAP, &entries);
     }
     let body = b.name(0);
     b.node(kind::LET, &[pattern, value, body]);
@@ -358,8 +434,6 @@ fn values() -> Vec<u8> {
     }
     let sides = [b.name(NAMES - 1), b.name(NAMES - 1)];
     let body = b.binary(binary::EQUAL, sides[0], sides[1]);
-    lets.iter().rev().fold(body, |body, &(pattern, value)| {
-        b.node(kind::LET, &[pattern, value, body])
-    });
+    within_lets(&mut b, lets, body);
     b.table()
 }

@@ -307,16 +307,31 @@ impl Writer {
         self.out.node(kind::SET, &literals)
     }
 
+    /// A set of so many members or a map of so many entries, at most; a map has four at most.
+    pub fn distinct_units(&mut self, shape: &Shape, count: usize, depth: usize) -> usize {
+        match shape {
+            Shape::Map(key, value, _) => self.map_enumeration(key, value, count.min(4), depth),
+            Shape::Set(member, _) => self.distinct_members(member, count, depth),
+            other => panic!("{other:?} is no shape of sets or maps"),
+        }
+    }
+
+    /// A map of so many entries, at most; keys that are integers mostly differ, and some have themselves as values.
     fn map_enumeration(&mut self, key: &Shape, value: &Shape, count: usize, depth: usize) -> usize {
         let mut operands = Vec::new();
         let literals = *key == Shape::Integer && !self.random.once_in(4);
+        let is_same = literals && value == key && self.random.once_in(2);
         for index in 0..count {
             operands.push(if literals {
                 self.out.integer(index as i32)
             } else {
                 self.expression(key, depth)
             });
-            operands.push(self.expression(value, depth));
+            operands.push(if is_same && self.random.once_in(2) {
+                self.out.integer(index as i32)
+            } else {
+                self.expression(value, depth)
+            });
         }
         self.out.node(kind::MAP, &operands)
     }

@@ -19,21 +19,6 @@ pub fn at_limits() -> Vec<(&'static str, Vec<u8>)> {
         ("map of 513 bytes", build(|b| map_and(b, kind::BOOLEAN))),
         ("tuple of 512 bytes", build(|b| tuple_and(b, false))),
         ("tuple of 513 bytes", build(|b| tuple_and(b, true))),
-        ("no member under a union pattern", build(|b| splits(b, 0))),
-        ("1 member under a union pattern", build(|b| splits(b, 1))),
-        ("2 members under a union pattern", build(|b| splits(b, 2))),
-        ("7 members under a union pattern", build(|b| splits(b, 7))),
-        ("8 members under a union pattern", build(|b| splits(b, 8))),
-        ("126 × 2 bindings of two unions", build(|b| unions(b, 7, 2))),
-        ("30 × 14 bindings of two unions", build(|b| unions(b, 5, 4))),
-        (
-            "5 × 51 bindings of a union and a concatenation",
-            build(|b| union_and_cut(b, 5, 50)),
-        ),
-        (
-            "4 × 64 bindings of a union and a concatenation",
-            build(|b| union_and_cut(b, 4, 63)),
-        ),
         ("64 choices", build(|b| choices(b, 64))),
         ("65 choices", build(|b| choices(b, 65))),
         ("height 32", build(|b| height(b, 32))),
@@ -43,11 +28,70 @@ pub fn at_limits() -> Vec<(&'static str, Vec<u8>)> {
         ("2400 bytes", wide_records(2400)),
         ("2401 bytes", wide_records(2401)),
     ];
+    for (kind, labels) in SPLITS {
+        let tables = [0, 1, 2, 7, 8].map(|count| build(|b| splits(b, kind, count)));
+        sheets.extend(labels.into_iter().zip(tables));
+    }
+    for (kind, labels) in PRODUCTS {
+        let tables = [
+            build(|b| two_splits(b, kind, 7, 2)),
+            build(|b| two_splits(b, kind, 5, 4)),
+            build(|b| split_and_cut(b, kind, 5, 50)),
+            build(|b| split_and_cut(b, kind, 4, 63)),
+        ];
+        sheets.extend(labels.into_iter().zip(tables));
+    }
     sheets.extend(
         BINDERS.map(|(label, kind, lengths)| (label, build(|b| bindings(b, kind, lengths)))),
     );
     sheets
 }
+
+/// Members and entries that a pattern splits.
+const SPLITS: [(u16, [&str; 5]); 2] = [
+    (
+        kind::P_UNION,
+        [
+            "no member under a union pattern",
+            "1 member under a union pattern",
+            "2 members under a union pattern",
+            "7 members under a union pattern",
+            "8 members under a union pattern",
+        ],
+    ),
+    (
+        kind::P_MUNION,
+        [
+            "no entry under a munion pattern",
+            "1 entry under a munion pattern",
+            "2 entries under a munion pattern",
+            "7 entries under a munion pattern",
+            "8 entries under a munion pattern",
+        ],
+    ),
+];
+
+/// Bindings of two splits, and of a split and a concatenation.
+const PRODUCTS: [(u16, [&str; 4]); 2] = [
+    (
+        kind::P_UNION,
+        [
+            "126 × 2 bindings of two unions",
+            "30 × 14 bindings of two unions",
+            "5 × 51 bindings of a union and a concatenation",
+            "4 × 64 bindings of a union and a concatenation",
+        ],
+    ),
+    (
+        kind::P_MUNION,
+        [
+            "126 × 2 bindings of two munions",
+            "30 × 14 bindings of two munions",
+            "5 × 51 bindings of a munion and a concatenation",
+            "4 × 64 bindings of a munion and a concatenation",
+        ],
+    ),
+];
 
 /// Binders of 255 bindings (51 × 5) and of 256 (32 × 8), as splits of two sequences.
 const BINDERS: [(&str, u16, [i32; 2]); 14] = [
@@ -132,14 +176,7 @@ fn sequence_and(b: &mut Builder, integers: i32, booleans: usize) -> usize {
 
 /// {1|->1,...,31|->31}, of 500 bytes, with 0|->[] or 0|->true as one more entry.
 fn map_and(b: &mut Builder, more: u16) -> usize {
-    let pattern = b.p_name(0);
-    let set = b.range(1, 31);
-    let condition = b.boolean(true);
-    let (key, value) = (b.name(0), b.name(0));
-    let numbers = b.node(
-        kind::MAP_COMPREHENSION,
-        &[pattern, set, condition, key, value],
-    );
+    let numbers = b.entries(0, 1, 31);
     let key = b.integer(0);
     let value = empty_or_true(b, more);
     let entry = b.node(kind::MAP, &[key, value]);
@@ -158,42 +195,66 @@ fn tuple_and(b: &mut Builder, over: bool) -> usize {
     b.node(kind::TUPLE, &[left, right])
 }
 
-/// let a union b = {1,...,n} in card a.
-fn splits(b: &mut Builder, members: i32) -> usize {
-    let halves = [b.p_name(0), b.p_name(1)];
-    let pattern = b.node(kind::P_UNION, &halves);
-    let set = b.range(1, members);
-    let half = b.name(0);
-    let body = b.unary(unary::CARD, half);
-    b.node(kind::LET, &[pattern, set, body])
+/// What a pattern of the kind splits: {1,...,n}, or {a |-> a | a in set {1,...,n} & true}.
+fn whole(b: &mut Builder, kind: u16, count: i32) -> usize {
+    match kind {
+        kind::P_MUNION => b.entries(0, 1, count),
+        _ => b.range(1, count),
+    }
 }
 
-/// let mk_(a union b, c union d) = mk_({1,...,n},{1,...,m}) in mk_(card a, card c): a set of n members has 2^n - 2 splits.
-fn unions(b: &mut Builder, left: i32, right: i32) -> usize {
+/// How many members or entries the half has that a name holds.
+fn card(b: &mut Builder, kind: u16, name: u8) -> usize {
+    let mut half = b.name(name);
+    if kind == kind::P_MUNION {
+        half = b.unary(unary::DOM, half);
+    }
+    b.unary(unary::CARD, half)
+}
+
+/// let a union b = {1,...,n} in card a, or the like of a map.
+fn splits(b: &mut Builder, kind: u16, count: i32) -> usize {
+    let halves = [b.p_name(0), b.p_name(1)];
+    let pattern = b.node(kind, &halves);
+    let value = whole(b, kind, count);
+    let body = card(b, kind, 0);
+    b.node(kind::LET, &[pattern, value, body])
+}
+
+/// let mk_(a union b, c union d) = mk_({1,...,n},{1,...,m}) in mk_(card a, card c), or the like of maps: n members or
+/// entries have 2^n - 2 splits.
+fn two_splits(b: &mut Builder, kind: u16, left: i32, right: i32) -> usize {
     let halves = [b.p_name(1), b.p_name(2)];
-    let one = b.node(kind::P_UNION, &halves);
+    let one = b.node(kind, &halves);
     let halves = [b.p_name(3), b.p_name(4)];
-    let other = b.node(kind::P_UNION, &halves);
+    let other = b.node(kind, &halves);
     let pattern = b.node(kind::P_TUPLE, &[one, other]);
-    let pair = [b.range(1, left), b.range(1, right)];
+    let pair = [whole(b, kind, left), whole(b, kind, right)];
     let value = b.node(kind::TUPLE, &pair);
-    let cards = [1, 3].map(|name| {
-        let half = b.name(name);
-        b.unary(unary::CARD, half)
-    });
+    let cards = [card(b, kind, 1), card(b, kind, 3)];
     let body = b.node(kind::TUPLE, &cards);
     b.node(kind::LET, &[pattern, value, body])
 }
 
-/// let mk_({a} union b, c ^ d) = mk_({1,...,n},[true,...,true]) in mk_(a, len c): n splits and as many cuts as items, and one.
-fn union_and_cut(b: &mut Builder, members: i32, count: i32) -> usize {
-    let member = b.p_name(1);
-    let halves = [b.node(kind::P_SET, &[member]), b.p_name(2)];
-    let one = b.node(kind::P_UNION, &halves);
+/// let mk_({a} union b, c ^ d) = mk_({1,...,n},[true,...,true]) in mk_(a, len c), or with {a |-> -} munion b: n splits and
+/// as many cuts as items, and one.
+fn split_and_cut(b: &mut Builder, kind: u16, units: i32, count: i32) -> usize {
+    let unit = match kind {
+        kind::P_MUNION => {
+            let entry = [b.p_name(1), b.p_any()];
+            b.node(kind::P_MAP, &entry)
+        }
+        _ => {
+            let member = b.p_name(1);
+            b.node(kind::P_SET, &[member])
+        }
+    };
+    let rest = b.p_name(2);
+    let one = b.node(kind, &[unit, rest]);
     let halves = [b.p_name(3), b.p_name(4)];
     let other = b.node(kind::P_CONCATENATION, &halves);
     let pattern = b.node(kind::P_TUPLE, &[one, other]);
-    let pair = [b.range(1, members), items(b, count, |b| b.boolean(true))];
+    let pair = [whole(b, kind, units), items(b, count, |b| b.boolean(true))];
     let value = b.node(kind::TUPLE, &pair);
     let shown = [b.name(1), size(b, 3)];
     let body = b.node(kind::TUPLE, &shown);

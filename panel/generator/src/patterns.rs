@@ -13,7 +13,7 @@ pub struct Pattern {
 
 impl Writer {
     /// A pattern that values of the shape may match; its names are added to `names`.
-    /// One that is not loose holds no set enumeration, union or concatenation.
+    /// One that is not loose holds no set or map enumeration, union, munion or concatenation.
     pub fn pattern(
         &mut self,
         shape: &Shape,
@@ -50,12 +50,14 @@ impl Writer {
                     names,
                 );
             }
-            Shape::Set(member, most) if inside && loose && self.splits_union(*most) => {
-                return self.union_pattern(member, *most, depth, names);
+            Shape::Set(_, most) | Shape::Map(_, _, most)
+                if inside && loose && self.splits(*most) =>
+            {
+                return self.split_pattern(shape, *most, depth, names);
             }
-            Shape::Set(member, most) if inside && loose => {
+            Shape::Set(_, most) | Shape::Map(_, _, most) if inside && loose => {
                 let count = self.random.below(most.min(&4) + 1);
-                return self.set_pattern(member, count, depth, names);
+                return self.paired_pattern(shape, count, depth, names);
             }
             _ => self.name_or_any(shape, names),
         };
@@ -65,37 +67,47 @@ impl Writer {
         }
     }
 
-    /// A set enumeration of so many patterns.
-    pub fn set_pattern(
+    /// An enumeration for sets or maps of the shape, of so many members or entries.
+    pub fn paired_pattern(
         &mut self,
-        member: &Shape,
+        shape: &Shape,
         count: usize,
         depth: usize,
         names: &mut Names,
     ) -> Pattern {
-        let parts = vec![member.clone(); count];
+        let (kind, unit) = match shape {
+            Shape::Map(key, value, _) => (kind::P_MAP, vec![(**key).clone(), (**value).clone()]),
+            Shape::Set(member, _) => (kind::P_SET, vec![(**member).clone()]),
+            other => panic!("{other:?} is no shape of sets or maps"),
+        };
         let pairings = (1..=count).product();
-        self.pattern_list(kind::P_SET, &parts, pairings, true, depth, names)
+        let parts = vec![unit; count].concat();
+        self.pattern_list(kind, &parts, pairings, true, depth, names)
     }
 
-    /// Whether a set of at most so many members is split by a union: rarely one of a member or none, which has no split.
-    fn splits_union(&mut self, most: usize) -> bool {
+    /// Whether a set or map of at most so many units is split: rarely one of a member or entry or of none, which has no
+    /// split.
+    fn splits(&mut self, most: usize) -> bool {
         let times = if most < 2 { 12 } else { 2 };
         most <= 7 && self.random.once_in(times)
     }
 
-    /// A union over sets of at most so many members. A half has at least one, and leaves one to the other.
-    pub fn union_pattern(
+    /// A union or munion over sets or maps of the shape, of at most so many members or entries. A half has at least one,
+    /// and leaves one to the other.
+    pub fn split_pattern(
         &mut self,
-        member: &Shape,
+        shape: &Shape,
         most: usize,
         depth: usize,
         names: &mut Names,
     ) -> Pattern {
-        let half = Shape::set(member.clone(), most.saturating_sub(1).max(1));
-        let halves = [half.clone(), half];
+        let kind = match shape {
+            Shape::Map(..) => kind::P_MUNION,
+            _ => kind::P_UNION,
+        };
+        let half = shape.of_at_most(most.saturating_sub(1).max(1));
         let splits = (1_usize << most).saturating_sub(2);
-        self.pattern_list(kind::P_UNION, &halves, splits, true, depth, names)
+        self.pattern_list(kind, &[half.clone(), half], splits, true, depth, names)
     }
 
     /// A pattern of parts, which are tried on a value in `ways` ways.

@@ -26,6 +26,15 @@ impl Shape {
         Shape::Map(Box::new(key), Box::new(value), most)
     }
 
+    /// A set or map with at most so many members or entries.
+    pub fn of_at_most(&self, most: usize) -> Shape {
+        match self {
+            Shape::Set(member, _) => Shape::Set(member.clone(), most),
+            Shape::Map(key, value, _) => Shape::Map(key.clone(), value.clone(), most),
+            other => panic!("{other:?} is no shape of sets or maps"),
+        }
+    }
+
     /// Whether every value of this shape is of the wanted shape too.
     pub fn fits(&self, wanted: &Shape) -> bool {
         match (self, wanted) {

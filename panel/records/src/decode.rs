@@ -112,6 +112,7 @@ mod tests {
         );
         assert_eq!(decode(&[5, 0, 32, 0, 3]).unwrap(), "0: p-name 3\n");
         assert_eq!(decode(&[6, 0, 4, 0, 1, 9]).unwrap(), "0: not 9\n");
+        assert_eq!(decode(&[6, 0, 41, 0, 1, 9]).unwrap(), "0: p-map 1 9\n");
         assert_eq!(
             decode(&[4, 0, 7, 0, 5, 0, 8, 0, 0]).unwrap(),
             "0: set\n1: sequence 0\n"
@@ -129,6 +130,7 @@ mod tests {
         assert_eq!(malformed(&[3, 0, 7, 0]).2, "length 3 is under 4");
         assert_eq!(malformed(&[5, 0, 7, 0]).2, "length 5 is past the end");
         assert_eq!(malformed(&[4, 0, 22, 0]).2, "unknown kind 22");
+        assert_eq!(malformed(&[4, 0, 43, 0]).2, "unknown kind 43");
         assert_eq!(malformed(&[4, 0, 1, 1]).2, "unknown kind 257");
         assert_eq!(malformed(&[4, 0, 5, 0]).2, "no operator");
         assert_eq!(
@@ -140,6 +142,10 @@ mod tests {
         assert_eq!(
             malformed(&[5, 0, 9, 0, 0]).2,
             "the length does not fit `map`"
+        );
+        assert_eq!(
+            malformed(&[5, 0, 42, 0, 0]).2,
+            "the length does not fit `p-munion`"
         );
         assert_eq!(
             malformed(&[4, 0, 2, 0]).2,

@@ -140,6 +140,8 @@ mod tests {
         assert_eq!(encode("rng 7"), Ok(vec![6, 0, 4, 0, 15, 7]));
         assert_eq!(encode(":> 1 2"), Ok(vec![7, 0, 5, 0, 28, 1, 2]));
         assert_eq!(encode("p-any"), Ok(vec![4, 0, 33, 0]));
+        assert_eq!(encode("p-map"), Ok(vec![4, 0, 41, 0]));
+        assert_eq!(encode("p-munion 1 2"), Ok(vec![6, 0, 42, 0, 1, 2]));
         assert_eq!(encode("let-be 0 3 6 9"), Ok(vec![8, 0, 13, 0, 0, 3, 6, 9]));
     }
 
@@ -163,6 +165,7 @@ mod tests {
         assert_eq!(mistake("integer +1").0, 1);
         assert_eq!(mistake("integer").1, "`integer` takes one field");
         assert_eq!(mistake("map 1").1, "`map` does not take 1 operands");
+        assert_eq!(mistake("p-map 1").1, "`p-map` does not take 1 operands");
         assert_eq!(mistake("not 256").0, 1);
         assert_eq!(mistake("boolean 1").1, "`1` is neither false nor true");
     }

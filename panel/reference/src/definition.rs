@@ -8,9 +8,8 @@ use crate::table::{Record, Table};
 use crate::value::Value;
 
 /// The distinct bindings of a pattern and a value, whatever their number; nothing where a union pattern is
-/// met by a set of too many members.
+/// met by a set of too many members, or a munion pattern by a map of too many entries.
 pub fn bindings(table: &Table, pattern: usize, value: &Value) -> Option<BTreeSet<Binding>> {
-    let matched = |truth: bool| Some(truth.then(Binding::new).into_iter().collect());
     match (table.record(pattern), value) {
         (Record::NamePattern(name), _) => {
             Some(BTreeSet::from([Binding::from([(*name, value.clone())])]))
@@ -20,42 +19,21 @@ pub fn bindings(table: &Table, pattern: usize, value: &Value) -> Option<BTreeSet
         (Record::IntegerPattern(number), _) => matched(*value == Value::Integer(*number)),
         (Record::TuplePattern(parts), Value::Tuple(items))
         | (Record::SequencePattern(parts), Value::Sequence(items)) => {
-            if parts.len() != items.len() {
-                return matched(false);
-            }
-            paired(table, parts, items)
+            arranged(table, parts, vec![items.clone()])
         }
         (Record::SetPattern(parts), Value::Set(members)) => {
-            if parts.len() != members.len() {
-                return matched(false);
-            }
-            let members: Vec<Value> = members.iter().cloned().collect();
-            union(
-                orders(members)
-                    .iter()
-                    .map(|order| paired(table, parts, order)),
-            )
+            let members = members.iter().map(|member| vec![member.clone()]);
+            arranged(table, parts, members.collect())
+        }
+        (Record::MapPattern(parts), Value::Map(entries)) => {
+            let entries = entries.iter().map(|(k, v)| vec![k.clone(), v.clone()]);
+            arranged(table, parts, entries.collect())
         }
         (Record::UnionPattern(left, right), Value::Set(members)) => {
-            if members.len() > MAX_SPLIT {
-                return None;
-            }
-            let members: Vec<Value> = members.iter().cloned().collect();
-            union((0..1 << members.len()).filter_map(|chosen: usize| {
-                let (mut one, mut other) = (BTreeSet::new(), BTreeSet::new());
-                for (place, member) in members.iter().enumerate() {
-                    let half = if chosen >> place & 1 == 1 {
-                        &mut one
-                    } else {
-                        &mut other
-                    };
-                    half.insert(member.clone());
-                }
-                // Neither half is empty.
-                let is_split = !one.is_empty() && !other.is_empty();
-                let halves = [Value::Set(one), Value::Set(other)];
-                is_split.then(|| paired(table, &[*left, *right], &halves))
-            }))
+            divided(table, [*left, *right], members, Value::Set)
+        }
+        (Record::MunionPattern(left, right), Value::Map(entries)) => {
+            divided(table, [*left, *right], entries, Value::Map)
         }
         (Record::ConcatenationPattern(left, right), Value::Sequence(items)) => {
             union((0..=items.len()).map(|place| {
@@ -66,6 +44,49 @@ pub fn bindings(table: &Table, pattern: usize, value: &Value) -> Option<BTreeSet
         }
         _ => matched(false),
     }
+}
+
+/// The empty binding, or none.
+fn matched(truth: bool) -> Option<BTreeSet<Binding>> {
+    Some(truth.then(Binding::new).into_iter().collect())
+}
+
+/// Parts that take the items of units, the units in every order: a member is a unit of one item, an entry one of a key
+/// and a value, and all the items of a tuple or sequence are one unit. There have to be as many items as parts.
+fn arranged(table: &Table, parts: &[usize], units: Vec<Vec<Value>>) -> Option<BTreeSet<Binding>> {
+    if units.concat().len() != parts.len() {
+        return matched(false);
+    }
+    let orders = orders(units).into_iter();
+    union(orders.map(|order| paired(table, parts, &order.concat())))
+}
+
+/// Two parts that take the halves of a set or map, in every split of its members or entries.
+fn divided<T: Clone, C: Clone + Default + IntoIterator<Item = T> + Extend<T>>(
+    table: &Table,
+    parts: [usize; 2],
+    whole: &C,
+    value: fn(C) -> Value,
+) -> Option<BTreeSet<Binding>> {
+    let units: Vec<T> = whole.clone().into_iter().collect();
+    if units.len() > MAX_SPLIT {
+        return None;
+    }
+    let none = value(C::default());
+    union((0..1 << units.len()).filter_map(|chosen: usize| {
+        let (mut one, mut other) = (C::default(), C::default());
+        for (place, unit) in units.iter().enumerate() {
+            let half = if chosen >> place & 1 == 1 {
+                &mut one
+            } else {
+                &mut other
+            };
+            half.extend([unit.clone()]);
+        }
+        let halves = [value(one), value(other)];
+        // Neither half is empty.
+        (!halves.contains(&none)).then(|| paired(table, &parts, &halves))
+    }))
 }
 
 /// All parts are tried, even after one that does not match.
@@ -105,16 +126,16 @@ fn union(parts: impl Iterator<Item = Option<BTreeSet<Binding>>>) -> Option<BTree
     Some(parts?.into_iter().flatten().collect())
 }
 
-fn orders(members: Vec<Value>) -> Vec<Vec<Value>> {
-    if members.len() < 2 {
-        return vec![members];
+fn orders(units: Vec<Vec<Value>>) -> Vec<Vec<Vec<Value>>> {
+    if units.len() < 2 {
+        return vec![units];
     }
     let mut all = Vec::new();
-    for first in 0..members.len() {
-        let mut rest = members.clone();
-        let member = rest.remove(first);
+    for first in 0..units.len() {
+        let mut rest = units.clone();
+        let unit = rest.remove(first);
         for mut order in orders(rest) {
-            order.insert(0, member.clone());
+            order.insert(0, unit.clone());
             all.push(order);
         }
     }

@@ -3,7 +3,7 @@
 use std::collections::{BTreeMap, BTreeSet, HashMap, HashSet};
 use std::rc::Rc;
 
-use crate::answer::{MANY_BINDINGS, WIDE_UNION};
+use crate::answer::{MANY_BINDINGS, WIDE_SPLIT};
 use crate::operators::Tried;
 use crate::table::{is_loose_pattern, pattern_names, Record, Table};
 use crate::value::Value;
@@ -15,7 +15,7 @@ pub type Binding = BTreeMap<u8, Value>;
 /// The most distinct bindings of a binder.
 pub const MAX_BINDINGS: usize = 255;
 
-/// The most members of a set that a union pattern splits.
+/// The most members of a set, or entries of a map, that a union or munion pattern splits.
 pub const MAX_SPLIT: usize = 7;
 
 /// The distinct bindings of a pattern over the values that a binder offers it, in rising order.
@@ -25,9 +25,9 @@ pub fn bindings<'a>(
     values: impl IntoIterator<Item = &'a Value>,
 ) -> Tried<Vec<Binding>> {
     let values: Vec<&Value> = values.into_iter().collect();
-    let mut wide = WideUnions::new(table);
+    let mut wide = WideSplits::new(table);
     if values.iter().any(|value| wide.meets(pattern, value)) {
-        return Err(WIDE_UNION);
+        return Err(WIDE_SPLIT);
     }
     let mut matcher = Matcher::new(table, pattern);
     let mut found = BTreeSet::new();
@@ -41,23 +41,23 @@ pub fn bindings<'a>(
     Ok(found.into_iter().collect())
 }
 
-/// Looks for a union pattern met by too many members. All parts are tried where kind and count fit,
-/// whatever the others come to.
-struct WideUnions<'a> {
+/// Looks for a union or munion pattern met by too many members or entries. All parts are tried where kind
+/// and count fit, whatever the others come to.
+struct WideSplits<'a> {
     table: &'a Table,
     /// Patterns and values that have been looked at.
     seen: HashSet<(usize, Value)>,
 }
 
-impl<'a> WideUnions<'a> {
-    fn new(table: &'a Table) -> WideUnions<'a> {
+impl<'a> WideSplits<'a> {
+    fn new(table: &'a Table) -> WideSplits<'a> {
         let seen = HashSet::new();
-        WideUnions { table, seen }
+        WideSplits { table, seen }
     }
 
     fn meets(&mut self, pattern: usize, value: &Value) -> bool {
-        if !holds_union(self.table, pattern)
-            || !holds_wide_set(value)
+        if !holds_split(self.table, pattern)
+            || !holds_wide(value)
             || !self.seen.insert((pattern, value.clone()))
         {
             return false;
@@ -65,6 +65,7 @@ impl<'a> WideUnions<'a> {
         let record = self.table.record(pattern);
         let is_wide = match (record, value) {
             (Record::UnionPattern(..), Value::Set(members)) => members.len() > MAX_SPLIT,
+            (Record::MunionPattern(..), Value::Map(entries)) => entries.len() > MAX_SPLIT,
             _ => false,
         };
         let parts = parts(record);
@@ -73,22 +74,25 @@ impl<'a> WideUnions<'a> {
     }
 }
 
-fn holds_union(table: &Table, pattern: usize) -> bool {
+fn holds_split(table: &Table, pattern: usize) -> bool {
     let record = table.record(pattern);
-    matches!(record, Record::UnionPattern(..))
+    matches!(record, Record::UnionPattern(..) | Record::MunionPattern(..))
         || record
             .operands()
             .iter()
-            .any(|&(p, _)| holds_union(table, p))
+            .any(|&(p, _)| holds_split(table, p))
 }
 
-fn holds_wide_set(value: &Value) -> bool {
+/// Whether a value is, or has within it, a set or map of more than may be split.
+fn holds_wide(value: &Value) -> bool {
     match value {
         Value::Boolean(_) | Value::Integer(_) => false,
-        Value::Set(members) => members.len() > MAX_SPLIT || members.iter().any(holds_wide_set),
-        Value::Sequence(items) | Value::Tuple(items) => items.iter().any(holds_wide_set),
-        // No pattern looks into a map.
-        Value::Map(_) => false,
+        Value::Set(members) => members.len() > MAX_SPLIT || members.iter().any(holds_wide),
+        Value::Sequence(items) | Value::Tuple(items) => items.iter().any(holds_wide),
+        Value::Map(entries) => {
+            let mut items = entries.iter().flat_map(|(key, value)| [key, value]);
+            entries.len() > MAX_SPLIT || items.any(holds_wide)
+        }
     }
 }
 
@@ -297,26 +301,38 @@ fn ways<'v>(pattern: &Record, value: &'v Value) -> Box<dyn Iterator<Item = Vec<V
             Box::new(std::iter::once(items.clone()))
         }
         (Record::SetPattern(parts), Value::Set(members)) if parts.len() == members.len() => {
-            let members: Vec<Value> = members.iter().cloned().collect();
-            Box::new(orders(&members).into_iter())
+            Box::new(orders(members.iter().map(|member| [member])))
         }
-        (Record::UnionPattern(..), Value::Set(members)) => Box::new(splits(members)),
+        (Record::MapPattern(parts), Value::Map(entries)) if parts.len() == 2 * entries.len() => {
+            Box::new(orders(entries.iter().map(|(key, value)| [key, value])))
+        }
+        (Record::UnionPattern(..), Value::Set(members)) => {
+            Box::new(splits(members.iter().cloned(), Value::Set))
+        }
+        (Record::MunionPattern(..), Value::Map(entries)) => {
+            let entries = entries.iter().map(|(k, v)| (k.clone(), v.clone()));
+            Box::new(splits(entries, Value::Map))
+        }
         (Record::ConcatenationPattern(..), Value::Sequence(items)) => Box::new(cuts(items)),
         _ => Box::new(std::iter::empty()),
     }
 }
 
-/// Every split of a set into two disjoint sets, neither of them empty: at least one member is chosen for the first
-/// half, and not all are. A set of 0 or 1 members has none.
-fn splits(members: &BTreeSet<Value>) -> impl Iterator<Item = Vec<Value>> + '_ {
-    let all = (1_usize << members.len()) - 1;
-    (1..all).map(|chosen| {
-        let half = |side: usize| {
-            let members = members.iter().enumerate();
-            let members = members.filter(|(place, _)| chosen >> place & 1 == side);
-            Value::Set(members.map(|(_, member)| member.clone()).collect())
-        };
-        vec![half(1), half(0)]
+/// Every split of a set or map into two, neither of them empty: at least one of its units, which are members or entries,
+/// is chosen for the first half, and not all are. Of 0 or 1 units there is none.
+fn splits<T: Clone, C: FromIterator<T>>(
+    units: impl Iterator<Item = T>,
+    half: fn(C) -> Value,
+) -> impl Iterator<Item = Vec<Value>> {
+    let units: Vec<T> = units.collect();
+    let all = (1_usize << units.len()) - 1;
+    (1..all).map(move |chosen| {
+        let halves = [1, 0].map(|side| {
+            let units = units.iter().enumerate();
+            let units = units.filter(|(place, _)| chosen >> place & 1 == side);
+            half(units.map(|(_, unit)| unit.clone()).collect())
+        });
+        halves.into()
     })
 }
 
@@ -331,17 +347,26 @@ fn cuts(items: &[Value]) -> impl Iterator<Item = Vec<Value>> + '_ {
     })
 }
 
-/// Every order of the members.
-fn orders(members: &[Value]) -> Vec<Vec<Value>> {
-    if members.is_empty() {
+/// The items of units in every order of the units: of members one each, of entries a key and a value.
+fn orders<'v, const WIDTH: usize>(
+    units: impl Iterator<Item = [&'v Value; WIDTH]>,
+) -> impl Iterator<Item = Vec<Value>> + 'v {
+    let units: Vec<[&Value; WIDTH]> = units.collect();
+    let all = permutations(&units).into_iter();
+    all.map(|order| order.into_iter().flatten().cloned().collect())
+}
+
+/// Every order of the units.
+fn permutations<T: Copy>(units: &[T]) -> Vec<Vec<T>> {
+    if units.is_empty() {
         return vec![vec![]];
     }
     let mut all = Vec::new();
-    for first in 0..members.len() {
-        let mut rest = members.to_vec();
-        let member = rest.remove(first);
-        for order in orders(&rest) {
-            all.push([vec![member.clone()], order].concat());
+    for first in 0..units.len() {
+        let mut rest = units.to_vec();
+        let unit = rest.remove(first);
+        for order in permutations(&rest) {
+            all.push([vec![unit], order].concat());
         }
     }
     all

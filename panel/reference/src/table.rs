@@ -76,6 +76,9 @@ pub enum Record {
     UnionPattern(usize, usize),
     SequencePattern(Vec<usize>),
     ConcatenationPattern(usize, usize),
+    /// Key, value, key, value.
+    MapPattern(Vec<usize>),
+    MunionPattern(usize, usize),
 }
 
 /// What an operand is to the record that names it.
@@ -160,6 +163,8 @@ impl Record {
             kind::P_UNION => Record::UnionPattern(at(0), at(1)),
             kind::P_SEQUENCE => Record::SequencePattern(operands()),
             kind::P_CONCATENATION => Record::ConcatenationPattern(at(0), at(1)),
+            kind::P_MAP => Record::MapPattern(operands()),
+            kind::P_MUNION => Record::MunionPattern(at(0), at(1)),
             _ => return None,
         })
     }
@@ -211,10 +216,11 @@ impl Record {
             | Record::IntegerPattern(_) => vec![],
             Record::TuplePattern(parts)
             | Record::SetPattern(parts)
-            | Record::SequencePattern(parts) => all(parts, Pattern),
-            Record::UnionPattern(left, right) | Record::ConcatenationPattern(left, right) => {
-                all(&[*left, *right], Pattern)
-            }
+            | Record::SequencePattern(parts)
+            | Record::MapPattern(parts) => all(parts, Pattern),
+            Record::UnionPattern(left, right)
+            | Record::ConcatenationPattern(left, right)
+            | Record::MunionPattern(left, right) => all(&[*left, *right], Pattern),
         }
     }
 
@@ -230,6 +236,8 @@ impl Record {
                 | Record::UnionPattern(..)
                 | Record::SequencePattern(_)
                 | Record::ConcatenationPattern(..)
+                | Record::MapPattern(_)
+                | Record::MunionPattern(..)
         )
     }
 
@@ -324,12 +332,16 @@ pub fn pattern_names(records: &[Record], pattern: usize) -> BTreeSet<u8> {
     names
 }
 
-/// Whether a pattern may match in several ways: it holds a set enumeration, union or concatenation.
+/// Whether a pattern may match in several ways: it holds a set or map enumeration, union, munion or concatenation.
 pub fn is_loose_pattern(records: &[Record], pattern: usize) -> bool {
     let record = &records[pattern];
     matches!(
         record,
-        Record::SetPattern(_) | Record::UnionPattern(..) | Record::ConcatenationPattern(..)
+        Record::SetPattern(_)
+            | Record::UnionPattern(..)
+            | Record::ConcatenationPattern(..)
+            | Record::MapPattern(_)
+            | Record::MunionPattern(..)
     ) || record
         .operands()
         .iter()

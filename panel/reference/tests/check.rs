@@ -38,7 +38,7 @@ fn rule_4_the_form_of_records() {
         refused(&after_one, 4, 1);
     }
     // Unknown kinds, the high byte of the kind included.
-    for kind in [0, 22, 31, 41, 0x0101, 0x0107] {
+    for kind in [0, 22, 31, 43, 0x0101, 0x0107, 0x0129] {
         refused(&table_of(&[(kind, &[0])]), 4, 0);
     }
     // Unknown literals, operators and names.
@@ -92,6 +92,8 @@ fn rule_4_the_lengths_of_kinds() {
         (38, &[6]),
         (39, &[4, 5, 6, 7, 8]),
         (40, &[6]),
+        (41, &[4, 6, 8, 10, 12]),
+        (42, &[6]),
     ];
     for (kind, fits) in lengths {
         for length in 4..20 {
@@ -134,7 +136,11 @@ fn rule_6_operands() {
     // Of the wrong sort: the record that names is at fault, and the other one is named.
     refused(&last(&[ANY], 4, &[1, 0]), 6, 1);
     refused(&last(&[ONE, ONE, ONE], 12, &[0, 1, 2]), 6, 3);
-    refused(&last(&[ANY, ONE], 40, &[0, 1]), 6, 2);
+    for kind in [40, 41, 42] {
+        refused(&last(&[ANY, ONE], kind, &[0, 1]), 6, 2);
+        refused(&last(&[ONE, ANY], kind, &[0, 1]), 6, 2);
+        refused(&last(&[ANY], kind, &[0, 0]), 6, 1);
+    }
     for (kind, fields) in [(17, &[0, 1, 2][..]), (19, &[0, 1, 2, 3])] {
         let operands = [ANY, ONE, ONE, ONE];
         refused(
@@ -151,7 +157,10 @@ fn rule_6_operands() {
     refused(&table_of(&[ONE, ANY, (4, &[2, 0])]), 6, 1);
     // A pattern as the last.
     refused(&table_of(&[ANY]), 6, 0);
-    refused(&table_of(&[ANY, ANY, (38, &[0, 1])]), 6, 2);
+    for kind in [38, 41, 42] {
+        refused(&table_of(&[ANY, ANY, (kind, &[0, 1])]), 6, 2);
+    }
+    refused(&table_of(&[(41, &[])]), 6, 0);
     // The lowest fault of any of these.
     refused(&table_of(&[ONE, ONE, (5, &[7, 1, 1])]), 6, 0);
 }
@@ -185,6 +194,20 @@ fn rule_7_names() {
     // Names anywhere in a pattern bind, more than once too.
     let pattern = p_tuple(&[p_set(&[p_name(3)]), p_name(3)]);
     assert_eq!(check(&let_(pattern, int(1), name(3)).table()), Ok(7));
+    let entry = || p_map(&[p_name(2), p_name(3)]);
+    for bound in [2, 3] {
+        let sheet = let_(entry(), int(1), name(bound));
+        assert_eq!(check(&sheet.table()), Ok(6));
+        let sheet = let_(p_munion(entry(), p_any()), int(1), name(bound));
+        assert_eq!(check(&sheet.table()), Ok(8));
+    }
+    refused(&let_(entry(), int(1), name(4)).table(), 7, 4);
+    refused(&let_(entry(), name(2), int(1)).table(), 7, 3);
+    refused(
+        &let_(p_name(3), int(1), let_(entry(), int(1), int(1))).table(),
+        7,
+        3,
+    );
     // A pattern name that is bound around its binder; not one bound beside it.
     refused(
         &let_(p_name(0), int(1), let_(p_name(0), int(2), int(3))).table(),
@@ -232,6 +255,22 @@ fn rule_8_looseness_in_a_condition() {
         check(&forall(p_name(0), set(&[]), definite()).table()),
         Ok(11)
     );
+    // Each kind that may match in several ways, anywhere in a pattern, with one binding too.
+    for pattern in [
+        p_set(&[]),
+        p_union(p_any(), p_any()),
+        p_conc(p_any(), p_any()),
+        p_map(&[]),
+        p_map(&[p_any(), p_any()]),
+        p_munion(p_any(), p_any()),
+    ] {
+        for pattern in [pattern.clone(), p_tuple(&[p_any(), pattern])] {
+            let condition = let_(pattern, int(1), boolean(true));
+            let records = check(&condition.table()).expect("an accepted table");
+            let sheet = forall(p_name(0), set(&[]), condition);
+            refused(&sheet.table(), 8, 2 + records - 1);
+        }
+    }
     // In the condition of each binder, and nowhere else.
     for sheet in [
         let_be(p_name(0), set(&[]), choice(), t()),

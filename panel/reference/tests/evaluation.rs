@@ -241,7 +241,7 @@ fn number_29_a_wide_union() {
     let in_cut = p_conc(p_seq(&[p_any(), wide()]), p_seq(&[p_int(4)]));
     let items = seq(&[int(1), range(1, 8), int(1)]);
     assert_eq!(let_(in_cut, items, int(1)).answer(&[]), (29, 15, 0));
-    // A union pattern that meets no set is not at fault, and no pattern looks into a map.
+    // A union pattern that meets no set is not at fault, and does not look into a map.
     assert_eq!(
         let_(wide(), map(&[int(1), range(1, 8)]), int(1)).answer(&[]),
         (23, 9, 0)

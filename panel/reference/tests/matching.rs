@@ -4,10 +4,10 @@ mod common;
 use common::*;
 use reference::check::accept;
 use reference::definition;
-use reference::matching::{bindings, MAX_BINDINGS};
+use reference::matching::{bindings, Binding, MAX_BINDINGS};
 use reference::table::{Record, Table};
 use reference::value::Value;
-use std::collections::BTreeSet;
+use std::collections::{BTreeMap, BTreeSet};
 use std::time::{Duration, Instant};
 
 /// A generator of pseudo-random numbers (xorshift).
@@ -22,7 +22,7 @@ impl Random {
     }
 
     fn pattern(&mut self, height: u32) -> Node {
-        let kinds = if height == 0 { 4 } else { 9 };
+        let kinds = if height == 0 { 4 } else { 11 };
         let count = self.below(4);
         let part = |random: &mut Random| random.pattern(height - 1);
         match self.below(kinds) {
@@ -30,23 +30,34 @@ impl Random {
             2 => p_any(),
             3 => p_int(self.below(2) as i32),
             4 => p_tuple(&[part(self), part(self)]),
-            5 => p_set(&(0..count).map(|_| part(self)).collect::<Vec<_>>()),
-            6 => p_union(self.half(height - 1), self.half(height - 1)),
-            7 => p_seq(&(0..count).map(|_| part(self)).collect::<Vec<_>>()),
+            5 => p_set(&self.patterns(count, height - 1)),
+            6 => self.split(kind::P_UNION, height),
+            7 => p_seq(&self.patterns(count, height - 1)),
+            8 => p_map(&self.patterns(2 * (count % 3), height - 1)),
+            9 => self.split(kind::P_MUNION, height),
             _ => p_conc(part(self), part(self)),
         }
     }
 
-    /// A part of a union, mostly one that a set might match.
-    fn half(&mut self, height: u32) -> Node {
+    fn patterns(&mut self, count: u64, height: u32) -> Vec<Node> {
+        (0..count).map(|_| self.pattern(height)).collect()
+    }
+
+    /// A union or munion.
+    fn split(&mut self, kind: u16, height: u32) -> Node {
+        let halves = [self.half(kind, height - 1), self.half(kind, height - 1)];
+        node(kind, &[], &halves)
+    }
+
+    /// A part of a union or munion, mostly one that a set or map might match.
+    fn half(&mut self, kind: u16, height: u32) -> Node {
         let count = 1 + self.below(3);
         match self.below(8) {
-            0 if height > 0 => p_union(self.half(height - 1), self.half(height - 1)),
-            1..=3 if height > 0 => p_set(
-                &(0..count)
-                    .map(|_| self.pattern(height - 1))
-                    .collect::<Vec<_>>(),
-            ),
+            0 if height > 0 => self.split(kind, height),
+            1..=3 if height > 0 && kind == kind::P_UNION => {
+                p_set(&self.patterns(count, height - 1))
+            }
+            1..=3 if height > 0 => p_map(&self.patterns(2 * (1 + count % 2), height - 1)),
             4 => self.pattern(height),
             5 => p_any(),
             _ => p_name(self.below(6) as u8),
@@ -68,8 +79,18 @@ impl Random {
             Record::SetPattern(parts) => {
                 Value::Set(parts.iter().map(|&part| self.value(table, part)).collect())
             }
+            Record::MapPattern(parts) => {
+                let entries = parts.chunks_exact(2);
+                let entry = |e: &[usize]| (self.value(table, e[0]), self.value(table, e[1]));
+                Value::Map(entries.map(entry).collect())
+            }
             Record::UnionPattern(left, right) => {
                 Value::Set(&self.members(table, *left) | &self.members(table, *right))
+            }
+            Record::MunionPattern(left, right) => {
+                let mut entries = self.entries(table, *left);
+                entries.extend(self.entries(table, *right));
+                Value::Map(entries)
             }
             Record::ConcatenationPattern(left, right) => {
                 match (self.value(table, *left), self.value(table, *right)) {
@@ -80,6 +101,7 @@ impl Random {
                 }
             }
             _ if self.below(3) == 0 => self.any_set(),
+            _ if self.below(8) == 0 => self.any_map(),
             _ => self.small(),
         }
     }
@@ -101,6 +123,26 @@ impl Random {
         members.collect()
     }
 
+    /// The entries of a map that a part of a munion might match.
+    fn entries(&mut self, table: &Table, part: usize) -> BTreeMap<Value, Value> {
+        if matches!(
+            table.record(part),
+            Record::MapPattern(_) | Record::MunionPattern(..)
+        ) {
+            if let Value::Map(entries) = self.value(table, part) {
+                return entries;
+            }
+        }
+        if self.below(12) == 0 {
+            return (0..8).map(|n| (Value::Integer(n), self.small())).collect();
+        }
+        let entries = (0..self.below(5)).map(|_| {
+            let key = Value::Integer(self.below(9) as i32);
+            (key, self.small())
+        });
+        entries.collect()
+    }
+
     fn small(&mut self) -> Value {
         Value::Integer(self.below(3) as i32)
     }
@@ -109,16 +151,59 @@ impl Random {
         let members = (0..self.below(9)).map(|n| Value::Integer(n as i32));
         Value::Set(members.collect())
     }
+
+    fn any_map(&mut self) -> Value {
+        let entries = (0..self.below(9)).map(|n| (Value::Integer(n as i32), self.small()));
+        Value::Map(entries.collect())
+    }
+}
+
+/// How many cases came to what, and how many of them hold each kind.
+#[derive(Debug, Default)]
+struct Tally {
+    /// Refused with 29, refused with 30, without a match, with one.
+    met: [usize; 4],
+    /// Unions and munions in patterns that are refused with 29.
+    wide: [usize; 2],
+    /// Unions, munions and map enumerations in patterns that match.
+    matched: [usize; 3],
+}
+
+impl Tally {
+    fn add(&mut self, table: &Table, found: &Result<Vec<Binding>, u32>) {
+        let outcome = match found {
+            Err(29) => 0,
+            Err(_) => 1,
+            Ok(all) if all.is_empty() => 2,
+            Ok(_) => 3,
+        };
+        self.met[outcome] += 1;
+        let holds = |is_sought: fn(&Record) -> bool| table.records().iter().any(is_sought);
+        let held = [
+            holds(|record| matches!(record, Record::UnionPattern(..))),
+            holds(|record| matches!(record, Record::MunionPattern(..))),
+            holds(|record| matches!(record, Record::MapPattern(_))),
+        ];
+        let counts: &mut [usize] = match outcome {
+            0 => &mut self.wide,
+            3 => &mut self.matched,
+            _ => &mut [],
+        };
+        for (count, is_held) in counts.iter_mut().zip(held) {
+            *count += usize::from(is_held);
+        }
+    }
 }
 
 #[test]
 fn bindings_are_those_of_the_definition() {
     let mut random = Random(0x2545_F491_4F6C_DD1D);
-    let (mut met, mut unions) = ([0; 4], 0);
-    for round in 0..6000 {
-        let pattern = match round % 2 {
+    let mut tally = Tally::default();
+    for round in 0..9000 {
+        let pattern = match round % 3 {
             0 => random.pattern(3),
-            _ => p_union(random.half(2), random.half(2)),
+            1 => random.split(kind::P_UNION, 3),
+            _ => random.split(kind::P_MUNION, 3),
         };
         let sheet = let_(pattern, int(1), int(1));
         let Ok(table) = accept(&sheet.table()) else {
@@ -136,28 +221,14 @@ fn bindings_are_those_of_the_definition() {
             Some(all) if all.len() > MAX_BINDINGS => Err(30),
             Some(all) => Ok(all.into_iter().collect::<Vec<_>>()),
         };
-        met[match &expected {
-            Err(29) => 0,
-            Err(_) => 1,
-            Ok(all) if all.is_empty() => 2,
-            Ok(_) => 3,
-        }] += 1;
-        let holds_union = table
-            .records()
-            .iter()
-            .any(|record| matches!(record, Record::UnionPattern(..)));
-        let matches = expected.as_ref().is_ok_and(|all| !all.is_empty());
-        unions += usize::from(holds_union && matches);
+        tally.add(&table, &expected);
         let found = bindings(&table, pattern, [&value]);
-        assert_eq!(
-            found,
-            expected,
-            "round {round}: {:?} against {value}",
-            table.records()
-        );
+        let records = table.records();
+        assert_eq!(found, expected, "round {round}: {records:?} and {value}");
     }
-    assert!(met.iter().all(|&count| count > 0), "{met:?}");
-    assert!(unions > 700, "{met:?}, {unions} unions that match");
+    assert!(tally.met.iter().all(|&count| count > 0), "{tally:?}");
+    assert!(tally.wide.iter().all(|&count| count > 100), "{tally:?}");
+    assert!(tally.matched.iter().all(|&count| count > 300), "{tally:?}");
 }
 
 /// Evaluates within a time that no count of all ways could keep.
@@ -174,47 +245,63 @@ fn unions(parts: impl Iterator<Item = Node>) -> Node {
     parts.reduce(p_union).expect("a part")
 }
 
-/// The ways to deal out so many members to so many parts, each with one at least.
-fn deals(members: usize, parts: usize) -> usize {
-    match (members, parts) {
+/// The ways to deal out so many units to so many parts, each with one at least.
+fn deals(units: usize, parts: usize) -> usize {
+    match (units, parts) {
         (0, 0) => 1,
         (0, _) | (_, 0) => 0,
-        _ => parts * (deals(members - 1, parts) + deals(members - 1, parts - 1)),
+        _ => parts * (deals(units - 1, parts) + deals(units - 1, parts - 1)),
     }
 }
 
-/// A let over a union of so many parts and {1,...,members}: its number and its count.
-fn of_union(part: fn(u8) -> Node, parts: u8, members: i32) -> (u32, usize) {
-    let sheet = let_(unions((0..parts).map(part)), range(1, members), int(1));
-    let (number, _, count) = soon(&sheet);
+/// A pattern that splits, and a value of so many units.
+type Split = (fn(Node, Node) -> Node, fn(i32) -> Node);
+
+/// A set of so many members, and a map of so many entries.
+const SPLITS: [Split; 2] = [
+    (p_union, |members| range(1, members)),
+    (p_munion, |count| entries(1, count)),
+];
+
+/// A let over a union or munion of so many parts and a value of so many units: its number and its count.
+fn of_split((join, value): Split, part: fn(u8) -> Node, parts: u8, units: i32) -> (u32, usize) {
+    let pattern = (0..parts).map(part).reduce(join).expect("a part");
+    let (number, _, count) = soon(&let_(pattern, value(units), int(1)));
     (number, count)
 }
 
 #[test]
-fn unions_of_many_parts() {
+fn splits_in_many_parts() {
     assert_eq!(
         [deals(7, 5), deals(7, 6), deals(7, 7)],
         [16_800, 15_120, 5_040]
     );
-    for members in 0..=7 {
-        for parts in 2..=16 {
-            let ways = deals(members as usize, parts.into());
-            // Every part takes a member at least, so more parts than members match nothing.
-            let due = if ways == 0 { (23, 0) } else { (32, 1) };
-            assert_eq!(of_union(|_| p_any(), parts, members), due);
-            let due = match ways {
-                0 => (23, 0),
-                1..=MAX_BINDINGS => (32, ways),
-                _ => (30, 0),
-            };
-            assert_eq!(of_union(p_name, parts, members), due, "{parts} {members}");
+    let units_and_parts = (0..=7).flat_map(|units| (2..=16).map(move |parts| (units, parts)));
+    for (units, parts) in units_and_parts {
+        let ways = deals(units as usize, parts.into());
+        // Every part takes a unit at least, so more parts than units match nothing.
+        let of_any = if ways == 0 { (23, 0) } else { (32, 1) };
+        let of_names = match ways {
+            0 => (23, 0),
+            1..=MAX_BINDINGS => (32, ways),
+            _ => (30, 0),
+        };
+        for split in SPLITS {
+            assert_eq!(of_split(split, |_| p_any(), parts, units), of_any);
+            assert_eq!(of_split(split, p_name, parts, units), of_names);
         }
     }
-    // A name beside wildcards takes one member to all but so many as there are wildcards.
+    // A name beside wildcards takes one unit to all but so many as there are wildcards.
     let beside = |n: u8| if n == 0 { p_name(0) } else { p_any() };
     for (parts, bindings) in [(2, 126), (3, 119), (4, 98), (5, 63), (6, 28), (7, 7)] {
-        assert_eq!(of_union(beside, parts, 7), (32, bindings));
+        for split in SPLITS {
+            assert_eq!(of_split(split, beside, parts, 7), (32, bindings));
+        }
     }
+}
+
+#[test]
+fn unions_of_many_parts() {
     // Four unions of five wildcards, 16,800 ways each: one binding.
     let wild = unions((0..5).map(|_| p_any()));
     let sets = || tuple(&vec![range(1, 7); 4]);

@@ -69,6 +69,10 @@ fn every_refusal_has_its_word() {
         of(let_(p_union(p_any(), p_any()), range(1, 8), t())),
         "- !29 split"
     );
+    assert_eq!(
+        of(let_(p_munion(p_any(), p_any()), entries(1, 8), t())),
+        "- !29 split"
+    );
     let sheet = let_(many, tuple(&[range(1, 7), range(1, 7)]), t());
     assert_eq!(of(sheet), "- !30 bindings");
     let line = of(many_choices(0));

@@ -35,7 +35,7 @@ pub mod number {
         ABSENT = 26, "hd or tl of [], dinter of {}, or an absent index or key";
         CLASH = 27, "one key has two values";
         LARGE = 28, "the value is over 512 bytes";
-        SPLIT = 29, "a union pattern meets a set of over 7 members";
+        SPLIT = 29, "a union or munion pattern meets over 7 members or entries";
         BINDINGS = 30, "the binder has over 255 distinct bindings";
         CHOICES = 31, "the run meets a 65th choice";
         USED_UP = 32, "the list is used up before a choice";

@@ -89,7 +89,7 @@ fn refusals_say_what_is_wrong() {
 #[test]
 fn values_are_decoded_printed_and_ordered() {
     let mut values: Vec<(Value, reference::value::Value)> = Vec::new();
-    for seed in 0..500 {
+    for seed in 0..600 {
         let table = accepted(seed);
         let mut sheet = Sheet::check(&table).expect("an accepted table");
         for (list, outcome) in sheet.walk().take(3) {

@@ -2,34 +2,8 @@
 
 mod common;
 
-use common::samples;
+use common::{print_by_services, samples};
 use sheets::{List, Sheet};
-
-/// The most lists of a print.
-const MAX_LISTS: usize = 10_000;
-
-/// The walk print of a table.
-fn print(table: &[u8]) -> String {
-    let mut sheet = match Sheet::check(table) {
-        Ok(sheet) => sheet,
-        Err(refusal) => return format!("refused {} {}\n", refusal.number(), refusal.place()),
-    };
-    let mut print = format!("table {}\n", sheet.records());
-    for (count, (list, outcome)) in sheet.walk().enumerate() {
-        if count == MAX_LISTS {
-            return print + &format!("cut {MAX_LISTS}\n");
-        }
-        print += &match outcome {
-            Ok(value) => format!("{list} ={value}\n"),
-            Err(refusal) => {
-                let word = refusal.word().expect("a word");
-                format!("{list} !{} {word}\n", refusal.number())
-            }
-        };
-    }
-    let count = print.lines().count() - 1;
-    print + &format!("end {count}\n")
-}
 
 /// The table of a sample.
 fn table(name: &str) -> Vec<u8> {
@@ -50,9 +24,9 @@ fn outcomes(name: &str) -> Vec<String> {
 #[test]
 fn every_sample_gives_its_print() {
     let samples = samples();
-    assert!(samples.len() >= 45);
+    assert!(samples.len() >= 51);
     for (name, table, expected) in samples {
-        assert_eq!(print(&table), expected, "{name}");
+        assert_eq!(print_by_services(&table), expected, "{name}");
     }
 }
 
@@ -60,7 +34,7 @@ fn every_sample_gives_its_print() {
 fn the_worked_print() {
     let table = table("worked-print");
     assert!(table.ends_with(&[0x08, 0x00, 0x0D, 0x00, 0x00, 0x03, 0x06, 0x09]));
-    assert_eq!(print(&table), "table 11\n0 =2\n1 =4\nend 2\n");
+    assert_eq!(print_by_services(&table), "table 11\n0 =2\n1 =4\nend 2\n");
 }
 
 #[test]
@@ -113,6 +87,19 @@ fn neither_half_of_a_union_is_empty() {
     assert_eq!(outcomes("union-within"), ["23"]);
     assert_eq!(outcomes("union-within-split"), ["29"]);
     assert_eq!(outcomes("sequence-split").len(), 4);
+}
+
+#[test]
+fn patterns_over_maps() {
+    assert_eq!(
+        outcomes("pair-of-entries"),
+        ["mk_(1,2,3,4)", "mk_(3,4,1,2)"]
+    );
+    assert_eq!(outcomes("munion-split").len(), 6);
+    assert_eq!(outcomes("munion-of-one"), ["23"]);
+    assert_eq!(outcomes("munion-of-seven").len(), 126);
+    assert_eq!(outcomes("munion-of-eight"), ["29"]);
+    assert_eq!(outcomes("union-in-a-key"), ["29"]);
 }
 
 #[test]

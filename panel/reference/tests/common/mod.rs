@@ -213,6 +213,26 @@ pub fn p_conc(left: Node, right: Node) -> Node {
     node(kind::P_CONCATENATION, &[], &[left, right])
 }
 
+/// Key, value, key, value.
+pub fn p_map(parts: &[Node]) -> Node {
+    node(kind::P_MAP, &[], parts)
+}
+
+pub fn p_munion(left: Node, right: Node) -> Node {
+    node(kind::P_MUNION, &[], &[left, right])
+}
+
+/// {p |-> p | p in set {from,...,to} & true}.
+pub fn entries(from: i32, to: i32) -> Node {
+    map_comp(
+        p_name(15),
+        range(from, to),
+        boolean(true),
+        name(15),
+        name(15),
+    )
+}
+
 /// A set, sequence or the like of integers.
 pub fn ints(numbers: &[i32]) -> Vec<Node> {
     numbers.iter().copied().map(int).collect()

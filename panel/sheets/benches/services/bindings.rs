@@ -11,7 +11,7 @@ use generator::builder::kind;
 use generator::{Builder, Random};
 
 /// Patterns of a let, each with the value that it is matched with.
-const LETS: [(&str, &str); 23] = [
+const LETS: [(&str, &str); 26] = [
     ("mk_(a ^ -, b)", "mk_([],{1,2,3})"),
     ("{a,b,c,d}", "{1,2,3,4}"),
     (
@@ -53,7 +53,13 @@ const LETS: [(&str, &str); 23] = [
         "(- ^ [a]) ^ (- ^ [b])",
         "[1,2,3,4,5,6,7,8,9,10,11,12,13,14,15,16,17,18,19,20]",
     ),
+    ("{a|->b,c|->d,e|->f,g|->h}", "{1|->2,3|->4,5|->6,7|->8}"),
+    ("a munion b", SEVEN_ENTRIES),
+    ("a munion (b munion c)", SEVEN_ENTRIES),
 ];
+
+/// Seven entries, some with their own key as value and some with another's, so that names which stand in keys and values may match.
+const SEVEN_ENTRIES: &str = "{1|->1,2|->1,3|->3,4|->3,5|->5,6|->5,7|->7}";
 
 /// The same of a let-be and of an exists, with their set.
 const SETS: [(&str, &str); 2] = [
@@ -97,49 +103,116 @@ pub fn tables() -> Vec<(String, Vec<u8>)> {
 pub fn unions() -> Vec<(String, Vec<u8>)> {
     let union = |seed| {
         let mut random = Random::new(seed);
-        let mut names = ('a'..='p').collect();
         let parts = 2 + random.below(7);
-        let pattern = union(&mut random, &mut names, parts);
+        let pattern = Leaves::distinct().tree(Split::Union, &mut random, parts);
         row(kind::LET, &pattern, "{1,...,7}")
     };
     (0..200).map(union).collect()
+}
+
+/// Random munions of two to eight parts over seven entries, in any shape: wildcards, names, and maps of one and two entries of them. In one half of these
+/// patterns names are distinct, in the other they are few and stand in keys and values again.
+pub fn munions() -> Vec<(String, Vec<u8>)> {
+    let munion = |seed| {
+        let mut random = Random::new(seed);
+        let parts = 2 + random.below(7);
+        let mut leaves = match seed % 2 {
+            0 => Leaves::distinct(),
+            _ => Leaves::repeated(),
+        };
+        let pattern = leaves.tree(Split::Munion, &mut random, parts);
+        row(kind::LET, &pattern, SEVEN_ENTRIES)
+    };
+    (0..200).map(munion).collect()
 }
 
 /// Random tuples of two such unions of two to five parts, each over seven members; the names of the first stand in the second too, or are others.
 pub fn tuples(is_shared: bool) -> Vec<(String, Vec<u8>)> {
     let tuple = |seed| {
         let mut random = Random::new(seed);
-        let all: Vec<char> = ('a'..='p').collect();
-        let mut names = all.clone();
         let parts = [2 + random.below(4), 2 + random.below(4)];
-        let left = union(&mut random, &mut names, parts[0]);
+        let mut leaves = Leaves::distinct();
+        let left = leaves.tree(Split::Union, &mut random, parts[0]);
         if is_shared {
-            names = all;
+            leaves = Leaves::distinct();
         }
-        let right = union(&mut random, &mut names, parts[1]);
+        let right = leaves.tree(Split::Union, &mut random, parts[1]);
         let pattern = format!("mk_({left}, {right})");
         row(kind::LET, &pattern, "mk_({1,...,7},{1,...,7})")
     };
     (0..200).map(tuple).collect()
 }
 
-fn union(random: &mut Random, names: &mut Vec<char>, parts: usize) -> String {
-    if parts > 1 {
-        let left = 1 + random.below(parts - 1);
-        let halves = [left, parts - left].map(|parts| match union(random, names, parts) {
-            half if parts > 1 => format!("({half})"),
-            half => half,
-        });
-        return halves.join(" union ");
+/// What is split: sets or maps.
+#[derive(Clone, Copy)]
+enum Split {
+    Union,
+    Munion,
+}
+
+/// The names that a random pattern has at its leaves, beside wildcards.
+struct Leaves {
+    names: Vec<char>,
+    is_repeated: bool,
+}
+
+impl Leaves {
+    /// Each of sixteen names once, in their order.
+    fn distinct() -> Leaves {
+        Leaves {
+            names: ('a'..='p').collect(),
+            is_repeated: false,
+        }
     }
-    let mut leaf = |random: &mut Random| match random.once_in(2) && !names.is_empty() {
-        true => names.remove(0).to_string(),
-        false => "-".to_string(),
-    };
-    match random.below(3) {
-        0 => leaf(random),
-        1 => format!("{{{}}}", leaf(random)),
-        _ => format!("{{{},{}}}", leaf(random), leaf(random)),
+
+    /// Four names, any number of times.
+    fn repeated() -> Leaves {
+        Leaves {
+            names: ('a'..='d').collect(),
+            is_repeated: true,
+        }
+    }
+
+    /// A name or a wildcard.
+    fn leaf(&mut self, random: &mut Random) -> char {
+        if !random.once_in(2) || self.names.is_empty() {
+            return '-';
+        }
+        match self.is_repeated {
+            true => random.pick(&self.names),
+            false => self.names.remove(0),
+        }
+    }
+
+    /// A member, or a key and a value.
+    fn unit(&mut self, split: Split, random: &mut Random) -> String {
+        match split {
+            Split::Union => self.leaf(random).to_string(),
+            Split::Munion => format!("{}|->{}", self.leaf(random), self.leaf(random)),
+        }
+    }
+
+    /// A pattern of so many parts.
+    fn tree(&mut self, split: Split, random: &mut Random, parts: usize) -> String {
+        if parts > 1 {
+            let left = 1 + random.below(parts - 1);
+            let halves = [left, parts - left].map(|parts| match self.tree(split, random, parts) {
+                half if parts > 1 => format!("({half})"),
+                half => half,
+            });
+            return halves.join(match split {
+                Split::Union => " union ",
+                Split::Munion => " munion ",
+            });
+        }
+        match random.below(3) {
+            0 => self.leaf(random).to_string(),
+            1 => format!("{{{}}}", self.unit(split, random)),
+            _ => {
+                let units = [self.unit(split, random), self.unit(split, random)];
+                format!("{{{}}}", units.join(","))
+            }
+        }
     }
 }
 

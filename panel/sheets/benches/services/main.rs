@@ -212,7 +212,9 @@ impl Row {
         }]);
         let ratio = ours.median.as_secs_f64() / second.median.as_secs_f64();
         let second = micros(second.median);
-        println!("| {} | {ours} | {second} | {ratio:.3} |", self.label);
+        // A bar within a label would end its column.
+        let label = self.label.replace('|', "\\|");
+        println!("| {label} | {ours} | {second} | {ratio:.3} |");
     }
 }
 
@@ -520,6 +522,7 @@ fn main() {
             "200 random tuples of two unions with the same names",
             bindings::tuples(true),
         ),
+        ("200 random patterns over maps", bindings::munions()),
     ]
     .map(|(what, tables)| {
         let picked = tables.into_iter().filter(|(label, _)| is_picked(label));

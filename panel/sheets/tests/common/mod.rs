@@ -239,6 +239,32 @@ pub fn bytes(random: &mut Random, length: usize, bound: usize) -> Vec<u8> {
     (0..length).map(|_| random.below(bound) as u8).collect()
 }
 
+/// The most lists of a print.
+const MAX_LISTS: usize = 10_000;
+
+/// The walk print of a table.
+pub fn print_by_services(table: &[u8]) -> String {
+    let mut sheet = match Sheet::check(table) {
+        Ok(sheet) => sheet,
+        Err(refusal) => return format!("refused {} {}\n", refusal.number(), refusal.place()),
+    };
+    let mut print = format!("table {}\n", sheet.records());
+    for (count, (list, outcome)) in sheet.walk().enumerate() {
+        if count == MAX_LISTS {
+            return print + &format!("cut {MAX_LISTS}\n");
+        }
+        print += &match outcome {
+            Ok(value) => format!("{list} ={value}\n"),
+            Err(refusal) => {
+                let word = refusal.word().expect("a word");
+                format!("{list} !{} {word}\n", refusal.number())
+            }
+        };
+    }
+    let count = print.lines().count() - 1;
+    print + &format!("end {count}\n")
+}
+
 /// The sample sheets: name, table and print.
 pub fn samples() -> Vec<(String, Vec<u8>, String)> {
     let folder = Path::new(env!("CARGO_MANIFEST_DIR")).join("../../sheets");

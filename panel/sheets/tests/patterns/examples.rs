@@ -494,6 +494,10 @@ fn every_pattern_and_every_kind_of_value() {
         "[a]",
         "[a,b]",
         "a ^ b",
+        "{|->}",
+        "{a |-> b}",
+        "{a |-> b, c |-> d}",
+        "a munion b",
     ];
     for text in patterns {
         for value in one_of_each() {

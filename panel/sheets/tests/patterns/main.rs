@@ -9,6 +9,7 @@ mod case;
 mod examples;
 mod limits;
 mod maker;
+mod maps;
 mod pattern;
 mod random;
 mod windows;

@@ -12,6 +12,33 @@ enum Want {
     Anything,
     Set,
     Sequence,
+    Map,
+}
+
+/// Sets with their patterns, or maps with theirs: members are paired and split as entries are.
+#[derive(Clone, Copy)]
+pub enum Collection {
+    Set,
+    Map,
+}
+
+impl Collection {
+    /// An enumeration of so many members or entries, each part written alike.
+    fn enumeration(self, count: usize, part: impl FnMut() -> Pattern) -> Pattern {
+        let parts = std::iter::repeat_with(part);
+        match self {
+            Collection::Set => Pattern::Set(parts.take(count).collect()),
+            Collection::Map => Pattern::Map(parts.take(2 * count).collect()),
+        }
+    }
+
+    /// A union or munion.
+    fn split(self, left: Pattern, right: Pattern) -> Pattern {
+        match self {
+            Collection::Set => Pattern::union(left, right),
+            Collection::Map => Pattern::munion(left, right),
+        }
+    }
 }
 
 /// Makes patterns, and values for them.
@@ -39,15 +66,17 @@ impl Maker {
         if height == 0 || self.random.once_in(5) {
             return self.simple();
         }
-        match self.random.below(6) {
+        match self.random.below(8) {
             0 | 1 => {
                 let count = 2 + self.random.below(3);
                 Pattern::Tuple(self.patterns(count, height - 1))
             }
-            2 => self.set_pattern(height),
+            2 => self.enumeration(Collection::Set, height),
             3 => self.sequence_pattern(height),
-            4 => self.union(height),
-            _ => self.concatenation(height),
+            4 => self.split(Collection::Set, height),
+            5 => self.concatenation(height),
+            6 => self.enumeration(Collection::Map, height),
+            _ => self.split(Collection::Map, height),
         }
     }
 
@@ -64,16 +93,16 @@ impl Maker {
         }
     }
 
-    fn set_pattern(&mut self, height: usize) -> Pattern {
+    fn enumeration(&mut self, of: Collection, height: usize) -> Pattern {
         let count = self.random.below(5);
-        Pattern::Set(self.patterns(count, height - 1))
+        of.enumeration(count, || self.pattern(height - 1))
     }
 
-    /// A set enumeration as a half, so mostly not {}.
-    fn half_set_pattern(&mut self, height: usize) -> Pattern {
+    /// A set or map enumeration as a half, so mostly not an empty one.
+    fn half_enumeration(&mut self, of: Collection, height: usize) -> Pattern {
         let least = usize::from(!self.random.once_in(8));
         let count = least + self.random.below(4);
-        Pattern::Set(self.patterns(count, height - 1))
+        of.enumeration(count, || self.pattern(height - 1))
     }
 
     fn sequence_pattern(&mut self, height: usize) -> Pattern {
@@ -81,30 +110,31 @@ impl Maker {
         Pattern::Sequence(self.patterns(count, height - 1))
     }
 
-    fn union(&mut self, height: usize) -> Pattern {
+    fn split(&mut self, of: Collection, height: usize) -> Pattern {
         let half = |maker: &mut Maker| match maker.random.below(9) {
-            0..=2 if height > 1 => maker.half_set_pattern(height - 1),
-            3 if height > 1 => maker.union(height - 1),
+            0..=2 if height > 1 => maker.half_enumeration(of, height - 1),
+            3 if height > 1 => maker.split(of, height - 1),
             4 => maker.pattern(height - 1),
             _ => maker.name_or_any(),
         };
         let left = half(self);
-        Pattern::union(left, half(self))
+        of.split(left, half(self))
     }
 
-    /// Unions within each other in any shape, of so many parts that are none; of these some are sets of a union again.
-    pub fn tree_of_unions(&mut self, parts: usize) -> Pattern {
+    /// Unions or munions within each other in any shape, of so many parts that are none; of these some are enumerations
+    /// that hold one again.
+    pub fn tree(&mut self, of: Collection, parts: usize) -> Pattern {
         if parts > 1 {
             let left = 1 + self.random.below(parts - 1);
             let right = parts - left;
-            return Pattern::union(self.tree_of_unions(left), self.tree_of_unions(right));
+            return of.split(self.tree(of, left), self.tree(of, right));
         }
         let count = 1 + self.random.below(3);
         match self.random.below(12) {
             0..=3 => self.name_or_any(),
             4 | 5 => Pattern::Any,
-            6..=9 => Pattern::Set((0..count).map(|_| self.simple()).collect()),
-            10 => Pattern::Set(vec![Pattern::union(self.name_or_any(), self.name_or_any())]),
+            6..=9 => of.enumeration(count, || self.simple()),
+            10 => of.enumeration(1, || of.split(self.name_or_any(), self.name_or_any())),
             _ => self.pattern(1),
         }
     }
@@ -152,17 +182,10 @@ impl Maker {
             Pattern::Tuple(_) => Value::Tuple(self.fill_all(parts, Want::Anything)),
             Pattern::Set(_) => set_of(self.fill_all(parts, Want::Anything)),
             Pattern::Sequence(_) => Value::Sequence(self.fill_all(parts, Want::Anything)),
-            Pattern::Union(_) => {
-                let members = self
-                    .fill_all(parts, Want::Set)
-                    .into_iter()
-                    .flat_map(items_of);
-                set_of(members)
-            }
-            Pattern::Concatenation(_) => {
-                let items = self.fill_all(parts, Want::Sequence).into_iter();
-                Value::Sequence(items.flat_map(items_of).collect())
-            }
+            Pattern::Map(_) => map_of(&self.fill_all(parts, Want::Anything)),
+            Pattern::Union(_) => set_of(self.fill_halves(parts, Want::Set)),
+            Pattern::Concatenation(_) => Value::Sequence(self.fill_halves(parts, Want::Sequence)),
+            Pattern::Munion(_) => map_of(&self.fill_halves(parts, Want::Map)),
         }
     }
 
@@ -170,25 +193,40 @@ impl Maker {
         patterns.iter().map(|part| self.fill(part, want)).collect()
     }
 
-    /// A random value; sets mostly differ from each other, so that unions of them are disjoint.
+    /// The items of both halves.
+    fn fill_halves(&mut self, halves: &[Pattern], want: Want) -> Vec<Value> {
+        let halves = self.fill_all(halves, want).into_iter();
+        halves.flat_map(items_of).collect()
+    }
+
+    /// A random value; sets and maps mostly differ from each other, so that unions of them are disjoint.
     fn value(&mut self, want: Want) -> Value {
         match want {
             Want::Anything => self.any_value(2),
             Want::Set => {
-                // A half is not empty.
-                let count = match self.random.below(12) {
-                    0 => 5 + self.random.below(5),
-                    1 => 0,
-                    _ => 1 + self.random.below(3),
-                };
-                let most = self.random.pick(&[5, 30, 30]);
+                let (count, most) = self.half();
                 set_of((0..count).map(|_| self.small(most)))
+            }
+            Want::Map => {
+                let (count, most) = self.half();
+                let entries = (0..count).map(|_| (self.small(most), self.small(4)));
+                Value::Map(entries.collect())
             }
             Want::Sequence => {
                 let count = self.random.below(5);
                 Value::Sequence((0..count).map(|_| self.small(4)).collect())
             }
         }
+    }
+
+    /// How many members or entries a half has, mostly one at least, and the greatest integer among them.
+    fn half(&mut self) -> (usize, i32) {
+        let count = match self.random.below(12) {
+            0 => 5 + self.random.below(5),
+            1 => 0,
+            _ => 1 + self.random.below(3),
+        };
+        (count, self.random.pick(&[5, 30, 30]))
     }
 
     fn small(&mut self, most: i32) -> Value {
@@ -219,18 +257,20 @@ impl Maker {
     /// A value with something in it replaced, left out or added, or of another kind.
     fn damaged(&mut self, value: &Value) -> Value {
         let mut items = items_of(value.clone());
-        let is_whole = items.is_empty() || matches!(value, Value::Map(_));
-        if is_whole || self.random.once_in(6) {
+        if items.is_empty() || self.random.once_in(6) {
             return self.any_value(2);
         }
         let at = self.random.below(items.len());
+        // An entry is a key and a value.
+        let width = if matches!(value, Value::Map(_)) { 2 } else { 1 };
+        let unit = at / width * width;
         match self.random.below(6) {
             0 => {
-                items.remove(at);
+                items.drain(unit..unit + width);
             }
             1 => {
-                let item = self.small(9);
-                items.insert(at, item);
+                let new: Vec<Value> = (0..width).map(|_| self.small(9)).collect();
+                items.splice(unit..unit, new);
             }
             2 => {
                 let other = self.random.below(items.len());
@@ -241,6 +281,7 @@ impl Maker {
         match value {
             Value::Tuple(_) if (2..=4).contains(&items.len()) => Value::Tuple(items),
             Value::Set(_) if !self.random.once_in(9) => set_of(items),
+            Value::Map(_) if !self.random.once_in(9) => map_of(&items),
             _ => Value::Sequence(items),
         }
     }
@@ -263,11 +304,18 @@ impl Maker {
     }
 }
 
-/// The members or items of a collection; any other value is its one item.
+/// The members or items of a collection, of a map its keys and values; any other value is its one item.
 fn items_of(value: Value) -> Vec<Value> {
     match value {
         Value::Set(members) => members.into_iter().collect(),
         Value::Sequence(items) | Value::Tuple(items) => items,
+        Value::Map(entries) => entries.into_iter().flat_map(<[Value; 2]>::from).collect(),
         other => vec![other],
     }
+}
+
+/// The map of keys and values; of one key the last value, and an item too many is left out.
+fn map_of(items: &[Value]) -> Value {
+    let entries = items.chunks_exact(2);
+    Value::Map(entries.map(|e| (e[0].clone(), e[1].clone())).collect())
 }

@@ -1,13 +1,13 @@
 //! Patterns as trees, and a notation for them and for values.
 //!
-//! `{a, -} union (b ^ [1])` is a pattern, with a to p for the names 0 to 15 and - for any value. What has
-//! no name, no union and no ^ also stands for a value. `{1,...,7}` is short for `{1,2,3,4,5,6,7}`.
+//! `{a, -} union (b ^ [1])` and `{a |-> 1} munion b` are patterns, with a to p for the names 0 to 15 and - for any
+//! value. What has no name, no union, no munion and no ^ also stands for a value. `{1,...,7}` is short for
+//! `{1,2,3,4,5,6,7}`; `{|->}` is the map without entries.
 
 use generator::builder::kind;
 use generator::Builder;
 use reference::matching::MAX_SPLIT;
 use reference::value::Value;
-use std::collections::BTreeSet;
 
 #[derive(Clone, Debug, PartialEq, Eq)]
 pub enum Pattern {
@@ -20,9 +20,23 @@ pub enum Pattern {
     Union(Box<[Pattern; 2]>),
     Sequence(Vec<Pattern>),
     Concatenation(Box<[Pattern; 2]>),
+    /// Key, value, key, value.
+    Map(Vec<Pattern>),
+    Munion(Box<[Pattern; 2]>),
 }
 
-use Pattern::{Any, Boolean, Concatenation, Integer, Name, Sequence, Set, Tuple, Union};
+use Pattern::{
+    Any, Boolean, Concatenation, Integer, Map, Munion, Name, Sequence, Set, Tuple, Union,
+};
+
+/// The kinds that may match in several ways, so that a let with one of them chooses.
+const LOOSE: [u16; 5] = [
+    kind::P_SET,
+    kind::P_UNION,
+    kind::P_CONCATENATION,
+    kind::P_MAP,
+    kind::P_MUNION,
+];
 
 /// Reads a pattern.
 pub fn pattern(text: &str) -> Pattern {
@@ -46,6 +60,10 @@ impl Pattern {
         Concatenation(Box::new([left, right]))
     }
 
+    pub fn munion(left: Pattern, right: Pattern) -> Pattern {
+        Munion(Box::new([left, right]))
+    }
+
     pub fn kind(&self) -> u16 {
         match self {
             Name(_) => kind::P_NAME,
@@ -57,14 +75,16 @@ impl Pattern {
             Union(_) => kind::P_UNION,
             Sequence(_) => kind::P_SEQUENCE,
             Concatenation(_) => kind::P_CONCATENATION,
+            Map(_) => kind::P_MAP,
+            Munion(_) => kind::P_MUNION,
         }
     }
 
     pub fn parts(&self) -> &[Pattern] {
         match self {
             Name(_) | Any | Boolean(_) | Integer(_) => &[],
-            Tuple(parts) | Set(parts) | Sequence(parts) => parts,
-            Union(halves) | Concatenation(halves) => &**halves,
+            Tuple(parts) | Set(parts) | Sequence(parts) | Map(parts) => parts,
+            Union(halves) | Concatenation(halves) | Munion(halves) => &**halves,
         }
     }
 
@@ -85,8 +105,7 @@ impl Pattern {
 
     /// Whether it may match in several ways, so that a let with it chooses.
     pub fn is_loose(&self) -> bool {
-        let loose = [kind::P_SET, kind::P_UNION, kind::P_CONCATENATION];
-        self.all().iter().any(|part| loose.contains(&part.kind()))
+        self.all().iter().any(|part| LOOSE.contains(&part.kind()))
     }
 
     /// Appends the records of the pattern and gives the number of the last.
@@ -101,10 +120,14 @@ impl Pattern {
         out.record(self.kind(), &constants, &parts)
     }
 
-    /// The value that a pattern without names, any, union and ^ stands for.
+    /// The value that a pattern without names, any, union, munion and ^ stands for.
     fn value(&self) -> Value {
         let parts = self.parts().iter().map(Pattern::value);
         match self {
+            Map(parts) => {
+                let entries = parts.chunks_exact(2);
+                Value::Map(entries.map(|e| (e[0].value(), e[1].value())).collect())
+            }
             Boolean(truth) => Value::Boolean(*truth),
             Integer(number) => Value::Integer(*number),
             Tuple(_) => Value::Tuple(parts.collect()),
@@ -141,11 +164,13 @@ impl Pattern {
     fn own_ways(&self, value: &Value) -> usize {
         match (self, value) {
             (Set(parts), Value::Set(members)) if parts.len() == members.len() => {
-                (1..=parts.len()).product()
+                (1..=members.len()).product()
             }
-            (Union(_), Value::Set(members)) if members.len() <= MAX_SPLIT => {
-                splits(members).count().max(1)
+            (Map(parts), Value::Map(entries)) if parts.len() == 2 * entries.len() => {
+                (1..=entries.len()).product()
             }
+            (Union(_), Value::Set(members)) => splits(members.len()).count().max(1),
+            (Munion(_), Value::Map(entries)) => splits(entries.len()).count().max(1),
             (Concatenation(_), Value::Sequence(items)) => items.len() + 1,
             _ => 1,
         }
@@ -162,8 +187,16 @@ impl Pattern {
             (Set(parts), Value::Set(members)) if parts.len() == members.len() => {
                 permutations(&members.iter().cloned().collect::<Vec<_>>())
             }
-            (Union(_), Value::Set(members)) if members.len() <= MAX_SPLIT => {
-                splits(members).map(|bits| halves(members, bits)).collect()
+            (Map(parts), Value::Map(entries)) if parts.len() == 2 * entries.len() => {
+                let entries = entries.iter().map(|(k, v)| [k.clone(), v.clone()]);
+                let orders = permutations(&entries.collect::<Vec<_>>());
+                orders.into_iter().map(|order| order.concat()).collect()
+            }
+            (Union(_), Value::Set(members)) => {
+                halves(members).map(|h| h.map(Value::Set).into()).collect()
+            }
+            (Munion(_), Value::Map(entries)) => {
+                halves(entries).map(|h| h.map(Value::Map).into()).collect()
             }
             (Concatenation(_), Value::Sequence(items)) => {
                 let half = |items: &[Value]| Value::Sequence(items.to_vec());
@@ -176,23 +209,28 @@ impl Pattern {
     }
 }
 
-/// The splits of a set, by the bits of the members in the left half: neither none of them nor all.
-fn splits(members: &BTreeSet<Value>) -> std::ops::Range<usize> {
-    1..(1 << members.len()) - 1
+/// The splits of so many members or entries, by the bits of those in the left half: neither none of them nor all. Too many
+/// are not split.
+fn splits(units: usize) -> std::ops::Range<usize> {
+    match units {
+        0..=MAX_SPLIT => 1..(1 << units) - 1,
+        _ => 0..0,
+    }
 }
 
-/// The members whose bits are set, and the others.
-fn halves(members: &BTreeSet<Value>, bits: usize) -> Vec<Value> {
-    let numbered = members.iter().cloned().enumerate();
-    let (left, right): (Vec<_>, Vec<_>) = numbered.partition(|(at, _)| bits >> at & 1 == 1);
-    let half = |members: Vec<(usize, Value)>| members.into_iter().map(|(_, member)| member);
-    vec![
-        Value::Set(half(left).collect()),
-        Value::Set(half(right).collect()),
-    ]
+/// The halves of a set or map in every split: the members or entries whose bits are set, and the others.
+fn halves<T: Clone, C: Clone + IntoIterator<Item = T> + FromIterator<T>>(
+    whole: &C,
+) -> impl Iterator<Item = [C; 2]> {
+    let units: Vec<T> = whole.clone().into_iter().collect();
+    splits(units.len()).map(move |bits| {
+        let numbered = units.iter().cloned().enumerate();
+        let (left, right): (Vec<_>, Vec<_>) = numbered.partition(|(at, _)| bits >> at & 1 == 1);
+        [left, right].map(|half| half.into_iter().map(|(_, unit)| unit).collect())
+    })
 }
 
-fn permutations(items: &[Value]) -> Vec<Vec<Value>> {
+fn permutations<T: Clone>(items: &[T]) -> Vec<Vec<T>> {
     let Some((first, rest)) = items.split_first() else {
         return vec![vec![]];
     };
@@ -228,6 +266,8 @@ impl Reader<'_> {
         let left = self.part();
         if self.skips("union") {
             Pattern::union(left, self.part())
+        } else if self.skips("munion") {
+            Pattern::munion(left, self.part())
         } else if self.skips("^") {
             Pattern::concatenation(left, self.part())
         } else {
@@ -242,12 +282,42 @@ impl Reader<'_> {
             pattern
         } else if self.skips("mk_(") {
             Tuple(self.list(")"))
+        } else if self.skips("{|->}") {
+            Map(vec![])
         } else if self.skips("{") {
-            Set(self.list("}"))
+            self.set_or_map()
         } else if self.skips("[") {
             Sequence(self.list("]"))
         } else {
             self.word()
+        }
+    }
+
+    /// The members of a set, or the entries of a map if the first has a value.
+    fn set_or_map(&mut self) -> Pattern {
+        let before = self.rest;
+        let is_map = !self.skips("}") && {
+            self.pattern();
+            self.skips("|->")
+        };
+        self.rest = before;
+        match is_map {
+            true => Map(self.entries()),
+            false => Set(self.list("}")),
+        }
+    }
+
+    /// Keys and values up to the end of a map.
+    fn entries(&mut self) -> Vec<Pattern> {
+        let mut parts = Vec::new();
+        loop {
+            parts.push(self.pattern());
+            self.expect("|->");
+            parts.push(self.pattern());
+            if self.skips("}") {
+                return parts;
+            }
+            self.expect(",");
         }
     }
 

@@ -2,12 +2,12 @@
 //! matches; then it may be damaged. Each sort of case is counted.
 
 use super::case::Case;
-use super::maker::Maker;
+use super::maker::{Collection, Maker};
 use super::*;
-use reference::answer::WIDE_UNION;
+use reference::answer::WIDE_SPLIT;
 use std::collections::{BTreeMap, BTreeSet};
 
-/// The most ways of a case times its bindings: all are gone over for each binding that is shown. Trees of unions have more of them.
+/// The most ways of a case times its bindings: all are gone over for each binding that is shown. Trees of unions and munions have more of them.
 const MOST_STEPS: usize = 2_000;
 const MOST_STEPS_OF_TREES: usize = 20_000;
 
@@ -44,7 +44,7 @@ impl Tally {
         case.compare();
         self.cases += 1;
         match &case.expected {
-            Err(WIDE_UNION) => self.wide += 1,
+            Err(WIDE_SPLIT) => self.wide += 1,
             Err(_) => self.many += 1,
             Ok(found) if found.is_empty() => self.unmatched += 1,
             Ok(found) => self.add_match(case, found.len()),
@@ -100,17 +100,17 @@ fn compare_random(seed: u64, cases: usize, once_damaged_in: usize) -> Tally {
     tally
 }
 
-/// Compares cases of random trees of unions over one of these numbers of names, one tree by itself or, once in so many times, two in a tuple.
-fn compare_trees(seed: u64, cases: usize, names: &[usize], once_two_in: usize) -> Tally {
+/// Compares cases of random trees of unions or munions over one of these numbers of names, one tree by itself or, once in so many times, two in a tuple.
+fn compare_trees(of: Collection, seed: u64, names: &[usize], once_two_in: usize) -> Tally {
     let mut maker = Maker::new(seed);
     let mut tally = Tally::default();
-    for _ in 0..cases {
+    for _ in 0..4000 {
         maker.names = maker.random.pick(names);
         let parts = 2 + maker.random.below(4);
-        let mut pattern = maker.tree_of_unions(parts);
+        let mut pattern = maker.tree(of, parts);
         if maker.random.once_in(once_two_in) {
             let parts = 2 + maker.random.below(2);
-            pattern = Pattern::Tuple(vec![pattern, maker.tree_of_unions(parts)]);
+            pattern = Pattern::Tuple(vec![pattern, maker.tree(of, parts)]);
         }
         let others = maker.random.pick(&BINDERS);
         let kind = maker.random.pick(&[kind::LET, others]);
@@ -134,7 +134,7 @@ fn values_made_from_the_pattern() {
     assert!(tally.wide > 50, "{tally:?}");
     assert!(tally.many > 0, "{tally:?}");
     assert!(tally.bindings > 5000, "{tally:?}");
-    tally.expect_kinds(BINDERS.into_iter().chain(32..=40), 80);
+    tally.expect_kinds(BINDERS.into_iter().chain(32..=42), 80);
 }
 
 #[test]
@@ -147,12 +147,12 @@ fn damaged_values() {
     assert!(tally.unmatched > 900, "{tally:?}");
     assert!(tally.wide > 40, "{tally:?}");
     assert!(tally.bindings > 4000, "{tally:?}");
-    tally.expect_kinds(BINDERS.into_iter().chain(32..=40), 60);
+    tally.expect_kinds(BINDERS.into_iter().chain(32..=42), 60);
 }
 
 #[test]
 fn trees_of_unions() {
-    let tally = compare_trees(503, 4000, &[3, 16, 16], 3);
+    let tally = compare_trees(Collection::Set, 503, &[3, 16, 16], 3);
     assert!(tally.matched > 500, "{tally:?}");
     assert!(tally.several > 400, "{tally:?}");
     assert!(tally.repeated > 40, "{tally:?}");
@@ -165,8 +165,29 @@ fn trees_of_unions() {
 
 #[test]
 fn two_trees_of_unions_with_the_same_names() {
-    let tally = compare_trees(504, 4000, &[2, 3, 4], 1);
+    let tally = compare_trees(Collection::Set, 504, &[2, 3, 4], 1);
     assert!(tally.matched > 150, "{tally:?}");
     assert!(tally.repeated > 80, "{tally:?}");
+    assert!(tally.unmatched > 500, "{tally:?}");
+}
+
+#[test]
+fn trees_of_munions() {
+    let tally = compare_trees(Collection::Map, 505, &[3, 16, 16], 3);
+    assert!(tally.matched > 400, "{tally:?}");
+    assert!(tally.several > 300, "{tally:?}");
+    assert!(tally.repeated > 100, "{tally:?}");
+    assert!(tally.unmatched > 500, "{tally:?}");
+    assert!(tally.wide > 200, "{tally:?}");
+    assert!(tally.many > 50, "{tally:?}");
+    assert!(tally.bindings > 6000, "{tally:?}");
+    tally.expect_kinds(BINDERS.into_iter(), 15);
+}
+
+#[test]
+fn two_trees_of_munions_with_the_same_names() {
+    let tally = compare_trees(Collection::Map, 506, &[2, 3, 4], 1);
+    assert!(tally.matched > 70, "{tally:?}");
+    assert!(tally.repeated > 50, "{tally:?}");
     assert!(tally.unmatched > 500, "{tally:?}");
 }

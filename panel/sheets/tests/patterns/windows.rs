@@ -41,6 +41,27 @@ fn one_name_that_fills_a_window() {
     assert_eq!(every(kind::LET, "a union -", &numbers(7)), WORDS - 2);
 }
 
+/// The same of a map of seven entries, and of others of two.
+#[test]
+fn one_name_that_takes_halves_of_maps() {
+    let seven = value("{1|->1,2|->2,3|->3,4|->4,5|->5,6|->6,7|->7}");
+    let maps = |others: &[&str]| {
+        let others = others.iter().map(|text| value(text));
+        set_of(others.chain([seven.clone()]))
+    };
+    for (others, bindings) in [
+        (&[][..], WORDS - 2),
+        (&["{7|->7,8|->8}"], WORDS - 1),
+        (&["{7|->8,8|->8}"], WORDS),
+        (&["{8|->8,9|->9}", "{7|->7,10|->0}"], WORDS + 1),
+    ] {
+        let found = every(kind::LET_BE, "a munion -", &maps(others));
+        assert_eq!(found, bindings, "{others:?}");
+    }
+    assert_eq!(every(kind::LET, "a munion -", &seven), WORDS - 2);
+    assert_eq!(every(kind::LET, "b munion a", &seven), WORDS - 2);
+}
+
 #[test]
 fn several_names_that_fill_a_window() {
     // A sequence of n items has n + 1 cuts; the names before it are the same in all.
@@ -114,6 +135,10 @@ fn names_against_the_order_of_the_pattern() {
         ("mk_(b union a, a union b)", "mk_({1,2,3},{1,2,3})", 6),
         ("mk_(b ^ a, a ^ b)", "mk_([1,2,3],[1,2,3])", 2),
         ("[d] ^ (c ^ (b ^ a))", "[1,2,3]", 6),
+        ("b munion a", "{1|->1,2|->2,3|->3}", 6),
+        ("c munion (b munion a)", "{1|->3,2|->2,3|->1,4|->0}", 36),
+        ("{d |-> c, b |-> a}", "{1|->2,2|->1}", 2),
+        ("{p |-> a} munion b", "{1|->3,2|->2,3|->1}", 3),
     ] {
         assert_eq!(every(kind::LET, text, &value(met)), bindings, "{text}");
     }
