@@ -1,4 +1,4 @@
--- The loop over the members for a set too large to split.
+-- The loop over the members for a set or map too large to split.
 use mathlib.Core.Path.{_≡_, refl, sym, ap, subst, _∙_}
 use mathlib.Core.Bool.{Bool, true, false, _||_, or-false, cond}
 use mathlib.Core.Logic.{inl}
@@ -23,7 +23,7 @@ use Rattle.bindings.proofs.Members.{first-of, none-left}
 abbrev pub TellsAt : List ℕ → ℕ → List ℕ → ℕ → Bool → Type 0
 TellsAt table p s at r = (v : Value) → PartIs s (record { how = 1; at = at; extent = 0 }) v → r ≡ wide (patternAt (records table) p) v
 
--- The members before a place have no set too large: the others tell.
+-- The members before a place have no set or map too large: the others tell.
 abbrev pub Passing : List ℕ → ℕ → List ℕ → ℕ → ℕ → ℕ → Type 0
 Passing table p s from to at =
     (vs : List Value) → ItemsAt s from to (itemsOf vs)

@@ -28,7 +28,7 @@ Bindable s at whole = (vs : List Value) × Values s at whole vs
 
 -- ---- number 29
 
--- r says whether one of the values has a set too large to split.
+-- r says whether one of the values has a set or map too large to split.
 abbrev pub TellsWideIn : List ℕ → ℕ → List ℕ → ℕ → ℕ → Bool → Type 0
 TellsWideIn table p s from to r = (vs : List Value) → ItemsAt s from to (itemsOf vs) → r ≡ exists vs (wide (patternAt (records table) p))
 

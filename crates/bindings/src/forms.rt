@@ -27,7 +27,7 @@ pub fn first_at(at: usize, whole: bool) -> usize
     at + 4
 }
 
-// Some member from a place up to another has a set too large to split.
+// Some member from a place up to another has a set or map too large to split.
 fn any_large(table: &[u8], index: &Index, p: usize, s: &[u8], from: usize, to: usize) -> bool
     requires { ⌜ Readable (now table) (now index) p ⌝ }
     requires { ⌜ HoldsItems (now s) from to × (length (now s) ≤ 65536) ⌝ }
@@ -55,7 +55,7 @@ fn any_large(table: &[u8], index: &Index, p: usize, s: &[u8], from: usize, to: u
     false
 }
 
-// A union pattern is met by a set of over seven members somewhere: number 29.
+// A union or munion pattern is met by a set or map of over seven members or entries somewhere: number 29.
 pub fn is_wide(table: &[u8], index: &Index, p: usize, s: &[u8], at: usize, whole: bool) -> bool
     requires { ⌜ Readable (now table) (now index) p ⌝ }
     requires { ⌜ Bindable (now s) at whole × (length (now s) ≤ 65536) ⌝ }

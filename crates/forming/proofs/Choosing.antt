@@ -8,7 +8,7 @@ use native.Mathlib.Decide.{ℕ-discrete}
 use native.Mathlib.Omega.{arith}
 use lib.ListN.{length, length-map}
 use borrow.Author.Tests.{ltb-false}
-use Rattle.values.specs.Value.{Kind, number, Value, collection, kindOf}
+use Rattle.values.specs.Value.{Kind, number, collection, kindOf}
 use Rattle.values.specs.Place.{At}
 use Rattle.parts.specs.declared.Part.{Part}
 use Rattle.parts.specs.Part.{PartIs}

@@ -17,7 +17,6 @@ use Rattle.values.specs.Value.{Kind, set, sequence, map as mapping, tuple, numb
 use Rattle.values.proofs.Order.{number-low, number-inj}
 use Rattle.values.proofs.Encoding.{collection-size, count-sizes}
 use Rattle.values.proofs.Records.{collection-shaped}
-use Rattle.tables.specs.Record.{isComposed}
 use Rattle.parts.specs.declared.Part.{Part}
 use Rattle.parts.specs.Part.{PartIs, PartHeld}
 use Rattle.parts.specs.Contract.{KindOfPart, CollectionHeld, CountOfPart}
@@ -236,6 +235,6 @@ module _ (c n : ℕ) (s : List ℕ) (p : Part) (k : ℕ) (kind : KindOfPart s p 
             ap length (a .0 ∙ pick-true (map (itemsIn (collectionOf c)) (orders us)) fit) ∙ length-map (orders us) (itemsIn (collectionOf c)) ∙ orders-length us ∙ ap factorial (sym (are v h)) ∙ sym (o .0) in
             (a .1, len, o .1, o .2)
 
--- two units or more have a mask above 2, and as many ways as it says, but one
+-- two units or more have a mask above 2
 pub full-splits : (units m : ℕ) → 2 ≤ units → Full units m → 2 < m
 full-splits units m l full = omega (arith, full .power, pow-mono {i = 2} {j = units} l)

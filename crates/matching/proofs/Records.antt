@@ -1,7 +1,7 @@
 -- The records of patterns: what their kind says of their parts, and how many values a meeting has.
 use mathlib.Core.Path.{_≡_, refl, sym, ap, subst, _∙_}
 use mathlib.Core.Bool.{Bool, true, false, _||_, cond}
-use mathlib.Core.Option.{Option, none as absent, some}
+use mathlib.Core.Option.{Option, some}
 use mathlib.Core.List.{List, [], _∷_, map}
 use Prim.Native.Nat.{ℕ, zero, suc, _*_, _≤_, _<_}
 use native.Mathlib.Decide.{ℕ-discrete}
@@ -9,7 +9,7 @@ use native.Mathlib.Omega.{arith}
 use lib.Dec.{eqb, leb}
 use lib.ListN.{length, getD, length-map}
 use borrow.Author.Tests.{leb-true, eqb-true, eqb-false}
-use Rattle.values.specs.Value.{Kind, set, sequence, map as mapping, tuple, number, Value, kindOf, WellFormed}
+use Rattle.values.specs.Value.{Kind, number, Value, kindOf, WellFormed}
 use Rattle.tables.specs.Laws.Kinds.{by-composed, by-leaf}
 use Rattle.tables.specs.Record.{Record, isComposed, named, operand, nameOf, shape, headOf, size, isKnown}
 use Rattle.tables.specs.Table.{recordAt, kindAt}

@@ -1,6 +1,6 @@
 -- Where a pattern holds union and munion patterns.
 use mathlib.Core.Bool.{Bool, true, false, not, _&&_, _||_, cond}
-use Rattle.patterns.specs.Pattern.{Pattern, name, any, literal, each, halved, Patterns, nil, cons, parts, isUnordered}
+use Rattle.patterns.specs.Pattern.{Pattern, name, any, literal, each, halved, Patterns, nil, cons, isUnordered}
 
 -- The pattern holds a union or munion pattern, at any depth.
 unfoldable mutual

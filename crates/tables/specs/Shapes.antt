@@ -3,7 +3,6 @@ use mathlib.Core.Bool.{Bool, true, false, _&&_, _||_, cond}
 use mathlib.Core.List.{List, [], _∷_}
 use Prim.Native.Nat.{ℕ, zero, suc, _+_}
 use lib.Dec.{eqb, leb}
-use lib.ListN.{getD}
 use Rattle.tables.specs.declared.Role.{Role}
 use Rattle.tables.specs.declared.Role.the-variants.{Plain, Condition, Body, Pattern, Name}
 use Rattle.tables.specs.Record.{Head, nothing, boolean, integer, name, unary, binary, unknown, shape, size}

@@ -1,5 +1,5 @@
 -- Patterns that cannot be met by a set or map too large to split.
-use mathlib.Core.Path.{_≡_, refl, sym, ap, _∙_}
+use mathlib.Core.Path.{_≡_, refl}
 use mathlib.Core.Bool.{Bool, true, false, not, _&&_, _||_}
 use mathlib.Core.Logic.{inl, inr}
 use mathlib.Core.Option.{Option, none as absent, some}
@@ -18,7 +18,7 @@ use Rattle.patterns.specs.Ways.{Halves, exists}
 use Rattle.patterns.specs.Relation.{Divided}
 use Rattle.patterns.specs.Laws.Collected.{units-items, divided-units}
 use Rattle.patterns.specs.Laws.Named.{shared-left, shared-right, part-length}
-use Rattle.patterns.specs.Laws.Matched.{list-items, contents-of, in-split}
+use Rattle.patterns.specs.Laws.Matched.{contents-of, in-split}
 use Rattle.patterns.specs.Pattern.{Pattern, name, any, literal, each, halved, Patterns, nil, cons, parts, itemsOf, contents, UnitOf, unitsOf, itemsIn, met, split, leftOf, rightOf, isUnordered, wide, wideEach, mostSplit, isTooLarge}
 use Rattle.splitting.specs.Split.{shallow, hasSplit, someSplit}
 
@@ -63,10 +63,10 @@ abbrev pub Fits : Value → Type 0
 Fits v = (k : Kind) → isTooLarge k (contents k v) ≡ false
 
 few-fit : (k : Kind) → isUnordered k ≡ true → (us : List (UnitOf k)) → length us ≤ mostSplit → Fits (collection k (itemsOf (itemsIn k us)))
-few-fit k u us h l = by-test (eqb (number l) (number k)) (λ e. own (number-inj l k (eqb-true (number l) (number k) e)) e) (λ e. rw e)
+few-fit k u us h l = by-test (eqb (number l) (number k)) (λ e. own (number-inj l k (eqb-true (number l) (number k) e))) (λ e. rw e)
   where
-    own : l ≡ k → eqb (number l) (number k) ≡ true → isTooLarge l (contents l (collection k (itemsOf (itemsIn k us)))) ≡ false
-    own d e = rw (d, contents-of k (itemsIn k us), u, units-items k us) (le-ltb mostSplit (length us) h)
+    own : l ≡ k → isTooLarge l (contents l (collection k (itemsOf (itemsIn k us)))) ≡ false
+    own d = rw (d, contents-of k (itemsIn k us), u, units-items k us) (le-ltb mostSplit (length us) h)
 
 fit-few : (k : Kind) → isUnordered k ≡ true → (v : Value) (vs : List Value) → v ≡ collection k (itemsOf vs) → isTooLarge k (contents k v) ≡ false → length (unitsOf k vs) ≤ mostSplit
 fit-few k u v vs e n = ltb-false mostSplit (length (unitsOf k vs)) (rw (e, contents-of k vs, u) at n)
