@@ -81,37 +81,22 @@ fn a_key_goes_with_its_value() {
 
 #[test]
 fn munions_split_the_entries_in_every_way() {
-    let sheet = let_(
-        p_munion(p_name(0), p_name(1)),
-        of(&[1, 2, 3, 4, 5, 6]),
-        names(2),
-    );
-    let print = "table 14
-0 =mk_({1|->2},{3|->4,5|->6})
-1 =mk_({1|->2,3|->4},{5|->6})
-2 =mk_({1|->2,5|->6},{3|->4})
-3 =mk_({3|->4},{1|->2,5|->6})
-4 =mk_({3|->4,5|->6},{1|->2})
-5 =mk_({5|->6},{1|->2,3|->4})
-end 6
-";
-    assert_eq!(walk_print(&sheet.table()), print);
-    // 2^n − 2 of them, so none of no entry and of one.
-    for (count, splits) in [0, 0, 2, 6, 14, 30, 62, 126].into_iter().enumerate() {
-        let due = match splits {
-            0 => (23, 0),
-            _ => (32, splits),
-        };
-        for pattern in [
-            p_munion(p_name(0), p_name(1)),
-            p_munion(p_name(0), p_any()),
+    assert_eq!(
+        lines(
             p_munion(p_any(), p_name(0)),
-        ] {
-            let sheet = let_(pattern, entries(1, count as i32), int(5));
-            let (number, _, bindings) = sheet.answer(&[]);
-            assert_eq!((number, bindings), due, "{count}");
-        }
-    }
+            of(&[1, 2, 3, 4, 5, 6]),
+            name(0)
+        ),
+        [
+            "0 ={1|->2}",
+            "1 ={1|->2,3|->4}",
+            "2 ={1|->2,5|->6}",
+            "3 ={3|->4}",
+            "4 ={3|->4,5|->6}",
+            "5 ={5|->6}",
+            "end 6"
+        ]
+    );
     assert_eq!(
         lines(p_munion(p_name(0), p_any()), of(&[1, 2]), name(0)),
         NO_MATCH
@@ -255,16 +240,10 @@ fn a_let_with_either_is_a_choice_and_others_bind_over_members() {
 /// Distinct bindings are counted, and 255 of them are not too many.
 #[test]
 fn bindings_of_maps() {
-    let three = |one, other, another| p_munion(one, p_munion(other, another));
     let count = |pattern: Node, to: i32| {
         let (number, _, bindings) = let_(pattern, entries(1, to), int(1)).answer(&[]);
         (number, bindings)
     };
-    // 3^n − 3 × 2^n + 3 ways.
-    assert_eq!(count(three(p_name(0), p_name(1), p_name(2)), 5), (32, 150));
-    assert_eq!(count(three(p_name(0), p_name(1), p_name(2)), 6), (30, 0));
-    assert_eq!(count(three(p_name(0), p_any(), p_any()), 7), (32, 119));
-    assert_eq!(count(three(p_any(), p_any(), p_any()), 7), (32, 1));
     let four = || p_map(&(0..8).map(p_name).collect::<Vec<_>>());
     assert_eq!(count(four(), 4), (32, 24));
     assert_eq!(count(p_map(&vec![p_any(); 8]), 4), (32, 1));

@@ -23,23 +23,23 @@ fn one_of_each() -> Vec<Value> {
     values
 }
 
-// ---- union
+// ---- union, and munion over maps
 
 /// A set of n members has 2^n − 2 splits, and one of 0 or 1 members none.
 #[test]
 fn splits_of_up_to_seven_members() {
     for (members, splits) in [0, 0, 2, 6, 14, 30, 62, 126].into_iter().enumerate() {
         let set = numbers(members as i32);
-        assert_eq!(count("a union b", &set), Ok(splits));
-        assert_eq!(count("a union -", &set), Ok(splits));
-        assert_eq!(count("- union a", &set), Ok(splits));
-        assert_eq!(count("- union -", &set), Ok(splits.min(1)));
+        assert_eq!(both("a union b", &set), Ok(splits));
+        assert_eq!(both("a union -", &set), Ok(splits));
+        assert_eq!(both("- union a", &set), Ok(splits));
+        assert_eq!(both("- union -", &set), Ok(splits.min(1)));
         let of_one = if splits == 0 { 0 } else { members };
-        assert_eq!(count("{a} union b", &set), Ok(of_one));
-        assert_eq!(count("a union {b}", &set), Ok(of_one));
+        assert_eq!(both("{a} union b", &set), Ok(of_one));
+        assert_eq!(both("a union {b}", &set), Ok(of_one));
         // The same over the members of a set, where a set without a split is passed over.
         let sets = set_of([set.clone(), numbers(0), set_of([value("9")])]);
-        assert_eq!(count_over("a union b", &sets), Ok(splits));
+        assert_eq!(both_over("a union b", &sets), Ok(splits));
     }
 }
 
@@ -66,6 +66,14 @@ fn splits_in_order() {
                 "{3} {1,2}",
             ],
         ),
+    ] {
+        assert_eq!(shown(text, with), expected, "{text} and {with}");
+    }
+}
+
+#[test]
+fn splits_of_splits_in_order() {
+    for (text, with, expected) in [
         (
             "a union (b union c)",
             "{1,2,3}",
@@ -76,7 +84,7 @@ fn splits_in_order() {
                 "{2} {3} {1}",
                 "{3} {1} {2}",
                 "{3} {2} {1}",
-            ],
+            ][..],
         ),
         (
             "{a union b} union c",
@@ -84,12 +92,7 @@ fn splits_in_order() {
             &["{2} {3} {1}", "{3} {2} {1}"],
         ),
     ] {
-        let found = matched(text, &value(with)).expect("bindings");
-        let shown = found.iter().map(|binding| {
-            let values: Vec<String> = binding.values().map(Value::to_string).collect();
-            values.join(" ")
-        });
-        assert_eq!(shown.collect::<Vec<_>>(), expected, "{text} and {with}");
+        assert_eq!(shown(text, with), expected, "{text} and {with}");
     }
 }
 
@@ -107,11 +110,14 @@ fn eight_members_are_too_many_whatever_the_halves() {
         "a union (b union c)",
         "[] union mk_(a,b)",
     ] {
-        assert_eq!(count(text, &numbers(8)), Err(29), "{text}");
+        for members in [8, 9, 31] {
+            let set = numbers(members);
+            assert_eq!(both(text, &set), Err(29), "{text}");
+            assert_eq!(both_over(text, &set_of([set])), Err(29), "{text}");
+        }
         assert_eq!(count(text, &numbers(63)), Err(29), "{text}");
-        assert_eq!(count_over(text, &set_of([numbers(8)])), Err(29), "{text}");
         // A sequence is no set, whatever its items.
-        assert_eq!(count(text, &items(8)), Ok(0), "{text}");
+        assert_eq!(both(text, &items(8)), Ok(0), "{text}");
     }
 }
 
@@ -131,12 +137,12 @@ fn halves_that_no_split_gives() {
             "{a} union ({} union b)",
             "(a union -) union (- union a)",
         ] {
-            assert_eq!(count(text, &numbers(members)), Ok(0), "{text} {members}");
+            assert_eq!(both(text, &numbers(members)), Ok(0), "{text} {members}");
         }
     }
     // Two members of three and the third.
     for (members, ways) in [(0, 0), (1, 0), (2, 0), (3, 6), (4, 12)] {
-        assert_eq!(count("{a,b} union c", &numbers(members)), Ok(ways));
+        assert_eq!(both("{a,b} union c", &numbers(members)), Ok(ways));
     }
 }
 
@@ -145,10 +151,10 @@ fn unions_in_unions() {
     // Every leaf takes a member at least: 3^n − 3 × 2^n + 3 ways for three of them.
     for (members, ways) in [0, 0, 0, 6, 36, 150].into_iter().enumerate() {
         let set = numbers(members as i32);
-        assert_eq!(count("a union (b union c)", &set), Ok(ways));
-        assert_eq!(count("(a union b) union c", &set), Ok(ways));
+        assert_eq!(both("a union (b union c)", &set), Ok(ways));
+        assert_eq!(both("(a union b) union c", &set), Ok(ways));
         assert_eq!(
-            count("(- union b) union -", &set).map(|n| n > 0),
+            both("(- union b) union -", &set).map(|n| n > 0),
             Ok(ways > 0)
         );
         let rest = if ways == 0 {
@@ -156,15 +162,19 @@ fn unions_in_unions() {
         } else {
             members * (members - 1)
         };
-        assert_eq!(count("{a} union ({b} union c)", &set), Ok(rest));
+        assert_eq!(both("{a} union ({b} union c)", &set), Ok(rest));
     }
-    assert_eq!(count("a union (b union c)", &numbers(6)), Err(30));
+    assert_eq!(both("a union (b union c)", &numbers(6)), Err(30));
     // Four leaves: 4! and 4^5 − 4 × 3^5 + 6 × 2^5 − 4.
     for (members, ways) in [(2, 0), (3, 0), (4, 24), (5, 240)] {
-        let found = count("(a union b) union (c union d)", &numbers(members));
+        let found = both("(a union b) union (c union d)", &numbers(members));
         assert_eq!(found, Ok(ways), "{members}");
     }
-    // A name beside wildcards takes up to as many members as they leave.
+}
+
+/// A name beside wildcards takes up to as many members as they leave.
+#[test]
+fn unions_of_wildcards_and_of_members() {
     for (text, bindings) in [
         ("a union (- union -)", 119),
         ("(- union -) union (a union -)", 98),
@@ -178,14 +188,14 @@ fn unions_in_unions() {
             0,
         ),
     ] {
-        assert_eq!(count(text, &numbers(7)), Ok(bindings), "{text}");
+        assert_eq!(both(text, &numbers(7)), Ok(bindings), "{text}");
     }
     let set = numbers(3);
-    assert_eq!(count("{a,b} union {c}", &set), Ok(6));
-    assert_eq!(count("{a} union ({b} union {c})", &set), Ok(6));
-    assert_eq!(count("({a} union {b}) union {c}", &set), Ok(6));
-    assert_eq!(count("{1} union ({a} union {3})", &set), Ok(1));
-    assert_eq!(count("{4} union a", &set), Ok(0));
+    assert_eq!(both("{a,b} union {c}", &set), Ok(6));
+    assert_eq!(both("{a} union ({b} union {c})", &set), Ok(6));
+    assert_eq!(both("({a} union {b}) union {c}", &set), Ok(6));
+    assert_eq!(both("{1} union ({a} union {3})", &set), Ok(1));
+    assert_eq!(both("{4} union a", &set), Ok(0));
 }
 
 #[test]
@@ -205,16 +215,16 @@ fn unions_under_other_patterns() {
         ("[a union b] ^ c", |v| Value::Sequence(vec![v, value("0")])),
         ("c ^ [a union b]", |v| Value::Sequence(vec![value("0"), v])),
     ] {
-        assert_eq!(count(text, &with(numbers(7))), Ok(126), "{text}");
-        assert_eq!(count(text, &with(numbers(8))), Err(29), "{text}");
-        assert_eq!(count(text, &with(items(8))), Ok(0), "{text}");
+        assert_eq!(both(text, &with(numbers(7))), Ok(126), "{text}");
+        assert_eq!(both(text, &with(numbers(8))), Err(29), "{text}");
+        assert_eq!(both(text, &with(items(8))), Ok(0), "{text}");
         // 2 + 6 and none.
         let members = set_of([with(numbers(2)), with(numbers(3)), with(value("1"))]);
-        assert_eq!(count_over(text, &members), Ok(8), "{text}");
+        assert_eq!(both_over(text, &members), Ok(8), "{text}");
         let members = set_of([with(numbers(0)), with(numbers(1)), with(numbers(2))]);
-        assert_eq!(count_over(text, &members), Ok(2), "{text}");
+        assert_eq!(both_over(text, &members), Ok(2), "{text}");
         let members = set_of([with(numbers(2)), with(numbers(9))]);
-        assert_eq!(count_over(text, &members), Err(29), "{text}");
+        assert_eq!(both_over(text, &members), Err(29), "{text}");
     }
 }
 
@@ -239,7 +249,7 @@ fn a_set_too_large_beside_a_part_that_does_not_match() {
         ("({a union b} union -) union -", "{1,2,{1,...,8}}"),
         ("{} union ({a union b} union {})", "{1,2,{1,...,8}}"),
     ] {
-        assert_eq!(count(text, &value(with)), Err(29), "{text} and {with}");
+        assert_eq!(both(text, &value(with)), Err(29), "{text} and {with}");
     }
     // Among members of which another matches, and after one that has no match.
     for (text, with) in [
@@ -248,7 +258,7 @@ fn a_set_too_large_beside_a_part_that_does_not_match() {
         ("mk_(2, a union b)", "{mk_(1,{1,...,8}),mk_(2,{1,2})}"),
         ("a union b", "{{},{1},{1,...,8}}"),
     ] {
-        assert_eq!(count_over(text, &value(with)), Err(29), "{text} and {with}");
+        assert_eq!(both_over(text, &value(with)), Err(29), "{text} and {with}");
     }
 }
 
@@ -271,36 +281,40 @@ fn a_set_too_large_that_no_part_meets() {
         ("[] ^ c", "[{1,...,8},1,1]", 1),
         ("a", "{1,...,8}", 1),
     ] {
-        assert_eq!(count(text, &value(with)), Ok(bindings), "{text} and {with}");
+        assert_eq!(both(text, &value(with)), Ok(bindings), "{text} and {with}");
     }
     let entries = Value::Map([(numbers(8), numbers(8))].into());
     assert_eq!(count("a union b", &entries), Ok(0));
     assert_eq!(count("{a union b}", &set_of([entries])), Ok(0));
 }
 
-// ---- set enumeration
+// ---- set enumeration, and map enumeration
 
 #[test]
 fn parts_pair_up_with_members_one_to_one() {
-    for (parts, text) in ["{}", "{a}", "{a,b}", "{a,b,c}", "{d,c,b,a}"]
-        .iter()
-        .enumerate()
+    for (parts, [text, of_entries]) in [
+        ["{}", "{|->}"],
+        ["{a}", "{a |-> b}"],
+        ["{a,b}", "{a |-> b, c |-> d}"],
+        ["{a,b,c}", "{a |-> b, c |-> d, e |-> f}"],
+        ["{d,c,b,a}", "{h |-> g, f |-> e, d |-> c, b |-> a}"],
+    ]
+    .into_iter()
+    .enumerate()
     {
+        let ways = |members: i32| match members as usize == parts {
+            true => factorial(parts),
+            false => 0,
+        };
         for members in 0..=5 {
-            let ways = if members == parts {
-                factorial(parts)
-            } else {
-                0
-            };
-            let members = members as i32;
-            assert_eq!(count(text, &numbers(members)), Ok(ways), "{text} {members}");
+            let found = both(text, &numbers(members));
+            assert_eq!(found, Ok(ways(members)), "{text} {members}");
             let sets = set_of([numbers(members), numbers(members + 1), items(4)]);
-            let next = if members as usize + 1 == parts {
-                factorial(parts)
-            } else {
-                0
-            };
-            assert_eq!(count_over(text, &sets), Ok(ways + next), "{text} {members}");
+            let all = ways(members) + ways(members + 1);
+            assert_eq!(both_over(text, &sets), Ok(all), "{text} {members}");
+            // A name for each value goes with that of its key.
+            let found = count(of_entries, &entries(members));
+            assert_eq!(found, Ok(ways(members)), "{of_entries} {members}");
         }
     }
 }
@@ -321,26 +335,26 @@ fn pairings_with_one_binding_count_once() {
         ("{true,a,b,c}", 0),
         ("{{},a,b,c}", 0),
     ] {
-        assert_eq!(count(text, &set), Ok(bindings), "{text}");
+        assert_eq!(both(text, &set), Ok(bindings), "{text}");
     }
     let members = value("{{1,2},{1,3},{2,3},{3}}");
-    assert_eq!(count_over("{a,-}", &members), Ok(3));
-    assert_eq!(count_over("{a,b}", &members), Ok(6));
-    assert_eq!(count_over("{1,a}", &members), Ok(2));
-    assert_eq!(count_over("{-,-}", &members), Ok(1));
-    assert_eq!(count_over("a union -", &members), Ok(3));
+    assert_eq!(both_over("{a,-}", &members), Ok(3));
+    assert_eq!(both_over("{a,b}", &members), Ok(6));
+    assert_eq!(both_over("{1,a}", &members), Ok(2));
+    assert_eq!(both_over("{-,-}", &members), Ok(1));
+    assert_eq!(both_over("a union -", &members), Ok(3));
 }
 
 #[test]
 fn sets_in_sets() {
     let set = value("{{1,2},{3,4}}");
-    assert_eq!(count("{{a,b},{c,d}}", &set), Ok(8));
-    assert_eq!(count("{{a,b},c}", &set), Ok(4));
-    assert_eq!(count("{{a,-},{1,-}}", &set), Ok(2));
-    assert_eq!(count("{a union b,c union d}", &set), Ok(8));
-    assert_eq!(count("{a union {1},b}", &set), Ok(1));
-    assert_eq!(count("{{a,1},{a,b}}", &set), Ok(0));
-    assert_eq!(count("{{a,1},{a,b}}", &value("{{1,2},{2,4}}")), Ok(1));
+    assert_eq!(both("{{a,b},{c,d}}", &set), Ok(8));
+    assert_eq!(both("{{a,b},c}", &set), Ok(4));
+    assert_eq!(both("{{a,-},{1,-}}", &set), Ok(2));
+    assert_eq!(both("{a union b,c union d}", &set), Ok(8));
+    assert_eq!(both("{a union {1},b}", &set), Ok(1));
+    assert_eq!(both("{{a,1},{a,b}}", &set), Ok(0));
+    assert_eq!(both("{{a,1},{a,b}}", &value("{{1,2},{2,4}}")), Ok(1));
 }
 
 // ---- sequences
@@ -426,10 +440,10 @@ fn names_that_stand_twice_get_equal_values() {
         ("mk_(a ^ b, b ^ a)", "mk_([1,1],[1,1])", 3),
         ("mk_({a} union b, [a] ^ c)", "mk_({1,2,3},[2,9])", 1),
     ] {
-        assert_eq!(count(text, &value(with)), Ok(bindings), "{text} and {with}");
+        assert_eq!(both(text, &value(with)), Ok(bindings), "{text} and {with}");
     }
     let members = value("{mk_(1,1),mk_(1,2),mk_(2,2),mk_({},{}),mk_({},[])}");
-    assert_eq!(count_over("mk_(a,a)", &members), Ok(3));
+    assert_eq!(both_over("mk_(a,a)", &members), Ok(3));
 }
 
 #[test]
@@ -658,8 +672,7 @@ fn deep_patterns() {
         let pattern = (0..unions).fold(Pattern::Name(1), |part, _| {
             Pattern::union(part, Pattern::Any)
         });
-        let found = compare(kind::LET, &pattern, &numbers(members));
-        assert_eq!(found.map(|f| f.len()), Ok(bindings));
+        assert_eq!(both_of(&pattern, &numbers(members)), Ok(bindings));
     }
     // {{{b} union -} union -} union - over {1,{1,{1,5}}}, and a set less.
     let unions = (0..15).fold(Pattern::Name(1), |part, _| {
@@ -667,8 +680,7 @@ fn deep_patterns() {
     });
     for (sets, bindings) in [(15, 2), (14, 0)] {
         let value = (0..sets).fold(value("5"), |member, _| set_of([value("1"), member]));
-        let found = compare(kind::LET, &unions, &value);
-        assert_eq!(found.map(|f| f.len()), Ok(bindings));
+        assert_eq!(both_of(&unions, &value), Ok(bindings));
     }
 }
 

@@ -83,14 +83,16 @@ fn splits_of_two() {
         (3, 6, Err(30)),
         (4, 5, Err(30)),
         (7, 3, Err(30)),
+        (8, 1, Err(29)),
+        (7, 8, Err(29)),
     ] {
         let value = pair(numbers(left), numbers(right));
-        assert_eq!(count(text, &value), bindings, "{left} and {right}");
+        assert_eq!(both(text, &value), bindings, "{left} and {right}");
     }
     // n members have n splits whose first half is one of them: 5 × 51 and 4 × 64.
     for text in ["mk_({a} union b, c ^ d)", "mk_(b union {a}, c ^ -)"] {
-        assert_eq!(count(text, &pair(numbers(5), items(50))), Ok(255));
-        assert_eq!(count(text, &pair(numbers(4), items(63))), Err(30));
+        assert_eq!(both(text, &pair(numbers(5), items(50))), Ok(255));
+        assert_eq!(both(text, &pair(numbers(4), items(63))), Err(30));
     }
 }
 

@@ -5,6 +5,7 @@
 #[path = "../common/mod.rs"]
 mod common;
 
+mod both;
 mod case;
 mod examples;
 mod limits;
@@ -14,6 +15,7 @@ mod pattern;
 mod random;
 mod windows;
 
+use both::{both, both_of, both_over, maps};
 use case::{compare, OF_NAMES, OVER_SETS};
 use generator::builder::kind;
 use pattern::{pattern, value, Pattern};
@@ -28,8 +30,12 @@ fn matched(text: &str, value: &Value) -> Tried<Vec<Binding>> {
 
 /// The bindings of a pattern over the members of a set, the same for every binder that takes any pattern.
 fn over(text: &str, set: &Value) -> Tried<Vec<Binding>> {
+    over_members(&pattern(text), set)
+}
+
+fn over_members(pattern: &Pattern, set: &Value) -> Tried<Vec<Binding>> {
     let [first, others @ ..] = OVER_SETS;
-    let tried = |kind| compare(kind, &pattern(text), set);
+    let tried = |kind| compare(kind, pattern, set);
     let found = tried(first);
     for kind in others {
         assert_eq!(tried(kind), found, "kind {kind}");
@@ -47,9 +53,24 @@ fn count_over(text: &str, set: &Value) -> Tried<usize> {
     over(text, set).map(|found| found.len())
 }
 
+/// The bindings of a let in their order, each with its values in rising name number.
+fn shown(text: &str, with: &str) -> Vec<String> {
+    let found = matched(text, &value(with)).expect("bindings");
+    let shown = found.iter().map(|binding| {
+        let values: Vec<String> = binding.values().map(Value::to_string).collect();
+        values.join(" ")
+    });
+    shown.collect()
+}
+
 /// The set of the integers from 1.
 fn numbers(count: i32) -> Value {
     set_of((1..=count).map(Value::Integer))
+}
+
+/// {1|->11,2|->12,...}, of so many entries.
+fn entries(count: i32) -> Value {
+    maps(&numbers(count))
 }
 
 /// So many empty sets in a sequence: 4 bytes for each, and 4 for the sequence.

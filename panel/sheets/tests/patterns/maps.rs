@@ -1,4 +1,4 @@
-//! Patterns over maps: entries that are paired and split, and prints of whole sheets with them.
+//! What maps have of their own: keys with their values, and prints of whole sheets.
 
 use super::case::run;
 use super::*;
@@ -6,12 +6,6 @@ use crate::common::print_by_services;
 use crate::common::written::write;
 use generator::builder::{binary, unary};
 use generator::Builder;
-
-/// {1|->11,2|->12,...}, of so many entries.
-fn entries(count: i32) -> Value {
-    let entry = |n| (Value::Integer(n), Value::Integer(n + 10));
-    Value::Map((1..=count).map(entry).collect())
-}
 
 /// So many pairs {1|->11,...} as a set of tuples, which is no map.
 fn tuples(count: i32) -> Value {
@@ -165,31 +159,27 @@ fn lets_in_conditions() {
 
 // ---- munion
 
-/// n entries have 2^n − 2 splits, and 0 or 1 entries none.
+/// Of n entries each is a half in n ways, taken by its key, its value or both.
 #[test]
-fn splits_of_up_to_seven_entries() {
-    for (units, splits) in [0, 0, 2, 6, 14, 30, 62, 126].into_iter().enumerate() {
-        let map = entries(units as i32);
-        assert_eq!(count("a munion b", &map), Ok(splits));
-        assert_eq!(count("a munion -", &map), Ok(splits));
-        assert_eq!(count("- munion a", &map), Ok(splits));
-        assert_eq!(count("- munion -", &map), Ok(splits.min(1)));
-        let of_one = if splits == 0 { 0 } else { units };
+fn an_entry_and_the_others() {
+    for (units, ways) in [0, 0, 2, 3, 4, 5, 6, 7].into_iter().enumerate() {
         for text in [
             "{a |-> b} munion c",
             "a munion {b |-> c}",
             "{a |-> -} munion -",
             "{- |-> a} munion -",
         ] {
-            assert_eq!(count(text, &map), Ok(of_one), "{text}");
+            assert_eq!(count(text, &entries(units as i32)), Ok(ways), "{text}");
         }
-        // The same over the members of a set, where a map without a split is passed over.
-        let maps = set_of([map.clone(), entries(0), value("{9|->9}")]);
-        assert_eq!(count_over("a munion b", &maps), Ok(splits));
-        // A set of as many tuples is no map, and a map no set.
-        assert_eq!(count("a munion b", &tuples(units as i32)), Ok(0));
-        assert_eq!(count("a union b", &map), Ok(0));
     }
+    let map = entries(3);
+    assert_eq!(
+        count("{a |-> d} munion ({b |-> e} munion {c |-> f})", &map),
+        Ok(6)
+    );
+    assert_eq!(count("{1 |-> 12} munion a", &map), Ok(0));
+    assert_eq!(count("{2 |-> 12} munion a", &map), Ok(1));
+    assert_eq!(count("{- |-> 12} munion a", &map), Ok(1));
 }
 
 /// The bindings in their order, each with its values in rising name number.
@@ -226,151 +216,54 @@ fn entries_in_order() {
             &["{2|->2} {3|->3} {1|->1}", "{3|->3} {2|->2} {1|->1}"],
         ),
     ] {
-        let found = matched(text, &value(with)).expect("bindings");
-        let shown = found.iter().map(|binding| {
-            let values: Vec<String> = binding.values().map(Value::to_string).collect();
-            values.join(" ")
-        });
-        assert_eq!(shown.collect::<Vec<_>>(), expected, "{text} and {with}");
+        assert_eq!(shown(text, with), expected, "{text} and {with}");
     }
 }
 
+/// Entries are counted, not keys and values; no half of a map is a set.
 #[test]
-fn eight_entries_are_too_many_whatever_the_halves() {
-    for text in [
-        "a munion b",
-        "- munion -",
-        "a munion a",
-        "1 munion true",
-        "{a |-> b} munion c",
-        "{|->} munion {|->}",
-        "{} munion a",
-        "a munion (b munion c)",
-        "[] munion mk_(a,b)",
-    ] {
-        for units in [8, 9, 31] {
-            assert_eq!(count(text, &entries(units)), Err(29), "{text}");
-            let maps = set_of([entries(units)]);
-            if maps.size() <= Value::MAX_SIZE {
-                assert_eq!(count_over(text, &maps), Err(29), "{text}");
-            }
+fn entries_are_counted() {
+    for units in 0..=8 {
+        for text in ["{} munion a", "{a} munion b"] {
+            let due = if units < 8 { Ok(0) } else { Err(29) };
+            assert_eq!(count(text, &entries(units)), due, "{text} {units}");
         }
-        // What is no map is not split, whatever it holds.
-        assert_eq!(count(text, &numbers(8)), Ok(0), "{text}");
-        assert_eq!(count(text, &tuples(8)), Ok(0), "{text}");
-        assert_eq!(count(text, &items(16)), Ok(0), "{text}");
     }
-    // Entries are counted, not keys and values.
     for units in 4..=7 {
         assert!(count("a munion (- munion -)", &entries(units)).is_ok());
     }
 }
 
-/// No half is empty, and halves of one name are not equal.
-#[test]
-fn halves_that_no_split_of_entries_gives() {
-    for units in 0..=7 {
-        for text in [
-            "{|->} munion a",
-            "a munion {|->}",
-            "{|->} munion -",
-            "a munion a",
-            "1 munion a",
-            "{} munion a",
-            "{a} munion b",
-            "(a munion b) munion {|->}",
-            "{a |-> b} munion ({|->} munion c)",
-            "(a munion -) munion (- munion a)",
-        ] {
-            assert_eq!(count(text, &entries(units)), Ok(0), "{text} {units}");
-        }
-    }
-    // Two entries of three and the third.
-    for (units, ways) in [(0, 0), (1, 0), (2, 0), (3, 6), (4, 12)] {
-        let text = "{a |-> -, b |-> -} munion c";
-        assert_eq!(count(text, &entries(units)), Ok(ways));
-    }
-}
-
-#[test]
-fn munions_in_munions() {
-    // Every leaf takes an entry at least: 3^n − 3 × 2^n + 3 ways for three of them.
-    for (units, ways) in [0, 0, 0, 6, 36, 150].into_iter().enumerate() {
-        let map = entries(units as i32);
-        assert_eq!(count("a munion (b munion c)", &map), Ok(ways));
-        assert_eq!(count("(a munion b) munion c", &map), Ok(ways));
-    }
-    assert_eq!(count("a munion (b munion c)", &entries(6)), Err(30));
-    // Four leaves: 4! and 4^5 − 4 × 3^5 + 6 × 2^5 − 4.
-    for (units, ways) in [(2, 0), (3, 0), (4, 24), (5, 240)] {
-        let found = count("(a munion b) munion (c munion d)", &entries(units));
-        assert_eq!(found, Ok(ways), "{units}");
-    }
-    for (text, bindings) in [
-        ("a munion (- munion -)", 119),
-        ("(- munion -) munion (a munion -)", 98),
-        ("(- munion -) munion (a munion (- munion -))", 63),
-        (
-            "- munion (- munion (- munion (- munion (- munion (- munion a)))))",
-            7,
-        ),
-        (
-            "- munion (- munion (- munion (- munion (- munion (- munion (- munion a))))))",
-            0,
-        ),
-    ] {
-        assert_eq!(count(text, &entries(7)), Ok(bindings), "{text}");
-    }
-    let map = entries(3);
-    for (text, bindings) in [
-        ("{a |-> -, b |-> -} munion {c |-> -}", 6),
-        ("{a |-> d} munion ({b |-> e} munion {c |-> f})", 6),
-        ("{1 |-> -} munion ({a |-> b} munion {3 |-> -})", 1),
-        ("{1 |-> 12} munion a", 0),
-        ("{2 |-> 12} munion a", 1),
-        ("{4 |-> -} munion a", 0),
-    ] {
-        assert_eq!(count(text, &map), Ok(bindings), "{text}");
-    }
-}
-
-/// A value of one entry more than another value of no interest.
-fn beside(key: Value, other: Value) -> Value {
-    Value::Map([(key, other), (value("0"), value("0"))].into())
-}
-
+/// Maps in sets, and maps as the values of maps.
 #[test]
 fn munions_under_other_patterns() {
     for (text, with) in [
         (
-            "mk_(a munion b, c)",
-            (|v| pair(v, value("0"))) as fn(Value) -> Value,
+            "{0, a munion b}",
+            (|v| set_of([v, value("0")])) as fn(Value) -> Value,
         ),
-        ("mk_(0, a munion b)", |v| pair(value("0"), v)),
-        ("[0, a munion b]", |v| Value::Sequence(vec![value("0"), v])),
-        ("{0, a munion b}", |v| set_of([v, value("0")])),
         ("{a munion b} union c", |v| set_of([v, value("0")])),
-        ("c ^ [a munion b]", |v| Value::Sequence(vec![value("0"), v])),
         ("{a munion b |-> c}", |v| {
             Value::Map([(v, value("0"))].into())
         }),
         ("{c |-> a munion b}", |v| {
             Value::Map([(value("0"), v)].into())
         }),
-        ("{a munion b |-> -, 0 |-> -}", |v| beside(v, value("1"))),
-        ("{a munion b |-> -} munion c", |v| beside(v, value("1"))),
-        ("c munion {1 |-> a munion b}", |v| beside(value("1"), v)),
+        ("c munion {1 |-> a munion b}", |v| {
+            Value::Map([(value("1"), v), (value("0"), value("0"))].into())
+        }),
     ] {
         assert_eq!(count(text, &with(entries(7))), Ok(126), "{text}");
         assert_eq!(count(text, &with(entries(8))), Err(29), "{text}");
         assert_eq!(count(text, &with(tuples(8))), Ok(0), "{text}");
-        // 2 + 6 and none.
-        let members = set_of([with(entries(2)), with(entries(3)), with(value("1"))]);
-        assert_eq!(count_over(text, &members), Ok(8), "{text}");
-        let members = set_of([with(entries(0)), with(entries(1)), with(entries(2))]);
-        assert_eq!(count_over(text, &members), Ok(2), "{text}");
-        let members = set_of([with(entries(2)), with(entries(9))]);
-        assert_eq!(count_over(text, &members), Err(29), "{text}");
+        let over = |units: [i32; 3]| {
+            let members = units.map(|units| with(entries(units)));
+            count_over(text, &set_of(members))
+        };
+        // None, 2 + 6, and 29 whatever the others have.
+        assert_eq!(over([1, 2, 3]), Ok(8), "{text}");
+        assert_eq!(over([0, 1, 2]), Ok(2), "{text}");
+        assert_eq!(over([0, 2, 9]), Err(29), "{text}");
     }
 }
 
@@ -430,39 +323,9 @@ fn too_many_that_no_part_meets() {
 // ---- map enumeration
 
 #[test]
-fn pairs_meet_entries_one_to_one() {
-    for (parts, text) in [
-        "{|->}",
-        "{a |-> b}",
-        "{a |-> b, c |-> d}",
-        "{a |-> b, c |-> d, e |-> f}",
-        "{h |-> g, f |-> e, d |-> c, b |-> a}",
-    ]
-    .iter()
-    .enumerate()
-    {
-        let ways = |units: usize| match units == parts {
-            true => (1..=parts).product(),
-            false => 0,
-        };
-        for units in 0..=5 {
-            let map = entries(units as i32);
-            assert_eq!(count(text, &map), Ok(ways(units)), "{text} {units}");
-            let next = entries(units as i32 + 1);
-            let maps = set_of([map, next, tuples(4)]);
-            let all = ways(units) + ways(units + 1);
-            assert_eq!(count_over(text, &maps), Ok(all), "{text} {units}");
-            assert_eq!(count(text, &tuples(units as i32)), Ok(0));
-        }
-    }
-}
-
-#[test]
 fn pairings_of_entries_with_one_binding_count_once() {
     let map = entries(4);
     for (text, bindings) in [
-        ("{- |-> -, - |-> -, - |-> -, - |-> -}", 1),
-        ("{a |-> -, - |-> -, - |-> -, - |-> -}", 4),
         ("{- |-> a, - |-> -, - |-> -, - |-> -}", 4),
         ("{- |-> -, a |-> -, - |-> -, - |-> b}", 12),
         ("{a |-> b, - |-> -, - |-> -, - |-> -}", 4),
@@ -502,19 +365,8 @@ fn names_that_stand_twice_in_keys_and_values() {
         ("{a |-> a} munion b", "{1|->1,2|->3,4|->4}", 2),
         ("{1 |-> a} munion a", "{1|->{2|->3},2|->3}", 1),
         ("{1 |-> a} munion a", "{1|->{2|->4},2|->3}", 0),
-        (
-            "mk_(a munion b, b munion c)",
-            "mk_({1|->1,2|->2},{2|->2,3|->3})",
-            1,
-        ),
-        (
-            "mk_(a munion b, b munion a)",
-            "mk_({1|->1,2|->2},{1|->1,2|->2})",
-            2,
-        ),
         ("mk_(a munion b, a)", "mk_({1|->1,2|->2},{1|->1})", 1),
         ("mk_(a munion b, a)", "mk_({1|->1,2|->2},{1|->2})", 0),
-        ("mk_(a, a munion b)", "mk_({1|->1},{1|->1,2|->2})", 1),
         (
             "mk_({a |-> b, - |-> -}, [a,b])",
             "mk_({1|->5,2|->6},[2,6])",
@@ -552,7 +404,14 @@ fn maps_and_other_collections() {
             assert_eq!(count(text, &entries(units)), Ok(0), "{text} {units}");
         }
     }
-    for text in ["{a |-> b}", "{a |-> b, c |-> d}", "{|->}", "a munion b"] {
+    let four = "{a |-> b, c |-> d, e |-> f, g |-> h}";
+    for text in [
+        "{a |-> b}",
+        "{a |-> b, c |-> d}",
+        "{|->}",
+        four,
+        "a munion b",
+    ] {
         for with in [
             "{1,2}",
             "{mk_(1,2),mk_(3,4)}",
@@ -563,43 +422,25 @@ fn maps_and_other_collections() {
         ] {
             assert_eq!(count(text, &value(with)), Ok(0), "{text} and {with}");
         }
+        for with in [numbers(8), tuples(4), tuples(8), items(16)] {
+            assert_eq!(count(text, &with), Ok(0), "{text} and {with}");
+        }
     }
 }
 
 // ---- limits
 
-/// Counts of distinct bindings near 255, and 29 before 30.
+/// Counts of distinct bindings near 255.
 #[test]
 fn bindings_of_maps_at_the_limit() {
-    let two = |left, right| pair(entries(left), entries(right));
-    let text = "mk_(a munion b, c munion d)";
-    for (left, right, bindings) in [
-        (7, 1, Ok(0)),
-        (4, 4, Ok(14 * 14)),
-        (7, 2, Ok(126 * 2)),
-        (4, 5, Err(30)),
-        (7, 3, Err(30)),
-        (8, 1, Err(29)),
-        (7, 8, Err(29)),
-    ] {
-        assert_eq!(
-            count(text, &two(left, right)),
-            bindings,
-            "{left} and {right}"
-        );
-    }
-    // n entries have n splits whose first half is one of them: 5 × 51 and 4 × 64.
-    for text in [
-        "mk_({a |-> -} munion b, c ^ d)",
-        "mk_(b munion {- |-> a}, c ^ -)",
-    ] {
-        assert_eq!(count(text, &pair(entries(5), items(50))), Ok(255));
-        assert_eq!(count(text, &pair(entries(4), items(63))), Err(30));
-    }
+    // n entries have n splits whose second half is one of them: 5 × 51 and 4 × 64.
+    let text = "mk_(b munion {- |-> a}, c ^ -)";
+    assert_eq!(count(text, &pair(entries(5), items(50))), Ok(255));
+    assert_eq!(count(text, &pair(entries(4), items(63))), Err(30));
     // 24 pairings and 6 splits, and 24 and 14.
     let text = "mk_({a |-> b, c |-> d, e |-> f, g |-> h}, i munion -)";
-    assert_eq!(count(text, &two(4, 3)), Ok(24 * 6));
-    assert_eq!(count(text, &two(4, 4)), Err(30));
+    assert_eq!(count(text, &pair(entries(4), entries(3))), Ok(24 * 6));
+    assert_eq!(count(text, &pair(entries(4), entries(4))), Err(30));
     // A map that a set offers: 126, 62 and 62, and then 30 more.
     let moved = |from: i32, units: i32| {
         let entry = |n| (Value::Integer(n), Value::Integer(0));
@@ -625,7 +466,7 @@ fn all_bindings_of_seven_and_of_four_entries() {
     }
 }
 
-/// A map enumeration as high as a table allows, over a value as deep, and munions within each other.
+/// A map enumeration as high as a table allows, over a value as deep.
 #[test]
 fn deep_patterns_over_maps() {
     for depth in [1, 10, 30] {
@@ -640,14 +481,6 @@ fn deep_patterns_over_maps() {
         let by_let = |value| compare(kind::LET, &text, &value).map(|found| found.len());
         assert_eq!(by_let(map(depth)), Ok(1));
         assert_eq!(by_let(map(depth - 1)), Ok(0));
-    }
-    // A munion within munions leaves each an entry: of seven there are six at most.
-    for (munions, units, bindings) in [(6, 7, 7), (6, 6, 0), (7, 7, 0), (30, 7, 0)] {
-        let pattern = (0..munions).fold(Pattern::Name(1), |part, _| {
-            Pattern::munion(part, Pattern::Any)
-        });
-        let found = compare(kind::LET, &pattern, &entries(units));
-        assert_eq!(found.map(|found| found.len()), Ok(bindings));
     }
 }
 
