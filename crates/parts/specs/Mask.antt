@@ -2,7 +2,7 @@
 use mathlib.Core.Path.{_≡_}
 use mathlib.Core.Bool.{true}
 use mathlib.Core.List.{List}
-use Prim.Native.Nat.{ℕ, _+_, _*_, _-_, _/_, _^_, _≤_, _<_}
+use Prim.Native.Nat.{ℕ, zero, suc, _+_, _*_, _-_, _/_, _%_, _^_, _≤_, _<_}
 use lib.ListN.{length, drop}
 use Rattle.integers.specs.declared.Order.{Order}
 use Rattle.values.specs.Value.{Kind, number, Shaped, orderItems}
@@ -47,6 +47,11 @@ OrderedMasks a b o =
 -- r is the number of items of a unit of the kind that has this number
 abbrev pub WidthOf : ℕ → ℕ → Type 0
 WidthOf kind r = (k : Kind) → kind ≡ number k → r ≡ width k
+
+-- The n lowest bits of a mask, each of them twice.
+unfoldable pub doubled : ℕ → ℕ → ℕ
+doubled zero m = 0
+doubled (suc n) m = 4 * doubled n (m / 2) + 3 * (m % 2)
 
 -- Of the items of units r chooses those of the units that m chooses.
 pub record ChoosesItems (k : Kind) (m r : ℕ) (us : List (UnitOf k)) : Type 0 where

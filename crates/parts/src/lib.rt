@@ -77,8 +77,11 @@ fn order_units(s: &[u8], p: Part, q: Part) -> Order
     }
     let kind = values::kind_of(s, a);
     let other = values::kind_of(s, b);
-    if kind != other {
-        return order_kinds(s, p, q);
+    if kind < other {
+        return Order::Lower;
+    }
+    if other < kind {
+        return Order::Higher;
     }
     let m = masks::item_mask(kind, x);
     let n = masks::item_mask(kind, y);

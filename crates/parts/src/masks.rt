@@ -6,7 +6,7 @@ ghost use Prim.Native.Nat.{_/_, _≤_, _<_};
 ghost use mathlib.Core.Bool.{cond};
 ghost use Rattle.integers.specs.declared.Order.the-variants.{Lower, Higher};
 ghost use Rattle.patterns.specs.Pattern.{mostSplit};
-ghost use Rattle.parts.specs.Mask.{Full, Deals, Spread, OrderedMasks, WidthOf, ItemMask};
+ghost use Rattle.parts.specs.Mask.{Full, Deals, Spread, OrderedMasks, WidthOf, doubled, ItemMask};
 
 // A set or map of more units is too large to split.
 pub const MOST_UNITS: usize = 7;
@@ -116,25 +116,16 @@ pub fn width(kind: usize) -> usize
     1
 }
 
-// Four bits, each of them twice.
-const DOUBLED: [usize; 16] = [
-    0,
-    3,
-    12,
-    15,
-    48,
-    51,
-    60,
-    63,
-    192,
-    195,
-    204,
-    207,
-    240,
-    243,
-    252,
-    255,
-];
+// For each mask of three bits a byte with each of these bits twice.
+const TWICE: u64 = 0x3f3c_3330_0f0c_0300;
+
+// A mask of three bits, with each of them twice.
+fn twice(m: usize) -> usize
+    requires { ⌜ m < 8 ⌝ }
+    ensures { λ r. ⌜ (r ≡ doubled 3 m) × (r < 64) ⌝ }
+{
+    ((TWICE >> (8 * m)) % 256) as usize
+}
 
 // The mask of the items of the units that a mask chooses, of a set or map of the kind.
 pub fn item_mask(kind: usize, m: usize) -> usize
@@ -144,6 +135,5 @@ pub fn item_mask(kind: usize, m: usize) -> usize
     if kind != Value::MAP {
         return m;
     }
-    let doubled = DOUBLED;
-    doubled[m % 16] + 256 * doubled[m / 16]
+    twice(m % 8) + 64 * twice(m / 8 % 8) + 4096 * twice(m / 64)
 }
