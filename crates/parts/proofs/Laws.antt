@@ -3,11 +3,11 @@ use mathlib.Core.Path.{_≡_, refl, sym, ap, subst, _∙_}
 use mathlib.Core.Bool.{Bool, true, false, cond}
 use mathlib.Core.Logic.{inl, inr}
 use mathlib.Core.List.{List, [], _∷_}
-use Prim.Native.Nat.{ℕ, _+_, _/_, _^_, _≤_, _<_}
+use Prim.Native.Nat.{ℕ, _+_, _-_, _/_, _^_, _≤_, _<_}
 use native.Mathlib.Nat.{pow-le-pow-right}
 use native.Mathlib.Omega.{arith}
-use lib.ListN.{length, take, length-take}
-use lib.Seq.{take-take}
+use lib.ListN.{length, take, drop, length-take}
+use lib.Seq.{take-all, take-take}
 use borrow.Author.Tests.{eq-eqb, ne-eqb}
 use Rattle.integers.specs.Bytes.{word}
 use Rattle.values.specs.Value.{Kind, sequence, number, Value, collection, Items, kindOf, WellFormed}
@@ -175,6 +175,11 @@ collection-held {s} {p} c l h =
     let e = c (h .value) (h .here) in
     let (k, vs, d) = is-collection (h .value) (λ z. omega arith) (λ z. omega arith) in
     record { kind = k; items = listOf vs; here = subst (PartIs s p) (d ∙ as-list k vs) (h .here) }
+
+-- ---- a slice lent on as one of its own
+
+pub lent-on : (s : List ℕ) → take (length s - 0) (drop 0 s) ≡ s
+lent-on s = take-all (length s - 0) s (omega arith)
 
 -- ---- whole records
 

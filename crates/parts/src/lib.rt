@@ -63,7 +63,7 @@ pub fn count_of_part(s: &[u8], p: Part) -> usize
     runs::count(s, r)
 }
 
-// The order of the sets or maps that two parts choose units of: those of one set or map by their bits.
+// The order of the sets or maps that two parts choose units of: by kind, and then item by item.
 fn order_units(s: &[u8], p: Part, q: Part) -> Order
     requires { ⌜ PartHeld (now s) p × PartHeld (now s) q × (p .how ≡ 2) × (q .how ≡ 2) ⌝ }
     ensures { λ r. ⌜ OrderedParts (now (s .entry)) p q r ⌝ }
@@ -72,9 +72,6 @@ fn order_units(s: &[u8], p: Part, q: Part) -> Order
     let b = q.at as usize;
     let x = p.extent as usize;
     let y = q.extent as usize;
-    if a == b {
-        return masks::order(x, y);
-    }
     let kind = values::kind_of(s, a);
     let other = values::kind_of(s, b);
     if kind < other {

@@ -1,11 +1,9 @@
 -- The member `begin` of the cycle.
-use mathlib.Core.List.{List}
 use Prim.Native.Nat.{ℕ, _-_}
-use lib.ListN.{length, take, drop}
-use lib.Seq.{take-all}
 use native.Mathlib.Omega.{arith}
 use mathlib.Core.Path.{_≡_, refl, sym, subst}
 use borrow.Author.Needs.{needs}
+use Rattle.parts.proofs.Laws.{lent-on}
 use Rattle.evaluator.proofs.Firsts.{plain-first}
 use Rattle.evaluator.proofs.+begin+binder+built-collect+built-item+built-pair+built-step+eval+holds+inside+let_be+let_in+plain-binary+plain-branch+plain-entries+plain-items+plain-logic+plain-unary+quantify+single+survey.Proof.Common.{begin-at, eval-below}
 use borrow.Author.Tests.{not-true, not-false}
@@ -47,10 +45,6 @@ begin-calls t = (
   opening-reads.Learnt,
 )
 
--- The whole table, cut anew.
-whole-part : (s : List ℕ) → take (length s - 0) (drop 0 s) ≡ s
-whole-part s = take-all (length s - 0) s (omega arith)
-
 begin-sub-table : (t : ℕ) → begin-lts.Need-sub-table (begin-calls t) (begin-at t) begin.Post
 begin-sub-table t c = search needs
 
@@ -61,10 +55,10 @@ begin-part-table-end : (t : ℕ) → begin-lts.Need-part-table-end (begin-calls 
 begin-part-table-end t c = search needs
 
 begin-noted-operand-requires : (t : ℕ) → begin-lts.Need-noted-operand-requires (begin-calls t) (begin-at t) begin.Post
-begin-noted-operand-requires t c κs = rw (whole-part (c .before .before .before .args .table .now)) (binder-has (c .before .before .before .pre .1 .0) (subst Binder (sym (c .before .before .before .pre .1 .1)) (c .before .before .before .pre .1 .2)) 1 (omega arith), plain-first (c .before .before .before .pre .1 .1) (omega (arith, c .before .before .before .pre .1 .2)) (omega (arith, c .before .before .before .pre .1 .2)), omega arith)
+begin-noted-operand-requires t c κs = rw (lent-on (c .before .before .before .args .table .now)) (binder-has (c .before .before .before .pre .1 .0) (subst Binder (sym (c .before .before .before .pre .1 .1)) (c .before .before .before .pre .1 .2)) 1 (omega arith), plain-first (c .before .before .before .pre .1 .1) (omega (arith, c .before .before .before .pre .1 .2)) (omega (arith, c .before .before .before .pre .1 .2)), omega arith)
 
 begin-eval-requires : (t : ℕ) → begin-lts.Need-eval-requires (begin-calls t) (begin-at t) begin.Post
-begin-eval-requires t c κs = let h = first-asked (c .before .before .before .before .before .before .pre .1 .0) (binder-has (c .before .before .before .before .before .before .pre .1 .0) (subst Binder (sym (c .before .before .before .before .before .before .pre .1 .1)) (c .before .before .before .before .before .before .pre .1 .2)) 1 (omega arith)) (rw (whole-part (c .before .before .before .before .before .before .args .table .now)) at (c .before .before .noted-operand .ensures .0)) in rw (whole-part (c .before .before .before .before .before .before .args .table .now)) (omega (arith, h .0, c .before .before .before .before .before .before .pre .0), h .1)
+begin-eval-requires t c κs = let h = first-asked (c .before .before .before .before .before .before .pre .1 .0) (binder-has (c .before .before .before .before .before .before .pre .1 .0) (subst Binder (sym (c .before .before .before .before .before .before .pre .1 .1)) (c .before .before .before .before .before .before .pre .1 .2)) 1 (omega arith)) (rw (lent-on (c .before .before .before .before .before .before .args .table .now)) at (c .before .before .noted-operand .ensures .0)) in rw (lent-on (c .before .before .before .before .before .before .args .table .now)) (omega (arith, h .0, c .before .before .before .before .before .before .pre .0), h .1)
 
 begin-is-refusal-requires : (t : ℕ) → begin-lts.Need-is-refusal-requires (begin-calls t) (begin-at t) begin.Post
 begin-is-refusal-requires t c κs = search needs
@@ -73,10 +67,10 @@ begin-same-length : (t : ℕ) → begin-lts.Need-same-length (begin-calls t) (be
 begin-same-length t c = c .before .before .before .before .eval .ensures .kept .long
 
 begin-returns : (t : ℕ) → begin-lts.Need-returns (begin-calls t) (begin-at t) begin.Post
-begin-returns t c = begin-off (c .before .before .before .before .before .before .before .before .before .before .before .pre .1 .0) (c .before .before .before .before .before .before .before .before .before .before .before .args .k) (rw (whole-part (c .before .before .before .before .before .before .before .before .before .before .before .args .table .now)) at (c .before .before .before .before .before .before .before .noted-operand .ensures .0)) (rw (whole-part (c .before .before .before .before .before .before .before .before .before .before .before .args .table .now)) at (c .before .before .before .before .eval .ensures)) (unvalued (c .before .before .before .before .eval .result) (c .before .is-refusal .ensures) (c .if1 .taken)) refl
+begin-returns t c = begin-off (c .before .before .before .before .before .before .before .before .before .before .before .pre .1 .0) (c .before .before .before .before .before .before .before .before .before .before .before .args .k) (rw (lent-on (c .before .before .before .before .before .before .before .before .before .before .before .args .table .now)) at (c .before .before .before .before .before .before .before .noted-operand .ensures .0)) (rw (lent-on (c .before .before .before .before .before .before .before .before .before .before .before .args .table .now)) at (c .before .before .before .before .eval .ensures)) (unvalued (c .before .before .before .before .eval .result) (c .before .is-refusal .ensures) (c .if1 .taken)) refl
 
 begin-suits-requires : (t : ℕ) → begin-lts.Need-suits-requires (begin-calls t) (begin-at t) begin.Post
-begin-suits-requires t c κs = begin-held (c .before .before .before .before .before .before .before .before .before .before .before .before .pre .1 .0) (c .before .before .before .before .before .before .before .before .before .before .before .before .args .k) (rw (whole-part (c .before .before .before .before .before .before .before .before .before .before .before .before .args .table .now)) at (c .before .before .before .before .before .before .before .before .noted-operand .ensures .0)) (rw (whole-part (c .before .before .before .before .before .before .before .before .before .before .before .before .args .table .now)) at (c .before .before .before .before .before .eval .ensures)) (valued (c .before .before .before .before .before .eval .result) (c .before .before .is-refusal .ensures) (c .before .if1 .left))
+begin-suits-requires t c κs = begin-held (c .before .before .before .before .before .before .before .before .before .before .before .before .pre .1 .0) (c .before .before .before .before .before .before .before .before .before .before .before .before .args .k) (rw (lent-on (c .before .before .before .before .before .before .before .before .before .before .before .before .args .table .now)) at (c .before .before .before .before .before .before .before .before .noted-operand .ensures .0)) (rw (lent-on (c .before .before .before .before .before .before .before .before .before .before .before .before .args .table .now)) at (c .before .before .before .before .before .eval .ensures)) (valued (c .before .before .before .before .before .eval .result) (c .before .before .is-refusal .ensures) (c .before .if1 .left))
 
 begin-refusal-requires : (t : ℕ) → begin-lts.Need-refusal-requires (begin-calls t) (begin-at t) begin.Post
 begin-refusal-requires t c κs = search needs
@@ -85,25 +79,25 @@ begin-same-length-2 : (t : ℕ) → begin-lts.Need-same-length-2 (begin-calls t)
 begin-same-length-2 t c = c .before .before .before .before .before .before .before .before .eval .ensures .kept .long
 
 begin-returns-2 : (t : ℕ) → begin-lts.Need-returns-2 (begin-calls t) (begin-at t) begin.Post
-begin-returns-2 t c = begin-unfit (c .before .before .before .before .before .before .before .before .before .before .before .before .before .before .before .pre .1 .0) (c .before .before .before .before .before .before .before .before .before .before .before .before .before .before .before .args .k) (rw (whole-part (c .before .before .before .before .before .before .before .before .before .before .before .before .before .before .before .args .table .now)) at (c .before .before .before .before .before .before .before .before .before .before .before .noted-operand .ensures .0)) (rw (whole-part (c .before .before .before .before .before .before .before .before .before .before .before .before .before .before .before .args .table .now)) at (c .before .before .before .before .before .before .before .before .eval .ensures)) (valued (c .before .before .before .before .before .before .before .before .eval .result) (c .before .before .before .before .before .is-refusal .ensures) (c .before .before .before .before .if1 .left)) (c .before .before .suits .ensures) (not-true _ (c .before .if2 .taken)) (decoded (omega arith) (small-place (c .before .before .before .before .before .before .before .before .before .before .before .before .before .before .before .pre .1 .0)) (omega arith) (c .refusal .ensures))
+begin-returns-2 t c = begin-unfit (c .before .before .before .before .before .before .before .before .before .before .before .before .before .before .before .pre .1 .0) (c .before .before .before .before .before .before .before .before .before .before .before .before .before .before .before .args .k) (rw (lent-on (c .before .before .before .before .before .before .before .before .before .before .before .before .before .before .before .args .table .now)) at (c .before .before .before .before .before .before .before .before .before .before .before .noted-operand .ensures .0)) (rw (lent-on (c .before .before .before .before .before .before .before .before .before .before .before .before .before .before .before .args .table .now)) at (c .before .before .before .before .before .before .before .before .eval .ensures)) (valued (c .before .before .before .before .before .before .before .before .eval .result) (c .before .before .before .before .before .is-refusal .ensures) (c .before .before .before .before .if1 .left)) (c .before .before .suits .ensures) (not-true _ (c .before .if2 .taken)) (decoded (omega arith) (small-place (c .before .before .before .before .before .before .before .before .before .before .before .before .before .before .before .pre .1 .0)) (omega arith) (c .refusal .ensures))
 
 begin-operand-from-requires : (t : ℕ) → begin-lts.Need-operand-from-requires (begin-calls t) (begin-at t) begin.Post
-begin-operand-from-requires t c κs = rw (whole-part (c .before .before .before .before .before .before .before .before .before .before .before .before .before .before .args .table .now)) (binder-has (c .before .before .before .before .before .before .before .before .before .before .before .before .before .before .pre .1 .0) (subst Binder (sym (c .before .before .before .before .before .before .before .before .before .before .before .before .before .before .pre .1 .1)) (c .before .before .before .before .before .before .before .before .before .before .before .before .before .before .pre .1 .2)) 0 (omega arith), plain-first (c .before .before .before .before .before .before .before .before .before .before .before .before .before .before .pre .1 .1) (omega (arith, c .before .before .before .before .before .before .before .before .before .before .before .before .before .before .pre .1 .2)) (omega (arith, c .before .before .before .before .before .before .before .before .before .before .before .before .before .before .pre .1 .2)))
+begin-operand-from-requires t c κs = rw (lent-on (c .before .before .before .before .before .before .before .before .before .before .before .before .before .before .args .table .now)) (binder-has (c .before .before .before .before .before .before .before .before .before .before .before .before .before .before .pre .1 .0) (subst Binder (sym (c .before .before .before .before .before .before .before .before .before .before .before .before .before .before .pre .1 .1)) (c .before .before .before .before .before .before .before .before .before .before .before .before .before .before .pre .1 .2)) 0 (omega arith), plain-first (c .before .before .before .before .before .before .before .before .before .before .before .before .before .before .pre .1 .1) (omega (arith, c .before .before .before .before .before .before .before .before .before .before .before .before .before .before .pre .1 .2)) (omega (arith, c .before .before .before .before .before .before .before .before .before .before .before .before .before .before .pre .1 .2)))
 
 begin-add-open : (t : ℕ) → begin-lts.Need-add-open (begin-calls t) (begin-at t) begin.Post
 begin-add-open t c = omega (arith, room-here (c .before .before .before .before .before .before .before .before .before .before .before .before .before .before .before .before .pre .1 .0), c .before .before .before .before .before .before .before .before .before .before .before .before .before .before .before .before .pre .1 .0 .low)
 
 begin-open-requires : (t : ℕ) → begin-lts.Need-open-requires (begin-calls t) (begin-at t) begin.Post
-begin-open-requires t c κs = rw (whole-part (c .before .before .before .before .before .before .before .before .before .before .before .before .before .before .before .before .args .table .now)) (binder-readable (c .before .before .before .before .before .before .before .before .before .before .before .before .before .before .before .before .pre .1 .0) (subst Binder (sym (c .before .before .before .before .before .before .before .before .before .before .before .before .before .before .before .before .pre .1 .1)) (c .before .before .before .before .before .before .before .before .before .before .before .before .before .before .before .before .pre .1 .2)) (rw (whole-part (c .before .before .before .before .before .before .before .before .before .before .before .before .before .before .before .before .args .table .now)) at (c .before .operand-from .ensures .0)), begin-lent (c .before .before .before .before .before .before .before .before .before .before .before .before .before .before .before .before .pre .1 .0) (c .before .before .before .before .before .before .before .before .before .before .before .before .before .before .before .before .args .k) (rw (whole-part (c .before .before .before .before .before .before .before .before .before .before .before .before .before .before .before .before .args .table .now)) at (c .before .before .before .before .before .before .before .before .before .before .before .before .noted-operand .ensures .0)) (rw (whole-part (c .before .before .before .before .before .before .before .before .before .before .before .before .before .before .before .before .args .table .now)) at (c .before .before .before .before .before .before .before .before .before .eval .ensures)) (valued (c .before .before .before .before .before .before .before .before .before .eval .result) (c .before .before .before .before .before .before .is-refusal .ensures) (c .before .before .before .before .before .if1 .left)) (c .before .before .before .suits .ensures) (not-false _ (c .before .before .if2 .left)))
+begin-open-requires t c κs = rw (lent-on (c .before .before .before .before .before .before .before .before .before .before .before .before .before .before .before .before .args .table .now)) (binder-readable (c .before .before .before .before .before .before .before .before .before .before .before .before .before .before .before .before .pre .1 .0) (subst Binder (sym (c .before .before .before .before .before .before .before .before .before .before .before .before .before .before .before .before .pre .1 .1)) (c .before .before .before .before .before .before .before .before .before .before .before .before .before .before .before .before .pre .1 .2)) (rw (lent-on (c .before .before .before .before .before .before .before .before .before .before .before .before .before .before .before .before .args .table .now)) at (c .before .operand-from .ensures .0)), begin-lent (c .before .before .before .before .before .before .before .before .before .before .before .before .before .before .before .before .pre .1 .0) (c .before .before .before .before .before .before .before .before .before .before .before .before .before .before .before .before .args .k) (rw (lent-on (c .before .before .before .before .before .before .before .before .before .before .before .before .before .before .before .before .args .table .now)) at (c .before .before .before .before .before .before .before .before .before .before .before .before .noted-operand .ensures .0)) (rw (lent-on (c .before .before .before .before .before .before .before .before .before .before .before .before .before .before .before .before .args .table .now)) at (c .before .before .before .before .before .before .before .before .before .eval .ensures)) (valued (c .before .before .before .before .before .before .before .before .before .eval .result) (c .before .before .before .before .before .before .is-refusal .ensures) (c .before .before .before .before .before .if1 .left)) (c .before .before .before .suits .ensures) (not-false _ (c .before .before .if2 .left)))
 
 begin-opening-requires : (t : ℕ) → begin-lts.Need-opening-requires (begin-calls t) (begin-at t) begin.Post
 begin-opening-requires t c κs = search needs
 
 begin-same-length-3 : (t : ℕ) → begin-lts.Need-same-length-3 (begin-calls t) (begin-at t) begin.Post
-begin-same-length-3 t c = (begin-opened (c .before .before .before .before .before .before .before .before .before .before .before .before .before .before .before .before .before .before .before .before .before .pre .1 .0) (c .before .before .before .before .before .before .before .before .before .before .before .before .before .before .before .before .before .before .before .before .before .args .k) (rw (whole-part (c .before .before .before .before .before .before .before .before .before .before .before .before .before .before .before .before .before .before .before .before .before .args .table .now)) at (c .before .before .before .before .before .before .before .before .before .before .before .before .before .before .before .before .before .noted-operand .ensures .0)) (rw (whole-part (c .before .before .before .before .before .before .before .before .before .before .before .before .before .before .before .before .before .before .before .before .before .args .table .now)) at (c .before .before .before .before .before .before .before .before .before .before .before .before .before .before .eval .ensures)) (valued (c .before .before .before .before .before .before .before .before .before .before .before .before .before .before .eval .result) (c .before .before .before .before .before .before .before .before .before .before .before .is-refusal .ensures) (c .before .before .before .before .before .before .before .before .before .before .if1 .left)) (c .before .before .before .before .before .before .before .before .suits .ensures) (not-false _ (c .before .before .before .before .before .before .before .if2 .left)) (rw (whole-part (c .before .before .before .before .before .before .before .before .before .before .before .before .before .before .before .before .before .before .before .before .before .args .table .now)) at (c .before .before .before .before .before .before .operand-from .ensures .0)) (rw (whole-part (c .before .before .before .before .before .before .before .before .before .before .before .before .before .before .before .before .before .before .before .before .before .args .table .now)) at (c .before .before .before .before .«open» .ensures)) (c .opening .ensures)) .kept .long
+begin-same-length-3 t c = (begin-opened (c .before .before .before .before .before .before .before .before .before .before .before .before .before .before .before .before .before .before .before .before .before .pre .1 .0) (c .before .before .before .before .before .before .before .before .before .before .before .before .before .before .before .before .before .before .before .before .before .args .k) (rw (lent-on (c .before .before .before .before .before .before .before .before .before .before .before .before .before .before .before .before .before .before .before .before .before .args .table .now)) at (c .before .before .before .before .before .before .before .before .before .before .before .before .before .before .before .before .before .noted-operand .ensures .0)) (rw (lent-on (c .before .before .before .before .before .before .before .before .before .before .before .before .before .before .before .before .before .before .before .before .before .args .table .now)) at (c .before .before .before .before .before .before .before .before .before .before .before .before .before .before .eval .ensures)) (valued (c .before .before .before .before .before .before .before .before .before .before .before .before .before .before .eval .result) (c .before .before .before .before .before .before .before .before .before .before .before .is-refusal .ensures) (c .before .before .before .before .before .before .before .before .before .before .if1 .left)) (c .before .before .before .before .before .before .before .before .suits .ensures) (not-false _ (c .before .before .before .before .before .before .before .if2 .left)) (rw (lent-on (c .before .before .before .before .before .before .before .before .before .before .before .before .before .before .before .before .before .before .before .before .before .args .table .now)) at (c .before .before .before .before .before .before .operand-from .ensures .0)) (rw (lent-on (c .before .before .before .before .before .before .before .before .before .before .before .before .before .before .before .before .before .before .before .before .before .args .table .now)) at (c .before .before .before .before .«open» .ensures)) (c .opening .ensures)) .kept .long
 
 begin-returns-3 : (t : ℕ) → begin-lts.Need-returns-3 (begin-calls t) (begin-at t) begin.Post
-begin-returns-3 t c = begin-opened (c .before .before .before .before .before .before .before .before .before .before .before .before .before .before .before .before .before .before .before .before .before .pre .1 .0) (c .before .before .before .before .before .before .before .before .before .before .before .before .before .before .before .before .before .before .before .before .before .args .k) (rw (whole-part (c .before .before .before .before .before .before .before .before .before .before .before .before .before .before .before .before .before .before .before .before .before .args .table .now)) at (c .before .before .before .before .before .before .before .before .before .before .before .before .before .before .before .before .before .noted-operand .ensures .0)) (rw (whole-part (c .before .before .before .before .before .before .before .before .before .before .before .before .before .before .before .before .before .before .before .before .before .args .table .now)) at (c .before .before .before .before .before .before .before .before .before .before .before .before .before .before .eval .ensures)) (valued (c .before .before .before .before .before .before .before .before .before .before .before .before .before .before .eval .result) (c .before .before .before .before .before .before .before .before .before .before .before .is-refusal .ensures) (c .before .before .before .before .before .before .before .before .before .before .if1 .left)) (c .before .before .before .before .before .before .before .before .suits .ensures) (not-false _ (c .before .before .before .before .before .before .before .if2 .left)) (rw (whole-part (c .before .before .before .before .before .before .before .before .before .before .before .before .before .before .before .before .before .before .before .before .before .args .table .now)) at (c .before .before .before .before .before .before .operand-from .ensures .0)) (rw (whole-part (c .before .before .before .before .before .before .before .before .before .before .before .before .before .before .before .before .before .before .before .before .before .args .table .now)) at (c .before .before .before .before .«open» .ensures)) (c .opening .ensures)
+begin-returns-3 t c = begin-opened (c .before .before .before .before .before .before .before .before .before .before .before .before .before .before .before .before .before .before .before .before .before .pre .1 .0) (c .before .before .before .before .before .before .before .before .before .before .before .before .before .before .before .before .before .before .before .before .before .args .k) (rw (lent-on (c .before .before .before .before .before .before .before .before .before .before .before .before .before .before .before .before .before .before .before .before .before .args .table .now)) at (c .before .before .before .before .before .before .before .before .before .before .before .before .before .before .before .before .before .noted-operand .ensures .0)) (rw (lent-on (c .before .before .before .before .before .before .before .before .before .before .before .before .before .before .before .before .before .before .before .before .before .args .table .now)) at (c .before .before .before .before .before .before .before .before .before .before .before .before .before .before .eval .ensures)) (valued (c .before .before .before .before .before .before .before .before .before .before .before .before .before .before .eval .result) (c .before .before .before .before .before .before .before .before .before .before .before .is-refusal .ensures) (c .before .before .before .before .before .before .before .before .before .before .if1 .left)) (c .before .before .before .before .before .before .before .before .suits .ensures) (not-false _ (c .before .before .before .before .before .before .before .if2 .left)) (rw (lent-on (c .before .before .before .before .before .before .before .before .before .before .before .before .before .before .before .before .before .before .before .before .before .args .table .now)) at (c .before .before .before .before .before .before .operand-from .ensures .0)) (rw (lent-on (c .before .before .before .before .before .before .before .before .before .before .before .before .before .before .before .before .before .before .before .before .before .args .table .now)) at (c .before .before .before .before .«open» .ensures)) (c .opening .ensures)
 
 pub begin-member : {M : Type 1} (t : ℕ) → begin-lts.Closed (begin-calls t) (begin-at t) begin.Post M
 begin-member t = begin-lts.spec (begin-calls t) (begin-at t) begin.Post
