@@ -17,14 +17,18 @@ use Rattle.tables.specs.Record.{named as operandsOf, operand}
 use Rattle.tables.specs.Table.{recordAt, kindAt}
 use Rattle.tables.specs.Accepted.{records}
 use Rattle.parts.specs.declared.Part.{Part}
+use Rattle.parts.specs.declared.Halves.{Halves}
 use Rattle.parts.specs.Part.{PartIs, CellIs}
+use Rattle.parts.specs.Contract.{SplitHeld, SplitOf}
 use Rattle.parts.proofs.Laws.{part-one, part-well-formed}
 use Rattle.patterns.specs.Ways.{exists}
 use Rattle.patterns.specs.Binding.{is}
 use Rattle.patterns.specs.Pattern.{Pattern, any, wide, wideEach}
 use Rattle.patterns.specs.Read.{Readable, patternsOf, patternAt}
 use Rattle.patterns.specs.Nodes.{meetings, isLarge, isHalved}
-use Rattle.matching.specs.Node.{PieceHeld, PieceOf, innerOf, waysOf, metBy}
+use Rattle.matching.specs.Node.{PieceHeld, PieceOf, isSplit, innerOf, waysOf, metBy}
+use Rattle.matching.proofs.Counting.{split-kind}
+use Rattle.matching.proofs.Piecing.{next-low, split-held, split-meets}
 use Rattle.matching.proofs.Records.{by-record, inner-length, count-few, count-two, operand-readable, meeting-length}
 use Rattle.splitting.proofs.Composed.{wide-composed}
 use Rattle.parts.specs.Word.{unpacked, CellHeld, WordOf}
@@ -351,3 +355,48 @@ module _ (table index : List ℕ) (p : ℕ) (s : List ℕ) (part : Part) (d : �
           right = λ v ts x u g. subst (λ (m : ℕ). AgendaIs table index s c m (q .head) (testsFirst tests (zipped (innerOf table p) (metBy table p v d)) ts)) all
               (j .right v (withBit tests 0 (zipped (innerOf table p) (metBy table p v d)) ++ ts) x u (k .right v ts x u g));
         }
+
+-- ---- the two halves of a split
+
+module _ (table index : List ℕ) (p : ℕ) (s : List ℕ) (part : Part) (d : ℕ) (a : List ℕ) (next top : ℕ) (h : Pushable table index p s part d a next top (countOf table p)) (k : ℕ) (e : k ≡ kindAt (records table) p) (u : isSplit k ≡ true) where
+  count-is : 2 ≡ countOf table p
+  count-is = sym (two table index p (h .composed) (ap isHalved (sym e) ∙ split-kind k u .0))
+
+  asked : Pushable table index p s part d a next top (howMany table p 0 0)
+  asked = others-asked table index p s part d a next top 0 h
+
+  start : PushSoFar table index p s part d a next top 0 0 a next 2 top
+  start = push-start table index p s part d a next top 0 0 asked 2 count-is
+
+  pub second-asked : PartPushable table index p k 2 s part d 1 a next top
+  second-asked = part-asked table index p s part d a next top 0 0 asked 1 2 refl a next top start (omega arith) (zero-bit 1) k 2 e count-is part refl
+
+  second-held : PieceHeld k 2 s part d 1
+  second-held = piece-asked table index p k 2 s part d 1 a next top second-asked
+
+  pub split-low : d + 1 < 128
+  split-low = next-low k 2 s part d 1 second-held u
+
+  pub split-asked : SplitHeld s part (d + 1)
+  split-asked = split-held k 2 s part d 1 second-held u
+
+  module _ (r : Halves) (o : SplitOf s part (d + 1) r) where
+    pub second-piece : PieceOf k 2 s part d 1 (r .right)
+    second-piece = split-meets k 2 s part d 1 second-held u r o .1 (λ z. omega arith)
+
+    module _ (b : List ℕ) (f : PartPushed table index p s part d 1 a next top b) where
+      between : PushSoFar table index p s part d a next top 0 0 b top 1 (top + 1)
+      between = push-more table index p s part d a next top 0 0 asked 1 2 refl a next top start (omega arith) (zero-bit 1) part refl b f
+
+      pub first-asked : PartPushable table index p k 2 s part d 0 b top (top + 1)
+      first-asked = part-asked table index p s part d a next top 0 0 asked 0 1 refl b top (top + 1) between (omega arith) (zero-bit 0) k 2 e count-is part refl
+
+      pub first-piece : PieceOf k 2 s part d 0 (r .left)
+      first-piece = split-meets k 2 s part d 0 (piece-asked table index p k 2 s part d 0 b top (top + 1) first-asked) u r o .0 refl
+
+      pub halves-pushed : (c : List ℕ) → PartPushed table index p s part d 0 b top (top + 1) c → Pushed table index p s part d a next top 0 c (top + 1)
+      halves-pushed c g =
+          pushed-all table index p s part d a next top 0 h c _
+          (push-end table index p s part d a next top 0 0 asked c (top + 1) 0 (top + 1 + 1) (omega arith)
+          (push-more table index p s part d a next top 0 0 asked 0 1 refl b top (top + 1) between (omega arith) (zero-bit 0) part refl c g))
+          refl

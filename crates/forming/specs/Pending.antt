@@ -18,7 +18,7 @@ use Rattle.patterns.specs.Pattern.{any, wide}
 use Rattle.patterns.specs.Nodes.{isLarge}
 use Rattle.patterns.specs.Read.{Readable, patternAt}
 use Rattle.matching.specs.Leaf.{Stands, Grown}
-use Rattle.matching.specs.Node.{innerOf, waysOf, metBy}
+use Rattle.matching.specs.Node.{PieceOf, innerOf, waysOf, metBy}
 use Rattle.forming.specs.Inner.{Composed, countOf, inner}
 use Rattle.forming.specs.declared.Queue.{Queue}
 use Rattle.forming.specs.declared.taking.Left.{Left}
@@ -71,6 +71,20 @@ pub record PartPushed (table index : List ℕ) (p : ℕ) (s : List ℕ) (part : 
   pub long : length b ≡ length a
   pub right : (v : Value) (ts : List Task) → PartIs s part v → wide (patternAt (records table) p) v ≡ false → AgendaIs table index s a top next ts
       → AgendaIs table index s b (top + 1) top (task (getD (innerOf table p) i any) (getD (metBy table p v d) i (boolean true)) ∷ ts)
+
+-- Part i meets the piece in some way, and there is room for it.
+pub record PiecePushable (table index : List ℕ) (p i : ℕ) (s : List ℕ) (piece : Part) (a : List ℕ) (next top : ℕ) : Type 0 where
+  pub kind : ℕ
+  pub count : ℕ
+  pub part : Part
+  pub way : ℕ
+  pub held : PartPushable table index p kind count s part way i a next top
+  pub meets : PieceOf kind count s part way i piece
+
+-- In whatever way it does, part i stands before the rest.
+abbrev pub PiecePushed : List ℕ → List ℕ → ℕ → ℕ → List ℕ → Part → List ℕ → ℕ → ℕ → List ℕ → Type 0
+PiecePushed table index p i s piece a next top b =
+    (k n : ℕ) (part : Part) (d : ℕ) → PartPushable table index p k n s part d i a next top → PieceOf k n s part d i piece → PartPushed table index p s part d i a next top b
 
 -- The units whose bit is b, the first unit's bit being the lowest.
 unfoldable pub withBit : {A : Type 0} → ℕ → ℕ → List A → List A

@@ -24,12 +24,17 @@ use tables::reading::kind;
 use tables::reading::operand;
 use tables::reading::operand_count;
 use values::Value;
+ghost use mathlib.Core.Path.{_≡_};
+ghost use mathlib.Core.Bool.{true};
 ghost use Prim.Native.Nat.{_≤_};
+ghost use Rattle.tables.specs.Table.{kindAt};
+ghost use Rattle.tables.specs.Accepted.{records};
+ghost use Rattle.matching.specs.Node.{isSplit};
 ghost use Rattle.forming.specs.Rows.{EntryHeld};
 ghost use Rattle.forming.specs.Whole.{WordMet, SameValue};
 ghost use Rattle.parts.specs.Word.{unpacked};
 ghost use Rattle.forming.specs.Inner.{countOf};
-ghost use Rattle.forming.specs.Pending.{Pushable, PartPushable, PartPushed, howMany, PushedWhere, Pushed};
+ghost use Rattle.forming.specs.Pending.{Pushable, PartPushable, PartPushed, PiecePushable, PiecePushed, howMany, PushedWhere, Pushed};
 ghost use Rattle.forming.specs.Stack.{OpenHeld, Opened, MatchEntered, DownHeld, WentDown, BackHeld, WentBack, FinishHeld, Finished, Solvable, Solved};
 
 // An agenda is what is still to be matched. An entry is the record of a pattern, the part that it meets, and the entry that follows. Entry 0 is none, one
@@ -65,6 +70,28 @@ pub struct Queue {
     pub top: usize,
 }
 
+// Puts part i of a pattern, with what it meets, before the rest of the agenda.
+fn push_piece(
+    table: &[u8],
+    index: &Index,
+    p: usize,
+    i: usize,
+    s: &[u8],
+    piece: Part,
+    agenda: &mut Agenda,
+    next: usize,
+    top: usize,
+)
+    requires { ⌜ PiecePushable (now table) (now index) p i (now s) piece (now agenda) next top ⌝ }
+    ensures { λ u. ⌜ PiecePushed (now (table .entry)) (now (index .entry)) p i (now (s .entry)) piece (now (agenda .entry)) next top (now (agenda .exit)) ⌝ }
+{
+    let q = operand(table, index, p, i);
+    let b = words::word_of(s, piece);
+    agenda[3 * top] = q as u32;
+    agenda[3 * top + 1] = b;
+    agenda[3 * top + 2] = next as u32;
+}
+
 // Puts part i of a pattern of kind k with n parts, with what it meets in the way d, before the rest of the agenda.
 fn push_part(
     table: &[u8],
@@ -84,11 +111,29 @@ fn push_part(
     ensures { λ u. ⌜ PartPushed (now (table .entry)) (now (index .entry)) p (now (s .entry)) part d i (now (agenda .entry)) next top (now (agenda .exit)) ⌝ }
 {
     let a = nodes::piece(k, n, s, part, d, i);
-    let q = operand(table, index, p, i);
-    let b = words::word_of(s, a);
-    agenda[3 * top] = q as u32;
-    agenda[3 * top + 1] = b;
-    agenda[3 * top + 2] = next as u32;
+    push_piece(table, index, p, i, s, a, agenda, next, top);
+}
+
+// Puts the two parts of a union or munion of kind k, with the halves of its split d + 1, before the rest of the agenda: the split is made once for both.
+fn push_halves(
+    table: &[u8],
+    index: &Index,
+    p: usize,
+    k: usize,
+    s: &[u8],
+    part: Part,
+    d: usize,
+    agenda: &mut Agenda,
+    next: usize,
+    top: usize,
+) -> usize
+    requires { ⌜ Pushable (now table) (now index) p (now s) part d (now agenda) next top (countOf (now table) p) × (k ≡ kindAt (records (now table)) p) × (isSplit k ≡ true) ⌝ }
+    ensures { λ r. ⌜ Pushed (now (table .entry)) (now (index .entry)) p (now (s .entry)) part d (now (agenda .entry)) next top 0 (now (agenda .exit)) r ⌝ }
+{
+    let h = parts::split_part(s, part, d + 1);
+    push_piece(table, index, p, 1, s, h.right, agenda, next, top);
+    push_piece(table, index, p, 0, s, h.left, agenda, top, top + 1);
+    top + 1
 }
 
 // Puts the parts of a pattern, each with what it meets in the way d, before the rest of the agenda.
@@ -109,6 +154,10 @@ fn push_all(
     let k = kind(table, index, p);
     let n = operand_count(table, index, p);
     let part = words::unpack(word);
+    let united = nodes::is_split(k);
+    if united {
+        return push_halves(table, index, p, k, s, part, d, agenda, next, top);
+    }
     let mut head = next;
     let mut i = n;
     let mut to = top;
