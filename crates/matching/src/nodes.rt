@@ -129,8 +129,7 @@ pub fn meet(kind: usize, n: usize, s: &[u8], part: Part) -> Meeting
     Meeting::Ways(1)
 }
 
-// What part i meets in the way d. The first of all splits has an empty half, so the ways of a union or munion start at the next. Where an item is asked
-// for, the slice is lent on as one of its own, which is faster (see the page on performance).
+// What part i meets in the way d. The first of all splits has an empty half, so the ways of a union or munion start at the next.
 pub fn piece(kind: usize, n: usize, s: &[u8], part: Part, d: usize, i: usize) -> Part
     requires { ⌜ PieceHeld kind n (now s) part d i ⌝ }
     ensures { λ r. ⌜ PieceOf kind n (now (s .entry)) part d i r ⌝ }
@@ -153,11 +152,11 @@ pub fn piece(kind: usize, n: usize, s: &[u8], part: Part, d: usize, i: usize) ->
         let c = collection_of(kind);
         let w = parts::masks::width(c);
         let unit = unit_at(n / w, d, i / w);
-        let all = &s[0..];
-        return parts::item_of_part(all, part, w * unit + i % w);
+        let all = parts::runs::run_of(s, part);
+        return parts::item_of_run(s, all, w * unit + i % w);
     }
-    let all = &s[0..];
-    parts::item_of_part(all, part, i)
+    let all = parts::runs::run_of(s, part);
+    parts::item_of_run(s, all, i)
 }
 
 // A part of a value is the literal of a pattern of kind 34 or 35.

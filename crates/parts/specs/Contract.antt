@@ -11,7 +11,9 @@ use Rattle.patterns.specs.Ways.{Halves as Split, halves, splits, cuts}
 use Rattle.patterns.specs.Pattern.{itemsOf, UnitOf, itemsIn, halvesIn, isUnordered, leftOf, rightOf, mostSplit}
 use Rattle.parts.specs.declared.Part.{Part}
 use Rattle.parts.specs.declared.Halves.{Halves}
+use Rattle.parts.specs.declared.runs.Run.{Run}
 use Rattle.parts.specs.Part.{Selects, PartIs, endOf}
+use Rattle.parts.specs.Run.{RunOf}
 
 -- ---- reading
 
@@ -46,6 +48,15 @@ pub record ItemOfPart (s : List ℕ) (p : Part) (k : ℕ) (r : Part) : Type 0 wh
   pub whole : r .how ≡ 1
   pub right : (kind : Kind) (vs : List Value) (d : Value) → PartIs s p (collection kind (itemsOf vs)) → At s (r .at) (getD vs k d)
   pub ends : endOf s r ≤ endOf s p
+
+-- A run of the items of such a part, and what is its k-th item
+pub record RunItemHeld (s : List ℕ) (r : Run) (k : ℕ) : Type 0 where
+  pub part : Part
+  pub held : ItemHeld s part k
+  pub run : RunOf s part r
+
+abbrev pub ItemOfRun : List ℕ → Run → ℕ → Part → Type 0
+ItemOfRun s r k q = (p : Part) → ItemHeld s p k → RunOf s p r → ItemOfPart s p k q
 
 -- ---- halves
 

@@ -5,10 +5,11 @@ pub mod runs;
 pub mod words;
 
 use integers::Order;
+use runs::Run;
 use values::Value;
 ghost use mathlib.Core.Path.{_≡_};
 ghost use Rattle.parts.specs.Part.{PartHeld};
-ghost use Rattle.parts.specs.Contract.{KindOfPart, CollectionHeld, Countable, OrderedParts, CountOfPart, ItemHeld, ItemOfPart, SplitHeld, CutHeld, SplitOf, CutOf, Puttable, PutPart, MaskOf};
+ghost use Rattle.parts.specs.Contract.{KindOfPart, CollectionHeld, Countable, OrderedParts, CountOfPart, ItemHeld, ItemOfPart, RunItemHeld, ItemOfRun, SplitHeld, CutHeld, SplitOf, CutOf, Puttable, PutPart, MaskOf};
 
 // Nothing; the whole record at a place; of the set of at most seven members or the map of at most seven entries whose record stands at a place, those
 // units that the bits of `extent` choose, the first by the lowest bit; the sequence of the items whose records take `extent` bytes from a place on.
@@ -123,12 +124,11 @@ fn order_kinds(s: &[u8], p: Part, q: Part) -> Order
     runs::order(s, a, b)
 }
 
-// The k-th item of the collection that a part denotes, from 0.
-pub fn item_of_part(s: &[u8], p: Part, k: usize) -> Part
-    requires { ⌜ ItemHeld (now s) p k ⌝ }
-    ensures { λ r. ⌜ ItemOfPart (now (s .entry)) p k r ⌝ }
+// The k-th item of a run, from 0.
+pub fn item_of_run(s: &[u8], all: Run, k: usize) -> Part
+    requires { ⌜ RunItemHeld (now s) all k ⌝ }
+    ensures { λ r. ⌜ ItemOfRun (now (s .entry)) all k r ⌝ }
 {
-    let all = runs::run_of(s, p);
     let r = runs::skip(s, all, k);
     let at = r.from;
     Part {
@@ -136,6 +136,15 @@ pub fn item_of_part(s: &[u8], p: Part, k: usize) -> Part
         extent: 0,
         how: Part::WHOLE,
     }
+}
+
+// The k-th item of the collection that a part denotes, from 0.
+pub fn item_of_part(s: &[u8], p: Part, k: usize) -> Part
+    requires { ⌜ ItemHeld (now s) p k ⌝ }
+    ensures { λ r. ⌜ ItemOfPart (now (s .entry)) p k r ⌝ }
+{
+    let all = runs::run_of(s, p);
+    item_of_run(s, all, k)
 }
 
 // The d-th split of the set or map that a part denotes.

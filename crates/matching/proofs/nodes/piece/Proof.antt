@@ -3,7 +3,6 @@ use native.Mathlib.Omega.{arith}
 use borrow.Author.Needs.{needs}
 use Rattle.patterns.specs.Nodes.{collectionOf}
 use Rattle.matching.proofs.Counting.{each-kind, ordered-kind}
-use Rattle.parts.proofs.Laws.{lent-on}
 use Rattle.matching.proofs.Piecing.{next-low, split-held, split-meets, cut-held, cut-meets, order-low, item-small, paired-held, paired-is, one-held, one-is}
 use Rattle.matching.proofs.nodes.piece.Statement.{statement}
 use Rattle.matching.proofs.nodes.piece.Tie as tie
@@ -14,8 +13,9 @@ use Rattle.matching.proofs.nodes.is_paired.Reads as is-paired-reads
 use Rattle.matching.proofs.nodes.is_split.Reads as is-split-reads
 use Rattle.matching.proofs.nodes.unit_at.Reads as unit-at-reads
 use Rattle.parts.proofs.cut_part.Reads as cut-part-reads
-use Rattle.parts.proofs.item_of_part.Reads as item-of-part-reads
+use Rattle.parts.proofs.item_of_run.Reads as item-of-run-reads
 use Rattle.parts.proofs.masks.width.Reads as width-reads
+use Rattle.parts.proofs.runs.run_of.Reads as run-of-reads
 use Rattle.parts.proofs.split_part.Reads as split-part-reads
 
 is-split-requires : tie.Need-is-split-requires
@@ -60,44 +60,32 @@ div-unit-at-2 c = omega (arith, c .width .ensures .1)
 unit-at-requires : tie.Need-unit-at-requires
 unit-at-requires c κs = order-low (c .before .before .before .before .before .before .before .before .args .kind) _ _ _ _ _ (c .before .before .before .before .before .before .before .before .pre) (sym (c .before .before .before .is-paired .ensures) ∙ c .before .before .if5 .taken) _ (c .width .ensures .0 (collectionOf (c .before .before .before .before .before .before .before .before .args .kind)) (c .before .collection-of .ensures))
 
-sub-all : tie.Need-sub-all
-sub-all c = search needs
+run-of-requires : tie.Need-run-of-requires
+run-of-requires c κs = let h = paired-held (c .before .before .before .before .before .before .before .before .before .args .kind) _ _ _ _ _ (c .before .before .before .before .before .before .before .before .before .pre) (sym (c .before .before .before .before .is-paired .ensures) ∙ c .before .before .before .if5 .taken) _ (c .before .width .ensures .0 (collectionOf (c .before .before .before .before .before .before .before .before .before .args .kind)) (c .before .before .collection-of .ensures)) _ (c .unit-at .ensures) in record { kind = h .kind; items = h .items; here = h .here }
 
-part-all-start : tie.Need-part-all-start
-part-all-start c = search needs
+mul-item-of-run : tie.Need-mul-item-of-run
+mul-item-of-run c = omega (arith, item-small (c .before .before .before .before .before .before .before .before .before .before .args .kind) _ _ _ _ _ (c .before .before .before .before .before .before .before .before .before .before .pre) (sym (c .before .before .before .before .before .is-paired .ensures) ∙ c .before .before .before .before .if5 .taken) _ (c .before .before .width .ensures .0 (collectionOf (c .before .before .before .before .before .before .before .before .before .before .args .kind)) (c .before .before .before .collection-of .ensures)) _ (c .before .unit-at .ensures))
 
-part-all-end : tie.Need-part-all-end
-part-all-end c = search needs
+rem-item-of-run : tie.Need-rem-item-of-run
+rem-item-of-run c = omega (arith, c .before .before .width .ensures .1)
 
-mul-item-of-part : tie.Need-mul-item-of-part
-mul-item-of-part c = omega (arith, item-small (c .before .before .before .before .before .before .before .before .before .before .args .kind) _ _ _ _ _ (c .before .before .before .before .before .before .before .before .before .before .pre) (sym (c .before .before .before .before .before .is-paired .ensures) ∙ c .before .before .before .before .if5 .taken) _ (c .before .before .width .ensures .0 (collectionOf (c .before .before .before .before .before .before .before .before .before .before .args .kind)) (c .before .before .before .collection-of .ensures)) _ (c .before .unit-at .ensures))
+add-item-of-run : tie.Need-add-item-of-run
+add-item-of-run c = omega (arith, item-small (c .before .before .before .before .before .before .before .before .before .before .args .kind) _ _ _ _ _ (c .before .before .before .before .before .before .before .before .before .before .pre) (sym (c .before .before .before .before .before .is-paired .ensures) ∙ c .before .before .before .before .if5 .taken) _ (c .before .before .width .ensures .0 (collectionOf (c .before .before .before .before .before .before .before .before .before .before .args .kind)) (c .before .before .before .collection-of .ensures)) _ (c .before .unit-at .ensures))
 
-rem-item-of-part : tie.Need-rem-item-of-part
-rem-item-of-part c = omega (arith, c .before .before .width .ensures .1)
-
-add-item-of-part : tie.Need-add-item-of-part
-add-item-of-part c = omega (arith, item-small (c .before .before .before .before .before .before .before .before .before .before .args .kind) _ _ _ _ _ (c .before .before .before .before .before .before .before .before .before .before .pre) (sym (c .before .before .before .before .before .is-paired .ensures) ∙ c .before .before .before .before .if5 .taken) _ (c .before .before .width .ensures .0 (collectionOf (c .before .before .before .before .before .before .before .before .before .before .args .kind)) (c .before .before .before .collection-of .ensures)) _ (c .before .unit-at .ensures))
-
-item-of-part-requires : tie.Need-item-of-part-requires
-item-of-part-requires c κs = rw (lent-on (c .before .before .before .before .before .before .before .before .before .before .args .s .now)) (paired-held (c .before .before .before .before .before .before .before .before .before .before .args .kind) _ _ _ _ _ (c .before .before .before .before .before .before .before .before .before .before .pre) (sym (c .before .before .before .before .before .is-paired .ensures) ∙ c .before .before .before .before .if5 .taken) _ (c .before .before .width .ensures .0 (collectionOf (c .before .before .before .before .before .before .before .before .before .before .args .kind)) (c .before .before .before .collection-of .ensures)) _ (c .before .unit-at .ensures))
+item-of-run-requires : tie.Need-item-of-run-requires
+item-of-run-requires c κs = record { part = _; held = paired-held (c .before .before .before .before .before .before .before .before .before .before .args .kind) _ _ _ _ _ (c .before .before .before .before .before .before .before .before .before .before .pre) (sym (c .before .before .before .before .before .is-paired .ensures) ∙ c .before .before .before .before .if5 .taken) _ (c .before .before .width .ensures .0 (collectionOf (c .before .before .before .before .before .before .before .before .before .before .args .kind)) (c .before .before .before .collection-of .ensures)) _ (c .before .unit-at .ensures); run = c .run-of .ensures }
 
 returns-5 : tie.Need-returns-5
-returns-5 c = paired-is (c .before .before .before .before .before .before .before .before .before .before .before .args .kind) _ _ _ _ _ (c .before .before .before .before .before .before .before .before .before .before .before .pre) (sym (c .before .before .before .before .before .before .is-paired .ensures) ∙ c .before .before .before .before .before .if5 .taken) _ (c .before .before .before .width .ensures .0 (collectionOf (c .before .before .before .before .before .before .before .before .before .before .before .args .kind)) (c .before .before .before .before .collection-of .ensures)) _ (c .before .before .unit-at .ensures) _ (rw (lent-on (c .before .before .before .before .before .before .before .before .before .before .before .args .s .now)) at (c .item-of-part .ensures))
+returns-5 c = paired-is (c .before .before .before .before .before .before .before .before .before .before .before .args .kind) _ _ _ _ _ (c .before .before .before .before .before .before .before .before .before .before .before .pre) (sym (c .before .before .before .before .before .before .is-paired .ensures) ∙ c .before .before .before .before .before .if5 .taken) _ (c .before .before .before .width .ensures .0 (collectionOf (c .before .before .before .before .before .before .before .before .before .before .before .args .kind)) (c .before .before .before .before .collection-of .ensures)) _ (c .before .before .unit-at .ensures) _ (c .item-of-run .ensures _ (paired-held (c .before .before .before .before .before .before .before .before .before .before .before .args .kind) _ _ _ _ _ (c .before .before .before .before .before .before .before .before .before .before .before .pre) (sym (c .before .before .before .before .before .before .is-paired .ensures) ∙ c .before .before .before .before .before .if5 .taken) _ (c .before .before .before .width .ensures .0 (collectionOf (c .before .before .before .before .before .before .before .before .before .before .before .args .kind)) (c .before .before .before .before .collection-of .ensures)) _ (c .before .before .unit-at .ensures)) (c .before .run-of .ensures))
 
-sub-all-2 : tie.Need-sub-all-2
-sub-all-2 c = search needs
+run-of-requires-2 : tie.Need-run-of-requires-2
+run-of-requires-2 c κs = let h = one-held (c .before .before .before .before .before .before .args .kind) _ _ _ _ _ (c .before .before .before .before .before .before .pre) (each-kind (c .before .before .before .before .before .before .args .kind) (sym (c .before .before .before .before .is-split .ensures) ∙ c .before .before .before .if1 .left) (c .before .before .if3 .left)) (ordered-kind (c .before .before .before .before .before .before .args .kind) (sym (c .before .before .before .before .is-split .ensures) ∙ c .before .before .before .if1 .left) (sym (c .before .is-paired .ensures) ∙ c .if5 .left)) in record { kind = h .kind; items = h .items; here = h .here }
 
-part-all-start-2 : tie.Need-part-all-start-2
-part-all-start-2 c = search needs
-
-part-all-end-2 : tie.Need-part-all-end-2
-part-all-end-2 c = search needs
-
-item-of-part-requires-2 : tie.Need-item-of-part-requires-2
-item-of-part-requires-2 c κs = rw (lent-on (c .before .before .before .before .before .before .before .args .s .now)) (one-held (c .before .before .before .before .before .before .before .args .kind) _ _ _ _ _ (c .before .before .before .before .before .before .before .pre) (each-kind (c .before .before .before .before .before .before .before .args .kind) (sym (c .before .before .before .before .before .is-split .ensures) ∙ c .before .before .before .before .if1 .left) (c .before .before .before .if3 .left)) (ordered-kind (c .before .before .before .before .before .before .before .args .kind) (sym (c .before .before .before .before .before .is-split .ensures) ∙ c .before .before .before .before .if1 .left) (sym (c .before .before .is-paired .ensures) ∙ c .before .if5 .left)))
+item-of-run-requires-2 : tie.Need-item-of-run-requires-2
+item-of-run-requires-2 c κs = record { part = _; held = one-held (c .before .before .before .before .before .before .before .args .kind) _ _ _ _ _ (c .before .before .before .before .before .before .before .pre) (each-kind (c .before .before .before .before .before .before .before .args .kind) (sym (c .before .before .before .before .before .is-split .ensures) ∙ c .before .before .before .before .if1 .left) (c .before .before .before .if3 .left)) (ordered-kind (c .before .before .before .before .before .before .before .args .kind) (sym (c .before .before .before .before .before .is-split .ensures) ∙ c .before .before .before .before .if1 .left) (sym (c .before .before .is-paired .ensures) ∙ c .before .if5 .left)); run = c .run-of2 .ensures }
 
 returns-6 : tie.Need-returns-6
-returns-6 c = one-is (c .before .before .before .before .before .before .before .before .args .kind) _ _ _ _ _ (c .before .before .before .before .before .before .before .before .pre) (each-kind (c .before .before .before .before .before .before .before .before .args .kind) (sym (c .before .before .before .before .before .before .is-split .ensures) ∙ c .before .before .before .before .before .if1 .left) (c .before .before .before .before .if3 .left)) (ordered-kind (c .before .before .before .before .before .before .before .before .args .kind) (sym (c .before .before .before .before .before .before .is-split .ensures) ∙ c .before .before .before .before .before .if1 .left) (sym (c .before .before .before .is-paired .ensures) ∙ c .before .before .if5 .left)) _ (rw (lent-on (c .before .before .before .before .before .before .before .before .args .s .now)) at (c .item-of-part2 .ensures))
+returns-6 c = one-is (c .before .before .before .before .before .before .before .before .args .kind) _ _ _ _ _ (c .before .before .before .before .before .before .before .before .pre) (each-kind (c .before .before .before .before .before .before .before .before .args .kind) (sym (c .before .before .before .before .before .before .is-split .ensures) ∙ c .before .before .before .before .before .if1 .left) (c .before .before .before .before .if3 .left)) (ordered-kind (c .before .before .before .before .before .before .before .before .args .kind) (sym (c .before .before .before .before .before .before .is-split .ensures) ∙ c .before .before .before .before .before .if1 .left) (sym (c .before .before .before .is-paired .ensures) ∙ c .before .before .if5 .left)) _ (c .item-of-run2 .ensures _ (one-held (c .before .before .before .before .before .before .before .before .args .kind) _ _ _ _ _ (c .before .before .before .before .before .before .before .before .pre) (each-kind (c .before .before .before .before .before .before .before .before .args .kind) (sym (c .before .before .before .before .before .before .is-split .ensures) ∙ c .before .before .before .before .before .if1 .left) (c .before .before .before .before .if3 .left)) (ordered-kind (c .before .before .before .before .before .before .before .before .args .kind) (sym (c .before .before .before .before .before .before .is-split .ensures) ∙ c .before .before .before .before .before .if1 .left) (sym (c .before .before .before .is-paired .ensures) ∙ c .before .before .if5 .left))) (c .before .run-of2 .ensures))
 
 pub piece-spec : {M : Type 1} → statement M
 piece-spec =
@@ -117,16 +105,12 @@ piece-spec =
     div-unit-at
     div-unit-at-2
     unit-at-requires
-    sub-all
-    part-all-start
-    part-all-end
-    mul-item-of-part
-    rem-item-of-part
-    add-item-of-part
-    item-of-part-requires
+    run-of-requires
+    mul-item-of-run
+    rem-item-of-run
+    add-item-of-run
+    item-of-run-requires
     returns-5
-    sub-all-2
-    part-all-start-2
-    part-all-end-2
-    item-of-part-requires-2
+    run-of-requires-2
+    item-of-run-requires-2
     returns-6)
