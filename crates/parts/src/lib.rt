@@ -64,7 +64,7 @@ pub fn count_of_part(s: &[u8], p: Part) -> usize
     runs::count(s, r)
 }
 
-// The order of the sets or maps that two parts choose units of: of two sets member by member, of others as runs.
+// The order of the sets or maps that two parts choose units of: by kind, and then item by item.
 fn order_units(s: &[u8], p: Part, q: Part) -> Order
     requires { ⌜ PartHeld (now s) p × PartHeld (now s) q × (p .how ≡ 2) × (q .how ≡ 2) ⌝ }
     ensures { λ r. ⌜ OrderedParts (now (s .entry)) p q r ⌝ }
@@ -75,13 +75,15 @@ fn order_units(s: &[u8], p: Part, q: Part) -> Order
     let y = q.extent as usize;
     let kind = values::kind_of(s, a);
     let other = values::kind_of(s, b);
-    if kind == Value::SET {
-        if other == Value::SET {
-            return items::order(s, a + Value::HEAD, x, b + Value::HEAD, y);
-        }
+    if kind < other {
+        return Order::Lower;
     }
-    let all = &s[0..];
-    order_kinds(all, p, q)
+    if other < kind {
+        return Order::Higher;
+    }
+    let m = masks::item_mask(kind, x);
+    let n = masks::item_mask(kind, y);
+    items::order(s, a + Value::HEAD, m, b + Value::HEAD, n)
 }
 
 // The order of the values that two parts denote, where they lie. It serves the order of bindings and the test of repeated names alike.
