@@ -10,7 +10,10 @@ use Rattle.values.specs.Value.{Value, size}
 use Rattle.values.specs.Place.{ItemsAt, Holds, HoldsItems}
 use Rattle.values.proofs.Records.{holds, items-of, word-size, one-item}
 use Rattle.tables.specs.Accepted.{records}
+use Rattle.parts.specs.declared.Part.{Part}
 use Rattle.parts.specs.Part.{PartIs, PartHeld}
+use Rattle.parts.specs.Contract.{wholeAt}
+use Rattle.parts.proofs.Laws.{whole-part}
 use Rattle.patterns.specs.Ways.{exists}
 use Rattle.patterns.specs.Pattern.{Pattern, itemsOf, listOf, wide}
 use Rattle.patterns.specs.Laws.Matched.{items-list}
@@ -21,7 +24,11 @@ use Rattle.bindings.proofs.Members.{first-of, none-left}
 
 -- What is told of the value at a place.
 abbrev pub TellsAt : List ℕ → ℕ → List ℕ → ℕ → Bool → Type 0
-TellsAt table p s at r = (v : Value) → PartIs s (record { how = 1; at = at; extent = 0 }) v → r ≡ wide (patternAt (records table) p) v
+TellsAt table p s at r = (v : Value) → PartIs s (wholeAt at) v → r ≡ wide (patternAt (records table) p) v
+
+-- the whole record there as a part
+pub whole-here : {s : List ℕ} {at : ℕ} {q : Part} → q ≡ wholeAt at → Holds s at → PartHeld s q
+whole-here {s} e h = subst (PartHeld s) (sym e) (record { value = h .value; here = whole-part (h .here) })
 
 -- The members before a place have no set or map too large: the others tell.
 abbrev pub Passing : List ℕ → ℕ → List ℕ → ℕ → ℕ → ℕ → Type 0
@@ -82,10 +89,6 @@ module _ (table : List ℕ) (p : ℕ) (s : List ℕ) (from to : ℕ) where
 -- ---- over the one value, or the members of the set
 
 module _ (s : List ℕ) (at : ℕ) where
-  pub one-part : (t : Bool) → t ≡ true → Bindable s at t → PartHeld s (record { how = 1; at = at; extent = 0 })
-  one-part true e h = record { value = h .1 .0; here = inl (refl, h .1 .1) }
-  one-part false e h = true-false (sym e)
-
   pub one-held : (t : Bool) → t ≡ true → Bindable s at t → Holds s at
   one-held true e h = holds (h .1 .1)
   one-held false e h = true-false (sym e)

@@ -3,7 +3,6 @@ use forming::Agenda;
 use forming::Formed;
 use forming::RowOrder;
 use forming::Rows;
-use parts::Part;
 use parts::words::Env;
 use tables::Index;
 ghost use mathlib.Core.Path.{_≡_};
@@ -36,17 +35,8 @@ fn any_large(table: &[u8], index: &Index, p: usize, s: &[u8], from: usize, to: u
     let mut at = from;
     while at < to {
         let n = values::length_of(s, at);
-        let large = splitting::too_large(
-            table,
-            index,
-            p,
-            s,
-            Part {
-                at: at as u32,
-                extent: 0,
-                how: Part::WHOLE,
-            },
-        );
+        let member = parts::whole_at(at);
+        let large = splitting::too_large(table, index, p, s, member);
         if large {
             return true;
         }
@@ -62,17 +52,8 @@ pub fn is_wide(table: &[u8], index: &Index, p: usize, s: &[u8], at: usize, whole
     ensures { λ r. ⌜ TellsWide (now (table .entry)) p (now (s .entry)) at whole r ⌝ }
 {
     if whole {
-        return splitting::too_large(
-            table,
-            index,
-            p,
-            s,
-            Part {
-                at: at as u32,
-                extent: 0,
-                how: Part::WHOLE,
-            },
-        );
+        let value = parts::whole_at(at);
+        return splitting::too_large(table, index, p, s, value);
     }
     let n = values::length_of(s, at);
     any_large(table, index, p, s, at + 4, at + n)

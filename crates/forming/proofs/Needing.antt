@@ -3,28 +3,23 @@ use mathlib.Core.Path.{_≡_, refl, sym, ap, subst, _∙_}
 use mathlib.Core.Bool.{Bool, true, false}
 use mathlib.Core.Logic.{inl, inr, ⊎-elim}
 use mathlib.Core.List.{List, [], _∷_}
-use Prim.Native.Nat.{ℕ, _+_, _%_, _≤_, _<_}
-use native.Mathlib.Omega.{arith}
-use lib.ListN.{length, getD}
+use Prim.Native.Nat.{ℕ, _<_}
+use lib.ListN.{length}
 use Rattle.prelude.specs.Membership.{In}
 use Rattle.prelude.proofs.Absurd.{impossible}
-use Rattle.prelude.proofs.Truth.{by-lower}
-use Rattle.prelude.proofs.Membership.{in-at, at-in, map-in}
-use Rattle.integers.specs.declared.Order.{Order}
-use Rattle.integers.specs.declared.Order.the-variants.{Same}
-use Rattle.values.specs.Value.{Kind, number, Value, boolean, collection, order}
-use Rattle.values.proofs.Order.{order-refl}
+use Rattle.prelude.proofs.Membership.{at-in, map-in}
+use Rattle.values.specs.Value.{Kind, number, Value}
 use Rattle.tables.specs.Record.{named as operandsOf, operand}
 use Rattle.tables.specs.Table.{recordAt, kindAt}
 use Rattle.tables.specs.Accepted.{records}
 use Rattle.parts.specs.declared.Part.{Part}
-use Rattle.parts.specs.Part.{PartIs, CellIs}
-use Rattle.parts.specs.Contract.{KindOfPart, CollectionHeld, CountOfPart, ItemHeld, ItemOfPart}
-use Rattle.parts.specs.Word.{unpacked, CellHeld, WordOf, WordHeld, OrderedWords}
+use Rattle.parts.specs.Part.{PartIs, PartHeld}
+use Rattle.parts.specs.Contract.{KindOfPart, HasItem}
+use Rattle.parts.specs.Word.{unpacked}
 use Rattle.parts.proofs.Laws.{of-kind}
 use Rattle.patterns.specs.Binding.{is, Binding, names, only, cellOf}
 use Rattle.patterns.specs.Units.{Permuted}
-use Rattle.patterns.specs.Pattern.{Pattern, name, each, halved, itemsOf, UnitOf, unitsOf, itemsIn, isUnordered}
+use Rattle.patterns.specs.Pattern.{Pattern, name, each, halved, UnitOf, unitsOf, itemsIn, isUnordered}
 use Rattle.patterns.specs.Relation.{Divided, Matches, MatchesEach}
 use Rattle.patterns.specs.Nodes.{collectionOf}
 use Rattle.patterns.specs.Read.{Readable, patternsOf, patternAt}
@@ -35,7 +30,7 @@ use Rattle.matching.specs.Node.{isSplit, innerOf}
 use Rattle.matching.proofs.Counting.{split-kind}
 use Rattle.matching.proofs.Records.{by-record}
 use Rattle.forming.specs.declared.needs.Asked.the-variants.{Nothing, Had, Lacked}
-use Rattle.forming.specs.Needs.{Unmatched, Lacks, NoMatch, NoneMatch, WordAt, TellsItem}
+use Rattle.forming.specs.Needs.{Unmatched, Lacks, NoMatch, NoneMatch, WordAt}
 use Rattle.forming.specs.Sizes.{Splits, enumerationOf}
 use Rattle.forming.proofs.Compatible.{joined-left, joined-right, compatible-within}
 use Rattle.forming.proofs.Reducing.{items-same, is-two}
@@ -91,42 +86,12 @@ unfolding Matches
 right-half b k u p q vs f ts g a (us, ls, rs, c, d, e, s, m, n, j) h =
     f rs (λ t i. g t (subst (In t) (sym (items-same k ts us e)) (right-in k u us ls rs s t i))) d n (compatible-within d a b (joined-right c d a j) h)
 
--- ---- has_item
-
--- None of the first n items has the value of the word.
-abbrev pub NoneTo : List ℕ → Part → ℕ → ℕ → Type 0
-NoneTo s part word n = (k : Kind) (vs : List Value) (v : Value) → PartIs s part (collection k (itemsOf vs)) → PartIs s (unpacked word) v → (j : ℕ) → j < n → v ≡ getD vs j (boolean true) → ⊥
-
-module _ (s : List ℕ) (part : Part) (word : ℕ) where
-  pub none-end : (n : ℕ) → CountOfPart s part n → (k : ℕ) → n ≤ k → NoneTo s part word k → TellsItem s part word false
-  none-end n c k l h e kind vs v p q i = let (j, m, d) = in-at v vs (boolean true) i in h kind vs v p q j (omega (arith, m, c kind vs p)) d
-
-  pub item-asked : length s ≤ 65536 → (h : CollectionHeld s part) (n : ℕ) → CountOfPart s part n → (k : ℕ) → k < n → ItemHeld s part k
-  item-asked l h n c k m = record { kind = h .kind; items = h .items; here = h .here; below = omega (arith, m, c (h .kind) (h .items) (h .here)); short = l }
-
-  module _ (k : ℕ) (r : Part) (m : ItemOfPart s part k r) where
-    item-cell : (kind : Kind) (vs : List Value) → PartIs s part (collection kind (itemsOf vs)) → CellIs s r (is (getD vs k (boolean true)))
-    item-cell kind vs p = inr (getD vs k (boolean true), refl, inl (m .whole, m .right kind vs (boolean true) p))
-
-    pub item-held : CollectionHeld s part → CellHeld s r
-    item-held h = (is (getD (h .items) k (boolean true)), item-cell (h .kind) (h .items) (h .here))
-
-    module _ (w : ℕ) (o : WordOf s r w) where
-      pub item-word : CollectionHeld s part → WordHeld s w
-      item-word h = record { cell = is (getD (h .items) k (boolean true)); is = o .is (is (getD (h .items) k (boolean true))) (item-cell (h .kind) (h .items) (h .here)); blank = o .blank }
-
-      pub none-more : (c : Order) → OrderedWords s word w c → (c ≡ Same → ⊥) → NoneTo s part word k → NoneTo s part word (k + 1)
-      none-more c d f h kind vs v p q j l =
-          by-lower j k (λ n. h kind vs v p q j n) (λ n e.
-          let x : v ≡ getD vs k (boolean true) = let i : j ≡ k = omega arith in e ∙ ap (λ (y : ℕ). getD vs y (boolean true)) i in
-          f (d (is v) (is (getD vs k (boolean true))) (inr (v, refl, q)) (o .is (is (getD vs k (boolean true))) (item-cell kind vs p)) ∙ ap (order v) (sym x) ∙ order-refl v))
-
 -- ---- word_at
 
-pub named-word : (table : List ℕ) (q : ℕ) (s found : List ℕ) → Standing s found → (word : ℕ) → WordAt table q found word → (word ≡ 0 → ⊥) → WordHeld s word
-named-word table q s found (b, st) word k f =
-    let (x, l, e, w) = k f in
-    record { cell = cellOf b x; is = subst (λ (n : ℕ). CellIs s (unpacked n) (cellOf b x)) (sym w) (st .cells x l); blank = subst (λ (n : ℕ). n % 4 ≡ 0 → n ≡ 0) (sym w) (st .blank x l) }
+pub named-part : (table : List ℕ) (q : ℕ) (s found : List ℕ) → Standing s found → (word : ℕ) → WordAt table q found word → (word ≡ 0 → ⊥) → (value : Part) → value ≡ unpacked word → PartHeld s value
+named-part table q s found (b, st) word k f value e =
+    let (x, l, pe, w) = k f in
+    ⊎-elim (λ n. absurd (f (w ∙ st .blank x l (n .0)))) (λ (v, d, g). record { value = v; here = subst (λ (z : Part). PartIs s z v) (sym (e ∙ ap unpacked w)) g }) (st .cells x l)
 
 -- ---- what the parts ask
 
@@ -138,15 +103,15 @@ had-told e = impossible cc
 
 module _ (table index : List ℕ) (p : ℕ) (h : Readable table index p) (s : List ℕ) (part : Part) (found : List ℕ) where
   pub names-lack : (c : ℕ) → Splits c → kindAt (records table) p ≡ enumerationOf c → (i : ℕ) → i < length (operandsOf (recordAt (records table) p)) → (q : ℕ) → q ≡ operand (recordAt (records table) p) i → (word : ℕ) → WordAt table q found word → (word ≡ 0 → ⊥)
-      → (t : Bool) → TellsItem s part word t → t ≡ false → NoneMatch table p c s part found
-  names-lack c u e i l q qe word k f t m z vs b o st =
+      → (value : Part) → value ≡ unpacked word → (t : Bool) → HasItem s part value t → t ≡ false → NoneMatch table p c s part found
+  names-lack c u e i l q qe word k f value ve t m z vs b o st =
       let (x, xl, pe, we) = k f in
       let among : In (name x) (innerOf table p) =
       subst (λ (y : Pattern). In y (innerOf table p)) (ap (patternAt (records table)) (sym qe) ∙ pe)
       (map-in (operand (recordAt (records table) p) i) (patternAt (records table)) (operandsOf (recordAt (records table) p)) (at-in (operandsOf (recordAt (records table) p)) i 0 l)) in
       subst (λ (y : Pattern). Lacks b (collectionOf c) y vs) (sym (by-record table index p h ∙ each-by (recordAt (records table) p) (innerOf table p) c e u))
       (⊎-elim (λ n. absurd (f (we ∙ st .blank x xl (n .0))))
-      (λ (v, d, g). each-lacks b (collectionOf c) (innerOf table p) vs x xl among v d (m z (collectionOf c) vs v o (subst (λ (n : ℕ). PartIs s (unpacked n) v) (sym we) g)))
+      (λ (v, d, g). each-lacks b (collectionOf c) (innerOf table p) vs x xl among v d (m (collectionOf c) vs v o (subst (λ (y : Part). PartIs s y v) (sym (ve ∙ ap unpacked we)) g) .1 z))
       (st .cells x xl))
 
   module _ (c : ℕ) (u : isSplit c ≡ true) (e : kindAt (records table) p ≡ c) where

@@ -67,7 +67,3 @@ isHad Lacked = false
 -- Where r is not 0, the pattern is a name and r is its word.
 abbrev pub WordAt : List ℕ → ℕ → List ℕ → ℕ → Type 0
 WordAt table p found r = (r ≡ 0 → ⊥) → (x : ℕ) × (x < names) × (patternAt (records table) p ≡ name x) × (r ≡ getD found x 0)
-
--- Where the answer is no, no item of the part has the value of the word.
-abbrev pub TellsItem : List ℕ → Part → ℕ → Bool → Type 0
-TellsItem s part word r = r ≡ false → (k : Kind) (vs : List Value) (v : Value) → PartIs s part (collection k (itemsOf vs)) → PartIs s (unpacked word) v → In v vs → ⊥

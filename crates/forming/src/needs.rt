@@ -1,7 +1,6 @@
 // What names ask of a set or map: an enumeration at or below a tree of unions or munions names an item by each of its names, a member, key or value. A name
 // that has a value asks for an item with that value; where the set or map that the tree meets lacks it, nothing matches.
 use crate::sizes;
-use integers::Order;
 use matching::nodes;
 use parts::Part;
 use parts::words;
@@ -15,42 +14,21 @@ use tables::reading::operand_count;
 use values::Value;
 ghost use mathlib.Core.Path.{_≡_};
 ghost use mathlib.Core.Bool.{true};
-ghost use Prim.Native.Nat.{_≤_};
-ghost use lib.ListN.{length};
 ghost use Rattle.tables.specs.Table.{kindAt};
 ghost use Rattle.tables.specs.Accepted.{records};
 ghost use Rattle.parts.specs.Part.{PartHeld};
 ghost use Rattle.parts.specs.Contract.{CollectionHeld};
-ghost use Rattle.parts.specs.Word.{unpacked, WordHeld};
+ghost use Rattle.parts.specs.Word.{unpacked};
 ghost use Rattle.patterns.specs.Read.{Readable};
 ghost use Rattle.matching.specs.Node.{isSplit};
 ghost use Rattle.forming.specs.Sizes.{Splits, enumerationOf};
-ghost use Rattle.forming.specs.Needs.{AskHeld, UnionOf, isHad, TellsAsked, TellsLacked, TellsFit, WordAt, TellsItem};
+ghost use Rattle.forming.specs.Needs.{AskHeld, UnionOf, isHad, TellsAsked, TellsLacked, TellsFit, WordAt};
 
 // What the names that have a value ask of a set or map that a pattern meets: nothing, items that it has, or one that it lacks.
 pub enum Asked {
     Nothing,
     Had,
     Lacked,
-}
-
-// An item of what the part denotes has the value of the word.
-fn has_item(s: &[u8], part: Part, word: u32) -> bool
-    requires { ⌜ (length (now s) ≤ 65536) × CollectionHeld (now s) part × WordHeld (now s) word ⌝ }
-    ensures { λ r. ⌜ TellsItem (now (s .entry)) part word r ⌝ }
-{
-    let n = parts::count_of_part(s, part);
-    let mut k = 0;
-    while k < n {
-        let item = parts::item_of_part(s, part, k);
-        let w = words::word_of(s, item);
-        let o = words::order_words(s, word, w);
-        if let Order::Same = o {
-            return true;
-        }
-        k += 1;
-    }
-    false
 }
 
 // The word of a name; 0 where the pattern is none, or the name has no value.
@@ -86,7 +64,8 @@ fn asked_by_names(
         let q = operand(table, index, p, i);
         let word = word_at(table, index, q, found);
         if word != 0 {
-            let there = has_item(s, part, word);
+            let value = words::unpack(word);
+            let there = parts::has_item(s, part, value);
             if !there {
                 return Asked::Lacked;
             }

@@ -96,7 +96,7 @@ module _ (c : ℕ) where
   pub split-kind : isSplit c ≡ true → (isHalved c ≡ true) × (isUnordered (collectionOf c) ≡ true)
   split-kind e = either (λ x. (isHalved x ≡ true) × (isUnordered (collectionOf x) ≡ true)) c 38 42 (refl, refl) (refl, refl) e
 
-  pub paired-kind : isPaired c ≡ true → (isHalved c ≡ false) × (isUnordered (collectionOf c) ≡ true)
+  paired-kind : isPaired c ≡ true → (isHalved c ≡ false) × (isUnordered (collectionOf c) ≡ true)
   paired-kind e = either (λ x. (isHalved x ≡ false) × (isUnordered (collectionOf x) ≡ true)) c 37 41 (refl, refl) (refl, refl) e
 
   module _ (not-split : isSplit c ≡ false) where
@@ -126,7 +126,7 @@ module _ (c n : ℕ) (v : Value) where
   none-meets e = by-test (isHalved c) (λ h. (rw (h, e), rw (h, e))) (λ h. (rw h, rw (h, e)))
 
   module _ (vs : List Value) (f : contents (collectionOf c) v ≡ some vs) where
-    pub meets-halves : isHalved c ≡ true
+    meets-halves : isHalved c ≡ true
         → (meetings c n v ≡ map (bothHalves (collectionOf c)) (divisions (collectionOf c) vs)) × (isLarge c v ≡ isTooLarge (collectionOf c) (some vs))
     meets-halves h = (rw (h, f), rw (h, f))
 

@@ -23,7 +23,7 @@ use Rattle.patterns.specs.Laws.Named.{PartOf, divides, part-fine}
 use Rattle.parts.specs.declared.Part.{Part}
 use Rattle.parts.specs.Chosen.{odd, keep}
 use Rattle.parts.specs.Part.{Selects, Spans, PartIs, PartHeld, endOf}
-use Rattle.parts.specs.Contract.{KindOfPart, CollectionHeld}
+use Rattle.parts.specs.Contract.{KindOfPart, CollectionHeld, wholeAt}
 
 -- ---- by its how
 
@@ -183,5 +183,5 @@ lent-on s = take-all (length s - 0) s (omega arith)
 
 -- ---- whole records
 
-pub whole-part : {s : List ℕ} {at : ℕ} {v : Value} → At s at v → PartIs s (record { how = 1; at = at; extent = 0 }) v
+pub whole-part : {s : List ℕ} {at : ℕ} {v : Value} → At s at v → PartIs s (wholeAt at) v
 whole-part h = inl (refl, h)

@@ -3,12 +3,15 @@ use mathlib.Core.Path.{_≡_, refl, sym, ap, ap₂, subst, _∙_}
 use mathlib.Core.Bool.{Bool, true, cond}
 use mathlib.Core.Logic.{inl, inr}
 use mathlib.Core.List.{List, [], _∷_, _++_, map}
-use Prim.Native.Nat.{ℕ, _/_, _%_, _^_, _<_}
+use Prim.Native.Nat.{ℕ, zero, suc, _+_, _/_, _%_, _^_, _<_}
 use native.Mathlib.Nat.{pow-suc}
 use native.Mathlib.Decide.{ℕ-discrete}
 use native.Mathlib.Omega.{arith}
+use lib.Bits.{differ, bitXor, xor-step, xor-shr}
+use lib.Count.{under, trailingZeros}
 use lib.Dec.{eqb}
 use lib.ListN.{length}
+use lib.Pow.{shr-shr}
 use borrow.Author.Tests.{eq-eqb, ne-eqb}
 use Rattle.prelude.specs.Membership.{In}
 use Rattle.integers.specs.declared.Order.{Order}
@@ -24,7 +27,7 @@ use Rattle.patterns.specs.Laws.Plain.{cell-refl}
 use Rattle.patterns.specs.Laws.Collected.{firstOf, Led, led-first, shaped-led}
 use Rattle.parts.specs.declared.Part.{Part}
 use Rattle.parts.specs.Chosen.{keep}
-use Rattle.parts.specs.Laws.Chosen.{keep-zero, keep-odd, keep-even}
+use Rattle.parts.specs.Laws.Chosen.{keep-zero, keep-none, keep-odd, keep-even}
 use Rattle.parts.specs.Mask.{OrderedMasks}
 use Rattle.parts.specs.Part.{Selects, PartIs, PartHeld, CellIs}
 use Rattle.parts.specs.Contract.{OrderedParts}
@@ -185,6 +188,27 @@ module _ (a b x y : ℕ) (i : MasksLeft a b x y) where
       let r = keep-some x ws e p in
       ap₂ (orderIn k) (r .is) (ap (λ (m : ℕ). keep m ws) f ∙ keep-zero ws) ∙ units-some k (r .first) (r .others))
 
+  -- both have the first unit, or neither
+  masks-more : x % 2 ≡ y % 2 → MasksLeft a b (x / 2) (y / 2)
+  masks-more d k u us p q h = let r = i k u us p q h in go (r .units) (r .left) (r .right) (r .led) (r .is)
+    where
+      same : (w : UnitOf k) (ws : List (UnitOf k)) → Dec (x % 2 ≡ 1) → orderIn k (keep (x / 2) ws) (keep (y / 2) ws) ≡ orderIn k (keep x (w ∷ ws)) (keep y (w ∷ ws))
+      same w ws (yes z) =
+          sym (units-more k w (keep (x / 2) ws) (keep (y / 2) ws))
+          ∙ sym (ap₂ (orderIn k) (keep-odd x (x / 2) w ws z refl) (keep-odd y (y / 2) w ws (omega (arith, d)) refl))
+      same w ws (no z) = sym (ap₂ (orderIn k) (keep-even x (x / 2) w ws (omega (arith, z)) refl) (keep-even y (y / 2) w ws (omega (arith, d, z)) refl))
+
+      go : (ws : List (UnitOf k)) → x < 2 ^ length ws → y < 2 ^ length ws → Led (firstOf k) ws → orderIn k (keep x ws) (keep y ws) ≡ orderIn k (keep a us) (keep b us)
+          → Left k (x / 2) (y / 2) (orderIn k (keep a us) (keep b us))
+      go [] l r s g = record { units = []; left = omega arith; right = omega arith; led = s; is = ap₂ (orderIn k) (keep-none (x / 2) ∙ sym (keep-none x)) (keep-none (y / 2) ∙ sym (keep-none y)) ∙ g }
+      go (w ∷ ws) l r s g = record {
+        units = ws;
+        left = omega (arith, pow-suc 2 (length ws));
+        right = omega (arith, pow-suc 2 (length ws));
+        led = led-first (firstOf k) w ws s .1;
+        is = same w ws (ℕ-discrete (x % 2) 1) ∙ g;
+      }
+
   module _ (e : x ≡ 0 → ⊥) (f : y ≡ 0 → ⊥) where
     -- one has the first unit, the other begins after it
     pub masks-first : (x % 2 ≡ y % 2 → ⊥) → (t : Bool) → t ≡ eqb (x % 2) 1 → (o : Order) → o ≡ cond t Lower Higher → OrderedMasks a b o
@@ -203,25 +227,63 @@ module _ (a b x y : ℕ) (i : MasksLeft a b x y) where
             ∙ comes-first k w (keep (y / 2) ws) ws (x / 2) h r .1
             ∙ sym (ap (λ (u : Bool). cond u Lower Higher) (te ∙ ne-eqb (x % 2) 1 z))
 
-    pub masks-more : x % 2 ≡ y % 2 → MasksLeft a b (x / 2) (y / 2)
-    masks-more d k u us p q h = let r = i k u us p q h in go (r .units) (r .left) (r .right) (r .led) (r .is)
-      where
-        same : (w : UnitOf k) (ws : List (UnitOf k)) → Dec (x % 2 ≡ 1) → orderIn k (keep (x / 2) ws) (keep (y / 2) ws) ≡ orderIn k (keep x (w ∷ ws)) (keep y (w ∷ ws))
-        same w ws (yes z) =
-            sym (units-more k w (keep (x / 2) ws) (keep (y / 2) ws))
-            ∙ sym (ap₂ (orderIn k) (keep-odd x (x / 2) w ws z refl) (keep-odd y (y / 2) w ws (omega (arith, d)) refl))
-        same w ws (no z) = sym (ap₂ (orderIn k) (keep-even x (x / 2) w ws (omega (arith, z)) refl) (keep-even y (y / 2) w ws (omega (arith, d, z)) refl))
+-- ---- the lowest bits that are equal
 
-        go : (ws : List (UnitOf k)) → x < 2 ^ length ws → y < 2 ^ length ws → Led (firstOf k) ws → orderIn k (keep x ws) (keep y ws) ≡ orderIn k (keep a us) (keep b us)
-            → Left k (x / 2) (y / 2) (orderIn k (keep a us) (keep b us))
-        go [] l r s g = absurd (e (omega arith))
-        go (w ∷ ws) l r s g = record {
-          units = ws;
-          left = omega (arith, pow-suc 2 (length ws));
-          right = omega (arith, pow-suc 2 (length ws));
-          led = led-first (firstOf k) w ws s .1;
-          is = same w ws (ℕ-discrete (x % 2) 1) ∙ g;
-        }
+-- The lowest t of k bits of x and y are equal, and the next is not: what is left of both decides.
+pub record EqualBits (a b x y t k : ℕ) : Type 0 where
+  pub low : t < k
+  pub left : MasksLeft a b (x / 2 ^ t) (y / 2 ^ t)
+  pub differ : x / 2 ^ t % 2 ≡ y / 2 ^ t % 2 → ⊥
+
+digits-same : (p q : ℕ) → p ≡ q → p < 2 → differ p q ≡ 0
+digits-same zero q e l = sym e
+digits-same (suc zero) zero e l = absurd (omega arith)
+digits-same (suc zero) (suc q) e l = omega arith
+digits-same (suc (suc p)) q e l = absurd (omega arith)
+
+digits-other : (p q : ℕ) → (p ≡ q → ⊥) → p < 2 → q < 2 → differ p q ≡ 1
+digits-other zero q f l m = omega (arith, f)
+digits-other (suc zero) zero f l m = refl
+digits-other (suc zero) (suc q) f l m = absurd (f (omega arith))
+digits-other (suc (suc p)) q f l m = absurd (omega arith)
+
+-- they are as many as the zeros below the lowest bit of the bits that differ
+pub equal-bits : (k a b x y : ℕ) → MasksLeft a b x y → (x ≡ y → ⊥) → x < 2 ^ k → y < 2 ^ k → EqualBits a b x y (trailingZeros k (bitXor x y)) k
+unfolding trailingZeros
+equal-bits zero a b x y i f p q = absurd (f (omega arith))
+equal-bits (suc k) a b x y i f p q =
+    go (ℕ-discrete (x % 2) (y % 2)) (λ e.
+    equal-bits k a b (x / 2) (y / 2) (masks-more a b x y i e) (λ z. f (omega (arith, e, z))) (omega (arith, pow-suc 2 k)) (omega (arith, pow-suc 2 k)))
+  where
+    halves : bitXor x y / 2 ≡ bitXor (x / 2) (y / 2)
+    halves = xor-shr x y 1
+
+    lowest : (d : ℕ) → differ (x % 2) (y % 2) ≡ d → d < 2 → bitXor x y % 2 ≡ d
+    lowest d e l = let s = xor-step x y in omega arith
+
+    go : Dec (x % 2 ≡ y % 2) → (x % 2 ≡ y % 2 → EqualBits a b (x / 2) (y / 2) (trailingZeros k (bitXor (x / 2) (y / 2))) k)
+        → EqualBits a b x y (under (bitXor x y % 2) (trailingZeros k (bitXor x y / 2))) (suc k)
+    go (yes e) on =
+        let t = trailingZeros k (bitXor (x / 2) (y / 2)) in
+        let r = on e in
+        let n : 1 + t ≡ suc t = omega arith in
+        let u : x / 2 / 2 ^ t ≡ x / 2 ^ suc t = shr-shr x 1 t ∙ ap (λ (m : ℕ). x / 2 ^ m) n in
+        let v : y / 2 / 2 ^ t ≡ y / 2 ^ suc t = shr-shr y 1 t ∙ ap (λ (m : ℕ). y / 2 ^ m) n in
+        subst (λ (m : ℕ). EqualBits a b x y m (suc k)) (sym (ap₂ under (lowest 0 (digits-same (x % 2) (y % 2) e (omega arith)) (omega arith)) (ap (trailingZeros k) halves)))
+        (record {
+          low = let l = r .low in omega arith;
+          left = subst (λ (m : ℕ). MasksLeft a b m (y / 2 ^ suc t)) u (subst (MasksLeft a b (x / 2 / 2 ^ t)) v (r .left));
+          differ = λ z. r .differ (ap (λ (m : ℕ). m % 2) u ∙ z ∙ sym (ap (λ (m : ℕ). m % 2) v));
+        })
+    go (no d) on =
+        let u : x / 2 ^ 0 ≡ x = omega arith in
+        let v : y / 2 ^ 0 ≡ y = omega arith in
+        subst (λ (m : ℕ). EqualBits a b x y m (suc k)) (sym (ap (λ (m : ℕ). under m (trailingZeros k (bitXor x y / 2))) (lowest 1 (digits-other (x % 2) (y % 2) d (omega arith) (omega arith)) (omega arith))))
+        (record {
+          low = omega arith;
+          left = subst (λ (m : ℕ). MasksLeft a b m (y / 2 ^ 0)) (sym u) (subst (MasksLeft a b x) (sym v) i);
+          differ = λ z. d (ap (λ (m : ℕ). m % 2) (sym u) ∙ z ∙ ap (λ (m : ℕ). m % 2) v);
+        })
 
 -- ---- two masks of one set or map
 

@@ -1,7 +1,7 @@
 -- The functions on parts, said of lists, places and numbers alone.
 use mathlib.Core.Path.{_≡_, refl, sym, ap, ap₂, subst, _∙_}
-use mathlib.Core.Bool.{false}
-use mathlib.Core.Logic.{inl, inr}
+use mathlib.Core.Bool.{true, false}
+use mathlib.Core.Logic.{inl, inr, ⊎-elim}
 use mathlib.Core.List.{List, _∷_}
 use Prim.Native.Nat.{ℕ, suc, _+_, _*_, _≤_, _<_}
 use native.Mathlib.Nat.{mul-comm}
@@ -10,14 +10,16 @@ use native.Mathlib.Omega.{arith}
 use lib.Count.{ones}
 use lib.ListN.{length, getD, drop}
 use lib.Seq.{drop-cons}
+use Rattle.prelude.specs.Membership.{In}
+use Rattle.prelude.proofs.Absurd.{true-false}
 use Rattle.integers.specs.declared.Order.{Order}
-use Rattle.integers.specs.declared.Order.the-variants.{Lower, Higher}
+use Rattle.integers.specs.declared.Order.the-variants.{Lower, Same, Higher}
 use Rattle.values.specs.Value.{Kind, number, Value, boolean, collection, kindOf, after, order, orderItems, within}
 use Rattle.values.specs.Place.{At, ItemsAt, Holds}
 use Rattle.values.specs.Contract.{Length, KindAt, Ordered}
 use Rattle.integers.specs.Order.{orderℕ}
 use Rattle.integers.proofs.Ordered.{lt-lower, gt-higher, eq-same}
-use Rattle.values.proofs.Order.{number-low}
+use Rattle.values.proofs.Order.{number-low, order-refl, same-equal}
 use Rattle.values.proofs.Records.{holds, items-to, is-collection}
 use Rattle.patterns.specs.Pattern.{listOf, itemsOf, itemsIn}
 use Rattle.patterns.specs.Nodes.{width}
@@ -29,9 +31,9 @@ use Rattle.parts.specs.Laws.Chosen.{kept-length, chosen-all, chosen-keep
 use Rattle.parts.specs.Mask.{WidthOf, ChoosesItems, ItemMask}
 use Rattle.parts.specs.Part.{PartIs, PartHeld, endOf}
 use Rattle.parts.proofs.Laws.{as-list, whole-of, selects-of, selects-low, spans-of, part-one, one-collection, end-span, end-record}
-use Rattle.parts.specs.Run.{RunIs, RunHeld, Startable, ReadyRun, RunOf, CountOf, SkipHeld, Skipped, OrderedRuns}
-use Rattle.parts.specs.Contract.{KindOfPart, CollectionHeld, CountOfPart, OrderedParts, ItemHeld, ItemOfPart}
-use Rattle.parts.proofs.Running.{ready-odd, run-head, more-less}
+use Rattle.parts.specs.Run.{RunIs, RunHeld, Startable, ReadyRun, RestOf, RunOf, CountOf, SkipHeld, Skipped, OrderedRuns}
+use Rattle.parts.specs.Contract.{KindOfPart, CollectionHeld, CountOfPart, OrderedParts, ItemHeld, ItemOfPart, wholeAt, HasItem}
+use Rattle.parts.proofs.Running.{ready-odd, run-head, run-end, more-less}
 
 -- ---- which parts there are
 
@@ -186,12 +188,9 @@ runs-order {s} {p} {q} cp cq h e ra rb c v w x y =
     c (listOf vs) (listOf ws) (ra .right i (listOf vs) (subst (PartIs s p) dv x)) (rb .right j (listOf ws) (subst (PartIs s q) dw y))
     ∙ sym (ap₂ order dv dw ∙ collections-order i j (listOf vs) (listOf ws) n)
 
--- ---- `item_of_part`
+-- ---- `item_of_run`
 
 module _ {s : List ℕ} {p : Part} {k : ℕ} where
-  pub item-collection : ItemHeld s p k → CollectionHeld s p
-  item-collection h = record { kind = h .kind; items = h .items; here = h .here }
-
   pub item-skip : {r : Run} → ItemHeld s p k → RunOf s p r → SkipHeld s r k
   item-skip h c = record { items = h .items; here = c .right (h .kind) (h .items) (h .here); enough = let b = h .below in omega arith }
 
@@ -203,7 +202,7 @@ module _ {s : List ℕ} {p : Part} {k : ℕ} where
       let s = h .short in
       omega arith
 
-  pub item-is : {r q : Run} → ItemHeld s p k → RunOf s p r → Skipped s r k q → ItemOfPart s p k (record { how = 1; at = q .from; extent = 0 })
+  pub item-is : {r q : Run} → ItemHeld s p k → RunOf s p r → Skipped s r k q → ItemOfPart s p k (wholeAt (q .from))
   item-is {r} {q} h c d = record { whole = refl; right = right; ends = ends }
     where
       there : (kind : Kind) (vs : List Value) (e : Value) → PartIs s p (collection kind (itemsOf vs)) → RunIs s q (getD vs k e ∷ drop (suc k) vs)
@@ -220,7 +219,7 @@ module _ {s : List ℕ} {p : Part} {k : ℕ} where
           let z : getD vs k e ≡ y .first = let i = y .is in cc in
           subst (At s (q .from)) (sym z) (y .first-at)
 
-      ends : endOf s (record { how = 1; at = q .from; extent = 0 }) ≤ endOf s p
+      ends : endOf s (wholeAt (q .from)) ≤ endOf s p
       ends =
           let g = there (h .kind) (h .items) (boolean false) (h .here) in
           let y = run-head (getD (h .items) k (boolean false) ∷ drop (suc k) (h .items)) (more-less g) g in
@@ -228,3 +227,44 @@ module _ {s : List ℕ} {p : Part} {k : ℕ} where
           let t = d .to in
           let u = c .ends in
           omega arith
+
+-- ---- `has_item`
+
+-- the item at which a run stands
+pub first-held : {s : List ℕ} {r : Run} {item : Part} → item ≡ wholeAt (r .from) → r .from < r .to → RunHeld s r → PartHeld s item
+first-held {s} w lt h = let x = run-head (h .items) lt (h .here) in record { value = x .first; here = subst (λ (z : Part). PartIs s z (x .first)) (sym w) (inl (refl, x .first-at)) }
+
+-- The value of q is among the items of a run exactly where it is among those of what is left of it.
+abbrev pub Unfound : List ℕ → Part → Run → Run → Type 0
+Unfound s q r₀ r = (vs : List Value) (v : Value) → RunIs s r₀ vs → PartIs s q v → (ws : List Value) × RunIs s r ws × (In v ws → In v vs) × (In v vs → In v ws)
+
+pub unfound-start : (s : List ℕ) (q : Part) (r : Run) → Unfound s q r r
+unfound-start s q r vs v h k = (vs, h, (λ m. m), λ m. m)
+
+module _ {s : List ℕ} {q : Part} {r₀ r : Run} (i : Unfound s q r₀ r) where
+  pub unfound-held : {p : Part} → CollectionHeld s p → RunOf s p r₀ → PartHeld s q → RunHeld s r
+  unfound-held h c k = let (ws, g, to, from) = i (h .items) (k .value) (c .right (h .kind) (h .items) (h .here)) (k .here) in record { items = ws; here = g }
+
+  pub unfound-end : {p : Part} → RunOf s p r₀ → r .to ≤ r .from → HasItem s p q false
+  unfound-end c e k vs v x y = let (ws, g, to, from) = i vs v (c .right k vs x) y in ((λ z. true-false (sym z)), λ z m. subst (In v) (run-end ws e g) (from m))
+
+  module _ (lt : r .from < r .to) {item : Part} (w : item ≡ wholeAt (r .from)) (o : Order) (d : OrderedParts s item q o) where
+    first-order : (ws : List Value) (g : RunIs s r ws) (v : Value) → PartIs s q v → o ≡ order (run-head ws lt g .first) v
+    first-order ws g v y = let h = run-head ws lt g in d (h .first) v (subst (λ (z : Part). PartIs s z (h .first)) (sym w) (inl (refl, h .first-at))) y
+
+    pub unfound-found : {p : Part} → RunOf s p r₀ → o ≡ Same → HasItem s p q true
+    unfound-found c e k vs v x y =
+        let (ws, g, to, from) = i vs v (c .right k vs x) y in
+        let h = run-head ws lt g in
+        let n : v ≡ h .first = sym (same-equal (h .first) v (sym (first-order ws g v y) ∙ e)) in
+        ((λ z. to (subst (In v) (sym (h .is)) (inl n))), λ z. true-false z)
+
+    pub unfound-more : {t : Run} → (o ≡ Same → ⊥) → RestOf s r t → Unfound s q r₀ t
+    unfound-more f b vs v x y =
+        let (ws, g, to, from) = i vs v x y in
+        let h = run-head ws lt g in (
+          h .others,
+          b .right (h .first) (h .others) (subst (RunIs s r) (h .is) g),
+          (λ m. to (subst (In v) (sym (h .is)) (inr m))),
+          λ m. ⊎-elim (λ n. absurd (f (first-order ws g v y ∙ ap (order (h .first)) n ∙ order-refl (h .first)))) (λ n. n) (subst (In v) (h .is) (from m)),
+        )

@@ -1,9 +1,10 @@
 -- What the functions on parts ask and promise. Each promise is for whatever value the part denotes: by `part-one` there is one.
 use mathlib.Core.Path.{_≡_}
-use mathlib.Core.Bool.{true}
+use mathlib.Core.Bool.{Bool, true, false}
 use mathlib.Core.List.{List, []}
 use Prim.Native.Nat.{ℕ, _+_, _^_, _≤_, _<_}
 use lib.ListN.{length, getD}
+use Rattle.prelude.specs.Membership.{In}
 use Rattle.integers.specs.declared.Order.{Order}
 use Rattle.values.specs.Value.{Kind, sequence, Value, collection, kindOf, size, order, valueLimit}
 use Rattle.values.specs.Place.{At, Outside}
@@ -57,6 +58,14 @@ pub record RunItemHeld (s : List ℕ) (r : Run) (k : ℕ) : Type 0 where
 
 abbrev pub ItemOfRun : List ℕ → Run → ℕ → Part → Type 0
 ItemOfRun s r k q = (p : Part) → ItemHeld s p k → RunOf s p r → ItemOfPart s p k q
+
+-- The whole record at a place.
+abbrev pub wholeAt : ℕ → Part
+wholeAt at = record { at = at; extent = 0; how = 1 }
+
+-- r says whether an item of the collection that p denotes has the value of q
+abbrev pub HasItem : List ℕ → Part → Part → Bool → Type 0
+HasItem s p q r = (k : Kind) (vs : List Value) (v : Value) → PartIs s p (collection k (itemsOf vs)) → PartIs s q v → (r ≡ true → In v vs) × (r ≡ false → In v vs → ⊥)
 
 -- ---- halves
 

@@ -8,8 +8,10 @@ use integers::Order;
 use runs::Run;
 use values::Value;
 ghost use mathlib.Core.Path.{_≡_};
+ghost use Prim.Native.Nat.{_≤_};
+ghost use lib.ListN.{length};
 ghost use Rattle.parts.specs.Part.{PartHeld};
-ghost use Rattle.parts.specs.Contract.{KindOfPart, CollectionHeld, Countable, OrderedParts, CountOfPart, ItemHeld, ItemOfPart, RunItemHeld, ItemOfRun, SplitHeld, CutHeld, SplitOf, CutOf, Puttable, PutPart, MaskOf};
+ghost use Rattle.parts.specs.Contract.{KindOfPart, CollectionHeld, Countable, OrderedParts, CountOfPart, RunItemHeld, ItemOfRun, wholeAt, HasItem, SplitHeld, CutHeld, SplitOf, CutOf, Puttable, PutPart, MaskOf};
 
 // Nothing; the whole record at a place; of the set of at most seven members or the map of at most seven entries whose record stands at a place, those
 // units that the bits of `extent` choose, the first by the lowest bit; the sequence of the items whose records take `extent` bytes from a place on.
@@ -64,7 +66,7 @@ pub fn count_of_part(s: &[u8], p: Part) -> usize
     runs::count(s, r)
 }
 
-// The order of the sets or maps that two parts choose units of: by kind, and then item by item.
+// The order of the sets or maps that two parts choose units of: those of one by their bits, others by kind and then item by item.
 fn order_units(s: &[u8], p: Part, q: Part) -> Order
     requires { ⌜ PartHeld (now s) p × PartHeld (now s) q × (p .how ≡ 2) × (q .how ≡ 2) ⌝ }
     ensures { λ r. ⌜ OrderedParts (now (s .entry)) p q r ⌝ }
@@ -73,6 +75,9 @@ fn order_units(s: &[u8], p: Part, q: Part) -> Order
     let b = q.at as usize;
     let x = p.extent as usize;
     let y = q.extent as usize;
+    if a == b {
+        return masks::order(x, y);
+    }
     let kind = values::kind_of(s, a);
     let other = values::kind_of(s, b);
     if kind < other {
@@ -80,6 +85,10 @@ fn order_units(s: &[u8], p: Part, q: Part) -> Order
     }
     if other < kind {
         return Order::Higher;
+    }
+    // Most are sets: what chooses members chooses items.
+    if kind == Value::SET {
+        return items::order(s, a + Value::HEAD, x, b + Value::HEAD, y);
     }
     let m = masks::item_mask(kind, x);
     let n = masks::item_mask(kind, y);
@@ -124,13 +133,11 @@ fn order_kinds(s: &[u8], p: Part, q: Part) -> Order
     runs::order(s, a, b)
 }
 
-// The k-th item of a run, from 0.
-pub fn item_of_run(s: &[u8], all: Run, k: usize) -> Part
-    requires { ⌜ RunItemHeld (now s) all k ⌝ }
-    ensures { λ r. ⌜ ItemOfRun (now (s .entry)) all k r ⌝ }
+// The whole record at a place.
+pub fn whole_at(at: usize) -> Part
+    requires { ⌜ at ≤ 65536 ⌝ }
+    ensures { λ r. ⌜ r ≡ wholeAt at ⌝ }
 {
-    let r = runs::skip(s, all, k);
-    let at = r.from;
     Part {
         at: at as u32,
         extent: 0,
@@ -138,13 +145,30 @@ pub fn item_of_run(s: &[u8], all: Run, k: usize) -> Part
     }
 }
 
-// The k-th item of the collection that a part denotes, from 0.
-pub fn item_of_part(s: &[u8], p: Part, k: usize) -> Part
-    requires { ⌜ ItemHeld (now s) p k ⌝ }
-    ensures { λ r. ⌜ ItemOfPart (now (s .entry)) p k r ⌝ }
+// The k-th item of a run, from 0.
+pub fn item_of_run(s: &[u8], all: Run, k: usize) -> Part
+    requires { ⌜ RunItemHeld (now s) all k ⌝ }
+    ensures { λ r. ⌜ ItemOfRun (now (s .entry)) all k r ⌝ }
 {
-    let all = runs::run_of(s, p);
-    item_of_run(s, all, k)
+    let r = runs::skip(s, all, k);
+    whole_at(r.from)
+}
+
+// An item of the collection that a part denotes has the value of another part.
+pub fn has_item(s: &[u8], p: Part, q: Part) -> bool
+    requires { ⌜ (length (now s) ≤ 65536) × CollectionHeld (now s) p × PartHeld (now s) q ⌝ }
+    ensures { λ r. ⌜ HasItem (now (s .entry)) p q r ⌝ }
+{
+    let mut r = runs::run_of(s, p);
+    while r.from < r.to {
+        let item = whole_at(r.from);
+        let o = order_parts(s, item, q);
+        if let Order::Same = o {
+            return true;
+        }
+        r = runs::rest(s, r);
+    }
+    false
 }
 
 // The d-th split of the set or map that a part denotes.

@@ -77,23 +77,20 @@ pub fn spread(m: usize, d: usize) -> usize
 pub fn order(a: usize, b: usize) -> Order
     ensures { λ r. ⌜ OrderedMasks a b r ⌝ }
 {
-    let mut x = a;
-    let mut y = b;
-    while x != y {
-        if x == 0 {
-            return Order::Lower;
-        }
-        if y == 0 {
-            return Order::Higher;
-        }
-        if x % 2 != y % 2 {
-            let left = x % 2 == 1;
-            return first(left);
-        }
-        x /= 2;
-        y /= 2;
+    if a == b {
+        return Order::Same;
     }
-    Order::Same
+    let equal = usize::trailing_zeros(a ^ b);
+    let x = a >> equal;
+    let y = b >> equal;
+    if x == 0 {
+        return Order::Lower;
+    }
+    if y == 0 {
+        return Order::Higher;
+    }
+    let left = x % 2 == 1;
+    first(left)
 }
 
 // The one that has the lowest bit comes first.

@@ -1,6 +1,5 @@
 // Parts as words of 32 bits, and what each name stands for.
 use crate::Part;
-use crate::masks;
 use integers::Order;
 ghost use mathlib.Core.Path.{_≡_};
 ghost use Prim.Native.Nat.{ℕ, _%_, _≤_};
@@ -68,19 +67,12 @@ pub fn order_words(s: &[u8], a: u32, b: u32) -> Order
     crate::order_parts(s, p, q)
 }
 
-// The order of what two words say of a name that both choose units of sets or maps: those of one set or map by their bits.
+// The order of what two words say of a name that both choose units of sets or maps.
 pub fn order_chosen(s: &[u8], a: u32, b: u32) -> Order
     requires { ⌜ WordHeld (now s) a × WordHeld (now s) b × (a % 4 ≡ 2) × (b % 4 ≡ 2) ⌝ }
     ensures { λ r. ⌜ OrderedWords (now (s .entry)) a b r ⌝ }
 {
     let p = unpack(a);
     let q = unpack(b);
-    if p.at == q.at {
-        let x = p.extent as usize;
-        let y = q.extent as usize;
-        return masks::order(x, y);
-    }
-    // The slice is lent on as one of its own, which is faster (see the page on performance).
-    let all = &s[0..];
-    crate::order_units(all, p, q)
+    crate::order_units(s, p, q)
 }

@@ -218,6 +218,20 @@ module _ (table index : List ℕ) (p : ℕ) (r : Readable table index p) where
         unfolding wide patternsOf
         parts-none l v q = ap (λ (ps : List Pattern). wideEach (patternsOf ps) (drop i (metBy table p v d))) (sym (inner-end i l)) ∙ left v q
 
+        parts-by : i < length (named (recordAt (records table) p)) → (q : ℕ) → q ≡ operand (recordAt (records table) p) i → (v : Value) → PartIs s part v
+            → wideEach (patternsOf (drop i (innerOf table p))) (drop i (metBy table p v d))
+            ≡ wide (patternAt (records table) q) (getD (metBy table p v d) i (boolean true)) || wideEach (patternsOf (drop (i + 1) (innerOf table p))) (drop (i + 1) (metBy table p v d))
+        unfolding wide patternsOf
+        parts-by l q e v z =
+            let below : d < length (waysOf table p v) = subst (λ (u : Value). d < length (waysOf table p u)) (sym (part-one z (h .here))) (h .below) in
+            let long : length (metBy table p v d) ≡ length (named (recordAt (records table) p)) = meeting-length (kindAt (records table) p) (length (named (recordAt (records table) p))) v d (part-well-formed z) (count-two table index p r (h .composed)) below in
+            ap₂ (λ (ps : List Pattern) (vs : List Value). wideEach (patternsOf ps) vs) (inner-next i q l e) (drop-next (metBy table p v d) i (boolean true) (omega (arith, long)))
+
+        -- a part without a union or munion is passed over
+        pub parts-past : i < length (named (recordAt (records table) p)) → (q : ℕ) → q ≡ operand (recordAt (records table) p) i → (b : Bool) → TellsSplit table q b → b ≡ false → PartsLeft table p s part d (i + 1)
+        parts-past l q e b t w v z =
+            sym (parts-by l q e v z ∙ rw (no-split-narrow (patternAt (records table) q) (getD (metBy table p v d) i (boolean true)) (sym t ∙ w))) ∙ left v z
+
         module _ (l : i < length (named (recordAt (records table) p))) (kind n : ℕ) (x : kind ≡ kindAt (records table) p) (y : n ≡ length (named (recordAt (records table) p))) where
           pub piece-asked : PieceHeld kind n s part d i
           piece-asked = rw (x, y) (record {
@@ -245,11 +259,8 @@ module _ (table index : List ℕ) (p : ℕ) (r : Readable table index p) where
               parts-step : (v : Value) → PartIs s part v
                   → wideEach (patternsOf (drop i (innerOf table p))) (drop i (metBy table p v d))
                   ≡ b || wideEach (patternsOf (drop (i + 1) (innerOf table p))) (drop (i + 1) (metBy table p v d))
-              unfolding wide patternsOf
               parts-step v z =
-                  let below : d < length (waysOf table p v) = subst (λ (u : Value). d < length (waysOf table p u)) (sym (part-one z (h .here))) (h .below) in
-                  let long : length (metBy table p v d) ≡ length (named (recordAt (records table) p)) = meeting-length (kindAt (records table) p) (length (named (recordAt (records table) p))) v d (part-well-formed z) (count-two table index p r (h .composed)) below in
-                  ap₂ (λ (ps : List Pattern) (vs : List Value). wideEach (patternsOf ps) vs) (inner-next i q l e) (drop-next (metBy table p v d) i (boolean true) (omega (arith, long)))
+                  parts-by l q e v z
                   ∙ ap (λ (k : Bool). k || wideEach (patternsOf (drop (i + 1) (innerOf table p))) (drop (i + 1) (metBy table p v d))) (sym (t (getD (metBy table p v d) i (boolean true)) (piece-is v z)))
 
               pub parts-found : b ≡ true → TellsWay table p s part d true

@@ -95,7 +95,7 @@ fn in_ways(table: &[u8], index: &Index, p: usize, s: &[u8], part: Part, w: usize
     false
 }
 
-// The parts of a pattern, each with what it meets in the way d.
+// The parts of a pattern, each with what it meets in the way d. Those without a union or munion need not be looked into.
 fn in_way(table: &[u8], index: &Index, p: usize, s: &[u8], part: Part, d: usize) -> bool
     requires { ⌜ Readable (now table) (now index) p × WayHeld (now table) p (now s) part d ⌝ }
     ensures { λ r. ⌜ TellsWay (now (table .entry)) p (now (s .entry)) part d r ⌝ }
@@ -104,11 +104,14 @@ fn in_way(table: &[u8], index: &Index, p: usize, s: &[u8], part: Part, d: usize)
     let n = operand_count(table, index, p);
     let mut i = 0;
     while i < n {
-        let a = nodes::piece(k, n, s, part, d, i);
         let q = operand(table, index, p, i);
-        let wide = too_large(table, index, q, s, a);
-        if wide {
-            return true;
+        let split = has_split(table, index, q);
+        if split {
+            let a = nodes::piece(k, n, s, part, d, i);
+            let wide = too_large(table, index, q, s, a);
+            if wide {
+                return true;
+            }
         }
         i += 1;
     }

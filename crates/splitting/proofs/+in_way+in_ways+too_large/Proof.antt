@@ -3,10 +3,11 @@ use native.Mathlib.Omega.{arith}
 use borrow.Author.Needs.{needs}
 use borrow.Author.Tests.{not-true, not-false}
 use mathlib.Core.Path.{ap, _∙_}
+use mathlib.Core.Logic.{⊎-elim}
 use Rattle.tables.specs.Record.{isComposed}
 use Rattle.tables.specs.Laws.Kinds.{composed-told}
 use Rattle.matching.proofs.Records.{count-fits, has-operand, operand-readable, recast-meets}
-use Rattle.splitting.proofs.Telling.{PartsLeft, WaysLeft, wide-leaf, wide-unfit, wide-large, ways-held, wide-ways, ways-shallow, ways-start, ways-none, way-held, ways-found, ways-next, parts-start, parts-none, piece-asked, piece-held, parts-found, parts-next}
+use Rattle.splitting.proofs.Telling.{PartsLeft, WaysLeft, wide-leaf, wide-unfit, wide-large, ways-held, wide-ways, ways-shallow, ways-start, ways-none, way-held, ways-found, ways-next, parts-start, parts-none, piece-asked, piece-held, parts-past, parts-found, parts-next}
 use borrow.Fn.Kinds.{In}
 use borrow.Fn.PlainCycle.{Measures, is, falls, and}
 use Rattle.splitting.proofs.in_way.Reads as in-way
@@ -20,6 +21,7 @@ use Rattle.splitting.proofs.too_large.Kinds as too-large-kinds
 use Rattle.splitting.proofs.+in_way+in_ways+too_large.Lts-too_large as too-large-lts
 use Rattle.matching.proofs.nodes.meet.Reads as meet-reads
 use Rattle.matching.proofs.nodes.piece.Reads as piece-reads
+use Rattle.splitting.proofs.has_split.Reads as has-split-reads
 use Rattle.splitting.proofs.is_shallow.Reads as is-shallow-reads
 use Rattle.tables.proofs.reading.kind.Reads as kind-reads
 use Rattle.tables.proofs.shape.is_composed.Reads as is-composed-reads
@@ -63,7 +65,7 @@ abbrev in-way-μ-loop : in-way-lts.MeasureT-loop
 in-way-μ-loop table index p s part d k n i₀ i = n - i
 
 abbrev in-way-calls : ℕ → in-way-lts.Claims
-in-way-calls t = (kind-reads.Asked, kind-reads.Learnt, operand-count-reads.Asked, operand-count-reads.Learnt, piece-reads.Asked, piece-reads.Learnt, operand-reads.Asked, operand-reads.Learnt, too-large-below t, too-large.Post)
+in-way-calls t = (kind-reads.Asked, kind-reads.Learnt, operand-count-reads.Asked, operand-count-reads.Learnt, operand-reads.Asked, operand-reads.Learnt, has-split-reads.Asked, has-split-reads.Learnt, piece-reads.Asked, piece-reads.Learnt, too-large-below t, too-large.Post)
 
 abbrev in-ways-calls : ℕ → in-ways-lts.Claims
 in-ways-calls t = (is-shallow-reads.Asked, is-shallow-reads.Learnt, in-way-below t, in-way.Post)
@@ -80,26 +82,32 @@ in-way-operand-count-requires t c κs = c .before .before .before .pre .1 .0 .he
 in-way-loop-holds : (t : ℕ) → in-way-lts.Need-loop-holds (in-way-calls t) (in-way-at t) in-way.Post in-way-Inv-loop in-way-μ-loop
 in-way-loop-holds t c = parts-start _ _ _ (c .before .before .before .before .pre .1 .0) _ _ _ (c .before .before .before .before .pre .1 .1)
 
-in-way-piece-requires : (t : ℕ) → in-way-lts.Need-piece-requires (in-way-calls t) (in-way-at t) in-way.Post in-way-Inv-loop in-way-μ-loop
-in-way-piece-requires t c κs = piece-asked _ _ _ (c .before .before .before .before .before .before .pre .1 .0) _ _ _ (c .before .before .before .before .before .before .pre .1 .1) _ (c .before .loop .inv) (omega (arith, c .before .before .operand-count .ensures .0)) _ _ (c .before .before .before .kind .ensures .0) (c .before .before .operand-count .ensures .0)
-
 in-way-operand-requires : (t : ℕ) → in-way-lts.Need-operand-requires (in-way-calls t) (in-way-at t) in-way.Post in-way-Inv-loop in-way-μ-loop
-in-way-operand-requires t c κs = has-operand _ _ _ (c .before .before .before .before .before .before .before .pre .1 .0) _ (omega (arith, c .before .before .before .operand-count .ensures .0))
+in-way-operand-requires t c κs = has-operand _ _ _ (c .before .before .before .before .before .before .pre .1 .0) _ (omega (arith, c .before .before .operand-count .ensures .0))
+
+in-way-has-split-requires : (t : ℕ) → in-way-lts.Need-has-split-requires (in-way-calls t) (in-way-at t) in-way.Post in-way-Inv-loop in-way-μ-loop
+in-way-has-split-requires t c κs = operand-readable _ _ _ (c .before .before .before .before .before .before .before .pre .1 .0) _ (omega (arith, c .before .before .before .operand-count .ensures .0)) _ (c .operand .ensures .0) .0
+
+in-way-piece-requires : (t : ℕ) → in-way-lts.Need-piece-requires (in-way-calls t) (in-way-at t) in-way.Post in-way-Inv-loop in-way-μ-loop
+in-way-piece-requires t c κs = piece-asked _ _ _ (c .before .before .before .before .before .before .before .before .before .pre .1 .0) _ _ _ (c .before .before .before .before .before .before .before .before .before .pre .1 .1) _ (c .before .before .before .before .loop .inv) (omega (arith, c .before .before .before .before .before .operand-count .ensures .0)) _ _ (c .before .before .before .before .before .before .kind .ensures .0) (c .before .before .before .before .before .operand-count .ensures .0)
 
 in-way-too-large-requires : (t : ℕ) → in-way-lts.Need-too-large-requires (in-way-calls t) (in-way-at t) in-way.Post in-way-Inv-loop in-way-μ-loop
-in-way-too-large-requires t c κs = let o = operand-readable _ _ _ (c .before .before .before .before .before .before .before .before .pre .1 .0) _ (omega (arith, c .before .before .before .before .operand-count .ensures .0)) _ (c .operand .ensures .0) in (omega (arith, o .1), (o .0, piece-held _ _ _ (c .before .before .before .before .before .before .before .before .pre .1 .0) _ _ _ (c .before .before .before .before .before .before .before .before .pre .1 .1) _ (c .before .before .before .loop .inv) (omega (arith, c .before .before .before .before .operand-count .ensures .0)) _ _ (c .before .before .before .before .before .kind .ensures .0) (c .before .before .before .before .operand-count .ensures .0) _ (c .before .piece .ensures), c .before .before .before .before .before .before .before .before .pre .1 .1 .short))
+in-way-too-large-requires t c κs = let o = operand-readable _ _ _ (c .before .before .before .before .before .before .before .before .before .before .pre .1 .0) _ (omega (arith, c .before .before .before .before .before .before .operand-count .ensures .0)) _ (c .before .before .before .operand .ensures .0) in (omega (arith, o .1), (o .0, piece-held _ _ _ (c .before .before .before .before .before .before .before .before .before .before .pre .1 .0) _ _ _ (c .before .before .before .before .before .before .before .before .before .before .pre .1 .1) _ (c .before .before .before .before .before .loop .inv) (omega (arith, c .before .before .before .before .before .before .operand-count .ensures .0)) _ _ (c .before .before .before .before .before .before .before .kind .ensures .0) (c .before .before .before .before .before .before .operand-count .ensures .0) _ (c .piece .ensures), c .before .before .before .before .before .before .before .before .before .before .pre .1 .1 .short))
 
 in-way-returns : (t : ℕ) → in-way-lts.Need-returns (in-way-calls t) (in-way-at t) in-way.Post in-way-Inv-loop in-way-μ-loop
-in-way-returns t c = parts-found _ _ _ (c .before .before .before .before .before .before .before .before .before .before .pre .1 .0) _ _ _ (c .before .before .before .before .before .before .before .before .before .before .pre .1 .1) _ (c .before .before .before .before .before .loop .inv) (omega (arith, c .before .before .before .before .before .before .operand-count .ensures .0)) _ _ (c .before .before .before .before .before .before .before .kind .ensures .0) (c .before .before .before .before .before .before .operand-count .ensures .0) _ (c .before .before .before .piece .ensures) _ (c .before .before .operand .ensures .0) _ (c .before .too-large .ensures) (c .if1 .taken)
+in-way-returns t c = parts-found _ _ _ (c .before .before .before .before .before .before .before .before .before .before .before .before .pre .1 .0) _ _ _ (c .before .before .before .before .before .before .before .before .before .before .before .before .pre .1 .1) _ (c .before .before .before .before .before .before .before .loop .inv) (omega (arith, c .before .before .before .before .before .before .before .before .operand-count .ensures .0)) _ _ (c .before .before .before .before .before .before .before .before .before .kind .ensures .0) (c .before .before .before .before .before .before .before .before .operand-count .ensures .0) _ (c .before .before .piece .ensures) _ (c .before .before .before .before .before .operand .ensures .0) _ (c .before .too-large .ensures) (c .if2 .taken)
 
 in-way-add-i : (t : ℕ) → in-way-lts.Need-add-i (in-way-calls t) (in-way-at t) in-way.Post in-way-Inv-loop in-way-μ-loop
-in-way-add-i t c = omega (arith, c .before .before .before .before .before .before .operand-count .ensures .1)
+in-way-add-i t c = omega (arith, c .before .before .before .before .before .operand-count .ensures .1)
 
 in-way-loop-less : (t : ℕ) → in-way-lts.Need-loop-less (in-way-calls t) (in-way-at t) in-way.Post in-way-Inv-loop in-way-μ-loop
 in-way-loop-less t c = omega arith
 
 in-way-loop-again : (t : ℕ) → in-way-lts.Need-loop-again (in-way-calls t) (in-way-at t) in-way.Post in-way-Inv-loop in-way-μ-loop
-in-way-loop-again t c = parts-next _ _ _ (c .before .before .before .before .before .before .before .before .before .before .pre .1 .0) _ _ _ (c .before .before .before .before .before .before .before .before .before .before .pre .1 .1) _ (c .before .before .before .before .before .loop .inv) (omega (arith, c .before .before .before .before .before .before .operand-count .ensures .0)) _ _ (c .before .before .before .before .before .before .before .kind .ensures .0) (c .before .before .before .before .before .before .operand-count .ensures .0) _ (c .before .before .before .piece .ensures) _ (c .before .before .operand .ensures .0) _ (c .before .too-large .ensures) (c .if1 .left)
+in-way-loop-again t c =
+    ⊎-elim (λ w. parts-next _ _ _ (c .before .before .before .before .before .before .before .before .before .pre .1 .0) _ _ _ (c .before .before .before .before .before .before .before .before .before .pre .1 .1) _ (c .before .before .before .before .loop .inv) (omega (arith, c .before .before .before .before .before .operand-count .ensures .0)) _ _ (c .before .before .before .before .before .before .kind .ensures .0) (c .before .before .before .before .before .operand-count .ensures .0) _ (w .1 .ensures) _ (c .before .before .operand .ensures .0) _ (w .2 .ensures) (w .3 .left))
+    (λ w. parts-past _ _ _ (c .before .before .before .before .before .before .before .before .before .pre .1 .0) _ _ _ (c .before .before .before .before .before .before .before .before .before .pre .1 .1) _ (c .before .before .before .before .loop .inv) (omega (arith, c .before .before .before .before .before .operand-count .ensures .0)) _ (c .before .before .operand .ensures .0) _ (c .before .has-split .ensures) (w .left))
+    (c .if1 .came)
 
 in-way-returns-2 : (t : ℕ) → in-way-lts.Need-returns-2 (in-way-calls t) (in-way-at t) in-way.Post in-way-Inv-loop in-way-μ-loop
 in-way-returns-2 t c = parts-none _ _ _ (c .before .before .before .before .before .before .pre .1 .0) _ _ _ (c .before .before .before .before .before .before .pre .1 .1) (c .before .loop .i) (c .before .loop .inv) (omega (arith, c .before .before .operand-count .ensures .0))
@@ -182,8 +190,9 @@ pub +in-way+in-ways+too-large-spec : {M : Type 1} → statement M
     (in-way-kind-requires t)
     (in-way-operand-count-requires t)
     (in-way-loop-holds t)
-    (in-way-piece-requires t)
     (in-way-operand-requires t)
+    (in-way-has-split-requires t)
+    (in-way-piece-requires t)
     (in-way-too-large-requires t)
     (in-way-returns t)
     (in-way-add-i t)

@@ -1,21 +1,22 @@
 use native.Mathlib.Omega.{arith}
-use Rattle.bindings.proofs.Large.{one-part, one-held, set-held, members-held, tells-one, tells-all}
+use Rattle.bindings.proofs.Large.{whole-here, one-held, set-held, members-held, tells-one, tells-all}
 use Rattle.bindings.proofs.forms.is_wide.Statement.{statement}
 use Rattle.bindings.proofs.forms.is_wide.Tie as tie
 use Rattle.bindings.proofs.forms.is_wide.Reads as reads
 use Rattle.bindings.proofs.forms.is_wide.Lts as lts
 use Rattle.bindings.proofs.forms.any_large.Reads as any-large-reads
+use Rattle.parts.proofs.whole_at.Reads as whole-at-reads
 use Rattle.splitting.proofs.too_large.Reads as too-large-reads
 use Rattle.values.proofs.length_of.Reads as length-of-reads
 
-cast-t9 : tie.Need-cast-t9
-cast-t9 c = let h = one-held _ _ _ (c .if1 .taken) (c .before .before .before .pre .1 .0) in omega (arith, h .whole, c .before .before .before .pre .1 .1)
+whole-at-requires : tie.Need-whole-at-requires
+whole-at-requires c κs = let h = one-held _ _ _ (c .if1 .taken) (c .before .before .before .pre .1 .0) in omega (arith, h .whole, c .before .before .before .pre .1 .1)
 
 too-large-requires : tie.Need-too-large-requires
-too-large-requires c κs = (c .before .before .before .pre .0, one-part _ _ _ (c .if1 .taken) (c .before .before .before .pre .1 .0), c .before .before .before .pre .1 .1)
+too-large-requires c κs = (c .before .before .before .before .pre .0, whole-here (c .whole-at .ensures) (one-held _ _ _ (c .before .if1 .taken) (c .before .before .before .before .pre .1 .0)), c .before .before .before .before .pre .1 .1)
 
 returns : tie.Need-returns
-returns c = tells-one _ _ _ _ _ _ (c .before .if1 .taken) (c .too-large .ensures)
+returns c = tells-one _ _ _ _ _ _ (c .before .before .if1 .taken) (rw (c .before .whole-at .ensures) at (c .too-large .ensures))
 
 length-of-requires : tie.Need-length-of-requires
 length-of-requires c κs = set-held _ _ _ (c .if1 .left) (c .before .before .before .pre .1 .0)
@@ -36,7 +37,7 @@ pub is-wide-spec : {M : Type 1} → statement M
 is-wide-spec =
     tie.close
     (tie.spec
-    cast-t9
+    whole-at-requires
     too-large-requires
     returns
     length-of-requires

@@ -1,54 +1,50 @@
-use Rattle.parts.proofs.Masking.{MasksLeft, left-start, masks-same, masks-none, masks-some, masks-first, masks-more}
-use mathlib.Core.Path.{refl}
+-- `order`: past the bits that are equal, one has the lowest bit.
+use mathlib.Core.Path.{_≡_, refl}
+use Prim.Native.Nat.{ℕ}
+use lib.Bits.{bitXor}
+use mir.Syntax.{w64}
+use mir.Val.{Fits}
+use lib.Count.{trailingZeros, trailing-le}
 use native.Mathlib.Omega.{arith}
 use borrow.Author.Needs.{needs}
+use Rattle.parts.proofs.Masking.{left-start, masks-same, masks-none, masks-some, masks-first, EqualBits, equal-bits}
 use Rattle.parts.proofs.masks.order.Statement.{statement}
 use Rattle.parts.proofs.masks.order.Tie as tie
 use Rattle.parts.proofs.masks.order.Reads as reads
 use Rattle.parts.proofs.masks.order.Lts as lts
 use Rattle.parts.proofs.masks.first.Reads as first-reads
 
-abbrev Inv-loop : tie.InvT-loop
-Inv-loop a b x₀ y₀ x y = MasksLeft a b x y
+bits : (a b : ℕ) → Fits w64 a → Fits w64 b → (a ≡ b → ⊥) → EqualBits a b a b (trailingZeros 64 (bitXor a b)) 64
+bits a b p q f = equal-bits 64 a b a b (left-start a b) f (p .fits) (q .fits)
 
-abbrev μ-loop : tie.MeasureT-loop
-μ-loop a b x₀ y₀ x y = x
+returns : tie.Need-returns
+returns c = masks-same _ _ _ _ (left-start _ _) (c .if1 .taken)
 
-loop-holds : tie.Need-loop-holds Inv-loop μ-loop
-loop-holds c = left-start _ _
+cast-x : tie.Need-cast-x
+cast-x c = omega (arith, trailing-le 64 (bitXor (c .before .args .a) (c .before .args .b)))
 
-returns : tie.Need-returns Inv-loop μ-loop
-returns c = masks-none _ _ _ _ (c .before .before .loop .inv) (c .if1 .taken) (λ z. omega arith)
+shr-x : tie.Need-shr-x
+shr-x c = bits (c .before .args .a) (c .before .args .b) (c .before .fits .a) (c .before .fits .b) (c .if1 .left) .low
 
-returns-2 : tie.Need-returns-2 Inv-loop μ-loop
-returns-2 c = masks-some _ _ _ _ (c .before .before .before .loop .inv) (c .before .if1 .left) (c .if2 .taken)
+cast-y : tie.Need-cast-y
+cast-y c = omega (arith, trailing-le 64 (bitXor (c .before .args .a) (c .before .args .b)))
 
-first-requires : tie.Need-first-requires Inv-loop μ-loop
+shr-y : tie.Need-shr-y
+shr-y c = bits (c .before .args .a) (c .before .args .b) (c .before .fits .a) (c .before .fits .b) (c .if1 .left) .low
+
+returns-2 : tie.Need-returns-2
+returns-2 c = let e = (bits (c .before .before .args .a) (c .before .before .args .b) (c .before .before .fits .a) (c .before .before .fits .b) (c .before .if1 .left)) in masks-none _ _ _ _ (e .left) (c .if2 .taken) (λ z. e .differ (omega (arith, z, c .if2 .taken)))
+
+returns-3 : tie.Need-returns-3
+returns-3 c = masks-some _ _ _ _ ((bits (c .before .before .before .args .a) (c .before .before .before .args .b) (c .before .before .before .fits .a) (c .before .before .before .fits .b) (c .before .before .if1 .left)) .left) (c .before .if2 .left) (c .if3 .taken)
+
+first-requires : tie.Need-first-requires
 first-requires c κs = search needs
 
-returns-3 : tie.Need-returns-3 Inv-loop μ-loop
-returns-3 c = masks-first _ _ _ _ (c .before .before .before .before .before .loop .inv) (c .before .before .before .if1 .left) (c .before .before .if2 .left) (c .before .if3 .taken) _ refl _ (c .first .ensures)
-
-loop-less : tie.Need-loop-less Inv-loop μ-loop
-loop-less c = omega (arith, c .before .before .if1 .left)
-
-loop-again : tie.Need-loop-again Inv-loop μ-loop
-loop-again c = masks-more _ _ _ _ (c .before .before .before .before .loop .inv) (c .before .before .if1 .left) (c .before .if2 .left) (c .if3 .left)
-
-returns-4 : tie.Need-returns-4 Inv-loop μ-loop
-returns-4 c = masks-same _ _ _ _ (c .before .loop .inv) (omega arith)
+returns-4 : tie.Need-returns-4
+returns-4 c = let e = (bits (c .before .before .before .before .args .a) (c .before .before .before .before .args .b) (c .before .before .before .before .fits .a) (c .before .before .before .before .fits .b) (c .before .before .before .if1 .left)) in masks-first _ _ _ _ (e .left) (c .before .before .if2 .left) (c .before .if3 .left) (e .differ) _ refl _ (c .first .ensures)
 
 pub order-spec : {M : Type 1} → statement M
 order-spec =
     tie.close
-    (tie.spec
-    Inv-loop
-    μ-loop
-    loop-holds
-    returns
-    returns-2
-    first-requires
-    returns-3
-    loop-less
-    loop-again
-    returns-4)
+    (tie.spec returns cast-x shr-x cast-y shr-y returns-2 returns-3 first-requires returns-4)
