@@ -19,7 +19,9 @@ use Rattle.tables.specs.Accepted.{records}
 use Rattle.parts.specs.declared.Part.{Part}
 use Rattle.parts.specs.declared.Halves.{Halves}
 use Rattle.parts.specs.Part.{PartIs, CellIs}
-use Rattle.parts.specs.Contract.{SplitHeld, SplitOf}
+use Rattle.parts.specs.Contract.{SplitHeld, SplitOf, MaskOf, halvesBy}
+use Rattle.parts.specs.Mask.{Spread}
+use Rattle.parts.proofs.Halving.{split-is}
 use Rattle.parts.proofs.Laws.{part-one, part-well-formed}
 use Rattle.patterns.specs.Ways.{exists}
 use Rattle.patterns.specs.Binding.{is}
@@ -379,6 +381,9 @@ module _ (table index : List ℕ) (p : ℕ) (s : List ℕ) (part : Part) (d : �
 
   pub split-asked : SplitHeld s part (d + 1)
   split-asked = split-held k 2 s part d 1 second-held u
+
+  pub split-made : (m l : ℕ) → MaskOf s part m → Spread m (d + 1) l → (r : Halves) → r ≡ halvesBy part m l → SplitOf s part (d + 1) r
+  split-made m l g h r e = subst (SplitOf s part (d + 1)) (sym e) (split-is split-asked g h)
 
   module _ (r : Halves) (o : SplitOf s part (d + 1) r) where
     pub second-piece : PieceOf k 2 s part d 1 (r .right)

@@ -130,7 +130,9 @@ fn push_halves(
     requires { ⌜ Pushable (now table) (now index) p (now s) part d (now agenda) next top (countOf (now table) p) × (k ≡ kindAt (records (now table)) p) × (isSplit k ≡ true) ⌝ }
     ensures { λ r. ⌜ Pushed (now (table .entry)) (now (index .entry)) p (now (s .entry)) part d (now (agenda .entry)) next top 0 (now (agenda .exit)) r ⌝ }
 {
-    let h = parts::split_part(s, part, d + 1);
+    let mask = parts::mask_of(s, part);
+    let left = parts::masks::spread(mask, d + 1);
+    let h = parts::halves_by(part, mask, left);
     push_piece(table, index, p, 1, s, h.right, agenda, next, top);
     push_piece(table, index, p, 0, s, h.left, agenda, top, top + 1);
     top + 1

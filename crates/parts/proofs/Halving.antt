@@ -25,7 +25,7 @@ use Rattle.parts.specs.Mask.{Full, Spread, WidthOf}
 use Rattle.parts.specs.Part.{Selects, PartIs, PartHeld}
 use Rattle.parts.proofs.Laws.{selects-of, selects-low, part-one, part-well-formed, one-collection, one-units, end-record}
 use Rattle.parts.specs.Run.{RunIs, RunOf, SkipHeld, Skipped}
-use Rattle.parts.specs.Contract.{KindOfPart, CollectionHeld, CountOfPart, HalvesAre, UnitsHere, Countable, MaskOf, SplitHeld, SplitOf, CutHeld, CutOf}
+use Rattle.parts.specs.Contract.{KindOfPart, CollectionHeld, CountOfPart, HalvesAre, UnitsHere, Countable, MaskOf, SplitHeld, SplitOf, CutHeld, CutOf, halvesBy}
 
 -- ---- `mask_of`
 
@@ -89,7 +89,7 @@ module _ {s : List ℕ} {p : Part} where
   split-countable h = record { kind = h .kind; units = h .units; here = h .here; few = h .few }
 
   pub split-is : {d m r : ℕ} → SplitHeld s p d → MaskOf s p m → Spread m d r
-      → SplitOf s p d (record { left = record { how = 2; at = p .at; extent = r }; right = record { how = 2; at = p .at; extent = m - r } })
+      → SplitOf s p d (halvesBy p m r)
   split-is {d} {m} {r} h c g =
       let e = end-record s p (unordered-how (h .here .0) (h .here .1)) in
       record { right = λ k us x. right k us x (c .right k us x); inside = record { left = omega arith; right = omega arith } }

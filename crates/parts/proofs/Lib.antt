@@ -4,7 +4,7 @@ mod Doubling
 mod Running
 mod Comparing
 mod Parting
-mod Halving
+pub mod Halving
 mod Putting
 pub mod Packing
 pub mod Masking

@@ -2,7 +2,7 @@
 use mathlib.Core.Path.{_≡_}
 use mathlib.Core.Bool.{Bool, true, false}
 use mathlib.Core.List.{List, []}
-use Prim.Native.Nat.{ℕ, _+_, _^_, _≤_, _<_}
+use Prim.Native.Nat.{ℕ, _+_, _-_, _^_, _≤_, _<_}
 use lib.ListN.{length, getD}
 use Rattle.prelude.specs.Membership.{In}
 use Rattle.integers.specs.declared.Order.{Order}
@@ -107,6 +107,10 @@ pub record SplitHeld (s : List ℕ) (p : Part) (d : ℕ) : Type 0 where
 pub record SplitOf (s : List ℕ) (p : Part) (d : ℕ) (r : Halves) : Type 0 where
   pub right : (k : Kind) (us : List (UnitOf k)) → UnitsHere s p k us → HalvesAre s k (halvesIn k (getD (splits us) d (halves [] []))) r
   pub inside : Inside s p r
+
+-- The halves of a part whose units m chooses, of which l chooses those on the left.
+abbrev pub halvesBy : Part → ℕ → ℕ → Halves
+halvesBy p m l = record { left = record { at = p .at; extent = l; how = 2 }; right = record { at = p .at; extent = m - l; how = 2 } }
 
 -- A part denotes a sequence, in a slice whose places fit, and k is the number of one of its cuts.
 pub record CutHeld (s : List ℕ) (p : Part) (k : ℕ) : Type 0 where

@@ -8,10 +8,10 @@ use integers::Order;
 use runs::Run;
 use values::Value;
 ghost use mathlib.Core.Path.{_≡_};
-ghost use Prim.Native.Nat.{_≤_};
+ghost use Prim.Native.Nat.{_≤_, _<_};
 ghost use lib.ListN.{length};
 ghost use Rattle.parts.specs.Part.{PartHeld};
-ghost use Rattle.parts.specs.Contract.{KindOfPart, CollectionHeld, Countable, OrderedParts, CountOfPart, RunItemHeld, ItemOfRun, wholeAt, HasItem, SplitHeld, CutHeld, SplitOf, CutOf, Puttable, PutPart, MaskOf};
+ghost use Rattle.parts.specs.Contract.{KindOfPart, CollectionHeld, Countable, OrderedParts, CountOfPart, RunItemHeld, ItemOfRun, wholeAt, HasItem, SplitHeld, CutHeld, SplitOf, halvesBy, CutOf, Puttable, PutPart, MaskOf};
 
 // Nothing; the whole record at a place; of the set of at most seven members or the map of at most seven entries whose record stands at a place, those
 // units that the bits of `extent` choose, the first by the lowest bit; the sequence of the items whose records take `extent` bytes from a place on.
@@ -176,9 +176,30 @@ pub fn split_part(s: &[u8], p: Part, d: usize) -> Halves
     requires { ⌜ SplitHeld (now s) p d ⌝ }
     ensures { λ r. ⌜ SplitOf (now (s .entry)) p d r ⌝ }
 {
-    let at = p.at;
     let mask = mask_of(s, p);
     let left = masks::spread(mask, d);
+    halves_by(p, mask, left)
+}
+
+// The bits that choose, of the units of the whole set or map, those of a part.
+pub fn mask_of(s: &[u8], p: Part) -> usize
+    requires { ⌜ Countable (now s) p ⌝ }
+    ensures { λ r. ⌜ MaskOf (now (s .entry)) p r ⌝ }
+{
+    if p.how == Part::UNITS {
+        return p.extent as usize;
+    }
+    let kind = kind_of_part(s, p);
+    let n = count_of_part(s, p);
+    masks::full(n / masks::width(kind))
+}
+
+// The halves of a part whose units a mask chooses, another those on the left.
+pub fn halves_by(p: Part, mask: usize, left: usize) -> Halves
+    requires { ⌜ (mask < 128) × (left ≤ mask) ⌝ }
+    ensures { λ r. ⌜ r ≡ halvesBy p mask left ⌝ }
+{
+    let at = p.at;
     let right = mask - left;
     Halves {
         left: Part {
@@ -192,19 +213,6 @@ pub fn split_part(s: &[u8], p: Part, d: usize) -> Halves
             how: Part::UNITS,
         },
     }
-}
-
-// The bits that choose, of the units of the whole set or map, those of a part.
-fn mask_of(s: &[u8], p: Part) -> usize
-    requires { ⌜ Countable (now s) p ⌝ }
-    ensures { λ r. ⌜ MaskOf (now (s .entry)) p r ⌝ }
-{
-    if p.how == Part::UNITS {
-        return p.extent as usize;
-    }
-    let kind = kind_of_part(s, p);
-    let n = count_of_part(s, p);
-    masks::full(n / masks::width(kind))
 }
 
 // The k-th cut of the sequence that a part denotes: k items, and the others.
