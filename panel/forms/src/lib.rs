@@ -8,6 +8,8 @@ pub enum Fields {
     Boolean,
     /// Four bytes, two's complement, little-endian.
     Integer,
+    /// Two bytes, a number from 0 to 65,535, little-endian.
+    Quote,
     /// One byte, 0 to 15.
     Name,
     /// Record numbers, one byte each: at least `least`, at most `most`, rising by `step`.
@@ -55,6 +57,7 @@ pub mod kind {
     pub const SEQUENCE_COMPREHENSION: u16 = 19;
     pub const MAP_COMPREHENSION: u16 = 20;
     pub const APPLY: u16 = 21;
+    pub const QUOTE: u16 = 22;
     pub const P_NAME: u16 = 32;
     pub const P_ANY: u16 = 33;
     pub const P_BOOLEAN: u16 = 34;
@@ -66,6 +69,7 @@ pub mod kind {
     pub const P_CONCATENATION: u16 = 40;
     pub const P_MAP: u16 = 41;
     pub const P_MUNION: u16 = 42;
+    pub const P_QUOTE: u16 = 43;
 }
 
 /// Operators, one a row: the variant, its number, the name of that number and the word.
@@ -156,6 +160,7 @@ impl Form {
             .checked_sub(before)
             .is_some_and(|left| match self.fields {
                 Fields::Boolean | Fields::Name => left == 1,
+                Fields::Quote => left == 2,
                 Fields::Integer => left == 4,
                 Fields::Operands { .. } => self.fields.takes(left),
             })
@@ -227,6 +232,7 @@ const KIND_FORMS: &[Form] = &[
     exactly("sequence-comprehension", kind::SEQUENCE_COMPREHENSION, 4),
     exactly("map-comprehension", kind::MAP_COMPREHENSION, 5),
     exactly("apply", kind::APPLY, 2),
+    form("quote", kind::QUOTE, Fields::Quote),
     form("p-name", kind::P_NAME, Fields::Name),
     exactly("p-any", kind::P_ANY, 0),
     form("p-boolean", kind::P_BOOLEAN, Fields::Boolean),
@@ -238,6 +244,7 @@ const KIND_FORMS: &[Form] = &[
     exactly("p-concatenation", kind::P_CONCATENATION, 2),
     keys_and_values("p-map", kind::P_MAP),
     exactly("p-munion", kind::P_MUNION, 2),
+    form("p-quote", kind::P_QUOTE, Fields::Quote),
 ];
 
 /// Every form of record. No word stands twice.
@@ -275,7 +282,7 @@ mod tests {
         let key = |form: &Form| (form.kind, form.operator.unwrap_or(0));
         let mut keys: Vec<_> = all().map(key).collect();
         keys.sort();
-        let mut expected: Vec<(u16, u8)> = (1..=21).chain(32..=42).map(|kind| (kind, 0)).collect();
+        let mut expected: Vec<(u16, u8)> = (1..=22).chain(32..=43).map(|kind| (kind, 0)).collect();
         expected.retain(|&(kind, _)| kind != kind::UNARY && kind != kind::BINARY);
         expected.extend((1..=15).map(|operator| (kind::UNARY, operator)));
         expected.extend((1..=28).map(|operator| (kind::BINARY, operator)));
@@ -319,7 +326,9 @@ mod tests {
         assert_eq!(lengths(kind::P_TUPLE), [6, 7, 8]);
         assert_eq!(lengths(kind::P_MAP), [4, 6, 8, 10, 12]);
         assert_eq!(lengths(kind::P_MUNION), [6]);
-        assert_eq!(lengths(22), []);
-        assert_eq!(lengths(43), []);
+        assert_eq!(lengths(kind::QUOTE), [6]);
+        assert_eq!(lengths(kind::P_QUOTE), [6]);
+        assert_eq!(lengths(23), []);
+        assert_eq!(lengths(44), []);
     }
 }

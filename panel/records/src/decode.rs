@@ -81,6 +81,7 @@ fn field_words(form: &Form, fields: &[u8]) -> Result<Vec<String>, String> {
         (Fields::Boolean, [byte @ 0..=1]) => Ok(vec![(*byte == 1).to_string()]),
         (Fields::Boolean, [byte]) => Err(format!("unknown literal {byte}")),
         (Fields::Integer, &[a, b, c, d]) => Ok(vec![i32::from_le_bytes([a, b, c, d]).to_string()]),
+        (Fields::Quote, &[low, high]) => Ok(vec![u16::from_le_bytes([low, high]).to_string()]),
         (Fields::Name, [name @ 0..=LAST_NAME]) => Ok(vec![name.to_string()]),
         (Fields::Name, [name]) => Err(format!("unknown name {name}")),
         (Fields::Operands { .. }, _) if form.fields.takes(fields.len()) => {
@@ -110,6 +111,11 @@ mod tests {
             decode(&[8, 0, 35, 0, 0, 0, 0, 128]).unwrap(),
             "0: p-integer -2147483648\n"
         );
+        assert_eq!(decode(&[6, 0, 22, 0, 1, 2]).unwrap(), "0: quote 513\n");
+        assert_eq!(
+            decode(&[6, 0, 43, 0, 255, 255]).unwrap(),
+            "0: p-quote 65535\n"
+        );
         assert_eq!(decode(&[5, 0, 32, 0, 3]).unwrap(), "0: p-name 3\n");
         assert_eq!(decode(&[6, 0, 4, 0, 1, 9]).unwrap(), "0: not 9\n");
         assert_eq!(decode(&[6, 0, 41, 0, 1, 9]).unwrap(), "0: p-map 1 9\n");
@@ -129,8 +135,8 @@ mod tests {
         );
         assert_eq!(malformed(&[3, 0, 7, 0]).2, "length 3 is under 4");
         assert_eq!(malformed(&[5, 0, 7, 0]).2, "length 5 is past the end");
-        assert_eq!(malformed(&[4, 0, 22, 0]).2, "unknown kind 22");
-        assert_eq!(malformed(&[4, 0, 43, 0]).2, "unknown kind 43");
+        assert_eq!(malformed(&[4, 0, 23, 0]).2, "unknown kind 23");
+        assert_eq!(malformed(&[4, 0, 44, 0]).2, "unknown kind 44");
         assert_eq!(malformed(&[4, 0, 1, 1]).2, "unknown kind 257");
         assert_eq!(malformed(&[4, 0, 5, 0]).2, "no operator");
         assert_eq!(
@@ -146,6 +152,14 @@ mod tests {
         assert_eq!(
             malformed(&[5, 0, 42, 0, 0]).2,
             "the length does not fit `p-munion`"
+        );
+        assert_eq!(
+            malformed(&[5, 0, 22, 0, 0]).2,
+            "the length does not fit `quote`"
+        );
+        assert_eq!(
+            malformed(&[7, 0, 43, 0, 0, 0, 0]).2,
+            "the length does not fit `p-quote`"
         );
         assert_eq!(
             malformed(&[4, 0, 2, 0]).2,

@@ -79,6 +79,7 @@ fn field_bytes(form: &Form, fields: &[&str]) -> Result<Vec<u8>, String> {
     match form.fields {
         Fields::Boolean => boolean(field).map(|byte| vec![byte]),
         Fields::Integer => integer(field).map(|value| value.to_le_bytes().to_vec()),
+        Fields::Quote => quote(field).map(|number| number.to_le_bytes().to_vec()),
         Fields::Name => name(field).map(|byte| vec![byte]),
         Fields::Operands { .. } => unreachable!("handled above"),
     }
@@ -94,6 +95,10 @@ fn boolean(field: &str) -> Result<u8, String> {
 
 fn integer(field: &str) -> Result<i32, String> {
     number(field).ok_or_else(|| format!("`{field}` is no integer of 32 bits"))
+}
+
+fn quote(field: &str) -> Result<u16, String> {
+    number(field).ok_or_else(|| format!("`{field}` is no quote from 0 to {}", u16::MAX))
 }
 
 fn name(field: &str) -> Result<u8, String> {
@@ -136,6 +141,8 @@ mod tests {
             encode("integer -2"),
             Ok(vec![8, 0, 2, 0, 254, 255, 255, 255])
         );
+        assert_eq!(encode("quote 513"), Ok(vec![6, 0, 22, 0, 1, 2]));
+        assert_eq!(encode("p-quote 65535"), Ok(vec![6, 0, 43, 0, 255, 255]));
         assert_eq!(encode("name 15"), Ok(vec![5, 0, 3, 0, 15]));
         assert_eq!(encode("rng 7"), Ok(vec![6, 0, 4, 0, 15, 7]));
         assert_eq!(encode(":> 1 2"), Ok(vec![7, 0, 5, 0, 28, 1, 2]));
@@ -164,6 +171,16 @@ mod tests {
         assert_eq!(mistake("integer 2147483648").0, 1);
         assert_eq!(mistake("integer +1").0, 1);
         assert_eq!(mistake("integer").1, "`integer` takes one field");
+        assert_eq!(
+            mistake("quote 65536").1,
+            "`65536` is no quote from 0 to 65535"
+        );
+        assert_eq!(
+            mistake("p-quote -1").1,
+            "`-1` is no quote from 0 to 65535"
+        );
+        assert_eq!(mistake("quote <1>").0, 1);
+        assert_eq!(mistake("quote").1, "`quote` takes one field");
         assert_eq!(mistake("map 1").1, "`map` does not take 1 operands");
         assert_eq!(mistake("p-map 1").1, "`p-map` does not take 1 operands");
         assert_eq!(mistake("not 256").0, 1);

@@ -12,6 +12,7 @@ fn lines() -> Vec<String> {
             Fields::Integer => [i32::MIN, -1, 0, 256, i32::MAX]
                 .map(|n| n.to_string())
                 .to_vec(),
+            Fields::Quote => [0, 1, 255, 256, u16::MAX].map(|n| n.to_string()).to_vec(),
             Fields::Name => (0..=15).map(|name| name.to_string()).collect(),
             Fields::Operands { least, most, step } => {
                 (least..=most).step_by(step).map(operands).collect()

@@ -15,8 +15,7 @@ pub fn bindings(table: &Table, pattern: usize, value: &Value) -> Option<BTreeSet
             Some(BTreeSet::from([Binding::from([(*name, value.clone())])]))
         }
         (Record::AnyPattern, _) => matched(true),
-        (Record::BooleanPattern(truth), _) => matched(*value == Value::Boolean(*truth)),
-        (Record::IntegerPattern(number), _) => matched(*value == Value::Integer(*number)),
+        (Record::LiteralPattern(literal), _) => matched(value == literal),
         (Record::TuplePattern(parts), Value::Tuple(items))
         | (Record::SequencePattern(parts), Value::Sequence(items)) => {
             arranged(table, parts, vec![items.clone()])

@@ -87,8 +87,7 @@ impl Run<'_> {
     /// The value of a record, with a value for each name bound around it.
     fn value(&mut self, place: usize, state: &Binding) -> Result<Value, Answer> {
         match self.table.record(place) {
-            Record::Boolean(truth) => Ok(Value::Boolean(*truth)),
-            Record::Integer(number) => Ok(Value::Integer(*number)),
+            Record::Literal(value) => Ok(value.clone()),
             Record::Name(name) => Ok(state[name].clone()),
             Record::Unary(operator, operand) => self.built(&[*operand], state, place, |values| {
                 operators::unary(*operator, &values[0])

@@ -27,8 +27,7 @@ impl Meaning<'_> {
     /// The outcomes of a record in a state, which is a value for each name bound around it.
     fn outcomes(&self, place: usize, state: &Binding) -> Loose<Value> {
         match self.table.record(place) {
-            Record::Boolean(truth) => certain(Value::Boolean(*truth)),
-            Record::Integer(number) => certain(Value::Integer(*number)),
+            Record::Literal(value) => certain(value.clone()),
             Record::Name(name) => certain(state[name].clone()),
             Record::Unary(operator, operand) => self.built(&[*operand], state, place, |values| {
                 operators::unary(*operator, &values[0])

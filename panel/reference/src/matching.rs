@@ -86,7 +86,7 @@ fn holds_split(table: &Table, pattern: usize) -> bool {
 /// Whether a value is, or has within it, a set or map of more than may be split.
 fn holds_wide(value: &Value) -> bool {
     match value {
-        Value::Boolean(_) | Value::Integer(_) => false,
+        Value::Boolean(_) | Value::Integer(_) | Value::Quote(_) => false,
         Value::Set(members) => members.len() > MAX_SPLIT || members.iter().any(holds_wide),
         Value::Sequence(items) | Value::Tuple(items) => items.iter().any(holds_wide),
         Value::Map(entries) => {
@@ -123,8 +123,7 @@ impl<'a> Matcher<'a> {
                 (agrees, Binding::from([(*name, value.clone())]))
             }
             Record::AnyPattern => (true, Binding::new()),
-            Record::BooleanPattern(truth) => (*value == Value::Boolean(*truth), Binding::new()),
-            Record::IntegerPattern(number) => (*value == Value::Integer(*number), Binding::new()),
+            Record::LiteralPattern(literal) => (value == literal, Binding::new()),
             _ => return self.compound(pattern, value, bound),
         };
         Rc::new(BTreeSet::from_iter(matched.then_some(binding)))

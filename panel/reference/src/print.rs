@@ -73,6 +73,7 @@ impl Display for Value {
         match self {
             Value::Boolean(truth) => write!(f, "{truth}"),
             Value::Integer(number) => write!(f, "{number}"),
+            Value::Quote(number) => write!(f, "<{number}>"),
             Value::Set(members) => write!(f, "{{{}}}", joined(members)),
             Value::Sequence(items) => write!(f, "[{}]", joined(items)),
             Value::Map(entries) if entries.is_empty() => write!(f, "{{|->}}"),

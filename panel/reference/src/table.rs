@@ -6,6 +6,7 @@ use forms::{kind, HEADER, LAST_NAME};
 pub use forms::{Binary, Unary};
 
 use crate::answer::{Refusal, RECORD_FORM};
+use crate::value::Value;
 
 /// The binders that give a boolean, or (iota) the value bound.
 #[derive(Clone, Copy, Debug, PartialEq, Eq)]
@@ -27,8 +28,8 @@ pub struct Bind {
 /// A record. Operands are record numbers.
 #[derive(Clone, Debug, PartialEq, Eq)]
 pub enum Record {
-    Boolean(bool),
-    Integer(i32),
+    /// A boolean, integer or quote.
+    Literal(Value),
     Name(u8),
     Unary(Unary, usize),
     Binary(Binary, usize, usize),
@@ -69,8 +70,8 @@ pub enum Record {
     Apply(usize, usize),
     NamePattern(u8),
     AnyPattern,
-    BooleanPattern(bool),
-    IntegerPattern(i32),
+    /// Matches a boolean, integer or quote.
+    LiteralPattern(Value),
     TuplePattern(Vec<usize>),
     SetPattern(Vec<usize>),
     UnionPattern(usize, usize),
@@ -112,8 +113,9 @@ impl Record {
             condition: at(2),
         };
         Some(match kind {
-            kind::BOOLEAN => Record::Boolean(boolean(fields)?),
-            kind::INTEGER => Record::Integer(integer(fields)?),
+            kind::BOOLEAN => Record::Literal(Value::boolean(fields)?),
+            kind::INTEGER => Record::Literal(Value::integer(fields)?),
+            kind::QUOTE => Record::Literal(Value::quote(fields)?),
             kind::NAME => Record::Name(name(fields)?),
             kind::UNARY => Record::Unary(Unary::from_number(fields[0])?, at(1)),
             kind::BINARY => Record::Binary(Binary::from_number(fields[0])?, at(1), at(2)),
@@ -156,8 +158,9 @@ impl Record {
             kind::APPLY => Record::Apply(at(0), at(1)),
             kind::P_NAME => Record::NamePattern(name(fields)?),
             kind::P_ANY => Record::AnyPattern,
-            kind::P_BOOLEAN => Record::BooleanPattern(boolean(fields)?),
-            kind::P_INTEGER => Record::IntegerPattern(integer(fields)?),
+            kind::P_BOOLEAN => Record::LiteralPattern(Value::boolean(fields)?),
+            kind::P_INTEGER => Record::LiteralPattern(Value::integer(fields)?),
+            kind::P_QUOTE => Record::LiteralPattern(Value::quote(fields)?),
             kind::P_TUPLE => Record::TuplePattern(operands()),
             kind::P_SET => Record::SetPattern(operands()),
             kind::P_UNION => Record::UnionPattern(at(0), at(1)),
@@ -183,7 +186,7 @@ impl Record {
             operands
         };
         match self {
-            Record::Boolean(_) | Record::Integer(_) | Record::Name(_) => vec![],
+            Record::Literal(_) | Record::Name(_) => vec![],
             Record::Unary(_, operand) => vec![(*operand, Plain)],
             Record::Binary(_, left, right) => all(&[*left, *right], Plain),
             Record::If {
@@ -210,10 +213,7 @@ impl Record {
             }
             Record::MapComprehension { bind, key, value } => bound(bind, Pattern, &[*key, *value]),
             Record::Apply(function, argument) => all(&[*function, *argument], Plain),
-            Record::NamePattern(_)
-            | Record::AnyPattern
-            | Record::BooleanPattern(_)
-            | Record::IntegerPattern(_) => vec![],
+            Record::NamePattern(_) | Record::AnyPattern | Record::LiteralPattern(_) => vec![],
             Record::TuplePattern(parts)
             | Record::SetPattern(parts)
             | Record::SequencePattern(parts)
@@ -229,8 +229,7 @@ impl Record {
             self,
             Record::NamePattern(_)
                 | Record::AnyPattern
-                | Record::BooleanPattern(_)
-                | Record::IntegerPattern(_)
+                | Record::LiteralPattern(_)
                 | Record::TuplePattern(_)
                 | Record::SetPattern(_)
                 | Record::UnionPattern(..)
@@ -253,18 +252,6 @@ impl Record {
             _ => None,
         }
     }
-}
-
-fn boolean(fields: &[u8]) -> Option<bool> {
-    match fields[0] {
-        0 => Some(false),
-        1 => Some(true),
-        _ => None,
-    }
-}
-
-fn integer(fields: &[u8]) -> Option<i32> {
-    Some(i32::from_le_bytes(fields.try_into().ok()?))
 }
 
 fn name(fields: &[u8]) -> Option<u8> {

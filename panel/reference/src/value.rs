@@ -3,8 +3,8 @@
 use std::collections::{BTreeMap, BTreeSet};
 
 /// A value. The kinds stand in rising order, so the derived order is that of the rules: lower kind
-/// first, false before true, integers by size, and all other kinds item by item with a prefix before
-/// what extends it; the items of a map are key, value, key, value.
+/// first, false before true, integers by size, quotes by number, and all other kinds item by item with a
+/// prefix before what extends it; the items of a map are key, value, key, value.
 #[derive(Clone, Debug, PartialEq, Eq, PartialOrd, Ord, Hash)]
 pub enum Value {
     Boolean(bool),
@@ -13,6 +13,7 @@ pub enum Value {
     Sequence(Vec<Value>),
     Map(BTreeMap<Value, Value>),
     Tuple(Vec<Value>),
+    Quote(u16),
 }
 
 impl Value {
@@ -28,6 +29,7 @@ impl Value {
             Value::Sequence(_) => 4,
             Value::Map(_) => 5,
             Value::Tuple(_) => 6,
+            Value::Quote(_) => 7,
         }
     }
 
@@ -36,6 +38,7 @@ impl Value {
         let contents: usize = match self {
             Value::Boolean(_) => 1,
             Value::Integer(_) => 4,
+            Value::Quote(_) => 2,
             Value::Set(members) => members.iter().map(Value::size).sum(),
             Value::Sequence(items) | Value::Tuple(items) => items.iter().map(Value::size).sum(),
             Value::Map(entries) => entries.iter().map(|(k, v)| k.size() + v.size()).sum(),
@@ -55,6 +58,7 @@ impl Value {
         match self {
             Value::Boolean(truth) => bytes.push(u8::from(*truth)),
             Value::Integer(number) => bytes.extend(number.to_le_bytes()),
+            Value::Quote(number) => bytes.extend(number.to_le_bytes()),
             Value::Set(members) => bytes.extend(members.iter().flat_map(Value::encode)),
             Value::Sequence(items) | Value::Tuple(items) => {
                 bytes.extend(items.iter().flat_map(Value::encode));
@@ -84,15 +88,8 @@ impl Value {
             return None;
         }
         match u16::from_le_bytes([head[2], head[3]]) {
-            1 => match contents {
-                [0] => Some(Value::Boolean(false)),
-                [1] => Some(Value::Boolean(true)),
-                _ => None,
-            },
-            2 => {
-                let number = i32::from_le_bytes(contents.try_into().ok()?);
-                Some(Value::Integer(number))
-            }
+            1 => Value::boolean(contents),
+            2 => Value::integer(contents),
             3 => Some(Value::Set(items(contents)?.into_iter().collect())),
             4 => Some(Value::Sequence(items(contents)?)),
             5 => {
@@ -106,8 +103,30 @@ impl Value {
                     .contains(&items.len())
                     .then_some(Value::Tuple(items))
             }
+            7 => Value::quote(contents),
             _ => None,
         }
+    }
+
+    /// The boolean with these contents, which are a literal's fields too.
+    pub fn boolean(contents: &[u8]) -> Option<Value> {
+        match contents {
+            [0] => Some(Value::Boolean(false)),
+            [1] => Some(Value::Boolean(true)),
+            _ => None,
+        }
+    }
+
+    /// The integer with these contents.
+    pub fn integer(contents: &[u8]) -> Option<Value> {
+        let bytes = contents.try_into().ok()?;
+        Some(Value::Integer(i32::from_le_bytes(bytes)))
+    }
+
+    /// The quote with these contents.
+    pub fn quote(contents: &[u8]) -> Option<Value> {
+        let bytes = contents.try_into().ok()?;
+        Some(Value::Quote(u16::from_le_bytes(bytes)))
     }
 }
 
@@ -126,7 +145,7 @@ fn items(mut bytes: &[u8]) -> Option<Vec<Value>> {
 #[cfg(test)]
 mod tests {
     use super::*;
-    use Value::{Boolean, Integer, Map, Sequence, Set, Tuple};
+    use Value::{Boolean, Integer, Map, Quote, Sequence, Set, Tuple};
 
     fn integers(numbers: &[i32]) -> Vec<Value> {
         numbers.iter().copied().map(Integer).collect()
@@ -171,6 +190,13 @@ mod tests {
             Tuple(integers(&[1, 1])),
             Tuple(integers(&[1, 1, 0])),
             Tuple(integers(&[1, 2])),
+            Tuple(vec![Quote(1), Integer(0)]),
+            Quote(0),
+            Quote(1),
+            Quote(255),
+            Quote(256),
+            Quote(512),
+            Quote(65_535),
         ];
         for (i, left) in rising.iter().enumerate() {
             for (j, right) in rising.iter().enumerate() {
@@ -200,6 +226,7 @@ mod tests {
             Tuple(vec![Boolean(false), set(&[])]).encode(),
             [13, 0, 6, 0, 5, 0, 1, 0, 0, 4, 0, 3, 0]
         );
+        assert_eq!(Quote(513).encode(), [6, 0, 7, 0, 1, 2]);
         for value in [set(&[1, 2]), map(&[(1, 2)]), Tuple(integers(&[1, 2]))] {
             assert_eq!(value.encode().len(), value.size());
         }
