@@ -196,13 +196,12 @@ impl Writer {
         };
         names.push((name, shape.clone()));
         let pattern = self.out.p_name(name);
-        let sought = *shape == Shape::Integer && !self.random.once_in(8);
+        let sought = shape.has_many_literals() && !self.random.once_in(8);
         let count = if sought { 1 + self.random.below(3) } else { 1 };
         let set = self.distinct_members(shape, count, depth - 1);
         let condition = if sought {
-            let wanted = self.first_literal(set);
             let bound = self.out.name(name);
-            let literal = self.out.integer(wanted);
+            let literal = self.wanted_literal(set, shape);
             self.out.binary(binary::EQUAL, bound, literal)
         } else if self.random.once_in(2) {
             self.out.boolean(true)
@@ -212,15 +211,17 @@ impl Writer {
         self.out.node(kind::IOTA, &[pattern, set, condition])
     }
 
-    /// An integer literal within the records of a set, to be looked for.
-    fn first_literal(&self, set: usize) -> i32 {
-        let literals = self.out.records[..=set].iter().rev();
-        let mut literals = literals.filter(|record| record.kind == kind::INTEGER);
-        literals.next().map_or(1, |record| {
-            let mut bytes = [0; 4];
-            bytes.copy_from_slice(&record.constants);
-            i32::from_le_bytes(bytes)
-        })
+    /// A literal of the shape, integer or quote, that stands within the records of a set, to be looked for.
+    fn wanted_literal(&mut self, set: usize, shape: &Shape) -> usize {
+        let kind = match shape {
+            Shape::Quote => kind::QUOTE,
+            _ => kind::INTEGER,
+        };
+        let mut literals = self.out.records[..=set].iter().rev();
+        match literals.find(|record| record.kind == kind).cloned() {
+            Some(found) => self.out.record(kind, &found.constants, &[]),
+            None => self.numbered_literal(shape, 1),
+        }
     }
 
     pub fn set_comprehension(&mut self, member: &Shape, most: usize, depth: usize) -> usize {
@@ -323,29 +324,38 @@ impl Writer {
     /// A boolean that mostly depends on the names just bound.
     fn condition(&mut self, names: &Names, depth: usize) -> usize {
         let outer = std::mem::replace(&mut self.in_condition, true);
-        let integers = names.iter().filter(|(_, shape)| *shape == Shape::Integer);
-        let integers: Vec<u8> = integers.map(|&(name, _)| name).collect();
-        let plain = if integers.is_empty() { 2 } else { 4 };
+        let literals = names.iter().filter(|(_, shape)| shape.has_many_literals());
+        let literals: Vec<&(u8, Shape)> = literals.collect();
+        let plain = if literals.is_empty() { 2 } else { 4 };
         let record = if self.random.once_in(plain) {
             self.out.boolean(true)
-        } else if !integers.is_empty() && !self.random.once_in(3) {
-            let bound = self.random.pick(&integers);
-            let left = self.out.name(bound);
-            let literal = self.random.between(0, 4);
-            let right = self.out.integer(literal);
-            let operator = self.random.pick(&[
+        } else if !literals.is_empty() && !self.random.once_in(3) {
+            let (name, shape) = self.random.pick(&literals);
+            self.compared(*name, shape)
+        } else {
+            self.within(names, |w| w.expression(&Shape::Boolean, depth - 1))
+        };
+        self.in_condition = outer;
+        record
+    }
+
+    /// A name of an integer or quote compared with a literal.
+    fn compared(&mut self, name: u8, shape: &Shape) -> usize {
+        let left = self.out.name(name);
+        let index = self.random.below(5);
+        let right = self.numbered_literal(shape, index);
+        let operators = match shape {
+            Shape::Quote => &[binary::NOT_EQUAL, binary::EQUAL][..],
+            _ => &[
                 binary::NOT_EQUAL,
                 binary::NOT_EQUAL,
                 binary::LESS,
                 binary::LESS_OR_EQUAL,
                 binary::GREATER,
                 binary::GREATER_OR_EQUAL,
-            ]);
-            self.out.binary(operator, left, right)
-        } else {
-            self.within(names, |w| w.expression(&Shape::Boolean, depth - 1))
+            ],
         };
-        self.in_condition = outer;
-        record
+        let operator = self.random.pick(operators);
+        self.out.binary(operator, left, right)
     }
 }

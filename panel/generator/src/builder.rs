@@ -62,6 +62,10 @@ impl Builder {
         self.record(kind::INTEGER, &value.to_le_bytes(), &[])
     }
 
+    pub fn quote(&mut self, number: u16) -> usize {
+        self.record(kind::QUOTE, &number.to_le_bytes(), &[])
+    }
+
     pub fn name(&mut self, name: u8) -> usize {
         self.record(kind::NAME, &[name], &[])
     }

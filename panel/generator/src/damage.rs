@@ -46,7 +46,7 @@ fn malformed(sheet: &Builder, random: &mut Random) -> Vec<u8> {
         1 => parts[at][0] = random.below(4) as u8,
         2 => parts[at][1] = 1 + random.below(255) as u8,
         3 => {
-            let unknown = [0, 22, 31, 43, 255, 256 + 1, 256 + 32];
+            let unknown = [0, 23, 31, 44, 255, 256 + 1, 256 + 22, 256 + 32];
             let kind: u16 = random.pick(&unknown);
             parts[at][2..4].copy_from_slice(&kind.to_le_bytes());
         }
@@ -101,6 +101,8 @@ fn bad_count(random: &mut Random) -> Vec<u8> {
         (kind::SET_COMPREHENSION, 5),
         (kind::MAP_COMPREHENSION, 4),
         (kind::APPLY, 1),
+        (kind::QUOTE, 1),
+        (kind::QUOTE, 3),
         (kind::P_NAME, 2),
         (kind::P_ANY, 1),
         (kind::P_INTEGER, 5),
@@ -115,6 +117,8 @@ fn bad_count(random: &mut Random) -> Vec<u8> {
         (kind::P_MAP, 10),
         (kind::P_MUNION, 1),
         (kind::P_MUNION, 3),
+        (kind::P_QUOTE, 1),
+        (kind::P_QUOTE, 3),
     ]);
     Record {
         kind,

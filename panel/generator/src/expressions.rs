@@ -4,6 +4,9 @@ use crate::builder::{binary, kind, unary};
 use crate::shape::Shape;
 use crate::writer::Writer;
 
+/// The numbers of quotes, few enough to meet each other, in which low and high bytes rise and fall.
+pub const QUOTES: [u16; 9] = [0, 1, 2, 255, 256, 257, 512, 65_280, 65_535];
+
 impl Writer {
     /// An expression of the shape, at most about `depth` deep.
     pub fn expression(&mut self, shape: &Shape, depth: usize) -> usize {
@@ -25,6 +28,7 @@ impl Writer {
             Shape::Sequence(item, most) => self.sequence(item, *most, depth),
             Shape::Map(key, value, most) => self.map(key, value, *most, depth),
             Shape::Tuple(parts) => self.tuple(parts, depth),
+            Shape::Quote => self.leaf(shape),
         }
     }
 
@@ -58,6 +62,10 @@ impl Writer {
                 self.map_enumeration(key, value, count, 0)
             }
             Shape::Tuple(parts) => self.tuple(parts, 1),
+            Shape::Quote => {
+                let number = self.random.pick(&QUOTES);
+                self.out.quote(number)
+            }
         }
     }
 
@@ -293,17 +301,17 @@ impl Writer {
         self.out.node(kind, &operands)
     }
 
-    /// A set of so many members, at most; integers mostly differ.
+    /// A set of so many members, at most; integers and quotes mostly differ.
     pub fn distinct_members(&mut self, member: &Shape, count: usize, depth: usize) -> usize {
         let count = count.min(8);
-        if *member != Shape::Integer || self.random.once_in(5) {
+        if !member.has_many_literals() || self.random.once_in(5) {
             return self.enumeration(kind::SET, member, count, depth);
         }
-        let from = self.random.between(-1, 3);
-        if self.random.once_in(2) {
+        if *member == Shape::Integer && self.random.once_in(2) {
+            let from = self.random.between(-1, 3);
             return self.out.range(from, from + count as i32 - 1);
         }
-        let literals = self.distinct_literals(count);
+        let literals = self.distinct_literals(member, count);
         self.out.node(kind::SET, &literals)
     }
 
@@ -316,19 +324,20 @@ impl Writer {
         }
     }
 
-    /// A map of so many entries, at most; keys that are integers mostly differ, and some have themselves as values.
+    /// A map of so many entries, at most; keys that are integers or quotes mostly differ, and some have themselves as
+    /// values.
     fn map_enumeration(&mut self, key: &Shape, value: &Shape, count: usize, depth: usize) -> usize {
         let mut operands = Vec::new();
-        let literals = *key == Shape::Integer && !self.random.once_in(4);
+        let literals = key.has_many_literals() && !self.random.once_in(4);
         let is_same = literals && value == key && self.random.once_in(2);
         for index in 0..count {
             operands.push(if literals {
-                self.out.integer(index as i32)
+                self.numbered_literal(key, index)
             } else {
                 self.expression(key, depth)
             });
             operands.push(if is_same && self.random.once_in(2) {
-                self.out.integer(index as i32)
+                self.numbered_literal(key, index)
             } else {
                 self.expression(value, depth)
             });
@@ -336,14 +345,22 @@ impl Writer {
         self.out.node(kind::MAP, &operands)
     }
 
-    /// So many different integer literals, in no order.
-    fn distinct_literals(&mut self, count: usize) -> Vec<usize> {
-        let mut values: Vec<i32> = (-1..9).collect();
+    /// So many different literals of the shape, integers or quotes, in no order.
+    fn distinct_literals(&mut self, shape: &Shape, count: usize) -> Vec<usize> {
+        let mut indices: Vec<usize> = (0..QUOTES.len()).collect();
         let mut literals = Vec::new();
         for _ in 0..count {
-            let value = values.swap_remove(self.random.below(values.len()));
-            literals.push(self.out.integer(value));
+            let index = indices.swap_remove(self.random.below(indices.len()));
+            literals.push(self.numbered_literal(shape, index));
         }
         literals
+    }
+
+    /// One of the literals of the shape, integers or quotes; different ones for different indices.
+    pub fn numbered_literal(&mut self, shape: &Shape, index: usize) -> usize {
+        match shape {
+            Shape::Quote => self.out.quote(QUOTES[index]),
+            _ => self.out.integer(index as i32 - 1),
+        }
     }
 }

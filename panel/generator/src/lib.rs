@@ -92,7 +92,7 @@ mod tests {
 
     #[test]
     fn every_kind_and_operator_occurs() {
-        let mut kinds = [0; 43];
+        let mut kinds = [0; 44];
         let mut unary = [0; 16];
         let mut binary = [0; 29];
         for record in (0..2000).flat_map(|seed| sheet(seed, MOST_RECORDS).records) {
@@ -103,7 +103,7 @@ mod tests {
                 _ => {}
             }
         }
-        for kind in (1..=21).chain(32..=42) {
+        for kind in (1..=22).chain(32..=43) {
             assert!(kinds[kind] > 20, "kind {kind}: {}", kinds[kind]);
         }
         assert!(unary[1..].iter().all(|&count| count > 10), "{unary:?}");

@@ -1,6 +1,7 @@
 //! Random patterns over the values of a shape.
 
 use crate::builder::kind;
+use crate::expressions::QUOTES;
 use crate::shape::Shape;
 use crate::writer::{Names, Writer};
 
@@ -30,6 +31,10 @@ impl Writer {
             Shape::Integer if self.random.once_in(6) => {
                 let value = self.random.between(0, 4);
                 self.out.record(kind::P_INTEGER, &value.to_le_bytes(), &[])
+            }
+            Shape::Quote if self.random.once_in(6) => {
+                let number = self.random.pick(&QUOTES);
+                self.out.record(kind::P_QUOTE, &number.to_le_bytes(), &[])
             }
             Shape::Tuple(parts) if inside => {
                 return self.pattern_list(kind::P_TUPLE, parts, 1, loose, depth, names);

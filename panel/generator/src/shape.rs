@@ -11,6 +11,7 @@ pub enum Shape {
     Sequence(Box<Shape>, usize),
     Map(Box<Shape>, Box<Shape>, usize),
     Tuple(Vec<Shape>),
+    Quote,
 }
 
 impl Shape {
@@ -35,10 +36,17 @@ impl Shape {
         }
     }
 
+    /// Whether literals of this shape are many enough to differ.
+    pub fn has_many_literals(&self) -> bool {
+        matches!(self, Shape::Integer | Shape::Quote)
+    }
+
     /// Whether every value of this shape is of the wanted shape too.
     pub fn fits(&self, wanted: &Shape) -> bool {
         match (self, wanted) {
-            (Shape::Boolean, Shape::Boolean) | (Shape::Integer, Shape::Integer) => true,
+            (Shape::Boolean, Shape::Boolean)
+            | (Shape::Integer, Shape::Integer)
+            | (Shape::Quote, Shape::Quote) => true,
             (Shape::Set(a, m), Shape::Set(b, n)) => m <= n && a.fits(b),
             (Shape::Sequence(a, m), Shape::Sequence(b, n)) => m <= n && a.fits(b),
             (Shape::Map(k, v, m), Shape::Map(l, w, n)) => m <= n && k.fits(l) && v.fits(w),
@@ -51,13 +59,14 @@ impl Shape {
 
     /// A random shape, nested at most `depth` deep.
     pub fn random(random: &mut Random, depth: usize) -> Shape {
-        let choices = if depth == 0 { 4 } else { 10 };
+        let choices = if depth == 0 { 5 } else { 11 };
         match random.below(choices) {
             0 => Shape::Boolean,
             1..=3 => Shape::Integer,
-            4 | 5 => Shape::set(Shape::random(random, depth - 1), 1 + random.below(4)),
-            6 | 7 => Shape::sequence(Shape::random(random, depth - 1), 1 + random.below(4)),
-            8 => {
+            4 => Shape::Quote,
+            5 | 6 => Shape::set(Shape::random(random, depth - 1), 1 + random.below(4)),
+            7 | 8 => Shape::sequence(Shape::random(random, depth - 1), 1 + random.below(4)),
+            9 => {
                 let key = Shape::random(random, depth - 1);
                 Shape::map(key, Shape::random(random, depth - 1), 1 + random.below(4))
             }
@@ -83,5 +92,7 @@ mod tests {
         assert!(pair(2).fits(&pair(3)));
         assert!(!pair(3).fits(&pair(2)));
         assert!(!Shape::Integer.fits(&Shape::Boolean));
+        assert!(!Shape::Integer.fits(&Shape::Quote));
+        assert!(Shape::Quote.fits(&Shape::Quote));
     }
 }

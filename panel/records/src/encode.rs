@@ -175,10 +175,7 @@ mod tests {
             mistake("quote 65536").1,
             "`65536` is no quote from 0 to 65535"
         );
-        assert_eq!(
-            mistake("p-quote -1").1,
-            "`-1` is no quote from 0 to 65535"
-        );
+        assert_eq!(mistake("p-quote -1").1, "`-1` is no quote from 0 to 65535");
         assert_eq!(mistake("quote <1>").0, 1);
         assert_eq!(mistake("quote").1, "`quote` takes one field");
         assert_eq!(mistake("map 1").1, "`map` does not take 1 operands");

@@ -16,6 +16,8 @@ fn last(records: &[(u16, &[u8])], kind: u16, fields: &[u8]) -> Vec<u8> {
 
 const ONE: (u16, &[u8]) = (2, &[1, 0, 0, 0]);
 const ANY: (u16, &[u8]) = (33, &[]);
+const QUOTE: (u16, &[u8]) = (22, &[1, 2]);
+const P_QUOTE: (u16, &[u8]) = (43, &[1, 2]);
 
 #[test]
 fn rule_3_the_size_of_the_table() {
@@ -38,8 +40,10 @@ fn rule_4_the_form_of_records() {
         refused(&after_one, 4, 1);
     }
     // Unknown kinds, the high byte of the kind included.
-    for kind in [0, 22, 31, 43, 0x0101, 0x0107, 0x0129] {
-        refused(&table_of(&[(kind, &[0])]), 4, 0);
+    for kind in [0, 23, 31, 44, 0x0101, 0x0107, 0x0116, 0x0129, 0x012b] {
+        for fields in [&[0][..], &[0, 0]] {
+            refused(&table_of(&[(kind, fields)]), 4, 0);
+        }
     }
     // Unknown literals, operators and names.
     refused(&table_of(&[(1, &[2])]), 4, 0);
@@ -83,6 +87,7 @@ fn rule_4_the_lengths_of_kinds() {
         (19, &[8]),
         (20, &[9]),
         (21, &[6]),
+        (22, &[6]),
         (32, &[5]),
         (33, &[4]),
         (34, &[5]),
@@ -94,6 +99,7 @@ fn rule_4_the_lengths_of_kinds() {
         (40, &[6]),
         (41, &[4, 6, 8, 10, 12]),
         (42, &[6]),
+        (43, &[6]),
     ];
     for (kind, fits) in lengths {
         for length in 4..20 {
@@ -142,13 +148,18 @@ fn rule_6_operands() {
         refused(&last(&[ANY], kind, &[0, 0]), 6, 1);
     }
     for (kind, fields) in [(17, &[0, 1, 2][..]), (19, &[0, 1, 2, 3])] {
-        let operands = [ANY, ONE, ONE, ONE];
-        refused(
-            &last(&operands[..fields.len()], kind, fields),
-            6,
-            fields.len(),
-        );
+        for pattern in [ANY, P_QUOTE] {
+            let operands = [pattern, ONE, ONE, ONE];
+            let table = last(&operands[..fields.len()], kind, fields);
+            refused(&table, 6, fields.len());
+        }
     }
+    // A quote is an expression and a pattern of it is none; neither has operands, whatever its bytes are.
+    refused(&last(&[P_QUOTE], 4, &[1, 0]), 6, 1);
+    refused(&last(&[QUOTE, ONE, ONE], 12, &[0, 1, 2]), 6, 3);
+    assert_eq!(check(&table_of(&[QUOTE])), Ok(1));
+    let table = last(&[P_QUOTE, QUOTE, QUOTE], 12, &[0, 1, 2]);
+    assert_eq!(check(&table), Ok(4));
     // Named before, by a lower record or by an earlier field.
     refused(&last(&[ONE], 5, &[7, 0, 0]), 6, 1);
     refused(&table_of(&[ONE, (4, &[2, 0]), (5, &[7, 0, 1])]), 6, 2);
@@ -157,6 +168,7 @@ fn rule_6_operands() {
     refused(&table_of(&[ONE, ANY, (4, &[2, 0])]), 6, 1);
     // A pattern as the last.
     refused(&table_of(&[ANY]), 6, 0);
+    refused(&table_of(&[P_QUOTE]), 6, 0);
     for kind in [38, 41, 42] {
         refused(&table_of(&[ANY, ANY, (kind, &[0, 1])]), 6, 2);
     }
@@ -255,6 +267,8 @@ fn rule_8_looseness_in_a_condition() {
         check(&forall(p_name(0), set(&[]), definite()).table()),
         Ok(11)
     );
+    let quoted = let_(p_quote(1), quote(1), boolean(true));
+    assert_eq!(check(&forall(p_name(0), set(&[]), quoted).table()), Ok(7));
     // Each kind that may match in several ways, anywhere in a pattern, with one binding too.
     for pattern in [
         p_set(&[]),
@@ -304,6 +318,8 @@ fn rule_9_heights() {
     let nested = |leaf: Node, count: usize| (0..count).fold(leaf, |operand, _| un(2, operand));
     refused(&nested(int(1), 32).table(), 9, 32);
     refused(&nested(int(1), 60).table(), 9, 32);
+    refused(&nested(quote(1), 32).table(), 9, 32);
+    assert_eq!(check(&nested(quote(1), 31).table()), Ok(32));
     // Patterns count as operands.
     let pattern = |count: usize| (0..count).fold(p_any(), |part, _| p_set(&[part]));
     let sheet = |count| let_(pattern(count), int(1), int(2));

@@ -22,19 +22,20 @@ impl Random {
     }
 
     fn pattern(&mut self, height: u32) -> Node {
-        let kinds = if height == 0 { 4 } else { 11 };
+        let kinds = if height == 0 { 5 } else { 12 };
         let count = self.below(4);
         let part = |random: &mut Random| random.pattern(height - 1);
         match self.below(kinds) {
             0 | 1 => p_name(self.below(6) as u8),
             2 => p_any(),
             3 => p_int(self.below(2) as i32),
-            4 => p_tuple(&[part(self), part(self)]),
-            5 => p_set(&self.patterns(count, height - 1)),
-            6 => self.split(kind::P_UNION, height),
-            7 => p_seq(&self.patterns(count, height - 1)),
-            8 => p_map(&self.patterns(2 * (count % 3), height - 1)),
-            9 => self.split(kind::P_MUNION, height),
+            4 => p_quote(self.below(2) as u16),
+            5 => p_tuple(&[part(self), part(self)]),
+            6 => p_set(&self.patterns(count, height - 1)),
+            7 => self.split(kind::P_UNION, height),
+            8 => p_seq(&self.patterns(count, height - 1)),
+            9 => p_map(&self.patterns(2 * (count % 3), height - 1)),
+            10 => self.split(kind::P_MUNION, height),
             _ => p_conc(part(self), part(self)),
         }
     }
@@ -144,7 +145,10 @@ impl Random {
     }
 
     fn small(&mut self) -> Value {
-        Value::Integer(self.below(3) as i32)
+        match self.below(4) {
+            0 => Value::Quote(self.below(2) as u16),
+            _ => Value::Integer(self.below(3) as i32),
+        }
     }
 
     fn any_set(&mut self) -> Value {

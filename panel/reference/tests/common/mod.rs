@@ -88,6 +88,10 @@ pub fn int(number: i32) -> Node {
     node(kind::INTEGER, &number.to_le_bytes(), &[])
 }
 
+pub fn quote(number: u16) -> Node {
+    node(kind::QUOTE, &number.to_le_bytes(), &[])
+}
+
 pub fn name(name: u8) -> Node {
     node(kind::NAME, &[name], &[])
 }
@@ -191,6 +195,10 @@ pub fn p_boolean(truth: bool) -> Node {
 
 pub fn p_int(number: i32) -> Node {
     node(kind::P_INTEGER, &number.to_le_bytes(), &[])
+}
+
+pub fn p_quote(number: u16) -> Node {
+    node(kind::P_QUOTE, &number.to_le_bytes(), &[])
 }
 
 pub fn p_tuple(parts: &[Node]) -> Node {
