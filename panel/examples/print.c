@@ -65,6 +65,9 @@ static void print_value(const uint8_t *value)
     case DENGWIZO_TUPLE:
         print_items("mk_(", value, ")");
         break;
+    case DENGWIZO_QUOTE:
+        printf("<%u>", (unsigned)two_bytes(value + 4));
+        break;
     default:
         print_items("{", value, "}");
         break;

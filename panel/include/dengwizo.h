@@ -37,15 +37,16 @@ enum {
 };
 
 /* The kinds of values. A value is its length (16 bits, little-endian, of the whole record), its kind (16 bits) and its
- * contents: a byte 0 or 1; 4 bytes, two's complement, little-endian; or the records of its items, for a map key, value,
- * key, value. */
+ * contents: a byte 0 or 1; 4 bytes, two's complement, little-endian; the records of its items, for a map key, value,
+ * key, value; or, for a quote, its number (16 bits, little-endian). */
 enum {
     DENGWIZO_BOOLEAN = 1,
     DENGWIZO_INTEGER = 2,
     DENGWIZO_SET = 3,
     DENGWIZO_SEQUENCE = 4,
     DENGWIZO_MAP = 5,
-    DENGWIZO_TUPLE = 6
+    DENGWIZO_TUPLE = 6,
+    DENGWIZO_QUOTE = 7
 };
 
 /* The numbers of the refusals: 1 to 10 from the input, in the order in which they are tested, and 20 to 35 from the

@@ -101,6 +101,7 @@ impl Random {
                     _ => Value::Sequence((0..self.below(4)).map(|_| self.small()).collect()),
                 }
             }
+            Record::LiteralPattern(literal) if self.below(4) > 0 => literal.clone(),
             _ if self.below(3) == 0 => self.any_set(),
             _ if self.below(8) == 0 => self.any_map(),
             _ => self.small(),
@@ -169,8 +170,8 @@ struct Tally {
     met: [usize; 4],
     /// Unions and munions in patterns that are refused with 29.
     wide: [usize; 2],
-    /// Unions, munions and map enumerations in patterns that match.
-    matched: [usize; 3],
+    /// Unions, munions, map enumerations and quotes in patterns that match.
+    matched: [usize; 4],
 }
 
 impl Tally {
@@ -187,6 +188,7 @@ impl Tally {
             holds(|record| matches!(record, Record::UnionPattern(..))),
             holds(|record| matches!(record, Record::MunionPattern(..))),
             holds(|record| matches!(record, Record::MapPattern(_))),
+            holds(|record| matches!(record, Record::LiteralPattern(Value::Quote(_)))),
         ];
         let counts: &mut [usize] = match outcome {
             0 => &mut self.wide,

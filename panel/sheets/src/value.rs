@@ -4,7 +4,7 @@ use std::collections::{BTreeMap, BTreeSet};
 use std::fmt::{self, Display};
 
 /// A value. The kinds stand in rising order, so the derived order is that of the sheets: lower kind first, false
-/// before true, integers by size, the others item by item and a prefix before what extends it.
+/// before true, integers by size, quotes by number, the others item by item and a prefix before what extends it.
 ///
 /// ```
 /// # use sheets::Value;
@@ -23,6 +23,7 @@ pub enum Value {
     Map(BTreeMap<Value, Value>),
     /// 2 to 4 items.
     Tuple(Vec<Value>),
+    Quote(u16),
 }
 
 impl Value {
@@ -53,6 +54,14 @@ impl Value {
     pub fn as_integer(&self) -> Option<i32> {
         match self {
             Value::Integer(number) => Some(*number),
+            _ => None,
+        }
+    }
+
+    /// The number of a quote.
+    pub fn as_quote(&self) -> Option<u16> {
+        match self {
+            Value::Quote(number) => Some(*number),
             _ => None,
         }
     }
@@ -117,6 +126,7 @@ fn read(bytes: &[u8]) -> Option<(Value, &[u8])> {
         4 => Value::Sequence(read_all(contents)?),
         5 => map(read_all(contents)?)?,
         6 => Value::Tuple(read_all(contents).filter(|items| (2..=4).contains(&items.len()))?),
+        7 => Value::Quote(u16::from_le_bytes(contents.try_into().ok()?)),
         _ => return None,
     };
     Some((value, &bytes[length..]))
@@ -165,6 +175,7 @@ impl Display for Value {
             Value::Map(entries) if entries.is_empty() => f.write_str("{|->}"),
             Value::Map(entries) => enclosed(f, "{", entries.iter().map(Maplet), "}"),
             Value::Tuple(items) => enclosed(f, "mk_(", items, ")"),
+            Value::Quote(number) => write!(f, "<{number}>"),
         }
     }
 }

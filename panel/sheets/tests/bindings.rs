@@ -143,7 +143,8 @@ fn bytes_that_are_no_value() {
 
 #[test]
 fn accessors() {
-    let table = "boolean true\ninteger 2\nset 1\ninteger 1\nboolean false\nmap 3 4\nsequence\ntuple 0 2 5 6";
+    let table =
+        "boolean true\ninteger 2\nset 1\ninteger 1\nquote 513\nmap 3 4\nsequence\ntuple 0 2 5 6";
     let table = records::encode(table).expect("a table");
     let value = Sheet::check(&table)
         .and_then(|mut sheet| sheet.evaluate(&List::EMPTY))
@@ -155,11 +156,18 @@ fn accessors() {
     assert!(set
         .members()
         .is_some_and(|members| members.contains(&2.into())));
-    assert_eq!(map.get(&1.into()).and_then(Value::as_bool), Some(false));
+    let quote = map.get(&1.into()).expect("a value");
+    assert_eq!((quote.as_quote(), quote.as_integer()), (Some(513), None));
+    assert!(*quote > value && *quote < Value::Quote(514));
     assert_eq!(sequence.items(), Some(&[][..]));
     assert_eq!(
-        (set.as_bool(), truth.as_integer(), map.items()),
-        (None, None, None)
+        (
+            set.as_bool(),
+            truth.as_integer(),
+            map.items(),
+            truth.as_quote()
+        ),
+        (None, None, None, None)
     );
     assert_eq!(Value::from(-3).as_integer(), Some(-3));
 }

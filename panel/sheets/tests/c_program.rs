@@ -97,6 +97,7 @@ fn constants() {
         ("SEQUENCE", 4),
         ("MAP", 5),
         ("TUPLE", 6),
+        ("QUOTE", 7),
     ];
     let numbers = number::ALL
         .iter()

@@ -61,7 +61,7 @@ fn damaged_tables() {
 #[test]
 fn random_bytes() {
     let mut random = Random::new(1);
-    let tables = (0..=2500).flat_map(|length| [(length, 256), (length, 43), (length, 9)]);
+    let tables = (0..=2500).flat_map(|length| [(length, 256), (length, 45), (length, 9)]);
     compare_all(tables.map(|(length, bound)| bytes(&mut random, length, bound)));
 }
 
@@ -89,7 +89,7 @@ fn changed_tables() {
             let mut changed = table.clone();
             let at = random.below(table.len());
             let any = random.next() as u8;
-            changed[at] = random.pick(&[any, table[at] ^ 1, 0, 32, 37, 41, 42]);
+            changed[at] = random.pick(&[any, table[at] ^ 1, 0, 22, 32, 37, 41, 42, 43]);
             seen[usize::from(both.check(&changed).number)] += 1;
         }
         let cut = &table[..random.below(table.len())];

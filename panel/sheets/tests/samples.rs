@@ -24,7 +24,7 @@ fn outcomes(name: &str) -> Vec<String> {
 #[test]
 fn every_sample_gives_its_print() {
     let samples = samples();
-    assert!(samples.len() >= 51);
+    assert!(samples.len() >= 62);
     for (name, table, expected) in samples {
         assert_eq!(print_by_services(&table), expected, "{name}");
     }
@@ -100,6 +100,45 @@ fn patterns_over_maps() {
     assert_eq!(outcomes("munion-of-seven").len(), 126);
     assert_eq!(outcomes("munion-of-eight"), ["29"]);
     assert_eq!(outcomes("union-in-a-key"), ["29"]);
+}
+
+#[test]
+fn quotes() {
+    assert_eq!(outcomes("quotes-in-order"), ["{true,{},mk_(1,1),<1>,<2>}"]);
+    assert_eq!(outcomes("quote-ends"), ["[<65535>,<0>]"]);
+    assert_eq!(outcomes("quote-as-a-key"), ["{<0>|->1}"]);
+    assert_eq!(outcomes("quote-in-a-pattern"), ["2"]);
+    assert_eq!(outcomes("quote-matched"), ["5"]);
+    assert_eq!(outcomes("quote-not-matched"), ["23"]);
+    assert_eq!(outcomes("quote-and-integer"), ["mk_(true,false,true,2)"]);
+    assert_eq!(outcomes("quotes-not-compared"), ["20"]);
+    assert_eq!(outcomes("quotes-chosen"), ["{}", "mk_(1,2)", "<1>"]);
+    assert_eq!(
+        outcomes("quotes-shared-out"),
+        ["{7|-><1>,8|-><2>}", "{7|-><2>,8|-><1>}"]
+    );
+    let refusal = Sheet::check(&table("quote-pattern-alone")).unwrap_err();
+    assert_eq!((refusal.number(), refusal.place()), (6, 0));
+}
+
+/// Quotes as bytes: any two of them, in a record of exactly six.
+#[test]
+fn bytes_of_quotes() {
+    for (table, print) in [
+        (&[6, 0, 22, 0, 255, 255][..], "table 1\n- =<65535>\nend 1\n"),
+        (&[6, 0, 22, 0, 0, 0], "table 1\n- =<0>\nend 1\n"),
+        (&[6, 0, 22, 0, 1, 2], "table 1\n- =<513>\nend 1\n"),
+        (&[5, 0, 22, 0, 1], "refused 4 0\n"),
+        (&[7, 0, 22, 0, 1, 0, 0], "refused 4 0\n"),
+        (&[5, 0, 43, 0, 1], "refused 4 0\n"),
+        (&[7, 0, 43, 0, 1, 0, 0], "refused 4 0\n"),
+        (&[6, 0, 23, 0, 0, 0], "refused 4 0\n"),
+        (&[6, 0, 44, 0, 0, 0], "refused 4 0\n"),
+        (&[6, 0, 22, 1, 0, 0], "refused 4 0\n"),
+        (&[6, 0, 43, 0, 0, 0], "refused 6 0\n"),
+    ] {
+        assert_eq!(print_by_services(table), print, "{table:?}");
+    }
 }
 
 #[test]

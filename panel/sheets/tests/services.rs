@@ -203,7 +203,7 @@ fn random_tables() {
     let mut both = Both::new();
     let mut random = Random::new(1);
     for length in 0..=2_500 {
-        let bound = random.pick(&[256, 41, 9]);
+        let bound = random.pick(&[256, 45, 9]);
         let table = bytes(&mut random, length, bound);
         let list = bytes(&mut random, length % 70, 4);
         both.check(&table);

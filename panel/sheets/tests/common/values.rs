@@ -2,7 +2,7 @@
 
 use generator::Random;
 use reference::value::Value;
-use Value::{Boolean, Integer, Map, Sequence, Set, Tuple};
+use Value::{Boolean, Integer, Map, Quote, Sequence, Set, Tuple};
 
 // ---- values in short
 
@@ -49,6 +49,7 @@ pub enum Form {
     Any,
     Boolean,
     Integer,
+    Quote,
     Small,
     Set,
     Sequence,
@@ -76,16 +77,18 @@ fn draw(random: &mut Random, form: Form, depth: usize) -> Value {
                 Form::Integer,
                 Form::Integer,
                 Form::Boolean,
+                Form::Quote,
                 Form::Set,
                 Form::Sequence,
                 Form::Map,
                 Form::Tuple,
             ];
-            let form = forms[random.below(if depth == 0 { 3 } else { forms.len() })];
+            let form = forms[random.below(if depth == 0 { 4 } else { forms.len() })];
             draw(random, form, depth)
         }
         Form::Boolean => Boolean(random.once_in(2)),
         Form::Integer => Integer(integer(random)),
+        Form::Quote => quote(random),
         Form::Small => small(random),
         Form::Set => {
             let member = if random.once_in(2) {
@@ -130,10 +133,22 @@ fn count(random: &mut Random) -> usize {
     }
 }
 
-/// An integer out of a few, so that values meet each other.
+/// An integer, or now and then a quote, out of a few, so that values meet each other.
 fn small(random: &mut Random) -> Value {
+    if random.once_in(8) {
+        return quote(random);
+    }
     let most = random.pick(&[3, 9, 60]);
     Integer(random.between(-2, most))
+}
+
+/// A quote out of a few, or anywhere in the range.
+fn quote(random: &mut Random) -> Value {
+    match random.below(4) {
+        0 => Quote(random.next() as u16),
+        1 => Quote(random.pick(&[0, 255, 256, 257, 65_280, 65_535])),
+        _ => Quote(random.below(4) as u16),
+    }
 }
 
 /// An integer: small, at an end of the range, or anywhere in it.

@@ -18,6 +18,7 @@ pub fn write(out: &mut Builder, value: &Value, names: &[u8]) -> usize {
     match value {
         Value::Boolean(truth) => out.boolean(*truth),
         Value::Integer(number) => out.integer(*number),
+        Value::Quote(number) => out.quote(*number),
         Value::Tuple(items) => enumeration(out, kind::TUPLE, items, names),
         Value::Set(members) => set(out, members, names),
         Value::Sequence(items) => sequence(out, items, names),

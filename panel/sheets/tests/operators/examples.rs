@@ -1,6 +1,5 @@
 //! The worked examples of the VDM-10 manual, sections 3.1 and 3.2, that lie in the subset, and those
-//! of set ranges and applications; each result byte for byte. A quote of the manual, which the subset
-//! has not, is a number here.
+//! of set ranges and applications; each result byte for byte.
 
 use super::quote::*;
 use super::*;
@@ -70,12 +69,12 @@ fn divisions_of_negative_integers() {
 
 #[test]
 fn sets() {
-    let s1 = set([FRANCE, DENMARK, SOUTH_AFRICA, SAUDI_ARABIA]);
+    let s1 = set_of([FRANCE, DENMARK, SOUTH_AFRICA, SAUDI_ARABIA]);
     let s2 = set([2, 4, 6, 8, 11]);
     let s3 = set([]);
     let rest = set([2, 4, 8, 10]);
-    truth(binary(binary::IN_SET, &int(ENGLAND), &s1), false);
-    truth(binary(binary::IN_SET, &int(FRANCE), &s1), true);
+    truth(binary(binary::IN_SET, &ENGLAND, &s1), false);
+    truth(binary(binary::IN_SET, &FRANCE, &s1), true);
     truth(binary(binary::NOT_IN_SET, &int(10), &s2), true);
     is(binary(binary::UNION, &s2, &s3), set([2, 4, 6, 8, 11]));
     is(binary(binary::INTER, &s1, &s3), set([]));
@@ -112,7 +111,7 @@ fn sets() {
 fn sequences() {
     let l1 = sequence([3, 1, 4, 1, 5, 9, 2]);
     let l2 = sequence([2, 7, 1, 8]);
-    let l3 = sequence([ENGLAND, RUMANIA, COLOMBIA, TUNISIA]);
+    let l3 = sequence_of([ENGLAND, RUMANIA, COLOMBIA, TUNISIA]);
     let both = sequence([3, 1, 4, 1, 5, 9, 2, 2, 7, 1, 8]);
     is(unary(unary::LEN, &l1), int(7));
     is(binary(binary::CONCATENATE, &l1, &l2), both.clone());
@@ -122,7 +121,7 @@ fn sequences() {
         sequence([1, 4, 1, 5, 9, 2, 2, 7, 1, 8]),
     );
     is(unary(unary::LEN, &l3), int(4));
-    is(apply(&l3, &int(4)), int(TUNISIA));
+    is(apply(&l3, &int(4)), TUNISIA);
     is(unary(unary::REVERSE, &l1), sequence([2, 9, 5, 1, 4, 1, 3]));
     is(
         unary(unary::CONC, &sequence_of([l1.clone(), l2.clone()])),
@@ -140,7 +139,7 @@ fn sequences() {
     truth(binary(binary::EQUAL, &thrice, &both), false);
     is(
         unary(unary::ELEMS, &l3),
-        set([ENGLAND, RUMANIA, COLOMBIA, TUNISIA]),
+        set_of([ENGLAND, RUMANIA, COLOMBIA, TUNISIA]),
     );
     is(unary(unary::ELEMS, &l1), set([1, 2, 3, 4, 5, 9]));
     is(unary(unary::ELEMS, &l2), set([1, 2, 7, 8]));

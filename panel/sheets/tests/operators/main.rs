@@ -87,15 +87,17 @@ fn expected(result: Tried<Value>) -> Outcome {
         .map_err(|number| number as u16)
 }
 
-/// The quotes of the manual, which the subset has not.
+/// The quotes of the manual, each by a number.
 mod quote {
-    pub const FRANCE: i32 = 101;
-    pub const DENMARK: i32 = 102;
-    pub const SOUTH_AFRICA: i32 = 103;
-    pub const SAUDI_ARABIA: i32 = 104;
-    pub const ENGLAND: i32 = 105;
-    pub const SPAIN: i32 = 106;
-    pub const RUMANIA: i32 = 107;
-    pub const COLOMBIA: i32 = 108;
-    pub const TUNISIA: i32 = 109;
+    use super::Value;
+
+    pub const FRANCE: Value = Value::Quote(1);
+    pub const DENMARK: Value = Value::Quote(2);
+    pub const SOUTH_AFRICA: Value = Value::Quote(3);
+    pub const SAUDI_ARABIA: Value = Value::Quote(4);
+    pub const ENGLAND: Value = Value::Quote(256);
+    pub const SPAIN: Value = Value::Quote(257);
+    pub const RUMANIA: Value = Value::Quote(512);
+    pub const COLOMBIA: Value = Value::Quote(65_280);
+    pub const TUNISIA: Value = Value::Quote(65_535);
 }

@@ -1,36 +1,41 @@
 //! The operators on maps: the worked examples of the VDM-10 manual, section 3.2.3, that lie in the
-//! subset, and the ends of the sizes. A quote of the manual, which the subset has not, is a number here.
+//! subset, and the ends of the sizes.
 
 use super::quote::*;
 use super::*;
 use generator::builder::{binary, unary};
 
+/// A map from quotes to integers.
+fn wins<const COUNT: usize>(entries: [(Value, i32); COUNT]) -> Value {
+    map_of(entries.map(|(key, wins)| (key, int(wins))))
+}
+
 #[test]
 fn worked_examples() {
-    let m1 = map([
+    let m1 = wins([
         (FRANCE, 9),
         (DENMARK, 4),
         (SOUTH_AFRICA, 2),
         (SAUDI_ARABIA, 1),
     ]);
     let m2 = map([(1, 2), (2, 3), (3, 4), (4, 1)]);
-    let europe = set([FRANCE, ENGLAND, DENMARK, SPAIN]);
+    let europe = set_of([FRANCE, ENGLAND, DENMARK, SPAIN]);
     is(
         unary(unary::DOM, &m1),
-        set([FRANCE, DENMARK, SOUTH_AFRICA, SAUDI_ARABIA]),
+        set_of([FRANCE, DENMARK, SOUTH_AFRICA, SAUDI_ARABIA]),
     );
     is(unary(unary::RNG, &m1), set([1, 2, 4, 9]));
     is(unary(unary::DOM, &m2), set(1..=4));
     is(unary(unary::RNG, &m2), set(1..=4));
-    let merged = map([
+    let merged = wins([
         (FRANCE, 9),
         (DENMARK, 4),
         (ENGLAND, 3),
         (SAUDI_ARABIA, 1),
         (SOUTH_AFRICA, 2),
     ]);
-    is(binary(binary::MUNION, &m1, &map([(ENGLAND, 3)])), merged);
-    let overridden = map([
+    is(binary(binary::MUNION, &m1, &wins([(ENGLAND, 3)])), merged);
+    let overridden = wins([
         (FRANCE, 8),
         (DENMARK, 4),
         (SOUTH_AFRICA, 2),
@@ -38,27 +43,27 @@ fn worked_examples() {
         (ENGLAND, 4),
     ]);
     is(
-        binary(binary::OVERRIDE, &m1, &map([(FRANCE, 8), (ENGLAND, 4)])),
+        binary(binary::OVERRIDE, &m1, &wins([(FRANCE, 8), (ENGLAND, 4)])),
         overridden,
     );
-    let merged = map([(FRANCE, 9), (ENGLAND, 3), (SPAIN, 4)]);
+    let merged = wins([(FRANCE, 9), (ENGLAND, 3), (SPAIN, 4)]);
     is(
         binary(
             binary::MUNION,
-            &map([(FRANCE, 9), (SPAIN, 4)]),
-            &map([(FRANCE, 9), (ENGLAND, 3)]),
+            &wins([(FRANCE, 9), (SPAIN, 4)]),
+            &wins([(FRANCE, 9), (ENGLAND, 3)]),
         ),
         merged,
     );
     is(
         binary(binary::DOMAIN_RESTRICTION, &europe, &m1),
-        map([(FRANCE, 9), (DENMARK, 4)]),
+        wins([(FRANCE, 9), (DENMARK, 4)]),
     );
     is(
         binary(binary::RANGE_RESTRICTION, &m1, &set(2..=10)),
-        map([(FRANCE, 9), (DENMARK, 4), (SOUTH_AFRICA, 2)]),
+        wins([(FRANCE, 9), (DENMARK, 4), (SOUTH_AFRICA, 2)]),
     );
-    is(apply(&m1, &int(DENMARK)), int(4));
+    is(apply(&m1, &DENMARK), int(4));
     is(apply(&m2, &int(4)), int(1));
     truth(binary(binary::EQUAL, &m2, &m2), true);
     truth(binary(binary::NOT_EQUAL, &m1, &m2), true);

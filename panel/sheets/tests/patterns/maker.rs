@@ -6,6 +6,9 @@ use generator::Random;
 use reference::value::Value;
 use std::collections::BTreeMap;
 
+/// The numbers of quotes.
+const QUOTES: [u16; 5] = [0, 1, 255, 256, 65_535];
+
 /// What a value is to be.
 #[derive(Clone, Copy, PartialEq, Eq)]
 enum Want {
@@ -85,10 +88,11 @@ impl Maker {
     }
 
     fn simple(&mut self) -> Pattern {
-        match self.random.below(12) {
+        match self.random.below(13) {
             0 | 1 => Pattern::Any,
             2 => Pattern::Boolean(self.random.once_in(2)),
             3 => Pattern::Integer(self.random.between(-1, 3)),
+            4 => Pattern::Quote(self.random.pick(&QUOTES)),
             _ => Pattern::Name(self.random.below(self.names) as u8),
         }
     }
@@ -179,6 +183,7 @@ impl Maker {
             Pattern::Any => self.value(want),
             Pattern::Boolean(truth) => Value::Boolean(*truth),
             Pattern::Integer(number) => Value::Integer(*number),
+            Pattern::Quote(number) => Value::Quote(*number),
             Pattern::Tuple(_) => Value::Tuple(self.fill_all(parts, Want::Anything)),
             Pattern::Set(_) => set_of(self.fill_all(parts, Want::Anything)),
             Pattern::Sequence(_) => Value::Sequence(self.fill_all(parts, Want::Anything)),
@@ -230,20 +235,22 @@ impl Maker {
     }
 
     fn small(&mut self, most: i32) -> Value {
-        if self.random.once_in(8) {
-            return self.any_value(1);
+        match self.random.below(10) {
+            0 => self.any_value(1),
+            1 => Value::Quote(self.random.pick(&QUOTES)),
+            _ => Value::Integer(self.random.between(-1, most)),
         }
-        Value::Integer(self.random.between(-1, most))
     }
 
     fn any_value(&mut self, depth: usize) -> Value {
         let count = self.random.below(4);
-        match self.random.below(if depth == 0 { 4 } else { 9 }) {
+        match self.random.below(if depth == 0 { 5 } else { 10 }) {
             0 => Value::Boolean(self.random.once_in(2)),
             1..=3 => Value::Integer(self.random.between(-2, 5)),
-            4 | 5 => set_of((0..count).map(|_| self.any_value(depth - 1))),
-            6 => Value::Sequence((0..count).map(|_| self.any_value(depth - 1)).collect()),
-            7 => {
+            4 => Value::Quote(self.random.pick(&QUOTES)),
+            5 | 6 => set_of((0..count).map(|_| self.any_value(depth - 1))),
+            7 => Value::Sequence((0..count).map(|_| self.any_value(depth - 1)).collect()),
+            8 => {
                 let entries = (0..count).map(|_| (self.small(3), self.any_value(depth - 1)));
                 Value::Map(entries.collect())
             }

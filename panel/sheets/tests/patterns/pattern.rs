@@ -2,7 +2,7 @@
 //!
 //! `{a, -} union (b ^ [1])` and `{a |-> 1} munion b` are patterns, with a to p for the names 0 to 15 and - for any
 //! value. What has no name, no union, no munion and no ^ also stands for a value. `{1,...,7}` is short for
-//! `{1,2,3,4,5,6,7}`; `{|->}` is the map without entries.
+//! `{1,2,3,4,5,6,7}`; `{|->}` is the map without entries; `<1>` is a quote.
 
 use generator::builder::kind;
 use generator::Builder;
@@ -23,10 +23,11 @@ pub enum Pattern {
     /// Key, value, key, value.
     Map(Vec<Pattern>),
     Munion(Box<[Pattern; 2]>),
+    Quote(u16),
 }
 
 use Pattern::{
-    Any, Boolean, Concatenation, Integer, Map, Munion, Name, Sequence, Set, Tuple, Union,
+    Any, Boolean, Concatenation, Integer, Map, Munion, Name, Quote, Sequence, Set, Tuple, Union,
 };
 
 /// The kinds that may match in several ways, so that a let with one of them chooses.
@@ -77,12 +78,13 @@ impl Pattern {
             Concatenation(_) => kind::P_CONCATENATION,
             Map(_) => kind::P_MAP,
             Munion(_) => kind::P_MUNION,
+            Quote(_) => kind::P_QUOTE,
         }
     }
 
     pub fn parts(&self) -> &[Pattern] {
         match self {
-            Name(_) | Any | Boolean(_) | Integer(_) => &[],
+            Name(_) | Any | Boolean(_) | Integer(_) | Quote(_) => &[],
             Tuple(parts) | Set(parts) | Sequence(parts) | Map(parts) => parts,
             Union(halves) | Concatenation(halves) | Munion(halves) => &**halves,
         }
@@ -114,6 +116,7 @@ impl Pattern {
             Name(name) => vec![*name],
             Boolean(truth) => vec![u8::from(*truth)],
             Integer(number) => number.to_le_bytes().to_vec(),
+            Quote(number) => number.to_le_bytes().to_vec(),
             _ => vec![],
         };
         let parts: Vec<usize> = self.parts().iter().map(|part| part.write(out)).collect();
@@ -130,6 +133,7 @@ impl Pattern {
             }
             Boolean(truth) => Value::Boolean(*truth),
             Integer(number) => Value::Integer(*number),
+            Quote(number) => Value::Quote(*number),
             Tuple(_) => Value::Tuple(parts.collect()),
             Set(_) => Value::Set(parts.collect()),
             Sequence(_) => Value::Sequence(parts.collect()),
@@ -288,6 +292,8 @@ impl Reader<'_> {
             self.set_or_map()
         } else if self.skips("[") {
             Sequence(self.list("]"))
+        } else if self.skips("<") {
+            self.quote()
         } else {
             self.word()
         }
@@ -341,12 +347,25 @@ impl Reader<'_> {
         parts
     }
 
-    /// A name, any, or a literal.
-    fn word(&mut self) -> Pattern {
+    /// A quote after its opening sign.
+    fn quote(&mut self) -> Pattern {
+        let number = self.letters().parse().expect("a quote's number");
+        self.expect(">");
+        Quote(number)
+    }
+
+    /// Letters, digits and minuses, as many as stand here.
+    fn letters(&mut self) -> &str {
         let text = self.rest.trim_start();
         let ends = |c: char| !c.is_ascii_alphanumeric() && c != '-';
         let (word, rest) = text.split_at(text.find(ends).unwrap_or(text.len()));
         self.rest = rest;
+        word
+    }
+
+    /// A name, any, a boolean or an integer.
+    fn word(&mut self) -> Pattern {
+        let word = self.letters();
         match word.as_bytes() {
             b"-" => Any,
             b"true" => Boolean(true),
