@@ -19,6 +19,11 @@ pub fn at_limits() -> Vec<(&'static str, Vec<u8>)> {
         ("map of 513 bytes", build(|b| map_and(b, kind::BOOLEAN))),
         ("tuple of 512 bytes", build(|b| tuple_and(b, false))),
         ("tuple of 513 bytes", build(|b| tuple_and(b, true))),
+        ("quote 0", build(|b| b.quote(0))),
+        ("quote 65535", build(|b| b.quote(u16::MAX))),
+        ("set of 84 quotes", build(|b| quotes(b, 84))),
+        ("set of 85 quotes", build(|b| quotes(b, 85))),
+        ("84 bindings of quotes", build(choice_of_quotes)),
         ("64 choices", build(|b| choices(b, 64))),
         ("65 choices", build(|b| choices(b, 65))),
         ("height 32", build(|b| height(b, 32))),
@@ -193,6 +198,22 @@ fn tuple_and(b: &mut Builder, over: bool) -> usize {
         b.integer(5)
     };
     b.node(kind::TUPLE, &[left, right])
+}
+
+/// A set of so many quotes, each of 6 bytes, joined of sets of eight.
+fn quotes(b: &mut Builder, count: u16) -> usize {
+    let quotes: Vec<usize> = (0..count).map(|number| b.quote(771 * number)).collect();
+    let sets: Vec<usize> = quotes.chunks(8).map(|q| b.node(kind::SET, q)).collect();
+    let unions = sets.into_iter();
+    let unions = unions.reduce(|left, right| b.binary(binary::UNION, left, right));
+    unions.expect("a set")
+}
+
+/// let a in set S be st true in a, where S is a set of 84 quotes.
+fn choice_of_quotes(b: &mut Builder) -> usize {
+    let (pattern, set) = (b.p_name(0), quotes(b, 84));
+    let (condition, body) = (b.boolean(true), b.name(0));
+    b.node(kind::LET_BE, &[pattern, set, condition, body])
 }
 
 /// What a pattern of the kind splits: {1,...,n}, or {a |-> a | a in set {1,...,n} & true}.

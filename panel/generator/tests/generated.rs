@@ -195,6 +195,10 @@ const AT_LIMITS: &[(&str, &str)] = &[
         "4 × 64 bindings of a union and a concatenation",
         "- !30 bindings\nend 1",
     ),
+    ("quote 0", "- =<0>\nend 1"),
+    ("quote 65535", "- =<65535>\nend 1"),
+    ("set of 85 quotes", "- !28 large\nend 1"),
+    ("84 bindings of quotes", "83 =<63993>\nend 84"),
     ("height 32", "- =-5\nend 1"),
     ("height 33", "refused 9 32"),
     ("200 records", "- =-100\nend 1"),
@@ -232,6 +236,7 @@ const ONE_VALUE: &[&str] = &[
     "sequence of 512 bytes",
     "map of 512 bytes",
     "tuple of 512 bytes",
+    "set of 84 quotes",
     "255 bindings of a set comprehension",
 ];
 

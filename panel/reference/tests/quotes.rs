@@ -106,42 +106,54 @@ fn what_takes_any_value_takes_quotes() {
     assert_eq!(line(&sheet), "=<1>");
 }
 
+/// Asserts that a sheet is refused with 20 at its last record.
+fn assert_wrong_kind(sheet: &Node) {
+    let table = accept(&sheet.table()).expect("an accepted table");
+    assert_eq!(sheet.answer(&[]), (20, table.last(), 0), "{table:?}");
+    assert_eq!(line(sheet), "!20 kind");
+}
+
 #[test]
-fn what_asks_another_kind_is_refused() {
-    let one = || quote(1);
-    let singleton = || set(&[quote(1)]);
-    let t = || boolean(true);
-    let unary = [NOT, NEGATE, ABS, CARD, DUNION, DINTER, LEN, HD, TL, ELEMS];
-    let unary = unary.into_iter().chain([INDS, CONC, REVERSE, DOM, RNG]);
-    let mut sheets: Vec<Node> = unary.map(|operator| un(operator, one())).collect();
-    let any_value = [EQUAL, NOT_EQUAL];
-    let binary = (1..=28).filter(|operator| !any_value.contains(operator));
-    sheets.extend(binary.map(|operator| bin(operator, one(), quote(2))));
-    sheets.extend([
+fn operators_that_ask_another_kind() {
+    let (one, two) = (|| quote(1), || quote(2));
+    let binary = (1..=28).filter(|operator| ![EQUAL, NOT_EQUAL].contains(operator));
+    let binary = binary.map(|operator| bin(operator, one(), two()));
+    let unary = (1..=15).map(|operator| un(operator, one()));
+    for sheet in binary.chain(unary).chain([
         bin(PLUS, one(), int(1)),
         bin(LESS, int(1), one()),
-        node(kind::RANGE, &[], &[one(), quote(2)]),
+        node(kind::RANGE, &[], &[one(), two()]),
         node(kind::RANGE, &[], &[int(0), one()]),
-        if_(one(), int(1), int(2)),
-        un(DUNION, singleton()),
-        un(DINTER, singleton()),
+        un(DUNION, set(&[one()])),
+        un(DINTER, set(&[one()])),
         un(CONC, seq(&[one()])),
         apply(one(), int(1)),
         apply(seq(&[one()]), one()),
-        seq_comp(p_name(0), singleton(), t(), name(0)),
+    ]) {
+        assert_wrong_kind(&sheet);
+    }
+}
+
+#[test]
+fn conditions_and_sets_that_are_no_quotes() {
+    let one = || quote(1);
+    let over = || set(&[one()]);
+    let t = || boolean(true);
+    for sheet in [
+        if_(one(), int(1), int(2)),
+        seq_comp(p_name(0), over(), t(), name(0)),
         seq_comp(p_name(0), set(&[int(1), one()]), t(), name(0)),
         forall(p_any(), one(), t()),
-        let_be(p_any(), singleton(), one(), t()),
-        forall(p_any(), singleton(), one()),
-        exists1(p_any(), singleton(), one()),
-        iota(p_name(0), singleton(), name(0)),
-        set_comp(p_any(), singleton(), one(), t()),
-        map_comp(p_any(), singleton(), one(), t(), t()),
-    ]);
-    for sheet in sheets {
-        let table = accept(&sheet.table()).expect("an accepted table");
-        assert_eq!(sheet.answer(&[]), (20, table.last(), 0), "{table:?}");
-        assert_eq!(line(&sheet), "!20 kind");
+        let_be(p_any(), one(), t(), t()),
+        let_be(p_any(), over(), one(), t()),
+        forall(p_any(), over(), one()),
+        exists(p_any(), over(), one()),
+        exists1(p_any(), over(), one()),
+        iota(p_name(0), over(), name(0)),
+        set_comp(p_any(), over(), one(), t()),
+        map_comp(p_any(), over(), one(), t(), t()),
+    ] {
+        assert_wrong_kind(&sheet);
     }
 }
 

@@ -33,6 +33,8 @@ fn no_booleans() -> Vec<Value> {
         map([]),
         map_of([(TRUE, FALSE)]),
         Value::Tuple(vec![TRUE, FALSE]),
+        Value::Quote(0),
+        Value::Quote(1),
     ]
 }
 

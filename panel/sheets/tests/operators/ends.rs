@@ -80,6 +80,65 @@ fn members_of_the_wrong_kind() {
     is(binary(binary::NOT_EQUAL, &int(1), &set([1])), TRUE);
 }
 
+/// A quote is equal to itself alone.
+#[test]
+fn quotes_and_what_equals_them() {
+    let ends = [0, 1, 255, 256, 257, 65_535];
+    let pairs = ends.iter().flat_map(|one| ends.map(|other| (*one, other)));
+    for (one, other) in pairs {
+        let (left, right) = (Value::Quote(one), Value::Quote(other));
+        let number = int(one.into());
+        truth(binary(binary::EQUAL, &left, &number), false);
+        truth(binary(binary::NOT_EQUAL, &number, &left), true);
+        truth(binary(binary::EQUAL, &left, &right), one == other);
+        truth(binary(binary::NOT_EQUAL, &left, &right), one != other);
+        let members = set_of([number, right]);
+        truth(binary(binary::IN_SET, &left, &members), one == other);
+        truth(binary(binary::NOT_IN_SET, &left, &members), one != other);
+    }
+    let map = map_of([(Value::Quote(1), int(5))]);
+    is(apply(&map, &Value::Quote(1)), int(5));
+    assert_eq!(apply(&map, &int(1)), ABSENT);
+}
+
+/// A quote is of the wrong kind for every operator but = and <>, of which < to >= ask for integers.
+#[test]
+fn what_takes_no_quotes() {
+    let (left, right) = (Value::Quote(1), Value::Quote(2));
+    for operator in (1..=28).filter(|o| ![binary::EQUAL, binary::NOT_EQUAL].contains(o)) {
+        assert_eq!(binary(operator, &left, &right), WRONG_KIND, "{operator}");
+    }
+    for operator in 1..=15 {
+        assert_eq!(unary(operator, &left), WRONG_KIND, "{operator}");
+    }
+    let members = set_of([left.clone()]);
+    assert_eq!(unary(unary::DUNION, &members), WRONG_KIND);
+    assert_eq!(unary(unary::DINTER, &members), WRONG_KIND);
+    let items = sequence_of([left.clone()]);
+    assert_eq!(unary(unary::CONC, &items), WRONG_KIND);
+    assert_eq!(apply(&items, &left), WRONG_KIND);
+    assert_eq!(apply(&left, &int(1)), WRONG_KIND);
+    assert_eq!(range(&left, &right), WRONG_KIND);
+    assert_eq!(range(&int(0), &right), WRONG_KIND);
+}
+
+/// A quote has 6 bytes: a set of 84 has 508, and one of 85 is too large.
+#[test]
+fn sets_of_quotes_up_to_512_bytes() {
+    let quotes = |numbers: std::ops::Range<u16>| set_of(numbers.map(|n| Value::Quote(771 * n)));
+    let (left, right) = (quotes(0..50), quotes(40..84));
+    is(binary(binary::UNION, &left, &right), quotes(0..84));
+    is(binary(binary::INTER, &left, &right), quotes(40..50));
+    is(binary(binary::DIFFERENCE, &left, &right), quotes(0..40));
+    is(unary(unary::CARD, &quotes(0..84)), int(84));
+    assert_eq!(binary(binary::UNION, &left, &quotes(40..85)), TOO_LARGE);
+    let beside = set_of([set([])]);
+    let full = binary(binary::UNION, &quotes(0..84), &beside);
+    assert_eq!(full.map(|record| record.len()), Ok(512));
+    let beside = set_of([TRUE]);
+    assert_eq!(binary(binary::UNION, &quotes(0..84), &beside), TOO_LARGE);
+}
+
 #[test]
 fn set_ranges_up_to_512_bytes() {
     is(range(&int(1), &int(63)), set(1..=63));

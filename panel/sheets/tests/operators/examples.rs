@@ -68,6 +68,17 @@ fn divisions_of_negative_integers() {
 }
 
 #[test]
+fn quotes() {
+    let a = FRANCE;
+    truth(binary(binary::EQUAL, &FRANCE, &DENMARK), false);
+    truth(
+        binary(binary::NOT_EQUAL, &SAUDI_ARABIA, &SOUTH_AFRICA),
+        true,
+    );
+    truth(binary(binary::NOT_EQUAL, &a, &FRANCE), false);
+}
+
+#[test]
 fn sets() {
     let s1 = set_of([FRANCE, DENMARK, SOUTH_AFRICA, SAUDI_ARABIA]);
     let s2 = set([2, 4, 6, 8, 11]);

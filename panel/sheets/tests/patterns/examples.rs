@@ -13,7 +13,8 @@ fn factorial(number: usize) -> usize {
 /// One value or more of every kind.
 fn one_of_each() -> Vec<Value> {
     let mut values: Vec<Value> = [
-        "false", "true", "-1", "0", "1", "{}", "{1}", "{1,2}", "[]", "[1]", "mk_(1,2)",
+        "false", "true", "-1", "0", "1", "{}", "{1}", "{1,2}", "[]", "[1]", "mk_(1,2)", "<0>",
+        "<1>", "<257>",
     ]
     .map(value)
     .into();
@@ -491,6 +492,65 @@ fn integers_at_the_ends() {
     assert_eq!(bound, ends.map(Value::Integer).iter().collect::<Vec<_>>());
 }
 
+/// A quote is met by that quote alone, and quotes are ordered by their numbers, after every other kind.
+#[test]
+fn quotes_at_the_ends() {
+    let ends = [0, 1, 255, 256, 257, 511, 512, 65_279, 65_280, 65_535];
+    for one in ends {
+        for other in ends {
+            let bindings = usize::from(one == other);
+            let value = Value::Quote(other);
+            assert_eq!(count(&format!("<{one}>"), &value), Ok(bindings));
+            let text = format!("mk_(<{one}>, a)");
+            assert_eq!(count(&text, &pair(value, numbers(1))), Ok(bindings));
+        }
+        assert_eq!(
+            count(&format!("<{one}>"), &Value::Integer(one.into())),
+            Ok(0)
+        );
+        assert_eq!(count(&one.to_string(), &Value::Quote(one)), Ok(0));
+    }
+    let others = one_of_each().into_iter();
+    let all = set_of(others.chain(ends.map(Value::Quote)));
+    let found = over("a", &all).expect("bindings");
+    let bound: Vec<&Value> = found.iter().map(|binding| &binding[&0]).collect();
+    assert!(bound.ends_with(&ends.map(Value::Quote).iter().collect::<Vec<_>>()));
+    assert_eq!(over("<256>", &all), Ok(vec![[].into()]));
+    assert_eq!(over("<2>", &all), Ok(vec![]));
+}
+
+/// Quotes as members, keys, values and items of what a pattern meets.
+#[test]
+fn quotes_within() {
+    assert_eq!(shown("{<2>, a}", "{1,<2>}"), ["1"]);
+    assert_eq!(shown("{a, b}", "{<2>,<1>}"), ["<1> <2>", "<2> <1>"]);
+    assert_eq!(
+        shown("{<0> |-> a, <1> |-> b}", "{<1>|->4,<0>|->3}"),
+        ["3 4"]
+    );
+    assert_eq!(shown("{a |-> <1>, - |-> <2>}", "{7|-><2>,8|-><1>}"), ["8"]);
+    assert_eq!(shown("{<1>} union a", "{<0>,<1>,{}}"), ["{{},<0>}"]);
+    assert_eq!(
+        shown("{a |-> <1>} munion b", "{1|-><1>,2|-><0>}"),
+        ["1 {2|-><0>}"]
+    );
+    assert_eq!(shown("[<1>] ^ a", "[<1>,<2>]"), ["[<2>]"]);
+    assert_eq!(shown("mk_(a, a)", "mk_(<3>,<3>)"), ["<3>"]);
+    assert_eq!(count("mk_(a, a)", &value("mk_(<3>,3)")), Ok(0));
+    assert_eq!(count("{<0> |-> a}", &value("{0|->1}")), Ok(0));
+}
+
+/// A quote has 6 bytes: 84 of them in a set are 508.
+#[test]
+fn sets_of_84_quotes() {
+    let all = set_of((0..84).map(|n| Value::Quote(771 * n)));
+    assert_eq!(all.size(), 508);
+    assert_eq!(count_over("a", &all), Ok(84));
+    assert_eq!(count_over("<771>", &all), Ok(1));
+    assert_eq!(count("a", &all), Ok(1));
+    assert_eq!(count("a union b", &all), Err(29));
+}
+
 #[test]
 fn every_pattern_and_every_kind_of_value() {
     let patterns = [
@@ -498,6 +558,7 @@ fn every_pattern_and_every_kind_of_value() {
         "-",
         "true",
         "1",
+        "<1>",
         "mk_(a,b)",
         "mk_(a,b,c)",
         "{}",

@@ -134,7 +134,7 @@ fn values_made_from_the_pattern() {
     assert!(tally.wide > 50, "{tally:?}");
     assert!(tally.many > 0, "{tally:?}");
     assert!(tally.bindings > 5000, "{tally:?}");
-    tally.expect_kinds(BINDERS.into_iter().chain(32..=42), 80);
+    tally.expect_kinds(BINDERS.into_iter().chain(32..=43), 80);
 }
 
 #[test]
@@ -147,7 +147,7 @@ fn damaged_values() {
     assert!(tally.unmatched > 900, "{tally:?}");
     assert!(tally.wide > 40, "{tally:?}");
     assert!(tally.bindings > 4000, "{tally:?}");
-    tally.expect_kinds(BINDERS.into_iter().chain(32..=42), 60);
+    tally.expect_kinds(BINDERS.into_iter().chain(32..=43), 60);
 }
 
 #[test]

@@ -30,7 +30,7 @@ fn compared(table: &[u8]) -> String {
 #[test]
 fn every_sample_gives_its_print() {
     let samples = samples();
-    assert!(samples.len() >= 35);
+    assert!(samples.len() >= 62);
     for (name, table, expected) in samples {
         assert_eq!(print(&program(), &table), expected, "{name}");
     }
@@ -67,7 +67,7 @@ fn sheets_at_the_limits() {
 fn any_bytes() {
     let mut random = Random::new(5);
     for length in (0..2_500).step_by(7) {
-        for bound in [256, 41, 9] {
+        for bound in [256, 45, 9] {
             compared(&bytes(&mut random, length, bound));
         }
     }
