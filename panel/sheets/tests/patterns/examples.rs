@@ -449,20 +449,23 @@ fn names_that_stand_twice_get_equal_values() {
 
 #[test]
 fn every_simple_pattern_and_every_kind_of_value() {
-    let literals = ["false", "true", "-1", "0", "1"];
-    for (at, value) in one_of_each().iter().enumerate() {
-        for (number, text) in literals.iter().enumerate() {
-            assert_eq!(count(text, value), Ok(usize::from(at == number)), "{text}");
+    let literals = ["false", "true", "-1", "0", "1", "<0>", "<1>", "<257>"];
+    for value in &one_of_each() {
+        for text in literals {
+            let is_met = *value == pattern::value(text);
+            assert_eq!(count(text, value), Ok(usize::from(is_met)), "{text}");
         }
         assert_eq!(count("-", value), Ok(1));
         let found = matched("p", value).expect("a binding");
         assert_eq!(found, [[(15, value.clone())].into()]);
     }
     let all = set_of(one_of_each());
-    assert_eq!(count_over("a", &all), Ok(13));
+    assert_eq!(count_over("a", &all), Ok(16));
     assert_eq!(count_over("1", &all), Ok(1));
     assert_eq!(count_over("2", &all), Ok(0));
     assert_eq!(count_over("true", &all), Ok(1));
+    assert_eq!(count_over("<257>", &all), Ok(1));
+    assert_eq!(count_over("<2>", &all), Ok(0));
 }
 
 #[test]

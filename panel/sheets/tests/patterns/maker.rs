@@ -88,11 +88,11 @@ impl Maker {
     }
 
     fn simple(&mut self) -> Pattern {
-        match self.random.below(13) {
-            0 | 1 => Pattern::Any,
-            2 => Pattern::Boolean(self.random.once_in(2)),
-            3 => Pattern::Integer(self.random.between(-1, 3)),
-            4 => Pattern::Quote(self.random.pick(&QUOTES)),
+        match self.random.below(24) {
+            0..=3 => Pattern::Any,
+            4 | 5 => Pattern::Boolean(self.random.once_in(2)),
+            6 => Pattern::Integer(self.random.between(-1, 3)),
+            7 => Pattern::Quote(self.random.pick(&QUOTES)),
             _ => Pattern::Name(self.random.below(self.names) as u8),
         }
     }
@@ -235,9 +235,9 @@ impl Maker {
     }
 
     fn small(&mut self, most: i32) -> Value {
-        match self.random.below(10) {
-            0 => self.any_value(1),
-            1 => Value::Quote(self.random.pick(&QUOTES)),
+        match self.random.below(16) {
+            0 | 1 => self.any_value(1),
+            2 => Value::Quote(255 * self.random.below(most as usize) as u16),
             _ => Value::Integer(self.random.between(-1, most)),
         }
     }

@@ -104,7 +104,7 @@ fn compare_random(seed: u64, cases: usize, once_damaged_in: usize) -> Tally {
 fn compare_trees(of: Collection, seed: u64, names: &[usize], once_two_in: usize) -> Tally {
     let mut maker = Maker::new(seed);
     let mut tally = Tally::default();
-    for _ in 0..4000 {
+    for _ in 0..4600 {
         maker.names = maker.random.pick(names);
         let parts = 2 + maker.random.below(4);
         let mut pattern = maker.tree(of, parts);
@@ -125,7 +125,7 @@ fn compare_trees(of: Collection, seed: u64, names: &[usize], once_two_in: usize)
 
 #[test]
 fn values_made_from_the_pattern() {
-    let tally = compare_random(501, 3500, 1_000_000);
+    let tally = compare_random(501, 4000, 1_000_000);
     assert!(tally.matched > 1500, "{tally:?}");
     assert!(tally.several > 500, "{tally:?}");
     assert!(tally.repeated > 250, "{tally:?}");
@@ -139,7 +139,7 @@ fn values_made_from_the_pattern() {
 
 #[test]
 fn damaged_values() {
-    let tally = compare_random(502, 3500, 2);
+    let tally = compare_random(502, 4000, 2);
     assert!(tally.matched > 1200, "{tally:?}");
     assert!(tally.several > 400, "{tally:?}");
     assert!(tally.repeated > 150, "{tally:?}");
