@@ -4,7 +4,40 @@ use crate::builder::{binary, kind, unary, Builder};
 
 /// A table for each limit and for one past it, with a label that says which.
 pub fn at_limits() -> Vec<(&'static str, Vec<u8>)> {
-    let mut sheets = vec![
+    let mut sheets = values();
+    sheets.extend([
+        ("84 bindings of quotes", build(choice_of_quotes)),
+        ("64 choices", build(|b| choices(b, 64))),
+        ("65 choices", build(|b| choices(b, 65))),
+        ("height 32", build(|b| height(b, 32))),
+        ("height 33", build(|b| height(b, 33))),
+        ("200 records", build(|b| records(b, 200))),
+        ("201 records", build(|b| records(b, 201))),
+        ("2400 bytes", wide_records(2400)),
+        ("2401 bytes", wide_records(2401)),
+    ]);
+    for (kind, labels) in SPLITS {
+        let tables = [0, 1, 2, 7, 8].map(|count| build(|b| splits(b, kind, count)));
+        sheets.extend(labels.into_iter().zip(tables));
+    }
+    for (kind, labels) in PRODUCTS {
+        let tables = [
+            build(|b| two_splits(b, kind, 7, 2)),
+            build(|b| two_splits(b, kind, 5, 4)),
+            build(|b| split_and_cut(b, kind, 5, 50)),
+            build(|b| split_and_cut(b, kind, 4, 63)),
+        ];
+        sheets.extend(labels.into_iter().zip(tables));
+    }
+    sheets.extend(
+        BINDERS.map(|(label, kind, lengths)| (label, build(|b| bindings(b, kind, lengths)))),
+    );
+    sheets
+}
+
+/// Values of 512 bytes and over, and the ends of the quotes.
+fn values() -> Vec<(&'static str, Vec<u8>)> {
+    vec![
         ("set range of 63", build(|b| b.range(1, 63))),
         ("set range of 64", build(|b| b.range(1, 64))),
         (
@@ -23,33 +56,7 @@ pub fn at_limits() -> Vec<(&'static str, Vec<u8>)> {
         ("quote 65535", build(|b| b.quote(u16::MAX))),
         ("set of 84 quotes", build(|b| quotes(b, 84))),
         ("set of 85 quotes", build(|b| quotes(b, 85))),
-        ("84 bindings of quotes", build(choice_of_quotes)),
-        ("64 choices", build(|b| choices(b, 64))),
-        ("65 choices", build(|b| choices(b, 65))),
-        ("height 32", build(|b| height(b, 32))),
-        ("height 33", build(|b| height(b, 33))),
-        ("200 records", build(|b| records(b, 200))),
-        ("201 records", build(|b| records(b, 201))),
-        ("2400 bytes", wide_records(2400)),
-        ("2401 bytes", wide_records(2401)),
-    ];
-    for (kind, labels) in SPLITS {
-        let tables = [0, 1, 2, 7, 8].map(|count| build(|b| splits(b, kind, count)));
-        sheets.extend(labels.into_iter().zip(tables));
-    }
-    for (kind, labels) in PRODUCTS {
-        let tables = [
-            build(|b| two_splits(b, kind, 7, 2)),
-            build(|b| two_splits(b, kind, 5, 4)),
-            build(|b| split_and_cut(b, kind, 5, 50)),
-            build(|b| split_and_cut(b, kind, 4, 63)),
-        ];
-        sheets.extend(labels.into_iter().zip(tables));
-    }
-    sheets.extend(
-        BINDERS.map(|(label, kind, lengths)| (label, build(|b| bindings(b, kind, lengths)))),
-    );
-    sheets
+    ]
 }
 
 /// Members and entries that a pattern splits.

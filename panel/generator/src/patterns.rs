@@ -24,18 +24,6 @@ impl Writer {
     ) -> Pattern {
         let inside = depth > 0 && self.random.once_in(2);
         let record = match shape {
-            Shape::Boolean if self.random.once_in(5) => {
-                let value = self.random.below(2) as u8;
-                self.out.record(kind::P_BOOLEAN, &[value], &[])
-            }
-            Shape::Integer if self.random.once_in(6) => {
-                let value = self.random.between(0, 4);
-                self.out.record(kind::P_INTEGER, &value.to_le_bytes(), &[])
-            }
-            Shape::Quote if self.random.once_in(6) => {
-                let number = self.random.pick(&QUOTES);
-                self.out.record(kind::P_QUOTE, &number.to_le_bytes(), &[])
-            }
             Shape::Tuple(parts) if inside => {
                 return self.pattern_list(kind::P_TUPLE, parts, 1, loose, depth, names);
             }
@@ -64,12 +52,34 @@ impl Writer {
                 let count = self.random.below(most.min(&4) + 1);
                 return self.paired_pattern(shape, count, depth, names);
             }
-            _ => self.name_or_any(shape, names),
+            _ => match self.literal_pattern(shape) {
+                Some(record) => record,
+                None => self.name_or_any(shape, names),
+            },
         };
         Pattern {
             record,
             bindings: 1,
         }
+    }
+
+    /// Now and then a literal of the shape.
+    fn literal_pattern(&mut self, shape: &Shape) -> Option<usize> {
+        let (kind, constants) = match shape {
+            Shape::Boolean if self.random.once_in(5) => {
+                (kind::P_BOOLEAN, vec![self.random.below(2) as u8])
+            }
+            Shape::Integer if self.random.once_in(6) => (
+                kind::P_INTEGER,
+                self.random.between(0, 4).to_le_bytes().to_vec(),
+            ),
+            Shape::Quote if self.random.once_in(6) => (
+                kind::P_QUOTE,
+                self.random.pick(&QUOTES).to_le_bytes().to_vec(),
+            ),
+            _ => return None,
+        };
+        Some(self.out.record(kind, &constants, &[]))
     }
 
     /// An enumeration for sets or maps of the shape, of so many members or entries.

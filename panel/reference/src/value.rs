@@ -192,7 +192,6 @@ mod tests {
             Tuple(integers(&[1, 2])),
             Tuple(vec![Quote(1), Integer(0)]),
             Quote(0),
-            Quote(1),
             Quote(255),
             Quote(256),
             Quote(512),

@@ -154,12 +154,6 @@ fn rule_6_operands() {
             refused(&table, 6, fields.len());
         }
     }
-    // A quote is an expression and a pattern of it is none; neither has operands, whatever its bytes are.
-    refused(&last(&[P_QUOTE], 4, &[1, 0]), 6, 1);
-    refused(&last(&[QUOTE, ONE, ONE], 12, &[0, 1, 2]), 6, 3);
-    assert_eq!(check(&table_of(&[QUOTE])), Ok(1));
-    let table = last(&[P_QUOTE, QUOTE, QUOTE], 12, &[0, 1, 2]);
-    assert_eq!(check(&table), Ok(4));
     // Named before, by a lower record or by an earlier field.
     refused(&last(&[ONE], 5, &[7, 0, 0]), 6, 1);
     refused(&table_of(&[ONE, (4, &[2, 0]), (5, &[7, 0, 1])]), 6, 2);
@@ -168,13 +162,24 @@ fn rule_6_operands() {
     refused(&table_of(&[ONE, ANY, (4, &[2, 0])]), 6, 1);
     // A pattern as the last.
     refused(&table_of(&[ANY]), 6, 0);
-    refused(&table_of(&[P_QUOTE]), 6, 0);
     for kind in [38, 41, 42] {
         refused(&table_of(&[ANY, ANY, (kind, &[0, 1])]), 6, 2);
     }
     refused(&table_of(&[(41, &[])]), 6, 0);
     // The lowest fault of any of these.
     refused(&table_of(&[ONE, ONE, (5, &[7, 1, 1])]), 6, 0);
+}
+
+/// A quote is an expression, and a pattern of one is none; neither has operands, whatever its bytes are.
+#[test]
+fn rule_6_quotes() {
+    assert_eq!(check(&table_of(&[QUOTE])), Ok(1));
+    let table = last(&[P_QUOTE, QUOTE, QUOTE], 12, &[0, 1, 2]);
+    assert_eq!(check(&table), Ok(4));
+    refused(&last(&[P_QUOTE], 4, &[1, 0]), 6, 1);
+    refused(&last(&[QUOTE, ONE, ONE], 12, &[0, 1, 2]), 6, 3);
+    refused(&last(&[QUOTE, ANY], 40, &[0, 1]), 6, 2);
+    refused(&table_of(&[P_QUOTE]), 6, 0);
 }
 
 #[test]

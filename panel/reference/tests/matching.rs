@@ -102,8 +102,15 @@ impl Random {
                 }
             }
             Record::LiteralPattern(literal) if self.below(4) > 0 => literal.clone(),
-            _ if self.below(3) == 0 => self.any_set(),
-            _ if self.below(8) == 0 => self.any_map(),
+            _ => self.any(),
+        }
+    }
+
+    /// A set, a map or a small value.
+    fn any(&mut self) -> Value {
+        match self.below(12) {
+            0..=3 => self.any_set(),
+            4 => self.any_map(),
             _ => self.small(),
         }
     }
