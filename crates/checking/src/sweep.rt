@@ -209,12 +209,12 @@ fn one_role(kind: usize) -> Role
     Role::Plain
 }
 
-// Where the operands of a kind begin, from the operators on: for an expression, one test tells it.
+// Where the operands of a kind begin, from the operators on: as far as expressions have any, one test tells it.
 fn first_byte(kind: usize) -> usize
     requires { ⌜ (3 < kind) × (kind ≤ lastKind) ⌝ }
     ensures { λ n. ⌜ n ≡ firstOf kind ⌝ }
 {
-    if is_pattern(kind) {
+    if kinds::APPLY < kind {
         return first_operand(kind);
     }
     if kind < kinds::IF {

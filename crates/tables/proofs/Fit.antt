@@ -12,7 +12,7 @@ use mathlib.Mathlib.Data.Bool.Basic.{and-elim-left}
 use Rattle.integers.specs.Bytes.{word, bits32, integerAt}
 use Rattle.integers.specs.Whole.{inRange}
 use Rattle.integers.proofs.Written.{bits-range}
-use Rattle.tables.specs.Record.{Record, Head, nothing, boolean, integer, name, unary, binary, unknown, Shape, lastKind, shape, isExpression, isPattern, size, headOf, field, integerOf, fits, isKnown, isFit}
+use Rattle.tables.specs.Record.{Record, Head, nothing, boolean, integer, quote, name, unary, binary, unknown, Shape, lastKind, shape, isExpression, isPattern, size, headOf, field, integerOf, fits, isKnown, isFit}
 use Rattle.tables.specs.Table.{firstRecord}
 use Rattle.tables.specs.Shapes.{isTested, knownFirst}
 use Rattle.prelude.proofs.Absurd.{never}
@@ -36,6 +36,7 @@ known-first : (h : Head) (r : Record) → (h ≡ integer → inRange (integerOf 
 known-first nothing r e = refl
 known-first boolean r e = refl
 known-first integer r e = e refl
+known-first quote r e = refl
 known-first name r e = refl
 known-first unary r e = refl
 known-first binary r e = refl

@@ -7,7 +7,7 @@ use borrow.Author.Tests.{lt-ltb, le-ltb, lt-leb, le-leb, ne-eqb, not-true}
 use lib.Dec.{eqb, ltb, leb}
 use Rattle.prelude.proofs.Absurd.{never}
 use Rattle.prelude.proofs.Truth.{implied, by-lower}
-use Rattle.tables.specs.Record.{Head, nothing, boolean, integer, name, unary, binary, unknown, lastKind, shape, isExpression, isPattern, fits}
+use Rattle.tables.specs.Record.{Head, nothing, boolean, integer, quote, name, unary, binary, unknown, lastKind, shape, isExpression, isPattern, fits}
 use Rattle.tables.specs.Sheet.{any}
 use Rattle.tables.specs.Shapes.{isTested, knownFirst}
 use Rattle.tables.specs.Laws.Kinds.{each-kind, same-kind}
@@ -21,6 +21,7 @@ abbrev isFree : Bool → Head → Bool
 isFree known nothing = known
 isFree known boolean = false
 isFree known integer = known
+isFree known quote = known
 isFree known name = false
 isFree known unary = false
 isFree known binary = false
@@ -30,6 +31,7 @@ free-known : (b : Bool) (h : Head) (n : ℕ) → isFree b h ≡ true → b ≡ k
 free-known b nothing n e = e
 free-known b boolean n e = never e
 free-known b integer n e = e
+free-known b quote n e = e
 free-known b name n e = never e
 free-known b unary n e = never e
 free-known b binary n e = never e

@@ -44,10 +44,10 @@ module _ (k : ℕ) (known : k ≤ lastKind) (len : ℕ) (head : 4 ≤ len) where
 
 -- ---- first operands
 
-pub first-is : (k : ℕ) → k ≤ lastKind → 4 + 21474836538 / 2 ^ k % 2 + 4 * (34359738372 / 2 ^ k % 2) ≡ firstOf k
+pub first-is : (k : ℕ) → k ≤ lastKind → 4 + 21474836538 / 2 ^ k % 2 + 4 * (34359738372 / 2 ^ k % 2) + 2 * (8796097216512 / 2 ^ k % 2) ≡ firstOf k
 unfolding shape
 first-is k h =
-    eqb-true _ _ (each-kind (λ k. eqb (4 + 21474836538 / 2 ^ k % 2 + 4 * (34359738372 / 2 ^ k % 2)) (firstOf k)) refl k h)
+    eqb-true _ _ (each-kind (λ k. eqb (4 + 21474836538 / 2 ^ k % 2 + 4 * (34359738372 / 2 ^ k % 2) + 2 * (8796097216512 / 2 ^ k % 2)) (firstOf k)) refl k h)
 
 pub first-most : (k : ℕ) → k ≤ lastKind → firstOf k ≤ 8
 unfolding shape

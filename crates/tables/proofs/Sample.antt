@@ -66,7 +66,7 @@ unfolding check judgedCut judged fault6 fault7 fault8 fault9 chooses isBound inC
 cut-off = refl
 
 -- 4: record 1 has an unknown kind.
-unknown-kind : check (rows (whole 1 ∷ row 22 [] ∷ whole 2 ∷ [])) ≡ Refused 4 1
+unknown-kind : check (rows (whole 1 ∷ row 23 [] ∷ whole 2 ∷ [])) ≡ Refused 4 1
 unfolding check judgedCut judged fault6 fault7 fault8 fault9 chooses isBound inCondition climbBy height loose holdsName foldBy cut cutBy next isFit operands shape
 unknown-kind = refl
 

@@ -5,7 +5,7 @@ use Prim.Native.Nat.{ℕ, _+_, _-_, _%_}
 use lib.IntN.{ℤ}
 use lib.Dec.{eqb, leb}
 use lib.ListN.{length, getD, drop, replicate}
-use Rattle.integers.specs.Bytes.{integerAt}
+use Rattle.integers.specs.Bytes.{word, integerAt}
 use Rattle.integers.specs.Whole.{inRange}
 use Rattle.tables.specs.declared.Role.{Role}
 use Rattle.tables.specs.declared.Role.the-variants.{Plain, Condition, Body, Pattern, Name}
@@ -25,7 +25,7 @@ pub data Sort : Type 0 where
 
 -- What stands before the operands.
 pub data Head : Type 0 where
-  nothing boolean integer name unary binary : Head
+  nothing boolean integer quote name unary binary : Head
   -- there is no such kind
   unknown : Head
 
@@ -54,7 +54,7 @@ choosing s = record { sort = s .sort; head = s .head; roles = s .roles; least = 
 abbrev pub missing : Shape
 missing = just neither unknown []
 
--- One row for each kind from 0 to 42. All that is told of a kind by itself derives from its row.
+-- One row for each kind from 0 to 43. All that is told of a kind by itself derives from its row.
 abbrev pub shapes : List Shape
 shapes =
     -- 0
@@ -89,8 +89,10 @@ shapes =
     just expression nothing (Pattern ∷ Plain ∷ Condition ∷ Body ∷ Body ∷ []) ∷
     -- 21 apply: sequence or map, argument
     just expression nothing (Plain ∷ Plain ∷ []) ∷
-    -- 22 to 31
-    missing ∷ missing ∷ missing ∷ missing ∷ missing ∷ missing ∷ missing ∷ missing ∷ missing ∷ missing ∷
+    -- 22 quote literal
+    just expression quote [] ∷
+    -- 23 to 31
+    missing ∷ missing ∷ missing ∷ missing ∷ missing ∷ missing ∷ missing ∷ missing ∷ missing ∷
     -- 32 name, 33 any, 34 boolean, 35 integer
     just pattern name [] ∷
     just pattern nothing [] ∷
@@ -107,10 +109,12 @@ shapes =
     -- 41 map enumeration, 42 munion
     choosing (several pattern nothing 0 8 2 Pattern) ∷
     choosing (just pattern nothing (Pattern ∷ Pattern ∷ [])) ∷
+    -- 43 quote
+    just pattern quote [] ∷
     []
 
 abbrev pub lastKind : ℕ
-lastKind = 42
+lastKind = 43
 
 unfoldable pub shape : ℕ → Shape
 shape kind = getD shapes kind missing
@@ -127,7 +131,7 @@ ofPatterns expression = false
 ofPatterns pattern = true
 ofPatterns neither = false
 
--- Kinds 1 to 21, and 32 to 42.
+-- Kinds 1 to 22, and 32 to 43.
 abbrev pub isExpression : ℕ → Bool
 isExpression kind = ofExpressions (shape kind .sort)
 
@@ -139,7 +143,7 @@ abbrev pub hasRoles : List Role → Bool
 hasRoles [] = false
 hasRoles (role ∷ roles) = true
 
--- Records of the kind have no operands (1 to 3, and 32 to 35).
+-- Records of the kind have no operands (1 to 3, 22, 32 to 35, and 43).
 abbrev pub isLeaf : ℕ → Bool
 isLeaf kind = not (hasRoles (shape kind .roles))
 
@@ -167,11 +171,16 @@ booleanOf r = eqb (field r 0) 1
 abbrev pub integerOf : Record → ℤ
 integerOf r = integerAt (r .fields) 0
 
+-- The quote's number of one of kind 22 or 43 (16-bit little-endian).
+abbrev pub quoteOf : Record → ℕ
+quoteOf r = word (r .fields) 0
+
 -- The number of bytes that a head takes.
 abbrev pub size : Head → ℕ
 size nothing = 0
 size boolean = 1
 size integer = 4
+size quote = 2
 size name = 1
 size unary = 1
 size binary = 1
@@ -217,11 +226,12 @@ abbrev pub fits : Shape → ℕ → Bool
 fits s n =
     leb (size (s .head) + s .least) n && leb n (size (s .head) + length (s .roles)) && eqb ((n - (size (s .head) + s .least)) % s .step) 0
 
--- The literal, name or operator is known: booleans are 0 and 1, names 0 to 15, unary operators 1 to 15, binary ones 1 to 28.
+-- The literal, name or operator is known: booleans are 0 and 1, names 0 to 15, unary operators 1 to 15, binary ones 1 to 28; every quote is.
 abbrev pub isKnown : Head → Record → Bool
 isKnown nothing r = true
 isKnown boolean r = leb (field r 0) 1
 isKnown integer r = inRange (integerOf r)
+isKnown quote r = true
 isKnown name r = leb (nameOf r) 15
 isKnown unary r = leb 1 (operator r) && leb (operator r) 15
 isKnown binary r = leb 1 (operator r) && leb (operator r) 28

@@ -12,7 +12,7 @@ use Rattle.tables.specs.declared.Role.{Role}
 use Rattle.tables.specs.declared.Role.the-variants.{Plain, Condition, Body, Pattern, Name}
 use Rattle.tables.specs.declared.Checked.the-variants.{Accepted, Refused}
 use Rattle.tables.specs.Limits.{mostBytes, mostRecords, mostHeight}
-use Rattle.tables.specs.Record.{Record, expression, pattern, Head, nothing, boolean, integer, name, unary, binary, unknown, Shape, shape, size, headOf, field, nameOf, operator, integerOf, named, operand, roleAt}
+use Rattle.tables.specs.Record.{Record, expression, pattern, Head, nothing, boolean, integer, quote, name, unary, binary, unknown, Shape, shape, size, headOf, field, nameOf, operator, integerOf, named, operand, roleAt}
 use Rattle.tables.specs.Table.{firstRecord, recordAt, kindAt}
 use Rattle.tables.specs.Check.{check}
 
@@ -32,11 +32,12 @@ pub record FitLength (s : Shape) (n : ℕ) : Type 0 where
   pub most : n ≤ size (s .head) + length (s .roles)
 
 -- A literal, name or operator is known: booleans are 0 and 1, names 0 to 15, unary operators 1 to 15, binary ones 1 to 28. (Every four bytes are an integer in
--- range; a kind without a row has the head `unknown`.)
+-- range, every two a quote; a kind without a row has the head `unknown`.)
 abbrev pub Known : Head → Record → Type 0
 Known nothing x = Unit {0}
 Known boolean x = field x 0 ≤ 1
 Known integer x = InRange (integerOf x)
+Known quote x = Unit {0}
 Known name x = nameOf x ≤ 15
 Known unary x = (1 ≤ operator x) × (operator x ≤ 15)
 Known binary x = (1 ≤ operator x) × (operator x ≤ 28)

@@ -5,13 +5,13 @@ use Prim.Native.Nat.{ℕ, zero, suc, _+_}
 use lib.Dec.{eqb, leb}
 use Rattle.tables.specs.declared.Role.{Role}
 use Rattle.tables.specs.declared.Role.the-variants.{Plain, Condition, Body, Pattern, Name}
-use Rattle.tables.specs.Record.{Head, nothing, boolean, integer, name, unary, binary, unknown, shape, size}
+use Rattle.tables.specs.Record.{Head, nothing, boolean, integer, quote, name, unary, binary, unknown, shape, size}
 
 -- The lengths of each kind, as bits: bit n where its records have n bytes after their heading. (`proofs/Lengths`: it is where its row in `shape` says so.)
 abbrev pub lengthRows : List ℕ
 lengthRows =
-    1 ∷ 2 ∷ 16 ∷ 2 ∷ 4 ∷ 8 ∷ 8 ∷ 511 ∷ 511 ∷ 341 ∷ 28 ∷ 4 ∷ 8 ∷ 16 ∷ 8 ∷ 8 ∷ 8 ∷ 8 ∷ 16 ∷ 16 ∷ 32 ∷ 4 ∷
-    1 ∷ 1 ∷ 1 ∷ 1 ∷ 1 ∷ 1 ∷ 1 ∷ 1 ∷ 1 ∷ 1 ∷ 2 ∷ 1 ∷ 2 ∷ 16 ∷ 28 ∷ 31 ∷ 4 ∷ 31 ∷ 4 ∷ 341 ∷ 4 ∷ []
+    1 ∷ 2 ∷ 16 ∷ 2 ∷ 4 ∷ 8 ∷ 8 ∷ 511 ∷ 511 ∷ 341 ∷ 28 ∷ 4 ∷ 8 ∷ 16 ∷ 8 ∷ 8 ∷ 8 ∷ 8 ∷ 16 ∷ 16 ∷ 32 ∷ 4 ∷ 4 ∷
+    1 ∷ 1 ∷ 1 ∷ 1 ∷ 1 ∷ 1 ∷ 1 ∷ 1 ∷ 1 ∷ 2 ∷ 1 ∷ 2 ∷ 16 ∷ 28 ∷ 31 ∷ 4 ∷ 31 ∷ 4 ∷ 341 ∷ 4 ∷ 4 ∷ []
 
 -- The place of the first operand in a record of the kind.
 abbrev pub firstOf : ℕ → ℕ
@@ -37,11 +37,12 @@ binderRole kind (suc (suc (suc i))) = Body
 abbrev pub isTested : ℕ → Bool
 isTested k = eqb k 1 || eqb k 34 || eqb k 3 || eqb k 32 || eqb k 4 || eqb k 5
 
--- A head with the first field n is known. (Every four bytes are an integer in range.)
+-- A head with the first field n is known. (Every four bytes are an integer in range, every two a quote.)
 abbrev pub knownFirst : Head → ℕ → Bool
 knownFirst nothing n = true
 knownFirst boolean n = leb n 1
 knownFirst integer n = true
+knownFirst quote n = true
 knownFirst name n = leb n 15
 knownFirst unary n = leb 1 n && leb n 15
 knownFirst binary n = leb 1 n && leb n 28

@@ -1,4 +1,4 @@
-// The kinds of records by name: expressions 1 to 21, patterns 32 to 42.
+// The kinds of records by name: expressions 1 to 22, patterns 32 to 43.
 pub const BOOLEAN: usize = 1;
 
 pub const INTEGER: usize = 2;
@@ -41,6 +41,8 @@ pub const MAP_COMPREHENSION: usize = 20;
 
 pub const APPLY: usize = 21;
 
+pub const QUOTE: usize = 22;
+
 pub const NAME_PATTERN: usize = 32;
 
 pub const ANY_PATTERN: usize = 33;
@@ -63,9 +65,11 @@ pub const MAP_PATTERN: usize = 41;
 
 pub const MUNION_PATTERN: usize = 42;
 
+pub const QUOTE_PATTERN: usize = 43;
+
 // Where expressions end, patterns begin, and all kinds end.
-pub const LAST_EXPRESSION: usize = APPLY;
+pub const LAST_EXPRESSION: usize = QUOTE;
 
 pub const FIRST_PATTERN: usize = NAME_PATTERN;
 
-pub const LAST: usize = MUNION_PATTERN;
+pub const LAST: usize = QUOTE_PATTERN;

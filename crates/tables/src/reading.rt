@@ -2,7 +2,7 @@
 ghost use mathlib.Core.Path.{_≡_};
 ghost use Prim.Native.Nat.{_+_, _<_, _≤_};
 ghost use lib.ListN.{length, getD};
-ghost use Rattle.tables.specs.Record.{lastKind, named, operand as operandIn, roleAt, field as fieldIn, integerOf};
+ghost use Rattle.tables.specs.Record.{lastKind, named, operand as operandIn, roleAt, field as fieldIn, integerOf, quoteOf};
 ghost use Rattle.tables.specs.Table.{recordAt, kindAt};
 ghost use Rattle.tables.specs.Check.{mostBytes, mostRecords};
 ghost use Rattle.tables.specs.Shapes.{lengthRows, firstOf};
@@ -232,4 +232,13 @@ pub fn integer(table: &[u8], index: &Index, r: usize) -> i32
 {
     let at = place(index, r);
     read32(&table[at..], HEADING)
+}
+
+// The number of the quote of record r, of kind 22 or 43.
+pub fn quote(table: &[u8], index: &Index, r: usize) -> usize
+    requires { ⌜ HasField (now table) (now index) r 1 ⌝ }
+    ensures { λ n. ⌜ (n ≡ quoteOf (recordAt (records (now (table .entry))) r)) × (n < 65536) ⌝ }
+{
+    let at = place(index, r);
+    read16(&table[at..], HEADING)
 }

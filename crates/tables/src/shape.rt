@@ -42,7 +42,7 @@ const UP_TO_EIGHT: u16 = 0x1ff;
 
 const PAIRS: u16 = 0x155;
 
-// The kinds from 0 on. No record has kind 0 or 22 to 31. Whoever tests many records lends this table.
+// The kinds from 0 on. No record has kind 0 or 23 to 31. Whoever tests many records lends this table.
 pub const LENGTHS: Lengths = [
     NO_FIELD,
     // 1 boolean, 2 integer, 3 name
@@ -71,8 +71,9 @@ pub const LENGTHS: Lengths = [
     FOUR,
     FIVE,
     TWO,
-    // 22 to 31
-    NO_FIELD,
+    // 22 quote
+    TWO,
+    // 23 to 31
     NO_FIELD,
     NO_FIELD,
     NO_FIELD,
@@ -93,15 +94,18 @@ pub const LENGTHS: Lengths = [
     TWO,
     UP_TO_FOUR,
     TWO,
-    // 41 map enumeration, 42 munion
+    // 41 map enumeration, 42 munion, 43 quote
     PAIRS,
+    TWO,
     TWO,
 ];
 
-// Bit k is set for each kind k whose records have one byte before their operands (1, 3, 4, 5, 32, 34), or an integer (2, 35).
+// Bit k is set for each kind k whose records have one byte before their operands (1, 3, 4, 5, 32, 34), an integer (2, 35), or a quote (22, 43).
 const BYTE_FIRST: u64 = 0x5_0000_003a;
 
 const INTEGER_FIRST: u64 = 0x8_0000_0004;
+
+const QUOTE_FIRST: u64 = 0x800_0040_0000;
 
 // Bit k is set for each kind k whose records may have operands: 4 to 21, 36 to 42.
 const INNER: u64 = 0x7f0_003f_fff0;
@@ -112,8 +116,8 @@ const COMPOSED: u64 = 0x7f0_0000_0000;
 // Bit k is set for each kind k of patterns that make a let loose: 37, 38, 40 to 42.
 const LOOSE: u64 = 0x760_0000_0000;
 
-// Bit k is set for each kind k that there is: 1 to 21, 32 to 42.
-const KNOWN: u64 = 0x7ff_003f_fffe;
+// Bit k is set for each kind k that there is: 1 to 22, 32 to 43.
+const KNOWN: u64 = 0xfff_007f_fffe;
 
 // A byte as a number.
 pub fn wide(b: u8) -> usize
@@ -198,7 +202,8 @@ pub fn first_operand(kind: usize) -> usize
 {
     let byte = (BYTE_FIRST >> kind) % 2;
     let integer = (INTEGER_FIRST >> kind) % 2;
-    HEADING + byte as usize + 4 * (integer as usize)
+    let quote = (QUOTE_FIRST >> kind) % 2;
+    HEADING + byte as usize + 4 * (integer as usize) + 2 * (quote as usize)
 }
 
 // ---- operands

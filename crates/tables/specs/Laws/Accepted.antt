@@ -15,7 +15,7 @@ use Rattle.tables.specs.declared.Role.{Role}
 use Rattle.tables.specs.declared.Role.the-variants.{Pattern}
 use Rattle.tables.specs.declared.Checked.{Checked}
 use Rattle.tables.specs.declared.Checked.the-variants.{Accepted, Refused}
-use Rattle.tables.specs.Record.{Record, Head, nothing, boolean, integer, name, unary, binary, unknown, Shape, lastKind, shape, field, size, headOf, isExpression, isPattern, operands, named, operand, roleAt, nameOf, fits, isKnown, isFit}
+use Rattle.tables.specs.Record.{Record, Head, nothing, boolean, integer, quote, name, unary, binary, unknown, Shape, lastKind, shape, field, size, headOf, isExpression, isPattern, operands, named, operand, roleAt, nameOf, fits, isKnown, isFit}
 use Rattle.tables.specs.Table.{cut, recordAt, kindAt}
 use Rattle.tables.specs.Sheet.{any, lowest, some, greatest, isIn, isName, holdsName, height, parent, roleIn, isCovered, isCondition, isBinder, patternOf, climb, isBound, inCondition}
 use Rattle.tables.specs.Check.{mostBytes, mostRecords, mostHeight, isOfSort, allNamed, namedBefore, isBad, fault6, fault7, chooses, fault8, fault9, judged, judgedCut, check}
@@ -150,6 +150,7 @@ abbrev isUnknown : Head → Bool
 isUnknown nothing = false
 isUnknown boolean = false
 isUnknown integer = false
+isUnknown quote = false
 isUnknown name = false
 isUnknown unary = false
 isUnknown binary = false
@@ -159,6 +160,7 @@ known-head : (h : Head) (r : Record) → isKnown h r ≡ true → isUnknown h �
 known-head nothing r e = refl
 known-head boolean r e = refl
 known-head integer r e = refl
+known-head quote r e = refl
 known-head name r e = refl
 known-head unary r e = refl
 known-head binary r e = refl

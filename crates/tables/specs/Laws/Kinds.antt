@@ -43,12 +43,12 @@ off-and : (b : Bool) {c : Bool} → c ≡ false → b && c ≡ false
 off-and true e = e
 off-and false e = refl
 
--- Kinds 1 to 21 are expressions, 32 to the last patterns.
-pub expression-kinds : (k : ℕ) → isExpression k ≡ leb 1 k && leb k 21
+-- Kinds 1 to 22 are expressions, 32 to the last patterns.
+pub expression-kinds : (k : ℕ) → isExpression k ≡ leb 1 k && leb k 22
 unfolding shape
 expression-kinds =
-    on-kinds isExpression (λ k. leb 1 k && leb k 21)
-    (λ k h. ap (λ (s : Shape). ofExpressions (s .sort)) (beyond k h) ∙ sym (off-and (leb 1 k) (lt-leb k 21 (omega arith)))) refl
+    on-kinds isExpression (λ k. leb 1 k && leb k 22)
+    (λ k h. ap (λ (s : Shape). ofExpressions (s .sort)) (beyond k h) ∙ sym (off-and (leb 1 k) (lt-leb k 22 (omega arith)))) refl
 
 pub pattern-kinds : (k : ℕ) → isPattern k ≡ leb 32 k && leb k lastKind
 unfolding shape
@@ -87,10 +87,10 @@ binder-kinds =
 
 -- Bounds of each.
 pub expression-least : (k : ℕ) → isExpression k ≡ true → 1 ≤ k
-expression-least k e = leb-true 1 k (and-elim-left _ (leb k 21) (sym (expression-kinds k) ∙ e))
+expression-least k e = leb-true 1 k (and-elim-left _ (leb k 22) (sym (expression-kinds k) ∙ e))
 
-pub expression-most : (k : ℕ) → isExpression k ≡ true → k ≤ 21
-expression-most k e = leb-true k 21 (and-elim-right (leb 1 k) _ (sym (expression-kinds k) ∙ e))
+pub expression-most : (k : ℕ) → isExpression k ≡ true → k ≤ 22
+expression-most k e = leb-true k 22 (and-elim-right (leb 1 k) _ (sym (expression-kinds k) ∙ e))
 
 pub pattern-most : (k : ℕ) → isPattern k ≡ true → k ≤ lastKind
 pattern-most k e = leb-true k lastKind (and-elim-right (leb 32 k) _ (sym (pattern-kinds k) ∙ e))
@@ -148,8 +148,8 @@ no-roles k p e = bare-roles (shape k) p e
 module _ {A : Type 0} (k : ℕ) where
   pub by-pattern : isPattern k ≡ true
       → (k ≡ 32 → A) → (k ≡ 33 → A) → (k ≡ 34 → A) → (k ≡ 35 → A)
-      → (k ≡ 36 → A) → (k ≡ 37 → A) → (k ≡ 38 → A) → (k ≡ 39 → A) → (k ≡ 40 → A) → (k ≡ 41 → A) → (k ≡ 42 → A) → A
-  by-pattern p name any boolean integer tuple set union sequence concatenation map munion =
+      → (k ≡ 36 → A) → (k ≡ 37 → A) → (k ≡ 38 → A) → (k ≡ 39 → A) → (k ≡ 40 → A) → (k ≡ 41 → A) → (k ≡ 42 → A) → (k ≡ 43 → A) → A
+  by-pattern p name any boolean integer tuple set union sequence concatenation map munion quote =
       let low = pattern-least k p in
       let high = pattern-most k p in
       go (k - 32) (omega arith)
@@ -166,31 +166,33 @@ module _ {A : Type 0} (k : ℕ) where
       go (suc (suc (suc (suc (suc (suc (suc (suc zero)))))))) e = concatenation e
       go (suc (suc (suc (suc (suc (suc (suc (suc (suc zero))))))))) e = map e
       go (suc (suc (suc (suc (suc (suc (suc (suc (suc (suc zero)))))))))) e = munion e
-      go (suc (suc (suc (suc (suc (suc (suc (suc (suc (suc (suc d))))))))))) e = absurd (omega (arith, pattern-most k p))
+      go (suc (suc (suc (suc (suc (suc (suc (suc (suc (suc (suc zero))))))))))) e = quote e
+      go (suc (suc (suc (suc (suc (suc (suc (suc (suc (suc (suc (suc d)))))))))))) e = absurd (omega (arith, pattern-most k p))
 
   -- What follows from each kind with parts follows of every pattern with parts,
   pub by-composed : isComposed k ≡ true
       → (k ≡ 36 → A) → (k ≡ 37 → A) → (k ≡ 38 → A) → (k ≡ 39 → A) → (k ≡ 40 → A) → (k ≡ 41 → A) → (k ≡ 42 → A) → A
   unfolding shape
-  by-composed c = by-pattern (composed-pattern k c) (other 32 refl) (other 33 refl) (other 34 refl) (other 35 refl)
+  by-composed c tuple set union sequence concatenation map munion =
+      by-pattern (composed-pattern k c) (other 32 refl) (other 33 refl) (other 34 refl) (other 35 refl) tuple set union sequence concatenation map munion (other 43 refl)
     where
       other : (n : ℕ) → isComposed n ≡ false → k ≡ n → A
       other n f e = never (sym f ∙ sym (ap isComposed e) ∙ c)
 
   -- and what follows from each kind without parts follows of every pattern without.
-  pub by-leaf : isPattern k ≡ true → isComposed k ≡ false → (k ≡ 32 → A) → (k ≡ 33 → A) → (k ≡ 34 → A) → (k ≡ 35 → A) → A
+  pub by-leaf : isPattern k ≡ true → isComposed k ≡ false → (k ≡ 32 → A) → (k ≡ 33 → A) → (k ≡ 34 → A) → (k ≡ 35 → A) → (k ≡ 43 → A) → A
   unfolding shape
-  by-leaf p c name any boolean integer =
-      by-pattern p name any boolean integer (other 36 refl) (other 37 refl) (other 38 refl) (other 39 refl) (other 40 refl) (other 41 refl) (other 42 refl)
+  by-leaf p c name any boolean integer quote =
+      by-pattern p name any boolean integer (other 36 refl) (other 37 refl) (other 38 refl) (other 39 refl) (other 40 refl) (other 41 refl) (other 42 refl) quote
     where
       other : (n : ℕ) → isComposed n ≡ true → k ≡ n → A
       other n f e = never (sym c ∙ ap isComposed e ∙ f)
 
 -- ---- where operands begin
 
-pub plain-begins : (k : ℕ) → 6 ≤ k → k < 32 → 4 ≡ firstOf k
+pub plain-begins : (k : ℕ) → 6 ≤ k → k < 22 → 4 ≡ firstOf k
 unfolding shape
-plain-begins k l h = eqb-true 4 _ (implied (leb 6 k) _ (each (λ k. not (leb 6 k) || eqb 4 (firstOf k)) 32 refl k h) (le-leb 6 k l))
+plain-begins k l h = eqb-true 4 _ (implied (leb 6 k) _ (each (λ k. not (leb 6 k) || eqb 4 (firstOf k)) 22 refl k h) (le-leb 6 k l))
 
 pub operator-begins : (k : ℕ) → 3 < k → k < 6 → 5 ≡ firstOf k
 unfolding shape

@@ -1,4 +1,4 @@
--- Kinds 1 to 21.
+-- Kinds 1 to 22.
 use mathlib.Core.Path.{sym, _∙_}
 use borrow.Author.Needs.{needs}
 use Rattle.tables.specs.Laws.Kinds.{expression-kinds}
