@@ -48,6 +48,11 @@ example-accepted : check example ≡ Accepted 11
 unfolding check judgedCut judged fault6 fault7 fault8 fault9 chooses isBound inCondition climbBy height loose holdsName foldBy cut cutBy next isFit operands shape
 example-accepted = refl
 
+-- Every two bytes are a quote: let <65535> = <515> in <255>.
+quotes-accepted : check (rows (row 43 (255 ∷ 255 ∷ []) ∷ row 22 (3 ∷ 2 ∷ []) ∷ row 22 (255 ∷ 0 ∷ []) ∷ row 12 (0 ∷ 1 ∷ 2 ∷ []) ∷ [])) ≡ Accepted 4
+unfolding check judgedCut judged fault6 fault7 fault8 fault9 chooses isBound inCondition climbBy height loose holdsName foldBy cut cutBy next isFit operands shape
+quotes-accepted = refl
+
 -- ---- a table refused by each rule
 
 -- 3: no byte.
@@ -79,6 +84,15 @@ odd-map = refl
 odd-map-pattern : check (row 41 (0 ∷ [])) ≡ Refused 4 0
 unfolding check judgedCut judged fault6 fault7 fault8 fault9 chooses isBound inCondition climbBy height loose holdsName foldBy cut cutBy next isFit operands shape
 odd-map-pattern = refl
+
+-- 4: a quote of one byte, and one of three.
+quote-short : check (row 22 (0 ∷ [])) ≡ Refused 4 0
+unfolding check judgedCut judged fault6 fault7 fault8 fault9 chooses isBound inCondition climbBy height loose holdsName foldBy cut cutBy next isFit operands shape
+quote-short = refl
+
+quote-long : check (row 22 (0 ∷ 0 ∷ 0 ∷ [])) ≡ Refused 4 0
+unfolding check judgedCut judged fault6 fault7 fault8 fault9 chooses isBound inCondition climbBy height loose holdsName foldBy cut cutBy next isFit operands shape
+quote-long = refl
 
 -- 5: 201 records.
 too-many : check (rows (replicate 201 (row 33 []))) ≡ Refused 5 200

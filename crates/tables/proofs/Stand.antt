@@ -6,8 +6,8 @@ use Prim.Native.Nat.{ℕ, _+_, _-_, _≤_, _<_}
 use native.Mathlib.Omega.{arith}
 use lib.ListN.{length, getD, take, drop, length-drop}
 use lib.Seq.{getD-drop}
-use Rattle.integers.specs.Bytes.{bits32, ofBits, integerAt}
-use Rattle.tables.specs.Record.{lastKind, size, headOf, field, named, operand, integerOf, isFit}
+use Rattle.integers.specs.Bytes.{word, bits32, ofBits, integerAt}
+use Rattle.tables.specs.Record.{lastKind, size, headOf, field, named, operand, integerOf, quoteOf, isFit}
 use Rattle.tables.specs.Table.{recordAt, kindAt}
 use Rattle.tables.specs.Check.{mostRecords}
 use Rattle.tables.specs.Shapes.{firstOf, rolesOf}
@@ -85,21 +85,27 @@ module _ (table index : List ℕ) (r : ℕ) (h : Here table index r) where
         ∙ ap (λ (k : ℕ). getD (recordAt (records table) r .fields) k 0) (sym one)
         ∙ sym (operand-field (recordAt (records table) r) i has)
 
-  module _ (i : ℕ) (has : i < length (recordAt (records table) r .fields)) where
-    pub field-within : placeIn (getD index r 0) + (4 + i) < length table
-    field-within = omega (arith, stands .fits)
+  pub field-within : (i : ℕ) → i < length (recordAt (records table) r .fields) → placeIn (getD index r 0) + (4 + i) < length table
+  field-within i has = omega (arith, stands .fits)
 
-    pub field-is : getD table (placeIn (getD index r 0) + (4 + i)) 0 ≡ field (recordAt (records table) r) i
-    field-is = ap (λ (k : ℕ). getD table k 0) (plus-four (placeIn (getD index r 0)) i) ∙ stands .field i has
+  -- Fields as they stand in the part that begins where the record was read to begin: one, two as a number, and the literals.
+  module _ (at : ℕ) (e : at ≡ placeIn (getD index r 0)) where
+    pub byte-is : (i : ℕ) → i < length (recordAt (records table) r .fields) → getD (take (length table - at) (drop at table)) (4 + i) 0 ≡ field (recordAt (records table) r) i
+    byte-is i has =
+        field-byte table at (placeIn (getD index r 0)) (4 + i) e
+        ∙ ap (λ (k : ℕ). getD table k 0) (plus-four (placeIn (getD index r 0)) i)
+        ∙ stands .field i has
 
-  pub integer-is : (at : ℕ) → at ≡ placeIn (getD index r 0) → 3 < length (recordAt (records table) r .fields) → integerAt (take (length table - at) (drop at table)) 4 ≡ integerOf (recordAt (records table) r)
-  integer-is at e has =
-      let same : bits32 (take (length table - at) (drop at table)) 4 ≡ bits32 (recordAt (records table) r .fields) 0 =
-      omega (
-        arith,
-        field-byte table at (placeIn (getD index r 0)) 4 e ∙ field-is 0 (omega arith),
-        field-byte table at (placeIn (getD index r 0)) 5 e ∙ field-is 1 (omega arith),
-        field-byte table at (placeIn (getD index r 0)) 6 e ∙ field-is 2 (omega arith),
-        field-byte table at (placeIn (getD index r 0)) 7 e ∙ field-is 3 (omega arith),
-      ) in
-      ap ofBits same
+    word-is : (i : ℕ) → i + 1 < length (recordAt (records table) r .fields) → word (take (length table - at) (drop at table)) (4 + i) ≡ word (recordAt (records table) r .fields) i
+    word-is i has =
+        let next : 4 + i + 1 ≡ 4 + (i + 1) = omega arith in
+        omega (arith, byte-is i (omega arith), ap (λ (k : ℕ). getD (take (length table - at) (drop at table)) k 0) next ∙ byte-is (i + 1) has)
+
+    pub quote-is : 1 < length (recordAt (records table) r .fields) → word (take (length table - at) (drop at table)) 4 ≡ quoteOf (recordAt (records table) r)
+    quote-is has = word-is 0 has
+
+    pub integer-is : 3 < length (recordAt (records table) r .fields) → integerAt (take (length table - at) (drop at table)) 4 ≡ integerOf (recordAt (records table) r)
+    integer-is has =
+        let same : bits32 (take (length table - at) (drop at table)) 4 ≡ bits32 (recordAt (records table) r .fields) 0 =
+        omega (arith, word-is 0 (omega arith), word-is 2 has) in
+        ap ofBits same

@@ -1,8 +1,5 @@
 -- Fields stand from the fifth byte on.
-use Rattle.tables.proofs.Stand.{field-byte, rest-long, in-index, four-there, field-within, field-is}
-use lib.ListN.{getD}
-use Rattle.tables.specs.Reading.{placeIn}
-use Prim.Native.Nat.{_+_}
+use Rattle.tables.proofs.Stand.{rest-long, in-index, four-there, field-within, byte-is}
 use native.Mathlib.Omega.{arith}
 use mathlib.Core.Path.{_∙_}
 use borrow.Author.Needs.{needs}
@@ -28,7 +25,7 @@ byte-of-requires : tie.Need-byte-of-requires
 byte-of-requires c κs = omega (arith, field-within (c .before .before .before .args .table .now) (c .before .before .before .args .index .now) (c .before .before .before .args .r) (c .before .before .before .pre .here) (c .before .before .before .args .i) (c .before .before .before .pre .has), c .before .place .ensures, rest-long (c .before .before .before .args .table .now) (c .before .place .result))
 
 returns : tie.Need-returns
-returns c = (c .byte-of .ensures .0 ∙ field-byte (c .before .before .before .before .args .table .now) (c .before .before .place .result) (placeIn (getD (c .before .before .before .before .args .index .now) (c .before .before .before .before .args .r) 0)) (4 + c .before .before .before .before .args .i) (c .before .before .place .ensures) ∙ field-is (c .before .before .before .before .args .table .now) (c .before .before .before .before .args .index .now) (c .before .before .before .before .args .r) (c .before .before .before .before .pre .here) (c .before .before .before .before .args .i) (c .before .before .before .before .pre .has), c .byte-of .ensures .1)
+returns c = (c .byte-of .ensures .0 ∙ byte-is (c .before .before .before .before .args .table .now) (c .before .before .before .before .args .index .now) (c .before .before .before .before .args .r) (c .before .before .before .before .pre .here) (c .before .before .place .result) (c .before .before .place .ensures) (c .before .before .before .before .args .i) (c .before .before .before .before .pre .has), c .byte-of .ensures .1)
 
 pub field-spec : {M : Type 1} → statement M
 field-spec =
