@@ -4,18 +4,18 @@ use mathlib.Core.Bool.{Bool, true, false, not, _||_, cond}
 use mathlib.Core.Logic.{_⊎_, ⊎-elim}
 use Prim.Native.Nat.{ℕ, _≤_, _<_}
 use native.Mathlib.Omega.{arith}
-use borrow.Author.Tests.{eqb-true, leb-true, le-leb, not-true}
+use borrow.Author.Tests.{eqb-true, leb-true, not-true}
 use lib.Dec.{eqb}
 use lib.ListN.{length, getD, drop}
 use mathlib.Mathlib.Data.Bool.Basic.{and-elim-right}
 use Rattle.prelude.proofs.Absurd.{never}
-use Rattle.prelude.proofs.Truth.{by-test, by-lower, implied}
+use Rattle.prelude.proofs.Truth.{by-test, implied}
 use Rattle.tables.specs.declared.Role.{Role}
 use Rattle.tables.specs.declared.Role.the-variants.{Plain, Condition, Body, Pattern, Name}
 use Rattle.tables.specs.Record.{Record, lastKind, shape, size, headOf, isExpression, isPattern, isFit, operands, named, roleAt}
 use Rattle.tables.specs.Sheet.{any, isBinder}
 use Rattle.tables.specs.Laws.Tests.{each}
-use Rattle.tables.specs.Laws.Kinds.{each-kind, not-loose, pattern-kinds, binder-most, pattern-least}
+use Rattle.tables.specs.Laws.Kinds.{each-kind, not-loose, binder-most, pattern-least}
 use Rattle.tables.specs.Shapes.{binderRole}
 use Rattle.tables.specs.Laws.Roles.{roleBy, role-by, binder-later}
 use Rattle.tables.specs.Laws.Operands.{operands-few, isFirst, binder-roles}
@@ -27,10 +27,6 @@ use Rattle.checking.proofs.Below.{own-none}
 
 pub binder-expression : (k : ℕ) → isBinder k ≡ true → isPattern k ≡ false
 binder-expression k e = by-test {P = isPattern k ≡ false} (isPattern k) (λ f. absurd (omega (arith, binder-most k e, pattern-least k f))) (λ f. f)
-
--- A kind that is no pattern's is below 32.
-pub plain-low : (k : ℕ) → k ≤ lastKind → isPattern k ≡ false → k < 32
-plain-low k h e = by-lower k 32 (λ l. l) (λ l. never (sym e ∙ pattern-kinds k ∙ rw (le-leb 32 k l, le-leb k lastKind h)))
 
 -- ---- what operands are for
 
@@ -68,7 +64,7 @@ pub expression-own : (x : Record) → isPattern (x .kind) ≡ false → 0 ≡ ow
 unfolding shape
 expression-own x e = own-none x (λ same. never (sym e ∙ ap isPattern same)) (not-loose (x .kind) e)
 
--- A literal, a name that is read and any have no operands, hold nothing and bind nothing.
+-- A boolean, an integer, a name that is read and any have no operands, hold nothing and bind nothing.
 abbrev pub NoOperand : ℕ → Type 0
 NoOperand k = (k < 4) ⊎ (k ≡ 33)
 

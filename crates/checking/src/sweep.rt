@@ -377,8 +377,8 @@ fn sort_of(kind: usize) -> u8
     EXPRESSION
 }
 
-// Adds record r with what it and its operands come to, and leaves it to be named; false where a rule is broken. A literal and any have no
-// operands, and hold and leave nothing.
+// Adds record r with what it and its operands come to, and leaves it to be named; false where a rule is broken. A boolean, an integer and
+// any have no operands, and hold and leave nothing.
 fn add_record(
     table: &[u8],
     index: &Index,
