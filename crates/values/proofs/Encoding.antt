@@ -9,10 +9,10 @@ use lib.Dec.{eqb}
 use lib.ListN.{length, getD, take, drop, length-append}
 use lib.Seq.{take-at, drop-at}
 use borrow.Author.Tests.{eqb-true, eq-eqb}
-use Rattle.integers.specs.Bytes.{four, bitsOf, word, ofBits, integerAt}
+use Rattle.integers.specs.Bytes.{pair, four, bitsOf, word, ofBits, integerAt}
 use Rattle.integers.proofs.Range.{range-fits}
 use Rattle.integers.proofs.Written.{integer-bits}
-use Rattle.values.specs.Value.{Kind, set, sequence, map, tuple, number, Value, boolean, integer, collection, Items, none, more, kindOf, count, size, sizes, byteOf, headed, encode, encodeItems, Sound, SoundItems}
+use Rattle.values.specs.Value.{Kind, set, sequence, map, tuple, number, Value, boolean, integer, quote, collection, Items, none, more, kindOf, count, size, sizes, byteOf, headed, encode, encodeItems, Sound, SoundItems}
 use Rattle.values.specs.Items.{join, snoc}
 use Rattle.values.proofs.Order.{collectionKind, collection-kind}
 
@@ -25,6 +25,7 @@ mutual
   pub encode-length : (v : Value) → length (encode v) ≡ size v
   encode-length (boolean b) = refl
   encode-length (integer z) = refl
+  encode-length (quote n) = refl
   encode-length (collection k vs) = let e = encodeItems-length vs in omega arith
 
   pub encodeItems-length : (vs : Items) → length (encodeItems vs) ≡ sizes vs
@@ -35,6 +36,7 @@ pub size-low : (v : Value) → 4 ≤ size v
 unfolding size
 size-low (boolean b) = omega arith
 size-low (integer z) = omega arith
+size-low (quote n) = omega arith
 size-low (collection k vs) = omega arith
 
 -- a record starts with its size and its kind
@@ -42,6 +44,7 @@ pub encode-head : (v : Value) → (l : List ℕ) × (encode v ≡ headed (size v
 unfolding size encode
 encode-head (boolean b) = (byteOf b ∷ [], refl)
 encode-head (integer z) = (four (bitsOf z), refl)
+encode-head (quote n) = (pair n, refl)
 encode-head (collection k vs) = (encodeItems vs, refl)
 
 -- ---- the size of the parts
@@ -99,7 +102,8 @@ unfoldable mutual
   valueOf (suc n) l =
       cond (eqb (word l 2) 1) (boolean (eqb (getD l 4 0) 1))
       (cond (eqb (word l 2) 2) (integer (integerAt l 4))
-      (collection (collectionKind (word l 2)) (itemsOf n (take (word l 0 - 4) (drop 4 l)))))
+      (cond (eqb (word l 2) 7) (quote (word l 4))
+      (collection (collectionKind (word l 2)) (itemsOf n (take (word l 0 - 4) (drop 4 l))))))
 
   itemsOf : ℕ → List ℕ → Items
   itemsOf zero l = none
@@ -110,18 +114,21 @@ pub bool-back : (b : Bool) → eqb (byteOf b) 1 ≡ b
 bool-back true = refl
 bool-back false = refl
 
-kind-other : (k : Kind) → (eqb (number k) 1 ≡ false) × (eqb (number k) 2 ≡ false)
-kind-other set = (refl, refl)
-kind-other sequence = (refl, refl)
-kind-other map = (refl, refl)
-kind-other tuple = (refl, refl)
+kind-other : (k : Kind) → (eqb (number k) 1 ≡ false) × (eqb (number k) 2 ≡ false) × (eqb (number k) 7 ≡ false)
+kind-other set = (refl, refl, refl)
+kind-other sequence = (refl, refl, refl)
+kind-other map = (refl, refl, refl)
+kind-other tuple = (refl, refl, refl)
 
 -- what stands at the start of a headed list
-head-word : (n k : ℕ) (l : List ℕ) → word (headed n k l) 0 ≡ n
+pub head-word : (n k : ℕ) (l : List ℕ) → word (headed n k l) 0 ≡ n
 head-word n k l = omega arith
 
-kind-word : (n k : ℕ) (l : List ℕ) → word (headed n k l) 2 ≡ k
+pub kind-word : (n k : ℕ) (l : List ℕ) → word (headed n k l) 2 ≡ k
 kind-word n k l = omega arith
+
+pub pair-back : (n m k : ℕ) (l : List ℕ) → word (headed m k (pair n ++ l)) 4 ≡ n
+pair-back n m k l = omega arith
 
 four-back : (n m k : ℕ) (l : List ℕ) → integerAt (headed m k (four n ++ l)) 4 ≡ ofBits n
 four-back n m k l =
@@ -146,13 +153,15 @@ mutual
   pub value-back : (v : Value) (n : ℕ) (l : List ℕ) → Sound v → size v ≤ n → valueOf n (encode v ++ l) ≡ v
   value-back (boolean b) zero l f h = let z : ⊥ = omega arith in absurd z
   value-back (integer i) zero l f h = let z : ⊥ = omega arith in absurd z
+  value-back (quote i) zero l f h = let z : ⊥ = omega arith in absurd z
   value-back (collection k vs) zero l f h = let z : ⊥ = omega arith in absurd z
   value-back (boolean b) (suc n) l f h = ap boolean (bool-back b)
   value-back (integer i) (suc n) l f h = ap integer (four-back (bitsOf i) 8 2 l ∙ integer-bits (range-fits i f))
+  value-back (quote i) (suc n) l f h = ap quote (pair-back i 6 7 l)
   value-back (collection k vs) (suc n) l f h =
       let m : ℕ = 4 + sizes vs in
       let e : word (headed m (number k) (encodeItems vs ++ l)) 0 - 4 ≡ sizes vs = omega arith in
-      rw (kind-word m (number k) (encodeItems vs ++ l), kind-other k .0, kind-other k .1, collection-kind k, e, take-at (encodeItems vs) l (sizes vs) (encodeItems-length vs))
+      rw (kind-word m (number k) (encodeItems vs ++ l), kind-other k .0, kind-other k .1, kind-other k .2, collection-kind k, e, take-at (encodeItems vs) l (sizes vs) (encodeItems-length vs))
       (ap (collection k) (items-back vs n (f .1) (omega arith)))
 
   items-back : (vs : Items) (n : ℕ) → SoundItems vs → sizes vs + 1 ≤ n → itemsOf n (encodeItems vs) ≡ vs

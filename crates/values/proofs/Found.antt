@@ -3,20 +3,20 @@ use mathlib.Core.Path.{_≡_, refl, sym, ap, ap₂, subst, _∙_}
 use mathlib.Core.Bool.{Bool, true, false}
 use mathlib.Core.List.{List, [], _∷_, _++_}
 use Prim.Native.Nat.{ℕ, zero, suc, _+_, _/_, _%_, _≤_, _<_}
-use native.Mathlib.Numerals.{add-one, add-two}
+use native.Mathlib.Numerals.{add-one}
 use native.Mathlib.Omega.{arith}
 use lib.Dec.{eqb, ltb}
 use lib.ListN.{length, getD, take, drop}
 use lib.Seq.{drop-cons, take-add, drop-drop}
 use mir.Syntax.{w8}
 use mir.Val.{Fits}
-use Rattle.integers.specs.Bytes.{word, four, bits32, ofBits, IsWord}
+use Rattle.integers.specs.Bytes.{word, pair, four, bits32, ofBits, IsWord}
 use Rattle.integers.proofs.Written.{bits-integer, bits-range, bits32-low}
-use Rattle.values.specs.Value.{Kind, number, boolean, integer, collection, Items, more, size, byteOf, encode, Shaped, valueLimit}
+use Rattle.values.specs.Value.{Kind, number, boolean, integer, quote, collection, Items, more, size, byteOf, encode, Shaped, valueLimit}
 use Rattle.values.specs.Place.{At, ItemsAt, Holds, HoldsItems}
 use Rattle.values.specs.Contract.{heading}
 use Rattle.values.proofs.Written.{collection-at}
-use Rattle.values.proofs.Records.{holds, word-size, word-kind, boolean-at, is-boolean, is-integer, is-collection, items-to, holds-items, no-items, more-of, uncons-of, one-list, well-formed-boolean, well-formed-integer, collection-shaped}
+use Rattle.values.proofs.Records.{holds, word-size, word-kind, boolean-at, is-boolean, is-integer, is-quote, is-collection, items-to, holds-items, no-items, more-of, uncons-of, one-list, well-formed-boolean, well-formed-integer, well-formed-quote, collection-shaped}
 use Rattle.values.specs.Validity.{Tells, Span, Inside, Boolean, TellsItems, ItemsShapedAs}
 use Rattle.values.proofs.Telling.{tells-true, tells-false, tells-of, told-false, tells-equal, tells-less}
 
@@ -26,26 +26,21 @@ module _ (s : List ℕ) (bytes : (i : ℕ) → Fits w8 (getD s i 0)) where
   one-byte : (at n : ℕ) → at < length s → take (suc n) (drop at s) ≡ getD s at 0 ∷ take n (drop (suc at) s)
   one-byte at n h = ap (take (suc n)) (drop-cons s at 0 h)
 
+  -- two bytes are a word
+  two-bytes : (at : ℕ) → at + 2 ≤ length s → take 2 (drop at s) ≡ pair (word s at)
+  two-bytes at h =
+      let e : getD s (at + 1) 0 ≡ getD s (suc at) 0 = ap (λ (k : ℕ). getD s k 0) (add-one at) in
+      let b = bytes at in
+      let c = bytes (suc at) in
+      let l : getD s at 0 ≡ word s at % 256 = omega arith in
+      let m : getD s (suc at) 0 ≡ word s at / 256 = omega arith in
+      one-byte at 1 (omega arith) ∙ ap₂ {C = List ℕ} _∷_ l (one-byte (suc at) 0 (omega arith) ∙ ap (λ (x : ℕ). x ∷ []) m)
+
   -- four bytes are two words
   four-bytes : (at : ℕ) → at + 4 ≤ length s → take 4 (drop at s) ≡ heading (word s at) (word s (at + 2))
   four-bytes at h =
-      let e₂ : getD s (at + 2) 0 ≡ getD s (suc (suc at)) 0 = ap (λ (k : ℕ). getD s k 0) (add-two at) in
-      let e₁ : getD s (at + 1) 0 ≡ getD s (suc at) 0 = ap (λ (k : ℕ). getD s k 0) (add-one at) in
-      let t : at + 2 + 1 ≡ suc (suc (suc at)) = omega arith in
-      let e₃ : getD s (at + 2 + 1) 0 ≡ getD s (suc (suc (suc at))) 0 = ap (λ (k : ℕ). getD s k 0) t in
-      let b₀ = bytes at in
-      let b₁ = bytes (suc at) in
-      let b₂ = bytes (suc (suc at)) in
-      let b₃ = bytes (suc (suc (suc at))) in
-      let l₀ : getD s at 0 ≡ word s at % 256 = omega arith in
-      let l₁ : getD s (suc at) 0 ≡ word s at / 256 = omega arith in
-      let l₂ : getD s (suc (suc at)) 0 ≡ word s (at + 2) % 256 = omega arith in
-      let l₃ : getD s (suc (suc (suc at))) 0 ≡ word s (at + 2) / 256 = omega arith in
-      one-byte at 3 (omega arith)
-      ∙ ap₂ {C = List ℕ} _∷_ l₀ (one-byte (suc at) 2 (omega arith)
-      ∙ ap₂ {C = List ℕ} _∷_ l₁ (one-byte (suc (suc at)) 1 (omega arith)
-      ∙ ap₂ {C = List ℕ} _∷_ l₂ (one-byte (suc (suc (suc at))) 0 (omega arith)
-      ∙ ap (λ (x : ℕ). x ∷ []) l₃)))
+      take-add 2 2 (drop at s)
+      ∙ ap₂ _++_ (two-bytes at (omega arith)) (ap (take 2) (drop-drop 2 at s) ∙ two-bytes (at + 2) (omega arith))
 
   -- a heading, and then m bytes
   headed-by : (at m : ℕ) (bs : List ℕ) → at + 4 ≤ length s → take m (drop (at + 4) s) ≡ bs → take (4 + m) (drop at s) ≡ heading (word s at) (word s (at + 2)) ++ bs
@@ -90,6 +85,20 @@ module _ (s : List ℕ) (bytes : (i : ℕ) → Fits w8 (getD s i 0)) where
             ∙ ap (λ (i : ℕ). heading 8 2 ++ four i) (sym (bits-integer x f));
       })
 
+  found-quote : (at : ℕ) → at + 6 ≤ length s → word s at ≡ 6 → word s (at + 2) ≡ 7 → Holds s at
+  unfolding size encode
+  found-quote at h n k =
+      let x : ℕ = word s (at + 4) in
+      let b₀ = bytes (at + 4) in
+      let b₁ = bytes (at + 4 + 1) in
+      holds {v = quote x} (record {
+        fits = h;
+        fine = well-formed-quote (omega arith);
+        bytes =
+            headed-by at 2 (pair x) (omega arith) (two-bytes (at + 4) (omega arith))
+            ∙ ap₂ (λ (i j : ℕ). heading i j ++ pair x) n k;
+      })
+
   found-collection : (at n : ℕ) (k : Kind) (vs : Items) → n ≡ word s at → word s (at + 2) ≡ number k → n ≤ valueLimit → Shaped k vs → ItemsAt s (at + 4) (at + n) vs → Holds s at
   found-collection at n k vs en ek short shaped h =
       let f = h .ends in
@@ -113,6 +122,12 @@ integer-size : {s : List ℕ} {at : ℕ} → Holds s at → word s (at + 2) ≡ 
 unfolding size
 integer-size {s} {at} h k =
     let (z, e) = is-integer (h .value) (sym (word-kind (h .here)) ∙ k) in
+    word-size (subst (At s at) e (h .here))
+
+quote-size : {s : List ℕ} {at : ℕ} → Holds s at → word s (at + 2) ≡ 7 → word s at ≡ 6
+unfolding size
+quote-size {s} {at} h k =
+    let (n, e) = is-quote (h .value) (sym (word-kind (h .here)) ∙ k) in
     word-size (subst (At s at) e (h .here))
 
 -- ---- a boolean
@@ -152,8 +167,16 @@ module _ {s : List ℕ} (bytes : (i : ℕ) → Fits w8 (getD s i 0)) {at to n : 
       let two : word s (at + 2) ≡ 2 = sym (k .is) ∙ e in
       tells-of (λ d. record { held = found-integer s bytes at (omega arith) (omega arith) two; ends = omega arith }) (λ x. g ∙ integer-size (x .held) two) (tells-equal n 8)
 
-  pub collection-told : {k : ℕ} {r : Bool} → IsWord s (at + 2) k → (k ≡ 1 → ⊥) → (k ≡ 2 → ⊥) → HoldsItems s (at + 4) (at + n) → TellsItems (ItemsShapedAs k) s (at + 4) (at + n) r → Tells (Inside s at to) r
-  collection-told {k} k-is not1 not2 (vs, items) t =
+  pub quote-told : {k : ℕ} → IsWord s (at + 2) k → k ≡ 7 → Tells (Inside s at to) (eqb n 6)
+  quote-told k e =
+      let f = h .inside in
+      let g = h .len in
+      let l = h .span .fits in
+      let seven : word s (at + 2) ≡ 7 = sym (k .is) ∙ e in
+      tells-of (λ d. record { held = found-quote s bytes at (omega arith) (omega arith) seven; ends = omega arith }) (λ x. g ∙ quote-size (x .held) seven) (tells-equal n 6)
+
+  pub collection-told : {k : ℕ} {r : Bool} → IsWord s (at + 2) k → (k ≡ 1 → ⊥) → (k ≡ 2 → ⊥) → (k ≡ 7 → ⊥) → HoldsItems s (at + 4) (at + n) → TellsItems (ItemsShapedAs k) s (at + 4) (at + n) r → Tells (Inside s at to) r
+  collection-told {k} k-is not1 not2 not7 (vs, items) t =
       let f = h .inside in
       let g = h .len in
       let o = h .span .short in
@@ -164,14 +187,14 @@ module _ {s : List ℕ} (bytes : (i : ℕ) → Fits w8 (getD s i 0)) {at to n : 
           let y = x .held .here in
           let kind = word-kind y in
           let i = k-is .is in
-          let (l, ws, d) = is-collection (x .held .value) (λ e. not1 (i ∙ kind ∙ e)) (λ e. not2 (i ∙ kind ∙ e)) in
+          let (l, ws, d) = is-collection (x .held .value) (λ e. not1 (i ∙ kind ∙ e)) (λ e. not2 (i ∙ kind ∙ e)) (λ e. not7 (i ∙ kind ∙ e)) in
           let a : At s at (collection l ws) = subst (At s at) d y in
           let same : ws ≡ vs = one-list (items-to (h .len) a) items in
           (l, i ∙ word-kind a, subst (Shaped l) same (collection-shaped (a .fine)))
 
-  pub items-missing : {k : ℕ} {r : Bool} → IsWord s (at + 2) k → (k ≡ 1 → ⊥) → (k ≡ 2 → ⊥) → Tells (HoldsItems s (at + 4) (at + n)) r → r ≡ false → Tells (Inside s at to) false
-  items-missing k-is not1 not2 t e =
-      tells-false (λ x. told-false t e (holds-items (h .len) (x .held) (λ d. not1 (k-is .is ∙ d)) (λ d. not2 (k-is .is ∙ d))))
+  pub items-missing : {k : ℕ} {r : Bool} → IsWord s (at + 2) k → (k ≡ 1 → ⊥) → (k ≡ 2 → ⊥) → (k ≡ 7 → ⊥) → Tells (HoldsItems s (at + 4) (at + n)) r → r ≡ false → Tells (Inside s at to) false
+  items-missing k-is not1 not2 not7 t e =
+      tells-false (λ x. told-false t e (holds-items (h .len) (x .held) (λ d. not1 (k-is .is ∙ d)) (λ d. not2 (k-is .is ∙ d)) (λ d. not7 (k-is .is ∙ d))))
 
 -- ---- items
 

@@ -9,7 +9,7 @@ use lib.Dec.{eqb}
 use Rattle.prelude.proofs.Absurd.{impossible}
 use Rattle.integers.specs.declared.Order.{Order}
 use Rattle.integers.specs.declared.Order.the-variants.{Lower, Same, Higher}
-use Rattle.values.specs.Value.{Kind, set, sequence, map, tuple, Value, boolean, integer, collection, Items, none, more, number, kindOf, byteOf, after, within, orderItems, order}
+use Rattle.values.specs.Value.{Kind, set, sequence, map, tuple, Value, boolean, integer, quote, collection, Items, none, more, number, kindOf, byteOf, after, within, orderItems, order}
 use Rattle.integers.specs.Order.{orderℕ}
 use Rattle.integers.proofs.Ordered.{flip, lower-lt, lt-lower, same-eq, flip-order, same-eqZ, flip-orderZ, lower-trans}
 use Rattle.values.specs.Items.{isSame, same}
@@ -33,12 +33,18 @@ after-flip Higher p = refl
 
 -- ---- the same is equal
 
--- a collection's kind is neither of the two others
+-- a collection's kind is none of the three others
 pub number-low : (k : Kind) → 3 ≤ number k
 number-low set = omega arith
 number-low sequence = omega arith
 number-low map = omega arith
 number-low tuple = omega arith
+
+pub number-high : (k : Kind) → number k ≤ 6
+number-high set = omega arith
+number-high sequence = omega arith
+number-high map = omega arith
+number-high tuple = omega arith
 
 -- the kind of a collection by its number, and back
 abbrev pub collectionKind : ℕ → Kind
@@ -65,12 +71,19 @@ mutual
   within-same : (v w : Value) → kindOf v ≡ kindOf w → within v w ≡ Same → v ≡ w
   within-same (boolean a) (boolean b) k e = ap boolean (byteOf-inj a b (same-eq (byteOf a) (byteOf b) e))
   within-same (boolean a) (integer b) k e = let z : ⊥ = omega arith in absurd z
+  within-same (boolean a) (quote b) k e = let z : ⊥ = omega arith in absurd z
   within-same (boolean a) (collection l b) k e = let z : ⊥ = omega (arith, number-low l) in absurd z
   within-same (integer a) (boolean b) k e = let z : ⊥ = omega arith in absurd z
   within-same (integer a) (integer b) k e = ap integer (same-eqZ a b e)
+  within-same (integer a) (quote b) k e = let z : ⊥ = omega arith in absurd z
   within-same (integer a) (collection l b) k e = let z : ⊥ = omega (arith, number-low l) in absurd z
+  within-same (quote a) (boolean b) k e = let z : ⊥ = omega arith in absurd z
+  within-same (quote a) (integer b) k e = let z : ⊥ = omega arith in absurd z
+  within-same (quote a) (quote b) k e = ap quote (same-eq a b e)
+  within-same (quote a) (collection l b) k e = let z : ⊥ = omega (arith, number-high l) in absurd z
   within-same (collection h a) (boolean b) k e = let z : ⊥ = omega (arith, number-low h) in absurd z
   within-same (collection h a) (integer b) k e = let z : ⊥ = omega (arith, number-low h) in absurd z
+  within-same (collection h a) (quote b) k e = let z : ⊥ = omega (arith, number-high h) in absurd z
   within-same (collection h a) (collection l b) k e = ap₂ collection (number-inj h l k) (items-same a b e)
 
   items-same : (vs ws : Items) → orderItems vs ws ≡ Same → vs ≡ ws
@@ -96,12 +109,19 @@ mutual
   within-flip : (v w : Value) → within w v ≡ flip (within v w)
   within-flip (boolean a) (boolean b) = flip-order (byteOf a) (byteOf b)
   within-flip (boolean a) (integer b) = refl
+  within-flip (boolean a) (quote b) = refl
   within-flip (boolean a) (collection l b) = refl
   within-flip (integer a) (boolean b) = refl
   within-flip (integer a) (integer b) = flip-orderZ a b
+  within-flip (integer a) (quote b) = refl
   within-flip (integer a) (collection l b) = refl
+  within-flip (quote a) (boolean b) = refl
+  within-flip (quote a) (integer b) = refl
+  within-flip (quote a) (quote b) = flip-order a b
+  within-flip (quote a) (collection l b) = refl
   within-flip (collection h a) (boolean b) = refl
   within-flip (collection h a) (integer b) = refl
+  within-flip (collection h a) (quote b) = refl
   within-flip (collection h a) (collection l b) = items-flip a b
 
   items-flip : (vs ws : Items) → orderItems ws vs ≡ flip (orderItems vs ws)
@@ -143,18 +163,31 @@ mutual
   within-lower : (u v w : Value) → within u v ≡ Lower → within v w ≡ Lower → within u w ≡ Lower
   within-lower (boolean a) (boolean b) (boolean c) p q = lowerℕ (byteOf a) (byteOf b) (byteOf c) p q
   within-lower (boolean a) (boolean b) (integer c) p q = q
+  within-lower (boolean a) (boolean b) (quote c) p q = q
   within-lower (boolean a) (boolean b) (collection m c) p q = q
   within-lower (boolean a) (integer b) w p q = cc
+  within-lower (boolean a) (quote b) w p q = cc
   within-lower (boolean a) (collection l b) w p q = cc
   within-lower (integer a) (boolean b) w p q = cc
   within-lower (integer a) (integer b) (boolean c) p q = q
   within-lower (integer a) (integer b) (integer c) p q = lower-trans a b c p q
+  within-lower (integer a) (integer b) (quote c) p q = q
   within-lower (integer a) (integer b) (collection m c) p q = q
+  within-lower (integer a) (quote b) w p q = cc
   within-lower (integer a) (collection l b) w p q = cc
+  within-lower (quote a) (boolean b) w p q = cc
+  within-lower (quote a) (integer b) w p q = cc
+  within-lower (quote a) (quote b) (boolean c) p q = q
+  within-lower (quote a) (quote b) (integer c) p q = q
+  within-lower (quote a) (quote b) (quote c) p q = lowerℕ a b c p q
+  within-lower (quote a) (quote b) (collection m c) p q = q
+  within-lower (quote a) (collection l b) w p q = cc
   within-lower (collection h a) (boolean b) w p q = cc
   within-lower (collection h a) (integer b) w p q = cc
+  within-lower (collection h a) (quote b) w p q = cc
   within-lower (collection h a) (collection l b) (boolean c) p q = q
   within-lower (collection h a) (collection l b) (integer c) p q = q
+  within-lower (collection h a) (collection l b) (quote c) p q = q
   within-lower (collection h a) (collection l b) (collection m c) p q = items-lower a b c p q
 
   items-lower : (us vs ws : Items) → orderItems us vs ≡ Lower → orderItems vs ws ≡ Lower → orderItems us ws ≡ Lower

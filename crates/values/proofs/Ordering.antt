@@ -8,7 +8,7 @@ use lib.ListN.{length}
 use Rattle.integers.specs.Bytes.{word}
 use Rattle.integers.specs.declared.Order.{Order}
 use Rattle.integers.specs.declared.Order.the-variants.{Lower, Same, Higher}
-use Rattle.values.specs.Value.{Kind, number, Value, boolean, integer, collection, Items, kindOf, byteOf, after, within, orderItems, order}
+use Rattle.values.specs.Value.{Kind, number, Value, boolean, integer, quote, collection, Items, kindOf, byteOf, after, within, orderItems, order}
 use Rattle.integers.specs.Order.{orderℕ, orderℤ}
 use Rattle.values.specs.Items.{isSame}
 use Rattle.values.specs.Place.{At, ItemsAt, Holds, HoldsItems}
@@ -64,16 +64,20 @@ module _ {s : List ℕ} {a b : ℕ} where
   unfolding within
   by-integers r h g e = by-contents r h g refl e
 
-  -- of one kind, which is neither: two collections
-  pub collections : {k l : ℕ} → Holds s a → Holds s b → KindAt s a k → KindAt s b l → k ≡ l → (k ≡ 1 → ⊥) → (k ≡ 2 → ⊥) → Collections s a b
-  collections ha hb ka kb e f g =
+  pub by-quotes : {x y : ℕ} (r : Order) → At s a (quote x) → At s b (quote y) → r ≡ orderℕ x y → Ordered s a b r
+  unfolding within
+  by-quotes r h g e = by-contents r h g refl e
+
+  -- of one kind, which is none of these: two collections
+  pub collections : {k l : ℕ} → Holds s a → Holds s b → KindAt s a k → KindAt s b l → k ≡ l → (k ≡ 1 → ⊥) → (k ≡ 2 → ⊥) → (k ≡ 7 → ⊥) → Collections s a b
+  collections ha hb ka kb e f g i =
       let va = ka .right (ha .value) (ha .here) in
       let vb = kb .right (hb .value) (hb .here) in
-      let (i, vs, x) = is-collection (ha .value) (λ p. f (va ∙ p)) (λ p. g (va ∙ p)) in
-      let (j, ws, y) = is-collection (hb .value) (λ p. f (e ∙ vb ∙ p)) (λ p. g (e ∙ vb ∙ p)) in
-      let p : At s a (collection i vs) = subst (At s a) x (ha .here) in
-      let q : At s b (collection j ws) = subst (At s b) y (hb .here) in
-      record { kind = i; other = j; items = vs; others = ws; first = p; second = q; alike = sym (ka .right (collection i vs) p) ∙ e ∙ kb .right (collection j ws) q }
+      let (k, vs, x) = is-collection (ha .value) (λ p. f (va ∙ p)) (λ p. g (va ∙ p)) (λ p. i (va ∙ p)) in
+      let (l, ws, y) = is-collection (hb .value) (λ p. f (e ∙ vb ∙ p)) (λ p. g (e ∙ vb ∙ p)) (λ p. i (e ∙ vb ∙ p)) in
+      let p : At s a (collection k vs) = subst (At s a) x (ha .here) in
+      let q : At s b (collection l ws) = subst (At s b) y (hb .here) in
+      record { kind = k; other = l; items = vs; others = ws; first = p; second = q; alike = sym (ka .right (collection k vs) p) ∙ e ∙ kb .right (collection l ws) q }
 
   module _ (c : Collections s a b) where
     pub first-items : {m : ℕ} → Length s a m → HoldsItems s (a + 4) (a + m)

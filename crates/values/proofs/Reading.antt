@@ -8,20 +8,21 @@ use lib.Dec.{eqb}
 use lib.IntN.{ℤ}
 use lib.ListN.{length, getD}
 use Rattle.integers.specs.Bytes.{word, integerAt}
-use Rattle.values.specs.Value.{set, sequence, map, tuple, Value, boolean, integer, collection, kindOf, size}
+use Rattle.values.specs.Value.{set, sequence, map, tuple, Value, boolean, integer, quote, collection, kindOf, size}
 use Rattle.values.specs.Place.{At, Holds}
 use Rattle.values.specs.Contract.{Length, KindAt}
 use Rattle.values.proofs.Encoding.{bool-back}
-use Rattle.values.proofs.Records.{word-size, word-kind, boolean-at, integer-at, is-boolean, is-integer}
+use Rattle.values.proofs.Records.{word-size, word-kind, boolean-at, integer-at, quote-at, is-boolean, is-integer, is-quote}
 
 -- ---- length and kind
 
 pub length-is : {s : List ℕ} {at r : ℕ} → r ≡ word s at → Holds s at → Length s at r
 length-is e h = record { is = e; low = omega arith; high = omega arith; right = λ v a. e ∙ word-size a }
 
-kind-range : (v : Value) → (1 ≤ kindOf v) × (kindOf v ≤ 6)
+kind-range : (v : Value) → (1 ≤ kindOf v) × (kindOf v ≤ 7)
 kind-range (boolean b) = (omega arith, omega arith)
 kind-range (integer z) = (omega arith, omega arith)
+kind-range (quote n) = (omega arith, omega arith)
 kind-range (collection set vs) = (omega arith, omega arith)
 kind-range (collection sequence vs) = (omega arith, omega arith)
 kind-range (collection map vs) = (omega arith, omega arith)
@@ -42,6 +43,9 @@ module _ {s : List ℕ} {at : ℕ} (h : Holds s at) where
   the-integer : word s (at + 2) ≡ 2 → (z : ℤ) × At s at (integer z)
   the-integer e = let (z, d) = is-integer (h .value) (sym (word-kind (h .here)) ∙ e) in (z, subst (At s at) d (h .here))
 
+  the-quote : word s (at + 2) ≡ 7 → (n : ℕ) × At s at (quote n)
+  the-quote e = let (n, d) = is-quote (h .value) (sym (word-kind (h .here)) ∙ e) in (n, subst (At s at) d (h .here))
+
   pub boolean-room : word s (at + 2) ≡ 1 → at + 5 ≤ length s
   unfolding size
   boolean-room e = let (b, a) = the-boolean e in let f : at + 5 ≤ length s = a .fits in f
@@ -50,6 +54,10 @@ module _ {s : List ℕ} {at : ℕ} (h : Holds s at) where
   unfolding size
   integer-room e = let (z, a) = the-integer e in let f : at + 8 ≤ length s = a .fits in f
 
+  pub quote-room : word s (at + 2) ≡ 7 → at + 6 ≤ length s
+  unfolding size
+  quote-room e = let (n, a) = the-quote e in let f : at + 6 ≤ length s = a .fits in f
+
   pub boolean-here : word s (at + 2) ≡ 1 → At s at (boolean (eqb (getD s (at + 4) 0) 1))
   boolean-here e =
       let (b, a) = the-boolean e in
@@ -57,3 +65,6 @@ module _ {s : List ℕ} {at : ℕ} (h : Holds s at) where
 
   pub integer-here : {r : ℤ} → word s (at + 2) ≡ 2 → r ≡ integerAt s (at + 4) → At s at (integer r)
   integer-here e d = let (z, a) = the-integer e in subst (λ (x : ℤ). At s at (integer x)) (sym (d ∙ integer-at a)) a
+
+  pub quote-here : {r : ℕ} → word s (at + 2) ≡ 7 → r ≡ word s (at + 4) → At s at (quote r)
+  quote-here e d = let (n, a) = the-quote e in subst (λ (x : ℕ). At s at (quote x)) (sym (d ∙ quote-at a)) a

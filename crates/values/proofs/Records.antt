@@ -2,7 +2,7 @@
 use mathlib.Core.Path.{_≡_, refl, sym, ap, ap₂, subst, _∙_}
 use mathlib.Core.Bool.{Bool}
 use mathlib.Core.List.{List, [], _∷_, _++_}
-use Prim.Native.Nat.{ℕ, _+_, _/_, _%_, _≤_, _<_}
+use Prim.Native.Nat.{ℕ, _+_, _*_, _/_, _%_, _≤_, _<_}
 use native.Mathlib.Nat.{add-zero}
 use native.Mathlib.Omega.{arith}
 use lib.IntN.{ℤ}
@@ -12,11 +12,11 @@ use Rattle.integers.specs.Bytes.{bitsOf, word, bits32, ofBits, integerAt}
 use Rattle.integers.specs.Whole.{InRange}
 use Rattle.integers.proofs.Range.{range-fits}
 use Rattle.integers.proofs.Written.{integer-bits}
-use Rattle.values.specs.Value.{Kind, number, Value, boolean, integer, collection, Items, none, more, kindOf, size, sizes, byteOf, encode, encodeItems, Shaped, Sound, SoundItems, WellFormed, valueLimit}
+use Rattle.values.specs.Value.{Kind, number, Value, boolean, integer, quote, collection, Items, none, more, kindOf, size, sizes, byteOf, encode, encodeItems, Shaped, Sound, SoundItems, WellFormed, valueLimit}
 use Rattle.values.specs.Items.{join, snoc}
 use Rattle.values.specs.Place.{At, ItemsAt, Holds, HoldsItems}
-use Rattle.values.proofs.Order.{number-low}
-use Rattle.values.proofs.Encoding.{encode-length, encodeItems-length, size-low, encode-head, join-sizes, join-encode, join-sound, sound-join, encode-injective, encodeItems-injective}
+use Rattle.values.proofs.Order.{number-low, number-high}
+use Rattle.values.proofs.Encoding.{encode-length, encodeItems-length, size-low, encode-head, head-word, kind-word, pair-back, join-sizes, join-encode, join-sound, sound-join, encode-injective, encodeItems-injective}
 
 -- ---- well-formed parts
 
@@ -44,6 +44,14 @@ pub integer-range : {z : ℤ} → WellFormed (integer z) → InRange z
 unfolding Sound
 integer-range f = f .sound
 
+pub well-formed-quote : {n : ℕ} → n < 65536 → WellFormed (quote n)
+unfolding Sound size
+well-formed-quote f = record { sound = f; short = omega arith }
+
+pub quote-range : {n : ℕ} → WellFormed (quote n) → n < 65536
+unfolding Sound
+quote-range f = f .sound
+
 -- ---- a part of a list that is two lists
 
 split : (n m : ℕ) (l x y : List ℕ) → n ≤ length l → length x ≡ n → take (n + m) l ≡ x ++ y → (take n l ≡ x) × (take m (drop n l) ≡ y)
@@ -60,23 +68,21 @@ pub byte-at : {s : List ℕ} {at : ℕ} {v : Value} → At s at v → (k : ℕ) 
 byte-at {s} {at} {v} h k lt =
     sym (getD-drop at s k 0) ∙ sym (getD-take (size v) (drop at s) k 0 lt) ∙ ap (λ (l : List ℕ). getD l k 0) (h .bytes)
 
+word-at : {s : List ℕ} {at : ℕ} {v : Value} → At s at v → (k : ℕ) → k + 2 ≤ size v → word s (at + k) ≡ word (encode v) k
+word-at {s} {at} {v} h k lt =
+    let next : at + k + 1 ≡ at + (k + 1) = omega arith in
+    ap₂ (λ (x y : ℕ). x + 256 * y) (byte-at h k (omega arith)) (ap (λ (i : ℕ). getD s i 0) next ∙ byte-at h (k + 1) (omega arith))
+
 -- the first word is the size, the second the kind
 pub word-size : {s : List ℕ} {at : ℕ} {v : Value} → At s at v → word s at ≡ size v
 word-size {s} {at} {v} h =
-    let low = size-low v in
     let (l, e) = encode-head v in
-    let b₀ : getD s at 0 ≡ size v % 256 = ap (λ (k : ℕ). getD s k 0) (sym (add-zero at)) ∙ byte-at h 0 (omega arith) ∙ ap (λ (l : List ℕ). getD l 0 0) e in
-    let b₁ : getD s (at + 1) 0 ≡ size v / 256 = byte-at h 1 (omega arith) ∙ ap (λ (l : List ℕ). getD l 1 0) e in
-    omega arith
+    ap (word s) (sym (add-zero at)) ∙ word-at h 0 (omega (arith, size-low v)) ∙ ap (λ (l : List ℕ). word l 0) e ∙ head-word (size v) (kindOf v) l
 
 pub word-kind : {s : List ℕ} {at : ℕ} {v : Value} → At s at v → word s (at + 2) ≡ kindOf v
 word-kind {s} {at} {v} h =
-    let low = size-low v in
     let (l, e) = encode-head v in
-    let b₀ : getD s (at + 2) 0 ≡ kindOf v % 256 = byte-at h 2 (omega arith) ∙ ap (λ (l : List ℕ). getD l 2 0) e in
-    let three : at + 2 + 1 ≡ at + 3 = omega arith in
-    let b₁ : getD s (at + 2 + 1) 0 ≡ kindOf v / 256 = ap (λ (k : ℕ). getD s k 0) three ∙ byte-at h 3 (omega arith) ∙ ap (λ (l : List ℕ). getD l 3 0) e in
-    omega arith
+    word-at h 2 (omega (arith, size-low v)) ∙ ap (λ (l : List ℕ). word l 2) e ∙ kind-word (size v) (kindOf v) l
 
 -- with what code needs to know of its length
 pub holds : {s : List ℕ} {at : ℕ} {v : Value} → At s at v → Holds s at
@@ -93,34 +99,44 @@ boolean-at h = byte-at h 4 (omega arith)
 bits-at : {s : List ℕ} {at : ℕ} {z : ℤ} → At s at (integer z) → bits32 s (at + 4) ≡ bitsOf z
 unfolding size encode
 bits-at {s} {at} {z} h =
-    let g = byte-at h in
     let n = bitsOf z in
-    let b₀ : getD s (at + 4) 0 ≡ n % 65536 % 256 = g 4 (omega arith) in
-    let b₁ : getD s (at + 4 + 1) 0 ≡ n % 65536 / 256 = ap (λ (k : ℕ). getD s k 0) (omega arith) ∙ g 5 (omega arith) in
-    let b₂ : getD s (at + 4 + 2) 0 ≡ n / 65536 % 256 = ap (λ (k : ℕ). getD s k 0) (omega arith) ∙ g 6 (omega arith) in
-    let b₃ : getD s (at + 4 + 2 + 1) 0 ≡ n / 65536 / 256 = ap (λ (k : ℕ). getD s k 0) (omega arith) ∙ g 7 (omega arith) in
+    let low : word s (at + 4) ≡ n % 65536 % 256 + 256 * (n % 65536 / 256) = word-at h 4 (omega arith) in
+    let high : word s (at + 4 + 2) ≡ n / 65536 % 256 + 256 * (n / 65536 / 256) = ap (word s) (omega arith) ∙ word-at h 6 (omega arith) in
     omega arith
 
 pub integer-at : {s : List ℕ} {at : ℕ} {z : ℤ} → At s at (integer z) → integerAt s (at + 4) ≡ z
 integer-at {s} {at} {z} h = ap ofBits (bits-at h) ∙ integer-bits (range-fits z (integer-range (h .fine)))
 
+pub quote-at : {s : List ℕ} {at n : ℕ} → At s at (quote n) → word s (at + 4) ≡ n
+unfolding size encode
+quote-at {n = n} h = word-at h 4 (omega arith) ∙ pair-back n 6 7 []
+
 -- ---- the kind tells the value
 
--- a value of kind 1 is a boolean, of kind 2 an integer, of any other a collection
+-- a value of kind 1 is a boolean, of kind 2 an integer, of kind 7 a quote, of any other a collection
 pub is-boolean : (v : Value) → kindOf v ≡ 1 → (b : Bool) × (v ≡ boolean b)
 is-boolean (boolean b) e = (b, refl)
 is-boolean (integer z) e = absurd (omega arith)
+is-boolean (quote n) e = absurd (omega arith)
 is-boolean (collection k vs) e = absurd (omega (arith, number-low k))
 
 pub is-integer : (v : Value) → kindOf v ≡ 2 → (z : ℤ) × (v ≡ integer z)
 is-integer (boolean b) e = absurd (omega arith)
 is-integer (integer z) e = (z, refl)
+is-integer (quote n) e = absurd (omega arith)
 is-integer (collection k vs) e = absurd (omega (arith, number-low k))
 
-pub is-collection : (v : Value) → (kindOf v ≡ 1 → ⊥) → (kindOf v ≡ 2 → ⊥) → (k : Kind) × (vs : Items) × (v ≡ collection k vs)
-is-collection (boolean b) f g = absurd (f refl)
-is-collection (integer z) f g = absurd (g refl)
-is-collection (collection k vs) f g = (k, vs, refl)
+pub is-quote : (v : Value) → kindOf v ≡ 7 → (n : ℕ) × (v ≡ quote n)
+is-quote (boolean b) e = absurd (omega arith)
+is-quote (integer z) e = absurd (omega arith)
+is-quote (quote n) e = (n, refl)
+is-quote (collection k vs) e = absurd (omega (arith, number-high k))
+
+pub is-collection : (v : Value) → (kindOf v ≡ 1 → ⊥) → (kindOf v ≡ 2 → ⊥) → (kindOf v ≡ 7 → ⊥) → (k : Kind) × (vs : Items) × (v ≡ collection k vs)
+is-collection (boolean b) f g i = absurd (f refl)
+is-collection (integer z) f g i = absurd (g refl)
+is-collection (quote n) f g i = absurd (i refl)
+is-collection (collection k vs) f g i = (k, vs, refl)
 
 -- ---- the records within
 
@@ -139,10 +155,10 @@ pub items-to : {s : List ℕ} {at : ℕ} {k : Kind} {vs : Items} {n : ℕ} → n
 items-to {s} {at} {k} {vs} e h = subst (λ (m : ℕ). ItemsAt s (at + 4) (at + m) vs) (sym (e ∙ word-size h)) (items-of h)
 
 -- the items of whatever stands there, if it is a collection
-pub holds-items : {s : List ℕ} {at n : ℕ} → n ≡ word s at → Holds s at → (word s (at + 2) ≡ 1 → ⊥) → (word s (at + 2) ≡ 2 → ⊥) → HoldsItems s (at + 4) (at + n)
-holds-items {s} {at} e r f g =
+pub holds-items : {s : List ℕ} {at n : ℕ} → n ≡ word s at → Holds s at → (word s (at + 2) ≡ 1 → ⊥) → (word s (at + 2) ≡ 2 → ⊥) → (word s (at + 2) ≡ 7 → ⊥) → HoldsItems s (at + 4) (at + n)
+holds-items {s} {at} e r f g i =
     let h = r .here in
-    let (k, vs, d) = is-collection (r .value) (λ p. f (word-kind h ∙ p)) (λ p. g (word-kind h ∙ p)) in
+    let (k, vs, d) = is-collection (r .value) (λ p. f (word-kind h ∙ p)) (λ p. g (word-kind h ∙ p)) (λ p. i (word-kind h ∙ p)) in
     (vs, items-to e (subst (At s at) d h))
 
 -- no items, and one item before others

@@ -1,8 +1,8 @@
--- One store after another makes a heading, and the record of a boolean or of an integer.
+-- One store after another makes a heading, and the record of a boolean, of an integer or of a quote.
 use mathlib.Core.Path.{_≡_, refl, ap, _∙_}
 use mathlib.Core.Bool.{Bool, true, false}
 use mathlib.Core.List.{List, [], _∷_}
-use Prim.Native.Nat.{ℕ, _+_, _≤_}
+use Prim.Native.Nat.{ℕ, _+_, _≤_, _<_}
 use native.Mathlib.Omega.{arith}
 use lib.IntN.{ℤ}
 use lib.ListN.{length, set}
@@ -10,9 +10,9 @@ use lib.Seq.{sets}
 use mir.Val.{boolByte}
 use Rattle.integers.specs.Bytes.{pair, integerBytes}
 use Rattle.integers.specs.Whole.{InRange}
-use Rattle.values.specs.Value.{Value, boolean, integer, size, byteOf, headed, encode, WellFormed}
+use Rattle.values.specs.Value.{Value, boolean, integer, quote, size, byteOf, headed, encode, WellFormed}
 use Rattle.values.specs.Contract.{PutHead, Put, heading}
-use Rattle.values.proofs.Records.{well-formed-boolean, well-formed-integer}
+use Rattle.values.proofs.Records.{well-formed-boolean, well-formed-integer, well-formed-quote}
 use Rattle.values.proofs.Encoding.{encode-length}
 use Rattle.values.proofs.Written.{stored-outside, stores, written}
 
@@ -50,3 +50,7 @@ pub put-integer : (s t u : List ℕ) (at : ℕ) (z : ℤ) → InRange z → PutH
 unfolding size encode
 put-integer s t u at z f p q h =
     put s u at (integer z) 8 refl (q ∙ after-heading s t at 8 2 (integerBytes z) p) (well-formed-integer f) h
+
+pub put-quote : (s t u : List ℕ) (at n : ℕ) → n < 65536 → PutHead s t at 6 7 → u ≡ sets t (at + 4) (pair n) → at + 6 ≤ length s → Put s u at (quote n) 6 (at + 6)
+unfolding size encode
+put-quote s t u at n f p q h = put s u at (quote n) 6 refl (q ∙ after-heading s t at 6 7 (pair n) p) (well-formed-quote f) h

@@ -27,7 +27,7 @@ pub record Length (s : List ℕ) (at r : ℕ) : Type 0 where
 pub record KindAt (s : List ℕ) (at r : ℕ) : Type 0 where
   pub is : r ≡ word s (at + 2)
   pub low : 1 ≤ r
-  pub high : r ≤ 6
+  pub high : r ≤ 7
   pub right : (v : Value) → At s at v → r ≡ kindOf v
 
 -- some value of kind k stands at a place, and at two places

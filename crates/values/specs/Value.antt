@@ -3,9 +3,9 @@
 use mathlib.Core.Path.{_≡_}
 use mathlib.Core.Bool.{Bool, true, false}
 use mathlib.Core.List.{List, [], _∷_, _++_}
-use Prim.Native.Nat.{ℕ, suc, _+_, _/_, _%_, _≤_}
+use Prim.Native.Nat.{ℕ, suc, _+_, _/_, _%_, _≤_, _<_}
 use lib.IntN.{ℤ}
-use Rattle.integers.specs.Bytes.{integerBytes}
+use Rattle.integers.specs.Bytes.{pair, integerBytes}
 use Rattle.integers.specs.Whole.{InRange}
 use Rattle.integers.specs.Order.{orderℕ, orderℤ}
 use Rattle.integers.specs.declared.Order.{Order}
@@ -17,18 +17,19 @@ use Rattle.integers.specs.declared.Order.the-variants.{Lower, Same, Higher}
 pub data Kind : Type 0 where
   set sequence map tuple : Kind
 
--- A boolean, an integer, or a collection of items. A map's items are key, value, key, value.
+-- A boolean, an integer, a quote, which is a number by itself, or a collection of items. A map's items are key, value, key, value.
 mutual
   pub data Value : Type 0 where
     boolean : Bool → Value
     integer : ℤ → Value
+    quote : ℕ → Value
     collection : Kind → Items → Value
 
   pub data Items : Type 0 where
     none : Items
     more : Value → Items → Items
 
--- The number of a kind: 1 boolean, 2 integer, 3 set, 4 sequence, 5 map, 6 tuple.
+-- The number of a kind: 1 boolean, 2 integer, 3 set, 4 sequence, 5 map, 6 tuple, 7 quote.
 abbrev pub number : Kind → ℕ
 number set = 3
 number sequence = 4
@@ -38,6 +39,7 @@ number tuple = 6
 abbrev pub kindOf : Value → ℕ
 kindOf (boolean b) = 1
 kindOf (integer z) = 2
+kindOf (quote n) = 7
 kindOf (collection k vs) = number k
 
 -- How many items there are.
@@ -65,6 +67,7 @@ unfoldable mutual
   pub size : Value → ℕ
   size (boolean b) = 5
   size (integer z) = 8
+  size (quote n) = 6
   size (collection k vs) = 4 + sizes vs
 
   pub sizes : Items → ℕ
@@ -84,6 +87,7 @@ unfoldable mutual
   pub encode : Value → List ℕ
   encode (boolean b) = headed 5 1 (byteOf b ∷ [])
   encode (integer z) = headed 8 2 (integerBytes z)
+  encode (quote n) = headed 6 7 (pair n)
   encode (collection k vs) = headed (4 + sizes vs) (number k) (encodeItems vs)
 
   pub encodeItems : Items → List ℕ
@@ -98,18 +102,25 @@ after Lower o = Lower
 after Same o = o
 after Higher o = Higher
 
--- Within one kind: false before true; integers by size; the others item by item, a prefix before what extends it.
+-- Within one kind: false before true; integers by size; quotes by number; the others item by item, a prefix before what extends it.
 -- (Two kinds never meet here: `order` has told them apart, so what stands for them is of no account.)
 unfoldable mutual
   pub within : Value → Value → Order
   within (boolean a) (boolean b) = orderℕ (byteOf a) (byteOf b)
   within (boolean a) (integer b) = Same
+  within (boolean a) (quote b) = Same
   within (boolean a) (collection l b) = Same
   within (integer a) (boolean b) = Same
   within (integer a) (integer b) = orderℤ a b
+  within (integer a) (quote b) = Same
   within (integer a) (collection l b) = Same
+  within (quote a) (boolean b) = Same
+  within (quote a) (integer b) = Same
+  within (quote a) (quote b) = orderℕ a b
+  within (quote a) (collection l b) = Same
   within (collection k a) (boolean b) = Same
   within (collection k a) (integer b) = Same
+  within (collection k a) (quote b) = Same
   within (collection k a) (collection l b) = orderItems a b
 
   pub orderItems : Items → Items → Order
@@ -155,11 +166,12 @@ Shaped sequence vs = Unit {0}
 Shaped map vs = Paired vs × Ascending (keys vs)
 Shaped tuple vs = (2 ≤ count vs) × (count vs ≤ 4)
 
--- Each integer is in range and each collection is shaped as its kind asks, at every depth.
+-- Each integer is in range, each quote's number has 16 bits and each collection is shaped as its kind asks, at every depth.
 unfoldable mutual
   pub Sound : Value → Type 0
   Sound (boolean b) = Unit {0}
   Sound (integer z) = InRange z
+  Sound (quote n) = n < 65536
   Sound (collection k vs) = Shaped k vs × SoundItems vs
 
   pub SoundItems : Items → Type 0

@@ -4,7 +4,7 @@ ghost use Prim.Native.Nat.{_+_, _≤_, _<_};
 ghost use mathlib.Core.List.{[]};
 ghost use lib.ListN.{length};
 ghost use Rattle.integers.specs.Whole.{InRange};
-ghost use Rattle.values.specs.Value.{boolean, integer};
+ghost use Rattle.values.specs.Value.{boolean, integer, quote};
 ghost use Rattle.values.specs.Place.{At, Holds, HoldsItems};
 ghost use Rattle.values.specs.Contract.{Length, KindAt, OfKind, Both, Ordered, OrderedItems, Equal, Shows, ShowsAt, PutHead, Put, Movable, Moved, Copyable, Copied};
 
@@ -35,6 +35,8 @@ impl Value {
     pub const MAP: usize = 5;
 
     pub const TUPLE: usize = 6;
+
+    pub const QUOTE: usize = 7;
 
     // Where a record's contents start: length and kind take two bytes each.
     pub const HEAD: usize = 4;
@@ -75,7 +77,7 @@ pub fn length_of(s: &[u8], at: usize) -> usize
     integers::bytes::read16(s, at)
 }
 
-// The kind of the value at a place: 1 boolean, 2 integer, 3 set, 4 sequence, 5 map, 6 tuple.
+// The kind of the value at a place: 1 boolean, 2 integer, 3 set, 4 sequence, 5 map, 6 tuple, 7 quote.
 pub fn kind_of(s: &[u8], at: usize) -> usize
     requires { ⌜ Holds (now s) at ⌝ }
     ensures { λ r. ⌜ KindAt (now (s .entry)) at r ⌝ }
@@ -97,6 +99,14 @@ pub fn integer_at(s: &[u8], at: usize) -> i32
     ensures { λ r. ⌜ At (now (s .entry)) at (integer r) ⌝ }
 {
     integers::bytes::read32(s, at + Value::HEAD)
+}
+
+// The number of the quote at a place.
+pub fn quote_at(s: &[u8], at: usize) -> usize
+    requires { ⌜ OfKind (now s) at 7 ⌝ }
+    ensures { λ r. ⌜ At (now (s .entry)) at (quote r) ⌝ }
+{
+    integers::bytes::read16(s, at + Value::HEAD)
 }
 
 // ---- comparing
@@ -121,6 +131,16 @@ fn compare_integers(s: &[u8], a: usize, b: usize) -> Order
     integers::compare(x, y)
 }
 
+// The order of the quotes at two places, by number.
+fn compare_quotes(s: &[u8], a: usize, b: usize) -> Order
+    requires { ⌜ Both (now s) a b 7 ⌝ }
+    ensures { λ r. ⌜ Ordered (now (s .entry)) a b r ⌝ }
+{
+    let x = quote_at(s, a);
+    let y = quote_at(s, b);
+    integers::compare_numbers(x, y)
+}
+
 // The order of the values at two places: lower kind first, then the contents.
 pub fn compare(s: &[u8], a: usize, b: usize) -> Order
     requires { ⌜ Holds (now s) a × Holds (now s) b ⌝ }
@@ -136,6 +156,9 @@ pub fn compare(s: &[u8], a: usize, b: usize) -> Order
     }
     if ka == Value::INTEGER {
         return compare_integers(s, a, b);
+    }
+    if ka == Value::QUOTE {
+        return compare_quotes(s, a, b);
     }
     let la = length_of(s, a);
     let lb = length_of(s, b);
@@ -210,6 +233,16 @@ pub fn put_integer(s: &mut [u8], at: usize, z: i32) -> usize
     put_head(s, at, 8, Value::INTEGER);
     integers::bytes::put32(s, at + Value::HEAD, z);
     at + 8
+}
+
+// Writes the record of a quote, and gives the place past it.
+pub fn put_quote(s: &mut [u8], at: usize, n: usize) -> usize
+    requires { ⌜ (at + 6 ≤ length (now s)) × (n < 65536) ⌝ }
+    ensures { λ r. ⌜ Put (now (s .entry)) (now (s .exit)) at (quote n) 6 r ⌝ }
+{
+    put_head(s, at, 6, Value::QUOTE);
+    integers::bytes::put16(s, at + Value::HEAD, n);
+    at + 6
 }
 
 // ---- copying

@@ -124,6 +124,9 @@ pub fn valid(s: &[u8], at: usize, to: usize) -> bool
     if kind == Value::INTEGER {
         return n == 8;
     }
+    if kind == Value::QUOTE {
+        return n == 6;
+    }
     if valid_items(s, at + Value::HEAD, at + n) {
         return shaped(s, at + Value::HEAD, at + n, kind);
     }

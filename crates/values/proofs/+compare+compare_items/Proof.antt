@@ -15,6 +15,7 @@ use Rattle.values.proofs.compare_items.Kinds as compare-items-kinds
 use Rattle.values.proofs.+compare+compare_items.Lts-compare_items as compare-items-lts
 use Rattle.values.proofs.compare_booleans.Reads as compare-booleans-reads
 use Rattle.values.proofs.compare_integers.Reads as compare-integers-reads
+use Rattle.values.proofs.compare_quotes.Reads as compare-quotes-reads
 use Rattle.values.proofs.kind_of.Reads as kind-of-reads
 use Rattle.values.proofs.length_of.Reads as length-of-reads
 use Rattle.integers.proofs.compare_numbers.Reads as compare-numbers-reads
@@ -47,7 +48,7 @@ compare-items-below t =
 
 -- what each member's calls ask and tell
 abbrev compare-calls : ℕ → compare-lts.Claims
-compare-calls t = (kind-of-reads.Asked, kind-of-reads.Learnt, compare-numbers-reads.Asked, compare-numbers-reads.Learnt, compare-booleans-reads.Asked, compare-booleans-reads.Learnt, compare-integers-reads.Asked, compare-integers-reads.Learnt, length-of-reads.Asked, length-of-reads.Learnt, compare-items-below t, compare-items.Post)
+compare-calls t = (kind-of-reads.Asked, kind-of-reads.Learnt, compare-numbers-reads.Asked, compare-numbers-reads.Learnt, compare-booleans-reads.Asked, compare-booleans-reads.Learnt, compare-integers-reads.Asked, compare-integers-reads.Learnt, compare-quotes-reads.Asked, compare-quotes-reads.Learnt, length-of-reads.Asked, length-of-reads.Learnt, compare-items-below t, compare-items.Post)
 
 abbrev compare-items-calls : ℕ → compare-items-lts.Claims
 compare-items-calls t = (compare-below t, compare.Post, length-of-reads.Asked, length-of-reads.Learnt, compare-items-below t, compare-items.Post)
@@ -76,11 +77,17 @@ compare-compare-integers-requires t c κs = let p = c .before .before .before .b
 compare-returns-3 : (t : ℕ) → compare-lts.Need-returns-3 (compare-calls t) (compare-at t) compare.Post
 compare-returns-3 t c = c .compare-integers .ensures
 
+compare-compare-quotes-requires : (t : ℕ) → compare-lts.Need-compare-quotes-requires (compare-calls t) (compare-at t) compare.Post
+compare-compare-quotes-requires t c κs = let p = c .before .before .before .before .before .before .before .pre in both (p .1 .0) (p .1 .1) (c .before .before .before .before .before .kind-of .ensures) (c .before .before .before .before .kind-of2 .ensures) (c .before .before .before .if1 .left) (c .if4 .taken)
+
+compare-returns-4 : (t : ℕ) → compare-lts.Need-returns-4 (compare-calls t) (compare-at t) compare.Post
+compare-returns-4 t c = c .compare-quotes .ensures
+
 compare-length-of-requires : (t : ℕ) → compare-lts.Need-length-of-requires (compare-calls t) (compare-at t) compare.Post
-compare-length-of-requires t c κs = c .before .before .before .before .before .before .pre .1 .0
+compare-length-of-requires t c κs = c .before .before .before .before .before .before .before .pre .1 .0
 
 compare-length-of-requires-2 : (t : ℕ) → compare-lts.Need-length-of-requires-2 (compare-calls t) (compare-at t) compare.Post
-compare-length-of-requires-2 t c κs = c .before .before .before .before .before .before .before .pre .1 .1
+compare-length-of-requires-2 t c κs = c .before .before .before .before .before .before .before .before .pre .1 .1
 
 compare-add-compare-items : (t : ℕ) → compare-lts.Need-add-compare-items (compare-calls t) (compare-at t) compare.Post
 compare-add-compare-items t c = omega arith
@@ -96,14 +103,14 @@ compare-add-compare-items-4 t c = omega arith
 
 compare-compare-items-requires : (t : ℕ) → compare-lts.Need-compare-items-requires (compare-calls t) (compare-at t) compare.Post
 compare-compare-items-requires t c κs =
-    let p = c .before .before .before .before .before .before .before .before .pre in
-    let x = collections (p .1 .0) (p .1 .1) (c .before .before .before .before .before .before .kind-of .ensures) (c .before .before .before .before .before .kind-of2 .ensures) (c .before .before .before .before .if1 .left) (c .before .before .before .if2 .left) (c .before .before .if3 .left) in
+    let p = c .before .before .before .before .before .before .before .before .before .pre in
+    let x = collections (p .1 .0) (p .1 .1) (c .before .before .before .before .before .before .before .kind-of .ensures) (c .before .before .before .before .before .before .kind-of2 .ensures) (c .before .before .before .before .before .if1 .left) (c .before .before .before .before .if2 .left) (c .before .before .before .if3 .left) (c .before .before .if4 .left) in
     (omega arith, (first-items x (c .before .length-of .ensures), second-items x (c .length-of2 .ensures)))
 
-compare-returns-4 : (t : ℕ) → compare-lts.Need-returns-4 (compare-calls t) (compare-at t) compare.Post
-compare-returns-4 t c =
-    let p = c .before .before .before .before .before .before .before .before .before .pre in
-    let x = collections (p .1 .0) (p .1 .1) (c .before .before .before .before .before .before .before .kind-of .ensures) (c .before .before .before .before .before .before .kind-of2 .ensures) (c .before .before .before .before .before .if1 .left) (c .before .before .before .before .if2 .left) (c .before .before .before .if3 .left) in
+compare-returns-5 : (t : ℕ) → compare-lts.Need-returns-5 (compare-calls t) (compare-at t) compare.Post
+compare-returns-5 t c =
+    let p = c .before .before .before .before .before .before .before .before .before .before .pre in
+    let x = collections (p .1 .0) (p .1 .1) (c .before .before .before .before .before .before .before .before .kind-of .ensures) (c .before .before .before .before .before .before .before .kind-of2 .ensures) (c .before .before .before .before .before .before .if1 .left) (c .before .before .before .before .before .if2 .left) (c .before .before .before .before .if3 .left) (c .before .before .before .if4 .left) in
     ordered-by-items x _ (c .before .before .length-of .ensures) (c .before .length-of2 .ensures) (c .compare-items .ensures)
 
 compare-items-returns : (t : ℕ) → compare-items-lts.Need-returns (compare-items-calls t) (compare-items-at t) compare-items.Post
@@ -175,6 +182,8 @@ pub +compare+compare-items-spec : {M : Type 1} → statement M
     (compare-returns-2 t)
     (compare-compare-integers-requires t)
     (compare-returns-3 t)
+    (compare-compare-quotes-requires t)
+    (compare-returns-4 t)
     (compare-length-of-requires t)
     (compare-length-of-requires-2 t)
     (compare-add-compare-items t)
@@ -182,7 +191,7 @@ pub +compare+compare-items-spec : {M : Type 1} → statement M
     (compare-add-compare-items-3 t)
     (compare-add-compare-items-4 t)
     (compare-compare-items-requires t)
-    (compare-returns-4 t))
+    (compare-returns-5 t))
     λ t. compare-items-lts.spec (compare-items-calls t)
     (compare-items-at t)
     compare-items.Post

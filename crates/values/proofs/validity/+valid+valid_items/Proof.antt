@@ -3,7 +3,7 @@ use Prim.Native.Nat.{ℕ, _+_, _*_, _-_, _<_}
 use mathlib.Core.Path.{sym, _∙_}
 use native.Mathlib.Omega.{arith}
 use Rattle.values.proofs.Telling.{tells-false}
-use Rattle.values.proofs.Found.{Headed, ends-there, integer-told, collection-told, items-missing, items-end, items-told, items-first}
+use Rattle.values.proofs.Found.{Headed, ends-there, integer-told, quote-told, collection-told, items-missing, items-end, items-told, items-first}
 use borrow.Fn.Kinds.{In}
 use borrow.Fn.PlainCycle.{Measures, is, falls, and}
 use Rattle.values.proofs.validity.valid.Reads as valid
@@ -77,6 +77,9 @@ valid-returns-4 t c = ends-there (record { span = c .before .before .before .bef
 valid-returns-5 : (t : ℕ) → valid-lts.Need-returns-5 (valid-calls t) (valid-at t) valid.Post
 valid-returns-5 t c = integer-told (c .before .before .before .before .before .before .before .shared-slice-known .given) (record { span = c .before .before .before .before .before .before .before .before .pre .1; len = c .before .before .before .before .before .read16 .ensures .is; low = omega arith; inside = omega arith }) (c .before .before .read162 .ensures) (c .if5 .taken)
 
+valid-returns-6 : (t : ℕ) → valid-lts.Need-returns-6 (valid-calls t) (valid-at t) valid.Post
+valid-returns-6 t c = quote-told (c .before .before .before .before .before .before .before .before .shared-slice-known .given) (record { span = c .before .before .before .before .before .before .before .before .before .pre .1; len = c .before .before .before .before .before .before .read16 .ensures .is; low = omega arith; inside = omega arith }) (c .before .before .before .read162 .ensures) (c .if6 .taken)
+
 valid-add-valid-items : (t : ℕ) → valid-lts.Need-add-valid-items (valid-calls t) (valid-at t) valid.Post
 valid-add-valid-items t c = omega arith
 
@@ -93,13 +96,13 @@ valid-add-shaped-2 : (t : ℕ) → valid-lts.Need-add-shaped-2 (valid-calls t) (
 valid-add-shaped-2 t c = omega arith
 
 valid-shaped-requires : (t : ℕ) → valid-lts.Need-shaped-requires (valid-calls t) (valid-at t) valid.Post
-valid-shaped-requires t c κs = c .before .valid-items .ensures .sound (c .if6 .taken)
-
-valid-returns-6 : (t : ℕ) → valid-lts.Need-returns-6 (valid-calls t) (valid-at t) valid.Post
-valid-returns-6 t c = collection-told (c .before .before .before .before .before .before .before .before .before .before .shared-slice-known .given) (record { span = c .before .before .before .before .before .before .before .before .before .before .before .pre .1; len = c .before .before .before .before .before .before .before .before .read16 .ensures .is; low = omega arith; inside = omega arith }) (c .before .before .before .before .before .read162 .ensures) (c .before .before .before .before .if4 .left) (c .before .before .before .if5 .left) (c .before .before .valid-items .ensures .sound (c .before .if6 .taken)) (c .shaped .ensures)
+valid-shaped-requires t c κs = c .before .valid-items .ensures .sound (c .if7 .taken)
 
 valid-returns-7 : (t : ℕ) → valid-lts.Need-returns-7 (valid-calls t) (valid-at t) valid.Post
-valid-returns-7 t c = items-missing (c .before .before .before .before .before .before .before .before .before .shared-slice-known .given) (record { span = c .before .before .before .before .before .before .before .before .before .before .pre .1; len = c .before .before .before .before .before .before .before .read16 .ensures .is; low = omega arith; inside = omega arith }) (c .before .before .before .before .read162 .ensures) (c .before .before .before .if4 .left) (c .before .before .if5 .left) (c .before .valid-items .ensures) (c .if6 .left)
+valid-returns-7 t c = collection-told (c .before .before .before .before .before .before .before .before .before .before .before .shared-slice-known .given) (record { span = c .before .before .before .before .before .before .before .before .before .before .before .before .pre .1; len = c .before .before .before .before .before .before .before .before .before .read16 .ensures .is; low = omega arith; inside = omega arith }) (c .before .before .before .before .before .before .read162 .ensures) (c .before .before .before .before .before .if4 .left) (c .before .before .before .before .if5 .left) (c .before .before .before .if6 .left) (c .before .before .valid-items .ensures .sound (c .before .if7 .taken)) (c .shaped .ensures)
+
+valid-returns-8 : (t : ℕ) → valid-lts.Need-returns-8 (valid-calls t) (valid-at t) valid.Post
+valid-returns-8 t c = items-missing (c .before .before .before .before .before .before .before .before .before .before .shared-slice-known .given) (record { span = c .before .before .before .before .before .before .before .before .before .before .before .pre .1; len = c .before .before .before .before .before .before .before .before .read16 .ensures .is; low = omega arith; inside = omega arith }) (c .before .before .before .before .before .read162 .ensures) (c .before .before .before .before .if4 .left) (c .before .before .before .if5 .left) (c .before .before .if6 .left) (c .before .valid-items .ensures) (c .if7 .left)
 
 valid-items-returns : (t : ℕ) → valid-items-lts.Need-returns (valid-items-calls t) (valid-items-at t) valid-items.Post
 valid-items-returns t c = items-end (c .before .before .pre .1) (c .if1 .taken)
@@ -137,14 +140,15 @@ pub +valid+valid-items-spec : {M : Type 1} → statement M
     (valid-boolean-requires t)
     (valid-returns-4 t)
     (valid-returns-5 t)
+    (valid-returns-6 t)
     (valid-add-valid-items t)
     (valid-add-valid-items-2 t)
     (valid-valid-items-requires t)
     (valid-add-shaped t)
     (valid-add-shaped-2 t)
     (valid-shaped-requires t)
-    (valid-returns-6 t)
-    (valid-returns-7 t))
+    (valid-returns-7 t)
+    (valid-returns-8 t))
     λ t. valid-items-lts.spec (
       valid-below t,
       valid.Post,
