@@ -14,7 +14,7 @@ use mir.Val.{Fits, SFits, ofZ, toZ}
 use mir.ValLaws.{toZ-ofZ}
 use Rattle.prelude.proofs.Absurd.{impossible}
 use Rattle.integers.proofs.Range.{range-fits}
-use Rattle.values.specs.Value.{Kind, set, sequence, map, tuple, number, kindOf, Value, boolean, integer, collection, Items}
+use Rattle.values.specs.Value.{Kind, set, sequence, map, tuple, number, kindOf, Value, boolean, integer, quote, collection, Items}
 use Rattle.values.specs.Items.{nth}
 use Rattle.values.specs.Place.{At}
 use Rattle.values.specs.Contract.{KindAt, Copyable, Copied}
@@ -131,4 +131,5 @@ module _ {s : List ℕ} {base kind : ℕ} (h : Two s base) (read : KindAt s base
       go : (v w : Value) → (kindOf v ≡ 4 → ⊥) → (kindOf v ≡ 5 → ⊥) → applyTo v w ≡ refused wrongKind
       go (boolean b) w f g = refl
       go (integer z) w f g = refl
+      go (quote n) w f g = refl
       go (collection k vs) w f g = by-kind k vs w f g

@@ -13,8 +13,8 @@ use lib.Pow.{pow-mono}
 use borrow.Author.Tests.{eq-eqb, ne-eqb, eqb-true, lt-ltb, le-ltb}
 use Rattle.prelude.proofs.Absurd.{true-false}
 use Rattle.prelude.proofs.Truth.{by-test, or-cases, or-false-left, or-false-right}
-use Rattle.values.specs.Value.{Kind, set, sequence, map as mapping, tuple, number, kindOf, Value, boolean, integer, collection, WellFormed}
-use Rattle.values.proofs.Order.{number-low, number-inj}
+use Rattle.values.specs.Value.{Kind, set, sequence, map as mapping, tuple, number, kindOf, Value, boolean, integer, quote, collection, WellFormed}
+use Rattle.values.proofs.Order.{number-low, number-high, number-inj}
 use Rattle.values.proofs.Encoding.{collection-size, count-sizes}
 use Rattle.values.proofs.Records.{collection-shaped}
 use Rattle.parts.specs.declared.Part.{Part}
@@ -39,6 +39,7 @@ use Rattle.matching.specs.Node.{isSplit, isPaired, SplitsAs, MeetsAs, Me
 pub contents-other : (k : Kind) (v : Value) → (kindOf v ≡ number k → ⊥) → contents k v ≡ absent
 contents-other k (boolean b) f = refl
 contents-other k (integer z) f = refl
+contents-other k (quote n) f = refl
 contents-other k (collection l vs) f = rw (ne-eqb (number k) (number l) (λ e. f (sym e)))
 
 -- The units of a value of the kind.
@@ -50,6 +51,7 @@ pub record Has (k : Kind) (v : Value) : Type 0 where
 pub contents-same : (k : Kind) (v : Value) → WellFormed v → kindOf v ≡ number k → Has k v
 contents-same k (boolean b) f e = absurd (omega (arith, number-low k))
 contents-same k (integer z) f e = absurd (omega (arith, number-low k))
+contents-same k (quote n) f e = absurd (omega (arith, number-high k))
 contents-same k (collection l vs) f e =
     let q : k ≡ l = number-inj k l (sym e) in
     let g : itemsIn k (unitsOf k (listOf vs)) ≡ listOf vs = items-units k (listOf vs) (rw (q, items-list vs) (collection-shaped f)) in

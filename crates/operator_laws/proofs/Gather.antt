@@ -6,7 +6,7 @@ use native.Mathlib.Omega.{arith}
 use mathlib.Mathlib.Data.Bool.Basic.{and-intro, or-inl, or-inr}
 use Rattle.prelude.proofs.Absurd.{never}
 use Rattle.prelude.proofs.Truth.{cond-or, by-test}
-use Rattle.values.specs.Value.{Value, boolean, integer, collection, Items, none, more, count, size, sizes, Before, Ascending, Sound, SoundItems}
+use Rattle.values.specs.Value.{Value, boolean, integer, quote, collection, Items, none, more, count, size, sizes, Before, Ascending, Sound, SoundItems}
 use Rattle.values.specs.Items.{same, join, isMember, insert}
 use Rattle.values.proofs.Order.{same-true, true-same}
 use Rattle.values.proofs.Encoding.{join-sizes, join-sound}
@@ -180,6 +180,7 @@ sound-itemsOf : (v : Value) → Sound v → SoundItems (itemsIn v)
 unfolding Sound
 sound-itemsOf (boolean b) s = tt
 sound-itemsOf (integer z) s = tt
+sound-itemsOf (quote n) s = tt
 sound-itemsOf (collection k vs) s = s .1
 
 pub sound-flatten : (vs : Items) → SoundItems vs → SoundItems (flatten vs)

@@ -14,7 +14,7 @@ use Rattle.prelude.proofs.Truth.{cond-true, cond-false, by-test}
 use Rattle.integers.specs.declared.Number.{Number}
 use Rattle.integers.specs.Whole as Whole
 use Rattle.integers.specs.Whole.{greatestInteger, inRange, InRange, ranged, divided, divℤ, remℤ, modℤ}
-use Rattle.values.specs.Value.{Kind, set, sequence, map, tuple, number, Value, boolean, integer, collection, Items, none, more, count, keys, mapped, size, sizes, valueLimit, Ascending, Paired, Shaped, Sound, SoundItems, WellFormed}
+use Rattle.values.specs.Value.{Kind, set, sequence, map, tuple, number, Value, boolean, integer, quote, collection, Items, none, more, count, keys, mapped, size, sizes, valueLimit, Ascending, Paired, Shaped, Sound, SoundItems, WellFormed}
 use Rattle.values.specs.Items.{same, join, nth, lookup}
 use Rattle.values.proofs.Order.{number-inj}
 use Rattle.values.proofs.Encoding.{count-sizes, join-sound}
@@ -79,6 +79,7 @@ unless-fine false x n l f = l
 kind-fine : (k : Kind) (f : Items → Answer) → ((vs : Items) → Good k vs → FineAnswer (f vs)) → (v : Value) → WellFormed v → FineAnswer (needs (asKind k v) f)
 kind-fine k f h (boolean b) w = omega arith
 kind-fine k f h (integer z) w = omega arith
+kind-fine k f h (quote n) w = omega arith
 kind-fine k f h (collection l vs) w =
     by-test (eqb (number k) (number l))
     (λ e. rw e (h vs (subst (λ (j : Kind). Good j vs) (sym (number-inj k l (eqb-true (number k) (number l) e))) (good w))))
@@ -92,12 +93,14 @@ kinds-fine k l f h v w p q =
 boolean-fine : (f : Bool → Answer) → ((b : Bool) → FineAnswer (f b)) → (v : Value) → FineAnswer (needs (asBoolean v) f)
 boolean-fine f h (boolean b) = h b
 boolean-fine f h (integer z) = omega arith
+boolean-fine f h (quote n) = omega arith
 boolean-fine f h (collection k vs) = omega arith
 
 whole-fine : (f : ℤ → Answer) → ((z : ℤ) → InRange z → FineAnswer (f z)) → (v : Value) → WellFormed v → FineAnswer (needs (asInteger v) f)
 unfolding Sound
 whole-fine f h (boolean b) w = omega arith
 whole-fine f h (integer z) w = h z (w .sound)
+whole-fine f h (quote n) w = omega arith
 whole-fine f h (collection k vs) w = omega arith
 
 wholes-fine : (f : ℤ → ℤ → Answer) → ((a b : ℤ) → InRange a → InRange b → FineAnswer (f a b)) → (v w : Value) → WellFormed v → WellFormed w → FineAnswer (needsBoth (asInteger v) (asInteger w) f)
@@ -154,6 +157,7 @@ uniteAll-fine vs g = sized-fine set (insertAll none (flatten vs)) (ascending-ins
 first-good : (v : Value) → isKind set v ≡ true → WellFormed v → Good set (itemsIn v)
 first-good (boolean b) e w = impossible cc
 first-good (integer i) e w = impossible cc
+first-good (quote n) e w = impossible cc
 first-good (collection l vs) e w = subst (λ (j : Kind). Good j vs) (sym (number-inj set l (eqb-true (number set) (number l) e))) (good w)
 
 -- An item of a well-formed collection is well-formed.
@@ -252,6 +256,7 @@ applyItems-fine tuple vs w g q = omega arith
 pub apply-fine : (v w : Value) → WellFormed v → WellFormed w → FineAnswer (applyTo v w)
 apply-fine (boolean b) w p q = omega arith
 apply-fine (integer z) w p q = omega arith
+apply-fine (quote n) w p q = omega arith
 apply-fine (collection k vs) w p q = applyItems-fine k vs w (good p) q
 
 -- THEOREM: a set range
@@ -274,6 +279,7 @@ settledBy-fine implies true = tt
 pub left-fine : (c : Connective) (v : Value) → FineLeft (left c v)
 left-fine c (boolean b) = settledBy-fine c b
 left-fine c (integer z) = omega arith
+left-fine c (quote n) = omega arith
 left-fine c (collection k vs) = omega arith
 
 pub right-fine : (w : Value) → FineAnswer (right w)

@@ -4,7 +4,7 @@ use mathlib.Core.Option.{Option, none as absent, some}
 use Prim.Native.Nat.{ℕ, _+_, _≤_}
 use lib.Dec.{leb, eqb}
 use lib.IntN.{ℤ}
-use Rattle.values.specs.Value.{Kind, number, Value, boolean, integer, collection, Items, sizes, valueLimit, WellFormed}
+use Rattle.values.specs.Value.{Kind, number, Value, boolean, integer, quote, collection, Items, sizes, valueLimit, WellFormed}
 
 pub data Answer : Type 0 where
   is : Value → Answer
@@ -33,16 +33,19 @@ tooLarge = 28
 abbrev pub asBoolean : Value → Option Bool
 asBoolean (boolean b) = some b
 asBoolean (integer z) = absent
+asBoolean (quote n) = absent
 asBoolean (collection k vs) = absent
 
 abbrev pub asInteger : Value → Option ℤ
 asInteger (boolean b) = absent
 asInteger (integer z) = some z
+asInteger (quote n) = absent
 asInteger (collection k vs) = absent
 
 abbrev pub asKind : Kind → Value → Option Items
 asKind k (boolean b) = absent
 asKind k (integer z) = absent
+asKind k (quote n) = absent
 asKind k (collection l vs) = cond (eqb (number k) (number l)) (some vs) absent
 
 abbrev pub asSet : Value → Option Items

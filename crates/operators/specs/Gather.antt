@@ -3,7 +3,7 @@ use mathlib.Core.Bool.{Bool, true, false, _&&_, _||_, cond}
 use Prim.Native.Nat.{ℕ, zero, suc}
 use lib.Dec.{eqb}
 use lib.IntN.{ℤ, pos, _+ℤ_}
-use Rattle.values.specs.Value.{Kind, number, Value, boolean, integer, collection, Items, none, more}
+use Rattle.values.specs.Value.{Kind, number, Value, boolean, integer, quote, collection, Items, none, more}
 use Rattle.values.specs.Items.{join, insert, enter}
 
 -- ---- items and members
@@ -31,12 +31,14 @@ insertAll vs (more w ws) = insertAll (insert w vs) ws
 abbrev pub itemsIn : Value → Items
 itemsIn (boolean b) = none
 itemsIn (integer z) = none
+itemsIn (quote n) = none
 itemsIn (collection k vs) = vs
 
 -- Is it a collection of this kind?
 abbrev pub isKind : Kind → Value → Bool
 isKind k (boolean b) = false
 isKind k (integer z) = false
+isKind k (quote n) = false
 isKind k (collection l vs) = eqb (number k) (number l)
 
 -- The items of the first, then those of the second, and so on.

@@ -1,7 +1,7 @@
 -- The operators on maps: source 000, section 3.2.3, pages 19 and 20; applying a sequence or a map, page 68.
 use mathlib.Core.Bool.{Bool, true, cond}
 use mathlib.Core.Option.{Option, none as absent, some}
-use Rattle.values.specs.Value.{Kind, set, sequence, map, tuple, Value, boolean, integer, collection, Items, none, keys, mapped}
+use Rattle.values.specs.Value.{Kind, set, sequence, map, tuple, Value, boolean, integer, quote, collection, Items, none, keys, mapped}
 use Rattle.values.specs.Items.{same, isMember, lookup}
 use Rattle.operators.specs.Answer.{Answer, is, refused, wrongKind, clash, asSet, asMap, asInteger, needs, needsBoth, found, sized}
 use Rattle.operators.specs.Gather.{insertAll, everyEntry, keepEntries, enterAll}
@@ -51,4 +51,5 @@ applyItems tuple vs w = refused wrongKind
 abbrev pub applyTo : Value → Value → Answer
 applyTo (boolean b) w = refused wrongKind
 applyTo (integer z) w = refused wrongKind
+applyTo (quote n) w = refused wrongKind
 applyTo (collection k vs) w = applyItems k vs w

@@ -5,7 +5,7 @@ use mathlib.Core.List.{List, [], _∷_, map}
 use Prim.Native.Nat.{ℕ, suc}
 use lib.Dec.{eqb, ltb}
 use lib.ListN.{length}
-use Rattle.values.specs.Value.{Kind, set, sequence, map as mapping, tuple, number, Value, boolean, integer, collection, Items, none, more}
+use Rattle.values.specs.Value.{Kind, set, sequence, map as mapping, tuple, number, Value, boolean, integer, quote, collection, Items, none, more}
 use Rattle.values.specs.Items.{same}
 use Rattle.values.specs.Entries.{Entry, entry, flat}
 use Rattle.patterns.specs.Ways.{gather, exists, Halves, halves, properSplits, cuts, orders}
@@ -43,6 +43,7 @@ itemsOf (v ∷ vs) = more v (itemsOf vs)
 abbrev pub contents : Kind → Value → Option (List Value)
 contents k (boolean b) = absent
 contents k (integer z) = absent
+contents k (quote n) = absent
 contents k (collection l vs) = cond (eqb (number k) (number l)) (some (listOf vs)) absent
 
 -- The entries of items that are key, value, key, value. (A key without its value is left out; no map has one.)

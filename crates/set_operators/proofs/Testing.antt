@@ -7,7 +7,7 @@ use borrow.Author.Tests.{eq-eqb, ne-eqb}
 use lib.ListN.{length}
 use Rattle.prelude.proofs.Absurd.{never}
 use Rattle.integers.specs.Bytes.{word}
-use Rattle.values.specs.Value.{Kind, set, sequence, map, tuple, number, Value, boolean, integer, collection, Items, none, more, kindOf, valueLimit}
+use Rattle.values.specs.Value.{Kind, set, sequence, map, tuple, number, Value, boolean, integer, quote, collection, Items, none, more, kindOf, valueLimit}
 use Rattle.values.specs.Items.{isMember}
 use Rattle.values.specs.Place.{At, ItemsAt}
 use Rattle.values.specs.Contract.{KindAt}
@@ -52,6 +52,7 @@ module _ {I : Type 0} {s : List ℕ} {from to : ℕ} (q : I → Value → Bool) 
 pub set-is : (w : Value) → isKind set w ≡ true → (us : Items) × (w ≡ collection set us)
 set-is (boolean b) e = never e
 set-is (integer z) e = never e
+set-is (quote n) e = never e
 set-is (collection set us) e = (us, refl)
 set-is (collection sequence us) e = never e
 set-is (collection map us) e = never e

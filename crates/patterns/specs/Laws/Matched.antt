@@ -12,7 +12,7 @@ use borrow.Author.Tests.{eq-eqb, eqb-true}
 use Rattle.prelude.proofs.Absurd.{impossible}
 use Rattle.prelude.specs.Membership.{In}
 use Rattle.prelude.proofs.Membership.{in-one, in-left, in-right, in-joined, in-picked, picked-in, map-in, in-map}
-use Rattle.values.specs.Value.{Kind, set, sequence, map as mapping, tuple, number, Value, boolean, integer, collection, Items, none, more}
+use Rattle.values.specs.Value.{Kind, set, sequence, map as mapping, tuple, number, Value, boolean, integer, quote, collection, Items, none, more}
 use Rattle.values.specs.Items.{same}
 use Rattle.values.proofs.Order.{number-inj, same-true, true-same}
 use Rattle.patterns.specs.Ways.{gather, Halves, halves, properSplits, orders}
@@ -157,6 +157,7 @@ contents-of k vs = rw (eq-eqb (number k) (number k) refl) (ap some (list-items v
 pub of-contents : (k : Kind) (v : Value) (vs : List Value) → contents k v ≡ some vs → v ≡ collection k (itemsOf vs)
 of-contents k (boolean b) vs e = impossible cc
 of-contents k (integer z) vs e = impossible cc
+of-contents k (quote n) vs e = impossible cc
 of-contents k (collection l ws) vs e = go (eqb (number k) (number l)) refl e
   where
     go : (t : Bool) → eqb (number k) (number l) ≡ t → cond t (some (listOf ws)) absent ≡ some vs → collection l ws ≡ collection k (itemsOf vs)
