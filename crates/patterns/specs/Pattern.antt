@@ -1,4 +1,4 @@
--- Document 01, kinds 32 to 42 and "Evaluation": patterns, all bindings of a pattern and a value, and where a set or map is too large to split.
+-- Document 01, kinds 32 to 43 and "Evaluation": patterns, all bindings of a pattern and a value, and where a set or map is too large to split.
 use mathlib.Core.Bool.{Bool, true, false, _&&_, _||_, cond}
 use mathlib.Core.Option.{Option, none as absent, some}
 use mathlib.Core.List.{List, [], _∷_, map}
@@ -11,7 +11,7 @@ use Rattle.values.specs.Entries.{Entry, entry, flat}
 use Rattle.patterns.specs.Ways.{gather, exists, Halves, halves, properSplits, cuts, orders}
 use Rattle.patterns.specs.Binding.{Binding, nothing, only, together}
 
--- 32 a name; 33 any; 34 and 35 a literal; 36, 37, 39 and 41 one part for each item, of a tuple, a set, a sequence or a map (key, value, key, value);
+-- 32 a name; 33 any; 34, 35 and 43 a literal; 36, 37, 39 and 41 one part for each item, of a tuple, a set, a sequence or a map (key, value, key, value);
 -- 38, 40 and 42 two parts, for the two halves of a set, a sequence or a map.
 mutual
   pub data Pattern : Type 0 where

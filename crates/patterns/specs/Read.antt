@@ -4,9 +4,9 @@ use mathlib.Core.Bool.{true}
 use mathlib.Core.List.{List, [], _∷_}
 use Prim.Native.Nat.{ℕ, _-_}
 use lib.ListN.{getD}
-use Rattle.values.specs.Value.{set, sequence, map as mapping, tuple, boolean, integer}
+use Rattle.values.specs.Value.{set, sequence, map as mapping, tuple, boolean, integer, quote}
 use Rattle.patterns.specs.Pattern.{Pattern, Patterns, nil, cons, name, any, literal, each, halved}
-use Rattle.tables.specs.Record.{Record, isPattern, booleanOf, integerOf, nameOf}
+use Rattle.tables.specs.Record.{Record, isPattern, booleanOf, integerOf, quoteOf, nameOf}
 use Rattle.tables.specs.Table.{recordAt, kindAt}
 use Rattle.tables.specs.Sheet.{fold}
 use Rattle.tables.specs.Accepted.{records, Fine}
@@ -35,7 +35,8 @@ patterns =
     (λ r ps. each sequence (patternsOf ps)) ∷
     (λ r ps. halved sequence (getD ps 0 any) (getD ps 1 any)) ∷
     (λ r ps. each mapping (patternsOf ps)) ∷
-    (λ r ps. halved mapping (getD ps 0 any) (getD ps 1 any)) ∷ []
+    (λ r ps. halved mapping (getD ps 0 any) (getD ps 1 any)) ∷
+    (λ r ps. literal (quote (quoteOf r))) ∷ []
 
 abbrev pub patternOf : Record → List Pattern → Pattern
 patternOf r ps = getD patterns (r .kind - 32) (λ q qs. any) r ps

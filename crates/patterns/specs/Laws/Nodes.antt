@@ -7,9 +7,9 @@ use native.Mathlib.Omega.{arith}
 use lib.ListN.{length, getD}
 use Rattle.prelude.proofs.Absurd.{never}
 use Rattle.prelude.proofs.Truth.{by-test}
-use Rattle.values.specs.Value.{Value, boolean, integer}
+use Rattle.values.specs.Value.{Value, boolean, integer, quote}
 use Rattle.patterns.specs.Pattern.{Pattern, name, any, literal, each, halved, parts}
-use Rattle.tables.specs.Record.{Record, named, isPattern, isComposed, booleanOf, integerOf, nameOf}
+use Rattle.tables.specs.Record.{Record, named, isPattern, isComposed, booleanOf, integerOf, quoteOf, nameOf}
 use Rattle.tables.specs.Table.{recordAt}
 use Rattle.tables.specs.Laws.Kinds.{by-leaf, by-composed}
 use Rattle.tables.specs.Laws.Below.{OperandsLower, fold-at}
@@ -44,6 +44,9 @@ module _ (r : Record) (ps : List Pattern) where
   pub is-integer-literal : r .kind ≡ 35 → patternOf r ps ≡ literal (integer (integerOf r))
   is-integer-literal e = rw e
 
+  pub is-quote-literal : r .kind ≡ 43 → patternOf r ps ≡ literal (quote (quoteOf r))
+  is-quote-literal e = rw e
+
   -- ---- by the row of the kind
 
   is-each : isComposed (r .kind) ≡ true → isHalved (r .kind) ≡ false → patternOf r ps ≡ each (collectionOf (r .kind)) (patternsOf ps)
@@ -62,6 +65,7 @@ module _ (r : Record) (ps : List Pattern) where
         by-leaf (r .kind) p c (λ e. subst P (sym (is-name e)) (n e)) (λ e. subst P (sym (is-any e)) (a e))
         (λ e. subst P (sym (is-boolean-literal e)) (l (boolean (booleanOf r)) (λ f. absurd (omega arith)) (λ f. absurd (omega arith))))
         (λ e. subst P (sym (is-integer-literal e)) (l (integer (integerOf r)) (λ f. absurd (omega arith)) (λ f. absurd (omega arith))))
+        (λ e. subst P (sym (is-quote-literal e)) (l (quote (quoteOf r)) (λ f. absurd (omega arith)) (λ f. absurd (omega arith))))
 
     -- and what holds of one with a part for each item, and of one with two halves, of a pattern with parts.
     pub on-composed : isComposed (r .kind) ≡ true
