@@ -86,15 +86,14 @@ module _ (table index : List ℕ) (p : ℕ) (r : Readable table index p) where
 
   pub literal-held : (kindAt (records table) p ≡ 32 → ⊥) → (kindAt (records table) p ≡ 33 → ⊥) → isComposed (kindAt (records table) p) ≡ false → LiteralHeld table index p
   literal-held a b k =
-      by-leaf (kindAt (records table) p) (r .pattern) k (λ e. absurd (a e)) (λ e. absurd (b e)) (λ e. record { readable = r; low = omega arith; high = omega arith })
-      (λ e. record { readable = r; low = omega arith; high = omega arith })
+      by-leaf (kindAt (records table) p) (r .pattern) k (λ e. absurd (a e)) (λ e. absurd (b e)) (λ e. record { readable = r; kind = inl e }) (λ e. record { readable = r; kind = inr (inl e) })
+      (λ e. record { readable = r; kind = inr (inr e) })
 
   pub is-literal : LiteralHeld table index p → (w : Value) × (patternAt (records table) p ≡ literal w)
-  is-literal h = go (eqb (kindAt (records table) p) 34) refl
-    where
-      go : (t : Bool) → eqb (kindAt (records table) p) 34 ≡ t → (w : Value) × (patternAt (records table) p ≡ literal w)
-      go true e = (_, by-record ∙ is-boolean-literal (recordAt (records table) p) (innerOf table p) (eqb-true _ _ e))
-      go false e = (_, by-record ∙ is-integer-literal (recordAt (records table) p) (innerOf table p) (omega (arith, h .low, h .high, eqb-false (kindAt (records table) p) 34 e)))
+  is-literal h =
+      ⊎-elim (λ e. (_, by-record ∙ is-boolean-literal (recordAt (records table) p) (innerOf table p) e))
+      (⊎-elim (λ e. (_, by-record ∙ is-integer-literal (recordAt (records table) p) (innerOf table p) e))
+      (λ e. (_, by-record ∙ is-quote-literal (recordAt (records table) p) (innerOf table p) e))) (h .kind)
 
   -- ---- parts
 

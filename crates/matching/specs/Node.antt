@@ -2,6 +2,7 @@
 use mathlib.Core.Path.{_≡_}
 use mathlib.Core.Bool.{Bool, true, false, _||_}
 use mathlib.Core.List.{List, [], map}
+use mathlib.Core.Logic.{_⊎_}
 use Prim.Native.Nat.{ℕ, _+_, _*_, _^_, _≤_, _<_}
 use lib.Dec.{eqb}
 use lib.ListN.{length, getD}
@@ -67,11 +68,10 @@ pub record PieceHeld (c n : ℕ) (s : List ℕ) (p : Part) (d i : ℕ) : Type 0 
 abbrev pub PieceOf : ℕ → ℕ → List ℕ → Part → ℕ → ℕ → Part → Type 0
 PieceOf c n s p d i r = (v z : Value) → PartIs s p v → PartIs s r (getD (getD (meetings c n v) d []) i z)
 
--- A record of kind 34 or 35.
+-- A record of kind 34, 35 or 43.
 pub record LiteralHeld (table index : List ℕ) (p : ℕ) : Type 0 where
   pub readable : Readable table index p
-  pub low : 34 ≤ kindAt (records table) p
-  pub high : kindAt (records table) p ≤ 35
+  pub kind : (kindAt (records table) p ≡ 34) ⊎ ((kindAt (records table) p ≡ 35) ⊎ (kindAt (records table) p ≡ 43))
 
 -- r says whether the part denotes the literal
 abbrev pub LiteralIs : List ℕ → ℕ → List ℕ → Part → Bool → Type 0

@@ -159,7 +159,7 @@ pub fn piece(kind: usize, n: usize, s: &[u8], part: Part, d: usize, i: usize) ->
     parts::item_of_run(s, all, i)
 }
 
-// A part of a value is the literal of a pattern of kind 34 or 35.
+// A part of a value is the literal of a pattern of kind 34, 35 or 43.
 pub fn is_literal(table: &[u8], index: &Index, p: usize, s: &[u8], part: Part) -> bool
     requires { ⌜ LiteralHeld (now table) (now index) p × PartHeld (now s) part ⌝ }
     ensures { λ r. ⌜ LiteralIs (now (table .entry)) p (now (s .entry)) part r ⌝ }
@@ -177,6 +177,13 @@ pub fn is_literal(table: &[u8], index: &Index, p: usize, s: &[u8], part: Part) -
             return w == 1;
         }
         return w != 1;
+    }
+    if kind == kinds::QUOTE_PATTERN {
+        if k != Value::QUOTE {
+            return false;
+        }
+        let n = tables::reading::quote(table, index, p);
+        return n == values::quote_at(s, at);
     }
     if k != Value::INTEGER {
         return false;

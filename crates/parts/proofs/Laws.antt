@@ -13,7 +13,7 @@ use Rattle.integers.specs.Bytes.{word}
 use Rattle.values.specs.Value.{Kind, sequence, number, Value, collection, Items, kindOf, WellFormed}
 use Rattle.values.specs.Place.{At}
 use Rattle.values.proofs.Encoding.{size-low}
-use Rattle.values.proofs.Order.{number-low, number-inj}
+use Rattle.values.proofs.Order.{number-low, number-high, number-inj}
 use Rattle.values.proofs.Records.{is-collection, one-value, one-list, word-size, well-formed-collection}
 use Rattle.values.proofs.Frame.{kept, items-kept, word-kept}
 use Rattle.patterns.specs.Pattern.{listOf, itemsOf, UnitOf, unitsOf, itemsIn}
@@ -165,16 +165,15 @@ as-list k vs = ap (collection k) (sym (items-list vs))
 pub of-kind : (k : Kind) (v : Value) → kindOf v ≡ number k → (vs : List Value) × (v ≡ collection k (itemsOf vs))
 of-kind k v e =
     let low = number-low k in
-    let (l, vs, d) = is-collection v (λ z. omega arith) (λ z. omega arith) in
+    let (l, vs, d) = is-collection v (λ z. omega arith) (λ z. omega arith) (λ z. omega (arith, number-high k)) in
     let n : l ≡ k = number-inj l k (sym (ap kindOf d) ∙ e) in
     (listOf vs, d ∙ as-list l vs ∙ ap (λ (i : Kind). collection i (itemsOf (listOf vs))) n)
 
--- a part of a kind from 3 on denotes a collection
-pub collection-held : {s : List ℕ} {p : Part} {k : ℕ} → KindOfPart s p k → 3 ≤ k → PartHeld s p → CollectionHeld s p
-collection-held {s} {p} c l h =
-    let e = c (h .value) (h .here) in
-    let (k, vs, d) = is-collection (h .value) (λ z. omega arith) (λ z. omega arith) in
-    record { kind = k; items = listOf vs; here = subst (PartIs s p) (d ∙ as-list k vs) (h .here) }
+-- a part of a collection's kind denotes one
+pub collection-held : {s : List ℕ} {p : Part} {n : ℕ} (k : Kind) → KindOfPart s p n → n ≡ number k → PartHeld s p → CollectionHeld s p
+collection-held {s} {p} k c e h =
+    let (vs, d) = of-kind k (h .value) (sym (c (h .value) (h .here)) ∙ e) in
+    record { kind = k; items = vs; here = subst (PartIs s p) d (h .here) }
 
 -- ---- a slice lent on as one of its own
 

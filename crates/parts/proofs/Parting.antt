@@ -14,13 +14,13 @@ use Rattle.prelude.specs.Membership.{In}
 use Rattle.prelude.proofs.Absurd.{true-false}
 use Rattle.integers.specs.declared.Order.{Order}
 use Rattle.integers.specs.declared.Order.the-variants.{Lower, Same, Higher}
-use Rattle.values.specs.Value.{Kind, number, Value, boolean, collection, kindOf, after, order, orderItems, within}
+use Rattle.values.specs.Value.{Kind, sequence, number, Value, boolean, collection, kindOf, after, order, orderItems, within}
 use Rattle.values.specs.Place.{At, ItemsAt, Holds}
 use Rattle.values.specs.Contract.{Length, KindAt, Ordered}
 use Rattle.integers.specs.Order.{orderℕ}
 use Rattle.integers.proofs.Ordered.{lt-lower, gt-higher, eq-same}
-use Rattle.values.proofs.Order.{number-low, order-refl, same-equal}
-use Rattle.values.proofs.Records.{holds, items-to, is-collection}
+use Rattle.values.proofs.Order.{order-refl, same-equal}
+use Rattle.values.proofs.Records.{holds, items-to}
 use Rattle.patterns.specs.Pattern.{listOf, itemsOf, itemsIn}
 use Rattle.patterns.specs.Nodes.{width}
 use Rattle.patterns.specs.Laws.Collected.{items-length}
@@ -30,7 +30,7 @@ use Rattle.parts.specs.Chosen.{everyOne, keep}
 use Rattle.parts.specs.Laws.Chosen.{kept-length, chosen-all, chosen-keep}
 use Rattle.parts.specs.Mask.{WidthOf, ChoosesItems, ItemMask}
 use Rattle.parts.specs.Part.{PartIs, PartHeld, endOf}
-use Rattle.parts.proofs.Laws.{as-list, whole-of, selects-of, selects-low, spans-of, part-one, one-collection, end-span, end-record}
+use Rattle.parts.proofs.Laws.{of-kind, whole-of, selects-of, selects-low, spans-of, part-one, one-collection, end-span, end-record}
 use Rattle.parts.specs.Run.{RunIs, RunHeld, Startable, ReadyRun, RestOf, RunOf, CountOf, SkipHeld, Skipped, OrderedRuns}
 use Rattle.parts.specs.Contract.{KindOfPart, CollectionHeld, CountOfPart, OrderedParts, ItemHeld, ItemOfPart, wholeAt, HasItem}
 use Rattle.parts.proofs.Running.{ready-odd, run-head, run-end, more-less}
@@ -155,20 +155,20 @@ pub whole-order : {s : List ℕ} {p q : Part} {o : Order} → p .how ≡ 1 → q
 whole-order e f c v w x y = c v w (whole-of e x) (whole-of f y)
 
 -- a part that is no whole record is a collection
-apart-kind : {s : List ℕ} {p : Part} {k : ℕ} → KindOfPart s p k → (p .how ≡ 1 → ⊥) → PartHeld s p → 3 ≤ k
+apart-kind : {s : List ℕ} {p : Part} {k : ℕ} → KindOfPart s p k → (p .how ≡ 1 → ⊥) → PartHeld s p → (i : Kind) × (k ≡ number i)
 apart-kind {s} {p} {k} c f h = go (h .value) (h .here) (c (h .value) (h .here))
   where
-    go : (v : Value) → PartIs s p v → k ≡ kindOf v → 3 ≤ k
+    go : (v : Value) → PartIs s p v → k ≡ kindOf v → (i : Kind) × (k ≡ number i)
     go v (inl x) e = absurd (f (x .0))
-    go v (inr (inl x)) e = let d = ap kindOf (x .1 .is) in omega (arith, number-low (x .1 .kind))
-    go v (inr (inr x)) e = let d = ap kindOf (x .1 .is) in omega arith
+    go v (inr (inl x)) e = (x .1 .kind, e ∙ ap kindOf (x .1 .is))
+    go v (inr (inr x)) e = (sequence, e ∙ ap kindOf (x .1 .is))
 
 -- two parts of one kind that are not both whole records are collections
-pub kinds-high : {s : List ℕ} {p q : Part} {k l : ℕ} → KindOfPart s p k → KindOfPart s q l → PartHeld s p → PartHeld s q → (p .how ≡ 1 → q .how ≡ 1 → ⊥) → k ≡ l → 3 ≤ k
-kinds-high {p = p} {q = q} {k = k} cp cq hp hq f e = go (ℕ-discrete (p .how) 1)
+pub kinds-collection : {s : List ℕ} {p q : Part} {k l : ℕ} → KindOfPart s p k → KindOfPart s q l → PartHeld s p → PartHeld s q → (p .how ≡ 1 → q .how ≡ 1 → ⊥) → k ≡ l → (i : Kind) × (k ≡ number i)
+kinds-collection {p = p} {q = q} {k = k} cp cq hp hq f e = go (ℕ-discrete (p .how) 1)
   where
-    go : Dec (p .how ≡ 1) → 3 ≤ k
-    go (yes z) = let n = apart-kind cq (f z) hq in omega arith
+    go : Dec (p .how ≡ 1) → (i : Kind) × (k ≡ number i)
+    go (yes z) = let (i, n) = apart-kind cq (f z) hq in (i, e ∙ n)
     go (no z) = apart-kind cp z hp
 
 -- two collections of one kind are ordered as their items
@@ -176,17 +176,12 @@ pub collections-order : (k l : Kind) (vs ws : List Value) → number k ≡ numbe
 unfolding within
 collections-order k l vs ws e = rw (eq-same (number k) (number l) e)
 
-pub runs-order : {s : List ℕ} {p q : Part} {k l : ℕ} {a b : Run} {o : Order} → KindOfPart s p k → KindOfPart s q l → 3 ≤ k → k ≡ l → RunOf s p a → RunOf s q b → OrderedRuns s a b o → OrderedParts s p q o
-runs-order {s} {p} {q} cp cq h e ra rb c v w x y =
-    let ev = cp v x in
-    let ew = cq w y in
-    let (i, vs, d) = is-collection v (λ z. omega arith) (λ z. omega arith) in
-    let (j, ws, f) = is-collection w (λ z. omega arith) (λ z. omega arith) in
-    let dv = d ∙ as-list i vs in
-    let dw = f ∙ as-list j ws in
-    let n : number i ≡ number j = sym (ap kindOf d) ∙ sym ev ∙ e ∙ ew ∙ ap kindOf f in
-    c (listOf vs) (listOf ws) (ra .right i (listOf vs) (subst (PartIs s p) dv x)) (rb .right j (listOf ws) (subst (PartIs s q) dw y))
-    ∙ sym (ap₂ order dv dw ∙ collections-order i j (listOf vs) (listOf ws) n)
+pub runs-order : {s : List ℕ} {p q : Part} {k l : ℕ} {a b : Run} {o : Order} → KindOfPart s p k → KindOfPart s q l → (i : Kind) × (k ≡ number i) → k ≡ l → RunOf s p a → RunOf s q b → OrderedRuns s a b o → OrderedParts s p q o
+runs-order {s} {p} {q} cp cq (i, h) e ra rb c v w x y =
+    let (vs, d) = of-kind i v (sym (cp v x) ∙ h) in
+    let (ws, f) = of-kind i w (sym (cq w y) ∙ sym e ∙ h) in
+    c vs ws (ra .right i vs (subst (PartIs s p) d x)) (rb .right i ws (subst (PartIs s q) f y))
+    ∙ sym (ap₂ order d f ∙ collections-order i i vs ws refl)
 
 -- ---- `item_of_run`
 

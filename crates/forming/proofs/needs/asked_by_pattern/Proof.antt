@@ -1,5 +1,4 @@
 use native.Mathlib.Omega.{arith}
-use Rattle.values.proofs.Order.{number-low}
 use Rattle.patterns.specs.Nodes.{collectionOf}
 use Rattle.parts.proofs.Laws.{collection-held}
 use Rattle.forming.proofs.Needing.{whole-lacks, nothing-told}
@@ -24,7 +23,7 @@ returns : tie.Need-returns
 returns c = λ z. nothing-told z
 
 count-of-part-requires : tie.Need-count-of-part-requires
-count-of-part-requires c κs = collection-held (c .before .before .kind-of-part .ensures) (omega (arith, c .before .union-of .ensures (c .if1 .left) .1, number-low (collectionOf (c .before .union-of .result)))) (c .before .before .before .before .before .pre .1)
+count-of-part-requires c κs = collection-held (collectionOf (c .before .union-of .result)) (c .before .before .kind-of-part .ensures) (c .before .union-of .ensures (c .if1 .left) .1) (c .before .before .before .before .before .pre .1)
 
 width-requires : tie.Need-width-requires
 width-requires c κs = search needs
@@ -36,7 +35,7 @@ returns-2 : tie.Need-returns-2
 returns-2 c = λ z. nothing-told z
 
 asked-by-tree-requires : tie.Need-asked-by-tree-requires
-asked-by-tree-requires c κs = (c .before .before .before .before .before .before .before .before .pre .0, collection-held (c .before .before .before .before .before .kind-of-part .ensures) (omega (arith, c .before .before .before .before .union-of .ensures (c .before .before .before .if1 .left) .1, number-low (collectionOf (c .before .before .before .before .union-of .result)))) (c .before .before .before .before .before .before .before .before .pre .1), c .before .before .before .before .union-of .ensures (c .before .before .before .if1 .left) .0)
+asked-by-tree-requires c κs = (c .before .before .before .before .before .before .before .before .pre .0, collection-held (collectionOf (c .before .before .before .before .union-of .result)) (c .before .before .before .before .before .kind-of-part .ensures) (c .before .before .before .before .union-of .ensures (c .before .before .before .if1 .left) .1) (c .before .before .before .before .before .before .before .before .pre .1), c .before .before .before .before .union-of .ensures (c .before .before .before .if1 .left) .0)
 
 returns-3 : tie.Need-returns-3
 returns-3 c = λ z. whole-lacks _ _ (c .before .before .before .before .before .union-of .result) _ _ _ _ (c .before .before .before .before .before .before .kind-of-part .ensures) (c .before .before .before .before .before .union-of .ensures (c .before .before .before .before .if1 .left) .1) (c .asked-by-tree .ensures z)
