@@ -1,6 +1,7 @@
 -- The records of patterns: what their kind says of their parts, and how many values a meeting has.
 use mathlib.Core.Path.{_≡_, refl, sym, ap, subst, _∙_}
 use mathlib.Core.Bool.{Bool, true, false, _||_, cond}
+use mathlib.Core.Logic.{⊎-elim, inl, inr}
 use mathlib.Core.Option.{Option, some}
 use mathlib.Core.List.{List, [], _∷_, map}
 use Prim.Native.Nat.{ℕ, zero, suc, _*_, _≤_, _<_}
@@ -30,7 +31,7 @@ use Rattle.patterns.specs.Laws.Orders.{order-length}
 use Rattle.patterns.specs.Read.{Readable, patternsOf, patternOf, patternAt}
 use Rattle.patterns.specs.Laws.Some.{some-at, some-none}
 use Rattle.patterns.specs.Nodes.{collectionOf, width, isHalved, meetings, bothHalves}
-use Rattle.patterns.specs.Laws.Nodes.{is-boolean-literal, is-integer-literal, pattern-at}
+use Rattle.patterns.specs.Laws.Nodes.{is-boolean-literal, is-integer-literal, is-quote-literal, pattern-at}
 use Rattle.matching.specs.declared.nodes.Meeting.{Meeting}
 use Rattle.matching.specs.Node.{LiteralHeld, Meets, innerOf}
 use Rattle.matching.proofs.Counting.{contents-other, contents-same, width-range, in-turn}

@@ -26,43 +26,43 @@ cast-at : tie.Need-cast-at
 cast-at c = search needs
 
 returns : tie.Need-returns
-returns c = other-truth _ _ _ (@pre .0) _ _ _ (@kind-of-part .ensures) (sym (@kind .ensures .0) ∙ @if1 .taken) (@if2 .taken)
+returns c = other-truth _ _ _ (c .before .before .before .before .before .before .before .pre .0) _ _ _ (c .before .before .before .kind-of-part .ensures) (sym (c .before .before .before .before .kind .ensures .0) ∙ c .before .if1 .taken) (c .if2 .taken)
 
 field-requires : tie.Need-field-requires
-field-requires c κs = truth-field _ _ _ (@pre .0) (sym (@kind .ensures .0) ∙ @if1 .taken)
+field-requires c κs = truth-field _ _ _ (c .before .before .before .before .before .before .before .pre .0) (sym (c .before .before .before .before .kind .ensures .0) ∙ c .before .if1 .taken)
 
 boolean-at-requires : tie.Need-boolean-at-requires
-boolean-at-requires c κs = of-kind _ _ _ (@pre .0) _ _ _ (@kind-of-part .ensures) (inl (omega arith)) _ (@if2 .left) (@pre .1)
+boolean-at-requires c κs = of-kind _ _ _ (c .before .before .before .before .before .before .before .before .pre .0) _ _ _ (c .before .before .before .before .kind-of-part .ensures) (inl (omega arith)) _ (c .before .if2 .left) (c .before .before .before .before .before .before .before .before .pre .1)
 
 returns-2 : tie.Need-returns-2
-returns-2 c = both-true _ _ _ (@pre .0) _ _ _ (@kind-of-part .ensures) (inl (omega arith)) _ (sym (@kind .ensures .0) ∙ @if1 .taken) (@boolean-at .ensures) _ (@field .ensures .0) (@if3 .taken)
+returns-2 c = both-true _ _ _ (c .before .before .before .before .before .before .before .before .before .before .pre .0) _ _ _ (c .before .before .before .before .before .before .kind-of-part .ensures) (inl (omega arith)) _ (sym (c .before .before .before .before .before .before .before .kind .ensures .0) ∙ c .before .before .before .before .if1 .taken) (c .before .boolean-at .ensures) _ (c .before .before .field .ensures .0) (c .if3 .taken)
 
 returns-3 : tie.Need-returns-3
-returns-3 c = both-false _ _ _ (@pre .0) _ _ _ (@kind-of-part .ensures) (inl (omega arith)) _ (sym (@kind .ensures .0) ∙ @if1 .taken) (@boolean-at .ensures) _ (@field .ensures .0) (@if3 .left)
+returns-3 c = both-false _ _ _ (c .before .before .before .before .before .before .before .before .before .before .pre .0) _ _ _ (c .before .before .before .before .before .before .kind-of-part .ensures) (inl (omega arith)) _ (sym (c .before .before .before .before .before .before .before .kind .ensures .0) ∙ c .before .before .before .before .if1 .taken) (c .before .boolean-at .ensures) _ (c .before .before .field .ensures .0) (c .if3 .left)
 
 returns-4 : tie.Need-returns-4
-returns-4 c = other-quote _ _ _ (@pre .0) _ _ _ (@kind-of-part .ensures) (sym (@kind .ensures .0) ∙ @if4 .taken) (@if5 .taken)
+returns-4 c = other-quote _ _ _ (c .before .before .before .before .before .before .before .before .pre .0) _ _ _ (c .before .before .before .before .kind-of-part .ensures) (sym (c .before .before .before .before .before .kind .ensures .0) ∙ c .before .if4 .taken) (c .if5 .taken)
 
 quote-requires : tie.Need-quote-requires
-quote-requires c κs = quote-field _ _ _ (@pre .0) (sym (@kind .ensures .0) ∙ @if4 .taken)
+quote-requires c κs = quote-field _ _ _ (c .before .before .before .before .before .before .before .before .pre .0) (sym (c .before .before .before .before .before .kind .ensures .0) ∙ c .before .if4 .taken)
 
 quote-at-requires : tie.Need-quote-at-requires
-quote-at-requires c κs = of-kind _ _ _ (@pre .0) _ _ _ (@kind-of-part .ensures) (inr (omega arith)) _ (@if5 .left) (@pre .1)
+quote-at-requires c κs = of-kind _ _ _ (c .before .before .before .before .before .before .before .before .before .pre .0) _ _ _ (c .before .before .before .before .before .kind-of-part .ensures) (inr (omega arith)) _ (c .before .if5 .left) (c .before .before .before .before .before .before .before .before .before .pre .1)
 
 returns-5 : tie.Need-returns-5
-returns-5 c = both-quote _ _ _ (@pre .0) _ _ _ (@kind-of-part .ensures) (inr (omega arith)) _ _ (sym (@kind .ensures .0) ∙ @if4 .taken) (@quote-at .ensures) (@quote .ensures .0)
+returns-5 c = both-quote _ _ _ (c .before .before .before .before .before .before .before .before .before .before .pre .0) _ _ _ (c .before .before .before .before .before .before .kind-of-part .ensures) (inr (omega arith)) _ _ (sym (c .before .before .before .before .before .before .before .kind .ensures .0) ∙ c .before .before .before .if4 .taken) (c .quote-at .ensures) (c .before .quote .ensures .0)
 
 returns-6 : tie.Need-returns-6
-returns-6 c = other-whole _ _ _ (@pre .0) _ _ _ (@kind-of-part .ensures) (the-integer _ _ _ (@pre .0) (λ e. @if1 .left (@kind .ensures .0 ∙ e)) (λ e. @if4 .left (@kind .ensures .0 ∙ e))) (@if6 .taken)
+returns-6 c = other-whole _ _ _ (c .before .before .before .before .before .before .before .before .pre .0) _ _ _ (c .before .before .before .before .kind-of-part .ensures) (the-integer _ _ _ (c .before .before .before .before .before .before .before .before .pre .0) (λ e. c .before .before .if1 .left (c .before .before .before .before .before .kind .ensures .0 ∙ e)) (λ e. c .before .if4 .left (c .before .before .before .before .before .kind .ensures .0 ∙ e))) (c .if6 .taken)
 
 integer-requires : tie.Need-integer-requires
-integer-requires c κs = whole-field _ _ _ (@pre .0) (the-integer _ _ _ (@pre .0) (λ e. @if1 .left (@kind .ensures .0 ∙ e)) (λ e. @if4 .left (@kind .ensures .0 ∙ e)))
+integer-requires c κs = whole-field _ _ _ (c .before .before .before .before .before .before .before .before .pre .0) (the-integer _ _ _ (c .before .before .before .before .before .before .before .before .pre .0) (λ e. c .before .before .if1 .left (c .before .before .before .before .before .kind .ensures .0 ∙ e)) (λ e. c .before .if4 .left (c .before .before .before .before .before .kind .ensures .0 ∙ e)))
 
 integer-at-requires : tie.Need-integer-at-requires
-integer-at-requires c κs = of-kind _ _ _ (@pre .0) _ _ _ (@kind-of-part .ensures) (inl (omega arith)) _ (@if6 .left) (@pre .1)
+integer-at-requires c κs = of-kind _ _ _ (c .before .before .before .before .before .before .before .before .before .pre .0) _ _ _ (c .before .before .before .before .before .kind-of-part .ensures) (inl (omega arith)) _ (c .before .if6 .left) (c .before .before .before .before .before .before .before .before .before .pre .1)
 
 returns-7 : tie.Need-returns-7
-returns-7 c = both-whole _ _ _ (@pre .0) _ _ _ (@kind-of-part .ensures) (inl (omega arith)) _ _ (the-integer _ _ _ (@pre .0) (λ e. @if1 .left (@kind .ensures .0 ∙ e)) (λ e. @if4 .left (@kind .ensures .0 ∙ e))) (@integer-at .ensures) (@integer .ensures) (record { sfits = @integer .ok }) (record { sfits = @integer-at .ok })
+returns-7 c = both-whole _ _ _ (c .before .before .before .before .before .before .before .before .before .before .pre .0) _ _ _ (c .before .before .before .before .before .before .kind-of-part .ensures) (inl (omega arith)) _ _ (the-integer _ _ _ (c .before .before .before .before .before .before .before .before .before .before .pre .0) (λ e. c .before .before .before .before .if1 .left (c .before .before .before .before .before .before .before .kind .ensures .0 ∙ e)) (λ e. c .before .before .before .if4 .left (c .before .before .before .before .before .before .before .kind .ensures .0 ∙ e))) (c .integer-at .ensures) (c .before .integer .ensures) (record { sfits = c .before .integer .ok }) (record { sfits = c .integer-at .ok })
 
 pub is-literal-spec : {M : Type 1} → statement M
 is-literal-spec =
