@@ -7,7 +7,7 @@ use native.Mathlib.Omega.{arith}
 use lib.ListN.{length, getD, take, drop, length-drop}
 use lib.Seq.{getD-drop}
 use Rattle.integers.specs.Bytes.{word, bits32, ofBits, integerAt}
-use Rattle.tables.specs.Record.{lastKind, size, headOf, field, named, operand, integerOf, quoteOf, isFit}
+use Rattle.tables.specs.Record.{lastKind, size, headOf, field, named, operand, integerOf, isFit}
 use Rattle.tables.specs.Table.{recordAt, kindAt}
 use Rattle.tables.specs.Check.{mostRecords}
 use Rattle.tables.specs.Shapes.{firstOf, rolesOf}
@@ -88,7 +88,7 @@ module _ (table index : List ℕ) (r : ℕ) (h : Here table index r) where
   pub field-within : (i : ℕ) → i < length (recordAt (records table) r .fields) → placeIn (getD index r 0) + (4 + i) < length table
   field-within i has = omega (arith, stands .fits)
 
-  -- Fields as they stand in the part that begins where the record was read to begin: one, two as a number, and the literals.
+  -- Fields as they stand in the part that begins where the record was read to begin: one, two as a number (a quote's), and four as an integer.
   module _ (at : ℕ) (e : at ≡ placeIn (getD index r 0)) where
     pub byte-is : (i : ℕ) → i < length (recordAt (records table) r .fields) → getD (take (length table - at) (drop at table)) (4 + i) 0 ≡ field (recordAt (records table) r) i
     byte-is i has =
@@ -96,13 +96,10 @@ module _ (table index : List ℕ) (r : ℕ) (h : Here table index r) where
         ∙ ap (λ (k : ℕ). getD table k 0) (plus-four (placeIn (getD index r 0)) i)
         ∙ stands .field i has
 
-    word-is : (i : ℕ) → i + 1 < length (recordAt (records table) r .fields) → word (take (length table - at) (drop at table)) (4 + i) ≡ word (recordAt (records table) r .fields) i
+    pub word-is : (i : ℕ) → i + 1 < length (recordAt (records table) r .fields) → word (take (length table - at) (drop at table)) (4 + i) ≡ word (recordAt (records table) r .fields) i
     word-is i has =
         let next : 4 + i + 1 ≡ 4 + (i + 1) = omega arith in
         omega (arith, byte-is i (omega arith), ap (λ (k : ℕ). getD (take (length table - at) (drop at table)) k 0) next ∙ byte-is (i + 1) has)
-
-    pub quote-is : 1 < length (recordAt (records table) r .fields) → word (take (length table - at) (drop at table)) 4 ≡ quoteOf (recordAt (records table) r)
-    quote-is has = word-is 0 has
 
     pub integer-is : 3 < length (recordAt (records table) r .fields) → integerAt (take (length table - at) (drop at table)) 4 ≡ integerOf (recordAt (records table) r)
     integer-is has =

@@ -1,5 +1,5 @@
 -- The number is the two fields.
-use Rattle.tables.proofs.Stand.{rest-long, in-index, four-there, field-within, quote-is}
+use Rattle.tables.proofs.Stand.{rest-long, in-index, four-there, field-within, word-is}
 use native.Mathlib.Omega.{arith}
 use mathlib.Core.Path.{_∙_}
 use borrow.Author.Needs.{needs}
@@ -22,7 +22,7 @@ read16-requires : tie.Need-read16-requires
 read16-requires c κs = omega (arith, field-within (c .before .before .before .args .table .now) (c .before .before .before .args .index .now) (c .before .before .before .args .r) (c .before .before .before .pre .here) 1 (c .before .before .before .pre .has), c .before .place .ensures, rest-long (c .before .before .before .args .table .now) (c .before .place .result))
 
 returns : tie.Need-returns
-returns c = (c .read16 .ensures .is ∙ quote-is (c .before .before .before .before .args .table .now) (c .before .before .before .before .args .index .now) (c .before .before .before .before .args .r) (c .before .before .before .before .pre .here) (c .before .before .place .result) (c .before .before .place .ensures) (c .before .before .before .before .pre .has), c .read16 .ensures .low)
+returns c = (c .read16 .ensures .is ∙ word-is (c .before .before .before .before .args .table .now) (c .before .before .before .before .args .index .now) (c .before .before .before .before .args .r) (c .before .before .before .before .pre .here) (c .before .before .place .result) (c .before .before .place .ensures) 0 (c .before .before .before .before .pre .has), c .read16 .ensures .low)
 
 pub quote-spec : {M : Type 1} → statement M
 quote-spec =
