@@ -9,7 +9,7 @@ use mathlib.Core.List.{List, [], _∷_, _++_}
 use Prim.Native.Nat.{ℕ}
 use Rattle.prelude.specs.Membership.{In}
 use Rattle.choices.specs.Outcome.{value}
-use Rattle.values.specs.Value.{set, sequence, map, Value, boolean, integer, collection, Items, none, more}
+use Rattle.values.specs.Value.{set, sequence, map, Value, boolean, integer, quote, collection, Items, none, more}
 use Rattle.values.specs.Items.{lookup}
 use Rattle.operators.specs.Answer.{is}
 use Rattle.operators.specs.Enumerations.{setOf, sequenceOf, mapOf}
@@ -61,6 +61,7 @@ abbrev pub Integers : Items → Type 0
 Integers none = Unit {0}
 Integers (more (boolean b) vs) = ⊥
 Integers (more (integer z) vs) = Integers vs
+Integers (more (quote n) vs) = ⊥
 Integers (more (collection k us) vs) = ⊥
 
 -- ---- of a binder's record

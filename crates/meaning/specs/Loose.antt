@@ -12,7 +12,7 @@ use lib.Dec.{eqb}
 use lib.ListN.{length}
 use Rattle.prelude.specs.Membership.{In}
 use Rattle.choices.specs.Outcome.{Outcome, value, refusal}
-use Rattle.values.specs.Value.{Kind, set, sequence, map, Value, boolean, integer, collection, Items, none, more}
+use Rattle.values.specs.Value.{Kind, set, sequence, map, Value, boolean, integer, quote, collection, Items, none, more}
 use Rattle.operators.specs.Answer.{Answer, is, refused, Built, built, stopped, asBoolean, asInteger, asSet}
 use Rattle.operators.specs.Booleans.{Left, settles, leaves, left, right}
 use Rattle.operators.specs.Sets.{rangeOf}
@@ -22,7 +22,7 @@ use Rattle.operators.specs.Operators.{unary, binary}
 use Rattle.patterns.specs.Binding.{Binding}
 use Rattle.patterns.specs.Pattern.{Pattern, listOf}
 use Rattle.patterns.specs.Binder.{Formed, bound, refused as unformed, formed}
-use Rattle.meaning.specs.Node.{Node, Quantifier, forall, exists, exists1, truth, whole, named, unaryOf, binaryOf, connective, if, enumeration, range, let-in, let-be, quantified, iota, set-comprehension, sequence-comprehension, map-comprehension, application, no-expression}
+use Rattle.meaning.specs.Node.{Node, Quantifier, forall, exists, exists1, truth, whole, named, unaryOf, binaryOf, connective, if, enumeration, range, let-in, let-be, quantified, iota, set-comprehension, sequence-comprehension, map-comprehension, application, quoted, no-expression}
 use Rattle.meaning.specs.State.{State, under, valueIn}
 use Rattle.meaning.specs.Sheet.{Sheet, enumerated, patternName}
 
@@ -199,6 +199,7 @@ looseOf pattern rec r (sequence-comprehension p s c e) ρ =
 looseOf pattern rec r (map-comprehension p s c k e) ρ =
     bindingsOf rec r (pattern p) s ρ then (λ bs. comprehension rec r map c ρ (addPair rec r k e ρ) bs)
 looseOf pattern rec r (application a b) ρ = bothOf rec a b ρ (λ v w. at r (applyTo v w))
+looseOf pattern rec r (quoted n) ρ = gives (quote n)
 looseOf pattern rec r no-expression ρ = refuses 20 r
 
 unfoldable pub looseTo : Sheet → ℕ → ℕ → State → Outcomes Value

@@ -7,7 +7,7 @@ use Prim.Native.Nat.{ℕ, zero, suc}
 use lib.Dec.{eqb}
 use lib.ListN.{length, getD}
 use Rattle.choices.specs.Tree.{Tree, give, stop, choose, bind}
-use Rattle.values.specs.Value.{Kind, set, sequence, map, Value, boolean, integer, collection, Items, none, more}
+use Rattle.values.specs.Value.{Kind, set, sequence, map, Value, boolean, integer, quote, collection, Items, none, more}
 use Rattle.operators.specs.Answer.{Answer, is, refused, Built, built, stopped, asBoolean, asInteger, asSet}
 use Rattle.operators.specs.Booleans.{Left, settles, leaves, left, right}
 use Rattle.operators.specs.Sets.{rangeOf}
@@ -17,7 +17,7 @@ use Rattle.operators.specs.Operators.{unary, binary}
 use Rattle.patterns.specs.Binding.{Binding, nothing}
 use Rattle.patterns.specs.Pattern.{Pattern, loose, listOf}
 use Rattle.patterns.specs.Binder.{Formed, bound, refused as unformed, formed}
-use Rattle.meaning.specs.Node.{Node, Quantifier, forall, exists, exists1, truth, whole, named, unaryOf, binaryOf, connective, if, enumeration, range, let-in, let-be, quantified, iota, set-comprehension, sequence-comprehension, map-comprehension, application, no-expression}
+use Rattle.meaning.specs.Node.{Node, Quantifier, forall, exists, exists1, truth, whole, named, unaryOf, binaryOf, connective, if, enumeration, range, let-in, let-be, quantified, iota, set-comprehension, sequence-comprehension, map-comprehension, application, quoted, no-expression}
 use Rattle.meaning.specs.State.{State, under, valueIn}
 pub use Rattle.meaning.specs.Sheet.{Sheet, enumerated, patternName}
 
@@ -170,6 +170,7 @@ means pattern rec r (sequence-comprehension p s c e) ρ =
 means pattern rec r (map-comprehension p s c k e) ρ =
     bind (bindingsOf rec r (pattern p) s ρ) (λ bs. comprehension rec r map c ρ (addPair rec r k e ρ) bs)
 means pattern rec r (application a b) ρ = bothOf rec a b ρ (λ v w. at r (applyTo v w))
+means pattern rec r (quoted n) ρ = give (quote n)
 means pattern rec r no-expression ρ = stop 20 r
 
 -- ---- a sheet

@@ -38,5 +38,7 @@ pub data Node : Type 0 where
   map-comprehension : ℕ → ℕ → ℕ → ℕ → ℕ → Node
   -- [21] sequence or map, argument
   application : ℕ → ℕ → Node
+  -- [22] quote literal
+  quoted : ℕ → Node
   -- a pattern's record, which is never evaluated
   no-expression : Node

@@ -12,7 +12,7 @@ use Rattle.operators.specs.Enumerations.{addMember, addItem}
 use Rattle.patterns.specs.Binding.{Binding}
 use Rattle.patterns.specs.Pattern.{loose}
 use Rattle.patterns.specs.Binder.{formed}
-use Rattle.meaning.specs.Node.{Node, Quantifier, forall, exists, exists1, truth, whole, named, unaryOf, binaryOf, connective, if, enumeration, range, let-in, let-be, quantified, iota, set-comprehension, sequence-comprehension, map-comprehension, application, no-expression}
+use Rattle.meaning.specs.Node.{Node, Quantifier, forall, exists, exists1, truth, whole, named, unaryOf, binaryOf, connective, if, enumeration, range, let-in, let-be, quantified, iota, set-comprehension, sequence-comprehension, map-comprehension, application, quoted, no-expression}
 use Rattle.meaning.specs.State.{State, unbound, under}
 use Rattle.meaning.specs.Meaning.{Sheet, Evaluation, meaning, isTrue, formedAt, bindingsOf, integerBindings, holds, satisfying, matched, satisfied, addOne, addPair}
 use Rattle.meaning.specs.Read.{sheet}
@@ -133,6 +133,7 @@ module _ (s : Sheet) (r : ℕ) where
       evaluates t ρ also after (integerBindings rec r (s .pattern p) t ρ) (λ bs. collected c ρ (element e ρ) (addOne rec r addItem e ρ) none bs)
   evaluated (map-comprehension p t c k e) ρ = binder p t ρ (λ bs. collected c ρ (pair k e ρ) (addPair rec r k e ρ) none bs)
   evaluated (application a b) ρ = bothOf a b ρ
+  evaluated (quoted n) ρ = nowhere
   evaluated no-expression ρ = nowhere
 
 -- Evaluating at the point x comes to the point y, of a record that the record of x names.

@@ -6,10 +6,10 @@ use lib.ListN.{length, getD}
 use mathlib.Core.Bool.{cond}
 use Rattle.values.specs.Value.{set, sequence, map, tuple}
 use Rattle.operators.specs.Booleans.{and, or, implies}
-use Rattle.tables.specs.Record.{Record, booleanOf, integerOf, nameOf, operator, operand, named as operandsOf}
+use Rattle.tables.specs.Record.{Record, booleanOf, integerOf, quoteOf, nameOf, operator, operand, named as operandsOf}
 use Rattle.tables.specs.Table.{cut, recordAt}
 use Rattle.patterns.specs.Read.{patternAt}
-use Rattle.meaning.specs.Node.{Node, forall, exists, exists1, truth, whole, named, unaryOf, binaryOf, connective, if, enumeration, range, let-in, let-be, quantified, iota, set-comprehension, sequence-comprehension, map-comprehension, application, no-expression}
+use Rattle.meaning.specs.Node.{Node, forall, exists, exists1, truth, whole, named, unaryOf, binaryOf, connective, if, enumeration, range, let-in, let-be, quantified, iota, set-comprehension, sequence-comprehension, map-comprehension, application, quoted, no-expression}
 use Rattle.meaning.specs.Sheet.{Sheet}
 
 -- ---- expressions
@@ -46,7 +46,8 @@ nodes =
     (λ r. set-comprehension (operand r 0) (operand r 1) (operand r 2) (operand r 3)) ∷
     (λ r. sequence-comprehension (operand r 0) (operand r 1) (operand r 2) (operand r 3)) ∷
     (λ r. map-comprehension (operand r 0) (operand r 1) (operand r 2) (operand r 3) (operand r 4)) ∷
-    (λ r. application (operand r 0) (operand r 1)) ∷ []
+    (λ r. application (operand r 0) (operand r 1)) ∷
+    (λ r. quoted (quoteOf r)) ∷ []
 
 unfoldable pub nodeOf : Record → Node
 nodeOf r = getD nodes (r .kind) none r

@@ -7,12 +7,12 @@ use native.Mathlib.Omega.{arith}
 use lib.Dec.{leb}
 use lib.ListN.{length, getD, take, drop, length-drop}
 use lib.Seq.{length-take-le, getD-take, getD-drop}
-use borrow.Author.Tests.{leb-true}
+use borrow.Author.Tests.{leb-true, le-leb}
 use mathlib.Mathlib.Data.Bool.Basic.{and-elim-left}
 use Rattle.integers.specs.Bytes.{word, bits32, integerAt}
 use Rattle.integers.specs.Whole.{inRange}
 use Rattle.integers.proofs.Written.{bits-range}
-use Rattle.tables.specs.Record.{Record, Head, nothing, boolean, integer, quote, name, unary, binary, unknown, Shape, lastKind, shape, isExpression, isPattern, size, headOf, field, integerOf, fits, isKnown, isFit}
+use Rattle.tables.specs.Record.{Record, Head, nothing, boolean, integer, quote, name, unary, binary, unknown, Shape, lastKind, shape, isExpression, isPattern, size, headOf, field, fits, isKnown, isFit}
 use Rattle.tables.specs.Table.{firstRecord}
 use Rattle.tables.specs.Shapes.{isTested, knownFirst}
 use Rattle.prelude.proofs.Absurd.{never}
@@ -32,15 +32,19 @@ bytes-range : (fs : List ℕ) → ((i : ℕ) → i < 4 → getD fs i 0 < 256) �
 bytes-range fs small =
     bits-range (bits32 fs 0) (omega (arith, small 0 (omega arith), small 1 (omega arith), small 2 (omega arith), small 3 (omega arith)))
 
-known-first : (h : Head) (r : Record) → (h ≡ integer → inRange (integerOf r) ≡ true) → isKnown h r ≡ knownFirst h (field r 0)
-known-first nothing r e = refl
-known-first boolean r e = refl
-known-first integer r e = e refl
-known-first quote r e = refl
-known-first name r e = refl
-known-first unary r e = refl
-known-first binary r e = refl
-known-first unknown r e = refl
+-- Two bytes are a quote.
+bytes-quote : (fs : List ℕ) → ((i : ℕ) → i < 2 → getD fs i 0 < 256) → leb (word fs 0) 65535 ≡ true
+bytes-quote fs small = le-leb (word fs 0) 65535 (omega (arith, small 0 (omega arith), small 1 (omega arith)))
+
+known-first : (h : Head) (r : Record) → ((i : ℕ) → i < size h → field r i < 256) → isKnown h r ≡ knownFirst h (field r 0)
+known-first nothing r small = refl
+known-first boolean r small = refl
+known-first integer r small = bytes-range (r .fields) small
+known-first quote r small = bytes-quote (r .fields) small
+known-first name r small = refl
+known-first unary r small = refl
+known-first binary r small = refl
+known-first unknown r small = refl
 
 pub fit-beyond : (bytes : List ℕ) → lastKind < word bytes 2 → false ≡ isFit (firstRecord bytes)
 fit-beyond bytes h = go (isFit (firstRecord bytes)) refl
@@ -74,20 +78,17 @@ module _ (bytes : List ℕ) (len : ℕ) (is : len ≡ word bytes 0) (four : 4 �
       let s : Shape = shape (word bytes 2) in
       omega (arith, leb-true (size (s .head) + s .least) (len - 4) (and-elim-left _ (leb (len - 4) (size (s .head) + length (s .roles))) (and-elim-left _ _ (sym e))))
 
-  integer-long : true ≡ fits (shape (word bytes 2)) (len - 4) → headOf (firstRecord bytes) ≡ integer → 4 ≤ len - 4
-  integer-long e i = omega (arith, head-within e, ap size i)
-
   fit-empty : true ≡ fits (shape (word bytes 2)) (len - 4) → len ≡ 4 → isFit (firstRecord bytes) ≡ knownFirst (shape (word bytes 2) .head) 0
   fit-empty e l =
       known-fit e
-      ∙ known-first (headOf (firstRecord bytes)) (firstRecord bytes) (λ i. absurd (omega (arith, integer-long e i)))
+      ∙ known-first (headOf (firstRecord bytes)) (firstRecord bytes) (λ i h. absurd (omega (arith, head-within e)))
       ∙ ap (λ (n : ℕ). knownFirst (headOf (firstRecord bytes)) (getD (take (n - 4) (drop 4 bytes)) 0 0)) (sym is ∙ l)
 
   pub fit-first : true ≡ fits (shape (word bytes 2)) (len - 4) → 4 < len → ((i : ℕ) → getD bytes i 0 < 256) → isFit (firstRecord bytes) ≡ knownFirst (shape (word bytes 2) .head) (getD bytes 4 0)
   fit-first e l small =
       known-fit e
       ∙ known-first (headOf (firstRecord bytes)) (firstRecord bytes)
-      (λ i. bytes-range (firstRecord bytes .fields) (λ k h. rw (field-at k (omega (arith, integer-long e i))) (small (4 + k))))
+      (λ i h. rw (field-at i (omega (arith, head-within e))) (small (4 + i)))
       ∙ ap (knownFirst (headOf (firstRecord bytes))) (field-at 0 (omega arith))
 
   module _ (fit : true ≡ fits (shape (word bytes 2)) (len - 4)) (known : word bytes 2 ≤ lastKind) where

@@ -226,12 +226,13 @@ abbrev pub fits : Shape → ℕ → Bool
 fits s n =
     leb (size (s .head) + s .least) n && leb n (size (s .head) + length (s .roles)) && eqb ((n - (size (s .head) + s .least)) % s .step) 0
 
--- The literal, name or operator is known: booleans are 0 and 1, names 0 to 15, unary operators 1 to 15, binary ones 1 to 28; every quote is.
+-- The literal, name or operator is known: booleans are 0 and 1, names 0 to 15, unary operators 1 to 15, binary ones 1 to 28. (Every four
+-- bytes are an integer in range, every two a quote.)
 abbrev pub isKnown : Head → Record → Bool
 isKnown nothing r = true
 isKnown boolean r = leb (field r 0) 1
 isKnown integer r = inRange (integerOf r)
-isKnown quote r = true
+isKnown quote r = leb (quoteOf r) 65535
 isKnown name r = leb (nameOf r) 15
 isKnown unary r = leb 1 (operator r) && leb (operator r) 15
 isKnown binary r = leb 1 (operator r) && leb (operator r) 28

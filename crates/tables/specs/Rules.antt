@@ -12,7 +12,7 @@ use Rattle.tables.specs.declared.Role.{Role}
 use Rattle.tables.specs.declared.Role.the-variants.{Plain, Condition, Body, Pattern, Name}
 use Rattle.tables.specs.declared.Checked.the-variants.{Accepted, Refused}
 use Rattle.tables.specs.Limits.{mostBytes, mostRecords, mostHeight}
-use Rattle.tables.specs.Record.{Record, expression, pattern, Head, nothing, boolean, integer, quote, name, unary, binary, unknown, Shape, shape, size, headOf, field, nameOf, operator, integerOf, named, operand, roleAt}
+use Rattle.tables.specs.Record.{Record, expression, pattern, Head, nothing, boolean, integer, quote, name, unary, binary, unknown, Shape, shape, size, headOf, field, nameOf, operator, integerOf, quoteOf, named, operand, roleAt}
 use Rattle.tables.specs.Table.{firstRecord, recordAt, kindAt}
 use Rattle.tables.specs.Check.{check}
 
@@ -37,7 +37,7 @@ abbrev pub Known : Head → Record → Type 0
 Known nothing x = Unit {0}
 Known boolean x = field x 0 ≤ 1
 Known integer x = InRange (integerOf x)
-Known quote x = Unit {0}
+Known quote x = quoteOf x ≤ 65535
 Known name x = nameOf x ≤ 15
 Known unary x = (1 ≤ operator x) × (operator x ≤ 15)
 Known binary x = (1 ≤ operator x) × (operator x ≤ 28)

@@ -13,7 +13,7 @@ use Rattle.prelude.proofs.Membership.{at-in}
 use Rattle.choices.specs.Tree.{Tree, give, stop, bind, Gives}
 use Rattle.choices.specs.Outcome.{Outcome, value, refusal}
 use Rattle.choices.proofs.Trees.{gives-bind-in, gives-bind-out}
-use Rattle.values.specs.Value.{Kind, set, sequence, map, Value, boolean, integer, collection, Items, none, more}
+use Rattle.values.specs.Value.{Kind, set, sequence, map, Value, boolean, integer, quote, collection, Items, none, more}
 use Rattle.operators.specs.Answer.{Answer, is, refused, Built, built, stopped, asBoolean, asInteger, asSet}
 use Rattle.operators.specs.Booleans.{Left, settles, leaves, left, right}
 use Rattle.operators.specs.Sets.{rangeOf}
@@ -24,7 +24,7 @@ use Rattle.patterns.specs.Binding.{Binding, nothing}
 use Rattle.patterns.specs.Pattern.{Pattern, loose as isLoose, listOf}
 use Rattle.patterns.specs.Binder.{Formed, bound, refused as unformed, formed}
 use Rattle.patterns.specs.Laws.Forming.{single-formed}
-use Rattle.meaning.specs.Node.{Node, Quantifier, forall, exists, exists1, truth, whole, named, unaryOf, binaryOf, connective, if, enumeration, range, let-in, let-be, quantified, iota, set-comprehension, sequence-comprehension, map-comprehension, application, no-expression}
+use Rattle.meaning.specs.Node.{Node, Quantifier, forall, exists, exists1, truth, whole, named, unaryOf, binaryOf, connective, if, enumeration, range, let-in, let-be, quantified, iota, set-comprehension, sequence-comprehension, map-comprehension, application, quoted, no-expression}
 use Rattle.meaning.specs.State.{State, under, valueIn}
 use Rattle.meaning.specs.Meaning as tree
 use Rattle.meaning.specs.Sheet.{Sheet, enumerated, patternName}
@@ -247,6 +247,7 @@ module _ (rec : tree.Evaluation) (Rec : loose.Meanings) (agrees : (a : ℕ) (ρ 
       same-bind (tree.bindingsOf rec r (pattern p) s ρ) (loose.bindingsOf Rec r (pattern p) s ρ) _ _ (same-bindings r (pattern p) s ρ)
       (λ bs. same-comprehension r map c ρ _ _ (same-pair-added r k e ρ) bs)
   same-node pattern r (application a b) ρ = same-both a b ρ _ _ (λ v w. same-at r (applyTo v w))
+  same-node pattern r (quoted n) ρ = same-give (quote n)
   same-node pattern r no-expression ρ = same-stop 20 r
 
 same-to : (s : Sheet) (n r : ℕ) (ρ : State) → Same (tree.meaningTo s n r ρ) (loose.looseTo s n r ρ)

@@ -13,7 +13,7 @@ use Rattle.prelude.specs.Membership.{In}
 use Rattle.prelude.proofs.Membership.{at-in}
 use Rattle.choices.specs.Tree.{Tree, give, stop, bind, Gives}
 use Rattle.choices.specs.Outcome.{Outcome, value}
-use Rattle.values.specs.Value.{Kind, set, sequence, map, tuple, Value, boolean, integer, collection, Items, none, more}
+use Rattle.values.specs.Value.{Kind, set, sequence, map, tuple, Value, boolean, integer, quote, collection, Items, none, more}
 use Rattle.operators.specs.Answer.{Answer, is, refused, Built, built, stopped, asBoolean, asInteger, asSet}
 use Rattle.operators.specs.Booleans.{Left, settles, leaves, left, right}
 use Rattle.operators.specs.Sets.{rangeOf}
@@ -27,7 +27,7 @@ use Rattle.patterns.specs.Binder.{Formed, bound, refused as unformed, formed, b
 use Rattle.patterns.specs.Relation.{Matches}
 use Rattle.patterns.specs.Laws.Matched.{bindings-exactly}
 use Rattle.patterns.specs.Laws.Forming.{formed-bound}
-use Rattle.meaning.specs.Node.{Node, Quantifier, forall, exists, exists1, truth, whole, named, unaryOf, binaryOf, connective, if, enumeration, range, let-in, let-be, quantified, iota, set-comprehension, sequence-comprehension, map-comprehension, application, no-expression}
+use Rattle.meaning.specs.Node.{Node, Quantifier, forall, exists, exists1, truth, whole, named, unaryOf, binaryOf, connective, if, enumeration, range, let-in, let-be, quantified, iota, set-comprehension, sequence-comprehension, map-comprehension, application, quoted, no-expression}
 use Rattle.meaning.specs.State.{State, under, valueIn}
 use Rattle.meaning.specs.Meaning.{Evaluation, at, builtAt, orElse, allOf, bothOf, rightOf, isTrue, enumerated, formedAt, membersAt, bindingsOf, holds, satisfying, chosenBinding, matched, satisfied, untilFalse, untilTrue, quantify, unique, collected, addOne, addPair, integersAt, integerBindings, comprehension, means, patternName}
 use Rattle.meaning.specs.Laws.Equation.{covered, Each, plainOperands}
@@ -126,6 +126,7 @@ Chooses pattern (set-comprehension p s c e) = ⊥
 Chooses pattern (sequence-comprehension p s c e) = ⊥
 Chooses pattern (map-comprehension p s c k e) = ⊥
 Chooses pattern (application a b) = ⊥
+Chooses pattern (quoted n) = ⊥
 Chooses pattern no-expression = ⊥
 
 -- Q holds of a value, of a refusal 20 to 30 at r, of a choice at r among 1 to 255 bindings where r may choose, and of one tree followed by
@@ -333,4 +334,5 @@ module _ (Q : (A : Type 0) → Tree A → Type 0) (May : Type 0) (r : ℕ) (clos
         bound-closed (pattern p) s _ (l .0)
         (λ bs f. comprehension-closed map c bs (over (pattern p) bs c f (m .0)) _ (pair-closed k e bs (over (pattern p) bs k f (m .1 .0)) (over (pattern p) bs e f (m .1 .1 .0))))
     closed-node pattern (application a b) may l m = both-closed a b (l .0) (l .1 .0) _ (λ v w. answer-closed (applyTo v w) (apply-number v w))
+    closed-node pattern (quoted n) may l m = closed .of-give Value (quote n)
     closed-node pattern no-expression may l m = closed .of-stop Value 20 kind-number

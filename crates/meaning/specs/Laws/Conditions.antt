@@ -24,7 +24,7 @@ use Rattle.prelude.proofs.Truth.{by-lower}
 use Rattle.tables.specs.Accepted.{records, Fine}
 use Rattle.tables.specs.Laws.Accepted.{accepted-fine, operand-lower, condition-operand, binder-operands, binder-pattern, choice-outside, fit-least, named-count}
 use Rattle.patterns.specs.Read.{patternAt}
-use Rattle.meaning.specs.Node.{Node, truth, whole, named, unaryOf, binaryOf, connective, if, enumeration, range, let-in, let-be, quantified, iota, set-comprehension, sequence-comprehension, map-comprehension, application, no-expression}
+use Rattle.meaning.specs.Node.{Node, truth, whole, named, unaryOf, binaryOf, connective, if, enumeration, range, let-in, let-be, quantified, iota, set-comprehension, sequence-comprehension, map-comprehension, application, quoted, no-expression}
 use Rattle.meaning.specs.State.{State, under}
 use Rattle.meaning.specs.Meaning.{meaningTo, meaning}
 use Rattle.meaning.specs.Read.{nodes, nodeOf, none, binaryNode, sheet}
@@ -80,6 +80,7 @@ Tells (set-comprehension p s c e) q k = Unit {0}
 Tells (sequence-comprehension p s c e) q k = Unit {0}
 Tells (map-comprehension p s c m e) q k = Unit {0}
 Tells (application a b) q k = Unit {0}
+Tells (quoted n) q k = Unit {0}
 Tells no-expression q k = Unit {0}
 
 abbrev TellsFrom : ℕ → List (Record → Node) → Type 0
@@ -104,7 +105,7 @@ each-tells : TellsFrom 0 nodes
 each-tells =
     (λ q. tt) & (λ q. tt) & (λ q. tt) & (λ q. tt) & (λ q. tt) & (λ q. binary-tells (operator q) (operand q 0) (operand q 1) q 5) & (λ q. tt) & (λ q. tt) & (λ q. tt) & (λ q. tt)
     & (λ q. tt) & (λ q. tt) & (λ q. (refl, refl)) & (λ q. (refl, refl)) & (λ q. tt) & (λ q. tt) & (λ q. tt) & (λ q. tt) & (λ q. tt) & (λ q. tt)
-    & (λ q. tt) & (λ q. tt) & tt
+    & (λ q. tt) & (λ q. tt) & (λ q. tt) & tt
 
 node-tells : (q : Record) → Tells (nodeOf q) q (q .kind)
 unfolding nodeOf
@@ -151,6 +152,7 @@ module _ (table : List ℕ) (n : ℕ) (ok : check table ≡ Accepted n) where
       go (sequence-comprehension p s c e) t y = absurd y
       go (map-comprehension p s c k e) t y = absurd y
       go (application a b) t y = absurd y
+      go (quoted n) t y = absurd y
       go no-expression t y = absurd y
 
   no-choice : (r : ℕ) → r < length rs → inCondition rs r ≡ true → Chooses (sheet table .pattern) (sheet table .node r) → ⊥

@@ -13,7 +13,7 @@ use Rattle.operators.specs.Enumerations.{addMember, addItem}
 use Rattle.patterns.specs.Binding.{Binding}
 use Rattle.patterns.specs.Pattern.{Pattern, loose}
 use Rattle.patterns.specs.Binder.{formed}
-use Rattle.meaning.specs.Node.{Node, Quantifier, forall, exists, exists1, truth, whole, named, unaryOf, binaryOf, connective, if, enumeration, range, let-in, let-be, quantified, iota, set-comprehension, sequence-comprehension, map-comprehension, application, no-expression}
+use Rattle.meaning.specs.Node.{Node, Quantifier, forall, exists, exists1, truth, whole, named, unaryOf, binaryOf, connective, if, enumeration, range, let-in, let-be, quantified, iota, set-comprehension, sequence-comprehension, map-comprehension, application, quoted, no-expression}
 use Rattle.meaning.specs.State.{State, under}
 use Rattle.meaning.specs.Meaning.{Evaluation, allOf, bothOf, rightOf, isTrue, formedAt, bindingsOf, holds, satisfying, matched, satisfied, untilFalse, untilTrue, quantify, collected, addOne, addPair, integerBindings, comprehension, means, Sheet, meaningTo, meaning}
 
@@ -38,6 +38,7 @@ plainOperands (set-comprehension p s c e) = s ∷ []
 plainOperands (sequence-comprehension p s c e) = s ∷ []
 plainOperands (map-comprehension p s c k e) = s ∷ []
 plainOperands (application a b) = a ∷ b ∷ []
+plainOperands (quoted n) = []
 plainOperands no-expression = []
 
 -- The records that a binder evaluates under its bindings.
@@ -59,6 +60,7 @@ covered (set-comprehension p s c e) = c ∷ e ∷ []
 covered (sequence-comprehension p s c e) = c ∷ e ∷ []
 covered (map-comprehension p s c k e) = c ∷ k ∷ e ∷ []
 covered (application a b) = []
+covered (quoted n) = []
 covered no-expression = []
 
 -- L holds of each of these records.
@@ -190,6 +192,7 @@ module _ (r : ℕ) (f g : Evaluation) (agree : (a : ℕ) (σ : State) → a < r 
       bind-both (bindingsOf f q (pattern p) s ρ) (bindingsOf g q (pattern p) s ρ) _ _ (bindings-cong q (pattern p) s (h .plain-ones .0) ρ)
       (λ bs. comprehension-cong q map c (h .covered-ones .0) ρ _ _ (pair-cong q k e (h .covered-ones .1 .0) (h .covered-ones .1 .1 .0) ρ) bs)
   node-cong pattern q (application a b) h ρ = both-cong a b (h .plain-ones .0) (h .plain-ones .1 .0) ρ _
+  node-cong pattern q (quoted n) h ρ = refl
   node-cong pattern q no-expression h ρ = refl
 
 -- ---- the equation

@@ -11,7 +11,7 @@ use lib.ListN.{getD}
 use Rattle.integers.specs.declared.Number.{Number}
 use Rattle.integers.specs.declared.Number.the-variants.{Is, OutOfRange, ByZero}
 use Rattle.integers.specs.Whole.{negationOf, absoluteOf, sumOf, differenceOf, productOf, quotientOf, remainderOf, modulusOf}
-use Rattle.values.specs.Value.{Kind, set, sequence, map, tuple, Value, boolean, integer, collection, Items, none, more, sizes, valueLimit, count}
+use Rattle.values.specs.Value.{Kind, set, sequence, map, tuple, Value, boolean, integer, quote, collection, Items, none, more, sizes, valueLimit, count}
 use Rattle.values.specs.Items.{same, lookup, join, snoc, insert, enter}
 use Rattle.operators.specs.Answer.{Answer, is, refused, Built, built, stopped, needs, needsBoth, found, fitting, closed, sized, asBoolean, asInteger, asSet, asSequence, asMap}
 use Rattle.operators.specs.Booleans.{Connective, Left, settles, leaves, and, or, implies, ofLeft, left, right}
@@ -198,6 +198,7 @@ left-number c v = go c (asBoolean v)
 pub apply-number : (v w : Value) → Answered (applyTo v w)
 apply-number (boolean b) w = kind-number
 apply-number (integer z) w = kind-number
+apply-number (quote n) w = kind-number
 apply-number (collection set vs) w = kind-number
 apply-number (collection sequence vs) w = if-needed (asInteger w) _ (λ i. if-found (itemAt vs i))
 apply-number (collection map vs) w = if-found (lookup w vs)

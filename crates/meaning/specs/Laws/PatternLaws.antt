@@ -132,6 +132,7 @@ all-loose =
     & loose-halves 40 sequence refl
     & loose-each 41 mapping refl
     & loose-halves 42 mapping refl
+    & (λ q e ps c. or-both (ap looseKind e) (no-parts isLooseAt 43 ps refl c))
     & tt
 
 -- ---- names
@@ -179,6 +180,7 @@ module _ (x : ℕ) where
       & name-halves 40 sequence refl refl refl
       & name-each 41 mapping refl
       & name-halves 42 mapping refl refl refl
+      & (λ q e ps c. or-both (ap (nameKind x (nameOf q)) e) (no-parts named 43 ps refl c))
       & tt
 
 -- ---- of an accepted table

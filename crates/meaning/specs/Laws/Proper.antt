@@ -14,14 +14,14 @@ use Rattle.values.specs.Value.{Kind, set, sequence, map, tuple}
 use Rattle.operators.specs.Booleans.{and, or, implies}
 use Rattle.tables.specs.declared.Role.the-variants.{Plain}
 use Rattle.tables.specs.declared.Checked.the-variants.{Accepted}
-use Rattle.tables.specs.Record.{Record, shape, size, headOf, fits, named as operandsOf, operator, operand, roleAt, isFit, isKnown, integerOf}
+use Rattle.tables.specs.Record.{Record, shape, size, headOf, fits, named as operandsOf, operator, operand, roleAt, isFit, isKnown, integerOf, quoteOf}
 use Rattle.tables.specs.Table.{noRecord, recordAt}
 use Rattle.tables.specs.Sheet.{isCovered}
 use Rattle.tables.specs.Check.{check}
 use Rattle.prelude.proofs.Truth.{by-lower}
 use Rattle.tables.specs.Accepted.{records, Fine}
 use Rattle.tables.specs.Laws.Accepted.{accepted-fine, operand-lower, fit-least, fit-known, named-count}
-use Rattle.meaning.specs.Node.{Node, truth, whole, named, unaryOf, binaryOf, connective, if, enumeration, range, let-in, let-be, quantified, iota, set-comprehension, sequence-comprehension, map-comprehension, application, no-expression}
+use Rattle.meaning.specs.Node.{Node, truth, whole, named, unaryOf, binaryOf, connective, if, enumeration, range, let-in, let-be, quantified, iota, set-comprehension, sequence-comprehension, map-comprehension, application, quoted, no-expression}
 use Rattle.meaning.specs.Read.{nodes, nodeOf, none, binaryNode, sheet}
 use Rattle.meaning.specs.Laws.Equation.{covered, Each, Downward, plainOperands}
 
@@ -63,6 +63,7 @@ binderOf (set-comprehension p s c e) = p
 binderOf (sequence-comprehension p s c e) = p
 binderOf (map-comprehension p s c k e) = p
 binderOf (application a b) = 0
+binderOf (quoted n) = 0
 binderOf no-expression = 0
 
 abbrev pub Literal : Node → Type 0
@@ -83,6 +84,7 @@ Literal (set-comprehension p s c e) = Unit {0}
 Literal (sequence-comprehension p s c e) = Unit {0}
 Literal (map-comprehension p s c k e) = Unit {0}
 Literal (application a b) = Unit {0}
+Literal (quoted n) = n ≤ 65535
 Literal no-expression = Unit {0}
 
 -- Of a node: P of the records that it evaluates in its own state; C, with the binder's pattern, of those under its bindings; and literals.
@@ -170,6 +172,10 @@ module _ (P : ℕ → Type 0) (C : ℕ → ℕ → Type 0) where
   unfolding shape
   integer-literal q h = subst (λ m. isKnown (shape m .head) q ≡ true) (h .kind-is) (fit-known q (h .fit))
 
+  quote-literal : (q : Record) → Known P C 22 q → quoteOf q ≤ 65535
+  unfolding shape
+  quote-literal q h = leb-true (quoteOf q) 65535 (subst (λ m. isKnown (shape m .head) q ≡ true) (h .kind-is) (fit-known q (h .fit)))
+
   binary-proper : (op a b : ℕ) → P a → P b → Proper P C (binaryNode op a b)
   binary-proper op a b h i = go (eqb op 1) (eqb op 2) (eqb op 3)
     where
@@ -204,6 +210,7 @@ module _ (P : ℕ → Type 0) (C : ℕ → ℕ → Type 0) where
       & (λ q h. record { plain-ones = in-own 19 q h 1 (omega arith) refl & tt; covered-ones = in-bound 19 q h 2 (omega arith) refl & in-bound 19 q h 3 (omega arith) refl & tt; literal = tt })
       & (λ q h. record { plain-ones = in-own 20 q h 1 (omega arith) refl & tt; covered-ones = in-bound 20 q h 2 (omega arith) refl & in-bound 20 q h 3 (omega arith) refl & in-bound 20 q h 4 (omega arith) refl & tt; literal = tt })
       & (λ q h. record { plain-ones = in-own 21 q h 0 (omega arith) refl & in-own 21 q h 1 (omega arith) refl & tt; covered-ones = tt; literal = tt })
+      & (λ q h. record { plain-ones = tt; covered-ones = tt; literal = quote-literal q h })
       & tt
 
   -- The node of a record that is fit.

@@ -21,7 +21,7 @@ use Rattle.operators.specs.Operators.{unary, binary}
 use Rattle.patterns.specs.Binding.{Binding, nothing}
 use Rattle.patterns.specs.Pattern.{Pattern, loose, listOf}
 use Rattle.patterns.specs.Binder.{Formed, bound, refused as unformed, formed}
-use Rattle.meaning.specs.Node.{Node, Quantifier, forall, exists, exists1, truth, whole, named, unaryOf, binaryOf, connective, if, enumeration, range, let-in, let-be, quantified, iota, set-comprehension, sequence-comprehension, map-comprehension, application, no-expression}
+use Rattle.meaning.specs.Node.{Node, Quantifier, forall, exists, exists1, truth, whole, named, unaryOf, binaryOf, connective, if, enumeration, range, let-in, let-be, quantified, iota, set-comprehension, sequence-comprehension, map-comprehension, application, quoted, no-expression}
 use Rattle.meaning.specs.State.{State, under, valueIn}
 use Rattle.meaning.specs.Meaning.{Sheet, meaning, enumerated, patternName}
 use Rattle.meaning.specs.Meaning as tree
@@ -288,4 +288,5 @@ module _ (s : Sheet) (r : ℕ) (Own : ℕ → Type 0) where
       told-binder p t ρ _ _ (h .plain-ones .0)
       (λ bs. told-comprehension map c ρ (points.pair s r k e ρ) (tree.addPair rec r k e ρ) (h .covered-ones .0) (told-pair k e ρ (h .covered-ones .1 .0) (h .covered-ones .1 .1 .0)) bs)
   told-node (application a b) own h ρ = told-two a b ρ _ (h .plain-ones .0) (h .plain-ones .1 .0) (λ v w. told-at (applyTo v w) (apply-number v w))
+  told-node (quoted n) own h ρ = told-give _
   told-node no-expression own h ρ = told-stop 20 r (λ e. omega arith)

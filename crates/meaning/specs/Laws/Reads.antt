@@ -16,14 +16,14 @@ use Rattle.prelude.proofs.Truth.{by-lower}
 use Rattle.choices.specs.Tree.{Tree, give, Gives}
 use Rattle.choices.specs.Outcome.{refusal}
 use Rattle.choices.proofs.Trees.{gives-bind-out}
-use Rattle.values.specs.Value.{Value}
+use Rattle.values.specs.Value.{Value, quote}
 use Rattle.patterns.specs.Binding.{is as valued, Binding, names, cellOf}
 use Rattle.patterns.specs.Laws.Matched.{match-sized}
 use Rattle.patterns.specs.Laws.Named.{holdsNamed as holdsAt, Told, told}
 use Rattle.tables.specs.declared.Role.{Role}
 use Rattle.tables.specs.declared.Role.the-variants.{Plain, Condition, Body, Pattern as Part, Name}
 use Rattle.tables.specs.declared.Checked.the-variants.{Accepted}
-use Rattle.tables.specs.Record.{Record, name, shape, headOf, isExpression, isPattern, isKnown, nameOf, named as operandsOf, operand, roleAt}
+use Rattle.tables.specs.Record.{Record, name, shape, headOf, isExpression, isPattern, isKnown, nameOf, quoteOf, named as operandsOf, operand, roleAt}
 use Rattle.tables.specs.Table.{recordAt, kindAt}
 use Rattle.tables.specs.Sheet.{some as someOf, isCovered, isBound, holdsName, patternOf}
 use Rattle.tables.specs.Check.{check}
@@ -184,6 +184,10 @@ module _ (table : List ℕ) (n : ℕ) (ok : check table ≡ Accepted n) where
   leaf rec r ρ (suc (suc (suc zero))) e l u h c = let (v, d) = name-valued r ρ h e c in else-given r (valueIn ρ (nameOf (recordAt rs r))) v d
   leaf rec r ρ (suc (suc (suc (suc k)))) e l u h c = absurd (omega arith)
 
+  quote-leaf : (rec : ℕ → State → Tree Value) (r : ℕ) (ρ : State) (k : ℕ) → k ≡ 22 → Refusing Value (means (sheet table .pattern) rec r (getD nodes k none (recordAt rs r)) ρ)
+  unfolding means
+  quote-leaf rec r ρ k e = subst (λ j. Refusing Value (means (sheet table .pattern) rec r (getD nodes j none (recordAt rs r)) ρ)) (sym e) (give-refusing (quote (quoteOf (recordAt rs r))))
+
   -- ---- every record that is evaluated
 
   reads-to : (m r : ℕ) (ρ : State) → r < m → r < length rs → isExpression (kindAt rs r) ≡ true → Covers ρ r → Refusing Value (meaningTo (sheet table) m r ρ)
@@ -194,7 +198,8 @@ module _ (table : List ℕ) (n : ℕ) (ok : check table ≡ Accepted n) where
       let high = expression-most (kindAt rs r) e in
       by-lower (kindAt rs r) 4
       (λ u. leaf (λ a σ. meaningTo (sheet table) m a σ) r ρ (kindAt rs r) refl low u h c)
-      (λ u.
+      (λ u. by-lower (kindAt rs r) 22
+      (λ w.
       let all =
       inside rs fine (λ a. Refusing Value (meaningTo (sheet table) m a ρ))
       (λ p a. (β : Binding) → Comes (patternAt rs p) β → Refusing Value (meaningTo (sheet table) m a (under ρ β))) r h
@@ -202,7 +207,8 @@ module _ (table : List ℕ) (n : ℕ) (ok : check table ≡ Accepted n) where
       (λ i k d β y.
       reads-to m (operand (recordAt rs r) i) (under ρ β) (omega (arith, operand-lower rs (fine .clear6) r i h k)) (omega (arith, operand-lower rs (fine .clear6) r i h k)) (covered-expression r i h k d)
       (covers-under r i h k ρ c d β y)) in
-      closed-node Refusing (Unit {0}) r (closed r (u, high)) (λ a σ. meaningTo (sheet table) m a σ) ρ (sheet table .pattern) (sheet table .node r) (λ may. tt) (all .plain-ones) (all .covered-ones))
+      closed-node Refusing (Unit {0}) r (closed r (u, omega arith)) (λ a σ. meaningTo (sheet table) m a σ) ρ (sheet table .pattern) (sheet table .node r) (λ may. tt) (all .plain-ones) (all .covered-ones))
+      (λ w. quote-leaf (λ a σ. meaningTo (sheet table) m a σ) r ρ (kindAt rs r) (omega arith)))
 
   -- THEOREM: every refusal of an accepted table's tree is at a record of kind 4 to 21: none at a literal, a name or a pattern.
   pub refuses-at : (m p : ℕ) → Gives (tree table) (refusal m p) → Operator p

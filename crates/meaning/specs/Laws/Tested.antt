@@ -12,7 +12,7 @@ use borrow.Author.Tests.{eqb-true, ne-eqb}
 use Rattle.prelude.proofs.Absurd.{impossible}
 use Rattle.prelude.specs.Membership.{In}
 use Rattle.choices.specs.Outcome.{value}
-use Rattle.values.specs.Value.{Kind, set, sequence, map, tuple, Value, boolean, integer, collection, Items, none, more}
+use Rattle.values.specs.Value.{Kind, set, sequence, map, tuple, Value, boolean, integer, quote, collection, Items, none, more}
 use Rattle.operators.specs.Answer.{is, Built, built, stopped, closed, asBoolean, asSet}
 use Rattle.operators.specs.Enumerations.{buildOn}
 use Rattle.integers.specs.declared.Order.the-variants.{Lower}
@@ -49,11 +49,13 @@ formed-value r (unformed n) bs = (λ e. absurd (value≢refusal e), λ e. imposs
 pub boolean-value : (v : Value) (t : Bool) → (asBoolean v ≡ some t) ↔ (v ≡ boolean t)
 boolean-value (boolean b) t = (λ e. let d : b ≡ t = cc in ap boolean d, λ e. let d : b ≡ t = cc in ap some d)
 boolean-value (integer z) t = (λ e. impossible cc, λ e. impossible cc)
+boolean-value (quote n) t = (λ e. impossible cc, λ e. impossible cc)
 boolean-value (collection k vs) t = (λ e. impossible cc, λ e. impossible cc)
 
 pub set-value : (v : Value) (vs : Items) → (asSet v ≡ some vs) ↔ (v ≡ collection set vs)
 set-value (boolean b) vs = (λ e. impossible cc, λ e. impossible cc)
 set-value (integer z) vs = (λ e. impossible cc, λ e. impossible cc)
+set-value (quote n) vs = (λ e. impossible cc, λ e. impossible cc)
 set-value (collection set us) vs = (λ e. let d : us ≡ vs = cc in ap (collection set) d, λ e. let d : us ≡ vs = cc in ap some d)
 set-value (collection sequence us) vs = (λ e. impossible cc, λ e. impossible cc)
 set-value (collection map us) vs = (λ e. impossible cc, λ e. impossible cc)
@@ -64,6 +66,7 @@ unfolding integersAt
 integers-out r none ws e = (tt, let d : ws ≡ none = cc in d)
 integers-out r (more v vs) ws (inr (n, p, h, e)) = absurd (value≢refusal e)
 integers-out r (more (boolean b) vs) ws (inl (z, h, k)) = absurd (value≢refusal h)
+integers-out r (more (quote n) vs) ws (inl (z, h, k)) = absurd (value≢refusal h)
 integers-out r (more (collection k us) vs) ws (inl (z, h, g)) = absurd (value≢refusal h)
 integers-out r (more (integer y) vs) ws (inl (z, h, inr (n, p, k, e))) = absurd (value≢refusal e)
 integers-out r (more (integer y) vs) ws (inl (z, h, inl (us, i, e))) =
@@ -76,6 +79,7 @@ unfolding integersAt
 integers-in r none h = refl
 integers-in r (more (boolean b) vs) h = absurd h
 integers-in r (more (integer y) vs) h = inl (y, refl, inl (vs, integers-in r vs h, refl))
+integers-in r (more (quote n) vs) h = absurd h
 integers-in r (more (collection k us) vs) h = absurd h
 
 -- ---- a binder's bindings

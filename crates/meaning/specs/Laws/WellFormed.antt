@@ -15,8 +15,8 @@ use Rattle.prelude.proofs.Membership.{at-in}
 use Rattle.choices.specs.Tree.{Tree, bind, Gives, Run, gave, stopped, short, beyond, run, Final, result, final, mostChoices}
 use Rattle.choices.specs.Outcome.{value}
 use Rattle.choices.proofs.Outcomes.{follow-given, Given}
-use Rattle.values.specs.Value.{Kind, set, sequence, map, tuple, Value, boolean, integer, collection, Items, none, more, count, size, sizes, valueLimit as largest, Sound, SoundItems, PairedFrom, WellFormed}
-use Rattle.values.proofs.Records.{well-formed-boolean, well-formed-integer}
+use Rattle.values.specs.Value.{Kind, set, sequence, map, tuple, Value, boolean, integer, quote, collection, Items, none, more, count, size, sizes, valueLimit as largest, Sound, SoundItems, PairedFrom, WellFormed}
+use Rattle.values.proofs.Records.{well-formed-boolean, well-formed-integer, well-formed-quote}
 use Rattle.operators.specs.Answer.{Answer, is, refused, Built, built, stopped as unbuilt, asInteger, asSet, FineAnswer}
 use Rattle.operators.specs.Booleans.{Left, settles, leaves, left, right}
 use Rattle.operators.specs.Sets.{rangeOf}
@@ -34,7 +34,7 @@ use Rattle.patterns.specs.Laws.Named.{FineCell, fine}
 use Rattle.tables.specs.declared.Checked.{Checked}
 use Rattle.tables.specs.declared.Checked.the-variants.{Accepted, Refused}
 use Rattle.tables.specs.Check.{check}
-use Rattle.meaning.specs.Node.{Node, truth, whole, named, unaryOf, binaryOf, connective, if, enumeration, range, let-in, let-be, quantified, iota, set-comprehension, sequence-comprehension, map-comprehension, application, no-expression}
+use Rattle.meaning.specs.Node.{Node, truth, whole, named, unaryOf, binaryOf, connective, if, enumeration, range, let-in, let-be, quantified, iota, set-comprehension, sequence-comprehension, map-comprehension, application, quoted, no-expression}
 use Rattle.meaning.specs.State.{State, unbound, over, under, heldValue, valueIn}
 use Rattle.meaning.specs.Meaning.{Evaluation, at, builtAt, orElse, allOf, bothOf, rightOf, isTrue, enumerated, formedAt, membersAt, bindingsOf, holds, satisfying, chosenBinding, matched, satisfied, quantify, unique, collected, addOne, addPair, integersAt, integerBindings, comprehension, means, Sheet, meaningTo, meaning, patternName}
 use Rattle.meaning.specs.Read.{sheet}
@@ -122,6 +122,7 @@ members-well vs h = let g = good h in items-well vs (g .sound) (g .short)
 set-well : (v : Value) (vs : Items) → WellFormed v → asSet v ≡ some vs → WellFormed (collection set vs)
 set-well (boolean b) vs h e = impossible cc
 set-well (integer i) vs h e = impossible cc
+set-well (quote n) vs h e = impossible cc
 set-well (collection set ws) vs h e = let d : ws ≡ vs = cc in subst (λ (us : Items). WellFormed (collection set us)) d h
 set-well (collection sequence ws) vs h e = impossible cc
 set-well (collection map ws) vs h e = impossible cc
@@ -287,6 +288,7 @@ module _ (rec : Evaluation) (well : (a : ℕ) (ρ : State) → FineState ρ → 
       only-bind AllFine WellFormed (bindingsOf rec r (pattern p) s ρ) _ (only-bindings r (pattern p) s ρ h)
       (λ bs i. only-comprehension r map no-entries c ρ _ (only-pair r k e ρ h) bs i)
   only-node pattern r (application a b) l ρ h = only-both a b ρ h _ (λ v w i j. only-at r (applyTo v w) (apply-fine v w i j))
+  only-node pattern r (quoted n) l ρ h = only-give WellFormed (quote n) (well-formed-quote (omega arith))
   only-node pattern r no-expression l ρ h = only-stop _ 20 r
 
 only-to : (s : Sheet) → ((r : ℕ) → Literal (s .node r)) → (n r : ℕ) (ρ : State) → FineState ρ → Only WellFormed (meaningTo s n r ρ)

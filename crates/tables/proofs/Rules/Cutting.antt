@@ -13,7 +13,7 @@ use Rattle.integers.specs.Bytes.{word}
 use Rattle.integers.specs.Whole.{inRange}
 use Rattle.prelude.proofs.Absurd.{never}
 use Rattle.prelude.proofs.Truth.{by-test, by-lower}
-use Rattle.tables.specs.Record.{Record, Head, nothing, boolean, integer, quote, name, unary, binary, unknown, Shape, shape, size, headOf, field, nameOf, operator, integerOf, fits, isKnown, isFit}
+use Rattle.tables.specs.Record.{Record, Head, nothing, boolean, integer, quote, name, unary, binary, unknown, Shape, shape, size, headOf, field, nameOf, operator, integerOf, quoteOf, fits, isKnown, isFit}
 use Rattle.tables.specs.Table.{firstRecord, Next, end, fault, one, next, Cut, onNext, cutBy, cut}
 use Rattle.tables.specs.Accepted.{records}
 use Rattle.tables.specs.Rules.{FitLength, Known, Unfit, few-left, length-under, length-past, length-unfit, not-known, afterFirst, Broken4, RecordsOf}
@@ -40,7 +40,7 @@ known : (h : Head) (x : Record) → Tells (isKnown h x) (Known h x)
 known nothing x = record { yes = λ e. tt; back = λ e. refl }
 known boolean x = tells-most (field x 0) 1
 known integer x = tells-true (inRange (integerOf x))
-known quote x = record { yes = λ e. tt; back = λ e. refl }
+known quote x = tells-most (quoteOf x) 65535
 known name x = tells-most (nameOf x) 15
 known unary x = tells-and (tells-most 1 (operator x)) (tells-most (operator x) 15)
 known binary x = tells-and (tells-most 1 (operator x)) (tells-most (operator x) 28)
