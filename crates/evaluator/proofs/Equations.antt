@@ -8,13 +8,13 @@ use native.Mathlib.Omega.{arith}
 use lib.Dec.{eqb}
 use lib.ListN.{length, getD, List·getD-eq-default}
 use borrow.Author.Tests.{ne-eqb, eqb-false}
-use Rattle.values.specs.Value.{Kind, set, sequence, map, tuple, boolean, integer}
+use Rattle.values.specs.Value.{Kind, set, sequence, map, tuple, boolean, integer, quote}
 use Rattle.choices.specs.Tree.{give, stop, bind}
 use Rattle.operators.specs.Booleans.{and, or, implies, left}
 use Rattle.operators.specs.Sets.{rangeOf}
 use Rattle.operators.specs.Maps.{applyTo}
 use Rattle.operators.specs.Operators.{unary, binary}
-use Rattle.tables.specs.Record.{Record, named as operandsOf, operand, operator, nameOf, booleanOf, integerOf}
+use Rattle.tables.specs.Record.{Record, named as operandsOf, operand, operator, nameOf, booleanOf, integerOf, quoteOf}
 use Rattle.tables.specs.Table.{recordAt, kindAt}
 use Rattle.tables.specs.Accepted.{records}
 use Rattle.scalars.specs.Connectives.{connective as connectiveOf}
@@ -44,6 +44,10 @@ module _ {table index : List ℕ} (L : Legal table index) (r : ℕ) (ρ : State)
   pub mean-whole : kindAt (records table) r ≡ 2 → meant table r ρ ≡ give (integer (integerOf q))
   unfolding means
   mean-whole e = by-kind 2 e
+
+  pub mean-quote : kindAt (records table) r ≡ 22 → meant table r ρ ≡ give (quote (quoteOf q))
+  unfolding means
+  mean-quote e = by-kind 22 e
 
   pub mean-name : kindAt (records table) r ≡ 3 → meant table r ρ ≡ orElse 20 r (valueIn ρ (nameOf q))
   unfolding means
@@ -100,11 +104,11 @@ module _ {table index : List ℕ} (L : Legal table index) (r : ℕ) (ρ : State)
   pub tuple-few : kindAt (records table) r ≡ 10 → (2 ≤ length (operandsOf q)) × (length (operandsOf q) ≤ 4)
   tuple-few e = literal-here 10 e
 
-  none-after : 22 ≤ kindAt (records table) r → nodeOf q ≡ no-expression
+  none-after : 23 ≤ kindAt (records table) r → nodeOf q ≡ no-expression
   unfolding nodeOf
   none-after l = ap (λ (f : Record → Node). f q) (List·getD-eq-default nodes none {n = kindAt (records table) r} (omega arith))
 
-  pub mean-pattern : 22 ≤ kindAt (records table) r → meant table r ρ ≡ stop 20 r
+  pub mean-pattern : 23 ≤ kindAt (records table) r → meant table r ρ ≡ stop 20 r
   unfolding means
   mean-pattern l = by-node no-expression (none-after l)
 

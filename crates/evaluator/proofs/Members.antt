@@ -239,10 +239,10 @@ module _ {table index : List ℕ} {r : ℕ} {s : List ℕ} {base : ℕ} {env : E
         if-no z q′ k′ = if-false a (gives-at table q k) x thens elses h o (λ ρ. mean-if (a .legal) r ρ d) z (gives-at table q′ k′)
 
   -- what is left are patterns
-  pub eval-last : {k : ℕ} → k ≡ kindAt (records table) r → (k ≡ 0) ⊎ (22 ≤ k) → {y : ℕ} → y ≡ wordOf 20 r 0 → Gives (meant table r) (At s base) s s base env c (ending y c)
+  pub eval-last : {k : ℕ} → k ≡ kindAt (records table) r → (k ≡ 0) ⊎ (23 ≤ k) → {y : ℕ} → y ≡ wordOf 20 r 0 → Gives (meant table r) (At s base) s s base env c (ending y c)
   eval-last {k} d w e = refused-at 20 (omega arith) a e (gives-refused 20 r a (λ ρ. go ρ w))
     where
-      go : (ρ : State) → (k ≡ 0) ⊎ (22 ≤ k) → meant table r ρ ≡ stop 20 r
+      go : (ρ : State) → (k ≡ 0) ⊎ (23 ≤ k) → meant table r ρ ≡ stop 20 r
       go ρ (inl h) = mean-nothing (a .legal) r ρ (sym d ∙ h)
       go ρ (inr h) = mean-pattern (a .legal) r ρ (omega arith)
 
@@ -253,7 +253,7 @@ Unlike n k = OneOf (n ∷ []) k → ⊥
 
 -- none of those that `eval` names, and of those that `binds` names
 abbrev pub Unlisted : ℕ → Type 0
-Unlisted k = (((((((Unit {0} × Unlike 1 k) × Unlike 2 k) × Unlike 3 k) × Unlike 4 k) × (OneOf (5 ∷ 11 ∷ 21 ∷ []) k → ⊥)) × Unlike 6 k) × Unlike 10 k) × Unlike 9 k
+Unlisted k = ((((((((Unit {0} × Unlike 1 k) × Unlike 2 k) × Unlike 3 k) × Unlike 4 k) × (OneOf (5 ∷ 11 ∷ 21 ∷ []) k → ⊥)) × Unlike 6 k) × Unlike 10 k) × Unlike 9 k) × Unlike 22 k
 
 abbrev pub Unbound : ℕ → Type 0
 Unbound k = (((Unit {0} × Unlike 12 k) × Unlike 13 k) × Unlike 16 k) × Unlike 17 k
@@ -269,7 +269,7 @@ least-or n k l = go (k - n) refl
     go (suc d) e = inr (omega arith)
 
 pub from-seven : {k : ℕ} → Unlisted k → 1 ≤ k → k < 9 → Enumerated k
-from-seven {k} ((((((((u, a1), a2), a3), a4), a5), a6), a10), a9) l m =
+from-seven {k} (((((((((u, a1), a2), a3), a4), a5), a6), a10), a9), a22) l m =
     go (least-or 7 k (next-up 6 k (next-up 5 k (next-up 4 k (next-up 3 k (next-up 2 k (next-up 1 k l a1) a2) a3) a4) (λ x. a5 (inl x))) a6))
   where
     go : (k ≡ 7) ⊎ (8 ≤ k) → Enumerated k
@@ -278,12 +278,12 @@ from-seven {k} ((((((((u, a1), a2), a3), a4), a5), a6), a10), a9) l m =
 
 pub left-over : {k : ℕ} → Unlisted k → (k < 1) ⊎ (9 ≤ k) → Remaining k
 left-over w (inl l) = inl (omega arith)
-left-over {k} ((((((((u, a1), a2), a3), a4), a5), a6), a10), a9) (inr l) = inr (next-up 11 k (next-up 10 k (next-up 9 k l a9) a10) (λ x. a5 (inr (inl x))), λ x. a5 (inr (inr x)))
+left-over {k} (((((((((u, a1), a2), a3), a4), a5), a6), a10), a9), a22) (inr l) = inr (next-up 11 k (next-up 10 k (next-up 9 k l a9) a10) (λ x. a5 (inr (inl x))), λ x. a5 (inr (inr x)), a22)
 
 pub from-eighteen : {k : ℕ} → Unbound k → 16 ≤ k → k < 21 → Comprehension k
 from-eighteen {k} ((((u, a12), a13), a16), a17) l m = (next-up 17 k (next-up 16 k l a16) a17, omega arith)
 
-pub unmatched : {k : ℕ} → Remaining k → (k ≡ 14 → ⊥) × (k ≡ 15 → ⊥) → Unbound k → (k < 16) ⊎ (21 ≤ k) → (k ≡ 0) ⊎ (22 ≤ k)
+pub unmatched : {k : ℕ} → Remaining k → (k ≡ 14 → ⊥) × (k ≡ 15 → ⊥) → Unbound k → (k < 16) ⊎ (21 ≤ k) → (k ≡ 0) ⊎ (23 ≤ k)
 unmatched (inl x) q w o = inl x
 unmatched {k} (inr x) q ((((u, a12), a13), a16), a17) (inl l) = absurd (omega (arith, next-up 15 k (next-up 14 k (next-up 13 k (next-up 12 k (x .0) a12) a13) (q .0)) (q .1)))
-unmatched {k} (inr x) q w (inr l) = inr (next-up 21 k l (x .1))
+unmatched {k} (inr x) q w (inr l) = inr (next-up 22 k (next-up 21 k l (x .1)) (x .2))

@@ -10,7 +10,7 @@ use lib.IntN.{ℤ}
 use lib.Dec.{eqb, leb}
 use lib.ListN.{getD, take}
 use borrow.Author.Tests.{eq-eqb, ne-eqb}
-use Rattle.values.specs.Value.{Kind, number, set, sequence, map, tuple, Value, boolean, integer, collection, Items, size, sizes, valueLimit, Sound}
+use Rattle.values.specs.Value.{Kind, number, set, sequence, map, tuple, Value, boolean, integer, quote, collection, Items, size, sizes, valueLimit, Sound}
 use Rattle.values.specs.Items.{same, snoc, insert, lookup, enter}
 use Rattle.values.specs.Place.{At, Holds}
 use Rattle.integers.specs.Whole.{InRange}
@@ -40,7 +40,7 @@ use Rattle.parts.specs.Part.{PartIs, CellIs}
 use Rattle.parts.specs.Contract.{Puttable, PutPart}
 use Rattle.parts.proofs.Laws.{part-longer}
 use Rattle.patterns.specs.Binding.{Cell, free, is, cellOf}
-use Rattle.tables.specs.Record.{field, integerOf}
+use Rattle.tables.specs.Record.{field, integerOf, quoteOf}
 use Rattle.tables.specs.Table.{recordAt, kindAt}
 use Rattle.tables.specs.Accepted.{records}
 use Rattle.calling.specs.declared.Applied.{Applied}
@@ -58,7 +58,7 @@ use Rattle.evaluator.specs.Word.{outcomeOf, wordOf}
 use Rattle.evaluator.proofs.Wording.{decoded}
 use Rattle.evaluator.proofs.Coming.{comes-as, comes-value, comes-refused}
 use Rattle.evaluator.proofs.Tables.{room-here, name-number}
-use Rattle.evaluator.proofs.Equations.{mean-truth, mean-whole, mean-name}
+use Rattle.evaluator.proofs.Equations.{mean-truth, mean-whole, mean-quote, mean-name}
 
 pub told-boolean : {s : List ℕ} {at : ℕ} {b : Bool} (d : Bool) → At s at (boolean b) → b ≡ d → (v : Value) → At s at v → asBoolean v ≡ some d
 told-boolean d h e v a = ap asBoolean (one-value a h) ∙ ap some e
@@ -76,6 +76,9 @@ module _ {table index : List ℕ} {r : ℕ} {s : List ℕ} {base : ℕ} {env : E
 
   pub whole-done : kindAt (records table) r ≡ 2 → {z : ℤ} → z ≡ integerOf (recordAt (records table) r) → {t : List ℕ} {m : ℕ} → Put s t base (integer z) 8 m → Gives (meant table r) (At t base) s t base env c (valueAs c)
   whole-done d e {t} {m} p = put-done {n = 8} {m = m} (subst (λ (x : ℤ). Put s t base (integer x) 8 m) e p) (λ ρ. mean-whole (a .legal) r ρ d)
+
+  pub quote-done : kindAt (records table) r ≡ 22 → {n : ℕ} → n ≡ quoteOf (recordAt (records table) r) → {t : List ℕ} {m : ℕ} → Put s t base (quote n) 6 m → Gives (meant table r) (At t base) s t base env c (valueAs c)
+  quote-done d e {t} {m} p = put-done {n = 6} {m = m} (subst (λ (x : ℕ). Put s t base (quote x) 6 m) e p) (λ ρ. mean-quote (a .legal) r ρ d)
 
   module _ (d : kindAt (records table) r ≡ 3) {x : ℕ} (e : x ≡ field (recordAt (records table) r) 0) where
     pub name-below : x < 16

@@ -102,6 +102,10 @@ pub field-four : {table index : List ℕ} {r : ℕ} {s : List ℕ} {base : ℕ} 
 unfolding shape
 field-four a e = has-field a e 3 (omega arith)
 
+pub field-quote : {table index : List ℕ} {r : ℕ} {s : List ℕ} {base : ℕ} {env : Env} {c : Choices} → Ask table index r s base env c → kindAt (records table) r ≡ 22 → HasField table index r 1
+unfolding shape
+field-quote a e = has-field a e 1 (omega arith)
+
 pub field-name : {table index : List ℕ} {r : ℕ} {s : List ℕ} {base : ℕ} {env : Env} {c : Choices} → Ask table index r s base env c → kindAt (records table) r ≡ 3 → HasField table index r 0
 unfolding shape
 field-name a e = has-field a e 0 (omega arith)

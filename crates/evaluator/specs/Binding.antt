@@ -85,7 +85,7 @@ pub record Quantifies (k : ℕ) (b : Bool) : Type 0 where
 
 -- The kinds that are left where those without a binder are taken out.
 abbrev pub Remaining : ℕ → Type 0
-Remaining k = (k ≡ 0) ⊎ ((12 ≤ k) × (k ≡ 21 → ⊥))
+Remaining k = (k ≡ 0) ⊎ ((12 ≤ k) × (k ≡ 21 → ⊥) × (k ≡ 22 → ⊥))
 
 -- The kinds that test all bindings, and the kinds that ask for exactly one.
 abbrev pub Surveyed : ℕ → Type 0

@@ -63,6 +63,24 @@ pub fn whole(
     VALUE
 }
 
+// 22: a quote literal.
+pub fn quote(
+    table: &[u8],
+    index: &Index,
+    r: usize,
+    s: &mut [u8],
+    base: usize,
+    env: &[u32; Env::NAMES],
+    run: &mut Run,
+) -> usize
+    requires { ⌜ Ask (now table) (now index) r (now s) base (envOf (now env)) (lent (now run)) × (kindAt (records (now table)) r ≡ 22) ⌝ }
+    ensures { λ o. ⌜ Evaluates (now (table .entry)) r (now (s .entry)) (now (s .exit)) base (envOf (now (env .entry))) (lent (now (run .entry))) (ending o (lent (now (run .exit)))) ⌝ }
+{
+    let n = tables::reading::quote(table, index, r);
+    values::put_quote(s, base, n);
+    VALUE
+}
+
 // 3: a name. Its value is built where the name is read.
 pub fn name(
     table: &[u8],

@@ -26,6 +26,7 @@ use calling::Applied;
 use choices::Answer;
 use leaves::is_connective;
 use leaves::name;
+use leaves::quote;
 use leaves::test;
 use leaves::truth;
 use leaves::whole;
@@ -464,6 +465,7 @@ pub fn eval(
         kinds::IF => branch(table, index, r, s, base, env, run),
         kinds::SET | kinds::SEQUENCE | kinds::TUPLE => items(table, index, r, s, base, env, run, k),
         kinds::MAP => entries(table, index, r, s, base, env, run),
+        kinds::QUOTE => quote(table, index, r, s, base, env, run),
         _ => binder(table, index, r, s, base, env, run, k),
     }
 }

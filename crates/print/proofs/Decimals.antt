@@ -69,9 +69,12 @@ decimal-short (suc k) n h = go (decimal-short k (n / 10) (omega arith)) (ltb n 1
     go rest true e = omega (arith, length-small n (ltb-true n 10 e))
     go rest false e = omega (arith, length-large n (ltb-false n 10 e))
 
--- of a byte, of an integer's size, and of any number of 64 bits
+-- of a byte, of a quote, of an integer's size, and of any number of 64 bits
 pub decimal-byte : (n : ℕ) → n < 256 → length (decimal n) ≤ 3
 decimal-byte n h = decimal-short 2 n (omega arith)
+
+pub decimal-quote : (n : ℕ) → n < 65536 → length (decimal n) ≤ 5
+decimal-quote n h = decimal-short 4 n (omega arith)
 
 pub decimal-integer : (n : ℕ) → n ≤ 2147483648 → length (decimal n) ≤ 10
 decimal-integer n h = decimal-short 9 n (omega arith)

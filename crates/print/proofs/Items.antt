@@ -12,17 +12,17 @@ use mir.Syntax.{w32}
 use mir.Val.{toZ, ofZ}
 use mir.Facts.{toZ-ofZ}
 use Rattle.integers.proofs.Range.{range-fits}
-use Rattle.values.specs.Value.{Kind, set, sequence, map, tuple, number, boolean, integer, collection, Items, none, more, size, sizes}
+use Rattle.values.specs.Value.{Kind, set, sequence, map, tuple, number, boolean, integer, quote, collection, Items, none, more, size, sizes}
 use Rattle.values.specs.Place.{At, ItemsAt, Holds, HoldsItems}
 use Rattle.values.specs.Contract.{Length, KindAt}
 use Rattle.values.proofs.Encoding.{size-low, collection-size}
-use Rattle.values.proofs.Records.{word-size, holds, one-value, items-none, Uncons, uncons-of, is-collection, items-to, collection-shaped, collection-sound, integer-range}
+use Rattle.values.proofs.Records.{word-size, holds, one-value, items-none, Uncons, uncons-of, is-collection, items-to, collection-shaped, collection-sound, integer-range, quote-range}
 use Rattle.print.specs.declared.Separator.{Separator}
 use Rattle.print.specs.declared.Separator.the-variants.{Nothing}
-use Rattle.print.specs.Text.{truthText, integerText, text}
+use Rattle.print.specs.Text.{truthText, integerText, quoteText, text}
 use Rattle.print.specs.Contract.{Room, Wrote, ValueRoom, ValueWritten, separatorText, following, spelled, ItemsRoom, ItemsWritten, opening, closingBracket, Opened, Closed}
 use Rattle.print.proofs.Writing.{wrote-none, wrote-then, wrote-as, wrote-length}
-use Rattle.print.proofs.Spelling.{isNone, isMap, text-is, before-short, opening-short, truth-short, integer-short, text-short, spelled-short}
+use Rattle.print.proofs.Spelling.{isNone, isMap, text-is, before-short, opening-short, truth-short, integer-short, quote-short, text-short, spelled-short}
 
 -- ---- items
 
@@ -72,7 +72,7 @@ module _ {s : List ℕ} {from to : ℕ} (f : from ≡ to → ⊥) where
           (ap (λ (z : Separator). (separatorText x ++ text (u .first)) ++ spelled is-map z (u .rest)) e ∙ ap (spelled is-map x) (sym (u .is)))
           z
 
--- ---- booleans and integers
+-- ---- booleans, integers and quotes
 
 module _ {s : List ℕ} {from : ℕ} where
   pub boolean-text-room : {out : List ℕ} {at : ℕ} {b : Bool} → At s from (boolean b) → ValueRoom s from out at → Room out at (truthText b)
@@ -98,6 +98,14 @@ module _ {s : List ℕ} {from : ℕ} where
   unfolding text
   integer-written h w v g = wrote-as (ap integerText (same-integer h) ∙ ap text (one-value h g)) w
 
+  pub quote-text-room : {out : List ℕ} {at n : ℕ} → At s from (quote n) → ValueRoom s from out at → Room out at (quoteText n)
+  unfolding size
+  quote-text-room {out} {at} {n} h r = let e = word-size h in omega (arith, quote-short n (quote-range (h .fine)))
+
+  pub quote-written : {out out′ : List ℕ} {at r n : ℕ} → At s from (quote n) → Wrote out out′ at (quoteText n) r → ValueWritten s from out out′ at r
+  unfolding text
+  quote-written h w v g = wrote-as (ap text (one-value h g)) w
+
 -- ---- collections
 
 -- a collection stands at a place, and its kind has this number
@@ -107,10 +115,10 @@ pub record Collected (s : List ℕ) (from k : ℕ) : Type 0 where
   pub here : At s from (collection kind items)
   pub is : k ≡ number kind
 
-pub collected-at : {s : List ℕ} {from k : ℕ} → Holds s from → KindAt s from k → (k ≡ 1 → ⊥) → (k ≡ 2 → ⊥) → Collected s from k
-collected-at {s} {from} h e f g =
+pub collected-at : {s : List ℕ} {from k : ℕ} → Holds s from → KindAt s from k → (k ≡ 1 → ⊥) → (k ≡ 2 → ⊥) → (k ≡ 7 → ⊥) → Collected s from k
+collected-at {s} {from} h e f g i =
     let v = e .right (h .value) (h .here) in
-    let (k, vs, x) = is-collection (h .value) (λ p. f (v ∙ p)) (λ p. g (v ∙ p)) in
+    let (k, vs, x) = is-collection (h .value) (λ p. f (v ∙ p)) (λ p. g (v ∙ p)) (λ p. i (v ∙ p)) in
     let a : At s from (collection k vs) = subst (At s from) x (h .here) in
     record { kind = k; items = vs; here = a; is = e .right (collection k vs) a }
 

@@ -7,15 +7,15 @@ use native.Mathlib.Omega.{arith}
 use lib.IntN.{ℤ, pos, negsuc}
 use lib.ListN.{length, length-append}
 use Rattle.integers.specs.Whole.{InRange}
-use Rattle.values.specs.Value.{Kind, set, sequence, map, tuple, Value, boolean, integer, collection, Items, none, more, size, sizes, Shaped, PairedFrom, Paired, Sound, SoundItems}
+use Rattle.values.specs.Value.{Kind, set, sequence, map, tuple, Value, boolean, integer, quote, collection, Items, none, more, size, sizes, Shaped, PairedFrom, Paired, Sound, SoundItems}
 use Rattle.print.specs.declared.Separator.{Separator}
 use Rattle.print.specs.declared.Separator.the-variants.{Nothing, Comma, Arrow}
-use Rattle.print.specs.Ascii.{comma}
-use Rattle.print.specs.Text.{integerText, truthText, continued, commaJoined, pairTexts, entriesText, arrow, text, texts}
+use Rattle.print.specs.Ascii.{ascii, comma}
+use Rattle.print.specs.Text.{integerText, truthText, quoteText, decimal, continued, commaJoined, pairTexts, entriesText, arrow, text, texts}
 use Rattle.print.specs.Contract.{separatorText, following, spelled, opening, closingBracket}
 use Rattle.integers.proofs.Range.{range-fits}
 use Rattle.values.proofs.Entries.{by-entries}
-use Rattle.print.proofs.Decimals.{decimal-integer}
+use Rattle.print.proofs.Decimals.{decimal-quote, decimal-integer}
 
 -- ---- items joined by commas
 
@@ -101,6 +101,9 @@ integer-short (negsuc n) h =
     let d = decimal-integer (suc n) (omega arith) in
     omega arith
 
+pub quote-short : (n : ℕ) → n < 65536 → length (quoteText n) ≤ 7
+quote-short n h = omega (arith, decimal-quote n h, length-append (decimal n) (ascii ">"))
+
 mutual
   unfolding size Sound spelled text
 
@@ -108,6 +111,7 @@ mutual
   pub text-short : (v : Value) → Sound v → length (text v) + 3 ≤ 2 * size v
   text-short (boolean b) h = let e = truth-short b in omega arith
   text-short (integer z) h = let e = integer-short z h in omega arith
+  text-short (quote n) h = let e = quote-short n h in omega arith
   text-short (collection k vs) h =
       let e = ap length (text-is k vs (h .0)) in
       let xs = opening k (isNone vs) in

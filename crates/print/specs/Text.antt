@@ -6,7 +6,7 @@ use lib.Dec.{ltb}
 use lib.IntN.{ℤ, pos, negsuc}
 use lib.ListN.{getD}
 use Rattle.choices.specs.Tree.{Final, result, refuses}
-use Rattle.values.specs.Value.{Kind, set, sequence, map, tuple, Value, boolean, integer, collection, Items, none, more}
+use Rattle.values.specs.Value.{Kind, set, sequence, map, tuple, Value, boolean, integer, quote, collection, Items, none, more}
 use Rattle.print.specs.Ascii.{ascii, digit, comma, hyphen, equals, exclamation, space, newline}
 
 -- ---- numbers
@@ -53,6 +53,10 @@ abbrev pub truthText : Bool → List ℕ
 truthText true = ascii "true"
 truthText false = ascii "false"
 
+-- <7>: the number of a quote between angle brackets.
+abbrev pub quoteText : ℕ → List ℕ
+quoteText n = ascii "<" ++ decimal n ++ ascii ">"
+
 -- {1,2}, [1,2], {1|->2} and {|->}, mk_(1,2).
 abbrev pub enclosed : Kind → List (List ℕ) → List ℕ
 enclosed set ts = ascii "{" ++ commaJoined ts ++ ascii "}"
@@ -64,6 +68,7 @@ unfoldable mutual
   pub text : Value → List ℕ
   text (boolean b) = truthText b
   text (integer z) = integerText z
+  text (quote n) = quoteText n
   text (collection k vs) = enclosed k (texts vs)
 
   pub texts : Items → List (List ℕ)

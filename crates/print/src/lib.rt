@@ -4,7 +4,7 @@ ghost use mathlib.Core.List.{_∷_, [], _++_};
 ghost use Prim.Native.Nat.{_+_, _≤_, _<_};
 ghost use lib.ListN.{length};
 ghost use Rattle.print.specs.Ascii.{newline};
-ghost use Rattle.print.specs.Text.{decimal, integerText, truthText, refusalWord, listText};
+ghost use Rattle.print.specs.Text.{decimal, integerText, truthText, quoteText, refusalWord, listText};
 ghost use Rattle.print.specs.Print.{firstLine, endLine, cutLine, refusedLine};
 ghost use Rattle.print.specs.Contract.{Room, Wrote, shortLine, ValueRoom, ValueWritten, separatorText, following, ItemsRoom, ItemsWritten, Opened, Closed, OutcomeRoom, OutcomeWritten, LineRoom, LineWritten};
 use choices::list::Walk;
@@ -149,6 +149,17 @@ fn put_boolean(b: bool, out: &mut [u8], at: usize) -> usize
     put_bytes(b"false", out, at)
 }
 
+// Writes a quote: its number between angle brackets.
+fn put_quote(n: usize, out: &mut [u8], at: usize) -> usize
+    requires { ⌜ Room (now out) at (quoteText n) ⌝ }
+    ensures { λ r. ⌜ Wrote (now (out .entry)) (now (out .exit)) at (quoteText n) r ⌝ }
+{
+    out[at] = b'<';
+    let end = put_number(n, out, at + 1);
+    out[end] = b'>';
+    end + 1
+}
+
 // Writes what stands before an item.
 fn put_separator(separator: Separator, out: &mut [u8], at: usize) -> usize
     requires { ⌜ Room (now out) at (separatorText separator) ⌝ }
@@ -220,6 +231,9 @@ pub fn put_value(s: &[u8], from: usize, out: &mut [u8], at: usize) -> usize
     }
     if kind == Value::INTEGER {
         return put_integer(values::integer_at(s, from), out, at);
+    }
+    if kind == Value::QUOTE {
+        return put_quote(values::quote_at(s, from), out, at);
     }
     let n = values::length_of(s, from);
     let first = put_opening(kind, n == Value::HEAD, out, at);

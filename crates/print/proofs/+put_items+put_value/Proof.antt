@@ -6,7 +6,7 @@ use native.Mathlib.Omega.{arith}
 use borrow.Author.Needs.{needs}
 use lib.Dec.{eqb}
 use Rattle.integers.specs.Bytes.{word}
-use Rattle.print.proofs.Items.{spelled-end, spelled-begun, first-holds, separator-room, first-room, rest-room, items-written, boolean-text-room, boolean-written, integer-text-room, integer-written, collected-at, items-room, closing-room, collection-written}
+use Rattle.print.proofs.Items.{spelled-end, spelled-begun, first-holds, separator-room, first-room, rest-room, items-written, boolean-text-room, boolean-written, integer-text-room, integer-written, quote-text-room, quote-written, collected-at, items-room, closing-room, collection-written}
 use borrow.Fn.Kinds.{In}
 use borrow.Fn.PlainCycle.{Measures, is, falls, and}
 use Rattle.print.proofs.put_items.Reads as put-items
@@ -19,10 +19,12 @@ use Rattle.print.proofs.following.Reads as following-reads
 use Rattle.print.proofs.put_boolean.Reads as put-boolean-reads
 use Rattle.print.proofs.put_closing.Reads as put-closing-reads
 use Rattle.print.proofs.put_integer.Reads as put-integer-reads
+use Rattle.print.proofs.put_quote.Reads as put-quote-reads
 use Rattle.print.proofs.put_opening.Reads as put-opening-reads
 use Rattle.print.proofs.put_separator.Reads as put-separator-reads
 use Rattle.values.proofs.boolean_at.Reads as boolean-at-reads
 use Rattle.values.proofs.integer_at.Reads as integer-at-reads
+use Rattle.values.proofs.quote_at.Reads as quote-at-reads
 use Rattle.values.proofs.kind_of.Reads as kind-of-reads
 use Rattle.values.proofs.length_of.Reads as length-of-reads
 use Rattle.print.proofs.+put_items+put_value.{statement}
@@ -53,7 +55,7 @@ abbrev put-items-calls : ℕ → put-items-lts.Claims
 put-items-calls t = (put-separator-reads.Asked, put-separator-reads.Learnt, put-value-below t, put-value.Post, length-of-reads.Asked, length-of-reads.Learnt, following-reads.Asked, following-reads.Learnt, put-items-below t, put-items.Post)
 
 abbrev put-value-calls : ℕ → put-value-lts.Claims
-put-value-calls t = (kind-of-reads.Asked, kind-of-reads.Learnt, boolean-at-reads.Asked, boolean-at-reads.Learnt, put-boolean-reads.Asked, put-boolean-reads.Learnt, integer-at-reads.Asked, integer-at-reads.Learnt, put-integer-reads.Asked, put-integer-reads.Learnt, length-of-reads.Asked, length-of-reads.Learnt, put-opening-reads.Asked, put-opening-reads.Learnt, put-items-below t, put-items.Post, put-closing-reads.Asked, put-closing-reads.Learnt)
+put-value-calls t = (kind-of-reads.Asked, kind-of-reads.Learnt, boolean-at-reads.Asked, boolean-at-reads.Learnt, put-boolean-reads.Asked, put-boolean-reads.Learnt, integer-at-reads.Asked, integer-at-reads.Learnt, put-integer-reads.Asked, put-integer-reads.Learnt, quote-at-reads.Asked, quote-at-reads.Learnt, put-quote-reads.Asked, put-quote-reads.Learnt, length-of-reads.Asked, length-of-reads.Learnt, put-opening-reads.Asked, put-opening-reads.Learnt, put-items-below t, put-items.Post, put-closing-reads.Asked, put-closing-reads.Learnt)
 
 put-items-returns : (t : ℕ) → put-items-lts.Need-returns (put-items-calls t) (put-items-at t) put-items.Post
 put-items-returns t c = spelled-end (c .before .before .before .args .is-map) (c .before .before .before .args .separator) (c .before .before .before .args .out .now) (c .before .before .before .args .at) (c .if1 .taken)
@@ -109,8 +111,20 @@ put-value-same-length-2 t c = search needs
 put-value-returns-2 : (t : ℕ) → put-value-lts.Need-returns-2 (put-value-calls t) (put-value-at t) put-value.Post
 put-value-returns-2 t c = integer-written (c .before .before .before .before .integer-at .ensures) (c .before .before .put-integer .ensures)
 
+put-value-quote-at-requires : (t : ℕ) → put-value-lts.Need-quote-at-requires (put-value-calls t) (put-value-at t) put-value.Post
+put-value-quote-at-requires t c κs = record { held = c .before .before .before .before .before .before .pre .1 .held; kind = sym (c .before .before .before .kind-of .ensures .is) ∙ c .if3 .taken }
+
+put-value-put-quote-requires : (t : ℕ) → put-value-lts.Need-put-quote-requires (put-value-calls t) (put-value-at t) put-value.Post
+put-value-put-quote-requires t c κs = quote-text-room (c .before .quote-at .ensures) (c .before .before .before .before .before .before .before .before .pre .1)
+
+put-value-same-length-3 : (t : ℕ) → put-value-lts.Need-same-length-3 (put-value-calls t) (put-value-at t) put-value.Post
+put-value-same-length-3 t c = search needs
+
+put-value-returns-3 : (t : ℕ) → put-value-lts.Need-returns-3 (put-value-calls t) (put-value-at t) put-value.Post
+put-value-returns-3 t c = quote-written (c .before .before .before .before .quote-at .ensures) (c .before .before .put-quote .ensures)
+
 put-value-length-of-requires : (t : ℕ) → put-value-lts.Need-length-of-requires (put-value-calls t) (put-value-at t) put-value.Post
-put-value-length-of-requires t c κs = c .before .before .before .before .before .pre .1 .held
+put-value-length-of-requires t c κs = c .before .before .before .before .before .before .pre .1 .held
 
 put-value-put-opening-requires : (t : ℕ) → put-value-lts.Need-put-opening-requires (put-value-calls t) (put-value-at t) put-value.Post
 put-value-put-opening-requires t c κs = omega arith
@@ -122,16 +136,16 @@ put-value-add-put-items-2 : (t : ℕ) → put-value-lts.Need-add-put-items-2 (pu
 put-value-add-put-items-2 t c = omega (arith, c .before .before .before .before .length-of .ensures .is)
 
 put-value-put-items-requires : (t : ℕ) → put-value-lts.Need-put-items-requires (put-value-calls t) (put-value-at t) put-value.Post
-put-value-put-items-requires t c κs = let x = collected-at (c .before .before .before .before .before .before .before .before .before .before .before .pre .1 .held) (c .before .before .before .before .before .before .before .before .kind-of .ensures) (c .before .before .before .before .before .before .before .if1 .left) (c .before .before .before .before .before .before .if2 .left) in (omega (arith, c .before .before .before .before .before .length-of .ensures .is, c .before .before .before .before .before .length-of .ensures .low), items-room x (c .before .before .before .before .before .length-of .ensures) (eqb (c .before .before .before .before .before .length-of .result) 4) (c .before .before .before .put-opening .ensures) (c .before .before .before .before .before .before .before .before .before .before .before .pre .1))
+put-value-put-items-requires t c κs = let x = collected-at (c .before .before .before .before .before .before .before .before .before .before .before .before .pre .1 .held) (c .before .before .before .before .before .before .before .before .before .kind-of .ensures) (c .before .before .before .before .before .before .before .before .if1 .left) (c .before .before .before .before .before .before .before .if2 .left) (c .before .before .before .before .before .before .if3 .left) in (omega (arith, c .before .before .before .before .before .length-of .ensures .is, c .before .before .before .before .before .length-of .ensures .low), items-room x (c .before .before .before .before .before .length-of .ensures) (eqb (c .before .before .before .before .before .length-of .result) 4) (c .before .before .before .put-opening .ensures) (c .before .before .before .before .before .before .before .before .before .before .before .before .pre .1))
 
 put-value-put-closing-requires : (t : ℕ) → put-value-lts.Need-put-closing-requires (put-value-calls t) (put-value-at t) put-value.Post
-put-value-put-closing-requires t c κs = let x = collected-at (c .before .before .before .before .before .before .before .before .before .before .before .before .before .before .before .pre .1 .held) (c .before .before .before .before .before .before .before .before .before .before .before .before .kind-of .ensures) (c .before .before .before .before .before .before .before .before .before .before .before .if1 .left) (c .before .before .before .before .before .before .before .before .before .before .if2 .left) in closing-room x (c .before .before .before .before .before .before .before .before .before .length-of .ensures) (c .before .before .before .put-items .ensures) (eqb (c .before .before .before .before .before .before .before .before .before .length-of .result) 4) (c .before .before .before .before .before .before .before .put-opening .ensures) (c .before .before .before .before .before .before .before .before .before .before .before .before .before .before .before .pre .1)
+put-value-put-closing-requires t c κs = let x = collected-at (c .before .before .before .before .before .before .before .before .before .before .before .before .before .before .before .before .pre .1 .held) (c .before .before .before .before .before .before .before .before .before .before .before .before .before .kind-of .ensures) (c .before .before .before .before .before .before .before .before .before .before .before .before .if1 .left) (c .before .before .before .before .before .before .before .before .before .before .before .if2 .left) (c .before .before .before .before .before .before .before .before .before .before .if3 .left) in closing-room x (c .before .before .before .before .before .before .before .before .before .length-of .ensures) (c .before .before .before .put-items .ensures) (eqb (c .before .before .before .before .before .before .before .before .before .length-of .result) 4) (c .before .before .before .before .before .before .before .put-opening .ensures) (c .before .before .before .before .before .before .before .before .before .before .before .before .before .before .before .before .pre .1)
 
-put-value-same-length-3 : (t : ℕ) → put-value-lts.Need-same-length-3 (put-value-calls t) (put-value-at t) put-value.Post
-put-value-same-length-3 t c = search needs
+put-value-same-length-4 : (t : ℕ) → put-value-lts.Need-same-length-4 (put-value-calls t) (put-value-at t) put-value.Post
+put-value-same-length-4 t c = search needs
 
-put-value-returns-3 : (t : ℕ) → put-value-lts.Need-returns-3 (put-value-calls t) (put-value-at t) put-value.Post
-put-value-returns-3 t c = let x = collected-at (c .before .before .before .before .before .before .before .before .before .before .before .before .before .before .before .before .before .before .pre .1 .held) (c .before .before .before .before .before .before .before .before .before .before .before .before .before .before .before .kind-of .ensures) (c .before .before .before .before .before .before .before .before .before .before .before .before .before .before .if1 .left) (c .before .before .before .before .before .before .before .before .before .before .before .before .before .if2 .left) in collection-written x (c .before .before .before .before .before .before .before .before .before .before .before .before .length-of .ensures) (c .before .before .before .before .before .before .put-items .ensures) (c .before .before .before .before .before .before .before .before .before .before .put-opening .ensures) (c .before .before .put-closing .ensures)
+put-value-returns-4 : (t : ℕ) → put-value-lts.Need-returns-4 (put-value-calls t) (put-value-at t) put-value.Post
+put-value-returns-4 t c = let x = collected-at (c .before .before .before .before .before .before .before .before .before .before .before .before .before .before .before .before .before .before .before .pre .1 .held) (c .before .before .before .before .before .before .before .before .before .before .before .before .before .before .before .before .kind-of .ensures) (c .before .before .before .before .before .before .before .before .before .before .before .before .before .before .before .if1 .left) (c .before .before .before .before .before .before .before .before .before .before .before .before .before .before .if2 .left) (c .before .before .before .before .before .before .before .before .before .before .before .before .before .if3 .left) in collection-written x (c .before .before .before .before .before .before .before .before .before .before .before .before .length-of .ensures) (c .before .before .before .before .before .before .put-items .ensures) (c .before .before .before .before .before .before .before .before .before .before .put-opening .ensures) (c .before .before .put-closing .ensures)
 
 pub +put-items+put-value-spec : {M : Type 1} → statement M
 +put-items+put-value-spec = close μ-put-items μ-put-value (λ t. put-items-lts.spec (put-items-calls t)
@@ -146,26 +160,7 @@ pub +put-items+put-value-spec : {M : Type 1} → statement M
     (put-items-put-items-requires t)
     (put-items-same-length t)
     (put-items-returns-2 t))
-    λ t. put-value-lts.spec (
-      kind-of-reads.Asked,
-      kind-of-reads.Learnt,
-      boolean-at-reads.Asked,
-      boolean-at-reads.Learnt,
-      put-boolean-reads.Asked,
-      put-boolean-reads.Learnt,
-      integer-at-reads.Asked,
-      integer-at-reads.Learnt,
-      put-integer-reads.Asked,
-      put-integer-reads.Learnt,
-      length-of-reads.Asked,
-      length-of-reads.Learnt,
-      put-opening-reads.Asked,
-      put-opening-reads.Learnt,
-      put-items-below t,
-      put-items.Post,
-      put-closing-reads.Asked,
-      put-closing-reads.Learnt,
-    )
+    λ t. put-value-lts.spec (put-value-calls t)
     (put-value-at t)
     put-value.Post
     (put-value-kind-of-requires t)
@@ -177,11 +172,15 @@ pub +put-items+put-value-spec : {M : Type 1} → statement M
     (put-value-put-integer-requires t)
     (put-value-same-length-2 t)
     (put-value-returns-2 t)
+    (put-value-quote-at-requires t)
+    (put-value-put-quote-requires t)
+    (put-value-same-length-3 t)
+    (put-value-returns-3 t)
     (put-value-length-of-requires t)
     (put-value-put-opening-requires t)
     (put-value-add-put-items t)
     (put-value-add-put-items-2 t)
     (put-value-put-items-requires t)
     (put-value-put-closing-requires t)
-    (put-value-same-length-3 t)
-    (put-value-returns-3 t)
+    (put-value-same-length-4 t)
+    (put-value-returns-4 t)

@@ -18,6 +18,7 @@ use Rattle.evaluator.proofs.plain.logic.Reads as logic
 use Rattle.evaluator.proofs.plain.items.Reads as items
 use Rattle.evaluator.proofs.plain.entries.Reads as entries
 use Rattle.evaluator.proofs.leaves.name.Reads as name-reads
+use Rattle.evaluator.proofs.leaves.quote.Reads as quote-reads
 use Rattle.evaluator.proofs.leaves.truth.Reads as truth-reads
 use Rattle.evaluator.proofs.plain.unary.Reads as unary
 use Rattle.evaluator.proofs.leaves.whole.Reads as whole-reads
@@ -47,6 +48,8 @@ eval-calls t = (
   branch.Post,
   entries-below t,
   entries.Post,
+  quote-reads.Asked,
+  quote-reads.Learnt,
   binder-below t,
   binder.Post,
   items-below t,
@@ -91,6 +94,9 @@ eval-branch-requires t c κs = (omega (arith, c .before .before .before .before 
 
 eval-entries-requires : (t : ℕ) → eval-lts.Need-entries-requires (eval-calls t) (eval-at t) eval.Post
 eval-entries-requires t c κs = (omega (arith, c .before .before .before .before .before .before .pre .0), (c .before .before .before .before .before .before .pre .1, sym (c .before .before .before .kind .ensures .0) ∙ c .before .before .match .keys8))
+
+eval-quote-requires : (t : ℕ) → eval-lts.Need-quote-requires (eval-calls t) (eval-at t) eval.Post
+eval-quote-requires t c κs = (c .before .before .before .before .before .before .pre .1, sym (c .before .before .before .kind .ensures .0) ∙ c .before .before .match .keys9)
 
 eval-binder-requires : (t : ℕ) → eval-lts.Need-binder-requires (eval-calls t) (eval-at t) eval.Post
 eval-binder-requires t c κs = (omega (arith, c .before .before .before .before .before .before .before .pre .0), (c .before .before .before .before .before .before .before .pre .1, sym (c .before .before .before .before .kind .ensures .0), left-over (c .before .before .before .match .rest) (⊎-elim (λ x. inl (x .taken)) (λ x. inr (x .1 .left)) (c .before .before .if2 .came))))
@@ -144,13 +150,19 @@ eval-same-length-9 : (t : ℕ) → eval-lts.Need-same-length-9 (eval-calls t) (e
 eval-same-length-9 t c = search needs
 
 eval-returns-9 : (t : ℕ) → eval-lts.Need-returns-9 (eval-calls t) (eval-at t) eval.Post
-eval-returns-9 t c = c .before .before .binder .ensures
+eval-returns-9 t c = c .before .before .quote .ensures
 
 eval-same-length-10 : (t : ℕ) → eval-lts.Need-same-length-10 (eval-calls t) (eval-at t) eval.Post
 eval-same-length-10 t c = search needs
 
 eval-returns-10 : (t : ℕ) → eval-lts.Need-returns-10 (eval-calls t) (eval-at t) eval.Post
-eval-returns-10 t c = c .before .before .items .ensures
+eval-returns-10 t c = c .before .before .binder .ensures
+
+eval-same-length-11 : (t : ℕ) → eval-lts.Need-same-length-11 (eval-calls t) (eval-at t) eval.Post
+eval-same-length-11 t c = search needs
+
+eval-returns-11 : (t : ℕ) → eval-lts.Need-returns-11 (eval-calls t) (eval-at t) eval.Post
+eval-returns-11 t c = c .before .before .items .ensures
 
 pub eval-member : {M : Type 1} (t : ℕ) → eval-lts.Closed (eval-calls t) (eval-at t) eval.Post M
 eval-member t = eval-lts.spec (eval-calls t) (eval-at t) eval.Post
@@ -167,6 +179,7 @@ eval-member t = eval-lts.spec (eval-calls t) (eval-at t) eval.Post
     (eval-binary-requires t)
     (eval-branch-requires t)
     (eval-entries-requires t)
+    (eval-quote-requires t)
     (eval-binder-requires t)
     (eval-items-requires t)
     (eval-same-length-2 t)
@@ -187,3 +200,5 @@ eval-member t = eval-lts.spec (eval-calls t) (eval-at t) eval.Post
     (eval-returns-9 t)
     (eval-same-length-10 t)
     (eval-returns-10 t)
+    (eval-same-length-11 t)
+    (eval-returns-11 t)
