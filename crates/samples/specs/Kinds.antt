@@ -3,8 +3,8 @@ use mathlib.Core.Path.{_≡_, refl}
 use mathlib.Core.Bool.{true, false}
 use mathlib.Core.List.{[], _∷_}
 use Rattle.choices.specs.Tree.{result}
-use Rattle.values.specs.Value.{boolean, collection, set, sequence, map, tuple}
-use Rattle.samples.specs.Notation.{row, rows, flag, whole, wholeBelow0, name, operation, P, tested, n, of, walk, alone, computing}
+use Rattle.values.specs.Value.{boolean, quote, collection, set, sequence, map, tuple, none}
+use Rattle.samples.specs.Notation.{row, rows, flag, whole, wholeBelow0, quoted, name, operation, P, tested, n, of, walk, alone, computing}
 
 -- if 1 < 2 then 3 else 1 div 0 = 3
 pub if-takes-then : walk (rows (whole 1 ∷ whole 2 ∷ operation 13 0 1 ∷ whole 3 ∷ whole 1 ∷ whole 0 ∷ operation 10 4 5 ∷ row 6 (2 ∷ 3 ∷ 6 ∷ []) ∷ [])) ≡ alone (result (n 3))
@@ -110,6 +110,34 @@ sequence-applied = refl
 pub map-applied : walk (rows (whole 1 ∷ whole 7 ∷ row 9 (0 ∷ 1 ∷ []) ∷ whole 1 ∷ row 21 (2 ∷ 3 ∷ []) ∷ [])) ≡ alone (result (n 7))
 unfolding computing
 map-applied = refl
+
+-- <258>: the lowest byte first
+pub quote-given : walk (rows (row 22 (2 ∷ 1 ∷ []) ∷ [])) ≡ alone (result (quote 258))
+unfolding computing
+quote-given = refl
+
+-- <1> = <1> = true, and <1> = 1 = false: a quote is no integer
+pub quotes-equal : walk (rows (quoted 1 ∷ quoted 1 ∷ operation 5 0 1 ∷ [])) ≡ alone (result (boolean true))
+unfolding computing
+quotes-equal = refl
+
+pub quote-no-integer : walk (rows (quoted 1 ∷ whole 1 ∷ operation 5 0 1 ∷ [])) ≡ alone (result (boolean false))
+unfolding computing
+quote-no-integer = refl
+
+-- <1> in set {1, <1>} = true, and card {<1>, 1, <1>} = 2
+pub quote-in-set : walk (rows (quoted 1 ∷ whole 1 ∷ quoted 1 ∷ row 7 (1 ∷ 2 ∷ []) ∷ operation 17 0 3 ∷ [])) ≡ alone (result (boolean true))
+unfolding computing
+quote-in-set = refl
+
+pub quotes-counted : walk (rows (quoted 1 ∷ whole 1 ∷ quoted 1 ∷ row 7 (0 ∷ 1 ∷ 2 ∷ []) ∷ row 4 (4 ∷ 3 ∷ []) ∷ [])) ≡ alone (result (n 2))
+unfolding computing
+quotes-counted = refl
+
+-- let a in set {<1>, mk_(1, 2), {}} be st true in a: {}, mk_(1, 2), <1>
+pub quotes-last : walk (rows (P 0 ∷ quoted 1 ∷ whole 1 ∷ whole 2 ∷ row 10 (2 ∷ 3 ∷ []) ∷ row 7 [] ∷ row 7 (1 ∷ 4 ∷ 5 ∷ []) ∷ flag 1 ∷ name 0 ∷ row 13 (0 ∷ 6 ∷ 7 ∷ 8 ∷ []) ∷ [])) ≡ (0 ∷ [], result (collection set none)) ∷ (1 ∷ [], result (collection tuple (of (n 1 ∷ n 2 ∷ [])))) ∷ (2 ∷ [], result (quote 1)) ∷ []
+unfolding computing
+quotes-last = refl
 
 -- let a in set {1, 2} be st true in a: 1, then 2
 pub let-be-all : walk (rows (P 0 ∷ whole 1 ∷ whole 2 ∷ row 7 (1 ∷ 2 ∷ []) ∷ flag 1 ∷ name 0 ∷ row 13 (0 ∷ 3 ∷ 4 ∷ 5 ∷ []) ∷ [])) ≡ (0 ∷ [], result (n 1)) ∷ (1 ∷ [], result (n 2)) ∷ []

@@ -3,7 +3,7 @@ use mathlib.Core.List.{List, [], _∷_, _++_, map}
 use Prim.Native.Nat.{ℕ, zero, suc, _+_}
 use lib.IntN.{pos, negℤ}
 use lib.ListN.{length}
-use Rattle.integers.specs.Bytes.{integerBytes}
+use Rattle.integers.specs.Bytes.{pair, integerBytes}
 use Rattle.integers.specs.Whole.{ranged}
 use Rattle.choices.specs.Tree.{Final}
 use Rattle.choices.specs.Paths.{allLists}
@@ -37,7 +37,7 @@ abbrev pub rows : List (List ℕ) → List ℕ
 rows [] = []
 rows (r ∷ rs) = r ++ rows rs
 
--- A boolean literal, and integer literals from 0 up and below 0.
+-- A boolean literal, integer literals from 0 up and below 0, and a quote literal.
 abbrev pub flag : ℕ → List ℕ
 flag b = row 1 (b ∷ [])
 
@@ -46,6 +46,9 @@ whole k = row 2 (integerBytes (pos k))
 
 abbrev pub wholeBelow0 : ℕ → List ℕ
 wholeBelow0 k = row 2 (integerBytes (negℤ (pos k)))
+
+abbrev pub quoted : ℕ → List ℕ
+quoted k = row 22 (pair k)
 
 -- A name, a binary operator with its operands, and a pattern that is a name.
 abbrev pub name : ℕ → List ℕ

@@ -5,10 +5,10 @@ use mathlib.Core.List.{List, [], _∷_}
 use Prim.Native.Nat.{ℕ}
 use lib.IntN.{pos}
 use Rattle.choices.specs.Tree.{result, refuses}
-use Rattle.integers.specs.Bytes.{integerBytes}
+use Rattle.integers.specs.Bytes.{pair, integerBytes}
 use Rattle.values.specs.Value.{boolean, collection, set, sequence, tuple, none}
 use Rattle.meaning.specs.Service.{scratchBytes, checks}
-use Rattle.samples.specs.Notation.{row, rows, flag, whole, name, operation, P, n, below0, of, walk, alone, computing}
+use Rattle.samples.specs.Notation.{row, rows, flag, whole, quoted, name, operation, P, n, below0, of, walk, alone, computing}
 
 -- let - = 1 in 2 = 2
 pub any-matches : walk (rows (row 33 [] ∷ whole 1 ∷ whole 2 ∷ row 12 (0 ∷ 1 ∷ 2 ∷ []) ∷ [])) ≡ alone (result (n 2))
@@ -24,6 +24,27 @@ boolean-matches = refl
 pub integer-matches : walk (rows (P 0 ∷ row 35 (integerBytes (pos 2)) ∷ row 36 (0 ∷ 1 ∷ []) ∷ flag 0 ∷ whole 1 ∷ row 10 (3 ∷ 4 ∷ []) ∷ flag 1 ∷ whole 2 ∷ row 10 (6 ∷ 7 ∷ []) ∷ row 7 (5 ∷ 8 ∷ []) ∷ flag 1 ∷ name 0 ∷ row 13 (2 ∷ 9 ∷ 10 ∷ 11 ∷ []) ∷ [])) ≡ (0 ∷ [], result (boolean true)) ∷ []
 unfolding computing
 integer-matches = refl
+
+-- let mk_(<1>, a) in set {mk_(<0>, 1), mk_(<1>, 2)} be st true in a = 2
+pub quote-matches : walk (rows (row 43 (pair 1) ∷ P 0 ∷ row 36 (0 ∷ 1 ∷ []) ∷ quoted 0 ∷ whole 1 ∷ row 10 (3 ∷ 4 ∷ []) ∷ quoted 1 ∷ whole 2 ∷ row 10 (6 ∷ 7 ∷ []) ∷ row 7 (5 ∷ 8 ∷ []) ∷ flag 1 ∷ name 0 ∷ row 13 (2 ∷ 9 ∷ 10 ∷ 11 ∷ []) ∷ [])) ≡ (0 ∷ [], result (n 2)) ∷ []
+unfolding computing
+quote-matches = refl
+
+-- let <1> = <1> in 5 = 5: no choice; let <1> = <2> in 5: 23, and let <1> = 1 in 5: 23
+abbrev against : List ℕ → List ℕ
+against value = rows (row 43 (pair 1) ∷ value ∷ whole 5 ∷ row 12 (0 ∷ 1 ∷ 2 ∷ []) ∷ [])
+
+pub quote-alone : walk (against (quoted 1)) ≡ alone (result (n 5))
+unfolding computing
+quote-alone = refl
+
+pub other-quote-unmatched : walk (against (quoted 2)) ≡ alone (refuses 23 3 0)
+unfolding computing
+other-quote-unmatched = refl
+
+pub integer-unmatched : walk (against (whole 1)) ≡ alone (refuses 23 3 0)
+unfolding computing
+integer-unmatched = refl
 
 -- let mk_(a, b) = mk_(1, 2) in a - b = -1: no choice
 pub tuple-matches : walk (rows (P 0 ∷ P 1 ∷ row 36 (0 ∷ 1 ∷ []) ∷ whole 1 ∷ whole 2 ∷ row 10 (3 ∷ 4 ∷ []) ∷ name 0 ∷ name 1 ∷ operation 8 6 7 ∷ row 12 (2 ∷ 5 ∷ 8 ∷ []) ∷ [])) ≡ alone (result (below0 1))

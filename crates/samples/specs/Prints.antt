@@ -1,14 +1,15 @@
 -- Whole prints, computed: document 01's worked print, and tables of `sheets` whose prints show each form of a line and of a value;
 -- every pairing and every split of a map.
 use mathlib.Core.Path.{_≡_, refl, ap}
-use mathlib.Core.List.{List, [], _∷_}
+use mathlib.Core.List.{List, [], _∷_, _++_}
 use Prim.Native.Nat.{ℕ}
 use native.Mathlib.Omega.{arith}
+use Rattle.values.specs.Value.{quote}
 use Rattle.print.specs.Ascii.{ascii, hyphen}
 use Rattle.print.specs.Text.{digitsTo, decimal, text, refusalWord}
 use Rattle.print.specs.Print.{printOf}
 use Rattle.print.proofs.Decimals.{decimal-within}
-use Rattle.samples.specs.Notation.{row, rows, flag, whole, wholeBelow0, name, operation, P, below0, computing}
+use Rattle.samples.specs.Notation.{row, rows, flag, whole, wholeBelow0, quoted, name, operation, P, below0, computing}
 use Rattle.samples.specs.Samples.{worked}
 
 -- To unfold this is to unfold everything that a print computes with.
@@ -29,6 +30,18 @@ pub values-print :
     ≡ ascii "table 14\n- =mk_({|->},{true|->[false],1|->{}},[],{mk_(-1,{2})})\nend 1\n"
 unfolding printing
 values-print = refl
+
+-- sheets/quotes-in-order.sheet: {<2>,<1>,mk_(1,1),true,{}}
+pub quotes-print :
+    printOf (rows (quoted 2 ∷ quoted 1 ∷ whole 1 ∷ whole 1 ∷ row 10 (2 ∷ 3 ∷ []) ∷ flag 1 ∷ row 7 [] ∷ row 7 (0 ∷ 1 ∷ 4 ∷ 5 ∷ 6 ∷ []) ∷ []))
+    ≡ ascii "table 8\n- ={true,{},mk_(1,1),<1>,<2>}\nend 1\n"
+unfolding printing
+quotes-print = refl
+
+-- The greatest quote: five digits.
+pub greatest-quote-text : text (quote 65535) ≡ ascii "<65535>"
+unfolding text digitsTo
+greatest-quote-text = ap (λ (l : List ℕ). ascii "<" ++ l ++ ascii ">") (decimal-within 4 65535 (omega arith))
 
 -- The least integer: ten digits after the sign.
 pub least-text : text (below0 2147483648) ≡ ascii "-2147483648"

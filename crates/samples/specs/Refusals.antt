@@ -6,7 +6,7 @@ use lib.IntN.{pos}
 use Rattle.choices.specs.Tree.{refuses}
 use Rattle.values.specs.Contract.{zeros}
 use Rattle.integers.specs.Bytes.{integerBytes}
-use Rattle.samples.specs.Notation.{row, rows, flag, whole, name, operation, P, tested, answerUnder, walk, alone, computing}
+use Rattle.samples.specs.Notation.{row, rows, flag, whole, quoted, name, operation, P, tested, answerUnder, walk, alone, computing}
 
 -- 1 + true: 20 at the operator
 pub kind-of-operand : walk (rows (whole 1 ∷ flag 1 ∷ operation 7 0 1 ∷ [])) ≡ alone (refuses 20 2 0)
@@ -32,6 +32,35 @@ kind-of-set = refl
 pub kind-of-members : walk (rows (P 0 ∷ flag 1 ∷ row 7 (1 ∷ []) ∷ flag 1 ∷ name 0 ∷ row 19 (0 ∷ 2 ∷ 3 ∷ 4 ∷ []) ∷ [])) ≡ alone (refuses 20 5 0)
 unfolding computing
 kind-of-members = refl
+
+-- Quotes have = and <> alone: <1> < <2>, <1> + 1, {<1>,...,<2>}, not <1>, if <1> then 1 else 2, [a | a in set {<1>} & true] and dunion {<1>} give 20.
+pub quotes-not-ordered : walk (rows (quoted 1 ∷ quoted 2 ∷ operation 13 0 1 ∷ [])) ≡ alone (refuses 20 2 0)
+unfolding computing
+quotes-not-ordered = refl
+
+pub quote-not-added : walk (rows (quoted 1 ∷ whole 1 ∷ operation 7 0 1 ∷ [])) ≡ alone (refuses 20 2 0)
+unfolding computing
+quote-not-added = refl
+
+pub no-range-of-quotes : walk (rows (quoted 1 ∷ quoted 2 ∷ row 11 (0 ∷ 1 ∷ []) ∷ [])) ≡ alone (refuses 20 2 0)
+unfolding computing
+no-range-of-quotes = refl
+
+pub quote-not-negated : walk (rows (quoted 1 ∷ row 4 (1 ∷ 0 ∷ []) ∷ [])) ≡ alone (refuses 20 1 0)
+unfolding computing
+quote-not-negated = refl
+
+pub quote-no-test : walk (rows (quoted 1 ∷ whole 1 ∷ whole 2 ∷ row 6 (0 ∷ 1 ∷ 2 ∷ []) ∷ [])) ≡ alone (refuses 20 3 0)
+unfolding computing
+quote-no-test = refl
+
+pub no-sequence-over-quotes : walk (rows (P 0 ∷ quoted 1 ∷ row 7 (1 ∷ []) ∷ flag 1 ∷ name 0 ∷ row 19 (0 ∷ 2 ∷ 3 ∷ 4 ∷ []) ∷ [])) ≡ alone (refuses 20 5 0)
+unfolding computing
+no-sequence-over-quotes = refl
+
+pub quote-no-set : walk (rows (quoted 1 ∷ row 7 (0 ∷ []) ∷ row 4 (5 ∷ 1 ∷ []) ∷ [])) ≡ alone (refuses 20 2 0)
+unfolding computing
+quote-no-set = refl
 
 -- 2,147,483,647 + 1: 21
 pub out-of-range : walk (rows (whole 2147483647 ∷ whole 1 ∷ operation 7 0 1 ∷ [])) ≡ alone (refuses 21 2 0)
