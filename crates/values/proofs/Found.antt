@@ -16,7 +16,7 @@ use Rattle.values.specs.Value.{Kind, number, boolean, integer, quote, co
 use Rattle.values.specs.Place.{At, ItemsAt, Holds, HoldsItems}
 use Rattle.values.specs.Contract.{heading}
 use Rattle.values.proofs.Written.{collection-at}
-use Rattle.values.proofs.Records.{holds, word-size, word-kind, boolean-at, is-boolean, is-integer, is-quote, is-collection, items-to, holds-items, no-items, more-of, uncons-of, one-list, well-formed-boolean, well-formed-integer, well-formed-quote, collection-shaped}
+use Rattle.values.proofs.Records.{holds, word-size, word-kind, boolean-at, is-boolean, is-integer, is-quote, held-as, is-collection, items-to, holds-items, no-items, more-of, uncons-of, one-list, well-formed-boolean, well-formed-integer, well-formed-quote, collection-shaped}
 use Rattle.values.specs.Validity.{Tells, Span, Inside, Boolean, TellsItems, ItemsShapedAs}
 use Rattle.values.proofs.Telling.{tells-true, tells-false, tells-of, told-false, tells-equal, tells-less}
 
@@ -110,8 +110,7 @@ module _ (s : List ℕ) (bytes : (i : ℕ) → Fits w8 (getD s i 0)) where
 boolean-size : {s : List ℕ} {at : ℕ} → Holds s at → word s (at + 2) ≡ 1 → (word s at ≡ 5) × (getD s (at + 4) 0 < 2)
 unfolding size
 boolean-size {s} {at} h k =
-    let (b, e) = is-boolean (h .value) (sym (word-kind (h .here)) ∙ k) in
-    let a : At s at (boolean b) = subst (At s at) e (h .here) in
+    let (b, a) = held-as boolean is-boolean h k in
     (word-size a, subst (λ (n : ℕ). n < 2) (sym (boolean-at a)) (low b))
   where
     low : (b : Bool) → byteOf b < 2
@@ -120,15 +119,11 @@ boolean-size {s} {at} h k =
 
 integer-size : {s : List ℕ} {at : ℕ} → Holds s at → word s (at + 2) ≡ 2 → word s at ≡ 8
 unfolding size
-integer-size {s} {at} h k =
-    let (z, e) = is-integer (h .value) (sym (word-kind (h .here)) ∙ k) in
-    word-size (subst (At s at) e (h .here))
+integer-size h k = word-size (held-as integer is-integer h k .1)
 
 quote-size : {s : List ℕ} {at : ℕ} → Holds s at → word s (at + 2) ≡ 7 → word s at ≡ 6
 unfolding size
-quote-size {s} {at} h k =
-    let (n, e) = is-quote (h .value) (sym (word-kind (h .here)) ∙ k) in
-    word-size (subst (At s at) e (h .here))
+quote-size h k = word-size (held-as quote is-quote h k .1)
 
 -- ---- a boolean
 
@@ -159,21 +154,21 @@ ends-there h t =
     tells-of (λ x. record { held = x .held; ends = omega (arith, x .ends) }) (λ x. record { held = x .held; ends = omega arith }) t
 
 module _ {s : List ℕ} (bytes : (i : ℕ) → Fits w8 (getD s i 0)) {at to n : ℕ} (h : Headed s at to n) where
-  pub integer-told : {k : ℕ} → IsWord s (at + 2) k → k ≡ 2 → Tells (Inside s at to) (eqb n 8)
-  integer-told k e =
+  -- of a kind whose records have one length, and any bytes after their heading
+  fixed-told : (kind size : ℕ) → (at + size ≤ length s → word s at ≡ size → word s (at + 2) ≡ kind → Holds s at) → (Holds s at → word s (at + 2) ≡ kind → word s at ≡ size)
+      → {k : ℕ} → IsWord s (at + 2) k → k ≡ kind → Tells (Inside s at to) (eqb n size)
+  fixed-told kind size found sized k e =
       let f = h .inside in
       let g = h .len in
       let l = h .span .fits in
-      let two : word s (at + 2) ≡ 2 = sym (k .is) ∙ e in
-      tells-of (λ d. record { held = found-integer s bytes at (omega arith) (omega arith) two; ends = omega arith }) (λ x. g ∙ integer-size (x .held) two) (tells-equal n 8)
+      let is : word s (at + 2) ≡ kind = sym (k .is) ∙ e in
+      tells-of (λ d. record { held = found (omega arith) (omega arith) is; ends = omega arith }) (λ x. g ∙ sized (x .held) is) (tells-equal n size)
+
+  pub integer-told : {k : ℕ} → IsWord s (at + 2) k → k ≡ 2 → Tells (Inside s at to) (eqb n 8)
+  integer-told = fixed-told 2 8 (found-integer s bytes at) integer-size
 
   pub quote-told : {k : ℕ} → IsWord s (at + 2) k → k ≡ 7 → Tells (Inside s at to) (eqb n 6)
-  quote-told k e =
-      let f = h .inside in
-      let g = h .len in
-      let l = h .span .fits in
-      let seven : word s (at + 2) ≡ 7 = sym (k .is) ∙ e in
-      tells-of (λ d. record { held = found-quote s bytes at (omega arith) (omega arith) seven; ends = omega arith }) (λ x. g ∙ quote-size (x .held) seven) (tells-equal n 6)
+  quote-told = fixed-told 7 6 (found-quote s bytes at) quote-size
 
   pub collection-told : {k : ℕ} {r : Bool} → IsWord s (at + 2) k → (k ≡ 1 → ⊥) → (k ≡ 2 → ⊥) → (k ≡ 7 → ⊥) → HoldsItems s (at + 4) (at + n) → TellsItems (ItemsShapedAs k) s (at + 4) (at + n) r → Tells (Inside s at to) r
   collection-told {k} k-is not1 not2 not7 (vs, items) t =

@@ -12,7 +12,7 @@ use Rattle.values.specs.Value.{set, sequence, map, tuple, Value, boolean
 use Rattle.values.specs.Place.{At, Holds}
 use Rattle.values.specs.Contract.{Length, KindAt}
 use Rattle.values.proofs.Encoding.{bool-back}
-use Rattle.values.proofs.Records.{word-size, word-kind, boolean-at, integer-at, quote-at, is-boolean, is-integer, is-quote}
+use Rattle.values.proofs.Records.{word-size, word-kind, boolean-at, integer-at, quote-at, is-boolean, is-integer, is-quote, held-as}
 
 -- ---- length and kind
 
@@ -37,34 +37,25 @@ kind-is e h =
 -- ---- contents
 
 module _ {s : List ℕ} {at : ℕ} (h : Holds s at) where
-  the-boolean : word s (at + 2) ≡ 1 → (b : Bool) × At s at (boolean b)
-  the-boolean e = let (b, d) = is-boolean (h .value) (sym (word-kind (h .here)) ∙ e) in (b, subst (At s at) d (h .here))
-
-  the-integer : word s (at + 2) ≡ 2 → (z : ℤ) × At s at (integer z)
-  the-integer e = let (z, d) = is-integer (h .value) (sym (word-kind (h .here)) ∙ e) in (z, subst (At s at) d (h .here))
-
-  the-quote : word s (at + 2) ≡ 7 → (n : ℕ) × At s at (quote n)
-  the-quote e = let (n, d) = is-quote (h .value) (sym (word-kind (h .here)) ∙ e) in (n, subst (At s at) d (h .here))
-
   pub boolean-room : word s (at + 2) ≡ 1 → at + 5 ≤ length s
   unfolding size
-  boolean-room e = let (b, a) = the-boolean e in let f : at + 5 ≤ length s = a .fits in f
+  boolean-room e = let (b, a) = held-as boolean is-boolean h e in let f : at + 5 ≤ length s = a .fits in f
 
   pub integer-room : word s (at + 2) ≡ 2 → at + 8 ≤ length s
   unfolding size
-  integer-room e = let (z, a) = the-integer e in let f : at + 8 ≤ length s = a .fits in f
+  integer-room e = let (z, a) = held-as integer is-integer h e in let f : at + 8 ≤ length s = a .fits in f
 
   pub quote-room : word s (at + 2) ≡ 7 → at + 6 ≤ length s
   unfolding size
-  quote-room e = let (n, a) = the-quote e in let f : at + 6 ≤ length s = a .fits in f
+  quote-room e = let (n, a) = held-as quote is-quote h e in let f : at + 6 ≤ length s = a .fits in f
 
   pub boolean-here : word s (at + 2) ≡ 1 → At s at (boolean (eqb (getD s (at + 4) 0) 1))
   boolean-here e =
-      let (b, a) = the-boolean e in
+      let (b, a) = held-as boolean is-boolean h e in
       subst (λ (x : Bool). At s at (boolean x)) (sym (ap (λ (n : ℕ). eqb n 1) (boolean-at a) ∙ bool-back b)) a
 
   pub integer-here : {r : ℤ} → word s (at + 2) ≡ 2 → r ≡ integerAt s (at + 4) → At s at (integer r)
-  integer-here e d = let (z, a) = the-integer e in subst (λ (x : ℤ). At s at (integer x)) (sym (d ∙ integer-at a)) a
+  integer-here e d = let (z, a) = held-as integer is-integer h e in subst (λ (x : ℤ). At s at (integer x)) (sym (d ∙ integer-at a)) a
 
   pub quote-here : {r : ℕ} → word s (at + 2) ≡ 7 → r ≡ word s (at + 4) → At s at (quote r)
-  quote-here e d = let (n, a) = the-quote e in subst (λ (x : ℕ). At s at (quote x)) (sym (d ∙ quote-at a)) a
+  quote-here e d = let (n, a) = held-as quote is-quote h e in subst (λ (x : ℕ). At s at (quote x)) (sym (d ∙ quote-at a)) a

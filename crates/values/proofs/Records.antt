@@ -138,6 +138,10 @@ is-collection (integer z) f g i = absurd (g refl)
 is-collection (quote n) f g i = absurd (i refl)
 is-collection (collection k vs) f g i = (k, vs, refl)
 
+-- what stands at a place, by its kind
+pub held-as : {A : Type 0} {k : ℕ} (make : A → Value) → ((v : Value) → kindOf v ≡ k → (x : A) × (v ≡ make x)) → {s : List ℕ} {at : ℕ} → Holds s at → word s (at + 2) ≡ k → (x : A) × At s at (make x)
+held-as make is {s} {at} h e = let (x, d) = is (h .value) (sym (word-kind (h .here)) ∙ e) in (x, subst (At s at) d (h .here))
+
 -- ---- the records within
 
 pub items-of : {s : List ℕ} {at : ℕ} {k : Kind} {vs : Items} → At s at (collection k vs) → ItemsAt s (at + 4) (at + size (collection k vs)) vs
