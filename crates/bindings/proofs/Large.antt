@@ -10,10 +10,8 @@ use Rattle.values.specs.Value.{Value, size}
 use Rattle.values.specs.Place.{ItemsAt, Holds, HoldsItems}
 use Rattle.values.proofs.Records.{holds, items-of, word-size, one-item}
 use Rattle.tables.specs.Accepted.{records}
-use Rattle.parts.specs.declared.Part.{Part}
-use Rattle.parts.specs.Part.{PartIs, PartHeld}
+use Rattle.parts.specs.Part.{PartIs}
 use Rattle.parts.specs.Contract.{wholeAt}
-use Rattle.parts.proofs.Laws.{whole-part}
 use Rattle.patterns.specs.Ways.{exists}
 use Rattle.patterns.specs.Pattern.{Pattern, itemsOf, listOf, wide}
 use Rattle.patterns.specs.Laws.Matched.{items-list}
@@ -25,10 +23,6 @@ use Rattle.bindings.proofs.Members.{first-of, none-left}
 -- What is told of the value at a place.
 abbrev pub TellsAt : List ℕ → ℕ → List ℕ → ℕ → Bool → Type 0
 TellsAt table p s at r = (v : Value) → PartIs s (wholeAt at) v → r ≡ wide (patternAt (records table) p) v
-
--- the whole record there as a part
-pub whole-here : {s : List ℕ} {at : ℕ} {q : Part} → q ≡ wholeAt at → Holds s at → PartHeld s q
-whole-here {s} e h = subst (PartHeld s) (sym e) (record { value = h .value; here = whole-part (h .here) })
 
 -- The members before a place have no set or map too large: the others tell.
 abbrev pub Passing : List ℕ → ℕ → List ℕ → ℕ → ℕ → ℕ → Type 0

@@ -43,7 +43,7 @@ bits-range n h = fits-range (ofBits n) (subst (SFits w32) (sym (machine-bits n))
 -- ---- bytes are below 256, and a word of two bytes below 65,536
 
 module _ (s : List ℕ) (bytes : (i : ℕ) → getD s i 0 < 256) where
-  word-low : (at : ℕ) → word s at < 65536
+  pub word-low : (at : ℕ) → word s at < 65536
   word-low at = omega (arith, bytes at, bytes (at + 1))
 
   pub bits32-low : (at : ℕ) → bits32 s at < 4294967296
@@ -105,7 +105,7 @@ two-here s at h =
     rw (drop-cons s at 0 g, drop-cons s (suc at) 0 k, add-one, add-two)
 
 module _ (s : List ℕ) (bytes : (i : ℕ) → getD s i 0 < 256) where
-  pair-word : (at : ℕ) → at + 2 ≤ length s → take 2 (drop at s) ≡ pair (word s at)
+  pub pair-word : (at : ℕ) → at + 2 ≤ length s → take 2 (drop at s) ≡ pair (word s at)
   pair-word at h =
       ap (take 2) (two-here s at h)
       ∙ ap₂ (λ (x y : ℕ). x ∷ y ∷ []) (omega (arith, bytes at, bytes (at + 1))) (omega (arith, bytes at, bytes (at + 1)))
@@ -120,5 +120,5 @@ module _ (s : List ℕ) (bytes : (i : ℕ) → getD s i 0 < 256) where
       ∙ ap₂ (λ (x y : List ℕ). x ++ y) (pair-word at (omega arith)) (ap (take 2) (drop-drop 2 at s) ∙ pair-word (at + 2) (omega arith))
       ∙ words-are at
 
-  four-integer : (at : ℕ) → at + 4 ≤ length s → take 4 (drop at s) ≡ integerBytes (integerAt s at)
+  pub four-integer : (at : ℕ) → at + 4 ≤ length s → take 4 (drop at s) ≡ integerBytes (integerAt s at)
   four-integer at h = four-bits32 at h ∙ ap four (sym (bits-integer (bits32 s at) (bits32-low s bytes at)))

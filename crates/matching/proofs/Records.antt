@@ -9,7 +9,7 @@ use native.Mathlib.Decide.{ℕ-discrete}
 use native.Mathlib.Omega.{arith}
 use lib.Dec.{eqb, leb}
 use lib.ListN.{length, getD, length-map}
-use borrow.Author.Tests.{leb-true, eqb-true, eqb-false}
+use borrow.Author.Tests.{leb-true, eqb-true}
 use Rattle.values.specs.Value.{Kind, number, Value, kindOf, WellFormed}
 use Rattle.tables.specs.Laws.Kinds.{by-composed, by-leaf}
 use Rattle.tables.specs.Record.{Record, isComposed, named, operand, nameOf, shape, headOf, size, isKnown}

@@ -183,7 +183,8 @@ pub fn is_literal(table: &[u8], index: &Index, p: usize, s: &[u8], part: Part) -
             return false;
         }
         let n = tables::reading::quote(table, index, p);
-        return n == values::quote_at(s, at);
+        let q = values::quote_at(s, at);
+        return n == q;
     }
     if k != Value::INTEGER {
         return false;

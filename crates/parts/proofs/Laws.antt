@@ -11,7 +11,7 @@ use lib.Seq.{take-all, take-take}
 use borrow.Author.Tests.{eq-eqb, ne-eqb}
 use Rattle.integers.specs.Bytes.{word}
 use Rattle.values.specs.Value.{Kind, sequence, number, Value, collection, Items, kindOf, WellFormed}
-use Rattle.values.specs.Place.{At}
+use Rattle.values.specs.Place.{At, Holds}
 use Rattle.values.proofs.Encoding.{size-low}
 use Rattle.values.proofs.Order.{number-low, number-high, number-inj}
 use Rattle.values.proofs.Records.{is-collection, one-value, one-list, word-size, well-formed-collection}
@@ -184,3 +184,6 @@ lent-on s = take-all (length s - 0) s (omega arith)
 
 pub whole-part : {s : List ℕ} {at : ℕ} {v : Value} → At s at v → PartIs s (wholeAt at) v
 whole-part h = inl (refl, h)
+
+pub whole-here : {s : List ℕ} {at : ℕ} {q : Part} → q ≡ wholeAt at → Holds s at → PartHeld s q
+whole-here {s} e h = subst (PartHeld s) (sym e) (record { value = h .value; here = whole-part (h .here) })

@@ -21,7 +21,7 @@ use Rattle.integers.specs.Order.{orderℕ}
 use Rattle.integers.proofs.Ordered.{lt-lower, gt-higher, eq-same}
 use Rattle.values.proofs.Order.{order-refl, same-equal}
 use Rattle.values.proofs.Records.{holds, items-to}
-use Rattle.patterns.specs.Pattern.{listOf, itemsOf, itemsIn}
+use Rattle.patterns.specs.Pattern.{itemsOf, itemsIn}
 use Rattle.patterns.specs.Nodes.{width}
 use Rattle.patterns.specs.Laws.Collected.{items-length}
 use Rattle.parts.specs.declared.Part.{Part}
@@ -30,7 +30,7 @@ use Rattle.parts.specs.Chosen.{everyOne, keep}
 use Rattle.parts.specs.Laws.Chosen.{kept-length, chosen-all, chosen-keep}
 use Rattle.parts.specs.Mask.{WidthOf, ChoosesItems, ItemMask}
 use Rattle.parts.specs.Part.{PartIs, PartHeld, endOf}
-use Rattle.parts.proofs.Laws.{of-kind, whole-of, selects-of, selects-low, spans-of, part-one, one-collection, end-span, end-record}
+use Rattle.parts.proofs.Laws.{of-kind, whole-of, selects-of, selects-low, spans-of, part-one, one-collection, end-span, end-record, whole-here}
 use Rattle.parts.specs.Run.{RunIs, RunHeld, Startable, ReadyRun, RestOf, RunOf, CountOf, SkipHeld, Skipped, OrderedRuns}
 use Rattle.parts.specs.Contract.{KindOfPart, CollectionHeld, CountOfPart, OrderedParts, ItemHeld, ItemOfPart, wholeAt, HasItem}
 use Rattle.parts.proofs.Running.{ready-odd, run-head, run-end, more-less}
@@ -227,7 +227,7 @@ module _ {s : List ℕ} {p : Part} {k : ℕ} where
 
 -- the item at which a run stands
 pub first-held : {s : List ℕ} {r : Run} {item : Part} → item ≡ wholeAt (r .from) → r .from < r .to → RunHeld s r → PartHeld s item
-first-held {s} w lt h = let x = run-head (h .items) lt (h .here) in record { value = x .first; here = subst (λ (z : Part). PartIs s z (x .first)) (sym w) (inl (refl, x .first-at)) }
+first-held w lt h = whole-here w (holds (run-head (h .items) lt (h .here) .first-at))
 
 -- The value of q is among the items of a run exactly where it is among those of what is left of it.
 abbrev pub Unfound : List ℕ → Part → Run → Run → Type 0

@@ -9,10 +9,11 @@ use lib.Dec.{eqb}
 use lib.ListN.{length}
 use lib.Seq.{sets}
 use Rattle.integers.specs.Bytes.{word}
-use Rattle.values.specs.Value.{Kind, set, sequence, map as mapping, tuple, number, Value, collection, none, more, size, sizes, valueLimit}
+use Rattle.values.specs.Value.{Kind, sequence, number, Value, collection, none, more, size, sizes, valueLimit}
 use Rattle.values.specs.Items.{join}
 use Rattle.values.specs.Place.{At, ItemsAt, Outside}
 use Rattle.values.specs.Contract.{Copyable, Copied, PutHead, heading}
+use Rattle.values.proofs.Order.{number-high}
 use Rattle.values.proofs.Encoding.{collection-size, join-sizes}
 use Rattle.values.proofs.Records.{holds, word-size, no-items, one-more, collection-shaped}
 use Rattle.values.proofs.Frame.{items-below, outside-none, outside-then, word-below}
@@ -153,12 +154,6 @@ module _ {s₀ s : List ℕ} {to : ℕ} {r₀ r : Run} {out : ℕ} (w : Writing 
       }
 
 -- ---- `put_part`
-
-number-high : (k : Kind) → number k ≤ 6
-number-high set = omega arith
-number-high sequence = omega arith
-number-high mapping = omega arith
-number-high tuple = omega arith
 
 module _ {s : List ℕ} {p : Part} {base : ℕ} (h : Puttable s p base) where
   -- a whole record is copied

@@ -2,16 +2,16 @@
 use mathlib.Core.Path.{_≡_, refl, sym, ap, ap₂, subst, _∙_}
 use mathlib.Core.Bool.{Bool, true, false}
 use mathlib.Core.List.{List, [], _∷_, _++_}
-use Prim.Native.Nat.{ℕ, zero, suc, _+_, _/_, _%_, _≤_, _<_}
-use native.Mathlib.Numerals.{add-one}
+use Prim.Native.Nat.{ℕ, zero, suc, _+_, _≤_, _<_}
 use native.Mathlib.Omega.{arith}
 use lib.Dec.{eqb, ltb}
+use lib.IntN.{ℤ}
 use lib.ListN.{length, getD, take, drop}
 use lib.Seq.{drop-cons, take-add, drop-drop}
 use mir.Syntax.{w8}
 use mir.Val.{Fits}
-use Rattle.integers.specs.Bytes.{word, pair, four, bits32, ofBits, IsWord}
-use Rattle.integers.proofs.Written.{bits-integer, bits-range, bits32-low}
+use Rattle.integers.specs.Bytes.{word, pair, bits32, integerBytes, integerAt, IsWord}
+use Rattle.integers.proofs.Written.{pair-word, four-integer, bits-range, bits32-low, word-low}
 use Rattle.values.specs.Value.{Kind, number, boolean, integer, quote, collection, Items, more, size, byteOf, encode, Shaped, valueLimit}
 use Rattle.values.specs.Place.{At, ItemsAt, Holds, HoldsItems}
 use Rattle.values.specs.Contract.{heading}
@@ -23,24 +23,17 @@ use Rattle.values.proofs.Telling.{tells-true, tells-false, tells-of, to
 -- ---- the bytes of records
 
 module _ (s : List ℕ) (bytes : (i : ℕ) → Fits w8 (getD s i 0)) where
+  low : (i : ℕ) → getD s i 0 < 256
+  low i = bytes i .fits
+
   one-byte : (at n : ℕ) → at < length s → take (suc n) (drop at s) ≡ getD s at 0 ∷ take n (drop (suc at) s)
   one-byte at n h = ap (take (suc n)) (drop-cons s at 0 h)
-
-  -- two bytes are a word
-  two-bytes : (at : ℕ) → at + 2 ≤ length s → take 2 (drop at s) ≡ pair (word s at)
-  two-bytes at h =
-      let e : getD s (at + 1) 0 ≡ getD s (suc at) 0 = ap (λ (k : ℕ). getD s k 0) (add-one at) in
-      let b = bytes at in
-      let c = bytes (suc at) in
-      let l : getD s at 0 ≡ word s at % 256 = omega arith in
-      let m : getD s (suc at) 0 ≡ word s at / 256 = omega arith in
-      one-byte at 1 (omega arith) ∙ ap₂ {C = List ℕ} _∷_ l (one-byte (suc at) 0 (omega arith) ∙ ap (λ (x : ℕ). x ∷ []) m)
 
   -- four bytes are two words
   four-bytes : (at : ℕ) → at + 4 ≤ length s → take 4 (drop at s) ≡ heading (word s at) (word s (at + 2))
   four-bytes at h =
       take-add 2 2 (drop at s)
-      ∙ ap₂ _++_ (two-bytes at (omega arith)) (ap (take 2) (drop-drop 2 at s) ∙ two-bytes (at + 2) (omega arith))
+      ∙ ap₂ _++_ (pair-word s low at (omega arith)) (ap (take 2) (drop-drop 2 at s) ∙ pair-word s low (at + 2) (omega arith))
 
   -- a heading, and then m bytes
   headed-by : (at m : ℕ) (bs : List ℕ) → at + 4 ≤ length s → take m (drop (at + 4) s) ≡ bs → take (4 + m) (drop at s) ≡ heading (word s at) (word s (at + 2)) ++ bs
@@ -63,40 +56,24 @@ module _ (s : List ℕ) (bytes : (i : ℕ) → Fits w8 (getD s i 0)) where
             ∙ ap₂ (λ (x y : ℕ). heading x y ++ (byteOf b ∷ [])) n k;
       })
 
-  halves : (at : ℕ) → heading (word s at) (word s (at + 2)) ≡ four (bits32 s at)
-  halves at =
-      let b₀ = bytes at in
-      let b₁ = bytes (at + 1) in
-      let l : word s at ≡ bits32 s at % 65536 = omega arith in
-      let h : word s (at + 2) ≡ bits32 s at / 65536 = omega arith in
-      ap₂ heading l h
-
   found-integer : (at : ℕ) → at + 8 ≤ length s → word s at ≡ 8 → word s (at + 2) ≡ 2 → Holds s at
   unfolding size encode
   found-integer at h n k =
-      let x : ℕ = bits32 s (at + 4) in
-      let f = bits32-low s (λ i. bytes i .fits) (at + 4) in
-      holds {v = integer (ofBits x)} (record {
+      let z : ℤ = integerAt s (at + 4) in
+      holds {v = integer z} (record {
         fits = h;
-        fine = well-formed-integer (bits-range x f);
-        bytes =
-            headed-by at 4 (four x) (omega arith) (four-bytes (at + 4) (omega arith) ∙ halves (at + 4))
-            ∙ ap₂ (λ (i j : ℕ). heading i j ++ four x) n k
-            ∙ ap (λ (i : ℕ). heading 8 2 ++ four i) (sym (bits-integer x f));
+        fine = well-formed-integer (bits-range (bits32 s (at + 4)) (bits32-low s low (at + 4)));
+        bytes = headed-by at 4 (integerBytes z) (omega arith) (four-integer s low (at + 4) (omega arith)) ∙ ap₂ (λ (i j : ℕ). heading i j ++ integerBytes z) n k;
       })
 
   found-quote : (at : ℕ) → at + 6 ≤ length s → word s at ≡ 6 → word s (at + 2) ≡ 7 → Holds s at
   unfolding size encode
   found-quote at h n k =
       let x : ℕ = word s (at + 4) in
-      let b₀ = bytes (at + 4) in
-      let b₁ = bytes (at + 4 + 1) in
       holds {v = quote x} (record {
         fits = h;
-        fine = well-formed-quote (omega arith);
-        bytes =
-            headed-by at 2 (pair x) (omega arith) (two-bytes (at + 4) (omega arith))
-            ∙ ap₂ (λ (i j : ℕ). heading i j ++ pair x) n k;
+        fine = well-formed-quote (word-low s low (at + 4));
+        bytes = headed-by at 2 (pair x) (omega arith) (pair-word s low (at + 4) (omega arith)) ∙ ap₂ (λ (i j : ℕ). heading i j ++ pair x) n k;
       })
 
   found-collection : (at n : ℕ) (k : Kind) (vs : Items) → n ≡ word s at → word s (at + 2) ≡ number k → n ≤ valueLimit → Shaped k vs → ItemsAt s (at + 4) (at + n) vs → Holds s at

@@ -1,6 +1,7 @@
 use Prim.Native.Nat.{_-_}
 use native.Mathlib.Omega.{arith}
-use Rattle.bindings.proofs.Large.{whole-here, Passing, passing-start, passing-holds, passing-inside, one-large, passing-more, none-large}
+use Rattle.parts.proofs.Laws.{whole-here}
+use Rattle.bindings.proofs.Large.{Passing, passing-start, passing-holds, passing-inside, one-large, passing-more, none-large}
 use Rattle.bindings.proofs.forms.any_large.Statement.{statement}
 use Rattle.bindings.proofs.forms.any_large.Tie as tie
 use Rattle.bindings.proofs.forms.any_large.Reads as reads

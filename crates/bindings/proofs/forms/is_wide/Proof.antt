@@ -1,5 +1,6 @@
 use native.Mathlib.Omega.{arith}
-use Rattle.bindings.proofs.Large.{whole-here, one-held, set-held, members-held, tells-one, tells-all}
+use Rattle.parts.proofs.Laws.{whole-here}
+use Rattle.bindings.proofs.Large.{one-held, set-held, members-held, tells-one, tells-all}
 use Rattle.bindings.proofs.forms.is_wide.Statement.{statement}
 use Rattle.bindings.proofs.forms.is_wide.Tie as tie
 use Rattle.bindings.proofs.forms.is_wide.Reads as reads
