@@ -57,12 +57,15 @@ pub fn unary_scalar(s: &mut [u8], base: usize, operator: usize) -> Applied
 
 // ---- two booleans, and any two values: 4 <=>, 5 =, 6 <>
 
-// Whether the operands are equal.
+// Whether the operands are equal; most are integers.
 fn same(s: &[u8], base: usize) -> bool
     requires { ⌜ Two (now s) base ⌝ }
     ensures { λ r. ⌜ Equal (now (s .entry)) base (base + second) r ⌝ }
 {
-    values::equal(s, base, base + Applied::SECOND)
+    match calling::two_integers(s, base) {
+        Pair::Integers(a, b) => a == b,
+        Pair::Others => values::equal(s, base, base + Applied::SECOND),
+    }
 }
 
 fn biimplication(s: &mut [u8], base: usize) -> Applied

@@ -1,9 +1,11 @@
 -- The answers of the functions that compare, said of lists, places and numbers alone.
 use mathlib.Core.Path.{_≡_, refl, sym, ap, ap₂, subst, _∙_}
 use mathlib.Core.Bool.{Bool}
+use mathlib.Core.Logic.{inl, inr}
 use mathlib.Core.List.{List}
 use Prim.Native.Nat.{ℕ, _+_, _≤_}
 use native.Mathlib.Omega.{arith}
+use lib.IntN.{ℤ}
 use lib.ListN.{length}
 use Rattle.integers.specs.Bytes.{word}
 use Rattle.integers.specs.declared.Order.{Order}
@@ -12,9 +14,9 @@ use Rattle.values.specs.Value.{Kind, number, Value, boolean, integer, qu
 use Rattle.integers.specs.Order.{orderℕ, orderℤ}
 use Rattle.values.specs.Items.{isSame}
 use Rattle.values.specs.Place.{At, ItemsAt, Holds, HoldsItems}
-use Rattle.values.specs.Contract.{Length, KindAt, Both, Ordered, OrderedItems, Equal}
+use Rattle.values.specs.Contract.{Length, KindAt, Both, Numbered, NumberAt, Ordered, OrderedItems, Equal}
 use Rattle.integers.proofs.Ordered.{same-eq, eq-same}
-use Rattle.values.proofs.Records.{one-value, is-collection, items-to, items-none, uncons-of, holds}
+use Rattle.values.proofs.Records.{one-value, is-boolean, is-quote, held-as, is-collection, items-to, items-none, uncons-of, holds}
 
 -- ---- two values
 
@@ -56,17 +58,21 @@ module _ {s : List ℕ} {a b : ℕ} where
       let q : order v w ≡ within v w = rw (eq-same (kindOf v) (kindOf w) k) in
       e ∙ sym q ∙ ap₂ order (one-value h h′) (one-value g g′)
 
-  pub by-booleans : {x y : Bool} (r : Order) → At s a (boolean x) → At s b (boolean y) → r ≡ orderℕ (byteOf x) (byteOf y) → Ordered s a b r
+  -- two booleans, or two quotes
+  pub by-numbers : {k m n : ℕ} (r : Order) → Both s a b k → Numbered k → NumberAt s a m → NumberAt s b n → r ≡ orderℕ m n → Ordered s a b r
   unfolding within
-  by-booleans r h g e = by-contents r h g refl e
+  by-numbers r h (inl e) na nb d =
+      let (x, p) = held-as boolean is-boolean (h .first .held) (h .first .kind ∙ e) in
+      let (y, q) = held-as boolean is-boolean (h .second .held) (h .second .kind ∙ e) in
+      by-contents r p q refl (d ∙ ap₂ orderℕ (na .truth x p) (nb .truth y q))
+  by-numbers r h (inr e) na nb d =
+      let (x, p) = held-as quote is-quote (h .first .held) (h .first .kind ∙ e) in
+      let (y, q) = held-as quote is-quote (h .second .held) (h .second .kind ∙ e) in
+      by-contents r p q refl (d ∙ ap₂ orderℕ (na .own x p) (nb .own y q))
 
-  pub by-integers : {x y : _} (r : Order) → At s a (integer x) → At s b (integer y) → r ≡ orderℤ x y → Ordered s a b r
+  pub by-integers : {x y : ℤ} (r : Order) → At s a (integer x) → At s b (integer y) → r ≡ orderℤ x y → Ordered s a b r
   unfolding within
   by-integers r h g e = by-contents r h g refl e
-
-  pub by-quotes : {x y : ℕ} (r : Order) → At s a (quote x) → At s b (quote y) → r ≡ orderℕ x y → Ordered s a b r
-  unfolding within
-  by-quotes r h g e = by-contents r h g refl e
 
   -- of one kind, which is none of these: two collections
   pub collections : {k l : ℕ} → Holds s a → Holds s b → KindAt s a k → KindAt s b l → k ≡ l → (k ≡ 1 → ⊥) → (k ≡ 2 → ⊥) → (k ≡ 7 → ⊥) → Collections s a b

@@ -10,7 +10,7 @@ use lib.ListN.{length, getD}
 use Rattle.integers.specs.Bytes.{word, integerAt}
 use Rattle.values.specs.Value.{set, sequence, map, tuple, Value, boolean, integer, quote, collection, kindOf, size}
 use Rattle.values.specs.Place.{At, Holds}
-use Rattle.values.specs.Contract.{Length, KindAt}
+use Rattle.values.specs.Contract.{Length, KindAt, NumberAt}
 use Rattle.values.proofs.Encoding.{bool-back}
 use Rattle.values.proofs.Records.{word-size, word-kind, boolean-at, integer-at, quote-at, is-boolean, is-integer, is-quote, held-as}
 
@@ -59,3 +59,12 @@ module _ {s : List ℕ} {at : ℕ} (h : Holds s at) where
 
   pub quote-here : {r : ℕ} → word s (at + 2) ≡ 7 → r ≡ word s (at + 4) → At s at (quote r)
   quote-here e d = let (n, a) = held-as quote is-quote h e in subst (λ (x : ℕ). At s at (quote x)) (sym (d ∙ quote-at a)) a
+
+-- ---- numbers
+
+-- the number of a boolean is its byte, and that of a quote its two bytes
+pub boolean-number : {s : List ℕ} {at : ℕ} → word s (at + 2) ≡ 1 → NumberAt s at (getD s (at + 4) 0)
+boolean-number e = record { truth = λ b a. boolean-at a; own = λ n a. absurd (omega (arith, word-kind a)) }
+
+pub quote-number : {s : List ℕ} {at r : ℕ} → At s at (quote r) → NumberAt s at r
+quote-number h = record { truth = λ b a. absurd (omega (arith, word-kind h, word-kind a)); own = λ n a. sym (quote-at h) ∙ quote-at a }

@@ -10,7 +10,7 @@ use lib.Seq.{sets}
 use Rattle.integers.specs.Bytes.{word}
 use Rattle.integers.specs.declared.Order.{Order}
 use Rattle.values.specs.declared.Value.{Value as Copy}
-use Rattle.values.specs.Value.{Value, Items, kindOf, size, headed, encode, order, orderItems, valueLimit}
+use Rattle.values.specs.Value.{Value, boolean, quote, Items, kindOf, size, byteOf, headed, encode, order, orderItems, valueLimit}
 use Rattle.values.specs.Items.{same}
 use Rattle.values.specs.Place.{At, ItemsAt, Holds, Outside}
 
@@ -38,6 +38,14 @@ pub record OfKind (s : List ℕ) (at k : ℕ) : Type 0 where
 pub record Both (s : List ℕ) (a b k : ℕ) : Type 0 where
   pub first : OfKind s a k
   pub second : OfKind s b k
+
+-- the kinds of values that are ordered by a number; r is that number of the value at a place: 0 for false, 1 for true, a quote's own
+abbrev pub Numbered : ℕ → Type 0
+Numbered k = (k ≡ 1) ⊎ (k ≡ 7)
+
+pub record NumberAt (s : List ℕ) (at r : ℕ) : Type 0 where
+  pub truth : (b : Bool) → At s at (boolean b) → r ≡ byteOf b
+  pub own : (n : ℕ) → At s at (quote n) → r ≡ n
 
 -- o is the order of the values at two places, and of the items between two places each
 abbrev pub Ordered : List ℕ → ℕ → ℕ → Order → Type 0

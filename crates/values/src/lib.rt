@@ -6,7 +6,7 @@ ghost use lib.ListN.{length};
 ghost use Rattle.integers.specs.Whole.{InRange};
 ghost use Rattle.values.specs.Value.{boolean, integer, quote};
 ghost use Rattle.values.specs.Place.{At, Holds, HoldsItems};
-ghost use Rattle.values.specs.Contract.{Length, KindAt, OfKind, Both, Ordered, OrderedItems, Equal, Shows, ShowsAt, PutHead, Put, Movable, Moved, Copyable, Copied};
+ghost use Rattle.values.specs.Contract.{Length, KindAt, OfKind, Both, Numbered, NumberAt, Ordered, OrderedItems, Equal, Shows, ShowsAt, PutHead, Put, Movable, Moved, Copyable, Copied};
 
 pub mod validity;
 
@@ -111,14 +111,25 @@ pub fn quote_at(s: &[u8], at: usize) -> usize
 
 // ---- comparing
 
-// The order of the booleans at two places: false before true.
-fn compare_booleans(s: &[u8], a: usize, b: usize) -> Order
-    requires { ⌜ Both (now s) a b 1 ⌝ }
+// The number of the boolean or quote at a place: 0 for false, 1 for true, the quote's own.
+fn number_at(s: &[u8], at: usize, kind: usize) -> usize
+    requires { ⌜ OfKind (now s) at kind × Numbered kind ⌝ }
+    ensures { λ r. ⌜ NumberAt (now (s .entry)) at r ⌝ }
+{
+    if kind == Value::BOOLEAN {
+        return s[at + Value::HEAD] as usize;
+    }
+    quote_at(s, at)
+}
+
+// The order of the booleans or quotes at two places, by number.
+fn compare_numbered(s: &[u8], a: usize, b: usize, kind: usize) -> Order
+    requires { ⌜ Both (now s) a b kind × Numbered kind ⌝ }
     ensures { λ r. ⌜ Ordered (now (s .entry)) a b r ⌝ }
 {
-    let x = boolean_at(s, a);
-    let y = boolean_at(s, b);
-    integers::compare_numbers(x as usize, y as usize)
+    let x = number_at(s, a, kind);
+    let y = number_at(s, b, kind);
+    integers::compare_numbers(x, y)
 }
 
 // The order of the integers at two places, by size.
@@ -131,16 +142,6 @@ fn compare_integers(s: &[u8], a: usize, b: usize) -> Order
     integers::compare(x, y)
 }
 
-// The order of the quotes at two places, by number.
-fn compare_quotes(s: &[u8], a: usize, b: usize) -> Order
-    requires { ⌜ Both (now s) a b 7 ⌝ }
-    ensures { λ r. ⌜ Ordered (now (s .entry)) a b r ⌝ }
-{
-    let x = quote_at(s, a);
-    let y = quote_at(s, b);
-    integers::compare_numbers(x, y)
-}
-
 // The order of the values at two places: lower kind first, then the contents.
 pub fn compare(s: &[u8], a: usize, b: usize) -> Order
     requires { ⌜ Holds (now s) a × Holds (now s) b ⌝ }
@@ -151,14 +152,14 @@ pub fn compare(s: &[u8], a: usize, b: usize) -> Order
     if ka != kb {
         return integers::compare_numbers(ka, kb);
     }
-    if ka == Value::BOOLEAN {
-        return compare_booleans(s, a, b);
-    }
     if ka == Value::INTEGER {
         return compare_integers(s, a, b);
     }
+    if ka == Value::BOOLEAN {
+        return compare_numbered(s, a, b, ka);
+    }
     if ka == Value::QUOTE {
-        return compare_quotes(s, a, b);
+        return compare_numbered(s, a, b, ka);
     }
     let la = length_of(s, a);
     let lb = length_of(s, b);

@@ -1,5 +1,7 @@
 -- The proof of the cycle of calls {compare, compare_items}. The measure of `compare` is the number of bytes of the first record, and that of
 -- `compare_items` one more than the number of bytes left of the first items.
+use mathlib.Core.Path.{refl}
+use mathlib.Core.Logic.{inl, inr}
 use Prim.Native.Nat.{ℕ, _+_, _-_, _<_}
 use native.Mathlib.Omega.{arith}
 use borrow.Author.Needs.{needs}
@@ -13,9 +15,8 @@ use Rattle.values.proofs.+compare+compare_items.Lts-compare as compare-
 use Rattle.values.proofs.compare_items.Reads as compare-items
 use Rattle.values.proofs.compare_items.Kinds as compare-items-kinds
 use Rattle.values.proofs.+compare+compare_items.Lts-compare_items as compare-items-lts
-use Rattle.values.proofs.compare_booleans.Reads as compare-booleans-reads
 use Rattle.values.proofs.compare_integers.Reads as compare-integers-reads
-use Rattle.values.proofs.compare_quotes.Reads as compare-quotes-reads
+use Rattle.values.proofs.compare_numbered.Reads as compare-numbered-reads
 use Rattle.values.proofs.kind_of.Reads as kind-of-reads
 use Rattle.values.proofs.length_of.Reads as length-of-reads
 use Rattle.integers.proofs.compare_numbers.Reads as compare-numbers-reads
@@ -48,7 +49,7 @@ compare-items-below t =
 
 -- what each member's calls ask and tell
 abbrev compare-calls : ℕ → compare-lts.Claims
-compare-calls t = (kind-of-reads.Asked, kind-of-reads.Learnt, compare-numbers-reads.Asked, compare-numbers-reads.Learnt, compare-booleans-reads.Asked, compare-booleans-reads.Learnt, compare-integers-reads.Asked, compare-integers-reads.Learnt, compare-quotes-reads.Asked, compare-quotes-reads.Learnt, length-of-reads.Asked, length-of-reads.Learnt, compare-items-below t, compare-items.Post)
+compare-calls t = (kind-of-reads.Asked, kind-of-reads.Learnt, compare-numbers-reads.Asked, compare-numbers-reads.Learnt, compare-integers-reads.Asked, compare-integers-reads.Learnt, compare-numbered-reads.Asked, compare-numbered-reads.Learnt, length-of-reads.Asked, length-of-reads.Learnt, compare-items-below t, compare-items.Post)
 
 abbrev compare-items-calls : ℕ → compare-items-lts.Claims
 compare-items-calls t = (compare-below t, compare.Post, length-of-reads.Asked, length-of-reads.Learnt, compare-items-below t, compare-items.Post)
@@ -65,23 +66,23 @@ compare-compare-numbers-requires t c κs = tt
 compare-returns : (t : ℕ) → compare-lts.Need-returns (compare-calls t) (compare-at t) compare.Post
 compare-returns t c = by-kinds _ (c .before .before .before .kind-of .ensures) (c .before .before .kind-of2 .ensures) (c .before .if1 .taken) (c .compare-numbers .ensures)
 
-compare-compare-booleans-requires : (t : ℕ) → compare-lts.Need-compare-booleans-requires (compare-calls t) (compare-at t) compare.Post
-compare-compare-booleans-requires t c κs = let p = c .before .before .before .before .before .pre in both (p .1 .0) (p .1 .1) (c .before .before .before .kind-of .ensures) (c .before .before .kind-of2 .ensures) (c .before .if1 .left) (c .if2 .taken)
+compare-compare-integers-requires : (t : ℕ) → compare-lts.Need-compare-integers-requires (compare-calls t) (compare-at t) compare.Post
+compare-compare-integers-requires t c κs = let p = c .before .before .before .before .before .pre in both (p .1 .0) (p .1 .1) (c .before .before .before .kind-of .ensures) (c .before .before .kind-of2 .ensures) (c .before .if1 .left) (c .if2 .taken)
 
 compare-returns-2 : (t : ℕ) → compare-lts.Need-returns-2 (compare-calls t) (compare-at t) compare.Post
-compare-returns-2 t c = c .compare-booleans .ensures
+compare-returns-2 t c = c .compare-integers .ensures
 
-compare-compare-integers-requires : (t : ℕ) → compare-lts.Need-compare-integers-requires (compare-calls t) (compare-at t) compare.Post
-compare-compare-integers-requires t c κs = let p = c .before .before .before .before .before .before .pre in both (p .1 .0) (p .1 .1) (c .before .before .before .before .kind-of .ensures) (c .before .before .before .kind-of2 .ensures) (c .before .before .if1 .left) (c .if3 .taken)
+compare-compare-numbered-requires : (t : ℕ) → compare-lts.Need-compare-numbered-requires (compare-calls t) (compare-at t) compare.Post
+compare-compare-numbered-requires t c κs = let p = c .before .before .before .before .before .before .pre in (both (p .1 .0) (p .1 .1) (c .before .before .before .before .kind-of .ensures) (c .before .before .before .kind-of2 .ensures) (c .before .before .if1 .left) refl, inl (c .if3 .taken))
 
 compare-returns-3 : (t : ℕ) → compare-lts.Need-returns-3 (compare-calls t) (compare-at t) compare.Post
-compare-returns-3 t c = c .compare-integers .ensures
+compare-returns-3 t c = c .compare-numbered .ensures
 
-compare-compare-quotes-requires : (t : ℕ) → compare-lts.Need-compare-quotes-requires (compare-calls t) (compare-at t) compare.Post
-compare-compare-quotes-requires t c κs = let p = c .before .before .before .before .before .before .before .pre in both (p .1 .0) (p .1 .1) (c .before .before .before .before .before .kind-of .ensures) (c .before .before .before .before .kind-of2 .ensures) (c .before .before .before .if1 .left) (c .if4 .taken)
+compare-compare-numbered-requires-2 : (t : ℕ) → compare-lts.Need-compare-numbered-requires-2 (compare-calls t) (compare-at t) compare.Post
+compare-compare-numbered-requires-2 t c κs = let p = c .before .before .before .before .before .before .before .pre in (both (p .1 .0) (p .1 .1) (c .before .before .before .before .before .kind-of .ensures) (c .before .before .before .before .kind-of2 .ensures) (c .before .before .before .if1 .left) refl, inr (c .if4 .taken))
 
 compare-returns-4 : (t : ℕ) → compare-lts.Need-returns-4 (compare-calls t) (compare-at t) compare.Post
-compare-returns-4 t c = c .compare-quotes .ensures
+compare-returns-4 t c = c .compare-numbered2 .ensures
 
 compare-length-of-requires : (t : ℕ) → compare-lts.Need-length-of-requires (compare-calls t) (compare-at t) compare.Post
 compare-length-of-requires t c κs = c .before .before .before .before .before .before .before .pre .1 .0
@@ -104,13 +105,13 @@ compare-add-compare-items-4 t c = omega arith
 compare-compare-items-requires : (t : ℕ) → compare-lts.Need-compare-items-requires (compare-calls t) (compare-at t) compare.Post
 compare-compare-items-requires t c κs =
     let p = c .before .before .before .before .before .before .before .before .before .pre in
-    let x = collections (p .1 .0) (p .1 .1) (c .before .before .before .before .before .before .before .kind-of .ensures) (c .before .before .before .before .before .before .kind-of2 .ensures) (c .before .before .before .before .before .if1 .left) (c .before .before .before .before .if2 .left) (c .before .before .before .if3 .left) (c .before .before .if4 .left) in
+    let x = collections (p .1 .0) (p .1 .1) (c .before .before .before .before .before .before .before .kind-of .ensures) (c .before .before .before .before .before .before .kind-of2 .ensures) (c .before .before .before .before .before .if1 .left) (c .before .before .before .if3 .left) (c .before .before .before .before .if2 .left) (c .before .before .if4 .left) in
     (omega arith, (first-items x (c .before .length-of .ensures), second-items x (c .length-of2 .ensures)))
 
 compare-returns-5 : (t : ℕ) → compare-lts.Need-returns-5 (compare-calls t) (compare-at t) compare.Post
 compare-returns-5 t c =
     let p = c .before .before .before .before .before .before .before .before .before .before .pre in
-    let x = collections (p .1 .0) (p .1 .1) (c .before .before .before .before .before .before .before .before .kind-of .ensures) (c .before .before .before .before .before .before .before .kind-of2 .ensures) (c .before .before .before .before .before .before .if1 .left) (c .before .before .before .before .before .if2 .left) (c .before .before .before .before .if3 .left) (c .before .before .before .if4 .left) in
+    let x = collections (p .1 .0) (p .1 .1) (c .before .before .before .before .before .before .before .before .kind-of .ensures) (c .before .before .before .before .before .before .before .kind-of2 .ensures) (c .before .before .before .before .before .before .if1 .left) (c .before .before .before .before .if3 .left) (c .before .before .before .before .before .if2 .left) (c .before .before .before .if4 .left) in
     ordered-by-items x _ (c .before .before .length-of .ensures) (c .before .length-of2 .ensures) (c .compare-items .ensures)
 
 compare-items-returns : (t : ℕ) → compare-items-lts.Need-returns (compare-items-calls t) (compare-items-at t) compare-items.Post
@@ -178,11 +179,11 @@ pub +compare+compare-items-spec : {M : Type 1} → statement M
     (compare-kind-of-requires-2 t)
     (compare-compare-numbers-requires t)
     (compare-returns t)
-    (compare-compare-booleans-requires t)
-    (compare-returns-2 t)
     (compare-compare-integers-requires t)
+    (compare-returns-2 t)
+    (compare-compare-numbered-requires t)
     (compare-returns-3 t)
-    (compare-compare-quotes-requires t)
+    (compare-compare-numbered-requires-2 t)
     (compare-returns-4 t)
     (compare-length-of-requires t)
     (compare-length-of-requires-2 t)
