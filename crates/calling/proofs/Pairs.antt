@@ -1,8 +1,7 @@
 -- Integers as the machine reads and writes them: operands that were read, and answers that were computed.
-use mathlib.Core.Path.{_≡_, sym, ap, ap₂, subst, _∙_}
+use mathlib.Core.Path.{_≡_, sym, ap, subst, _∙_}
 use mathlib.Core.List.{List}
 use Prim.Native.Nat.{ℕ, _+_}
-use lib.Dec.{eqb}
 use lib.IntN.{ℤ}
 use mir.Syntax.{w32}
 use mir.Val.{SFits, toZ, ofZ}
@@ -13,10 +12,8 @@ use Rattle.integers.specs.Whole.{InRange}
 use Rattle.integers.proofs.Range.{range-fits}
 use Rattle.values.specs.Value.{Value, integer}
 use Rattle.values.specs.Place.{At}
-use Rattle.values.specs.Items.{same}
-use Rattle.values.specs.Contract.{Equal, Put}
-use Rattle.values.proofs.Order.{whole-same}
-use Rattle.values.proofs.Records.{one-value, integer-range}
+use Rattle.values.specs.Contract.{Put}
+use Rattle.values.proofs.Records.{integer-range}
 use Rattle.operators.specs.Answer.{Answer, is, refused, wrongKind, asInteger, needsBoth, FineAnswer}
 use Rattle.operators.specs.Arithmetic.{answered}
 use Rattle.operators.specs.Operators.{binary}
@@ -70,12 +67,6 @@ module _ {s : List ℕ} {base : ℕ} {p : Pair} (read : PairAt s base p) where
 
   pub pair-right : {a b : ℤ} → p ≡ Integers a b → At s (base + second) (integer (machine b))
   pair-right e = let h = both-of (subst (PairAt s base) e read) .1 in subst (λ (z : ℤ). At s (base + second) (integer z)) (sym (toZ-ofZ (place-fits h))) h
-
-  -- whether they are equal
-  pub pair-equal : {a b : ℤ} → p ≡ Integers a b → Equal s base (base + second) (eqb (ofZ w32 a) (ofZ w32 b))
-  pair-equal {a} {b} e v w h g =
-      let (x, y) = both-of (subst (PairAt s base) e read) in
-      whole-same a b (place-fits x) (place-fits y) ∙ ap₂ same (one-value x h) (one-value y g)
 
   pub pair-fine : (operator : ℕ) {a b : ℤ} {x : Answer} → p ≡ Integers a b → binary operator (integer (machine a)) (integer (machine b)) ≡ x → FineAnswer x
   pair-fine operator {a} {b} e h =

@@ -8,14 +8,15 @@ use native.Mathlib.Omega.{arith}
 use lib.IntN.{ℤ}
 use lib.Dec.{eqb}
 use mir.Syntax.{w32}
-use mir.Val.{SFits, ofZ}
-use borrow.Author.Tests.{eqb-true, eqb-false}
+use mir.Val.{SFits, ofZ, toZ}
+use mir.ValLaws.{toZ-ofZ}
+use borrow.Author.Tests.{eq-eqb, eqb-true, eqb-false}
 use lib.ListN.{length}
 use Rattle.prelude.proofs.Absurd.{impossible}
 use Rattle.prelude.proofs.Truth.{by-test}
 use Rattle.values.specs.Value.{Kind, sequence, number, Value, boolean, integer, quote, kindOf}
 use Rattle.values.specs.Items.{same}
-use Rattle.values.proofs.Order.{number-low, number-high, true-same, false-same, whole-same}
+use Rattle.values.proofs.Order.{number-low, number-high, true-same, false-same}
 use Rattle.values.specs.Place.{At}
 use Rattle.values.proofs.Records.{one-value, holds, word-kind}
 use Rattle.values.specs.Contract.{OfKind}
@@ -56,6 +57,20 @@ as-true false = sym (false-same (boolean false) (boolean true) (λ e. apart (sym
 as-false : (x : Bool) → not x ≡ same (boolean x) (boolean false)
 as-false true = sym (false-same (boolean true) (boolean false) (λ e. apart e))
 as-false false = sym (true-same {v = boolean false} refl)
+
+-- two integers are equal where their bits are
+whole-same : (a b : ℤ) → SFits w32 a → SFits w32 b → eqb (ofZ w32 a) (ofZ w32 b) ≡ same (integer a) (integer b)
+whole-same a b fa fb = go (eqb (ofZ w32 a) (ofZ w32 b)) refl
+  where
+    go : (t : Bool) → eqb (ofZ w32 a) (ofZ w32 b) ≡ t → t ≡ same (integer a) (integer b)
+    go true e =
+        let q : a ≡ b = sym (toZ-ofZ w32 a fa) ∙ ap (toZ w32) (eqb-true (ofZ w32 a) (ofZ w32 b) e) ∙ toZ-ofZ w32 b fb in
+        sym (true-same (ap integer q))
+    go false e =
+        sym (false-same (integer a) (integer b) (λ q.
+        let r : a ≡ b = cc in
+        let z : true ≡ false = sym (eq-eqb (ofZ w32 a) (ofZ w32 b) (ap (ofZ w32) r)) ∙ e in
+        impossible cc))
 
 -- two quotes are equal where their numbers are
 quote-same : (m n : ℕ) → eqb m n ≡ same (quote m) (quote n)

@@ -36,7 +36,7 @@ connective-right c a w e l = ap (λ (x : Left). decided x (right w)) l ∙ e
 negation-table : (b : Bool) → negation (boolean b) ≡ truth (not b)
 negation-table b = refl
 
-biimplication-table : (a b : Bool) → biimplication (boolean a) (boolean b) ≡ truth (Bool·beq a b)
+pub biimplication-table : (a b : Bool) → biimplication (boolean a) (boolean b) ≡ truth (Bool·beq a b)
 unfolding within orderℕ
 biimplication-table true true = refl
 biimplication-table true false = refl

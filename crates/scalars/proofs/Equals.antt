@@ -1,6 +1,6 @@
 -- Answers of the operators on scalars: they are fine, and two values are compared.
 use mathlib.Core.Path.{_≡_, sym, ap, subst, _∙_}
-use mathlib.Core.Bool.{Bool}
+use mathlib.Core.Bool.{Bool, Bool·beq}
 use mathlib.Core.List.{List}
 use Prim.Native.Nat.{ℕ, _+_}
 use lib.IntN.{ℤ}
@@ -11,6 +11,7 @@ use Rattle.values.specs.Contract.{Equal}
 use Rattle.operators.specs.Answer.{Answer, FineAnswer}
 use Rattle.operators.specs.Booleans.{truth}
 use Rattle.operators.specs.Operators.{unary, binary}
+use Rattle.operator_laws.proofs.Booleans.{biimplication-table}
 use Rattle.operator_laws.proofs.Results.{unary-fine}
 use Rattle.calling.specs.declared.Applied.{Applied}
 use Rattle.calling.specs.Scratch.{second}
@@ -30,6 +31,6 @@ equal-gives n {operator} f {r = r} h e two eq g =
     ap (λ (k : ℕ). binary k (a .value) (b .value)) e ∙ h (a .value) (b .value) ∙ ap (λ (x : Bool). truth (f x)) (sym (eq (a .value) (b .value) (a .here) (b .here))) in
     two-gives (a .here) (b .here) (gives-same i g)
 
-pub booleans-give : {s t : List ℕ} {base : ℕ} {q : Applied} {r a b : Bool} → At s base (boolean a) → At s (base + second) (boolean b) → Equal s base (base + second) r → Gives (truth r) s t base q → OnTwo (binary 4) s t base q
+pub booleans-give : {s t : List ℕ} {base : ℕ} {q : Applied} {a b : Bool} → At s base (boolean a) → At s (base + second) (boolean b) → Gives (truth (Bool·beq a b)) s t base q → OnTwo (binary 4) s t base q
 unfolding binary
-booleans-give {a = a} {b = b} x y eq g = two-gives x y (gives-same (ap truth (sym (eq (boolean a) (boolean b) x y))) g)
+booleans-give {a = a} {b = b} x y g = two-gives x y (gives-same (biimplication-table a b) g)

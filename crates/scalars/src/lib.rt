@@ -7,11 +7,9 @@ use values::Value;
 ghost use mathlib.Core.Path.{_≡_};
 ghost use Prim.Native.Nat.{_+_, _≤_};
 ghost use Rattle.values.specs.Value.{integer};
-ghost use Rattle.values.specs.Contract.{Equal};
 ghost use Rattle.operators.specs.Booleans.{truth, right};
 ghost use Rattle.operators.specs.Arithmetic.{answered};
 ghost use Rattle.operators.specs.Operators.{unary, binary};
-ghost use Rattle.calling.specs.Scratch.{second};
 ghost use Rattle.calling.specs.Applied.{One, Two, OnOne, OnTwo};
 ghost use Rattle.scalars.specs.Connectives.{connective, TestsLeft};
 
@@ -57,17 +55,6 @@ pub fn unary_scalar(s: &mut [u8], base: usize, operator: usize) -> Applied
 
 // ---- two booleans, and any two values: 4 <=>, 5 =, 6 <>
 
-// Whether the operands are equal; most are integers.
-fn same(s: &[u8], base: usize) -> bool
-    requires { ⌜ Two (now s) base ⌝ }
-    ensures { λ r. ⌜ Equal (now (s .entry)) base (base + second) r ⌝ }
-{
-    match calling::two_integers(s, base) {
-        Pair::Integers(a, b) => a == b,
-        Pair::Others => values::equal(s, base, base + Applied::SECOND),
-    }
-}
-
 fn biimplication(s: &mut [u8], base: usize) -> Applied
     requires { ⌜ Two (now s) base ⌝ }
     ensures { λ r. ⌜ OnTwo (binary 4) (now (s .entry)) (now (s .exit)) base r ⌝ }
@@ -80,15 +67,16 @@ fn biimplication(s: &mut [u8], base: usize) -> Applied
     if second != Value::BOOLEAN {
         return Applied::Refused(Applied::WRONG_KIND);
     }
-    let equal = same(s, base);
-    calling::put_truth(s, base, equal)
+    let a = values::boolean_at(s, base);
+    let b = values::boolean_at(s, base + Applied::SECOND);
+    calling::put_truth(s, base, a == b)
 }
 
 fn equality(s: &mut [u8], base: usize, operator: usize) -> Applied
     requires { ⌜ Two (now s) base × (5 ≤ operator) × (operator ≤ 6) ⌝ }
     ensures { λ r. ⌜ OnTwo (binary operator) (now (s .entry)) (now (s .exit)) base r ⌝ }
 {
-    let equal = same(s, base);
+    let equal = values::equal(s, base, base + Applied::SECOND);
     if operator == tables::binary::EQUAL {
         return calling::put_truth(s, base, equal);
     }

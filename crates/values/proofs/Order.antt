@@ -6,11 +6,6 @@ use mathlib.Core.Logic.{_⊎_, inl, inr}
 use Prim.Native.Nat.{ℕ, _≤_}
 use native.Mathlib.Omega.{arith}
 use lib.Dec.{eqb}
-use lib.IntN.{ℤ}
-use mir.Syntax.{w32}
-use mir.Val.{SFits, ofZ, toZ}
-use mir.ValLaws.{toZ-ofZ}
-use borrow.Author.Tests.{eq-eqb, eqb-true}
 use Rattle.prelude.proofs.Absurd.{impossible}
 use Rattle.integers.specs.declared.Order.{Order}
 use Rattle.integers.specs.declared.Order.the-variants.{Lower, Same, Higher}
@@ -290,17 +285,3 @@ flip-is Higher = refl
 
 pub same-flip : (v w : Value) → same w v ≡ same v w
 same-flip v w = ap isSame (order-flip v w) ∙ flip-is (order v w)
-
--- two integers are equal where their bits are
-pub whole-same : (a b : ℤ) → SFits w32 a → SFits w32 b → eqb (ofZ w32 a) (ofZ w32 b) ≡ same (integer a) (integer b)
-whole-same a b fa fb = go (eqb (ofZ w32 a) (ofZ w32 b)) refl
-  where
-    go : (t : Bool) → eqb (ofZ w32 a) (ofZ w32 b) ≡ t → t ≡ same (integer a) (integer b)
-    go true e =
-        let q : a ≡ b = sym (toZ-ofZ w32 a fa) ∙ ap (toZ w32) (eqb-true (ofZ w32 a) (ofZ w32 b) e) ∙ toZ-ofZ w32 b fb in
-        sym (true-same (ap integer q))
-    go false e =
-        sym (false-same (integer a) (integer b) (λ q.
-        let r : a ≡ b = cc in
-        let z : true ≡ false = sym (eq-eqb (ofZ w32 a) (ofZ w32 b) (ap (ofZ w32) r)) ∙ e in
-        impossible cc))

@@ -8,8 +8,11 @@ use borrow.Author.Needs.{needs}
 use Rattle.scalars.proofs.equality.Statement.{statement}
 use Rattle.scalars.proofs.equality.Tie as tie
 
-same-requires : tie.Need-same-requires
-same-requires c κs = search needs
+add-equal : tie.Need-add-equal
+add-equal c = search needs
+
+equal-requires : tie.Need-equal-requires
+equal-requires c κs = search needs
 
 put-truth-requires : tie.Need-put-truth-requires
 put-truth-requires c κs = search needs
@@ -19,7 +22,7 @@ same-length c = search needs
 
 returns : tie.Need-returns
 unfolding binary
-returns c = equal-gives 5 (λ b. b) (λ v w. refl) (c .before .before .before .before .if1 .taken) (c .before .before .before .before .before .before .before .before .pre .0) (c .before .before .before .before .before .same .ensures) (c .before .before .put-truth .ensures)
+returns c = equal-gives 5 (λ b. b) (λ v w. refl) (c .before .before .before .before .if1 .taken) (c .before .before .before .before .before .before .before .before .pre .0) (c .before .before .before .before .before .equal .ensures) (c .before .before .put-truth .ensures)
 
 put-truth-requires-2 : tie.Need-put-truth-requires-2
 put-truth-requires-2 c κs = search needs
@@ -29,13 +32,14 @@ same-length-2 c = search needs
 
 returns-2 : tie.Need-returns-2
 unfolding binary
-returns-2 c = let e : c .before .before .before .before .before .before .before .before .args .operator ≡ 6 = omega arith in equal-gives 6 not (λ v w. refl) e (c .before .before .before .before .before .before .before .before .pre .0) (c .before .before .before .before .before .same .ensures) (c .before .before .put-truth2 .ensures)
+returns-2 c = let e : c .before .before .before .before .before .before .before .before .args .operator ≡ 6 = omega arith in equal-gives 6 not (λ v w. refl) e (c .before .before .before .before .before .before .before .before .pre .0) (c .before .before .before .before .before .equal .ensures) (c .before .before .put-truth2 .ensures)
 
 pub equality-spec : {M : Type 1} → statement M
 equality-spec =
     tie.close
     (tie.spec
-    same-requires
+    add-equal
+    equal-requires
     put-truth-requires
     same-length
     returns
