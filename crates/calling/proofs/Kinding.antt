@@ -10,7 +10,7 @@ use Rattle.prelude.proofs.Truth.{by-test}
 use Rattle.values.specs.Value.{Kind, number, kindOf, Value, boolean, collection, Items}
 use Rattle.values.specs.Place.{At, Holds}
 use Rattle.values.specs.Contract.{KindAt}
-use Rattle.values.proofs.Records.{one-value, is-boolean}
+use Rattle.values.proofs.Records.{one-value, is-boolean, held-as}
 use Rattle.operators.specs.Answer.{Answer, refused, wrongKind, asBoolean, asInteger, asKind, needs, needsBoth}
 use Rattle.operator_laws.proofs.OfKind.{boolean-not, integer-not, of-kind-is, kind-not, kind-view}
 use Rattle.calling.specs.declared.Applied.{Applied}
@@ -31,18 +31,14 @@ module _ {s : List ℕ} {at k : ℕ} (read : KindAt s at k) where
   no-integer f v a = integer-not v (λ e. f (read .right v a ∙ e))
 
   pub the-boolean : k ≡ 1 → Holds s at → (b : Bool) × At s at (boolean b)
-  the-boolean e h =
-      let i = is-boolean (h .value) (sym (read .right (h .value) (h .here)) ∙ e) in
-      (i .0, subst (λ (v : Value). At s at v) (i .1) (h .here))
+  the-boolean e h = held-as boolean is-boolean h (sym (read .is) ∙ e)
 
   -- of a set, a sequence, a map or a tuple
   pub no-kind : (l : Kind) → (k ≡ number l → ⊥) → (v : Value) → At s at v → asKind l v ≡ absent
   no-kind l f v a = kind-not l v (λ e. f (read .right v a ∙ e))
 
   pub the-kind : (l : Kind) → k ≡ number l → Holds s at → (vs : Items) × At s at (collection l vs)
-  the-kind l e h =
-      let i = of-kind-is l (h .value) (sym (read .right (h .value) (h .here)) ∙ e) in
-      (i .0, subst (λ (v : Value). At s at v) (i .1) (h .here))
+  the-kind l e h = held-as (collection l) (of-kind-is l) h (sym (read .is) ∙ e)
 
 -- 20 where an operand is of another kind
 pub needs-off : {A : Type 0} {o : Option A} (f : A → Answer) → o ≡ absent → needs o f ≡ refused wrongKind

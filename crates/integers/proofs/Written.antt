@@ -34,7 +34,7 @@ machine-bits n = go (ltb n 2147483648)
 pub integer-bits : {z : ℤ} → SFits w32 z → ofBits (bitsOf z) ≡ z
 integer-bits {z} f = ap ofBits (bits-machine z) ∙ machine-bits (ofZ w32 z) ∙ toZ-ofZ f
 
-pub bits-integer : (n : ℕ) → n < 4294967296 → bitsOf (ofBits n) ≡ n
+bits-integer : (n : ℕ) → n < 4294967296 → bitsOf (ofBits n) ≡ n
 bits-integer n h = ap bitsOf (machine-bits n) ∙ bits-machine (toZ w32 n) ∙ ofZ-toZ {w = w32} {n = n} (record { fits = h })
 
 pub bits-range : (n : ℕ) → n < 4294967296 → InRange (ofBits n)

@@ -10,7 +10,7 @@ use lib.ListN.{length}
 use Rattle.integers.specs.Bytes.{word}
 use Rattle.integers.specs.declared.Order.{Order}
 use Rattle.integers.specs.declared.Order.the-variants.{Lower, Same, Higher}
-use Rattle.values.specs.Value.{Kind, number, Value, boolean, integer, quote, collection, Items, kindOf, byteOf, after, within, orderItems, order}
+use Rattle.values.specs.Value.{Kind, number, Value, boolean, integer, quote, collection, Items, kindOf, after, within, orderItems, order}
 use Rattle.integers.specs.Order.{orderℕ, orderℤ}
 use Rattle.values.specs.Items.{isSame}
 use Rattle.values.specs.Place.{At, ItemsAt, Holds, HoldsItems}
