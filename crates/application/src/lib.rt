@@ -1,4 +1,6 @@
 // Applying a sequence to an index, or a map to a key, on values in scratch.
+#![tactic(auto)]
+
 ghost use Rattle.values.specs.Value.{sequence, map};
 ghost use Rattle.operators.specs.Maps.{apply_to};
 ghost use Rattle.calling.specs.Applied.{Two, OnTwo};

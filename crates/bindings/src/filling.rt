@@ -11,7 +11,7 @@ use integers::bytes::put16;
 use parts::words::Env;
 
 // The names that a row has words for, as a mask, and how many they are.
-#[derive(Drop)]
+#[derive(Clone, Copy)]
 pub struct Names {
     pub mask: usize,
     pub width: usize,

@@ -1,4 +1,6 @@
 // The bindings of a binder. All are formed in one pass; some of them stand in a window of scratch, which is filled again where another is asked for.
+#![tactic(auto)]
+
 mod filling;
 mod forms;
 
@@ -15,7 +17,7 @@ use tables::{Index, kinds};
 use values::Value;
 
 // How many bindings there are; the names that they give values, as a mask, and how many these are; and the first binding in the window.
-#[derive(Drop)]
+#[derive(Clone, Copy)]
 pub struct Cursor {
     pub count: usize,
     pub names: usize,
@@ -29,7 +31,7 @@ impl Cursor {
 }
 
 // The bindings, or refusal 29 or 30.
-#[derive(Drop)]
+#[derive(Clone, Copy)]
 pub enum Opened {
     Bound(Cursor),
     Refused(usize),

@@ -1,4 +1,6 @@
 // The calling convention of operators on scratch: where operands stand, where the answer is left, and what is answered.
+#![tactic(auto)]
+
 ghost use Rattle.std.specs.Prelude.{◌+◌, ◌≤◌, length};
 ghost use Rattle.operators.specs.Booleans.{truth};
 ghost use Rattle.operators.specs.Arithmetic.{answered};
@@ -10,7 +12,7 @@ use integers::Number;
 use values::Value;
 
 // What an operator answers: its value stands where its first operand stood, or it is refused by a number of document 01.
-#[derive(Drop)]
+#[derive(Clone, Copy)]
 pub enum Applied {
     Done,
     Refused(usize),
@@ -38,7 +40,7 @@ impl Applied {
 }
 
 // What the left of and, or and => says: the answer, which stands in its place; or that the right decides.
-#[derive(Drop)]
+#[derive(Clone, Copy)]
 pub enum Tested {
     Settled,
     Open,
@@ -46,7 +48,7 @@ pub enum Tested {
 }
 
 // Two operands of which integers are asked.
-#[derive(Drop)]
+#[derive(Clone, Copy)]
 pub enum Pair {
     Integers(i32, i32),
     Others,

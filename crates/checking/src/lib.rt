@@ -1,5 +1,7 @@
 // The check of a table: document 01's rules 3 to 9. One pass tells whether rules 6 to 8 are kept, and passes rule by rule find the one that is broken;
 // a recursion on the record number decides rule 9.
+#![tactic(auto)]
+
 ghost use Rattle.std.specs.Prelude.{◌≡◌, ◌<◌, length};
 ghost use Rattle.tables.specs.Check.{most_records, judged};
 ghost use Rattle.tables.specs.Accepted.{records};

@@ -233,7 +233,7 @@ fn lowest8(
 }
 
 // The lowest record that breaks rule 7, and the lowest that breaks rule 8; the number of records where none does.
-#[derive(Drop)]
+#[derive(Clone, Copy)]
 pub struct Lows {
     pub low7: usize,
     pub low8: usize,

@@ -30,7 +30,7 @@ const FIRST_NAME: u32 = 4;
 
 // What a record and its operands come to: whether no rule is found broken; the bits held at and below it, as in `scope`; the names that are free
 // there (bits from 2 on) and whether there is a choice (bit 0).
-#[derive(Drop)]
+#[derive(Clone, Copy)]
 pub struct Sum {
     pub fine: bool,
     pub held: u32,
@@ -38,7 +38,7 @@ pub struct Sum {
 }
 
 // What a record hands on of an operand's free bits.
-#[derive(Drop)]
+#[derive(Clone, Copy)]
 pub struct Handed {
     pub fine: bool,
     pub free: u32,

@@ -2,7 +2,7 @@
 ghost use Rattle.std.specs.Prelude.{[]};
 ghost use Rattle.choices.specs.Listing.{Lists};
 
-#[derive(Drop)]
+#[derive(Clone, Copy)]
 pub struct Walk {
     pub entries: [u8; Walk::LIMIT],
     pub len: usize,

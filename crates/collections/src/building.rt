@@ -10,14 +10,14 @@ use crate::finding::Sought;
 use values::Value;
 
 // What adding an item comes to.
-#[derive(Drop)]
+#[derive(Clone, Copy)]
 pub enum Added {
     Done,
     Full,
 }
 
 // What entering a key with its value comes to.
-#[derive(Drop)]
+#[derive(Clone, Copy)]
 pub enum Entered {
     Done,
     Clash,

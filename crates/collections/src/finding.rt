@@ -9,14 +9,14 @@ use integers::Order;
 use values::Value;
 
 // Where the record that was looked for stands.
-#[derive(Drop)]
+#[derive(Clone, Copy)]
 pub enum Found {
     At(usize),
     Nothing,
 }
 
 // Where a value stands among the members of a set or the keys of a map, or before which of them it belongs.
-#[derive(Drop)]
+#[derive(Clone, Copy)]
 pub enum Sought {
     Here(usize),
     Before(usize),

@@ -20,7 +20,7 @@ use tables::{Index, kinds};
 const BESIDE: usize = 2048;
 
 // 18, 19: an element, evaluated under binding j and added to what is built.
-#[cycle(begin_binder_collect_item_pair_step_eval_holds_inside_let_be_let_in_binary_branch_entries_items_logic_unary_quantify_single_survey)]
+#[cycle(evaluation)]
 pub fn item(
     table: &[u8],
     index: &Index,
@@ -47,7 +47,7 @@ pub fn item(
 }
 
 // 20: a key and a value, evaluated under binding j and entered into what is built.
-#[cycle(begin_binder_collect_item_pair_step_eval_holds_inside_let_be_let_in_binary_branch_entries_items_logic_unary_quantify_single_survey)]
+#[cycle(evaluation)]
 pub fn pair(
     table: &[u8],
     index: &Index,
@@ -79,7 +79,7 @@ pub fn pair(
 }
 
 // One binding of a comprehension: its condition, and where that holds what is added.
-#[cycle(begin_binder_collect_item_pair_step_eval_holds_inside_let_be_let_in_binary_branch_entries_items_logic_unary_quantify_single_survey)]
+#[cycle(evaluation)]
 pub fn step(
     table: &[u8],
     index: &Index,
@@ -109,7 +109,7 @@ pub fn step(
 }
 
 // 18, 19, 20: a set, a sequence, a map, built binding by binding.
-#[cycle(begin_binder_collect_item_pair_step_eval_holds_inside_let_be_let_in_binary_branch_entries_items_logic_unary_quantify_single_survey)]
+#[cycle(evaluation)]
 pub fn collect(
     table: &[u8],
     index: &Index,

@@ -1,4 +1,6 @@
 // The evaluator: the recursion on record numbers, over lent scratch. A record's value is left at its base; what lies below the base stays.
+#![tactic(auto)]
+
 mod binding;
 mod building;
 mod built;
@@ -35,7 +37,7 @@ use tables::{Index, kinds};
 use words::{VALUE, YES, is_refusal, outcome, refusal};
 
 // How an evaluation ended: a value, which stands at the base; or a refusal's number, place and count.
-#[derive(Drop)]
+#[derive(Clone, Copy)]
 pub enum Outcome {
     Value,
     Refused(usize, usize, usize),
@@ -57,7 +59,7 @@ impl Outcome {
 }
 
 // A condition is true, false, or no boolean.
-#[derive(Drop)]
+#[derive(Clone, Copy)]
 pub enum Truth {
     True,
     False,
@@ -65,7 +67,7 @@ pub enum Truth {
 }
 
 // How many bindings satisfy, and which of all is the wanted one of them; or how their tests ended.
-#[derive(Drop)]
+#[derive(Clone, Copy)]
 pub struct Tally {
     pub word: usize,
     pub count: usize,
@@ -75,7 +77,7 @@ pub struct Tally {
 // ---- what all binders do: from the base on stand the set or value, the window of its bindings, what is built, and what an operand gives under a binding
 
 // Operand 1 of the binder r of kind k is evaluated, and its bindings are formed.
-#[cycle(begin_binder_collect_item_pair_step_eval_holds_inside_let_be_let_in_binary_branch_entries_items_logic_unary_quantify_single_survey)]
+#[cycle(evaluation)]
 fn begin(
     table: &[u8],
     index: &Index,
@@ -106,7 +108,7 @@ fn begin(
 }
 
 // Operand i of the binder r, evaluated under binding j at a place above base.
-#[cycle(begin_binder_collect_item_pair_step_eval_holds_inside_let_be_let_in_binary_branch_entries_items_logic_unary_quantify_single_survey)]
+#[cycle(evaluation)]
 fn inside(
     table: &[u8],
     index: &Index,
@@ -131,7 +133,7 @@ fn inside(
 }
 
 // Does the condition of the binder r hold under binding j?
-#[cycle(begin_binder_collect_item_pair_step_eval_holds_inside_let_be_let_in_binary_branch_entries_items_logic_unary_quantify_single_survey)]
+#[cycle(evaluation)]
 fn holds(
     table: &[u8],
     index: &Index,
@@ -159,7 +161,7 @@ fn holds(
 // ---- the binders that build nothing
 
 // 14, 15: forall stops at the first false, exists at the first true.
-#[cycle(begin_binder_collect_item_pair_step_eval_holds_inside_let_be_let_in_binary_branch_entries_items_logic_unary_quantify_single_survey)]
+#[cycle(evaluation)]
 fn quantify(
     table: &[u8],
     index: &Index,
@@ -198,7 +200,7 @@ fn quantify(
 }
 
 // 13, 16, 17: all bindings are tested. The satisfying ones are counted, and the wanted one is remembered as it passes.
-#[cycle(begin_binder_collect_item_pair_step_eval_holds_inside_let_be_let_in_binary_branch_entries_items_logic_unary_quantify_single_survey)]
+#[cycle(evaluation)]
 fn survey(
     table: &[u8],
     index: &Index,
@@ -243,7 +245,7 @@ fn survey(
 }
 
 // 16, 17: exists1 says whether exactly one binding satisfies; iota gives the value of its name under that one.
-#[cycle(begin_binder_collect_item_pair_step_eval_holds_inside_let_be_let_in_binary_branch_entries_items_logic_unary_quantify_single_survey)]
+#[cycle(evaluation)]
 fn single(
     table: &[u8],
     index: &Index,
@@ -275,7 +277,7 @@ fn single(
 }
 
 // 13: let-be. A choice among the satisfying bindings, and the body under the one chosen.
-#[cycle(begin_binder_collect_item_pair_step_eval_holds_inside_let_be_let_in_binary_branch_entries_items_logic_unary_quantify_single_survey)]
+#[cycle(evaluation)]
 fn let_be(
     table: &[u8],
     index: &Index,
@@ -325,7 +327,7 @@ fn let_be(
 }
 
 // 12: let. The body under the binding of its pattern; where the pattern is loose, a choice among its bindings.
-#[cycle(begin_binder_collect_item_pair_step_eval_holds_inside_let_be_let_in_binary_branch_entries_items_logic_unary_quantify_single_survey)]
+#[cycle(evaluation)]
 fn let_in(
     table: &[u8],
     index: &Index,
@@ -377,7 +379,7 @@ fn let_in(
 // ---- by the kind of a record
 
 // 12 to 20: what binds names. A record of another kind that is left is no expression, and is refused with 20.
-#[cycle(begin_binder_collect_item_pair_step_eval_holds_inside_let_be_let_in_binary_branch_entries_items_logic_unary_quantify_single_survey)]
+#[cycle(evaluation)]
 fn binder(
     table: &[u8],
     index: &Index,
@@ -407,7 +409,7 @@ fn binder(
 }
 
 // The record r evaluated. Kinds that are evaluated alike share an arm; the kinds that bind names are apart.
-#[cycle(begin_binder_collect_item_pair_step_eval_holds_inside_let_be_let_in_binary_branch_entries_items_logic_unary_quantify_single_survey)]
+#[cycle(evaluation)]
 pub fn eval(
     table: &[u8],
     index: &Index,

@@ -26,7 +26,7 @@ const NEXT: usize = Applied::SECOND;
 const AFTER: usize = Applied::THIRD;
 
 // 4: a unary operator.
-#[cycle(begin_binder_collect_item_pair_step_eval_holds_inside_let_be_let_in_binary_branch_entries_items_logic_unary_quantify_single_survey)]
+#[cycle(evaluation)]
 pub fn unary(
     table: &[u8],
     index: &Index,
@@ -50,7 +50,7 @@ pub fn unary(
 }
 
 // 5, 11, 21: what takes both operands: a strict binary operator, a set range, an application.
-#[cycle(begin_binder_collect_item_pair_step_eval_holds_inside_let_be_let_in_binary_branch_entries_items_logic_unary_quantify_single_survey)]
+#[cycle(evaluation)]
 pub fn binary(
     table: &[u8],
     index: &Index,
@@ -81,7 +81,7 @@ pub fn binary(
 }
 
 // 5: and, or, =>.
-#[cycle(begin_binder_collect_item_pair_step_eval_holds_inside_let_be_let_in_binary_branch_entries_items_logic_unary_quantify_single_survey)]
+#[cycle(evaluation)]
 pub fn logic(
     table: &[u8],
     index: &Index,
@@ -117,7 +117,7 @@ pub fn logic(
 }
 
 // 6: if.
-#[cycle(begin_binder_collect_item_pair_step_eval_holds_inside_let_be_let_in_binary_branch_entries_items_logic_unary_quantify_single_survey)]
+#[cycle(evaluation)]
 pub fn branch(
     table: &[u8],
     index: &Index,
@@ -150,7 +150,7 @@ pub fn branch(
 }
 
 // 7, 8, 10: a set, a sequence, a tuple. A refusal of the building is kept while the other operands are evaluated.
-#[cycle(begin_binder_collect_item_pair_step_eval_holds_inside_let_be_let_in_binary_branch_entries_items_logic_unary_quantify_single_survey)]
+#[cycle(evaluation)]
 pub fn items(
     table: &[u8],
     index: &Index,
@@ -181,7 +181,7 @@ pub fn items(
 }
 
 // 9: a map, key by key and value by value.
-#[cycle(begin_binder_collect_item_pair_step_eval_holds_inside_let_be_let_in_binary_branch_entries_items_logic_unary_quantify_single_survey)]
+#[cycle(evaluation)]
 pub fn entries(
     table: &[u8],
     index: &Index,

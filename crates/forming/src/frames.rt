@@ -23,7 +23,7 @@ pub type Frames = [u8; FRAMES_BYTES];
 // next, and how many there are; the names that had a value; whether the pattern is only a test; what its halves take; which of its parts are only
 // tests, a bit for each; how many rows there were when the frame was opened; how many when its present way began; and whether its halves are to ask
 // for items.
-#[derive(Drop)]
+#[derive(Clone, Copy)]
 pub struct Frame {
     pub p: usize,
     pub at: usize,

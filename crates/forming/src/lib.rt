@@ -1,5 +1,7 @@
 // The bindings of a pattern formed once: all ways are gone through with an agenda of what is still to be matched and a stack of the patterns
 // whose ways are not all gone through. Each match found is inserted in order, once, among rows.
+#![tactic(auto)]
+
 mod frames;
 mod masks;
 mod needs;
@@ -45,14 +47,14 @@ pub type Rows = [u32; ROWS_WORDS];
 pub type RowOrder = [u8; Value::BINDINGS];
 
 // How many bindings there are, or refusal 29 or 30.
-#[derive(Drop)]
+#[derive(Clone, Copy)]
 pub enum Formed {
     Number(usize),
     Refused(usize),
 }
 
 // How many bindings there are so far, or too many; how many frames are on the stack; and how many of these, from the first on, have a match.
-#[derive(Drop)]
+#[derive(Clone, Copy)]
 pub struct Step {
     pub n: usize,
     pub full: bool,
@@ -61,7 +63,7 @@ pub struct Step {
 }
 
 // The first entry of an agenda, and the first that is free.
-#[derive(Drop)]
+#[derive(Clone, Copy)]
 pub struct Queue {
     pub head: usize,
     pub top: usize,

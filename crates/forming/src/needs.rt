@@ -20,7 +20,7 @@ use tables::{Index, kinds};
 use values::Value;
 
 // What the names that have a value ask of a set or map that a pattern meets: nothing, items that it has, or one that it lacks.
-#[derive(Drop)]
+#[derive(Clone, Copy)]
 pub enum Asked {
     Nothing,
     Had,

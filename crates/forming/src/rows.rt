@@ -12,7 +12,7 @@ use parts::words::Env;
 use parts::{Part, words};
 
 // Where a binding has its place among the rows, and whether it is there.
-#[derive(Drop)]
+#[derive(Clone, Copy)]
 pub struct Seek {
     pub at: usize,
     pub there: bool,

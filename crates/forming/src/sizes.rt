@@ -17,7 +17,7 @@ use tables::reading::{field, kind, operand, operand_count};
 use tables::{Index, kinds};
 
 // At least so many; or exactly so many, where there may not be more.
-#[derive(Drop)]
+#[derive(Clone, Copy)]
 pub struct Size {
     pub least: u8,
     pub more: bool,
@@ -31,7 +31,7 @@ impl Size {
 }
 
 // What the halves of a pattern take, if they do not take any number.
-#[derive(Drop)]
+#[derive(Clone, Copy)]
 pub struct Sizes {
     pub bound: bool,
     pub left: Size,
@@ -206,7 +206,7 @@ fn pair(left: Size, right: Size, k: usize) -> Sizes
 }
 
 // From the least to the most of them; none where the least is more.
-#[derive(Drop)]
+#[derive(Clone, Copy)]
 pub struct Range {
     pub least: usize,
     pub most: usize,

@@ -9,7 +9,7 @@ use tables::reading::kind;
 use tables::shape::is_composed;
 
 // The entry with parts that waits, 0 where there is none; the entry to go on from; and whether all up to there may agree.
-#[derive(Drop)]
+#[derive(Clone, Copy)]
 pub struct Left {
     pub wait: usize,
     pub head: usize,

@@ -1,4 +1,6 @@
 // What several families of operators build: sets of consecutive integers, and sets of the items of others.
+#![tactic(auto)]
+
 ghost use Rattle.std.specs.Prelude.{◌+◌, ◌≤◌};
 ghost use Rattle.values.specs.Value.{set, sequence, collection, none};
 ghost use Rattle.values.specs.Place.{HoldsItems};

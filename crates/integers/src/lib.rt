@@ -1,4 +1,6 @@
 // The integers of a sheet at 32 bits, with an exact answer at 0 and at the range's ends.
+#![tactic(auto)]
+
 ghost use Rattle.std.specs.Prelude.{◌≡◌, pos, negsuc};
 ghost use Rattle.std.specs.Int.Signed.{lt_z};
 ghost use Rattle.integers.specs.Whole.{ranged, mod_ℤ, sum_of, difference_of, product_of, quotient_of, remainder_of, modulus_of, negation_of, absolute_of};
@@ -7,7 +9,7 @@ ghost use Rattle.integers.specs.Order.{order_ℕ, order_ℤ};
 pub mod bytes;
 
 // What an operation answers: an integer, 21 or 22.
-#[derive(Drop)]
+#[derive(Clone, Copy)]
 pub enum Number {
     Is(i32),
     OutOfRange,
@@ -22,7 +24,7 @@ impl Number {
 }
 
 // The order of two of a kind: the first is lower, the same or higher.
-#[derive(Drop)]
+#[derive(Clone, Copy)]
 pub enum Order {
     Lower,
     Same,

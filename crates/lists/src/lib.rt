@@ -1,4 +1,6 @@
 // The choices of a run as lent bytes: made from a list, taken one by one, moved on to the next list, and read as a walk.
+#![tactic(auto)]
+
 pub mod choosing;
 
 ghost use Rattle.std.specs.Prelude.{◌≡◌, ℕ, ◌+◌, ◌≤◌, ◌<◌, length, set};
@@ -67,7 +69,7 @@ fn restart(run: &mut Run, len: usize)
 // After a run that used the whole list: the last entry that can go up goes up, and what follows it is cut. False where none can.
 pub fn advance(run: &mut Run) -> bool
     requires { UsedWhole run.old }
-    ensures* { λ more. ⌜ Moved (lent run.old) (record { more = more; state = lent run.new }) ⌝ }
+    ensures { Moved (lent run.old) (record { more = result; state = lent run.new }) }
 {
     let mut i = wide(run[USED]);
     while 0 < i {

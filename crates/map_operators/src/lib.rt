@@ -1,4 +1,6 @@
 // The operators on maps, on values in scratch.
+#![tactic(auto)]
+
 ghost use Rattle.std.specs.Prelude.{◌≤◌};
 ghost use Rattle.values.specs.Value.{set, sequence, map, collection, none, every_other, keys, mapped};
 ghost use Rattle.operators.specs.Answer.{is, sized};

@@ -12,7 +12,7 @@ use tables::{Index, kinds};
 use values::Value;
 
 // Kind or count do not fit; a set or map is too large to split; or so many ways.
-#[derive(Drop)]
+#[derive(Clone, Copy)]
 pub enum Meeting {
     Unfit,
     Large,

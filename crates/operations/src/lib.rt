@@ -1,4 +1,6 @@
 // The strict operators by number, on values in scratch: one call for all of one operand, and one for all of two.
+#![tactic(auto)]
+
 ghost use Rattle.operators.specs.Operators.{unary, binary};
 ghost use Rattle.calling.specs.Applied.{One, Two, OnOne, OnTwo};
 ghost use Rattle.operations.specs.Numbers.{Unary, Binary};

@@ -1,1 +1,2 @@
 // Theorems on the operators, in proofs/.
+#![tactic(auto)]

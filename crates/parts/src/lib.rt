@@ -1,4 +1,6 @@
 // Parts of a value where they lie, by value and without copying: a whole record, some members of a set or entries of a map, a span of a sequence.
+#![tactic(auto)]
+
 mod items;
 pub mod masks;
 pub mod runs;
@@ -15,7 +17,7 @@ use values::Value;
 // Nothing; the whole record at a place; of the set of at most seven members or the map of at most seven entries whose record stands at a place, those
 // units that the bits of `extent` choose, the first by the lowest bit; the sequence of the items whose records take `extent` bytes from a place on.
 // Eight bytes in all.
-#[derive(Drop)]
+#[derive(Clone, Copy)]
 pub struct Part {
     pub at: u32,
     pub extent: u16,
@@ -33,7 +35,7 @@ impl Part {
 }
 
 // The two halves of a part.
-#[derive(Drop)]
+#[derive(Clone, Copy)]
 pub struct Halves {
     pub left: Part,
     pub right: Part,

@@ -23,7 +23,7 @@ pub fn full(k: usize) -> usize
 }
 
 // Units dealt out, the last ones first: the mask of those on the left, and what is left of the number of the split.
-#[derive(Drop)]
+#[derive(Clone, Copy)]
 pub struct Dealing {
     pub left: usize,
     pub rest: usize,

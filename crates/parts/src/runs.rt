@@ -5,7 +5,7 @@ ghost use Rattle.parts.specs.Contract.{CollectionHeld};
 use crate::{Part, masks};
 use integers::Order;
 
-#[derive(Drop)]
+#[derive(Clone, Copy)]
 pub struct Run {
     pub from: usize,
     pub to: usize,

@@ -6,7 +6,7 @@ use crate::Part;
 use integers::Order;
 
 // What each name stands for, as words; 0 where it has no value.
-#[derive(Drop)]
+#[derive(Clone, Copy)]
 pub struct Env {
     pub words: [u32; Env::NAMES],
 }

@@ -1,1 +1,2 @@
 // Matching patterns against values, and the bindings of a binder.
+#![tactic(auto)]

@@ -1,4 +1,6 @@
 // The print of a walk: numbers, values, lists, outcomes and lines as text, written into a lent buffer. Each function gives the place past its text.
+#![tactic(auto)]
+
 ghost use Rattle.std.specs.Prelude.{◌≡◌, ◌∷◌, [], ◌++◌, ◌+◌, ◌≤◌, ◌<◌, length};
 ghost use Rattle.print.specs.Ascii.{newline};
 ghost use Rattle.print.specs.Text.{decimal, integer_text, truth_text, quote_text, refusal_word, list_text};
@@ -26,7 +28,7 @@ const SPACE: u8 = b' ';
 const NO_ENTRIES: u8 = b'-';
 
 // A word of at most 10 letters, and their number.
-#[derive(Drop)]
+#[derive(Clone, Copy)]
 struct Word {
     letters: [u8; 10],
     len: u8,
@@ -131,7 +133,7 @@ pub fn put_integer(z: i32, out: &mut [u8], at: usize) -> usize
 // ---- values
 
 // What stands before an item of a collection.
-#[derive(Drop)]
+#[derive(Clone, Copy)]
 enum Separator {
     Nothing,
     Comma,

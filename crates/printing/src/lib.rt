@@ -1,4 +1,6 @@
 // The print of a walk, piece by piece: one run of the sheet for each line, which also learns what the next list needs.
+#![tactic(auto)]
+
 ghost use Rattle.std.specs.Prelude.{◌≡◌, true, false, ◌+◌, ◌≤◌, ◌<◌, length};
 ghost use Rattle.print.specs.Print.{most_lines};
 ghost use Rattle.print.specs.Contract.{short_line};
@@ -11,7 +13,7 @@ use tables::Index;
 
 // How far a print has come: how many lists' lines are written, whether a list follows them, whether the last line is written, and how long the piece in
 // the buffer is.
-#[derive(Drop)]
+#[derive(Clone, Copy)]
 pub struct Progress {
     pub lists: usize,
     pub more: bool,

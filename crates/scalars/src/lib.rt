@@ -1,4 +1,6 @@
 // The operators on booleans and integers, and equality, on values in scratch.
+#![tactic(auto)]
+
 ghost use Rattle.std.specs.Prelude.{◌≡◌, ◌+◌, ◌≤◌};
 ghost use Rattle.values.specs.Value.{integer};
 ghost use Rattle.operators.specs.Booleans.{truth, right};

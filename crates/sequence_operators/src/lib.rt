@@ -1,4 +1,6 @@
 // The operators on sequences, on values in scratch.
+#![tactic(auto)]
+
 ghost use Rattle.std.specs.Prelude.{◌≤◌, pos, cond};
 ghost use Rattle.values.specs.Value.{sequence, integer, collection, count};
 ghost use Rattle.values.specs.Items.{join};

@@ -1,4 +1,6 @@
 // The operators on sets and the set range, on values in scratch.
+#![tactic(auto)]
+
 pub mod members;
 
 ghost use Rattle.std.specs.Prelude.{◌≡◌, ◌≤◌};

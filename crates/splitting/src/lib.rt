@@ -1,4 +1,6 @@
 // Whether a union or munion pattern is met by a set or map too large to split, wherever kind and count fit: number 29.
+#![tactic(auto)]
+
 ghost use Rattle.std.specs.Prelude.{◌≤◌, length};
 ghost use Rattle.patterns.specs.Read.{Readable};
 ghost use Rattle.parts.specs.Part.{PartHeld};

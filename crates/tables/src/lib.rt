@@ -1,4 +1,6 @@
 // Tables of records: what a record's operands are for, and what the check of a table answers.
+#![tactic(auto)]
+
 pub mod binary;
 pub mod kinds;
 pub mod reading;
@@ -23,7 +25,7 @@ pub const NAMES: usize = 16;
 pub type Index = [u32; MOST_RECORDS];
 
 // What an operand is for.
-#[derive(Drop)]
+#[derive(Clone, Copy)]
 pub enum Role {
     // An expression outside the binder's names: any operand of a record that binds nothing, a set operand, a let's value.
     Plain,
@@ -38,7 +40,7 @@ pub enum Role {
 }
 
 // What the check of a table answers.
-#[derive(Drop)]
+#[derive(Clone, Copy)]
 pub enum Checked {
     // The table's number of records.
     Accepted(usize),

@@ -25,7 +25,7 @@ const PLACES: usize = 65536;
 const KINDS: usize = 256;
 
 // What cutting a table finds: the number of records up to the first fault of rule 4, and whether there is none.
-#[derive(Drop)]
+#[derive(Clone, Copy)]
 pub struct Cutting {
     pub count: usize,
     pub whole: bool,

@@ -1,4 +1,6 @@
 // Values as records in a lent slice: read, compared, written and copied where they lie, and handed out.
+#![tactic(auto)]
+
 ghost use Rattle.std.specs.Prelude.{◌+◌, ◌≤◌, ◌<◌, [], length};
 ghost use Rattle.integers.specs.Whole.{InRange};
 ghost use Rattle.values.specs.Value.{boolean, integer, quote};
@@ -10,7 +12,7 @@ use integers::Order;
 pub mod validity;
 
 // A value that is handed out: its record, and zeros after it.
-#[derive(Drop)]
+#[derive(Clone, Copy)]
 pub struct Value {
     pub bytes: [u8; Value::LIMIT],
     pub len: usize,

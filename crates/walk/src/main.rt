@@ -1,4 +1,6 @@
 // The walk program: reads a table from standard input and writes its print to standard output.
+#![tactic(auto)]
+
 ghost use Rattle.std.specs.Prelude.{◌≡◌};
 ghost use Rattle.tables.specs.Check.{check as check_of};
 ghost use Rattle.tables.specs.Reading.{Indexed};
@@ -20,7 +22,7 @@ const MOST_READ: usize = MOST_BYTES + 1;
 // ---- reading
 
 // What was read: so many bytes at the start of the buffer; or a read failed.
-#[derive(Drop)]
+#[derive(Clone, Copy)]
 enum Input {
     Bytes(usize),
     Failed,
@@ -48,7 +50,7 @@ fn read_input(buffer: &mut [u8]) -> Input
 // ---- writing
 
 // How many bytes of the print went out, and whether a write then failed.
-#[derive(Drop)]
+#[derive(Clone, Copy)]
 struct Sent {
     bytes: usize,
     failed: bool,

@@ -1,4 +1,6 @@
 // Walks: running a list, the first list of a table, and the step from a list to the next.
+#![tactic(auto)]
+
 ghost use Rattle.std.specs.Prelude.{◌≡◌, ◌<◌, ◌≤◌, ltb, length};
 ghost use Rattle.choices.specs.State.{Invariant};
 ghost use Rattle.choices.specs.Tree.{most_choices};
@@ -101,7 +103,7 @@ pub fn first_walk(table: &[u8], index: &Index, count: usize, s: &mut [u8]) -> Wa
 }
 
 // The answer of a step, and the walk after it.
-#[derive(Drop)]
+#[derive(Clone, Copy)]
 pub struct Stepped {
     pub answer: u64,
     pub walk: Walk,

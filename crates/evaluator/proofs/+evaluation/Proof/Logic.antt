@@ -3,7 +3,7 @@ use Prim.Native.Nat.{ℕ}
 use native.Mathlib.Omega.{arith}
 use borrow.Author.Rules.{rules}
 use Rattle.evaluator.proofs.Firsts.{after_binary}
-use Rattle.evaluator.proofs.+begin_binder_collect_item_pair_step_eval_holds_inside_let_be_let_in_binary_branch_entries_items_logic_unary_quantify_single_survey.Proof.Common.{logic_at, eval_below}
+use Rattle.evaluator.proofs.+evaluation.Proof.Common.{logic_at, eval_below}
 use Rattle.evaluator.proofs.Members.{first_asked, next_asked, logic_left, logic_next, logic_off, logic_held, logic_done, logic_bad, logic_off_right, logic_both, logic_right_held}
 use Rattle.evaluator.proofs.Wording.{valued, unvalued}
 use Rattle.evaluator.proofs.words.applied_word.Reads as applied_word_reads
@@ -14,7 +14,7 @@ use Rattle.tables.proofs.reading.operand_from.Reads as operand_from_reads
 use Rattle.evaluator.proofs.words.refusal.Reads as refusal_reads
 use Rattle.scalars.proofs.right.Reads as right_reads
 use Rattle.evaluator.proofs.words.is_refusal.Reads as is_refusal_reads
-use Rattle.evaluator.proofs.+begin_binder_collect_item_pair_step_eval_holds_inside_let_be_let_in_binary_branch_entries_items_logic_unary_quantify_single_survey.Lts-plain-logic as logic_lts
+use Rattle.evaluator.proofs.+evaluation.Lts-plain-logic as logic_lts
 
 abbrev logic_calls : ℕ → logic_lts.Claims
 logic_calls t = (

@@ -3,7 +3,7 @@ use Prim.Native.Nat.{ℕ}
 use native.Mathlib.Omega.{arith}
 use borrow.Author.Rules.{rules}
 use Rattle.evaluator.proofs.Firsts.{after_unary}
-use Rattle.evaluator.proofs.+begin_binder_collect_item_pair_step_eval_holds_inside_let_be_let_in_binary_branch_entries_items_logic_unary_quantify_single_survey.Proof.Common.{unary_at, eval_below}
+use Rattle.evaluator.proofs.+evaluation.Proof.Common.{unary_at, eval_below}
 use Rattle.evaluator.proofs.Members.{first_asked, unary_has, unary_field, unary_off, unary_held, unary_done}
 use Rattle.evaluator.proofs.Wording.{valued, unvalued}
 use Rattle.evaluator.proofs.words.applied_word.Reads as applied_word_reads
@@ -13,7 +13,7 @@ use Rattle.tables.proofs.reading.noted_operand.Reads as noted_operand_reads
 use Rattle.evaluator.proofs.plain.unary.Reads as unary
 use Rattle.operations.proofs.unary.Reads as unary_reads
 use Rattle.evaluator.proofs.words.is_refusal.Reads as is_refusal_reads
-use Rattle.evaluator.proofs.+begin_binder_collect_item_pair_step_eval_holds_inside_let_be_let_in_binary_branch_entries_items_logic_unary_quantify_single_survey.Lts-plain-unary as unary_lts
+use Rattle.evaluator.proofs.+evaluation.Lts-plain-unary as unary_lts
 
 abbrev unary_calls : ℕ → unary_lts.Claims
 unary_calls t = (

@@ -3,7 +3,7 @@ use Prim.Native.Nat.{ℕ, ◌-◌}
 use native.Mathlib.Omega.{arith}
 use mathlib.Core.Path.{refl}
 use borrow.Author.Rules.{rules}
-use Rattle.evaluator.proofs.+begin_binder_collect_item_pair_step_eval_holds_inside_let_be_let_in_binary_branch_entries_items_logic_unary_quantify_single_survey.Proof.Common.{collect_at, begin_below, step_below}
+use Rattle.evaluator.proofs.+evaluation.Proof.Common.{collect_at, begin_below, step_below}
 use Rattle.lists.specs.Lent.{lent}
 use Rattle.evaluator.proofs.Comprehending.{Collects, collect_off, collect_room, collect_start, collect_whole, kind_as, collects_extends, collects_off, collects_more, collects_copyable, collects_end}
 use Rattle.evaluator.proofs.Wording.{valued, unvalued}
@@ -17,7 +17,7 @@ use Rattle.evaluator.proofs.built.step.Reads as step
 use Rattle.evaluator.proofs.building.enumeration_of.Reads as enumeration_of_reads
 use Rattle.evaluator.proofs.building.built_kind.Reads as built_kind_reads
 use Rattle.evaluator.proofs.words.is_refusal.Reads as is_refusal_reads
-use Rattle.evaluator.proofs.+begin_binder_collect_item_pair_step_eval_holds_inside_let_be_let_in_binary_branch_entries_items_logic_unary_quantify_single_survey.Lts-built-collect as collect_lts
+use Rattle.evaluator.proofs.+evaluation.Lts-built-collect as collect_lts
 
 abbrev collect_calls : ℕ → collect_lts.Claims
 collect_calls t = (

@@ -3,7 +3,7 @@ use Prim.Native.Nat.{ℕ}
 use native.Mathlib.Omega.{arith}
 use mathlib.Core.Path.{sym, ◌∙◌}
 use borrow.Author.Rules.{rules}
-use Rattle.evaluator.proofs.+begin_binder_collect_item_pair_step_eval_holds_inside_let_be_let_in_binary_branch_entries_items_logic_unary_quantify_single_survey.Proof.Common.{eval_at, binary_below, binder_below, branch_below, logic_below, items_below, entries_below, unary_below}
+use Rattle.evaluator.proofs.+evaluation.Proof.Common.{eval_at, binary_below, binder_below, branch_below, logic_below, items_below, entries_below, unary_below}
 use mathlib.Core.Logic.{inl, inr, ⊎_elim}
 use Rattle.evaluator.proofs.Tables.{here}
 use Rattle.evaluator.proofs.Members.{two_field, strictly, from_seven, left_over}
@@ -22,7 +22,7 @@ use Rattle.evaluator.proofs.leaves.quote.Reads as quote_reads
 use Rattle.evaluator.proofs.leaves.truth.Reads as truth_reads
 use Rattle.evaluator.proofs.plain.unary.Reads as unary
 use Rattle.evaluator.proofs.leaves.whole.Reads as whole_reads
-use Rattle.evaluator.proofs.+begin_binder_collect_item_pair_step_eval_holds_inside_let_be_let_in_binary_branch_entries_items_logic_unary_quantify_single_survey.Lts-eval as eval_lts
+use Rattle.evaluator.proofs.+evaluation.Lts-eval as eval_lts
 
 abbrev eval_calls : ℕ → eval_lts.Claims
 eval_calls t = (

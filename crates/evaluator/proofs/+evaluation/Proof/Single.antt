@@ -3,7 +3,7 @@ use Prim.Native.Nat.{ℕ}
 use native.Mathlib.Omega.{arith}
 use mathlib.Core.Path.{◌∙◌}
 use borrow.Author.Rules.{rules}
-use Rattle.evaluator.proofs.+begin_binder_collect_item_pair_step_eval_holds_inside_let_be_let_in_binary_branch_entries_items_logic_unary_quantify_single_survey.Proof.Common.{single_at, survey_below}
+use Rattle.evaluator.proofs.+evaluation.Proof.Common.{single_at, survey_below}
 use Rattle.evaluator.proofs.Tables.{room_here}
 use Rattle.evaluator.proofs.Deciding.{surveys_as, seventeen, single_off}
 use Rattle.evaluator.proofs.Unique.{exists1_done, iota_not, iota_stands, iota_done}
@@ -14,7 +14,7 @@ use Rattle.values.proofs.put_boolean.Reads as put_boolean_reads
 use Rattle.evaluator.proofs.words.refusal.Reads as refusal_reads
 use Rattle.evaluator.proofs.survey.Reads as survey
 use Rattle.evaluator.proofs.words.is_refusal.Reads as is_refusal_reads
-use Rattle.evaluator.proofs.+begin_binder_collect_item_pair_step_eval_holds_inside_let_be_let_in_binary_branch_entries_items_logic_unary_quantify_single_survey.Lts-single as single_lts
+use Rattle.evaluator.proofs.+evaluation.Lts-single as single_lts
 
 abbrev single_calls : ℕ → single_lts.Claims
 single_calls t = (

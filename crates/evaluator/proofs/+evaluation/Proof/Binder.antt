@@ -4,7 +4,7 @@ use native.Mathlib.Omega.{arith}
 use mathlib.Core.Path.{sym, ◌∙◌}
 use mathlib.Core.Logic.{inl, inr, ⊎_elim}
 use borrow.Author.Rules.{rules}
-use Rattle.evaluator.proofs.+begin_binder_collect_item_pair_step_eval_holds_inside_let_be_let_in_binary_branch_entries_items_logic_unary_quantify_single_survey.Proof.Common.{binder_at, collect_below, let_in_below, single_below, quantify_below, let_be_below}
+use Rattle.evaluator.proofs.+evaluation.Proof.Common.{binder_at, collect_below, let_in_below, single_below, quantify_below, let_be_below}
 use Rattle.evaluator.proofs.Members.{eval_last, from_eighteen, unmatched}
 use Rattle.evaluator.proofs.binding.is_quantifier.Reads as is_quantifier_reads
 use Rattle.evaluator.proofs.binder.Reads as binder
@@ -14,7 +14,7 @@ use Rattle.evaluator.proofs.single.Reads as single
 use Rattle.evaluator.proofs.quantify.Reads as quantify
 use Rattle.evaluator.proofs.words.refusal.Reads as refusal_reads
 use Rattle.evaluator.proofs.let_be.Reads as let_be
-use Rattle.evaluator.proofs.+begin_binder_collect_item_pair_step_eval_holds_inside_let_be_let_in_binary_branch_entries_items_logic_unary_quantify_single_survey.Lts-binder as binder_lts
+use Rattle.evaluator.proofs.+evaluation.Lts-binder as binder_lts
 
 abbrev binder_calls : ℕ → binder_lts.Claims
 binder_calls t = (

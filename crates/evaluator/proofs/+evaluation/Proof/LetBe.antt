@@ -3,7 +3,7 @@ use Prim.Native.Nat.{ℕ}
 use native.Mathlib.Omega.{arith}
 use mathlib.Core.Path.{refl}
 use borrow.Author.Rules.{rules}
-use Rattle.evaluator.proofs.+begin_binder_collect_item_pair_step_eval_holds_inside_let_be_let_in_binary_branch_entries_items_logic_unary_quantify_single_survey.Proof.Common.{let_be_at, inside_below, survey_below}
+use Rattle.evaluator.proofs.+evaluation.Proof.Common.{let_be_at, inside_below, survey_below}
 use Rattle.evaluator.proofs.Tables.{room_here}
 use Rattle.evaluator.proofs.Deciding.{not_taken, let_be_has}
 use Rattle.evaluator.proofs.Letting.{let_be_off, let_be_none, let_be_some, let_be_unchosen, let_be_stands, let_be_body_off, let_be_copyable, let_be_done}
@@ -16,7 +16,7 @@ use Rattle.evaluator.proofs.let_be.Reads as let_be
 use Rattle.evaluator.proofs.survey.Reads as survey
 use Rattle.evaluator.proofs.binding.unchosen.Reads as unchosen_reads
 use Rattle.evaluator.proofs.words.is_refusal.Reads as is_refusal_reads
-use Rattle.evaluator.proofs.+begin_binder_collect_item_pair_step_eval_holds_inside_let_be_let_in_binary_branch_entries_items_logic_unary_quantify_single_survey.Lts-let_be as let_be_lts
+use Rattle.evaluator.proofs.+evaluation.Lts-let_be as let_be_lts
 
 abbrev let_be_calls : ℕ → let_be_lts.Claims
 let_be_calls t = (

@@ -6,7 +6,7 @@ use Rattle.evaluator.specs.Contract.{env_of}
 use Rattle.lists.specs.Lent.{lent}
 use mathlib.Core.Path.{refl, ◌∙◌}
 use borrow.Author.Rules.{rules}
-use Rattle.evaluator.proofs.+begin_binder_collect_item_pair_step_eval_holds_inside_let_be_let_in_binary_branch_entries_items_logic_unary_quantify_single_survey.Proof.Common.{survey_at, begin_below, holds_below}
+use Rattle.evaluator.proofs.+evaluation.Proof.Common.{survey_at, begin_below, holds_below}
 use Rattle.evaluator.proofs.Coming.{comes_sound}
 use Rattle.evaluator.proofs.Quieting.{quiet}
 use Rattle.evaluator.proofs.Surveying.{Counts, counts_end, counts_stands, counts_off, counts_more, survey_off, survey_start, survey_whole}
@@ -18,7 +18,7 @@ use Rattle.evaluator.proofs.survey.Reads as survey
 use Rattle.evaluator.proofs.binding.tally.Reads as tally_reads
 use Rattle.lists.proofs.choosing.wanted.Reads as wanted_reads
 use Rattle.evaluator.proofs.words.is_refusal.Reads as is_refusal_reads
-use Rattle.evaluator.proofs.+begin_binder_collect_item_pair_step_eval_holds_inside_let_be_let_in_binary_branch_entries_items_logic_unary_quantify_single_survey.Lts-survey as survey_lts
+use Rattle.evaluator.proofs.+evaluation.Lts-survey as survey_lts
 
 abbrev survey_calls : ℕ → survey_lts.Claims
 survey_calls t = (

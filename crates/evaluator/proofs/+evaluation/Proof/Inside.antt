@@ -3,7 +3,7 @@ use Prim.Native.Nat.{ℕ}
 use borrow.Author.Rules.{rules}
 use native.Mathlib.Omega.{arith}
 use mathlib.Core.Path.{refl}
-use Rattle.evaluator.proofs.+begin_binder_collect_item_pair_step_eval_holds_inside_let_be_let_in_binary_branch_entries_items_logic_unary_quantify_single_survey.Proof.Common.{inside_at, eval_below}
+use Rattle.evaluator.proofs.+evaluation.Proof.Common.{inside_at, eval_below}
 use Rattle.evaluator.proofs.Tables.{room_here}
 use Rattle.evaluator.proofs.Giving.{gives_at}
 use Rattle.evaluator.proofs.Firsts.{binder_first}
@@ -12,7 +12,7 @@ use Rattle.evaluator.proofs.binding.bind_names.Reads as bind_names_reads
 use Rattle.evaluator.proofs.eval.Reads as eval
 use Rattle.evaluator.proofs.inside.Reads as inside
 use Rattle.tables.proofs.reading.operand_from.Reads as operand_from_reads
-use Rattle.evaluator.proofs.+begin_binder_collect_item_pair_step_eval_holds_inside_let_be_let_in_binary_branch_entries_items_logic_unary_quantify_single_survey.Lts-inside as inside_lts
+use Rattle.evaluator.proofs.+evaluation.Lts-inside as inside_lts
 
 abbrev inside_calls : ℕ → inside_lts.Claims
 inside_calls t = (

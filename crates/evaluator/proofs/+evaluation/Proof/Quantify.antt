@@ -4,7 +4,7 @@ use native.Mathlib.Omega.{arith}
 use mathlib.Core.Path.{refl, sym, ap, ◌∙◌}
 use mathlib.Core.Logic.{⊎_elim}
 use borrow.Author.Rules.{rules}
-use Rattle.evaluator.proofs.+begin_binder_collect_item_pair_step_eval_holds_inside_let_be_let_in_binary_branch_entries_items_logic_unary_quantify_single_survey.Proof.Common.{quantify_at, begin_below, holds_below}
+use Rattle.evaluator.proofs.+evaluation.Proof.Common.{quantify_at, begin_below, holds_below}
 use Rattle.lists.specs.Lent.{lent}
 use Rattle.evaluator.proofs.Tables.{room_here}
 use Rattle.evaluator.proofs.Deciding.{quantify_kind, begins_as, agrees_yes, agrees_no}
@@ -18,7 +18,7 @@ use Rattle.evaluator.proofs.holds.Reads as holds
 use Rattle.values.proofs.put_boolean.Reads as put_boolean_reads
 use Rattle.evaluator.proofs.quantify.Reads as quantify
 use Rattle.evaluator.proofs.words.is_refusal.Reads as is_refusal_reads
-use Rattle.evaluator.proofs.+begin_binder_collect_item_pair_step_eval_holds_inside_let_be_let_in_binary_branch_entries_items_logic_unary_quantify_single_survey.Lts-quantify as quantify_lts
+use Rattle.evaluator.proofs.+evaluation.Lts-quantify as quantify_lts
 
 abbrev quantify_calls : ℕ → quantify_lts.Claims
 quantify_calls t = (

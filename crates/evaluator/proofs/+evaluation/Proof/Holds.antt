@@ -3,7 +3,7 @@ use Prim.Native.Nat.{ℕ}
 use native.Mathlib.Omega.{arith}
 use mathlib.Core.Path.{refl}
 use borrow.Author.Rules.{rules}
-use Rattle.evaluator.proofs.+begin_binder_collect_item_pair_step_eval_holds_inside_let_be_let_in_binary_branch_entries_items_logic_unary_quantify_single_survey.Proof.Common.{holds_at_lem, inside_below}
+use Rattle.evaluator.proofs.+evaluation.Proof.Common.{holds_at_lem, inside_below}
 use Rattle.evaluator.proofs.Tables.{room_here}
 use Rattle.evaluator.proofs.Standing.{binder_has}
 use Rattle.evaluator.proofs.Entering.{test_off, test_held}
@@ -14,7 +14,7 @@ use Rattle.evaluator.proofs.inside.Reads as inside
 use Rattle.evaluator.proofs.binding.judge.Reads as judge_reads
 use Rattle.evaluator.proofs.leaves.test.Reads as test_reads
 use Rattle.evaluator.proofs.words.is_refusal.Reads as is_refusal_reads
-use Rattle.evaluator.proofs.+begin_binder_collect_item_pair_step_eval_holds_inside_let_be_let_in_binary_branch_entries_items_logic_unary_quantify_single_survey.Lts-holds as holds_lts
+use Rattle.evaluator.proofs.+evaluation.Lts-holds as holds_lts
 
 abbrev holds_calls : ℕ → holds_lts.Claims
 holds_calls t = (

@@ -4,7 +4,7 @@ use native.Mathlib.Omega.{arith}
 use mathlib.Core.Path.{refl, ◌∙◌}
 use borrow.Author.Rules.{rules}
 use Rattle.evaluator.proofs.Firsts.{enumerated_first}
-use Rattle.evaluator.proofs.+begin_binder_collect_item_pair_step_eval_holds_inside_let_be_let_in_binary_branch_entries_items_logic_unary_quantify_single_survey.Proof.Common.{items_at, eval_below}
+use Rattle.evaluator.proofs.+evaluation.Proof.Common.{items_at, eval_below}
 use mathlib.Core.Logic.{inl}
 use Rattle.lists.specs.Lent.{lent}
 use Rattle.evaluator.proofs.Tables.{here, room_here}
@@ -22,7 +22,7 @@ use Rattle.tables.proofs.reading.operand_from.Reads as operand_from_reads
 use Rattle.collections.proofs.building.put_empty.Reads as put_empty_reads
 use Rattle.evaluator.proofs.building.built_kind.Reads as built_kind_reads
 use Rattle.evaluator.proofs.words.is_refusal.Reads as is_refusal_reads
-use Rattle.evaluator.proofs.+begin_binder_collect_item_pair_step_eval_holds_inside_let_be_let_in_binary_branch_entries_items_logic_unary_quantify_single_survey.Lts-plain-items as items_lts
+use Rattle.evaluator.proofs.+evaluation.Lts-plain-items as items_lts
 
 abbrev items_calls : ℕ → items_lts.Claims
 items_calls t = (

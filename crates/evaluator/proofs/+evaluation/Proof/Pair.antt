@@ -3,7 +3,7 @@ use Prim.Native.Nat.{ℕ}
 use native.Mathlib.Omega.{arith}
 use mathlib.Core.Path.{refl, ap}
 use borrow.Author.Rules.{rules}
-use Rattle.evaluator.proofs.+begin_binder_collect_item_pair_step_eval_holds_inside_let_be_let_in_binary_branch_entries_items_logic_unary_quantify_single_survey.Proof.Common.{pair_at, inside_below}
+use Rattle.evaluator.proofs.+evaluation.Proof.Common.{pair_at, inside_below}
 use Rattle.evaluator.proofs.Extending.{extends_has, pair_has}
 use Rattle.evaluator.proofs.Tables.{room_here}
 use Rattle.evaluator.proofs.Adding.{pair_off, pair_stands, pair_value_off, pair_held, pair_done}
@@ -14,7 +14,7 @@ use Rattle.evaluator.proofs.building.enter_next.Reads as enter_next_reads
 use Rattle.evaluator.proofs.inside.Reads as inside
 use Rattle.evaluator.proofs.built.pair.Reads as pair
 use Rattle.evaluator.proofs.words.is_refusal.Reads as is_refusal_reads
-use Rattle.evaluator.proofs.+begin_binder_collect_item_pair_step_eval_holds_inside_let_be_let_in_binary_branch_entries_items_logic_unary_quantify_single_survey.Lts-built-pair as pair_lts
+use Rattle.evaluator.proofs.+evaluation.Lts-built-pair as pair_lts
 
 abbrev pair_calls : ℕ → pair_lts.Claims
 pair_calls t = (

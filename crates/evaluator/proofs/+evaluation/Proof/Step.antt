@@ -3,7 +3,7 @@ use Prim.Native.Nat.{ℕ}
 use native.Mathlib.Omega.{arith}
 use borrow.Author.Rules.{rules}
 use mathlib.Core.Path.{refl, sym}
-use Rattle.evaluator.proofs.+begin_binder_collect_item_pair_step_eval_holds_inside_let_be_let_in_binary_branch_entries_items_logic_unary_quantify_single_survey.Proof.Common.{step-at, holds_below, item_below, pair_below}
+use Rattle.evaluator.proofs.+evaluation.Proof.Common.{step-at, holds_below, item_below, pair_below}
 use borrow.Author.Tests.{eq-eqb, ne_eqb}
 use Rattle.evaluator.proofs.Extending.{extends_as, extended_as}
 use Rattle.evaluator.proofs.Adding.{step_off, step_false, step_extends, step_true}
@@ -13,7 +13,7 @@ use Rattle.evaluator.proofs.built.item.Reads as item
 use Rattle.evaluator.proofs.built.pair.Reads as pair
 use Rattle.evaluator.proofs.built.step.Reads as step
 use Rattle.evaluator.proofs.words.is_refusal.Reads as is_refusal_reads
-use Rattle.evaluator.proofs.+begin_binder_collect_item_pair_step_eval_holds_inside_let_be_let_in_binary_branch_entries_items_logic_unary_quantify_single_survey.Lts-built-step as step_lts
+use Rattle.evaluator.proofs.+evaluation.Lts-built-step as step_lts
 
 abbrev step_calls : ℕ → step_lts.Claims
 step_calls t = (

@@ -4,7 +4,7 @@ use native.Mathlib.Omega.{arith}
 use mathlib.Core.Path.{refl, ◌∙◌}
 use borrow.Author.Rules.{rules}
 use Rattle.evaluator.proofs.Firsts.{plain_first}
-use Rattle.evaluator.proofs.+begin_binder_collect_item_pair_step_eval_holds_inside_let_be_let_in_binary_branch_entries_items_logic_unary_quantify_single_survey.Proof.Common.{entries_at, eval_below}
+use Rattle.evaluator.proofs.+evaluation.Proof.Common.{entries_at, eval_below}
 use mathlib.Core.Logic.{inr}
 use Rattle.lists.specs.Lent.{lent}
 use Rattle.evaluator.proofs.Tables.{here, room_here}
@@ -19,7 +19,7 @@ use Rattle.tables.proofs.reading.operands_from.Reads as operands_from_reads
 use Rattle.tables.proofs.reading.operand_from.Reads as operand_from_reads
 use Rattle.collections.proofs.building.put_empty.Reads as put_empty_reads
 use Rattle.evaluator.proofs.words.is_refusal.Reads as is_refusal_reads
-use Rattle.evaluator.proofs.+begin_binder_collect_item_pair_step_eval_holds_inside_let_be_let_in_binary_branch_entries_items_logic_unary_quantify_single_survey.Lts-plain-entries as entries_lts
+use Rattle.evaluator.proofs.+evaluation.Lts-plain-entries as entries_lts
 
 abbrev entries_calls : ℕ → entries_lts.Claims
 entries_calls t = (

@@ -4,7 +4,7 @@ use native.Mathlib.Omega.{arith}
 use mathlib.Core.Path.{refl}
 use borrow.Author.Rules.{rules}
 use Rattle.evaluator.proofs.Firsts.{plain_first}
-use Rattle.evaluator.proofs.+begin_binder_collect_item_pair_step_eval_holds_inside_let_be_let_in_binary_branch_entries_items_logic_unary_quantify_single_survey.Proof.Common.{let_in_at, begin_below, inside_below}
+use Rattle.evaluator.proofs.+evaluation.Proof.Common.{let_in_at, begin_below, inside_below}
 use Rattle.evaluator.proofs.Tables.{room_here}
 use Rattle.evaluator.proofs.Standing.{binder_has}
 use Rattle.evaluator.proofs.Deciding.{not_taken, let_in_binder, let_in_readable, picks_as}
@@ -20,7 +20,7 @@ use Rattle.tables.proofs.reading.operand_from.Reads as operand_from_reads
 use Rattle.evaluator.proofs.words.refusal.Reads as refusal_reads
 use Rattle.evaluator.proofs.binding.unchosen.Reads as unchosen_reads
 use Rattle.evaluator.proofs.words.is_refusal.Reads as is_refusal_reads
-use Rattle.evaluator.proofs.+begin_binder_collect_item_pair_step_eval_holds_inside_let_be_let_in_binary_branch_entries_items_logic_unary_quantify_single_survey.Lts-let_in as let_in_lts
+use Rattle.evaluator.proofs.+evaluation.Lts-let_in as let_in_lts
 
 abbrev let_in_calls : ℕ → let_in_lts.Claims
 let_in_calls t = (

@@ -3,7 +3,7 @@ use Prim.Native.Nat.{ℕ}
 use native.Mathlib.Omega.{arith}
 use borrow.Author.Rules.{rules}
 use Rattle.evaluator.proofs.Firsts.{plain_first}
-use Rattle.evaluator.proofs.+begin_binder_collect_item_pair_step_eval_holds_inside_let_be_let_in_binary_branch_entries_items_logic_unary_quantify_single_survey.Proof.Common.{branch_at, eval_below}
+use Rattle.evaluator.proofs.+evaluation.Proof.Common.{branch_at, eval_below}
 use Rattle.calling.proofs.Framing.{kept_same}
 use Rattle.evaluator.proofs.Giving.{single_held}
 use Rattle.evaluator.proofs.Members.{first_asked, next_asked, if_test, if_then, if_else, if_off, if_bad, if_yes, if_no}
@@ -14,7 +14,7 @@ use Rattle.tables.proofs.reading.operand_from.Reads as operand_from_reads
 use Rattle.evaluator.proofs.words.refusal.Reads as refusal_reads
 use Rattle.evaluator.proofs.leaves.test.Reads as test_reads
 use Rattle.evaluator.proofs.words.is_refusal.Reads as is_refusal_reads
-use Rattle.evaluator.proofs.+begin_binder_collect_item_pair_step_eval_holds_inside_let_be_let_in_binary_branch_entries_items_logic_unary_quantify_single_survey.Lts-plain-branch as branch_lts
+use Rattle.evaluator.proofs.+evaluation.Lts-plain-branch as branch_lts
 
 abbrev branch_calls : ℕ → branch_lts.Claims
 branch_calls t = (

@@ -3,7 +3,7 @@ use Prim.Native.Nat.{ℕ}
 use native.Mathlib.Omega.{arith}
 use mathlib.Core.Path.{refl, ap}
 use borrow.Author.Rules.{rules}
-use Rattle.evaluator.proofs.+begin_binder_collect_item_pair_step_eval_holds_inside_let_be_let_in_binary_branch_entries_items_logic_unary_quantify_single_survey.Proof.Common.{item_at, inside_below}
+use Rattle.evaluator.proofs.+evaluation.Proof.Common.{item_at, inside_below}
 use Rattle.evaluator.proofs.Extending.{which_one, extends_has}
 use Rattle.evaluator.proofs.Adding.{item_off, item_held, item_done}
 use Rattle.evaluator.proofs.Wording.{valued, unvalued}
@@ -14,7 +14,7 @@ use Rattle.evaluator.proofs.inside.Reads as inside
 use Rattle.evaluator.proofs.built.item.Reads as item
 use Rattle.evaluator.proofs.building.enumeration_of.Reads as enumeration_of_reads
 use Rattle.evaluator.proofs.words.is_refusal.Reads as is_refusal_reads
-use Rattle.evaluator.proofs.+begin_binder_collect_item_pair_step_eval_holds_inside_let_be_let_in_binary_branch_entries_items_logic_unary_quantify_single_survey.Lts-built-item as item_lts
+use Rattle.evaluator.proofs.+evaluation.Lts-built-item as item_lts
 
 abbrev item_calls : ℕ → item_lts.Claims
 item_calls t = (

@@ -4,7 +4,7 @@ use native.Mathlib.Omega.{arith}
 use borrow.Author.Rules.{rules}
 use mathlib.Core.Path.{sym, ap, ◌∙◌}
 use Rattle.tables.specs.Shapes.{first_of}
-use Rattle.evaluator.proofs.+begin_binder_collect_item_pair_step_eval_holds_inside_let_be_let_in_binary_branch_entries_items_logic_unary_quantify_single_survey.Proof.Common.{binary_at, eval_below}
+use Rattle.evaluator.proofs.+evaluation.Proof.Common.{binary_at, eval_below}
 use Rattle.calling.proofs.Framing.{kept_same}
 use Rattle.evaluator.proofs.Members.{first_asked, next_asked, strict_kind, binary_left, binary_right, binary_off, binary_off_right, binary_held, binary_done}
 use Rattle.evaluator.proofs.Wording.{valued, unvalued}
@@ -15,7 +15,7 @@ use Rattle.tables.proofs.reading.operand_from.Reads as operand_from_reads
 use Rattle.evaluator.proofs.leaves.first_of_two.Reads as first_of_two_reads
 use Rattle.evaluator.proofs.leaves.two.Reads as two_reads
 use Rattle.evaluator.proofs.words.is_refusal.Reads as is_refusal_reads
-use Rattle.evaluator.proofs.+begin_binder_collect_item_pair_step_eval_holds_inside_let_be_let_in_binary_branch_entries_items_logic_unary_quantify_single_survey.Lts-plain-binary as binary_lts
+use Rattle.evaluator.proofs.+evaluation.Lts-plain-binary as binary_lts
 
 abbrev binary_calls : ℕ → binary_lts.Claims
 binary_calls t = (

@@ -5,7 +5,7 @@ use mathlib.Core.Path.{◌≡◌, refl, sym, subst}
 use borrow.Author.Rules.{rules}
 use Rattle.parts.proofs.Laws.{lent_on}
 use Rattle.evaluator.proofs.Firsts.{plain_first}
-use Rattle.evaluator.proofs.+begin_binder_collect_item_pair_step_eval_holds_inside_let_be_let_in_binary_branch_entries_items_logic_unary_quantify_single_survey.Proof.Common.{begin_at, eval_below}
+use Rattle.evaluator.proofs.+evaluation.Proof.Common.{begin_at, eval_below}
 use borrow.Author.Tests.{not-true, not-false}
 use Rattle.evaluator.specs.Binding.{Binder}
 use Rattle.evaluator.proofs.Tables.{room_here, small_place}
@@ -23,7 +23,7 @@ use Rattle.tables.proofs.reading.operand_from.Reads as operand_from_reads
 use Rattle.evaluator.proofs.words.refusal.Reads as refusal_reads
 use Rattle.evaluator.proofs.binding.suits.Reads as suits_reads
 use Rattle.evaluator.proofs.words.is_refusal.Reads as is_refusal_reads
-use Rattle.evaluator.proofs.+begin_binder_collect_item_pair_step_eval_holds_inside_let_be_let_in_binary_branch_entries_items_logic_unary_quantify_single_survey.Lts-begin as begin_lts
+use Rattle.evaluator.proofs.+evaluation.Lts-begin as begin_lts
 
 abbrev begin_calls : ℕ → begin_lts.Claims
 begin_calls t = (
