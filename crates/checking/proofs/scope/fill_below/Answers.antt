@@ -1,0 +1,36 @@
+-- After r records, the bits below each of them stand.
+use Rattle.checking.proofs.Below.{filled_start, filled_more}
+use Rattle.checking.specs.Scopes.{bits_below}
+use Rattle.tables.specs.Accepted.{records}
+use lib.ListN.{length}
+use Prim.Native.Nat.{◌-◌}
+use native.Mathlib.Omega.{arith}
+use mathlib.Core.Path.{◌≡◌, sym}
+use Rattle.checking.proofs.scope.fill_below.Goals as goal
+
+pub loop-r-init : goal.loop-r-init
+loop-r-init c = (omega arith, filled_start (bits_below (records c.args.table.now)) c.args.below.now c.requires.1)
+
+pub held_at-m-requires : goal.held_at-m-requires
+held_at-m-requires c =
+    record { here = record { indexed = c.requires.0.whole.indexed; within = omega (arith, c.loop-r-test.true, c.requires.0.whole.all) }; clear = c.requires.0.clear; below = c.loop-r.invariant.1 }
+
+pub offset_bounds-below-r : goal.offset_bounds-below-r
+offset_bounds-below-r c = omega (arith, c.loop-r-test.true, c.requires.0.whole.all, c.requires.0.whole.indexed.few)
+
+pub bounds-below-r : goal.bounds-below-r
+bounds-below-r c = omega (arith, c.loop-r-test.true, c.requires.0.whole.all, c.requires.0.whole.indexed.few)
+
+pub overflow_add-r : goal.overflow_add-r
+overflow_add-r c = omega (arith, c.loop-r-test.true, c.requires.0.whole.all, c.requires.0.whole.indexed.few)
+
+pub loop-r-smaller : goal.loop-r-smaller
+loop-r-smaller c = omega arith
+
+pub loop-r-preserved : goal.loop-r-preserved
+loop-r-preserved c =
+    (omega (arith, c.loop-r-test.true), filled_more (bits_below (records c.args.table.now)) c.loop-r.below c.loop-r.r c.held_at-m.result (omega (arith, c.loop-r-test.true, c.requires.0.whole.all, c.requires.0.whole.indexed.few)) c.loop-r.invariant.1 c.held_at-m.ensures)
+
+pub returns : goal.returns
+returns c =
+    let all : c.loop-r.r ≡ length (records c.args.table.now) = omega (arith, c.loop-r.invariant.0, c.loop-r-test.false, c.requires.0.whole.all) in rw (sym all) c.loop-r.invariant.1

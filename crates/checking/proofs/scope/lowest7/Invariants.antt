@@ -1,0 +1,12 @@
+use Rattle.tables.specs.Check.{fault7}
+use Rattle.tables.specs.Sheet.{lowest}
+use Rattle.tables.specs.Accepted.{records}
+use Prim.Native.Nat.{◌-◌, ◌≤◌}
+use mathlib.Core.Path.{◌≡◌}
+use Rattle.checking.proofs.scope.lowest7.Given as goal
+
+abbrev pub invariant-loop-r : goal.invariant-loop-r
+invariant-loop-r l = (l.r ≤ l.count) × (l.low ≡ lowest (fault7 (records l.table)) l.r)
+
+abbrev pub decreases-loop-r : goal.decreases-loop-r
+decreases-loop-r l = l.count - l.r

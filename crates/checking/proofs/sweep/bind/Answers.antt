@@ -1,0 +1,99 @@
+-- The pattern, the set or value and the third operand, and then the bodies, one after the other.
+use mathlib.Core.Path.{ap, ◌∙◌}
+use Prim.Native.Nat.{◌-◌}
+use native.Mathlib.Omega.{arith}
+use borrow.Author.Tests.{not-true, not-false}
+use Rattle.tables.specs.Accepted.{records}
+use Rattle.checking.specs.Sweeps.{choice_of, alone_of, Names}
+use Rattle.checking.proofs.Gathering.{Gathers, gathers_start, gathers_end, ask_operand, operand_more, operand_stops, kind_most, pattern_names, binder_is}
+use Rattle.checking.proofs.sweep.bind.Goals as goal
+
+pub operand_from-p-requires : goal.operand_from-p-requires
+operand_from-p-requires c =
+    (record { here = c.requires.0.ask.here; has = omega (arith, (binder_is c.requires.0 c.requires.1).some_named) }, (binder_is c.requires.0 c.requires.1).first)
+
+pub names_of-names-requires : goal.names_of-names-requires
+names_of-names-requires c = omega (arith, c.requires.0.ask.here.within, c.requires.0.ask.here.indexed.few)
+
+pub role_of-role-requires : goal.role_of-role-requires
+role_of-role-requires c = (kind_most c.requires.0, omega (arith, (binder_is c.requires.0 c.requires.1).some_roles))
+
+names_are : (c : goal.After-names_of-names) → Names (records c.args.table.now) c.args.r c.names_of-names.result
+names_are c = pattern_names c.requires.0.ask.kept c.requires.0.ask.here.within (omega (arith, (binder_is c.requires.0 c.requires.1).some_named)) c.operand_from-p.ensures.0 c.names_of-names.ensures
+
+none_yet : (c : goal.After-alone-s) → Gathers (records c.args.table.now) c.args.r c.args.frees.now (choice_of c.args.kind c.names_of-names.result) c.args.left.now c.alone-s.result 0
+none_yet c = gathers_start (records c.args.table.now) c.args.r c.args.left.now c.args.frees.now 0 (choice_of c.args.kind c.names_of-names.result) c.alone-s.result c.requires.0.ask.here.within c.requires.0.ask.left_is (binder_is c.requires.0 c.requires.1).own_is c.names_of-names.result (names_are c) ((binder_is c.requires.0 c.requires.1).free c.names_of-names.result) (c.alone-s.ensures ∙ ap (alone_of 0) c.choice.ensures)
+
+pub add_operand-s-requires : goal.add_operand-s-requires
+add_operand-s-requires c = ask_operand c.operand_from-p.result c.requires.0.ask.here (none_yet c) c.operand_from-p.ensures.1
+
+pub returns-then-not-fine : goal.returns-then-not-fine
+returns-then-not-fine c =
+    operand_stops c.requires.0 (names_are c) (none_yet c) (omega (arith, (binder_is c.requires.0 c.requires.1).some_named)) c.operand_from-p.ensures.0 c.operand_from-p.ensures.1 (c.role_of-role.ensures ∙ (binder_is c.requires.0 c.requires.1).role 0) c.add_operand-s.ensures (not-true _ c.if-not-fine.true)
+
+after_one : (c : goal.Else-not-fine) → Gathers (records c.args.table.now) c.args.r c.args.frees.now (choice_of c.args.kind c.names_of-names.result) c.add_operand-s.new.left c.add_operand-s.result 1
+after_one c = operand_more c.requires.0 (names_are c) (none_yet c) (omega (arith, (binder_is c.requires.0 c.requires.1).some_named)) c.operand_from-p.ensures.0 c.operand_from-p.ensures.1 (c.role_of-role.ensures ∙ (binder_is c.requires.0 c.requires.1).role 0) c.add_operand-s.ensures (not-false _ c.if-not-fine.false)
+
+pub operand_from-n-requires : goal.operand_from-n-requires
+operand_from-n-requires c =
+    (record { here = c.requires.0.ask.here; has = omega (arith, (binder_is c.requires.0 c.requires.1).some_named) }, (binder_is c.requires.0 c.requires.1).first)
+
+pub add_operand-s-requires-2 : goal.add_operand-s-requires-2
+add_operand-s-requires-2 c = ask_operand c.operand_from-n.result c.requires.0.ask.here (after_one c) c.operand_from-n.ensures.1
+
+pub returns-then-not-fine-2 : goal.returns-then-not-fine-2
+returns-then-not-fine-2 c =
+    operand_stops c.requires.0 (names_are c) (after_one c) (omega (arith, (binder_is c.requires.0 c.requires.1).some_named)) c.operand_from-n.ensures.0 c.operand_from-n.ensures.1 (binder_is c.requires.0 c.requires.1).second c.add_operand-s-2.ensures (not-true _ c.if-not-fine-2.true)
+
+after_two : (c : goal.Else-not-fine-2) → Gathers (records c.args.table.now) c.args.r c.args.frees.now (choice_of c.args.kind c.names_of-names.result) c.add_operand-s-2.new.left c.add_operand-s-2.result 2
+after_two c = operand_more c.requires.0 (names_are c) (after_one c) (omega (arith, (binder_is c.requires.0 c.requires.1).some_named)) c.operand_from-n.ensures.0 c.operand_from-n.ensures.1 (binder_is c.requires.0 c.requires.1).second c.add_operand-s-2.ensures (not-false _ c.if-not-fine-2.false)
+
+pub operand_from-n-requires-2 : goal.operand_from-n-requires-2
+operand_from-n-requires-2 c =
+    (record { here = c.requires.0.ask.here; has = omega (arith, (binder_is c.requires.0 c.requires.1).some_named) }, (binder_is c.requires.0 c.requires.1).first)
+
+pub role_of-role-requires-2 : goal.role_of-role-requires-2
+role_of-role-requires-2 c = (kind_most c.requires.0, omega (arith, (binder_is c.requires.0 c.requires.1).some_roles))
+
+pub add_operand-s-requires-3 : goal.add_operand-s-requires-3
+add_operand-s-requires-3 c =
+    ask_operand c.operand_from-n-2.result c.requires.0.ask.here (after_two c) c.operand_from-n-2.ensures.1
+
+pub returns-then-not-fine-3 : goal.returns-then-not-fine-3
+returns-then-not-fine-3 c =
+    operand_stops c.requires.0 (names_are c) (after_two c) (omega (arith, (binder_is c.requires.0 c.requires.1).some_named)) c.operand_from-n-2.ensures.0 c.operand_from-n-2.ensures.1 (c.role_of-role-2.ensures ∙ (binder_is c.requires.0 c.requires.1).role 2) c.add_operand-s-3.ensures (not-true _ c.if-not-fine-3.true)
+
+after_three : (c : goal.Else-not-fine-3) → Gathers (records c.args.table.now) c.args.r c.args.frees.now (choice_of c.args.kind c.names_of-names.result) c.add_operand-s-3.new.left c.add_operand-s-3.result 3
+after_three c = operand_more c.requires.0 (names_are c) (after_two c) (omega (arith, (binder_is c.requires.0 c.requires.1).some_named)) c.operand_from-n-2.ensures.0 c.operand_from-n-2.ensures.1 (c.role_of-role-2.ensures ∙ (binder_is c.requires.0 c.requires.1).role 2) c.add_operand-s-3.ensures (not-false _ c.if-not-fine-3.false)
+
+pub operands_from-count-requires : goal.operands_from-count-requires
+operands_from-count-requires c = (c.requires.0.ask.here, (binder_is c.requires.0 c.requires.1).first)
+
+pub loop-i-init : goal.loop-i-init
+loop-i-init c = (omega arith, after_three c)
+
+pub operand_from-n-requires-in-loop-i : goal.operand_from-n-requires-in-loop-i
+operand_from-n-requires-in-loop-i c =
+    (record { here = c.requires.0.ask.here; has = omega (arith, c.loop-i-test.true, c.operands_from-count.ensures.0) }, (binder_is c.requires.0 c.requires.1).first)
+
+pub add_operand-s-requires-in-loop-i : goal.add_operand-s-requires-in-loop-i
+add_operand-s-requires-in-loop-i c =
+    ask_operand c.operand_from-n-in-loop-i.result c.requires.0.ask.here c.loop-i.invariant.1 c.operand_from-n-in-loop-i.ensures.1
+
+pub returns-then-not-fine-4 : goal.returns-then-not-fine-4
+returns-then-not-fine-4 c =
+    operand_stops c.requires.0 (names_are c) c.loop-i.invariant.1 (omega (arith, c.loop-i-test.true, c.operands_from-count.ensures.0)) c.operand_from-n-in-loop-i.ensures.0 c.operand_from-n-in-loop-i.ensures.1 ((binder_is c.requires.0 c.requires.1).body c.loop-i.i c.loop-i.invariant.0 (omega (arith, c.loop-i-test.true, c.operands_from-count.ensures.0))) c.add_operand-s-in-loop-i.ensures (not-true _ c.if-not-fine-4.true)
+
+pub overflow_add-i : goal.overflow_add-i
+overflow_add-i c = omega (arith, c.loop-i-test.true, c.operands_from-count.ensures.1)
+
+pub loop-i-smaller : goal.loop-i-smaller
+loop-i-smaller c = omega (arith, c.loop-i-test.true)
+
+pub loop-i-preserved : goal.loop-i-preserved
+loop-i-preserved c =
+    (omega (arith, c.loop-i.invariant.0), operand_more c.requires.0 (names_are c) c.loop-i.invariant.1 (omega (arith, c.loop-i-test.true, c.operands_from-count.ensures.0)) c.operand_from-n-in-loop-i.ensures.0 c.operand_from-n-in-loop-i.ensures.1 ((binder_is c.requires.0 c.requires.1).body c.loop-i.i c.loop-i.invariant.0 (omega (arith, c.loop-i-test.true, c.operands_from-count.ensures.0))) c.add_operand-s-in-loop-i.ensures (not-false _ c.if-not-fine-4.false))
+
+pub returns : goal.returns
+returns c =
+    gathers_end c.requires.0.ask.here.within (names_are c) ((binder_is c.requires.0 c.requires.1).free c.names_of-names.result) c.loop-i.invariant.1 (omega (arith, c.loop-i-test.false, c.operands_from-count.ensures.0))

@@ -1,0 +1,72 @@
+-- `collections::finding::seek` meets its contract: what is found from here on is what is found from the start on.
+use mathlib.Core.Path.{sym, ap, subst}
+use mathlib.Core.Bool.{Bool}
+use mathlib.Core.Logic.{⊎_elim}
+use Prim.Native.Nat.{ℕ, ◌+◌, ◌-◌, ◌<◌}
+use native.Mathlib.Omega.{arith}
+use Rattle.integers.specs.Bytes.{word}
+use Rattle.integers.specs.declared.Order.{Order}
+use Rattle.values.specs.Items.{in_order}
+use Rattle.values.proofs.Records.{holds}
+use Rattle.collections.specs.declared.finding.Sought.TheVariants.{Here, Before}
+use Rattle.collections.proofs.Walks.{walk_run}
+use Rattle.collections.proofs.Looking.{Looking, looked, look_end, look-here, look_on, look_past}
+use Rattle.collections.proofs.finding.seek.Goals as goal
+
+pub length_of-requires : goal.length_of-requires
+length_of-requires c = holds c.requires.0.here
+
+pub overflow_add-end : goal.overflow_add-end
+overflow_add-end c = let h = holds c.requires.0.here in omega arith
+
+pub start-p-requires : goal.start-p-requires
+start-p-requires c = c.requires
+
+pub loop-p-init : goal.loop-p-init
+loop-p-init c = (ap (λ (n : ℕ). c.args.at + n) c.length_of.ensures.is, looked c.start-p.ensures)
+
+pub compare-requires : goal.compare-requires
+compare-requires c =
+    (c.requires.1, holds (walk_run c.loop-p.invariant.1 (omega (arith, c.loop-p-test.true, c.loop-p.invariant.0)) c.requires.0).first-at)
+
+pub returns-in-Lower : goal.returns-in-Lower
+returns-in-Lower c =
+    look-here _ _ _ _ _ _ c.loop-p.invariant.1 (omega (arith, c.loop-p-test.true, c.loop-p.invariant.0)) c.if-key.true _ c.compare.ensures _ (λ q. ap (λ (o : Order). in_order o (Before c.loop-p.p) (Here c.loop-p.p) q) c.in-Lower.is)
+
+pub returns-in-Same : goal.returns-in-Same
+returns-in-Same c =
+    look-here _ _ _ _ _ _ c.loop-p.invariant.1 (omega (arith, c.loop-p-test.true, c.loop-p.invariant.0)) c.if-key.true _ c.compare.ensures _ (λ q. ap (λ (o : Order). in_order o (Before c.loop-p.p) (Here c.loop-p.p) q) c.in-Same.is)
+
+pub past-p-requires : goal.past-p-requires
+past-p-requires c =
+    holds (walk_run c.loop-p.invariant.1 (omega (arith, c.loop-p-test.true, c.loop-p.invariant.0)) c.requires.0).first-at
+
+pub overflow_add-p : goal.overflow_add-p
+overflow_add-p c =
+    let y = walk_run c.loop-p.invariant.1 (omega (arith, c.loop-p-test.true, c.loop-p.invariant.0)) c.requires.0 in
+    let h = holds c.requires.0.here in
+    omega (arith, c.past-p.ensures.is)
+
+pub loop-p-smaller : goal.loop-p-smaller
+loop-p-smaller c =
+    let y = walk_run c.loop-p.invariant.1 (omega (arith, c.loop-p-test.true, c.loop-p.invariant.0)) c.requires.0 in
+    omega (arith, c.past-p.ensures.is, c.loop-p-test.true)
+
+pub loop-p-preserved : goal.loop-p-preserved
+loop-p-preserved c =
+    let l = c.loop-p in
+    let n = c.past-p.result in
+    let e = c.past-p.ensures.is in
+    let a = c.args in
+    let lt : l.p < a.at + word a.s.now a.at = (omega (arith, c.loop-p-test.true, c.loop-p.invariant.0)) in
+    let goal : Bool → Type 0 = λ key. Looking a.s.now a.at a.x a.entries (l.p + n) key in (
+      l.invariant.0,
+      ⊎_elim
+          (λ w. subst goal (sym w.4) (look_on _ _ _ _ _ _ l.invariant.1 lt w.0.taken _ w.1.ensures w.3.given.1 n e))
+          (λ w. subst goal (sym w.1) (look_past _ _ _ _ _ _ l.invariant.1 lt w.0.left n e))
+          c.if-key.branch,
+    )
+
+pub returns : goal.returns
+returns c =
+    look_end _ _ _ _ _ _ c.loop-p.invariant.1 (omega (arith, c.loop-p-test.false, c.loop-p.invariant.0))

@@ -1,0 +1,27 @@
+use mathlib.Core.Logic.{⊎_elim}
+use Prim.Native.Nat.{◌-◌}
+use Rattle.forming.proofs.Framing.{clear_start, clear_none, clear_some, clear_end}
+use native.Mathlib.Omega.{arith}
+use Rattle.forming.proofs.masks.clear.Goals as goal
+
+pub loop-x-init : goal.loop-x-init
+loop-x-init c = clear_start _ _
+
+pub offset_bounds-found-x : goal.offset_bounds-found-x
+offset_bounds-found-x c = omega arith
+
+pub bounds-found-x : goal.bounds-found-x
+bounds-found-x c = omega (arith, c.loop-x.invariant.long, c.requires)
+
+pub overflow_add-x : goal.overflow_add-x
+overflow_add-x c = omega arith
+
+pub loop-x-smaller : goal.loop-x-smaller
+loop-x-smaller c = omega arith
+
+pub loop-x-preserved : goal.loop-x-preserved
+loop-x-preserved c =
+    ⊎_elim (λ x. rw x.1 (clear_none _ _ _ _ _ (omega arith) c.loop-x.invariant x.0.taken c.requires)) (λ x. rw x.1 (clear_some _ _ _ _ _ (omega arith) c.loop-x.invariant x.0.left)) c.if-left-eq0.branch
+
+pub returns : goal.returns
+returns c = clear_end _ _ _ _ _ (omega arith) c.loop-x.invariant

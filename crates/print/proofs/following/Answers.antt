@@ -1,0 +1,18 @@
+-- `following` meets its contract, case by case.
+use mathlib.Core.Path.{sym, ap, ap₂}
+use mathlib.Core.Bool.{Bool}
+use borrow.Author.Tests.{not-true, not-false}
+use Rattle.print.specs.Contract.{following}
+use Rattle.print.proofs.following.Goals as goal
+
+pub returns-then-not-is_map : goal.returns-then-not-is_map
+returns-then-not-is_map c = sym (ap (λ (b : Bool). following b c.args.separator) (not-true c.args.is_map c.if-not-is_map.true))
+
+pub returns-in-Nothing : goal.returns-in-Nothing
+returns-in-Nothing c = sym (ap₂ following (not-false c.args.is_map c.if-not-is_map.false) c.in-Nothing.is)
+
+pub returns-in-Comma : goal.returns-in-Comma
+returns-in-Comma c = sym (ap₂ following (not-false c.args.is_map c.if-not-is_map.false) c.in-Comma.is)
+
+pub returns-in-Arrow : goal.returns-in-Arrow
+returns-in-Arrow c = sym (ap₂ following (not-false c.args.is_map c.if-not-is_map.false) c.in-Arrow.is)

@@ -1,0 +1,20 @@
+-- 10, or the first list.
+use Rattle.services.proofs.Calls.{part_long, indexes, first_few, first_left}
+use mathlib.Core.Path.{sym, ◌∙◌}
+use Rattle.services.specs.Left.{walk_of}
+use Rattle.services.proofs.first.first_accepted.Goals as goal
+
+pub returns-then-entries-lt-LIMIT : goal.returns-then-entries-lt-LIMIT
+returns-then-entries-lt-LIMIT c =
+    first_few c.args.table.now c.args.scratch.now (walk_of c.args.entries.now c.args.len.now) c.requires.0.enough c.args.count c.requires.0.ok c.pack.result c.pack.ensures c.if-entries-lt-LIMIT.true
+
+pub first_walk-walk-requires : goal.first_walk-walk-requires
+first_walk-walk-requires c =
+    indexes c.args.table.now c.args.scratch.now c.args.count c.requires.0.ok c.requires.0.enough c.args.index.now c.requires.1
+
+pub store-requires : goal.store-requires
+store-requires c = (c.first_walk-walk.ensures.1, c.if-entries-lt-LIMIT.false)
+
+pub returns : goal.returns
+returns c =
+    first_left c.args.table.now c.args.scratch.now (walk_of c.args.entries.now c.args.len.now) c.requires.0.enough c.args.count c.requires.0.ok c.if-entries-lt-LIMIT.false c.first_walk-walk.new.s (c.first_walk-walk.auto.1.1.1.0 ∙ sym (part_long c.args.scratch.now c.requires.0.enough)) c.first_walk-walk.result c.first_walk-walk.ensures.0 _ c.store.ensures c.pack-2.result c.pack-2.ensures

@@ -1,0 +1,57 @@
+-- `ascending` meets its contract. The measure is the number of bytes left.
+use Prim.Native.Nat.{◌-◌}
+use native.Mathlib.Omega.{arith}
+use Rattle.values.proofs.Records.{first_held}
+use Rattle.values.proofs.Ordering.{rest_items}
+use Rattle.values.proofs.Shapes.{rest_inside, ascending-none, ascending_one, ascending_on, ascending_off, same_not, higher_not}
+use Rattle.values.proofs.validity.+ascending.Goals as goal
+
+pub returns-then-from-to : goal.returns-then-from-to
+returns-then-from-to t c = ascending-none c.if-from-to.true
+
+pub length_of-requires : goal.length_of-requires
+length_of-requires t c = first_held c.if-from-to.false c.requires.1
+
+pub overflow_add-next : goal.overflow_add-next
+overflow_add-next t c =
+    let h = c.requires.1.1.fits in let i = rest_inside c.if-from-to.false c.length_of.ensures c.requires.1 in omega arith
+
+pub returns-then-next-to : goal.returns-then-next-to
+returns-then-next-to t c = ascending_one c.if-from-to.false c.length_of.ensures c.if-next-to.true
+
+pub compare-o-requires : goal.compare-o-requires
+compare-o-requires t c =
+    (first_held c.if-from-to.false c.requires.1, first_held c.if-next-to.false (rest_items c.if-from-to.false c.length_of.ensures c.requires.1))
+
+pub ascending-requires : goal.ascending-requires
+ascending-requires t c =
+    let i = rest_inside c.if-from-to.false c.length_of.ensures c.requires.1 in let l = c.length_of.ensures.low in (omega arith, rest_items c.if-from-to.false c.length_of.ensures c.requires.1)
+
+pub returns-in-Lower : goal.returns-in-Lower
+returns-in-Lower t c =
+    ascending_on c.if-from-to.false c.length_of.ensures c.if-next-to.false c.compare-o.ensures c.in-Lower.is c.ascending.ensures
+
+pub returns-in-Same : goal.returns-in-Same
+returns-in-Same t c =
+    ascending_off c.if-from-to.false c.length_of.ensures c.if-next-to.false c.compare-o.ensures (same_not c.in-Same.is)
+
+pub returns-in-Higher : goal.returns-in-Higher
+returns-in-Higher t c =
+    ascending_off c.if-from-to.false c.length_of.ensures c.if-next-to.false c.compare-o.ensures (higher_not c.in-Higher.is)
+
++ascending-spec : {M : Type 1} → statement M
++ascending-spec = close μ_ascending λ t. ascending_lts.spec (ascending_calls t)
+    (ascending_at t)
+    ascending.Post
+    (returns-then-from-to t)
+    (length_of-requires t)
+    (overflow_add-next t)
+    (returns-then-next-to t)
+    (compare-o-requires t)
+    (enum_told-1 t)
+    (ascending-requires t)
+    (enum_told-in-Same t)
+    (enum_told-in-Higher t)
+    (returns-in-Lower t)
+    (returns-in-Same t)
+    (returns-in-Higher t)
