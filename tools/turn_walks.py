@@ -99,6 +99,7 @@ class Names:
             for new, first, rest in arm[2] if arm else []:
                 if rest and not new.endswith("-own"):
                     self.arms[(norm(first), *rest)] = (arm[0], new)
+        self.typed = {norm(step): var for at in of["typed"] for var, step in at}
         self.loops = [(norm(l[0][0]), l[0][1], l[1], c) for l, c in zip(of["loops"], of["changed"])]
         self.pre = of["pre"]["fields"] if of["pre"] else None
 
@@ -129,6 +130,8 @@ class Names:
             if key in self.arms:
                 arm, new = self.arms[key]
                 return [arm, new, *comps[n:]]
+        if first in self.typed and comps[1:2] == ["given"]:
+            return ["type_inv", self.typed[first], *comps[2:]]
         news = self.fields.get(first)
         if news:
             comps = [news[0], *comps[1:]]
@@ -161,7 +164,22 @@ def turn_paths(text, names, roots):
             return m.group(1)
         return ".".join([m.group(1), *names.path(comps)])
 
-    return pattern.sub(one, text)
+    steps = {}
+    for m in re.finditer(r"let (" + WORD + r") = (" + WORD + r")(?:\.before)*\.(" + WORD + r") in\b", text):
+        if m.group(2) in roots and norm(m.group(3)) in names.fields:
+            steps[m.group(1)] = (m.group(2), m.group(3))
+
+    def of_step(m):
+        root, step = steps[m.group(1)]
+        comps = names.path([step, *m.group(2).split(".")[1:]])
+        if comps[0] == names.fields[norm(step)][0]:
+            return ".".join([m.group(1), *comps[1:]])
+        return ".".join([root, *comps])
+
+    text = pattern.sub(one, text)
+    if steps:
+        text = re.sub(r"(?<![\w.'-])(" + "|".join(map(re.escape, steps)) + r")((?:\." + WORD + r")+)", of_step, text)
+    return text
 
 
 def pruned(uses, text):

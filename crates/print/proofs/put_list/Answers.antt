@@ -21,7 +21,7 @@ pub bounds-list-0 : goal.bounds-list-0
 bounds-list-0 c = omega arith
 
 pub overflow_cast-list : goal.overflow_cast-list
-overflow_cast-list c = omega (arith, c.shared_slice_known-2-1.given 0)
+overflow_cast-list c = omega (arith, c.type_inv.list 0)
 
 pub put_number-end-requires : goal.put_number-end-requires
 put_number-end-requires c = omega (arith, listing_length c.args.list.now (omega arith))
@@ -36,7 +36,7 @@ pub bounds-list-i : goal.bounds-list-i
 bounds-list-i c = omega arith
 
 pub overflow_cast-list-in-loop-i : goal.overflow_cast-list-in-loop-i
-overflow_cast-list-in-loop-i c = omega (arith, c.shared_slice_known-in-loop-i-1.given c.loop-i.i)
+overflow_cast-list-in-loop-i c = omega (arith, c.type_inv.list c.loop-i.i)
 
 pub overflow_add-end : goal.overflow_add-end
 overflow_add-end c = omega (arith, tails_length c.args.list.now c.loop-i-test.true)

@@ -10,7 +10,7 @@ pub bounds-s-at : goal.bounds-s-at
 bounds-s-at c = omega (arith, boolean_room c.requires.0.held (c.requires.0.kind ∙ c.if-kind-eq-BOOLEAN.true))
 
 pub overflow_cast-result : goal.overflow_cast-result
-overflow_cast-result c = omega (arith, c.shared_slice_known-then-kind-eq-BOOLEAN-1.given (c.args.at + 4))
+overflow_cast-result c = omega (arith, c.type_inv.s (c.args.at + 4))
 
 pub returns-then-kind-eq-BOOLEAN : goal.returns-then-kind-eq-BOOLEAN
 returns-then-kind-eq-BOOLEAN c = boolean_number (c.requires.0.kind ∙ c.if-kind-eq-BOOLEAN.true)

@@ -15,5 +15,5 @@ returns c =
     let start = c in
     let s = start.args.s.now in
     let at = start.args.at in
-    halves_stored s low.new.0 high.new.0 at bits.result low.ensures high.ensures
+    halves_stored s low.new.s high.new.s at bits.result low.ensures high.ensures
     ∙ ap (λ (n : ℕ). sets s at (four n)) (bits.ensures.is ∙ ap bits_of (to_z-of_z start.ranges.z))

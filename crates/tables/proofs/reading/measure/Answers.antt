@@ -26,7 +26,7 @@ pub returns-then-len-kind-eq-INTEGER_HEADING : goal.returns-then-len-kind-eq-INT
 returns-then-len-kind-eq-INTEGER_HEADING c =
     let e : word c.args.part.now 0 ≡ 8 = omega (arith, c.if-len-kind-eq-INTEGER_HEADING.true, c.read16-len.ensures.is, c.read16-len.ensures.low, c.read16-kind.ensures.low) in
     let k : word c.args.part.now 2 ≡ 2 = omega (arith, c.if-len-kind-eq-INTEGER_HEADING.true, c.read16-kind.ensures.is, c.read16-len.ensures.low, c.read16-kind.ensures.low) in
-    good c.args.part.now c.requires.part_nonzero 8 (sym e) c.if-part-lt-HEADING.false (omega arith) c.if-part-lt-INTEGER_LENGTH.false (integer_fit c.args.part.now e k c.if-part-lt-INTEGER_LENGTH.false (λ i. omega (arith, c.shared_slice_known-1.given i)))
+    good c.args.part.now c.requires.part_nonzero 8 (sym e) c.if-part-lt-HEADING.false (omega arith) c.if-part-lt-INTEGER_LENGTH.false (integer_fit c.args.part.now e k c.if-part-lt-INTEGER_LENGTH.false (λ i. omega (arith, c.type_inv.part i)))
 
 pub returns-then-len-lt-HEADING : goal.returns-then-len-lt-HEADING
 returns-then-len-lt-HEADING c =

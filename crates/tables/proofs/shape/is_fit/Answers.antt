@@ -20,7 +20,7 @@ returns-then-not-fit c =
 pub returns-then-not-tested : goal.returns-then-not-tested
 returns-then-not-tested c =
     c.is_kind.ensures ∙ ap (λ (k : ℕ). is_expression k || is_pattern k) c.requires.kind_value.0
-    ∙ sym (fit_untested c.args.part.now c.args.len c.requires.kind_value.1 c.requires.kind_value.2 c.requires.kind_value.3 (sym (not-false _ c.if-not-fit.false) ∙ c.fits_kind-fit.ensures ∙ ap (λ (k : ℕ). fits (shape k) (c.args.len - 4)) c.requires.kind_value.0) (omega (arith, c.requires.kind_value.0, c.if-kind-gt-LAST.false)) (sym (ap is_tested c.requires.kind_value.0) ∙ sym c.is_tested-tested.ensures ∙ not-true _ c.if-not-tested.true) (λ i. omega (arith, c.shared_slice_known-1.given i)))
+    ∙ sym (fit_untested c.args.part.now c.args.len c.requires.kind_value.1 c.requires.kind_value.2 c.requires.kind_value.3 (sym (not-false _ c.if-not-fit.false) ∙ c.fits_kind-fit.ensures ∙ ap (λ (k : ℕ). fits (shape k) (c.args.len - 4)) c.requires.kind_value.0) (omega (arith, c.requires.kind_value.0, c.if-kind-gt-LAST.false)) (sym (ap is_tested c.requires.kind_value.0) ∙ sym c.is_tested-tested.ensures ∙ not-true _ c.if-not-tested.true) (λ i. omega (arith, c.type_inv.part i)))
 
 pub bounds-part-4 : goal.bounds-part-4
 bounds-part-4 c =
@@ -30,4 +30,4 @@ pub returns : goal.returns
 returns c =
     c.is_Known.ensures ∙ ap (λ (n : ℕ). known_first (shape c.args.kind).head n) c.wide.ensures.0
     ∙ ap (λ (k : ℕ). known_first (shape k).head (get_or c.args.part.now 4 0)) c.requires.kind_value.0
-    ∙ sym (fit_first c.args.part.now c.args.len c.requires.kind_value.1 c.requires.kind_value.2 c.requires.kind_value.3 (sym (not-false _ c.if-not-fit.false) ∙ c.fits_kind-fit.ensures ∙ ap (λ (k : ℕ). fits (shape k) (c.args.len - 4)) c.requires.kind_value.0) (tested_within c.args.part.now c.args.len c.requires.kind_value.1 c.requires.kind_value.2 c.requires.kind_value.3 (sym (not-false _ c.if-not-fit.false) ∙ c.fits_kind-fit.ensures ∙ ap (λ (k : ℕ). fits (shape k) (c.args.len - 4)) c.requires.kind_value.0) (omega (arith, c.requires.kind_value.0, c.if-kind-gt-LAST.false)) (sym (ap is_tested c.requires.kind_value.0) ∙ sym c.is_tested-tested.ensures ∙ not-false _ c.if-not-tested.false)) (λ i. omega (arith, c.shared_slice_known-1.given i)))
+    ∙ sym (fit_first c.args.part.now c.args.len c.requires.kind_value.1 c.requires.kind_value.2 c.requires.kind_value.3 (sym (not-false _ c.if-not-fit.false) ∙ c.fits_kind-fit.ensures ∙ ap (λ (k : ℕ). fits (shape k) (c.args.len - 4)) c.requires.kind_value.0) (tested_within c.args.part.now c.args.len c.requires.kind_value.1 c.requires.kind_value.2 c.requires.kind_value.3 (sym (not-false _ c.if-not-fit.false) ∙ c.fits_kind-fit.ensures ∙ ap (λ (k : ℕ). fits (shape k) (c.args.len - 4)) c.requires.kind_value.0) (omega (arith, c.requires.kind_value.0, c.if-kind-gt-LAST.false)) (sym (ap is_tested c.requires.kind_value.0) ∙ sym c.is_tested-tested.ensures ∙ not-false _ c.if-not-tested.false)) (λ i. omega (arith, c.type_inv.part i)))

@@ -40,11 +40,11 @@ valid-returns-then-kind-eq-BOOLEAN t c =
 
 pub valid-returns-then-kind-eq-INTEGER : goal.valid-returns-then-kind-eq-INTEGER
 valid-returns-then-kind-eq-INTEGER t c =
-    integer_told c.shared_slice_known-1.given (record { span = c.requires.1; len = c.read16-n.ensures.is; low = omega arith; inside = omega arith }) c.read16-kind.ensures c.if-kind-eq-INTEGER.true
+    integer_told c.type_inv.s (record { span = c.requires.1; len = c.read16-n.ensures.is; low = omega arith; inside = omega arith }) c.read16-kind.ensures c.if-kind-eq-INTEGER.true
 
 pub valid-returns-then-kind-eq-QUOTE : goal.valid-returns-then-kind-eq-QUOTE
 valid-returns-then-kind-eq-QUOTE t c =
-    quote_told c.shared_slice_known-1.given (record { span = c.requires.1; len = c.read16-n.ensures.is; low = omega arith; inside = omega arith }) c.read16-kind.ensures c.if-kind-eq-QUOTE.true
+    quote_told c.type_inv.s (record { span = c.requires.1; len = c.read16-n.ensures.is; low = omega arith; inside = omega arith }) c.read16-kind.ensures c.if-kind-eq-QUOTE.true
 
 pub valid-overflow_add-at-2 : goal.valid-overflow_add-at-2
 valid-overflow_add-at-2 t c = omega arith
@@ -66,11 +66,11 @@ valid-shaped-requires t c = c.valid_items.ensures.sound c.if-valid_items.true
 
 pub valid-returns-then-valid_items : goal.valid-returns-then-valid_items
 valid-returns-then-valid_items t c =
-    collection_told c.shared_slice_known-1.given (record { span = c.requires.1; len = c.read16-n.ensures.is; low = omega arith; inside = omega arith }) c.read16-kind.ensures c.if-kind-eq-BOOLEAN.false c.if-kind-eq-INTEGER.false c.if-kind-eq-QUOTE.false (c.valid_items.ensures.sound c.if-valid_items.true) c.shaped.ensures
+    collection_told c.type_inv.s (record { span = c.requires.1; len = c.read16-n.ensures.is; low = omega arith; inside = omega arith }) c.read16-kind.ensures c.if-kind-eq-BOOLEAN.false c.if-kind-eq-INTEGER.false c.if-kind-eq-QUOTE.false (c.valid_items.ensures.sound c.if-valid_items.true) c.shaped.ensures
 
 pub valid-returns : goal.valid-returns
 valid-returns t c =
-    items_missing c.shared_slice_known-1.given (record { span = c.requires.1; len = c.read16-n.ensures.is; low = omega arith; inside = omega arith }) c.read16-kind.ensures c.if-kind-eq-BOOLEAN.false c.if-kind-eq-INTEGER.false c.if-kind-eq-QUOTE.false c.valid_items.ensures c.if-valid_items.false
+    items_missing c.type_inv.s (record { span = c.requires.1; len = c.read16-n.ensures.is; low = omega arith; inside = omega arith }) c.read16-kind.ensures c.if-kind-eq-BOOLEAN.false c.if-kind-eq-INTEGER.false c.if-kind-eq-QUOTE.false c.valid_items.ensures c.if-valid_items.false
 
 pub valid_items-returns-then-at-to : goal.valid_items-returns-then-at-to
 valid_items-returns-then-at-to t c = items_end c.requires.1 c.if-at-to.true

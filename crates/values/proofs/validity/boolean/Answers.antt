@@ -6,4 +6,4 @@ pub returns-then-n-ne5 : goal.returns-then-n-ne5
 returns-then-n-ne5 c = boolean_long c.requires c.if-n-ne5.true
 
 pub returns : goal.returns
-returns c = boolean_told c.shared_slice_known-1.given c.requires c.if-n-ne5.false
+returns c = boolean_told c.type_inv.s c.requires c.if-n-ne5.false
